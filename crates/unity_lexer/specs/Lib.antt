@@ -1,0 +1,4 @@
+pub mod Pieces
+pub mod ReservedShapes
+pub mod Symbols
+pub mod Tokens
