@@ -1,0 +1,5 @@
+pub mod Complete
+pub mod Failing
+pub mod Many
+pub mod Sound
+pub mod Trees
