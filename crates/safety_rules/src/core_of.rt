@@ -1,0 +1,71 @@
+// The core of a small document's expressions and comparisons. The one variable is slot 0.
+ghost use Rattle.std.specs.Prelude.{◌≡◌, ℕ, ◌+◌, ◌*◌, ◌≤◌, IfOk};
+ghost use Rattle.unity_parser.specs.Limits.{IsSmallOperand, IsSmallExpression, IsSmallComparison};
+ghost use Rattle.safety_rules.specs.Bound.{term_bound, form_bound};
+ghost use Rattle.safety_rules.specs.CoreOf.{operand_term, term_of, related_form, form_of, TermMeans, FormMeans};
+
+use crate::core_terms::{CForm, CTerm};
+use crate::folding::{difference_term, least_form, sum_term, zero_form};
+use std::alloc::{AllocError, Global};
+use unity_parser::{Comparison, Expression, Operand, Relation};
+
+fn term_of_operand(operand: &Operand) -> CTerm
+    requires { IsSmallOperand operand.now }
+    ensures tree { result ≡ operand_term operand.now }
+    ensures bound { term_bound 1 result ≤ 1000000000 }
+{
+    match operand {
+        Operand::Variable(_) => CTerm::Slot(0),
+        Operand::Constant(number) => CTerm::Const(number.value as i64),
+    }
+}
+
+/// The core of an expression, which is worth at each state what the expression is.
+/// An error says that memory was refused.
+#[tactic(auto, using(crate::proofs::CoreLaws::term_means))]
+pub fn expression_term(alloc: Global, e: &Expression) -> Result<CTerm, AllocError>
+    requires { IsSmallExpression e.now }
+    ensures tree { IfOk result (λ t. t ≡ term_of e.now) }
+    ensures meaning { IfOk result (λ t. TermMeans e.now t) }
+{
+    let first = term_of_operand(&e.first);
+    match &e.second {
+        None => Ok(first),
+        Some(second) => sum_term(alloc, first, term_of_operand(second)),
+    }
+}
+
+fn form_of_relation(
+    alloc: Global,
+    relation: Relation,
+    a: CTerm,
+    b: CTerm,
+) -> Result<CForm, AllocError>
+    requires left { term_bound 1 a ≤ 3000000000 }
+    requires right { term_bound 1 b ≤ 3000000000 }
+    ensures { IfOk result (λ f. f ≡ related_form relation a b) }
+{
+    match relation {
+        Relation::Equal => Ok(zero_form(difference_term(alloc, a, b)?)),
+        Relation::Below => {
+            let above = difference_term(alloc, b, a)?;
+            Ok(least_form(difference_term(alloc, above, CTerm::Const(1))?))
+        }
+        Relation::AtMost => Ok(least_form(difference_term(alloc, b, a)?)),
+    }
+}
+
+/// The core of a comparison, which holds at the states where the comparison does.
+/// An error says that memory was refused.
+#[tactic(auto, using(crate::proofs::CoreLaws::form_means, crate::proofs::CoreLaws::form_of_small))]
+pub fn comparison_form(alloc: Global, c: &Comparison) -> Result<CForm, AllocError>
+    requires { IsSmallComparison c.now }
+    ensures tree { IfOk result (λ f. f ≡ form_of c.now) }
+    ensures small { IfOk result (λ f. form_bound 1 f ≤ 4000000005) }
+    ensures bound { IfOk result (λ f. (slot : ℕ) → form_bound slot f ≤ 4 * slot + 4000000001) }
+    ensures meaning { IfOk result (λ f. FormMeans c.now f) }
+{
+    let left = expression_term(alloc, &c.left)?;
+    let right = expression_term(alloc, &c.right)?;
+    form_of_relation(alloc, c.relation, left, right)
+}

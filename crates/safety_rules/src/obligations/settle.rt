@@ -1,0 +1,391 @@
+//! Settling: a formula that is taken to hold, or to fail, is taken apart onto a branch.
+ghost use Rattle.std.specs.Prelude.{◌≡◌, ◌+◌, ◌^◌, ◌≤◌, ◌<◌, length, pos, negsuc, OnOk, IfOk, [], ◌∷◌};
+ghost use Rattle.safety_rules.specs.declared.core_terms.CTerm.TheVariants.{Const, Sub};
+ghost use Rattle.safety_rules.specs.declared.core_terms.CForm.TheVariants.{AtLeast, Zero, Not, And, Or};
+ghost use Rattle.safety_rules.specs.Settling.{settled, refused, joined, one_waiting, one_fact, two_facts, first_ite, least_adds, zero_adds, unequal_adds, below_zero, choice_form};
+ghost use Rattle.safety_rules.specs.LinearForms.{linear, negated};
+ghost use Rattle.safety_rules.specs.Load.{need, term_load};
+
+use super::first_choice::{difference_of, find_choice};
+use super::linear::{fact_from, line_of, negative_of};
+use super::{Branch, Choice, Fact, Variable};
+use crate::copy::{copy_form, copy_term};
+use crate::core_terms::{CForm, CTerm};
+use std::alloc::{AllocError, Global};
+use unity_base::{Held, Seq};
+
+/// Adds a fact.
+pub fn add_fact(fact: Fact, branch: &mut Branch) -> Result<(), AllocError>
+    ensures { OnOk result (branch.new ≡ joined branch.old (record { facts = fact ∷ []; waiting = [] })) }
+{
+    branch.facts.push(fact)?;
+    Ok(())
+}
+
+/// Adds a formula that waits.
+fn add_waiting(form: CForm, branch: &mut Branch) -> Result<(), AllocError>
+    ensures { OnOk result (branch.new ≡ joined branch.old (one_waiting form)) }
+{
+    branch.waiting.push(form)?;
+    Ok(())
+}
+
+/// Adds the fact that -1 is at least 0.
+fn add_false(alloc: Global, branch: &mut Branch) -> Result<(), AllocError>
+    ensures { OnOk result (branch.new ≡ joined branch.old (record { facts = record { factors = []; constant = negsuc 0 } ∷ []; waiting = [] })) }
+{
+    let fact = Fact {
+        factors: Seq::new(alloc),
+        constant: -1,
+    };
+    add_fact(fact, branch)?;
+    Ok(())
+}
+
+fn negation_of(alloc: Global, f: CForm) -> Result<CForm, AllocError>
+    ensures { IfOk result (λ g. g ≡ Not f) }
+{
+    Ok(CForm::Not(Held::new(alloc, f)?))
+}
+
+fn both_of(alloc: Global, f: CForm, g: CForm) -> Result<CForm, AllocError>
+    ensures { IfOk result (λ h. h ≡ And f g) }
+{
+    Ok(CForm::And(Held::new(alloc, f)?, Held::new(alloc, g)?))
+}
+
+fn either_of(alloc: Global, f: CForm, g: CForm) -> Result<CForm, AllocError>
+    ensures { IfOk result (λ h. h ≡ Or f g) }
+{
+    Ok(CForm::Or(Held::new(alloc, f)?, Held::new(alloc, g)?))
+}
+
+/// The negation of a condition with a formula.
+fn otherwise(alloc: Global, when: &CForm, no: CForm) -> Result<CForm, AllocError>
+    ensures { IfOk result (λ f. f ≡ And (Not when.now) no) }
+{
+    let not = negation_of(alloc, copy_form(alloc, when)?)?;
+    let both = both_of(alloc, not, no)?;
+    Ok(both)
+}
+
+/// The condition with one formula, or its negation with the other.
+fn choose(alloc: Global, when: CForm, yes: CForm, no: CForm) -> Result<CForm, AllocError>
+    ensures { IfOk result (λ f. f ≡ Or (And when yes) (And (Not when) no)) }
+{
+    let second = otherwise(alloc, &when, no)?;
+    let first = both_of(alloc, when, yes)?;
+    let either = either_of(alloc, first, second)?;
+    Ok(either)
+}
+
+fn least_choice(alloc: Global, choice: Held<Choice>) -> Result<CForm, AllocError>
+    ensures { IfOk result (λ f. f ≡ choice_form AtLeast choice) }
+{
+    let Choice { when, yes, no } = choice.into_inner();
+    let form = choose(alloc, when, CForm::AtLeast(yes), CForm::AtLeast(no))?;
+    Ok(form)
+}
+
+fn zero_choice(alloc: Global, choice: Held<Choice>) -> Result<CForm, AllocError>
+    ensures { IfOk result (λ f. f ≡ choice_form Zero choice) }
+{
+    let Choice { when, yes, no } = choice.into_inner();
+    let form = choose(alloc, when, CForm::Zero(yes), CForm::Zero(no))?;
+    Ok(form)
+}
+
+fn unequal_choice(alloc: Global, choice: Held<Choice>) -> Result<CForm, AllocError>
+    ensures { IfOk result (λ f. f ≡ choice_form (λ x. Not (Zero x)) choice) }
+{
+    let Choice { when, yes, no } = choice.into_inner();
+    let yes = negation_of(alloc, CForm::Zero(yes))?;
+    let no = negation_of(alloc, CForm::Zero(no))?;
+    let form = choose(alloc, when, yes, no)?;
+    Ok(form)
+}
+
+/// Adds the fact of a term without an `Ite`.
+fn add_least(
+    alloc: Global,
+    vs: &[Variable],
+    t: &CTerm,
+    branch: &mut Branch,
+) -> Result<(), AllocError>
+    requires count { length vs.now < 2 ^ 32 }
+    requires load { (term_load t.now).own ≤ 2 ^ 126 }
+    ensures { OnOk result (branch.new ≡ joined branch.old (one_fact (linear vs.now t.now))) }
+{
+    let fact = fact_from(alloc, &line_of(alloc, vs, t)?)?;
+    add_fact(fact, branch)?;
+    Ok(())
+}
+
+/// Adds the fact of a term's negative, where the term has no `Ite`.
+fn add_negative(
+    alloc: Global,
+    vs: &[Variable],
+    t: &CTerm,
+    branch: &mut Branch,
+) -> Result<(), AllocError>
+    requires count { length vs.now < 2 ^ 32 }
+    requires load { (term_load t.now).own ≤ 2 ^ 126 }
+    ensures { OnOk result (branch.new ≡ joined branch.old (one_fact (negated vs.now (linear vs.now t.now)))) }
+{
+    let fact = fact_from(alloc, &negative_of(alloc, vs, t)?)?;
+    add_fact(fact, branch)?;
+    Ok(())
+}
+
+/// Adds a term's fact, or the choice that it has to wait for.
+fn add_least_or(
+    alloc: Global,
+    vs: &[Variable],
+    t: &CTerm,
+    choice: Option<Held<Choice>>,
+    branch: &mut Branch,
+) -> Result<(), AllocError>
+    requires count { length vs.now < 2 ^ 32 }
+    requires load { (term_load t.now).own ≤ 2 ^ 126 }
+    ensures { OnOk result (branch.new ≡ joined branch.old (least_adds vs.now t.now choice)) }
+{
+    match choice {
+        None => add_least(alloc, vs, t, branch),
+        Some(choice) => {
+            let form = least_choice(alloc, choice)?;
+            add_waiting(form, branch)
+        }
+    }
+}
+
+/// Settles that a term is at least 0.
+fn settle_least(
+    alloc: Global,
+    vs: &[Variable],
+    t: &CTerm,
+    branch: &mut Branch,
+) -> Result<(), AllocError>
+    requires count { length vs.now < 2 ^ 32 }
+    requires load { (term_load t.now).own ≤ 2 ^ 126 }
+    ensures { OnOk result (branch.new ≡ joined branch.old (least_adds vs.now t.now (first_ite t.now))) }
+{
+    let choice = find_choice(alloc, t)?;
+    add_least_or(alloc, vs, t, choice, branch)
+}
+
+/// -1 minus a term.
+fn below(alloc: Global, t: &CTerm) -> Result<CTerm, AllocError>
+    ensures { IfOk result (λ u. u ≡ below_zero t.now) }
+{
+    let copy = copy_term(alloc, t)?;
+    difference_of(alloc, CTerm::Const(-1), copy)
+}
+
+/// Settles that a term is below 0.
+fn refuse_least(
+    alloc: Global,
+    vs: &[Variable],
+    t: &CTerm,
+    branch: &mut Branch,
+) -> Result<(), AllocError>
+    requires count { length vs.now < 2 ^ 32 }
+    requires load { 1 + (term_load t.now).own ≤ 2 ^ 126 }
+    ensures { OnOk result (branch.new ≡ joined branch.old (least_adds vs.now (below_zero t.now) (first_ite (below_zero t.now)))) }
+{
+    let below = below(alloc, t)?;
+    settle_least(alloc, vs, &below, branch)
+}
+
+/// Adds both facts of a term that is 0, where the term has no `Ite`.
+#[tactic(auto, using(crate::proofs::TableLaws::two_laws))]
+fn add_zero(
+    alloc: Global,
+    vs: &[Variable],
+    t: &CTerm,
+    branch: &mut Branch,
+) -> Result<(), AllocError>
+    requires count { length vs.now < 2 ^ 32 }
+    requires load { (term_load t.now).own ≤ 2 ^ 126 }
+    ensures { OnOk result (branch.new ≡ joined branch.old (two_facts (linear vs.now t.now) (negated vs.now (linear vs.now t.now)))) }
+{
+    add_least(alloc, vs, t, branch)?;
+    add_negative(alloc, vs, t, branch)?;
+    Ok(())
+}
+
+/// Adds a term's two facts, or the choice that it has to wait for.
+fn add_zero_or(
+    alloc: Global,
+    vs: &[Variable],
+    t: &CTerm,
+    choice: Option<Held<Choice>>,
+    branch: &mut Branch,
+) -> Result<(), AllocError>
+    requires count { length vs.now < 2 ^ 32 }
+    requires load { (term_load t.now).own ≤ 2 ^ 126 }
+    ensures { OnOk result (branch.new ≡ joined branch.old (zero_adds vs.now t.now choice)) }
+{
+    match choice {
+        None => add_zero(alloc, vs, t, branch),
+        Some(choice) => {
+            let form = zero_choice(alloc, choice)?;
+            add_waiting(form, branch)
+        }
+    }
+}
+
+/// Settles that a term is 0.
+fn settle_zero(
+    alloc: Global,
+    vs: &[Variable],
+    t: &CTerm,
+    branch: &mut Branch,
+) -> Result<(), AllocError>
+    requires count { length vs.now < 2 ^ 32 }
+    requires load { (term_load t.now).own ≤ 2 ^ 126 }
+    ensures { OnOk result (branch.new ≡ joined branch.old (zero_adds vs.now t.now (first_ite t.now))) }
+{
+    let choice = find_choice(alloc, t)?;
+    add_zero_or(alloc, vs, t, choice, branch)
+}
+
+/// That a term is above 0 or below it.
+fn apart(alloc: Global, t: &CTerm) -> Result<CForm, AllocError>
+    ensures { IfOk result (λ f. f ≡ Or (AtLeast (Sub t.now (Const (pos 1)))) (AtLeast (Sub (Const (negsuc 0)) t.now))) }
+{
+    let above = difference_of(alloc, copy_term(alloc, t)?, CTerm::Const(1))?;
+    let below = difference_of(alloc, CTerm::Const(-1), copy_term(alloc, t)?)?;
+    Ok(either_of(alloc, CForm::AtLeast(above), CForm::AtLeast(below))?)
+}
+
+/// Adds that a term is above 0 or below it, or the choice that it has to wait for.
+fn add_apart_or(
+    alloc: Global,
+    t: &CTerm,
+    choice: Option<Held<Choice>>,
+    branch: &mut Branch,
+) -> Result<(), AllocError>
+    ensures { OnOk result (branch.new ≡ joined branch.old (unequal_adds t.now choice)) }
+{
+    match choice {
+        None => {
+            let form = apart(alloc, t)?;
+            add_waiting(form, branch)
+        }
+        Some(choice) => {
+            let form = unequal_choice(alloc, choice)?;
+            add_waiting(form, branch)
+        }
+    }
+}
+
+/// Settles that a term is not 0.
+fn refuse_zero(alloc: Global, t: &CTerm, branch: &mut Branch) -> Result<(), AllocError>
+    ensures { OnOk result (branch.new ≡ joined branch.old (unequal_adds t.now (first_ite t.now))) }
+{
+    let choice = find_choice(alloc, t)?;
+    add_apart_or(alloc, t, choice, branch)
+}
+
+/// Adds a waiting formula of two others.
+fn wait_or(alloc: Global, g: &CForm, h: &CForm, branch: &mut Branch) -> Result<(), AllocError>
+    ensures { OnOk result (branch.new ≡ joined branch.old (one_waiting (Or g.now h.now))) }
+{
+    let form = either_of(alloc, copy_form(alloc, g)?, copy_form(alloc, h)?)?;
+    add_waiting(form, branch)?;
+    Ok(())
+}
+
+/// Adds a waiting formula of the negations of two others.
+fn wait_nots(alloc: Global, g: &CForm, h: &CForm, branch: &mut Branch) -> Result<(), AllocError>
+    ensures { OnOk result (branch.new ≡ joined branch.old (one_waiting (Or (Not g.now) (Not h.now)))) }
+{
+    let first = negation_of(alloc, copy_form(alloc, g)?)?;
+    let second = negation_of(alloc, copy_form(alloc, h)?)?;
+    add_waiting(either_of(alloc, first, second)?, branch)?;
+    Ok(())
+}
+
+/// Settles a formula onto a branch. At want of memory, what was added so far stays.
+#[cycle(settle)]
+pub fn settle(
+    alloc: Global,
+    vs: &[Variable],
+    f: &CForm,
+    branch: &mut Branch,
+) -> Result<(), AllocError>
+    requires count { length vs.now < 2 ^ 32 }
+    requires light { (need f.now).yes ≤ 2 ^ 63 }
+    ensures { OnOk result (branch.new ≡ settled vs.now f.now branch.old) }
+{
+    match f {
+        CForm::Top => Ok(()),
+        CForm::Bottom => {
+            add_false(alloc, branch)?;
+            Ok(())
+        }
+        CForm::AtLeast(t) => {
+            settle_least(alloc, vs, t, branch)?;
+            Ok(())
+        }
+        CForm::Zero(t) => {
+            settle_zero(alloc, vs, t, branch)?;
+            Ok(())
+        }
+        CForm::Not(g) => {
+            refuse(alloc, vs, g.get(), branch)?;
+            Ok(())
+        }
+        CForm::And(g, h) => {
+            settle(alloc, vs, g.get(), branch)?;
+            settle(alloc, vs, h.get(), branch)?;
+            Ok(())
+        }
+        CForm::Or(g, h) => {
+            wait_or(alloc, g.get(), h.get(), branch)?;
+            Ok(())
+        }
+    }
+}
+
+/// Settles the negation of a formula onto a branch. At want of memory, what was added so far stays.
+#[cycle(settle)]
+pub fn refuse(
+    alloc: Global,
+    vs: &[Variable],
+    f: &CForm,
+    branch: &mut Branch,
+) -> Result<(), AllocError>
+    requires count { length vs.now < 2 ^ 32 }
+    requires light { (need f.now).no ≤ 2 ^ 63 }
+    ensures { OnOk result (branch.new ≡ refused vs.now f.now branch.old) }
+{
+    match f {
+        CForm::Top => {
+            add_false(alloc, branch)?;
+            Ok(())
+        }
+        CForm::Bottom => Ok(()),
+        CForm::AtLeast(t) => {
+            refuse_least(alloc, vs, t, branch)?;
+            Ok(())
+        }
+        CForm::Zero(t) => {
+            refuse_zero(alloc, t, branch)?;
+            Ok(())
+        }
+        CForm::Not(g) => {
+            settle(alloc, vs, g.get(), branch)?;
+            Ok(())
+        }
+        CForm::And(g, h) => {
+            wait_nots(alloc, g.get(), h.get(), branch)?;
+            Ok(())
+        }
+        CForm::Or(g, h) => {
+            refuse(alloc, vs, g.get(), branch)?;
+            refuse(alloc, vs, h.get(), branch)?;
+            Ok(())
+        }
+    }
+}
