@@ -1,0 +1,5 @@
+use Rattle.unity_cli.proofs.Answering.{one_answer}
+use Rattle.unity_cli.proofs.laws.one_answer.Goals as goal
+
+pub returns : goal.returns
+returns c = one_answer

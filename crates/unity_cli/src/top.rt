@@ -1,0 +1,71 @@
+// The top call.
+ghost use Rattle.std.specs.Prelude.{◌≡◌, ◌≢◌, ◌≤◌, ◌<◌, ◌⊎◌, ℕ, List, Some, map, string_bytes, IsNone, IsSome};
+ghost use Rattle.std.specs.Io.KnownBytes.{IsAtEnd};
+ghost use Rattle.unity_base.specs.Streams.{Rose, IsLongerThan, LeavesRest};
+ghost use Rattle.unity_parser.specs.declared.tree.SmallDocument.{SmallDocument};
+ghost use Rattle.unity_parser.specs.Document.{IsSmallDocument};
+ghost use Rattle.unity_parser.specs.Meaning.{IsSafe};
+ghost use Rattle.safety_rules.specs.Follows.{HasExecutions};
+ghost use Rattle.unity_cli.specs.Words.{command_of};
+ghost use Rattle.unity_cli.specs.Status.{HasText};
+ghost use Rattle.unity_cli.specs.Answer.{Tells, TellsPart};
+
+use crate::judge::check;
+use crate::report::tell;
+use crate::status::Status;
+use crate::words::{Command, read_words};
+use std::alloc::Global;
+use unity_base::{Sink, Source, write_all};
+
+/// Reads the words, and the source where they ask for it, and writes the answer.
+pub fn unity<S: Source, K: Sink>(
+    alloc: Global,
+    words: &[String],
+    src: &mut S,
+    out: &mut K,
+) -> Status
+    // What is written is the answer for the words and the bytes that were left.
+    ensures answer { HasText result →
+        Tells (command_of (map string_bytes words.now)) (S.left src.old) result (K.written out.old) (K.written out.new) }
+    ensures part { result ≡ Status.WriteFault →
+        TellsPart (command_of (map string_bytes words.now)) (S.left src.old) (K.written out.old) (K.written out.new) }
+    ensures nothing { (result ≡ Status.ReadFault) ⊎ (result ≡ Status.WantOfMemory) → out.new ≡ out.old }
+
+    // An accepted document is safe, and it has executions.
+    ensures safe { result ≡ Status.Done → (bytes : List ℕ) (d : SmallDocument) →
+        S.left src.old ≡ Some bytes → IsSmallDocument bytes d → IsSafe d }
+    ensures runs { result ≡ Status.Done → (bytes : List ℕ) (d : SmallDocument) →
+        S.left src.old ≡ Some bytes → IsSmallDocument bytes d → HasExecutions d }
+
+    // Words that are no command are told, and the source is not read.
+    ensures bad_words { result ≡ Status.BadWords → IsNone (command_of (map string_bytes words.now)) }
+    ensures untouched { IsNone (command_of (map string_bytes words.now)) → src.new ≡ src.old }
+
+    // A source that was read was read to its end, or past the greatest number of bytes.
+    ensures end { IsSome (command_of (map string_bytes words.now)) → result ≢ Status.ReadFault → result ≢ Status.WantOfMemory →
+        IsAtEnd (S.left src.new) ⊎ IsLongerThan 65536 (S.left src.old) }
+    ensures rest { LeavesRest (S.left src.old) (S.left src.new) }
+
+    // A fault has its cause, and none is taken for something else.
+    ensures read_fault { result ≡ Status.ReadFault → Rose (S.faults src.old) (S.faults src.new) }
+    ensures write_fault { result ≡ Status.WriteFault → Rose (K.faults out.old) (K.faults out.new) }
+    ensures source_count { S.faults src.old < S.faults src.new → (result ≡ Status.ReadFault) ⊎ (result ≡ Status.WantOfMemory) }
+    ensures sink_count { K.faults out.old < K.faults out.new → (result ≡ Status.WriteFault) ⊎ (result ≡ Status.WantOfMemory) }
+    ensures source_later { S.faults src.old ≤ S.faults src.new }
+    ensures sink_later { K.faults out.old ≤ K.faults out.new }
+{
+    let Some(Command::Check) = read_words(words) else {
+        return match write_all(out, b"bad words\n") {
+            Ok(()) => Status::BadWords,
+            Err(_) => Status::WriteFault,
+        };
+    };
+    let verdict = match check(alloc, src) {
+        Ok(verdict) => verdict,
+        Err(stop) => return stop.status(),
+    };
+    match tell(alloc, &verdict, out) {
+        Ok(()) => verdict.status(),
+        Err(stop) => stop.status(),
+    }
+}

@@ -1,0 +1,26 @@
+// The words after the program's name.
+ghost use Rattle.std.specs.Prelude.{◌≡◌, map, string_bytes};
+ghost use Rattle.unity_cli.specs.Words.{command_of};
+
+/// What the program is asked to do.
+#[derive(Clone, Copy, Debug, PartialEq, Eq)]
+pub enum Command {
+    /// `check`: whether the document's proof follows, with its certificates.
+    Check,
+}
+
+/// The command that the words are, read by position. `None` where they are none.
+pub fn read_words(words: &[String]) -> Option<Command>
+    ensures { result ≡ command_of (map string_bytes words.now) }
+{
+    match words {
+        [word] => {
+            if word.as_str() == "check" {
+                Some(Command::Check)
+            } else {
+                None
+            }
+        }
+        _ => None,
+    }
+}
