@@ -1,7 +1,6 @@
 -- Bytes and answers that fit what is known.
-use Rattle.std.proofs.Common.{◌≡◌, ◌<◌, ◌≤◌, ◌+◌, ◌++◌, ℕ, List, [], ◌∷◌, codes, Option, Some, None, refl, sym, ap, ◌∙◌, subst, length, arith, replicate, Result, Ok, Err, IfOk}
+use Rattle.std.proofs.Common.{◌≡◌, ◌<◌, ◌≤◌, ◌++◌, ℕ, List, [], ◌∷◌, codes, Option, Some, None, refl, sym, ap, ◌∙◌, subst, length, arith, replicate, Result, Ok, Err, IfOk}
 use Rattle.std.proofs.lemmas.List.{length-replicate}
-use Rattle.std.proofs.lemmas.Grind.{common_steps}
 use Rattle.unity_base.specs.Streams.{Was, IsLongerThan}
 use Rattle.unity_parser.specs.declared.tree.SmallDocument.{SmallDocument}
 use Rattle.unity_parser.specs.Meaning.{IsSafe}
@@ -15,7 +14,7 @@ use Rattle.unity_cli.specs.declared.words.Command.{Command}
 use Rattle.unity_cli.specs.declared.judge.Verdict.{Verdict}
 use Rattle.unity_cli.specs.Stop.{stop_status}
 use Rattle.unity_cli.specs.Verdict.{Decides, IsVerdict, Judges, status_of, text_of}
-use Rattle.unity_cli.specs.Answer.{Checked, Answer, IsAnswer, accepted_text, rejected_text, not_built_text}
+use Rattle.unity_cli.specs.Answer.{Checked, IsAnswer, accepted_text}
 use Rattle.unity_cli.specs.Laws.{OneAnswer}
 
 pub some_bytes : (left : Option (List ℕ)) → (bytes : List ℕ) × Was left bytes

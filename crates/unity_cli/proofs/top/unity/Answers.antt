@@ -1,4 +1,4 @@
-use Rattle.std.proofs.Common.{◌∙◌, rules, subst, sym, ap, Err}
+use Rattle.std.proofs.Common.{◌∙◌, rules, sym, ap, Err}
 use Rattle.unity_cli.specs.Verdict.{text_of}
 use Rattle.unity_cli.proofs.Answering.{bad_words, judged, stopped_writing, accepted_safe, accepted_has_executions}
 use Rattle.unity_cli.proofs.top.unity.Goals as goal
