@@ -21,11 +21,11 @@ signed true n = neg_ℤ (pos n)
 
 -- a multiplier and a fact's number; no number of a text is past 2^62
 abbrev pub pair_of : Pair → ℤ × ℕ
-pair_of p = (signed p.negative (min p.multiplier.value (2 ^ 62)), p.fact.value)
+pair_of p = (signed p.negative (min p.multiplier (2 ^ 62)), p.fact)
 
 -- a node, as it is written
 abbrev pub node_of : WrittenNode → Node
-node_of (WrittenNode.Case place) = Node.Case place.value
+node_of (WrittenNode.Case place) = Node.Case place
 node_of (WrittenNode.Sum pairs) = Node.Sum (map pair_of pairs)
 
 -- the obligation that one of the document's formulas is

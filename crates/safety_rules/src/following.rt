@@ -24,11 +24,11 @@ const GREATEST_LITERAL: u64 = 4_611_686_018_427_387_904;
 fn pair_of(pair: &Pair) -> (i64, u64)
     ensures { result ≡ pair_of pair.now }
 {
-    let multiplier = pair.multiplier.value.min(GREATEST_LITERAL) as i64;
+    let multiplier = pair.multiplier.min(GREATEST_LITERAL) as i64;
     if pair.negative {
-        (-multiplier, pair.fact.value)
+        (-multiplier, pair.fact)
     } else {
-        (multiplier, pair.fact.value)
+        (multiplier, pair.fact)
     }
 }
 
@@ -46,7 +46,7 @@ fn node_of(alloc: Global, node: &parser::Node) -> Result<Node, AllocError>
     ensures { IfOk result (λ found. found ≡ node_of node.now) }
 {
     match node {
-        parser::Node::Case(place) => Ok(Node::Case(place.value)),
+        parser::Node::Case(place) => Ok(Node::Case(*place)),
         parser::Node::Sum(pairs) => {
             let pairs = pairs_of(alloc, pairs.as_slice())?;
             Ok(Node::Sum(pairs))

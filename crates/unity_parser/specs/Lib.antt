@@ -1,8 +1,9 @@
-pub mod Step
-pub mod Meaning
-pub mod Limits
-pub mod Pieces
-pub mod Grammar
 pub mod Conditions
 pub mod Document
-pub mod Reader
+pub mod Gives
+pub mod Limits
+pub mod Meaning
+pub mod ParseAnswers
+pub mod SmallForm
+pub mod Step
+pub mod TermParts

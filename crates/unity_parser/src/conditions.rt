@@ -4,8 +4,9 @@ ghost use Rattle.std.specs.List.{list_all};
 ghost use Rattle.unity_parser.specs.Limits.{IsSmallOperand, IsSmallExpression, IsSmallComparison, IsSmall};
 ghost use Rattle.unity_parser.specs.Conditions.{IsNamed, IsOver, ComparesOver, IsWellNamed, subtrees, are_trees, are_numbered, AreCertificates, IsWellFormed};
 
-use crate::tree::{Certificate, Comparison, Expression, Name, Node, Operand, SmallDocument};
+use crate::tree::{Certificate, Comparison, Expression, Node, Operand, SmallDocument};
 use unity_base::Seq;
+use unity_syntax::Name;
 
 /// The greatest number in a small document's ranges and expressions.
 const GREATEST: u64 = 1_000_000_000;

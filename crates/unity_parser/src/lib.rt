@@ -1,19 +1,19 @@
-//! The reader of small documents: from bytes to the one tree that they are.
+//! The reader of documents: from bytes to the one tree that they are, or their first fault; and the
+//! trees of small documents, with their meaning.
 #![tactic(auto)]
 
-mod bytes;
-mod certificates;
 mod conditions;
-mod cursor;
-mod document;
-mod expressions;
-mod sections;
+mod grammar;
+mod reading;
+mod small;
 #[cfg(test)]
 mod tests;
+mod texts;
 mod tree;
 
-pub use bytes::{LIMIT, one_tree, read_small_document};
+pub use reading::parse;
+pub use texts::{LIMIT, one_reading, read_document, small_document};
 pub use tree::{
-    Certificate, Comparison, Expression, Name, Node, Number, Operand, Pair, Program, Proof, Range,
+    Certificate, Comparison, Expression, Node, Number, Operand, Pair, Program, Proof, Range,
     Relation, SmallDocument, Statement,
 };

@@ -1,13 +1,6 @@
-// The trees of a small document. Words and numbers carry the byte where they begin.
+// The trees of a small document. Words, and numbers of expressions, carry the byte where they begin.
 use unity_base::Seq;
-
-/// A word that is not reserved.
-#[derive(Debug, Drop)]
-pub struct Name {
-    /// The byte where it begins.
-    pub at: u64,
-    pub text: Seq<u8>,
-}
+use unity_syntax::Name;
 
 /// A number, as it stands in the document.
 #[derive(Clone, Copy, Debug, PartialEq, Eq)]
@@ -92,15 +85,15 @@ pub struct Proof {
 pub struct Pair {
     /// Whether `-` stands before the multiplier.
     pub negative: bool,
-    pub multiplier: Number,
-    pub fact: Number,
+    pub multiplier: u64,
+    pub fact: u64,
 }
 
 /// A node of a certificate.
 #[derive(Debug, Drop)]
 pub enum Node {
     /// `case k`, with the number k of a waiting form, from 1.
-    Case(Number),
+    Case(u64),
     /// `sum m*i ..`
     Sum(Seq<Pair>),
 }

@@ -1,0 +1,14 @@
+use Rattle.unity_parser.proofs.Readings.{one_document, no_fault, one_fault, one_small_document}
+use Rattle.unity_parser.proofs.texts.one_reading.Goals as goal
+
+pub returns-clause-document : goal.returns-clause-document
+returns-clause-document c = one_document
+
+pub returns-clause-either : goal.returns-clause-either
+returns-clause-either c = no_fault
+
+pub returns-clause-fault : goal.returns-clause-fault
+returns-clause-fault c = one_fault
+
+pub returns-clause-small : goal.returns-clause-small
+returns-clause-small c = one_small_document
