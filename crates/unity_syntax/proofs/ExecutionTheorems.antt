@@ -69,7 +69,7 @@ every_state_in_range g c first choices later run place state e =
     run.steps place state e
 
 -- one more step at the end
-extended : (x : System) (s : State) (cs : List ℕ) (ts : List State) → Steps x s cs ts → (c : ℕ) (u t : State) →
+pub extended : (x : System) (s : State) (cs : List ℕ) (ts : List State) → Steps x s cs ts → (c : ℕ) (u t : State) →
     slice_get (s ∷ ts) (length cs) ≡ Some u → chosen_step x c u ≡ Some t →
     Steps x s (cs ++ (c ∷ [])) (ts ++ (t ∷ [])) × (slice_get (s ∷ (ts ++ (t ∷ []))) (length (cs ++ (c ∷ []))) ≡ Some t)
 extended x s [] [] f c u t e d = let same : s ≡ u = cc in ((subst (λ v. chosen_step x c v ≡ Some t) (sym same) d, tt), refl)

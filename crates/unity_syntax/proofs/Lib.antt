@@ -13,11 +13,17 @@ pub mod ExecutionTheorems
 pub mod InstanceLaws
 pub mod LookAhead
 pub mod Made
+pub mod NumberTests
 pub mod OperatorTrials
+pub mod OrderTheorem
+pub mod PairTheorems
 pub mod Productions
 pub mod ProgramTrials
+pub mod ProgressTheorems
 pub mod PropertyTheorems
+pub mod RoundSums
 pub mod RoundTheorems
+pub mod StandsTheorems
 pub mod StepLaws
 pub mod StepTrials
 pub mod ValueLaws

@@ -31,7 +31,7 @@ get-drop (suc i) j [] x m e h = cc
 get-drop (suc i) j (y ∷ xs) x zero e h = absurd (omega arith)
 get-drop (suc i) j (y ∷ xs) x (suc m) e h = let inner : m ≡ i + j = omega arith in get-drop i j xs x m inner h
 
-soon : (x : System) (p q : Test) (bound : ℕ) → Follows x p q bound → LeadsTo x p q bound
+pub soon : (x : System) (p q : Test) (bound : ℕ) → Follows x p q bound → LeadsTo x p q bound
 soon x p q bound follows first choices later run place n state e h short =
     let cut : ℕ = place + n in
     let inside : place < suc cut = omega arith in
@@ -41,7 +41,7 @@ soon x p q bound follows first choices later run place n state e h short =
     let there = get-take (suc cut) found.place (first ∷ later) found.state found.stands in
     record { place = found.place; state = found.state; after = found.after; before = omega (arith, there.1); stands = there.0; holds = found.holds }
 
-later_on : (x : System) (p q : Test) (bound : ℕ) → LeadsTo x p q bound → Follows x p q bound
+pub later_on : (x : System) (p q : Test) (bound : ℕ) → LeadsTo x p q bound → Follows x p q bound
 later_on x p q bound leads first choices later run place state e h enough =
     let short = shortest_exists (drop place choices) (length x.steps) bound enough in
     let found = leads first choices later run place short.0 state e h short.1 in

@@ -78,7 +78,7 @@ put_elsewhere (x ∷ xs) (suc m) zero z d = refl
 put_elsewhere (x ∷ xs) (suc m) (suc n) z d = put_elsewhere xs m n z (λ e. d (ap suc e))
 
 -- what agrees with all writes agrees with each
-agrees_with_each : (w v : Write) (ws : List Write) (place : ℕ) →
+pub agrees_with_each : (w v : Write) (ws : List Write) (place : ℕ) →
     IsTrue (list_all (agrees w) ws) → slice_get ws place ≡ Some v → IsTrue (agrees w v)
 agrees_with_each w v [] place t e = cc
 agrees_with_each w v (u ∷ ws) zero t e =
@@ -92,10 +92,10 @@ one_value n y z t = elim (eqb_tells n n) [
   | inr w ↦ absurd (w.1 refl)
 ]
 
-same_write : (v w : Write) → Some v ≡ Some w → v ≡ w
+pub same_write : (v w : Write) → Some v ≡ Some w → v ≡ w
 same_write v w e = cc
 
-same_slot : (m n : ℕ) → Some m ≡ Some n → m ≡ n
+pub same_slot : (m n : ℕ) → Some m ≡ Some n → m ≡ n
 same_slot m n e = cc
 
 written_value : (ranges : Ranges) (state : State) (ws : List Write) (place n : ℕ) (z : ℤ) →

@@ -33,6 +33,15 @@ OthersKeepNumbers = (ranges : Ranges) (ws : List Write) (state next : State) →
     IsTrue (is_state ranges state) → step ranges ws state ≡ Some next →
     (n : ℕ) → ((z : ℤ) → IsWrite ws (Some n, z) → ⊥) → slice_get next n ≡ slice_get state n
 
+-- each write of the first list stands in the second
+abbrev pub WritesAmong : List Write → List Write → Type 0
+WritesAmong ws vs = (w : Write) → IsWrite ws w → IsWrite vs w
+
+-- writes are made at once: in another order, or written twice, they give the same step
+abbrev pub OrderIsNoMatter : Type 0
+OrderIsNoMatter = (ranges : Ranges) (ws vs : List Write) (state : State) → IsTrue (is_state ranges state) →
+    WritesAmong ws vs → WritesAmong vs ws → step ranges ws state ≡ step ranges vs state
+
 -- every prefix of an execution is an execution
 abbrev pub PrefixIsExecution : Type 0
 PrefixIsExecution = (x : System) (first : State) (choices : List ℕ) (later : List State) → IsExecution x first choices later →

@@ -9,14 +9,17 @@ pub mod Instances
 pub mod Kinds
 pub mod Names
 pub mod OperatorExamples
+pub mod PairRules
 pub mod ProgramExamples
 pub mod Programs
+pub mod ProgressLaws
 pub mod Properties
 pub mod ReadingLaws
 pub mod RoundLaws
 pub mod Rounds
 pub mod Setting
 pub mod SmallTrees
+pub mod Stands
 pub mod State
 pub mod Step
 pub mod StepExamples

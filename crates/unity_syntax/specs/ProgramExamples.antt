@@ -8,7 +8,8 @@ use Rattle.unity_syntax.specs.Setting.{ranges}
 use Rattle.unity_syntax.specs.Rounds.{rounds, IsShortest}
 use Rattle.unity_syntax.specs.SmallTrees.{word, number, equal, range, variable, target, one, plainly, set, statement, lone, choice_of, initial_program, free_program, union_program, document}
 
--- F has `<[] i : 0..1 :: send: x := i |>`, G has `take: y := x`, L has `stay: y := y`; H = F [] G and K = H [] L, and Early = F [] L stands before L
+-- F has `<[] i : 0..1 :: send: x := i |>`, G has `take: y := x`, L has `stay: y := y`; H = F [] G and K = H [] L, and Early = F [] L
+-- stands before L
 abbrev pub sender : Program
 sender = initial_program "F" (variable "x" 0 1 ∷ []) (equal (word "x") (number 0))
     (lone (choice_of "i" (range 0 1) (lone (statement "send" (set (target "x") (plainly (one (word "i"))))))))

@@ -4,6 +4,7 @@ use Rattle.unity_syntax.specs.State.{State}
 use Rattle.unity_syntax.specs.Execution.{Act, System, IsExecution}
 use Rattle.unity_syntax.specs.Rounds.{IsShortest}
 
+-- a formula as a test of states
 abbrev pub Test : Type 0
 Test = State → Bool
 

@@ -30,6 +30,7 @@ use Rattle.unity_syntax.specs.declared.proof.Proof.{Proof}
 use Rattle.unity_syntax.specs.declared.document.Part.{Part}
 use Rattle.unity_syntax.specs.declared.document.Document.{Document}
 
+-- a name with this text
 abbrev pub name : String → Name
 name text = record { at = 0; text = codes text }
 
@@ -41,6 +42,7 @@ word text = Expr.Word 0 (name text) None
 abbrev pub element : String → Expr → Expr
 element text index = Expr.Word 0 (name text) (Some index)
 
+-- `12`
 abbrev pub number : ℕ → Expr
 number n = Expr.Number 0 n
 

@@ -102,7 +102,8 @@ AllAtOnce = after (single (for_each "i" (range 0 1) (set (element_target "a" (wo
 abbrev pub NothingAtOnce : Type 0
 NothingAtOnce = after (single (for_each "i" (range 1 0) (set (element_target "a" (word "i")) (plainly (one (number 0)))))) ≡ Some before
 
--- the writes of `<|| i : 0..1 :: a[i], x := 4, i if true ~ 4, i if true |>`: for each instance each alternative, for each of these each target
+-- the writes of `<|| i : 0..1 :: a[i], x := 4, i if true ~ 4, i if true |>`: for each instance each alternative, for each of these
+-- each target
 abbrev pub WritesInOrder : Type 0
 WritesInOrder = writes (single (for_each "i" (range 0 1) (set_two (element_target "a" (word "i")) (target "x")
     (if_either (two (number 4) (word "i")) (Expr.True 0) (two (number 4) (word "i")) (Expr.True 0))))) (seen three [] before) ≡

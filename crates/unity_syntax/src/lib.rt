@@ -21,8 +21,9 @@ pub use document::{Document, Part, Schedule};
 pub use expression::Expr;
 pub use fault::SyntaxFault;
 pub use meaning::{
-    claim_examples, execution_laws, instance_examples, leads_to_laws, program_examples, round_laws,
-    stable_is_unless_false, step_examples, step_laws, union_laws, value_examples,
+    claim_examples, execution_laws, instance_examples, leads_to_laws, pair_rules, program_examples,
+    progress_laws, round_laws, stable_is_unless_false, standing_laws, step_examples, step_laws,
+    union_laws, union_rules, value_examples,
 };
 pub use name::{End, Name, Range};
 pub use program::{Initially, Program};

@@ -8,8 +8,11 @@ ghost use Rattle.unity_syntax.specs.OperatorExamples.{OperatorExamples};
 ghost use Rattle.unity_syntax.specs.StepExamples.{StepExamples, InstanceExamples};
 ghost use Rattle.unity_syntax.specs.ProgramExamples.{UnionExamples, RoundExamples};
 ghost use Rattle.unity_syntax.specs.ClaimExamples.{ClaimExamples};
-ghost use Rattle.unity_syntax.specs.ExecutionLaws.{StepKeepsRanges, WrittenHasValue, OthersKeepNumbers, PrefixIsExecution, EachIsAStep, EveryStateInRange, DefinedRuns, UnionSteps, UnionInitial, StableIsUnlessFalse};
+ghost use Rattle.unity_syntax.specs.ExecutionLaws.{StepKeepsRanges, WrittenHasValue, OthersKeepNumbers, OrderIsNoMatter, PrefixIsExecution, EachIsAStep, EveryStateInRange, DefinedRuns, UnionSteps, UnionInitial, StableIsUnlessFalse};
 ghost use Rattle.unity_syntax.specs.RoundLaws.{NoRound, OneMoreRound, OneShortest, ShortestExists, LeadsIsFollows, WithinNone, BoundGrows, EnsuresLeads};
+ghost use Rattle.unity_syntax.specs.ProgressLaws.{RoundsAreLeft, LaterHaveFewer, RoundsOfJoined, MarksSuffice, LeadsByImplication, LeadsOn, EitherLeads, AnyLeads, ProgressWithSafety, LeadsWeaker, LeadsByInduction};
+ghost use Rattle.unity_syntax.specs.Stands.{DefinedHolds, InvariantHolds, UnlessHolds, EnsuresHolds, UnionDefined, UnionUnless, UnionInvariant, UnionInvariantSecond, UnionEnsures, UnionEnsuresSecond};
+ghost use Rattle.unity_syntax.specs.PairRules.{Conjunction, ConjunctionEnsured, SimpleConjunction, Disjunction, SimpleDisjunction, Cancellation, WeakerUnless, WeakerEnsures};
 
 /// Values in a small program: variables and their slots, arrays read inside and outside, enumeration
 /// words, always names, quantifiers and bound names; and each kind of expression.
@@ -42,11 +45,12 @@ pub fn claim_examples()
 {}
 
 /// A defined step leads from a state to a state: each slot that is written has its value, and every
-/// other slot keeps its number.
+/// other slot keeps its number. The order of the writes is no matter.
 pub fn step_laws()
     ensures ranges { StepKeepsRanges }
     ensures written { WrittenHasValue }
     ensures others { OthersKeepNumbers }
+    ensures order { OrderIsNoMatter }
 {}
 
 /// Every prefix of an execution is an execution; each state but the first is a step by a choice; each
@@ -69,6 +73,38 @@ pub fn stable_is_unless_false()
     ensures { StableIsUnlessFalse }
 {}
 
+/// What stands of single steps, where a test holds before and after them, holds in executions where that
+/// test always holds.
+pub fn standing_laws()
+    ensures defined { DefinedHolds }
+    ensures invariant { InvariantHolds }
+    ensures unless { UnlessHolds }
+    ensures ensured { EnsuresHolds }
+{}
+
+/// The rules by which two `unless` of one program, or an `unless` and an `ensures`, combine: conjunction,
+/// disjunction, their simple forms, cancellation, and a weaker end.
+pub fn pair_rules()
+    ensures conjunction { Conjunction }
+    ensures conjunction_ensured { ConjunctionEnsured }
+    ensures simple_conjunction { SimpleConjunction }
+    ensures disjunction { Disjunction }
+    ensures simple_disjunction { SimpleDisjunction }
+    ensures cancellation { Cancellation }
+    ensures weaker_unless { WeakerUnless }
+    ensures weaker_ensures { WeakerEnsures }
+{}
+
+/// What stands of single steps passes to a union.
+pub fn union_rules()
+    ensures defined { UnionDefined }
+    ensures unless { UnionUnless }
+    ensures invariant { UnionInvariant }
+    ensures invariant_second { UnionInvariantSecond }
+    ensures ensured { UnionEnsures }
+    ensures ensured_second { UnionEnsuresSecond }
+{}
+
 /// Rounds by their definition: none where an instance does not occur, else one more than in what
 /// follows the shortest prefix in which all occur. There is one shortest prefix with so many rounds.
 pub fn round_laws()
@@ -85,4 +121,20 @@ pub fn leads_to_laws()
     ensures none { WithinNone }
     ensures grows { BoundGrows }
     ensures one { EnsuresLeads }
+{}
+
+/// Rounds add up, and so one leads-to follows from others: bounds of steps on the way add, of cases the
+/// greatest serves, and a measure that falls within a bound takes it once for each of its values.
+pub fn progress_laws()
+    ensures left { RoundsAreLeft }
+    ensures fewer { LaterHaveFewer }
+    ensures joined { RoundsOfJoined }
+    ensures marks { MarksSuffice }
+    ensures implication { LeadsByImplication }
+    ensures on { LeadsOn }
+    ensures either { EitherLeads }
+    ensures any { AnyLeads }
+    ensures safety { ProgressWithSafety }
+    ensures weaker { LeadsWeaker }
+    ensures induction { LeadsByInduction }
 {}

@@ -1,4 +1,5 @@
 use Rattle.unity_syntax.proofs.StepLaws.{step_keeps_ranges, written_has_value, others_keep_numbers}
+use Rattle.unity_syntax.proofs.OrderTheorem.{order_is_no_matter}
 use Rattle.unity_syntax.proofs.meaning.step_laws.Goals as goal
 
 pub returns-clause-ranges : goal.returns-clause-ranges
@@ -9,3 +10,6 @@ returns-clause-written c = written_has_value
 
 pub returns-clause-others : goal.returns-clause-others
 returns-clause-others c = others_keep_numbers
+
+pub returns-clause-order : goal.returns-clause-order
+returns-clause-order c = order_is_no_matter
