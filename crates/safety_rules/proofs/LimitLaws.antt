@@ -1,5 +1,5 @@
 -- The bounds of a small document's obligations.
-use Rattle.std.proofs.Common.{◌≡◌, ℕ, zero, suc, ◌+◌, ◌*◌, ◌^◌, ◌≤◌, max, All, List, [], ◌∷◌, sym, subst, slice_get, arith}
+use Rattle.std.proofs.Common.{◌≡◌, zero, suc, ◌+◌, ◌^◌, ◌≤◌, max, All, List, [], ◌∷◌, sym, subst, slice_get, arith}
 use Rattle.unity_parser.specs.declared.tree.SmallDocument.{SmallDocument}
 use Rattle.unity_parser.specs.Limits.{IsSmall}
 use Rattle.safety_rules.specs.declared.core_terms.Range.{Range}

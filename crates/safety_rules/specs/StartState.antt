@@ -1,5 +1,5 @@
 -- The start state of a small document.
-use Rattle.std.specs.Prelude.{◌≡◌, ℕ, ℤ, pos, List, [], ◌∷◌, Bool, true, false, cond, ◌&&◌, Option, Some, None, IsTrue, nat_eq}
+use Rattle.std.specs.Prelude.{ℤ, pos, [], ◌∷◌, Bool, false, cond, Option, Some, None, IsTrue, nat_eq}
 use Rattle.unity_parser.specs.declared.tree.SmallDocument.{SmallDocument}
 use Rattle.unity_parser.specs.Step.{State, in_range}
 use Rattle.unity_parser.specs.Meaning.{comparison_holds, is_initial}

@@ -1,18 +1,13 @@
 -- What stands there is read: a tree's pieces give the tree, and what follows them is left.
-use Rattle.std.proofs.Common.{◌≡◌, ◌<◌, Bool, true, false, not, List, [], ◌∷◌, ◌++◌, Option, Some, None, refl, sym, ap, ◌∙◌, subst, length, arith, cond, append_assoc, rules}
-use Rattle.std.specs.Prelude.{ℕ}
+use Rattle.std.proofs.Common.{◌≡◌, ◌<◌, Bool, true, false, not, List, [], ◌∷◌, ◌++◌, Option, Some, None, refl, sym, ap, ◌∙◌, length, arith, append_assoc}
 use Rattle.std.specs.List.{flat_map}
 use Rattle.case_tables.specs.declared.word_table.Word.{Word}
 use Rattle.case_tables.specs.declared.symbol_table.Symbol.{Symbol}
-use Rattle.case_tables.specs.declared.symbol_table.Symbol.TheVariants.{Below as below}
-use Rattle.case_tables.specs.contracts.word_table.WordPartialEq.TheImpl.{ghosts as word_ghosts}
-use Rattle.case_tables.specs.contracts.symbol_table.SymbolPartialEq.TheImpl.{ghosts as symbol_ghosts}
 use Rattle.unity_parser.specs.declared.tree.Name.{Name}
 use Rattle.unity_parser.specs.declared.tree.Number.{Number}
 use Rattle.unity_parser.specs.declared.tree.Operand.{Operand}
 use Rattle.unity_parser.specs.declared.tree.Expression.{Expression}
 use Rattle.unity_parser.specs.declared.tree.Relation.{Relation}
-use Rattle.unity_parser.specs.declared.tree.Relation.TheVariants.{Below as less}
 use Rattle.unity_parser.specs.declared.tree.Comparison.{Comparison}
 use Rattle.unity_parser.specs.declared.tree.Range.{Range}
 use Rattle.unity_parser.specs.declared.tree.Statement.{Statement}
@@ -22,9 +17,9 @@ use Rattle.unity_parser.specs.declared.tree.Pair.{Pair}
 use Rattle.unity_parser.specs.declared.tree.Node.{Node}
 use Rattle.unity_parser.specs.declared.tree.Certificate.{Certificate}
 use Rattle.unity_parser.specs.declared.tree.SmallDocument.{SmallDocument}
-use Rattle.unity_parser.specs.Pieces.{Piece, Pieces, name, number, reserved, symbol}
+use Rattle.unity_parser.specs.Pieces.{Piece, Pieces, reserved, symbol}
 use Rattle.unity_parser.specs.Grammar.{name_piece, number_piece, operand_piece, addend_pieces, expression_pieces, relation_symbol, comparison_pieces, range_pieces, statement_pieces, program_pieces, by_text, proof_pieces, sign_pieces, pair_pieces, node_pieces, certificate_pieces, document_pieces}
-use Rattle.unity_parser.specs.Reader.{Reading, after, then, skip_symbol, skip_reserved, read_name, read_number, read_operand, read_addend, read_expression, read_relation, read_comparison, read_range, read_label, read_statement, read_initially, read_heading, read_assign, read_program, skip_by_text, read_defined, read_invariant, read_proof, sign_of, read_sign, read_signed, read_pair, begins_pair, begins_node, begins_certificate, read_pairs, read_case, read_sum, read_node_by, read_node, read_nodes, read_certificate, read_certificates, at_end, read_section, read_version, with_certificates, read_parts, read_document}
+use Rattle.unity_parser.specs.Reader.{skip_symbol, read_name, read_number, read_operand, read_expression, read_relation, read_comparison, read_range, read_label, read_statement, read_initially, read_heading, read_assign, read_program, skip_by_text, read_defined, read_invariant, read_proof, read_pair, begins_pair, begins_node, begins_certificate, read_pairs, read_node, read_nodes, read_certificate, read_certificates, read_section, read_version, read_parts, read_document}
 use Rattle.unity_parser.proofs.Many.{IsComplete, IsListed, many_complete}
 use Rattle.unity_parser.proofs.Sound.{label_pieces, initially_pieces, heading_pieces, assign_pieces, defined_pieces, invariant_pieces}
 

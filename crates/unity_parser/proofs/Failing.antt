@@ -1,11 +1,11 @@
 -- What is left unread makes the whole unread.
-use Rattle.std.proofs.Common.{◌≡◌, List, Option, Some, None, refl, sym, ap, ◌∙◌, subst}
+use Rattle.std.proofs.Common.{◌≡◌, Option, Some, None, refl, ap, ◌∙◌}
 use Rattle.unity_parser.specs.declared.cursor.Stop.{Stop}
 use Rattle.unity_parser.specs.declared.tree.Number.{Number}
 use Rattle.unity_parser.specs.declared.tree.Program.{Program}
 use Rattle.unity_parser.specs.declared.tree.Proof.{Proof}
 use Rattle.unity_parser.specs.Pieces.{Pieces}
-use Rattle.unity_parser.specs.Reader.{Reading, Fails, then, with_certificates, read_version, read_program, read_proof, read_parts, read_section, read_document}
+use Rattle.unity_parser.specs.Reader.{Fails, then, with_certificates, read_version, read_program, read_proof, read_parts, read_section, read_document}
 
 -- a step that makes nothing of nothing
 through : {S T : Type 0} (f : Option S → Option T) → f None ≡ None → (stop : Stop) (r : Option S) → Fails stop r → Fails stop (f r)

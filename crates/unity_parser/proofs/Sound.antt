@@ -1,11 +1,9 @@
 -- What is read stands there: each tree's pieces, and then what is left.
-use Rattle.std.proofs.Common.{◌≡◌, ◌<◌, Bool, true, false, List, [], ◌∷◌, ◌++◌, Option, Some, None, refl, sym, ap, ◌∙◌, subst, length, arith, cond, append_assoc, rules}
-use Rattle.std.specs.Prelude.{ℕ}
+use Rattle.std.proofs.Common.{◌≡◌, ◌<◌, Bool, true, false, List, [], ◌∷◌, ◌++◌, Option, Some, None, refl, sym, ap, ◌∙◌, length, arith, cond, append_assoc, rules}
 use Rattle.std.specs.List.{flat_map}
 use denote.Enum.Bare.{same_true}
 use Rattle.case_tables.specs.declared.word_table.Word.{Word}
 use Rattle.case_tables.specs.declared.symbol_table.Symbol.{Symbol}
-use Rattle.case_tables.specs.declared.symbol_table.Symbol.TheVariants.{Below as below}
 use Rattle.case_tables.specs.contracts.word_table.Word as the_word
 use Rattle.case_tables.specs.contracts.symbol_table.Symbol as the_symbol
 use Rattle.case_tables.specs.contracts.word_table.WordPartialEq.TheImpl.{ghosts as word_ghosts}
@@ -17,7 +15,6 @@ use Rattle.unity_parser.specs.declared.tree.Expression.{Expression}
 use Rattle.unity_parser.specs.declared.tree.Relation.{Relation}
 use Rattle.unity_parser.specs.declared.tree.Relation.TheVariants.{Below as less}
 use Rattle.unity_parser.specs.declared.tree.Comparison.{Comparison}
-use Rattle.unity_parser.specs.declared.tree.Range.{Range}
 use Rattle.unity_parser.specs.declared.tree.Statement.{Statement}
 use Rattle.unity_parser.specs.declared.tree.Program.{Program}
 use Rattle.unity_parser.specs.declared.tree.Proof.{Proof}
@@ -26,8 +23,8 @@ use Rattle.unity_parser.specs.declared.tree.Node.{Node}
 use Rattle.unity_parser.specs.declared.tree.Certificate.{Certificate}
 use Rattle.unity_parser.specs.declared.tree.SmallDocument.{SmallDocument}
 use Rattle.unity_parser.specs.Pieces.{Piece, Pieces, name, number, reserved, symbol}
-use Rattle.unity_parser.specs.Grammar.{name_piece, number_piece, operand_piece, addend_pieces, expression_pieces, relation_symbol, comparison_pieces, range_pieces, statement_pieces, program_pieces, by_text, proof_pieces, sign_pieces, pair_pieces, node_pieces, certificate_pieces, document_pieces}
-use Rattle.unity_parser.specs.Reader.{Reading, after, then, skip_symbol, skip_reserved, read_name, read_number, read_operand, read_addend, read_expression, read_relation, read_comparison, read_range, read_label, read_statement, read_initially, read_heading, read_assign, read_program, skip_by_text, read_defined, read_invariant, read_proof, sign_of, read_sign, read_signed, read_pair, begins_pair, begins_node, begins_certificate, read_pairs, read_case, read_sum, read_node_by, read_node, read_nodes, read_certificate, read_certificates, at_end, read_section, read_version, with_certificates, read_parts, read_document}
+use Rattle.unity_parser.specs.Grammar.{name_piece, number_piece, operand_piece, expression_pieces, relation_symbol, comparison_pieces, range_pieces, statement_pieces, program_pieces, by_text, proof_pieces, sign_pieces, pair_pieces, node_pieces, certificate_pieces, document_pieces}
+use Rattle.unity_parser.specs.Reader.{Reading, after, then, skip_symbol, skip_reserved, read_name, read_number, read_operand, read_addend, read_expression, read_relation, read_comparison, read_range, read_label, read_statement, read_initially, read_heading, read_assign, read_program, skip_by_text, read_defined, read_invariant, read_proof, sign_of, read_sign, read_signed, read_pair, begins_pair, begins_node, begins_certificate, read_pairs, read_node_by, read_node, read_nodes, read_certificate, read_certificates, at_end, read_section, read_version, with_certificates, read_parts, read_document}
 use Rattle.unity_parser.proofs.Many.{IsSound, Takes, takes_by, many_sound}
 
 symbol_same : (a b : Symbol) → symbol_ghosts.eq a b ≡ true → a ≡ b

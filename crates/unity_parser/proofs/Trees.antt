@@ -1,14 +1,12 @@
 -- Bytes, their one list of pieces, and the one tree that these are.
-use Rattle.std.proofs.Common.{◌≡◌, ◌≤◌, ℕ, Bool, true, false, IsTrue, List, Option, Some, None, Result, Ok, Err, refl, sym, ap, ◌∙◌, subst, length, IfOk, MatchOption}
+use Rattle.std.proofs.Common.{◌≡◌, ◌≤◌, ℕ, Bool, true, false, IsTrue, List, Option, Some, None, Result, Ok, Err, sym, ap, ◌∙◌, subst, length, IfOk, MatchOption}
 use Rattle.std.specs.declared.alloc.AllocError.{AllocError}
 use Rattle.case_tables.specs.declared.code_table.Code.{Code}
 use Rattle.unity_syntax.specs.declared.token.Token.{Token}
-use Rattle.unity_syntax.specs.declared.fault.SyntaxFault.{SyntaxFault}
-use Rattle.unity_lexer.specs.Tokens.{IsTokens, FirstBad, IsRefused}
+use Rattle.unity_lexer.specs.Tokens.{IsTokens, FirstBad}
 use Rattle.unity_lexer.proofs.OneAnswer.{IsTokens-unique, IsTokens-no_fault}
 use Rattle.unity_parser.specs.declared.tree.SmallDocument.{SmallDocument}
 use Rattle.unity_parser.specs.Pieces.{Pieces, pieces_of}
-use Rattle.unity_parser.specs.Grammar.{document_pieces}
 use Rattle.unity_parser.specs.Conditions.{IsWellFormed}
 use Rattle.unity_parser.specs.Document.{IsTreeOf, IsSmallDocument, IsNoSmallDocument, OneTree}
 use Rattle.unity_parser.specs.Reader.{read_document}

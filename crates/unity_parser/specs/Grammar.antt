@@ -1,5 +1,5 @@
 -- The grammar of small documents: the pieces of each tree. Above each definition stands its production.
-use Rattle.std.specs.Prelude.{ℕ, List, [], ◌∷◌, ◌++◌, Bool, true, false, Option, Some, None}
+use Rattle.std.specs.Prelude.{[], ◌∷◌, ◌++◌, Bool, true, false, Option, Some, None}
 use Rattle.std.specs.List.{flat_map}
 use Rattle.case_tables.specs.declared.word_table.Word.{Word}
 use Rattle.case_tables.specs.declared.symbol_table.Symbol.{Symbol}

@@ -1,6 +1,6 @@
 -- What reading a small document with one piece of look-ahead makes of pieces: a tree and the pieces
 -- that are left, or nothing.
-use Rattle.std.specs.Prelude.{◌≡◌, ℕ, zero, suc, List, [], ◌∷◌, Bool, true, false, cond, Option, Some, None, Result, Ok, Err, option_map, length, ◌||◌}
+use Rattle.std.specs.Prelude.{◌≡◌, ℕ, zero, suc, List, [], ◌∷◌, Bool, true, false, cond, Option, Some, None, Result, Ok, Err, length, ◌||◌}
 use Rattle.case_tables.specs.declared.word_table.Word.{Word}
 use Rattle.case_tables.specs.declared.symbol_table.Symbol.{Symbol}
 use Rattle.case_tables.specs.contracts.word_table.WordPartialEq.TheImpl.{ghosts as word_ghosts}
@@ -22,7 +22,7 @@ use Rattle.unity_parser.specs.declared.tree.Pair.{Pair}
 use Rattle.unity_parser.specs.declared.tree.Node.{Node}
 use Rattle.unity_parser.specs.declared.tree.Certificate.{Certificate}
 use Rattle.unity_parser.specs.declared.tree.SmallDocument.{SmallDocument}
-use Rattle.unity_parser.specs.Pieces.{Piece, Pieces, name, number, reserved, symbol, pieces_of}
+use Rattle.unity_parser.specs.Pieces.{Pieces, name, number, reserved, symbol, pieces_of}
 
 -- the pieces that a cursor has left
 abbrev pub left : Cursor → Pieces

@@ -1,7 +1,7 @@
-use Rattle.std.proofs.Common.{sym, refl, ◌∙◌, ap, Some, subst}
+use Rattle.std.proofs.Common.{sym, refl, ◌∙◌, subst}
 use Rattle.std.proofs.lemmas.Result.{err_from_is_err_and}
 use Rattle.unity_parser.specs.Reader.{left, begins_certificate, read_certificate, read_certificates}
-use Rattle.unity_parser.proofs.Many.{GoesOn, starts, goes_on, stops, fails_by}
+use Rattle.unity_parser.proofs.Many.{GoesOn, goes_on, stops, fails_by}
 use Rattle.unity_parser.proofs.Sound.{certificate_takes}
 use Rattle.unity_parser.proofs.certificates.certificates.Goals as goal
 

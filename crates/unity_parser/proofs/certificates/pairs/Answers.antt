@@ -1,7 +1,7 @@
-use Rattle.std.proofs.Common.{sym, refl, ◌∙◌, ap, Some, subst}
+use Rattle.std.proofs.Common.{sym, refl, ◌∙◌, subst}
 use Rattle.std.proofs.lemmas.Result.{err_from_is_err_and}
 use Rattle.unity_parser.specs.Reader.{left, begins_pair, read_pair, read_pairs}
-use Rattle.unity_parser.proofs.Many.{GoesOn, starts, goes_on, stops, fails_by}
+use Rattle.unity_parser.proofs.Many.{GoesOn, goes_on, stops, fails_by}
 use Rattle.unity_parser.proofs.Sound.{pair_takes}
 use Rattle.unity_parser.proofs.certificates.pairs.Goals as goal
 

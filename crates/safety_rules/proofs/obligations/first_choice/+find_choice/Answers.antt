@@ -1,7 +1,7 @@
-use Rattle.std.proofs.Common.{◌≡◌, ◌∙◌, ap, sym, Some, None}
-use Rattle.safety_rules.specs.declared.core_terms.CTerm.TheVariants.{Add, Sub, Scale, Ite}
+use Rattle.std.proofs.Common.{◌∙◌, ap, sym}
+use Rattle.safety_rules.specs.declared.core_terms.CTerm.TheVariants.{Add, Sub, Ite}
 use Rattle.safety_rules.specs.Settling.{first_ite}
-use Rattle.safety_rules.proofs.SettlingLaws.{sum-first, sum-second, sum-none, difference-first, difference-second, difference-none, multiple-some, multiple-none, ite-Ite}
+use Rattle.safety_rules.proofs.SettlingLaws.{sum-first, sum-second, difference-first, difference-second, ite-Ite}
 use Rattle.safety_rules.proofs.obligations.first_choice.+find_choice.Goals as goal
 
 pub returns-in-Some : goal.returns-in-Some
