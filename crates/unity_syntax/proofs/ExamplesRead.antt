@@ -1,6 +1,12 @@
 -- The texts are read as their trees, by computation.
 use Rattle.std.proofs.Common.{refl}
-use Rattle.unity_syntax.specs.Examples.{IsRead, IsRefused, smallest_example, count_example, program_example, expressions_example, proof_example, term_example, other_version, second_relation, second_arrow, not_not, and_or, other_number, node_too_many, node_missing, early_end, bracket_too_many}
+use Rattle.unity_syntax.specs.TextForms.{IsRead, IsRefused}
+use Rattle.unity_syntax.specs.CountText.{smallest_example, count_example}
+use Rattle.unity_syntax.specs.ProgramText.{program_example}
+use Rattle.unity_syntax.specs.ExpressionText.{expressions_example}
+use Rattle.unity_syntax.specs.ProofText.{proof_example}
+use Rattle.unity_syntax.specs.TermText.{term_example}
+use Rattle.unity_syntax.specs.RefusedTexts.{other_version, second_relation, second_arrow, not_not, and_or, other_number, node_too_many, node_missing, early_end, bracket_too_many}
 use Rattle.unity_syntax.proofs.Productions.{all_productions}
 use Rattle.unity_syntax.proofs.ViewEquations.{view-Implies, view-And, view-Or, view-Not, view-Compare, view-Sum, view-Product, view-Number, view-True, view-False, view-Word, view-Brackets, view-Quantified, view-Set, view-quantified_component, view-Assign, view-Statement, view-quantified_item, view-Items, view-Imply, view-From, view-Pair, view-Exists, view-Induct, view-Psp, view-Weaken}
 

@@ -1,7 +1,13 @@
 //! The laws of the grammar of the whole language, and of the view of the typed trees in the trees that
 //! the grammar makes. These functions do nothing: each states a law.
 
-ghost use Rattle.unity_syntax.specs.Examples.{IsRead, IsRefused, smallest_example, count_example, program_example, expressions_example, proof_example, term_example, other_version, second_relation, second_arrow, not_not, and_or, other_number, node_too_many, node_missing, early_end, bracket_too_many};
+ghost use Rattle.unity_syntax.specs.TextForms.{IsRead, IsRefused};
+ghost use Rattle.unity_syntax.specs.CountText.{smallest_example, count_example};
+ghost use Rattle.unity_syntax.specs.ProgramText.{program_example};
+ghost use Rattle.unity_syntax.specs.ExpressionText.{expressions_example};
+ghost use Rattle.unity_syntax.specs.ProofText.{proof_example};
+ghost use Rattle.unity_syntax.specs.TermText.{term_example};
+ghost use Rattle.unity_syntax.specs.RefusedTexts.{other_version, second_relation, second_arrow, not_not, and_or, other_number, node_too_many, node_missing, early_end, bracket_too_many};
 ghost use Rattle.unity_syntax.specs.ReadingLaws.{OneKind, OneLookAhead, OneTree, EachTree, ViewLosesNothing, OneDocument, WordsRise};
 
 /// Tokens of one class and one value are of one kind.
