@@ -9,25 +9,46 @@ if [ "${1:-}" != --built ]; then
 fi
 
 answer=$(mktemp)
-trap 'rm -f "$answer"' EXIT
+text=$(mktemp)
+trap 'rm -f "$answer" "$text"' EXIT
 passed=0
 failed=0
 
-# expect STATUS DOCUMENT: `unity check` of the document exits so, and prints DOCUMENT.expected.
-expect() {
+# compare NAME STATUS: the input `unity check` reads here makes it exit so, and print the text wanted.
+compare() {
     local status=0
-    crates/unity/out/unity check < "examples/$2.unity" > "$answer" || status=$?
-    if [ "$status" = "$1" ] && cmp -s "$answer" "examples/$2.expected"; then
+    crates/unity/out/unity check > "$answer" || status=$?
+    if [ "$status" = "$2" ] && cmp -s "$answer" "$wanted"; then
         passed=$((passed + 1))
     else
         failed=$((failed + 1))
-        echo "examples/$2.unity: status $status, and this text:"
+        echo "$1: status $status, and this text:"
         cat "$answer"
     fi
+}
+
+# expect STATUS DOCUMENT: of this document in examples/ the text is DOCUMENT.expected.
+expect() {
+    wanted=examples/$2.expected
+    compare "examples/$2.unity" "$1" < "examples/$2.unity"
+}
+
+# expect_blanks COUNT TEXT: of so many blanks this line is said.
+expect_blanks() {
+    wanted=$text
+    echo "$2" > "$text"
+    compare "$1 blanks" 2 < <(head -c "$1" /dev/zero | tr '\0' ' ')
 }
 
 expect 0 count
 expect 1 count_wrong_sum
 expect 2 comparison_of_three
+expect 2 and_or_mixed
+expect 2 too_many_brackets
+expect 2 ring_of_four
+expect 2 union_of_two
+expect 2 flip_array
+expect_blanks 67108864 "bad 3 Unexpected byte 67108864"
+expect_blanks 67108865 "bad 5 TooLong"
 echo "$passed passed, $failed failed"
 [ "$failed" = 0 ]

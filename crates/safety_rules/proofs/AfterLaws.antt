@@ -1,7 +1,7 @@
 -- A formula after a write: it holds exactly where the formula itself holds in the state after the write.
 use Rattle.std.proofs.Common.{◌≡◌, ℕ, ◌<◌, ℤ, pos, ◌+ℤ◌, ◌-ℤ◌, ◌*ℤ◌, [], ◌∷◌, length, Bool, true, false, cond, not, ◌&&◌, ◌||◌, Some, nat_eq, refl, sym, ap, ◌∙◌, subst}
 use Rattle.std.specs.Int.RustNames.{int_le}
-use Rattle.unity_parser.specs.Step.{State, written}
+use Rattle.small_documents.specs.Step.{State, written}
 use Rattle.safety_rules.specs.declared.core_terms.CTerm.{CTerm, roll-CTerm, fold-roll-CTerm}
 use Rattle.safety_rules.specs.declared.core_terms.CTerm.TheVariants.{Slot}
 use Rattle.safety_rules.specs.declared.core_terms.CForm.{CForm, roll-CForm, ind-CForm, fold-roll-CForm}

@@ -1,5 +1,5 @@
 -- The load of a formula is at most its bound.
-use Rattle.std.proofs.Common.{◌≡◌, ℕ, ◌+◌, ◌*◌, ◌^◌, ◌<◌, ◌≤◌, max, ℤ, List, length, All, slice_index_or, sym, subst, arith}
+use Rattle.std.proofs.Common.{ℕ, ◌*◌, ◌^◌, ◌≤◌, List, All, slice_index_or, sym, subst, arith}
 use Rattle.std.proofs.Math.Nat.{mul-le-mul_left}
 use Rattle.std.specs.Int.RustNames.{unsigned_abs}
 use Rattle.safety_rules.specs.declared.core_terms.CTerm.{CTerm, roll-CTerm, fold-roll-CTerm}

@@ -1,13 +1,13 @@
 -- The core of an expression or a comparison means what it means, and its bound is small.
 use Rattle.std.proofs.Common.{◌≡◌, ℕ, ◌+◌, ◌*◌, ◌≤◌, ℤ, pos, ◌+ℤ◌, ◌-ℤ◌, [], Option, Some, None, ap, ◌∙◌, arith}
 use Rattle.std.specs.Int.RustNames.{int_le}
-use Rattle.unity_parser.specs.declared.tree.Operand.{Operand}
-use Rattle.unity_parser.specs.declared.tree.Expression.{Expression}
-use Rattle.unity_parser.specs.declared.tree.Relation.{Relation}
-use Rattle.unity_parser.specs.declared.tree.Comparison.{Comparison}
-use Rattle.unity_parser.specs.Step.{State}
-use Rattle.unity_parser.specs.Meaning.{operand_value, sum_value, expression_value, related}
-use Rattle.unity_parser.specs.Limits.{IsSmallOperand, IsSmallSecond, IsSmallExpression, IsSmallComparison}
+use Rattle.small_documents.specs.declared.tree.Operand.{Operand}
+use Rattle.small_documents.specs.declared.tree.Expression.{Expression}
+use Rattle.small_documents.specs.declared.tree.Relation.{Relation}
+use Rattle.small_documents.specs.declared.tree.Comparison.{Comparison}
+use Rattle.small_documents.specs.Step.{State}
+use Rattle.small_documents.specs.Meaning.{operand_value, sum_value, expression_value, related}
+use Rattle.small_documents.specs.Limits.{IsSmallOperand, IsSmallSecond, IsSmallExpression, IsSmallComparison}
 use Rattle.safety_rules.specs.declared.core_terms.CTerm.{CTerm}
 use Rattle.safety_rules.specs.declared.core_terms.CTerm.TheVariants.{Const}
 use Rattle.safety_rules.specs.CoreValue.{int_eq, term_value, form_value}

@@ -1,25 +1,23 @@
 -- What follows is safe: from certificates to executions.
-use Rattle.std.proofs.Common.{◌≡◌, ◌≤◌, ◌^◌, ◌<◌, ◌+◌, ℕ, zero, suc, ℤ, pos, Bool, true, false, cond, List, [], ◌∷◌, map, IsTrue, All, refl, sym, ap, ◌∙◌, subst, lit<, nat_eq, Result, Ok, Err, IfOk, length, arith, take, drop, ◌-◌, take_all, get_or}
+use Rattle.std.proofs.Common.{◌≡◌, ◌≤◌, ◌^◌, ◌<◌, ◌+◌, ℕ, zero, suc, Bool, true, false, List, [], ◌∷◌, map, IsTrue, All, refl, sym, ap, ◌∙◌, subst, lit<, nat_eq, Result, Ok, Err, IfOk, length, arith, take, drop, ◌-◌, take_all, get_or}
 use Rattle.std.specs.declared.alloc.AllocError.{AllocError}
 use Rattle.std.specs.Prelude.{◌↔◌, ◌&&◌}
 use Rattle.std.specs.List.{list_all}
 use Rattle.std.proofs.lemmas.List.Elements.{All-cons, All-nil}
 use Rattle.std.proofs.lemmas.Bool.{eqb-true}
-use Rattle.unity_parser.specs.declared.tree.Node.{Node as WrittenNode}
-use Rattle.unity_parser.specs.declared.tree.Certificate.{Certificate}
-use Rattle.unity_parser.specs.declared.tree.SmallDocument.{SmallDocument}
-use Rattle.unity_parser.specs.Step.{State, is_state}
-use Rattle.unity_parser.specs.Meaning.{ranges_of}
-use Rattle.unity_parser.specs.Conditions.{are_trees, IsWellFormed}
+use Rattle.small_documents.specs.declared.tree.Node.{Node as WrittenNode}
+use Rattle.small_documents.specs.declared.tree.Certificate.{Certificate}
+use Rattle.small_documents.specs.declared.tree.SmallDocument.{SmallDocument}
+use Rattle.small_documents.specs.Step.{State, is_state}
+use Rattle.small_documents.specs.Meaning.{ranges_of}
+use Rattle.small_documents.specs.Conditions.{are_trees}
 use Rattle.safety_rules.specs.declared.core_terms.CForm.{CForm}
-use Rattle.safety_rules.specs.declared.obligations.Obligation.{Obligation}
 use Rattle.safety_rules.specs.declared.certificate_check.Node.{Node}
 use Rattle.safety_rules.specs.Load.{form_load}
-use Rattle.safety_rules.specs.Opening.{Valid}
-use Rattle.safety_rules.specs.Refutation.{Refuted, is_whole, arity}
+use Rattle.safety_rules.specs.Refutation.{Refuted, is_whole}
 use Rattle.safety_rules.specs.StartState.{starts}
-use Rattle.safety_rules.specs.StepForms.{slots_of, obligation_forms, defined_obligation, IsValid, AllTrue}
-use Rattle.safety_rules.specs.Variables.{are_in_ranges, obligation_of}
+use Rattle.safety_rules.specs.StepForms.{slots_of, obligation_forms, defined_obligation, IsValid}
+use Rattle.safety_rules.specs.Variables.{are_in_ranges}
 use Rattle.safety_rules.specs.Follows.{node_of, obligation, AreRefuted, AreLight, AreWhole, Follows, AcceptedIsSafe, AcceptedRuns}
 use Rattle.safety_rules.proofs.RefutationLaws.{sound}
 use Rattle.safety_rules.proofs.WholeLaws.{refutes-walked}

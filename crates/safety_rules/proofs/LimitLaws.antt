@@ -1,7 +1,7 @@
 -- The bounds of a small document's obligations.
-use Rattle.std.proofs.Common.{◌≡◌, ℕ, zero, suc, ◌+◌, ◌*◌, ◌^◌, ◌≤◌, max, All, List, [], ◌∷◌, sym, subst, slice_get, arith}
-use Rattle.unity_parser.specs.declared.tree.SmallDocument.{SmallDocument}
-use Rattle.unity_parser.specs.Limits.{IsSmall}
+use Rattle.std.proofs.Common.{◌≡◌, zero, suc, ◌+◌, ◌^◌, ◌≤◌, max, All, List, [], ◌∷◌, sym, subst, slice_get, arith}
+use Rattle.small_documents.specs.declared.tree.SmallDocument.{SmallDocument}
+use Rattle.small_documents.specs.Limits.{IsSmall}
 use Rattle.safety_rules.specs.declared.core_terms.Range.{Range}
 use Rattle.safety_rules.specs.declared.core_terms.CForm.{CForm}
 use Rattle.safety_rules.specs.declared.wp_substitution.CWrite.{CWrite}

@@ -1,9 +1,8 @@
 -- The values of linear forms.
-use Rattle.std.proofs.Common.{◌≡◌, ℕ, zero, suc, ◌+◌, ◌*◌, ◌<◌, ℤ, pos, negsuc, ◌+ℤ◌, ◌-ℤ◌, ◌*ℤ◌, Bool, true, false, cond, List, [], ◌∷◌, map, length, arith, refl, sym, ap, ◌∙◌}
+use Rattle.std.proofs.Common.{◌≡◌, ℕ, zero, suc, ℤ, pos, negsuc, ◌+ℤ◌, ◌*ℤ◌, Bool, true, false, cond, List, [], ◌∷◌, length, arith, refl, ap, ◌∙◌}
 use Rattle.std.proofs.lemmas.Int.{ints}
-use lib.IntN.{*ℤ_comm, zero-*ℤ, *ℤ-zero}
+use lib.IntN.{zero-*ℤ, *ℤ-zero}
 use Rattle.safety_rules.specs.CoreValue.{number_at, int_eq}
-use Rattle.safety_rules.specs.declared.obligations.Fact.{Fact}
 use Rattle.safety_rules.specs.declared.obligations.Line.{Line}
 use Rattle.safety_rules.specs.LinearForms.{add_at, zeros, dot, line_value, sparse, sum_of, fact_value, fact_of, plus, line_plus}
 use Rattle.safety_rules.proofs.RingLaws.{add-times, times-add, times-times}

@@ -1,23 +1,23 @@
 -- The loads of terms and formulas bound what linearisation adds.
-use Rattle.std.proofs.Common.{le_refl, subst, ◌≡◌, ℕ, zero, suc, ◌+◌, ◌*◌, ◌<◌, ◌≤◌, ◌^◌, max, ℤ, pos, negsuc, neg_ℤ, ◌+ℤ◌, ◌-ℤ◌, ◌*ℤ◌, Bool, true, false, Option, Some, None, List, [], ◌∷◌, ◌++◌, map, length, arith, refl, sym, ap, ◌∙◌, mul-le-mul, nat_le}
+use Rattle.std.proofs.Common.{le_refl, subst, ◌≡◌, ℕ, zero, suc, ◌+◌, ◌*◌, ◌<◌, ◌≤◌, ◌^◌, max, ℤ, pos, negsuc, neg_ℤ, ◌+ℤ◌, ◌*ℤ◌, true, false, List, [], ◌∷◌, length, arith, refl, sym, ap, ◌∙◌, mul-le-mul}
 use Rattle.std.proofs.Common.{FitsSigned, to_z, of_z}
 use Rattle.std.proofs.lemmas.Int.{ints, unsigned_abs-mul, to_z-of_z}
 use mir.Syntax.{w128}
 use Rattle.std.proofs.Math.Nat.{mul-add}
 use Rattle.std.specs.Int.RustNames.{unsigned_abs}
-use lib.IntN.{*ℤ_comm, zero-*ℤ, *ℤ-zero, *ℤ-one}
-use Rattle.safety_rules.specs.declared.core_terms.CTerm.{CTerm, roll-CTerm, ind-CTerm, fold-CTerm}
+use lib.IntN.{*ℤ_comm, *ℤ-zero}
+use Rattle.safety_rules.specs.declared.core_terms.CTerm.{CTerm, roll-CTerm, ind-CTerm}
 use Rattle.safety_rules.specs.declared.core_terms.CTerm.TheVariants.{Const, Slot, Param, Add, Sub, Scale, Ite, rolls-Const, rolls-Slot, rolls-Param, rolls-Add, rolls-Sub, rolls-Scale, rolls-Ite}
-use Rattle.safety_rules.specs.declared.core_terms.CForm.{CForm, fold-CForm}
+use Rattle.safety_rules.specs.declared.core_terms.CForm.{CForm}
 use Rattle.safety_rules.specs.declared.core_terms.CForm.TheFolds.{map-CTerm}
-use Rattle.safety_rules.specs.declared.core_terms.CForm.TheOpen.{CTerm-F, CForm-F}
+use Rattle.safety_rules.specs.declared.core_terms.CForm.TheOpen.{CTerm-F}
 use Rattle.safety_rules.specs.declared.obligations.Variable.{Variable}
 use Rattle.safety_rules.specs.declared.obligations.Line.{Line}
 use Rattle.safety_rules.specs.LinearForms.{add_at, zeros, place_of, plus, line_plus, line_of_const, line_of_place, linear}
 use Rattle.safety_rules.specs.Load.{sizes, norm, Load, term_load_step, form_load_step, term_load, is_small}
-use Rattle.safety_rules.proofs.RingLaws.{add-times, times-add, times-times}
+use Rattle.safety_rules.proofs.RingLaws.{times-add, times-times}
 use Rattle.safety_rules.proofs.SettlingLaws.{term_fold, linear-long, linear-Const, linear-Slot, linear-Param, linear-Add, linear-Sub, linear-Scale, linear-Ite}
-use Rattle.safety_rules.proofs.LineLaws.{length-plus, length-zeros, length-add_at}
+use Rattle.safety_rules.proofs.LineLaws.{length-plus, length-zeros}
 
 ring : (k j x y z : ℤ) → x +ℤ k *ℤ (y +ℤ j *ℤ z) ≡ (x +ℤ k *ℤ y) +ℤ (k *ℤ j) *ℤ z
 ring k j x y z = let a = times-add k y (j *ℤ z) in let b = times-times k j z in omega (arith, ints, a, b)

@@ -1,19 +1,18 @@
 -- Settling meets no load past a formula's need, and raises none.
-use Rattle.std.proofs.Common.{◌≡◌, le_refl, mul-le-mul, ℕ, zero, suc, ◌+◌, ◌*◌, ◌≤◌, max, nat_le, ℤ, pos, negsuc, Bool, true, false, ◌&&◌, Option, Some, None, List, [], ◌∷◌, ◌++◌, arith, refl, sym, ap, ◌∙◌, subst}
+use Rattle.std.proofs.Common.{◌≡◌, le_refl, mul-le-mul, ℕ, ◌+◌, ◌*◌, ◌≤◌, max, ℤ, pos, negsuc, true, ◌&&◌, Option, Some, None, List, [], ◌∷◌, arith, refl, sym, ap, ◌∙◌, subst}
 use Rattle.std.specs.List.{list_all}
 use Rattle.std.proofs.lemmas.List.Folds.{list_all-append}
-use Rattle.std.proofs.lemmas.Int.{ints}
 use Rattle.std.specs.Int.RustNames.{unsigned_abs}
 use Rattle.safety_rules.specs.declared.core_terms.CTerm.{CTerm, ind-CTerm, roll-CTerm, fold-roll-CTerm}
 use Rattle.safety_rules.specs.declared.core_terms.CTerm.TheVariants.{Const, Slot, Param, Add, Sub, Scale, Ite, rolls-Const, rolls-Slot, rolls-Param, rolls-Add, rolls-Sub, rolls-Scale, rolls-Ite}
-use Rattle.safety_rules.specs.declared.core_terms.CForm.{CForm, roll-CForm, ind-CForm, out-CForm, fold-roll-CForm, fold_out-CForm}
+use Rattle.safety_rules.specs.declared.core_terms.CForm.{CForm, roll-CForm, ind-CForm, fold-roll-CForm}
 use Rattle.safety_rules.specs.declared.core_terms.CForm.TheVariants.{Top, Bottom, AtLeast, Zero, Not, And, Or, rolls-Top, rolls-Bottom, rolls-AtLeast, rolls-Zero, rolls-Not, rolls-And, rolls-Or}
 use Rattle.safety_rules.specs.declared.core_terms.CForm.TheOpen.{CTerm-F, CForm-F}
 use Rattle.safety_rules.specs.declared.core_terms.CForm.TheFolds.{map-CForm, map-CTerm}
 use Rattle.safety_rules.specs.declared.obligations.Branch.{Branch}
 use Rattle.safety_rules.specs.declared.obligations.Variable.{Variable}
 use Rattle.safety_rules.specs.declared.obligations.Choice.{Choice}
-use Rattle.safety_rules.specs.Settling.{joined, one_waiting, first_ite, first_choice, choice_form, least_adds, zero_adds, unequal_adds, below_zero, Outcome, outcome, settled, refused, nothing}
+use Rattle.safety_rules.specs.Settling.{joined, one_waiting, first_ite, first_choice, choice_form, least_adds, zero_adds, unequal_adds, below_zero, settled, refused}
 use Rattle.safety_rules.specs.Load.{Load, form_load_step, term_load_step, form_load, term_load, Need, form_need_step, term_need_step, need, term_need, is_light, is_light_branch}
 use Rattle.safety_rules.proofs.SettlingLaws.{term_fold, form_fold, ite-Const, ite-Slot, ite-Param, ite-Add, ite-Sub, ite-Scale, ite-Ite}
 use Rattle.safety_rules.proofs.TableLaws.{settled-Top, refused-Bottom, settled-Bottom, refused-Top, settled-AtLeast, refused-AtLeast, settled-Zero, refused-Zero, settled-Not, refused-Not, settled-And, refused-Or, settled-Or, refused-And}

@@ -2,7 +2,7 @@
 use Rattle.std.proofs.Common.{◌≡◌, ℕ, zero, suc, ◌+◌, ◌<◌, List, [], ◌∷◌, ◌++◌, append_assoc, drop, length, slice_index_or, arith, refl, sym, ap, ◌∙◌}
 use Rattle.safety_rules.specs.declared.obligations.Variable.{Variable}
 use Rattle.safety_rules.specs.declared.obligations.Fact.{Fact}
-use Rattle.safety_rules.specs.Opening.{low_fact, high_fact, range_facts}
+use Rattle.safety_rules.specs.Opening.{range_facts}
 
 pub two-more : (a b c : List Fact) (x y : Fact) → b ≡ a ++ x ∷ [] → c ≡ b ++ y ∷ [] → c ≡ a ++ (x ∷ y ∷ [])
 two-more a b c x y p q = q ∙ ap (λ z. z ++ y ∷ []) p ∙ append_assoc a (x ∷ []) (y ∷ [])

@@ -1,11 +1,11 @@
 -- `defined` and `wp` hold exactly where they should.
-use Rattle.std.proofs.Common.{◌≡◌, ℕ, ◌<◌, ◌≤◌, ◌+◌, ◌*◌, max, ℤ, pos, ◌-ℤ◌, List, [], ◌∷◌, length, Bool, true, false, cond, not, ◌&&◌, ◌||◌, Option, Some, None, slice_get, refl, sym, ap, ◌∙◌, arith}
+use Rattle.std.proofs.Common.{◌≡◌, ℕ, ◌<◌, ◌≤◌, ℤ, pos, ◌-ℤ◌, List, [], ◌∷◌, length, Bool, true, false, cond, not, ◌&&◌, ◌||◌, Option, Some, None, slice_get, refl, sym, ap, ◌∙◌, arith}
 use Rattle.std.specs.Int.RustNames.{int_le}
 use Rattle.std.specs.Option.{option_map}
-use Rattle.unity_parser.specs.declared.tree.Statement.{Statement}
-use Rattle.unity_parser.specs.Limits.{IsSmallExpression, IsSmallComparison}
-use Rattle.unity_parser.specs.Step.{State, Ranges, in_range, range_at, is_state, is_defined, written}
-use Rattle.unity_parser.specs.Meaning.{comparison_holds}
+use Rattle.small_documents.specs.declared.tree.Statement.{Statement}
+use Rattle.small_documents.specs.Limits.{IsSmallExpression, IsSmallComparison}
+use Rattle.small_documents.specs.Step.{State, Ranges, in_range, range_at, is_state, is_defined, written}
+use Rattle.small_documents.specs.Meaning.{comparison_holds}
 use Rattle.safety_rules.specs.declared.core_terms.Range.{Range}
 use Rattle.safety_rules.specs.declared.core_terms.CTerm.{CTerm}
 use Rattle.safety_rules.specs.declared.core_terms.CTerm.TheVariants.{Const}

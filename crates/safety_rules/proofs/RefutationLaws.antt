@@ -1,10 +1,10 @@
 -- A certificate that refutes a branch leaves it no values.
-use Rattle.std.proofs.Common.{◌≡◌, ℕ, zero, suc, ◌+◌, ◌*◌, ◌<◌, ℤ, pos, negsuc, neg_ℤ, ◌+ℤ◌, ◌-ℤ◌, ◌*ℤ◌, Bool, true, false, cond, not, ◌&&◌, ◌||◌, Option, Some, None, Result, Ok, Err, List, [], ◌∷◌, ◌++◌, map, length, slice_get, remove, nat_lt, nat_le, arith, append_assoc, length-append, refl, sym, ap, subst, ◌∙◌}
+use Rattle.std.proofs.Common.{◌≡◌, ℕ, zero, suc, ◌+◌, ℤ, pos, negsuc, neg_ℤ, ◌+ℤ◌, ◌*ℤ◌, Bool, true, false, cond, not, ◌&&◌, ◌||◌, Option, Some, None, Result, Ok, Err, List, [], ◌∷◌, ◌++◌, length, slice_get, remove, nat_le, arith, append_assoc, length-append, refl, sym, ap, subst, ◌∙◌}
 use Rattle.std.specs.List.{list_all}
-use Rattle.std.specs.Int.RustNames.{int_le, unsigned_abs}
+use Rattle.std.specs.Int.RustNames.{int_le}
 use Rattle.std.proofs.lemmas.Int.{ints}
-use Rattle.std.proofs.lemmas.Bool.{true≢false, false≢true, and_parts, false_from_ne_true, not-true}
-use lib.IntN.{*ℤ_comm, zero-*ℤ, *ℤ-zero}
+use Rattle.std.proofs.lemmas.Bool.{true≢false, and_parts, false_from_ne_true, not-true}
+use lib.IntN.{zero-*ℤ, *ℤ-zero}
 use Rattle.safety_rules.specs.declared.core_terms.CForm.{CForm, out-CForm, fold_out-CForm}
 use Rattle.safety_rules.specs.declared.core_terms.CForm.TheFolds.{map-CForm}
 use Rattle.safety_rules.specs.CoreValue.{form_step}
@@ -14,19 +14,17 @@ use Rattle.safety_rules.specs.CoreValue.{number_at, int_eq}
 use Rattle.safety_rules.specs.declared.obligations.Fact.{Fact}
 use Rattle.safety_rules.specs.declared.obligations.Branch.{Branch}
 use Rattle.safety_rules.specs.declared.obligations.Variable.{Variable}
-use Rattle.safety_rules.specs.declared.obligations.Obligation.{Obligation}
 use Rattle.safety_rules.specs.declared.certificate_check.Node.{Node}
 use Rattle.safety_rules.specs.declared.certificate_check.Pending.{Pending}
 use Rattle.safety_rules.specs.declared.certificate_check.Code.{Code}
 use Rattle.safety_rules.specs.declared.obligations.Line.{Line}
-use Rattle.safety_rules.specs.LinearForms.{add_at, zeros, dot, line_value, sum_of, fact_value, fact_holds, fact_of}
-use Rattle.safety_rules.specs.Settling.{term_at_step, term_at, joined, settled, refused, form_at, branch_holds}
-use Rattle.safety_rules.specs.Refutation.{add_factors, with_constant, add_times, numbered, or_too_big, add_pair, then_pair, sum_pairs, no_sum, all_pairs, is_false, sides_in, sides, added, without, Made, fails, opens, made_case, case_at, made_sum, made_by, made, pending, Verdict, refuted, failed, unfinished, after, walk, at_level, judged, Sound, Tree, case_node, sum_node, nodes_of, Refutes}
-use Rattle.safety_rules.specs.Load.{is_small}
-use Rattle.safety_rules.specs.Opening.{range_facts, ranges_only, first_branch, in_ranges, Valid, FirstHolds}
-use Rattle.safety_rules.proofs.RingLaws.{add-times, times-add, times-times}
-use Rattle.safety_rules.proofs.LineLaws.{int_eq-true, fact_of-value, dot-zeros, length-zeros, length-add_at, dot-add_at}
-use Rattle.safety_rules.proofs.SettlingLaws.{holds-joined, settled-holds, refused-holds}
+use Rattle.safety_rules.specs.LinearForms.{add_at, dot, line_value, sum_of, fact_value, fact_holds}
+use Rattle.safety_rules.specs.Settling.{term_at_step, term_at, settled, form_at, branch_holds}
+use Rattle.safety_rules.specs.Refutation.{add_factors, with_constant, add_times, numbered, or_too_big, add_pair, sum_pairs, no_sum, all_pairs, is_false, sides_in, sides, without, Made, fails, opens, made_case, made_sum, made_by, made, pending, refuted, after, walk, at_level, Sound, Tree, case_node, sum_node, nodes_of, Refutes}
+use Rattle.safety_rules.specs.Opening.{range_facts, ranges_only, first_branch, in_ranges, FirstHolds}
+use Rattle.safety_rules.proofs.RingLaws.{times-add, times-times}
+use Rattle.safety_rules.proofs.LineLaws.{int_eq-true, dot-zeros, length-zeros, length-add_at, dot-add_at}
+use Rattle.safety_rules.proofs.SettlingLaws.{settled-holds, refused-holds}
 
 abbrev is_at_least_0 : ℤ → Bool
 is_at_least_0 z = int_le (pos 0) z

@@ -1,9 +1,9 @@
 -- Valid obligations make the claims true, by induction on executions.
 use Rattle.std.proofs.Common.{◌≡◌, ◌≢◌, ℕ, zero, suc, ℤ, List, [], ◌∷◌, Bool, true, false, cond, not, ◌&&◌, ◌||◌, Option, Some, None, nat_eq, slice_get, refl, sym, ap, ◌∙◌, subst, lit<}
 use Rattle.std.proofs.lemmas.Bool.{and_parts}
-use Rattle.unity_parser.specs.declared.tree.SmallDocument.{SmallDocument}
-use Rattle.unity_parser.specs.Step.{State, Ranges, in_range, range_at, is_state, put, step}
-use Rattle.unity_parser.specs.Meaning.{comparison_holds, expression_value, ranges_of, statement_step, chosen_step, Steps, Everywhere}
+use Rattle.small_documents.specs.declared.tree.SmallDocument.{SmallDocument}
+use Rattle.small_documents.specs.Step.{State, Ranges, in_range, range_at, is_state, put, step}
+use Rattle.small_documents.specs.Meaning.{comparison_holds, expression_value, ranges_of, statement_step, chosen_step, Steps, Everywhere}
 use Rattle.safety_rules.specs.declared.core_terms.CForm.{CForm}
 use Rattle.safety_rules.specs.CoreValue.{form_value}
 use Rattle.safety_rules.specs.Folding.{not_form}

@@ -1,5 +1,5 @@
 -- What settling adds holds exactly where the formula does.
-use Rattle.std.proofs.Common.{◌≡◌, ℕ, zero, suc, ◌+◌, ℤ, pos, negsuc, ◌+ℤ◌, ◌-ℤ◌, ◌*ℤ◌, List, [], ◌∷◌, ◌++◌, Bool, true, false, cond, not, ◌&&◌, ◌||◌, Option, Some, None, refl, sym, ap, ◌∙◌, subst, length, append_assoc, arith}
+use Rattle.std.proofs.Common.{◌≡◌, ℕ, zero, suc, ℤ, pos, negsuc, ◌+ℤ◌, ◌-ℤ◌, ◌*ℤ◌, List, [], ◌++◌, Bool, true, false, cond, not, ◌&&◌, ◌||◌, Option, Some, None, refl, sym, ap, ◌∙◌, subst, length, arith}
 use Rattle.std.specs.List.{list_all}
 use Rattle.std.proofs.lemmas.List.Folds.{list_all-append}
 use Rattle.std.proofs.lemmas.Int.{ints}
@@ -12,14 +12,13 @@ use Rattle.safety_rules.specs.declared.core_terms.CForm.TheVariants.{Top, Bottom
 use Rattle.safety_rules.specs.declared.core_terms.CForm.TheOpen.{CTerm-F, CForm-F}
 use Rattle.safety_rules.specs.declared.core_terms.CForm.TheFolds.{map-CForm, map-CTerm}
 use Rattle.safety_rules.specs.CoreValue.{int_eq, number_at, form_step}
-use Rattle.safety_rules.specs.declared.obligations.Fact.{Fact}
 use Rattle.safety_rules.specs.declared.obligations.Branch.{Branch}
 use Rattle.safety_rules.specs.declared.obligations.Variable.{Variable}
 use Rattle.safety_rules.specs.declared.obligations.Line.{Line}
 use Rattle.safety_rules.specs.declared.obligations.Choice.{Choice}
-use Rattle.safety_rules.specs.LinearForms.{add_at, zeros, line_value, fact_of, fact_holds, place_of, sparse, line_of_const, line_of_place, line_plus, negated, no_line, linear_step, linear}
-use Rattle.safety_rules.specs.Settling.{term_at_step, term_at, form_at, branch_holds, joined, nothing, one_fact, two_facts, one_waiting, within, first_choice, Parted, form_tree_step, parted_step, parted, first_ite, choice_form, least_adds, zero_adds, unequal_adds, below_zero, Outcome, term_tree_step, outcome_step, outcome, settled, refused, SettledHolds, RefusedHolds}
-use Rattle.safety_rules.proofs.LineLaws.{int_eq-true, fact_of-value, dot-zeros, length-zeros, length-add_at, dot-add_at, length-plus, line_plus-value}
+use Rattle.safety_rules.specs.LinearForms.{zeros, line_value, fact_of, fact_holds, place_of, line_of_const, line_of_place, line_plus, negated, no_line, linear_step, linear}
+use Rattle.safety_rules.specs.Settling.{term_at_step, term_at, form_at, branch_holds, joined, one_fact, one_waiting, within, first_choice, Parted, form_tree_step, parted_step, parted, first_ite, choice_form, least_adds, zero_adds, unequal_adds, below_zero, Outcome, term_tree_step, outcome_step, outcome, SettledHolds, RefusedHolds}
+use Rattle.safety_rules.proofs.LineLaws.{fact_of-value, dot-zeros, length-zeros, length-add_at, dot-add_at, length-plus, line_plus-value}
 
 -- Laws of truth values, by cases.
 and_right : (a : Bool) → (a && true) ≡ a

@@ -1,11 +1,11 @@
 -- The start state lies in range.
-use Rattle.std.proofs.Common.{◌≡◌, ◌≤◌, ℤ, pos, ◌≤ℤ◌, Bool, true, false, cond, ◌&&◌, Option, Some, None, refl, sym, ap, ◌∙◌, arith}
+use Rattle.std.proofs.Common.{◌≡◌, ℤ, pos, ◌≤ℤ◌, true, false, cond, ◌&&◌, Option, Some, None, refl, ap, ◌∙◌, arith}
 use Rattle.std.proofs.lemmas.Int.{ints}
 use Rattle.std.specs.Int.RustNames.{int_le}
-use Rattle.unity_parser.specs.declared.tree.SmallDocument.{SmallDocument}
-use Rattle.unity_parser.specs.Limits.{IsSmall}
-use Rattle.unity_parser.specs.Step.{in_range}
-use Rattle.unity_parser.specs.Meaning.{comparison_holds}
+use Rattle.small_documents.specs.declared.tree.SmallDocument.{SmallDocument}
+use Rattle.small_documents.specs.Limits.{IsSmall}
+use Rattle.small_documents.specs.Step.{in_range}
+use Rattle.small_documents.specs.Meaning.{comparison_holds}
 use Rattle.safety_rules.specs.CoreOf.{form_of}
 use Rattle.safety_rules.specs.StartState.{fixed_number, number_or_low, start_state, StartRule}
 use Rattle.safety_rules.proofs.IntTests.{le_yes}

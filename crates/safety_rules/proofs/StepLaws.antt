@@ -3,7 +3,7 @@ use Rattle.std.proofs.Common.{◌≡◌, ◌≢◌, ℕ, zero, suc, ◌<◌, ℤ
 use Rattle.std.proofs.lemmas.Bool.{and_parts}
 use Rattle.std.proofs.lemmas.Bool.Decides.{eqb_tells}
 use Rattle.std.specs.Option.{option_map}
-use Rattle.unity_parser.specs.Step.{State, Ranges, in_range, range_at, is_state, put}
+use Rattle.small_documents.specs.Step.{State, Ranges, in_range, range_at, is_state, put}
 use Rattle.safety_rules.specs.declared.core_terms.Range.{Range}
 use Rattle.safety_rules.specs.CoreValue.{number_at}
 use Rattle.safety_rules.specs.Precondition.{ranges}

@@ -1,13 +1,10 @@
 -- Sums of factors, as the code makes them.
-use Rattle.std.proofs.Common.{◌≡◌, ℕ, zero, suc, ◌+◌, ◌<◌, ◌≤◌, ℤ, pos, ◌+ℤ◌, ◌*ℤ◌, Bool, true, false, cond, ◌&&◌, Option, Some, None, Result, Ok, Err, List, [], ◌∷◌, drop, length, slice_set, slice_index_or, arith, refl, sym, ap, ◌∙◌}
-use Rattle.safety_rules.specs.CoreValue.{number_at}
+use Rattle.std.proofs.Common.{◌≡◌, ℕ, zero, suc, ◌+◌, ◌<◌, ℤ, ◌*ℤ◌, Bool, true, false, cond, Some, None, Result, Ok, Err, List, [], ◌∷◌, drop, length, slice_index_or, arith, refl, sym, ap, ◌∙◌}
 use Rattle.safety_rules.specs.declared.obligations.Fact.{Fact}
 use Rattle.safety_rules.specs.declared.certificate_check.Code.{Code}
-use Rattle.std.proofs.Common.{map, ◌++◌, append_assoc, take}
-use Rattle.safety_rules.specs.CoreValue.{int_eq}
 use Rattle.safety_rules.specs.declared.obligations.Line.{Line}
-use Rattle.safety_rules.specs.LinearForms.{add_at, sparse, zeros}
-use Rattle.safety_rules.specs.Refutation.{add_factors, add_times, numbered, add_pair, then_pair, sum_pairs}
+use Rattle.safety_rules.specs.LinearForms.{add_at}
+use Rattle.safety_rules.specs.Refutation.{add_factors, numbered, add_pair, sum_pairs}
 
 -- the next factor of a list
 more-at : (m : ℤ) (f : ℕ × ℤ) (fs : List (ℕ × ℤ)) (sum next : List ℤ) (b : Bool) → cond b (Some (add_at sum f.0 (m *ℤ f.1))) None ≡ Some next →

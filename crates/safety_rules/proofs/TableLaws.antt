@@ -1,9 +1,9 @@
 -- What settling does, form by form.
-use Rattle.std.proofs.Common.{◌≡◌, ℕ, suc, ℤ, pos, negsuc, List, [], ◌∷◌, ◌++◌, Option, Some, None, refl, sym, ap, ◌∙◌, append_assoc}
+use Rattle.std.proofs.Common.{◌≡◌, ℕ, suc, negsuc, List, [], ◌∷◌, ◌++◌, refl, sym, ap, ◌∙◌, append_assoc}
 use Rattle.safety_rules.specs.declared.core_terms.CTerm.{CTerm}
 use Rattle.safety_rules.specs.declared.core_terms.CForm.{CForm, roll-CForm}
 use Rattle.safety_rules.specs.declared.core_terms.CForm.TheVariants.{Top, Bottom, AtLeast, Zero, Not, And, Or, rolls-Top, rolls-Bottom, rolls-AtLeast, rolls-Zero, rolls-Not, rolls-And, rolls-Or}
-use Rattle.safety_rules.specs.declared.core_terms.CForm.TheOpen.{CTerm-F, CForm-F}
+use Rattle.safety_rules.specs.declared.core_terms.CForm.TheOpen.{CForm-F}
 use Rattle.safety_rules.specs.declared.core_terms.CForm.TheFolds.{map-CForm}
 use Rattle.safety_rules.specs.declared.obligations.Branch.{Branch}
 use Rattle.safety_rules.specs.declared.obligations.Variable.{Variable}

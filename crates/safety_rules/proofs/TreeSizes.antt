@@ -1,5 +1,5 @@
 -- Numbers that fall from a term or a formula to its parts.
-use Rattle.std.proofs.Common.{◌≡◌, ℕ, suc, ◌+◌, ◌<◌, ℤ, arith, sym, ap, ◌∙◌, subst}
+use Rattle.std.proofs.Common.{◌≡◌, ℕ, ◌+◌, ◌<◌, ℤ, arith, ap, ◌∙◌}
 use Rattle.safety_rules.specs.declared.core_terms.CTerm.{CTerm, fold-CTerm}
 use Rattle.safety_rules.specs.declared.core_terms.CTerm.TheVariants.{Add, Sub, Scale, rolls-Add, rolls-Sub, rolls-Scale}
 use Rattle.safety_rules.specs.declared.core_terms.CForm.{CForm, fold-CForm}

@@ -1,5 +1,5 @@
 -- A walk along whole trees does not stop for want of a node or a branch.
-use Rattle.std.proofs.Common.{◌≡◌, ℕ, zero, suc, ◌+◌, ◌<◌, ◌≤◌, ℤ, Bool, true, false, cond, Option, Some, None, Result, Ok, Err, List, [], ◌∷◌, ◌++◌, map, length, slice_get, nat_lt, nat_le, length-append, append_assoc, arith, refl, sym, ap, ◌∙◌}
+use Rattle.std.proofs.Common.{◌≡◌, ℕ, zero, suc, ◌+◌, ◌≤◌, Bool, true, false, cond, Option, Some, None, Result, Ok, Err, List, [], ◌∷◌, ◌++◌, length, slice_get, nat_le, length-append, append_assoc, arith, refl, sym, ap, ◌∙◌}
 use Rattle.safety_rules.specs.declared.certificate_check.Node.{Node}
 use Rattle.safety_rules.specs.declared.certificate_check.Pending.{Pending}
 use Rattle.safety_rules.specs.declared.obligations.Branch.{Branch}
@@ -7,11 +7,9 @@ use Rattle.safety_rules.specs.declared.certificate_check.Code.{Code}
 use Rattle.safety_rules.specs.declared.obligations.Variable.{Variable}
 use Rattle.safety_rules.specs.declared.core_terms.CForm.{CForm}
 use Rattle.safety_rules.specs.declared.obligations.Line.{Line}
-use Rattle.safety_rules.specs.LinearForms.{fact_of}
-use Rattle.safety_rules.specs.Settling.{settled}
-use Rattle.safety_rules.specs.Refutation.{Made, fails, opens, made_case, case_at, made_sum, made_by, made, sides, without, is_false, all_pairs, pending, Verdict, refuted, failed, unfinished, after, walk, at_level, Tree, case_node, sum_node, nodes_of, Refutes, Refuted, Sound, judged}
+use Rattle.safety_rules.specs.Refutation.{Made, fails, opens, made_case, made_sum, made_by, made, is_false, all_pairs, pending, refuted, unfinished, after, walk, at_level, Tree, case_node, sum_node, nodes_of, Refutes, Refuted, judged}
 use Rattle.safety_rules.specs.declared.obligations.Obligation.{Obligation}
-use Rattle.safety_rules.specs.Opening.{Valid, first_branch}
+use Rattle.safety_rules.specs.Opening.{first_branch}
 use Rattle.safety_rules.proofs.RefutationLaws.{walk-tree, sound}
 use Rattle.safety_rules.specs.Refutation.{arity, is_whole}
 

@@ -1,11 +1,11 @@
 -- The core of expressions and comparisons; the one variable is slot 0.
 use Rattle.std.specs.Prelude.{◌≡◌, pos, [], Option, Some, None}
-use Rattle.unity_parser.specs.declared.tree.Operand.{Operand}
-use Rattle.unity_parser.specs.declared.tree.Expression.{Expression}
-use Rattle.unity_parser.specs.declared.tree.Relation.{Relation}
-use Rattle.unity_parser.specs.declared.tree.Comparison.{Comparison}
-use Rattle.unity_parser.specs.Step.{State}
-use Rattle.unity_parser.specs.Meaning.{expression_value, comparison_holds}
+use Rattle.small_documents.specs.declared.tree.Operand.{Operand}
+use Rattle.small_documents.specs.declared.tree.Expression.{Expression}
+use Rattle.small_documents.specs.declared.tree.Relation.{Relation}
+use Rattle.small_documents.specs.declared.tree.Comparison.{Comparison}
+use Rattle.small_documents.specs.Step.{State}
+use Rattle.small_documents.specs.Meaning.{expression_value, comparison_holds}
 use Rattle.safety_rules.specs.declared.core_terms.CTerm.{CTerm}
 use Rattle.safety_rules.specs.declared.core_terms.CTerm.TheVariants.{Const, Slot}
 use Rattle.safety_rules.specs.declared.core_terms.CForm.{CForm}

@@ -1,11 +1,11 @@
 -- When a small document's proof is accepted.
 use Rattle.std.specs.Prelude.{◌≡◌, ◌≤◌, ◌^◌, ℕ, min, ℤ, pos, neg_ℤ, Bool, true, false, List, [], ◌∷◌, map, IsTrue}
-use Rattle.unity_parser.specs.declared.tree.Pair.{Pair}
-use Rattle.unity_parser.specs.declared.tree.Node.{Node as WrittenNode}
-use Rattle.unity_parser.specs.declared.tree.Certificate.{Certificate}
-use Rattle.unity_parser.specs.declared.tree.SmallDocument.{SmallDocument}
-use Rattle.unity_parser.specs.Meaning.{is_initial, IsSafe, EveryChoiceRuns}
-use Rattle.unity_parser.specs.Conditions.{are_trees, IsWellFormed}
+use Rattle.small_documents.specs.declared.tree.Pair.{Pair}
+use Rattle.small_documents.specs.declared.tree.Node.{Node as WrittenNode}
+use Rattle.small_documents.specs.declared.tree.Certificate.{Certificate}
+use Rattle.small_documents.specs.declared.tree.SmallDocument.{SmallDocument}
+use Rattle.small_documents.specs.Meaning.{is_initial, IsSafe, EveryChoiceRuns}
+use Rattle.small_documents.specs.Conditions.{are_trees, IsWellFormed}
 use Rattle.safety_rules.specs.declared.core_terms.CForm.{CForm}
 use Rattle.safety_rules.specs.declared.obligations.Obligation.{Obligation}
 use Rattle.safety_rules.specs.declared.certificate_check.Node.{Node}
@@ -21,11 +21,11 @@ signed true n = neg_ℤ (pos n)
 
 -- a multiplier and a fact's number; no number of a text is past 2^62
 abbrev pub pair_of : Pair → ℤ × ℕ
-pair_of p = (signed p.negative (min p.multiplier.value (2 ^ 62)), p.fact.value)
+pair_of p = (signed p.negative (min p.multiplier (2 ^ 62)), p.fact)
 
 -- a node, as it is written
 abbrev pub node_of : WrittenNode → Node
-node_of (WrittenNode.Case place) = Node.Case place.value
+node_of (WrittenNode.Case place) = Node.Case place
 node_of (WrittenNode.Sum pairs) = Node.Sum (map pair_of pairs)
 
 -- the obligation that one of the document's formulas is

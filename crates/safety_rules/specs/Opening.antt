@@ -1,5 +1,5 @@
 -- An obligation's validity, and its first branch.
-use Rattle.std.specs.Prelude.{◌≡◌, ℕ, zero, suc, ℤ, pos, negsuc, neg_ℤ, Bool, true, false, not, ◌&&◌, List, [], ◌∷◌, length}
+use Rattle.std.specs.Prelude.{◌≡◌, ℕ, suc, ℤ, pos, negsuc, neg_ℤ, Bool, true, false, not, ◌&&◌, List, [], ◌∷◌, length}
 use Rattle.std.specs.Int.RustNames.{int_le}
 use Rattle.safety_rules.specs.declared.obligations.Fact.{Fact}
 use Rattle.safety_rules.specs.declared.obligations.Branch.{Branch}

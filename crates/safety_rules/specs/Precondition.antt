@@ -1,9 +1,9 @@
 -- The write of a statement, where it is defined, and its weakest precondition.
 use Rattle.std.specs.Prelude.{◌≡◌, ℕ, List, [], ◌∷◌, map, max, Bool, true, false, cond, Option, Some, None, nat_eq, IsTrue, slice_get}
 use Rattle.std.specs.Int.RustNames.{unsigned_abs}
-use Rattle.unity_parser.specs.declared.tree.Statement.{Statement}
-use Rattle.unity_parser.specs.Step.{State, Ranges, Write, is_state, step}
-use Rattle.unity_parser.specs.Meaning.{writes}
+use Rattle.small_documents.specs.declared.tree.Statement.{Statement}
+use Rattle.small_documents.specs.Step.{State, Ranges, Write, is_state, step}
+use Rattle.small_documents.specs.Meaning.{writes}
 use Rattle.safety_rules.specs.declared.core_terms.Range.{Range}
 use Rattle.safety_rules.specs.declared.core_terms.CTerm.{CTerm, fold-CTerm}
 use Rattle.safety_rules.specs.declared.core_terms.CTerm.TheVariants.{Const, Slot, Param}

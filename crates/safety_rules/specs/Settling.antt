@@ -1,5 +1,5 @@
 -- Settling: what a formula, taken to hold, adds to a branch.
-use Rattle.std.specs.Prelude.{◌≡◌, ℕ, ℤ, pos, negsuc, ◌+ℤ◌, ◌-ℤ◌, ◌*ℤ◌, Bool, false, true, cond, not, ◌&&◌, Option, Some, None, List, [], ◌∷◌, ◌++◌, length}
+use Rattle.std.specs.Prelude.{◌≡◌, ℤ, pos, negsuc, ◌+ℤ◌, ◌-ℤ◌, ◌*ℤ◌, Bool, false, true, cond, not, ◌&&◌, Option, Some, None, List, [], ◌∷◌, ◌++◌, length}
 use Rattle.std.specs.List.{list_all}
 use Rattle.safety_rules.specs.declared.core_terms.CTerm.{CTerm, fold-CTerm}
 use Rattle.safety_rules.specs.declared.core_terms.CTerm.TheVariants.{Const, Slot, Param, Add, Sub, Scale, Ite}

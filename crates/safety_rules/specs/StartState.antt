@@ -1,8 +1,8 @@
 -- The start state of a small document.
-use Rattle.std.specs.Prelude.{◌≡◌, ℕ, ℤ, pos, List, [], ◌∷◌, Bool, true, false, cond, ◌&&◌, Option, Some, None, IsTrue, nat_eq}
-use Rattle.unity_parser.specs.declared.tree.SmallDocument.{SmallDocument}
-use Rattle.unity_parser.specs.Step.{State, in_range}
-use Rattle.unity_parser.specs.Meaning.{comparison_holds, is_initial}
+use Rattle.std.specs.Prelude.{ℤ, pos, [], ◌∷◌, Bool, false, cond, Option, Some, None, IsTrue, nat_eq}
+use Rattle.small_documents.specs.declared.tree.SmallDocument.{SmallDocument}
+use Rattle.small_documents.specs.Step.{State, in_range}
+use Rattle.small_documents.specs.Meaning.{comparison_holds, is_initial}
 use Rattle.safety_rules.specs.declared.core_terms.CTerm.{CTerm, out-CTerm}
 use Rattle.safety_rules.specs.declared.core_terms.CForm.{CForm, out-CForm}
 use Rattle.safety_rules.specs.declared.core_terms.CForm.TheOpen.{CTerm-F, CForm-F}

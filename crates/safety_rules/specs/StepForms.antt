@@ -1,8 +1,8 @@
 -- The obligations of a small document's two steps, and what they are good for.
 use Rattle.std.specs.Prelude.{pos, List, [], ◌∷◌, IsTrue, All}
-use Rattle.unity_parser.specs.declared.tree.SmallDocument.{SmallDocument}
-use Rattle.unity_parser.specs.Step.{State, is_state}
-use Rattle.unity_parser.specs.Meaning.{ranges_of, IsAlwaysDefined, IsInvariant, IsSafe, EveryChoiceRuns}
+use Rattle.small_documents.specs.declared.tree.SmallDocument.{SmallDocument}
+use Rattle.small_documents.specs.Step.{State, is_state}
+use Rattle.small_documents.specs.Meaning.{ranges_of, IsAlwaysDefined, IsInvariant, IsSafe, EveryChoiceRuns}
 use Rattle.safety_rules.specs.declared.core_terms.Range.{Range}
 use Rattle.safety_rules.specs.declared.core_terms.CForm.{CForm}
 use Rattle.safety_rules.specs.declared.wp_substitution.CWrite.{CWrite}

@@ -1,13 +1,13 @@
 // The core of a small document's expressions and comparisons. The one variable is slot 0.
 ghost use Rattle.std.specs.Prelude.{◌≡◌, ℕ, ◌+◌, ◌*◌, ◌≤◌, IfOk};
-ghost use Rattle.unity_parser.specs.Limits.{IsSmallOperand, IsSmallExpression, IsSmallComparison};
+ghost use Rattle.small_documents.specs.Limits.{IsSmallOperand, IsSmallExpression, IsSmallComparison};
 ghost use Rattle.safety_rules.specs.Bound.{term_bound, form_bound};
 ghost use Rattle.safety_rules.specs.CoreOf.{operand_term, term_of, related_form, form_of, TermMeans, FormMeans};
 
 use crate::core_terms::{CForm, CTerm};
 use crate::folding::{difference_term, least_form, sum_term, zero_form};
+use small_documents::{Comparison, Expression, Operand, Relation};
 use std::alloc::{AllocError, Global};
-use unity_parser::{Comparison, Expression, Operand, Relation};
 
 fn term_of_operand(operand: &Operand) -> CTerm
     requires { IsSmallOperand operand.now }

@@ -1,7 +1,7 @@
 // Whether a small document's proof is accepted.
 ghost use Rattle.std.specs.Prelude.{◌≡◌, ◌↔◌, ◌≤◌, ◌^◌, map, true, IfOk, IsTrue};
-ghost use Rattle.unity_parser.specs.Limits.{IsSmall};
-ghost use Rattle.unity_parser.specs.Conditions.{are_trees, IsWellFormed};
+ghost use Rattle.small_documents.specs.Limits.{IsSmall};
+ghost use Rattle.small_documents.specs.Conditions.{are_trees, IsWellFormed};
 ghost use Rattle.safety_rules.specs.Load.{form_load};
 ghost use Rattle.safety_rules.specs.Refutation.{Refuted};
 ghost use Rattle.safety_rules.specs.StepForms as forms;
@@ -14,9 +14,9 @@ use crate::obligations::Obligation;
 use crate::obligations::make::make;
 use crate::start_state::starts;
 use crate::step_rules::{obligation_forms, slot_range};
+use small_documents::{self as written, Certificate, Pair, SmallDocument};
 use std::alloc::{AllocError, Global};
 use unity_base::Seq;
-use unity_parser::{self as parser, Certificate, Pair, SmallDocument};
 
 /// The greatest number of a text.
 const GREATEST_LITERAL: u64 = 4_611_686_018_427_387_904;
@@ -24,11 +24,11 @@ const GREATEST_LITERAL: u64 = 4_611_686_018_427_387_904;
 fn pair_of(pair: &Pair) -> (i64, u64)
     ensures { result ≡ pair_of pair.now }
 {
-    let multiplier = pair.multiplier.value.min(GREATEST_LITERAL) as i64;
+    let multiplier = pair.multiplier.min(GREATEST_LITERAL) as i64;
     if pair.negative {
-        (-multiplier, pair.fact.value)
+        (-multiplier, pair.fact)
     } else {
-        (multiplier, pair.fact.value)
+        (multiplier, pair.fact)
     }
 }
 
@@ -42,19 +42,19 @@ fn pairs_of(alloc: Global, pairs: &[Pair]) -> Result<Seq<(i64, u64)>, AllocError
     Ok(found)
 }
 
-fn node_of(alloc: Global, node: &parser::Node) -> Result<Node, AllocError>
+fn node_of(alloc: Global, node: &written::Node) -> Result<Node, AllocError>
     ensures { IfOk result (λ found. found ≡ node_of node.now) }
 {
     match node {
-        parser::Node::Case(place) => Ok(Node::Case(place.value)),
-        parser::Node::Sum(pairs) => {
+        written::Node::Case(place) => Ok(Node::Case(*place)),
+        written::Node::Sum(pairs) => {
             let pairs = pairs_of(alloc, pairs.as_slice())?;
             Ok(Node::Sum(pairs))
         }
     }
 }
 
-fn nodes_of(alloc: Global, nodes: &[parser::Node]) -> Result<Seq<Node>, AllocError>
+fn nodes_of(alloc: Global, nodes: &[written::Node]) -> Result<Seq<Node>, AllocError>
     ensures { IfOk result (λ found. found ≡ map node_of nodes.now) }
 {
     let mut found = Seq::new(alloc);

@@ -1,15 +1,15 @@
 // The start state of a small document.
 ghost use Rattle.std.specs.Prelude.{◌≡◌, ◌+ℤ◌, ◌≤◌, ◌∷◌, [], IfOk, pos};
 ghost use Rattle.std.specs.Int.RustNames.{unsigned_abs};
-ghost use Rattle.unity_parser.specs.Limits.{IsSmall, IsSmallOperand, IsSmallExpression, IsSmallComparison};
-ghost use Rattle.unity_parser.specs.Meaning.{operand_value, expression_value, related, comparison_holds};
+ghost use Rattle.small_documents.specs.Limits.{IsSmall, IsSmallOperand, IsSmallExpression, IsSmallComparison};
+ghost use Rattle.small_documents.specs.Meaning.{operand_value, expression_value, related, comparison_holds};
 ghost use Rattle.safety_rules.specs.StartState as start;
 ghost use Rattle.safety_rules.specs.StartState.{StartRule};
 
 use crate::core_of::comparison_form;
 use crate::core_terms::{CForm, CTerm};
+use small_documents::{Comparison, Expression, Operand, Range, Relation, SmallDocument};
 use std::alloc::{AllocError, Global};
-use unity_parser::{Comparison, Expression, Operand, Range, Relation, SmallDocument};
 
 fn constant(t: &CTerm) -> Option<i64>
     ensures { result ≡ start.constant t.now }

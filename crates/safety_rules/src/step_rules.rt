@@ -1,6 +1,6 @@
 // The obligations of a small document's two steps.
 ghost use Rattle.std.specs.Prelude.{◌≡◌, ◌^◌, ◌≤◌, ◌∷◌, [], IfOk, All, max, pos};
-ghost use Rattle.unity_parser.specs.Limits.{IsSmall};
+ghost use Rattle.small_documents.specs.Limits.{IsSmall};
 ghost use Rattle.safety_rules.specs.Bound.{form_bound};
 ghost use Rattle.safety_rules.specs.CoreOf.{form_of};
 ghost use Rattle.safety_rules.specs.Load.{form_load};
@@ -12,9 +12,9 @@ use crate::core_of::comparison_form;
 use crate::core_terms::{CForm, Range};
 use crate::folding::{not_form, or_form};
 use crate::wp_substitution::{defined, statement_write, wp};
+use small_documents::SmallDocument;
 use std::alloc::{AllocError, Global};
 use unity_base::Seq;
-use unity_parser::SmallDocument;
 
 pub fn slot_range(d: &SmallDocument) -> Range
     requires { IsSmall d.now }

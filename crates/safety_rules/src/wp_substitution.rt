@@ -1,6 +1,6 @@
 // The weakest precondition of a statement of one write: substitution, and where it is defined.
 ghost use Rattle.std.specs.Prelude.{◌≡◌, ◌+◌, ◌^◌, ◌≤◌, IfOk, max, slice_get};
-ghost use Rattle.unity_parser.specs.Limits.{IsSmallExpression, IsSmallComparison};
+ghost use Rattle.small_documents.specs.Limits.{IsSmallExpression, IsSmallComparison};
 ghost use Rattle.safety_rules.specs.Bound.{term_bound, form_bound};
 ghost use Rattle.safety_rules.specs.Precondition as core;
 ghost use Rattle.safety_rules.specs.Precondition.{write_bound, range_bound, WriteMeans, IsDefinedness, IsPrecondition};
@@ -12,8 +12,8 @@ use crate::folding::{
     and_form, choice_term, difference_term, least_form, not_form, or_form, scaled_term, sum_term,
     zero_form,
 };
+use small_documents::Statement;
 use std::alloc::{AllocError, Global};
-use unity_parser::Statement;
 
 /// A write: the slot gets the value where the condition holds.
 #[derive(Drop)]

@@ -1,4 +1,5 @@
 pub mod Words
+pub mod SmallText
 pub mod Status
 pub mod Stop
 pub mod Answer

@@ -2,14 +2,23 @@
 ghost use Rattle.std.specs.Prelude.{◌≡◌, ◌≤◌, ◌<◌, ◌⊎◌, IfOk, OnOk, IsErrOf, length};
 ghost use Rattle.std.specs.Io.KnownBytes.{IsAtEnd};
 ghost use Rattle.unity_base.specs.Streams.{Rose, IsLongerThan, LeavesRest};
-ghost use Rattle.unity_parser.specs.Conditions.{IsWellFormed};
+ghost use Rattle.small_documents.specs.Conditions.{IsWellFormed};
+ghost use Rattle.unity_parser.specs.Document.{IsDocument};
+ghost use Rattle.unity_cli.specs.Answer.{greatest_size};
 ghost use Rattle.unity_cli.specs.Verdict.{Decides, IsVerdict, Judges};
 
+use crate::small::small_document;
 use crate::stop::Stop;
+use case_tables::Code;
 use safety_rules::follows;
+use small_documents::SmallDocument;
 use std::alloc::{AllocError, Global};
 use unity_base::{Held, ReadError, Source, read_all};
-use unity_parser::{LIMIT, SmallDocument, read_small_document};
+use unity_parser::read_document;
+use unity_syntax::{Document, SyntaxFault};
+
+/// The greatest number of bytes of a text.
+pub const GREATEST_SIZE: usize = 67_108_864;
 
 /// What is found of some bytes.
 #[derive(Debug, Drop)]
@@ -18,17 +27,35 @@ pub enum Verdict {
     Accepted(Held<SmallDocument>),
     /// They are a small document, whose proof does not follow.
     Rejected,
-    /// They are no small document.
+    /// They are more than `GREATEST_SIZE`.
+    TooLong,
+    /// They are no document, with the code and the place of their first fault.
+    NoDocument { code: Code, at: u64 },
+    /// They are a document that is not small.
     NotBuilt,
 }
 
 /// What is found of the bytes.
 fn judge(alloc: Global, bytes: &[u8]) -> Result<Verdict, AllocError>
+    requires { length bytes.now ≤ greatest_size }
     ensures { IfOk result (IsVerdict bytes.now) }
 {
-    match read_small_document(alloc, bytes)? {
+    match read_document(alloc, bytes) {
+        Ok(document) => judge_text(alloc, bytes, &document),
+        Err(SyntaxFault::Fault { code, at }) => Ok(Verdict::NoDocument { code, at }),
+        Err(SyntaxFault::Memory) => Err(AllocError),
+    }
+}
+
+/// What is found of the bytes of a document.
+fn judge_text(alloc: Global, bytes: &[u8], document: &Document) -> Result<Verdict, AllocError>
+    requires size { length bytes.now ≤ greatest_size }
+    requires document { IsDocument bytes.now document.now }
+    ensures { IfOk result (IsVerdict bytes.now) }
+{
+    match small_document(alloc, bytes, document)? {
         None => Ok(Verdict::NotBuilt),
-        Some(document) => judge_document(alloc, Held::new(alloc, document)?),
+        Some(small) => judge_document(alloc, Held::new(alloc, small)?),
     }
 }
 
@@ -47,16 +74,16 @@ fn judge_document(alloc: Global, document: Held<SmallDocument>) -> Result<Verdic
 /// Reads the source to its end, and judges what it gave.
 pub fn check<S: Source>(alloc: Global, src: &mut S) -> Result<Verdict, Stop>
     ensures verdict { IfOk result (Judges (S.left src.old)) }
-    ensures end { OnOk result (IsAtEnd (S.left src.new) ⊎ IsLongerThan 65536 (S.left src.old)) }
+    ensures end { OnOk result (IsAtEnd (S.left src.new) ⊎ IsLongerThan greatest_size (S.left src.old)) }
     ensures rest { LeavesRest (S.left src.old) (S.left src.new) }
     ensures never { IsErrOf result Stop.WriteFault → ⊥ }
     ensures fault { IsErrOf result Stop.ReadFault → Rose (S.faults src.old) (S.faults src.new) }
     ensures later { S.faults src.old ≤ S.faults src.new }
     ensures count { S.faults src.old < S.faults src.new → IsErrOf result Stop.ReadFault }
 {
-    match read_all(alloc, src, LIMIT) {
+    match read_all(alloc, src, GREATEST_SIZE) {
         Ok(bytes) => Ok(judge(alloc, &bytes)?),
-        Err(ReadError::TooLong) => Ok(Verdict::NotBuilt),
+        Err(ReadError::TooLong) => Ok(Verdict::TooLong),
         Err(ReadError::Failed) => Err(Stop::ReadFault),
         Err(ReadError::Memory) => Err(Stop::Memory),
     }

@@ -4,6 +4,7 @@
 mod judge;
 mod laws;
 mod report;
+mod small;
 mod status;
 mod stop;
 #[cfg(test)]

@@ -2,16 +2,17 @@
 ghost use Rattle.std.specs.Prelude.{◌≡◌, ◌≤◌, ◌<◌, ◌++◌, IfOk, OnOk, OnErr, IsErrOf};
 ghost use Rattle.std.specs.Io.KnownBytes.{Appends};
 ghost use Rattle.unity_base.specs.Streams.{Rose, AppendsPart};
-ghost use Rattle.unity_cli.specs.Answer.{step_line, accepted_text};
+ghost use Rattle.unity_cli.specs.Answer.{step_line, accepted_text, fault_text, too_long_text};
 ghost use Rattle.unity_cli.specs.Verdict.{status_of, text_of};
 
 use crate::judge::Verdict;
 use crate::status::Status;
 use crate::stop::Stop;
-use case_tables::Kind;
+use case_tables::{Code, Kind, number};
+use small_documents::SmallDocument;
 use std::alloc::{AllocError, Global};
 use unity_base::{Sink, write_all};
-use unity_parser::{Name, SmallDocument};
+use unity_syntax::Name;
 
 /// Appends `PROGRAM.STEP KIND`, on a line.
 fn push_step(text: &mut Vec<u8>, program: &Name, step: &Name, kind: Kind) -> Result<(), AllocError>
@@ -36,6 +37,23 @@ fn accepted(alloc: Global, document: &SmallDocument) -> Result<Vec<u8>, AllocErr
     Ok(text)
 }
 
+/// The text for bytes that are no document.
+fn faulty(alloc: Global, code: Code, at: u64) -> Result<Vec<u8>, AllocError>
+    ensures { IfOk result (λ text. text.items ≡ fault_text code at) }
+{
+    let text = format!(in alloc; "bad {} {} byte {at}\n", number(code), code.name())?;
+    Ok(text.into_bytes())
+}
+
+/// The text for too many bytes.
+fn too_long(alloc: Global) -> Result<Vec<u8>, AllocError>
+    ensures { IfOk result (λ text. text.items ≡ too_long_text) }
+{
+    let code = Code::TooLong;
+    let text = format!(in alloc; "bad {} {}\n", number(code), code.name())?;
+    Ok(text.into_bytes())
+}
+
 impl Verdict {
     pub fn status(&self) -> Status
         ensures { result ≡ status_of self.now }
@@ -43,6 +61,8 @@ impl Verdict {
         match self {
             Verdict::Accepted(_) => Status::Done,
             Verdict::Rejected => Status::Rejected,
+            Verdict::TooLong => Status::BadDocument,
+            Verdict::NoDocument { .. } => Status::BadDocument,
             Verdict::NotBuilt => Status::BadDocument,
         }
     }
@@ -53,6 +73,8 @@ impl Verdict {
         match self {
             Verdict::Accepted(document) => accepted(alloc, document.get()),
             Verdict::Rejected => Vec::from_slice(alloc, b"rejected\n"),
+            Verdict::TooLong => too_long(alloc),
+            Verdict::NoDocument { code, at } => faulty(alloc, *code, *at),
             Verdict::NotBuilt => Vec::from_slice(alloc, b"bad 9 NotBuilt\n"),
         }
     }

@@ -1,4 +1,6 @@
 // Answers over sources and sinks in memory, whose calls fail where they are told to.
+mod texts;
+
 use super::*;
 use std::alloc::{AllocError, Global};
 use std::test::Fail;
@@ -126,6 +128,30 @@ fn edited_documents(rt: HostRuntime) -> Result<(), Fail> {
         ("certificates", "certificates $", Status::BadDocument),
     ] {
         assert_eq!(rt; status_of_edited(rt.alloc(), from, to)?, status, "at {to}");
+    }
+    Ok(())
+}
+
+#[test]
+fn texts_of_refusals(rt: HostRuntime) -> Result<(), Fail> {
+    for (document, text) in [
+        ("", "bad 3 Unexpected byte 0\n"),
+        ("unity 1 # and no more", "bad 9 NotBuilt\n"),
+        ("unity 1\n$", "bad 1 BadByte byte 8\n"),
+        ("unity 01", "bad 2 BadNumber byte 6\n"),
+        ("unity 3 program", "bad 19 Version byte 6\n"),
+        (
+            "unity 1\nprogram P assign s: x := 1 and",
+            "bad 3 Unexpected byte 38\n",
+        ),
+        (
+            "unity 1\nprogram P assign s: x := 1 and y or z end",
+            "bad 3 Unexpected byte 41\n",
+        ),
+    ] {
+        let (status, written) = answer(rt.alloc(), "check", document.as_bytes(), 0, 0)?;
+        assert_eq!(rt; status, Status::BadDocument, "at {document}");
+        assert_eq!(rt; written.as_str(), text, "at {document}");
     }
     Ok(())
 }

@@ -2,13 +2,13 @@
 ghost use Rattle.std.specs.Prelude.{◌≡◌, ◌≢◌, ◌≤◌, ◌<◌, ◌⊎◌, ℕ, List, Some, map, string_bytes, IsNone, IsSome};
 ghost use Rattle.std.specs.Io.KnownBytes.{IsAtEnd};
 ghost use Rattle.unity_base.specs.Streams.{Rose, IsLongerThan, LeavesRest};
-ghost use Rattle.unity_parser.specs.declared.tree.SmallDocument.{SmallDocument};
-ghost use Rattle.unity_parser.specs.Document.{IsSmallDocument};
-ghost use Rattle.unity_parser.specs.Meaning.{IsSafe};
+ghost use Rattle.small_documents.specs.declared.tree.SmallDocument.{SmallDocument};
+ghost use Rattle.unity_cli.specs.SmallText.{IsSmallDocument};
+ghost use Rattle.small_documents.specs.Meaning.{IsSafe};
 ghost use Rattle.safety_rules.specs.Follows.{HasExecutions};
 ghost use Rattle.unity_cli.specs.Words.{command_of};
 ghost use Rattle.unity_cli.specs.Status.{HasText};
-ghost use Rattle.unity_cli.specs.Answer.{Tells, TellsPart};
+ghost use Rattle.unity_cli.specs.Answer.{greatest_size, Tells, TellsPart};
 
 use crate::judge::check;
 use crate::report::tell;
@@ -43,7 +43,7 @@ pub fn unity<S: Source, K: Sink>(
 
     // A source that was read was read to its end, or past the greatest number of bytes.
     ensures end { IsSome (command_of (map string_bytes words.now)) → result ≢ Status.ReadFault → result ≢ Status.WantOfMemory →
-        IsAtEnd (S.left src.new) ⊎ IsLongerThan 65536 (S.left src.old) }
+        IsAtEnd (S.left src.new) ⊎ IsLongerThan greatest_size (S.left src.old) }
     ensures rest { LeavesRest (S.left src.old) (S.left src.new) }
 
     // A fault has its cause, and none is taken for something else.

@@ -1,24 +1,31 @@
--- What is left unread makes the whole unread.
-use Rattle.std.proofs.Common.{◌≡◌, List, Option, Some, None, refl, sym, ap, ◌∙◌, subst}
-use Rattle.unity_parser.specs.declared.cursor.Stop.{Stop}
-use Rattle.unity_parser.specs.declared.tree.Number.{Number}
-use Rattle.unity_parser.specs.declared.tree.Program.{Program}
-use Rattle.unity_parser.specs.declared.tree.Proof.{Proof}
-use Rattle.unity_parser.specs.Pieces.{Pieces}
-use Rattle.unity_parser.specs.Reader.{Reading, Fails, then, with_certificates, read_version, read_program, read_proof, read_parts, read_section, read_document}
+-- A fault in a part is a fault of the whole.
+use Rattle.std.proofs.Common.{◌≡◌, ◌<◌, ◌-◌, ℕ, List, Ok, Err, refl, sym, ap, ◌∙◌, subst}
+use Rattle.ebnf.specs.Ebnf.{Terminal, Tree, Ebnf, unit, pair, both, inside}
+use Rattle.ebnf.specs.Reader.{Read, Fault, Unexpected, OtherVersion, TooDeep, ◌>>=◌, skip, after, and_then, closed, read}
+use Rattle.ebnf.proofs.Steps.{inside_some}
+use Rattle.unity_syntax.specs.Grammar.{grammar}
+use Rattle.unity_parser.specs.declared.grammar.stop.Stop.{Stop}
+use Rattle.unity_parser.specs.Gives.{left, Fails}
 
--- a step that makes nothing of nothing
-through : {S T : Type 0} (f : Option S → Option T) → f None ≡ None → (stop : Stop) (r : Option S) → Fails stop r → Fails stop (f r)
-through f nothing Stop.Memory r h = tt
-through f nothing Stop.Unexpected r h = ap f h ∙ nothing
+-- through a step that makes a fault of a fault
+pub through : (f : Read Tree → Read Tree) → ((d : Fault) → f (Err d) ≡ Err d) → (stop : Stop) (r : Read Tree) → Fails stop r → Fails stop (f r)
+through f same Stop.Memory r h = tt
+through f same (Stop.Unexpected at) r h = ap f h ∙ same (Unexpected (left at))
+through f same (Stop.OtherVersion at) r h = ap f h ∙ same (OtherVersion (left at))
+through f same (Stop.TooDeep at) r h = ap f h ∙ same (TooDeep (left at))
 
-pub parts_fail : (ps rest : Pieces) (program : Program) → read_program ps ≡ Some (program, rest) → (stop : Stop) → Fails stop (read_proof rest) → Fails stop (read_parts ps)
-unfolding read_parts
-parts_fail ps rest program e stop h =
-    rw e (through (λ r. then r (λ proof rest. Some ((program, proof), rest))) refl stop (read_proof rest) h)
+same_fails : (stop : Stop) {r s : Read Tree} → s ≡ r → Fails stop r → Fails stop s
+same_fails stop e h = let P : Read Tree → Type 0 = λ w. Fails stop w in subst P (sym e) h
 
-pub document_fail : (ps more rest : Pieces) (version : Number) (parts : Program × Proof) → read_version ps ≡ Some (version, more) → read_parts more ≡ Some (parts, rest) →
-    (stop : Stop) → Fails stop (read_section rest) → Fails stop (read_document ps)
-unfolding read_document
-document_fail ps more rest version parts e f stop h =
-    rw e (rw f (through (with_certificates version parts.0 parts.1) refl stop (read_section rest) h))
+-- in the second of two parts
+pub second_fails : (n : ℕ) (a b : Ebnf) (ts mid : List Terminal) (x : Tree) → read grammar n a ts ≡ Ok (x, mid) → (stop : Stop) → Fails stop (read grammar n b mid) → Fails stop (read grammar n (both a b) ts)
+second_fails n a b ts mid x e stop h = same_fails stop (ap (and_then (read grammar n b) pair) e) (through (after (pair x)) (λ d. refl) stop (read grammar n b mid) h)
+
+abbrev closing : ℕ → Tree → Read Tree → Read Tree
+closing c y r = r >>= λ z. Ok (y, z.1)
+
+-- at the closing bracket
+pub unclosed : (n o k c : ℕ) (ts mid later : List Terminal) (y : Tree) → 0 < n → skip o ts ≡ Ok (unit, mid) → read grammar (n - 1) (grammar.body k) mid ≡ Ok (y, later) → (stop : Stop) → Fails stop (skip c later) → Fails stop (read grammar n (inside o k c) ts)
+unclosed n o k c ts mid later y some e q stop h =
+    same_fails stop (inside_some grammar n o k c ts some ∙ ap (λ r. r >>= λ x. closed (read grammar (n - 1) (grammar.body k)) c x.1) e ∙ ap (λ r. r >>= λ x. closing c x.0 (skip c x.1)) q)
+    (through (closing c y) (λ d. refl) stop (skip c later) h)

@@ -1,5 +1,12 @@
-pub mod Complete
+pub mod BracketReading
+pub mod CertificateLoops
+pub mod DocumentForms
+pub mod ExpressionTrees
 pub mod Failing
-pub mod Many
-pub mod Sound
-pub mod Trees
+pub mod ItemForms
+pub mod JoinedReading
+pub mod Levels
+pub mod Parsed
+pub mod Readings
+pub mod Repetition
+pub mod WordClasses

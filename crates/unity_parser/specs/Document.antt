@@ -1,28 +1,37 @@
--- Which bytes are a small document.
-use Rattle.std.specs.Prelude.{◌≡◌, ◌≤◌, ℕ, List, length}
+-- Which bytes are a document, and why others are none.
+use Rattle.std.specs.Prelude.{◌≡◌, ℕ, List}
+use Rattle.case_tables.specs.declared.code_table.Code.{Code}
 use Rattle.unity_syntax.specs.declared.token.Token.{Token}
-use Rattle.unity_lexer.specs.Tokens.{IsTokens}
-use Rattle.unity_parser.specs.declared.tree.SmallDocument.{SmallDocument}
-use Rattle.unity_parser.specs.Pieces.{Pieces, pieces_of}
-use Rattle.unity_parser.specs.Grammar.{document_pieces}
-use Rattle.unity_parser.specs.Conditions.{IsWellFormed}
+use Rattle.unity_syntax.specs.declared.fault.SyntaxFault.{SyntaxFault}
+use Rattle.unity_syntax.specs.declared.document.Document.{Document}
+use Rattle.unity_lexer.specs.Tokens.{IsTokens, FirstBad}
+use Rattle.unity_parser.specs.ParseAnswers.{IsDocumentOf, IsRefusal}
 
--- pieces that are those of a tree, which is well formed
-pub record IsTreeOf (pieces : Pieces) (d : SmallDocument) : Type 0 where
-  pub grammar : pieces ≡ document_pieces d
-  pub formed : IsWellFormed d
-
--- not too many bytes, whose tokens are those of the tree
-pub record IsSmallDocument (bytes : List ℕ) (d : SmallDocument) : Type 0 where
-  pub size : length bytes ≤ 65536
+-- the tokens of the bytes are those of the document
+pub record IsDocument (bytes : List ℕ) (d : Document) : Type 0 where
   pub tokens : List Token
-  pub read : IsTokens bytes tokens
-  pub tree : IsTreeOf (pieces_of bytes tokens) d
+  pub lexed : IsTokens bytes tokens
+  pub parsed : IsDocumentOf bytes tokens d
 
--- the bytes are no small document
-abbrev pub IsNoSmallDocument : List ℕ → Type 0
-IsNoSmallDocument bytes = (d : SmallDocument) → IsSmallDocument bytes d → ⊥
+-- the first fault of bytes that are no document, with its code and its place: where no token can be read, or else at the first
+-- token that no document has there
+pub data IsFault (bytes : List ℕ) (code : Code) (at : ℕ) : Type 0 where
+  no_token : FirstBad bytes code at → IsFault bytes code at
+  no_document : (tokens : List Token) → IsTokens bytes tokens → IsRefusal bytes tokens code at → IsFault bytes code at
 
--- bytes are at most one small document
-abbrev pub OneTree : Type 0
-OneTree = (bytes : List ℕ) (d e : SmallDocument) → IsSmallDocument bytes d → IsSmallDocument bytes e → d ≡ e
+-- the refusal of a text is its first fault
+abbrev pub IsTextFault : List ℕ → SyntaxFault → Type 0
+IsTextFault bytes (SyntaxFault.Fault code at) = IsFault bytes code at
+IsTextFault bytes SyntaxFault.Memory = Unit {0}
+
+-- bytes are at most one document
+abbrev pub OneDocument : Type 0
+OneDocument = (bytes : List ℕ) (d e : Document) → IsDocument bytes d → IsDocument bytes e → d ≡ e
+
+-- bytes that are a document have no fault
+abbrev pub NoFault : Type 0
+NoFault = (bytes : List ℕ) (d : Document) (code : Code) (at : ℕ) → IsDocument bytes d → IsFault bytes code at → ⊥
+
+-- bytes have at most one first fault
+abbrev pub OneFault : Type 0
+OneFault = (bytes : List ℕ) (code other : Code) (at place : ℕ) → IsFault bytes code at → IsFault bytes other place → (code ≡ other) × (at ≡ place)

@@ -1,8 +1,4 @@
-pub mod Step
-pub mod Meaning
-pub mod Limits
-pub mod Pieces
-pub mod Grammar
-pub mod Conditions
 pub mod Document
-pub mod Reader
+pub mod Gives
+pub mod ParseAnswers
+pub mod TermParts

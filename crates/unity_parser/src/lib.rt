@@ -1,19 +1,9 @@
-//! The reader of small documents: from bytes to the one tree that they are.
+//! The reader of documents: from bytes to the one tree that they are, or their first fault.
 #![tactic(auto)]
 
-mod bytes;
-mod certificates;
-mod conditions;
-mod cursor;
-mod document;
-mod expressions;
-mod sections;
-#[cfg(test)]
-mod tests;
-mod tree;
+mod grammar;
+mod reading;
+mod texts;
 
-pub use bytes::{LIMIT, one_tree, read_small_document};
-pub use tree::{
-    Certificate, Comparison, Expression, Name, Node, Number, Operand, Pair, Program, Proof, Range,
-    Relation, SmallDocument, Statement,
-};
+pub use reading::parse;
+pub use texts::{one_reading, read_document};

@@ -1,5 +1,4 @@
 use Rattle.std.proofs.Common.{◌∙◌, ap}
-use Rattle.unity_parser.specs.Conditions.{are_trees}
 use Rattle.safety_rules.specs.Refutation.{is_whole}
 use Rattle.safety_rules.specs.Follows.{node_of}
 use Rattle.safety_rules.proofs.FollowsLaws.{whole-same}

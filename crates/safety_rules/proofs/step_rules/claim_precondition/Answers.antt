@@ -1,7 +1,7 @@
-use Rattle.std.proofs.Common.{◌≡◌, ◌+◌, ◌^◌, ◌≤◌, ◌∷◌, [], max, ap, ◌∙◌, arith}
+use Rattle.std.proofs.Common.{◌∷◌, [], ap, ◌∙◌, arith}
 use Rattle.std.proofs.lemmas.Result.{IfOk-weaker}
 use Rattle.safety_rules.specs.Precondition.{wp_form}
-use Rattle.safety_rules.specs.StepForms.{slots_of, program_write}
+use Rattle.safety_rules.specs.StepForms.{program_write}
 use Rattle.safety_rules.proofs.LimitLaws.{claim_after_bound, precondition_bound}
 use Rattle.safety_rules.proofs.step_rules.claim_precondition.Goals as goal
 

@@ -1,7 +1,7 @@
-use Rattle.std.proofs.Common.{◌≡◌, ◌^◌, ◌≤◌, ◌∷◌, [], All, sym, ap, ◌∙◌, subst}
+use Rattle.std.proofs.Common.{◌^◌, ◌≤◌, ◌∷◌, [], All, sym, ap, ◌∙◌, subst}
 use Rattle.std.proofs.lemmas.Result.{IfOk-weaker}
 use Rattle.safety_rules.specs.Bound.{form_bound}
-use Rattle.safety_rules.specs.StepForms.{defined_obligation, start_obligation, kept_obligation}
+use Rattle.safety_rules.specs.StepForms.{defined_obligation, start_obligation}
 use Rattle.safety_rules.proofs.LimitLaws.{all_three}
 use Rattle.safety_rules.proofs.step_rules.forms_in_order.Goals as goal
 

@@ -1,6 +1,7 @@
-use Rattle.std.proofs.Common.{◌∙◌, rules, sym, ap, Err}
+use Rattle.std.proofs.Common.{◌∙◌, rules, sym, ap, subst, Err, Some}
+use Rattle.unity_cli.specs.Status.{HasText}
 use Rattle.unity_cli.specs.Verdict.{text_of}
-use Rattle.unity_cli.proofs.Answering.{bad_words, judged, stopped_writing, accepted_safe, accepted_has_executions}
+use Rattle.unity_cli.proofs.Answering.{bad_words, only_check, judged, stop_not_done, stop_not_bad_words, stop_has_no_text, stopped_reading, stopped_writing, stopped_early, accepted_safe, accepted_has_executions}
 use Rattle.unity_cli.proofs.top.unity.Goals as goal
 
 pub returns-in-Ok-clause-answer : goal.returns-in-Ok-clause-answer
@@ -12,7 +13,7 @@ returns-in-Err-clause-part g c = λ _. record { status = _; text = _; answer = b
 pub returns-in-Ok-tell-clause-answer : goal.returns-in-Ok-tell-clause-answer
 returns-in-Ok-tell-clause-answer g c = λ _. rw c.status-in-Ok-tell.ensures (record {
   text = text_of c.in-Ok-check.verdict;
-  answer = judged _ _ c.in-Ok-check.verdict (search rules) c.in-Ok-check.ensures.verdict;
+  answer = judged _ _ c.in-Ok-check.verdict (sym c.read_words.ensures ∙ c.in-Some-Check.is ∙ ap Some (only_check _)) c.in-Ok-check.ensures.verdict;
   appends = c.in-Ok-tell.ensures.whole;
 })
 
@@ -28,6 +29,34 @@ pub returns-clause-part : goal.returns-clause-part
 returns-clause-part g c = λ e. record {
   status = _;
   text = _;
-  answer = judged _ _ c.in-Ok-check.verdict (search rules) c.in-Ok-check.ensures.verdict;
+  answer = judged _ _ c.in-Ok-check.verdict (sym c.read_words.ensures ∙ c.in-Some-Check.is ∙ ap Some (only_check _)) c.in-Ok-check.ensures.verdict;
   part = c.in-Err-tell.ensures.part (ap Err (stopped_writing _ (sym c.status-in-Err-tell.ensures ∙ e)));
 }
+
+pub returns-in-Err-check-clause-safe : goal.returns-in-Err-check-clause-safe
+returns-in-Err-check-clause-safe g c = λ done. absurd (stop_not_done _ (sym c.status.ensures ∙ done))
+
+pub returns-in-Err-check-clause-runs : goal.returns-in-Err-check-clause-runs
+returns-in-Err-check-clause-runs g c = λ done. absurd (stop_not_done _ (sym c.status.ensures ∙ done))
+
+pub returns-clause-answer : goal.returns-clause-answer
+returns-clause-answer g c = λ text. absurd (stop_has_no_text _ (subst HasText c.status-in-Err-tell.ensures text))
+
+pub returns-clause-nothing : goal.returns-clause-nothing
+returns-clause-nothing g c = stopped_early c.in-Err-tell.stop _ _ c.status-in-Err-tell.ensures
+    (λ e. absurd (c.in-Err-tell.ensures.never (ap Err e))) (λ e. c.in-Err-tell.ensures.nothing (ap Err e))
+
+pub returns-clause-safe : goal.returns-clause-safe
+returns-clause-safe g c = λ done. absurd (stop_not_done _ (sym c.status-in-Err-tell.ensures ∙ done))
+
+pub returns-clause-runs : goal.returns-clause-runs
+returns-clause-runs g c = λ done. absurd (stop_not_done _ (sym c.status-in-Err-tell.ensures ∙ done))
+
+pub returns-clause-bad_words : goal.returns-clause-bad_words
+returns-clause-bad_words g c = λ e. absurd (stop_not_bad_words _ (sym c.status-in-Err-tell.ensures ∙ e))
+
+pub returns-clause-read_fault : goal.returns-clause-read_fault
+returns-clause-read_fault g c = λ e. absurd (c.in-Err-tell.ensures.never (ap Err (stopped_reading _ (sym c.status-in-Err-tell.ensures ∙ e))))
+
+pub returns-clause-write_fault : goal.returns-clause-write_fault
+returns-clause-write_fault g c = λ e. c.in-Err-tell.ensures.fault (ap Err (stopped_writing _ (sym c.status-in-Err-tell.ensures ∙ e)))

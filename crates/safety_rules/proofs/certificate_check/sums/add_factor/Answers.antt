@@ -1,4 +1,4 @@
-use Rattle.std.proofs.Common.{◌≡◌, ◌∙◌, ap, arith, slice_set}
+use Rattle.std.proofs.Common.{◌∙◌, ap, arith, slice_set}
 use Rattle.std.proofs.lemmas.Int.{to_z-of_z}
 use mir.Syntax.{w128}
 use Rattle.safety_rules.proofs.LinearLaws.{set-add, past-add}

@@ -1,4 +1,3 @@
-use Rattle.std.proofs.Common.{◌≡◌, arith}
 use Rattle.safety_rules.proofs.SumLaws.{pairs-stopped}
 use Rattle.safety_rules.proofs.certificate_check.sums.add_pairs.Goals as goal
 

@@ -1,10 +1,10 @@
-use Rattle.std.proofs.Common.{rules, ◌≡◌, ◌∙◌, ap, sym, refl, subst, ◌+◌, ◌*◌, ◌^◌, ◌≤◌, ◌<◌, length, neg_ℤ, pos, ℤ, arith}
+use Rattle.std.proofs.Common.{◌∙◌, ap, sym, subst, ◌+◌, ◌*◌, ◌^◌, ◌≤◌, length, arith}
 use Rattle.std.specs.Int.RustNames.{unsigned_abs}
-use Rattle.safety_rules.specs.declared.core_terms.CTerm.TheVariants.{Const, Slot, Param, Add, Sub, Scale, Ite}
+use Rattle.safety_rules.specs.declared.core_terms.CTerm.TheVariants.{Add, Sub, Scale}
 use Rattle.safety_rules.specs.LinearForms.{line_plus, linear}
 use Rattle.safety_rules.specs.Load.{norm, term_load}
 use Rattle.safety_rules.proofs.LineLaws.{length-add_at}
-use Rattle.safety_rules.proofs.LoadLaws.{add-Const, add-Slot, add-Param, add-Add, add-Sub, add-Scale, add-Ite, add-nothing, long-after, room-Add, room-Sub, room-Scale, trip-small}
+use Rattle.safety_rules.proofs.LoadLaws.{add-Const, add-Slot, add-Param, add-Add, add-Sub, add-Scale, add-Ite, add-nothing, room-Add, room-Sub, room-Scale, trip-small}
 use Rattle.safety_rules.proofs.TreeSizes.{size-Add, size-Sub, size-Scale}
 use Rattle.safety_rules.proofs.obligations.linear.+add_term.Goals as goal
 

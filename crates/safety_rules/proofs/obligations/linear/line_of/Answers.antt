@@ -1,4 +1,4 @@
-use Rattle.std.proofs.Common.{◌≡◌, ◌∙◌, ap, pos}
+use Rattle.std.proofs.Common.{◌∙◌, ap, pos}
 use Rattle.safety_rules.specs.LinearForms.{line_plus, linear}
 use Rattle.safety_rules.proofs.LinearLaws.{line-once}
 use Rattle.safety_rules.proofs.obligations.linear.line_of.Goals as goal

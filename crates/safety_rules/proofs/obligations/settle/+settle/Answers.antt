@@ -1,4 +1,4 @@
-use Rattle.std.proofs.Common.{◌≡◌, ◌∙◌, ap, sym, arith, ◌^◌}
+use Rattle.std.proofs.Common.{◌∙◌, ap, sym, arith, ◌^◌}
 use Rattle.safety_rules.specs.declared.core_terms.CForm.TheVariants.{And, Or}
 use Rattle.safety_rules.specs.Settling.{settled, refused}
 use Rattle.safety_rules.proofs.NeedLaws.{least-load, below-load, zero-load}

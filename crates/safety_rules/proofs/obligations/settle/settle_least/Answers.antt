@@ -1,5 +1,5 @@
 use Rattle.std.proofs.Common.{◌≡◌, OnOk, subst}
-use Rattle.safety_rules.specs.Settling.{joined, least_adds, zero_adds, unequal_adds, first_ite}
+use Rattle.safety_rules.specs.Settling.{joined, least_adds}
 use Rattle.safety_rules.proofs.obligations.settle.settle_least.Goals as goal
 
 pub returns : goal.returns

@@ -1,9 +1,0 @@
-use Rattle.std.proofs.Common.{rules, sym, subst}
-use Rattle.unity_parser.specs.Document.{IsSmallDocument}
-use Rattle.unity_cli.proofs.Answering.{decided}
-use Rattle.unity_cli.proofs.judge.judge.Goals as goal
-
-pub returns-in_ok-new-in-Some : goal.returns-in_ok-new-in-Some
-returns-in_ok-new-in-Some c =
-    let read : IsSmallDocument c.args.bytes.now c.in-Some.document = search rules in
-    decided _ _ (subst (IsSmallDocument c.args.bytes.now) (sym c.in_ok-new-in-Some.ensures) read) _ c.judge_document.ensures

@@ -1,0 +1,67 @@
+-- From what the reader does to what the answer means.
+use Rattle.std.proofs.Common.{◌≡◌, ℕ, suc, ◌≤◌, List, [], ◌∷◌, length, Result, Ok, Err, subst, sym, ap, refl, arith}
+use Rattle.ebnf.specs.Ebnf.{Tree}
+use Rattle.ebnf.specs.Reader.{Fault, Unexpected, OtherVersion, TooDeep, read_whole}
+use Rattle.ebnf.specs.Words.{Word, words, spelled, IsSublist, is_done, is_left_out, is_kept}
+use Rattle.ebnf.proofs.Theorems.{exact}
+use Rattle.ebnf.proofs.WordOrder.{words_kept}
+use Rattle.unity_syntax.specs.declared.token.Token.{Token}
+use Rattle.unity_syntax.specs.declared.document.Document.{Document}
+use Rattle.unity_syntax.specs.declared.fault.SyntaxFault.{SyntaxFault}
+use Rattle.unity_syntax.specs.Classes.{terminals}
+use Rattle.unity_syntax.specs.Grammar.{grammar, document_}
+use Rattle.unity_syntax.specs.View.{view}
+use Rattle.unity_syntax.proofs.LookAhead.{grammar_is, document_is}
+use Rattle.unity_syntax.proofs.WordsKept.{bodies_keep, document_keeps}
+use Rattle.unity_parser.specs.declared.grammar.stop.Stop.{Stop}
+use Rattle.unity_parser.specs.Gives.{Fails, left}
+use Rattle.unity_lexer.specs.Tokens.{AreInOrder}
+use Rattle.unity_parser.specs.ParseAnswers.{most_brackets, IsExact, IsDocumentOf, IsRefusal, IsRefusedFor, Names, WordsRise, code_of, rest_of, beginning}
+
+-- the reader's answer is exact
+exactly : (bytes : List ℕ) (tokens : List Token) (answer : Result Tree Fault) → read_whole grammar most_brackets document_ (terminals bytes tokens) ≡ answer → IsExact bytes tokens answer
+exactly bytes tokens answer e = subst (λ r. IsExact bytes tokens r) e (exact grammar grammar_is document_ document_is most_brackets (terminals bytes tokens))
+
+pub is_document : (bytes : List ℕ) (tokens : List Token) (d : Document) → read_whole grammar most_brackets document_ (terminals bytes tokens) ≡ Ok (view d) → IsDocumentOf bytes tokens d
+is_document bytes tokens d e = exactly bytes tokens (Ok (view d)) e
+
+refused : (bytes : List ℕ) (tokens : List Token) (f : Fault) → read_whole grammar most_brackets document_ (terminals bytes tokens) ≡ Err f → IsRefusal bytes tokens (code_of f) (beginning (length bytes) (rest_of f))
+refused bytes tokens f e = record { fault = f; exact = exactly bytes tokens (Err f) e; code_is = refl; place_is = refl }
+
+pub is_refused : (bytes : List ℕ) (tokens : List Token) (stop : Stop) (fault : SyntaxFault) → Fails stop (read_whole grammar most_brackets document_ (terminals bytes tokens)) → Names bytes stop fault → IsRefusedFor bytes tokens fault
+is_refused bytes tokens Stop.Memory fault h q = subst (λ f. IsRefusedFor bytes tokens f) (sym q) tt
+is_refused bytes tokens (Stop.Unexpected rest) fault h q = subst (λ f. IsRefusedFor bytes tokens f) (sym q) (refused bytes tokens (Unexpected (left rest)) h)
+is_refused bytes tokens (Stop.OtherVersion rest) fault h q = subst (λ f. IsRefusedFor bytes tokens f) (sym q) (refused bytes tokens (OtherVersion (left rest)) h)
+is_refused bytes tokens (Stop.TooDeep rest) fault h q = subst (λ f. IsRefusedFor bytes tokens f) (sym q) (refused bytes tokens (TooDeep (left rest)) h)
+
+-- Words of rising tokens rise.
+rise_from : (a b to : ℕ) (ws : List Word) → a ≤ b → WordsRise b to ws → WordsRise a to ws
+rise_from a b to [] h r = omega arith
+rise_from a b to (w ∷ ws) h r = (omega (arith, r.0), r.1, r.2)
+
+end_reached : (from to : ℕ) (ts : List Token) → AreInOrder from to ts → from ≤ to
+end_reached from to [] r = r
+end_reached from to (t ∷ ts) r = let h = end_reached t.end to ts r.2 in omega (arith, h, r.0, r.1)
+
+rise_in : (bytes : List ℕ) (ws vs : List Word) → IsSublist ws vs → (from to : ℕ) (ts : List Token) → vs ≡ spelled (terminals bytes ts) → AreInOrder from to ts → WordsRise from to ws
+rise_in bytes [] [] is_done from to ts e r = end_reached from to ts r
+rise_in bytes (w ∷ ws) [] h from to ts e r = elim h [ ]
+rise_in bytes ws (v ∷ vs) (is_left_out h) from to [] e r = cc
+rise_in bytes ws (v ∷ vs) (is_left_out h) from to (t ∷ ts) e r =
+    let q : vs ≡ spelled (terminals bytes ts) = cc in
+    let k = rise_in bytes ws vs h t.end to ts q r.2 in
+    rise_from from t.end to ws (omega (arith, r.0, r.1)) k
+rise_in bytes (w ∷ ws) (v ∷ vs) (is_kept h) from to [] e r = cc
+rise_in bytes (w ∷ ws) (v ∷ vs) (is_kept h) from to (t ∷ ts) e r =
+    let q : vs ≡ spelled (terminals bytes ts) = cc in
+    let p : w.0 ≡ t.start = ap (λ l. place_of_first l) e in
+    let k = rise_in bytes ws vs h t.end to ts q r.2 in
+    let b = end_reached t.end to ts r.2 in
+    (omega (arith, p, r.0), omega (arith, p, b, r.1), rise_from (suc w.0) t.end to ws (omega (arith, p, r.1)) k)
+  where
+    place_of_first : List Word → ℕ
+    place_of_first [] = 0
+    place_of_first (w ∷ ws) = w.0
+
+pub words_stand : (bytes : List ℕ) (tokens : List Token) (d : Document) → IsDocumentOf bytes tokens d → AreInOrder 0 (length bytes) tokens → WordsRise 0 (length bytes) (words (view d))
+words_stand bytes tokens d is r = rise_in bytes (words (view d)) (spelled (terminals bytes tokens)) (words_kept grammar bodies_keep is.0 document_keeps) 0 (length bytes) tokens refl r
