@@ -1,7 +1,7 @@
 //! What a proof rule leaves to be shown: a formula over variables with ranges. Here it is opened as
 //! a branch: facts that are linear in the variables, and formulas that wait to be taken apart.
 use crate::core_terms::{CForm, CTerm, Range};
-use unity_base::Seq;
+use unity_base::{Held, Seq};
 
 pub mod first_choice;
 pub mod linear;
@@ -53,7 +53,7 @@ pub struct Branch {
 /// A term's first `Ite`: its condition, and the term with either part in the place of the `Ite`.
 #[derive(Drop)]
 pub struct Choice {
-    pub when: CForm,
-    pub yes: CTerm,
-    pub no: CTerm,
+    pub when: Held<CForm>,
+    pub yes: Held<CTerm>,
+    pub no: Held<CTerm>,
 }

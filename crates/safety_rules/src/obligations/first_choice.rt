@@ -4,45 +4,24 @@ ghost use Rattle.safety_rules.specs.declared.core_terms.CTerm.TheVariants.{Add, 
 ghost use Rattle.safety_rules.specs.Settling.{within, first_ite};
 
 use super::Choice;
-use crate::copy::{copy_form, copy_term};
+use crate::copy::{held_copy, held_copy_term};
 use crate::core_terms::{CForm, CTerm};
 use std::alloc::{AllocError, Global};
 use unity_base::Held;
 
-/// A sum of two terms.
-pub fn sum_of(alloc: Global, a: CTerm, b: CTerm) -> Result<CTerm, AllocError>
-    ensures { IfOk result (λ t. t ≡ Add a b) }
-{
-    Ok(CTerm::Add(Held::new(alloc, a)?, Held::new(alloc, b)?))
-}
-
-/// The first term less the second.
-pub fn difference_of(alloc: Global, a: CTerm, b: CTerm) -> Result<CTerm, AllocError>
-    ensures { IfOk result (λ t. t ≡ Sub a b) }
-{
-    Ok(CTerm::Sub(Held::new(alloc, a)?, Held::new(alloc, b)?))
-}
-
-/// A multiple of a term.
-pub fn multiple_of(alloc: Global, k: &i64, a: CTerm) -> Result<CTerm, AllocError>
-    ensures { IfOk result (λ t. t ≡ Scale k.now a) }
-{
-    Ok(CTerm::Scale(*k, Held::new(alloc, a)?))
-}
-
 /// The choice at an `Ite`.
 fn choice_of(
     alloc: Global,
-    c: &CForm,
-    a: &CTerm,
-    b: &CTerm,
+    c: &Held<CForm>,
+    a: &Held<CTerm>,
+    b: &Held<CTerm>,
 ) -> Result<Option<Held<Choice>>, AllocError>
     ensures { IfOk result (λ o. o ≡ Some (record { when = c.now; yes = a.now; no = b.now })) }
 {
     let choice = Choice {
-        when: copy_form(alloc, c)?,
-        yes: copy_term(alloc, a)?,
-        no: copy_term(alloc, b)?,
+        when: held_copy(alloc, c)?,
+        yes: held_copy_term(alloc, a)?,
+        no: held_copy_term(alloc, b)?,
     };
     Ok(Some(Held::new(alloc, choice)?))
 }
@@ -51,27 +30,27 @@ fn choice_of(
 fn in_sum_first(
     alloc: Global,
     choice: Held<Choice>,
-    b: &CTerm,
+    b: &Held<CTerm>,
 ) -> Result<Option<Held<Choice>>, AllocError>
     ensures { IfOk result (λ o. o ≡ Some (within (λ x. Add x b.now) choice)) }
 {
     let Choice { when, yes, no } = choice.into_inner();
-    let yes = sum_of(alloc, yes, copy_term(alloc, b)?)?;
-    let no = sum_of(alloc, no, copy_term(alloc, b)?)?;
+    let yes = Held::new(alloc, CTerm::Add(yes, held_copy_term(alloc, b)?))?;
+    let no = Held::new(alloc, CTerm::Add(no, held_copy_term(alloc, b)?))?;
     Ok(Some(Held::new(alloc, Choice { when, yes, no })?))
 }
 
 /// A choice in the second part of a sum.
 fn in_sum_second(
     alloc: Global,
-    a: &CTerm,
+    a: &Held<CTerm>,
     choice: Held<Choice>,
 ) -> Result<Option<Held<Choice>>, AllocError>
     ensures { IfOk result (λ o. o ≡ Some (within (λ x. Add a.now x) choice)) }
 {
     let Choice { when, yes, no } = choice.into_inner();
-    let yes = sum_of(alloc, copy_term(alloc, a)?, yes)?;
-    let no = sum_of(alloc, copy_term(alloc, a)?, no)?;
+    let yes = Held::new(alloc, CTerm::Add(held_copy_term(alloc, a)?, yes))?;
+    let no = Held::new(alloc, CTerm::Add(held_copy_term(alloc, a)?, no))?;
     Ok(Some(Held::new(alloc, Choice { when, yes, no })?))
 }
 
@@ -79,27 +58,27 @@ fn in_sum_second(
 fn in_difference_first(
     alloc: Global,
     choice: Held<Choice>,
-    b: &CTerm,
+    b: &Held<CTerm>,
 ) -> Result<Option<Held<Choice>>, AllocError>
     ensures { IfOk result (λ o. o ≡ Some (within (λ x. Sub x b.now) choice)) }
 {
     let Choice { when, yes, no } = choice.into_inner();
-    let yes = difference_of(alloc, yes, copy_term(alloc, b)?)?;
-    let no = difference_of(alloc, no, copy_term(alloc, b)?)?;
+    let yes = Held::new(alloc, CTerm::Sub(yes, held_copy_term(alloc, b)?))?;
+    let no = Held::new(alloc, CTerm::Sub(no, held_copy_term(alloc, b)?))?;
     Ok(Some(Held::new(alloc, Choice { when, yes, no })?))
 }
 
 /// A choice in the second part of a difference.
 fn in_difference_second(
     alloc: Global,
-    a: &CTerm,
+    a: &Held<CTerm>,
     choice: Held<Choice>,
 ) -> Result<Option<Held<Choice>>, AllocError>
     ensures { IfOk result (λ o. o ≡ Some (within (λ x. Sub a.now x) choice)) }
 {
     let Choice { when, yes, no } = choice.into_inner();
-    let yes = difference_of(alloc, copy_term(alloc, a)?, yes)?;
-    let no = difference_of(alloc, copy_term(alloc, a)?, no)?;
+    let yes = Held::new(alloc, CTerm::Sub(held_copy_term(alloc, a)?, yes))?;
+    let no = Held::new(alloc, CTerm::Sub(held_copy_term(alloc, a)?, no))?;
     Ok(Some(Held::new(alloc, Choice { when, yes, no })?))
 }
 
@@ -112,8 +91,8 @@ fn in_multiple(
     ensures { IfOk result (λ o. o ≡ Some (within (λ x. Scale k.now x) choice)) }
 {
     let Choice { when, yes, no } = choice.into_inner();
-    let yes = multiple_of(alloc, k, yes)?;
-    let no = multiple_of(alloc, k, no)?;
+    let yes = Held::new(alloc, CTerm::Scale(*k, yes))?;
+    let no = Held::new(alloc, CTerm::Scale(*k, no))?;
     Ok(Some(Held::new(alloc, Choice { when, yes, no })?))
 }
 
@@ -127,19 +106,19 @@ pub fn find_choice(alloc: Global, t: &CTerm) -> Result<Option<Held<Choice>>, All
         CTerm::Param(_) => Ok(None),
         CTerm::Add(a, b) => {
             if let Some(choice) = find_choice(alloc, a.get())? {
-                return Ok(in_sum_first(alloc, choice, b.get())?);
+                return Ok(in_sum_first(alloc, choice, b)?);
             }
             if let Some(choice) = find_choice(alloc, b.get())? {
-                return Ok(in_sum_second(alloc, a.get(), choice)?);
+                return Ok(in_sum_second(alloc, a, choice)?);
             }
             Ok(None)
         }
         CTerm::Sub(a, b) => {
             if let Some(choice) = find_choice(alloc, a.get())? {
-                return Ok(in_difference_first(alloc, choice, b.get())?);
+                return Ok(in_difference_first(alloc, choice, b)?);
             }
             if let Some(choice) = find_choice(alloc, b.get())? {
-                return Ok(in_difference_second(alloc, a.get(), choice)?);
+                return Ok(in_difference_second(alloc, a, choice)?);
             }
             Ok(None)
         }
@@ -149,6 +128,6 @@ pub fn find_choice(alloc: Global, t: &CTerm) -> Result<Option<Held<Choice>>, All
             }
             Ok(None)
         }
-        CTerm::Ite(c, a, b) => Ok(choice_of(alloc, c.get(), a.get(), b.get())?),
+        CTerm::Ite(c, a, b) => Ok(choice_of(alloc, c, a, b)?),
     }
 }

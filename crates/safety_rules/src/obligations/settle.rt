@@ -6,10 +6,10 @@ ghost use Rattle.safety_rules.specs.Settling.{settled, refused, joined, one_wait
 ghost use Rattle.safety_rules.specs.LinearForms.{linear, negated};
 ghost use Rattle.safety_rules.specs.Load.{need, term_load};
 
-use super::first_choice::{difference_of, find_choice};
+use super::first_choice::find_choice;
 use super::linear::{fact_from, line_of, negative_of};
 use super::{Branch, Choice, Fact, Variable};
-use crate::copy::{copy_form, copy_term};
+use crate::copy::{copy_form, copy_term, held_copy};
 use crate::core_terms::{CForm, CTerm};
 use std::alloc::{AllocError, Global};
 use unity_base::{Held, Seq};
@@ -48,12 +48,6 @@ fn negation_of(alloc: Global, f: CForm) -> Result<CForm, AllocError>
     Ok(CForm::Not(Held::new(alloc, f)?))
 }
 
-fn both_of(alloc: Global, f: CForm, g: CForm) -> Result<CForm, AllocError>
-    ensures { IfOk result (λ h. h ≡ And f g) }
-{
-    Ok(CForm::And(Held::new(alloc, f)?, Held::new(alloc, g)?))
-}
-
 fn either_of(alloc: Global, f: CForm, g: CForm) -> Result<CForm, AllocError>
     ensures { IfOk result (λ h. h ≡ Or f g) }
 {
@@ -61,48 +55,60 @@ fn either_of(alloc: Global, f: CForm, g: CForm) -> Result<CForm, AllocError>
 }
 
 /// The negation of a condition with a formula.
-fn otherwise(alloc: Global, when: &CForm, no: CForm) -> Result<CForm, AllocError>
+fn otherwise(alloc: Global, when: &Held<CForm>, no: Held<CForm>) -> Result<Held<CForm>, AllocError>
     ensures { IfOk result (λ f. f ≡ And (Not when.now) no) }
 {
-    let not = negation_of(alloc, copy_form(alloc, when)?)?;
-    let both = both_of(alloc, not, no)?;
-    Ok(both)
+    let not = Held::new(alloc, CForm::Not(held_copy(alloc, when)?))?;
+    Held::new(alloc, CForm::And(not, no))
 }
 
 /// The condition with one formula, or its negation with the other.
-fn choose(alloc: Global, when: CForm, yes: CForm, no: CForm) -> Result<CForm, AllocError>
+fn choose(
+    alloc: Global,
+    when: Held<CForm>,
+    yes: Held<CForm>,
+    no: Held<CForm>,
+) -> Result<CForm, AllocError>
     ensures { IfOk result (λ f. f ≡ Or (And when yes) (And (Not when) no)) }
 {
     let second = otherwise(alloc, &when, no)?;
-    let first = both_of(alloc, when, yes)?;
-    let either = either_of(alloc, first, second)?;
-    Ok(either)
+    let first = Held::new(alloc, CForm::And(when, yes))?;
+    Ok(CForm::Or(first, second))
 }
 
 fn least_choice(alloc: Global, choice: Held<Choice>) -> Result<CForm, AllocError>
     ensures { IfOk result (λ f. f ≡ choice_form AtLeast choice) }
 {
     let Choice { when, yes, no } = choice.into_inner();
-    let form = choose(alloc, when, CForm::AtLeast(yes), CForm::AtLeast(no))?;
-    Ok(form)
+    let yes = Held::new(alloc, CForm::AtLeast(yes.into_inner()))?;
+    let no = Held::new(alloc, CForm::AtLeast(no.into_inner()))?;
+    choose(alloc, when, yes, no)
 }
 
 fn zero_choice(alloc: Global, choice: Held<Choice>) -> Result<CForm, AllocError>
     ensures { IfOk result (λ f. f ≡ choice_form Zero choice) }
 {
     let Choice { when, yes, no } = choice.into_inner();
-    let form = choose(alloc, when, CForm::Zero(yes), CForm::Zero(no))?;
-    Ok(form)
+    let yes = Held::new(alloc, CForm::Zero(yes.into_inner()))?;
+    let no = Held::new(alloc, CForm::Zero(no.into_inner()))?;
+    choose(alloc, when, yes, no)
+}
+
+/// That a term is not 0.
+fn unequal(alloc: Global, t: Held<CTerm>) -> Result<Held<CForm>, AllocError>
+    ensures { IfOk result (λ f. f ≡ Not (Zero t)) }
+{
+    let zero = Held::new(alloc, CForm::Zero(t.into_inner()))?;
+    Held::new(alloc, CForm::Not(zero))
 }
 
 fn unequal_choice(alloc: Global, choice: Held<Choice>) -> Result<CForm, AllocError>
     ensures { IfOk result (λ f. f ≡ choice_form (λ x. Not (Zero x)) choice) }
 {
     let Choice { when, yes, no } = choice.into_inner();
-    let yes = negation_of(alloc, CForm::Zero(yes))?;
-    let no = negation_of(alloc, CForm::Zero(no))?;
-    let form = choose(alloc, when, yes, no)?;
-    Ok(form)
+    let yes = unequal(alloc, yes)?;
+    let no = unequal(alloc, no)?;
+    choose(alloc, when, yes, no)
 }
 
 /// Adds the fact of a term without an `Ite`.
@@ -171,6 +177,13 @@ fn settle_least(
 {
     let choice = find_choice(alloc, t)?;
     add_least_or(alloc, vs, t, choice, branch)
+}
+
+/// The first term less the second.
+fn difference_of(alloc: Global, a: CTerm, b: CTerm) -> Result<CTerm, AllocError>
+    ensures { IfOk result (λ t. t ≡ Sub a b) }
+{
+    Ok(CTerm::Sub(Held::new(alloc, a)?, Held::new(alloc, b)?))
 }
 
 /// -1 minus a term.
