@@ -18,7 +18,8 @@ pub record Allowed (g : Grammar) (e : Ebnf) (ts rest : List Terminal) : Type 0 w
   pub split : ts ≡ front ++ rest
   pub opens : Opens g e (front ++ at ∷ [])
 
--- The tokens before the rest are open, but no longer with the rest's first token. If there is none, the form does not end there.
+-- The tokens before the rest are open, but no longer with the rest's first token. If there is none, the form does not
+-- end there.
 pub record FirstBad (g : Grammar) (e : Ebnf) (ts rest : List Terminal) : Type 0 where
   pub front : List Terminal
   pub split : ts ≡ front ++ rest
@@ -41,11 +42,14 @@ overfull g levels (t ∷ ts) =
 abbrev pub NoneBefore : Grammar → ℕ → List Terminal → List Terminal → Type 0
 NoneBefore g levels ts rest = (at : List Terminal) → overfull g levels ts ≡ Some at → count at ≤ count rest
 
--- The fault is this one: a bad token, also where any version may stand; a bad token that is allowed where any version may
+-- The fault is this one: a bad token, also where any version may stand; a bad token that is allowed where any version
+-- may
 -- stand; or the first bracket too many, which the form allows.
 abbrev pub IsFault : Grammar → ℕ → Ebnf → List Terminal → Fault → Type 0
-IsFault g levels e ts (Unexpected rest) = FirstBad g e ts rest × ¬ Allowed (of_any_version g) e ts rest × NoneBefore g levels ts rest
-IsFault g levels e ts (OtherVersion rest) = FirstBad g e ts rest × Allowed (of_any_version g) e ts rest × NoneBefore g levels ts rest
+IsFault g levels e ts (Unexpected rest) =
+    FirstBad g e ts rest × ¬ Allowed (of_any_version g) e ts rest × NoneBefore g levels ts rest
+IsFault g levels e ts (OtherVersion rest) =
+    FirstBad g e ts rest × Allowed (of_any_version g) e ts rest × NoneBefore g levels ts rest
 IsFault g levels e ts (TooDeep rest) = Allowed g e ts rest × (overfull g levels ts ≡ Some rest)
 
 -- The answer is the tree that all of the tokens are read as, with no bracket too many, or the fault.

@@ -1,8 +1,10 @@
 -- Grammars as data, and what they derive.
 --
 -- A production is a form, written as on paper: of `sum = atom { ( "+" | "-" ) atom }` the right side is
--- `both atom (many (both (one_of (plus ∷ minus ∷ [])) atom))`, where `plus` and `minus` are classes of tokens, and an action
--- around it (`named`) makes the tree that is wanted. A production that another one names stands in it as it is, and only what
+-- `both atom (many (both (one_of (plus ∷ minus ∷ [])) atom))`, where `plus` and `minus` are classes of tokens, and an
+-- action
+-- around it (`named`) makes the tree that is wanted. A production that another one names stands in it as it is, and
+-- only what
 -- stands in brackets is named by a number (`inside`), so that forms are finite and a grammar may still be recursive.
 use Rattle.std.specs.Prelude.{◌≡◌, ℕ, zero, suc, ◌+◌, Bool, true, false, ◌||◌, ◌==◌, IsTrue, List, [], ◌∷◌, ◌++◌}
 
@@ -144,12 +146,15 @@ pub data Derives (g : Grammar) : Ebnf → Tree → List Terminal → Type 0 wher
   is_no_number : {k c : ℕ} {a : Ebnf}
       → Derives g (numbered k c a) nil []
   is_next_number : {k c : ℕ} {a : Ebnf} {x xs : Tree} {us vs ts : List Terminal}
-      → Derives g (numbered_item k c a) x us → Derives g (numbered (suc k) c a) xs vs → ts ≡ us ++ vs → Derives g (numbered k c a) (more x xs) ts
+      → Derives g (numbered_item k c a) x us → Derives g (numbered (suc k) c a) xs vs → ts ≡ us ++ vs →
+      Derives g (numbered k c a) (more x xs) ts
   is_no_tree : {arity : Tree → ℕ} {a : Ebnf}
       → Derives g (prefix_trees zero arity a) nil []
   is_next_node : {n : ℕ} {arity : Tree → ℕ} {a : Ebnf} {x xs : Tree} {us vs ts : List Terminal}
-      → Derives g a x us → Derives g (prefix_trees (n + arity x) arity a) xs vs → ts ≡ us ++ vs → Derives g (prefix_trees (suc n) arity a) (more x xs) ts
+      → Derives g a x us → Derives g (prefix_trees (n + arity x) arity a) xs vs → ts ≡ us ++ vs →
+      Derives g (prefix_trees (suc n) arity a) (more x xs) ts
   is_named : {action : ℕ → Tree → Tree} {place : ℕ} {a : Ebnf} {x : Tree} {ts : List Terminal}
       → Derives g a x ts → place ≡ place_of ts → Derives g (named action a) (action place x) ts
   is_inside : {opening k closing : ℕ} (s t : Terminal) {x : Tree} {us ts : List Terminal}
-      → s.class ≡ opening → Derives g (g.body k) x us → t.class ≡ closing → ts ≡ s ∷ (us ++ t ∷ []) → Derives g (inside opening k closing) x ts
+      → s.class ≡ opening → Derives g (g.body k) x us → t.class ≡ closing → ts ≡ s ∷ (us ++ t ∷ []) →
+      Derives g (inside opening k closing) x ts

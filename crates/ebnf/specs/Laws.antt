@@ -20,7 +20,8 @@ ExactAnswer = (g : Grammar) (e : Ebnf) → IsGrammar g → IsForm g e
 -- Tokens have at most one exact answer.
 abbrev pub OneAnswer : Type 0
 OneAnswer = (g : Grammar) (e : Ebnf) → IsGrammar g → IsForm g e
-    → (levels : ℕ) (ts : List Terminal) (one other : Result Tree Fault) → IsAnswer g levels e ts one → IsAnswer g levels e ts other → one ≡ other
+    → (levels : ℕ) (ts : List Terminal) (one other : Result Tree Fault) → IsAnswer g levels e ts one →
+    IsAnswer g levels e ts other → one ≡ other
 
 -- It was read so, unless too many brackets were open.
 abbrev pub Reads : Read Tree → Tree → List Terminal → Type 0

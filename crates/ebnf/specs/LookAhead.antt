@@ -76,7 +76,8 @@ abbrev pub if_passes : (Tree → Bool) → Option Tree → Option Tree
 if_passes test None = None
 if_passes test (Some x) = if test x then Some x else None
 
--- A tree of the form that passes the test and needs no brackets, if one is found. Of alternatives it is the first that has one.
+-- A tree of the form that passes the test and needs no brackets, if one is found. Of alternatives it is the first
+-- that has one.
 abbrev pub sample : Ebnf → (Tree → Bool) → Option Tree
 sample (token classes keep) test = if_passes test (token_of classes keep)
 sample (valued c v) test = if_passes test (Some unit)
@@ -90,12 +91,15 @@ sample (prefix_trees n arity a) test = if_passes test (option_map (copies n) (sa
 sample (named m a) test = option_map (m 0) (sample a (λ x. test (m 0 x)))
 sample (inside o k c) test = None
 
--- Whether the form has tokens without brackets. Trees in prefix order have some where a node without brackets has no subtree.
+-- Whether the form has tokens without brackets. Trees in prefix order have some where a node without brackets has no
+-- subtree.
 abbrev pub plain : Ebnf → Bool
 plain e = is_some (sample e (λ x. true))
 
--- One token of look-ahead tells what to do, and each form has some tokens. Two alternatives begin otherwise, and only the
--- last may be empty. What follows a part begins otherwise than the part might go on, and what is optional, repeated or named
+-- One token of look-ahead tells what to do, and each form has some tokens. Two alternatives begin otherwise, and only
+-- the
+-- last may be empty. What follows a part begins otherwise than the part might go on, and what is optional, repeated
+-- or named
 -- is not empty.
 abbrev pub good : Grammar → Ebnf → Bool
 good g (token classes keep) = plain (token classes keep)
@@ -106,7 +110,8 @@ good g (either a b) = good g a && (good g b && (not (empties a) && apart (first 
 good g (maybe a) = good g a && not (empties a)
 good g (many a) = good g a && (not (empties a) && apart (first a) (last a))
 good g (numbered k c a) = good g a && not (has (last a) c)
-good g (prefix_trees n arity a) = good g a && (not (empties a) && (apart (first a) (last a) && plain (prefix_trees n arity a)))
+good g (prefix_trees n arity a) =
+    good g a && (not (empties a) && (apart (first a) (last a) && plain (prefix_trees n arity a)))
 good g (named m a) = good g a && not (empties a)
 good g (inside o k c) = not (has (last (g.body k)) c)
 

@@ -1,4 +1,5 @@
--- What holds of a reader of a form at any tokens, not only at a whole list: it takes the form, or stops at the first bad
+-- What holds of a reader of a form at any tokens, not only at a whole list: it takes the form, or stops at the first
+-- bad
 -- token, and does the same whatever follows.
 use Rattle.std.specs.Prelude.{◌≡◌, List, [], ◌∷◌, ◌++◌, Ok, Err}
 use Rattle.ebnf.specs.Ebnf.{Terminal, Tree, Ebnf, Grammar, of_any_version, Derives}
@@ -12,21 +13,25 @@ pub record HasSome (g : Grammar) (e : Ebnf) : Type 0 where
   pub derives : Derives g e tree tokens
 
 -- The reader took tokens of the form, and takes them also where the rest goes on otherwise after its first token.
-pub record Took (g : Grammar) (e : Ebnf) (f : List Terminal → Read Tree) (ts : List Terminal) (x : Tree) (rest : List Terminal) : Type 0 where
+pub record Took (g : Grammar) (e : Ebnf) (f : List Terminal → Read Tree) (ts : List Terminal) (x : Tree)
+    (rest : List Terminal) : Type 0 where
   pub taken : List Terminal
   pub split : ts ≡ taken ++ rest
   pub tree : Derives g e x taken
   pub local : (t : Terminal) (was now : List Terminal) → rest ≡ t ∷ was → f (taken ++ t ∷ now) ≡ Ok (x, t ∷ now)
 
 -- The reader stopped at the rest, as it does also where the rest goes on otherwise after its first token.
-pub record Stopped (g : Grammar) (e : Ebnf) (f : List Terminal → Read Tree) (ts : List Terminal) (rest : List Terminal) : Type 0 where
+pub record Stopped (g : Grammar) (e : Ebnf) (f : List Terminal → Read Tree) (ts : List Terminal)
+    (rest : List Terminal) : Type 0 where
   pub front : List Terminal
   pub split : ts ≡ front ++ rest
   pub opens : Opens g e front
-  pub local : (t : Terminal) (was now : List Terminal) → rest ≡ t ∷ was → f (front ++ t ∷ now) ≡ Err (Unexpected (t ∷ now))
+  pub local : (t : Terminal) (was now : List Terminal) → rest ≡ t ∷ was →
+      f (front ++ t ∷ now) ≡ Err (Unexpected (t ∷ now))
 
 -- The reader stopped at a number that is no version, as it does also where the tokens go on otherwise after it.
-pub record Refused (g : Grammar) (e : Ebnf) (f : List Terminal → Read Tree) (ts : List Terminal) (rest : List Terminal) : Type 0 where
+pub record Refused (g : Grammar) (e : Ebnf) (f : List Terminal → Read Tree) (ts : List Terminal)
+    (rest : List Terminal) : Type 0 where
   pub front : List Terminal
   pub at : Terminal
   pub later : List Terminal

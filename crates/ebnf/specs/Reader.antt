@@ -62,16 +62,19 @@ abbrev pub and_then : (List Terminal → Read Tree) → (Tree → Tree → Tree)
 and_then g join r = and_then_by (λ x. g) join r
 
 -- Items as long as it goes on, in a state that each item changes, in so many turns at most.
-abbrev pub repeat : (ℕ → List Terminal → Read Tree) → (ℕ → List Terminal → Bool) → (ℕ → Tree → ℕ) → ℕ → ℕ → List Terminal → Read Tree
+abbrev pub repeat : (ℕ → List Terminal → Read Tree) → (ℕ → List Terminal → Bool) → (ℕ → Tree → ℕ) → ℕ → ℕ →
+    List Terminal → Read Tree
 repeat item goes_on next zero k ts = Ok (nil, ts)
-repeat item goes_on next (suc turns) k ts = if goes_on k ts then and_then_by (λ x. repeat item goes_on next turns (next k x)) more (item k ts) else Ok (nil, ts)
+repeat item goes_on next (suc turns) k ts = if goes_on k ts
+    then and_then_by (λ x. repeat item goes_on next turns (next k x)) more (item k ts) else Ok (nil, ts)
 
 abbrev pub count : List Terminal → ℕ
 count [] = 0
 count (t ∷ ts) = suc (count ts)
 
 -- turns that are enough, since each item takes a token
-abbrev pub repeat_all : (ℕ → List Terminal → Read Tree) → (ℕ → List Terminal → Bool) → (ℕ → Tree → ℕ) → ℕ → List Terminal → Read Tree
+abbrev pub repeat_all : (ℕ → List Terminal → Read Tree) → (ℕ → List Terminal → Bool) → (ℕ → Tree → ℕ) → ℕ →
+    List Terminal → Read Tree
 repeat_all item goes_on next k ts = repeat item goes_on next (suc (count ts)) k ts
 
 -- a number of the class, and what stands after it
@@ -102,13 +105,19 @@ opened (suc n) f at ts = f ts
 abbrev pub reading : Grammar → ℕ → (ℕ → List Terminal → Read Tree) → Ebnf → List Terminal → Read Tree
 reading g levels within (token classes keep) ts = as_tree keep (take_one classes ts)
 reading g levels within (valued c v) ts = take_number c v ts
-reading g levels within (version c v) ts = as_tree (λ t. numeral t.value) (check_version g.any_version v (take_if (λ t. t.class == c) ts))
+reading g levels within (version c v) ts =
+    as_tree (λ t. numeral t.value) (check_version g.any_version v (take_if (λ t. t.class == c) ts))
 reading g levels within (both a b) ts = and_then (reading g levels within b) pair (reading g levels within a ts)
-reading g levels within (either a b) ts = if begins (first a) ts then after left (reading g levels within a ts) else after right (reading g levels within b ts)
-reading g levels within (maybe a) ts = if begins (first a) ts then after some (reading g levels within a ts) else Ok (none, ts)
-reading g levels within (many a) ts = repeat_all (λ k. reading g levels within a) (λ k. begins (first a)) (λ k x. k) 0 ts
-reading g levels within (numbered k c a) ts = repeat_all (after_number c (reading g levels within a)) (λ k. begins (c ∷ [])) (λ k x. suc k) k ts
-reading g levels within (prefix_trees n arity a) ts = repeat_all (λ k. reading g levels within a) some_missing (missing arity) n ts
+reading g levels within (either a b) ts = if begins (first a) ts then after left (reading g levels within a ts)
+    else after right (reading g levels within b ts)
+reading g levels within (maybe a) ts = if begins (first a) ts then after some (reading g levels within a ts)
+    else Ok (none, ts)
+reading g levels within (many a) ts =
+    repeat_all (λ k. reading g levels within a) (λ k. begins (first a)) (λ k x. k) 0 ts
+reading g levels within (numbered k c a) ts =
+    repeat_all (after_number c (reading g levels within a)) (λ k. begins (c ∷ [])) (λ k x. suc k) k ts
+reading g levels within (prefix_trees n arity a) ts =
+    repeat_all (λ k. reading g levels within a) some_missing (missing arity) n ts
 reading g levels within (named m a) ts = after (m (place_of ts)) (reading g levels within a ts)
 reading g levels within (inside o k c) ts = skip o ts >>= λ x. opened levels (closed (within k) c) ts x.1
 

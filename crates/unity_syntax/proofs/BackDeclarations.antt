@@ -17,7 +17,8 @@ plain_of t =
     by_kind (
     (Kind.plain_boolean, Plain.Boolean (place_in t))
     ∷ (Kind.plain_range, Plain.Range (place_in t) (range_of (parts_in t)))
-    ∷ []) (Plain.Words (place_in t) (name_of (first_in (parts_in t))) (list_of name_of (second_in (parts_in t)))) (kind_in t)
+    ∷ []) (Plain.Words (place_in t) (name_of (first_in (parts_in t))) (list_of name_of (second_in (parts_in t))))
+    (kind_in t)
 
 pub plain_back : IsBack view_plain plain_of
 plain_back (Plain.Boolean at) = refl
@@ -31,10 +32,15 @@ var_type_of t =
 
 pub var_type_back : IsBack view_var_type var_type_of
 var_type_back (VarType.Plain at plain) = ap (λ p. VarType.Plain at p) (plain_back plain)
-var_type_back (VarType.Array at range plain) = both_same (λ r p. VarType.Array at r p) (range_back range) (plain_back plain)
+var_type_back (VarType.Array at range plain) =
+    both_same (λ r p. VarType.Array at r p) (range_back range) (plain_back plain)
 
 abbrev pub var_of : Tree → Var
-var_of t = record { at = place_in t; name = name_of (first_in (parts_in t)); kind = var_type_of (second_in (parts_in t)) }
+var_of t = record {
+  at = place_in t;
+  name = name_of (first_in (parts_in t));
+  kind = var_type_of (second_in (parts_in t));
+}
 
 pub var_back : IsBack view_var var_of
 var_back v = ap (λ k. record { at = v.at; name = v.name; kind = k }) (var_type_back v.kind)
@@ -53,8 +59,11 @@ with_minus_back x = ap (λ m. (m, x.1)) (flag_back x.0)
 
 abbrev pub init_value_of : Tree → InitValue
 init_value_of t =
-    by_kind (
-    (Kind.init_number, InitValue.Number (place_in t) (flag_of (first_in (parts_in t))) (number_of (second_in (parts_in t))))
+    by_kind ((
+      Kind.init_number,
+      InitValue.Number (place_in t) (flag_of (first_in (parts_in t)))
+          (number_of (second_in (parts_in t))),
+    )
     ∷ (Kind.init_word, InitValue.Word (place_in t) (name_of (parts_in t)))
     ∷ (Kind.init_true, InitValue.True (place_in t))
     ∷ []) (InitValue.False (place_in t)) (kind_in t)

@@ -37,7 +37,11 @@ sections_in t = second_in (parts_in t)
 
 abbrev program_of : Tree → Program
 program_of t =
-    by_kind ((Kind.program_union, Program.Union (place_in t) (name_of (first_in (parts_in t))) (name_of (first_in (sections_in t))) (name_of (second_in (sections_in t)))) ∷ [])
+    by_kind ((
+      Kind.program_union,
+      Program.Union (place_in t) (name_of (first_in (parts_in t))) (name_of (first_in (sections_in t)))
+          (name_of (second_in (sections_in t))),
+    ) ∷ [])
     (Program.Plain (place_in t) (name_of (first_in (parts_in t)))
     (option_of (list_of var_of) (first_in (sections_in t)))
     (option_of (list_of def_of) (first_in (second_in (sections_in t))))
@@ -58,7 +62,11 @@ program_back (Program.Plain at name declare always initially start items) =
     (items_back items))
 
 abbrev param_of : Tree → Param
-param_of t = record { at = place_in t; name = name_of (first_in (parts_in t)); range = range_of (second_in (parts_in t)) }
+param_of t = record {
+  at = place_in t;
+  name = name_of (first_in (parts_in t));
+  range = range_of (second_in (parts_in t));
+}
 
 param_back : IsBack view_param param_of
 param_back p = ap (λ r. record { at = p.at; name = p.name; range = r }) (range_back p.range)
@@ -69,26 +77,34 @@ claim_of t =
     (Kind.claim_defined, Claim.Defined (place_in t))
     ∷ (Kind.claim_invariant, Claim.Invariant (place_in t) (expr_of (parts_in t)))
     ∷ (Kind.claim_stable, Claim.Stable (place_in t) (expr_of (parts_in t)))
-    ∷ []) (Claim.Between (place_in t) (expr_of (first_in (parts_in t))) (word_of_class (class_in (first_in (second_in (parts_in t))))) (expr_of (second_in (second_in (parts_in t))))) (kind_in t)
+    ∷ []) (Claim.Between (place_in t) (expr_of (first_in (parts_in t)))
+    (word_of_class (class_in (first_in (second_in (parts_in t))))) (expr_of (second_in (second_in (parts_in t)))))
+    (kind_in t)
 
 claim_back : IsBack view_claim claim_of
 claim_back (Claim.Defined at) = refl
 claim_back (Claim.Invariant at p) = ap (λ p. Claim.Invariant at p) (expr_back p)
 claim_back (Claim.Stable at p) = ap (λ p. Claim.Stable at p) (expr_back p)
-claim_back (Claim.Between at p which q) = three_same (λ p w q. Claim.Between at p w q) (expr_back p) (word_back which) (expr_back q)
+claim_back (Claim.Between at p which q) =
+    three_same (λ p w q. Claim.Between at p w q) (expr_back p) (word_back which) (expr_back q)
 
 abbrev rule_of : Tree → Rule
 rule_of t =
     by_kind (
     (Kind.rule_text, Rule.Text (place_in t) (option_of inst_of (parts_in t)))
     ∷ (Kind.rule_weaken, Rule.Weaken (place_in t) (ref_of (parts_in t)))
-    ∷ (Kind.rule_pair, Rule.Pair (place_in t) (word_of_class (class_in (first_in (parts_in t)))) (ref_of (first_in (second_in (parts_in t)))) (ref_of (second_in (second_in (parts_in t)))))
+    ∷ (
+      Kind.rule_pair,
+      Rule.Pair (place_in t) (word_of_class (class_in (first_in (parts_in t))))
+          (ref_of (first_in (second_in (parts_in t)))) (ref_of (second_in (second_in (parts_in t)))),
+    )
     ∷ []) (Rule.Term (place_in t) (term_of (parts_in t))) (kind_in t)
 
 rule_back : IsBack view_rule rule_of
 rule_back (Rule.Text at inst) = ap (λ i. Rule.Text at i) (option_back view_inst inst_of inst_back inst)
 rule_back (Rule.Weaken at ref) = ap (λ r. Rule.Weaken at r) (ref_back ref)
-rule_back (Rule.Pair at which r s) = three_same (λ w r s. Rule.Pair at w r s) (word_back which) (ref_back r) (ref_back s)
+rule_back (Rule.Pair at which r s) =
+    three_same (λ w r s. Rule.Pair at w r s) (word_back which) (ref_back r) (ref_back s)
 rule_back (Rule.Term at term) = ap (λ t. Rule.Term at t) (term_back term)
 
 abbrev step_of : Tree → Step
@@ -103,15 +119,22 @@ step_of t = record {
 
 step_back : IsBack view_step step_of
 step_back s =
-    both_same (λ p (f : Option (Param × List Param) → Step). f p) (option_back (view_some view_param) (some_of param_of) (some_back view_param param_of param_back) s.params)
-    (three_same (λ c r u p. record { at = s.at; name = s.name; params = p; claim = c; rule = r; using = u }) (claim_back s.claim) (rule_back s.rule)
+    both_same (λ p (f : Option (Param × List Param) → Step). f p)
+    (option_back (view_some view_param) (some_of param_of) (some_back view_param param_of param_back) s.params)
+    (three_same (λ c r u p. record { at = s.at; name = s.name; params = p; claim = c; rule = r; using = u })
+    (claim_back s.claim) (rule_back s.rule)
     (option_back (view_some view_ref) (some_of ref_of) (some_back view_ref ref_of ref_back) s.using))
 
 abbrev proof_of : Tree → Proof
-proof_of t = record { at = place_in t; program = name_of (first_in (parts_in t)); steps = list_of step_of (second_in (parts_in t)) }
+proof_of t = record {
+  at = place_in t;
+  program = name_of (first_in (parts_in t));
+  steps = list_of step_of (second_in (parts_in t));
+}
 
 proof_back : IsBack view_proof proof_of
-proof_back p = ap (λ s. record { at = p.at; program = p.program; steps = s }) (list_back view_step step_of step_back p.steps)
+proof_back p = ap (λ s. record { at = p.at; program = p.program; steps = s })
+    (list_back view_step step_of step_back p.steps)
 
 abbrev pair_of : Tree → Pair
 pair_of t = record {
@@ -128,15 +151,21 @@ abbrev node_of : Tree → Node
 node_of t =
     by_kind (
     (Kind.node_case, Node.Case (place_in t) (number_of (parts_in t)))
-    ∷ (Kind.node_split, Node.Split (place_in t) (number_of (first_in (parts_in t))) (flag_of (first_in (second_in (parts_in t)))) (number_of (second_in (second_in (parts_in t)))))
+    ∷ (
+      Kind.node_split,
+      Node.Split (place_in t) (number_of (first_in (parts_in t)))
+          (flag_of (first_in (second_in (parts_in t)))) (number_of (second_in (second_in (parts_in t)))),
+    )
     ∷ (Kind.node_sum, Node.Sum (place_in t) (list_of pair_of (parts_in t)))
-    ∷ []) (Node.Round (place_in t) (flag_of (first_in (parts_in t))) (number_of (first_in (second_in (parts_in t)))) (list_of pair_of (second_in (second_in (parts_in t))))) (kind_in t)
+    ∷ []) (Node.Round (place_in t) (flag_of (first_in (parts_in t))) (number_of (first_in (second_in (parts_in t))))
+    (list_of pair_of (second_in (second_in (parts_in t))))) (kind_in t)
 
 node_back : IsBack view_node node_of
 node_back (Node.Case at number) = refl
 node_back (Node.Split at variable minus bound) = ap (λ m. Node.Split at variable m bound) (flag_back minus)
 node_back (Node.Sum at pairs) = ap (λ ps. Node.Sum at ps) (list_back view_pair pair_of pair_back pairs)
-node_back (Node.Round at minus divisor pairs) = both_same (λ m ps. Node.Round at m divisor ps) (flag_back minus) (list_back view_pair pair_of pair_back pairs)
+node_back (Node.Round at minus divisor pairs) =
+    both_same (λ m ps. Node.Round at m divisor ps) (flag_back minus) (list_back view_pair pair_of pair_back pairs)
 
 -- the items of a repetition
 abbrev head_in : Tree → Tree
@@ -156,24 +185,32 @@ certificate_of t = record {
 }
 
 certificate_back : IsBack view_certificate certificate_of
-certificate_back c = both_same (λ n ns. record { at = c.at; number = c.number; first = n; rest = ns }) (node_back c.first) (list_back view_node node_of node_back c.rest)
+certificate_back c = both_same (λ n ns. record { at = c.at; number = c.number; first = n; rest = ns })
+    (node_back c.first) (list_back view_node node_of node_back c.rest)
 
 abbrev certificates_of : Tree → Certificates
 certificates_of t = record { at = place_in t; items = list_of certificate_of (parts_in t) }
 
 certificates_back : IsBack view_certificates certificates_of
-certificates_back c = ap (λ cs. record { at = c.at; items = cs }) (list_back view_certificate certificate_of certificate_back c.items)
+certificates_back c = ap (λ cs. record { at = c.at; items = cs })
+    (list_back view_certificate certificate_of certificate_back c.items)
 
 abbrev schedule_of : Tree → Schedule
-schedule_of t = record { at = place_in t; program = name_of (first_in (parts_in t)); choices = option_of (some_of inst_of) (second_in (parts_in t)) }
+schedule_of t = record {
+  at = place_in t;
+  program = name_of (first_in (parts_in t));
+  choices = option_of (some_of inst_of) (second_in (parts_in t));
+}
 
 schedule_back : IsBack view_schedule schedule_of
 schedule_back s =
-    ap (λ c. record { at = s.at; program = s.program; choices = c }) (option_back (view_some view_inst) (some_of inst_of) (some_back view_inst inst_of inst_back) s.choices)
+    ap (λ c. record { at = s.at; program = s.program; choices = c })
+    (option_back (view_some view_inst) (some_of inst_of) (some_back view_inst inst_of inst_back) s.choices)
 
 abbrev part_of : Tree → Part
 part_of t =
-    by_kind ((Kind.part_program, Part.Program (place_in t) (program_of (parts_in t))) ∷ []) (Part.Proof (place_in t) (proof_of (parts_in t))) (kind_in t)
+    by_kind ((Kind.part_program, Part.Program (place_in t) (program_of (parts_in t))) ∷ [])
+    (Part.Proof (place_in t) (proof_of (parts_in t))) (kind_in t)
 
 part_back : IsBack view_part part_of
 part_back (Part.Program at program) = ap (λ p. Part.Program at p) (program_back program)
@@ -191,7 +228,14 @@ document_of t = record {
 
 document_back : IsBack view document_of
 document_back d =
-    three_same (λ p s c. record { at = d.at; number_at = d.number_at; number = d.number; parts = p; schedule = s; certificates = c })
+    three_same (λ p s c. record {
+      at = d.at;
+      number_at = d.number_at;
+      number = d.number;
+      parts = p;
+      schedule = s;
+      certificates = c;
+    })
     (list_back view_part part_of part_back d.parts) (option_back view_schedule schedule_of schedule_back d.schedule)
     (option_back view_certificates certificates_of certificates_back d.certificates)
 

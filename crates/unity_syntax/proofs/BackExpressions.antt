@@ -20,12 +20,19 @@ number_back n = refl
 
 abbrev pub end_of : Tree → End
 end_of t =
-    by_kind ((Kind.end_number, End.Number (place_in t) (flag_of (first_in (parts_in t))) (number_of (second_in (parts_in t)))) ∷ [])
-    (End.Word (place_in t) (name_of (first_in (parts_in t))) (option_of (signed_of number_of) (second_in (parts_in t)))) (kind_in t)
+    by_kind ((
+      Kind.end_number,
+      End.Number (place_in t) (flag_of (first_in (parts_in t)))
+          (number_of (second_in (parts_in t))),
+    ) ∷ [])
+    (End.Word (place_in t) (name_of (first_in (parts_in t)))
+    (option_of (signed_of number_of) (second_in (parts_in t)))) (kind_in t)
 
 pub end_back : IsBack view_end end_of
 end_back (End.Number at minus number) = ap (λ m. End.Number at m number) (flag_back minus)
-end_back (End.Word at name offset) = ap (λ o. End.Word at name o) (option_back (view_signed view_number) (signed_of number_of) (signed_back view_number number_of number_back) offset)
+end_back (End.Word at name offset) =
+    ap (λ o. End.Word at name o)
+    (option_back (view_signed view_number) (signed_of number_of) (signed_back view_number number_of number_back) offset)
 
 abbrev pub range_of : Tree → Range
 range_of t = record { at = place_in t; low = end_of (first_in (parts_in t)); high = end_of (second_in (parts_in t)) }
@@ -44,8 +51,16 @@ expr_layer k at t x =
     ∷ (Kind.expr_and, Expr-F.And at (known_first no_expr x) (known_list no_expr (known_second x)))
     ∷ (Kind.expr_or, Expr-F.Or at (known_first no_expr x) (known_list no_expr (known_second x)))
     ∷ (Kind.expr_not, Expr-F.Not at (known_value no_expr x))
-    ∷ (Kind.expr_compare, Expr-F.Compare at (known_first no_expr x) (symbol_of_class (class_in (first_in (second_in t)))) (known_value no_expr (known_second (known_second x))))
-    ∷ (Kind.expr_sum, Expr-F.Sum at (flag_of (first_in t)) (known_first no_expr (known_second x)) (known_signed no_expr (known_second (known_second x))))
+    ∷ (
+      Kind.expr_compare,
+      Expr-F.Compare at (known_first no_expr x)
+          (symbol_of_class (class_in (first_in (second_in t)))) (known_value no_expr (known_second (known_second x))),
+    )
+    ∷ (
+      Kind.expr_sum,
+      Expr-F.Sum at (flag_of (first_in t)) (known_first no_expr (known_second x))
+          (known_signed no_expr (known_second (known_second x))),
+    )
     ∷ (Kind.expr_product, Expr-F.Product at (known_first no_expr x) (known_list no_expr (known_second x)))
     ∷ (Kind.expr_number, Expr-F.Number at (number_of t))
     ∷ (Kind.expr_false, Expr-F.False at)
@@ -54,7 +69,8 @@ expr_layer k at t x =
     ∷ (
       Kind.expr_quantified,
       Expr-F.Quantified at (word_of_class (class_in (first_in t))) (name_of (first_in (second_in t)))
-          (range_of (first_in (second_in (second_in t)))) (known_value no_expr (known_second (known_second (known_second x)))),
+          (range_of (first_in (second_in (second_in t))))
+          (known_value no_expr (known_second (known_second (known_second x)))),
     )
     ∷ []) (Expr-F.True at) k
 
@@ -71,7 +87,8 @@ abbrev BackExpr : Type 0
 BackExpr = (e : Expr) × Back e
 
 -- what is seen of lists of expressions
-exprs_back : (es : List BackExpr) → known_list no_expr (known expr_step (list (map view_expr (map (λ e. e.0) es)))) ≡ map (λ e. e.0) es
+exprs_back : (es : List BackExpr) → known_list no_expr (known expr_step (list (map view_expr (map (λ e. e.0) es)))) ≡
+    map (λ e. e.0) es
 exprs_back [] = refl
 exprs_back (e ∷ es) = both_same (λ y ys. y ∷ ys) e.1 (exprs_back es)
 
@@ -79,11 +96,13 @@ abbrev unsigned : List (Symbol × BackExpr) → List (Symbol × Expr)
 unsigned xs = map (λ x. (x.0, x.1.0)) xs
 
 products_back : (xs : List (Symbol × BackExpr))
-    → known_signed no_expr (known expr_step (view_list (view_signed tree_itself) (map (λ x. (x.0, view_expr x.1)) (unsigned xs)))) ≡ unsigned xs
+    → known_signed no_expr (known expr_step
+    (view_list (view_signed tree_itself) (map (λ x. (x.0, view_expr x.1)) (unsigned xs)))) ≡ unsigned xs
 products_back [] = refl
 products_back (x ∷ xs) = three_same (λ s y ys. (s, y) ∷ ys) (symbol_back x.0) x.1.1 (products_back xs)
 
-rolled : (x : Expr-F Expr) → expr_of (view_expr_step (map-Expr Expr Tree view_expr x)) ≡ roll-Expr x → Back (roll-Expr x)
+rolled : (x : Expr-F Expr) → expr_of (view_expr_step (map-Expr Expr Tree view_expr x)) ≡ roll-Expr x →
+    Back (roll-Expr x)
 rolled x e = ap expr_of (fold-roll-Expr Tree view_expr_step x) ∙ e
 
 layer : (y : Expr-F BackExpr) → Back (roll-Expr (map-Expr BackExpr Expr (λ e. e.0) y))
@@ -91,8 +110,10 @@ layer (Expr-F.Implies at l r) = rolled _ (both_same (λ x y. roll-Expr (Expr-F.I
 layer (Expr-F.And at x xs) = rolled _ (both_same (λ x ys. roll-Expr (Expr-F.And at x ys)) x.1 (exprs_back xs))
 layer (Expr-F.Or at x xs) = rolled _ (both_same (λ x ys. roll-Expr (Expr-F.Or at x ys)) x.1 (exprs_back xs))
 layer (Expr-F.Not at x) = rolled _ (ap (λ x. roll-Expr (Expr-F.Not at x)) x.1)
-layer (Expr-F.Compare at l relation r) = rolled _ (three_same (λ x s y. roll-Expr (Expr-F.Compare at x s y)) l.1 (symbol_back relation) r.1)
-layer (Expr-F.Sum at minus x xs) = rolled _ (three_same (λ m x ys. roll-Expr (Expr-F.Sum at m x ys)) (flag_back minus) x.1 (products_back xs))
+layer (Expr-F.Compare at l relation r) =
+    rolled _ (three_same (λ x s y. roll-Expr (Expr-F.Compare at x s y)) l.1 (symbol_back relation) r.1)
+layer (Expr-F.Sum at minus x xs) =
+    rolled _ (three_same (λ m x ys. roll-Expr (Expr-F.Sum at m x ys)) (flag_back minus) x.1 (products_back xs))
 layer (Expr-F.Product at x xs) = rolled _ (both_same (λ x ys. roll-Expr (Expr-F.Product at x ys)) x.1 (exprs_back xs))
 layer (Expr-F.Number at number) = rolled _ refl
 layer (Expr-F.True at) = rolled _ refl
@@ -101,7 +122,8 @@ layer (Expr-F.Word at name None) = rolled _ refl
 layer (Expr-F.Word at name (Some x)) = rolled _ (ap (λ x. roll-Expr (Expr-F.Word at name (Some x))) x.1)
 layer (Expr-F.Brackets at x) = rolled _ (ap (λ x. roll-Expr (Expr-F.Brackets at x)) x.1)
 layer (Expr-F.Quantified at which name range x) =
-    rolled _ (three_same (λ w r x. roll-Expr (Expr-F.Quantified at w name r x)) (word_back which) (range_back range) x.1)
+    rolled _ (three_same (λ w r x. roll-Expr (Expr-F.Quantified at w name r x)) (word_back which)
+    (range_back range) x.1)
 
 pub expr_back : IsBack view_expr expr_of
 expr_back e = ind-Expr Back (λ x y q. subst (λ z. Back (roll-Expr z)) q (layer y)) e

@@ -14,7 +14,8 @@ use Rattle.unity_syntax.specs.declared.name.Name.{Name}
 pub both_same : {A B C : Type 0} (f : A → B → C) {a a' : A} {b b' : B} → a ≡ a' → b ≡ b' → f a b ≡ f a' b'
 both_same f {a = a} {b' = b'} p q = ap (λ y. f a y) q ∙ ap (λ x. f x b') p
 
-pub three_same : {A B C D : Type 0} (f : A → B → C → D) {a a' : A} {b b' : B} {c c' : C} → a ≡ a' → b ≡ b' → c ≡ c' → f a b c ≡ f a' b' c'
+pub three_same : {A B C D : Type 0} (f : A → B → C → D) {a a' : A} {b b' : B} {c c' : C} → a ≡ a' → b ≡ b' → c ≡ c' →
+    f a b c ≡ f a' b' c'
 three_same f {a' = a'} {b = b} {c = c} p q r = ap (λ x. f x b c) p ∙ both_same (f a') q r
 
 -- Words and symbols.
@@ -98,18 +99,22 @@ pub flag_back : IsBack view_flag flag_of
 flag_back true = refl
 flag_back false = refl
 
-pub option_back : {A : Type 0} (view_part : A → Tree) (part_of : Tree → A) → IsBack view_part part_of → IsBack (view_option view_part) (option_of part_of)
+pub option_back : {A : Type 0} (view_part : A → Tree) (part_of : Tree → A) → IsBack view_part part_of →
+    IsBack (view_option view_part) (option_of part_of)
 option_back view_part part_of back None = refl
 option_back view_part part_of back (Some x) = ap Some (back x)
 
-pub list_back : {A : Type 0} (view_part : A → Tree) (part_of : Tree → A) → IsBack view_part part_of → IsBack (view_list view_part) (list_of part_of)
+pub list_back : {A : Type 0} (view_part : A → Tree) (part_of : Tree → A) → IsBack view_part part_of →
+    IsBack (view_list view_part) (list_of part_of)
 list_back view_part part_of back [] = refl
 list_back view_part part_of back (x ∷ xs) = both_same (λ y ys. y ∷ ys) (back x) (list_back view_part part_of back xs)
 
-pub some_back : {A : Type 0} (view_part : A → Tree) (part_of : Tree → A) → IsBack view_part part_of → IsBack (view_some view_part) (some_of part_of)
+pub some_back : {A : Type 0} (view_part : A → Tree) (part_of : Tree → A) → IsBack view_part part_of →
+    IsBack (view_some view_part) (some_of part_of)
 some_back view_part part_of back x = both_same (λ y ys. (y, ys)) (back x.0) (list_back view_part part_of back x.1)
 
-pub signed_back : {A : Type 0} (view_part : A → Tree) (part_of : Tree → A) → IsBack view_part part_of → IsBack (view_signed view_part) (signed_of part_of)
+pub signed_back : {A : Type 0} (view_part : A → Tree) (part_of : Tree → A) → IsBack view_part part_of →
+    IsBack (view_signed view_part) (signed_of part_of)
 signed_back view_part part_of back x = both_same (λ s y. (s, y)) (symbol_back x.0) (back x.1)
 
 -- what stands under the kind
@@ -125,7 +130,8 @@ pub data Known (A : Type 0) : Type 0 where
   known_more : Known A → Known A → Known A
   known_token : Tree → Known A
 
--- Reads the nodes of a tree: `step` reads one, by its kind, its place, and its parts as they were and as they have been read.
+-- Reads the nodes of a tree: `step` reads one, by its kind, its place, and its parts as they were and as they have been
+-- read.
 abbrev pub known : {A : Type 0} → (ℕ → ℕ → Tree → Known A → A) → Tree → Known A
 known step (node k p x) = known_node (step k p x (known step x))
 known step (pair x y) = known_pair (known step x) (known step y)
@@ -158,5 +164,6 @@ known_class (known_pair (known_token t) y) = class_in t
 known_class _ = 0
 
 abbrev pub known_signed : {A : Type 0} → A → Known A → List (Symbol × A)
-known_signed other (known_more x xs) = (symbol_of_class (known_class x), known_value other (known_second x)) ∷ known_signed other xs
+known_signed other (known_more x xs) =
+    (symbol_of_class (known_class x), known_value other (known_second x)) ∷ known_signed other xs
 known_signed other _ = []

@@ -40,7 +40,8 @@ number_every : Every number_ (IsView view_number)
 number_every = every_number λ n. seen n
 
 signed_number_every : Every (both plus_or_minus_ number_) (IsView (view_signed view_number))
-signed_number_every = every_both (every_one_of symbol (Symbol.Plus ∷ Symbol.Minus ∷ []) λ s. every_number λ n. seen (s, n))
+signed_number_every = every_both
+    (every_one_of symbol (Symbol.Plus ∷ Symbol.Minus ∷ []) λ s. every_number λ n. seen (s, n))
 
 with_minus_every : Every (both minus_ number_) (IsView view_with_minus)
 with_minus_every = every_both (every_flag λ m. every_number λ n. seen (m, n))
@@ -53,15 +54,22 @@ end_every =
 
 range_every : Every range_ (IsView view_range)
 unfolding all_productions
-range_every = every_made λ p. every_both (every_view end_every λ l. every_past (every_view end_every λ h. seen (record { at = p; low = l; high = h })))
+range_every = every_made λ p. every_both (every_view end_every λ l. every_past (every_view end_every λ h. seen (record {
+  at = p;
+  low = l;
+  high = h;
+})))
 
-over_every : {A : Type 0} {view : A → Tree} {c : ℕ} {a : Ebnf} → Every a (IsView view) → Every (over_range c a) (IsView (view_over view))
+over_every : {A : Type 0} {view : A → Tree} {c : ℕ} {a : Ebnf} → Every a (IsView view) →
+    Every (over_range c a) (IsView (view_over view))
 over_every h = every_both_views name_every (every_past (every_both_views range_every (every_past h)))
 
 -- Expressions.
 
-parentheses_seen : (p : ℕ) (x : (Word × (Name × (Range × Expr))) ⊎ Expr) → IsView view_expr (make_parentheses p (view_either view_quantified view_expr x))
-parentheses_seen p (inl x) = seen_by (expr.Quantified p x.0 x.1.0 x.1.1.0 x.1.1.1) (eq.view-Quantified p x.0 x.1.0 x.1.1.0 x.1.1.1)
+parentheses_seen : (p : ℕ) (x : (Word × (Name × (Range × Expr))) ⊎ Expr) →
+    IsView view_expr (make_parentheses p (view_either view_quantified view_expr x))
+parentheses_seen p (inl x) = seen_by (expr.Quantified p x.0 x.1.0 x.1.1.0 x.1.1.1)
+    (eq.view-Quantified p x.0 x.1.0 x.1.1.0 x.1.1.1)
 parentheses_seen p (inr x) = seen_by (expr.Brackets p x) (eq.view-Brackets p x)
 
 atom_every : Every atom_ (IsView view_expr)
@@ -70,8 +78,11 @@ atom_every =
     every_or (every_made λ p. every_number λ n. seen_by (expr.Number p n) (eq.view-Number p n))
     (every_or (every_made λ p. every_fixed (seen_by (expr.True p) (eq.view-True p)))
     (every_or (every_made λ p. every_fixed (seen_by (expr.False p) (eq.view-False p)))
-    (every_or (every_made λ p. every_both (every_name λ n. every_maybe {view = view_expr} (every_inside {view = view_expr} (λ x v. v) λ x. seen x) λ o. seen_by (expr.Word p n o) (eq.view-Word p n o)))
-    (every_named λ p. every_inside {view = view_either view_quantified view_expr} (λ x v. v) λ x. parentheses_seen p x))))
+    (every_or (every_made λ p. every_both
+    (every_name λ n. every_maybe {view = view_expr} (every_inside {view = view_expr} (λ x v. v) λ x. seen x) λ o.
+    seen_by (expr.Word p n o) (eq.view-Word p n o)))
+    (every_named λ p. every_inside {view = view_either view_quantified view_expr}
+    (λ x v. v) λ x. parentheses_seen p x))))
 
 product_seen : (p : ℕ) (x : Expr) (xs : List Expr) → IsView view_expr (make_product p (view_some view_expr (x, xs)))
 product_seen p x [] = seen x
@@ -81,29 +92,35 @@ product_every : Every product_ (IsView view_expr)
 unfolding all_productions
 product_every = every_named λ p. every_one_or_more atom_every λ xs. product_seen p xs.0 xs.1
 
-sum_seen : (p : ℕ) (m : Bool) (x : Expr) (xs : List (Symbol × Expr)) → IsView view_expr (make_sum p (pair (view_flag m) (pair (view_expr x) (view_list (view_signed view_expr) xs))))
+sum_seen : (p : ℕ) (m : Bool) (x : Expr) (xs : List (Symbol × Expr)) →
+    IsView view_expr (make_sum p (pair (view_flag m) (pair (view_expr x) (view_list (view_signed view_expr) xs))))
 sum_seen p true x xs = seen_by (expr.Sum p true x xs) (eq.view-Sum p true x xs)
 sum_seen p false x [] = seen x
 sum_seen p false x (y ∷ ys) = seen_by (expr.Sum p false x (y ∷ ys)) (eq.view-Sum p false x (y ∷ ys))
 
 signed_product_every : Every (both plus_or_minus_ product_) (IsView (view_signed view_expr))
-signed_product_every = every_both (every_one_of symbol (Symbol.Plus ∷ Symbol.Minus ∷ []) λ s. every_view product_every λ x. seen (s, x))
+signed_product_every = every_both
+    (every_one_of symbol (Symbol.Plus ∷ Symbol.Minus ∷ []) λ s. every_view product_every λ x. seen (s, x))
 
 sum_every : Every sum_ (IsView view_expr)
 unfolding all_productions
-sum_every = every_named λ p. every_both (every_flag λ m. every_both (every_view product_every λ x. every_many signed_product_every λ xs. sum_seen p m x xs))
+sum_every = every_named λ p. every_both
+    (every_flag λ m. every_both (every_view product_every λ x. every_many signed_product_every λ xs. sum_seen p m x xs))
 
-compare_seen : (p : ℕ) (x : Expr) (o : Option (Symbol × Expr)) → IsView view_expr (make_compare p (pair (view_expr x) (view_option (view_signed view_expr) o)))
+compare_seen : (p : ℕ) (x : Expr) (o : Option (Symbol × Expr)) →
+    IsView view_expr (make_compare p (pair (view_expr x) (view_option (view_signed view_expr) o)))
 compare_seen p x None = seen x
 compare_seen p x (Some y) = seen_by (expr.Compare p x y.0 y.1) (eq.view-Compare p x y.0 y.1)
 
 related_sum_every : Every (both relation_ sum_) (IsView (view_signed view_expr))
 related_sum_every =
-    every_both (every_one_of symbol (Symbol.Equal ∷ Symbol.NotEqual ∷ below ∷ Symbol.AtMost ∷ Symbol.Above ∷ Symbol.AtLeast ∷ []) λ s. every_view sum_every λ x. seen (s, x))
+    every_both (every_one_of symbol (Symbol.Equal ∷ Symbol.NotEqual ∷ below ∷ Symbol.AtMost ∷ Symbol.Above ∷
+    Symbol.AtLeast ∷ []) λ s. every_view sum_every λ x. seen (s, x))
 
 compare_every : Every compare_ (IsView view_expr)
 unfolding all_productions
-compare_every = every_named λ p. every_both (every_view sum_every λ x. every_maybe related_sum_every λ o. compare_seen p x o)
+compare_every = every_named λ p. every_both
+    (every_view sum_every λ x. every_maybe related_sum_every λ o. compare_seen p x o)
 
 unit_seen : (p : ℕ) (b : Bool) (x : Expr) → IsView view_expr (make_unit p (pair (view_flag b) (view_expr x)))
 unit_seen p true x = seen_by (expr.Not p x) (eq.view-Not p x)
@@ -116,7 +133,8 @@ unit_every = every_named λ p. every_both (every_flag λ b. every_view compare_e
 abbrev view_joined : Expr × List Expr → Tree
 view_joined x = more (view_expr x.0) (view_list view_expr x.1)
 
-joined_seen : (p : ℕ) (x : Expr) (o : Option ((Expr × List Expr) ⊎ (Expr × List Expr))) → IsView view_expr (make_joined p (pair (view_expr x) (view_option (view_either view_joined view_joined) o)))
+joined_seen : (p : ℕ) (x : Expr) (o : Option ((Expr × List Expr) ⊎ (Expr × List Expr))) →
+    IsView view_expr (make_joined p (pair (view_expr x) (view_option (view_either view_joined view_joined) o)))
 joined_seen p x None = seen x
 joined_seen p x (Some (inl y)) = seen_by (expr.And p x (y.0 ∷ y.1)) (eq.view-And p x (y.0 ∷ y.1))
 joined_seen p x (Some (inr y)) = seen_by (expr.Or p x (y.0 ∷ y.1)) (eq.view-Or p x (y.0 ∷ y.1))
@@ -128,20 +146,24 @@ joined_every : Every joined_ (IsView view_expr)
 unfolding all_productions
 joined_every =
     every_named λ p. every_both (every_view unit_every λ x.
-    every_maybe (every_either_views (repeated_every (every_past unit_every)) (repeated_every (every_past unit_every))) λ o. joined_seen p x o)
+    every_maybe (every_either_views (repeated_every (every_past unit_every)) (repeated_every (every_past unit_every)))
+    λ o. joined_seen p x o)
 
-pred_seen : (p : ℕ) (x : Expr) (o : Option Expr) → IsView view_expr (make_pred p (pair (view_expr x) (view_option view_expr o)))
+pred_seen : (p : ℕ) (x : Expr) (o : Option Expr) →
+    IsView view_expr (make_pred p (pair (view_expr x) (view_option view_expr o)))
 pred_seen p x None = seen x
 pred_seen p x (Some y) = seen_by (expr.Implies p x y) (eq.view-Implies p x y)
 
 pred_every : Every pred_ (IsView view_expr)
 unfolding all_productions
-pred_every = every_named λ p. every_both (every_view joined_every λ x. every_maybe (every_past joined_every) λ o. pred_seen p x o)
+pred_every = every_named λ p. every_both
+    (every_view joined_every λ x. every_maybe (every_past joined_every) λ o. pred_seen p x o)
 
 parentheses_every : Every parentheses_ (IsView (view_either view_quantified view_expr))
 unfolding all_productions
 parentheses_every =
-    every_either_views (every_both_views (every_one_of reserved (Word.All ∷ Word.Any ∷ Word.Sum ∷ []) λ w. seen w) (over_every pred_every)) pred_every
+    every_either_views (every_both_views (every_one_of reserved (Word.All ∷ Word.Any ∷ Word.Sum ∷ []) λ w. seen w)
+    (over_every pred_every)) pred_every
 
 index_every : Every (in_brackets Contents.index) (IsView view_expr)
 index_every = every_inside (λ x v. v) λ x. seen x
@@ -160,34 +182,51 @@ choices_every = every_both (every_view pred_every λ e. every_many (every_past c
 
 alts_every : Every alts_ (IsView view_alts)
 unfolding all_productions
-alts_every = every_made λ p. every_both (every_view values_every λ v. every_maybe (every_past choices_every) λ c. seen (record { at = p; values = v; condition = c }))
+alts_every = every_made λ p. every_both
+    (every_view values_every λ v. every_maybe (every_past choices_every) λ c. seen
+    (record { at = p; values = v; condition = c }))
 
 target_every : Every target_ (IsView view_target)
 unfolding all_productions
-target_every = every_made λ p. every_both (every_name λ n. every_maybe index_every λ o. seen (record { at = p; name = n; index = o }))
+target_every = every_made λ p. every_both (every_name λ n. every_maybe index_every λ o. seen (record {
+  at = p;
+  name = n;
+  index = o;
+}))
 
 comp_every : Every comp_ (IsView view_component)
 unfolding all_productions
 comp_every =
-    every_or (every_made λ p. every_both (every_view target_every λ t. every_both (every_many (every_past target_every) λ ts.
+    every_or (every_made λ p. every_both
+    (every_view target_every λ t. every_both (every_many (every_past target_every) λ ts.
     every_past (every_view alts_every λ a. seen_by (component.Set p t ts a) (eq.view-Set p t ts a)))))
     (every_made λ p. every_inside {view = view_over view_assign} (λ x v. v) λ x.
     seen_by (component.Quantified p x.0 x.1.0 x.1.1) (eq.view-quantified_component p x.0 x.1.0 x.1.1))
 
 assign_every : Every assign_ (IsView view_assign)
 unfolding all_productions
-assign_every = every_made λ p. every_one_or_more comp_every λ xs. seen_by (roll-Assign (record { at = p; first = xs.0; rest = xs.1 })) (eq.view-Assign p xs.0 xs.1)
+assign_every = every_made λ p. every_one_or_more comp_every λ xs. seen_by (roll-Assign (record {
+  at = p;
+  first = xs.0;
+  rest = xs.1;
+})) (eq.view-Assign p xs.0 xs.1)
 
 item_every : Every item_ (IsView view_item)
 unfolding all_productions
 item_every =
-    every_or (every_made λ p. every_both (every_name λ n. every_past (every_view assign_every λ a. seen_by (item.Statement p n a) (eq.view-Statement p n a))))
+    every_or (every_made λ p. every_both
+    (every_name λ n. every_past
+    (every_view assign_every λ a. seen_by (item.Statement p n a) (eq.view-Statement p n a))))
     (every_made λ p. every_inside {view = view_over view_items} (λ x v. v) λ x.
     seen_by (item.Quantified p x.0 x.1.0 x.1.1) (eq.view-quantified_item p x.0 x.1.0 x.1.1))
 
 items_every : Every items_ (IsView view_items)
 unfolding all_productions
-items_every = every_made λ p. every_one_or_more item_every λ xs. seen_by (roll-Items (record { at = p; first = xs.0; rest = xs.1 })) (eq.view-Items p xs.0 xs.1)
+items_every = every_made λ p. every_one_or_more item_every λ xs. seen_by (roll-Items (record {
+  at = p;
+  first = xs.0;
+  rest = xs.1;
+})) (eq.view-Items p xs.0 xs.1)
 
 -- What stands before a program's statements.
 
@@ -202,12 +241,17 @@ init_value_every =
 init_every : Every init_ (IsView view_init)
 unfolding all_productions
 init_every =
-    every_made λ p. every_both (every_name λ n. every_both (every_maybe {view = view_with_minus} (every_inside {view = view_with_minus} (λ x v. v) λ x. seen x) λ o.
+    every_made λ p. every_both (every_name λ n. every_both
+    (every_maybe {view = view_with_minus} (every_inside {view = view_with_minus} (λ x v. v) λ x. seen x) λ o.
     every_past (every_view init_value_every λ v. seen (record { at = p; name = n; index = o; value = v }))))
 
 def_every : Every def_ (IsView view_def)
 unfolding all_productions
-def_every = every_made λ p. every_both (every_name λ n. every_past (every_view pred_every λ e. seen (record { at = p; name = n; of = e })))
+def_every = every_made λ p. every_both (every_name λ n. every_past (every_view pred_every λ e. seen (record {
+  at = p;
+  name = n;
+  of = e;
+})))
 
 plain_every : Every plain_ (IsView view_plain)
 unfolding all_productions
@@ -220,11 +264,16 @@ var_type_every : Every var_type_ (IsView view_var_type)
 unfolding all_productions
 var_type_every =
     every_or (every_made λ p. every_view plain_every λ t. seen (VarType.Plain p t))
-    (every_made λ p. every_past (every_both (every_view range_every λ r. every_past (every_view plain_every λ t. seen (VarType.Array p r t)))))
+    (every_made λ p. every_past
+    (every_both (every_view range_every λ r. every_past (every_view plain_every λ t. seen (VarType.Array p r t)))))
 
 var_every : Every var_ (IsView view_var)
 unfolding all_productions
-var_every = every_made λ p. every_both (every_name λ n. every_past (every_view var_type_every λ t. seen (record { at = p; name = n; kind = t })))
+var_every = every_made λ p. every_both (every_name λ n. every_past (every_view var_type_every λ t. seen (record {
+  at = p;
+  name = n;
+  kind = t;
+})))
 
 -- Programs.
 
@@ -254,25 +303,38 @@ indices_every = every_inside (λ x v. v) λ x. seen x
 ref_every : Every ref_ (IsView view_ref)
 unfolding all_productions
 ref_every =
-    every_made λ p. every_both (every_name λ n. every_both (every_maybe (every_past name_every) λ s. every_maybe indices_every λ o.
+    every_made λ p. every_both (every_name λ n. every_both
+    (every_maybe (every_past name_every) λ s. every_maybe indices_every λ o.
     seen (record { at = p; name = n; step = s; args = o })))
 
 inst_every : Every inst_ (IsView view_inst)
 unfolding all_productions
-inst_every = every_made λ p. every_both (every_name λ n. every_maybe indices_every λ o. seen (record { at = p; label = n; indices = o }))
+inst_every = every_made λ p. every_both (every_name λ n. every_maybe indices_every λ o. seen (record {
+  at = p;
+  label = n;
+  indices = o;
+}))
 
 other_term_every : Every other_term_ (IsView view_term)
 unfolding all_productions
 other_term_every =
-    every_or (every_made λ p. every_past (every_inside {view = view_both view_expr view_expr} (λ x v. v) λ x. seen_by (term.Imply p x.0 x.1) (eq.view-Imply p x.0 x.1)))
+    every_or (every_made λ p. every_past
+    (every_inside {view = view_both view_expr view_expr} (λ x v. v) λ x. seen_by (term.Imply p x.0 x.1)
+    (eq.view-Imply p x.0 x.1)))
     (every_or (every_made λ p. every_past (every_view ref_every λ r. seen_by (term.From p r) (eq.view-From p r)))
     (every_or (every_made λ p. every_both (every_one_of reserved (Word.Trans ∷ Word.Either ∷ []) λ w.
-    every_inside {view = view_both view_term view_term} (λ x v. v) λ x. seen_by (term.Pair p w x.0 x.1) (eq.view-Pair p w x.0 x.1)))
+    every_inside {view = view_both view_term view_term} (λ x v. v) λ x. seen_by (term.Pair p w x.0 x.1)
+    (eq.view-Pair p w x.0 x.1)))
     (every_or (every_made λ p. every_past (every_inside {view = view_over view_term} (λ x v. v) λ x.
     seen_by (term.Exists p x.0 x.1.0 x.1.1) (eq.view-Exists p x.0 x.1.0 x.1.1)))
-    (every_or (every_made λ p. every_past (every_inside {view = view_over (view_both view_expr (view_both view_expr (view_both view_expr view_term)))} (λ x v. v) λ x.
-    seen_by (term.Induct p x.0 x.1.0 x.1.1.0 x.1.1.1.0 x.1.1.1.1.0 x.1.1.1.1.1) (eq.view-Induct p x.0 x.1.0 x.1.1.0 x.1.1.1.0 x.1.1.1.1.0 x.1.1.1.1.1)))
-    (every_made λ p. every_past (every_inside {view = view_both view_term view_ref} (λ x v. v) λ x. seen_by (term.Psp p x.0 x.1) (eq.view-Psp p x.0 x.1)))))))
+    (every_or (every_made λ p. every_past
+    (every_inside {view = view_over (view_both view_expr (view_both view_expr (view_both view_expr view_term)))}
+    (λ x v. v) λ x.
+    seen_by (term.Induct p x.0 x.1.0 x.1.1.0 x.1.1.1.0 x.1.1.1.1.0 x.1.1.1.1.1)
+    (eq.view-Induct p x.0 x.1.0 x.1.1.0 x.1.1.1.0 x.1.1.1.1.0 x.1.1.1.1.1)))
+    (every_made λ p. every_past
+    (every_inside {view = view_both view_term view_ref} (λ x v. v) λ x. seen_by (term.Psp p x.0 x.1)
+    (eq.view-Psp p x.0 x.1)))))))
 
 weaken_parts_every : Every (in_parentheses Contents.weaken) (IsView view_weaken)
 weaken_parts_every = every_inside (λ x v. v) λ x. seen x
@@ -281,19 +343,25 @@ term_every : Every term_ (IsView view_term)
 unfolding all_productions
 term_every =
     every_or other_term_every
-    (every_made λ p. every_past (every_view weaken_parts_every λ x. seen_by (term.Weaken p x.0 x.1.0 x.1.1) (eq.view-Weaken p x.0 x.1.0 x.1.1)))
+    (every_made λ p. every_past
+    (every_view weaken_parts_every λ x. seen_by (term.Weaken p x.0 x.1.0 x.1.1) (eq.view-Weaken p x.0 x.1.0 x.1.1)))
 
 -- Proofs.
 
 term_rule_seen : (p : ℕ) (x : Expr × (Expr × Term)) → IsView view_rule (make_weaken p (right (view_weaken x)))
-term_rule_seen p x = seen_by (Rule.Term p (term.Weaken p x.0 x.1.0 x.1.1)) (ap (λ t. node (kind Kind.rule_term) p t) (eq.view-Weaken p x.0 x.1.0 x.1.1))
+term_rule_seen p x = seen_by (Rule.Term p (term.Weaken p x.0 x.1.0 x.1.1))
+    (ap (λ t. node (kind Kind.rule_term) p t) (eq.view-Weaken p x.0 x.1.0 x.1.1))
 
 rule_every : Every rule_ (IsView view_rule)
 unfolding all_productions
 rule_every =
     every_or (every_made λ p. every_past (every_maybe (every_past inst_every) λ i. seen (Rule.Text p i)))
-    (every_or (every_named λ p. every_past (every_either (every_view ref_every λ r. seen (Rule.Weaken p r)) (every_view weaken_parts_every λ x. term_rule_seen p x)))
-    (every_or (every_made λ p. every_both (every_one_of reserved (Word.Conj ∷ Word.Simpleconj ∷ Word.Disj ∷ Word.Simpledisj ∷ Word.Cancel ∷ Word.Union ∷ []) λ w.
+    (every_or (every_named λ p. every_past
+    (every_either (every_view ref_every λ r. seen (Rule.Weaken p r))
+    (every_view weaken_parts_every λ x. term_rule_seen p x)))
+    (every_or (every_made λ p. every_both
+    (every_one_of reserved (Word.Conj ∷ Word.Simpleconj ∷ Word.Disj ∷ Word.Simpledisj ∷ Word.Cancel ∷ Word.Union ∷
+    []) λ w.
     every_both (every_view ref_every λ r. every_view ref_every λ s. seen (Rule.Pair p w r s))))
     (every_made λ p. every_view other_term_every λ t. seen (Rule.Term p t))))
 
@@ -303,12 +371,18 @@ claim_every =
     every_or (every_made λ p. every_fixed (seen (Claim.Defined p)))
     (every_or (every_made λ p. every_past (every_view pred_every λ e. seen (Claim.Invariant p e)))
     (every_or (every_made λ p. every_past (every_view pred_every λ e. seen (Claim.Stable p e)))
-    (every_made λ p. every_both (every_view pred_every λ e. every_both (every_one_of reserved (Word.Unless ∷ Word.Ensures ∷ Word.Leadsto ∷ []) λ w.
+    (every_made λ p. every_both
+    (every_view pred_every λ e. every_both
+    (every_one_of reserved (Word.Unless ∷ Word.Ensures ∷ Word.Leadsto ∷ []) λ w.
     every_view pred_every λ f. seen (Claim.Between p e w f))))))
 
 param_every : Every param_ (IsView view_param)
 unfolding all_productions
-param_every = every_made λ p. every_both (every_name λ n. every_past (every_view range_every λ r. seen (record { at = p; name = n; range = r })))
+param_every = every_made λ p. every_both (every_name λ n. every_past (every_view range_every λ r. seen (record {
+  at = p;
+  name = n;
+  range = r;
+})))
 
 params_every : Every params_ (IsView (view_some view_param))
 unfolding all_productions
@@ -317,14 +391,21 @@ params_every = every_one_or_more param_every λ xs. seen xs
 step_every : Every step_ (IsView view_step)
 unfolding all_productions
 step_every =
-    every_made λ p. every_both (every_name λ n. every_both (every_maybe {view = view_some view_param} (every_inside {view = view_some view_param} (λ x v. v) λ x. seen x) λ ps.
+    every_made λ p. every_both (every_name λ n. every_both
+    (every_maybe {view = view_some view_param} (every_inside {view = view_some view_param} (λ x v. v) λ x. seen x)
+    λ ps.
     every_past (every_both (every_view claim_every λ c. every_past (every_both (every_view rule_every λ r.
     every_up_to (every_maybe {view = view_some view_ref} (every_past (every_one_or_more ref_every λ xs. seen xs)) λ u.
     seen (record { at = p; name = n; params = ps; claim = c; rule = r; using = u }))))))))
 
 proof_every : Every proof_ (IsView view_proof)
 unfolding all_productions
-proof_every = every_made λ p. every_past (every_both (every_name λ n. every_up_to (every_many step_every λ xs. seen (record { at = p; program = n; steps = xs }))))
+proof_every = every_made λ p. every_past
+    (every_both (every_name λ n. every_up_to (every_many step_every λ xs. seen (record {
+      at = p;
+      program = n;
+      steps = xs;
+    }))))
 
 -- Documents.
 
@@ -338,9 +419,12 @@ node_every : Every node_ (IsView view_node)
 unfolding all_productions
 node_every =
     every_or (every_made λ p. every_past (every_number λ n. seen (Node.Case p n)))
-    (every_or (every_made λ p. every_past (every_both (every_number λ v. every_both (every_flag λ m. every_number λ b. seen (Node.Split p v m b)))))
+    (every_or (every_made λ p. every_past
+    (every_both (every_number λ v. every_both (every_flag λ m. every_number λ b. seen (Node.Split p v m b)))))
     (every_or (every_made λ p. every_past (every_many multiple_every λ xs. seen (Node.Sum p xs)))
-    (every_made λ p. every_past (every_both (every_flag λ m. every_both (every_number λ d. every_many multiple_every λ xs. seen (Node.Round p m d xs)))))))
+    (every_made λ p. every_past
+    (every_both (every_flag λ m. every_both
+    (every_number λ d. every_many multiple_every λ xs. seen (Node.Round p m d xs)))))))
 
 nodes_every : Every (prefix_tree subtrees node_) (IsView view_nodes)
 nodes_every = every_prefix_tree node_every λ xs. seen xs
@@ -352,18 +436,28 @@ certificate_every = every_past (every_up_to nodes_every)
 certificates_every : Every certificates_ (IsView view_certificates)
 unfolding all_productions
 certificates_every =
-    every_made λ p. every_past (every_up_to (every_numbered view_certificate (λ k q x. record { at = q; number = k; first = x.0; rest = x.1 }) (λ k q x. refl) certificate_every λ cs. seen (record { at = p; items = cs })))
+    every_made λ p. every_past (every_up_to (every_numbered view_certificate (λ k q x. record {
+      at = q;
+      number = k;
+      first = x.0;
+      rest = x.1;
+    }) (λ k q x. refl) certificate_every λ cs. seen (record { at = p; items = cs })))
 
 schedule_every : Every schedule_ (IsView view_schedule)
 unfolding all_productions
 schedule_every =
     every_made λ p. every_past (every_both (every_name λ n. every_past (every_up_to
-    (every_maybe {view = view_some view_inst} (every_one_or_more inst_every λ xs. seen xs) λ o. seen (record { at = p; program = n; choices = o })))))
+    (every_maybe {view = view_some view_inst} (every_one_or_more inst_every λ xs. seen xs) λ o. seen (record {
+      at = p;
+      program = n;
+      choices = o;
+    })))))
 
 part_every : Every part_ (IsView view_part)
 unfolding all_productions
 part_every =
-    every_or (every_made λ p. every_view program_every λ x. seen (Part.Program p x)) (every_made λ p. every_view proof_every λ x. seen (Part.Proof p x))
+    every_or (every_made λ p. every_view program_every λ x. seen (Part.Program p x))
+    (every_made λ p. every_view proof_every λ x. seen (Part.Proof p x))
 
 document_every : Every document_ (IsView view)
 unfolding all_productions
@@ -380,7 +474,8 @@ Closed [] (c ∷ cs) = ⊥
 Closed (e ∷ es) [] = ⊥
 Closed (e ∷ es) (c ∷ cs) = Every e (Viewed c) × Closed es cs
 
-closed_at : (es : List Ebnf) (cs : List Contents) → Closed es cs → (k : ℕ) → Every (at_number es k) (Viewed (contents_at cs k))
+closed_at : (es : List Ebnf) (cs : List Contents) → Closed es cs → (k : ℕ) →
+    Every (at_number es k) (Viewed (contents_at cs k))
 closed_at [] [] closed k = pred_every
 closed_at [] (c ∷ cs) closed k = absurd closed
 closed_at (e ∷ es) [] closed k = absurd closed
@@ -412,8 +507,19 @@ all_closed = (
                     (
                       over_every term_every,
                       (
-                        over_every (every_both_views pred_every (every_past (every_both_views pred_every (every_past (every_both_views pred_every (every_past term_every)))))),
-                        (every_both_views term_every (every_past ref_every), (every_both_views pred_every (every_past (every_both_views pred_every (every_past term_every))), tt)),
+                        over_every
+                            (every_both_views pred_every
+                            (every_past
+                            (every_both_views pred_every
+                            (every_past (every_both_views pred_every (every_past term_every)))))),
+                        (
+                          every_both_views term_every (every_past ref_every),
+                          (
+                            every_both_views pred_every
+                                (every_past (every_both_views pred_every (every_past term_every))),
+                            tt,
+                          ),
+                        ),
                       ),
                     ),
                   ),
@@ -429,4 +535,5 @@ all_closed = (
 
 -- each tree is the view of a document
 pub each_tree_ : (x : Tree) (ts : List Terminal) → Derives grammar document_ x ts → IsView view x
-each_tree_ x ts d = document_every.holds x (made_so grammar viewed (λ k. (closed_at bodies all_contents all_closed k).holds) d)
+each_tree_ x ts d = document_every.holds x
+    (made_so grammar viewed (λ k. (closed_at bodies all_contents all_closed k).holds) d)

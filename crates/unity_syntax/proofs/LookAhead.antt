@@ -11,14 +11,24 @@ Each test [] = Unit {0}
 Each test (e ∷ es) = IsTrue (test e) × Each test es
 
 -- what holds of each form of a list, and of an expression, holds of the form at each number
-each_number : (test : Ebnf → Bool) (es : List Ebnf) → Each test es → IsTrue (test pred_) → (k : ℕ) → IsTrue (test (at_number es k))
+each_number : (test : Ebnf → Bool) (es : List Ebnf) → Each test es → IsTrue (test pred_) → (k : ℕ) →
+    IsTrue (test (at_number es k))
 each_number test [] each other k = other
 each_number test (e ∷ es) each other zero = each.0
 each_number test (e ∷ es) each other (suc k) = each_number test es each.1 other k
 
 all_good : Each (good grammar) bodies
 unfolding all_productions
-all_good = (refl, (refl, (refl, (refl, (refl, (refl, (refl, (refl, (refl, (refl, (refl, (refl, (refl, (refl, tt))))))))))))))
+all_good = (
+  refl,
+  (
+    refl,
+    (
+      refl,
+      (refl, (refl, (refl, (refl, (refl, (refl, (refl, (refl, (refl, (refl, (refl, tt))))))))))),
+    ),
+  ),
+)
 
 good_pred : IsTrue (good grammar pred_)
 unfolding all_productions
@@ -26,7 +36,16 @@ good_pred = refl
 
 all_plain : Each plain bodies
 unfolding all_productions
-all_plain = (refl, (refl, (refl, (refl, (refl, (refl, (refl, (refl, (refl, (refl, (refl, (refl, (refl, (refl, tt))))))))))))))
+all_plain = (
+  refl,
+  (
+    refl,
+    (
+      refl,
+      (refl, (refl, (refl, (refl, (refl, (refl, (refl, (refl, (refl, (refl, (refl, tt))))))))))),
+    ),
+  ),
+)
 
 plain_pred : IsTrue (plain pred_)
 unfolding all_productions
@@ -34,7 +53,16 @@ plain_pred = refl
 
 all_paired : Each (paired grammar) bodies
 unfolding all_productions
-all_paired = (refl, (refl, (refl, (refl, (refl, (refl, (refl, (refl, (refl, (refl, (refl, (refl, (refl, (refl, tt))))))))))))))
+all_paired = (
+  refl,
+  (
+    refl,
+    (
+      refl,
+      (refl, (refl, (refl, (refl, (refl, (refl, (refl, (refl, (refl, (refl, (refl, tt))))))))))),
+    ),
+  ),
+)
 
 paired_pred : IsTrue (paired grammar pred_)
 unfolding all_productions

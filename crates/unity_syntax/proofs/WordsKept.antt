@@ -103,12 +103,14 @@ range_keeps : KeepsWords range_
 unfolding all_productions
 range_keeps = made_ (end_keeps, past_ end_keeps)
 
-over_range_ : {A : Type 0} → A → ((t : Terminal) → IsSublist (spelled (t ∷ [])) (spelled (t ∷ []))) × ((TokenDropped × (KeepsWords range_ × ((TokenDropped × A) × ActionKeeps second))) × ActionKeeps second)
+over_range_ : {A : Type 0} → A → ((t : Terminal) → IsSublist (spelled (t ∷ [])) (spelled (t ∷ []))) ×
+    ((TokenDropped × (KeepsWords range_ × ((TokenDropped × A) × ActionKeeps second))) × ActionKeeps second)
 over_range_ k = (kept, past_ (range_keeps, past_ k))
 
 atom_keeps : KeepsWords atom_
 unfolding all_productions
-atom_keeps = or_else (made_ dropped) (or_else (made_ dropped) (or_else (made_ dropped) (or_else (made_ (kept, tt)) (tt, parentheses_kept))))
+atom_keeps = or_else (made_ dropped)
+    (or_else (made_ dropped) (or_else (made_ dropped) (or_else (made_ (kept, tt)) (tt, parentheses_kept))))
 
 product_keeps : KeepsWords product_
 unfolding all_productions
@@ -128,7 +130,10 @@ unit_keeps = ((dropped, compare_keeps), unit_kept)
 
 joined_keeps : KeepsWords joined_
 unfolding all_productions
-joined_keeps = ((unit_keeps, (keeps_repeated and_ (past_ unit_keeps), keeps_repeated or_ (past_ unit_keeps))), joined_kept)
+joined_keeps = (
+  (unit_keeps, (keeps_repeated and_ (past_ unit_keeps), keeps_repeated or_ (past_ unit_keeps))),
+  joined_kept,
+)
 
 pred_keeps : KeepsWords pred_
 unfolding all_productions
@@ -168,7 +173,14 @@ items_keep = made_ (one_or_more_ item_keeps)
 
 init_keeps : KeepsWords init_
 unfolding all_productions
-init_keeps = made_ (kept, (tt, past_ (or_else (made_ (dropped, dropped)) (or_else (made_ kept) (or_else (made_ dropped) (made_ dropped))))))
+init_keeps = made_ (
+  kept,
+  (
+    tt,
+    past_
+        (or_else (made_ (dropped, dropped)) (or_else (made_ kept) (or_else (made_ dropped) (made_ dropped)))),
+  ),
+)
 
 def_keeps : KeepsWords def_
 unfolding all_productions
@@ -184,7 +196,10 @@ var_keeps = made_ (kept, past_ (or_else (made_ plain_keeps) (made_ (past_ (range
 
 plain_program_keeps : KeepsWords plain_program_
 unfolding all_productions
-plain_program_keeps = (past_ var_keeps, (past_ def_keeps, (made_ (past_ pred_keeps), (past_ (one_or_more_ init_keeps), past_ (up_to_ items_keep)))))
+plain_program_keeps = (
+  past_ var_keeps,
+  (past_ def_keeps, (made_ (past_ pred_keeps), (past_ (one_or_more_ init_keeps), past_ (up_to_ items_keep)))),
+)
 
 program_keeps : KeepsWords program_
 unfolding all_productions
@@ -217,7 +232,8 @@ rule_keeps =
 claim_keeps : KeepsWords claim_
 unfolding all_productions
 claim_keeps =
-    or_else (made_ dropped) (or_else (made_ (past_ pred_keeps)) (or_else (made_ (past_ pred_keeps)) (made_ (pred_keeps, (dropped, pred_keeps)))))
+    or_else (made_ dropped) (or_else (made_ (past_ pred_keeps))
+    (or_else (made_ (past_ pred_keeps)) (made_ (pred_keeps, (dropped, pred_keeps)))))
 
 param_keeps : KeepsWords param_
 unfolding all_productions

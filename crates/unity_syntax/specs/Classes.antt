@@ -1,5 +1,5 @@
--- The tokens of a text as the grammar sees them. The class of a token is a number: one for all names, one for all numbers, and
--- one for each reserved word and each symbol, which follow in the order in which the language lists them.
+-- The tokens of a text as the grammar sees them. The class of a token is a number: one for all names, one for all
+-- numbers, and one for each reserved word and each symbol, which follow in the order in which the language lists them.
 use Rattle.std.specs.Prelude.{ℕ, List, [], map, slice_range}
 use Rattle.case_tables.specs.declared.word_table.Word.{Word}
 use Rattle.case_tables.specs.declared.symbol_table.Symbol.{Symbol}
@@ -135,7 +135,12 @@ text_of bytes start end (TokenKind.Symbol s) = []
 -- a token of a text
 abbrev pub terminal : List ℕ → Token → Terminal
 terminal bytes token =
-    record { class = class_of token.kind; place = token.start; value = value_of token.kind; text = text_of bytes token.start token.end token.kind }
+    record {
+      class = class_of token.kind;
+      place = token.start;
+      value = value_of token.kind;
+      text = text_of bytes token.start token.end token.kind;
+    }
 
 -- the tokens of a text
 abbrev pub terminals : List ℕ → List Token → List Terminal

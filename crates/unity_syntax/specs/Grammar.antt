@@ -1,8 +1,8 @@
 -- The grammar of the language, as it is written in docs/LANGUAGE.md.
 --
--- Above each production stands its line. A production stands below those that it names, so that the order is that of the page
--- from its end to its beginning, except where expressions, ranges and references are needed earlier. What stands between
--- brackets is a production of its own, which the table `bodies` lists.
+-- Above each production stands its line. A production stands below those that it names, so that the order is that of
+-- the page from its end to its beginning, except where expressions, ranges and references are needed earlier. What
+-- stands between brackets is a production of its own, which the table `bodies` lists.
 --
 -- A token that only separates is dropped, so that a node's parts are those of the typed tree, in their order.
 use Rattle.std.specs.Prelude.{ℕ, zero, suc, false, ◌||◌, ◌==◌, if◌then◌else◌, List, [], ◌∷◌, map}
@@ -126,7 +126,8 @@ sum_ = named make_sum (both minus_ (both product_ (many (both plus_or_minus_ pro
 
 -- "=" | "/=" | "<" | "<=" | ">" | ">="
 abbrev pub relation_ : Ebnf
-relation_ = one_of (map symbol (Symbol.Equal ∷ Symbol.NotEqual ∷ below ∷ Symbol.AtMost ∷ Symbol.Above ∷ Symbol.AtLeast ∷ []))
+relation_ = one_of (map symbol
+    (Symbol.Equal ∷ Symbol.NotEqual ∷ below ∷ Symbol.AtMost ∷ Symbol.Above ∷ Symbol.AtLeast ∷ []))
 
 -- one sum, or a comparison
 abbrev pub make_compare : ℕ → Tree → Tree
@@ -179,7 +180,8 @@ pred_ = named make_pred (both joined_ (maybe (past (symbol Symbol.Implies) joine
 
 -- ( "all" | "any" | "sum" ) word ":" range "::" pred
 unfoldable pub quantified_ : Ebnf
-quantified_ = both (one_of (map reserved (Word.All ∷ Word.Any ∷ Word.Sum ∷ []))) (over_range (symbol Symbol.DoubleColon) pred_)
+quantified_ = both (one_of (map reserved (Word.All ∷ Word.Any ∷ Word.Sum ∷ [])))
+    (over_range (symbol Symbol.DoubleColon) pred_)
 
 -- what stands in parentheses
 unfoldable pub parentheses_ : Ebnf
@@ -197,7 +199,8 @@ choice_ = both values_ (past (reserved Word.If) pred_)
 
 -- alts = values [ "if" pred { "~" values "if" pred } ]
 unfoldable pub alts_ : Ebnf
-alts_ = made Kind.alts (both values_ (maybe (past (reserved Word.If) (both pred_ (many (past (symbol Symbol.Tilde) choice_))))))
+alts_ = made Kind.alts (both values_
+    (maybe (past (reserved Word.If) (both pred_ (many (past (symbol Symbol.Tilde) choice_))))))
 
 -- target = word [ "[" pred "]" ]
 unfoldable pub target_ : Ebnf
@@ -206,8 +209,10 @@ target_ = made Kind.target (both name_ (maybe (in_brackets Contents.index)))
 -- comp = target { "," target } ":=" alts | "<||" word ":" range "::" assign "|>"
 unfoldable pub comp_ : Ebnf
 comp_ =
-    made Kind.component_set (both target_ (both (many (past (symbol Symbol.Comma) target_)) (past (symbol Symbol.Assign) alts_)))
-    or made Kind.component_quantified (inside (symbol Symbol.OpenParallel) (contents Contents.assign) (symbol Symbol.CloseQuantified))
+    made Kind.component_set (both target_
+    (both (many (past (symbol Symbol.Comma) target_)) (past (symbol Symbol.Assign) alts_)))
+    or made Kind.component_quantified
+    (inside (symbol Symbol.OpenParallel) (contents Contents.assign) (symbol Symbol.CloseQuantified))
 
 -- assign = comp { "||" comp }
 unfoldable pub assign_ : Ebnf
@@ -221,7 +226,8 @@ quantified_assign_ = over_range (symbol Symbol.DoubleColon) assign_
 unfoldable pub item_ : Ebnf
 item_ =
     made Kind.item_statement (both name_ (past (symbol Symbol.Colon) assign_))
-    or made Kind.item_quantified (inside (symbol Symbol.OpenChoice) (contents Contents.items) (symbol Symbol.CloseQuantified))
+    or made Kind.item_quantified
+    (inside (symbol Symbol.OpenChoice) (contents Contents.items) (symbol Symbol.CloseQuantified))
 
 -- items = item { "[]" item }
 unfoldable pub items_ : Ebnf
@@ -247,7 +253,8 @@ init_value_ =
 
 -- init = word [ "[" [ "-" ] number "]" ] "=" ( [ "-" ] number | word | "true" | "false" )
 unfoldable pub init_ : Ebnf
-init_ = made Kind.init (both name_ (both (maybe (in_brackets Contents.start_index)) (past (symbol Symbol.Equal) init_value_)))
+init_ = made Kind.init (both name_
+    (both (maybe (in_brackets Contents.start_index)) (past (symbol Symbol.Equal) init_value_)))
 
 -- def = word "=" pred
 unfoldable pub def_ : Ebnf
@@ -298,7 +305,8 @@ start_ = maybe (past (reserved Word.Start) (one_or_more (symbol Symbol.Comma) in
 
 -- [ "declare" { var } ] [ "always" { def } ] [ "initially" pred ] [ "start" init { "," init } ] "assign" items "end"
 unfoldable pub plain_program_ : Ebnf
-plain_program_ = both declare_ (both always_ (both initially_ (both start_ (past (reserved Word.Assign) (up_to items_ (reserved Word.End))))))
+plain_program_ = both declare_ (both always_
+    (both initially_ (both start_ (past (reserved Word.Assign) (up_to items_ (reserved Word.End))))))
 
 -- Both alternatives begin with "program" and a word, which are read first.
 abbrev pub make_program : ℕ → Tree → Tree
@@ -386,7 +394,8 @@ make_weaken place _ = unit
 
 -- pairrule = "conj" | "simpleconj" | "disj" | "simpledisj" | "cancel" | "union"
 abbrev pub pairrule_ : Ebnf
-pairrule_ = one_of (map reserved (Word.Conj ∷ Word.Simpleconj ∷ Word.Disj ∷ Word.Simpledisj ∷ Word.Cancel ∷ Word.Union ∷ []))
+pairrule_ = one_of (map reserved
+    (Word.Conj ∷ Word.Simpleconj ∷ Word.Disj ∷ Word.Simpledisj ∷ Word.Cancel ∷ Word.Union ∷ []))
 
 -- rule = "text" [ "with" inst ] | "weaken" ref | pairrule ref ref | term
 unfoldable pub rule_ : Ebnf
@@ -402,7 +411,8 @@ claim_ =
     made Kind.claim_defined (fixed (reserved Word.Defined))
     or made Kind.claim_invariant (past (reserved Word.Invariant) pred_)
     or made Kind.claim_stable (past (reserved Word.Stable) pred_)
-    or made Kind.claim_between (both pred_ (both (one_of (map reserved (Word.Unless ∷ Word.Ensures ∷ Word.Leadsto ∷ []))) pred_))
+    or made Kind.claim_between (both pred_
+    (both (one_of (map reserved (Word.Unless ∷ Word.Ensures ∷ Word.Leadsto ∷ []))) pred_))
 
 -- param = word ":" range
 unfoldable pub param_ : Ebnf
@@ -441,7 +451,8 @@ node_ =
 
 -- how many subtrees follow a node of the kind
 abbrev pub subtrees_of : ℕ → ℕ
-subtrees_of k = if k == kind Kind.node_case || k == kind Kind.node_split then 2 else (if k == kind Kind.node_round then 1 else 0)
+subtrees_of k =
+    if k == kind Kind.node_case || k == kind Kind.node_split then 2 else (if k == kind Kind.node_round then 1 else 0)
 
 -- how many subtrees follow a node
 abbrev pub subtrees : Tree → ℕ
@@ -454,12 +465,14 @@ certificate_ = past (symbol Symbol.Colon) (up_to (prefix_tree subtrees node_) (s
 
 -- certificates = "certificates" { number ":" node { node } ";" } "end", where the numbers count up from 1
 unfoldable pub certificates_ : Ebnf
-certificates_ = made Kind.certificates (past (reserved Word.Certificates) (up_to (numbered 1 number_class certificate_) (reserved Word.End)))
+certificates_ = made Kind.certificates
+    (past (reserved Word.Certificates) (up_to (numbered 1 number_class certificate_) (reserved Word.End)))
 
 -- schedule = "schedule" word ":" [ inst { "," inst } ] "end"
 unfoldable pub schedule_ : Ebnf
 schedule_ = made Kind.schedule (past (reserved Word.Schedule)
-    (both name_ (past (symbol Symbol.Colon) (up_to (maybe (one_or_more (symbol Symbol.Comma) inst_)) (reserved Word.End)))))
+    (both name_ (past (symbol Symbol.Colon)
+    (up_to (maybe (one_or_more (symbol Symbol.Comma) inst_)) (reserved Word.End)))))
 
 -- program | proof
 unfoldable pub part_ : Ebnf
@@ -468,7 +481,8 @@ part_ = made Kind.part_program program_ or made Kind.part_proof proof_
 -- document = "unity" number { program | proof } [ schedule ] [ certificates ], where the number is 1
 unfoldable pub document_ : Ebnf
 document_ = made Kind.document (past (reserved Word.Unity)
-    (both (made Kind.version (version number_class 1)) (both (many part_) (both (maybe schedule_) (maybe certificates_)))))
+    (both (made Kind.version (version number_class 1))
+    (both (many part_) (both (maybe schedule_) (maybe certificates_)))))
 
 -- the form with a number in a list, and an expression past its end
 abbrev pub at_number : List Ebnf → ℕ → Ebnf
@@ -487,7 +501,9 @@ bodies =
 abbrev pub grammar : Grammar
 grammar = record {
   body = at_number bodies;
-  opening = map symbol (Symbol.OpenParenthesis ∷ Symbol.OpenBracket ∷ Symbol.OpenBrace ∷ Symbol.OpenParallel ∷ Symbol.OpenChoice ∷ []);
-  closing = map symbol (Symbol.CloseParenthesis ∷ Symbol.CloseBracket ∷ Symbol.CloseBrace ∷ Symbol.CloseQuantified ∷ []);
+  opening = map symbol
+      (Symbol.OpenParenthesis ∷ Symbol.OpenBracket ∷ Symbol.OpenBrace ∷ Symbol.OpenParallel ∷ Symbol.OpenChoice ∷ []);
+  closing = map symbol
+      (Symbol.CloseParenthesis ∷ Symbol.CloseBracket ∷ Symbol.CloseBrace ∷ Symbol.CloseQuantified ∷ []);
   any_version = false;
 }

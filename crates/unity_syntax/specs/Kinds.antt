@@ -6,9 +6,11 @@ pub data Kind : Type 0 where
   -- ends of ranges, and ranges
   end_number end_word range : Kind
   -- expressions
-  expr_implies expr_and expr_or expr_not expr_compare expr_sum expr_product expr_number expr_true expr_false expr_word expr_brackets expr_quantified : Kind
+  expr_implies expr_and expr_or expr_not expr_compare expr_sum expr_product expr_number expr_true expr_false expr_word
+      expr_brackets expr_quantified : Kind
   -- what stands before a program's statements
-  plain_boolean plain_range plain_words type_plain type_array var def init_number init_word init_true init_false init : Kind
+  plain_boolean plain_range plain_words type_plain type_array var def init_number init_word init_true
+      init_false init : Kind
   -- statements
   target values alts component_set component_quantified assign item_statement item_quantified items : Kind
   -- programs
@@ -16,7 +18,8 @@ pub data Kind : Type 0 where
   -- statements' names, references and terms
   inst ref term_imply term_from term_pair term_exists term_induct term_psp term_weaken : Kind
   -- proofs
-  param claim_defined claim_invariant claim_stable claim_between rule_text rule_weaken rule_pair rule_term step proof : Kind
+  param claim_defined claim_invariant claim_stable claim_between rule_text rule_weaken rule_pair rule_term
+      step proof : Kind
   -- certificates
   pair node_case node_split node_sum node_round certificates : Kind
   -- documents

@@ -1,5 +1,5 @@
--- The tree that the grammar reads a typed tree's text as. Each part of the typed tree goes into it: the kind of a node says
--- which variant it is, its place is the part's `at`, and its parts are the fields in their order.
+-- The tree that the grammar reads a typed tree's text as. Each part of the typed tree goes into it: the kind of a node
+-- says which variant it is, its place is the part's `at`, and its parts are the fields in their order.
 use Rattle.std.specs.Prelude.{ℕ, Bool, true, false, List, map, Option, None, Some}
 use Rattle.case_tables.specs.declared.symbol_table.Symbol.{Symbol}
 use Rattle.ebnf.specs.Ebnf.{Tree, unit, leaf, numeral, choice, pair, none, some, more, node}
@@ -80,7 +80,8 @@ view_number n = numeral n
 -- an end of a range
 abbrev pub view_end : End → Tree
 view_end (End.Number at minus number) = node (kind Kind.end_number) at (pair (view_flag minus) (view_number number))
-view_end (End.Word at name offset) = node (kind Kind.end_word) at (pair (view_name name) (view_option (view_signed view_number) offset))
+view_end (End.Word at name offset) =
+    node (kind Kind.end_word) at (pair (view_name name) (view_option (view_signed view_number) offset))
 
 -- a range
 abbrev pub view_range : Range → Tree
@@ -98,16 +99,20 @@ view_expr_step (Expr-F.Implies at l r) = node (kind Kind.expr_implies) at (pair 
 view_expr_step (Expr-F.And at x xs) = node (kind Kind.expr_and) at (pair x (list xs))
 view_expr_step (Expr-F.Or at x xs) = node (kind Kind.expr_or) at (pair x (list xs))
 view_expr_step (Expr-F.Not at x) = node (kind Kind.expr_not) at x
-view_expr_step (Expr-F.Compare at l relation r) = node (kind Kind.expr_compare) at (pair l (pair (choice (symbol relation)) r))
-view_expr_step (Expr-F.Sum at minus x xs) = node (kind Kind.expr_sum) at (pair (view_flag minus) (pair x (view_list (view_signed tree_itself) xs)))
+view_expr_step (Expr-F.Compare at l relation r) =
+    node (kind Kind.expr_compare) at (pair l (pair (choice (symbol relation)) r))
+view_expr_step (Expr-F.Sum at minus x xs) =
+    node (kind Kind.expr_sum) at (pair (view_flag minus) (pair x (view_list (view_signed tree_itself) xs)))
 view_expr_step (Expr-F.Product at x xs) = node (kind Kind.expr_product) at (pair x (list xs))
 view_expr_step (Expr-F.Number at number) = node (kind Kind.expr_number) at (view_number number)
 view_expr_step (Expr-F.True at) = node (kind Kind.expr_true) at unit
 view_expr_step (Expr-F.False at) = node (kind Kind.expr_false) at unit
-view_expr_step (Expr-F.Word at name index) = node (kind Kind.expr_word) at (pair (view_name name) (view_option tree_itself index))
+view_expr_step (Expr-F.Word at name index) =
+    node (kind Kind.expr_word) at (pair (view_name name) (view_option tree_itself index))
 view_expr_step (Expr-F.Brackets at x) = node (kind Kind.expr_brackets) at x
 view_expr_step (Expr-F.Quantified at which name range x) =
-    node (kind Kind.expr_quantified) at (pair (choice (reserved which)) (pair (view_name name) (pair (view_range range) x)))
+    node (kind Kind.expr_quantified) at
+    (pair (choice (reserved which)) (pair (view_name name) (pair (view_range range) x)))
 
 -- an expression
 abbrev pub view_expr : Expr → Tree
@@ -124,7 +129,8 @@ view_plain (Plain.Words at first rest) = node (kind Kind.plain_words) at (view_s
 -- the type of a variable
 abbrev pub view_var_type : VarType → Tree
 view_var_type (VarType.Plain at plain) = node (kind Kind.type_plain) at (view_plain plain)
-view_var_type (VarType.Array at range plain) = node (kind Kind.type_array) at (pair (view_range range) (view_plain plain))
+view_var_type (VarType.Array at range plain) =
+    node (kind Kind.type_array) at (pair (view_range range) (view_plain plain))
 
 -- a variable's declaration
 abbrev pub view_var : Var → Tree
@@ -147,7 +153,8 @@ view_init_value (InitValue.False at) = node (kind Kind.init_false) at unit
 
 -- a variable's start value
 abbrev pub view_init : Init → Tree
-view_init i = node (kind Kind.init) i.at (pair (view_name i.name) (pair (view_option view_with_minus i.index) (view_init_value i.value)))
+view_init i = node (kind Kind.init) i.at
+    (pair (view_name i.name) (pair (view_option view_with_minus i.index) (view_init_value i.value)))
 
 -- Statements.
 
@@ -217,7 +224,8 @@ view_initially i = node (kind Kind.initially) i.at (view_expr i.of)
 
 -- a program
 abbrev pub view_program : Program → Tree
-view_program (Program.Union at name l r) = node (kind Kind.program_union) at (pair (view_name name) (pair (view_name l) (view_name r)))
+view_program (Program.Union at name l r) =
+    node (kind Kind.program_union) at (pair (view_name name) (pair (view_name l) (view_name r)))
 view_program (Program.Plain at name declare always initially start items) =
     node (kind Kind.program_plain) at (pair (view_name name)
     (pair (view_option (view_list view_var) declare) (pair (view_option (view_list view_def) always)
@@ -231,14 +239,16 @@ view_inst i = node (kind Kind.inst) i.at (pair (view_name i.label) (view_option 
 
 -- a reference
 abbrev pub view_ref : Ref → Tree
-view_ref r = node (kind Kind.ref) r.at (pair (view_name r.name) (pair (view_option view_name r.step) (view_option (view_some view_end) r.args)))
+view_ref r = node (kind Kind.ref) r.at
+    (pair (view_name r.name) (pair (view_option view_name r.step) (view_option (view_some view_end) r.args)))
 
 -- a term whose parts are trees by now
 abbrev pub view_term_step : Term-F Tree → Tree
 view_term_step (Term-F.Imply at p q) = node (kind Kind.term_imply) at (pair (view_expr p) (view_expr q))
 view_term_step (Term-F.From at ref) = node (kind Kind.term_from) at (view_ref ref)
 view_term_step (Term-F.Pair at which x y) = node (kind Kind.term_pair) at (pair (choice (reserved which)) (pair x y))
-view_term_step (Term-F.Exists at name range x) = node (kind Kind.term_exists) at (pair (view_name name) (pair (view_range range) x))
+view_term_step (Term-F.Exists at name range x) =
+    node (kind Kind.term_exists) at (pair (view_name name) (pair (view_range range) x))
 view_term_step (Term-F.Induct at name range measure p q x) =
     node (kind Kind.term_induct) at (pair (view_name name)
     (pair (view_range range) (pair (view_expr measure) (pair (view_expr p) (pair (view_expr q) x)))))
@@ -260,13 +270,15 @@ abbrev pub view_claim : Claim → Tree
 view_claim (Claim.Defined at) = node (kind Kind.claim_defined) at unit
 view_claim (Claim.Invariant at p) = node (kind Kind.claim_invariant) at (view_expr p)
 view_claim (Claim.Stable at p) = node (kind Kind.claim_stable) at (view_expr p)
-view_claim (Claim.Between at p which q) = node (kind Kind.claim_between) at (pair (view_expr p) (pair (choice (reserved which)) (view_expr q)))
+view_claim (Claim.Between at p which q) =
+    node (kind Kind.claim_between) at (pair (view_expr p) (pair (choice (reserved which)) (view_expr q)))
 
 -- a rule
 abbrev pub view_rule : Rule → Tree
 view_rule (Rule.Text at inst) = node (kind Kind.rule_text) at (view_option view_inst inst)
 view_rule (Rule.Weaken at ref) = node (kind Kind.rule_weaken) at (view_ref ref)
-view_rule (Rule.Pair at which r s) = node (kind Kind.rule_pair) at (pair (choice (reserved which)) (pair (view_ref r) (view_ref s)))
+view_rule (Rule.Pair at which r s) =
+    node (kind Kind.rule_pair) at (pair (choice (reserved which)) (pair (view_ref r) (view_ref s)))
 view_rule (Rule.Term at term) = node (kind Kind.rule_term) at (view_term term)
 
 -- a step
@@ -283,7 +295,8 @@ view_proof p = node (kind Kind.proof) p.at (pair (view_name p.program) (view_lis
 
 -- a multiplier and the number of a fact
 abbrev pub view_pair : Pair → Tree
-view_pair p = node (kind Kind.pair) p.at (pair (view_flag p.minus) (pair (view_number p.multiplier) (view_number p.fact)))
+view_pair p = node (kind Kind.pair) p.at
+    (pair (view_flag p.minus) (pair (view_number p.multiplier) (view_number p.fact)))
 
 -- a node of a certificate
 abbrev pub view_node : Node → Tree
@@ -304,7 +317,8 @@ view_certificates c = node (kind Kind.certificates) c.at (view_list view_certifi
 
 -- a schedule
 abbrev pub view_schedule : Schedule → Tree
-view_schedule s = node (kind Kind.schedule) s.at (pair (view_name s.program) (view_option (view_some view_inst) s.choices))
+view_schedule s = node (kind Kind.schedule) s.at
+    (pair (view_name s.program) (view_option (view_some view_inst) s.choices))
 
 -- a program or a proof
 abbrev pub view_part : Part → Tree
@@ -315,4 +329,5 @@ view_part (Part.Proof at proof) = node (kind Kind.part_proof) at (view_proof pro
 abbrev pub view : Document → Tree
 view d =
     node (kind Kind.document) d.at (pair (node (kind Kind.version) d.number_at (view_number d.number))
-    (pair (view_list view_part d.parts) (pair (view_option view_schedule d.schedule) (view_option view_certificates d.certificates))))
+    (pair (view_list view_part d.parts)
+    (pair (view_option view_schedule d.schedule) (view_option view_certificates d.certificates))))

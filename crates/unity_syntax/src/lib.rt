@@ -1,4 +1,5 @@
-//! What a text is read into: its tokens, its tree, and why a text is refused.
+//! What a text is read into: its tokens, its tree, and why a text is refused. The grammar stands in `specs/`,
+//! with the tree that it makes of each typed tree.
 #![tactic(auto)]
 
 mod certificate;
@@ -6,7 +7,7 @@ mod declaration;
 mod document;
 mod expression;
 mod fault;
-mod meaning;
+mod folding;
 mod name;
 mod program;
 mod proof;
@@ -20,16 +21,12 @@ pub use declaration::{Def, Init, InitValue, Plain, Var, VarType};
 pub use document::{Document, Part, Schedule};
 pub use expression::Expr;
 pub use fault::SyntaxFault;
-pub use meaning::{
-    claim_examples, execution_laws, instance_examples, leads_to_laws, program_examples, round_laws,
-    stable_is_unless_false, step_examples, step_laws, union_laws, value_examples,
-};
+pub use folding::{Relation, two_folds};
 pub use name::{End, Name, Range};
 pub use program::{Initially, Program};
 pub use proof::{Claim, Param, Proof, Rule, Step};
 pub use reading::{
-    each_tree, grammar_examples, is_grammar, one_document, one_kind, one_tree, view_loses_nothing,
-    words_rise,
+    each_tree, is_grammar, one_document, one_kind, one_tree, view_loses_nothing, words_rise,
 };
 pub use statement::{Alts, Assign, Component, Item, Items, Target, Values};
 pub use term::{Inst, Ref, Term};

@@ -6,4 +6,5 @@ use Rattle.unity_syntax.proofs.BackDocuments.{view_injective}
 use Rattle.unity_syntax.proofs.reading.one_document.Goals as goal
 
 pub returns : goal.returns
-returns c = λ d e ts one other. view_injective d e (unique grammar grammar_is document_ document_is (view d) (view e) ts one other)
+returns c = λ d e ts one other. view_injective d e
+    (unique grammar grammar_is document_ document_is (view d) (view e) ts one other)

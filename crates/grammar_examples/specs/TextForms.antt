@@ -1,0 +1,75 @@
+-- Texts of the language with what the grammar reads them as: the forms in which the examples are written.
+use Rattle.std.specs.Prelude.{◌≡◌, ℕ, List, ◌++◌, Ok, Err, codes}
+use Rattle.case_tables.specs.declared.word_table.Word.{Word}
+use Rattle.case_tables.specs.declared.symbol_table.Symbol.{Symbol}
+use Rattle.ebnf.specs.Reader.{Fault, read_whole}
+use Rattle.ebnf.specs.Ebnf.{Terminal}
+use Rattle.unity_syntax.specs.Classes.{terminals}
+use Rattle.unity_syntax.specs.Grammar.{grammar, document_}
+use Rattle.unity_syntax.specs.View.{view}
+use Prim.Native.String.{String}
+use Rattle.unity_syntax.specs.declared.token.TokenKind.{TokenKind}
+use Rattle.unity_syntax.specs.declared.token.Token.{Token}
+use Rattle.unity_syntax.specs.declared.name.Name.{Name}
+use Rattle.unity_syntax.specs.declared.name.End.{End}
+use Rattle.unity_syntax.specs.declared.name.Range.{Range}
+use Rattle.unity_syntax.specs.declared.statement.Component.{Component}
+use Rattle.unity_syntax.specs.declared.document.Document.{Document}
+use Rattle.unity_syntax.specs.declared.statement.Assign.{Assign, roll-Assign}
+use Rattle.unity_syntax.specs.declared.statement.Item.{Item}
+use Rattle.unity_syntax.specs.declared.statement.Items.{Items, roll-Items}
+
+-- a name's token, from its first byte to the byte after its last
+abbrev pub name_token : ℕ → ℕ → Token
+name_token start end = record { kind = TokenKind.Word; start = start; end = end }
+
+-- a number
+abbrev pub number_token : ℕ → ℕ → ℕ → Token
+number_token value start end = record { kind = TokenKind.Number value; start = start; end = end }
+
+-- a reserved word
+abbrev pub reserved_token : Word → ℕ → ℕ → Token
+reserved_token w start end = record { kind = TokenKind.Reserved w; start = start; end = end }
+
+-- a symbol
+abbrev pub symbol_token : Symbol → ℕ → ℕ → Token
+symbol_token s start end = record { kind = TokenKind.Symbol s; start = start; end = end }
+
+-- a name and its place
+abbrev pub name : ℕ → String → Name
+name at text = record { at = at; text = codes text }
+
+-- a range
+abbrev pub range : ℕ → End → End → Range
+range at low high = record { at = at; low = low; high = high }
+
+-- an assignment
+abbrev pub assign : ℕ → Component → List Component → Assign
+assign at first rest = roll-Assign (record { at = at; first = first; rest = rest })
+
+-- a list of statements
+abbrev pub items : ℕ → Item → List Item → Items
+items at first rest = roll-Items (record { at = at; first = first; rest = rest })
+
+-- A text, its tokens and its tree.
+pub record Example : Type 0 where
+  pub text : List ℕ
+  pub tokens : List Token
+  pub tree : Document
+
+-- The tokens are read as the tree.
+abbrev pub IsRead : Example → Type 0
+IsRead e = read_whole grammar 200 document_ (terminals e.text e.tokens) ≡ Ok (view e.tree)
+
+-- A text whose tokens are refused from a place on, where so many brackets may be open at once.
+pub record Refusal : Type 0 where
+  pub levels : ℕ
+  pub text : List ℕ
+  pub before : List Token
+  pub rest : List Token
+  pub fault : List Terminal → Fault
+
+-- The first tokens are those of a document's beginning, and the rest is refused.
+abbrev pub IsRefused : Refusal → Type 0
+IsRefused r = read_whole grammar r.levels document_ (terminals r.text (r.before ++ r.rest)) ≡
+    Err (r.fault (terminals r.text r.rest))

@@ -1,0 +1,5 @@
+pub mod ClaimTrials
+pub mod OperatorTrials
+pub mod ProgramTrials
+pub mod StepTrials
+pub mod ValueTrials

@@ -1,0 +1,6 @@
+pub mod ExecutionTheorems
+pub mod InstanceLaws
+pub mod PropertyTheorems
+pub mod RoundTheorems
+pub mod ValueLaws
+pub mod WriteLaws

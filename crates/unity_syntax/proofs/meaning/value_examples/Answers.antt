@@ -1,9 +1,0 @@
-use Rattle.unity_syntax.proofs.ValueTrials.{value_examples}
-use Rattle.unity_syntax.proofs.OperatorTrials.{operator_examples}
-use Rattle.unity_syntax.proofs.meaning.value_examples.Goals as goal
-
-pub returns-clause-names : goal.returns-clause-names
-returns-clause-names c = value_examples
-
-pub returns-clause-operators : goal.returns-clause-operators
-returns-clause-operators c = operator_examples
