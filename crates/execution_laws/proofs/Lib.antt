@@ -1,0 +1,10 @@
+pub mod AlikeTheorems
+pub mod ExampleTrials
+pub mod KeptTheorems
+pub mod NumberTests
+pub mod PairTheorems
+pub mod ProgressTheorems
+pub mod RoundSumTheorems
+pub mod StandingTheorems
+pub mod TruthLaws
+pub mod UnionTheorems

@@ -1,0 +1,12 @@
+pub mod Alike
+pub mod AlikeLaws
+pub mod Examples
+pub mod KeptLaws
+pub mod PairRules
+pub mod ProgressLaws
+pub mod RoundSums
+pub mod StandingLaws
+pub mod Stands
+pub mod Systems
+pub mod Tests
+pub mod UnionRules
