@@ -12,7 +12,8 @@ IsFront size text = (0 < size) × (size ≤ length text)
 -- the text begins with this piece
 abbrev pub BeginsWith : List ℕ → Piece → Type 0
 BeginsWith text (Gap size) = IsFront size text × IsGap (drop size text) (take size text)
-BeginsWith text (Token kind size) = IsFront size text × IsLongestRun text (take size text) (drop size text) × Spells (take size text) kind
+BeginsWith text (Token kind size) =
+    IsFront size text × IsLongestRun text (take size text) (drop size text) × Spells (take size text) kind
 BeginsWith text (Fault code) = IsFaulty text code
 
 -- a byte with which no blank, no comment, no word and no numeral begins

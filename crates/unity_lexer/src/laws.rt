@@ -12,9 +12,12 @@ pub fn some_reading()
 
 /// No text has two lists of tokens, a list of tokens and a fault, or two first faults.
 pub fn one_reading()
-    ensures tokens { (text : List ℕ) → (some others : List Token) → IsTokens text some → IsTokens text others → some ≡ others }
-    ensures either { (text : List ℕ) → (tokens : List Token) → (code : Code) → (place : ℕ) → IsTokens text tokens → ¬ FirstBad text code place }
-    ensures reading { (text : List ℕ) → (one other : Result (List Token) (Code × ℕ)) → IsReading text one → IsReading text other → one ≡ other }
+    ensures tokens { (text : List ℕ) → (some others : List Token) → IsTokens text some → IsTokens text others →
+        some ≡ others }
+    ensures either { (text : List ℕ) → (tokens : List Token) → (code : Code) → (place : ℕ) → IsTokens text tokens →
+        ¬ FirstBad text code place }
+    ensures reading { (text : List ℕ) → (one other : Result (List Token) (Code × ℕ)) → IsReading text one →
+        IsReading text other → one ≡ other }
 {}
 
 /// The tokens of a text lie in it one after the other, and each is spelled at its place. A fault
