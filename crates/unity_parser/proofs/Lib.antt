@@ -1,12 +1,3 @@
-pub mod BracketReading
-pub mod CertificateLoops
-pub mod DocumentForms
-pub mod ExpressionTrees
-pub mod Failing
 pub mod ItemForms
-pub mod JoinedReading
-pub mod Levels
 pub mod Parsed
 pub mod Readings
-pub mod Repetition
-pub mod WordClasses

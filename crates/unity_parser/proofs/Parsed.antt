@@ -13,8 +13,8 @@ use Rattle.unity_syntax.specs.Grammar.{grammar, document_}
 use Rattle.unity_syntax.specs.View.{view}
 use Rattle.unity_syntax.proofs.LookAhead.{grammar_is, document_is}
 use Rattle.unity_syntax.proofs.WordsKept.{bodies_keep, document_keeps}
-use Rattle.unity_parser.specs.declared.grammar.stop.Stop.{Stop}
-use Rattle.unity_parser.specs.Gives.{Fails, left}
+use Rattle.token_cursor.specs.declared.stop.Stop.{Stop}
+use Rattle.token_cursor.specs.Gives.{Fails, remaining}
 use Rattle.unity_lexer.specs.Tokens.{AreInOrder}
 use Rattle.unity_parser.specs.ParseAnswers.{most_brackets, IsExact, IsDocumentOf, IsRefusal, IsRefusedFor, Names, WordsRise, code_of, rest_of, beginning}
 
@@ -30,9 +30,9 @@ refused bytes tokens f e = record { fault = f; exact = exactly bytes tokens (Err
 
 pub is_refused : (bytes : List ℕ) (tokens : List Token) (stop : Stop) (fault : SyntaxFault) → Fails stop (read_whole grammar most_brackets document_ (terminals bytes tokens)) → Names bytes stop fault → IsRefusedFor bytes tokens fault
 is_refused bytes tokens Stop.Memory fault h q = subst (λ f. IsRefusedFor bytes tokens f) (sym q) tt
-is_refused bytes tokens (Stop.Unexpected rest) fault h q = subst (λ f. IsRefusedFor bytes tokens f) (sym q) (refused bytes tokens (Unexpected (left rest)) h)
-is_refused bytes tokens (Stop.OtherVersion rest) fault h q = subst (λ f. IsRefusedFor bytes tokens f) (sym q) (refused bytes tokens (OtherVersion (left rest)) h)
-is_refused bytes tokens (Stop.TooDeep rest) fault h q = subst (λ f. IsRefusedFor bytes tokens f) (sym q) (refused bytes tokens (TooDeep (left rest)) h)
+is_refused bytes tokens (Stop.Unexpected rest) fault h q = subst (λ f. IsRefusedFor bytes tokens f) (sym q) (refused bytes tokens (Unexpected (remaining rest)) h)
+is_refused bytes tokens (Stop.OtherVersion rest) fault h q = subst (λ f. IsRefusedFor bytes tokens f) (sym q) (refused bytes tokens (OtherVersion (remaining rest)) h)
+is_refused bytes tokens (Stop.TooDeep rest) fault h q = subst (λ f. IsRefusedFor bytes tokens f) (sym q) (refused bytes tokens (TooDeep (remaining rest)) h)
 
 -- Words of rising tokens rise.
 rise_from : (a b to : ℕ) (ws : List Word) → a ≤ b → WordsRise b to ws → WordsRise a to ws

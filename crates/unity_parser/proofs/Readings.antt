@@ -1,10 +1,11 @@
--- Bytes are at most one document, or have at most one first fault.
-use Rattle.std.proofs.Common.{◌≡◌, ℕ, List, Result, Ok, Err, IfOk, IfErr, sym, ◌∙◌, ap, subst, length}
+-- Bytes are one document, or have one first fault.
+use Rattle.std.proofs.Common.{◌≡◌, ◌⊎◌, inl, inr, ℕ, List, Result, Ok, Err, IfOk, IfErr, refl, sym, ◌∙◌, ap, subst, length}
 use Rattle.case_tables.specs.declared.code_table.Code.{Code}
 use Rattle.ebnf.specs.Ebnf.{Tree}
-use Rattle.ebnf.specs.Reader.{Fault}
+use Rattle.ebnf.specs.Reader.{Fault, read_whole}
 use Rattle.ebnf.specs.Words.{words}
 use Rattle.ebnf.proofs.OneAnswer.{one_answer}
+use Rattle.ebnf.proofs.Theorems.{exact}
 use Rattle.unity_syntax.specs.declared.token.Token.{Token}
 use Rattle.unity_syntax.specs.declared.fault.SyntaxFault.{SyntaxFault}
 use Rattle.unity_syntax.specs.declared.document.Document.{Document}
@@ -13,11 +14,29 @@ use Rattle.unity_syntax.specs.Grammar.{grammar, document_}
 use Rattle.unity_syntax.specs.View.{view}
 use Rattle.unity_syntax.proofs.LookAhead.{grammar_is, document_is}
 use Rattle.unity_syntax.proofs.BackDocuments.{view_injective}
-use Rattle.unity_lexer.specs.Tokens.{IsTokens, AreInOrder}
-use Rattle.unity_lexer.proofs.SomeAnswer.{IsTokens-in_order}
+use Rattle.unity_syntax.proofs.EachTree.{each_tree_}
+use Rattle.unity_lexer.specs.Tokens.{IsTokens, IsReading, AreInOrder}
+use Rattle.unity_lexer.proofs.SomeAnswer.{IsTokens-in_order, some_reading as some_tokens}
 use Rattle.unity_lexer.proofs.OneAnswer.{IsTokens-unique, FirstBad-unique, IsTokens-no_fault}
 use Rattle.unity_parser.specs.ParseAnswers.{IsExact, IsRefusal, IsRefusedFor, WordsRise, code_of, rest_of, beginning}
-use Rattle.unity_parser.specs.Document.{IsTextFault, IsDocument, no_token, no_document, OneDocument, NoFault, OneFault}
+use Rattle.unity_parser.specs.Document.{IsTextFault, IsDocument, IsFault, no_token, no_document, SomeReading, OneDocument, NoFault, OneFault}
+
+-- A text of these tokens is a document, or has a first fault.
+by_answer : (bytes : List ℕ) (ts : List Token) → IsTokens bytes ts → (answer : Result Tree Fault) → IsExact bytes ts answer →
+    ((d : Document) × IsDocument bytes d) ⊎ ((code : Code) × (at : ℕ) × IsFault bytes code at)
+by_answer bytes ts l (Ok x) e =
+    let v = each_tree_ x (terminals bytes ts) e.0 in
+    inl (v.of, record { tokens = ts; lexed = l; parsed = subst (λ y. IsExact bytes ts (Ok y)) (sym v.same) e })
+by_answer bytes ts l (Err f) e =
+    inr (code_of f, beginning (length bytes) (rest_of f), no_document ts l (record { fault = f; exact = e; code_is = refl; place_is = refl }))
+
+by_tokens : (bytes : List ℕ) (reading : Result (List Token) (Code × ℕ)) → IsReading bytes reading →
+    ((d : Document) × IsDocument bytes d) ⊎ ((code : Code) × (at : ℕ) × IsFault bytes code at)
+by_tokens bytes (Ok ts) l = by_answer bytes ts l (read_whole grammar 200 document_ (terminals bytes ts)) (exact grammar grammar_is document_ document_is 200 (terminals bytes ts))
+by_tokens bytes (Err (code, at)) l = inr (code, at, no_token l)
+
+pub some_reading : SomeReading
+some_reading bytes = let r = some_tokens bytes in by_tokens bytes r.0 r.1
 
 -- the tokens of a text have one answer
 read_once : (bytes : List ℕ) (ts us : List Token) → IsTokens bytes ts → IsTokens bytes us → (a b : Result Tree Fault) → IsExact bytes ts a → IsExact bytes us b → a ≡ b

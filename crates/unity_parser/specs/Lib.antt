@@ -1,4 +1,2 @@
 pub mod Document
-pub mod Gives
 pub mod ParseAnswers
-pub mod TermParts

@@ -4,15 +4,15 @@ use Rattle.case_tables.specs.declared.code_table.Code.{Code}
 use Rattle.ebnf.specs.Ebnf.{Terminal, Tree}
 use Rattle.ebnf.specs.Reader.{Fault, Unexpected, OtherVersion, TooDeep}
 use Rattle.ebnf.specs.Answers.{IsAnswer}
-use Rattle.ebnf.specs.Words.{Word, words}
+use Rattle.ebnf.specs.Words.{Word}
 use Rattle.unity_syntax.specs.declared.token.Token.{Token}
 use Rattle.unity_syntax.specs.declared.document.Document.{Document}
 use Rattle.unity_syntax.specs.declared.fault.SyntaxFault.{SyntaxFault}
 use Rattle.unity_syntax.specs.Classes.{terminals}
 use Rattle.unity_syntax.specs.Grammar.{grammar, document_}
 use Rattle.unity_syntax.specs.View.{view}
-use Rattle.unity_parser.specs.declared.grammar.stop.Stop.{Stop}
-use Rattle.unity_parser.specs.Gives.{left}
+use Rattle.token_cursor.specs.declared.stop.Stop.{Stop}
+use Rattle.token_cursor.specs.Gives.{remaining}
 
 -- how many brackets may be open at once
 abbrev pub most_brackets : ℕ
@@ -58,9 +58,12 @@ IsRefusedFor bytes tokens SyntaxFault.Memory = Unit {0}
 -- what is said of a text for which no tree is read
 abbrev pub Names : List ℕ → Stop → SyntaxFault → Type 0
 Names bytes Stop.Memory fault = fault ≡ SyntaxFault.Memory
-Names bytes (Stop.Unexpected rest) fault = fault ≡ SyntaxFault.Fault Code.Unexpected (beginning (length bytes) (left rest))
-Names bytes (Stop.OtherVersion rest) fault = fault ≡ SyntaxFault.Fault Code.Version (beginning (length bytes) (left rest))
-Names bytes (Stop.TooDeep rest) fault = fault ≡ SyntaxFault.Fault Code.TooDeep (beginning (length bytes) (left rest))
+Names bytes (Stop.Unexpected rest) fault =
+    fault ≡ SyntaxFault.Fault Code.Unexpected (beginning (length bytes) (remaining rest))
+Names bytes (Stop.OtherVersion rest) fault =
+    fault ≡ SyntaxFault.Fault Code.Version (beginning (length bytes) (remaining rest))
+Names bytes (Stop.TooDeep rest) fault =
+    fault ≡ SyntaxFault.Fault Code.TooDeep (beginning (length bytes) (remaining rest))
 
 -- The words stand at rising places, none before the first place or at the last or behind it.
 abbrev pub WordsRise : ℕ → ℕ → List Word → Type 0

@@ -1,7 +1,7 @@
 //! The reader of documents: from bytes to the one tree that they are, or their first fault.
 #![tactic(auto)]
 
-mod grammar;
+mod documents;
 mod reading;
 mod texts;
 

@@ -6,12 +6,13 @@ ghost use Rattle.ebnf.specs.Words.{words};
 ghost use Rattle.unity_syntax.specs.Grammar.{grammar, document_};
 ghost use Rattle.unity_syntax.specs.View.{view};
 ghost use Rattle.unity_lexer.specs.Tokens.{AreInOrder};
-ghost use Rattle.unity_parser.specs.Gives.{Gives, left};
+ghost use Rattle.token_cursor.specs.Gives.{Gives, Reads, remaining};
 ghost use Rattle.unity_parser.specs.ParseAnswers.{beginning, Names, IsDocumentOf, IsRefusedFor, WordsRise};
 
-use crate::grammar::{Cursor, Stop, document};
+use crate::documents::document;
 use case_tables::Code;
 use std::alloc::Global;
+use token_cursor::{Cursor, Stop};
 use unity_syntax::{Document, SyntaxFault, Token};
 
 /// How many brackets may be open at once.
@@ -19,7 +20,7 @@ const MOST_BRACKETS: u32 = 200;
 
 /// The document, where no token is left.
 fn ended<'a>(document: Document, rest: Cursor<'a>) -> Result<Document, Stop<'a>>
-    ensures { Gives view result (ended (view document) (left rest.entry)) }
+    ensures { Gives view result (ended (view document) (remaining rest.entry)) }
 {
     match rest.tokens {
         [] => Ok(document),
@@ -29,7 +30,7 @@ fn ended<'a>(document: Document, rest: Cursor<'a>) -> Result<Document, Stop<'a>>
 
 /// The document that all of the tokens are, with the tokens that are left from a fault on.
 fn whole<'a>(alloc: Global, text: Cursor<'a>) -> Result<Document, Stop<'a>>
-    ensures { Gives view result (read_whole grammar 200 document_ (left text.entry)) }
+    ensures { Gives view result (read_whole grammar 200 document_ (remaining text.entry)) }
 {
     let (document, rest) = document(alloc, MOST_BRACKETS, text)?;
     ended(document, rest)
@@ -37,7 +38,7 @@ fn whole<'a>(alloc: Global, text: Cursor<'a>) -> Result<Document, Stop<'a>>
 
 /// The place of the first token that is left, or the end of the text where none is.
 fn beginning(bytes: &[u8], rest: Cursor) -> u64
-    ensures { result ≡ beginning (length bytes.now) (left rest.entry) }
+    ensures { result ≡ beginning (length bytes.now) (remaining rest.entry) }
 {
     match rest.tokens {
         [] => bytes.len() as u64,
@@ -75,7 +76,8 @@ fn refusal(bytes: &[u8], stop: Stop) -> SyntaxFault
 pub fn parse(alloc: Global, bytes: &[u8], tokens: &[Token]) -> Result<Document, SyntaxFault>
     ensures tree { IfOk result (λ d. IsDocumentOf bytes.now tokens.now d) }
     ensures fault { IfErr result (λ fault. IsRefusedFor bytes.now tokens.now fault) }
-    ensures words { IfOk result (λ d. AreInOrder 0 (length bytes.now) tokens.now → WordsRise 0 (length bytes.now) (words (view d))) }
+    ensures words { IfOk result (λ d.
+        AreInOrder 0 (length bytes.now) tokens.now → WordsRise 0 (length bytes.now) (words (view d))) }
 {
     match whole(alloc, Cursor { bytes, tokens }) {
         Ok(document) => Ok(document),

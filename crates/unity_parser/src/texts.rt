@@ -3,7 +3,7 @@ ghost use Rattle.std.specs.Prelude.{IfOk, IfErr, length};
 ghost use Rattle.ebnf.specs.Words.{words};
 ghost use Rattle.unity_syntax.specs.View.{view};
 ghost use Rattle.unity_parser.specs.ParseAnswers.{WordsRise};
-ghost use Rattle.unity_parser.specs.Document.{IsDocument, IsTextFault, OneDocument, NoFault, OneFault};
+ghost use Rattle.unity_parser.specs.Document.{IsDocument, IsTextFault, SomeReading, OneDocument, NoFault, OneFault};
 
 use crate::reading::parse;
 use std::alloc::Global;
@@ -25,9 +25,9 @@ pub fn read_document(alloc: Global, bytes: &[u8]) -> Result<Document, SyntaxFaul
     parse(alloc, bytes, tokens.as_slice())
 }
 
-/// Bytes are at most one document or have at most one first fault, and never both. This function
-/// does nothing.
+/// Bytes are one document or have one first fault, and never both. This function does nothing.
 pub fn one_reading()
+    ensures some { SomeReading }
     ensures document { OneDocument }
     ensures either { NoFault }
     ensures fault { OneFault }

@@ -1,0 +1,2 @@
+pub mod CertificateLoops
+pub mod ItemForms

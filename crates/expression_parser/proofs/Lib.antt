@@ -1,0 +1,4 @@
+pub mod BracketReading
+pub mod ExpressionTrees
+pub mod ItemForms
+pub mod JoinedReading

@@ -1,0 +1,45 @@
+//! What joins units.
+
+ghost use Rattle.std.specs.Prelude.{◌≡◌, [], ◌∷◌};
+ghost use Rattle.ebnf.specs.Reader.{begins};
+ghost use Rattle.unity_syntax.specs.Classes.{reserved};
+ghost use Rattle.token_cursor.specs.Gives.{Skips, remaining};
+ghost use Rattle.expression_parser.specs.Joints.{joint_word};
+
+use case_tables::Word;
+use token_cursor::{Cursor, Stop};
+
+/// What stands between units that are joined: the same word between any two of them.
+#[derive(Clone, Copy)]
+pub enum Joint {
+    /// `and`
+    And,
+    /// `or`
+    Or,
+}
+
+impl Joint {
+    /// The word.
+    fn word(self) -> Word
+        ensures { result ≡ joint_word self }
+    {
+        match self {
+            Joint::And => Word::And,
+            Joint::Or => Word::Or,
+        }
+    }
+
+    /// Whether a further unit is joined by the same word.
+    pub fn goes_on(self, text: Cursor) -> bool
+        ensures { result ≡ begins (reserved (joint_word self) ∷ []) (remaining text.entry) }
+    {
+        text.begins_reserved(self.word())
+    }
+
+    /// What remains after the word, which has to come.
+    pub fn skip<'a>(self, text: Cursor<'a>) -> Result<Cursor<'a>, Stop<'a>>
+        ensures { Skips (reserved (joint_word self)) result text.entry }
+    {
+        text.reserved(self.word())
+    }
+}

@@ -1,0 +1,14 @@
+use Rattle.ebnf.specs.Reader.{count}
+use Rattle.case_tables.specs.declared.symbol_table.Symbol.{Symbol}
+use Rattle.unity_syntax.specs.Classes.{symbol}
+use Rattle.unity_syntax.specs.Grammar.{past, name_}
+use Rattle.unity_syntax.specs.View.{view_name}
+use Rattle.token_cursor.specs.Gives.{remaining}
+use Rattle.token_cursor.proofs.Repetition.{Items}
+use Rattle.token_cursor.proofs.ranges.more_names.Given as goal
+
+abbrev pub invariant-items : goal.invariant-items
+invariant-items l = Items view_name (past (symbol Symbol.Comma) name_) l.depth (remaining l.fn.text) l.found (remaining l.rest)
+
+abbrev pub decreases-items : goal.decreases-items
+decreases-items l = count (remaining l.rest)

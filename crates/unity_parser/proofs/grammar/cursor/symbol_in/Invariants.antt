@@ -1,7 +1,0 @@
-use Rattle.std.proofs.Common.{◌≡◌, drop, map}
-use Rattle.ebnf.specs.Ebnf.{has}
-use Rattle.unity_syntax.specs.Classes.{symbol, class_of}
-use Rattle.unity_parser.proofs.grammar.cursor.symbol_in.Given as goal
-
-abbrev pub invariant-loop-symbol : goal.invariant-loop-symbol
-invariant-loop-symbol l = has (map symbol (drop l.symbol-index l.wanted)) (class_of l.kind) ≡ has (map symbol l.wanted) (class_of l.kind)
