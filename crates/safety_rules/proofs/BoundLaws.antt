@@ -26,18 +26,23 @@ abbrev LightTerm : Type 0
 LightTerm = (t : CTerm) × TermLight t
 
 rolled_form : (x : CForm-F CForm CTerm) →
-    form_load_step (map-CForm CForm CTerm ℕ Load form_load term_load x) ≤ bound_form (map-CForm CForm CTerm ℕ ℕ (form_bound 1) (term_bound 1) x) → FormLight (roll-CForm x)
+    form_load_step (map-CForm CForm CTerm ℕ Load form_load term_load x) ≤ bound_form
+    (map-CForm CForm CTerm ℕ ℕ (form_bound 1) (term_bound 1) x) → FormLight (roll-CForm x)
 rolled_form x h =
     subst (λ n. n ≤ form_bound 1 (roll-CForm x)) (sym (fold-roll-CForm ℕ Load form_load_step term_load_step x))
-    (subst (λ n. form_load_step (map-CForm CForm CTerm ℕ Load form_load term_load x) ≤ n) (sym (fold-roll-CForm ℕ ℕ bound_form (bound_term 1) x)) h)
+    (subst (λ n. form_load_step (map-CForm CForm CTerm ℕ Load form_load term_load x) ≤ n)
+    (sym (fold-roll-CForm ℕ ℕ bound_form (bound_term 1) x)) h)
 
 rolled_term : (x : CTerm-F CForm CTerm) →
-    Light (term_load_step (map-CTerm CForm CTerm ℕ Load form_load term_load x)) (bound_term 1 (map-CTerm CForm CTerm ℕ ℕ (form_bound 1) (term_bound 1) x)) → TermLight (roll-CTerm x)
+    Light (term_load_step (map-CTerm CForm CTerm ℕ Load form_load term_load x))
+    (bound_term 1 (map-CTerm CForm CTerm ℕ ℕ (form_bound 1) (term_bound 1) x)) → TermLight (roll-CTerm x)
 rolled_term x h =
     subst (λ l. Light l (term_bound 1 (roll-CTerm x))) (sym (fold-roll-CTerm ℕ Load form_load_step term_load_step x))
-    (subst (λ n. Light (term_load_step (map-CTerm CForm CTerm ℕ Load form_load term_load x)) n) (sym (fold-roll-CTerm ℕ ℕ bound_form (bound_term 1) x)) h)
+    (subst (λ n. Light (term_load_step (map-CTerm CForm CTerm ℕ Load form_load term_load x)) n)
+    (sym (fold-roll-CTerm ℕ ℕ bound_form (bound_term 1) x)) h)
 
-form_layer : (y : CForm-F LightForm LightTerm) → FormLight (roll-CForm (map-CForm LightForm LightTerm CForm CTerm (λ e. e.0) (λ e. e.0) y))
+form_layer : (y : CForm-F LightForm LightTerm) →
+    FormLight (roll-CForm (map-CForm LightForm LightTerm CForm CTerm (λ e. e.0) (λ e. e.0) y))
 form_layer CForm-F.Top = rolled_form CForm-F.Top (omega arith)
 form_layer CForm-F.Bottom = rolled_form CForm-F.Bottom (omega arith)
 form_layer (CForm-F.AtLeast t) = rolled_form (CForm-F.AtLeast t.0) (omega (arith, t.1.0, t.1.1))
@@ -46,20 +51,26 @@ form_layer (CForm-F.Not f) = rolled_form (CForm-F.Not f.0) f.1
 form_layer (CForm-F.And f g) = rolled_form (CForm-F.And f.0 g.0) (omega (arith, f.1, g.1))
 form_layer (CForm-F.Or f g) = rolled_form (CForm-F.Or f.0 g.0) (omega (arith, f.1, g.1))
 
-term_layer : (y : CTerm-F LightForm LightTerm) → TermLight (roll-CTerm (map-CTerm LightForm LightTerm CForm CTerm (λ e. e.0) (λ e. e.0) y))
+term_layer : (y : CTerm-F LightForm LightTerm) →
+    TermLight (roll-CTerm (map-CTerm LightForm LightTerm CForm CTerm (λ e. e.0) (λ e. e.0) y))
 term_layer (CTerm-F.Const c) = rolled_term (CTerm-F.Const c) (omega arith, omega arith)
 term_layer (CTerm-F.Slot n) = rolled_term (CTerm-F.Slot n) (omega arith, omega arith)
 term_layer (CTerm-F.Param n) = rolled_term (CTerm-F.Param n) (omega arith, omega arith)
-term_layer (CTerm-F.Add a b) = rolled_term (CTerm-F.Add a.0 b.0) (omega (arith, a.1.0, b.1.0), omega (arith, a.1.1, b.1.1))
-term_layer (CTerm-F.Sub a b) = rolled_term (CTerm-F.Sub a.0 b.0) (omega (arith, a.1.0, b.1.0), omega (arith, a.1.1, b.1.1))
+term_layer (CTerm-F.Add a b) =
+    rolled_term (CTerm-F.Add a.0 b.0) (omega (arith, a.1.0, b.1.0), omega (arith, a.1.1, b.1.1))
+term_layer (CTerm-F.Sub a b) =
+    rolled_term (CTerm-F.Sub a.0 b.0) (omega (arith, a.1.0, b.1.0), omega (arith, a.1.1, b.1.1))
 term_layer (CTerm-F.Scale k a) =
-    let part : unsigned_abs k * (term_load a.0).own ≤ unsigned_abs k * term_bound 1 a.0 = mul-le-mul_left (unsigned_abs k) a.1.0 in
+    let part : unsigned_abs k * (term_load a.0).own ≤ unsigned_abs k * term_bound 1 a.0 = mul-le-mul_left
+    (unsigned_abs k) a.1.0 in
     rolled_term (CTerm-F.Scale k a.0) (omega (arith, part), omega (arith, a.1.1))
-term_layer (CTerm-F.Ite c a b) = rolled_term (CTerm-F.Ite c.0 a.0 b.0) (omega (arith, a.1.0, b.1.0), omega (arith, c.1, a.1.1, b.1.1))
+term_layer (CTerm-F.Ite c a b) =
+    rolled_term (CTerm-F.Ite c.0 a.0 b.0) (omega (arith, a.1.0, b.1.0), omega (arith, c.1, a.1.1, b.1.1))
 
 pub load_below_bound : (f : CForm) → form_load f ≤ form_bound 1 f
 load_below_bound f =
-    ind-CForm FormLight TermLight (λ x y e. subst (λ z. FormLight (roll-CForm z)) e (form_layer y)) (λ x y e. subst (λ z. TermLight (roll-CTerm z)) e (term_layer y)) f
+    ind-CForm FormLight TermLight (λ x y e. subst (λ z. FormLight (roll-CForm z)) e (form_layer y))
+    (λ x y e. subst (λ z. TermLight (roll-CTerm z)) e (term_layer y)) f
 
 -- formulas of small bounds have small loads
 pub all_light : (fs : List CForm) → All (λ f. form_bound 1 f ≤ 2 ^ 40) fs → All (λ f. form_load f ≤ 2 ^ 62) fs

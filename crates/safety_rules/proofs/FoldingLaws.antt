@@ -32,23 +32,28 @@ right_along m n v w a b e f g h =
 true_along : (m n : Option Bool) (v w : Bool) → m ≡ n → v ≡ w → True n w → True m v
 true_along m n v w e f h = subst (λ x. True x v) (sym e) (subst (λ x. True n x) (sym f) h)
 
-right_sum : (m n : Option ℤ) (v w : ℤ) (a b : ℕ) → Right m v a → Right n w b → Right (joined (λ x y. x +ℤ y) m n) (v +ℤ w) (a + b)
+right_sum : (m n : Option ℤ) (v w : ℤ) (a b : ℕ) → Right m v a → Right n w b →
+    Right (joined (λ x y. x +ℤ y) m n) (v +ℤ w) (a + b)
 right_sum None n v w a b h k = tt
 right_sum (Some x) None v w a b h k = tt
 right_sum (Some x) (Some y) v w a b h k = (ap (λ z. z +ℤ w) h.0 ∙ ap (λ z. x +ℤ z) k.0, omega (arith, ints, h.1, k.1))
 
-right_difference : (m n : Option ℤ) (v w : ℤ) (a b : ℕ) → Right m v a → Right n w b → Right (joined (λ x y. x -ℤ y) m n) (v -ℤ w) (a + b)
+right_difference : (m n : Option ℤ) (v w : ℤ) (a b : ℕ) → Right m v a → Right n w b →
+    Right (joined (λ x y. x -ℤ y) m n) (v -ℤ w) (a + b)
 right_difference None n v w a b h k = tt
 right_difference (Some x) None v w a b h k = tt
-right_difference (Some x) (Some y) v w a b h k = (ap (λ z. z -ℤ w) h.0 ∙ ap (λ z. x -ℤ z) k.0, omega (arith, ints, h.1, k.1))
+right_difference (Some x) (Some y) v w a b h k =
+    (ap (λ z. z -ℤ w) h.0 ∙ ap (λ z. x -ℤ z) k.0, omega (arith, ints, h.1, k.1))
 
-right_scaled : (k : ℤ) (m : Option ℤ) (v : ℤ) (a : ℕ) → Right m v a → Right (option_map (λ x. k *ℤ x) m) (k *ℤ v) (max a (unsigned_abs k * a))
+right_scaled : (k : ℤ) (m : Option ℤ) (v : ℤ) (a : ℕ) → Right m v a →
+    Right (option_map (λ x. k *ℤ x) m) (k *ℤ v) (max a (unsigned_abs k * a))
 right_scaled k None v a h = tt
 right_scaled k (Some x) v a h =
     let within : unsigned_abs k * unsigned_abs x ≤ unsigned_abs k * a = mul-le-mul_left (unsigned_abs k) h.1 in
     (ap (λ z. k *ℤ z) h.0, omega (arith, unsigned_abs-mul k x, within))
 
-right_chosen : (c : Option Bool) (m n : Option ℤ) (t : Bool) (v w : ℤ) (a b d : ℕ) → True c t → Right m v a → Right n w b →
+right_chosen : (c : Option Bool) (m n : Option ℤ) (t : Bool) (v w : ℤ) (a b d : ℕ) → True c t → Right m v a →
+    Right n w b →
     Right (chosen c m n) (cond t v w) (max d (max a b))
 right_chosen None m n t v w a b d g h k = tt
 right_chosen (Some c) None n t v w a b d g h k = tt
@@ -64,7 +69,8 @@ true_not : (c : Option Bool) (t : Bool) → True c t → True (option_map not c)
 true_not None t h = tt
 true_not (Some c) t h = ap not h
 
-true_joined : (op : Bool → Bool → Bool) (c d : Option Bool) (t u : Bool) → True c t → True d u → True (joined op c d) (op t u)
+true_joined : (op : Bool → Bool → Bool) (c d : Option Bool) (t u : Bool) → True c t → True d u →
+    True (joined op c d) (op t u)
 true_joined op None d t u h k = tt
 true_joined op (Some x) None t u h k = tt
 true_joined op (Some x) (Some y) t u h k = ap (λ z. op z u) h ∙ ap (λ z. op x z) k
@@ -86,17 +92,20 @@ module _ (s p : List ℤ) (slot : ℕ) where
       True (truth_step (map-CForm CForm CTerm (Option Bool) (Option ℤ) truth_of number_of x))
       (form_step (map-CForm CForm CTerm Bool ℤ (form_value s p) (term_value s p) x)) → FormRight (roll-CForm x)
   rolled_form x h =
-      true_along _ _ _ _ (fold-roll-CForm (Option Bool) (Option ℤ) truth_step number_step x) (fold-roll-CForm Bool ℤ form_step (term_step s p) x) h
+      true_along _ _ _ _ (fold-roll-CForm (Option Bool) (Option ℤ) truth_step number_step x)
+      (fold-roll-CForm Bool ℤ form_step (term_step s p) x) h
 
   rolled_term : (x : CTerm-F CForm CTerm) →
       Right (number_step (map-CTerm CForm CTerm (Option Bool) (Option ℤ) truth_of number_of x))
       (term_step s p (map-CTerm CForm CTerm Bool ℤ (form_value s p) (term_value s p) x))
       (bound_term slot (map-CTerm CForm CTerm ℕ ℕ (form_bound slot) (term_bound slot) x)) → TermRight (roll-CTerm x)
   rolled_term x h =
-      right_along _ _ _ _ _ _ (fold-roll-CTerm (Option Bool) (Option ℤ) truth_step number_step x) (fold-roll-CTerm Bool ℤ form_step (term_step s p) x)
+      right_along _ _ _ _ _ _ (fold-roll-CTerm (Option Bool) (Option ℤ) truth_step number_step x)
+      (fold-roll-CTerm Bool ℤ form_step (term_step s p) x)
       (fold-roll-CTerm ℕ ℕ bound_form (bound_term slot) x) h
 
-  form_layer : (y : CForm-F RightForm RightTerm) → FormRight (roll-CForm (map-CForm RightForm RightTerm CForm CTerm (λ e. e.0) (λ e. e.0) y))
+  form_layer : (y : CForm-F RightForm RightTerm) →
+      FormRight (roll-CForm (map-CForm RightForm RightTerm CForm CTerm (λ e. e.0) (λ e. e.0) y))
   form_layer CForm-F.Top = rolled_form CForm-F.Top refl
   form_layer CForm-F.Bottom = rolled_form CForm-F.Bottom refl
   form_layer (CForm-F.AtLeast t) = rolled_form (CForm-F.AtLeast t.0) (true_tested (λ z. int_le (pos 0) z) _ _ _ t.1)
@@ -105,24 +114,29 @@ module _ (s p : List ℤ) (slot : ℕ) where
   form_layer (CForm-F.And f g) = rolled_form (CForm-F.And f.0 g.0) (true_joined (λ x y. x && y) _ _ _ _ f.1 g.1)
   form_layer (CForm-F.Or f g) = rolled_form (CForm-F.Or f.0 g.0) (true_joined (λ x y. x || y) _ _ _ _ f.1 g.1)
 
-  term_layer : (y : CTerm-F RightForm RightTerm) → TermRight (roll-CTerm (map-CTerm RightForm RightTerm CForm CTerm (λ e. e.0) (λ e. e.0) y))
+  term_layer : (y : CTerm-F RightForm RightTerm) →
+      TermRight (roll-CTerm (map-CTerm RightForm RightTerm CForm CTerm (λ e. e.0) (λ e. e.0) y))
   term_layer (CTerm-F.Const c) = rolled_term (CTerm-F.Const c) (refl, omega arith)
   term_layer (CTerm-F.Slot n) = rolled_term (CTerm-F.Slot n) tt
   term_layer (CTerm-F.Param n) = rolled_term (CTerm-F.Param n) tt
   term_layer (CTerm-F.Add a b) = rolled_term (CTerm-F.Add a.0 b.0) (right_sum _ _ _ _ _ _ a.1 b.1)
   term_layer (CTerm-F.Sub a b) = rolled_term (CTerm-F.Sub a.0 b.0) (right_difference _ _ _ _ _ _ a.1 b.1)
   term_layer (CTerm-F.Scale k a) = rolled_term (CTerm-F.Scale k a.0) (right_scaled k _ _ _ a.1)
-  term_layer (CTerm-F.Ite c a b) = rolled_term (CTerm-F.Ite c.0 a.0 b.0) (right_chosen _ _ _ _ _ _ _ _ (form_bound slot c.0) c.1 a.1 b.1)
+  term_layer (CTerm-F.Ite c a b) =
+      rolled_term (CTerm-F.Ite c.0 a.0 b.0) (right_chosen _ _ _ _ _ _ _ _ (form_bound slot c.0) c.1 a.1 b.1)
 
   pub form_right : (f : CForm) → FormRight f
   form_right f =
-      ind-CForm FormRight TermRight (λ x y e. subst (λ z. FormRight (roll-CForm z)) e (form_layer y)) (λ x y e. subst (λ z. TermRight (roll-CTerm z)) e (term_layer y)) f
+      ind-CForm FormRight TermRight (λ x y e. subst (λ z. FormRight (roll-CForm z)) e (form_layer y))
+      (λ x y e. subst (λ z. TermRight (roll-CTerm z)) e (term_layer y)) f
 
   pub term_right : (t : CTerm) → TermRight t
   term_right t =
-      ind-CTerm FormRight TermRight (λ x y e. subst (λ z. FormRight (roll-CForm z)) e (form_layer y)) (λ x y e. subst (λ z. TermRight (roll-CTerm z)) e (term_layer y)) t
+      ind-CTerm FormRight TermRight (λ x y e. subst (λ z. FormRight (roll-CForm z)) e (form_layer y))
+      (λ x y e. subst (λ z. TermRight (roll-CTerm z)) e (term_layer y)) t
 
-constant_value : (s p : List ℤ) (t : CTerm) (m : Option ℤ) (b : ℕ) → Right m (term_value s p t) b → term_value s p (constant_or m t) ≡ term_value s p t
+constant_value : (s p : List ℤ) (t : CTerm) (m : Option ℤ) (b : ℕ) → Right m (term_value s p t) b →
+    term_value s p (constant_or m t) ≡ term_value s p t
 constant_value s p t None b h = refl
 constant_value s p t (Some z) b h = elim (is_small z) as (λ v. term_value s p (cond v (Const z) t) ≡ term_value s p t) [
   | true ↦ value-Const s p z ∙ sym h.0
@@ -132,12 +146,14 @@ constant_value s p t (Some z) b h = elim (is_small z) as (λ v. term_value s p (
 constant_bound : (s p : List ℤ) (slot : ℕ) (t : CTerm) (m : Option ℤ) → Right m (term_value s p t) (term_bound slot t) →
     term_bound slot (constant_or m t) ≤ term_bound slot t
 constant_bound s p slot t None h = omega arith
-constant_bound s p slot t (Some z) h = elim (is_small z) as (λ v. term_bound slot (cond v (Const z) t) ≤ term_bound slot t) [
-  | true ↦ omega (arith, bound-Const slot z, h.1)
-  | false ↦ omega arith
-]
+constant_bound s p slot t (Some z) h =
+    elim (is_small z) as (λ v. term_bound slot (cond v (Const z) t) ≤ term_bound slot t) [
+      | true ↦ omega (arith, bound-Const slot z, h.1)
+      | false ↦ omega arith
+    ]
 
-truth_value : (s p : List ℤ) (f : CForm) (m : Option Bool) → True m (form_value s p f) → form_value s p (truth_or m f) ≡ form_value s p f
+truth_value : (s p : List ℤ) (f : CForm) (m : Option Bool) → True m (form_value s p f) →
+    form_value s p (truth_or m f) ≡ form_value s p f
 truth_value s p f None h = refl
 truth_value s p f (Some true) h = value-Top s p ∙ sym h
 truth_value s p f (Some false) h = value-Bottom s p ∙ sym h
@@ -163,7 +179,8 @@ bound_folded_form slot f = truth_bound slot f (truth_of f)
 pub value-sum_term : (s p : List ℤ) (a b : CTerm) → term_value s p (sum_term a b) ≡ term_value s p a +ℤ term_value s p b
 value-sum_term s p a b = value-folded_term s p (Add a b) ∙ value-Add s p a b
 
-pub value-difference_term : (s p : List ℤ) (a b : CTerm) → term_value s p (difference_term a b) ≡ term_value s p a -ℤ term_value s p b
+pub value-difference_term : (s p : List ℤ) (a b : CTerm) →
+    term_value s p (difference_term a b) ≡ term_value s p a -ℤ term_value s p b
 value-difference_term s p a b = value-folded_term s p (Sub a b) ∙ value-Sub s p a b
 
 pub value-scaled_term : (s p : List ℤ) (k : ℤ) (a : CTerm) → term_value s p (scaled_term k a) ≡ k *ℤ term_value s p a
@@ -175,7 +192,8 @@ branch_value s p c a b None h = value-Ite s p c a b
 branch_value s p c a b (Some true) h = ap (λ v. cond v (term_value s p a) (term_value s p b)) (sym h)
 branch_value s p c a b (Some false) h = ap (λ v. cond v (term_value s p a) (term_value s p b)) (sym h)
 
-pub value-choice_term : (s p : List ℤ) (c : CForm) (a b : CTerm) → term_value s p (choice_term c a b) ≡ cond (form_value s p c) (term_value s p a) (term_value s p b)
+pub value-choice_term : (s p : List ℤ) (c : CForm) (a b : CTerm) →
+    term_value s p (choice_term c a b) ≡ cond (form_value s p c) (term_value s p a) (term_value s p b)
 value-choice_term s p c a b = branch_value s p c a b (truth_of c) (form_right s p 0 c)
 
 pub value-least_form : (s p : List ℤ) (t : CTerm) → form_value s p (least_form t) ≡ int_le (pos 0) (term_value s p t)
@@ -187,7 +205,8 @@ value-zero_form s p t = value-folded_form s p (Zero t) ∙ value-Zero s p t
 pub value-not_form : (s p : List ℤ) (f : CForm) → form_value s p (not_form f) ≡ not (form_value s p f)
 value-not_form s p f = value-folded_form s p (Not f) ∙ value-Not s p f
 
-pub value-and_form : (s p : List ℤ) (f g : CForm) → form_value s p (and_form f g) ≡ (form_value s p f && form_value s p g)
+pub value-and_form : (s p : List ℤ) (f g : CForm) →
+    form_value s p (and_form f g) ≡ (form_value s p f && form_value s p g)
 value-and_form s p f g = value-folded_form s p (And f g) ∙ value-And s p f g
 
 pub value-or_form : (s p : List ℤ) (f g : CForm) → form_value s p (or_form f g) ≡ (form_value s p f || form_value s p g)
@@ -197,14 +216,17 @@ value-or_form s p f g = value-folded_form s p (Or f g) ∙ value-Or s p f g
 pub bound-sum_term : (slot : ℕ) (a b : CTerm) → term_bound slot (sum_term a b) ≤ term_bound slot a + term_bound slot b
 bound-sum_term slot a b = omega (arith, bound_folded_term slot (Add a b), bound-Add slot a b)
 
-pub bound-difference_term : (slot : ℕ) (a b : CTerm) → term_bound slot (difference_term a b) ≤ term_bound slot a + term_bound slot b
+pub bound-difference_term : (slot : ℕ) (a b : CTerm) →
+    term_bound slot (difference_term a b) ≤ term_bound slot a + term_bound slot b
 bound-difference_term slot a b = omega (arith, bound_folded_term slot (Sub a b), bound-Sub slot a b)
 
-pub bound-scaled_term : (slot : ℕ) (k : ℤ) (a : CTerm) → term_bound slot (scaled_term k a) ≤ max (term_bound slot a) (unsigned_abs k * term_bound slot a)
+pub bound-scaled_term : (slot : ℕ) (k : ℤ) (a : CTerm) →
+    term_bound slot (scaled_term k a) ≤ max (term_bound slot a) (unsigned_abs k * term_bound slot a)
 bound-scaled_term slot k a = omega (arith, bound_folded_term slot (Scale k a), bound-Scale slot k a)
 
 branch_bound : (slot : ℕ) (c : CForm) (a b : CTerm) (m : Option Bool) →
-    term_bound slot (branch_or m a b (Ite c a b)) ≤ max (form_bound slot c) (max (term_bound slot a) (term_bound slot b))
+    term_bound slot (branch_or m a b (Ite c a b)) ≤ max (form_bound slot c)
+    (max (term_bound slot a) (term_bound slot b))
 branch_bound slot c a b None = omega (arith, bound-Ite slot c a b)
 branch_bound slot c a b (Some true) = omega arith
 branch_bound slot c a b (Some false) = omega arith
@@ -222,8 +244,10 @@ bound-zero_form slot t = omega (arith, bound_folded_form slot (Zero t), bound-Ze
 pub bound-not_form : (slot : ℕ) (f : CForm) → form_bound slot (not_form f) ≤ form_bound slot f
 bound-not_form slot f = omega (arith, bound_folded_form slot (Not f), bound-Not slot f)
 
-pub bound-and_form : (slot : ℕ) (f g : CForm) → form_bound slot (and_form f g) ≤ max (form_bound slot f) (form_bound slot g)
+pub bound-and_form : (slot : ℕ) (f g : CForm) →
+    form_bound slot (and_form f g) ≤ max (form_bound slot f) (form_bound slot g)
 bound-and_form slot f g = omega (arith, bound_folded_form slot (And f g), bound-And slot f g)
 
-pub bound-or_form : (slot : ℕ) (f g : CForm) → form_bound slot (or_form f g) ≤ max (form_bound slot f) (form_bound slot g)
+pub bound-or_form : (slot : ℕ) (f g : CForm) →
+    form_bound slot (or_form f g) ≤ max (form_bound slot f) (form_bound slot g)
 bound-or_form slot f g = omega (arith, bound_folded_form slot (Or f g), bound-Or slot f g)

@@ -1,5 +1,5 @@
 -- What follows is safe: from certificates to executions.
-use Rattle.std.proofs.Common.{◌≡◌, ◌≤◌, ◌^◌, ◌<◌, ◌+◌, ℕ, zero, suc, Bool, true, false, List, [], ◌∷◌, map, IsTrue, All, refl, sym, ap, ◌∙◌, subst, lit<, nat_eq, Result, Ok, Err, IfOk, length, arith, take, drop, ◌-◌, take_all, get_or}
+use Rattle.std.proofs.Common.{◌≡◌, ◌≤◌, ◌^◌, ◌<◌, ◌+◌, ℕ, zero, suc, Bool, true, false, List, [], ◌∷◌, map, IsTrue, All, refl, sym, ap, subst, lit<, nat_eq, Result, Ok, Err, IfOk, length, arith, take, drop, ◌-◌, take_all, get_or}
 use Rattle.std.specs.declared.alloc.AllocError.{AllocError}
 use Rattle.std.specs.Prelude.{◌↔◌, ◌&&◌}
 use Rattle.std.specs.List.{list_all}
@@ -26,7 +26,8 @@ use Rattle.safety_rules.proofs.RuleLaws.{sound_steps}
 use Rattle.safety_rules.proofs.StartLaws.{start_rule}
 
 -- a state of the document lies in the range of its one slot
-in_slots : (d : SmallDocument) (state : State) → is_state (ranges_of d) state ≡ true → are_in_ranges (slots_of d) state ≡ true
+in_slots : (d : SmallDocument) (state : State) → is_state (ranges_of d) state ≡ true →
+    are_in_ranges (slots_of d) state ≡ true
 in_slots d [] h = cc
 in_slots d (z ∷ []) h = h
 in_slots d (z ∷ y ∷ zs) h = h
@@ -34,12 +35,14 @@ in_slots d (z ∷ y ∷ zs) h = h
 -- a formula whose obligation is refuted is true at every state
 refuted-valid : (d : SmallDocument) (f : CForm) (nodes : List Node) → Refuted (obligation d f) nodes → IsValid d f
 refuted-valid d f nodes r state h =
-    obligation-means f (slots_of d) [] (sound (obligation d f) nodes (refutes-walked (obligation d f) nodes r)) state [] (in_slots d state h) refl
+    obligation-means f (slots_of d) [] (sound (obligation d f) nodes (refutes-walked (obligation d f) nodes r)) state []
+    (in_slots d state h) refl
 
 all-valid : (d : SmallDocument) (fs : List CForm) (cs : List Certificate) → AreRefuted d fs cs → All (IsValid d) fs
 all-valid d [] cs r = All-nil (IsValid d)
 all-valid d (f ∷ fs) [] r = absurd r
-all-valid d (f ∷ fs) (c ∷ cs) r = All-cons (IsValid d) f fs (refuted-valid d f (map node_of c.nodes) r.0) (all-valid d fs cs r.1)
+all-valid d (f ∷ fs) (c ∷ cs) r =
+    All-cons (IsValid d) f fs (refuted-valid d f (map node_of c.nodes) r.0) (all-valid d fs cs r.1)
 
 pub accepted_is_safe : AcceptedIsSafe
 accepted_is_safe d formed f = (sound_steps d (all-valid d (obligation_forms d) d.certificates f.refuted)).0
@@ -72,7 +75,8 @@ pub all-whole : (cs : List Certificate) → list_all (λ c. are_trees 1 c.nodes)
 all-whole [] h = tt
 all-whole (c ∷ cs) h = (and-left (are_trees 1 c.nodes) _ h, all-whole cs (and-right (are_trees 1 c.nodes) _ h))
 
-pub all-light : (d : SmallDocument) (fs : List CForm) → fs ≡ obligation_forms d → All (λ f. form_load f ≤ 2 ^ 62) fs → AreLight fs
+pub all-light : (d : SmallDocument) (fs : List CForm) → fs ≡ obligation_forms d → All (λ f. form_load f ≤ 2 ^ 62) fs →
+    AreLight fs
 all-light d fs e all =
     let three : All (λ f. form_load f ≤ 2 ^ 62) (obligation_forms d) = subst (All (λ f. form_load f ≤ 2 ^ 62)) e all in
     let first = three 0 (defined_obligation d) (lit< tt) in
@@ -106,53 +110,37 @@ pub is_some : (n : ℕ) → nat_eq n 0 ≡ false → 0 < n
 is_some zero h = cc
 is_some (suc n) h = omega arith
 
--- without formulas, all are refuted where there is no certificate
-pub none-needed : (d : SmallDocument) (fs : List CForm) (cs : List Certificate) (b : Bool) → length fs ≡ 0 → b ≡ nat_eq (length cs) 0 → IsTrue b ↔ AreRefuted d fs cs
-none-needed d [] [] b h e = (λ _. tt, λ _. e)
-none-needed d [] (c ∷ cs) b h e = (λ t. let z : length (c ∷ cs) ≡ 0 = is_zero (length (c ∷ cs)) (sym e ∙ t) in absurd (omega arith), λ r. absurd r)
-none-needed d (f ∷ fs) cs b h e = absurd (omega arith)
-
 -- formulas without certificates are not refuted
-pub none-left : (d : SmallDocument) (fs : List CForm) (cs : List Certificate) → 0 < length fs → length cs ≡ 0 → AreRefuted d fs cs → ⊥
-none-left d [] cs h g r = absurd (omega arith)
-none-left d (f ∷ fs) [] h g r = r
-none-left d (f ∷ fs) (c ∷ cs) h g r = absurd (omega arith)
-
--- the first is not refuted
-pub first-fails : (d : SmallDocument) (fs : List CForm) (cs : List Certificate) (f : CForm) (c : Certificate) → 0 < length fs → 0 < length cs →
-    f ≡ get_or fs 0 f → c ≡ get_or cs 0 c → (Refuted (obligation d f) (map node_of c.nodes) → ⊥) → AreRefuted d fs cs → ⊥
-first-fails d [] cs f c h g p q never r = absurd (omega arith)
-first-fails d (x ∷ fs) [] f c h g p q never r = absurd (omega arith)
-first-fails d (x ∷ fs) (y ∷ cs) f c h g p q never r =
-    never (subst (λ z. Refuted (obligation d z) (map node_of c.nodes)) (sym p) (subst (λ z. Refuted (obligation d x) (map node_of z.nodes)) (sym q) r.0))
-
-pub light-first : (fs : List CForm) (f : CForm) → 0 < length fs → f ≡ get_or fs 0 f → AreLight fs → form_load f ≤ 2 ^ 62
-light-first [] f h p l = absurd (omega arith)
-light-first (x ∷ fs) f h p l = subst (λ z. form_load z ≤ 2 ^ 62) (sym p) l.0
-
-pub whole-first : (cs : List Certificate) (c : Certificate) → 0 < length cs → c ≡ get_or cs 0 c → AreWhole cs → are_trees 1 c.nodes ≡ true
-whole-first [] c h p l = absurd (omega arith)
-whole-first (x ∷ cs) c h p l = ap (λ z. are_trees 1 z.nodes) p ∙ l.0
+pub none-remaining : (d : SmallDocument) (fs : List CForm) (cs : List Certificate) → 0 < length fs → length cs ≡ 0 →
+    AreRefuted d fs cs → ⊥
+none-remaining d [] cs h g r = absurd (omega arith)
+none-remaining d (f ∷ fs) [] h g r = r
+none-remaining d (f ∷ fs) (c ∷ cs) h g r = absurd (omega arith)
 
 both : {R A : Type 0} (b : Bool) → R → (IsTrue b ↔ A) → (IsTrue b ↔ (R × A))
 both b r e = (λ h. (r, e.0 h), λ p. e.1 p.1)
 
-first-refuted : (d : SmallDocument) (f g : CForm) (fs : List CForm) (c e : Certificate) (cs : List Certificate) → f ≡ g → c ≡ e →
+first-refuted : (d : SmallDocument) (f g : CForm) (fs : List CForm) (c e : Certificate) (cs : List Certificate) →
+    f ≡ g → c ≡ e →
     Refuted (obligation d f) (map node_of c.nodes) → (r : Result Bool AllocError) →
     IfOk r (λ b. IsTrue b ↔ AreRefuted d fs cs) → IfOk r (λ b. IsTrue b ↔ AreRefuted d (g ∷ fs) (e ∷ cs))
 first-refuted d f g fs c e cs p q h (Err x) all = tt
 first-refuted d f g fs c e cs p q h (Ok b) all =
-    both b (subst (λ x. Refuted (obligation d x) (map node_of e.nodes)) p (subst (λ x. Refuted (obligation d f) (map node_of x.nodes)) q h)) all
+    both b (subst (λ x. Refuted (obligation d x) (map node_of e.nodes)) p
+    (subst (λ x. Refuted (obligation d f) (map node_of x.nodes)) q h)) all
 
 -- the first is refuted, and the rest decides
-pub rest-decides : (d : SmallDocument) (fs : List CForm) (cs : List Certificate) (f : CForm) (c : Certificate) → 0 < length fs → 0 < length cs →
-    f ≡ get_or fs 0 f → c ≡ get_or cs 0 c → Refuted (obligation d f) (map node_of c.nodes) → (r : Result Bool AllocError) →
+pub rest-decides : (d : SmallDocument) (fs : List CForm) (cs : List Certificate) (f : CForm) (c : Certificate) →
+    0 < length fs → 0 < length cs →
+    f ≡ get_or fs 0 f → c ≡ get_or cs 0 c → Refuted (obligation d f) (map node_of c.nodes) →
+    (r : Result Bool AllocError) →
     IfOk r (λ b. IsTrue b ↔ AreRefuted d (cut fs) (cut cs)) → IfOk r (λ b. IsTrue b ↔ AreRefuted d fs cs)
 rest-decides d [] cs f c h g p q one r all = absurd (omega arith)
 rest-decides d (x ∷ fs) [] f c h g p q one r all = absurd (omega arith)
 rest-decides d (x ∷ fs) (y ∷ cs) f c h g p q one r all =
     first-refuted d f x fs c y cs p q one r
-    (subst (λ ys. IfOk r (λ b. IsTrue b ↔ AreRefuted d fs ys)) (cut-cons y cs) (subst (λ xs. IfOk r (λ b. IsTrue b ↔ AreRefuted d xs (cut (y ∷ cs)))) (cut-cons x fs) all))
+    (subst (λ ys. IfOk r (λ b. IsTrue b ↔ AreRefuted d fs ys)) (cut-cons y cs)
+    (subst (λ xs. IfOk r (λ b. IsTrue b ↔ AreRefuted d xs (cut (y ∷ cs)))) (cut-cons x fs) all))
 
 -- a document whose start state is initial follows where its obligations are refuted
 pub started : (d : SmallDocument) → IsTrue (starts d) → (r : Result Bool AllocError) →

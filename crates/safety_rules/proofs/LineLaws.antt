@@ -19,12 +19,15 @@ sum_empty (f ∷ fs) = let e : f.1 *ℤ pos 0 ≡ pos 0 = *ℤ-zero f.1 in let i
 shift : (y : ℤ) (ys : List ℤ) (n : ℕ) (zs : List ℤ) → sum_of (y ∷ ys) (sparse (suc n) zs) ≡ sum_of ys (sparse n zs)
 shift y ys n [] = refl
 shift y ys n (z ∷ zs) =
-    elim (int_eq z (pos 0)) as (λ b. sum_of (y ∷ ys) (cond b (sparse (suc (suc n)) zs) ((suc n, z) ∷ sparse (suc (suc n)) zs)) ≡ sum_of ys (cond b (sparse (suc n) zs) ((n, z) ∷ sparse (suc n) zs))) [
+    elim (int_eq z (pos 0)) as (λ b. sum_of (y ∷ ys)
+    (cond b (sparse (suc (suc n)) zs) ((suc n, z) ∷ sparse (suc (suc n)) zs)) ≡ sum_of ys
+    (cond b (sparse (suc n) zs) ((n, z) ∷ sparse (suc n) zs))) [
       | true ↦ shift y ys (suc n) zs
       | false ↦ ap (λ s. z *ℤ number_at ys n +ℤ s) (shift y ys (suc n) zs)
     ]
 
-sparse-dot_at : (z v : ℤ) (zs values : List ℤ) (b : Bool) → int_eq z (pos 0) ≡ b → sum_of values (sparse 0 zs) ≡ dot zs values →
+sparse-dot_at : (z v : ℤ) (zs values : List ℤ) (b : Bool) → int_eq z (pos 0) ≡ b →
+    sum_of values (sparse 0 zs) ≡ dot zs values →
     sum_of (v ∷ values) (cond b (sparse 1 zs) ((zero, z) ∷ sparse 1 zs)) ≡ z *ℤ v +ℤ dot zs values
 sparse-dot_at z v zs values true e ih =
     let none : z *ℤ v ≡ pos 0 = ap (λ x. x *ℤ v) (int_eq-true z e) ∙ zero-*ℤ v in
@@ -43,7 +46,8 @@ fact_of-value values l = ap (λ z. z +ℤ l.constant) (sparse-dot l.factors valu
 pub dot-zeros : {A : Type 0} (vs : List A) (values : List ℤ) → dot (zeros vs) values ≡ pos 0
 dot-zeros [] values = refl
 dot-zeros (x ∷ vs) [] = refl
-dot-zeros (x ∷ vs) (v ∷ values) = let e : pos 0 *ℤ v ≡ pos 0 = zero-*ℤ v in let ih = dot-zeros vs values in omega (arith, ints, e, ih)
+dot-zeros (x ∷ vs) (v ∷ values) =
+    let e : pos 0 *ℤ v ≡ pos 0 = zero-*ℤ v in let ih = dot-zeros vs values in omega (arith, ints, e, ih)
 
 pub length-zeros : {A : Type 0} (vs : List A) → length (zeros vs) ≡ length vs
 length-zeros [] = refl
@@ -54,19 +58,22 @@ length-add_at [] n z = refl
 length-add_at (x ∷ xs) zero z = refl
 length-add_at (x ∷ xs) (suc n) z = ap suc (length-add_at xs n z)
 
-pub dot-add_at : (xs values : List ℤ) (n : ℕ) (z : ℤ) → length values ≡ length xs → dot (add_at xs n z) values ≡ dot xs values +ℤ z *ℤ number_at values n
+pub dot-add_at : (xs values : List ℤ) (n : ℕ) (z : ℤ) → length values ≡ length xs →
+    dot (add_at xs n z) values ≡ dot xs values +ℤ z *ℤ number_at values n
 dot-add_at [] [] n z e = let k : z *ℤ pos 0 ≡ pos 0 = *ℤ-zero z in omega (arith, ints, k)
 dot-add_at [] (v ∷ values) n z e = absurd (omega arith)
 dot-add_at (x ∷ xs) [] n z e = absurd (omega arith)
 dot-add_at (x ∷ xs) (v ∷ values) zero z e = let k = add-times x z v in omega (arith, ints, k)
-dot-add_at (x ∷ xs) (v ∷ values) (suc n) z e = let ih = dot-add_at xs values n z (omega arith) in omega (arith, ints, ih)
+dot-add_at (x ∷ xs) (v ∷ values) (suc n) z e =
+    let ih = dot-add_at xs values n z (omega arith) in omega (arith, ints, ih)
 
 pub length-plus : (k : ℤ) (xs ys : List ℤ) → length (plus k xs ys) ≡ length xs
 length-plus k [] ys = refl
 length-plus k (x ∷ xs) [] = refl
 length-plus k (x ∷ xs) (y ∷ ys) = ap suc (length-plus k xs ys)
 
-pub dot-plus : (k : ℤ) (xs ys values : List ℤ) → length ys ≡ length xs → dot (plus k xs ys) values ≡ dot xs values +ℤ k *ℤ dot ys values
+pub dot-plus : (k : ℤ) (xs ys values : List ℤ) → length ys ≡ length xs →
+    dot (plus k xs ys) values ≡ dot xs values +ℤ k *ℤ dot ys values
 dot-plus k [] [] values e = let z : k *ℤ pos 0 ≡ pos 0 = *ℤ-zero k in omega (arith, ints, z)
 dot-plus k [] (y ∷ ys) values e = absurd (omega arith)
 dot-plus k (x ∷ xs) [] values e = absurd (omega arith)

@@ -11,12 +11,14 @@ use Rattle.safety_rules.proofs.LineLaws.{length-zeros}
 use Rattle.safety_rules.proofs.LoadLaws.{sizes-zeros, line-same}
 use Rattle.safety_rules.proofs.SettlingLaws.{linear-long}
 
-pub place-stop : (vs : List Variable) (param : Bool) (n i : ℕ) (d : Variable) → i < length vs → is_named (slice_index_or vs i d) param n ≡ true → place_of (drop i vs) param n ≡ 0
+pub place-stop : (vs : List Variable) (param : Bool) (n i : ℕ) (d : Variable) → i < length vs →
+    is_named (slice_index_or vs i d) param n ≡ true → place_of (drop i vs) param n ≡ 0
 place-stop [] param n i d h e = absurd (omega arith)
 place-stop (v ∷ vs) param n zero d h e = ap (λ b. cond b zero (suc (place_of vs param n))) e
 place-stop (v ∷ vs) param n (suc i) d h e = place-stop vs param n i d (omega arith) e
 
-pub place-next : (vs : List Variable) (param : Bool) (n i : ℕ) (d : Variable) → i < length vs → is_named (slice_index_or vs i d) param n ≡ false →
+pub place-next : (vs : List Variable) (param : Bool) (n i : ℕ) (d : Variable) → i < length vs →
+    is_named (slice_index_or vs i d) param n ≡ false →
     place_of (drop i vs) param n ≡ suc (place_of (drop (i + 1) vs) param n)
 place-next [] param n i d h e = absurd (omega arith)
 place-next (v ∷ vs) param n zero d h e = ap (λ b. cond b zero (suc (place_of vs param n))) e
@@ -31,7 +33,8 @@ number-size [] n = omega arith
 number-size (x ∷ xs) zero = omega arith
 number-size (x ∷ xs) (suc n) = let ih = number-size xs n in omega (arith, ih)
 
-pub set-add : (xs : List ℤ) (n : ℕ) (z t : ℤ) → t ≡ number_at xs n +ℤ z → n < length xs → slice_set xs n t ≡ add_at xs n z
+pub set-add : (xs : List ℤ) (n : ℕ) (z t : ℤ) → t ≡ number_at xs n +ℤ z → n < length xs →
+    slice_set xs n t ≡ add_at xs n z
 set-add [] n z t e h = absurd (omega arith)
 set-add (x ∷ xs) zero z t e h = ap (λ y. y ∷ xs) e
 set-add (x ∷ xs) (suc n) z t e h = ap (λ ys. x ∷ ys) (set-add xs n z t e (omega arith))
@@ -43,10 +46,13 @@ past-add (x ∷ xs) (suc n) z h = ap (λ ys. x ∷ ys) (past-add xs n z (omega a
 
 pub ruleset add_at_laws = (number-size, set-add, past-add)
 
-pub zeros-more : {A : Type 0} (vs : List A) (i : ℕ) → i < length vs → zeros (take i vs) ++ pos 0 ∷ [] ≡ zeros (take (i + 1) vs)
+pub zeros-more : {A : Type 0} (vs : List A) (i : ℕ) → i < length vs →
+    zeros (take i vs) ++ pos 0 ∷ [] ≡ zeros (take (i + 1) vs)
 zeros-more [] i h = absurd (omega arith)
 zeros-more (v ∷ vs) zero h = refl
-zeros-more (v ∷ vs) (suc i) h = let k : suc i + 1 ≡ suc (i + 1) = omega arith in ap (λ x. pos 0 ∷ x) (zeros-more vs i (omega arith)) ∙ ap (λ n. zeros (take n (v ∷ vs))) (sym k)
+zeros-more (v ∷ vs) (suc i) h =
+    let k : suc i + 1 ≡ suc (i + 1) = omega arith in ap (λ x. pos 0 ∷ x) (zeros-more vs i (omega arith))
+    ∙ ap (λ n. zeros (take n (v ∷ vs))) (sym k)
 
 pub ruleset zeros_laws = zeros-more
 
@@ -59,8 +65,11 @@ plus-once (v ∷ vs) (x ∷ xs) e =
     ap (λ u. u ∷ plus (pos 1) (zeros vs) xs) o ∙ ap (λ us. x ∷ us) (plus-once vs xs (omega arith))
 
 -- a linear form added once to 0
-pub line-once : (vs : List Variable) (t : CTerm) → line_plus (pos 1) (line_of_const vs (pos 0)) (linear vs t) ≡ linear vs t
-line-once vs t = line-same (line_plus (pos 1) (line_of_const vs (pos 0)) (linear vs t)) (linear vs t) (plus-once vs (linear vs t).factors (linear-long vs t)) (omega (arith, ints))
+pub line-once : (vs : List Variable) (t : CTerm) →
+    line_plus (pos 1) (line_of_const vs (pos 0)) (linear vs t) ≡ linear vs t
+line-once vs t =
+    line-same (line_plus (pos 1) (line_of_const vs (pos 0)) (linear vs t)) (linear vs t)
+    (plus-once vs (linear vs t).factors (linear-long vs t)) (omega (arith, ints))
 
 pub zero-norm : (vs : List Variable) → norm (line_of_const vs (pos 0)) ≡ 0
 zero-norm vs = let z = sizes-zeros vs in omega (arith, z)
@@ -71,10 +80,12 @@ zero-long vs = length-zeros vs
 pub ruleset line_laws = (line-once, zero-norm, zero-long)
 
 sparse-cons : (n : ℕ) (z : ℤ) (zs : List ℤ) → sparse n (z ∷ zs) ≡ sparse n (z ∷ []) ++ sparse (suc n) zs
-sparse-cons n z zs = elim (int_eq z (pos 0)) as (λ b. cond b (sparse (suc n) zs) ((n, z) ∷ sparse (suc n) zs) ≡ cond b [] ((n, z) ∷ []) ++ sparse (suc n) zs) [
-  | true ↦ refl
-  | false ↦ refl
-]
+sparse-cons n z zs =
+    elim (int_eq z (pos 0)) as (λ b. cond b (sparse (suc n) zs) ((n, z) ∷ sparse (suc n) zs) ≡ cond b []
+    ((n, z) ∷ []) ++ sparse (suc n) zs) [
+      | true ↦ refl
+      | false ↦ refl
+    ]
 
 pub sparse-next : (xs : List ℤ) (i n : ℕ) (e : ℤ) → i < length xs →
     sparse n (drop i xs) ≡ sparse n (slice_index_or xs i e ∷ []) ++ sparse (suc n) (drop (i + 1) xs)
@@ -82,7 +93,8 @@ sparse-next [] i n e h = absurd (omega arith)
 sparse-next (x ∷ xs) zero n e h = sparse-cons n x xs
 sparse-next (x ∷ xs) (suc i) n e h =
     let k : suc i + 1 ≡ suc (i + 1) = omega arith in
-    sparse-next xs i n e (omega arith) ∙ ap (λ m. sparse n (slice_index_or xs i e ∷ []) ++ sparse (suc n) (drop m (x ∷ xs))) (sym k)
+    sparse-next xs i n e (omega arith) ∙ ap (λ m. sparse n (slice_index_or xs i e ∷ []) ++ sparse (suc n)
+    (drop m (x ∷ xs))) (sym k)
 
 pub sparse-more : (xs : List ℤ) (i : ℕ) (e : ℤ) (old new all : List (ℕ × ℤ)) → i < length xs →
     new ≡ old ++ sparse i (slice_index_or xs i e ∷ []) → old ++ sparse i (drop i xs) ≡ all →

@@ -9,15 +9,18 @@ two-more a b c x y p q = q ∙ ap (λ z. z ++ y ∷ []) p ∙ append_assoc a (x 
 
 pub ruleset two_laws = two-more
 
-ranges-next : (vs : List Variable) (i n : ℕ) (d : Variable) → i < length vs → range_facts n (drop i vs) ≡ range_facts n (slice_index_or vs i d ∷ []) ++ range_facts (suc n) (drop (i + 1) vs)
+ranges-next : (vs : List Variable) (i n : ℕ) (d : Variable) → i < length vs →
+    range_facts n (drop i vs) ≡ range_facts n (slice_index_or vs i d ∷ []) ++ range_facts (suc n) (drop (i + 1) vs)
 ranges-next [] i n d h = absurd (omega arith)
 ranges-next (v ∷ vs) zero n d h = refl
 ranges-next (v ∷ vs) (suc i) n d h =
     let k : suc i + 1 ≡ suc (i + 1) = omega arith in
-    ranges-next vs i n d (omega arith) ∙ ap (λ m. range_facts n (slice_index_or vs i d ∷ []) ++ range_facts (suc n) (drop m (v ∷ vs))) (sym k)
+    ranges-next vs i n d (omega arith) ∙ ap (λ m. range_facts n (slice_index_or vs i d ∷ []) ++ range_facts (suc n)
+    (drop m (v ∷ vs))) (sym k)
 
 pub ranges-more : (vs : List Variable) (i : ℕ) (d : Variable) (old new all : List Fact) → i < length vs →
-    new ≡ old ++ range_facts i (slice_index_or vs i d ∷ []) → old ++ range_facts i (drop i vs) ≡ all → new ++ range_facts (i + 1) (drop (i + 1) vs) ≡ all
+    new ≡ old ++ range_facts i (slice_index_or vs i d ∷ []) → old ++ range_facts i (drop i vs) ≡ all →
+    new ++ range_facts (i + 1) (drop (i + 1) vs) ≡ all
 ranges-more vs i d old new all h n k =
     let one : i + 1 ≡ suc i = omega arith in
     ap (λ x. x ++ range_facts (i + 1) (drop (i + 1) vs)) n

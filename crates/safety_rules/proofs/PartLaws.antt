@@ -10,46 +10,63 @@ use Rattle.safety_rules.specs.CoreValue.{int_eq, number_at, term_step, form_step
 use Rattle.safety_rules.specs.Bound.{bound_term, bound_form, term_bound, form_bound}
 
 pub value-Const : (s p : List ℤ) (c : ℤ) → term_value s p (Const c) ≡ c
-value-Const s p c = ap (term_value s p) (sym (rolls-Const c)) ∙ fold-roll-CTerm Bool ℤ form_step (term_step s p) (CTerm-F.Const c)
+value-Const s p c =
+    ap (term_value s p) (sym (rolls-Const c)) ∙ fold-roll-CTerm Bool ℤ form_step (term_step s p) (CTerm-F.Const c)
 
 pub bound-Const : (slot : ℕ) (c : ℤ) → term_bound slot (Const c) ≡ unsigned_abs c
-bound-Const slot c = ap (term_bound slot) (sym (rolls-Const c)) ∙ fold-roll-CTerm ℕ ℕ bound_form (bound_term slot) (CTerm-F.Const c)
+bound-Const slot c =
+    ap (term_bound slot) (sym (rolls-Const c)) ∙ fold-roll-CTerm ℕ ℕ bound_form (bound_term slot) (CTerm-F.Const c)
 
 pub value-Slot : (s p : List ℤ) (n : ℕ) → term_value s p (Slot n) ≡ number_at s n
-value-Slot s p n = ap (term_value s p) (sym (rolls-Slot n)) ∙ fold-roll-CTerm Bool ℤ form_step (term_step s p) (CTerm-F.Slot n)
+value-Slot s p n =
+    ap (term_value s p) (sym (rolls-Slot n)) ∙ fold-roll-CTerm Bool ℤ form_step (term_step s p) (CTerm-F.Slot n)
 
 pub bound-Slot : (slot : ℕ) (n : ℕ) → term_bound slot (Slot n) ≡ slot
-bound-Slot slot n = ap (term_bound slot) (sym (rolls-Slot n)) ∙ fold-roll-CTerm ℕ ℕ bound_form (bound_term slot) (CTerm-F.Slot n)
+bound-Slot slot n =
+    ap (term_bound slot) (sym (rolls-Slot n)) ∙ fold-roll-CTerm ℕ ℕ bound_form (bound_term slot) (CTerm-F.Slot n)
 
 pub value-Param : (s p : List ℤ) (n : ℕ) → term_value s p (Param n) ≡ number_at p n
-value-Param s p n = ap (term_value s p) (sym (rolls-Param n)) ∙ fold-roll-CTerm Bool ℤ form_step (term_step s p) (CTerm-F.Param n)
+value-Param s p n =
+    ap (term_value s p) (sym (rolls-Param n)) ∙ fold-roll-CTerm Bool ℤ form_step (term_step s p) (CTerm-F.Param n)
 
 pub bound-Param : (slot : ℕ) (n : ℕ) → term_bound slot (Param n) ≡ 1
-bound-Param slot n = ap (term_bound slot) (sym (rolls-Param n)) ∙ fold-roll-CTerm ℕ ℕ bound_form (bound_term slot) (CTerm-F.Param n)
+bound-Param slot n =
+    ap (term_bound slot) (sym (rolls-Param n)) ∙ fold-roll-CTerm ℕ ℕ bound_form (bound_term slot) (CTerm-F.Param n)
 
 pub value-Add : (s p : List ℤ) (a b : CTerm) → term_value s p (Add a b) ≡ term_value s p a +ℤ term_value s p b
-value-Add s p a b = ap (term_value s p) (sym (rolls-Add a b)) ∙ fold-roll-CTerm Bool ℤ form_step (term_step s p) (CTerm-F.Add a b)
+value-Add s p a b =
+    ap (term_value s p) (sym (rolls-Add a b)) ∙ fold-roll-CTerm Bool ℤ form_step (term_step s p) (CTerm-F.Add a b)
 
 pub bound-Add : (slot : ℕ) (a b : CTerm) → term_bound slot (Add a b) ≡ term_bound slot a + term_bound slot b
-bound-Add slot a b = ap (term_bound slot) (sym (rolls-Add a b)) ∙ fold-roll-CTerm ℕ ℕ bound_form (bound_term slot) (CTerm-F.Add a b)
+bound-Add slot a b =
+    ap (term_bound slot) (sym (rolls-Add a b)) ∙ fold-roll-CTerm ℕ ℕ bound_form (bound_term slot) (CTerm-F.Add a b)
 
 pub value-Sub : (s p : List ℤ) (a b : CTerm) → term_value s p (Sub a b) ≡ term_value s p a -ℤ term_value s p b
-value-Sub s p a b = ap (term_value s p) (sym (rolls-Sub a b)) ∙ fold-roll-CTerm Bool ℤ form_step (term_step s p) (CTerm-F.Sub a b)
+value-Sub s p a b =
+    ap (term_value s p) (sym (rolls-Sub a b)) ∙ fold-roll-CTerm Bool ℤ form_step (term_step s p) (CTerm-F.Sub a b)
 
 pub bound-Sub : (slot : ℕ) (a b : CTerm) → term_bound slot (Sub a b) ≡ term_bound slot a + term_bound slot b
-bound-Sub slot a b = ap (term_bound slot) (sym (rolls-Sub a b)) ∙ fold-roll-CTerm ℕ ℕ bound_form (bound_term slot) (CTerm-F.Sub a b)
+bound-Sub slot a b =
+    ap (term_bound slot) (sym (rolls-Sub a b)) ∙ fold-roll-CTerm ℕ ℕ bound_form (bound_term slot) (CTerm-F.Sub a b)
 
 pub value-Scale : (s p : List ℤ) (k : ℤ) (a : CTerm) → term_value s p (Scale k a) ≡ k *ℤ term_value s p a
-value-Scale s p k a = ap (term_value s p) (sym (rolls-Scale k a)) ∙ fold-roll-CTerm Bool ℤ form_step (term_step s p) (CTerm-F.Scale k a)
+value-Scale s p k a =
+    ap (term_value s p) (sym (rolls-Scale k a)) ∙ fold-roll-CTerm Bool ℤ form_step (term_step s p) (CTerm-F.Scale k a)
 
-pub bound-Scale : (slot : ℕ) (k : ℤ) (a : CTerm) → term_bound slot (Scale k a) ≡ max (term_bound slot a) (unsigned_abs k * term_bound slot a)
-bound-Scale slot k a = ap (term_bound slot) (sym (rolls-Scale k a)) ∙ fold-roll-CTerm ℕ ℕ bound_form (bound_term slot) (CTerm-F.Scale k a)
+pub bound-Scale : (slot : ℕ) (k : ℤ) (a : CTerm) →
+    term_bound slot (Scale k a) ≡ max (term_bound slot a) (unsigned_abs k * term_bound slot a)
+bound-Scale slot k a =
+    ap (term_bound slot) (sym (rolls-Scale k a)) ∙ fold-roll-CTerm ℕ ℕ bound_form (bound_term slot) (CTerm-F.Scale k a)
 
-pub value-Ite : (s p : List ℤ) (c : CForm) (a b : CTerm) → term_value s p (Ite c a b) ≡ cond (form_value s p c) (term_value s p a) (term_value s p b)
-value-Ite s p c a b = ap (term_value s p) (sym (rolls-Ite c a b)) ∙ fold-roll-CTerm Bool ℤ form_step (term_step s p) (CTerm-F.Ite c a b)
+pub value-Ite : (s p : List ℤ) (c : CForm) (a b : CTerm) →
+    term_value s p (Ite c a b) ≡ cond (form_value s p c) (term_value s p a) (term_value s p b)
+value-Ite s p c a b =
+    ap (term_value s p) (sym (rolls-Ite c a b)) ∙ fold-roll-CTerm Bool ℤ form_step (term_step s p) (CTerm-F.Ite c a b)
 
-pub bound-Ite : (slot : ℕ) (c : CForm) (a b : CTerm) → term_bound slot (Ite c a b) ≡ max (form_bound slot c) (max (term_bound slot a) (term_bound slot b))
-bound-Ite slot c a b = ap (term_bound slot) (sym (rolls-Ite c a b)) ∙ fold-roll-CTerm ℕ ℕ bound_form (bound_term slot) (CTerm-F.Ite c a b)
+pub bound-Ite : (slot : ℕ) (c : CForm) (a b : CTerm) →
+    term_bound slot (Ite c a b) ≡ max (form_bound slot c) (max (term_bound slot a) (term_bound slot b))
+bound-Ite slot c a b =
+    ap (term_bound slot) (sym (rolls-Ite c a b)) ∙ fold-roll-CTerm ℕ ℕ bound_form (bound_term slot) (CTerm-F.Ite c a b)
 
 pub value-Top : (s p : List ℤ) → form_value s p Top ≡ true
 value-Top s p = ap (form_value s p) (sym rolls-Top) ∙ fold-roll-CForm Bool ℤ form_step (term_step s p) CForm-F.Top
@@ -58,37 +75,49 @@ pub bound-Top : (slot : ℕ) → form_bound slot Top ≡ 0
 bound-Top slot = ap (form_bound slot) (sym rolls-Top) ∙ fold-roll-CForm ℕ ℕ bound_form (bound_term slot) CForm-F.Top
 
 pub value-Bottom : (s p : List ℤ) → form_value s p Bottom ≡ false
-value-Bottom s p = ap (form_value s p) (sym rolls-Bottom) ∙ fold-roll-CForm Bool ℤ form_step (term_step s p) CForm-F.Bottom
+value-Bottom s p =
+    ap (form_value s p) (sym rolls-Bottom) ∙ fold-roll-CForm Bool ℤ form_step (term_step s p) CForm-F.Bottom
 
 pub bound-Bottom : (slot : ℕ) → form_bound slot Bottom ≡ 0
-bound-Bottom slot = ap (form_bound slot) (sym rolls-Bottom) ∙ fold-roll-CForm ℕ ℕ bound_form (bound_term slot) CForm-F.Bottom
+bound-Bottom slot =
+    ap (form_bound slot) (sym rolls-Bottom) ∙ fold-roll-CForm ℕ ℕ bound_form (bound_term slot) CForm-F.Bottom
 
 pub value-AtLeast : (s p : List ℤ) (t : CTerm) → form_value s p (AtLeast t) ≡ int_le (pos 0) (term_value s p t)
-value-AtLeast s p t = ap (form_value s p) (sym (rolls-AtLeast t)) ∙ fold-roll-CForm Bool ℤ form_step (term_step s p) (CForm-F.AtLeast t)
+value-AtLeast s p t =
+    ap (form_value s p) (sym (rolls-AtLeast t)) ∙ fold-roll-CForm Bool ℤ form_step (term_step s p) (CForm-F.AtLeast t)
 
 pub bound-AtLeast : (slot : ℕ) (t : CTerm) → form_bound slot (AtLeast t) ≡ term_bound slot t
-bound-AtLeast slot t = ap (form_bound slot) (sym (rolls-AtLeast t)) ∙ fold-roll-CForm ℕ ℕ bound_form (bound_term slot) (CForm-F.AtLeast t)
+bound-AtLeast slot t =
+    ap (form_bound slot) (sym (rolls-AtLeast t)) ∙ fold-roll-CForm ℕ ℕ bound_form (bound_term slot) (CForm-F.AtLeast t)
 
 pub value-Zero : (s p : List ℤ) (t : CTerm) → form_value s p (Zero t) ≡ int_eq (term_value s p t) (pos 0)
-value-Zero s p t = ap (form_value s p) (sym (rolls-Zero t)) ∙ fold-roll-CForm Bool ℤ form_step (term_step s p) (CForm-F.Zero t)
+value-Zero s p t =
+    ap (form_value s p) (sym (rolls-Zero t)) ∙ fold-roll-CForm Bool ℤ form_step (term_step s p) (CForm-F.Zero t)
 
 pub bound-Zero : (slot : ℕ) (t : CTerm) → form_bound slot (Zero t) ≡ term_bound slot t
-bound-Zero slot t = ap (form_bound slot) (sym (rolls-Zero t)) ∙ fold-roll-CForm ℕ ℕ bound_form (bound_term slot) (CForm-F.Zero t)
+bound-Zero slot t =
+    ap (form_bound slot) (sym (rolls-Zero t)) ∙ fold-roll-CForm ℕ ℕ bound_form (bound_term slot) (CForm-F.Zero t)
 
 pub value-Not : (s p : List ℤ) (f : CForm) → form_value s p (Not f) ≡ not (form_value s p f)
-value-Not s p f = ap (form_value s p) (sym (rolls-Not f)) ∙ fold-roll-CForm Bool ℤ form_step (term_step s p) (CForm-F.Not f)
+value-Not s p f =
+    ap (form_value s p) (sym (rolls-Not f)) ∙ fold-roll-CForm Bool ℤ form_step (term_step s p) (CForm-F.Not f)
 
 pub bound-Not : (slot : ℕ) (f : CForm) → form_bound slot (Not f) ≡ form_bound slot f
-bound-Not slot f = ap (form_bound slot) (sym (rolls-Not f)) ∙ fold-roll-CForm ℕ ℕ bound_form (bound_term slot) (CForm-F.Not f)
+bound-Not slot f =
+    ap (form_bound slot) (sym (rolls-Not f)) ∙ fold-roll-CForm ℕ ℕ bound_form (bound_term slot) (CForm-F.Not f)
 
 pub value-And : (s p : List ℤ) (f g : CForm) → form_value s p (And f g) ≡ (form_value s p f && form_value s p g)
-value-And s p f g = ap (form_value s p) (sym (rolls-And f g)) ∙ fold-roll-CForm Bool ℤ form_step (term_step s p) (CForm-F.And f g)
+value-And s p f g =
+    ap (form_value s p) (sym (rolls-And f g)) ∙ fold-roll-CForm Bool ℤ form_step (term_step s p) (CForm-F.And f g)
 
 pub bound-And : (slot : ℕ) (f g : CForm) → form_bound slot (And f g) ≡ max (form_bound slot f) (form_bound slot g)
-bound-And slot f g = ap (form_bound slot) (sym (rolls-And f g)) ∙ fold-roll-CForm ℕ ℕ bound_form (bound_term slot) (CForm-F.And f g)
+bound-And slot f g =
+    ap (form_bound slot) (sym (rolls-And f g)) ∙ fold-roll-CForm ℕ ℕ bound_form (bound_term slot) (CForm-F.And f g)
 
 pub value-Or : (s p : List ℤ) (f g : CForm) → form_value s p (Or f g) ≡ (form_value s p f || form_value s p g)
-value-Or s p f g = ap (form_value s p) (sym (rolls-Or f g)) ∙ fold-roll-CForm Bool ℤ form_step (term_step s p) (CForm-F.Or f g)
+value-Or s p f g =
+    ap (form_value s p) (sym (rolls-Or f g)) ∙ fold-roll-CForm Bool ℤ form_step (term_step s p) (CForm-F.Or f g)
 
 pub bound-Or : (slot : ℕ) (f g : CForm) → form_bound slot (Or f g) ≡ max (form_bound slot f) (form_bound slot g)
-bound-Or slot f g = ap (form_bound slot) (sym (rolls-Or f g)) ∙ fold-roll-CForm ℕ ℕ bound_form (bound_term slot) (CForm-F.Or f g)
+bound-Or slot f g =
+    ap (form_bound slot) (sym (rolls-Or f g)) ∙ fold-roll-CForm ℕ ℕ bound_form (bound_term slot) (CForm-F.Or f g)

@@ -27,21 +27,25 @@ write_means s state =
     ap (λ v. cond v ((Some 0, term_value state [] (term_of s.value)) ∷ []) []) (form_means s.condition state)
     ∙ ap (λ z. cond (comparison_holds state s.condition) ((Some 0, z) ∷ []) []) (term_means s.value state)
 
-pub write_of_bound : (s : Statement) → IsSmallComparison s.condition → IsSmallExpression s.value → write_bound (write_of s) ≤ 4000000005
+pub write_of_bound : (s : Statement) → IsSmallComparison s.condition → IsSmallExpression s.value →
+    write_bound (write_of s) ≤ 4000000005
 write_of_bound s h k = omega (arith, form_of_bound 1 s.condition h, term_of_bound 1 s.value k)
 
 within_holds : (state : State) (value : CTerm) (r : Range) →
     form_value state [] (within_form value r) ≡ in_range (Some (r.lo, r.hi)) (term_value state [] value)
 within_holds state value r =
     let z = term_value state [] value in
-    value-and_form state [] (least_form (difference_term value (Const r.lo))) (least_form (difference_term (Const r.hi) value))
+    value-and_form state [] (least_form (difference_term value (Const r.lo)))
+    (least_form (difference_term (Const r.hi) value))
     ∙ ap (λ v. v && form_value state [] (least_form (difference_term (Const r.hi) value)))
     (value-least_form state [] (difference_term value (Const r.lo))
-    ∙ ap (λ x. int_le (pos 0) x) (value-difference_term state [] value (Const r.lo) ∙ ap (λ x. z -ℤ x) (value-Const state [] r.lo))
+    ∙ ap (λ x. int_le (pos 0) x) (value-difference_term state [] value (Const r.lo)
+    ∙ ap (λ x. z -ℤ x) (value-Const state [] r.lo))
     ∙ least_tests r.lo z)
     ∙ ap (λ v. int_le r.lo z && v)
     (value-least_form state [] (difference_term (Const r.hi) value)
-    ∙ ap (λ x. int_le (pos 0) x) (value-difference_term state [] (Const r.hi) value ∙ ap (λ x. x -ℤ z) (value-Const state [] r.hi))
+    ∙ ap (λ x. int_le (pos 0) x) (value-difference_term state [] (Const r.hi) value
+    ∙ ap (λ x. x -ℤ z) (value-Const state [] r.hi))
     ∙ least_tests z r.hi)
 
 inside_holds : (state : State) (value : CTerm) (o : Option Range) →
@@ -50,11 +54,13 @@ inside_holds state value None = value-Bottom state []
 inside_holds state value (Some r) = within_holds state value r
 
 -- one write is defined where its value lies in the range of its slot
-one_write : (rs : Ranges) (n : ℕ) (z : ℤ) (b : Bool) → in_range (range_at rs n) z ≡ b → is_defined rs ((Some n, z) ∷ []) ≡ b
+one_write : (rs : Ranges) (n : ℕ) (z : ℤ) (b : Bool) → in_range (range_at rs n) z ≡ b →
+    is_defined rs ((Some n, z) ∷ []) ≡ b
 one_write rs n z true e = ap (λ v. (v && true) && true) e
 one_write rs n z false e = ap (λ v. (v && true) && true) e
 
-fired_defined : (rs : Ranges) (n : ℕ) (z : ℤ) (h : Bool) → (not h || in_range (range_at rs n) z) ≡ is_defined rs (cond h ((Some n, z) ∷ []) [])
+fired_defined : (rs : Ranges) (n : ℕ) (z : ℤ) (h : Bool) →
+    (not h || in_range (range_at rs n) z) ≡ is_defined rs (cond h ((Some n, z) ∷ []) [])
 fired_defined rs n z true = sym (one_write rs n z (in_range (range_at rs n) z) refl)
 fired_defined rs n z false = refl
 
@@ -64,7 +70,8 @@ defined_holds slots w state =
     let z = term_value state [] w.value in
     value-or_form state [] (not_form w.when) (inside_form w.value (slice_get slots w.slot))
     ∙ ap (λ v. v || form_value state [] (inside_form w.value (slice_get slots w.slot))) (value-not_form state [] w.when)
-    ∙ ap (λ v. not (form_value state [] w.when) || v) (inside_holds state w.value (slice_get slots w.slot) ∙ ap (λ o. in_range o z) (sym (range_at-ranges slots w.slot)))
+    ∙ ap (λ v. not (form_value state [] w.when) || v)
+    (inside_holds state w.value (slice_get slots w.slot) ∙ ap (λ o. in_range o z) (sym (range_at-ranges slots w.slot)))
     ∙ fired_defined (ranges slots) w.slot z (form_value state [] w.when)
 
 meets_any : (b : Bool) (after : State) → b ≡ meets (λ s. true) (cond b (Some after) None)
@@ -83,7 +90,8 @@ fired_within rs state n z true e d f =
     rw (length_of_state rs state e) (slot_within rs n z inside)
 fired_within rs state n z false e d f = cc
 
-meets_both : (b : Bool) (test : State → Bool) (after : State) (v : Bool) → (b ≡ true → v ≡ test after) → (b && v) ≡ meets test (cond b (Some after) None)
+meets_both : (b : Bool) (test : State → Bool) (after : State) (v : Bool) → (b ≡ true → v ≡ test after) →
+    (b && v) ≡ meets test (cond b (Some after) None)
 meets_both true test after v h = h refl
 meets_both false test after v h = refl
 
@@ -93,5 +101,6 @@ precondition slots w q state is =
     let made = fired state w in
     value-and_form state [] (defined_form w slots) (form_after w q)
     ∙ ap (λ v. v && form_value state [] (form_after w q)) (defined_holds slots w state)
-    ∙ meets_both (is_defined (ranges slots) made) (λ after. form_value after [] q) (written state made) (form_value state [] (form_after w q))
+    ∙ meets_both (is_defined (ranges slots) made) (λ after. form_value after [] q) (written state made)
+    (form_value state [] (form_after w q))
     (λ d. form_same state w (fired_within (ranges slots) state w.slot z (form_value state [] w.when) is d) q)

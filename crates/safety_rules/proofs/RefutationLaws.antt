@@ -16,7 +16,7 @@ use Rattle.safety_rules.specs.declared.obligations.Branch.{Branch}
 use Rattle.safety_rules.specs.declared.obligations.Variable.{Variable}
 use Rattle.safety_rules.specs.declared.certificate_check.Node.{Node}
 use Rattle.safety_rules.specs.declared.certificate_check.Pending.{Pending}
-use Rattle.safety_rules.specs.declared.certificate_check.Code.{Code}
+use Rattle.case_tables.specs.declared.code_table.Code.{Code}
 use Rattle.safety_rules.specs.declared.obligations.Line.{Line}
 use Rattle.safety_rules.specs.LinearForms.{add_at, dot, line_value, sum_of, fact_value, fact_holds}
 use Rattle.safety_rules.specs.Settling.{term_at_step, term_at, settled, form_at, branch_holds}
@@ -34,7 +34,8 @@ some_is true m x e = e
 some_is false m x e = cc
 
 -- The value of a running sum.
-add_factors-value : (m : ℤ) (fs : List (ℕ × ℤ)) (sum out values : List ℤ) → length values ≡ length sum → add_factors m fs sum ≡ Some out →
+add_factors-value : (m : ℤ) (fs : List (ℕ × ℤ)) (sum out values : List ℤ) → length values ≡ length sum →
+    add_factors m fs sum ≡ Some out →
     (dot out values ≡ dot sum values +ℤ m *ℤ sum_of values fs) × (length out ≡ length sum)
 add_factors-value m [] sum out values n e =
     let o : sum ≡ out = cc in
@@ -42,21 +43,27 @@ add_factors-value m [] sum out values n e =
     ((ap (λ x. dot x values) (sym o) ∙ omega (arith, ints, z)), ap length (sym o))
 add_factors-value m (f ∷ fs) sum out values n e =
     let next = some_is _ (add_factors m fs (add_at sum f.0 (m *ℤ f.1))) out e in
-    let ih = add_factors-value m fs (add_at sum f.0 (m *ℤ f.1)) out values (n ∙ sym (length-add_at sum f.0 (m *ℤ f.1))) next in
+    let ih = add_factors-value m fs (add_at sum f.0 (m *ℤ f.1)) out values (n ∙ sym (length-add_at sum f.0 (m *ℤ f.1)))
+    next in
     let d = dot-add_at sum values f.0 (m *ℤ f.1) n in
     let t = times-times m f.1 (number_at values f.0) in
     let a = times-add m (f.1 *ℤ number_at values f.0) (sum_of values fs) in
     let i0 = ih.0 in
     (omega (arith, ints, i0, d, t, a), ih.1 ∙ length-add_at sum f.0 (m *ℤ f.1))
 
-with_constant-is : (c : ℤ) (o : Option (List ℤ)) (l : Line) → with_constant c o ≡ Some l → (o ≡ Some l.factors) × (l.constant ≡ c)
+with_constant-is : (c : ℤ) (o : Option (List ℤ)) (l : Line) → with_constant c o ≡ Some l →
+    (o ≡ Some l.factors) × (l.constant ≡ c)
 with_constant-is c None l e = cc
-with_constant-is c (Some fs) l e = let q : record { factors = fs; constant = c } ≡ l = cc in (ap (λ (x : Line). Some x.factors) q, sym (ap (λ (x : Line). x.constant) q))
+with_constant-is c (Some fs) l e =
+    let q : record { factors = fs; constant = c }
+    ≡ l = cc in (ap (λ (x : Line). Some x.factors) q, sym (ap (λ (x : Line). x.constant) q))
 
-add_times-value : (m : ℤ) (f : Fact) (sum l : Line) (values : List ℤ) → length values ≡ length sum.factors → add_times m f sum ≡ Some l →
+add_times-value : (m : ℤ) (f : Fact) (sum l : Line) (values : List ℤ) → length values ≡ length sum.factors →
+    add_times m f sum ≡ Some l →
     (line_value values l ≡ line_value values sum +ℤ m *ℤ fact_value values f) × (length l.factors ≡ length sum.factors)
 add_times-value m f sum l values n e =
-    let w = with_constant-is (sum.constant +ℤ m *ℤ f.constant) (add_factors m f.factors sum.factors) l (some_is _ _ l e) in
+    let w = with_constant-is (sum.constant +ℤ m *ℤ f.constant) (add_factors m f.factors sum.factors) l
+    (some_is _ _ l e) in
     let r = add_factors-value m f.factors sum.factors l.factors values n w.0 in
     let t = times-add m (sum_of values f.factors) f.constant in
     let r0 = r.0 in let w1 = w.1 in
@@ -70,7 +77,8 @@ times-at_least_0 (negsuc a) z p q = cc
 sum-at_least_0 : (x y z : ℤ) → is_at_least_0 x ≡ true → is_at_least_0 y ≡ true → z ≡ x +ℤ y → is_at_least_0 z ≡ true
 sum-at_least_0 x y z p q e = grind (arith, ints)
 
-all-at : {A : Type 0} (t : A → Bool) (xs : List A) (n : ℕ) (x : A) → list_all t xs ≡ true → slice_get xs n ≡ Some x → t x ≡ true
+all-at : {A : Type 0} (t : A → Bool) (xs : List A) (n : ℕ) (x : A) → list_all t xs ≡ true → slice_get xs n ≡ Some x →
+    t x ≡ true
 all-at t [] n x a e = cc
 all-at t (y ∷ ys) zero x a e = let s : y ≡ x = cc in ap t (sym s) ∙ (and_parts (t y) (list_all t ys) a).0
 all-at t (y ∷ ys) (suc n) x a e = all-at t ys n x (and_parts (t y) (list_all t ys) a).1 e
@@ -80,8 +88,10 @@ pub record Sums (vs : List Variable) (values : List ℤ) (l : Line) : Type 0 whe
   size : length l.factors ≡ length vs
   least : is_at_least_0 (line_value values l) ≡ true
 
-module _ (vs : List Variable) (values : List ℤ) (long : length values ≡ length vs) (facts : List Fact) (hold : list_all (fact_holds values) facts ≡ true) where
-  add_pair-sums : (p : ℤ × ℕ) (f : Option Fact) (sum l : Line) → numbered facts p.1 ≡ f → Sums vs values sum → add_pair p.0 f sum ≡ Ok l → Sums vs values l
+module _ (vs : List Variable) (values : List ℤ) (long : length values ≡ length vs) (facts : List Fact)
+    (hold : list_all (fact_holds values) facts ≡ true) where
+  add_pair-sums : (p : ℤ × ℕ) (f : Option Fact) (sum l : Line) → numbered facts p.1 ≡ f → Sums vs values sum →
+      add_pair p.0 f sum ≡ Ok l → Sums vs values l
   add_pair-sums p None sum l n s e = cc
   add_pair-sums p (Some f) sum l n s e = positive (int_le (pos 0) p.0) refl (add_times p.0 f sum) refl e
     where
@@ -89,26 +99,35 @@ module _ (vs : List Variable) (values : List ℤ) (long : length values ≡ leng
       fact_at zero q = cc
       fact_at (suc k) q = all-at (fact_holds values) facts k f hold q
 
-      positive : (b : Bool) → int_le (pos 0) p.0 ≡ b → (o : Option Line) → add_times p.0 f sum ≡ o → cond b (or_too_big o) (Err Code.BadSum) ≡ Ok l → Sums vs values l
+      positive : (b : Bool) → int_le (pos 0) p.0 ≡ b → (o : Option Line) → add_times p.0 f sum ≡ o →
+          cond b (or_too_big o) (Err Code.BadSum) ≡ Ok l → Sums vs values l
       positive false q o r d = cc
       positive true q None r d = cc
       positive true q (Some m) r d =
           let same : m ≡ l = cc in
           let v = add_times-value p.0 f sum l values (long ∙ sym s.size) (r ∙ ap Some same) in
-          record { size = v.1 ∙ s.size; least = sum-at_least_0 (line_value values sum) (p.0 *ℤ fact_value values f) (line_value values l) s.least (times-at_least_0 p.0 (fact_value values f) q (fact_at p.1 n)) v.0 }
+          record {
+            size = v.1 ∙ s.size;
+            least = sum-at_least_0 (line_value values sum) (p.0 *ℤ fact_value values f)
+                (line_value values l) s.least (times-at_least_0 p.0 (fact_value values f) q (fact_at p.1 n)) v.0;
+          }
 
   stays_err : (c : Code) (ps : List (ℤ × ℕ)) → sum_pairs facts (Err c) ps ≡ Err c
   stays_err c [] = refl
   stays_err c (p ∷ ps) = stays_err c ps
 
-  sums_next : (ps : List (ℤ × ℕ)) → ((sum l : Line) → Sums vs values sum → sum_pairs facts (Ok sum) ps ≡ Ok l → Sums vs values l) →
-      (p : ℤ × ℕ) (sum l : Line) (r : Result Line Code) → Sums vs values sum → add_pair p.0 (numbered facts p.1) sum ≡ r → sum_pairs facts r ps ≡ Ok l → Sums vs values l
+  sums_next : (ps : List (ℤ × ℕ)) → ((sum l : Line) → Sums vs values sum → sum_pairs facts (Ok sum) ps ≡ Ok l →
+      Sums vs values l) →
+      (p : ℤ × ℕ) (sum l : Line) (r : Result Line Code) → Sums vs values sum →
+      add_pair p.0 (numbered facts p.1) sum ≡ r → sum_pairs facts r ps ≡ Ok l → Sums vs values l
   sums_next ps ih p sum l (Err c) s q d = let x = stays_err c ps in cc
   sums_next ps ih p sum l (Ok m) s q d = ih m l (add_pair-sums p (numbered facts p.1) sum m refl s q) d
 
-  sum_pairs-sums : (ps : List (ℤ × ℕ)) (sum l : Line) → Sums vs values sum → sum_pairs facts (Ok sum) ps ≡ Ok l → Sums vs values l
+  sum_pairs-sums : (ps : List (ℤ × ℕ)) (sum l : Line) → Sums vs values sum → sum_pairs facts (Ok sum) ps ≡ Ok l →
+      Sums vs values l
   sum_pairs-sums [] sum l s e = let same : sum ≡ l = cc in subst (Sums vs values) same s
-  sum_pairs-sums (p ∷ ps) sum l s e = sums_next ps (sum_pairs-sums ps) p sum l (add_pair p.0 (numbered facts p.1) sum) s refl e
+  sum_pairs-sums (p ∷ ps) sum l s e =
+      sums_next ps (sum_pairs-sums ps) p sum l (add_pair p.0 (numbered facts p.1) sum) s refl e
 
   no_sum-sums : Sums vs values (no_sum vs)
   no_sum-sums = record { size = length-zeros vs; least = ap (λ z. int_le (pos 0) (z +ℤ pos 0)) (dot-zeros vs values) }
@@ -153,10 +172,13 @@ module _ (vs : List Variable) (values : List ℤ) (long : length values ≡ leng
   abbrev pub none_hold : List Branch → Bool
   none_hold bs = list_all (λ b. not (B b)) bs
 
-  list_all-remove : (xs : List CForm) (k : ℕ) (f : CForm) → slice_get xs k ≡ Some f → list_all F xs ≡ (list_all F (remove xs k) && F f)
+  list_all-remove : (xs : List CForm) (k : ℕ) (f : CForm) → slice_get xs k ≡ Some f →
+      list_all F xs ≡ (list_all F (remove xs k) && F f)
   list_all-remove [] k f e = cc
-  list_all-remove (x ∷ xs) zero f e = let s : x ≡ f = cc in ap (λ y. F y && list_all F xs) s ∙ and_comm (F f) (list_all F xs)
-  list_all-remove (x ∷ xs) (suc k) f e = ap (λ z. F x && z) (list_all-remove xs k f e) ∙ sym (and_assoc (F x) (list_all F (remove xs k)) (F f))
+  list_all-remove (x ∷ xs) zero f e =
+      let s : x ≡ f = cc in ap (λ y. F y && list_all F xs) s ∙ and_comm (F f) (list_all F xs)
+  list_all-remove (x ∷ xs) (suc k) f e =
+      ap (λ z. F x && z) (list_all-remove xs k f e) ∙ sym (and_assoc (F x) (list_all F (remove xs k)) (F f))
 
   side_in : (f : CForm) (x : CForm-F CForm CTerm) → out-CForm f ≡ x → F f ≡ (F (sides_in f x).0 || F (sides_in f x).1)
   side_in f CForm-F.Top e = or_same (F f)
@@ -166,7 +188,8 @@ module _ (vs : List Variable) (values : List ℤ) (long : length values ≡ leng
   side_in f (CForm-F.Not g) e = or_same (F f)
   side_in f (CForm-F.And g h) e = or_same (F f)
   side_in f (CForm-F.Or g h) e =
-      fold_out-CForm Bool ℤ form_step (term_at_step vs values) f ∙ ap (λ x. form_step (map-CForm CForm CTerm Bool ℤ F (term_at vs values) x)) e
+      fold_out-CForm Bool ℤ form_step (term_at_step vs values) f
+      ∙ ap (λ x. form_step (map-CForm CForm CTerm Bool ℤ F (term_at vs values) x)) e
 
   -- a branch with a form taken out, and the form's two sides
   case-cover : (w l r : Bool) → (not (w && l) && (not (w && r) && true)) ≡ true → (w && (l || r)) ≡ false
@@ -176,15 +199,19 @@ module _ (vs : List Variable) (values : List ℤ) (long : length values ≡ leng
   case-cover false l r e = refl
 
   holds-without : (b : Branch) (k : ℕ) (f : CForm) → slice_get b.waiting k ≡ Some f → B b ≡ (B (without b k) && F f)
-  holds-without b k f e = ap (λ z. list_all (fact_holds values) b.facts && z) (list_all-remove b.waiting k f e) ∙ sym (and_assoc (list_all (fact_holds values) b.facts) (list_all F (remove b.waiting k)) (F f))
+  holds-without b k f e =
+      ap (λ z. list_all (fact_holds values) b.facts && z) (list_all-remove b.waiting k f e)
+      ∙ sym (and_assoc (list_all (fact_holds values) b.facts) (list_all F (remove b.waiting k)) (F f))
 
   case-sound : (b : Branch) (k : ℕ) (f : CForm) → slice_get b.waiting k ≡ Some f →
       none_hold (settled vs (sides f).0 (without b k) ∷ settled vs (sides f).1 (without b k) ∷ []) ≡ true → B b ≡ false
   case-sound b k f e h =
       holds-without b k f e ∙ ap (λ z. B (without b k) && z) (side_in f (out-CForm f) refl)
       ∙ case-cover (B (without b k)) (F (sides f).0) (F (sides f).1)
-      (sym (ap (λ z. not z && (not (B (settled vs (sides f).1 (without b k))) && true)) (settled-holds vs values (sides f).0 (without b k) long)
-      ∙ ap (λ z. not (B (without b k) && F (sides f).0) && (not z && true)) (settled-holds vs values (sides f).1 (without b k) long)) ∙ h)
+      (sym (ap (λ z. not z && (not (B (settled vs (sides f).1 (without b k))) && true))
+      (settled-holds vs values (sides f).0 (without b k) long)
+      ∙ ap (λ z. not (B (without b k) && F (sides f).0) && (not z && true))
+      (settled-holds vs values (sides f).1 (without b k) long)) ∙ h)
 
   holding : (b : Branch) → (B b ≡ true → ⊥) → B b ≡ false
   holding b f = false_from_ne_true (B b) f
@@ -197,19 +224,23 @@ module _ (vs : List Variable) (values : List ℤ) (long : length values ≡ leng
       let n : z *ℤ y ≡ pos 0 = ap (λ x. x *ℤ y) (int_eq-true z parts.0) ∙ zero-*ℤ y in
       let ih = dot-none fs ys parts.1 in omega (arith, ints, n, ih)
 
-  sum-sound : (b : Branch) (ps : List (ℤ × ℕ)) (r : Result Line Code) → all_pairs vs b.facts ps ≡ r → (bs : List Branch) → made_sum r ≡ opens bs → B b ≡ false
+  sum-sound : (b : Branch) (ps : List (ℤ × ℕ)) (r : Result Line Code) → all_pairs vs b.facts ps ≡ r →
+      (bs : List Branch) → made_sum r ≡ opens bs → B b ≡ false
   sum-sound b ps (Err c) q bs e = absurd (cc)
   sum-sound b ps (Ok l) q bs e = closes (is_false l) refl e
     where
       closes : (t : Bool) → is_false l ≡ t → cond t (opens []) (fails Code.BadSum) ≡ opens bs → B b ≡ false
       closes false f d = absurd (cc)
       closes true f d = holding b (λ h.
-          let s = all_pairs-sums vs values long b.facts (and_parts (list_all (fact_holds values) b.facts) (list_all F b.waiting) h).0 ps l q in
+          let s = all_pairs-sums vs values long b.facts
+          (and_parts (list_all (fact_holds values) b.facts) (list_all F b.waiting) h).0 ps l q in
           let parts = and_parts (list_all (λ z. int_eq z (pos 0)) l.factors) (not (int_le (pos 0) l.constant)) f in
-          let z : line_value values l ≡ l.constant = ap (λ x. x +ℤ l.constant) (dot-none l.factors values parts.0) ∙ omega (arith, ints) in
+          let z : line_value values l ≡ l.constant = ap (λ x. x +ℤ l.constant) (dot-none l.factors values parts.0)
+          ∙ omega (arith, ints) in
           true≢false (sym (ap is_at_least_0 (sym z) ∙ s.least) ∙ not-true (int_le (pos 0) l.constant) parts.1))
 
-  made_by-sound : (b : Branch) (n : Node) (bs : List Branch) → made_by vs b n ≡ opens bs → none_hold bs ≡ true → B b ≡ false
+  made_by-sound : (b : Branch) (n : Node) (bs : List Branch) → made_by vs b n ≡ opens bs → none_hold bs ≡ true →
+      B b ≡ false
   made_by-sound b (Node.Case zero) bs e h = absurd (cc)
   made_by-sound b (Node.Case (suc k)) bs e h = taken (slice_get b.waiting k) refl e
     where
@@ -218,10 +249,11 @@ module _ (vs : List Variable) (values : List ℤ) (long : length values ≡ leng
       taken (Some f) q d = case-sound b k f q (ap none_hold (opens-same d) ∙ h)
   made_by-sound b (Node.Sum ps) bs e h = sum-sound b ps (all_pairs vs b.facts ps) refl bs e
 
-  made-sound : (p : Pending) (n : Node) (bs : List Branch) → made vs p n ≡ opens bs → none_hold bs ≡ true → B p.branch ≡ false
+  made-sound : (p : Pending) (n : Node) (bs : List Branch) → made vs p n ≡ opens bs → none_hold bs ≡ true →
+      B p.branch ≡ false
   made-sound p n bs e h = leveled (nat_le p.level 1024) e
     where
-      leveled : (t : Bool) → cond t (made_by vs p.branch n) (fails Code.TooDeep) ≡ opens bs → B p.branch ≡ false
+      leveled : (t : Bool) → cond t (made_by vs p.branch n) (fails Code.CertTooDeep) ≡ opens bs → B p.branch ≡ false
       leveled false d = absurd (cc)
       leveled true d = made_by-sound p.branch n bs d h
 
@@ -229,7 +261,8 @@ module _ (vs : List Variable) (values : List ℤ) (long : length values ≡ leng
   abbrev pub none_pending : List Pending → Bool
   none_pending ps = list_all (λ p. not (B p.branch)) ps
 
-  none_of : (level : ℕ) (bs : List Branch) (ps : List Pending) → none_pending (pending level bs ++ ps) ≡ true → (none_hold bs ≡ true) × (none_pending ps ≡ true)
+  none_of : (level : ℕ) (bs : List Branch) (ps : List Pending) → none_pending (pending level bs ++ ps) ≡ true →
+      (none_hold bs ≡ true) × (none_pending ps ≡ true)
   none_of level [] ps h = (refl, h)
   none_of level (b ∷ bs) ps h =
       let parts = and_parts (not (B b)) (none_pending (pending level bs ++ ps)) h in
@@ -243,46 +276,55 @@ module _ (vs : List Variable) (values : List ℤ) (long : length values ≡ leng
   walk-sound (n ∷ ns) (p ∷ ps) at e = opened (made vs p n) refl e (λ qs. walk-sound ns qs (suc at))
     where
       opened : (m : Made) → made vs p n ≡ m → after (λ qs. walk vs ns qs (suc at)) p.level ps at m ≡ refuted →
-          ((qs : List Pending) → walk vs ns qs (suc at) ≡ refuted → none_pending qs ≡ true) → none_pending (p ∷ ps) ≡ true
+          ((qs : List Pending) → walk vs ns qs (suc at) ≡ refuted → none_pending qs ≡ true) →
+          none_pending (p ∷ ps) ≡ true
       opened (fails c) q d ih = absurd (cc)
       opened (opens bs) q d ih =
           let parts = none_of (suc p.level) bs ps (ih (pending (suc p.level) bs ++ ps) d) in
           ap (λ z. not z && none_pending ps) (made-sound p n bs q parts.0) ∙ parts.1
 
 -- The first branch holds exactly where the form is false and the values lie in their ranges.
-range-test : (lo hi x a b : ℤ) → a ≡ x +ℤ neg_ℤ lo → b ≡ neg_ℤ x +ℤ hi → (int_le lo x && int_le x hi) ≡ (int_le (pos 0) a && int_le (pos 0) b)
+range-test : (lo hi x a b : ℤ) → a ≡ x +ℤ neg_ℤ lo → b ≡ neg_ℤ x +ℤ hi →
+    (int_le lo x && int_le x hi) ≡ (int_le (pos 0) a && int_le (pos 0) b)
 range-test lo hi x a b p q = grind (arith, ints)
 
 four : (a b c : Bool) → (a && (b && c)) ≡ ((a && b) && c)
 four true b c = refl
 four false b c = refl
 
-ranges-hold : (n : ℕ) (vs : List Variable) (values whole : List ℤ) → length values ≡ length vs → ((i : ℕ) → number_at whole (n + i) ≡ number_at values i) →
+ranges-hold : (n : ℕ) (vs : List Variable) (values whole : List ℤ) → length values ≡ length vs →
+    ((i : ℕ) → number_at whole (n + i) ≡ number_at values i) →
     list_all (fact_holds whole) (range_facts n vs) ≡ in_ranges vs values
 ranges-hold n [] [] whole e h = refl
 ranges-hold n [] (z ∷ zs) whole e h = absurd (omega arith)
 ranges-hold n (v ∷ vs) [] whole e h = absurd (omega arith)
 ranges-hold n (v ∷ vs) (z ∷ zs) whole e h =
     let x : number_at whole n ≡ z = ap (number_at whole) (omega arith) ∙ h 0 in
-    let a : (pos 1 *ℤ number_at whole n +ℤ pos 0) +ℤ neg_ℤ v.range.lo ≡ z +ℤ neg_ℤ v.range.lo = omega (arith, ints, x) in
+    let a : (pos 1 *ℤ number_at whole n +ℤ pos 0) +ℤ neg_ℤ v.range.lo ≡ z +ℤ neg_ℤ v.range.lo = omega
+    (arith, ints, x) in
     let b : (negsuc 0 *ℤ number_at whole n +ℤ pos 0) +ℤ v.range.hi ≡ neg_ℤ z +ℤ v.range.hi = omega (arith, ints, x) in
     let ih = ranges-hold (suc n) vs zs whole (omega arith) (λ i. ap (number_at whole) (omega arith) ∙ h (suc i)) in
-    four (int_le (pos 0) ((pos 1 *ℤ number_at whole n +ℤ pos 0) +ℤ neg_ℤ v.range.lo)) (int_le (pos 0) ((negsuc 0 *ℤ number_at whole n +ℤ pos 0) +ℤ v.range.hi)) (list_all (fact_holds whole) (range_facts (suc n) vs))
+    four (int_le (pos 0) ((pos 1 *ℤ number_at whole n +ℤ pos 0) +ℤ neg_ℤ v.range.lo))
+    (int_le (pos 0) ((negsuc 0 *ℤ number_at whole n +ℤ pos 0) +ℤ v.range.hi))
+    (list_all (fact_holds whole) (range_facts (suc n) vs))
     ∙ ap (λ t. t && list_all (fact_holds whole) (range_facts (suc n) vs))
-    (sym (range-test v.range.lo v.range.hi z ((pos 1 *ℤ number_at whole n +ℤ pos 0) +ℤ neg_ℤ v.range.lo) ((negsuc 0 *ℤ number_at whole n +ℤ pos 0) +ℤ v.range.hi) a b))
+    (sym (range-test v.range.lo v.range.hi z ((pos 1 *ℤ number_at whole n +ℤ pos 0) +ℤ neg_ℤ v.range.lo)
+    ((negsuc 0 *ℤ number_at whole n +ℤ pos 0) +ℤ v.range.hi) a b))
     ∙ ap (λ t. (int_le v.range.lo z && int_le z v.range.hi) && t) ih
 
 ranges-long : (vs : List Variable) (values : List ℤ) → in_ranges vs values ≡ true → length values ≡ length vs
 ranges-long [] [] e = refl
 ranges-long [] (z ∷ zs) e = cc
 ranges-long (v ∷ vs) [] e = cc
-ranges-long (v ∷ vs) (z ∷ zs) e = ap suc (ranges-long vs zs (and_parts (int_le v.range.lo z && int_le z v.range.hi) (in_ranges vs zs) e).1)
+ranges-long (v ∷ vs) (z ∷ zs) e =
+    ap suc (ranges-long vs zs (and_parts (int_le v.range.lo z && int_le z v.range.hi) (in_ranges vs zs) e).1)
 
 pub first-holds : FirstHolds
 first-holds o values long =
     refused-holds o.variables values o.form (ranges_only o.variables) long
     ∙ ap (λ t. t && not (form_at o.variables values o.form))
-    (and_true (list_all (fact_holds values) (range_facts 0 o.variables)) ∙ ranges-hold 0 o.variables values values long (λ i. ap (number_at values) (omega arith)))
+    (and_true (list_all (fact_holds values) (range_facts 0 o.variables))
+    ∙ ranges-hold 0 o.variables values values long (λ i. ap (number_at values) (omega arith)))
 
 refutes-valid : (t f : Bool) → t ≡ true → (t && not f) ≡ false → f ≡ true
 refutes-valid true true e h = refl
@@ -293,15 +335,19 @@ pub sound : Sound
 sound o nodes e values inside =
     let long = ranges-long o.variables values inside in
     let none = walk-sound o.variables values long nodes (at_level 1 (first_branch o) ∷ []) 0 e in
-    let first = not-true (branch_holds o.variables values (first_branch o)) (and_parts (not (branch_holds o.variables values (first_branch o))) true none).0 in
-    refutes-valid (in_ranges o.variables values) (form_at o.variables values o.form) inside (sym (first-holds o values long) ∙ first)
+    let first = not-true (branch_holds o.variables values (first_branch o))
+    (and_parts (not (branch_holds o.variables values (first_branch o))) true none).0 in
+    refutes-valid (in_ranges o.variables values) (form_at o.variables values o.form) inside
+    (sym (first-holds o values long) ∙ first)
 
 -- A walk along the nodes of a tree.
 pub walk-tree : (vs : List Variable) (t : Tree) (level : ℕ) (b : Branch) (ns : List Node) (ps : List Pending) (at : ℕ) →
-    Refutes vs level b t → walk vs (nodes_of t ++ ns) (at_level level b ∷ ps) at ≡ walk vs ns ps (at + length (nodes_of t))
+    Refutes vs level b t → walk vs (nodes_of t ++ ns) (at_level level b ∷ ps) at ≡ walk vs ns ps
+    (at + length (nodes_of t))
 walk-tree vs (case_node k t u) level b ns ps at r =
     ap (after (λ qs. walk vs ((nodes_of t ++ nodes_of u) ++ ns) qs (suc at)) level ps at) r.2
-    ∙ ap (λ x. walk vs x (at_level (suc level) r.0 ∷ at_level (suc level) r.1 ∷ ps) (suc at)) (append_assoc (nodes_of t) (nodes_of u) ns)
+    ∙ ap (λ x. walk vs x (at_level (suc level) r.0 ∷ at_level (suc level) r.1 ∷ ps) (suc at))
+    (append_assoc (nodes_of t) (nodes_of u) ns)
     ∙ walk-tree vs t (suc level) r.0 (nodes_of u ++ ns) (at_level (suc level) r.1 ∷ ps) (suc at) r.3
     ∙ walk-tree vs u (suc level) r.1 ns ps (suc at + length (nodes_of t)) r.4
     ∙ ap (walk vs ns ps) (let l = length-append (nodes_of t) (nodes_of u) in omega (arith, l))
@@ -309,11 +355,13 @@ walk-tree vs (sum_node qs) level b ns ps at r =
     ap (after (λ qs. walk vs ns qs (suc at)) level ps at) r ∙ ap (walk vs ns ps) (omega arith)
 
 -- A sum keeps its length.
-times-size : (f : Fact) (m : ℤ) (a l : Line) (o : Option Line) → add_times m f a ≡ o → or_too_big o ≡ Ok l → length l.factors ≡ length a.factors
+times-size : (f : Fact) (m : ℤ) (a l : Line) (o : Option Line) → add_times m f a ≡ o → or_too_big o ≡ Ok l →
+    length l.factors ≡ length a.factors
 times-size f m a l None e d = cc
 times-size f m a l (Some k) e d = let same : k ≡ l = cc in (add_times-value m f a l a.factors refl (e ∙ ap Some same)).1
 
-signed-size : (b : Bool) (f : Fact) (m : ℤ) (a l : Line) → cond b (or_too_big (add_times m f a)) (Err Code.BadSum) ≡ Ok l → length l.factors ≡ length a.factors
+signed-size : (b : Bool) (f : Fact) (m : ℤ) (a l : Line) →
+    cond b (or_too_big (add_times m f a)) (Err Code.BadSum) ≡ Ok l → length l.factors ≡ length a.factors
 signed-size true f m a l e = times-size f m a l (add_times m f a) refl e
 signed-size false f m a l e = cc
 
@@ -325,14 +373,18 @@ err-stays : (facts : List Fact) (c : Code) (ps : List (ℤ × ℕ)) → sum_pair
 err-stays facts c [] = refl
 err-stays facts c (p ∷ ps) = err-stays facts c ps
 
-size-next : (facts : List Fact) (ps : List (ℤ × ℕ)) (p : ℤ × ℕ) (a l : Line) (r : Result Line Code) → ((a l : Line) → sum_pairs facts (Ok a) ps ≡ Ok l → length l.factors ≡ length a.factors) →
+size-next : (facts : List Fact) (ps : List (ℤ × ℕ)) (p : ℤ × ℕ) (a l : Line) (r : Result Line Code) →
+    ((a l : Line) → sum_pairs facts (Ok a) ps ≡ Ok l → length l.factors ≡ length a.factors) →
     add_pair p.0 (numbered facts p.1) a ≡ r → sum_pairs facts r ps ≡ Ok l → length l.factors ≡ length a.factors
 size-next facts ps p a l (Err c) ih q e = let x = err-stays facts c ps in cc
 size-next facts ps p a l (Ok m) ih q e = ih m l e ∙ add_pair-size p.0 (numbered facts p.1) a m q
 
-pairs-size : (facts : List Fact) (ps : List (ℤ × ℕ)) (a l : Line) → sum_pairs facts (Ok a) ps ≡ Ok l → length l.factors ≡ length a.factors
+pairs-size : (facts : List Fact) (ps : List (ℤ × ℕ)) (a l : Line) → sum_pairs facts (Ok a) ps ≡ Ok l →
+    length l.factors ≡ length a.factors
 pairs-size facts [] a l e = let same : a ≡ l = cc in ap (λ (x : Line). length x.factors) (sym same)
-pairs-size facts (p ∷ ps) a l e = size-next facts ps p a l (add_pair p.0 (numbered facts p.1) a) (pairs-size facts ps) refl e
+pairs-size facts (p ∷ ps) a l e =
+    size-next facts ps p a l (add_pair p.0 (numbered facts p.1) a) (pairs-size facts ps) refl e
 
-pub total-size : (vs : List Variable) (facts : List Fact) (ps : List (ℤ × ℕ)) (a l : Line) → a ≡ no_sum vs → sum_pairs facts (Ok a) ps ≡ Ok l → length l.factors ≡ length vs
+pub total-size : (vs : List Variable) (facts : List Fact) (ps : List (ℤ × ℕ)) (a l : Line) → a ≡ no_sum vs →
+    sum_pairs facts (Ok a) ps ≡ Ok l → length l.factors ≡ length vs
 total-size vs facts ps a l n e = pairs-size facts ps a l e ∙ ap (λ (x : Line). length x.factors) n ∙ length-zeros vs

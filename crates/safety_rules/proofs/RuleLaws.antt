@@ -16,29 +16,37 @@ use Rattle.safety_rules.proofs.StepLaws.{is_state-put}
 use Rattle.safety_rules.proofs.PreconditionLaws.{write_means, definedness, precondition}
 
 -- what holds, and implies, makes true
-implied : (state : State) (p q : CForm) → form_value state [] (imply_form p q) ≡ true → form_value state [] p ≡ true → form_value state [] q ≡ true
+implied : (state : State) (p q : CForm) → form_value state [] (imply_form p q) ≡ true → form_value state [] p ≡ true →
+    form_value state [] q ≡ true
 implied state p q h e =
-    ap (λ v. not v || form_value state [] q) (sym e) ∙ ap (λ v. v || form_value state [] q) (sym (value-not_form state [] p))
+    ap (λ v. not v || form_value state [] q) (sym e)
+    ∙ ap (λ v. v || form_value state [] q) (sym (value-not_form state [] p))
     ∙ sym (value-or_form state [] (not_form p) q) ∙ h
 
 -- the write of the core makes the statement's step
-same_step : (d : SmallDocument) (state : State) → write_step (slots_of d) (program_write d) state ≡ statement_step d state
+same_step : (d : SmallDocument) (state : State) →
+    write_step (slots_of d) (program_write d) state ≡ statement_step d state
 same_step d state = ap (λ ws. step (ranges_of d) ws state) (write_means d.program.statement state)
 
 -- a step leaves a state in range
-one_stays : (rs : Ranges) (s t : State) (n : ℕ) (z : ℤ) (b : Bool) → in_range (range_at rs n) z ≡ b → is_state rs s ≡ true →
+one_stays : (rs : Ranges) (s t : State) (n : ℕ) (z : ℤ) (b : Bool) → in_range (range_at rs n) z ≡ b →
+    is_state rs s ≡ true →
     cond ((b && true) && true) (Some (put s n z)) None ≡ Some t → is_state rs t ≡ true
-one_stays rs s t n z true f e g = let same : put s n z ≡ t = cc in subst (λ x. is_state rs x ≡ true) same (is_state-put rs s n z e f)
+one_stays rs s t n z true f e g =
+    let same : put s n z ≡ t = cc in subst (λ x. is_state rs x ≡ true) same (is_state-put rs s n z e f)
 one_stays rs s t n z false f e g = cc
 
-stays : (rs : Ranges) (s t : State) (n : ℕ) (z : ℤ) (h : Bool) → is_state rs s ≡ true → step rs (cond h ((Some n, z) ∷ []) []) s ≡ Some t →
+stays : (rs : Ranges) (s t : State) (n : ℕ) (z : ℤ) (h : Bool) → is_state rs s ≡ true →
+    step rs (cond h ((Some n, z) ∷ []) []) s ≡ Some t →
     is_state rs t ≡ true
 stays rs s t n z true e g = one_stays rs s t n z (in_range (range_at rs n) z) refl e g
 stays rs s t n z false e g = let same : s ≡ t = cc in subst (λ x. is_state rs x ≡ true) same e
 
-step_stays : (d : SmallDocument) (s t : State) → is_state (ranges_of d) s ≡ true → statement_step d s ≡ Some t → is_state (ranges_of d) t ≡ true
+step_stays : (d : SmallDocument) (s t : State) → is_state (ranges_of d) s ≡ true → statement_step d s ≡ Some t →
+    is_state (ranges_of d) t ≡ true
 step_stays d s t e g =
-    stays (ranges_of d) s t 0 (expression_value s d.program.statement.value) (comparison_holds s d.program.statement.condition) e g
+    stays (ranges_of d) s t 0 (expression_value s d.program.statement.value)
+    (comparison_holds s d.program.statement.condition) e g
 
 -- a choice that steps is the one statement's
 chosen : (c : ℕ) (o : Option State) (t : State) → cond (nat_eq c 0) o None ≡ Some t → o ≡ Some t
@@ -46,7 +54,8 @@ chosen c o t = elim (nat_eq c 0) as (λ v. cond v o None ≡ Some t → o ≡ So
 
 -- what each step keeps holds along an execution
 along : (d : SmallDocument) (Q : State → Type 0) → ((s t : State) → Q s → statement_step d s ≡ Some t → Q t) →
-    (s : State) (cs : List ℕ) (ts : List State) → Q s → Steps d s cs ts → (place : ℕ) (t : State) → slice_get (s ∷ ts) place ≡ Some t → Q t
+    (s : State) (cs : List ℕ) (ts : List State) → Q s → Steps d s cs ts → (place : ℕ) (t : State) →
+    slice_get (s ∷ ts) place ≡ Some t → Q t
 along d Q keeps s cs ts h f zero t e = let same : s ≡ t = cc in subst Q same h
 along d Q keeps s cs [] h f (suc place) t e = cc
 along d Q keeps s [] (u ∷ us) h f (suc place) t e = absurd f
@@ -57,10 +66,12 @@ along d Q keeps s (c ∷ cs) (u ∷ us) h f (suc place) t e =
 in_range_along : (d : SmallDocument) → Everywhere d (λ state. is_state (ranges_of d) state ≡ true)
 in_range_along d first choices later x place state e =
     let start = and_parts (is_state (ranges_of d) first) (comparison_holds first d.program.initially) x.starts in
-    along d (λ s. is_state (ranges_of d) s ≡ true) (λ s t h g. step_stays d s t h g) first choices later start.0 x.steps place state e
+    along d (λ s. is_state (ranges_of d) s ≡ true) (λ s t h g. step_stays d s t h g) first choices later start.0 x.steps
+    place state e
 
 -- a valid `defined` obligation leaves no step undefined
-never_none : (d : SmallDocument) → IsValid d (defined_obligation d) → (s : State) → is_state (ranges_of d) s ≡ true → statement_step d s ≢ None
+never_none : (d : SmallDocument) → IsValid d (defined_obligation d) → (s : State) → is_state (ranges_of d) s ≡ true →
+    statement_step d s ≢ None
 never_none d valid s is none =
     let holds = sym (definedness (slots_of d) (program_write d) s) ∙ valid s is in
     let fails = ap (meets (λ after. true)) (same_step d s ∙ none) in
@@ -74,7 +85,8 @@ defined_rule d valid first choices later x place state e =
 abbrev Holds : SmallDocument → State → Type 0
 Holds d s = (is_state (ranges_of d) s ≡ true) × (comparison_holds s d.proof.claim ≡ true)
 
-claim_kept : (d : SmallDocument) → IsValid d (kept_obligation d) → (s t : State) → Holds d s → statement_step d s ≡ Some t → Holds d t
+claim_kept : (d : SmallDocument) → IsValid d (kept_obligation d) → (s t : State) → Holds d s →
+    statement_step d s ≡ Some t → Holds d t
 claim_kept d valid s t h g =
     let claim = form_of d.proof.claim in
     let w = program_write d in
@@ -90,10 +102,12 @@ invariant_rule d starts kept first choices later x place state e =
     let initially = form_of d.program.initially in
     let claim = form_of d.proof.claim in
     let now = implied first initially claim (starts first parts.0) (form_means d.program.initially first ∙ parts.1) in
-    (along d (Holds d) (claim_kept d kept) first choices later (parts.0, sym (form_means d.proof.claim first) ∙ now) x.steps place state e).1
+    (along d (Holds d) (claim_kept d kept) first choices later (parts.0, sym (form_means d.proof.claim first) ∙ now)
+    x.steps place state e).1
 
 -- choices of the one statement run from each state in range
-runs : (d : SmallDocument) → IsValid d (defined_obligation d) → (s : State) → is_state (ranges_of d) s ≡ true → (cs : List ℕ) →
+runs : (d : SmallDocument) → IsValid d (defined_obligation d) → (s : State) → is_state (ranges_of d) s ≡ true →
+    (cs : List ℕ) →
     ((place choice : ℕ) → slice_get cs place ≡ Some choice → choice ≡ 0) → (later : List State) × Steps d s cs later
 runs d valid s is [] zeros = ([], tt)
 runs d valid s is (c ∷ cs) zeros =

@@ -12,6 +12,8 @@ pub multiple_below : (k l : ℤ) (slot : ℕ) (t a u : CTerm) → t ≡ Scale k 
     max (term_bound 1 u) (unsigned_abs l * term_bound 1 u) ≤ term_bound slot t
 multiple_below k l slot t a u e f h =
     let whole = ap (term_bound slot) e ∙ bound-Scale slot k a in
-    let part : unsigned_abs k * term_bound 1 u ≤ unsigned_abs k * term_bound slot a = mul-le-mul_left (unsigned_abs k) h in
-    let same : unsigned_abs l * term_bound 1 u ≡ unsigned_abs k * term_bound 1 u = ap (λ z. unsigned_abs z * term_bound 1 u) f in
+    let part : unsigned_abs k * term_bound 1 u ≤ unsigned_abs k * term_bound slot a = mul-le-mul_left (unsigned_abs k)
+    h in
+    let same : unsigned_abs l * term_bound 1 u ≡ unsigned_abs k * term_bound 1
+    u = ap (λ z. unsigned_abs z * term_bound 1 u) f in
     omega (arith, whole, part, same, h)

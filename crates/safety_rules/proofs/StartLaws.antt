@@ -14,10 +14,12 @@ low_in_range : (low high : ℤ) → low ≤ℤ high → in_range (Some (low, hig
 low_in_range low high h =
     ap (λ v. v && int_le low high) (le_yes low low (omega (arith, ints))) ∙ le_yes low high h
 
-number_in_range : (low high : ℤ) → low ≤ℤ high → (o : Option ℤ) → in_range (Some (low, high)) (number_or_low low high o) ≡ true
+number_in_range : (low high : ℤ) → low ≤ℤ high → (o : Option ℤ) →
+    in_range (Some (low, high)) (number_or_low low high o) ≡ true
 number_in_range low high h None = low_in_range low high h
 number_in_range low high h (Some c) =
-    elim (in_range (Some (low, high)) c) as (λ v. in_range (Some (low, high)) c ≡ v → in_range (Some (low, high)) (cond v c low) ≡ true) [
+    elim (in_range (Some (low, high)) c) as (λ v. in_range (Some (low, high)) c ≡ v →
+    in_range (Some (low, high)) (cond v c low) ≡ true) [
       | true ↦ λ e. e
       | false ↦ λ e. low_in_range low high h
     ] refl

@@ -21,7 +21,8 @@ put-other (y ∷ ys) (suc n) zero z h = refl
 put-other (y ∷ ys) (suc n) (suc m) z h = put-other ys n m z (λ e. h (ap (λ k. suc k) e))
 
 -- a write changes its own slot alone
-pub number_at-put : (xs : List ℤ) (n m : ℕ) (z : ℤ) → n < length xs → number_at (put xs n z) m ≡ cond (nat_eq n m) z (number_at xs m)
+pub number_at-put : (xs : List ℤ) (n m : ℕ) (z : ℤ) → n < length xs →
+    number_at (put xs n z) m ≡ cond (nat_eq n m) z (number_at xs m)
 number_at-put xs n m z h = elim (eqb_tells n m) [
   | inl w ↦ rw w.0 (subst (λ k. number_at (put xs n z) k ≡ z) w.1 (put-same xs n z h))
   | inr w ↦ rw w.0 (put-other xs n m z w.1)
@@ -38,10 +39,12 @@ pub length_of_state : (rs : Ranges) (state : State) → is_state rs state ≡ tr
 length_of_state [] [] e = refl
 length_of_state [] (z ∷ zs) e = cc
 length_of_state (r ∷ rs) [] e = cc
-length_of_state (r ∷ rs) (z ∷ zs) e = ap (λ k. suc k) (length_of_state rs zs (and_parts (in_range (Some r) z) (is_state rs zs) e).1)
+length_of_state (r ∷ rs) (z ∷ zs) e =
+    ap (λ k. suc k) (length_of_state rs zs (and_parts (in_range (Some r) z) (is_state rs zs) e).1)
 
 -- a number in its slot's range, put there, leaves a state a state
-pub is_state-put : (rs : Ranges) (state : State) (n : ℕ) (z : ℤ) → is_state rs state ≡ true → in_range (range_at rs n) z ≡ true →
+pub is_state-put : (rs : Ranges) (state : State) (n : ℕ) (z : ℤ) → is_state rs state ≡ true →
+    in_range (range_at rs n) z ≡ true →
     is_state rs (put state n z) ≡ true
 is_state-put [] [] n z e f = refl
 is_state-put [] (y ∷ ys) n z e f = cc
@@ -54,7 +57,8 @@ is_state-put (r ∷ rs) (y ∷ ys) (suc n) z e f =
     ap (λ v. v && is_state rs (put ys n z)) parts.0 ∙ is_state-put rs ys n z parts.1 f
 
 -- the range of a slot, as a step takes it
-pub range_at-ranges : (slots : List Range) (n : ℕ) → range_at (ranges slots) n ≡ option_map (λ r. (r.lo, r.hi)) (slice_get slots n)
+pub range_at-ranges : (slots : List Range) (n : ℕ) →
+    range_at (ranges slots) n ≡ option_map (λ r. (r.lo, r.hi)) (slice_get slots n)
 range_at-ranges [] n = refl
 range_at-ranges (r ∷ rs) zero = refl
 range_at-ranges (r ∷ rs) (suc n) = range_at-ranges rs n

@@ -23,13 +23,19 @@ abbrev pub term_size : CTerm → ℕ
 term_size = fold-CTerm ℕ ℕ no_size term_size_step
 
 pub size-Add : (a b t : CTerm) → t ≡ Add a b → (term_size a < term_size t) × (term_size b < term_size t)
-size-Add a b t e = let s = ap term_size e ∙ term_fold no_size term_size_step (CTerm-F.Add a b) (Add a b) (rolls-Add a b) in (omega (arith, s), omega (arith, s))
+size-Add a b t e =
+    let s = ap term_size e ∙ term_fold no_size term_size_step (CTerm-F.Add a b) (Add a b)
+    (rolls-Add a b) in (omega (arith, s), omega (arith, s))
 
 pub size-Sub : (a b t : CTerm) → t ≡ Sub a b → (term_size a < term_size t) × (term_size b < term_size t)
-size-Sub a b t e = let s = ap term_size e ∙ term_fold no_size term_size_step (CTerm-F.Sub a b) (Sub a b) (rolls-Sub a b) in (omega (arith, s), omega (arith, s))
+size-Sub a b t e =
+    let s = ap term_size e ∙ term_fold no_size term_size_step (CTerm-F.Sub a b) (Sub a b)
+    (rolls-Sub a b) in (omega (arith, s), omega (arith, s))
 
 pub size-Scale : (k : ℤ) (a t : CTerm) → t ≡ Scale k a → term_size a < term_size t
-size-Scale k a t e = let s = ap term_size e ∙ term_fold no_size term_size_step (CTerm-F.Scale k a) (Scale k a) (rolls-Scale k a) in omega (arith, s)
+size-Scale k a t e =
+    let s = ap term_size e ∙ term_fold no_size term_size_step (CTerm-F.Scale k a) (Scale k a) (rolls-Scale k a) in omega
+    (arith, s)
 
 abbrev pub form_size_step : CForm-F ℕ ℕ → ℕ
 form_size_step CForm-F.Top = 1
@@ -47,10 +53,16 @@ abbrev pub form_size : CForm → ℕ
 form_size = fold-CForm ℕ ℕ form_size_step no_term_size
 
 pub size-Not : (f h : CForm) → h ≡ Not f → form_size f < form_size h
-size-Not f h e = let s = ap form_size e ∙ form_fold form_size_step no_term_size (CForm-F.Not f) (Not f) (rolls-Not f) in omega (arith, s)
+size-Not f h e =
+    let s = ap form_size e ∙ form_fold form_size_step no_term_size (CForm-F.Not f) (Not f) (rolls-Not f) in omega
+    (arith, s)
 
 pub size-And : (f g h : CForm) → h ≡ And f g → (form_size f < form_size h) × (form_size g < form_size h)
-size-And f g h e = let s = ap form_size e ∙ form_fold form_size_step no_term_size (CForm-F.And f g) (And f g) (rolls-And f g) in (omega (arith, s), omega (arith, s))
+size-And f g h e =
+    let s = ap form_size e ∙ form_fold form_size_step no_term_size (CForm-F.And f g) (And f g)
+    (rolls-And f g) in (omega (arith, s), omega (arith, s))
 
 pub size-Or : (f g h : CForm) → h ≡ Or f g → (form_size f < form_size h) × (form_size g < form_size h)
-size-Or f g h e = let s = ap form_size e ∙ form_fold form_size_step no_term_size (CForm-F.Or f g) (Or f g) (rolls-Or f g) in (omega (arith, s), omega (arith, s))
+size-Or f g h e =
+    let s = ap form_size e ∙ form_fold form_size_step no_term_size (CForm-F.Or f g) (Or f g)
+    (rolls-Or f g) in (omega (arith, s), omega (arith, s))

@@ -32,17 +32,25 @@ node_of (WrittenNode.Sum pairs) = Node.Sum (map pair_of pairs)
 abbrev pub obligation : SmallDocument → CForm → Obligation
 obligation d f = obligation_of f (slots_of d) []
 
+-- the certificate refutes the negation of the obligation that the formula is
+abbrev pub IsRefuted : SmallDocument → CForm → Certificate → Type 0
+IsRefuted d f c = Refuted (obligation d f) (map node_of c.nodes)
+
 -- exactly one certificate for each obligation, in order, and each refutes its obligation's negation
 abbrev pub AreRefuted : SmallDocument → List CForm → List Certificate → Type 0
 AreRefuted d [] [] = Unit {0}
 AreRefuted d [] (c ∷ cs) = ⊥
 AreRefuted d (f ∷ fs) [] = ⊥
-AreRefuted d (f ∷ fs) (c ∷ cs) = Refuted (obligation d f) (map node_of c.nodes) × AreRefuted d fs cs
+AreRefuted d (f ∷ fs) (c ∷ cs) = IsRefuted d f c × AreRefuted d fs cs
+
+-- the document's certificates refute the negations of its obligations
+abbrev pub IsCertified : SmallDocument → Type 0
+IsCertified d = AreRefuted d (obligation_forms d) d.certificates
 
 -- the document's proof is accepted: the program can start, and each obligation has its certificate
 pub record Follows (d : SmallDocument) : Type 0 where
   pub start : IsTrue (starts d)
-  pub refuted : AreRefuted d (obligation_forms d) d.certificates
+  pub refuted : IsCertified d
 
 -- the start state is initial, and every list of choices runs from every initial state
 pub record HasExecutions (d : SmallDocument) : Type 0 where

@@ -40,4 +40,5 @@ first_branch o = refused o.variables o.form (ranges_only o.variables)
 -- the first branch holds exactly where the form is false and the values lie in their ranges
 abbrev pub FirstHolds : Type 0
 FirstHolds = (o : Obligation) (values : List ℤ) → length values ≡ length o.variables →
-    branch_holds o.variables values (first_branch o) ≡ (in_ranges o.variables values && not (form_at o.variables values o.form))
+    branch_holds o.variables values (first_branch o) ≡
+    (in_ranges o.variables values && not (form_at o.variables values o.form))

@@ -1,5 +1,5 @@
 -- The write of a statement, where it is defined, and its weakest precondition.
-use Rattle.std.specs.Prelude.{◌≡◌, ℕ, List, [], ◌∷◌, map, max, Bool, true, false, cond, Option, Some, None, nat_eq, IsTrue, slice_get}
+use Rattle.std.specs.Prelude.{◌≡◌, ℕ, ◌+◌, List, [], ◌∷◌, map, max, Bool, true, false, cond, Option, Some, None, nat_eq, IsTrue, slice_get}
 use Rattle.std.specs.Int.RustNames.{unsigned_abs}
 use Rattle.small_documents.specs.declared.tree.Statement.{Statement}
 use Rattle.small_documents.specs.Step.{State, Ranges, Write, is_state, step}
@@ -22,7 +22,8 @@ write_of s = record { slot = 0; when = form_of s.condition; value = term_of s.va
 
 -- the value lies in the range
 abbrev pub within_form : CTerm → Range → CForm
-within_form value range = and_form (least_form (difference_term value (Const range.lo))) (least_form (difference_term (Const range.hi) value))
+within_form value range =
+    and_form (least_form (difference_term value (Const range.lo))) (least_form (difference_term (Const range.hi) value))
 
 -- the value lies in the range of its slot, and nowhere if there is no such slot
 abbrev pub inside_form : CTerm → Option Range → CForm
@@ -77,6 +78,10 @@ write_bound w = max (form_bound 1 w.when) (max (term_bound 1 w.value) 1)
 abbrev pub range_bound : Option Range → ℕ
 range_bound None = 0
 range_bound (Some range) = max (unsigned_abs range.lo) (unsigned_abs range.hi)
+
+-- how far from 0 the terms can lie that say where a write is defined
+abbrev pub defined_bound : CWrite → List Range → ℕ
+defined_bound w slots = write_bound w + range_bound (slice_get slots w.slot)
 
 -- the ranges as a step takes them
 abbrev pub ranges : List Range → Ranges

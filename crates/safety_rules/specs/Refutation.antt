@@ -11,7 +11,7 @@ use Rattle.safety_rules.specs.declared.obligations.Branch.{Branch}
 use Rattle.safety_rules.specs.declared.obligations.Variable.{Variable}
 use Rattle.safety_rules.specs.declared.obligations.Obligation.{Obligation}
 use Rattle.safety_rules.specs.declared.certificate_check.Node.{Node}
-use Rattle.safety_rules.specs.declared.certificate_check.Code.{Code}
+use Rattle.case_tables.specs.declared.code_table.Code.{Code}
 use Rattle.safety_rules.specs.declared.certificate_check.Pending.{Pending}
 use Rattle.safety_rules.specs.declared.certificate_check.Stop.{Stop}
 use Rattle.safety_rules.specs.declared.certificate_check.CertError.{CertError}
@@ -25,7 +25,8 @@ use Rattle.safety_rules.specs.Settling.{joined, settled}
 abbrev pub add_factors : ℤ → List (ℕ × ℤ) → List ℤ → Option (List ℤ)
 add_factors m [] sum = Some sum
 add_factors m (f ∷ fs) sum =
-    cond (is_small (m *ℤ f.1) && is_small (number_at sum f.0 +ℤ m *ℤ f.1)) (add_factors m fs (add_at sum f.0 (m *ℤ f.1))) None
+    cond (is_small (m *ℤ f.1) && is_small (number_at sum f.0 +ℤ m *ℤ f.1))
+    (add_factors m fs (add_at sum f.0 (m *ℤ f.1))) None
 
 -- the constant, where there are factors
 abbrev pub with_constant : ℤ → Option (List ℤ) → Option Line
@@ -113,7 +114,7 @@ made_by vs b (Node.Sum ps) = made_sum (all_pairs vs b.facts ps)
 
 -- a node past level 1,024 fails
 abbrev pub made : List Variable → Pending → Node → Made
-made vs p n = cond (nat_le p.level 1024) (made_by vs p.branch n) (fails Code.TooDeep)
+made vs p n = cond (nat_le p.level 1024) (made_by vs p.branch n) (fails Code.CertTooDeep)
 
 abbrev pub pending : ℕ → List Branch → List Pending
 pending level bs = map (λ b. record { level = level; branch = b }) bs
@@ -146,9 +147,16 @@ nodes_of (sum_node ps) = Node.Sum ps ∷ []
 abbrev pub at_level : ℕ → Branch → Pending
 at_level level b = record { level = level; branch = b }
 
+-- a branch with either side of a formula settled, the first of them last
+abbrev pub both_sides : List Variable → CForm → Pending → List Pending
+both_sides vs f p =
+    at_level p.level (settled vs (sides f).1 p.branch) ∷ at_level p.level (settled vs (sides f).0 p.branch) ∷ []
+
 -- a tree refutes a branch: its node opens branches, and each is refuted by a subtree
 abbrev pub Refutes : List Variable → ℕ → Branch → Tree → Type 0
-Refutes vs level b (case_node k t u) = (c d : Branch) × (made vs (at_level level b) (Node.Case k) ≡ opens (c ∷ d ∷ [])) × Refutes vs (suc level) c t × Refutes vs (suc level) d u
+Refutes vs level b (case_node k t u) =
+    (c d : Branch) × (made vs (at_level level b) (Node.Case k) ≡ opens (c ∷ d ∷ []))
+    × Refutes vs (suc level) c t × Refutes vs (suc level) d u
 Refutes vs level b (sum_node ps) = made vs (at_level level b) (Node.Sum ps) ≡ opens []
 
 -- what a walk along the nodes says of an obligation
@@ -174,7 +182,8 @@ is_whole (x ∷ xs) (suc n) = is_whole xs (arity x + n)
 abbrev pub Refuted : Obligation → List Node → Type 0
 Refuted o nodes = (t : Tree) × (nodes_of t ≡ nodes) × Refutes o.variables 1 (first_branch o) t
 
--- what a node makes of the last branch of a stack: those before it, and the branches that it opens, the first of them last
+-- what a node makes of the last branch of a stack: those before it, and the branches that it opens,
+-- the first of them last
 abbrev pub stacked : List Pending → ℕ → Made → Result (List Pending) Code
 stacked ps level (fails c) = Err c
 stacked ps level (opens bs) = Ok (ps ++ reverse (pending (suc level) bs))

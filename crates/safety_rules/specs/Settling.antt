@@ -48,6 +48,10 @@ one_fact l = record { facts = fact_of l ∷ []; waiting = [] }
 abbrev pub two_facts : Line → Line → Branch
 two_facts l m = record { facts = fact_of l ∷ fact_of m ∷ []; waiting = [] }
 
+-- the fact that -1 is at least 0
+abbrev pub false_fact : Branch
+false_fact = record { facts = record { factors = []; constant = negsuc 0 } ∷ []; waiting = [] }
+
 abbrev pub one_waiting : CForm → Branch
 one_waiting f = record { facts = []; waiting = f ∷ [] }
 
@@ -79,10 +83,22 @@ abbrev pub parted_step : CTerm-F CForm Parted → Parted
 parted_step (CTerm-F.Const c) = record { tree = Const c; choice = None }
 parted_step (CTerm-F.Slot n) = record { tree = Slot n; choice = None }
 parted_step (CTerm-F.Param n) = record { tree = Param n; choice = None }
-parted_step (CTerm-F.Add a b) = record { tree = Add a.tree b.tree; choice = first_choice (λ x. Add x b.tree) (λ y. Add a.tree y) a.choice b.choice }
-parted_step (CTerm-F.Sub a b) = record { tree = Sub a.tree b.tree; choice = first_choice (λ x. Sub x b.tree) (λ y. Sub a.tree y) a.choice b.choice }
-parted_step (CTerm-F.Scale k a) = record { tree = Scale k a.tree; choice = first_choice (λ x. Scale k x) (λ y. Scale k y) a.choice None }
-parted_step (CTerm-F.Ite c a b) = record { tree = Ite c a.tree b.tree; choice = Some (record { when = c; yes = a.tree; no = b.tree }) }
+parted_step (CTerm-F.Add a b) = record {
+  tree = Add a.tree b.tree;
+  choice = first_choice (λ x. Add x b.tree) (λ y. Add a.tree y) a.choice b.choice;
+}
+parted_step (CTerm-F.Sub a b) = record {
+  tree = Sub a.tree b.tree;
+  choice = first_choice (λ x. Sub x b.tree) (λ y. Sub a.tree y) a.choice b.choice;
+}
+parted_step (CTerm-F.Scale k a) = record {
+  tree = Scale k a.tree;
+  choice = first_choice (λ x. Scale k x) (λ y. Scale k y) a.choice None;
+}
+parted_step (CTerm-F.Ite c a b) = record {
+  tree = Ite c a.tree b.tree;
+  choice = Some (record { when = c; yes = a.tree; no = b.tree });
+}
 
 abbrev pub parted : CTerm → Parted
 parted = fold-CTerm CForm Parted form_tree_step parted_step
@@ -138,10 +154,22 @@ outcome_step vs (CForm-F.AtLeast t) = record {
   yes = least_adds vs t (first_ite t);
   no = least_adds vs (below_zero t) (first_ite (below_zero t));
 }
-outcome_step vs (CForm-F.Zero t) = record { tree = Zero t; yes = zero_adds vs t (first_ite t); no = unequal_adds t (first_ite t) }
+outcome_step vs (CForm-F.Zero t) = record {
+  tree = Zero t;
+  yes = zero_adds vs t (first_ite t);
+  no = unequal_adds t (first_ite t);
+}
 outcome_step vs (CForm-F.Not f) = record { tree = Not f.tree; yes = f.no; no = f.yes }
-outcome_step vs (CForm-F.And f g) = record { tree = And f.tree g.tree; yes = joined f.yes g.yes; no = one_waiting (Or (Not f.tree) (Not g.tree)) }
-outcome_step vs (CForm-F.Or f g) = record { tree = Or f.tree g.tree; yes = one_waiting (Or f.tree g.tree); no = joined f.no g.no }
+outcome_step vs (CForm-F.And f g) = record {
+  tree = And f.tree g.tree;
+  yes = joined f.yes g.yes;
+  no = one_waiting (Or (Not f.tree) (Not g.tree));
+}
+outcome_step vs (CForm-F.Or f g) = record {
+  tree = Or f.tree g.tree;
+  yes = one_waiting (Or f.tree g.tree);
+  no = joined f.no g.no;
+}
 
 abbrev pub outcome : List Variable → CForm → Outcome
 outcome vs = fold-CForm Outcome CTerm (outcome_step vs) term_tree_step

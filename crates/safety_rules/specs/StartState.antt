@@ -51,7 +51,9 @@ number_or_low low high (Some c) = cond (in_range (Some (low, high)) c) c low
 
 -- the variable's first number: the one that the initially section fixes, and else its lowest
 abbrev pub start_number : SmallDocument → ℤ
-start_number d = number_or_low (pos d.program.range.low.value) (pos d.program.range.high.value) (fixed_number (form_of d.program.initially))
+start_number d =
+    number_or_low (pos d.program.range.low.value) (pos d.program.range.high.value)
+    (fixed_number (form_of d.program.initially))
 
 -- the state of the first number
 abbrev pub start_state : SmallDocument → State

@@ -65,9 +65,11 @@ are_in_ranges (r ∷ rs) (z ∷ zs) = (int_le r.lo z && int_le z r.hi) && are_in
 
 -- a formula is true at every state and all numbers of the parameters that lie in their ranges
 abbrev pub IsTrueInRanges : CForm → List Range → List Range → Type 0
-IsTrueInRanges f slots params = (state numbers : List ℤ) → are_in_ranges slots state ≡ true → are_in_ranges params numbers ≡ true →
+IsTrueInRanges f slots params =
+    (state numbers : List ℤ) → are_in_ranges slots state ≡ true → are_in_ranges params numbers ≡ true →
     form_value state numbers f ≡ true
 
 -- a formula whose obligation is valid is true at all that lies in the ranges
 abbrev pub ObligationMeans : Type 0
-ObligationMeans = (f : CForm) (slots params : List Range) → Valid (obligation_of f slots params) → IsTrueInRanges f slots params
+ObligationMeans =
+    (f : CForm) (slots params : List Range) → Valid (obligation_of f slots params) → IsTrueInRanges f slots params

@@ -3,6 +3,7 @@
 ghost use Rattle.std.specs.Prelude.{◌≡◌};
 
 use crate::obligations::Branch;
+use case_tables::Code;
 use std::alloc::AllocError;
 use unity_base::Seq;
 
@@ -27,25 +28,11 @@ pub struct Cert {
     pub nodes: Seq<Node>,
 }
 
-/// How a node fails.
-#[derive(Clone, Copy, Debug, PartialEq, Eq)]
-pub enum Code {
-    /// There is no waiting formula of this number.
-    NothingToCase,
-    /// A multiplier is negative, or the sum is not one that is below 0 at all values.
-    BadSum,
-    /// There is no fact of this number.
-    NoSuchFact,
-    /// A product or a running sum is past 2^126.
-    TooBig,
-    /// The node stands at a level past 1,024.
-    TooDeep,
-}
-
 /// Why a certificate was not taken.
 #[derive(Clone, Copy, Debug, PartialEq, Eq)]
 pub enum CertError {
-    /// The first node that fails, from 0, and how.
+    /// The first node that fails, from 0, and how: by `NothingToCase`, `BadSum`, `NoSuchFact`,
+    /// `TooBig` or `CertTooDeep`.
     Fault { code: Code, node: u64 },
     /// Memory was refused.
     Memory,
@@ -58,7 +45,7 @@ pub struct Pending {
     pub branch: Branch,
 }
 
-/// Why a node was not taken.
+/// Why a node was not taken: the code is one of those of `CertError`.
 #[derive(Clone, Copy)]
 pub enum Stop {
     Fault(Code),

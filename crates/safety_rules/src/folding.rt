@@ -1,5 +1,5 @@
 // Trees without slot and parameter are replaced by what they are worth.
-ghost use Rattle.std.specs.Prelude.{◌≡◌, ◌+◌, ◌*◌, ◌^◌, ◌≤◌, ◌*ℤ◌, IfOk, MatchOption, max};
+ghost use Rattle.std.specs.Prelude.{◌≡◌, ◌+◌, ◌*◌, ◌^◌, ◌≤◌, ◌*ℤ◌, ◌&&◌, ◌||◌, IfOk, MatchOption, max};
 ghost use Rattle.std.specs.Int.RustNames.{unsigned_abs};
 ghost use Rattle.safety_rules.specs.Bound.{term_bound, form_bound};
 ghost use Rattle.safety_rules.specs.Folding as fold;
@@ -40,20 +40,30 @@ fn truth_of(f: &CForm) -> Option<bool>
     match f {
         CForm::Top => Some(true),
         CForm::Bottom => Some(false),
-        CForm::AtLeast(t) => Some(number_of(t)? >= 0),
-        CForm::Zero(t) => Some(number_of(t)? == 0),
+        CForm::AtLeast(t) => Some(number_of(t.get())? >= 0),
+        CForm::Zero(t) => Some(number_of(t.get())? == 0),
         CForm::Not(g) => Some(!truth_of(g.get())?),
-        CForm::And(g, h) => {
-            let first = truth_of(g.get())?;
-            let second = truth_of(h.get())?;
-            Some(first && second)
-        }
-        CForm::Or(g, h) => {
-            let first = truth_of(g.get())?;
-            let second = truth_of(h.get())?;
-            Some(first || second)
-        }
+        CForm::And(g, h) => both(truth_of(g.get()), truth_of(h.get())),
+        CForm::Or(g, h) => either(truth_of(g.get()), truth_of(h.get())),
     }
+}
+
+// Whether both hold, where both truths are known.
+fn both(first: Option<bool>, second: Option<bool>) -> Option<bool>
+    ensures { result ≡ fold.joined (λ x y. x && y) first second }
+{
+    let first = first?;
+    let second = second?;
+    Some(first && second)
+}
+
+// Whether one of two holds, where both truths are known.
+fn either(first: Option<bool>, second: Option<bool>) -> Option<bool>
+    ensures { result ≡ fold.joined (λ x y. x || y) first second }
+{
+    let first = first?;
+    let second = second?;
+    Some(first || second)
 }
 
 fn scaled(k: i64, number: i128) -> i128
@@ -65,132 +75,141 @@ fn scaled(k: i64, number: i128) -> i128
 }
 
 #[tactic(auto, using(crate::proofs::FoldingLaws::bound_folded_term))]
-fn folded_term(t: CTerm) -> CTerm
+fn folded_term(alloc: Global, t: Held<CTerm>) -> Result<Held<CTerm>, AllocError>
     requires { term_bound 1 t ≤ 2 ^ 126 }
-    ensures tree { result ≡ fold.folded_term t }
-    ensures bound { term_bound 1 result ≤ term_bound 1 t }
+    ensures tree { IfOk result (λ u. u ≡ fold.folded_term t) }
+    ensures bound { IfOk result (λ u. term_bound 1 u ≤ term_bound 1 t) }
 {
-    match number_of(&t) {
-        Some(z) if z.unsigned_abs() <= 1 << 62 => CTerm::Const(z as i64),
-        _ => t,
+    match number_of(t.get()) {
+        Some(z) if z.unsigned_abs() <= 1 << 62 => Held::new(alloc, CTerm::Const(z as i64)),
+        _ => Ok(t),
     }
 }
 
 #[tactic(auto, using(crate::proofs::FoldingLaws::bound_folded_form))]
-fn folded_form(f: CForm) -> CForm
+fn folded_form(alloc: Global, f: Held<CForm>) -> Result<Held<CForm>, AllocError>
     requires { form_bound 1 f ≤ 2 ^ 126 }
-    ensures tree { result ≡ fold.folded_form f }
-    ensures bound { form_bound 1 result ≤ form_bound 1 f }
+    ensures tree { IfOk result (λ g. g ≡ fold.folded_form f) }
+    ensures bound { IfOk result (λ g. form_bound 1 g ≤ form_bound 1 f) }
 {
-    match truth_of(&f) {
-        Some(true) => CForm::Top,
-        Some(false) => CForm::Bottom,
-        None => f,
+    match truth_of(f.get()) {
+        Some(true) => Held::new(alloc, CForm::Top),
+        Some(false) => Held::new(alloc, CForm::Bottom),
+        None => Ok(f),
     }
 }
 
 /// The sum of two terms, folded.
 /// An error says that memory was refused.
-pub fn sum_term(alloc: Global, a: CTerm, b: CTerm) -> Result<CTerm, AllocError>
+pub fn sum_term(alloc: Global, a: Held<CTerm>, b: Held<CTerm>) -> Result<Held<CTerm>, AllocError>
     requires { term_bound 1 a + term_bound 1 b ≤ 2 ^ 126 }
     ensures tree { IfOk result (λ t. t ≡ fold.sum_term a b) }
     ensures bound { IfOk result (λ t. term_bound 1 t ≤ term_bound 1 a + term_bound 1 b) }
 {
-    let whole = CTerm::Add(Held::new(alloc, a)?, Held::new(alloc, b)?);
-    Ok(folded_term(whole))
+    let whole = Held::new(alloc, CTerm::Add(a, b))?;
+    folded_term(alloc, whole)
 }
 
 /// The difference of two terms, folded.
 /// An error says that memory was refused.
-pub fn difference_term(alloc: Global, a: CTerm, b: CTerm) -> Result<CTerm, AllocError>
+pub fn difference_term(
+    alloc: Global,
+    a: Held<CTerm>,
+    b: Held<CTerm>,
+) -> Result<Held<CTerm>, AllocError>
     requires { term_bound 1 a + term_bound 1 b ≤ 2 ^ 126 }
     ensures tree { IfOk result (λ t. t ≡ fold.difference_term a b) }
     ensures bound { IfOk result (λ t. term_bound 1 t ≤ term_bound 1 a + term_bound 1 b) }
 {
-    let whole = CTerm::Sub(Held::new(alloc, a)?, Held::new(alloc, b)?);
-    Ok(folded_term(whole))
+    let whole = Held::new(alloc, CTerm::Sub(a, b))?;
+    folded_term(alloc, whole)
 }
 
 /// A multiple of a term, folded.
 /// An error says that memory was refused.
-pub fn scaled_term(alloc: Global, k: i64, a: CTerm) -> Result<CTerm, AllocError>
+pub fn scaled_term(alloc: Global, k: i64, a: Held<CTerm>) -> Result<Held<CTerm>, AllocError>
     requires own { term_bound 1 a ≤ 2 ^ 126 }
     requires multiple { unsigned_abs k * term_bound 1 a ≤ 2 ^ 126 }
     ensures tree { IfOk result (λ t. t ≡ fold.scaled_term k a) }
     ensures bound { IfOk result (λ t. term_bound 1 t ≤ max (term_bound 1 a) (unsigned_abs k * term_bound 1 a)) }
 {
-    let whole = CTerm::Scale(k, Held::new(alloc, a)?);
-    Ok(folded_term(whole))
+    let whole = Held::new(alloc, CTerm::Scale(k, a))?;
+    folded_term(alloc, whole)
 }
 
 /// The first term where the formula holds and the second elsewhere: the branch alone where the
 /// formula has no slot and no parameter.
 /// An error says that memory was refused.
-pub fn choice_term(alloc: Global, c: CForm, a: CTerm, b: CTerm) -> Result<CTerm, AllocError>
+pub fn choice_term(
+    alloc: Global,
+    c: Held<CForm>,
+    a: Held<CTerm>,
+    b: Held<CTerm>,
+) -> Result<Held<CTerm>, AllocError>
     requires { form_bound 1 c ≤ 2 ^ 126 }
     ensures tree { IfOk result (λ t. t ≡ fold.choice_term c a b) }
     ensures bound { IfOk result (λ t. term_bound 1 t ≤ max (form_bound 1 c) (max (term_bound 1 a) (term_bound 1 b))) }
 {
-    match truth_of(&c) {
+    match truth_of(c.get()) {
         Some(true) => Ok(a),
         Some(false) => Ok(b),
-        None => Ok(CTerm::Ite(
-            Held::new(alloc, c)?,
-            Held::new(alloc, a)?,
-            Held::new(alloc, b)?,
-        )),
+        None => Held::new(alloc, CTerm::Ite(c, a, b)),
     }
 }
 
 /// That a term is at least 0, folded.
-pub fn least_form(t: CTerm) -> CForm
+/// An error says that memory was refused.
+pub fn least_form(alloc: Global, t: Held<CTerm>) -> Result<Held<CForm>, AllocError>
     requires { term_bound 1 t ≤ 2 ^ 126 }
-    ensures tree { result ≡ fold.least_form t }
-    ensures bound { form_bound 1 result ≤ term_bound 1 t }
+    ensures tree { IfOk result (λ f. f ≡ fold.least_form t) }
+    ensures bound { IfOk result (λ f. form_bound 1 f ≤ term_bound 1 t) }
 {
-    folded_form(CForm::AtLeast(t))
+    let whole = Held::new(alloc, CForm::AtLeast(t))?;
+    folded_form(alloc, whole)
 }
 
 /// That a term is 0, folded.
-pub fn zero_form(t: CTerm) -> CForm
+/// An error says that memory was refused.
+pub fn zero_form(alloc: Global, t: Held<CTerm>) -> Result<Held<CForm>, AllocError>
     requires { term_bound 1 t ≤ 2 ^ 126 }
-    ensures tree { result ≡ fold.zero_form t }
-    ensures bound { form_bound 1 result ≤ term_bound 1 t }
+    ensures tree { IfOk result (λ f. f ≡ fold.zero_form t) }
+    ensures bound { IfOk result (λ f. form_bound 1 f ≤ term_bound 1 t) }
 {
-    folded_form(CForm::Zero(t))
+    let whole = Held::new(alloc, CForm::Zero(t))?;
+    folded_form(alloc, whole)
 }
 
 /// That a formula does not hold, folded.
 /// An error says that memory was refused.
-pub fn not_form(alloc: Global, f: CForm) -> Result<CForm, AllocError>
+pub fn not_form(alloc: Global, f: Held<CForm>) -> Result<Held<CForm>, AllocError>
     requires { form_bound 1 f ≤ 2 ^ 126 }
     ensures tree { IfOk result (λ h. h ≡ fold.not_form f) }
     ensures bound { IfOk result (λ h. form_bound 1 h ≤ form_bound 1 f) }
 {
-    let whole = CForm::Not(Held::new(alloc, f)?);
-    Ok(folded_form(whole))
+    let whole = Held::new(alloc, CForm::Not(f))?;
+    folded_form(alloc, whole)
 }
 
 /// That two formulas hold, folded.
 /// An error says that memory was refused.
-pub fn and_form(alloc: Global, f: CForm, g: CForm) -> Result<CForm, AllocError>
+pub fn and_form(alloc: Global, f: Held<CForm>, g: Held<CForm>) -> Result<Held<CForm>, AllocError>
     requires first { form_bound 1 f ≤ 2 ^ 126 }
     requires second { form_bound 1 g ≤ 2 ^ 126 }
     ensures tree { IfOk result (λ h. h ≡ fold.and_form f g) }
     ensures bound { IfOk result (λ h. form_bound 1 h ≤ max (form_bound 1 f) (form_bound 1 g)) }
 {
-    let whole = CForm::And(Held::new(alloc, f)?, Held::new(alloc, g)?);
-    Ok(folded_form(whole))
+    let whole = Held::new(alloc, CForm::And(f, g))?;
+    folded_form(alloc, whole)
 }
 
 /// That one of two formulas holds, folded.
 /// An error says that memory was refused.
-pub fn or_form(alloc: Global, f: CForm, g: CForm) -> Result<CForm, AllocError>
+pub fn or_form(alloc: Global, f: Held<CForm>, g: Held<CForm>) -> Result<Held<CForm>, AllocError>
     requires first { form_bound 1 f ≤ 2 ^ 126 }
     requires second { form_bound 1 g ≤ 2 ^ 126 }
     ensures tree { IfOk result (λ h. h ≡ fold.or_form f g) }
     ensures bound { IfOk result (λ h. form_bound 1 h ≤ max (form_bound 1 f) (form_bound 1 g)) }
 {
-    let whole = CForm::Or(Held::new(alloc, f)?, Held::new(alloc, g)?);
-    Ok(folded_form(whole))
+    let whole = Held::new(alloc, CForm::Or(f, g))?;
+    folded_form(alloc, whole)
 }

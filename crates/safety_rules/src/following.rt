@@ -3,9 +3,7 @@ ghost use Rattle.std.specs.Prelude.{◌≡◌, ◌↔◌, ◌≤◌, ◌^◌, ma
 ghost use Rattle.small_documents.specs.Limits.{IsSmall};
 ghost use Rattle.small_documents.specs.Conditions.{are_trees, IsWellFormed};
 ghost use Rattle.safety_rules.specs.Load.{form_load};
-ghost use Rattle.safety_rules.specs.Refutation.{Refuted};
-ghost use Rattle.safety_rules.specs.StepForms as forms;
-ghost use Rattle.safety_rules.specs.Follows.{pair_of, node_of, obligation, AreRefuted, AreLight, AreWhole, Follows, AcceptedIsSafe, AcceptedRuns};
+ghost use Rattle.safety_rules.specs.Follows.{pair_of, node_of, obligation, IsRefuted, AreRefuted, IsCertified, AreLight, AreWhole, Follows, AcceptedIsSafe, AcceptedRuns};
 
 use crate::certificate_check::{Cert, CertError, Node, check_cert};
 use crate::copy::copy_form;
@@ -16,7 +14,7 @@ use crate::start_state::starts;
 use crate::step_rules::{obligation_forms, slot_range};
 use small_documents::{self as written, Certificate, Pair, SmallDocument};
 use std::alloc::{AllocError, Global};
-use unity_base::Seq;
+use unity_base::{Held, Seq};
 
 /// The greatest number of a text.
 const GREATEST_LITERAL: u64 = 4_611_686_018_427_387_904;
@@ -89,7 +87,7 @@ fn is_refuted(
     requires small { IsSmall document.now }
     requires light { form_load form.now ≤ 2 ^ 62 }
     requires whole { are_trees 1 certificate.now.nodes ≡ true }
-    ensures { IfOk result (λ b. IsTrue b ↔ Refuted (obligation document.now form.now) (map node_of certificate.now.nodes)) }
+    ensures { IfOk result (λ b. IsTrue b ↔ IsRefuted document.now form.now certificate.now) }
 {
     let obligation = obligation_of(alloc, document, form)?;
     let nodes = nodes_of(alloc, certificate.nodes.as_slice())?;
@@ -105,7 +103,7 @@ fn is_refuted(
 fn are_refuted(
     alloc: Global,
     document: &SmallDocument,
-    forms: &[CForm],
+    forms: &[Held<CForm>],
     certificates: &[Certificate],
 ) -> Result<bool, AllocError>
     requires small { IsSmall document.now }
@@ -119,7 +117,7 @@ fn are_refuted(
     if certificates.is_empty() {
         return Ok(false);
     }
-    if is_refuted(alloc, document, &forms[0], &certificates[0])? {
+    if is_refuted(alloc, document, forms[0].get(), &certificates[0])? {
         are_refuted(alloc, document, &forms[1..], &certificates[1..])
     } else {
         Ok(false)
@@ -129,7 +127,7 @@ fn are_refuted(
 /// Whether the document's obligations are refuted by its certificates.
 fn is_certified(alloc: Global, document: &SmallDocument) -> Result<bool, AllocError>
     requires { IsWellFormed document.now }
-    ensures { IfOk result (λ b. IsTrue b ↔ AreRefuted document.now (forms.obligation_forms document.now) document.now.certificates) }
+    ensures { IfOk result (λ b. IsTrue b ↔ IsCertified document.now) }
 {
     let forms = obligation_forms(alloc, document)?;
     are_refuted(

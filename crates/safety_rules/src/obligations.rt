@@ -23,7 +23,7 @@ pub struct Variable {
 /// A formula that is to hold at all values of its variables in their ranges.
 #[derive(Drop)]
 pub struct Obligation {
-    pub form: CForm,
+    pub form: Held<CForm>,
     /// Slots by number, and then parameters by number.
     pub variables: Seq<Variable>,
 }
@@ -47,7 +47,7 @@ pub struct Line {
 #[derive(Drop)]
 pub struct Branch {
     pub facts: Seq<Fact>,
-    pub waiting: Seq<CForm>,
+    pub waiting: Seq<Held<CForm>>,
 }
 
 /// A term's first `Ite`: its condition, and the term with either part in the place of the `Ite`.

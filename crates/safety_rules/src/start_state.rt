@@ -48,7 +48,7 @@ fn fixed_number(f: &CForm) -> Option<i64>
     ensures { result ≡ start.fixed_number f.now }
 {
     match f {
-        CForm::Zero(t) => subtracted(t),
+        CForm::Zero(t) => subtracted(t.get()),
         _ => None,
     }
 }
@@ -75,7 +75,7 @@ pub fn start_number(alloc: Global, d: &SmallDocument) -> Result<i64, AllocError>
     ensures small { IfOk result (λ z. unsigned_abs z ≤ 1000000000) }
 {
     let initially = comparison_form(alloc, &d.program.initially)?;
-    Ok(number_or_low(d.program.range, fixed_number(&initially)))
+    Ok(number_or_low(d.program.range, fixed_number(initially.get())))
 }
 
 fn operand_at(operand: &Operand, x: i64) -> i64

@@ -14,7 +14,7 @@ use crate::folding::{not_form, or_form};
 use crate::wp_substitution::{defined, statement_write, wp};
 use small_documents::SmallDocument;
 use std::alloc::{AllocError, Global};
-use unity_base::Seq;
+use unity_base::{Held, Seq};
 
 pub fn slot_range(d: &SmallDocument) -> Range
     requires { IsSmall d.now }
@@ -27,19 +27,20 @@ pub fn slot_range(d: &SmallDocument) -> Range
     }
 }
 
-fn imply(alloc: Global, p: CForm, q: CForm) -> Result<CForm, AllocError>
+fn imply(alloc: Global, p: Held<CForm>, q: Held<CForm>) -> Result<Held<CForm>, AllocError>
     requires first { form_bound 1 p ≤ 2 ^ 126 }
     requires second { form_bound 1 q ≤ 2 ^ 126 }
     ensures tree { IfOk result (λ f. f ≡ forms.imply_form p q) }
     ensures bound { IfOk result (λ f. form_bound 1 f ≤ max (form_bound 1 p) (form_bound 1 q)) }
 {
-    or_form(alloc, not_form(alloc, p)?, q)
+    let fails = not_form(alloc, p)?;
+    or_form(alloc, fails, q)
 }
 
 /// The obligation of the `defined` step. Where it is valid, no step of an execution is undefined,
 /// and every list of choices runs.
 #[tactic(auto, using(crate::proofs::RuleLaws::defined_rule, crate::proofs::RuleLaws::run_rule))]
-fn defined_obligation(alloc: Global, d: &SmallDocument) -> Result<CForm, AllocError>
+fn defined_obligation(alloc: Global, d: &SmallDocument) -> Result<Held<CForm>, AllocError>
     requires { IsSmall d.now }
     ensures tree { IfOk result (λ f. f ≡ forms.defined_obligation d.now) }
     ensures small { IfOk result (λ f. form_bound 1 f ≤ 2 ^ 40) }
@@ -52,7 +53,7 @@ fn defined_obligation(alloc: Global, d: &SmallDocument) -> Result<CForm, AllocEr
 }
 
 /// The first obligation of the `invariant` step: the initially section gives the claim.
-fn start_obligation(alloc: Global, d: &SmallDocument) -> Result<CForm, AllocError>
+fn start_obligation(alloc: Global, d: &SmallDocument) -> Result<Held<CForm>, AllocError>
     requires { IsSmall d.now }
     ensures tree { IfOk result (λ f. f ≡ forms.start_obligation d.now) }
     ensures small { IfOk result (λ f. form_bound 1 f ≤ 2 ^ 40) }
@@ -63,7 +64,11 @@ fn start_obligation(alloc: Global, d: &SmallDocument) -> Result<CForm, AllocErro
 }
 
 // What holds where the statement is defined and the claim holds after it.
-fn claim_precondition(alloc: Global, d: &SmallDocument, claim: &CForm) -> Result<CForm, AllocError>
+fn claim_precondition(
+    alloc: Global,
+    d: &SmallDocument,
+    claim: &CForm,
+) -> Result<Held<CForm>, AllocError>
     requires small { IsSmall d.now }
     requires claim { claim.now ≡ form_of d.now.proof.claim }
     ensures tree { IfOk result (λ f. f ≡ wp_form (forms.program_write d.now) claim.now (forms.slots_of d.now)) }
@@ -77,23 +82,23 @@ fn claim_precondition(alloc: Global, d: &SmallDocument, claim: &CForm) -> Result
 /// The second obligation of the `invariant` step: the statement keeps the claim. Where both are
 /// valid, the claim is an invariant.
 #[tactic(auto, using(crate::proofs::RuleLaws::invariant_rule))]
-fn kept_obligation(alloc: Global, d: &SmallDocument) -> Result<CForm, AllocError>
+fn kept_obligation(alloc: Global, d: &SmallDocument) -> Result<Held<CForm>, AllocError>
     requires { IsSmall d.now }
     ensures tree { IfOk result (λ f. f ≡ forms.kept_obligation d.now) }
     ensures small { IfOk result (λ f. form_bound 1 f ≤ 2 ^ 40) }
     ensures sound { InvariantRule d.now }
 {
     let claim = comparison_form(alloc, &d.proof.claim)?;
-    let kept = claim_precondition(alloc, d, &claim)?;
+    let kept = claim_precondition(alloc, d, claim.get())?;
     imply(alloc, claim, kept)
 }
 
 fn in_order(
     alloc: Global,
-    first: CForm,
-    second: CForm,
-    third: CForm,
-) -> Result<Seq<CForm>, AllocError>
+    first: Held<CForm>,
+    second: Held<CForm>,
+    third: Held<CForm>,
+) -> Result<Seq<Held<CForm>>, AllocError>
     ensures { IfOk result (λ fs. fs ≡ first ∷ second ∷ third ∷ []) }
 {
     let mut forms = Seq::new(alloc);
@@ -103,7 +108,7 @@ fn in_order(
     Ok(forms)
 }
 
-fn forms_in_order(alloc: Global, d: &SmallDocument) -> Result<Seq<CForm>, AllocError>
+fn forms_in_order(alloc: Global, d: &SmallDocument) -> Result<Seq<Held<CForm>>, AllocError>
     requires { IsSmall d.now }
     ensures tree { IfOk result (λ fs. fs ≡ forms.obligation_forms d.now) }
     ensures small { IfOk result (λ fs. All (λ f. form_bound 1 f ≤ 2 ^ 40) fs) }
@@ -116,7 +121,7 @@ fn forms_in_order(alloc: Global, d: &SmallDocument) -> Result<Seq<CForm>, AllocE
 
 /// The obligations of both steps, in order. Where all are valid, the document's claims are true.
 /// An error says that memory was refused.
-pub fn obligation_forms(alloc: Global, d: &SmallDocument) -> Result<Seq<CForm>, AllocError>
+pub fn obligation_forms(alloc: Global, d: &SmallDocument) -> Result<Seq<Held<CForm>>, AllocError>
     requires { IsSmall d.now }
     ensures tree { IfOk result (λ fs. fs ≡ forms.obligation_forms d.now) }
     ensures light { IfOk result (λ fs. All (λ f. form_load f ≤ 2 ^ 62) fs) }

@@ -22,15 +22,20 @@ module _ {A B : Type 0} (part : A → Option B) (whole : Option (List B)) (found
       same None = refl
       same (Some ys) = refl
 
-  pub found_more : (x : A) (y : B) (xs : List A) → part x ≡ Some y → Found part whole found (x ∷ xs) → Found part whole (found ++ y ∷ []) xs
-  found_more x y xs e inv = go (each_of part xs) ∙ sym (ap (λ o. option_map (λ more. found ++ more) (from_both (λ y ys. y ∷ ys) o (each_of part xs))) e) ∙ inv
+  pub found_more : (x : A) (y : B) (xs : List A) → part x ≡ Some y → Found part whole found (x ∷ xs) →
+      Found part whole (found ++ y ∷ []) xs
+  found_more x y xs e inv =
+      go (each_of part xs) ∙ sym (ap (λ o. option_map (λ more. found ++ more)
+      (from_both (λ y ys. y ∷ ys) o (each_of part xs))) e) ∙ inv
     where
-      go : (o : Option (List B)) → option_map (λ more. (found ++ y ∷ []) ++ more) o ≡ option_map (λ more. found ++ more) (from_both (λ y ys. y ∷ ys) (Some y) o)
+      go : (o : Option (List B)) → option_map (λ more. (found ++ y ∷ []) ++ more) o ≡ option_map (λ more. found ++ more)
+          (from_both (λ y ys. y ∷ ys) (Some y) o)
       go None = refl
       go (Some ys) = ap Some (append_one found y ys)
 
   pub found_none : (x : A) (xs : List A) → part x ≡ None → Found part whole found (x ∷ xs) → whole ≡ None
-  found_none x xs e inv = sym inv ∙ ap (λ o. option_map (λ more. found ++ more) (from_both (λ y ys. y ∷ ys) o (each_of part xs))) e
+  found_none x xs e inv =
+      sym inv ∙ ap (λ o. option_map (λ more. found ++ more) (from_both (λ y ys. y ∷ ys) o (each_of part xs))) e
 
   pub found_all : Found part whole found [] → whole ≡ Some found
   found_all inv = sym inv ∙ ap Some (append_nil found)

@@ -83,4 +83,5 @@ pub record IsSafe (d : SmallDocument) : Type 0 where
 -- every list of choices, from every initial state, is that of an execution
 abbrev pub EveryChoiceRuns : SmallDocument → Type 0
 EveryChoiceRuns d = (first : State) (choices : List ℕ) → IsTrue (is_initial d first) →
-    ((place choice : ℕ) → slice_get choices place ≡ Some choice → choice ≡ 0) → (later : List State) × IsExecution d first choices later
+    ((place choice : ℕ) → slice_get choices place ≡ Some choice → choice ≡ 0) →
+    (later : List State) × IsExecution d first choices later

@@ -1,4 +1,5 @@
--- The small document that a document is, if it is one: each form of the whole language's trees that a small document may have,
+-- The small document that a document is, if it is one: each form of the whole language's trees that a small document
+-- may have,
 -- and what it is there. Every other form is none.
 use Rattle.std.specs.Prelude.{List, [], ◌∷◌, map, Bool, true, false, Option, None, Some, option_map}
 use Rattle.case_tables.specs.declared.symbol_table.Symbol.{Symbol}
@@ -220,7 +221,8 @@ programmed name variable initially statement =
     record { name = name; variable = variable.0; range = variable.1; initially = initially; statement = statement }
 
 abbrev pub sections_of : Name → Option (List Var) → Option Initially → Items → Option Program
-sections_of name declare initially items = from_three (programmed name) (variable_of declare) (initially_of initially) (statement_of items)
+sections_of name declare initially items =
+    from_three (programmed name) (variable_of declare) (initially_of initially) (statement_of items)
 
 -- program = "program" word "declare" word ":" range "initially" comparison "assign" statement "end"
 abbrev pub program_of : WrittenProgram → Option Program
@@ -256,7 +258,12 @@ abbrev pub invariant_of : Step → Option (Name × Comparison)
 invariant_of step = claims_invariant step.name step.claim (is_by_text step)
 
 abbrev pub proved : Name → Name → Name × Comparison → Proof
-proved program defined invariant = record { program = program; defined = defined; invariant = invariant.0; claim = invariant.1 }
+proved program defined invariant = record {
+  program = program;
+  defined = defined;
+  invariant = invariant.0;
+  claim = invariant.1;
+}
 
 abbrev pub two_steps : Name → Step → Step → Option Proof
 two_steps program first second = from_both (proved program) (defined_name first) (invariant_of second)
@@ -282,7 +289,9 @@ node_of _ = None
 
 -- certificate = number ":" node { node } ";"
 abbrev pub certificate_of : CertText → Option Certificate
-certificate_of c = option_map (λ nodes. record { number = record { at = c.at; value = c.number }; nodes = nodes }) (each_of node_of (c.first ∷ c.rest))
+certificate_of c =
+    option_map (λ nodes. record { number = record { at = c.at; value = c.number }; nodes = nodes })
+    (each_of node_of (c.first ∷ c.rest))
 
 abbrev pub certificates_of : Option Certificates → Option (List Certificate)
 certificates_of None = None
@@ -297,7 +306,12 @@ parts_of (Part.Program at program ∷ Part.Proof at2 proof ∷ []) = program_and
 parts_of _ = None
 
 abbrev pub documented : Number → Program × Proof → List Certificate → SmallDocument
-documented version parts certificates = record { version = version; program = parts.0; proof = parts.1; certificates = certificates }
+documented version parts certificates = record {
+  version = version;
+  program = parts.0;
+  proof = parts.1;
+  certificates = certificates;
+}
 
 abbrev pub without_schedule : {A B : Type 0} → Option A → Option B → Option B
 without_schedule None b = b
@@ -306,4 +320,5 @@ without_schedule (Some a) b = None
 -- document = "unity" number program proof "certificates" { certificate } "end"
 abbrev pub small_of : Document → Option SmallDocument
 small_of d = without_schedule d.schedule
-    (from_both (documented (record { at = d.number_at; value = d.number })) (parts_of d.parts) (certificates_of d.certificates))
+    (from_both (documented (record { at = d.number_at; value = d.number })) (parts_of d.parts)
+    (certificates_of d.certificates))

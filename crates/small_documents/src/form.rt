@@ -64,7 +64,12 @@ fn second(alloc: Global, rest: &Seq<(Symbol, Expr)>) -> Found<Operand>
 }
 
 /// Two operands with `+` between them.
-fn sum(alloc: Global, minus: bool, first: &Expr, rest: &Seq<(Symbol, Expr)>) -> Found<Expression>
+fn sum(
+    alloc: Global,
+    minus: bool,
+    first: &Expr,
+    rest: &Seq<(Symbol, Expr)>,
+) -> Found<Held<Expression>>
     ensures { IfOk result (λ found. found ≡ sum_in minus first.now rest.now) }
 {
     if minus {
@@ -76,14 +81,15 @@ fn sum(alloc: Global, minus: bool, first: &Expr, rest: &Seq<(Symbol, Expr)>) -> 
     let Some(second) = second(alloc, rest)? else {
         return Ok(None);
     };
-    Ok(Some(Expression {
+    let expression = Expression {
         first,
         second: Some(second),
-    }))
+    };
+    Ok(Some(Held::new(alloc, expression)?))
 }
 
 /// `expression = operand [ "+" operand ]`
-fn expression(alloc: Global, written: &Expr) -> Found<Expression>
+fn expression(alloc: Global, written: &Expr) -> Found<Held<Expression>>
     ensures { IfOk result (λ found. found ≡ expression_of written.now) }
 {
     if let Expr::Sum {
@@ -98,10 +104,11 @@ fn expression(alloc: Global, written: &Expr) -> Found<Expression>
     let Some(first) = operand(alloc, written)? else {
         return Ok(None);
     };
-    Ok(Some(Expression {
+    let expression = Expression {
         first,
         second: None,
-    }))
+    };
+    Ok(Some(Held::new(alloc, expression)?))
 }
 
 /// `=`, `<` or `<=`
@@ -117,7 +124,7 @@ fn relation(written: Symbol) -> Option<Relation>
 }
 
 /// Two expressions with a relation between them.
-fn compared(alloc: Global, left: &Expr, written: Symbol, right: &Expr) -> Found<Comparison>
+fn compared(alloc: Global, left: &Expr, written: Symbol, right: &Expr) -> Found<Held<Comparison>>
     ensures { IfOk result (λ found. found ≡ comparison_parts left.now written right.now) }
 {
     let Some(left) = expression(alloc, left)? else {
@@ -129,15 +136,16 @@ fn compared(alloc: Global, left: &Expr, written: Symbol, right: &Expr) -> Found<
     let Some(right) = expression(alloc, right)? else {
         return Ok(None);
     };
-    Ok(Some(Comparison {
-        left,
+    let comparison = Comparison {
+        left: left.into_inner(),
         relation,
-        right,
-    }))
+        right: right.into_inner(),
+    };
+    Ok(Some(Held::new(alloc, comparison)?))
 }
 
 /// `comparison = expression ( "=" | "<" | "<=" ) expression`
-fn comparison(alloc: Global, written: &Expr) -> Found<Comparison>
+fn comparison(alloc: Global, written: &Expr) -> Found<Held<Comparison>>
     ensures { IfOk result (λ found. found ≡ comparison_of written.now) }
 {
     match written {
@@ -218,7 +226,7 @@ fn target(alloc: Global, first: &Target, rest: &Seq<Target>) -> Found<Name>
 }
 
 /// The one value.
-fn value(alloc: Global, written: &Values) -> Found<Expression>
+fn value(alloc: Global, written: &Values) -> Found<Held<Expression>>
     ensures { IfOk result (λ found. found ≡ value_of written.now) }
 {
     if !written.rest.is_empty() {
@@ -228,7 +236,10 @@ fn value(alloc: Global, written: &Values) -> Found<Expression>
 }
 
 /// The one condition.
-fn condition(alloc: Global, written: &Option<(Expr, Seq<(Values, Expr)>)>) -> Found<Comparison>
+fn condition(
+    alloc: Global,
+    written: &Option<(Expr, Seq<(Values, Expr)>)>,
+) -> Found<Held<Comparison>>
     ensures { IfOk result (λ found. found ≡ condition_of written.now) }
 {
     let Some((first, further)) = written else {
@@ -247,7 +258,7 @@ fn assignment(
     first: &Target,
     rest: &Seq<Target>,
     alts: &Alts,
-) -> Found<Statement>
+) -> Found<Held<Statement>>
     ensures { IfOk result (λ found. found ≡ assignment_of label.now first.now rest.now alts.now) }
 {
     let Some(target) = target(alloc, first, rest)? else {
@@ -260,16 +271,17 @@ fn assignment(
         return Ok(None);
     };
     let label = copied(alloc, label)?;
-    Ok(Some(Statement {
+    let statement = Statement {
         label,
         target,
-        value,
-        condition,
-    }))
+        value: value.into_inner(),
+        condition: condition.into_inner(),
+    };
+    Ok(Some(Held::new(alloc, statement)?))
 }
 
 /// The one component.
-fn component(alloc: Global, label: &Name, written: &Component) -> Found<Statement>
+fn component(alloc: Global, label: &Name, written: &Component) -> Found<Held<Statement>>
     ensures { IfOk result (λ found. found ≡ component_of label.now written.now) }
 {
     match written {
@@ -283,7 +295,7 @@ fn component(alloc: Global, label: &Name, written: &Component) -> Found<Statemen
     }
 }
 
-fn assign(alloc: Global, label: &Name, written: &Assign) -> Found<Statement>
+fn assign(alloc: Global, label: &Name, written: &Assign) -> Found<Held<Statement>>
     ensures { IfOk result (λ found. found ≡ assign_of label.now written.now) }
 {
     if !written.rest.is_empty() {
@@ -292,7 +304,7 @@ fn assign(alloc: Global, label: &Name, written: &Assign) -> Found<Statement>
     component(alloc, label, &written.first)
 }
 
-fn item(alloc: Global, written: &Item) -> Found<Statement>
+fn item(alloc: Global, written: &Item) -> Found<Held<Statement>>
     ensures { IfOk result (λ found. found ≡ item_of written.now) }
 {
     match written {
@@ -306,7 +318,7 @@ fn item(alloc: Global, written: &Item) -> Found<Statement>
 }
 
 /// The one statement.
-fn statement(alloc: Global, written: &Items) -> Found<Statement>
+fn statement(alloc: Global, written: &Items) -> Found<Held<Statement>>
     ensures { IfOk result (λ found. found ≡ statement_of written.now) }
 {
     if !written.rest.is_empty() {
@@ -316,7 +328,7 @@ fn statement(alloc: Global, written: &Items) -> Found<Statement>
 }
 
 /// The initially section's comparison.
-fn initially(alloc: Global, written: &Option<Initially>) -> Found<Comparison>
+fn initially(alloc: Global, written: &Option<Initially>) -> Found<Held<Comparison>>
     ensures { IfOk result (λ found. found ≡ initially_of written.now) }
 {
     match written {
@@ -332,7 +344,7 @@ fn sections(
     declare: &Option<Seq<Var>>,
     section: &Option<Initially>,
     items: &Items,
-) -> Found<Program>
+) -> Found<Held<Program>>
     ensures { IfOk result (λ found. found ≡ sections_of name.now declare.now section.now items.now) }
 {
     let Some((variable, range)) = variable_declared(alloc, declare)? else {
@@ -345,17 +357,18 @@ fn sections(
         return Ok(None);
     };
     let name = copied(alloc, name)?;
-    Ok(Some(Program {
+    let program = Program {
         name,
         variable,
         range,
-        initially,
-        statement,
-    }))
+        initially: initially.into_inner(),
+        statement: statement.into_inner(),
+    };
+    Ok(Some(Held::new(alloc, program)?))
 }
 
 /// A program of one variable and one statement, and of no other section.
-fn program(alloc: Global, written: &syntax::Program) -> Found<Program>
+fn program(alloc: Global, written: &syntax::Program) -> Found<Held<Program>>
     ensures { IfOk result (λ found. found ≡ program_of written.now) }
 {
     match written {
@@ -396,7 +409,7 @@ fn defined(alloc: Global, written: &Step) -> Found<Name>
 }
 
 /// What an `invariant` step claims.
-fn claimed(alloc: Global, written: &Claim) -> Found<Comparison>
+fn claimed(alloc: Global, written: &Claim) -> Found<Held<Comparison>>
     ensures { IfOk result (λ found. found ≡ claimed_of written.now) }
 {
     match written {
@@ -406,7 +419,7 @@ fn claimed(alloc: Global, written: &Claim) -> Found<Comparison>
 }
 
 /// The name of an `invariant` step, and what it claims.
-fn invariant(alloc: Global, written: &Step) -> Found<(Name, Comparison)>
+fn invariant(alloc: Global, written: &Step) -> Found<(Name, Held<Comparison>)>
     ensures { IfOk result (λ found. found ≡ invariant_of written.now) }
 {
     if !is_by_text(written) {
@@ -420,7 +433,7 @@ fn invariant(alloc: Global, written: &Step) -> Found<(Name, Comparison)>
 }
 
 /// A proof of the two steps.
-fn steps(alloc: Global, program: &Name, first: &Step, second: &Step) -> Found<Proof>
+fn steps(alloc: Global, program: &Name, first: &Step, second: &Step) -> Found<Held<Proof>>
     ensures { IfOk result (λ found. found ≡ two_steps program.now first.now second.now) }
 {
     let Some(defined) = defined(alloc, first)? else {
@@ -430,16 +443,17 @@ fn steps(alloc: Global, program: &Name, first: &Step, second: &Step) -> Found<Pr
         return Ok(None);
     };
     let program = copied(alloc, program)?;
-    Ok(Some(Proof {
+    let proof = Proof {
         program,
         defined,
         invariant,
-        claim,
-    }))
+        claim: claim.into_inner(),
+    };
+    Ok(Some(Held::new(alloc, proof)?))
 }
 
 /// A proof of two steps.
-fn proof(alloc: Global, written: &syntax::Proof) -> Found<Proof>
+fn proof(alloc: Global, written: &syntax::Proof) -> Found<Held<Proof>>
     ensures { IfOk result (λ found. found ≡ proof_of written.now) }
 {
     match written.steps.as_slice() {
@@ -538,7 +552,7 @@ fn program_and_proof(
     alloc: Global,
     first: &syntax::Program,
     second: &syntax::Proof,
-) -> Found<(Program, Proof)>
+) -> Found<(Held<Program>, Held<Proof>)>
     ensures { IfOk result (λ found. found ≡ program_and_proof first.now second.now) }
 {
     let Some(program) = program(alloc, first)? else {
@@ -551,7 +565,7 @@ fn program_and_proof(
 }
 
 /// The one program, and after it the one proof.
-fn parts(alloc: Global, written: &Seq<Part>) -> Found<(Program, Proof)>
+fn parts(alloc: Global, written: &Seq<Part>) -> Found<(Held<Program>, Held<Proof>)>
     ensures { IfOk result (λ found. found ≡ parts_of written.now) }
 {
     match written.as_slice() {
@@ -582,8 +596,8 @@ pub fn small_form(alloc: Global, document: &Document) -> Found<SmallDocument>
     };
     Ok(Some(SmallDocument {
         version,
-        program,
-        proof,
+        program: program.into_inner(),
+        proof: proof.into_inner(),
         certificates,
     }))
 }

@@ -4,19 +4,20 @@ ghost use Rattle.std.specs.Prelude.{◌≡◌, ◌≢◌, ◌≤◌, ◌<◌, �
 ghost use Rattle.std.specs.Option.{option_copied};
 ghost use Rattle.safety_rules.specs.Settling.{settled};
 ghost use Rattle.safety_rules.specs.Load.{form_load, need, is_light_branch};
-ghost use Rattle.safety_rules.specs.Refutation.{sides, numbered, without, at_level, case_at, judged, Refuted, walk, refuted, unfinished, made, opens, all_pairs, made_sum, is_whole, stacked, are_light, FailsMade, FailsSum, error_at, FailsWalk};
+ghost use Rattle.safety_rules.specs.Refutation.{sides, numbered, without, at_level, both_sides, case_at, judged, Refuted, walk, refuted, unfinished, made, opens, all_pairs, made_sum, is_whole, stacked, are_light, FailsMade, FailsSum, error_at, FailsWalk};
 ghost use Rattle.safety_rules.specs.Opening.{Valid, first_branch};
 
 use super::branch_copy::copy_branch;
 use super::sums::{add_pairs, closes};
-use super::{Cert, CertError, Code, Node, Pending, Stop};
+use super::{Cert, CertError, Node, Pending, Stop};
 use crate::core_terms::CForm;
 use crate::obligations::linear::zero_line;
 use crate::obligations::opening::open_branch;
 use crate::obligations::settle::settle;
 use crate::obligations::{Branch, Line, Obligation, Variable};
+use case_tables::Code;
 use std::alloc::{AllocError, Global};
-use unity_base::Seq;
+use unity_base::{Held, Seq};
 
 /// The two sides of a formula that waits.
 fn sides_of(form: &CForm) -> (&CForm, &CForm)
@@ -87,7 +88,7 @@ fn push_sides(
 ) -> Result<(), AllocError>
     requires count { length vs.now < 2 ^ 32 }
     requires light { (need form.now).yes ≤ 2 ^ 63 }
-    ensures { OnOk result (stack.new ≡ stack.old ++ at_level next.level (settled vs.now (sides form.now).1 next.branch) ∷ at_level next.level (settled vs.now (sides form.now).0 next.branch) ∷ []) }
+    ensures { OnOk result (stack.new ≡ stack.old ++ both_sides vs.now form.now next) }
 {
     let Pending { level, branch } = next;
     let first = with_first_side(alloc, vs, form, &branch)?;
@@ -105,7 +106,7 @@ fn push_sides(
 }
 
 /// Takes a branch's waiting formula of this number out, from 1.
-fn take_out(branch: &mut Branch, k: u64) -> Option<CForm>
+fn take_out(branch: &mut Branch, k: u64) -> Option<Held<CForm>>
     ensures form { result ≡ numbered branch.old.waiting k }
     ensures rest { IfSome result (λ _. branch.new ≡ without branch.old (k - 1)) }
 {
@@ -141,7 +142,7 @@ fn open_case(
         level: level + 1,
         branch,
     };
-    push_sides(alloc, vs, &form, rest, stack)?;
+    push_sides(alloc, vs, form.get(), rest, stack)?;
     Ok(())
 }
 
@@ -152,7 +153,9 @@ fn total(
     branch: &Branch,
     pairs: &Seq<(i64, u64)>,
 ) -> Result<Line, Stop>
-    ensures { MatchResult result (λ sum. all_pairs vs.now branch.now.facts pairs.now ≡ Ok sum) (λ stop. FailsSum (all_pairs vs.now branch.now.facts pairs.now) stop) }
+    ensures { MatchResult result
+        (λ sum. all_pairs vs.now branch.now.facts pairs.now ≡ Ok sum)
+        (λ stop. FailsSum (all_pairs vs.now branch.now.facts pairs.now) stop) }
 {
     let mut sum = zero_line(alloc, vs)?;
     match add_pairs(branch.facts.as_slice(), pairs.as_slice(), &mut sum) {
@@ -168,7 +171,9 @@ fn close(
     branch: &Branch,
     pairs: &Seq<(i64, u64)>,
 ) -> Result<(), Stop>
-    ensures { MatchResult result (λ _. made_sum (all_pairs vs.now branch.now.facts pairs.now) ≡ opens []) (FailsMade (made_sum (all_pairs vs.now branch.now.facts pairs.now))) }
+    ensures { MatchResult result
+        (λ _. made_sum (all_pairs vs.now branch.now.facts pairs.now) ≡ opens [])
+        (FailsMade (made_sum (all_pairs vs.now branch.now.facts pairs.now))) }
 {
     let sum = total(alloc, vs, branch, pairs)?;
     if closes(&sum) {
@@ -194,7 +199,7 @@ fn read_node(
     ensures err { IfErr result (FailsMade (made vs.now next node.now)) }
 {
     if next.level > 1024 {
-        return Err(Stop::Fault(Code::TooDeep));
+        return Err(Stop::Fault(Code::CertTooDeep));
     }
     match node {
         Node::Case(k) => open_case(alloc, vs, next, *k, stack),
@@ -225,7 +230,9 @@ fn read(
     requires count { length vs.now < 2 ^ 32 }
     requires whole { walk vs.now nodes.now (reverse stack) 0 ≢ unfinished }
     requires all_light { are_light stack ≡ true }
-    ensures { MatchResult result (λ _. walk vs.now nodes.now (reverse stack) 0 ≡ refuted) (FailsWalk (walk vs.now nodes.now (reverse stack) 0)) }
+    ensures { MatchResult result
+        (λ _. walk vs.now nodes.now (reverse stack) 0 ≡ refuted)
+        (FailsWalk (walk vs.now nodes.now (reverse stack) 0)) }
 {
     for (place, node) in nodes.iter().enumerate() {
         let Some(next) = stack.pop() else {

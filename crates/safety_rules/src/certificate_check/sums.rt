@@ -6,10 +6,10 @@ ghost use Rattle.safety_rules.specs.CoreValue.{number_at, int_eq};
 ghost use Rattle.safety_rules.specs.Refutation.{add_factors, add_times, numbered, or_too_big, add_pair, sum_pairs, is_false, no_sum};
 ghost use Rattle.safety_rules.specs.LinearForms.{add_at};
 
-use super::Code;
 use crate::obligations::linear::factor_at;
 use crate::obligations::small::{small_product, small_sum};
 use crate::obligations::{Fact, Line};
+use case_tables::Code;
 use unity_base::Seq;
 
 /// Adds a number at a place, where there is one.
@@ -24,7 +24,9 @@ fn add_factor(sum: &mut Seq<i128>, place: u32, by: i128, total: i128)
 
 /// Adds m times one factor, unless the product or the sum is too big.
 fn add_one(m: i64, f: &(u32, i128), sum: &mut Seq<i128>) -> bool
-    ensures { MatchBool result (add_factors m (f.now ∷ []) sum.old ≡ Some sum.new) (add_factors m (f.now ∷ []) sum.old ≡ None) }
+    ensures { MatchBool result
+        (add_factors m (f.now ∷ []) sum.old ≡ Some sum.new)
+        (add_factors m (f.now ∷ []) sum.old ≡ None) }
 {
     let Some(by) = small_product(m, f.1) else {
         return false;
@@ -38,7 +40,9 @@ fn add_one(m: i64, f: &(u32, i128), sum: &mut Seq<i128>) -> bool
 
 /// Adds m times each factor, unless a product or a sum is too big.
 fn add_all(m: i64, factors: &[(u32, i128)], sum: &mut Seq<i128>) -> bool
-    ensures { MatchBool result (add_factors m factors.now sum.old ≡ Some sum.new) (add_factors m factors.now sum.old ≡ None) }
+    ensures { MatchBool result
+        (add_factors m factors.now sum.old ≡ Some sum.new)
+        (add_factors m factors.now sum.old ≡ None) }
 {
     for f in factors {
         if !add_one(m, f, sum) {
@@ -79,7 +83,9 @@ fn fact_at(facts: &[Fact], number: u64) -> Option<&Fact>
 
 /// Adds the multiple of a fact that a pair names.
 fn add_one_pair(facts: &[Fact], pair: &(i64, u64), sum: &mut Line) -> Result<(), Code>
-    ensures { MatchResult result (λ _. add_pair pair.now.0 (numbered facts.now pair.now.1) sum.old ≡ Ok sum.new) (λ code. add_pair pair.now.0 (numbered facts.now pair.now.1) sum.old ≡ Err code) }
+    ensures { MatchResult result
+        (λ _. add_pair pair.now.0 (numbered facts.now pair.now.1) sum.old ≡ Ok sum.new)
+        (λ code. add_pair pair.now.0 (numbered facts.now pair.now.1) sum.old ≡ Err code) }
 {
     let Some(fact) = fact_at(facts, pair.1) else {
         return Err(Code::NoSuchFact);
@@ -97,7 +103,9 @@ fn add_one_pair(facts: &[Fact], pair: &(i64, u64), sum: &mut Line) -> Result<(),
 /// Adds the multiples of facts that the pairs name, up to the first that fails.
 #[tactic(auto, using(crate::proofs::SumLaws::stop_laws))]
 pub fn add_pairs(facts: &[Fact], pairs: &[(i64, u64)], sum: &mut Line) -> Result<(), Code>
-    ensures { MatchResult result (λ _. sum_pairs facts.now (Ok sum.old) pairs.now ≡ Ok sum.new) (λ code. sum_pairs facts.now (Ok sum.old) pairs.now ≡ Err code) }
+    ensures { MatchResult result
+        (λ _. sum_pairs facts.now (Ok sum.old) pairs.now ≡ Ok sum.new)
+        (λ code. sum_pairs facts.now (Ok sum.old) pairs.now ≡ Err code) }
 {
     for pair in pairs {
         if let Err(code) = add_one_pair(facts, pair, sum) {

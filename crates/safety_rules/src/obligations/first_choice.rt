@@ -4,7 +4,7 @@ ghost use Rattle.safety_rules.specs.declared.core_terms.CTerm.TheVariants.{Add, 
 ghost use Rattle.safety_rules.specs.Settling.{within, first_ite};
 
 use super::Choice;
-use crate::copy::{held_copy, held_copy_term};
+use crate::copy::{copy_form, copy_term};
 use crate::core_terms::{CForm, CTerm};
 use std::alloc::{AllocError, Global};
 use unity_base::Held;
@@ -19,9 +19,9 @@ fn choice_of(
     ensures { IfOk result (λ o. o ≡ Some (record { when = c.now; yes = a.now; no = b.now })) }
 {
     let choice = Choice {
-        when: held_copy(alloc, c)?,
-        yes: held_copy_term(alloc, a)?,
-        no: held_copy_term(alloc, b)?,
+        when: copy_form(alloc, c.get())?,
+        yes: copy_term(alloc, a.get())?,
+        no: copy_term(alloc, b.get())?,
     };
     Ok(Some(Held::new(alloc, choice)?))
 }
@@ -35,8 +35,8 @@ fn in_sum_first(
     ensures { IfOk result (λ o. o ≡ Some (within (λ x. Add x b.now) choice)) }
 {
     let Choice { when, yes, no } = choice.into_inner();
-    let yes = Held::new(alloc, CTerm::Add(yes, held_copy_term(alloc, b)?))?;
-    let no = Held::new(alloc, CTerm::Add(no, held_copy_term(alloc, b)?))?;
+    let yes = Held::new(alloc, CTerm::Add(yes, copy_term(alloc, b.get())?))?;
+    let no = Held::new(alloc, CTerm::Add(no, copy_term(alloc, b.get())?))?;
     Ok(Some(Held::new(alloc, Choice { when, yes, no })?))
 }
 
@@ -49,8 +49,8 @@ fn in_sum_second(
     ensures { IfOk result (λ o. o ≡ Some (within (λ x. Add a.now x) choice)) }
 {
     let Choice { when, yes, no } = choice.into_inner();
-    let yes = Held::new(alloc, CTerm::Add(held_copy_term(alloc, a)?, yes))?;
-    let no = Held::new(alloc, CTerm::Add(held_copy_term(alloc, a)?, no))?;
+    let yes = Held::new(alloc, CTerm::Add(copy_term(alloc, a.get())?, yes))?;
+    let no = Held::new(alloc, CTerm::Add(copy_term(alloc, a.get())?, no))?;
     Ok(Some(Held::new(alloc, Choice { when, yes, no })?))
 }
 
@@ -63,8 +63,8 @@ fn in_difference_first(
     ensures { IfOk result (λ o. o ≡ Some (within (λ x. Sub x b.now) choice)) }
 {
     let Choice { when, yes, no } = choice.into_inner();
-    let yes = Held::new(alloc, CTerm::Sub(yes, held_copy_term(alloc, b)?))?;
-    let no = Held::new(alloc, CTerm::Sub(no, held_copy_term(alloc, b)?))?;
+    let yes = Held::new(alloc, CTerm::Sub(yes, copy_term(alloc, b.get())?))?;
+    let no = Held::new(alloc, CTerm::Sub(no, copy_term(alloc, b.get())?))?;
     Ok(Some(Held::new(alloc, Choice { when, yes, no })?))
 }
 
@@ -77,8 +77,8 @@ fn in_difference_second(
     ensures { IfOk result (λ o. o ≡ Some (within (λ x. Sub a.now x) choice)) }
 {
     let Choice { when, yes, no } = choice.into_inner();
-    let yes = Held::new(alloc, CTerm::Sub(held_copy_term(alloc, a)?, yes))?;
-    let no = Held::new(alloc, CTerm::Sub(held_copy_term(alloc, a)?, no))?;
+    let yes = Held::new(alloc, CTerm::Sub(copy_term(alloc, a.get())?, yes))?;
+    let no = Held::new(alloc, CTerm::Sub(copy_term(alloc, a.get())?, no))?;
     Ok(Some(Held::new(alloc, Choice { when, yes, no })?))
 }
 
@@ -106,28 +106,28 @@ pub fn find_choice(alloc: Global, t: &CTerm) -> Result<Option<Held<Choice>>, All
         CTerm::Param(_) => Ok(None),
         CTerm::Add(a, b) => {
             if let Some(choice) = find_choice(alloc, a.get())? {
-                return Ok(in_sum_first(alloc, choice, b)?);
+                return in_sum_first(alloc, choice, b);
             }
             if let Some(choice) = find_choice(alloc, b.get())? {
-                return Ok(in_sum_second(alloc, a, choice)?);
+                return in_sum_second(alloc, a, choice);
             }
             Ok(None)
         }
         CTerm::Sub(a, b) => {
             if let Some(choice) = find_choice(alloc, a.get())? {
-                return Ok(in_difference_first(alloc, choice, b)?);
+                return in_difference_first(alloc, choice, b);
             }
             if let Some(choice) = find_choice(alloc, b.get())? {
-                return Ok(in_difference_second(alloc, a, choice)?);
+                return in_difference_second(alloc, a, choice);
             }
             Ok(None)
         }
         CTerm::Scale(k, a) => {
             if let Some(choice) = find_choice(alloc, a.get())? {
-                return Ok(in_multiple(alloc, k, choice)?);
+                return in_multiple(alloc, k, choice);
             }
             Ok(None)
         }
-        CTerm::Ite(c, a, b) => Ok(choice_of(alloc, c, a, b)?),
+        CTerm::Ite(c, a, b) => choice_of(alloc, c, a, b),
     }
 }

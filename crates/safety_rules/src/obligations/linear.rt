@@ -45,7 +45,8 @@ fn product_of_two(a: i128, b: i64) -> i128
 /// A factor times a term's own factor. `None` exactly where it is past 2^126.
 fn scaled(k: &i64, factor: &i128) -> Option<i128>
     ensures value { MatchOption result (2 ^ 126 < unsigned_abs (k.now *ℤ factor.now)) (λ x. x ≡ k.now *ℤ factor.now) }
-    ensures size { IfSome result (λ x. (unsigned_abs x ≡ unsigned_abs k.now * unsigned_abs factor.now) × (unsigned_abs x ≤ 2 ^ 126)) }
+    ensures size { IfSome result (λ x. unsigned_abs x ≡ unsigned_abs k.now * unsigned_abs factor.now) }
+    ensures small { IfSome result (λ x. unsigned_abs x ≤ 2 ^ 126) }
 {
     small_product(*k, *factor)
 }

@@ -6,7 +6,7 @@ ghost use Rattle.safety_rules.specs.Variables.{term_has, form_has, numbered, occ
 use super::{Obligation, Variable};
 use crate::core_terms::{CForm, CTerm, Range};
 use std::alloc::{AllocError, Global};
-use unity_base::Seq;
+use unity_base::{Held, Seq};
 
 /// Whether a slot or parameter occurs in a term.
 #[cycle(occurs)]
@@ -40,8 +40,8 @@ fn is_in_form(f: &CForm, param: bool, number: u32) -> bool
     match f {
         CForm::Top => false,
         CForm::Bottom => false,
-        CForm::AtLeast(t) => is_in_term(t, param, number),
-        CForm::Zero(t) => is_in_term(t, param, number),
+        CForm::AtLeast(t) => is_in_term(t.get(), param, number),
+        CForm::Zero(t) => is_in_term(t.get(), param, number),
         CForm::Not(g) => is_in_form(g.get(), param, number),
         CForm::And(g, h) => {
             is_in_form(g.get(), param, number) || is_in_form(h.get(), param, number)
@@ -94,7 +94,7 @@ fn add_occurring(
 /// the formula is true at every state and all parameters in the ranges.
 pub fn make(
     alloc: Global,
-    form: CForm,
+    form: Held<CForm>,
     slots: &[Range],
     params: &[Range],
 ) -> Result<Obligation, AllocError>
@@ -106,7 +106,8 @@ pub fn make(
     ensures meaning { IfOk result (λ o. Valid o → IsTrueInRanges form slots.now params.now) }
 {
     let mut variables = Seq::new(alloc);
-    add_occurring(&mut variables, &form, false, slots)?;
-    add_occurring(&mut variables, &form, true, params)?;
+    let tree = form.get();
+    add_occurring(&mut variables, tree, false, slots)?;
+    add_occurring(&mut variables, tree, true, params)?;
     Ok(Obligation { form, variables })
 }

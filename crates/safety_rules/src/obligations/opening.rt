@@ -71,6 +71,6 @@ pub fn open_branch(alloc: Global, o: &Obligation) -> Result<Branch, AllocError>
         facts: ranges_of(alloc, vs)?,
         waiting: Seq::new(alloc),
     };
-    refuse(alloc, vs, &o.form, &mut branch)?;
+    refuse(alloc, vs, o.form.get(), &mut branch)?;
     Ok(branch)
 }

@@ -2,14 +2,14 @@
 ghost use Rattle.std.specs.Prelude.{◌≡◌, ◌+◌, ◌^◌, ◌≤◌, ◌<◌, length, pos, negsuc, OnOk, IfOk, [], ◌∷◌};
 ghost use Rattle.safety_rules.specs.declared.core_terms.CTerm.TheVariants.{Const, Sub};
 ghost use Rattle.safety_rules.specs.declared.core_terms.CForm.TheVariants.{AtLeast, Zero, Not, And, Or};
-ghost use Rattle.safety_rules.specs.Settling.{settled, refused, joined, one_waiting, one_fact, two_facts, first_ite, least_adds, zero_adds, unequal_adds, below_zero, choice_form};
+ghost use Rattle.safety_rules.specs.Settling.{settled, refused, joined, one_waiting, false_fact, one_fact, two_facts, first_ite, least_adds, zero_adds, unequal_adds, below_zero, choice_form};
 ghost use Rattle.safety_rules.specs.LinearForms.{linear, negated};
 ghost use Rattle.safety_rules.specs.Load.{need, term_load};
 
 use super::first_choice::find_choice;
 use super::linear::{fact_from, line_of, negative_of};
 use super::{Branch, Choice, Fact, Variable};
-use crate::copy::{copy_form, copy_term, held_copy};
+use crate::copy::{copy_form, copy_term};
 use crate::core_terms::{CForm, CTerm};
 use std::alloc::{AllocError, Global};
 use unity_base::{Held, Seq};
@@ -23,7 +23,7 @@ pub fn add_fact(fact: Fact, branch: &mut Branch) -> Result<(), AllocError>
 }
 
 /// Adds a formula that waits.
-fn add_waiting(form: CForm, branch: &mut Branch) -> Result<(), AllocError>
+fn add_waiting(form: Held<CForm>, branch: &mut Branch) -> Result<(), AllocError>
     ensures { OnOk result (branch.new ≡ joined branch.old (one_waiting form)) }
 {
     branch.waiting.push(form)?;
@@ -32,7 +32,7 @@ fn add_waiting(form: CForm, branch: &mut Branch) -> Result<(), AllocError>
 
 /// Adds the fact that -1 is at least 0.
 fn add_false(alloc: Global, branch: &mut Branch) -> Result<(), AllocError>
-    ensures { OnOk result (branch.new ≡ joined branch.old (record { facts = record { factors = []; constant = negsuc 0 } ∷ []; waiting = [] })) }
+    ensures { OnOk result (branch.new ≡ joined branch.old false_fact) }
 {
     let fact = Fact {
         factors: Seq::new(alloc),
@@ -42,23 +42,19 @@ fn add_false(alloc: Global, branch: &mut Branch) -> Result<(), AllocError>
     Ok(())
 }
 
-fn negation_of(alloc: Global, f: CForm) -> Result<CForm, AllocError>
-    ensures { IfOk result (λ g. g ≡ Not f) }
+/// That a formula does not hold.
+fn negation_of(alloc: Global, f: &CForm) -> Result<Held<CForm>, AllocError>
+    ensures { IfOk result (λ g. g ≡ Not f.now) }
 {
-    Ok(CForm::Not(Held::new(alloc, f)?))
-}
-
-fn either_of(alloc: Global, f: CForm, g: CForm) -> Result<CForm, AllocError>
-    ensures { IfOk result (λ h. h ≡ Or f g) }
-{
-    Ok(CForm::Or(Held::new(alloc, f)?, Held::new(alloc, g)?))
+    let copy = copy_form(alloc, f)?;
+    Held::new(alloc, CForm::Not(copy))
 }
 
 /// The negation of a condition with a formula.
-fn otherwise(alloc: Global, when: &Held<CForm>, no: Held<CForm>) -> Result<Held<CForm>, AllocError>
+fn otherwise(alloc: Global, when: &CForm, no: Held<CForm>) -> Result<Held<CForm>, AllocError>
     ensures { IfOk result (λ f. f ≡ And (Not when.now) no) }
 {
-    let not = Held::new(alloc, CForm::Not(held_copy(alloc, when)?))?;
+    let not = negation_of(alloc, when)?;
     Held::new(alloc, CForm::And(not, no))
 }
 
@@ -68,29 +64,29 @@ fn choose(
     when: Held<CForm>,
     yes: Held<CForm>,
     no: Held<CForm>,
-) -> Result<CForm, AllocError>
+) -> Result<Held<CForm>, AllocError>
     ensures { IfOk result (λ f. f ≡ Or (And when yes) (And (Not when) no)) }
 {
-    let second = otherwise(alloc, &when, no)?;
+    let second = otherwise(alloc, when.get(), no)?;
     let first = Held::new(alloc, CForm::And(when, yes))?;
-    Ok(CForm::Or(first, second))
+    Held::new(alloc, CForm::Or(first, second))
 }
 
-fn least_choice(alloc: Global, choice: Held<Choice>) -> Result<CForm, AllocError>
+fn least_choice(alloc: Global, choice: Held<Choice>) -> Result<Held<CForm>, AllocError>
     ensures { IfOk result (λ f. f ≡ choice_form AtLeast choice) }
 {
     let Choice { when, yes, no } = choice.into_inner();
-    let yes = Held::new(alloc, CForm::AtLeast(yes.into_inner()))?;
-    let no = Held::new(alloc, CForm::AtLeast(no.into_inner()))?;
+    let yes = Held::new(alloc, CForm::AtLeast(yes))?;
+    let no = Held::new(alloc, CForm::AtLeast(no))?;
     choose(alloc, when, yes, no)
 }
 
-fn zero_choice(alloc: Global, choice: Held<Choice>) -> Result<CForm, AllocError>
+fn zero_choice(alloc: Global, choice: Held<Choice>) -> Result<Held<CForm>, AllocError>
     ensures { IfOk result (λ f. f ≡ choice_form Zero choice) }
 {
     let Choice { when, yes, no } = choice.into_inner();
-    let yes = Held::new(alloc, CForm::Zero(yes.into_inner()))?;
-    let no = Held::new(alloc, CForm::Zero(no.into_inner()))?;
+    let yes = Held::new(alloc, CForm::Zero(yes))?;
+    let no = Held::new(alloc, CForm::Zero(no))?;
     choose(alloc, when, yes, no)
 }
 
@@ -98,11 +94,11 @@ fn zero_choice(alloc: Global, choice: Held<Choice>) -> Result<CForm, AllocError>
 fn unequal(alloc: Global, t: Held<CTerm>) -> Result<Held<CForm>, AllocError>
     ensures { IfOk result (λ f. f ≡ Not (Zero t)) }
 {
-    let zero = Held::new(alloc, CForm::Zero(t.into_inner()))?;
+    let zero = Held::new(alloc, CForm::Zero(t))?;
     Held::new(alloc, CForm::Not(zero))
 }
 
-fn unequal_choice(alloc: Global, choice: Held<Choice>) -> Result<CForm, AllocError>
+fn unequal_choice(alloc: Global, choice: Held<Choice>) -> Result<Held<CForm>, AllocError>
     ensures { IfOk result (λ f. f ≡ choice_form (λ x. Not (Zero x)) choice) }
 {
     let Choice { when, yes, no } = choice.into_inner();
@@ -179,19 +175,22 @@ fn settle_least(
     add_least_or(alloc, vs, t, choice, branch)
 }
 
-/// The first term less the second.
-fn difference_of(alloc: Global, a: CTerm, b: CTerm) -> Result<CTerm, AllocError>
-    ensures { IfOk result (λ t. t ≡ Sub a b) }
-{
-    Ok(CTerm::Sub(Held::new(alloc, a)?, Held::new(alloc, b)?))
-}
-
 /// -1 minus a term.
-fn below(alloc: Global, t: &CTerm) -> Result<CTerm, AllocError>
+fn below(alloc: Global, t: &CTerm) -> Result<Held<CTerm>, AllocError>
     ensures { IfOk result (λ u. u ≡ below_zero t.now) }
 {
+    let minus_one = Held::new(alloc, CTerm::Const(-1))?;
     let copy = copy_term(alloc, t)?;
-    difference_of(alloc, CTerm::Const(-1), copy)
+    Held::new(alloc, CTerm::Sub(minus_one, copy))
+}
+
+/// A term minus 1.
+fn above(alloc: Global, t: &CTerm) -> Result<Held<CTerm>, AllocError>
+    ensures { IfOk result (λ u. u ≡ Sub t.now (Const (pos 1))) }
+{
+    let copy = copy_term(alloc, t)?;
+    let one = Held::new(alloc, CTerm::Const(1))?;
+    Held::new(alloc, CTerm::Sub(copy, one))
 }
 
 /// Settles that a term is below 0.
@@ -203,10 +202,11 @@ fn refuse_least(
 ) -> Result<(), AllocError>
     requires count { length vs.now < 2 ^ 32 }
     requires load { 1 + (term_load t.now).own ≤ 2 ^ 126 }
-    ensures { OnOk result (branch.new ≡ joined branch.old (least_adds vs.now (below_zero t.now) (first_ite (below_zero t.now)))) }
+    ensures { OnOk result
+        (branch.new ≡ joined branch.old (least_adds vs.now (below_zero t.now) (first_ite (below_zero t.now)))) }
 {
     let below = below(alloc, t)?;
-    settle_least(alloc, vs, &below, branch)
+    settle_least(alloc, vs, below.get(), branch)
 }
 
 /// Adds both facts of a term that is 0, where the term has no `Ite`.
@@ -219,7 +219,8 @@ fn add_zero(
 ) -> Result<(), AllocError>
     requires count { length vs.now < 2 ^ 32 }
     requires load { (term_load t.now).own ≤ 2 ^ 126 }
-    ensures { OnOk result (branch.new ≡ joined branch.old (two_facts (linear vs.now t.now) (negated vs.now (linear vs.now t.now)))) }
+    ensures { OnOk result
+        (branch.new ≡ joined branch.old (two_facts (linear vs.now t.now) (negated vs.now (linear vs.now t.now)))) }
 {
     add_least(alloc, vs, t, branch)?;
     add_negative(alloc, vs, t, branch)?;
@@ -263,12 +264,14 @@ fn settle_zero(
 }
 
 /// That a term is above 0 or below it.
-fn apart(alloc: Global, t: &CTerm) -> Result<CForm, AllocError>
+fn apart(alloc: Global, t: &CTerm) -> Result<Held<CForm>, AllocError>
     ensures { IfOk result (λ f. f ≡ Or (AtLeast (Sub t.now (Const (pos 1)))) (AtLeast (Sub (Const (negsuc 0)) t.now))) }
 {
-    let above = difference_of(alloc, copy_term(alloc, t)?, CTerm::Const(1))?;
-    let below = difference_of(alloc, CTerm::Const(-1), copy_term(alloc, t)?)?;
-    Ok(either_of(alloc, CForm::AtLeast(above), CForm::AtLeast(below))?)
+    let above = above(alloc, t)?;
+    let above = Held::new(alloc, CForm::AtLeast(above))?;
+    let below = below(alloc, t)?;
+    let below = Held::new(alloc, CForm::AtLeast(below))?;
+    Held::new(alloc, CForm::Or(above, below))
 }
 
 /// Adds that a term is above 0 or below it, or the choice that it has to wait for.
@@ -304,19 +307,20 @@ fn refuse_zero(alloc: Global, t: &CTerm, branch: &mut Branch) -> Result<(), Allo
 fn wait_or(alloc: Global, g: &CForm, h: &CForm, branch: &mut Branch) -> Result<(), AllocError>
     ensures { OnOk result (branch.new ≡ joined branch.old (one_waiting (Or g.now h.now))) }
 {
-    let form = either_of(alloc, copy_form(alloc, g)?, copy_form(alloc, h)?)?;
-    add_waiting(form, branch)?;
-    Ok(())
+    let first = copy_form(alloc, g)?;
+    let second = copy_form(alloc, h)?;
+    let form = Held::new(alloc, CForm::Or(first, second))?;
+    add_waiting(form, branch)
 }
 
 /// Adds a waiting formula of the negations of two others.
 fn wait_nots(alloc: Global, g: &CForm, h: &CForm, branch: &mut Branch) -> Result<(), AllocError>
     ensures { OnOk result (branch.new ≡ joined branch.old (one_waiting (Or (Not g.now) (Not h.now)))) }
 {
-    let first = negation_of(alloc, copy_form(alloc, g)?)?;
-    let second = negation_of(alloc, copy_form(alloc, h)?)?;
-    add_waiting(either_of(alloc, first, second)?, branch)?;
-    Ok(())
+    let first = negation_of(alloc, g)?;
+    let second = negation_of(alloc, h)?;
+    let form = Held::new(alloc, CForm::Or(first, second))?;
+    add_waiting(form, branch)
 }
 
 /// Settles a formula onto a branch. At want of memory, what was added so far stays.
@@ -333,31 +337,15 @@ pub fn settle(
 {
     match f {
         CForm::Top => Ok(()),
-        CForm::Bottom => {
-            add_false(alloc, branch)?;
-            Ok(())
-        }
-        CForm::AtLeast(t) => {
-            settle_least(alloc, vs, t, branch)?;
-            Ok(())
-        }
-        CForm::Zero(t) => {
-            settle_zero(alloc, vs, t, branch)?;
-            Ok(())
-        }
-        CForm::Not(g) => {
-            refuse(alloc, vs, g.get(), branch)?;
-            Ok(())
-        }
+        CForm::Bottom => add_false(alloc, branch),
+        CForm::AtLeast(t) => settle_least(alloc, vs, t.get(), branch),
+        CForm::Zero(t) => settle_zero(alloc, vs, t.get(), branch),
+        CForm::Not(g) => refuse(alloc, vs, g.get(), branch),
         CForm::And(g, h) => {
             settle(alloc, vs, g.get(), branch)?;
-            settle(alloc, vs, h.get(), branch)?;
-            Ok(())
+            settle(alloc, vs, h.get(), branch)
         }
-        CForm::Or(g, h) => {
-            wait_or(alloc, g.get(), h.get(), branch)?;
-            Ok(())
-        }
+        CForm::Or(g, h) => wait_or(alloc, g.get(), h.get(), branch),
     }
 }
 
@@ -374,31 +362,15 @@ pub fn refuse(
     ensures { OnOk result (branch.new ≡ refused vs.now f.now branch.old) }
 {
     match f {
-        CForm::Top => {
-            add_false(alloc, branch)?;
-            Ok(())
-        }
+        CForm::Top => add_false(alloc, branch),
         CForm::Bottom => Ok(()),
-        CForm::AtLeast(t) => {
-            refuse_least(alloc, vs, t, branch)?;
-            Ok(())
-        }
-        CForm::Zero(t) => {
-            refuse_zero(alloc, t, branch)?;
-            Ok(())
-        }
-        CForm::Not(g) => {
-            settle(alloc, vs, g.get(), branch)?;
-            Ok(())
-        }
-        CForm::And(g, h) => {
-            wait_nots(alloc, g.get(), h.get(), branch)?;
-            Ok(())
-        }
+        CForm::AtLeast(t) => refuse_least(alloc, vs, t.get(), branch),
+        CForm::Zero(t) => refuse_zero(alloc, t.get(), branch),
+        CForm::Not(g) => settle(alloc, vs, g.get(), branch),
+        CForm::And(g, h) => wait_nots(alloc, g.get(), h.get(), branch),
         CForm::Or(g, h) => {
             refuse(alloc, vs, g.get(), branch)?;
-            refuse(alloc, vs, h.get(), branch)?;
-            Ok(())
+            refuse(alloc, vs, h.get(), branch)
         }
     }
 }

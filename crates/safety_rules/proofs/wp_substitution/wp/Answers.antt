@@ -11,4 +11,5 @@ returns-clause-meaning c =
     let q = c.args.q.now in
     let slots = c.args.slots.now in
     let tree : IfOk c.and_form.result (λ f. f ≡ wp_form w q slots) = search rules in
-    IfOk-weaker c.and_form.result _ _ (λ f e state is. ap (form_value state []) e ∙ precondition slots w q state is) tree
+    IfOk-weaker c.and_form.result _ _ (λ f e state is. ap (form_value state []) e ∙ precondition slots w q state is)
+    tree

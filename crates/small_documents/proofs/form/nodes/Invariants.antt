@@ -5,4 +5,5 @@ use Rattle.small_documents.proofs.form.nodes.Given as goal
 
 abbrev pub invariant-loop-node_written : goal.invariant-loop-node_written
 invariant-loop-node_written l =
-    Found node_of (option_map (λ nodes. l.fn.first ∷ nodes) (each_of node_of l.written)) l.found (drop l.node_written-index l.node_written-items)
+    Found node_of (option_map (λ nodes. l.fn.first ∷ nodes) (each_of node_of l.written)) l.found
+    (drop l.node_written-index l.node_written-items)

@@ -7,5 +7,6 @@ pub returns-in_default : goal.returns-in_default
 returns-in_default c =
     let d = c.args.document.now in
     let none : certificates_of d.certificates ≡ None = search rules in
-    let nothing : from_both (documented (record { at = d.number_at; value = d.number })) (parts_of d.parts) None ≡ None = without_second _ _ in
+    let nothing : from_both (documented (record { at = d.number_at; value = d.number })) (parts_of d.parts)
+    None ≡ None = without_second _ _ in
     search rules

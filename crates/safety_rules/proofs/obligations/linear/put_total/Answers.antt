@@ -6,7 +6,8 @@ use Rattle.safety_rules.proofs.obligations.linear.put_total.Goals as goal
 
 pub returns-then-place-len : goal.returns-then-place-len
 returns-then-place-len c =
-    c.replace.ensures.rest ∙ ap (slice_set c.args.factors.now c.args.place) (to_z-of_z w128 c.args.total c.ranges.total) ∙ set-add _ _ _ _ c.requires (grind arith)
+    c.replace.ensures.rest ∙ ap (slice_set c.args.factors.now c.args.place) (to_z-of_z w128 c.args.total c.ranges.total)
+    ∙ set-add _ _ _ _ c.requires (grind arith)
 
 pub returns-else-place-len : goal.returns-else-place-len
 returns-else-place-len c = past-add _ _ _ (grind arith)

@@ -1,59 +1,105 @@
 use Rattle.std.proofs.Common.{◌∙◌, ap, sym, arith, ◌^◌}
-use Rattle.safety_rules.specs.declared.core_terms.CForm.TheVariants.{And, Or}
+use Rattle.std.proofs.lemmas.Result.{on_ok_weaker}
+use Rattle.safety_rules.specs.declared.core_terms.CForm.TheVariants.{AtLeast, Zero, And, Or}
 use Rattle.safety_rules.specs.Settling.{settled, refused}
 use Rattle.safety_rules.proofs.NeedLaws.{least-load, below-load, zero-load}
 use Rattle.safety_rules.proofs.TableLaws.{settled-Bottom, refused-Top, settled-AtLeast, refused-AtLeast, settled-Zero, refused-Zero, settles-And, refuses-Or, settled-Or, refused-And}
 use Rattle.safety_rules.proofs.obligations.settle.+settle.Goals as goal
 
 pub settle-settle_least-requires-clause-load : goal.settle-settle_least-requires-clause-load
-settle-settle_least-requires-clause-load t c = let h = least-load c.in-AtLeast.t c.args.f.now (2 ^ 63) c.in-AtLeast.is c.requires.light in omega (arith, h)
+settle-settle_least-requires-clause-load t c =
+    let e = c.in-AtLeast.is ∙ ap AtLeast (sym c.get.ensures) in
+    let h = least-load c.get.result.now c.args.f.now (2 ^ 63) e c.requires.light in
+    omega (arith, h)
 
 pub settle-settle_zero-requires-clause-load : goal.settle-settle_zero-requires-clause-load
-settle-settle_zero-requires-clause-load t c = let h = zero-load c.in-Zero.t c.args.f.now (2 ^ 63) c.in-Zero.is c.requires.light in omega (arith, h)
+settle-settle_zero-requires-clause-load t c =
+    let e = c.in-Zero.is ∙ ap Zero (sym c.get-in-Zero.ensures) in
+    let h = zero-load c.get-in-Zero.result.now c.args.f.now (2 ^ 63) e c.requires.light in
+    omega (arith, h)
 
-pub settle-returns-in_ok-add_false-in-Bottom : goal.settle-returns-in_ok-add_false-in-Bottom
-settle-returns-in_ok-add_false-in-Bottom t c =
-    c.in_ok-add_false-in-Bottom.ensures ∙ sym (settled-Bottom c.args.vs.now c.args.branch.now) ∙ ap (λ f. settled c.args.vs.now f c.args.branch.now) (sym c.in-Bottom.is)
+pub settle-returns-in-Bottom : goal.settle-returns-in-Bottom
+settle-returns-in-Bottom t c =
+    on_ok_weaker c.add_false.result
+    (λ e. e ∙ sym (settled-Bottom c.args.vs.now c.args.branch.now)
+    ∙ ap (λ f. settled c.args.vs.now f c.args.branch.now) (sym c.in-Bottom.is))
+    c.add_false.ensures
 
-pub settle-returns-in_ok-settle_least-in-AtLeast : goal.settle-returns-in_ok-settle_least-in-AtLeast
-settle-returns-in_ok-settle_least-in-AtLeast t c =
-    c.in_ok-settle_least-in-AtLeast.ensures ∙ sym (settled-AtLeast c.args.vs.now c.in-AtLeast.t c.args.branch.now) ∙ ap (λ f. settled c.args.vs.now f c.args.branch.now) (sym c.in-AtLeast.is)
+pub settle-returns-in-AtLeast : goal.settle-returns-in-AtLeast
+settle-returns-in-AtLeast t c =
+    on_ok_weaker c.settle_least.result
+    (λ e. e ∙ sym (settled-AtLeast c.args.vs.now c.get.result.now c.args.branch.now)
+    ∙ ap (λ f. settled c.args.vs.now f c.args.branch.now) (ap AtLeast c.get.ensures ∙ sym c.in-AtLeast.is))
+    c.settle_least.ensures
 
-pub settle-returns-in_ok-settle_zero-in-Zero : goal.settle-returns-in_ok-settle_zero-in-Zero
-settle-returns-in_ok-settle_zero-in-Zero t c =
-    c.in_ok-settle_zero-in-Zero.ensures ∙ sym (settled-Zero c.args.vs.now c.in-Zero.t c.args.branch.now) ∙ ap (λ f. settled c.args.vs.now f c.args.branch.now) (sym c.in-Zero.is)
+pub settle-returns-in-Zero : goal.settle-returns-in-Zero
+settle-returns-in-Zero t c =
+    on_ok_weaker c.settle_zero.result
+    (λ e. e ∙ sym (settled-Zero c.args.vs.now c.get-in-Zero.result.now c.args.branch.now)
+    ∙ ap (λ f. settled c.args.vs.now f c.args.branch.now) (ap Zero c.get-in-Zero.ensures ∙ sym c.in-Zero.is))
+    c.settle_zero.ensures
 
-pub settle-returns-in_ok-settle-in-And-2 : goal.settle-returns-in_ok-settle-in-And-2
-settle-returns-in_ok-settle-in-And-2 t c =
-    settles-And c.args.vs.now c.get-in-And.result.now c.get-in-And-2.result.now c.args.branch.now c.settle.new.branch c.settle-in-And.new.branch c.in_ok-settle-in-And.ensures c.in_ok-settle-in-And-2.ensures
-    ∙ ap (λ f. settled c.args.vs.now f c.args.branch.now) (ap (λ g. And g c.get-in-And-2.result.now) c.get-in-And.ensures ∙ ap (λ h. And c.in-And.g h) c.get-in-And-2.ensures ∙ sym c.in-And.is)
+pub settle-returns-in_ok-settle-in-And : goal.settle-returns-in_ok-settle-in-And
+settle-returns-in_ok-settle-in-And t c =
+    on_ok_weaker c.settle-in-And.result
+    (λ e. settles-And c.args.vs.now c.get-in-And.result.now c.get-in-And-2.result.now c.args.branch.now
+    c.settle.new.branch c.settle-in-And.new.branch c.in_ok-settle-in-And.ensures e
+    ∙ ap (λ f. settled c.args.vs.now f c.args.branch.now)
+    (ap (λ g. And g c.get-in-And-2.result.now) c.get-in-And.ensures ∙ ap (λ h. And c.in-And.g h) c.get-in-And-2.ensures
+    ∙ sym c.in-And.is))
+    c.settle-in-And.ensures
 
-pub settle-returns-in_ok-wait_or-in-Or : goal.settle-returns-in_ok-wait_or-in-Or
-settle-returns-in_ok-wait_or-in-Or t c =
-    c.in_ok-wait_or-in-Or.ensures ∙ sym (settled-Or c.args.vs.now c.get-in-Or.result.now c.get-in-Or-2.result.now c.args.branch.now)
-    ∙ ap (λ f. settled c.args.vs.now f c.args.branch.now) (ap (λ g. Or g c.get-in-Or-2.result.now) c.get-in-Or.ensures ∙ ap (λ h. Or c.in-Or.g h) c.get-in-Or-2.ensures ∙ sym c.in-Or.is)
+pub settle-returns-in-Or : goal.settle-returns-in-Or
+settle-returns-in-Or t c =
+    on_ok_weaker c.wait_or.result
+    (λ e. e ∙ sym (settled-Or c.args.vs.now c.get-in-Or.result.now c.get-in-Or-2.result.now c.args.branch.now)
+    ∙ ap (λ f. settled c.args.vs.now f c.args.branch.now)
+    (ap (λ g. Or g c.get-in-Or-2.result.now) c.get-in-Or.ensures ∙ ap (λ h. Or c.in-Or.g h) c.get-in-Or-2.ensures
+    ∙ sym c.in-Or.is))
+    c.wait_or.ensures
 
 pub refuse-refuse_least-requires-clause-load : goal.refuse-refuse_least-requires-clause-load
-refuse-refuse_least-requires-clause-load t c = let h = below-load c.in-AtLeast.t c.args.f.now (2 ^ 63) c.in-AtLeast.is c.requires.light in omega (arith, h)
+refuse-refuse_least-requires-clause-load t c =
+    let e = c.in-AtLeast.is ∙ ap AtLeast (sym c.get.ensures) in
+    let h = below-load c.get.result.now c.args.f.now (2 ^ 63) e c.requires.light in
+    omega (arith, h)
 
-pub refuse-returns-in_ok-add_false-in-Top : goal.refuse-returns-in_ok-add_false-in-Top
-refuse-returns-in_ok-add_false-in-Top t c =
-    c.in_ok-add_false-in-Top.ensures ∙ sym (refused-Top c.args.vs.now c.args.branch.now) ∙ ap (λ f. refused c.args.vs.now f c.args.branch.now) (sym c.in-Top.is)
+pub refuse-returns-in-Top : goal.refuse-returns-in-Top
+refuse-returns-in-Top t c =
+    on_ok_weaker c.add_false.result
+    (λ e. e ∙ sym (refused-Top c.args.vs.now c.args.branch.now)
+    ∙ ap (λ f. refused c.args.vs.now f c.args.branch.now) (sym c.in-Top.is))
+    c.add_false.ensures
 
-pub refuse-returns-in_ok-refuse_least-in-AtLeast : goal.refuse-returns-in_ok-refuse_least-in-AtLeast
-refuse-returns-in_ok-refuse_least-in-AtLeast t c =
-    c.in_ok-refuse_least-in-AtLeast.ensures ∙ sym (refused-AtLeast c.args.vs.now c.in-AtLeast.t c.args.branch.now) ∙ ap (λ f. refused c.args.vs.now f c.args.branch.now) (sym c.in-AtLeast.is)
+pub refuse-returns-in-AtLeast : goal.refuse-returns-in-AtLeast
+refuse-returns-in-AtLeast t c =
+    on_ok_weaker c.refuse_least.result
+    (λ e. e ∙ sym (refused-AtLeast c.args.vs.now c.get.result.now c.args.branch.now)
+    ∙ ap (λ f. refused c.args.vs.now f c.args.branch.now) (ap AtLeast c.get.ensures ∙ sym c.in-AtLeast.is))
+    c.refuse_least.ensures
 
-pub refuse-returns-in_ok-refuse_zero-in-Zero : goal.refuse-returns-in_ok-refuse_zero-in-Zero
-refuse-returns-in_ok-refuse_zero-in-Zero t c =
-    c.in_ok-refuse_zero-in-Zero.ensures ∙ sym (refused-Zero c.args.vs.now c.in-Zero.t c.args.branch.now) ∙ ap (λ f. refused c.args.vs.now f c.args.branch.now) (sym c.in-Zero.is)
+pub refuse-returns-in-Zero : goal.refuse-returns-in-Zero
+refuse-returns-in-Zero t c =
+    on_ok_weaker c.refuse_zero.result
+    (λ e. e ∙ sym (refused-Zero c.args.vs.now c.get-in-Zero.result.now c.args.branch.now)
+    ∙ ap (λ f. refused c.args.vs.now f c.args.branch.now) (ap Zero c.get-in-Zero.ensures ∙ sym c.in-Zero.is))
+    c.refuse_zero.ensures
 
-pub refuse-returns-in_ok-wait_nots-in-And : goal.refuse-returns-in_ok-wait_nots-in-And
-refuse-returns-in_ok-wait_nots-in-And t c =
-    c.in_ok-wait_nots-in-And.ensures ∙ sym (refused-And c.args.vs.now c.get-in-And.result.now c.get-in-And-2.result.now c.args.branch.now)
-    ∙ ap (λ f. refused c.args.vs.now f c.args.branch.now) (ap (λ g. And g c.get-in-And-2.result.now) c.get-in-And.ensures ∙ ap (λ h. And c.in-And.g h) c.get-in-And-2.ensures ∙ sym c.in-And.is)
+pub refuse-returns-in-And : goal.refuse-returns-in-And
+refuse-returns-in-And t c =
+    on_ok_weaker c.wait_nots.result
+    (λ e. e ∙ sym (refused-And c.args.vs.now c.get-in-And.result.now c.get-in-And-2.result.now c.args.branch.now)
+    ∙ ap (λ f. refused c.args.vs.now f c.args.branch.now)
+    (ap (λ g. And g c.get-in-And-2.result.now) c.get-in-And.ensures ∙ ap (λ h. And c.in-And.g h) c.get-in-And-2.ensures
+    ∙ sym c.in-And.is))
+    c.wait_nots.ensures
 
-pub refuse-returns-in_ok-refuse-in-Or-2 : goal.refuse-returns-in_ok-refuse-in-Or-2
-refuse-returns-in_ok-refuse-in-Or-2 t c =
-    refuses-Or c.args.vs.now c.get-in-Or.result.now c.get-in-Or-2.result.now c.args.branch.now c.refuse.new.branch c.refuse-in-Or.new.branch c.in_ok-refuse-in-Or.ensures c.in_ok-refuse-in-Or-2.ensures
-    ∙ ap (λ f. refused c.args.vs.now f c.args.branch.now) (ap (λ g. Or g c.get-in-Or-2.result.now) c.get-in-Or.ensures ∙ ap (λ h. Or c.in-Or.g h) c.get-in-Or-2.ensures ∙ sym c.in-Or.is)
+pub refuse-returns-in_ok-refuse-in-Or : goal.refuse-returns-in_ok-refuse-in-Or
+refuse-returns-in_ok-refuse-in-Or t c =
+    on_ok_weaker c.refuse-in-Or.result
+    (λ e. refuses-Or c.args.vs.now c.get-in-Or.result.now c.get-in-Or-2.result.now c.args.branch.now
+    c.refuse.new.branch c.refuse-in-Or.new.branch c.in_ok-refuse-in-Or.ensures e
+    ∙ ap (λ f. refused c.args.vs.now f c.args.branch.now)
+    (ap (λ g. Or g c.get-in-Or-2.result.now) c.get-in-Or.ensures ∙ ap (λ h. Or c.in-Or.g h) c.get-in-Or-2.ensures
+    ∙ sym c.in-Or.is))
+    c.refuse-in-Or.ensures
