@@ -1,0 +1,186 @@
+-- What is known of a tree is its value, and a folded tree is worth what the tree is.
+use Rattle.std.proofs.Common.{◌≡◌, ℕ, ◌+◌, ◌*◌, ◌≤◌, max, ℤ, pos, ◌+ℤ◌, ◌-ℤ◌, ◌*ℤ◌, List, Bool, true, false, cond, not, ◌&&◌, ◌||◌, Option, Some, None, refl, sym, ap, ◌∙◌, subst, arith}
+use Rattle.std.proofs.lemmas.Int.{ints, unsigned_abs-mul}
+use Rattle.std.proofs.Math.Nat.{mul-le-mul_left}
+use Rattle.std.specs.Option.{option_map}
+use Rattle.std.specs.Int.RustNames.{int_le, unsigned_abs}
+use Rattle.state_steps.specs.State.{int_eq}
+use Rattle.core_terms.specs.declared.trees.CTerm.{CTerm, roll-CTerm, ind-CTerm, fold-roll-CTerm}
+use Rattle.core_terms.specs.declared.trees.CTerm.TheVariants.{Const, Add, Sub, Scale, Ite}
+use Rattle.core_terms.specs.declared.trees.CForm.{CForm, roll-CForm, ind-CForm, fold-roll-CForm}
+use Rattle.core_terms.specs.declared.trees.CForm.TheVariants.{AtLeast, Zero, Not, And, Or}
+use Rattle.core_terms.specs.declared.trees.CForm.TheOpen.{CTerm-F, CForm-F}
+use Rattle.core_terms.specs.declared.trees.CForm.TheFolds.{map-CForm, map-CTerm}
+use Rattle.core_terms.specs.Values.{term_step, form_step, term_value, form_value}
+use Rattle.core_terms.specs.Weights.{Weights, weigh_term, weigh_form, term_weights, form_weight}
+use Rattle.core_terms.specs.Folding.{joined, chosen, number_step, truth_step, number_of, truth_of, is_small, constant_or, truth_or, branch_or, folded_term, folded_form, sum_term, difference_term, scaled_term, choice_term, at_least_form, zero_form, not_form, and_form, or_form}
+use Rattle.core_terms.proofs.PartLaws.{value-Const, value-Add, value-Sub, value-Scale, value-Ite, value-Top, value-Bottom, value-AtLeast, value-Zero, value-Not, value-And, value-Or}
+
+-- a number, where there is one, is the value, and lies within the weight
+abbrev pub Right : Option ℤ → ℤ → ℕ → Type 0
+Right None v b = Unit {0}
+Right (Some z) v b = (v ≡ z) × (unsigned_abs z ≤ b)
+
+-- a truth, where there is one, is the formula's
+abbrev pub True : Option Bool → Bool → Type 0
+True None v = Unit {0}
+True (Some t) v = v ≡ t
+
+right_along : (m n : Option ℤ) (v w : ℤ) (a b : ℕ) → m ≡ n → v ≡ w → a ≡ b → Right n w b → Right m v a
+right_along m n v w a b e f g h =
+    subst (λ x. Right x v a) (sym e) (subst (λ x. Right n x a) (sym f) (subst (λ x. Right n w x) (sym g) h))
+
+true_along : (m n : Option Bool) (v w : Bool) → m ≡ n → v ≡ w → True n w → True m v
+true_along m n v w e f h = subst (λ x. True x v) (sym e) (subst (λ x. True n x) (sym f) h)
+
+right_sum : (m n : Option ℤ) (v w : ℤ) (a b : ℕ) → Right m v a → Right n w b → Right (joined (λ x y. x +ℤ y) m n) (v +ℤ w) (a + b)
+right_sum None n v w a b h k = tt
+right_sum (Some x) None v w a b h k = tt
+right_sum (Some x) (Some y) v w a b h k = (ap (λ z. z +ℤ w) h.0 ∙ ap (λ z. x +ℤ z) k.0, omega (arith, ints, h.1, k.1))
+
+right_difference : (m n : Option ℤ) (v w : ℤ) (a b : ℕ) → Right m v a → Right n w b →
+    Right (joined (λ x y. x -ℤ y) m n) (v -ℤ w) (a + b)
+right_difference None n v w a b h k = tt
+right_difference (Some x) None v w a b h k = tt
+right_difference (Some x) (Some y) v w a b h k = (ap (λ z. z -ℤ w) h.0 ∙ ap (λ z. x -ℤ z) k.0, omega (arith, ints, h.1, k.1))
+
+right_scaled : (k : ℤ) (m : Option ℤ) (v : ℤ) (a : ℕ) → Right m v a →
+    Right (option_map (λ x. k *ℤ x) m) (k *ℤ v) (unsigned_abs k * a)
+right_scaled k None v a h = tt
+right_scaled k (Some x) v a h =
+    let within : unsigned_abs k * unsigned_abs x ≤ unsigned_abs k * a = mul-le-mul_left (unsigned_abs k) h.1 in
+    (ap (λ z. k *ℤ z) h.0, omega (arith, unsigned_abs-mul k x, within))
+
+right_chosen : (c : Option Bool) (m n : Option ℤ) (t : Bool) (v w : ℤ) (a b : ℕ) → True c t → Right m v a → Right n w b →
+    Right (chosen c m n) (cond t v w) (max a b)
+right_chosen None m n t v w a b g h k = tt
+right_chosen (Some c) None n t v w a b g h k = tt
+right_chosen (Some c) (Some x) None t v w a b g h k = tt
+right_chosen (Some true) (Some x) (Some y) t v w a b g h k = (ap (λ z. cond z v w) g ∙ h.0, omega (arith, h.1, k.1))
+right_chosen (Some false) (Some x) (Some y) t v w a b g h k = (ap (λ z. cond z v w) g ∙ k.0, omega (arith, h.1, k.1))
+
+true_tested : (test : ℤ → Bool) (m : Option ℤ) (v : ℤ) (a : ℕ) → Right m v a → True (option_map test m) (test v)
+true_tested test None v a h = tt
+true_tested test (Some x) v a h = ap test h.0
+
+true_not : (c : Option Bool) (t : Bool) → True c t → True (option_map not c) (not t)
+true_not None t h = tt
+true_not (Some c) t h = ap not h
+
+true_joined : (op : Bool → Bool → Bool) (c d : Option Bool) (t u : Bool) → True c t → True d u → True (joined op c d) (op t u)
+true_joined op None d t u h k = tt
+true_joined op (Some x) None t u h k = tt
+true_joined op (Some x) (Some y) t u h k = ap (λ z. op z u) h ∙ ap (λ z. op x z) k
+
+module _ (s p : List ℤ) (slots params : ℕ → ℕ) where
+  abbrev pub FormRight : CForm → Type 0
+  FormRight f = True (truth_of f) (form_value s p f)
+
+  abbrev pub TermRight : CTerm → Type 0
+  TermRight t = Right (number_of t) (term_value s p t) (term_weights slots params t).own
+
+  abbrev RightForm : Type 0
+  RightForm = (f : CForm) × FormRight f
+
+  abbrev RightTerm : Type 0
+  RightTerm = (t : CTerm) × TermRight t
+
+  rolled_form : (x : CForm-F CForm CTerm) →
+      True (truth_step (map-CForm CForm CTerm (Option Bool) (Option ℤ) truth_of number_of x))
+      (form_step (map-CForm CForm CTerm Bool ℤ (form_value s p) (term_value s p) x)) → FormRight (roll-CForm x)
+  rolled_form x h =
+      true_along _ _ _ _ (fold-roll-CForm (Option Bool) (Option ℤ) truth_step number_step x) (fold-roll-CForm Bool ℤ form_step (term_step s p) x) h
+
+  rolled_term : (x : CTerm-F CForm CTerm) →
+      Right (number_step (map-CTerm CForm CTerm (Option Bool) (Option ℤ) truth_of number_of x))
+      (term_step s p (map-CTerm CForm CTerm Bool ℤ (form_value s p) (term_value s p) x))
+      (weigh_term slots params (map-CTerm CForm CTerm ℕ Weights (form_weight slots params) (term_weights slots params) x)).own →
+      TermRight (roll-CTerm x)
+  rolled_term x h =
+      right_along _ _ _ _ _ _ (fold-roll-CTerm (Option Bool) (Option ℤ) truth_step number_step x) (fold-roll-CTerm Bool ℤ form_step (term_step s p) x)
+      (ap (λ (w : Weights). w.own) (fold-roll-CTerm ℕ Weights weigh_form (weigh_term slots params) x)) h
+
+  form_layer : (y : CForm-F RightForm RightTerm) → FormRight (roll-CForm (map-CForm RightForm RightTerm CForm CTerm (λ e. e.0) (λ e. e.0) y))
+  form_layer CForm-F.Top = rolled_form CForm-F.Top refl
+  form_layer CForm-F.Bottom = rolled_form CForm-F.Bottom refl
+  form_layer (CForm-F.AtLeast t) = rolled_form (CForm-F.AtLeast t.0) (true_tested (λ z. int_le (pos 0) z) _ _ _ t.1)
+  form_layer (CForm-F.Zero t) = rolled_form (CForm-F.Zero t.0) (true_tested (λ z. int_eq z (pos 0)) _ _ _ t.1)
+  form_layer (CForm-F.Not f) = rolled_form (CForm-F.Not f.0) (true_not _ _ f.1)
+  form_layer (CForm-F.And f g) = rolled_form (CForm-F.And f.0 g.0) (true_joined (λ x y. x && y) _ _ _ _ f.1 g.1)
+  form_layer (CForm-F.Or f g) = rolled_form (CForm-F.Or f.0 g.0) (true_joined (λ x y. x || y) _ _ _ _ f.1 g.1)
+
+  term_layer : (y : CTerm-F RightForm RightTerm) → TermRight (roll-CTerm (map-CTerm RightForm RightTerm CForm CTerm (λ e. e.0) (λ e. e.0) y))
+  term_layer (CTerm-F.Const c) = rolled_term (CTerm-F.Const c) (refl, omega arith)
+  term_layer (CTerm-F.Slot n) = rolled_term (CTerm-F.Slot n) tt
+  term_layer (CTerm-F.Param n) = rolled_term (CTerm-F.Param n) tt
+  term_layer (CTerm-F.Add a b) = rolled_term (CTerm-F.Add a.0 b.0) (right_sum _ _ _ _ _ _ a.1 b.1)
+  term_layer (CTerm-F.Sub a b) = rolled_term (CTerm-F.Sub a.0 b.0) (right_difference _ _ _ _ _ _ a.1 b.1)
+  term_layer (CTerm-F.Scale k a) = rolled_term (CTerm-F.Scale k a.0) (right_scaled k _ _ _ a.1)
+  term_layer (CTerm-F.Ite c a b) = rolled_term (CTerm-F.Ite c.0 a.0 b.0) (right_chosen _ _ _ _ _ _ _ _ c.1 a.1 b.1)
+
+  pub form_right : (f : CForm) → FormRight f
+  form_right f =
+      ind-CForm FormRight TermRight (λ x y e. subst (λ z. FormRight (roll-CForm z)) e (form_layer y))
+      (λ x y e. subst (λ z. TermRight (roll-CTerm z)) e (term_layer y)) f
+
+  pub term_right : (t : CTerm) → TermRight t
+  term_right t =
+      ind-CTerm FormRight TermRight (λ x y e. subst (λ z. FormRight (roll-CForm z)) e (form_layer y))
+      (λ x y e. subst (λ z. TermRight (roll-CTerm z)) e (term_layer y)) t
+
+-- where weights do not matter
+abbrev none : ℕ → ℕ
+none n = 0
+
+constant_value : (s p : List ℤ) (t : CTerm) (m : Option ℤ) (b : ℕ) → Right m (term_value s p t) b → term_value s p (constant_or m t) ≡ term_value s p t
+constant_value s p t None b h = refl
+constant_value s p t (Some z) b h = elim (is_small z) as (λ v. term_value s p (cond v (Const z) t) ≡ term_value s p t) [
+  | true ↦ value-Const s p z ∙ sym h.0
+  | false ↦ refl
+]
+
+truth_value : (s p : List ℤ) (f : CForm) (m : Option Bool) → True m (form_value s p f) → form_value s p (truth_or m f) ≡ form_value s p f
+truth_value s p f None h = refl
+truth_value s p f (Some true) h = value-Top s p ∙ sym h
+truth_value s p f (Some false) h = value-Bottom s p ∙ sym h
+
+pub value-folded_term : (s p : List ℤ) (t : CTerm) → term_value s p (folded_term t) ≡ term_value s p t
+value-folded_term s p t = constant_value s p t (number_of t) _ (term_right s p none none t)
+
+pub value-folded_form : (s p : List ℤ) (f : CForm) → form_value s p (folded_form f) ≡ form_value s p f
+value-folded_form s p f = truth_value s p f (truth_of f) (form_right s p none none f)
+
+-- the value of what each constructor makes
+pub value-sum_term : (s p : List ℤ) (a b : CTerm) → term_value s p (sum_term a b) ≡ term_value s p a +ℤ term_value s p b
+value-sum_term s p a b = value-folded_term s p (Add a b) ∙ value-Add s p a b
+
+pub value-difference_term : (s p : List ℤ) (a b : CTerm) → term_value s p (difference_term a b) ≡ term_value s p a -ℤ term_value s p b
+value-difference_term s p a b = value-folded_term s p (Sub a b) ∙ value-Sub s p a b
+
+pub value-scaled_term : (s p : List ℤ) (k : ℤ) (a : CTerm) → term_value s p (scaled_term k a) ≡ k *ℤ term_value s p a
+value-scaled_term s p k a = value-folded_term s p (Scale k a) ∙ value-Scale s p k a
+
+branch_value : (s p : List ℤ) (c : CForm) (a b : CTerm) (m : Option Bool) → True m (form_value s p c) →
+    term_value s p (branch_or m a b (Ite c a b)) ≡ cond (form_value s p c) (term_value s p a) (term_value s p b)
+branch_value s p c a b None h = value-Ite s p c a b
+branch_value s p c a b (Some true) h = ap (λ v. cond v (term_value s p a) (term_value s p b)) (sym h)
+branch_value s p c a b (Some false) h = ap (λ v. cond v (term_value s p a) (term_value s p b)) (sym h)
+
+pub value-choice_term : (s p : List ℤ) (c : CForm) (a b : CTerm) →
+    term_value s p (choice_term c a b) ≡ cond (form_value s p c) (term_value s p a) (term_value s p b)
+value-choice_term s p c a b = branch_value s p c a b (truth_of c) (form_right s p none none c)
+
+pub value-at_least_form : (s p : List ℤ) (t : CTerm) → form_value s p (at_least_form t) ≡ int_le (pos 0) (term_value s p t)
+value-at_least_form s p t = value-folded_form s p (AtLeast t) ∙ value-AtLeast s p t
+
+pub value-zero_form : (s p : List ℤ) (t : CTerm) → form_value s p (zero_form t) ≡ int_eq (term_value s p t) (pos 0)
+value-zero_form s p t = value-folded_form s p (Zero t) ∙ value-Zero s p t
+
+pub value-not_form : (s p : List ℤ) (f : CForm) → form_value s p (not_form f) ≡ not (form_value s p f)
+value-not_form s p f = value-folded_form s p (Not f) ∙ value-Not s p f
+
+pub value-and_form : (s p : List ℤ) (f g : CForm) → form_value s p (and_form f g) ≡ (form_value s p f && form_value s p g)
+value-and_form s p f g = value-folded_form s p (And f g) ∙ value-And s p f g
+
+pub value-or_form : (s p : List ℤ) (f g : CForm) → form_value s p (or_form f g) ≡ (form_value s p f || form_value s p g)
+value-or_form s p f g = value-folded_form s p (Or f g) ∙ value-Or s p f g

@@ -1,0 +1,9 @@
+pub mod BoolLaws
+pub mod CapLaws
+pub mod FoldingLaws
+pub mod FrameLaws
+pub mod KnownLaws
+pub mod PartLaws
+pub mod ReplacingLaws
+pub mod SameLaws
+pub mod WeightLaws

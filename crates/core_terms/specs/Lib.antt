@@ -1,0 +1,11 @@
+pub mod Values
+pub mod Sizes
+pub mod Weights
+pub mod Places
+pub mod Folding
+pub mod Replacing
+pub mod Steps
+pub mod Trees
+pub mod Unions
+pub mod Laws
+pub mod Conditions

@@ -1,0 +1,294 @@
+// Trees without slot and parameter are replaced by what they are worth.
+ghost use Rattle.std.specs.Prelude.{◌≡◌, ◌+◌, ◌*◌, ◌^◌, ◌≤◌, ◌+ℤ◌, ◌-ℤ◌, ◌*ℤ◌, IfOk, MatchOption, max};
+ghost use Rattle.std.specs.Option.{option_map};
+ghost use Rattle.std.specs.Int.RustNames.{unsigned_abs};
+ghost use Rattle.core_terms.specs.Weights.{plain_weights, plain_weight, sum_weights, multiple_weights, choice_weights};
+ghost use Rattle.core_terms.specs.Folding as fold;
+
+use crate::trees::{CForm, CTerm};
+use std::alloc::{AllocError, Global};
+use unity_base::Held;
+
+// The value of a term that has no slot and no parameter. The last part is looked at first, since it
+// mostly tells that there is none. Nodes have functions of their own, so that the frames are small.
+#[cycle(known)]
+fn number_of(t: &CTerm) -> Option<i128>
+    requires { (plain_weights t.now).most ≤ 2 ^ 126 }
+    ensures value { result ≡ fold.number_of t.now }
+    ensures bound { MatchOption result (Unit {0}) (λ z. unsigned_abs z ≤ (plain_weights t.now).own) }
+{
+    match t {
+        CTerm::Const(c) => Some(*c as i128),
+        CTerm::Slot(_) => None,
+        CTerm::Param(_) => None,
+        CTerm::Add(a, b) => known_sum(a, b),
+        CTerm::Sub(a, b) => known_difference(a, b),
+        CTerm::Scale(k, a) => known_multiple(*k, a),
+        CTerm::Ite(c, a, b) => known_choice(c, a, b),
+    }
+}
+
+#[cycle(known)]
+#[inline(never)]
+fn known_sum(a: &Held<CTerm>, b: &Held<CTerm>) -> Option<i128>
+    requires { (sum_weights (plain_weights a.now) (plain_weights b.now)).most ≤ 2 ^ 126 }
+    ensures value { result ≡ fold.joined (λ x y. x +ℤ y) (fold.number_of a.now) (fold.number_of b.now) }
+    ensures bound { MatchOption result (Unit {0}) (λ z. unsigned_abs z ≤
+        (plain_weights a.now).own + (plain_weights b.now).own) }
+{
+    let second = number_of(b.get())?;
+    Some(number_of(a.get())? + second)
+}
+
+#[cycle(known)]
+#[inline(never)]
+fn known_difference(a: &Held<CTerm>, b: &Held<CTerm>) -> Option<i128>
+    requires { (sum_weights (plain_weights a.now) (plain_weights b.now)).most ≤ 2 ^ 126 }
+    ensures value { result ≡ fold.joined (λ x y. x -ℤ y) (fold.number_of a.now) (fold.number_of b.now) }
+    ensures bound { MatchOption result (Unit {0}) (λ z. unsigned_abs z ≤
+        (plain_weights a.now).own + (plain_weights b.now).own) }
+{
+    let second = number_of(b.get())?;
+    Some(number_of(a.get())? - second)
+}
+
+#[cycle(known)]
+#[inline(never)]
+fn known_multiple(k: i64, a: &Held<CTerm>) -> Option<i128>
+    requires { (multiple_weights k (plain_weights a.now)).most ≤ 2 ^ 126 }
+    ensures value { result ≡ option_map (λ x. k *ℤ x) (fold.number_of a.now) }
+    ensures bound { MatchOption result (Unit {0}) (λ z. unsigned_abs z ≤ unsigned_abs k * (plain_weights a.now).own) }
+{
+    Some(scaled(k, number_of(a.get())?))
+}
+
+#[cycle(known)]
+#[inline(never)]
+fn known_choice(c: &Held<CForm>, a: &Held<CTerm>, b: &Held<CTerm>) -> Option<i128>
+    requires { (choice_weights (plain_weight c.now) (plain_weights a.now) (plain_weights b.now)).most ≤ 2 ^ 126 }
+    ensures value { result ≡ fold.chosen (fold.truth_of c.now) (fold.number_of a.now) (fold.number_of b.now) }
+    ensures bound { MatchOption result (Unit {0}) (λ z. unsigned_abs z ≤
+        max (plain_weights a.now).own (plain_weights b.now).own) }
+{
+    let second = number_of(b.get())?;
+    let first = number_of(a.get())?;
+    Some(if truth_of(c.get())? { first } else { second })
+}
+
+// The truth of a formula that has no slot and no parameter.
+#[cycle(known)]
+fn truth_of(f: &CForm) -> Option<bool>
+    requires { plain_weight f.now ≤ 2 ^ 126 }
+    ensures { result ≡ fold.truth_of f.now }
+{
+    match f {
+        CForm::Top => Some(true),
+        CForm::Bottom => Some(false),
+        CForm::AtLeast(t) => Some(number_of(t)? >= 0),
+        CForm::Zero(t) => Some(number_of(t)? == 0),
+        CForm::Not(g) => Some(!truth_of(g.get())?),
+        CForm::And(g, h) => {
+            let second = truth_of(h.get())?;
+            Some(truth_of(g.get())? && second)
+        }
+        CForm::Or(g, h) => {
+            let second = truth_of(h.get())?;
+            Some(truth_of(g.get())? || second)
+        }
+    }
+}
+
+fn scaled(k: i64, number: i128) -> i128
+    requires { unsigned_abs k * unsigned_abs number ≤ 2 ^ 126 }
+    ensures value { result ≡ k *ℤ number }
+    ensures bound { unsigned_abs result ≡ unsigned_abs k * unsigned_abs number }
+{
+    k as i128 * number
+}
+
+/// The term, or the constant of its value where it has no slot and no parameter and lies within plus or
+/// minus 2^62.
+#[tactic(auto, using(crate::proofs::WeightLaws::own_folded_term, crate::proofs::WeightLaws::most_folded_term))]
+pub fn folded_term(t: CTerm) -> CTerm
+    requires { (plain_weights t).most ≤ 2 ^ 126 }
+    ensures tree { result ≡ fold.folded_term t }
+    ensures own { (plain_weights result).own ≤ (plain_weights t).own }
+    ensures most { (plain_weights result).most ≤ (plain_weights t).most }
+{
+    match number_of(&t) {
+        Some(z) if z.unsigned_abs() <= 1 << 62 => CTerm::Const(z as i64),
+        _ => t,
+    }
+}
+
+/// The formula, or `Top` or `Bottom` where it has no slot and no parameter.
+#[tactic(auto, using(crate::proofs::WeightLaws::weight_folded_form))]
+pub fn folded_form(f: CForm) -> CForm
+    requires { plain_weight f ≤ 2 ^ 126 }
+    ensures tree { result ≡ fold.folded_form f }
+    ensures weight { plain_weight result ≤ plain_weight f }
+{
+    match truth_of(&f) {
+        Some(true) => CForm::Top,
+        Some(false) => CForm::Bottom,
+        None => f,
+    }
+}
+
+/// The sum of two terms, folded.
+///
+/// An error says that memory was refused.
+pub fn sum_term(alloc: Global, a: CTerm, b: CTerm) -> Result<CTerm, AllocError>
+    requires own { (plain_weights a).own + (plain_weights b).own ≤ 2 ^ 126 }
+    requires parts { max (plain_weights a).most (plain_weights b).most ≤ 2 ^ 126 }
+    ensures tree { IfOk result (λ t. t ≡ fold.sum_term a b) }
+    ensures own { IfOk result (λ t. (plain_weights t).own ≤ (plain_weights a).own + (plain_weights b).own) }
+    ensures most { IfOk result (λ t. (plain_weights t).most ≤ 2 ^ 126) }
+{
+    let whole = CTerm::Add(Held::new(alloc, a)?, Held::new(alloc, b)?);
+    Ok(folded_term(whole))
+}
+
+/// The difference of two terms, folded.
+///
+/// An error says that memory was refused.
+pub fn difference_term(alloc: Global, a: CTerm, b: CTerm) -> Result<CTerm, AllocError>
+    requires own { (plain_weights a).own + (plain_weights b).own ≤ 2 ^ 126 }
+    requires parts { max (plain_weights a).most (plain_weights b).most ≤ 2 ^ 126 }
+    ensures tree { IfOk result (λ t. t ≡ fold.difference_term a b) }
+    ensures own { IfOk result (λ t. (plain_weights t).own ≤ (plain_weights a).own + (plain_weights b).own) }
+    ensures most { IfOk result (λ t. (plain_weights t).most ≤ 2 ^ 126) }
+{
+    let whole = CTerm::Sub(Held::new(alloc, a)?, Held::new(alloc, b)?);
+    Ok(folded_term(whole))
+}
+
+/// A multiple of a term, folded.
+///
+/// An error says that memory was refused.
+pub fn scaled_term(alloc: Global, k: i64, a: CTerm) -> Result<CTerm, AllocError>
+    requires own { unsigned_abs k * (plain_weights a).own ≤ 2 ^ 126 }
+    requires parts { (plain_weights a).most ≤ 2 ^ 126 }
+    ensures tree { IfOk result (λ t. t ≡ fold.scaled_term k a) }
+    ensures own { IfOk result (λ t. (plain_weights t).own ≤ unsigned_abs k * (plain_weights a).own) }
+    ensures most { IfOk result (λ t. (plain_weights t).most ≤ 2 ^ 126) }
+{
+    let whole = CTerm::Scale(k, Held::new(alloc, a)?);
+    Ok(folded_term(whole))
+}
+
+/// The first term where the formula holds and the second elsewhere: the branch alone where the
+/// formula has no slot and no parameter.
+///
+/// An error says that memory was refused.
+pub fn choice_term(alloc: Global, c: CForm, a: CTerm, b: CTerm) -> Result<CTerm, AllocError>
+    requires { plain_weight c ≤ 2 ^ 126 }
+    ensures tree { IfOk result (λ t. t ≡ fold.choice_term c a b) }
+    ensures own { IfOk result (λ t. (plain_weights t).own ≤ max (plain_weights a).own (plain_weights b).own) }
+{
+    match truth_of(&c) {
+        Some(true) => Ok(a),
+        Some(false) => Ok(b),
+        None => Ok(CTerm::Ite(
+            Held::new(alloc, c)?,
+            Held::new(alloc, a)?,
+            Held::new(alloc, b)?,
+        )),
+    }
+}
+
+/// That a term is at least 0, folded.
+pub fn at_least_form(t: CTerm) -> CForm
+    requires { (plain_weights t).most ≤ 2 ^ 126 }
+    ensures tree { result ≡ fold.at_least_form t }
+    ensures weight { plain_weight result ≤ (plain_weights t).most }
+{
+    folded_form(CForm::AtLeast(t))
+}
+
+/// That a term is 0, folded.
+pub fn zero_form(t: CTerm) -> CForm
+    requires { (plain_weights t).most ≤ 2 ^ 126 }
+    ensures tree { result ≡ fold.zero_form t }
+    ensures weight { plain_weight result ≤ (plain_weights t).most }
+{
+    folded_form(CForm::Zero(t))
+}
+
+/// That a formula does not hold, folded.
+///
+/// An error says that memory was refused.
+pub fn not_form(alloc: Global, f: CForm) -> Result<CForm, AllocError>
+    requires { plain_weight f ≤ 2 ^ 126 }
+    ensures tree { IfOk result (λ h. h ≡ fold.not_form f) }
+    ensures weight { IfOk result (λ h. plain_weight h ≤ plain_weight f) }
+{
+    let whole = CForm::Not(Held::new(alloc, f)?);
+    Ok(folded_form(whole))
+}
+
+/// That two formulas hold, folded.
+///
+/// An error says that memory was refused.
+pub fn and_form(alloc: Global, f: CForm, g: CForm) -> Result<CForm, AllocError>
+    requires { max (plain_weight f) (plain_weight g) ≤ 2 ^ 126 }
+    ensures tree { IfOk result (λ h. h ≡ fold.and_form f g) }
+    ensures weight { IfOk result (λ h. plain_weight h ≤ max (plain_weight f) (plain_weight g)) }
+{
+    let whole = CForm::And(Held::new(alloc, f)?, Held::new(alloc, g)?);
+    Ok(folded_form(whole))
+}
+
+/// That one of two formulas holds, folded.
+///
+/// An error says that memory was refused.
+pub fn or_form(alloc: Global, f: CForm, g: CForm) -> Result<CForm, AllocError>
+    requires { max (plain_weight f) (plain_weight g) ≤ 2 ^ 126 }
+    ensures tree { IfOk result (λ h. h ≡ fold.or_form f g) }
+    ensures weight { IfOk result (λ h. plain_weight h ≤ max (plain_weight f) (plain_weight g)) }
+{
+    let whole = CForm::Or(Held::new(alloc, f)?, Held::new(alloc, g)?);
+    Ok(folded_form(whole))
+}
+
+// A formula, folded, in a place of its own.
+#[inline(never)]
+pub fn placed_form(alloc: Global, whole: CForm) -> Result<Held<CForm>, AllocError>
+    requires { plain_weight whole ≤ 2 ^ 126 }
+    ensures tree { IfOk result (λ h. h ≡ fold.folded_form whole) }
+    ensures weight { IfOk result (λ h. plain_weight h ≤ plain_weight whole) }
+{
+    Held::new(alloc, folded_form(whole))
+}
+
+// A term, folded, in a place of its own.
+#[inline(never)]
+pub fn placed_term(alloc: Global, whole: CTerm) -> Result<Held<CTerm>, AllocError>
+    requires { (plain_weights whole).most ≤ 2 ^ 126 }
+    ensures tree { IfOk result (λ t. t ≡ fold.folded_term whole) }
+    ensures own { IfOk result (λ t. (plain_weights t).own ≤ (plain_weights whole).own) }
+    ensures most { IfOk result (λ t. (plain_weights t).most ≤ (plain_weights whole).most) }
+{
+    Held::new(alloc, folded_term(whole))
+}
+
+// The choice between two terms, folded, in a place of its own.
+#[inline(never)]
+pub fn chosen(
+    alloc: Global,
+    c: Held<CForm>,
+    a: Held<CTerm>,
+    b: Held<CTerm>,
+) -> Result<Held<CTerm>, AllocError>
+    requires { plain_weight c ≤ 2 ^ 126 }
+    ensures tree { IfOk result (λ t. t ≡ fold.choice_term c a b) }
+    ensures own { IfOk result (λ t. (plain_weights t).own ≤ max (plain_weights a).own (plain_weights b).own) }
+    ensures most { IfOk result (λ t. (plain_weights t).most ≤
+        (choice_weights (plain_weight c) (plain_weights a) (plain_weights b)).most) }
+{
+    match truth_of(c.get()) {
+        Some(true) => Ok(a),
+        Some(false) => Ok(b),
+        None => Held::new(alloc, CTerm::Ite(c, a, b)),
+    }
+}

@@ -1,0 +1,202 @@
+// The union of two programs.
+ghost use Rattle.std.specs.Prelude.{◌≡◌, ◌+◌, ◌^◌, ◌≤◌, ◌++◌, ◌&&◌, max, length, filter, nat_lt, not, IfOk, OnOk, ℤ, List};
+ghost use Rattle.core_terms.specs.Values.{form_value};
+ghost use Rattle.core_terms.specs.Weights.{plain_weight};
+ghost use Rattle.core_terms.specs.Folding as fold;
+ghost use Rattle.core_terms.specs.Unions as union_of;
+
+use crate::copies::{copy_form, copy_term};
+use crate::folding::and_form;
+use crate::programs::{CProgram, CStmt, CWrite};
+use crate::trees::CForm;
+use std::alloc::{AllocError, Global};
+use unity_base::Seq;
+
+/// The union of two programs under a name: the first program's statements followed by the second's, both
+/// initial conditions, and the start values of the first, then of the second for slots that the first
+/// gives none.
+///
+/// An error says that memory was refused.
+pub fn join_programs(
+    alloc: Global,
+    name: u32,
+    f: &CProgram,
+    g: &CProgram,
+) -> Result<CProgram, AllocError>
+    requires statements { length f.now.statements + length g.now.statements ≤ 4096 }
+    requires weight { max (plain_weight f.now.initially) (plain_weight g.now.initially) ≤ 2 ^ 62 }
+    ensures { IfOk result (λ h. h ≡ union_of.joined_programs name f.now g.now) }
+{
+    let shown = merged_slots(alloc, f.shown.as_slice(), g.shown.as_slice())?;
+    let start = joined_start(alloc, f.start.as_slice(), g.start.as_slice())?;
+    let statements = joined_statements(alloc, f.statements.as_slice(), g.statements.as_slice())?;
+    let initially = joined_initially(alloc, &f.initially, &g.initially)?;
+    Ok(CProgram {
+        name,
+        parts: Some((f.name, g.name)),
+        shown,
+        initially,
+        start,
+        statements,
+    })
+}
+
+// That both formulas hold.
+fn joined_initially(alloc: Global, f: &CForm, g: &CForm) -> Result<CForm, AllocError>
+    requires { max (plain_weight f.now) (plain_weight g.now) ≤ 2 ^ 62 }
+    ensures { IfOk result (λ h. h ≡ fold.and_form f.now g.now) }
+{
+    let first = copy_form(alloc, f)?;
+    let second = copy_form(alloc, g)?;
+    and_form(alloc, first, second)
+}
+
+// The slots of two rising lists, each once, in slot order.
+fn merged_slots(alloc: Global, first: &[u32], second: &[u32]) -> Result<Seq<u32>, AllocError>
+    ensures { IfOk result (λ slots. slots ≡ union_of.merged first.now second.now) }
+{
+    let mut slots = Seq::new(alloc);
+    for slot in first {
+        slots.push(*slot)?;
+    }
+    'more: for slot in second {
+        slots = with_slot(alloc, slots.as_slice(), *slot)?;
+    }
+    Ok(slots)
+}
+
+fn with_slot(alloc: Global, slots: &[u32], slot: u32) -> Result<Seq<u32>, AllocError>
+    ensures { IfOk result (λ more. more ≡ union_of.with_slot slots.now slot) }
+{
+    let mut more = Seq::new(alloc);
+    for lower in slots {
+        if *lower < slot {
+            more.push(*lower)?;
+        }
+    }
+    more.push(slot)?;
+    add_higher(&mut more, slots, slot)?;
+    Ok(more)
+}
+
+fn add_higher(more: &mut Seq<u32>, slots: &[u32], slot: u32) -> Result<(), AllocError>
+    ensures { OnOk result (more.new ≡ more.old ++ filter (λ x. nat_lt slot x) slots.now) }
+{
+    for higher in slots {
+        if slot < *higher {
+            more.push(*higher)?;
+        }
+    }
+    Ok(())
+}
+
+// The start values of the first, and of the second for slots that the first gives none.
+fn joined_start(
+    alloc: Global,
+    first: &[(u32, i64)],
+    second: &[(u32, i64)],
+) -> Result<Seq<(u32, i64)>, AllocError>
+    ensures { IfOk result (λ start. start ≡ union_of.joined_start first.now second.now) }
+{
+    let mut start = Seq::new(alloc);
+    for entry in first {
+        start.push(*entry)?;
+    }
+    'more: for entry in second {
+        if !gives(first, entry.0) {
+            start.push(*entry)?;
+        }
+    }
+    Ok(start)
+}
+
+// Whether a start section gives the slot a value.
+fn gives(start: &[(u32, i64)], slot: u32) -> bool
+    ensures { result ≡ union_of.gives start.now slot }
+{
+    start.iter().any(|entry| entry.0 == slot)
+}
+
+fn joined_statements(
+    alloc: Global,
+    first: &[CStmt],
+    second: &[CStmt],
+) -> Result<Seq<CStmt>, AllocError>
+    ensures { IfOk result (λ all. all ≡ first.now ++ second.now) }
+{
+    let mut all = Seq::new(alloc);
+    add_statements(alloc, &mut all, first)?;
+    add_statements(alloc, &mut all, second)?;
+    Ok(all)
+}
+
+fn add_statements(alloc: Global, all: &mut Seq<CStmt>, from: &[CStmt]) -> Result<(), AllocError>
+    ensures { OnOk result (all.new ≡ all.old ++ from.now) }
+{
+    for statement in from {
+        all.push(copy_statement(alloc, statement)?)?;
+    }
+    Ok(())
+}
+
+/// An equal statement.
+///
+/// An error says that memory was refused.
+pub fn copy_statement(alloc: Global, statement: &CStmt) -> Result<CStmt, AllocError>
+    ensures { IfOk result (λ copy. copy ≡ statement.now) }
+{
+    let indices = copy_indices(alloc, statement.indices.as_slice())?;
+    let outside = copy_forms(alloc, statement.outside.as_slice())?;
+    let writes = copy_writes(alloc, statement.writes.as_slice())?;
+    Ok(CStmt {
+        label: statement.label,
+        indices,
+        outside,
+        writes,
+    })
+}
+
+fn copy_indices(alloc: Global, indices: &[i64]) -> Result<Seq<i64>, AllocError>
+    ensures { IfOk result (λ copy. copy ≡ indices.now) }
+{
+    let mut copy = Seq::new(alloc);
+    for index in indices {
+        copy.push(*index)?;
+    }
+    Ok(copy)
+}
+
+/// Equal formulas, in order.
+///
+/// An error says that memory was refused.
+pub fn copy_forms(alloc: Global, forms: &[CForm]) -> Result<Seq<CForm>, AllocError>
+    ensures { IfOk result (λ copy. copy ≡ forms.now) }
+{
+    let mut copy = Seq::new(alloc);
+    for form in forms {
+        copy.push(copy_form(alloc, form)?)?;
+    }
+    Ok(copy)
+}
+
+fn copy_writes(alloc: Global, writes: &[CWrite]) -> Result<Seq<CWrite>, AllocError>
+    ensures { IfOk result (λ copy. copy ≡ writes.now) }
+{
+    let mut copy = Seq::new(alloc);
+    for write in writes {
+        copy.push(copy_write(alloc, write)?)?;
+    }
+    Ok(copy)
+}
+
+fn copy_write(alloc: Global, write: &CWrite) -> Result<CWrite, AllocError>
+    ensures { IfOk result (λ copy. copy ≡ write.now) }
+{
+    let when = copy_form(alloc, &write.when)?;
+    let value = copy_term(alloc, &write.value)?;
+    Ok(CWrite {
+        slot: write.slot,
+        when,
+        value,
+    })
+}

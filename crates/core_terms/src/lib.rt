@@ -1,0 +1,31 @@
+//! The core form on which rules work: terms, formulas, programs, proofs and documents.
+#![tactic(auto)]
+
+mod copies;
+mod documents;
+mod equality;
+mod evaluation;
+mod folding;
+mod joining;
+mod laws;
+mod measures;
+mod programs;
+mod replacing;
+mod trees;
+mod weights;
+
+pub use copies::{copy_form, copy_term};
+pub use documents::{Arg, CDocument, CProof, CRule, CSchedule, CStep, Choice, Helper, PTerm, Ref};
+pub use equality::{same, same_term};
+pub use evaluation::{holds, value};
+pub use folding::{
+    and_form, at_least_form, choice_term, difference_term, folded_form, folded_term, not_form,
+    or_form, scaled_term, sum_term, zero_form,
+};
+pub use joining::{copy_forms, copy_statement, join_programs};
+pub use laws::{folding_laws, frame_laws, replacing_laws, same_is_equal};
+pub use measures::{size_of, size_of_term};
+pub use programs::{CProgram, CSlot, CStmt, CWrite, Print};
+pub use replacing::with_params;
+pub use trees::{CForm, CTerm, Range};
+pub use weights::weight_of;

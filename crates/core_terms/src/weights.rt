@@ -1,0 +1,125 @@
+// How far from 0 the numbers of a formula can lie.
+ghost use Rattle.std.specs.Prelude.{◌≡◌, ◌+◌, ◌*◌, ◌^◌, ◌<◌, ◌≤◌, min, max, length};
+ghost use Rattle.std.specs.Int.RustNames.{unsigned_abs};
+ghost use Rattle.core_terms.specs.Weights.{term_weights, form_weight, slot_weight, place_weight};
+ghost use Rattle.core_terms.specs.Places.{term_slots, form_slots, term_params, form_params};
+
+use crate::programs::CSlot;
+use crate::trees::{CForm, CTerm, Range};
+
+/// The greatest weight of a term in the formula, or 2^63 where it is more. A slot and a parameter weigh
+/// as the range does that is given for them.
+pub fn weight_of(f: &CForm, slots: &[CSlot], params: &[Range]) -> u128
+    requires slots { form_slots f.now ≤ length slots.now }
+    requires params { form_params f.now ≤ length params.now }
+    ensures { result ≡ min (form_weight (slot_weight slots.now) (place_weight params.now) f.now) (2 ^ 63) }
+{
+    u128::from(weigh_form(f, slots, params))
+}
+
+#[cycle(weights)]
+fn weigh_form(f: &CForm, slots: &[CSlot], params: &[Range]) -> u64
+    requires slots { form_slots f.now ≤ length slots.now }
+    requires params { form_params f.now ≤ length params.now }
+    ensures { result ≡ min (form_weight (slot_weight slots.now) (place_weight params.now) f.now) (2 ^ 63) }
+{
+    match f {
+        CForm::Top => 0,
+        CForm::Bottom => 0,
+        CForm::AtLeast(t) => weigh_term(t, slots, params).1,
+        CForm::Zero(t) => weigh_term(t, slots, params).1,
+        CForm::Not(g) => weigh_form(g.get(), slots, params),
+        CForm::And(g, h) => weigh_form(g.get(), slots, params).max(weigh_form(
+            h.get(),
+            slots,
+            params,
+        )),
+        CForm::Or(g, h) => weigh_form(g.get(), slots, params).max(weigh_form(
+            h.get(),
+            slots,
+            params,
+        )),
+    }
+}
+
+// A term's own weight, and the greatest among it and its parts.
+#[cycle(weights)]
+fn weigh_term(t: &CTerm, slots: &[CSlot], params: &[Range]) -> (u64, u64)
+    requires slots { term_slots t.now ≤ length slots.now }
+    requires params { term_params t.now ≤ length params.now }
+    ensures own { result.0 ≡ min (term_weights (slot_weight slots.now) (place_weight params.now) t.now).own (2 ^ 63) }
+    ensures most { result.1 ≡ min (term_weights (slot_weight slots.now) (place_weight params.now) t.now).most (2 ^ 63) }
+{
+    match t {
+        CTerm::Const(c) => leaf(c.unsigned_abs()),
+        CTerm::Slot(n) => leaf(weight_of_slot(slots, *n)),
+        CTerm::Param(n) => leaf(weight_of_param(params, *n)),
+        CTerm::Add(a, b) => sum(
+            weigh_term(a.get(), slots, params),
+            weigh_term(b.get(), slots, params),
+        ),
+        CTerm::Sub(a, b) => sum(
+            weigh_term(a.get(), slots, params),
+            weigh_term(b.get(), slots, params),
+        ),
+        CTerm::Scale(k, a) => multiple(*k, weigh_term(a.get(), slots, params)),
+        CTerm::Ite(c, a, b) => choice(
+            weigh_form(c.get(), slots, params),
+            weigh_term(a.get(), slots, params),
+            weigh_term(b.get(), slots, params),
+        ),
+    }
+}
+
+// The weights of a term that has no parts.
+fn leaf(weight: u64) -> (u64, u64)
+    ensures own { result.0 ≡ min weight (2 ^ 63) }
+    ensures most { result.1 ≡ min (max weight 0) (2 ^ 63) }
+{
+    let capped = weight.min(1 << 63);
+    (capped, capped)
+}
+
+fn sum(a: (u64, u64), b: (u64, u64)) -> (u64, u64)
+    ensures own { result.0 ≡ min (a.0 + b.0) (2 ^ 63) }
+    ensures most { result.1 ≡ min (max (a.0 + b.0) (max a.1 b.1)) (2 ^ 63) }
+{
+    let own = a.0.saturating_add(b.0).min(1 << 63);
+    (own, own.max(a.1).max(b.1).min(1 << 63))
+}
+
+fn multiple(k: i64, a: (u64, u64)) -> (u64, u64)
+    ensures own { result.0 ≡ min (unsigned_abs k * a.0) (2 ^ 63) }
+    ensures most { result.1 ≡ min (max (unsigned_abs k * a.0) a.1) (2 ^ 63) }
+{
+    let own = k.unsigned_abs().saturating_mul(a.0).min(1 << 63);
+    (own, own.max(a.1).min(1 << 63))
+}
+
+fn choice(c: u64, a: (u64, u64), b: (u64, u64)) -> (u64, u64)
+    ensures own { result.0 ≡ min (max a.0 b.0) (2 ^ 63) }
+    ensures most { result.1 ≡ min (max (max a.0 b.0) (max c (max a.1 b.1))) (2 ^ 63) }
+{
+    let own = a.0.max(b.0).min(1 << 63);
+    (own, own.max(c).max(a.1).max(b.1).min(1 << 63))
+}
+
+fn weight_of_slot(slots: &[CSlot], place: u32) -> u64
+    requires { place < length slots.now }
+    ensures { result ≡ slot_weight slots.now place }
+{
+    weight_of_range(slots[place as usize].range)
+}
+
+fn weight_of_param(params: &[Range], place: u32) -> u64
+    requires { place < length params.now }
+    ensures { result ≡ place_weight params.now place }
+{
+    weight_of_range(params[place as usize])
+}
+
+fn weight_of_range(range: Range) -> u64
+    ensures { result ≡ max 1 (max (unsigned_abs range.lo) (unsigned_abs range.hi)) }
+{
+    range.lo.unsigned_abs().max(range.hi.unsigned_abs()).max(1)
+}
