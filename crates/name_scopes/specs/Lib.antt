@@ -1,0 +1,8 @@
+pub mod Scope
+pub mod Reading
+pub mod Part
+pub mod Answers
+pub mod Declarations
+pub mod Statements
+pub mod Proofs
+pub mod WellNamed

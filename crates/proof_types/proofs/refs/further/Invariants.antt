@@ -1,0 +1,10 @@
+use Rattle.std.proofs.Common.{drop, map}
+use Rattle.name_scopes.specs.Scope.{entries, scope}
+use Rattle.name_scopes.specs.Reading.{all_beside}
+use Rattle.name_scopes.specs.Proofs.{ref_reading}
+use Rattle.name_scopes.proofs.Steps.{Rest}
+use Rattle.proof_types.proofs.refs.further.Given as goal
+
+abbrev pub invariant-loop-r : goal.invariant-loop-r
+invariant-loop-r l = Rest l.table (all_beside (map (ref_reading (entries l.programs) (scope l.known l.env)) (drop l.r-index l.rs)))
+    l.initial.table (all_beside (map (ref_reading (entries l.programs) (scope l.known l.env)) l.rs))

@@ -1,0 +1,10 @@
+use Rattle.std.proofs.Common.{drop}
+use Rattle.name_scopes.specs.Part.{run}
+use Rattle.name_scopes.specs.WellNamed.{part_of}
+use Rattle.name_scopes.proofs.Steps.{Ahead}
+use Rattle.ranges_types.specs.Tables.{declared_in}
+use Rattle.ranges_types.proofs.documents.parts.Given as goal
+
+abbrev pub invariant-loop-p : goal.invariant-loop-p
+invariant-loop-p l = Ahead l.table (run part_of (declared_in l.t) (drop l.p-index l.ps))
+    l.initial.table (run part_of (declared_in l.initial.t) l.ps)

@@ -1,0 +1,10 @@
+use Rattle.std.proofs.Common.{drop, map}
+use Rattle.name_scopes.specs.Scope.{scope}
+use Rattle.name_scopes.specs.Reading.{all_beside}
+use Rattle.name_scopes.specs.Statements.{further_reading}
+use Rattle.name_scopes.proofs.Steps.{Rest}
+use Rattle.statement_types.proofs.alternatives.further.Given as goal
+
+abbrev pub invariant-loop-values : goal.invariant-loop-values
+invariant-loop-values l = Rest l.table (all_beside (map (further_reading (scope l.known l.env) l.first l.rest) (drop l.values-index l.list)))
+    l.initial.table (all_beside (map (further_reading (scope l.known l.env) l.first l.rest) l.list))

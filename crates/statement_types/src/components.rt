@@ -1,0 +1,80 @@
+//! Assignments and their components.
+
+ghost use Rattle.std.specs.Prelude.{◌≡◌, ◌∷◌, map};
+ghost use Rattle.name_scopes.specs.declared.named.Meaning.{Meaning};
+ghost use Rattle.name_scopes.specs.Scope.{bounds, scope};
+ghost use Rattle.name_scopes.specs.Reading.{all_beside, beside, binding, range_reading};
+ghost use Rattle.name_scopes.specs.Statements.{assign_reading, component_reading};
+ghost use Rattle.name_scopes.specs.Answers.{Notes};
+
+use crate::alternatives::alternatives;
+use crate::targets::targets;
+use expression_types::{Table, bind, range_words};
+use name_scopes::{Env, Known, Meaning, NameFault, with_name};
+use unity_base::Seq;
+use unity_syntax::{Assign, Component, Name, Range};
+
+/// A name is bound, and then comes its range, in which it is not visible.
+fn bind_in(
+    name: &Name,
+    range: &Range,
+    known: &Known,
+    env: &Env,
+    table: &mut Table,
+) -> Result<(), NameFault>
+    ensures { Notes result table.old table.new (beside (binding (scope known.now env.now) name.now (Meaning.Bound name.now.at)) (range_reading (bounds env.now) range.now)) }
+{
+    bind(name, Meaning::Bound(name.at), known, env, table)?;
+    range_words(range, env, table)
+}
+
+#[cycle(assign)]
+fn component(c: &Component, known: &Known, env: &Env, table: &mut Table) -> Result<(), NameFault>
+    ensures { Notes result table.old table.new (component_reading c.now (scope known.now env.now)) }
+{
+    match c {
+        Component::Set {
+            at: _,
+            first,
+            rest,
+            alts,
+        } => {
+            targets(first, rest.as_slice(), known, env, table)?;
+            alternatives(first, rest.as_slice(), alts, known, env, table)
+        }
+        Component::Quantified {
+            at: _,
+            name,
+            range,
+            of,
+        } => {
+            bind_in(name, range, known, env, table)?;
+            let inner = with_name(&*name, Meaning::Bound(name.at), &*env);
+            assign(of.get(), known, &inner, table)
+        }
+    }
+}
+
+/// An assignment: its components, from left to right.
+#[cycle(assign)]
+pub fn assign(a: &Assign, known: &Known, env: &Env, table: &mut Table) -> Result<(), NameFault>
+    ensures { Notes result table.old table.new (assign_reading a.now (scope known.now env.now)) }
+{
+    component(&a.first, known, env, table)?;
+    further(&a.rest, known, env, table)
+}
+
+#[cycle(assign)]
+fn further(
+    cs: &Seq<Component>,
+    known: &Known,
+    env: &Env,
+    table: &mut Table,
+) -> Result<(), NameFault>
+    ensures { Notes result table.old table.new (all_beside (map (λ c. component_reading c (scope known.now env.now)) cs.now)) }
+{
+    for c in cs.as_slice() {
+        component(c, known, env, table)?;
+    }
+    Ok(())
+}
