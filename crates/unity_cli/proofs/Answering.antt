@@ -5,7 +5,7 @@ use Rattle.unity_base.specs.Streams.{Was, IsLongerThan}
 use Rattle.small_documents.specs.declared.tree.SmallDocument.{SmallDocument}
 use Rattle.small_documents.specs.Meaning.{IsSafe}
 use Rattle.unity_cli.specs.SmallText.{IsSmallDocument}
-use Rattle.unity_parser.proofs.Readings.{no_fault, one_fault}
+use Rattle.unity_cli.proofs.FirstFaults.{no_first_fault, one_first_fault}
 use Rattle.safety_rules.specs.Follows.{Follows, HasExecutions}
 use Rattle.safety_rules.proofs.FollowsLaws.{accepted_is_safe, accepted_runs}
 use Rattle.unity_cli.specs.declared.status.Status.{Status}
@@ -46,7 +46,7 @@ checked bytes (Verdict.Accepted d) v = (d, v.0, v.1, refl)
 checked bytes Verdict.Rejected v = (v.0, v.1, v.2, refl)
 checked bytes Verdict.TooLong v = too_long v refl
 checked bytes (Verdict.NoDocument code at) v = no_document code at v.0 v.1 refl
-checked bytes Verdict.NotBuilt v = not_small v.0 v.1 v.2 v.3 refl
+checked bytes Verdict.NotBuilt v = not_small v.0 v.1 v.2 v.3 v.4 refl
 
 pub judged : (command : Option Command) (left : Option (List ℕ)) (verdict : Verdict) → command ≡ Some Command.Check → Judges left verdict →
     IsAnswer command left (status_of verdict) (text_of verdict)
@@ -67,11 +67,6 @@ pub stop_not_done : (stop : Stop) → stop_status stop ≡ Status.Done → ⊥
 stop_not_done Stop.ReadFault e = cc
 stop_not_done Stop.WriteFault e = cc
 stop_not_done Stop.Memory e = cc
-
-pub stop_not_bad_words : (stop : Stop) → stop_status stop ≡ Status.BadWords → ⊥
-stop_not_bad_words Stop.ReadFault e = cc
-stop_not_bad_words Stop.WriteFault e = cc
-stop_not_bad_words Stop.Memory e = cc
 
 pub stop_has_no_text : (stop : Stop) → HasText (stop_status stop) → ⊥
 stop_has_no_text Stop.ReadFault h = h
@@ -127,21 +122,25 @@ accepted_has_executions left verdict j h bytes d e s = accepted_runs d s.formed 
 -- what is small is not bad
 small_not_bad : (bytes text : List ℕ) (d : SmallDocument) → IsSmallDocument bytes d → IsBad bytes text → ⊥
 small_not_bad bytes text d s (too_long h e) = let few : length bytes ≤ 65536 = s.size in omega arith
-small_not_bad bytes text d s (no_document code at l f e) = no_fault bytes s.document code at s.is_document f
-small_not_bad bytes text d s (not_small other l is none e) = none d s
+small_not_bad bytes text d s (no_document code at l f e) =
+    no_first_fault bytes s.document code at s.is_document s.named f
+small_not_bad bytes text d s (not_small other l is named none e) = none d s
 
 -- one thing is said of what is bad
 one_bad : (bytes text more : List ℕ) → IsBad bytes text → IsBad bytes more → text ≡ more
 one_bad bytes text more (too_long h e) (too_long k f) = e ∙ sym f
 one_bad bytes text more (too_long h e) (no_document code at l g f) = absurd (omega arith)
-one_bad bytes text more (too_long h e) (not_small d l is none f) = absurd (omega arith)
+one_bad bytes text more (too_long h e) (not_small d l is named none f) = absurd (omega arith)
 one_bad bytes text more (no_document code at l g e) (too_long k f) = absurd (omega arith)
 one_bad bytes text more (no_document code at l g e) (no_document other place m k f) =
-    let same = one_fault bytes code other at place g k in e ∙ ap (λ c. fault_text c at) same.0 ∙ ap (fault_text other) same.1 ∙ sym f
-one_bad bytes text more (no_document code at l g e) (not_small d m is none f) = absurd (no_fault bytes d code at is g)
-one_bad bytes text more (not_small d l is none e) (too_long k f) = absurd (omega arith)
-one_bad bytes text more (not_small d l is none e) (no_document code at m g f) = absurd (no_fault bytes d code at is g)
-one_bad bytes text more (not_small d l is none e) (not_small other m is' none' f) = e ∙ sym f
+    let same = one_first_fault bytes code other at place g k in
+    e ∙ ap (λ c. fault_text c at) same.0 ∙ ap (fault_text other) same.1 ∙ sym f
+one_bad bytes text more (no_document code at l g e) (not_small d m is named none f) =
+    absurd (no_first_fault bytes d code at is named g)
+one_bad bytes text more (not_small d l is named none e) (too_long k f) = absurd (omega arith)
+one_bad bytes text more (not_small d l is named none e) (no_document code at m g f) =
+    absurd (no_first_fault bytes d code at is named g)
+one_bad bytes text more (not_small d l is named none e) (not_small other m also well also_none f) = e ∙ sym f
 
 one_checked : (bytes : List ℕ) (status other : Status) (text more : List ℕ) → Checked bytes status text → Checked bytes other more → (status ≡ other) × (text ≡ more)
 one_checked bytes Status.Done Status.Done text more a b = (refl, a.3 ∙ ap accepted_text (one_tree bytes a.0 b.0 a.1 b.1) ∙ sym b.3)

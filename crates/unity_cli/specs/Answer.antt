@@ -11,9 +11,11 @@ use Rattle.case_tables.specs.Numbers.{number_of}
 use Rattle.case_tables.specs.TableRows.{kind_rows, code_rows}
 use Rattle.unity_syntax.specs.declared.document.Document.{Document}
 use Rattle.small_documents.specs.declared.tree.SmallDocument.{SmallDocument}
-use Rattle.unity_parser.specs.Document.{IsDocument, IsFault}
+use Rattle.unity_parser.specs.Document.{IsDocument}
+use Rattle.name_scopes.specs.WellNamed.{IsWellNamed}
 use Rattle.safety_rules.specs.Follows.{Follows}
 use Rattle.unity_cli.specs.SmallText.{IsSmallDocument, IsNoSmallDocument}
+use Rattle.unity_cli.specs.FirstFault.{IsFirstFault}
 use Rattle.unity_cli.specs.declared.status.Status.{Status}
 use Rattle.unity_cli.specs.declared.words.Command.{Command}
 
@@ -46,7 +48,7 @@ code_name code = unwrap_or (name_in code_ghosts.eq code_rows code) []
 abbrev pub code_text : Code → List ℕ
 code_text code = decimal (number_of code) ++ (codes " " ++ code_name code)
 
--- why a text is no document, and at which byte
+-- why a text has no reading, and at which byte
 abbrev pub fault_text : Code → ℕ → List ℕ
 fault_text code at = codes "bad " ++ (code_text code ++ (codes " byte " ++ (decimal at ++ 10 ∷ [])))
 
@@ -58,16 +60,19 @@ too_long_text = codes "bad " ++ (code_text Code.TooLong ++ 10 ∷ [])
 abbrev pub not_built_text : List ℕ
 not_built_text = codes "bad 9 NotBuilt" ++ 10 ∷ []
 
--- what is said of bytes that cannot be checked: they are too many, or no document, or no small one
+-- what is said of bytes that cannot be checked: they are too many, or no document that is well named, or no small one
 pub data IsBad (bytes : List ℕ) (text : List ℕ) : Type 0 where
   too_long : greatest_size < length bytes → text ≡ too_long_text → IsBad bytes text
-  no_document : (code : Code) (at : ℕ) → length bytes ≤ greatest_size → IsFault bytes code at → text ≡ fault_text code at → IsBad bytes text
-  not_small : (d : Document) → length bytes ≤ greatest_size → IsDocument bytes d → IsNoSmallDocument bytes → text ≡ not_built_text → IsBad bytes text
+  no_document : (code : Code) (at : ℕ) → length bytes ≤ greatest_size → IsFirstFault bytes code at →
+      text ≡ fault_text code at → IsBad bytes text
+  not_small : (d : Document) → length bytes ≤ greatest_size → IsDocument bytes d → IsWellNamed d →
+      IsNoSmallDocument bytes → text ≡ not_built_text → IsBad bytes text
 
 -- what `check` answers for these bytes
 abbrev pub Checked : List ℕ → Status → List ℕ → Type 0
 Checked bytes Status.Done text = (d : SmallDocument) × IsSmallDocument bytes d × Follows d × (text ≡ accepted_text d)
-Checked bytes Status.Rejected text = (d : SmallDocument) × IsSmallDocument bytes d × (Follows d → ⊥) × (text ≡ rejected_text)
+Checked bytes Status.Rejected text =
+    (d : SmallDocument) × IsSmallDocument bytes d × (Follows d → ⊥) × (text ≡ rejected_text)
 Checked bytes Status.BadDocument text = IsBad bytes text
 Checked bytes status text = ⊥
 
@@ -83,7 +88,8 @@ pub record IsAnswer (command : Option Command) (left : Option (List ℕ)) (statu
   pub allowed : Answer command bytes status text
 
 -- an answer's whole text was appended
-pub record Tells (command : Option Command) (left : Option (List ℕ)) (status : Status) (old new : Option (List ℕ)) : Type 0 where
+pub record Tells (command : Option Command) (left : Option (List ℕ)) (status : Status) (old new : Option (List ℕ)) :
+    Type 0 where
   pub text : List ℕ
   pub answer : IsAnswer command left status text
   pub appends : Appends old new text

@@ -1,5 +1,6 @@
 pub mod Words
 pub mod SmallText
+pub mod FirstFault
 pub mod Status
 pub mod Stop
 pub mod Answer

@@ -5,12 +5,15 @@ use Rattle.small_documents.specs.declared.tree.SmallDocument.{SmallDocument}
 use Rattle.small_documents.specs.Conditions.{IsWellFormed}
 use Rattle.small_documents.specs.SmallForm.{small_of}
 use Rattle.unity_parser.specs.Document.{IsDocument}
+use Rattle.name_scopes.specs.WellNamed.{IsWellNamed}
 
--- the bytes are at most 65,536, and a document that has the form of this small one, which is well formed
+-- the bytes are at most 65,536, and a document that is well named and has the form of this small one, which is well
+-- formed
 pub record IsSmallDocument (bytes : List ℕ) (s : SmallDocument) : Type 0 where
   pub size : length bytes ≤ 65536
   pub document : Document
   pub is_document : IsDocument bytes document
+  pub named : IsWellNamed document
   pub form : small_of document ≡ Some s
   pub formed : IsWellFormed s
 

@@ -3,11 +3,13 @@ use Rattle.std.specs.Prelude.{◌≡◌, ◌<◌, ◌≤◌, ℕ, List, length, 
 use Rattle.unity_base.specs.Streams.{Was}
 use Rattle.unity_syntax.specs.declared.document.Document.{Document}
 use Rattle.small_documents.specs.declared.tree.SmallDocument.{SmallDocument}
-use Rattle.unity_parser.specs.Document.{IsDocument, IsFault}
+use Rattle.unity_parser.specs.Document.{IsDocument}
+use Rattle.name_scopes.specs.WellNamed.{IsWellNamed}
 use Rattle.safety_rules.specs.Follows.{Follows}
 use Rattle.unity_cli.specs.declared.judge.Verdict.{Verdict}
 use Rattle.unity_cli.specs.declared.status.Status.{Status}
 use Rattle.unity_cli.specs.SmallText.{IsSmallDocument, IsNoSmallDocument}
+use Rattle.unity_cli.specs.FirstFault.{IsFirstFault}
 use Rattle.unity_cli.specs.Answer.{accepted_text, rejected_text, greatest_size, fault_text, too_long_text, not_built_text}
 
 -- this is the verdict on a small document
@@ -23,8 +25,9 @@ abbrev pub IsVerdict : List ℕ → Verdict → Type 0
 IsVerdict bytes (Verdict.Accepted d) = IsSmallDocument bytes d × Follows d
 IsVerdict bytes Verdict.Rejected = (d : SmallDocument) × IsSmallDocument bytes d × (Follows d → ⊥)
 IsVerdict bytes Verdict.TooLong = greatest_size < length bytes
-IsVerdict bytes (Verdict.NoDocument code at) = (length bytes ≤ greatest_size) × IsFault bytes code at
-IsVerdict bytes Verdict.NotBuilt = (d : Document) × (length bytes ≤ greatest_size) × IsDocument bytes d × IsNoSmallDocument bytes
+IsVerdict bytes (Verdict.NoDocument code at) = (length bytes ≤ greatest_size) × IsFirstFault bytes code at
+IsVerdict bytes Verdict.NotBuilt =
+    (d : Document) × (length bytes ≤ greatest_size) × IsDocument bytes d × IsWellNamed d × IsNoSmallDocument bytes
 
 -- and these are bytes that were left
 pub record Judges (left : Option (List ℕ)) (verdict : Verdict) : Type 0 where

@@ -1,15 +1,19 @@
 // Reading a document and judging its proof.
-ghost use Rattle.std.specs.Prelude.{◌≡◌, ◌≤◌, ◌<◌, ◌⊎◌, IfOk, OnOk, IsErrOf, length};
+ghost use Rattle.std.specs.Prelude.{◌≤◌, ◌⊎◌, IfOk, IfErr, OnOk, IsErrOf, length};
 ghost use Rattle.std.specs.Io.KnownBytes.{IsAtEnd};
-ghost use Rattle.unity_base.specs.Streams.{Rose, IsLongerThan, LeavesRest};
+ghost use Rattle.unity_base.specs.Streams.{IsTold, IsLongerThan, LeavesRest};
 ghost use Rattle.small_documents.specs.Conditions.{IsWellFormed};
 ghost use Rattle.unity_parser.specs.Document.{IsDocument};
+ghost use Rattle.name_scopes.specs.WellNamed.{IsWellNamed, name_fault};
+ghost use Rattle.name_scopes.specs.Answers.{Stops};
 ghost use Rattle.unity_cli.specs.Answer.{greatest_size};
 ghost use Rattle.unity_cli.specs.Verdict.{Decides, IsVerdict, Judges};
 
 use crate::small::small_document;
 use crate::stop::Stop;
 use case_tables::Code;
+use name_scopes::NameFault;
+use ranges_types::check_names;
 use safety_rules::follows;
 use small_documents::SmallDocument;
 use std::alloc::{AllocError, Global};
@@ -29,7 +33,7 @@ pub enum Verdict {
     Rejected,
     /// They are more than `GREATEST_SIZE`.
     TooLong,
-    /// They are no document, with the code and the place of their first fault.
+    /// They are no document that is well named, with the code and the place of their first fault.
     NoDocument { code: Code, at: u64 },
     /// They are a document that is not small.
     NotBuilt,
@@ -51,6 +55,29 @@ fn judge(alloc: Global, bytes: &[u8]) -> Result<Verdict, AllocError>
 fn judge_text(alloc: Global, bytes: &[u8], document: &Document) -> Result<Verdict, AllocError>
     requires size { length bytes.now ≤ greatest_size }
     requires document { IsDocument bytes.now document.now }
+    ensures { IfOk result (IsVerdict bytes.now) }
+{
+    match check_document(alloc, document) {
+        Ok(()) => judge_named(alloc, bytes, document),
+        Err(NameFault::Fault { code, at }) => Ok(Verdict::NoDocument { code, at }),
+        Err(NameFault::Memory) => Err(AllocError),
+    }
+}
+
+/// Whether the document is well named, or its first fault.
+fn check_document(alloc: Global, document: &Document) -> Result<(), NameFault>
+    ensures named { OnOk result (IsWellNamed document.now) }
+    ensures fault { IfErr result (λ fault. Stops fault (name_fault document.now)) }
+{
+    check_names(alloc, document)?;
+    Ok(())
+}
+
+/// What is found of the bytes of a document that is well named.
+fn judge_named(alloc: Global, bytes: &[u8], document: &Document) -> Result<Verdict, AllocError>
+    requires size { length bytes.now ≤ greatest_size }
+    requires document { IsDocument bytes.now document.now }
+    requires named { IsWellNamed document.now }
     ensures { IfOk result (IsVerdict bytes.now) }
 {
     match small_document(alloc, bytes, document)? {
@@ -77,9 +104,7 @@ pub fn check<S: Source>(alloc: Global, src: &mut S) -> Result<Verdict, Stop>
     ensures end { OnOk result (IsAtEnd (S.left src.new) ⊎ IsLongerThan greatest_size (S.left src.old)) }
     ensures rest { LeavesRest (S.left src.old) (S.left src.new) }
     ensures never { IsErrOf result Stop.WriteFault → ⊥ }
-    ensures fault { IsErrOf result Stop.ReadFault → Rose (S.faults src.old) (S.faults src.new) }
-    ensures later { S.faults src.old ≤ S.faults src.new }
-    ensures count { S.faults src.old < S.faults src.new → IsErrOf result Stop.ReadFault }
+    ensures cause { IsTold (S.faults src.old) (S.faults src.new) (IsErrOf result Stop.ReadFault) }
 {
     match read_all(alloc, src, GREATEST_SIZE) {
         Ok(bytes) => Ok(judge(alloc, &bytes)?),

@@ -1,7 +1,7 @@
 // The text of a verdict, and its writing.
-ghost use Rattle.std.specs.Prelude.{◌≡◌, ◌≤◌, ◌<◌, ◌++◌, IfOk, OnOk, OnErr, IsErrOf};
+ghost use Rattle.std.specs.Prelude.{◌≡◌, ◌++◌, IfOk, OnOk, IsErrOf};
 ghost use Rattle.std.specs.Io.KnownBytes.{Appends};
-ghost use Rattle.unity_base.specs.Streams.{Rose, AppendsPart};
+ghost use Rattle.unity_base.specs.Streams.{IsTold, AppendsPart};
 ghost use Rattle.unity_cli.specs.Answer.{step_line, accepted_text, fault_text, too_long_text};
 ghost use Rattle.unity_cli.specs.Verdict.{status_of, text_of};
 
@@ -83,12 +83,11 @@ impl Verdict {
 /// Writes the text of a verdict.
 pub fn tell<K: Sink>(alloc: Global, verdict: &Verdict, out: &mut K) -> Result<(), Stop>
     ensures whole { OnOk result (Appends (K.written out.old) (K.written out.new) (text_of verdict.now)) }
-    ensures part { IsErrOf result Stop.WriteFault → AppendsPart (K.written out.old) (K.written out.new) (text_of verdict.now) }
+    ensures part { IsErrOf result Stop.WriteFault →
+        AppendsPart (K.written out.old) (K.written out.new) (text_of verdict.now) }
     ensures nothing { IsErrOf result Stop.Memory → out.new ≡ out.old }
     ensures never { IsErrOf result Stop.ReadFault → ⊥ }
-    ensures fault { IsErrOf result Stop.WriteFault → Rose (K.faults out.old) (K.faults out.new) }
-    ensures later { K.faults out.old ≤ K.faults out.new }
-    ensures count { K.faults out.old < K.faults out.new → IsErrOf result Stop.WriteFault }
+    ensures cause { IsTold (K.faults out.old) (K.faults out.new) (IsErrOf result Stop.WriteFault) }
 {
     let text = verdict.text(alloc)?;
     write_all(out, &text)?;

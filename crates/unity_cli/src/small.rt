@@ -1,6 +1,7 @@
 // The small document that a text is.
 ghost use Rattle.std.specs.Prelude.{IfOk, MatchOption};
 ghost use Rattle.unity_parser.specs.Document.{IsDocument};
+ghost use Rattle.name_scopes.specs.WellNamed.{IsWellNamed};
 ghost use Rattle.unity_cli.specs.SmallText.{IsSmallDocument, IsNoSmallDocument};
 
 use small_documents::{SmallDocument, is_well_formed, small_form};
@@ -17,7 +18,8 @@ pub fn small_document(
     bytes: &[u8],
     document: &Document,
 ) -> Result<Option<SmallDocument>, AllocError>
-    requires { IsDocument bytes.now document.now }
+    requires document { IsDocument bytes.now document.now }
+    requires named { IsWellNamed document.now }
     ensures { IfOk result (λ found. MatchOption found (IsNoSmallDocument bytes.now) (IsSmallDocument bytes.now)) }
 {
     if bytes.len() > MOST_BYTES {

@@ -2,6 +2,9 @@
 mod texts;
 
 use super::*;
+use case_tables::{
+    Code, Kind, RuleName, Symbol, Word, codes, kinds, number, rules, symbols, words,
+};
 use std::alloc::{AllocError, Global};
 use std::test::Fail;
 use unity_base::{MemSink, MemSource};
@@ -156,6 +159,41 @@ fn texts_of_refusals(rt: HostRuntime) -> Result<(), Fail> {
     Ok(())
 }
 
+/// Programs over a variable `x` with a fault of names each, in one declaration or one statement.
+#[test]
+fn faults_of_names(rt: HostRuntime) -> Result<(), Fail> {
+    for (declared, statement, text) in [
+        ("x : 0..3", "x := y", "bad 10 Unknown byte 50\n"),
+        (
+            "x : 0..3 x : 0..1",
+            "x := 0",
+            "bad 11 DeclaredTwice byte 35\n",
+        ),
+        ("x : 0..3", "x := true", "bad 12 WrongType byte 50\n"),
+        ("x : 3..0", "x := 0", "bad 13 BadRange byte 30\n"),
+        (
+            "x : 0..3",
+            "x := (sum i : 0..x :: i)",
+            "bad 14 NotConstant byte 62\n",
+        ),
+        ("x : 0..3", "x := x * x", "bad 15 NotLinear byte 50\n"),
+        (
+            "x : 0..3\nalways p = p",
+            "x := 0",
+            "bad 16 Circular byte 46\n",
+        ),
+        ("x : 0..3", "x := 1, 2", "bad 17 Arity byte 50\n"),
+    ] {
+        let document = format!(in rt.alloc();
+            "unity 1\nprogram P\ndeclare {declared}\nassign s: {statement} end\n"
+        )?;
+        let (status, written) = answer(rt.alloc(), "check", document.as_str().as_bytes(), 0, 0)?;
+        assert_eq!(rt; status, Status::BadDocument, "at {declared} {statement}");
+        assert_eq!(rt; written.as_str(), text, "at {declared} {statement}");
+    }
+    Ok(())
+}
+
 /// How many tokens the document has with its first `from` replaced, and 0 where it has none.
 fn tokens_of_edited(alloc: Global, from: &str, to: &str) -> Result<usize, AllocError> {
     let Some((before, after)) = COUNT.split_once(from) else {
@@ -178,4 +216,17 @@ fn tokens_of_the_examples(rt: HostRuntime) -> Result<(), Fail> {
         assert_eq!(rt; tokens_of_edited(rt.alloc(), from, to)?, count, "at {to}");
     }
     Ok(())
+}
+
+#[test]
+fn names_of_the_tables(rt: HostRuntime) {
+    assert_eq!(rt; words().find(b"superpose"), Some(Word::Superpose));
+    assert_eq!(rt; words().find(b"superposes"), None);
+    assert_eq!(rt; symbols().name_of(Symbol::OpenChoice), Some("<[]"));
+    assert_eq!(rt; rules().find(b"psp"), Some(RuleName::Psp));
+    assert_eq!(rt; kinds().name_of(Kind::Leadsto), Some("leadsto"));
+    assert_eq!(rt; Kind::Unless.name(), "unless");
+    assert_eq!(rt; codes().find(b"CertTooDeep"), Some(Code::CertTooDeep));
+    assert_eq!(rt; number(Code::CertTooDeep), 58);
+    assert_eq!(rt; Code::NoProgram.name(), "NoProgram");
 }

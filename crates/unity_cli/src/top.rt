@@ -1,12 +1,12 @@
 // The top call.
-ghost use Rattle.std.specs.Prelude.{◌≡◌, ◌≢◌, ◌≤◌, ◌<◌, ◌⊎◌, ℕ, List, Some, map, string_bytes, IsNone, IsSome};
+ghost use Rattle.std.specs.Prelude.{◌≡◌, ◌≢◌, ◌⊎◌, ℕ, List, Some, IsNone, IsSome};
 ghost use Rattle.std.specs.Io.KnownBytes.{IsAtEnd};
-ghost use Rattle.unity_base.specs.Streams.{Rose, IsLongerThan, LeavesRest};
+ghost use Rattle.unity_base.specs.Streams.{IsTold, IsLongerThan, LeavesRest};
 ghost use Rattle.small_documents.specs.declared.tree.SmallDocument.{SmallDocument};
 ghost use Rattle.unity_cli.specs.SmallText.{IsSmallDocument};
 ghost use Rattle.small_documents.specs.Meaning.{IsSafe};
 ghost use Rattle.safety_rules.specs.Follows.{HasExecutions};
-ghost use Rattle.unity_cli.specs.Words.{command_of};
+ghost use Rattle.unity_cli.specs.Words.{asked};
 ghost use Rattle.unity_cli.specs.Status.{HasText};
 ghost use Rattle.unity_cli.specs.Answer.{greatest_size, Tells, TellsPart};
 
@@ -26,9 +26,9 @@ pub fn unity<S: Source, K: Sink>(
 ) -> Status
     // What is written is the answer for the words and the bytes that were left.
     ensures answer { HasText result →
-        Tells (command_of (map string_bytes words.now)) (S.left src.old) result (K.written out.old) (K.written out.new) }
+        Tells (asked words.now) (S.left src.old) result (K.written out.old) (K.written out.new) }
     ensures part { result ≡ Status.WriteFault →
-        TellsPart (command_of (map string_bytes words.now)) (S.left src.old) (K.written out.old) (K.written out.new) }
+        TellsPart (asked words.now) (S.left src.old) (K.written out.old) (K.written out.new) }
     ensures nothing { (result ≡ Status.ReadFault) ⊎ (result ≡ Status.WantOfMemory) → out.new ≡ out.old }
 
     // An accepted document is safe, and it has executions.
@@ -37,22 +37,18 @@ pub fn unity<S: Source, K: Sink>(
     ensures runs { result ≡ Status.Done → (bytes : List ℕ) (d : SmallDocument) →
         S.left src.old ≡ Some bytes → IsSmallDocument bytes d → HasExecutions d }
 
-    // Words that are no command are told, and the source is not read.
-    ensures bad_words { result ≡ Status.BadWords → IsNone (command_of (map string_bytes words.now)) }
-    ensures untouched { IsNone (command_of (map string_bytes words.now)) → src.new ≡ src.old }
+    // For words that are no command the source is not read.
+    ensures untouched { IsNone (asked words.now) → src.new ≡ src.old }
+    ensures not_read { IsNone (asked words.now) → result ≢ Status.ReadFault }
 
     // A source that was read was read to its end, or past the greatest number of bytes.
-    ensures end { IsSome (command_of (map string_bytes words.now)) → result ≢ Status.ReadFault → result ≢ Status.WantOfMemory →
+    ensures end { IsSome (asked words.now) → result ≢ Status.ReadFault → result ≢ Status.WantOfMemory →
         IsAtEnd (S.left src.new) ⊎ IsLongerThan greatest_size (S.left src.old) }
     ensures rest { LeavesRest (S.left src.old) (S.left src.new) }
 
     // A fault has its cause, and none is taken for something else.
-    ensures read_fault { result ≡ Status.ReadFault → Rose (S.faults src.old) (S.faults src.new) }
-    ensures write_fault { result ≡ Status.WriteFault → Rose (K.faults out.old) (K.faults out.new) }
-    ensures source_count { S.faults src.old < S.faults src.new → (result ≡ Status.ReadFault) ⊎ (result ≡ Status.WantOfMemory) }
-    ensures sink_count { K.faults out.old < K.faults out.new → (result ≡ Status.WriteFault) ⊎ (result ≡ Status.WantOfMemory) }
-    ensures source_later { S.faults src.old ≤ S.faults src.new }
-    ensures sink_later { K.faults out.old ≤ K.faults out.new }
+    ensures source { IsTold (S.faults src.old) (S.faults src.new) (result ≡ Status.ReadFault) }
+    ensures sink { IsTold (K.faults out.old) (K.faults out.new) (result ≡ Status.WriteFault) }
 {
     let Some(Command::Check) = read_words(words) else {
         return match write_all(out, b"bad words\n") {

@@ -1,6 +1,6 @@
 // The words after the program's name.
-ghost use Rattle.std.specs.Prelude.{◌≡◌, map, string_bytes};
-ghost use Rattle.unity_cli.specs.Words.{command_of};
+ghost use Rattle.std.specs.Prelude.{◌≡◌};
+ghost use Rattle.unity_cli.specs.Words.{asked};
 
 /// What the program is asked to do.
 #[derive(Clone, Copy, Debug, PartialEq, Eq)]
@@ -11,7 +11,7 @@ pub enum Command {
 
 /// The command that the words are, read by position. `None` where they are none.
 pub fn read_words(words: &[String]) -> Option<Command>
-    ensures { result ≡ command_of (map string_bytes words.now) }
+    ensures { result ≡ asked words.now }
 {
     match words {
         [word] => {

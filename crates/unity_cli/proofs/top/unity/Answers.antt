@@ -1,7 +1,9 @@
-use Rattle.std.proofs.Common.{◌∙◌, rules, sym, ap, subst, Err, Some}
+use Rattle.std.proofs.Common.{◌≡◌, ◌∙◌, rules, sym, ap, subst, Err, Some}
+use Rattle.unity_cli.specs.declared.stop.Stop.{Stop}
 use Rattle.unity_cli.specs.Status.{HasText}
+use Rattle.unity_cli.specs.Stop.{stop_status}
 use Rattle.unity_cli.specs.Verdict.{text_of}
-use Rattle.unity_cli.proofs.Answering.{bad_words, only_check, judged, stop_not_done, stop_not_bad_words, stop_has_no_text, stopped_reading, stopped_writing, stopped_early, accepted_safe, accepted_has_executions}
+use Rattle.unity_cli.proofs.Answering.{bad_words, only_check, judged, stop_not_done, stop_has_no_text, stopped_reading, stopped_writing, stopped_early, accepted_safe, accepted_has_executions}
 use Rattle.unity_cli.proofs.top.unity.Goals as goal
 
 pub returns-in-Ok-clause-answer : goal.returns-in-Ok-clause-answer
@@ -52,11 +54,19 @@ returns-clause-safe g c = λ done. absurd (stop_not_done _ (sym c.status-in-Err-
 pub returns-clause-runs : goal.returns-clause-runs
 returns-clause-runs g c = λ done. absurd (stop_not_done _ (sym c.status-in-Err-tell.ensures ∙ done))
 
-pub returns-clause-bad_words : goal.returns-clause-bad_words
-returns-clause-bad_words g c = λ e. absurd (stop_not_bad_words _ (sym c.status-in-Err-tell.ensures ∙ e))
+pub returns-clause-source : goal.returns-clause-source
+returns-clause-source g c = record {
+  later = c.in-Ok-check.ensures.cause.later;
+  rose = λ e. absurd (c.in-Err-tell.ensures.never (ap Err (stopped_reading _ (sym c.status-in-Err-tell.ensures ∙ e))));
+  told = λ more. let never = c.in-Ok-check.ensures.cause.told more in cc;
+}
 
-pub returns-clause-read_fault : goal.returns-clause-read_fault
-returns-clause-read_fault g c = λ e. absurd (c.in-Err-tell.ensures.never (ap Err (stopped_reading _ (sym c.status-in-Err-tell.ensures ∙ e))))
-
-pub returns-clause-write_fault : goal.returns-clause-write_fault
-returns-clause-write_fault g c = λ e. c.in-Err-tell.ensures.fault (ap Err (stopped_writing _ (sym c.status-in-Err-tell.ensures ∙ e)))
+pub returns-clause-sink : goal.returns-clause-sink
+returns-clause-sink g c = record {
+  later = c.in-Err-tell.ensures.cause.later;
+  rose = λ e. c.in-Err-tell.ensures.cause.rose (ap Err (stopped_writing _ (sym c.status-in-Err-tell.ensures ∙ e)));
+  told = λ more.
+      let told = c.in-Err-tell.ensures.cause.told more in
+      let write : c.in-Err-tell.stop ≡ Stop.WriteFault = cc in
+      c.status-in-Err-tell.ensures ∙ ap stop_status write;
+}
