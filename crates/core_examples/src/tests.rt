@@ -3,8 +3,11 @@
 ghost use Rattle.core_examples.specs.Light.{IsLightForm};
 
 use super::*;
-use core_terms::{Arg, copy_form, holds, same, size_of, with_params, zero_form};
+use core_terms::{
+    Arg, CSlot, Print, Range, copy_form, holds, same, size_of, weight_of, with_params, zero_form,
+};
 use std::test::Fail;
+use unity_base::Seq;
 
 const NODES: u32 = 65536;
 
@@ -23,6 +26,20 @@ fn takes_arguments(alloc: Global, f: &CForm) -> Result<bool, AllocError>
 {
     let none: &[Arg] = [].as_slice();
     Ok(size_of(&with_params(alloc, f, none)?) <= size_of(f))
+}
+
+// Whether the formula weighs at most 1, where slot 0 is 0 or 1.
+fn weighs_little(alloc: Global, f: &CForm) -> Result<bool, AllocError>
+    requires { IsLightForm f.now }
+{
+    let mut slots = Seq::new(alloc);
+    slots.push(CSlot {
+        name: 0,
+        index: None,
+        range: Range { lo: 0, hi: 1 },
+        print: Print::Number,
+    })?;
+    Ok(weight_of(f, slots.as_slice(), [].as_slice()) <= 1)
 }
 
 #[test]
@@ -58,19 +75,37 @@ fn takes_deep_terms(rt: HostRuntime) -> Result<(), Fail> {
     Ok(())
 }
 
-// With each level looked down, the time of `with_params` grows with the square of the depth of sums,
-// so the terms are not so deep here.
 #[test]
-fn puts_arguments_into_terms(rt: HostRuntime) -> Result<(), Fail> {
-    for which in [
-        TermAround::Scale,
-        TermAround::Add,
-        TermAround::Sub,
-        TermAround::Branch,
-        TermAround::Condition,
+fn puts_arguments_into_deep_terms(rt: HostRuntime) -> Result<(), Fail> {
+    for (which, part) in [
+        (TermAround::Scale, 1),
+        (TermAround::Add, 2),
+        (TermAround::Sub, 2),
+        (TermAround::Branch, 3),
+        (TermAround::Condition, 4),
     ] {
-        let f = CForm::Zero(deep_term(rt.alloc(), which, 4096)?);
+        let levels = (NODES - 2) / part;
+        let f = CForm::Zero(deep_term(rt.alloc(), which, levels)?);
         assert!(rt; takes_arguments(rt.alloc(), &f)?);
+    }
+    Ok(())
+}
+
+#[test]
+fn weighs_deep_trees(rt: HostRuntime) -> Result<(), Fail> {
+    for (which, part) in [(Around::Not, 1), (Around::And, 2), (Around::Or, 2)] {
+        let f = deep_form(rt.alloc(), which, (NODES - 1) / part)?;
+        assert!(rt; weighs_little(rt.alloc(), &f)?);
+    }
+    for (which, part) in [
+        (TermAround::Scale, 1),
+        (TermAround::Add, 2),
+        (TermAround::Sub, 2),
+        (TermAround::Branch, 3),
+        (TermAround::Condition, 4),
+    ] {
+        let f = CForm::Zero(deep_term(rt.alloc(), which, (NODES - 2) / part)?);
+        assert!(rt; weighs_little(rt.alloc(), &f)?);
     }
     Ok(())
 }

@@ -1,12 +1,14 @@
 -- What is known of a tree is still known when it is folded, and is its value.
-use Rattle.std.proofs.Common.{◌≡◌, ℤ, List, Bool, true, false, cond, Option, Some, None, refl, sym, ap, ◌∙◌, subst}
+use Rattle.std.proofs.Common.{◌≡◌, ◌≤◌, ℤ, List, [], Bool, true, false, cond, Option, Some, None, refl, sym, ap, ◌∙◌, subst}
 use Rattle.core_terms.specs.declared.trees.CTerm.{CTerm, fold-roll-CTerm}
 use Rattle.core_terms.specs.declared.trees.CTerm.TheVariants.{Const, rolls-Const}
 use Rattle.core_terms.specs.declared.trees.CForm.{CForm, fold-roll-CForm}
 use Rattle.core_terms.specs.declared.trees.CForm.TheVariants.{Top, Bottom, rolls-Top, rolls-Bottom}
 use Rattle.core_terms.specs.declared.trees.CForm.TheOpen.{CTerm-F, CForm-F}
 use Rattle.core_terms.specs.Values.{term_value, form_value}
-use Rattle.core_terms.specs.Weights.{one_weight, term_weights}
+use Rattle.std.specs.Prelude.{MatchOption}
+use Rattle.std.specs.Int.RustNames.{unsigned_abs}
+use Rattle.core_terms.specs.Weights.{one_weight, term_weights, plain_weights}
 use Rattle.core_terms.specs.Folding.{number_step, truth_step, number_of, truth_of, is_small, constant_or, truth_or, folded_term, folded_form}
 use Rattle.core_terms.proofs.FoldingLaws.{Right, True, form_right, term_right}
 
@@ -43,3 +45,13 @@ number_is_value s p t z e =
 
 pub truth_is_value : (s p : List ℤ) (f : CForm) (b : Bool) → truth_of f ≡ Some b → form_value s p f ≡ b
 truth_is_value s p f b e = subst (λ m. True m (form_value s p f)) e (form_right s p one_weight one_weight f)
+
+-- a number lies within the weight
+pub number_within : (t : CTerm) (z : ℤ) → number_of t ≡ Some z → unsigned_abs z ≤ (plain_weights t).own
+number_within t z e =
+    (subst (λ m. Right m (term_value [] [] t) (term_weights one_weight one_weight t).own) e (term_right [] [] one_weight one_weight t)).1
+
+pub number_bound : (t : CTerm) (m : Option ℤ) → m ≡ number_of t →
+    MatchOption m (Unit {0}) (λ z. unsigned_abs z ≤ (plain_weights t).own)
+number_bound t None e = tt
+number_bound t (Some z) e = number_within t z (sym e)

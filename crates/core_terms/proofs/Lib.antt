@@ -3,6 +3,7 @@ pub mod CapLaws
 pub mod FoldingLaws
 pub mod FrameLaws
 pub mod KnownLaws
+pub mod LighterLaws
 pub mod PartLaws
 pub mod ReplacingLaws
 pub mod SameLaws

@@ -29,10 +29,10 @@ own_within slots params t =
 pub weights-Const : (slots params : ℕ → ℕ) (z : ℤ) → term_weights slots params (Const z) ≡ weighing (unsigned_abs z) 0
 weights-Const slots params z = ap (term_weights slots params) (sym (rolls-Const z)) ∙ fold-roll-CTerm ℕ Weights weigh_form (weigh_term slots params) (CTerm-F.Const z)
 
-weight-Top : (slots params : ℕ → ℕ) → form_weight slots params Top ≡ 0
+pub weight-Top : (slots params : ℕ → ℕ) → form_weight slots params Top ≡ 0
 weight-Top slots params = ap (form_weight slots params) (sym rolls-Top) ∙ fold-roll-CForm ℕ Weights weigh_form (weigh_term slots params) CForm-F.Top
 
-weight-Bottom : (slots params : ℕ → ℕ) → form_weight slots params Bottom ≡ 0
+pub weight-Bottom : (slots params : ℕ → ℕ) → form_weight slots params Bottom ≡ 0
 weight-Bottom slots params = ap (form_weight slots params) (sym rolls-Bottom) ∙ fold-roll-CForm ℕ Weights weigh_form (weigh_term slots params) CForm-F.Bottom
 
 -- one term weighs at most as another, itself and with its parts

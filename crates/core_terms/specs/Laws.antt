@@ -56,6 +56,21 @@ ReplacingKeepsTerms = (state params after numbers : List ℤ) (slots names : ℕ
     ((n : ℕ) → term_value state params (names n) ≡ number_at numbers n) →
     (t : CTerm) → term_value state params (term_with slots names t) ≡ term_value after numbers t
 
+-- and the formula weighs at most what it does where slots and parameters weigh as the terms that are put for them
+abbrev pub ReplacingWeighsForms : Type 0
+ReplacingWeighsForms = (slots params after numbers : ℕ → ℕ) (terms names : ℕ → CTerm) →
+    ((n : ℕ) → (term_weights slots params (terms n)).most ≤ after n) →
+    ((n : ℕ) → (term_weights slots params (names n)).most ≤ numbers n) →
+    (f : CForm) → form_weight slots params (form_with terms names f) ≤ form_weight after numbers f
+
+abbrev pub ReplacingWeighsTerms : Type 0
+ReplacingWeighsTerms = (slots params after numbers : ℕ → ℕ) (terms names : ℕ → CTerm) →
+    ((n : ℕ) → (term_weights slots params (terms n)).most ≤ after n) →
+    ((n : ℕ) → (term_weights slots params (names n)).most ≤ numbers n) →
+    (t : CTerm) →
+    ((term_weights slots params (term_with terms names t)).own ≤ (term_weights after numbers t).own)
+    × ((term_weights slots params (term_with terms names t)).most ≤ (term_weights after numbers t).most)
+
 -- a value depends on the parameters that are named alone
 abbrev pub FormFrame : Type 0
 FormFrame = (state params others : List ℤ) (f : CForm) →

@@ -24,8 +24,11 @@ pub fn copy_term(alloc: Global, t: &CTerm) -> Result<CTerm, AllocError>
     Ok(held_term(alloc, t)?.into_inner())
 }
 
+/// An equal tree in a place of its own.
+///
+/// An error says that memory was refused.
 #[cycle(copies)]
-fn held_form(alloc: Global, f: &CForm) -> Result<Held<CForm>, AllocError>
+pub fn held_form(alloc: Global, f: &CForm) -> Result<Held<CForm>, AllocError>
     ensures { IfOk result (λ g. g ≡ f.now) }
 {
     match f {
@@ -59,8 +62,11 @@ fn held_or(alloc: Global, g: &Held<CForm>, h: &Held<CForm>) -> Result<Held<CForm
     Held::new(alloc, CForm::Or(first, second))
 }
 
+/// An equal tree in a place of its own.
+///
+/// An error says that memory was refused.
 #[cycle(copies)]
-fn held_term(alloc: Global, t: &CTerm) -> Result<Held<CTerm>, AllocError>
+pub fn held_term(alloc: Global, t: &CTerm) -> Result<Held<CTerm>, AllocError>
     ensures { IfOk result (λ u. u ≡ t.now) }
 {
     match t {

@@ -5,6 +5,7 @@ ghost use Rattle.core_terms.specs.Values.{number_at, term_value, form_value};
 ghost use Rattle.core_terms.specs.Weights.{term_weights, form_weight, number_weight};
 ghost use Rattle.core_terms.specs.Places.{term_slots, form_slots, term_params, form_params};
 
+use crate::folding::scaled;
 use crate::trees::{CForm, CTerm};
 
 /// The value of a term at a state and numbers of the parameters.
@@ -59,13 +60,4 @@ fn number(list: &[i64], place: u32) -> i128
     ensures { result ≡ number_at list.now place }
 {
     list[place as usize] as i128
-}
-
-// So many times a number.
-fn scaled(k: i64, number: i128) -> i128
-    requires { unsigned_abs number ≤ 2 ^ 62 }
-    ensures value { result ≡ k *ℤ number }
-    ensures bound { unsigned_abs result ≡ unsigned_abs k * unsigned_abs number }
-{
-    k as i128 * number
 }

@@ -98,7 +98,8 @@ fn truth_of(f: &CForm) -> Option<bool>
     }
 }
 
-fn scaled(k: i64, number: i128) -> i128
+// So many times a number.
+pub fn scaled(k: i64, number: i128) -> i128
     requires { unsigned_abs k * unsigned_abs number ≤ 2 ^ 126 }
     ensures value { result ≡ k *ℤ number }
     ensures bound { unsigned_abs result ≡ unsigned_abs k * unsigned_abs number }
@@ -115,20 +116,42 @@ pub fn folded_term(t: CTerm) -> CTerm
     ensures own { (plain_weights result).own ≤ (plain_weights t).own }
     ensures most { (plain_weights result).most ≤ (plain_weights t).most }
 {
-    match number_of(&t) {
+    let number = number_of(&t);
+    term_by(t, number)
+}
+
+// The term, folded, where its number is given.
+#[tactic(auto, using(crate::proofs::KnownLaws::known_folded_term))]
+pub fn term_by(t: CTerm, number: Option<i128>) -> CTerm
+    requires { number ≡ fold.number_of t }
+    ensures tree { result ≡ fold.folded_term t }
+    ensures number { fold.number_of result ≡ number }
+{
+    match number {
         Some(z) if z.unsigned_abs() <= 1 << 62 => CTerm::Const(z as i64),
         _ => t,
     }
 }
 
 /// The formula, or `Top` or `Bottom` where it has no slot and no parameter.
-#[tactic(auto, using(crate::proofs::WeightLaws::weight_folded_form))]
 pub fn folded_form(f: CForm) -> CForm
     requires { plain_weight f ≤ 2 ^ 126 }
     ensures tree { result ≡ fold.folded_form f }
     ensures weight { plain_weight result ≤ plain_weight f }
 {
-    match truth_of(&f) {
+    let truth = truth_of(&f);
+    form_by(f, truth)
+}
+
+// The formula, folded, where its truth is given.
+#[tactic(auto, using(crate::proofs::WeightLaws::weight_folded_form, crate::proofs::KnownLaws::known_folded_form))]
+pub fn form_by(f: CForm, truth: Option<bool>) -> CForm
+    requires { truth ≡ fold.truth_of f }
+    ensures tree { result ≡ fold.folded_form f }
+    ensures truth { fold.truth_of result ≡ truth }
+    ensures weight { plain_weight result ≤ plain_weight f }
+{
+    match truth {
         Some(true) => CForm::Top,
         Some(false) => CForm::Bottom,
         None => f,
@@ -251,7 +274,9 @@ pub fn or_form(alloc: Global, f: CForm, g: CForm) -> Result<CForm, AllocError>
     Ok(folded_form(whole))
 }
 
-// A formula, folded, in a place of its own.
+/// A formula, folded, in a place of its own.
+///
+/// An error says that memory was refused.
 #[inline(never)]
 pub fn placed_form(alloc: Global, whole: CForm) -> Result<Held<CForm>, AllocError>
     requires { plain_weight whole ≤ 2 ^ 126 }
@@ -261,7 +286,9 @@ pub fn placed_form(alloc: Global, whole: CForm) -> Result<Held<CForm>, AllocErro
     Held::new(alloc, folded_form(whole))
 }
 
-// A term, folded, in a place of its own.
+/// A term, folded, in a place of its own.
+///
+/// An error says that memory was refused.
 #[inline(never)]
 pub fn placed_term(alloc: Global, whole: CTerm) -> Result<Held<CTerm>, AllocError>
     requires { (plain_weights whole).most ≤ 2 ^ 126 }
@@ -272,9 +299,11 @@ pub fn placed_term(alloc: Global, whole: CTerm) -> Result<Held<CTerm>, AllocErro
     Held::new(alloc, folded_term(whole))
 }
 
-// The choice between two terms, folded, in a place of its own.
+/// The choice between two terms, folded, in a place of its own.
+///
+/// An error says that memory was refused.
 #[inline(never)]
-pub fn chosen(
+pub fn placed_choice(
     alloc: Global,
     c: Held<CForm>,
     a: Held<CTerm>,

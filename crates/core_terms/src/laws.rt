@@ -1,5 +1,5 @@
 // The laws of core trees. The functions do nothing: they state them.
-ghost use Rattle.core_terms.specs.Laws.{FoldingKeepsTerms, FoldingKeepsForms, FoldingRaisesNoTerm, FoldingRaisesNoForm, KnownTermStays, KnownFormStays, KnownTermIsValue, KnownFormIsValue, ReplacingKeepsValue, ReplacingKeepsTerms, FormFrame, TermFrame, SameIsEqual};
+ghost use Rattle.core_terms.specs.Laws.{FoldingKeepsTerms, FoldingKeepsForms, FoldingRaisesNoTerm, FoldingRaisesNoForm, KnownTermStays, KnownFormStays, KnownTermIsValue, KnownFormIsValue, ReplacingKeepsValue, ReplacingKeepsTerms, ReplacingWeighsForms, ReplacingWeighsTerms, FormFrame, TermFrame, SameIsEqual};
 
 /// A folded tree has the value of the tree and weighs no more. What is known of a tree, that is of one
 /// without slot and parameter, is its value, and is known of the folded tree too.
@@ -14,10 +14,13 @@ pub fn folding_laws()
     ensures truth { KnownFormIsValue }
 {}
 
-/// Terms that are put for slots and parameters give the tree the value that it has at the terms' values.
+/// Terms that are put for slots and parameters give the tree the value that it has at the terms' values,
+/// and at most the weight that it has where slots and parameters weigh as the terms.
 pub fn replacing_laws()
     ensures forms { ReplacingKeepsValue }
     ensures terms { ReplacingKeepsTerms }
+    ensures form_weight { ReplacingWeighsForms }
+    ensures term_weight { ReplacingWeighsTerms }
 {}
 
 /// A tree's value depends on no parameter that it does not name.

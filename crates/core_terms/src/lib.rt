@@ -7,6 +7,7 @@ mod equality;
 mod evaluation;
 mod folding;
 mod joining;
+mod known;
 mod laws;
 mod measures;
 mod programs;
@@ -14,15 +15,19 @@ mod replacing;
 mod trees;
 mod weights;
 
-pub use copies::{copy_form, copy_term};
+pub use copies::{copy_form, copy_term, held_form, held_term};
 pub use documents::{Arg, CDocument, CProof, CRule, CSchedule, CStep, Choice, Helper, PTerm, Ref};
 pub use equality::{same, same_term};
 pub use evaluation::{holds, value};
 pub use folding::{
     and_form, at_least_form, choice_term, difference_term, folded_form, folded_term, not_form,
-    or_form, scaled_term, sum_term, zero_form,
+    or_form, placed_choice, placed_form, placed_term, scaled_term, sum_term, zero_form,
 };
 pub use joining::{copy_forms, copy_statement, join_programs};
+pub use known::{
+    and_known, at_least_known, choice_known, difference_known, not_known, or_known, scaled_known,
+    sum_known, zero_known,
+};
 pub use laws::{folding_laws, frame_laws, replacing_laws, same_is_equal};
 pub use measures::{size_of, size_of_term};
 pub use programs::{CProgram, CSlot, CStmt, CWrite, Print};

@@ -23,3 +23,9 @@ decreases-put_difference l = 2 * max (size-CTerm l.a.now) (size-CTerm l.b.now) +
 
 abbrev pub decreases-put_choice : goal.decreases-put_choice
 decreases-put_choice l = 2 * max (size-CForm l.c.now) (max (size-CTerm l.a.now) (size-CTerm l.b.now)) + 1
+
+abbrev pub decreases-put_at_least : goal.decreases-put_at_least
+decreases-put_at_least l = 2 * size-CTerm l.t.now + 1
+
+abbrev pub decreases-put_zero : goal.decreases-put_zero
+decreases-put_zero l = 2 * size-CTerm l.t.now + 1
