@@ -1,5 +1,5 @@
--- The core of an expression or a comparison means what it means, and its bound is small.
-use Rattle.std.proofs.Common.{◌≡◌, ℕ, ◌+◌, ◌*◌, ◌≤◌, ℤ, pos, ◌+ℤ◌, ◌-ℤ◌, [], Option, Some, None, ap, ◌∙◌, arith}
+-- The core of an expression or a comparison means what it means, and weighs little.
+use Rattle.std.proofs.Common.{◌≡◌, ℕ, ◌+◌, ◌*◌, ◌≤◌, ℤ, pos, ◌+ℤ◌, ◌-ℤ◌, [], Option, Some, None, sym, ap, ◌∙◌, subst, arith}
 use Rattle.std.specs.Int.RustNames.{int_le}
 use Rattle.small_documents.specs.declared.tree.Operand.{Operand}
 use Rattle.small_documents.specs.declared.tree.Expression.{Expression}
@@ -8,15 +8,18 @@ use Rattle.small_documents.specs.declared.tree.Comparison.{Comparison}
 use Rattle.small_documents.specs.Step.{State}
 use Rattle.small_documents.specs.Meaning.{operand_value, sum_value, expression_value, related}
 use Rattle.small_documents.specs.Limits.{IsSmallOperand, IsSmallSecond, IsSmallExpression, IsSmallComparison}
-use Rattle.safety_rules.specs.declared.core_terms.CTerm.{CTerm}
-use Rattle.safety_rules.specs.declared.core_terms.CTerm.TheVariants.{Const}
-use Rattle.safety_rules.specs.CoreValue.{int_eq, term_value, form_value}
-use Rattle.safety_rules.specs.Bound.{term_bound, form_bound}
-use Rattle.safety_rules.specs.Folding.{difference_term}
+use Rattle.core_terms.specs.declared.trees.CTerm.{CTerm}
+use Rattle.core_terms.specs.declared.trees.CTerm.TheVariants.{Const}
+use Rattle.state_steps.specs.State.{int_eq}
+use Rattle.core_terms.specs.Values.{term_value, form_value}
+use Rattle.core_terms.specs.Weights.{term_weights, form_weight, one_weight, plain_weight}
+use Rattle.core_terms.specs.Folding.{difference_term}
 use Rattle.safety_rules.specs.CoreOf.{operand_term, with_second, term_of, related_form, form_of, TermMeans, FormMeans}
-use Rattle.safety_rules.proofs.PartLaws.{value-Const, value-Slot, bound-Const, bound-Slot}
+use Rattle.core_terms.proofs.PartLaws.{value-Const, value-Slot}
+use Rattle.core_terms.proofs.WeightLaws.{weights-Const}
+use Rattle.safety_rules.proofs.WeightLaws.{Within, weights-Slot, sum_within, difference_within, at_least_within, zero_within}
 use Rattle.safety_rules.proofs.IntTests.{zero_tests, least_tests, below_tests}
-use Rattle.safety_rules.proofs.FoldingLaws.{value-sum_term, value-difference_term, value-least_form, value-zero_form, bound-sum_term, bound-difference_term, bound-least_form, bound-zero_form}
+use Rattle.core_terms.proofs.FoldingLaws.{value-sum_term, value-difference_term, value-at_least_form, value-zero_form}
 
 operand_means : (state : State) (o : Operand) → term_value state [] (operand_term o) ≡ operand_value state o
 operand_means state (Operand.Variable name) = value-Slot state [] 0
@@ -42,7 +45,7 @@ related_means state Relation.Equal a b x y h k =
     ∙ ap (λ z. x -ℤ z) k)
     ∙ zero_tests x y
 related_means state Relation.Below a b x y h k =
-    value-least_form state [] (difference_term (difference_term b a) (Const (pos 1)))
+    value-at_least_form state [] (difference_term (difference_term b a) (Const (pos 1)))
     ∙ ap (λ z. int_le (pos 0) z)
     (value-difference_term state [] (difference_term b a) (Const (pos 1))
     ∙ ap (λ z. z -ℤ term_value state [] (Const (pos 1)))
@@ -50,7 +53,7 @@ related_means state Relation.Below a b x y h k =
     ∙ ap (λ z. (y -ℤ x) -ℤ z) (value-Const state [] (pos 1)))
     ∙ below_tests x y
 related_means state Relation.AtMost a b x y h k =
-    value-least_form state [] (difference_term b a)
+    value-at_least_form state [] (difference_term b a)
     ∙ ap (λ z. int_le (pos 0) z) (value-difference_term state [] b a ∙ ap (λ z. z -ℤ term_value state [] a) k
     ∙ ap (λ z. y -ℤ z) h)
     ∙ least_tests x y
@@ -61,44 +64,53 @@ form_means c state =
     (expression_value state c.right)
     (term_means c.left state) (term_means c.right state)
 
-operand_bound : (slot : ℕ) (o : Operand) → IsSmallOperand o → term_bound slot (operand_term o) ≤ slot + 1000000000
-operand_bound slot (Operand.Variable name) h = omega (arith, bound-Slot slot 0)
-operand_bound slot (Operand.Constant number) h = omega (arith, bound-Const slot (pos number.value), h)
+operand_within : (slots params : ℕ → ℕ) (o : Operand) → IsSmallOperand o →
+    Within (slots 0 + 1000000000) (term_weights slots params (operand_term o))
+operand_within slots params (Operand.Variable name) h =
+    subst (λ w. Within (slots 0 + 1000000000) w) (sym (weights-Slot slots params 0)) (omega arith, omega arith)
+operand_within slots params (Operand.Constant number) h =
+    subst (λ w. Within (slots 0 + 1000000000) w) (sym (weights-Const slots params (pos number.value)))
+    (omega (arith, h), omega (arith, h))
 
-second_bound : (slot : ℕ) (t : CTerm) (o : Option Operand) → IsSmallSecond o →
-    term_bound slot (with_second t o) ≤ term_bound slot t + slot + 1000000000
-second_bound slot t None h = omega arith
-second_bound slot t (Some o) h = omega (arith, bound-sum_term slot t (operand_term o), operand_bound slot o h)
+second_within : (slots params : ℕ → ℕ) (n : ℕ) (t : CTerm) (o : Option Operand) → IsSmallSecond o →
+    Within n (term_weights slots params t) →
+    Within (n + (slots 0 + 1000000000)) (term_weights slots params (with_second t o))
+second_within slots params n t None h k = (omega (arith, k.0), omega (arith, k.1))
+second_within slots params n t (Some o) h k =
+    sum_within slots params n (slots 0 + 1000000000) t (operand_term o) k (operand_within slots params o h)
 
-pub term_of_bound : (slot : ℕ) (e : Expression) → IsSmallExpression e →
-    term_bound slot (term_of e) ≤ 2 * slot + 2000000000
-term_of_bound slot e h =
-    omega (arith, second_bound slot (operand_term e.first) e.second h.second, operand_bound slot e.first h.first)
+-- what the core of an expression weighs at most, whatever slots weigh
+abbrev pub expression_weight : (ℕ → ℕ) → ℕ
+expression_weight slots = slots 0 + 1000000000 + (slots 0 + 1000000000)
 
-related_bound : (slot : ℕ) (r : Relation) (a b : CTerm) →
-    form_bound slot (related_form r a b) ≤ term_bound slot a + term_bound slot b + 1
-related_bound slot Relation.Equal a b =
-    omega (arith, bound-zero_form slot (difference_term a b), bound-difference_term slot a b)
-related_bound slot Relation.Below a b =
-    omega (
-      arith,
-      bound-least_form slot (difference_term (difference_term b a) (Const (pos 1))),
-      bound-difference_term slot (difference_term b a) (Const (pos 1)),
-      bound-difference_term slot b a,
-      bound-Const slot (pos 1),
-    )
-related_bound slot Relation.AtMost a b =
-    omega (arith, bound-least_form slot (difference_term b a), bound-difference_term slot b a)
+pub term_of_within : (slots params : ℕ → ℕ) (e : Expression) → IsSmallExpression e →
+    Within (expression_weight slots) (term_weights slots params (term_of e))
+term_of_within slots params e h =
+    second_within slots params (slots 0 + 1000000000) (operand_term e.first) e.second h.second
+    (operand_within slots params e.first h.first)
 
-pub form_of_bound : (slot : ℕ) (c : Comparison) → IsSmallComparison c →
-    form_bound slot (form_of c) ≤ 4 * slot + 4000000001
-form_of_bound slot c h =
-    omega (
-      arith,
-      related_bound slot c.relation (term_of c.left) (term_of c.right),
-      term_of_bound slot c.left h.left,
-      term_of_bound slot c.right h.right,
-    )
+related_within : (slots params : ℕ → ℕ) (m n : ℕ) (r : Relation) (a b : CTerm) →
+    Within m (term_weights slots params a) → Within n (term_weights slots params b) →
+    form_weight slots params (related_form r a b) ≤ m + n + 1
+related_within slots params m n Relation.Equal a b h k =
+    let whole = zero_within slots params (m + n) (difference_term a b)
+    (difference_within slots params m n a b h k) in omega (arith, whole)
+related_within slots params m n Relation.Below a b h k =
+    let one = subst (λ w. Within 1 w) (sym (weights-Const slots params (pos 1))) (omega arith, omega arith) in
+    let whole = at_least_within slots params (n + m + 1) (difference_term (difference_term b a) (Const (pos 1)))
+    (difference_within slots params (n + m) 1 (difference_term b a) (Const (pos 1))
+    (difference_within slots params n m b a k h) one) in omega (arith, whole)
+related_within slots params m n Relation.AtMost a b h k =
+    let whole = at_least_within slots params (n + m) (difference_term b a)
+    (difference_within slots params n m b a k h) in omega (arith, whole)
 
-pub form_of_small : (c : Comparison) → IsSmallComparison c → form_bound 1 (form_of c) ≤ 4000000005
-form_of_small c h = omega (arith, form_of_bound 1 c h)
+pub form_of_weight : (slots params : ℕ → ℕ) (c : Comparison) → IsSmallComparison c →
+    form_weight slots params (form_of c) ≤ 4 * slots 0 + 4000000001
+form_of_weight slots params c h =
+    let whole = related_within slots params (expression_weight slots) (expression_weight slots) c.relation
+    (term_of c.left) (term_of c.right) (term_of_within slots params c.left h.left)
+    (term_of_within slots params c.right h.right) in
+    omega (arith, whole)
+
+pub form_of_small : (c : Comparison) → IsSmallComparison c → plain_weight (form_of c) ≤ 4000000005
+form_of_small c h = omega (arith, form_of_weight one_weight one_weight c h)

@@ -11,7 +11,7 @@ use Rattle.small_documents.specs.declared.tree.SmallDocument.{SmallDocument}
 use Rattle.small_documents.specs.Step.{State, is_state}
 use Rattle.small_documents.specs.Meaning.{ranges_of}
 use Rattle.small_documents.specs.Conditions.{are_trees}
-use Rattle.safety_rules.specs.declared.core_terms.CForm.{CForm}
+use Rattle.core_terms.specs.declared.trees.CForm.{CForm}
 use Rattle.safety_rules.specs.declared.certificate_check.Node.{Node}
 use Rattle.safety_rules.specs.Load.{form_load}
 use Rattle.safety_rules.specs.Refutation.{Refuted, is_whole}

@@ -1,6 +1,4 @@
-pub mod PartLaws
-pub mod FoldingLaws
-pub mod ScaleLaws
+pub mod WeightLaws
 pub mod IntTests
 pub mod CoreLaws
 pub mod StepLaws
@@ -23,6 +21,6 @@ pub mod WholeLaws
 pub mod SumLaws
 pub mod WalkLaws
 pub mod LightLaws
-pub mod BoundLaws
+pub mod LoadWeights
 pub mod VariableLaws
 pub mod FollowsLaws

@@ -3,10 +3,10 @@ use Rattle.std.proofs.Common.{◌≡◌, ℕ, zero, suc, ◌≤◌, Bool, true, 
 use Rattle.std.specs.Prelude.{remove}
 use Rattle.std.specs.List.{list_all}
 use Rattle.std.proofs.lemmas.Bool.{and_parts}
-use Rattle.safety_rules.specs.declared.core_terms.CForm.{CForm, out-CForm, fold_out-CForm}
-use Rattle.safety_rules.specs.declared.core_terms.CTerm.{CTerm}
-use Rattle.safety_rules.specs.declared.core_terms.CForm.TheOpen.{CForm-F}
-use Rattle.safety_rules.specs.declared.core_terms.CForm.TheFolds.{map-CForm}
+use Rattle.core_terms.specs.declared.trees.CForm.{CForm, out-CForm, fold_out-CForm}
+use Rattle.core_terms.specs.declared.trees.CTerm.{CTerm}
+use Rattle.core_terms.specs.declared.trees.CForm.TheOpen.{CForm-F}
+use Rattle.core_terms.specs.declared.trees.CForm.TheFolds.{map-CForm}
 use Rattle.safety_rules.specs.Load.{Load, Need, need, term_need, form_need_step, term_need_step}
 use Rattle.safety_rules.specs.Refutation.{sides_in, sides}
 

@@ -2,7 +2,8 @@
 use Rattle.std.proofs.Common.{◌≡◌, ℕ, zero, suc, ℤ, pos, negsuc, ◌+ℤ◌, ◌*ℤ◌, Bool, true, false, cond, List, [], ◌∷◌, length, arith, refl, ap, ◌∙◌}
 use Rattle.std.proofs.lemmas.Int.{ints}
 use lib.IntN.{zero-*ℤ, *ℤ-zero}
-use Rattle.safety_rules.specs.CoreValue.{number_at, int_eq}
+use Rattle.state_steps.specs.State.{int_eq}
+use Rattle.core_terms.specs.Values.{number_at}
 use Rattle.safety_rules.specs.declared.obligations.Line.{Line}
 use Rattle.safety_rules.specs.LinearForms.{add_at, zeros, dot, line_value, sparse, sum_of, fact_value, fact_of, plus, line_plus}
 use Rattle.safety_rules.proofs.RingLaws.{add-times, times-add, times-times}

@@ -2,8 +2,9 @@
 use Rattle.std.proofs.Common.{◌≡◌, ℕ, zero, suc, ◌+◌, ◌<◌, ◌≤◌, ℤ, pos, ◌+ℤ◌, ◌*ℤ◌, Bool, true, false, cond, List, [], ◌∷◌, ◌++◌, append_assoc, take, drop, length, slice_set, slice_index_or, arith, refl, sym, ap, ◌∙◌}
 use Rattle.std.proofs.lemmas.Int.{ints}
 use Rattle.std.specs.Int.RustNames.{unsigned_abs}
-use Rattle.safety_rules.specs.CoreValue.{number_at, int_eq}
-use Rattle.safety_rules.specs.declared.core_terms.CTerm.{CTerm}
+use Rattle.state_steps.specs.State.{int_eq}
+use Rattle.core_terms.specs.Values.{number_at}
+use Rattle.core_terms.specs.declared.trees.CTerm.{CTerm}
 use Rattle.safety_rules.specs.declared.obligations.Variable.{Variable}
 use Rattle.safety_rules.specs.LinearForms.{is_named, place_of, add_at, zeros, plus, line_plus, line_of_const, linear, sparse}
 use Rattle.safety_rules.specs.Load.{sizes, norm}

@@ -6,11 +6,11 @@ use mir.Syntax.{w128}
 use Rattle.std.proofs.Math.Nat.{mul-add}
 use Rattle.std.specs.Int.RustNames.{unsigned_abs}
 use lib.IntN.{*ℤ_comm, *ℤ-zero}
-use Rattle.safety_rules.specs.declared.core_terms.CTerm.{CTerm, roll-CTerm, ind-CTerm}
-use Rattle.safety_rules.specs.declared.core_terms.CTerm.TheVariants.{Const, Slot, Param, Add, Sub, Scale, Ite, rolls-Const, rolls-Slot, rolls-Param, rolls-Add, rolls-Sub, rolls-Scale, rolls-Ite}
-use Rattle.safety_rules.specs.declared.core_terms.CForm.{CForm}
-use Rattle.safety_rules.specs.declared.core_terms.CForm.TheFolds.{map-CTerm}
-use Rattle.safety_rules.specs.declared.core_terms.CForm.TheOpen.{CTerm-F}
+use Rattle.core_terms.specs.declared.trees.CTerm.{CTerm, roll-CTerm, ind-CTerm}
+use Rattle.core_terms.specs.declared.trees.CTerm.TheVariants.{Const, Slot, Param, Add, Sub, Scale, Ite, rolls-Const, rolls-Slot, rolls-Param, rolls-Add, rolls-Sub, rolls-Scale, rolls-Ite}
+use Rattle.core_terms.specs.declared.trees.CForm.{CForm}
+use Rattle.core_terms.specs.declared.trees.CForm.TheFolds.{map-CTerm}
+use Rattle.core_terms.specs.declared.trees.CForm.TheOpen.{CTerm-F}
 use Rattle.safety_rules.specs.declared.obligations.Variable.{Variable}
 use Rattle.safety_rules.specs.declared.obligations.Line.{Line}
 use Rattle.safety_rules.specs.LinearForms.{add_at, zeros, place_of, plus, line_plus, line_of_const, line_of_place, linear}

@@ -3,12 +3,12 @@ use Rattle.std.proofs.Common.{◌≡◌, le_refl, mul-le-mul, ℕ, ◌+◌, ◌*
 use Rattle.std.specs.List.{list_all}
 use Rattle.std.proofs.lemmas.List.Folds.{list_all-append}
 use Rattle.std.specs.Int.RustNames.{unsigned_abs}
-use Rattle.safety_rules.specs.declared.core_terms.CTerm.{CTerm, ind-CTerm, roll-CTerm, fold-roll-CTerm}
-use Rattle.safety_rules.specs.declared.core_terms.CTerm.TheVariants.{Const, Slot, Param, Add, Sub, Scale, Ite, rolls-Const, rolls-Slot, rolls-Param, rolls-Add, rolls-Sub, rolls-Scale, rolls-Ite}
-use Rattle.safety_rules.specs.declared.core_terms.CForm.{CForm, roll-CForm, ind-CForm, fold-roll-CForm}
-use Rattle.safety_rules.specs.declared.core_terms.CForm.TheVariants.{Top, Bottom, AtLeast, Zero, Not, And, Or, rolls-Top, rolls-Bottom, rolls-AtLeast, rolls-Zero, rolls-Not, rolls-And, rolls-Or}
-use Rattle.safety_rules.specs.declared.core_terms.CForm.TheOpen.{CTerm-F, CForm-F}
-use Rattle.safety_rules.specs.declared.core_terms.CForm.TheFolds.{map-CForm, map-CTerm}
+use Rattle.core_terms.specs.declared.trees.CTerm.{CTerm, ind-CTerm, roll-CTerm, fold-roll-CTerm}
+use Rattle.core_terms.specs.declared.trees.CTerm.TheVariants.{Const, Slot, Param, Add, Sub, Scale, Ite, rolls-Const, rolls-Slot, rolls-Param, rolls-Add, rolls-Sub, rolls-Scale, rolls-Ite}
+use Rattle.core_terms.specs.declared.trees.CForm.{CForm, roll-CForm, ind-CForm, fold-roll-CForm}
+use Rattle.core_terms.specs.declared.trees.CForm.TheVariants.{Top, Bottom, AtLeast, Zero, Not, And, Or, rolls-Top, rolls-Bottom, rolls-AtLeast, rolls-Zero, rolls-Not, rolls-And, rolls-Or}
+use Rattle.core_terms.specs.declared.trees.CForm.TheOpen.{CTerm-F, CForm-F}
+use Rattle.core_terms.specs.declared.trees.CForm.TheFolds.{map-CForm, map-CTerm}
 use Rattle.safety_rules.specs.declared.obligations.Branch.{Branch}
 use Rattle.safety_rules.specs.declared.obligations.Variable.{Variable}
 use Rattle.safety_rules.specs.declared.obligations.Choice.{Choice}

@@ -6,19 +6,20 @@ use Rattle.small_documents.specs.declared.tree.Statement.{Statement}
 use Rattle.small_documents.specs.Limits.{IsSmallExpression, IsSmallComparison}
 use Rattle.small_documents.specs.Step.{State, Ranges, in_range, range_at, is_state, is_defined, written}
 use Rattle.small_documents.specs.Meaning.{comparison_holds}
-use Rattle.safety_rules.specs.declared.core_terms.Range.{Range}
-use Rattle.safety_rules.specs.declared.core_terms.CTerm.{CTerm}
-use Rattle.safety_rules.specs.declared.core_terms.CTerm.TheVariants.{Const}
-use Rattle.safety_rules.specs.declared.core_terms.CForm.{CForm}
-use Rattle.safety_rules.specs.declared.wp_substitution.CWrite.{CWrite}
-use Rattle.safety_rules.specs.CoreValue.{term_value, form_value}
-use Rattle.safety_rules.specs.Folding.{difference_term, least_form, not_form}
+use Rattle.core_terms.specs.declared.trees.Range.{Range}
+use Rattle.core_terms.specs.declared.trees.CTerm.{CTerm}
+use Rattle.core_terms.specs.declared.trees.CTerm.TheVariants.{Const}
+use Rattle.core_terms.specs.declared.trees.CForm.{CForm}
+use Rattle.core_terms.specs.declared.programs.CWrite.{CWrite}
+use Rattle.core_terms.specs.Values.{term_value, form_value}
+use Rattle.core_terms.specs.Folding.{difference_term, at_least_form, not_form}
+use Rattle.core_terms.specs.Weights.{one_weight}
 use Rattle.safety_rules.specs.CoreOf.{term_of}
-use Rattle.safety_rules.specs.Precondition.{write_of, write_bound, within_form, inside_form, defined_form, form_after, wp_form, ranges, fired, meets, WriteMeans, IsDefinedness, IsPrecondition}
-use Rattle.safety_rules.proofs.PartLaws.{value-Const, value-Bottom}
-use Rattle.safety_rules.proofs.FoldingLaws.{value-difference_term, value-least_form, value-not_form, value-and_form, value-or_form}
+use Rattle.safety_rules.specs.Precondition.{write_of, write_weight, within_form, inside_form, defined_form, form_after, wp_form, ranges, fired, meets, WriteMeans, IsDefinedness, IsPrecondition}
+use Rattle.core_terms.proofs.PartLaws.{value-Const, value-Bottom}
+use Rattle.core_terms.proofs.FoldingLaws.{value-difference_term, value-at_least_form, value-not_form, value-and_form, value-or_form}
 use Rattle.safety_rules.proofs.IntTests.{least_tests}
-use Rattle.safety_rules.proofs.CoreLaws.{term_means, form_means, term_of_bound, form_of_bound}
+use Rattle.safety_rules.proofs.CoreLaws.{term_means, form_means, term_of_within, form_of_small}
 use Rattle.safety_rules.proofs.StepLaws.{slot_within, length_of_state, range_at-ranges}
 use Rattle.safety_rules.proofs.AfterLaws.{form_same}
 
@@ -27,23 +28,25 @@ write_means s state =
     ap (λ v. cond v ((Some 0, term_value state [] (term_of s.value)) ∷ []) []) (form_means s.condition state)
     ∙ ap (λ z. cond (comparison_holds state s.condition) ((Some 0, z) ∷ []) []) (term_means s.value state)
 
-pub write_of_bound : (s : Statement) → IsSmallComparison s.condition → IsSmallExpression s.value →
-    write_bound (write_of s) ≤ 4000000005
-write_of_bound s h k = omega (arith, form_of_bound 1 s.condition h, term_of_bound 1 s.value k)
+pub write_of_weight : (s : Statement) → IsSmallComparison s.condition → IsSmallExpression s.value →
+    write_weight (write_of s) ≤ 4000000005
+write_of_weight s h k =
+    let value = term_of_within one_weight one_weight s.value k in
+    omega (arith, form_of_small s.condition h, value.1)
 
 within_holds : (state : State) (value : CTerm) (r : Range) →
     form_value state [] (within_form value r) ≡ in_range (Some (r.lo, r.hi)) (term_value state [] value)
 within_holds state value r =
     let z = term_value state [] value in
-    value-and_form state [] (least_form (difference_term value (Const r.lo)))
-    (least_form (difference_term (Const r.hi) value))
-    ∙ ap (λ v. v && form_value state [] (least_form (difference_term (Const r.hi) value)))
-    (value-least_form state [] (difference_term value (Const r.lo))
+    value-and_form state [] (at_least_form (difference_term value (Const r.lo)))
+    (at_least_form (difference_term (Const r.hi) value))
+    ∙ ap (λ v. v && form_value state [] (at_least_form (difference_term (Const r.hi) value)))
+    (value-at_least_form state [] (difference_term value (Const r.lo))
     ∙ ap (λ x. int_le (pos 0) x) (value-difference_term state [] value (Const r.lo)
     ∙ ap (λ x. z -ℤ x) (value-Const state [] r.lo))
     ∙ least_tests r.lo z)
     ∙ ap (λ v. int_le r.lo z && v)
-    (value-least_form state [] (difference_term (Const r.hi) value)
+    (value-at_least_form state [] (difference_term (Const r.hi) value)
     ∙ ap (λ x. int_le (pos 0) x) (value-difference_term state [] (Const r.hi) value
     ∙ ap (λ x. x -ℤ z) (value-Const state [] r.hi))
     ∙ least_tests z r.hi)

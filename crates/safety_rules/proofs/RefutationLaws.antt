@@ -5,12 +5,13 @@ use Rattle.std.specs.Int.RustNames.{int_le}
 use Rattle.std.proofs.lemmas.Int.{ints}
 use Rattle.std.proofs.lemmas.Bool.{true≢false, and_parts, false_from_ne_true, not-true}
 use lib.IntN.{zero-*ℤ, *ℤ-zero}
-use Rattle.safety_rules.specs.declared.core_terms.CForm.{CForm, out-CForm, fold_out-CForm}
-use Rattle.safety_rules.specs.declared.core_terms.CForm.TheFolds.{map-CForm}
-use Rattle.safety_rules.specs.CoreValue.{form_step}
-use Rattle.safety_rules.specs.declared.core_terms.CTerm.{CTerm}
-use Rattle.safety_rules.specs.declared.core_terms.CForm.TheOpen.{CForm-F}
-use Rattle.safety_rules.specs.CoreValue.{number_at, int_eq}
+use Rattle.core_terms.specs.declared.trees.CForm.{CForm, out-CForm, fold_out-CForm}
+use Rattle.core_terms.specs.declared.trees.CForm.TheFolds.{map-CForm}
+use Rattle.core_terms.specs.Values.{form_step}
+use Rattle.core_terms.specs.declared.trees.CTerm.{CTerm}
+use Rattle.core_terms.specs.declared.trees.CForm.TheOpen.{CForm-F}
+use Rattle.state_steps.specs.State.{int_eq}
+use Rattle.core_terms.specs.Values.{number_at}
 use Rattle.safety_rules.specs.declared.obligations.Fact.{Fact}
 use Rattle.safety_rules.specs.declared.obligations.Branch.{Branch}
 use Rattle.safety_rules.specs.declared.obligations.Variable.{Variable}

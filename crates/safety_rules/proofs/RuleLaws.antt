@@ -4,13 +4,13 @@ use Rattle.std.proofs.lemmas.Bool.{and_parts}
 use Rattle.small_documents.specs.declared.tree.SmallDocument.{SmallDocument}
 use Rattle.small_documents.specs.Step.{State, Ranges, in_range, range_at, is_state, put, step}
 use Rattle.small_documents.specs.Meaning.{comparison_holds, expression_value, ranges_of, statement_step, chosen_step, Steps, Everywhere}
-use Rattle.safety_rules.specs.declared.core_terms.CForm.{CForm}
-use Rattle.safety_rules.specs.CoreValue.{form_value}
-use Rattle.safety_rules.specs.Folding.{not_form}
+use Rattle.core_terms.specs.declared.trees.CForm.{CForm}
+use Rattle.core_terms.specs.Values.{form_value}
+use Rattle.core_terms.specs.Folding.{not_form}
 use Rattle.safety_rules.specs.CoreOf.{form_of}
 use Rattle.safety_rules.specs.Precondition.{wp_form, write_step, meets}
 use Rattle.safety_rules.specs.StepForms.{slots_of, program_write, imply_form, defined_obligation, kept_obligation, IsValid, DefinedRule, RunRule, InvariantRule, SoundSteps}
-use Rattle.safety_rules.proofs.FoldingLaws.{value-not_form, value-or_form}
+use Rattle.core_terms.proofs.FoldingLaws.{value-not_form, value-or_form}
 use Rattle.safety_rules.proofs.CoreLaws.{form_means}
 use Rattle.safety_rules.proofs.StepLaws.{is_state-put}
 use Rattle.safety_rules.proofs.PreconditionLaws.{write_means, definedness, precondition}

@@ -5,13 +5,14 @@ use Rattle.std.proofs.lemmas.List.Folds.{list_all-append}
 use Rattle.std.proofs.lemmas.Int.{ints}
 use Rattle.std.specs.Int.RustNames.{int_le}
 use lib.IntN.{*ℤ_comm, *ℤ-one}
-use Rattle.safety_rules.specs.declared.core_terms.CTerm.{CTerm, ind-CTerm, roll-CTerm, fold-CTerm, fold-roll-CTerm}
-use Rattle.safety_rules.specs.declared.core_terms.CTerm.TheVariants.{Const, Slot, Param, Add, Sub, Scale, Ite, rolls-Const, rolls-Slot, rolls-Param, rolls-Add, rolls-Sub, rolls-Scale, rolls-Ite}
-use Rattle.safety_rules.specs.declared.core_terms.CForm.{CForm, roll-CForm, ind-CForm, fold-CForm, fold-roll-CForm}
-use Rattle.safety_rules.specs.declared.core_terms.CForm.TheVariants.{Top, Bottom, AtLeast, Zero, Not, And, Or, rolls-Top, rolls-Bottom, rolls-AtLeast, rolls-Zero, rolls-Not, rolls-And, rolls-Or}
-use Rattle.safety_rules.specs.declared.core_terms.CForm.TheOpen.{CTerm-F, CForm-F}
-use Rattle.safety_rules.specs.declared.core_terms.CForm.TheFolds.{map-CForm, map-CTerm}
-use Rattle.safety_rules.specs.CoreValue.{int_eq, number_at, form_step}
+use Rattle.core_terms.specs.declared.trees.CTerm.{CTerm, ind-CTerm, roll-CTerm, fold-CTerm, fold-roll-CTerm}
+use Rattle.core_terms.specs.declared.trees.CTerm.TheVariants.{Const, Slot, Param, Add, Sub, Scale, Ite, rolls-Const, rolls-Slot, rolls-Param, rolls-Add, rolls-Sub, rolls-Scale, rolls-Ite}
+use Rattle.core_terms.specs.declared.trees.CForm.{CForm, roll-CForm, ind-CForm, fold-CForm, fold-roll-CForm}
+use Rattle.core_terms.specs.declared.trees.CForm.TheVariants.{Top, Bottom, AtLeast, Zero, Not, And, Or, rolls-Top, rolls-Bottom, rolls-AtLeast, rolls-Zero, rolls-Not, rolls-And, rolls-Or}
+use Rattle.core_terms.specs.declared.trees.CForm.TheOpen.{CTerm-F, CForm-F}
+use Rattle.core_terms.specs.declared.trees.CForm.TheFolds.{map-CForm, map-CTerm}
+use Rattle.state_steps.specs.State.{int_eq}
+use Rattle.core_terms.specs.Values.{number_at, form_step}
 use Rattle.safety_rules.specs.declared.obligations.Branch.{Branch}
 use Rattle.safety_rules.specs.declared.obligations.Variable.{Variable}
 use Rattle.safety_rules.specs.declared.obligations.Line.{Line}

@@ -4,8 +4,8 @@ use Rattle.std.proofs.lemmas.Bool.{and_parts}
 use Rattle.std.proofs.lemmas.Bool.Decides.{eqb_tells}
 use Rattle.std.specs.Option.{option_map}
 use Rattle.small_documents.specs.Step.{State, Ranges, in_range, range_at, is_state, put}
-use Rattle.safety_rules.specs.declared.core_terms.Range.{Range}
-use Rattle.safety_rules.specs.CoreValue.{number_at}
+use Rattle.core_terms.specs.declared.trees.Range.{Range}
+use Rattle.core_terms.specs.Values.{number_at}
 use Rattle.safety_rules.specs.Precondition.{ranges}
 
 put-same : (xs : List ℤ) (n : ℕ) (z : ℤ) → n < length xs → number_at (put xs n z) n ≡ z

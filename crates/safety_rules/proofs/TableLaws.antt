@@ -1,10 +1,10 @@
 -- What settling does, form by form.
 use Rattle.std.proofs.Common.{◌≡◌, ℕ, suc, negsuc, List, [], ◌∷◌, ◌++◌, refl, sym, ap, ◌∙◌, append_assoc}
-use Rattle.safety_rules.specs.declared.core_terms.CTerm.{CTerm}
-use Rattle.safety_rules.specs.declared.core_terms.CForm.{CForm, roll-CForm}
-use Rattle.safety_rules.specs.declared.core_terms.CForm.TheVariants.{Top, Bottom, AtLeast, Zero, Not, And, Or, rolls-Top, rolls-Bottom, rolls-AtLeast, rolls-Zero, rolls-Not, rolls-And, rolls-Or}
-use Rattle.safety_rules.specs.declared.core_terms.CForm.TheOpen.{CForm-F}
-use Rattle.safety_rules.specs.declared.core_terms.CForm.TheFolds.{map-CForm}
+use Rattle.core_terms.specs.declared.trees.CTerm.{CTerm}
+use Rattle.core_terms.specs.declared.trees.CForm.{CForm, roll-CForm}
+use Rattle.core_terms.specs.declared.trees.CForm.TheVariants.{Top, Bottom, AtLeast, Zero, Not, And, Or, rolls-Top, rolls-Bottom, rolls-AtLeast, rolls-Zero, rolls-Not, rolls-And, rolls-Or}
+use Rattle.core_terms.specs.declared.trees.CForm.TheOpen.{CForm-F}
+use Rattle.core_terms.specs.declared.trees.CForm.TheFolds.{map-CForm}
 use Rattle.safety_rules.specs.declared.obligations.Branch.{Branch}
 use Rattle.safety_rules.specs.declared.obligations.Variable.{Variable}
 use Rattle.safety_rules.specs.declared.obligations.Line.{Line}

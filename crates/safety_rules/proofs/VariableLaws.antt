@@ -5,14 +5,15 @@ use Rattle.std.specs.List.{list_any}
 use Rattle.std.specs.Int.RustNames.{int_le}
 use Rattle.std.proofs.lemmas.Bool.{eqb-true}
 use Rattle.std.proofs.lemmas.List.Folds.{list_any-append}
-use Rattle.safety_rules.specs.declared.core_terms.CTerm.{CTerm, roll-CTerm, fold-roll-CTerm}
-use Rattle.safety_rules.specs.declared.core_terms.CForm.{CForm, roll-CForm, ind-CForm, fold-roll-CForm}
-use Rattle.safety_rules.specs.declared.core_terms.CForm.TheOpen.{CTerm-F, CForm-F}
-use Rattle.safety_rules.specs.declared.core_terms.CForm.TheFolds.{map-CForm, map-CTerm}
-use Rattle.safety_rules.specs.declared.core_terms.Range.{Range}
+use Rattle.core_terms.specs.declared.trees.CTerm.{CTerm, roll-CTerm, fold-roll-CTerm}
+use Rattle.core_terms.specs.declared.trees.CForm.{CForm, roll-CForm, ind-CForm, fold-roll-CForm}
+use Rattle.core_terms.specs.declared.trees.CForm.TheOpen.{CTerm-F, CForm-F}
+use Rattle.core_terms.specs.declared.trees.CForm.TheFolds.{map-CForm, map-CTerm}
+use Rattle.core_terms.specs.declared.trees.Range.{Range}
 use Rattle.safety_rules.specs.declared.obligations.Variable.{Variable}
 use Rattle.safety_rules.specs.declared.obligations.Obligation.{Obligation}
-use Rattle.safety_rules.specs.CoreValue.{int_eq, number_at, term_step, form_step, term_value, form_value}
+use Rattle.state_steps.specs.State.{int_eq}
+use Rattle.core_terms.specs.Values.{number_at, term_step, form_step, term_value, form_value}
 use Rattle.safety_rules.specs.LinearForms.{is_named, place_of}
 use Rattle.safety_rules.specs.Settling.{term_at_step, term_at, form_at}
 use Rattle.safety_rules.specs.Opening.{in_ranges, Valid}

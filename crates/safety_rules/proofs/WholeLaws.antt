@@ -5,7 +5,7 @@ use Rattle.safety_rules.specs.declared.certificate_check.Pending.{Pending}
 use Rattle.safety_rules.specs.declared.obligations.Branch.{Branch}
 use Rattle.case_tables.specs.declared.code_table.Code.{Code}
 use Rattle.safety_rules.specs.declared.obligations.Variable.{Variable}
-use Rattle.safety_rules.specs.declared.core_terms.CForm.{CForm}
+use Rattle.core_terms.specs.declared.trees.CForm.{CForm}
 use Rattle.safety_rules.specs.declared.obligations.Line.{Line}
 use Rattle.safety_rules.specs.Refutation.{Made, fails, opens, made_case, made_sum, made_by, made, is_false, all_pairs, pending, refuted, unfinished, after, walk, at_level, Tree, case_node, sum_node, nodes_of, Refutes, Refuted, judged}
 use Rattle.safety_rules.specs.declared.obligations.Obligation.{Obligation}

@@ -6,11 +6,11 @@ use Rattle.small_documents.specs.declared.tree.Relation.{Relation}
 use Rattle.small_documents.specs.declared.tree.Comparison.{Comparison}
 use Rattle.small_documents.specs.Step.{State}
 use Rattle.small_documents.specs.Meaning.{expression_value, comparison_holds}
-use Rattle.safety_rules.specs.declared.core_terms.CTerm.{CTerm}
-use Rattle.safety_rules.specs.declared.core_terms.CTerm.TheVariants.{Const, Slot}
-use Rattle.safety_rules.specs.declared.core_terms.CForm.{CForm}
-use Rattle.safety_rules.specs.CoreValue.{term_value, form_value}
-use Rattle.safety_rules.specs.Folding.{sum_term, difference_term, least_form, zero_form}
+use Rattle.core_terms.specs.declared.trees.CTerm.{CTerm}
+use Rattle.core_terms.specs.declared.trees.CTerm.TheVariants.{Const, Slot}
+use Rattle.core_terms.specs.declared.trees.CForm.{CForm}
+use Rattle.core_terms.specs.Values.{term_value, form_value}
+use Rattle.core_terms.specs.Folding.{sum_term, difference_term, at_least_form, zero_form}
 
 -- the core of a variable or a number
 abbrev pub operand_term : Operand → CTerm
@@ -29,8 +29,8 @@ term_of e = with_second (operand_term e.first) e.second
 -- `a = b`, `a < b` and `a <= b`
 abbrev pub related_form : Relation → CTerm → CTerm → CForm
 related_form Relation.Equal a b = zero_form (difference_term a b)
-related_form Relation.Below a b = least_form (difference_term (difference_term b a) (Const (pos 1)))
-related_form Relation.AtMost a b = least_form (difference_term b a)
+related_form Relation.Below a b = at_least_form (difference_term (difference_term b a) (Const (pos 1)))
+related_form Relation.AtMost a b = at_least_form (difference_term b a)
 
 -- the core of a comparison
 abbrev pub form_of : Comparison → CForm

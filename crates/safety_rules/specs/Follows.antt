@@ -6,7 +6,7 @@ use Rattle.small_documents.specs.declared.tree.Certificate.{Certificate}
 use Rattle.small_documents.specs.declared.tree.SmallDocument.{SmallDocument}
 use Rattle.small_documents.specs.Meaning.{is_initial, IsSafe, EveryChoiceRuns}
 use Rattle.small_documents.specs.Conditions.{are_trees, IsWellFormed}
-use Rattle.safety_rules.specs.declared.core_terms.CForm.{CForm}
+use Rattle.core_terms.specs.declared.trees.CForm.{CForm}
 use Rattle.safety_rules.specs.declared.obligations.Obligation.{Obligation}
 use Rattle.safety_rules.specs.declared.certificate_check.Node.{Node}
 use Rattle.safety_rules.specs.Load.{form_load}

@@ -1,6 +1,3 @@
-pub mod CoreValue
-pub mod Bound
-pub mod Folding
 pub mod CoreOf
 pub mod Precondition
 pub mod StepForms

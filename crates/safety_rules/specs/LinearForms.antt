@@ -1,12 +1,13 @@
 -- Linear forms over the variables of an obligation, and the facts that are made of them.
 use Rattle.std.specs.Prelude.{ℕ, zero, suc, nat_eq, ℤ, pos, negsuc, ◌+ℤ◌, ◌*ℤ◌, Bool, true, false, cond, not, ◌&&◌, List, [], ◌∷◌, map, ⊤}
 use Rattle.std.specs.Int.RustNames.{int_le}
-use Rattle.safety_rules.specs.declared.core_terms.CTerm.{CTerm, fold-CTerm}
-use Rattle.safety_rules.specs.declared.core_terms.CForm.TheOpen.{CTerm-F, CForm-F}
+use Rattle.core_terms.specs.declared.trees.CTerm.{CTerm, fold-CTerm}
+use Rattle.core_terms.specs.declared.trees.CForm.TheOpen.{CTerm-F, CForm-F}
 use Rattle.safety_rules.specs.declared.obligations.Variable.{Variable}
 use Rattle.safety_rules.specs.declared.obligations.Line.{Line}
 use Rattle.safety_rules.specs.declared.obligations.Fact.{Fact}
-use Rattle.safety_rules.specs.CoreValue.{number_at, int_eq}
+use Rattle.state_steps.specs.State.{int_eq}
+use Rattle.core_terms.specs.Values.{number_at}
 
 -- whether a variable is the slot (false) or the parameter (true) of this number
 abbrev pub is_named : Variable → Bool → ℕ → Bool

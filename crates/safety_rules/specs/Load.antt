@@ -2,9 +2,9 @@
 use Rattle.std.specs.Prelude.{ℕ, ◌+◌, ◌*◌, ◌^◌, max, ℤ, List, [], ◌∷◌, Bool, nat_le}
 use Rattle.std.specs.List.{list_all}
 use Rattle.std.specs.Int.RustNames.{unsigned_abs}
-use Rattle.safety_rules.specs.declared.core_terms.CTerm.{CTerm, fold-CTerm}
-use Rattle.safety_rules.specs.declared.core_terms.CForm.{CForm, fold-CForm}
-use Rattle.safety_rules.specs.declared.core_terms.CForm.TheOpen.{CTerm-F, CForm-F}
+use Rattle.core_terms.specs.declared.trees.CTerm.{CTerm, fold-CTerm}
+use Rattle.core_terms.specs.declared.trees.CForm.{CForm, fold-CForm}
+use Rattle.core_terms.specs.declared.trees.CForm.TheOpen.{CTerm-F, CForm-F}
 use Rattle.safety_rules.specs.declared.obligations.Line.{Line}
 use Rattle.safety_rules.specs.declared.obligations.Branch.{Branch}
 

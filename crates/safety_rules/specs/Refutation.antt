@@ -2,10 +2,11 @@
 use Rattle.std.specs.Prelude.{◌≡◌, nat_eq, ℕ, zero, suc, ◌+◌, ◌^◌, nat_le, ℤ, pos, ◌+ℤ◌, ◌*ℤ◌, Bool, false, cond, not, ◌&&◌, Option, Some, None, Result, Ok, Err, List, [], ◌∷◌, ◌++◌, map, slice_get, remove, reverse}
 use Rattle.std.specs.List.{list_all}
 use Rattle.std.specs.Int.RustNames.{int_le}
-use Rattle.safety_rules.specs.declared.core_terms.CForm.{CForm, out-CForm}
-use Rattle.safety_rules.specs.declared.core_terms.CTerm.{CTerm}
-use Rattle.safety_rules.specs.declared.core_terms.CForm.TheOpen.{CForm-F}
-use Rattle.safety_rules.specs.CoreValue.{number_at, int_eq}
+use Rattle.core_terms.specs.declared.trees.CForm.{CForm, out-CForm}
+use Rattle.core_terms.specs.declared.trees.CTerm.{CTerm}
+use Rattle.core_terms.specs.declared.trees.CForm.TheOpen.{CForm-F}
+use Rattle.state_steps.specs.State.{int_eq}
+use Rattle.core_terms.specs.Values.{number_at}
 use Rattle.safety_rules.specs.declared.obligations.Fact.{Fact}
 use Rattle.safety_rules.specs.declared.obligations.Branch.{Branch}
 use Rattle.safety_rules.specs.declared.obligations.Variable.{Variable}

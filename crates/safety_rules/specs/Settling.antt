@@ -1,16 +1,16 @@
 -- Settling: what a formula, taken to hold, adds to a branch.
 use Rattle.std.specs.Prelude.{◌≡◌, ℤ, pos, negsuc, ◌+ℤ◌, ◌-ℤ◌, ◌*ℤ◌, Bool, false, true, cond, not, ◌&&◌, Option, Some, None, List, [], ◌∷◌, ◌++◌, length}
 use Rattle.std.specs.List.{list_all}
-use Rattle.safety_rules.specs.declared.core_terms.CTerm.{CTerm, fold-CTerm}
-use Rattle.safety_rules.specs.declared.core_terms.CTerm.TheVariants.{Const, Slot, Param, Add, Sub, Scale, Ite}
-use Rattle.safety_rules.specs.declared.core_terms.CForm.{CForm, fold-CForm}
-use Rattle.safety_rules.specs.declared.core_terms.CForm.TheVariants.{Top, Bottom, AtLeast, Zero, Not, And, Or}
-use Rattle.safety_rules.specs.declared.core_terms.CForm.TheOpen.{CTerm-F, CForm-F}
+use Rattle.core_terms.specs.declared.trees.CTerm.{CTerm, fold-CTerm}
+use Rattle.core_terms.specs.declared.trees.CTerm.TheVariants.{Const, Slot, Param, Add, Sub, Scale, Ite}
+use Rattle.core_terms.specs.declared.trees.CForm.{CForm, fold-CForm}
+use Rattle.core_terms.specs.declared.trees.CForm.TheVariants.{Top, Bottom, AtLeast, Zero, Not, And, Or}
+use Rattle.core_terms.specs.declared.trees.CForm.TheOpen.{CTerm-F, CForm-F}
 use Rattle.safety_rules.specs.declared.obligations.Variable.{Variable}
 use Rattle.safety_rules.specs.declared.obligations.Line.{Line}
 use Rattle.safety_rules.specs.declared.obligations.Branch.{Branch}
 use Rattle.safety_rules.specs.declared.obligations.Choice.{Choice}
-use Rattle.safety_rules.specs.CoreValue.{number_at, form_step}
+use Rattle.core_terms.specs.Values.{number_at, form_step}
 use Rattle.safety_rules.specs.LinearForms.{place_of, line_of_const, negated, linear, fact_of, fact_holds}
 
 -- a term's value at values of the variables, from those of its parts; what is no variable is worth 0

@@ -3,9 +3,9 @@ use Rattle.std.specs.Prelude.{ℤ, pos, [], ◌∷◌, Bool, false, cond, Option
 use Rattle.small_documents.specs.declared.tree.SmallDocument.{SmallDocument}
 use Rattle.small_documents.specs.Step.{State, in_range}
 use Rattle.small_documents.specs.Meaning.{comparison_holds, is_initial}
-use Rattle.safety_rules.specs.declared.core_terms.CTerm.{CTerm, out-CTerm}
-use Rattle.safety_rules.specs.declared.core_terms.CForm.{CForm, out-CForm}
-use Rattle.safety_rules.specs.declared.core_terms.CForm.TheOpen.{CTerm-F, CForm-F}
+use Rattle.core_terms.specs.declared.trees.CTerm.{CTerm, out-CTerm}
+use Rattle.core_terms.specs.declared.trees.CForm.{CForm, out-CForm}
+use Rattle.core_terms.specs.declared.trees.CForm.TheOpen.{CTerm-F, CForm-F}
 use Rattle.safety_rules.specs.CoreOf.{form_of}
 
 -- the number of a constant's layer

@@ -3,11 +3,11 @@ use Rattle.std.specs.Prelude.{pos, List, [], ◌∷◌, IsTrue, All}
 use Rattle.small_documents.specs.declared.tree.SmallDocument.{SmallDocument}
 use Rattle.small_documents.specs.Step.{State, is_state}
 use Rattle.small_documents.specs.Meaning.{ranges_of, IsAlwaysDefined, IsInvariant, IsSafe, EveryChoiceRuns}
-use Rattle.safety_rules.specs.declared.core_terms.Range.{Range}
-use Rattle.safety_rules.specs.declared.core_terms.CForm.{CForm}
-use Rattle.safety_rules.specs.declared.wp_substitution.CWrite.{CWrite}
-use Rattle.safety_rules.specs.CoreValue.{form_value}
-use Rattle.safety_rules.specs.Folding.{not_form, or_form}
+use Rattle.core_terms.specs.declared.trees.Range.{Range}
+use Rattle.core_terms.specs.declared.trees.CForm.{CForm}
+use Rattle.core_terms.specs.declared.programs.CWrite.{CWrite}
+use Rattle.core_terms.specs.Values.{form_value}
+use Rattle.core_terms.specs.Folding.{not_form, or_form}
 use Rattle.safety_rules.specs.CoreOf.{form_of}
 use Rattle.safety_rules.specs.Precondition.{write_of, defined_form, wp_form}
 

@@ -2,13 +2,13 @@
 use Rattle.std.specs.Prelude.{◌≡◌, ℕ, suc, nat_eq, ℤ, Bool, true, false, not, ◌&&◌, ◌||◌, List, [], ◌∷◌, ◌++◌}
 use Rattle.std.specs.List.{filter}
 use Rattle.std.specs.Int.RustNames.{int_le}
-use Rattle.safety_rules.specs.declared.core_terms.CTerm.{CTerm, fold-CTerm}
-use Rattle.safety_rules.specs.declared.core_terms.CForm.{CForm, fold-CForm}
-use Rattle.safety_rules.specs.declared.core_terms.CForm.TheOpen.{CTerm-F, CForm-F}
-use Rattle.safety_rules.specs.declared.core_terms.Range.{Range}
+use Rattle.core_terms.specs.declared.trees.CTerm.{CTerm, fold-CTerm}
+use Rattle.core_terms.specs.declared.trees.CForm.{CForm, fold-CForm}
+use Rattle.core_terms.specs.declared.trees.CForm.TheOpen.{CTerm-F, CForm-F}
+use Rattle.core_terms.specs.declared.trees.Range.{Range}
 use Rattle.safety_rules.specs.declared.obligations.Variable.{Variable}
 use Rattle.safety_rules.specs.declared.obligations.Obligation.{Obligation}
-use Rattle.safety_rules.specs.CoreValue.{form_value}
+use Rattle.core_terms.specs.Values.{form_value}
 use Rattle.safety_rules.specs.Opening.{Valid}
 
 -- whether a term has the slot (false) or the parameter (true) of this number, from whether its parts do

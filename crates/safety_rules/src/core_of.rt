@@ -1,23 +1,23 @@
 // The core of a small document's expressions and comparisons. The one variable is slot 0.
 ghost use Rattle.std.specs.Prelude.{◌≡◌, ℕ, ◌+◌, ◌*◌, ◌≤◌, IfOk};
 ghost use Rattle.small_documents.specs.Limits.{IsSmallOperand, IsSmallExpression, IsSmallComparison};
-ghost use Rattle.safety_rules.specs.Bound.{term_bound, form_bound};
+ghost use Rattle.core_terms.specs.Weights.{plain_weights, plain_weight, form_weight, one_weight};
 ghost use Rattle.safety_rules.specs.CoreOf.{operand_term, term_of, related_form, form_of, TermMeans, FormMeans};
 
-use crate::core_terms::{CForm, CTerm};
-use crate::folding::{difference_term, least_form, sum_term, zero_form};
+use core_terms::{CForm, CTerm, at_least_form, difference_term, sum_term, zero_form};
 use small_documents::{Comparison, Expression, Operand, Relation};
 use std::alloc::{AllocError, Global};
 use unity_base::Held;
 
-fn term_of_operand(alloc: Global, operand: &Operand) -> Result<Held<CTerm>, AllocError>
+fn term_of_operand(operand: &Operand) -> CTerm
     requires { IsSmallOperand operand.now }
-    ensures tree { IfOk result (λ t. t ≡ operand_term operand.now) }
-    ensures bound { IfOk result (λ t. term_bound 1 t ≤ 1000000000) }
+    ensures tree { result ≡ operand_term operand.now }
+    ensures own { (plain_weights result).own ≤ 1000000000 }
+    ensures most { (plain_weights result).most ≤ 1000000000 }
 {
     match operand {
-        Operand::Variable(_) => Held::new(alloc, CTerm::Slot(0)),
-        Operand::Constant(number) => Held::new(alloc, CTerm::Const(number.value as i64)),
+        Operand::Variable(_) => CTerm::Slot(0),
+        Operand::Constant(number) => CTerm::Const(number.value as i64),
     }
 }
 
@@ -29,12 +29,12 @@ pub fn expression_term(alloc: Global, e: &Expression) -> Result<Held<CTerm>, All
     ensures tree { IfOk result (λ t. t ≡ term_of e.now) }
     ensures meaning { IfOk result (λ t. TermMeans e.now t) }
 {
-    let first = term_of_operand(alloc, &e.first)?;
+    let first = term_of_operand(&e.first);
     match &e.second {
-        None => Ok(first),
+        None => Held::new(alloc, first),
         Some(second) => {
-            let second = term_of_operand(alloc, second)?;
-            sum_term(alloc, first, second)
+            let sum = sum_term(alloc, first, term_of_operand(second))?;
+            Held::new(alloc, sum)
         }
     }
 }
@@ -45,24 +45,25 @@ fn form_of_relation(
     a: Held<CTerm>,
     b: Held<CTerm>,
 ) -> Result<Held<CForm>, AllocError>
-    requires left { term_bound 1 a ≤ 3000000000 }
-    requires right { term_bound 1 b ≤ 3000000000 }
+    requires left_own { (plain_weights a).own ≤ 3000000000 }
+    requires left_most { (plain_weights a).most ≤ 3000000000 }
+    requires right_own { (plain_weights b).own ≤ 3000000000 }
+    requires right_most { (plain_weights b).most ≤ 3000000000 }
     ensures { IfOk result (λ f. f ≡ related_form relation a b) }
 {
     match relation {
         Relation::Equal => {
-            let difference = difference_term(alloc, a, b)?;
-            zero_form(alloc, difference)
+            let difference = difference_term(alloc, a.into_inner(), b.into_inner())?;
+            Held::new(alloc, zero_form(difference))
         }
         Relation::Below => {
-            let above = difference_term(alloc, b, a)?;
-            let one = Held::new(alloc, CTerm::Const(1))?;
-            let difference = difference_term(alloc, above, one)?;
-            least_form(alloc, difference)
+            let above = difference_term(alloc, b.into_inner(), a.into_inner())?;
+            let difference = difference_term(alloc, above, CTerm::Const(1))?;
+            Held::new(alloc, at_least_form(difference))
         }
         Relation::AtMost => {
-            let difference = difference_term(alloc, b, a)?;
-            least_form(alloc, difference)
+            let difference = difference_term(alloc, b.into_inner(), a.into_inner())?;
+            Held::new(alloc, at_least_form(difference))
         }
     }
 }
@@ -72,8 +73,8 @@ fn form_of_relation(
 pub fn comparison_form(alloc: Global, c: &Comparison) -> Result<Held<CForm>, AllocError>
     requires { IsSmallComparison c.now }
     ensures tree { IfOk result (λ f. f ≡ form_of c.now) }
-    ensures small { IfOk result (λ f. form_bound 1 f ≤ 4000000005) }
-    ensures bound { IfOk result (λ f. (slot : ℕ) → form_bound slot f ≤ 4 * slot + 4000000001) }
+    ensures small { IfOk result (λ f. plain_weight f ≤ 4000000005) }
+    ensures weight { IfOk result (λ f. (slots : ℕ → ℕ) → form_weight slots one_weight f ≤ 4 * slots 0 + 4000000001) }
     ensures meaning { IfOk result (λ f. FormMeans c.now f) }
 {
     let left = expression_term(alloc, &c.left)?;

@@ -6,12 +6,11 @@ ghost use Rattle.safety_rules.specs.Load.{form_load};
 ghost use Rattle.safety_rules.specs.Follows.{pair_of, node_of, obligation, IsRefuted, AreRefuted, IsCertified, AreLight, AreWhole, Follows, AcceptedIsSafe, AcceptedRuns};
 
 use crate::certificate_check::{Cert, CertError, Node, check_cert};
-use crate::copy::copy_form;
-use crate::core_terms::CForm;
 use crate::obligations::Obligation;
 use crate::obligations::make::make;
 use crate::start_state::starts;
 use crate::step_rules::{obligation_forms, slot_range};
+use core_terms::{CForm, held_form};
 use small_documents::{self as written, Certificate, Pair, SmallDocument};
 use std::alloc::{AllocError, Global};
 use unity_base::{Held, Seq};
@@ -72,7 +71,7 @@ fn obligation_of(
     requires { IsSmall document.now }
     ensures { IfOk result (λ o. o ≡ obligation document.now form.now) }
 {
-    let form = copy_form(alloc, form)?;
+    let form = held_form(alloc, form)?;
     let slots = [slot_range(document)];
     make(alloc, form, &slots, &[])
 }

@@ -2,10 +2,7 @@
 #![tactic(auto)]
 
 mod certificate_check;
-mod copy;
 mod core_of;
-mod core_terms;
-mod folding;
 mod following;
 mod obligations;
 mod start_state;

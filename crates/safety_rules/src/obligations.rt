@@ -1,6 +1,6 @@
 //! What a proof rule leaves to be shown: a formula over variables with ranges. Here it is opened as
 //! a branch: facts that are linear in the variables, and formulas that wait to be taken apart.
-use crate::core_terms::{CForm, CTerm, Range};
+use core_terms::{CForm, CTerm, Range};
 use unity_base::{Held, Seq};
 
 pub mod first_choice;

@@ -7,7 +7,7 @@ ghost use Rattle.safety_rules.specs.StartState as start;
 ghost use Rattle.safety_rules.specs.StartState.{StartRule};
 
 use crate::core_of::comparison_form;
-use crate::core_terms::{CForm, CTerm};
+use core_terms::{CForm, CTerm};
 use small_documents::{Comparison, Expression, Operand, Range, Relation, SmallDocument};
 use std::alloc::{AllocError, Global};
 
@@ -48,7 +48,7 @@ fn fixed_number(f: &CForm) -> Option<i64>
     ensures { result ≡ start.fixed_number f.now }
 {
     match f {
-        CForm::Zero(t) => subtracted(t.get()),
+        CForm::Zero(t) => subtracted(t),
         _ => None,
     }
 }

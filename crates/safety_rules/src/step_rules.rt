@@ -1,7 +1,7 @@
 // The obligations of a small document's two steps.
-ghost use Rattle.std.specs.Prelude.{◌≡◌, ◌^◌, ◌≤◌, ◌∷◌, [], IfOk, All, max, pos};
+ghost use Rattle.std.specs.Prelude.{◌≡◌, ◌^◌, ◌≤◌, ◌∷◌, [], IfOk, All, max};
 ghost use Rattle.small_documents.specs.Limits.{IsSmall};
-ghost use Rattle.safety_rules.specs.Bound.{form_bound};
+ghost use Rattle.core_terms.specs.Weights.{plain_weight};
 ghost use Rattle.safety_rules.specs.CoreOf.{form_of};
 ghost use Rattle.safety_rules.specs.Load.{form_load};
 ghost use Rattle.safety_rules.specs.Precondition.{wp_form};
@@ -9,9 +9,8 @@ ghost use Rattle.safety_rules.specs.StepForms as forms;
 ghost use Rattle.safety_rules.specs.StepForms.{DefinedRule, RunRule, InvariantRule, SoundSteps};
 
 use crate::core_of::comparison_form;
-use crate::core_terms::{CForm, Range};
-use crate::folding::{not_form, or_form};
 use crate::wp_substitution::{defined, statement_write, wp};
+use core_terms::{CForm, Range, placed_form};
 use small_documents::SmallDocument;
 use std::alloc::{AllocError, Global};
 use unity_base::{Held, Seq};
@@ -28,13 +27,13 @@ pub fn slot_range(d: &SmallDocument) -> Range
 }
 
 fn imply(alloc: Global, p: Held<CForm>, q: Held<CForm>) -> Result<Held<CForm>, AllocError>
-    requires first { form_bound 1 p ≤ 2 ^ 126 }
-    requires second { form_bound 1 q ≤ 2 ^ 126 }
+    requires first { plain_weight p ≤ 2 ^ 126 }
+    requires second { plain_weight q ≤ 2 ^ 126 }
     ensures tree { IfOk result (λ f. f ≡ forms.imply_form p q) }
-    ensures bound { IfOk result (λ f. form_bound 1 f ≤ max (form_bound 1 p) (form_bound 1 q)) }
+    ensures weight { IfOk result (λ f. plain_weight f ≤ max (plain_weight p) (plain_weight q)) }
 {
-    let fails = not_form(alloc, p)?;
-    or_form(alloc, fails, q)
+    let fails = placed_form(alloc, CForm::Not(p))?;
+    placed_form(alloc, CForm::Or(fails, q))
 }
 
 /// The obligation of the `defined` step. Where it is valid, no step of an execution is undefined,
@@ -43,20 +42,20 @@ fn imply(alloc: Global, p: Held<CForm>, q: Held<CForm>) -> Result<Held<CForm>, A
 fn defined_obligation(alloc: Global, d: &SmallDocument) -> Result<Held<CForm>, AllocError>
     requires { IsSmall d.now }
     ensures tree { IfOk result (λ f. f ≡ forms.defined_obligation d.now) }
-    ensures small { IfOk result (λ f. form_bound 1 f ≤ 2 ^ 40) }
+    ensures small { IfOk result (λ f. plain_weight f ≤ 2 ^ 40) }
     ensures sound { DefinedRule d.now }
     ensures runs { RunRule d.now }
 {
     let write = statement_write(alloc, &d.program.statement)?;
     let slots = [slot_range(d)];
-    defined(alloc, &write, &slots)
+    defined(alloc, write.get(), &slots)
 }
 
 /// The first obligation of the `invariant` step: the initially section gives the claim.
 fn start_obligation(alloc: Global, d: &SmallDocument) -> Result<Held<CForm>, AllocError>
     requires { IsSmall d.now }
     ensures tree { IfOk result (λ f. f ≡ forms.start_obligation d.now) }
-    ensures small { IfOk result (λ f. form_bound 1 f ≤ 2 ^ 40) }
+    ensures small { IfOk result (λ f. plain_weight f ≤ 2 ^ 40) }
 {
     let initially = comparison_form(alloc, &d.program.initially)?;
     let claim = comparison_form(alloc, &d.proof.claim)?;
@@ -72,11 +71,11 @@ fn claim_precondition(
     requires small { IsSmall d.now }
     requires claim { claim.now ≡ form_of d.now.proof.claim }
     ensures tree { IfOk result (λ f. f ≡ wp_form (forms.program_write d.now) claim.now (forms.slots_of d.now)) }
-    ensures small { IfOk result (λ f. form_bound 1 f ≤ 2 ^ 40) }
+    ensures small { IfOk result (λ f. plain_weight f ≤ 2 ^ 40) }
 {
     let write = statement_write(alloc, &d.program.statement)?;
     let slots = [slot_range(d)];
-    wp(alloc, &write, claim, &slots)
+    wp(alloc, write.get(), claim, &slots)
 }
 
 /// The second obligation of the `invariant` step: the statement keeps the claim. Where both are
@@ -85,7 +84,7 @@ fn claim_precondition(
 fn kept_obligation(alloc: Global, d: &SmallDocument) -> Result<Held<CForm>, AllocError>
     requires { IsSmall d.now }
     ensures tree { IfOk result (λ f. f ≡ forms.kept_obligation d.now) }
-    ensures small { IfOk result (λ f. form_bound 1 f ≤ 2 ^ 40) }
+    ensures small { IfOk result (λ f. plain_weight f ≤ 2 ^ 40) }
     ensures sound { InvariantRule d.now }
 {
     let claim = comparison_form(alloc, &d.proof.claim)?;
@@ -111,7 +110,7 @@ fn in_order(
 fn forms_in_order(alloc: Global, d: &SmallDocument) -> Result<Seq<Held<CForm>>, AllocError>
     requires { IsSmall d.now }
     ensures tree { IfOk result (λ fs. fs ≡ forms.obligation_forms d.now) }
-    ensures small { IfOk result (λ fs. All (λ f. form_bound 1 f ≤ 2 ^ 40) fs) }
+    ensures small { IfOk result (λ fs. All (λ f. plain_weight f ≤ 2 ^ 40) fs) }
 {
     let definedness = defined_obligation(alloc, d)?;
     let start = start_obligation(alloc, d)?;

@@ -10,12 +10,12 @@ ghost use Rattle.safety_rules.specs.Opening.{Valid, first_branch};
 use super::branch_copy::copy_branch;
 use super::sums::{add_pairs, closes};
 use super::{Cert, CertError, Node, Pending, Stop};
-use crate::core_terms::CForm;
 use crate::obligations::linear::zero_line;
 use crate::obligations::opening::open_branch;
 use crate::obligations::settle::settle;
 use crate::obligations::{Branch, Line, Obligation, Variable};
 use case_tables::Code;
+use core_terms::CForm;
 use std::alloc::{AllocError, Global};
 use unity_base::{Held, Seq};
 

@@ -2,7 +2,8 @@
 ghost use Rattle.std.specs.Prelude.{◌≡◌, ℤ, pos, ◌+ℤ◌, ◌*ℤ◌, ◌≤ℤ◌, ◌<◌, ◌^◌, MatchOption, MatchResult, MatchBool, OnOk, OnErr, IfOk, IsTrue, Some, None, Ok, Err, Bool, true, false, map, length, zero, List, [], ◌∷◌, ◌++◌};
 ghost use Rattle.std.specs.Option.{option_copied};
 ghost use Rattle.std.specs.List.{list_all};
-ghost use Rattle.safety_rules.specs.CoreValue.{number_at, int_eq};
+ghost use Rattle.state_steps.specs.State.{int_eq};
+ghost use Rattle.core_terms.specs.Values.{number_at};
 ghost use Rattle.safety_rules.specs.Refutation.{add_factors, add_times, numbered, or_too_big, add_pair, sum_pairs, is_false, no_sum};
 ghost use Rattle.safety_rules.specs.LinearForms.{add_at};
 

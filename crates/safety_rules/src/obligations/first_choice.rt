@@ -1,11 +1,10 @@
 //! A term's first `Ite`.
 ghost use Rattle.std.specs.Prelude.{◌≡◌, IfOk, Some};
-ghost use Rattle.safety_rules.specs.declared.core_terms.CTerm.TheVariants.{Add, Sub, Scale};
+ghost use Rattle.core_terms.specs.declared.trees.CTerm.TheVariants.{Add, Sub, Scale};
 ghost use Rattle.safety_rules.specs.Settling.{within, first_ite};
 
 use super::Choice;
-use crate::copy::{copy_form, copy_term};
-use crate::core_terms::{CForm, CTerm};
+use core_terms::{CForm, CTerm, held_form, held_term};
 use std::alloc::{AllocError, Global};
 use unity_base::Held;
 
@@ -19,9 +18,9 @@ fn choice_of(
     ensures { IfOk result (λ o. o ≡ Some (record { when = c.now; yes = a.now; no = b.now })) }
 {
     let choice = Choice {
-        when: copy_form(alloc, c.get())?,
-        yes: copy_term(alloc, a.get())?,
-        no: copy_term(alloc, b.get())?,
+        when: held_form(alloc, c.get())?,
+        yes: held_term(alloc, a.get())?,
+        no: held_term(alloc, b.get())?,
     };
     Ok(Some(Held::new(alloc, choice)?))
 }
@@ -35,8 +34,8 @@ fn in_sum_first(
     ensures { IfOk result (λ o. o ≡ Some (within (λ x. Add x b.now) choice)) }
 {
     let Choice { when, yes, no } = choice.into_inner();
-    let yes = Held::new(alloc, CTerm::Add(yes, copy_term(alloc, b.get())?))?;
-    let no = Held::new(alloc, CTerm::Add(no, copy_term(alloc, b.get())?))?;
+    let yes = Held::new(alloc, CTerm::Add(yes, held_term(alloc, b.get())?))?;
+    let no = Held::new(alloc, CTerm::Add(no, held_term(alloc, b.get())?))?;
     Ok(Some(Held::new(alloc, Choice { when, yes, no })?))
 }
 
@@ -49,8 +48,8 @@ fn in_sum_second(
     ensures { IfOk result (λ o. o ≡ Some (within (λ x. Add a.now x) choice)) }
 {
     let Choice { when, yes, no } = choice.into_inner();
-    let yes = Held::new(alloc, CTerm::Add(copy_term(alloc, a.get())?, yes))?;
-    let no = Held::new(alloc, CTerm::Add(copy_term(alloc, a.get())?, no))?;
+    let yes = Held::new(alloc, CTerm::Add(held_term(alloc, a.get())?, yes))?;
+    let no = Held::new(alloc, CTerm::Add(held_term(alloc, a.get())?, no))?;
     Ok(Some(Held::new(alloc, Choice { when, yes, no })?))
 }
 
@@ -63,8 +62,8 @@ fn in_difference_first(
     ensures { IfOk result (λ o. o ≡ Some (within (λ x. Sub x b.now) choice)) }
 {
     let Choice { when, yes, no } = choice.into_inner();
-    let yes = Held::new(alloc, CTerm::Sub(yes, copy_term(alloc, b.get())?))?;
-    let no = Held::new(alloc, CTerm::Sub(no, copy_term(alloc, b.get())?))?;
+    let yes = Held::new(alloc, CTerm::Sub(yes, held_term(alloc, b.get())?))?;
+    let no = Held::new(alloc, CTerm::Sub(no, held_term(alloc, b.get())?))?;
     Ok(Some(Held::new(alloc, Choice { when, yes, no })?))
 }
 
@@ -77,8 +76,8 @@ fn in_difference_second(
     ensures { IfOk result (λ o. o ≡ Some (within (λ x. Sub a.now x) choice)) }
 {
     let Choice { when, yes, no } = choice.into_inner();
-    let yes = Held::new(alloc, CTerm::Sub(copy_term(alloc, a.get())?, yes))?;
-    let no = Held::new(alloc, CTerm::Sub(copy_term(alloc, a.get())?, no))?;
+    let yes = Held::new(alloc, CTerm::Sub(held_term(alloc, a.get())?, yes))?;
+    let no = Held::new(alloc, CTerm::Sub(held_term(alloc, a.get())?, no))?;
     Ok(Some(Held::new(alloc, Choice { when, yes, no })?))
 }
 

@@ -1,13 +1,13 @@
 //! Linear forms of terms, and facts made of them.
 ghost use Rattle.std.specs.Prelude.{◌≡◌, ◌+◌, ◌*◌, ◌^◌, ◌≤◌, ◌<◌, ◌++◌, ◌∷◌, [], length, neg_ℤ, negsuc, pos, ◌+ℤ◌, ◌*ℤ◌, OnOk, IfOk, MatchOption, IfSome};
 ghost use Rattle.std.specs.Int.RustNames.{unsigned_abs};
-ghost use Rattle.safety_rules.specs.CoreValue.{number_at};
+ghost use Rattle.core_terms.specs.Values.{number_at};
 ghost use Rattle.safety_rules.specs.LinearForms.{place_of, add_at, zeros, sparse, line_of_const, line_plus, linear, negated, fact_of};
 ghost use Rattle.safety_rules.specs.Load.{sizes, norm, term_load};
 
 use super::small::small_product;
 use super::{Fact, Line, Variable};
-use crate::core_terms::CTerm;
+use core_terms::CTerm;
 use std::alloc::{AllocError, Global};
 use unity_base::Seq;
 

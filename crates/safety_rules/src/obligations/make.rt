@@ -4,7 +4,7 @@ ghost use Rattle.safety_rules.specs.Opening.{Valid};
 ghost use Rattle.safety_rules.specs.Variables.{term_has, form_has, numbered, occurring, variables_of, IsTrueInRanges};
 
 use super::{Obligation, Variable};
-use crate::core_terms::{CForm, CTerm, Range};
+use core_terms::{CForm, CTerm, Range};
 use std::alloc::{AllocError, Global};
 use unity_base::{Held, Seq};
 
@@ -40,8 +40,8 @@ fn is_in_form(f: &CForm, param: bool, number: u32) -> bool
     match f {
         CForm::Top => false,
         CForm::Bottom => false,
-        CForm::AtLeast(t) => is_in_term(t.get(), param, number),
-        CForm::Zero(t) => is_in_term(t.get(), param, number),
+        CForm::AtLeast(t) => is_in_term(t, param, number),
+        CForm::Zero(t) => is_in_term(t, param, number),
         CForm::Not(g) => is_in_form(g.get(), param, number),
         CForm::And(g, h) => {
             is_in_form(g.get(), param, number) || is_in_form(h.get(), param, number)

@@ -1,7 +1,7 @@
 //! Settling: a formula that is taken to hold, or to fail, is taken apart onto a branch.
 ghost use Rattle.std.specs.Prelude.{◌≡◌, ◌+◌, ◌^◌, ◌≤◌, ◌<◌, length, pos, negsuc, OnOk, IfOk, [], ◌∷◌};
-ghost use Rattle.safety_rules.specs.declared.core_terms.CTerm.TheVariants.{Const, Sub};
-ghost use Rattle.safety_rules.specs.declared.core_terms.CForm.TheVariants.{AtLeast, Zero, Not, And, Or};
+ghost use Rattle.core_terms.specs.declared.trees.CTerm.TheVariants.{Const, Sub};
+ghost use Rattle.core_terms.specs.declared.trees.CForm.TheVariants.{AtLeast, Zero, Not, And, Or};
 ghost use Rattle.safety_rules.specs.Settling.{settled, refused, joined, one_waiting, false_fact, one_fact, two_facts, first_ite, least_adds, zero_adds, unequal_adds, below_zero, choice_form};
 ghost use Rattle.safety_rules.specs.LinearForms.{linear, negated};
 ghost use Rattle.safety_rules.specs.Load.{need, term_load};
@@ -9,8 +9,7 @@ ghost use Rattle.safety_rules.specs.Load.{need, term_load};
 use super::first_choice::find_choice;
 use super::linear::{fact_from, line_of, negative_of};
 use super::{Branch, Choice, Fact, Variable};
-use crate::copy::{copy_form, copy_term};
-use crate::core_terms::{CForm, CTerm};
+use core_terms::{CForm, CTerm, held_form, held_term};
 use std::alloc::{AllocError, Global};
 use unity_base::{Held, Seq};
 
@@ -46,7 +45,7 @@ fn add_false(alloc: Global, branch: &mut Branch) -> Result<(), AllocError>
 fn negation_of(alloc: Global, f: &CForm) -> Result<Held<CForm>, AllocError>
     ensures { IfOk result (λ g. g ≡ Not f.now) }
 {
-    let copy = copy_form(alloc, f)?;
+    let copy = held_form(alloc, f)?;
     Held::new(alloc, CForm::Not(copy))
 }
 
@@ -76,8 +75,8 @@ fn least_choice(alloc: Global, choice: Held<Choice>) -> Result<Held<CForm>, Allo
     ensures { IfOk result (λ f. f ≡ choice_form AtLeast choice) }
 {
     let Choice { when, yes, no } = choice.into_inner();
-    let yes = Held::new(alloc, CForm::AtLeast(yes))?;
-    let no = Held::new(alloc, CForm::AtLeast(no))?;
+    let yes = Held::new(alloc, CForm::AtLeast(yes.into_inner()))?;
+    let no = Held::new(alloc, CForm::AtLeast(no.into_inner()))?;
     choose(alloc, when, yes, no)
 }
 
@@ -85,8 +84,8 @@ fn zero_choice(alloc: Global, choice: Held<Choice>) -> Result<Held<CForm>, Alloc
     ensures { IfOk result (λ f. f ≡ choice_form Zero choice) }
 {
     let Choice { when, yes, no } = choice.into_inner();
-    let yes = Held::new(alloc, CForm::Zero(yes))?;
-    let no = Held::new(alloc, CForm::Zero(no))?;
+    let yes = Held::new(alloc, CForm::Zero(yes.into_inner()))?;
+    let no = Held::new(alloc, CForm::Zero(no.into_inner()))?;
     choose(alloc, when, yes, no)
 }
 
@@ -94,7 +93,7 @@ fn zero_choice(alloc: Global, choice: Held<Choice>) -> Result<Held<CForm>, Alloc
 fn unequal(alloc: Global, t: Held<CTerm>) -> Result<Held<CForm>, AllocError>
     ensures { IfOk result (λ f. f ≡ Not (Zero t)) }
 {
-    let zero = Held::new(alloc, CForm::Zero(t))?;
+    let zero = Held::new(alloc, CForm::Zero(t.into_inner()))?;
     Held::new(alloc, CForm::Not(zero))
 }
 
@@ -180,7 +179,7 @@ fn below(alloc: Global, t: &CTerm) -> Result<Held<CTerm>, AllocError>
     ensures { IfOk result (λ u. u ≡ below_zero t.now) }
 {
     let minus_one = Held::new(alloc, CTerm::Const(-1))?;
-    let copy = copy_term(alloc, t)?;
+    let copy = held_term(alloc, t)?;
     Held::new(alloc, CTerm::Sub(minus_one, copy))
 }
 
@@ -188,7 +187,7 @@ fn below(alloc: Global, t: &CTerm) -> Result<Held<CTerm>, AllocError>
 fn above(alloc: Global, t: &CTerm) -> Result<Held<CTerm>, AllocError>
     ensures { IfOk result (λ u. u ≡ Sub t.now (Const (pos 1))) }
 {
-    let copy = copy_term(alloc, t)?;
+    let copy = held_term(alloc, t)?;
     let one = Held::new(alloc, CTerm::Const(1))?;
     Held::new(alloc, CTerm::Sub(copy, one))
 }
@@ -268,9 +267,9 @@ fn apart(alloc: Global, t: &CTerm) -> Result<Held<CForm>, AllocError>
     ensures { IfOk result (λ f. f ≡ Or (AtLeast (Sub t.now (Const (pos 1)))) (AtLeast (Sub (Const (negsuc 0)) t.now))) }
 {
     let above = above(alloc, t)?;
-    let above = Held::new(alloc, CForm::AtLeast(above))?;
+    let above = Held::new(alloc, CForm::AtLeast(above.into_inner()))?;
     let below = below(alloc, t)?;
-    let below = Held::new(alloc, CForm::AtLeast(below))?;
+    let below = Held::new(alloc, CForm::AtLeast(below.into_inner()))?;
     Held::new(alloc, CForm::Or(above, below))
 }
 
@@ -307,8 +306,8 @@ fn refuse_zero(alloc: Global, t: &CTerm, branch: &mut Branch) -> Result<(), Allo
 fn wait_or(alloc: Global, g: &CForm, h: &CForm, branch: &mut Branch) -> Result<(), AllocError>
     ensures { OnOk result (branch.new ≡ joined branch.old (one_waiting (Or g.now h.now))) }
 {
-    let first = copy_form(alloc, g)?;
-    let second = copy_form(alloc, h)?;
+    let first = held_form(alloc, g)?;
+    let second = held_form(alloc, h)?;
     let form = Held::new(alloc, CForm::Or(first, second))?;
     add_waiting(form, branch)
 }
@@ -338,8 +337,8 @@ pub fn settle(
     match f {
         CForm::Top => Ok(()),
         CForm::Bottom => add_false(alloc, branch),
-        CForm::AtLeast(t) => settle_least(alloc, vs, t.get(), branch),
-        CForm::Zero(t) => settle_zero(alloc, vs, t.get(), branch),
+        CForm::AtLeast(t) => settle_least(alloc, vs, t, branch),
+        CForm::Zero(t) => settle_zero(alloc, vs, t, branch),
         CForm::Not(g) => refuse(alloc, vs, g.get(), branch),
         CForm::And(g, h) => {
             settle(alloc, vs, g.get(), branch)?;
@@ -364,8 +363,8 @@ pub fn refuse(
     match f {
         CForm::Top => add_false(alloc, branch),
         CForm::Bottom => Ok(()),
-        CForm::AtLeast(t) => refuse_least(alloc, vs, t.get(), branch),
-        CForm::Zero(t) => refuse_zero(alloc, t.get(), branch),
+        CForm::AtLeast(t) => refuse_least(alloc, vs, t, branch),
+        CForm::Zero(t) => refuse_zero(alloc, t, branch),
         CForm::Not(g) => settle(alloc, vs, g.get(), branch),
         CForm::And(g, h) => wait_nots(alloc, g.get(), h.get(), branch),
         CForm::Or(g, h) => {

@@ -1,6 +1,6 @@
 use Rattle.std.proofs.Common.{◌∙◌, ap, sym}
 use Rattle.std.proofs.lemmas.Result.{IfOk-weaker}
-use Rattle.safety_rules.specs.declared.core_terms.CTerm.TheVariants.{Add, Sub, Scale}
+use Rattle.core_terms.specs.declared.trees.CTerm.TheVariants.{Add, Sub, Scale}
 use Rattle.safety_rules.specs.Settling.{first_ite}
 use Rattle.safety_rules.proofs.SettlingLaws.{sum-first, sum-second, difference-first, difference-second, multiple-some, ite-Ite}
 use Rattle.safety_rules.proofs.obligations.first_choice.+find_choice.Goals as goal

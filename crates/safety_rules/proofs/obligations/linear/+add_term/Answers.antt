@@ -1,6 +1,6 @@
 use Rattle.std.proofs.Common.{◌∙◌, ap, sym, subst, ◌+◌, ◌*◌, ◌^◌, ◌≤◌, length, arith}
 use Rattle.std.specs.Int.RustNames.{unsigned_abs}
-use Rattle.safety_rules.specs.declared.core_terms.CTerm.TheVariants.{Add, Sub, Scale}
+use Rattle.core_terms.specs.declared.trees.CTerm.TheVariants.{Add, Sub, Scale}
 use Rattle.safety_rules.specs.LinearForms.{line_plus, linear}
 use Rattle.safety_rules.specs.Load.{norm, term_load}
 use Rattle.safety_rules.proofs.LineLaws.{length-add_at}

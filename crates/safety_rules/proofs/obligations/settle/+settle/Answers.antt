@@ -1,6 +1,6 @@
 use Rattle.std.proofs.Common.{◌∙◌, ap, sym, arith, ◌^◌}
 use Rattle.std.proofs.lemmas.Result.{on_ok_weaker}
-use Rattle.safety_rules.specs.declared.core_terms.CForm.TheVariants.{AtLeast, Zero, And, Or}
+use Rattle.core_terms.specs.declared.trees.CForm.TheVariants.{And, Or}
 use Rattle.safety_rules.specs.Settling.{settled, refused}
 use Rattle.safety_rules.proofs.NeedLaws.{least-load, below-load, zero-load}
 use Rattle.safety_rules.proofs.TableLaws.{settled-Bottom, refused-Top, settled-AtLeast, refused-AtLeast, settled-Zero, refused-Zero, settles-And, refuses-Or, settled-Or, refused-And}
@@ -8,14 +8,12 @@ use Rattle.safety_rules.proofs.obligations.settle.+settle.Goals as goal
 
 pub settle-settle_least-requires-clause-load : goal.settle-settle_least-requires-clause-load
 settle-settle_least-requires-clause-load t c =
-    let e = c.in-AtLeast.is ∙ ap AtLeast (sym c.get.ensures) in
-    let h = least-load c.get.result.now c.args.f.now (2 ^ 63) e c.requires.light in
+    let h = least-load c.in-AtLeast.t c.args.f.now (2 ^ 63) c.in-AtLeast.is c.requires.light in
     omega (arith, h)
 
 pub settle-settle_zero-requires-clause-load : goal.settle-settle_zero-requires-clause-load
 settle-settle_zero-requires-clause-load t c =
-    let e = c.in-Zero.is ∙ ap Zero (sym c.get-in-Zero.ensures) in
-    let h = zero-load c.get-in-Zero.result.now c.args.f.now (2 ^ 63) e c.requires.light in
+    let h = zero-load c.in-Zero.t c.args.f.now (2 ^ 63) c.in-Zero.is c.requires.light in
     omega (arith, h)
 
 pub settle-returns-in-Bottom : goal.settle-returns-in-Bottom
@@ -28,15 +26,15 @@ settle-returns-in-Bottom t c =
 pub settle-returns-in-AtLeast : goal.settle-returns-in-AtLeast
 settle-returns-in-AtLeast t c =
     on_ok_weaker c.settle_least.result
-    (λ e. e ∙ sym (settled-AtLeast c.args.vs.now c.get.result.now c.args.branch.now)
-    ∙ ap (λ f. settled c.args.vs.now f c.args.branch.now) (ap AtLeast c.get.ensures ∙ sym c.in-AtLeast.is))
+    (λ e. e ∙ sym (settled-AtLeast c.args.vs.now c.in-AtLeast.t c.args.branch.now)
+    ∙ ap (λ f. settled c.args.vs.now f c.args.branch.now) (sym c.in-AtLeast.is))
     c.settle_least.ensures
 
 pub settle-returns-in-Zero : goal.settle-returns-in-Zero
 settle-returns-in-Zero t c =
     on_ok_weaker c.settle_zero.result
-    (λ e. e ∙ sym (settled-Zero c.args.vs.now c.get-in-Zero.result.now c.args.branch.now)
-    ∙ ap (λ f. settled c.args.vs.now f c.args.branch.now) (ap Zero c.get-in-Zero.ensures ∙ sym c.in-Zero.is))
+    (λ e. e ∙ sym (settled-Zero c.args.vs.now c.in-Zero.t c.args.branch.now)
+    ∙ ap (λ f. settled c.args.vs.now f c.args.branch.now) (sym c.in-Zero.is))
     c.settle_zero.ensures
 
 pub settle-returns-in_ok-settle-in-And : goal.settle-returns-in_ok-settle-in-And
@@ -60,8 +58,7 @@ settle-returns-in-Or t c =
 
 pub refuse-refuse_least-requires-clause-load : goal.refuse-refuse_least-requires-clause-load
 refuse-refuse_least-requires-clause-load t c =
-    let e = c.in-AtLeast.is ∙ ap AtLeast (sym c.get.ensures) in
-    let h = below-load c.get.result.now c.args.f.now (2 ^ 63) e c.requires.light in
+    let h = below-load c.in-AtLeast.t c.args.f.now (2 ^ 63) c.in-AtLeast.is c.requires.light in
     omega (arith, h)
 
 pub refuse-returns-in-Top : goal.refuse-returns-in-Top
@@ -74,15 +71,15 @@ refuse-returns-in-Top t c =
 pub refuse-returns-in-AtLeast : goal.refuse-returns-in-AtLeast
 refuse-returns-in-AtLeast t c =
     on_ok_weaker c.refuse_least.result
-    (λ e. e ∙ sym (refused-AtLeast c.args.vs.now c.get.result.now c.args.branch.now)
-    ∙ ap (λ f. refused c.args.vs.now f c.args.branch.now) (ap AtLeast c.get.ensures ∙ sym c.in-AtLeast.is))
+    (λ e. e ∙ sym (refused-AtLeast c.args.vs.now c.in-AtLeast.t c.args.branch.now)
+    ∙ ap (λ f. refused c.args.vs.now f c.args.branch.now) (sym c.in-AtLeast.is))
     c.refuse_least.ensures
 
 pub refuse-returns-in-Zero : goal.refuse-returns-in-Zero
 refuse-returns-in-Zero t c =
     on_ok_weaker c.refuse_zero.result
-    (λ e. e ∙ sym (refused-Zero c.args.vs.now c.get-in-Zero.result.now c.args.branch.now)
-    ∙ ap (λ f. refused c.args.vs.now f c.args.branch.now) (ap Zero c.get-in-Zero.ensures ∙ sym c.in-Zero.is))
+    (λ e. e ∙ sym (refused-Zero c.args.vs.now c.in-Zero.t c.args.branch.now)
+    ∙ ap (λ f. refused c.args.vs.now f c.args.branch.now) (sym c.in-Zero.is))
     c.refuse_zero.ensures
 
 pub refuse-returns-in-And : goal.refuse-returns-in-And
