@@ -7,6 +7,6 @@ mod walk;
 mod words;
 
 pub use checks::{demand, has_type, place, same};
-pub use ranges::{filled_range, range_words, signed};
+pub use ranges::{bind_in, filled_range, range_words, signed};
 pub use walk::{expression, value};
 pub use words::{Table, bind};

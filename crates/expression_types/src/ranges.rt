@@ -3,14 +3,16 @@
 ghost use Rattle.std.specs.Prelude.{◌≡◌};
 ghost use Rattle.std.specs.Map.{lookup};
 ghost use Rattle.std.specs.Str.{bytes_eq};
-ghost use Rattle.name_scopes.specs.Scope.{bounds};
-ghost use Rattle.name_scopes.specs.Reading.{end_reading, end_word, filled, range_reading, signed, upside_down};
+ghost use Rattle.name_scopes.specs.declared.named.Meaning.{Meaning};
+ghost use Rattle.name_scopes.specs.Scope.{bounds, scope};
+ghost use Rattle.name_scopes.specs.Reading.{beside, binding, end_reading, end_word, filled, range_reading, signed};
+ghost use Rattle.name_scopes.specs.Reading.{upside_down};
 ghost use Rattle.name_scopes.specs.Answers.{Notes};
 
 use crate::checks::demand;
-use crate::words::Table;
+use crate::words::{Table, bind};
 use case_tables::Code;
-use name_scopes::{Env, Meaning, NameFault, bound, is_param};
+use name_scopes::{Env, Known, Meaning, NameFault, bound, is_param};
 use unity_syntax::{End, Name, Range};
 
 /// A number with its sign.
@@ -50,6 +52,22 @@ pub fn range_words(range: &Range, env: &Env, table: &mut Table) -> Result<(), Na
 {
     end_words(&range.low, env, table)?;
     end_words(&range.high, env, table)
+}
+
+/// A name is bound, and then comes its range, in which it is not visible.
+pub fn bind_in(
+    name: &Name,
+    range: &Range,
+    known: &Known,
+    env: &Env,
+    table: &mut Table,
+) -> Result<(), NameFault>
+    ensures { Notes result table.old table.new (beside
+        (binding (scope known.now env.now) name.now (Meaning.Bound name.now.at))
+        (range_reading (bounds env.now) range.now)) }
+{
+    bind(name, Meaning::Bound(name.at), known, env, table)?;
+    range_words(range, env, table)
 }
 
 /// A range whose low end is not above its high end, as far as they are numbers.

@@ -1,18 +1,18 @@
 //! The walk over an expression, operands before their operator and from left to right.
 
 ghost use Rattle.std.specs.Prelude.{◌≡◌, ◌∷◌, [], map, Option, Some, None};
-ghost use Rattle.name_scopes.specs.Scope.{bounds, scope};
-ghost use Rattle.name_scopes.specs.Reading.{beside, binding, gathers, joined, left_side, needs, operands, product, range_reading, read};
+ghost use Rattle.name_scopes.specs.Scope.{scope};
+ghost use Rattle.name_scopes.specs.Reading.{gathers, joined, left_side, needs, operands, product, read};
 ghost use Rattle.name_scopes.specs.Answers.{Answers, Notes};
 ghost use Rattle.expression_types.specs.Factors.{further_factors};
 
 use crate::checks::{after, demand, has_type, place};
-use crate::ranges::range_words;
-use crate::words::{Table, bind, word};
+use crate::ranges::bind_in;
+use crate::words::{Table, word};
 use case_tables::{Code, Symbol, Word};
 use name_scopes::{Env, Known, Meaning, NameFault, Sort, Typed, with_name};
 use unity_base::{Held, Seq};
-use unity_syntax::{Expr, Name, Range};
+use unity_syntax::Expr;
 
 /// The type of an expression; what its words mean is added to the table.
 #[cycle(walk)]
@@ -150,7 +150,8 @@ fn all(
     env: &Env,
     table: &mut Table,
 ) -> Result<Typed, NameFault>
-    ensures { Answers result table.old table.new (joined wanted (operands wanted (scope known.now env.now) (map read es.now))) }
+    ensures { Answers result table.old table.new
+        (joined wanted (operands wanted (scope known.now env.now) (map read es.now))) }
 {
     let mut constant = true;
     for e in es.as_slice() {
@@ -171,7 +172,8 @@ fn parts(
     env: &Env,
     table: &mut Table,
 ) -> Result<Typed, NameFault>
-    ensures { Answers result table.old table.new (joined Sort.Number (operands Sort.Number (scope known.now env.now) (map (λ p. read p.1) es.now))) }
+    ensures { Answers result table.old table.new
+        (joined Sort.Number (operands Sort.Number (scope known.now env.now) (map (λ p. read p.1) es.now))) }
 {
     let mut constant = true;
     for (_, e) in es.as_slice() {
@@ -195,7 +197,8 @@ fn factors(
     env: &Env,
     table: &mut Table,
 ) -> Result<Typed, NameFault>
-    ensures { Answers result table.old table.new (further_factors at first.constant (operands Sort.Number (scope known.now env.now) (map read es.now))) }
+    ensures { Answers result table.old table.new
+        (further_factors at first.constant (operands Sort.Number (scope known.now env.now) (map read es.now))) }
 {
     let mut constant = first.constant;
     let mut linear = true;
@@ -210,20 +213,6 @@ fn factors(
         sort: Sort::Number,
         constant,
     })
-}
-
-/// A name is bound, and then comes its range, in which it is not visible.
-fn bind_in(
-    name: &Name,
-    range: &Range,
-    known: &Known,
-    env: &Env,
-    table: &mut Table,
-) -> Result<(), NameFault>
-    ensures { Notes result table.old table.new (beside (binding (scope known.now env.now) name.now (Meaning.Bound name.now.at)) (range_reading (bounds env.now) range.now)) }
-{
-    bind(name, Meaning::Bound(name.at), known, env, table)?;
-    range_words(range, env, table)
 }
 
 /// The type of what a quantifier gathers.

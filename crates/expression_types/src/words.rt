@@ -40,7 +40,8 @@ fn note_word(
     named: Named,
     table: &mut Table,
 ) -> Result<Typed, NameFault>
-    ensures { Answers result table.old table.new (mark named name.now.at (unless (same_bool (is_some named.indices) indexed) Code.WrongType name.now.at)) }
+    ensures { Answers result table.old table.new
+        (mark named name.now.at (unless (same_bool (is_some named.indices) indexed) Code.WrongType name.now.at)) }
 {
     demand(named.indices.is_some() == indexed, Code::WrongType, name.at)?;
     table.push((name.at, named.meaning))?;

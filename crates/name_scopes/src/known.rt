@@ -5,7 +5,8 @@ ghost use Rattle.std.specs.Map.{lookup};
 ghost use Rattle.std.specs.List.{list_any};
 ghost use Rattle.std.specs.Option.{option_copied};
 ghost use Rattle.std.specs.Str.{bytes_eq};
-ghost use Rattle.name_scopes.specs.Scope.{entries, known_params, bounds, scope, found, bound_named, is_param, is_variable, is_value, visible, is_visible};
+ghost use Rattle.name_scopes.specs.Scope.{entries, known_params, bounds, scope, found, bound_named, is_param};
+ghost use Rattle.name_scopes.specs.Scope.{is_variable, is_value, visible, is_visible};
 ghost use Rattle.name_scopes.specs.Reading.{missing};
 
 use crate::named::{Composed, Meaning, Named, Sort, Span};
@@ -199,7 +200,9 @@ pub fn meaning(name: &Name, known: &Known, env: &Env) -> Option<Named>
 
 /// Why a word means nothing.
 pub fn missing(name: &Name, known: &Known) -> Code
-    ensures { result ≡ cond (list_any (bytes_eq name.now.text) (map (λ d. d.name.text) (drop known.now.defined known.now.definitions.now))) Code.Circular Code.Unknown }
+    ensures { result ≡ cond
+        (list_any (bytes_eq name.now.text) (map (λ d. d.name.text) (drop known.now.defined known.now.definitions.now)))
+        Code.Circular Code.Unknown }
 {
     let mut i = known.defined;
     while i < known.definitions.len() {

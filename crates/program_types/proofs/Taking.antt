@@ -10,7 +10,8 @@ use Rattle.name_scopes.specs.Declarations.{StartSlot, StartSlots, same_slot}
 use Rattle.name_scopes.proofs.Steps.{is_absent}
 use Rattle.program_types.specs.Enters.{TakesSlot}
 
-pub slot_taken : (result : Result (Unit {0}) NameFault) (ks more : StartSlots) (slot : StartSlot) (is_new : Bool) (at : ℕ) →
+pub slot_taken : (result : Result (Unit {0}) NameFault) (ks more : StartSlots) (slot : StartSlot) (is_new : Bool)
+    (at : ℕ) →
     is_new ≡ not (list_any (same_slot slot) ks) → more ≡ insert_key same_slot ks slot →
     Demands result (unless is_new Code.DeclaredTwice at) → TakesSlot result ks more slot at
 slot_taken (Ok t) ks more slot is_new at h w d =

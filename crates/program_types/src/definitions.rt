@@ -35,7 +35,8 @@ fn definition_type<'x>(
     names: &'x NameTable,
     table: &mut Table,
 ) -> Result<Typed, NameFault>
-    ensures { Answers result table.old table.new (read d.now.of (definition_scope program (entries names.now) (drop defined definitions.now))) }
+    ensures { Answers result table.old table.new
+        (read d.now.of (definition_scope program (entries names.now) (drop defined definitions.now))) }
 {
     let known = Known {
         names,
@@ -55,7 +56,9 @@ fn define<'a>(
     names: &mut NameTable<'a>,
     table: &mut Table,
 ) -> Result<(), NameFault>
-    ensures { Leaves result table.old table.new (entries names.new) (definition program (entries names.old) d.now.name (read d.now.of (definition_scope program (entries names.old) (drop defined definitions.now)))) }
+    ensures { Leaves result table.old table.new (entries names.new)
+        (definition program (entries names.old) d.now.name
+        (read d.now.of (definition_scope program (entries names.old) (drop defined definitions.now)))) }
 {
     demand(
         find(names, &d.name).is_none(),

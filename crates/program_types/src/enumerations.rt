@@ -4,7 +4,8 @@ ghost use Rattle.std.specs.Prelude.{◌≡◌, ◌∷◌};
 ghost use Rattle.name_scopes.specs.declared.named.Sort.{Sort};
 ghost use Rattle.std.specs.Prelude.{length};
 ghost use Rattle.name_scopes.specs.Scope.{entries};
-ghost use Rattle.name_scopes.specs.Declarations.{are_words, enumerated, is_last, is_repeated, is_value_of, is_word, known_sort, repeated, value_named, words_part, words_sort};
+ghost use Rattle.name_scopes.specs.Declarations.{are_words, enumerated, is_last, is_repeated, is_value_of, is_word};
+ghost use Rattle.name_scopes.specs.Declarations.{known_sort, repeated, value_named, words_part, words_sort};
 ghost use Rattle.name_scopes.specs.Answers.{Leaves, Notes};
 
 use crate::entering::declare;
@@ -120,7 +121,8 @@ fn new_words<'a>(
     names: &mut NameTable<'a>,
     table: &mut Table,
 ) -> Result<(), NameFault>
-    ensures { Leaves result table.old table.new (entries names.new) (enumerated (Sort.Words first.now.at (length rest.now)) 0 (entries names.old) (first.now ∷ rest.now)) }
+    ensures { Leaves result table.old table.new (entries names.new)
+        (enumerated (Sort.Words first.now.at (length rest.now)) 0 (entries names.old) (first.now ∷ rest.now)) }
 {
     let sort = Sort::Words {
         at: first.at,
@@ -153,7 +155,8 @@ pub fn words<'a>(
     names: &mut NameTable<'a>,
     table: &mut Table,
 ) -> Result<(), NameFault>
-    ensures { Leaves result table.old table.new (entries names.new) (words_part (entries names.old) first.now rest.now) }
+    ensures { Leaves result table.old table.new (entries names.new)
+        (words_part (entries names.old) first.now rest.now) }
 {
     if is_repeated(names, first, rest) {
         known_words(first, rest, table)

@@ -3,7 +3,8 @@
 ghost use Rattle.std.specs.Prelude.{◌≡◌, ◌++◌, ◌∷◌, [], Some, None};
 ghost use Rattle.name_scopes.specs.Scope.{scope};
 ghost use Rattle.name_scopes.specs.Part.{run};
-ghost use Rattle.name_scopes.specs.Declarations.{in_span, index_number, init_found, init_part, is_index, slot_of, start_value, start_word, variable_place};
+ghost use Rattle.name_scopes.specs.Declarations.{in_span, index_number, init_found, init_part, is_index, slot_of};
+ghost use Rattle.name_scopes.specs.Declarations.{start_value, start_word, variable_place};
 ghost use Rattle.name_scopes.specs.Answers.{Leaves, Notes};
 ghost use Rattle.program_types.specs.Enters.{TakesSlot};
 
@@ -122,7 +123,8 @@ fn init_named(
     slots: &mut StartSlots,
     table: &mut Table,
 ) -> Result<(), NameFault>
-    ensures { Leaves result table.old table.new slots.new.keys (init_found (scope known.now env.now) slots.old.keys init.now (Some named)) }
+    ensures { Leaves result table.old table.new slots.new.keys
+        (init_found (scope known.now env.now) slots.old.keys init.now (Some named)) }
 {
     demand(is_variable(named.meaning), Code::Unknown, init.name.at)?;
     demand(
@@ -142,7 +144,8 @@ fn init(
     slots: &mut StartSlots,
     table: &mut Table,
 ) -> Result<(), NameFault>
-    ensures { Leaves result table.old table.new slots.new.keys (init_part (scope known.now env.now) slots.old.keys init.now) }
+    ensures { Leaves result table.old table.new slots.new.keys
+        (init_part (scope known.now env.now) slots.old.keys init.now) }
 {
     match meaning(&init.name, known, env) {
         None => Err(NameFault::Fault {
@@ -162,7 +165,8 @@ pub fn inits(
     slots: &mut StartSlots,
     table: &mut Table,
 ) -> Result<(), NameFault>
-    ensures { Leaves result table.old table.new slots.new.keys (run (init_part (scope known.now env.now)) slots.old.keys (first.now ∷ rest.now)) }
+    ensures { Leaves result table.old table.new slots.new.keys
+        (run (init_part (scope known.now env.now)) slots.old.keys (first.now ∷ rest.now)) }
 {
     init(first, known, env, slots, table)?;
     further(rest, known, env, slots, table)
@@ -175,7 +179,8 @@ fn further(
     slots: &mut StartSlots,
     table: &mut Table,
 ) -> Result<(), NameFault>
-    ensures { Leaves result table.old table.new slots.new.keys (run (init_part (scope known.now env.now)) slots.old.keys list.now) }
+    ensures { Leaves result table.old table.new slots.new.keys
+        (run (init_part (scope known.now env.now)) slots.old.keys list.now) }
 {
     for i in list {
         init(i, known, env, slots, table)?;

@@ -2,7 +2,8 @@
 
 ghost use Rattle.std.specs.Prelude.{◌≡◌};
 ghost use Rattle.name_scopes.specs.Scope.{entries};
-ghost use Rattle.name_scopes.specs.Declarations.{agrees, declared, element_type, may_declare, same_indices, same_span, same_type, type_indices, variable_as, variable_named, variable_part};
+ghost use Rattle.name_scopes.specs.Declarations.{agrees, declared, element_type, may_declare, same_indices, same_span};
+ghost use Rattle.name_scopes.specs.Declarations.{same_type, type_indices, variable_as, variable_named, variable_part};
 ghost use Rattle.name_scopes.specs.Part.{run};
 ghost use Rattle.name_scopes.specs.Answers.{Leaves};
 
@@ -149,7 +150,8 @@ pub fn variables<'a>(
     names: &mut NameTable<'a>,
     table: &mut Table,
 ) -> Result<(), NameFault>
-    ensures { Leaves result table.old table.new (entries names.new) (run (variable_part program) (entries names.old) vs.now) }
+    ensures { Leaves result table.old table.new (entries names.new)
+        (run (variable_part program) (entries names.old) vs.now) }
 {
     for v in vs {
         variable(program, v, names, table)?;

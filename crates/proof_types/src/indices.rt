@@ -73,7 +73,8 @@ fn further(
     env: &Env,
     table: &mut Table,
 ) -> Result<(), NameFault>
-    ensures { Notes result table.old table.new (all_beside (map (argument_reading of (scope known.now env.now)) ends.now)) }
+    ensures { Notes result table.old table.new
+        (all_beside (map (argument_reading of (scope known.now env.now)) ends.now)) }
 {
     for end in ends {
         argument(of, end, known, env, table)?;

@@ -30,7 +30,9 @@ fn param_words<'x>(
     params: &'x ParamTable,
     table: &mut Table,
 ) -> Result<(), NameFault>
-    ensures { Notes result table.old table.new (beside (binding (proof_scope (entries names.now) (entries params.now)) p.now.name (Meaning.Param number)) (filled [] p.now.range)) }
+    ensures { Notes result table.old table.new
+        (beside (binding (proof_scope (entries names.now) (entries params.now)) p.now.name (Meaning.Param number))
+        (filled [] p.now.range)) }
 {
     let known = Known {
         names,
@@ -62,7 +64,8 @@ fn param<'a>(
     params: &mut ParamTable<'a>,
     table: &mut Table,
 ) -> Result<(), NameFault>
-    ensures { Leaves result table.old table.new (entries params.new) (param_part (entries names.now) (entries params.old) p.now) }
+    ensures { Leaves result table.old table.new (entries params.new)
+        (param_part (entries names.now) (entries params.old) p.now) }
 {
     let number = param_count(params);
     param_words(p, number, names, params, table)?;
@@ -75,7 +78,8 @@ fn further<'a>(
     params: &mut ParamTable<'a>,
     table: &mut Table,
 ) -> Result<(), NameFault>
-    ensures { Leaves result table.old table.new (entries params.new) (run (param_part (entries names.now)) (entries params.old) ps.now) }
+    ensures { Leaves result table.old table.new (entries params.new)
+        (run (param_part (entries names.now)) (entries params.old) ps.now) }
 {
     for p in ps {
         param(p, names, params, table)?;
@@ -90,7 +94,8 @@ pub fn params<'a>(
     params: &mut ParamTable<'a>,
     table: &mut Table,
 ) -> Result<(), NameFault>
-    ensures { Leaves result table.old table.new (entries params.new) (run (param_part (entries names.now)) (entries params.old) (some_of ps.now)) }
+    ensures { Leaves result table.old table.new (entries params.new)
+        (run (param_part (entries names.now)) (entries params.old) (some_of ps.now)) }
 {
     match ps {
         None => Ok(()),

@@ -64,7 +64,8 @@ fn further(
     env: &Env,
     table: &mut Table,
 ) -> Result<(), NameFault>
-    ensures { Notes result table.old table.new (all_beside (map (ref_reading (entries programs.now) (scope known.now env.now)) rs.now)) }
+    ensures { Notes result table.old table.new
+        (all_beside (map (ref_reading (entries programs.now) (scope known.now env.now)) rs.now)) }
 {
     for r in rs {
         reference(r, programs, known, env, table)?;
@@ -80,7 +81,8 @@ pub fn references(
     env: &Env,
     table: &mut Table,
 ) -> Result<(), NameFault>
-    ensures { Notes result table.old table.new (all_beside (map (ref_reading (entries programs.now) (scope known.now env.now)) (some_of rs.now))) }
+    ensures { Notes result table.old table.new
+        (all_beside (map (ref_reading (entries programs.now) (scope known.now env.now)) (some_of rs.now))) }
 {
     match rs {
         None => Ok(()),

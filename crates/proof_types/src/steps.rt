@@ -5,7 +5,8 @@ ghost use Rattle.std.specs.Option.{is_some};
 ghost use Rattle.name_scopes.specs.Scope.{entries, scope, seen_keys};
 ghost use Rattle.name_scopes.specs.Part.{quiet};
 ghost use Rattle.name_scopes.specs.Declarations.{some_of};
-ghost use Rattle.name_scopes.specs.Proofs.{claim_reading, proof_scope, rule_part, step_body, step_part, step_rest, takes_params};
+ghost use Rattle.name_scopes.specs.Proofs.{claim_reading, proof_scope, rule_part, step_body, step_part, step_rest};
+ghost use Rattle.name_scopes.specs.Proofs.{takes_params};
 ghost use Rattle.name_scopes.specs.Answers.{Leaves, Notes};
 ghost use Rattle.proof_types.specs.Counts.{Reads};
 
@@ -45,7 +46,8 @@ fn rule(
     next: &mut u64,
     table: &mut Table,
 ) -> Result<(), NameFault>
-    ensures { Leaves result table.old table.new next.new (rule_part (entries programs.now) (scope known.now env.now) next.old r.now) }
+    ensures { Leaves result table.old table.new next.new
+        (rule_part (entries programs.now) (scope known.now env.now) next.old r.now) }
 {
     match r {
         Rule::Text { at: _, with } => helper(with, known, env, table),
@@ -83,7 +85,8 @@ fn body(
     table: &mut Table,
 ) -> Result<(), NameFault>
     requires { next.old ≡ length (scope known.now env.now).params }
-    ensures { Leaves result table.old table.new next.new (step_body (entries programs.now) (scope known.now env.now) s.now) }
+    ensures { Leaves result table.old table.new next.new
+        (step_body (entries programs.now) (scope known.now env.now) s.now) }
 {
     claim(&s.claim, known, env, table)?;
     rule(&s.rule, programs, known, env, next, table)?;
@@ -97,7 +100,8 @@ fn body_with<'x>(
     params: &'x ParamTable,
     table: &mut Table,
 ) -> Result<(), NameFault>
-    ensures { Reads result table.old table.new (step_body (entries programs.now) (proof_scope (entries names.now) (entries params.now)) s.now) }
+    ensures { Reads result table.old table.new
+        (step_body (entries programs.now) (proof_scope (entries names.now) (entries params.now)) s.now) }
 {
     let known = Known {
         names,
@@ -146,7 +150,8 @@ pub fn step<'a>(
     steps: &mut WordSet<'a>,
     table: &mut Table,
 ) -> Result<(), NameFault>
-    ensures { Leaves result table.old table.new (seen_keys steps.new) (step_part (entries programs.now) (entries names.now) (seen_keys steps.old) s.now) }
+    ensures { Leaves result table.old table.new (seen_keys steps.new)
+        (step_part (entries programs.now) (entries names.now) (seen_keys steps.old) s.now) }
 {
     take(&s.name, steps)?;
     demand(

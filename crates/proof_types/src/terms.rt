@@ -36,7 +36,8 @@ pub fn bind_param(
     env: &Env,
     table: &mut Table,
 ) -> Result<(), NameFault>
-    ensures { Notes result table.old table.new (beside (binding (scope known.now env.now) name.now (Meaning.Param number)) (filled [] range.now)) }
+    ensures { Notes result table.old table.new
+        (beside (binding (scope known.now env.now) name.now (Meaning.Param number)) (filled [] range.now)) }
 {
     bind(name, Meaning::Param(number), known, env, table)?;
     filled_range(range, &outside(), table)
@@ -50,7 +51,8 @@ pub fn formulas(
     env: &Env,
     table: &mut Table,
 ) -> Result<(), NameFault>
-    ensures { Notes result table.old table.new (beside (boolean p.now (scope known.now env.now)) (boolean q.now (scope known.now env.now))) }
+    ensures { Notes result table.old table.new
+        (beside (boolean p.now (scope known.now env.now)) (boolean q.now (scope known.now env.now))) }
 {
     value(p, Sort::Boolean, known, env, table)?;
     value(q, Sort::Boolean, known, env, table)
@@ -64,7 +66,9 @@ fn measured(
     env: &Env,
     table: &mut Table,
 ) -> Result<(), NameFault>
-    ensures { Notes result table.old table.new (beside (number measure.now (scope known.now env.now)) (beside (boolean p.now (scope known.now env.now)) (boolean q.now (scope known.now env.now)))) }
+    ensures { Notes result table.old table.new
+        (beside (number measure.now (scope known.now env.now))
+        (beside (boolean p.now (scope known.now env.now)) (boolean q.now (scope known.now env.now)))) }
 {
     value(measure, Sort::Number, known, env, table)?;
     formulas(p, q, known, env, table)
@@ -80,7 +84,8 @@ pub fn term(
     next: &mut u64,
     table: &mut Table,
 ) -> Result<(), NameFault>
-    ensures { Leaves result table.old table.new next.new (term_part (entries programs.now) t.now (scope known.now env.now) next.old) }
+    ensures { Leaves result table.old table.new next.new
+        (term_part (entries programs.now) t.now (scope known.now env.now) next.old) }
 {
     match t {
         Term::Imply { at: _, p, q } => formulas(p, q, known, env, table),

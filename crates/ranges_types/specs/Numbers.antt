@@ -1,14 +1,14 @@
 -- The numbers of names, as the code keeps them.
-use Rattle.std.specs.Prelude.{◌≡◌, ℕ, List, [], Option, Some, cond, nat_eq, fold, Result, Ok, Err}
+use Rattle.std.specs.Prelude.{◌≡◌, ℕ, ◌-◌, ◌^◌, ◌<◌, List, [], Option, Some, None, cond}
+use Rattle.std.specs.Prelude.{Bool, true, nat_eq, nat_le, fold, length}
+use Rattle.std.specs.List.{list_all}
 use Rattle.std.specs.Map.{lookup}
 use Rattle.indexmap.specs.IndexMap.{IndexMap}
 use Rattle.name_scopes.specs.declared.named.Meaning.{Meaning}
 use Rattle.name_scopes.specs.Reading.{Words}
-use Rattle.name_scopes.specs.WellNamed.{variable_place, always_place, bound_place, program_place, with_place, places, meaning_at, IsWellNamed, name_fault, name_words}
-use Rattle.name_scopes.specs.Answers.{Stops}
-use Rattle.name_scopes.specs.declared.named.NameFault.{NameFault}
-use Rattle.unity_syntax.specs.declared.document.Document.{Document}
-use Rattle.ranges_types.specs.declared.naming.Names.{Names}
+use Rattle.name_scopes.specs.WellNamed.{variable_place, always_place, bound_place, program_place}
+use Rattle.name_scopes.specs.WellNamed.{with_place, places, meaning_at}
+use Rattle.ranges_types.specs.declared.indexing.Index.{Index}
 use Rattle.ranges_types.specs.declared.numbering.NameKind.{NameKind}
 
 -- the place at which a name of a kind is declared
@@ -30,23 +30,46 @@ meaning_in m at = lookup (nat_eq at) m.entries
 abbrev pub Means : {S : Type 0} → IndexMap ℕ Meaning S → IndexMap ℕ Meaning S → ℕ → Meaning → Type 0
 Means old new at meaning = (q : ℕ) → meaning_in new q ≡ cond (nat_eq at q) (Some meaning) (meaning_in old q)
 
--- the names of the code hold these words: what each means, and the places of declarations by kind
-pub record Holds (n : Names) (words : Words) : Type 0 where
-  pub meanings : (at : ℕ) → meaning_in n.meanings at ≡ meaning_at words at
-  pub variables : n.variables.keys ≡ places variable_place words
-  pub always : n.always.keys ≡ places always_place words
-  pub bound : n.bound.keys ≡ places bound_place words
-  pub programs : n.programs.keys ≡ places program_place words
+-- the greatest number that a call answers
+abbrev pub greatest_number : ℕ
+greatest_number = 2 ^ 32 - 1
 
--- the names of the code hold nothing
-pub record IsEmpty (n : Names) : Type 0 where
+-- a parameter's number or a word's value is one that a call may answer
+abbrev pub is_small : Meaning → Bool
+is_small (Meaning.Param number) = nat_le number greatest_number
+is_small (Meaning.Value number) = nat_le number greatest_number
+is_small _ = true
+
+abbrev pub are_small : Words → Bool
+are_small words = list_all (λ w. is_small w.1) words
+
+-- the same of the meaning of a word, where there is one
+abbrev pub IsSmall : Option Meaning → Type 0
+IsSmall None = Unit {0}
+IsSmall (Some meaning) = is_small meaning ≡ true
+
+-- these are the places of a kind, so few that a call may answer each number
+pub record ArePlaces (kind : NameKind) (found : List ℕ) (words : Words) : Type 0 where
+  pub all : found ≡ places (place_of kind) words
+  pub few : length found < 2 ^ 32
+
+-- the places of a kind that an index keeps
+abbrev pub places_in : Index → NameKind → List ℕ
+places_in n NameKind.Variable = n.variables.keys
+places_in n NameKind.Always = n.always.keys
+places_in n NameKind.Bound = n.bound.keys
+places_in n NameKind.Program = n.programs.keys
+
+-- an index of these words: what each means, and the places of declarations by kind
+pub record Indexes (n : Index) (words : Words) : Type 0 where
+  pub meanings : (at : ℕ) → meaning_in n.meanings at ≡ meaning_at words at
+  pub small : are_small words ≡ true
+  pub numbered : (kind : NameKind) → ArePlaces kind (places_in n kind) words
+
+-- an index that holds nothing
+pub record IsEmpty (n : Index) : Type 0 where
   pub meanings : n.meanings.entries ≡ []
   pub variables : n.variables.keys ≡ []
   pub always : n.always.keys ≡ []
   pub bound : n.bound.keys ≡ []
   pub programs : n.programs.keys ≡ []
-
--- the names of a well-named document, or the first fault of another; want of memory says nothing
-abbrev pub ChecksNames : Result Names NameFault → Document → Type 0
-ChecksNames (Ok n) d = IsWellNamed d × Holds n (name_words d)
-ChecksNames (Err e) d = Stops e (name_fault d)

@@ -5,7 +5,8 @@ ghost use Rattle.name_scopes.specs.Scope.{entries};
 ghost use Rattle.name_scopes.specs.Reading.{all_beside};
 ghost use Rattle.name_scopes.specs.Part.{run};
 ghost use Rattle.name_scopes.specs.Declarations.{some_of};
-ghost use Rattle.name_scopes.specs.WellNamed.{choice_reading, document_part, nothing_declared, part_of, schedule_reading};
+ghost use Rattle.name_scopes.specs.WellNamed.{choice_reading, document_part, nothing_declared, part_of};
+ghost use Rattle.name_scopes.specs.WellNamed.{schedule_reading};
 ghost use Rattle.name_scopes.specs.Answers.{Leaves, Notes};
 ghost use Rattle.ranges_types.specs.Tables.{declared_in};
 
@@ -70,7 +71,8 @@ fn further(list: &[Inst], t: &Tables, table: &mut Table) -> Result<(), NameFault
 }
 
 fn choices(list: &Option<(Inst, Seq<Inst>)>, t: &Tables, table: &mut Table) -> Result<(), NameFault>
-    ensures { Notes result table.old table.new (all_beside (map (choice_reading (declared_in t.now)) (some_of list.now))) }
+    ensures { Notes result table.old table.new
+        (all_beside (map (choice_reading (declared_in t.now)) (some_of list.now))) }
 {
     match list {
         None => Ok(()),

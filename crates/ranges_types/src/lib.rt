@@ -3,17 +3,14 @@
 
 mod checking;
 mod documents;
+mod indexing;
 mod meanings;
 mod naming;
 mod numbering;
 mod programs;
 mod scripts;
+mod sharing;
 mod store;
 mod unions;
 
-pub use checking::check_words;
-pub use documents::document;
-pub use meanings::give_all;
 pub use naming::{Names, check_names};
-pub use numbering::{NameKind, add_places};
-pub use store::Tables;

@@ -1,61 +1,139 @@
 //! The names of a document.
 
-ghost use Rattle.std.specs.Prelude.{IfOk, OnOk};
-ghost use Rattle.ranges_types.specs.Numbers.{ChecksNames, Holds, IsEmpty};
+ghost use Rattle.std.specs.Prelude.{◌≡◌, ◌<◌, ◌^◌, length};
+ghost use Rattle.std.specs.Option.{option_and_then};
+ghost use Rattle.name_scopes.specs.WellNamed.{always_place, bound_place, program_place, variable_place};
+ghost use Rattle.name_scopes.specs.WellNamed.{meaning_at, number_among, number_at, param_number, value_number};
+ghost use Rattle.ranges_types.specs.Numbers.{IsSmall, place_of};
+ghost use Rattle.ranges_types.specs.Tables.{Checks};
 
 use crate::checking::check_words;
-use crate::meanings::give_all;
-use crate::numbering::{NameKind, add_places};
-use indexmap::{IndexMap, IndexSet};
+use crate::indexing::{Index, index_of, of_kind};
+use crate::numbering::{NameKind, place_of};
+use expression_types::Table;
+use indexmap::IndexSet;
 use name_scopes::{Meaning, NameFault};
-use std::alloc::{AllocError, Global};
+use std::alloc::Global;
+use std::marker::Model;
 use unity_syntax::Document;
 
-/// What each word of a well-named document means at its place.
+/// What each word of a well-named document means, by the byte at which it begins. Contracts see what
+/// the words mean, in reading order.
 #[derive(Drop)]
 pub struct Names {
-    /// The meaning of the word at a place.
-    pub meanings: IndexMap<u64, Meaning>,
-    /// The places at which variables are first declared, in order; a variable's number is its
-    /// place among them. Alike for the others.
-    pub variables: IndexSet<u64>,
-    pub always: IndexSet<u64>,
-    pub bound: IndexSet<u64>,
-    pub programs: IndexSet<u64>,
+    words: Table,
+    index: Index,
 }
 
-fn fill(words: &[(u64, Meaning)], names: &mut Names) -> Result<(), AllocError>
-    requires { IsEmpty names.old }
-    ensures { OnOk result (Holds names.new words.now) }
-{
-    give_all(words, &mut names.meanings)?;
-    add_places(NameKind::Variable, words, &mut names.variables)?;
-    add_places(NameKind::Always, words, &mut names.always)?;
-    add_places(NameKind::Bound, words, &mut names.bound)?;
-    add_places(NameKind::Program, words, &mut names.programs)?;
-    Ok(())
+impl Model for Names {
+    ghost use Rattle.name_scopes.specs.Reading.{Words};
+    ghost use Rattle.ranges_types.specs.Numbers.{Indexes};
+
+    ghost Value = { Words };
+
+    ghost view = { λ n. n.words };
+
+    ghost invariant = { λ n. Indexes n.index n.words };
 }
 
-fn names_of(alloc: Global, words: &[(u64, Meaning)]) -> Result<Names, AllocError>
-    ensures { IfOk result (λ n. Holds n words.now) }
+/// The number of a place among these.
+fn number_among(places: &IndexSet<u64>, place: Option<u64>) -> Option<u32>
+    requires { length places.now.keys < 2 ^ 32 }
+    ensures { result ≡ number_among places.now.keys place }
 {
-    let mut names = Names {
-        meanings: IndexMap::new(alloc),
-        variables: IndexSet::new(alloc),
-        always: IndexSet::new(alloc),
-        bound: IndexSet::new(alloc),
-        programs: IndexSet::new(alloc),
-    };
-    fill(words, &mut names)?;
-    Ok(names)
+    let number = places.get_index_of(&place?)?;
+    Some(number as u32)
+}
+
+/// The place at which a name of a kind is declared.
+fn declared_at(kind: NameKind, meaning: Option<Meaning>) -> Option<u64>
+    ensures { result ≡ option_and_then (place_of kind) meaning }
+{
+    place_of(kind, meaning?)
+}
+
+impl Names {
+    /// What the word at a place means.
+    fn meaning(&self, at: u64) -> Option<Meaning>
+        ensures meaning { result ≡ meaning_at self.now at }
+        ensures small { IsSmall result }
+    {
+        self.index.meanings.get(&at).copied()
+    }
+
+    /// The number of the name of a kind at a place.
+    fn number(&self, kind: NameKind, at: u64) -> Option<u32>
+        ensures { result ≡ number_at (place_of kind) self.now at }
+    {
+        let place = declared_at(kind, self.meaning(at));
+        number_among(of_kind(&self.index, kind), place)
+    }
+
+    /// The number of the variable that the word at byte `at` names: its place, from 0, among the
+    /// document's variables in order of first declaration. `None` exactly where no word begins there,
+    /// or one that names no variable.
+    pub fn variable(&self, at: u64) -> Option<u32>
+        ensures { result ≡ number_at variable_place self.now at }
+    {
+        self.number(NameKind::Variable, at)
+    }
+
+    /// The number of the always name at byte `at`, among the document's always names in order of
+    /// first declaration. `None` exactly where no word begins there, or one with another meaning.
+    pub fn always(&self, at: u64) -> Option<u32>
+        ensures { result ≡ number_at always_place self.now at }
+    {
+        self.number(NameKind::Always, at)
+    }
+
+    /// The number of the bound name at byte `at`: the place of its binding, from 0, among the
+    /// document's bindings in reading order. `None` exactly where no word begins there, or one with
+    /// another meaning.
+    pub fn bound(&self, at: u64) -> Option<u32>
+        ensures { result ≡ number_at bound_place self.now at }
+    {
+        self.number(NameKind::Bound, at)
+    }
+
+    /// The number in its step of the parameter, or of the name that `exists` or `induct` binds, at
+    /// byte `at`. `None` exactly where no word begins there, or one with another meaning.
+    pub fn param(&self, at: u64) -> Option<u32>
+        ensures { result ≡ option_and_then param_number (meaning_at self.now at) }
+    {
+        match self.meaning(at)? {
+            Meaning::Param(number) => Some(number as u32),
+            _ => None,
+        }
+    }
+
+    /// The value of the word of an enumeration at byte `at`, from 0. `None` exactly where no word
+    /// begins there, or one with another meaning.
+    pub fn value_word(&self, at: u64) -> Option<u32>
+        ensures { result ≡ option_and_then value_number (meaning_at self.now at) }
+    {
+        match self.meaning(at)? {
+            Meaning::Value(number) => Some(number as u32),
+            _ => None,
+        }
+    }
+
+    /// The number of the program that the word at byte `at` names, among the document's programs in
+    /// order of first declaration. `None` exactly where no word begins there, or one with another
+    /// meaning.
+    pub fn program(&self, at: u64) -> Option<u32>
+        ensures { result ≡ number_at program_place self.now at }
+    {
+        self.number(NameKind::Program, at)
+    }
 }
 
 /// The names of a document. `Fault` exactly where the document is not well named, at its first
-/// fault.
+/// fault. `Memory` where memory is refused, and where a number would not be below 2^32: so many
+/// names are more than any memory holds.
 pub fn check_names(alloc: Global, d: &Document) -> Result<Names, NameFault>
-    ensures { ChecksNames result d.now }
+    ensures { Checks result d.now }
 {
     let words = check_words(alloc, d)?;
-    let names = names_of(alloc, words.as_slice())?;
-    Ok(names)
+    let index = index_of(alloc, words.as_slice())?;
+    Ok(Names { words, index })
 }

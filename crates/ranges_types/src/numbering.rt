@@ -17,7 +17,8 @@ pub enum NameKind {
     Program,
 }
 
-fn place_of(kind: NameKind, meaning: Meaning) -> Option<u64>
+/// The place at which a name of a kind is declared; none where the meaning is of another kind.
+pub fn place_of(kind: NameKind, meaning: Meaning) -> Option<u64>
     ensures { result ≡ place_of kind meaning }
 {
     match (kind, meaning) {

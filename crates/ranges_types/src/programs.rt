@@ -3,8 +3,10 @@
 ghost use Rattle.std.specs.Prelude.{◌≡◌, [], ◌∷◌, Option};
 ghost use Rattle.name_scopes.specs.Scope.{entries, scope, seen_keys};
 ghost use Rattle.name_scopes.specs.Part.{run};
-ghost use Rattle.name_scopes.specs.Declarations.{always_part, init_part, initially_reading, items_of, program_scope, some_of, variable_part};
-ghost use Rattle.name_scopes.specs.WellNamed.{declarations_part, new_program, plain_program, program_body, program_part, start_reading};
+ghost use Rattle.name_scopes.specs.Declarations.{always_part, init_part, initially_reading, items_of, program_scope};
+ghost use Rattle.name_scopes.specs.Declarations.{some_of, variable_part};
+ghost use Rattle.name_scopes.specs.WellNamed.{declarations_part, new_program, plain_program, program_body};
+ghost use Rattle.name_scopes.specs.WellNamed.{program_part, start_reading};
 ghost use Rattle.name_scopes.specs.Answers.{Leaves, Notes};
 ghost use Rattle.ranges_types.specs.Tables.{Composes, declared_in};
 
@@ -54,7 +56,8 @@ fn compose_plain<'a>(
     name: &'a Name,
     programs: &mut ProgramTable<'a>,
 ) -> Result<(), NameFault>
-    ensures { Composes result (entries programs.old) (entries programs.new) name.now (record { at = name.now.at; parts = name.now.at ∷ [] }) }
+    ensures { Composes result (entries programs.old) (entries programs.new) name.now
+        (record { at = name.now.at; parts = name.now.at ∷ [] }) }
 {
     let mut parts = Seq::new(alloc);
     parts.push(name.at)?;
@@ -67,7 +70,8 @@ fn declare_all<'a>(
     names: &mut NameTable<'a>,
     table: &mut Table,
 ) -> Result<(), NameFault>
-    ensures { Leaves result table.old table.new (entries names.new) (run (variable_part program) (entries names.old) (items_of vs.now)) }
+    ensures { Leaves result table.old table.new (entries names.new)
+        (run (variable_part program) (entries names.old) (items_of vs.now)) }
 {
     match vs {
         None => Ok(()),
@@ -81,7 +85,8 @@ fn define_all<'a>(
     names: &mut NameTable<'a>,
     table: &mut Table,
 ) -> Result<(), NameFault>
-    ensures { Leaves result table.old table.new (entries names.new) (always_part program (entries names.old) (items_of ds.now)) }
+    ensures { Leaves result table.old table.new (entries names.new)
+        (always_part program (entries names.old) (items_of ds.now)) }
 {
     match ds {
         None => Ok(()),
@@ -96,7 +101,8 @@ fn declarations<'a>(
     names: &mut NameTable<'a>,
     table: &mut Table,
 ) -> Result<(), NameFault>
-    ensures { Leaves result table.old table.new (entries names.new) (declarations_part program (entries names.old) (items_of vs.now) (items_of ds.now)) }
+    ensures { Leaves result table.old table.new (entries names.new)
+        (declarations_part program (entries names.old) (items_of vs.now) (items_of ds.now)) }
 {
     declare_all(program, vs, names, table)?;
     define_all(program, ds, names, table)
@@ -123,7 +129,8 @@ fn start_with(
     slots: &mut StartSlots,
     table: &mut Table,
 ) -> Result<(), NameFault>
-    ensures { Leaves result table.old table.new slots.new.keys (run (init_part (scope known.now env.now)) slots.old.keys (some_of list.now)) }
+    ensures { Leaves result table.old table.new slots.new.keys
+        (run (init_part (scope known.now env.now)) slots.old.keys (some_of list.now)) }
 {
     match list {
         None => Ok(()),
@@ -154,7 +161,8 @@ fn body<'a>(
     labels: &mut WordSet<'a>,
     table: &mut Table,
 ) -> Result<(), NameFault>
-    ensures { Leaves result table.old table.new (seen_keys labels.new) (program_body (scope known.now env.now) section.now (some_of list.now) of.now (seen_keys labels.old)) }
+    ensures { Leaves result table.old table.new (seen_keys labels.new)
+        (program_body (scope known.now env.now) section.now (some_of list.now) of.now (seen_keys labels.old)) }
 {
     initially(section, known, env, table)?;
     start(alloc, list, known, env, table)?;
@@ -171,7 +179,9 @@ fn body_in<'a>(
     labels: &mut WordSet<'a>,
     table: &mut Table,
 ) -> Result<(), NameFault>
-    ensures { Leaves result table.old table.new (seen_keys labels.new) (program_body (program_scope program (entries names.now)) section.now (some_of list.now) of.now (seen_keys labels.old)) }
+    ensures { Leaves result table.old table.new (seen_keys labels.new)
+        (program_body (program_scope program (entries names.now)) section.now (some_of list.now) of.now
+        (seen_keys labels.old)) }
 {
     let known = Known {
         names,
@@ -194,7 +204,9 @@ fn plain_program<'a>(
     t: &mut Tables<'a>,
     table: &mut Table,
 ) -> Result<(), NameFault>
-    ensures { Leaves result table.old table.new (declared_in t.new) (plain_program (declared_in t.old) name.now (items_of vs.now) (items_of ds.now) section.now (some_of list.now) of.now) }
+    ensures { Leaves result table.old table.new (declared_in t.new)
+        (plain_program (declared_in t.old) name.now (items_of vs.now) (items_of ds.now) section.now
+        (some_of list.now) of.now) }
 {
     new_program(name, &t.programs, table)?;
     declarations(name.at, vs, ds, &mut t.names, table)?;

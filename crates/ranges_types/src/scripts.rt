@@ -25,7 +25,8 @@ fn steps_with<'a>(
     steps: &mut WordSet<'a>,
     table: &mut Table,
 ) -> Result<(), NameFault>
-    ensures { Leaves result table.old table.new (seen_keys steps.new) (run (step_part (entries programs.now) (entries names.now)) (seen_keys steps.old) list.now) }
+    ensures { Leaves result table.old table.new (seen_keys steps.new)
+        (run (step_part (entries programs.now) (entries names.now)) (seen_keys steps.old) list.now) }
 {
     for s in list {
         step(alloc, s, programs, names, steps, table)?;

@@ -1,13 +1,15 @@
 //! Unions of programs.
 
-ghost use Rattle.std.specs.Prelude.{◌≡◌, ◌++◌, IfOk, nat_eq};
-ghost use Rattle.std.specs.List.{list_any};
+ghost use Rattle.std.specs.Prelude.{◌≡◌, ◌++◌, IfOk, not};
+ghost use Rattle.case_tables.specs.declared.code_table.Code.{Code};
 ghost use Rattle.name_scopes.specs.Scope.{entries};
 ghost use Rattle.name_scopes.specs.WellNamed.{parts_of, share, union_program, union_reading};
-ghost use Rattle.name_scopes.specs.Answers.{Leaves, Notes};
+ghost use Rattle.name_scopes.specs.Reading.{unless};
+ghost use Rattle.name_scopes.specs.Answers.{Demands, Leaves, Notes};
 ghost use Rattle.ranges_types.specs.Tables.{declared_in};
 
 use crate::programs::{compose, new_program};
+use crate::sharing::share;
 use crate::store::Tables;
 use case_tables::Code;
 use expression_types::{Table, demand};
@@ -27,12 +29,6 @@ fn parts_of<'p>(name: &Name, programs: &'p ProgramTable) -> &'p [u64]
     }
 }
 
-fn share(xs: &[u64], ys: &[u64]) -> bool
-    ensures { result ≡ share xs.now ys.now }
-{
-    ys.iter().any(|y| xs.contains(y))
-}
-
 fn both(alloc: Global, xs: &[u64], ys: &[u64]) -> Result<Seq<u64>, AllocError>
     ensures { IfOk result (λ list. list ≡ xs.now ++ ys.now) }
 {
@@ -46,7 +42,18 @@ fn both(alloc: Global, xs: &[u64], ys: &[u64]) -> Result<Seq<u64>, AllocError>
     Ok(list)
 }
 
+/// The two sides of a union have no plain program in common.
+fn apart(alloc: Global, left: &Name, right: &Name, programs: &ProgramTable) -> Result<(), NameFault>
+    ensures { Demands result (unless
+        (not (share (parts_of (entries programs.now) left.now) (parts_of (entries programs.now) right.now)))
+        Code.DeclaredTwice right.now.at) }
+{
+    let shared = share(alloc, parts_of(left, programs), parts_of(right, programs))?;
+    demand(!shared, Code::DeclaredTwice, right.at)
+}
+
 fn sides(
+    alloc: Global,
     name: &Name,
     left: &Name,
     right: &Name,
@@ -58,11 +65,7 @@ fn sides(
     new_program(name, programs, table)?;
     program_word(left, programs, table)?;
     program_word(right, programs, table)?;
-    demand(
-        !share(parts_of(left, programs), parts_of(right, programs)),
-        Code::DeclaredTwice,
-        right.at,
-    )
+    apart(alloc, left, right, programs)
 }
 
 fn union_parts(
@@ -71,7 +74,8 @@ fn union_parts(
     right: &Name,
     programs: &ProgramTable,
 ) -> Result<Seq<u64>, AllocError>
-    ensures { IfOk result (λ list. list ≡ parts_of (entries programs.now) left.now ++ parts_of (entries programs.now) right.now) }
+    ensures { IfOk result
+        (λ list. list ≡ parts_of (entries programs.now) left.now ++ parts_of (entries programs.now) right.now) }
 {
     both(alloc, parts_of(left, programs), parts_of(right, programs))
 }
@@ -83,7 +87,10 @@ fn composed(
     right: &Name,
     programs: &ProgramTable,
 ) -> Result<Composed, AllocError>
-    ensures { IfOk result (λ c. c ≡ record { at = name.now.at; parts = parts_of (entries programs.now) left.now ++ parts_of (entries programs.now) right.now }) }
+    ensures { IfOk result (λ c. c ≡ record {
+      at = name.now.at;
+      parts = parts_of (entries programs.now) left.now ++ parts_of (entries programs.now) right.now;
+    }) }
 {
     let parts = union_parts(alloc, left, right, programs)?;
     Ok(Composed { at: name.at, parts })
@@ -98,9 +105,10 @@ pub fn union_program<'a>(
     t: &mut Tables<'a>,
     table: &mut Table,
 ) -> Result<(), NameFault>
-    ensures { Leaves result table.old table.new (declared_in t.new) (union_program (declared_in t.old) name.now left.now right.now) }
+    ensures { Leaves result table.old table.new (declared_in t.new)
+        (union_program (declared_in t.old) name.now left.now right.now) }
 {
-    sides(name, left, right, &t.programs, table)?;
+    sides(alloc, name, left, right, &t.programs, table)?;
     let c = composed(alloc, name, left, right, &t.programs)?;
     compose(name, c, &mut t.programs)
 }

@@ -1,5 +1,6 @@
 -- A word that is taken where it is new.
-use Rattle.std.proofs.Common.{◌≡◌, ℕ, Bool, true, false, not, List, [], ◌∷◌, ◌++◌, map, Bor, None, Result, Ok, Err, refl, sym, ap, subst, ◌∙◌}
+use Rattle.std.proofs.Common.{◌≡◌, ℕ, Bool, false, not, List, [], ◌∷◌, ◌++◌, map, Bor, Result, Ok, Err}
+use Rattle.std.proofs.Common.{ap, subst, ◌∙◌}
 use Rattle.std.specs.List.{list_any}
 use Rattle.std.specs.Str.{bytes_eq}
 use Rattle.indexmap.specs.IndexSet.{insert_key}
@@ -15,7 +16,8 @@ use Rattle.statement_types.specs.Takes.{Takes}
 abbrev texts : List (Bor (List ℕ)) → List (List ℕ)
 texts ks = map (λ (k : Bor (List ℕ)). k.now) ks
 
-taken_as : (result : Result (Unit {0}) NameFault) (ks more : List (Bor (List ℕ))) (k : Bor (List ℕ)) (name : Name) (is_new : Bool) →
+taken_as : (result : Result (Unit {0}) NameFault) (ks more : List (Bor (List ℕ))) (k : Bor (List ℕ)) (name : Name)
+    (is_new : Bool) →
     k.now ≡ name.text → is_new ≡ not (list_any (bytes_eq k.now) (texts ks)) →
     more ≡ insert_key (λ (j k : Bor (List ℕ)). bytes_eq j.now k.now) ks k →
     Demands result (unless is_new Code.DeclaredTwice name.at) → Takes result (texts ks) (texts more) name
@@ -29,7 +31,8 @@ taken_as (Err f) ks more k name is_new e h w d =
     subst (λ (y : List ℕ). Stops f (unless (not (list_any (bytes_eq y) (texts ks))) Code.DeclaredTwice name.at)) e
     (subst (λ (b : Bool). Stops f (unless b Code.DeclaredTwice name.at)) h d)
 
-pub taken : (result : Result (Unit {0}) NameFault) (ks more : List (Bor (List ℕ))) (k : Bor (List ℕ)) (name : Name) (is_new : Bool) →
+pub taken : (result : Result (Unit {0}) NameFault) (ks more : List (Bor (List ℕ))) (k : Bor (List ℕ)) (name : Name)
+    (is_new : Bool) →
     k.now ≡ name.text → is_new ≡ not (list_any (λ (j : Bor (List ℕ)). bytes_eq k.now j.now) ks) →
     more ≡ insert_key (λ (j k : Bor (List ℕ)). bytes_eq j.now k.now) ks k →
     Demands result (unless is_new Code.DeclaredTwice name.at) → Takes result (texts ks) (texts more) name

@@ -3,7 +3,8 @@
 ghost use Rattle.std.specs.Prelude.{◌≡◌, ◌∷◌, map, length, Option, Some, None};
 ghost use Rattle.name_scopes.specs.Scope.{scope};
 ghost use Rattle.name_scopes.specs.Reading.{all_beside, needs, read, beside};
-ghost use Rattle.name_scopes.specs.Statements.{alternative_reading, alternatives_reading, condition_reading, further_reading, target_head, values_reading};
+ghost use Rattle.name_scopes.specs.Statements.{alternative_reading, alternatives_reading, condition_reading};
+ghost use Rattle.name_scopes.specs.Statements.{further_reading, target_head, values_reading};
 ghost use Rattle.name_scopes.specs.Answers.{Notes};
 
 use crate::targets::target_sort;
@@ -20,7 +21,8 @@ fn target_value(
     env: &Env,
     table: &mut Table,
 ) -> Result<(), NameFault>
-    ensures { Notes result table.old table.new (needs (target_head (scope known.now env.now) t.now).sort (read e.now (scope known.now env.now))) }
+    ensures { Notes result table.old table.new
+        (needs (target_head (scope known.now env.now) t.now).sort (read e.now (scope known.now env.now))) }
 {
     value(e, target_sort(t, known, env), known, env, table)
 }
@@ -50,7 +52,8 @@ fn values(
     table: &mut Table,
 ) -> Result<(), NameFault>
     requires { length values.now.rest ≡ length rest.now }
-    ensures { Notes result table.old table.new (values_reading (scope known.now env.now) (first.now ∷ rest.now) (values.now.first ∷ values.now.rest)) }
+    ensures { Notes result table.old table.new
+        (values_reading (scope known.now env.now) (first.now ∷ rest.now) (values.now.first ∷ values.now.rest)) }
 {
     target_value(&values.first, first, known, env, table)?;
     further_values(rest, values.rest.as_slice(), known, env, table)
@@ -65,7 +68,8 @@ fn counted(
     env: &Env,
     table: &mut Table,
 ) -> Result<(), NameFault>
-    ensures { Notes result table.old table.new (alternative_reading (scope known.now env.now) first.now rest.now list.now None) }
+    ensures { Notes result table.old table.new
+        (alternative_reading (scope known.now env.now) first.now rest.now list.now None) }
 {
     if list.rest.len() == rest.len() {
         values(first, rest, list, known, env, table)
@@ -86,7 +90,8 @@ fn conditional(
     env: &Env,
     table: &mut Table,
 ) -> Result<(), NameFault>
-    ensures { Notes result table.old table.new (alternative_reading (scope known.now env.now) first.now rest.now list.now (Some condition.now)) }
+    ensures { Notes result table.old table.new
+        (alternative_reading (scope known.now env.now) first.now rest.now list.now (Some condition.now)) }
 {
     counted(first, rest, list, known, env, table)?;
     value(condition, Sort::Boolean, known, env, table)
@@ -100,7 +105,8 @@ fn further(
     env: &Env,
     table: &mut Table,
 ) -> Result<(), NameFault>
-    ensures { Notes result table.old table.new (all_beside (map (further_reading (scope known.now env.now) first.now rest.now) list.now)) }
+    ensures { Notes result table.old table.new
+        (all_beside (map (further_reading (scope known.now env.now) first.now rest.now) list.now)) }
 {
     for (values, condition) in list {
         conditional(first, rest, values, condition, known, env, table)?;
@@ -117,7 +123,8 @@ pub fn alternatives(
     env: &Env,
     table: &mut Table,
 ) -> Result<(), NameFault>
-    ensures { Notes result table.old table.new (alternatives_reading (scope known.now env.now) first.now rest.now alts.now.values alts.now.condition) }
+    ensures { Notes result table.old table.new
+        (alternatives_reading (scope known.now env.now) first.now rest.now alts.now.values alts.now.condition) }
 {
     match &alts.condition {
         None => counted(first, rest, &alts.values, known, env, table),

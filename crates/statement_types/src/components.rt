@@ -1,32 +1,17 @@
 //! Assignments and their components.
 
 ghost use Rattle.std.specs.Prelude.{◌≡◌, ◌∷◌, map};
-ghost use Rattle.name_scopes.specs.declared.named.Meaning.{Meaning};
-ghost use Rattle.name_scopes.specs.Scope.{bounds, scope};
-ghost use Rattle.name_scopes.specs.Reading.{all_beside, beside, binding, range_reading};
+ghost use Rattle.name_scopes.specs.Scope.{scope};
+ghost use Rattle.name_scopes.specs.Reading.{all_beside};
 ghost use Rattle.name_scopes.specs.Statements.{assign_reading, component_reading};
 ghost use Rattle.name_scopes.specs.Answers.{Notes};
 
 use crate::alternatives::alternatives;
 use crate::targets::targets;
-use expression_types::{Table, bind, range_words};
+use expression_types::{Table, bind_in};
 use name_scopes::{Env, Known, Meaning, NameFault, with_name};
 use unity_base::Seq;
-use unity_syntax::{Assign, Component, Name, Range};
-
-/// A name is bound, and then comes its range, in which it is not visible.
-fn bind_in(
-    name: &Name,
-    range: &Range,
-    known: &Known,
-    env: &Env,
-    table: &mut Table,
-) -> Result<(), NameFault>
-    ensures { Notes result table.old table.new (beside (binding (scope known.now env.now) name.now (Meaning.Bound name.now.at)) (range_reading (bounds env.now) range.now)) }
-{
-    bind(name, Meaning::Bound(name.at), known, env, table)?;
-    range_words(range, env, table)
-}
+use unity_syntax::{Assign, Component};
 
 #[cycle(assign)]
 fn component(c: &Component, known: &Known, env: &Env, table: &mut Table) -> Result<(), NameFault>
@@ -71,7 +56,8 @@ fn further(
     env: &Env,
     table: &mut Table,
 ) -> Result<(), NameFault>
-    ensures { Notes result table.old table.new (all_beside (map (λ c. component_reading c (scope known.now env.now)) cs.now)) }
+    ensures { Notes result table.old table.new
+        (all_beside (map (λ c. component_reading c (scope known.now env.now)) cs.now)) }
 {
     for c in cs.as_slice() {
         component(c, known, env, table)?;

@@ -23,7 +23,9 @@ fn bind_filled(
     env: &Env,
     table: &mut Table,
 ) -> Result<(), NameFault>
-    ensures { Notes result table.old table.new (beside (binding (scope known.now env.now) name.now (Meaning.Bound name.now.at)) (filled (bounds env.now) range.now)) }
+    ensures { Notes result table.old table.new
+        (beside (binding (scope known.now env.now) name.now (Meaning.Bound name.now.at))
+        (filled (bounds env.now) range.now)) }
 {
     bind(name, Meaning::Bound(name.at), known, env, table)?;
     filled_range(range, env, table)
@@ -37,7 +39,8 @@ fn item<'a>(
     labels: &mut WordSet<'a>,
     table: &mut Table,
 ) -> Result<(), NameFault>
-    ensures { Leaves result table.old table.new (seen_keys labels.new) (item_part i.now (scope known.now env.now) (seen_keys labels.old)) }
+    ensures { Leaves result table.old table.new (seen_keys labels.new)
+        (item_part i.now (scope known.now env.now) (seen_keys labels.old)) }
 {
     match i {
         Item::Statement {
@@ -70,7 +73,8 @@ pub fn items<'a>(
     labels: &mut WordSet<'a>,
     table: &mut Table,
 ) -> Result<(), NameFault>
-    ensures { Leaves result table.old table.new (seen_keys labels.new) (items_part x.now (scope known.now env.now) (seen_keys labels.old)) }
+    ensures { Leaves result table.old table.new (seen_keys labels.new)
+        (items_part x.now (scope known.now env.now) (seen_keys labels.old)) }
 {
     item(&x.first, known, env, labels, table)?;
     further(&x.rest, known, env, labels, table)
@@ -84,7 +88,8 @@ fn further<'a>(
     labels: &mut WordSet<'a>,
     table: &mut Table,
 ) -> Result<(), NameFault>
-    ensures { Leaves result table.old table.new (seen_keys labels.new) (run (λ labels i. item_part i (scope known.now env.now) labels) (seen_keys labels.old) list.now) }
+    ensures { Leaves result table.old table.new (seen_keys labels.new)
+        (run (λ labels i. item_part i (scope known.now env.now) labels) (seen_keys labels.old) list.now) }
 {
     for i in list.as_slice() {
         item(i, known, env, labels, table)?;

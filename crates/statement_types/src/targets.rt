@@ -79,7 +79,8 @@ pub fn targets(
     env: &Env,
     table: &mut Table,
 ) -> Result<(), NameFault>
-    ensures { Notes result table.old table.new (all_beside (map (target_reading (scope known.now env.now)) (first.now ∷ rest.now))) }
+    ensures { Notes result table.old table.new
+        (all_beside (map (target_reading (scope known.now env.now)) (first.now ∷ rest.now))) }
 {
     target(first, known, env, table)?;
     further(rest, known, env, table)

@@ -6,5 +6,6 @@ use Rattle.name_scopes.proofs.Steps.{Rest}
 use Rattle.proof_types.proofs.indices.further.Given as goal
 
 abbrev pub invariant-loop-end : goal.invariant-loop-end
-invariant-loop-end l = Rest l.table (all_beside (map (argument_reading l.of (scope l.known l.env)) (drop l.end-index l.ends)))
+invariant-loop-end l = Rest l.table
+    (all_beside (map (argument_reading l.of (scope l.known l.env)) (drop l.end-index l.ends)))
     l.initial.table (all_beside (map (argument_reading l.of (scope l.known l.env)) l.ends))

@@ -6,5 +6,6 @@ use Rattle.name_scopes.proofs.Steps.{Rest}
 use Rattle.proof_types.proofs.refs.further.Given as goal
 
 abbrev pub invariant-loop-r : goal.invariant-loop-r
-invariant-loop-r l = Rest l.table (all_beside (map (ref_reading (entries l.programs) (scope l.known l.env)) (drop l.r-index l.rs)))
+invariant-loop-r l = Rest l.table
+    (all_beside (map (ref_reading (entries l.programs) (scope l.known l.env)) (drop l.r-index l.rs)))
     l.initial.table (all_beside (map (ref_reading (entries l.programs) (scope l.known l.env)) l.rs))

@@ -6,5 +6,6 @@ use Rattle.name_scopes.proofs.Steps.{Rest}
 use Rattle.statement_types.proofs.alternatives.further.Given as goal
 
 abbrev pub invariant-loop-values : goal.invariant-loop-values
-invariant-loop-values l = Rest l.table (all_beside (map (further_reading (scope l.known l.env) l.first l.rest) (drop l.values-index l.list)))
+invariant-loop-values l = Rest l.table
+    (all_beside (map (further_reading (scope l.known l.env) l.first l.rest) (drop l.values-index l.list)))
     l.initial.table (all_beside (map (further_reading (scope l.known l.env) l.first l.rest) l.list))

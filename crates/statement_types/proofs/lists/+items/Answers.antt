@@ -10,7 +10,10 @@ use Rattle.statement_types.proofs.lists.+items.Goals as goal
 pub items-returns : goal.items-returns
 items-returns t c = let s = scope c.args.known.now c.args.env.now in
     let x = c.args.x.now in
-    subst (λ (p : Part Labels). Leaves c.further.result c.args.table.now c.further.new.table (seen_keys c.further.new.labels) p)
+    subst (λ (p : Part Labels).
+    Leaves c.further.result c.args.table.now c.further.new.table (seen_keys c.further.new.labels) p)
     (sym (items-parts x s (seen_keys c.args.labels.now)))
-    (before_leaves c.further.result c.args.table.now c.item.new.table c.further.new.table (seen_keys c.item.new.labels) (seen_keys c.further.new.labels)
-    (item_part x.first s (seen_keys c.args.labels.now)) (λ more. run (λ others i. item_part i s others) more x.rest) c.in_ok-item.ensures c.further.ensures)
+    (before_leaves c.further.result c.args.table.now c.item.new.table c.further.new.table
+    (seen_keys c.item.new.labels) (seen_keys c.further.new.labels)
+    (item_part x.first s (seen_keys c.args.labels.now))
+    (λ more. run (λ others i. item_part i s others) more x.rest) c.in_ok-item.ensures c.further.ensures)

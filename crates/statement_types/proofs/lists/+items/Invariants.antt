@@ -6,5 +6,6 @@ use Rattle.name_scopes.proofs.Steps.{Ahead}
 use Rattle.statement_types.proofs.lists.+items.Given as goal
 
 abbrev pub invariant-further-loop-i : goal.invariant-further-loop-i
-invariant-further-loop-i l = Ahead l.table (run (λ labels i. item_part i (scope l.known l.env) labels) (seen_keys l.labels) (drop l.i-index l.i-items))
+invariant-further-loop-i l = Ahead l.table
+    (run (λ labels i. item_part i (scope l.known l.env) labels) (seen_keys l.labels) (drop l.i-index l.i-items))
     l.initial.table (run (λ labels i. item_part i (scope l.known l.env) labels) (seen_keys l.initial.labels) l.i-items)
