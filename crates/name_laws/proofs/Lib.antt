@@ -1,0 +1,9 @@
+pub mod AttributeTheorems
+pub mod Tables
+pub mod Slots
+pub mod Inserts
+pub mod Mirrored
+pub mod Walks
+pub mod Staying
+pub mod Assignments
+pub mod AlwaysNames
