@@ -1,4 +1,5 @@
 // Answers over sources and sinks in memory, whose calls fail where they are told to.
+mod names;
 mod texts;
 
 use super::*;
