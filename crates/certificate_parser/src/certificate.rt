@@ -7,7 +7,8 @@ ghost use Rattle.ebnf.specs.Ebnf.{both, many, more, numbered, numbered_item, pre
 ghost use Rattle.ebnf.specs.Reader.{take_number};
 ghost use Rattle.unity_syntax.specs.Classes.{number_class, reserved};
 ghost use Rattle.unity_syntax.specs.Kinds.{Kind};
-ghost use Rattle.unity_syntax.specs.Grammar.{made, past, minus_, number_, multiple_, node_, subtrees, certificate_, certificates_};
+ghost use Rattle.unity_syntax.specs.Grammar.{made, past, minus_, number_, multiple_, node_, subtrees, certificate_};
+ghost use Rattle.unity_syntax.specs.Grammar.{certificates_};
 ghost use Rattle.unity_syntax.specs.View.{view_certificate, view_certificates, view_list, view_node, view_pair};
 ghost use Rattle.token_cursor.specs.Gives.{Gives, Reads, remaining};
 

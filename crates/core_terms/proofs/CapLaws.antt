@@ -22,7 +22,8 @@ module _ (slots params : ℕ → ℕ) (k l : ℤ) (t a : CTerm) (is : t ≡ Scal
   whole = ap (term_weights slots params) is
 
   -- a multiple's own weight, from its part's
-  pub scaled_own : (x : ℕ) → x ≡ min part.own (2 ^ 63) → min (unsigned_abs l * x) (2 ^ 63) ≡ min (term_weights slots params t).own (2 ^ 63)
+  pub scaled_own : (x : ℕ) → x ≡ min part.own (2 ^ 63) → min (unsigned_abs l * x) (2 ^ 63) ≡ min
+      (term_weights slots params t).own (2 ^ 63)
   scaled_own x e =
       let own = ap (λ (w : Weights). min w.own (2 ^ 63)) (whole ∙ weights-Scale slots params k a) in
       ap (λ z. min (unsigned_abs z * x) (2 ^ 63)) same ∙ ap (λ n. min (unsigned_abs k * n) (2 ^ 63)) e

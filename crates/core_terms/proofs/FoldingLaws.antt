@@ -1,5 +1,6 @@
 -- What is known of a tree is its value, and a folded tree is worth what the tree is.
-use Rattle.std.proofs.Common.{◌≡◌, ℕ, ◌+◌, ◌*◌, ◌≤◌, max, ℤ, pos, ◌+ℤ◌, ◌-ℤ◌, ◌*ℤ◌, List, Bool, true, false, cond, not, ◌&&◌, ◌||◌, Option, Some, None, refl, sym, ap, ◌∙◌, subst, arith}
+use Rattle.std.proofs.Common.{◌≡◌, ℕ, ◌+◌, ◌*◌, ◌≤◌, max, ℤ, pos, ◌+ℤ◌, ◌-ℤ◌, ◌*ℤ◌, List, Bool, true, false, cond, not}
+use Rattle.std.proofs.Common.{◌&&◌, ◌||◌, Option, Some, None, refl, sym, ap, ◌∙◌, subst, arith}
 use Rattle.std.proofs.lemmas.Int.{ints, unsigned_abs-mul}
 use Rattle.std.proofs.Math.Nat.{mul-le-mul_left}
 use Rattle.std.specs.Option.{option_map}
@@ -13,8 +14,12 @@ use Rattle.core_terms.specs.declared.trees.CForm.TheOpen.{CTerm-F, CForm-F}
 use Rattle.core_terms.specs.declared.trees.CForm.TheFolds.{map-CForm, map-CTerm}
 use Rattle.core_terms.specs.Values.{term_step, form_step, term_value, form_value}
 use Rattle.core_terms.specs.Weights.{Weights, weigh_term, weigh_form, term_weights, form_weight}
-use Rattle.core_terms.specs.Folding.{joined, chosen, number_step, truth_step, number_of, truth_of, is_small, constant_or, truth_or, branch_or, folded_term, folded_form, sum_term, difference_term, scaled_term, choice_term, at_least_form, zero_form, not_form, and_form, or_form}
-use Rattle.core_terms.proofs.PartLaws.{value-Const, value-Add, value-Sub, value-Scale, value-Ite, value-Top, value-Bottom, value-AtLeast, value-Zero, value-Not, value-And, value-Or}
+use Rattle.core_terms.specs.Folding.{joined, chosen, number_step, truth_step, number_of, truth_of, is_small}
+use Rattle.core_terms.specs.Folding.{constant_or, truth_or, branch_or, folded_term, folded_form, sum_term}
+use Rattle.core_terms.specs.Folding.{difference_term, scaled_term, choice_term, at_least_form, zero_form, not_form}
+use Rattle.core_terms.specs.Folding.{and_form, or_form}
+use Rattle.core_terms.proofs.PartLaws.{value-Const, value-Add, value-Sub, value-Scale, value-Ite, value-Top}
+use Rattle.core_terms.proofs.PartLaws.{value-Bottom, value-AtLeast, value-Zero, value-Not, value-And, value-Or}
 
 -- a number, where there is one, is the value, and lies within the weight
 abbrev pub Right : Option ℤ → ℤ → ℕ → Type 0
@@ -33,7 +38,8 @@ right_along m n v w a b e f g h =
 true_along : (m n : Option Bool) (v w : Bool) → m ≡ n → v ≡ w → True n w → True m v
 true_along m n v w e f h = subst (λ x. True x v) (sym e) (subst (λ x. True n x) (sym f) h)
 
-right_sum : (m n : Option ℤ) (v w : ℤ) (a b : ℕ) → Right m v a → Right n w b → Right (joined (λ x y. x +ℤ y) m n) (v +ℤ w) (a + b)
+right_sum : (m n : Option ℤ) (v w : ℤ) (a b : ℕ) → Right m v a → Right n w b → Right (joined (λ x y. x +ℤ y) m n)
+    (v +ℤ w) (a + b)
 right_sum None n v w a b h k = tt
 right_sum (Some x) None v w a b h k = tt
 right_sum (Some x) (Some y) v w a b h k = (ap (λ z. z +ℤ w) h.0 ∙ ap (λ z. x +ℤ z) k.0, omega (arith, ints, h.1, k.1))
@@ -42,7 +48,11 @@ right_difference : (m n : Option ℤ) (v w : ℤ) (a b : ℕ) → Right m v a �
     Right (joined (λ x y. x -ℤ y) m n) (v -ℤ w) (a + b)
 right_difference None n v w a b h k = tt
 right_difference (Some x) None v w a b h k = tt
-right_difference (Some x) (Some y) v w a b h k = (ap (λ z. z -ℤ w) h.0 ∙ ap (λ z. x -ℤ z) k.0, omega (arith, ints, h.1, k.1))
+right_difference (Some x) (Some y) v w a b h k = (
+  ap (λ z. z -ℤ w) h.0 ∙ ap (λ z. x -ℤ z) k.0,
+  omega
+      (arith, ints, h.1, k.1),
+)
 
 right_scaled : (k : ℤ) (m : Option ℤ) (v : ℤ) (a : ℕ) → Right m v a →
     Right (option_map (λ x. k *ℤ x) m) (k *ℤ v) (unsigned_abs k * a)
@@ -51,7 +61,8 @@ right_scaled k (Some x) v a h =
     let within : unsigned_abs k * unsigned_abs x ≤ unsigned_abs k * a = mul-le-mul_left (unsigned_abs k) h.1 in
     (ap (λ z. k *ℤ z) h.0, omega (arith, unsigned_abs-mul k x, within))
 
-right_chosen : (c : Option Bool) (m n : Option ℤ) (t : Bool) (v w : ℤ) (a b : ℕ) → True c t → Right m v a → Right n w b →
+right_chosen : (c : Option Bool) (m n : Option ℤ) (t : Bool) (v w : ℤ) (a b : ℕ) → True c t → Right m v a → Right n w b
+    →
     Right (chosen c m n) (cond t v w) (max a b)
 right_chosen None m n t v w a b g h k = tt
 right_chosen (Some c) None n t v w a b g h k = tt
@@ -67,7 +78,8 @@ true_not : (c : Option Bool) (t : Bool) → True c t → True (option_map not c)
 true_not None t h = tt
 true_not (Some c) t h = ap not h
 
-true_joined : (op : Bool → Bool → Bool) (c d : Option Bool) (t u : Bool) → True c t → True d u → True (joined op c d) (op t u)
+true_joined : (op : Bool → Bool → Bool) (c d : Option Bool) (t u : Bool) → True c t → True d u → True (joined op c d)
+    (op t u)
 true_joined op None d t u h k = tt
 true_joined op (Some x) None t u h k = tt
 true_joined op (Some x) (Some y) t u h k = ap (λ z. op z u) h ∙ ap (λ z. op x z) k
@@ -89,18 +101,22 @@ module _ (s p : List ℤ) (slots params : ℕ → ℕ) where
       True (truth_step (map-CForm CForm CTerm (Option Bool) (Option ℤ) truth_of number_of x))
       (form_step (map-CForm CForm CTerm Bool ℤ (form_value s p) (term_value s p) x)) → FormRight (roll-CForm x)
   rolled_form x h =
-      true_along _ _ _ _ (fold-roll-CForm (Option Bool) (Option ℤ) truth_step number_step x) (fold-roll-CForm Bool ℤ form_step (term_step s p) x) h
+      true_along _ _ _ _ (fold-roll-CForm (Option Bool) (Option ℤ) truth_step number_step x)
+      (fold-roll-CForm Bool ℤ form_step (term_step s p) x) h
 
   rolled_term : (x : CTerm-F CForm CTerm) →
       Right (number_step (map-CTerm CForm CTerm (Option Bool) (Option ℤ) truth_of number_of x))
       (term_step s p (map-CTerm CForm CTerm Bool ℤ (form_value s p) (term_value s p) x))
-      (weigh_term slots params (map-CTerm CForm CTerm ℕ Weights (form_weight slots params) (term_weights slots params) x)).own →
+      (weigh_term slots params (map-CTerm CForm CTerm ℕ Weights (form_weight slots params) (term_weights slots params)
+      x)).own →
       TermRight (roll-CTerm x)
   rolled_term x h =
-      right_along _ _ _ _ _ _ (fold-roll-CTerm (Option Bool) (Option ℤ) truth_step number_step x) (fold-roll-CTerm Bool ℤ form_step (term_step s p) x)
+      right_along _ _ _ _ _ _ (fold-roll-CTerm (Option Bool) (Option ℤ) truth_step number_step x)
+      (fold-roll-CTerm Bool ℤ form_step (term_step s p) x)
       (ap (λ (w : Weights). w.own) (fold-roll-CTerm ℕ Weights weigh_form (weigh_term slots params) x)) h
 
-  form_layer : (y : CForm-F RightForm RightTerm) → FormRight (roll-CForm (map-CForm RightForm RightTerm CForm CTerm (λ e. e.0) (λ e. e.0) y))
+  form_layer : (y : CForm-F RightForm RightTerm) → FormRight
+      (roll-CForm (map-CForm RightForm RightTerm CForm CTerm (λ e. e.0) (λ e. e.0) y))
   form_layer CForm-F.Top = rolled_form CForm-F.Top refl
   form_layer CForm-F.Bottom = rolled_form CForm-F.Bottom refl
   form_layer (CForm-F.AtLeast t) = rolled_form (CForm-F.AtLeast t.0) (true_tested (λ z. int_le (pos 0) z) _ _ _ t.1)
@@ -109,7 +125,8 @@ module _ (s p : List ℤ) (slots params : ℕ → ℕ) where
   form_layer (CForm-F.And f g) = rolled_form (CForm-F.And f.0 g.0) (true_joined (λ x y. x && y) _ _ _ _ f.1 g.1)
   form_layer (CForm-F.Or f g) = rolled_form (CForm-F.Or f.0 g.0) (true_joined (λ x y. x || y) _ _ _ _ f.1 g.1)
 
-  term_layer : (y : CTerm-F RightForm RightTerm) → TermRight (roll-CTerm (map-CTerm RightForm RightTerm CForm CTerm (λ e. e.0) (λ e. e.0) y))
+  term_layer : (y : CTerm-F RightForm RightTerm) → TermRight
+      (roll-CTerm (map-CTerm RightForm RightTerm CForm CTerm (λ e. e.0) (λ e. e.0) y))
   term_layer (CTerm-F.Const c) = rolled_term (CTerm-F.Const c) (refl, omega arith)
   term_layer (CTerm-F.Slot n) = rolled_term (CTerm-F.Slot n) tt
   term_layer (CTerm-F.Param n) = rolled_term (CTerm-F.Param n) tt
@@ -132,14 +149,16 @@ module _ (s p : List ℤ) (slots params : ℕ → ℕ) where
 abbrev none : ℕ → ℕ
 none n = 0
 
-constant_value : (s p : List ℤ) (t : CTerm) (m : Option ℤ) (b : ℕ) → Right m (term_value s p t) b → term_value s p (constant_or m t) ≡ term_value s p t
+constant_value : (s p : List ℤ) (t : CTerm) (m : Option ℤ) (b : ℕ) → Right m (term_value s p t) b → term_value s p
+    (constant_or m t) ≡ term_value s p t
 constant_value s p t None b h = refl
 constant_value s p t (Some z) b h = elim (is_small z) as (λ v. term_value s p (cond v (Const z) t) ≡ term_value s p t) [
   | true ↦ value-Const s p z ∙ sym h.0
   | false ↦ refl
 ]
 
-truth_value : (s p : List ℤ) (f : CForm) (m : Option Bool) → True m (form_value s p f) → form_value s p (truth_or m f) ≡ form_value s p f
+truth_value : (s p : List ℤ) (f : CForm) (m : Option Bool) → True m (form_value s p f) → form_value s p (truth_or m f) ≡
+    form_value s p f
 truth_value s p f None h = refl
 truth_value s p f (Some true) h = value-Top s p ∙ sym h
 truth_value s p f (Some false) h = value-Bottom s p ∙ sym h
@@ -154,7 +173,8 @@ value-folded_form s p f = truth_value s p f (truth_of f) (form_right s p none no
 pub value-sum_term : (s p : List ℤ) (a b : CTerm) → term_value s p (sum_term a b) ≡ term_value s p a +ℤ term_value s p b
 value-sum_term s p a b = value-folded_term s p (Add a b) ∙ value-Add s p a b
 
-pub value-difference_term : (s p : List ℤ) (a b : CTerm) → term_value s p (difference_term a b) ≡ term_value s p a -ℤ term_value s p b
+pub value-difference_term : (s p : List ℤ) (a b : CTerm) → term_value s p (difference_term a b) ≡ term_value s p a -ℤ
+    term_value s p b
 value-difference_term s p a b = value-folded_term s p (Sub a b) ∙ value-Sub s p a b
 
 pub value-scaled_term : (s p : List ℤ) (k : ℤ) (a : CTerm) → term_value s p (scaled_term k a) ≡ k *ℤ term_value s p a
@@ -170,7 +190,8 @@ pub value-choice_term : (s p : List ℤ) (c : CForm) (a b : CTerm) →
     term_value s p (choice_term c a b) ≡ cond (form_value s p c) (term_value s p a) (term_value s p b)
 value-choice_term s p c a b = branch_value s p c a b (truth_of c) (form_right s p none none c)
 
-pub value-at_least_form : (s p : List ℤ) (t : CTerm) → form_value s p (at_least_form t) ≡ int_le (pos 0) (term_value s p t)
+pub value-at_least_form : (s p : List ℤ) (t : CTerm) → form_value s p (at_least_form t) ≡ int_le (pos 0)
+    (term_value s p t)
 value-at_least_form s p t = value-folded_form s p (AtLeast t) ∙ value-AtLeast s p t
 
 pub value-zero_form : (s p : List ℤ) (t : CTerm) → form_value s p (zero_form t) ≡ int_eq (term_value s p t) (pos 0)
@@ -179,7 +200,8 @@ value-zero_form s p t = value-folded_form s p (Zero t) ∙ value-Zero s p t
 pub value-not_form : (s p : List ℤ) (f : CForm) → form_value s p (not_form f) ≡ not (form_value s p f)
 value-not_form s p f = value-folded_form s p (Not f) ∙ value-Not s p f
 
-pub value-and_form : (s p : List ℤ) (f g : CForm) → form_value s p (and_form f g) ≡ (form_value s p f && form_value s p g)
+pub value-and_form : (s p : List ℤ) (f g : CForm) → form_value s p (and_form f g) ≡
+    (form_value s p f && form_value s p g)
 value-and_form s p f g = value-folded_form s p (And f g) ∙ value-And s p f g
 
 pub value-or_form : (s p : List ℤ) (f g : CForm) → form_value s p (or_form f g) ≡ (form_value s p f || form_value s p g)

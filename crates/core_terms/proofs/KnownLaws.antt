@@ -1,5 +1,6 @@
 -- What is known of a tree is still known when it is folded, and is its value.
-use Rattle.std.proofs.Common.{◌≡◌, ◌≤◌, ℤ, List, [], Bool, true, false, cond, Option, Some, None, refl, sym, ap, ◌∙◌, subst}
+use Rattle.std.proofs.Common.{◌≡◌, ◌≤◌, ℤ, List, [], Bool, true, false, cond, Option, Some, None, refl, sym, ap, ◌∙◌}
+use Rattle.std.proofs.Common.{subst}
 use Rattle.core_terms.specs.declared.trees.CTerm.{CTerm, fold-roll-CTerm}
 use Rattle.core_terms.specs.declared.trees.CTerm.TheVariants.{Const, rolls-Const}
 use Rattle.core_terms.specs.declared.trees.CForm.{CForm, fold-roll-CForm}
@@ -9,17 +10,20 @@ use Rattle.core_terms.specs.Values.{term_value, form_value}
 use Rattle.std.specs.Prelude.{MatchOption}
 use Rattle.std.specs.Int.RustNames.{unsigned_abs}
 use Rattle.core_terms.specs.Weights.{one_weight, term_weights, plain_weights}
-use Rattle.core_terms.specs.Folding.{number_step, truth_step, number_of, truth_of, is_small, constant_or, truth_or, folded_term, folded_form}
+use Rattle.core_terms.specs.Folding.{number_step, truth_step, number_of, truth_of, is_small, constant_or, truth_or}
+use Rattle.core_terms.specs.Folding.{folded_term, folded_form}
 use Rattle.core_terms.proofs.FoldingLaws.{Right, True, form_right, term_right}
 
 number-Const : (z : ℤ) → number_of (Const z) ≡ Some z
-number-Const z = ap number_of (sym (rolls-Const z)) ∙ fold-roll-CTerm (Option Bool) (Option ℤ) truth_step number_step (CTerm-F.Const z)
+number-Const z = ap number_of (sym (rolls-Const z)) ∙ fold-roll-CTerm (Option Bool) (Option ℤ) truth_step number_step
+    (CTerm-F.Const z)
 
 truth-Top : truth_of Top ≡ Some true
 truth-Top = ap truth_of (sym rolls-Top) ∙ fold-roll-CForm (Option Bool) (Option ℤ) truth_step number_step CForm-F.Top
 
 truth-Bottom : truth_of Bottom ≡ Some false
-truth-Bottom = ap truth_of (sym rolls-Bottom) ∙ fold-roll-CForm (Option Bool) (Option ℤ) truth_step number_step CForm-F.Bottom
+truth-Bottom = ap truth_of (sym rolls-Bottom) ∙ fold-roll-CForm (Option Bool) (Option ℤ) truth_step number_step
+    CForm-F.Bottom
 
 constant_known : (t : CTerm) (m : Option ℤ) → number_of t ≡ m → number_of (constant_or m t) ≡ m
 constant_known t None e = e
@@ -41,7 +45,8 @@ known_folded_form f = truth_known f (truth_of f) refl
 
 pub number_is_value : (s p : List ℤ) (t : CTerm) (z : ℤ) → number_of t ≡ Some z → term_value s p t ≡ z
 number_is_value s p t z e =
-    (subst (λ m. Right m (term_value s p t) (term_weights one_weight one_weight t).own) e (term_right s p one_weight one_weight t)).0
+    (subst (λ m. Right m (term_value s p t) (term_weights one_weight one_weight t).own) e
+    (term_right s p one_weight one_weight t)).0
 
 pub truth_is_value : (s p : List ℤ) (f : CForm) (b : Bool) → truth_of f ≡ Some b → form_value s p f ≡ b
 truth_is_value s p f b e = subst (λ m. True m (form_value s p f)) e (form_right s p one_weight one_weight f)
@@ -49,7 +54,8 @@ truth_is_value s p f b e = subst (λ m. True m (form_value s p f)) e (form_right
 -- a number lies within the weight
 pub number_within : (t : CTerm) (z : ℤ) → number_of t ≡ Some z → unsigned_abs z ≤ (plain_weights t).own
 number_within t z e =
-    (subst (λ m. Right m (term_value [] [] t) (term_weights one_weight one_weight t).own) e (term_right [] [] one_weight one_weight t)).1
+    (subst (λ m. Right m (term_value [] [] t) (term_weights one_weight one_weight t).own) e
+    (term_right [] [] one_weight one_weight t)).1
 
 pub number_bound : (t : CTerm) (m : Option ℤ) → m ≡ number_of t →
     MatchOption m (Unit {0}) (λ z. unsigned_abs z ≤ (plain_weights t).own)

@@ -1,5 +1,6 @@
 -- The test of equal trees passes at equal trees alone.
-use Rattle.std.proofs.Common.{◌≡◌, ℕ, nat_eq, ℤ, Bool, true, false, ◌&&◌, IsTrue, refl, sym, ap, ◌∙◌, subst, arith, inl, inr}
+use Rattle.std.proofs.Common.{◌≡◌, ℕ, nat_eq, ℤ, Bool, true, false, ◌&&◌, IsTrue, refl, sym, ap, ◌∙◌, subst, arith, inl}
+use Rattle.std.proofs.Common.{inr}
 use Rattle.std.specs.Prelude.{◌↔◌}
 use Rattle.std.proofs.lemmas.Int.{ints}
 use Rattle.std.proofs.lemmas.Bool.Decides.{eqb_tells}
@@ -7,8 +8,10 @@ use borrow.Author.Differences.{le-true}
 use Rattle.std.specs.Int.RustNames.{int_le}
 use Rattle.core_terms.proofs.BoolLaws.{and_left, and_right, both_true, le_passes, self_equal}
 use Rattle.state_steps.specs.State.{int_eq}
-use Rattle.core_terms.specs.declared.trees.CTerm.{CTerm, out-CTerm, out-roll-CTerm, roll-out-CTerm, roll-CTerm, fold-roll-CTerm}
-use Rattle.core_terms.specs.declared.trees.CForm.{CForm, out-CForm, out-roll-CForm, roll-out-CForm, roll-CForm, ind-CForm, fold-roll-CForm}
+use Rattle.core_terms.specs.declared.trees.CTerm.{CTerm, out-CTerm, out-roll-CTerm, roll-out-CTerm, roll-CTerm}
+use Rattle.core_terms.specs.declared.trees.CTerm.{fold-roll-CTerm}
+use Rattle.core_terms.specs.declared.trees.CForm.{CForm, out-CForm, out-roll-CForm, roll-out-CForm, roll-CForm}
+use Rattle.core_terms.specs.declared.trees.CForm.{ind-CForm, fold-roll-CForm}
 use Rattle.core_terms.specs.declared.trees.CForm.TheOpen.{CTerm-F, CForm-F}
 use Rattle.core_terms.specs.declared.trees.CForm.TheFolds.{map-CForm, map-CTerm}
 use Rattle.core_terms.specs.Trees.{same_forms, same_terms, same_form, same_term}
@@ -45,10 +48,13 @@ module _ where
   term_tests x = map-CTerm CForm CTerm Tests TermTests same_form same_term x
 
   same_roll : (x : CForm-F CForm CTerm) (g : CForm) → same_form (roll-CForm x) g ≡ same_forms (tests x) (out-CForm g)
-  same_roll x g = ap (λ (h : Tests). h g) (fold-roll-CForm Tests TermTests (λ x f. same_forms x (out-CForm f)) (λ x t. same_terms x (out-CTerm t)) x)
+  same_roll x g = ap (λ (h : Tests). h g) (fold-roll-CForm Tests TermTests (λ x f. same_forms x (out-CForm f))
+      (λ x t. same_terms x (out-CTerm t)) x)
 
-  same_roll_term : (x : CTerm-F CForm CTerm) (u : CTerm) → same_term (roll-CTerm x) u ≡ same_terms (term_tests x) (out-CTerm u)
-  same_roll_term x u = ap (λ (h : TermTests). h u) (fold-roll-CTerm Tests TermTests (λ x f. same_forms x (out-CForm f)) (λ x t. same_terms x (out-CTerm t)) x)
+  same_roll_term : (x : CTerm-F CForm CTerm) (u : CTerm) → same_term (roll-CTerm x) u ≡ same_terms (term_tests x)
+      (out-CTerm u)
+  same_roll_term x u = ap (λ (h : TermTests). h u) (fold-roll-CTerm Tests TermTests (λ x f. same_forms x (out-CForm f))
+      (λ x t. same_terms x (out-CTerm t)) x)
 
   abbrev FormIs : CForm → Type 0
   FormIs f = ((g : CForm) → IsTrue (same_form f g) → f ≡ g) × IsTrue (same_form f f)
@@ -75,21 +81,27 @@ module _ where
   form_case (CForm-F.Zero a) (CForm-F.Zero b) t = ap (λ v. CForm-F.Zero v) (a.1.0 b t)
   form_case (CForm-F.Not a) (CForm-F.Not b) t = ap (λ v. CForm-F.Not v) (a.1.0 b t)
   form_case (CForm-F.And a b) (CForm-F.And c d) t =
-      ap (λ v. CForm-F.And v b.0) (a.1.0 c (and_left (same_form a.0 c) (same_form b.0 d) t)) ∙ ap (λ v. CForm-F.And c v) (b.1.0 d (and_right (same_form a.0 c) (same_form b.0 d) t))
+      ap (λ v. CForm-F.And v b.0) (a.1.0 c (and_left (same_form a.0 c) (same_form b.0 d) t)) ∙ ap (λ v. CForm-F.And c v)
+      (b.1.0 d (and_right (same_form a.0 c) (same_form b.0 d) t))
   form_case (CForm-F.Or a b) (CForm-F.Or c d) t =
-      ap (λ v. CForm-F.Or v b.0) (a.1.0 c (and_left (same_form a.0 c) (same_form b.0 d) t)) ∙ ap (λ v. CForm-F.Or c v) (b.1.0 d (and_right (same_form a.0 c) (same_form b.0 d) t))
+      ap (λ v. CForm-F.Or v b.0) (a.1.0 c (and_left (same_form a.0 c) (same_form b.0 d) t)) ∙ ap (λ v. CForm-F.Or c v)
+      (b.1.0 d (and_right (same_form a.0 c) (same_form b.0 d) t))
   form_case _ _ t = cc
 
-  term_case : (y : CTerm-F F T) (z : CTerm-F CForm CTerm) → IsTrue (same_terms (term_tests (term_trees y)) z) → term_trees y ≡ z
+  term_case : (y : CTerm-F F T) (z : CTerm-F CForm CTerm) → IsTrue (same_terms (term_tests (term_trees y)) z) →
+      term_trees y ≡ z
   term_case (CTerm-F.Const c) (CTerm-F.Const d) t = ap (λ v. CTerm-F.Const v) (ints_same c d t)
   term_case (CTerm-F.Slot m) (CTerm-F.Slot n) t = ap (λ v. CTerm-F.Slot v) (nats_same m n t)
   term_case (CTerm-F.Param m) (CTerm-F.Param n) t = ap (λ v. CTerm-F.Param v) (nats_same m n t)
   term_case (CTerm-F.Add a b) (CTerm-F.Add c d) t =
-      ap (λ v. CTerm-F.Add v b.0) (a.1.0 c (and_left (same_term a.0 c) (same_term b.0 d) t)) ∙ ap (λ v. CTerm-F.Add c v) (b.1.0 d (and_right (same_term a.0 c) (same_term b.0 d) t))
+      ap (λ v. CTerm-F.Add v b.0) (a.1.0 c (and_left (same_term a.0 c) (same_term b.0 d) t)) ∙ ap (λ v. CTerm-F.Add c v)
+      (b.1.0 d (and_right (same_term a.0 c) (same_term b.0 d) t))
   term_case (CTerm-F.Sub a b) (CTerm-F.Sub c d) t =
-      ap (λ v. CTerm-F.Sub v b.0) (a.1.0 c (and_left (same_term a.0 c) (same_term b.0 d) t)) ∙ ap (λ v. CTerm-F.Sub c v) (b.1.0 d (and_right (same_term a.0 c) (same_term b.0 d) t))
+      ap (λ v. CTerm-F.Sub v b.0) (a.1.0 c (and_left (same_term a.0 c) (same_term b.0 d) t)) ∙ ap (λ v. CTerm-F.Sub c v)
+      (b.1.0 d (and_right (same_term a.0 c) (same_term b.0 d) t))
   term_case (CTerm-F.Scale k a) (CTerm-F.Scale l b) t =
-      ap (λ v. CTerm-F.Scale v a.0) (ints_same k l (and_left (int_eq k l) (same_term a.0 b) t)) ∙ ap (λ v. CTerm-F.Scale l v) (a.1.0 b (and_right (int_eq k l) (same_term a.0 b) t))
+      ap (λ v. CTerm-F.Scale v a.0) (ints_same k l (and_left (int_eq k l) (same_term a.0 b) t)) ∙ ap
+      (λ v. CTerm-F.Scale l v) (a.1.0 b (and_right (int_eq k l) (same_term a.0 b) t))
   term_case (CTerm-F.Ite c a b) (CTerm-F.Ite d p q) t =
       let rest = and_right (same_form c.0 d) (same_term a.0 p && same_term b.0 q) t in
       ap (λ v. CTerm-F.Ite v a.0 b.0) (c.1.0 d (and_left (same_form c.0 d) (same_term a.0 p && same_term b.0 q) t))
@@ -113,23 +125,27 @@ module _ where
   term_self (CTerm-F.Add a b) = both_true (same_term a.0 a.0) (same_term b.0 b.0) a.1.1 b.1.1
   term_self (CTerm-F.Sub a b) = both_true (same_term a.0 a.0) (same_term b.0 b.0) a.1.1 b.1.1
   term_self (CTerm-F.Scale k a) = both_true (int_eq k k) (same_term a.0 a.0) (int_self k) a.1.1
-  term_self (CTerm-F.Ite c a b) = both_true (same_form c.0 c.0) (same_term a.0 a.0 && same_term b.0 b.0) c.1.1 (both_true (same_term a.0 a.0) (same_term b.0 b.0) a.1.1 b.1.1)
+  term_self (CTerm-F.Ite c a b) = both_true (same_form c.0 c.0) (same_term a.0 a.0 && same_term b.0 b.0) c.1.1
+      (both_true (same_term a.0 a.0) (same_term b.0 b.0) a.1.1 b.1.1)
 
   form_layer : (y : CForm-F F T) → FormIs (roll-CForm (trees y))
   form_layer y = (
     λ g t. ap roll-CForm (form_case y (out-CForm g) (sym (same_roll (trees y) g) ∙ t)) ∙ roll-out-CForm g,
-    same_roll (trees y) (roll-CForm (trees y)) ∙ ap (λ z. same_forms (tests (trees y)) z) (out-roll-CForm (trees y)) ∙ form_self y,
+    same_roll (trees y) (roll-CForm (trees y)) ∙ ap (λ z. same_forms (tests (trees y)) z) (out-roll-CForm (trees y)) ∙
+        form_self y,
   )
 
   term_layer : (y : CTerm-F F T) → TermIs (roll-CTerm (term_trees y))
   term_layer y = (
     λ u t. ap roll-CTerm (term_case y (out-CTerm u) (sym (same_roll_term (term_trees y) u) ∙ t)) ∙ roll-out-CTerm u,
-    same_roll_term (term_trees y) (roll-CTerm (term_trees y)) ∙ ap (λ z. same_terms (term_tests (term_trees y)) z) (out-roll-CTerm (term_trees y)) ∙ term_self y,
+    same_roll_term (term_trees y) (roll-CTerm (term_trees y)) ∙ ap (λ z. same_terms (term_tests (term_trees y)) z)
+        (out-roll-CTerm (term_trees y)) ∙ term_self y,
   )
 
   form_is : (f : CForm) → FormIs f
   form_is f =
-      ind-CForm FormIs TermIs (λ x y e. subst (λ z. FormIs (roll-CForm z)) e (form_layer y)) (λ x y e. subst (λ z. TermIs (roll-CTerm z)) e (term_layer y)) f
+      ind-CForm FormIs TermIs (λ x y e. subst (λ z. FormIs (roll-CForm z)) e (form_layer y))
+      (λ x y e. subst (λ z. TermIs (roll-CTerm z)) e (term_layer y)) f
 
 pub same_form_is : (f g : CForm) → IsTrue (same_form f g) → f ≡ g
 same_form_is f g t = (form_is f).0 g t

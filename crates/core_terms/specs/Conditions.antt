@@ -1,5 +1,7 @@
 -- What holds of formulas, programs and documents that are handed to a call.
-use Rattle.std.specs.Prelude.{◌≡◌, ℕ, ◌+◌, ◌-◌, ◌^◌, ◌<◌, ◌≤◌, nat_eq, nat_lt, ℤ, pos, ◌≤ℤ◌, List, [], ◌∷◌, ◌++◌, map, length, Bool, true, cond, ◌||◌, Option, Some, None, IsTrue, IsSome, All, Contains, option_and_then, slice_get, sum, take, ⊤}
+use Rattle.std.specs.Prelude.{◌≡◌, ℕ, ◌+◌, ◌-◌, ◌^◌, ◌<◌, ◌≤◌, nat_eq, nat_lt, ℤ, pos, ◌≤ℤ◌, List, [], ◌∷◌, ◌++◌, map}
+use Rattle.std.specs.Prelude.{length, Bool, true, cond, ◌||◌, Option, Some, None, IsTrue, IsSome, All, Contains}
+use Rattle.std.specs.Prelude.{option_and_then, slice_get, sum, take, ⊤}
 use Rattle.std.specs.List.{list_any}
 use Rattle.std.specs.Int.RustNames.{unsigned_abs}
 use Rattle.case_tables.specs.declared.kind_table.Kind.{Kind}

@@ -1,5 +1,6 @@
 -- Folding: a tree without slot and parameter is replaced by what it is worth.
-use Rattle.std.specs.Prelude.{◌^◌, ℤ, pos, ◌+ℤ◌, ◌-ℤ◌, ◌*ℤ◌, Bool, true, false, cond, not, ◌&&◌, ◌||◌, Option, Some, None, nat_le}
+use Rattle.std.specs.Prelude.{◌^◌, ℤ, pos, ◌+ℤ◌, ◌-ℤ◌, ◌*ℤ◌, Bool, true, false, cond, not, ◌&&◌, ◌||◌, Option, Some}
+use Rattle.std.specs.Prelude.{None, nat_le}
 use Rattle.std.specs.Option.{option_map}
 use Rattle.std.specs.Int.RustNames.{int_le, unsigned_abs}
 use Rattle.state_steps.specs.State.{int_eq}

@@ -1,5 +1,6 @@
 -- Replacing slots and parameters by terms, all at once; the result is folded.
-use Rattle.std.specs.Prelude.{◌≡◌, ℕ, zero, suc, ℤ, pos, negsuc, ◌+ℤ◌, ◌^◌, ◌≤◌, List, map, Option, Some, None, slice_get}
+use Rattle.std.specs.Prelude.{◌≡◌, ℕ, zero, suc, ℤ, pos, negsuc, ◌+ℤ◌, ◌^◌, ◌≤◌, List, map, Option, Some, None}
+use Rattle.std.specs.Prelude.{slice_get}
 use Rattle.std.specs.Int.RustNames.{unsigned_abs}
 use Rattle.core_terms.specs.declared.trees.CTerm.{CTerm, fold-CTerm}
 use Rattle.core_terms.specs.declared.trees.CTerm.TheVariants.{Const, Slot, Param, Add, Sub}
@@ -10,7 +11,8 @@ use Rattle.core_terms.specs.declared.documents.Arg.{Arg}
 use Rattle.state_steps.specs.State.{State}
 use Rattle.core_terms.specs.Values.{number_at, form_value}
 use Rattle.core_terms.specs.Weights.{Weights, one_weight, term_weights, form_weight}
-use Rattle.core_terms.specs.Folding.{sum_term, difference_term, scaled_term, choice_term, at_least_form, zero_form, not_form, and_form, or_form}
+use Rattle.core_terms.specs.Folding.{sum_term, difference_term, scaled_term, choice_term, at_least_form, zero_form}
+use Rattle.core_terms.specs.Folding.{not_form, and_form, or_form}
 
 -- a term from its replaced parts, where these terms stand for the slots and for the parameters
 abbrev pub replace_term : (ℕ → CTerm) → (ℕ → CTerm) → CTerm-F CForm CTerm → CTerm

@@ -1,5 +1,6 @@
 -- The values of core terms and formulas, in whole numbers without a limit.
-use Rattle.std.specs.Prelude.{ℕ, slice_index_or, ℤ, pos, ◌+ℤ◌, ◌-ℤ◌, ◌*ℤ◌, List, Bool, true, false, cond, not, ◌&&◌, ◌||◌}
+use Rattle.std.specs.Prelude.{ℕ, slice_index_or, ℤ, pos, ◌+ℤ◌, ◌-ℤ◌, ◌*ℤ◌, List, Bool, true, false, cond, not, ◌&&◌}
+use Rattle.std.specs.Prelude.{◌||◌}
 use Rattle.std.specs.Int.RustNames.{int_le}
 use Rattle.state_steps.specs.State.{State, int_eq}
 use Rattle.core_terms.specs.declared.trees.CTerm.{CTerm, fold-CTerm}

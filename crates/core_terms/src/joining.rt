@@ -1,5 +1,6 @@
 // The union of two programs.
-ghost use Rattle.std.specs.Prelude.{◌≡◌, ◌+◌, ◌^◌, ◌≤◌, ◌++◌, ◌&&◌, max, length, filter, nat_lt, not, IfOk, OnOk, ℤ, List};
+ghost use Rattle.std.specs.Prelude.{◌≡◌, ◌+◌, ◌^◌, ◌≤◌, ◌++◌, ◌&&◌, max, length, filter, nat_lt, not, IfOk, OnOk, ℤ};
+ghost use Rattle.std.specs.Prelude.{List};
 ghost use Rattle.core_terms.specs.Values.{form_value};
 ghost use Rattle.core_terms.specs.Weights.{plain_weight};
 ghost use Rattle.core_terms.specs.Folding as fold;

@@ -1,5 +1,8 @@
 // The laws of core trees. The functions do nothing: they state them.
-ghost use Rattle.core_terms.specs.Laws.{FoldingKeepsTerms, FoldingKeepsForms, FoldingRaisesNoTerm, FoldingRaisesNoForm, KnownTermStays, KnownFormStays, KnownTermIsValue, KnownFormIsValue, ReplacingKeepsValue, ReplacingKeepsTerms, ReplacingWeighsForms, ReplacingWeighsTerms, FormFrame, TermFrame, SameIsEqual};
+ghost use Rattle.core_terms.specs.Laws.{FoldingKeepsTerms, FoldingKeepsForms, FoldingRaisesNoTerm, FoldingRaisesNoForm};
+ghost use Rattle.core_terms.specs.Laws.{KnownTermStays, KnownFormStays, KnownTermIsValue, KnownFormIsValue};
+ghost use Rattle.core_terms.specs.Laws.{ReplacingKeepsValue, ReplacingKeepsTerms, ReplacingWeighsForms};
+ghost use Rattle.core_terms.specs.Laws.{ReplacingWeighsTerms, FormFrame, TermFrame, SameIsEqual};
 
 /// A folded tree has the value of the tree and weighs no more. What is known of a tree, that is of one
 /// without slot and parameter, is its value, and is known of the folded tree too.

@@ -6,7 +6,8 @@ ghost use Rattle.std.specs.Int.RustNames.{unsigned_abs};
 ghost use Rattle.core_terms.specs.Weights.{plain_weights, plain_weight, sum_weights, multiple_weights, choice_weights};
 ghost use Rattle.core_terms.specs.Places.{form_params, term_params};
 ghost use Rattle.core_terms.specs.Folding as fold;
-ghost use Rattle.core_terms.specs.Replacing.{IsSmallArg, shifted, arg_term, form_at, term_at, choice_at, MeansAt, put_weights, put_weight};
+ghost use Rattle.core_terms.specs.Replacing.{IsSmallArg, shifted, arg_term, form_at, term_at, choice_at, MeansAt};
+ghost use Rattle.core_terms.specs.Replacing.{put_weights, put_weight};
 
 use crate::documents::Arg;
 use crate::known;

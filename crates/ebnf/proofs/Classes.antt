@@ -1,5 +1,6 @@
 -- Sets of classes, and what tokens begin with.
-use Rattle.std.proofs.Common.{◌≡◌, ℕ, Bool, true, false, not, ◌&&◌, ◌||◌, eqb, List, [], ◌∷◌, ◌++◌, refl, sym, ◌∙◌, eq-eqb, eqb-true}
+use Rattle.std.proofs.Common.{◌≡◌, ℕ, Bool, true, false, not, ◌&&◌, ◌||◌, eqb, List, [], ◌∷◌, ◌++◌, refl, sym, ◌∙◌}
+use Rattle.std.proofs.Common.{eq-eqb, eqb-true}
 use Rattle.ebnf.specs.Ebnf.{Terminal, place_of, has}
 use Rattle.ebnf.specs.LookAhead.{apart}
 use Rattle.ebnf.specs.Reader.{begins}
@@ -36,7 +37,8 @@ pub has_append : (xs ys : List ℕ) (n : ℕ) → has (xs ++ ys) n ≡ (has xs n
 has_append [] ys n = refl
 has_append (x ∷ xs) ys n = go (eqb x n) (has_append xs ys n)
   where
-    go : (b : Bool) → has (xs ++ ys) n ≡ (has xs n || has ys n) → (b || has (xs ++ ys) n) ≡ ((b || has xs n) || has ys n)
+    go : (b : Bool) → has (xs ++ ys) n ≡ (has xs n || has ys n) → (b || has (xs ++ ys) n) ≡
+        ((b || has xs n) || has ys n)
     go true h = refl
     go false h = h
 
@@ -75,15 +77,18 @@ apart_has (x ∷ xs) ys n h e = go (apart_has xs ys n (and_right (not (has ys x)
     go again true q e = rw (← eqb-true x n q) (not_true (has ys x) (and_left (not (has ys x)) (apart xs ys) h))
     go again false q e = again e
 
-pub apart_begins : (xs ys : List ℕ) (ts : List Terminal) → apart xs ys ≡ true → begins xs ts ≡ true → begins ys ts ≡ false
+pub apart_begins : (xs ys : List ℕ) (ts : List Terminal) → apart xs ys ≡ true → begins xs ts ≡ true → begins ys ts ≡
+    false
 apart_begins xs ys [] h e = refl
 apart_begins xs ys (t ∷ ts) h e = apart_has xs ys t.class h e
 
 -- the first token alone tells how tokens begin, and where
-pub begins_same : (classes : List ℕ) (us : List Terminal) (t : Terminal) (was now : List Terminal) → begins classes (us ++ t ∷ was) ≡ begins classes (us ++ t ∷ now)
+pub begins_same : (classes : List ℕ) (us : List Terminal) (t : Terminal) (was now : List Terminal) → begins classes
+    (us ++ t ∷ was) ≡ begins classes (us ++ t ∷ now)
 begins_same classes [] t was now = refl
 begins_same classes (u ∷ us) t was now = refl
 
-pub place_same : (us : List Terminal) (t : Terminal) (was now : List Terminal) → place_of (us ++ t ∷ was) ≡ place_of (us ++ t ∷ now)
+pub place_same : (us : List Terminal) (t : Terminal) (was now : List Terminal) → place_of (us ++ t ∷ was) ≡ place_of
+    (us ++ t ∷ now)
 place_same [] t was now = refl
 place_same (u ∷ us) t was now = refl

@@ -5,16 +5,20 @@
 --   atom     = word | "(" sum ")"
 --   node     = "fork" number | "leaf"
 --
--- The first number is 1, the version. The items of the last braces are numbered from 1, and the nodes of each are one tree:
+-- The first number is 1, the version. The items of the last braces are numbered from 1, and the nodes of each are one
+-- tree:
 -- a fork has two subtrees and a leaf has none.
 use Rattle.std.proofs.Common.{◌≡◌, ℕ, false, List, [], ◌∷◌, refl, subst, Ok, Err, Result}
-use Rattle.ebnf.specs.Ebnf.{Terminal, Tree, unit, leaf, numeral, choice, pair, left, right, some, nil, more, node, Ebnf, fixed, word, number, one_of, version, both, either, maybe, many, numbered, prefix_tree, named, inside, Grammar}
+use Rattle.ebnf.specs.Ebnf.{Terminal, Tree, unit, leaf, numeral, choice, pair, left, right, some, nil, more, node, Ebnf}
+use Rattle.ebnf.specs.Ebnf.{fixed, word, number, one_of, version, both, either, maybe, many, numbered, prefix_tree}
+use Rattle.ebnf.specs.Ebnf.{named, inside, Grammar}
 use Rattle.ebnf.specs.LookAhead.{IsGrammar, IsForm}
 use Rattle.ebnf.specs.Reader.{Fault, Unexpected, OtherVersion, TooDeep, read_whole}
 use Rattle.ebnf.specs.Answers.{IsAnswer}
 use Rattle.ebnf.specs.Words.{words, spelled, IsSublist, KeepsWords}
 use Rattle.ebnf.proofs.Theorems.{exact}
-use Rattle.ebnf.proofs.WordOrder.{none_kept, all_kept, kept_first, keeps_fixed, keeps_word, keeps_number, keeps_one_of, words_kept}
+use Rattle.ebnf.proofs.WordOrder.{none_kept, all_kept, kept_first, keeps_fixed, keeps_word, keeps_number, keeps_one_of}
+use Rattle.ebnf.proofs.WordOrder.{words_kept}
 
 -- The classes of tokens.
 abbrev word_class : ℕ
@@ -79,7 +83,9 @@ subtrees _ = 0
 
 -- document = "doc" number [ sum ] { number ":" node { node } ";" }
 unfoldable document_ : Ebnf
-document_ = both (fixed doc_class) (both (version number_class 1) (both (maybe sum_) (numbered 1 number_class (both (fixed colon_class) (both (prefix_tree subtrees node_) (fixed end_class))))))
+document_ = both (fixed doc_class) (both (version number_class 1)
+    (both (maybe sum_) (numbered 1 number_class (both (fixed colon_class)
+    (both (prefix_tree subtrees node_) (fixed end_class))))))
 
 abbrev grammar : Grammar
 grammar = record { body = λ k. sum_; opening = open_class ∷ []; closing = close_class ∷ []; any_version = false }
@@ -93,8 +99,10 @@ unfolding atom_ sum_ node_ document_
 is_form = record { is_good = refl; is_paired = refl }
 
 -- An answer that is computed is exact.
-exact_at : (levels : ℕ) (ts : List Terminal) (answer : Result Tree Fault) → read_whole grammar levels document_ ts ≡ answer → IsAnswer grammar levels document_ ts answer
-exact_at levels ts answer e = let P : Result Tree Fault → Type 0 = λ r. IsAnswer grammar levels document_ ts r in subst P e (exact grammar is_grammar document_ is_form levels ts)
+exact_at : (levels : ℕ) (ts : List Terminal) (answer : Result Tree Fault) → read_whole grammar levels document_ ts ≡
+    answer → IsAnswer grammar levels document_ ts answer
+exact_at levels ts answer e = let P : Result Tree Fault → Type 0 = λ r. IsAnswer grammar levels document_ ts r in subst
+    P e (exact grammar is_grammar document_ is_form levels ts)
 
 -- Tokens at a place.
 abbrev mark : ℕ → ℕ → Terminal
@@ -108,14 +116,17 @@ num place value = record { class = number_class; place = place; value = value; t
 
 -- doc 1 a - (b) 1: fork 7 leaf leaf;
 abbrev forked : List Terminal
-forked = mark doc_class 0 ∷ num 4 1 ∷ name 6 (97 ∷ []) ∷ mark minus_class 8 ∷ mark open_class 10 ∷ name 11 (98 ∷ []) ∷ mark close_class 12
-    ∷ num 14 1 ∷ mark colon_class 15 ∷ mark fork_class 17 ∷ num 22 7 ∷ mark leaf_class 24 ∷ mark leaf_class 29 ∷ mark end_class 33 ∷ []
+forked = mark doc_class 0 ∷ num 4 1 ∷ name 6 (97 ∷ []) ∷ mark minus_class 8 ∷ mark open_class 10 ∷ name 11 (98 ∷ []) ∷
+    mark close_class 12
+    ∷ num 14 1 ∷ mark colon_class 15 ∷ mark fork_class 17 ∷ num 22 7 ∷ mark leaf_class 24 ∷ mark leaf_class 29 ∷ mark
+    end_class 33 ∷ []
 
 abbrev forked_tree : Tree
 forked_tree =
     pair unit (pair (numeral 1) (pair
     (some (node 1 6 (pair (leaf 6 (97 ∷ [])) (more (pair (choice minus_class) (leaf 11 (98 ∷ []))) nil))))
-    (more (node 1 14 (pair unit (pair unit (pair (more (left (pair unit (numeral 7))) (more (right unit) (more (right unit) nil))) unit)))) nil)))
+    (more (node 1 14 (pair unit (pair unit (pair (more (left (pair unit (numeral 7)))
+    (more (right unit) (more (right unit) nil))) unit)))) nil)))
 
 forked_answer : IsAnswer grammar 1 document_ forked (Ok forked_tree)
 unfolding atom_ sum_ node_ document_
@@ -125,9 +136,11 @@ forked_answer = exact_at 1 forked (Ok forked_tree) refl
 abbrev from_bracket : List Terminal
 from_bracket = mark open_class 10 ∷ name 11 (98 ∷ []) ∷ mark close_class 12 ∷ []
 
-deep_answer : IsAnswer grammar 0 document_ (mark doc_class 0 ∷ num 4 1 ∷ name 6 (97 ∷ []) ∷ mark minus_class 8 ∷ from_bracket) (Err (TooDeep from_bracket))
+deep_answer : IsAnswer grammar 0 document_ (mark doc_class 0 ∷ num 4 1 ∷ name 6 (97 ∷ []) ∷ mark minus_class 8 ∷
+    from_bracket) (Err (TooDeep from_bracket))
 unfolding atom_ sum_ node_ document_
-deep_answer = exact_at 0 (mark doc_class 0 ∷ num 4 1 ∷ name 6 (97 ∷ []) ∷ mark minus_class 8 ∷ from_bracket) (Err (TooDeep from_bracket)) refl
+deep_answer = exact_at 0 (mark doc_class 0 ∷ num 4 1 ∷ name 6 (97 ∷ []) ∷ mark minus_class 8 ∷ from_bracket)
+    (Err (TooDeep from_bracket)) refl
 
 -- doc 2: another version
 version_answer : IsAnswer grammar 9 document_ (mark doc_class 0 ∷ num 4 2 ∷ []) (Err (OtherVersion (num 4 2 ∷ [])))
@@ -146,17 +159,22 @@ number_answer = exact_at 9 (mark doc_class 0 ∷ num 4 1 ∷ from_number) (Err (
 abbrev from_leaf : List Terminal
 from_leaf = mark leaf_class 14 ∷ mark end_class 18 ∷ []
 
-whole_answer : IsAnswer grammar 9 document_ (mark doc_class 0 ∷ num 4 1 ∷ num 6 1 ∷ mark colon_class 7 ∷ mark leaf_class 9 ∷ from_leaf) (Err (Unexpected from_leaf))
+whole_answer : IsAnswer grammar 9 document_ (mark doc_class 0 ∷ num 4 1 ∷ num 6 1 ∷ mark colon_class 7 ∷ mark leaf_class
+    9 ∷ from_leaf) (Err (Unexpected from_leaf))
 unfolding atom_ sum_ node_ document_
-whole_answer = exact_at 9 (mark doc_class 0 ∷ num 4 1 ∷ num 6 1 ∷ mark colon_class 7 ∷ mark leaf_class 9 ∷ from_leaf) (Err (Unexpected from_leaf)) refl
+whole_answer = exact_at 9 (mark doc_class 0 ∷ num 4 1 ∷ num 6 1 ∷ mark colon_class 7 ∷ mark leaf_class 9 ∷ from_leaf)
+    (Err (Unexpected from_leaf)) refl
 
 -- doc 1 1: fork 7 leaf;: a subtree is missing
-missing_answer : IsAnswer grammar 9 document_ (mark doc_class 0 ∷ num 4 1 ∷ num 6 1 ∷ mark colon_class 7 ∷ mark fork_class 9 ∷ num 14 7 ∷ mark leaf_class 16 ∷ mark end_class 20 ∷ []) (Err (Unexpected (mark end_class 20 ∷ [])))
+missing_answer : IsAnswer grammar 9 document_ (mark doc_class 0 ∷ num 4 1 ∷ num 6 1 ∷ mark colon_class 7 ∷ mark
+    fork_class 9 ∷ num 14 7 ∷ mark leaf_class 16 ∷ mark end_class 20 ∷ []) (Err (Unexpected (mark end_class 20 ∷ [])))
 unfolding atom_ sum_ node_ document_
-missing_answer = exact_at 9 (mark doc_class 0 ∷ num 4 1 ∷ num 6 1 ∷ mark colon_class 7 ∷ mark fork_class 9 ∷ num 14 7 ∷ mark leaf_class 16 ∷ mark end_class 20 ∷ []) (Err (Unexpected (mark end_class 20 ∷ []))) refl
+missing_answer = exact_at 9 (mark doc_class 0 ∷ num 4 1 ∷ num 6 1 ∷ mark colon_class 7 ∷ mark fork_class 9 ∷ num 14 7 ∷
+    mark leaf_class 16 ∷ mark end_class 20 ∷ []) (Err (Unexpected (mark end_class 20 ∷ []))) refl
 
 -- doc 1 1: the text ends too early
-early_answer : IsAnswer grammar 9 document_ (mark doc_class 0 ∷ num 4 1 ∷ num 6 1 ∷ mark colon_class 7 ∷ []) (Err (Unexpected []))
+early_answer : IsAnswer grammar 9 document_ (mark doc_class 0 ∷ num 4 1 ∷ num 6 1 ∷ mark colon_class 7 ∷ [])
+    (Err (Unexpected []))
 unfolding atom_ sum_ node_ document_
 early_answer = exact_at 9 (mark doc_class 0 ∷ num 4 1 ∷ num 6 1 ∷ mark colon_class 7 ∷ []) (Err (Unexpected [])) refl
 
@@ -180,7 +198,19 @@ keeps_sum = ((keeps_atom, (keeps_one_of (plus_class ∷ minus_class ∷ []), kee
 
 keeps_document : KeepsWords document_
 unfolding atom_ sum_ node_ document_
-keeps_document = (keeps_fixed doc_class, (tt, (keeps_sum, (keeps_fixed colon_class, (((keeps_fixed fork_class, keeps_number number_class), keeps_fixed leaf_class), keeps_fixed end_class)))))
+keeps_document = (
+  keeps_fixed doc_class,
+  (
+    tt,
+    (
+      keeps_sum,
+      (
+        keeps_fixed colon_class,
+        (((keeps_fixed fork_class, keeps_number number_class), keeps_fixed leaf_class), keeps_fixed end_class),
+      ),
+    ),
+  ),
+)
 
 forked_words : IsSublist ((6, 97 ∷ []) ∷ (11, 98 ∷ []) ∷ []) (spelled forked)
 forked_words = words_kept grammar (λ k. keeps_sum) forked_answer.0 keeps_document

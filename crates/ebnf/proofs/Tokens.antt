@@ -12,8 +12,10 @@ abbrev single_reader : (Terminal → Bool) → (Terminal → Tree) → List Term
 single_reader passes keep ts = as_tree keep (take_if passes ts)
 
 -- a token that passes a test
-module _ (G : Grammar) (e : Ebnf) (passes : Terminal → Bool) (keep : Terminal → Tree) (one : HasSome G e) (derives : (t : Terminal) → passes t ≡ true → Derives G e (keep t) (t ∷ [])) where
-  single_at : (t : Terminal) (ts : List Terminal) (b : Bool) → passes t ≡ b → Outcome G e (single_reader passes keep) (t ∷ ts) (as_tree keep (one_if b t ts))
+module _ (G : Grammar) (e : Ebnf) (passes : Terminal → Bool) (keep : Terminal → Tree) (one : HasSome G e)
+    (derives : (t : Terminal) → passes t ≡ true → Derives G e (keep t) (t ∷ [])) where
+  single_at : (t : Terminal) (ts : List Terminal) (b : Bool) → passes t ≡ b → Outcome G e (single_reader passes keep)
+      (t ∷ ts) (as_tree keep (one_if b t ts))
   single_at t ts true q = record {
     taken = t ∷ [];
     split = refl;
@@ -24,7 +26,9 @@ module _ (G : Grammar) (e : Ebnf) (passes : Terminal → Bool) (keep : Terminal 
     front = [];
     split = refl;
     opens = opens_none G e one;
-    local = λ s was now h. let w : t ≡ s = cc in let q' : passes s ≡ false = subst (λ (v : Terminal). passes v ≡ false) w q in ap (λ b. as_tree keep (one_if b s now)) q';
+    local = λ s was now h. let w : t ≡ s = cc in
+        let q' : passes s ≡ false = subst (λ (v : Terminal). passes v ≡ false) w q in ap
+        (λ b. as_tree keep (one_if b s now)) q';
   }
 
   pub single : Lawful G e (single_reader passes keep)
@@ -33,21 +37,28 @@ module _ (G : Grammar) (e : Ebnf) (passes : Terminal → Bool) (keep : Terminal 
 
 -- a version
 abbrev pub version_reader : Grammar → ℕ → ℕ → List Terminal → Read Tree
-version_reader G c v ts = as_tree (λ t. numeral t.value) (check_version G.any_version v (take_if (λ t. eqb t.class c) ts))
+version_reader G c v ts = as_tree (λ t. numeral t.value) (check_version G.any_version v
+    (take_if (λ t. eqb t.class c) ts))
 
 abbrev pub version_at : Bool → Bool → Terminal → List Terminal → Read Tree
-version_at is_class is_value t ts = as_tree (λ t. numeral t.value) (one_if is_class t ts >>= λ x. version_if is_value t x.1)
+version_at is_class is_value t ts = as_tree (λ t. numeral t.value)
+    (one_if is_class t ts >>= λ x. version_if is_value t x.1)
 
 module _ (G : Grammar) (c v : ℕ) where
-  pub version_same : (t : Terminal) (ts : List Terminal) (b : Bool) → as_tree (λ t. numeral t.value) (check_version G.any_version v (one_if b t ts)) ≡ version_at b (G.any_version || eqb t.value v) t ts
+  pub version_same : (t : Terminal) (ts : List Terminal) (b : Bool) → as_tree (λ t. numeral t.value)
+      (check_version G.any_version v (one_if b t ts)) ≡ version_at b (G.any_version || eqb t.value v) t ts
   version_same t ts true = refl
   version_same t ts false = refl
 
-  pub version_reads : (t : Terminal) (ts : List Terminal) (b d : Bool) → eqb t.class c ≡ b → (G.any_version || eqb t.value v) ≡ d → version_reader G c v (t ∷ ts) ≡ version_at b d t ts
-  version_reads t ts b d q p = version_same t ts (eqb t.class c) ∙ ap (λ b. version_at b (G.any_version || eqb t.value v) t ts) q ∙ ap (λ d. version_at b d t ts) p
+  pub version_reads : (t : Terminal) (ts : List Terminal) (b d : Bool) → eqb t.class c ≡ b →
+      (G.any_version || eqb t.value v) ≡ d → version_reader G c v (t ∷ ts) ≡ version_at b d t ts
+  version_reads t ts b d q p = version_same t ts (eqb t.class c) ∙ ap
+      (λ b. version_at b (G.any_version || eqb t.value v) t ts) q ∙ ap (λ d. version_at b d t ts) p
 
 module _ (G : Grammar) (c v : ℕ) (one : HasSome G (version c v)) where
-  version_outcome : (t : Terminal) (ts : List Terminal) (b d : Bool) → eqb t.class c ≡ b → (G.any_version || eqb t.value v) ≡ d → Outcome G (version c v) (version_reader G c v) (t ∷ ts) (version_at b d t ts)
+  version_outcome : (t : Terminal) (ts : List Terminal) (b d : Bool) → eqb t.class c ≡ b →
+      (G.any_version || eqb t.value v) ≡ d → Outcome G (version c v) (version_reader G c v) (t ∷ ts)
+      (version_at b d t ts)
   version_outcome t ts true true q p = record {
     taken = t ∷ [];
     split = refl;
@@ -68,9 +79,19 @@ module _ (G : Grammar) (c v : ℕ) (one : HasSome G (version c v)) where
     front = [];
     split = refl;
     opens = opens_none G (version c v) one;
-    local = λ s was now h. let w : t ≡ s = cc in let q' : eqb s.class c ≡ false = subst (λ (u : Terminal). eqb u.class c ≡ false) w q in version_reads G c v s now false (G.any_version || eqb s.value v) q' refl;
+    local = λ s was now h. let w : t ≡ s = cc in
+        let q' : eqb s.class c ≡ false = subst (λ (u : Terminal). eqb u.class c ≡ false) w q in version_reads G c v s
+        now false (G.any_version || eqb s.value v) q' refl;
   }
 
   pub version_lawful : Lawful G (version c v) (version_reader G c v)
-  version_lawful [] = record { front = []; split = refl; opens = opens_none G (version c v) one; local = λ t was now h. cc }
-  version_lawful (t ∷ ts) = subst (λ r. Outcome G (version c v) (version_reader G c v) (t ∷ ts) r) (sym (version_same G c v t ts (eqb t.class c))) (version_outcome t ts (eqb t.class c) (G.any_version || eqb t.value v) refl refl)
+  version_lawful [] = record {
+    front = [];
+    split = refl;
+    opens = opens_none G (version c v) one;
+    local = λ t was now h.
+        cc;
+  }
+  version_lawful (t ∷ ts) = subst (λ r. Outcome G (version c v) (version_reader G c v) (t ∷ ts) r)
+      (sym (version_same G c v t ts (eqb t.class c))) (version_outcome t ts (eqb t.class c)
+      (G.any_version || eqb t.value v) refl refl)

@@ -1,10 +1,13 @@
 -- What a form derives, it derives also where a version may have any value.
 use Rattle.std.proofs.Common.{List, refl}
-use Rattle.ebnf.specs.Ebnf.{Terminal, Tree, Ebnf, Derives, Grammar, of_any_version, is_token, is_valued, is_version, is_both, is_left, is_right, is_none, is_some, is_nil, is_more, is_no_number, is_next_number, is_no_tree, is_next_node, is_named, is_inside}
+use Rattle.ebnf.specs.Ebnf.{Terminal, Tree, Ebnf, Derives, Grammar, of_any_version, is_token, is_valued, is_version}
+use Rattle.ebnf.specs.Ebnf.{is_both, is_left, is_right, is_none, is_some, is_nil, is_more, is_no_number, is_next_number}
+use Rattle.ebnf.specs.Ebnf.{is_no_tree, is_next_node, is_named, is_inside}
 use Rattle.ebnf.specs.Answers.{Opens, Allowed}
 use Rattle.ebnf.specs.Outcomes.{HasSome}
 
-pub derives_any : {G : Grammar} {e : Ebnf} {x : Tree} {ts : List Terminal} → Derives G e x ts → Derives (of_any_version G) e x ts
+pub derives_any : {G : Grammar} {e : Ebnf} {x : Tree} {ts : List Terminal} → Derives G e x ts → Derives
+    (of_any_version G) e x ts
 derives_any (is_token h) = is_token h
 derives_any (is_valued h q) = is_valued h q
 derives_any (is_version h q) = is_version h refl
@@ -28,5 +31,14 @@ some_any h = record { tree = h.tree; tokens = h.tokens; derives = derives_any h.
 pub opens_any : {G : Grammar} {e : Ebnf} {front : List Terminal} → Opens G e front → Opens (of_any_version G) e front
 opens_any o = record { tree = o.tree; rest = o.rest; derives = derives_any o.derives }
 
-pub allowed_any : {G : Grammar} {e : Ebnf} {ts rest : List Terminal} → Allowed G e ts rest → Allowed (of_any_version G) e ts rest
-allowed_any o = record { front = o.front; at = o.at; later = o.later; rest_is = o.rest_is; split = o.split; opens = opens_any o.opens }
+pub allowed_any : {G : Grammar} {e : Ebnf} {ts rest : List Terminal} → Allowed G e ts rest → Allowed (of_any_version G)
+    e ts rest
+allowed_any o = record {
+  front = o.front;
+  at = o.at;
+  later = o.later;
+  rest_is = o.rest_is;
+  split = o.split;
+  opens =
+      opens_any o.opens;
+}

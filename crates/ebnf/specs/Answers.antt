@@ -1,5 +1,6 @@
 -- The exact answer for a list of tokens: its tree, or its first bad token.
-use Rattle.std.specs.Prelude.{◌≡◌, ℕ, zero, suc, ◌≤◌, if◌then◌else◌, List, [], ◌∷◌, ◌++◌, Ok, Err, Result, Option, Some, None}
+use Rattle.std.specs.Prelude.{◌≡◌, ℕ, zero, suc, ◌≤◌, if◌then◌else◌, List, [], ◌∷◌, ◌++◌, Ok, Err, Result, Option, Some}
+use Rattle.std.specs.Prelude.{None}
 use Rattle.ebnf.specs.Ebnf.{Terminal, Tree, Ebnf, Grammar, of_any_version, Derives, has}
 use Rattle.ebnf.specs.Reader.{Fault, Unexpected, OtherVersion, TooDeep, count}
 

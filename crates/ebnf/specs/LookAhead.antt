@@ -1,6 +1,8 @@
 -- What one token of look-ahead tells: LL(1) grammars.
-use Rattle.std.specs.Prelude.{ℕ, zero, suc, Bool, true, false, not, ◌&&◌, ◌||◌, ◌==◌, if◌then◌else◌, IsTrue, List, [], ◌∷◌, ◌++◌, Option, Some, None, is_some, option_map}
-use Rattle.ebnf.specs.Ebnf.{Terminal, Tree, unit, numeral, pair, left, right, none, nil, more, Ebnf, token, valued, version, both, either, maybe, many, numbered, prefix_trees, named, inside, Grammar, has}
+use Rattle.std.specs.Prelude.{ℕ, zero, suc, Bool, true, false, not, ◌&&◌, ◌||◌, ◌==◌, if◌then◌else◌, IsTrue, List, []}
+use Rattle.std.specs.Prelude.{◌∷◌, ◌++◌, Option, Some, None, is_some, option_map}
+use Rattle.ebnf.specs.Ebnf.{Terminal, Tree, unit, numeral, pair, left, right, none, nil, more, Ebnf, token, valued}
+use Rattle.ebnf.specs.Ebnf.{version, both, either, maybe, many, numbered, prefix_trees, named, inside, Grammar, has}
 
 -- no class is in both lists
 abbrev pub apart : List ℕ → List ℕ → Bool

@@ -1,6 +1,9 @@
 -- The reader: what a descent with one token of look-ahead answers.
-use Rattle.std.specs.Prelude.{ℕ, zero, suc, ◌+◌, Bool, true, false, ◌&&◌, ◌||◌, ◌==◌, if◌then◌else◌, List, [], ◌∷◌, Ok, Err, Result}
-use Rattle.ebnf.specs.Ebnf.{Terminal, place_of, Tree, unit, numeral, pair, left, right, none, some, nil, more, node, Ebnf, token, valued, version, both, either, maybe, many, numbered, prefix_trees, named, inside, Grammar, has}
+use Rattle.std.specs.Prelude.{ℕ, zero, suc, ◌+◌, Bool, true, false, ◌&&◌, ◌||◌, ◌==◌, if◌then◌else◌, List, [], ◌∷◌, Ok}
+use Rattle.std.specs.Prelude.{Err, Result}
+use Rattle.ebnf.specs.Ebnf.{Terminal, place_of, Tree, unit, numeral, pair, left, right, none, some, nil, more, node}
+use Rattle.ebnf.specs.Ebnf.{Ebnf, token, valued, version, both, either, maybe, many, numbered, prefix_trees, named}
+use Rattle.ebnf.specs.Ebnf.{inside, Grammar, has}
 use Rattle.ebnf.specs.LookAhead.{first}
 
 -- Why tokens are refused, with those that are left from the fault on.

@@ -1,6 +1,8 @@
 -- The words of a tree are words of its tokens, in their order, where the actions keep them so.
 use Rattle.std.specs.Prelude.{ℕ, List, [], ◌∷◌, ◌++◌, map}
-use Rattle.ebnf.specs.Ebnf.{Terminal, Tree, unit, leaf, numeral, choice, pair, left, right, none, some, nil, more, node, Ebnf, token, valued, version, both, either, maybe, many, numbered, prefix_trees, named, inside}
+use Rattle.ebnf.specs.Ebnf.{Terminal, Tree, unit, leaf, numeral, choice, pair, left, right, none, some, nil, more, node}
+use Rattle.ebnf.specs.Ebnf.{Ebnf, token, valued, version, both, either, maybe, many, numbered, prefix_trees, named}
+use Rattle.ebnf.specs.Ebnf.{inside}
 
 -- A word: its place and its text.
 abbrev pub Word : Type 0

@@ -1,5 +1,6 @@
 -- Systems that are alike have the same executions, and so the same properties.
-use Rattle.std.proofs.Common.{◌≡◌, ℕ, suc, ◌<◌, List, [], ◌∷◌, Bool, true, false, cond, not, ◌&&◌, ◌||◌, Option, Some, None, IsTrue, refl, sym, subst, ap, ◌∙◌, slice_get, drop}
+use Rattle.std.proofs.Common.{◌≡◌, ℕ, suc, ◌<◌, List, [], ◌∷◌, Bool, true, false, cond, not, ◌&&◌, ◌||◌, Option, Some}
+use Rattle.std.proofs.Common.{None, IsTrue, refl, sym, subst, ap, ◌∙◌, slice_get, drop}
 use Rattle.std.specs.List.{list_all}
 use Rattle.std.proofs.lemmas.List.{length-map}
 use Rattle.std.proofs.lemmas.Option.{slice_get_within}
@@ -12,7 +13,8 @@ use Rattle.unity_meaning.specs.Properties.{Test, but_not}
 use Rattle.unity_meaning.proofs.ExecutionTheorems.{chosen_instance, get_at, kept}
 use Rattle.execution_laws.specs.Systems.{passing}
 use Rattle.execution_laws.specs.Alike.{Alike, SameAt}
-use Rattle.execution_laws.specs.AlikeLaws.{SourceAlike, AlikeBack, KeptAlike, RunsAlike, DefinedAlike, InvariantAlike, UnlessAlike, EnsuresAlike, LeadsAlike}
+use Rattle.execution_laws.specs.AlikeLaws.{SourceAlike, AlikeBack, KeptAlike, RunsAlike, DefinedAlike, InvariantAlike}
+use Rattle.execution_laws.specs.AlikeLaws.{UnlessAlike, EnsuresAlike, LeadsAlike}
 use Rattle.execution_laws.proofs.KeptTheorems.{kept_length, act_of_kept, step_of_kept}
 
 pub alike_back : AlikeBack

@@ -1,5 +1,6 @@
 -- The small system, computed.
-use Rattle.std.proofs.Common.{◌≡◌, ℕ, zero, suc, ℤ, pos, negsuc, [], ◌∷◌, Bool, true, false, cond, not, ◌&&◌, ◌||◌, Some, None, IsTrue, refl, sym, subst, ap, slice_get, arith}
+use Rattle.std.proofs.Common.{◌≡◌, ℕ, zero, suc, ℤ, pos, negsuc, [], ◌∷◌, Bool, true, false, cond, not, ◌&&◌, ◌||◌}
+use Rattle.std.proofs.Common.{Some, None, IsTrue, refl, sym, subst, ap, slice_get, arith}
 use Rattle.std.specs.Prelude.{◌≢◌}
 use Rattle.std.proofs.lemmas.Int.{ints}
 use borrow.Author.Differences.{le-true}
@@ -8,7 +9,9 @@ use Rattle.state_steps.specs.State.{State, in_range}
 use Rattle.state_steps.proofs.StepTheorems.{and_left, and_right}
 use Rattle.unity_meaning.specs.Execution.{Act, chosen_step}
 use Rattle.unity_meaning.specs.Properties.{Test, but_not, Everywhere, IsInvariant, LeadsTo}
-use Rattle.execution_laws.specs.Examples.{numbers, up, stay, is_number, is_at, anywhere, counter, distance, alone, careful_counter, away, nearer, CounterIsSafe, CounterEnsures, CounterArrives, UnionOfTwo, CountersAlike}
+use Rattle.execution_laws.specs.Examples.{numbers, up, stay, is_number, is_at, anywhere, counter, distance, alone}
+use Rattle.execution_laws.specs.Examples.{careful_counter, away, nearer, CounterIsSafe, CounterEnsures, CounterArrives}
+use Rattle.execution_laws.specs.Examples.{UnionOfTwo, CountersAlike}
 use Rattle.execution_laws.specs.Stands.{UnlessStands, EnsuresStands}
 use Rattle.execution_laws.proofs.TruthLaws.{or_right}
 use Rattle.execution_laws.proofs.StandingTheorems.{invariant_holds, leads_holds, ensures_leads_kept}

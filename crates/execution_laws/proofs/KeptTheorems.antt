@@ -1,5 +1,6 @@
 -- The executions of a system that is kept to a test.
-use Rattle.std.proofs.Common.{◌≡◌, ℕ, zero, suc, List, [], ◌∷◌, map, Bool, true, false, cond, Option, Some, None, IsTrue, refl, sym, subst, ap, ◌∙◌, slice_get, length}
+use Rattle.std.proofs.Common.{◌≡◌, ℕ, zero, suc, List, [], ◌∷◌, map, Bool, true, false, cond, Option, Some, None}
+use Rattle.std.proofs.Common.{IsTrue, refl, sym, subst, ap, ◌∙◌, slice_get, length}
 use Rattle.std.proofs.lemmas.List.{length-map}
 use Rattle.state_steps.specs.State.{State}
 use Rattle.unity_meaning.specs.Execution.{Act, System, Steps, act_step, chosen_step}

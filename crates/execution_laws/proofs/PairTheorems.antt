@@ -5,7 +5,9 @@ use Rattle.unity_meaning.specs.Properties.{Test}
 use Rattle.unity_meaning.specs.Execution.{System}
 use Rattle.execution_laws.specs.Tests.{both_hold, one_holds, Implies}
 use Rattle.execution_laws.specs.Stands.{EachStep, StepUnless}
-use Rattle.execution_laws.specs.PairRules.{conjunction_end, disjunction_end, Conjunction, ConjunctionEnsured, SimpleConjunction, Disjunction, SimpleDisjunction, Cancellation, WeakerUnless, WeakerEnsures}
+use Rattle.execution_laws.specs.PairRules.{conjunction_end, disjunction_end, Conjunction, ConjunctionEnsured}
+use Rattle.execution_laws.specs.PairRules.{SimpleConjunction, Disjunction, SimpleDisjunction, Cancellation}
+use Rattle.execution_laws.specs.PairRules.{WeakerUnless, WeakerEnsures}
 use Rattle.state_steps.proofs.StepTheorems.{and_left, and_right, both_true}
 
 -- truths before a step, and after it

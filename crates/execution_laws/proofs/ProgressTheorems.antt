@@ -1,5 +1,7 @@
 -- The laws by which one leads-to follows from others.
-use Rattle.std.proofs.Common.{◌≡◌, ℕ, zero, suc, ◌+◌, ◌-◌, ◌*◌, ◌<◌, ◌≤◌, ℤ, pos, negsuc, ◌+ℤ◌, ◌-ℤ◌, ◌≤ℤ◌, ◌<ℤ◌, List, [], ◌∷◌, Bool, true, false, ◌&&◌, ◌||◌, Some, IsTrue, refl, sym, subst, ap, ◌∙◌, slice_get, drop, length, arith, max}
+use Rattle.std.proofs.Common.{◌≡◌, ℕ, zero, suc, ◌+◌, ◌-◌, ◌*◌, ◌<◌, ◌≤◌, ℤ, pos, negsuc, ◌+ℤ◌, ◌-ℤ◌, ◌≤ℤ◌, ◌<ℤ◌, List}
+use Rattle.std.proofs.Common.{[], ◌∷◌, Bool, true, false, ◌&&◌, ◌||◌, Some, IsTrue, refl, sym, subst, ap, ◌∙◌}
+use Rattle.std.proofs.Common.{slice_get, drop, length, arith, max}
 use Rattle.std.proofs.lemmas.Int.{ints}
 use borrow.Author.Differences.{le-true, lt-true, lt-false}
 use Rattle.std.specs.Int.RustNames.{int_le, int_lt}
@@ -12,7 +14,8 @@ use Rattle.unity_meaning.specs.Rounds.{rounds}
 use Rattle.unity_meaning.specs.Properties.{Test, but_not, Everywhere, Unless, LeadsTo}
 use Rattle.unity_meaning.specs.RoundLaws.{HoldsLater}
 use Rattle.execution_laws.specs.Tests.{both_hold, one_holds}
-use Rattle.execution_laws.specs.ProgressLaws.{at_measure, below_measure, LeadsOn, EitherLeads, AnyLeads, ProgressWithSafety, LeadsWeaker, LeadsByInduction}
+use Rattle.execution_laws.specs.ProgressLaws.{at_measure, below_measure, LeadsOn, EitherLeads, AnyLeads}
+use Rattle.execution_laws.specs.ProgressLaws.{ProgressWithSafety, LeadsWeaker, LeadsByInduction}
 use Rattle.execution_laws.proofs.TruthLaws.{or_left, or_right, not_true, cases}
 use Rattle.execution_laws.proofs.NumberTests.{le_passes, lt_passes}
 use Rattle.state_steps.proofs.StepTheorems.{and_left, and_right, both_true}

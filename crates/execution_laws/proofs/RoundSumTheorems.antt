@@ -1,8 +1,10 @@
 -- How the rounds of parts of a list of choices add up.
-use Rattle.std.proofs.Common.{◌≡◌, ℕ, zero, suc, ◌+◌, ◌<◌, ◌≤◌, List, [], ◌∷◌, Bool, true, false, ◌||◌, IsTrue, refl, nat_eq, take, drop, arith, sym, ap, ◌∙◌}
+use Rattle.std.proofs.Common.{◌≡◌, ℕ, zero, suc, ◌+◌, ◌<◌, ◌≤◌, List, [], ◌∷◌, Bool, true, false, ◌||◌, IsTrue, refl}
+use Rattle.std.proofs.Common.{nat_eq, take, drop, arith, sym, ap, ◌∙◌}
 use Rattle.std.specs.List.{list_any}
 use Rattle.unity_meaning.specs.Rounds.{has_all, unfinished, one_more, rounds_since, rounds}
-use Rattle.execution_laws.specs.RoundSums.{unfinished_after, RoundsAreLeft, LaterHaveFewer, RoundsOfJoined, MarksSuffice}
+use Rattle.execution_laws.specs.RoundSums.{unfinished_after, RoundsAreLeft, LaterHaveFewer, RoundsOfJoined}
+use Rattle.execution_laws.specs.RoundSums.{MarksSuffice}
 use Rattle.state_steps.proofs.StepTheorems.{and_left, and_right, both_true}
 
 -- each number of the first list occurs in the second

@@ -1,5 +1,7 @@
 -- What stands of single steps holds in executions.
-use Rattle.std.proofs.Common.{◌≡◌, ℕ, zero, suc, ◌+◌, ◌<◌, ◌≤◌, List, [], ◌∷◌, ◌++◌, Bool, true, false, ◌||◌, Option, Some, None, IsTrue, refl, sym, subst, ap, ◌∙◌, slice_get, take, drop, length, nat_eq, arith}
+use Rattle.std.proofs.Common.{◌≡◌, ℕ, zero, suc, ◌+◌, ◌<◌, ◌≤◌, List, [], ◌∷◌, ◌++◌, Bool, true, false, ◌||◌, Option}
+use Rattle.std.proofs.Common.{Some, None, IsTrue, refl, sym, subst, ap, ◌∙◌, slice_get, take, drop, length, nat_eq}
+use Rattle.std.proofs.Common.{arith}
 use Rattle.std.specs.Prelude.{◌≢◌}
 use Rattle.std.specs.List.{list_any}
 use Rattle.state_steps.specs.State.{State}
@@ -9,12 +11,15 @@ use Rattle.unity_meaning.specs.Properties.{Test, IsInvariant}
 use Rattle.unity_meaning.specs.Rounds.{rounds, IsShortest}
 use Rattle.unity_meaning.specs.RoundLaws.{HoldsLater}
 use Rattle.unity_meaning.proofs.ExecutionTheorems.{each_is_a_step, prefix_is_execution, extended, get_at}
-use Rattle.unity_meaning.proofs.PropertyTheorems.{earlier, within_none, leads_is_follows, next, place_of, get-drop, left_of}
+use Rattle.unity_meaning.proofs.PropertyTheorems.{earlier, within_none, leads_is_follows, next, place_of, get-drop}
+use Rattle.unity_meaning.proofs.PropertyTheorems.{left_of}
 use Rattle.unity_meaning.proofs.RoundTheorems.{no_rounds}
 use Rattle.execution_laws.specs.Systems.{kept}
 use Rattle.execution_laws.specs.Stands.{EnsuresStands}
-use Rattle.execution_laws.specs.KeptLaws.{ImplicationKept, UnlessKept, EnsuresLeadsKept, DefinedNarrows, InvariantNarrows, UnlessNarrows, EnsuresNarrows, LeadsNarrows}
-use Rattle.execution_laws.specs.StandingLaws.{InvariantBoth, DefinedHolds, InvariantHolds, UnlessHolds, EnsuresHolds, LeadsHolds}
+use Rattle.execution_laws.specs.KeptLaws.{ImplicationKept, UnlessKept, EnsuresLeadsKept, DefinedNarrows}
+use Rattle.execution_laws.specs.KeptLaws.{InvariantNarrows, UnlessNarrows, EnsuresNarrows, LeadsNarrows}
+use Rattle.execution_laws.specs.StandingLaws.{InvariantBoth, DefinedHolds, InvariantHolds, UnlessHolds, EnsuresHolds}
+use Rattle.execution_laws.specs.StandingLaws.{LeadsHolds}
 use Rattle.execution_laws.proofs.KeptTheorems.{kept_runs, kept_length}
 
 pub invariant_both : InvariantBoth

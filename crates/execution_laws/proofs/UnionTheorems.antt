@@ -1,5 +1,7 @@
 -- What stands of single steps passes to unions.
-use Rattle.std.proofs.Common.{◌≡◌, ℕ, zero, suc, ◌+◌, ◌<◌, List, [], ◌∷◌, ◌++◌, Bool, true, false, ◌&&◌, ◌||◌, Option, Some, None, IsTrue, refl, sym, ap, ◌∙◌, slice_get, length, length-append, arith, ◌⊎◌, inl, inr}
+use Rattle.std.proofs.Common.{◌≡◌, ℕ, zero, suc, ◌+◌, ◌<◌, List, [], ◌∷◌, ◌++◌, Bool, true, false, ◌&&◌, ◌||◌, Option}
+use Rattle.std.proofs.Common.{Some, None, IsTrue, refl, sym, ap, ◌∙◌, slice_get, length, length-append, arith, ◌⊎◌, inl}
+use Rattle.std.proofs.Common.{inr}
 use Rattle.std.specs.List.{list_all}
 use Rattle.std.proofs.lemmas.List.Folds.{list_all-append}
 use Rattle.state_steps.specs.State.{State, is_state}
@@ -12,7 +14,8 @@ use Rattle.unity_meaning.proofs.ExecutionTheorems.{union_steps}
 use Rattle.execution_laws.specs.Tests.{both_hold}
 use Rattle.execution_laws.specs.Systems.{together}
 use Rattle.execution_laws.specs.Stands.{EachStep, StepKeeps, StepUnless, UnlessStands}
-use Rattle.execution_laws.specs.UnionRules.{UnionIsTogether, UnionDefined, UnionUnless, UnionInvariant, UnionInvariantSecond, UnionEnsures, UnionEnsuresSecond}
+use Rattle.execution_laws.specs.UnionRules.{UnionIsTogether, UnionDefined, UnionUnless, UnionInvariant}
+use Rattle.execution_laws.specs.UnionRules.{UnionInvariantSecond, UnionEnsures, UnionEnsuresSecond}
 
 and_once : (a b c : Bool) → (a && (b && c)) ≡ ((a && b) && (a && c))
 and_once true b c = refl

@@ -8,14 +8,22 @@
 //! These functions do nothing: each states laws.
 #![tactic(auto)]
 
-ghost use Rattle.execution_laws.specs.KeptLaws.{KeptRuns, ImplicationKept, UnlessKept, EnsuresLeadsKept, DefinedNarrows, InvariantNarrows, UnlessNarrows, EnsuresNarrows, LeadsNarrows};
-ghost use Rattle.execution_laws.specs.StandingLaws.{InvariantBoth, DefinedHolds, InvariantHolds, UnlessHolds, EnsuresHolds, LeadsHolds};
-ghost use Rattle.execution_laws.specs.PairRules.{Conjunction, ConjunctionEnsured, SimpleConjunction, Disjunction, SimpleDisjunction, Cancellation, WeakerUnless, WeakerEnsures};
-ghost use Rattle.execution_laws.specs.UnionRules.{UnionIsTogether, UnionDefined, UnionUnless, UnionInvariant, UnionInvariantSecond, UnionEnsures, UnionEnsuresSecond};
+ghost use Rattle.execution_laws.specs.KeptLaws.{KeptRuns, ImplicationKept, UnlessKept, EnsuresLeadsKept};
+ghost use Rattle.execution_laws.specs.KeptLaws.{DefinedNarrows, InvariantNarrows, UnlessNarrows, EnsuresNarrows};
+ghost use Rattle.execution_laws.specs.KeptLaws.{LeadsNarrows};
+ghost use Rattle.execution_laws.specs.StandingLaws.{InvariantBoth, DefinedHolds, InvariantHolds, UnlessHolds};
+ghost use Rattle.execution_laws.specs.StandingLaws.{EnsuresHolds, LeadsHolds};
+ghost use Rattle.execution_laws.specs.PairRules.{Conjunction, ConjunctionEnsured, SimpleConjunction, Disjunction};
+ghost use Rattle.execution_laws.specs.PairRules.{SimpleDisjunction, Cancellation, WeakerUnless, WeakerEnsures};
+ghost use Rattle.execution_laws.specs.UnionRules.{UnionIsTogether, UnionDefined, UnionUnless, UnionInvariant};
+ghost use Rattle.execution_laws.specs.UnionRules.{UnionInvariantSecond, UnionEnsures, UnionEnsuresSecond};
 ghost use Rattle.execution_laws.specs.RoundSums.{RoundsAreLeft, LaterHaveFewer, RoundsOfJoined, MarksSuffice};
-ghost use Rattle.execution_laws.specs.ProgressLaws.{LeadsOn, EitherLeads, AnyLeads, ProgressWithSafety, LeadsWeaker, LeadsByInduction};
-ghost use Rattle.execution_laws.specs.AlikeLaws.{SourceAlike, AlikeBack, KeptAlike, RunsAlike, DefinedAlike, InvariantAlike, UnlessAlike, EnsuresAlike, LeadsAlike};
-ghost use Rattle.execution_laws.specs.Examples.{CounterIsSafe, CounterEnsures, CounterArrives, UnionOfTwo, CountersAlike};
+ghost use Rattle.execution_laws.specs.ProgressLaws.{LeadsOn, EitherLeads, AnyLeads, ProgressWithSafety, LeadsWeaker};
+ghost use Rattle.execution_laws.specs.ProgressLaws.{LeadsByInduction};
+ghost use Rattle.execution_laws.specs.AlikeLaws.{SourceAlike, AlikeBack, KeptAlike, RunsAlike, DefinedAlike};
+ghost use Rattle.execution_laws.specs.AlikeLaws.{InvariantAlike, UnlessAlike, EnsuresAlike, LeadsAlike};
+ghost use Rattle.execution_laws.specs.Examples.{CounterIsSafe, CounterEnsures, CounterArrives, UnionOfTwo};
+ghost use Rattle.execution_laws.specs.Examples.{CountersAlike};
 
 /// A system that is kept to a test has those of its executions whose states all pass the test; what
 /// stands of single steps between such states holds in these.

@@ -12,19 +12,28 @@ use Rattle.unity_syntax.specs.Kinds.{Kind, kind}
 use Rattle.unity_syntax.specs.Grammar.{make_product, make_sum}
 use Rattle.unity_syntax.specs.View.{view_flag, view_list, view_signed, view_name, view_expr, view_expr_step}
 
-pub sum_tree : (at : ℕ) (minus : Bool) (first : Expr) (rest : List (Symbol × Expr)) → view_expr (Sum at minus first rest) ≡ node (kind Kind.expr_sum) at (pair (view_flag minus) (pair (view_expr first) (view_list (view_signed view_expr) rest)))
+pub sum_tree : (at : ℕ) (minus : Bool) (first : Expr) (rest : List (Symbol × Expr)) → view_expr
+    (Sum at minus first rest) ≡ node (kind Kind.expr_sum) at
+    (pair (view_flag minus) (pair (view_expr first) (view_list (view_signed view_expr) rest)))
 sum_tree at minus first rest =
-    ap view_expr (sym (rolls-Sum at minus first rest)) ∙ fold-roll-Expr Tree view_expr_step (Expr-F.Sum at minus first rest)
-    ∙ ap (λ xs. node (kind Kind.expr_sum) at (pair (view_flag minus) (pair (view_expr first) (list xs)))) (map-map _ _ rest)
+    ap view_expr (sym (rolls-Sum at minus first rest)) ∙ fold-roll-Expr Tree view_expr_step
+    (Expr-F.Sum at minus first rest)
+    ∙ ap (λ xs. node (kind Kind.expr_sum) at (pair (view_flag minus) (pair (view_expr first) (list xs))))
+    (map-map _ _ rest)
 
-pub indexed_tree : (at : ℕ) (name : Name) (index : Expr) → view_expr (Word at name (Some index)) ≡ node (kind Kind.expr_word) at (pair (view_name name) (some (view_expr index)))
-indexed_tree at name index = ap view_expr (sym (rolls-Word at name (Some index))) ∙ fold-roll-Expr Tree view_expr_step (Expr-F.Word at name (Some index))
+pub indexed_tree : (at : ℕ) (name : Name) (index : Expr) → view_expr (Word at name (Some index)) ≡ node
+    (kind Kind.expr_word) at (pair (view_name name) (some (view_expr index)))
+indexed_tree at name index = ap view_expr (sym (rolls-Word at name (Some index))) ∙ fold-roll-Expr Tree view_expr_step
+    (Expr-F.Word at name (Some index))
 
 -- more than one product, or more than one atom
-pub long_sum : (at : ℕ) (x : Tree) (rest : List (Symbol × Expr)) → 0 < length rest → make_sum at (pair (view_flag false) (pair x (view_list (view_signed view_expr) rest))) ≡ node (kind Kind.expr_sum) at (pair (view_flag false) (pair x (view_list (view_signed view_expr) rest)))
+pub long_sum : (at : ℕ) (x : Tree) (rest : List (Symbol × Expr)) → 0 < length rest → make_sum at
+    (pair (view_flag false) (pair x (view_list (view_signed view_expr) rest))) ≡ node (kind Kind.expr_sum) at
+    (pair (view_flag false) (pair x (view_list (view_signed view_expr) rest)))
 long_sum at x [] h = absurd (omega arith)
 long_sum at x (y ∷ ys) h = refl
 
-pub long_product : (at : ℕ) (x : Tree) (rest : List Expr) → 0 < length rest → make_product at (pair x (view_list view_expr rest)) ≡ node (kind Kind.expr_product) at (pair x (view_list view_expr rest))
+pub long_product : (at : ℕ) (x : Tree) (rest : List Expr) → 0 < length rest → make_product at
+    (pair x (view_list view_expr rest)) ≡ node (kind Kind.expr_product) at (pair x (view_list view_expr rest))
 long_product at x [] h = absurd (omega arith)
 long_product at x (y ∷ ys) h = refl

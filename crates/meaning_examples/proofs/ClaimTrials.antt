@@ -1,5 +1,7 @@
 -- The claims of `specs/ClaimExamples.antt`.
-use Rattle.std.proofs.Common.{◌≡◌, ℕ, zero, suc, ◌<◌, ◌≤◌, ℤ, pos, negsuc, List, [], ◌∷◌, Bool, true, false, ◌&&◌, ◌||◌, not, Some, None, IsTrue, refl, sym, subst, ap, ◌∙◌, slice_get, drop, take, length, arith, ◌⊎◌, inl, inr}
+use Rattle.std.proofs.Common.{◌≡◌, ℕ, zero, suc, ◌<◌, ◌≤◌, ℤ, pos, negsuc, List, [], ◌∷◌, Bool, true, false, ◌&&◌, ◌||◌}
+use Rattle.std.proofs.Common.{not, Some, None, IsTrue, refl, sym, subst, ap, ◌∙◌, slice_get, drop, take, length, arith}
+use Rattle.std.proofs.Common.{◌⊎◌, inl, inr}
 use Rattle.std.specs.Prelude.{codes}
 use Rattle.std.proofs.lemmas.Int.{ints}
 use borrow.Author.Differences.{le-true}
@@ -15,7 +17,11 @@ use Rattle.unity_meaning.specs.Properties.{Test, Everywhere, IsAlwaysDefined, Un
 use Rattle.unity_syntax.specs.declared.proof.Step.{Step}
 use Rattle.unity_meaning.specs.Claims.{Claims, StepClaims, ClaimsOf, are_arguments, argument_bindings, parameters}
 use Rattle.meaning_examples.specs.SmallTrees.{word, number, equal, less}
-use Rattle.meaning_examples.specs.ClaimExamples.{count_proof, safe, jump, goal, overrun, overrunning, some_helps, each_helps, counting, count, counter, CountsToTwo, BeginsAtNought, CountIsDefined, FirstIsEnsured, JumpIsFalse, WithinTwo, NotWithinOne, OverrunIsUndefined, choosing, either, chooser, NoneForAllStates, OneForEachParameter, NoSuchProgram, ClaimExamples}
+use Rattle.meaning_examples.specs.ClaimExamples.{count_proof, safe, jump, goal, overrun, overrunning, some_helps}
+use Rattle.meaning_examples.specs.ClaimExamples.{each_helps, counting, count, counter, CountsToTwo, BeginsAtNought}
+use Rattle.meaning_examples.specs.ClaimExamples.{CountIsDefined, FirstIsEnsured, JumpIsFalse, WithinTwo, NotWithinOne}
+use Rattle.meaning_examples.specs.ClaimExamples.{OverrunIsUndefined, choosing, either, chooser, NoneForAllStates}
+use Rattle.meaning_examples.specs.ClaimExamples.{OneForEachParameter, NoSuchProgram, ClaimExamples}
 use Rattle.unity_meaning.proofs.ValueLaws.{value_laws}
 use Rattle.unity_meaning.proofs.WriteLaws.{write_laws}
 use Rattle.unity_meaning.proofs.InstanceLaws.{instance_laws}

@@ -1,6 +1,9 @@
 -- The values of `specs/OperatorExamples.antt`, found by rewriting.
 use Rattle.std.proofs.Common.{refl}
-use Rattle.meaning_examples.specs.OperatorExamples.{OperatorExamples, Equals, Differs, IsBelow, IsAtMost, IsAbove, IsAtLeast, TruthsCompare, Negations, Implications, Conjunctions, Disjunctions, Products, IndicesBelowNought, RangeBelowNought, EndsWithOffset}
+use Rattle.meaning_examples.specs.OperatorExamples.{OperatorExamples, Equals, Differs, IsBelow, IsAtMost, IsAbove}
+use Rattle.meaning_examples.specs.OperatorExamples.{IsAtLeast, TruthsCompare, Negations, Implications, Conjunctions}
+use Rattle.meaning_examples.specs.OperatorExamples.{Disjunctions, Products, IndicesBelowNought, RangeBelowNought}
+use Rattle.meaning_examples.specs.OperatorExamples.{EndsWithOffset}
 use Rattle.unity_meaning.proofs.ValueLaws.{value_laws}
 
 equals_found : Equals

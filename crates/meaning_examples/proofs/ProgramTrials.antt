@@ -1,7 +1,9 @@
 -- The unions and rounds of `specs/ProgramExamples.antt`, found by rewriting.
 use Rattle.std.proofs.Common.{ℕ, zero, suc, ◌<◌, [], ◌∷◌, refl, arith, take}
 use Rattle.unity_meaning.specs.Rounds.{rounds}
-use Rattle.meaning_examples.specs.ProgramExamples.{UnionExamples, RoundExamples, UnionInOrder, UnionOfUnion, UnionOfSections, LaterIsNoPart, SlotsOfDocument, ShortestOfOne, ShortestOfTwo}
+use Rattle.meaning_examples.specs.ProgramExamples.{UnionExamples, RoundExamples, UnionInOrder, UnionOfUnion}
+use Rattle.meaning_examples.specs.ProgramExamples.{UnionOfSections, LaterIsNoPart, SlotsOfDocument, ShortestOfOne}
+use Rattle.meaning_examples.specs.ProgramExamples.{ShortestOfTwo}
 use Rattle.unity_meaning.proofs.InstanceLaws.{instance_laws}
 
 in_order_found : UnionInOrder

@@ -1,6 +1,10 @@
 -- The steps and instances of `specs/StepExamples.antt`, found by rewriting.
 use Rattle.std.proofs.Common.{refl}
-use Rattle.meaning_examples.specs.StepExamples.{StepExamples, InstanceExamples, SwapSwaps, ComponentsSwap, NoneTaken, OneTaken, UnequalTaken, EqualTaken, ComponentsDiffer, ComponentsAgree, ElementSet, TargetOutside, OutsideNotTaken, ReadOutside, ValueOutside, AllAtOnce, NothingAtOnce, WritesInOrder, OuterSlowest, InnerFromOuter, SortSteps}
+use Rattle.meaning_examples.specs.StepExamples.{StepExamples, InstanceExamples, SwapSwaps, ComponentsSwap, NoneTaken}
+use Rattle.meaning_examples.specs.StepExamples.{OneTaken, UnequalTaken, EqualTaken, ComponentsDiffer, ComponentsAgree}
+use Rattle.meaning_examples.specs.StepExamples.{ElementSet, TargetOutside, OutsideNotTaken, ReadOutside, ValueOutside}
+use Rattle.meaning_examples.specs.StepExamples.{AllAtOnce, NothingAtOnce, WritesInOrder, OuterSlowest, InnerFromOuter}
+use Rattle.meaning_examples.specs.StepExamples.{SortSteps}
 use Rattle.unity_meaning.proofs.ValueLaws.{value_laws}
 use Rattle.unity_meaning.proofs.WriteLaws.{write_laws}
 use Rattle.unity_meaning.proofs.InstanceLaws.{instance_laws}

@@ -1,6 +1,11 @@
 -- The values of `specs/ValueExamples.antt`, found by rewriting.
 use Rattle.std.proofs.Common.{refl}
-use Rattle.meaning_examples.specs.ValueExamples.{ValueExamples, SlotsInOrder, RangesOfSlots, TruthsOfLamp, TruthsByType, VariableIsRead, WordIsItsPlace, WordsCompare, AlwaysOverAlways, ElementIsRead, ElementAbove, ElementBelow, SumFromLeft, AllOfNone, AnyOfNone, SumOfNone, SumOfElements, AllFailsAtOne, AnyHoldsAtOne, InnerRange, BindingHidesNothing, BindingChangesNoAlways, BindingIsItself}
+use Rattle.meaning_examples.specs.ValueExamples.{ValueExamples, SlotsInOrder, RangesOfSlots, TruthsOfLamp, TruthsByType}
+use Rattle.meaning_examples.specs.ValueExamples.{VariableIsRead, WordIsItsPlace, WordsCompare, AlwaysOverAlways}
+use Rattle.meaning_examples.specs.ValueExamples.{ElementIsRead, ElementAbove, ElementBelow, SumFromLeft, AllOfNone}
+use Rattle.meaning_examples.specs.ValueExamples.{AnyOfNone, SumOfNone, SumOfElements, AllFailsAtOne, AnyHoldsAtOne}
+use Rattle.meaning_examples.specs.ValueExamples.{InnerRange, BindingHidesNothing, BindingChangesNoAlways}
+use Rattle.meaning_examples.specs.ValueExamples.{BindingIsItself}
 use Rattle.unity_meaning.proofs.ValueLaws.{value_laws}
 
 slots_found : SlotsInOrder

@@ -11,7 +11,9 @@ use Rattle.unity_meaning.specs.Execution.{System, IsExecution, system_of}
 use Rattle.unity_meaning.specs.Instances.{instances}
 use Rattle.unity_syntax.specs.declared.statement.Items.{Items}
 use Rattle.unity_meaning.specs.Claims.{Claims}
-use Rattle.meaning_examples.specs.SmallTrees.{word, number, sum_of, equal, less, range, variable, target, one, plainly, if_true, set, statement, lone, beside, initial_program, free_program, step, step_for, between, proof_of, document}
+use Rattle.meaning_examples.specs.SmallTrees.{word, number, sum_of, equal, less, range, variable, target, one, plainly}
+use Rattle.meaning_examples.specs.SmallTrees.{if_true, set, statement, lone, beside, initial_program, free_program}
+use Rattle.meaning_examples.specs.SmallTrees.{step, step_for, between, proof_of, document}
 
 -- `up: x := x + 1 if x < 2`
 abbrev pub counting_up : Items

@@ -8,7 +8,9 @@ use Rattle.unity_syntax.specs.declared.expression.Expr.{Expr}
 use Rattle.state_steps.specs.State.{State}
 use Rattle.unity_meaning.specs.Value.{value}
 use Rattle.unity_meaning.specs.Setting.{Setting, setting_of, seen}
-use Rattle.meaning_examples.specs.SmallTrees.{word, element, number, sum_of, minus, equal, compare, and_of, or_of, range, range_below, range_beside, over, variable, truth_variable, array, target, one, plainly, set, statement, lone, free_program}
+use Rattle.meaning_examples.specs.SmallTrees.{word, element, number, sum_of, minus, equal, compare, and_of, or_of}
+use Rattle.meaning_examples.specs.SmallTrees.{range, range_below, range_beside, over, variable, truth_variable, array}
+use Rattle.meaning_examples.specs.SmallTrees.{target, one, plainly, set, statement, lone, free_program}
 
 -- program Scale
 -- declare

@@ -6,7 +6,9 @@ use Rattle.unity_meaning.specs.Instances.{instance_name}
 use Rattle.unity_meaning.specs.Programs.{program_named, programs_of, document_setting}
 use Rattle.unity_meaning.specs.Setting.{slot_ranges}
 use Rattle.unity_meaning.specs.Rounds.{rounds, IsShortest}
-use Rattle.meaning_examples.specs.SmallTrees.{word, number, equal, range, variable, target, one, plainly, set, statement, lone, choice_of, initial_program, free_program, union_program, document}
+use Rattle.meaning_examples.specs.SmallTrees.{word, number, equal, range, variable, target, one, plainly, set}
+use Rattle.meaning_examples.specs.SmallTrees.{statement, lone, choice_of, initial_program, free_program, union_program}
+use Rattle.meaning_examples.specs.SmallTrees.{document}
 
 -- F has `<[] i : 0..1 :: send: x := i |>`, G has `take: y := x`, L has `stay: y := y`; H = F [] G and K = H [] L, and
 -- Early = F [] L stands before L

@@ -10,7 +10,10 @@ use Rattle.unity_meaning.specs.Writes.{writes}
 use Rattle.unity_meaning.specs.Instances.{instances, instance_name}
 use Rattle.unity_meaning.specs.Setting.{Setting, setting_of, slot_ranges, seen}
 use Rattle.unity_meaning.specs.Execution.{instance_step}
-use Rattle.meaning_examples.specs.SmallTrees.{word, element, number, sum_of, equal, less, range, range_from, variable, array, target, element_target, one, two, plainly, if_true, if_either, set, set_two, single, both, for_each, statement, lone, beside, choice_of, program}
+use Rattle.meaning_examples.specs.SmallTrees.{word, element, number, sum_of, equal, less, range, range_from, variable}
+use Rattle.meaning_examples.specs.SmallTrees.{array, target, element_target, one, two, plainly, if_true, if_either, set}
+use Rattle.meaning_examples.specs.SmallTrees.{set_two, single, both, for_each, statement, lone, beside, choice_of}
+use Rattle.meaning_examples.specs.SmallTrees.{program}
 
 -- program Three
 -- declare

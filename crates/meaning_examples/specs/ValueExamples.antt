@@ -6,7 +6,10 @@ use Rattle.unity_syntax.specs.declared.program.Program.{Program}
 use Rattle.state_steps.specs.State.{State}
 use Rattle.unity_meaning.specs.Value.{value}
 use Rattle.unity_meaning.specs.Setting.{Setting, setting_of, slot_ranges, seen}
-use Rattle.meaning_examples.specs.SmallTrees.{word, element, number, sum_of, difference, minus, equal, less, range, range_from, over, variable, truth_variable, array, truth_array, enumeration, always, target, one, plainly, set, statement, lone, program, free_program}
+use Rattle.meaning_examples.specs.SmallTrees.{word, element, number, sum_of, difference, minus, equal, less, range}
+use Rattle.meaning_examples.specs.SmallTrees.{range_from, over, variable, truth_variable, array, truth_array}
+use Rattle.meaning_examples.specs.SmallTrees.{enumeration, always, target, one, plainly, set, statement, lone, program}
+use Rattle.meaning_examples.specs.SmallTrees.{free_program}
 
 -- program Lamp
 -- declare

@@ -1,5 +1,6 @@
 -- Each definition makes an always name, which stays one.
-use Rattle.std.proofs.Common.{◌≡◌, ℕ, List, [], ◌∷◌, ◌++◌, Bool, true, false, ◌||◌, None, ◌⊎◌, inl, inr, refl, sym, subst}
+use Rattle.std.proofs.Common.{◌≡◌, ℕ, List, [], ◌∷◌, ◌++◌, Bool, true, false, ◌||◌, None, ◌⊎◌, inl, inr, refl, sym}
+use Rattle.std.proofs.Common.{subst}
 use Rattle.std.specs.List.{flat_map, list_any}
 use Rattle.std.specs.Str.{bytes_eq}
 use Rattle.unity_syntax.specs.declared.declaration.Def.{Def}
@@ -9,7 +10,8 @@ use Rattle.unity_meaning.specs.Setting.{programs_among, definitions}
 use Rattle.name_scopes.specs.Scope.{Table}
 use Rattle.name_scopes.specs.Reading.{earlier, read}
 use Rattle.name_scopes.specs.Part.{run}
-use Rattle.name_scopes.specs.Declarations.{items_of, some_of, program_scope, variable_part, always_named, definition, definition_scope, always_part}
+use Rattle.name_scopes.specs.Declarations.{items_of, some_of, program_scope, variable_part, always_named, definition}
+use Rattle.name_scopes.specs.Declarations.{definition_scope, always_part}
 use Rattle.name_scopes.specs.WellNamed.{Declared, nothing_declared, new_program, program_body, program_part, part_of}
 use Rattle.name_laws.specs.StayingLaws.{StaysIn}
 use Rattle.name_laws.specs.AlwaysLaws.{is_defined, IsAlwaysIn, DefinedIsAlways}

@@ -13,12 +13,18 @@ use Rattle.unity_syntax.proofs.AssignmentFolds.{two_assignments}
 use Rattle.name_scopes.specs.declared.named.Meaning.{Meaning}
 use Rattle.name_scopes.specs.declared.named.Sort.{Sort}
 use Rattle.name_scopes.specs.Scope.{Scope, with_bound}
-use Rattle.name_scopes.specs.Reading.{Reading, Read, earlier, unless, same_sort, all_beside, needs, binding, range_reading, read}
-use Rattle.name_scopes.specs.Statements.{target_head, index_reading, target_reading, values_reading, condition_reading, alternative_reading, further_reading, alternatives_reading, component_layer, assign_layer}
+use Rattle.name_scopes.specs.Reading.{Reading, Read, earlier, unless, same_sort, all_beside, needs, binding}
+use Rattle.name_scopes.specs.Reading.{range_reading, read}
+use Rattle.name_scopes.specs.Statements.{target_head, index_reading, target_reading, values_reading, condition_reading}
+use Rattle.name_scopes.specs.Statements.{alternative_reading, further_reading, alternatives_reading, component_layer}
+use Rattle.name_scopes.specs.Statements.{assign_layer}
 use Rattle.name_laws.specs.Attributes.{is_fixed, is_exact}
 use Rattle.name_laws.specs.AttributeLaws.{ArraysVary}
-use Rattle.name_laws.specs.AssignmentLaws.{is_exact_or_none, has_exact_index, is_exact_alternative, is_exact_further, are_exact_alternatives, IsExact, exact_component, exact_assign, ExactAssignments}
-use Rattle.name_laws.proofs.AttributeTheorems.{earlier_first, earlier_second, and_both, unless_none, range_fixed, exact_where_faultless}
+use Rattle.name_laws.specs.AssignmentLaws.{is_exact_or_none, has_exact_index, is_exact_alternative, is_exact_further}
+use Rattle.name_laws.specs.AssignmentLaws.{are_exact_alternatives, IsExact, exact_component, exact_assign}
+use Rattle.name_laws.specs.AssignmentLaws.{ExactAssignments}
+use Rattle.name_laws.proofs.AttributeTheorems.{earlier_first, earlier_second, and_both, unless_none, range_fixed}
+use Rattle.name_laws.proofs.AttributeTheorems.{exact_where_faultless}
 
 all_exact : {X : Type 0} (f : X → Reading) (p : X → Bool) → ((x : X) → (f x).fault ≡ None → p x ≡ true) →
     (xs : List X) → (all_beside (map f xs)).fault ≡ None → list_all p xs ≡ true

@@ -1,5 +1,6 @@
 -- A reading without a fault and the attributes of its expression, by the kinds of expressions.
-use Rattle.std.proofs.Common.{◌≡◌, ℕ, List, [], ◌∷◌, map, Bool, true, false, cond, not, ◌&&◌, ◌||◌, Option, Some, None, option_map, refl, sym, ap, ◌∙◌, subst}
+use Rattle.std.proofs.Common.{◌≡◌, ℕ, List, [], ◌∷◌, map, Bool, true, false, cond, not, ◌&&◌, ◌||◌, Option, Some, None}
+use Rattle.std.proofs.Common.{option_map, refl, sym, ap, ◌∙◌, subst}
 use Rattle.std.specs.Map.{lookup}
 use Rattle.std.specs.Option.{is_some, option_or}
 use Rattle.std.specs.Str.{bytes_eq}
@@ -16,9 +17,13 @@ use Rattle.name_scopes.specs.declared.named.Meaning.{Meaning}
 use Rattle.name_scopes.specs.declared.named.Sort.{Sort}
 use Rattle.name_scopes.specs.declared.named.Named.{Named}
 use Rattle.name_scopes.specs.Scope.{Scope, Table, Bounds, found, is_param, bound_named, is_visible, visible, with_bound}
-use Rattle.name_scopes.specs.Reading.{Fault, Reading, Read, earlier, unless, same_sort, needs, gathers, in_order, is_linear, left_side, same_bool, word_found, binding, range_reading, end_reading, end_word, read_layer, read}
-use Rattle.name_laws.specs.Attributes.{Attributes, Attributed, attributes, both, all, times, factors, is_number, is_fixed_end, is_fixed, attribute_layer, word_attributes}
-use Rattle.name_laws.specs.AttributeLaws.{VariesAsArray, ArraysVary, ExactWhereFaultless, ConstantAsRead, DocumentsVary, VariablesVary, DefinitionsVary}
+use Rattle.name_scopes.specs.Reading.{Fault, Reading, Read, earlier, unless, same_sort, needs, gathers, in_order}
+use Rattle.name_scopes.specs.Reading.{is_linear, left_side, same_bool, word_found, binding, range_reading, end_reading}
+use Rattle.name_scopes.specs.Reading.{end_word, read_layer, read}
+use Rattle.name_laws.specs.Attributes.{Attributes, Attributed, attributes, both, all, times, factors, is_number}
+use Rattle.name_laws.specs.Attributes.{is_fixed_end, is_fixed, attribute_layer, word_attributes}
+use Rattle.name_laws.specs.AttributeLaws.{VariesAsArray, ArraysVary, ExactWhereFaultless, ConstantAsRead, DocumentsVary}
+use Rattle.name_laws.specs.AttributeLaws.{VariablesVary, DefinitionsVary}
 use Rattle.name_laws.proofs.Tables.{each_variables, each_definitions, each_document}
 use Rattle.unity_syntax.specs.declared.declaration.Var.{Var}
 use Rattle.name_scopes.specs.Declarations.{value_named, variable_named, always_named}

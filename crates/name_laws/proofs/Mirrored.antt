@@ -1,5 +1,6 @@
 -- The words of a table that are variables and the variables of a document, by its declarations.
-use Rattle.std.proofs.Common.{◌≡◌, ℕ, ◌+◌, List, [], ◌∷◌, ◌++◌, Bool, true, false, cond, not, ◌||◌, Option, Some, None, option_map, ◌⊎◌, inl, inr, refl, sym, ap, ◌∙◌, subst, length}
+use Rattle.std.proofs.Common.{◌≡◌, ℕ, ◌+◌, List, [], ◌∷◌, ◌++◌, Bool, true, false, cond, not, ◌||◌, Option, Some, None}
+use Rattle.std.proofs.Common.{option_map, ◌⊎◌, inl, inr, refl, sym, ap, ◌∙◌, subst, length}
 use Rattle.std.specs.Prelude.{nat_eq}
 use Rattle.std.specs.List.{flat_map, list_any}
 use Rattle.std.specs.Map.{lookup}
@@ -17,20 +18,29 @@ use Rattle.unity_syntax.specs.declared.document.Part.{Part as DocumentPart}
 use Rattle.unity_meaning.specs.Names.{Variable, slot_at}
 use Rattle.unity_meaning.specs.Value.{end_value, range_ends}
 use Rattle.unity_meaning.specs.Setting as setting
-use Rattle.unity_meaning.specs.Setting.{programs_among, declarations, slot_count, variable_from, with_declaration, with_declarations}
+use Rattle.unity_meaning.specs.Setting.{programs_among, declarations, slot_count, variable_from, with_declaration}
+use Rattle.unity_meaning.specs.Setting.{with_declarations}
 use Rattle.name_scopes.specs.declared.named.Sort.{Sort}
 use Rattle.name_scopes.specs.declared.named.Named.{Named}
 use Rattle.name_scopes.specs.Scope.{Table, is_variable, found, bound_named, is_visible, visible}
 use Rattle.name_scopes.specs.declared.named.Meaning.{Meaning}
 use Rattle.name_scopes.specs.Reading.{earlier, unless, read, end_reading, filled, upside_down}
 use Rattle.name_scopes.specs.Part.{run, quiet}
-use Rattle.name_scopes.specs.Declarations.{items_of, some_of, program_scope, with_named, is_declared, declare, value_named, known_sort, is_last, are_words, is_repeated, repeated, words_sort, enumerated, words_part, end_number, span_of, plain_sort, plain_part, type_part, element_type, type_indices, variable_named as named_here, may_declare, agrees, variable_as, variable_part, always_named, definition, definition_scope, always_part}
+use Rattle.name_scopes.specs.Declarations.{items_of, some_of, program_scope, with_named, is_declared, declare}
+use Rattle.name_scopes.specs.Declarations.{value_named, known_sort, is_last, are_words, is_repeated, repeated}
+use Rattle.name_scopes.specs.Declarations.{words_sort, enumerated, words_part, end_number, span_of, plain_sort}
+use Rattle.name_scopes.specs.Declarations.{plain_part, type_part, element_type, type_indices}
+use Rattle.name_scopes.specs.Declarations.{variable_named as named_here, may_declare, agrees, variable_as}
+use Rattle.name_scopes.specs.Declarations.{variable_part, always_named, definition, definition_scope, always_part}
 use Rattle.name_scopes.specs.WellNamed.{Declared, nothing_declared, new_program, program_body, program_part, part_of}
 use Rattle.unity_syntax.proofs.BackParts.{both_same}
 use Rattle.name_laws.specs.SlotLaws.{variable_named}
-use Rattle.name_laws.specs.VariableLaws.{is_boolean_sort, span_ends, SameKind, Mirrors, MirroredByDocuments, MirroredByVariables, MirroredByDefinitions, VariablesStay, PlainSlot, VariableFound}
+use Rattle.name_laws.specs.VariableLaws.{is_boolean_sort, span_ends, SameKind, Mirrors, MirroredByDocuments}
+use Rattle.name_laws.specs.VariableLaws.{MirroredByVariables, MirroredByDefinitions, VariablesStay, PlainSlot}
+use Rattle.name_laws.specs.VariableLaws.{VariableFound}
 use Rattle.name_laws.proofs.AttributeTheorems.{earlier_first, earlier_second, and_first, unless_none}
-use Rattle.name_laws.proofs.Inserts.{same_bytes, bytes_same, chosen, taken, added, found_added, still_found, kept_beside}
+use Rattle.name_laws.proofs.Inserts.{same_bytes, bytes_same, chosen, taken, added, found_added, still_found}
+use Rattle.name_laws.proofs.Inserts.{kept_beside}
 use Rattle.name_laws.proofs.Slots.{slot_of_named}
 
 pub not_some : {X : Type 0} (o : Option X) → not (is_some o) ≡ true → o ≡ None

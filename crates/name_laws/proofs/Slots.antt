@@ -1,5 +1,7 @@
 -- The slots of variables follow each other, and each has its variable's range.
-use Rattle.std.proofs.Common.{◌≡◌, ℕ, zero, suc, ◌+◌, ◌<◌, List, [], ◌∷◌, ◌++◌, map, Bool, true, false, cond, ◌&&◌, Option, Some, None, ◌⊎◌, inl, inr, refl, sym, ap, ◌∙◌, subst, slice_get, slice_index_or, arith}
+use Rattle.std.proofs.Common.{◌≡◌, ℕ, zero, suc, ◌+◌, ◌<◌, List, [], ◌∷◌, ◌++◌, map, Bool, true, false, cond, ◌&&◌}
+use Rattle.std.proofs.Common.{Option, Some, None, ◌⊎◌, inl, inr, refl, sym, ap, ◌∙◌, subst, slice_get, slice_index_or}
+use Rattle.std.proofs.Common.{arith}
 use Rattle.std.specs.Prelude.{ℤ, pos, negsuc, ◌+ℤ◌, ◌-ℤ◌, replicate, fold}
 use Rattle.std.proofs.lemmas.Int.{ints}
 use borrow.Author.Differences.{le-true}
@@ -13,9 +15,11 @@ use Rattle.unity_syntax.specs.declared.program.Program.{Program}
 use Rattle.state_steps.specs.State.{State, Ranges, is_state, in_range}
 use Rattle.unity_meaning.specs.Names.{Variable, natural, slot_at, slot_named}
 use Rattle.unity_meaning.specs.Value.{range_size}
-use Rattle.unity_meaning.specs.Setting.{declarations, plain_range, is_boolean, element_type, slots_for, slot_count, slot_ranges, variable_from, with_declaration, with_declarations}
+use Rattle.unity_meaning.specs.Setting.{declarations, plain_range, is_boolean, element_type, slots_for, slot_count}
+use Rattle.unity_meaning.specs.Setting.{slot_ranges, variable_from, with_declaration, with_declarations}
 use Rattle.name_laws.proofs.AttributeTheorems.{and_first, and_second}
-use Rattle.name_laws.specs.SlotLaws.{variables_of, variable_named, SlotsAsDeclared, NumbersAsDeclared, TruthsAreBits, TruthSlotsAreBits}
+use Rattle.name_laws.specs.SlotLaws.{variables_of, variable_named, SlotsAsDeclared, NumbersAsDeclared, TruthsAreBits}
+use Rattle.name_laws.specs.SlotLaws.{TruthSlotsAreBits}
 
 -- boolean variables have the range of truths
 abbrev pub HasBits : Variable → Type 0

@@ -1,5 +1,6 @@
 -- What holds of each word that is declared holds of each word of a table.
-use Rattle.std.proofs.Common.{◌≡◌, ℕ, ◌+◌, List, [], ◌∷◌, length, Bool, true, false, cond, Option, Some, None, ◌⊎◌, inl, inr, refl, sym, subst}
+use Rattle.std.proofs.Common.{◌≡◌, ℕ, ◌+◌, List, [], ◌∷◌, length, Bool, true, false, cond, Option, Some, None, ◌⊎◌, inl}
+use Rattle.std.proofs.Common.{inr, refl, sym, subst}
 use Rattle.std.specs.Map.{lookup}
 use Rattle.std.specs.Str.{bytes_eq}
 use Rattle.unity_syntax.specs.declared.name.Name.{Name}
@@ -14,7 +15,9 @@ use Rattle.name_scopes.specs.declared.named.Named.{Named}
 use Rattle.name_scopes.specs.Scope.{Table}
 use Rattle.name_scopes.specs.Reading.{Reading, read}
 use Rattle.name_scopes.specs.Part.{run, quiet}
-use Rattle.name_scopes.specs.Declarations.{items_of, with_named, value_named, is_repeated, repeated, enumerated, words_part, plain_part, type_part, variable_named, declared, variable_part, always_named, definition_scope, always_part}
+use Rattle.name_scopes.specs.Declarations.{items_of, with_named, value_named, is_repeated, repeated, enumerated}
+use Rattle.name_scopes.specs.Declarations.{words_part, plain_part, type_part, variable_named, declared, variable_part}
+use Rattle.name_scopes.specs.Declarations.{always_named, definition_scope, always_part}
 use Rattle.name_scopes.specs.WellNamed.{Declared, part_of}
 
 -- each word of a table is such

@@ -1,5 +1,6 @@
 -- How tables of words change from declaration to declaration, in parts of documents without a fault.
-use Rattle.std.proofs.Common.{◌≡◌, ℕ, ◌+◌, List, [], ◌∷◌, Bool, true, false, cond, not, Option, Some, None, refl, length}
+use Rattle.std.proofs.Common.{◌≡◌, ℕ, ◌+◌, List, [], ◌∷◌, Bool, true, false, cond, not, Option, Some, None, refl}
+use Rattle.std.proofs.Common.{length}
 use Rattle.std.specs.Map.{lookup}
 use Rattle.std.specs.Str.{bytes_eq}
 use Rattle.case_tables.specs.declared.code_table.Code.{Code}
@@ -15,7 +16,10 @@ use Rattle.name_scopes.specs.declared.named.Named.{Named}
 use Rattle.name_scopes.specs.Scope.{Table}
 use Rattle.name_scopes.specs.Reading.{earlier, unless, read, filled}
 use Rattle.name_scopes.specs.Part.{run, quiet}
-use Rattle.name_scopes.specs.Declarations.{items_of, some_of, program_scope, with_named, is_declared, value_named, is_repeated, repeated, enumerated, words_part, plain_part, type_part, variable_named as named_here, may_declare, agrees, variable_as, variable_part, always_named, definition, definition_scope, always_part}
+use Rattle.name_scopes.specs.Declarations.{items_of, some_of, program_scope, with_named, is_declared, value_named}
+use Rattle.name_scopes.specs.Declarations.{is_repeated, repeated, enumerated, words_part, plain_part, type_part}
+use Rattle.name_scopes.specs.Declarations.{variable_named as named_here, may_declare, agrees, variable_as}
+use Rattle.name_scopes.specs.Declarations.{variable_part, always_named, definition, definition_scope, always_part}
 use Rattle.name_scopes.specs.WellNamed.{Declared, new_program, program_body, part_of}
 use Rattle.name_laws.proofs.AttributeTheorems.{earlier_first, earlier_second, unless_none}
 use Rattle.name_laws.proofs.Mirrored.{not_some}

@@ -7,9 +7,11 @@
 //! These functions do nothing: each states laws.
 #![tactic(auto)]
 
-ghost use Rattle.name_laws.specs.AttributeLaws.{ExactWhereFaultless, ConstantAsRead, DocumentsVary, VariablesVary, DefinitionsVary};
+ghost use Rattle.name_laws.specs.AttributeLaws.{ExactWhereFaultless, ConstantAsRead, DocumentsVary, VariablesVary};
+ghost use Rattle.name_laws.specs.AttributeLaws.{DefinitionsVary};
 ghost use Rattle.name_laws.specs.SlotLaws.{SlotsAsDeclared, NumbersAsDeclared, TruthsAreBits, TruthSlotsAreBits};
-ghost use Rattle.name_laws.specs.VariableLaws.{MirroredByDocuments, MirroredByVariables, MirroredByDefinitions, VariablesStay, PlainSlot, VariableFound};
+ghost use Rattle.name_laws.specs.VariableLaws.{MirroredByDocuments, MirroredByVariables, MirroredByDefinitions};
+ghost use Rattle.name_laws.specs.VariableLaws.{VariablesStay, PlainSlot, VariableFound};
 ghost use Rattle.name_laws.specs.StayingLaws.{StaysInDocuments, StaysInVariables, StaysInDefinitions};
 ghost use Rattle.name_laws.specs.AssignmentLaws.{ExactAssignments};
 ghost use Rattle.name_laws.specs.AlwaysLaws.{DefinedIsAlways};

@@ -14,15 +14,18 @@ pub lookup_seen : {V : Type 0} (test : List ℕ → Bool) (es : List (Bor (List 
 lookup_seen test [] = refl
 lookup_seen test (e ∷ es) = ap (cond (test e.0.now) (Some e.1)) (lookup_seen test es)
 
-inserted_at : {V : Type 0} (b : Bool) (e : Bor (List ℕ) × V) (es more : List (Bor (List ℕ) × V)) (v : V) (seen : List (List ℕ × V)) →
+inserted_at : {V : Type 0} (b : Bool) (e : Bor (List ℕ) × V) (es more : List (Bor (List ℕ) × V)) (v : V)
+    (seen : List (List ℕ × V)) →
     seen_entries more ≡ seen →
-    seen_entries (if b then (e.0, v) ∷ es else e ∷ more) ≡ (if b then (e.0.now, v) ∷ seen_entries es else (e.0.now, e.1) ∷ seen)
+    seen_entries (if b then (e.0, v) ∷ es else e ∷ more) ≡ (if b then (e.0.now, v) ∷ seen_entries es else (e.0.now, e.1)
+    ∷ seen)
 inserted_at true e es more v seen h = refl
 inserted_at false e es more v seen h = ap (λ y. (e.0.now, e.1) ∷ y) h
 
 -- a word takes its new value
 pub inserted : {V : Type 0} (es : List (Bor (List ℕ) × V)) (k : Bor (List ℕ)) (v : V) →
-    seen_entries (insert_entry (λ (j k : Bor (List ℕ)). bytes_eq j.now k.now) es k v) ≡ insert_entry bytes_eq (seen_entries es) k.now v
+    seen_entries (insert_entry (λ (j k : Bor (List ℕ)). bytes_eq j.now k.now) es k v) ≡ insert_entry bytes_eq
+    (seen_entries es) k.now v
 inserted [] k v = refl
 inserted (e ∷ es) k v = inserted_at (bytes_eq k.now e.0.now) e es _ v _ (inserted es k v)
 

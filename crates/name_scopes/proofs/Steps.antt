@@ -1,5 +1,6 @@
 -- Readings and parts in a row: what is read before, and what is left.
-use Rattle.std.proofs.Common.{◌≡◌, ℕ, Bool, true, false, not, refl, ◌++◌, ◌∙◌, Option, None, Result, Ok, Err, sym, ap, subst, append_assoc}
+use Rattle.std.proofs.Common.{◌≡◌, ℕ, Bool, true, false, not, refl, ◌++◌, ◌∙◌, Option, None, Result, Ok, Err, sym, ap}
+use Rattle.std.proofs.Common.{subst, append_assoc}
 use Rattle.name_scopes.specs.declared.named.NameFault.{NameFault}
 use Rattle.name_scopes.specs.Reading.{Fault, Words, Reading, earlier, unless, beside}
 use Rattle.case_tables.specs.declared.code_table.Code.{Code}

@@ -1,5 +1,6 @@
 -- What stands before a program's statements.
-use Rattle.std.specs.Prelude.{ℕ, ◌+◌, ℤ, pos, List, [], ◌∷◌, ◌++◌, Option, Some, None, Bool, true, false, cond, not, ◌&&◌, nat_eq, length, map}
+use Rattle.std.specs.Prelude.{ℕ, ◌+◌, ℤ, pos, List, [], ◌∷◌, ◌++◌, Option, Some, None, Bool, true, false, cond, not}
+use Rattle.std.specs.Prelude.{◌&&◌, nat_eq, length, map}
 use Rattle.std.specs.Int.RustNames.{int_le}
 use Rattle.std.specs.List.{list_any}
 use Rattle.std.specs.Map.{lookup}
@@ -23,7 +24,8 @@ use Rattle.name_scopes.specs.declared.named.Sort.{Sort}
 use Rattle.name_scopes.specs.declared.named.Span.{Span}
 use Rattle.name_scopes.specs.declared.named.Named.{Named}
 use Rattle.name_scopes.specs.Scope.{Scope, Table, found, no_span, plainly_named, is_variable, is_value}
-use Rattle.name_scopes.specs.Reading.{Reading, earlier, unless, plain, demanded, beside, needs, mark, faulty, same_sort, signed, filled, read}
+use Rattle.name_scopes.specs.Reading.{Reading, earlier, unless, plain, demanded, beside, needs, mark, faulty, same_sort}
+use Rattle.name_scopes.specs.Reading.{signed, filled, read}
 use Rattle.name_scopes.specs.Part.{Part, nothing, quiet, before, run}
 
 -- the items of a list that may be absent, and of a list that is not empty where it is there

@@ -1,5 +1,6 @@
 -- Proofs: their steps, references and terms.
-use Rattle.std.specs.Prelude.{ℕ, ◌+◌, List, [], ◌∷◌, ◌++◌, Option, Some, None, Bool, true, false, not, ◌||◌, length, map}
+use Rattle.std.specs.Prelude.{ℕ, ◌+◌, List, [], ◌∷◌, ◌++◌, Option, Some, None, Bool, true, false, not, ◌||◌, length}
+use Rattle.std.specs.Prelude.{map}
 use Rattle.std.specs.List.{list_any}
 use Rattle.std.specs.Map.{lookup}
 use Rattle.std.specs.Option.{is_some}
@@ -23,7 +24,8 @@ use Rattle.name_scopes.specs.declared.named.Composed.{Composed}
 use Rattle.name_scopes.specs.declared.named.Indices.{Indices}
 use Rattle.indexmap.specs.IndexMap.{insert_entry}
 use Rattle.name_scopes.specs.Scope.{Scope, Table, Params, found, is_param, is_variable, with_bound}
-use Rattle.name_scopes.specs.Reading.{Reading, unless, plain, demanded, needs, beside, all_beside, mark, faulty, filled, binding, read}
+use Rattle.name_scopes.specs.Reading.{Reading, unless, plain, demanded, needs, beside, all_beside, mark, faulty, filled}
+use Rattle.name_scopes.specs.Reading.{binding, read}
 use Rattle.name_scopes.specs.Part.{Part, quiet, leaving, before, run}
 use Rattle.name_scopes.specs.Declarations.{some_of}
 
@@ -46,7 +48,8 @@ program_reading programs name = program_word name (lookup (bytes_eq name.text) p
 
 -- arguments and indices
 
--- whether a word with this meaning may stand among such indices: in a helper a parameter, in a reference a variable too,
+-- whether a word with this meaning may stand among such indices: in a helper a parameter, in a reference a variable
+-- too,
 -- in a schedule none
 abbrev pub accepts : Indices → Meaning → Bool
 accepts Indices.Helper meaning = is_param meaning

@@ -1,5 +1,6 @@
 -- What an expression is where it stands: its type, whether it is constant, what its words mean, and its first fault.
-use Rattle.std.specs.Prelude.{ℕ, ℤ, pos, neg_ℤ, List, [], ◌∷◌, ◌++◌, map, Option, Some, None, Bool, true, false, cond, not, ◌&&◌, ◌||◌, nat_le, nat_eq, option_map}
+use Rattle.std.specs.Prelude.{ℕ, ℤ, pos, neg_ℤ, List, [], ◌∷◌, ◌++◌, map, Option, Some, None, Bool, true, false, cond}
+use Rattle.std.specs.Prelude.{not, ◌&&◌, ◌||◌, nat_le, nat_eq, option_map}
 use Rattle.std.specs.Int.RustNames.{int_le}
 use Rattle.std.specs.Map.{lookup}
 use Rattle.std.specs.Str.{bytes_eq}
@@ -27,7 +28,8 @@ pub record Fault : Type 0 where
 abbrev pub Words : Type 0
 Words = List (ℕ × Meaning)
 
--- what a tree is: its first byte, its type, whether it names no variable and no parameter, its first fault, and its words
+-- what a tree is: its first byte, its type, whether it names no variable and no parameter, its first fault, and its
+-- words
 pub record Reading : Type 0 where
   pub at : ℕ
   pub sort : Sort

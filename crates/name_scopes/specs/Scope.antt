@@ -1,5 +1,6 @@
 -- What is visible at a place of a document, and what a word means there.
-use Rattle.std.specs.Prelude.{ℕ, pos, List, [], ◌∷◌, map, drop, Bool, true, false, cond, not, ◌||◌, nat_eq, Option, Some, None, option_map}
+use Rattle.std.specs.Prelude.{ℕ, pos, List, [], ◌∷◌, map, drop, Bool, true, false, cond, not, ◌||◌, nat_eq, Option}
+use Rattle.std.specs.Prelude.{Some, None, option_map}
 use Rattle.std.specs.Borrow.{Bor}
 use Rattle.std.specs.Map.{lookup}
 use Rattle.std.specs.Option.{option_or}

@@ -18,7 +18,8 @@ use Rattle.name_scopes.specs.declared.named.Meaning.{Meaning}
 use Rattle.name_scopes.specs.declared.named.Sort.{Sort}
 use Rattle.name_scopes.specs.declared.named.Named.{Named}
 use Rattle.name_scopes.specs.Scope.{Scope, found, is_variable, with_bound}
-use Rattle.name_scopes.specs.Reading.{Reading, earlier, unless, plain, demanded, needs, beside, all_beside, mark, faulty, same_bool, range_reading, filled, binding, read}
+use Rattle.name_scopes.specs.Reading.{Reading, earlier, unless, plain, demanded, needs, beside, all_beside, mark}
+use Rattle.name_scopes.specs.Reading.{faulty, same_bool, range_reading, filled, binding, read}
 use Rattle.name_scopes.specs.Part.{Part, quiet, before, run}
 
 -- an index, where there is one, is a number

@@ -1,5 +1,6 @@
 -- Well-named documents, the first fault of the others, and what each word of a document means.
-use Rattle.std.specs.Prelude.{◌≡◌, ℕ, List, [], ◌∷◌, ◌++◌, Option, Some, None, Bool, cond, not, nat_eq, map, fold, position}
+use Rattle.std.specs.Prelude.{◌≡◌, ℕ, List, [], ◌∷◌, ◌++◌, Option, Some, None, Bool, cond, not, nat_eq, map, fold}
+use Rattle.std.specs.Prelude.{position}
 use Rattle.std.specs.List.{list_any}
 use Rattle.std.specs.Map.{lookup}
 use Rattle.std.specs.Option.{is_some, option_and_then}
@@ -26,7 +27,8 @@ use Rattle.name_scopes.specs.declared.named.Indices.{Indices}
 use Rattle.name_scopes.specs.Scope.{Scope, Table}
 use Rattle.name_scopes.specs.Reading.{Fault, Words, Reading, unless, plain, demanded, beside, all_beside}
 use Rattle.name_scopes.specs.Part.{Part, nothing, part_reading, quiet, before, run}
-use Rattle.name_scopes.specs.Declarations.{items_of, some_of, program_scope, variable_part, always_part, initially_reading, start_part}
+use Rattle.name_scopes.specs.Declarations.{items_of, some_of, program_scope, variable_part, always_part}
+use Rattle.name_scopes.specs.Declarations.{initially_reading, start_part}
 use Rattle.name_scopes.specs.Statements.{Labels, items_part}
 use Rattle.name_scopes.specs.Proofs.{Programs, program_reading, proof_scope, arguments_reading, step_part}
 

@@ -8,8 +8,10 @@ ghost use Rattle.ebnf.specs.LookAhead.{first};
 ghost use Rattle.ebnf.specs.Reader.{begins};
 ghost use Rattle.unity_syntax.specs.Classes.{reserved, symbol};
 ghost use Rattle.unity_syntax.specs.Kinds.{Kind, Contents};
-ghost use Rattle.unity_syntax.specs.Grammar.{made, past, up_to, in_parentheses, make_weaken, pairrule_, inst_, ref_, pred_, other_term_, rule_, claim_, param_, params_, using_, step_, proof_};
-ghost use Rattle.unity_syntax.specs.View.{view_claim, view_inst, view_list, view_option, view_param, view_proof, view_ref, view_rule, view_some, view_step};
+ghost use Rattle.unity_syntax.specs.Grammar.{made, past, up_to, in_parentheses, make_weaken, pairrule_, inst_, ref_};
+ghost use Rattle.unity_syntax.specs.Grammar.{pred_, other_term_, rule_, claim_, param_, params_, using_, step_, proof_};
+ghost use Rattle.unity_syntax.specs.View.{view_claim, view_inst, view_list, view_option, view_param, view_proof};
+ghost use Rattle.unity_syntax.specs.View.{view_ref, view_rule, view_some, view_step};
 ghost use Rattle.token_cursor.specs.Gives.{Reads, remaining};
 ghost use Rattle.proof_parser.specs.Reasons.{reason_, view_claimed, view_reason};
 

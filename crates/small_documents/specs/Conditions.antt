@@ -1,5 +1,6 @@
 -- What the tree of a small document keeps to beside its grammar.
-use Rattle.std.specs.Prelude.{◌≡◌, ◌≢◌, ℕ, zero, suc, ◌+◌, List, [], ◌∷◌, Bool, false, true, Option, Some, None, IsTrue, nat_eq, ◌&&◌}
+use Rattle.std.specs.Prelude.{◌≡◌, ◌≢◌, ℕ, zero, suc, ◌+◌, List, [], ◌∷◌, Bool, false, true, Option, Some, None, IsTrue}
+use Rattle.std.specs.Prelude.{nat_eq, ◌&&◌}
 use Rattle.std.specs.List.{list_all}
 use Rattle.small_documents.specs.declared.tree.Operand.{Operand}
 use Rattle.small_documents.specs.declared.tree.Expression.{Expression}

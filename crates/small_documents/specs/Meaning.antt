@@ -1,5 +1,6 @@
 -- What a small document's program does, and what its proof claims (Chandy and Misra, chapters 2 and 3).
-use Rattle.std.specs.Prelude.{◌≡◌, ◌≢◌, ℕ, ℤ, pos, ◌+ℤ◌, List, [], ◌∷◌, Bool, not, ◌&&◌, cond, Option, Some, None, IsTrue, nat_eq, slice_index_or, slice_get}
+use Rattle.std.specs.Prelude.{◌≡◌, ◌≢◌, ℕ, ℤ, pos, ◌+ℤ◌, List, [], ◌∷◌, Bool, not, ◌&&◌, cond, Option, Some, None}
+use Rattle.std.specs.Prelude.{IsTrue, nat_eq, slice_index_or, slice_get}
 use Rattle.std.specs.Int.RustNames.{int_le}
 use Rattle.small_documents.specs.declared.tree.Operand.{Operand}
 use Rattle.small_documents.specs.declared.tree.Expression.{Expression}

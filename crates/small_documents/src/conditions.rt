@@ -2,7 +2,8 @@
 ghost use Rattle.std.specs.Prelude.{◌≡◌, ◌↔◌, IsTrue};
 ghost use Rattle.std.specs.List.{list_all};
 ghost use Rattle.small_documents.specs.Limits.{IsSmallOperand, IsSmallExpression, IsSmallComparison, IsSmall};
-ghost use Rattle.small_documents.specs.Conditions.{IsNamed, IsOver, ComparesOver, IsWellNamed, subtrees, are_trees, are_numbered, AreCertificates, IsWellFormed};
+ghost use Rattle.small_documents.specs.Conditions.{IsNamed, IsOver, ComparesOver, IsWellNamed, subtrees, are_trees};
+ghost use Rattle.small_documents.specs.Conditions.{are_numbered, AreCertificates, IsWellFormed};
 
 use crate::tree::{Certificate, Comparison, Expression, Node, Operand, SmallDocument};
 use unity_base::Seq;

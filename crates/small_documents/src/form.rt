@@ -1,6 +1,13 @@
 // The small document that a document is, if it is one.
 ghost use Rattle.std.specs.Prelude.{◌≡◌, ◌∷◌, IfOk, Some, option_map, option_copied, map};
-ghost use Rattle.small_documents.specs.SmallForm.{operand_of, expression_of, second_operand, sum_in, relation_of, comparison_parts, comparison_of, number_end, range_of, plain_range, type_range, variable_of, plain_target, target_of, value_of, condition_of, assignment_of, component_of, assign_of, item_of, statement_of, initially_of, sections_of, program_of, is_by_text, defined_name, claimed_of, invariant_of, two_steps, proof_of, pair_of, node_of, certificate_of, certificates_of, program_and_proof, parts_of, small_of, variable_operand, each_of, nothing_more};
+ghost use Rattle.small_documents.specs.SmallForm.{operand_of, expression_of, second_operand, sum_in, relation_of};
+ghost use Rattle.small_documents.specs.SmallForm.{comparison_parts, comparison_of, number_end, range_of, plain_range};
+ghost use Rattle.small_documents.specs.SmallForm.{type_range, variable_of, plain_target, target_of, value_of};
+ghost use Rattle.small_documents.specs.SmallForm.{condition_of, assignment_of, component_of, assign_of, item_of};
+ghost use Rattle.small_documents.specs.SmallForm.{statement_of, initially_of, sections_of, program_of, is_by_text};
+ghost use Rattle.small_documents.specs.SmallForm.{defined_name, claimed_of, invariant_of, two_steps, proof_of, pair_of};
+ghost use Rattle.small_documents.specs.SmallForm.{node_of, certificate_of, certificates_of, program_and_proof};
+ghost use Rattle.small_documents.specs.SmallForm.{parts_of, small_of, variable_operand, each_of, nothing_more};
 
 use crate::tree::{
     Certificate, Comparison, Expression, Node, Number, Operand, Pair, Program, Proof, Range,

@@ -1,5 +1,6 @@
 -- A defined step makes its writes and leads to a state.
-use Rattle.std.proofs.Common.{◌≡◌, ℕ, zero, suc, ℤ, List, [], ◌∷◌, Bool, true, false, ◌&&◌, Some, None, IsTrue, refl, subst, ap, ◌∙◌, slice_get, arith, cond, inl, inr}
+use Rattle.std.proofs.Common.{◌≡◌, ℕ, zero, suc, ℤ, List, [], ◌∷◌, Bool, true, false, ◌&&◌, Some, None, IsTrue, refl}
+use Rattle.std.proofs.Common.{subst, ap, ◌∙◌, slice_get, arith, cond, inl, inr}
 use Rattle.std.specs.Prelude.{◌≢◌}
 use Rattle.std.specs.List.{list_all}
 use Rattle.std.proofs.lemmas.Bool.Decides.{eqb_tells}

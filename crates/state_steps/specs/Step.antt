@@ -1,5 +1,6 @@
 -- The step of a statement: its writes, made in one old state, or nothing where it is undefined.
-use Rattle.std.specs.Prelude.{ℕ, zero, suc, ℤ, List, [], ◌∷◌, Bool, true, false, cond, not, ◌&&◌, ◌||◌, Option, Some, None, nat_eq, slice_get}
+use Rattle.std.specs.Prelude.{ℕ, zero, suc, ℤ, List, [], ◌∷◌, Bool, true, false, cond, not, ◌&&◌, ◌||◌, Option, Some}
+use Rattle.std.specs.Prelude.{None, nat_eq, slice_get}
 use Rattle.std.specs.List.{list_all}
 use Rattle.state_steps.specs.State.{State, Ranges, int_eq, in_range}
 

@@ -8,8 +8,10 @@ ghost use Rattle.ebnf.specs.LookAhead.{first};
 ghost use Rattle.ebnf.specs.Reader.{begins};
 ghost use Rattle.unity_syntax.specs.Classes.{reserved, symbol};
 ghost use Rattle.unity_syntax.specs.Kinds.{Kind, Contents, contents};
-ghost use Rattle.unity_syntax.specs.Grammar.{past, made, in_brackets, name_, number_, minus_, range_, init_value_, init_, def_, plain_, var_type_, var_, one_or_more};
-ghost use Rattle.unity_syntax.specs.View.{view_option, view_list, view_some, view_name, view_with_minus, view_plain, view_var_type, view_var, view_def, view_init_value, view_init};
+ghost use Rattle.unity_syntax.specs.Grammar.{past, made, in_brackets, name_, number_, minus_, range_, init_value_};
+ghost use Rattle.unity_syntax.specs.Grammar.{init_, def_, plain_, var_type_, var_, one_or_more};
+ghost use Rattle.unity_syntax.specs.View.{view_option, view_list, view_some, view_name, view_with_minus, view_plain};
+ghost use Rattle.unity_syntax.specs.View.{view_var_type, view_var, view_def, view_init_value, view_init};
 ghost use Rattle.statement_parser.specs.Forms.{words_in_braces_};
 ghost use Rattle.token_cursor.specs.Gives.{Reads, remaining};
 

@@ -3,7 +3,8 @@
 ghost use Rattle.std.specs.Prelude.{◌≡◌, IfOk};
 ghost use Rattle.ebnf.specs.Ebnf.{pair, node};
 ghost use Rattle.unity_syntax.specs.Kinds.{Kind, kind};
-ghost use Rattle.unity_syntax.specs.View.{view_list, view_name, view_target, view_alts, view_component, view_assign, view_item, view_items};
+ghost use Rattle.unity_syntax.specs.View.{view_list, view_name, view_target, view_alts, view_component, view_assign};
+ghost use Rattle.unity_syntax.specs.View.{view_item, view_items};
 ghost use Rattle.token_cursor.specs.Bounds.{view_bound_over};
 
 use std::alloc::{AllocError, Global};

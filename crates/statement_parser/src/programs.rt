@@ -7,8 +7,10 @@ ghost use Rattle.ebnf.specs.LookAhead.{first};
 ghost use Rattle.ebnf.specs.Reader.{begins, after};
 ghost use Rattle.unity_syntax.specs.Classes.{reserved};
 ghost use Rattle.unity_syntax.specs.Kinds.{Kind, kind};
-ghost use Rattle.unity_syntax.specs.Grammar.{past, up_to, items_, declare_, always_, initially_, start_, union_program_, plain_program_, program_};
-ghost use Rattle.unity_syntax.specs.View.{view_option, view_list, view_some, view_name, view_var, view_def, view_init, view_initially, view_items, view_program};
+ghost use Rattle.unity_syntax.specs.Grammar.{past, up_to, items_, declare_, always_, initially_, start_};
+ghost use Rattle.unity_syntax.specs.Grammar.{union_program_, plain_program_, program_};
+ghost use Rattle.unity_syntax.specs.View.{view_option, view_list, view_some, view_name, view_var, view_def, view_init};
+ghost use Rattle.unity_syntax.specs.View.{view_initially, view_items, view_program};
 ghost use Rattle.token_cursor.specs.Gives.{Reads, ReadsAs, remaining};
 
 use crate::declarations::{defs, inits, vars};

@@ -5,8 +5,11 @@ ghost use Rattle.case_tables.specs.declared.symbol_table.Symbol.{Symbol};
 ghost use Rattle.ebnf.specs.Ebnf.{both, maybe, many, node};
 ghost use Rattle.unity_syntax.specs.Classes.{reserved, symbol};
 ghost use Rattle.unity_syntax.specs.Kinds.{Kind, kind, Contents};
-ghost use Rattle.unity_syntax.specs.Grammar.{past, made, in_brackets, name_, pred_, values_, choice_, alts_, target_, comp_, assign_, quantified_assign_, item_, items_, quantified_items_};
-ghost use Rattle.unity_syntax.specs.View.{view_option, view_list, view_name, view_range, view_expr, view_values, view_choice, view_choices, view_alts, view_target, view_component, view_assign, view_item, view_items};
+ghost use Rattle.unity_syntax.specs.Grammar.{past, made, in_brackets, name_, pred_, values_, choice_, alts_, target_};
+ghost use Rattle.unity_syntax.specs.Grammar.{comp_, assign_, quantified_assign_, item_, items_, quantified_items_};
+ghost use Rattle.unity_syntax.specs.View.{view_option, view_list, view_name, view_range, view_expr, view_values};
+ghost use Rattle.unity_syntax.specs.View.{view_choice, view_choices, view_alts, view_target, view_component};
+ghost use Rattle.unity_syntax.specs.View.{view_assign, view_item, view_items};
 ghost use Rattle.token_cursor.specs.Gives.{Reads, ReadsAs};
 ghost use Rattle.statement_parser.specs.Forms.{parallel_, box_};
 

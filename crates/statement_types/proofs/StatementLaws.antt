@@ -18,11 +18,14 @@ use Rattle.name_scopes.specs.declared.named.Meaning.{Meaning}
 use Rattle.name_scopes.specs.Scope.{Scope, with_bound}
 use Rattle.name_scopes.specs.Reading.{all_beside, beside, binding, range_reading, filled}
 use Rattle.name_scopes.specs.Part.{Part, before, quiet, run}
-use Rattle.name_scopes.specs.Statements.{Read, Listed, Labels, component_layer, assign_layer, item_layer, items_layer, component_reading, assign_reading, item_part, items_part, target_reading, alternatives_reading, label_part}
+use Rattle.name_scopes.specs.Statements.{Read, Listed, Labels, component_layer, assign_layer, item_layer, items_layer}
+use Rattle.name_scopes.specs.Statements.{component_reading, assign_reading, item_part, items_part, target_reading}
+use Rattle.name_scopes.specs.Statements.{alternatives_reading, label_part}
 
 pub component-Set : (at : ℕ) (first : Target) (rest : List Target) (alts : Alts) (s : Scope) →
     component_reading (Component.Set at first rest alts) s ≡
-    beside (all_beside (map (target_reading s) (first ∷ rest))) (alternatives_reading s first rest alts.values alts.condition)
+    beside (all_beside (map (target_reading s) (first ∷ rest)))
+    (alternatives_reading s first rest alts.values alts.condition)
 component-Set at first rest alts s =
     ap (λ x. component_reading x s) (sym (rolls-Set at first rest alts)) ∙
     ap (λ m. m s) (fold-roll-Component Read Read component_layer assign_layer (Component-F.Set at first rest alts))
@@ -66,15 +69,25 @@ item-Quantified at name range of s labels =
 each_part : (xs : List Item) (s : Scope) (labels : Labels) →
     run (λ others (m : Listed). m s others) labels (map item_part xs) ≡ run (λ others i. item_part i s others) labels xs
 each_part [] s labels = refl
-each_part (x ∷ xs) s labels = ap (λ (q : Part Labels). before (item_part x s labels) (λ t. q)) (each_part xs s (item_part x s labels).after)
+each_part (x ∷ xs) s labels = ap (λ (q : Part Labels). before (item_part x s labels) (λ t. q))
+    (each_part xs s (item_part x s labels).after)
 
 pub items-parts : (x : Items) (s : Scope) (labels : Labels) →
-    items_part x s labels ≡ before (item_part x.first s labels) (λ more. run (λ others i. item_part i s others) more x.rest)
+    items_part x s labels ≡ before (item_part x.first s labels)
+    (λ more. run (λ others i. item_part i s others) more x.rest)
 items-parts x s labels = ap (λ m. m s labels) (fold-roll-Items Listed Listed item_layer items_layer (record {
   at = x.at;
   first = x.first;
   rest = x.rest;
-})) ∙ ap (λ (q : Part Labels). before (item_part x.first s labels) (λ t. q)) (each_part x.rest s (item_part x.first s labels).after)
+})) ∙ ap (λ (q : Part Labels). before (item_part x.first s labels) (λ t. q))
+    (each_part x.rest s (item_part x.first s labels).after)
 
 -- what statements are, found by rewriting
-pub ruleset statement_laws = (component-Set, component-Quantified, assign-parts, item-Statement, item-Quantified, items-parts)
+pub ruleset statement_laws = (
+  component-Set,
+  component-Quantified,
+  assign-parts,
+  item-Statement,
+  item-Quantified,
+  items-parts,
+)

@@ -34,10 +34,12 @@ module _ (n c : ℕ) (a : Ebnf) where
   range_alone place r = after (first place) (r >>= λ x. after (pair x.0) (skip c x.1))
 
   abbrev bound_after : ℕ → Read Tree → Read Tree
-  bound_after place r = after (second place) (r >>= λ x. after (pair x.0) (range_alone (place_of x.1) (read grammar n range_ x.1)))
+  bound_after place r = after (second place) (r >>= λ x. after (pair x.0)
+      (range_alone (place_of x.1) (read grammar n range_ x.1)))
 
   by_form : (x u y w : Tree) (p q : ℕ) (r : Read Tree) →
-      after (pair x) (after (second p) (after (pair u) (after (pair y) (after (second q) (after (pair w) r))))) ≡ after (put (pair x y)) r
+      after (pair x) (after (second p) (after (pair u) (after (pair y) (after (second q) (after (pair w) r))))) ≡ after
+      (put (pair x y)) r
   by_form x u y w p q (Ok z) = refl
   by_form x u y w p q (Err d) = refl
 
@@ -53,7 +55,8 @@ module _ (n c : ℕ) (a : Ebnf) where
   by_range x u p k (Ok z) = by_end x u z.0 p (place_of z.1) k (skip c z.1)
   by_range x u p k (Err d) = refl
 
-  by_colon : (x : Tree) (p : ℕ) (r : Read Tree) → after (pair x) (all_after p r) ≡ then_form (after (pair x) (bound_after p r))
+  by_colon : (x : Tree) (p : ℕ) (r : Read Tree) → after (pair x) (all_after p r) ≡ then_form
+      (after (pair x) (bound_after p r))
   by_colon x p (Ok z) = by_range x z.0 p (place_of z.1) (read grammar n range_ z.1)
   by_colon x p (Err d) = refl
 
@@ -68,15 +71,20 @@ module _ (n : ℕ) (end : Symbol) (a : Ebnf) (ts : List Terminal) where
   in_turn = by_name n (symbol end) a (read grammar n name_ ts)
 
   -- a fault in the bound
-  pub bound_fails : (stop : Stop) → Fails stop (read grammar n (bound_ end) ts) → Fails stop (read grammar n (over_range (symbol end) a) ts)
-  bound_fails stop h = same_fails stop in_turn (through (then_form n (symbol end) a) (λ d. refl) stop (read grammar n (bound_ end) ts) h)
+  pub bound_fails : (stop : Stop) → Fails stop (read grammar n (bound_ end) ts) → Fails stop
+      (read grammar n (over_range (symbol end) a) ts)
+  bound_fails stop h = same_fails stop in_turn (through (then_form n (symbol end) a) (λ d. refl) stop
+      (read grammar n (bound_ end) ts) h)
 
-  module _ (bound : BoundName) (mid : List Terminal) (first : read grammar n (bound_ end) ts ≡ Ok (view_bound bound, mid)) where
+  module _ (bound : BoundName) (mid : List Terminal) (first : read grammar n (bound_ end) ts ≡ Ok
+      (view_bound bound, mid)) where
     -- the bound, and the form
     pub form_read : (x : Tree) (later : List Terminal) → read grammar n a mid ≡ Ok (x, later) →
         read grammar n (over_range (symbol end) a) ts ≡ Ok (view_bound_over bound x, later)
     form_read x later e = in_turn ∙ ap (then_form n (symbol end) a) first ∙ ap (after (put (view_bound bound))) e
 
     -- a fault in the form
-    pub form_fails : (stop : Stop) → Fails stop (read grammar n a mid) → Fails stop (read grammar n (over_range (symbol end) a) ts)
-    form_fails stop h = same_fails stop (in_turn ∙ ap (then_form n (symbol end) a) first) (through (after (put (view_bound bound))) (λ d. refl) stop (read grammar n a mid) h)
+    pub form_fails : (stop : Stop) → Fails stop (read grammar n a mid) → Fails stop
+        (read grammar n (over_range (symbol end) a) ts)
+    form_fails stop h = same_fails stop (in_turn ∙ ap (then_form n (symbol end) a) first)
+        (through (after (put (view_bound bound))) (λ d. refl) stop (read grammar n a mid) h)

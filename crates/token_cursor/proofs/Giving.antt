@@ -5,7 +5,8 @@ use Rattle.ebnf.specs.Reader.{Read, after}
 use Rattle.token_cursor.specs.declared.stop.Stop.{Stop}
 use Rattle.token_cursor.specs.Gives.{Gives}
 
-pub gives_same : {X : Type 0} (view : X → Tree × List Terminal) (r : Result X Stop) {s t : Read Tree} → t ≡ s → Gives view r s → Gives view r t
+pub gives_same : {X : Type 0} (view : X → Tree × List Terminal) (r : Result X Stop) {s t : Read Tree} → t ≡ s → Gives
+    view r s → Gives view r t
 gives_same view r e h = let P : Read Tree → Type 0 = λ w. Gives view r w in subst P (sym e) h
 
 -- one action after another

@@ -60,7 +60,8 @@ named_none f n o k c ts h = after_none (f (place_of ts)) n o k c ts h
 -- brackets that a node stands for
 pub made_level : (kd : Kind) (n o k c : ℕ) (ts : List Terminal) → 0 < n →
     read grammar n (made kd (inside o k c)) ts
-    ≡ (skip o ts >>= λ x. shut_by c (after (node (kind kd) (place_of ts)) (read grammar (n - 1) (at_number bodies k) x.1)))
+    ≡ (skip o ts >>= λ x. shut_by c (after (node (kind kd) (place_of ts))
+    (read grammar (n - 1) (at_number bodies k) x.1)))
 made_level kd n o k c ts h = named_level (node (kind kd)) n o k c ts h
 
 pub made_none : (kd : Kind) (n o k c : ℕ) (ts : List Terminal) → n ≡ 0 →
@@ -80,7 +81,8 @@ node_none kd at n o k c ts h = after_none (node kd at) n o k c ts h
 -- a node of something and what stands in brackets
 pub node_with_level : (kd at : ℕ) (w : Tree) (n o k c : ℕ) (ts : List Terminal) → 0 < n →
     after (λ x. node kd at (pair w x)) (read grammar n (inside o k c) ts)
-    ≡ (skip o ts >>= λ x. shut_by c (after (λ x. node kd at (pair w x)) (read grammar (n - 1) (at_number bodies k) x.1)))
+    ≡ (skip o ts >>= λ x. shut_by c (after (λ x. node kd at (pair w x))
+    (read grammar (n - 1) (at_number bodies k) x.1)))
 node_with_level kd at w n o k c ts h = after_level (λ x. node kd at (pair w x)) n o k c ts h
 
 pub node_with_none : (kd at : ℕ) (w : Tree) (n o k c : ℕ) (ts : List Terminal) → n ≡ 0 →
@@ -88,8 +90,11 @@ pub node_with_none : (kd at : ℕ) (w : Tree) (n o k c : ℕ) (ts : List Termina
 node_with_none kd at w n o k c ts h = after_none (λ x. node kd at (pair w x)) n o k c ts h
 
 -- a fault in what stands in brackets
-pub contents_fail : (f : Tree → Tree) (n o k c : ℕ) (ts mid : List Terminal) → 0 < n → skip o ts ≡ Ok (unit, mid) → (stop : Stop) →
-    Fails stop (after f (read grammar (n - 1) (at_number bodies k) mid)) → Fails stop (after f (read grammar n (inside o k c) ts))
+pub contents_fail : (f : Tree → Tree) (n o k c : ℕ) (ts mid : List Terminal) → 0 < n → skip o ts ≡ Ok (unit, mid) →
+    (stop : Stop) →
+    Fails stop (after f (read grammar (n - 1) (at_number bodies k) mid)) → Fails stop
+    (after f (read grammar n (inside o k c) ts))
 contents_fail f n o k c ts mid some e stop h =
-    same_fails stop (after_level f n o k c ts some ∙ ap (λ r. r >>= λ x. shut_by c (after f (read grammar (n - 1) (at_number bodies k) x.1))) e)
+    same_fails stop (after_level f n o k c ts some ∙ ap (λ r. r >>= λ x. shut_by c
+    (after f (read grammar (n - 1) (at_number bodies k) x.1))) e)
     (through (shut_by c) (λ d. refl) stop (after f (read grammar (n - 1) (at_number bodies k) mid)) h)

@@ -84,5 +84,7 @@ pub same_word : (a b : Word) → words.eq a b ≡ (eqb (reserved b) (reserved a)
 same_word a b = go (words.eq a b) refl
   where
     go : (v : Bool) → words.eq a b ≡ v → v ≡ (eqb (reserved b) (reserved a) || false)
-    go true q = let e : reserved b ≡ reserved a = ap reserved (sym (same_true the_type tt a b q)) in sym (ap (λ v. v || false) (eq-eqb (reserved b) (reserved a) e))
-    go false q = sym (ap (λ v. v || false) (differs (reserved b) (reserved a) (λ e. same_false the_type a b q (same_class a b e))))
+    go true q = let e : reserved b ≡ reserved a = ap reserved (sym (same_true the_type tt a b q)) in sym
+        (ap (λ v. v || false) (eq-eqb (reserved b) (reserved a) e))
+    go false q = sym (ap (λ v. v || false) (differs (reserved b) (reserved a)
+        (λ e. same_false the_type a b q (same_class a b e))))

@@ -7,8 +7,10 @@ ghost use Rattle.ebnf.specs.LookAhead.{first};
 ghost use Rattle.ebnf.specs.Reader.{begins};
 ghost use Rattle.unity_syntax.specs.Classes.{symbol};
 ghost use Rattle.unity_syntax.specs.Kinds.{Kind};
-ghost use Rattle.unity_syntax.specs.Grammar.{made, past, minus_, number_, name_, plus_or_minus_, end_, range_, ends_, words_};
-ghost use Rattle.unity_syntax.specs.View.{view_name, view_number, view_option, view_signed, view_list, view_some, view_end, view_range};
+ghost use Rattle.unity_syntax.specs.Grammar.{made, past, minus_, number_, name_, plus_or_minus_, end_, range_, ends_};
+ghost use Rattle.unity_syntax.specs.Grammar.{words_};
+ghost use Rattle.unity_syntax.specs.View.{view_name, view_number, view_option, view_signed, view_list, view_some};
+ghost use Rattle.unity_syntax.specs.View.{view_end, view_range};
 ghost use Rattle.token_cursor.specs.Bounds.{bound_, view_bound};
 ghost use Rattle.token_cursor.specs.Gives.{Reads, remaining};
 

@@ -15,13 +15,16 @@ one_small_document bytes s t a b =
     cc
 
 -- A small document of these bytes has the form that their one document has.
-pub form_is : (bytes : List ℕ) (d : Document) → IsDocument bytes d → (s : SmallDocument) → IsSmallDocument bytes s → small_of d ≡ Some s
+pub form_is : (bytes : List ℕ) (d : Document) → IsDocument bytes d → (s : SmallDocument) → IsSmallDocument bytes s →
+    small_of d ≡ Some s
 form_is bytes d is s small = ap small_of (one_document bytes d small.document is small.is_document) ∙ small.form
 
 pub no_form : (bytes : List ℕ) (d : Document) → IsDocument bytes d → small_of d ≡ None → IsNoSmallDocument bytes
-no_form bytes d is none s small = let same : ◌≡◌ {A = Option SmallDocument} None (Some s) = sym none ∙ form_is bytes d is s small in cc
+no_form bytes d is none s small =
+    let same : ◌≡◌ {A = Option SmallDocument} None (Some s) = sym none ∙ form_is bytes d is s small in cc
 
-pub not_formed : (bytes : List ℕ) (d : Document) → IsDocument bytes d → (t : SmallDocument) → small_of d ≡ Some t → (IsWellFormed t → ⊥) → IsNoSmallDocument bytes
+pub not_formed : (bytes : List ℕ) (d : Document) → IsDocument bytes d → (t : SmallDocument) → small_of d ≡ Some t →
+    (IsWellFormed t → ⊥) → IsNoSmallDocument bytes
 not_formed bytes d is t some not s small =
     let same : ◌≡◌ {A = Option SmallDocument} (Some t) (Some s) = sym some ∙ form_is bytes d is s small in
     let trees : s ≡ t = cc in

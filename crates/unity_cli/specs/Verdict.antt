@@ -10,7 +10,8 @@ use Rattle.unity_cli.specs.declared.judge.Verdict.{Verdict}
 use Rattle.unity_cli.specs.declared.status.Status.{Status}
 use Rattle.unity_cli.specs.SmallText.{IsSmallDocument, IsNoSmallDocument}
 use Rattle.unity_cli.specs.FirstFault.{IsFirstFault}
-use Rattle.unity_cli.specs.Answer.{accepted_text, rejected_text, greatest_size, fault_text, too_long_text, not_built_text}
+use Rattle.unity_cli.specs.Answer.{accepted_text, rejected_text, greatest_size, fault_text, too_long_text}
+use Rattle.unity_cli.specs.Answer.{not_built_text}
 
 -- this is the verdict on a small document
 abbrev pub Decides : SmallDocument → Verdict → Type 0

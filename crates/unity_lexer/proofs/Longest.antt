@@ -1,5 +1,6 @@
 -- Runs of a text: which one begins it, and that it is the longest.
-use Rattle.std.proofs.Common.{◌≡◌, ℕ, ◌+◌, ◌≤◌, Bool, true, false, not, ◌&&◌, ◌==◌, cond, List, [], ◌∷◌, ◌++◌, length, take, drop, refl, sym, subst, arith}
+use Rattle.std.proofs.Common.{◌≡◌, ℕ, ◌+◌, ◌≤◌, Bool, true, false, not, ◌&&◌, ◌==◌, cond, List, [], ◌∷◌, ◌++◌, length}
+use Rattle.std.proofs.Common.{take, drop, refl, sym, subst, arith}
 use Rattle.std.specs.Prelude.{Contains}
 use Rattle.std.specs.List.{list_all, prefix_len}
 use Rattle.std.specs.Char.{is_ascii_digit, is_ascii_alphabetic}
@@ -11,7 +12,8 @@ use Rattle.std.proofs.lemmas.List.Folds.{length-prefix_len}
 use Rattle.case_tables.specs.declared.symbol_table.Symbol.{Symbol}
 use Rattle.unity_lexer.specs.Pieces.{is_other}
 use Rattle.case_tables.specs.TableRows.{symbol_rows}
-use Rattle.unity_lexer.specs.Tokens.{is_blank, is_word_byte, is_made_of, is_word, is_numeral, IsRun, word, numeral, symbol, IsLongestRun}
+use Rattle.unity_lexer.specs.Tokens.{is_blank, is_word_byte, is_made_of, is_word, is_numeral, IsRun, word, numeral}
+use Rattle.unity_lexer.specs.Tokens.{symbol, IsLongestRun}
 
 -- tests that both pass, or not
 pub and_left : (a b : Bool) → (a && b) ≡ true → a ≡ true
@@ -30,7 +32,8 @@ pub not_both : (b : Bool) → b ≡ true → b ≡ false → ⊥
 not_both b h k = cc
 
 -- a row of a table passes a test that all rows pass
-pub row_passes : {X : Type 0} (p : X → Bool) (rows : List X) (x : X) → list_all p rows ≡ true → Contains rows x → p x ≡ true
+pub row_passes : {X : Type 0} (p : X → Bool) (rows : List X) (x : X) → list_all p rows ≡ true → Contains rows x → p x ≡
+    true
 row_passes p rows x all here = subst (λ y. p y ≡ true) here.2 (AllPass-from_list_all p rows all here.0 x here.1)
 
 -- the first byte, which there is, passes the test
@@ -69,7 +72,8 @@ run_at_digit b bs h (numeral made) = made
 run_at_digit b bs h (symbol s here) = absurd (digit_no_other b h (symbol_opens (b ∷ bs) s here))
 
 -- a run that begins with another byte is a symbol
-pub run_at_other : (b : ℕ) (bs : List ℕ) → is_other b ≡ true → IsRun (b ∷ bs) → (s : Symbol) × Contains symbol_rows (b ∷ bs, s)
+pub run_at_other : (b : ℕ) (bs : List ℕ) → is_other b ≡ true → IsRun (b ∷ bs) → (s : Symbol) × Contains symbol_rows
+    (b ∷ bs, s)
 run_at_other b bs h (word made) = absurd (letter_no_other b (and_left _ _ made) h)
 run_at_other b bs h (numeral made) = absurd (digit_no_other b (and_left _ _ made) h)
 run_at_other b bs h (symbol s here) = (s, here)
@@ -88,7 +92,8 @@ pub front_passes : (p : ℕ → Bool) (xs : List ℕ) → list_all p (take (pref
 front_passes p [] = refl
 front_passes p (x ∷ xs) = at (front_passes p xs) (p x) refl
   where
-    at : list_all p (take (prefix_len p xs) xs) ≡ true → (t : Bool) → p x ≡ t → list_all p (take (cond (p x) (1 + prefix_len p xs) 0) (x ∷ xs)) ≡ true
+    at : list_all p (take (prefix_len p xs) xs) ≡ true → (t : Bool) → p x ≡ t → list_all p
+        (take (cond (p x) (1 + prefix_len p xs) 0) (x ∷ xs)) ≡ true
     at rest true h = rw (h, one-add, h) rest
     at rest false h = rw h
 
@@ -118,30 +123,41 @@ module _ (first more : ℕ → Bool) (included : (b : ℕ) → first b ≡ true 
   opens_front (b ∷ bs) o = let h : more b ≡ true = included b o in rw (h, one-add) o
 
   -- the bytes at the front that pass are one run
-  pub front_is_made : (text : List ℕ) → opens first text ≡ true → is_made_of first more (take (prefix_len more text) text) ≡ true
+  pub front_is_made : (text : List ℕ) → opens first text ≡ true → is_made_of first more
+      (take (prefix_len more text) text) ≡ true
   front_is_made text o = made_from _ (opens_front text o) (front_passes more text)
 
   -- no run made so is longer
-  pub made_no_longer : (text other after : List ℕ) → text ≡ other ++ after → is_made_of first more other ≡ true → length other ≤ prefix_len more text
-  made_no_longer text other after split made = subst (λ t. length other ≤ prefix_len more t) (sym split) (passing_front more other after (made_passes other made))
+  pub made_no_longer : (text other after : List ℕ) → text ≡ other ++ after → is_made_of first more other ≡ true → length
+      other ≤ prefix_len more text
+  made_no_longer text other after split made = subst (λ t. length other ≤ prefix_len more t) (sym split)
+      (passing_front more other after (made_passes other made))
 
   -- and no longer run begins the text, where a run that begins so is made so
-  pub longest_front : (text : List ℕ) → ((b : ℕ) (bs : List ℕ) → first b ≡ true → IsRun (b ∷ bs) → is_made_of first more (b ∷ bs) ≡ true) → ((w : List ℕ) → is_made_of first more w ≡ true → IsRun w)
-      → opens first text ≡ true → IsLongestRun text (take (prefix_len more text) text) (drop (prefix_len more text) text)
+  pub longest_front : (text : List ℕ) → ((b : ℕ) (bs : List ℕ) → first b ≡ true → IsRun (b ∷ bs) → is_made_of first more
+      (b ∷ bs) ≡ true) → ((w : List ℕ) → is_made_of first more w ≡ true → IsRun w)
+      → opens first text ≡ true → IsLongestRun text (take (prefix_len more text) text)
+      (drop (prefix_len more text) text)
   longest_front text made_at run_from o = record {
     split = sym (take-append-drop (prefix_len more text) text);
     is_run = run_from _ (front_is_made text o);
-    longest = λ other after split run. subst (λ n. length other ≤ n) (sym (length-prefix_len more text)) (no_longer other after split run);
+    longest = λ other after split run. subst (λ n. length other ≤ n) (sym (length-prefix_len more text))
+        (no_longer other after split run);
   }
     where
       no_longer : (other after : List ℕ) → text ≡ other ++ after → IsRun other → length other ≤ prefix_len more text
       no_longer [] after split run = omega arith
-      no_longer (c ∷ cs) after split run = made_no_longer text (c ∷ cs) after split (made_at c cs (subst (λ t. opens first t ≡ true) split o) run)
+      no_longer (c ∷ cs) after split run = made_no_longer text (c ∷ cs) after split
+          (made_at c cs (subst (λ t. opens first t ≡ true) split o) run)
 
 -- the letters, digits and `_` at the front of a text that begins with a letter are its longest run
-pub longest_word : (text : List ℕ) → opens is_ascii_alphabetic text ≡ true → IsLongestRun text (take (prefix_len is_word_byte text) text) (drop (prefix_len is_word_byte text) text)
-longest_word text o = longest_front is_ascii_alphabetic is_word_byte letter_continues text run_at_letter (λ w made. word made) o
+pub longest_word : (text : List ℕ) → opens is_ascii_alphabetic text ≡ true → IsLongestRun text
+    (take (prefix_len is_word_byte text) text) (drop (prefix_len is_word_byte text) text)
+longest_word text o = longest_front is_ascii_alphabetic is_word_byte letter_continues text run_at_letter
+    (λ w made. word made) o
 
 -- the digits at the front of a text that begins with a digit are its longest run
-pub longest_numeral : (text : List ℕ) → opens is_ascii_digit text ≡ true → IsLongestRun text (take (prefix_len is_ascii_digit text) text) (drop (prefix_len is_ascii_digit text) text)
-longest_numeral text o = longest_front is_ascii_digit is_ascii_digit (λ b h. h) text run_at_digit (λ w made. numeral made) o
+pub longest_numeral : (text : List ℕ) → opens is_ascii_digit text ≡ true → IsLongestRun text
+    (take (prefix_len is_ascii_digit text) text) (drop (prefix_len is_ascii_digit text) text)
+longest_numeral text o = longest_front is_ascii_digit is_ascii_digit (λ b h. h) text run_at_digit
+    (λ w made. numeral made) o

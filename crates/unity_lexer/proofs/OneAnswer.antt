@@ -1,5 +1,6 @@
 -- A text has one reading.
-use Rattle.std.proofs.Common.{◌≡◌, ℕ, ◌+◌, ◌≤◌, Bool, true, false, not, ◌&&◌, ◌==◌, List, [], ◌∷◌, ◌++◌, length, refl, sym, ap, ◌∙◌, subst, arith, Result, Ok, Err}
+use Rattle.std.proofs.Common.{◌≡◌, ℕ, ◌+◌, ◌≤◌, Bool, true, false, not, ◌&&◌, ◌==◌, List, [], ◌∷◌, ◌++◌, length, refl}
+use Rattle.std.proofs.Common.{sym, ap, ◌∙◌, subst, arith, Result, Ok, Err}
 use Rattle.std.specs.Prelude.{Contains}
 use Rattle.std.specs.List.{list_all}
 use Rattle.std.proofs.lemmas.Grind.{common_steps}
@@ -9,9 +10,12 @@ use Rattle.case_tables.specs.declared.word_table.Word.{Word}
 use Rattle.unity_syntax.specs.declared.token.Token.{Token}
 use Rattle.unity_syntax.specs.declared.token.TokenKind.{TokenKind}
 use Rattle.unity_syntax.specs.declared.token.TokenKind.TheVariants as kind
-use Rattle.unity_lexer.specs.Tokens.{is_blank, is_word, is_numeral, is_number, IsRun, IsLongestRun, LineEnds, IsGap, blank, comment, Spells, Reads, nothing, gap, token, IsFaulty, bad_number, bad_byte, IsTokens, FirstBad, IsReading}
+use Rattle.unity_lexer.specs.Tokens.{is_blank, is_word, is_numeral, is_number, IsRun, IsLongestRun, LineEnds, IsGap}
+use Rattle.unity_lexer.specs.Tokens.{blank, comment, Spells, Reads, nothing, gap, token, IsFaulty, bad_number, bad_byte}
+use Rattle.unity_lexer.specs.Tokens.{IsTokens, FirstBad, IsReading}
 use Rattle.unity_lexer.specs.Pieces.{is_other}
-use Rattle.unity_lexer.proofs.Longest.{opens, and_left, and_right, not_both, row_passes, symbol_opens, run_opens, letter_no_digit, letter_no_other, digit_no_other}
+use Rattle.unity_lexer.proofs.Longest.{opens, and_left, and_right, not_both, row_passes, symbol_opens, run_opens}
+use Rattle.unity_lexer.proofs.Longest.{letter_no_digit, letter_no_other, digit_no_other}
 use Rattle.unity_lexer.proofs.Names.{one_value}
 use Rattle.unity_lexer.proofs.Reading.{token_at}
 
@@ -39,7 +43,8 @@ in_line : (c : ℕ) → not (c == 10) ≡ true → c ≡ 10 → ⊥
 in_line c h e = grind (arith, common_steps)
 
 -- two lines that both end are one
-lines_same : (v a w b : List ℕ) → list_all (λ x. not (x == 10)) v ≡ true → list_all (λ x. not (x == 10)) w ≡ true → LineEnds a → LineEnds b → v ++ a ≡ w ++ b → (v ≡ w) × (a ≡ b)
+lines_same : (v a w b : List ℕ) → list_all (λ x. not (x == 10)) v ≡ true → list_all (λ x. not (x == 10)) w ≡ true →
+    LineEnds a → LineEnds b → v ++ a ≡ w ++ b → (v ≡ w) × (a ≡ b)
 lines_same [] a [] b h k m n e = (refl, e)
 lines_same [] a (c ∷ w) b h k m n e = absurd (in_line c (and_left _ _ k) (subst LineEnds e m))
 lines_same (c ∷ v) a [] b h k m n e = absurd (in_line c (and_left _ _ h) (subst LineEnds (sym e) n))
@@ -50,7 +55,8 @@ lines_same (c ∷ v) a (d ∷ w) b h k m n e =
     ((λ i. head i ∷ rest.0 i), rest.1)
 
 -- a gap begins with a blank or `#`
-gap_opens : {piece : List ℕ} (after : List ℕ) → IsGap after piece → opens (λ b. not (is_blank b) && not (b == 35)) (piece ++ after) ≡ false
+gap_opens : {piece : List ℕ} (after : List ℕ) → IsGap after piece → opens (λ b. not (is_blank b) && not (b == 35))
+    (piece ++ after) ≡ false
 gap_opens after (blank b h) = rw h
 gap_opens after (comment line h e) = refl
 
@@ -60,10 +66,12 @@ opens_front p [] after o = cc
 opens_front p (b ∷ w) after o = o
 
 -- where a gap begins, no run does
-pub gap_no_run : {piece : List ℕ} (text after run rest : List ℕ) → text ≡ piece ++ after → IsGap after piece → IsLongestRun text run rest → ⊥
+pub gap_no_run : {piece : List ℕ} (text after run rest : List ℕ) → text ≡ piece ++ after → IsGap after piece →
+    IsLongestRun text run rest → ⊥
 gap_no_run text after run rest cut is_gap longest = not_both _
     (opens_front _ run rest (run_opens run longest.is_run))
-    (subst (λ t. opens (λ b. not (is_blank b) && not (b == 35)) t ≡ false) (sym cut ∙ longest.split) (gap_opens after is_gap))
+    (subst (λ t. opens (λ b. not (is_blank b) && not (b == 35)) t ≡ false) (sym cut ∙ longest.split)
+    (gap_opens after is_gap))
 
 -- `#` is no blank
 no_blank : (b : ℕ) → is_blank b ≡ true → b ≡ 35 → ⊥
@@ -104,15 +112,19 @@ spells_same w kind.Word (kind.Reserved r) g h = absurd (g.1 (r, h))
 spells_same w kind.Word (kind.Symbol s) g h = absurd (symbol_no_word w (symbol_opens w s h) g.0)
 spells_same w (kind.Number m) kind.Word g h = absurd (word_no_numeral w h.0 (and_left _ _ g.0))
 spells_same w (kind.Number m) (kind.Number n) g h = ap (λ x. kind.Number x) (g.1 ∙ sym h.1)
-spells_same w (kind.Number m) (kind.Reserved r) g h = absurd (word_no_numeral w (reserved_is_word w r h) (and_left _ _ g.0))
+spells_same w (kind.Number m) (kind.Reserved r) g h = absurd
+    (word_no_numeral w (reserved_is_word w r h) (and_left _ _ g.0))
 spells_same w (kind.Number m) (kind.Symbol s) g h = absurd (symbol_no_numeral w (symbol_opens w s h) (and_left _ _ g.0))
 spells_same w (kind.Reserved q) kind.Word g h = absurd (h.1 (q, g))
-spells_same w (kind.Reserved q) (kind.Number n) g h = absurd (word_no_numeral w (reserved_is_word w q g) (and_left _ _ h.0))
+spells_same w (kind.Reserved q) (kind.Number n) g h = absurd
+    (word_no_numeral w (reserved_is_word w q g) (and_left _ _ h.0))
 spells_same w (kind.Reserved q) (kind.Reserved r) g h = ap (λ x. kind.Reserved x) (one_value word_rows w q r refl g h)
-spells_same w (kind.Reserved q) (kind.Symbol s) g h = absurd (symbol_no_word w (symbol_opens w s h) (reserved_is_word w q g))
+spells_same w (kind.Reserved q) (kind.Symbol s) g h = absurd
+    (symbol_no_word w (symbol_opens w s h) (reserved_is_word w q g))
 spells_same w (kind.Symbol s) kind.Word g h = absurd (symbol_no_word w (symbol_opens w s g) h.0)
 spells_same w (kind.Symbol s) (kind.Number n) g h = absurd (symbol_no_numeral w (symbol_opens w s g) (and_left _ _ h.0))
-spells_same w (kind.Symbol s) (kind.Reserved r) g h = absurd (symbol_no_word w (symbol_opens w s g) (reserved_is_word w r h))
+spells_same w (kind.Symbol s) (kind.Reserved r) g h = absurd
+    (symbol_no_word w (symbol_opens w s g) (reserved_is_word w r h))
 spells_same w (kind.Symbol s) (kind.Symbol u) g h = ap (λ x. kind.Symbol x) (one_value symbol_rows w s u refl g h)
 
 -- nothing more is read here
@@ -147,7 +159,8 @@ no_number w (kind.Symbol s) h f g = symbol_no_numeral w (symbol_opens w s g) h
 stops_faulty : (text : List ℕ) (code : Code) → IsFaulty text code → Stops text
 stops_faulty text code (bad_number run after longest h f) = record {
   no_gap = λ piece rest cut is_gap. gap_no_run text rest run after cut is_gap longest;
-  no_token = λ other rest k longest' spells. no_number run k h f (subst (λ w. Spells w k) (runs_same text other rest run after longest' longest).0 spells);
+  no_token = λ other rest k longest' spells. no_number run k h f
+      (subst (λ w. Spells w k) (runs_same text other rest run after longest' longest).0 spells);
 }
 stops_faulty text code (bad_byte some none) = record {
   no_gap = λ piece after cut is_gap. (none piece after cut).0 is_gap;
@@ -159,25 +172,33 @@ abbrev Same : List Token → List Token → ℕ → ℕ → List ℕ → List �
 Same ts us end stop rest left = (ts ≡ us) × (end ≡ stop) × (rest ≡ left)
 
 -- reading goes on alike after equal pieces
-reads_at : (at : ℕ) (p q a b : List ℕ) (us : List Token) (stop : ℕ) (left : List ℕ) → p ≡ q → a ≡ b → Reads (at + length q) b us stop left → Reads (at + length p) a us stop left
-reads_at at p q a b us stop left e f reads = subst (λ w. Reads (at + length w) a us stop left) (sym e) (subst (λ t. Reads (at + length q) t us stop left) (sym f) reads)
+reads_at : (at : ℕ) (p q a b : List ℕ) (us : List Token) (stop : ℕ) (left : List ℕ) → p ≡ q → a ≡ b → Reads
+    (at + length q) b us stop left → Reads (at + length p) a us stop left
+reads_at at p q a b us stop left e f reads = subst (λ w. Reads (at + length w) a us stop left) (sym e)
+    (subst (λ t. Reads (at + length q) t us stop left) (sym f) reads)
 
 -- equal tokens before equal ones
-tokens_same : (at : ℕ) (k j : TokenKind) (v w : List ℕ) (ts us : List Token) → k ≡ j → v ≡ w → ts ≡ us → token_at at (length v) k ∷ ts ≡ token_at at (length w) j ∷ us
+tokens_same : (at : ℕ) (k j : TokenKind) (v w : List ℕ) (ts us : List Token) → k ≡ j → v ≡ w → ts ≡ us → token_at at
+    (length v) k ∷ ts ≡ token_at at (length w) j ∷ us
 tokens_same at k j v w ts us e f g = (λ i. token_at at (length (f i)) (e i) ∷ g i)
 
 -- two readings up to where nothing more is read are one
-reads_same : {at end stop : ℕ} {text rest left : List ℕ} {ts us : List Token} → Reads at text ts end rest → Stops rest → Reads at text us stop left → Stops left → Same ts us end stop rest left
+reads_same : {at end stop : ℕ} {text rest left : List ℕ} {ts us : List Token} → Reads at text ts end rest → Stops rest →
+    Reads at text us stop left → Stops left → Same ts us end stop rest left
 reads_same nothing halt nothing stop = (refl, refl, refl)
 reads_same nothing halt (gap piece after cut is reads) stop = absurd (halt.no_gap piece after cut is)
-reads_same nothing halt (token run after k longest spells reads) stop = absurd (halt.no_token run after k longest spells)
+reads_same nothing halt (token run after k longest spells reads) stop = absurd
+    (halt.no_token run after k longest spells)
 reads_same (gap piece after cut is reads) halt nothing stop = absurd (stop.no_gap piece after cut is)
 reads_same (gap piece after cut is reads) halt (gap other more cut' is' reads') stop =
     let same = gaps_same after more is is' (sym cut ∙ cut') in
     reads_same reads halt (reads_at _ piece other after more _ _ _ same.0 same.1 reads') stop
-reads_same (gap piece after cut is reads) halt (token run more k longest spells reads') stop = absurd (gap_no_run _ after run more cut is longest)
-reads_same (token run after k longest spells reads) halt nothing stop = absurd (stop.no_token run after k longest spells)
-reads_same (token run after k longest spells reads) halt (gap piece more cut is reads') stop = absurd (gap_no_run _ more run after cut is longest)
+reads_same (gap piece after cut is reads) halt (token run more k longest spells reads') stop = absurd
+    (gap_no_run _ after run more cut is longest)
+reads_same (token run after k longest spells reads) halt nothing stop = absurd
+    (stop.no_token run after k longest spells)
+reads_same (token run after k longest spells reads) halt (gap piece more cut is reads') stop = absurd
+    (gap_no_run _ more run after cut is longest)
 reads_same (token run after k longest spells reads) halt (token other more j longest' spells' reads') stop =
     let same = runs_same _ run after other more longest longest' in
     let kinds : k ≡ j = spells_same run k j spells (subst (λ w. Spells w j) (sym same.0) spells') in
@@ -194,26 +215,33 @@ faulty_some text code (bad_number run after longest h f) e = run_some run after 
 faulty_some text code (bad_byte some none) e = some e
 
 -- and no fault beside it
-pub IsTokens-no_fault : (text : List ℕ) (ts : List Token) (code : Code) (place : ℕ) → IsTokens text ts → FirstBad text code place → ⊥
+pub IsTokens-no_fault : (text : List ℕ) (ts : List Token) (code : Code) (place : ℕ) → IsTokens text ts → FirstBad text
+    code place → ⊥
 IsTokens-no_fault text ts code place one bad =
-    faulty_some bad.rest code bad.faulty (sym (reads_same one stops_end bad.reads (stops_faulty bad.rest code bad.faulty)).2)
+    faulty_some bad.rest code bad.faulty (sym (reads_same one stops_end bad.reads
+    (stops_faulty bad.rest code bad.faulty)).2)
 
 -- a place has one fault
 one_code : (text : List ℕ) (c d : Code) → IsFaulty text c → IsFaulty text d → c ≡ d
 one_code text c d (bad_number run after longest h f) (bad_number run' after' longest' h' f') = refl
-one_code text c d (bad_number run after longest h f) (bad_byte some none) = absurd ((none run after longest.split).1 longest.is_run)
-one_code text c d (bad_byte some none) (bad_number run after longest h f) = absurd ((none run after longest.split).1 longest.is_run)
+one_code text c d (bad_number run after longest h f) (bad_byte some none) = absurd
+    ((none run after longest.split).1 longest.is_run)
+one_code text c d (bad_byte some none) (bad_number run after longest h f) = absurd
+    ((none run after longest.split).1 longest.is_run)
 one_code text c d (bad_byte some none) (bad_byte some' none') = refl
 
 -- a text has one first fault at most
 pub FirstBad-unique : (text : List ℕ) (c d : Code) (m n : ℕ) → FirstBad text c m → FirstBad text d n → (c ≡ d) × (m ≡ n)
 FirstBad-unique text c d m n one two =
-    let same = reads_same one.reads (stops_faulty one.rest c one.faulty) two.reads (stops_faulty two.rest d two.faulty) in
+    let same = reads_same one.reads (stops_faulty one.rest c one.faulty) two.reads (stops_faulty two.rest d two.faulty)
+    in
     (one_code one.rest c d one.faulty (subst (λ t. IsFaulty t d) (sym same.2) two.faulty), same.1)
 
 -- a text has one reading
-pub IsReading-unique : (text : List ℕ) (a b : Result (List Token) (Code × ℕ)) → IsReading text a → IsReading text b → a ≡ b
+pub IsReading-unique : (text : List ℕ) (a b : Result (List Token) (Code × ℕ)) → IsReading text a → IsReading text b → a
+    ≡ b
 IsReading-unique text (Ok ts) (Ok us) one two = ap (λ x. Ok x) (IsTokens-unique text ts us one two)
 IsReading-unique text (Ok ts) (Err (d, n)) one two = absurd (IsTokens-no_fault text ts d n one two)
 IsReading-unique text (Err (c, m)) (Ok us) one two = absurd (IsTokens-no_fault text us c m two one)
-IsReading-unique text (Err (c, m)) (Err (d, n)) one two = let same = FirstBad-unique text c d m n one two in (λ i. Err (same.0 i, same.1 i))
+IsReading-unique text (Err (c, m)) (Err (d, n)) one two = let same = FirstBad-unique text c d m n one two in
+    (λ i. Err (same.0 i, same.1 i))

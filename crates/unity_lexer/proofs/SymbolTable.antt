@@ -1,5 +1,6 @@
 -- The symbol that a match on the first bytes finds is the longest of the table.
-use Rattle.std.proofs.Common.{◌≡◌, ℕ, ◌≤◌, Bool, true, false, not, ◌&&◌, ◌==◌, cond, eqb-true, eq-eqb, List, [], ◌∷◌, ◌++◌, length, drop, Option, None, Some, refl, sym, ap, ◌∙◌, subst, arith, ◌⊎◌, inl, inr}
+use Rattle.std.proofs.Common.{◌≡◌, ℕ, ◌≤◌, Bool, true, false, not, ◌&&◌, ◌==◌, cond, eqb-true, eq-eqb, List, [], ◌∷◌}
+use Rattle.std.proofs.Common.{◌++◌, length, drop, Option, None, Some, refl, sym, ap, ◌∙◌, subst, arith, ◌⊎◌, inl, inr}
 use Rattle.std.specs.Prelude.{Contains}
 use Rattle.std.proofs.Math.Bool.{and-true}
 use Rattle.std.proofs.lemmas.List.Elements.{Contains-append_left, Contains-append_right, Contains-push}
@@ -39,17 +40,20 @@ not_true true h k = cc
 not_true false h k = cc
 
 -- of two fronts of one text, the shorter begins the longer
-both_fronts : (v w text : List ℕ) → begins v text ≡ true → begins w text ≡ true → length w ≤ length v → begins w v ≡ true
+both_fronts : (v w text : List ℕ) → begins v text ≡ true → begins w text ≡ true → length w ≤ length v → begins w v ≡
+    true
 both_fronts v [] text h k l = refl
 both_fronts [] (w ∷ ws) text h k l = absurd (omega arith)
 both_fronts (v ∷ vs) (w ∷ ws) [] h k l = cc
 both_fronts (v ∷ vs) (w ∷ ws) (b ∷ bs) h k l =
     let e : b ≡ v = eqb-true b v (and_left (b == v) (begins vs bs) h) in
     let q : b ≡ w = eqb-true b w (and_left (b == w) (begins ws bs) k) in
-    both (v == w) (begins ws vs) (eq-eqb v w (sym e ∙ q)) (both_fronts vs ws bs (and_right (b == v) (begins vs bs) h) (and_right (b == w) (begins ws bs) k) (omega arith))
+    both (v == w) (begins ws vs) (eq-eqb v w (sym e ∙ q)) (both_fronts vs ws bs (and_right (b == v) (begins vs bs) h)
+    (and_right (b == w) (begins ws bs) k) (omega arith))
 
 -- where no row begins with these bytes, none of them does
-none_begins : (w : List ℕ) (rows : List Row) (row : Row) → none_begin w rows ≡ true → Contains rows row → begins w row.0 ≡ true → ⊥
+none_begins : (w : List ℕ) (rows : List Row) (row : Row) → none_begin w rows ≡ true → Contains rows row → begins w row.0
+    ≡ true → ⊥
 none_begins w [] row h here k = omega (arith, here.1)
 none_begins w (r ∷ rows) row h here k = elim (row_of r rows row here) [
   | inl same ↦ not_true (begins w row.0) (subst (λ (x : Row). not (begins w x.0) ≡ true) same (and_left _ _ h)) k
@@ -72,24 +76,29 @@ some_same : (x y : Symbol × ℕ) → ◌≡◌ {A = Option (Symbol × ℕ)} (So
 some_same x y h = cc
 
 -- the first row of an ordered table is the longest
-pub first_row_longest : (rows : List Row) (text : List ℕ) (s : Symbol) (size : ℕ) → ordered rows ≡ true → first_row rows text ≡ Some (s, size) → IsLongestRow rows text s size
+pub first_row_longest : (rows : List Row) (text : List ℕ) (s : Symbol) (size : ℕ) → ordered rows ≡ true → first_row rows
+    text ≡ Some (s, size) → IsLongestRow rows text s size
 first_row_longest [] text s size o h = cc
-first_row_longest (r ∷ rows) text s size o h = at (λ e. first_row_longest rows text s size (and_right _ _ o) e) (begins r.0 text) refl h
+first_row_longest (r ∷ rows) text s size o h = at (λ e. first_row_longest rows text s size (and_right _ _ o) e)
+    (begins r.0 text) refl h
   where
-    at : (first_row rows text ≡ Some (s, size) → IsLongestRow rows text s size) → (t : Bool) → begins r.0 text ≡ t → cond t (Some (r.1, length r.0)) (first_row rows text) ≡ Some (s, size) → IsLongestRow (r ∷ rows) text s size
+    at : (first_row rows text ≡ Some (s, size) → IsLongestRow rows text s size) → (t : Bool) → begins r.0 text ≡ t →
+        cond t (Some (r.1, length r.0)) (first_row rows text) ≡ Some (s, size) → IsLongestRow (r ∷ rows) text s size
     at later true k e =
         let same : ◌≡◌ {A = Symbol × ℕ} (r.1, length r.0) (s, size) = some_same _ _ e in
         let size_is : size ≡ length r.0 = sym (ap (λ (p : Symbol × ℕ). p.1) same) in
         record {
           name = r.0;
-          contains = subst (λ (x : Symbol). Contains (r ∷ rows) (r.0, x)) (ap (λ (p : Symbol × ℕ). p.0) same) (Contains-append_left (r ∷ []) rows r (Contains-push [] r));
+          contains = subst (λ (x : Symbol). Contains (r ∷ rows) (r.0, x)) (ap (λ (p : Symbol × ℕ). p.0) same)
+              (Contains-append_left (r ∷ []) rows r (Contains-push [] r));
           size_is = size_is;
           begins_text = k;
           longest = λ other here front. elim (row_of r rows other here) [
             | inl is ↦ subst (λ (x : Row). length x.0 ≤ size) is (omega arith)
             | inr after ↦ elim (order (length other.0) size) [
               | inl l ↦ l
-              | inr l ↦ absurd (none_begins r.0 rows other (and_left _ _ o) after (both_fronts other.0 r.0 text front k (omega arith)))
+              | inr l ↦ absurd (none_begins r.0 rows other (and_left _ _ o) after
+                  (both_fronts other.0 r.0 text front k (omega arith)))
             ]
           ];
         }
@@ -101,17 +110,21 @@ first_row_longest (r ∷ rows) text s size o h = at (λ e. first_row_longest row
           size_is = found.size_is;
           begins_text = found.begins_text;
           longest = λ other here front. elim (row_of r rows other here) [
-            | inl is ↦ absurd (not_both (begins r.0 text) (subst (λ (x : Row). begins x.0 text ≡ true) (sym is) front) k)
+            | inl is ↦ absurd (not_both (begins r.0 text) (subst (λ (x : Row). begins x.0 text ≡ true) (sym is) front)
+                k)
             | inr after ↦ found.longest other after front
           ];
         }
 
 -- where there is no first row, none begins the text
-pub first_row_none : (rows : List Row) (text : List ℕ) → first_row rows text ≡ None → (row : Row) → Contains rows row → begins row.0 text ≡ true → ⊥
+pub first_row_none : (rows : List Row) (text : List ℕ) → first_row rows text ≡ None → (row : Row) → Contains rows row →
+    begins row.0 text ≡ true → ⊥
 first_row_none [] text h row here front = omega (arith, here.1)
-first_row_none (r ∷ rows) text h row here front = at (λ e after. first_row_none rows text e row after front) (begins r.0 text) refl h
+first_row_none (r ∷ rows) text h row here front = at (λ e after. first_row_none rows text e row after front)
+    (begins r.0 text) refl h
   where
-    at : (first_row rows text ≡ None → Contains rows row → ⊥) → (t : Bool) → begins r.0 text ≡ t → cond t (Some (r.1, length r.0)) (first_row rows text) ≡ None → ⊥
+    at : (first_row rows text ≡ None → Contains rows row → ⊥) → (t : Bool) → begins r.0 text ≡ t → cond t
+        (Some (r.1, length r.0)) (first_row rows text) ≡ None → ⊥
     at later true k e = cc
     at later false k e = elim (row_of r rows row here) [
       | inl is ↦ not_both (begins r.0 text) (subst (λ (x : Row). begins x.0 text ≡ true) (sym is) front) k
@@ -158,32 +171,40 @@ module _ {X : Type 0} where
   one false a r r' e = e
 
   -- a longer symbol and a shorter one
-  two : (t u u' : Bool) (a c : X) (r r' : Option X) → u ≡ u' → r ≡ r' → cond (t && u) (Some a) (cond (t && true) (Some c) r) ≡ cond t (Some (cond u' a c)) r'
+  two : (t u u' : Bool) (a c : X) (r r' : Option X) → u ≡ u' → r ≡ r' → cond (t && u) (Some a)
+      (cond (t && true) (Some c) r) ≡ cond t (Some (cond u' a c)) r'
   two false u u' a c r r' q e = e
   two true u u' a c r r' q e = pick u u' a c q
 
   -- two longer symbols and a shorter one
-  three : (t u u' v v' : Bool) (a c d : X) (r r' : Option X) → u ≡ u' → v ≡ v' → r ≡ r' → cond (t && u) (Some a) (cond (t && v) (Some c) (cond (t && true) (Some d) r)) ≡ cond t (Some (cond u' a (cond v' c d))) r'
+  three : (t u u' v v' : Bool) (a c d : X) (r r' : Option X) → u ≡ u' → v ≡ v' → r ≡ r' → cond (t && u) (Some a)
+      (cond (t && v) (Some c) (cond (t && true) (Some d) r)) ≡ cond t (Some (cond u' a (cond v' c d))) r'
   three false u u' v v' a c d r r' p q e = e
   three true u u' v v' a c d r r' p q e = ap (cond u (Some a)) (pick v v' c d q) ∙ pick u u' a (cond v' c d) p
 
   -- a longer symbol alone
-  longer : (t u u' : Bool) (a : X) (r r' : Option X) → u ≡ u' → (t ≡ true → r ≡ None) → r ≡ r' → cond (t && u) (Some a) r ≡ cond t (cond u' (Some a) None) r'
+  longer : (t u u' : Bool) (a : X) (r r' : Option X) → u ≡ u' → (t ≡ true → r ≡ None) → r ≡ r' → cond (t && u) (Some a)
+      r ≡ cond t (cond u' (Some a) None) r'
   longer false u u' a r r' q n e = e
   longer true u u' a r r' q n e = (λ i. cond (q i) (Some a) (n refl i))
 
   -- two longer symbols alone
-  two_longer : (t u u' v v' : Bool) (a c : X) (r r' : Option X) → u ≡ u' → v ≡ v' → (t ≡ true → r ≡ None) → r ≡ r' → cond (t && u) (Some a) (cond (t && v) (Some c) r) ≡ cond t (cond u' (Some a) (cond v' (Some c) None)) r'
+  two_longer : (t u u' v v' : Bool) (a c : X) (r r' : Option X) → u ≡ u' → v ≡ v' → (t ≡ true → r ≡ None) → r ≡ r' →
+      cond (t && u) (Some a) (cond (t && v) (Some c) r) ≡ cond t (cond u' (Some a) (cond v' (Some c) None)) r'
   two_longer false u u' v v' a c r r' p q n e = e
   two_longer true u u' v v' a c r r' p q n e = (λ i. cond (p i) (Some a) (cond (q i) (Some c) (n refl i)))
 
   -- rows of other first bytes stand between
-  apart : (t u u' v v' : Bool) (a c d : X) (r r' : Option X) → u ≡ u' → v ≡ v' → (t ≡ true → r ≡ Some d) → (t ≡ false → r ≡ r') → cond (t && u) (Some a) (cond (t && v) (Some c) r) ≡ cond t (Some (cond u' a (cond v' c d))) r'
+  apart : (t u u' v v' : Bool) (a c d : X) (r r' : Option X) → u ≡ u' → v ≡ v' → (t ≡ true → r ≡ Some d) →
+      (t ≡ false → r ≡ r') → cond (t && u) (Some a) (cond (t && v) (Some c) r) ≡ cond t (Some (cond u' a (cond v' c d)))
+      r'
   apart false u u' v v' a c d r r' p q n e = e refl
-  apart true u u' v v' a c d r r' p q n e = ap (λ x. cond u (Some a) (cond v (Some c) x)) (n refl) ∙ ap (cond u (Some a)) (pick v v' c d q) ∙ pick u u' a (cond v' c d) p
+  apart true u u' v v' a c d r r' p q n e = ap (λ x. cond u (Some a) (cond v (Some c) x)) (n refl) ∙ ap
+      (cond u (Some a)) (pick v v' c d q) ∙ pick u u' a (cond v' c d) p
 
   -- rows that stand apart, with another first byte
-  passed : (t u : Bool) (a c : X) (r r' : Option X) → t ≡ false → r ≡ r' → cond (t && u) (Some a) (cond (t && true) (Some c) r) ≡ r'
+  passed : (t u : Bool) (a c : X) (r r' : Option X) → t ≡ false → r ≡ r' → cond (t && u) (Some a)
+      (cond (t && true) (Some c) r) ≡ r'
   passed true u a c r r' n e = cc
   passed false u a c r r' n e = e
 
@@ -199,7 +220,8 @@ first_row_is (b ∷ bs) =
     (apart (b == 60) _ _ _ _ _ _ _ _ _ (two_more 124 124 bs) (two_more 91 93 bs)
     (λ h. let e : b ≡ 60 = eqb-true b 60 h in rw e (pick _ _ _ _ (one_more 61 bs)))
     (λ no_less.
-    two_longer (b == 124) _ _ _ _ _ _ _ _ (one_more 62 bs) (one_more 124 bs) (λ h. let e : b ≡ 124 = eqb-true b 124 h in rw e)
+    two_longer (b == 124) _ _ _ _ _ _ _ _ (one_more 62 bs) (one_more 124 bs)
+    (λ h. let e : b ≡ 124 = eqb-true b 124 h in rw e)
     (one (b == 126) _ _ _
     (passed (b == 60) _ _ _ _ _ no_less
     (two (b == 62) _ _ _ _ _ _ (one_more 61 bs)

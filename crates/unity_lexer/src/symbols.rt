@@ -1,7 +1,8 @@
 //! The symbols at the front of a text.
 
 ghost use Rattle.std.specs.Prelude.{◌≡◌, ◌<◌, ◌+◌, length};
-ghost use Rattle.unity_lexer.specs.Symbols.{next_is, lengthened, after_colon, after_less, after_bar, after_slash, symbol_after, first_symbol};
+ghost use Rattle.unity_lexer.specs.Symbols.{next_is, lengthened, after_colon, after_less, after_bar, after_slash};
+ghost use Rattle.unity_lexer.specs.Symbols.{symbol_after, first_symbol};
 
 use case_tables::Symbol;
 

@@ -1,5 +1,6 @@
 -- The laws of executions, of unions and of `stable`.
-use Rattle.std.proofs.Common.{◌≡◌, ℕ, zero, suc, ◌<◌, List, [], ◌∷◌, ◌++◌, map, Bool, Option, Some, None, IsTrue, refl, sym, subst, ap, ◌∙◌, slice_get, take, length, arith}
+use Rattle.std.proofs.Common.{◌≡◌, ℕ, zero, suc, ◌<◌, List, [], ◌∷◌, ◌++◌, map, Bool, Option, Some, None, IsTrue, refl}
+use Rattle.std.proofs.Common.{sym, subst, ap, ◌∙◌, slice_get, take, length, arith}
 use Rattle.std.specs.Prelude.{◌≢◌, ◌↔◌}
 use Rattle.std.specs.List.{list_all}
 use Rattle.unity_syntax.specs.declared.expression.Expr.{Expr}
@@ -11,7 +12,8 @@ use Rattle.unity_meaning.specs.Instances.{Instance}
 use Rattle.unity_meaning.specs.Setting.{Setting, slot_ranges, seen, is_true_at}
 use Rattle.unity_meaning.specs.Execution.{System, Steps, IsExecution, instance_step, system_of, act_step, chosen_step}
 use Rattle.unity_meaning.specs.Properties.{Test, IsAlwaysDefined, Unless, never}
-use Rattle.unity_meaning.specs.ExecutionLaws.{PrefixIsExecution, EachIsAStep, EveryStateInRange, DefinedRuns, UnionSteps, UnionInitial, StableIsUnlessFalse}
+use Rattle.unity_meaning.specs.ExecutionLaws.{PrefixIsExecution, EachIsAStep, EveryStateInRange, DefinedRuns}
+use Rattle.unity_meaning.specs.ExecutionLaws.{UnionSteps, UnionInitial, StableIsUnlessFalse}
 use Rattle.state_steps.proofs.StepTheorems.{and_left, and_right, both_true, step_keeps_ranges}
 use Rattle.unity_meaning.proofs.ValueLaws.{value-False}
 

@@ -1,5 +1,6 @@
 -- The laws of leads-to and its bound.
-use Rattle.std.proofs.Common.{◌≡◌, ℕ, zero, suc, ◌+◌, ◌<◌, ◌≤◌, List, [], ◌∷◌, Bool, true, false, ◌||◌, Some, IsTrue, refl, sym, subst, ap, ◌∙◌, nat_eq, slice_get, take, drop, length, arith, inl, inr}
+use Rattle.std.proofs.Common.{◌≡◌, ℕ, zero, suc, ◌+◌, ◌<◌, ◌≤◌, List, [], ◌∷◌, Bool, true, false, ◌||◌, Some, IsTrue}
+use Rattle.std.proofs.Common.{refl, sym, subst, ap, ◌∙◌, nat_eq, slice_get, take, drop, length, arith, inl, inr}
 use Rattle.std.specs.List.{list_any}
 use Rattle.std.proofs.lemmas.Bool.Decides.{eqb_tells}
 use Rattle.std.proofs.lemmas.List.{drop-take}

@@ -9,9 +9,13 @@ use Rattle.unity_syntax.specs.declared.expression.Expr
 use Rattle.unity_syntax.specs.declared.expression.Expr.{Expr, roll-Expr, fold-roll-Expr}
 use Rattle.unity_syntax.specs.declared.expression.Expr.TheFolds.{map-Expr}
 use Rattle.unity_syntax.specs.declared.expression.Expr.TheOpen.{Expr-F}
-use Rattle.unity_syntax.specs.declared.expression.Expr.TheVariants.{rolls-Implies, rolls-And, rolls-Or, rolls-Not, rolls-Compare, rolls-Sum, rolls-Product, rolls-Number, rolls-True, rolls-False, rolls-Word, rolls-Brackets, rolls-Quantified}
+use Rattle.unity_syntax.specs.declared.expression.Expr.TheVariants.{rolls-Implies, rolls-And, rolls-Or, rolls-Not}
+use Rattle.unity_syntax.specs.declared.expression.Expr.TheVariants.{rolls-Compare, rolls-Sum, rolls-Product}
+use Rattle.unity_syntax.specs.declared.expression.Expr.TheVariants.{rolls-Number, rolls-True, rolls-False, rolls-Word}
+use Rattle.unity_syntax.specs.declared.expression.Expr.TheVariants.{rolls-Brackets, rolls-Quantified}
 use Rattle.unity_meaning.specs.Names.{Sight, with_name, word_value, element_value}
-use Rattle.unity_meaning.specs.Value.{value, value_layer, Meaning, truth, holds, signed, related, added, multiplied, gathered, range_values}
+use Rattle.unity_meaning.specs.Value.{value, value_layer, Meaning, truth, holds, signed, related, added, multiplied}
+use Rattle.unity_meaning.specs.Value.{gathered, range_values}
 
 -- an expression's value is that of its outermost part
 unfolds : (d : Expr-F Expr) (e : Expr) → roll-Expr d ≡ e → (s : Sight) →

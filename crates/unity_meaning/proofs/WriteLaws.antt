@@ -12,7 +12,8 @@ use Rattle.unity_syntax.specs.declared.statement.Component.TheVariants.{rolls-Se
 use Rattle.unity_syntax.specs.declared.statement.Assign.{Assign, fold-roll-Assign}
 use Rattle.unity_meaning.specs.Names.{Sight, with_name}
 use Rattle.unity_meaning.specs.Value.{range_values}
-use Rattle.unity_meaning.specs.Writes.{Writing, alternatives, alternative_writes, component_layer, assign_layer, component_writes, writes}
+use Rattle.unity_meaning.specs.Writes.{Writing, alternatives, alternative_writes, component_layer, assign_layer}
+use Rattle.unity_meaning.specs.Writes.{component_writes, writes}
 
 pub writes-Set : (at : ℕ) (first : Target) (rest : List Target) (alts : Alts) (s : Sight) →
     component_writes (Component.Set at first rest alts) s ≡

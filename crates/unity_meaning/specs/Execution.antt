@@ -1,5 +1,6 @@
 -- Executions: lists of states, each the step of the one before it by a choice of an instance.
-use Rattle.std.specs.Prelude.{◌≡◌, ℕ, List, [], ◌∷◌, ◌<◌, Bool, ◌&&◌, Option, Some, None, IsTrue, length, map, slice_get}
+use Rattle.std.specs.Prelude.{◌≡◌, ℕ, List, [], ◌∷◌, ◌<◌, Bool, ◌&&◌, Option, Some, None, IsTrue, length, map}
+use Rattle.std.specs.Prelude.{slice_get}
 use Rattle.std.specs.List.{list_all}
 use Rattle.state_steps.specs.State.{State, is_state}
 use Rattle.state_steps.specs.Step.{step}

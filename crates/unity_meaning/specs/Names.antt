@@ -1,5 +1,6 @@
 -- What names mean where an expression is read.
-use Rattle.std.specs.Prelude.{ℕ, ◌+◌, ℤ, pos, negsuc, ◌-ℤ◌, List, [], ◌∷◌, cond, Bool, Option, Some, None, slice_index_or}
+use Rattle.std.specs.Prelude.{ℕ, ◌+◌, ℤ, pos, negsuc, ◌-ℤ◌, List, [], ◌∷◌, cond, Bool, Option, Some, None}
+use Rattle.std.specs.Prelude.{slice_index_or}
 use Rattle.std.specs.Str.{bytes_eq}
 use Rattle.state_steps.specs.State.{State, in_range}
 

@@ -1,5 +1,6 @@
 -- The properties of programs, read on executions. A test says of each state whether a formula is true there.
-use Rattle.std.specs.Prelude.{◌≡◌, ◌≢◌, ℕ, suc, ◌+◌, ◌≤◌, List, ◌∷◌, Bool, false, not, ◌&&◌, ◌||◌, Some, None, IsTrue, drop, length, slice_get}
+use Rattle.std.specs.Prelude.{◌≡◌, ◌≢◌, ℕ, suc, ◌+◌, ◌≤◌, List, ◌∷◌, Bool, false, not, ◌&&◌, ◌||◌, Some, None, IsTrue}
+use Rattle.std.specs.Prelude.{drop, length, slice_get}
 use Rattle.state_steps.specs.State.{State}
 use Rattle.unity_meaning.specs.Execution.{Act, System, IsExecution}
 use Rattle.unity_meaning.specs.Rounds.{IsShortest}

@@ -1,5 +1,6 @@
 -- Laws of rounds, and of properties within a bound.
-use Rattle.std.specs.Prelude.{◌≡◌, ℕ, suc, ◌<◌, ◌≤◌, ◌↔◌, List, ◌∷◌, Some, IsTrue, IsFalse, nat_eq, take, drop, length, slice_get}
+use Rattle.std.specs.Prelude.{◌≡◌, ℕ, suc, ◌<◌, ◌≤◌, ◌↔◌, List, ◌∷◌, Some, IsTrue, IsFalse, nat_eq, take, drop, length}
+use Rattle.std.specs.Prelude.{slice_get}
 use Rattle.std.specs.List.{list_any}
 use Rattle.state_steps.specs.State.{State}
 use Rattle.unity_meaning.specs.Execution.{System, IsExecution}

@@ -1,5 +1,6 @@
 -- The value of an expression, which is a whole number: false is 0 and true is 1.
-use Rattle.std.specs.Prelude.{ℕ, zero, suc, ℤ, pos, neg_ℤ, ◌+ℤ◌, ◌-ℤ◌, ◌*ℤ◌, List, [], ◌∷◌, map, Bool, false, cond, not, ◌&&◌, ◌||◌, Option, Some, None}
+use Rattle.std.specs.Prelude.{ℕ, zero, suc, ℤ, pos, neg_ℤ, ◌+ℤ◌, ◌-ℤ◌, ◌*ℤ◌, List, [], ◌∷◌, map, Bool, false, cond, not}
+use Rattle.std.specs.Prelude.{◌&&◌, ◌||◌, Option, Some, None}
 use Rattle.std.specs.Int.RustNames.{int_lt, int_le}
 use Rattle.std.specs.List.{list_all, list_any}
 use Rattle.case_tables.specs.declared.symbol_table.Symbol.{Symbol}
@@ -9,7 +10,8 @@ use Rattle.unity_syntax.specs.declared.name.Range.{Range}
 use Rattle.unity_syntax.specs.declared.expression.Expr.{Expr, fold-Expr}
 use Rattle.unity_syntax.specs.declared.expression.Expr.TheOpen.{Expr-F}
 use Rattle.state_steps.specs.State.{int_eq}
-use Rattle.unity_meaning.specs.Names.{Bindings, Sight, with_name, number_of, or_zero, natural, word_value, element_value}
+use Rattle.unity_meaning.specs.Names.{Bindings, Sight, with_name, number_of, or_zero, natural, word_value}
+use Rattle.unity_meaning.specs.Names.{element_value}
 
 -- the value of a truth
 abbrev pub truth : Bool → ℤ

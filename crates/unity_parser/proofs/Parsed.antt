@@ -16,23 +16,33 @@ use Rattle.unity_syntax.proofs.WordsKept.{bodies_keep, document_keeps}
 use Rattle.token_cursor.specs.declared.stop.Stop.{Stop}
 use Rattle.token_cursor.specs.Gives.{Fails, remaining}
 use Rattle.unity_lexer.specs.Tokens.{AreInOrder}
-use Rattle.unity_parser.specs.ParseAnswers.{most_brackets, IsExact, IsDocumentOf, IsRefusal, IsRefusedFor, Names, WordsRise, code_of, rest_of, beginning}
+use Rattle.unity_parser.specs.ParseAnswers.{most_brackets, IsExact, IsDocumentOf, IsRefusal, IsRefusedFor, Names}
+use Rattle.unity_parser.specs.ParseAnswers.{WordsRise, code_of, rest_of, beginning}
 
 -- the reader's answer is exact
-exactly : (bytes : List ℕ) (tokens : List Token) (answer : Result Tree Fault) → read_whole grammar most_brackets document_ (terminals bytes tokens) ≡ answer → IsExact bytes tokens answer
-exactly bytes tokens answer e = subst (λ r. IsExact bytes tokens r) e (exact grammar grammar_is document_ document_is most_brackets (terminals bytes tokens))
+exactly : (bytes : List ℕ) (tokens : List Token) (answer : Result Tree Fault) → read_whole grammar most_brackets
+    document_ (terminals bytes tokens) ≡ answer → IsExact bytes tokens answer
+exactly bytes tokens answer e = subst (λ r. IsExact bytes tokens r) e
+    (exact grammar grammar_is document_ document_is most_brackets (terminals bytes tokens))
 
-pub is_document : (bytes : List ℕ) (tokens : List Token) (d : Document) → read_whole grammar most_brackets document_ (terminals bytes tokens) ≡ Ok (view d) → IsDocumentOf bytes tokens d
+pub is_document : (bytes : List ℕ) (tokens : List Token) (d : Document) → read_whole grammar most_brackets document_
+    (terminals bytes tokens) ≡ Ok (view d) → IsDocumentOf bytes tokens d
 is_document bytes tokens d e = exactly bytes tokens (Ok (view d)) e
 
-refused : (bytes : List ℕ) (tokens : List Token) (f : Fault) → read_whole grammar most_brackets document_ (terminals bytes tokens) ≡ Err f → IsRefusal bytes tokens (code_of f) (beginning (length bytes) (rest_of f))
+refused : (bytes : List ℕ) (tokens : List Token) (f : Fault) → read_whole grammar most_brackets document_
+    (terminals bytes tokens) ≡ Err f → IsRefusal bytes tokens (code_of f) (beginning (length bytes) (rest_of f))
 refused bytes tokens f e = record { fault = f; exact = exactly bytes tokens (Err f) e; code_is = refl; place_is = refl }
 
-pub is_refused : (bytes : List ℕ) (tokens : List Token) (stop : Stop) (fault : SyntaxFault) → Fails stop (read_whole grammar most_brackets document_ (terminals bytes tokens)) → Names bytes stop fault → IsRefusedFor bytes tokens fault
+pub is_refused : (bytes : List ℕ) (tokens : List Token) (stop : Stop) (fault : SyntaxFault) → Fails stop
+    (read_whole grammar most_brackets document_ (terminals bytes tokens)) → Names bytes stop fault → IsRefusedFor bytes
+    tokens fault
 is_refused bytes tokens Stop.Memory fault h q = subst (λ f. IsRefusedFor bytes tokens f) (sym q) tt
-is_refused bytes tokens (Stop.Unexpected rest) fault h q = subst (λ f. IsRefusedFor bytes tokens f) (sym q) (refused bytes tokens (Unexpected (remaining rest)) h)
-is_refused bytes tokens (Stop.OtherVersion rest) fault h q = subst (λ f. IsRefusedFor bytes tokens f) (sym q) (refused bytes tokens (OtherVersion (remaining rest)) h)
-is_refused bytes tokens (Stop.TooDeep rest) fault h q = subst (λ f. IsRefusedFor bytes tokens f) (sym q) (refused bytes tokens (TooDeep (remaining rest)) h)
+is_refused bytes tokens (Stop.Unexpected rest) fault h q = subst (λ f. IsRefusedFor bytes tokens f) (sym q)
+    (refused bytes tokens (Unexpected (remaining rest)) h)
+is_refused bytes tokens (Stop.OtherVersion rest) fault h q = subst (λ f. IsRefusedFor bytes tokens f) (sym q)
+    (refused bytes tokens (OtherVersion (remaining rest)) h)
+is_refused bytes tokens (Stop.TooDeep rest) fault h q = subst (λ f. IsRefusedFor bytes tokens f) (sym q)
+    (refused bytes tokens (TooDeep (remaining rest)) h)
 
 -- Words of rising tokens rise.
 rise_from : (a b to : ℕ) (ws : List Word) → a ≤ b → WordsRise b to ws → WordsRise a to ws
@@ -43,7 +53,8 @@ end_reached : (from to : ℕ) (ts : List Token) → AreInOrder from to ts → fr
 end_reached from to [] r = r
 end_reached from to (t ∷ ts) r = let h = end_reached t.end to ts r.2 in omega (arith, h, r.0, r.1)
 
-rise_in : (bytes : List ℕ) (ws vs : List Word) → IsSublist ws vs → (from to : ℕ) (ts : List Token) → vs ≡ spelled (terminals bytes ts) → AreInOrder from to ts → WordsRise from to ws
+rise_in : (bytes : List ℕ) (ws vs : List Word) → IsSublist ws vs → (from to : ℕ) (ts : List Token) → vs ≡ spelled
+    (terminals bytes ts) → AreInOrder from to ts → WordsRise from to ws
 rise_in bytes [] [] is_done from to ts e r = end_reached from to ts r
 rise_in bytes (w ∷ ws) [] h from to ts e r = elim h [ ]
 rise_in bytes ws (v ∷ vs) (is_left_out h) from to [] e r = cc
@@ -63,5 +74,7 @@ rise_in bytes (w ∷ ws) (v ∷ vs) (is_kept h) from to (t ∷ ts) e r =
     place_of_first [] = 0
     place_of_first (w ∷ ws) = w.0
 
-pub words_stand : (bytes : List ℕ) (tokens : List Token) (d : Document) → IsDocumentOf bytes tokens d → AreInOrder 0 (length bytes) tokens → WordsRise 0 (length bytes) (words (view d))
-words_stand bytes tokens d is r = rise_in bytes (words (view d)) (spelled (terminals bytes tokens)) (words_kept grammar bodies_keep is.0 document_keeps) 0 (length bytes) tokens refl r
+pub words_stand : (bytes : List ℕ) (tokens : List Token) (d : Document) → IsDocumentOf bytes tokens d → AreInOrder 0
+    (length bytes) tokens → WordsRise 0 (length bytes) (words (view d))
+words_stand bytes tokens d is r = rise_in bytes (words (view d)) (spelled (terminals bytes tokens))
+    (words_kept grammar bodies_keep is.0 document_keeps) 0 (length bytes) tokens refl r

@@ -8,7 +8,8 @@ ghost use Rattle.ebnf.specs.Reader.{begins};
 ghost use Rattle.unity_syntax.specs.Classes.{number_class, reserved};
 ghost use Rattle.unity_syntax.specs.Kinds.{Kind, kind};
 ghost use Rattle.unity_syntax.specs.Grammar.{made, program_, proof_, part_, schedule_, certificates_, document_};
-ghost use Rattle.unity_syntax.specs.View.{view, view_certificates, view_list, view_number, view_option, view_part, view_schedule};
+ghost use Rattle.unity_syntax.specs.View.{view, view_certificates, view_list, view_number, view_option, view_part};
+ghost use Rattle.unity_syntax.specs.View.{view_schedule};
 ghost use Rattle.token_cursor.specs.Gives.{Reads, remaining};
 
 use case_tables::Word;

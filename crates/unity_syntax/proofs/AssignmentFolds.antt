@@ -1,6 +1,7 @@
 -- Two folds of every component and of every assignment are related where each layer is.
 use Rattle.std.proofs.Common.{◌≡◌, List, [], ◌∷◌, map, refl, sym, subst, ap, ◌∙◌}
-use Rattle.unity_syntax.specs.declared.statement.Component.{Component, roll-Component, ind-Component, fold-Component, fold-roll-Component}
+use Rattle.unity_syntax.specs.declared.statement.Component.{Component, roll-Component, ind-Component, fold-Component}
+use Rattle.unity_syntax.specs.declared.statement.Component.{fold-roll-Component}
 use Rattle.unity_syntax.specs.declared.statement.Component.TheOpen.{Component-F, Assign-F}
 use Rattle.unity_syntax.specs.declared.statement.Component.TheFolds.{map-Component, map-Assign}
 use Rattle.unity_syntax.specs.declared.statement.Assign.{Assign, roll-Assign, ind-Assign, fold-Assign, fold-roll-Assign}

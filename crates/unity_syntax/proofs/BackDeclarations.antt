@@ -2,14 +2,17 @@
 use Rattle.std.proofs.Common.{ℕ, Bool, [], ◌∷◌, refl, ap}
 use Rattle.ebnf.specs.Ebnf.{Tree}
 use Rattle.unity_syntax.specs.Kinds.{Kind}
-use Rattle.unity_syntax.specs.View.{view_name, view_plain, view_var_type, view_var, view_def, view_with_minus, view_init_value, view_init}
+use Rattle.unity_syntax.specs.View.{view_name, view_plain, view_var_type, view_var, view_def, view_with_minus}
+use Rattle.unity_syntax.specs.View.{view_init_value, view_init}
 use Rattle.unity_syntax.specs.declared.declaration.Plain.{Plain}
 use Rattle.unity_syntax.specs.declared.declaration.VarType.{VarType}
 use Rattle.unity_syntax.specs.declared.declaration.Var.{Var}
 use Rattle.unity_syntax.specs.declared.declaration.Def.{Def}
 use Rattle.unity_syntax.specs.declared.declaration.InitValue.{InitValue}
 use Rattle.unity_syntax.specs.declared.declaration.Init.{Init}
-use Rattle.unity_syntax.proofs.BackParts.{both_same, place_in, kind_in, parts_in, first_in, second_in, name_of, number_of, flag_of, option_of, list_of, IsBack, flag_back, option_back, list_back, by_kind}
+use Rattle.unity_syntax.proofs.BackParts.{both_same, place_in, kind_in, parts_in, first_in, second_in, name_of}
+use Rattle.unity_syntax.proofs.BackParts.{number_of, flag_of, option_of, list_of, IsBack, flag_back, option_back}
+use Rattle.unity_syntax.proofs.BackParts.{list_back, by_kind}
 use Rattle.unity_syntax.proofs.BackExpressions.{name_back, range_of, range_back, expr_of, expr_back}
 
 abbrev pub plain_of : Tree → Plain

@@ -2,7 +2,10 @@
 use Rattle.std.proofs.Common.{◌≡◌, List, [], ◌∷◌, Option, refl, sym, ap, ◌∙◌}
 use Rattle.ebnf.specs.Ebnf.{Tree, unit, nil, more}
 use Rattle.unity_syntax.specs.Kinds.{Kind}
-use Rattle.unity_syntax.specs.View.{view_list, view_some, view_var, view_def, view_init, view_initially, view_program, view_inst, view_ref, view_param, view_claim, view_rule, view_step, view_proof, view_pair, view_node, view_certificate, view_certificates, view_schedule, view_part, view}
+use Rattle.unity_syntax.specs.View.{view_list, view_some, view_var, view_def, view_init, view_initially, view_program}
+use Rattle.unity_syntax.specs.View.{view_inst, view_ref, view_param, view_claim, view_rule, view_step, view_proof}
+use Rattle.unity_syntax.specs.View.{view_pair, view_node, view_certificate, view_certificates, view_schedule, view_part}
+use Rattle.unity_syntax.specs.View.{view}
 use Rattle.unity_syntax.specs.declared.declaration.Var.{Var}
 use Rattle.unity_syntax.specs.declared.declaration.Def.{Def}
 use Rattle.unity_syntax.specs.declared.program.Initially.{Initially}
@@ -19,7 +22,10 @@ use Rattle.unity_syntax.specs.declared.certificate.Certificates.{Certificates}
 use Rattle.unity_syntax.specs.declared.document.Schedule.{Schedule}
 use Rattle.unity_syntax.specs.declared.document.Part.{Part}
 use Rattle.unity_syntax.specs.declared.document.Document.{Document}
-use Rattle.unity_syntax.proofs.BackParts.{both_same, three_same, word_of_class, word_back, place_in, kind_in, parts_in, first_in, second_in, class_in, name_of, number_of, flag_of, option_of, list_of, some_of, IsBack, flag_back, option_back, list_back, some_back, by_kind}
+use Rattle.unity_syntax.proofs.BackParts.{both_same, three_same, word_of_class, word_back, place_in, kind_in, parts_in}
+use Rattle.unity_syntax.proofs.BackParts.{first_in, second_in, class_in, name_of, number_of, flag_of, option_of}
+use Rattle.unity_syntax.proofs.BackParts.{list_of, some_of, IsBack, flag_back, option_back, list_back, some_back}
+use Rattle.unity_syntax.proofs.BackParts.{by_kind}
 use Rattle.unity_syntax.proofs.BackExpressions.{range_of, range_back, expr_of, expr_back}
 use Rattle.unity_syntax.proofs.BackDeclarations.{var_of, var_back, def_of, def_back, init_of, init_back}
 use Rattle.unity_syntax.proofs.BackStatements.{items_of, items_back}

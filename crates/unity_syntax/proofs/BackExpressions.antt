@@ -4,13 +4,18 @@ use Rattle.case_tables.specs.declared.symbol_table.Symbol.{Symbol}
 use Rattle.ebnf.specs.Ebnf.{Tree}
 use Rattle.ebnf.specs.Lists.{list}
 use Rattle.unity_syntax.specs.Kinds.{Kind}
-use Rattle.unity_syntax.specs.View.{view_list, view_signed, view_name, view_number, view_end, view_range, tree_itself, view_expr_step, view_expr}
+use Rattle.unity_syntax.specs.View.{view_list, view_signed, view_name, view_number, view_end, view_range, tree_itself}
+use Rattle.unity_syntax.specs.View.{view_expr_step, view_expr}
 use Rattle.unity_syntax.specs.declared.name.End.{End}
 use Rattle.unity_syntax.specs.declared.name.Range.{Range}
 use Rattle.unity_syntax.specs.declared.expression.Expr.{Expr, roll-Expr, ind-Expr, fold-roll-Expr}
 use Rattle.unity_syntax.specs.declared.expression.Expr.TheOpen.{Expr-F}
 use Rattle.unity_syntax.specs.declared.expression.Expr.TheFolds.{map-Expr}
-use Rattle.unity_syntax.proofs.BackParts.{both_same, three_same, word_of_class, symbol_of_class, word_back, symbol_back, place_in, kind_in, parts_in, first_in, second_in, class_in, name_of, number_of, flag_of, option_of, signed_of, IsBack, flag_back, option_back, signed_back, by_kind, Known, known, known_value, known_first, known_second, known_option, known_list, known_signed}
+use Rattle.unity_syntax.proofs.BackParts.{both_same, three_same, word_of_class, symbol_of_class, word_back, symbol_back}
+use Rattle.unity_syntax.proofs.BackParts.{place_in, kind_in, parts_in, first_in, second_in, class_in, name_of}
+use Rattle.unity_syntax.proofs.BackParts.{number_of, flag_of, option_of, signed_of, IsBack, flag_back, option_back}
+use Rattle.unity_syntax.proofs.BackParts.{signed_back, by_kind, Known, known, known_value, known_first, known_second}
+use Rattle.unity_syntax.proofs.BackParts.{known_option, known_list, known_signed}
 
 pub name_back : IsBack view_name name_of
 name_back n = refl

@@ -1,5 +1,6 @@
 -- Reading the parts of a tree back: tokens, options and repetitions, and the nodes of a type that holds itself.
-use Rattle.std.proofs.Common.{◌≡◌, ℕ, zero, suc, ◌-◌, Bool, true, false, ◌==◌, if◌then◌else◌, List, [], ◌∷◌, Option, None, Some, refl, ap, ◌∙◌}
+use Rattle.std.proofs.Common.{◌≡◌, ℕ, zero, suc, ◌-◌, Bool, true, false, ◌==◌, if◌then◌else◌, List, [], ◌∷◌, Option}
+use Rattle.std.proofs.Common.{None, Some, refl, ap, ◌∙◌}
 use Rattle.case_tables.specs.declared.word_table.Word.{Word}
 use Rattle.case_tables.specs.declared.word_table.Word.TheVariants.{Unity}
 use Rattle.case_tables.specs.declared.symbol_table.Symbol.{Symbol}

@@ -3,7 +3,9 @@ use Rattle.std.proofs.Common.{◌≡◌, ℕ, List, [], ◌∷◌, map, refl, ap
 use Rattle.ebnf.specs.Ebnf.{Tree, unit}
 use Rattle.ebnf.specs.Lists.{list}
 use Rattle.unity_syntax.specs.Kinds.{Kind}
-use Rattle.unity_syntax.specs.View.{view_expr, view_target, view_values, view_choice, view_choices, view_alts, view_component_step, view_assign_step, view_component, view_assign, view_item_step, view_items_step, view_item, view_items}
+use Rattle.unity_syntax.specs.View.{view_expr, view_target, view_values, view_choice, view_choices, view_alts}
+use Rattle.unity_syntax.specs.View.{view_component_step, view_assign_step, view_component, view_assign, view_item_step}
+use Rattle.unity_syntax.specs.View.{view_items_step, view_item, view_items}
 use Rattle.unity_syntax.specs.declared.expression.Expr.{Expr}
 use Rattle.unity_syntax.specs.declared.statement.Target.{Target}
 use Rattle.unity_syntax.specs.declared.statement.Values.{Values}
@@ -16,7 +18,9 @@ use Rattle.unity_syntax.specs.declared.statement.Item.{Item, roll-Item, fold-rol
 use Rattle.unity_syntax.specs.declared.statement.Items.{Items, roll-Items, ind-Items, fold-roll-Items}
 use Rattle.unity_syntax.specs.declared.statement.Item.TheOpen.{Item-F, Items-F}
 use Rattle.unity_syntax.specs.declared.statement.Item.TheFolds.{map-Item, map-Items}
-use Rattle.unity_syntax.proofs.BackParts.{both_same, three_same, place_in, parts_in, first_in, second_in, name_of, option_of, list_of, IsBack, option_back, list_back, by_kind, Known, known, known_value, known_first, known_second, known_list}
+use Rattle.unity_syntax.proofs.BackParts.{both_same, three_same, place_in, parts_in, first_in, second_in, name_of}
+use Rattle.unity_syntax.proofs.BackParts.{option_of, list_of, IsBack, option_back, list_back, by_kind, Known, known}
+use Rattle.unity_syntax.proofs.BackParts.{known_value, known_first, known_second, known_list}
 use Rattle.unity_syntax.proofs.BackExpressions.{range_of, range_back, expr_of, expr_back}
 
 abbrev pub target_of : Tree → Target

@@ -10,7 +10,9 @@ use Rattle.unity_syntax.specs.declared.term.Ref.{Ref}
 use Rattle.unity_syntax.specs.declared.term.Term.{Term, roll-Term, ind-Term, fold-roll-Term}
 use Rattle.unity_syntax.specs.declared.term.Term.TheOpen.{Term-F}
 use Rattle.unity_syntax.specs.declared.term.Term.TheFolds.{map-Term}
-use Rattle.unity_syntax.proofs.BackParts.{both_same, three_same, word_of_class, word_back, place_in, parts_in, first_in, second_in, class_in, name_of, option_of, some_of, IsBack, option_back, some_back, by_kind, Known, known, known_value, known_first, known_second}
+use Rattle.unity_syntax.proofs.BackParts.{both_same, three_same, word_of_class, word_back, place_in, parts_in, first_in}
+use Rattle.unity_syntax.proofs.BackParts.{second_in, class_in, name_of, option_of, some_of, IsBack, option_back}
+use Rattle.unity_syntax.proofs.BackParts.{some_back, by_kind, Known, known, known_value, known_first, known_second}
 use Rattle.unity_syntax.proofs.BackExpressions.{name_back, end_of, end_back, range_of, range_back, expr_of, expr_back}
 
 abbrev pub inst_of : Tree → Inst

@@ -1,13 +1,27 @@
 -- Each tree of a production is the view of a typed tree.
-use Rattle.std.proofs.Common.{ℕ, zero, suc, Bool, true, false, ◌⊎◌, inl, inr, List, [], ◌∷◌, Option, None, Some, refl, ap}
+use Rattle.std.proofs.Common.{ℕ, zero, suc, Bool, true, false, ◌⊎◌, inl, inr, List, [], ◌∷◌, Option, None, Some, refl}
+use Rattle.std.proofs.Common.{ap}
 use Rattle.case_tables.specs.declared.word_table.Word.{Word}
 use Rattle.case_tables.specs.declared.symbol_table.Symbol.{Symbol}
 use Rattle.case_tables.specs.declared.symbol_table.Symbol.TheVariants.{Below as below}
 use Rattle.ebnf.specs.Ebnf.{Terminal, Tree, pair, right, more, node, Ebnf, Derives, both, many, prefix_tree, repeated}
 use Rattle.unity_syntax.specs.Classes.{reserved, symbol}
 use Rattle.unity_syntax.specs.Kinds.{Kind, kind, Contents}
-use Rattle.unity_syntax.specs.Grammar.{make_parentheses, make_product, make_sum, make_compare, make_unit, make_joined, make_pred, make_weaken, name_, number_, minus_, plus_or_minus_, relation_, choice_, over_range, in_brackets, in_parentheses, past, made, subtrees, at_number, bodies, grammar, end_, range_, atom_, product_, sum_, compare_, unit_, joined_, pred_, parentheses_, values_, alts_, target_, comp_, assign_, item_, items_, init_value_, init_, def_, plain_, var_type_, var_, program_, ends_, ref_, inst_, other_term_, term_, rule_, claim_, param_, params_, step_, proof_, multiple_, node_, certificate_, certificates_, schedule_, part_, document_}
-use Rattle.unity_syntax.specs.View.{view_flag, view_option, view_list, view_some, view_signed, view_name, view_number, view_end, view_range, view_expr, view_plain, view_var_type, view_var, view_def, view_with_minus, view_init_value, view_init, view_target, view_values, view_choice, view_choices, view_alts, view_component, view_assign, view_item, view_items, view_initially, view_program, view_inst, view_ref, view_term, view_param, view_claim, view_rule, view_step, view_proof, view_pair, view_node, view_certificate, view_certificates, view_schedule, view_part, view}
+use Rattle.unity_syntax.specs.Grammar.{make_parentheses, make_product, make_sum, make_compare, make_unit, make_joined}
+use Rattle.unity_syntax.specs.Grammar.{make_pred, make_weaken, name_, number_, minus_, plus_or_minus_, relation_}
+use Rattle.unity_syntax.specs.Grammar.{choice_, over_range, in_brackets, in_parentheses, past, made, subtrees}
+use Rattle.unity_syntax.specs.Grammar.{at_number, bodies, grammar, end_, range_, atom_, product_, sum_, compare_, unit_}
+use Rattle.unity_syntax.specs.Grammar.{joined_, pred_, parentheses_, values_, alts_, target_, comp_, assign_, item_}
+use Rattle.unity_syntax.specs.Grammar.{items_, init_value_, init_, def_, plain_, var_type_, var_, program_, ends_, ref_}
+use Rattle.unity_syntax.specs.Grammar.{inst_, other_term_, term_, rule_, claim_, param_, params_, step_, proof_}
+use Rattle.unity_syntax.specs.Grammar.{multiple_, node_, certificate_, certificates_, schedule_, part_, document_}
+use Rattle.unity_syntax.specs.View.{view_flag, view_option, view_list, view_some, view_signed, view_name, view_number}
+use Rattle.unity_syntax.specs.View.{view_end, view_range, view_expr, view_plain, view_var_type, view_var, view_def}
+use Rattle.unity_syntax.specs.View.{view_with_minus, view_init_value, view_init, view_target, view_values, view_choice}
+use Rattle.unity_syntax.specs.View.{view_choices, view_alts, view_component, view_assign, view_item, view_items}
+use Rattle.unity_syntax.specs.View.{view_initially, view_program, view_inst, view_ref, view_term, view_param}
+use Rattle.unity_syntax.specs.View.{view_claim, view_rule, view_step, view_proof, view_pair, view_node}
+use Rattle.unity_syntax.specs.View.{view_certificate, view_certificates, view_schedule, view_part, view}
 use Rattle.unity_syntax.specs.declared.name.Name.{Name}
 use Rattle.unity_syntax.specs.declared.name.End.{End}
 use Rattle.unity_syntax.specs.declared.name.Range.{Range}
@@ -30,8 +44,13 @@ use Rattle.unity_syntax.specs.declared.term.Term.TheVariants as term
 use Rattle.unity_syntax.proofs.Productions.{all_productions}
 use Rattle.unity_syntax.proofs.ViewEquations as eq
 use Rattle.unity_syntax.proofs.Made.{made as made_so}
-use Rattle.unity_syntax.proofs.Viewed.{IsView, seen, seen_by, view_both, view_either, view_over, view_quantified, view_weaken, Viewed, all_contents, contents_at, viewed}
-use Rattle.unity_syntax.proofs.Every.{Every, every_view, every_fixed, every_name, every_number, every_version, every_one_of, every_both, every_named, every_made, every_past, every_up_to, every_either, every_or, every_flag, every_maybe, every_many, every_both_views, every_either_views, every_one_or_more, every_inside, view_nodes, every_prefix_tree, every_numbered}
+use Rattle.unity_syntax.proofs.Viewed.{IsView, seen, seen_by, view_both, view_either, view_over, view_quantified}
+use Rattle.unity_syntax.proofs.Viewed.{view_weaken, Viewed, all_contents, contents_at, viewed}
+use Rattle.unity_syntax.proofs.Every.{Every, every_view, every_fixed, every_name, every_number, every_version}
+use Rattle.unity_syntax.proofs.Every.{every_one_of, every_both, every_named, every_made, every_past, every_up_to}
+use Rattle.unity_syntax.proofs.Every.{every_either, every_or, every_flag, every_maybe, every_many, every_both_views}
+use Rattle.unity_syntax.proofs.Every.{every_either_views, every_one_or_more, every_inside, view_nodes}
+use Rattle.unity_syntax.proofs.Every.{every_prefix_tree, every_numbered}
 
 name_every : Every name_ (IsView view_name)
 name_every = every_name λ n. seen n

@@ -1,6 +1,10 @@
 -- What trees of a form look like, where it is known of what stands in brackets: each derived tree is made so.
 use Rattle.std.proofs.Common.{◌≡◌, ℕ, zero, suc, ◌⊎◌, inl, inr, List, [], ◌∷◌, IsTrue, refl, ap, ◌∙◌}
-use Rattle.ebnf.specs.Ebnf.{Terminal, Tree, unit, numeral, pair, left, right, none, some, more, node, Ebnf, token, valued, version, both, either, maybe, many, numbered, prefix_trees, named, inside, Grammar, has, Derives, is_token, is_valued, is_version, is_both, is_left, is_right, is_none, is_some, is_nil, is_more, is_no_number, is_next_number, is_no_tree, is_next_node, is_named, is_inside}
+use Rattle.ebnf.specs.Ebnf.{Terminal, Tree, unit, numeral, pair, left, right, none, some, more, node, Ebnf, token}
+use Rattle.ebnf.specs.Ebnf.{valued, version, both, either, maybe, many, numbered, prefix_trees, named, inside, Grammar}
+use Rattle.ebnf.specs.Ebnf.{has, Derives, is_token, is_valued, is_version, is_both, is_left, is_right, is_none, is_some}
+use Rattle.ebnf.specs.Ebnf.{is_nil, is_more, is_no_number, is_next_number, is_no_tree, is_next_node, is_named}
+use Rattle.ebnf.specs.Ebnf.{is_inside}
 use Rattle.ebnf.specs.Lists.{list}
 
 -- each tree of a list is made so

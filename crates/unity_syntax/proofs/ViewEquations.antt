@@ -5,28 +5,42 @@ use Rattle.case_tables.specs.declared.symbol_table.Symbol.{Symbol}
 use Rattle.ebnf.specs.Ebnf.{Tree, unit, numeral, choice, pair, more, node}
 use Rattle.unity_syntax.specs.Classes.{reserved, symbol}
 use Rattle.unity_syntax.specs.Kinds.{Kind, kind}
-use Rattle.unity_syntax.specs.View.{view_flag, view_option, view_list, view_signed, view_name, view_range, view_expr_step, view_expr, tree_itself, view_target, view_alts, view_component_step, view_assign_step, view_component, view_assign, view_item_step, view_items_step, view_item, view_items, view_ref, view_term_step, view_term}
+use Rattle.unity_syntax.specs.View.{view_flag, view_option, view_list, view_signed, view_name, view_range}
+use Rattle.unity_syntax.specs.View.{view_expr_step, view_expr, tree_itself, view_target, view_alts, view_component_step}
+use Rattle.unity_syntax.specs.View.{view_assign_step, view_component, view_assign, view_item_step, view_items_step}
+use Rattle.unity_syntax.specs.View.{view_item, view_items, view_ref, view_term_step, view_term}
 use Rattle.unity_syntax.specs.declared.name.Name.{Name}
 use Rattle.unity_syntax.specs.declared.name.Range.{Range}
 use Rattle.unity_syntax.specs.declared.expression.Expr.{Expr, roll-Expr, fold-roll-Expr}
-use Rattle.unity_syntax.specs.declared.expression.Expr.TheVariants.{Implies, And, Or, Not, Compare, Sum, Product, Number, True, False, Word as word, Brackets, Quantified, rolls-Implies, rolls-And, rolls-Or, rolls-Not, rolls-Compare, rolls-Sum, rolls-Product, rolls-Number, rolls-True, rolls-False, rolls-Word, rolls-Brackets, rolls-Quantified}
+use Rattle.unity_syntax.specs.declared.expression.Expr.TheVariants.{Implies, And, Or, Not, Compare, Sum, Product}
+use Rattle.unity_syntax.specs.declared.expression.Expr.TheVariants.{Number, True, False, Word as word, Brackets}
+use Rattle.unity_syntax.specs.declared.expression.Expr.TheVariants.{Quantified, rolls-Implies, rolls-And, rolls-Or}
+use Rattle.unity_syntax.specs.declared.expression.Expr.TheVariants.{rolls-Not, rolls-Compare, rolls-Sum, rolls-Product}
+use Rattle.unity_syntax.specs.declared.expression.Expr.TheVariants.{rolls-Number, rolls-True, rolls-False, rolls-Word}
+use Rattle.unity_syntax.specs.declared.expression.Expr.TheVariants.{rolls-Brackets, rolls-Quantified}
 use Rattle.unity_syntax.specs.declared.expression.Expr.TheOpen.{Expr-F}
 use Rattle.unity_syntax.specs.declared.expression.Expr.TheFolds.{map-Expr}
 use Rattle.unity_syntax.specs.declared.statement.Target.{Target}
 use Rattle.unity_syntax.specs.declared.statement.Alts.{Alts}
 use Rattle.unity_syntax.specs.declared.statement.Component.{Component, roll-Component, fold-roll-Component}
-use Rattle.unity_syntax.specs.declared.statement.Component.TheVariants.{Set, Quantified as quantified_component, rolls-Set, rolls-Quantified as rolls-quantified_component}
+use Rattle.unity_syntax.specs.declared.statement.Component.TheVariants.{Set, Quantified as quantified_component}
+use Rattle.unity_syntax.specs.declared.statement.Component.TheVariants.{rolls-Set}
+use Rattle.unity_syntax.specs.declared.statement.Component.TheVariants.{rolls-Quantified as rolls-quantified_component}
 use Rattle.unity_syntax.specs.declared.statement.Assign.{Assign, roll-Assign, fold-roll-Assign}
 use Rattle.unity_syntax.specs.declared.statement.Component.TheOpen.{Component-F}
 use Rattle.unity_syntax.specs.declared.statement.Component.TheFolds.{map-Component}
 use Rattle.unity_syntax.specs.declared.statement.Item.{Item, roll-Item, fold-roll-Item}
-use Rattle.unity_syntax.specs.declared.statement.Item.TheVariants.{Statement, Quantified as quantified_item, rolls-Statement, rolls-Quantified as rolls-quantified_item}
+use Rattle.unity_syntax.specs.declared.statement.Item.TheVariants.{Statement, Quantified as quantified_item}
+use Rattle.unity_syntax.specs.declared.statement.Item.TheVariants.{rolls-Statement}
+use Rattle.unity_syntax.specs.declared.statement.Item.TheVariants.{rolls-Quantified as rolls-quantified_item}
 use Rattle.unity_syntax.specs.declared.statement.Items.{Items, roll-Items, fold-roll-Items}
 use Rattle.unity_syntax.specs.declared.statement.Item.TheOpen.{Item-F}
 use Rattle.unity_syntax.specs.declared.statement.Item.TheFolds.{map-Item}
 use Rattle.unity_syntax.specs.declared.term.Ref.{Ref}
 use Rattle.unity_syntax.specs.declared.term.Term.{Term, roll-Term, fold-roll-Term}
-use Rattle.unity_syntax.specs.declared.term.Term.TheVariants.{Imply, From, Pair, Exists, Induct, Psp, Weaken, rolls-Imply, rolls-From, rolls-Pair, rolls-Exists, rolls-Induct, rolls-Psp, rolls-Weaken}
+use Rattle.unity_syntax.specs.declared.term.Term.TheVariants.{Imply, From, Pair, Exists, Induct, Psp, Weaken}
+use Rattle.unity_syntax.specs.declared.term.Term.TheVariants.{rolls-Imply, rolls-From, rolls-Pair, rolls-Exists}
+use Rattle.unity_syntax.specs.declared.term.Term.TheVariants.{rolls-Induct, rolls-Psp, rolls-Weaken}
 use Rattle.unity_syntax.specs.declared.term.Term.TheOpen.{Term-F}
 use Rattle.unity_syntax.specs.declared.term.Term.TheFolds.{map-Term}
 

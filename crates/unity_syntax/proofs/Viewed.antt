@@ -4,7 +4,8 @@ use Rattle.case_tables.specs.declared.word_table.Word.{Word}
 use Rattle.ebnf.specs.Ebnf.{Tree, choice, pair, left, right}
 use Rattle.unity_syntax.specs.Classes.{reserved}
 use Rattle.unity_syntax.specs.Kinds.{Contents}
-use Rattle.unity_syntax.specs.View.{view_some, view_name, view_end, view_range, view_expr, view_with_minus, view_assign, view_items, view_ref, view_term, view_param}
+use Rattle.unity_syntax.specs.View.{view_some, view_name, view_end, view_range, view_expr, view_with_minus, view_assign}
+use Rattle.unity_syntax.specs.View.{view_items, view_ref, view_term, view_param}
 use Rattle.unity_syntax.specs.declared.name.Name.{Name}
 use Rattle.unity_syntax.specs.declared.name.Range.{Range}
 use Rattle.unity_syntax.specs.declared.expression.Expr.{Expr}

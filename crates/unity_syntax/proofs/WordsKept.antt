@@ -3,7 +3,13 @@ use Rattle.std.proofs.Common.{ℕ, zero, suc, List, [], ◌∷◌}
 use Rattle.ebnf.specs.Ebnf.{Terminal, Tree, pair, left, right, none, some, nil, Ebnf}
 use Rattle.ebnf.specs.Words.{words, spelled, IsSublist, is_done, is_left_out, is_kept, KeepsWords}
 use Rattle.ebnf.proofs.WordOrder.{none_kept, all_kept, kept_first, kept_second, keeps_repeated}
-use Rattle.unity_syntax.specs.Grammar.{second, first, chosen, make_parentheses, make_product, make_sum, make_compare, make_unit, make_joined, make_pred, make_program, make_weaken, and_, or_, at_number, bodies, grammar, end_, range_, atom_, product_, sum_, compare_, unit_, joined_, pred_, parentheses_, values_, alts_, target_, comp_, assign_, item_, items_, init_, def_, plain_, var_, plain_program_, program_, ref_, inst_, other_term_, term_, rule_, claim_, param_, step_, proof_, multiple_, node_, certificates_, schedule_, document_}
+use Rattle.unity_syntax.specs.Grammar.{second, first, chosen, make_parentheses, make_product, make_sum, make_compare}
+use Rattle.unity_syntax.specs.Grammar.{make_unit, make_joined, make_pred, make_program, make_weaken, and_, or_}
+use Rattle.unity_syntax.specs.Grammar.{at_number, bodies, grammar, end_, range_, atom_, product_, sum_, compare_, unit_}
+use Rattle.unity_syntax.specs.Grammar.{joined_, pred_, parentheses_, values_, alts_, target_, comp_, assign_, item_}
+use Rattle.unity_syntax.specs.Grammar.{items_, init_, def_, plain_, var_, plain_program_, program_, ref_, inst_}
+use Rattle.unity_syntax.specs.Grammar.{other_term_, term_, rule_, claim_, param_, step_, proof_, multiple_, node_}
+use Rattle.unity_syntax.specs.Grammar.{certificates_, schedule_, document_}
 use Rattle.unity_syntax.proofs.Productions.{all_productions}
 
 -- what an action does with words

@@ -1,4 +1,5 @@
-use Rattle.execution_laws.proofs.AlikeTheorems.{source_alike, alike_back, kept_alike, runs_alike, defined_alike, invariant_alike, unless_alike, ensures_alike, leads_alike}
+use Rattle.execution_laws.proofs.AlikeTheorems.{source_alike, alike_back, kept_alike, runs_alike, defined_alike}
+use Rattle.execution_laws.proofs.AlikeTheorems.{invariant_alike, unless_alike, ensures_alike, leads_alike}
 use Rattle.execution_laws.proofs.alike_laws.Goals as goal
 
 pub returns-clause-source : goal.returns-clause-source

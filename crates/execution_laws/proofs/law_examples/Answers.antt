@@ -1,4 +1,5 @@
-use Rattle.execution_laws.proofs.ExampleTrials.{counter_is_safe, counter_helped, counter_arrives, union_of_two, counters_alike}
+use Rattle.execution_laws.proofs.ExampleTrials.{counter_is_safe, counter_helped, counter_arrives, union_of_two}
+use Rattle.execution_laws.proofs.ExampleTrials.{counters_alike}
 use Rattle.execution_laws.proofs.law_examples.Goals as goal
 
 pub returns-clause-safe : goal.returns-clause-safe

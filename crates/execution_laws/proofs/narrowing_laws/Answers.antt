@@ -1,4 +1,5 @@
-use Rattle.execution_laws.proofs.StandingTheorems.{defined_narrows, invariant_narrows, unless_narrows, ensures_narrows, leads_narrows}
+use Rattle.execution_laws.proofs.StandingTheorems.{defined_narrows, invariant_narrows, unless_narrows, ensures_narrows}
+use Rattle.execution_laws.proofs.StandingTheorems.{leads_narrows}
 use Rattle.execution_laws.proofs.narrowing_laws.Goals as goal
 
 pub returns-clause-defined : goal.returns-clause-defined

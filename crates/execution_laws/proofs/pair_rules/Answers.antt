@@ -1,4 +1,6 @@
-use Rattle.execution_laws.proofs.PairTheorems.{conjunction_rule, conjunction_ensured, simple_conjunction, disjunction_rule, simple_disjunction, cancellation_rule, weaker_unless, weaker_ensures}
+use Rattle.execution_laws.proofs.PairTheorems.{conjunction_rule, conjunction_ensured, simple_conjunction}
+use Rattle.execution_laws.proofs.PairTheorems.{disjunction_rule, simple_disjunction, cancellation_rule, weaker_unless}
+use Rattle.execution_laws.proofs.PairTheorems.{weaker_ensures}
 use Rattle.execution_laws.proofs.pair_rules.Goals as goal
 
 pub returns-clause-conjunction : goal.returns-clause-conjunction

@@ -1,4 +1,5 @@
-use Rattle.execution_laws.proofs.ProgressTheorems.{leads_on, either_leads, any_leads, progress_with_safety, leads_weaker, leads_by_induction}
+use Rattle.execution_laws.proofs.ProgressTheorems.{leads_on, either_leads, any_leads, progress_with_safety}
+use Rattle.execution_laws.proofs.ProgressTheorems.{leads_weaker, leads_by_induction}
 use Rattle.execution_laws.proofs.progress_laws.Goals as goal
 
 pub returns-clause-trans : goal.returns-clause-trans

@@ -1,4 +1,5 @@
-use Rattle.execution_laws.proofs.StandingTheorems.{invariant_both, defined_holds, invariant_holds, unless_holds, ensures_holds, leads_holds}
+use Rattle.execution_laws.proofs.StandingTheorems.{invariant_both, defined_holds, invariant_holds, unless_holds}
+use Rattle.execution_laws.proofs.StandingTheorems.{ensures_holds, leads_holds}
 use Rattle.execution_laws.proofs.standing_laws.Goals as goal
 
 pub returns-clause-both : goal.returns-clause-both

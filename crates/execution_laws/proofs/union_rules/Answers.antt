@@ -1,4 +1,5 @@
-use Rattle.execution_laws.proofs.UnionTheorems.{union_is_together, union_defined, union_unless, union_invariant, union_invariant_second, union_ensures, union_ensures_second}
+use Rattle.execution_laws.proofs.UnionTheorems.{union_is_together, union_defined, union_unless, union_invariant}
+use Rattle.execution_laws.proofs.UnionTheorems.{union_invariant_second, union_ensures, union_ensures_second}
 use Rattle.execution_laws.proofs.union_rules.Goals as goal
 
 pub returns-clause-together : goal.returns-clause-together

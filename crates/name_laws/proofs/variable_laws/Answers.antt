@@ -1,4 +1,5 @@
-use Rattle.name_laws.proofs.Mirrored.{mirrored_by_documents, mirrored_by_variables, mirrored_by_definitions, variables_stay, plain_slot, variable_found}
+use Rattle.name_laws.proofs.Mirrored.{mirrored_by_documents, mirrored_by_variables, mirrored_by_definitions}
+use Rattle.name_laws.proofs.Mirrored.{variables_stay, plain_slot, variable_found}
 use Rattle.name_laws.proofs.variable_laws.Goals as goal
 
 pub returns-clause-documents : goal.returns-clause-documents

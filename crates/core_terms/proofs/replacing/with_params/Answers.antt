@@ -8,4 +8,5 @@ put_form-requires-clause-weight c = omega (arith, form_scaled c.args.f.now, c.re
 
 pub returns-clause-meaning : goal.returns-clause-meaning
 returns-clause-meaning c state params =
-    ap (form_value state params) (c.into_inner.ensures ∙ c.in_ok-put_form.ensures.tree) ∙ form_at_value state params c.args.args.now c.args.f.now
+    ap (form_value state params) (c.into_inner.ensures ∙ c.in_ok-put_form.ensures.tree) ∙ form_at_value state params
+    c.args.args.now c.args.f.now

@@ -68,19 +68,22 @@ abbrev pub decreases-index : goal.decreases-index
 decreases-index l = 32 * l.depth + 2
 
 abbrev pub invariant-more_units-items : goal.invariant-more_units-items
-invariant-more_units-items l = Items view_expr (joined_unit_ l.by) l.depth (remaining l.fn.text) l.found (remaining l.rest)
+invariant-more_units-items l = Items view_expr (joined_unit_ l.by) l.depth (remaining l.fn.text) l.found
+    (remaining l.rest)
 
 abbrev pub decreases-more_units-items : goal.decreases-more_units-items
 decreases-more_units-items l = count (remaining l.rest)
 
 abbrev pub invariant-more_products-items : goal.invariant-more_products-items
-invariant-more_products-items l = Items (view_signed view_expr) (both plus_or_minus_ product_) l.depth (remaining l.fn.text) l.found (remaining l.rest)
+invariant-more_products-items l = Items (view_signed view_expr) (both plus_or_minus_ product_) l.depth
+    (remaining l.fn.text) l.found (remaining l.rest)
 
 abbrev pub decreases-more_products-items : goal.decreases-more_products-items
 decreases-more_products-items l = count (remaining l.rest)
 
 abbrev pub invariant-more_factors-items : goal.invariant-more_factors-items
-invariant-more_factors-items l = Items view_expr (past (symbol Symbol.Times) atom_) l.depth (remaining l.fn.text) l.found (remaining l.rest)
+invariant-more_factors-items l = Items view_expr (past (symbol Symbol.Times) atom_) l.depth (remaining l.fn.text)
+    l.found (remaining l.rest)
 
 abbrev pub decreases-more_factors-items : goal.decreases-more_factors-items
 decreases-more_factors-items l = count (remaining l.rest)

@@ -7,4 +7,5 @@ use Rattle.expression_parser.proofs.nodes.product.Goals as goal
 pub returns-in-len1-up : goal.returns-in-len1-up
 returns-in-len1-up c =
     let h : 0 < length c.args.rest = rw (← c.as_slice.ensures) (omega arith) in
-    IfOk-weaker c.long_product.result _ _ (λ x e. e ∙ sym (long_product c.args.at (view_expr c.args.first) c.args.rest h)) c.long_product.ensures
+    IfOk-weaker c.long_product.result _ _ (λ x e. e ∙ sym (long_product c.args.at (view_expr c.args.first) c.args.rest
+    h)) c.long_product.ensures

@@ -8,7 +8,8 @@ use Rattle.token_cursor.proofs.Repetition.{Items}
 use Rattle.proof_parser.proofs.steps.more_references.Given as goal
 
 abbrev pub invariant-items : goal.invariant-items
-invariant-items l = Items view_ref (past (symbol Symbol.Comma) ref_) l.depth (remaining l.fn.text) l.found (remaining l.rest)
+invariant-items l = Items view_ref (past (symbol Symbol.Comma) ref_) l.depth (remaining l.fn.text) l.found
+    (remaining l.rest)
 
 abbrev pub decreases-items : goal.decreases-items
 decreases-items l = count (remaining l.rest)

@@ -8,7 +8,8 @@ use Rattle.token_cursor.proofs.Repetition.{Items}
 use Rattle.statement_parser.proofs.declarations.more_inits.Given as goal
 
 abbrev pub invariant-items : goal.invariant-items
-invariant-items l = Items view_init (past (symbol Symbol.Comma) init_) l.depth (remaining l.fn.text) l.found (remaining l.rest)
+invariant-items l = Items view_init (past (symbol Symbol.Comma) init_) l.depth (remaining l.fn.text) l.found
+    (remaining l.rest)
 
 abbrev pub decreases-items : goal.decreases-items
 decreases-items l = count (remaining l.rest)

@@ -27,7 +27,8 @@ abbrev pub decreases-quantified_component : goal.decreases-quantified_component
 decreases-quantified_component l = 32 * l.depth + 6
 
 abbrev pub invariant-more_components-items : goal.invariant-more_components-items
-invariant-more_components-items l = Items view_component (past (symbol Symbol.Parallel) comp_) l.depth (remaining l.fn.text) l.found (remaining l.rest)
+invariant-more_components-items l = Items view_component (past (symbol Symbol.Parallel) comp_) l.depth
+    (remaining l.fn.text) l.found (remaining l.rest)
 
 abbrev pub decreases-more_components-items : goal.decreases-more_components-items
 decreases-more_components-items l = count (remaining l.rest)

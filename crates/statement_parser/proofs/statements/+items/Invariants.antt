@@ -27,7 +27,8 @@ abbrev pub decreases-quantified_item : goal.decreases-quantified_item
 decreases-quantified_item l = 32 * l.depth + 6
 
 abbrev pub invariant-more_items-items : goal.invariant-more_items-items
-invariant-more_items-items l = Items view_item (past (symbol Symbol.Box) item_) l.depth (remaining l.fn.text) l.found (remaining l.rest)
+invariant-more_items-items l = Items view_item (past (symbol Symbol.Box) item_) l.depth (remaining l.fn.text) l.found
+    (remaining l.rest)
 
 abbrev pub decreases-more_items-items : goal.decreases-more_items-items
 decreases-more_items-items l = count (remaining l.rest)

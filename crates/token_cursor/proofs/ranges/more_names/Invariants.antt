@@ -8,7 +8,8 @@ use Rattle.token_cursor.proofs.Repetition.{Items}
 use Rattle.token_cursor.proofs.ranges.more_names.Given as goal
 
 abbrev pub invariant-items : goal.invariant-items
-invariant-items l = Items view_name (past (symbol Symbol.Comma) name_) l.depth (remaining l.fn.text) l.found (remaining l.rest)
+invariant-items l = Items view_name (past (symbol Symbol.Comma) name_) l.depth (remaining l.fn.text) l.found
+    (remaining l.rest)
 
 abbrev pub decreases-items : goal.decreases-items
 decreases-items l = count (remaining l.rest)

@@ -10,4 +10,5 @@ returns-in_ok-judge-in-Ok-clause-verdict g c = record {
 }
 
 pub returns-in-Err-TooLong-clause-verdict : goal.returns-in-Err-TooLong-clause-verdict
-returns-in-Err-TooLong-clause-verdict g c = longer _ (c.in-Err-TooLong.ensures.too_long (ap Err c.in-Err-TooLong.field-0-is))
+returns-in-Err-TooLong-clause-verdict g c = longer _ (c.in-Err-TooLong.ensures.too_long
+    (ap Err c.in-Err-TooLong.field-0-is))

@@ -9,5 +9,6 @@ returns-then-branch c =
 
 pub returns-else-branch : goal.returns-else-branch
 returns-else-branch c = λ follows.
-    let holds : IsTrue c.in_ok-follows.field-0 = c.in_ok-follows.ensures.1 (subst Follows (sym c.get.ensures) follows) in
+    let holds : IsTrue c.in_ok-follows.field-0 = c.in_ok-follows.ensures.1 (subst Follows (sym c.get.ensures) follows)
+    in
     cc

@@ -12,5 +12,6 @@ returns-in_default c =
 pub returns-else-is_well_formed : goal.returns-else-is_well_formed
 returns-else-is_well_formed c =
     let some : small_of c.args.document.now ≡ Some c.in-Some.found = search rules in
-    let not : IsWellFormed c.in-Some.found → ⊥ = λ formed. let holds : IsTrue c.is_well_formed.result = c.is_well_formed.ensures.1 formed in cc in
+    let not : IsWellFormed c.in-Some.found → ⊥ = λ formed. let holds : IsTrue c.is_well_formed.result =
+    c.is_well_formed.ensures.1 formed in cc in
     not_formed _ _ c.requires.document _ some not

@@ -9,7 +9,8 @@ returns-then-is_number c =
     let digits = c.digits-len.result in
     let told = c.digits-len.ensures in
     let opened = opens_from is_ascii_digit text c.requires.some c.requires.digit in
-    number_begins text digits.0 digits.1 opened told.len told.value (number_test text digits.0 digits.1 opened told.len told.value ∙ sym c.is_number.ensures ∙ c.if-is_number.true)
+    number_begins text digits.0 digits.1 opened told.len told.value
+    (number_test text digits.0 digits.1 opened told.len told.value ∙ sym c.is_number.ensures ∙ c.if-is_number.true)
 
 pub returns-else-is_number : goal.returns-else-is_number
 returns-else-is_number c =
@@ -17,4 +18,5 @@ returns-else-is_number c =
     let digits = c.digits-len.result in
     let told = c.digits-len.ensures in
     let opened = opens_from is_ascii_digit text c.requires.some c.requires.digit in
-    number_fails text digits.0 opened told.len (number_test text digits.0 digits.1 opened told.len told.value ∙ sym c.is_number.ensures ∙ c.if-is_number.false)
+    number_fails text digits.0 opened told.len (number_test text digits.0 digits.1 opened told.len told.value ∙ sym
+    c.is_number.ensures ∙ c.if-is_number.false)

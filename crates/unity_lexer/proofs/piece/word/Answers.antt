@@ -22,4 +22,8 @@ returns-in-None c =
     let text = c.args.text.now in
     subst (λ n. BeginsWith text (Token kind.Word n)) (sym c.word_len-len.ensures)
     (word_begins text kind.Word (opens_from is_ascii_alphabetic text c.requires.some c.requires.letter)
-    (λ made. (made, λ named. c.in-None.ensures (subst (λ n. HasName word_rows (take n text)) (sym c.word_len-len.ensures) named))))
+    (λ made. (
+      made,
+      λ named. c.in-None.ensures (subst (λ n. HasName word_rows (take n text))
+          (sym c.word_len-len.ensures) named),
+    )))

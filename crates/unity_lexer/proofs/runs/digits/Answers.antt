@@ -20,5 +20,13 @@ loop-len-preserved c = record {
       let b = get_or c.args.text.now i 0 in
       let within : i < length c.args.text.now = grind (arith, common_steps) in
       let is_digit : is_ascii_digit b ≡ true = search (rules, c.if-is_ascii_digit.ensures) in
-      omega (arith, c.saturating_add-value.ensures, c.saturating_mul.ensures, c.from.ensures, digits_value_more 10 c.args.text.now i within, digit-value b is_digit);
+      omega (
+        arith,
+        c.saturating_add-value.ensures,
+        c.saturating_mul.ensures,
+        c.from.ensures,
+        digits_value_more 10
+            c.args.text.now i within,
+        digit-value b is_digit,
+      );
 }

@@ -1,4 +1,5 @@
-use Rattle.unity_meaning.proofs.ExecutionTheorems.{prefix_is_execution, each_is_a_step, every_state_in_range, defined_runs}
+use Rattle.unity_meaning.proofs.ExecutionTheorems.{prefix_is_execution, each_is_a_step, every_state_in_range}
+use Rattle.unity_meaning.proofs.ExecutionTheorems.{defined_runs}
 use Rattle.unity_meaning.proofs.laws.execution_laws.Goals as goal
 
 pub returns-clause-prefix : goal.returns-clause-prefix
