@@ -85,6 +85,9 @@ expect_blanks 67108864 "bad 3 Unexpected byte 67108864"
 expect_blanks 67108865 "bad 5 TooLong"
 expect_place and_or_mixed 4 27
 expect_place comparison_of_three 12 25
+holds=0
+bash scripts/editors.sh --check || holds=1
+count_one "$holds" "the files in editors/"
 for allocation in 1 2 3; do
     expect_refused "$allocation" keeps_the_list_where_insert_is_refused
 done
