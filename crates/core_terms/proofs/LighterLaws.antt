@@ -26,11 +26,11 @@ module _ (slots params : ℕ → ℕ) where
   abbrev V : CForm → ℕ
   V f = form_weight slots params f
 
-  weights-Add : (a b : CTerm) → W (Add a b) ≡ sum_weights (W a) (W b)
+  pub weights-Add : (a b : CTerm) → W (Add a b) ≡ sum_weights (W a) (W b)
   weights-Add a b = ap W (sym (rolls-Add a b)) ∙ fold-roll-CTerm ℕ Weights weigh_form (weigh_term slots params)
       (CTerm-F.Add a b)
 
-  weights-Sub : (a b : CTerm) → W (Sub a b) ≡ sum_weights (W a) (W b)
+  pub weights-Sub : (a b : CTerm) → W (Sub a b) ≡ sum_weights (W a) (W b)
   weights-Sub a b = ap W (sym (rolls-Sub a b)) ∙ fold-roll-CTerm ℕ Weights weigh_form (weigh_term slots params)
       (CTerm-F.Sub a b)
 
@@ -69,7 +69,7 @@ module _ (slots params : ℕ → ℕ) where
       let f = subst (λ x. Lighter (W (sum_term a b)) x) (weights-Add a b) (folded_lighter slots params (Add a b)) in
       (omega (arith, f.0, h.0, k.0), omega (arith, f.1, h.0, h.1, k.0, k.1))
 
-  difference_lighter : (a b : CTerm) (v w : Weights) → Lighter (W a) v → Lighter (W b) w → Lighter
+  pub difference_lighter : (a b : CTerm) (v w : Weights) → Lighter (W a) v → Lighter (W b) w → Lighter
       (W (difference_term a b)) (sum_weights v w)
   difference_lighter a b v w h k =
       let f = subst (λ x. Lighter (W (difference_term a b)) x) (weights-Sub a b) (folded_lighter slots params (Sub a b))
@@ -84,7 +84,7 @@ module _ (slots params : ℕ → ℕ) where
       let more : unsigned_abs k * (W a).own ≤ unsigned_abs k * v.own = mul-le-mul_left (unsigned_abs k) h.0 in
       (omega (arith, f.0, more), omega (arith, f.1, more, h.1))
 
-  branch_lighter : (c : CForm) (a b : CTerm) (n : ℕ) (v w : Weights) (m : Option Bool) → V c ≤ n → Lighter (W a) v →
+  pub branch_lighter : (c : CForm) (a b : CTerm) (n : ℕ) (v w : Weights) (m : Option Bool) → V c ≤ n → Lighter (W a) v →
       Lighter (W b) w →
       Lighter (W (branch_or m a b (Ite c a b))) (choice_weights n v w)
   branch_lighter c a b n v w None g h k =
@@ -93,23 +93,23 @@ module _ (slots params : ℕ → ℕ) where
   branch_lighter c a b n v w (Some true) g h k = (omega (arith, h.0), omega (arith, h.1))
   branch_lighter c a b n v w (Some false) g h k = (omega (arith, k.0), omega (arith, k.1))
 
-  choice_lighter : (c : CForm) (a b : CTerm) (n : ℕ) (v w : Weights) → V c ≤ n → Lighter (W a) v → Lighter (W b) w →
+  pub choice_lighter : (c : CForm) (a b : CTerm) (n : ℕ) (v w : Weights) → V c ≤ n → Lighter (W a) v → Lighter (W b) w →
       Lighter (W (choice_term c a b)) (choice_weights n v w)
   choice_lighter c a b n v w g h k = branch_lighter c a b n v w (truth_of c) g h k
 
-  at_least_lighter : (t : CTerm) (n : ℕ) → (W t).most ≤ n → V (at_least_form t) ≤ n
+  pub at_least_lighter : (t : CTerm) (n : ℕ) → (W t).most ≤ n → V (at_least_form t) ≤ n
   at_least_lighter t n h = omega (arith, folded_form_lighter slots params (AtLeast t), weight-AtLeast t, h)
 
-  zero_lighter : (t : CTerm) (n : ℕ) → (W t).most ≤ n → V (zero_form t) ≤ n
+  pub zero_lighter : (t : CTerm) (n : ℕ) → (W t).most ≤ n → V (zero_form t) ≤ n
   zero_lighter t n h = omega (arith, folded_form_lighter slots params (Zero t), weight-Zero t, h)
 
-  not_lighter : (f : CForm) (n : ℕ) → V f ≤ n → V (not_form f) ≤ n
+  pub not_lighter : (f : CForm) (n : ℕ) → V f ≤ n → V (not_form f) ≤ n
   not_lighter f n h = omega (arith, folded_form_lighter slots params (Not f), weight-Not f, h)
 
-  and_lighter : (f g : CForm) (m n : ℕ) → V f ≤ m → V g ≤ n → V (and_form f g) ≤ max m n
+  pub and_lighter : (f g : CForm) (m n : ℕ) → V f ≤ m → V g ≤ n → V (and_form f g) ≤ max m n
   and_lighter f g m n h k = omega (arith, folded_form_lighter slots params (And f g), weight-And f g, h, k)
 
-  or_lighter : (f g : CForm) (m n : ℕ) → V f ≤ m → V g ≤ n → V (or_form f g) ≤ max m n
+  pub or_lighter : (f g : CForm) (m n : ℕ) → V f ≤ m → V g ≤ n → V (or_form f g) ≤ max m n
   or_lighter f g m n h k = omega (arith, folded_form_lighter slots params (Or f g), weight-Or f g, h, k)
 
 module _ (slots params after numbers : ℕ → ℕ) (terms names : ℕ → CTerm)

@@ -9,10 +9,11 @@ use crate::trees::{CForm, CTerm};
 use std::alloc::{AllocError, Global};
 use unity_base::Held;
 
-// The value of a term that has no slot and no parameter. The last part is looked at first, since it
-// mostly tells that there is none. Nodes have functions of their own, so that the frames are small.
+/// The value of a term that has no slot and no parameter; `None` where one is named.
+// The last part is looked at first, since it mostly tells that there is none. Nodes have functions of
+// their own, so that the frames are small.
 #[cycle(known)]
-fn number_of(t: &CTerm) -> Option<i128>
+pub fn number_of(t: &CTerm) -> Option<i128>
     requires { (plain_weights t.now).most ≤ 2 ^ 126 }
     ensures value { result ≡ fold.number_of t.now }
     ensures bound { MatchOption result (Unit {0}) (λ z. unsigned_abs z ≤ (plain_weights t.now).own) }
@@ -75,9 +76,9 @@ fn known_choice(c: &Held<CForm>, a: &Held<CTerm>, b: &Held<CTerm>) -> Option<i12
     Some(if truth_of(c.get())? { first } else { second })
 }
 
-// The truth of a formula that has no slot and no parameter.
+/// The truth of a formula that has no slot and no parameter; `None` where one is named.
 #[cycle(known)]
-fn truth_of(f: &CForm) -> Option<bool>
+pub fn truth_of(f: &CForm) -> Option<bool>
     requires { plain_weight f.now ≤ 2 ^ 126 }
     ensures { result ≡ fold.truth_of f.now }
 {

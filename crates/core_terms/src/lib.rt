@@ -21,7 +21,8 @@ pub use equality::{same, same_term};
 pub use evaluation::{holds, value};
 pub use folding::{
     and_form, at_least_form, choice_term, difference_term, folded_form, folded_term, not_form,
-    or_form, placed_choice, placed_form, placed_term, scaled_term, sum_term, zero_form,
+    number_of, or_form, placed_choice, placed_form, placed_term, scaled_term, sum_term, truth_of,
+    zero_form,
 };
 pub use joining::{copy_forms, copy_statement, join_programs};
 pub use known::{

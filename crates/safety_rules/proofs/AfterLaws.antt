@@ -1,5 +1,6 @@
 -- A formula after a write: it holds exactly where the formula itself holds in the state after the write.
-use Rattle.std.proofs.Common.{◌≡◌, ℕ, ◌<◌, ℤ, [], ◌∷◌, length, Bool, true, false, cond, Some, nat_eq, refl, sym, ap, ◌∙◌}
+use Rattle.std.proofs.Common.{◌≡◌, ℕ, ◌<◌, ℤ, [], ◌∷◌, length, Bool, true, false, cond, Some, nat_eq, refl, sym, ap}
+use Rattle.std.proofs.Common.{◌∙◌}
 use Rattle.small_documents.specs.Step.{State, written}
 use Rattle.core_terms.specs.declared.trees.CTerm.TheVariants.{Slot, Param}
 use Rattle.core_terms.specs.declared.trees.CForm.{CForm}

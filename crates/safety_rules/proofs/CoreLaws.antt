@@ -1,5 +1,6 @@
 -- The core of an expression or a comparison means what it means, and weighs little.
-use Rattle.std.proofs.Common.{◌≡◌, ℕ, ◌+◌, ◌*◌, ◌≤◌, ℤ, pos, ◌+ℤ◌, ◌-ℤ◌, [], Option, Some, None, sym, ap, ◌∙◌, subst, arith}
+use Rattle.std.proofs.Common.{◌≡◌, ℕ, ◌+◌, ◌*◌, ◌≤◌, ℤ, pos, ◌+ℤ◌, ◌-ℤ◌, [], Option, Some, None, sym, ap, ◌∙◌, subst}
+use Rattle.std.proofs.Common.{arith}
 use Rattle.std.specs.Int.RustNames.{int_le}
 use Rattle.small_documents.specs.declared.tree.Operand.{Operand}
 use Rattle.small_documents.specs.declared.tree.Expression.{Expression}
@@ -17,7 +18,8 @@ use Rattle.core_terms.specs.Folding.{difference_term}
 use Rattle.safety_rules.specs.CoreOf.{operand_term, with_second, term_of, related_form, form_of, TermMeans, FormMeans}
 use Rattle.core_terms.proofs.PartLaws.{value-Const, value-Slot}
 use Rattle.core_terms.proofs.WeightLaws.{weights-Const}
-use Rattle.safety_rules.proofs.WeightLaws.{Within, weights-Slot, sum_within, difference_within, at_least_within, zero_within}
+use Rattle.safety_rules.proofs.WeightLaws.{Within, weights-Slot, sum_within, difference_within, at_least_within}
+use Rattle.safety_rules.proofs.WeightLaws.{zero_within}
 use Rattle.safety_rules.proofs.IntTests.{zero_tests, least_tests, below_tests}
 use Rattle.core_terms.proofs.FoldingLaws.{value-sum_term, value-difference_term, value-at_least_form, value-zero_form}
 

@@ -1,5 +1,7 @@
 -- What follows is safe: from certificates to executions.
-use Rattle.std.proofs.Common.{◌≡◌, ◌≤◌, ◌^◌, ◌<◌, ◌+◌, ℕ, zero, suc, Bool, true, false, List, [], ◌∷◌, map, IsTrue, All, refl, sym, ap, subst, lit<, nat_eq, Result, Ok, Err, IfOk, length, arith, take, drop, ◌-◌, take_all, get_or}
+use Rattle.std.proofs.Common.{◌≡◌, ◌≤◌, ◌^◌, ◌<◌, ◌+◌, ℕ, zero, suc, Bool, true, false, List, [], ◌∷◌, map, IsTrue, All}
+use Rattle.std.proofs.Common.{refl, sym, ap, subst, lit<, nat_eq, Result, Ok, Err, IfOk, length, arith, take, drop, ◌-◌}
+use Rattle.std.proofs.Common.{take_all, get_or}
 use Rattle.std.specs.declared.alloc.AllocError.{AllocError}
 use Rattle.std.specs.Prelude.{◌↔◌, ◌&&◌}
 use Rattle.std.specs.List.{list_all}
@@ -12,16 +14,17 @@ use Rattle.small_documents.specs.Step.{State, is_state}
 use Rattle.small_documents.specs.Meaning.{ranges_of}
 use Rattle.small_documents.specs.Conditions.{are_trees}
 use Rattle.core_terms.specs.declared.trees.CForm.{CForm}
-use Rattle.safety_rules.specs.declared.certificate_check.Node.{Node}
-use Rattle.safety_rules.specs.Load.{form_load}
-use Rattle.safety_rules.specs.Refutation.{Refuted, is_whole}
+use Rattle.obligations.specs.declared.certificates.Node.{Node}
+use Rattle.obligations.specs.Load.{form_load}
+use Rattle.certificate_check.specs.Trees.{Refuted, is_whole}
 use Rattle.safety_rules.specs.StartState.{starts}
 use Rattle.safety_rules.specs.StepForms.{slots_of, obligation_forms, defined_obligation, IsValid}
-use Rattle.safety_rules.specs.Variables.{are_in_ranges}
-use Rattle.safety_rules.specs.Follows.{node_of, obligation, AreRefuted, AreLight, AreWhole, Follows, AcceptedIsSafe, AcceptedRuns}
-use Rattle.safety_rules.proofs.RefutationLaws.{sound}
-use Rattle.safety_rules.proofs.WholeLaws.{refutes-walked}
-use Rattle.safety_rules.proofs.VariableLaws.{obligation-means}
+use Rattle.obligations.specs.Variables.{are_in_ranges}
+use Rattle.safety_rules.specs.Follows.{node_of, obligation, AreRefuted, AreLight, AreWhole, Follows, AcceptedIsSafe}
+use Rattle.safety_rules.specs.Follows.{AcceptedRuns}
+use Rattle.certificate_check.proofs.RefutationLaws.{sound}
+use Rattle.certificate_check.proofs.WholeLaws.{refutes-walked}
+use Rattle.obligations.proofs.VariableLaws.{obligation-means}
 use Rattle.safety_rules.proofs.RuleLaws.{sound_steps}
 use Rattle.safety_rules.proofs.StartLaws.{start_rule}
 

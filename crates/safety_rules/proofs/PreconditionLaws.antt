@@ -1,5 +1,6 @@
 -- `defined` and `wp` hold exactly where they should.
-use Rattle.std.proofs.Common.{◌≡◌, ℕ, ◌<◌, ◌≤◌, ℤ, pos, ◌-ℤ◌, List, [], ◌∷◌, length, Bool, true, false, cond, not, ◌&&◌, ◌||◌, Option, Some, None, slice_get, refl, sym, ap, ◌∙◌, arith}
+use Rattle.std.proofs.Common.{◌≡◌, ℕ, ◌<◌, ◌≤◌, ℤ, pos, ◌-ℤ◌, List, [], ◌∷◌, length, Bool, true, false, cond, not, ◌&&◌}
+use Rattle.std.proofs.Common.{◌||◌, Option, Some, None, slice_get, refl, sym, ap, ◌∙◌, arith}
 use Rattle.std.specs.Int.RustNames.{int_le}
 use Rattle.std.specs.Option.{option_map}
 use Rattle.small_documents.specs.declared.tree.Statement.{Statement}
@@ -15,9 +16,11 @@ use Rattle.core_terms.specs.Values.{term_value, form_value}
 use Rattle.core_terms.specs.Folding.{difference_term, at_least_form, not_form}
 use Rattle.core_terms.specs.Weights.{one_weight}
 use Rattle.safety_rules.specs.CoreOf.{term_of}
-use Rattle.safety_rules.specs.Precondition.{write_of, write_weight, within_form, inside_form, defined_form, form_after, wp_form, ranges, fired, meets, WriteMeans, IsDefinedness, IsPrecondition}
+use Rattle.safety_rules.specs.Precondition.{write_of, write_weight, within_form, inside_form, defined_form, form_after}
+use Rattle.safety_rules.specs.Precondition.{wp_form, ranges, fired, meets, WriteMeans, IsDefinedness, IsPrecondition}
 use Rattle.core_terms.proofs.PartLaws.{value-Const, value-Bottom}
-use Rattle.core_terms.proofs.FoldingLaws.{value-difference_term, value-at_least_form, value-not_form, value-and_form, value-or_form}
+use Rattle.core_terms.proofs.FoldingLaws.{value-difference_term, value-at_least_form, value-not_form, value-and_form}
+use Rattle.core_terms.proofs.FoldingLaws.{value-or_form}
 use Rattle.safety_rules.proofs.IntTests.{least_tests}
 use Rattle.safety_rules.proofs.CoreLaws.{term_means, form_means, term_of_within, form_of_small}
 use Rattle.safety_rules.proofs.StepLaws.{slot_within, length_of_state, range_at-ranges}

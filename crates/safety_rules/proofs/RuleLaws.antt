@@ -1,15 +1,18 @@
 -- Valid obligations make the claims true, by induction on executions.
-use Rattle.std.proofs.Common.{◌≡◌, ◌≢◌, ℕ, zero, suc, ℤ, List, [], ◌∷◌, Bool, true, false, cond, not, ◌&&◌, ◌||◌, Option, Some, None, nat_eq, slice_get, refl, sym, ap, ◌∙◌, subst, lit<}
+use Rattle.std.proofs.Common.{◌≡◌, ◌≢◌, ℕ, zero, suc, ℤ, List, [], ◌∷◌, Bool, true, false, cond, not, ◌&&◌, ◌||◌}
+use Rattle.std.proofs.Common.{Option, Some, None, nat_eq, slice_get, refl, sym, ap, ◌∙◌, subst, lit<}
 use Rattle.std.proofs.lemmas.Bool.{and_parts}
 use Rattle.small_documents.specs.declared.tree.SmallDocument.{SmallDocument}
 use Rattle.small_documents.specs.Step.{State, Ranges, in_range, range_at, is_state, put, step}
-use Rattle.small_documents.specs.Meaning.{comparison_holds, expression_value, ranges_of, statement_step, chosen_step, Steps, Everywhere}
+use Rattle.small_documents.specs.Meaning.{comparison_holds, expression_value, ranges_of, statement_step, chosen_step}
+use Rattle.small_documents.specs.Meaning.{Steps, Everywhere}
 use Rattle.core_terms.specs.declared.trees.CForm.{CForm}
 use Rattle.core_terms.specs.Values.{form_value}
 use Rattle.core_terms.specs.Folding.{not_form}
 use Rattle.safety_rules.specs.CoreOf.{form_of}
 use Rattle.safety_rules.specs.Precondition.{wp_form, write_step, meets}
-use Rattle.safety_rules.specs.StepForms.{slots_of, program_write, imply_form, defined_obligation, kept_obligation, IsValid, DefinedRule, RunRule, InvariantRule, SoundSteps}
+use Rattle.safety_rules.specs.StepForms.{slots_of, program_write, imply_form, defined_obligation, kept_obligation}
+use Rattle.safety_rules.specs.StepForms.{IsValid, DefinedRule, RunRule, InvariantRule, SoundSteps}
 use Rattle.core_terms.proofs.FoldingLaws.{value-not_form, value-or_form}
 use Rattle.safety_rules.proofs.CoreLaws.{form_means}
 use Rattle.safety_rules.proofs.StepLaws.{is_state-put}

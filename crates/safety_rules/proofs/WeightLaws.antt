@@ -5,11 +5,13 @@ use Rattle.std.specs.Int.RustNames.{unsigned_abs}
 use Rattle.core_terms.specs.declared.trees.CTerm.{CTerm, fold-roll-CTerm}
 use Rattle.core_terms.specs.declared.trees.CTerm.TheVariants.{Slot, Add, Sub, Scale, rolls-Slot, rolls-Add, rolls-Sub}
 use Rattle.core_terms.specs.declared.trees.CForm.{CForm, fold-roll-CForm}
-use Rattle.core_terms.specs.declared.trees.CForm.TheVariants.{AtLeast, Zero, Not, Or, rolls-AtLeast, rolls-Zero, rolls-Not, rolls-Or}
+use Rattle.core_terms.specs.declared.trees.CForm.TheVariants.{AtLeast, Zero, Not, Or, rolls-AtLeast, rolls-Zero}
+use Rattle.core_terms.specs.declared.trees.CForm.TheVariants.{rolls-Not, rolls-Or}
 use Rattle.core_terms.specs.declared.trees.CForm.TheOpen.{CTerm-F, CForm-F}
 use Rattle.core_terms.specs.declared.trees.Range.{Range}
 use Rattle.core_terms.specs.declared.programs.CWrite.{CWrite}
-use Rattle.core_terms.specs.Weights.{Weights, weighing, sum_weights, choice_weights, weigh_term, weigh_form, term_weights, form_weight, one_weight, plain_weights, plain_weight, range_weight}
+use Rattle.core_terms.specs.Weights.{Weights, weighing, sum_weights, choice_weights, weigh_term, weigh_form}
+use Rattle.core_terms.specs.Weights.{term_weights, form_weight, one_weight, plain_weights, plain_weight, range_weight}
 use Rattle.core_terms.specs.Folding.{sum_term, difference_term, at_least_form, zero_form}
 use Rattle.core_terms.proofs.WeightLaws.{own_within, folded_lighter, folded_form_lighter}
 use Rattle.core_terms.proofs.ReplacingLaws.{weights-Scale}

@@ -7,13 +7,13 @@ use Rattle.small_documents.specs.declared.tree.SmallDocument.{SmallDocument}
 use Rattle.small_documents.specs.Meaning.{is_initial, IsSafe, EveryChoiceRuns}
 use Rattle.small_documents.specs.Conditions.{are_trees, IsWellFormed}
 use Rattle.core_terms.specs.declared.trees.CForm.{CForm}
-use Rattle.safety_rules.specs.declared.obligations.Obligation.{Obligation}
-use Rattle.safety_rules.specs.declared.certificate_check.Node.{Node}
-use Rattle.safety_rules.specs.Load.{form_load}
-use Rattle.safety_rules.specs.Refutation.{Refuted}
+use Rattle.obligations.specs.declared.branches.Obligation.{Obligation}
+use Rattle.obligations.specs.declared.certificates.Node.{Node}
+use Rattle.obligations.specs.Load.{form_load}
+use Rattle.certificate_check.specs.Trees.{Refuted}
 use Rattle.safety_rules.specs.StartState.{start_state, starts}
 use Rattle.safety_rules.specs.StepForms.{slots_of, obligation_forms}
-use Rattle.safety_rules.specs.Variables.{obligation_of}
+use Rattle.obligations.specs.Variables.{obligation_of}
 
 abbrev pub signed : Bool → ℕ → ℤ
 signed false n = pos n

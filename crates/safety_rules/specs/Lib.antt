@@ -2,10 +2,4 @@ pub mod CoreOf
 pub mod Precondition
 pub mod StepForms
 pub mod StartState
-pub mod LinearForms
-pub mod Settling
-pub mod Load
-pub mod Opening
-pub mod Refutation
-pub mod Variables
 pub mod Follows

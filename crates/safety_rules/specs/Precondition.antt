@@ -1,5 +1,6 @@
 -- The write of a statement, where it is defined, and its weakest precondition.
-use Rattle.std.specs.Prelude.{◌≡◌, ℕ, ◌+◌, List, [], ◌∷◌, map, max, Bool, true, false, cond, Option, Some, None, nat_eq, IsTrue, slice_get}
+use Rattle.std.specs.Prelude.{◌≡◌, ℕ, ◌+◌, List, [], ◌∷◌, map, max, Bool, true, false, cond, Option, Some, None, nat_eq}
+use Rattle.std.specs.Prelude.{IsTrue, slice_get}
 use Rattle.small_documents.specs.declared.tree.Statement.{Statement}
 use Rattle.small_documents.specs.Step.{State, Ranges, Write, is_state, step}
 use Rattle.small_documents.specs.Meaning.{writes}
@@ -10,7 +11,8 @@ use Rattle.core_terms.specs.declared.trees.CForm.{CForm}
 use Rattle.core_terms.specs.declared.trees.CForm.TheVariants.{Bottom}
 use Rattle.core_terms.specs.declared.programs.CWrite.{CWrite}
 use Rattle.core_terms.specs.Values.{term_value, form_value}
-use Rattle.core_terms.specs.Weights.{Weights, term_weights, form_weight, one_weight, plain_weights, plain_weight, range_weight}
+use Rattle.core_terms.specs.Weights.{Weights, term_weights, form_weight, one_weight, plain_weights, plain_weight}
+use Rattle.core_terms.specs.Weights.{range_weight}
 use Rattle.core_terms.specs.Replacing.{term_with, form_with}
 use Rattle.core_terms.specs.Folding.{difference_term, choice_term, at_least_form, not_form, and_form, or_form}
 use Rattle.safety_rules.specs.CoreOf.{term_of, form_of}

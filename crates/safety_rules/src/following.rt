@@ -2,15 +2,15 @@
 ghost use Rattle.std.specs.Prelude.{◌≡◌, ◌↔◌, ◌≤◌, ◌^◌, map, true, IfOk, IsTrue};
 ghost use Rattle.small_documents.specs.Limits.{IsSmall};
 ghost use Rattle.small_documents.specs.Conditions.{are_trees, IsWellFormed};
-ghost use Rattle.safety_rules.specs.Load.{form_load};
-ghost use Rattle.safety_rules.specs.Follows.{pair_of, node_of, obligation, IsRefuted, AreRefuted, IsCertified, AreLight, AreWhole, Follows, AcceptedIsSafe, AcceptedRuns};
+ghost use Rattle.obligations.specs.Load.{form_load};
+ghost use Rattle.safety_rules.specs.Follows.{pair_of, node_of, obligation, IsRefuted, AreRefuted, IsCertified};
+ghost use Rattle.safety_rules.specs.Follows.{AreLight, AreWhole, Follows, AcceptedIsSafe, AcceptedRuns};
 
-use crate::certificate_check::{Cert, CertError, Node, check_cert};
-use crate::obligations::Obligation;
-use crate::obligations::make::make;
 use crate::start_state::starts;
 use crate::step_rules::{obligation_forms, slot_range};
+use certificate_check::{CertError, check_cert};
 use core_terms::{CForm, held_form};
+use obligations::{Cert, Node, Obligation, with_variables};
 use small_documents::{self as written, Certificate, Pair, SmallDocument};
 use std::alloc::{AllocError, Global};
 use unity_base::{Held, Seq};
@@ -73,7 +73,7 @@ fn obligation_of(
 {
     let form = held_form(alloc, form)?;
     let slots = [slot_range(document)];
-    make(alloc, form, &slots, &[])
+    with_variables(alloc, form.into_inner(), &slots, &[])
 }
 
 /// Whether the certificate refutes the negation of the obligation that the formula is.

@@ -3,7 +3,7 @@ ghost use Rattle.std.specs.Prelude.{◌≡◌, ◌^◌, ◌≤◌, ◌∷◌, []
 ghost use Rattle.small_documents.specs.Limits.{IsSmall};
 ghost use Rattle.core_terms.specs.Weights.{plain_weight};
 ghost use Rattle.safety_rules.specs.CoreOf.{form_of};
-ghost use Rattle.safety_rules.specs.Load.{form_load};
+ghost use Rattle.obligations.specs.Load.{form_load};
 ghost use Rattle.safety_rules.specs.Precondition.{wp_form};
 ghost use Rattle.safety_rules.specs.StepForms as forms;
 ghost use Rattle.safety_rules.specs.StepForms.{DefinedRule, RunRule, InvariantRule, SoundSteps};

@@ -6,7 +6,8 @@ ghost use Rattle.core_terms.specs.declared.trees.CTerm.TheVariants.{Const};
 ghost use Rattle.core_terms.specs.Weights.{plain_weights, plain_weight, multiple_weights, range_weight};
 ghost use Rattle.core_terms.specs.Folding.{at_least_form, difference_term, scaled_term};
 ghost use Rattle.safety_rules.specs.Precondition as core;
-ghost use Rattle.safety_rules.specs.Precondition.{write_weight, defined_weight, weight_after, weights_after, WriteMeans, IsDefinedness, IsPrecondition};
+ghost use Rattle.safety_rules.specs.Precondition.{write_weight, defined_weight, weight_after, weights_after};
+ghost use Rattle.safety_rules.specs.Precondition.{WriteMeans, IsDefinedness, IsPrecondition};
 
 use crate::core_of::{comparison_form, expression_term};
 use core_terms::{

@@ -1,6 +1,7 @@
 use Rattle.std.proofs.Common.{◌<◌, length, arith, sym, subst, ◌∙◌}
 use Rattle.safety_rules.specs.Follows.{IsRefuted}
-use Rattle.safety_rules.proofs.FollowsLaws.{cut, is_zero, is_some, light-cut, whole-cut, length-cut, none-remaining, rest-decides}
+use Rattle.safety_rules.proofs.FollowsLaws.{cut, is_zero, is_some, light-cut, whole-cut, length-cut, none-remaining}
+use Rattle.safety_rules.proofs.FollowsLaws.{rest-decides}
 use Rattle.safety_rules.proofs.following.+are_refuted.Goals as goal
 
 pub are_refuted-requires : goal.are_refuted-requires

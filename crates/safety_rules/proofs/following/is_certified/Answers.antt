@@ -1,6 +1,6 @@
 use Rattle.std.proofs.Common.{◌∙◌, sym, subst, All, ◌≤◌, ◌^◌, IfOk, IsTrue}
 use Rattle.std.specs.Prelude.{◌↔◌}
-use Rattle.safety_rules.specs.Load.{form_load}
+use Rattle.obligations.specs.Load.{form_load}
 use Rattle.safety_rules.specs.Follows.{AreRefuted, AreWhole}
 use Rattle.safety_rules.proofs.FollowsLaws.{all-light, all-whole}
 use Rattle.safety_rules.proofs.following.is_certified.Goals as goal

@@ -1,5 +1,5 @@
 use Rattle.std.proofs.Common.{◌∙◌, ap}
-use Rattle.safety_rules.specs.Refutation.{is_whole}
+use Rattle.certificate_check.specs.Trees.{is_whole}
 use Rattle.safety_rules.specs.Follows.{node_of}
 use Rattle.safety_rules.proofs.FollowsLaws.{whole-same}
 use Rattle.std.specs.Prelude.{map}

@@ -1,5 +1,5 @@
 use Rattle.std.proofs.lemmas.Result.{IfOk-weaker}
-use Rattle.safety_rules.proofs.LoadWeights.{all_light}
+use Rattle.obligations.proofs.LoadWeights.{all_light}
 use Rattle.safety_rules.proofs.RuleLaws.{sound_steps}
 use Rattle.safety_rules.proofs.step_rules.obligation_forms.Goals as goal
 

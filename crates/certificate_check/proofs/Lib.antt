@@ -1,0 +1,4 @@
+pub mod MachineLaws
+pub mod RefutationLaws
+pub mod SumLaws
+pub mod WholeLaws

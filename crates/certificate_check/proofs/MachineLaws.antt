@@ -1,0 +1,289 @@
+-- Frames keep what is pending, and all that waits stays light.
+use Rattle.std.proofs.Common.{◌≡◌, ℕ, zero, suc, ◌+◌, ◌<◌, ◌≤◌, ◌^◌, pos, ◌+ℤ◌, Bool, true, false, ◌&&◌, Some, Ok, List}
+use Rattle.std.proofs.Common.{[], ◌∷◌, ◌++◌, length, take, reverse, slice_get, length-append, arith, refl, sym, ap, ◌∙◌}
+use Rattle.std.proofs.Common.{subst}
+use Rattle.std.specs.Prelude.{insert, remove}
+use Rattle.std.specs.List.{list_all}
+use Rattle.std.proofs.lemmas.Bool.{and_parts}
+use Rattle.std.proofs.lemmas.List.{take-append-le, reverse-append, length-take-le}
+use Rattle.std.proofs.lemmas.List.Folds.{list_all-append}
+use Rattle.std.proofs.lemmas.Int.{to_z-of_z}
+use Rattle.core_terms.specs.declared.trees.CForm.{CForm}
+use Rattle.obligations.specs.declared.branches.Fact.{Fact}
+use Rattle.obligations.specs.declared.branches.Branch.{Branch}
+use Rattle.obligations.specs.declared.branches.Variable.{Variable}
+use Rattle.obligations.specs.declared.branches.Obligation.{Obligation}
+use Rattle.obligations.specs.Load.{need, form_load, is_light, is_light_branch}
+use Rattle.obligations.specs.Opening.{at_least, ranges_only, first_branch}
+use Rattle.obligations.specs.Settling.{joined, settled, sides, without, added, outcome}
+use Rattle.obligations.proofs.LightLaws.{remove-light}
+use Rattle.obligations.proofs.NeedLaws.{settled-light, refused-light, need-within}
+use Rattle.certificate_check.specs.declared.machine.Todo.{Todo}
+use Rattle.certificate_check.specs.declared.machine.Frame.{Frame}
+use Rattle.certificate_check.specs.Refutation.{made_case, case_at, at_level}
+use Rattle.certificate_check.specs.Machines.{base_of, full_by, full_of, second_by, second_of, waiting_first, behind}
+use Rattle.certificate_check.specs.Machines.{place_fits, Fits, turned, step_by, is_light_todo, are_light}
+
+branch-same : (a b : Branch) → a.facts ≡ b.facts → a.waiting ≡ b.waiting → a ≡ b
+branch-same a b p q = ap (λ x. record { facts = x; waiting = a.waiting }) p ∙ ap
+    (λ x. record { facts = b.facts; waiting = x }) q
+
+-- cutting back undoes what was added
+pub base-joined : (f : Frame) (b x : Branch) → f.facts ≤ length b.facts → f.waits ≤ length b.waiting → base_of f
+    (joined b x) ≡ base_of f b
+base-joined f b x p q = branch-same _ _ (take-append-le f.facts b.facts x.facts p)
+    (take-append-le f.waits b.waiting x.waiting q)
+
+pub behind-joined : (vs : List Variable) (fs : List Frame) (b x : Branch) → Fits fs b → behind vs fs (joined b x) ≡
+    behind vs fs b
+behind-joined vs [] b x h = refl
+behind-joined vs (f ∷ fs) b x h =
+    ap (λ y. waiting_first f.first (record { level = suc f.level; branch = second_by vs f.todo y })
+    (behind vs fs (full_by f.todo y))) (base-joined f b x h.1 h.2)
+
+pub fits-joined : (fs : List Frame) (b x : Branch) → Fits fs b → Fits fs (joined b x)
+fits-joined [] b x h = tt
+fits-joined (f ∷ fs) b x h = (
+  h.0,
+  let l = length-append b.facts x.facts in let p = h.1 in omega (arith, l, p),
+  let l = length-append b.waiting x.waiting in let p = h.2 in omega (arith, l, p),
+  h.3,
+  subst (λ y. Fits fs (full_by f.todo y)) (sym (base-joined f b x h.1 h.2)) h.4,
+)
+
+-- a frame at the branch that it was made at
+pub base-whole : (f : Frame) (b : Branch) → f.facts ≡ length b.facts → f.waits ≡ length b.waiting → base_of f b ≡ b
+base-whole f b p q = branch-same _ _ (ap (λ n. take n b.facts) p ∙ take_all b.facts)
+    (ap (λ n. take n b.waiting) q ∙ take_all b.waiting)
+  where
+    take_all : {A : Type 0} (xs : List A) → take (length xs) xs ≡ xs
+    take_all [] = refl
+    take_all (x ∷ xs) = ap (λ ys. x ∷ ys) (take_all xs)
+
+pub insert-remove : (xs : List CForm) (k : ℕ) (x : CForm) → slice_get xs k ≡ Some x → insert (remove xs k) k x ≡ xs
+insert-remove [] k x e = cc
+insert-remove (y ∷ xs) zero x e = let s : y ≡ x = cc in ap (λ z. z ∷ xs) (sym s)
+insert-remove (y ∷ xs) (suc k) x e = ap (λ ys. y ∷ ys) (insert-remove xs k x e)
+
+-- cutting back twice
+pub base-base : (f : Frame) (b : Branch) → f.facts ≤ length b.facts → f.waits ≤ length b.waiting → base_of f
+    (base_of f b) ≡ base_of f b
+base-base f b p q = base-whole f (base_of f b) (sym (length-take-le f.facts b.facts p))
+    (sym (length-take-le f.waits b.waiting q))
+
+second-base : (vs : List Variable) (t : Todo) (f : Frame) (b : Branch) → f.facts ≤ length b.facts →
+    f.waits ≤ length b.waiting →
+    base_of f (second_by vs t (base_of f b)) ≡ base_of f b
+second-base vs (Todo.Case place form) f b p q =
+    base-joined f (base_of f b) (outcome vs (sides form).1).yes (omega (arith, length-take-le f.facts b.facts p))
+    (omega (arith, length-take-le f.waits b.waiting q)) ∙ base-base f b p q
+second-base vs (Todo.Split variable at) f b p q =
+    base-joined f (base_of f b) (record { facts = at_least variable (at +ℤ pos 1) ∷ []; waiting = [] })
+    (omega (arith, length-take-le f.facts b.facts p)) (omega (arith, length-take-le f.waits b.waiting q))
+    ∙ base-base f b p q
+
+second-long : (vs : List Variable) (t : Todo) (b : Branch) → (length b.facts ≤ length (second_by vs t b).facts) ×
+    (length b.waiting ≤ length (second_by vs t b).waiting)
+second-long vs (Todo.Case place form) b =
+    let l = length-append b.facts (outcome vs (sides form).1).yes.facts in let k =
+    length-append b.waiting (outcome vs (sides form).1).yes.waiting in (omega (arith, l), omega (arith, k))
+second-long vs (Todo.Split variable at) b =
+    let l = length-append b.facts (at_least variable (at +ℤ pos 1) ∷ []) in let k =
+    length-append b.waiting [] in (omega (arith, l), omega (arith, k))
+
+pub first-turns : (vs : List Variable) (f : Frame) (fs : List Frame) (b : Branch) → f.first ≡ true → Fits (f ∷ fs) b →
+    at_level (suc f.level) (second_of vs f b) ∷ behind vs (turned f ∷ fs) (second_of vs f b) ≡ behind vs (f ∷ fs) b
+first-turns vs f fs b e h =
+    ap (λ y. at_level (suc f.level) (second_of vs f b) ∷ behind vs fs (full_by f.todo y))
+    (second-base vs f.todo f b h.1 h.2)
+    ∙ ap (λ z. waiting_first z (at_level (suc f.level) (second_of vs f b)) (behind vs fs (full_of f b))) (sym e)
+
+pub turned-fits : (vs : List Variable) (f : Frame) (fs : List Frame) (b : Branch) → Fits (f ∷ fs) b → Fits
+    (turned f ∷ fs) (second_of vs f b)
+turned-fits vs f fs b h =
+    let l = second-long vs f.todo (base_of f b) in
+    let l0 = l.0 in let l1 = l.1 in
+    let p = length-take-le f.facts b.facts h.1 in
+    let q = length-take-le f.waits b.waiting h.2 in (
+      h.0,
+      omega (arith, l0, p),
+      omega (arith, l1, q),
+      h.3,
+      subst (λ y. Fits fs (full_by f.todo y))
+          (sym (second-base vs f.todo f b h.1 h.2)) h.4,
+    )
+
+pub second-ends : (vs : List Variable) (f : Frame) (fs : List Frame) (b : Branch) → f.first ≡ false → behind vs fs
+    (full_of f b) ≡ behind vs (f ∷ fs) b
+second-ends vs f fs b e = ap (λ z. waiting_first z (at_level (suc f.level) (second_of vs f b))
+    (behind vs fs (full_of f b))) (sym e)
+
+pub full-long : (f : Frame) (b : Branch) → f.facts ≤ length b.facts → f.waits ≤ length b.waiting →
+    place_fits f.todo f.waits → place_fits f.todo (length (base_of f b).waiting)
+full-long f b p q h = subst (place_fits f.todo) (sym (length-take-le f.waits b.waiting q)) h
+
+-- a new frame over the branch that it was made at
+pub over : (vs : List Variable) (f : Frame) (fs : List Frame) (b c x : Branch) → f.facts ≡ length c.facts →
+    f.waits ≡ length c.waiting → full_by f.todo c ≡ b → f.first ≡ true →
+    behind vs (f ∷ fs) (joined c x) ≡ at_level (suc f.level) (second_by vs f.todo c) ∷ behind vs fs b
+over vs f fs b c x p q e t =
+    let whole = base-joined f c x (omega (arith, p)) (omega (arith, q)) ∙ base-whole f c p q in
+    ap (λ y. waiting_first f.first (at_level (suc f.level) (second_by vs f.todo y))
+    (behind vs fs (full_by f.todo y))) whole
+    ∙ ap (λ z. waiting_first z (at_level (suc f.level) (second_by vs f.todo c)) (behind vs fs (full_by f.todo c))) t
+    ∙ ap (λ y. at_level (suc f.level) (second_by vs f.todo c) ∷ behind vs fs y) e
+
+pub over-fits : (f : Frame) (fs : List Frame) (b c x : Branch) → f.level ≤ 1024 → f.facts ≡ length c.facts →
+    f.waits ≡ length c.waiting → full_by f.todo c ≡ b → place_fits f.todo f.waits → Fits fs b →
+    Fits (f ∷ fs) (joined c x)
+over-fits f fs b c x l p q e t h =
+    let whole = base-joined f c x (omega (arith, p)) (omega (arith, q)) ∙ base-whole f c p q in
+    let m = length-append c.facts x.facts in let k = length-append c.waiting x.waiting in (
+      l,
+      omega (arith, m, p),
+      omega (arith, k, q),
+      t,
+      subst (λ y. Fits fs (full_by f.todo y)) (sym whole)
+          (subst (Fits fs) (sym e) h),
+    )
+
+pub reversed : {A : Type 0} (xs : List A) (x : A) → reverse (xs ++ x ∷ []) ≡ x ∷ reverse xs
+reversed xs x = reverse-append xs (x ∷ [])
+
+pub ruleset frame_laws = (first-turns, turned-fits, second-ends, full-long, reversed)
+
+-- the innermost frame, where the last of a list is it
+pub popped-fits : (fs old : List Frame) (f : Frame) (b : Branch) → old ≡ fs ++ f ∷ [] → Fits (reverse old) b → Fits
+    (f ∷ reverse fs) b
+popped-fits fs old f b e h = subst (λ x. Fits x b) (ap reverse e ∙ reversed fs f) h
+
+pub popped-behind : (vs : List Variable) (fs old : List Frame) (f : Frame) (b : Branch) → old ≡ fs ++ f ∷ [] →
+    behind vs (f ∷ reverse fs) b ≡ behind vs (reverse old) b
+popped-behind vs fs old f b e = ap (λ x. behind vs x b) (sym (ap reverse e ∙ reversed fs f))
+
+pub ruleset back_laws = (popped-fits, popped-behind)
+
+remove-length : {A : Type 0} (xs : List A) (k : ℕ) → k < length xs → k ≤ length (remove xs k)
+remove-length [] k h = omega arith
+remove-length (x ∷ xs) zero h = omega arith
+remove-length (x ∷ xs) (suc k) h = let ih = remove-length xs k (omega arith) in omega (arith, ih)
+
+abbrev pub case_frame : ℕ → ℕ → ℕ → ℕ → CForm → Frame
+case_frame level facts waits place form =
+    record { level = level; facts = facts; waits = waits; todo = Todo.Case place form; first = true }
+
+pub case-goes : (vs : List Variable) (level : ℕ) (b now : Branch) (k place facts waits : ℕ)
+    (frames more : List Frame) (form : CForm) →
+    k ≡ suc place → slice_get b.waiting place ≡ Some form → place < length b.waiting → level ≤ 1024 → Fits
+    (reverse frames) b →
+    facts ≡ length b.facts → waits ≡ length (remove b.waiting place) →
+    more ≡ frames ++ case_frame level facts waits place form ∷ [] → now ≡ settled vs (sides form).0 (without b place) →
+    (step_by level (behind vs (reverse frames) b) (case_at vs b k) ≡ Ok
+    (at_level (level + 1) now ∷ behind vs (reverse more) now)) × Fits (reverse more) now
+case-goes vs level b now k place facts waits frames more form ek taken inside low fits ef ew em en =
+    let full : full_by (Todo.Case place form) (without b place) ≡ b =
+    ap (λ w. record { facts = b.facts; waiting = w }) (insert-remove b.waiting place form taken) in
+    let f : Frame = case_frame level facts waits place form in
+    let turn : reverse more ≡ f ∷ reverse frames = ap reverse em ∙ reversed frames f in
+    let x : Branch = (outcome vs (sides form).0).yes in
+    let o = over vs f (reverse frames) b (without b place) x ef ew full refl in
+    let next : level + 1 ≡ suc level = omega arith in
+    let room : place ≤ waits = (let r = remove-length b.waiting place inside in omega (arith, r, ew)) in (
+      ap (λ z. step_by level (behind vs (reverse frames) b) (case_at vs b z)) ek
+          ∙ ap (λ z. step_by level (behind vs (reverse frames) b) (made_case vs b place z)) taken
+          ∙ ap (λ z. Ok (at_level (suc level) (settled vs (sides form).0 (without b place)) ∷ z)) (sym o)
+          ∙ ap (λ z. Ok (at_level z (settled vs (sides form).0 (without b place)) ∷ behind vs (f ∷ reverse frames)
+          (settled vs (sides form).0 (without b place)))) (sym next)
+          ∙ ap (λ z. Ok (at_level (level + 1) (settled vs (sides form).0 (without b place)) ∷ behind vs z
+          (settled vs (sides form).0 (without b place)))) (sym turn)
+          ∙ ap (λ z. Ok (at_level (level + 1) z ∷ behind vs (reverse more) z)) (sym en),
+      subst (Fits (reverse more)) (sym en) (subst (λ z. Fits z (settled vs (sides form).0 (without b place))) (sym turn)
+          (over-fits f (reverse frames) b (without b place) x low ef ew full room fits)),
+    )
+
+pub added-behind : (vs : List Variable) (fs : List Frame) (b new : Branch) (f : Fact) → new ≡ added b f →
+    Fits fs b → behind vs fs new ≡ behind vs fs b
+added-behind vs fs b new f e h = ap (behind vs fs) e ∙ behind-joined vs fs b (record { facts = f ∷ []; waiting = [] }) h
+
+pub added-fits : (fs : List Frame) (b new : Branch) (f : Fact) → new ≡ added b f → Fits fs b → Fits fs new
+added-fits fs b new f e h = subst (Fits fs) (sym e) (fits-joined fs b (record { facts = f ∷ []; waiting = [] }) h)
+
+pub ruleset round_laws = (added-behind, added-fits)
+
+pub ruleset trips = to_z-of_z
+
+-- Lightness.
+pub light-bound : (bound : ℕ) (f : CForm) → is_light bound f ≡ true → (need f).yes ≤ bound
+light-bound bound f h = grind arith
+
+take-all : {A : Type 0} (t : A → Bool) (n : ℕ) (xs : List A) → list_all t xs ≡ true → list_all t (take n xs) ≡ true
+take-all t zero xs h = refl
+take-all t (suc n) [] h = refl
+take-all t (suc n) (x ∷ xs) h =
+    let p = and_parts (t x) (list_all t xs) h in ap (λ z. z && list_all t (take n xs)) p.0 ∙ take-all t n xs p.1
+
+insert-all : {A : Type 0} (t : A → Bool) (xs : List A) (n : ℕ) (x : A) → list_all t xs ≡ true → t x ≡ true →
+    list_all t (insert xs n x) ≡ true
+insert-all t [] zero x h k = ap (λ z. z && true) k
+insert-all t [] (suc n) x h k = ap (λ z. z && true) k
+insert-all t (y ∷ ys) zero x h k = ap (λ z. z && list_all t (y ∷ ys)) k ∙ h
+insert-all t (y ∷ ys) (suc n) x h k =
+    let p = and_parts (t y) (list_all t ys) h in
+    ap (λ z. z && list_all t (insert ys n x)) p.0 ∙ insert-all t ys n x p.1 k
+
+pub get-all : {A : Type 0} (t : A → Bool) (xs : List A) (k : ℕ) (x : A) → slice_get xs k ≡ Some x →
+    list_all t xs ≡ true → t x ≡ true
+get-all t [] k f e h = cc
+get-all t (x ∷ xs) zero f e h = let s : x ≡ f = cc in ap t (sym s) ∙ (and_parts (t x) (list_all t xs) h).0
+get-all t (x ∷ xs) (suc k) f e h = get-all t xs k f e (and_parts (t x) (list_all t xs) h).1
+
+pub cut-light : (n : ℕ) (old new : List CForm) → new ≡ take n old → list_all (is_light (2 ^ 63)) old ≡ true →
+    list_all (is_light (2 ^ 63)) new ≡ true
+cut-light n old new e h = ap (list_all (is_light (2 ^ 63))) e ∙ take-all (is_light (2 ^ 63)) n old h
+
+pub ruleset cut_laws = cut-light
+
+pub insert-light : (n : ℕ) (f : CForm) (old new : List CForm) → new ≡ insert old n f → is_light (2 ^ 63) f ≡ true →
+    list_all (is_light (2 ^ 63)) old ≡ true → list_all (is_light (2 ^ 63)) new ≡ true
+insert-light n f old new e k h =
+    ap (list_all (is_light (2 ^ 63))) e ∙ insert-all (is_light (2 ^ 63)) old n f h k
+
+pub ruleset insert_laws = insert-light
+
+pub onto-light : (vs : List Variable) (f : CForm) (old new : Branch) → new ≡ settled vs f old →
+    (need f).yes ≤ 2 ^ 63 → is_light_branch (2 ^ 63) old ≡ true → is_light_branch (2 ^ 63) new ≡ true
+onto-light vs f old new e k h = ap (is_light_branch (2 ^ 63)) e ∙ settled-light vs (2 ^ 63) f old k h
+
+pub ruleset settled_laws = onto-light
+
+pub added-light : (f : Fact) (old new : Branch) → new ≡ added old f → is_light_branch (2 ^ 63) old ≡ true →
+    is_light_branch (2 ^ 63) new ≡ true
+added-light f old new e h =
+    ap (is_light_branch (2 ^ 63)) e ∙ list_all-append (is_light (2 ^ 63)) old.waiting [] ∙ ap (λ z. z && true) h
+
+pub ruleset added_laws = (added-light, light-bound)
+
+pub without-light : (k : ℕ) (old new : List CForm) → new ≡ remove old k → list_all (is_light (2 ^ 63)) old ≡ true →
+    list_all (is_light (2 ^ 63)) new ≡ true
+without-light k old new e h = ap (list_all (is_light (2 ^ 63))) e ∙ remove-light (is_light (2 ^ 63)) k old h
+
+-- the innermost frame put on, or taken off
+pub pushed-light : (old new : List Frame) (f : Frame) → new ≡ old ++ f ∷ [] → are_light old ≡ true →
+    is_light_todo f.todo ≡ true → are_light new ≡ true
+pushed-light old new f e h k =
+    ap are_light e ∙ list_all-append (λ (g : Frame). is_light_todo g.todo) old (f ∷ [])
+    ∙ ap (λ z. z && (is_light_todo f.todo && true)) h ∙ ap (λ z. z && true) k
+
+pub popped-light : (old new : List Frame) (f : Frame) → old ≡ new ++ f ∷ [] → are_light old ≡ true →
+    (are_light new ≡ true) × (is_light_todo f.todo ≡ true)
+popped-light old new f e h =
+    let whole = sym (list_all-append (λ (g : Frame). is_light_todo g.todo) new (f ∷ [])) ∙ ap are_light (sym e) ∙ h in
+    let p = and_parts (are_light new) (is_light_todo f.todo && true) whole in
+    (p.0, (and_parts (is_light_todo f.todo) true p.1).0)
+
+pub first-light : (o : Obligation) (b : Branch) → form_load o.form ≤ 2 ^ 62 → b ≡ first_branch o →
+    is_light_branch (2 ^ 63) b ≡ true
+first-light o b h e =
+    let n = need-within o.form in
+    let no : (need o.form).no ≤ 2 ^ 63 = omega (arith, n, h) in
+    ap (is_light_branch (2 ^ 63)) e ∙ refused-light o.variables (2 ^ 63) o.form (ranges_only o.variables) no refl

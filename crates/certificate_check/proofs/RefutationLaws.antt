@@ -1,0 +1,510 @@
+-- A certificate that refutes a branch leaves it no values.
+use Rattle.std.proofs.Common.{◌≡◌, ℕ, zero, suc, ◌+◌, ℤ, pos, negsuc, neg_ℤ, ◌+ℤ◌, ◌*ℤ◌, Bool, true, false, cond, not}
+use Rattle.std.proofs.Common.{◌&&◌, ◌||◌, Option, Some, None, Result, Ok, Err, List, [], ◌∷◌, ◌++◌, map, length}
+use Rattle.std.proofs.Common.{slice_get, remove, nat_lt, nat_le, div-add-mod', arith, append_assoc, length-append, refl}
+use Rattle.std.proofs.Common.{sym, ap, subst, ◌∙◌}
+use Rattle.std.specs.List.{list_all}
+use Rattle.std.specs.Int.{int_div_euclid, int_rem_euclid}
+use Rattle.std.specs.Int.RustNames.{int_le}
+use Rattle.std.proofs.lemmas.Int.{ints}
+use Rattle.std.proofs.lemmas.Bool.{true≢false, and_parts, false_from_ne_true, not-true}
+use Rattle.std.proofs.lemmas.List.Folds.{list_all-append}
+use lib.IntN.{*ℤ_comm, zero-*ℤ, *ℤ-zero}
+use Rattle.core_terms.specs.declared.trees.CForm.{CForm, out-CForm, fold_out-CForm}
+use Rattle.core_terms.specs.declared.trees.CForm.TheFolds.{map-CForm}
+use Rattle.core_terms.specs.Values.{number_at, form_step}
+use Rattle.core_terms.specs.declared.trees.CTerm.{CTerm}
+use Rattle.core_terms.specs.declared.trees.CForm.TheOpen.{CForm-F}
+use Rattle.state_steps.specs.State.{int_eq}
+use Rattle.case_tables.specs.declared.code_table.Code.{Code}
+use Rattle.obligations.specs.declared.branches.Fact.{Fact}
+use Rattle.obligations.specs.declared.branches.Branch.{Branch}
+use Rattle.obligations.specs.declared.branches.Variable.{Variable}
+use Rattle.obligations.specs.declared.branches.Line.{Line}
+use Rattle.obligations.specs.declared.certificates.Node.{Node}
+use Rattle.obligations.specs.LinearForms.{add_at, dot, line_value, sum_of, fact_value, fact_holds, fact_of}
+use Rattle.obligations.specs.Settling.{term_at_step, term_at, settled, form_at, branch_holds, sides_in, sides, without}
+use Rattle.obligations.specs.Settling.{added}
+use Rattle.obligations.specs.Opening.{first_branch, in_ranges, at_most, at_least}
+use Rattle.obligations.proofs.RingLaws.{add-times, times-add, times-times}
+use Rattle.obligations.proofs.LineLaws.{int_eq-true, fact_of-value, dot-zeros, length-zeros, length-add_at, dot-add_at}
+use Rattle.obligations.proofs.SettlingLaws.{settled-holds}
+use Rattle.obligations.proofs.OpeningLaws.{ranges-long, first-holds}
+use Rattle.certificate_check.specs.Sums.{add_factors, with_constant, add_times, numbered, or_too_big, add_pair}
+use Rattle.certificate_check.specs.Sums.{sum_pairs, no_sum, all_pairs, is_false, is_divisible, divided}
+use Rattle.certificate_check.specs.Refutation.{Made, fails, opens, made_case, made_sum, made_round, made_by, Pending}
+use Rattle.certificate_check.specs.Refutation.{made, pending, after, walk, at_level, go_on, WalkAppends, none_holds}
+use Rattle.certificate_check.specs.Refutation.{WalkKeeps, Sound}
+use Rattle.certificate_check.specs.Trees.{Tree, case_node, split_node, sum_node, round_node, nodes_of, Refutes}
+
+abbrev is_at_least_0 : ℤ → Bool
+is_at_least_0 z = int_le (pos 0) z
+
+some_is : {A : Type 0} (b : Bool) (m : Option A) (x : A) → cond b m None ≡ Some x → m ≡ Some x
+some_is true m x e = e
+some_is false m x e = cc
+
+-- The value of a running sum.
+add_factors-value : (m : ℤ) (fs : List (ℕ × ℤ)) (sum out values : List ℤ) → length values ≡ length sum →
+    add_factors m fs sum ≡ Some out →
+    (dot out values ≡ dot sum values +ℤ m *ℤ sum_of values fs) × (length out ≡ length sum)
+add_factors-value m [] sum out values n e =
+    let o : sum ≡ out = cc in
+    let z : m *ℤ pos 0 ≡ pos 0 = *ℤ-zero m in
+    ((ap (λ x. dot x values) (sym o) ∙ omega (arith, ints, z)), ap length (sym o))
+add_factors-value m (f ∷ fs) sum out values n e =
+    let next = some_is _ (add_factors m fs (add_at sum f.0 (m *ℤ f.1))) out e in
+    let ih = add_factors-value m fs (add_at sum f.0 (m *ℤ f.1)) out values (n ∙ sym (length-add_at sum f.0 (m *ℤ f.1)))
+    next in
+    let d = dot-add_at sum values f.0 (m *ℤ f.1) n in
+    let t = times-times m f.1 (number_at values f.0) in
+    let a = times-add m (f.1 *ℤ number_at values f.0) (sum_of values fs) in
+    let i0 = ih.0 in
+    (omega (arith, ints, i0, d, t, a), ih.1 ∙ length-add_at sum f.0 (m *ℤ f.1))
+
+with_constant-is : (c : ℤ) (o : Option (List ℤ)) (l : Line) → with_constant c o ≡ Some l →
+    (o ≡ Some l.factors) × (l.constant ≡ c)
+with_constant-is c None l e = cc
+with_constant-is c (Some fs) l e =
+    let q : record { factors = fs; constant = c }
+    ≡ l = cc in (ap (λ (x : Line). Some x.factors) q, sym (ap (λ (x : Line). x.constant) q))
+
+add_times-value : (m : ℤ) (f : Fact) (sum l : Line) (values : List ℤ) → length values ≡ length sum.factors →
+    add_times m f sum ≡ Some l →
+    (line_value values l ≡ line_value values sum +ℤ m *ℤ fact_value values f) × (length l.factors ≡ length sum.factors)
+add_times-value m f sum l values n e =
+    let w = with_constant-is (sum.constant +ℤ m *ℤ f.constant) (add_factors m f.factors sum.factors) l
+    (some_is _ _ l e) in
+    let r = add_factors-value m f.factors sum.factors l.factors values n w.0 in
+    let t = times-add m (sum_of values f.factors) f.constant in
+    let r0 = r.0 in let w1 = w.1 in
+    (omega (arith, ints, r0, w1, t), r.1)
+
+times-at_least_0 : (m z : ℤ) → is_at_least_0 m ≡ true → is_at_least_0 z ≡ true → is_at_least_0 (m *ℤ z) ≡ true
+times-at_least_0 (pos a) (pos b) p q = grind (arith, ints)
+times-at_least_0 (pos a) (negsuc b) p q = cc
+times-at_least_0 (negsuc a) z p q = cc
+
+sum-at_least_0 : (x y z : ℤ) → is_at_least_0 x ≡ true → is_at_least_0 y ≡ true → z ≡ x +ℤ y → is_at_least_0 z ≡ true
+sum-at_least_0 x y z p q e = grind (arith, ints)
+
+all-at : {A : Type 0} (t : A → Bool) (xs : List A) (n : ℕ) (x : A) → list_all t xs ≡ true → slice_get xs n ≡ Some x →
+    t x ≡ true
+all-at t [] n x a e = cc
+all-at t (y ∷ ys) zero x a e = let s : y ≡ x = cc in ap t (sym s) ∙ (and_parts (t y) (list_all t ys) a).0
+all-at t (y ∷ ys) (suc n) x a e = all-at t ys n x (and_parts (t y) (list_all t ys) a).1 e
+
+-- a sum that the facts make at least 0
+pub record Sums (vs : List Variable) (values : List ℤ) (l : Line) : Type 0 where
+  size : length l.factors ≡ length vs
+  least : is_at_least_0 (line_value values l) ≡ true
+
+module _ (vs : List Variable) (values : List ℤ) (long : length values ≡ length vs) (facts : List Fact)
+    (hold : list_all (fact_holds values) facts ≡ true) where
+  add_pair-sums : (p : ℤ × ℕ) (f : Option Fact) (sum l : Line) → numbered facts p.1 ≡ f → Sums vs values sum →
+      add_pair p.0 f sum ≡ Ok l → Sums vs values l
+  add_pair-sums p None sum l n s e = cc
+  add_pair-sums p (Some f) sum l n s e = positive (int_le (pos 0) p.0) refl (add_times p.0 f sum) refl e
+    where
+      fact_at : (k : ℕ) → numbered facts k ≡ Some f → fact_holds values f ≡ true
+      fact_at zero q = cc
+      fact_at (suc k) q = all-at (fact_holds values) facts k f hold q
+
+      positive : (b : Bool) → int_le (pos 0) p.0 ≡ b → (o : Option Line) → add_times p.0 f sum ≡ o →
+          cond b (or_too_big o) (Err Code.BadSum) ≡ Ok l → Sums vs values l
+      positive false q o r d = cc
+      positive true q None r d = cc
+      positive true q (Some m) r d =
+          let same : m ≡ l = cc in
+          let v = add_times-value p.0 f sum l values (long ∙ sym s.size) (r ∙ ap Some same) in
+          record {
+            size = v.1 ∙ s.size;
+            least = sum-at_least_0 (line_value values sum) (p.0 *ℤ fact_value values f)
+                (line_value values l) s.least (times-at_least_0 p.0 (fact_value values f) q (fact_at p.1 n)) v.0;
+          }
+
+  stays_err : (c : Code) (ps : List (ℤ × ℕ)) → sum_pairs facts (Err c) ps ≡ Err c
+  stays_err c [] = refl
+  stays_err c (p ∷ ps) = stays_err c ps
+
+  sums_next : (ps : List (ℤ × ℕ)) → ((sum l : Line) → Sums vs values sum → sum_pairs facts (Ok sum) ps ≡ Ok l →
+      Sums vs values l) →
+      (p : ℤ × ℕ) (sum l : Line) (r : Result Line Code) → Sums vs values sum →
+      add_pair p.0 (numbered facts p.1) sum ≡ r → sum_pairs facts r ps ≡ Ok l → Sums vs values l
+  sums_next ps ih p sum l (Err c) s q d = let x = stays_err c ps in cc
+  sums_next ps ih p sum l (Ok m) s q d = ih m l (add_pair-sums p (numbered facts p.1) sum m refl s q) d
+
+  sum_pairs-sums : (ps : List (ℤ × ℕ)) (sum l : Line) → Sums vs values sum → sum_pairs facts (Ok sum) ps ≡ Ok l →
+      Sums vs values l
+  sum_pairs-sums [] sum l s e = let same : sum ≡ l = cc in subst (Sums vs values) same s
+  sum_pairs-sums (p ∷ ps) sum l s e =
+      sums_next ps (sum_pairs-sums ps) p sum l (add_pair p.0 (numbered facts p.1) sum) s refl e
+
+  no_sum-sums : Sums vs values (no_sum vs)
+  no_sum-sums = record { size = length-zeros vs; least = ap (λ z. int_le (pos 0) (z +ℤ pos 0)) (dot-zeros vs values) }
+
+  pub all_pairs-sums : (ps : List (ℤ × ℕ)) (l : Line) → all_pairs vs facts ps ≡ Ok l → Sums vs values l
+  all_pairs-sums ps l e = sum_pairs-sums ps (no_sum vs) l no_sum-sums e
+
+-- Rounding.
+euclid : (z : ℤ) (k : ℕ) → z ≡ int_div_euclid z (pos (suc k)) *ℤ pos (suc k) +ℤ int_rem_euclid z (pos (suc k))
+euclid (pos a) k = omega (arith, ints, div-add-mod' a (suc k))
+euclid (negsuc a) k = omega (arith, ints, div-add-mod' a (suc k))
+
+rem-least : (z : ℤ) (k : ℕ) → int_le (int_rem_euclid z (pos (suc k))) (pos k) ≡ true
+rem-least (pos a) k = grind (arith, ints)
+rem-least (negsuc a) k = grind (arith, ints)
+
+-- whether a number divides another
+abbrev divides : ℕ → ℤ → Bool
+divides k z = int_eq (int_rem_euclid z (pos (suc k))) (pos 0)
+
+abbrev quotient : ℕ → ℤ → ℤ
+quotient k z = int_div_euclid z (pos (suc k))
+
+dot-divided : (k : ℕ) (fs values : List ℤ) → list_all (divides k) fs ≡ true →
+    dot fs values ≡ dot (map (quotient k) fs) values *ℤ pos (suc k)
+dot-divided k [] values e = sym (zero-*ℤ (pos (suc k)))
+dot-divided k (z ∷ fs) [] e = sym (zero-*ℤ (pos (suc k)))
+dot-divided k (z ∷ fs) (v ∷ values) e =
+    let parts = and_parts (divides k z) (list_all (divides k) fs) e in
+    let d = pos (suc k) in
+    let q = quotient k z in
+    let none = int_eq-true (int_rem_euclid z d) parts.0 in
+    let whole : z ≡ q *ℤ d = euclid z k ∙ ap (λ x. q *ℤ d +ℤ x) none ∙ omega (arith, ints) in
+    let ih = dot-divided k fs values parts.1 in
+    let rest = dot (map (quotient k) fs) values in
+    let swap : z *ℤ v ≡ (q *ℤ v) *ℤ d =
+    ap (λ x. x *ℤ v) whole ∙ times-times q d v ∙ ap (λ x. q *ℤ x) (*ℤ_comm d v) ∙ sym (times-times q v d) in
+    ap (λ x. x +ℤ dot fs values) swap ∙ ap (λ x. (q *ℤ v) *ℤ d +ℤ x) ih ∙ sym (add-times (q *ℤ v) rest d)
+
+scaled-least : (s : ℤ) (k : ℕ) (r : ℤ) → int_le r (pos k) ≡ true → is_at_least_0 (s *ℤ pos (suc k) +ℤ r) ≡ true →
+    is_at_least_0 s ≡ true
+scaled-least (pos a) k r e p = grind (arith, ints)
+scaled-least (negsuc a) k r e p = grind (arith, ints)
+
+round-least : (d : ℤ) (l : Line) (values : List ℤ) → is_divisible d l ≡ true →
+    is_at_least_0 (line_value values l) ≡ true → is_at_least_0 (line_value values (divided d l)) ≡ true
+round-least (negsuc k) l values e p = cc
+round-least (pos zero) l values e p = cc
+round-least (pos (suc k)) l values e p =
+    let all = (and_parts (int_le (pos 1) (pos (suc k))) (list_all (divides k) l.factors) e).1 in
+    let whole = dot-divided k l.factors values all in
+    let c = euclid l.constant k in
+    let D = dot (map (quotient k) l.factors) values in
+    let C = quotient k l.constant in
+    let R = int_rem_euclid l.constant (pos (suc k)) in
+    let a = add-times D C (pos (suc k)) in
+    let same : line_value values l ≡ (D +ℤ C) *ℤ pos (suc k) +ℤ R = omega (arith, ints, whole, c, a) in
+    scaled-least (D +ℤ C) k R (rem-least l.constant k) (ap is_at_least_0 (sym same) ∙ p)
+
+or-cover : (l r : Bool) → (l ≡ false → r ≡ true) → (l || r) ≡ true
+or-cover true r f = refl
+or-cover false r f = f refl
+
+other : (x k a b : ℤ) → a ≡ neg_ℤ x +ℤ k → b ≡ x +ℤ neg_ℤ (k +ℤ pos 1) → int_le (pos 0) a ≡ false →
+    int_le (pos 0) b ≡ true
+other x k a b p q e = grind (arith, ints)
+
+one-or-other : (x k : ℤ) → (int_le (pos 0) ((negsuc 0 *ℤ x +ℤ pos 0) +ℤ k)
+    || int_le (pos 0) ((pos 1 *ℤ x +ℤ pos 0) +ℤ neg_ℤ (k +ℤ pos 1))) ≡ true
+one-or-other x k =
+    let low = (negsuc 0 *ℤ x +ℤ pos 0) +ℤ k in
+    let high = (pos 1 *ℤ x +ℤ pos 0) +ℤ neg_ℤ (k +ℤ pos 1) in
+    or-cover (int_le (pos 0) low) (int_le (pos 0) high) (other x k low high (omega (arith, ints)) (omega (arith, ints)))
+
+and_comm : (a b : Bool) → (a && b) ≡ (b && a)
+and_comm true true = refl
+and_comm true false = refl
+and_comm false true = refl
+and_comm false false = refl
+
+and_assoc : (a b c : Bool) → ((a && b) && c) ≡ (a && (b && c))
+and_assoc true b c = refl
+and_assoc false b c = refl
+
+or_same : (a : Bool) → a ≡ (a || a)
+or_same true = refl
+or_same false = refl
+
+opens_of : Made → List Branch
+opens_of (fails c) = []
+opens_of (opens bs) = bs
+
+opens-same : {xs ys : List Branch} → opens xs ≡ opens ys → xs ≡ ys
+unfolding opens_of
+opens-same e = ap opens_of e
+
+module _ (vs : List Variable) (values : List ℤ) (long : length values ≡ length vs) where
+  abbrev B : Branch → Bool
+  B = branch_holds vs values
+
+  abbrev F : CForm → Bool
+  F = form_at vs values
+
+  -- no branch of a list holds
+  abbrev pub none_hold : List Branch → Bool
+  none_hold bs = list_all (λ b. not (B b)) bs
+
+  list_all-remove : (xs : List CForm) (k : ℕ) (f : CForm) → slice_get xs k ≡ Some f →
+      list_all F xs ≡ (list_all F (remove xs k) && F f)
+  list_all-remove [] k f e = cc
+  list_all-remove (x ∷ xs) zero f e =
+      let s : x ≡ f = cc in ap (λ y. F y && list_all F xs) s ∙ and_comm (F f) (list_all F xs)
+  list_all-remove (x ∷ xs) (suc k) f e =
+      ap (λ z. F x && z) (list_all-remove xs k f e) ∙ sym (and_assoc (F x) (list_all F (remove xs k)) (F f))
+
+  pub side_in : (f : CForm) (x : CForm-F CForm CTerm) → out-CForm f ≡ x → F f ≡
+      (F (sides_in f x).0 || F (sides_in f x).1)
+  side_in f CForm-F.Top e = or_same (F f)
+  side_in f CForm-F.Bottom e = or_same (F f)
+  side_in f (CForm-F.AtLeast t) e = or_same (F f)
+  side_in f (CForm-F.Zero t) e = or_same (F f)
+  side_in f (CForm-F.Not g) e = or_same (F f)
+  side_in f (CForm-F.And g h) e = or_same (F f)
+  side_in f (CForm-F.Or g h) e =
+      fold_out-CForm Bool ℤ form_step (term_at_step vs values) f
+      ∙ ap (λ x. form_step (map-CForm CForm CTerm Bool ℤ F (term_at vs values) x)) e
+
+  -- a branch with a form taken out, and the form's two sides
+  case-cover : (w l r : Bool) → (not (w && l) && (not (w && r) && true)) ≡ true → (w && (l || r)) ≡ false
+  case-cover true true r e = cc
+  case-cover true false true e = cc
+  case-cover true false false e = refl
+  case-cover false l r e = refl
+
+  pub holds-without : (b : Branch) (k : ℕ) (f : CForm) → slice_get b.waiting k ≡ Some f → B b ≡ (B (without b k) && F f)
+  holds-without b k f e =
+      ap (λ z. list_all (fact_holds values) b.facts && z) (list_all-remove b.waiting k f e)
+      ∙ sym (and_assoc (list_all (fact_holds values) b.facts) (list_all F (remove b.waiting k)) (F f))
+
+  case-sound : (b : Branch) (k : ℕ) (f : CForm) → slice_get b.waiting k ≡ Some f →
+      none_hold (settled vs (sides f).0 (without b k) ∷ settled vs (sides f).1 (without b k) ∷ []) ≡ true → B b ≡ false
+  case-sound b k f e h =
+      holds-without b k f e ∙ ap (λ z. B (without b k) && z) (side_in f (out-CForm f) refl)
+      ∙ case-cover (B (without b k)) (F (sides f).0) (F (sides f).1)
+      (sym (ap (λ z. not z && (not (B (settled vs (sides f).1 (without b k))) && true))
+      (settled-holds vs values (sides f).0 (without b k) long)
+      ∙ ap (λ z. not (B (without b k) && F (sides f).0) && (not z && true))
+      (settled-holds vs values (sides f).1 (without b k) long)) ∙ h)
+
+  one_more : (p x w : Bool) → ((p && (x && true)) && (w && true)) ≡ ((p && w) && x)
+  one_more true true true = refl
+  one_more true true false = refl
+  one_more true false true = refl
+  one_more true false false = refl
+  one_more false x w = refl
+
+  pub holds-added : (b : Branch) (f : Fact) → B (added b f) ≡ (B b && fact_holds values f)
+  holds-added b f =
+      ap (λ z. z && list_all F (b.waiting ++ [])) (list_all-append (fact_holds values) b.facts (f ∷ []))
+      ∙ ap (λ z. (list_all (fact_holds values) b.facts && (fact_holds values f && true)) && z)
+      (list_all-append F b.waiting [])
+      ∙ one_more (list_all (fact_holds values) b.facts) (fact_holds values f) (list_all F b.waiting)
+
+  split-cover : (w l r : Bool) → (l || r) ≡ true → (not (w && l) && (not (w && r) && true)) ≡ true → w ≡ false
+  split-cover true true r c e = cc
+  split-cover true false true c e = cc
+  split-cover true false false c e = cc
+  split-cover false l r c e = refl
+
+  split-sound : (b : Branch) (v : ℕ) (k : ℤ) →
+      none_hold (added b (at_most v k) ∷ added b (at_least v (k +ℤ pos 1)) ∷ []) ≡ true → B b ≡ false
+  split-sound b v k h =
+      let low = at_most v k in
+      let high = at_least v (k +ℤ pos 1) in
+      split-cover (B b) (fact_holds values low) (fact_holds values high) (one-or-other (number_at values v) k)
+      (sym (ap (λ z. not z && (not (B (added b high)) && true)) (holds-added b low)
+      ∙ ap (λ z. not (B b && fact_holds values low) && (not z && true)) (holds-added b high)) ∙ h)
+
+  holding : (b : Branch) → (B b ≡ true → ⊥) → B b ≡ false
+  holding b f = false_from_ne_true (B b) f
+
+  dot-none : (fs ys : List ℤ) → list_all (λ z. int_eq z (pos 0)) fs ≡ true → dot fs ys ≡ pos 0
+  dot-none [] ys e = refl
+  dot-none (z ∷ fs) [] e = refl
+  dot-none (z ∷ fs) (y ∷ ys) e =
+      let parts = and_parts (int_eq z (pos 0)) (list_all (λ z. int_eq z (pos 0)) fs) e in
+      let n : z *ℤ y ≡ pos 0 = ap (λ x. x *ℤ y) (int_eq-true z parts.0) ∙ zero-*ℤ y in
+      let ih = dot-none fs ys parts.1 in omega (arith, ints, n, ih)
+
+  sum-sound : (b : Branch) (ps : List (ℤ × ℕ)) (r : Result Line Code) → all_pairs vs b.facts ps ≡ r →
+      (bs : List Branch) → made_sum r ≡ opens bs → B b ≡ false
+  sum-sound b ps (Err c) q bs e = absurd (cc)
+  sum-sound b ps (Ok l) q bs e = closes (is_false l) refl e
+    where
+      closes : (t : Bool) → is_false l ≡ t → cond t (opens []) (fails Code.BadSum) ≡ opens bs → B b ≡ false
+      closes false f d = absurd (cc)
+      closes true f d = holding b (λ h.
+          let s = all_pairs-sums vs values long b.facts
+          (and_parts (list_all (fact_holds values) b.facts) (list_all F b.waiting) h).0 ps l q in
+          let parts = and_parts (list_all (λ z. int_eq z (pos 0)) l.factors) (not (int_le (pos 0) l.constant)) f in
+          let z : line_value values l ≡ l.constant = ap (λ x. x +ℤ l.constant) (dot-none l.factors values parts.0)
+          ∙ omega (arith, ints) in
+          true≢false (sym (ap is_at_least_0 (sym z) ∙ s.least) ∙ not-true (int_le (pos 0) l.constant) parts.1))
+
+  round-sound : (b : Branch) (d : ℤ) (ps : List (ℤ × ℕ)) (r : Result Line Code) → all_pairs vs b.facts ps ≡ r →
+      (bs : List Branch) → made_round b d r ≡ opens bs → none_hold bs ≡ true → B b ≡ false
+  round-sound b d ps (Err c) q bs e h = absurd (cc)
+  round-sound b d ps (Ok l) q bs e h = goes_on (is_divisible d l) refl e
+    where
+      goes_on : (t : Bool) → is_divisible d l ≡ t →
+          cond t (opens (added b (fact_of (divided d l)) ∷ [])) (fails Code.NotDivisible) ≡ opens bs → B b ≡ false
+      goes_on false f g = absurd (cc)
+      goes_on true f g = holding b (λ k.
+          let s = all_pairs-sums vs values long b.facts
+          (and_parts (list_all (fact_holds values) b.facts) (list_all F b.waiting) k).0 ps l q in
+          let new : fact_holds values (fact_of (divided d l)) ≡ true =
+          ap is_at_least_0 (fact_of-value values (divided d l)) ∙ round-least d l values f s.least in
+          let all : B (added b (fact_of (divided d l))) ≡ true = holds-added b (fact_of (divided d l))
+          ∙ ap (λ z. z && fact_holds values (fact_of (divided d l))) k ∙ new in
+          let same : added b (fact_of (divided d l)) ∷ [] ≡ bs = opens-same g in
+          let no = ap none_hold same ∙ h in
+          true≢false (sym no ∙ ap (λ z. not z && true) all))
+
+  made_by-sound : (b : Branch) (n : Node) (bs : List Branch) → made_by vs b n ≡ opens bs → none_hold bs ≡ true →
+      B b ≡ false
+  made_by-sound b (Node.Case zero) bs e h = absurd (cc)
+  made_by-sound b (Node.Case (suc k)) bs e h = taken (slice_get b.waiting k) refl e
+    where
+      taken : (o : Option CForm) → slice_get b.waiting k ≡ o → made_case vs b k o ≡ opens bs → B b ≡ false
+      taken None q d = absurd (cc)
+      taken (Some f) q d = case-sound b k f q (ap none_hold (opens-same d) ∙ h)
+  made_by-sound b (Node.Split zero k) bs e h = absurd (cc)
+  made_by-sound b (Node.Split (suc v) k) bs e h = parted (nat_lt v (length vs)) e
+    where
+      parted : (t : Bool) → cond t (opens (added b (at_most v k) ∷ added b (at_least v (k +ℤ pos 1)) ∷ []))
+          (fails Code.NoSuchVariable) ≡ opens bs → B b ≡ false
+      parted false d = absurd (cc)
+      parted true d = split-sound b v k (ap none_hold (opens-same d) ∙ h)
+  made_by-sound b (Node.Sum ps) bs e h = sum-sound b ps (all_pairs vs b.facts ps) refl bs e
+  made_by-sound b (Node.Round d ps) bs e h = round-sound b d ps (all_pairs vs b.facts ps) refl bs e h
+
+  made-sound : (p : Pending) (n : Node) (bs : List Branch) → made vs p n ≡ opens bs → none_hold bs ≡ true →
+      B p.branch ≡ false
+  made-sound p n bs e h = leveled (nat_le p.level 1024) e
+    where
+      leveled : (t : Bool) → cond t (made_by vs p.branch n) (fails Code.CertTooDeep) ≡ opens bs → B p.branch ≡ false
+      leveled false d = absurd (cc)
+      leveled true d = made_by-sound p.branch n bs d h
+
+  none_of : (level : ℕ) (bs : List Branch) (ps : List Pending) →
+      none_holds vs values (pending level bs ++ ps) ≡ true → (none_hold bs ≡ true) × (none_holds vs values ps ≡ true)
+  none_of level [] ps h = (refl, h)
+  none_of level (b ∷ bs) ps h =
+      let parts = and_parts (not (B b)) (none_holds vs values (pending level bs ++ ps)) h in
+      let rest = none_of level bs ps parts.1 in
+      (ap (λ z. z && none_hold bs) parts.0 ∙ rest.0, rest.1)
+
+  pub walk-keeps : (ns : List Node) (ps qs : List Pending) (at : ℕ) → walk vs ns ps at ≡ Ok qs →
+      none_holds vs values qs ≡ true → none_holds vs values ps ≡ true
+  walk-keeps [] ps qs at e h = let same : ps ≡ qs = cc in ap (none_holds vs values) same ∙ h
+  walk-keeps (n ∷ ns) [] qs at e h = refl
+  walk-keeps (n ∷ ns) (p ∷ ps) qs at e h = opened (made vs p n) refl e (λ rs d. walk-keeps ns rs qs (suc at) d h)
+    where
+      opened : (m : Made) → made vs p n ≡ m → after (λ rs. walk vs ns rs (suc at)) p.level ps at m ≡ Ok qs →
+          ((rs : List Pending) → walk vs ns rs (suc at) ≡ Ok qs → none_holds vs values rs ≡ true) →
+          none_holds vs values (p ∷ ps) ≡ true
+      opened (fails c) q d ih = absurd (cc)
+      opened (opens bs) q d ih =
+          let parts = none_of (suc p.level) bs ps (ih (pending (suc p.level) bs ++ ps) d) in
+          ap (λ z. not z && none_holds vs values ps) (made-sound p n bs q parts.0) ∙ parts.1
+
+refutes-valid : (t f : Bool) → t ≡ true → (t && not f) ≡ false → f ≡ true
+refutes-valid true true e h = refl
+refutes-valid true false e h = cc
+refutes-valid false f e h = cc
+
+pub keeps : WalkKeeps
+keeps vs values long = walk-keeps vs values long
+
+pub sound : Sound
+sound o nodes e values inside =
+    let long = ranges-long o.variables values inside in
+    let none = walk-keeps o.variables values long nodes (at_level 1 (first_branch o) ∷ []) [] 0 e refl in
+    let first = not-true (branch_holds o.variables values (first_branch o))
+    (and_parts (not (branch_holds o.variables values (first_branch o))) true none).0 in
+    refutes-valid (in_ranges o.variables values) (form_at o.variables values o.form) inside
+    (sym (first-holds o values long) ∙ first)
+
+-- A walk along the nodes of a tree.
+pub walk-tree : (vs : List Variable) (t : Tree) (level : ℕ) (b : Branch) (ns : List Node) (ps : List Pending) (at : ℕ) →
+    Refutes vs level b t → walk vs (nodes_of t ++ ns) (at_level level b ∷ ps) at ≡ walk vs ns ps
+    (at + length (nodes_of t))
+walk-tree vs (case_node k t u) level b ns ps at r =
+    ap (after (λ qs. walk vs ((nodes_of t ++ nodes_of u) ++ ns) qs (suc at)) level ps at) r.2
+    ∙ ap (λ x. walk vs x (at_level (suc level) r.0 ∷ at_level (suc level) r.1 ∷ ps) (suc at))
+    (append_assoc (nodes_of t) (nodes_of u) ns)
+    ∙ walk-tree vs t (suc level) r.0 (nodes_of u ++ ns) (at_level (suc level) r.1 ∷ ps) (suc at) r.3
+    ∙ walk-tree vs u (suc level) r.1 ns ps (suc at + length (nodes_of t)) r.4
+    ∙ ap (walk vs ns ps) (let l = length-append (nodes_of t) (nodes_of u) in omega (arith, l))
+walk-tree vs (split_node v k t u) level b ns ps at r =
+    ap (after (λ qs. walk vs ((nodes_of t ++ nodes_of u) ++ ns) qs (suc at)) level ps at) r.2
+    ∙ ap (λ x. walk vs x (at_level (suc level) r.0 ∷ at_level (suc level) r.1 ∷ ps) (suc at))
+    (append_assoc (nodes_of t) (nodes_of u) ns)
+    ∙ walk-tree vs t (suc level) r.0 (nodes_of u ++ ns) (at_level (suc level) r.1 ∷ ps) (suc at) r.3
+    ∙ walk-tree vs u (suc level) r.1 ns ps (suc at + length (nodes_of t)) r.4
+    ∙ ap (walk vs ns ps) (let l = length-append (nodes_of t) (nodes_of u) in omega (arith, l))
+walk-tree vs (sum_node qs) level b ns ps at r =
+    ap (after (λ qs. walk vs ns qs (suc at)) level ps at) r ∙ ap (walk vs ns ps) (omega arith)
+walk-tree vs (round_node d qs t) level b ns ps at r =
+    ap (after (λ qs. walk vs (nodes_of t ++ ns) qs (suc at)) level ps at) r.1
+    ∙ walk-tree vs t (suc level) r.0 ns ps (suc at) r.2
+    ∙ ap (walk vs ns ps) (omega arith)
+
+-- Where there is no branch, no node is looked at.
+walk-none : (vs : List Variable) (ns : List Node) (at : ℕ) → walk vs ns [] at ≡ Ok []
+walk-none vs [] at = refl
+walk-none vs (n ∷ ns) at = refl
+
+appends-after : (vs : List Variable) (ns ms : List Node) (level at : ℕ) (ps : List Pending) (m : Made) →
+    ((qs : List Pending) → walk vs (ns ++ ms) qs (suc at) ≡
+    go_on (walk vs ns qs (suc at)) (λ rs. walk vs ms rs (suc at + length ns))) →
+    after (λ qs. walk vs (ns ++ ms) qs (suc at)) level ps at m ≡
+    go_on (after (λ qs. walk vs ns qs (suc at)) level ps at m) (λ rs. walk vs ms rs (suc at + length ns))
+appends-after vs ns ms level at ps (fails c) ih = refl
+appends-after vs ns ms level at ps (opens bs) ih = ih (pending (suc level) bs ++ ps)
+
+-- a walk can be made in parts
+pub walk-appends : WalkAppends
+walk-appends vs [] ms ps at = ap (walk vs ms ps) (omega arith)
+walk-appends vs (n ∷ ns) ms [] at = sym (walk-none vs ms (at + length (n ∷ ns)))
+walk-appends vs (n ∷ ns) ms (p ∷ ps) at =
+    let count : suc at + length ns ≡ at + length (n ∷ ns) = omega arith in
+    appends-after vs ns ms p.level at ps (made vs p n) (λ qs. walk-appends vs ns ms qs (suc at))
+    ∙ ap (λ k. go_on (walk vs (n ∷ ns) (p ∷ ps) at) (λ rs. walk vs ms rs k)) count
+
+-- A sum keeps its length.
+times-size : (f : Fact) (m : ℤ) (a l : Line) (o : Option Line) → add_times m f a ≡ o → or_too_big o ≡ Ok l →
+    length l.factors ≡ length a.factors
+times-size f m a l None e d = cc
+times-size f m a l (Some k) e d = let same : k ≡ l = cc in (add_times-value m f a l a.factors refl (e ∙ ap Some same)).1
+
+signed-size : (b : Bool) (f : Fact) (m : ℤ) (a l : Line) →
+    cond b (or_too_big (add_times m f a)) (Err Code.BadSum) ≡ Ok l → length l.factors ≡ length a.factors
+signed-size true f m a l e = times-size f m a l (add_times m f a) refl e
+signed-size false f m a l e = cc
+
+add_pair-size : (m : ℤ) (o : Option Fact) (a l : Line) → add_pair m o a ≡ Ok l → length l.factors ≡ length a.factors
+add_pair-size m None a l e = cc
+add_pair-size m (Some f) a l e = signed-size (int_le (pos 0) m) f m a l e
+
+err-stays : (facts : List Fact) (c : Code) (ps : List (ℤ × ℕ)) → sum_pairs facts (Err c) ps ≡ Err c
+err-stays facts c [] = refl
+err-stays facts c (p ∷ ps) = err-stays facts c ps
+
+size-next : (facts : List Fact) (ps : List (ℤ × ℕ)) (p : ℤ × ℕ) (a l : Line) (r : Result Line Code) →
+    ((a l : Line) → sum_pairs facts (Ok a) ps ≡ Ok l → length l.factors ≡ length a.factors) →
+    add_pair p.0 (numbered facts p.1) a ≡ r → sum_pairs facts r ps ≡ Ok l → length l.factors ≡ length a.factors
+size-next facts ps p a l (Err c) ih q e = let x = err-stays facts c ps in cc
+size-next facts ps p a l (Ok m) ih q e = ih m l e ∙ add_pair-size p.0 (numbered facts p.1) a m q
+
+pairs-size : (facts : List Fact) (ps : List (ℤ × ℕ)) (a l : Line) → sum_pairs facts (Ok a) ps ≡ Ok l →
+    length l.factors ≡ length a.factors
+pairs-size facts [] a l e = let same : a ≡ l = cc in ap (λ (x : Line). length x.factors) (sym same)
+pairs-size facts (p ∷ ps) a l e =
+    size-next facts ps p a l (add_pair p.0 (numbered facts p.1) a) (pairs-size facts ps) refl e
+
+pub total-size : (vs : List Variable) (facts : List Fact) (ps : List (ℤ × ℕ)) (a l : Line) → a ≡ no_sum vs →
+    sum_pairs facts (Ok a) ps ≡ Ok l → length l.factors ≡ length vs
+total-size vs facts ps a l n e = pairs-size facts ps a l e ∙ ap (λ (x : Line). length x.factors) n ∙ length-zeros vs

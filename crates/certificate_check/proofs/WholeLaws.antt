@@ -1,0 +1,258 @@
+-- A walk along whole trees looks at all branches, and is one along a tree.
+use Rattle.std.proofs.Common.{◌≡◌, ℕ, zero, suc, ◌+◌, ◌≤◌, ℤ, Bool, true, false, cond, Option, Some, None, Result, Ok}
+use Rattle.std.proofs.Common.{Err, List, [], ◌∷◌, ◌++◌, length, drop, slice_get, nat_le, nat_lt, length-append}
+use Rattle.std.proofs.Common.{append_assoc, arith, refl, sym, ap, ◌∙◌}
+use Rattle.std.proofs.lemmas.List.{drop_all}
+use Rattle.core_terms.specs.declared.trees.CForm.{CForm}
+use Rattle.case_tables.specs.declared.code_table.Code.{Code}
+use Rattle.obligations.specs.declared.branches.Branch.{Branch}
+use Rattle.obligations.specs.declared.branches.Variable.{Variable}
+use Rattle.obligations.specs.declared.branches.Line.{Line}
+use Rattle.obligations.specs.declared.branches.Obligation.{Obligation}
+use Rattle.obligations.specs.declared.certificates.Node.{Node}
+use Rattle.obligations.specs.LinearForms.{fact_of}
+use Rattle.obligations.specs.Opening.{first_branch}
+use Rattle.obligations.specs.Settling.{added}
+use Rattle.certificate_check.specs.Sums.{is_false, all_pairs, is_divisible, divided}
+use Rattle.certificate_check.specs.Refutation.{Made, fails, opens, made_case, made_sum, made_round, made_by, Pending}
+use Rattle.certificate_check.specs.Refutation.{made, pending, after, walk, at_level, judged}
+use Rattle.certificate_check.specs.Trees.{Tree, case_node, split_node, sum_node, round_node, nodes_of, Refutes, Refuted}
+use Rattle.certificate_check.specs.Trees.{arity, is_whole, WalkIsTree}
+use Rattle.certificate_check.proofs.RefutationLaws.{walk-tree, sound}
+
+-- a failure, or as many branches
+abbrev Opened : ℕ → Made → Type 0
+Opened n (fails c) = Unit {0}
+Opened n (opens bs) = length bs ≡ n
+
+opened-if : (n : ℕ) (b : Bool) (bs : List Branch) (c : Code) → length bs ≡ n → Opened n (cond b (opens bs) (fails c))
+opened-if n true bs c e = e
+opened-if n false bs c e = tt
+
+opened-case : (vs : List Variable) (b : Branch) (k : ℕ) (o : Option CForm) → Opened 2 (made_case vs b k o)
+opened-case vs b k None = tt
+opened-case vs b k (Some f) = refl
+
+opened-sum : (r : Result Line Code) → Opened 0 (made_sum r)
+opened-sum (Err c) = tt
+opened-sum (Ok l) = opened-if 0 (is_false l) [] Code.BadSum refl
+
+opened-round : (b : Branch) (d : ℤ) (r : Result Line Code) → Opened 1 (made_round b d r)
+opened-round b d (Err c) = tt
+opened-round b d (Ok l) = opened-if 1 (is_divisible d l) (added b (fact_of (divided d l)) ∷ []) Code.NotDivisible refl
+
+opened-by : (vs : List Variable) (b : Branch) (n : Node) → Opened (arity n) (made_by vs b n)
+opened-by vs b (Node.Case zero) = tt
+opened-by vs b (Node.Case (suc k)) = opened-case vs b k (slice_get b.waiting k)
+opened-by vs b (Node.Split zero k) = tt
+opened-by vs b (Node.Split (suc v) k) = opened-if 2 (nat_lt v (length vs)) _ Code.NoSuchVariable refl
+opened-by vs b (Node.Sum ps) = opened-sum (all_pairs vs b.facts ps)
+opened-by vs b (Node.Round d ps) = opened-round b d (all_pairs vs b.facts ps)
+
+opened-made : (n : ℕ) (b : Bool) (m : Made) → Opened n m → Opened n (cond b m (fails Code.CertTooDeep))
+opened-made n true m h = h
+opened-made n false m h = tt
+
+pending-length : (level : ℕ) (bs : List Branch) → length (pending level bs) ≡ length bs
+pending-length level [] = refl
+pending-length level (b ∷ bs) = ap suc (pending-length level bs)
+
+goes-on : (vs : List Variable) (n : Node) (ns : List Node) (ps qs : List Pending) (level at : ℕ) (m : Made) →
+    Opened (arity n) m → is_whole ns (arity n + length ps) ≡ true →
+    ((rs : List Pending) → is_whole ns (length rs) ≡ true → walk vs ns rs (suc at) ≡ Ok qs → qs ≡ []) →
+    after (λ rs. walk vs ns rs (suc at)) level ps at m ≡ Ok qs → qs ≡ []
+goes-on vs n ns ps qs level at (fails c) o w ih e = cc
+goes-on vs n ns ps qs level at (opens bs) o w ih e =
+    ih (pending (suc level) bs ++ ps) (ap (is_whole ns)
+    (let l = length-append (pending (suc level) bs) ps in let p = pending-length (suc level) bs in omega
+    (arith, l, p, o)) ∙ w) e
+
+-- nodes of as many whole trees as there are branches leave none
+pub whole-walks : (vs : List Variable) (ns : List Node) (ps qs : List Pending) (at : ℕ) →
+    is_whole ns (length ps) ≡ true → walk vs ns ps at ≡ Ok qs → qs ≡ []
+whole-walks vs [] [] qs at w e = cc
+whole-walks vs [] (p ∷ ps) qs at w e = grind arith
+whole-walks vs (n ∷ ns) [] qs at w e = cc
+whole-walks vs (n ∷ ns) (p ∷ ps) qs at w e =
+    goes-on vs n ns ps qs p.level at (made vs p n) (opened-made (arity n) (nat_le p.level 1024) (made_by vs p.branch n)
+    (opened-by vs p.branch n)) w (λ rs. whole-walks vs ns rs qs (suc at)) e
+
+-- a walk whose nodes are all read leaves no branch
+pub read-ends : (vs : List Variable) (ns : List Node) (p : Pending) (ps : List Pending) (place : ℕ) →
+    length ns ≤ place → walk vs (drop place ns) ps place ≡ walk vs ns (p ∷ []) 0 → is_whole ns 1 ≡ true →
+    walk vs ns (p ∷ []) 0 ≡ Ok []
+read-ends vs ns p ps place h e w =
+    let whole : walk vs ns (p ∷ []) 0 ≡ Ok ps = sym e ∙ ap (λ x. walk vs x ps place) (drop_all place ns h) in
+    whole ∙ ap Ok (whole-walks vs ns (p ∷ []) ps 0 w whole)
+
+-- A tree whose nodes are read to their end refutes its branch.
+one-of : (bs : List Branch) → length bs ≡ 1 → (c : Branch) × (bs ≡ c ∷ [])
+one-of [] e = absurd (omega arith)
+one-of (c ∷ []) e = (c, refl)
+one-of (c ∷ d ∷ bs) e = absurd (omega arith)
+
+two-of : (bs : List Branch) → length bs ≡ 2 → (c : Branch) × (d : Branch) × (bs ≡ c ∷ d ∷ [])
+two-of [] e = absurd (omega arith)
+two-of (c ∷ []) e = absurd (omega arith)
+two-of (c ∷ d ∷ []) e = (c, d, refl)
+two-of (c ∷ d ∷ e' ∷ bs) e = absurd (omega arith)
+
+none-of : (bs : List Branch) → length bs ≡ 0 → bs ≡ []
+none-of [] e = refl
+none-of (b ∷ bs) e = absurd (omega arith)
+
+abbrev Reads : List Variable → Tree → Type 0
+Reads vs t =
+    (level : ℕ) (b : Branch) (ns : List Node) (ps : List Pending) (at : ℕ) →
+    walk vs (nodes_of t ++ ns) (at_level level b ∷ ps) at ≡ Ok [] → Refutes vs level b t
+
+two-read : (vs : List Variable) (n : Node) (t u : Tree) (level : ℕ) (b : Branch) (ns : List Node) (ps : List Pending)
+    (at : ℕ) (m : Made) → made vs (at_level level b) n ≡ m → Opened 2 m →
+    after (λ qs. walk vs ((nodes_of t ++ nodes_of u) ++ ns) qs (suc at)) level ps at m ≡ Ok [] → Reads vs t →
+    Reads vs u →
+    (c d : Branch) × (made vs (at_level level b) n ≡ opens (c ∷ d ∷ [])) × Refutes vs (suc level) c t × Refutes vs
+    (suc level) d u
+two-read vs n t u level b ns ps at (fails c) q o e rt ru = absurd (cc)
+two-read vs n t u level b ns ps at (opens bs) q o e rt ru =
+    let w = two-of bs o in
+    let first : walk vs (nodes_of t ++ (nodes_of u ++ ns)) (at_level (suc level) w.0 ∷ at_level (suc level) w.1 ∷ ps)
+    (suc at) ≡ Ok [] =
+    ap (λ x. walk vs x (at_level (suc level) w.0 ∷ at_level (suc level) w.1 ∷ ps) (suc at))
+    (sym (append_assoc (nodes_of t) (nodes_of u) ns))
+    ∙ ap (λ x. walk vs ((nodes_of t ++ nodes_of u) ++ ns) (pending (suc level) x ++ ps) (suc at)) (sym w.2) ∙ e in
+    let left = rt (suc level) w.0 (nodes_of u ++ ns) (at_level (suc level) w.1 ∷ ps) (suc at) first in
+    let second = sym (walk-tree vs t (suc level) w.0 (nodes_of u ++ ns) (at_level (suc level) w.1 ∷ ps) (suc at) left)
+    ∙ first in
+    (w.0, w.1, q ∙ ap opens w.2, left, ru (suc level) w.1 ns ps (suc at + length (nodes_of t)) second)
+
+one-read : (vs : List Variable) (n : Node) (t : Tree) (level : ℕ) (b : Branch) (ns : List Node) (ps : List Pending)
+    (at : ℕ) (m : Made) → made vs (at_level level b) n ≡ m → Opened 1 m →
+    after (λ qs. walk vs (nodes_of t ++ ns) qs (suc at)) level ps at m ≡ Ok [] → Reads vs t →
+    (c : Branch) × (made vs (at_level level b) n ≡ opens (c ∷ [])) × Refutes vs (suc level) c t
+one-read vs n t level b ns ps at (fails c) q o e rt = absurd (cc)
+one-read vs n t level b ns ps at (opens bs) q o e rt =
+    let w = one-of bs o in (
+      w.0,
+      q ∙ ap opens w.1,
+      rt (suc level) w.0 ns ps (suc at)
+          (ap (λ x. walk vs (nodes_of t ++ ns) (pending (suc level) x ++ ps) (suc at)) (sym w.1) ∙ e),
+    )
+
+none-read : (vs : List Variable) (n : Node) (level : ℕ) (b : Branch) (ns : List Node) (ps : List Pending) (at : ℕ)
+    (m : Made) → made vs (at_level level b) n ≡ m → Opened 0 m →
+    after (λ qs. walk vs ns qs (suc at)) level ps at m ≡ Ok [] → made vs (at_level level b) n ≡ opens []
+none-read vs n level b ns ps at (fails c) q o e = absurd (cc)
+none-read vs n level b ns ps at (opens bs) q o e = q ∙ ap opens (none-of bs o)
+
+pub reads : (vs : List Variable) (t : Tree) → Reads vs t
+reads vs (case_node k t u) level b ns ps at e =
+    two-read vs (Node.Case k) t u level b ns ps at _ refl
+    (opened-made 2 (nat_le level 1024) (made_by vs b (Node.Case k)) (opened-by vs b (Node.Case k))) e (reads vs t)
+    (reads vs u)
+reads vs (split_node v k t u) level b ns ps at e =
+    two-read vs (Node.Split v k) t u level b ns ps at _ refl
+    (opened-made 2 (nat_le level 1024) (made_by vs b (Node.Split v k)) (opened-by vs b (Node.Split v k))) e
+    (reads vs t) (reads vs u)
+reads vs (round_node d qs t) level b ns ps at e =
+    one-read vs (Node.Round d qs) t level b ns ps at _ refl
+    (opened-made 1 (nat_le level 1024) (made_by vs b (Node.Round d qs)) (opened-by vs b (Node.Round d qs))) e
+    (reads vs t)
+reads vs (sum_node qs) level b ns ps at e =
+    none-read vs (Node.Sum qs) level b ns ps at _ refl
+    (opened-made 0 (nat_le level 1024) (made_by vs b (Node.Sum qs)) (opened-by vs b (Node.Sum qs))) e
+
+-- Whole nodes are those of a tree.
+record Parsed (ns : List Node) (n : ℕ) : Type 0 where
+  tree : Tree
+  rest : List Node
+  parts : ns ≡ nodes_of tree ++ rest
+  whole : is_whole rest n ≡ true
+  shorter : length rest ≤ length ns
+
+none-whole : (n : ℕ) → is_whole [] (suc n) ≡ true → ⊥
+none-whole n w = grind arith
+
+parsed : (m : ℕ) (ns : List Node) (n : ℕ) → length ns ≤ m → is_whole ns (suc n) ≡ true → Parsed ns n
+parsed m [] n h w = absurd (none-whole n w)
+parsed m (Node.Sum ps ∷ ns) n h w = record {
+  tree = sum_node ps;
+  rest = ns;
+  parts = refl;
+  whole = ap (is_whole ns)
+      (omega arith) ∙ w;
+  shorter = omega arith;
+}
+parsed zero (Node.Case k ∷ ns) n h w = absurd (omega arith)
+parsed zero (Node.Split v k ∷ ns) n h w = absurd (omega arith)
+parsed zero (Node.Round d ps ∷ ns) n h w = absurd (omega arith)
+parsed (suc m) (Node.Round d ps ∷ ns) n h w =
+    let p = parsed m ns n (omega (arith, h)) (ap (is_whole ns) (omega arith) ∙ w) in
+    let s = p.shorter in
+    record {
+      tree = round_node d ps p.tree;
+      rest = p.rest;
+      parts = ap (λ x. Node.Round d ps ∷ x) p.parts;
+      whole = p.whole;
+      shorter = omega (arith, s);
+    }
+parsed (suc m) (Node.Split v k ∷ ns) n h w =
+    let p = parsed m ns (suc n) (omega (arith, h)) (ap (is_whole ns) (omega arith) ∙ w) in
+    let s = p.shorter in
+    let q = parsed m p.rest n (omega (arith, h, s)) p.whole in
+    let u = q.shorter in
+    record {
+      tree = split_node v k p.tree q.tree;
+      rest = q.rest;
+      parts =
+          ap (λ x. Node.Split v k ∷ x) (p.parts ∙ ap (λ x. nodes_of p.tree ++ x) q.parts
+          ∙ sym (append_assoc (nodes_of p.tree) (nodes_of q.tree) q.rest));
+      whole = q.whole;
+      shorter = omega (arith, s, u);
+    }
+parsed (suc m) (Node.Case k ∷ ns) n h w =
+    let p = parsed m ns (suc n) (omega (arith, h)) (ap (is_whole ns) (omega arith) ∙ w) in
+    let s = p.shorter in
+    let q = parsed m p.rest n (omega (arith, h, s)) p.whole in
+    let u = q.shorter in
+    record {
+      tree = case_node k p.tree q.tree;
+      rest = q.rest;
+      parts =
+          ap (λ x. Node.Case k ∷ x) (p.parts ∙ ap (λ x. nodes_of p.tree ++ x) q.parts
+          ∙ sym (append_assoc (nodes_of p.tree) (nodes_of q.tree) q.rest));
+      whole = q.whole;
+      shorter = omega (arith, s, u);
+    }
+
+append_nil : {A : Type 0} (xs : List A) → xs ++ [] ≡ xs
+append_nil [] = refl
+append_nil (x ∷ xs) = ap (λ ys. x ∷ ys) (append_nil xs)
+
+nothing-remaining : (ns : List Node) → is_whole ns 0 ≡ true → ns ≡ []
+nothing-remaining [] w = refl
+nothing-remaining (n ∷ ns) w = absurd (cc)
+
+-- nodes that are walked to their end are those of a tree that refutes
+pub walked-refutes : (o : Obligation) (nodes : List Node) → is_whole nodes 1 ≡ true → judged o nodes ≡ Ok [] →
+    Refuted o nodes
+walked-refutes o nodes w e =
+    let p = parsed (length nodes) nodes 0 (omega arith) w in
+    let same : nodes ≡ nodes_of p.tree = p.parts ∙ ap (λ x. nodes_of p.tree ++ x) (nothing-remaining p.rest p.whole)
+    ∙ append_nil (nodes_of p.tree) in (
+      p.tree,
+      sym same,
+      reads o.variables p.tree 1 (first_branch o) [] [] 0
+          (ap (λ x. walk o.variables x (at_level 1 (first_branch o) ∷ []) 0)
+          (append_nil (nodes_of p.tree) ∙ sym same) ∙ e),
+    )
+
+-- and the other way round
+pub refutes-walked : (o : Obligation) (nodes : List Node) → Refuted o nodes → judged o nodes ≡ Ok []
+refutes-walked o nodes r =
+    ap (λ x. walk o.variables x (at_level 1 (first_branch o) ∷ []) 0) (sym r.1 ∙ sym (append_nil (nodes_of r.0)))
+    ∙ walk-tree o.variables r.0 1 (first_branch o) [] [] 0 r.2
+
+pub walk-is-tree : WalkIsTree
+walk-is-tree o nodes w = (walked-refutes o nodes w, refutes-walked o nodes)
+
+pub ruleset check_laws = (whole-walks, sound, walked-refutes, refutes-walked)

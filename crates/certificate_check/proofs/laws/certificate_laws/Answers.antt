@@ -1,0 +1,15 @@
+use Rattle.certificate_check.proofs.RefutationLaws.{walk-appends, keeps, sound}
+use Rattle.certificate_check.proofs.WholeLaws.{walk-is-tree}
+use Rattle.certificate_check.proofs.laws.certificate_laws.Goals as goal
+
+pub returns-clause-appends : goal.returns-clause-appends
+returns-clause-appends c = walk-appends
+
+pub returns-clause-keeps : goal.returns-clause-keeps
+returns-clause-keeps c = keeps
+
+pub returns-clause-sound : goal.returns-clause-sound
+returns-clause-sound c = sound
+
+pub returns-clause-tree : goal.returns-clause-tree
+returns-clause-tree c = walk-is-tree

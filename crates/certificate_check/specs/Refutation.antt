@@ -1,0 +1,109 @@
+-- When a certificate refutes a branch, and which node fails first where none does.
+use Rattle.std.specs.Prelude.{◌≡◌, nat_le, nat_lt, ℕ, zero, suc, ◌+◌, ℤ, pos, ◌+ℤ◌, Bool, true, cond, not, Option, Some}
+use Rattle.std.specs.Prelude.{None, Result, Ok, Err, List, [], ◌∷◌, ◌++◌, map, length, slice_get}
+use Rattle.std.specs.List.{list_all}
+use Rattle.core_terms.specs.declared.trees.CForm.{CForm}
+use Rattle.case_tables.specs.declared.code_table.Code.{Code}
+use Rattle.obligations.specs.declared.branches.Branch.{Branch}
+use Rattle.obligations.specs.declared.branches.Line.{Line}
+use Rattle.obligations.specs.declared.branches.Variable.{Variable}
+use Rattle.obligations.specs.declared.branches.Obligation.{Obligation}
+use Rattle.obligations.specs.declared.certificates.Node.{Node}
+use Rattle.obligations.specs.LinearForms.{fact_of}
+use Rattle.obligations.specs.Opening.{Valid, first_branch, at_most, at_least}
+use Rattle.obligations.specs.Settling.{settled, sides, without, added, branch_holds}
+use Rattle.certificate_check.specs.Sums.{all_pairs, is_false, is_divisible, divided}
+
+-- What a node makes of a branch: a failure, or the branches that its subtrees have to refute.
+pub data Made : Type 0 where
+  fails : Code → Made
+  opens : List Branch → Made
+
+abbrev pub made_case : List Variable → Branch → ℕ → Option CForm → Made
+made_case vs b k None = fails Code.NothingToCase
+made_case vs b k (Some f) = opens (settled vs (sides f).0 (without b k) ∷ settled vs (sides f).1 (without b k) ∷ [])
+
+-- what `case` makes of a branch: its waiting formula of this number is taken out, and either side settled
+abbrev pub case_at : List Variable → Branch → ℕ → Made
+case_at vs b zero = fails Code.NothingToCase
+case_at vs b (suc k) = made_case vs b k (slice_get b.waiting k)
+
+-- what `split` makes: the variable is at most k, or above it
+abbrev pub split_at : List Variable → Branch → ℕ → ℤ → Made
+split_at vs b zero k = fails Code.NoSuchVariable
+split_at vs b (suc v) k =
+    cond (nat_lt v (length vs)) (opens (added b (at_most v k) ∷ added b (at_least v (k +ℤ pos 1)) ∷ []))
+    (fails Code.NoSuchVariable)
+
+-- a sum closes the branch where it is false
+abbrev pub made_sum : Result Line Code → Made
+made_sum (Err c) = fails c
+made_sum (Ok l) = cond (is_false l) (opens []) (fails Code.BadSum)
+
+-- a sum whose factors the number divides is added as a fact, divided and rounded down
+abbrev pub made_round : Branch → ℤ → Result Line Code → Made
+made_round b d (Err c) = fails c
+made_round b d (Ok l) = cond (is_divisible d l) (opens (added b (fact_of (divided d l)) ∷ [])) (fails Code.NotDivisible)
+
+abbrev pub made_by : List Variable → Branch → Node → Made
+made_by vs b (Node.Case k) = case_at vs b k
+made_by vs b (Node.Split v k) = split_at vs b v k
+made_by vs b (Node.Sum ps) = made_sum (all_pairs vs b.facts ps)
+made_by vs b (Node.Round d ps) = made_round b d (all_pairs vs b.facts ps)
+
+-- a branch with its level, which is 1 at the first branch
+pub record Pending : Type 0 where
+  pub level : ℕ
+  pub branch : Branch
+
+-- a node past level 1,024 fails
+abbrev pub made : List Variable → Pending → Node → Made
+made vs p n = cond (nat_le p.level 1024) (made_by vs p.branch n) (fails Code.CertTooDeep)
+
+abbrev pub pending : ℕ → List Branch → List Pending
+pending level bs = map (λ b. record { level = level; branch = b }) bs
+
+-- the branches that are still to be refuted, in order, or the first node that fails and its code
+abbrev pub Reading : Type 0
+Reading = Result (List Pending) (Code × ℕ)
+
+abbrev pub after : (List Pending → Reading) → ℕ → List Pending → ℕ → Made → Reading
+after rest level ps at (fails c) = Err (c, at)
+after rest level ps at (opens bs) = rest (pending (suc level) bs ++ ps)
+
+-- The nodes from the place `at` on, against the branches that are still to be refuted, in order. Where there
+-- are none, no node is looked at.
+abbrev pub walk : List Variable → List Node → List Pending → ℕ → Reading
+walk vs [] ps at = Ok ps
+walk vs (n ∷ ns) [] at = Ok []
+walk vs (n ∷ ns) (p ∷ ps) at = after (λ qs. walk vs ns qs (suc at)) p.level ps at (made vs p n)
+
+abbrev pub at_level : ℕ → Branch → Pending
+at_level level b = record { level = level; branch = b }
+
+-- what a walk along the nodes makes of an obligation's first branch
+abbrev pub judged : Obligation → List Node → Reading
+judged o nodes = walk o.variables nodes (at_level 1 (first_branch o) ∷ []) 0
+
+-- further nodes go on where a walk ended
+abbrev pub go_on : Reading → (List Pending → Reading) → Reading
+go_on (Ok ps) rest = rest ps
+go_on (Err e) rest = Err e
+
+abbrev pub WalkAppends : Type 0
+WalkAppends = (vs : List Variable) (ns ms : List Node) (ps : List Pending) (at : ℕ) →
+    walk vs (ns ++ ms) ps at ≡ go_on (walk vs ns ps at) (λ qs. walk vs ms qs (at + length ns))
+
+-- none of the branches holds at these values
+abbrev pub none_holds : List Variable → List ℤ → List Pending → Bool
+none_holds vs values ps = list_all (λ p. not (branch_holds vs values p.branch)) ps
+
+-- where none of the branches holds that a walk leaves, none of those held with which it began
+abbrev pub WalkKeeps : Type 0
+WalkKeeps = (vs : List Variable) (values : List ℤ) → length values ≡ length vs → (ns : List Node)
+    (ps qs : List Pending) (at : ℕ) → walk vs ns ps at ≡ Ok qs → none_holds vs values qs ≡ true →
+    none_holds vs values ps ≡ true
+
+-- an obligation of which a walk leaves no branch is valid
+abbrev pub Sound : Type 0
+Sound = (o : Obligation) (nodes : List Node) → judged o nodes ≡ Ok [] → Valid o

@@ -1,0 +1,13 @@
+//! Whether a certificate refutes an obligation: whether its nodes close each branch that the
+//! obligation's negation opens.
+#![tactic(auto)]
+
+mod errors;
+mod laws;
+mod machine;
+mod sums;
+
+pub use errors::CertError;
+pub use laws::certificate_laws;
+pub use machine::check_cert;
+pub use sums::{add_pairs, closes, divides, rounded};

@@ -1,0 +1,469 @@
+//! The reading of a certificate's nodes. One branch is held, and for each open `case` and `split` a frame
+//! that says how it goes on after the first subtree: the branch grows at the ends of its lists, and is cut
+//! back for the second one.
+ghost use Rattle.std.specs.Prelude.{◌≡◌, ◌≢◌, ◌≤◌, ◌<◌, ◌^◌, pos, ◌+ℤ◌, ◌∷◌, [], IfErr, IfOk, OnOk, MatchResult, true};
+ghost use Rattle.std.specs.Prelude.{false, Ok, length, reverse};
+ghost use Rattle.std.specs.Int.RustNames.{unsigned_abs};
+ghost use Rattle.obligations.specs.Settling.{settled, sides, added};
+ghost use Rattle.obligations.specs.Load.{form_load, need, is_light_branch};
+ghost use Rattle.obligations.specs.Opening.{Valid, first_branch, at_most, at_least};
+ghost use Rattle.obligations.specs.Obligations.{AreVariables};
+ghost use Rattle.certificate_check.specs.Sums.{all_pairs};
+ghost use Rattle.certificate_check.specs.Refutation.{at_level, case_at, split_at, made, made_sum, made_round, walk};
+ghost use Rattle.certificate_check.specs.Refutation.{judged};
+ghost use Rattle.certificate_check.specs.Trees.{is_whole, Refuted};
+ghost use Rattle.certificate_check.specs.Machines.{base_of, full_by, second_by, behind, place_fits, Fits, pendings};
+ghost use Rattle.certificate_check.specs.Machines.{IsFit, rest_of, is_light_todo, are_light, IsLight, Goes, GoesErr};
+ghost use Rattle.certificate_check.specs.Machines.{FailsSum, FailsReading};
+
+use crate::errors::{CertError, Stop};
+use crate::sums::{add_pairs, closes, divides, rounded};
+use case_tables::Code;
+use core_terms::CForm;
+use obligations::{
+    Branch, Cert, Fact, Line, Node, Obligation, Variable, open_branch, settle_onto, zero_line,
+};
+use std::alloc::{AllocError, Global};
+use unity_base::{Held, Seq};
+
+/// How a branch goes on after its first subtree.
+#[derive(Drop)]
+pub enum Todo {
+    /// With the other side of the waiting formula that was taken from this place.
+    Case { place: usize, form: Held<CForm> },
+    /// With the variable at this place above a number.
+    Split { variable: u32, at: i64 },
+}
+
+/// A `case` or a `split` whose subtrees are being read, with the lengths of its branch's lists, and whether
+/// the first subtree is being read.
+#[derive(Drop)]
+pub struct Frame {
+    pub level: u32,
+    pub facts: usize,
+    pub waits: usize,
+    pub todo: Todo,
+    pub first: bool,
+}
+
+/// The branch that the next node belongs to, its level, and the frames around it, the innermost one last.
+#[derive(Drop)]
+pub struct Machine {
+    pub level: u32,
+    pub branch: Branch,
+    pub frames: Seq<Frame>,
+    pub done: bool,
+}
+
+/// Cuts a branch back to the lengths of a frame.
+#[tactic(auto, using(crate::proofs::MachineLaws::cut_laws))]
+fn cut(frame: &Frame, branch: &mut Branch)
+    ensures branch { branch.new ≡ base_of frame.now branch.old }
+    ensures light { is_light_branch (2 ^ 63) branch.old ≡ true → is_light_branch (2 ^ 63) branch.new ≡ true }
+{
+    branch.facts.truncate(frame.facts);
+    branch.waiting.truncate(frame.waits);
+}
+
+/// Puts a formula back that was taken out.
+#[tactic(auto, using(crate::proofs::MachineLaws::insert_laws))]
+fn put_back(todo: Todo, branch: &mut Branch) -> Result<(), AllocError>
+    requires place { place_fits todo (length branch.old.waiting) }
+    requires taken { is_light_todo todo ≡ true }
+    requires waiting { is_light_branch (2 ^ 63) branch.old ≡ true }
+    ensures branch { OnOk result (branch.new ≡ full_by todo branch.old) }
+    ensures light { OnOk result (is_light_branch (2 ^ 63) branch.new ≡ true) }
+{
+    match todo {
+        Todo::Case { place, form } => branch.waiting.insert(place, form),
+        Todo::Split { .. } => Ok(()),
+    }
+}
+
+/// Adds a fact.
+fn add(branch: &mut Branch, fact: Fact) -> Result<(), AllocError>
+    ensures { OnOk result (branch.new ≡ added branch.old fact) }
+{
+    branch.facts.push(fact)
+}
+
+/// That a variable is at most a number.
+fn bound_above(alloc: Global, variable: u32, at: i128) -> Result<Fact, AllocError>
+    ensures { IfOk result (λ f. f ≡ at_most variable at) }
+{
+    let mut factors = Seq::new(alloc);
+    factors.push((variable, -1))?;
+    Ok(Fact {
+        factors,
+        constant: at,
+    })
+}
+
+/// That a variable is at least a number.
+fn bound_below(alloc: Global, variable: u32, at: i128) -> Result<Fact, AllocError>
+    requires { unsigned_abs at < 2 ^ 100 }
+    ensures { IfOk result (λ f. f ≡ at_least variable at) }
+{
+    let mut factors = Seq::new(alloc);
+    factors.push((variable, 1))?;
+    Ok(Fact {
+        factors,
+        constant: -at,
+    })
+}
+
+/// The two sides of a formula that waits.
+fn sides_of(form: &CForm) -> (&CForm, &CForm)
+    ensures first { result.0.now ≡ (sides form.now).0 }
+    ensures second { result.1.now ≡ (sides form.now).1 }
+{
+    match form {
+        CForm::Or(a, b) => (a.get(), b.get()),
+        _ => (form, form),
+    }
+}
+
+/// Settles the first side of a formula.
+#[tactic(auto, using(obligations::proofs::LightLaws::side_laws, crate::proofs::MachineLaws::settled_laws))]
+fn settle_first(
+    alloc: Global,
+    vs: &[Variable],
+    form: &CForm,
+    branch: &mut Branch,
+) -> Result<(), AllocError>
+    requires variables { AreVariables vs.now }
+    requires light { (need form.now).yes ≤ 2 ^ 63 }
+    requires waiting { is_light_branch (2 ^ 63) branch.old ≡ true }
+    ensures branch { OnOk result (branch.new ≡ settled vs.now (sides form.now).0 branch.old) }
+    ensures light { OnOk result (is_light_branch (2 ^ 63) branch.new ≡ true) }
+{
+    settle_onto(alloc, vs, sides_of(form).0, branch)?;
+    Ok(())
+}
+
+/// Settles the second side of a formula.
+#[tactic(auto, using(obligations::proofs::LightLaws::side_laws, crate::proofs::MachineLaws::settled_laws))]
+fn settle_second(
+    alloc: Global,
+    vs: &[Variable],
+    form: &CForm,
+    branch: &mut Branch,
+) -> Result<(), AllocError>
+    requires variables { AreVariables vs.now }
+    requires light { (need form.now).yes ≤ 2 ^ 63 }
+    requires waiting { is_light_branch (2 ^ 63) branch.old ≡ true }
+    ensures branch { OnOk result (branch.new ≡ settled vs.now (sides form.now).1 branch.old) }
+    ensures light { OnOk result (is_light_branch (2 ^ 63) branch.new ≡ true) }
+{
+    settle_onto(alloc, vs, sides_of(form).1, branch)?;
+    Ok(())
+}
+
+/// Makes the branch of a frame's second subtree from the branch cut back.
+#[tactic(auto, using(crate::proofs::MachineLaws::added_laws))]
+fn go_second(
+    alloc: Global,
+    vs: &[Variable],
+    todo: &Todo,
+    branch: &mut Branch,
+) -> Result<(), AllocError>
+    requires variables { AreVariables vs.now }
+    requires taken { is_light_todo todo.now ≡ true }
+    requires waiting { is_light_branch (2 ^ 63) branch.old ≡ true }
+    ensures branch { OnOk result (branch.new ≡ second_by vs.now todo.now branch.old) }
+    ensures light { OnOk result (is_light_branch (2 ^ 63) branch.new ≡ true) }
+{
+    match todo {
+        Todo::Case { form, .. } => settle_second(alloc, vs, form.get(), branch),
+        Todo::Split { variable, at } => {
+            add(branch, bound_below(alloc, *variable, *at as i128 + 1)?)
+        }
+    }
+}
+
+/// Goes on with a frame's second subtree, or puts its branch back where both are read.
+#[tactic(auto, using(crate::proofs::MachineLaws::frame_laws))]
+fn resume(
+    alloc: Global,
+    vs: &[Variable],
+    machine: &mut Machine,
+    frame: Frame,
+) -> Result<bool, AllocError>
+    requires variables { AreVariables vs.now }
+    requires fits { Fits (frame ∷ reverse machine.old.frames) machine.old.branch }
+    requires going { machine.old.done ≡ false }
+    requires light { IsLight machine.old }
+    requires taken { is_light_todo frame.todo ≡ true }
+    ensures second { IfOk result (λ on. on ≡ true →
+        (pendings vs.now machine.new ≡ behind vs.now (frame ∷ reverse machine.old.frames) machine.old.branch)
+        × IsFit machine.new) }
+    ensures back { IfOk result (λ on. on ≡ false →
+        (rest_of vs.now machine.new ≡ behind vs.now (frame ∷ reverse machine.old.frames) machine.old.branch)
+        × Fits (reverse machine.new.frames) machine.new.branch × (machine.new.frames ≡ machine.old.frames)
+        × (machine.new.done ≡ false) × (machine.new.level ≡ machine.old.level)) }
+    ensures light { OnOk result (IsLight machine.new) }
+{
+    cut(&frame, &mut machine.branch);
+    if frame.first {
+        go_second(alloc, vs, &frame.todo, &mut machine.branch)?;
+        machine.level = frame.level + 1;
+        machine.frames.push(Frame {
+            level: frame.level,
+            facts: frame.facts,
+            waits: frame.waits,
+            todo: frame.todo,
+            first: false,
+        })?;
+        Ok(true)
+    } else {
+        put_back(frame.todo, &mut machine.branch)?;
+        Ok(false)
+    }
+}
+
+/// Leaves the subtrees that are read, up to the next that isn't.
+#[tactic(auto, using(crate::proofs::MachineLaws::back_laws))]
+fn go_back(alloc: Global, vs: &[Variable], machine: &mut Machine) -> Result<(), AllocError>
+    requires variables { AreVariables vs.now }
+    requires fits { Fits (reverse machine.old.frames) machine.old.branch }
+    requires level { machine.old.level ≤ 1025 }
+    requires going { machine.old.done ≡ false }
+    requires light { IsLight machine.old }
+    ensures pending { OnOk result (pendings vs.now machine.new ≡ rest_of vs.now machine.old) }
+    ensures fit { OnOk result (IsFit machine.new) }
+    ensures light { OnOk result (IsLight machine.new) }
+{
+    'frames: loop {
+        match machine.frames.pop() {
+            None => {
+                machine.done = true;
+                return Ok(());
+            }
+            Some(frame) => {
+                if resume(alloc, vs, machine, frame)? {
+                    return Ok(());
+                }
+            }
+        }
+    }
+}
+
+/// Takes the waiting formula of this number out, and goes on with its first side settled.
+fn open_case(alloc: Global, vs: &[Variable], machine: &mut Machine, k: u64) -> Result<(), Stop>
+    requires variables { AreVariables vs.now }
+    requires fits { IsFit machine.old }
+    requires level { machine.old.level ≤ 1024 }
+    requires going { machine.old.done ≡ false }
+    requires light { IsLight machine.old }
+    ensures ok { OnOk result (Goes vs.now machine.old (case_at vs.now machine.old.branch k) machine.new) }
+    ensures light { OnOk result (IsLight machine.new) }
+    ensures err { IfErr result (GoesErr vs.now machine.old (case_at vs.now machine.old.branch k)) }
+{
+    if k == 0 || k as usize > machine.branch.waiting.len() {
+        return Err(Stop::Fault(Code::NothingToCase));
+    }
+    let place = k as usize - 1;
+    let form = machine.branch.waiting.remove(place);
+    let facts = machine.branch.facts.len();
+    let waits = machine.branch.waiting.len();
+    settle_first(alloc, vs, form.get(), &mut machine.branch)?;
+    machine.frames.push(Frame {
+        level: machine.level,
+        facts,
+        waits,
+        todo: Todo::Case { place, form },
+        first: true,
+    })?;
+    machine.level += 1;
+    Ok(())
+}
+
+/// Goes on with a variable at most a number.
+fn open_split(
+    alloc: Global,
+    vs: &[Variable],
+    machine: &mut Machine,
+    variable: u64,
+    k: i64,
+) -> Result<(), Stop>
+    requires variables { AreVariables vs.now }
+    requires fits { IsFit machine.old }
+    requires level { machine.old.level ≤ 1024 }
+    requires going { machine.old.done ≡ false }
+    requires light { IsLight machine.old }
+    ensures ok { OnOk result (Goes vs.now machine.old (split_at vs.now machine.old.branch variable k) machine.new) }
+    ensures light { OnOk result (IsLight machine.new) }
+    ensures err { IfErr result (GoesErr vs.now machine.old (split_at vs.now machine.old.branch variable k)) }
+{
+    if variable == 0 || variable as usize > vs.len() {
+        return Err(Stop::Fault(Code::NoSuchVariable));
+    }
+    let place = (variable - 1) as u32;
+    let facts = machine.branch.facts.len();
+    let waits = machine.branch.waiting.len();
+    add(&mut machine.branch, bound_above(alloc, place, k as i128)?)?;
+    machine.frames.push(Frame {
+        level: machine.level,
+        facts,
+        waits,
+        todo: Todo::Split {
+            variable: place,
+            at: k,
+        },
+        first: true,
+    })?;
+    machine.level += 1;
+    Ok(())
+}
+
+/// Adds the pairs of a node.
+fn total(
+    alloc: Global,
+    vs: &[Variable],
+    branch: &Branch,
+    pairs: &Seq<(i64, u64)>,
+) -> Result<Line, Stop>
+    ensures sum { MatchResult result
+        (λ sum. all_pairs vs.now branch.now.facts pairs.now ≡ Ok sum)
+        (λ stop. FailsSum (all_pairs vs.now branch.now.facts pairs.now) stop) }
+    ensures size { IfOk result (λ sum. length sum.factors ≡ length vs.now) }
+{
+    let mut sum = zero_line(alloc, vs)?;
+    match add_pairs(branch.facts.as_slice(), pairs.as_slice(), &mut sum) {
+        Ok(()) => Ok(sum),
+        Err(code) => Err(Stop::Fault(code)),
+    }
+}
+
+/// Closes the branch by a sum, and goes back.
+fn close(
+    alloc: Global,
+    vs: &[Variable],
+    machine: &mut Machine,
+    pairs: &Seq<(i64, u64)>,
+) -> Result<(), Stop>
+    requires variables { AreVariables vs.now }
+    requires fits { IsFit machine.old }
+    requires going { machine.old.done ≡ false }
+    requires light { IsLight machine.old }
+    ensures ok { OnOk result
+        (Goes vs.now machine.old (made_sum (all_pairs vs.now machine.old.branch.facts pairs.now)) machine.new) }
+    ensures light { OnOk result (IsLight machine.new) }
+    ensures err { IfErr result
+        (GoesErr vs.now machine.old (made_sum (all_pairs vs.now machine.old.branch.facts pairs.now))) }
+{
+    let sum = total(alloc, vs, &machine.branch, pairs)?;
+    if !closes(&sum) {
+        return Err(Stop::Fault(Code::BadSum));
+    }
+    go_back(alloc, vs, machine)?;
+    Ok(())
+}
+
+/// Adds a rounded sum as a fact.
+#[tactic(auto, using(crate::proofs::MachineLaws::round_laws))]
+fn round(
+    alloc: Global,
+    vs: &[Variable],
+    machine: &mut Machine,
+    d: &i64,
+    pairs: &Seq<(i64, u64)>,
+) -> Result<(), Stop>
+    requires variables { AreVariables vs.now }
+    requires fits { IsFit machine.old }
+    requires level { machine.old.level ≤ 1024 }
+    requires going { machine.old.done ≡ false }
+    requires light { IsLight machine.old }
+    ensures ok { OnOk result (Goes vs.now machine.old
+        (made_round machine.old.branch d.now (all_pairs vs.now machine.old.branch.facts pairs.now)) machine.new) }
+    ensures light { OnOk result (IsLight machine.new) }
+    ensures err { IfErr result (GoesErr vs.now machine.old
+        (made_round machine.old.branch d.now (all_pairs vs.now machine.old.branch.facts pairs.now))) }
+{
+    let sum = total(alloc, vs, &machine.branch, pairs)?;
+    if !divides(*d, &sum) {
+        return Err(Stop::Fault(Code::NotDivisible));
+    }
+    add(&mut machine.branch, rounded(alloc, *d, &sum)?)?;
+    machine.level += 1;
+    Ok(())
+}
+
+/// Reads one node.
+#[tactic(auto, using(crate::proofs::MachineLaws::trips))]
+fn take(alloc: Global, vs: &[Variable], machine: &mut Machine, node: &Node) -> Result<(), Stop>
+    requires variables { AreVariables vs.now }
+    requires fits { IsFit machine.old }
+    requires going { machine.old.done ≡ false }
+    requires light { IsLight machine.old }
+    ensures ok { OnOk result (Goes vs.now machine.old
+        (made vs.now (at_level machine.old.level machine.old.branch) node.now) machine.new) }
+    ensures light { OnOk result (IsLight machine.new) }
+    ensures err { IfErr result (GoesErr vs.now machine.old
+        (made vs.now (at_level machine.old.level machine.old.branch) node.now)) }
+{
+    if machine.level > 1024 {
+        return Err(Stop::Fault(Code::CertTooDeep));
+    }
+    match node {
+        Node::Case(k) => open_case(alloc, vs, machine, *k),
+        Node::Split(variable, k) => open_split(alloc, vs, machine, *variable, *k),
+        Node::Sum(pairs) => close(alloc, vs, machine, pairs),
+        Node::Round(d, pairs) => round(alloc, vs, machine, d, pairs),
+    }
+}
+
+/// Whether the nodes refute a branch, or the first that fails.
+fn read(alloc: Global, vs: &[Variable], first: Branch, nodes: &[Node]) -> Result<(), CertError>
+    requires variables { AreVariables vs.now }
+    requires whole { is_whole nodes.now 1 ≡ true }
+    requires light { is_light_branch (2 ^ 63) first ≡ true }
+    ensures { MatchResult result
+        (λ _. walk vs.now nodes.now (at_level 1 first ∷ []) 0 ≡ Ok [])
+        (FailsReading (walk vs.now nodes.now (at_level 1 first ∷ []) 0)) }
+{
+    let mut machine = Machine {
+        level: 1,
+        branch: first,
+        frames: Seq::new(alloc),
+        done: false,
+    };
+    for (place, node) in nodes.iter().enumerate() {
+        if machine.done {
+            return Ok(());
+        }
+        match take(alloc, vs, &mut machine, node) {
+            Ok(()) => {}
+            Err(Stop::Fault(code)) => {
+                return Err(CertError::Fault {
+                    code,
+                    node: place as u64,
+                });
+            }
+            Err(Stop::Memory) => return Err(CertError::Memory),
+        }
+    }
+    Ok(())
+}
+
+/// Whether a certificate refutes an obligation. Where it does, the obligation is valid. Else the
+/// error is `Fault` with the first node that fails, from 0, and how; or `Memory`, where memory was
+/// refused. No number that is met is past 2^126, since the form's load is limited.
+#[tactic(auto, using(crate::proofs::WholeLaws::check_laws))]
+pub fn check_cert(alloc: Global, o: &Obligation, c: &Cert) -> Result<(), CertError>
+    requires variables { AreVariables o.now.variables }
+    requires load { form_load o.now.form ≤ 2 ^ 62 }
+    requires whole { is_whole c.now.nodes 1 ≡ true }
+
+    // It is taken exactly where a walk along its nodes leaves no branch, so where its tree refutes.
+    ensures walked { OnOk result (judged o.now c.now.nodes ≡ Ok []) }
+    ensures refuted { OnOk result (Refuted o.now c.now.nodes) }
+    ensures not_refuted { IfErr result (λ e. e ≢ CertError.Memory → Refuted o.now c.now.nodes → ⊥) }
+    ensures fault { IfErr result (FailsReading (judged o.now c.now.nodes)) }
+    ensures valid { OnOk result (Valid o.now) }
+{
+    match open_branch(alloc, o) {
+        Ok(first) => read(alloc, o.variables.as_slice(), first, c.nodes.as_slice()),
+        Err(_) => Err(CertError::Memory),
+    }
+}

@@ -1,0 +1,92 @@
+// The deepest trees of 65,536 nodes, through each call that goes down a tree. A call that took too much
+// stack would end the test; that it answers rightly is proved.
+ghost use Rattle.std.specs.Prelude.{◌≡◌, pos};
+ghost use Rattle.obligation_examples.specs.Deep.{IsDeepForm};
+
+use super::*;
+use core_terms::{CSlot, Print, Range, copy_form};
+use obligations::{Branch, TooLargeError, height, make, need, open_branch, settle, with_variables};
+use std::test::Fail;
+use unity_base::Seq;
+
+const NODES: u32 = 65536;
+
+fn bit(name: u32) -> CSlot
+    ensures low { result.range.lo ≡ pos 0 }
+    ensures high { result.range.hi ≡ pos 1 }
+{
+    CSlot {
+        name,
+        index: None,
+        range: Range { lo: 0, hi: 1 },
+        print: Print::Number,
+    }
+}
+
+// Whether an obligation is made of the formula, or it is too large.
+fn is_made(alloc: Global, f: CForm) -> Result<bool, AllocError>
+    requires { IsDeepForm f }
+{
+    let slots = [bit(0)];
+    match make(alloc, f, slots.as_slice(), [].as_slice()) {
+        Ok(o) => Ok(height(&o) <= 960),
+        Err(TooLargeError::TooLarge) => Ok(true),
+        Err(TooLargeError::Memory) => Err(AllocError),
+    }
+}
+
+// Whether the formula is opened and settled.
+fn is_settled(alloc: Global, f: &CForm) -> Result<bool, AllocError>
+    requires { IsDeepForm f.now }
+{
+    let slots = [Range { lo: 0, hi: 1 }];
+    let o = with_variables(alloc, copy_form(alloc, f)?, slots.as_slice(), [].as_slice())?;
+    let branch = open_branch(alloc, &o)?;
+    let branch = settle(alloc, &o, branch, copy_form(alloc, f)?)?;
+    let some = need(&o).is_some();
+    Ok(2 <= branch.facts.len() && (some || !some))
+}
+
+fn goes_through(alloc: Global, f: CForm) -> Result<bool, AllocError>
+    requires { IsDeepForm f }
+{
+    let settled = is_settled(alloc, &f)?;
+    Ok(is_made(alloc, f)? && settled)
+}
+
+#[test]
+fn takes_deep_formulas(rt: HostRuntime) -> Result<(), Fail> {
+    for (which, part) in [(Around::Not, 1), (Around::And, 2), (Around::Or, 2)] {
+        let f = deep_form(rt.alloc(), which, (NODES - 2) / part)?;
+        assert!(rt; goes_through(rt.alloc(), f)?);
+    }
+    Ok(())
+}
+
+#[test]
+fn takes_deep_terms(rt: HostRuntime) -> Result<(), Fail> {
+    for (which, part) in [
+        (TermAround::Scale, 1),
+        (TermAround::Add, 2),
+        (TermAround::Sub, 2),
+        (TermAround::Branch, 3),
+        (TermAround::Condition, 4),
+    ] {
+        let t = deep_term(rt.alloc(), which, (NODES - 2) / part, CTerm::Slot(0))?;
+        assert!(rt; goes_through(rt.alloc(), CForm::Zero(t))?);
+    }
+    Ok(())
+}
+
+#[test]
+fn takes_deep_choices(rt: HostRuntime) -> Result<(), Fail> {
+    for (which, part) in [
+        (TermAround::Scale, 1),
+        (TermAround::Add, 2),
+        (TermAround::Sub, 2),
+    ] {
+        let t = deep_term(rt.alloc(), which, (NODES - 5) / part, choice(rt.alloc())?)?;
+        assert!(rt; goes_through(rt.alloc(), CForm::Zero(t))?);
+    }
+    Ok(())
+}

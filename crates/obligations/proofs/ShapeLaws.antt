@@ -1,0 +1,109 @@
+-- The shapes of terms and formulas, by their heads, and their leaves where these stop at a cap.
+use Rattle.std.proofs.Common.{◌≡◌, ℕ, ◌+◌, ◌*◌, min, ℤ, arith, sym, ap, ◌∙◌}
+use Rattle.core_terms.specs.declared.trees.CTerm.{CTerm}
+use Rattle.core_terms.specs.declared.trees.CTerm.TheVariants.{Const, Slot, Param, Add, Sub, Scale, Ite, rolls-Const}
+use Rattle.core_terms.specs.declared.trees.CTerm.TheVariants.{rolls-Slot, rolls-Param, rolls-Add, rolls-Sub}
+use Rattle.core_terms.specs.declared.trees.CTerm.TheVariants.{rolls-Scale, rolls-Ite}
+use Rattle.core_terms.specs.declared.trees.CForm.{CForm}
+use Rattle.core_terms.specs.declared.trees.CForm.TheVariants.{Top, Bottom, AtLeast, Zero, Not, And, Or, rolls-Top}
+use Rattle.core_terms.specs.declared.trees.CForm.TheVariants.{rolls-Bottom, rolls-AtLeast, rolls-Zero, rolls-Not}
+use Rattle.core_terms.specs.declared.trees.CForm.TheVariants.{rolls-And, rolls-Or}
+use Rattle.core_terms.specs.declared.trees.CForm.TheOpen.{CTerm-F, CForm-F}
+use Rattle.obligations.specs.Shapes.{Shape, plain, both, either, apart, Shapes, term_shape_step, form_shape_step}
+use Rattle.obligations.specs.Shapes.{term_shape, shapes}
+use Rattle.obligations.proofs.SettlingLaws.{term_fold, form_fold}
+use Rattle.obligations.proofs.FoldLaws.{product-capped}
+
+abbrev T : CTerm → Shape
+T = term_shape
+
+abbrev S : CForm → Shapes
+S = shapes
+
+pub shape-Const : (c : ℤ) → T (Const c) ≡ plain
+shape-Const c = term_fold form_shape_step term_shape_step (CTerm-F.Const c) (Const c) (rolls-Const c)
+
+pub shape-Slot : (n : ℕ) → T (Slot n) ≡ plain
+shape-Slot n = term_fold form_shape_step term_shape_step (CTerm-F.Slot n) (Slot n) (rolls-Slot n)
+
+pub shape-Param : (n : ℕ) → T (Param n) ≡ plain
+shape-Param n = term_fold form_shape_step term_shape_step (CTerm-F.Param n) (Param n) (rolls-Param n)
+
+pub shape-Add : (a b : CTerm) → T (Add a b) ≡ both (T a) (T b)
+shape-Add a b = term_fold form_shape_step term_shape_step (CTerm-F.Add a b) (Add a b) (rolls-Add a b)
+
+pub shape-Sub : (a b : CTerm) → T (Sub a b) ≡ both (T a) (T b)
+shape-Sub a b = term_fold form_shape_step term_shape_step (CTerm-F.Sub a b) (Sub a b) (rolls-Sub a b)
+
+pub shape-Scale : (k : ℤ) (a : CTerm) → T (Scale k a) ≡ T a
+shape-Scale k a = term_fold form_shape_step term_shape_step (CTerm-F.Scale k a) (Scale k a) (rolls-Scale k a)
+
+pub shape-Ite : (c : CForm) (a b : CTerm) → T (Ite c a b) ≡ either (both (S c).yes (T a)) (both (S c).no (T b))
+shape-Ite c a b = term_fold form_shape_step term_shape_step (CTerm-F.Ite c a b) (Ite c a b) (rolls-Ite c a b)
+
+pub shape-Top : S Top ≡ record { yes = plain; no = plain }
+shape-Top = form_fold form_shape_step term_shape_step CForm-F.Top Top rolls-Top
+
+pub shape-Bottom : S Bottom ≡ record { yes = plain; no = plain }
+shape-Bottom = form_fold form_shape_step term_shape_step CForm-F.Bottom Bottom rolls-Bottom
+
+pub shape-AtLeast : (t : CTerm) → S (AtLeast t) ≡ record { yes = T t; no = T t }
+shape-AtLeast t = form_fold form_shape_step term_shape_step (CForm-F.AtLeast t) (AtLeast t) (rolls-AtLeast t)
+
+pub shape-Zero : (t : CTerm) → S (Zero t) ≡ record { yes = T t; no = apart (T t) }
+shape-Zero t = form_fold form_shape_step term_shape_step (CForm-F.Zero t) (Zero t) (rolls-Zero t)
+
+pub shape-Not : (f : CForm) → S (Not f) ≡ record { yes = (S f).no; no = (S f).yes }
+shape-Not f = form_fold form_shape_step term_shape_step (CForm-F.Not f) (Not f) (rolls-Not f)
+
+pub shape-And : (f g : CForm) → S (And f g) ≡ record { yes = both (S f).yes (S g).yes; no = either (S f).no (S g).no }
+shape-And f g = form_fold form_shape_step term_shape_step (CForm-F.And f g) (And f g) (rolls-And f g)
+
+pub shape-Or : (f g : CForm) → S (Or f g) ≡ record { yes = either (S f).yes (S g).yes; no = both (S f).no (S g).no }
+shape-Or f g = form_fold form_shape_step term_shape_step (CForm-F.Or f g) (Or f g) (rolls-Or f g)
+
+-- Leaves that stop at a cap, as the code meets them.
+pub and-leaves : (stop : ℕ) (f g h p q : CForm) (x y z : ℕ) → f ≡ And g h → p ≡ g → q ≡ h →
+    x ≡ min (S p).yes.leaves stop → y ≡ min (S q).yes.leaves stop → z ≡ min (x * y) stop →
+    z ≡ min (S f).yes.leaves stop
+and-leaves stop f g h p q x y z e b d m n o =
+    product-capped stop (S g).yes.leaves (S h).yes.leaves x y z
+    (m ∙ ap (λ k. min (S k).yes.leaves stop) b) (n ∙ ap (λ k. min (S k).yes.leaves stop) d) o
+    ∙ sym (ap (λ k. min (S k).yes.leaves stop) e ∙ ap (λ (k : Shapes). min k.yes.leaves stop) (shape-And g h))
+
+pub or-leaves : (stop : ℕ) (f g h p q : CForm) (x y z : ℕ) → f ≡ Or g h → p ≡ g → q ≡ h →
+    x ≡ min (S p).no.leaves stop → y ≡ min (S q).no.leaves stop → z ≡ min (x * y) stop →
+    z ≡ min (S f).no.leaves stop
+or-leaves stop f g h p q x y z e b d m n o =
+    product-capped stop (S g).no.leaves (S h).no.leaves x y z
+    (m ∙ ap (λ k. min (S k).no.leaves stop) b) (n ∙ ap (λ k. min (S k).no.leaves stop) d) o
+    ∙ sym (ap (λ k. min (S k).no.leaves stop) e ∙ ap (λ (k : Shapes). min k.no.leaves stop) (shape-Or g h))
+
+module _ (stop : ℕ) (node : CTerm → CTerm → CTerm) (is : (a b : CTerm) → T (node a b) ≡ both (T a) (T b)) where
+  pair-leaves : (t a b p q : CTerm) (x y z : ℕ) → t ≡ node a b → p ≡ a → q ≡ b →
+      x ≡ min (T p).leaves stop → y ≡ min (T q).leaves stop → z ≡ min (x * y) stop → z ≡ min (T t).leaves stop
+  pair-leaves t a b p q x y z e c d m n o =
+      product-capped stop (T a).leaves (T b).leaves x y z
+      (m ∙ ap (λ k. min (T k).leaves stop) c) (n ∙ ap (λ k. min (T k).leaves stop) d) o
+      ∙ sym (ap (λ k. min (T k).leaves stop) e ∙ ap (λ (k : Shape). min k.leaves stop) (is a b))
+
+pub sum-leaves : (stop : ℕ) (t a b p q : CTerm) (x y z : ℕ) → t ≡ Add a b → p ≡ a → q ≡ b →
+    x ≡ min (T p).leaves stop → y ≡ min (T q).leaves stop → z ≡ min (x * y) stop → z ≡ min (T t).leaves stop
+sum-leaves stop = pair-leaves stop Add shape-Add
+
+pub difference-leaves : (stop : ℕ) (t a b p q : CTerm) (x y z : ℕ) → t ≡ Sub a b → p ≡ a → q ≡ b →
+    x ≡ min (T p).leaves stop → y ≡ min (T q).leaves stop → z ≡ min (x * y) stop → z ≡ min (T t).leaves stop
+difference-leaves stop = pair-leaves stop Sub shape-Sub
+
+-- the leaves of either part of a choice
+pub choice-leaves : (stop : ℕ) (t a b p q : CTerm) (c d : CForm) (u v x y m n z : ℕ) → t ≡ Ite c a b → d ≡ c → p ≡ a →
+    q ≡ b → u ≡ min (S d).yes.leaves stop → v ≡ min (S d).no.leaves stop →
+    x ≡ min (T p).leaves stop → y ≡ min (T q).leaves stop → m ≡ min (u * x) stop → n ≡ min (v * y) stop →
+    z ≡ min (m + n) stop → z ≡ min (T t).leaves stop
+choice-leaves stop t a b p q c d u v x y m n z e f g h i j k l r s all =
+    let first = product-capped stop (S c).yes.leaves (T a).leaves u x m
+    (i ∙ ap (λ r. min (S r).yes.leaves stop) f) (k ∙ ap (λ r. min (T r).leaves stop) g) r in
+    let second = product-capped stop (S c).no.leaves (T b).leaves v y n
+    (j ∙ ap (λ r. min (S r).no.leaves stop) f) (l ∙ ap (λ r. min (T r).leaves stop) h) s in
+    let whole = ap (λ r. (T r).leaves) e ∙ ap (λ (r : Shape). r.leaves) (shape-Ite c a b) in
+    omega (arith, first, second, all, whole)

@@ -1,0 +1,66 @@
+-- How many cases a formula can ask for on one path, and how many leaves they open.
+use Rattle.std.specs.Prelude.{ℕ, ◌+◌, ◌*◌, max, List, [], ◌∷◌}
+use Rattle.core_terms.specs.declared.trees.CTerm.{CTerm, fold-CTerm}
+use Rattle.core_terms.specs.declared.trees.CForm.{CForm, fold-CForm}
+use Rattle.core_terms.specs.declared.trees.CForm.TheOpen.{CTerm-F, CForm-F}
+
+pub record Shape : Type 0 where
+  pub cases : ℕ
+  pub leaves : ℕ
+
+-- no case, and one leaf
+abbrev pub plain : Shape
+plain = record { cases = 0; leaves = 1 }
+
+-- one after the other: cases add, and leaves multiply
+abbrev pub both : Shape → Shape → Shape
+both a b = record { cases = a.cases + b.cases; leaves = a.leaves * b.leaves }
+
+-- one case more, with either of two
+abbrev pub either : Shape → Shape → Shape
+either a b = record { cases = 1 + max a.cases b.cases; leaves = a.leaves + b.leaves }
+
+-- the shape of what is not zero: above it, or below
+abbrev pub apart : Shape → Shape
+apart a = record { cases = 1 + a.cases; leaves = 2 * a.leaves }
+
+-- the shapes of a formula and of its negation
+pub record Shapes : Type 0 where
+  pub yes : Shape
+  pub no : Shape
+
+abbrev pub term_shape_step : CTerm-F Shapes Shape → Shape
+term_shape_step (CTerm-F.Const c) = plain
+term_shape_step (CTerm-F.Slot n) = plain
+term_shape_step (CTerm-F.Param n) = plain
+term_shape_step (CTerm-F.Add a b) = both a b
+term_shape_step (CTerm-F.Sub a b) = both a b
+term_shape_step (CTerm-F.Scale k a) = a
+term_shape_step (CTerm-F.Ite c a b) = either (both c.yes a) (both c.no b)
+
+abbrev pub form_shape_step : CForm-F Shapes Shape → Shapes
+form_shape_step CForm-F.Top = record { yes = plain; no = plain }
+form_shape_step CForm-F.Bottom = record { yes = plain; no = plain }
+form_shape_step (CForm-F.AtLeast t) = record { yes = t; no = t }
+form_shape_step (CForm-F.Zero t) = record { yes = t; no = apart t }
+form_shape_step (CForm-F.Not f) = record { yes = f.no; no = f.yes }
+form_shape_step (CForm-F.And f g) = record { yes = both f.yes g.yes; no = either f.no g.no }
+form_shape_step (CForm-F.Or f g) = record { yes = either f.yes g.yes; no = both f.no g.no }
+
+-- the shape of a term
+abbrev pub term_shape : CTerm → Shape
+term_shape = fold-CTerm Shapes Shape form_shape_step term_shape_step
+
+-- the shapes of a formula and of its negation
+abbrev pub shapes : CForm → Shapes
+shapes = fold-CForm Shapes Shape form_shape_step term_shape_step
+
+-- the cases of formulas that wait, together
+abbrev pub cases_of : List CForm → ℕ
+cases_of [] = 0
+cases_of (f ∷ fs) = (shapes f).yes.cases + cases_of fs
+
+-- their leaves, multiplied
+abbrev pub leaves_of : List CForm → ℕ
+leaves_of [] = 1
+leaves_of (f ∷ fs) = (shapes f).yes.leaves * leaves_of fs

@@ -1,0 +1,160 @@
+// A term's first `Ite`. Nodes have functions of their own, so that the frames are small, and a deep term is
+// gone through within an ordinary stack.
+ghost use Rattle.std.specs.Prelude.{◌≡◌, IfOk, Some};
+ghost use Rattle.core_terms.specs.declared.trees.CTerm.TheVariants.{Add, Sub, Scale};
+ghost use Rattle.obligations.specs.Settling.{within, first_ite};
+
+use crate::branches::Choice;
+use core_terms::{CForm, CTerm, held_form, held_term};
+use std::alloc::{AllocError, Global};
+use unity_base::Held;
+
+/// The choice at an `Ite`.
+#[inline(never)]
+fn choice_of(
+    alloc: Global,
+    c: &Held<CForm>,
+    a: &Held<CTerm>,
+    b: &Held<CTerm>,
+) -> Result<Option<Held<Choice>>, AllocError>
+    ensures { IfOk result (λ o. o ≡ Some (record { when = c.now; yes = a.now; no = b.now })) }
+{
+    let choice = Choice {
+        when: held_form(alloc, c.get())?,
+        yes: held_term(alloc, a.get())?,
+        no: held_term(alloc, b.get())?,
+    };
+    Ok(Some(Held::new(alloc, choice)?))
+}
+
+/// A choice in the first part of a sum.
+#[inline(never)]
+fn in_sum_first(
+    alloc: Global,
+    choice: Held<Choice>,
+    b: &Held<CTerm>,
+) -> Result<Option<Held<Choice>>, AllocError>
+    ensures { IfOk result (λ o. o ≡ Some (within (λ x. Add x b.now) choice)) }
+{
+    let Choice { when, yes, no } = choice.into_inner();
+    let yes = Held::new(alloc, CTerm::Add(yes, held_term(alloc, b.get())?))?;
+    let no = Held::new(alloc, CTerm::Add(no, held_term(alloc, b.get())?))?;
+    Ok(Some(Held::new(alloc, Choice { when, yes, no })?))
+}
+
+/// A choice in the second part of a sum.
+#[inline(never)]
+fn in_sum_second(
+    alloc: Global,
+    a: &Held<CTerm>,
+    choice: Held<Choice>,
+) -> Result<Option<Held<Choice>>, AllocError>
+    ensures { IfOk result (λ o. o ≡ Some (within (λ x. Add a.now x) choice)) }
+{
+    let Choice { when, yes, no } = choice.into_inner();
+    let yes = Held::new(alloc, CTerm::Add(held_term(alloc, a.get())?, yes))?;
+    let no = Held::new(alloc, CTerm::Add(held_term(alloc, a.get())?, no))?;
+    Ok(Some(Held::new(alloc, Choice { when, yes, no })?))
+}
+
+/// A choice in the first part of a difference.
+#[inline(never)]
+fn in_difference_first(
+    alloc: Global,
+    choice: Held<Choice>,
+    b: &Held<CTerm>,
+) -> Result<Option<Held<Choice>>, AllocError>
+    ensures { IfOk result (λ o. o ≡ Some (within (λ x. Sub x b.now) choice)) }
+{
+    let Choice { when, yes, no } = choice.into_inner();
+    let yes = Held::new(alloc, CTerm::Sub(yes, held_term(alloc, b.get())?))?;
+    let no = Held::new(alloc, CTerm::Sub(no, held_term(alloc, b.get())?))?;
+    Ok(Some(Held::new(alloc, Choice { when, yes, no })?))
+}
+
+/// A choice in the second part of a difference.
+#[inline(never)]
+fn in_difference_second(
+    alloc: Global,
+    a: &Held<CTerm>,
+    choice: Held<Choice>,
+) -> Result<Option<Held<Choice>>, AllocError>
+    ensures { IfOk result (λ o. o ≡ Some (within (λ x. Sub a.now x) choice)) }
+{
+    let Choice { when, yes, no } = choice.into_inner();
+    let yes = Held::new(alloc, CTerm::Sub(held_term(alloc, a.get())?, yes))?;
+    let no = Held::new(alloc, CTerm::Sub(held_term(alloc, a.get())?, no))?;
+    Ok(Some(Held::new(alloc, Choice { when, yes, no })?))
+}
+
+/// A choice in a multiple.
+#[inline(never)]
+fn in_multiple(
+    alloc: Global,
+    k: &i64,
+    choice: Held<Choice>,
+) -> Result<Option<Held<Choice>>, AllocError>
+    ensures { IfOk result (λ o. o ≡ Some (within (λ x. Scale k.now x) choice)) }
+{
+    let Choice { when, yes, no } = choice.into_inner();
+    let yes = Held::new(alloc, CTerm::Scale(*k, yes))?;
+    let no = Held::new(alloc, CTerm::Scale(*k, no))?;
+    Ok(Some(Held::new(alloc, Choice { when, yes, no })?))
+}
+
+/// A term's first `Ite` in reading order, one before those inside it. `None` where it has none.
+#[cycle(choices)]
+pub fn find_choice(alloc: Global, t: &CTerm) -> Result<Option<Held<Choice>>, AllocError>
+    ensures { IfOk result (λ o. o ≡ first_ite t.now) }
+{
+    match t {
+        CTerm::Const(_) => Ok(None),
+        CTerm::Slot(_) => Ok(None),
+        CTerm::Param(_) => Ok(None),
+        CTerm::Add(a, b) => find_in_sum(alloc, a, b),
+        CTerm::Sub(a, b) => find_in_difference(alloc, a, b),
+        CTerm::Scale(k, a) => {
+            if let Some(choice) = find_choice(alloc, a.get())? {
+                return in_multiple(alloc, k, choice);
+            }
+            Ok(None)
+        }
+        CTerm::Ite(c, a, b) => choice_of(alloc, c, a, b),
+    }
+}
+
+#[cycle(choices)]
+#[inline(never)]
+fn find_in_sum(
+    alloc: Global,
+    a: &Held<CTerm>,
+    b: &Held<CTerm>,
+) -> Result<Option<Held<Choice>>, AllocError>
+    ensures { IfOk result (λ o. o ≡ first_ite (Add a.now b.now)) }
+{
+    if let Some(choice) = find_choice(alloc, a.get())? {
+        return in_sum_first(alloc, choice, b);
+    }
+    if let Some(choice) = find_choice(alloc, b.get())? {
+        return in_sum_second(alloc, a, choice);
+    }
+    Ok(None)
+}
+
+#[cycle(choices)]
+#[inline(never)]
+fn find_in_difference(
+    alloc: Global,
+    a: &Held<CTerm>,
+    b: &Held<CTerm>,
+) -> Result<Option<Held<Choice>>, AllocError>
+    ensures { IfOk result (λ o. o ≡ first_ite (Sub a.now b.now)) }
+{
+    if let Some(choice) = find_choice(alloc, a.get())? {
+        return in_difference_first(alloc, choice, b);
+    }
+    if let Some(choice) = find_choice(alloc, b.get())? {
+        return in_difference_second(alloc, a, choice);
+    }
+    Ok(None)
+}

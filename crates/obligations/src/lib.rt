@@ -1,0 +1,23 @@
+//! What a proof rule leaves to be shown: a formula over variables with ranges. Here it is opened as
+//! a branch: facts that are linear in the variables, and formulas that wait to be taken apart.
+#![tactic(auto)]
+
+mod branches;
+mod certificates;
+mod first_choice;
+mod linear;
+mod making;
+mod occurrence;
+mod opening;
+mod settling;
+mod shapes;
+mod small;
+
+pub use branches::{Bound, Branch, Choice, Fact, Line, Obligation, Variable};
+pub use certificates::{Cert, Node, units};
+pub use linear::{factor_at, zero_line};
+pub use making::{TooLargeError, make, with_variables};
+pub use opening::open_branch;
+pub use settling::{refuse_onto, settle, settle_onto};
+pub use shapes::{height, need};
+pub use small::{small_product, small_sum};

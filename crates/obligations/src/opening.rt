@@ -1,0 +1,79 @@
+//! An obligation's first branch.
+ghost use Rattle.std.specs.Prelude.{◌≡◌, ◌^◌, ◌≤◌, ◌<◌, length, OnOk, IfOk, ◌∷◌, [], ◌++◌};
+ghost use Rattle.obligations.specs.Load.{form_load};
+ghost use Rattle.obligations.specs.Opening.{at_least, at_most, range_facts, first_branch, HoldsWhereFalse};
+ghost use Rattle.obligations.specs.Obligations.{AreVariables};
+
+use crate::branches::{Branch, Fact, Obligation, Variable};
+use crate::settling::refuse_onto;
+use std::alloc::{AllocError, Global};
+use unity_base::Seq;
+
+/// That a variable is at least the low end of its range.
+fn fact_low(alloc: Global, place: u32, lo: &i64) -> Result<Fact, AllocError>
+    ensures { IfOk result (λ f. f ≡ at_least place lo.now) }
+{
+    let mut factors = Seq::new(alloc);
+    factors.push((place, 1))?;
+    let constant = -(*lo as i128);
+    Ok(Fact { factors, constant })
+}
+
+/// That a variable is at most the high end of its range.
+fn fact_high(alloc: Global, place: u32, hi: &i64) -> Result<Fact, AllocError>
+    ensures { IfOk result (λ f. f ≡ at_most place hi.now) }
+{
+    let mut factors = Seq::new(alloc);
+    factors.push((place, -1))?;
+    let constant = *hi as i128;
+    Ok(Fact { factors, constant })
+}
+
+/// Adds the two facts of a variable's range.
+#[tactic(auto, using(crate::proofs::OpeningLaws::two_laws))]
+fn add_range(
+    alloc: Global,
+    place: u32,
+    v: &Variable,
+    facts: &mut Seq<Fact>,
+) -> Result<(), AllocError>
+    ensures { OnOk result (facts.new ≡ facts.old ++ range_facts place (v.now ∷ [])) }
+{
+    let low = fact_low(alloc, place, &v.range.lo)?;
+    let high = fact_high(alloc, place, &v.range.hi)?;
+    facts.push(low)?;
+    facts.push(high)?;
+    Ok(())
+}
+
+/// The facts of all ranges.
+#[tactic(auto, using(crate::proofs::OpeningLaws::range_laws))]
+fn ranges_of(alloc: Global, vs: &[Variable]) -> Result<Seq<Fact>, AllocError>
+    requires { length vs.now < 2 ^ 32 }
+    ensures { IfOk result (λ facts. facts ≡ range_facts 0 vs.now) }
+{
+    let mut facts = Seq::new(alloc);
+    for (place, v) in vs.iter().enumerate() {
+        add_range(alloc, place as u32, v, &mut facts)?;
+    }
+    Ok(facts)
+}
+
+/// The branch that an obligation's certificate starts with: for each variable the facts of its
+/// range, and then the form's negation, settled. At values in the ranges it holds exactly where the
+/// form is false.
+#[tactic(auto, using(crate::proofs::OpeningLaws::open_laws))]
+pub fn open_branch(alloc: Global, o: &Obligation) -> Result<Branch, AllocError>
+    requires variables { AreVariables o.now.variables }
+    requires load { form_load o.now.form ≤ 2 ^ 62 }
+    ensures branch { IfOk result (λ b. b ≡ first_branch o.now) }
+    ensures holds { IfOk result (λ b. HoldsWhereFalse o.now b) }
+{
+    let vs = o.variables.as_slice();
+    let mut branch = Branch {
+        facts: ranges_of(alloc, vs)?,
+        waiting: Seq::new(alloc),
+    };
+    refuse_onto(alloc, vs, &o.form, &mut branch)?;
+    Ok(branch)
+}

@@ -1,0 +1,398 @@
+//! Settling: a formula that is taken to hold, or to fail, is taken apart onto a branch.
+ghost use Rattle.std.specs.Prelude.{◌≡◌, ◌+◌, ◌^◌, ◌≤◌, ◌<◌, length, pos, negsuc, OnOk, IfOk, [], ◌∷◌};
+ghost use Rattle.core_terms.specs.declared.trees.CTerm.TheVariants.{Const, Sub};
+ghost use Rattle.core_terms.specs.declared.trees.CForm.TheVariants.{AtLeast, Zero, Not, And, Or};
+ghost use Rattle.obligations.specs.Settling.{settled, refused, joined, one_waiting, false_fact, one_fact, two_facts};
+ghost use Rattle.obligations.specs.Settling.{first_ite, least_adds, zero_adds, unequal_adds, below_zero, choice_form};
+ghost use Rattle.obligations.specs.Settling.{HoldsWith};
+ghost use Rattle.obligations.specs.LinearForms.{linear, negated};
+ghost use Rattle.obligations.specs.Load.{need, term_load};
+ghost use Rattle.obligations.specs.Obligations.{AreVariables};
+
+use crate::branches::{Branch, Choice, Fact, Obligation, Variable};
+use crate::first_choice::find_choice;
+use crate::linear::{fact_from, line_of, negative_of};
+use core_terms::{CForm, CTerm, held_form, held_term};
+use std::alloc::{AllocError, Global};
+use unity_base::{Held, Seq};
+
+/// Adds a fact.
+pub fn add_fact(fact: Fact, branch: &mut Branch) -> Result<(), AllocError>
+    ensures { OnOk result (branch.new ≡ joined branch.old (record { facts = fact ∷ []; waiting = [] })) }
+{
+    branch.facts.push(fact)?;
+    Ok(())
+}
+
+/// Adds a formula that waits.
+fn add_waiting(form: Held<CForm>, branch: &mut Branch) -> Result<(), AllocError>
+    ensures { OnOk result (branch.new ≡ joined branch.old (one_waiting form)) }
+{
+    branch.waiting.push(form)?;
+    Ok(())
+}
+
+/// Adds the fact that -1 is at least 0.
+#[inline(never)]
+fn add_false(alloc: Global, branch: &mut Branch) -> Result<(), AllocError>
+    ensures { OnOk result (branch.new ≡ joined branch.old false_fact) }
+{
+    let fact = Fact {
+        factors: Seq::new(alloc),
+        constant: -1,
+    };
+    add_fact(fact, branch)?;
+    Ok(())
+}
+
+/// That a formula does not hold.
+fn negation_of(alloc: Global, f: &CForm) -> Result<Held<CForm>, AllocError>
+    ensures { IfOk result (λ g. g ≡ Not f.now) }
+{
+    let copy = held_form(alloc, f)?;
+    Held::new(alloc, CForm::Not(copy))
+}
+
+/// The negation of a condition with a formula.
+fn otherwise(alloc: Global, when: &CForm, no: Held<CForm>) -> Result<Held<CForm>, AllocError>
+    ensures { IfOk result (λ f. f ≡ And (Not when.now) no) }
+{
+    let not = negation_of(alloc, when)?;
+    Held::new(alloc, CForm::And(not, no))
+}
+
+/// The condition with one formula, or its negation with the other.
+fn choose(
+    alloc: Global,
+    when: Held<CForm>,
+    yes: Held<CForm>,
+    no: Held<CForm>,
+) -> Result<Held<CForm>, AllocError>
+    ensures { IfOk result (λ f. f ≡ Or (And when yes) (And (Not when) no)) }
+{
+    let second = otherwise(alloc, when.get(), no)?;
+    let first = Held::new(alloc, CForm::And(when, yes))?;
+    Held::new(alloc, CForm::Or(first, second))
+}
+
+fn least_choice(alloc: Global, choice: Held<Choice>) -> Result<Held<CForm>, AllocError>
+    ensures { IfOk result (λ f. f ≡ choice_form AtLeast choice) }
+{
+    let Choice { when, yes, no } = choice.into_inner();
+    let yes = Held::new(alloc, CForm::AtLeast(yes.into_inner()))?;
+    let no = Held::new(alloc, CForm::AtLeast(no.into_inner()))?;
+    choose(alloc, when, yes, no)
+}
+
+fn zero_choice(alloc: Global, choice: Held<Choice>) -> Result<Held<CForm>, AllocError>
+    ensures { IfOk result (λ f. f ≡ choice_form Zero choice) }
+{
+    let Choice { when, yes, no } = choice.into_inner();
+    let yes = Held::new(alloc, CForm::Zero(yes.into_inner()))?;
+    let no = Held::new(alloc, CForm::Zero(no.into_inner()))?;
+    choose(alloc, when, yes, no)
+}
+
+/// That a term is not 0.
+fn unequal(alloc: Global, t: Held<CTerm>) -> Result<Held<CForm>, AllocError>
+    ensures { IfOk result (λ f. f ≡ Not (Zero t)) }
+{
+    let zero = Held::new(alloc, CForm::Zero(t.into_inner()))?;
+    Held::new(alloc, CForm::Not(zero))
+}
+
+fn unequal_choice(alloc: Global, choice: Held<Choice>) -> Result<Held<CForm>, AllocError>
+    ensures { IfOk result (λ f. f ≡ choice_form (λ x. Not (Zero x)) choice) }
+{
+    let Choice { when, yes, no } = choice.into_inner();
+    let yes = unequal(alloc, yes)?;
+    let no = unequal(alloc, no)?;
+    choose(alloc, when, yes, no)
+}
+
+/// Adds the fact of a term without an `Ite`.
+fn add_least(
+    alloc: Global,
+    vs: &[Variable],
+    t: &CTerm,
+    branch: &mut Branch,
+) -> Result<(), AllocError>
+    requires variables { AreVariables vs.now }
+    requires load { (term_load t.now).own ≤ 2 ^ 126 }
+    ensures { OnOk result (branch.new ≡ joined branch.old (one_fact (linear vs.now t.now))) }
+{
+    let fact = fact_from(alloc, &line_of(alloc, vs, t)?)?;
+    add_fact(fact, branch)?;
+    Ok(())
+}
+
+/// Adds the fact of a term's negative, where the term has no `Ite`.
+fn add_negative(
+    alloc: Global,
+    vs: &[Variable],
+    t: &CTerm,
+    branch: &mut Branch,
+) -> Result<(), AllocError>
+    requires variables { AreVariables vs.now }
+    requires load { (term_load t.now).own ≤ 2 ^ 126 }
+    ensures { OnOk result (branch.new ≡ joined branch.old (one_fact (negated vs.now (linear vs.now t.now)))) }
+{
+    let fact = fact_from(alloc, &negative_of(alloc, vs, t)?)?;
+    add_fact(fact, branch)?;
+    Ok(())
+}
+
+/// Adds a term's fact, or the choice that it has to wait for.
+fn add_least_or(
+    alloc: Global,
+    vs: &[Variable],
+    t: &CTerm,
+    choice: Option<Held<Choice>>,
+    branch: &mut Branch,
+) -> Result<(), AllocError>
+    requires variables { AreVariables vs.now }
+    requires load { (term_load t.now).own ≤ 2 ^ 126 }
+    ensures { OnOk result (branch.new ≡ joined branch.old (least_adds vs.now t.now choice)) }
+{
+    match choice {
+        None => add_least(alloc, vs, t, branch),
+        Some(choice) => {
+            let form = least_choice(alloc, choice)?;
+            add_waiting(form, branch)
+        }
+    }
+}
+
+/// Settles that a term is at least 0.
+#[inline(never)]
+fn settle_least(
+    alloc: Global,
+    vs: &[Variable],
+    t: &CTerm,
+    branch: &mut Branch,
+) -> Result<(), AllocError>
+    requires variables { AreVariables vs.now }
+    requires load { (term_load t.now).own ≤ 2 ^ 126 }
+    ensures { OnOk result (branch.new ≡ joined branch.old (least_adds vs.now t.now (first_ite t.now))) }
+{
+    let choice = find_choice(alloc, t)?;
+    add_least_or(alloc, vs, t, choice, branch)
+}
+
+/// -1 minus a term.
+fn below(alloc: Global, t: &CTerm) -> Result<Held<CTerm>, AllocError>
+    ensures { IfOk result (λ u. u ≡ below_zero t.now) }
+{
+    let minus_one = Held::new(alloc, CTerm::Const(-1))?;
+    let copy = held_term(alloc, t)?;
+    Held::new(alloc, CTerm::Sub(minus_one, copy))
+}
+
+/// A term minus 1.
+fn above(alloc: Global, t: &CTerm) -> Result<Held<CTerm>, AllocError>
+    ensures { IfOk result (λ u. u ≡ Sub t.now (Const (pos 1))) }
+{
+    let copy = held_term(alloc, t)?;
+    let one = Held::new(alloc, CTerm::Const(1))?;
+    Held::new(alloc, CTerm::Sub(copy, one))
+}
+
+/// Settles that a term is below 0.
+#[inline(never)]
+fn refuse_least(
+    alloc: Global,
+    vs: &[Variable],
+    t: &CTerm,
+    branch: &mut Branch,
+) -> Result<(), AllocError>
+    requires variables { AreVariables vs.now }
+    requires load { 1 + (term_load t.now).own ≤ 2 ^ 126 }
+    ensures { OnOk result
+        (branch.new ≡ joined branch.old (least_adds vs.now (below_zero t.now) (first_ite (below_zero t.now)))) }
+{
+    let below = below(alloc, t)?;
+    settle_least(alloc, vs, below.get(), branch)
+}
+
+/// Adds both facts of a term that is 0, where the term has no `Ite`.
+#[tactic(auto, using(crate::proofs::TableLaws::two_laws))]
+fn add_zero(
+    alloc: Global,
+    vs: &[Variable],
+    t: &CTerm,
+    branch: &mut Branch,
+) -> Result<(), AllocError>
+    requires variables { AreVariables vs.now }
+    requires load { (term_load t.now).own ≤ 2 ^ 126 }
+    ensures { OnOk result
+        (branch.new ≡ joined branch.old (two_facts (linear vs.now t.now) (negated vs.now (linear vs.now t.now)))) }
+{
+    add_least(alloc, vs, t, branch)?;
+    add_negative(alloc, vs, t, branch)?;
+    Ok(())
+}
+
+/// Adds a term's two facts, or the choice that it has to wait for.
+fn add_zero_or(
+    alloc: Global,
+    vs: &[Variable],
+    t: &CTerm,
+    choice: Option<Held<Choice>>,
+    branch: &mut Branch,
+) -> Result<(), AllocError>
+    requires variables { AreVariables vs.now }
+    requires load { (term_load t.now).own ≤ 2 ^ 126 }
+    ensures { OnOk result (branch.new ≡ joined branch.old (zero_adds vs.now t.now choice)) }
+{
+    match choice {
+        None => add_zero(alloc, vs, t, branch),
+        Some(choice) => {
+            let form = zero_choice(alloc, choice)?;
+            add_waiting(form, branch)
+        }
+    }
+}
+
+/// Settles that a term is 0.
+#[inline(never)]
+fn settle_zero(
+    alloc: Global,
+    vs: &[Variable],
+    t: &CTerm,
+    branch: &mut Branch,
+) -> Result<(), AllocError>
+    requires variables { AreVariables vs.now }
+    requires load { (term_load t.now).own ≤ 2 ^ 126 }
+    ensures { OnOk result (branch.new ≡ joined branch.old (zero_adds vs.now t.now (first_ite t.now))) }
+{
+    let choice = find_choice(alloc, t)?;
+    add_zero_or(alloc, vs, t, choice, branch)
+}
+
+/// That a term is above 0 or below it.
+fn apart(alloc: Global, t: &CTerm) -> Result<Held<CForm>, AllocError>
+    ensures { IfOk result (λ f. f ≡ Or (AtLeast (Sub t.now (Const (pos 1)))) (AtLeast (Sub (Const (negsuc 0)) t.now))) }
+{
+    let above = above(alloc, t)?;
+    let above = Held::new(alloc, CForm::AtLeast(above.into_inner()))?;
+    let below = below(alloc, t)?;
+    let below = Held::new(alloc, CForm::AtLeast(below.into_inner()))?;
+    Held::new(alloc, CForm::Or(above, below))
+}
+
+/// Adds that a term is above 0 or below it, or the choice that it has to wait for.
+fn add_apart_or(
+    alloc: Global,
+    t: &CTerm,
+    choice: Option<Held<Choice>>,
+    branch: &mut Branch,
+) -> Result<(), AllocError>
+    ensures { OnOk result (branch.new ≡ joined branch.old (unequal_adds t.now choice)) }
+{
+    match choice {
+        None => {
+            let form = apart(alloc, t)?;
+            add_waiting(form, branch)
+        }
+        Some(choice) => {
+            let form = unequal_choice(alloc, choice)?;
+            add_waiting(form, branch)
+        }
+    }
+}
+
+/// Settles that a term is not 0.
+#[inline(never)]
+fn refuse_zero(alloc: Global, t: &CTerm, branch: &mut Branch) -> Result<(), AllocError>
+    ensures { OnOk result (branch.new ≡ joined branch.old (unequal_adds t.now (first_ite t.now))) }
+{
+    let choice = find_choice(alloc, t)?;
+    add_apart_or(alloc, t, choice, branch)
+}
+
+/// Adds a waiting formula of two others.
+#[inline(never)]
+fn wait_or(alloc: Global, g: &CForm, h: &CForm, branch: &mut Branch) -> Result<(), AllocError>
+    ensures { OnOk result (branch.new ≡ joined branch.old (one_waiting (Or g.now h.now))) }
+{
+    let first = held_form(alloc, g)?;
+    let second = held_form(alloc, h)?;
+    let form = Held::new(alloc, CForm::Or(first, second))?;
+    add_waiting(form, branch)
+}
+
+/// Adds a waiting formula of the negations of two others.
+#[inline(never)]
+fn wait_nots(alloc: Global, g: &CForm, h: &CForm, branch: &mut Branch) -> Result<(), AllocError>
+    ensures { OnOk result (branch.new ≡ joined branch.old (one_waiting (Or (Not g.now) (Not h.now)))) }
+{
+    let first = negation_of(alloc, g)?;
+    let second = negation_of(alloc, h)?;
+    let form = Held::new(alloc, CForm::Or(first, second))?;
+    add_waiting(form, branch)
+}
+
+/// A branch with a formula settled: the branch that holds exactly where the old one and the formula do.
+#[tactic(auto, using(crate::proofs::SettlingLaws::settled_laws))]
+pub fn settle(alloc: Global, o: &Obligation, b: Branch, todo: CForm) -> Result<Branch, AllocError>
+    requires variables { AreVariables o.now.variables }
+    requires light { (need todo).yes ≤ 2 ^ 63 }
+    ensures branch { IfOk result (λ c. c ≡ settled o.now.variables todo b) }
+    ensures holds { IfOk result (λ c. HoldsWith o.now b todo c) }
+{
+    let mut branch = b;
+    settle_onto(alloc, o.variables.as_slice(), &todo, &mut branch)?;
+    Ok(branch)
+}
+
+/// Settles a formula onto a branch. At want of memory, what was added so far stays.
+#[cycle(settle)]
+pub fn settle_onto(
+    alloc: Global,
+    vs: &[Variable],
+    f: &CForm,
+    branch: &mut Branch,
+) -> Result<(), AllocError>
+    requires variables { AreVariables vs.now }
+    requires light { (need f.now).yes ≤ 2 ^ 63 }
+    ensures { OnOk result (branch.new ≡ settled vs.now f.now branch.old) }
+{
+    match f {
+        CForm::Top => Ok(()),
+        CForm::Bottom => add_false(alloc, branch),
+        CForm::AtLeast(t) => settle_least(alloc, vs, t, branch),
+        CForm::Zero(t) => settle_zero(alloc, vs, t, branch),
+        CForm::Not(g) => refuse_onto(alloc, vs, g.get(), branch),
+        CForm::And(g, h) => {
+            settle_onto(alloc, vs, g.get(), branch)?;
+            settle_onto(alloc, vs, h.get(), branch)
+        }
+        CForm::Or(g, h) => wait_or(alloc, g.get(), h.get(), branch),
+    }
+}
+
+/// Settles the negation of a formula onto a branch. At want of memory, what was added so far stays.
+#[cycle(settle)]
+pub fn refuse_onto(
+    alloc: Global,
+    vs: &[Variable],
+    f: &CForm,
+    branch: &mut Branch,
+) -> Result<(), AllocError>
+    requires variables { AreVariables vs.now }
+    requires light { (need f.now).no ≤ 2 ^ 63 }
+    ensures { OnOk result (branch.new ≡ refused vs.now f.now branch.old) }
+{
+    match f {
+        CForm::Top => add_false(alloc, branch),
+        CForm::Bottom => Ok(()),
+        CForm::AtLeast(t) => refuse_least(alloc, vs, t, branch),
+        CForm::Zero(t) => refuse_zero(alloc, t, branch),
+        CForm::Not(g) => settle_onto(alloc, vs, g.get(), branch),
+        CForm::And(g, h) => wait_nots(alloc, g.get(), h.get(), branch),
+        CForm::Or(g, h) => {
+            refuse_onto(alloc, vs, g.get(), branch)?;
+            refuse_onto(alloc, vs, h.get(), branch)
+        }
+    }
+}

@@ -1,5 +1,0 @@
-use Rattle.std.proofs.Common.{◌≡◌, take}
-use Rattle.safety_rules.proofs.certificate_check.branch_copy.copy_facts.Given as goal
-
-abbrev pub invariant-loop-fact : goal.invariant-loop-fact
-invariant-loop-fact l = l.copy ≡ take l.fact-index l.facts

@@ -1,6 +1,0 @@
-use Rattle.std.proofs.Common.{◌≡◌, ◌++◌, drop}
-use Rattle.safety_rules.specs.LinearForms.{sparse}
-use Rattle.safety_rules.proofs.obligations.linear.sparse_factors.Given as goal
-
-abbrev pub invariant-loop-place : goal.invariant-loop-place
-invariant-loop-place l = l.factors ++ sparse l.place (drop l.place l.zs) ≡ sparse 0 l.zs

@@ -1,6 +1,0 @@
-use Rattle.std.proofs.Common.{◌≡◌, ◌++◌, drop}
-use Rattle.safety_rules.specs.Opening.{range_facts}
-use Rattle.safety_rules.proofs.obligations.opening.ranges_of.Given as goal
-
-abbrev pub invariant-loop-place : goal.invariant-loop-place
-invariant-loop-place l = l.facts ++ range_facts l.place (drop l.place l.vs) ≡ range_facts 0 l.vs
