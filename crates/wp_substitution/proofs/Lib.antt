@@ -1,0 +1,11 @@
+pub mod AfterLaws
+pub mod ClosedLaws
+pub mod ExactLaws
+pub mod HeavierLaws
+pub mod IntTests
+pub mod JoinedLaws
+pub mod KnownLaws
+pub mod LightLaws
+pub mod NamedLaws
+pub mod NeedLaws
+pub mod PlaceLaws

@@ -1,0 +1,4 @@
+pub mod Preconditions
+pub mod Exact
+pub mod Joined
+pub mod Chains
