@@ -1,0 +1,38 @@
+-- Records that are kept have their properties.
+use Rattle.std.proofs.Common.{ℤ, List, subst}
+use Rattle.case_tables.specs.declared.kind_table.Kind.{Kind}
+use Rattle.unity_meaning.specs.Properties.{IsAlwaysDefined, IsInvariant}
+use Rattle.execution_laws.proofs.StandingTheorems.{defined_holds, invariant_holds, unless_holds, ensures_holds}
+use Rattle.execution_laws.proofs.StandingTheorems.{leads_holds}
+use Rattle.core_terms.specs.declared.programs.CSlot.{CSlot}
+use Rattle.core_terms.specs.declared.programs.CProgram.{CProgram}
+use Rattle.fair_rounds.specs.declared.records.Record.{Record}
+use Rattle.fair_rounds.specs.Records.{core_system, holding, meets, KindStands, KindHolds}
+use Rattle.fair_rounds.specs.RecordLaws.{DefinedKept, InvariantKept, KeptHolds}
+
+pub defined_kept : DefinedKept
+defined_kept slots c r e same inside kept =
+    defined_holds (core_system slots c) (meets slots r.under) kept.under
+    (subst (λ k. KindStands k slots c r e) same (kept.stands e inside))
+
+pub invariant_kept : InvariantKept
+invariant_kept slots c r e same inside kept =
+    invariant_holds (core_system slots c) (meets slots r.under) (holding e r.p) kept.under
+    (subst (λ k. KindStands k slots c r e) same (kept.stands e inside))
+
+holds_kind : (slots : List CSlot) (c : CProgram) (r : Record) → IsAlwaysDefined (core_system slots c) →
+    IsInvariant (core_system slots c) (meets slots r.under) → (e : List ℤ) → (k : Kind) →
+    KindStands k slots c r e → KindHolds k slots c r e
+holds_kind slots c r always under e Kind.Defined h = always
+holds_kind slots c r always under e Kind.Invariant h =
+    invariant_holds (core_system slots c) (meets slots r.under) (holding e r.p) under h
+holds_kind slots c r always under e Kind.Unless h =
+    unless_holds (core_system slots c) (meets slots r.under) (holding e r.p) (holding e r.q) under h
+holds_kind slots c r always under e Kind.Ensures h =
+    ensures_holds (core_system slots c) (meets slots r.under) (holding e r.p) (holding e r.q) h.choice under always
+    h.ensured
+holds_kind slots c r always under e Kind.Leadsto h =
+    leads_holds (core_system slots c) (meets slots r.under) (holding e r.p) (holding e r.q) r.bound under h
+
+pub kept_holds : KeptHolds
+kept_holds slots c r always kept e inside = holds_kind slots c r always kept.under e r.kind (kept.stands e inside)

@@ -1,0 +1,97 @@
+-- When a record stands of a core program, and when its property holds.
+use Rattle.std.specs.Prelude.{◌≡◌, ℕ, nat_eq, ℤ, Bool, true, false, ◌&&◌, List, [], ◌∷◌, map, Option, Some, None}
+use Rattle.std.specs.Prelude.{IsTrue, slice_get}
+use Rattle.std.specs.List.{list_all}
+use Rattle.case_tables.specs.declared.kind_table.Kind.{Kind}
+use Rattle.state_steps.specs.State.{int_eq, is_state, in_range}
+use Rattle.unity_meaning.specs.Execution.{System}
+use Rattle.unity_meaning.specs.Properties.{Test, IsAlwaysDefined, IsInvariant, Unless, Ensures, LeadsTo}
+use Rattle.execution_laws.specs.Stands.{DefinedStands, InvariantStands, UnlessStands, EnsuresStands, LeadsStands}
+use Rattle.core_terms.specs.declared.trees.Range.{Range}
+use Rattle.core_terms.specs.declared.trees.CForm.{CForm}
+use Rattle.core_terms.specs.declared.programs.CStmt.{CStmt}
+use Rattle.core_terms.specs.declared.programs.CSlot.{CSlot}
+use Rattle.core_terms.specs.declared.programs.CProgram.{CProgram}
+use Rattle.core_terms.specs.declared.documents.Helper.{Helper}
+use Rattle.core_terms.specs.Values.{form_value}
+use Rattle.core_terms.specs.Steps.{slot_ranges, core_step}
+use Rattle.core_terms.specs.Replacing.{arg_values}
+use Rattle.fair_rounds.specs.declared.records.Record.{Record}
+
+-- a core program as its executions see it
+abbrev pub core_system : List CSlot → CProgram → System
+core_system slots c = record {
+  initial = λ state. is_state (slot_ranges slots) state && form_value state [] c.initially;
+  steps = map (core_step slots) c.statements;
+}
+
+-- a formula as a test of states, for these numbers of the parameters
+abbrev pub holding : List ℤ → CForm → Test
+holding e f state = form_value state e f
+
+-- a state of the document that meets formulas without parameters
+abbrev pub meets : List CSlot → List CForm → Test
+meets slots under state = is_state (slot_ranges slots) state && list_all (λ f. form_value state [] f) under
+
+-- there is a number for each range, and it lies in it
+abbrev pub are_in_ranges : List Range → List ℤ → Bool
+are_in_ranges [] [] = true
+are_in_ranges [] (z ∷ zs) = false
+are_in_ranges (r ∷ rs) [] = false
+are_in_ranges (r ∷ rs) (z ∷ zs) = in_range (Some (r.lo, r.hi)) z && are_in_ranges rs zs
+
+-- equal lists of numbers
+abbrev pub ints_eq : List ℤ → List ℤ → Bool
+ints_eq [] [] = true
+ints_eq [] (z ∷ zs) = false
+ints_eq (y ∷ ys) [] = false
+ints_eq (y ∷ ys) (z ∷ zs) = int_eq y z && ints_eq ys zs
+
+-- the statement is the one that the helper names, for these numbers of the parameters
+abbrev pub is_named : Helper → List ℤ → CStmt → Bool
+is_named h e s = nat_eq s.label h.label && ints_eq s.indices (arg_values e h.args)
+
+-- the instance at this place is the one that the helper names
+abbrev pub NamedAt : CProgram → Option Helper → List ℤ → ℕ → Type 0
+NamedAt c None e place = ⊥
+NamedAt c (Some h) e place = (i : CStmt) × (slice_get c.statements place ≡ Some i) × IsTrue (is_named h e i)
+
+-- p ensures q stands, by the instance that the helper names
+pub record EnsuresNamed (slots : List CSlot) (c : CProgram) (u p q : Test) (e : List ℤ) (h : Option Helper) :
+    Type 0 where
+  pub choice : ℕ
+  pub ensured : EnsuresStands (core_system slots c) u p q choice
+  pub named : NamedAt c h e choice
+
+-- what a record of a kind says of single steps, for these numbers of the parameters: from each state that meets
+-- `under` to such a state. For a leads-to, what it says of the executions whose states all do
+abbrev pub KindStands : Kind → List CSlot → CProgram → Record → List ℤ → Type 0
+KindStands Kind.Defined slots c r e = DefinedStands (core_system slots c) (meets slots r.under)
+KindStands Kind.Invariant slots c r e = InvariantStands (core_system slots c) (meets slots r.under) (holding e r.p)
+KindStands Kind.Unless slots c r e =
+    UnlessStands (core_system slots c) (meets slots r.under) (holding e r.p) (holding e r.q)
+KindStands Kind.Ensures slots c r e =
+    EnsuresNamed slots c (meets slots r.under) (holding e r.p) (holding e r.q) e r.helper
+KindStands Kind.Leadsto slots c r e =
+    LeadsStands (core_system slots c) (meets slots r.under) (holding e r.p) (holding e r.q) r.bound
+
+-- a record stands
+abbrev pub Stands : List CSlot → CProgram → Record → Type 0
+Stands slots c r = (e : List ℤ) → IsTrue (are_in_ranges r.params e) → KindStands r.kind slots c r e
+
+-- what a record of a kind says of executions, for these numbers of the parameters
+abbrev pub KindHolds : Kind → List CSlot → CProgram → Record → List ℤ → Type 0
+KindHolds Kind.Defined slots c r e = IsAlwaysDefined (core_system slots c)
+KindHolds Kind.Invariant slots c r e = IsInvariant (core_system slots c) (holding e r.p)
+KindHolds Kind.Unless slots c r e = Unless (core_system slots c) (holding e r.p) (holding e r.q)
+KindHolds Kind.Ensures slots c r e = Ensures (core_system slots c) (holding e r.p) (holding e r.q)
+KindHolds Kind.Leadsto slots c r e = LeadsTo (core_system slots c) (holding e r.p) (holding e r.q) r.bound
+
+-- a record's property holds
+abbrev pub Holds : List CSlot → CProgram → Record → Type 0
+Holds slots c r = (e : List ℤ) → IsTrue (are_in_ranges r.params e) → KindHolds r.kind slots c r e
+
+-- what is kept of each record: it stands, and its `under` holds at every state of every execution
+pub record IsKept (slots : List CSlot) (c : CProgram) (r : Record) : Type 0 where
+  pub stands : Stands slots c r
+  pub under : IsInvariant (core_system slots c) (meets slots r.under)

@@ -1,0 +1,17 @@
+pub mod BoundNames
+pub mod CalcSound
+pub mod DeriveSound
+pub mod EachLaws
+pub mod EnsuresSound
+pub mod FormLaws
+pub mod GoalLaws
+pub mod NamedLaws
+pub mod NumberLaws
+pub mod RowEquations
+pub mod SiteLaws
+pub mod StepSound
+pub mod TermSound
+pub mod TextSound
+pub mod UnderLaws
+pub mod UnionSound
+pub mod WalkTheorems

@@ -1,0 +1,10 @@
+pub mod Conclusion
+pub mod Forms
+pub mod Limits
+pub mod Numbers
+pub mod Sound
+pub mod Table
+pub mod Terms
+pub mod Validity
+pub mod Walk
+pub mod WalkLaws

@@ -1,0 +1,4 @@
+pub mod AnswerLaws
+pub mod EachLaws
+pub mod ErrorLaws
+pub mod UsableLaws

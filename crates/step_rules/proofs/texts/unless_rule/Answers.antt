@@ -1,0 +1,31 @@
+use Rattle.std.proofs.Common.{◌++◌, [], Err, None, refl, sym, subst}
+use Rattle.case_tables.specs.declared.kind_table.Kind.{Kind}
+use Rattle.core_terms.specs.declared.trees.CForm.{CForm}
+use Rattle.proof_rules.specs.Table.{Site, record_of, unless_forms, unless_of}
+use Rattle.proof_rules.proofs.RowEquations.{unless-is}
+use Rattle.step_rules.specs.Answers.{site_of, Answers}
+use Rattle.step_rules.proofs.AnswerLaws.{refused_goals, rule_given}
+use Rattle.step_rules.proofs.ErrorLaws.{handed_on}
+use Rattle.step_rules.proofs.texts.unless_rule.Goals as goal
+
+pub returns-in_err-add_unless : goal.returns-in_err-add_unless
+returns-in_err-add_unless c =
+    let site : Site = site_of c.args.pl.now in
+    let p : CForm = c.args.p.now in
+    let q : CForm = c.args.q.now in
+    let e = c.in_err-add_unless.field-0.0 in
+    handed_on (λ r. Answers r site.slots (unless_of site p q)) c.from_residual.result e c.from_residual.ensures.1
+    (subst (λ x. Answers (Err e) site.slots x) (sym (unless-is site p q))
+    (refused_goals site.slots site.params (Unit {0}) e c.new-goals.result c.add_unless.new.goals
+    (record_of site Kind.Unless p q [] None) (unless_forms site p q) c.in_err-add_unless.ensures))
+
+pub returns : goal.returns
+returns c =
+    let site : Site = site_of c.args.pl.now in
+    let p : CForm = c.args.p.now in
+    let q : CForm = c.args.q.now in
+    subst (λ x. Answers c.conclude.result site.slots x) (sym (unless-is site p q))
+    (rule_given c.in_ok-add_unless.field-0 site Kind.Unless p q c.in_ok-held_form.field-0 c.in_ok-held_form-2.field-0 []
+    ([] ++ []) None None (unless_forms site p q) c.new-goals.result c.add_unless.new.goals c.conclude.result
+    c.in_ok-held_form.ensures c.in_ok-held_form-2.ensures refl refl c.new-goals.ensures c.in_ok-add_unless.ensures
+    c.conclude.ensures)

@@ -1,0 +1,5 @@
+pub mod Answers
+pub mod Errors
+pub mod Goals
+pub mod Premises
+pub mod Usable
