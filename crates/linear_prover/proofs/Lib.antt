@@ -1,0 +1,9 @@
+pub mod BoundLaws
+pub mod TotalLaws
+pub mod SumLaws
+pub mod GcdLaws
+pub mod OppositeLaws
+pub mod DivisionLaws
+pub mod ClashLaws
+pub mod ChainLaws
+pub mod JudgingLaws

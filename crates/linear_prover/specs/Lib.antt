@@ -1,0 +1,4 @@
+pub mod Exact
+pub mod Tables
+pub mod Chains
+pub mod Clashes

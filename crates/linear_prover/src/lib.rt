@@ -1,0 +1,15 @@
+//! Chains that close a branch by its facts alone: rounds, and then a sum that no values make at
+//! least 0.
+#![tactic(auto)]
+
+mod bounds;
+mod clash;
+mod columns;
+mod elimination;
+mod judging;
+mod reach;
+mod simplex;
+
+pub use elimination::eliminate;
+pub use judging::{is_closing_sum, is_plain_chain};
+pub use reach::reach_chain;
