@@ -1,0 +1,4 @@
+pub mod StartLaws
+pub mod WeightLaws
+pub mod StateLaws
+pub mod PreparingLaws

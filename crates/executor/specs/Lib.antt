@@ -1,0 +1,5 @@
+pub mod StartState
+pub mod Placing
+pub mod Fitting
+pub mod Preparing
+pub mod Running

@@ -1,0 +1,9 @@
+//! The start state of a program, and its execution step by step.
+#![tactic(auto)]
+
+mod preparing;
+mod runner;
+mod start;
+
+pub use runner::{Runner, StartError, Stepped};
+pub use start::start_of;

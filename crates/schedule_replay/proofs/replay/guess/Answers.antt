@@ -1,0 +1,12 @@
+use Rattle.std.proofs.Common.{length, refl, sym, ◌∙◌}
+use Rattle.std.proofs.lemmas.Option.{slice_get_read}
+use Rattle.schedule_replay.proofs.ScheduleLaws.{named_at}
+use Rattle.schedule_replay.proofs.replay.guess.Goals as goal
+
+pub returns-then-is_named : goal.returns-then-is_named
+returns-then-is_named c =
+    named_at c.args.statements.now c.args.choice.now c.in_ok-place.field-0.now c.index-statements-index.result
+    c.requires.apart
+    (slice_get_read c.args.statements.now (length c.args.statements.now) c.in_ok-place.field-0.now
+    c.index-statements-index.result refl c.if-index-statements.true c.index-statements-index.is)
+    (sym c.is_named.ensures ∙ c.if-is_named.true)

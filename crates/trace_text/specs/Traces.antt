@@ -1,0 +1,54 @@
+-- The trace of a program and a list of choices.
+use Rattle.std.specs.Prelude.{ℕ, ◌+◌, List, [], ◌∷◌, ◌++◌, length, Bool, true, false, Option, Some, None}
+use Rattle.state_steps.specs.State.{State}
+use Rattle.unity_meaning.specs.Rounds.{rounds}
+use Rattle.core_terms.specs.declared.programs.CSlot.{CSlot}
+use Rattle.core_terms.specs.declared.programs.CProgram.{CProgram}
+use Rattle.core_terms.specs.declared.documents.CDocument.{CDocument}
+use Rattle.executor.specs.declared.runner.Stepped.{Stepped}
+use Rattle.executor.specs.Running.{chosen_step}
+use Rattle.schedule_replay.specs.declared.heading.Heading.{Heading}
+use Rattle.schedule_replay.specs.Lines.{heading_line, state_line, undefined_line, rounds_line}
+
+-- the line of a step: that of the state after it, or of an undefined step
+abbrev pub step_line : CDocument → CProgram → ℕ → ℕ → Option State → List ℕ
+step_line d p number choice None = undefined_line d p number choice
+step_line d p number choice (Some next) = state_line d p number (Some choice) next
+
+-- what follows the line of a step: nothing after an undefined one
+abbrev pub following : (State → List ℕ) → Option State → List ℕ
+following rest None = []
+following rest (Some next) = rest next
+
+-- the lines of the steps that these choices make from a state with this number, up to the first undefined one; where
+-- there is none, the last line comes after them
+abbrev pub steps_text : CDocument → CProgram → List ℕ → ℕ → State → List ℕ → List ℕ
+steps_text d p last number state [] = last
+steps_text d p last number state (choice ∷ choices) =
+    step_line d p (number + 1) choice (chosen_step d.slots p choice state)
+    ++ following (λ next. steps_text d p last (number + 1) next choices) (chosen_step d.slots p choice state)
+
+-- the trace: the first line, the start state, the steps and the rounds of all choices
+abbrev pub trace_text : CDocument → CProgram → Heading → State → List ℕ → List ℕ
+trace_text d p heading start choices =
+    heading_line d p heading ++ state_line d p 0 None start
+    ++ steps_text d p (rounds_line (rounds choices (length p.statements))) 0 start choices
+
+-- whether each step of these choices is defined
+abbrev pub and_then_all : (State → Bool) → Option State → Bool
+and_then_all rest None = false
+and_then_all rest (Some next) = rest next
+
+abbrev pub all_defined : List CSlot → CProgram → State → List ℕ → Bool
+all_defined slots p state [] = true
+all_defined slots p state (choice ∷ choices) =
+    and_then_all (λ next. all_defined slots p next choices) (chosen_step slots p choice state)
+
+-- how a step, or a whole trace, ends
+abbrev pub stepped : Option State → Stepped
+stepped None = Stepped.Undefined
+stepped (Some next) = Stepped.Done
+
+abbrev pub ending : Bool → Stepped
+ending true = Stepped.Done
+ending false = Stepped.Undefined
