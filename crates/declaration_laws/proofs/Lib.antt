@@ -1,0 +1,6 @@
+pub mod Lists
+pub mod Agreed
+pub mod Found
+pub mod Faultless
+pub mod Slots
+pub mod Names

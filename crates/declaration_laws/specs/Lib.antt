@@ -1,0 +1,4 @@
+pub mod Agreement
+pub mod WordLaws
+pub mod SlotLaws
+pub mod NameLaws

@@ -1,0 +1,54 @@
+-- The values of a start section.
+use Rattle.std.specs.Prelude.{◌≡◌, ℕ, ℤ, pos, List, ◌++◌, map, Bool, Option, option_map, unwrap_or}
+use Rattle.std.specs.List.{flat_map}
+use Rattle.unity_syntax.specs.declared.declaration.Var.{Var}
+use Rattle.unity_syntax.specs.declared.declaration.Init.{Init}
+use Rattle.unity_syntax.specs.declared.declaration.InitValue.{InitValue}
+use Rattle.unity_syntax.specs.declared.document.Part.{Part}
+use Rattle.unity_meaning.specs.Names.{Bindings, Variable, number_of, or_zero, slot_named}
+use Rattle.unity_meaning.specs.Value.{signed}
+use Rattle.unity_meaning.specs.Setting.{element_type, plain_words}
+use Rattle.expand_declarations.specs.Slots.{part_declarations}
+
+abbrev pub index_of : Option (Bool × ℕ) → Option ℤ
+index_of index = option_map (λ i. signed i.0 (pos i.1)) index
+
+-- the slot that a start value is given to; 0 where it is given to none
+abbrev pub start_slot : List Variable → Init → ℕ
+start_slot vs init = unwrap_or (slot_named init.name.text (index_of init.index) vs) 0
+
+-- the number of a start value; false is 0 and true is 1
+abbrev pub start_number : Bindings → InitValue → ℤ
+start_number words (InitValue.Number at minus number) = signed minus (pos number)
+start_number words (InitValue.Word at name) = or_zero (number_of name.text words)
+start_number words (InitValue.True at) = pos 1
+start_number words (InitValue.False at) = pos 0
+
+abbrev pub start_entry : List Variable → Bindings → Init → ℕ × ℤ
+start_entry vs words init = (start_slot vs init, start_number words init.value)
+
+-- the slots and the numbers of a start section, in the order of the text
+abbrev pub start_values : List Variable → Bindings → List Init → List (ℕ × ℤ)
+start_values vs words inits = map (start_entry vs words) inits
+
+-- the words of enumerations, each with its number
+abbrev pub var_words : Var → Bindings
+var_words v = plain_words (element_type v.kind)
+
+abbrev pub part_words : Part → Bindings
+part_words part = flat_map var_words (part_declarations part)
+
+abbrev pub enumeration_words : List Part → Bindings
+enumeration_words parts = flat_map part_words parts
+
+-- words that have the same numbers
+abbrev pub SameNumbers : Bindings → Bindings → Type 0
+SameNumbers ws us = (name : List ℕ) → number_of name ws ≡ number_of name us
+
+-- words and numbers, as the code keeps them
+abbrev pub numbered_words : List (List ℕ × ℕ) → Bindings
+numbered_words es = map (λ (e : List ℕ × ℕ). let b : List ℕ × ℤ = (e.0, pos e.1) in b) es
+
+-- words that were added after others; of two that are the same, the first keeps its number
+pub record AddsWords (old new : List (List ℕ × ℕ)) (more : Bindings) : Type 0 where
+  pub numbers : SameNumbers (numbered_words new) (numbered_words old ++ more)

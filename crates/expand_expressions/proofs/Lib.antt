@@ -1,0 +1,6 @@
+mod Comparing
+mod Multiples
+mod Ends
+mod Variables
+mod Elements
+mod Growth

@@ -1,0 +1,419 @@
+use Rattle.std.proofs.Common.{◌≡◌, ℕ, ◌<◌, ℤ, pos, ◌+ℤ◌, List, [], ◌∷◌, map, drop, Bool, true, ◌&&◌, Some, None, Err}
+use Rattle.std.proofs.Common.{sym, ap, ◌∙◌, subst, arith, refl}
+use Rattle.std.proofs.lemmas.Result.{err_from_is_err_and}
+use Rattle.std.specs.Prelude.{fold}
+use Rattle.case_tables.specs.declared.symbol_table.Symbol.{Symbol}
+use Rattle.unity_syntax.specs.declared.expression.Expr.{Expr}
+use Rattle.unity_meaning.specs.Value.{count_up}
+use Rattle.name_laws.specs.SlotLaws.{variable_named}
+use Rattle.expansion_laws.specs.declared.cores.Bound.{Bound}
+use Rattle.expansion_laws.specs.declared.cores.Formed.{Formed}
+use Rattle.expansion_laws.specs.Limits.{is_past, is_too_large}
+use Rattle.expansion_laws.specs.Measures.{quantifier_measure, range_misfit}
+use Rattle.expansion_laws.specs.Forming.{Scope, with_number, as_truth, conjunction, disjunction, product, plus, signed}
+use Rattle.expansion_laws.specs.Forming.{denial, comparison, gathered, numbers, fit_values, quantified, formed}
+use Rattle.expansion_laws.proofs.Equations.{formed-And, formed-Or, formed-Not, formed-Compare, formed-Sum}
+use Rattle.expansion_laws.proofs.Equations.{formed-Product, formed-Element, formed-Quantified}
+use Rattle.expansion_laws.proofs.Growing.{as_truth_keeps, denial_keeps, comparison_first, comparison_second}
+use Rattle.expansion_laws.proofs.Growing.{signed_keeps, element_keeps, quantified_keeps, fold_keeps, product_first}
+use Rattle.expansion_laws.proofs.Growing.{large_of_size}
+use Rattle.expand_expressions.specs.declared.joining.Joint.{Joint}
+use Rattle.expand_expressions.specs.Sound.{Gives, GivesWhole}
+use Rattle.expand_expressions.specs.Joints.{joint_of, begin_of, word_joint}
+use Rattle.expand_expressions.specs.Places.{scope, bound_names}
+use Rattle.expand_expressions.proofs.Growth.{passes, passes_whole, passes_back, passes_at, fold_past, begin_keeps}
+use Rattle.expand_expressions.proofs.Growth.{plus_fold, list_next, list_joined, sum_next, sum_joined, instances_begin}
+use Rattle.expand_expressions.proofs.Growth.{instances_more, instances_end, instance_large, joined_large, whole_large}
+use Rattle.expand_expressions.proofs.Growth.{begin_large, first_large}
+use Rattle.expand_expressions.proofs.forming.+form.Goals as goal
+
+pub form-returns-in_err-first-in-And-clause-formed : goal.form-returns-in_err-first-in-And-clause-formed
+form-returns-in_err-first-in-And-clause-formed t c =
+    let s = scope c.args.known.now c.args.env.now in
+    let f = λ (x : Expr). formed x s in
+    let p = err_from_is_err_and c.from_residual-in_err-first-in-And.result c.from_residual-in_err-first-in-And.ensures.1
+    in
+    rw (p.1, p.2, c.in-And.is, formed-And)
+    (passes_at c.in_err-first-in-And.field-0.0 f c.get-in-And.result.now c.in-And.first
+    (fold conjunction (begin_of Joint.And (f c.in-And.first)) (map f c.in-And.rest))
+    c.get-in-And.ensures (λ h. fold_past Joint.And (begin_of Joint.And (f c.in-And.first)) (map f c.in-And.rest)
+    (begin_keeps Joint.And (f c.in-And.first) h)) c.in_err-first-in-And.ensures.formed)
+
+pub form-returns-in_ok-first-in-And-clause-formed : goal.form-returns-in_ok-first-in-And-clause-formed
+form-returns-in_ok-first-in-And-clause-formed t c =
+    let s = scope c.args.known.now c.args.env.now in
+    let f = λ (x : Expr). formed x s in
+    rw (c.in-And.is, formed-And)
+    (subst (λ a. Gives c.all.result (fold conjunction (begin_of Joint.And a) (map f c.in-And.rest)))
+    (c.in_ok-first-in-And.ensures.formed ∙ ap f c.get-in-And.ensures) c.all.ensures.formed)
+
+pub form-returns-in_err-first-in-Or-clause-formed : goal.form-returns-in_err-first-in-Or-clause-formed
+form-returns-in_err-first-in-Or-clause-formed t c =
+    let s = scope c.args.known.now c.args.env.now in
+    let f = λ (x : Expr). formed x s in
+    let p = err_from_is_err_and c.from_residual-in_err-first-in-Or.result c.from_residual-in_err-first-in-Or.ensures.1
+    in
+    rw (p.1, p.2, c.in-Or.is, formed-Or)
+    (passes_at c.in_err-first-in-Or.field-0.0 f c.get-in-Or.result.now c.in-Or.first
+    (fold disjunction (begin_of Joint.Or (f c.in-Or.first)) (map f c.in-Or.rest))
+    c.get-in-Or.ensures (λ h. fold_past Joint.Or (begin_of Joint.Or (f c.in-Or.first)) (map f c.in-Or.rest)
+    (begin_keeps Joint.Or (f c.in-Or.first) h)) c.in_err-first-in-Or.ensures.formed)
+
+pub form-returns-in_ok-first-in-Or-clause-formed : goal.form-returns-in_ok-first-in-Or-clause-formed
+form-returns-in_ok-first-in-Or-clause-formed t c =
+    let s = scope c.args.known.now c.args.env.now in
+    let f = λ (x : Expr). formed x s in
+    rw (c.in-Or.is, formed-Or)
+    (subst (λ a. Gives c.all-in-Or.result (fold disjunction (begin_of Joint.Or a) (map f c.in-Or.rest)))
+    (c.in_ok-first-in-Or.ensures.formed ∙ ap f c.get-in-Or.ensures) c.all-in-Or.ensures.formed)
+
+pub form-returns-in_err-first-in-Product-clause-formed : goal.form-returns-in_err-first-in-Product-clause-formed
+form-returns-in_err-first-in-Product-clause-formed t c =
+    let s = scope c.args.known.now c.args.env.now in
+    let f = λ (x : Expr). formed x s in
+    let p = err_from_is_err_and c.from_residual-in_err-first-in-Product.result
+    c.from_residual-in_err-first-in-Product.ensures.1 in
+    rw (p.1, p.2, c.in-Product.is, formed-Product)
+    (passes_at c.in_err-first-in-Product.field-0.0 f c.get-in-Product.result.now c.in-Product.first
+    (fold product (begin_of Joint.Product (f c.in-Product.first)) (map f c.in-Product.rest))
+    c.get-in-Product.ensures (λ h. fold_past Joint.Product (begin_of Joint.Product (f c.in-Product.first))
+    (map f c.in-Product.rest) (begin_keeps Joint.Product (f c.in-Product.first) h))
+    c.in_err-first-in-Product.ensures.formed)
+
+pub form-returns-in_ok-first-in-Product-clause-formed : goal.form-returns-in_ok-first-in-Product-clause-formed
+form-returns-in_ok-first-in-Product-clause-formed t c =
+    let s = scope c.args.known.now c.args.env.now in
+    let f = λ (x : Expr). formed x s in
+    rw (c.in-Product.is, formed-Product)
+    (subst (λ a. Gives c.all-in-Product.result (fold product (begin_of Joint.Product a) (map f c.in-Product.rest)))
+    (c.in_ok-first-in-Product.ensures.formed ∙ ap f c.get-in-Product.ensures) c.all-in-Product.ensures.formed)
+
+pub form-returns-in_err-first-in-Sum-clause-formed : goal.form-returns-in_err-first-in-Sum-clause-formed
+form-returns-in_err-first-in-Sum-clause-formed t c =
+    let s = scope c.args.known.now c.args.env.now in
+    let f = λ (x : Expr). formed x s in
+    let p = err_from_is_err_and c.from_residual-in_err-first-in-Sum.result c.from_residual-in_err-first-in-Sum.ensures.1
+    in
+    let parts = map (λ (q : Symbol × Expr). (q.0, formed q.1 s)) c.in-Sum.rest in
+    rw (p.1, p.2, c.in-Sum.is, formed-Sum)
+    (passes_at c.in_err-first-in-Sum.field-0.0 f c.get-in-Sum.result.now c.in-Sum.first
+    (fold plus (signed c.in-Sum.minus (f c.in-Sum.first)) parts)
+    c.get-in-Sum.ensures (λ h. plus_fold (signed c.in-Sum.minus (f c.in-Sum.first)) parts
+    (signed_keeps c.in-Sum.minus (f c.in-Sum.first) h))
+    c.in_err-first-in-Sum.ensures.formed)
+
+pub form-returns-in_ok-first-in-Sum-clause-formed : goal.form-returns-in_ok-first-in-Sum-clause-formed
+form-returns-in_ok-first-in-Sum-clause-formed t c =
+    let s = scope c.args.known.now c.args.env.now in
+    let f = λ (x : Expr). formed x s in
+    rw (c.in-Sum.is, formed-Sum)
+    (subst (λ a. Gives c.added.result (fold plus (signed c.in-Sum.minus a)
+    (map (λ (q : Symbol × Expr). (q.0, formed q.1 s)) c.in-Sum.rest)))
+    (c.in_ok-first-in-Sum.ensures.formed ∙ ap f c.get-in-Sum.ensures) c.added.ensures.formed)
+
+pub form-returns-in_err-of-in-Not-clause-formed : goal.form-returns-in_err-of-in-Not-clause-formed
+form-returns-in_err-of-in-Not-clause-formed t c =
+    let s = scope c.args.known.now c.args.env.now in
+    let f = λ (x : Expr). formed x s in
+    let p = err_from_is_err_and c.from_residual-in_err-of-in-Not.result c.from_residual-in_err-of-in-Not.ensures.1 in
+    rw (p.1, p.2, c.in-Not.is, formed-Not)
+    (passes_at c.in_err-of-in-Not.field-0.0 f c.get-in-Not.result.now c.in-Not.of (denial (f c.in-Not.of))
+    c.get-in-Not.ensures
+    (denial_keeps (f c.in-Not.of)) c.in_err-of-in-Not.ensures.formed)
+
+pub form-returns-in_err-left-in-Compare-clause-formed : goal.form-returns-in_err-left-in-Compare-clause-formed
+form-returns-in_err-left-in-Compare-clause-formed t c =
+    let s = scope c.args.known.now c.args.env.now in
+    let f = λ (x : Expr). formed x s in
+    let p = err_from_is_err_and c.from_residual-in_err-left-in-Compare.result
+    c.from_residual-in_err-left-in-Compare.ensures.1 in
+    let q = c.in-Compare in
+    rw (p.1, p.2, q.is, formed-Compare)
+    (passes_at c.in_err-left-in-Compare.field-0.0 f c.get-in-Compare.result.now q.left
+    (comparison q.relation (f q.left) (f q.right)) c.get-in-Compare.ensures
+    (comparison_first q.relation (f q.left) (f q.right)) c.in_err-left-in-Compare.ensures.formed)
+
+pub form-returns-in_err-right-in-Compare-clause-formed : goal.form-returns-in_err-right-in-Compare-clause-formed
+form-returns-in_err-right-in-Compare-clause-formed t c =
+    let s = scope c.args.known.now c.args.env.now in
+    let f = λ (x : Expr). formed x s in
+    let p = err_from_is_err_and c.from_residual-in_err-right-in-Compare.result
+    c.from_residual-in_err-right-in-Compare.ensures.1 in
+    let q = c.in-Compare in
+    rw (p.1, p.2, q.is, formed-Compare)
+    (passes_at c.in_err-right-in-Compare.field-0.0 f c.get-in-Compare-2.result.now q.right
+    (comparison q.relation (f q.left) (f q.right)) c.get-in-Compare-2.ensures
+    (comparison_second q.relation (f q.left) (f q.right)) c.in_err-right-in-Compare.ensures.formed)
+
+pub form-returns-in_err-index-in-Some-clause-formed : goal.form-returns-in_err-index-in-Some-clause-formed
+form-returns-in_err-index-in-Some-clause-formed t c =
+    let s = scope c.args.known.now c.args.env.now in
+    let f = λ (x : Expr). formed x s in
+    let p = err_from_is_err_and c.from_residual-in_err-index-in-Some.result
+    c.from_residual-in_err-index-in-Some.ensures.1 in
+    rw (p.1, p.2, c.in-Word.is, c.in-Some.is, formed-Element)
+    (passes_at c.in_err-index-in-Some.field-0.0 f c.get-in-Some.result.now c.in-Some.index _ c.get-in-Some.ensures
+    (element_keeps (variable_named c.in-Word.name.text s.variables) (f c.in-Some.index))
+    c.in_err-index-in-Some.ensures.formed)
+
+pub form-returns-in-Quantified-clause-formed : goal.form-returns-in-Quantified-clause-formed
+form-returns-in-Quantified-clause-formed t c =
+    let s = scope c.args.known.now c.args.env.now in
+    let f = λ (x : Expr). formed x s in
+    let q = c.in-Quantified in
+    rw (q.is, formed-Quantified)
+    (subst (λ (x : Expr). Gives c.quantified.result (quantified s.bound q.range (gathered q.which
+    (map (λ z. formed x (with_number s q.name.text z)) (fit_values (numbers s.bound) q.range)))))
+    c.get-in-Quantified.ensures c.quantified.ensures.formed)
+
+pub all-returns-in_err-whole-clause-formed : goal.all-returns-in_err-whole-clause-formed
+all-returns-in_err-whole-clause-formed t c =
+    let s = scope c.args.known.now c.args.env.now in
+    let f = λ (x : Expr). formed x s in
+    let begin = begin_of c.args.joint c.args.first in
+    let p = err_from_is_err_and c.from_residual.result c.from_residual.ensures.1 in
+    rw (p.1, p.2) (passes c.in_err-whole.field-0.0 begin (fold (joint_of c.args.joint) begin (map f c.args.rest.now))
+    (fold_past c.args.joint begin (map f c.args.rest.now)) c.in_err-whole.ensures.formed)
+
+pub all-returns-in_err-next-clause-formed : goal.all-returns-in_err-next-clause-formed
+all-returns-in_err-next-clause-formed t c =
+    let s = scope c.args.known.now c.args.env.now in
+    let f = λ (x : Expr). formed x s in
+    let begin = begin_of c.args.joint c.args.first in
+    let p = err_from_is_err_and c.from_residual-in_err-next.result c.from_residual-in_err-next.ensures.1 in
+    rw (p.1, p.2) (passes c.in_err-next.field-0.0 (f c.e-item.result)
+    (fold (joint_of c.args.joint) begin (map f c.args.rest.now))
+    (list_next f c.args.joint c.loop-e.whole c.as_slice-e-items.result.now c.args.rest.now c.loop-e.e-index begin
+    c.in_ok-whole.whole c.loop-e-test.true c.in_ok-whole.ensures.formed c.as_slice-e-items.ensures
+    c.loop-e.invariant.0 c.e-item.result c.e-item.is) c.in_err-next.ensures.formed)
+
+pub all-returns-in_err-whole-2-clause-formed : goal.all-returns-in_err-whole-2-clause-formed
+all-returns-in_err-whole-2-clause-formed t c =
+    let s = scope c.args.known.now c.args.env.now in
+    let f = λ (x : Expr). formed x s in
+    let begin = begin_of c.args.joint c.args.first in
+    let p = err_from_is_err_and c.from_residual-in_err-whole-2.result c.from_residual-in_err-whole-2.ensures.1 in
+    rw (p.1, p.2) (passes c.in_err-whole-2.field-0.0 (joint_of c.args.joint c.loop-e.whole c.in_ok-next.next)
+    (fold (joint_of c.args.joint) begin (map f c.args.rest.now))
+    (list_joined f c.args.joint c.loop-e.whole c.as_slice-e-items.result.now c.args.rest.now c.loop-e.e-index begin
+    c.in_ok-whole.whole c.loop-e-test.true c.in_ok-whole.ensures.formed c.as_slice-e-items.ensures
+    c.loop-e.invariant.0 c.e-item.result c.in_ok-next.next c.e-item.is c.in_ok-next.ensures.formed)
+    c.in_err-whole-2.ensures.formed)
+
+pub added-returns-in_err-whole-clause-formed : goal.added-returns-in_err-whole-clause-formed
+added-returns-in_err-whole-clause-formed t c =
+    let s = scope c.args.known.now c.args.env.now in
+    let f = λ (x : Expr). formed x s in
+    let begin = signed c.args.minus c.args.first in
+    let parts = map (λ (q : Symbol × Expr). (q.0, formed q.1 s)) c.args.rest.now in
+    let p = err_from_is_err_and c.from_residual.result c.from_residual.ensures.1 in
+    rw (p.1, p.2) (passes c.in_err-whole.field-0.0 begin (fold plus begin parts) (plus_fold begin parts)
+    c.in_err-whole.ensures.formed)
+
+pub added-returns-in_err-next-clause-formed : goal.added-returns-in_err-next-clause-formed
+added-returns-in_err-next-clause-formed t c =
+    let s = scope c.args.known.now c.args.env.now in
+    let f = λ (x : Expr). formed x s in
+    let begin = signed c.args.minus c.args.first in
+    let parts = map (λ (q : Symbol × Expr). (q.0, formed q.1 s)) c.args.rest.now in
+    let p = err_from_is_err_and c.from_residual-in_err-next.result c.from_residual-in_err-next.ensures.1 in
+    rw (p.1, p.2) (passes c.in_err-next.field-0.0 (f c.part-item.result.1) (fold plus begin parts)
+    (sum_next f c.loop-part.whole c.as_slice-part-items.result.now c.args.rest.now c.loop-part.part-index begin
+    c.in_ok-whole.whole c.loop-part-test.true c.in_ok-whole.ensures.formed c.as_slice-part-items.ensures
+    c.loop-part.invariant.0 c.part-item.result c.part-item.is) c.in_err-next.ensures.formed)
+
+pub added-returns-in_err-whole-2-clause-formed : goal.added-returns-in_err-whole-2-clause-formed
+added-returns-in_err-whole-2-clause-formed t c =
+    let s = scope c.args.known.now c.args.env.now in
+    let f = λ (x : Expr). formed x s in
+    let begin = signed c.args.minus c.args.first in
+    let parts = map (λ (q : Symbol × Expr). (q.0, formed q.1 s)) c.args.rest.now in
+    let p = err_from_is_err_and c.from_residual-in_err-whole-2.result c.from_residual-in_err-whole-2.ensures.1 in
+    rw (p.1, p.2) (passes c.in_err-whole-2.field-0.0 (plus c.loop-part.whole (c.part-item.result.0, c.in_ok-next.next))
+    (fold plus begin parts)
+    (sum_joined f c.loop-part.whole c.as_slice-part-items.result.now c.args.rest.now c.loop-part.part-index begin
+    c.in_ok-whole.whole c.loop-part-test.true c.in_ok-whole.ensures.formed c.as_slice-part-items.ensures
+    c.loop-part.invariant.0 c.part-item.result c.in_ok-next.next c.part-item.is c.in_ok-next.ensures.formed)
+    c.in_err-whole-2.ensures.formed)
+
+pub quantified-returns-in_err-whole-clause-formed : goal.quantified-returns-in_err-whole-clause-formed
+quantified-returns-in_err-whole-clause-formed t c =
+    let s = scope c.args.known.now c.args.env.now in
+    let f = λ (z : ℤ). formed c.args.of.now (with_number s c.args.name.now.text z) in
+    let values : count_up c.range_numbers-numbers.result.first c.range_numbers-numbers.result.count ≡ fit_values
+    (numbers s.bound) c.args.range.now = sym c.range_numbers-numbers.ensures.values in
+    let p = err_from_is_err_and c.from_residual.result c.from_residual.ensures.1 in
+    let goal = gathered c.args.which (map f (fit_values (numbers s.bound) c.args.range.now)) in
+    rw (p.1, p.2) (passes_back c.in_err-whole.field-0.0 goal (quantified s.bound c.args.range.now goal)
+    (quantified_keeps s.bound c.args.range.now goal)
+    (subst (λ zs. GivesWhole (Err c.in_err-whole.field-0.0) (gathered c.args.which (map f zs))) values
+    c.in_err-whole.ensures.formed))
+
+pub quantified-returns-clause-formed : goal.quantified-returns-clause-formed
+quantified-returns-clause-formed t c =
+    let s = scope c.args.known.now c.args.env.now in
+    let f = λ (z : ℤ). formed c.args.of.now (with_number s c.args.name.now.text z) in
+    let values : count_up c.range_numbers-numbers.result.first c.range_numbers-numbers.result.count ≡ fit_values
+    (numbers s.bound) c.args.range.now = sym c.range_numbers-numbers.ensures.values in
+    let whole : c.in_ok-whole.whole ≡ gathered c.args.which (map f (fit_values (numbers s.bound) c.args.range.now)) =
+    c.in_ok-whole.ensures.formed ∙ ap (λ zs. gathered c.args.which (map f zs)) values in
+    subst (λ a. Gives c.limited.result a)
+    (ap (λ m. record c.in_ok-whole.whole { exact = c.is_fixed_range.result && c.in_ok-whole.whole.exact; measure = m })
+    (c.quantifier_measure-measure.ensures ∙ ap (λ w. quantifier_measure w c.in_ok-whole.whole.measure)
+    c.range_misfit.ensures)
+    ∙ ap (λ b. record c.in_ok-whole.whole {
+      exact = b && c.in_ok-whole.whole.exact;
+      measure = quantifier_measure
+          (range_misfit (numbers s.bound) c.args.range.now) c.in_ok-whole.whole.measure;
+    }) c.is_fixed_range.ensures
+    ∙ ap (λ a. quantified s.bound c.args.range.now a) whole)
+    c.limited.ensures.formed
+
+pub instances-joined-requires-clause-first : goal.instances-joined-requires-clause-first
+instances-joined-requires-clause-first t c =
+    c.loop-k.invariant.1
+
+pub instances-joined-requires-clause-first_light : goal.instances-joined-requires-clause-first_light
+instances-joined-requires-clause-first_light t c =
+    c.loop-k.invariant.2
+
+pub instances-returns-clause-sound : goal.instances-returns-clause-sound
+instances-returns-clause-sound t c =
+    c.loop-k.invariant.1
+
+pub instances-returns-clause-light : goal.instances-returns-clause-light
+instances-returns-clause-light t c =
+    c.loop-k.invariant.2
+
+pub instances-loop-k-init : goal.instances-loop-k-init
+instances-loop-k-init t c =
+    let s = scope c.args.known.now c.args.env.now in
+    let f = λ (z : ℤ). formed c.args.of.now (with_number s c.args.name.now.text z) in
+    let low = c.args.numbers.first in
+    let n = c.args.numbers.count in
+    let goal = gathered c.args.which (map f (count_up low n)) in
+    let same : formed c.args.of.now (scope c.args.known.now c.with_bound.result) ≡ f (low +ℤ pos 0) =
+    ap (λ (bs : List (List ℕ × Bound)). formed c.args.of.now (record s { bound = bs }))
+    (c.with_bound.ensures ∙ ap (λ b. (c.args.name.now.text, b) ∷ bound_names c.args.env.now) c.bound_at.ensures) in
+    let j : c.joint_of_word-joint.result ≡ word_joint c.args.which = c.joint_of_word-joint.ensures in
+    let whole : c.in_ok-whole.whole ≡ begin_of (word_joint c.args.which) (f (low +ℤ pos 0)) =
+    c.in_ok-whole.ensures.formed ∙ ap (λ k. begin_of k c.in_ok-first.first) j ∙ ap
+    (λ a. begin_of (word_joint c.args.which) a) (c.in_ok-first.ensures.formed ∙ same) in (
+      ap (λ k. fold (joint_of k) c.in_ok-whole.whole (map f (drop 1 (count_up low n)))) j
+          ∙ ap (λ a. fold (joint_of (word_joint c.args.which)) a (map f (drop 1 (count_up low n)))) whole
+          ∙ instances_begin c.args.which f low n c.if-numbers-eq0.false,
+      c.in_ok-whole.ensures.sound,
+      c.in_ok-whole.ensures.light,
+    )
+
+pub instances-loop-k-preserved : goal.instances-loop-k-preserved
+instances-loop-k-preserved t c =
+    let s = scope c.args.known.now c.args.env.now in
+    let f = λ (z : ℤ). formed c.args.of.now (with_number s c.args.name.now.text z) in
+    let low = c.args.numbers.first in
+    let n = c.args.numbers.count in
+    let goal = gathered c.args.which (map f (count_up low n)) in
+    let same : formed c.args.of.now (scope c.args.known.now c.with_bound-in-loop-k.result) ≡ f (low +ℤ pos c.loop-k.k) =
+    ap (λ (bs : List (List ℕ × Bound)). formed c.args.of.now (record s { bound = bs }))
+    (c.with_bound-in-loop-k.ensures ∙ ap (λ b. (c.args.name.now.text, b) ∷ bound_names c.args.env.now)
+    c.bound_at-in-loop-k.ensures) in (
+      instances_more c.joint_of_word-joint.result f low c.loop-k.k n c.loop-k.whole c.in_ok-whole-2.whole goal
+          c.loop-k-test.true
+          (c.in_ok-whole-2.ensures.formed ∙ ap (λ a. joint_of c.joint_of_word-joint.result c.loop-k.whole a)
+          (c.in_ok-next.ensures.formed ∙ same)) c.loop-k.invariant.0,
+      c.in_ok-whole-2.ensures.sound,
+      c.in_ok-whole-2.ensures.light,
+    )
+
+pub instances-returns-clause-formed : goal.instances-returns-clause-formed
+instances-returns-clause-formed t c =
+    let s = scope c.args.known.now c.args.env.now in
+    let f = λ (z : ℤ). formed c.args.of.now (with_number s c.args.name.now.text z) in
+    let low = c.args.numbers.first in
+    let n = c.args.numbers.count in
+    let goal = gathered c.args.which (map f (count_up low n)) in
+    let e : c.loop-k.k ≡ n = omega (arith, c.loop-k-test.false, c.loop-k.auto.k-end) in
+    instances_end c.joint_of_word-joint.result f low c.loop-k.k n c.loop-k.whole goal e c.loop-k.invariant.0
+
+pub instances-returns-in_err-first-clause-formed : goal.instances-returns-in_err-first-clause-formed
+instances-returns-in_err-first-clause-formed t c =
+    let s = scope c.args.known.now c.args.env.now in
+    let f = λ (z : ℤ). formed c.args.of.now (with_number s c.args.name.now.text z) in
+    let low = c.args.numbers.first in
+    let n = c.args.numbers.count in
+    let goal = gathered c.args.which (map f (count_up low n)) in
+    let same : formed c.args.of.now (scope c.args.known.now c.with_bound.result) ≡ f (low +ℤ pos 0) =
+    ap (λ (bs : List (List ℕ × Bound)). formed c.args.of.now (record s { bound = bs }))
+    (c.with_bound.ensures ∙ ap (λ b. (c.args.name.now.text, b) ∷ bound_names c.args.env.now) c.bound_at.ensures) in
+    let p = err_from_is_err_and c.from_residual-in_err-first.result c.from_residual-in_err-first.ensures.1 in
+    rw (p.1, p.2) (passes_whole c.in_err-first.field-0.0 (f (low +ℤ pos 0)) goal
+    (first_large c.args.which f low n c.if-numbers-eq0.false)
+    (subst (λ a. Gives (Err c.in_err-first.field-0.0) a) same c.in_err-first.ensures.formed))
+
+pub instances-returns-in_err-whole-clause-formed : goal.instances-returns-in_err-whole-clause-formed
+instances-returns-in_err-whole-clause-formed t c =
+    let s = scope c.args.known.now c.args.env.now in
+    let f = λ (z : ℤ). formed c.args.of.now (with_number s c.args.name.now.text z) in
+    let low = c.args.numbers.first in
+    let n = c.args.numbers.count in
+    let goal = gathered c.args.which (map f (count_up low n)) in
+    let same : formed c.args.of.now (scope c.args.known.now c.with_bound.result) ≡ f (low +ℤ pos 0) =
+    ap (λ (bs : List (List ℕ × Bound)). formed c.args.of.now (record s { bound = bs }))
+    (c.with_bound.ensures ∙ ap (λ b. (c.args.name.now.text, b) ∷ bound_names c.args.env.now) c.bound_at.ensures) in
+    let j : c.joint_of_word-joint.result ≡ word_joint c.args.which = c.joint_of_word-joint.ensures in
+    let p = err_from_is_err_and c.from_residual-in_err-whole.result c.from_residual-in_err-whole.ensures.1 in
+    let part : begin_of c.joint_of_word-joint.result c.in_ok-first.first ≡ begin_of (word_joint c.args.which)
+    (f (low +ℤ pos 0)) =
+    ap (λ k. begin_of k c.in_ok-first.first) j ∙ ap (λ a. begin_of (word_joint c.args.which) a)
+    (c.in_ok-first.ensures.formed ∙ same) in
+    rw (p.1, p.2) (passes_whole c.in_err-whole.field-0.0 (begin_of (word_joint c.args.which) (f (low +ℤ pos 0))) goal
+    (begin_large c.args.which f low n c.if-numbers-eq0.false)
+    (subst (λ a. Gives (Err c.in_err-whole.field-0.0) a) part c.in_err-whole.ensures.formed))
+
+pub instances-returns-then-whole-gt65536-clause-formed : goal.instances-returns-then-whole-gt65536-clause-formed
+instances-returns-then-whole-gt65536-clause-formed t c =
+    let s = scope c.args.known.now c.args.env.now in
+    let f = λ (z : ℤ). formed c.args.of.now (with_number s c.args.name.now.text z) in
+    let low = c.args.numbers.first in
+    let n = c.args.numbers.count in
+    let goal = gathered c.args.which (map f (count_up low n)) in
+    whole_large c.joint_of_word-joint.result f low c.loop-k.k n c.loop-k.whole goal c.loop-k.invariant.0
+    (large_of_size c.loop-k.whole c.if-whole-gt65536.true)
+
+pub instances-returns-in_err-next-clause-formed : goal.instances-returns-in_err-next-clause-formed
+instances-returns-in_err-next-clause-formed t c =
+    let s = scope c.args.known.now c.args.env.now in
+    let f = λ (z : ℤ). formed c.args.of.now (with_number s c.args.name.now.text z) in
+    let low = c.args.numbers.first in
+    let n = c.args.numbers.count in
+    let goal = gathered c.args.which (map f (count_up low n)) in
+    let same : formed c.args.of.now (scope c.args.known.now c.with_bound-in-loop-k.result) ≡ f (low +ℤ pos c.loop-k.k) =
+    ap (λ (bs : List (List ℕ × Bound)). formed c.args.of.now (record s { bound = bs }))
+    (c.with_bound-in-loop-k.ensures ∙ ap (λ b. (c.args.name.now.text, b) ∷ bound_names c.args.env.now)
+    c.bound_at-in-loop-k.ensures) in
+    let p = err_from_is_err_and c.from_residual-in_err-next.result c.from_residual-in_err-next.ensures.1 in
+    rw (p.1, p.2) (passes_whole c.in_err-next.field-0.0 (f (low +ℤ pos c.loop-k.k)) goal
+    (instance_large c.joint_of_word-joint.result f low c.loop-k.k n c.loop-k.whole goal c.loop-k-test.true
+    c.loop-k.invariant.0)
+    (subst (λ a. Gives (Err c.in_err-next.field-0.0) a) same c.in_err-next.ensures.formed))
+
+pub instances-returns-in_err-whole-2-clause-formed : goal.instances-returns-in_err-whole-2-clause-formed
+instances-returns-in_err-whole-2-clause-formed t c =
+    let s = scope c.args.known.now c.args.env.now in
+    let f = λ (z : ℤ). formed c.args.of.now (with_number s c.args.name.now.text z) in
+    let low = c.args.numbers.first in
+    let n = c.args.numbers.count in
+    let goal = gathered c.args.which (map f (count_up low n)) in
+    let same : formed c.args.of.now (scope c.args.known.now c.with_bound-in-loop-k.result) ≡ f (low +ℤ pos c.loop-k.k) =
+    ap (λ (bs : List (List ℕ × Bound)). formed c.args.of.now (record s { bound = bs }))
+    (c.with_bound-in-loop-k.ensures ∙ ap (λ b. (c.args.name.now.text, b) ∷ bound_names c.args.env.now)
+    c.bound_at-in-loop-k.ensures) in
+    let p = err_from_is_err_and c.from_residual-in_err-whole-2.result c.from_residual-in_err-whole-2.ensures.1 in
+    let part : joint_of c.joint_of_word-joint.result c.loop-k.whole c.in_ok-next.next ≡ joint_of
+    c.joint_of_word-joint.result c.loop-k.whole (f (low +ℤ pos c.loop-k.k)) =
+    ap (λ a. joint_of c.joint_of_word-joint.result c.loop-k.whole a) (c.in_ok-next.ensures.formed ∙ same) in
+    rw (p.1, p.2) (passes_whole c.in_err-whole-2.field-0.0 (joint_of c.joint_of_word-joint.result c.loop-k.whole
+    (f (low +ℤ pos c.loop-k.k))) goal
+    (joined_large c.joint_of_word-joint.result f low c.loop-k.k n c.loop-k.whole goal c.loop-k-test.true
+    c.loop-k.invariant.0)
+    (subst (λ a. Gives (Err c.in_err-whole-2.field-0.0) a) part c.in_err-whole-2.ensures.formed))

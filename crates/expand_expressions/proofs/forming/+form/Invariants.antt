@@ -1,0 +1,31 @@
+use Rattle.std.proofs.Common.{◌≡◌, ◌^◌, ◌≤◌, map, drop}
+use Rattle.std.specs.Prelude.{fold}
+use Rattle.case_tables.specs.declared.symbol_table.Symbol.{Symbol}
+use Rattle.unity_syntax.specs.declared.expression.Expr.{Expr}
+use Rattle.unity_meaning.specs.Value.{count_up}
+use Rattle.expansion_laws.specs.Forming.{formed, plus, gathered, with_number}
+use Rattle.expand_expressions.specs.Sound.{IsSound}
+use Rattle.expand_expressions.specs.Joints.{joint_of}
+use Rattle.expand_expressions.specs.Places.{scope}
+use Rattle.expand_expressions.proofs.forming.+form.Given as goal
+
+abbrev pub invariant-all-loop-e : goal.invariant-all-loop-e
+invariant-all-loop-e l =
+    (fold (joint_of l.joint) l.whole (map (λ (x : Expr). formed x (scope l.known l.env)) (drop l.e-index l.e-items))
+    ≡ fold (joint_of l.joint) l.initial.whole (map (λ (x : Expr). formed x (scope l.known l.env)) l.e-items))
+    × IsSound l.whole × (l.whole.measure.most ≤ 2 ^ 62)
+
+abbrev pub invariant-added-loop-part : goal.invariant-added-loop-part
+invariant-added-loop-part l =
+    (fold plus l.whole (map (λ (p : Symbol × Expr). (p.0, formed p.1 (scope l.known l.env)))
+    (drop l.part-index l.part-items))
+    ≡ fold plus l.initial.whole (map (λ (p : Symbol × Expr). (p.0, formed p.1 (scope l.known l.env))) l.part-items))
+    × IsSound l.whole × (l.whole.measure.most ≤ 2 ^ 62)
+
+abbrev pub invariant-instances-loop-k : goal.invariant-instances-loop-k
+invariant-instances-loop-k l =
+    (fold (joint_of l.joint) l.whole (map (λ z. formed l.of (with_number (scope l.known l.env) l.name.text z))
+    (drop l.k (count_up l.numbers.first l.numbers.count)))
+    ≡ gathered l.fn.which (map (λ z. formed l.of (with_number (scope l.known l.env) l.name.text z))
+    (count_up l.numbers.first l.numbers.count)))
+    × IsSound l.whole × (l.whole.measure.most ≤ 2 ^ 62)

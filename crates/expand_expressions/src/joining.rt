@@ -1,0 +1,175 @@
+//! Parts that are joined from left to right.
+
+ghost use Rattle.std.specs.Prelude.{◌≡◌, ◌+◌, ◌^◌, ◌<◌, ◌≤◌, ◌+ℤ◌, pos, IfOk};
+ghost use Rattle.std.specs.Int.RustNames.{unsigned_abs};
+ghost use Rattle.expansion_laws.specs.Forming as spec;
+ghost use Rattle.expand_expressions.specs.Sound.{IsSound, Gives};
+ghost use Rattle.expand_expressions.specs.Joints.{joint_of, begin_of, word_joint, none_of};
+
+use crate::comparisons::{
+    as_number, as_truth, bottom, comparison, implication, number_constant, top,
+};
+use crate::operations::{conjunction, denial, difference, disjunction, negation, sum};
+use crate::products::{limited, product};
+use crate::ranges::Numbers;
+use crate::refusal::Refusal;
+use case_tables::{Symbol, Word};
+use expansion_laws::{Bound, Formed};
+use std::alloc::{AllocError, Global};
+
+/// What joins parts.
+#[derive(Clone, Copy)]
+pub enum Joint {
+    And,
+    Or,
+    Sum,
+    Product,
+}
+
+/// Two parts, joined.
+pub fn joined(alloc: Global, joint: Joint, a: Formed, b: Formed) -> Result<Formed, Refusal>
+    requires first { IsSound a }
+    requires second { IsSound b }
+    requires first_light { a.measure.most ≤ 2 ^ 62 }
+    requires second_light { b.measure.most ≤ 2 ^ 62 }
+    ensures formed { Gives result (joint_of joint a b) }
+    ensures sound { IfOk result IsSound }
+    ensures light { IfOk result (λ f. f.measure.most ≤ 2 ^ 62) }
+{
+    match joint {
+        Joint::And => limited(conjunction(alloc, a, b)?),
+        Joint::Or => limited(disjunction(alloc, a, b)?),
+        Joint::Sum => limited(sum(alloc, a, b)?),
+        Joint::Product => product(alloc, a, b),
+    }
+}
+
+/// The first part, before others are joined to it.
+pub fn begun(alloc: Global, joint: Joint, a: Formed) -> Result<Formed, Refusal>
+    requires sound { IsSound a }
+    requires light { a.measure.most ≤ 2 ^ 62 }
+    ensures formed { Gives result (begin_of joint a) }
+    ensures sound { IfOk result IsSound }
+    ensures light { IfOk result (λ f. f.measure.most ≤ 2 ^ 62) }
+{
+    match joint {
+        Joint::And => limited(as_truth(alloc, a)?),
+        Joint::Or => limited(as_truth(alloc, a)?),
+        Joint::Sum => limited(as_number(alloc, a)?),
+        Joint::Product => Ok(a),
+    }
+}
+
+/// What joins the instances of a quantifier; no word but `all`, `any` and `sum` stands in one.
+pub fn joint_of_word(which: Word) -> Joint
+    ensures { result ≡ word_joint which }
+{
+    match which {
+        Word::All => Joint::And,
+        Word::Any => Joint::Or,
+        _ => Joint::Sum,
+    }
+}
+
+/// A quantifier over no number.
+pub fn none(alloc: Global, which: Word) -> Result<Formed, AllocError>
+    ensures formed { IfOk result (λ f. f ≡ none_of which) }
+    ensures sound { IfOk result IsSound }
+    ensures light { IfOk result (λ f. f.measure.most ≤ 2 ^ 62) }
+{
+    match which {
+        Word::All => top(alloc),
+        Word::Any => bottom(alloc),
+        _ => number_constant(alloc, 0),
+    }
+}
+
+/// One number of a range, as what a name is bound to.
+pub fn bound_at(numbers: Numbers, place: u64) -> Bound
+    requires first { unsigned_abs numbers.first ≤ 1000000000 }
+    requires place { place ≤ 2000000001 }
+    ensures { result ≡ Bound.Number (numbers.first +ℤ pos place) }
+{
+    Bound::Number(numbers.first + place as i64)
+}
+
+/// The first part of a sum, with or without a sign.
+pub fn signed(alloc: Global, minus: bool, a: Formed) -> Result<Formed, Refusal>
+    requires sound { IsSound a }
+    requires light { a.measure.most ≤ 2 ^ 62 }
+    ensures formed { Gives result (spec.signed minus a) }
+    ensures sound { IfOk result IsSound }
+    ensures light { IfOk result (λ f. f.measure.most ≤ 2 ^ 62) }
+{
+    if minus {
+        limited(negation(alloc, a)?)
+    } else {
+        limited(as_number(alloc, a)?)
+    }
+}
+
+/// A further part of a sum.
+pub fn plus(alloc: Global, symbol: Symbol, a: Formed, b: Formed) -> Result<Formed, Refusal>
+    requires first { IsSound a }
+    requires second { IsSound b }
+    requires first_light { a.measure.most ≤ 2 ^ 62 }
+    requires second_light { b.measure.most ≤ 2 ^ 62 }
+    ensures formed { Gives result (spec.plus a (symbol, b)) }
+    ensures sound { IfOk result IsSound }
+    ensures light { IfOk result (λ f. f.measure.most ≤ 2 ^ 62) }
+{
+    match symbol {
+        Symbol::Minus => limited(difference(alloc, a, b)?),
+        _ => limited(sum(alloc, a, b)?),
+    }
+}
+
+/// That a truth does not hold.
+pub fn denied(alloc: Global, a: Formed) -> Result<Formed, Refusal>
+    requires sound { IsSound a }
+    requires light { a.measure.most ≤ 2 ^ 62 }
+    ensures formed { Gives result (spec.denial a) }
+    ensures sound { IfOk result IsSound }
+    ensures light { IfOk result (λ f. f.measure.most ≤ 2 ^ 62) }
+{
+    limited(denial(alloc, a)?)
+}
+
+/// That one truth implies another.
+pub fn implied(alloc: Global, a: Formed, b: Formed) -> Result<Formed, Refusal>
+    requires first { IsSound a }
+    requires second { IsSound b }
+    requires first_light { a.measure.most ≤ 2 ^ 62 }
+    requires second_light { b.measure.most ≤ 2 ^ 62 }
+    ensures formed { Gives result (spec.implication a b) }
+    ensures sound { IfOk result IsSound }
+    ensures light { IfOk result (λ f. f.measure.most ≤ 2 ^ 62) }
+{
+    limited(implication(alloc, a, b)?)
+}
+
+/// A comparison.
+pub fn compared(alloc: Global, relation: Symbol, a: Formed, b: Formed) -> Result<Formed, Refusal>
+    requires first { IsSound a }
+    requires second { IsSound b }
+    requires first_light { a.measure.most ≤ 2 ^ 62 }
+    requires second_light { b.measure.most ≤ 2 ^ 62 }
+    ensures formed { Gives result (spec.comparison relation a b) }
+    ensures sound { IfOk result IsSound }
+    ensures light { IfOk result (λ f. f.measure.most ≤ 2 ^ 62) }
+{
+    limited(comparison(alloc, relation, a, b)?)
+}
+
+/// A number that is written.
+pub fn literal(alloc: Global, number: u64) -> Result<Formed, Refusal>
+    ensures formed { Gives result (spec.number_constant (pos number)) }
+    ensures sound { IfOk result IsSound }
+    ensures light { IfOk result (λ f. f.measure.most ≤ 2 ^ 62) }
+{
+    if number <= 1 << 62 {
+        limited(number_constant(alloc, number as i64)?)
+    } else {
+        Err(Refusal::TooLarge)
+    }
+}

@@ -1,0 +1,315 @@
+//! The operations on what expressions become. Each is given parts whose weights are small enough, and none
+//! looks down a tree.
+
+ghost use Rattle.std.specs.Prelude.{◌≡◌, ◌+◌, ◌*◌, ◌^◌, ◌<◌, ◌≤◌, ◌-◌, IfOk, max};
+ghost use Rattle.core_terms.specs.Folding.{number_of, truth_of};
+ghost use Rattle.core_terms.specs.Weights.{plain_weights, plain_weight};
+ghost use Rattle.expansion_laws.specs.Forming as spec;
+ghost use Rattle.expand_expressions.specs.Sound.{Fits, IsSound, of_number, of_truth};
+
+use crate::measures::{
+    choice_measure, leaf, negation_measure, over_measure, pair_measure, sum_measure,
+};
+use core_terms::{
+    CForm, CTerm, and_known, at_least_known, choice_known, difference_known, not_known, or_known,
+    scaled_known, sum_known, zero_known,
+};
+use expansion_laws::{Core, Formed, Measure};
+use std::alloc::{AllocError, Global};
+use unity_base::Held;
+
+/// A number: its term, and what is said of what an expression becomes.
+#[derive(Drop)]
+pub struct NumberCore {
+    pub term: Held<CTerm>,
+    pub known: Option<i128>,
+    pub constant: bool,
+    pub exact: bool,
+    pub measure: Measure,
+}
+
+/// A truth: its formula, and what is said of what an expression becomes.
+#[derive(Drop)]
+pub struct TruthCore {
+    pub form: Held<CForm>,
+    pub known: Option<bool>,
+    pub constant: bool,
+    pub exact: bool,
+    pub measure: Measure,
+}
+
+/// An expression as a number: a truth is 1 or 0.
+pub fn number(alloc: Global, a: Formed) -> Result<NumberCore, AllocError>
+    requires sound { IsSound a }
+    ensures formed { IfOk result (λ n. of_number n ≡ spec.as_number a) }
+    ensures sound { IfOk result (λ n. IsSound (of_number n)) }
+    ensures most { IfOk result (λ n. n.measure.most ≤ a.measure.most + 1) }
+{
+    let Formed {
+        core,
+        constant,
+        exact,
+        measure,
+    } = a;
+    match core {
+        Core::Number { term, known } => Ok(NumberCore {
+            term,
+            known,
+            constant,
+            exact,
+            measure,
+        }),
+        Core::Truth { form, known } => {
+            let mut number = Some(0);
+            let term = chosen(alloc, form, known, &mut number)?;
+            Ok(NumberCore {
+                term,
+                known: number,
+                constant,
+                exact,
+                measure: choice_measure(measure),
+            })
+        }
+    }
+}
+
+// 1 where a formula holds, and 0 elsewhere.
+fn chosen(
+    alloc: Global,
+    form: Held<CForm>,
+    truth: Option<bool>,
+    number: &mut Option<i128>,
+) -> Result<Held<CTerm>, AllocError>
+    requires { truth ≡ truth_of form }
+    ensures term { IfOk result (λ t. t ≡ spec.term_of (Core.Truth form truth)) }
+    ensures known { IfOk result (λ t. number.new ≡ number_of t) }
+    ensures own { IfOk result (λ t. (plain_weights t).own ≤ 1) }
+    ensures most { IfOk result (λ t. (plain_weights t).most ≤ max 1 (plain_weight form)) }
+{
+    *number = Some(0);
+    let one = Held::new(alloc, CTerm::Const(1))?;
+    let zero = Held::new(alloc, CTerm::Const(0))?;
+    choice_known(alloc, form, truth, one, Some(1), zero, number)
+}
+
+/// An expression as a truth: a number is true where it is at least 1.
+pub fn truth(alloc: Global, a: Formed) -> Result<TruthCore, AllocError>
+    requires sound { IsSound a }
+    requires room { a.measure.most < 2 ^ 64 - 2 }
+    ensures formed { IfOk result (λ n. of_truth n ≡ spec.as_truth a) }
+    ensures sound { IfOk result (λ n. IsSound (of_truth n)) }
+    ensures most { IfOk result (λ n. n.measure.most ≤ a.measure.most + 1) }
+{
+    let Formed {
+        core,
+        constant,
+        exact,
+        measure,
+    } = a;
+    match core {
+        Core::Truth { form, known } => Ok(TruthCore {
+            form,
+            known,
+            constant,
+            exact,
+            measure,
+        }),
+        Core::Number { term, known } => {
+            let mut truth = None;
+            let form = holding(alloc, term, known, &mut truth)?;
+            Ok(TruthCore {
+                form,
+                known: truth,
+                constant,
+                exact,
+                measure: over_measure(sum_measure(measure, leaf(1))),
+            })
+        }
+    }
+}
+
+// That a number is at least 1.
+fn holding(
+    alloc: Global,
+    term: Held<CTerm>,
+    number: Option<i128>,
+    truth: &mut Option<bool>,
+) -> Result<Held<CForm>, AllocError>
+    requires known { number ≡ number_of term }
+    requires own { (plain_weights term).own < 2 ^ 64 }
+    requires most { (plain_weights term).most < 2 ^ 64 }
+    ensures form { IfOk result (λ f. f ≡ spec.form_of (Core.Number term number)) }
+    ensures known { IfOk result (λ f. truth.new ≡ truth_of f) }
+    ensures weight { IfOk result (λ f. plain_weight f ≤ max ((plain_weights term).own + 1) (plain_weights term).most) }
+{
+    let one = Held::new(alloc, CTerm::Const(1))?;
+    let mut known = Some(1);
+    let less = difference_known(alloc, term, number, one, &mut known)?;
+    at_least_known(alloc, less, known, truth)
+}
+
+/// The sum of two numbers.
+pub fn sum(alloc: Global, a: Formed, b: Formed) -> Result<Formed, AllocError>
+    requires first { IsSound a }
+    requires second { IsSound b }
+    requires room { a.measure.most + b.measure.most < 2 ^ 64 - 2 }
+    ensures formed { IfOk result (λ f. f ≡ spec.sum a b) }
+    ensures sound { IfOk result IsSound }
+    ensures most { IfOk result (λ f. f.measure.most ≤ a.measure.most + b.measure.most + 2) }
+{
+    let a = number(alloc, a)?;
+    let b = number(alloc, b)?;
+    let measure = sum_measure(a.measure, b.measure);
+    let mut known = b.known;
+    let term = sum_known(alloc, a.term, a.known, b.term, &mut known)?;
+    Ok(Formed {
+        core: Core::Number { term, known },
+        constant: a.constant & b.constant,
+        exact: a.exact & b.exact,
+        measure,
+    })
+}
+
+/// The difference of two numbers.
+pub fn difference(alloc: Global, a: Formed, b: Formed) -> Result<Formed, AllocError>
+    requires first { IsSound a }
+    requires second { IsSound b }
+    requires room { a.measure.most + b.measure.most < 2 ^ 64 - 2 }
+    ensures formed { IfOk result (λ f. f ≡ spec.difference a b) }
+    ensures sound { IfOk result IsSound }
+    ensures most { IfOk result (λ f. f.measure.most ≤ a.measure.most + b.measure.most + 2) }
+{
+    let a = number(alloc, a)?;
+    let b = number(alloc, b)?;
+    let measure = sum_measure(a.measure, b.measure);
+    let mut known = b.known;
+    let term = difference_known(alloc, a.term, a.known, b.term, &mut known)?;
+    Ok(Formed {
+        core: Core::Number { term, known },
+        constant: a.constant & b.constant,
+        exact: a.exact & b.exact,
+        measure,
+    })
+}
+
+/// A number taken from 0.
+pub fn negation(alloc: Global, a: Formed) -> Result<Formed, AllocError>
+    requires sound { IsSound a }
+    requires room { a.measure.most < 2 ^ 64 - 2 }
+    ensures formed { IfOk result (λ f. f ≡ spec.negation a) }
+    ensures sound { IfOk result IsSound }
+    ensures most { IfOk result (λ f. f.measure.most ≤ a.measure.most + 1) }
+{
+    let a = number(alloc, a)?;
+    let mut known = a.known;
+    let term = scaled_known(alloc, -1, a.term, &mut known)?;
+    Ok(Formed {
+        core: Core::Number { term, known },
+        constant: a.constant,
+        exact: a.exact,
+        measure: negation_measure(a.measure),
+    })
+}
+
+/// That a number is at least 0.
+pub fn at_least_zero(alloc: Global, a: Formed) -> Result<Formed, AllocError>
+    requires sound { IsSound a }
+    requires room { a.measure.most < 2 ^ 64 - 2 }
+    ensures formed { IfOk result (λ f. f ≡ spec.at_least_zero a) }
+    ensures sound { IfOk result IsSound }
+    ensures most { IfOk result (λ f. f.measure.most ≤ a.measure.most + 1) }
+{
+    let a = number(alloc, a)?;
+    let mut known = None;
+    let form = at_least_known(alloc, a.term, a.known, &mut known)?;
+    Ok(Formed {
+        core: Core::Truth { form, known },
+        constant: a.constant,
+        exact: a.exact,
+        measure: over_measure(a.measure),
+    })
+}
+
+/// That a number is 0.
+pub fn is_zero(alloc: Global, a: Formed) -> Result<Formed, AllocError>
+    requires sound { IsSound a }
+    requires room { a.measure.most < 2 ^ 64 - 2 }
+    ensures formed { IfOk result (λ f. f ≡ spec.is_zero a) }
+    ensures sound { IfOk result IsSound }
+    ensures most { IfOk result (λ f. f.measure.most ≤ a.measure.most + 1) }
+{
+    let a = number(alloc, a)?;
+    let mut known = None;
+    let form = zero_known(alloc, a.term, a.known, &mut known)?;
+    Ok(Formed {
+        core: Core::Truth { form, known },
+        constant: a.constant,
+        exact: a.exact,
+        measure: over_measure(a.measure),
+    })
+}
+
+/// That a truth does not hold.
+pub fn denial(alloc: Global, a: Formed) -> Result<Formed, AllocError>
+    requires sound { IsSound a }
+    requires room { a.measure.most < 2 ^ 64 - 2 }
+    ensures formed { IfOk result (λ f. f ≡ spec.denial a) }
+    ensures sound { IfOk result IsSound }
+    ensures most { IfOk result (λ f. f.measure.most ≤ a.measure.most + 1) }
+{
+    let a = truth(alloc, a)?;
+    let mut known = a.known;
+    let form = not_known(alloc, a.form, &mut known)?;
+    Ok(Formed {
+        core: Core::Truth { form, known },
+        constant: a.constant,
+        exact: a.exact,
+        measure: over_measure(a.measure),
+    })
+}
+
+/// That two truths hold.
+pub fn conjunction(alloc: Global, a: Formed, b: Formed) -> Result<Formed, AllocError>
+    requires first { IsSound a }
+    requires second { IsSound b }
+    requires first_room { a.measure.most < 2 ^ 64 - 2 }
+    requires second_room { b.measure.most < 2 ^ 64 - 2 }
+    ensures formed { IfOk result (λ f. f ≡ spec.conjunction a b) }
+    ensures sound { IfOk result IsSound }
+    ensures most { IfOk result (λ f. f.measure.most ≤ max a.measure.most b.measure.most + 1) }
+{
+    let a = truth(alloc, a)?;
+    let b = truth(alloc, b)?;
+    let measure = pair_measure(a.measure, b.measure);
+    let mut known = b.known;
+    let form = and_known(alloc, a.form, a.known, b.form, &mut known)?;
+    Ok(Formed {
+        core: Core::Truth { form, known },
+        constant: a.constant & b.constant,
+        exact: a.exact & b.exact,
+        measure,
+    })
+}
+
+/// That one of two truths holds.
+pub fn disjunction(alloc: Global, a: Formed, b: Formed) -> Result<Formed, AllocError>
+    requires first { IsSound a }
+    requires second { IsSound b }
+    requires first_room { a.measure.most < 2 ^ 64 - 2 }
+    requires second_room { b.measure.most < 2 ^ 64 - 2 }
+    ensures formed { IfOk result (λ f. f ≡ spec.disjunction a b) }
+    ensures sound { IfOk result IsSound }
+    ensures most { IfOk result (λ f. f.measure.most ≤ max a.measure.most b.measure.most + 1) }
+{
+    let a = truth(alloc, a)?;
+    let b = truth(alloc, b)?;
+    let measure = pair_measure(a.measure, b.measure);
+    let mut known = b.known;
+    let form = or_known(alloc, a.form, a.known, b.form, &mut known)?;
+    Ok(Formed {
+        core: Core::Truth { form, known },
+        constant: a.constant & b.constant,
+        exact: a.exact & b.exact,
+        measure,
+    })
+}

@@ -1,0 +1,109 @@
+//! Where an expression stands: the names that are bound there, and what the document declares.
+
+ghost use Rattle.std.specs.Prelude.{◌≡◌, [], ◌∷◌};
+ghost use Rattle.std.specs.Map.{lookup};
+ghost use Rattle.std.specs.Str.{bytes_eq};
+ghost use Rattle.std.specs.Option.{option_copied};
+ghost use Rattle.name_scopes.specs.Scope.{entries};
+ghost use Rattle.expand_expressions.specs.Places.{bound_names};
+
+use core_terms::Range;
+use expansion_laws::{Bound, Formed};
+use indexmap::IndexMap;
+use unity_syntax::Name;
+
+/// The slots of a variable.
+#[derive(Clone, Copy)]
+pub struct VariableSlots {
+    /// The indices of an array.
+    pub indices: Option<Range>,
+    /// The range of its numbers, or of its elements'.
+    pub range: Range,
+    /// Whether its numbers are truths.
+    pub is_truth: bool,
+    /// Its first slot.
+    pub first: u32,
+}
+
+/// The variables of the document.
+pub type VariableTable<'a> = IndexMap<&'a [u8], VariableSlots>;
+
+/// The words of the document's enumerations, with their values.
+pub type ValueTable<'a> = IndexMap<&'a [u8], i64>;
+
+/// What always names have become.
+pub type AlwaysTable<'a> = IndexMap<&'a [u8], Formed>;
+
+/// What the document declares.
+#[derive(Clone, Copy)]
+pub struct Known<'k, 'a> {
+    pub variables: &'k VariableTable<'a>,
+    pub values: &'k ValueTable<'a>,
+    pub always: &'k AlwaysTable<'a>,
+}
+
+/// The names that are bound, the innermost first, with the parameters of a step outside of them.
+#[derive(Clone, Copy)]
+pub enum Env<'a> {
+    Empty,
+    Inside {
+        name: &'a Name,
+        bound: Bound,
+        outer: &'a Env<'a>,
+    },
+}
+
+/// The slots of a variable.
+pub fn find_variable(variables: &VariableTable, name: &Name) -> Option<VariableSlots>
+    ensures { result ≡ lookup (bytes_eq name.now.text) (entries variables.now) }
+{
+    variables.get(name.text.as_slice()).copied()
+}
+
+/// The value of a word of an enumeration.
+pub fn find_value(values: &ValueTable, name: &Name) -> Option<i64>
+    ensures { result ≡ lookup (bytes_eq name.now.text) (entries values.now) }
+{
+    values.get(name.text.as_slice()).copied()
+}
+
+/// What an always name has become.
+pub fn find_always<'t>(always: &'t AlwaysTable, name: &Name) -> Option<&'t Formed>
+    ensures { option_copied result ≡ lookup (bytes_eq name.now.text) (entries always.now) }
+{
+    always.get(name.text.as_slice())
+}
+
+/// No bound names.
+pub fn outside<'a>() -> Env<'a>
+    ensures { bound_names result ≡ [] }
+{
+    Env::Empty
+}
+
+/// What a bound name stands for.
+pub fn find_bound(env: &Env, name: &Name) -> Option<Bound>
+    ensures { result ≡ lookup (bytes_eq name.now.text) (bound_names env.now) }
+{
+    match env {
+        Env::Empty => None,
+        Env::Inside {
+            name: first,
+            bound,
+            outer,
+        } => {
+            if name.text.as_slice() == first.text.as_slice() {
+                Some(*bound)
+            } else {
+                find_bound(outer, name)
+            }
+        }
+    }
+}
+
+/// The bound names with one more inside.
+pub fn with_bound<'a>(name: &'a Name, bound: Bound, outer: &'a Env<'a>) -> Env<'a>
+    ensures { bound_names result ≡ (name.now.text, bound) ∷ bound_names outer.now }
+{
+    Env::Inside { name, bound, outer }
+}

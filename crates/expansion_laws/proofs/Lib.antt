@@ -1,0 +1,10 @@
+pub mod Differences
+pub mod KnownParts
+pub mod Chains
+pub mod Operations
+pub mod SameSteps
+pub mod Values
+pub mod DocumentValues
+pub mod Growing
+pub mod KnownChains
+pub mod Equations

@@ -1,0 +1,5 @@
+pub mod FollowLaws
+pub mod CountLaws
+pub mod NarrowLaws
+pub mod PlanLaws
+pub mod QuestionLaws

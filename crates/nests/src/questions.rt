@@ -1,0 +1,83 @@
+//! What is asked of nested ranges.
+
+ghost use Rattle.std.specs.Prelude.{◌≡◌, ◌∷◌, [], length, not, IfOk};
+ghost use Rattle.std.specs.List.{list_any};
+ghost use Rattle.nests.specs.Nests.{LeavesRoom, end_number, instances, is_empty, is_fit};
+ghost use Rattle.nests.specs.Conditions.{all_hold, empty_conditions, meeting};
+
+use crate::conditions::{above_limit, below_limit, over, push_fit};
+use crate::plans::plan;
+use crate::ranges::{Condition, NestEnd, NestRange};
+use crate::walk::{count, do_hold};
+use std::alloc::{AllocError, Global};
+use unity_base::Seq;
+
+/// The room that is left by the instances that meet the conditions.
+#[tactic(auto, using(crate::proofs::PlanLaws::none_meets))]
+fn room_left(
+    alloc: Global,
+    ranges: &[NestRange],
+    leaf: &[Condition],
+    room: u64,
+) -> Result<Option<u64>, AllocError>
+    ensures { IfOk result (λ r. LeavesRoom r room (meeting ranges.now leaf.now [])) }
+{
+    let mut plans = Seq::new(alloc);
+    let needed = plan(alloc, ranges, 0, leaf, &mut plans)?;
+    let mut values = Seq::new(alloc);
+    if do_hold(values.as_slice(), needed.as_slice()) {
+        count(ranges, plans.as_slice(), leaf, &mut values, room)
+    } else {
+        Ok(Some(room))
+    }
+}
+
+/// How much of a room for instances is left by those of nested ranges, the outermost first. `None` exactly where
+/// there are more of them. An error says that memory was refused.
+///
+/// The time taken is a small multiple of the room, whatever the sizes of the ranges.
+#[tactic(auto, using(crate::proofs::QuestionLaws::meeting_all))]
+pub fn room_after(alloc: Global, ranges: &[NestRange], room: u64) -> Result<Option<u64>, AllocError>
+    ensures { IfOk result (λ r. LeavesRoom r room (length (instances ranges.now []))) }
+{
+    room_left(alloc, ranges, &[], room)
+}
+
+/// Whether an instance meets the conditions.
+#[tactic(auto, using(crate::proofs::QuestionLaws::met_without_room))]
+fn is_ever(alloc: Global, ranges: &[NestRange], leaf: &[Condition]) -> Result<bool, AllocError>
+    ensures { IfOk result (λ b. b ≡ list_any (λ vs. all_hold vs leaf.now) (instances ranges.now [])) }
+{
+    Ok(room_left(alloc, ranges, leaf, 0)?.is_none())
+}
+
+fn empty_conditions(alloc: Global, range: &NestRange) -> Result<Seq<Condition>, AllocError>
+    ensures { IfOk result (λ list. list ≡ empty_conditions range.now) }
+{
+    let mut list = Seq::new(alloc);
+    list.push(over(range))?;
+    push_fit(&range.low, &mut list)?;
+    push_fit(&range.high, &mut list)?;
+    Ok(list)
+}
+
+/// Whether a range has its low end above its high end, with both within plus or minus 1,000,000,000, in an instance
+/// of the ranges around it. An error says that memory was refused.
+pub fn is_ever_empty(
+    alloc: Global,
+    outer: &[NestRange],
+    range: &NestRange,
+) -> Result<bool, AllocError>
+    ensures { IfOk result (λ b. b ≡ list_any (λ vs. is_empty vs range.now) (instances outer.now [])) }
+{
+    let leaf = empty_conditions(alloc, range)?;
+    is_ever(alloc, outer, leaf.as_slice())
+}
+
+/// Whether an end lies outside plus or minus 1,000,000,000 in an instance of the ranges around it. An error says that
+/// memory was refused.
+pub fn is_ever_large(alloc: Global, outer: &[NestRange], end: &NestEnd) -> Result<bool, AllocError>
+    ensures { IfOk result (λ b. b ≡ list_any (λ vs. not (is_fit (end_number vs end.now))) (instances outer.now [])) }
+{
+    Ok(is_ever(alloc, outer, &[above_limit(end)])? || is_ever(alloc, outer, &[below_limit(end)])?)
+}

@@ -1,0 +1,4 @@
+pub mod EndLaws
+pub mod StandingLaws
+pub mod CountLaws
+pub mod PlaceLaws

@@ -1,0 +1,11 @@
+//! Nested lists of statements: how many statements they have, and where their ranges fail, without a turn for each
+//! number of a range.
+#![tactic(auto)]
+
+mod chains;
+mod counting;
+mod places;
+
+pub use chains::Chain;
+pub use counting::room_after_items;
+pub use places::check_range;
