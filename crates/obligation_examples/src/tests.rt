@@ -5,7 +5,9 @@ ghost use Rattle.obligation_examples.specs.Deep.{IsDeepForm};
 
 use super::*;
 use core_terms::{CSlot, Print, Range, copy_form};
-use obligations::{Branch, TooLargeError, height, make, need, open_branch, settle, with_variables};
+use obligations::{
+    Cert, Node, TooLargeError, height, make, need, open_branch, settle, units, with_variables,
+};
 use std::test::Fail;
 use unity_base::Seq;
 
@@ -52,6 +54,45 @@ fn goes_through(alloc: Global, f: CForm) -> Result<bool, AllocError>
 {
     let settled = is_settled(alloc, &f)?;
     Ok(is_made(alloc, f)? && settled)
+}
+
+// The height, the need, and the facts of the first branch and of that branch with the formula settled,
+// over one slot of 0..1; zeros where the formula is too large.
+fn numbers_of(alloc: Global, f: CForm) -> Result<(u64, u128, usize, usize), AllocError>
+    requires { IsDeepForm f }
+{
+    let todo = copy_form(alloc, &f)?;
+    let slots = [bit(0)];
+    match make(alloc, f, slots.as_slice(), [].as_slice()) {
+        Ok(o) => {
+            let branch = open_branch(alloc, &o)?;
+            let first = branch.facts.len();
+            let branch = settle(alloc, &o, branch, todo)?;
+            Ok((height(&o), need(&o).unwrap_or(0), first, branch.facts.len()))
+        }
+        Err(TooLargeError::TooLarge) => Ok((0, 0, 0, 0)),
+        Err(TooLargeError::Memory) => Err(AllocError),
+    }
+}
+
+#[test]
+fn opens_a_small_obligation(rt: HostRuntime) -> Result<(), Fail> {
+    let least = deep_form(rt.alloc(), Around::Not, 0)?;
+    assert!(rt; numbers_of(rt.alloc(), least)? == (1, 514, 3, 4));
+    Ok(())
+}
+
+#[test]
+fn counts_units(rt: HostRuntime) -> Result<(), Fail> {
+    let mut pairs = Seq::new(rt.alloc());
+    pairs.push((1, 1))?;
+    pairs.push((1, 3))?;
+    let mut nodes = Seq::new(rt.alloc());
+    nodes.push(Node::Split(1, 0))?;
+    nodes.push(Node::Case(1))?;
+    nodes.push(Node::Sum(pairs))?;
+    assert!(rt; units(&Cert { nodes }) == 5);
+    Ok(())
 }
 
 #[test]

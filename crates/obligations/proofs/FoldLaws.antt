@@ -74,8 +74,8 @@ pub more-capped : (stop old new x step rest all : ℕ) → new ≡ min (old * st
     min (old * (x * rest)) stop ≡ all → min (new * rest) stop ≡ all
 more-capped stop old new x step rest all p q r =
     ap (λ n. min (n * rest) stop) (p ∙ ap (λ n. min (old * n) stop) q)
-    ∙ sym (times-capped stop (min (old * x) stop) rest) ∙ ap (λ n. min (n * min rest stop) stop)
-    (cap-cap stop (old * x))
+    ∙ sym (times-capped stop (min (old * x) stop) rest)
+    ∙ ap (λ n. min (n * min rest stop) stop) (cap-cap stop (old * x))
     ∙ times-capped stop (old * x) rest ∙ ap (λ n. min n stop) (mul_assoc old x rest) ∙ r
   where
     cap-cap : (stop n : ℕ) → min (min n stop) stop ≡ min n stop

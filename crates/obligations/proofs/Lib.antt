@@ -1,6 +1,7 @@
 pub mod FoldLaws
 pub mod RingLaws
 pub mod LineLaws
+pub mod TreeLaws
 pub mod SettlingLaws
 pub mod LoadLaws
 pub mod LinearLaws

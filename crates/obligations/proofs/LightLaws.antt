@@ -28,8 +28,8 @@ side_need f (CForm-F.Zero t) bound e h = (h, h)
 side_need f (CForm-F.Not g) bound e h = (h, h)
 side_need f (CForm-F.And g k) bound e h = (h, h)
 side_need f (CForm-F.Or g k) bound e h =
-    let n = ap (λ (x : Need). x.yes) (fold_out-CForm Need Load (form_need_step unsigned_abs)
-    (term_need_step unsigned_abs) f
+    let n = ap (λ (x : Need). x.yes)
+    (fold_out-CForm Need Load (form_need_step unsigned_abs) (term_need_step unsigned_abs) f
     ∙ ap (λ x. form_need_step unsigned_abs (map-CForm CForm CTerm Need Load need term_need x)) e) in
     (omega (arith, n, h), omega (arith, n, h))
 

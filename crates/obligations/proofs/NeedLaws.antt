@@ -1,5 +1,6 @@
 -- Settling meets no load past a formula's need, and raises none.
-use Rattle.std.proofs.Common.{◌≡◌, le_refl, mul-le-mul, ℕ, ◌+◌, ◌*◌, ◌^◌, ◌≤◌, max, ℤ, pos, negsuc, true, ◌&&◌, Option}
+use Rattle.std.proofs.Common.{◌≡◌, le_refl, mul-le-mul, ℕ, ◌+◌, ◌*◌, ◌^◌, ◌≤◌, max, ℤ, pos, negsuc, true, ◌&&◌}
+use Rattle.std.proofs.Common.{Option}
 use Rattle.std.proofs.Common.{Some, None, List, [], ◌∷◌, arith, refl, sym, ap, ◌∙◌, subst}
 use Rattle.std.specs.List.{list_all}
 use Rattle.std.proofs.lemmas.List.Folds.{list_all-append}
@@ -15,7 +16,8 @@ use Rattle.core_terms.specs.declared.trees.CForm.TheFolds.{map-CForm, map-CTerm}
 use Rattle.obligations.specs.declared.branches.Branch.{Branch}
 use Rattle.obligations.specs.declared.branches.Variable.{Variable}
 use Rattle.obligations.specs.declared.branches.Choice.{Choice}
-use Rattle.obligations.specs.Settling.{joined, one_waiting, first_ite, first_choice, choice_form, least_adds, zero_adds}
+use Rattle.obligations.specs.Settling.{joined, one_waiting, first_ite, first_choice, choice_form, least_adds}
+use Rattle.obligations.specs.Settling.{zero_adds}
 use Rattle.obligations.specs.Settling.{unequal_adds, below_zero, outcome, settled, refused}
 use Rattle.obligations.specs.Load.{Load, form_load_step, term_load_step, form_load, term_load, Need, form_need_step}
 use Rattle.obligations.specs.Load.{term_need_step, needs, term_needs, need, term_need, width, no_size, is_bounded}
@@ -34,13 +36,20 @@ module _ (size : ℤ → ℕ) where
   pub need-Const : (c : ℤ) → N (Const c) ≡ record { own = size c; most = 0 }
   need-Const c = term_fold (form_need_step size) (term_need_step size) (CTerm-F.Const c) (Const c) (rolls-Const c)
 
-  pub need-Add : (a b : CTerm) → N (Add a b) ≡ record { own = (N a).own + (N b).own; most = max (N a).most (N b).most }
+  pub need-Add : (a b : CTerm) → N (Add a b) ≡ record {
+    own = (N a).own + (N b).own;
+    most = max (N a).most (N b).most;
+  }
   need-Add a b = term_fold (form_need_step size) (term_need_step size) (CTerm-F.Add a b) (Add a b) (rolls-Add a b)
 
-  pub need-Sub : (a b : CTerm) → N (Sub a b) ≡ record { own = (N a).own + (N b).own; most = max (N a).most (N b).most }
+  pub need-Sub : (a b : CTerm) → N (Sub a b) ≡ record {
+    own = (N a).own + (N b).own;
+    most = max (N a).most (N b).most;
+  }
   need-Sub a b = term_fold (form_need_step size) (term_need_step size) (CTerm-F.Sub a b) (Sub a b) (rolls-Sub a b)
 
-  pub need-Scale : (k : ℤ) (a : CTerm) → N (Scale k a) ≡ record { own = unsigned_abs k * (N a).own; most = (N a).most }
+  pub need-Scale : (k : ℤ) (a : CTerm) → N (Scale k a) ≡ record
+      { own = unsigned_abs k * (N a).own; most = (N a).most }
   need-Scale k a =
       term_fold (form_need_step size) (term_need_step size) (CTerm-F.Scale k a) (Scale k a) (rolls-Scale k a)
 
@@ -176,6 +185,9 @@ module _ (size : ℤ → ℕ) where
     pub needs-within : (f : CForm) → (M f).no ≤ size (negsuc 0) + form_load f
     needs-within f = (form-bridge f).no
 
+    pub needs-settle : (f : CForm) → (M f).yes ≤ size (negsuc 0) + form_load f
+    needs-settle f = (form-bridge f).yes
+
   -- What a formula's need says of its parts.
   pub and-light : (f g h : CForm) (bound : ℕ) → h ≡ And f g → (M h).yes ≤ bound →
       ((M f).yes ≤ bound) × ((M g).yes ≤ bound)
@@ -186,7 +198,8 @@ module _ (size : ℤ → ℕ) where
   pub or-light : (f g h : CForm) (bound : ℕ) → h ≡ Or f g → (M h).no ≤ bound →
       ((M f).no ≤ bound) × ((M g).no ≤ bound)
   or-light f g h bound e l =
-      let n = ap (λ x. (M x).no) e ∙ ap (λ (x : Need). x.no) (need-Or f g) in (omega (arith, n, l), omega (arith, n, l))
+      let n = ap (λ x. (M x).no) e ∙ ap (λ (x : Need). x.no) (need-Or f g) in
+      (omega (arith, n, l), omega (arith, n, l))
 
   pub not-light : (f h : CForm) (bound : ℕ) → h ≡ Not f → (M h).yes ≤ bound → (M f).no ≤ bound
   not-light f h bound e l =
@@ -443,6 +456,9 @@ module _ (size : ℤ → ℕ) where
 pub need-within : (f : CForm) → (need f).no ≤ 1 + form_load f
 need-within f = needs-within unsigned_abs (λ c. le_refl (unsigned_abs c)) f
 
+pub need-settles : (f : CForm) → (need f).yes ≤ 1 + form_load f
+need-settles f = needs-settle unsigned_abs (λ c. le_refl (unsigned_abs c)) f
+
 -- settling a light formula keeps a light branch light
 pub settled-light : (vs : List Variable) (bound : ℕ) (f : CForm) (b : Branch) → (need f).yes ≤ bound →
     is_light_branch bound b ≡ true → is_light_branch bound (settled vs f b) ≡ true
@@ -504,7 +520,8 @@ own-same t =
     ind-CTerm (λ f. Unit {0}) OwnSame (λ x y e. tt) (λ x y e. subst (λ z. OwnSame (roll-CTerm z)) e (own_layer y)) t
 
 -- What a formula's need says of a term's load.
-pub least-load : (t : CTerm) (f : CForm) (bound : ℕ) → f ≡ AtLeast t → (need f).yes ≤ bound → (term_load t).own ≤ bound
+pub least-load : (t : CTerm) (f : CForm) (bound : ℕ) → f ≡ AtLeast t → (need f).yes ≤ bound → (term_load t).own ≤
+    bound
 least-load t f bound e h =
     let n = ap (λ x. (need x).yes) e ∙ ap (λ (x : Need). x.yes) (need-AtLeast unsigned_abs t) in
     let o = own-same t in

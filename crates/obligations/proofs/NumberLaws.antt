@@ -1,6 +1,8 @@
 -- How many variables an obligation has, and how great its numbers are.
-use Rattle.std.proofs.Common.{◌≡◌, ℕ, suc, nat_eq, nat_le, ◌+◌, ◌^◌, ◌≤◌, max, Bool, true, false, cond, not, ◌&&◌, ◌||◌}
-use Rattle.std.proofs.Common.{◌⊎◌, inl, inr, Option, Some, None, List, [], ◌∷◌, length, slice_get, arith, refl, sym, ap}
+use Rattle.std.proofs.Common.{◌≡◌, ℕ, suc, nat_eq, nat_le, ◌+◌, ◌^◌, ◌≤◌, max, Bool, true, false, cond, not, ◌&&◌}
+use Rattle.std.proofs.Common.{◌||◌}
+use Rattle.std.proofs.Common.{◌⊎◌, inl, inr, Option, Some, None, List, [], ◌∷◌, length, slice_get, arith, refl, sym}
+use Rattle.std.proofs.Common.{ap}
 use Rattle.std.proofs.Common.{◌∙◌, subst}
 use Rattle.std.specs.List.{filter, list_all}
 use Rattle.std.specs.Option.{option_map}
@@ -20,9 +22,9 @@ use Rattle.obligations.specs.Load.{form_load, width}
 use Rattle.obligations.specs.Plain.{height_of, ranges_of}
 use Rattle.obligations.specs.Variables.{has_step, part_has, term_has, form_has}
 use Rattle.obligations.specs.Obligations.{is_lower, is_before, are_in_order, AreVariables, variable_weight, weight_of}
-use Rattle.obligations.specs.Obligations.{is_sound_range, is_range, IsObligation}
+use Rattle.obligations.specs.Obligations.{is_sound_range, is_range, IsObligation, WeightSettles}
 use Rattle.obligations.proofs.LoadWeights.{load_below_weight}
-use Rattle.obligations.proofs.NeedLaws.{width-within}
+use Rattle.obligations.proofs.NeedLaws.{need-settles, width-within}
 use Rattle.obligations.proofs.OrderLaws.{all-get, each-all, own-place}
 
 -- Counts of what passes a test.
@@ -124,7 +126,8 @@ module _ (vs : List Variable) (order : are_in_order vs ≡ true) where
   FewTerm = (t : CTerm) × TermFew t
 
   rolled_form : (x : CForm-F CForm CTerm) →
-      count (λ v. part_has (map-CForm CForm CTerm Bool Bool (form_has v.param v.number) (term_has v.param v.number) x))
+      count (λ v. part_has (map-CForm CForm CTerm Bool Bool (form_has v.param v.number) (term_has v.param v.number)
+      x))
       vs ≤ form_size (map-CForm CForm CTerm ℕ ℕ form_nodes term_nodes x) → FormFew (roll-CForm x)
   rolled_form x h =
       let a = count-same (in-form (roll-CForm x)) _
@@ -342,3 +345,10 @@ module _ (o : Obligation) (is : IsObligation o) where
       each-range (v ∷ vs) h =
           let s = and_parts (is_sound_range v.range) (list_all (λ (v : Variable). is_sound_range v.range) vs) h in
           ap (λ z. z && list_all is_sound_range (ranges_of vs)) s.0 ∙ each-range vs s.1
+
+-- a weight that suffices for settling
+pub weight-settles : WeightSettles
+weight-settles slots params s p f h =
+    let light = load_below_weight slots params s p f in
+    let n = need-settles f in
+    omega (arith, light, n, h)

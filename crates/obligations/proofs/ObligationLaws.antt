@@ -162,9 +162,11 @@ module _ (slots params others numbers : ℕ → ℕ) where
       ∙ sym (fold-roll-CForm ℕ Weights weigh_form (weigh_term others numbers) x)
 
   rolled_term : (x : CTerm-F CForm CTerm) →
-      (((param : Bool) (n : ℕ) → has_step param n (map-CTerm CForm CTerm Bool Bool (form_has param n) (term_has param n)
+      (((param : Bool) (n : ℕ) → has_step param n (map-CTerm CForm CTerm Bool Bool (form_has param n)
+      (term_has param n)
       x) ≡ true → Same param n) →
-      weigh_term slots params (map-CTerm CForm CTerm ℕ Weights (form_weight slots params) (term_weights slots params) x)
+      weigh_term slots params (map-CTerm CForm CTerm ℕ Weights (form_weight slots params) (term_weights slots params)
+      x)
       ≡ weigh_term others numbers
       (map-CTerm CForm CTerm ℕ Weights (form_weight others numbers) (term_weights others numbers) x)) →
       TermSame (roll-CTerm x)
@@ -366,8 +368,8 @@ module _ (f : CForm) (slots params : List Range) (in_slots : form_slots f ≤ le
   weighs-same true n e = weighs-as-range true n e
   weighs-same false n e = weighs-as-range false n e
 
-  pub weight-of-made : weight_of (obligation_of f slots params) ≡ form_weight (place_weight slots) (place_weight params)
-      f
+  pub weight-of-made :
+      weight_of (obligation_of f slots params) ≡ form_weight (place_weight slots) (place_weight params) f
   weight-of-made =
       weight-same (variable_weight vs false) (variable_weight vs true) (place_weight slots) (place_weight params) f
       weighs-same

@@ -38,7 +38,8 @@ lt-true : (a b : ℕ) → a < b → nat_lt a b ≡ true
 lt-true a b h = grind arith
 
 before-later : (param : Bool) (n k : ℕ) (r s : Range) → n < k →
-    is_before (record { param = param; number = n; range = r }) (record { param = param; number = k; range = s }) ≡ true
+    is_before (record { param = param; number = n; range = r }) (record { param = param; number = k; range = s }) ≡
+    true
 before-later true n k r s h = lt-true n k h
 before-later false n k r s h = lt-true n k h
 
@@ -162,8 +163,8 @@ module _ (param : Bool) (number : ℕ) where
   none-lower v [] o e = refl
   none-lower v (w ∷ vs) o e =
       let s = and_parts (is_before v w) (list_all (is_before v) vs) o in
-      let this : L w ≡ false = by-test (L w) (λ t. sym e ∙ lower-lower v.param w.param param v.number w.number number
-      s.0 t) in
+      let this : L w ≡ false = by-test (L w)
+      (λ t. sym e ∙ lower-lower v.param w.param param v.number w.number number s.0 t) in
       ap (λ z. not z && list_all (λ w. not (L w)) vs) this ∙ none-lower v vs s.1 e
 
   -- all from one that is not lower on are not

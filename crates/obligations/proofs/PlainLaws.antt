@@ -8,14 +8,16 @@ use Rattle.obligations.proofs.FoldLaws.{fold-next, more-capped}
 pub cuts-next : (vs : List Variable) (i : ℕ) (d : Variable) → i < length vs →
     cuts_of (ranges_of (drop i vs)) ≡ halvings (slice_index_or vs i d).range + cuts_of (ranges_of (drop (i + 1) vs))
 cuts-next vs i d h =
-    fold-next (λ xs. cuts_of (ranges_of xs)) (λ a b. a + b) (λ (v : Variable). halvings v.range) (λ x xs. refl) vs i d h
+    fold-next (λ xs. cuts_of (ranges_of xs)) (λ a b. a + b) (λ (v : Variable). halvings v.range) (λ x xs. refl) vs i d
+    h
 
 pub ruleset cuts_laws = cuts-next
 
 pub volume-next : (vs : List Variable) (i : ℕ) (d : Variable) → i < length vs →
     volume (ranges_of (drop i vs)) ≡ range_size (slice_index_or vs i d).range * volume (ranges_of (drop (i + 1) vs))
 volume-next vs i d h =
-    fold-next (λ xs. volume (ranges_of xs)) (λ a b. a * b) (λ (v : Variable). range_size v.range) (λ x xs. refl) vs i d
+    fold-next (λ xs. volume (ranges_of xs)) (λ a b. a * b) (λ (v : Variable). range_size v.range) (λ x xs. refl) vs i
+    d
     h
 
 -- the same, as the code meets it
@@ -24,9 +26,9 @@ pub volume-more : (stop : ℕ) (vs : List Variable) (i : ℕ) (d : Variable) (ol
     min (old * volume (ranges_of (drop i vs))) stop ≡ all →
     min (new * volume (ranges_of (drop (i + 1) vs))) stop ≡ all
 volume-more stop vs i d old new step all l s n h =
-    more-capped stop old new (range_size (slice_index_or vs i d).range) step (volume (ranges_of (drop (i + 1) vs))) all
-    n
-    s (ap (λ m. min (old * m) stop) (sym (volume-next vs i d l)) ∙ h)
+    more-capped stop old new (range_size (slice_index_or vs i d).range) step (volume (ranges_of (drop (i + 1) vs)))
+    all
+    n s (ap (λ m. min (old * m) stop) (sym (volume-next vs i d l)) ∙ h)
 
 -- The least power of 2 that is not below a size, where the loop finds it, does not yet, and stops.
 le-true : (a b : ℕ) → a ≤ b → nat_le a b ≡ true

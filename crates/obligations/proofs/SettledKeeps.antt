@@ -15,7 +15,7 @@ use Rattle.obligations.specs.declared.branches.Variable.{Variable}
 use Rattle.obligations.specs.declared.branches.Choice.{Choice}
 use Rattle.obligations.specs.Settling.{joined, nothing, false_fact, one_waiting, first_ite, first_choice, least_adds}
 use Rattle.obligations.specs.Settling.{zero_adds, unequal_adds, below_zero, outcome, settled, refused}
-use Rattle.obligations.proofs.SettlingLaws.{ite-Const, ite-Slot, ite-Param, ite-Add, ite-Sub, ite-Scale, ite-Ite}
+use Rattle.obligations.proofs.TreeLaws.{ite-Const, ite-Slot, ite-Param, ite-Add, ite-Sub, ite-Scale, ite-Ite}
 use Rattle.obligations.proofs.TableLaws.{settled-Top, refused-Bottom, settled-Bottom, refused-Top, settled-AtLeast}
 use Rattle.obligations.proofs.TableLaws.{refused-AtLeast, settled-Zero, refused-Zero, settled-Not, refused-Not}
 use Rattle.obligations.proofs.TableLaws.{settled-And, refused-Or, settled-Or, refused-And}

@@ -14,14 +14,15 @@ use Rattle.obligations.specs.LinearForms.{sparse, zeros}
 use Rattle.obligations.specs.Settling.{joined, nothing, one_fact, two_facts, one_waiting, first_ite, least_adds}
 use Rattle.obligations.specs.Settling.{zero_adds, unequal_adds, below_zero, Outcome, outcome_step, outcome}
 use Rattle.obligations.specs.Settling.{term_tree_step, settled, refused}
-use Rattle.obligations.proofs.SettlingLaws.{form_fold, R, term_tree-is, outcome-tree}
+use Rattle.obligations.proofs.TreeLaws.{form_fold, R, term_tree-is, outcome-tree}
 
 branch-of : (a b : Branch) → a.facts ≡ b.facts → a.waiting ≡ b.waiting → a ≡ b
 branch-of a b p q =
     ap (λ x. record { facts = x; waiting = a.waiting }) p ∙ ap (λ x. record { facts = b.facts; waiting = x }) q
 
 pub joined-joined : (a b c : Branch) → joined (joined a b) c ≡ joined a (joined b c)
-joined-joined a b c = branch-of _ _ (append_assoc a.facts b.facts c.facts) (append_assoc a.waiting b.waiting c.waiting)
+joined-joined a b c = branch-of _ _ (append_assoc a.facts b.facts c.facts)
+    (append_assoc a.waiting b.waiting c.waiting)
 
 pub joined-nothing : (a : Branch) → joined a nothing ≡ a
 joined-nothing a = branch-of _ _ (append_nil a.facts) (append_nil a.waiting)
@@ -116,7 +117,8 @@ module _ (vs : List Variable) where
       c ≡ settled vs (And f g) a
   settles-And f g a b c p q = q ∙ ap (settled vs g) p ∙ sym (settled-And f g a)
 
-  pub refuses-Or : (f g : CForm) (a b c : Branch) → b ≡ refused vs f a → c ≡ refused vs g b → c ≡ refused vs (Or f g) a
+  pub refuses-Or : (f g : CForm) (a b c : Branch) → b ≡ refused vs f a → c ≡ refused vs g b → c ≡ refused vs (Or f g)
+      a
   refuses-Or f g a b c p q = q ∙ ap (refused vs g) p ∙ sym (refused-Or f g a)
 
 pub ruleset settle_laws = (

@@ -1,16 +1,19 @@
 -- When an obligation is one that `make` can give.
-use Rattle.std.specs.Prelude.{◌≡◌, ℕ, ◌<◌, ◌^◌, nat_le, nat_lt, Bool, true, false, cond, ◌&&◌, ◌||◌, List, [], ◌∷◌}
-use Rattle.std.specs.Prelude.{length, slice_get}
+use Rattle.std.specs.Prelude.{◌≡◌, ℕ, ◌+◌, ◌<◌, ◌≤◌, ◌^◌, nat_le, nat_lt, Bool, true, false, cond, ◌&&◌, ◌||◌, List}
+use Rattle.std.specs.Prelude.{[]}
+use Rattle.std.specs.Prelude.{◌∷◌, length, slice_get}
 use Rattle.std.specs.List.{list_all}
 use Rattle.std.specs.Option.{option_map}
 use Rattle.std.specs.Int.RustNames.{int_le, unsigned_abs}
 use Rattle.core_terms.specs.declared.trees.Range.{Range}
 use Rattle.core_terms.specs.Sizes.{form_nodes}
 use Rattle.core_terms.specs.Weights.{form_weight, range_weight}
+use Rattle.core_terms.specs.declared.trees.CForm.{CForm}
 use Rattle.obligations.specs.declared.branches.Variable.{Variable}
 use Rattle.obligations.specs.declared.branches.Obligation.{Obligation}
 use Rattle.obligations.specs.LinearForms.{place_of}
-use Rattle.obligations.specs.Plain.{height_of}
+use Rattle.obligations.specs.Load.{form_load, need, width}
+use Rattle.obligations.specs.Plain.{height_of, ranges_of}
 use Rattle.obligations.specs.Variables.{form_has}
 
 -- slots stand before parameters, and lesser numbers before greater ones
@@ -32,7 +35,8 @@ pub record AreVariables (vs : List Variable) : Type 0 where
 
 -- a slot or a parameter weighs as its range does, and one that is no variable weighs 1
 abbrev pub variable_weight : List Variable → Bool → ℕ → ℕ
-variable_weight vs param n = range_weight (option_map (λ (v : Variable). v.range) (slice_get vs (place_of vs param n)))
+variable_weight vs param n = range_weight (option_map (λ (v : Variable). v.range)
+    (slice_get vs (place_of vs param n)))
 
 -- the weight of an obligation's form
 abbrev pub weight_of : Obligation → ℕ
@@ -54,6 +58,24 @@ pub record IsObligation (o : Obligation) : Type 0 where
   pub limits : is_within_limits o ≡ true
   pub order : are_in_order o.variables ≡ true
   pub occurring : list_all (λ (v : Variable). form_has v.param v.number o.form) o.variables ≡ true
-  pub complete : (param : Bool) (n : ℕ) → form_has param n o.form ≡ true → place_of o.variables param n < length
-      o.variables
+  pub complete : (param : Bool) (n : ℕ) → form_has param n o.form ≡ true →
+      place_of o.variables param n < length o.variables
   pub ranges : list_all (λ (v : Variable). is_range v.range) o.variables ≡ true
+
+-- An obligation's variables are in order, and its numbers are limited.
+abbrev pub HasVariables : Type 0
+HasVariables = (o : Obligation) → IsObligation o → AreVariables o.variables
+
+abbrev pub HasSmallLoad : Type 0
+HasSmallLoad = (o : Obligation) → IsObligation o → form_load o.form ≤ 2 ^ 62
+
+abbrev pub HasSmallWidth : Type 0
+HasSmallWidth = (o : Obligation) → IsObligation o → (width o.form).no ≤ 2 ^ 62
+
+abbrev pub HasSoundRanges : Type 0
+HasSoundRanges = (o : Obligation) → IsObligation o → list_all is_sound_range (ranges_of o.variables) ≡ true
+
+-- a formula can be settled where its terms weigh at most 2^62 + 1, with weights of slots and parameters of at least 1
+abbrev pub WeightSettles : Type 0
+WeightSettles = (slots params : ℕ → ℕ) → ((n : ℕ) → 1 ≤ slots n) → ((n : ℕ) → 1 ≤ params n) → (f : CForm) →
+    form_weight slots params f ≤ 2 ^ 62 + 1 → (need f).yes ≤ 2 ^ 63

@@ -1,5 +1,6 @@
 -- Facts that are out of reach: the bounds of their variables refute them, or they clash with another fact.
-use Rattle.std.specs.Prelude.{ℕ, zero, suc, ◌+◌, ◌*◌, ◌%◌, ◌^◌, nat_eq, nat_le, ℤ, pos, negsuc, ◌+ℤ◌, ◌*ℤ◌, Bool, true}
+use Rattle.std.specs.Prelude.{ℕ, zero, suc, ◌+◌, ◌*◌, ◌%◌, ◌^◌, nat_eq, nat_le, ℤ, pos, negsuc, ◌+ℤ◌, ◌*ℤ◌, Bool}
+use Rattle.std.specs.Prelude.{true}
 use Rattle.std.specs.Prelude.{false, cond, not, ◌&&◌, ◌||◌, Option, Some, None, List, [], ◌∷◌, ◌++◌}
 use Rattle.std.specs.List.{list_all, list_any}
 use Rattle.std.specs.Int.{int_div_euclid}
@@ -20,8 +21,8 @@ is_within count fs = list_all (λ (f : ℕ × ℤ). nat_le (suc f.0) count) fs
 abbrev pub are_exact : ℕ → List Fact → Bool
 are_exact count facts = list_all (λ (f : Fact). is_exact 0 f.factors && is_within count f.factors) facts
 
--- whether these are the factors of a fact that bounds this variable alone, from below (factor 1) or from above (factor
--- -1)
+-- whether these are the factors of a fact that bounds this variable alone, from below (factor 1) or from above
+-- (factor -1)
 abbrev pub is_bound_of : ℕ → ℤ → List (ℕ × ℤ) → Bool
 is_bound_of v side [] = false
 is_bound_of v side (f ∷ []) = nat_eq f.0 v && int_eq f.1 side
@@ -72,8 +73,8 @@ total_of facts (f ∷ fs) = total_with f.1 (tightest 0 f.0 (side_for f.1) facts)
 -- with the tightest bounds put in, the fact is negative, and no number is too great
 abbrev pub is_refuted_by : ℤ → Option Total → Bool
 is_refuted_by c None = false
-is_refuted_by c (Some t) = (t.light && nat_le (unsigned_abs c + t.load) (2 ^ 126)) && not
-    (int_le (pos 0) (c +ℤ t.value))
+is_refuted_by c (Some t) =
+    (t.light && nat_le (unsigned_abs c + t.load) (2 ^ 126)) && not (int_le (pos 0) (c +ℤ t.value))
 
 -- the bounds refute a fact
 abbrev pub bounds_refute : List Fact → Fact → Bool
@@ -120,14 +121,14 @@ abbrev pub is_some_factor : List (ℕ × ℤ) → Bool
 is_some_factor [] = false
 is_some_factor (f ∷ fs) = true
 
--- two facts clash: divided by the greatest number that divides their factors and rounded down, they add up to less than
--- 0
+-- two facts clash: divided by the greatest number that divides their factors and rounded down, they add up to less
+-- than 0
 abbrev pub clash : Fact → Fact → Bool
 clash f g =
-    ((are_opposite f.factors g.factors && is_some_factor f.factors) &&
-    ((is_moderate_fact f && is_moderate_fact g) && nat_le (divisor_of f.factors) (2 ^ 62)))
-    && not (int_le (pos 0) (int_div_euclid f.constant (pos (divisor_of f.factors)) +ℤ int_div_euclid g.constant
-    (pos (divisor_of f.factors))))
+    ((are_opposite f.factors g.factors && is_some_factor f.factors)
+    && ((is_moderate_fact f && is_moderate_fact g) && nat_le (divisor_of f.factors) (2 ^ 62)))
+    && not (int_le (pos 0) (int_div_euclid f.constant (pos (divisor_of f.factors))
+    +ℤ int_div_euclid g.constant (pos (divisor_of f.factors))))
 
 -- a fact of a list is out of reach
 abbrev pub is_out_of_reach : List Fact → Fact → Bool

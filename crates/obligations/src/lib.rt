@@ -5,6 +5,7 @@
 mod branches;
 mod certificates;
 mod first_choice;
+mod laws;
 mod linear;
 mod making;
 mod occurrence;
@@ -15,6 +16,7 @@ mod small;
 
 pub use branches::{Bound, Branch, Choice, Fact, Line, Obligation, Variable};
 pub use certificates::{Cert, Node, units};
+pub use laws::{obligation_laws, settling_laws};
 pub use linear::{factor_at, zero_line};
 pub use making::{TooLargeError, make, with_variables};
 pub use opening::open_branch;
