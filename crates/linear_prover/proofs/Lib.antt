@@ -7,3 +7,4 @@ pub mod DivisionLaws
 pub mod ClashLaws
 pub mod ChainLaws
 pub mod JudgingLaws
+pub mod OrderLaws

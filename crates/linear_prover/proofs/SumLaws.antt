@@ -1,11 +1,12 @@
 -- A fact that its bounds refute is refuted by one sum: itself, and each factor times its variable's tightest bound.
 use Rattle.std.proofs.Common.{◌≡◌, ℕ, zero, suc, ◌+◌, ◌*◌, ◌≤◌, ◌<◌, ◌^◌, nat_eq, nat_le, ℤ, pos, negsuc, ◌+ℤ◌, ◌*ℤ◌}
-use Rattle.std.proofs.Common.{Bool, true, false, cond, not, ◌&&◌, ◌⊎◌, inl, inr, Option, Some, None, Ok, Err, List, []}
+use Rattle.std.proofs.Common.{Bool, true, false, cond, not, ◌&&◌, ◌||◌, ◌⊎◌, inl, inr, Option, Some, None, Ok, Err}
+use Rattle.std.proofs.Common.{List, []}
 use Rattle.std.proofs.Common.{◌∷◌, ◌++◌, length, slice_get, arith, refl, sym, ap, subst, ◌∙◌}
-use Rattle.std.specs.List.{list_all}
+use Rattle.std.specs.List.{list_all, list_any}
 use Rattle.std.specs.Int.RustNames.{int_le, unsigned_abs}
 use Rattle.std.proofs.lemmas.Int.{ints, unsigned_abs-mul}
-use Rattle.std.proofs.lemmas.Bool.{and_parts}
+use Rattle.std.proofs.lemmas.Bool.{and_parts, not-true}
 use lib.IntN.{*ℤ-zero}
 use Rattle.obligations.specs.declared.branches.Fact.{Fact}
 use Rattle.obligations.specs.declared.branches.Line.{Line}
@@ -20,7 +21,7 @@ use Rattle.obligations.proofs.LineLaws.{length-add_at}
 use Rattle.obligations.specs.declared.branches.Bound.{Bound}
 use Rattle.obligations.specs.Reach.{is_exact, is_within, is_bound_of, tighter, tightest, side_for, Total, total_with}
 use Rattle.obligations.specs.Reach.{total_of, is_refuted_by, bounds_refute, pair_for, bound_pairs}
-use Rattle.linear_prover.specs.Exact.{factor_in}
+use Rattle.linear_prover.specs.Exact.{factor_in, is_once}
 use Rattle.linear_prover.specs.Chains.{nulls, null_line, total_pairs}
 
 eq-is : (a b : ℕ) → nat_eq a b ≡ true → a ≡ b
@@ -63,17 +64,17 @@ small-zero : (z : ℤ) → z ≡ pos 0 → is_small z ≡ true
 small-zero z e = small-is z (let h : unsigned_abs z ≡ 0 = ap unsigned_abs e in omega (arith, h))
 
 -- Numbers of a list that had one added.
-number-past : (xs : List ℤ) (p : ℕ) → length xs ≤ p → number_at xs p ≡ pos 0
+pub number-past : (xs : List ℤ) (p : ℕ) → length xs ≤ p → number_at xs p ≡ pos 0
 number-past [] p h = refl
 number-past (x ∷ xs) zero h = absurd (omega arith)
 number-past (x ∷ xs) (suc p) h = number-past xs p (omega arith)
 
-add-there : (xs : List ℤ) (p : ℕ) (z : ℤ) → p < length xs → number_at (add_at xs p z) p ≡ number_at xs p +ℤ z
+pub add-there : (xs : List ℤ) (p : ℕ) (z : ℤ) → p < length xs → number_at (add_at xs p z) p ≡ number_at xs p +ℤ z
 add-there [] p z h = absurd (omega arith)
 add-there (x ∷ xs) zero z h = refl
 add-there (x ∷ xs) (suc p) z h = add-there xs p z (omega arith)
 
-add-else : (xs : List ℤ) (n p : ℕ) (z : ℤ) → (n ≡ p → ⊥) → number_at (add_at xs n z) p ≡ number_at xs p
+pub add-else : (xs : List ℤ) (n p : ℕ) (z : ℤ) → (n ≡ p → ⊥) → number_at (add_at xs n z) p ≡ number_at xs p
 add-else [] n p z h = refl
 add-else (x ∷ xs) zero zero z h = absurd (h refl)
 add-else (x ∷ xs) zero (suc p) z h = refl
@@ -90,7 +91,7 @@ length-nulls zero = refl
 length-nulls (suc n) = ap suc (length-nulls n)
 
 -- a variable before the first place has no factor
-factor-before : (n p : ℕ) (fs : List (ℕ × ℤ)) → is_exact n fs ≡ true → p < n → factor_in fs p ≡ pos 0
+pub factor-before : (n p : ℕ) (fs : List (ℕ × ℤ)) → is_exact n fs ≡ true → p < n → factor_in fs p ≡ pos 0
 factor-before n p [] e h = refl
 factor-before n p (f ∷ fs) e h =
     let a = and_parts (nat_le n f.0 && not (int_eq f.1 (pos 0))) (is_exact (suc f.0) fs) e in
@@ -99,10 +100,10 @@ factor-before n p (f ∷ fs) e h =
     ap (λ t. cond t f.1 (factor_in fs p)) (eq-not f.0 p (λ k. omega (arith, k, c, h))) ∙ factor-before (suc f.0) p fs
     a.1 (omega (arith, c, h))
 
-factor-here : (f : ℕ × ℤ) (fs : List (ℕ × ℤ)) → factor_in (f ∷ fs) f.0 ≡ f.1
+pub factor-here : (f : ℕ × ℤ) (fs : List (ℕ × ℤ)) → factor_in (f ∷ fs) f.0 ≡ f.1
 factor-here f fs = ap (λ t. cond t f.1 (factor_in fs f.0)) (eq-refl f.0)
 
-factor-else : (f : ℕ × ℤ) (fs : List (ℕ × ℤ)) (p : ℕ) → (f.0 ≡ p → ⊥) → factor_in (f ∷ fs) p ≡ factor_in fs p
+pub factor-else : (f : ℕ × ℤ) (fs : List (ℕ × ℤ)) (p : ℕ) → (f.0 ≡ p → ⊥) → factor_in (f ∷ fs) p ≡ factor_in fs p
 factor-else f fs p h = ap (λ t. cond t f.1 (factor_in fs p)) (eq-not f.0 p h)
 
 -- A multiple of a fact added to numbers, where all products and sums are small.
@@ -126,18 +127,46 @@ split a b = split_by (nat_eq a b) refl
     split_by true e = inl (eq-is a b e)
     split_by false e = inr (not-eq a b e)
 
-pub adds : (m : ℤ) (n : ℕ) (fs : List (ℕ × ℤ)) (sum : List ℤ) → is_exact n fs ≡ true → Small m fs sum → Added m fs sum
-adds m n [] sum e s = record {
+-- a variable that isn't named has no factor
+unnamed : (fs : List (ℕ × ℤ)) (p : ℕ) → list_any (λ (g : ℕ × ℤ). nat_eq g.0 p) fs ≡ false → factor_in fs p ≡ pos 0
+unnamed [] p e = refl
+unnamed (f ∷ fs) p e = by_parts (nat_eq f.0 p) (list_any (λ (g : ℕ × ℤ). nat_eq g.0 p) fs) e (unnamed fs p)
+  where
+    by_parts : (t u : Bool) → (t || u) ≡ false → (u ≡ false → factor_in fs p ≡ pos 0) → cond t f.1 (factor_in fs p) ≡
+        pos 0
+    by_parts true u h ih = cc
+    by_parts false u h ih = ih h
+
+-- factors in order name no variable twice
+named-before : (n p : ℕ) (fs : List (ℕ × ℤ)) → is_exact n fs ≡ true → p < n → list_any (λ (g : ℕ × ℤ). nat_eq g.0 p)
+    fs ≡ false
+named-before n p [] e h = refl
+named-before n p (f ∷ fs) e h =
+    let a = and_parts (nat_le n f.0 && not (int_eq f.1 (pos 0))) (is_exact (suc f.0) fs) e in
+    let b = and_parts (nat_le n f.0) (not (int_eq f.1 (pos 0))) a.0 in
+    let c = le-is n f.0 b.0 in
+    ap (λ t. t || list_any (λ (g : ℕ × ℤ). nat_eq g.0 p) fs) (eq-not f.0 p (λ k. omega (arith, k, c, h)))
+    ∙ named-before (suc f.0) p fs a.1 (omega (arith, c, h))
+
+pub exact-once : (n : ℕ) (fs : List (ℕ × ℤ)) → is_exact n fs ≡ true → is_once fs ≡ true
+exact-once n [] e = refl
+exact-once n (f ∷ fs) e =
+    let a = and_parts (nat_le n f.0 && not (int_eq f.1 (pos 0))) (is_exact (suc f.0) fs) e in
+    ap (λ t. not t && is_once fs) (named-before (suc f.0) f.0 fs a.1 (omega arith)) ∙ exact-once (suc f.0) fs a.1
+
+pub adds-once : (m : ℤ) (fs : List (ℕ × ℤ)) (sum : List ℤ) → is_once fs ≡ true → Small m fs sum → Added m fs sum
+adds-once m [] sum e s = record {
   out = sum;
   is = refl;
   long = refl;
   at = λ p h. let z : m *ℤ pos 0 ≡ pos 0 = *ℤ-zero m in
       omega (arith, ints, z);
 }
-adds m n (f ∷ fs) sum e s =
-    let a = and_parts (nat_le n f.0 && not (int_eq f.1 (pos 0))) (is_exact (suc f.0) fs) e in
+adds-once m (f ∷ fs) sum e s =
+    let a = and_parts (not (list_any (λ (g : ℕ × ℤ). nat_eq g.0 f.0) fs)) (is_once fs) e in
     let next : List ℤ = add_at sum f.0 (m *ℤ f.1) in
-    let none : factor_in fs f.0 ≡ pos 0 = factor-before (suc f.0) f.0 fs a.1 (omega arith) in
+    let none : factor_in fs f.0 ≡ pos 0 = unnamed fs f.0 (not-true (list_any (λ (g : ℕ × ℤ). nat_eq g.0 f.0) fs) a.0)
+    in
     let zero' : m *ℤ pos 0 ≡ pos 0 = *ℤ-zero m in
     let product : is_small (m *ℤ f.1) ≡ true = ap (λ z. is_small (m *ℤ z)) (sym (factor-here f fs)) ∙ s.product f.0 in
     let total : is_small (number_at sum f.0 +ℤ m *ℤ f.1) ≡ true = ap (λ z. is_small (number_at sum f.0 +ℤ m *ℤ z))
@@ -147,7 +176,7 @@ adds m n (f ∷ fs) sum e s =
     (ap (λ z. number_at next f.0 +ℤ m *ℤ z) none ∙ ap (λ z. number_at next f.0 +ℤ z) zero' ∙ plus-zero
     (number_at next f.0)) in
     let small-next : is_small (number_at next f.0) ≡ true = bounded (nat_le (suc f.0) (length sum)) refl total in
-    let r = adds m (suc f.0) fs next a.1 (record {
+    let r = adds-once m fs next a.1 (record {
       product = λ p. elim (split f.0 p) [
         | inl k ↦ subst (λ q. is_small (m *ℤ factor_in fs q) ≡ true) k (small-zero _ (ap (λ z. m *ℤ z) none ∙ zero'))
         | inr k ↦ ap (λ z. is_small (m *ℤ z)) (sym (factor-else f fs p k)) ∙ s.product p
@@ -168,7 +197,8 @@ adds m n (f ∷ fs) sum e s =
             ∙ subst (λ q. number_at sum f.0 +ℤ m *ℤ f.1 ≡ number_at sum q +ℤ m *ℤ factor_in (f ∷ fs) q) k
             (ap (λ z. number_at sum f.0 +ℤ m *ℤ z) (sym (factor-here f fs)))
         | inr k ↦ r.at p (let l = length-add_at sum f.0 (m *ℤ f.1) in omega (arith, l, h))
-            ∙ ap (λ z. z +ℤ m *ℤ factor_in fs p) (add-else sum f.0 p (m *ℤ f.1) k) ∙ ap (λ z. number_at sum p +ℤ m *ℤ z)
+            ∙ ap (λ z. z +ℤ m *ℤ factor_in fs p) (add-else sum f.0 p (m *ℤ f.1) k) ∙ ap
+            (λ z. number_at sum p +ℤ m *ℤ z)
             (sym (factor-else f fs p k))
       ];
     }
@@ -186,12 +216,16 @@ adds m n (f ∷ fs) sum e s =
     bounded false k q = small-zero _ (number-past (add_at sum f.0 (m *ℤ f.1)) f.0
         (let l = length-add_at sum f.0 (m *ℤ f.1) in let c = gt-is (suc f.0) (length sum) k in omega (arith, l, c)))
 
+pub adds : (m : ℤ) (n : ℕ) (fs : List (ℕ × ℤ)) (sum : List ℤ) → is_exact n fs ≡ true → Small m fs sum → Added m fs sum
+adds m n fs sum e s = adds-once m fs sum (exact-once n fs e) s
+
 -- a sum after a multiple of a fact
 pub record Next (m : ℤ) (f : Fact) (l : Line) : Type 0 where
   pub out : Line
   pub is : add_pair m (Some f) l ≡ Ok out
   pub long : length out.factors ≡ length l.factors
-  pub at : (p : ℕ) → p < length l.factors → number_at out.factors p ≡ number_at l.factors p +ℤ m *ℤ factor_in f.factors
+  pub at : (p : ℕ) → p < length l.factors → number_at out.factors p ≡ number_at l.factors p +ℤ m *ℤ factor_in
+      f.factors
       p
   pub constant : out.constant ≡ l.constant +ℤ m *ℤ f.constant
 
@@ -244,13 +278,15 @@ later f facts n v side b r =
       constant = r.constant;
     }
 
-pub bound-is : (facts : List Fact) (n v : ℕ) (side : ℤ) (b : Bound) → tightest n v side facts ≡ Some b → BoundIs facts n
+pub bound-is : (facts : List Fact) (n v : ℕ) (side : ℤ) (b : Bound) → tightest n v side facts ≡ Some b → BoundIs facts
+    n
     v side b
 bound-is [] n v side b e = cc
 bound-is (f ∷ facts) n v side b e = by_test (is_bound_of v side f.factors) refl (tightest (suc n) v side facts) refl e
     (bound-is facts (suc n) v side b)
   where
-    own : is_bound_of v side f.factors ≡ true → record { place = n; constant = f.constant } ≡ b → BoundIs (f ∷ facts) n
+    own : is_bound_of v side f.factors ≡ true → record { place = n; constant = f.constant } ≡ b → BoundIs (f ∷ facts)
+        n
         v side b
     own q s = record {
       place = 0;
@@ -323,7 +359,8 @@ cleared facts n (f ∷ fs) l t b = found (tightest 0 f.0 (side_for f.1) facts) r
               x.constant + u.load;
           light = nat_le (unsigned_abs f.1) (2 ^ 62) && u.light;
         } ≡ t →
-        ((m : Line) (u : Total) → Before facts (suc f.0) fs m u → Cleared facts fs m u.value) → Cleared facts (f ∷ fs) l
+        ((m : Line) (u : Total) → Before facts (suc f.0) fs m u → Cleared facts fs m u.value) → Cleared facts (f ∷ fs)
+        l
         t.value
     taken x u q o same ih =
         let g = bound-is facts 0 f.0 (side_for f.1) x q in
@@ -351,7 +388,8 @@ cleared facts n (f ∷ fs) l t b = found (tightest 0 f.0 (side_for f.1) facts) r
         let stays : (p : ℕ) → (f.0 ≡ p → ⊥) → number_at l.factors p +ℤ pos m *ℤ factor_in g.fact.factors p ≡ number_at
         l.factors p = λ p k. ap (λ z. number_at l.factors p +ℤ pos m *ℤ z) (other p k) ∙ ap
         (λ z. number_at l.factors p +ℤ z) nothing ∙ plus-zero (number_at l.factors p) in
-        let totals-small : (p : ℕ) → is_small (number_at l.factors p +ℤ pos m *ℤ factor_in g.fact.factors p) ≡ true = λ
+        let totals-small : (p : ℕ) → is_small (number_at l.factors p +ℤ pos m *ℤ factor_in g.fact.factors p) ≡ true =
+        λ
         p. elim (split f.0 p) [
           | inl k ↦ subst (λ z. is_small (number_at l.factors z +ℤ pos m *ℤ factor_in g.fact.factors z) ≡ true) k
               (small-zero _ gone)
@@ -394,7 +432,8 @@ cleared facts n (f ∷ fs) l t b = found (tightest 0 f.0 (side_for f.1) facts) r
               ∙ ap (λ z. sum_pairs facts z (bound_pairs facts fs)) r.is ∙ rest.is;
           long = rest.long ∙ r.long;
           none = λ p h. rest.none p (let w = r.long in omega (arith, w, h));
-          constant = rest-constant ∙ ap (λ z. z +ℤ u.value) (rc ∙ ap (λ z. l.constant +ℤ pos m *ℤ z) g.constant) ∙ group
+          constant = rest-constant ∙ ap (λ z. z +ℤ u.value) (rc ∙ ap (λ z. l.constant +ℤ pos m *ℤ z) g.constant) ∙
+              group
               l.constant (pos m *ℤ x.constant) u.value ∙ ap (λ z. l.constant +ℤ z) value;
         }
       where
@@ -414,7 +453,8 @@ cleared facts n (f ∷ fs) l t b = found (tightest 0 f.0 (side_for f.1) facts) r
         lies p false e out w h = small-zero _ (number-past out.factors p
             (let k = gt-is (suc p) (length l.factors) e in omega (arith, k, w)))
 
-    found : (o : Option Bound) → tightest 0 f.0 (side_for f.1) facts ≡ o → (s : Option Total) → total_of facts fs ≡ s →
+    found : (o : Option Bound) → tightest 0 f.0 (side_for f.1) facts ≡ o → (s : Option Total) → total_of facts fs ≡ s
+        →
         total_with f.1 o s ≡ Some t → ((m : Line) (u : Total) → Before facts (suc f.0) fs m u → Cleared facts fs m
         u.value) → Cleared facts (f ∷ fs) l t.value
     found None q s r e ih = cc
@@ -448,7 +488,8 @@ light-factor facts (f ∷ fs) t e l p = found (tightest 0 f.0 (side_for f.1) fac
           | inr k ↦ subst (λ z. unsigned_abs z ≤ 2 ^ 62) (sym (factor-else f fs p k)) (ih u r lights.1)
         ]
 
-pub all-zero : (zs : List ℤ) → ((p : ℕ) → p < length zs → number_at zs p ≡ pos 0) → list_all (λ z. int_eq z (pos 0)) zs
+pub all-zero : (zs : List ℤ) → ((p : ℕ) → p < length zs → number_at zs p ≡ pos 0) → list_all (λ z. int_eq z (pos 0))
+    zs
     ≡ true
 all-zero [] h = refl
 all-zero (z ∷ zs) h = ap (λ t. t && list_all (λ z. int_eq z (pos 0)) zs)
@@ -480,7 +521,8 @@ bounds-close count facts i f there exact within e = refuted (total_of facts f.fa
         let product : (p : ℕ) → is_small (pos 1 *ℤ factor_in f.factors p) ≡ true = λ p. ap is_small
         (once (factor_in f.factors p)) ∙ small-is (factor_in f.factors p) (let k = tame p in omega (arith, k))
         in
-        let total : (p : ℕ) → is_small (number_at (null_line count).factors p +ℤ pos 1 *ℤ factor_in f.factors p) ≡ true
+        let total : (p : ℕ) → is_small (number_at (null_line count).factors p +ℤ pos 1 *ℤ factor_in f.factors p) ≡
+        true
         = λ p.
         ap (λ z. is_small (z +ℤ pos 1 *ℤ factor_in f.factors p)) (nulls-at count p) ∙ ap is_small
         (from-zero (factor_in f.factors p)) ∙ small-is (factor_in f.factors p) (let k = tame p in omega (arith, k))
@@ -497,7 +539,8 @@ bounds-close count facts i f there exact within e = refuted (total_of facts f.fa
           within = ap (λ z. is_within z f.factors) (r.long ∙ long) ∙ within;
           carries = numbers;
           small = λ p. lies p (nat_le (suc p) (length r.out.factors)) r.out refl
-              (λ k. ap is_small (numbers p k) ∙ small-is (factor_in f.factors p) (let w = tame p in omega (arith, w)));
+              (λ k. ap is_small (numbers p k) ∙ small-is (factor_in f.factors p)
+              (let w = tame p in omega (arith, w)));
           totals = q;
           light = lights.0;
           room = (let w = ap unsigned_abs rc in omega (arith, w, room));
@@ -513,7 +556,8 @@ bounds-close count facts i f there exact within e = refuted (total_of facts f.fa
         (λ b. cond b (opens []) (fails Code.BadSum)) parts.1
       where
         lies : (p : ℕ) (t : Bool) (out : Line) → nat_le (suc p) (length out.factors) ≡ t →
-            (p < length out.factors → is_small (number_at out.factors p) ≡ true) → is_small (number_at out.factors p) ≡
+            (p < length out.factors → is_small (number_at out.factors p) ≡ true) → is_small (number_at out.factors p)
+            ≡
             true
         lies p true out e h = h (let k = le-is (suc p) (length out.factors) e in omega (arith, k))
         lies p false out e h = small-zero _ (number-past out.factors p

@@ -15,7 +15,7 @@ use obligations::Fact;
 
 /// The greatest number that divides both.
 #[tactic(auto, using(crate::proofs::GcdLaws::gcd_laws))]
-pub fn greatest_divisor(a: u128, b: u128) -> u128
+fn greatest_divisor(a: u128, b: u128) -> u128
     ensures { result ≡ gcd a b }
 {
     let mut one = a;

@@ -152,7 +152,7 @@ fn part(number: i128, divisor: i64) -> i128 {
 }
 
 /// The factor of a variable in a column.
-pub fn cell_of(facts: &[Fact], column: &Column, variable: u32) -> i128 {
+fn cell_of(facts: &[Fact], column: &Column, variable: u32) -> i128 {
     match facts.get(column.place) {
         Some(fact) => part(factor_of(fact.factors.as_slice(), variable), column.divisor),
         None => 0,
@@ -160,9 +160,52 @@ pub fn cell_of(facts: &[Fact], column: &Column, variable: u32) -> i128 {
 }
 
 /// The constant of a column.
-pub fn constant_of(facts: &[Fact], column: &Column) -> i128 {
+fn constant_of(facts: &[Fact], column: &Column) -> i128 {
     match facts.get(column.place) {
         Some(fact) => part(fact.constant, column.divisor),
         None => 0,
     }
+}
+
+/// The row of a variable: the sum of all factors times multipliers is 0.
+fn variable_row(
+    alloc: Global,
+    facts: &[Fact],
+    columns: &[Column],
+    variable: u32,
+) -> Result<Seq<i128>, AllocError> {
+    let mut cells = Seq::new(alloc);
+    for column in columns {
+        cells.push(cell_of(facts, column, variable))?;
+    }
+    cells.push(0)?;
+    Ok(cells)
+}
+
+/// The row of the constants: their sum is -1.
+fn constant_row(
+    alloc: Global,
+    facts: &[Fact],
+    columns: &[Column],
+) -> Result<Seq<i128>, AllocError> {
+    let mut cells = Seq::new(alloc);
+    for column in columns {
+        cells.push(constant_of(facts, column).saturating_neg())?;
+    }
+    cells.push(1)?;
+    Ok(cells)
+}
+
+/// The row of each variable, and then that of the constants.
+pub fn rows_of(
+    alloc: Global,
+    facts: &[Fact],
+    columns: &Columns,
+) -> Result<Seq<Seq<i128>>, AllocError> {
+    let mut rows = Seq::new(alloc);
+    for variable in columns.variables.as_slice() {
+        rows.push(variable_row(alloc, facts, columns.columns.as_slice(), *variable)?)?;
+    }
+    rows.push(constant_row(alloc, facts, columns.columns.as_slice())?)?;
+    Ok(rows)
 }

@@ -3,12 +3,12 @@ ghost use Rattle.std.specs.Prelude.{◌≡◌, ◌<◌, ◌^◌, length, true, I
 ghost use Rattle.linear_prover.specs.Chains.{Closes};
 
 use crate::bounds::bounds_of;
-use crate::columns::{Column, Columns, columns_of};
+use crate::columns::{Column, Columns, columns_of, rows_of};
 use crate::judging::is_closing;
-use crate::simplex::{Multiple, refuting_multiples};
 use obligations::{Fact, Node};
 use std::alloc::{AllocError, Global};
 use unity_base::Seq;
+use whole_simplex::{Multiple, multipliers};
 
 /// The most rounds before a sum.
 const ROUNDS: usize = 63;
@@ -105,7 +105,11 @@ fn candidate(
     {
         return Ok(None);
     }
-    match refuting_multiples(alloc, facts, columns)? {
+    match multipliers(
+        alloc,
+        rows_of(alloc, facts, columns)?,
+        columns.columns.len(),
+    )? {
         Some(multiples) => chain_of(
             alloc,
             facts.len(),

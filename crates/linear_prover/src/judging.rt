@@ -17,7 +17,7 @@ use unity_base::Seq;
 
 /// The sum of nothing.
 #[tactic(auto, using(crate::proofs::JudgingLaws::nulls_more))]
-fn no_sum(alloc: Global, count: u32) -> Result<Line, AllocError>
+pub fn no_sum(alloc: Global, count: u32) -> Result<Line, AllocError>
     ensures { IfOk result (λ l. l ≡ null_line count) }
 {
     let mut factors = Seq::new(alloc);

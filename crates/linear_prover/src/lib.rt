@@ -4,12 +4,13 @@
 
 mod bounds;
 mod clash;
+mod closing;
 mod columns;
 mod elimination;
 mod judging;
 mod reach;
-mod simplex;
 
+pub use closing::close;
 pub use elimination::eliminate;
 pub use judging::{is_closing_sum, is_plain_chain};
 pub use reach::reach_chain;

@@ -1,8 +1,7 @@
-//! Multipliers of facts whose sum is false, found by the simplex method on the multipliers, in whole
-//! numbers: each row of the tableau has a positive scale of its own.
-use crate::clash::greatest_divisor;
-use crate::columns::{Column, Columns, cell_of, constant_of};
-use obligations::Fact;
+//! The simplex method in whole numbers: each row of the tableau has a positive scale of its own. What it
+//! finds is judged by its callers.
+#![tactic(auto)]
+
 use std::alloc::{AllocError, Global};
 use unity_base::Seq;
 
@@ -10,11 +9,11 @@ use unity_base::Seq;
 #[derive(Drop)]
 struct Row {
     cells: Seq<i128>,
-    /// The column that is solved for. `None` where it is none of the facts'.
+    /// The column that is solved for. `None` where it is none.
     basis: Option<u32>,
 }
 
-/// The rows, and the sum of those whose basis is no fact's column.
+/// The rows, and the sum of those whose basis is no column.
 #[derive(Drop)]
 struct Tableau {
     rows: Seq<Row>,
@@ -35,31 +34,6 @@ fn set_cell(row: &mut Row, place: usize, number: i128) {
     if place < row.cells.len() {
         let _ = row.cells.replace(place, number);
     }
-}
-
-/// The row of a variable: the sum of all factors times multipliers is 0.
-fn variable_row(
-    alloc: Global,
-    facts: &[Fact],
-    columns: &[Column],
-    variable: u32,
-) -> Result<Row, AllocError> {
-    let mut cells = Seq::new(alloc);
-    for column in columns {
-        cells.push(cell_of(facts, column, variable))?;
-    }
-    cells.push(0)?;
-    Ok(Row { cells, basis: None })
-}
-
-/// The row of the constants: their sum is -1.
-fn constant_row(alloc: Global, facts: &[Fact], columns: &[Column]) -> Result<Row, AllocError> {
-    let mut cells = Seq::new(alloc);
-    for column in columns {
-        cells.push(constant_of(facts, column).saturating_neg())?;
-    }
-    cells.push(1)?;
-    Ok(Row { cells, basis: None })
 }
 
 /// Adds a row to a sum of rows. Whether no number was too great.
@@ -84,24 +58,26 @@ fn zero_row(alloc: Global, width: usize) -> Result<Row, AllocError> {
     Ok(Row { cells, basis: None })
 }
 
-/// The row of each variable, and then that of the constants.
-fn first_rows(alloc: Global, facts: &[Fact], columns: &Columns) -> Result<Seq<Row>, AllocError> {
+/// The rows with these cells, of which none is solved.
+fn rows_of(alloc: Global, mut cells: Seq<Seq<i128>>) -> Result<Seq<Row>, AllocError> {
     let mut rows = Seq::new(alloc);
-    for variable in columns.variables.as_slice() {
-        rows.push(variable_row(alloc, facts, columns.columns.as_slice(), *variable)?)?;
+    for _ in 0..cells.len() {
+        if let Some(row) = cells.pop() {
+            rows.push(Row {
+                cells: row,
+                basis: None,
+            })?;
+        }
     }
-    rows.push(constant_row(alloc, facts, columns.columns.as_slice())?)?;
     Ok(rows)
 }
 
-/// The tableau that is solved for nothing yet. `None` where a number is too great.
+/// The tableau of rows that is solved for nothing yet. `None` where a number is too great.
 fn first_tableau(
     alloc: Global,
-    facts: &[Fact],
-    columns: &Columns,
+    rows: Seq<Row>,
+    width: usize,
 ) -> Result<Option<Tableau>, AllocError> {
-    let rows = first_rows(alloc, facts, columns)?;
-    let width = columns.columns.len();
     let mut goal = zero_row(alloc, width.saturating_add(1))?;
     if add_rows(rows.as_slice(), &mut goal) {
         Ok(Some(Tableau { rows, goal, width }))
@@ -136,7 +112,7 @@ fn is_before(one: &Row, other: &Row, column: usize, width: usize) -> Option<bool
     }
 }
 
-/// The order in which rows leave: those of facts by their columns, before the others.
+/// The order in which rows leave: those that are solved for a column by the column, before the others.
 fn rank(row: &Row) -> u64 {
     match row.basis {
         Some(column) => column as u64,
@@ -162,6 +138,18 @@ fn leaving(tableau: &Tableau, column: usize) -> Option<usize> {
         }
     }
     best
+}
+
+/// The greatest number that divides both.
+fn greatest_divisor(a: u128, b: u128) -> u128 {
+    let mut one = a;
+    let mut other = b;
+    'steps: while other > 0 {
+        let rest = one % other;
+        one = other;
+        other = rest;
+    }
+    one
 }
 
 /// The greatest number that divides all cells.
@@ -303,7 +291,7 @@ struct Fraction {
     below: u128,
 }
 
-/// What a row is solved for, and its value. `None` where that is no fact's column.
+/// What a row is solved for, and its value. `None` where that is no column.
 fn solution_of(row: &Row, width: usize) -> Option<(u32, Fraction)> {
     let column = row.basis?;
     let above = cell(row, width).unsigned_abs();
@@ -357,7 +345,7 @@ fn whole_multiplier(value: Fraction, multiple: u128) -> Option<i64> {
     }
 }
 
-/// A fact's column, and its multiplier.
+/// A column, and its multiplier.
 #[derive(Clone, Copy)]
 pub struct Multiple {
     pub column: u32,
@@ -383,13 +371,16 @@ fn multiples(alloc: Global, tableau: &Tableau) -> Result<Option<Seq<Multiple>>, 
     Ok(Some(found))
 }
 
-/// Multipliers of columns whose sum is false. `None` where there are none, or a number is too great.
-pub fn refuting_multiples(
+/// Multipliers of so many columns, none below 0, of which each row's sum of cells times multipliers is its
+/// right side: the cell after those of the columns, which is 0 or more. All may be multiplied by one number,
+/// so that they are whole. `None` where there are none, or a number is too great.
+pub fn multipliers(
     alloc: Global,
-    facts: &[Fact],
-    columns: &Columns,
+    rows: Seq<Seq<i128>>,
+    width: usize,
 ) -> Result<Option<Seq<Multiple>>, AllocError> {
-    let Some(mut tableau) = first_tableau(alloc, facts, columns)? else {
+    let rows = rows_of(alloc, rows)?;
+    let Some(mut tableau) = first_tableau(alloc, rows, width)? else {
         return Ok(None);
     };
     if solve(alloc, &mut tableau) {

@@ -1,0 +1,110 @@
+-- What the searches find.
+use Rattle.std.proofs.Common.{◌≡◌, ℕ, ℤ, not, suc, ◌+◌, ◌-◌, ◌*◌, ◌≤◌, ◌<◌, ◌^◌, true, Some, Ok, List, [], ◌∷◌}
+use Rattle.std.proofs.Common.{length, arith, refl, sym, ap, subst, ◌∙◌}
+use Rattle.std.proofs.Math.Nat.{mul-le-mul_right}
+use Rattle.std.specs.List.{list_all}
+use Rattle.obligations.specs.declared.branches.Branch.{Branch}
+use Rattle.obligations.specs.declared.branches.Obligation.{Obligation}
+use Rattle.obligations.specs.declared.branches.Variable.{Variable}
+use Rattle.obligations.specs.declared.certificates.Node.{Node}
+use Rattle.obligations.specs.Certificates.{units}
+use Rattle.obligations.specs.Load.{is_light_branch}
+use Rattle.obligations.specs.Obligations.{IsObligation}
+use Rattle.obligations.specs.Opening.{in_ranges, first_branch}
+use Rattle.obligations.specs.Settling.{form_at}
+use Rattle.obligations.proofs.OpeningLaws.{first-holds}
+use Rattle.std.proofs.lemmas.Bool.{and_parts, not-true}
+use Rattle.obligations.specs.Plain.{ranges_of, plain_leaves, leaf_units, enough, need_of}
+use Rattle.obligations.proofs.NumberLaws.{obligation-variables, obligation-load}
+use Rattle.linear_prover.specs.Chains.{is_plain_node}
+use Rattle.tree_search.specs.declared.plain_tree.Trail.{Trail}
+use Rattle.tree_search.specs.declared.plain_tree.Ended.{Ended}
+use Rattle.tree_search.specs.declared.plain_tree.Found.{Found}
+use Rattle.tree_search.specs.Left.{left}
+use Rattle.tree_search.specs.Searching.{root, Proof, Counterexample, Answers, found_of, Met}
+use Rattle.tree_search.proofs.ReadyLaws.{leaves-some, ready-root}
+use Rattle.tree_search.proofs.EnoughLaws.{enough-below}
+use Rattle.tree_search.proofs.RootLaws.{left-walk, left-whole}
+use Rattle.proof_search.specs.Guided.{Closing, Guides, IsFound, chosen_of}
+
+pub root-light : (o : Obligation) (b : Branch) → IsObligation o → b ≡ first_branch o → is_light_branch (2 ^ 63) b ≡
+    true
+root-light o b m e = ap (is_light_branch (2 ^ 63)) e ∙ (ready-root o m).light
+
+pub root-guides : (o : Obligation) (vs : List Variable) (b : Branch) (x y : Trail) (e : Ended) → vs ≡ o.variables → b
+    ≡ first_branch o →
+    Guides vs 960 b x y e → Guides o.variables 960 (first_branch o) x y e
+root-guides o vs b x y e p q g =
+    subst (λ c. Guides o.variables 960 c x y e) q (subst (λ z. Guides z 960 b x y e) p g)
+
+pub ruleset root_laws = (obligation-variables, obligation-load, root-light, root-guides)
+
+proof-of : (o : Obligation) (budget : ℕ) (nodes : List Node) → IsObligation o → IsFound o nodes → units nodes ≤ budget
+    → units nodes ≤ enough o → Proof o budget nodes
+proof-of o budget nodes m f h k =
+    let below = enough-below o m in
+    record {
+      whole = f.whole;
+      walked = f.walked;
+      plain = f.plain;
+      within = h;
+      cheap = k;
+      needed = omega
+          (arith, k, below);
+    }
+
+-- a leaf's units are enough
+pub small-found : (o : Obligation) (budget : ℕ) (nodes : List Node) → IsObligation o → IsFound o nodes → units nodes ≤
+    budget →
+    units nodes ≤ length o.variables + 256 → Proof o budget nodes
+small-found o budget nodes m f h k =
+    let some = leaves-some o.variables 960 (ranges_of o.variables) (first_branch o) in
+    let more : 1 * leaf_units o.variables ≤ plain_leaves o.variables 960 (ranges_of o.variables) (first_branch o) *
+    leaf_units o.variables =
+    mul-le-mul_right (leaf_units o.variables) some in
+    proof-of o budget nodes m f h (omega (arith, k, more))
+
+-- the plain tree's search with one unit less
+pub chosen-answers : (o : Obligation) (budget total : ℕ) (nodes : List Node) (found : Found) → IsObligation o →
+    IsFound o nodes → total ≡ units nodes → total ≤ budget →
+    0 < total → Answers o (total - 1) found → Answers o budget (chosen_of found nodes)
+chosen-answers o budget total nodes (Found.Proved c) m f t h z a =
+    let w = a.within in
+    record {
+      whole = a.whole;
+      walked = a.walked;
+      plain = a.plain;
+      within = omega (arith, w, h);
+      cheap = a.cheap;
+      needed = a.needed;
+    }
+chosen-answers o budget total nodes (Found.Refuted values) m f t h z a = a
+chosen-answers o budget total nodes (Found.Budget c) m f t h z a =
+    let s = a.small in proof-of o budget nodes m f (omega (arith, t, h)) (omega (arith, t, s, z))
+
+pub ruleset found_laws = (obligation-variables, small-found, chosen-answers)
+
+-- what a closed root says
+pub closed-found : (o : Obligation) (budget spare : ℕ) (nodes : List Node) →
+    Closing o.variables 960 (first_branch o) (record { nodes = []; spare = budget })
+    (record { nodes = nodes; spare = spare }) → IsFound o nodes
+closed-found o budget spare nodes c = record {
+  whole = left-whole o.variables nodes (root o) (c.closes (root o) [] refl);
+  walked = left-walk o.variables nodes (root o) [] 0 (c.closes (root o) [] refl);
+  plain = c.plain refl;
+}
+
+pub closed-units : (o : Obligation) (budget spare : ℕ) (nodes : List Node) →
+    Closing o.variables 960 (first_branch o) (record { nodes = []; spare = budget })
+    (record { nodes = nodes; spare = spare }) →
+    (spare ≤ budget) × (budget - spare ≡ units nodes)
+closed-units o budget spare nodes c = let s = c.spent in (omega (arith, s), omega (arith, s))
+
+pub met-answers : (o : Obligation) (values : List ℤ) → Met o.variables (first_branch o) values → Counterexample o
+    values
+met-answers o values c =
+    let parts = and_parts (in_ranges o.variables values) (not (form_at o.variables values o.form))
+    (sym (first-holds o values c.long) ∙ c.holds) in
+    record { inside = parts.0; fails = not-true (form_at o.variables values o.form) parts.1 }
+
+pub ruleset ended_laws = (closed-found, closed-units, met-answers)

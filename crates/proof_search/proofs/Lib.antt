@@ -1,0 +1,3 @@
+pub mod GuidedLaws
+pub mod ValueLaws
+pub mod FindingLaws

@@ -1,0 +1,56 @@
+-- How a guided search ends.
+use Rattle.std.specs.Prelude.{◌≡◌, ℕ, ◌+◌, ◌≤◌, ℤ, true, pos, Option, Some, None, Ok, List, [], ◌∷◌, insert, length}
+use Rattle.std.specs.List.{list_all}
+use Rattle.std.specs.Int.RustNames.{int_le}
+use Rattle.core_terms.specs.declared.trees.CForm.{CForm}
+use Rattle.obligations.specs.declared.branches.Branch.{Branch}
+use Rattle.obligations.specs.declared.branches.Obligation.{Obligation}
+use Rattle.obligations.specs.declared.branches.Variable.{Variable}
+use Rattle.obligations.specs.Certificates.{units}
+use Rattle.obligations.specs.Opening.{first_branch}
+use Rattle.certificate_check.specs.Refutation.{Pending, at_level, judged}
+use Rattle.certificate_check.specs.Trees.{is_whole}
+use Rattle.linear_prover.specs.Chains.{is_plain_node}
+use Rattle.tree_search.specs.declared.plain_tree.Trail.{Trail}
+use Rattle.tree_search.specs.declared.plain_tree.Ended.{Ended}
+use Rattle.tree_search.specs.declared.plain_tree.Found.{Found}
+use Rattle.obligations.specs.declared.certificates.Node.{Node}
+use Rattle.tree_search.specs.Left.{left}
+use Rattle.tree_search.specs.Searching.{level_of, Met}
+
+-- The nodes after `old` close a branch with k levels left.
+pub record Closing (vs : List Variable) (k : ℕ) (b : Branch) (old new : Trail) : Type 0 where
+  pub closes : (first ps : List Pending) → left vs (Some first) old.nodes ≡ Some (at_level (level_of k) b ∷ ps) →
+      left vs (Some first) new.nodes ≡ Some ps
+  pub plain : list_all is_plain_node old.nodes ≡ true → list_all is_plain_node new.nodes ≡ true
+  pub spent : units new.nodes + new.spare ≡ units old.nodes + old.spare
+
+-- Nothing is said where it gave up.
+abbrev pub Guides : List Variable → ℕ → Branch → Trail → Trail → Ended → Type 0
+Guides vs k b old new Ended.Closed = Closing vs k b old new
+Guides vs k b old new Ended.Stopped = Unit {0}
+Guides vs k b old new (Ended.Refuted values) = Met vs b values
+
+-- a branch was closed, or there were too few units
+abbrev pub ClosedNow : List Variable → ℕ → Branch → Trail → Trail → Option Ended → Type 0
+ClosedNow vs k b old new None = new ≡ old
+ClosedNow vs k b old new (Some e) = Guides vs k b old new e
+
+abbrev pub IsAtLeast : ℤ → Type 0
+IsAtLeast z = int_le (pos 0) z ≡ true
+
+-- a branch with a waiting formula put in at a place
+abbrev pub with_form : Branch → ℕ → CForm → Branch
+with_form b n f = record { facts = b.facts; waiting = insert b.waiting n f }
+
+-- nodes that a walk takes to its end
+pub record IsFound (o : Obligation) (nodes : List Node) : Type 0 where
+  pub whole : is_whole nodes 1 ≡ true
+  pub walked : judged o nodes ≡ Ok []
+  pub plain : list_all is_plain_node nodes ≡ true
+
+-- these nodes in place of an ended budget
+abbrev pub chosen_of : Found → List Node → Found
+chosen_of (Found.Proved c) nodes = Found.Proved c
+chosen_of (Found.Refuted values) nodes = Found.Refuted values
+chosen_of (Found.Budget c) nodes = Found.Proved (record { nodes = nodes })

@@ -1,0 +1,125 @@
+//! The search. A certificate that the guided search found is handed out only where it is no larger than
+//! the plain tree allows.
+ghost use Rattle.std.specs.Prelude.{◌≡◌, ◌+◌, ◌-◌, ◌≤◌, ◌<◌, ◌^◌, [], length, true, IfOk};
+ghost use Rattle.obligations.specs.Certificates.{units};
+ghost use Rattle.obligations.specs.Load.{is_light_branch};
+ghost use Rattle.obligations.specs.Obligations.{AreVariables, IsObligation};
+ghost use Rattle.obligations.specs.Opening.{first_branch};
+ghost use Rattle.tree_search.specs.Searching.{Answers};
+ghost use Rattle.proof_search.specs.Guided.{Guides, chosen_of, IsFound};
+
+use crate::guided::guide;
+use crate::watch::new_watch;
+use obligations::{Branch, Cert, Node, Obligation, Variable, open_branch};
+use std::alloc::{AllocError, Global};
+use tree_search::{Ended, Found, Trail, search_tree};
+use unity_base::Seq;
+
+/// The most units of a guided search: where it needs more, the plain tree is searched.
+const GUIDED: u64 = 16_384;
+
+/// Guides the search of a branch.
+fn guide_branch(
+    alloc: Global,
+    vs: &[Variable],
+    branch: &mut Branch,
+    trail: &mut Trail,
+) -> Result<Ended, AllocError>
+    requires variables { AreVariables vs.now }
+    requires light { is_light_branch (2 ^ 63) branch.old ≡ true }
+    ensures { IfOk result (Guides vs.now 960 branch.old trail.old trail.new) }
+{
+    let mut watch = new_watch(alloc, vs.len())?;
+    guide(alloc, vs, 960, &mut watch, branch, trail)
+}
+
+/// Guides the search of an obligation's first branch.
+#[tactic(auto, using(crate::proofs::FindingLaws::root_laws))]
+fn guide_root(alloc: Global, o: &Obligation, trail: &mut Trail) -> Result<Ended, AllocError>
+    requires { IsObligation o.now }
+    ensures { IfOk result (Guides o.now.variables 960 (first_branch o.now) trail.old trail.new) }
+{
+    let mut branch = open_branch(alloc, o)?;
+    guide_branch(alloc, o.variables.as_slice(), &mut branch, trail)
+}
+
+/// What a search of the plain tree found, and in place of an ended budget the certificate of these nodes.
+fn chosen(found: Found, nodes: Seq<Node>) -> Found
+    ensures { result ≡ chosen_of found nodes }
+{
+    match found {
+        Found::Budget { partial: _ } => Found::Proved(Cert { nodes }),
+        Found::Proved(c) => Found::Proved(c),
+        Found::Refuted { values } => Found::Refuted { values },
+    }
+}
+
+/// The units of one leaf.
+fn leaf_units(vs: &[Variable]) -> u64
+    requires { AreVariables vs.now }
+    ensures { result ≡ length vs.now + 256 }
+{
+    vs.len() as u64 + 256
+}
+
+/// The certificate of nodes of so many units, unless the plain tree has a smaller one. Where a leaf's units
+/// are enough for them, or the plain tree's search ends with one unit less, they are within `enough`.
+#[tactic(auto, using(crate::proofs::FindingLaws::found_laws))]
+fn allowed(
+    alloc: Global,
+    o: &Obligation,
+    budget: u64,
+    total: u64,
+    nodes: Seq<Node>,
+) -> Result<Found, AllocError>
+    requires obligation { IsObligation o.now }
+    requires total { total ≡ units nodes }
+    requires within { total ≤ budget }
+    requires found { IsFound o.now nodes }
+    ensures { IfOk result (Answers o.now budget) }
+{
+    if total <= leaf_units(o.variables.as_slice()) {
+        return Ok(Found::Proved(Cert { nodes }));
+    }
+    let found = search_tree(alloc, o, total - 1)?;
+    Ok(chosen(found, nodes))
+}
+
+/// What the guided search found, or the search along the plain tree.
+#[tactic(auto, using(crate::proofs::FindingLaws::ended_laws))]
+fn found_by(
+    alloc: Global,
+    o: &Obligation,
+    budget: u64,
+    limit: u64,
+    ended: Ended,
+    trail: Trail,
+) -> Result<Found, AllocError>
+    requires obligation { IsObligation o.now }
+    requires limit { limit ≤ budget }
+    requires ended { Guides o.now.variables 960 (first_branch o.now) (record { nodes = []; spare = limit }) trail ended }
+    ensures { IfOk result (Answers o.now budget) }
+{
+    let Trail { nodes, spare } = trail;
+    match ended {
+        Ended::Closed => allowed(alloc, o, budget, limit - spare, nodes),
+        Ended::Refuted(values) => Ok(Found::Refuted { values }),
+        Ended::Stopped => search_tree(alloc, o, budget),
+    }
+}
+
+/// A certificate that refutes the obligation's first branch, within the budget and `enough`, whose numbers
+/// are within plus or minus 2^62; or values in the variables' ranges that make the form false; or the begin
+/// of a certificate, only where the budget is less than `enough`.
+pub fn search(alloc: Global, o: &Obligation, budget: u64) -> Result<Found, AllocError>
+    requires { IsObligation o.now }
+    ensures { IfOk result (Answers o.now budget) }
+{
+    let limit = budget.min(GUIDED);
+    let mut trail = Trail {
+        nodes: Seq::new(alloc),
+        spare: limit,
+    };
+    let ended = guide_root(alloc, o, &mut trail)?;
+    found_by(alloc, o, budget, limit, ended, trail)
+}

@@ -1,0 +1,11 @@
+//! The search for a certificate of an obligation: first guided by the facts, and then along the plain
+//! tree, by which units are bounded.
+#![tactic(auto)]
+
+mod finding;
+mod guided;
+mod look;
+mod watch;
+
+pub use finding::search;
+pub use tree_search::Found;

@@ -1,0 +1,13 @@
+pub mod SideLaws
+pub mod SearchLaws
+pub mod TreeLaws
+pub mod ReadyLaws
+pub mod CycleLaws
+pub mod ShapeLaws
+pub mod RootLaws
+pub mod CutLaws
+pub mod LeafLaws
+pub mod ExactLaws
+pub mod SlenderLaws
+pub mod EnoughLaws
+pub mod TryLaws

@@ -1,0 +1,181 @@
+-- What the search of the first branch says of its obligation.
+use Rattle.std.proofs.Common.{◌≡◌, ℕ, ℤ, zero, suc, ◌+◌, ◌≤◌, nat_le, nat_lt, not, Bool, true, false, cond, Option}
+use Rattle.std.proofs.Common.{Some, None, Result, Ok, Err, length, slice_get, List, [], ◌∷◌, ◌++◌, arith, refl, sym}
+use Rattle.std.proofs.Common.{ap, subst, ◌∙◌}
+use Rattle.std.proofs.lemmas.Bool.{and_parts, not-true}
+use Rattle.obligations.specs.declared.branches.Branch.{Branch}
+use Rattle.obligations.specs.declared.branches.Obligation.{Obligation}
+use Rattle.obligations.specs.declared.branches.Variable.{Variable}
+use Rattle.core_terms.specs.declared.trees.Range.{Range}
+use Rattle.obligations.specs.declared.certificates.Node.{Node}
+use Rattle.certificate_check.specs.Refutation.{Pending}
+use Rattle.obligations.specs.Settling.{form_at}
+use Rattle.obligations.specs.Opening.{in_ranges, first_branch}
+use Rattle.certificate_check.specs.Refutation.{Made, fails, opens, made_case, case_at, split_at, made_sum, made_round}
+use Rattle.certificate_check.specs.Refutation.{made_by, made, pending, after, walk}
+use Rattle.certificate_check.specs.Sums.{all_pairs, is_false, is_divisible}
+use Rattle.certificate_check.specs.Trees.{arity, is_whole}
+use Rattle.case_tables.specs.declared.code_table.Code.{Code}
+use Rattle.core_terms.specs.declared.trees.CForm.{CForm}
+use Rattle.obligations.specs.declared.branches.Line.{Line}
+use Rattle.obligations.specs.Settling.{settled, sides, without}
+use Rattle.linear_prover.specs.Chains.{is_plain_node}
+use Rattle.std.specs.List.{list_all}
+use Rattle.obligations.proofs.OpeningLaws.{first-holds}
+use Rattle.tree_search.specs.declared.plain_tree.Trail.{Trail}
+use Rattle.tree_search.specs.declared.plain_tree.Ended.{Ended}
+use Rattle.tree_search.specs.declared.plain_tree.Found.{Found}
+use Rattle.obligations.specs.Certificates.{units}
+use Rattle.tree_search.specs.Left.{left_by, left}
+use Rattle.obligations.specs.Plain.{ranges_of, plain_leaves, enough, need_of}
+use Rattle.tree_search.specs.Searching.{Ready, Ends, IsOpen, IsUnfinished, root, Answers, found_of}
+use Rattle.obligations.proofs.NumberLaws.{obligation-variables, obligation-load}
+use Rattle.obligations.specs.Obligations.{IsObligation}
+use Rattle.tree_search.proofs.ReadyLaws.{ready-root}
+use Rattle.tree_search.proofs.EnoughLaws.{enough-below}
+
+left-none : (vs : List Variable) (ns : List Node) → left vs None ns ≡ None
+left-none vs [] = refl
+left-none vs (n ∷ ns) = left-none vs ns
+
+-- what nodes leave is where a walk along them ends
+pub left-walk : (vs : List Variable) (ns : List Node) (ps qs : List Pending) (at : ℕ) → left vs (Some ps) ns ≡ Some qs
+    → walk vs ns ps at ≡ Ok qs
+left-walk vs [] ps qs at e = let s : ps ≡ qs = cc in ap Ok s
+left-walk vs (n ∷ ns) [] qs at e = let x = left-none vs ns in cc
+left-walk vs (n ∷ ns) (p ∷ ps) qs at e = opened (made vs p n) e (λ rs. left-walk vs ns rs qs (suc at))
+  where
+    opened : (m : Made) → left vs (left_by p.level ps m) ns ≡ Some qs →
+        ((rs : List Pending) → left vs (Some rs) ns ≡ Some qs → walk vs ns rs (suc at) ≡ Ok qs) →
+        after (λ rs. walk vs ns rs (suc at)) p.level ps at m ≡ Ok qs
+    opened (fails c) e f = let x = left-none vs ns in cc
+    opened (opens bs) e f = f (pending (suc p.level) bs ++ ps) e
+
+-- a node opens as many branches as it has subtrees
+opened-arity : (vs : List Variable) (p : Pending) (n : Node) (bs : List Branch) → made vs p n ≡ opens bs → length bs ≡
+    arity n
+opened-arity vs p n bs e = by_level (nat_le p.level 1024) e
+  where
+    by_case : (k : ℕ) (o : Option CForm) → made_case vs p.branch k o ≡ opens bs → length bs ≡ 2
+    by_case k None e = cc
+    by_case k (Some f) e = let s : settled vs (sides f).0 (without p.branch k) ∷ settled vs (sides f).1
+        (without p.branch k) ∷ [] ≡ bs = cc in sym (ap length s)
+
+    case : (k : ℕ) → case_at vs p.branch k ≡ opens bs → length bs ≡ 2
+    case zero e = cc
+    case (suc k) e = by_case k (slice_get p.branch.waiting k) e
+
+    by_split : (t : Bool) (c d : Branch) → cond t (opens (c ∷ d ∷ [])) (fails Code.NoSuchVariable) ≡ opens bs → length
+        bs ≡ 2
+    by_split true c d e = let s : c ∷ d ∷ [] ≡ bs = cc in sym (ap length s)
+    by_split false c d e = cc
+
+    split : (v : ℕ) (k : ℤ) → split_at vs p.branch v k ≡ opens bs → length bs ≡ 2
+    split zero k e = cc
+    split (suc v) k e = by_split (nat_lt v (length vs)) _ _ e
+
+    by_sum : (t : Bool) → cond t (opens []) (fails Code.BadSum) ≡ opens bs → length bs ≡ 0
+    by_sum true e = let s : [] ≡ bs = cc in sym (ap length s)
+    by_sum false e = cc
+
+    sum : (r : Result Line Code) → made_sum r ≡ opens bs → length bs ≡ 0
+    sum (Err c) e = cc
+    sum (Ok l) e = by_sum (is_false l) e
+
+    by_round : (t : Bool) (b : Branch) → cond t (opens (b ∷ [])) (fails Code.NotDivisible) ≡ opens bs → length bs ≡ 1
+    by_round true b e = let s : b ∷ [] ≡ bs = cc in sym (ap length s)
+    by_round false b e = cc
+
+    round : (d : ℤ) (r : Result Line Code) → made_round p.branch d r ≡ opens bs → length bs ≡ 1
+    round d (Err c) e = cc
+    round d (Ok l) e = by_round (is_divisible d l) _ e
+
+    by_node : (n : Node) → made_by vs p.branch n ≡ opens bs → length bs ≡ arity n
+    by_node (Node.Case k) e = case k e
+    by_node (Node.Split v k) e = split v k e
+    by_node (Node.Sum ps) e = sum (all_pairs vs p.branch.facts ps) e
+    by_node (Node.Round d ps) e = round d (all_pairs vs p.branch.facts ps) e
+
+    by_level : (t : Bool) → cond t (made_by vs p.branch n) (fails Code.CertTooDeep) ≡ opens bs → length bs ≡ arity n
+    by_level true e = by_node n e
+    by_level false e = cc
+
+-- nodes that leave nothing are whole trees
+pub left-whole : (vs : List Variable) (ns : List Node) (ps : List Pending) → left vs (Some ps) ns ≡ Some [] → is_whole
+    ns (length ps) ≡ true
+left-whole vs [] [] e = refl
+left-whole vs [] (p ∷ ps) e = cc
+left-whole vs (n ∷ ns) [] e = let x = left-none vs ns in cc
+left-whole vs (n ∷ ns) (p ∷ ps) e = opened (made vs p n) refl e (left-whole vs ns)
+  where
+    long : (level : ℕ) (bs : List Branch) → length (pending level bs ++ ps) ≡ length bs + length ps
+    long level [] = omega arith
+    long level (b ∷ bs) = let ih = long level bs in omega (arith, ih)
+
+    opened : (m : Made) → made vs p n ≡ m → left vs (left_by p.level ps m) ns ≡ Some [] →
+        ((qs : List Pending) → left vs (Some qs) ns ≡ Some [] → is_whole ns (length qs) ≡ true) → is_whole ns
+        (arity n + length ps) ≡ true
+    opened (fails c) q e f = let x = left-none vs ns in cc
+    opened (opens bs) q e f =
+        let a = opened-arity vs p n bs q in
+        let l : arity n + length ps ≡ length (pending (suc p.level) bs ++ ps) =
+        (let w = long (suc p.level) bs in omega (arith, a, w)) in
+        ap (is_whole ns) l ∙ f (pending (suc p.level) bs ++ ps) e
+
+unfinished : (vs : List Variable) (ns : List Node) (ps : List Pending) (r : Option (List Pending)) → left vs (Some ps)
+    ns ≡ r → IsOpen r → IsUnfinished (walk vs ns ps 0)
+unfinished vs ns ps None e h = absurd h
+unfinished vs ns ps (Some []) e h = absurd h
+unfinished vs ns ps (Some (q ∷ qs)) e h = subst IsUnfinished (sym (left-walk vs ns ps (q ∷ qs) 0 e)) tt
+
+abbrev all_leaves : Obligation → ℕ
+all_leaves o = plain_leaves o.variables 960 (ranges_of o.variables) (first_branch o)
+
+root-answers : (o : Obligation) → enough o ≤ need_of o → (budget : ℕ) (old new : Trail) (e : Ended) → old.nodes ≡ [] →
+    old.spare ≡ budget → Ends o.variables 960 (all_leaves o) (first_branch o) old new e → Answers o budget
+    (found_of e new.nodes)
+root-answers o below budget old new Ended.Closed n s c =
+    let cost = c.cost in let spent = c.spent in let u = ap units n in
+    record {
+      whole = left-whole o.variables new.nodes (root o) (c.closes (root o) []
+          (ap (left o.variables (Some (root o))) n));
+      walked = left-walk o.variables new.nodes (root o) [] 0
+          (c.closes (root o) [] (ap (left o.variables (Some (root o))) n));
+      plain = c.plain (ap (list_all is_plain_node) n);
+      within = omega (arith, spent, u, s);
+      cheap = omega (arith, cost, u);
+      needed = omega (arith, cost, u, below);
+    }
+root-answers o below budget old new Ended.Stopped n s c =
+    let short = c.short in let last = c.last in let spent = c.spent in let u = ap units n in
+    record {
+      small = omega (arith, short, s);
+      needs = omega (arith, short, s, below);
+      opened = unfinished o.variables new.nodes (root o) _ refl
+          (c.opened (root o) [] (ap (left o.variables (Some (root o))) n));
+      within = omega (arith, spent, u, s);
+      full = omega (arith, spent, u, s, last);
+    }
+root-answers o below budget old new (Ended.Refuted values) n s c =
+    let parts = and_parts (in_ranges o.variables values) (not (form_at o.variables values o.form))
+    (sym (first-holds o values c.long) ∙ c.holds) in
+    record { inside = parts.0; fails = not-true (form_at o.variables values o.form) parts.1 }
+
+pub search-answers : (o : Obligation) → IsObligation o → (vs : List Variable) (rs : List Range) (b : Branch)
+    (old new : Trail) (e : Ended) (budget : ℕ) (f : Found) → vs ≡ o.variables → rs ≡ ranges_of o.variables → b ≡
+    first_branch o →
+    old.nodes ≡ [] → old.spare ≡ budget → Ends vs 960 (plain_leaves vs 960 rs b) b old new e → f ≡ found_of e
+    new.nodes → Answers o budget f
+search-answers o m vs rs b old new e budget f p q r n s c g =
+    subst (Answers o budget) (sym g) (root-answers o (enough-below o m) budget old new e n s
+    (subst (λ z. Ends o.variables 960 (plain_leaves o.variables 960 (ranges_of o.variables) z) z old new e) r
+    (subst (λ z. Ends o.variables 960 (plain_leaves o.variables 960 z b) b old new e) q
+    (subst (λ z. Ends z 960 (plain_leaves z 960 rs b) b old new e) p c))))
+
+pub search-ready : (o : Obligation) (vs : List Variable) (rs : List Range) (b : Branch) → IsObligation o → vs ≡
+    o.variables → rs ≡ ranges_of o.variables → b ≡ first_branch o → Ready vs 960 rs b
+search-ready o vs rs b m p q r =
+    subst (λ z. Ready z 960 rs b) (sym p) (subst (λ z. Ready o.variables 960 z b) (sym q)
+    (subst (Ready o.variables 960 (ranges_of o.variables)) (sym r) (ready-root o m)))
+
+pub ruleset obligation_laws = (obligation-variables, obligation-load)

@@ -1,0 +1,9 @@
+//! The search for a certificate along the plain tree of an obligation, by which units are bounded.
+#![tactic(auto)]
+
+mod plain_tree;
+
+pub use plain_tree::{
+    Ended, Found, Halves, Trail, add_above, add_at_most, cut_back, finish, is_allowed, put_node,
+    search_tree, settle_first, settle_second, split_node,
+};
