@@ -2,3 +2,4 @@ pub mod StartLaws
 pub mod WeightLaws
 pub mod StateLaws
 pub mod PreparingLaws
+pub mod StartStateLaws

@@ -1,8 +1,7 @@
 -- Writes that are added one by one make the step of all of them.
-use Rattle.std.proofs.Common.{◌≡◌, ℕ, zero, suc, ◌+◌, ◌-◌, ◌<◌, ◌≤◌, ◌≢◌, nat_eq, ℤ, pos, List, [], ◌∷◌, ◌++◌, map}
-use Rattle.std.proofs.Common.{length, drop, Bool, true, false, cond, not, ◌&&◌, ◌||◌, IsTrue, Option, Some, None, refl}
-use Rattle.std.proofs.Common.{sym, ap, ◌∙◌, subst, slice_get, slice_set, get_or, arith, inl, inr, get_or-set_same}
-use Rattle.std.proofs.Common.{get_or-set_other}
+use Rattle.std.proofs.Common.{◌≡◌, ℕ, zero, suc, ◌+◌, ◌-◌, ◌<◌, ◌≢◌, nat_eq, ℤ, pos, List, [], ◌∷◌, ◌++◌, length}
+use Rattle.std.proofs.Common.{drop, Bool, true, false, cond, not, ◌&&◌, ◌||◌, IsTrue, Some, None, refl, sym, ap, ◌∙◌}
+use Rattle.std.proofs.Common.{subst, slice_get, slice_set, get_or, arith, inl, inr, get_or-set_same, get_or-set_other}
 use Rattle.std.proofs.lemmas.List.{length-set, length-map}
 use Rattle.std.specs.List.{list_all, list_any}
 use Rattle.std.specs.Option.{option_map}
@@ -10,7 +9,7 @@ use Rattle.std.proofs.lemmas.Option.{slice_get-map, slice_get_read}
 use Rattle.std.proofs.lemmas.Bool.Decides.{eqb_tells}
 use Rattle.state_steps.specs.State.{State, Ranges, int_eq, in_range}
 use Rattle.state_steps.specs.Step.{Write, is_inside, agrees, all_agree, is_defined, put, written, step}
-use Rattle.state_steps.proofs.StepTheorems.{and_left, and_right, both_true, same_number}
+use Rattle.state_steps.proofs.StepTheorems.{and_left, and_right, same_number}
 use Rattle.core_terms.specs.declared.trees.CForm.{CForm}
 use Rattle.core_terms.specs.declared.programs.CSlot.{CSlot}
 use Rattle.core_terms.specs.declared.programs.CStmt.{CStmt}
@@ -92,8 +91,8 @@ agrees_next state ((Some m, y) ∷ ws) n z h a =
       | inl w ↦
           let inside : m < length (written state ws) = omega (arith, length-written state ws) in
           let there : number_at (put (written state ws) m y) n ≡ y =
-          subst (λ k. number_at (put (written state ws) m y) k ≡ y) (sym w.1) (number_put (written state ws) m y inside)
-          in
+          subst (λ k. number_at (put (written state ws) m y) k ≡ y) (sym w.1)
+          (number_put (written state ws) m y inside) in
           let others : IsTrue (int_eq z y) → IsTrue (list_all (agrees (Some n, z)) ws) = λ e.
           subst (λ k. IsTrue (list_all (agrees (Some k, z)) ws)) (sym w.1)
           (subst (λ x. IsTrue (list_all (agrees (Some m, x)) ws)) (sym (same_number z y e)) first) in
@@ -148,8 +147,8 @@ refused ranges state next marked w z r holds number h test failed ws p =
     let one : write_at state w ≡ (Some w.slot, z) ∷ [] =
     ap (λ b. cond b ((Some w.slot, term_value state [] w.value) ∷ []) []) holds
     ∙ ap (λ x. (Some w.slot, x) ∷ []) (sym number) in
-    ap (λ xs. is_defined ranges (xs ++ ws)) one ∙ defined_more ranges state next marked ws w.slot z h p ∙ sym test ∙
-    failed
+    ap (λ xs. is_defined ranges (xs ++ ws)) one ∙ defined_more ranges state next marked ws w.slot z h p ∙ sym test
+    ∙ failed
 
 both_fail : (i all a agree : Bool) → (all && agree) ≡ false → ((i && all) && (a && agree)) ≡ false
 both_fail i true a true h = cc
@@ -235,11 +234,11 @@ untouched state (w ∷ ws) n h = elim (eqb_tells w.slot n) [
     go : (b : Bool) → n ≢ w.slot →
         (slice_get (written state (inside_writes state ws)) n ≡ slice_get state n)
         × (slice_get (marks (unmarked state) (inside_writes state ws)) n ≡ slice_get (unmarked state) n) →
-        (slice_get (written state (cond b ((Some w.slot, term_value state [] w.value) ∷ []) [] ++ inside_writes state
-        ws)) n
+        (slice_get (written state (cond b ((Some w.slot, term_value state [] w.value) ∷ []) []
+        ++ inside_writes state ws)) n
         ≡ slice_get state n)
-        × (slice_get (marks (unmarked state) (cond b ((Some w.slot, term_value state [] w.value) ∷ []) [] ++
-        inside_writes state ws)) n
+        × (slice_get (marks (unmarked state) (cond b ((Some w.slot, term_value state [] w.value) ∷ []) []
+        ++ inside_writes state ws)) n
         ≡ slice_get (unmarked state) n)
     go false d rest = rest
     go true d rest = (
@@ -350,14 +349,15 @@ addable_now ranges next marked n r y z e narrow agree =
 
 -- one of the conditions of writes outside holds
 outside_fails : (ranges : Ranges) (state : State) (forms : List CForm) (ws : List Write) →
-    list_any (form_value state []) forms ≡ true → list_all (is_inside ranges) (outside_writes state forms ++ ws) ≡ false
+    list_any (form_value state []) forms ≡ true → list_all (is_inside ranges) (outside_writes state forms ++ ws) ≡
+    false
 outside_fails ranges state [] ws h = cc
 outside_fails ranges state (f ∷ forms) ws h =
     go (form_value state [] f) h (λ t. outside_fails ranges state forms ws t)
   where
     go : (b : Bool) → (b || list_any (form_value state []) forms) ≡ true →
-        (list_any (form_value state []) forms ≡ true → list_all (is_inside ranges) (outside_writes state forms ++ ws) ≡
-        false) →
+        (list_any (form_value state []) forms ≡ true → list_all (is_inside ranges)
+        (outside_writes state forms ++ ws) ≡ false) →
         list_all (is_inside ranges) ((cond b ((None, pos 0) ∷ []) [] ++ outside_writes state forms) ++ ws) ≡ false
     go true t rest = refl
     go false t rest = rest t
@@ -387,16 +387,16 @@ step_inside : (slots : List CSlot) (s : CStmt) (state : State) → list_any (for
 step_inside slots s state h =
     ap (λ xs. step (slot_ranges slots) (xs ++ inside_writes state s.writes) state) (none_outside state s.outside h)
 
-pub step_done : (slots : List CSlot) (s : CStmt) (state next : State) → list_any (form_value state []) s.outside ≡ false
-    →
+pub step_done : (slots : List CSlot) (s : CStmt) (state next : State) → list_any (form_value state []) s.outside
+    ≡ false →
     true ≡ is_defined (slot_ranges slots) (inside_writes state s.writes) →
     next ≡ written state (inside_writes state s.writes) → core_step slots s state ≡ Some next
 step_done slots s state next h d e =
     step_inside slots s state h
     ∙ ap (λ b. cond b (Some (written state (inside_writes state s.writes))) None) (sym d) ∙ ap Some (sym e)
 
-pub step_undefined : (slots : List CSlot) (s : CStmt) (state : State) → list_any (form_value state []) s.outside ≡ false
-    →
+pub step_undefined : (slots : List CSlot) (s : CStmt) (state : State) → list_any (form_value state []) s.outside
+    ≡ false →
     false ≡ is_defined (slot_ranges slots) (inside_writes state s.writes) → core_step slots s state ≡ None
 step_undefined slots s state h d =
     step_inside slots s state h

@@ -1,6 +1,6 @@
 -- The start state, from the entries that are put into the lowest numbers.
-use Rattle.std.proofs.Common.{◌≡◌, ℕ, zero, suc, ◌+◌, ◌<◌, ◌≤◌, nat_eq, ℤ, List, [], ◌∷◌, ◌++◌, map, length, Bool, cond}
-use Rattle.std.proofs.Common.{Some, refl, sym, ap, ◌∙◌, slice_set, arith, inl, inr}
+use Rattle.std.proofs.Common.{◌≡◌, ℕ, zero, suc, ◌+◌, ◌<◌, ◌≤◌, ℤ, List, [], ◌∷◌, ◌++◌, map, length, refl, sym, ap}
+use Rattle.std.proofs.Common.{◌∙◌, slice_set, arith, inl, inr}
 use Rattle.std.specs.Prelude.{unwrap_or}
 use Rattle.std.specs.List.{enumerate_from, filter_map}
 use Rattle.std.proofs.lemmas.List.Elements.{filter_map-append}
@@ -63,7 +63,8 @@ put_numbers j k zero z rest (s ∷ slots) e = elim (eqb_tells j k) [
 put_numbers j k (suc n) z rest (s ∷ slots) e = elim (eqb_tells j k) [
   | inl w ↦ absurd (omega arith)
   | inr w ↦
-      rw w.0 (ap (λ xs. unwrap_or (given rest k) s.range.lo ∷ xs) (put_numbers j (k + 1) n z rest slots (omega arith)))
+      rw w.0 (ap (λ xs. unwrap_or (given rest k) s.range.lo ∷ xs)
+      (put_numbers j (k + 1) n z rest slots (omega arith)))
 ]
 
 -- entries put into the lowest numbers give each slot the number of its first entry

@@ -1,5 +1,5 @@
 -- What can be evaluated at a state: each slot has a number, and it weighs at most what its range does.
-use Rattle.std.proofs.Common.{◌≡◌, ℕ, zero, suc, ◌<◌, ◌≤◌, ◌^◌, max, ℤ, List, [], ◌∷◌, length, ◌&&◌, IsTrue, Some, refl}
+use Rattle.std.proofs.Common.{◌≡◌, ℕ, zero, suc, ◌≤◌, ◌^◌, max, ℤ, List, [], ◌∷◌, length, IsTrue, Some, refl}
 use Rattle.std.proofs.Common.{slice_get, subst, le_refl, arith}
 use Rattle.std.proofs.lemmas.Int.{ints}
 use Rattle.std.specs.Prelude.{All}
@@ -13,7 +13,6 @@ use Rattle.core_terms.specs.declared.trees.CForm.{CForm}
 use Rattle.core_terms.specs.declared.programs.CSlot.{CSlot}
 use Rattle.core_terms.specs.declared.programs.CWrite.{CWrite}
 use Rattle.core_terms.specs.declared.programs.CStmt.{CStmt}
-use Rattle.core_terms.specs.Values.{number_at}
 use Rattle.core_terms.specs.Steps.{slot_ranges}
 use Rattle.core_terms.specs.Weights.{term_weights, form_weight, number_weight, place_weight, slot_weight}
 use Rattle.core_terms.specs.Places.{term_slots, form_slots, term_params, form_params}
@@ -31,7 +30,8 @@ state_length (s ∷ slots) (z ∷ zs) h =
     (is_state (slot_ranges slots) zs) h) in
     omega (arith, rest)
 
-within : (lo hi z : ℤ) → IsTrue (in_range (Some (lo, hi)) z) → unsigned_abs z ≤ max (unsigned_abs lo) (unsigned_abs hi)
+within : (lo hi z : ℤ) → IsTrue (in_range (Some (lo, hi)) z) → unsigned_abs z ≤ max (unsigned_abs lo)
+    (unsigned_abs hi)
 within lo hi z inside =
     let low = le-true lo z (and_left (int_le lo z) (int_le z hi) inside) in
     let high = le-true z hi (and_right (int_le lo z) (int_le z hi) inside) in
@@ -46,7 +46,8 @@ number_light (s ∷ slots) (z ∷ zs) h zero =
     let inside = and_left (in_range (Some (s.range.lo, s.range.hi)) z) (is_state (slot_ranges slots) zs) h in
     omega (arith, within s.range.lo s.range.hi z inside)
 number_light (s ∷ slots) (z ∷ zs) h (suc n) =
-    number_light slots zs (and_right (in_range (Some (s.range.lo, s.range.hi)) z) (is_state (slot_ranges slots) zs) h) n
+    number_light slots zs (and_right (in_range (Some (s.range.lo, s.range.hi)) z) (is_state (slot_ranges slots) zs) h)
+    n
 
 none_light : (n : ℕ) → number_weight [] n ≤ place_weight [] n
 none_light n = le_refl 1
@@ -91,15 +92,11 @@ write_fits : (slots : List CSlot) (w : CWrite) → WriteFits slots w → WriteRu
 write_fits slots w fits = (
   fits.target,
   form_fits slots w.when fits.condition,
-  (
-    fits.value.slots_exist,
-    fits.value.params_exist,
-    fits.value.weight,
-  ),
+  (fits.value.slots_exist, fits.value.params_exist, fits.value.weight),
 )
 
-all_at : {X : Type 0} (P : X → Type 0) (xs : List X) → All P xs → (place : ℕ) (x : X) → slice_get xs place ≡ Some x → P
-    x
+pub all_at : {X : Type 0} (P : X → Type 0) (xs : List X) → All P xs → (place : ℕ) (x : X) → slice_get xs place
+    ≡ Some x → P x
 all_at P xs all place x e =
     subst P (get_or_from_slice_get xs place x x e) (all place x (slice_get_within xs place x e))
 

@@ -1,7 +1,7 @@
 -- A step in the making: the next state and the slots that it changes, while writes are added from the last to the
 -- first.
-use Rattle.std.specs.Prelude.{◌≡◌, ℕ, nat_eq, ℤ, pos, List, [], ◌∷◌, map, Bool, true, false, cond, not, ◌&&◌, ◌||◌}
-use Rattle.std.specs.Prelude.{Some, None, IsTrue, slice_get, slice_set, slice_index_or}
+use Rattle.std.specs.Prelude.{◌≡◌, ℕ, nat_eq, ℤ, List, [], ◌∷◌, map, Bool, true, false, cond, not, ◌&&◌, ◌||◌, Some}
+use Rattle.std.specs.Prelude.{None, IsTrue, slice_get, slice_set, slice_index_or}
 use Rattle.std.specs.List.{list_any}
 use Rattle.state_steps.specs.State.{State, Ranges, int_eq, in_range}
 use Rattle.state_steps.specs.Step.{Write, is_defined, written}

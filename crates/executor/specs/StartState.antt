@@ -1,7 +1,7 @@
 -- The start state of a program: the values of its start section, else those that conjuncts of its initially
 -- section fix, else the lowest.
-use Rattle.std.specs.Prelude.{ℕ, nat_eq, ℤ, pos, List, [], ◌∷◌, ◌++◌, map, Bool, true, false, cond, ◌&&◌, Option, Some}
-use Rattle.std.specs.Prelude.{None, unwrap_or, slice_get, option_and_then}
+use Rattle.std.specs.Prelude.{ℕ, nat_eq, ℤ, pos, List, [], ◌∷◌, ◌++◌, map, Bool, true, false, cond, ◌&&◌, Option}
+use Rattle.std.specs.Prelude.{Some, None, unwrap_or, slice_get, option_and_then}
 use Rattle.std.specs.Option.{option_map}
 use Rattle.std.specs.List.{filter_map, enumerate_from}
 use Rattle.state_steps.specs.State.{State, int_eq, in_range}

@@ -97,11 +97,11 @@ fn add_write(
     requires fits { WriteRuns slots.now write.now }
     requires next { length next.old ≡ length state.now }
     requires marked { length marked.old ≡ length state.now }
-    ensures added { IsTrue result → (ws : List Write) → IsPrepared (slot_ranges slots.now) state.now next.old marked.old
-        ws →
+    ensures added { IsTrue result → (ws : List Write) →
+        IsPrepared (slot_ranges slots.now) state.now next.old marked.old ws →
         IsPrepared (slot_ranges slots.now) state.now next.new marked.new (write_at state.now write.now ++ ws) }
-    ensures refused { result ≡ false → (ws : List Write) → IsPrepared (slot_ranges slots.now) state.now next.old
-        marked.old ws →
+    ensures refused { result ≡ false → (ws : List Write) →
+        IsPrepared (slot_ranges slots.now) state.now next.old marked.old ws →
         is_defined (slot_ranges slots.now) (write_at state.now write.now ++ ws) ≡ false }
     ensures next { result ≡ false → next.new ≡ next.old }
     ensures marked { result ≡ false → marked.new ≡ marked.old }

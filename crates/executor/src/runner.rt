@@ -95,8 +95,8 @@ impl<'a> Runner<'a> {
     pub fn step(&mut self, choice: u32) -> Stepped
         requires { choice < length (program_of self.old).statements }
         ensures done { result ≡ Stepped.Done →
-            chosen_step (slots_of self.old) (program_of self.old) choice (state_of self.old) ≡
-            Some (state_of self.new) }
+            chosen_step (slots_of self.old) (program_of self.old) choice (state_of self.old)
+            ≡ Some (state_of self.new) }
         ensures undefined { result ≡ Stepped.Undefined →
             chosen_step (slots_of self.old) (program_of self.old) choice (state_of self.old) ≡ None }
         ensures unchanged { result ≡ Stepped.Undefined → state_of self.new ≡ state_of self.old }

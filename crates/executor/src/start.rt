@@ -1,8 +1,10 @@
 // The start state of a program.
-ghost use Rattle.std.specs.Prelude.{◌≡◌, ◌∷◌, [], IfOk, option_and_then, slice_get};
+ghost use Rattle.std.specs.Prelude.{◌≡◌, ◌∷◌, [], IfOk, IsTrue, All, option_and_then, slice_get};
 ghost use Rattle.std.specs.List.{filter_map};
-ghost use Rattle.state_steps.specs.State.{in_range};
+ghost use Rattle.state_steps.specs.State.{in_range, is_state};
 ghost use Rattle.state_steps.specs.Step.{put};
+ghost use Rattle.core_terms.specs.Conditions.{IsSlot, IsProgram};
+ghost use Rattle.core_terms.specs.Steps.{slot_ranges};
 ghost use Rattle.executor.specs.StartState as start;
 ghost use Rattle.executor.specs.Placing.{placed, lowest};
 
@@ -16,7 +18,11 @@ use unity_base::Seq;
 ///
 /// An error says that memory was refused.
 pub fn start_of(alloc: Global, p: &CProgram, slots: &[CSlot]) -> Result<Seq<i64>, AllocError>
-    ensures { IfOk result (λ state. state ≡ start.start_state slots.now p.now) }
+    ensures numbers { IfOk result (λ state. state ≡ start.start_state slots.now p.now) }
+
+    // For a program of a document it is a state.
+    ensures ranges { IfOk result (λ state. All IsSlot slots.now → IsProgram slots.now p.now →
+        IsTrue (is_state (slot_ranges slots.now) state)) }
 {
     let mut state = lowest_numbers(alloc, slots)?;
     put_fixed(&mut state, slots, &p.initially);

@@ -1,6 +1,6 @@
 -- Bits of words as marks.
-use Rattle.std.proofs.Common.{◌≡◌, ℕ, zero, suc, ◌*◌, ◌/◌, ◌%◌, ◌^◌, ◌<◌, List, true, false, ◌||◌, refl, nat_eq, arith}
-use Rattle.std.proofs.Common.{sym, ap, ◌∙◌, inl, inr, length, slice_set, slice_index_or, bit_or, w64}
+use Rattle.std.proofs.Common.{◌≡◌, ℕ, zero, suc, ◌*◌, ◌/◌, ◌%◌, ◌^◌, ◌<◌, List, true, false, ◌||◌, refl, nat_eq}
+use Rattle.std.proofs.Common.{arith, sym, ap, ◌∙◌, inl, inr, length, slice_set, slice_index_or, bit_or, w64}
 use Rattle.std.specs.Prelude.{◌≢◌, ◌⊎◌}
 use Rattle.std.specs.Int.{bit_at}
 use Rattle.std.proofs.Math.ListN.{replicate}
@@ -29,7 +29,8 @@ in_word : (words : List ℕ) (n m : ℕ) → n / 64 < length words → m / 64 �
 in_word words n m inside e (inl same) =
     ap (λ i. nat_eq (bit_at (slice_index_or (with_bit words n) i 0) (m % 64)) 1) e
     ∙ ap (λ w. nat_eq (bit_at w (m % 64)) 1) (get_or-set_same words (n / 64) _ 0 inside)
-    ∙ ap (λ i. nat_eq (bit_at (bit_or (slice_index_or words (n / 64) 0) (1 * 2 ^ (n % 64) % 18446744073709551616)) i) 1)
+    ∙ ap (λ i. nat_eq (bit_at (bit_or (slice_index_or words (n / 64) 0) (1 * 2 ^ (n % 64) % 18446744073709551616)) i)
+    1)
     same.1
     ∙ ap (λ b. nat_eq b 1) (bit_at_set_same w64 (slice_index_or words (n / 64) 0) (n % 64) (below_64 n))
     ∙ sym (ap (λ b. b || is_marked words m) (eq-eqb m n (from_parts m n e same.1)))

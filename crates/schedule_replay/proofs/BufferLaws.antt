@@ -1,6 +1,6 @@
 -- A text that is put piece by piece.
-use Rattle.std.proofs.Common.{◌≡◌, ◌+◌, ◌<◌, ◌++◌, ℕ, List, [], true, false, Option, Result, OnOk, OnErr, Ok, Err, refl}
-use Rattle.std.proofs.Common.{sym, ap, ◌∙◌, subst, length, take, arith, append_assoc, append-nil}
+use Rattle.std.proofs.Common.{◌≡◌, ◌+◌, ◌<◌, ◌++◌, ℕ, List, [], true, false, Option, Result, OnOk, OnErr, Ok, Err}
+use Rattle.std.proofs.Common.{refl, sym, ap, ◌∙◌, subst, length, take, arith, append_assoc, append-nil}
 use Rattle.std.specs.Prelude.{is_err}
 use Rattle.std.proofs.lemmas.Grind.{common_steps}
 use lib.Seq.{take-append-add}
@@ -20,11 +20,13 @@ part_front a b p q h = record {
   count = h.count;
   fewer = let k = h.count in let few : k < length p = h.fewer in grind (arith, common_steps);
   appends = let k = h.count in let few : k < length p = h.fewer in
-      let front : take k (p ++ q) ≡ take k p = grind (arith, common_steps) in subst (Appends a b) (sym front) h.appends;
+      let front : take k (p ++ q) ≡ take k p = grind (arith, common_steps) in subst (Appends a b) (sym front)
+      h.appends;
 }
 
 -- the first piece, and then a part of the second
-pub part_after : (a b c : Option (List ℕ)) (p q : List ℕ) → Appends a b p → AppendsPart b c q → AppendsPart a c (p ++ q)
+pub part_after : (a b c : Option (List ℕ)) (p q : List ℕ) → Appends a b p → AppendsPart b c q → AppendsPart a c
+    (p ++ q)
 part_after a b c p q first h = record {
   count = length p + h.count;
   fewer = let k = h.count in let few : k < length q = h.fewer in grind (arith, common_steps);
@@ -112,8 +114,8 @@ line_part new (Ok x) fresh put done = tt
 line_part {T} {E} {old} {mid} {before} {between} {b} {c} {text} new (Err e) fresh put done =
     done old before text (put.adds old before [] (fresh old before))
 
-pub line_cause : {T E : Type 0} {old mid : Option (List ℕ)} {before between after : ℕ} {b c : Buffer} {text : List ℕ}
-    (r : Result T E) →
+pub line_cause : {T E : Type 0} {old mid : Option (List ℕ)} {before between after : ℕ} {b c : Buffer}
+    {text : List ℕ} (r : Result T E) →
     ((o : Option (List ℕ)) (n : ℕ) → IsSoFar o o n n b []) → IsPut old mid before between b c text →
     ((o : Option (List ℕ)) (n : ℕ) (t : List ℕ) → IsSoFar o mid n between c t → HasCause n after r) →
     HasCause before after r

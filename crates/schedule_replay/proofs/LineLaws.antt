@@ -33,8 +33,8 @@ join_more z [] = append-nil (signed_decimal z)
 join_more z (y ∷ ys) = ap (λ t. signed_decimal z ++ (44 ∷ t)) (join_more y ys)
 
 pub indices_joined : (zs : List ℤ) → 1 ≤ length zs →
-    codes "[" ++ (signed_decimal (get_or zs 0 (pos 0)) ++ flat_map (λ z. codes "," ++ signed_decimal z) (drop 1 zs)) ++
-    codes "]"
+    codes "[" ++ (signed_decimal (get_or zs 0 (pos 0)) ++ flat_map (λ z. codes "," ++ signed_decimal z) (drop 1 zs))
+    ++ codes "]"
     ≡ indices_text zs
 unfolding more_indices
 indices_joined [] h = absurd (omega arith)

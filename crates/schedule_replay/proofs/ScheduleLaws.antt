@@ -1,6 +1,6 @@
 -- Where the instances stand that choices name.
-use Rattle.std.proofs.Common.{◌≡◌, ℕ, zero, suc, ◌+◌, ◌<◌, nat_eq, length, List, [], ◌∷◌, map, take, Bool, true, false}
-use Rattle.std.proofs.Common.{cond, Some, None, refl, sym, ap, ◌∙◌, slice_get, arith}
+use Rattle.std.proofs.Common.{◌≡◌, ℕ, zero, suc, ◌+◌, ◌<◌, nat_eq, length, List, [], ◌∷◌, map, take, Bool, true}
+use Rattle.std.proofs.Common.{false, cond, Some, None, refl, sym, ap, ◌∙◌, slice_get, arith}
 use Rattle.std.specs.Prelude.{All, is_none}
 use Rattle.std.specs.List.{position_from}
 use Rattle.std.specs.Ordering.{int_eq}
@@ -42,8 +42,8 @@ named_at ss c place s apart e h =
     other j y less there true test =
         let labels = same_label y.label c.label (and_left (nat_eq y.label c.label)
         (pointwise int_eq y.indices c.indices) test)
-        ∙ sym (same_label s.label c.label (and_left (nat_eq s.label c.label) (pointwise int_eq s.indices c.indices) h))
-        in
+        ∙ sym (same_label s.label c.label (and_left (nat_eq s.label c.label)
+        (pointwise int_eq s.indices c.indices) h)) in
         let indices = (signed_items y.indices c.indices).0
         (and_right (nat_eq y.label c.label) (pointwise int_eq y.indices c.indices) test)
         ∙ sym ((signed_items s.indices c.indices).0

@@ -33,8 +33,8 @@ impl Buffer {
 
     /// Puts a piece at the end of the text.
     pub fn put<K: Sink>(&mut self, out: &mut K, piece: &[u8])
-        ensures { IsPut (K.written out.old) (K.written out.new) (K.faults out.old) (K.faults out.new) self.old self.new
-            piece.now }
+        ensures { IsPut (K.written out.old) (K.written out.new) (K.faults out.old)
+            (K.faults out.new) self.old self.new piece.now }
     {
         if piece.len() <= ROOM - self.len {
             self.bytes[self.len..self.len + piece.len()].copy_from_slice(piece);
@@ -46,8 +46,8 @@ impl Buffer {
 
     // Writes what waits, and a piece after it.
     fn send<K: Sink>(&mut self, out: &mut K, piece: &[u8])
-        ensures put { IsPut (K.written out.old) (K.written out.new) (K.faults out.old) (K.faults out.new) self.old
-            self.new piece.now }
+        ensures put { IsPut (K.written out.old) (K.written out.new) (K.faults out.old)
+            (K.faults out.new) self.old self.new piece.now }
         ensures none_waits { self.new.failed ≡ false → self.new.len ≡ 0 }
     {
         if self.failed {
@@ -62,11 +62,11 @@ impl Buffer {
         ensures whole { OnOk result ((old : Option (List ℕ)) (count : ℕ) (text : List ℕ) →
             IsSoFar old (K.written out.old) count (K.faults out.old) self text → Appends old (K.written out.new) text) }
         ensures part { OnErr result ((old : Option (List ℕ)) (count : ℕ) (text : List ℕ) →
-            IsSoFar old (K.written out.old) count (K.faults out.old) self text → AppendsPart old (K.written out.new)
-            text) }
+            IsSoFar old (K.written out.old) count (K.faults out.old) self text → AppendsPart old
+            (K.written out.new) text) }
         ensures cause { (old : Option (List ℕ)) (count : ℕ) (text : List ℕ) →
-            IsSoFar old (K.written out.old) count (K.faults out.old) self text → HasCause count (K.faults out.new)
-            result }
+            IsSoFar old (K.written out.old) count (K.faults out.old) self text → HasCause count
+            (K.faults out.new) result }
     {
         self.send(out, &[]);
         if self.failed { Err(Failed) } else { Ok(()) }

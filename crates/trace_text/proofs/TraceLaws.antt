@@ -1,6 +1,7 @@
 -- The choices of a trace one by one, and the text that is to come.
-use Rattle.std.proofs.Common.{◌≡◌, ℕ, zero, suc, ◌+◌, ◌-◌, ◌%◌, ◌^◌, min, ◌<◌, ◌≤◌, List, [], ◌∷◌, ◌++◌, take, drop}
-use Rattle.std.proofs.Common.{length, Option, Some, None, refl, sym, ap, ◌∙◌, subst, slice_get, arith}
+use Rattle.std.proofs.Common.{option_and_then, ◌≡◌, ℕ, zero, suc, ◌+◌, ◌-◌, ◌%◌, ◌^◌, min, ◌<◌, ◌≤◌, List, [], ◌∷◌}
+use Rattle.std.proofs.Common.{◌++◌, take, drop, length, Option, Some, None, refl, sym, ap, ◌∙◌, subst, slice_get}
+use Rattle.std.proofs.Common.{arith}
 use Rattle.std.specs.Prelude.{IfSome}
 use Rattle.std.specs.Option.{option_map}
 use Rattle.std.specs.List.{range_with_len}
@@ -13,7 +14,12 @@ use Rattle.fair_rounds.proofs.CountLaws.{few_rounds}
 use Rattle.core_terms.specs.declared.programs.CProgram.{CProgram}
 use Rattle.core_terms.specs.declared.documents.CDocument.{CDocument}
 use Rattle.executor.specs.declared.runner.Stepped.{Stepped}
-use Rattle.executor.specs.Running.{chosen_step}
+use Rattle.unity_meaning.specs.Execution.{System, act_step, chosen_step}
+use Rattle.core_terms.specs.declared.programs.CSlot.{CSlot}
+use Rattle.core_terms.specs.declared.programs.CStmt.{CStmt}
+use Rattle.core_terms.specs.Steps.{core_step}
+use Rattle.fair_rounds.specs.Records.{core_system}
+use Rattle.executor.specs.Running as runner
 use Rattle.schedule_replay.specs.Schedules.{turns}
 use Rattle.trace_text.specs.declared.choices.Choices.{Choices}
 use Rattle.trace_text.specs.Choices.{choices_of, AreAmong}
@@ -64,17 +70,28 @@ take_next cs n c e = go cs n e ∙ ap (λ k. take k cs) (let same : suc n ≡ n 
     go (x ∷ xs) (suc n) e = ap (λ ys. x ∷ ys) (go xs n e)
 
 -- the text from a choice on
-pub steps_next : (d : CDocument) (p : CProgram) (last : List ℕ) (n c : ℕ) (state : State) (cs : List ℕ) →
+pub steps_next : (d : CDocument) (p : CProgram) (x : System) (last : List ℕ) (n c : ℕ) (state : State) (cs : List ℕ) →
     slice_get cs n ≡ Some c →
-    steps_text d p last n state (drop n cs) ≡ step_line d p (n + 1) c (chosen_step d.slots p c state)
-    ++ following (λ next. steps_text d p last (n + 1) next (drop (n + 1) cs)) (chosen_step d.slots p c state)
-steps_next d p last n c state cs e = ap (steps_text d p last n state) (drop_next cs n c e)
+    steps_text d p x last n state (drop n cs) ≡ step_line d p (n + 1) c (chosen_step x c state)
+    ++ following (λ next. steps_text d p x last (n + 1) next (drop (n + 1) cs)) (chosen_step x c state)
+steps_next d p x last n c state cs e = ap (steps_text d p x last n state) (drop_next cs n c e)
 
-pub defined_next : (d : CDocument) (p : CProgram) (n c : ℕ) (state : State) (cs : List ℕ) →
-    slice_get cs n ≡ Some c →
-    all_defined d.slots p state (drop n cs)
-    ≡ and_then_all (λ next. all_defined d.slots p next (drop (n + 1) cs)) (chosen_step d.slots p c state)
-defined_next d p n c state cs e = ap (all_defined d.slots p state) (drop_next cs n c e)
+pub defined_next : (x : System) (n c : ℕ) (state : State) (cs : List ℕ) → slice_get cs n ≡ Some c →
+    all_defined x state (drop n cs)
+    ≡ and_then_all (λ next. all_defined x next (drop (n + 1) cs)) (chosen_step x c state)
+defined_next x n c state cs e = ap (all_defined x state) (drop_next cs n c e)
+
+-- the step of a runner is that of its program as executions see it
+pub core_chosen : (slots : List CSlot) (p : CProgram) (choice : ℕ) (state : State) →
+    runner.chosen_step slots p choice state ≡ chosen_step (core_system slots p) choice state
+core_chosen slots p choice state =
+    go (slice_get p.statements choice)
+    ∙ ap (act_step state) (sym (slice_get-map (core_step slots) p.statements choice))
+  where
+    go : (o : Option CStmt) →
+        option_and_then (λ s. core_step slots s state) o ≡ act_step state (option_map (core_step slots) o)
+    go None = refl
+    go (Some s) = refl
 
 -- a step that is undefined gives no state, and one that is done gives one
 pub no_next : (o : Option State) (s : Stepped) → s ≡ stepped o → s ≡ Stepped.Undefined → o ≡ None

@@ -1,2 +1,4 @@
 pub mod Choices
 pub mod Traces
+pub mod Cores
+pub mod Laws

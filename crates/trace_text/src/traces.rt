@@ -2,11 +2,10 @@
 ghost use Rattle.std.specs.Prelude.{◌≡◌, ◌<◌, ◌≤◌, length, IfOk, IfSome, OnOk, OnErr};
 ghost use Rattle.std.specs.Io.KnownBytes.{Appends};
 ghost use Rattle.unity_base.specs.Streams.{AppendsPart, HasCause};
-ghost use Rattle.unity_meaning.specs.Rounds.{rounds};
 ghost use Rattle.executor.specs.Running.{program_of, slots_of, state_of, chosen_step};
-ghost use Rattle.schedule_replay.specs.Lines.{rounds_line};
-ghost use Rattle.trace_text.specs.Choices.{choices_of, AreAmong};
-ghost use Rattle.trace_text.specs.Traces.{step_line, steps_text, trace_text, stepped, ending, all_defined};
+ghost use Rattle.trace_text.specs.Choices.{AreAmong};
+ghost use Rattle.trace_text.specs.Traces.{step_line, stepped};
+ghost use Rattle.trace_text.specs.Cores.{core_steps, core_trace, core_ending};
 
 use crate::choices::Choices;
 use core_terms::{CDocument, CProgram};
@@ -34,11 +33,10 @@ pub fn write_trace<K: Sink>(
     requires few { length p.now.statements ≤ 4096 }
     requires instances { AreAmong (length p.now.statements) choices.now }
     ensures whole { OnOk result (Appends (K.written out.old) (K.written out.new)
-        (trace_text doc.now p.now heading (state_of runner.old) (choices_of (length p.now.statements) choices.now))) }
-    ensures ending { IfOk result (λ end. end ≡ ending
-        (all_defined doc.now.slots p.now (state_of runner.old) (choices_of (length p.now.statements) choices.now))) }
+        (core_trace doc.now p.now heading (state_of runner.old) choices.now)) }
+    ensures ending { IfOk result (λ end. end ≡ core_ending doc.now p.now (state_of runner.old) choices.now) }
     ensures part { OnErr result (AppendsPart (K.written out.old) (K.written out.new)
-        (trace_text doc.now p.now heading (state_of runner.old) (choices_of (length p.now.statements) choices.now))) }
+        (core_trace doc.now p.now heading (state_of runner.old) choices.now)) }
     ensures cause { HasCause (K.faults out.old) (K.faults out.new) result }
 {
     write_heading(doc, p, heading, out)?;
@@ -60,15 +58,10 @@ fn write_steps<K: Sink>(
     requires few { length p.now.statements ≤ 4096 }
     requires instances { AreAmong (length p.now.statements) choices.now }
     ensures whole { OnOk result (Appends (K.written out.old) (K.written out.new)
-        (steps_text doc.now p.now (rounds_line (rounds (choices_of (length p.now.statements) choices.now)
-        (length p.now.statements)))
-        0 (state_of runner.old) (choices_of (length p.now.statements) choices.now))) }
-    ensures ending { IfOk result (λ end. end ≡ ending
-        (all_defined doc.now.slots p.now (state_of runner.old) (choices_of (length p.now.statements) choices.now))) }
+        (core_steps doc.now p.now (state_of runner.old) choices.now)) }
+    ensures ending { IfOk result (λ end. end ≡ core_ending doc.now p.now (state_of runner.old) choices.now) }
     ensures part { OnErr result (AppendsPart (K.written out.old) (K.written out.new)
-        (steps_text doc.now p.now (rounds_line (rounds (choices_of (length p.now.statements) choices.now)
-        (length p.now.statements)))
-        0 (state_of runner.old) (choices_of (length p.now.statements) choices.now))) }
+        (core_steps doc.now p.now (state_of runner.old) choices.now)) }
     ensures cause { HasCause (K.faults out.old) (K.faults out.new) result }
 {
     let k = instances(p);

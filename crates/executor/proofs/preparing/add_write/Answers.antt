@@ -44,6 +44,6 @@ returns-clause-refused c =
     let size = state_length c.args.slots.now c.args.state.now c.requires.state in
     let inside : c.args.write.now.slot < length c.args.state.now = omega (arith, size, c.requires.fits.0) in
     let number : to_z w128 (of_z w128 c.value-number.result) ≡ c.value-number.result = search rules in
-    refused (slot_ranges c.args.slots.now) c.args.state.now c.args.next.now c.args.marked.now c.args.write.now _
-    c.give_number.result holds (number ∙ c.value-number.ensures.value)
+    refused (slot_ranges c.args.slots.now) c.args.state.now c.args.next.now c.args.marked.now
+    c.args.write.now _ c.give_number.result holds (number ∙ c.value-number.ensures.value)
     inside c.give_number.ensures.addable

@@ -16,8 +16,8 @@ returns-clause-addable c =
     let same : to_z w64 (of_z w64 c.in-Some.number) ≡ c.in-Some.number = search rules in
     let slot = c.index-slots-place.result in
     let found = get_or c.args.slots.now c.args.slot slot in
-    let wide = subst (λ z. Some c.in-Some.number ≡ cond (in_range (Some (found.range.lo, found.range.hi)) z) (Some z)
-    None)
+    let wide = subst (λ z. Some c.in-Some.number ≡ cond (in_range (Some (found.range.lo, found.range.hi)) z)
+    (Some z) None)
     number c.in-Some.ensures in
     let narrow = subst (λ (s : CSlot). Some c.in-Some.number
     ≡ cond (in_range (Some (s.range.lo, s.range.hi)) c.args.number) (Some c.args.number) None)
@@ -25,8 +25,8 @@ returns-clause-addable c =
     addable_now (slot_ranges c.args.slots.now) c.args.next.now c.args.marked.now c.args.slot
     (slot.range.lo, slot.range.hi) c.in-Some.number c.args.number
     (range_slot c.args.slots.now c.args.slot slot c.requires.slot c.index-slots-place.is) narrow
-    (subst (λ z. (not (get_or c.args.marked.now c.args.slot false) || int_eq z (number_at c.args.next.now c.args.slot))
-    ≡ true)
+    (subst (λ z. (not (get_or c.args.marked.now c.args.slot false) || int_eq z
+    (number_at c.args.next.now c.args.slot)) ≡ true)
     same (sym c.if-not-agrees.ensures))
 
 pub returns-clause-put : goal.returns-clause-put
@@ -34,8 +34,8 @@ returns-clause-put c =
     let number : to_z w128 (of_z w128 c.args.number) ≡ c.args.number = search rules in
     let found = get_or c.args.slots.now c.args.slot c.index-slots-place.result in
     let same : c.in-Some.number ≡ c.args.number =
-    narrow_same (found.range.lo, found.range.hi) c.in-Some.number (to_z w128 (of_z w128 c.args.number))
-    c.in-Some.ensures
+    narrow_same (found.range.lo, found.range.hi) c.in-Some.number
+    (to_z w128 (of_z w128 c.args.number)) c.in-Some.ensures
     ∙ number in
     let k : slice_set c.args.next.now c.args.slot c.in-Some.number ≡ put c.args.next.now c.args.slot c.args.number =
     put-slice_set c.args.next.now c.args.slot c.in-Some.number ∙ ap (put c.args.next.now c.args.slot) same in

@@ -4,20 +4,20 @@ use Rattle.schedule_replay.proofs.lines.write_undefined.Goals as goal
 pub returns-clause-whole : goal.returns-clause-whole
 returns-clause-whole g c =
     line_whole (g.K.Sink.written c.finish.new.out) c.finish.result c.new-text.ensures
-    (put_then (put_then (put_then (put_then c.put.ensures c.put_number.ensures) c.put-2.ensures) c.put_chosen.ensures)
-    c.put-3.ensures)
+    (put_then (put_then (put_then
+    (put_then c.put.ensures c.put_number.ensures) c.put-2.ensures) c.put_chosen.ensures) c.put-3.ensures)
     c.finish.ensures.whole
 
 pub returns-clause-part : goal.returns-clause-part
 returns-clause-part g c =
     line_part (g.K.Sink.written c.finish.new.out) c.finish.result c.new-text.ensures
-    (put_then (put_then (put_then (put_then c.put.ensures c.put_number.ensures) c.put-2.ensures) c.put_chosen.ensures)
-    c.put-3.ensures)
+    (put_then (put_then (put_then
+    (put_then c.put.ensures c.put_number.ensures) c.put-2.ensures) c.put_chosen.ensures) c.put-3.ensures)
     c.finish.ensures.part
 
 pub returns-clause-cause : goal.returns-clause-cause
 returns-clause-cause g c =
     line_cause c.finish.result c.new-text.ensures
-    (put_then (put_then (put_then (put_then c.put.ensures c.put_number.ensures) c.put-2.ensures) c.put_chosen.ensures)
-    c.put-3.ensures)
+    (put_then (put_then (put_then
+    (put_then c.put.ensures c.put_number.ensures) c.put-2.ensures) c.put_chosen.ensures) c.put-3.ensures)
     c.finish.ensures.cause

@@ -7,5 +7,5 @@ use Rattle.schedule_replay.proofs.replay.statements_of.Given as goal
 
 abbrev pub invariant-loop-p : goal.invariant-loop-p
 invariant-loop-p l = statements_of l.doc l.name
-    ≡ option_map_or (λ (p : CProgram). p.statements) (find (λ (p : CProgram). nat_eq p.name l.name)
-    (drop l.p-index l.p-items)) []
+    ≡ option_map_or (λ (p : CProgram). p.statements)
+    (find (λ (p : CProgram). nat_eq p.name l.name) (drop l.p-index l.p-items)) []

@@ -3,6 +3,7 @@ use Rattle.std.specs.Io.KnownBytes.{Appends}
 use Rattle.std.proofs.KnownBytes.{Appends-trans}
 use Rattle.unity_base.specs.Streams.{AppendsPart}
 use Rattle.unity_meaning.specs.Rounds.{rounds}
+use Rattle.fair_rounds.specs.Records.{core_system}
 use Rattle.executor.specs.Running.{state_of}
 use Rattle.schedule_replay.specs.Lines.{heading_line, state_line, rounds_line}
 use Rattle.schedule_replay.proofs.BufferLaws.{on_err, part_front, part_after, part_second}
@@ -19,7 +20,7 @@ returns-in_err-write_line-clause-part g c =
     let start = state_of c.args.runner.now in
     let first = heading_line d p c.args.heading in
     let second = state_line d p 0 None start in
-    let rest = steps_text d p (rounds_line (rounds cs k)) 0 start cs in
+    let rest = steps_text d p (core_system d.slots p) (rounds_line (rounds cs k)) 0 start cs in
     let old = g.K.Sink.written c.args.out.now in
     let new = g.K.Sink.written c.write_line.new.out in
     on_err c.from_residual-in_err-write_line.result _
@@ -37,11 +38,11 @@ returns-clause-part g c =
     let start = state_of c.args.runner.now in
     let first = heading_line d p c.args.heading in
     let second = state_line d p 0 None start in
-    let rest = steps_text d p (rounds_line (rounds cs k)) 0 start cs in
+    let rest = steps_text d p (core_system d.slots p) (rounds_line (rounds cs k)) 0 start cs in
     let old = g.K.Sink.written c.args.out.now in
     let mid = g.K.Sink.written c.write_line.new.out in
-    let line = subst (λ s. Appends (g.K.Sink.written c.write_heading.new.out) mid (state_line d p 0 None s))
-    c.state.ensures
+    let line = subst (λ s. Appends (g.K.Sink.written c.write_heading.new.out) mid
+    (state_line d p 0 None s)) c.state.ensures
     c.in_ok-write_line.ensures.whole in
     part_second old mid (g.K.Sink.written c.write_steps.new.out) (first ++ second) rest c.write_steps.result
     (Appends-trans old _ mid first second c.in_ok-write_heading.ensures.whole line) c.write_steps.ensures.part

@@ -17,8 +17,8 @@ returns-else-self-clause-whole g c = λ old count text s.
     let end = (c.send.ensures.put.adds old count text s).sent c.if-self.false in
     let none : take c.send.new.self.len c.send.new.self.bytes ≡ [] =
     ap (λ n. take n c.send.new.self.bytes) (c.send.ensures.none_waits c.if-self.false) in
-    subst (Appends old _) (sym (append-nil end.sent) ∙ ap (λ w. end.sent ++ w) (sym none) ∙ sym end.whole ∙ append-nil
-    text)
+    subst (Appends old _) (sym (append-nil end.sent) ∙ ap (λ w. end.sent ++ w) (sym none) ∙ sym end.whole
+    ∙ append-nil text)
     end.appended
 
 pub returns-else-self-clause-cause : goal.returns-else-self-clause-cause
