@@ -135,7 +135,8 @@ both_well : (t u : Well) (rs pre post : List Range) (v : ℕ → Bool) (next : �
     ((k : ℕ) → IsTrue (v k) → k < length pre) →
     Sees (parts_of t.0 v) → Sees (parts_of u.0 v) →
     rs ≡ pre ++ ((bound_ranges t.0 ++ bound_ranges u.0) ++ post) →
-    WellBound rs (bound_ranges t.0 ++ bound_ranges u.0) (is_well_bound rs t.0 && is_well_bound rs u.0) (length pre) next
+    WellBound rs (bound_ranges t.0 ++ bound_ranges u.0) (is_well_bound rs t.0 && is_well_bound rs u.0) (length pre)
+    next
 both_well t u rs pre post v next e below sees_t sees_u are =
     let middle = both_of (numbered u.0) (numbered t.0 (length pre)) next e in
     let m : ℕ = middle.0 in

@@ -1,6 +1,7 @@
 -- What `weaken`, the pair rules and instances give stands.
-use Rattle.std.proofs.Common.{◌≡◌, ℕ, zero, suc, nat_eq, ℤ, pos, ◌+ℤ◌, List, [], ◌∷◌, ◌++◌, map, Bool, true, false, not}
-use Rattle.std.proofs.Common.{◌&&◌, ◌||◌, Option, Some, None, Ok, IsTrue, refl, sym, ap, ◌∙◌, subst, slice_get, arith}
+use Rattle.std.proofs.Common.{◌≡◌, ℕ, zero, suc, nat_eq, ℤ, pos, ◌+ℤ◌, List, [], ◌∷◌, ◌++◌, map, Bool, true, false}
+use Rattle.std.proofs.Common.{not, ◌&&◌, ◌||◌, Option, Some, None, Ok, IsTrue, refl, sym, ap, ◌∙◌, subst, slice_get}
+use Rattle.std.proofs.Common.{arith}
 use Rattle.std.specs.List.{list_all, list_any}
 use Rattle.std.proofs.lemmas.Int.{ints}
 use borrow.Author.Differences.{le-true}
@@ -75,7 +76,8 @@ of_second site closed one two s h =
     (all_append (λ f. form_value s [] f) one two here.parts).1
 
 pub of_both : (site : Site) → AreClosed site.using → (one two : List CForm) →
-    Implies (meets site.slots (under_with site (one ++ two))) (both_hold (meets site.slots one) (meets site.slots two))
+    Implies (meets site.slots (under_with site (one ++ two)))
+    (both_hold (meets site.slots one) (meets site.slots two))
 of_both site closed one two s h = both_true (meets site.slots one s) (meets site.slots two s)
     (of_first site closed one two s h) (of_second site closed one two s h)
 
@@ -274,7 +276,8 @@ unlesses : (site : Site) (good : IsSite site) (a b : Record) → IsPremise site 
     StandsWhereValid site (needs (is_unless a.kind && is_unless b.kind) Code.WrongKind
     (paired site Kind.Unless None p q a b))
 unlesses site good a b pa pb p q rule d e valid =
-    let asked = met (is_unless a.kind && is_unless b.kind) Code.WrongKind (paired site Kind.Unless None p q a b) d e in
+    let asked = met (is_unless a.kind && is_unless b.kind) Code.WrongKind (paired site Kind.Unless None p q a b) d e
+    in
     given site (record_of site Kind.Unless p q (a.under ++ b.under) None) []
     (λ all n inside. rule n
     (unless_kind site good a b n a.kind (and_left (is_unless a.kind) (is_unless b.kind) asked.0) a
@@ -391,7 +394,8 @@ put_values e args [] = refl
 put_values e args (a ∷ more) = ap (λ z. z ∷ arg_values e (map (put_in args) more)) (put_value e args a)
     ∙ ap (λ zs. arg_value (arg_values e args) a ∷ zs) (put_values e args more)
 
-pub test_with : (e : List ℤ) (args : List Arg) (f : CForm) → holding (arg_values e args) f ≡ holding e (form_at args f)
+pub test_with : (e : List ℤ) (args : List Arg) (f : CForm) → holding (arg_values e args) f ≡ holding e
+    (form_at args f)
 test_with e args f = λ i s. sym (form_at_value s e args f) i
 
 named_with : (c : CProgram) (e : List ℤ) (args : List Arg) (h : Option Helper) (place : ℕ) →
@@ -426,7 +430,8 @@ module _ (site : Site) (a : Record) (args : List Arg) (e : List ℤ) where
   moved_kind Kind.Unless stands = like (UnlessStands y u) (holding n a.p) (holding e (form_at args a.p))
       (holding n a.q) (holding e (form_at args a.q)) (test_with e args a.p) (test_with e args a.q) stands
   moved_kind Kind.Ensures stands =
-      let here : EnsuresNamed site.slots site.program u (holding n a.p) (holding n a.q) e (helper_with args a.helper) =
+      let here : EnsuresNamed site.slots site.program u (holding n a.p) (holding n a.q) e (helper_with args a.helper)
+      =
       record {
         choice = stands.choice;
         ensured = stands.ensured;

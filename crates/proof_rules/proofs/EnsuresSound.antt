@@ -132,7 +132,8 @@ any_mapped test make (x ∷ xs) t =
 
 -- the items that pass a test, and their places
 one_from : {X : Type 0} (test : X → Bool) (y : X) (xs : List X) (x : X) →
-    ((k : ℕ) → slice_get (filter test xs) k ≡ Some x → (place : ℕ) × (slice_get xs place ≡ Some x) × IsTrue (test x)) →
+    ((k : ℕ) → slice_get (filter test xs) k ≡ Some x → (place : ℕ) × (slice_get xs place ≡ Some x) × IsTrue (test x))
+    →
     (b : Bool) → test y ≡ b → (k : ℕ) → slice_get (cond b (y ∷ filter test xs) (filter test xs)) k ≡ Some x →
     (place : ℕ) × (slice_get (y ∷ xs) place ≡ Some x) × IsTrue (test x)
 one_from test y xs x rest true t zero e = let same : y ≡ x = cc in (zero, e, subst (λ v. IsTrue (test v)) same t)
@@ -219,7 +220,8 @@ module _ (site : Site) (good : IsSite site) (h : Helper) (e : List ℤ) (inside 
         let one = meant known parts.0 in
         let i : CStmt = one.1 in
         let there = from_filter may_be site.program.statements one.0 i one.2 in
-        let named = named_by good.state e h.args i.indices (and_right (nat_eq i.label h.label) (agree h.args i.indices)
+        let named = named_by good.state e h.args i.indices (and_right (nat_eq i.label h.label)
+        (agree h.args i.indices)
         there.2) one.3 in
         record {
           choice = there.0;

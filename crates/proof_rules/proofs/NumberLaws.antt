@@ -1,7 +1,7 @@
 -- The numbers of the parameters, with one of them changed.
-use Rattle.std.proofs.Common.{◌≡◌, ℕ, zero, suc, nat_eq, ◌+◌, ◌<◌, ◌≤◌, ℤ, pos, negsuc, ◌+ℤ◌, ◌-ℤ◌, ◌≤ℤ◌, List, [], ◌∷◌}
-use Rattle.std.proofs.Common.{Bool, true, false, cond, ◌&&◌, Option, Some, None, IsTrue, refl, sym, ap, ◌∙◌, subst}
-use Rattle.std.proofs.Common.{slice_get, length, arith, ◌⊎◌, inl, inr}
+use Rattle.std.proofs.Common.{◌≡◌, ℕ, zero, suc, nat_eq, ◌+◌, ◌<◌, ◌≤◌, ℤ, pos, negsuc, ◌+ℤ◌, ◌-ℤ◌, ◌≤ℤ◌, List, []}
+use Rattle.std.proofs.Common.{◌∷◌, Bool, true, false, cond, ◌&&◌, Option, Some, None, IsTrue, refl, sym, ap, ◌∙◌}
+use Rattle.std.proofs.Common.{subst, slice_get, length, arith, ◌⊎◌, inl, inr}
 use Rattle.std.proofs.lemmas.Int.{ints}
 use Rattle.std.proofs.lemmas.Bool.Decides.{eqb_tells}
 use borrow.Author.Differences.{le-true, lt-true}
@@ -213,4 +213,5 @@ pub range_is : (lo hi x : ℤ) → IsTrue (int_le (pos 0) (x -ℤ lo) && int_le 
 range_is lo hi x t =
     let low = le-true (pos 0) (x -ℤ lo) (and_left (int_le (pos 0) (x -ℤ lo)) (int_le (pos 0) (hi -ℤ x)) t) in
     let high = le-true (pos 0) (hi -ℤ x) (and_right (int_le (pos 0) (x -ℤ lo)) (int_le (pos 0) (hi -ℤ x)) t) in
-    both_true (int_le lo x) (int_le x hi) (le_passes lo x (omega (arith, ints))) (le_passes x hi (omega (arith, ints)))
+    both_true (int_le lo x) (int_le x hi) (le_passes lo x (omega (arith, ints)))
+    (le_passes x hi (omega (arith, ints)))

@@ -27,11 +27,11 @@ use Rattle.proof_rules.specs.Forms.{imply}
 use Rattle.proof_rules.specs.Limits.{fits, is_provable}
 use Rattle.proof_rules.specs.Table.{Site, needs, go_on, goals_of, record_of, concluded, defined_forms, defined_of}
 use Rattle.proof_rules.specs.Table.{invariant_forms, invariant_of, unless_forms, unless_of, is_helper, helper_forms}
-use Rattle.proof_rules.specs.Table.{ensures_of, is_unless, is_ensures, weaken_of, paired, ends_of_both, ends_of_either}
-use Rattle.proof_rules.specs.Table.{pair_of, is_slot, are_arguments, record_with, instance_of}
-use Rattle.proof_rules.specs.Terms.{Ask, referred, leads, node, leads_from, leads_by, leads_on, leads_either, leads_any}
-use Rattle.proof_rules.specs.Terms.{at_measure, below_measure, leads_down, leads_safely, leads_weaker, term_step}
-use Rattle.proof_rules.specs.Terms.{term_of, all_ranges, leads_record, derive_of}
+use Rattle.proof_rules.specs.Table.{ensures_of, is_unless, is_ensures, weaken_of, paired, ends_of_both}
+use Rattle.proof_rules.specs.Table.{ends_of_either, pair_of, is_slot, are_arguments, record_with, instance_of}
+use Rattle.proof_rules.specs.Terms.{Ask, referred, leads, node, leads_from, leads_by, leads_on, leads_either}
+use Rattle.proof_rules.specs.Terms.{leads_any, at_measure, below_measure, leads_down, leads_safely, leads_weaker}
+use Rattle.proof_rules.specs.Terms.{term_step, term_of, all_ranges, leads_record, derive_of}
 
 pub concluded-is : (slots : List CSlot) (ranges : List Range) (made : Record) (forms : List CForm) →
     concluded slots ranges made forms ≡
@@ -100,10 +100,12 @@ pub cancel-is : (site : Site) (a b : Record) → pair_of site RuleName.Cancel a 
 unfolding pair_of
 cancel-is site a b = refl
 
-pub instance-is : (site : Site) (ranges : List Range) (a : Record) (args : List Arg) → instance_of site ranges a args ≡
+pub instance-is : (site : Site) (ranges : List Range) (a : Record) (args : List Arg) → instance_of site ranges a args
+    ≡
     needs (not (list_any is_slot args)) Code.ParamEscapes
     (needs (are_arguments ranges a.params args) Code.BadArgument
-    (needs (fits site.slots ranges (form_at args a.p) && fits site.slots ranges (form_at args a.q)) Code.FormulaTooLarge
+    (needs (fits site.slots ranges (form_at args a.p) && fits site.slots ranges (form_at args a.q))
+    Code.FormulaTooLarge
     (Ok (record_with site a args))))
 unfolding instance_of
 instance-is site ranges a args = refl

@@ -1,6 +1,6 @@
 -- What a rule's answer says, and what holds at states where U holds.
-use Rattle.std.proofs.Common.{◌≡◌, ℕ, zero, suc, ℤ, List, [], ◌∷◌, ◌++◌, map, Bool, true, false, cond, ◌&&◌, ◌||◌, Some}
-use Rattle.std.proofs.Common.{Result, Ok, Err, IsTrue, refl, sym, ◌∙◌, subst, slice_get}
+use Rattle.std.proofs.Common.{◌≡◌, ℕ, zero, suc, ℤ, List, [], ◌∷◌, ◌++◌, map, Bool, true, false, cond, ◌&&◌, ◌||◌}
+use Rattle.std.proofs.Common.{Some, Result, Ok, Err, IsTrue, refl, sym, ◌∙◌, subst, slice_get}
 use Rattle.std.specs.List.{list_all, list_any}
 use Rattle.case_tables.specs.declared.code_table.Code.{Code}
 use Rattle.core_terms.proofs.FrameLaws.{form_frame}
@@ -163,7 +163,8 @@ defined_exact site good place i there =
     (from_all (StatementFits site.slots) site.program.statements good.statements) place i there)
 
 pub after_exact : (site : Site) → IsSite site → (place : ℕ) (i : CStmt) →
-    slice_get site.program.statements place ≡ Some i → (q : CForm) → HoldsBefore site.slots i q (wp_form site.slots i q)
+    slice_get site.program.statements place ≡ Some i → (q : CForm) → HoldsBefore site.slots i q
+    (wp_form site.slots i q)
 after_exact site good place i there q =
     precondition site.slots i q
     (each_at (StatementFits site.slots) site.program.statements

@@ -1,6 +1,7 @@
 -- The record that a step gets is kept: it stands, and what it stands under holds throughout.
-use Rattle.std.proofs.Common.{◌≡◌, ℕ, nat_eq, ◌<◌, ℤ, List, [], ◌∷◌, ◌++◌, Bool, true, false, ◌&&◌, ◌||◌, Option, Some}
-use Rattle.std.proofs.Common.{None, Result, Ok, Err, IsTrue, refl, sym, ap, ◌∙◌, subst, length, append-nil, arith}
+use Rattle.std.proofs.Common.{◌≡◌, ℕ, nat_eq, ◌<◌, ℤ, List, [], ◌∷◌, ◌++◌, Bool, true, false, ◌&&◌, ◌||◌, Option}
+use Rattle.std.proofs.Common.{Some, None, Result, Ok, Err, IsTrue, refl, sym, ap, ◌∙◌, subst, length, append-nil}
+use Rattle.std.proofs.Common.{arith}
 use Rattle.std.specs.Prelude.{IsSome, ⊤}
 use Rattle.std.specs.List.{list_all, find}
 use Rattle.std.proofs.lemmas.Bool.{eqb-true, ltb-true}
@@ -31,7 +32,8 @@ use Rattle.core_terms.proofs.SameLaws.{same_form_is}
 use Rattle.core_terms.proofs.BoolLaws.{le_passes}
 use Rattle.fair_rounds.specs.declared.records.Record.{Record}
 use Rattle.fair_rounds.specs.Records.{core_system, holding, meets, are_in_ranges, KindStands, Stands, IsKept}
-use Rattle.execution_laws.proofs.StandingTheorems.{defined_narrows, invariant_narrows, unless_narrows, ensures_narrows}
+use Rattle.execution_laws.proofs.StandingTheorems.{defined_narrows, invariant_narrows, unless_narrows}
+use Rattle.execution_laws.proofs.StandingTheorems.{ensures_narrows}
 use Rattle.fair_rounds.proofs.RecordTheorems.{invariant_kept}
 use Rattle.proof_rules.specs.declared.led.Led.{Led}
 use Rattle.proof_rules.specs.Conclusion.{Conclusion}
@@ -46,9 +48,9 @@ use Rattle.proof_rules.specs.Table.{instance_of}
 use Rattle.proof_rules.specs.Terms.{known, found, referred, term_of, all_ranges, leads_record, derive_of}
 use Rattle.proof_rules.specs.Sound.{IsClosed, AreClosed, NamesBelow, AreFull, IsSite, IsPremise, BookStands, IsUnion}
 use Rattle.proof_rules.specs.Sound.{IsPart, HoldThroughout}
-use Rattle.proof_rules.specs.Walk.{is_leadsto, is_kind, is_empty, used, suits, text_of, same_again, again_of, proof_of}
-use Rattle.proof_rules.specs.Walk.{part_record, first_part, second_part, serves_union, serves_after, united, applied}
-use Rattle.proof_rules.specs.Walk.{claims, step_site, rule_of, has_defined, is_first}
+use Rattle.proof_rules.specs.Walk.{is_leadsto, is_kind, is_empty, used, suits, text_of, same_again, again_of}
+use Rattle.proof_rules.specs.Walk.{proof_of, part_record, first_part, second_part, serves_union, serves_after, united}
+use Rattle.proof_rules.specs.Walk.{applied, claims, step_site, rule_of, has_defined, is_first}
 use Rattle.proof_rules.proofs.NamedLaws.{form_shown}
 use Rattle.proof_rules.proofs.EachLaws.{Each, from_all, found_in, each_at}
 use Rattle.proof_rules.proofs.BoundNames.{FormSees, TermSees, numbered, term_well}
@@ -87,12 +89,14 @@ pub record Settled (site : Site) (kind : Kind) (r : Record) : Type 0 where
   pub program : r.program ≡ site.program.name
   pub kind_is : r.kind ≡ kind
 
-settled : (site : Site) → IsSite site → HoldThroughout site site.using → (kind : Kind) (p q : CForm) (more : List CForm)
+settled : (site : Site) → IsSite site → HoldThroughout site site.using → (kind : Kind) (p q : CForm)
+    (more : List CForm)
     (helper : Option Helper) (bound : ℕ) → Holding site more → (r : Record) →
     r ≡ made_of site kind p q more helper bound → Stands site.slots site.program r → Settled site kind r
 settled site good using kind p q more helper bound holds r is stands = record {
   stands = stands;
-  under = subst (λ (m : Record). IsInvariant (core_system site.slots site.program) (meets site.slots m.under)) (sym is)
+  under = subst (λ (m : Record). IsInvariant (core_system site.slots site.program) (meets site.slots m.under))
+      (sym is)
       (under_holds site good more using holds.throughout);
   closed = subst (λ (m : Record). AreClosed m.under) (sym is)
       (each_closed [] (site.using ++ more) tt (both_closed site.using more good.closed holds.closed));
@@ -108,7 +112,8 @@ settled_by : (site : Site) → IsSite site → HoldThroughout site site.using �
     Gives answer ranges (made_of site kind p q more helper bound) forms → (x : Conclusion) → answer ≡ Ok x →
     Stands site.slots site.program x.made → Settled site kind x.made
 settled_by site good using kind p q more helper bound holds answer ranges forms gives x e stands =
-    settled site good using kind p q more helper bound holds x.made (ap (λ (y : Conclusion). y.made) (gives x e)) stands
+    settled site good using kind p q more helper bound holds x.made (ap (λ (y : Conclusion). y.made) (gives x e))
+    stands
 
 -- kinds
 
@@ -288,7 +293,8 @@ module _ (slots : List CSlot) (programs : List CProgram) (c : CProgram)
             (rest_holds.throughout first choices later run place s there);
       })
 
-  module _ (step : CStep) (fits : IsStep slots step) (using : List CForm) (good : IsSite (step_site slots c step using))
+  module _ (step : CStep) (fits : IsStep slots step) (using : List CForm)
+      (good : IsSite (step_site slots c step using))
       (holds : HoldThroughout (step_site slots c step using) using) where
     abbrev pub site : Site
     site = step_site slots c step using
@@ -297,7 +303,8 @@ module _ (slots : List CSlot) (programs : List CProgram) (c : CProgram)
     x y = y.made
 
     -- the instance of a record that a reference finds
-    under_kept : (r : Ref) (a : Record) → found book r ≡ Ok a → IsTrue (nat_eq a.program c.name) → Holding site a.under
+    under_kept : (r : Ref) (a : Record) → found book r ≡ Ok a → IsTrue (nat_eq a.program c.name) → Holding site
+        a.under
     under_kept r a e t =
         let known = found_good (RecordGood slots programs) book goods r a e in
         let kept = known.kept c (program_named a t) in
@@ -410,7 +417,8 @@ module _ (slots : List CSlot) (programs : List CProgram) (c : CProgram)
         Settled site b.kind y.made
     unfolding pair_of
     pair_case RuleName.Conj a b pa pb ua ub y e valid =
-        settled_by site good holds b.kind _ _ (a.under ++ b.under) b.helper 0 (both_holding site a.under b.under ua ub)
+        settled_by site good holds b.kind _ _ (a.under ++ b.under) b.helper 0
+        (both_holding site a.under b.under ua ub)
         (pair_of site RuleName.Conj a b) step.params []
         (need_gives (is_unless a.kind && (is_unless b.kind || is_ensures b.kind)) Code.WrongKind _ step.params _ []
         (end_gives slots step.params _ [])) y e
@@ -584,7 +592,8 @@ module _ (slots : List CSlot) (programs : List CProgram) (c : CProgram)
     united_case f g parts a b pa pb ca cb Kind.Ensures y e valid =
         union_settled Kind.Ensures a.p a.q (first_helper a b) a b ca cb (union_ensures_of site a b)
         (need_gives (is_part_pair site a b) Code.OtherProgram _ step.params _ (shown_forms site a b)
-        (need_gives ((is_ensures a.kind && is_unless b.kind) || (is_unless a.kind && is_ensures b.kind)) Code.WrongKind
+        (need_gives ((is_ensures a.kind && is_unless b.kind) || (is_unless a.kind && is_ensures b.kind))
+        Code.WrongKind
         _ step.params _ (shown_forms site a b)
         (need_gives (same_form a.p b.p && same_form a.q b.q) Code.MiddleDiffers _ step.params _ (shown_forms site a b)
         (end_gives slots step.params _ (shown_forms site a b))))) y e valid

@@ -42,7 +42,8 @@ use Rattle.proof_rules.specs.Sound.{IsSite, BookStands, TermSound}
 use Rattle.proof_rules.specs.Table.{Site, needs, go_on, under_with, instance_of, is_unless}
 use Rattle.proof_rules.specs.Terms.{Ask, found, referred, leads, within_rounds, node, leads_from, leads_by, leads_on}
 use Rattle.proof_rules.specs.Terms.{leads_either, leads_any, at_measure, below_measure, measure_lies, leads_down}
-use Rattle.proof_rules.specs.Terms.{leads_safely, leads_weaker, term_step, term_of, well_step, is_well_bound, is_range}
+use Rattle.proof_rules.specs.Terms.{leads_safely, leads_weaker, term_step, term_of, well_step, is_well_bound}
+use Rattle.proof_rules.specs.Terms.{is_range}
 use Rattle.proof_rules.specs.Validity.{IsValid}
 use Rattle.proof_rules.specs.declared.led.Led.{Led}
 use Rattle.state_steps.proofs.StepTheorems.{and_left, and_right, both_true}
@@ -285,7 +286,8 @@ module _ (site : Site) (good : IsSite site) (book : List Record) (stands : BookS
   layer_sound (PTerm-F.Trans t u) w =
       of_part (answer t.0) (λ a. go_on (answer u.0) (λ b. needs (same_form a.q b.p) Code.MiddleDiffers
       (node site ranges (leads_on a b)))) (λ a h.
-      of_part (answer u.0) (λ b. needs (same_form a.q b.p) Code.MiddleDiffers (node site ranges (leads_on a b))) (λ b k.
+      of_part (answer u.0) (λ b. needs (same_form a.q b.p) Code.MiddleDiffers (node site ranges (leads_on a b)))
+      (λ b k.
       of_need (same_form a.q b.p) Code.MiddleDiffers (node site ranges (leads_on a b)) (λ same.
       of_node (leads_on a b) (λ valid v serves e inside.
       let parts = valid_parts site.slots ranges a.forms b.forms valid in
@@ -294,7 +296,8 @@ module _ (site : Site) (good : IsSite site) (book : List Record) (stands : BookS
       let two = u.1 (and_right (is_well_bound ranges t.0) (is_well_bound ranges u.0) w) b k parts.1 v
       (second_serves site v a.under b.under serves) e inside in
       progress.leads_on (kept v x) (holding e a.p) (holding e a.q) (holding e b.q) a.bound b.bound one
-      (subst (λ f. LeadsTo (kept v x) (holding e f) (holding e b.q) b.bound) (sym (same_form_is a.q b.p same)) two)))))
+      (subst (λ f. LeadsTo (kept v x) (holding e f) (holding e b.q) b.bound) (sym (same_form_is a.q b.p same))
+      two)))))
   layer_sound (PTerm-F.Either t u) w =
       of_part (answer t.0) (λ a. go_on (answer u.0) (λ b. needs (same_form a.q b.q) Code.MiddleDiffers
       (node site ranges (leads_either a b)))) (λ a h.
@@ -388,7 +391,8 @@ module _ (site : Site) (good : IsSite site) (book : List Record) (stands : BookS
       (site.using ++ (a.q ∷ [])) q ∷ []) valid in
       let one = t.1 w a h parts.0 v serves e inside in
       progress.leads_weaker (kept v x) (holding e a.p) (holding e a.q) (holding e p) (holding e q) a.bound
-      (by_valid p a.p parts.1.0 v a.under serves e inside) (by_valid a.q q parts.1.1.0 v a.under serves e inside) one))
+      (by_valid p a.p parts.1.0 v a.under serves e inside) (by_valid a.q q parts.1.1.0 v a.under serves e inside)
+      one))
 
   layer : (y : PTerm-F Gives) → TermStands (roll-PTerm (trees y))
   layer y w =

@@ -1,6 +1,6 @@
 -- What `text` gives stands.
-use Rattle.std.proofs.Common.{◌≡◌, ℕ, zero, suc, ℤ, List, [], ◌∷◌, ◌++◌, map, true, not, ◌&&◌, Some, None, IsTrue, refl}
-use Rattle.std.proofs.Common.{sym, ap, ◌∙◌, subst, slice_get}
+use Rattle.std.proofs.Common.{◌≡◌, ℕ, zero, suc, ℤ, List, [], ◌∷◌, ◌++◌, map, true, not, ◌&&◌, Some, None, IsTrue}
+use Rattle.std.proofs.Common.{refl, sym, ap, ◌∙◌, subst, slice_get}
 use Rattle.std.specs.List.{list_all}
 use Rattle.case_tables.specs.declared.kind_table.Kind.{Kind}
 use Rattle.core_terms.proofs.FoldingLaws.{value-or_form, value-not_form}
@@ -38,7 +38,8 @@ pub given : (site : Site) (made : Record) (forms : List CForm) → (AreValid sit
 given site made forms stands d e valid =
     let is = concluded_is site.slots site.params made forms d e in
     subst (λ (x : Conclusion). Stands site.slots site.program x.made) (sym is)
-    (stands (are_valid site.slots site.params forms (subst (λ (x : Conclusion). AllValid site.slots x.goals) is valid)))
+    (stands (are_valid site.slots site.params forms (subst (λ (x : Conclusion). AllValid site.slots x.goals) is
+    valid)))
 
 -- p and not q, as formulas and as a test
 pub but_not_forms : (s e : List ℤ) (p q : CForm) → IsTrue (but_not (holding e p) (holding e q) s) →

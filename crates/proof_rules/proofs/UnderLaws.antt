@@ -16,9 +16,9 @@ use Rattle.core_terms.specs.Values.{form_value}
 use Rattle.fair_rounds.specs.declared.records.Record.{Record}
 use Rattle.proof_rules.specs.declared.led.Led.{Led}
 use Rattle.proof_rules.specs.Table.{Site, needs, go_on, with_each, is_unless}
-use Rattle.proof_rules.specs.Terms.{Ask, referred, leads, node, leads_from, leads_by, leads_on, leads_either, leads_any}
-use Rattle.proof_rules.specs.Terms.{at_measure, below_measure, leads_down, leads_safely, leads_weaker, term_step}
-use Rattle.proof_rules.specs.Terms.{term_of}
+use Rattle.proof_rules.specs.Terms.{Ask, referred, leads, node, leads_from, leads_by, leads_on, leads_either}
+use Rattle.proof_rules.specs.Terms.{leads_any, at_measure, below_measure, leads_down, leads_safely, leads_weaker}
+use Rattle.proof_rules.specs.Terms.{term_step, term_of}
 use Rattle.proof_rules.specs.Sound.{AreClosed, HoldThroughout}
 use Rattle.proof_rules.proofs.FormLaws.{all_join}
 use Rattle.proof_rules.proofs.SiteLaws.{met, went_on}
@@ -91,7 +91,8 @@ module _ (site : Site) (ranges : List Range) (book : List Record)
   layer_under (PTerm-F.Trans t u) =
       of_part (answer t.0) (λ a. go_on (answer u.0) (λ b.
       needs (same_form a.q b.p) Code.MiddleDiffers (node site ranges (leads_on a b)))) (λ a h.
-      of_part (answer u.0) (λ b. needs (same_form a.q b.p) Code.MiddleDiffers (node site ranges (leads_on a b))) (λ b k.
+      of_part (answer u.0) (λ b. needs (same_form a.q b.p) Code.MiddleDiffers (node site ranges (leads_on a b)))
+      (λ b k.
       of_need (same_form a.q b.p) Code.MiddleDiffers (node site ranges (leads_on a b))
       (of_node (leads_on a b) (both_holding site a.under b.under (t.1 a h) (u.1 b k)))))
   layer_under (PTerm-F.Either t u) =
@@ -110,7 +111,8 @@ module _ (site : Site) (ranges : List Range) (book : List Record)
       of_part (answer t.0) (λ a.
       needs (same_form a.p (at_measure measure m p) && same_form a.q (below_measure measure m p q)) Code.MiddleDiffers
       (node site ranges (leads_down site.using range measure p q a))) (λ a h.
-      of_need (same_form a.p (at_measure measure m p) && same_form a.q (below_measure measure m p q)) Code.MiddleDiffers
+      of_need (same_form a.p (at_measure measure m p) && same_form a.q (below_measure measure m p q))
+      Code.MiddleDiffers
       (node site ranges (leads_down site.using range measure p q a))
       (of_node (leads_down site.using range measure p q a) (t.1 a h)))
   layer_under (PTerm-F.Psp t r) =
@@ -123,7 +125,8 @@ module _ (site : Site) (ranges : List Range) (book : List Record)
       of_node (leads_weaker site.using p q a) (t.1 a h))
 
   layer : (y : PTerm-F Gives) → TermUnder (roll-PTerm (trees y))
-  layer y = subst (λ ask. Under ask) (sym (fold-roll-PTerm Ask (term_step site ranges book) (trees y))) (layer_under y)
+  layer y = subst (λ ask. Under ask) (sym (fold-roll-PTerm Ask (term_step site ranges book) (trees y)))
+      (layer_under y)
 
   pub term_under : (t : PTerm) → TermUnder t
   term_under t = ind-PTerm TermUnder (λ z y e. subst (λ k. TermUnder (roll-PTerm k)) e (layer y)) t

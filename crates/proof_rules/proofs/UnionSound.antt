@@ -1,6 +1,7 @@
 -- What the union rules give stands, and what a union shows of its parts' `under`.
-use Rattle.std.proofs.Common.{◌≡◌, ℕ, zero, suc, ◌+◌, ℤ, List, [], ◌∷◌, ◌++◌, map, Bool, true, false, cond, ◌&&◌, ◌||◌}
-use Rattle.std.proofs.Common.{Option, Some, None, Result, IsTrue, refl, sym, ap, ◌∙◌, subst, slice_get, length, arith}
+use Rattle.std.proofs.Common.{◌≡◌, ℕ, zero, suc, ◌+◌, ℤ, List, [], ◌∷◌, ◌++◌, map, Bool, true, false, cond, ◌&&◌}
+use Rattle.std.proofs.Common.{◌||◌, Option, Some, None, Result, IsTrue, refl, sym, ap, ◌∙◌, subst, slice_get, length}
+use Rattle.std.proofs.Common.{arith}
 use Rattle.std.specs.List.{list_all, list_any}
 use Rattle.case_tables.specs.declared.kind_table.Kind.{Kind}
 use Rattle.case_tables.specs.declared.code_table.Code.{Code}
@@ -15,7 +16,8 @@ use Rattle.core_terms.specs.declared.programs.CSlot.{CSlot}
 use Rattle.core_terms.specs.declared.trees.CForm.{CForm}
 use Rattle.core_terms.specs.declared.trees.CForm.TheVariants.{Top, Bottom}
 use Rattle.core_terms.proofs.PartLaws.{value-Bottom}
-use Rattle.execution_laws.proofs.StandingTheorems.{unless_narrows, ensures_narrows, defined_narrows, invariant_narrows}
+use Rattle.execution_laws.proofs.StandingTheorems.{unless_narrows, ensures_narrows, defined_narrows}
+use Rattle.execution_laws.proofs.StandingTheorems.{invariant_narrows}
 use Rattle.execution_laws.proofs.UnionTheorems.{union_unless, union_ensures, union_ensures_second, union_defined}
 use Rattle.execution_laws.proofs.UnionTheorems.{union_invariant, union_invariant_second}
 use Rattle.execution_laws.specs.Stands.{UnlessStands, EnsuresStands, DefinedStands, InvariantStands}
@@ -51,7 +53,8 @@ at_second : {X : Type 0} (xs ys : List X) (n : ℕ) (x : X) (k : ℕ) → k ≡ 
     slice_get (xs ++ ys) k ≡ Some x
 at_second [] ys n x k same e = let one : n ≡ k = omega arith in subst (λ j. slice_get ys j ≡ Some x) one e
 at_second (y ∷ xs) ys n x zero same e = absurd (omega arith)
-at_second (y ∷ xs) ys n x (suc k) same e = let inner : k ≡ length xs + n = omega arith in at_second xs ys n x k inner e
+at_second (y ∷ xs) ys n x (suc k) same e = let inner : k ≡ length xs + n = omega arith in at_second xs ys n x k inner
+    e
 
 both_parts : (i a b : Bool) → (i && (a && b)) ≡ ((i && a) && (i && b))
 both_parts true a b = refl
@@ -170,7 +173,8 @@ union_unless_sound site good f g parts a b pa pb d e valid =
     let q_same = same_form_is a.q b.q (and_right (same_form a.p b.p) (same_form a.q b.q) three.0) in
     given site made (shown_forms site a b)
     (λ all n inside.
-    let first = part_unless site good f g parts a b n a.kind (and_left (is_unless a.kind) (is_unless b.kind) two.0) f a
+    let first = part_unless site good f g parts a b n a.kind (and_left (is_unless a.kind) (is_unless b.kind) two.0) f
+    a
     (pa.stands n (subst (λ rs. IsTrue (are_in_ranges rs n)) (sym pa.params) inside)) in
     let second = part_unless site good f g parts a b n b.kind (and_right (is_unless a.kind) (is_unless b.kind) two.0)
     g b
@@ -234,7 +238,8 @@ module _ (site : Site) (good : IsSite site) (f g : CProgram) (parts : IsUnion si
       (meets site.slots b.under) (holding e a.p)
       (like (UnlessStands (core_system site.slots f) (meets site.slots a.under)) (holding e a.p) (holding e a.p)
       (holding e a.q) never refl (ap (holding e) end ∙ bottom_never) one)
-      (subst (λ p. InvariantStands (core_system site.slots g) (meets site.slots b.under) (holding e p)) (sym same) two))
+      (subst (λ p. InvariantStands (core_system site.slots g) (meets site.slots b.under) (holding e p)) (sym same)
+      two))
   joined_invariant Kind.Invariant Kind.Defined t same end one two = cc
   joined_invariant Kind.Invariant Kind.Invariant t same end one two = cc
   joined_invariant Kind.Invariant Kind.Ensures t same end one two = cc

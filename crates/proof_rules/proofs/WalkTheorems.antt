@@ -89,7 +89,7 @@ steps_grow slots starts c (s ∷ rest) plan new e =
 lo_lo : (z : ℤ) → z ≤ℤ z
 lo_lo z = omega (arith, ints)
 
-lows_state : (slots : List CSlot) → Each IsSlot slots →
+pub lows_state : (slots : List CSlot) → Each IsSlot slots →
     IsTrue (is_state (slot_ranges slots) (map (λ (s : CSlot). s.range.lo) slots))
 lows_state [] each = refl
 lows_state (s ∷ slots) each =
@@ -230,7 +230,8 @@ module _ (d : CDocument) (is : IsDocument d) (starts : CProgram → Bool) where
       (passed c.name None (needs (has_defined c.name one.0.records) Code.DefinedMissing (Ok one.0)) new one.2) in
       let same : one.0 ≡ new = let given = end.1 in cc in
       let at = found_in (λ b. nat_eq b.name proof.program) d.programs c found in
-      let all = steps_good c at.place at.there proof.steps (from_all (IsStep d.slots) proof.steps fits.steps) plan one.0
+      let all = steps_good c at.place at.there proof.steps (from_all (IsStep d.slots) proof.steps fits.steps) plan
+      one.0
       one.1 (subst (λ p. AllValid d.slots p.goals) (sym same) valid) good.0
       (each_map (Ended plan.records) (Own c at.place at.there plan.records) plan.records (λ a t. inl t) good.1) in
       subst (λ p. BookGood p.records) same (

@@ -1,5 +1,6 @@
 -- That what the rules give stands: where the premises stand and the obligations are valid.
-use Rattle.std.specs.Prelude.{All, ◌≡◌, ℕ, nat_eq, ◌<◌, ℤ, Bool, false, List, [], ◌∷◌, ◌++◌, Result, Ok, IsTrue, length}
+use Rattle.std.specs.Prelude.{All, ◌≡◌, ℕ, nat_eq, ◌<◌, ℤ, Bool, false, List, [], ◌∷◌, ◌++◌, Result, Ok, IsTrue}
+use Rattle.std.specs.Prelude.{length}
 use Rattle.case_tables.specs.declared.rule_table.RuleName.{RuleName}
 use Rattle.case_tables.specs.declared.code_table.Code.{Code}
 use Rattle.core_terms.specs.Conditions.{StatementFits, bound_ranges}
@@ -58,7 +59,8 @@ abbrev pub UnlessSound : Type 0
 UnlessSound = (site : Site) → IsSite site → (p q : CForm) → StandsWhereValid site (unless_of site p q)
 
 abbrev pub EnsuresSound : Type 0
-EnsuresSound = (site : Site) → IsSite site → (p q : CForm) (h : Helper) → StandsWhereValid site (ensures_of site p q h)
+EnsuresSound = (site : Site) → IsSite site → (p q : CForm) (h : Helper) → StandsWhereValid site
+    (ensures_of site p q h)
 
 -- a premise is a record of the site's program and parameters
 pub record IsPremise (site : Site) (a : Record) : Type 0 where

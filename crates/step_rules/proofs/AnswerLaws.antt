@@ -27,7 +27,8 @@ pub needs_met : {A : Type 0} (b : Bool) (code : Code) (rest : Result A Code) →
 needs_met true code rest e = refl
 needs_met false code rest e = cc
 
-pub needs_not : {A : Type 0} (b : Bool) (code : Code) (rest : Result A Code) → b ≡ false → needs b code rest ≡ Err code
+pub needs_not : {A : Type 0} (b : Bool) (code : Code) (rest : Result A Code) → b ≡ false → needs b code rest ≡ Err
+    code
 needs_not false code rest e = refl
 needs_not true code rest e = cc
 
@@ -73,7 +74,8 @@ module _ (slots : List CSlot) (params : List Range) where
       (sym (too_large made forms (second_false (small made) (shown forms) added.1))) added.0
 
   -- the obligations are there, and the record is made of them
-  pub given_goals : (answer : Result Derived RuleError) (made : Record) (forms : List CForm) (goals : List Obligation) →
+  pub given_goals : (answer : Result Derived RuleError) (made : Record) (forms : List CForm) (goals : List Obligation)
+      →
       goals ≡ map (goal_obligation slots params) forms → shown forms ≡ true →
       Concludes answer slots params made goals → Answers answer slots (concluded slots params made forms)
   given_goals (Ok d) made forms goals are provable given =
@@ -157,7 +159,8 @@ module _ (slots : List CSlot) (params : List Range) where
             ∙ both (shown (map make (take i xs))) (shown (form ∷ [])) before.small_so_far added.1;
       }
     where
-      joined_maps : (g : CForm → Obligation) (fs : List CForm) (f : CForm) → map g fs ++ g f ∷ [] ≡ map g (fs ++ f ∷ [])
+      joined_maps : (g : CForm → Obligation) (fs : List CForm) (f : CForm) → map g fs ++ g f ∷ [] ≡ map g
+          (fs ++ f ∷ [])
       joined_maps g [] f = refl
       joined_maps g (h ∷ fs) f = ap (λ os. g h ∷ os) (joined_maps g fs f)
 
@@ -225,7 +228,8 @@ paired_given site a b kind p q p' q' first second helper helper' goals answer sa
     rule_given (tt {0}) site kind p q p' q' (a.under ++ b.under) (first ++ second) helper helper' [] [] goals answer
     same_p same_q (ap (λ u. u ++ second) one ∙ ap (λ u. a.under ++ u) two) same_helper refl (none, refl) given
 
-pub same_pair : (site : Site) (a b : Record) (p q p' q' : CForm) (answer : Result Derived RuleError) → p' ≡ p → q' ≡ q →
+pub same_pair : (site : Site) (a b : Record) (p q p' q' : CForm) (answer : Result Derived RuleError) → p' ≡ p → q' ≡ q
+    →
     Answers answer site.slots (paired site Kind.Unless None p' q' a b) →
     Answers answer site.slots (paired site Kind.Unless None p q a b)
 same_pair site a b p q p' q' answer same_p same_q given =

@@ -2,4 +2,5 @@ pub mod Answers
 pub mod Errors
 pub mod Goals
 pub mod Premises
+pub mod Sound
 pub mod Usable

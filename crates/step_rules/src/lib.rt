@@ -2,6 +2,7 @@
 #![tactic(auto)]
 
 mod concluding;
+mod definedness;
 mod pairs;
 mod places;
 mod premises;
@@ -9,6 +10,7 @@ mod recording;
 mod texts;
 mod weakening;
 
+pub use definedness::defined_rule;
 pub use pairs::pair_rule;
 pub use places::{Derived, Place, RuleError};
 pub use texts::{invariant_rule, unless_rule};

@@ -4,6 +4,7 @@ ghost use Rattle.core_terms.specs.Weights.{plain_weight};
 ghost use Rattle.core_terms.specs.Folding as fold;
 ghost use Rattle.proof_rules.specs.Table as table;
 ghost use Rattle.step_rules.specs.Answers.{site_of, IsPlace, IsPremiseAt, Answers};
+ghost use Rattle.step_rules.specs.Sound.{StandsAt, StandsWhereShown};
 ghost use Rattle.step_rules.specs.Usable.{NamesExist};
 
 use crate::concluding::conclude;
@@ -177,7 +178,8 @@ pub fn pair_rule(
     requires place { IsPlace pl.now }
     requires a { IsPremiseAt pl.now a.now }
     requires b { IsPremiseAt pl.now b.now }
-    ensures { Answers result pl.now.slots.now (table.pair_of (site_of pl.now) which a.now b.now) }
+    ensures answer { Answers result pl.now.slots.now (table.pair_of (site_of pl.now) which a.now b.now) }
+    ensures sound { StandsAt pl.now a.now → StandsAt pl.now b.now → StandsWhereShown pl.now result }
 {
     match which {
         RuleName::Conj => conj(alloc, pl, a, b),

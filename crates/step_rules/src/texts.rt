@@ -6,6 +6,7 @@ ghost use Rattle.proof_rules.specs.Forms as formula;
 ghost use Rattle.proof_rules.specs.Table as table;
 ghost use Rattle.step_rules.specs.Answers.{site_of, IsPlace, Answers};
 ghost use Rattle.step_rules.specs.Goals.{Added};
+ghost use Rattle.step_rules.specs.Sound.{StandsWhereShown};
 ghost use Rattle.step_rules.specs.Usable.{IsUsable};
 
 use crate::concluding::{add_goal, conclude};
@@ -111,7 +112,8 @@ pub fn unless_rule(alloc: Global, pl: &Place, p: &CForm, q: &CForm) -> Result<De
     requires place { IsPlace pl.now }
     requires p { FormFits pl.now.slots.now pl.now.params.now p.now }
     requires q { FormFits pl.now.slots.now pl.now.params.now q.now }
-    ensures { Answers result pl.now.slots.now (table.unless_of (site_of pl.now) p.now q.now) }
+    ensures answer { Answers result pl.now.slots.now (table.unless_of (site_of pl.now) p.now q.now) }
+    ensures sound { StandsWhereShown pl.now result }
 {
     let mut goals = Seq::new(alloc);
     add_unless(alloc, pl, p, q, &mut goals)?;
@@ -163,7 +165,8 @@ fn starts(alloc: Global, pl: &Place, p: &CForm) -> Result<CForm, AllocError>
 pub fn invariant_rule(alloc: Global, pl: &Place, p: &CForm) -> Result<Derived, RuleError>
     requires place { IsPlace pl.now }
     requires p { FormFits pl.now.slots.now pl.now.params.now p.now }
-    ensures { Answers result pl.now.slots.now (table.invariant_of (site_of pl.now) p.now) }
+    ensures answer { Answers result pl.now.slots.now (table.invariant_of (site_of pl.now) p.now) }
+    ensures sound { StandsWhereShown pl.now result }
 {
     let mut goals = Seq::new(alloc);
     add_invariant(alloc, pl, p, &mut goals)?;

@@ -5,6 +5,7 @@ ghost use Rattle.proof_rules.specs.Forms as formula;
 ghost use Rattle.proof_rules.specs.Table as table;
 ghost use Rattle.step_rules.specs.Answers.{site_of, IsPlace, IsPremiseAt, Answers};
 ghost use Rattle.step_rules.specs.Goals.{Added};
+ghost use Rattle.step_rules.specs.Sound.{StandsAt, StandsWhereShown};
 ghost use Rattle.step_rules.specs.Usable.{IsUsable};
 
 use crate::concluding::{add_goal, conclude};
@@ -79,7 +80,8 @@ pub fn weaken_rule(alloc: Global, pl: &Place, a: &Record, r: &CForm) -> Result<D
     requires place { IsPlace pl.now }
     requires record { IsPremiseAt pl.now a.now }
     requires r { FormFits pl.now.slots.now pl.now.params.now r.now }
-    ensures { Answers result pl.now.slots.now (table.weaken_of (site_of pl.now) a.now r.now) }
+    ensures answer { Answers result pl.now.slots.now (table.weaken_of (site_of pl.now) a.now r.now) }
+    ensures sound { StandsAt pl.now a.now → StandsWhereShown pl.now result }
 {
     if !has_end(a.kind) {
         return Err(RuleError::Fault(Code::WrongKind));

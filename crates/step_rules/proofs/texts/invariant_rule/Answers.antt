@@ -6,11 +6,13 @@ use Rattle.proof_rules.specs.Table.{Site, record_of, invariant_forms, invariant_
 use Rattle.proof_rules.proofs.RowEquations.{invariant-is}
 use Rattle.step_rules.specs.Answers.{site_of, Answers}
 use Rattle.step_rules.proofs.AnswerLaws.{refused_goals, rule_given}
+use Rattle.proof_rules.proofs.TextSound.{invariant_sound}
+use Rattle.step_rules.proofs.SoundLaws.{site_good, answer_stands, error_stands}
 use Rattle.step_rules.proofs.ErrorLaws.{handed_on}
 use Rattle.step_rules.proofs.texts.invariant_rule.Goals as goal
 
-pub returns-in_err-add_invariant : goal.returns-in_err-add_invariant
-returns-in_err-add_invariant c =
+pub returns-in_err-add_invariant-clause-answer : goal.returns-in_err-add_invariant-clause-answer
+returns-in_err-add_invariant-clause-answer c =
     let site : Site = site_of c.args.pl.now in
     let p : CForm = c.args.p.now in
     let e = c.in_err-add_invariant.field-0.0 in
@@ -19,13 +21,23 @@ returns-in_err-add_invariant c =
     (refused_goals site.slots site.params (Unit {0}) e c.new-goals.result c.add_invariant.new.goals
     (record_of site Kind.Invariant p Bottom [] None) (invariant_forms site p) c.in_err-add_invariant.ensures))
 
-pub returns : goal.returns
-returns c =
+pub returns-clause-answer : goal.returns-clause-answer
+returns-clause-answer c =
     let site : Site = site_of c.args.pl.now in
     let p : CForm = c.args.p.now in
     subst (λ x. Answers c.conclude.result site.slots x) (sym (invariant-is site p))
-    (rule_given c.in_ok-add_invariant.field-0 site Kind.Invariant p Bottom c.in_ok-held_form.field-0 c.in_ok-new.field-0
-    []
+    (rule_given c.in_ok-add_invariant.field-0 site Kind.Invariant p Bottom c.in_ok-held_form.field-0
+    c.in_ok-new.field-0 []
     ([] ++ []) None None (invariant_forms site p) c.new-goals.result c.add_invariant.new.goals c.conclude.result
     c.in_ok-held_form.ensures c.in_ok-new.ensures refl refl c.new-goals.ensures c.in_ok-add_invariant.ensures
     c.conclude.ensures)
+
+pub returns-in_err-add_invariant-clause-sound : goal.returns-in_err-add_invariant-clause-sound
+returns-in_err-add_invariant-clause-sound c =
+    error_stands c.args.pl.now c.from_residual.result c.in_err-add_invariant.field-0.0 c.from_residual.ensures.1
+
+pub returns-clause-sound : goal.returns-clause-sound
+returns-clause-sound c =
+    answer_stands c.args.pl.now c.conclude.result (invariant_of (site_of c.args.pl.now) c.args.p.now)
+    (λ x e valid. invariant_sound (site_of c.args.pl.now) (site_good c.args.pl.now c.requires.place) c.args.p.now x e
+    valid) (returns-clause-answer c)

@@ -5,11 +5,13 @@ use Rattle.proof_rules.specs.Table.{Site, record_of, unless_forms, unless_of}
 use Rattle.proof_rules.proofs.RowEquations.{unless-is}
 use Rattle.step_rules.specs.Answers.{site_of, Answers}
 use Rattle.step_rules.proofs.AnswerLaws.{refused_goals, rule_given}
+use Rattle.proof_rules.proofs.TextSound.{unless_sound}
+use Rattle.step_rules.proofs.SoundLaws.{site_good, answer_stands, error_stands}
 use Rattle.step_rules.proofs.ErrorLaws.{handed_on}
 use Rattle.step_rules.proofs.texts.unless_rule.Goals as goal
 
-pub returns-in_err-add_unless : goal.returns-in_err-add_unless
-returns-in_err-add_unless c =
+pub returns-in_err-add_unless-clause-answer : goal.returns-in_err-add_unless-clause-answer
+returns-in_err-add_unless-clause-answer c =
     let site : Site = site_of c.args.pl.now in
     let p : CForm = c.args.p.now in
     let q : CForm = c.args.q.now in
@@ -19,13 +21,24 @@ returns-in_err-add_unless c =
     (refused_goals site.slots site.params (Unit {0}) e c.new-goals.result c.add_unless.new.goals
     (record_of site Kind.Unless p q [] None) (unless_forms site p q) c.in_err-add_unless.ensures))
 
-pub returns : goal.returns
-returns c =
+pub returns-clause-answer : goal.returns-clause-answer
+returns-clause-answer c =
     let site : Site = site_of c.args.pl.now in
     let p : CForm = c.args.p.now in
     let q : CForm = c.args.q.now in
     subst (λ x. Answers c.conclude.result site.slots x) (sym (unless-is site p q))
-    (rule_given c.in_ok-add_unless.field-0 site Kind.Unless p q c.in_ok-held_form.field-0 c.in_ok-held_form-2.field-0 []
+    (rule_given c.in_ok-add_unless.field-0 site Kind.Unless p q c.in_ok-held_form.field-0 c.in_ok-held_form-2.field-0
+    []
     ([] ++ []) None None (unless_forms site p q) c.new-goals.result c.add_unless.new.goals c.conclude.result
     c.in_ok-held_form.ensures c.in_ok-held_form-2.ensures refl refl c.new-goals.ensures c.in_ok-add_unless.ensures
     c.conclude.ensures)
+
+pub returns-in_err-add_unless-clause-sound : goal.returns-in_err-add_unless-clause-sound
+returns-in_err-add_unless-clause-sound c =
+    error_stands c.args.pl.now c.from_residual.result c.in_err-add_unless.field-0.0 c.from_residual.ensures.1
+
+pub returns-clause-sound : goal.returns-clause-sound
+returns-clause-sound c =
+    answer_stands c.args.pl.now c.conclude.result (unless_of (site_of c.args.pl.now) c.args.p.now c.args.q.now)
+    (λ x e valid. unless_sound (site_of c.args.pl.now) (site_good c.args.pl.now c.requires.place) c.args.p.now
+    c.args.q.now x e valid) (returns-clause-answer c)

@@ -8,11 +8,13 @@ use Rattle.proof_rules.proofs.RowEquations.{weaken-is}
 use Rattle.step_rules.specs.Answers.{site_of, Answers}
 use Rattle.step_rules.proofs.UsableLaws.{usable}
 use Rattle.step_rules.proofs.AnswerLaws.{needs_met, needs_not, refused_goals, rule_given, refused, given_by}
+use Rattle.proof_rules.proofs.CalcSound.{weaken_sound}
+use Rattle.step_rules.proofs.SoundLaws.{site_good, premise_good, answer_stands, error_stands}
 use Rattle.step_rules.proofs.ErrorLaws.{handed_on}
 use Rattle.step_rules.proofs.weakening.weaken_rule.Goals as goal
 
-pub returns-then-not-has_end : goal.returns-then-not-has_end
-returns-then-not-has_end c =
+pub returns-then-not-has_end-clause-answer : goal.returns-then-not-has_end-clause-answer
+returns-then-not-has_end-clause-answer c =
     let site : Site = site_of c.args.pl.now in
     refused site.slots Code.WrongKind (weaken_of site c.args.a.now c.args.r.now)
     (weaken-is site c.args.a.now c.args.r.now
@@ -27,8 +29,8 @@ pub add_follows-requires-clause-r : goal.add_follows-requires-clause-r
 add_follows-requires-clause-r c =
     usable c.args.pl.now.slots.now c.args.pl.now.params.now c.args.r.now c.requires.r
 
-pub returns-in_err-add_follows : goal.returns-in_err-add_follows
-returns-in_err-add_follows c =
+pub returns-in_err-add_follows-clause-answer : goal.returns-in_err-add_follows-clause-answer
+returns-in_err-add_follows-clause-answer c =
     let site : Site = site_of c.args.pl.now in
     let a : Record = c.args.a.now in
     let r : CForm = c.args.r.now in
@@ -42,8 +44,8 @@ returns-in_err-add_follows c =
     (record_of site a.kind a.p r a.under a.helper)
     (imply (site.using ++ (a.q ∷ [])) r ∷ []) c.in_err-add_follows.ensures))
 
-pub returns : goal.returns
-returns c =
+pub returns-clause-answer : goal.returns-clause-answer
+returns-clause-answer c =
     let site : Site = site_of c.args.pl.now in
     let a : Record = c.args.a.now in
     let r : CForm = c.args.r.now in
@@ -51,9 +53,20 @@ returns c =
     (weaken-is site a r
     ∙ needs_met (is_unless a.kind || is_ensures a.kind) Code.WrongKind _
     (sym c.has_end.ensures ∙ c.if-not-has_end.false))
-    (rule_given c.in_ok-add_follows.field-0 site a.kind a.p r c.in_ok-held_form.field-0 c.in_ok-held_form-2.field-0
-    a.under
+    (rule_given c.in_ok-add_follows.field-0 site a.kind a.p r c.in_ok-held_form.field-0
+    c.in_ok-held_form-2.field-0 a.under
     (c.as_slice.result.now ++ []) a.helper c.in_ok-copied_helper.field-0 (imply (site.using ++ (a.q ∷ [])) r ∷ [])
     c.new-goals.result c.add_follows.new.goals c.conclude.result c.in_ok-held_form.ensures c.in_ok-held_form-2.ensures
     (append-nil c.as_slice.result.now ∙ c.as_slice.ensures) c.in_ok-copied_helper.ensures c.new-goals.ensures
     c.in_ok-add_follows.ensures c.conclude.ensures)
+
+pub returns-in_err-add_follows-clause-sound : goal.returns-in_err-add_follows-clause-sound
+returns-in_err-add_follows-clause-sound c stands =
+    error_stands c.args.pl.now c.from_residual.result c.in_err-add_follows.field-0.0 c.from_residual.ensures.1
+
+pub returns-clause-sound : goal.returns-clause-sound
+returns-clause-sound c stands =
+    answer_stands c.args.pl.now c.conclude.result (weaken_of (site_of c.args.pl.now) c.args.a.now c.args.r.now)
+    (λ x e valid. weaken_sound (site_of c.args.pl.now) (site_good c.args.pl.now c.requires.place) c.args.a.now
+    c.args.r.now (premise_good c.args.pl.now c.args.a.now c.requires.record stands) x e valid)
+    (returns-clause-answer c)
