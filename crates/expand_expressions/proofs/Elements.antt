@@ -8,8 +8,8 @@ use Rattle.std.specs.Int.RustNames.{unsigned_abs}
 use Rattle.core_terms.specs.declared.trees.CTerm.{CTerm, fold-roll-CTerm}
 use Rattle.core_terms.specs.declared.trees.CForm.{CForm}
 use Rattle.core_terms.specs.declared.trees.CForm.TheOpen.{CTerm-F}
-use Rattle.core_terms.specs.Weights.{Weights, weighing, sum_weights, choice_weights, weigh_term, weigh_form, one_weight}
-use Rattle.core_terms.specs.Weights.{plain_weights, plain_weight}
+use Rattle.core_terms.specs.Weights.{Weights, weighing, sum_weights, choice_weights, weigh_term, weigh_form}
+use Rattle.core_terms.specs.Weights.{one_weight, plain_weights, plain_weight}
 use Rattle.core_terms.proofs.WeightLaws.{own_within, weights-Const}
 use Rattle.core_terms.specs.declared.trees.CTerm.TheVariants.{Const, Slot, rolls-Slot}
 use Rattle.core_terms.specs.Folding.{number_of, choice_term, zero_form, difference_term}
@@ -97,7 +97,8 @@ size_last lo hi h = let e : pos (natural (hi +ℤ pos 1 -ℤ lo)) ≡ hi +ℤ po
 
 -- an index that is known reads one slot
 pub chain_by : (e : CTerm) (m : Option ℤ) (r : ℤ × ℤ) (first : ℕ) (slot : Option ℕ) → m ≡ number_of e →
-    option_map (λ k. slot_at first (Some r) (Some k)) m ≡ Some slot → slot_term slot ≡ chain e r.0 first (range_size r)
+    option_map (λ k. slot_at first (Some r) (Some k)) m ≡ Some slot → slot_term slot ≡ chain e r.0 first
+    (range_size r)
 chain_by e None r first slot h f = cc f
 chain_by e (Some k) r first slot h f =
     let same : slot_at first (Some r) (Some k) ≡ slot = cc f in

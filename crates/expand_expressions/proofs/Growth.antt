@@ -1,7 +1,7 @@
 -- What stops a part stops the whole.
 use Rattle.std.proofs.Math.Seq.{drop-cons}
-use Rattle.std.proofs.Common.{◌≡◌, ℕ, zero, suc, ◌+◌, ◌<◌, ◌≤◌, ℤ, pos, ◌+ℤ◌, List, [], ◌∷◌, map, drop, length, get_or}
-use Rattle.std.proofs.Common.{Bool, true, false, Result, Ok, Err, refl, sym, ap, ◌∙◌, subst, arith}
+use Rattle.std.proofs.Common.{◌≡◌, ℕ, zero, suc, ◌+◌, ◌<◌, ◌≤◌, ℤ, pos, ◌+ℤ◌, List, [], ◌∷◌, map, drop, length}
+use Rattle.std.proofs.Common.{get_or, Bool, true, false, Result, Ok, Err, refl, sym, ap, ◌∙◌, subst, arith}
 use Rattle.std.proofs.lemmas.Int.{ints}
 use Rattle.std.specs.Prelude.{fold}
 use Rattle.case_tables.specs.declared.symbol_table.Symbol.{Symbol}
@@ -12,8 +12,9 @@ use Rattle.expansion_laws.specs.Limits.{is_past, is_too_large}
 use Rattle.expansion_laws.specs.Forming.{as_number, as_truth, sum, product, conjunction, disjunction, plus, gathered}
 use Rattle.expansion_laws.proofs.Growing.{fold_keeps, as_number_keeps, as_truth_keeps, sum_first, sum_second}
 use Rattle.expansion_laws.proofs.Growing.{product_first, product_second, conjunction_first, conjunction_second}
-use Rattle.expansion_laws.proofs.Growing.{disjunction_first, disjunction_second, plus_first, plus_second, large_of_past}
-use Rattle.expansion_laws.proofs.Growing.{sum_large, product_large, conjunction_large, disjunction_large}
+use Rattle.expansion_laws.proofs.Growing.{disjunction_first, disjunction_second, plus_first, plus_second}
+use Rattle.expansion_laws.proofs.Growing.{large_of_past, sum_large, product_large, conjunction_large}
+use Rattle.expansion_laws.proofs.Growing.{disjunction_large}
 use Rattle.expand_expressions.specs.declared.refusal.Refusal.{Refusal}
 use Rattle.expand_expressions.specs.declared.joining.Joint.{Joint}
 use Rattle.expand_expressions.specs.Sound.{Gives, GivesWhole}
@@ -60,7 +61,8 @@ begin_keeps Joint.Or = as_truth_keeps
 begin_keeps Joint.Sum = as_number_keeps
 begin_keeps Joint.Product = λ a h. h
 
-pub fold_past : (j : Joint) (a : Formed) (bs : List Formed) → is_past a ≡ true → is_past (fold (joint_of j) a bs) ≡ true
+pub fold_past : (j : Joint) (a : Formed) (bs : List Formed) → is_past a ≡ true → is_past (fold (joint_of j) a bs) ≡
+    true
 fold_past j a bs h = fold_keeps (joint_of j) (joint_first j) a bs h
 
 pub fold_large : (j : Joint) (a : Formed) (bs : List Formed) → is_too_large a ≡ true → is_too_large
@@ -115,8 +117,8 @@ pub instances_begin : (which : Word) (f : ℤ → Formed) (low : ℤ) (n : ℕ) 
 instances_begin which f low zero h = absurd (h refl)
 instances_begin which f low (suc n) h =
     let same : low +ℤ pos 0 ≡ low = omega (arith, ints) in
-    ap (λ z. fold (joint_of (word_joint which)) (begin_of (word_joint which) (f z)) (map f (count_up (low +ℤ pos 1) n)))
-    same
+    ap (λ z. fold (joint_of (word_joint which)) (begin_of (word_joint which) (f z))
+    (map f (count_up (low +ℤ pos 1) n))) same
     ∙ gathered_begins which (f low) (map f (count_up (low +ℤ pos 1) n))
 
 pub instances_more : (j : Joint) (f : ℤ → Formed) (low : ℤ) (k n : ℕ) (whole whole2 goal : Formed) → k < n → whole2 ≡
@@ -134,8 +136,8 @@ instances_end j f low k n whole goal e i = sym (ap (λ zs. fold (joint_of j) who
 
 -- an instance that is too large makes them all so
 pub instance_large : (j : Joint) (f : ℤ → Formed) (low : ℤ) (k n : ℕ) (whole goal : Formed) → k < n →
-    fold (joint_of j) whole (map f (drop k (count_up low n))) ≡ goal → is_past (f (low +ℤ pos k)) ≡ true → is_too_large
-    goal ≡ true
+    fold (joint_of j) whole (map f (drop k (count_up low n))) ≡ goal → is_past (f (low +ℤ pos k)) ≡ true →
+    is_too_large goal ≡ true
 instance_large j f low k n whole goal h i p = subst (λ a. is_too_large a ≡ true)
     (sym (ap (λ zs. fold (joint_of j) whole (map f zs)) (drop_numbers k n low h)) ∙ i)
     (large_of_past (fold (joint_of j) whole (f (low +ℤ pos k) ∷ map f (drop (k + 1) (count_up low n))))

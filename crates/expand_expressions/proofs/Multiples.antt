@@ -21,8 +21,8 @@ multiple_fits k t own h w m =
     omega (arith, l, w, m)
 
 -- a number that stands beside a term lies within its weight, and is the term's
-pub known_small : (t : CTerm) (m : Option ℤ) (own : ℕ) → m ≡ number_of t → (plain_weights t).own ≤ own → own ≤ 2 ^ 62 +
-    1 →
+pub known_small : (t : CTerm) (m : Option ℤ) (own : ℕ) → m ≡ number_of t → (plain_weights t).own ≤ own → own ≤ 2 ^ 62
+    + 1 →
     MatchOption m (Unit {0}) (λ z. unsigned_abs z ≤ 2 ^ 62 + 1)
 known_small t None own e h i = tt
 known_small t (Some z) own e h i =

@@ -23,6 +23,7 @@ use Rattle.expand_expressions.specs.Sound.{IsSound}
 
 abbrev pub bound_layer : Env-F (List (List ℕ × Bound)) → List (List ℕ × Bound)
 bound_layer Env-F.Empty = []
+bound_layer (Env-F.Params table) = entries table.now
 bound_layer (Env-F.Inside name bound outer) = (name.now.text, bound) ∷ outer.now
 
 -- what is bound, the innermost first

@@ -1,24 +1,7 @@
 //! What is read of arrays.
 
-ghost use Rattle.std.specs.Prelude.{
-  ◌≡◌,
-  ◌+◌,
-  ◌-◌,
-  ◌^◌,
-  ◌<◌,
-  ◌≤◌,
-  ◌+ℤ◌,
-  ◌≤ℤ◌,
-  pos,
-  IfOk,
-  cond,
-  max,
-  MatchOption,
-  Some,
-  None,
-  [],
-  option_map,
-};
+ghost use Rattle.std.specs.Prelude.{◌≡◌, ◌+◌, ◌-◌, ◌^◌, ◌<◌, ◌≤◌, ◌+ℤ◌, ◌≤ℤ◌, pos, IfOk, cond, max, MatchOption, Some};
+ghost use Rattle.std.specs.Prelude.{None, [], option_map};
 ghost use Rattle.std.specs.Int.RustNames.{unsigned_abs};
 ghost use Rattle.std.specs.Map.{lookup};
 ghost use Rattle.std.specs.Str.{bytes_eq};
@@ -31,8 +14,8 @@ ghost use Rattle.name_laws.specs.SlotLaws.{variable_named};
 ghost use Rattle.expansion_laws.specs.Forming as spec;
 ghost use Rattle.expansion_laws.specs.Forming.{slot_term};
 ghost use Rattle.expand_expressions.specs.Sound.{IsSound, Gives, of_number};
-ghost use Rattle.expand_expressions.specs.Places.{IsReady, HasSlots, IsNear, scope, variable_of, variables_of};
-ghost use Rattle.expand_expressions.specs.Places.{ends_of, element_slots};
+ghost use Rattle.expand_expressions.specs.Places.{IsReady, HasSlots, IsNear, scope, variable_of, variables_of, ends_of};
+ghost use Rattle.expand_expressions.specs.Places.{element_slots};
 
 use crate::measures::{element_measure, ends_weight, natural, range_size};
 use crate::operations::{NumberCore, number};

@@ -14,8 +14,10 @@ mod refusal;
 mod words;
 
 pub use forming::form;
+pub use operations::{NumberCore, TruthCore, number, truth};
 pub use places::{
-    AlwaysTable, Env, Known, ValueTable, VariableSlots, VariableTable, find_bound, outside,
-    with_bound,
+    AlwaysTable, Env, Known, ParamBounds, ValueTable, VariableSlots, VariableTable, among_params,
+    find_bound, find_variable, outside, with_bound,
 };
+pub use ranges::{Numbers, is_fixed_range, range_misfit, range_numbers};
 pub use refusal::Refusal;

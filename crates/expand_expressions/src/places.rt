@@ -42,14 +42,21 @@ pub struct Known<'k, 'a> {
     pub always: &'k AlwaysTable<'a>,
 }
 
+/// What the parameters of a step stand for.
+pub type ParamBounds<'a> = IndexMap<&'a [u8], Bound>;
+
 /// The names that are bound, the innermost first, with the parameters of a step outside of them.
 #[derive(Clone, Copy)]
-pub enum Env<'a> {
+pub enum Env<'a, 't> {
     Empty,
+    /// The parameters of a step, which may be many.
+    Params {
+        table: &'a ParamBounds<'t>,
+    },
     Inside {
         name: &'a Name,
         bound: Bound,
-        outer: &'a Env<'a>,
+        outer: &'a Env<'a, 't>,
     },
 }
 
@@ -75,10 +82,24 @@ pub fn find_always<'t>(always: &'t AlwaysTable, name: &Name) -> Option<&'t Forme
 }
 
 /// No bound names.
-pub fn outside<'a>() -> Env<'a>
+pub fn outside<'a, 't>() -> Env<'a, 't>
     ensures { bound_names result ≡ [] }
 {
     Env::Empty
+}
+
+/// What a parameter stands for.
+fn find_param(table: &ParamBounds, name: &Name) -> Option<Bound>
+    ensures { result ≡ lookup (bytes_eq name.now.text) (entries table.now) }
+{
+    table.get(name.text.as_slice()).copied()
+}
+
+/// The parameters of a step, with no name bound inside.
+pub fn among_params<'a, 't>(table: &'a ParamBounds<'t>) -> Env<'a, 't>
+    ensures { bound_names result ≡ entries table.now }
+{
+    Env::Params { table }
 }
 
 /// What a bound name stands for.
@@ -87,6 +108,7 @@ pub fn find_bound(env: &Env, name: &Name) -> Option<Bound>
 {
     match env {
         Env::Empty => None,
+        Env::Params { table } => find_param(table, name),
         Env::Inside {
             name: first,
             bound,
@@ -102,7 +124,7 @@ pub fn find_bound(env: &Env, name: &Name) -> Option<Bound>
 }
 
 /// The bound names with one more inside.
-pub fn with_bound<'a>(name: &'a Name, bound: Bound, outer: &'a Env<'a>) -> Env<'a>
+pub fn with_bound<'a, 't>(name: &'a Name, bound: Bound, outer: &'a Env<'a, 't>) -> Env<'a, 't>
     ensures { bound_names result ≡ (name.now.text, bound) ∷ bound_names outer.now }
 {
     Env::Inside { name, bound, outer }

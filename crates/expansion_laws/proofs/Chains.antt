@@ -1,20 +1,16 @@
 -- What is read of an array at an index.
-use Rattle.std.proofs.Common.{◌≡◌, ℕ, zero, suc, ◌+◌, ℤ, pos, negsuc, ◌+ℤ◌, ◌-ℤ◌, ◌≤ℤ◌, ◌<ℤ◌, List, [], ◌∷◌, Bool}
-use Rattle.std.proofs.Common.{true}
-use Rattle.std.proofs.Common.{false, cond, ◌&&◌, Option, Some, None, refl, sym, ap, ◌∙◌, subst, arith}
+use Rattle.std.proofs.Common.{◌≡◌, ℕ, zero, suc, ◌+◌, ℤ, pos, negsuc, ◌+ℤ◌, ◌-ℤ◌, ◌≤ℤ◌, ◌<ℤ◌, List, Bool, true, false}
+use Rattle.std.proofs.Common.{cond, ◌&&◌, Some, None, refl, sym, ap, ◌∙◌, arith}
 use Rattle.std.proofs.lemmas.Int.{ints}
 use borrow.Author.Differences.{le-true, le-false, at_most_in, below_in}
-use Rattle.std.specs.Str.{bytes_eq}
 use Rattle.std.specs.Int.RustNames.{int_le}
-use Rattle.unity_meaning.specs.Names.{Variable, or_zero, natural, slot_at, slot_named, slot_number}
+use Rattle.unity_meaning.specs.Names.{or_zero, natural, slot_at, slot_number}
 use Rattle.unity_meaning.specs.Value.{range_size}
-use Rattle.state_steps.specs.State.{in_range}
 use Rattle.core_terms.specs.declared.trees.CTerm.{CTerm}
 use Rattle.core_terms.specs.declared.trees.CTerm.TheVariants.{Const, Slot}
-use Rattle.core_terms.specs.declared.trees.CForm.{CForm}
-use Rattle.core_terms.specs.Values.{number_at, term_value, form_value}
+use Rattle.core_terms.specs.Values.{number_at, term_value}
 use Rattle.state_steps.specs.State.{int_eq}
-use Rattle.core_terms.specs.Folding.{difference_term, zero_form, choice_term}
+use Rattle.core_terms.specs.Folding.{difference_term, zero_form}
 use Rattle.core_terms.proofs.PartLaws.{value-Const, value-Slot}
 use Rattle.expansion_laws.proofs.Differences.{zero_tests, le_yes, le_no}
 use Rattle.core_terms.proofs.FoldingLaws.{value-difference_term, value-zero_form, value-choice_term}
@@ -55,34 +51,33 @@ module _ (s p : List ℤ) (e : CTerm) (z : ℤ) (worth : term_value s p e ≡ z)
   value-link : (low : ℤ) (first n : ℕ) → term_value s p (chain e low first (suc n)) ≡ cond (int_eq z low)
       (number_at s first) (term_value s p (chain e (low +ℤ pos 1) (suc first) n))
   value-link low first n =
-      value-choice_term s p (zero_form (difference_term e (Const low))) (Slot first)
-      (chain e (low +ℤ pos 1) (suc first) n)
+      value-choice_term s p (zero_form (difference_term e (Const low))) (Slot first) (chain e (low +ℤ pos 1)
+      (suc first) n)
       ∙ ap (λ v. cond v (term_value s p (Slot first)) (term_value s p (chain e (low +ℤ pos 1) (suc first) n)))
-      (value-zero_form s p _ ∙ ap (λ v. int_eq v (pos 0)) (value-difference_term s p e (Const low) ∙ ap
-      (λ v. v -ℤ term_value s p (Const low)) worth ∙ ap (λ v. z -ℤ v) (value-Const s p low)) ∙ zero_tests z low)
-      ∙ ap (λ v. cond (int_eq z low) v (term_value s p (chain e (low +ℤ pos 1) (suc first) n)))
-      (value-Slot s p first)
+      (value-zero_form s p _ ∙ ap (λ v. int_eq v (pos 0)) (value-difference_term s p e (Const low)
+      ∙ ap (λ v. v -ℤ term_value s p (Const low)) worth ∙ ap (λ v. z -ℤ v) (value-Const s p low))
+      ∙ zero_tests z low)
+      ∙ ap (λ v. cond (int_eq z low) v (term_value s p (chain e (low +ℤ pos 1) (suc first) n))) (value-Slot s p first)
 
   link_here : (low : ℤ) (first n : ℕ) → z ≡ low → term_value s p (chain e low first (suc n)) ≡ number_at s first
-  link_here low first n h = value-link low first n ∙ ap (λ v. cond v (number_at s first)
-      (term_value s p (chain e (low +ℤ pos 1) (suc first) n))) (eq_yes z low h)
+  link_here low first n h = value-link low first n ∙ ap (λ v. cond v (number_at s first) (term_value s p
+      (chain e (low +ℤ pos 1) (suc first) n))) (eq_yes z low h)
 
   link_past : (low : ℤ) (first n : ℕ) → int_eq z low ≡ false → term_value s p (chain e low first (suc n)) ≡
-      term_value s
-      p (chain e (low +ℤ pos 1) (suc first) n)
-  link_past low first n h = value-link low first n ∙ ap (λ v. cond v (number_at s first)
-      (term_value s p (chain e (low +ℤ pos 1) (suc first) n))) h
+      term_value s p (chain e (low +ℤ pos 1) (suc first) n)
+  link_past low first n h = value-link low first n ∙ ap (λ v. cond v (number_at s first) (term_value s p
+      (chain e (low +ℤ pos 1) (suc first) n))) h
 
   pub chain_below : (low : ℤ) (first n : ℕ) → z <ℤ low → term_value s p (chain e low first n) ≡ pos 0
   chain_below low first zero h = value-Const s p (pos 0)
-  chain_below low first (suc n) h = link_past low first n (eq_below z low h) ∙ chain_below (low +ℤ pos 1)
-      (suc first) n
+  chain_below low first (suc n) h = link_past low first n (eq_below z low h) ∙ chain_below (low +ℤ pos 1) (suc first)
+      n
       (omega (arith, ints))
 
   pub chain_above : (low : ℤ) (first n : ℕ) → (low +ℤ pos n) ≤ℤ z → term_value s p (chain e low first n) ≡ pos 0
   chain_above low first zero h = value-Const s p (pos 0)
-  chain_above low first (suc n) h = link_past low first n (eq_above z low (omega (arith, ints))) ∙ chain_above
-      (low +ℤ pos 1) (suc first) n (omega (arith, ints))
+  chain_above low first (suc n) h = link_past low first n (eq_above z low (omega (arith, ints)))
+      ∙ chain_above (low +ℤ pos 1) (suc first) n (omega (arith, ints))
 
   -- k is how far the index lies above the lowest
   pub chain_inside : (low : ℤ) (first n k : ℕ) → z ≡ low +ℤ pos k → z <ℤ (low +ℤ pos n) → term_value s p
@@ -99,13 +94,12 @@ module _ (s p : List ℤ) (e : CTerm) (z : ℤ) (worth : term_value s p e ≡ z)
   pub value-chain : (first : ℕ) (r : ℤ × ℤ) →
       term_value s p (chain e r.0 first (range_size r)) ≡ or_zero (slot_number s (slot_at first (Some r) (Some z)))
   value-chain first r =
-      elim (int_le r.0 z) as (λ v. int_le r.0 z ≡ v → term_value s p (chain e r.0 first (range_size r)) ≡ or_zero
-      (slot_number s (cond (v && int_le z r.1) (Some (first + natural (z -ℤ r.0))) None))) [
+      elim (int_le r.0 z) as (λ v. int_le r.0 z ≡ v → term_value s p (chain e r.0 first (range_size r)) ≡
+      or_zero (slot_number s (cond (v && int_le z r.1) (Some (first + natural (z -ℤ r.0))) None))) [
         | false ↦ λ f. let h = le-false r.0 z f in chain_below r.0 first (range_size r) (omega (arith, ints))
         | true ↦ λ f. let h = le-true r.0 z f in
             elim (int_le z r.1) as (λ v. int_le z r.1 ≡ v → term_value s p (chain e r.0 first (range_size r)) ≡
-            or_zero
-            (slot_number s (cond v (Some (first + natural (z -ℤ r.0))) None))) [
+            or_zero (slot_number s (cond v (Some (first + natural (z -ℤ r.0))) None))) [
               | true ↦ λ g. let k = le-true z r.1 g in
                   let n : r.0 +ℤ pos (range_size r) ≡ r.1 +ℤ pos 1 = size_of r.0 r.1 (omega (arith, ints)) in
                   let d : z -ℤ r.0 ≡ pos (natural (z -ℤ r.0)) = natural_of (z -ℤ r.0) (omega (arith, ints)) in
@@ -119,8 +113,7 @@ module _ (s p : List ℤ) (e : CTerm) (z : ℤ) (worth : term_value s p e ≡ z)
       past r h k = elim (int_le r.0 (r.1 +ℤ pos 1)) as (λ v. int_le r.0 (r.1 +ℤ pos 1) ≡ v → term_value s p
           (chain e r.0 first (range_size r)) ≡ pos 0) [
             | true ↦ λ g. let l = le-true r.0 (r.1 +ℤ pos 1) g in let n : r.0 +ℤ pos (range_size r) ≡ r.1 +ℤ pos 1 =
-                size_of
-                r.0 r.1 (omega (arith, ints)) in chain_above r.0 first (range_size r) (omega (arith, ints))
+                size_of r.0 r.1 (omega (arith, ints)) in chain_above r.0 first (range_size r) (omega (arith, ints))
             | false ↦ λ g. let l = le-false r.0 (r.1 +ℤ pos 1) g in
                 let n : range_size r ≡ 0 = size_none (r.1 +ℤ pos 1 -ℤ r.0) (omega (arith, ints)) in
                 ap (λ m. term_value s p (chain e r.0 first m)) n ∙ value-Const s p (pos 0)

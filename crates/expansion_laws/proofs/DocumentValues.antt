@@ -1,34 +1,34 @@
 -- A document's scope is what is seen at its states.
-use Rattle.std.proofs.Common.{◌≡◌, ℕ, ℤ, pos, List, [], ◌∷◌, map, Bool, true, Option, Some, None, refl, sym, ap, ◌∙◌}
-use Rattle.std.proofs.Common.{subst, inl, inr, ◌⊎◌, slice_index_or}
+use Rattle.std.proofs.Common.{◌≡◌, ℕ, ℤ, pos, List, [], ◌∷◌, true, Option, Some, None, refl, sym, ap, ◌∙◌, inl, inr}
+use Rattle.std.proofs.Common.{◌⊎◌, slice_index_or}
 use Rattle.unity_syntax.specs.declared.declaration.Def.{Def}
-use Rattle.unity_syntax.specs.declared.expression.Expr.{Expr}
 use Rattle.unity_syntax.specs.declared.program.Program.{Program}
 use Rattle.state_steps.specs.State.{State, is_state}
-use Rattle.unity_meaning.specs.Names.{Bindings, Variable, Sight, or_zero, slot_at, slot_named, slot_number}
+use Rattle.unity_meaning.specs.Names.{Sight, or_zero, slot_at, slot_named, slot_number}
 use Rattle.unity_meaning.specs.Value.{value, truth, holds}
-use Rattle.unity_meaning.specs.Setting.{Setting, setting_of, slot_ranges, with_always, seen_plainly, seen}
-use Rattle.name_laws.specs.SlotLaws.{variables_of, variable_named}
+use Rattle.unity_meaning.specs.Setting.{setting_of, slot_ranges, with_always, seen_plainly, seen}
+use Rattle.name_laws.specs.SlotLaws.{variables_of}
 use Rattle.name_laws.proofs.Slots.{truth_slots_are_bits}
 use Rattle.expansion_laws.specs.declared.cores.Bound.{Bound}
 use Rattle.expansion_laws.specs.Forming.{Scope, formed}
 use Rattle.expansion_laws.specs.Worth.{values_of}
 use Rattle.expansion_laws.specs.Documents.{with_formed, plain_scope, scope_of, within}
 use Rattle.expansion_laws.specs.ValueLaws.{CoreHasValue}
-use Rattle.expansion_laws.proofs.Values.{IsBit, slot_by, slot_of_variable, IsFormed, AreBits, Sees, formed_law}
+use Rattle.expansion_laws.proofs.Values.{IsBit, slot_by, slot_of_variable, AreBits, Sees, formed_law}
 
 bit_of : (z : ℤ) → (z ≡ pos 0) ⊎ (z ≡ pos 1) → IsBit z
 bit_of z (inl e) = e ∙ sym (ap (λ v. truth (holds v)) e)
 bit_of z (inr e) = e ∙ sym (ap (λ v. truth (holds v)) e)
 
 slot_bit : (state : State) (m n : Option ℕ) → m ≡ n →
-    ((slot : ℕ) → m ≡ Some slot → (slice_index_or state slot (pos 0) ≡ pos 0) ⊎
-    (slice_index_or state slot (pos 0) ≡ pos 1)) →
+    ((slot : ℕ) → m ≡ Some slot → (slice_index_or state slot (pos 0) ≡ pos 0) ⊎ (slice_index_or state slot (pos 0) ≡
+    pos 1)) →
     IsBit (or_zero (slot_number state n))
 slot_bit state m None e h = refl
 slot_bit state m (Some slot) e h = bit_of (slice_index_or state slot (pos 0)) (h slot e)
 
-pub are_bits : (programs : List Program) (state : State) → is_state (slot_ranges (variables_of programs)) state ≡ true →
+pub are_bits : (programs : List Program) (state : State) → is_state (slot_ranges (variables_of programs)) state ≡ true
+    →
     AreBits state [] (variables_of programs)
 are_bits programs state h name v index e t =
     slot_bit state (slot_named name index (variables_of programs)) (slot_at v.first v.indices index)
@@ -78,5 +78,5 @@ module _ (state params : List ℤ) where
 
 pub core_has_value : CoreHasValue
 core_has_value programs state params bs e h x n =
-    (formed_law state params e (within (scope_of programs) bs) _
-    (sees_within state params programs bs (are_bits programs state h))).value x n
+    (formed_law state params e (within (scope_of programs) bs) _ (sees_within state params programs bs
+    (are_bits programs state h))).value x n

@@ -1,5 +1,5 @@
 -- What each kind of expression becomes, one equation for each.
-use Rattle.std.proofs.Common.{◌≡◌, ℕ, ℤ, pos, List, [], ◌∷◌, map, Bool, Option, Some, None, refl, sym, ap, ◌∙◌}
+use Rattle.std.proofs.Common.{◌≡◌, ℕ, pos, List, [], ◌∷◌, map, Bool, Some, None, refl, sym, ap, ◌∙◌}
 use Rattle.std.specs.Prelude.{fold}
 use Rattle.case_tables.specs.declared.symbol_table.Symbol.{Symbol}
 use Rattle.case_tables.specs.declared.word_table.Word.{Word}
@@ -15,7 +15,6 @@ use Rattle.unity_syntax.specs.declared.expression.Expr.TheVariants.{rolls-Number
 use Rattle.unity_syntax.specs.declared.expression.Expr.TheVariants.{rolls-Brackets, rolls-Quantified}
 use Rattle.name_laws.specs.SlotLaws.{variable_named}
 use Rattle.core_terms.specs.declared.trees.CForm.TheVariants.{Top, Bottom}
-use Rattle.expansion_laws.specs.declared.cores.Formed.{Formed}
 use Rattle.expansion_laws.specs.Forming.{Scope, with_number, as_number, as_truth, number_constant, truth_constant}
 use Rattle.expansion_laws.specs.Forming.{product, denial, conjunction, disjunction, implication, comparison, signed}
 use Rattle.expansion_laws.specs.Forming.{plus, word_formed, element_of, gathered, numbers, fit_values, quantified}
@@ -26,7 +25,8 @@ map_twice f g [] = refl
 map_twice f g (x ∷ xs) = ap (λ ys. g (f x) ∷ ys) (map_twice f g xs)
 
 unfolds : (d : Expr-F Expr) (e : Expr) → roll-Expr d ≡ e → (s : Scope) → formed e s ≡ form_layer
-    (map-Expr Expr Forming formed d) s
+    (map-Expr Expr Forming
+    formed d) s
 unfolds d e same s = ap (λ x. formed x s) (sym same) ∙ ap (λ m. m s) (fold-roll-Expr Forming form_layer d)
 
 pub formed-Implies : (at : ℕ) (l r : Expr) (s : Scope) → formed (Expr.Implies at l r) s ≡ implication (formed l s)
@@ -51,16 +51,16 @@ pub formed-Compare : (at : ℕ) (l : Expr) (r : Symbol) (x : Expr) (s : Scope) �
 formed-Compare at l r x s = unfolds _ _ (rolls-Compare at l r x) s
 
 pub formed-Sum : (at : ℕ) (minus : Bool) (x : Expr) (xs : List (Symbol × Expr)) (s : Scope) →
-    formed (Expr.Sum at minus x xs) s ≡ fold plus (signed minus (formed x s))
-    (map (λ (p : Symbol × Expr). (p.0, formed p.1 s)) xs)
+    formed (Expr.Sum at minus x xs) s ≡ fold plus (signed minus (formed x s)) (map (λ (p : Symbol × Expr).
+    (p.0, formed p.1 s)) xs)
 formed-Sum at minus x xs s = unfolds _ _ (rolls-Sum at minus x xs) s
     ∙ ap (fold plus (signed minus (formed x s))) (map_twice (λ (p : Symbol × Expr). (p.0, formed p.1))
     (λ (p : Symbol × Forming). (p.0, p.1 s)) xs)
 
 pub formed-Product : (at : ℕ) (x : Expr) (xs : List Expr) (s : Scope) →
     formed (Expr.Product at x xs) s ≡ fold product (formed x s) (map (λ e. formed e s) xs)
-formed-Product at x xs s = unfolds _ _ (rolls-Product at x xs) s ∙ ap (fold product (formed x s))
-    (map_twice formed (λ m. m s) xs)
+formed-Product at x xs s = unfolds _ _ (rolls-Product at x xs) s ∙ ap (fold product (formed x s)) (map_twice formed
+    (λ m. m s) xs)
 
 pub formed-Number : (at n : ℕ) (s : Scope) → formed (Expr.Number at n) s ≡ number_constant (pos n)
 formed-Number at n s = unfolds _ _ (rolls-Number at n) s

@@ -1,7 +1,6 @@
 -- What a part is too large for, the whole is too large for.
-use Rattle.std.proofs.Common.{◌≡◌, ℕ, ◌+◌, ◌*◌, ◌^◌, ◌≤◌, ◌<◌, min, max, ℤ, pos, List, [], ◌∷◌, Bool, true, false}
-use Rattle.std.proofs.Common.{cond}
-use Rattle.std.proofs.Common.{not, ◌&&◌, ◌||◌, Option, Some, None, refl, sym, ap, ◌∙◌, arith, inl, inr, ◌⊎◌, nat_le}
+use Rattle.std.proofs.Common.{◌≡◌, ℕ, ◌+◌, ◌*◌, ◌^◌, ◌≤◌, ◌<◌, max, ℤ, pos, List, [], ◌∷◌, Bool, true, false, cond}
+use Rattle.std.proofs.Common.{not, ◌&&◌, ◌||◌, Option, Some, None, refl, ap, arith, inl, inr, ◌⊎◌, nat_le}
 use Rattle.std.proofs.lemmas.Bool.{leb-false, lt-leb}
 use Rattle.std.proofs.Math.Nat.{mul-le-mul_right}
 use Rattle.std.specs.Prelude.{fold}
@@ -14,23 +13,18 @@ use Rattle.expansion_laws.specs.declared.cores.Core.{Core}
 use Rattle.expansion_laws.specs.declared.cores.Bound.{Bound}
 use Rattle.expansion_laws.specs.declared.cores.Measure.{Measure}
 use Rattle.expansion_laws.specs.declared.cores.Formed.{Formed}
-use Rattle.expansion_laws.specs.Measures.{counted, leaf, sum_measure, multiple_measure, negation_measure}
-use Rattle.expansion_laws.specs.Measures.{over_measure}
-use Rattle.expansion_laws.specs.Measures.{pair_measure, choice_measure, ends_weight, element_measure}
-use Rattle.expansion_laws.specs.Measures.{quantifier_measure, range_misfit}
+use Rattle.expansion_laws.specs.Measures.{sum_measure, multiple_measure, negation_measure, over_measure, pair_measure}
+use Rattle.expansion_laws.specs.Measures.{ends_weight, element_measure, quantifier_measure, range_misfit}
 use Rattle.expansion_laws.specs.Forming.{as_number, as_truth, number_measure, truth_measure, number_constant}
-use Rattle.expansion_laws.specs.Forming.{factor_of}
-use Rattle.expansion_laws.specs.Forming.{sum, difference, negation, multiple, product, at_least_zero, is_zero}
-use Rattle.expansion_laws.specs.Forming.{denial}
-use Rattle.expansion_laws.specs.Forming.{conjunction, disjunction, implication, equation_by, equation, excess}
-use Rattle.expansion_laws.specs.Forming.{never}
-use Rattle.expansion_laws.specs.Forming.{comparison, signed, plus, typed, no_element, array_formed, element_by}
-use Rattle.expansion_laws.specs.Forming.{element_of, numbers, quantified}
+use Rattle.expansion_laws.specs.Forming.{factor_of, sum, difference, negation, multiple, product, at_least_zero}
+use Rattle.expansion_laws.specs.Forming.{is_zero, denial, conjunction, disjunction, implication, equation_by}
+use Rattle.expansion_laws.specs.Forming.{equation, excess, never, comparison, signed, plus, typed, no_element}
+use Rattle.expansion_laws.specs.Forming.{array_formed, element_by, element_of, numbers, quantified}
 use Rattle.expansion_laws.specs.Limits.{is_past, is_too_large}
 
 abbrev pub IsPast : Formed → Type 0
-IsPast f = (2 ^ 62 < f.measure.most) ⊎ ((65536 < f.measure.quantified) ⊎
-    ((f.constant ≡ false) × (65536 < f.measure.size)))
+IsPast f = (2 ^ 62 < f.measure.most) ⊎ ((65536 < f.measure.quantified) ⊎ ((f.constant ≡ false)
+    × (65536 < f.measure.size)))
 
 over_by : (a b : ℕ) (v : Bool) → nat_le a b ≡ v → not v ≡ true → b < a
 over_by a b true e h = cc h
@@ -71,12 +65,11 @@ both_true true b h i = i
 both_true false b h i = h
 
 pub tells : (f : Formed) → is_past f ≡ true → IsPast f
-tells f h = elim (either (not (nat_le f.measure.most (2 ^ 62)))
-    (not (nat_le f.measure.quantified 65536) || (not f.constant && not (nat_le f.measure.size 65536))) h) [
+tells f h = elim (either (not (nat_le f.measure.most (2 ^ 62))) (not (nat_le f.measure.quantified 65536) ||
+    (not f.constant && not (nat_le f.measure.size 65536))) h) [
       | inl m ↦ inl (over f.measure.most (2 ^ 62) m)
-      | inr r ↦ elim (either (not (nat_le f.measure.quantified 65536))
-          (not f.constant && not (nat_le f.measure.size 65536))
-          r) [
+      | inr r ↦ elim (either (not (nat_le f.measure.quantified 65536)) (not f.constant && not (nat_le f.measure.size
+          65536)) r) [
             | inl q ↦ inr (inl (over f.measure.quantified 65536 q))
             | inr s ↦ inr (inr (
               not_true f.constant (and_left (not f.constant) (not (nat_le f.measure.size 65536)) s),
@@ -110,8 +103,7 @@ grows_on l m n g h = record {
 pub grows_same : (m : Measure) → Grows m m
 grows_same m = record { most = omega arith; quantified = λ e. e; size = λ e. e }
 
-past_on : (a b : Formed) → Grows a.measure b.measure → (a.constant ≡ false → b.constant ≡ false) → IsPast a → IsPast
-    b
+past_on : (a b : Formed) → Grows a.measure b.measure → (a.constant ≡ false → b.constant ≡ false) → IsPast a → IsPast b
 past_on a b g c (inl m) = let h = g.most in inl (omega (arith, h, m))
 past_on a b g c (inr (inl q)) = inr (inl (g.quantified q))
 past_on a b g c (inr (inr s)) = inr (inr (c s.0, g.size s.1))
@@ -141,11 +133,7 @@ large_grows a b g c h = elim (either (is_past a) (not (nat_le a.measure.size 655
 
 number_grows : (c : Core) (m : Measure) → Grows m (number_measure c m)
 number_grows (Core.Number t known) m = grows_same m
-number_grows (Core.Truth f known) m = record {
-  most = omega arith;
-  quantified = λ e. e;
-  size = λ e. omega (arith, e);
-}
+number_grows (Core.Truth f known) m = record { most = omega arith; quantified = λ e. e; size = λ e. omega (arith, e) }
 
 truth_grows : (c : Core) (m : Measure) → Grows m (truth_measure c m)
 truth_grows (Core.Truth f known) m = grows_same m
@@ -153,32 +141,19 @@ truth_grows (Core.Number t known) m =
     record { most = omega arith; quantified = λ e. omega (arith, e); size = λ e. omega (arith, e) }
 
 sum_grows_first : (m n : Measure) → Grows m (sum_measure m n)
-sum_grows_first m n = record {
-  most = omega arith;
-  quantified = λ e. omega (arith, e);
-  size = λ e. omega (arith, e);
-}
+sum_grows_first m n = record { most = omega arith; quantified = λ e. omega (arith, e); size = λ e. omega (arith, e) }
 
 sum_grows_second : (m n : Measure) → Grows n (sum_measure m n)
-sum_grows_second m n = record {
-  most = omega arith;
-  quantified = λ e. omega (arith, e);
-  size = λ e. omega (arith, e);
-}
+sum_grows_second m n = record { most = omega arith; quantified = λ e. omega (arith, e); size = λ e. omega (arith, e) }
 
 pair_grows_first : (m n : Measure) → Grows m (pair_measure m n)
-pair_grows_first m n = record {
-  most = omega arith;
-  quantified = λ e. omega (arith, e);
-  size = λ e. omega (arith, e);
-}
+pair_grows_first m n = record { most = omega arith; quantified = λ e. omega (arith, e); size = λ e. omega (arith, e) }
 
 pair_grows_second : (m n : Measure) → Grows n (pair_measure m n)
 pair_grows_second m n = record {
   most = omega arith;
   quantified = λ e. omega (arith, e);
-  size = λ e. omega
-      (arith, e);
+  size = λ e. omega (arith, e);
 }
 
 above : (x y z : ℕ) → y ≤ max x (max y z)
@@ -232,32 +207,33 @@ pub as_truth_keeps : Keeps as_truth
 as_truth_keeps a = past_grows a (as_truth a) (truth_grows a.core a.measure) (λ e. e)
 
 pub sum_first : KeepsFirst sum
-sum_first a b = past_grows a (sum a b) (grows_on _ _ _ (number_grows a.core a.measure)
-    (sum_grows_first (as_number a).measure (as_number b).measure)) (and_false_left a.constant b.constant)
+sum_first a b = past_grows a (sum a b) (grows_on _ _ _ (number_grows a.core a.measure) (sum_grows_first
+    (as_number a).measure (as_number b).measure)) (and_false_left a.constant b.constant)
 
 pub sum_second : KeepsSecond sum
-sum_second a b = past_grows b (sum a b) (grows_on _ _ _ (number_grows b.core b.measure)
-    (sum_grows_second (as_number a).measure (as_number b).measure)) (and_false_right a.constant b.constant)
+sum_second a b = past_grows b (sum a b) (grows_on _ _ _ (number_grows b.core b.measure) (sum_grows_second
+    (as_number a).measure (as_number b).measure)) (and_false_right a.constant b.constant)
 
 pub difference_first : KeepsFirst difference
-difference_first a b = past_grows a (difference a b) (grows_on _ _ _ (number_grows a.core a.measure)
-    (sum_grows_first (as_number a).measure (as_number b).measure)) (and_false_left a.constant b.constant)
+difference_first a b = past_grows a (difference a b) (grows_on _ _ _ (number_grows a.core a.measure) (sum_grows_first
+    (as_number a).measure (as_number b).measure)) (and_false_left a.constant b.constant)
 
 pub difference_second : KeepsSecond difference
 difference_second a b = past_grows b (difference a b) (grows_on _ _ _ (number_grows b.core b.measure)
-    (sum_grows_second (as_number a).measure (as_number b).measure)) (and_false_right a.constant b.constant)
+    (sum_grows_second
+    (as_number a).measure (as_number b).measure)) (and_false_right a.constant b.constant)
 
 pub negation_keeps : Keeps negation
-negation_keeps a = past_grows a (negation a) (grows_on _ _ _ (number_grows a.core a.measure)
-    (negation_grows (as_number a).measure)) (λ e. e)
+negation_keeps a = past_grows a (negation a) (grows_on _ _ _ (number_grows a.core a.measure) (negation_grows
+    (as_number a).measure)) (λ e. e)
 
 multiple_first : (k a : Formed) → Grows k.measure (multiple k a).measure
-multiple_first k a = grows_on _ _ _ (number_grows k.core k.measure)
-    (multiple_grows_first (factor_of k.core) (as_number k).measure (as_number a).measure)
+multiple_first k a = grows_on _ _ _ (number_grows k.core k.measure) (multiple_grows_first (factor_of k.core)
+    (as_number k).measure (as_number a).measure)
 
 multiple_second : (k a : Formed) → Grows a.measure (multiple k a).measure
-multiple_second k a = grows_on _ _ _ (number_grows a.core a.measure)
-    (multiple_grows_second (factor_of k.core) (as_number k).measure (as_number a).measure)
+multiple_second k a = grows_on _ _ _ (number_grows a.core a.measure) (multiple_grows_second (factor_of k.core)
+    (as_number k).measure (as_number a).measure)
 
 product_grows_first : (a b : Formed) (c : Bool) → Grows a.measure (cond c (multiple a b) (multiple b a)).measure
 product_grows_first a b true = multiple_first a b
@@ -268,12 +244,12 @@ product_grows_second a b true = multiple_second a b
 product_grows_second a b false = multiple_first b a
 
 pub product_first : KeepsFirst product
-product_first a b = past_grows a (product a b) (product_grows_first a b a.constant)
-    (and_false_left a.constant b.constant)
+product_first a b = past_grows a (product a b) (product_grows_first a b a.constant) (and_false_left a.constant
+    b.constant)
 
 pub product_second : KeepsSecond product
-product_second a b = past_grows b (product a b) (product_grows_second a b a.constant)
-    (and_false_right a.constant b.constant)
+product_second a b = past_grows b (product a b) (product_grows_second a b a.constant) (and_false_right a.constant
+    b.constant)
 
 pub at_least_keeps : Keeps at_least_zero
 at_least_keeps a = past_grows a (at_least_zero a) (grows_on _ _ _ (number_grows a.core a.measure)
@@ -289,7 +265,8 @@ denial_keeps a = past_grows a (denial a) (grows_on _ _ _ (truth_grows a.core a.m
 
 pub conjunction_first : KeepsFirst conjunction
 conjunction_first a b = past_grows a (conjunction a b) (grows_on _ _ _ (truth_grows a.core a.measure)
-    (pair_grows_first (as_truth a).measure (as_truth b).measure)) (and_false_left a.constant b.constant)
+    (pair_grows_first
+    (as_truth a).measure (as_truth b).measure)) (and_false_left a.constant b.constant)
 
 pub conjunction_second : KeepsSecond conjunction
 conjunction_second a b = past_grows b (conjunction a b) (grows_on _ _ _ (truth_grows b.core b.measure)
@@ -297,7 +274,8 @@ conjunction_second a b = past_grows b (conjunction a b) (grows_on _ _ _ (truth_g
 
 pub disjunction_first : KeepsFirst disjunction
 disjunction_first a b = past_grows a (disjunction a b) (grows_on _ _ _ (truth_grows a.core a.measure)
-    (pair_grows_first (as_truth a).measure (as_truth b).measure)) (and_false_left a.constant b.constant)
+    (pair_grows_first
+    (as_truth a).measure (as_truth b).measure)) (and_false_left a.constant b.constant)
 
 pub disjunction_second : KeepsSecond disjunction
 disjunction_second a b = past_grows b (disjunction a b) (grows_on _ _ _ (truth_grows b.core b.measure)
@@ -330,20 +308,20 @@ least_second : KeepsSecond (λ a b. at_least_zero (difference a b))
 least_second a b h = at_least_keeps (difference a b) (difference_second a b h)
 
 excess_first : KeepsFirst excess
-excess_first a b h = at_least_keeps (difference (difference a b) (number_constant (pos 1)))
-    (difference_first (difference a b) (number_constant (pos 1)) (difference_first a b h))
+excess_first a b h = at_least_keeps (difference (difference a b) (number_constant (pos 1))) (difference_first
+    (difference a b) (number_constant (pos 1)) (difference_first a b h))
 
 excess_second : KeepsSecond excess
-excess_second a b h = at_least_keeps (difference (difference a b) (number_constant (pos 1)))
-    (difference_first (difference a b) (number_constant (pos 1)) (difference_second a b h))
+excess_second a b h = at_least_keeps (difference (difference a b) (number_constant (pos 1))) (difference_first
+    (difference a b) (number_constant (pos 1)) (difference_second a b h))
 
 never_first : KeepsFirst never
 never_first a b = past_grows a (never a b) (pair_grows_first a.measure b.measure)
     (and_false_left a.constant b.constant)
 
 never_second : KeepsSecond never
-never_second a b = past_grows b (never a b) (pair_grows_second a.measure b.measure)
-    (and_false_right a.constant b.constant)
+never_second a b = past_grows b (never a b) (pair_grows_second a.measure b.measure) (and_false_right a.constant
+    b.constant)
 
 pub comparison_first : (r : Symbol) → KeepsFirst (comparison r)
 comparison_first Symbol.Equal a b h = equation_by_first a.core b.core a b h
@@ -383,9 +361,8 @@ pub typed_keeps : (v : Variable) → Keeps (typed v)
 typed_keeps v a h = typed_by v.is_truth a h
 
 -- a fold
-pub fold_keeps : {X : Type 0} (op : Formed → X → Formed) → ((a : Formed) (x : X) → is_past a ≡ true → is_past
-    (op a x) ≡
-    true) →
+pub fold_keeps : {X : Type 0} (op : Formed → X → Formed) → ((a : Formed) (x : X) → is_past a ≡ true →
+    is_past (op a x) ≡ true) →
     (a : Formed) (xs : List X) → is_past a ≡ true → is_past (fold op a xs) ≡ true
 fold_keeps op k a [] h = h
 fold_keeps op k a (x ∷ xs) h = fold_keeps op k (op a x) xs (k a x h)
@@ -408,8 +385,7 @@ element_grows false n ends weight m h = record {
 element_on : (v : Variable) (i : Formed) (ends : ℤ × ℤ) → IsPast i → IsPast (array_formed v i ends)
 element_on v i ends (inl m) =
     let h = above (i.measure.own + max (unsigned_abs ends.0) (unsigned_abs ends.1)) i.measure.most
-    (ends_weight v.range)
-    in
+    (ends_weight v.range) in
     inl (omega (arith, h, m))
 element_on v i ends (inr (inl q)) = inr (inl q)
 element_on v i ends (inr (inr s)) =
@@ -438,23 +414,23 @@ quantifier_grows fault m =
     record { most = omega arith; quantified = λ e. omega (arith, e); size = λ e. omega (arith, e) }
 
 -- instances that are too large in themselves, or in what a quantifier counts of them
-pub quantified_keeps : (bs : List (List ℕ × Bound)) (r : Range) (a : Formed) → is_too_large a ≡ true → is_past
-    (quantified bs r a) ≡ true
+pub quantified_keeps : (bs : List (List ℕ × Bound)) (r : Range) (a : Formed) → is_too_large a ≡ true →
+    is_past (quantified bs r a) ≡ true
 quantified_keeps bs r a h = elim (either (is_past a) (not (nat_le a.measure.size 65536)) h) [
   | inl p ↦ past_grows a (quantified bs r a) (quantifier_grows (range_misfit (numbers bs) r) a.measure) (λ e. e) p
-  | inr s ↦ let w : 65536 < a.measure.size = over a.measure.size 65536 s in shows (quantified bs r a)
-      (inr (inl (omega (arith, w))))
+  | inr s ↦ let w : 65536 < a.measure.size = over a.measure.size 65536 s in
+      shows (quantified bs r a) (inr (inl (omega (arith, w))))
 ]
 
 -- what is too large in itself
 
 pub sum_large : (a b : Formed) → is_too_large a ≡ true → is_too_large (sum a b) ≡ true
-sum_large a b = large_grows a (sum a b) (grows_on _ _ _ (number_grows a.core a.measure)
-    (sum_grows_first (as_number a).measure (as_number b).measure)) (and_false_left a.constant b.constant)
+sum_large a b = large_grows a (sum a b) (grows_on _ _ _ (number_grows a.core a.measure) (sum_grows_first
+    (as_number a).measure (as_number b).measure)) (and_false_left a.constant b.constant)
 
 pub product_large : (a b : Formed) → is_too_large a ≡ true → is_too_large (product a b) ≡ true
-product_large a b = large_grows a (product a b) (product_grows_first a b a.constant)
-    (and_false_left a.constant b.constant)
+product_large a b = large_grows a (product a b) (product_grows_first a b a.constant) (and_false_left a.constant
+    b.constant)
 
 pub conjunction_large : (a b : Formed) → is_too_large a ≡ true → is_too_large (conjunction a b) ≡ true
 conjunction_large a b = large_grows a (conjunction a b) (grows_on _ _ _ (truth_grows a.core a.measure)

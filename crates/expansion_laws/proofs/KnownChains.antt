@@ -1,19 +1,17 @@
 -- An array's choices by an index that is known: one slot, or 0.
-use Rattle.std.proofs.Common.{◌≡◌, ℕ, zero, suc, ◌+◌, ℤ, pos, negsuc, ◌+ℤ◌, ◌-ℤ◌, ◌≤ℤ◌, ◌<ℤ◌, List, Bool, true}
-use Rattle.std.proofs.Common.{false}
-use Rattle.std.proofs.Common.{cond, ◌&&◌, Option, Some, None, refl, sym, ap, ◌∙◌, arith}
+use Rattle.std.proofs.Common.{◌≡◌, ℕ, zero, suc, ◌+◌, ℤ, pos, ◌+ℤ◌, ◌-ℤ◌, ◌≤ℤ◌, ◌<ℤ◌, true, false, cond, ◌&&◌, Some}
+use Rattle.std.proofs.Common.{None, refl, sym, ap, ◌∙◌, arith}
 use Rattle.std.proofs.lemmas.Int.{ints}
 use borrow.Author.Differences.{le-true, le-false, at_most_in, below_in}
 use Rattle.std.specs.Option.{option_map}
 use Rattle.std.specs.Int.RustNames.{int_le}
-use Rattle.state_steps.specs.State.{in_range, int_eq}
+use Rattle.state_steps.specs.State.{int_eq}
 use Rattle.unity_meaning.specs.Names.{natural, slot_at}
 use Rattle.unity_meaning.specs.Value.{range_size}
 use Rattle.core_terms.specs.declared.trees.CTerm.{CTerm}
 use Rattle.core_terms.specs.declared.trees.CTerm.TheVariants.{Const, Slot, Sub, Ite}
 use Rattle.core_terms.specs.declared.trees.CForm.TheVariants.{Zero}
 use Rattle.core_terms.specs.Folding.{number_of, truth_of, joined, branch_or, difference_term, zero_form}
-use Rattle.core_terms.specs.Folding.{choice_term}
 use Rattle.expansion_laws.specs.Forming.{slot_term, chain}
 use Rattle.expansion_laws.proofs.Differences.{zero_tests}
 use Rattle.expansion_laws.proofs.KnownParts.{number-Const, number-Sub, number-folded_term, truth-Zero}
@@ -26,13 +24,13 @@ module _ (e : CTerm) (z : ℤ) (known : number_of e ≡ Some z) where
       truth-folded_form (Zero (difference_term e (Const low))) ∙ truth-Zero (difference_term e (Const low))
       ∙ ap (option_map (λ x. int_eq x (pos 0)))
       (number-folded_term (Sub e (Const low)) ∙ number-Sub e (Const low)
-      ∙ ap (λ m. joined (λ x y. x -ℤ y) m (number_of (Const low))) known ∙ ap
-      (λ m. joined (λ x y. x -ℤ y) (Some z) m)
+      ∙ ap (λ m. joined (λ x y. x -ℤ y) m (number_of (Const low))) known ∙ ap (λ m. joined (λ x y. x -ℤ y) (Some z) m)
       (number-Const low))
       ∙ ap (λ v. Some v) (zero_tests z low)
 
   link : (low : ℤ) (first n : ℕ) → chain e low first (suc n) ≡ cond (int_eq z low) (Slot first)
-      (chain e (low +ℤ pos 1) (suc first) n)
+      (chain e (low +ℤ pos 1)
+      (suc first) n)
   link low first n =
       ap (λ m. branch_or m (Slot first) (chain e (low +ℤ pos 1) (suc first) n)
       (Ite (zero_form (difference_term e (Const low))) (Slot first) (chain e (low +ℤ pos 1) (suc first) n)))
@@ -44,8 +42,7 @@ module _ (e : CTerm) (z : ℤ) (known : number_of e ≡ Some z) where
 
   link_past : (low : ℤ) (first n : ℕ) → int_eq z low ≡ false → chain e low first (suc n) ≡ chain e (low +ℤ pos 1)
       (suc first) n
-  link_past low first n h = link low first n ∙ ap (λ v. cond v (Slot first) (chain e (low +ℤ pos 1) (suc first) n))
-      h
+  link_past low first n h = link low first n ∙ ap (λ v. cond v (Slot first) (chain e (low +ℤ pos 1) (suc first) n)) h
 
   chain_below : (low : ℤ) (first n : ℕ) → z <ℤ low → chain e low first n ≡ Const (pos 0)
   chain_below low first zero h = refl
@@ -57,8 +54,8 @@ module _ (e : CTerm) (z : ℤ) (known : number_of e ≡ Some z) where
   chain_above low first (suc n) h = link_past low first n (eq_above z low (omega (arith, ints)))
       ∙ chain_above (low +ℤ pos 1) (suc first) n (omega (arith, ints))
 
-  chain_inside : (low : ℤ) (first n k : ℕ) → z ≡ low +ℤ pos k → z <ℤ (low +ℤ pos n) → chain e low first n ≡ Slot
-      (first + k)
+  chain_inside : (low : ℤ) (first n k : ℕ) → z ≡ low +ℤ pos k → z <ℤ (low +ℤ pos n) → chain e low first n ≡
+      Slot (first + k)
   chain_inside low first zero k h i = absurd (omega (arith, ints))
   chain_inside low first (suc n) zero h i =
       let same : z ≡ low = omega (arith, ints) in let there : first + 0 ≡ first = omega arith in
@@ -66,8 +63,8 @@ module _ (e : CTerm) (z : ℤ) (known : number_of e ≡ Some z) where
   chain_inside low first (suc n) (suc k) h i =
       let there : suc first + k ≡ first + suc k = omega arith in
       link_past low first n (eq_above z low (omega (arith, ints)))
-      ∙ chain_inside (low +ℤ pos 1) (suc first) n k (omega (arith, ints)) (omega (arith, ints)) ∙ ap (λ m. Slot m)
-      there
+      ∙ chain_inside (low +ℤ pos 1) (suc first) n k (omega (arith, ints)) (omega (arith, ints))
+      ∙ ap (λ m. Slot m) there
 
   past : (r : ℤ × ℤ) (first : ℕ) → r.0 ≤ℤ z → r.1 <ℤ z → chain e r.0 first (range_size r) ≡ Const (pos 0)
   past r first h k = elim (int_le r.0 (r.1 +ℤ pos 1)) as (λ v. int_le r.0 (r.1 +ℤ pos 1) ≡ v → chain e r.0 first
@@ -80,8 +77,8 @@ module _ (e : CTerm) (z : ℤ) (known : number_of e ≡ Some z) where
             ap (λ m. chain e r.0 first m) n
       ] refl
 
-  pub chain_known : (r : ℤ × ℤ) (first : ℕ) → chain e r.0 first (range_size r) ≡ slot_term
-      (slot_at first (Some r) (Some z))
+  pub chain_known : (r : ℤ × ℤ) (first : ℕ) → chain e r.0 first (range_size r) ≡ slot_term (slot_at first (Some r)
+      (Some z))
   chain_known r first =
       elim (int_le r.0 z) as (λ v. int_le r.0 z ≡ v →
       chain e r.0 first (range_size r) ≡ slot_term (cond (v && int_le z r.1) (Some (first + natural (z -ℤ r.0)))

@@ -1,11 +1,11 @@
 -- Which folded trees have a number or a truth: those whose parts have.
-use Rattle.std.proofs.Common.{◌≡◌, ℕ, ℤ, pos, ◌+ℤ◌, ◌-ℤ◌, ◌*ℤ◌, List, Bool, true, false, cond, not, ◌&&◌, ◌||◌, Option}
-use Rattle.std.proofs.Common.{Some, None, refl, sym, ap, ◌∙◌}
+use Rattle.std.proofs.Common.{◌≡◌, ℤ, pos, ◌+ℤ◌, ◌-ℤ◌, ◌*ℤ◌, Bool, true, false, cond, not, ◌&&◌, ◌||◌, Option, Some}
+use Rattle.std.proofs.Common.{None, refl, sym, ap, ◌∙◌}
 use Rattle.std.specs.Option.{option_map, is_some}
 use Rattle.std.specs.Int.RustNames.{int_le}
 use Rattle.core_terms.specs.declared.trees.CTerm.{CTerm, fold-roll-CTerm}
-use Rattle.core_terms.specs.declared.trees.CTerm.TheVariants.{Const, Slot, Param, Add, Sub, Scale, Ite, rolls-Const}
-use Rattle.core_terms.specs.declared.trees.CTerm.TheVariants.{rolls-Add, rolls-Sub, rolls-Scale, rolls-Ite}
+use Rattle.core_terms.specs.declared.trees.CTerm.TheVariants.{Const, Add, Sub, Scale, Ite, rolls-Const, rolls-Add}
+use Rattle.core_terms.specs.declared.trees.CTerm.TheVariants.{rolls-Sub, rolls-Scale, rolls-Ite}
 use Rattle.core_terms.specs.declared.trees.CForm.{CForm, fold-roll-CForm}
 use Rattle.core_terms.specs.declared.trees.CForm.TheVariants.{Top, Bottom, AtLeast, Zero, Not, And, Or, rolls-Top}
 use Rattle.core_terms.specs.declared.trees.CForm.TheVariants.{rolls-Bottom, rolls-AtLeast, rolls-Zero, rolls-Not}
@@ -45,7 +45,8 @@ truth-Bottom = ap truth_of (sym rolls-Bottom) ∙ fold-roll-CForm (Option Bool) 
     CForm-F.Bottom
 
 pub truth-AtLeast : (t : CTerm) → truth_of (AtLeast t) ≡ option_map (λ x. int_le (pos 0) x) (number_of t)
-truth-AtLeast t = ap truth_of (sym (rolls-AtLeast t)) ∙ fold-roll-CForm (Option Bool) (Option ℤ) truth_step number_step
+truth-AtLeast t = ap truth_of (sym (rolls-AtLeast t)) ∙ fold-roll-CForm (Option Bool) (Option ℤ) truth_step
+    number_step
     (CForm-F.AtLeast t)
 
 pub truth-Zero : (t : CTerm) → truth_of (Zero t) ≡ option_map (λ x. int_eq x (pos 0)) (number_of t)
@@ -92,8 +93,8 @@ pub some_mapped : {A B : Type 0} (f : A → B) (a : Option A) → is_some (optio
 some_mapped f None = refl
 some_mapped f (Some x) = refl
 
-pub some-sum_term : (a b : CTerm) → is_some (number_of (sum_term a b)) ≡
-    (is_some (number_of a) && is_some (number_of b))
+pub some-sum_term : (a b : CTerm) → is_some (number_of (sum_term a b)) ≡ (is_some (number_of a) && is_some
+    (number_of b))
 some-sum_term a b = ap is_some (number-folded_term (Add a b) ∙ number-Add a b) ∙ some_joined _ (number_of a)
     (number_of b)
 
@@ -121,8 +122,8 @@ pub some-or_form : (f g : CForm) → is_some (truth_of (or_form f g)) ≡ (is_so
 some-or_form f g = ap is_some (truth-folded_form (Or f g) ∙ truth-Or f g) ∙ some_joined _ (truth_of f) (truth_of g)
 
 -- a choice between numbers has one where its condition has a truth
-chosen_some : (c : CForm) (a b : CTerm) (x y : ℤ) (m : Option Bool) → truth_of c ≡ m → number_of a ≡ Some x → number_of
-    b ≡ Some y →
+chosen_some : (c : CForm) (a b : CTerm) (x y : ℤ) (m : Option Bool) → truth_of c ≡ m → number_of a ≡ Some x →
+    number_of b ≡ Some y →
     is_some (number_of (branch_or m a b (Ite c a b))) ≡ is_some m
 chosen_some c a b x y None e h k = ap is_some (number-Ite c a b ∙ ap (λ v. chosen v (number_of a) (number_of b)) e)
 chosen_some c a b x y (Some true) e h k = ap is_some h

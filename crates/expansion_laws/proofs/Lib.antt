@@ -8,3 +8,12 @@ pub mod DocumentValues
 pub mod Growing
 pub mod KnownChains
 pub mod Equations
+pub mod Indices
+pub mod Doing
+pub mod DocumentSteps
+pub mod SameSight
+pub mod Matching
+pub mod Exactness
+pub mod Lightness
+pub mod LightEffects
+pub mod Agreeing

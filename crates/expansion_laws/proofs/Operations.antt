@@ -1,6 +1,6 @@
 -- What the operations on cores are worth, and which of their results are known.
-use Rattle.std.proofs.Common.{◌≡◌, ℕ, ℤ, pos, negsuc, ◌+ℤ◌, ◌-ℤ◌, ◌*ℤ◌, List, Bool, true, false, cond, not, ◌&&◌, ◌||◌}
-use Rattle.std.proofs.Common.{Option, Some, None, refl, sym, ap, ◌∙◌, subst, arith}
+use Rattle.std.proofs.Common.{◌≡◌, ℤ, pos, negsuc, ◌+ℤ◌, ◌-ℤ◌, ◌*ℤ◌, List, Bool, true, false, cond, not, ◌&&◌, ◌||◌}
+use Rattle.std.proofs.Common.{Option, Some, None, refl, sym, ap, ◌∙◌, arith}
 use Rattle.std.proofs.lemmas.Int.{ints}
 use Rattle.std.specs.Option.{is_some}
 use Rattle.std.specs.Int.RustNames.{int_le}
@@ -10,10 +10,9 @@ use Rattle.unity_meaning.specs.Names.{or_zero}
 use Rattle.unity_meaning.specs.Value.{truth, holds}
 use Rattle.core_terms.specs.declared.trees.CTerm.{CTerm}
 use Rattle.core_terms.specs.declared.trees.CTerm.TheVariants.{Const}
-use Rattle.core_terms.specs.declared.trees.CForm.{CForm}
 use Rattle.core_terms.specs.Values.{term_value, form_value}
-use Rattle.core_terms.specs.Folding.{number_of, truth_of, sum_term, difference_term, scaled_term, choice_term}
-use Rattle.core_terms.specs.Folding.{at_least_form, zero_form, not_form, and_form, or_form}
+use Rattle.core_terms.specs.Folding.{number_of, truth_of, sum_term, difference_term, scaled_term, at_least_form}
+use Rattle.core_terms.specs.Folding.{zero_form, not_form, and_form, or_form}
 use Rattle.core_terms.proofs.PartLaws.{value-Const}
 use Rattle.core_terms.proofs.FoldingLaws.{value-sum_term, value-difference_term, value-scaled_term, value-choice_term}
 use Rattle.core_terms.proofs.FoldingLaws.{value-at_least_form, value-zero_form, value-not_form, value-and_form}
@@ -103,8 +102,8 @@ holds_truth true = refl
 holds_truth false = refl
 
 -- the factor of a known core is what it is worth
-factor_by : (s p : List ℤ) (t : CTerm) (m : Option ℤ) → number_of t ≡ m → is_some m ≡ true → or_zero m ≡ term_value s p
-    t
+factor_by : (s p : List ℤ) (t : CTerm) (m : Option ℤ) → number_of t ≡ m → is_some m ≡ true → or_zero m ≡
+    term_value s p t
 factor_by s p t None e h = cc
 factor_by s p t (Some k) e h = sym (number_is_value s p t k e)
 
@@ -149,21 +148,22 @@ module _ (s p : List ℤ) where
       truth (form_value s p (at_least_form (term_of a))) ≡ truth (int_le (pos 0) (core_value s p a))
   value-at_least a = ap truth (value-at_least_form s p (term_of a) ∙ ap (λ v. int_le (pos 0) v) (value-term_of a))
 
-  pub value-zero : (a : Core) → truth (form_value s p (zero_form (term_of a))) ≡ truth
-      (int_eq (core_value s p a) (pos 0))
+  pub value-zero : (a : Core) → truth (form_value s p (zero_form (term_of a))) ≡ truth (int_eq (core_value s p a)
+      (pos 0))
   value-zero a = ap truth (value-zero_form s p (term_of a) ∙ ap (λ v. int_eq v (pos 0)) (value-term_of a))
 
-  pub value-denial : (a : Core) → truth (form_value s p (not_form (form_of a))) ≡ truth (not (holds (core_value s p a)))
+  pub value-denial : (a : Core) → truth (form_value s p (not_form (form_of a))) ≡ truth
+      (not (holds (core_value s p a)))
   value-denial a = ap truth (value-not_form s p (form_of a) ∙ ap not (value-form_of a))
 
   pub value-conjunction : (a b : Core) →
-      truth (form_value s p (and_form (form_of a) (form_of b))) ≡ truth
-      (holds (core_value s p a) && holds (core_value s p b))
+      truth (form_value s p (and_form (form_of a) (form_of b))) ≡ truth (holds (core_value s p a) && holds
+      (core_value s p b))
   value-conjunction a b = ap truth (value-and_form s p (form_of a) (form_of b)
       ∙ two (λ x y. x && y) _ _ _ _ (value-form_of a) (value-form_of b))
 
   pub value-disjunction : (a b : Core) →
-      truth (form_value s p (or_form (form_of a) (form_of b))) ≡ truth
-      (holds (core_value s p a) || holds (core_value s p b))
+      truth (form_value s p (or_form (form_of a) (form_of b))) ≡ truth (holds (core_value s p a) || holds
+      (core_value s p b))
   value-disjunction a b = ap truth (value-or_form s p (form_of a) (form_of b)
       ∙ two (λ x y. x || y) _ _ _ _ (value-form_of a) (value-form_of b))

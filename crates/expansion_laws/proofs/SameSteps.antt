@@ -1,9 +1,9 @@
 -- A step is that of its writes inside, in order, unless there is one outside.
-use Rattle.std.proofs.Common.{◌≡◌, ℕ, ℤ, List, [], ◌∷◌, ◌++◌, map, Bool, true, false, cond, not, ◌&&◌, ◌||◌, Option}
-use Rattle.std.proofs.Common.{Some, None, refl, sym, ap, ◌∙◌, slice_get}
+use Rattle.std.proofs.Common.{◌≡◌, ℕ, ℤ, List, [], ◌∷◌, ◌++◌, Bool, true, false, cond, not, ◌&&◌, ◌||◌, Option, Some}
+use Rattle.std.proofs.Common.{None, refl, sym, ap, ◌∙◌, slice_get}
 use Rattle.std.specs.List.{list_all}
 use Rattle.state_steps.specs.State.{State, Ranges, in_range}
-use Rattle.state_steps.specs.Step.{Write, is_inside, agrees, all_agree, is_defined, put, written, step}
+use Rattle.state_steps.specs.Step.{Write, is_inside, agrees, all_agree, put, written, step}
 
 -- the writes that have a slot, in order
 abbrev pub inside : List Write → List Write
@@ -21,8 +21,8 @@ all_inside : (ranges : Ranges) (ws : List Write) → list_all (is_inside ranges)
     (not (leaves ws) && list_all (is_inside ranges) (inside ws))
 all_inside ranges [] = refl
 all_inside ranges ((None, z) ∷ ws) = refl
-all_inside ranges ((Some n, z) ∷ ws) = ap (λ v. in_range (slice_get ranges n) z && v) (all_inside ranges ws) ∙ swap
-    (in_range (slice_get ranges n) z) (not (leaves ws)) (list_all (is_inside ranges) (inside ws))
+all_inside ranges ((Some n, z) ∷ ws) = ap (λ v. in_range (slice_get ranges n) z && v) (all_inside ranges ws)
+    ∙ swap (in_range (slice_get ranges n) z) (not (leaves ws)) (list_all (is_inside ranges) (inside ws))
   where
     swap : (a b c : Bool) → (a && (b && c)) ≡ (b && (a && c))
     swap true b c = refl
@@ -42,8 +42,8 @@ outside_agrees z (w ∷ ws) = outside_agrees z ws
 all_agree_inside : (ws : List Write) → all_agree ws ≡ all_agree (inside ws)
 all_agree_inside [] = refl
 all_agree_inside ((None, z) ∷ ws) = ap (λ v. v && all_agree ws) (outside_agrees z ws) ∙ all_agree_inside ws
-all_agree_inside ((Some n, z) ∷ ws) = ap (λ v. v && all_agree ws) (agree_inside n z ws) ∙ ap
-    (λ v. list_all (agrees (Some n, z)) (inside ws) && v) (all_agree_inside ws)
+all_agree_inside ((Some n, z) ∷ ws) = ap (λ v. v && all_agree ws) (agree_inside n z ws)
+    ∙ ap (λ v. list_all (agrees (Some n, z)) (inside ws) && v) (all_agree_inside ws)
 
 written_inside : (state : State) (ws : List Write) → written state ws ≡ written state (inside ws)
 written_inside state [] = refl
@@ -58,17 +58,18 @@ step_inside : (ranges : Ranges) (ws : List Write) (state : State) → step range
     (inside ws) state
 step_inside ranges ws state =
     ap (λ v. cond (v && all_agree ws) (Some (written state ws)) None) (all_inside ranges ws)
-    ∙ ap (λ v. cond ((not (leaves ws) && list_all (is_inside ranges) (inside ws)) && v) (Some (written state ws)) None)
+    ∙ ap (λ v. cond ((not (leaves ws) && list_all (is_inside ranges) (inside ws)) && v) (Some (written state ws))
+    None)
     (all_agree_inside ws)
     ∙ ap (λ v. cond ((not (leaves ws) && list_all (is_inside ranges) (inside ws)) && all_agree (inside ws)) (Some v)
     None) (written_inside state ws)
 
 -- the same writes inside, and outside in both or in neither: the same step
-pub step_same : (ranges : Ranges) (us ws : List Write) (state : State) → inside us ≡ inside ws → leaves us ≡ leaves ws →
-    step ranges us state ≡ step ranges ws state
+pub step_same : (ranges : Ranges) (us ws : List Write) (state : State) → inside us ≡ inside ws → leaves us ≡
+    leaves ws → step ranges us state ≡ step ranges ws state
 step_same ranges us ws state e f =
-    step_inside ranges us state ∙ ap (λ v. step_by v ranges (inside us) state) f ∙ ap
-    (λ v. step_by (leaves ws) ranges v state) e ∙ sym (step_inside ranges ws state)
+    step_inside ranges us state ∙ ap (λ v. step_by v ranges (inside us) state) f
+    ∙ ap (λ v. step_by (leaves ws) ranges v state) e ∙ sym (step_inside ranges ws state)
 
 pub inside_joined : (us ws : List Write) → inside (us ++ ws) ≡ inside us ++ inside ws
 inside_joined [] ws = refl

@@ -1,9 +1,7 @@
 -- An expression's core is worth what the expression is, where names have no fault and no range is bad.
-use Rattle.std.proofs.Common.{◌≡◌, ℕ, zero, suc, ◌+◌, ℤ, pos, negsuc, neg_ℤ, ◌+ℤ◌, ◌-ℤ◌, ◌*ℤ◌, List, [], ◌∷◌, map}
-use Rattle.std.proofs.Common.{Bool}
-use Rattle.std.proofs.Common.{true, false, cond, not, ◌&&◌, ◌||◌, Option, Some, None, option_map, refl, sym, ap}
-use Rattle.std.proofs.Common.{◌∙◌}
-use Rattle.std.proofs.Common.{subst, arith, inl, inr, ◌⊎◌, slice_index_or, max}
+use Rattle.std.proofs.Common.{◌≡◌, ℕ, ℤ, pos, neg_ℤ, ◌+ℤ◌, ◌-ℤ◌, ◌*ℤ◌, List, [], ◌∷◌, map, Bool, true, false, cond}
+use Rattle.std.proofs.Common.{not, ◌&&◌, ◌||◌, Option, Some, None, option_map, refl, sym, ap, ◌∙◌, subst, arith, inl}
+use Rattle.std.proofs.Common.{inr, ◌⊎◌, max}
 use Rattle.std.proofs.lemmas.Int.{ints}
 use Rattle.std.proofs.Math.IntN.{*ℤ_comm}
 use borrow.Author.Differences.{le-true, le-false, true_is_lt, false_is_lt}
@@ -15,7 +13,6 @@ use Rattle.std.specs.Str.{bytes_eq}
 use Rattle.std.specs.Int.RustNames.{int_le, int_lt, unsigned_abs}
 use Rattle.case_tables.specs.declared.symbol_table.Symbol.{Symbol}
 use Rattle.case_tables.specs.declared.word_table.Word.{Word}
-use Rattle.unity_syntax.specs.declared.name.Name.{Name}
 use Rattle.unity_syntax.specs.declared.name.End.{End}
 use Rattle.unity_syntax.specs.declared.name.Range.{Range}
 use Rattle.unity_syntax.specs.declared.expression.Expr.{Expr}
@@ -24,54 +21,43 @@ use Rattle.unity_syntax.specs.TwoFolds.{Related, ExpressionLayers}
 use Rattle.unity_syntax.proofs.ExpressionFolds.{two_expressions}
 use Rattle.state_steps.specs.State.{State, int_eq}
 use Rattle.unity_meaning.specs.Names.{Bindings, Variable, Sight, with_name, number_of as number_named, or_else}
-use Rattle.unity_meaning.specs.Names.{or_zero}
-use Rattle.unity_meaning.specs.Names.{slot_at, slot_named, slot_number, word_value, element_value}
+use Rattle.unity_meaning.specs.Names.{or_zero, slot_at, slot_named, slot_number, word_value, element_value}
 use Rattle.unity_meaning.specs.Value as source
 use Rattle.unity_meaning.specs.Value.{Meaning, truth, holds, end_value, range_ends, range_size, range_values}
-use Rattle.unity_meaning.specs.Value.{count_up}
-use Rattle.unity_meaning.specs.Value.{total, value_layer, value}
+use Rattle.unity_meaning.specs.Value.{count_up, total, value_layer, value}
 use Rattle.core_terms.specs.declared.trees.CTerm.{CTerm}
 use Rattle.core_terms.specs.declared.trees.CTerm.TheVariants.{Const, Slot, Param}
 use Rattle.core_terms.specs.declared.trees.CForm.{CForm}
 use Rattle.core_terms.specs.declared.trees.CForm.TheVariants.{Top, Bottom}
 use Rattle.core_terms.specs.Values.{number_at, term_value, form_value}
-use Rattle.core_terms.specs.Folding.{sum_term, difference_term, scaled_term, at_least_form, zero_form, not_form}
-use Rattle.core_terms.specs.Folding.{and_form, or_form}
 use Rattle.core_terms.proofs.PartLaws.{value-Const, value-Slot, value-Param, value-Top, value-Bottom}
 use Rattle.name_laws.specs.SlotLaws.{variable_named}
 use Rattle.expansion_laws.specs.declared.cores.Core.{Core}
 use Rattle.expansion_laws.specs.declared.cores.Bound.{Bound}
 use Rattle.expansion_laws.specs.declared.cores.Measure.{Measure}
 use Rattle.expansion_laws.specs.declared.cores.Formed.{Formed}
-use Rattle.expansion_laws.specs.Measures.{nearer, ends_weight, leaf, sum_measure, multiple_measure}
-use Rattle.expansion_laws.specs.Measures.{negation_measure}
-use Rattle.expansion_laws.specs.Measures.{over_measure, pair_measure, quantifier_measure, is_fit, is_fit_range}
-use Rattle.expansion_laws.specs.Measures.{place_of, misfit, range_misfit}
-use Rattle.expansion_laws.specs.Forming.{Scope, with_number, number_core, truth_core, term_of, form_of, constantly}
-use Rattle.expansion_laws.specs.Forming.{varying, number_constant, truth_constant, number_measure, as_number}
-use Rattle.expansion_laws.specs.Forming.{truth_measure, as_truth, through, both, sum_core, difference_core}
-use Rattle.expansion_laws.specs.Forming.{negated_core, at_least_core, zero_core, not_core, and_core, or_core, sum}
-use Rattle.expansion_laws.specs.Forming.{difference, negation, factor_of, multiple, product, at_least_zero, is_zero}
-use Rattle.expansion_laws.specs.Forming.{denial, conjunction, disjunction, implication, equation_by, equation}
-use Rattle.expansion_laws.specs.Forming.{excess}
-use Rattle.expansion_laws.specs.Forming.{comparison, signed, plus, bound_formed, typed, plain_formed}
-use Rattle.expansion_laws.specs.Forming.{variable_formed}
-use Rattle.expansion_laws.specs.Forming.{formed_or_zero, word_formed, chain, no_element, array_formed, element_by}
-use Rattle.expansion_laws.specs.Forming.{element_of, indexed_formed, gathered_by, gathered, number_in, numbers}
-use Rattle.expansion_laws.specs.Forming.{is_number, is_fixed, is_fixed_range, fit_values, quantified, Forming}
-use Rattle.expansion_laws.specs.Forming.{form_layer, formed}
+use Rattle.expansion_laws.specs.Measures.{nearer, ends_weight, sum_measure, multiple_measure, negation_measure}
+use Rattle.expansion_laws.specs.Measures.{over_measure, pair_measure, is_fit, place_of, misfit, range_misfit}
+use Rattle.expansion_laws.specs.Forming.{Scope, with_number, number_core, truth_core, term_of, constantly, varying}
+use Rattle.expansion_laws.specs.Forming.{number_constant, truth_constant, number_measure, as_number, truth_measure}
+use Rattle.expansion_laws.specs.Forming.{as_truth, through, both, sum_core, difference_core, negated_core}
+use Rattle.expansion_laws.specs.Forming.{at_least_core, zero_core, not_core, and_core, or_core, sum, difference}
+use Rattle.expansion_laws.specs.Forming.{negation, factor_of, multiple, product, at_least_zero, is_zero, denial}
+use Rattle.expansion_laws.specs.Forming.{conjunction, disjunction, implication, equation_by, equation, excess}
+use Rattle.expansion_laws.specs.Forming.{comparison, signed, plus, bound_formed, typed, variable_formed}
+use Rattle.expansion_laws.specs.Forming.{formed_or_zero, word_formed, no_element, array_formed, element_by}
+use Rattle.expansion_laws.specs.Forming.{element_of, gathered_by, gathered, numbers, is_number, is_fixed}
+use Rattle.expansion_laws.specs.Forming.{is_fixed_range, fit_values, quantified, Forming, form_layer, formed}
 use Rattle.expansion_laws.specs.Worth.{core_value, bound_value, values_of}
 use Rattle.expansion_laws.proofs.Differences.{zero_tests, least_tests, below_tests}
 use Rattle.expansion_laws.proofs.KnownParts.{number-Const, truth-Top, truth-Bottom}
 use Rattle.expansion_laws.proofs.Chains.{value-chain}
-use Rattle.expansion_laws.proofs.Operations.{two, is_known, known-term_of, KeepsKnown, KeepBothKnown, known-sum}
-use Rattle.expansion_laws.proofs.Operations.{known-difference, known-negation, known-multiple, known-at_least}
-use Rattle.expansion_laws.proofs.Operations.{known-zero, known-denial, known-conjunction, known-disjunction}
-use Rattle.expansion_laws.proofs.Operations.{known-as_number, known-as_truth, holds_truth, value-term_of}
-use Rattle.expansion_laws.proofs.Operations.{value-form_of}
-use Rattle.expansion_laws.proofs.Operations.{value-sum, value-difference, value-negation, value-multiple}
-use Rattle.expansion_laws.proofs.Operations.{value-at_least, value-zero, value-denial, value-conjunction}
-use Rattle.expansion_laws.proofs.Operations.{value-disjunction}
+use Rattle.expansion_laws.proofs.Operations.{two, is_known, KeepsKnown, KeepBothKnown, known-sum, known-difference}
+use Rattle.expansion_laws.proofs.Operations.{known-negation, known-multiple, known-at_least, known-zero, known-denial}
+use Rattle.expansion_laws.proofs.Operations.{known-conjunction, known-disjunction, known-as_number, known-as_truth}
+use Rattle.expansion_laws.proofs.Operations.{holds_truth, value-term_of, value-form_of, value-sum, value-difference}
+use Rattle.expansion_laws.proofs.Operations.{value-negation, value-multiple, value-at_least, value-zero, value-denial}
+use Rattle.expansion_laws.proofs.Operations.{value-conjunction, value-disjunction}
 
 pub and_left : (a b : Bool) → (a && b) ≡ true → a ≡ true
 and_left true b h = refl
@@ -117,8 +103,8 @@ above_tests x y = below_tests y x ∙ not_above y x
 
 -- two truths are equal where each implies the other
 same_truths : (a b : Bool) →
-    truth (holds (truth (not (holds (truth a)) || holds (truth b))) && holds
-    (truth (not (holds (truth b)) || holds (truth a))))
+    truth (holds (truth (not (holds (truth a)) || holds (truth b))) && holds (truth (not (holds (truth b)) || holds
+    (truth a))))
     ≡ truth (int_eq (truth a) (truth b))
 same_truths true true = refl
 same_truths true false = refl
@@ -179,13 +165,14 @@ module _ (state params : List ℤ) where
       IsFormed a x → IsFormed b y → IsFormed (both op count a b) z
   formed_both op count a b x y z k c v h i = record {
     known = λ e. k a.core b.core (h.known (and_left a.constant b.constant e))
-        (i.known (and_right a.constant b.constant e));
+        (i.known (and_right a.constant b.constant
+        e));
     value = λ e f. v (h.value (and_left a.exact b.exact e) (c a.measure b.measure f).0)
         (i.value (and_right a.exact b.exact e) (c a.measure b.measure f).1);
   }
 
-  formed_through : (op : Core → Core) (count : Measure → Measure) (a : Formed) (x z : ℤ) → KeepsKnown op → Shows
-      count →
+  formed_through : (op : Core → Core) (count : Measure → Measure) (a : Formed) (x z : ℤ) → KeepsKnown op →
+      Shows count →
       (V a.core ≡ x → V (op a.core) ≡ z) → IsFormed a x → IsFormed (through op count a) z
   formed_through op count a x z k c v h =
       record { known = λ e. k a.core (h.known e); value = λ e f. v (h.value e (c a.measure f)) }
@@ -193,8 +180,7 @@ module _ (state params : List ℤ) where
   pub formed_same : (a : Formed) (x y : ℤ) → x ≡ y → IsFormed a x → IsFormed a y
   formed_same a x y e h = subst (λ z. IsFormed a z) e h
 
-  formed_constantly : (c : Core) (weight : ℕ) (z : ℤ) → is_known c ≡ true → V c ≡ z → IsFormed (constantly c weight)
-      z
+  formed_constantly : (c : Core) (weight : ℕ) (z : ℤ) → is_known c ≡ true → V c ≡ z → IsFormed (constantly c weight) z
   formed_constantly c weight z k v = record { known = λ e. k; value = λ e f. v }
 
   formed_varying : (t : CTerm) (weight : ℕ) (z : ℤ) → term_value state params t ≡ z → IsFormed (varying t weight) z
@@ -205,8 +191,7 @@ module _ (state params : List ℤ) where
       (value-Const state params z)
 
   pub formed_top : IsFormed (truth_constant Top) (pos 1)
-  formed_top = formed_constantly (truth_core Top) 0 (pos 1) (ap is_some truth-Top)
-      (ap truth (value-Top state params))
+  formed_top = formed_constantly (truth_core Top) 0 (pos 1) (ap is_some truth-Top) (ap truth (value-Top state params))
 
   formed_bottom : IsFormed (truth_constant Bottom) (pos 0)
   formed_bottom = formed_constantly (truth_core Bottom) 0 (pos 0) (ap is_some truth-Bottom)
@@ -229,8 +214,8 @@ module _ (state params : List ℤ) where
   pub formed_as_truth : (a : Formed) (x : ℤ) → IsFormed a x → IsFormed (as_truth a) (truth (holds x))
   formed_as_truth a x h = record {
     known = λ e. known-as_truth a.core (h.known e);
-    value = λ e f. ap truth (value-form_of state params a.core ∙ ap holds
-        (h.value e (truth_shows a.core a.measure f)));
+    value = λ e f. ap truth (value-form_of state params a.core
+        ∙ ap holds (h.value e (truth_shows a.core a.measure f)));
   }
 
   sum_shows : ShowsBoth sum_measure
@@ -266,17 +251,15 @@ module _ (state params : List ℤ) where
 
   formed_zero : (a : Formed) (x : ℤ) → IsFormed a x → IsFormed (is_zero a) (truth (int_eq x (pos 0)))
   formed_zero a x h = formed_through zero_core over_measure (as_number a) x _ known-zero (λ m e. e)
-      (λ e. value-zero state params (as_number a).core ∙ ap (λ v. truth (int_eq v (pos 0))) e)
-      (formed_as_number a x h)
+      (λ e. value-zero state params (as_number a).core ∙ ap (λ v. truth (int_eq v (pos 0))) e) (formed_as_number a x
+      h)
 
   twice_holds : (x : ℤ) → holds (truth (holds x)) ≡ holds x
   twice_holds x = holds_truth (holds x)
 
   formed_denial : (a : Formed) (x : ℤ) → IsFormed a x → IsFormed (denial a) (truth (not (holds x)))
-  formed_denial a x h = formed_through not_core over_measure (as_truth a) (truth (holds x)) _ known-denial
-      (λ m e. e)
-      (λ e. value-denial state params (as_truth a).core ∙ ap (λ v. truth (not (holds v))) e ∙ ap
-      (λ v. truth (not v))
+  formed_denial a x h = formed_through not_core over_measure (as_truth a) (truth (holds x)) _ known-denial (λ m e. e)
+      (λ e. value-denial state params (as_truth a).core ∙ ap (λ v. truth (not (holds v))) e ∙ ap (λ v. truth (not v))
       (twice_holds x))
       (formed_as_truth a x h)
 
@@ -284,8 +267,8 @@ module _ (state params : List ℤ) where
       (truth (holds x && holds y))
   formed_conjunction a b x y h i = formed_both and_core pair_measure (as_truth a) (as_truth b) (truth (holds x))
       (truth (holds y)) _ known-conjunction pair_shows
-      (λ e f. value-conjunction state params (as_truth a).core (as_truth b).core ∙ two
-      (λ v w. truth (holds v && holds w)) _ _ _ _ e f
+      (λ e f. value-conjunction state params (as_truth a).core (as_truth b).core
+      ∙ two (λ v w. truth (holds v && holds w)) _ _ _ _ e f
       ∙ two (λ v w. truth (v && w)) _ _ _ _ (twice_holds x) (twice_holds y))
       (formed_as_truth a x h) (formed_as_truth b y i)
 
@@ -293,13 +276,13 @@ module _ (state params : List ℤ) where
       (truth (holds x || holds y))
   formed_disjunction a b x y h i = formed_both or_core pair_measure (as_truth a) (as_truth b) (truth (holds x))
       (truth (holds y)) _ known-disjunction pair_shows
-      (λ e f. value-disjunction state params (as_truth a).core (as_truth b).core ∙ two
-      (λ v w. truth (holds v || holds w)) _ _ _ _ e f
+      (λ e f. value-disjunction state params (as_truth a).core (as_truth b).core
+      ∙ two (λ v w. truth (holds v || holds w)) _ _ _ _ e f
       ∙ two (λ v w. truth (v || w)) _ _ _ _ (twice_holds x) (twice_holds y))
       (formed_as_truth a x h) (formed_as_truth b y i)
 
-  implied : (a : Formed) (x y : ℤ) → truth (holds (truth (not (holds x))) || holds y) ≡ truth
-      (not (holds x) || holds y)
+  implied : (a : Formed) (x y : ℤ) → truth (holds (truth (not (holds x))) || holds y) ≡
+      truth (not (holds x) || holds y)
   implied a x y = ap (λ v. truth (v || holds y)) (holds_truth (not (holds x)))
 
   formed_implication : (a b : Formed) (x y : ℤ) → IsFormed a x → IsFormed b y → IsFormed (implication a b)
@@ -310,14 +293,13 @@ module _ (state params : List ℤ) where
   -- comparisons
 
   truths_equal : (a b : Bool) (x y : ℤ) → truth a ≡ x → truth b ≡ y →
-      truth (holds (truth (not (holds x) || holds y)) && holds (truth (not (holds y) || holds x))) ≡ truth
-      (int_eq x y)
+      truth (holds (truth (not (holds x) || holds y)) && holds (truth (not (holds y) || holds x))) ≡
+      truth (int_eq x y)
   truths_equal a b x y e f =
       subst (λ v. truth (holds (truth (not (holds v) || holds y)) && holds (truth (not (holds y) || holds v))) ≡
-      truth
-      (int_eq v y)) e
-      (subst (λ w. truth (holds (truth (not (holds (truth a)) || holds w)) && holds
-      (truth (not (holds w) || holds (truth a)))) ≡ truth (int_eq (truth a) w)) f
+      truth (int_eq v y)) e
+      (subst (λ w. truth (holds (truth (not (holds (truth a)) || holds w)) && holds (truth (not (holds w) || holds
+      (truth a)))) ≡ truth (int_eq (truth a) w)) f
       (same_truths a b))
 
   equal_truths : (a b : Formed) (f g : CForm) (k l : Option Bool) (x y : ℤ) → a.core ≡ Core.Truth f k → b.core ≡
@@ -330,8 +312,7 @@ module _ (state params : List ℤ) where
         known = w.known;
         value = λ e n.
             let left = and_left (a.exact && b.exact) (b.exact && a.exact) e in
-            let first = (pair_shows (as_truth (implication a b)).measure (as_truth (implication b a)).measure n).0
-            in
+            let first = (pair_shows (as_truth (implication a b)).measure (as_truth (implication b a)).measure n).0 in
             let inner = pair_shows (as_truth (denial a)).measure (as_truth b).measure first in
             w.value e n
             ∙ truths_equal (form_value state params f) (form_value state params g) x y
@@ -341,8 +322,8 @@ module _ (state params : List ℤ) where
 
   equal_numbers : (a b : Formed) (x y : ℤ) → IsFormed a x → IsFormed b y → IsFormed (is_zero (difference a b))
       (truth (int_eq x y))
-  equal_numbers a b x y h i = formed_same _ _ _ (ap truth (zero_tests x y))
-      (formed_zero (difference a b) (x -ℤ y) (formed_difference a b x y h i))
+  equal_numbers a b x y h i = formed_same _ _ _ (ap truth (zero_tests x y)) (formed_zero (difference a b) (x -ℤ y)
+      (formed_difference a b x y h i))
 
   equation_is : (a b : Formed) (x y : ℤ) → IsFormed a x → IsFormed b y → (c d : Core) → a.core ≡ c → b.core ≡ d →
       IsFormed (equation_by c d a b) (truth (int_eq x y))
@@ -355,8 +336,7 @@ module _ (state params : List ℤ) where
       (truth (int_eq x y))
   formed_equation a b x y h i = equation_is a b x y h i a.core b.core refl refl
 
-  formed_excess : (a b : Formed) (x y : ℤ) → IsFormed a x → IsFormed b y → IsFormed (excess a b)
-      (truth (int_lt y x))
+  formed_excess : (a b : Formed) (x y : ℤ) → IsFormed a x → IsFormed b y → IsFormed (excess a b) (truth (int_lt y x))
   formed_excess a b x y h i = formed_same _ _ _ (ap truth (above_tests x y))
       (formed_at_least (difference (difference a b) (number_constant (pos 1))) ((x -ℤ y) -ℤ pos 1)
       (formed_difference (difference a b) (number_constant (pos 1)) (x -ℤ y) (pos 1) (formed_difference a b x y h i)
@@ -367,12 +347,12 @@ module _ (state params : List ℤ) where
   formed_least a b x y h i = formed_same _ _ _ (ap truth (least_tests y x))
       (formed_at_least (difference a b) (x -ℤ y) (formed_difference a b x y h i))
 
-  formed_comparison : (r : Symbol) (a b : Formed) (x y : ℤ) → IsFormed a x → IsFormed b y → IsFormed
-      (comparison r a b)
+  formed_comparison : (r : Symbol) (a b : Formed) (x y : ℤ) → IsFormed a x → IsFormed b y →
+      IsFormed (comparison r a b)
       (truth (source.related r x y))
   formed_comparison Symbol.Equal a b x y h i = formed_equation a b x y h i
-  formed_comparison Symbol.NotEqual a b x y h i = formed_same _ _ _
-      (ap (λ v. truth (not v)) (holds_truth (int_eq x y)))
+  formed_comparison Symbol.NotEqual a b x y h i = formed_same _ _ _ (ap (λ v. truth (not v))
+      (holds_truth (int_eq x y)))
       (formed_denial (equation a b) (truth (int_eq x y)) (formed_equation a b x y h i))
   formed_comparison Symbol.Below a b x y h i = formed_excess b a y x i h
   formed_comparison Symbol.AtMost a b x y h i = formed_least b a y x i h
@@ -389,20 +369,19 @@ module _ (state params : List ℤ) where
   formed_signed true a x h = formed_negation a x h
   formed_signed false a x h = formed_as_number a x h
 
-  formed_plus : (a : Formed) (o : Symbol) (b : Formed) (x y : ℤ) → IsFormed a x → IsFormed b y → IsFormed
-      (plus a (o, b)) (source.plus x o y)
+  formed_plus : (a : Formed) (o : Symbol) (b : Formed) (x y : ℤ) → IsFormed a x → IsFormed b y →
+      IsFormed (plus a (o, b)) (source.plus x o y)
   formed_plus a Symbol.Minus b x y h i = formed_difference a b x y h i
   formed_plus a _ b x y h i = formed_sum a b x y h i
 
   multiple_worth : (k a : Formed) (x y : ℤ) → IsFormed k x → IsFormed a y → k.constant ≡ true → k.exact ≡ true →
-      a.exact
-      ≡ true →
+      a.exact ≡ true →
       (multiple k a).measure.bad_range ≡ None → V (multiple k a).core ≡ x *ℤ y
   multiple_worth k a x y h i c e f n =
       let parts = multiple_shows (factor_of k.core) (as_number k).measure (as_number a).measure n in
       value-multiple state params (as_number k).core (as_number a).core (known-as_number k.core (h.known c))
-      ∙ two (λ v w. v *ℤ w) _ _ _ _ ((formed_as_number k x h).value e parts.0)
-      ((formed_as_number a y i).value f parts.1)
+      ∙ two (λ v w. v *ℤ w) _ _ _ _ ((formed_as_number k x h).value e parts.0) ((formed_as_number a y i).value f
+      parts.1)
 
   product_worth : (a b : Formed) (x y : ℤ) → IsFormed a x → IsFormed b y → (c : Bool) → a.constant ≡ c →
       (c || b.constant) ≡ true →
@@ -412,18 +391,17 @@ module _ (state params : List ℤ) where
   product_worth a b x y h i false c d e f n = multiple_worth b a y x i h d f e n ∙ *ℤ_comm y x
 
   product_known : (a b : Formed) (x y : ℤ) → IsFormed a x → IsFormed b y → (c : Bool) → a.constant ≡ true →
-      b.constant ≡
-      true →
+      b.constant ≡ true →
       is_known (cond c (multiple a b) (multiple b a)).core ≡ true
-  product_known a b x y h i true c d = known-multiple (as_number a).core (as_number b).core
-      (known-as_number a.core (h.known c)) (known-as_number b.core (i.known d))
-  product_known a b x y h i false c d = known-multiple (as_number b).core (as_number a).core
-      (known-as_number b.core (i.known d)) (known-as_number a.core (h.known c))
+  product_known a b x y h i true c d = known-multiple (as_number a).core (as_number b).core (known-as_number a.core
+      (h.known c)) (known-as_number b.core (i.known d))
+  product_known a b x y h i false c d = known-multiple (as_number b).core (as_number a).core (known-as_number b.core
+      (i.known d)) (known-as_number a.core (h.known c))
 
   formed_product : (a b : Formed) (x y : ℤ) → IsFormed a x → IsFormed b y → IsFormed (product a b) (x *ℤ y)
   formed_product a b x y h i = record {
-    known = λ e. product_known a b x y h i a.constant (and_left a.constant b.constant e)
-        (and_right a.constant b.constant e);
+    known = λ e. product_known a b x y h i a.constant (and_left a.constant b.constant e) (and_right a.constant
+        b.constant e);
     value = λ e n.
         let parts = and_right (a.constant || b.constant) (a.exact && b.exact) e in
         product_worth a b x y h i a.constant refl (and_left (a.constant || b.constant) (a.exact && b.exact) e)
@@ -459,8 +437,8 @@ module _ (state params : List ℤ) where
       Meant (option_map bound_formed (lookup (bytes_eq name) bs)) (number_named name (values_of params bs))
   meant_bound name [] = tt
   meant_bound name (b ∷ rest) =
-      elim (bytes_eq name b.0) as (λ t. Meant (option_map bound_formed
-      (cond t (Some b.1) (lookup (bytes_eq name) rest)))
+      elim (bytes_eq name b.0) as (λ t. Meant (option_map bound_formed (cond t (Some b.1) (lookup (bytes_eq name)
+      rest)))
       (cond t (Some (bound_value params b.1)) (number_named name (values_of params rest)))) [
         | true ↦ one_bound b.1
         | false ↦ meant_bound name rest
@@ -475,14 +453,14 @@ module _ (state params : List ℤ) where
       subst (λ n. Meant (lookup (bytes_eq name) (a ∷ rest)) (cond (bytes_eq name n) (Some b.1)
       (number_named name bs)))
       h.0
-      (elim (bytes_eq name a.0) as (λ t. Meant (cond t (Some a.1) (lookup (bytes_eq name) rest))
-      (cond t (Some b.1) (number_named name bs))) [
+      (elim (bytes_eq name a.0) as (λ t. Meant (cond t (Some a.1) (lookup (bytes_eq name) rest)) (cond t (Some b.1)
+      (number_named name bs))) [
         | true ↦ h.1
         | false ↦ meant_always name rest bs h.2
       ])
 
-  typed_by : (b : Bool) (a : Formed) (z : ℤ) → (b ≡ true → IsBit z) → IsFormed a z → IsFormed
-      (cond b (as_truth a) a) z
+  typed_by : (b : Bool) (a : Formed) (z : ℤ) → (b ≡ true → IsBit z) → IsFormed a z → IsFormed (cond b (as_truth a) a)
+      z
   typed_by true a z h i = formed_same _ _ _ (sym (h refl)) (formed_as_truth a z i)
   typed_by false a z h i = i
 
@@ -493,8 +471,8 @@ module _ (state params : List ℤ) where
       (formed_varying (Slot n) (ends_weight v.range) (number_at state n) (value-Slot state params n))
 
   meant_variable : (m : Option Variable) →
-      ((v : Variable) → m ≡ Some v → v.is_truth ≡ true → IsBit
-      (or_zero (slot_number state (slot_at v.first v.indices None)))) →
+      ((v : Variable) → m ≡ Some v → v.is_truth ≡ true →
+      IsBit (or_zero (slot_number state (slot_at v.first v.indices None)))) →
       Meant (variable_formed m) (slot_number state (slot_by m None))
   meant_variable None h = tt
   meant_variable (Some v) h = plain_by v (slot_at v.first v.indices None) (h v refl)
@@ -503,8 +481,8 @@ module _ (state params : List ℤ) where
       (number_named name bs)
   meant_word name [] = tt
   meant_word name (b ∷ rest) =
-      elim (bytes_eq name b.0) as (λ t. Meant (option_map number_constant
-      (cond t (Some b.1) (lookup (bytes_eq name) rest))) (cond t (Some b.1) (number_named name rest))) [
+      elim (bytes_eq name b.0) as (λ t. Meant (option_map number_constant (cond t (Some b.1) (lookup (bytes_eq name)
+      rest))) (cond t (Some b.1) (number_named name rest))) [
         | true ↦ formed_number b.1
         | false ↦ meant_word name rest
       ]
@@ -515,23 +493,22 @@ module _ (state params : List ℤ) where
       (or_else (slot_number there slot) (number_named name words))))
 
   word_same : (s : Scope) (t : Sight) (name : List ℕ) → Sees s t →
-      word_by (values_of params s.bound) t.always (slot_by (variable_named name s.variables) None) s.words name
-      state ≡
+      word_by (values_of params s.bound) t.always (slot_by (variable_named name s.variables) None) s.words name state
+      ≡
       word_value t name
   word_same s t name h =
       sym (ap (λ b. word_by b t.always (slot_named name None t.variables) t.words name t.state) h.bound
       ∙ ap (λ u. word_by (values_of params s.bound) t.always (slot_named name None t.variables) t.words name u)
       h.there
-      ∙ ap (λ u. word_by (values_of params s.bound) t.always u t.words name state)
-      (ap (slot_named name None) h.variables ∙ slot_of_variable name None s.variables)
+      ∙ ap (λ u. word_by (values_of params s.bound) t.always u t.words name state) (ap (slot_named name None)
+      h.variables ∙ slot_of_variable name None s.variables)
       ∙ ap (λ u. word_by (values_of params s.bound) t.always (slot_by (variable_named name s.variables) None) u name
       state) h.words)
 
-  formed_word : (s : Scope) (t : Sight) (name : List ℕ) → Sees s t → IsFormed (word_formed s name)
-      (word_value t name)
+  formed_word : (s : Scope) (t : Sight) (name : List ℕ) → Sees s t → IsFormed (word_formed s name) (word_value t name)
   formed_word s t name h = formed_same _ _ _ (word_same s t name h)
-      (meant_zero _ _ (meant_or _ _ _ _ (meant_bound name s.bound)
-      (meant_or _ _ _ _ (meant_always name s.always t.always h.always)
+      (meant_zero _ _ (meant_or _ _ _ _ (meant_bound name s.bound) (meant_or _ _ _ _ (meant_always name s.always
+      t.always h.always)
       (meant_or _ _ _ _ (meant_variable (variable_named name s.variables) (λ v e f. h.bits name v None e f))
       (meant_word name s.words)))))
 
@@ -542,9 +519,8 @@ module _ (state params : List ℤ) where
       IsFormed (array_formed v i r) (or_zero (slot_number state (slot_at v.first (Some r) (Some z))))
   array_worth v i z r h = record {
     known = λ e. cc e;
-    value = λ e f. value-chain state params (term_of i.core) z (value-term_of state params i.core ∙ h.value e f)
-        v.first
-        r;
+    value = λ e f. value-chain state params (term_of i.core) z (value-term_of state params i.core
+        ∙ h.value e f) v.first r;
   }
 
   element_worth : (v : Variable) (i : Formed) (z : ℤ) (m : Option (ℤ × ℤ)) →
@@ -554,8 +530,8 @@ module _ (state params : List ℤ) where
   element_worth v i z (Some r) b h = typed_by v.is_truth (array_formed v i r) _ b (array_worth v i z r h)
 
   element_meant : (m : Option Variable) (i : Formed) (z : ℤ) →
-      ((v : Variable) → m ≡ Some v → v.is_truth ≡ true → IsBit
-      (or_zero (slot_number state (slot_at v.first v.indices (Some z))))) → IsFormed i z →
+      ((v : Variable) → m ≡ Some v → v.is_truth ≡ true → IsBit (or_zero (slot_number state (slot_at v.first v.indices
+      (Some z))))) → IsFormed i z →
       IsFormed (element_of m i) (or_zero (slot_number state (slot_by m (Some z))))
   element_meant None i z b h = formed_no_element i
   element_meant (Some v) i z b h = element_worth v i z v.indices (b v refl) h
@@ -590,15 +566,15 @@ module _ (state params : List ℤ) where
   formed_joined op g a x (b ∷ bs) (y ∷ ys) o h k = formed_joined op g (op a b) (g x y) bs ys o (o a b x y h k.0) k.1
 
   -- a truth and all of those that follow
-  all_follow : (b : Bool) (ys : List ℤ) → fold (λ x y. truth (holds x && holds y)) (truth b) ys ≡ truth
-      (b && list_all holds ys)
+  all_follow : (b : Bool) (ys : List ℤ) → fold (λ x y. truth (holds x && holds y)) (truth b) ys ≡
+      truth (b && list_all holds ys)
   all_follow true [] = refl
   all_follow false [] = refl
   all_follow true (y ∷ ys) = all_follow (holds y) ys
   all_follow false (y ∷ ys) = all_follow false ys
 
-  any_follows : (b : Bool) (ys : List ℤ) → fold (λ x y. truth (holds x || holds y)) (truth b) ys ≡ truth
-      (b || list_any holds ys)
+  any_follows : (b : Bool) (ys : List ℤ) → fold (λ x y. truth (holds x || holds y)) (truth b) ys ≡
+      truth (b || list_any holds ys)
   any_follows true [] = refl
   any_follows false [] = refl
   any_follows true (y ∷ ys) = any_follows true ys
@@ -611,8 +587,8 @@ module _ (state params : List ℤ) where
   sum_follows x [] = omega (arith, ints)
   sum_follows x (y ∷ ys) = sum_follows (x +ℤ y) ys ∙ sum_assoc x y (total ys)
 
-  sum_gathered : (fs : List Formed) (zs : List ℤ) → AllFormed fs zs → IsFormed
-      (gathered_by (number_constant (pos 0)) as_number sum fs) (total zs)
+  sum_gathered : (fs : List Formed) (zs : List ℤ) → AllFormed fs zs → IsFormed (gathered_by (number_constant (pos 0))
+      as_number sum fs) (total zs)
   sum_gathered [] [] h = formed_number (pos 0)
   sum_gathered [] (z ∷ zs) h = absurd h
   sum_gathered (a ∷ rest) [] h = absurd h
@@ -654,14 +630,13 @@ module _ (state params : List ℤ) where
   fixed_name name ((n, Bound.Number z) ∷ rest) =
       elim (bytes_eq name n) as (λ b. is_number (cond b (Some (Bound.Number z)) (lookup (bytes_eq name) rest)) ≡
       true →
-      cond b (Some z) (number_named name (values_of params rest)) ≡ cond b (Some z)
-      (number_named name (numbers rest))) [
+      cond b (Some z) (number_named name (values_of params rest)) ≡ cond b (Some z) (number_named name
+      (numbers rest))) [
         | true ↦ λ h. refl
         | false ↦ λ h. fixed_name name rest h
       ]
   fixed_name name ((n, Bound.Param k weight) ∷ rest) =
-      elim (bytes_eq name n) as (λ b. is_number (cond b (Some (Bound.Param k weight)) (lookup (bytes_eq name) rest))
-      ≡
+      elim (bytes_eq name n) as (λ b. is_number (cond b (Some (Bound.Param k weight)) (lookup (bytes_eq name) rest)) ≡
       true →
       cond b (Some (number_at params k)) (number_named name (values_of params rest)) ≡ cond b (Some (pos 0))
       (number_named name (numbers rest))) [
@@ -672,8 +647,8 @@ module _ (state params : List ℤ) where
   fixed_end : (bs : List (List ℕ × Bound)) (e : End) → is_fixed bs e ≡ true → end_value (values_of params bs) e ≡
       end_value (numbers bs) e
   fixed_end bs (End.Number at minus number) h = refl
-  fixed_end bs (End.Word at name offset) h = ap (λ v. source.with_offset (or_zero v) offset)
-      (fixed_name name.text bs h)
+  fixed_end bs (End.Word at name offset) h = ap (λ v. source.with_offset (or_zero v) offset) (fixed_name name.text bs
+      h)
 
   fixed_range : (bs : List (List ℕ × Bound)) (r : Range) → is_fixed_range bs r ≡ true → range_values
       (values_of params bs) r ≡ range_values (numbers bs) r
@@ -696,8 +671,8 @@ module _ (state params : List ℤ) where
       fit_values (numbers bs) r ≡ range_values (values_of params bs) r
   range_numbers bs r h n =
       ap (λ v. cond v (range_values (numbers bs) r) [])
-      (two (λ x y. x && y) _ true _ true (fit_end (numbers bs) r.low
-      (nearer_first (misfit (numbers bs) r.low) (misfit (numbers bs) r.high) n))
+      (two (λ x y. x && y) _ true _ true (fit_end (numbers bs) r.low (nearer_first (misfit (numbers bs) r.low)
+      (misfit (numbers bs) r.high) n))
       (fit_end (numbers bs) r.high (nearer_second (misfit (numbers bs) r.low) (misfit (numbers bs) r.high) n)))
       ∙ sym (fixed_range bs r h)
 
@@ -707,41 +682,35 @@ module _ (state params : List ℤ) where
   instances_formed : (s : Scope) (t : Sight) (name : List ℕ) (of : Part) (zs : List ℤ) → Sees s t →
       AllFormed (map (λ z. of.0 (with_number s name z)) zs) (map (λ z. of.1 (with_name t name z)) zs)
   instances_formed s t name of [] h = tt
-  instances_formed s t name of (z ∷ zs) h = (
-    of.2 (with_number s name z) (with_name t name z) (sees_inside s t name z h),
-    instances_formed s t name of zs
-        h,
-  )
+  instances_formed s t name of (z ∷ zs) h =
+      (of.2 (with_number s name z) (with_name t name z) (sees_inside s t name z h), instances_formed s t name of zs h)
 
   formed_quantified : (bs : List (List ℕ × Bound)) (r : Range) (a : Formed) (x y : ℤ) →
-      (is_fixed_range bs r ≡ true → range_misfit (numbers bs) r ≡ None → x ≡ y) → IsFormed a x → IsFormed
-      (quantified bs r a) y
+      (is_fixed_range bs r ≡ true → range_misfit (numbers bs) r ≡ None → x ≡ y) → IsFormed a x →
+      IsFormed (quantified bs r a) y
   formed_quantified bs r a x y f h = record {
     known = h.known;
-    value = λ e n. h.value (and_right (is_fixed_range bs r) a.exact e)
-        (nearer_second (range_misfit (numbers bs) r) a.measure.bad_range n)
-        ∙ f (and_left (is_fixed_range bs r) a.exact e) (nearer_first (range_misfit (numbers bs) r)
-        a.measure.bad_range
+    value = λ e n. h.value (and_right (is_fixed_range bs r) a.exact e) (nearer_second (range_misfit (numbers bs) r)
+        a.measure.bad_range n)
+        ∙ f (and_left (is_fixed_range bs r) a.exact e) (nearer_first (range_misfit (numbers bs) r) a.measure.bad_range
         n);
   }
 
   -- each kind of expression
 
-  parts_formed : (s : Scope) (t : Sight) (xs : List Part) → Sees s t → AllFormed
-      (map (λ m. m s) (map (λ k. k.0) xs))
+  parts_formed : (s : Scope) (t : Sight) (xs : List Part) → Sees s t → AllFormed (map (λ m. m s) (map (λ k. k.0) xs))
       (map (λ m. m t) (map (λ k. k.1) xs))
   parts_formed s t [] h = tt
   parts_formed s t (x ∷ xs) h = (x.2 s t h, parts_formed s t xs h)
 
-  formed_added : (s : Scope) (t : Sight) (a : Formed) (z : ℤ) (xs : List (Symbol × Part)) → Sees s t → IsFormed a z
-      →
-      IsFormed (fold plus a (map (λ (part : Symbol × Forming). (part.0, part.1 s))
-      (map (λ (k : Symbol × Part). (k.0, k.1.0)) xs)))
+  formed_added : (s : Scope) (t : Sight) (a : Formed) (z : ℤ) (xs : List (Symbol × Part)) → Sees s t → IsFormed a z →
+      IsFormed (fold plus a (map (λ (part : Symbol × Forming). (part.0, part.1 s)) (map (λ (k : Symbol × Part).
+      (k.0, k.1.0)) xs)))
       (source.added t z (map (λ (k : Symbol × Part). (k.0, k.1.1)) xs))
   formed_added s t a z [] h k = k
   formed_added s t a z (x ∷ xs) h k =
-      formed_added s t (plus a (x.0, x.1.0 s)) (source.plus z x.0 (x.1.1 t)) xs h
-      (formed_plus a x.0 (x.1.0 s) z (x.1.1 t) k (x.1.2 s t h))
+      formed_added s t (plus a (x.0, x.1.0 s)) (source.plus z x.0 (x.1.1 t)) xs h (formed_plus a x.0 (x.1.0 s) z
+      (x.1.1 t) k (x.1.2 s t h))
 
   formed_multiplied : (s : Scope) (t : Sight) (a : Formed) (z : ℤ) (xs : List Part) → Sees s t → IsFormed a z →
       IsFormed (fold product a (map (λ m. m s) (map (λ k. k.0) xs))) (source.multiplied t z (map (λ k. k.1) xs))
@@ -760,20 +729,18 @@ module _ (state params : List ℤ) where
   layer : ExpressionLayers IsWorth form_layer value_layer
   layer (Expr-F.Implies at l r) s t h = formed_implication (l.0 s) (r.0 s) (l.1 t) (r.1 t) (l.2 s t h) (r.2 s t h)
   layer (Expr-F.And at x xs) s t h =
-      formed_same _ _ _ (all_follow (holds (x.1 t)) (map (λ m. m t) (map (λ k. k.1) xs)) ∙ ap
-      (λ v. truth (holds (x.1 t) && v)) (all_parts t (map (λ k. k.1) xs)))
-      (formed_joined conjunction (λ x y. truth (holds x && holds y)) _ _ _ _ formed_conjunction
-      (formed_as_truth (x.0 s) (x.1 t) (x.2 s t h)) (parts_formed s t xs h))
+      formed_same _ _ _ (all_follow (holds (x.1 t)) (map (λ m. m t) (map (λ k. k.1) xs))
+      ∙ ap (λ v. truth (holds (x.1 t) && v)) (all_parts t (map (λ k. k.1) xs)))
+      (formed_joined conjunction (λ x y. truth (holds x && holds y)) _ _ _ _ formed_conjunction (formed_as_truth
+      (x.0 s) (x.1 t) (x.2 s t h)) (parts_formed s t xs h))
   layer (Expr-F.Or at x xs) s t h =
-      formed_same _ _ _ (any_follows (holds (x.1 t)) (map (λ m. m t) (map (λ k. k.1) xs)) ∙ ap
-      (λ v. truth (holds (x.1 t) || v)) (any_parts t (map (λ k. k.1) xs)))
-      (formed_joined disjunction (λ x y. truth (holds x || holds y)) _ _ _ _ formed_disjunction
-      (formed_as_truth (x.0 s) (x.1 t) (x.2 s t h)) (parts_formed s t xs h))
+      formed_same _ _ _ (any_follows (holds (x.1 t)) (map (λ m. m t) (map (λ k. k.1) xs))
+      ∙ ap (λ v. truth (holds (x.1 t) || v)) (any_parts t (map (λ k. k.1) xs)))
+      (formed_joined disjunction (λ x y. truth (holds x || holds y)) _ _ _ _ formed_disjunction (formed_as_truth
+      (x.0 s) (x.1 t) (x.2 s t h)) (parts_formed s t xs h))
   layer (Expr-F.Not at x) s t h = formed_denial (x.0 s) (x.1 t) (x.2 s t h)
-  layer (Expr-F.Compare at l r x) s t h = formed_comparison r (l.0 s) (x.0 s) (l.1 t) (x.1 t) (l.2 s t h)
-      (x.2 s t h)
-  layer (Expr-F.Sum at minus x xs) s t h = formed_added s t _ _ xs h
-      (formed_signed minus (x.0 s) (x.1 t) (x.2 s t h))
+  layer (Expr-F.Compare at l r x) s t h = formed_comparison r (l.0 s) (x.0 s) (l.1 t) (x.1 t) (l.2 s t h) (x.2 s t h)
+  layer (Expr-F.Sum at minus x xs) s t h = formed_added s t _ _ xs h (formed_signed minus (x.0 s) (x.1 t) (x.2 s t h))
   layer (Expr-F.Product at x xs) s t h = formed_multiplied s t (x.0 s) (x.1 t) xs h (x.2 s t h)
   layer (Expr-F.Number at n) s t h = formed_number (pos n)
   layer (Expr-F.True at) s t h = formed_top

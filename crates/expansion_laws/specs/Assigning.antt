@@ -133,7 +133,8 @@ open_effect e ends first c v count = record {
 -- a write at an index of an array
 abbrev pub array_effect : Formed → ℕ → ℤ × ℤ → Formed → Formed → Effect
 array_effect i first ends c v = cond i.constant
-    (write_to (option_and_then (λ k. slot_at first (Some ends) (Some k)) (number_of (term_of i.core))) (form_of c.core)
+    (write_to (option_and_then (λ k. slot_at first (Some ends) (Some k)) (number_of (term_of i.core)))
+    (form_of c.core)
     (term_of v.core) (both_counts (index_count i.measure) (write_count c.measure v.measure)))
     (open_effect (term_of i.core) ends first (form_of c.core) (term_of v.core)
     (spread_count (range_size ends) ends i.measure c.measure v.measure))

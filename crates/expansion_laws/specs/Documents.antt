@@ -1,6 +1,7 @@
--- Where the expressions of a document stand: its variables and words, and its always names, each made once, with those
+-- Where the expressions of a document stand: its variables and words, and its always names, each made once, with
+-- those
 -- before it.
-use Rattle.std.specs.Prelude.{ℕ, ℤ, List, [], ◌∷◌}
+use Rattle.std.specs.Prelude.{ℕ, List, [], ◌∷◌}
 use Rattle.unity_syntax.specs.declared.declaration.Def.{Def}
 use Rattle.unity_syntax.specs.declared.program.Program.{Program}
 use Rattle.unity_meaning.specs.Setting.{Setting, setting_of}

@@ -1,4 +1,5 @@
--- What expressions become: terms and formulas, folded, with always names put in place and quantifiers unfolded; and how
+-- What expressions become: terms and formulas, folded, with always names put in place and quantifiers unfolded; and
+-- how
 -- large they are before folding.
 use Rattle.std.specs.Prelude.{ℕ, zero, suc, ℤ, pos, negsuc, ◌+ℤ◌, List, [], ◌∷◌, map, fold, max, Bool, true, false}
 use Rattle.std.specs.Prelude.{cond, ◌&&◌, ◌||◌, Option, Some, None, option_map}

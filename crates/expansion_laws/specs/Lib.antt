@@ -6,3 +6,10 @@ pub mod Assigning
 pub mod Documents
 pub mod ValueLaws
 pub mod Lists
+pub mod StepLaws
+pub mod SightLaws
+pub mod Programs
+pub mod ProgramLaws
+pub mod ExactLaws
+pub mod WeightLaws
+pub mod DocumentExact

@@ -6,12 +6,12 @@ use Rattle.state_steps.specs.State.{State, is_state}
 use Rattle.unity_meaning.specs.Value.{value}
 use Rattle.unity_meaning.specs.Setting.{setting_of, slot_ranges, seen}
 use Rattle.expansion_laws.specs.declared.cores.Bound.{Bound}
-use Rattle.expansion_laws.specs.declared.cores.Formed.{Formed}
-use Rattle.expansion_laws.specs.Forming.{Scope, formed}
+use Rattle.expansion_laws.specs.Forming.{formed}
 use Rattle.expansion_laws.specs.Worth.{core_value, values_of}
 use Rattle.expansion_laws.specs.Documents.{scope_of, within}
 
--- at each state of the document, and for all numbers of parameters, the core is worth what the expression is, if it is
+-- at each state of the document, and for all numbers of parameters, the core is worth what the expression is, if it
+-- is
 -- exact and no range in it is bad
 abbrev pub CoreHasValue : Type 0
 CoreHasValue = (programs : List Program) (state : State) (params : List ℤ) (bs : List (List ℕ × Bound)) (e : Expr) →

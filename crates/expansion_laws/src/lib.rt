@@ -8,4 +8,6 @@ mod laws;
 
 pub use cores::{Bound, Core, Formed, Measure};
 pub use effects::{Count, Effect};
-pub use laws::value_laws;
+pub use laws::{
+    document_laws, exact_laws, program_laws, sight_laws, step_laws, value_laws, weight_laws,
+};

@@ -36,7 +36,8 @@ copying_fits slot from h k e =
     let params : term_params (Slot from) ≡ 0 =
     ap term_params (sym (rolls-Slot from)) ∙ fold-roll-CTerm ℕ ℕ greatest_part params_step (CTerm-F.Slot from) in
     let whole = ap (term_weights (slot_weight two_slots) (place_weight [])) (sym (rolls-Slot from))
-    ∙ fold-roll-CTerm ℕ Weights weigh_form (weigh_term (slot_weight two_slots) (place_weight [])) (CTerm-F.Slot from) in
+    ∙ fold-roll-CTerm ℕ Weights weigh_form (weigh_term (slot_weight two_slots) (place_weight [])) (CTerm-F.Slot from)
+    in
     let weight = ap (λ (w : Weights). w.most) whole in
     record {
       target = omega (arith, h);

@@ -1,11 +1,10 @@
 -- Lists of formulas, joined one after the other.
 use Rattle.std.proofs.Common.{◌≡◌, ℕ, suc, ◌+◌, ◌-◌, ◌<◌, ◌≤◌, List, [], ◌∷◌, ◌++◌, map, take, drop, length, get_or}
-use Rattle.std.proofs.Common.{Bool, true, false, cond, Option, Some, None, nat_eq, refl, sym, ap, ◌∙◌, add-one}
-use Rattle.std.proofs.Common.{drop-cons, length-drop, arith}
+use Rattle.std.proofs.Common.{true, Option, Some, None, refl, sym, ap, ◌∙◌, add-one, drop-cons, length-drop, arith}
 use Rattle.std.proofs.lemmas.List.{take_all, drop-map}
 use Rattle.core_terms.specs.declared.trees.CForm.{CForm, fold-roll-CForm}
 use Rattle.core_terms.specs.declared.trees.CForm.TheOpen.{CForm-F}
-use Rattle.core_terms.specs.declared.trees.CForm.TheVariants.{Top, Bottom, rolls-Top, rolls-Bottom}
+use Rattle.core_terms.specs.declared.trees.CForm.TheVariants.{Top, rolls-Top}
 use Rattle.core_terms.specs.declared.programs.CWrite.{CWrite}
 use Rattle.core_terms.specs.Folding.{truth_of, truth_step, number_step, not_form, and_form}
 use Rattle.core_terms.specs.declared.programs.CSlot.{CSlot}
@@ -17,9 +16,6 @@ use Rattle.wp_substitution.specs.Joined.{joined_with, joined_all, or_top, known_
 
 pub truth-Top : truth_of Top ≡ Some true
 truth-Top = ap truth_of (sym rolls-Top) ∙ fold-roll-CForm _ _ truth_step number_step CForm-F.Top
-
-pub truth-Bottom : truth_of Bottom ≡ Some false
-truth-Bottom = ap truth_of (sym rolls-Bottom) ∙ fold-roll-CForm _ _ truth_step number_step CForm-F.Bottom
 
 pub joined-append : (whole : Option CForm) (fs gs : List CForm) →
     joined_all whole (fs ++ gs) ≡ joined_all (joined_all whole fs) gs
@@ -40,29 +36,6 @@ pub rest_of : {X : Type 0} (xs : List X) (i : ℕ) (x : X) → i < length xs →
 rest_of xs i x h e =
     drop-cons xs i x h ∙ ap (λ y. y ∷ drop (suc i) xs) (sym e) ∙ ap (λ n. x ∷ drop n xs) (sym (add-one i))
 
--- one formula more of a list
-pub joined_more : {X : Type 0} (f : X → CForm) (whole : Option CForm) (xs : List X) (i : ℕ) (x : X) → i < length xs →
-    x ≡ get_or xs i x →
-    joined_all (Some (joined_with whole (f x))) (map f (drop (i + 1) xs)) ≡ joined_all whole (map f (drop i xs))
-joined_more f whole xs i x h e = sym (ap (λ ys. joined_all whole (map f ys)) (rest_of xs i x h e))
-
--- one write more, to the slot or not
-pub pairs_more : (f : CWrite → CForm) (n : ℕ) (whole : Option CForm) (xs : List CWrite) (i : ℕ) (x : CWrite)
-    (b : Bool) → i < length xs → x ≡ get_or xs i x → nat_eq n x.slot ≡ b →
-    joined_all (cond b (Some (joined_with whole (f x))) whole) (map f (writes_to n (drop (i + 1) xs))) ≡
-    joined_all whole (map f (writes_to n (drop i xs)))
-pairs_more f n whole xs i x b h e t =
-    chosen b
-    ∙ ap (λ v. joined_all whole (map f (cond v (x ∷ writes_to n (drop (i + 1) xs)) (writes_to n (drop (i + 1) xs)))))
-    (sym t)
-    ∙ sym (ap (λ ys. joined_all whole (map f (writes_to n ys))) (rest_of xs i x h e))
-  where
-    chosen : (v : Bool) →
-        joined_all (cond v (Some (joined_with whole (f x))) whole) (map f (writes_to n (drop (i + 1) xs))) ≡
-        joined_all whole (map f (cond v (x ∷ writes_to n (drop (i + 1) xs)) (writes_to n (drop (i + 1) xs))))
-    chosen true = refl
-    chosen false = refl
-
 whole_rest : {X : Type 0} (xs : List X) (i : ℕ) → take (length xs - i) (drop i xs) ≡ drop i xs
 whole_rest xs i =
     let all : length (drop i xs) ≤ length xs - i = omega (arith, length-drop i xs) in
@@ -76,7 +49,8 @@ known_rest ws ks i e =
 
 -- the pairs of one write more
 pub pairs_next : (whole : Option CForm) (xs : List CWrite) (i : ℕ) (x : CWrite) → i < length xs → x ≡ get_or xs i x →
-    joined_all (joined_all whole (map (pair_form x) (writes_to x.slot (take (length xs - (i + 1)) (drop (i + 1) xs)))))
+    joined_all (joined_all whole (map (pair_form x) (writes_to x.slot
+    (take (length xs - (i + 1)) (drop (i + 1) xs)))))
     (pair_forms (drop (i + 1) xs)) ≡
     joined_all whole (pair_forms (drop i xs))
 pairs_next whole xs i x h e =

@@ -81,7 +81,8 @@ multiple_own k l t a u e f h =
     ap (λ z. unsigned_abs z * (plain_weights u).own) f in
     omega (arith, whole, part, same)
 
-pub multiple_most : (k l : ℤ) (t a u : CTerm) → t ≡ Scale k a → l ≡ k → (plain_weights u).own ≤ (after_weights a).own →
+pub multiple_most : (k l : ℤ) (t a u : CTerm) → t ≡ Scale k a → l ≡ k → (plain_weights u).own ≤ (after_weights a).own
+    →
     (plain_weights u).most ≤ (after_weights a).most →
     max (unsigned_abs l * (plain_weights u).own) (plain_weights u).most ≤ (after_weights t).most
 multiple_most k l t a u e f h m =

@@ -1,6 +1,6 @@
 -- The formulas of a statement name no slot and no parameter that its parts do not name.
-use Rattle.std.proofs.Common.{ℕ, ◌≤◌, nat_eq, List, [], ◌∷◌, ◌++◌, map, filter, length, Bool, true, false, cond, Option}
-use Rattle.std.proofs.Common.{Some, None, All, refl, arith}
+use Rattle.std.proofs.Common.{ℕ, ◌≤◌, nat_eq, List, [], ◌∷◌, ◌++◌, map, filter, length, Bool, true, false, cond}
+use Rattle.std.proofs.Common.{Option, Some, None, All, refl, arith}
 use Rattle.std.specs.Prelude.{slice_get}
 use Rattle.std.proofs.lemmas.List.Elements.{All-nil, All-cons, All-head, All-tail, All-append, All-map, All-weaker}
 use Rattle.core_terms.specs.declared.trees.CTerm.{CTerm, fold-CTerm}
@@ -159,7 +159,8 @@ pub wp_params : (slots : List CSlot) (s : CStmt) (q : CForm) → StatementFits s
     form_params (wp_form slots s q) ≤ form_params q
 wp_params slots s q h =
     let limit = form_params q in
-    wp_below params_step params_counts limit slots s q (outside_params slots s limit h) (writes_params slots s limit h)
+    wp_below params_step params_counts limit slots s q (outside_params slots s limit h)
+    (writes_params slots s limit h)
     (omega arith)
 
 -- what a statement needs names no parameter, nor does what a slot holds after it

@@ -11,7 +11,8 @@ returns-clause-most c =
     IfOk-weaker c.choice_known.result _ _
     (λ t e. link_most c.in_ok-copy.copy c.in_ok-constant.constant c.in_ok-less.less c.in_ok-read.read c.args.rest t
     c.in_ok-same.same
-    c.args.place.at c.args.place.slot index.measure.own index.measure.most c.in_ok-constant.ensures c.in_ok-read.ensures
+    c.args.place.at c.args.place.slot index.measure.own index.measure.most c.in_ok-constant.ensures
+    c.in_ok-read.ensures
     (subst (λ u. (plain_weights u).own ≤ index.measure.own) same' c.requires.sound.fits.1)
     (subst (λ u. (plain_weights u).most ≤ index.measure.most) same' c.requires.sound.fits.2) c.in_ok-less.ensures.most
     c.in_ok-same.ensures.weight e)

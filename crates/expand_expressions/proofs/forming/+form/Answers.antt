@@ -10,8 +10,9 @@ use Rattle.expansion_laws.specs.declared.cores.Bound.{Bound}
 use Rattle.expansion_laws.specs.declared.cores.Formed.{Formed}
 use Rattle.expansion_laws.specs.Limits.{is_past, is_too_large}
 use Rattle.expansion_laws.specs.Measures.{quantifier_measure, range_misfit}
-use Rattle.expansion_laws.specs.Forming.{Scope, with_number, as_truth, conjunction, disjunction, product, plus, signed}
-use Rattle.expansion_laws.specs.Forming.{denial, comparison, gathered, numbers, fit_values, quantified, formed}
+use Rattle.expansion_laws.specs.Forming.{Scope, with_number, as_truth, conjunction, disjunction, product, plus}
+use Rattle.expansion_laws.specs.Forming.{signed, denial, comparison, gathered, numbers, fit_values, quantified}
+use Rattle.expansion_laws.specs.Forming.{formed}
 use Rattle.expansion_laws.proofs.Equations.{formed-And, formed-Or, formed-Not, formed-Compare, formed-Sum}
 use Rattle.expansion_laws.proofs.Equations.{formed-Product, formed-Element, formed-Quantified}
 use Rattle.expansion_laws.proofs.Growing.{as_truth_keeps, denial_keeps, comparison_first, comparison_second}
@@ -31,8 +32,8 @@ pub form-returns-in_err-first-in-And-clause-formed : goal.form-returns-in_err-fi
 form-returns-in_err-first-in-And-clause-formed t c =
     let s = scope c.args.known.now c.args.env.now in
     let f = λ (x : Expr). formed x s in
-    let p = err_from_is_err_and c.from_residual-in_err-first-in-And.result c.from_residual-in_err-first-in-And.ensures.1
-    in
+    let p = err_from_is_err_and c.from_residual-in_err-first-in-And.result
+    c.from_residual-in_err-first-in-And.ensures.1 in
     rw (p.1, p.2, c.in-And.is, formed-And)
     (passes_at c.in_err-first-in-And.field-0.0 f c.get-in-And.result.now c.in-And.first
     (fold conjunction (begin_of Joint.And (f c.in-And.first)) (map f c.in-And.rest))
@@ -92,8 +93,8 @@ pub form-returns-in_err-first-in-Sum-clause-formed : goal.form-returns-in_err-fi
 form-returns-in_err-first-in-Sum-clause-formed t c =
     let s = scope c.args.known.now c.args.env.now in
     let f = λ (x : Expr). formed x s in
-    let p = err_from_is_err_and c.from_residual-in_err-first-in-Sum.result c.from_residual-in_err-first-in-Sum.ensures.1
-    in
+    let p = err_from_is_err_and c.from_residual-in_err-first-in-Sum.result
+    c.from_residual-in_err-first-in-Sum.ensures.1 in
     let parts = map (λ (q : Symbol × Expr). (q.0, formed q.1 s)) c.in-Sum.rest in
     rw (p.1, p.2, c.in-Sum.is, formed-Sum)
     (passes_at c.in_err-first-in-Sum.field-0.0 f c.get-in-Sum.result.now c.in-Sum.first
@@ -229,8 +230,8 @@ added-returns-in_err-whole-2-clause-formed t c =
     let begin = signed c.args.minus c.args.first in
     let parts = map (λ (q : Symbol × Expr). (q.0, formed q.1 s)) c.args.rest.now in
     let p = err_from_is_err_and c.from_residual-in_err-whole-2.result c.from_residual-in_err-whole-2.ensures.1 in
-    rw (p.1, p.2) (passes c.in_err-whole-2.field-0.0 (plus c.loop-part.whole (c.part-item.result.0, c.in_ok-next.next))
-    (fold plus begin parts)
+    rw (p.1, p.2) (passes c.in_err-whole-2.field-0.0 (plus c.loop-part.whole
+    (c.part-item.result.0, c.in_ok-next.next)) (fold plus begin parts)
     (sum_joined f c.loop-part.whole c.as_slice-part-items.result.now c.args.rest.now c.loop-part.part-index begin
     c.in_ok-whole.whole c.loop-part-test.true c.in_ok-whole.ensures.formed c.as_slice-part-items.ensures
     c.loop-part.invariant.0 c.part-item.result c.in_ok-next.next c.part-item.is c.in_ok-next.ensures.formed)
@@ -258,8 +259,10 @@ quantified-returns-clause-formed t c =
     let whole : c.in_ok-whole.whole ≡ gathered c.args.which (map f (fit_values (numbers s.bound) c.args.range.now)) =
     c.in_ok-whole.ensures.formed ∙ ap (λ zs. gathered c.args.which (map f zs)) values in
     subst (λ a. Gives c.limited.result a)
-    (ap (λ m. record c.in_ok-whole.whole { exact = c.is_fixed_range.result && c.in_ok-whole.whole.exact; measure = m })
-    (c.quantifier_measure-measure.ensures ∙ ap (λ w. quantifier_measure w c.in_ok-whole.whole.measure)
+    (ap (λ m. record c.in_ok-whole.whole {
+      exact = c.is_fixed_range.result && c.in_ok-whole.whole.exact;
+      measure = m;
+    }) (c.quantifier_measure-measure.ensures ∙ ap (λ w. quantifier_measure w c.in_ok-whole.whole.measure)
     c.range_misfit.ensures)
     ∙ ap (λ b. record c.in_ok-whole.whole {
       exact = b && c.in_ok-whole.whole.exact;
@@ -313,7 +316,8 @@ instances-loop-k-preserved t c =
     let low = c.args.numbers.first in
     let n = c.args.numbers.count in
     let goal = gathered c.args.which (map f (count_up low n)) in
-    let same : formed c.args.of.now (scope c.args.known.now c.with_bound-in-loop-k.result) ≡ f (low +ℤ pos c.loop-k.k) =
+    let same : formed c.args.of.now (scope c.args.known.now c.with_bound-in-loop-k.result) ≡ f (low +ℤ pos c.loop-k.k)
+    =
     ap (λ (bs : List (List ℕ × Bound)). formed c.args.of.now (record s { bound = bs }))
     (c.with_bound-in-loop-k.ensures ∙ ap (λ b. (c.args.name.now.text, b) ∷ bound_names c.args.env.now)
     c.bound_at-in-loop-k.ensures) in (
@@ -387,7 +391,8 @@ instances-returns-in_err-next-clause-formed t c =
     let low = c.args.numbers.first in
     let n = c.args.numbers.count in
     let goal = gathered c.args.which (map f (count_up low n)) in
-    let same : formed c.args.of.now (scope c.args.known.now c.with_bound-in-loop-k.result) ≡ f (low +ℤ pos c.loop-k.k) =
+    let same : formed c.args.of.now (scope c.args.known.now c.with_bound-in-loop-k.result) ≡ f (low +ℤ pos c.loop-k.k)
+    =
     ap (λ (bs : List (List ℕ × Bound)). formed c.args.of.now (record s { bound = bs }))
     (c.with_bound-in-loop-k.ensures ∙ ap (λ b. (c.args.name.now.text, b) ∷ bound_names c.args.env.now)
     c.bound_at-in-loop-k.ensures) in
@@ -404,7 +409,8 @@ instances-returns-in_err-whole-2-clause-formed t c =
     let low = c.args.numbers.first in
     let n = c.args.numbers.count in
     let goal = gathered c.args.which (map f (count_up low n)) in
-    let same : formed c.args.of.now (scope c.args.known.now c.with_bound-in-loop-k.result) ≡ f (low +ℤ pos c.loop-k.k) =
+    let same : formed c.args.of.now (scope c.args.known.now c.with_bound-in-loop-k.result) ≡ f (low +ℤ pos c.loop-k.k)
+    =
     ap (λ (bs : List (List ℕ × Bound)). formed c.args.of.now (record s { bound = bs }))
     (c.with_bound-in-loop-k.ensures ∙ ap (λ b. (c.args.name.now.text, b) ∷ bound_names c.args.env.now)
     c.bound_at-in-loop-k.ensures) in
