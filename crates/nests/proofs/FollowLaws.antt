@@ -29,10 +29,12 @@ all_joined vs cs ds h k =
     list_all-append (condition_holds vs) cs ds ∙ both_true (all_hold vs cs) (all_hold vs ds) h k
 
 pub all_front : (vs : List ℤ) (cs ds : List Condition) → all_hold vs (cs ++ ds) ≡ true → all_hold vs cs ≡ true
-all_front vs cs ds h = and_left (all_hold vs cs) (all_hold vs ds) (sym (list_all-append (condition_holds vs) cs ds) ∙ h)
+all_front vs cs ds h = and_left (all_hold vs cs) (all_hold vs ds)
+    (sym (list_all-append (condition_holds vs) cs ds) ∙ h)
 
 pub all_back : (vs : List ℤ) (cs ds : List Condition) → all_hold vs (cs ++ ds) ≡ true → all_hold vs ds ≡ true
-all_back vs cs ds h = and_right (all_hold vs cs) (all_hold vs ds) (sym (list_all-append (condition_holds vs) cs ds) ∙ h)
+all_back vs cs ds h = and_right (all_hold vs cs) (all_hold vs ds)
+    (sym (list_all-append (condition_holds vs) cs ds) ∙ h)
 
 -- a list with one condition
 
@@ -117,7 +119,8 @@ number_outer vs z None h = refl
 number_outer vs z (Some n) h =
     index_outer vs z n (λ e. let t : nat_eq n (length vs) ≡ true = eq-eqb n (length vs) e in cc)
 
-pub number_inner : (vs : List ℤ) (z : ℤ) (o : Option ℕ) → is_level o (length vs) ≡ true → number_at (vs ++ z ∷ []) o ≡ z
+pub number_inner : (vs : List ℤ) (z : ℤ) (o : Option ℕ) → is_level o (length vs) ≡ true → number_at (vs ++ z ∷ []) o
+    ≡ z
 number_inner vs z None h = cc
 number_inner vs z (Some n) h = index_inner vs z n (eqb-true n (length vs) h)
 
@@ -171,5 +174,6 @@ follows_pair k all old new a b c f among also p q = record {
       ∙ ap (λ v. int_le (number_at vs b.low +ℤ c.gap) (number_at vs v)) p.5
       ∙ ap (λ v. int_le (number_at vs b.low +ℤ v) (number_at vs a.high)) p.6
       ∙ joined_order (number_at vs b.low) (number_at vs a.high) z a.gap b.gap x y in
-      q.holds vs (all_joined vs old (plain c ∷ []) (f.holds vs z e h) (one_holds vs (plain c) (plain_holds vs c here)));
+      q.holds vs (all_joined vs old (plain c ∷ []) (f.holds vs z e h)
+      (one_holds vs (plain c) (plain_holds vs c here)));
 }

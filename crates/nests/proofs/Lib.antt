@@ -3,3 +3,4 @@ pub mod CountLaws
 pub mod NarrowLaws
 pub mod PlanLaws
 pub mod QuestionLaws
+pub mod ListLaws

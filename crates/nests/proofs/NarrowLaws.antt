@@ -53,7 +53,8 @@ narrows_below vs c old (Some m) i j e = elim (int_lt m old.high) as (λ b. int_l
       }
     ] refl
 
-narrows_above : (vs : List ℤ) (c : Condition) (old : Interval) (least : Option ℤ) → is_level c.low (length vs) ≡ false →
+narrows_above : (vs : List ℤ) (c : Condition) (old : Interval) (least : Option ℤ) → is_level c.low (length vs) ≡
+    false →
     is_level c.high (length vs) ≡ true → ((m : ℤ) → least ≡ Some m → m ≡ number_at vs c.low +ℤ c.gap) →
     Narrows vs (c ∷ []) old (raised old least)
 narrows_above vs c old None i j e = narrows_none vs old (c ∷ [])
@@ -122,7 +123,8 @@ spans_interval vs r = elim (are_fit vs r) as (λ b. are_fit vs r ≡ b →
     ] refl
 
 -- no instance is lost
-pub same_meeting : (vs : List ℤ) (r : NestRange) (rs : List NestRange) (leaf cs : List Condition) (old new : Interval) →
+pub same_meeting : (vs : List ℤ) (r : NestRange) (rs : List NestRange) (leaf cs : List Condition)
+    (old new : Interval) →
     Spans vs r old → Necessary rs leaf (suc (length vs)) cs → Narrows vs cs old new →
     meeting (r ∷ rs) leaf vs ≡ sum_over (λ z. meeting rs leaf (vs ++ z ∷ [])) (between new.low new.high)
 same_meeting vs r rs leaf cs old new s n w =

@@ -1,7 +1,7 @@
 -- What is necessary for an instance, and the sums over the numbers of a range.
 use Rattle.std.proofs.Common.{◌≡◌, ℕ, zero, suc, ◌+◌, ◌-◌, ◌<◌, ◌≤◌, ℤ, pos, negsuc, ◌+ℤ◌, ◌-ℤ◌, neg_ℤ, ◌≤ℤ◌, ◌<ℤ◌}
-use Rattle.std.proofs.Common.{List, [], ◌∷◌, ◌++◌, true, false, cond, Option, Some, length, eq-eqb, get_or, take, drop}
-use Rattle.std.proofs.Common.{refl, sym, ap, ◌∙◌, subst, arith}
+use Rattle.std.proofs.Common.{List, [], ◌∷◌, ◌++◌, true, false, cond, Option, Some, length, eq-eqb, get_or, take}
+use Rattle.std.proofs.Common.{drop, refl, sym, ap, ◌∙◌, subst, arith}
 use Rattle.std.proofs.lemmas.Int.{ints}
 use Rattle.std.proofs.lemmas.List.{take_rest}
 use borrow.Author.Differences.{le-true, le-false, true_is_le}
@@ -76,7 +76,8 @@ low_holds e vs z f a = elim (is_level e.level (length vs)) as (λ b. is_level e.
       | false ↦ λ o.
           let x = number_outer vs z e.level o in
           let y = number_inner vs z (Some (length vs)) (level_own vs (length vs) refl) in
-          let p : int_le (number_at vs e.level +ℤ offset e) z ≡ true = le_yes (number_at vs e.level +ℤ offset e) z a in
+          let p : int_le (number_at vs e.level +ℤ offset e) z ≡ true = le_yes (number_at vs e.level +ℤ offset e) z a
+          in
           both_true (condition_holds (vs ++ z ∷ []) (above_end e (length vs)))
           (all_hold (vs ++ z ∷ []) (fit_conditions e))
           (ap (λ v. int_le (v +ℤ offset e) (number_at (vs ++ z ∷ []) (Some (length vs)))) x
@@ -170,7 +171,8 @@ sum_last f low i n h = let e : n - i ≡ 0 = omega arith in ap (λ m. sum_over f
 
 -- the room that is left and what is still to be counted, at each number
 pub each_more : (f : ℤ → ℕ) (low : ℤ) (i n room left whole all : ℕ) → i < n →
-    all + sum_over f (count_up (low +ℤ pos i) (n - i)) ≡ room + whole → LeavesRoom (Some left) room (f (low +ℤ pos i)) →
+    all + sum_over f (count_up (low +ℤ pos i) (n - i)) ≡ room + whole → LeavesRoom (Some left) room
+    (f (low +ℤ pos i)) →
     all + sum_over f (count_up (low +ℤ pos (i + 1)) (n - (i + 1))) ≡ left + whole
 each_more f low i n room left whole all h e m =
     let s = sum_more f low i n h in let p : left + f (low +ℤ pos i) ≡ room = m in omega arith
@@ -189,7 +191,8 @@ pub plan_holds : (rs : List NestRange) (leaf : List Condition) (k : ℕ) (inner 
     (plans new : List (List Condition)) (d : NestRange) → 1 ≤ length rs →
     Plans (take (length rs - 1) (drop 1 rs)) leaf (k + 1) plans × Necessary (take (length rs - 1) (drop 1 rs)) leaf
     (k + 1) inner →
-    Follows k (own (get_or rs 0 d) k ++ inner) out → new ≡ inner ∷ plans → Plans rs leaf k new × Necessary rs leaf k out
+    Follows k (own (get_or rs 0 d) k ++ inner) out → new ≡ inner ∷ plans → Plans rs leaf k new × Necessary rs leaf k
+    out
 plan_holds [] leaf k inner out plans new d h p f e = absurd (let i : 1 ≤ 0 = h in omega arith)
 plan_holds (r ∷ rs) leaf k inner out plans new d h p f e =
     let same : take (length (r ∷ rs) - 1) (drop 1 (r ∷ rs)) ≡ rs = take_rest (r ∷ rs) 1 in
@@ -198,7 +201,8 @@ plan_holds (r ∷ rs) leaf k inner out plans new d h p f e =
     (subst (λ xs. Plans xs leaf (k + 1) plans × Necessary xs leaf (k + 1) inner) same p) in
     (subst (λ ps. Plans (r ∷ rs) leaf k ps) (sym e) (q.1, q.0), necessary_outside r rs leaf k inner out q.1 f)
 
-pub count_holds : (rs : List NestRange) (plans : List (List Condition)) (leaf : List Condition) (vs : List ℤ) (room : ℕ)
+pub count_holds : (rs : List NestRange) (plans : List (List Condition)) (leaf : List Condition) (vs : List ℤ)
+    (room : ℕ)
     (old new : Interval) (dr : NestRange) (dc : List Condition) (r : Option ℕ) → 1 ≤ length rs → 1 ≤ length plans →
     Plans rs leaf (length vs) plans → Spans vs (get_or rs 0 dr) old → Narrows vs (get_or plans 0 dc) old new →
     LeavesRoom r room (sum_over (λ z. meeting (take (length rs - 1) (drop 1 rs)) leaf (vs ++ z ∷ []))
@@ -209,7 +213,8 @@ count_holds (x ∷ rs) [] leaf vs room old new dr dc r h g p s n m = absurd p
 count_holds (x ∷ rs) (c ∷ cs) leaf vs room old new dr dc r h g p s n m =
     let same : take (length (x ∷ rs) - 1) (drop 1 (x ∷ rs)) ≡ rs = take_rest (x ∷ rs) 1 in
     subst (λ n. LeavesRoom r room n) (sym (same_meeting vs x rs leaf c old new s p.0 n))
-    (subst (λ xs. LeavesRoom r room (sum_over (λ z. meeting xs leaf (vs ++ z ∷ [])) (between new.low new.high))) same m)
+    (subst (λ xs. LeavesRoom r room (sum_over (λ z. meeting xs leaf (vs ++ z ∷ [])) (between new.low new.high)))
+    same m)
 
 -- the plans of the ranges inside the first
 pub plans_inside : (rs : List NestRange) (leaf : List Condition) (k : ℕ) (plans : List (List Condition)) →

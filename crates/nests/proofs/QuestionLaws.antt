@@ -1,7 +1,7 @@
 -- What is asked of the instances of nested ranges, by how many meet it.
-use Rattle.std.proofs.Common.{◌≡◌, ℕ, zero, suc, ◌+◌, ◌<◌, ℤ, pos, negsuc, ◌+ℤ◌, ◌-ℤ◌, ◌≤ℤ◌, ◌<ℤ◌, List, [], ◌∷◌, ◌++◌}
-use Rattle.std.proofs.Common.{Bool, true, false, cond, not, ◌||◌, Option, Some, None, is_none, length, refl, sym, ap}
-use Rattle.std.proofs.Common.{◌∙◌, arith}
+use Rattle.std.proofs.Common.{◌≡◌, ℕ, zero, suc, ◌+◌, ◌<◌, ℤ, pos, negsuc, ◌+ℤ◌, ◌-ℤ◌, ◌≤ℤ◌, ◌<ℤ◌, List, [], ◌∷◌}
+use Rattle.std.proofs.Common.{◌++◌, Bool, true, false, cond, not, ◌||◌, Option, Some, None, is_none, length, refl}
+use Rattle.std.proofs.Common.{sym, ap, ◌∙◌, arith}
 use Rattle.std.proofs.lemmas.Int.{ints}
 use Rattle.std.proofs.lemmas.List.{length-append}
 use Rattle.std.proofs.lemmas.List.Folds.{list_any-append}
@@ -80,7 +80,8 @@ met_without_room rs leaf r h = no_room r (meeting rs leaf []) h ∙ sym (any_mee
 
 -- all conditions of an empty range hold exactly where it is empty, and one of two where an end is too large
 
-same_any : (p q : List ℤ → Bool) → ((vs : List ℤ) → p vs ≡ q vs) → (xs : List (List ℤ)) → list_any p xs ≡ list_any q xs
+same_any : (p q : List ℤ → Bool) → ((vs : List ℤ) → p vs ≡ q vs) → (xs : List (List ℤ)) → list_any p xs ≡ list_any q
+    xs
 same_any p q h [] = refl
 same_any p q h (x ∷ xs) = ap (λ b. b || list_any p xs) (h x) ∙ ap (λ b. q x || b) (same_any p q h xs)
 

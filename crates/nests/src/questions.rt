@@ -8,7 +8,7 @@ ghost use Rattle.nests.specs.Conditions.{all_hold, empty_conditions, meeting};
 use crate::conditions::{above_limit, below_limit, over, push_fit};
 use crate::plans::plan;
 use crate::ranges::{Condition, NestEnd, NestRange};
-use crate::walk::{count, do_hold};
+use crate::walk::{count, do_hold, push_instances};
 use std::alloc::{AllocError, Global};
 use unity_base::Seq;
 
@@ -80,4 +80,17 @@ pub fn is_ever_large(alloc: Global, outer: &[NestRange], end: &NestEnd) -> Resul
     ensures { IfOk result (λ b. b ≡ list_any (λ vs. not (is_fit (end_number vs end.now))) (instances outer.now [])) }
 {
     Ok(is_ever(alloc, outer, &[above_limit(end)])? || is_ever(alloc, outer, &[below_limit(end)])?)
+}
+
+/// The instances of nested ranges, each with the numbers of all ranges, the outermost first. An error says that memory
+/// was refused.
+///
+/// There is a turn for each number of a range inside others, also where the ranges in it have none.
+pub fn all_instances(alloc: Global, ranges: &[NestRange]) -> Result<Seq<Seq<i64>>, AllocError>
+    ensures { IfOk result (λ list. list ≡ instances ranges.now []) }
+{
+    let mut list = Seq::new(alloc);
+    let mut values = Seq::new(alloc);
+    push_instances(alloc, ranges, &mut values, &mut list)?;
+    Ok(list)
 }

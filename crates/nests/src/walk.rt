@@ -3,13 +3,14 @@
 ghost use Rattle.std.specs.Prelude.{ℤ, ◌≡◌, ◌+◌, ◌^◌, ◌<◌, ◌≤◌, suc, pos, negsuc, ◌+ℤ◌, ◌-ℤ◌, ◌≤ℤ◌, [], ◌∷◌, ◌++◌};
 ghost use Rattle.std.specs.Prelude.{length, IfOk, OnOk, Some, slice_index_or};
 ghost use Rattle.std.specs.Int.RustNames.{unsigned_abs};
-ghost use Rattle.nests.specs.Nests.{LeavesRoom, between, end_number, is_fit, natural, number_at};
+ghost use Rattle.std.specs.List.{flat_map};
+ghost use Rattle.nests.specs.Nests.{LeavesRoom, instances, between, end_number, is_fit, natural, number_at};
 ghost use Rattle.nests.specs.Conditions.{Narrows, Plans, Spans, all_hold, condition_holds, interval_of, left_by};
 ghost use Rattle.nests.specs.Conditions.{lowered, meeting, raised, sum_over};
 
 use crate::conditions::{is_level, offset};
 use crate::ranges::{Condition, Interval, NestEnd, NestRange};
-use std::alloc::AllocError;
+use std::alloc::{AllocError, Global};
 use unity_base::Seq;
 
 fn item(values: &[i64], n: usize) -> i64
@@ -279,4 +280,78 @@ fn at(
     let counted = count(inner, deeper, leaf, values, room)?;
     values.pop();
     Ok(counted)
+}
+
+fn copied(alloc: Global, values: &[i64]) -> Result<Seq<i64>, AllocError>
+    ensures { IfOk result (λ copy. copy ≡ values.now) }
+{
+    let mut copy = Seq::new(alloc);
+    for value in values {
+        copy.push(*value)?;
+    }
+    Ok(copy)
+}
+
+/// Puts the instances of nested ranges inside ranges with these numbers at the end of a list, with no care for
+/// ranges that have no instance inside: there is a turn for each number.
+#[cycle(list)]
+pub fn push_instances(
+    alloc: Global,
+    ranges: &[NestRange],
+    values: &mut Seq<i64>,
+    list: &mut Seq<Seq<i64>>,
+) -> Result<(), AllocError>
+    ensures list { OnOk result (list.new ≡ list.old ++ instances ranges.now values.old) }
+    ensures values { OnOk result (values.new ≡ values.old) }
+{
+    match ranges {
+        [] => list.push(copied(alloc, values.as_slice())?),
+        [range, inner @ ..] => {
+            let numbers = interval(values.as_slice(), range);
+            push_each(alloc, inner, &numbers, values, list)
+        }
+    }
+}
+
+#[cycle(list)]
+fn push_each(
+    alloc: Global,
+    inner: &[NestRange],
+    interval: &Interval,
+    values: &mut Seq<i64>,
+    list: &mut Seq<Seq<i64>>,
+) -> Result<(), AllocError>
+    requires low { negsuc 999999999 ≤ℤ interval.now.low }
+    requires high { interval.now.high ≤ℤ pos 1000000000 }
+    ensures list { OnOk result (list.new ≡ list.old ++ flat_map
+        (λ z. instances inner.now (values.old ++ z ∷ [])) (between interval.now.low interval.now.high)) }
+    ensures values { OnOk result (values.new ≡ values.old) }
+{
+    for i in 0..how_many(interval) {
+        push_at(alloc, inner, interval, i, values, list)?;
+    }
+    Ok(())
+}
+
+#[cycle(list)]
+fn push_at(
+    alloc: Global,
+    inner: &[NestRange],
+    interval: &Interval,
+    i: u64,
+    values: &mut Seq<i64>,
+    list: &mut Seq<Seq<i64>>,
+) -> Result<(), AllocError>
+    requires low { negsuc 999999999 ≤ℤ interval.now.low }
+    requires high { interval.now.high ≤ℤ pos 1000000000 }
+    requires within { i < natural (interval.now.high +ℤ pos 1 -ℤ interval.now.low) }
+    ensures list { OnOk result (list.new ≡
+        list.old ++ instances inner.now (values.old ++ (interval.now.low +ℤ pos i) ∷ [])) }
+    ensures values { OnOk result (values.new ≡ values.old) }
+{
+    let number = number_in(interval, i);
+    values.push(number)?;
+    push_instances(alloc, inner, values, list)?;
+    values.pop();
+    Ok(())
 }

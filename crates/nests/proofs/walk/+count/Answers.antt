@@ -17,7 +17,8 @@ count-returns-in-len1-up-plans-clause-count t c =
     let s : Spans vs (get_or c.args.ranges.now 0 d) c.interval-whole.result = subst
     (λ us. Spans us (get_or c.args.ranges.now 0 d) c.interval-whole.result) c.as_slice-in-len1-up-plans.ensures
     c.interval-whole.ensures in
-    let n : Narrows vs (get_or c.args.plans.now 0 c.conditions-item.result) c.interval-whole.result c.kept-left.result =
+    let n : Narrows vs (get_or c.args.plans.now 0 c.conditions-item.result) c.interval-whole.result
+    c.kept-left.result =
     subst (λ cs. Narrows vs cs c.interval-whole.result c.kept-left.result) c.conditions-item.is
     (subst (λ us. Narrows us c.conditions-item.result c.interval-whole.result c.kept-left.result)
     c.as_slice-in-len1-up-plans-2.ensures c.kept-left.ensures) in
