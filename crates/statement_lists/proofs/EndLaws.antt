@@ -12,8 +12,8 @@ use Rattle.unity_meaning.specs.Value.{end_value, with_offset, plus, signed, coun
 use Rattle.nests.specs.Nests.{number_at, end_number, range_numbers, count_up as up_from, natural as count_of}
 use Rattle.expansion_laws.specs.Measures.{is_fit}
 use Rattle.expansion_laws.specs.Forming.{fit_values}
-use Rattle.statement_lists.specs.Chains.{BoundNames, last_from, last_place, is_minus, word_end, chain_end, chain_range}
-use Rattle.statement_lists.specs.Chains.{bound_inside}
+use Rattle.statement_lists.specs.Chains.{BoundNames, last_from, last_place, is_minus, word_end, chain_end}
+use Rattle.statement_lists.specs.Chains.{chain_range, bound_inside}
 
 item_between : (us : List ℤ) (z : ℤ) (ws : List ℤ) → slice_index_or ((us ++ z ∷ []) ++ ws) (length us) (pos 0) ≡ z
 item_between [] z ws = refl

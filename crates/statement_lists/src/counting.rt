@@ -1,15 +1,19 @@
-//! How many statements items have.
+//! How many statements items have, and whether a program has too many.
 
 ghost use Rattle.std.specs.Prelude.{◌≡◌, map, length, IfOk, OnOk};
 ghost use Rattle.nests.specs.Nests.{LeavesRoom};
 ghost use Rattle.expansion_laws.specs.Lists.{item_count, items_count, total};
+ghost use Rattle.name_scopes.specs.Answers.{Demands};
 ghost use Rattle.statement_lists.specs.Standing.{standing_in};
+ghost use Rattle.statement_lists.specs.Counts.{statements_fault};
 
 use crate::chains::Chain;
+use case_tables::Code;
+use name_scopes::NameFault;
 use nests::room_after;
 use std::alloc::{AllocError, Global};
 use unity_base::Seq;
-use unity_syntax::{Item, Items};
+use unity_syntax::{Item, Items, Name};
 
 #[cycle(count)]
 fn room_after_item<'a>(
@@ -81,4 +85,22 @@ fn room_after_further<'a>(
         }
     }
     Ok(Some(left))
+}
+
+/// How many statements a program may have.
+const MOST_STATEMENTS: u64 = 4_096;
+
+/// `TooLarge` at the name of a program where its statements are more than 4,096. `Memory` says that memory was
+/// refused.
+pub fn check_count(alloc: Global, name: &Name, items: &Items) -> Result<(), NameFault>
+    ensures { Demands result (statements_fault name.now items.now) }
+{
+    let mut chain = Chain::new(alloc);
+    match room_after_items(alloc, items, &mut chain, MOST_STATEMENTS)? {
+        None => Err(NameFault::Fault {
+            code: Code::TooLarge,
+            at: name.at,
+        }),
+        Some(_) => Ok(()),
+    }
 }

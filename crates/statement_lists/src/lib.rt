@@ -7,5 +7,5 @@ mod counting;
 mod places;
 
 pub use chains::Chain;
-pub use counting::room_after_items;
+pub use counting::{check_count, room_after_items};
 pub use places::check_range;

@@ -1,0 +1,218 @@
+-- Parts that are too large for whatever they are parts of make an assignment too large.
+use Rattle.std.proofs.Common.{◌≡◌, ℕ, zero, suc, ◌+◌, ◌*◌, ◌^◌, ◌<◌, ◌≤◌, max, ℤ, List, ◌∷◌, Bool, true, false, cond}
+use Rattle.std.proofs.Common.{not, ◌&&◌, ◌||◌, nat_le, Option, Some, None, ◌⊎◌, inl, inr, refl, sym, ◌∙◌, subst}
+use Rattle.std.proofs.Common.{arith}
+use Rattle.std.proofs.lemmas.Bool.{leb-false}
+use Rattle.std.specs.Option.{option_and_then}
+use Rattle.unity_syntax.specs.declared.expression.Expr.{Expr}
+use Rattle.unity_syntax.specs.declared.statement.Target.{Target}
+use Rattle.unity_meaning.specs.Names.{Variable, slot_at}
+use Rattle.unity_meaning.specs.Value.{range_size}
+use Rattle.core_terms.specs.declared.trees.CTerm.{CTerm}
+use Rattle.core_terms.specs.declared.trees.CForm.{CForm}
+use Rattle.core_terms.specs.Folding.{number_of}
+use Rattle.expansion_laws.specs.declared.cores.Measure.{Measure}
+use Rattle.expansion_laws.specs.declared.cores.Formed.{Formed}
+use Rattle.expansion_laws.specs.declared.effects.Count.{Count}
+use Rattle.expansion_laws.specs.declared.effects.Effect.{Effect}
+use Rattle.expansion_laws.specs.Limits.{is_past}
+use Rattle.name_laws.specs.SlotLaws.{variable_named}
+use Rattle.expansion_laws.specs.Forming.{Scope, term_of, form_of, as_number, formed}
+use Rattle.expansion_laws.specs.Assigning.{both_counts, whole, write_count, index_count, stray_count, spread_nodes}
+use Rattle.expansion_laws.specs.Assigning.{spread_count, write_to, open_effect, array_effect, element_effect}
+use Rattle.expansion_laws.specs.Assigning.{indexed_effect, plain_slot, target_effect, index_formed, paired_effect}
+use Rattle.expansion_laws.specs.Assigning.{beside, is_large_effect}
+use Rattle.expand_assignments.proofs.EffectLaws.{shows}
+
+-- many nodes, or a great weight
+pub record IsHeavy (m : Measure) : Type 0 where
+  pub heavy : (65536 < whole m) ⊎ (2 ^ 62 < m.most)
+
+pub record IsGreat (k : Count) : Type 0 where
+  pub great : (65536 < k.size) ⊎ (2 ^ 62 < k.most)
+
+pub past_tells : (f : Formed) → is_past f ≡ true →
+    (2 ^ 62 < f.measure.most) ⊎ ((65536 < f.measure.quantified) ⊎ ((f.constant ≡ false) × (65536 < f.measure.size)))
+past_tells f h = by (nat_le f.measure.most (2 ^ 62)) (nat_le f.measure.quantified 65536) f.constant
+    (nat_le f.measure.size 65536) refl refl refl refl h
+  where
+    by : (a b k d : Bool) → nat_le f.measure.most (2 ^ 62) ≡ a → nat_le f.measure.quantified 65536 ≡ b →
+        f.constant ≡ k → nat_le f.measure.size 65536 ≡ d → (not a || (not b || (not k && not d))) ≡ true →
+        (2 ^ 62 < f.measure.most) ⊎ ((65536 < f.measure.quantified) ⊎
+        ((f.constant ≡ false) × (65536 < f.measure.size)))
+    by false b k d p q r e g = inl (leb-false f.measure.most (2 ^ 62) p)
+    by true false k d p q r e g = inr (inl (leb-false f.measure.quantified 65536 q))
+    by true true false false p q r e g = inr (inr (r, leb-false f.measure.size 65536 e))
+    by true true false true p q r e g = cc
+    by true true true d p q r e g = cc
+
+pub heavy_of_past : (f : Formed) → is_past f ≡ true → IsHeavy f.measure
+heavy_of_past f h = elim (past_tells f h) [
+  | inl m ↦ record { heavy = inr m }
+  | inr (inl q) ↦ record { heavy = inl (omega (arith, q)) }
+  | inr (inr s) ↦ let b = s.1 in record { heavy = inl (omega (arith, b)) }
+]
+
+-- of a constant index only its quantifiers and its weight can be too large
+constant_past : (f : Formed) → is_past f ≡ true → f.constant ≡ true → IsGreat (index_count f.measure)
+constant_past f h c = elim (past_tells f h) [
+  | inl m ↦ record { great = inr m }
+  | inr (inl q) ↦ record { great = inl (omega (arith, q)) }
+  | inr (inr s) ↦ absurd (let e : true ≡ false = sym c ∙ s.0 in cc)
+]
+
+great_second : (a b : Count) → IsGreat b → IsGreat (both_counts a b)
+great_second a b g = elim g.great [
+  | inl s ↦ record { great = inl (omega (arith, s)) }
+  | inr m ↦ record { great = inr (omega (arith, m)) }
+]
+
+great_first : (a b : Count) → IsGreat a → IsGreat (both_counts a b)
+great_first a b g = elim g.great [
+  | inl s ↦ record { great = inl (omega (arith, s)) }
+  | inr m ↦ record { great = inr (omega (arith, m)) }
+]
+
+value_great : (c v : Measure) → IsHeavy v → IsGreat (write_count c v)
+value_great c v g = elim g.heavy [
+  | inl s ↦ record { great = inl (omega (arith, s)) }
+  | inr m ↦ record { great = inr (omega (arith, m)) }
+]
+
+condition_great : (c v : Measure) → IsHeavy c → IsGreat (write_count c v)
+condition_great c v g = elim g.heavy [
+  | inl s ↦ record { great = inl (omega (arith, s)) }
+  | inr m ↦ record { great = inr (omega (arith, m)) }
+]
+
+stray_great : (i : Measure) → IsHeavy i → IsGreat (stray_count i)
+stray_great i g = elim g.heavy [
+  | inl s ↦ record { great = inl (omega (arith, s)) }
+  | inr m ↦ record { great = inr m }
+]
+
+at_least_once : (n s : ℕ) → s ≤ max 1 n * s
+at_least_once zero s = let e : max 1 0 ≡ 1 = omega arith in let f : 1 * s ≡ s = omega arith in
+    subst (λ k. s ≤ k * s) (sym e) (omega (arith, f))
+at_least_once (suc n) s = let e : max 1 (suc n) ≡ suc n = omega arith in let f : suc n * s ≡ s + n * s = omega arith
+    in
+    subst (λ k. s ≤ k * s) (sym e) (omega (arith, f))
+
+spread_holds : (n i c v : ℕ) → c + i + v ≤ spread_nodes (max 1 n) i c v
+spread_holds n i c v = let l = at_least_once n (c + i + v + 4) in omega (arith, l)
+
+spread_great : (n : ℕ) (ends : ℤ × ℤ) (i c v : Measure) → IsHeavy i ⊎ (IsHeavy c ⊎ IsHeavy v) →
+    IsGreat (spread_count n ends i c v)
+spread_great n ends i c v h = let l = spread_holds n (whole i) (whole c) (whole v) in elim h [
+  | inl a ↦ elim a.heavy [
+    | inl s ↦ record { great = inl (omega (arith, l, s)) }
+    | inr m ↦ record { great = inr (omega (arith, m)) }
+  ]
+  | inr (inl a) ↦ elim a.heavy [
+    | inl s ↦ record { great = inl (omega (arith, l, s)) }
+    | inr m ↦ record { great = inr (omega (arith, m)) }
+  ]
+  | inr (inr a) ↦ elim a.heavy [
+    | inl s ↦ record { great = inl (omega (arith, l, s)) }
+    | inr m ↦ record { great = inr (omega (arith, m)) }
+  ]
+]
+
+written : (slot : Option ℕ) (c : CForm) (v : CTerm) (k : Count) → IsGreat k → IsGreat (write_to slot c v k).count
+written None c v k g = g
+written (Some n) c v k g = g
+
+-- a value or a condition that is too large, in an array's write, in one astray, and in any
+array_great : (i : Formed) (first : ℕ) (ends : ℤ × ℤ) (c v : Formed) → IsHeavy c.measure ⊎ IsHeavy v.measure →
+    IsGreat (array_effect i first ends c v).count
+array_great i first ends c v h = by i.constant
+  where
+    write : IsGreat (write_count c.measure v.measure)
+    write = elim h [
+      | inl a ↦ condition_great c.measure v.measure a
+      | inr a ↦ value_great c.measure v.measure a
+    ]
+
+    by : (b : Bool) → IsGreat (cond b
+        (write_to (option_and_then (λ k. slot_at first (Some ends) (Some k)) (number_of (term_of i.core)))
+        (form_of c.core)
+        (term_of v.core) (both_counts (index_count i.measure) (write_count c.measure v.measure)))
+        (open_effect (term_of i.core) ends first (form_of c.core) (term_of v.core)
+        (spread_count (range_size ends) ends i.measure c.measure v.measure))).count
+    by true = written (option_and_then (λ k. slot_at first (Some ends) (Some k)) (number_of (term_of i.core)))
+        (form_of c.core) (term_of v.core) (both_counts (index_count i.measure) (write_count c.measure v.measure))
+        (great_second (index_count i.measure) (write_count c.measure v.measure) write)
+    by false = spread_great (range_size ends) ends i.measure c.measure v.measure (inr h)
+
+write_great : (c v : Formed) → IsHeavy c.measure ⊎ IsHeavy v.measure → IsGreat (write_count c.measure v.measure)
+write_great c v h = elim h [
+  | inl a ↦ condition_great c.measure v.measure a
+  | inr a ↦ value_great c.measure v.measure a
+]
+
+indexed_great : (x : Option Variable) (i c v : Formed) → IsHeavy c.measure ⊎ IsHeavy v.measure →
+    IsGreat (indexed_effect i x c v).count
+indexed_great None i c v h = great_second (stray_count i.measure) (write_count c.measure v.measure)
+    (write_great c v h)
+indexed_great (Some x) i c v h = by x.indices
+  where
+    by : (ends : Option (ℤ × ℤ)) → IsGreat (element_effect i x.first ends c v).count
+    by None = great_second (stray_count i.measure) (write_count c.measure v.measure) (write_great c v h)
+    by (Some ends) = array_great i x.first ends c v h
+
+pub target_great : (x : Option Variable) (i : Option Formed) (c v : Formed) → IsHeavy c.measure ⊎ IsHeavy v.measure →
+    IsGreat (target_effect x i c v).count
+target_great x None c v h = written (plain_slot x) (form_of c.core) (term_of v.core) (write_count c.measure v.measure)
+    (write_great c v h)
+target_great x (Some i) c v h = indexed_great x i c v h
+
+-- an index that is too large
+index_array_great : (i : Formed) (first : ℕ) (ends : ℤ × ℤ) (c v : Formed) → is_past i ≡ true →
+    IsGreat (array_effect i first ends c v).count
+index_array_great i first ends c v h = elim i.constant as (λ b. i.constant ≡ b → IsGreat (cond b
+    (write_to (option_and_then (λ k. slot_at first (Some ends) (Some k)) (number_of (term_of i.core)))
+    (form_of c.core)
+    (term_of v.core) (both_counts (index_count i.measure) (write_count c.measure v.measure)))
+    (open_effect (term_of i.core) ends first (form_of c.core) (term_of v.core)
+    (spread_count (range_size ends) ends i.measure c.measure v.measure))).count) [
+      | true ↦ λ e. written (option_and_then (λ k. slot_at first (Some ends) (Some k)) (number_of (term_of i.core)))
+          (form_of c.core) (term_of v.core) (both_counts (index_count i.measure) (write_count c.measure v.measure))
+          (great_first (index_count i.measure) (write_count c.measure v.measure) (constant_past i h e))
+      | false ↦ λ e. spread_great (range_size ends) ends i.measure c.measure v.measure (inl (heavy_of_past i h))
+    ] refl
+
+pub index_great : (x : Option Variable) (i c v : Formed) → is_past i ≡ true → IsGreat
+    (target_effect x (Some i) c v).count
+index_great None i c v h = great_first (stray_count i.measure) (write_count c.measure v.measure)
+    (stray_great i.measure (heavy_of_past i h))
+index_great (Some x) i c v h = by x.indices
+  where
+    by : (ends : Option (ℤ × ℤ)) → IsGreat (element_effect i x.first ends c v).count
+    by None = great_first (stray_count i.measure) (write_count c.measure v.measure)
+        (stray_great i.measure (heavy_of_past i h))
+    by (Some ends) = index_array_great i x.first ends c v h
+
+-- the whole is too large where a part counts so much
+pub great_beside : (a e : Effect) → IsGreat e.count → is_large_effect (beside a e) ≡ true
+great_beside a e g = elim g.great [
+  | inl s ↦ shows (beside a e) (record { large = inl (omega (arith, s)) })
+  | inr m ↦ shows (beside a e) (record { large = inr (omega (arith, m)) })
+]
+
+pub past_value : (a : Effect) (x : Option Variable) (i : Option Formed) (c v : Formed) → is_past v ≡ true →
+    is_large_effect (beside a (target_effect x i c v)) ≡ true
+past_value a x i c v h = great_beside a (target_effect x i c v) (target_great x i c v (inr (heavy_of_past v h)))
+
+pub past_index : (a : Effect) (x : Option Variable) (i c v : Formed) → is_past i ≡ true →
+    is_large_effect (beside a (target_effect x (Some i) c v)) ≡ true
+past_index a x i c v h = great_beside a (target_effect x (Some i) c v) (index_great x i c v h)
+
+-- a condition is a part of the first write
+pub past_condition : (s : Scope) (t : Target) (ts : List Target) (e : Expr) (es : List Expr) (c : Formed) →
+    is_past c ≡ true → IsGreat (paired_effect s (t ∷ ts) (e ∷ es) c).count
+past_condition s t ts e es c h =
+    let first = target_effect (variable_named t.name.text s.variables) (index_formed s t.index) c
+    (as_number (formed e s)) in
+    great_first first.count (paired_effect s ts es c).count
+    (target_great (variable_named t.name.text s.variables) (index_formed s t.index) c (as_number (formed e s))
+    (inl (heavy_of_past c h)))

@@ -1,0 +1,142 @@
+//! How large assignments are, from how large their parts are.
+
+ghost use Rattle.std.specs.Prelude.{◌≡◌, ◌+◌, ◌*◌, ◌^◌, ◌<◌, ◌≤◌, ◌||◌, max, not, nat_le, Ok, Err};
+ghost use Rattle.std.specs.Int.RustNames.{unsigned_abs};
+ghost use Rattle.expansion_laws.specs.Measures.{counted, nearer};
+ghost use Rattle.expansion_laws.specs.Assigning as spec;
+ghost use Rattle.expand_assignments.specs.Adding.{Counts, one_node};
+
+use core_terms::Range;
+use expand_expressions::Refusal;
+use expansion_laws::{Count, Effect, Measure};
+
+// A size, counted up to one past its limit.
+fn counted(size: u64) -> u64
+    ensures { result ≡ counted size }
+{
+    size.min(65_537)
+}
+
+/// The lesser of two places, where there is any.
+pub fn nearer(a: Option<u64>, b: Option<u64>) -> Option<u64>
+    ensures { result ≡ nearer a b }
+{
+    match (a, b) {
+        (None, _) => b,
+        (Some(x), None) => Some(x),
+        (Some(x), Some(y)) => Some(x.min(y)),
+    }
+}
+
+/// Both counts together.
+pub fn both_counts(a: Count, b: Count) -> Count
+    ensures { result ≡ spec.both_counts a b }
+{
+    Count {
+        size: counted(a.size.saturating_add(b.size)),
+        most: a.most.max(b.most),
+        bad_range: nearer(a.bad_range, b.bad_range),
+    }
+}
+
+fn whole(m: Measure) -> u64
+    ensures { result ≡ spec.whole m }
+{
+    m.size.max(m.quantified)
+}
+
+/// A condition and a value.
+pub fn write_count(c: Measure, v: Measure) -> Count
+    ensures { result ≡ spec.write_count c v }
+{
+    Count {
+        size: counted(whole(c).saturating_add(whole(v))),
+        most: c.most.max(v.most),
+        bad_range: nearer(c.bad_range, v.bad_range),
+    }
+}
+
+/// An index that is no part of the core.
+pub fn index_count(i: Measure) -> Count
+    ensures { result ≡ spec.index_count i }
+{
+    Count {
+        size: counted(i.quantified),
+        most: i.most,
+        bad_range: i.bad_range,
+    }
+}
+
+/// An index where there is no array.
+pub fn stray_count(i: Measure) -> Count
+    ensures { result ≡ spec.stray_count i }
+{
+    Count {
+        size: counted(whole(i)),
+        most: i.most,
+        bad_range: i.bad_range,
+    }
+}
+
+fn times(count: u64, nodes: u128) -> u128
+    requires few { count ≤ 2 ^ 32 }
+    requires light { nodes < 2 ^ 70 }
+    ensures value { result ≡ count * nodes }
+    ensures bound { result < 2 ^ 102 }
+{
+    count as u128 * nodes
+}
+
+fn spread_nodes(count: u64, i: u64, c: u64, v: u64) -> u64
+    requires { count ≤ 2 ^ 32 }
+    ensures { result ≡ counted (spec.spread_nodes count i c v) }
+{
+    let writes = times(count, c as u128 + i as u128 + v as u128 + 4);
+    let outside = times(count, i as u128 + 4) + c as u128 + 1;
+    (writes + outside).min(65_537) as u64
+}
+
+/// An index that may be each of so many, from one to another.
+pub fn spread_count(count: u64, ends: Range, i: Measure, c: Measure, v: Measure) -> Count
+    requires few { count ≤ 2 ^ 32 }
+    requires light { i.own < 2 ^ 63 }
+    ensures { result ≡ spec.spread_count count (ends.lo, ends.hi) i c v }
+{
+    let own = i.own + ends.lo.unsigned_abs().max(ends.hi.unsigned_abs());
+    Count {
+        size: spread_nodes(count.max(1), whole(i), whole(c), whole(v)),
+        most: own.max(i.most.max(c.most.max(v.most))),
+        bad_range: nearer(i.bad_range, nearer(c.bad_range, v.bad_range)),
+    }
+}
+
+/// Whether an assignment is too large.
+pub fn is_large(count: &Count) -> bool
+    ensures { result ≡ (not (nat_le count.now.most (2 ^ 62)) || not (nat_le count.now.size 65536)) }
+{
+    count.most > 1 << 62 || count.size > 65_536
+}
+
+/// Counts a part. `TooLarge` exactly where the whole is too large.
+pub fn count_in(part: Count, effect: &mut Effect) -> Result<(), Refusal>
+    ensures { Counts result effect.old effect.new part }
+{
+    effect.count = both_counts(effect.count, part);
+    if is_large(&effect.count) {
+        Err(Refusal::TooLarge)
+    } else {
+        Ok(())
+    }
+}
+
+/// Counts one node more.
+pub fn count_one(effect: &mut Effect) -> Result<(), Refusal>
+    ensures { Counts result effect.old effect.new one_node }
+{
+    let one = Count {
+        size: 1,
+        most: 0,
+        bad_range: None,
+    };
+    count_in(one, effect)
+}

@@ -1,0 +1,3 @@
+pub mod Visiting
+pub mod Building
+pub mod ItemLaws

@@ -1,0 +1,42 @@
+-- Where the code stands in an instance of a statement, and what it answers of it.
+use Rattle.std.specs.Prelude.{◌≡◌, ℕ, ℤ, pos, List, [], ◌∷◌, true, false, Option, Result, Ok, Err}
+use Rattle.case_tables.specs.declared.code_table.Code.{Code}
+use Rattle.name_scopes.specs.declared.named.NameFault.{NameFault}
+use Rattle.name_scopes.specs.Scope.{entries}
+use Rattle.name_scopes.specs.Reading.{Fault}
+use Rattle.name_scopes.specs.Answers.{Stops}
+use Rattle.expansion_laws.specs.declared.cores.Bound.{Bound}
+use Rattle.expansion_laws.specs.declared.effects.Effect.{Effect}
+use Rattle.expansion_laws.specs.Forming.{Scope}
+use Rattle.expansion_laws.specs.Assigning.{is_large_effect}
+use Rattle.expansion_laws.specs.Lists.{fault_at}
+use Rattle.expand_expressions.specs.declared.places.Known.{Known}
+use Rattle.expand_expressions.specs.declared.refusal.Refusal.{Refusal}
+use Rattle.expand_expressions.specs.Places.{variables_of}
+use Rattle.statement_lists.specs.Chains.{BoundNames}
+
+-- a document's scope, among bound names
+abbrev pub scope_among : Known → List (List ℕ × Bound) → Scope
+scope_among known bs = record {
+  variables = variables_of (entries known.variables.now);
+  words = entries known.values.now;
+  always = entries known.always.now;
+  bound = bs;
+}
+
+-- names with numbers, both the outermost first, inside other bound names; 0 where a number is missing
+abbrev pub bounds_inside : List (List ℕ × Bound) → BoundNames → List ℤ → List (List ℕ × Bound)
+bounds_inside bs [] zs = bs
+bounds_inside bs (n ∷ ns) [] = bounds_inside ((n, Bound.Number (pos 0)) ∷ bs) ns []
+bounds_inside bs (n ∷ ns) (z ∷ zs) = bounds_inside ((n, Bound.Number z) ∷ bs) ns zs
+
+-- a call gives the place of a bad range in an effect, or stops because the effect is too large
+abbrev pub GivesPlace : Result (Option ℕ) Refusal → Effect → Type 0
+GivesPlace (Ok place) e = (is_large_effect e ≡ false) × (place ≡ e.count.bad_range)
+GivesPlace (Err Refusal.Memory) e = Unit {0}
+GivesPlace (Err Refusal.TooLarge) e = is_large_effect e ≡ true
+
+-- a call gives the place of a bad range, which is the fault, or stops at another fault
+abbrev pub GivesBadRange : Result (Option ℕ) NameFault → Option Fault → Type 0
+GivesBadRange (Ok place) fault = fault ≡ fault_at Code.BadRange place
+GivesBadRange (Err e) fault = Stops e fault

@@ -1,0 +1,263 @@
+//! The statements of a program in core form, in the order of its instances.
+
+ghost use Rattle.std.specs.Prelude.{◌≡◌, ◌∷◌, [], ◌++◌, ◌^◌, ◌≤◌, ◌<◌, ◌+ℤ◌, pos, map, None, IfOk, OnOk};
+ghost use Rattle.std.specs.List.{flat_map};
+ghost use Rattle.std.specs.Int.RustNames.{unsigned_abs};
+ghost use Rattle.unity_meaning.specs.Value.{count_up};
+ghost use Rattle.document_words.specs.WordNumbers.{word_number};
+ghost use Rattle.expansion_laws.specs.Assigning as spec;
+ghost use Rattle.expansion_laws.specs.Assigning.{statements};
+ghost use Rattle.expansion_laws.specs.Forming.{numbers};
+ghost use Rattle.expansion_laws.specs.Lists.{items_fault};
+ghost use Rattle.expansion_laws.specs.Programs.{core_statement};
+ghost use Rattle.expand_expressions.specs.Places.{IsReady, bound_names};
+ghost use Rattle.expand_statements.specs.Visiting.{scope_among};
+ghost use Rattle.expand_statements.specs.Building.{IsNumbered, fit_item, fit_items, instance_of, made_statement};
+
+use crate::visiting::nothing;
+use core_terms::CStmt;
+use document_words::WordTable;
+use expand_assignments::effect_in;
+use expand_expressions::{Env, Known, Numbers, outside, range_numbers, with_bound};
+use expansion_laws::{Bound, Effect};
+use std::alloc::{AllocError, Global};
+use unity_base::Seq;
+use unity_syntax::{Assign, Item, Items, Name};
+
+fn copied(alloc: Global, numbers: &[i64]) -> Result<Seq<i64>, AllocError>
+    ensures { IfOk result (λ list. list ≡ numbers.now) }
+{
+    let mut list = Seq::new(alloc);
+    for number in numbers {
+        list.push(*number)?;
+    }
+    Ok(list)
+}
+
+// These numbers, with one more inside.
+fn with_index(alloc: Global, numbers: &[i64], inner: i64) -> Result<Seq<i64>, AllocError>
+    ensures { IfOk result (λ list. list ≡ numbers.now ++ inner ∷ []) }
+{
+    let mut list = copied(alloc, numbers)?;
+    list.push(inner)?;
+    Ok(list)
+}
+
+// What an assignment becomes. It is not too large where the statements were found without a fault.
+fn effect_of(alloc: Global, a: &Assign, env: &Env, known: &Known) -> Result<Effect, AllocError>
+    requires { IsReady known.now }
+    ensures outside { IfOk result (λ e. e.outside ≡
+        (spec.effect_of a.now (scope_among known.now (bound_names env.now))).outside) }
+    ensures writes { IfOk result (λ e. e.writes ≡
+        (spec.effect_of a.now (scope_among known.now (bound_names env.now))).writes) }
+{
+    let mut effect = nothing(alloc);
+    match effect_in(alloc, a, env, known, &mut effect) {
+        Ok(()) => Ok(effect),
+        Err(_) => Err(AllocError),
+    }
+}
+
+fn push_statement(
+    alloc: Global,
+    label: &Name,
+    a: &Assign,
+    env: &Env,
+    indices: &[i64],
+    known: &Known,
+    words: &WordTable,
+    list: &mut Seq<CStmt>,
+) -> Result<(), AllocError>
+    requires ready { IsReady known.now }
+    requires numbered { IsNumbered (bound_names env.now) indices.now }
+    ensures { OnOk result (list.new ≡ list.old ++ made_statement words.now (scope_among known.now [])
+        (instance_of label.now (numbers (bound_names env.now)) a.now) ∷ []) }
+{
+    let indices = copied(alloc, indices)?;
+    let Effect {
+        outside,
+        writes,
+        exact: _,
+        count: _,
+    } = effect_of(alloc, a, env, known)?;
+    list.push(CStmt {
+        label: words.number(label),
+        indices,
+        outside,
+        writes,
+    })
+}
+
+fn number_at(numbers: &Numbers, i: u64) -> i64
+    requires first { unsigned_abs numbers.now.first ≤ 2 ^ 30 }
+    requires within { i < 2 ^ 31 }
+    ensures { result ≡ numbers.now.first +ℤ pos i }
+{
+    numbers.first + i as i64
+}
+
+#[cycle(build)]
+fn push_item(
+    alloc: Global,
+    item: &Item,
+    env: &Env,
+    indices: &[i64],
+    known: &Known,
+    words: &WordTable,
+    list: &mut Seq<CStmt>,
+) -> Result<(), AllocError>
+    requires ready { IsReady known.now }
+    requires numbered { IsNumbered (bound_names env.now) indices.now }
+    ensures { OnOk result (list.new ≡ list.old ++ map (made_statement words.now (scope_among known.now []))
+        (fit_item item.now (numbers (bound_names env.now)))) }
+{
+    match item {
+        Item::Statement {
+            at: _,
+            label,
+            assign,
+        } => push_statement(alloc, label, assign, env, indices, known, words, list),
+        Item::Quantified {
+            at: _,
+            name,
+            range,
+            of,
+        } => {
+            let numbers = range_numbers(range, env);
+            push_numbers(
+                alloc,
+                name,
+                &numbers,
+                of.get(),
+                env,
+                indices,
+                known,
+                words,
+                list,
+            )
+        }
+    }
+}
+
+#[cycle(build)]
+fn push_numbers(
+    alloc: Global,
+    name: &Name,
+    taken: &Numbers,
+    of: &Items,
+    env: &Env,
+    indices: &[i64],
+    known: &Known,
+    words: &WordTable,
+    list: &mut Seq<CStmt>,
+) -> Result<(), AllocError>
+    requires ready { IsReady known.now }
+    requires numbered { IsNumbered (bound_names env.now) indices.now }
+    requires first { unsigned_abs taken.now.first ≤ 1000000000 }
+    requires count { taken.now.count ≤ 2000000001 }
+    ensures { OnOk result (list.new ≡ list.old ++ map (made_statement words.now (scope_among known.now []))
+        (flat_map (λ z. fit_items of.now ((name.now.text, z) ∷ numbers (bound_names env.now)))
+        (count_up taken.now.first taken.now.count))) }
+{
+    for i in 0..taken.count {
+        let number = number_at(taken, i);
+        push_number(alloc, name, number, of, env, indices, known, words, list)?;
+    }
+    Ok(())
+}
+
+#[cycle(build)]
+fn push_number(
+    alloc: Global,
+    name: &Name,
+    number: i64,
+    of: &Items,
+    env: &Env,
+    indices: &[i64],
+    known: &Known,
+    words: &WordTable,
+    list: &mut Seq<CStmt>,
+) -> Result<(), AllocError>
+    requires ready { IsReady known.now }
+    requires numbered { IsNumbered (bound_names env.now) indices.now }
+    ensures { OnOk result (list.new ≡ list.old ++ map (made_statement words.now (scope_among known.now []))
+        (fit_items of.now ((name.now.text, number) ∷ numbers (bound_names env.now)))) }
+{
+    let inner = with_bound(&*name, Bound::Number(number), &*env);
+    let inner_indices = with_index(alloc, indices, number)?;
+    push_all(
+        alloc,
+        of,
+        &inner,
+        inner_indices.as_slice(),
+        known,
+        words,
+        list,
+    )
+}
+
+#[cycle(build)]
+fn push_all(
+    alloc: Global,
+    items: &Items,
+    env: &Env,
+    indices: &[i64],
+    known: &Known,
+    words: &WordTable,
+    list: &mut Seq<CStmt>,
+) -> Result<(), AllocError>
+    requires ready { IsReady known.now }
+    requires numbered { IsNumbered (bound_names env.now) indices.now }
+    ensures { OnOk result (list.new ≡ list.old ++ map (made_statement words.now (scope_among known.now []))
+        (fit_items items.now (numbers (bound_names env.now)))) }
+{
+    push_item(alloc, &items.first, env, indices, known, words, list)?;
+    push_further(alloc, &items.rest, env, indices, known, words, list)
+}
+
+#[cycle(build)]
+fn push_further(
+    alloc: Global,
+    items: &Seq<Item>,
+    env: &Env,
+    indices: &[i64],
+    known: &Known,
+    words: &WordTable,
+    list: &mut Seq<CStmt>,
+) -> Result<(), AllocError>
+    requires ready { IsReady known.now }
+    requires numbered { IsNumbered (bound_names env.now) indices.now }
+    ensures { OnOk result (list.new ≡ list.old ++ map (made_statement words.now (scope_among known.now []))
+        (flat_map (λ i. fit_item i (numbers (bound_names env.now))) items.now)) }
+{
+    for item in items.as_slice() {
+        push_item(alloc, item, env, indices, known, words, list)?;
+    }
+    Ok(())
+}
+
+/// Puts the statements of a program, in which `check_items` found no fault, at the end of a list: one for each
+/// instance, in order. An error says that memory was refused.
+pub fn push_statements(
+    alloc: Global,
+    items: &Items,
+    known: &Known,
+    words: &WordTable,
+    list: &mut Seq<CStmt>,
+) -> Result<(), AllocError>
+    requires ready { IsReady known.now }
+    requires faultless { items_fault (scope_among known.now []) items.now ([] ∷ []) ≡ None }
+    ensures { OnOk result (list.new ≡ list.old ++ map (core_statement (word_number words.now))
+        (statements (scope_among known.now []) items.now)) }
+{
+    let none = Seq::new(alloc);
+    push_all(
+        alloc,
+        items,
+        &outside(),
+        none.as_slice(),
+        known,
+        words,
+        list,
+    )
+}
