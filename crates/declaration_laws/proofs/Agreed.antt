@@ -1,7 +1,7 @@
 -- The core form has the slots of the meaning.
-use Rattle.std.proofs.Common.{◌≡◌, ℕ, zero, suc, ◌+◌, List, [], ◌∷◌, ◌++◌, map, length, Bool, true, false, cond, Option}
-use Rattle.std.proofs.Common.{Some, None, refl, sym, ap, ◌∙◌, append_assoc, replicate, length-append, arith}
-use Rattle.expand_declarations.proofs.LayoutLaws.{slot_count-more, length-slots_of}
+use Rattle.std.proofs.Common.{◌≡◌, ℕ, zero, suc, ◌+◌, List, [], ◌∷◌, ◌++◌, map, length, Bool, true, false, cond}
+use Rattle.std.proofs.Common.{Option, Some, None, refl, sym, ap, ◌∙◌, append_assoc, replicate, length-append, arith}
+use Rattle.expand_declarations.proofs.LayoutLaws.{slot_count-more, length-slots_of, declared-among}
 use Rattle.std.specs.Prelude.{ℤ, pos, ◌+ℤ◌}
 use Rattle.std.specs.List.{flat_map}
 use Rattle.std.proofs.lemmas.List.{map-append, append-nil}
@@ -10,7 +10,7 @@ use Rattle.unity_syntax.specs.declared.declaration.Var.{Var}
 use Rattle.unity_syntax.specs.declared.document.Part.{Part}
 use Rattle.unity_meaning.specs.Names.{Variable}
 use Rattle.unity_meaning.specs.Value.{range_size}
-use Rattle.unity_meaning.specs.Setting.{declarations, programs_among, element_type, plain_range, type_indices}
+use Rattle.unity_meaning.specs.Setting.{element_type, plain_range, type_indices}
 use Rattle.unity_meaning.specs.Setting.{slots_for, slot_count, slot_ranges, variable_from, with_declaration}
 use Rattle.unity_meaning.specs.Setting.{with_declarations}
 use Rattle.document_words.specs.Texts.{Texts}
@@ -18,12 +18,6 @@ use Rattle.expand_declarations.specs.Slots.{part_declarations, declared_by, slot
 use Rattle.expand_declarations.specs.Slots.{element_slots, is_known, new_slots}
 use Rattle.expand_declarations.specs.Start.{var_words, part_words, enumeration_words}
 use Rattle.declaration_laws.specs.Agreement.{slot_ends, VariablesAgree, WordsAgree, RangesAgree, CountsAgree}
-
--- parts declare what the programs among them declare
-pub declared-among : (parts : List Part) → declared_by parts ≡ flat_map declarations (programs_among parts)
-declared-among [] = refl
-declared-among (Part.Program at program ∷ rest) = ap (λ ds. declarations program ++ ds) (declared-among rest)
-declared-among (Part.Proof at proof ∷ rest) = declared-among rest
 
 pub variables_agree : VariablesAgree
 variables_agree parts = ap (with_declarations []) (declared-among parts)

@@ -1,6 +1,6 @@
 -- The number of a word finds it.
-use Rattle.std.proofs.Common.{◌≡◌, ℕ, suc, ◌+◌, ◌<◌, List, [], ◌∷◌, ◌++◌, length, Bool, true, false, cond, not, nat_lt}
-use Rattle.std.proofs.Common.{Some, None, refl, sym, ap, ◌∙◌, subst, arith, slice_get}
+use Rattle.std.proofs.Common.{◌≡◌, ℕ, suc, ◌+◌, ◌<◌, List, [], ◌∷◌, ◌++◌, length, Bool, true, false, cond, not}
+use Rattle.std.proofs.Common.{nat_lt, Some, None, refl, sym, ap, ◌∙◌, subst, arith, slice_get}
 use Rattle.std.specs.Prelude.{◌||◌, unwrap_or}
 use Rattle.std.specs.List.{list_any, position_or_len}
 use Rattle.std.specs.Str.{bytes_eq}
@@ -27,7 +27,8 @@ stands (t ∷ ts) text h = by (bytes_eq text t) (bytes_eq-Decides text t).0 h (s
     by true same h rest = record { within = omega arith; found = ap (λ x. Some x) (sym (same refl)) }
     by false same h rest = let place = position_or_len (bytes_eq text) ts in let r = rest h in
         let more : suc place ≡ 1 + place = omega arith in
-        subst (λ (n : ℕ). StandsAt (t ∷ ts) text n) more (record { within = omega (arith, r.within); found = r.found })
+        subst (λ (n : ℕ). StandsAt (t ∷ ts) text n) more (record
+        { within = omega (arith, r.within); found = r.found })
 
 placed : (b : Bool) (place count : ℕ) → nat_lt place count ≡ b → place < count →
     unwrap_or (cond b (Some place) None) 0 ≡ place
@@ -57,7 +58,8 @@ kept_one words more text h = by (list_any (bytes_eq more) words)
     by true = h
     by false = list_any-append (bytes_eq text) words (more ∷ []) ∙ or_left (is_among words text) _ h
 
-kept : (words more : Texts) (text : List ℕ) → is_among words text ≡ true → is_among (with_texts words more) text ≡ true
+kept : (words more : Texts) (text : List ℕ) → is_among words text ≡ true → is_among (with_texts words more) text ≡
+    true
 kept words [] text h = h
 kept words (t ∷ ts) text h = kept (with_text words t) ts text (kept_one words t text h)
 

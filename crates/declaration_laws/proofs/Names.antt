@@ -1,6 +1,6 @@
 -- Names of programs and steps in well-named documents.
-use Rattle.std.proofs.Common.{◌≡◌, ℕ, List, [], ◌∷◌, ◌++◌, Bool, true, false, cond, not, Option, Some, None, refl, sym}
-use Rattle.std.proofs.Common.{ap, ◌∙◌, length, All, is_some}
+use Rattle.std.proofs.Common.{◌≡◌, ℕ, List, [], ◌∷◌, ◌++◌, Bool, true, false, cond, not, Option, Some, None, refl}
+use Rattle.std.proofs.Common.{sym, ap, ◌∙◌, length, All, is_some}
 use Rattle.std.specs.Prelude.{◌||◌, if◌then◌else◌}
 use Rattle.std.specs.List.{list_any}
 use Rattle.std.specs.Map.{lookup}

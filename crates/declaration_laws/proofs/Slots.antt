@@ -23,8 +23,8 @@ use Rattle.case_tables.specs.declared.code_table.Code.{Code}
 use Rattle.name_scopes.specs.Scope.{Table}
 use Rattle.name_scopes.specs.Reading.{earlier, unless, filled}
 use Rattle.name_scopes.specs.Part.{run}
-use Rattle.name_scopes.specs.Declarations.{items_of, some_of, program_scope, plain_part, type_part, may_declare, agrees}
-use Rattle.name_scopes.specs.Declarations.{variable_named, variable_part, always_part, with_named, declared}
+use Rattle.name_scopes.specs.Declarations.{items_of, some_of, program_scope, plain_part, type_part, may_declare}
+use Rattle.name_scopes.specs.Declarations.{agrees, variable_named, variable_part, always_part, with_named, declared}
 use Rattle.name_scopes.specs.WellNamed.{Declared, IsWellNamed, nothing_declared, new_program, declarations_part}
 use Rattle.name_scopes.specs.WellNamed.{program_body, program_part, part_of, schedule_reading}
 use Rattle.name_laws.proofs.AttributeTheorems.{earlier_first, earlier_second}
@@ -33,10 +33,10 @@ use Rattle.document_words.specs.Texts.{items_texts, schedule_texts, document_tex
 use Rattle.document_words.specs.WordNumbers.{document_words, with_texts, word_number}
 use Rattle.expand_declarations.specs.Numbers.{core_range}
 use Rattle.expand_declarations.specs.Slots.{part_declarations, declared_by, slot_at, index_values, slots_of, print_of}
-use Rattle.expand_declarations.specs.Slots.{is_known, new_slots}
+use Rattle.expand_declarations.specs.Slots.{is_known, new_slots, AreNearEnds, HasNearIndices}
 use Rattle.expand_declarations.specs.Shown.{is_slot_of, declared_names, places_from, shown_slots}
 use Rattle.declaration_laws.specs.WordLaws.{is_among}
-use Rattle.declaration_laws.specs.SlotLaws.{SlotsAreSound, SlotsHaveWords, ShownExist, ShownRise}
+use Rattle.declaration_laws.specs.SlotLaws.{SlotsAreSound, IndicesAreNear, SlotsHaveWords, ShownExist, ShownRise}
 use Rattle.declaration_laws.proofs.Lists.{Pairs, each_pair, all_flat_map, IsPart, part_left, part_cons, part_trans}
 use Rattle.declaration_laws.proofs.Lists.{each_part, length_mapped}
 use Rattle.declaration_laws.proofs.Found.{stands_at_number, gathered, or_left, or_right}
@@ -85,19 +85,23 @@ type_fault names (VarType.Plain at of) h = (names, h)
 type_fault names (VarType.Array at range of) h =
     (names, earlier_second (filled [] range).fault (plain_part names of).fault h)
 
--- the type of a variable has no fault
-variable_fault : (program : ℕ) (names : Table) (v : Var) → (variable_part program names v).fault ≡ None →
-    (more : Table) × ((plain_part more (element_type v.kind)).fault ≡ None)
+-- a type that has no fault has no index whose end is too large
+type_near : (names : Table) (kind : VarType) → (type_part names kind).fault ≡ None → AreNearEnds (type_indices kind)
+type_near names (VarType.Plain at of) h = tt
+type_near names (VarType.Array at range of) h =
+    let r = sound_range range (earlier_first (filled [] range).fault (plain_part names of).fault h) in (r.low, r.high)
+
+-- a variable whose type has no fault
+abbrev Faultless : Var → Type 0
+Faultless v = (names : Table) × ((type_part names v.kind).fault ≡ None)
+
+variable_fault : (program : ℕ) (names : Table) (v : Var) → (variable_part program names v).fault ≡ None → Faultless v
 variable_fault program names v h =
     let old = lookup (bytes_eq v.name.text) names in let new = variable_named program names v in
     let more = with_named names v.name.text (declared new old) in
     let rest = earlier_second (unless (may_declare program old) Code.DeclaredTwice v.name.at)
     (earlier (type_part more v.kind).fault (unless (agrees new old) Code.DeclaredTwice v.name.at)) h in
-    type_fault more v.kind (earlier_first (type_part more v.kind).fault
-    (unless (agrees new old) Code.DeclaredTwice v.name.at) rest)
-
-abbrev Faultless : Var → Type 0
-Faultless v = (names : Table) × ((plain_part names (element_type v.kind)).fault ≡ None)
+    (more, earlier_first (type_part more v.kind).fault (unless (agrees new old) Code.DeclaredTwice v.name.at) rest)
 
 program_variables : (d : Declared) (program : Program) → (program_part d program).fault ≡ None →
     All Faultless (declarations program)
@@ -128,14 +132,16 @@ document_variables d h = all_flat_map Faultless part_declarations d.parts
     (parts_fault d h))
 
 -- the texts of each variable are among those of the document
-program_texts_of : (program : Program) → All (λ v. IsPart (var_texts v) (program_texts program)) (declarations program)
+program_texts_of : (program : Program) → All (λ v. IsPart (var_texts v) (program_texts program))
+    (declarations program)
 program_texts_of (Program.Union at name left right) =
     All-nil (λ v. IsPart (var_texts v) (program_texts (Program.Union at name left right)))
 program_texts_of (Program.Plain at name declare always initially start items) =
     let vs = flat_map var_texts (items_of declare) in
     All-weaker (λ v. IsPart (var_texts v) vs) (λ v. IsPart (var_texts v) (name.text ∷ (vs ++ items_texts items)))
     (λ v h. part_trans (var_texts v) vs (name.text ∷ (vs ++ items_texts items)) h
-    (part_trans vs (vs ++ items_texts items) (name.text ∷ (vs ++ items_texts items)) (part_left vs (items_texts items))
+    (part_trans vs (vs ++ items_texts items) (name.text ∷ (vs ++ items_texts items))
+    (part_left vs (items_texts items))
     (part_cons name.text (vs ++ items_texts items)))) (items_of declare) (each_part var_texts (items_of declare))
 
 part_texts_of : (p : DocumentPart) → All (λ v. IsPart (var_texts v) (part_texts p)) (part_declarations p)
@@ -173,16 +179,23 @@ has_few (Plain.Words at first rest) h = let same = length_mapped (λ (w : Name).
 
 sound_slot : (words whole : Texts) (v : Var) → length whole ≤ 1000000000 → Faultless v → IsPart (var_texts v) whole →
     (index : Option ℤ) → IsSlot (slot_at words v index)
-sound_slot words whole v few faultless part index = let short = part.short in record {
-  range = sound_plain faultless.0 (element_type v.kind) faultless.1 (has_few (element_type v.kind) (omega arith));
-  print = print_fits words (element_type v.kind);
-}
+sound_slot words whole v few faultless part index = let short = part.short in
+    let plain = type_fault faultless.0 v.kind faultless.1 in record {
+      range = sound_plain plain.0 (element_type v.kind) plain.1 (has_few (element_type v.kind) (omega arith));
+      print = print_fits words (element_type v.kind);
+    }
 
 pub slots_are_sound : SlotsAreSound
 slots_are_sound d words h few = let vs = document_variables d h in let ts = document_texts_of d in
     slots_of_new IsSlot words [] (declared_by d.parts)
     (λ k v below. sound_slot words (document_texts d) (get_or (declared_by d.parts) k v) few.few (vs k v below)
     (ts k v below))
+
+pub indices_are_near : IndicesAreNear
+indices_are_near d h = record {
+  each = All-weaker Faultless HasNearIndices (λ v f. type_near f.0 v.kind f.1) (declared_by d.parts)
+      (document_variables d h);
+}
 
 -- words
 

@@ -7,7 +7,7 @@ use Rattle.core_terms.specs.Conditions.{EachPair, IsSlot, IsWord, PrintWords}
 use Rattle.name_scopes.specs.WellNamed.{IsWellNamed}
 use Rattle.document_words.specs.Texts.{Texts, document_texts}
 use Rattle.document_words.specs.WordNumbers.{document_words}
-use Rattle.expand_declarations.specs.Slots.{document_slots}
+use Rattle.expand_declarations.specs.Slots.{document_slots, DeclaredNear}
 use Rattle.expand_declarations.specs.Shown.{shown_slots}
 
 -- so few words that the number of each may be an end of a range; each stands at a byte of its own
@@ -18,6 +18,10 @@ pub record HasFewWords (d : Document) : Type 0 where
 abbrev pub SlotsAreSound : Type 0
 SlotsAreSound = (d : Document) (words : Texts) → IsWellNamed d → HasFewWords d →
     All IsSlot (document_slots words d.parts)
+
+-- no end of an array's indices is too large
+abbrev pub IndicesAreNear : Type 0
+IndicesAreNear = (d : Document) → IsWellNamed d → DeclaredNear d.parts
 
 -- a slot's name, and the words that it prints, are words of the document
 abbrev pub SlotsHaveWords : Type 0

@@ -6,7 +6,7 @@
 
 ghost use Rattle.declaration_laws.specs.Agreement.{VariablesAgree, WordsAgree, RangesAgree, CountsAgree};
 ghost use Rattle.declaration_laws.specs.WordLaws.{WordsFound, NumbersTell};
-ghost use Rattle.declaration_laws.specs.SlotLaws.{SlotsAreSound, SlotsHaveWords, ShownExist, ShownRise};
+ghost use Rattle.declaration_laws.specs.SlotLaws.{SlotsAreSound, IndicesAreNear, SlotsHaveWords, ShownExist, ShownRise};
 ghost use Rattle.declaration_laws.specs.NameLaws.{ProgramsDiffer, ProofsDiffer, StepsDiffer, ParamsHaveRanges};
 
 /// The variables, the words of enumerations and the slots, with their ranges, are those of what the
@@ -25,10 +25,11 @@ pub fn word_laws()
 {}
 
 /// The slots of a well-named document have ranges that are not empty and not too large, and their names
-/// are words. Where they print words, there is one for each number. The slots that a program shows exist,
-/// each once, in order.
+/// are words. Where they print words, there is one for each number. The ends of indices are not too large. The
+/// slots that a program shows exist, each once, in order.
 pub fn slot_laws()
     ensures sound { SlotsAreSound }
+    ensures near { IndicesAreNear }
     ensures words { SlotsHaveWords }
     ensures shown { ShownExist }
     ensures rising { ShownRise }

@@ -1,6 +1,6 @@
 -- Tables of words, as the code keeps them and as contracts see them.
-use Rattle.std.proofs.Common.{◌≡◌, ℕ, suc, Bool, true, false, cond, not, nat_lt, List, [], ◌∷◌, ◌++◌, map, length, Some}
-use Rattle.std.proofs.Common.{None, refl, sym, ap, ◌∙◌, ◌+◌, Bor, Result, Ok, Err, OnOk}
+use Rattle.std.proofs.Common.{◌≡◌, ℕ, suc, Bool, true, false, cond, not, nat_lt, List, [], ◌∷◌, ◌++◌, map, length}
+use Rattle.std.proofs.Common.{Some, None, refl, sym, ap, ◌∙◌, ◌+◌, Bor, Result, Ok, Err, OnOk}
 use Rattle.std.specs.Prelude.{position, if◌then◌else◌}
 use Rattle.std.specs.List.{list_any, flat_map, position_or_len}
 use Rattle.unity_syntax.specs.declared.statement.Items.{Items, fold-roll-Items}
@@ -65,6 +65,3 @@ pub both_added : {E : Type 0} (r : Result (Unit {0}) E) (old middle new first se
 both_added (Ok t) old middle new first second whole m w n = n ∙ ap (λ words. with_texts words second) m
     ∙ sym (with_texts-append old first second) ∙ ap (with_texts old) (sym w)
 both_added (Err e) old middle new first second whole m w n = tt
-
--- what follows from these by `grind`
-pub ruleset word_laws = (with_texts-append)

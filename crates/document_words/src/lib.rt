@@ -1,5 +1,5 @@
 //! The words of a document that its core form names, each with its number.
-#![tactic(auto, using(crate::proofs::WordLaws::word_laws))]
+#![tactic(auto)]
 
 mod proof_texts;
 mod texts;

@@ -1,8 +1,12 @@
 -- The layout of variables, as the code keeps it.
 use Rattle.std.proofs.Common.{◌≡◌, ℕ, zero, suc, ◌+◌, ◌-◌, ◌<◌, ◌≤◌, List, [], ◌∷◌, ◌++◌, map, length, Bool, true}
-use Rattle.std.proofs.Common.{false, cond, Option, Some, None, refl, sym, ap, ◌∙◌, arith, Bor, get_or, drop, drop-cons}
-use Rattle.std.proofs.Common.{add-one, Result, Ok, Err, OnOk, append_assoc, length-append, zero-add}
-use Rattle.std.specs.Prelude.{ℤ, pos, ◌+ℤ◌, ◌||◌, is_some, sum, nat_lt}
+use Rattle.std.proofs.Common.{false, cond, Option, Some, None, refl, sym, ap, ◌∙◌, arith, Bor, get_or, drop}
+use Rattle.std.proofs.Common.{subst, take, All, drop-cons, add-one, Result, Ok, Err, OnOk, append_assoc}
+use Rattle.std.proofs.Common.{length-append, zero-add}
+use Rattle.std.specs.Prelude.{ℤ, pos, ◌+ℤ◌, ◌||◌, is_some, sum, nat_lt, option_map, unwrap_or}
+use Rattle.std.specs.List.{flat_map}
+use Rattle.std.proofs.lemmas.List.Elements.{All-nil, All-cons, All-head, All-tail, All-append, All-weaker}
+use Rattle.core_terms.specs.declared.trees.Range.{Range}
 use Rattle.std.specs.Map.{lookup}
 use Rattle.std.specs.Str.{bytes_eq}
 use Rattle.std.proofs.lemmas.Int.{ints}
@@ -15,18 +19,20 @@ use Rattle.unity_syntax.specs.declared.document.Part.{Part}
 use Rattle.unity_meaning.specs.Names.{Variable}
 use Rattle.unity_meaning.specs.Value.{range_size}
 use Rattle.unity_meaning.specs.Setting.{slots_for, slot_count, type_indices, variable_from, with_declaration}
-use Rattle.unity_meaning.specs.Setting.{with_declarations}
-use Rattle.name_scopes.specs.Scope.{seen_entries}
+use Rattle.unity_meaning.specs.Setting.{with_declarations, declarations, programs_among}
+use Rattle.name_scopes.specs.Scope.{entries, seen_entries}
 use Rattle.name_scopes.proofs.Lookups.{inserted}
 use Rattle.expand_declarations.proofs.TableLaws.{bytes_eq-sym, insert_absent}
-use Rattle.expand_declarations.specs.declared.placed.Placed.{Placed}
+use Rattle.expand_expressions.specs.declared.places.VariableSlots.{VariableSlots}
+use Rattle.expand_expressions.specs.Places.{HasSlots, ends_of, variable_of, variables_of, AreNear}
 use Rattle.expand_declarations.specs.declared.layout.Layout.{Layout}
 use Rattle.document_words.specs.Texts.{Texts}
 use Rattle.expand_declarations.specs.Slots.{slot_at, index_values, slots_of, element_slots, is_known, new_slots}
-use Rattle.expand_declarations.specs.Slots.{part_declarations, declared_by, most_slots, past_from, placed_variable}
-use Rattle.expand_declarations.specs.Slots.{placed_variables, variables_in, IsCounted, Laid}
+use Rattle.expand_declarations.specs.Slots.{part_declarations, declared_by, most_slots, past_from, variables_in}
+use Rattle.expand_declarations.specs.Slots.{IsCounted, Laid, AreNearEnds, HasNearIndices, DeclaredNear, HaveSlots}
+use Rattle.expand_declarations.specs.Slots.{IsWhole, PartsBeforeAreFew, PartsBeforeAreNear}
 
-found_or : (b c d : Bool) (p : Placed) (rest : Option Placed) → b ≡ c → is_some rest ≡ d →
+found_or : (b c d : Bool) (p : VariableSlots) (rest : Option VariableSlots) → b ≡ c → is_some rest ≡ d →
     is_some (cond b (Some p) rest) ≡ (c || d)
 found_or true true d p rest s h = refl
 found_or true false d p rest s h = cc s
@@ -34,21 +40,21 @@ found_or false true d p rest s h = cc s
 found_or false false d p rest s h = h
 
 -- a name that is found is that of a variable
-pub known_found : (es : List (List ℕ × Placed)) (name : List ℕ) →
-    is_some (lookup (bytes_eq name) es) ≡ is_known (placed_variables es) name
+pub known_found : (es : List (List ℕ × VariableSlots)) (name : List ℕ) →
+    is_some (lookup (bytes_eq name) es) ≡ is_known (variables_of es) name
 known_found [] name = refl
-known_found (e ∷ es) name = found_or (bytes_eq name e.0) (bytes_eq e.0 name) (is_known (placed_variables es) name) e.1
+known_found (e ∷ es) name = found_or (bytes_eq name e.0) (bytes_eq e.0 name) (is_known (variables_of es) name) e.1
     (lookup (bytes_eq name) es) (bytes_eq-sym name e.0) (known_found es name)
 
 -- a name that is new stands last
-pub entered : (es : List (Bor (List ℕ) × Placed)) (k : Bor (List ℕ)) (name : List ℕ) (p : Placed) → k.now ≡ name →
-    is_known (placed_variables (seen_entries es)) name ≡ false →
-    placed_variables (seen_entries (insert_entry (λ (j k : Bor (List ℕ)). bytes_eq j.now k.now) es k p)) ≡
-    placed_variables (seen_entries es) ++ placed_variable (name, p) ∷ []
-entered es k name p same new = ap placed_variables (inserted es k p
+pub entered : (es : List (Bor (List ℕ) × VariableSlots)) (k : Bor (List ℕ)) (name : List ℕ) (p : VariableSlots) →
+    k.now ≡ name → is_known (variables_of (seen_entries es)) name ≡ false →
+    variables_of (seen_entries (insert_entry (λ (j k : Bor (List ℕ)). bytes_eq j.now k.now) es k p)) ≡
+    variables_of (seen_entries es) ++ variable_of name p ∷ []
+entered es k name p same new = ap variables_of (inserted es k p
     ∙ ap (λ (n : List ℕ). insert_entry bytes_eq (seen_entries es) n p) same
     ∙ insert_absent (seen_entries es) name p (known_found (seen_entries es) name ∙ new))
-    ∙ map-append placed_variable (seen_entries es) ((name, p) ∷ [])
+    ∙ map-append (λ (e : List ℕ × VariableSlots). variable_of e.0 e.1) (seen_entries es) ((name, p) ∷ [])
 
 -- counts
 
@@ -127,11 +133,11 @@ ahead_past words now old ds rest all a past =
     let more = slot_count-grows (with_declarations (variables_in now) ds) rest in omega arith
 
 -- a name that is new
-pub laid_new : (words : Texts) (old new : Layout) (v : Var) (p : Placed) (first : ℕ) → IsCounted old →
+pub laid_new : (words : Texts) (old new : Layout) (v : Var) (p : VariableSlots) (first : ℕ) → IsCounted old →
     is_known (variables_in old) v.name.text ≡ false → first ≡ length old.slots →
-    placed_variable (v.name.text, p) ≡ variable_from first v →
+    variable_of v.name.text p ≡ variable_from first v →
     length old.slots + slots_for (type_indices v.kind) ≤ most_slots →
-    variables_in new ≡ variables_in old ++ placed_variable (v.name.text, p) ∷ [] →
+    variables_in new ≡ variables_in old ++ variable_of v.name.text p ∷ [] →
     new.slots ≡ old.slots ++ slots_of words v → Laid words old new (v ∷ [])
 laid_new words old new v p first counted known at placed fits vs slots =
     let here : variables_in new ≡ variables_in old ++ (variable_from (slot_count (variables_in old)) v ∷ []) =
@@ -153,7 +159,8 @@ laid_new words old new v p first counted known at placed fits vs slots =
     }
 
 -- parts one after the other
-pub record AheadParts (words : Texts) (now : Layout) (place : ℕ) (parts : List Part) (old : Layout) (all : List Part) :
+pub record AheadParts (words : Texts) (now : Layout) (place : ℕ) (parts : List Part) (old : Layout) (all : List Part)
+    :
     Type 0 where
   pub laid : Ahead words now (declared_by parts) old (declared_by all)
   pub past : past_from place (variables_in now) parts ≡ past_from 0 (variables_in old) all
@@ -173,7 +180,8 @@ parts_more words now next old place p rest all a laid =
       laid = ahead_more words now next old (part_declarations p) (declared_by rest) (declared_by all) a.laid laid;
       past = ap (λ vs. past_from (place + 1) vs rest) laid.variables
           ∙ sym (past_at _ (slot_count (with_declarations (variables_in now) (part_declarations p))) place
-          (past_from (place + 1) (with_declarations (variables_in now) (part_declarations p)) rest) refl few) ∙ a.past;
+          (past_from (place + 1) (with_declarations (variables_in now) (part_declarations p)) rest) refl few) ∙
+          a.past;
     }
 
 -- the elements of an array from its k-th on
@@ -191,6 +199,162 @@ pub drop_item : {X : Type 0} (xs : List X) (i : ℕ) (x : X) → i < length xs �
     drop i xs ≡ x ∷ drop (i + 1) xs
 drop_item xs i x h e = drop-cons xs i x h ∙ ap (λ y. y ∷ drop (suc i) xs) (sym e)
     ∙ ap (λ j. x ∷ drop j xs) (sym (add-one i))
+
+-- where the slots of variables are
+
+-- a variable whose slots are among the first ones, and whose indices are not too large
+record Lies (count : ℕ) (v : Variable) : Type 0 where
+  pub within : v.first + slots_for v.indices ≤ count
+  pub near : AreNearEnds v.indices
+
+lies_one : (vs : List Variable) (d : Var) → HasNearIndices d → All (Lies (slot_count vs)) vs →
+    All (Lies (slot_count (with_declaration vs d))) (with_declaration vs d)
+lies_one vs d near h = by (is_known vs d.name.text)
+  where
+    v : Variable
+    v = variable_from (slot_count vs) d
+
+    more : slot_count (vs ++ v ∷ []) ≡ slot_count vs + slots_for (type_indices d.kind)
+    more = slot_count-more vs v
+
+    by : (b : Bool) → All (Lies (slot_count (cond b vs (vs ++ v ∷ [])))) (cond b vs (vs ++ v ∷ []))
+    by true = h
+    by false = let P = Lies (slot_count (vs ++ v ∷ [])) in All-append P vs (v ∷ [])
+        (All-weaker (Lies (slot_count vs)) P
+        (λ u l. let w = l.within in let m = more in record { within = omega arith; near = l.near }) vs h)
+        (All-cons P v [] (let m = more in record { within = omega arith; near = near }) (All-nil P))
+
+lies_all : (vs : List Variable) (ds : List Var) → All HasNearIndices ds → All (Lies (slot_count vs)) vs →
+    All (Lies (slot_count (with_declarations vs ds))) (with_declarations vs ds)
+lies_all vs [] near h = h
+lies_all vs (d ∷ ds) near h = lies_all (with_declaration vs d) ds (All-tail HasNearIndices d ds near)
+    (lies_one vs d (All-head HasNearIndices d ds near) h)
+
+-- what holds of each variable holds of the one that a name finds
+of_found : (P : Variable → Type 0) (es : List (List ℕ × VariableSlots)) → All P (variables_of es) → (name : List ℕ)
+    (v : VariableSlots) → lookup (bytes_eq name) es ≡ Some v → (word : List ℕ) × P (variable_of word v)
+of_found P [] h name v found = cc found
+of_found P (e ∷ es) h name v found = by (bytes_eq name e.0) found
+    (λ k. of_found P es (All-tail P (variable_of e.0 e.1) (variables_of es) h) name v k)
+  where
+    by : (b : Bool) → cond b (Some e.1) (lookup (bytes_eq name) es) ≡ Some v →
+        (lookup (bytes_eq name) es ≡ Some v → (word : List ℕ) × P (variable_of word v)) →
+        (word : List ℕ) × P (variable_of word v)
+    by true same further = (
+      e.0,
+      subst (λ (w : VariableSlots). P (variable_of e.0 w))
+          (ap (λ (o : Option VariableSlots). unwrap_or o e.1) same)
+          (All-head P (variable_of e.0 e.1) (variables_of es) h),
+    )
+    by false found further = further found
+
+near_indices : (indices : Option Range) → AreNearEnds (option_map ends_of indices) → AreNear indices
+near_indices None h = tt
+near_indices (Some r) h = let low = h.0 in let high = h.1 in (omega arith, omega arith)
+
+has_slots : (count : ℕ) (word : List ℕ) (v : VariableSlots) → count ≤ most_slots → Lies count (variable_of word v) →
+    HasSlots v
+has_slots count word v few lies = let within = lies.within in
+    record { slots = omega arith; indices = near_indices v.indices lies.near }
+
+pub have_slots : (es : List (List ℕ × VariableSlots)) (ds : List Var) → variables_of es ≡ with_declarations [] ds →
+    slot_count (variables_of es) ≤ most_slots → All HasNearIndices ds → HaveSlots es
+have_slots es ds same few near = record {
+  each = λ name v found. let vs = with_declarations [] ds in
+      let lies = of_found (Lies (slot_count vs)) es
+      (subst (λ (us : List Variable). All (Lies (slot_count vs)) us) (sym same)
+      (lies_all [] ds near (All-nil (Lies 0)))) name v found in
+      has_slots (slot_count vs) lies.0 v (subst (λ (us : List Variable). slot_count us ≤ most_slots) same few) lies.1;
+}
+
+-- parts declare what the programs among them declare
+pub declared-among : (parts : List Part) → declared_by parts ≡ flat_map declarations (programs_among parts)
+declared-among [] = refl
+declared-among (Part.Program at program ∷ rest) = ap (λ ds. declarations program ++ ds) (declared-among rest)
+declared-among (Part.Proof at proof ∷ rest) = declared-among rest
+
+-- a layout of all parts that begins with nothing
+pub whole : (words : Texts) (old l : Layout) (parts : List Part) → DeclaredNear parts → variables_in old ≡ [] →
+    old.slots ≡ [] → Laid words old l (declared_by parts) → past_from 0 (variables_in old) parts ≡ None →
+    IsWhole words l parts
+whole words old l parts near none empty laid past =
+    let same : variables_of (entries l.variables) ≡ with_declarations [] (declared_by parts) =
+    laid.variables ∙ ap (λ vs. with_declarations vs (declared_by parts)) none in
+    record {
+      variables = same;
+      setting = same ∙ ap (with_declarations []) (declared-among parts);
+      have = have_slots (entries l.variables) (declared_by parts) same
+          (subst (λ (n : ℕ). n ≤ most_slots) laid.counted.same laid.counted.few) near.each;
+      slots = laid.slots ∙ ap (λ slots. slots ++ new_slots words (variables_in old) (declared_by parts)) empty
+          ∙ ap (λ vs. new_slots words vs (declared_by parts)) none;
+      few = laid.counted.few;
+      past = sym (ap (λ vs. past_from 0 vs parts) none) ∙ past;
+    }
+
+-- the part by which there are too many slots
+
+record Split (place : ℕ) (vs : List Variable) (parts : List Part) (past : ℕ) : Type 0 where
+  pub before : ℕ
+  pub at : past ≡ place + before
+  pub within : before < length parts
+  pub few : past_from place vs (take before parts) ≡ None
+
+split_at : (place : ℕ) (vs : List Variable) (parts : List Part) (past : ℕ) → past_from place vs parts ≡ Some past →
+    Split place vs parts past
+split_at place vs [] past h = cc h
+split_at place vs (p ∷ rest) past h =
+    by (nat_lt most_slots (slot_count (with_declarations vs (part_declarations p)))) refl h
+    (split_at (place + 1) (with_declarations vs (part_declarations p)) rest past)
+  where
+    next : List Variable
+    next = with_declarations vs (part_declarations p)
+
+    by : (b : Bool) → nat_lt most_slots (slot_count next) ≡ b →
+        cond b (Some place) (past_from (place + 1) next rest) ≡ Some past →
+        (past_from (place + 1) next rest ≡ Some past → Split (place + 1) next rest past) →
+        Split place vs (p ∷ rest) past
+    by true e h further = let same : place ≡ past = ap (λ (o : Option ℕ). unwrap_or o place) h in record {
+      before = 0;
+      at = omega arith;
+      within = omega arith;
+      few = refl;
+    }
+    by false e h further = let s = further h in let at = s.at in let within = s.within in record {
+      before = suc s.before;
+      at = omega arith;
+      within = omega arith;
+      few = ap (λ b. cond b (Some place) (past_from (place + 1) next (take s.before rest))) e ∙ s.few;
+    }
+
+pub parts_before_are_few : PartsBeforeAreFew
+parts_before_are_few place parts h = let s = split_at 0 [] parts place h in let at = s.at in let within = s.within in
+    let same : s.before ≡ place = omega arith in record {
+      within = omega arith;
+      few = subst (λ (n : ℕ). past_from 0 [] (take n parts) ≡ None) same s.few;
+    }
+
+-- the first parts
+
+all_first : (P : Var → Type 0) (xs ys : List Var) → All P (xs ++ ys) → All P xs
+all_first P [] ys h = All-nil P
+all_first P (x ∷ xs) ys h =
+    All-cons P x xs (All-head P x (xs ++ ys) h) (all_first P xs ys (All-tail P x (xs ++ ys) h))
+
+all_further : (P : Var → Type 0) (xs ys : List Var) → All P (xs ++ ys) → All P ys
+all_further P [] ys h = h
+all_further P (x ∷ xs) ys h = all_further P xs ys (All-tail P x (xs ++ ys) h)
+
+near_before : (place : ℕ) (parts : List Part) → All HasNearIndices (declared_by parts) →
+    All HasNearIndices (declared_by (take place parts))
+near_before zero [] h = All-nil HasNearIndices
+near_before zero (p ∷ rest) h = All-nil HasNearIndices
+near_before (suc n) [] h = All-nil HasNearIndices
+near_before (suc n) (p ∷ rest) h = let ds = part_declarations p in
+    All-append HasNearIndices ds (declared_by (take n rest)) (all_first HasNearIndices ds (declared_by rest) h)
+    (near_before n rest (all_further HasNearIndices ds (declared_by rest) h))
+
+pub parts_before_are_near : PartsBeforeAreNear
+parts_before_are_near place parts near = record { each = near_before place parts near.each }
 
 pub on_ok : {X E P Q : Type 0} (r : Result X E) → (P → Q) → OnOk r P → OnOk r Q
 on_ok (Ok x) f p = f p

@@ -1,6 +1,8 @@
 -- The slots of a document's variables, in the order of declaration.
 use Rattle.std.specs.Prelude.{◌≡◌, ℕ, ◌+◌, ◌≤◌, ◌<◌, ℤ, nat_lt, List, [], ◌∷◌, ◌++◌, map, length, cond, Bool, true}
-use Rattle.std.specs.Prelude.{false, Option, Some, None}
+use Rattle.std.specs.Prelude.{false, Option, Some, None, All, take, ⊤}
+use Rattle.std.specs.Int.RustNames.{unsigned_abs}
+use Rattle.std.specs.Map.{lookup}
 use Rattle.std.specs.List.{list_any, flat_map}
 use Rattle.std.specs.Str.{bytes_eq}
 use Rattle.unity_syntax.specs.declared.name.Range.{Range as TextRange}
@@ -10,11 +12,12 @@ use Rattle.unity_syntax.specs.declared.document.Part.{Part}
 use Rattle.unity_meaning.specs.Names.{Variable}
 use Rattle.unity_meaning.specs.Value.{range_ends, range_size, count_up}
 use Rattle.unity_meaning.specs.Setting.{element_type, type_indices, plain_range, slot_count, with_declaration}
-use Rattle.unity_meaning.specs.Setting.{with_declarations, declarations}
+use Rattle.unity_meaning.specs.Setting.{with_declarations, declarations, setting_of, programs_among}
 use Rattle.core_terms.specs.declared.programs.Print.{Print}
 use Rattle.core_terms.specs.declared.programs.CSlot.{CSlot}
 use Rattle.name_scopes.specs.Scope.{entries}
-use Rattle.expand_declarations.specs.declared.placed.Placed.{Placed}
+use Rattle.expand_expressions.specs.declared.places.VariableSlots.{VariableSlots}
+use Rattle.expand_expressions.specs.Places.{HasSlots, variables_of}
 use Rattle.expand_declarations.specs.declared.layout.Layout.{Layout}
 use Rattle.expand_declarations.specs.declared.layout.Laying.{Laying}
 use Rattle.document_words.specs.Texts.{Texts}
@@ -91,21 +94,8 @@ past_part parts = past_from 0 [] parts
 
 -- the layout, as the code keeps it
 
--- a variable of the layout
-abbrev pub placed_variable : List ℕ × Placed → Variable
-placed_variable e = record {
-  name = e.0;
-  indices = e.1.indices;
-  range = e.1.range;
-  is_truth = e.1.is_truth;
-  first = e.1.first;
-}
-
-abbrev pub placed_variables : List (List ℕ × Placed) → List Variable
-placed_variables es = map placed_variable es
-
 abbrev pub variables_in : Layout → List Variable
-variables_in l = placed_variables (entries l.variables)
+variables_in l = variables_of (entries l.variables)
 
 -- there are as many slots as the variables have, and no more than are allowed
 pub record IsCounted (l : Layout) : Type 0 where
@@ -129,7 +119,43 @@ LaysParts words None old new parts =
     Laid words old new (declared_by parts) × (past_from 0 (variables_in old) parts ≡ None)
 LaysParts words (Some place) old new parts = past_from 0 (variables_in old) parts ≡ Some place
 
+-- the ends of an array's indices are not too large
+abbrev pub AreNearEnds : Option (ℤ × ℤ) → Type 0
+AreNearEnds None = ⊤
+AreNearEnds (Some ends) = (unsigned_abs ends.0 ≤ 1000000000) × (unsigned_abs ends.1 ≤ 1000000000)
+
+abbrev pub HasNearIndices : Var → Type 0
+HasNearIndices v = AreNearEnds (type_indices v.kind)
+
+-- the ends of all indices that parts declare are not too large
+pub record DeclaredNear (parts : List Part) : Type 0 where
+  pub each : All HasNearIndices (declared_by parts)
+
+-- each variable that a name finds has slots, all with numbers below 2^32
+pub record HaveSlots (variables : List (List ℕ × VariableSlots)) : Type 0 where
+  pub each : (name : List ℕ) (v : VariableSlots) → lookup (bytes_eq name) variables ≡ Some v → HasSlots v
+
+-- the layout of all parts, which need no more slots than are allowed
+pub record IsWhole (words : Texts) (l : Layout) (parts : List Part) : Type 0 where
+  pub variables : variables_of (entries l.variables) ≡ with_declarations [] (declared_by parts)
+  pub setting : variables_of (entries l.variables) ≡ (setting_of (programs_among parts)).variables
+  pub have : HaveSlots (entries l.variables)
+  pub slots : l.slots ≡ document_slots words parts
+  pub few : length l.slots ≤ most_slots
+  pub past : past_part parts ≡ None
+
 abbrev pub IsLaying : Texts → Laying → List Part → Type 0
-IsLaying words (Laying.Whole l) parts = (variables_in l ≡ with_declarations [] (declared_by parts))
-    × (l.slots ≡ document_slots words parts) × IsCounted l × (past_part parts ≡ None)
+IsLaying words (Laying.Whole l) parts = IsWhole words l parts
 IsLaying words (Laying.Past place) parts = past_part parts ≡ Some place
+
+-- the parts before the one by which there are too many slots need no more than are allowed
+pub record FewBefore (place : ℕ) (parts : List Part) : Type 0 where
+  pub within : place < length parts
+  pub few : past_part (take place parts) ≡ None
+
+abbrev pub PartsBeforeAreFew : Type 0
+PartsBeforeAreFew = (place : ℕ) (parts : List Part) → past_part parts ≡ Some place → FewBefore place parts
+
+-- where the ends of all parts are not too large, those of the first ones are not
+abbrev pub PartsBeforeAreNear : Type 0
+PartsBeforeAreNear = (place : ℕ) (parts : List Part) → DeclaredNear parts → DeclaredNear (take place parts)

@@ -1,6 +1,9 @@
 -- The values of a start section.
-use Rattle.std.specs.Prelude.{◌≡◌, ℕ, ℤ, pos, List, ◌++◌, map, Bool, Option, option_map, unwrap_or}
+use Rattle.std.specs.Prelude.{ℕ, ℤ, pos, List, [], map, fold, Bool, cond, Option, option_map, unwrap_or, is_some}
 use Rattle.std.specs.List.{flat_map}
+use Rattle.std.specs.Map.{lookup}
+use Rattle.std.specs.Str.{bytes_eq}
+use Rattle.indexmap.specs.IndexMap.{insert_entry}
 use Rattle.unity_syntax.specs.declared.declaration.Var.{Var}
 use Rattle.unity_syntax.specs.declared.declaration.Init.{Init}
 use Rattle.unity_syntax.specs.declared.declaration.InitValue.{InitValue}
@@ -41,14 +44,13 @@ part_words part = flat_map var_words (part_declarations part)
 abbrev pub enumeration_words : List Part → Bindings
 enumeration_words parts = flat_map part_words parts
 
--- words that have the same numbers
-abbrev pub SameNumbers : Bindings → Bindings → Type 0
-SameNumbers ws us = (name : List ℕ) → number_of name ws ≡ number_of name us
+-- a word with its number; one that is known keeps the number that it has
+abbrev pub with_word : Bindings → List ℕ × ℤ → Bindings
+with_word known w = cond (is_some (lookup (bytes_eq w.0) known)) known (insert_entry bytes_eq known w.0 w.1)
 
--- words and numbers, as the code keeps them
-abbrev pub numbered_words : List (List ℕ × ℕ) → Bindings
-numbered_words es = map (λ (e : List ℕ × ℕ). let b : List ℕ × ℤ = (e.0, pos e.1) in b) es
+abbrev pub with_words : Bindings → Bindings → Bindings
+with_words known ws = fold with_word known ws
 
--- words that were added after others; of two that are the same, the first keeps its number
-pub record AddsWords (old new : List (List ℕ × ℕ)) (more : Bindings) : Type 0 where
-  pub numbers : SameNumbers (numbered_words new) (numbered_words old ++ more)
+-- the words of enumerations, each with the number that it has where it stands first
+abbrev pub first_words : Bindings → Bindings
+first_words ws = with_words [] ws

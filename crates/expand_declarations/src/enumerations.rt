@@ -1,22 +1,20 @@
 //! The words of enumerations, each with its number.
 
-ghost use Rattle.std.specs.Prelude.{◌≡◌, ◌∷◌, ◌++◌, [], pos, is_some, IfOk, OnOk};
+ghost use Rattle.std.specs.Prelude.{◌≡◌, pos, is_some, IfOk, OnOk};
 ghost use Rattle.std.specs.List.{flat_map};
 ghost use Rattle.std.specs.Map.{lookup};
 ghost use Rattle.std.specs.Str.{bytes_eq};
-ghost use Rattle.unity_meaning.specs.Setting.{declarations, element_type, plain_words, with_places};
+ghost use Rattle.unity_meaning.specs.Setting.{declarations, plain_words, with_places};
 ghost use Rattle.name_scopes.specs.Scope.{entries};
 ghost use Rattle.name_scopes.specs.Declarations.{items_of};
-ghost use Rattle.expand_declarations.specs.Slots.{declared_by, part_declarations};
 ghost use Rattle.expand_declarations.specs.Start as spec;
 
+use crate::numbers::literal;
+use expand_expressions::ValueTable;
 use indexmap::IndexMap;
 use std::alloc::{AllocError, Global};
 use unity_base::Seq;
 use unity_syntax::{Name, Part, Plain, Program, Var, VarType};
-
-/// The words of enumerations by their texts, in order of first appearance, each with its number.
-pub type ValueTable<'a> = IndexMap<&'a [u8], u64>;
 
 fn is_numbered(name: &Name, values: &ValueTable) -> bool
     ensures { result ≡ is_some (lookup (bytes_eq name.now.text) (entries values.now)) }
@@ -26,17 +24,16 @@ fn is_numbered(name: &Name, values: &ValueTable) -> bool
 
 // A word; one that is there keeps its number.
 fn add_word<'a>(name: &'a Name, number: u64, values: &mut ValueTable<'a>) -> Result<(), AllocError>
-    ensures { OnOk result (spec.AddsWords (entries values.old) (entries values.new)
-        ((name.now.text, pos number) ∷ [])) }
+    ensures { OnOk result (entries values.new ≡ spec.with_word (entries values.old) (name.now.text, pos number)) }
 {
     if !is_numbered(name, values) {
-        values.insert(name.text.as_slice(), number)?;
+        values.insert(name.text.as_slice(), literal(false, number)?)?;
     }
     Ok(())
 }
 
 fn add_further<'a>(names: &'a [Name], values: &mut ValueTable<'a>) -> Result<(), AllocError>
-    ensures { OnOk result (spec.AddsWords (entries values.old) (entries values.new) (with_places 1 names.now)) }
+    ensures { OnOk result (entries values.new ≡ spec.with_words (entries values.old) (with_places 1 names.now)) }
 {
     for i in 0..names.len() {
         add_word(&names[i], i as u64 + 1, values)?;
@@ -45,7 +42,7 @@ fn add_further<'a>(names: &'a [Name], values: &mut ValueTable<'a>) -> Result<(),
 }
 
 fn add_plain<'a>(plain: &'a Plain, values: &mut ValueTable<'a>) -> Result<(), AllocError>
-    ensures { OnOk result (spec.AddsWords (entries values.old) (entries values.new) (plain_words plain.now)) }
+    ensures { OnOk result (entries values.new ≡ spec.with_words (entries values.old) (plain_words plain.now)) }
 {
     match plain {
         Plain::Boolean { at: _ } => Ok(()),
@@ -58,7 +55,7 @@ fn add_plain<'a>(plain: &'a Plain, values: &mut ValueTable<'a>) -> Result<(), Al
 }
 
 fn add_variable<'a>(v: &'a Var, values: &mut ValueTable<'a>) -> Result<(), AllocError>
-    ensures { OnOk result (spec.AddsWords (entries values.old) (entries values.new) (spec.var_words v.now)) }
+    ensures { OnOk result (entries values.new ≡ spec.with_words (entries values.old) (spec.var_words v.now)) }
 {
     match &v.kind {
         VarType::Plain { at: _, of } => add_plain(of, values),
@@ -71,7 +68,7 @@ fn add_variable<'a>(v: &'a Var, values: &mut ValueTable<'a>) -> Result<(), Alloc
 }
 
 fn add_variables<'a>(vs: &'a [Var], values: &mut ValueTable<'a>) -> Result<(), AllocError>
-    ensures { OnOk result (spec.AddsWords (entries values.old) (entries values.new) (flat_map spec.var_words vs.now)) }
+    ensures { OnOk result (entries values.new ≡ spec.with_words (entries values.old) (flat_map spec.var_words vs.now)) }
 {
     for v in vs {
         add_variable(v, values)?;
@@ -83,7 +80,7 @@ fn add_declared<'a>(
     declare: &'a Option<Seq<Var>>,
     values: &mut ValueTable<'a>,
 ) -> Result<(), AllocError>
-    ensures { OnOk result (spec.AddsWords (entries values.old) (entries values.new)
+    ensures { OnOk result (entries values.new ≡ spec.with_words (entries values.old)
         (flat_map spec.var_words (items_of declare.now))) }
 {
     match declare {
@@ -93,7 +90,7 @@ fn add_declared<'a>(
 }
 
 fn add_program<'a>(p: &'a Program, values: &mut ValueTable<'a>) -> Result<(), AllocError>
-    ensures { OnOk result (spec.AddsWords (entries values.old) (entries values.new)
+    ensures { OnOk result (entries values.new ≡ spec.with_words (entries values.old)
         (flat_map spec.var_words (declarations p.now))) }
 {
     match p {
@@ -116,7 +113,7 @@ fn add_program<'a>(p: &'a Program, values: &mut ValueTable<'a>) -> Result<(), Al
 }
 
 fn add_part<'a>(part: &'a Part, values: &mut ValueTable<'a>) -> Result<(), AllocError>
-    ensures { OnOk result (spec.AddsWords (entries values.old) (entries values.new) (spec.part_words part.now)) }
+    ensures { OnOk result (entries values.new ≡ spec.with_words (entries values.old) (spec.part_words part.now)) }
 {
     match part {
         Part::Program { at: _, of } => add_program(of, values),
@@ -125,7 +122,7 @@ fn add_part<'a>(part: &'a Part, values: &mut ValueTable<'a>) -> Result<(), Alloc
 }
 
 fn add_parts<'a>(parts: &'a [Part], values: &mut ValueTable<'a>) -> Result<(), AllocError>
-    ensures { OnOk result (spec.AddsWords (entries values.old) (entries values.new)
+    ensures { OnOk result (entries values.new ≡ spec.with_words (entries values.old)
         (spec.enumeration_words parts.now)) }
 {
     for part in parts {
@@ -134,13 +131,12 @@ fn add_parts<'a>(parts: &'a [Part], values: &mut ValueTable<'a>) -> Result<(), A
     Ok(())
 }
 
-/// The words of enumerations that parts of a document declare, each with the number that it has where it
-/// stands first.
+/// The words of enumerations that parts of a document declare, in order of first appearance, each with the
+/// number that it has where it stands first.
 ///
-/// An error says that memory was refused.
+/// An error says that memory was refused, also where an enumeration has more than 2^62 words: no text has.
 pub fn enumeration_words<'a>(alloc: Global, parts: &'a [Part]) -> Result<ValueTable<'a>, AllocError>
-    ensures { IfOk result (λ values.
-        spec.SameNumbers (spec.numbered_words (entries values)) (spec.enumeration_words parts.now)) }
+    ensures { IfOk result (λ values. entries values ≡ spec.first_words (spec.enumeration_words parts.now)) }
 {
     let mut values = IndexMap::new(alloc);
     add_parts(parts, &mut values)?;

@@ -1,22 +1,21 @@
 //! The slots of variables, in the order of declaration.
 
 ghost use Rattle.std.specs.Prelude.{◌≡◌, ◌+◌, ◌-◌, ◌≤◌, ◌^◌, [], ◌∷◌, ◌++◌, pos, ◌+ℤ◌, ◌<◌, false, map, Some, None};
-ghost use Rattle.std.specs.Prelude.{IfOk, OnOk, length};
-ghost use Rattle.std.specs.Int.RustNames.{unsigned_abs};
-ghost use Rattle.unity_meaning.specs.Names.{or_zero};
+ghost use Rattle.std.specs.Prelude.{IfOk, OnOk, length, option_map};
 ghost use Rattle.unity_meaning.specs.Value.{range_size};
 ghost use Rattle.unity_meaning.specs.Setting.{declarations, is_boolean, element_type, plain_range, slots_for};
 ghost use Rattle.unity_meaning.specs.Setting.{type_indices, variable_from};
 ghost use Rattle.name_scopes.specs.Scope.{entries};
 ghost use Rattle.name_scopes.specs.Declarations.{items_of};
 ghost use Rattle.document_words.specs.WordNumbers.{word_number};
-ghost use Rattle.expand_declarations.specs.Numbers.{IsLiteral, core_range};
+ghost use Rattle.expand_declarations.specs.Numbers.{core_range};
+ghost use Rattle.expand_expressions.specs.Places.{ends_of, variable_of, variables_of};
 ghost use Rattle.expand_declarations.specs.Slots as spec;
 
-use crate::numbers::{fixed_end, fixed_range, literal};
-use crate::placed::Placed;
+use crate::numbers::{fixed_range, literal};
 use core_terms::{CSlot, Print, Range};
 use document_words::WordTable;
+use expand_expressions::{VariableSlots, VariableTable};
 use indexmap::IndexMap;
 use std::alloc::{AllocError, Global};
 use unity_base::Seq;
@@ -24,9 +23,6 @@ use unity_syntax::{Name, Part, Plain, Program, Range as TextRange, Var, VarType}
 
 /// How many slots a document may have.
 const MOST_SLOTS: u128 = 4096;
-
-/// The variables of a document by name, in order of first declaration.
-pub type VariableTable<'a> = IndexMap<&'a [u8], Placed>;
 
 /// The variables of a document and their slots, both in order of first declaration.
 #[derive(Drop)]
@@ -58,16 +54,8 @@ fn element_of(kind: &VarType) -> &Plain
     }
 }
 
-fn array_of(range: &TextRange) -> Result<Option<(i64, i64)>, AllocError>
-    ensures { IfOk result (λ r. r ≡ Some (spec.fixed_ends range.now)) }
-{
-    let low = fixed_end(&range.low)?;
-    let high = fixed_end(&range.high)?;
-    Ok(Some((low, high)))
-}
-
-fn indices_of(kind: &VarType) -> Result<Option<(i64, i64)>, AllocError>
-    ensures { IfOk result (λ r. r ≡ type_indices kind.now) }
+fn indices_of(kind: &VarType) -> Result<Option<Range>, AllocError>
+    ensures { IfOk result (λ r. option_map ends_of r ≡ type_indices kind.now) }
 {
     match kind {
         VarType::Plain { at: _, of: _ } => Ok(None),
@@ -75,21 +63,21 @@ fn indices_of(kind: &VarType) -> Result<Option<(i64, i64)>, AllocError>
             at: _,
             range,
             of: _,
-        } => array_of(range),
+        } => Ok(Some(fixed_range(range)?)),
     }
 }
 
 // How many slots a variable with these indices has.
-fn slots_for(indices: Option<(i64, i64)>) -> u128
-    ensures { result ≡ slots_for indices }
+fn slots_for(indices: Option<Range>) -> u128
+    ensures { result ≡ slots_for (option_map ends_of indices) }
 {
     match indices {
         None => 1,
-        Some((low, high)) => {
-            if high < low {
+        Some(range) => {
+            if range.hi < range.lo {
                 0
             } else {
-                (high as i128 + 1 - low as i128) as u128
+                (range.hi as i128 + 1 - range.lo as i128) as u128
             }
         }
     }
@@ -202,34 +190,33 @@ fn add_slot(
 }
 
 // A number of a range, by its place.
-fn number_in(low: i64, high: i64, place: u64) -> i64
-    requires { place < range_size (low, high) }
-    ensures { result ≡ (low +ℤ pos place) }
+fn number_in(range: Range, place: u64) -> i64
+    requires { place < range_size (ends_of range) }
+    ensures { result ≡ (range.lo +ℤ pos place) }
 {
-    (low as i128 + place as i128) as i64
+    (range.lo as i128 + place as i128) as i64
 }
 
-fn index_in(ends: &(i64, i64), place: u64) -> Option<i64>
-    requires { place < range_size ends.now }
-    ensures { result ≡ Some (ends.now.0 +ℤ pos place) }
+fn index_in(range: Range, place: u64) -> Option<i64>
+    requires { place < range_size (ends_of range) }
+    ensures { result ≡ Some (range.lo +ℤ pos place) }
 {
-    let (low, high) = *ends;
-    Some(number_in(low, high, place))
+    Some(number_in(range, place))
 }
 
 fn add_elements(
     alloc: Global,
     v: &Var,
-    ends: &(i64, i64),
+    range: Range,
     count: u64,
     words: &WordTable,
     slots: &mut Seq<CSlot>,
 ) -> Result<(), AllocError>
-    requires { count ≡ range_size ends.now }
-    ensures { OnOk result (slots.new ≡ slots.old ++ spec.element_slots words.now v.now ends.now.0 count) }
+    requires { count ≡ range_size (ends_of range) }
+    ensures { OnOk result (slots.new ≡ slots.old ++ spec.element_slots words.now v.now range.lo count) }
 {
     for k in 0..count {
-        add_slot(alloc, v, index_in(ends, k), words, slots)?;
+        add_slot(alloc, v, index_in(range, k), words, slots)?;
     }
     Ok(())
 }
@@ -238,31 +225,30 @@ fn add_elements(
 fn add_slots(
     alloc: Global,
     v: &Var,
-    indices: Option<(i64, i64)>,
+    indices: Option<Range>,
     count: u64,
     words: &WordTable,
     slots: &mut Seq<CSlot>,
 ) -> Result<(), AllocError>
-    requires indices { indices ≡ type_indices v.now.kind }
-    requires count { count ≡ slots_for indices }
+    requires indices { option_map ends_of indices ≡ type_indices v.now.kind }
+    requires count { count ≡ slots_for (option_map ends_of indices) }
     ensures { OnOk result (slots.new ≡ slots.old ++ spec.slots_of words.now v.now) }
 {
     match indices {
         None => add_slot(alloc, v, None, words, slots),
-        Some(ends) => add_elements(alloc, v, &ends, count, words, slots),
+        Some(range) => add_elements(alloc, v, range, count, words, slots),
     }
 }
 
 // Where a variable is, whose slots begin at this one.
-fn place(v: &Var, indices: Option<(i64, i64)>, first: u32) -> Result<Placed, AllocError>
-    requires indices { indices ≡ type_indices v.now.kind }
-    requires within { first + slots_for indices ≤ 4096 }
-    ensures { IfOk result (λ p. spec.placed_variable (v.now.name.text, p) ≡ variable_from first v.now) }
+fn place(v: &Var, indices: Option<Range>, first: u32) -> Result<VariableSlots, AllocError>
+    requires { option_map ends_of indices ≡ type_indices v.now.kind }
+    ensures { IfOk result (λ p. variable_of v.now.name.text p ≡ variable_from first v.now) }
 {
     let range = numbers_of(element_of(&v.kind))?;
-    Ok(Placed {
+    Ok(VariableSlots {
         indices,
-        range: (range.lo, range.hi),
+        range,
         is_truth: is_truth(element_of(&v.kind)),
         first,
     })
@@ -270,7 +256,7 @@ fn place(v: &Var, indices: Option<(i64, i64)>, first: u32) -> Result<Placed, All
 
 // Whether a name is that of a variable.
 fn is_known(name: &Name, variables: &VariableTable) -> bool
-    ensures { result ≡ spec.is_known (spec.placed_variables (entries variables.now)) name.now.text }
+    ensures { result ≡ spec.is_known (variables_of (entries variables.now)) name.now.text }
 {
     variables.contains_key(name.text.as_slice())
 }
@@ -278,12 +264,12 @@ fn is_known(name: &Name, variables: &VariableTable) -> bool
 // A variable whose name is new.
 fn enter<'a>(
     name: &'a Name,
-    placed: Placed,
+    placed: VariableSlots,
     variables: &mut VariableTable<'a>,
 ) -> Result<(), AllocError>
-    requires { spec.is_known (spec.placed_variables (entries variables.old)) name.now.text ≡ false }
-    ensures { OnOk result (spec.placed_variables (entries variables.new) ≡
-        spec.placed_variables (entries variables.old) ++ spec.placed_variable (name.now.text, placed) ∷ []) }
+    requires { spec.is_known (variables_of (entries variables.old)) name.now.text ≡ false }
+    ensures { OnOk result (variables_of (entries variables.new) ≡
+        variables_of (entries variables.old) ++ variable_of name.now.text placed ∷ []) }
 {
     variables.insert(name.text.as_slice(), placed)?;
     Ok(())
@@ -293,15 +279,15 @@ fn enter<'a>(
 fn lay_new<'a>(
     alloc: Global,
     v: &'a Var,
-    indices: Option<(i64, i64)>,
+    indices: Option<Range>,
     count: u64,
     words: &WordTable,
     layout: &mut Layout<'a>,
 ) -> Result<(), AllocError>
     requires counted { spec.IsCounted layout.old }
     requires new { spec.is_known (spec.variables_in layout.old) v.now.name.text ≡ false }
-    requires indices { indices ≡ type_indices v.now.kind }
-    requires count { count ≡ slots_for indices }
+    requires indices { option_map ends_of indices ≡ type_indices v.now.kind }
+    requires count { count ≡ slots_for (option_map ends_of indices) }
     requires fits { length layout.old.slots + count ≤ spec.most_slots }
     ensures { OnOk result (spec.Laid words.now layout.old layout.new (v.now ∷ [])) }
 {
@@ -435,6 +421,7 @@ pub fn lay_out<'a>(
     parts: &'a [Part],
     words: &WordTable,
 ) -> Result<Laying<'a>, AllocError>
+    requires { spec.DeclaredNear parts.now }
     ensures { IfOk result (λ laying. spec.IsLaying words.now laying parts.now) }
 {
     let mut layout = Layout {

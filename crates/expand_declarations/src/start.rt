@@ -1,19 +1,20 @@
 //! Start values.
 
-ghost use Rattle.std.specs.Prelude.{◌≡◌, ◌∷◌, ◌++◌, ◌+◌, ◌<◌, ◌≤◌, ◌≤ℤ◌, ◌-ℤ◌, pos, Some, map, unwrap_or, IfOk, OnOk};
+ghost use Rattle.std.specs.Prelude.{◌≡◌, ◌++◌, ◌+◌, ◌<◌, ◌≤◌, ◌≤ℤ◌, ◌-ℤ◌, ◌^◌, Some, option_map, unwrap_or};
+ghost use Rattle.std.specs.Prelude.{IfOk, OnOk};
 ghost use Rattle.std.specs.Map.{lookup};
 ghost use Rattle.std.specs.Str.{bytes_eq};
 ghost use Rattle.unity_meaning.specs.Names.{natural, number_of, or_zero, slot_at, slot_named};
 ghost use Rattle.unity_meaning.specs.Value.{range_size};
 ghost use Rattle.name_scopes.specs.Scope.{entries};
 ghost use Rattle.name_scopes.specs.Declarations.{some_of};
-ghost use Rattle.expand_declarations.specs.Slots.{placed_variables};
+ghost use Rattle.expand_expressions.specs.Places.{HasSlots, ends_of, variables_of};
+ghost use Rattle.expand_declarations.specs.Slots.{HaveSlots};
 ghost use Rattle.expand_declarations.specs.Start as spec;
 
-use crate::enumerations::ValueTable;
-use crate::layout::VariableTable;
 use crate::numbers::literal;
-use crate::placed::Placed;
+use core_terms::Range;
+use expand_expressions::{ValueTable, VariableSlots, VariableTable, find_variable};
 use std::alloc::{AllocError, Global};
 use unity_base::Seq;
 use unity_syntax::{Init, InitValue, Name};
@@ -38,69 +39,62 @@ fn distance(low: i64, high: i64, index: i64) -> u128
 }
 
 // The slot of an array at an index.
-fn element_slot(first: u32, low: i64, high: i64, index: i64) -> Option<u32>
-    requires { first + range_size (low, high) ≤ 4096 }
-    ensures { result ≡ slot_at first (Some (low, high)) (Some index) }
+fn element_slot(first: u32, range: Range, index: i64) -> Option<u32>
+    requires { first + range_size (ends_of range) ≤ 2 ^ 32 }
+    ensures { result ≡ slot_at first (Some (ends_of range)) (Some index) }
 {
-    if low <= index && index <= high {
-        Some(first + distance(low, high, index) as u32)
+    if range.lo <= index && index <= range.hi {
+        Some(first + distance(range.lo, range.hi, index) as u32)
     } else {
         None
     }
 }
 
-/// The slot of a variable: at an index, where it is an array; `None` exactly where it has none there.
-pub fn placed_slot(placed: Placed, index: Option<i64>) -> Option<u32>
-    ensures { result ≡ slot_at placed.first placed.indices index }
+// The slot of a variable: at an index, where it is an array; `None` exactly where it has none there.
+fn placed_slot(placed: VariableSlots, index: Option<i64>) -> Option<u32>
+    requires { HasSlots placed }
+    ensures { result ≡ slot_at placed.first (option_map ends_of placed.indices) index }
 {
     match (placed.indices, index) {
         (None, None) => Some(placed.first),
         (None, Some(_)) => None,
         (Some(_), None) => None,
-        (Some((low, high)), Some(index)) => element_slot(placed.first, low, high, index),
+        (Some(range), Some(index)) => element_slot(placed.first, range, index),
     }
 }
 
-/// The variable with a name.
-pub fn find_variable(name: &Name, variables: &VariableTable) -> Option<Placed>
-    ensures { result ≡ lookup (bytes_eq name.now.text) (entries variables.now) }
-{
-    variables.get(name.text.as_slice()).copied()
-}
-
 fn slot_of(name: &Name, index: Option<i64>, variables: &VariableTable) -> u32
-    ensures { result ≡ unwrap_or (slot_named name.now.text index (placed_variables (entries variables.now))) 0 }
+    requires { HaveSlots (entries variables.now) }
+    ensures { result ≡ unwrap_or (slot_named name.now.text index (variables_of (entries variables.now))) 0 }
 {
-    match find_variable(name, variables) {
+    match find_variable(variables, name) {
         None => 0,
         Some(placed) => placed_slot(placed, index).unwrap_or(0),
     }
 }
 
 fn start_slot(init: &Init, variables: &VariableTable) -> Result<u32, AllocError>
-    ensures { IfOk result (λ slot. slot ≡ spec.start_slot (placed_variables (entries variables.now)) init.now) }
+    requires { HaveSlots (entries variables.now) }
+    ensures { IfOk result (λ slot. slot ≡ spec.start_slot (variables_of (entries variables.now)) init.now) }
 {
     let index = index_of(&init.index)?;
     Ok(slot_of(&init.name, index, variables))
 }
 
-fn find_word(name: &Name, values: &ValueTable) -> Option<u64>
+fn find_word(name: &Name, values: &ValueTable) -> Option<i64>
     ensures { result ≡ lookup (bytes_eq name.now.text) (entries values.now) }
 {
     values.get(name.text.as_slice()).copied()
 }
 
-fn word_value(name: &Name, values: &ValueTable) -> u64
-    ensures { pos result ≡ or_zero (number_of name.now.text (spec.numbered_words (entries values.now))) }
+fn word_value(name: &Name, values: &ValueTable) -> i64
+    ensures { result ≡ or_zero (number_of name.now.text (entries values.now)) }
 {
-    match find_word(name, values) {
-        None => 0,
-        Some(number) => number,
-    }
+    find_word(name, values).unwrap_or(0)
 }
 
 fn start_number(value: &InitValue, values: &ValueTable) -> Result<i64, AllocError>
-    ensures { IfOk result (λ z. z ≡ spec.start_number (spec.numbered_words (entries values.now)) value.now) }
+    ensures { IfOk result (λ z. z ≡ spec.start_number (entries values.now) value.now) }
 {
     match value {
         InitValue::Number {
@@ -108,7 +102,7 @@ fn start_number(value: &InitValue, values: &ValueTable) -> Result<i64, AllocErro
             minus,
             number,
         } => literal(*minus, *number),
-        InitValue::Word { at: _, name } => literal(false, word_value(name, values)),
+        InitValue::Word { at: _, name } => Ok(word_value(name, values)),
         InitValue::True { at: _ } => Ok(1),
         InitValue::False { at: _ } => Ok(0),
     }
@@ -119,8 +113,9 @@ fn start_entry(
     variables: &VariableTable,
     values: &ValueTable,
 ) -> Result<(u32, i64), AllocError>
-    ensures { IfOk result (λ e. e ≡ spec.start_entry (placed_variables (entries variables.now))
-        (spec.numbered_words (entries values.now)) init.now) }
+    requires { HaveSlots (entries variables.now) }
+    ensures { IfOk result (λ e. e ≡ spec.start_entry (variables_of (entries variables.now))
+        (entries values.now) init.now) }
 {
     let slot = start_slot(init, variables)?;
     let number = start_number(&init.value, values)?;
@@ -133,9 +128,10 @@ fn add_entries(
     values: &ValueTable,
     start: &mut Seq<(u32, i64)>,
 ) -> Result<(), AllocError>
+    requires { HaveSlots (entries variables.now) }
     ensures { OnOk result (start.new ≡ start.old ++
-        spec.start_values (placed_variables (entries variables.now))
-        (spec.numbered_words (entries values.now)) inits.now) }
+        spec.start_values (variables_of (entries variables.now))
+        (entries values.now) inits.now) }
 {
     for init in inits {
         start.push(start_entry(init, variables, values)?)?;
@@ -152,8 +148,9 @@ pub fn start_values(
     variables: &VariableTable,
     values: &ValueTable,
 ) -> Result<Seq<(u32, i64)>, AllocError>
-    ensures { IfOk result (λ start. start ≡ spec.start_values (placed_variables (entries variables.now))
-        (spec.numbered_words (entries values.now)) (some_of inits.now)) }
+    requires { HaveSlots (entries variables.now) }
+    ensures { IfOk result (λ start. start ≡ spec.start_values (variables_of (entries variables.now))
+        (entries values.now) (some_of inits.now)) }
 {
     let mut start = Seq::new(alloc);
     match inits {

@@ -1,9 +1,9 @@
-use Rattle.std.proofs.Common.{drop, ◌+◌}
+use Rattle.std.proofs.Common.{◌≡◌, drop, ◌+◌}
 use Rattle.unity_meaning.specs.Setting.{with_places}
 use Rattle.name_scopes.specs.Scope.{entries}
-use Rattle.expand_declarations.proofs.StartLaws.{WordsAhead}
+use Rattle.expand_declarations.specs.Start.{with_words}
 use Rattle.expand_declarations.proofs.enumerations.add_further.Given as goal
 
 abbrev pub invariant-loop-i : goal.invariant-loop-i
-invariant-loop-i l = WordsAhead (entries l.values) (with_places (l.i + 1) (drop l.i l.names))
-    (entries l.initial.values) (with_places 1 l.names)
+invariant-loop-i l = with_words (entries l.values) (with_places (l.i + 1) (drop l.i l.names))
+    ≡ with_words (entries l.initial.values) (with_places 1 l.names)

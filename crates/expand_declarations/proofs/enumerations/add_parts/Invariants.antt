@@ -1,9 +1,8 @@
-use Rattle.std.proofs.Common.{drop}
+use Rattle.std.proofs.Common.{◌≡◌, drop}
 use Rattle.name_scopes.specs.Scope.{entries}
-use Rattle.expand_declarations.specs.Start.{enumeration_words}
-use Rattle.expand_declarations.proofs.StartLaws.{WordsAhead}
+use Rattle.expand_declarations.specs.Start.{enumeration_words, with_words}
 use Rattle.expand_declarations.proofs.enumerations.add_parts.Given as goal
 
 abbrev pub invariant-loop-part : goal.invariant-loop-part
-invariant-loop-part l = WordsAhead (entries l.values) (enumeration_words (drop l.part-index l.parts))
-    (entries l.initial.values) (enumeration_words l.parts)
+invariant-loop-part l = with_words (entries l.values) (enumeration_words (drop l.part-index l.parts))
+    ≡ with_words (entries l.initial.values) (enumeration_words l.parts)

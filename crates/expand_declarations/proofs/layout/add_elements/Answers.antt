@@ -4,7 +4,7 @@ use Rattle.expand_declarations.proofs.LayoutLaws.{element_slots-step}
 use Rattle.expand_declarations.proofs.layout.add_elements.Goals as goal
 
 pub loop-k-preserved : goal.loop-k-preserved
-loop-k-preserved c = let words = c.args.words.now in let v = c.args.v.now in let low = c.args.ends.now.0 in
+loop-k-preserved c = let words = c.args.words.now in let v = c.args.v.now in let low = c.args.range.lo in
     let k = c.loop-k.k in let count = c.args.count in
     ap (λ slots. slots ++ element_slots words v (low +ℤ pos (k + 1)) (count - (k + 1)))
     (c.in_ok-add_slot.ensures ∙ ap (λ index. c.loop-k.slots ++ slot_at words v index ∷ []) c.index_in.ensures)

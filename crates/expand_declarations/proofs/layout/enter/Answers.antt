@@ -1,10 +1,10 @@
 use Rattle.std.proofs.Common.{ap, ◌∙◌}
 use Rattle.name_scopes.specs.Scope.{seen_entries}
-use Rattle.expand_declarations.specs.Slots.{placed_variables}
+use Rattle.expand_expressions.specs.Places.{variables_of}
 use Rattle.expand_declarations.proofs.LayoutLaws.{entered}
 use Rattle.expand_declarations.proofs.layout.enter.Goals as goal
 
 pub returns : goal.returns
-returns c = ap (λ es. placed_variables (seen_entries es)) c.in_ok-insert.ensures.entries
+returns c = ap (λ es. variables_of (seen_entries es)) c.in_ok-insert.ensures.entries
     ∙ entered c.args.variables.now.entries c.as_slice.result c.args.name.now.text
     c.args.placed c.as_slice.ensures c.requires

@@ -1,13 +1,10 @@
-use Rattle.std.proofs.Common.{◌∙◌, ap, ℕ, Option, pos}
+use Rattle.std.proofs.Common.{◌≡◌, ◌∙◌, ap, pos, rules, to_z, of_z, w64}
 use Rattle.std.specs.Prelude.{unwrap_or}
 use Rattle.name_scopes.specs.Scope.{entries}
-use Rattle.expand_declarations.proofs.StartLaws.{number_of-found}
+use Rattle.expand_declarations.proofs.StartLaws.{number-found}
 use Rattle.expand_declarations.proofs.start.word_value.Goals as goal
 
-pub returns-in-None : goal.returns-in-None
-returns-in-None c = ap (λ (n : Option ℕ). pos (unwrap_or n 0)) c.in-None.ensures
-    ∙ number_of-found (entries c.args.values.now) c.args.name.now.text
-
-pub returns-in-Some : goal.returns-in-Some
-returns-in-Some c = ap (λ (n : Option ℕ). pos (unwrap_or n 0)) c.in-Some.ensures
-    ∙ number_of-found (entries c.args.values.now) c.args.name.now.text
+pub returns : goal.returns
+returns c = let z = c.unwrap_or.result in let number : to_z w64 (of_z w64 z) ≡ z = search rules in
+    number ∙ c.unwrap_or.ensures ∙ ap (λ y. unwrap_or y (pos 0)) c.find_word.ensures
+    ∙ number-found (entries c.args.values.now) c.args.name.now.text
