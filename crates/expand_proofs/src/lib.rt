@@ -1,0 +1,9 @@
+//! Proofs in core form.
+#![tactic(auto)]
+
+mod formulas;
+mod steps;
+mod terms;
+
+pub use formulas::{formed, formula, is_too_large, metric};
+pub use steps::{core_proof, core_step};
