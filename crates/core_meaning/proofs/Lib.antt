@@ -1,0 +1,11 @@
+pub mod Sights
+pub mod Faultless
+pub mod ExactPrograms
+pub mod Pairs
+pub mod Matching
+pub mod Meaning
+pub mod Claims
+pub mod Arguments
+pub mod Proofs
+pub mod Terms
+pub mod References

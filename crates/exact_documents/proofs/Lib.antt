@@ -1,0 +1,4 @@
+pub mod Standing
+pub mod Sights
+pub mod Statements
+pub mod Formulas

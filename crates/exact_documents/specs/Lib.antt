@@ -1,0 +1,4 @@
+pub mod Parts
+pub mod ByNames
+pub mod Formulas
+pub mod Seen
