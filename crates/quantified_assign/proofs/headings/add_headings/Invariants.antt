@@ -1,0 +1,10 @@
+use Rattle.std.proofs.Common.{drop}
+use Rattle.name_scopes.specs.Scope.{entries}
+use Rattle.expand_always.specs.AlwaysNames.{definition_scope}
+use Rattle.quantified_assign.proofs.HeadingLaws.{HeadingsAhead}
+use Rattle.quantified_assign.proofs.headings.add_headings.Given as goal
+
+abbrev pub invariant-loop-i : goal.invariant-loop-i
+invariant-loop-i l =
+    HeadingsAhead (definition_scope (entries l.variables) (entries l.values) (entries l.always)) l.i (drop l.i l.parts)
+    (definition_scope (entries l.variables) (entries l.values) (entries l.initial.always)) l.parts
