@@ -1,0 +1,10 @@
+pub mod StatementConditions
+pub mod WordConditions
+pub mod ProgramConditions
+pub mod SizeConditions
+pub mod ProofConditions
+pub mod NamedConditions
+pub mod ShownConditions
+pub mod TermConditions
+pub mod StepConditions
+pub mod ArgumentConditions

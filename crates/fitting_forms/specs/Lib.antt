@@ -1,0 +1,10 @@
+pub mod Naming
+pub mod NamingLaws
+pub mod Fitting
+pub mod FittingLaws
+pub mod Visible
+pub mod Programs
+pub mod Placing
+pub mod DocumentLaws
+pub mod ShowingLaws
+pub mod StepLaws
