@@ -1,3 +1,4 @@
 pub mod Writing
 pub mod TraceLaws
 pub mod TraceTheorems
+pub mod TraceAnswers

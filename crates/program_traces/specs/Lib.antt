@@ -1,0 +1,3 @@
+pub mod Programs
+pub mod Errors
+pub mod Answers

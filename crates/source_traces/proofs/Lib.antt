@@ -1,0 +1,11 @@
+pub mod Lists
+pub mod Labels
+pub mod Slots
+pub mod Written
+pub mod Pairs
+pub mod Standing
+pub mod Names
+pub mod Texts
+pub mod Finding
+pub mod Runs
+pub mod Replays
