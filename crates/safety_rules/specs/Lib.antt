@@ -1,5 +1,7 @@
-pub mod CoreOf
-pub mod Precondition
-pub mod StepForms
-pub mod StartState
-pub mod Follows
+pub mod Answers
+pub mod Errors
+pub mod Goals
+pub mod Instances
+pub mod Premises
+pub mod Sound
+pub mod Usable

@@ -1,10 +1,22 @@
-//! The obligations of a small document's two steps, and the check of their certificates.
+//! The calls by which steps follow from a program's text and from earlier steps.
 #![tactic(auto)]
 
-mod core_of;
-mod following;
-mod start_state;
-mod step_rules;
-mod wp_substitution;
+mod concluding;
+mod definedness;
+mod instances;
+mod instancing;
+mod pairs;
+mod places;
+mod premises;
+mod recording;
+mod texts;
+mod weakening;
 
-pub use following::{accepted_documents, follows};
+pub use concluding::{add_goal, conclude};
+pub use definedness::defined_rule;
+pub use instancing::{instance, instance_in};
+pub use pairs::pair_rule;
+pub use places::{Derived, Place, RuleError};
+pub use recording::{Claim, copied_helper, is_same, some_helper};
+pub use texts::{add_unless, after, invariant_rule, unless_rule, using_and};
+pub use weakening::{is_ensures, is_unless, weaken_rule};

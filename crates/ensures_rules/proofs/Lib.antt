@@ -1,0 +1,4 @@
+pub mod AgreeLaws
+pub mod FilterLaws
+pub mod JoinLaws
+pub mod NameLaws

@@ -1,0 +1,31 @@
+-- The statement that helps: its indices, one by one.
+use Rattle.std.specs.Prelude.{nat_eq, ℤ, Bool, true, false, ◌&&◌, List, [], ◌∷◌, length}
+use Rattle.state_steps.specs.State.{int_eq}
+use Rattle.core_terms.specs.Folding.{zero_form, difference_term}
+use Rattle.core_terms.specs.Replacing.{shifted}
+use Rattle.core_terms.specs.declared.trees.CForm.{CForm}
+use Rattle.core_terms.specs.declared.trees.CTerm.TheVariants.{Const}
+use Rattle.core_terms.specs.declared.documents.Arg.{Arg}
+use Rattle.core_terms.specs.declared.documents.Helper.{Helper}
+use Rattle.core_terms.specs.declared.programs.CStmt.{CStmt}
+use Rattle.proof_rules.specs.Table.{agree}
+
+-- an index may be this number
+abbrev pub agrees : Arg → ℤ → Bool
+agrees (Arg.Number k) z = int_eq k z
+agrees (Arg.Param n add) z = true
+agrees Arg.Slot z = false
+
+-- the statement may be the one that is meant
+abbrev pub may_mean : Helper → CStmt → Bool
+may_mean h s = nat_eq s.label h.label && agree h.args s.indices
+
+-- it has the label, and as many indices
+abbrev pub has_place : Helper → CStmt → Bool
+has_place h s = nat_eq s.label h.label && nat_eq (length s.indices) (length h.args)
+
+-- that an index is this number, where it names a parameter
+abbrev pub equation_of : Arg → ℤ → List CForm
+equation_of (Arg.Number k) z = []
+equation_of (Arg.Param n add) z = zero_form (difference_term (shifted n add) (Const z)) ∷ []
+equation_of Arg.Slot z = []

@@ -1,0 +1,2 @@
+pub mod Foldable
+pub mod Helpers

@@ -1,0 +1,11 @@
+use Rattle.std.proofs.Common.{take}
+use Rattle.core_terms.specs.declared.programs.CStmt.{CStmt}
+use Rattle.wp_substitution.specs.Preconditions.{defined_form}
+use Rattle.proof_rules.specs.Forms.{imply}
+use Rattle.safety_rules.proofs.AnswerLaws.{AddedFor}
+use Rattle.safety_rules.proofs.definedness.add_defined.Given as goal
+
+abbrev pub invariant-loop-s : goal.invariant-loop-s
+invariant-loop-s l =
+    AddedFor l.pl.slots.now l.pl.params.now (λ (s : CStmt). imply l.pl.using.now (defined_form l.pl.slots.now s))
+    (take l.s-index l.s-items) l.initial.goals l.goals

@@ -1,0 +1,18 @@
+use Rattle.std.proofs.Common.{ap, ◌∙◌}
+use Rattle.std.proofs.lemmas.Result.{IfOk-weaker}
+use Rattle.proof_rules.specs.Forms.{imply}
+use Rattle.safety_rules.specs.Premises.{implied_by}
+use Rattle.safety_rules.proofs.UsableLaws.{all_usable, all_light, imply-is}
+use Rattle.safety_rules.proofs.definedness.where_defined.Goals as goal
+
+pub joined-requires : goal.joined-requires
+joined-requires c =
+    all_light c.args.pl.now.slots.now c.args.pl.now.params.now c.args.pl.now.using.now
+    (all_usable c.args.pl.now.slots.now c.args.pl.now.params.now c.args.pl.now.using.now c.requires.place.using)
+
+pub returns : goal.returns
+returns c =
+    let tree = ap (λ w. implied_by w c.in_ok-form.form) c.in_ok-using.ensures.whole
+    ∙ imply-is c.args.pl.now.using.now c.in_ok-form.form
+    ∙ ap (imply c.args.pl.now.using.now) (c.in_ok-form.ensures ∙ c.in_ok-defined.ensures.tree) in
+    IfOk-weaker c.imply.result _ _ (λ f h. h ∙ tree) c.imply.ensures.tree

@@ -1,0 +1,163 @@
+// Implications, whose premises are joined one after the other.
+ghost use Rattle.std.specs.Prelude.{◌≡◌, ◌^◌, ◌≤◌, IfOk, OnOk, Some, None, All, max};
+ghost use Rattle.core_terms.specs.Weights.{plain_weight};
+ghost use Rattle.core_terms.specs.Folding as fold;
+ghost use Rattle.wp_substitution.specs.Joined.{joined_with, joined_all, IsLight};
+ghost use Rattle.safety_rules.specs.Premises.{implied_by, AreLight};
+
+use core_terms::{CForm, and_form, copy_form, held_form, not_form, or_form};
+use std::alloc::{AllocError, Global};
+use unity_base::Held;
+
+// Joins one formula more.
+pub(crate) fn add(
+    alloc: Global,
+    whole: &mut Option<Held<CForm>>,
+    f: Held<CForm>,
+) -> Result<(), AllocError>
+    requires light { AreLight whole.old }
+    requires formula { plain_weight f ≤ 2 ^ 62 }
+    ensures whole { OnOk result (whole.new ≡ Some (joined_with whole.old f)) }
+    ensures light { OnOk result (AreLight whole.new) }
+{
+    let joined = join(alloc, whole.take(), f)?;
+    *whole = Some(joined);
+    Ok(())
+}
+
+// A formula after the others.
+fn join(
+    alloc: Global,
+    whole: Option<Held<CForm>>,
+    f: Held<CForm>,
+) -> Result<Held<CForm>, AllocError>
+    requires light { AreLight whole }
+    requires formula { plain_weight f ≤ 2 ^ 62 }
+    ensures tree { IfOk result (λ g. g ≡ joined_with whole f) }
+    ensures light { IfOk result (λ g. plain_weight g ≤ 2 ^ 62) }
+{
+    match whole {
+        Some(g) => Held::new(alloc, and_form(alloc, g.into_inner(), f.into_inner())?),
+        None => Ok(f),
+    }
+}
+
+// Joins a copy of a formula.
+pub(crate) fn add_copy(
+    alloc: Global,
+    whole: &mut Option<Held<CForm>>,
+    f: &CForm,
+) -> Result<(), AllocError>
+    requires light { AreLight whole.old }
+    requires formula { plain_weight f.now ≤ 2 ^ 62 }
+    ensures whole { OnOk result (whole.new ≡ Some (joined_with whole.old f.now)) }
+    ensures light { OnOk result (AreLight whole.new) }
+{
+    let more = held_form(alloc, f)?;
+    add(alloc, whole, more)
+}
+
+// Joins that a formula does not hold.
+pub(crate) fn add_not(
+    alloc: Global,
+    whole: &mut Option<Held<CForm>>,
+    f: &CForm,
+) -> Result<(), AllocError>
+    requires light { AreLight whole.old }
+    requires formula { plain_weight f.now ≤ 2 ^ 62 }
+    ensures whole { OnOk result (whole.new ≡ Some (joined_with whole.old (fold.not_form f.now))) }
+    ensures light { OnOk result (AreLight whole.new) }
+{
+    let other = Held::new(alloc, not_form(alloc, copy_form(alloc, f)?)?)?;
+    add(alloc, whole, other)
+}
+
+// All formulas of a list, joined.
+pub(crate) fn joined(alloc: Global, forms: &[CForm]) -> Result<Option<Held<CForm>>, AllocError>
+    requires { All IsLight forms.now }
+    ensures whole { IfOk result (λ whole. whole ≡ joined_all None forms.now) }
+    ensures light { IfOk result AreLight }
+{
+    let mut whole = None;
+    for f in forms {
+        add_copy(alloc, &mut whole, f)?;
+    }
+    Ok(whole)
+}
+
+// Where the premises hold, so does the formula.
+pub(crate) fn imply(
+    alloc: Global,
+    whole: Option<Held<CForm>>,
+    q: Held<CForm>,
+) -> Result<CForm, AllocError>
+    requires light { AreLight whole }
+    requires formula { plain_weight q ≤ 2 ^ 125 }
+    ensures tree { IfOk result (λ f. f ≡ implied_by whole q) }
+    ensures light { plain_weight q ≤ 2 ^ 62 → IfOk result IsLight }
+{
+    match whole {
+        Some(f) => {
+            let other = Held::new(alloc, not_form(alloc, f.into_inner())?)?;
+            or_form(alloc, other.into_inner(), q.into_inner())
+        }
+        None => Ok(q.into_inner()),
+    }
+}
+
+// That one of two formulas holds.
+pub(crate) fn either(alloc: Global, p: &CForm, q: &CForm) -> Result<Held<CForm>, AllocError>
+    requires { max (plain_weight p.now) (plain_weight q.now) ≤ 2 ^ 62 }
+    ensures tree { IfOk result (λ f. f ≡ fold.or_form p.now q.now) }
+    ensures light { IfOk result (λ f. plain_weight f ≤ 2 ^ 62) }
+{
+    let first = held_form(alloc, p)?;
+    let second = held_form(alloc, q)?;
+    Held::new(
+        alloc,
+        or_form(alloc, first.into_inner(), second.into_inner())?,
+    )
+}
+
+// That two formulas hold.
+pub(crate) fn both(alloc: Global, p: &CForm, q: &CForm) -> Result<Held<CForm>, AllocError>
+    requires { max (plain_weight p.now) (plain_weight q.now) ≤ 2 ^ 62 }
+    ensures tree { IfOk result (λ f. f ≡ fold.and_form p.now q.now) }
+    ensures light { IfOk result (λ f. plain_weight f ≤ 2 ^ 62) }
+{
+    let first = held_form(alloc, p)?;
+    let second = held_form(alloc, q)?;
+    Held::new(
+        alloc,
+        and_form(alloc, first.into_inner(), second.into_inner())?,
+    )
+}
+
+// That the first formula does not hold, and the second does.
+pub(crate) fn second_alone(alloc: Global, p: &CForm, q: &CForm) -> Result<Held<CForm>, AllocError>
+    requires { max (plain_weight p.now) (plain_weight q.now) ≤ 2 ^ 62 }
+    ensures tree { IfOk result (λ f. f ≡ fold.and_form (fold.not_form p.now) q.now) }
+    ensures light { IfOk result (λ f. plain_weight f ≤ 2 ^ 62) }
+{
+    let other = Held::new(alloc, not_form(alloc, copy_form(alloc, p)?)?)?;
+    both(alloc, other.get(), q)
+}
+
+// That one of three formulas holds.
+pub(crate) fn one_of_three(
+    alloc: Global,
+    first: Held<CForm>,
+    second: Held<CForm>,
+    third: Held<CForm>,
+) -> Result<Held<CForm>, AllocError>
+    requires first { plain_weight first ≤ 2 ^ 62 }
+    requires second { plain_weight second ≤ 2 ^ 62 }
+    requires third { plain_weight third ≤ 2 ^ 62 }
+    ensures { IfOk result (λ f. f ≡ fold.or_form (fold.or_form first second) third) }
+{
+    let two = Held::new(
+        alloc,
+        or_form(alloc, first.into_inner(), second.into_inner())?,
+    )?;
+    Held::new(alloc, or_form(alloc, two.into_inner(), third.into_inner())?)
+}

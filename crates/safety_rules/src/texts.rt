@@ -1,0 +1,188 @@
+// What follows from a program's text.
+ghost use Rattle.std.specs.Prelude.{◌≡◌, ◌++◌, ◌∷◌, [], IfOk, All, map};
+ghost use Rattle.core_terms.specs.Conditions.{FormFits, StatementFits};
+ghost use Rattle.wp_substitution.specs.Preconditions.{defined_form, wp_form};
+ghost use Rattle.proof_rules.specs.Forms as formula;
+ghost use Rattle.proof_rules.specs.Table as table;
+ghost use Rattle.safety_rules.specs.Answers.{site_of, IsPlace, Answers};
+ghost use Rattle.safety_rules.specs.Goals.{Added};
+ghost use Rattle.safety_rules.specs.Sound.{StandsWhereShown};
+ghost use Rattle.safety_rules.specs.Usable.{IsUsable};
+
+use crate::concluding::{add_goal, conclude};
+use crate::places::{Derived, Place, RuleError};
+use crate::premises::{either, imply, joined};
+use crate::recording::Claim;
+use case_tables::Kind;
+use core_terms::{CForm, CStmt, copy_form, copy_forms, held_form, not_form};
+use obligations::Obligation;
+use std::alloc::{AllocError, Global};
+use unity_base::{Held, Seq};
+use wp_substitution::wp;
+
+/// The formula, where U holds.
+///
+/// An error says that memory was refused.
+pub fn after(alloc: Global, pl: &Place, q: &CForm) -> Result<Held<CForm>, AllocError>
+    requires place { IsPlace pl.now }
+    requires q { IsUsable pl.now.slots.now pl.now.params.now q.now }
+    ensures tree { IfOk result (λ f. f ≡ formula.imply pl.now.using.now q.now) }
+    ensures usable { IfOk result (IsUsable pl.now.slots.now pl.now.params.now) }
+{
+    let using = joined(alloc, pl.using)?;
+    let q = held_form(alloc, q)?;
+    Held::new(alloc, imply(alloc, using, q)?)
+}
+
+// Where the premises hold, the step of the statement is defined and gives q, where U holds after it.
+fn kept(
+    alloc: Global,
+    pl: &Place,
+    premises: &[CForm],
+    q: &CForm,
+    s: &CStmt,
+) -> Result<CForm, AllocError>
+    requires place { IsPlace pl.now }
+    requires premises { All (IsUsable pl.now.slots.now pl.now.params.now) premises.now }
+    requires q { IsUsable pl.now.slots.now pl.now.params.now q.now }
+    requires statement { StatementFits pl.now.slots.now s.now }
+    ensures { IfOk result (λ f. f ≡ formula.imply premises.now
+        (wp_form pl.now.slots.now s.now (formula.imply pl.now.using.now q.now))) }
+{
+    let after = after(alloc, pl, q)?;
+    let before = Held::new(alloc, wp(alloc, s, after.get(), pl.slots)?)?;
+    let premises = joined(alloc, premises)?;
+    imply(alloc, premises, before)
+}
+
+// The obligations of each statement: where the premises hold, it keeps q.
+fn add_kept(
+    alloc: Global,
+    pl: &Place,
+    premises: &[CForm],
+    q: &CForm,
+    goals: &mut Seq<Obligation>,
+) -> Result<(), RuleError>
+    requires place { IsPlace pl.now }
+    requires premises { All (IsUsable pl.now.slots.now pl.now.params.now) premises.now }
+    requires q { IsUsable pl.now.slots.now pl.now.params.now q.now }
+    ensures { Added result goals.old goals.new pl.now.slots.now pl.now.params.now
+        (map (λ s. formula.imply premises.now (wp_form pl.now.slots.now s (formula.imply pl.now.using.now q.now)))
+        pl.now.program.now.statements) }
+{
+    for s in pl.program.statements.as_slice() {
+        let form = kept(alloc, pl, premises, q, s)?;
+        add_goal(alloc, pl, goals, form)?;
+    }
+    Ok(())
+}
+
+/// U and p.
+///
+/// An error says that memory was refused.
+pub fn using_and(alloc: Global, pl: &Place, p: &CForm) -> Result<Seq<CForm>, AllocError>
+    ensures { IfOk result (λ all. all ≡ pl.now.using.now ++ p.now ∷ []) }
+{
+    let mut all = copy_forms(alloc, pl.using)?;
+    all.push(copy_form(alloc, p)?)?;
+    Ok(all)
+}
+
+/// Adds the obligations of `p unless q`, one for each statement.
+///
+/// The fault is 42: one is too large.
+pub fn add_unless(
+    alloc: Global,
+    pl: &Place,
+    p: &CForm,
+    q: &CForm,
+    goals: &mut Seq<Obligation>,
+) -> Result<(), RuleError>
+    requires place { IsPlace pl.now }
+    requires p { FormFits pl.now.slots.now pl.now.params.now p.now }
+    requires q { FormFits pl.now.slots.now pl.now.params.now q.now }
+    ensures { Added result goals.old goals.new pl.now.slots.now pl.now.params.now
+        (table.unless_forms (site_of pl.now) p.now q.now) }
+{
+    let mut premises = using_and(alloc, pl, p)?;
+    premises.push(not_form(alloc, copy_form(alloc, q)?)?)?;
+    let either = either(alloc, p, q)?;
+    add_kept(alloc, pl, premises.as_slice(), either.get(), goals)
+}
+
+/// `p unless q` by the program's text: each statement, where p holds and q does not, keeps p or gives q
+/// (chapter 3 of the book), where U holds before and after it (this profile).
+///
+/// The fault is 42: p, q or an obligation is too large.
+pub fn unless_rule(alloc: Global, pl: &Place, p: &CForm, q: &CForm) -> Result<Derived, RuleError>
+    requires place { IsPlace pl.now }
+    requires p { FormFits pl.now.slots.now pl.now.params.now p.now }
+    requires q { FormFits pl.now.slots.now pl.now.params.now q.now }
+    ensures answer { Answers result pl.now.slots.now (table.unless_of (site_of pl.now) p.now q.now) }
+    ensures sound { StandsWhereShown pl.now result }
+{
+    let mut goals = Seq::new(alloc);
+    add_unless(alloc, pl, p, q, &mut goals)?;
+    let claim = Claim {
+        kind: Kind::Unless,
+        p: held_form(alloc, p)?,
+        q: held_form(alloc, q)?,
+        first: &[],
+        second: &[],
+        helper: None,
+    };
+    conclude(alloc, pl, claim, goals)
+}
+
+// The obligations of `invariant p`: the initially section gives it, and each statement keeps it.
+fn add_invariant(
+    alloc: Global,
+    pl: &Place,
+    p: &CForm,
+    goals: &mut Seq<Obligation>,
+) -> Result<(), RuleError>
+    requires place { IsPlace pl.now }
+    requires p { FormFits pl.now.slots.now pl.now.params.now p.now }
+    ensures { Added result goals.old goals.new pl.now.slots.now pl.now.params.now
+        (table.invariant_forms (site_of pl.now) p.now) }
+{
+    let first = starts(alloc, pl, p)?;
+    add_goal(alloc, pl, goals, first)?;
+    let premises = using_and(alloc, pl, p)?;
+    add_kept(alloc, pl, premises.as_slice(), p, goals)
+}
+
+// Where U and the initially section hold, so does p.
+fn starts(alloc: Global, pl: &Place, p: &CForm) -> Result<CForm, AllocError>
+    requires place { IsPlace pl.now }
+    requires p { FormFits pl.now.slots.now pl.now.params.now p.now }
+    ensures { IfOk result (λ f. f ≡ formula.imply (pl.now.using.now ++ pl.now.program.now.initially ∷ []) p.now) }
+{
+    let premises = using_and(alloc, pl, &pl.program.initially)?;
+    let whole = joined(alloc, premises.as_slice())?;
+    let p = held_form(alloc, p)?;
+    imply(alloc, whole, p)
+}
+
+/// `invariant p` by the program's text: p holds at first, and each statement keeps it (chapter 3 of the
+/// book), where U holds (this profile).
+///
+/// The fault is 42: p or an obligation is too large.
+pub fn invariant_rule(alloc: Global, pl: &Place, p: &CForm) -> Result<Derived, RuleError>
+    requires place { IsPlace pl.now }
+    requires p { FormFits pl.now.slots.now pl.now.params.now p.now }
+    ensures answer { Answers result pl.now.slots.now (table.invariant_of (site_of pl.now) p.now) }
+    ensures sound { StandsWhereShown pl.now result }
+{
+    let mut goals = Seq::new(alloc);
+    add_invariant(alloc, pl, p, &mut goals)?;
+    let claim = Claim {
+        kind: Kind::Invariant,
+        p: held_form(alloc, p)?,
+        q: Held::new(alloc, CForm::Bottom)?,
+        first: &[],
+        second: &[],
+        helper: None,
+    };
+    conclude(alloc, pl, claim, goals)
+}

@@ -1,6 +1,0 @@
-pub mod Answers
-pub mod Errors
-pub mod Goals
-pub mod Premises
-pub mod Sound
-pub mod Usable

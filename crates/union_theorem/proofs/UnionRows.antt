@@ -1,0 +1,67 @@
+-- The rows of unions, each as one equation, and that what they give stands.
+use Rattle.std.proofs.Common.{◌≡◌, Bool, ◌&&◌, ◌||◌, ◌++◌, None, Result, refl}
+use Rattle.case_tables.specs.declared.kind_table.Kind.{Kind}
+use Rattle.case_tables.specs.declared.code_table.Code.{Code}
+use Rattle.core_terms.specs.Trees.{same_form}
+use Rattle.core_terms.specs.declared.trees.CForm.TheVariants.{Top, Bottom}
+use Rattle.fair_rounds.specs.declared.records.Record.{Record}
+use Rattle.proof_rules.specs.Conclusion.{Conclusion}
+use Rattle.proof_rules.specs.Table.{Site, needs, record_of, concluded, shown_forms, is_part_pair, is_unless, is_ensures}
+use Rattle.proof_rules.specs.Table.{is_defined, is_invariant, first_helper, ending, union_unless_of, union_ensures_of}
+use Rattle.proof_rules.specs.Table.{union_invariant_of, union_defined_of}
+
+-- what a union concludes, once its conditions are met
+abbrev pub united_unless : Site → Record → Record → Result Conclusion Code
+united_unless site a b =
+    concluded site.slots site.params (record_of site Kind.Unless a.p a.q (a.under ++ b.under) None)
+    (shown_forms site a b)
+
+abbrev pub united_ensures : Site → Record → Record → Result Conclusion Code
+united_ensures site a b =
+    concluded site.slots site.params (record_of site Kind.Ensures a.p a.q (a.under ++ b.under) (first_helper a b))
+    (shown_forms site a b)
+
+abbrev pub united_invariant : Site → Record → Record → Result Conclusion Code
+united_invariant site a b =
+    concluded site.slots site.params (record_of site Kind.Invariant a.p Bottom (a.under ++ b.under) None)
+    (shown_forms site a b)
+
+abbrev pub united_defined : Site → Record → Record → Result Conclusion Code
+united_defined site a b =
+    concluded site.slots site.params (record_of site Kind.Defined Top Top (a.under ++ b.under) None)
+    (shown_forms site a b)
+
+-- whether one is of one kind and the other an unless
+abbrev pub one_ensures : Record → Record → Bool
+one_ensures a b = (is_ensures a.kind && is_unless b.kind) || (is_unless a.kind && is_ensures b.kind)
+
+abbrev pub one_invariant : Record → Record → Bool
+one_invariant a b = (is_invariant a.kind && is_unless b.kind) || (is_unless a.kind && is_invariant b.kind)
+
+pub union_unless-is : (site : Site) (a b : Record) → union_unless_of site a b ≡
+    needs (is_part_pair site a b) Code.OtherProgram
+    (needs (is_unless a.kind && is_unless b.kind) Code.WrongKind
+    (needs (same_form a.p b.p && same_form a.q b.q) Code.MiddleDiffers (united_unless site a b)))
+unfolding union_unless_of
+union_unless-is site a b = refl
+
+pub union_ensures-is : (site : Site) (a b : Record) → union_ensures_of site a b ≡
+    needs (is_part_pair site a b) Code.OtherProgram
+    (needs (one_ensures a b) Code.WrongKind
+    (needs (same_form a.p b.p && same_form a.q b.q) Code.MiddleDiffers (united_ensures site a b)))
+unfolding union_ensures_of
+union_ensures-is site a b = refl
+
+pub union_invariant-is : (site : Site) (a b : Record) → union_invariant_of site a b ≡
+    needs (is_part_pair site a b) Code.OtherProgram
+    (needs (one_invariant a b) Code.WrongKind
+    (needs (same_form a.p b.p && same_form (ending a b) Bottom) Code.MiddleDiffers (united_invariant site a b)))
+unfolding union_invariant_of
+union_invariant-is site a b = refl
+
+pub union_defined-is : (site : Site) (starts : Bool) (a b : Record) → union_defined_of site starts a b ≡
+    needs (is_part_pair site a b) Code.OtherProgram
+    (needs (is_defined a.kind && is_defined b.kind) Code.WrongKind
+    (needs starts Code.NoStart (united_defined site a b)))
+unfolding union_defined_of
+union_defined-is site starts a b = refl
