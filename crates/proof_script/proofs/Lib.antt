@@ -1,0 +1,9 @@
+pub mod BookLaws
+pub mod Checkable
+pub mod Equations
+pub mod GoodLaws
+pub mod HelperLaws
+pub mod LoopLaws
+pub mod RuleLaws
+pub mod UsingLaws
+pub mod VerdictLaws

@@ -1,0 +1,270 @@
+-- What a verdict says of the walk along the steps.
+use Rattle.std.proofs.Common.{◌≡◌, ℕ, zero, suc, ◌+◌, ◌<◌, ◌≤◌, nat_lt, List, [], ◌∷◌, ◌++◌, map, length, slice_get}
+use Rattle.std.proofs.Common.{Bool, true, false, cond, Option, Some, None, Result, Ok, Err, refl, sym, ap, ◌∙◌, subst}
+use Rattle.std.proofs.Common.{arith}
+use Rattle.std.proofs.lemmas.List.{length-map}
+use Rattle.case_tables.specs.declared.code_table.Code.{Code}
+use Rattle.core_terms.specs.declared.programs.CSlot.{CSlot}
+use Rattle.core_terms.specs.declared.programs.CProgram.{CProgram}
+use Rattle.core_terms.specs.declared.documents.CStep.{CStep}
+use Rattle.core_terms.specs.declared.documents.CProof.{CProof}
+use Rattle.core_terms.specs.declared.documents.CDocument.{CDocument}
+use Rattle.obligations.specs.declared.branches.Obligation.{Obligation}
+use Rattle.obligations.specs.declared.certificates.Cert.{Cert}
+use Rattle.obligations.specs.Opening.{Valid, first_branch}
+use Rattle.certificate_check.specs.Refutation.{Reading, at_level, judged}
+use Rattle.certificate_check.specs.Trees.{is_whole}
+use Rattle.certificate_check.proofs.RefutationLaws.{sound}
+use Rattle.certificate_check.proofs.WholeLaws.{whole-walks}
+use Rattle.proof_rules.specs.Conclusion.{Conclusion}
+use Rattle.proof_rules.specs.Validity.{Goal, goal_obligation, AllValid}
+use Rattle.proof_rules.specs.Table.{needs}
+use Rattle.proof_rules.specs.Walk as walk
+use Rattle.proof_rules.specs.Walk.{Failure, has_defined, or_failure, further, rule_of, planned, steps_of, proof_end}
+use Rattle.proof_rules.specs.Walk.{program_of, proof_steps, proofs_of}
+use Rattle.proof_rules.proofs.EachLaws.{from_all, each_at}
+use Rattle.proof_rules.proofs.GoalLaws.{goal_shown}
+use Rattle.proof_rules.proofs.SiteLaws.{met}
+use Rattle.proof_rules.proofs.WalkTheorems.{walk_sound}
+use Rattle.safety_rules.specs.Answers.{obligations_of, derived_of}
+use Rattle.proof_script.specs.declared.plans.Plan.{Plan}
+use Rattle.proof_script.specs.Giving.{AreWhole}
+use Rattle.proof_script.specs.Laws.{plan_of, AcceptedFollows, AcceptedHolds}
+use Rattle.proof_script.specs.Verdicts.{starts_in, or_rule_fault, failing_node, failing, or_refutation_fault}
+use Rattle.proof_script.specs.Verdicts.{refuted_by, grown, taken, step_verdict, steps_verdict, end_verdict}
+use Rattle.proof_script.specs.Verdicts.{proof_verdict, proofs_verdict, surplus_fault, last_verdict, no_plan}
+use Rattle.proof_script.proofs.Equations.{refuted-more, taken-is, step-is, steps-none, steps-more}
+use Rattle.proof_script.proofs.LoopLaws.{rule_passed}
+use Rattle.proof_script.proofs.Equations.{proofs-none, proofs-more, then_so}
+
+-- obligations that are refuted are valid
+
+-- no node of the certificate fails
+refutes : (o : Obligation) (cert : Cert) → is_whole cert.nodes 1 ≡ true → (r : Reading) → judged o cert.nodes ≡ r →
+    failing_node r ≡ None → Valid o
+refutes o cert whole (Ok ps) e none =
+    let left : ps ≡ [] =
+    whole-walks o.variables cert.nodes (at_level 1 (first_branch o) ∷ []) ps 0 whole e in
+    sound o cert.nodes (e ∙ ap (λ qs. Ok qs) left)
+refutes o cert whole (Err failure) e none = cc
+
+below : {X : Type 0} (xs : List X) (n : ℕ) (x : X) → slice_get xs n ≡ Some x → n < length xs
+below [] n x e = cc
+below (y ∷ xs) zero x e = omega arith
+below (y ∷ xs) (suc n) x e = let h = below xs n x e in omega (arith, h)
+
+one_valid : (certs : List Cert) → AreWhole certs → (o : Obligation) (number : ℕ) (found : Option Cert) →
+    slice_get certs number ≡ found → failing o found ≡ None → Valid o × (number < length certs)
+one_valid certs whole o number None e none = cc
+one_valid certs whole o number (Some cert) e none = (
+  refutes o cert
+      (each_at (λ (c : Cert). is_whole c.nodes 1 ≡ true) certs
+      (from_all (λ (c : Cert). is_whole c.nodes 1 ≡ true) certs whole) number cert e)
+      (judged o cert.nodes) refl none,
+  below certs number cert e,
+)
+
+no_fault : (program step number : ℕ) (code : Option Code) (done : Unit {0}) →
+    or_refutation_fault program step number code ≡ Ok done → code ≡ None
+no_fault program step number None done e = refl
+no_fault program step number (Some code) done e = cc
+
+refuted_valid : (slots : List CSlot) (certs : List Cert) → AreWhole certs → (program step number : ℕ)
+    (goals : List Goal) (done : Unit {0}) → number ≤ length certs →
+    refuted_by certs program step number (obligations_of slots goals) ≡ Ok done →
+    AllValid slots goals × (number + length goals ≤ length certs)
+refuted_valid slots certs whole program step number [] done less e = (tt, omega arith)
+refuted_valid slots certs whole program step number (g ∷ goals) done less e =
+    let o : Obligation = goal_obligation slots g.params g.form in
+    let parts = then_so (or_refutation_fault program step number (failing o (slice_get certs number)))
+    (λ (x : Unit {0}). refuted_by certs program step (suc number) (obligations_of slots goals)) done
+    (sym (refuted-more certs program step number o (obligations_of slots goals)) ∙ e) in
+    let one = one_valid certs whole o number (slice_get certs number) refl
+    (no_fault program step number (failing o (slice_get certs number)) parts.0 parts.1) in
+    let first : Valid o = one.0 in
+    let there : number < length certs = one.1 in
+    let rest = refuted_valid slots certs whole program step (suc number) goals done (omega (arith, there)) parts.2 in
+    let all : suc number + length goals ≤ length certs = rest.1 in
+    ((goal_shown slots g.params g.form first, rest.0), omega (arith, all))
+
+-- the plans of verdict and walk
+
+obligations_join : (slots : List CSlot) (gs hs : List Goal) →
+    obligations_of slots gs ++ obligations_of slots hs ≡ obligations_of slots (gs ++ hs)
+obligations_join slots [] hs = refl
+obligations_join slots (g ∷ gs) hs =
+    ap (λ (os : List Obligation). goal_obligation slots g.params g.form ∷ os) (obligations_join slots gs hs)
+
+same_owners : (slots : List CSlot) (place : ℕ) (gs : List Goal) →
+    map (λ (o : Obligation). place) (obligations_of slots gs) ≡ map (λ (g : Goal). place) gs
+same_owners slots place [] = refl
+same_owners slots place (g ∷ gs) = ap (λ (ns : List ℕ). place ∷ ns) (same_owners slots place gs)
+
+grown_is : (slots : List CSlot) (w : walk.Plan) (x : Conclusion) →
+    grown (plan_of slots w) (derived_of slots x) ≡ plan_of slots (planned w x)
+grown_is slots w x =
+    ap (λ (os : List Obligation). record {
+      records = w.records ++ x.made ∷ [];
+      obligations = os;
+      owner = w.owner ++ map (λ (o : Obligation). length w.records) (obligations_of slots x.goals);
+    }) (obligations_join slots w.goals x.goals)
+    ∙ ap (λ (ns : List ℕ). record {
+      records = w.records ++ x.made ∷ [];
+      obligations = obligations_of slots (w.goals ++ x.goals);
+      owner = w.owner ++ ns;
+    }) (same_owners slots (length w.records) x.goals)
+
+valid_join : (slots : List CSlot) (gs hs : List Goal) → AllValid slots gs → AllValid slots hs →
+    AllValid slots (gs ++ hs)
+valid_join slots [] hs v u = u
+valid_join slots (g ∷ gs) hs v u = (v.0, valid_join slots gs hs v.1 u)
+
+length-join : (gs hs : List Goal) → length (gs ++ hs) ≡ length gs + length hs
+length-join [] hs = omega arith
+length-join (g ∷ gs) hs = let e = length-join gs hs in omega (arith, e)
+
+-- what was taken so far is shown, each obligation by a certificate
+record Shown (slots : List CSlot) (certs : List Cert) (w : walk.Plan) : Type 0 where
+  valid : AllValid slots w.goals
+  certified : length w.goals ≤ length certs
+
+-- the walk gives the plan
+record Went (slots : List CSlot) (certs : List Cert) (walked : Result walk.Plan Failure) (plan : Plan) : Type 0 where
+  steps : walk.Plan
+  is : walked ≡ Ok steps
+  same : plan ≡ plan_of slots steps
+  shown : Shown slots certs steps
+
+module _ (slots : List CSlot) (certs : List Cert) (whole : AreWhole certs) where
+  abbrev starts : CProgram → Bool
+  starts = starts_in slots
+
+  taken_shown : (program step : ℕ) (w : walk.Plan) (x : Conclusion) (plan : Plan) → Shown slots certs w →
+      taken certs program step (plan_of slots w) (derived_of slots x) ≡ Ok plan →
+      (plan ≡ plan_of slots (planned w x)) × Shown slots certs (planned w x)
+  taken_shown program step w x plan shown e =
+      let many : length (obligations_of slots w.goals) ≡ length w.goals = length-map w.goals _ in
+      let few : length w.goals ≤ length certs = shown.certified in
+      let parts = then_so
+      (refuted_by certs program step (length (obligations_of slots w.goals)) (obligations_of slots x.goals))
+      (λ (done : Unit {0}). Ok (grown (plan_of slots w) (derived_of slots x))) plan
+      (sym (taken-is certs program step (plan_of slots w) (derived_of slots x)) ∙ e) in
+      let given = refuted_valid slots certs whole program step (length (obligations_of slots w.goals)) x.goals
+      parts.0 (omega (arith, many, few)) parts.1 in
+      let all : length (obligations_of slots w.goals) + length x.goals ≤ length certs = given.1 in
+      let sum = length-join w.goals x.goals in
+      let made : grown (plan_of slots w) (derived_of slots x) ≡ plan = cc (parts.2) in (
+        sym made ∙ grown_is slots w x,
+        record {
+          valid = valid_join slots w.goals x.goals shown.valid given.0;
+          certified = omega (arith, all, sum, many);
+        },
+      )
+
+  steps_shown : (c : CProgram) (steps : List CStep) (w : walk.Plan) (plan : Plan) → Shown slots certs w →
+      steps_verdict slots certs c steps (plan_of slots w) ≡ Ok plan →
+      Went slots certs (steps_of slots starts c steps w) plan
+  steps_shown c [] w plan shown e =
+      let same : plan_of slots w ≡ plan = cc (sym (steps-none slots certs c (plan_of slots w)) ∙ e) in
+      record { steps = w; is = refl; same = sym same; shown = shown }
+  steps_shown c (s ∷ rest) w plan shown e =
+      let parts = then_so (step_verdict slots certs c s (plan_of slots w)) (steps_verdict slots certs c rest) plan
+      (sym (steps-more slots certs c s rest (plan_of slots w)) ∙ e) in
+      let step = then_so
+      (or_rule_fault c.name (Some s.name) (rule_of slots starts c s w.records)) (λ (x : Conclusion).
+      taken certs c.name s.name (plan_of slots w) (derived_of slots x)) parts.0
+      (sym (step-is slots certs c s (plan_of slots w)) ∙ parts.1) in
+      let x : Conclusion = step.0 in
+      let ruled : rule_of slots starts c s w.records ≡ Ok x =
+      rule_passed c.name (Some s.name) (rule_of slots starts c s w.records) x step.1 in
+      let next = taken_shown c.name s.name w x parts.0 shown step.2 in
+      let more = steps_shown c rest (planned w x) plan next.1
+      (subst (λ (p : Plan). steps_verdict slots certs c rest p ≡ Ok plan) next.0 parts.2) in
+      record {
+        steps = more.steps;
+        is = ap (λ (r : Result Conclusion Code). further (or_failure c.name (Some s.name) r) (λ y.
+            steps_of slots starts c rest (planned w y))) ruled
+            ∙ more.is;
+        same = more.same;
+        shown = more.shown;
+      }
+
+  proof_shown : (found : Option CProgram) (proof : CProof) (w : walk.Plan) (plan : Plan) → Shown slots certs w →
+      proof_verdict slots certs found proof (plan_of slots w) ≡ Ok plan →
+      Went slots certs (proof_steps slots starts found proof w) plan
+  proof_shown None proof w plan shown e =
+      let same : plan_of slots w ≡ plan = cc in
+      record { steps = w; is = refl; same = sym same; shown = shown }
+  proof_shown (Some c) proof w plan shown e =
+      let parts = then_so (steps_verdict slots certs c proof.steps (plan_of slots w)) (end_verdict c) plan e in
+      let went = steps_shown c proof.steps w parts.0 shown parts.1 in
+      let v : walk.Plan = went.steps in
+      let ends : end_verdict c (plan_of slots v) ≡ Ok plan =
+      subst (λ (p : Plan). end_verdict c p ≡ Ok plan) went.same parts.2 in
+      let passed = met (has_defined c.name v.records) Code.DefinedMissing (Ok (plan_of slots v)) plan
+      (rule_passed c.name None (needs (has_defined c.name v.records) Code.DefinedMissing (Ok (plan_of slots v))) plan
+      ends) in
+      let same : plan_of slots v ≡ plan = cc (passed.1) in
+      record {
+        steps = v;
+        is = ap (λ (r : Result walk.Plan Failure). further r (proof_end c)) went.is
+            ∙ ap (λ (b : Bool). or_failure c.name None (needs b Code.DefinedMissing (Ok v))) passed.0;
+        same = sym same;
+        shown = went.shown;
+      }
+
+  proofs_shown : (d : CDocument) → d.slots ≡ slots → (proofs : List CProof) (w : walk.Plan) (plan : Plan) →
+      Shown slots certs w → proofs_verdict slots certs d.programs proofs (plan_of slots w) ≡ Ok plan →
+      Went slots certs (proofs_of d starts proofs w) plan
+  proofs_shown d at [] w plan shown e =
+      let same : plan_of slots w ≡ plan = cc (sym (proofs-none slots certs d.programs (plan_of slots w)) ∙ e) in
+      record { steps = w; is = refl; same = sym same; shown = shown }
+  proofs_shown d at (proof ∷ rest) w plan shown e =
+      let found : Option CProgram = program_of d.programs proof.program in
+      let parts = then_so (proof_verdict slots certs found proof (plan_of slots w))
+      (proofs_verdict slots certs d.programs rest) plan
+      (sym (proofs-more slots certs d.programs proof rest (plan_of slots w)) ∙ e) in
+      let went = proof_shown found proof w parts.0 shown parts.1 in
+      let more = proofs_shown d at rest went.steps plan went.shown
+      (subst (λ (p : Plan). proofs_verdict slots certs d.programs rest p ≡ Ok plan) went.same parts.2) in
+      record {
+        steps = more.steps;
+        is = ap (λ (ss : List CSlot). further (proof_steps ss starts found proof w) (proofs_of d starts rest)) at
+            ∙ ap (λ (r : Result walk.Plan Failure). further r (proofs_of d starts rest)) went.is
+            ∙ more.is;
+        same = more.same;
+        shown = more.shown;
+      }
+
+last_so : (certs : List Cert) (plan last : Plan) (b : Bool) → nat_lt (length plan.obligations) (length certs) ≡ b →
+    cond b (Err (surplus_fault (length plan.obligations))) (Ok plan) ≡ Ok last →
+    (plan ≡ last) × (length certs ≤ length plan.obligations)
+last_so certs plan last true e h = cc
+last_so certs plan last false e h = (cc, grind arith)
+
+pub accepted_follows : AcceptedFollows
+accepted_follows d certs plan whole e =
+    let first : walk.Plan = record { records = []; goals = []; owner = [] } in
+    let parts = then_so (proofs_verdict d.slots certs d.programs d.proofs no_plan) (last_verdict certs) plan e in
+    let went = proofs_shown d.slots certs whole d refl d.proofs first parts.0
+    (record { valid = tt; certified = omega arith }) parts.1 in
+    let last = last_so certs parts.0 plan (nat_lt (length parts.0.obligations) (length certs)) refl parts.2 in
+    let enough : length certs ≤ length parts.0.obligations = last.1 in
+    let many : length (obligations_of d.slots went.steps.goals) ≡ length went.steps.goals =
+    length-map went.steps.goals _ in
+    let same : length parts.0.obligations ≡ length (obligations_of d.slots went.steps.goals) =
+    ap (λ (p : Plan). length p.obligations) went.same in
+    let few : length went.steps.goals ≤ length certs = went.shown.certified in
+    record {
+      steps = went.steps;
+      walked = went.is;
+      planned = sym last.0 ∙ went.same;
+      valid = went.shown.valid;
+      certified = omega (arith, enough, many, same, few);
+    }
+
+pub accepted_holds : AcceptedHolds
+accepted_holds d certs plan good whole e place a c there named =
+    let f = accepted_follows d certs plan whole e in
+    walk_sound d good (starts_in d.slots) f.steps f.walked f.valid place a c
+    (ap (λ (p : Plan). slice_get p.records place) (sym f.planned) ∙ there) named

@@ -1,0 +1,50 @@
+use Rattle.std.proofs.Common.{◌≡◌, List, Some, Result, Ok, Err, subst, sym}
+use Rattle.core_terms.specs.declared.programs.CSlot.{CSlot}
+use Rattle.core_terms.specs.declared.programs.CProgram.{CProgram}
+use Rattle.core_terms.specs.declared.documents.CStep.{CStep}
+use Rattle.fair_rounds.specs.declared.records.Record.{Record}
+use Rattle.proof_rules.specs.Walk.{rule_of}
+use Rattle.safety_rules.specs.declared.places.RuleError.{RuleError}
+use Rattle.safety_rules.specs.Answers.{Answers}
+use Rattle.proof_script.specs.declared.plans.Plan.{Plan}
+use Rattle.proof_script.specs.declared.plans.ScriptError.{ScriptError}
+use Rattle.proof_script.specs.declared.plans.StepFault.{StepFault}
+use Rattle.proof_script.specs.Giving.{Goes}
+use Rattle.proof_rules.specs.Conclusion.{Conclusion}
+use Rattle.proof_script.specs.Using.{BookFits}
+use Rattle.proof_script.specs.Verdicts.{starts_in, rule_fault, step_verdict}
+use Rattle.proof_script.proofs.RuleLaws.{good_step, given_checkable, step_taken, step_fails}
+use Rattle.proof_script.proofs.walking.take_step.Goals as goal
+
+pub take_derived-requires-clause-checkable : goal.take_derived-requires-clause-checkable
+take_derived-requires-clause-checkable c =
+    let slots : List CSlot = c.args.slots.now in
+    let book : List Record = c.as_slice.result.now in
+    given_checkable c.in-Ok.derived slots (rule_of slots (starts_in slots) c.args.program.now c.args.step.now book)
+    (λ (x : Conclusion) e. (good_step slots c.args.program.now c.args.step.now book c.requires.built c.requires.step
+    (subst (λ (rs : List Record). BookFits slots rs) (sym c.as_slice.ensures) c.requires.book) x e).0) c.in-Ok.ensures
+
+pub returns-in-Ok : goal.returns-in-Ok
+returns-in-Ok c =
+    let slots : List CSlot = c.args.slots.now in
+    let p : CProgram = c.args.program.now in
+    let s : CStep = c.args.step.now in
+    subst (λ (v : Result Plan StepFault). Goes c.take_derived.result c.take_derived.new.plan v)
+    (sym (step_taken slots c.args.certs.now p s c.args.plan.now c.in-Ok.derived
+    (subst (λ (book : List Record). Answers (Ok c.in-Ok.derived) slots (rule_of slots (starts_in slots) p s book))
+    c.as_slice.ensures c.in-Ok.ensures))) c.take_derived.ensures
+
+pub returns-in-Err-Fault : goal.returns-in-Err-Fault
+returns-in-Err-Fault c =
+    let slots : List CSlot = c.args.slots.now in
+    let p : CProgram = c.args.program.now in
+    let s : CStep = c.args.step.now in
+    let verdict : Result Plan StepFault = step_verdict slots c.args.certs.now p s c.args.plan.now in
+    let made : c.fault.result ≡ ScriptError.Step (rule_fault p.name (Some s.name) c.in-Err-Fault.code) =
+    cc (c.fault.ensures, c.in-Err-Fault.code-is) in
+    subst (λ (e : ScriptError). Goes {T = Unit {0}} (Err e) c.args.plan.now verdict) (sym made)
+    (step_fails slots c.args.certs.now p s c.args.plan.now c.in-Err-Fault.code
+    (subst (λ (book : List Record). Answers (Err (RuleError.Fault c.in-Err-Fault.code)) slots
+    (rule_of slots (starts_in slots) p s book)) c.as_slice.ensures
+    (subst (λ (e : RuleError). Answers (Err e) slots
+    (rule_of slots (starts_in slots) p s c.as_slice.result.now)) c.in-Err-Fault.field-0-is c.in-Err-Fault.ensures)))

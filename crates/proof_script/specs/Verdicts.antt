@@ -1,0 +1,131 @@
+-- The verdict on a document's proofs: the plan of all steps, where each obligation is refuted by the certificate of
+-- its number, or the first failure.
+use Rattle.std.specs.Prelude.{ℕ, suc, ◌+◌, nat_lt, Bool, cond, List, [], ◌∷◌, ◌++◌, map, length, slice_get}
+use Rattle.std.specs.Prelude.{Option, Some, None, Result, Ok, Err}
+use Rattle.case_tables.specs.declared.code_table.Code.{Code}
+use Rattle.core_terms.specs.declared.programs.CSlot.{CSlot}
+use Rattle.core_terms.specs.declared.programs.CProgram.{CProgram}
+use Rattle.core_terms.specs.declared.documents.CStep.{CStep}
+use Rattle.core_terms.specs.declared.documents.CProof.{CProof}
+use Rattle.core_terms.specs.declared.documents.CDocument.{CDocument}
+use Rattle.core_terms.specs.Values.{form_value}
+use Rattle.obligations.specs.declared.branches.Obligation.{Obligation}
+use Rattle.obligations.specs.declared.certificates.Cert.{Cert}
+use Rattle.certificate_check.specs.Refutation.{Reading, judged}
+use Rattle.executor.specs.StartState.{start_state}
+use Rattle.proof_rules.specs.Table.{needs}
+use Rattle.proof_rules.specs.Walk.{has_defined, program_of, rule_of}
+use Rattle.safety_rules.specs.declared.places.Derived.{Derived}
+use Rattle.safety_rules.specs.Answers.{derived_of}
+use Rattle.proof_script.specs.declared.plans.Plan.{Plan}
+use Rattle.proof_script.specs.declared.plans.StepFault.{StepFault}
+
+-- whether the start state of a program meets its initially section
+abbrev pub starts_in : List CSlot → CProgram → Bool
+starts_in slots c = form_value (start_state slots c) [] c.initially
+
+abbrev pub then_by : {A B : Type 0} → Result A StepFault → (A → Result B StepFault) → Result B StepFault
+then_by (Ok x) f = f x
+then_by (Err fault) f = Err fault
+
+-- a condition of a rule fails, or at a proof's end its `defined` step is missing
+abbrev pub rule_fault : ℕ → Option ℕ → Code → StepFault
+rule_fault program step code = record {
+  code = code;
+  program = Some program;
+  step = step;
+  obligation = None;
+}
+
+abbrev pub or_rule_fault : {A : Type 0} → ℕ → Option ℕ → Result A Code → Result A StepFault
+or_rule_fault program step (Ok x) = Ok x
+or_rule_fault program step (Err code) = Err (rule_fault program step code)
+
+-- how a certificate fails against an obligation
+abbrev pub failing_node : Reading → Option Code
+failing_node (Ok ps) = None
+failing_node (Err e) = Some e.0
+
+abbrev pub failing : Obligation → Option Cert → Option Code
+failing o None = Some Code.CertMissing
+failing o (Some cert) = failing_node (judged o cert.nodes)
+
+-- the obligation with this number, from 0, is not refuted
+abbrev pub refutation_fault : ℕ → ℕ → ℕ → Code → StepFault
+refutation_fault program step number code = record {
+  code = code;
+  program = Some program;
+  step = Some step;
+  obligation = Some (number + 1);
+}
+
+abbrev pub or_refutation_fault : ℕ → ℕ → ℕ → Option Code → Result (Unit {0}) StepFault
+or_refutation_fault program step number None = Ok tt
+or_refutation_fault program step number (Some code) = Err (refutation_fault program step number code)
+
+-- each obligation, from this number on, against the certificate of its number
+unfoldable pub refuted_by : List Cert → ℕ → ℕ → ℕ → List Obligation → Result (Unit {0}) StepFault
+refuted_by certs program step number [] = Ok tt
+refuted_by certs program step number (o ∷ os) =
+    then_by (or_refutation_fault program step number (failing o (slice_get certs number))) (λ done.
+    refuted_by certs program step (suc number) os)
+
+-- a step's record and obligations, after those before
+abbrev pub grown : Plan → Derived → Plan
+grown plan d = record {
+  records = plan.records ++ d.made ∷ [];
+  obligations = plan.obligations ++ d.obligations;
+  owner = plan.owner ++ map (λ o. length plan.records) d.obligations;
+}
+
+-- the obligations of a step after its rule
+unfoldable pub taken : List Cert → ℕ → ℕ → Plan → Derived → Result Plan StepFault
+taken certs program step plan d =
+    then_by (refuted_by certs program step (length plan.obligations) d.obligations) (λ done. Ok (grown plan d))
+
+-- a step: its rule, and then its obligations
+unfoldable pub step_verdict : List CSlot → List Cert → CProgram → CStep → Plan → Result Plan StepFault
+step_verdict slots certs c s plan =
+    then_by (or_rule_fault c.name (Some s.name) (rule_of slots (starts_in slots) c s plan.records)) (λ x.
+    taken certs c.name s.name plan (derived_of slots x))
+
+unfoldable pub steps_verdict : List CSlot → List Cert → CProgram → List CStep → Plan → Result Plan StepFault
+steps_verdict slots certs c [] plan = Ok plan
+steps_verdict slots certs c (s ∷ rest) plan =
+    then_by (step_verdict slots certs c s plan) (steps_verdict slots certs c rest)
+
+-- a proof has a `defined` step
+abbrev pub end_verdict : CProgram → Plan → Result Plan StepFault
+end_verdict c plan =
+    or_rule_fault c.name None (needs (has_defined c.name plan.records) Code.DefinedMissing (Ok plan))
+
+abbrev pub proof_verdict : List CSlot → List Cert → Option CProgram → CProof → Plan → Result Plan StepFault
+proof_verdict slots certs None proof plan = Ok plan
+proof_verdict slots certs (Some c) proof plan = then_by (steps_verdict slots certs c proof.steps plan) (end_verdict c)
+
+unfoldable pub proofs_verdict : List CSlot → List Cert → List CProgram → List CProof → Plan → Result Plan StepFault
+proofs_verdict slots certs programs [] plan = Ok plan
+proofs_verdict slots certs programs (proof ∷ rest) plan =
+    then_by (proof_verdict slots certs (program_of programs proof.program) proof plan)
+    (proofs_verdict slots certs programs rest)
+
+-- more certificates than obligations, which are so many
+abbrev pub surplus_fault : ℕ → StepFault
+surplus_fault number = record {
+  code = Code.CertSurplus;
+  program = None;
+  step = None;
+  obligation = Some (number + 1);
+}
+
+-- no certificate is left
+abbrev pub last_verdict : List Cert → Plan → Result Plan StepFault
+last_verdict certs plan =
+    cond (nat_lt (length plan.obligations) (length certs)) (Err (surplus_fault (length plan.obligations))) (Ok plan)
+
+abbrev pub no_plan : Plan
+no_plan = record { records = []; obligations = []; owner = [] }
+
+-- the whole document
+abbrev pub verdict_of : CDocument → List Cert → Result Plan StepFault
+verdict_of d certs = then_by (proofs_verdict d.slots certs d.programs d.proofs no_plan) (last_verdict certs)

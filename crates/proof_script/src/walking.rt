@@ -1,0 +1,182 @@
+// The steps of proofs, one after the other.
+ghost use Rattle.std.specs.Prelude.{◌≡◌, ◌+◌, ◌<◌, ◌^◌, All, length, map, sum, true, Some};
+ghost use Rattle.std.specs.List.{list_all};
+ghost use Rattle.core_terms.specs.Conditions.{IsDocument, IsProgram, IsSlot, IsStep};
+ghost use Rattle.core_terms.specs.declared.documents.CProof.{CProof};
+ghost use Rattle.proof_rules.specs.Walk.{program_of};
+ghost use Rattle.proof_script.specs.Built.{is_built, is_built_step};
+ghost use Rattle.proof_script.specs.Giving.{AreWhole, Goes, IsCheckable};
+ghost use Rattle.proof_script.specs.Using.{BookFits};
+ghost use Rattle.proof_script.specs.Verdicts.{proof_verdict, proofs_verdict, rule_fault, step_verdict, steps_verdict};
+ghost use Rattle.proof_script.specs.Verdicts.{taken};
+
+use crate::adding::add;
+use crate::built::find_program;
+use crate::kinds::has_defined;
+use crate::plans::{Plan, ScriptError, StepFault};
+use crate::refuting::{StepName, refute_all};
+use crate::ruling::ruled;
+use case_tables::Code;
+use core_terms::{CDocument, CProgram, CProof, CSlot, CStep};
+use obligations::Cert;
+use safety_rules::{Derived, RuleError};
+use std::alloc::Global;
+use unity_base::Held;
+
+// A condition of a rule fails, or at a proof's end its `defined` step is missing.
+fn fault(program: u32, step: Option<u32>, code: Code) -> ScriptError
+    ensures { result ≡ ScriptError.Step (rule_fault program step code) }
+{
+    ScriptError::Step(StepFault {
+        code,
+        program: Some(program),
+        step,
+        obligation: None,
+    })
+}
+
+// The obligations of a step, and then the step is taken.
+fn take_derived(
+    alloc: Global,
+    certs: &[Cert],
+    name: StepName,
+    derived: Held<Derived>,
+    plan: &mut Plan,
+) -> Result<(), ScriptError>
+    requires whole { AreWhole certs.now }
+    requires checkable { All IsCheckable derived.obligations }
+    requires room { length plan.old.records < 2 ^ 31 }
+    ensures { Goes result plan.new (taken certs.now name.program name.step plan.old derived) }
+{
+    let first = plan.obligations.as_slice().len();
+    let obligations = derived.get().obligations.as_slice();
+    refute_all(alloc, certs, name, first, obligations)?;
+    add(alloc, derived, plan)?;
+    Ok(())
+}
+
+// One step: its rule, and then its obligations.
+fn take_step(
+    alloc: Global,
+    slots: &[CSlot],
+    certs: &[Cert],
+    program: &CProgram,
+    step: &CStep,
+    plan: &mut Plan,
+) -> Result<(), ScriptError>
+    requires slots { All IsSlot slots.now }
+    requires program { IsProgram slots.now program.now }
+    requires step { IsStep slots.now step.now }
+    requires built { is_built_step step.now ≡ true }
+    requires whole { AreWhole certs.now }
+    requires book { BookFits slots.now plan.old.records }
+    requires room { length plan.old.records < 2 ^ 31 }
+    ensures { Goes result plan.new (step_verdict slots.now certs.now program.now step.now plan.old) }
+{
+    match ruled(alloc, slots, program, step, plan.records.as_slice()) {
+        Ok(derived) => {
+            let name = StepName {
+                program: program.name,
+                step: step.name,
+            };
+            take_derived(alloc, certs, name, derived, plan)
+        }
+        Err(RuleError::Fault(code)) => Err(fault(program.name, Some(step.name), code)),
+        Err(RuleError::Memory) => Err(ScriptError::Memory),
+    }
+}
+
+// The steps of a proof, in order.
+fn take_steps(
+    alloc: Global,
+    slots: &[CSlot],
+    certs: &[Cert],
+    program: &CProgram,
+    steps: &[CStep],
+    plan: &mut Plan,
+) -> Result<(), ScriptError>
+    requires slots { All IsSlot slots.now }
+    requires program { IsProgram slots.now program.now }
+    requires steps { All (IsStep slots.now) steps.now }
+    requires built { list_all is_built_step steps.now ≡ true }
+    requires whole { AreWhole certs.now }
+    requires book { BookFits slots.now plan.old.records }
+    requires room { length plan.old.records + length steps.now < 2 ^ 31 }
+    ensures { Goes result plan.new (steps_verdict slots.now certs.now program.now steps.now plan.old) }
+{
+    for step in steps {
+        take_step(alloc, slots, certs, program, step, plan)?;
+    }
+    Ok(())
+}
+
+// The proof of a program: its steps, and that one of them is `defined`.
+fn take_program(
+    alloc: Global,
+    slots: &[CSlot],
+    certs: &[Cert],
+    program: &CProgram,
+    proof: &CProof,
+    plan: &mut Plan,
+) -> Result<(), ScriptError>
+    requires slots { All IsSlot slots.now }
+    requires program { IsProgram slots.now program.now }
+    requires steps { All (IsStep slots.now) proof.now.steps }
+    requires built { list_all is_built_step proof.now.steps ≡ true }
+    requires whole { AreWhole certs.now }
+    requires book { BookFits slots.now plan.old.records }
+    requires room { length plan.old.records + length proof.now.steps < 2 ^ 31 }
+    ensures { Goes result plan.new (proof_verdict slots.now certs.now (Some program.now) proof.now plan.old) }
+{
+    take_steps(alloc, slots, certs, program, proof.steps.as_slice(), plan)?;
+    if has_defined(program.name, plan.records.as_slice()) {
+        Ok(())
+    } else {
+        Err(fault(program.name, None, Code::DefinedMissing))
+    }
+}
+
+// One proof.
+fn take_proof(
+    alloc: Global,
+    doc: &CDocument,
+    certs: &[Cert],
+    proof: &CProof,
+    plan: &mut Plan,
+) -> Result<(), ScriptError>
+    requires slots { All IsSlot doc.now.slots }
+    requires programs { All (IsProgram doc.now.slots) doc.now.programs }
+    requires steps { All (IsStep doc.now.slots) proof.now.steps }
+    requires built { list_all is_built_step proof.now.steps ≡ true }
+    requires whole { AreWhole certs.now }
+    requires book { BookFits doc.now.slots plan.old.records }
+    requires room { length plan.old.records + length proof.now.steps < 2 ^ 31 }
+    ensures { Goes result plan.new (proof_verdict doc.now.slots certs.now
+        (program_of doc.now.programs proof.now.program) proof.now plan.old) }
+{
+    match find_program(proof.program, doc.programs.as_slice()) {
+        None => Ok(()),
+        Some(program) => take_program(alloc, doc.slots.as_slice(), certs, program, proof, plan),
+    }
+}
+
+// All proofs of a document, in order.
+pub(crate) fn take_proofs(
+    alloc: Global,
+    doc: &CDocument,
+    certs: &[Cert],
+    plan: &mut Plan,
+) -> Result<(), ScriptError>
+    requires document { IsDocument doc.now }
+    requires whole { AreWhole certs.now }
+    requires built { is_built doc.now ≡ true }
+    requires book { BookFits doc.now.slots plan.old.records }
+    requires room { length plan.old.records + sum (map (λ (p : CProof). length p.steps) doc.now.proofs) < 2 ^ 31 }
+    ensures { Goes result plan.new
+        (proofs_verdict doc.now.slots certs.now doc.now.programs doc.now.proofs plan.old) }
+{
+    for proof in doc.proofs.as_slice() {
+        take_proof(alloc, doc, certs, proof, plan)?;
+    }
+    Ok(())
+}

@@ -1,0 +1,8 @@
+//! The certificates of a document, as the check takes them.
+#![tactic(auto)]
+
+mod certificates;
+mod laws;
+
+pub use certificates::certificates_of;
+pub use laws::whole_trees;
