@@ -1,0 +1,6 @@
+pub mod Words
+pub mod Rules
+pub mod PlanRecords
+pub mod Sources
+pub mod Claims
+pub mod Starts

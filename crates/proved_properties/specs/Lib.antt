@@ -1,0 +1,4 @@
+pub mod Written
+pub mod PlanSteps
+pub mod Properties
+pub mod Executions

@@ -1,0 +1,65 @@
+-- What the steps of an accepted document claim is true.
+use Rattle.std.specs.Prelude.{◌≡◌, ℕ, List, [], ◌∷◌, ◌++◌, map, Bool, None, Some, Ok, slice_get}
+use Rattle.unity_syntax.specs.declared.proof.Step.{Step}
+use Rattle.unity_syntax.specs.declared.proof.Proof.{Proof}
+use Rattle.unity_syntax.specs.declared.document.Document.{Document}
+use Rattle.unity_meaning.specs.Claims.{Claims}
+use Rattle.name_scopes.specs.WellNamed.{IsWellNamed}
+use Rattle.core_terms.specs.declared.programs.CProgram.{CProgram}
+use Rattle.core_terms.specs.Conditions.{IsDocument}
+use Rattle.fair_rounds.specs.declared.records.Record.{Record}
+use Rattle.proof_rules.specs.Validity.{AllValid}
+use Rattle.proof_rules.specs.Walk.{Plan, walk_of}
+use Rattle.document_words.specs.WordNumbers.{document_words, word_number}
+use Rattle.declaration_laws.specs.NameLaws.{proofs_among}
+use Rattle.core_documents.specs.Cores.{core_document}
+use Rattle.core_documents.specs.Faults.{expansion_fault}
+use Rattle.core_meaning.specs.Claims.{EachStep, step_in}
+use Rattle.proved_properties.specs.PlanSteps.{CoreStep, of_program, IsRecordOf, Pairwise}
+use Rattle.proved_properties.specs.Written.{AreClaims}
+
+-- a step, and the proof in which it stands
+pub record ProofStep : Type 0 where
+  pub proof : Proof
+  pub step : Step
+
+abbrev pub of_proof : Proof → Step → ProofStep
+of_proof proof step = record { proof = proof; step = step }
+
+-- the steps of proofs, one after the other
+abbrev pub proof_steps : List Proof → List ProofStep
+proof_steps [] = []
+proof_steps (proof ∷ rest) = map (of_proof proof) proof.steps ++ proof_steps rest
+
+-- all steps of a document, in order
+abbrev pub document_steps : Document → List ProofStep
+document_steps d = proof_steps (proofs_among d.parts)
+
+-- a step in core form
+abbrev pub core_of : Document → ProofStep → CoreStep
+core_of d s = of_program (word_number (document_words d) s.proof.program.text) (step_in d s.proof s.step)
+
+-- a record is that of a step, and what the step claims is true of its program, a leads-to within the record's bound
+pub record IsProved (d : Document) (s : ProofStep) (r : Record) : Type 0 where
+  pub recorded : IsRecordOf (core_of d s) r
+  pub claims : Claims d s.proof s.step r.bound
+
+-- a document is accepted with this plan: it has its core form, whose steps give the plan, and all that is left to be
+-- shown is valid
+pub record IsAccepted (d : Document) (starts : CProgram → Bool) (plan : Plan) : Type 0 where
+  pub named : IsWellNamed d
+  pub faultless : expansion_fault d ≡ None
+  pub core : IsDocument (core_document d)
+  pub walked : walk_of (core_document d) starts ≡ Ok plan
+  pub valid : AllValid (core_document d).slots plan.goals
+
+-- then the plan has a record for each step, in order, and what the step claims is true;
+abbrev pub ClaimsAreTrue : Type 0
+ClaimsAreTrue = (d : Document) (starts : CProgram → Bool) (plan : Plan) → IsAccepted d starts plan → AreClaims d →
+    Pairwise (IsProved d) (document_steps d) plan.records
+
+-- so each step of each proof claims what is true, within the bound of a record of the plan
+abbrev pub EachClaimIsTrue : Type 0
+EachClaimIsTrue = (d : Document) (starts : CProgram → Bool) (plan : Plan) → IsAccepted d starts plan → AreClaims d →
+    EachStep (λ e proof step. (m : ℕ) × (r : Record) × (slice_get plan.records m ≡ Some r)
+    × IsProved e (of_proof proof step) r) d

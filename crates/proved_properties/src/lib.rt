@@ -1,0 +1,12 @@
+//! What the steps of an accepted document claim is true of its programs.
+//!
+//! These functions do nothing: each states laws.
+#![tactic(auto)]
+
+mod plans;
+mod properties;
+mod texts;
+
+pub use plans::plan_laws;
+pub use properties::{claim_laws, execution_laws};
+pub use texts::text_laws;
