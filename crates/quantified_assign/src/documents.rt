@@ -11,6 +11,7 @@ use core_terms::{CDocument, CSchedule};
 use document_words::{WordTable, document_words};
 use expand_declarations::core_schedule;
 use name_scopes::NameFault;
+use ranges_types::Names;
 use std::alloc::{AllocError, Global};
 use unity_syntax::{Document, Schedule};
 
@@ -55,7 +56,11 @@ fn document_with(
 
 /// The core form of a well-named document. `Fault` exactly at the first fault of its expansion: what is too
 /// large in it, or an end of a range. An error `Memory` says that memory was refused.
-pub fn expand(alloc: Global, doc: &Document) -> Result<CDocument, NameFault>
+///
+/// The caller hands in what the words of the document mean, which it has from finding the document well named.
+/// It is not read: under a quantifier or an always name that is put in place one word means another thing in
+/// each instance, so words are looked up in the scope that stands there.
+pub fn expand(alloc: Global, doc: &Document, _names: &Names) -> Result<CDocument, NameFault>
     requires { IsWellNamed doc.now }
     ensures { spec.Expands result doc.now }
 {

@@ -1,3 +1,4 @@
-pub mod Answering
 pub mod FirstFaults
-pub mod SmallTexts
+pub mod Accepted
+pub mod OneAnswers
+pub mod Told

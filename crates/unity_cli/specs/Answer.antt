@@ -1,103 +1,184 @@
 -- What the program answers.
-use Rattle.std.specs.Prelude.{◌≡◌, ◌<◌, ◌≤◌, ℕ, List, [], ◌∷◌, ◌++◌, codes, decimal, length, Option, Some, None}
-use Rattle.std.specs.Prelude.{unwrap_or}
+use Rattle.std.specs.Prelude.{◌≡◌, ◌<◌, ◌≤◌, ℕ, List, ◌∷◌, [], ◌++◌, codes, length, Bool, true, false, Option, Some}
+use Rattle.std.specs.Prelude.{None, Ok, Err}
 use Rattle.std.specs.Io.KnownBytes.{Appends}
 use Rattle.unity_base.specs.Streams.{Was, AppendsPart}
-use Rattle.case_tables.specs.declared.kind_table.Kind.{Kind}
 use Rattle.case_tables.specs.declared.code_table.Code.{Code}
-use Rattle.case_tables.specs.contracts.kind_table.KindPartialEq.TheImpl.{ghosts as kind_ghosts}
-use Rattle.case_tables.specs.contracts.code_table.CodePartialEq.TheImpl.{ghosts as code_ghosts}
-use Rattle.case_tables.specs.Rows.{name_in}
-use Rattle.case_tables.specs.Numbers.{number_of}
-use Rattle.case_tables.specs.TableRows.{kind_rows, code_rows}
 use Rattle.unity_syntax.specs.declared.document.Document.{Document}
-use Rattle.small_documents.specs.declared.tree.SmallDocument.{SmallDocument}
-use Rattle.unity_parser.specs.Document.{IsDocument}
-use Rattle.name_scopes.specs.WellNamed.{IsWellNamed}
-use Rattle.safety_rules.specs.Follows.{Follows}
-use Rattle.unity_cli.specs.SmallText.{IsSmallDocument, IsNoSmallDocument}
-use Rattle.unity_cli.specs.FirstFault.{IsFirstFault}
+use Rattle.unity_syntax.specs.declared.document.Schedule.{Schedule}
+use Rattle.unity_meaning.specs.Programs.{Composed, program_named, programs_of}
+use Rattle.core_documents.specs.Cores.{core_document}
+use Rattle.schedule_replay.specs.declared.heading.Heading.{Heading}
+use Rattle.schedule_replay.specs.Schedules.{turns}
+use Rattle.core_terms.specs.declared.programs.CProgram.{CProgram}
+use Rattle.core_meaning.specs.Meaning.{IsCoreOf}
+use Rattle.trace_text.specs.Traces.{all_defined}
+use Rattle.source_traces.specs.Traces.{source_system, first_state, program_trace}
+use Rattle.source_traces.specs.Answers.{IsReplay, IsUnknown}
+use Rattle.proof_script.specs.declared.plans.Plan.{Plan}
+use Rattle.proof_script.specs.declared.plans.StepFault.{StepFault}
+use Rattle.proof_script.specs.Built.{is_built}
+use Rattle.proof_script.specs.Verdicts.{verdict_of}
+use Rattle.written_certificates.specs.Certificates.{certificates_of}
+use Rattle.answer_texts.specs.Refusals.{fault_text, refusal_text}
+use Rattle.answer_texts.specs.Verdicts.{accepted_text, rejected_text}
+use Rattle.command_words.specs.Requests.{Request, check, run, replay}
+use Rattle.unity_cli.specs.Reading.{IsReading, IsFirstFault}
 use Rattle.unity_cli.specs.declared.status.Status.{Status}
-use Rattle.unity_cli.specs.declared.words.Command.{Command}
-
--- the name of a kind of property, by the table of kinds
-abbrev pub kind_name : Kind → List ℕ
-kind_name kind = unwrap_or (name_in kind_ghosts.eq kind_rows kind) []
-
--- `PROGRAM.STEP KIND`, on a line
-abbrev pub step_line : List ℕ → List ℕ → Kind → List ℕ
-step_line program step kind = program ++ (codes "." ++ (step ++ (codes " " ++ (kind_name kind ++ 10 ∷ []))))
-
--- the steps that were accepted; a small document has two, with three obligations
-abbrev pub accepted_text : SmallDocument → List ℕ
-accepted_text d = codes "accepted 2 steps 3 obligations" ++ (10 ∷ [])
-    ++ step_line d.program.name.text d.proof.defined.text Kind.Defined
-    ++ step_line d.program.name.text d.proof.invariant.text Kind.Invariant
-
-abbrev pub rejected_text : List ℕ
-rejected_text = codes "rejected" ++ 10 ∷ []
 
 -- the greatest number of bytes of a text
 abbrev pub greatest_size : ℕ
 greatest_size = 67108864
 
--- the name of a code, by the table of codes
-abbrev pub code_name : Code → List ℕ
-code_name code = unwrap_or (name_in code_ghosts.eq code_rows code) []
+-- the bytes are no more than that, and they are this document, of which neither names nor expansion have a fault
+pub record IsRead (bytes : List ℕ) (d : Document) : Type 0 where
+  pub size : length bytes ≤ greatest_size
+  pub reading : IsReading bytes d
 
--- `CODE NAME`
-abbrev pub code_text : Code → List ℕ
-code_text code = decimal (number_of code) ++ (codes " " ++ code_name code)
+-- why bytes have no reading: they are too many, or have a first fault
+pub data IsBad (bytes : List ℕ) (text : List ℕ) : Type 0 where
+  too_long : greatest_size < length bytes → text ≡ refusal_text Code.TooLong → IsBad bytes text
+  no_reading : (code : Code) (at : ℕ) → length bytes ≤ greatest_size → IsFirstFault bytes code at →
+      text ≡ fault_text code at → IsBad bytes text
 
--- why a text has no reading, and at which byte
-abbrev pub fault_text : Code → ℕ → List ℕ
-fault_text code at = codes "bad " ++ (code_text code ++ (codes " byte " ++ (decimal at ++ 10 ∷ [])))
+-- ---- check
 
--- a text of too many bytes
-abbrev pub too_long_text : List ℕ
-too_long_text = codes "bad " ++ (code_text Code.TooLong ++ 10 ∷ [])
-
--- a document that is not small
+-- a document that is not judged yet
 abbrev pub not_built_text : List ℕ
 not_built_text = codes "bad 9 NotBuilt" ++ 10 ∷ []
 
--- what is said of bytes that cannot be checked: they are too many, or no document that is well named, or no small one
-pub data IsBad (bytes : List ℕ) (text : List ℕ) : Type 0 where
-  too_long : greatest_size < length bytes → text ≡ too_long_text → IsBad bytes text
-  no_document : (code : Code) (at : ℕ) → length bytes ≤ greatest_size → IsFirstFault bytes code at →
-      text ≡ fault_text code at → IsBad bytes text
-  not_small : (d : Document) → length bytes ≤ greatest_size → IsDocument bytes d → IsWellNamed d →
-      IsNoSmallDocument bytes → text ≡ not_built_text → IsBad bytes text
+-- the bytes are a document that is judged
+pub record IsJudged (bytes : List ℕ) (d : Document) : Type 0 where
+  pub read : IsRead bytes d
+  pub built : is_built (core_document d) ≡ true
+
+-- each step follows its rule, and each obligation has one certificate, which refutes its negation
+pub record IsAccepted (bytes : List ℕ) (text : List ℕ) : Type 0 where
+  pub document : Document
+  pub judged : IsJudged bytes document
+  pub plan : Plan
+  pub verdict : verdict_of (core_document document) (certificates_of document) ≡ Ok plan
+  pub text_is : text ≡ accepted_text (core_document document).words plan
+
+-- this is the first failure
+pub record IsRejected (bytes : List ℕ) (text : List ℕ) : Type 0 where
+  pub document : Document
+  pub judged : IsJudged bytes document
+  pub fault : StepFault
+  pub verdict : verdict_of (core_document document) (certificates_of document) ≡ Err fault
+  pub text_is : text ≡ rejected_text (core_document document).words fault
+
+-- what cannot be checked: it has no reading, or is not judged yet
+pub data IsUnchecked (bytes : List ℕ) (text : List ℕ) : Type 0 where
+  bad : IsBad bytes text → IsUnchecked bytes text
+  not_built : (d : Document) → IsRead bytes d → is_built (core_document d) ≡ false → text ≡ not_built_text →
+      IsUnchecked bytes text
 
 -- what `check` answers for these bytes
 abbrev pub Checked : List ℕ → Status → List ℕ → Type 0
-Checked bytes Status.Done text = (d : SmallDocument) × IsSmallDocument bytes d × Follows d × (text ≡ accepted_text d)
-Checked bytes Status.Rejected text =
-    (d : SmallDocument) × IsSmallDocument bytes d × (Follows d → ⊥) × (text ≡ rejected_text)
-Checked bytes Status.BadDocument text = IsBad bytes text
+Checked bytes Status.Done text = IsAccepted bytes text
+Checked bytes Status.Rejected text = IsRejected bytes text
+Checked bytes Status.BadDocument text = IsUnchecked bytes text
 Checked bytes status text = ⊥
 
--- the status and the text for a command, or for words that are none, and these bytes
-abbrev pub Answer : Option Command → List ℕ → Status → List ℕ → Type 0
+-- ---- run and replay
+
+-- a program of the document with its core form, an instance at each place, and how its start state is
+pub record IsTrace (d : Document) (name : List ℕ) (c : Composed) (p : CProgram) (heading : Heading)
+    (choices : List ℕ) (defined : Bool) (text : List ℕ) : Type 0 where
+  pub initial : (source_system d c).initial (first_state d p) ≡ true
+  pub defined_is : all_defined (source_system d c) (first_state d p) choices ≡ defined
+  pub text_is : text ≡ program_trace d name c heading (first_state d p) choices
+
+-- the trace of so many steps of the program with this name, each instance in turn, and whether all were defined
+pub record IsRun (d : Document) (name : List ℕ) (steps : ℕ) (defined : Bool) (text : List ℕ) : Type 0 where
+  pub program : Composed
+  pub core : CProgram
+  pub is_core : IsCoreOf d name program core
+  pub trace : IsTrace d name program core Heading.Run (turns (length program.instances) steps) defined text
+
+-- the start state of the program with this name is no initial one
+pub record HasNoStart (d : Document) (name : List ℕ) : Type 0 where
+  pub program : Composed
+  pub core : CProgram
+  pub is_core : IsCoreOf d name program core
+  pub not_initial : (source_system d program).initial (first_state d core) ≡ false
+
+-- what cannot be run: it has no reading, or no program with this name, or no start
+pub data IsNotRun (bytes : List ℕ) (name : List ℕ) (text : List ℕ) : Type 0 where
+  bad : IsBad bytes text → IsNotRun bytes name text
+  no_program : (d : Document) → IsRead bytes d → program_named name (programs_of d) ≡ None →
+      text ≡ refusal_text Code.NoProgram → IsNotRun bytes name text
+  no_start : (d : Document) → IsRead bytes d → HasNoStart d name → text ≡ refusal_text Code.NoStart →
+      IsNotRun bytes name text
+
+-- what `run` answers for these bytes
+abbrev pub Ran : List ℕ → List ℕ → ℕ → Status → List ℕ → Type 0
+Ran bytes name steps Status.Done text = (d : Document) × IsRead bytes d × IsRun d name steps true text
+Ran bytes name steps Status.Undefined text = (d : Document) × IsRead bytes d × IsRun d name steps false text
+Ran bytes name steps Status.BadDocument text = IsNotRun bytes name text
+Ran bytes name steps status text = ⊥
+
+-- the trace of the instances that the document's schedule names, and whether all steps were defined
+pub record IsReplayed (d : Document) (defined : Bool) (text : List ℕ) : Type 0 where
+  pub schedule : Schedule
+  pub program : Composed
+  pub core : CProgram
+  pub choices : List ℕ
+  pub replay_is : IsReplay d schedule program core choices
+  pub trace : IsTrace d schedule.program.text program core Heading.Replay choices defined text
+
+-- all choices of the schedule name instances, and the start state of its program is no initial one
+pub record HasNoReplay (d : Document) : Type 0 where
+  pub schedule : Schedule
+  pub program : Composed
+  pub core : CProgram
+  pub choices : List ℕ
+  pub replay_is : IsReplay d schedule program core choices
+  pub not_initial : (source_system d program).initial (first_state d core) ≡ false
+
+-- what cannot be replayed: it has no reading, or no schedule, or names no instance, or has no start
+pub data IsNotReplayed (bytes : List ℕ) (text : List ℕ) : Type 0 where
+  bad : IsBad bytes text → IsNotReplayed bytes text
+  no_schedule : (d : Document) → IsRead bytes d → d.schedule ≡ None → text ≡ refusal_text Code.NoSchedule →
+      IsNotReplayed bytes text
+  unknown : (d : Document) (at : ℕ) → IsRead bytes d → IsUnknown d at → text ≡ fault_text Code.NoSuchStatement at →
+      IsNotReplayed bytes text
+  no_start : (d : Document) → IsRead bytes d → HasNoReplay d → text ≡ refusal_text Code.NoStart →
+      IsNotReplayed bytes text
+
+-- what `replay` answers for these bytes
+abbrev pub Replayed : List ℕ → Status → List ℕ → Type 0
+Replayed bytes Status.Done text = (d : Document) × IsRead bytes d × IsReplayed d true text
+Replayed bytes Status.Undefined text = (d : Document) × IsRead bytes d × IsReplayed d false text
+Replayed bytes Status.BadDocument text = IsNotReplayed bytes text
+Replayed bytes status text = ⊥
+
+-- ---- all requests
+
+-- the status and the text for a request, or for words that are none, and these bytes
+abbrev pub Answer : Option Request → List ℕ → Status → List ℕ → Type 0
 Answer None bytes status text = (status ≡ Status.BadWords) × (text ≡ codes "bad words" ++ 10 ∷ [])
-Answer (Some Command.Check) bytes status text = Checked bytes status text
+Answer (Some check) bytes status text = Checked bytes status text
+Answer (Some (run program steps)) bytes status text = Ran bytes program steps status text
+Answer (Some replay) bytes status text = Replayed bytes status text
 
 -- the status and the text are an answer for the bytes that were left
-pub record IsAnswer (command : Option Command) (left : Option (List ℕ)) (status : Status) (text : List ℕ) : Type 0 where
+pub record IsAnswer (request : Option Request) (left : Option (List ℕ)) (status : Status) (text : List ℕ) : Type 0 where
   pub bytes : List ℕ
   pub were : Was left bytes
-  pub allowed : Answer command bytes status text
+  pub allowed : Answer request bytes status text
 
 -- an answer's whole text was appended
-pub record Tells (command : Option Command) (left : Option (List ℕ)) (status : Status) (old new : Option (List ℕ)) :
+pub record Tells (request : Option Request) (left : Option (List ℕ)) (status : Status) (old new : Option (List ℕ)) :
     Type 0 where
   pub text : List ℕ
-  pub answer : IsAnswer command left status text
+  pub answer : IsAnswer request left status text
   pub appends : Appends old new text
 
 -- a front part of an answer's text was appended, and not all of it
-pub record TellsPart (command : Option Command) (left : Option (List ℕ)) (old new : Option (List ℕ)) : Type 0 where
+pub record TellsPart (request : Option Request) (left : Option (List ℕ)) (old new : Option (List ℕ)) : Type 0 where
   pub status : Status
   pub text : List ℕ
-  pub answer : IsAnswer command left status text
+  pub answer : IsAnswer request left status text
   pub part : AppendsPart old new text

@@ -1,10 +1,10 @@
 -- A law of the answers, as a statement.
 use Rattle.std.specs.Prelude.{◌≡◌, ℕ, List, Option}
+use Rattle.command_words.specs.Requests.{Request}
 use Rattle.unity_cli.specs.declared.status.Status.{Status}
-use Rattle.unity_cli.specs.declared.words.Command.{Command}
 use Rattle.unity_cli.specs.Answer.{Answer}
 
 -- words and bytes have at most one status and text
 abbrev pub OneAnswer : Type 0
-OneAnswer = (command : Option Command) (bytes : List ℕ) (status other : Status) (text more : List ℕ) →
-    Answer command bytes status text → Answer command bytes other more → (status ≡ other) × (text ≡ more)
+OneAnswer = (request : Option Request) (bytes : List ℕ) (status other : Status) (text more : List ℕ) →
+    Answer request bytes status text → Answer request bytes other more → (status ≡ other) × (text ≡ more)

@@ -1,8 +1,8 @@
-pub mod Words
-pub mod SmallText
-pub mod FirstFault
+pub mod Reading
 pub mod Status
 pub mod Stop
 pub mod Answer
-pub mod Verdict
+pub mod Input
+pub mod Answering
+pub mod Truth
 pub mod Laws

@@ -1,115 +1,79 @@
-// Reading a document and judging its proof.
-ghost use Rattle.std.specs.Prelude.{◌≤◌, ◌⊎◌, IfOk, IfErr, OnOk, IsErrOf, length};
-ghost use Rattle.std.specs.Io.KnownBytes.{IsAtEnd};
-ghost use Rattle.unity_base.specs.Streams.{IsTold, IsLongerThan, LeavesRest};
-ghost use Rattle.small_documents.specs.Conditions.{IsWellFormed};
-ghost use Rattle.unity_parser.specs.Document.{IsDocument};
-ghost use Rattle.name_scopes.specs.WellNamed.{IsWellNamed, name_fault};
-ghost use Rattle.name_scopes.specs.Answers.{Stops};
-ghost use Rattle.unity_cli.specs.Answer.{greatest_size};
-ghost use Rattle.unity_cli.specs.Verdict.{Decides, IsVerdict, Judges};
+// Judging the proofs of a document.
+ghost use Rattle.std.specs.Prelude.{◌≡◌, List, ℕ, true, IfOk};
+ghost use Rattle.proof_script.specs.Built.{is_built};
+ghost use Rattle.unity_cli.specs.Answer.{Checked};
+ghost use Rattle.unity_cli.specs.Input.{IsInput, IsReadAs, IsSomeInput, IsSomeReading};
+ghost use Rattle.unity_cli.specs.Answering.{IsCheckedFor};
 
-use crate::small::small_document;
-use crate::stop::Stop;
+use crate::reading::{Input, Reading};
+use crate::status::Status;
+use answer_texts::{accepted, document_fault, input_refusal, rejected};
 use case_tables::Code;
-use name_scopes::NameFault;
-use ranges_types::check_names;
-use safety_rules::follows;
-use small_documents::SmallDocument;
+use proof_script::{ScriptError, check, is_built};
 use std::alloc::{AllocError, Global};
-use unity_base::{Held, ReadError, Source, read_all};
-use unity_parser::read_document;
-use unity_syntax::{Document, SyntaxFault};
+use written_certificates::certificates_of;
 
-/// The greatest number of bytes of a text.
-pub const GREATEST_SIZE: usize = 67_108_864;
-
-/// What is found of some bytes.
-#[derive(Debug, Drop)]
-pub enum Verdict {
-    /// They are a small document, whose proof follows.
-    Accepted(Held<SmallDocument>),
-    /// They are a small document, whose proof does not follow.
-    Rejected,
-    /// They are more than `GREATEST_SIZE`.
-    TooLong,
-    /// They are no document that is well named, with the code and the place of their first fault.
-    NoDocument { code: Code, at: u64 },
-    /// They are a document that is not small.
-    NotBuilt,
+/// A status with its whole text.
+#[derive(Drop)]
+pub struct Answer {
+    pub status: Status,
+    pub text: Vec<u8>,
 }
 
-/// What is found of the bytes.
-fn judge(alloc: Global, bytes: &[u8]) -> Result<Verdict, AllocError>
-    requires { length bytes.now ≤ greatest_size }
-    ensures { IfOk result (IsVerdict bytes.now) }
-{
-    match read_document(alloc, bytes) {
-        Ok(document) => judge_text(alloc, bytes, &document),
-        Err(SyntaxFault::Fault { code, at }) => Ok(Verdict::NoDocument { code, at }),
-        Err(SyntaxFault::Memory) => Err(AllocError),
+impl Answer {
+    /// What cannot be used, with the text that says why.
+    pub fn bad(text: Vec<u8>) -> Answer
+        ensures status { result.status ≡ Status.BadDocument }
+        ensures text { result.text.items ≡ text.items }
+    {
+        Answer {
+            status: Status::BadDocument,
+            text,
+        }
     }
 }
 
-/// What is found of the bytes of a document.
-fn judge_text(alloc: Global, bytes: &[u8], document: &Document) -> Result<Verdict, AllocError>
-    requires size { length bytes.now ≤ greatest_size }
-    requires document { IsDocument bytes.now document.now }
-    ensures { IfOk result (IsVerdict bytes.now) }
+/// What `check` answers for the input.
+pub fn judge(alloc: Global, input: &Input) -> Result<Answer, AllocError>
+    requires { IsSomeInput input.now }
+    ensures { IfOk result (IsCheckedFor input.now) }
 {
-    match check_document(alloc, document) {
-        Ok(()) => judge_named(alloc, bytes, document),
-        Err(NameFault::Fault { code, at }) => Ok(Verdict::NoDocument { code, at }),
-        Err(NameFault::Memory) => Err(AllocError),
+    match input {
+        Input::TooLong => Ok(Answer::bad(input_refusal(alloc, Code::TooLong)?)),
+        Input::Fault { code, at } => Ok(Answer::bad(document_fault(alloc, *code, *at)?)),
+        Input::Document(reading) => judge_reading(alloc, reading.get()),
     }
 }
 
-/// Whether the document is well named, or its first fault.
-fn check_document(alloc: Global, document: &Document) -> Result<(), NameFault>
-    ensures named { OnOk result (IsWellNamed document.now) }
-    ensures fault { IfErr result (λ fault. Stops fault (name_fault document.now)) }
+// What `check` answers for a document.
+fn judge_reading(alloc: Global, reading: &Reading) -> Result<Answer, AllocError>
+    requires { IsSomeReading reading.now }
+    ensures { IfOk result (λ a. (bytes : List ℕ) → IsReadAs bytes reading.now → Checked bytes a.status a.text.items) }
 {
-    check_names(alloc, document)?;
-    Ok(())
-}
-
-/// What is found of the bytes of a document that is well named.
-fn judge_named(alloc: Global, bytes: &[u8], document: &Document) -> Result<Verdict, AllocError>
-    requires size { length bytes.now ≤ greatest_size }
-    requires document { IsDocument bytes.now document.now }
-    requires named { IsWellNamed document.now }
-    ensures { IfOk result (IsVerdict bytes.now) }
-{
-    match small_document(alloc, bytes, document)? {
-        None => Ok(Verdict::NotBuilt),
-        Some(small) => judge_document(alloc, Held::new(alloc, small)?),
-    }
-}
-
-/// What is found of a small document.
-fn judge_document(alloc: Global, document: Held<SmallDocument>) -> Result<Verdict, AllocError>
-    requires { IsWellFormed document }
-    ensures { IfOk result (Decides document) }
-{
-    if follows(alloc, document.get())? {
-        Ok(Verdict::Accepted(document))
+    if is_built(&reading.core) {
+        judge_proofs(alloc, reading)
     } else {
-        Ok(Verdict::Rejected)
+        Ok(Answer::bad(Vec::from_slice(alloc, b"bad 9 NotBuilt\n")?))
     }
 }
 
-/// Reads the source to its end, and judges what it gave.
-pub fn check<S: Source>(alloc: Global, src: &mut S) -> Result<Verdict, Stop>
-    ensures verdict { IfOk result (Judges (S.left src.old)) }
-    ensures end { OnOk result (IsAtEnd (S.left src.new) ⊎ IsLongerThan greatest_size (S.left src.old)) }
-    ensures rest { LeavesRest (S.left src.old) (S.left src.new) }
-    ensures never { IsErrOf result Stop.WriteFault → ⊥ }
-    ensures cause { IsTold (S.faults src.old) (S.faults src.new) (IsErrOf result Stop.ReadFault) }
+// What `check` answers for a document whose proofs are judged.
+fn judge_proofs(alloc: Global, reading: &Reading) -> Result<Answer, AllocError>
+    requires reading { IsSomeReading reading.now }
+    requires built { is_built reading.now.core ≡ true }
+    ensures { IfOk result (λ a. (bytes : List ℕ) → IsReadAs bytes reading.now → Checked bytes a.status a.text.items) }
 {
-    match read_all(alloc, src, GREATEST_SIZE) {
-        Ok(bytes) => Ok(judge(alloc, &bytes)?),
-        Err(ReadError::TooLong) => Ok(Verdict::TooLong),
-        Err(ReadError::Failed) => Err(Stop::ReadFault),
-        Err(ReadError::Memory) => Err(Stop::Memory),
+    let certificates = certificates_of(alloc, &reading.document)?;
+    let words = reading.core.words.as_slice();
+    match check(alloc, &reading.core, certificates.as_slice()) {
+        Ok(plan) => Ok(Answer {
+            status: Status::Done,
+            text: accepted(alloc, words, &plan)?,
+        }),
+        Err(ScriptError::Step(fault)) => Ok(Answer {
+            status: Status::Rejected,
+            text: rejected(alloc, words, &fault)?,
+        }),
+        Err(ScriptError::Memory) => Err(AllocError),
     }
 }

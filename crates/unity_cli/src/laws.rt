@@ -1,10 +1,7 @@
-// Laws of the texts and of the answers.
-ghost use Rattle.unity_cli.specs.SmallText.{OneSmallDocument};
+// A law of the answers. The function does nothing: it states it.
 ghost use Rattle.unity_cli.specs.Laws.{OneAnswer};
 
-/// Bytes are at most one small document, and words and bytes have at most one status and text. This
-/// function does nothing.
+/// Words and bytes have at most one status and text.
 pub fn one_answer()
-    ensures small { OneSmallDocument }
-    ensures answer { OneAnswer }
+    ensures { OneAnswer }
 {}

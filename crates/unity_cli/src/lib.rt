@@ -1,16 +1,15 @@
 //! The program's one call: words and bytes in, a status and a text out.
 #![tactic(auto)]
 
+mod commands;
 mod judge;
 mod laws;
-mod report;
-mod small;
+mod reading;
+mod running;
 mod status;
 mod stop;
-#[cfg(test)]
-mod tests;
+mod telling;
 mod top;
-mod words;
 
 pub use laws::one_answer;
 pub use status::Status;

@@ -4,12 +4,15 @@ ghost use Rattle.unity_cli.specs.Status.{status_number};
 /// How a call of the program ends, with the number that the process exits with.
 #[derive(Clone, Copy, Debug, PartialEq, Eq)]
 pub enum Status {
-    /// The document's proof is accepted.
+    /// `check`: each step follows its rule, and each certificate refutes its obligation's negation.
+    /// `run`, `replay`: each step was defined.
     Done = 0,
-    /// The document's proof is not accepted.
+    /// `check`: a step does not follow its rule, or a certificate is missing, one too many, or fails.
     Rejected = 1,
-    /// The bytes are no document that can be checked.
+    /// The bytes are no document, or none that the command can use.
     BadDocument = 2,
+    /// `run`, `replay`: the next step is undefined at the last state that was written.
+    Undefined = 5,
     /// The words name no command.
     BadWords = 6,
     /// A read failed.

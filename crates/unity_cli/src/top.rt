@@ -2,18 +2,17 @@
 ghost use Rattle.std.specs.Prelude.{◌≡◌, ◌≢◌, ◌⊎◌, ℕ, List, Some, IsNone, IsSome};
 ghost use Rattle.std.specs.Io.KnownBytes.{IsAtEnd};
 ghost use Rattle.unity_base.specs.Streams.{IsTold, IsLongerThan, LeavesRest};
-ghost use Rattle.small_documents.specs.declared.tree.SmallDocument.{SmallDocument};
-ghost use Rattle.unity_cli.specs.SmallText.{IsSmallDocument};
-ghost use Rattle.small_documents.specs.Meaning.{IsSafe};
-ghost use Rattle.safety_rules.specs.Follows.{HasExecutions};
-ghost use Rattle.unity_cli.specs.Words.{asked};
+ghost use Rattle.unity_syntax.specs.declared.document.Document.{Document};
+ghost use Rattle.command_words.specs.Requests.{asked, check};
 ghost use Rattle.unity_cli.specs.Status.{HasText};
+ghost use Rattle.unity_cli.specs.Reading.{IsReading};
 ghost use Rattle.unity_cli.specs.Answer.{greatest_size, Tells, TellsPart};
+ghost use Rattle.unity_cli.specs.Truth.{ClaimsAreTrue, ProgramsRun};
 
-use crate::judge::check;
-use crate::report::tell;
+use crate::commands::write_command;
+use crate::reading::read_input;
 use crate::status::Status;
-use crate::words::{Command, read_words};
+use command_words::read_words;
 use std::alloc::Global;
 use unity_base::{Sink, Source, write_all};
 
@@ -31,11 +30,11 @@ pub fn unity<S: Source, K: Sink>(
         TellsPart (asked words.now) (S.left src.old) (K.written out.old) (K.written out.new) }
     ensures nothing { (result ≡ Status.ReadFault) ⊎ (result ≡ Status.WantOfMemory) → out.new ≡ out.old }
 
-    // An accepted document is safe, and it has executions.
-    ensures safe { result ≡ Status.Done → (bytes : List ℕ) (d : SmallDocument) →
-        S.left src.old ≡ Some bytes → IsSmallDocument bytes d → IsSafe d }
-    ensures runs { result ≡ Status.Done → (bytes : List ℕ) (d : SmallDocument) →
-        S.left src.old ≡ Some bytes → IsSmallDocument bytes d → HasExecutions d }
+    // What the proofs of an accepted document claim is true, and their programs have executions.
+    ensures safe { result ≡ Status.Done → asked words.now ≡ Some check → (bytes : List ℕ) (d : Document) →
+        S.left src.old ≡ Some bytes → IsReading bytes d → ClaimsAreTrue d }
+    ensures runs { result ≡ Status.Done → asked words.now ≡ Some check → (bytes : List ℕ) (d : Document) →
+        S.left src.old ≡ Some bytes → IsReading bytes d → ProgramsRun d }
 
     // For words that are no command the source is not read.
     ensures untouched { IsNone (asked words.now) → src.new ≡ src.old }
@@ -50,18 +49,14 @@ pub fn unity<S: Source, K: Sink>(
     ensures source { IsTold (S.faults src.old) (S.faults src.new) (result ≡ Status.ReadFault) }
     ensures sink { IsTold (K.faults out.old) (K.faults out.new) (result ≡ Status.WriteFault) }
 {
-    let Some(Command::Check) = read_words(words) else {
+    let Some(command) = read_words(words) else {
         return match write_all(out, b"bad words\n") {
             Ok(()) => Status::BadWords,
             Err(_) => Status::WriteFault,
         };
     };
-    let verdict = match check(alloc, src) {
-        Ok(verdict) => verdict,
-        Err(stop) => return stop.status(),
-    };
-    match tell(alloc, &verdict, out) {
-        Ok(()) => verdict.status(),
+    match read_input(alloc, src) {
+        Ok(input) => write_command(alloc, &command, &input, out),
         Err(stop) => stop.status(),
     }
 }

@@ -1,0 +1,60 @@
+-- Words ask for what their places say.
+use Rattle.std.proofs.Common.{◌≡◌, ℕ, Bool, true, false, cond, List, [], ◌∷◌, codes, decimal, Option, Some}
+use Rattle.std.proofs.Common.{None, option_map, refl, ap, ◌∙◌, subst, arith}
+use Rattle.std.specs.Str.{bytes_eq}
+use Rattle.std.proofs.lemmas.Slice.Eq.{bytes_eq-Decides}
+use Rattle.command_words.specs.Numbers.{number_in}
+use Rattle.command_words.specs.Requests.{Request, check, run, replay, one_word, three_words, request_of}
+use Rattle.command_words.specs.Laws.{Asks, RequestsAreAsked}
+use Rattle.command_words.proofs.Decimals.{numbers_are_decimal}
+
+same_bytes : (a b : List ℕ) → bytes_eq a b ≡ true → a ≡ b
+same_bytes a b e = (bytes_eq-Decides a b).0 e
+
+one_asked : (word : List ℕ) (request : Request) → one_word word ≡ Some request → Asks (word ∷ []) request
+one_asked word request e = go (bytes_eq word (codes "check")) refl (bytes_eq word (codes "replay")) refl e
+  where
+    go : (b : Bool) → bytes_eq word (codes "check") ≡ b → (c : Bool) → bytes_eq word (codes "replay") ≡ c →
+        cond b (Some check) (cond c (Some replay) None) ≡ Some request → Asks (word ∷ []) request
+    go true h c k some =
+        let is : check ≡ request = cc in subst (Asks (word ∷ [])) is (ap (λ w. w ∷ []) (same_bytes word _ h))
+    go false h true k some =
+        let is : replay ≡ request = cc in subst (Asks (word ∷ [])) is (ap (λ w. w ∷ []) (same_bytes word _ k))
+    go false h false k some = cc
+
+run_asked : (word program steps : List ℕ) (found : Option ℕ) (request : Request) → word ≡ codes "run" →
+    number_in 1000000 steps ≡ found → option_map (run program) found ≡ Some request →
+    Asks (word ∷ program ∷ steps ∷ []) request
+run_asked word program steps None request e f some = cc
+run_asked word program steps (Some n) request e f some =
+    let number = (numbers_are_decimal 1000000 n steps (omega arith)).0 f in
+    let is : run program n ≡ request = cc in
+    subst (Asks (word ∷ program ∷ steps ∷ [])) is
+    (ap (λ w. w ∷ program ∷ steps ∷ []) e ∙ ap (λ t. codes "run" ∷ program ∷ t ∷ []) number.0, number.1)
+
+three_asked : (word program steps : List ℕ) (request : Request) → three_words word program steps ≡ Some request →
+    Asks (word ∷ program ∷ steps ∷ []) request
+three_asked word program steps request e = go (bytes_eq word (codes "run")) refl e
+  where
+    go : (b : Bool) → bytes_eq word (codes "run") ≡ b →
+        cond b (option_map (run program) (number_in 1000000 steps)) None ≡ Some request →
+        Asks (word ∷ program ∷ steps ∷ []) request
+    go true h some = run_asked word program steps (number_in 1000000 steps) request (same_bytes word _ h) refl some
+    go false h some = cc
+
+words_asked : (words : List (List ℕ)) (request : Request) → request_of words ≡ Some request → Asks words request
+words_asked [] request e = cc
+words_asked (word ∷ []) request e = one_asked word request e
+words_asked (word ∷ program ∷ []) request e = cc
+words_asked (word ∷ program ∷ steps ∷ []) request e = three_asked word program steps request e
+words_asked (word ∷ program ∷ steps ∷ other ∷ rest) request e = cc
+
+asking_words : (words : List (List ℕ)) (request : Request) → Asks words request → request_of words ≡ Some request
+asking_words words check h = ap request_of h
+asking_words words (run program steps) h =
+    ap request_of h.0
+    ∙ ap (option_map (run program)) ((numbers_are_decimal 1000000 steps (decimal steps) (omega arith)).1 (refl, h.1))
+asking_words words replay h = ap request_of h
+
+pub requests_are_asked : RequestsAreAsked
+requests_are_asked words request = (words_asked words request, asking_words words request)

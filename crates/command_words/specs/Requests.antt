@@ -1,0 +1,34 @@
+-- What words ask for.
+use Rattle.std.specs.Prelude.{ℕ, cond, List, [], ◌∷◌, map, codes, string_bytes, String, Option, Some, None, option_map}
+use Rattle.std.specs.Str.{bytes_eq}
+use Rattle.command_words.specs.declared.words.Command.{Command}
+use Rattle.command_words.specs.Numbers.{number_in}
+
+-- what the program is asked to do
+pub data Request : Type 0 where
+  check : Request
+  run : (program : List ℕ) → (steps : ℕ) → Request
+  replay : Request
+
+abbrev pub meant : Command → Request
+meant Command.Check = check
+meant (Command.Run program steps) = run program.now steps
+meant Command.Replay = replay
+
+abbrev pub one_word : List ℕ → Option Request
+one_word word =
+    cond (bytes_eq word (codes "check")) (Some check) (cond (bytes_eq word (codes "replay")) (Some replay) None)
+
+abbrev pub three_words : List ℕ → List ℕ → List ℕ → Option Request
+three_words word program steps =
+    cond (bytes_eq word (codes "run")) (option_map (run program) (number_in 1000000 steps)) None
+
+-- what words ask for, by position
+abbrev pub request_of : List (List ℕ) → Option Request
+request_of (word ∷ []) = one_word word
+request_of (word ∷ program ∷ steps ∷ []) = three_words word program steps
+request_of words = None
+
+-- what the program's words ask for
+abbrev pub asked : {Z : Type 0} → List (String Z) → Option Request
+asked words = request_of (map string_bytes words)

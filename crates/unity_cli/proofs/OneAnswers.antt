@@ -1,0 +1,427 @@
+-- Words and bytes have at most one status and text.
+use Rattle.std.proofs.Common.{◌≡◌, ℕ, List, length, map, Bool, true, false, Option, Some, None, Result, Ok, Err}
+use Rattle.std.proofs.Common.{[], ◌∷◌, refl, sym, ap, ◌∙◌, subst, arith, cond, find, is_none, option_map, unwrap_or}
+use Rattle.case_tables.specs.declared.code_table.Code.{Code}
+use Rattle.unity_syntax.specs.declared.document.Document.{Document}
+use Rattle.unity_syntax.specs.declared.document.Schedule.{Schedule}
+use Rattle.unity_syntax.specs.declared.term.Inst.{Inst}
+use Rattle.name_scopes.specs.Declarations.{some_of}
+use Rattle.source_traces.specs.Names.{place_of}
+use Rattle.unity_meaning.specs.Programs.{Composed, program_named, programs_of}
+use Rattle.core_terms.specs.declared.programs.CProgram.{CProgram}
+use Rattle.core_documents.specs.Cores.{core_document}
+use Rattle.core_meaning.specs.Meaning.{IsCoreOf}
+use Rattle.schedule_replay.specs.declared.heading.Heading.{Heading}
+use Rattle.schedule_replay.specs.Schedules.{turns}
+use Rattle.source_traces.specs.Traces.{source_system, first_state}
+use Rattle.source_traces.specs.Answers.{IsReplay, IsUnknown}
+use Rattle.proof_script.specs.declared.plans.Plan.{Plan}
+use Rattle.proof_script.specs.declared.plans.StepFault.{StepFault}
+use Rattle.proof_script.specs.Built.{is_built}
+use Rattle.proof_script.specs.Verdicts.{verdict_of}
+use Rattle.written_certificates.specs.Certificates.{certificates_of}
+use Rattle.answer_texts.specs.Refusals.{fault_text}
+use Rattle.answer_texts.specs.Verdicts.{accepted_text, rejected_text}
+use Rattle.command_words.specs.Requests.{check, run, replay}
+use Rattle.unity_parser.proofs.Readings.{one_document}
+use Rattle.unity_cli.specs.declared.status.Status.{Status}
+use Rattle.unity_cli.specs.Answer.{greatest_size, IsRead, IsBad, too_long, no_reading, IsJudged, IsAccepted, IsRejected}
+use Rattle.unity_cli.specs.Answer.{IsUnchecked, not_built, Checked, IsTrace, IsRun, HasNoStart, IsNotRun}
+use Rattle.unity_cli.specs.Answer.{no_program, Ran}
+use Rattle.unity_cli.specs.Answer.{IsReplayed, HasNoReplay, IsNotReplayed, no_schedule, unknown, Replayed, Answer}
+use Rattle.unity_cli.specs.Answer as answers
+use Rattle.unity_cli.specs.Laws.{OneAnswer}
+use Rattle.unity_cli.proofs.FirstFaults.{no_first_fault, one_first_fault}
+
+-- ---- readings
+
+read_once : (bytes : List ℕ) (d e : Document) → IsRead bytes d → IsRead bytes e → d ≡ e
+read_once bytes d e a b = one_document bytes d e a.reading.is_document b.reading.is_document
+
+pub read_not_bad : (bytes text : List ℕ) (d : Document) → IsRead bytes d → IsBad bytes text → ⊥
+read_not_bad bytes text d r (too_long h e) = let few = r.size in omega (arith, few, h)
+read_not_bad bytes text d r (no_reading code at k f e) = no_first_fault bytes d code at r.reading f
+
+one_bad : (bytes text more : List ℕ) → IsBad bytes text → IsBad bytes more → text ≡ more
+one_bad bytes text more (too_long h e) (too_long k f) = e ∙ sym f
+one_bad bytes text more (too_long h e) (no_reading code at l g f) = absurd (omega (arith, h, l))
+one_bad bytes text more (no_reading code at l g e) (too_long k f) = absurd (omega (arith, k, l))
+one_bad bytes text more (no_reading code at l g e) (no_reading other place m k f) =
+    let same = one_first_fault bytes code other at place g k in
+    e ∙ ap (λ c. fault_text c at) same.0 ∙ ap (fault_text other) same.1 ∙ sym f
+
+-- ---- check
+
+abbrev verdict : Document → Result Plan StepFault
+verdict d = verdict_of (core_document d) (certificates_of d)
+
+one_accepted : (bytes text more : List ℕ) → IsAccepted bytes text → IsAccepted bytes more → text ≡ more
+one_accepted bytes text more a b =
+    let same = read_once bytes a.document b.document a.judged.read b.judged.read in
+    let plans : ◌≡◌ {A = Result Plan StepFault} (Ok a.plan) (Ok b.plan) =
+    sym a.verdict ∙ ap verdict same ∙ b.verdict in
+    let plan : a.plan ≡ b.plan = cc in
+    a.text_is ∙ ap (λ d. accepted_text (core_document d).words a.plan) same
+    ∙ ap (accepted_text (core_document b.document).words) plan ∙ sym b.text_is
+
+one_rejected : (bytes text more : List ℕ) → IsRejected bytes text → IsRejected bytes more → text ≡ more
+one_rejected bytes text more a b =
+    let same = read_once bytes a.document b.document a.judged.read b.judged.read in
+    let faults : ◌≡◌ {A = Result Plan StepFault} (Err a.fault) (Err b.fault) =
+    sym a.verdict ∙ ap verdict same ∙ b.verdict in
+    let fault : a.fault ≡ b.fault = cc in
+    a.text_is ∙ ap (λ d. rejected_text (core_document d).words a.fault) same
+    ∙ ap (rejected_text (core_document b.document).words) fault ∙ sym b.text_is
+
+accepted_not_rejected : (bytes text more : List ℕ) → IsAccepted bytes text → IsRejected bytes more → ⊥
+accepted_not_rejected bytes text more a b =
+    let same = read_once bytes a.document b.document a.judged.read b.judged.read in
+    let never : ◌≡◌ {A = Result Plan StepFault} (Ok a.plan) (Err b.fault) =
+    sym a.verdict ∙ ap verdict same ∙ b.verdict in
+    cc
+
+judged_not_unchecked : (bytes text : List ℕ) (d : Document) → IsJudged bytes d → IsUnchecked bytes text → ⊥
+judged_not_unchecked bytes text d j (answers.bad b) = read_not_bad bytes text d j.read b
+judged_not_unchecked bytes text d j (not_built e r h k) =
+    let same = read_once bytes d e j.read r in
+    let never : ◌≡◌ {A = Bool} true false = sym j.built ∙ ap (λ x. is_built (core_document x)) same ∙ h in
+    cc
+
+one_unchecked : (bytes text more : List ℕ) → IsUnchecked bytes text → IsUnchecked bytes more → text ≡ more
+one_unchecked bytes text more (answers.bad a) (answers.bad b) = one_bad bytes text more a b
+one_unchecked bytes text more (answers.bad a) (not_built d r h e) = absurd (read_not_bad bytes text d r a)
+one_unchecked bytes text more (not_built d r h e) (answers.bad b) = absurd (read_not_bad bytes more d r b)
+one_unchecked bytes text more (not_built d r h e) (not_built other s k f) = e ∙ sym f
+
+one_checked : (bytes : List ℕ) (status other : Status) (text more : List ℕ) → Checked bytes status text →
+    Checked bytes other more → (status ≡ other) × (text ≡ more)
+one_checked bytes Status.Done Status.Done text more a b = (refl, one_accepted bytes text more a b)
+one_checked bytes Status.Done Status.Rejected text more a b = absurd (accepted_not_rejected bytes text more a b)
+one_checked bytes Status.Done Status.BadDocument text more a b =
+    absurd (judged_not_unchecked bytes more a.document a.judged b)
+one_checked bytes Status.Rejected Status.Done text more a b = absurd (accepted_not_rejected bytes more text b a)
+one_checked bytes Status.Rejected Status.Rejected text more a b = (refl, one_rejected bytes text more a b)
+one_checked bytes Status.Rejected Status.BadDocument text more a b =
+    absurd (judged_not_unchecked bytes more a.document a.judged b)
+one_checked bytes Status.BadDocument Status.Done text more a b =
+    absurd (judged_not_unchecked bytes text b.document b.judged a)
+one_checked bytes Status.BadDocument Status.Rejected text more a b =
+    absurd (judged_not_unchecked bytes text b.document b.judged a)
+one_checked bytes Status.BadDocument Status.BadDocument text more a b = (refl, one_unchecked bytes text more a b)
+one_checked bytes Status.Done other text more a b = absurd b
+one_checked bytes Status.Rejected other text more a b = absurd b
+one_checked bytes Status.BadDocument other text more a b = absurd b
+one_checked bytes status other text more a b = absurd a
+
+-- ---- traces
+
+one_program : (d : Document) (name : List ℕ) (c e : Composed) (p q : CProgram) → IsCoreOf d name c p →
+    IsCoreOf d name e q → (c ≡ e) × (p ≡ q)
+one_program d name c e p q a b =
+    let sources : ◌≡◌ {A = Option Composed} (Some c) (Some e) = sym a.source ∙ b.source in
+    let cores : ◌≡◌ {A = Option CProgram} (Some p) (Some q) = sym a.found ∙ b.found in
+    (cc, cc)
+
+-- what is said of one program is said of another that is the same
+moved : (P : Composed → CProgram → Type 0) (c e : Composed) (p q : CProgram) → (c ≡ e) × (p ≡ q) → P c p → P e q
+moved P c e p q same h = subst (λ x. P e x) same.1 (subst (λ x. P x p) same.0 h)
+
+one_trace : (d : Document) (name : List ℕ) (c : Composed) (p : CProgram) (heading : Heading) (choices : List ℕ)
+    (defined also : Bool) (text more : List ℕ) → IsTrace d name c p heading choices defined text →
+    IsTrace d name c p heading choices also more → (defined ≡ also) × (text ≡ more)
+one_trace d name c p heading choices defined also text more a b =
+    (sym a.defined_is ∙ b.defined_is, a.text_is ∙ sym b.text_is)
+
+started : (d : Document) (name : List ℕ) (c : Composed) (p : CProgram) (heading : Heading) (choices : List ℕ)
+    (defined : Bool) (text : List ℕ) → IsTrace d name c p heading choices defined text →
+    (source_system d c).initial (first_state d p) ≡ false → ⊥
+started d name c p heading choices defined text a none =
+    let never : ◌≡◌ {A = Bool} true false = sym a.initial ∙ none in
+    cc
+
+-- ---- run
+
+one_run : (d : Document) (name : List ℕ) (steps : ℕ) (defined also : Bool) (text more : List ℕ) →
+    IsRun d name steps defined text → IsRun d name steps also more → (defined ≡ also) × (text ≡ more)
+one_run d name steps defined also text more a b =
+    one_trace d name b.program b.core Heading.Run (turns (length b.program.instances) steps) defined also text more
+    (moved (λ c p. IsTrace d name c p Heading.Run (turns (length c.instances) steps) defined text)
+    a.program b.program a.core b.core
+    (one_program d name a.program b.program a.core b.core a.is_core b.is_core) a.trace)
+    b.trace
+
+run_started : (d : Document) (name : List ℕ) (steps : ℕ) (defined : Bool) (text : List ℕ) →
+    IsRun d name steps defined text → HasNoStart d name → ⊥
+run_started d name steps defined text a b =
+    started d name b.program b.core Heading.Run (turns (length b.program.instances) steps) defined text
+    (moved (λ c p. IsTrace d name c p Heading.Run (turns (length c.instances) steps) defined text)
+    a.program b.program a.core b.core
+    (one_program d name a.program b.program a.core b.core a.is_core b.is_core) a.trace)
+    b.not_initial
+
+named_program : (d : Document) (name : List ℕ) (c : Composed) (p : CProgram) → IsCoreOf d name c p →
+    program_named name (programs_of d) ≡ None → ⊥
+named_program d name c p a none =
+    let never : ◌≡◌ {A = Option Composed} (Some c) None = sym a.source ∙ none in
+    cc
+
+run_not_refused : (bytes name : List ℕ) (steps : ℕ) (d : Document) (defined : Bool) (text more : List ℕ) →
+    IsRead bytes d → IsRun d name steps defined text → IsNotRun bytes name more → ⊥
+run_not_refused bytes name steps d defined text more r a (answers.IsNotRun.bad b) = read_not_bad bytes more d r b
+run_not_refused bytes name steps d defined text more r a (no_program e s none f) =
+    named_program e name a.program a.core
+    (subst (λ x. IsCoreOf x name a.program a.core) (read_once bytes d e r s) a.is_core)
+    none
+run_not_refused bytes name steps d defined text more r a (answers.IsNotRun.no_start e s none f) =
+    run_started e name steps defined text
+    (subst (λ x. IsRun x name steps defined text) (read_once bytes d e r s) a) none
+
+one_refusal : (bytes name text more : List ℕ) → IsNotRun bytes name text → IsNotRun bytes name more → text ≡ more
+one_refusal bytes name text more (answers.IsNotRun.bad a) (answers.IsNotRun.bad b) = one_bad bytes text more a b
+one_refusal bytes name text more (answers.IsNotRun.bad a) (no_program d r h e) =
+    absurd (read_not_bad bytes text d r a)
+one_refusal bytes name text more (answers.IsNotRun.bad a) (answers.IsNotRun.no_start d r h e) =
+    absurd (read_not_bad bytes text d r a)
+one_refusal bytes name text more (no_program d r h e) (answers.IsNotRun.bad b) =
+    absurd (read_not_bad bytes more d r b)
+one_refusal bytes name text more (no_program d r h e) (no_program other s k f) = e ∙ sym f
+one_refusal bytes name text more (no_program d r h e) (answers.IsNotRun.no_start other s k f) =
+    absurd (named_program other name k.program k.core k.is_core
+    (subst (λ x. program_named name (programs_of x) ≡ None) (read_once bytes d other r s) h))
+one_refusal bytes name text more (answers.IsNotRun.no_start d r h e) (answers.IsNotRun.bad b) =
+    absurd (read_not_bad bytes more d r b)
+one_refusal bytes name text more (answers.IsNotRun.no_start d r h e) (no_program other s k f) =
+    absurd (named_program d name h.program h.core h.is_core
+    (subst (λ x. program_named name (programs_of x) ≡ None) (read_once bytes other d s r) k))
+one_refusal bytes name text more (answers.IsNotRun.no_start d r h e) (answers.IsNotRun.no_start other s k f) = e ∙ sym f
+
+both_runs : (bytes name : List ℕ) (steps : ℕ) (d e : Document) (defined also : Bool) (text more : List ℕ) →
+    IsRead bytes d → IsRun d name steps defined text → IsRead bytes e → IsRun e name steps also more →
+    (defined ≡ also) × (text ≡ more)
+both_runs bytes name steps d e defined also text more r a s b =
+    one_run e name steps defined also text more
+    (subst (λ x. IsRun x name steps defined text) (read_once bytes d e r s) a) b
+
+one_ran : (bytes name : List ℕ) (steps : ℕ) (status other : Status) (text more : List ℕ) →
+    Ran bytes name steps status text → Ran bytes name steps other more → (status ≡ other) × (text ≡ more)
+one_ran bytes name steps Status.Done Status.Done text more a b =
+    (refl, (both_runs bytes name steps a.0 b.0 true true text more a.1 a.2 b.1 b.2).1)
+one_ran bytes name steps Status.Done Status.Undefined text more a b =
+    let never = (both_runs bytes name steps a.0 b.0 true false text more a.1 a.2 b.1 b.2).0 in cc
+one_ran bytes name steps Status.Done Status.BadDocument text more a b =
+    absurd (run_not_refused bytes name steps a.0 true text more a.1 a.2 b)
+one_ran bytes name steps Status.Undefined Status.Done text more a b =
+    let never = (both_runs bytes name steps a.0 b.0 false true text more a.1 a.2 b.1 b.2).0 in cc
+one_ran bytes name steps Status.Undefined Status.Undefined text more a b =
+    (refl, (both_runs bytes name steps a.0 b.0 false false text more a.1 a.2 b.1 b.2).1)
+one_ran bytes name steps Status.Undefined Status.BadDocument text more a b =
+    absurd (run_not_refused bytes name steps a.0 false text more a.1 a.2 b)
+one_ran bytes name steps Status.BadDocument Status.Done text more a b =
+    absurd (run_not_refused bytes name steps b.0 true more text b.1 b.2 a)
+one_ran bytes name steps Status.BadDocument Status.Undefined text more a b =
+    absurd (run_not_refused bytes name steps b.0 false more text b.1 b.2 a)
+one_ran bytes name steps Status.BadDocument Status.BadDocument text more a b =
+    (refl, one_refusal bytes name text more a b)
+one_ran bytes name steps Status.Done other text more a b = absurd b
+one_ran bytes name steps Status.Undefined other text more a b = absurd b
+one_ran bytes name steps Status.BadDocument other text more a b = absurd b
+one_ran bytes name steps status other text more a b = absurd a
+
+-- ---- replay
+
+same_schedule : (d : Document) (s t : Schedule) → d.schedule ≡ Some s → d.schedule ≡ Some t → s ≡ t
+same_schedule d s t a b =
+    let somes : ◌≡◌ {A = Option Schedule} (Some s) (Some t) = sym a ∙ b in
+    cc
+
+-- a list is known by what is there
+all_there : (xs ys : List ℕ) → map Some xs ≡ map Some ys → xs ≡ ys
+all_there xs ys e = sym (back xs) ∙ ap (map (λ o. unwrap_or o 0)) e ∙ back ys
+  where
+    back : (zs : List ℕ) → map (λ o. unwrap_or o 0) (map Some zs) ≡ zs
+    back [] = refl
+    back (z ∷ zs) = ap (λ r. z ∷ r) (back zs)
+
+-- two replays of a document are of one program, by one list of choices
+record SameReplay (s t : Schedule) (c e : Composed) (p q : CProgram) (xs ys : List ℕ) : Type 0 where
+  schedules : s ≡ t
+  programs : c ≡ e
+  cores : p ≡ q
+  choices : xs ≡ ys
+
+one_replay_of : (d : Document) (s t : Schedule) (c e : Composed) (p q : CProgram) (xs ys : List ℕ) →
+    IsReplay d s c p xs → IsReplay d t e q ys → SameReplay s t c e p q xs ys
+one_replay_of d s t c e p q xs ys a b =
+    let schedules = same_schedule d s t a.there b.there in
+    let moved = subst (λ x. IsCoreOf d x.program.text c p) schedules a.core in
+    let programs = one_program d t.program.text c e p q moved b.core in
+    let choices =
+    a.named ∙ ap (λ x. map (place_of c) (some_of x.choices)) schedules
+    ∙ ap (λ x. map (place_of x) (some_of t.choices)) programs.0 ∙ sym b.named in
+    record { schedules = schedules; programs = programs.0; cores = programs.1; choices = all_there xs ys choices }
+
+abbrev ReplayTrace : Document → Bool → List ℕ → Schedule → Composed → CProgram → List ℕ → Type 0
+ReplayTrace d defined text s c p xs = IsTrace d s.program.text c p Heading.Replay xs defined text
+
+moved_replay : (P : Schedule → Composed → CProgram → List ℕ → Type 0) (s t : Schedule) (c e : Composed)
+    (p q : CProgram) (xs ys : List ℕ) → SameReplay s t c e p q xs ys → P s c p xs → P t e q ys
+moved_replay P s t c e p q xs ys same h =
+    subst (λ x. P t e q x) same.choices (subst (λ x. P t e x xs) same.cores
+    (subst (λ x. P t x p xs) same.programs (subst (λ x. P x c p xs) same.schedules h)))
+
+one_replay : (d : Document) (defined also : Bool) (text more : List ℕ) → IsReplayed d defined text →
+    IsReplayed d also more → (defined ≡ also) × (text ≡ more)
+one_replay d defined also text more a b =
+    one_trace d b.schedule.program.text b.program b.core Heading.Replay b.choices defined also text more
+    (moved_replay (ReplayTrace d defined text) a.schedule b.schedule a.program b.program a.core b.core a.choices
+    b.choices
+    (one_replay_of d a.schedule b.schedule a.program b.program a.core b.core a.choices b.choices a.replay_is
+    b.replay_is) a.trace) b.trace
+
+replay_started : (d : Document) (defined : Bool) (text : List ℕ) → IsReplayed d defined text → HasNoReplay d → ⊥
+replay_started d defined text a b =
+    started d b.schedule.program.text b.program b.core Heading.Replay b.choices defined text
+    (moved_replay (ReplayTrace d defined text) a.schedule b.schedule a.program b.program a.core b.core a.choices
+    b.choices
+    (one_replay_of d a.schedule b.schedule a.program b.program a.core b.core a.choices b.choices a.replay_is
+    b.replay_is) a.trace) b.not_initial
+
+-- a schedule all of whose choices name instances has none that names none
+
+none_missing : (c : Composed) (xs : List ℕ) (choices : List Inst) → map Some xs ≡ map (place_of c) choices →
+    find (λ i. is_none (place_of c i)) choices ≡ None
+none_missing c xs [] e = refl
+none_missing c [] (i ∷ rest) e = cc
+none_missing c (x ∷ xs) (i ∷ rest) e =
+    let first : Some x ≡ place_of c i = ap head_of e in
+    let others : map Some xs ≡ map (place_of c) rest = ap tail_of e in
+    ap (λ o. find_step o rest) (sym first) ∙ none_missing c xs rest others
+  where
+    head_of : List (Option ℕ) → Option ℕ
+    head_of [] = None
+    head_of (o ∷ os) = o
+
+    tail_of : List (Option ℕ) → List (Option ℕ)
+    tail_of [] = []
+    tail_of (o ∷ os) = os
+
+    find_step : Option ℕ → List Inst → Option Inst
+    find_step o more = cond (is_none o) (Some i) (find (λ j. is_none (place_of c j)) more)
+
+replay_knows : (d : Document) (at : ℕ) (s : Schedule) (c : Composed) (p : CProgram) (xs : List ℕ) →
+    IsReplay d s c p xs → IsUnknown d at → ⊥
+replay_knows d at s c p xs a u =
+    let schedules = same_schedule d s u.schedule a.there u.there in
+    let sources : ◌≡◌ {A = Option Composed} (Some c) (Some u.program) =
+    sym a.core.source ∙ ap (λ x. program_named x.program.text (programs_of d)) schedules ∙ u.source in
+    let programs : c ≡ u.program = cc in
+    let named = a.named ∙ ap (λ x. map (place_of c) (some_of x.choices)) schedules
+    ∙ ap (λ x. map (place_of x) (some_of u.schedule.choices)) programs in
+    let none = none_missing u.program xs (some_of u.schedule.choices) named in
+    let never : ◌≡◌ {A = Option ℕ} None (Some at) = sym (ap (option_map (λ i. i.at)) none) ∙ u.first in
+    cc
+
+has_schedule : (d : Document) (s : Schedule) → d.schedule ≡ Some s → d.schedule ≡ None → ⊥
+has_schedule d s a none =
+    let never : ◌≡◌ {A = Option Schedule} (Some s) None = sym a ∙ none in
+    cc
+
+replay_not_refused : (bytes : List ℕ) (d : Document) (defined : Bool) (text more : List ℕ) → IsRead bytes d →
+    IsReplayed d defined text → IsNotReplayed bytes more → ⊥
+replay_not_refused bytes d defined text more r a (answers.IsNotReplayed.bad b) = read_not_bad bytes more d r b
+replay_not_refused bytes d defined text more r a (no_schedule e s none f) =
+    has_schedule d a.schedule a.replay_is.there (subst (λ x. x.schedule ≡ None) (read_once bytes e d s r) none)
+replay_not_refused bytes d defined text more r a (unknown e at s u f) =
+    replay_knows d at a.schedule a.program a.core a.choices a.replay_is
+    (subst (λ x. IsUnknown x at) (read_once bytes e d s r) u)
+replay_not_refused bytes d defined text more r a (answers.IsNotReplayed.no_start e s none f) =
+    replay_started d defined text a (subst HasNoReplay (read_once bytes e d s r) none)
+
+one_unknown : (d : Document) (at other : ℕ) → IsUnknown d at → IsUnknown d other → at ≡ other
+one_unknown d at other a b =
+    let schedules = same_schedule d a.schedule b.schedule a.there b.there in
+    let sources : ◌≡◌ {A = Option Composed} (Some a.program) (Some b.program) =
+    sym a.source ∙ ap (λ x. program_named x.program.text (programs_of d)) schedules ∙ b.source in
+    let programs : a.program ≡ b.program = cc in
+    let places : ◌≡◌ {A = Option ℕ} (Some at) (Some other) =
+    sym a.first ∙ ap (λ x. first_unknown a.program x) schedules ∙ ap (λ x. first_unknown x b.schedule) programs
+    ∙ b.first in
+    cc
+  where
+    first_unknown : Composed → Schedule → Option ℕ
+    first_unknown c s = option_map (λ i. i.at) (find (λ i. is_none (place_of c i)) (some_of s.choices))
+
+one_unreplayed : (bytes text more : List ℕ) → IsNotReplayed bytes text → IsNotReplayed bytes more → text ≡ more
+one_unreplayed bytes text more (answers.IsNotReplayed.bad a) (answers.IsNotReplayed.bad b) =
+    one_bad bytes text more a b
+one_unreplayed bytes text more (answers.IsNotReplayed.bad a) (no_schedule d r h e) =
+    absurd (read_not_bad bytes text d r a)
+one_unreplayed bytes text more (answers.IsNotReplayed.bad a) (unknown d at r h e) =
+    absurd (read_not_bad bytes text d r a)
+one_unreplayed bytes text more (answers.IsNotReplayed.bad a) (answers.IsNotReplayed.no_start d r h e) =
+    absurd (read_not_bad bytes text d r a)
+one_unreplayed bytes text more (no_schedule d r h e) (answers.IsNotReplayed.bad b) =
+    absurd (read_not_bad bytes more d r b)
+one_unreplayed bytes text more (no_schedule d r h e) (no_schedule other s k f) = e ∙ sym f
+one_unreplayed bytes text more (no_schedule d r h e) (unknown other at s k f) =
+    absurd (has_schedule other k.schedule k.there (subst (λ x. x.schedule ≡ None) (read_once bytes d other r s) h))
+one_unreplayed bytes text more (no_schedule d r h e) (answers.IsNotReplayed.no_start other s k f) =
+    absurd (has_schedule other k.schedule k.replay_is.there
+    (subst (λ x. x.schedule ≡ None) (read_once bytes d other r s) h))
+one_unreplayed bytes text more (unknown d at r h e) (answers.IsNotReplayed.bad b) =
+    absurd (read_not_bad bytes more d r b)
+one_unreplayed bytes text more (unknown d at r h e) (no_schedule other s k f) =
+    absurd (has_schedule d h.schedule h.there (subst (λ x. x.schedule ≡ None) (read_once bytes other d s r) k))
+one_unreplayed bytes text more (unknown d at r h e) (unknown other place s k f) =
+    e ∙ ap (fault_text Code.NoSuchStatement)
+    (one_unknown other at place (subst (λ x. IsUnknown x at) (read_once bytes d other r s) h) k) ∙ sym f
+one_unreplayed bytes text more (unknown d at r h e) (answers.IsNotReplayed.no_start other s k f) =
+    absurd (replay_knows other at k.schedule k.program k.core k.choices k.replay_is
+    (subst (λ x. IsUnknown x at) (read_once bytes d other r s) h))
+one_unreplayed bytes text more (answers.IsNotReplayed.no_start d r h e) (answers.IsNotReplayed.bad b) =
+    absurd (read_not_bad bytes more d r b)
+one_unreplayed bytes text more (answers.IsNotReplayed.no_start d r h e) (no_schedule other s k f) =
+    absurd (has_schedule d h.schedule h.replay_is.there
+    (subst (λ x. x.schedule ≡ None) (read_once bytes other d s r) k))
+one_unreplayed bytes text more (answers.IsNotReplayed.no_start d r h e) (unknown other at s k f) =
+    absurd (replay_knows d at h.schedule h.program h.core h.choices h.replay_is
+    (subst (λ x. IsUnknown x at) (read_once bytes other d s r) k))
+one_unreplayed bytes text more (answers.IsNotReplayed.no_start d r h e) (answers.IsNotReplayed.no_start other s k f) =
+    e ∙ sym f
+
+both_replays : (bytes : List ℕ) (d e : Document) (defined also : Bool) (text more : List ℕ) → IsRead bytes d →
+    IsReplayed d defined text → IsRead bytes e → IsReplayed e also more → (defined ≡ also) × (text ≡ more)
+both_replays bytes d e defined also text more r a s b =
+    one_replay e defined also text more (subst (λ x. IsReplayed x defined text) (read_once bytes d e r s) a) b
+
+one_replayed : (bytes : List ℕ) (status other : Status) (text more : List ℕ) → Replayed bytes status text →
+    Replayed bytes other more → (status ≡ other) × (text ≡ more)
+one_replayed bytes Status.Done Status.Done text more a b =
+    (refl, (both_replays bytes a.0 b.0 true true text more a.1 a.2 b.1 b.2).1)
+one_replayed bytes Status.Done Status.Undefined text more a b =
+    let never = (both_replays bytes a.0 b.0 true false text more a.1 a.2 b.1 b.2).0 in cc
+one_replayed bytes Status.Done Status.BadDocument text more a b =
+    absurd (replay_not_refused bytes a.0 true text more a.1 a.2 b)
+one_replayed bytes Status.Undefined Status.Done text more a b =
+    let never = (both_replays bytes a.0 b.0 false true text more a.1 a.2 b.1 b.2).0 in cc
+one_replayed bytes Status.Undefined Status.Undefined text more a b =
+    (refl, (both_replays bytes a.0 b.0 false false text more a.1 a.2 b.1 b.2).1)
+one_replayed bytes Status.Undefined Status.BadDocument text more a b =
+    absurd (replay_not_refused bytes a.0 false text more a.1 a.2 b)
+one_replayed bytes Status.BadDocument Status.Done text more a b =
+    absurd (replay_not_refused bytes b.0 true more text b.1 b.2 a)
+one_replayed bytes Status.BadDocument Status.Undefined text more a b =
+    absurd (replay_not_refused bytes b.0 false more text b.1 b.2 a)
+one_replayed bytes Status.BadDocument Status.BadDocument text more a b =
+    (refl, one_unreplayed bytes text more a b)
+one_replayed bytes Status.Done other text more a b = absurd b
+one_replayed bytes Status.Undefined other text more a b = absurd b
+one_replayed bytes Status.BadDocument other text more a b = absurd b
+one_replayed bytes status other text more a b = absurd a
+
+pub one_answer : OneAnswer
+one_answer None bytes status other text more a b = (a.0 ∙ sym b.0, a.1 ∙ sym b.1)
+one_answer (Some check) bytes status other text more a b = one_checked bytes status other text more a b
+one_answer (Some (run program steps)) bytes status other text more a b =
+    one_ran bytes program steps status other text more a b
+one_answer (Some replay) bytes status other text more a b = one_replayed bytes status other text more a b

@@ -1,0 +1,449 @@
+-- What is told is an answer.
+use Rattle.std.proofs.Common.{◌≡◌, ◌<◌, ℕ, List, [], length, replicate, suc, Bool, true, false, Option}
+use Rattle.std.proofs.Common.{Some, None, Result, Ok, Err, IsErr, IsErrOf, refl, sym, ◌∙◌, subst, arith, codes, ◌++◌}
+use Rattle.std.proofs.Common.{◌∷◌}
+use Rattle.std.proofs.lemmas.List.{length-replicate}
+use Rattle.std.specs.Io.KnownBytes.{Appends}
+use Rattle.unity_base.specs.Streams.{Was, IsLongerThan, AppendsPart}
+use Rattle.unity_syntax.specs.declared.document.Document.{Document}
+use Rattle.unity_syntax.specs.declared.document.Schedule.{Schedule}
+use Rattle.case_tables.specs.declared.code_table.Code.{Code}
+use Rattle.answer_texts.specs.Refusals.{fault_text, refusal_text}
+use Rattle.unity_meaning.specs.Programs.{Composed}
+use Rattle.core_terms.specs.Conditions.{IsDocument as IsCoreDocument}
+use Rattle.core_terms.specs.declared.programs.CProgram.{CProgram}
+use Rattle.executor.specs.declared.runner.Stepped.{Stepped}
+use Rattle.schedule_replay.specs.declared.heading.Heading.{Heading}
+use Rattle.schedule_replay.specs.Schedules.{turns}
+use Rattle.trace_text.specs.Traces.{all_defined, ending}
+use Rattle.program_traces.specs.declared.error.RunError.{RunError}
+use Rattle.program_traces.specs.Answers.{Runs as CoreRuns, Replays as CoreReplays}
+use Rattle.source_traces.specs.Traces.{source_system, first_state, program_trace}
+use Rattle.source_traces.specs.Answers.{Runs, Replays}
+use Rattle.source_traces.proofs.Runs.{runs_say}
+use Rattle.source_traces.proofs.Replays.{replays_say}
+use Rattle.proof_script.specs.Giving.{AreWhole}
+use Rattle.written_certificates.specs.Certificates.{certificates_of}
+use Rattle.command_words.specs.Requests.{Request, check, run, replay}
+use Rattle.unity_cli.specs.declared.status.Status.{Status}
+use Rattle.unity_cli.specs.declared.stop.Stop.{Stop}
+use Rattle.unity_cli.specs.declared.reading.Input.{Input}
+use Rattle.unity_cli.specs.declared.reading.Reading.{Reading}
+use Rattle.unity_cli.specs.Status.{HasText}
+use Rattle.unity_cli.specs.Stop.{stop_status}
+use Rattle.unity_cli.specs.Answer.{greatest_size, IsRead, IsBad, IsTrace, IsRun, HasNoStart, Ran, IsReplayed}
+use Rattle.unity_cli.specs.Answer.{HasNoReplay, Replayed, Answer, IsAnswer, Checked, IsAccepted, Tells, TellsPart}
+use Rattle.unity_cli.specs.Answer.{not_built_text}
+use Rattle.unity_cli.specs.Reading.{IsReading}
+use Rattle.unity_cli.specs.Truth.{ClaimsAreTrue, ProgramsRun}
+use Rattle.proof_script.specs.Built.{is_built}
+use Rattle.unity_cli.specs.Answer as answers
+use Rattle.unity_cli.specs.Input.{IsReadAs, IsInput, IsInputOf, IsSomeInput, IsSomeReading}
+use Rattle.unity_cli.specs.Answering.{Telling, TellsInput, TellsReading, TellsBad, EndsAs}
+use Rattle.unity_cli.proofs.Accepted.{read_core, read_whole, accepted_true, accepted_runs}
+
+-- ---- bytes
+
+pub some_bytes : (left : Option (List ℕ)) → (bytes : List ℕ) × Was left bytes
+some_bytes None = ([], tt)
+some_bytes (Some xs) = (xs, refl)
+
+more_than : (n : ℕ) → n < length {A = ℕ} (replicate (suc n) 0)
+more_than n = omega (arith, length-replicate {A = ℕ} (suc n) 0)
+
+-- too many bytes
+pub longer : (left : Option (List ℕ)) → IsLongerThan greatest_size left → IsInputOf left Input.TooLong
+longer None h = record { bytes = replicate (suc greatest_size) 0; were = tt; input_is = more_than greatest_size }
+longer (Some xs) h = record { bytes = xs; were = refl; input_is = h }
+
+-- ---- what was read
+
+pub sound_core : (r : Reading) → IsSomeReading r → IsCoreDocument r.core
+sound_core r h = subst IsCoreDocument (sym h.1.core_is) (read_core h.0 r.document h.1.read)
+
+pub sound_certificates : (r : Reading) → IsSomeReading r → AreWhole (certificates_of r.document)
+sound_certificates r h = read_whole h.0 r.document h.1.read
+
+pub some_reading : (r : Reading) → IsSomeInput (Input.Document r) → IsSomeReading r
+some_reading r h = h
+
+-- ---- telling
+
+exact_told : (request : Request) (bytes : List ℕ) (old new : Option (List ℕ)) (status meant : Status) (text : List ℕ) →
+    Answer (Some request) bytes meant text → status ≡ meant → Appends old new text →
+    (meant ≡ Status.WriteFault → ⊥) → Telling request bytes old new status
+exact_told request bytes old new status meant text answer same appends never = record {
+  whole = λ h. (text, subst (λ s. Answer (Some request) bytes s text) (sym same) answer, appends);
+  part = λ w. absurd (never (sym same ∙ w));
+}
+
+bad_told : (request : Request) (bytes : List ℕ) (old mid new : Option (List ℕ)) (status : Status) (text : List ℕ) →
+    Answer (Some request) bytes Status.BadDocument text → mid ≡ old → TellsBad text mid new status →
+    Telling request bytes old new status
+bad_told request bytes old mid new status text answer same t = record {
+  whole = λ h. (
+    text,
+    subst (λ s. Answer (Some request) bytes s text) (sym (t.is_bad h)) answer,
+    subst (λ o. Appends o new text) same (t.whole h),
+  );
+  part = λ w. (Status.BadDocument, text, answer, subst (λ o. AppendsPart o new text) same (t.part w));
+}
+
+part_told : (request : Request) (bytes : List ℕ) (old mid new : Option (List ℕ)) (status meant : Status)
+    (text : List ℕ) → Answer (Some request) bytes meant text → AppendsPart old mid text → new ≡ mid →
+    status ≡ Status.WriteFault → Telling request bytes old new status
+part_told request bytes old mid new status meant text answer part same e = record {
+  whole = λ h. absurd (subst HasText e h);
+  part = λ w. (meant, text, answer, subst (λ n. AppendsPart old n text) (sym same) part);
+}
+
+none_told : (request : Request) (bytes : List ℕ) (old new : Option (List ℕ)) (status : Status) →
+    status ≡ Status.WantOfMemory → Telling request bytes old new status
+none_told request bytes old new status e = record {
+  whole = λ h. absurd (subst HasText e h);
+  part = λ w. let never : Status.WantOfMemory ≡ Status.WriteFault = sym e ∙ w in cc;
+}
+
+pub refused : (request : Request) (bytes : List ℕ) (old new : Option (List ℕ)) (status : Status) (text : List ℕ) →
+    Answer (Some request) bytes Status.BadDocument text → TellsBad text old new status →
+    Telling request bytes old new status
+refused request bytes old new status text answer t = bad_told request bytes old old new status text answer refl t
+
+-- ---- run
+
+done_defined : (b : Bool) → Stepped.Done ≡ ending b → b ≡ true
+done_defined true e = refl
+done_defined false e = cc
+
+undefined_not : (b : Bool) → Stepped.Undefined ≡ ending b → b ≡ false
+undefined_not false e = refl
+undefined_not true e = cc
+
+status_for : Bool → Status
+status_for true = Status.Done
+status_for false = Status.Undefined
+
+abbrev run_choices : Composed → ℕ → List ℕ
+run_choices c steps = turns (length c.instances) steps
+
+abbrev run_trace : Document → List ℕ → ℕ → Composed → CProgram → List ℕ
+run_trace d name steps c p = program_trace d name c Heading.Run (first_state d p) (run_choices c steps)
+
+abbrev replay_trace : Document → Schedule → Composed → CProgram → List ℕ → List ℕ
+replay_trace d s c p choices = program_trace d s.program.text c Heading.Replay (first_state d p) choices
+
+ran_so : (bytes name : List ℕ) (steps : ℕ) (d : Document) (defined : Bool) (text : List ℕ) → IsRead bytes d →
+    IsRun d name steps defined text → Ran bytes name steps (status_for defined) text
+unfolding status_for
+ran_so bytes name steps d true text r t = (d, r, t)
+ran_so bytes name steps d false text r t = (d, r, t)
+
+run_told : (bytes name : List ℕ) (steps : ℕ) (d : Document) → IsRead bytes d → (old mid new : Option (List ℕ))
+    (ended : Result Stepped RunError) (status : Status) → Runs d name steps old mid ended →
+    EndsAs ended mid new status → Telling (run name steps) bytes old new status
+run_told bytes name steps d r old mid new (Ok Stepped.Done) status h e =
+    let t : IsRun d name steps true (run_trace d name steps h.0 h.1) =
+    record {
+      program = h.0;
+      core = h.1;
+      is_core = h.2;
+      trace = record {
+        initial = h.3.initial;
+        defined_is = done_defined _ h.3.ending_is;
+        text_is = refl;
+      };
+    } in
+    exact_told (run name steps) bytes old new status Status.Done (run_trace d name steps h.0 h.1) (d, r, t) e.0
+    (subst (λ n. Appends old n (run_trace d name steps h.0 h.1)) (sym e.1) h.3.whole) (λ w. cc)
+run_told bytes name steps d r old mid new (Ok Stepped.Undefined) status h e =
+    let t : IsRun d name steps false (run_trace d name steps h.0 h.1) =
+    record {
+      program = h.0;
+      core = h.1;
+      is_core = h.2;
+      trace = record {
+        initial = h.3.initial;
+        defined_is = undefined_not _ h.3.ending_is;
+        text_is = refl;
+      };
+    } in
+    exact_told (run name steps) bytes old new status Status.Undefined (run_trace d name steps h.0 h.1) (d, r, t) e.0
+    (subst (λ n. Appends old n (run_trace d name steps h.0 h.1)) (sym e.1) h.3.whole) (λ w. cc)
+run_told bytes name steps d r old mid new (Err RunError.NoProgram) status h e =
+    bad_told (run name steps) bytes old mid new status (refusal_text Code.NoProgram)
+    (answers.IsNotRun.no_program d r h.0 refl) h.1 e
+run_told bytes name steps d r old mid new (Err RunError.NoSchedule) status h e = absurd h
+run_told bytes name steps d r old mid new (Err (RunError.NoSuchStatement at)) status h e = absurd h
+run_told bytes name steps d r old mid new (Err RunError.NotInitial) status h e =
+    bad_told (run name steps) bytes old mid new status (refusal_text Code.NoStart)
+    (answers.IsNotRun.no_start d r (record {
+      program = h.0;
+      core = h.1;
+      is_core = h.2;
+      not_initial = h.3.0;
+    }) refl) h.3.1 e
+run_told bytes name steps d r old mid new (Err RunError.Failed) status h e =
+    let defined = all_defined (source_system d h.0) (first_state d h.1) (run_choices h.0 steps) in
+    part_told (run name steps) bytes old mid new status (status_for defined) (run_trace d name steps h.0 h.1)
+    (ran_so bytes name steps d defined (run_trace d name steps h.0 h.1) r
+    (record {
+      program = h.0;
+      core = h.1;
+      is_core = h.2;
+      trace = record {
+        initial = h.3.0;
+        defined_is = refl;
+        text_is = refl;
+      };
+    })) h.3.1 e.1 e.0
+run_told bytes name steps d r old mid new (Err RunError.Memory) status h e =
+    none_told (run name steps) bytes old new status e.0
+
+pub run_answered : (r : Reading) (name : List ℕ) (steps : ℕ) (old mid new : Option (List ℕ))
+    (ended : Result Stepped RunError) (status : Status) → CoreRuns r.core name steps old mid ended →
+    EndsAs ended mid new status → TellsReading (run name steps) r old new status
+run_answered r name steps old mid new ended status h e bytes is =
+    run_told bytes name steps r.document is.read old mid new ended status
+    (runs_say r.document name steps old mid ended is.read.reading.named is.read.reading.expands
+    (read_core bytes r.document is.read) (subst (λ c. CoreRuns c name steps old mid ended) is.core_is h)) e
+
+-- ---- replay
+
+replayed_so : (bytes : List ℕ) (d : Document) (defined : Bool) (text : List ℕ) → IsRead bytes d →
+    IsReplayed d defined text → Replayed bytes (status_for defined) text
+unfolding status_for
+replayed_so bytes d true text r t = (d, r, t)
+replayed_so bytes d false text r t = (d, r, t)
+
+replay_told : (bytes : List ℕ) (d : Document) → IsRead bytes d → (old mid new : Option (List ℕ))
+    (ended : Result Stepped RunError) (status : Status) → Replays d old mid ended → EndsAs ended mid new status →
+    Telling replay bytes old new status
+replay_told bytes d r old mid new (Ok Stepped.Done) status h e =
+    let t : IsReplayed d true (replay_trace d h.0 h.1 h.2 h.3) =
+    record {
+      schedule = h.0;
+      program = h.1;
+      core = h.2;
+      choices = h.3;
+      replay_is = h.4;
+      trace = record {
+        initial = h.5.initial;
+        defined_is = done_defined _ h.5.ending_is;
+        text_is = refl;
+      };
+    } in
+    exact_told replay bytes old new status Status.Done (replay_trace d h.0 h.1 h.2 h.3) (d, r, t) e.0
+    (subst (λ n. Appends old n (replay_trace d h.0 h.1 h.2 h.3)) (sym e.1) h.5.whole) (λ w. cc)
+replay_told bytes d r old mid new (Ok Stepped.Undefined) status h e =
+    let t : IsReplayed d false (replay_trace d h.0 h.1 h.2 h.3) =
+    record {
+      schedule = h.0;
+      program = h.1;
+      core = h.2;
+      choices = h.3;
+      replay_is = h.4;
+      trace = record {
+        initial = h.5.initial;
+        defined_is = undefined_not _ h.5.ending_is;
+        text_is = refl;
+      };
+    } in
+    exact_told replay bytes old new status Status.Undefined (replay_trace d h.0 h.1 h.2 h.3) (d, r, t) e.0
+    (subst (λ n. Appends old n (replay_trace d h.0 h.1 h.2 h.3)) (sym e.1) h.5.whole) (λ w. cc)
+replay_told bytes d r old mid new (Err RunError.NoProgram) status h e = absurd h
+replay_told bytes d r old mid new (Err RunError.NoSchedule) status h e =
+    bad_told replay bytes old mid new status (refusal_text Code.NoSchedule)
+    (answers.IsNotReplayed.no_schedule d r h.0 refl) h.1 e
+replay_told bytes d r old mid new (Err (RunError.NoSuchStatement at)) status h e =
+    bad_told replay bytes old mid new status (fault_text Code.NoSuchStatement at)
+    (answers.IsNotReplayed.unknown d at r h.0 refl) h.1 e
+replay_told bytes d r old mid new (Err RunError.NotInitial) status h e =
+    bad_told replay bytes old mid new status (refusal_text Code.NoStart)
+    (answers.IsNotReplayed.no_start d r (record {
+      schedule = h.0;
+      program = h.1;
+      core = h.2;
+      choices = h.3;
+      replay_is = h.4;
+      not_initial = h.5.0;
+    }) refl) h.5.1 e
+replay_told bytes d r old mid new (Err RunError.Failed) status h e =
+    let defined = all_defined (source_system d h.1) (first_state d h.2) h.3 in
+    part_told replay bytes old mid new status (status_for defined) (replay_trace d h.0 h.1 h.2 h.3)
+    (replayed_so bytes d defined (replay_trace d h.0 h.1 h.2 h.3) r
+    (record {
+      schedule = h.0;
+      program = h.1;
+      core = h.2;
+      choices = h.3;
+      replay_is = h.4;
+      trace = record {
+        initial = h.5.0;
+        defined_is = refl;
+        text_is = refl;
+      };
+    })) h.5.1 e.1 e.0
+replay_told bytes d r old mid new (Err RunError.Memory) status h e = none_told replay bytes old new status e.0
+
+pub replay_answered : (r : Reading) (old mid new : Option (List ℕ)) (ended : Result Stepped RunError)
+    (status : Status) → CoreReplays r.core old mid ended → EndsAs ended mid new status →
+    TellsReading replay r old new status
+replay_answered r old mid new ended status h e bytes is =
+    replay_told bytes r.document is.read old mid new ended status
+    (replays_say r.document old mid ended is.read.reading.named is.read.reading.expands
+    (read_core bytes r.document is.read) (subst (λ c. CoreReplays c old mid ended) is.core_is h)) e
+
+-- ---- the status of a call that stopped
+
+pub stop_not_done : (stop : Stop) → stop_status stop ≡ Status.Done → ⊥
+stop_not_done Stop.ReadFault e = cc
+stop_not_done Stop.WriteFault e = cc
+stop_not_done Stop.Memory e = cc
+
+pub stop_has_no_text : (stop : Stop) → HasText (stop_status stop) → ⊥
+stop_has_no_text Stop.ReadFault h = h
+stop_has_no_text Stop.WriteFault h = h
+stop_has_no_text Stop.Memory h = h
+
+pub stopped_reading : (stop : Stop) → stop_status stop ≡ Status.ReadFault → stop ≡ Stop.ReadFault
+stopped_reading Stop.ReadFault e = refl
+stopped_reading Stop.WriteFault e = cc
+stopped_reading Stop.Memory e = cc
+
+pub stopped_writing : (stop : Stop) → stop_status stop ≡ Status.WriteFault → stop ≡ Stop.WriteFault
+stopped_writing Stop.ReadFault e = cc
+stopped_writing Stop.WriteFault e = refl
+stopped_writing Stop.Memory e = cc
+
+-- ---- inputs without a reading
+
+pub too_long_bad : (bytes : List ℕ) (input : Input) → input ≡ Input.TooLong → IsInput bytes input →
+    IsBad bytes (refusal_text Code.TooLong)
+too_long_bad bytes input e h = answers.IsBad.too_long (subst (IsInput bytes) e h) refl
+
+pub fault_bad : (bytes : List ℕ) (input : Input) (code : Code) (at : ℕ) → input ≡ Input.Fault code at →
+    IsInput bytes input → IsBad bytes (fault_text code at)
+fault_bad bytes input code at e h =
+    let f = subst (IsInput bytes) e h in
+    answers.IsBad.no_reading code at f.0 f.1 refl
+
+-- ---- commands that ended early
+
+pub ended_early : (ended : Result Stepped RunError) (old new : Option (List ℕ)) (status : Status) →
+    EndsAs ended old new status → status ≡ Status.WantOfMemory → IsErr ended × (IsErrOf ended RunError.Failed → ⊥)
+ended_early (Ok Stepped.Done) old new status e w =
+    let never : Status.Done ≡ Status.WantOfMemory = sym e.0 ∙ w in cc
+ended_early (Ok Stepped.Undefined) old new status e w =
+    let never : Status.Undefined ≡ Status.WantOfMemory = sym e.0 ∙ w in cc
+ended_early (Err RunError.NoProgram) old new status e w = (refl, λ f. cc)
+ended_early (Err RunError.NoSchedule) old new status e w = (refl, λ f. cc)
+ended_early (Err (RunError.NoSuchStatement at)) old new status e w = (refl, λ f. cc)
+ended_early (Err RunError.NotInitial) old new status e w = (refl, λ f. cc)
+ended_early (Err RunError.Failed) old new status e w =
+    let never : Status.WriteFault ≡ Status.WantOfMemory = sym e.0 ∙ w in cc
+ended_early (Err RunError.Memory) old new status e w = (refl, λ f. cc)
+
+-- ---- check
+
+pub checked_has_text : (bytes : List ℕ) (status : Status) (text : List ℕ) → Checked bytes status text → HasText status
+checked_has_text bytes Status.Done text h = tt
+checked_has_text bytes Status.Rejected text h = tt
+checked_has_text bytes Status.BadDocument text h = tt
+checked_has_text bytes Status.Undefined text h = tt
+checked_has_text bytes Status.BadWords text h = tt
+checked_has_text bytes Status.ReadFault text h = h
+checked_has_text bytes Status.WriteFault text h = h
+checked_has_text bytes Status.WantOfMemory text h = h
+
+pub verdict_told : (bytes : List ℕ) (old new : Option (List ℕ)) (meant status : Status) (text : List ℕ) →
+    Checked bytes meant text → (HasText status → Appends old new text) → (HasText status → status ≡ meant) →
+    (status ≡ Status.WriteFault → AppendsPart old new text) → Telling check bytes old new status
+verdict_told bytes old new meant status text checked whole same part = record {
+  whole = λ h. (text, subst (λ s. Checked bytes s text) (sym (same h)) checked, whole h);
+  part = λ w. (meant, text, checked, part w);
+}
+
+pub bad_checked : (bytes : List ℕ) (status : Status) (text meant : List ℕ) → status ≡ Status.BadDocument →
+    text ≡ meant → Checked bytes Status.BadDocument meant → Checked bytes status text
+bad_checked bytes status text meant e f h =
+    subst (λ x. Checked bytes x text) (sym e) (subst (Checked bytes Status.BadDocument) (sym f) h)
+
+pub unchecked : (bytes : List ℕ) (text : List ℕ) → IsBad bytes text → Checked bytes Status.BadDocument text
+unchecked bytes text b = answers.IsUnchecked.bad b
+
+pub unbuilt : (bytes : List ℕ) (r : Reading) → is_built r.core ≡ false → IsReadAs bytes r →
+    Checked bytes Status.BadDocument not_built_text
+unbuilt bytes r h is =
+    answers.IsUnchecked.not_built r.document is.read (subst (λ c. is_built c ≡ false) is.core_is h) refl
+
+-- ---- all requests
+
+pub bad_words : (request : Option Request) (left : Option (List ℕ)) → request ≡ None →
+    IsAnswer request left Status.BadWords (codes "bad words" ++ 10 ∷ [])
+bad_words None left e = let some = some_bytes left in record { bytes = some.0; were = some.1; allowed = (refl, refl) }
+bad_words (Some r) left e = cc
+
+pub told_whole : (asked : Option Request) (request : Request) (left : Option (List ℕ)) (input : Input)
+    (old new : Option (List ℕ)) (status : Status) → asked ≡ Some request → IsInputOf left input →
+    TellsInput request input old new status → HasText status → Tells asked left status old new
+told_whole asked request left input old new status e i t h =
+    let told = (t i.bytes i.input_is).whole h in
+    record {
+      text = told.0;
+      answer = record {
+        bytes = i.bytes;
+        were = i.were;
+        allowed = subst (λ a. Answer a i.bytes status told.0) (sym e) told.1;
+      };
+      appends = told.2;
+    }
+
+pub told_part : (asked : Option Request) (request : Request) (left : Option (List ℕ)) (input : Input)
+    (old new : Option (List ℕ)) (status : Status) → asked ≡ Some request → IsInputOf left input →
+    TellsInput request input old new status → status ≡ Status.WriteFault → TellsPart asked left old new
+told_part asked request left input old new status e i t w =
+    let told = (t i.bytes i.input_is).part w in
+    record {
+      status = told.0;
+      text = told.1;
+      answer = record {
+        bytes = i.bytes;
+        were = i.were;
+        allowed = subst (λ a. Answer a i.bytes told.0 told.1) (sym e) told.2;
+      };
+      part = told.3;
+    }
+
+-- the bytes that were left, of which `check` answered that they are accepted
+accepted_bytes : (asked : Option Request) (request : Request) (left : Option (List ℕ)) (input : Input)
+    (old new : Option (List ℕ)) (status : Status) → asked ≡ Some request → (i : IsInputOf left input) →
+    TellsInput request input old new status → status ≡ Status.Done → asked ≡ Some check →
+    (text : List ℕ) × IsAccepted i.bytes text
+accepted_bytes asked request left input old new status e i t done is_check =
+    let told = (t i.bytes i.input_is).whole (subst HasText (sym done) tt) in
+    let somes : ◌≡◌ {A = Option Request} (Some request) (Some check) = sym e ∙ is_check in
+    let same : request ≡ check = cc in (
+      told.0,
+      subst (λ s. Checked i.bytes s told.0) done
+          (subst (λ r. Answer (Some r) i.bytes status told.0) same told.1),
+    )
+
+left_bytes : (left : Option (List ℕ)) (xs bytes : List ℕ) → Was left xs → left ≡ Some bytes → bytes ≡ xs
+left_bytes None xs bytes w e = cc
+left_bytes (Some ys) xs bytes w e = let same : ys ≡ bytes = cc in sym same ∙ w
+
+pub done_claims : (asked : Option Request) (request : Request) (left : Option (List ℕ)) (input : Input)
+    (old new : Option (List ℕ)) (status : Status) → asked ≡ Some request → IsInputOf left input →
+    TellsInput request input old new status → status ≡ Status.Done → asked ≡ Some check → (bytes : List ℕ)
+    (d : Document) → left ≡ Some bytes → IsReading bytes d → ClaimsAreTrue d
+done_claims asked request left input old new status e i t done is_check bytes d was r =
+    let a = accepted_bytes asked request left input old new status e i t done is_check in
+    accepted_true i.bytes a.0 d a.1 (subst (λ b. IsReading b d) (left_bytes left i.bytes bytes i.were was) r)
+
+pub done_runs : (asked : Option Request) (request : Request) (left : Option (List ℕ)) (input : Input)
+    (old new : Option (List ℕ)) (status : Status) → asked ≡ Some request → IsInputOf left input →
+    TellsInput request input old new status → status ≡ Status.Done → asked ≡ Some check → (bytes : List ℕ)
+    (d : Document) → left ≡ Some bytes → IsReading bytes d → ProgramsRun d
+done_runs asked request left input old new status e i t done is_check bytes d was r =
+    let a = accepted_bytes asked request left input old new status e i t done is_check in
+    accepted_runs i.bytes a.0 d a.1 (subst (λ b. IsReading b d) (left_bytes left i.bytes bytes i.were was) r)

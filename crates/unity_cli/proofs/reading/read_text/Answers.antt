@@ -1,0 +1,6 @@
+use Rattle.std.proofs.Common.{rules}
+use Rattle.unity_cli.specs.Reading.{of_document}
+use Rattle.unity_cli.proofs.reading.read_text.Goals as goal
+
+pub returns-in-Err-Fault : goal.returns-in-Err-Fault
+returns-in-Err-Fault c = (c.requires.size, of_document _ c.requires.document (search rules))

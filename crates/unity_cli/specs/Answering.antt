@@ -1,0 +1,51 @@
+-- What is said of an input, whatever bytes it is.
+use Rattle.std.specs.Prelude.{◌≡◌, ℕ, List, Option, Some, Result, Ok, Err}
+use Rattle.std.specs.Io.KnownBytes.{Appends}
+use Rattle.unity_base.specs.Streams.{AppendsPart}
+use Rattle.case_tables.specs.declared.code_table.Code.{Code}
+use Rattle.executor.specs.declared.runner.Stepped.{Stepped}
+use Rattle.program_traces.specs.declared.error.RunError.{RunError}
+use Rattle.answer_texts.specs.Refusals.{fault_text, refusal_text}
+use Rattle.command_words.specs.Requests.{Request}
+use Rattle.unity_cli.specs.declared.reading.Input.{Input}
+use Rattle.unity_cli.specs.declared.reading.Reading.{Reading}
+use Rattle.unity_cli.specs.declared.judge.Answer.{Answer as Told}
+use Rattle.unity_cli.specs.declared.status.Status.{Status}
+use Rattle.unity_cli.specs.Status.{HasText}
+use Rattle.unity_cli.specs.Answer.{Answer, Checked}
+use Rattle.unity_cli.specs.Input.{IsInput, IsReadAs}
+
+-- the status and the text are what `check` answers
+abbrev pub IsCheckedFor : Input → Told → Type 0
+IsCheckedFor input a = (bytes : List ℕ) → IsInput bytes input → Checked bytes a.status a.text.items
+
+-- an answer for these bytes was told whole, or a front part of it
+pub record Telling (request : Request) (bytes : List ℕ) (old new : Option (List ℕ)) (status : Status) : Type 0 where
+  pub whole : HasText status → (text : List ℕ) × Answer (Some request) bytes status text × Appends old new text
+  pub part : status ≡ Status.WriteFault →
+      (meant : Status) × (text : List ℕ) × Answer (Some request) bytes meant text × AppendsPart old new text
+
+-- whatever bytes the input is
+abbrev pub TellsInput : Request → Input → Option (List ℕ) → Option (List ℕ) → Status → Type 0
+TellsInput request input old new status = (bytes : List ℕ) → IsInput bytes input → Telling request bytes old new status
+
+abbrev pub TellsReading : Request → Reading → Option (List ℕ) → Option (List ℕ) → Status → Type 0
+TellsReading request r old new status = (bytes : List ℕ) → IsReadAs bytes r → Telling request bytes old new status
+
+-- why something cannot be used was told whole, or a front part of it, or nothing for want of memory
+pub record TellsBad (text : List ℕ) (old new : Option (List ℕ)) (status : Status) : Type 0 where
+  pub is_bad : HasText status → status ≡ Status.BadDocument
+  pub whole : HasText status → Appends old new text
+  pub part : status ≡ Status.WriteFault → AppendsPart old new text
+
+-- a command that ended so has this status, with its refusal where it has one
+abbrev pub EndsAs : Result Stepped RunError → Option (List ℕ) → Option (List ℕ) → Status → Type 0
+EndsAs (Ok Stepped.Done) old new status = (status ≡ Status.Done) × (new ≡ old)
+EndsAs (Ok Stepped.Undefined) old new status = (status ≡ Status.Undefined) × (new ≡ old)
+EndsAs (Err RunError.NoProgram) old new status = TellsBad (refusal_text Code.NoProgram) old new status
+EndsAs (Err RunError.NoSchedule) old new status = TellsBad (refusal_text Code.NoSchedule) old new status
+EndsAs (Err (RunError.NoSuchStatement at)) old new status =
+    TellsBad (fault_text Code.NoSuchStatement at) old new status
+EndsAs (Err RunError.NotInitial) old new status = TellsBad (refusal_text Code.NoStart) old new status
+EndsAs (Err RunError.Failed) old new status = (status ≡ Status.WriteFault) × (new ≡ old)
+EndsAs (Err RunError.Memory) old new status = (status ≡ Status.WantOfMemory) × (new ≡ old)

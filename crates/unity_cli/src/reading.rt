@@ -1,0 +1,131 @@
+// Reading a document, and its core form.
+ghost use Rattle.std.specs.Prelude.{◌≡◌, ◌≤◌, ◌⊎◌, None, IfOk, IfErr, OnOk, IsErrOf, length};
+ghost use Rattle.std.specs.Io.KnownBytes.{IsAtEnd};
+ghost use Rattle.unity_base.specs.Streams.{IsTold, IsLongerThan, LeavesRest};
+ghost use Rattle.unity_parser.specs.Document.{IsDocument};
+ghost use Rattle.name_scopes.specs.WellNamed.{IsWellNamed};
+ghost use Rattle.name_scopes.specs.Answers.{Stops};
+ghost use Rattle.name_scopes.specs.declared.named.NameFault.{NameFault};
+ghost use Rattle.core_documents.specs.Cores.{core_document};
+ghost use Rattle.core_documents.specs.Faults.{expansion_fault};
+ghost use Rattle.unity_cli.specs.Answer.{greatest_size};
+ghost use Rattle.unity_cli.specs.Input.{IsInput, IsInputOf};
+ghost use Rattle.unity_cli.specs.Reading.{document_fault};
+
+use crate::stop::Stop;
+use case_tables::Code;
+use core_terms::CDocument;
+use name_scopes::NameFault;
+use quantified_assign::expand;
+use ranges_types::{Names, check_names};
+use std::alloc::{AllocError, Global};
+use unity_base::{Held, ReadError, Source, read_all};
+use unity_parser::read_document;
+use unity_syntax::{Document, SyntaxFault};
+
+/// The greatest number of bytes of a text.
+pub const GREATEST_SIZE: usize = 67_108_864;
+
+/// A document without a fault, and its core form.
+#[derive(Drop)]
+pub struct Reading {
+    pub document: Document,
+    pub core: CDocument,
+}
+
+/// What some bytes are.
+#[derive(Drop)]
+pub enum Input {
+    /// They are more than `GREATEST_SIZE`.
+    TooLong,
+    /// They are no document without a fault, with the code and the place of the first fault: of the text,
+    /// or else of the names, or else of the expansion.
+    Fault { code: Code, at: u64 },
+    /// They are this document.
+    Document(Held<Reading>),
+}
+
+/// The core form of a well-named document, or the first fault of its expansion.
+fn expanded(alloc: Global, document: &Document, names: &Names) -> Result<Held<CDocument>, NameFault>
+    requires { IsWellNamed document.now }
+    ensures core { IfOk result (λ core. core ≡ core_document document.now) }
+    ensures expands { OnOk result (expansion_fault document.now ≡ None) }
+    ensures fault { IfErr result (λ fault. Stops fault (expansion_fault document.now)) }
+{
+    match expand(alloc, document, names) {
+        Ok(core) => hold(alloc, core),
+        Err(fault) => Err(fault),
+    }
+}
+
+// The value in a box.
+fn hold(alloc: Global, core: CDocument) -> Result<Held<CDocument>, NameFault>
+    ensures core { IfOk result (λ held. held ≡ core) }
+    ensures fault { IfErr result (λ fault. fault ≡ NameFault.Memory) }
+{
+    match Held::new(alloc, core) {
+        Ok(held) => Ok(held),
+        Err(_) => Err(NameFault::Memory),
+    }
+}
+
+/// The core form of a document, or the first fault of its names, or else of its expansion.
+#[tactic(auto, using(crate::proofs::FirstFaults::stops_first, crate::proofs::FirstFaults::stops_second))]
+fn core_of(alloc: Global, document: &Document) -> Result<Held<CDocument>, NameFault>
+    ensures core { IfOk result (λ core. core ≡ core_document document.now) }
+    ensures named { OnOk result (IsWellNamed document.now) }
+    ensures expands { OnOk result (expansion_fault document.now ≡ None) }
+    ensures fault { IfErr result (λ fault. Stops fault (document_fault document.now)) }
+{
+    match check_names(alloc, document) {
+        Ok(names) => expanded(alloc, document, &names),
+        Err(fault) => Err(fault),
+    }
+}
+
+// What the bytes of a document are.
+fn read_text(alloc: Global, bytes: &[u8], document: Held<Document>) -> Result<Input, AllocError>
+    requires size { length bytes.now ≤ greatest_size }
+    requires document { IsDocument bytes.now document }
+    ensures { IfOk result (IsInput bytes.now) }
+{
+    match core_of(alloc, document.get()) {
+        Ok(core) => {
+            let reading = Reading {
+                document: document.into_inner(),
+                core: core.into_inner(),
+            };
+            Ok(Input::Document(Held::new(alloc, reading)?))
+        }
+        Err(NameFault::Fault { code, at }) => Ok(Input::Fault { code, at }),
+        Err(NameFault::Memory) => Err(AllocError),
+    }
+}
+
+// What the bytes are, which are not too many.
+fn read_bytes(alloc: Global, bytes: &[u8]) -> Result<Input, AllocError>
+    requires { length bytes.now ≤ greatest_size }
+    ensures { IfOk result (IsInput bytes.now) }
+{
+    match read_document(alloc, bytes) {
+        Ok(document) => read_text(alloc, bytes, Held::new(alloc, document)?),
+        Err(SyntaxFault::Fault { code, at }) => Ok(Input::Fault { code, at }),
+        Err(SyntaxFault::Memory) => Err(AllocError),
+    }
+}
+
+/// Reads the source to its end, or past the greatest number of bytes, and says what it gave.
+pub fn read_input<S: Source>(alloc: Global, src: &mut S) -> Result<Input, Stop>
+    ensures input { IfOk result (IsInputOf (S.left src.old)) }
+    ensures end { OnOk result (IsAtEnd (S.left src.new) ⊎ IsLongerThan greatest_size (S.left src.old)) }
+    ensures rest { LeavesRest (S.left src.old) (S.left src.new) }
+    ensures never { IsErrOf result Stop.WriteFault → ⊥ }
+    ensures cause { IsTold (S.faults src.old) (S.faults src.new) (IsErrOf result Stop.ReadFault) }
+{
+    match read_all(alloc, src, GREATEST_SIZE) {
+        Ok(bytes) => Ok(read_bytes(alloc, &bytes)?),
+        Err(ReadError::TooLong) => Ok(Input::TooLong),
+        Err(ReadError::Failed) => Err(Stop::ReadFault),
+        Err(ReadError::Memory) => Err(Stop::Memory),
+    }
+}
