@@ -1,8 +1,8 @@
 #!/bin/bash
 # Runs the gate: every proof, every edit that must be refused, every test, and the program as two
 # compilers build it. Then it runs the built program on the example documents, the script that shows
-# where a text goes wrong, and a test whose allocations are refused in turn. With --built it does the
-# last three alone.
+# where a text goes wrong, and a test and a run whose allocations are refused in turn. With --built it
+# does the last three alone.
 set -eu
 cd "$(dirname "$0")/.."
 if [ "${1:-}" != --built ]; then
@@ -25,30 +25,91 @@ count_one() {
     fi
 }
 
-# compare NAME STATUS: the input `unity check` reads here makes it exit so, and print the text wanted.
+# compare NAME STATUS WORD..: by these words, the input that `unity` reads here makes it exit so, and
+# print the text wanted.
 compare() {
-    local status=0
-    crates/unity/out/unity check > "$answer" || status=$?
-    if [ "$status" = "$2" ] && cmp -s "$answer" "$wanted"; then
-        count_one 0 "$1"
+    local name=$1 status=$2 ended=0
+    shift 2
+    crates/unity/out/unity "$@" > "$answer" || ended=$?
+    if [ "$ended" = "$status" ] && cmp -s "$answer" "$wanted"; then
+        count_one 0 "$name"
     else
-        echo "status $status, and this text:"
+        echo "status $ended, and this text:"
         cat "$answer"
-        count_one 1 "$1"
+        count_one 1 "$name"
     fi
 }
 
-# expect STATUS DOCUMENT: of this document in examples/ the text is DOCUMENT.expected.
+# expect STATUS DOCUMENT: of this document in examples/ the text by `check` is DOCUMENT.expected.
 expect() {
     wanted=examples/$2.expected
-    compare "examples/$2.unity" "$1" < "examples/$2.unity"
+    compare "examples/$2.unity" "$1" check < "examples/$2.unity"
+}
+
+# status_of_trace TRACE: 5 where its last step is undefined, and else 0.
+status_of_trace() {
+    if tail -n 1 "$1" | grep -q '^undefined '; then
+        echo 5
+    else
+        echo 0
+    fi
+}
+
+# expect_run DOCUMENT: of this document the text by `run` is DOCUMENT.run, whose first line names the
+# program, and whose last step has the number of steps.
+expect_run() {
+    wanted=examples/$1.run
+    local program steps
+    program=$(sed -n '1s/^run //p' "$wanted")
+    steps=$(sed -n 's/^undefined \([0-9]*\) .*/\1/p; s/^\([0-9]*\) .*/\1/p' "$wanted" | tail -n 1)
+    compare "$wanted" "$(status_of_trace "$wanted")" run "$program" "$steps" < "examples/$1.unity"
+}
+
+# expect_replay DOCUMENT: of this document the text by `replay` is DOCUMENT.replay.
+expect_replay() {
+    wanted=examples/$1.replay
+    compare "$wanted" "$(status_of_trace "$wanted")" replay < "examples/$1.unity"
+}
+
+# expect_line STATUS LINE WORD..: by these words and the input here this line is said, or nothing where
+# LINE is empty.
+expect_line() {
+    local status=$1 line=$2
+    shift 2
+    wanted=$text
+    if [ -n "$line" ]; then
+        echo "$line" > "$text"
+    else
+        : > "$text"
+    fi
+    compare "unity $*" "$status" "$@"
+}
+
+# expect_full STATUS WORD..: with these words and the document of the counter, no byte of the answer can
+# be written, and the program exits so.
+expect_full() {
+    local status=$1 ended=0
+    shift
+    crates/unity/out/unity "$@" < examples/count.unity > /dev/full || ended=$?
+    local holds=1
+    if [ "$ended" = "$status" ]; then
+        holds=0
+    fi
+    count_one "$holds" "unity $*, with a full disk"
 }
 
 # expect_blanks COUNT TEXT: of so many blanks this line is said.
 expect_blanks() {
     wanted=$text
     echo "$2" > "$text"
-    compare "$1 blanks" 2 < <(head -c "$1" /dev/zero | tr '\0' ' ')
+    compare "$1 blanks" 2 check < <(head -c "$1" /dev/zero | tr '\0' ' ')
+}
+
+# expect_program STATUS LINE REST: `check` says this line of a program over x : 0..1 that goes on so, with
+# the claim that its statements are defined.
+expect_program() {
+    expect_line "$1" "$2" check < <(printf '%s\n' "unity 1" "program P" "declare x : 0..1" "$3" "end" \
+        "proof P safe: defined by text; end")
 }
 
 # expect_place DOCUMENT LINE COLUMN: the script names this place of the document.
@@ -72,24 +133,79 @@ expect_refused() {
     count_one "$holds" "$2, allocation $1"
 }
 
+# expect_no_memory N: five steps of the counter, where the Nth allocation is refused, end in status 9 with
+# nothing written, or else in the whole trace.
+expect_no_memory() {
+    local holds=1 status=0
+    (cd crates/unity && rt try --fail-alloc "$1" -- run Count 5) < examples/count.unity > "$answer" 2> "$text" ||
+        status=$?
+    if { [ "$status" = 9 ] && [ ! -s "$answer" ]; } || { [ "$status" = 0 ] && cmp -s "$answer" examples/count.run; }
+    then
+        holds=0
+    fi
+    count_one "$holds" "a run, allocation $1"
+}
+
 expect 0 count
 expect 1 count_wrong_sum
 expect 2 comparison_of_three
 expect 2 and_or_mixed
 expect 2 too_many_brackets
 expect 2 unknown_name
+expect 0 count_without_proof
+expect 2 empty_range
+expect 2 too_many_statements
+expect 2 heavy_product
 expect 2 ring_of_four
 expect 2 union_of_two
-expect 2 flip_array
+expect 0 flip_array
+expect 0 swap
+expect 0 rounding
+expect 0 splitting
+expect 0 past_the_end
+expect 0 outside_the_array
+expect 2 peterson
+expect 2 readers_writers
+expect 2 two_phase_commit
+expect_run count
+expect_run flip_array
+expect_run union_of_two
+expect_run outside_the_array
+expect_run peterson
+expect_run readers_writers
+expect_run two_phase_commit
+expect_replay past_the_end
+expect_replay peterson
+expect_replay two_phase_commit
+expect_line 2 "bad 61 NoProgram" run None 3 < examples/count.unity
+expect_line 2 "bad 60 NoSchedule" replay < examples/count.unity
+expect_line 2 "bad 10 Unknown byte 50" run P 1 < examples/unknown_name.unity
+expect_line 6 "bad words" run Count 05 < examples/count.unity
+expect_line 6 "bad words" run Count 1000001 < examples/count.unity
+expect_line 6 "bad words" < examples/count.unity
+expect_line 7 "" check < .
+expect_line 7 "" run Count 5 < .
+expect_full 8 check
+expect_full 8 run Count 5
+expect_full 8 replay
 expect_blanks 67108864 "bad 3 Unexpected byte 67108864"
 expect_blanks 67108865 "bad 5 TooLong"
+expect_program 1 "rejected 50 CertMissing P.safe obligation 1" \
+    "initially (all i : 1..13107 :: x <= i) assign s: x := x"
+expect_program 2 "bad 18 TooLarge byte 35" "initially (all i : 1..13108 :: x <= i) assign s: x := x"
+expect_program 1 "rejected 50 CertMissing P.safe obligation 1" "assign s: x := x if (all i : 1..13104 :: x <= i)"
+expect_program 1 "rejected 42 FormulaTooLarge P.safe" "assign s: x := x if (all i : 1..13106 :: x <= i)"
 expect_place and_or_mixed 4 27
 expect_place comparison_of_three 12 25
+expect_place empty_range 6 27
 holds=0
 bash scripts/editors.sh --check || holds=1
 count_one "$holds" "the files in editors/"
 for allocation in 1 2 3; do
     expect_refused "$allocation" keeps_the_list_where_insert_is_refused
+done
+for allocation in 1 4 16 64 256 1024; do
+    expect_no_memory "$allocation"
 done
 echo "$passed passed, $failed failed"
 [ "$failed" = 0 ]
