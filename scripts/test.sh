@@ -195,6 +195,9 @@ expect_program 1 "rejected 50 CertMissing P.safe obligation 1" \
 expect_program 2 "bad 18 TooLarge byte 35" "initially (all i : 1..13108 :: x <= i) assign s: x := x"
 expect_program 1 "rejected 50 CertMissing P.safe obligation 1" "assign s: x := x if (all i : 1..13104 :: x <= i)"
 expect_program 1 "rejected 42 FormulaTooLarge P.safe" "assign s: x := x if (all i : 1..13106 :: x <= i)"
+expect_program 1 "rejected 42 FormulaTooLarge P.safe" "assign s: <|| i : 1..1500 :: x := x if x = i |>"
+expect_program 1 "rejected 42 FormulaTooLarge P.safe" "assign s: <|| i : 1..9362 :: x := x if x = i |>"
+expect_program 1 "rejected 50 CertMissing P.safe obligation 1" "assign s: <|| i : 1..13000 :: x := 1 |>"
 expect_place and_or_mixed 4 27
 expect_place comparison_of_three 12 25
 expect_place empty_range 6 27

@@ -32,7 +32,7 @@ pub needs_not : {A : Type 0} (b : Bool) (code : Code) (rest : Result A Code) →
 needs_not false code rest e = refl
 needs_not true code rest e = cc
 
-second_false : (a b : Bool) → b ≡ false → (a && b) ≡ false
+pub second_false : (a b : Bool) → b ≡ false → (a && b) ≡ false
 second_false true b e = e
 second_false false b e = refl
 
@@ -40,7 +40,7 @@ both : (a b : Bool) → a ≡ true → b ≡ true → (a && b) ≡ true
 both true b d e = e
 both false b d e = cc
 
-first_false : (a b : Bool) → a ≡ false → (a && b) ≡ false
+pub first_false : (a b : Bool) → a ≡ false → (a && b) ≡ false
 first_false false b e = refl
 first_false true b e = cc
 

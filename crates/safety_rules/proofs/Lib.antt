@@ -3,6 +3,7 @@ pub mod ArgumentLaws
 pub mod EachLaws
 pub mod ErrorLaws
 pub mod InstanceLaws
+pub mod OversizedLaws
 pub mod ParamLaws
 pub mod SoundLaws
 pub mod StateLaws

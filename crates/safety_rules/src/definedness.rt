@@ -20,7 +20,7 @@ use core_terms::{CForm, CStmt, holds};
 use obligations::Obligation;
 use std::alloc::{AllocError, Global};
 use unity_base::{Held, Seq};
-use wp_substitution::defined;
+use wp_substitution::{defined, is_oversized};
 
 // Where U holds, the step of the statement is defined.
 fn where_defined(alloc: Global, pl: &Place, s: &CStmt) -> Result<CForm, AllocError>
@@ -40,6 +40,9 @@ fn add_defined(alloc: Global, pl: &Place, goals: &mut Seq<Obligation>) -> Result
         (table.defined_forms (site_of pl.now)) }
 {
     for s in pl.program.statements.as_slice() {
+        if is_oversized(alloc, s)? {
+            return Err(RuleError::Fault(Code::FormulaTooLarge));
+        }
         let form = where_defined(alloc, pl, s)?;
         add_goal(alloc, pl, goals, form)?;
     }

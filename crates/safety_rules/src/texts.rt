@@ -13,12 +13,12 @@ use crate::concluding::{add_goal, conclude};
 use crate::places::{Derived, Place, RuleError};
 use crate::premises::{either, imply, joined};
 use crate::recording::Claim;
-use case_tables::Kind;
+use case_tables::{Code, Kind};
 use core_terms::{CForm, CStmt, copy_form, copy_forms, held_form, not_form};
 use obligations::Obligation;
 use std::alloc::{AllocError, Global};
 use unity_base::{Held, Seq};
-use wp_substitution::wp;
+use wp_substitution::{is_oversized, wp};
 
 /// The formula, where U holds.
 ///
@@ -71,6 +71,9 @@ fn add_kept(
         pl.now.program.now.statements) }
 {
     for s in pl.program.statements.as_slice() {
+        if is_oversized(alloc, s)? {
+            return Err(RuleError::Fault(Code::FormulaTooLarge));
+        }
         let form = kept(alloc, pl, premises, q, s)?;
         add_goal(alloc, pl, goals, form)?;
     }

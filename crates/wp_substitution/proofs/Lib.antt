@@ -8,4 +8,6 @@ pub mod KnownLaws
 pub mod LightLaws
 pub mod NamedLaws
 pub mod NeedLaws
+pub mod OversizedLaws
+pub mod PairLaws
 pub mod PlaceLaws

@@ -1,4 +1,5 @@
 pub mod Preconditions
 pub mod Exact
+pub mod Oversized
 pub mod Joined
 pub mod Chains

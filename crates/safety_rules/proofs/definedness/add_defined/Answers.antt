@@ -1,6 +1,8 @@
-use Rattle.std.proofs.Common.{◌≡◌, ℕ, ◌<◌, length, slice_index_or, List, map, Ok, Err, sym, subst}
+use Rattle.std.proofs.Common.{◌≡◌, ℕ, ◌<◌, length, slice_index_or, List, map, Ok, Err, refl, sym, subst}
 use Rattle.std.specs.Prelude.{All}
+use Rattle.std.proofs.lemmas.Bool.{OnTrue_at}
 use Rattle.std.proofs.lemmas.List.{take_all}
+use Rattle.case_tables.specs.declared.code_table.Code.{Code}
 use Rattle.std.proofs.lemmas.List.Elements.{All-get_or}
 use Rattle.core_terms.specs.declared.trees.Range.{Range}
 use Rattle.core_terms.specs.declared.trees.CForm.{CForm}
@@ -8,12 +10,16 @@ use Rattle.core_terms.specs.declared.programs.CSlot.{CSlot}
 use Rattle.core_terms.specs.declared.programs.CStmt.{CStmt}
 use Rattle.core_terms.specs.Conditions.{StatementFits}
 use Rattle.wp_substitution.specs.Preconditions.{defined_form}
+use Rattle.wp_substitution.specs.Oversized.{IsOversized}
+use Rattle.wp_substitution.proofs.LightLaws.{writes_light}
 use Rattle.proof_rules.specs.Forms.{imply}
+use Rattle.safety_rules.specs.declared.places.RuleError.{RuleError}
 use Rattle.safety_rules.specs.Usable.{NamesExist}
 use Rattle.safety_rules.specs.Goals.{Added}
 use Rattle.safety_rules.proofs.UsableLaws.{all_usable, all_exist, exist_imply, exist_defined}
 use Rattle.safety_rules.proofs.AnswerLaws.{none_yet, one_more, loop_fails, all_added}
 use Rattle.safety_rules.proofs.ErrorLaws.{handed_on}
+use Rattle.safety_rules.proofs.OversizedLaws.{defined_refused}
 use Rattle.safety_rules.proofs.definedness.add_defined.Goals as goal
 
 item_fits : (slots : List CSlot) (items all : List CStmt) (i : ℕ) (s : CStmt) → s ≡ slice_index_or items i s →
@@ -24,6 +30,29 @@ item_fits slots items all i s item less same fits =
 
 pub loop-s-init : goal.loop-s-init
 loop-s-init c = none_yet c.args.pl.now.slots.now c.args.pl.now.params.now _ c.args.goals.now
+
+pub is_oversized-requires : goal.is_oversized-requires
+is_oversized-requires c =
+    writes_light c.args.pl.now.slots.now c.s-item.result
+    (item_fits c.args.pl.now.slots.now c.as_slice-s-items.result.now c.args.pl.now.program.now.statements
+    c.loop-s.s-index c.s-item.result c.s-item.is c.loop-s-test.true c.as_slice-s-items.ensures
+    c.requires.program.statements)
+
+pub returns-then-branch : goal.returns-then-branch
+returns-then-branch c =
+    let slots : List CSlot = c.args.pl.now.slots.now in
+    let params : List Range = c.args.pl.now.params.now in
+    let make : CStmt → CForm =
+    λ s. imply c.args.pl.now.using.now (defined_form slots s) in
+    let large : (slots : List CSlot) → IsOversized (defined_form slots c.s-item.result) =
+    OnTrue_at {P = (slots : List CSlot) → IsOversized (defined_form slots c.s-item.result)} c.if-branch.true
+    c.in_ok-is_oversized.ensures in
+    subst (λ ss. Added {T = Unit {0}} (Err (RuleError.Fault Code.FormulaTooLarge)) c.args.goals.now c.loop-s.goals
+    slots params (map make ss)) c.as_slice-s-items.ensures
+    (loop_fails slots params (Unit {0}) (Unit {0}) (RuleError.Fault Code.FormulaTooLarge) make
+    c.as_slice-s-items.result.now c.loop-s.s-index c.s-item.result (make c.s-item.result) c.args.goals.now
+    c.loop-s.goals c.loop-s.goals c.loop-s-test.true c.s-item.is refl
+    (defined_refused slots params (Unit {0}) c.loop-s.goals c.loop-s.goals c.args.pl.now.using.now c.s-item.result (large slots)))
 
 pub where_defined-requires-clause-statement : goal.where_defined-requires-clause-statement
 where_defined-requires-clause-statement c =

@@ -1,0 +1,55 @@
+-- What is too large is refused.
+use Rattle.std.proofs.Common.{◌≡◌, ◌^◌, false, List, [], ◌∷◌, nat_le, refl, Err}
+use Rattle.std.specs.List.{list_all}
+use Rattle.std.proofs.lemmas.Bool.{lt-leb}
+use Rattle.case_tables.specs.declared.code_table.Code.{Code}
+use Rattle.core_terms.specs.declared.trees.Range.{Range}
+use Rattle.core_terms.specs.declared.trees.CForm.{CForm}
+use Rattle.core_terms.specs.declared.programs.CSlot.{CSlot}
+use Rattle.core_terms.specs.declared.programs.CStmt.{CStmt}
+use Rattle.core_terms.specs.Sizes.{form_nodes}
+use Rattle.core_terms.specs.Folding.{not_form}
+use Rattle.obligations.specs.declared.branches.Obligation.{Obligation}
+use Rattle.obligations.specs.Obligations.{weight_of}
+use Rattle.obligations.specs.Plain.{height_of}
+use Rattle.wp_substitution.specs.Preconditions.{all_of, defined_form, wp_form}
+use Rattle.wp_substitution.specs.Oversized.{IsOversized}
+use Rattle.wp_substitution.proofs.OversizedLaws.{or_second_large, wp_large}
+use Rattle.proof_rules.specs.Forms.{imply}
+use Rattle.proof_rules.specs.Limits.{is_provable}
+use Rattle.proof_rules.specs.Validity.{goal_obligation}
+use Rattle.safety_rules.specs.declared.places.RuleError.{RuleError}
+use Rattle.safety_rules.specs.Goals.{Added}
+use Rattle.safety_rules.proofs.AnswerLaws.{first_false, second_false}
+
+implied_large : (fs : List CForm) (q : CForm) → IsOversized q → IsOversized (imply fs q)
+implied_large [] q large = large
+implied_large (f ∷ fs) q large = or_second_large (not_form (all_of (f ∷ fs))) q large
+
+not_provable : (slots : List CSlot) (params : List Range) (f : CForm) → IsOversized f →
+    is_provable slots params f ≡ false
+not_provable slots params f large =
+    let goal = goal_obligation slots params f in
+    second_false (nat_le (height_of goal) 960) _
+    (first_false (nat_le (form_nodes f) 65536) (nat_le (weight_of goal) (2 ^ 62))
+    (lt-leb (form_nodes f) 65536 large.nodes))
+
+module _ (slots : List CSlot) (params : List Range) (T : Type 0) (old new : List Obligation) where
+  refused : (f : CForm) → IsOversized f →
+      Added {T = T} (Err (RuleError.Fault Code.FormulaTooLarge)) old new slots params (f ∷ [])
+  refused f large = (
+    refl,
+    first_false (is_provable slots params f) (list_all (is_provable slots params) [])
+        (not_provable slots params f large),
+  )
+
+  -- the obligation of a statement that is defined in too large a formula is refused
+  pub defined_refused : (using : List CForm) (s : CStmt) → IsOversized (defined_form slots s) →
+      Added {T = T} (Err (RuleError.Fault Code.FormulaTooLarge)) old new slots params
+      (imply using (defined_form slots s) ∷ [])
+  defined_refused using s large = refused _ (implied_large using (defined_form slots s) large)
+
+  pub kept_refused : (premises : List CForm) (q : CForm) (s : CStmt) → IsOversized (defined_form slots s) →
+      Added {T = T} (Err (RuleError.Fault Code.FormulaTooLarge)) old new slots params
+      (imply premises (wp_form slots s q) ∷ [])
+  kept_refused premises q s large = refused _ (implied_large premises (wp_form slots s q) (wp_large slots s q large))
