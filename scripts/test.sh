@@ -162,6 +162,8 @@ expect 0 flip_array
 expect 0 swap
 expect 0 rounding
 expect 0 splitting
+expect 0 safety_calculus
+expect 0 union_proofs
 expect 0 past_the_end
 expect 0 outside_the_array
 expect 2 peterson
