@@ -1,6 +1,7 @@
 -- A conjunction is at least as large as its open parts are many, and what is made of one that is too large is so too.
-use Rattle.std.proofs.Common.{◌≡◌, ℕ, suc, ◌+◌, ◌<◌, ◌≤◌, ℤ, Bool, ◌&&◌, ◌||◌, List, [], ◌∷◌, ◌++◌, map, Option}
+use Rattle.std.proofs.Common.{◌≡◌, ℕ, suc, ◌+◌, ◌<◌, ◌≤◌, min, nat_lt, ℤ, Bool, ◌&&◌, ◌||◌, List, [], ◌∷◌, ◌++◌, map, Option}
 use Rattle.std.proofs.Common.{Some, None, refl, sym, ap, ◌∙◌, subst, arith}
+use Rattle.std.proofs.lemmas.Bool.{ltb_from_iff, ltb-true, lt-ltb}
 use Rattle.core_terms.specs.declared.trees.CForm.{CForm, fold-roll-CForm}
 use Rattle.core_terms.specs.declared.trees.CForm.TheOpen.{CForm-F}
 use Rattle.core_terms.specs.declared.trees.CForm.TheVariants.{And, Or, rolls-And, rolls-Or}
@@ -97,6 +98,15 @@ pairs_large slots s h =
     let before = map not_form s.outside ++ map (write_form slots) s.writes in
     large_is (defined_form slots s)
     (omega (arith, open-append before (pair_forms s.writes), of_all (needs slots s), h))
+
+-- a count that stops past 65,537 is past it where the whole count is
+pub past_counted : (n : ℕ) → nat_lt 65537 (min n 65538) ≡ nat_lt 65537 n
+past_counted n =
+    ltb_from_iff (
+      (λ h. omega (arith, ltb-true 65537 (min n 65538) h)),
+      λ h. lt-ltb 65537 (min n 65538)
+          (omega (arith, h)),
+    )
 
 pub or_second_large : (f g : CForm) → IsOversized g → IsOversized (or_form f g)
 or_second_large f g large =

@@ -1,10 +1,10 @@
 -- Which pairs of writes are open, counted from one place to the next.
 use Rattle.std.proofs.Common.{◌≡◌, ℕ, ◌+◌, ◌-◌, ◌<◌, ◌≤◌, ℤ, Bool, true, false, not, ◌&&◌, ◌||◌, cond, nat_eq}
-use Rattle.std.proofs.Common.{List, ◌∷◌, map, take, drop, length, get_or, Option, refl, sym, ap, ◌∙◌, pos}
+use Rattle.std.proofs.Common.{List, ◌∷◌, map, take, drop, length, get_or, Option, Some, None, refl, sym, ap, ◌∙◌, pos}
 use Rattle.std.proofs.Common.{◌-ℤ◌, length-drop, arith}
 use Rattle.std.specs.Option.{option_map}
 use Rattle.std.proofs.lemmas.Bool.{eq-eqb}
-use Rattle.std.proofs.lemmas.List.{take_all}
+use Rattle.std.proofs.lemmas.List.{take_all, at_drop_all}
 use Rattle.state_steps.specs.State.{int_eq}
 use Rattle.core_terms.specs.declared.trees.CTerm.{CTerm, fold-roll-CTerm}
 use Rattle.core_terms.specs.declared.trees.CTerm.TheVariants.{Sub, rolls-Sub}
@@ -74,6 +74,22 @@ pub open_next : (w : CWrite) (xs : List CWrite) (i : ℕ) (v : CWrite) → i < l
     open_with w (drop i xs) ≡ open_pair w v + open_with w (drop (i + 1) xs)
 open_next w xs i v h e =
     ap (open_with w) (rest_of xs i v h e) ∙ one_more w v (drop (i + 1) xs) (nat_eq w.slot v.slot) refl
+
+open_or_none : (b : Bool) (m : Option Bool) → cond b (open_of m) 0 ≤ 1
+open_or_none true None = omega arith
+open_or_none true (Some known) = omega arith
+open_or_none false m = omega arith
+
+-- two writes are one pair at most
+pub open_pair_small : (v w : CWrite) → open_pair v w ≤ 1
+open_pair_small v w = open_or_none (nat_eq v.slot w.slot) (truth_of (pair_form v w))
+
+-- past the last place no pair is left
+pub open_past : (w : CWrite) (xs : List CWrite) (i : ℕ) → length xs ≤ i → open_with w (drop i xs) ≡ 0
+open_past w xs i h = at_drop_all (open_with w) xs i h
+
+pub pairs_open_past : (xs : List CWrite) (i : ℕ) → length xs ≤ i → open_count (pair_forms (drop i xs)) ≡ 0
+pairs_open_past xs i h = at_drop_all (λ ys. open_count (pair_forms ys)) xs i h
 
 -- the open pairs among all writes, from one place to the next
 pub pairs_open_next : (xs : List CWrite) (i : ℕ) (w : CWrite) → i < length xs → w ≡ get_or xs i w →

@@ -46,7 +46,7 @@ returns-then-branch c =
     λ s. imply c.args.pl.now.using.now (defined_form slots s) in
     let large : (slots : List CSlot) → IsOversized (defined_form slots c.s-item.result) =
     OnTrue_at {P = (slots : List CSlot) → IsOversized (defined_form slots c.s-item.result)} c.if-branch.true
-    c.in_ok-is_oversized.ensures in
+    c.in_ok-is_oversized.ensures.large in
     subst (λ ss. Added {T = Unit {0}} (Err (RuleError.Fault Code.FormulaTooLarge)) c.args.goals.now c.loop-s.goals
     slots params (map make ss)) c.as_slice-s-items.ensures
     (loop_fails slots params (Unit {0}) (Unit {0}) (RuleError.Fault Code.FormulaTooLarge) make
