@@ -1,6 +1,6 @@
 -- Calls that add to an effect, one after another, and where they stop.
 use Rattle.std.proofs.Common.{◌≡◌, ℕ, zero, suc, ◌+◌, ◌-◌, ◌<◌, ◌≤◌, min, nat_le, ℤ, pos, ◌+ℤ◌, List, [], ◌∷◌, map}
-use Rattle.std.proofs.Common.{fold, drop, get_or, length, Bool, true, false, ◌&&◌, Option, Some, None, Result, Ok}
+use Rattle.std.proofs.Common.{cond, fold, drop, get_or, length, Bool, true, false, ◌&&◌, Option, Some, None, Result, Ok}
 use Rattle.std.proofs.Common.{Err, refl, sym, ap, ◌∙◌, subst, arith}
 use Rattle.std.proofs.lemmas.Int.{ints}
 use Rattle.std.proofs.lemmas.Bool.{leb-true, leb-false}
@@ -23,19 +23,46 @@ use Rattle.expand_assignments.specs.Adding.{one_node, with_count}
 use Rattle.expand_assignments.proofs.EffectLaws.{ranged, ranged_beside, beside_assoc, beside_nothing, exactly_beside}
 use Rattle.expand_assignments.proofs.EffectLaws.{one_more_beside, fold_beside, all_beside_nothing, large_beside}
 use Rattle.expand_assignments.proofs.EffectLaws.{large_fold, large_one_more}
-use Rattle.expand_assignments.proofs.PastLaws.{past_value, past_index, past_condition, great_beside}
+use Rattle.expand_assignments.proofs.PastLaws.{past_value, past_written, past_index, past_condition, great_beside}
+use Rattle.expansion_laws.specs.declared.effects.Count.{Count}
+use Rattle.expansion_laws.specs.Assigning.{is_outside, outside_effect, unwritten_count}
+use Rattle.expand_assignments.specs.Adding.{written_effect}
 
 -- where a part is too large
 
-pub halts_value : (r : Refusal) (a : Effect) (x : Option Variable) (i : Option Formed) (c v : Formed) →
-    GivesNumber (Err r) v → Halts r a (target_effect x i c v)
-halts_value Refusal.Memory a x i c v h = tt
-halts_value Refusal.TooLarge a x i c v h = past_value a x i c v h
+pub halts_value : (r : Refusal) (a : Effect) (x : Option Variable) (c v : Formed) (left : Count) →
+    GivesNumber (Err r) v → Halts r a (target_effect x None c v left)
+halts_value Refusal.Memory a x c v left h = tt
+halts_value Refusal.TooLarge a x c v left h = past_value a x c v left h
 
-pub halts_index : (r : Refusal) (a : Effect) (x : Option Variable) (i c v : Formed) → GivesNumber (Err r) i →
-    Halts r a (target_effect x (Some i) c v)
-halts_index Refusal.Memory a x i c v h = tt
-halts_index Refusal.TooLarge a x i c v h = past_index a x i c v h
+pub halts_written : (r : Refusal) (a : Effect) (x : Option Variable) (i c v : Formed) → GivesNumber (Err r) v →
+    Halts r a (written_effect i x c v)
+halts_written Refusal.Memory a x i c v h = tt
+halts_written Refusal.TooLarge a x i c v h = past_written a x i c v h
+
+pub halts_index : (r : Refusal) (a : Effect) (x : Option Variable) (i c v : Formed) (left : Count) →
+    GivesNumber (Err r) i → Halts r a (target_effect x (Some i) c v left)
+halts_index Refusal.Memory a x i c v left h = tt
+halts_index Refusal.TooLarge a x i c v left h = past_index a x i c v left h
+
+-- the two ways of a target with an index
+outside_or_written : (b : Bool) (x : Option Variable) (i c v : Formed) (left : Count) → is_outside i x ≡ b →
+    target_effect x (Some i) c v left ≡ cond b (outside_effect i c left) (written_effect i x c v)
+outside_or_written b x i c v left h = ap (λ k. cond k (outside_effect i c left) (written_effect i x c v)) h
+
+pub adds_outside : (r : Result (Unit {0}) Refusal) (old new : Effect) (x x' : Option Variable) (i i' c v : Formed)
+    (left : Count) → x' ≡ x → i' ≡ i → is_outside i' x' ≡ true → Adds r old new (outside_effect i' c left) →
+    Adds r old new (target_effect x (Some i) c v left)
+adds_outside r old new x x' i i' c v left p q o h = subst (λ e. Adds r old new e)
+    (sym (outside_or_written true x' i' c v left o) ∙ ap (λ y. target_effect y (Some i') c v left) p
+    ∙ ap (λ j. target_effect x (Some j) c v left) q) h
+
+pub adds_written : (r : Result (Unit {0}) Refusal) (old new : Effect) (x x' : Option Variable) (i i' c v : Formed)
+    (left : Count) → x' ≡ x → i' ≡ i → is_outside i' x' ≡ false → Adds r old new (written_effect i' x' c v) →
+    Adds r old new (target_effect x (Some i) c v left)
+adds_written r old new x x' i i' c v left p q o h = subst (λ e. Adds r old new e)
+    (sym (outside_or_written false x' i' c v left o) ∙ ap (λ y. target_effect y (Some i') c v left) p
+    ∙ ap (λ j. target_effect x (Some j) c v left) q) h
 
 pub halts_condition : (r : Refusal) (a : Effect) (s : Scope) (t : Target) (ts : List Target) (vs : Values)
     (e : Option Expr) → GivesTruth (Err r) (condition s e) → Halts r a (alternative_effect s (t ∷ ts) (vs, e))
@@ -134,14 +161,14 @@ left_numbers f first i n now h =
 pub left_pairs : (s : Scope) (ts : List Target) (es : List Expr) (i : ℕ) (t : Target) (e : Expr) (c : Formed) →
     i < length ts → i < length es → get_or ts i t ≡ t → get_or es i e ≡ e →
     paired_effect s (drop i ts) (drop i es) c ≡ beside
-    (target_effect (variable_named t.name.text s.variables) (index_formed s t.index) c (as_number (formed e s)))
-    (paired_effect s (drop (i + 1) ts) (drop (i + 1) es) c)
+    (target_effect (variable_named t.name.text s.variables) (index_formed s t.index) c (as_number (formed e s))
+    (unwritten_count e s.bound)) (paired_effect s (drop (i + 1) ts) (drop (i + 1) es) c)
 left_pairs s ts es i t e c h k p q =
     let next : suc i ≡ i + 1 = omega arith in
     ap (λ xs. paired_effect s xs (drop i es) c) (drop-cons ts i t h ∙ ap (λ x. x ∷ drop (suc i) ts) p)
     ∙ ap (λ xs. paired_effect s (t ∷ drop (suc i) ts) xs c) (drop-cons es i e k ∙ ap (λ x. x ∷ drop (suc i) es) q)
     ∙ ap (λ j. beside (target_effect (variable_named t.name.text s.variables) (index_formed s t.index) c
-    (as_number (formed e s))) (paired_effect s (drop j ts) (drop j es) c)) next
+    (as_number (formed e s)) (unwritten_count e s.bound)) (paired_effect s (drop j ts) (drop j es) c)) next
 
 none_left : {X : Type 0} (xs : List X) (i : ℕ) → length xs ≤ i → drop i xs ≡ []
 none_left [] zero h = refl
@@ -165,53 +192,51 @@ no_pairs_left s ts es i c h = elim (nat_le (length ts) i) as (λ b. nat_le (leng
 
 -- the write of a target, by the parts that calls gave
 
-same_indexed : (x x' : Option Variable) (i i' c v v' : Formed) → x' ≡ x → i' ≡ i → v' ≡ v →
-    indexed_effect i' x' c v' ≡ indexed_effect i x c v
-same_indexed x x' i i' c v v' p q r =
-    ap (λ y. indexed_effect i' y c v') p ∙ ap (λ j. indexed_effect j x c v') q ∙ ap (indexed_effect i x c) r
+same_written : (x x' : Option Variable) (i c v v' : Formed) → x' ≡ x → v' ≡ v →
+    indexed_effect i x' c v' ≡ indexed_effect i x c v
+same_written x x' i c v v' p r = ap (λ y. indexed_effect i y c v') p ∙ ap (indexed_effect i x c) r
 
-pub indexed_halts : (refusal : Refusal) (a : Effect) (x x' : Option Variable) (i i' c v v' : Formed) → x' ≡ x → i' ≡
-    i →
-    v' ≡ v → Halts refusal a (indexed_effect i' x' c v') → Halts refusal a (target_effect x (Some i) c v)
-indexed_halts refusal a x x' i i' c v v' p q r h = halts_exactly refusal (v.exact && i.exact) a
-    (indexed_effect i x c v)
-    (subst (λ e. Halts refusal a e) (same_indexed x x' i i' c v v' p q r) h)
+pub indexed_halts : (refusal : Refusal) (a : Effect) (x : Option Variable) (i c v v' : Formed) → v' ≡ v →
+    Halts refusal a (indexed_effect i x c v') → Halts refusal a (written_effect i x c v)
+indexed_halts refusal a x i c v v' r h = halts_exactly refusal (v.exact && i.exact) a
+    (indexed_effect i x c v) (subst (λ e. Halts refusal a e) (same_written x x i c v v' refl r) h)
 
-pub indexed_done : (old mid new : Effect) (x x' : Option Variable) (i i' c v v' : Formed) → x' ≡ x → i' ≡ i → v' ≡ v →
-    mid ≡ beside old (indexed_effect i' x' c v') → new ≡ record mid { exact = mid.exact && (v'.exact && i'.exact) } →
-    new ≡ beside old (target_effect x (Some i) c v)
-indexed_done old mid new x x' i i' c v v' p q r m n =
+pub indexed_done : (old mid new : Effect) (x : Option Variable) (i c v v' : Formed) → v' ≡ v →
+    mid ≡ beside old (indexed_effect i x c v') → new ≡ record mid { exact = mid.exact && (v'.exact && i.exact) } →
+    new ≡ beside old (written_effect i x c v)
+indexed_done old mid new x i c v v' r m n =
     marked (v.exact && i.exact) old mid new (indexed_effect i x c v)
-    (m ∙ ap (beside old) (same_indexed x x' i i' c v v' p q r))
-    (n ∙ ap (λ (f : Formed). record mid { exact = mid.exact && (f.exact && i'.exact) }) r
-    ∙ ap (λ (f : Formed). record mid { exact = mid.exact && (v.exact && f.exact) }) q)
+    (m ∙ ap (beside old) (same_written x x i c v v' refl r))
+    (n ∙ ap (λ (f : Formed). record mid { exact = mid.exact && (f.exact && i.exact) }) r)
 
 abbrev plainly : Option Variable → Formed → Formed → Effect
 plainly x c v = write_to (plain_slot x) (form_of c.core) (term_of v.core) (write_count c.measure v.measure)
 
-pub plain_halts : (refusal : Refusal) (a : Effect) (x x' : Option Variable) (c v v' : Formed) → x' ≡ x → v' ≡ v →
+pub plain_halts : (refusal : Refusal) (a : Effect) (x x' : Option Variable) (c v v' : Formed) (left : Count) →
+    x' ≡ x → v' ≡ v →
     Halts refusal a (write_to (plain_slot x') (form_of c.core) (term_of v'.core) (write_count c.measure v'.measure)) →
-    Halts refusal a (target_effect x None c v)
-plain_halts refusal a x x' c v v' p r h = halts_exactly refusal v.exact a (plainly x c v)
+    Halts refusal a (target_effect x None c v left)
+plain_halts refusal a x x' c v v' left p r h = halts_exactly refusal v.exact a (plainly x c v)
     (subst (λ e. Halts refusal a e) (ap (λ y. plainly y c v') p ∙ ap (plainly x c) r) h)
 
-pub plain_done : (old mid new : Effect) (x x' : Option Variable) (c v v' : Formed) → x' ≡ x → v' ≡ v →
+pub plain_done : (old mid new : Effect) (x x' : Option Variable) (c v v' : Formed) (left : Count) → x' ≡ x →
+    v' ≡ v →
     mid ≡ beside old (write_to (plain_slot x') (form_of c.core) (term_of v'.core) (write_count c.measure v'.measure))
     →
-    new ≡ record mid { exact = mid.exact && v'.exact } → new ≡ beside old (target_effect x None c v)
-plain_done old mid new x x' c v v' p r m n = marked v.exact old mid new (plainly x c v)
+    new ≡ record mid { exact = mid.exact && v'.exact } → new ≡ beside old (target_effect x None c v left)
+plain_done old mid new x x' c v v' left p r m n = marked v.exact old mid new (plainly x c v)
     (m ∙ ap (beside old) (ap (λ y. plainly y c v') p ∙ ap (plainly x c) r))
     (n ∙ ap (λ (f : Formed). record mid { exact = mid.exact && f.exact }) r)
 
 pub pairs_next : (s : Scope) (ts : List Target) (es : List Expr) (i : ℕ) (t : Target) (e : Expr) (c : Formed)
     (now new whole : Effect) → i < min (length ts) (length es) → get_or ts i t ≡ t → get_or es i e ≡ e →
     new ≡ beside now (target_effect (variable_named t.name.text s.variables) (index_formed s t.index) c
-    (as_number (formed e s))) →
+    (as_number (formed e s)) (unwritten_count e s.bound)) →
     beside now (paired_effect s (drop i ts) (drop i es) c) ≡ whole →
     (beside new (paired_effect s (drop (i + 1) ts) (drop (i + 1) es) c) ≡ whole) × (new.count.size ≤ 65537)
 pairs_next s ts es i t e c now new whole h p q n w =
     let x = target_effect (variable_named t.name.text s.variables) (index_formed s t.index) c
-    (as_number (formed e s)) in
+    (as_number (formed e s)) (unwritten_count e s.bound) in
     let rest = paired_effect s (drop (i + 1) ts) (drop (i + 1) es) c in (
       ap (λ m. beside m rest) n ∙ beside_assoc now x rest
           ∙ ap (beside now) (sym (left_pairs s ts es i t e c (omega arith) (omega arith) p q)) ∙ w,

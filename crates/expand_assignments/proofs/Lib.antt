@@ -4,3 +4,4 @@ pub mod PastLaws
 pub mod PartLaws
 pub mod AddLaws
 pub mod AssignLaws
+pub mod UnwrittenLaws

@@ -21,7 +21,9 @@ use Rattle.expansion_laws.specs.Forming.{Scope, term_of, form_of, as_number, for
 use Rattle.expansion_laws.specs.Assigning.{both_counts, whole, write_count, index_count, stray_count, spread_nodes}
 use Rattle.expansion_laws.specs.Assigning.{spread_count, write_to, open_effect, array_effect, element_effect}
 use Rattle.expansion_laws.specs.Assigning.{indexed_effect, plain_slot, target_effect, index_formed, paired_effect}
-use Rattle.expansion_laws.specs.Assigning.{beside, is_large_effect}
+use Rattle.expansion_laws.specs.Assigning.{beside, is_large_effect, condition_count, is_beyond, is_outside}
+use Rattle.expansion_laws.specs.Assigning.{outside_effect, unwritten_count}
+use Rattle.expand_assignments.specs.Adding.{written_effect}
 use Rattle.expand_assignments.proofs.EffectLaws.{shows}
 
 -- many nodes, or a great weight
@@ -160,11 +162,20 @@ indexed_great (Some x) i c v h = by x.indices
     by None = great_second (stray_count i.measure) (write_count c.measure v.measure) (write_great c v h)
     by (Some ends) = array_great i x.first ends c v h
 
-pub target_great : (x : Option Variable) (i : Option Formed) (c v : Formed) → IsHeavy c.measure ⊎ IsHeavy v.measure →
-    IsGreat (target_effect x i c v).count
-target_great x None c v h = written (plain_slot x) (form_of c.core) (term_of v.core) (write_count c.measure v.measure)
-    (write_great c v h)
-target_great x (Some i) c v h = indexed_great x i c v h
+-- a condition is a part of the write, and of what stands in its place
+outside_great : (i c : Formed) (left : Count) → IsHeavy c.measure → IsGreat (outside_effect i c left).count
+outside_great i c left h = great_first (both_counts (index_count i.measure) (condition_count c.measure)) left
+    (great_second (index_count i.measure) (condition_count c.measure) (stray_great c.measure h))
+
+pub target_great : (x : Option Variable) (i : Option Formed) (c v : Formed) (left : Count) → IsHeavy c.measure →
+    IsGreat (target_effect x i c v left).count
+target_great x None c v left h = written (plain_slot x) (form_of c.core) (term_of v.core)
+    (write_count c.measure v.measure) (condition_great c.measure v.measure h)
+target_great x (Some i) c v left h = by (is_outside i x)
+  where
+    by : (b : Bool) → IsGreat (cond b (outside_effect i c left) (written_effect i x c v)).count
+    by true = outside_great i c left h
+    by false = indexed_great x i c v (inl h)
 
 -- an index that is too large
 index_array_great : (i : Formed) (first : ℕ) (ends : ℤ × ℤ) (c v : Formed) → is_past i ≡ true →
@@ -181,8 +192,7 @@ index_array_great i first ends c v h = elim i.constant as (λ b. i.constant ≡ 
       | false ↦ λ e. spread_great (range_size ends) ends i.measure c.measure v.measure (inl (heavy_of_past i h))
     ] refl
 
-pub index_great : (x : Option Variable) (i c v : Formed) → is_past i ≡ true → IsGreat
-    (target_effect x (Some i) c v).count
+index_great : (x : Option Variable) (i c v : Formed) → is_past i ≡ true → IsGreat (written_effect i x c v).count
 index_great None i c v h = great_first (stray_count i.measure) (write_count c.measure v.measure)
     (stray_great i.measure (heavy_of_past i h))
 index_great (Some x) i c v h = by x.indices
@@ -199,20 +209,55 @@ great_beside a e g = elim g.great [
   | inr m ↦ shows (beside a e) (record { large = inr (omega (arith, m)) })
 ]
 
-pub past_value : (a : Effect) (x : Option Variable) (i : Option Formed) (c v : Formed) → is_past v ≡ true →
-    is_large_effect (beside a (target_effect x i c v)) ≡ true
-past_value a x i c v h = great_beside a (target_effect x i c v) (target_great x i c v (inr (heavy_of_past v h)))
+pub past_value : (a : Effect) (x : Option Variable) (c v : Formed) (left : Count) → is_past v ≡ true →
+    is_large_effect (beside a (target_effect x None c v left)) ≡ true
+past_value a x c v left h = great_beside a (target_effect x None c v left)
+    (written (plain_slot x) (form_of c.core) (term_of v.core) (write_count c.measure v.measure)
+    (value_great c.measure v.measure (heavy_of_past v h)))
 
-pub past_index : (a : Effect) (x : Option Variable) (i c v : Formed) → is_past i ≡ true →
-    is_large_effect (beside a (target_effect x (Some i) c v)) ≡ true
-past_index a x i c v h = great_beside a (target_effect x (Some i) c v) (index_great x i c v h)
+pub past_written : (a : Effect) (x : Option Variable) (i c v : Formed) → is_past v ≡ true →
+    is_large_effect (beside a (written_effect i x c v)) ≡ true
+past_written a x i c v h =
+    great_beside a (written_effect i x c v) (indexed_great x i c v (inr (heavy_of_past v h)))
+
+-- a constant index that is too large, and what is left of a value
+pub past_outside : (a : Effect) (i c : Formed) (left : Count) → 65536 < left.size →
+    is_large_effect (beside a (outside_effect i c left)) ≡ true
+past_outside a i c left h = great_beside a (outside_effect i c left)
+    (great_second (both_counts (index_count i.measure) (condition_count c.measure)) left (record { great = inl h }))
+
+index_outside : (i c : Formed) (left : Count) → is_past i ≡ true → i.constant ≡ true →
+    IsGreat (outside_effect i c left).count
+index_outside i c left h e = great_first (both_counts (index_count i.measure) (condition_count c.measure)) left
+    (great_first (index_count i.measure) (condition_count c.measure) (constant_past i h e))
+
+outside_constant : (i : Formed) (x : Option Variable) → is_outside i x ≡ true → i.constant ≡ true
+outside_constant i None h = cc
+outside_constant i (Some x) h = by x.indices h
+  where
+    first : (a b : Bool) → (a && b) ≡ true → a ≡ true
+    first true b q = refl
+    first false b q = q
+
+    by : (ends : Option (ℤ × ℤ)) → is_beyond i x.first ends ≡ true → i.constant ≡ true
+    by None q = cc
+    by (Some ends) q = first i.constant _ q
+
+pub past_index : (a : Effect) (x : Option Variable) (i c v : Formed) (left : Count) → is_past i ≡ true →
+    is_large_effect (beside a (target_effect x (Some i) c v left)) ≡ true
+past_index a x i c v left h = great_beside a (target_effect x (Some i) c v left)
+    (elim (is_outside i x) as (λ b. is_outside i x ≡ b →
+    IsGreat (cond b (outside_effect i c left) (written_effect i x c v)).count) [
+      | true ↦ λ e. index_outside i c left h (outside_constant i x e)
+      | false ↦ λ e. index_great x i c v h
+    ] refl)
 
 -- a condition is a part of the first write
 pub past_condition : (s : Scope) (t : Target) (ts : List Target) (e : Expr) (es : List Expr) (c : Formed) →
     is_past c ≡ true → IsGreat (paired_effect s (t ∷ ts) (e ∷ es) c).count
 past_condition s t ts e es c h =
     let first = target_effect (variable_named t.name.text s.variables) (index_formed s t.index) c
-    (as_number (formed e s)) in
+    (as_number (formed e s)) (unwritten_count e s.bound) in
     great_first first.count (paired_effect s ts es c).count
     (target_great (variable_named t.name.text s.variables) (index_formed s t.index) c (as_number (formed e s))
-    (inl (heavy_of_past c h)))
+    (unwritten_count e s.bound) (heavy_of_past c h))

@@ -1,5 +1,5 @@
 -- What calls add to an effect.
-use Rattle.std.specs.Prelude.{◌≡◌, ℕ, ℤ, true, false, Result, Ok, Err, None, List, ◌∷◌, map, fold, ◌&&◌, Bool, Option}
+use Rattle.std.specs.Prelude.{◌≡◌, ◌<◌, Some, ℕ, ℤ, true, false, Result, Ok, Err, None, List, ◌∷◌, map, fold, ◌&&◌, Bool, Option}
 use Rattle.core_terms.specs.declared.trees.CTerm.{CTerm}
 use Rattle.core_terms.specs.declared.trees.CTerm.TheVariants.{Const}
 use Rattle.core_terms.specs.declared.trees.CForm.{CForm}
@@ -7,6 +7,7 @@ use Rattle.core_terms.specs.declared.programs.CWrite.{CWrite}
 use Rattle.core_terms.specs.Folding.{difference_term, zero_form, and_form}
 use Rattle.expansion_laws.specs.declared.effects.Count.{Count}
 use Rattle.expansion_laws.specs.declared.effects.Effect.{Effect}
+use Rattle.expansion_laws.specs.Assigning.{no_count, one_node_more, unwritten_count, exactly, indexed_effect}
 use Rattle.expansion_laws.specs.Assigning.{both_counts, nothing, beside, one_more, alternative_effect}
 use Rattle.expansion_laws.specs.Assigning.{quantified_effect, effect_of, is_large_effect}
 use Rattle.unity_syntax.specs.declared.name.Name.{Name}
@@ -16,6 +17,9 @@ use Rattle.unity_syntax.specs.declared.statement.Alts.{Alts}
 use Rattle.unity_syntax.specs.declared.statement.Assign.{Assign}
 use Rattle.unity_meaning.specs.Writes.{alternatives}
 use Rattle.expansion_laws.specs.declared.cores.Formed.{Formed}
+use Rattle.expansion_laws.specs.declared.cores.Bound.{Bound}
+use Rattle.unity_meaning.specs.Names.{Variable}
+use Rattle.unity_syntax.specs.declared.expression.Expr.{Expr}
 use Rattle.expansion_laws.specs.Measures.{nearer}
 use Rattle.expansion_laws.specs.Forming.{Scope, with_number, numbers, fit_values}
 use Rattle.expansion_laws.specs.Limits.{is_past}
@@ -92,3 +96,19 @@ set_effect s first rest alts = one_more
 abbrev pub each_effect : Scope → Name → Range → Assign → Effect
 each_effect s name range of = quantified_effect s.bound range
     (fold beside nothing (map (λ z. effect_of of (with_number s name.text z)) (fit_values (numbers s.bound) range)))
+
+-- a write at an index that is not known to be outside
+abbrev pub written_effect : Formed → Option Variable → Formed → Formed → Effect
+written_effect i x c v = exactly (v.exact && i.exact) (indexed_effect i x c v)
+
+-- a call gives a count, or none where it is past the limit of nodes
+abbrev pub Tells : Option Count → Count → Type 0
+Tells (Some n) m = n ≡ m
+Tells None m = 65536 < m.size
+
+-- what counts of an instance of a quantifier in a value that is written nowhere, and of all of them
+abbrev pub inside_count : List (List ℕ × Bound) → Name → Expr → ℤ → Count
+inside_count bs name of z = one_node_more (unwritten_count of ((name.text, Bound.Number z) ∷ bs))
+
+abbrev pub instances_count : List (List ℕ × Bound) → Name → Expr → List ℤ → Count
+instances_count bs name of zs = fold both_counts no_count (map (inside_count bs name of) zs)

@@ -12,6 +12,7 @@ ghost use Rattle.expand_assignments.specs.Adding.{Adds, AddsAll, each_effect, se
 
 use crate::alternatives::all_alternatives;
 use crate::counts::{count_one, nearer};
+use crate::places::bound_at;
 use expand_expressions::{
     Env, Known, Numbers, Refusal, is_fixed_range, range_misfit, range_numbers, with_bound,
 };
@@ -43,14 +44,6 @@ fn mark_range(fixed: bool, bad_range: Option<u64>, effect: &mut Effect)
 {
     effect.exact &= fixed;
     effect.count.bad_range = nearer(bad_range, effect.count.bad_range);
-}
-
-fn bound_at(numbers: &Numbers, i: u64) -> Bound
-    requires first { unsigned_abs numbers.now.first ≤ 2 ^ 30 }
-    requires within { i < 2 ^ 31 }
-    ensures { result ≡ Number (numbers.now.first +ℤ pos i) }
-{
-    Bound::Number(numbers.first + i as i64)
 }
 
 #[cycle(assign)]

@@ -39,6 +39,17 @@ pub fn both_counts(a: Count, b: Count) -> Count
     }
 }
 
+/// One node more.
+pub fn one_node_more(count: Count) -> Count
+    ensures { result ≡ spec.one_node_more count }
+{
+    Count {
+        size: counted(count.size.saturating_add(1)),
+        most: count.most,
+        bad_range: count.bad_range,
+    }
+}
+
 fn whole(m: Measure) -> u64
     ensures { result ≡ spec.whole m }
 {
@@ -67,7 +78,7 @@ pub fn index_count(i: Measure) -> Count
     }
 }
 
-/// An index where there is no array.
+/// An index where there is no array, or a condition of which there is no write.
 pub fn stray_count(i: Measure) -> Count
     ensures { result ≡ spec.stray_count i }
 {

@@ -8,6 +8,7 @@ mod counts;
 mod parts;
 mod places;
 mod targets;
+mod unwritten;
 mod writes;
 
 pub use components::effect_in;

@@ -1,10 +1,14 @@
 //! The slots of arrays.
 
 ghost use Rattle.std.specs.Prelude.{◌≡◌, ◌+◌, ◌^◌, ◌≤◌, ◌<◌, pos, ◌+ℤ◌, Some};
+ghost use Rattle.std.specs.Int.RustNames.{unsigned_abs};
 ghost use Rattle.unity_meaning.specs.Names as names;
+ghost use Rattle.expansion_laws.specs.declared.cores.Bound.TheVariants.{Number};
 ghost use Rattle.unity_meaning.specs.Value.{range_size};
 
 use core_terms::Range;
+use expand_expressions::Numbers;
+use expansion_laws::Bound;
 
 /// The slots of an array.
 #[derive(Clone, Copy)]
@@ -58,4 +62,13 @@ impl ArraySlots {
     {
         self.first + place as u32
     }
+}
+
+/// A number of a range, as what a name stands for.
+pub fn bound_at(numbers: &Numbers, i: u64) -> Bound
+    requires first { unsigned_abs numbers.now.first ≤ 2 ^ 30 }
+    requires within { i < 2 ^ 31 }
+    ensures { result ≡ Number (numbers.now.first +ℤ pos i) }
+{
+    Bound::Number(numbers.first + i as i64)
 }

@@ -1,16 +1,21 @@
 //! The writes of values to targets.
 
-ghost use Rattle.std.specs.Prelude.{◌≡◌, ◌∷◌, ◌≤◌, Some, None, option_map};
+ghost use Rattle.std.specs.Prelude.{◌≡◌, ◌∷◌, ◌≤◌, ◌+◌, ◌^◌, ℕ, List, Some, None, MatchOption};
+ghost use Rattle.std.specs.Option.{option_map};
+ghost use Rattle.unity_meaning.specs.Setting.{slots_for};
 ghost use Rattle.name_laws.specs.SlotLaws.{variable_named};
 ghost use Rattle.expansion_laws.specs.Forming.{as_number, formed};
 ghost use Rattle.expansion_laws.specs.Assigning as spec;
-ghost use Rattle.expand_expressions.specs.Places.{IsReady, scope};
-ghost use Rattle.expand_expressions.specs.Sound.{IsSound, of_truth};
-ghost use Rattle.expand_assignments.specs.Adding.{Adds};
+ghost use Rattle.expand_expressions.specs.Places.{IsReady, bound_names, ends_of, scope, variable_of};
+ghost use Rattle.expand_expressions.specs.Sound.{IsSound, of_number, of_truth};
+ghost use Rattle.expand_assignments.specs.Adding.{Adds, written_effect};
 
 use crate::parts::number_part;
-use crate::writes::{mark, write_indexed, write_plain};
-use expand_expressions::{Env, Known, Refusal, TruthCore, find_variable};
+use crate::unwritten::unwritten;
+use crate::writes::{is_outside, mark, write_indexed, write_outside, write_plain};
+use expand_expressions::{
+    Env, Known, NumberCore, Refusal, TruthCore, VariableSlots, find_variable,
+};
 use expansion_laws::Effect;
 use std::alloc::Global;
 use unity_syntax::{Expr, Name, Target};
@@ -27,11 +32,56 @@ fn plain_target(
     requires { IsReady known.now }
     ensures { Adds result effect.old effect.new (spec.target_effect
         (variable_named name.now.text (scope known.now env.now).variables) None (of_truth c.now)
-        (as_number (formed e.now (scope known.now env.now)))) }
+        (as_number (formed e.now (scope known.now env.now)))
+        (spec.unwritten_count e.now (bound_names env.now))) }
 {
     let v = number_part(alloc, e, env, known)?;
     let exact = v.exact;
     write_plain(alloc, find_variable(known.variables, name), c, v, effect)?;
+    mark(exact, effect);
+    Ok(())
+}
+
+// The value of a target whose index lies outside the array is no part of the core.
+fn outside_target(
+    alloc: Global,
+    i: &NumberCore,
+    e: &Expr,
+    c: &TruthCore,
+    env: &Env,
+    effect: &mut Effect,
+) -> Result<(), Refusal>
+    ensures { Adds result effect.old effect.new (spec.outside_effect (of_number i.now) (of_truth c.now)
+        (spec.unwritten_count e.now (bound_names env.now))) }
+{
+    match unwritten(e, env) {
+        None => Err(Refusal::TooLarge),
+        Some(left) => write_outside(alloc, i, c, left, effect),
+    }
+}
+
+fn written_target(
+    alloc: Global,
+    variable: Option<VariableSlots>,
+    i: &NumberCore,
+    e: &Expr,
+    c: &TruthCore,
+    env: &Env,
+    known: &Known,
+    effect: &mut Effect,
+) -> Result<(), Refusal>
+    requires ready { IsReady known.now }
+    requires within { MatchOption variable (Unit {0})
+        (λ x. x.first + slots_for (option_map ends_of x.indices) ≤ 2 ^ 32) }
+    requires index { IsSound (of_number i.now) }
+    requires condition { IsSound (of_truth c.now) }
+    ensures { (name : List ℕ) → Adds result effect.old effect.new (written_effect (of_number i.now)
+        (option_map (variable_of name) variable) (of_truth c.now)
+        (as_number (formed e.now (scope known.now env.now)))) }
+{
+    let v = number_part(alloc, e, env, known)?;
+    let exact = v.exact & i.exact;
+    write_indexed(alloc, variable, i, c, v, effect)?;
     mark(exact, effect);
     Ok(())
 }
@@ -51,21 +101,16 @@ fn indexed_target(
     ensures { Adds result effect.old effect.new (spec.target_effect
         (variable_named name.now.text (scope known.now env.now).variables)
         (Some (as_number (formed index.now (scope known.now env.now)))) (of_truth c.now)
-        (as_number (formed e.now (scope known.now env.now)))) }
+        (as_number (formed e.now (scope known.now env.now)))
+        (spec.unwritten_count e.now (bound_names env.now))) }
 {
     let i = number_part(alloc, index, env, known)?;
-    let v = number_part(alloc, e, env, known)?;
-    let exact = v.exact & i.exact;
-    write_indexed(
-        alloc,
-        find_variable(known.variables, name),
-        &i,
-        c,
-        v,
-        effect,
-    )?;
-    mark(exact, effect);
-    Ok(())
+    let variable = find_variable(known.variables, name);
+    if is_outside(&i, variable) {
+        outside_target(alloc, &i, e, c, env, effect)
+    } else {
+        written_target(alloc, variable, &i, e, c, env, known, effect)
+    }
 }
 
 /// The write of a value to a target.
@@ -83,7 +128,8 @@ pub fn target(
     ensures { Adds result effect.old effect.new (spec.target_effect
         (variable_named t.now.name.text (scope known.now env.now).variables)
         (spec.index_formed (scope known.now env.now) t.now.index) (of_truth c.now)
-        (as_number (formed e.now (scope known.now env.now)))) }
+        (as_number (formed e.now (scope known.now env.now)))
+        (spec.unwritten_count e.now (bound_names env.now))) }
 {
     match &t.index {
         None => plain_target(alloc, &t.name, e, c, env, known, effect),

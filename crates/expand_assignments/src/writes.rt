@@ -174,6 +174,51 @@ pub fn write_element(
     }
 }
 
+fn is_beyond(index: &NumberCore, slots: &ArraySlots) -> bool
+    requires { IsSound (of_number index.now) }
+    ensures { result ≡ spec.is_beyond (of_number index.now) slots.now.first (Some (slot_ends slots.now)) }
+{
+    index.constant & slot_of(index, slots).is_none()
+}
+
+/// Whether an index is constant and lies outside the array.
+pub fn is_outside(index: &NumberCore, variable: Option<VariableSlots>) -> bool
+    requires within { MatchOption variable (Unit {0})
+        (λ x. x.first + slots_for (option_map ends_of x.indices) ≤ 2 ^ 32) }
+    requires index { IsSound (of_number index.now) }
+    ensures { (name : List ℕ) →
+        result ≡ spec.is_outside (of_number index.now) (option_map (variable_of name) variable) }
+{
+    match variable {
+        Some(
+            VariableSlots {
+                indices: Some(ends),
+                range: _,
+                is_truth: _,
+                first,
+            },
+        ) => is_beyond(index, &ArraySlots { ends, first }),
+        _ => false,
+    }
+}
+
+/// What stands in place of a write at an index that lies outside the array, where so much of the value counts.
+pub fn write_outside(
+    alloc: Global,
+    index: &NumberCore,
+    c: &TruthCore,
+    left: Count,
+    effect: &mut Effect,
+) -> Result<(), Refusal>
+    ensures { Adds result effect.old effect.new (spec.outside_effect (of_number index.now) (of_truth c.now) left) }
+{
+    let around = both_counts(index_count(index.measure), stray_count(c.measure));
+    count_in(both_counts(around, left), effect)?;
+    push_outside(alloc, c, effect)?;
+    mark(index.exact, effect);
+    Ok(())
+}
+
 /// A write at an index of no array.
 pub fn write_stray(
     alloc: Global,

@@ -35,6 +35,8 @@ use Rattle.expansion_laws.specs.Forming.{is_fixed_range, fit_values, formed}
 use Rattle.expansion_laws.specs.Assigning.{both_counts, write_count, index_count, stray_count, spread_count, one_more}
 use Rattle.expansion_laws.specs.Assigning.{nothing, beside, exactly, write_to, equations, any_of, open_effect}
 use Rattle.expansion_laws.specs.Assigning.{stray_effect, element_effect, indexed_effect, plain_slot, target_effect}
+use Rattle.expansion_laws.specs.Assigning.{is_beyond, is_outside, outside_effect, unwritten_count}
+use Rattle.expansion_laws.specs.Assigning.{constant_slot as beyond}
 use Rattle.expansion_laws.specs.Assigning.{index_formed, paired_effect, condition, alternative_effect, all_beside}
 use Rattle.expansion_laws.specs.Assigning.{Effecting, component_layer, assign_layer, effect_of}
 use Rattle.expansion_laws.proofs.Operations.{known-term_of, value-term_of, value-form_of, holds_truth}
@@ -300,21 +302,64 @@ module _ (state : List ℤ) where
     IndexIs (Some i) None = ⊥
     IndexIs (Some i) (Some k) = IsFormed state [] i k
 
-    pub target_acts : Told → (y : Option Variable) (i : Option Formed) (k : Option ℤ) → IndexIs i k →
-        Acts (target_effect y i c v) (Wrote (slot_by y k))
-    target_acts h y None (Some k) j x n = absurd j
-    target_acts h y (Some i) None j x n = absurd j
-    target_acts h y None None j x n =
+    -- nothing is written where a constant index lies outside its array
+    no_slot : (i : Formed) (y : Option Variable) (k : ℤ) → IsFormed state [] i k → i.exact ≡ true →
+        i.measure.bad_range ≡ None → is_outside i y ≡ true → slot_by y (Some k) ≡ None
+    no_slot i None k f e n o = cc
+    no_slot i (Some y) k f e n o = by y.indices o
+      where
+        none : (m : Option ℕ) → not (is_some m) ≡ true → m ≡ None
+        none None q = refl
+        none (Some m) q = cc
+
+        by : (r : Option (ℤ × ℤ)) → is_beyond i y.first r ≡ true → slot_at y.first r (Some k) ≡ None
+        by None q = cc
+        by (Some r) q =
+            let number = number_of (term_of i.core) in
+            sym (constant_slot y.first r (term_of i.core) k number refl
+            (known-term_of i.core ∙ f.known (and_left i.constant _ q)) (value-term_of state [] i.core ∙ f.value e n))
+            ∙ none (beyond i y.first r) (and_right i.constant _ q)
+
+    none_made : (b : Bool) → [] ≡ inside (cond b ((None, z) ∷ []) [])
+    none_made true = refl
+    none_made false = refl
+
+    out_left : (b : Bool) → form_value state [] (form_of c.core) ≡ b →
+        leaves (outsides state [] (form_of c.core ∷ [])) ≡ leaves (cond b ((None, z) ∷ []) [])
+    out_left true h = ap (λ b. leaves (cond b ((None, pos 0) ∷ []) [])) h
+    out_left false h = ap (λ b. leaves (cond b ((None, pos 0) ∷ []) [])) h
+
+    outside_does : Told → (y : Option Variable) (i : Formed) (k : ℤ) (left : Count) → IsFormed state [] i k →
+        is_outside i y ≡ true → Acts (outside_effect i c left) (Wrote (slot_by y (Some k)))
+    outside_does h y i k left f o x n =
+        let two = nearer_first (nearer i.measure.bad_range c.measure.bad_range) left.bad_range n in
+        subst (λ s. Does (outside_effect i c left) (Wrote s))
+        (sym (no_slot i y k f x (nearer_first i.measure.bad_range c.measure.bad_range two) o))
+        (record {
+          made = none_made t;
+          left = out_left t (h.0 (nearer_second i.measure.bad_range c.measure.bad_range two));
+        })
+
+    pub target_acts : Told → (y : Option Variable) (i : Option Formed) (k : Option ℤ) → IndexIs i k → (left : Count) →
+        Acts (target_effect y i c v left) (Wrote (slot_by y k))
+    target_acts h y None (Some k) j left x n = absurd j
+    target_acts h y (Some i) None j left x n = absurd j
+    target_acts h y None None j left x n =
         let e = write_to (plain_slot y) (form_of c.core) (term_of v.core) (write_count c.measure v.measure) in
         let two = plain_range (plain_slot y) n in
         does_exactly v.exact e (Wrote (slot_by y None)) (subst (λ s. Does e (Wrote s)) (plain_is y)
         (write_does (plain_slot y) (form_of c.core) (term_of v.core) (write_count c.measure v.measure) t z
         (h.0 (nearer_first c.measure.bad_range v.measure.bad_range two))
         (valued h.1 (and_left v.exact e.exact x) (nearer_second c.measure.bad_range v.measure.bad_range two))))
-    target_acts h y (Some i) (Some k) j x n =
-        let both = and_left (v.exact && i.exact) (indexed_effect i y c v).exact x in
-        does_exactly (v.exact && i.exact) (indexed_effect i y c v) (Wrote (slot_by y (Some k)))
-        (indexed_does h (and_left v.exact i.exact both) i k j (and_right v.exact i.exact both) y n)
+    target_acts h y (Some i) (Some k) j left x n =
+        elim (is_outside i y) as (λ b. is_outside i y ≡ b → Acts (cond b (outside_effect i c left)
+        (exactly (v.exact && i.exact) (indexed_effect i y c v))) (Wrote (slot_by y (Some k)))) [
+          | true ↦ λ o. outside_does h y i k left j o
+          | false ↦ λ o x n.
+              let both = and_left (v.exact && i.exact) (indexed_effect i y c v).exact x in
+              does_exactly (v.exact && i.exact) (indexed_effect i y c v) (Wrote (slot_by y (Some k)))
+              (indexed_does h (and_left v.exact i.exact both) i k j (and_right v.exact i.exact both) y n)
+        ] refl x n
 
   untaken : (t : Bool) → cond {A = List Write} t [] [] ≡ []
   untaken true = refl
@@ -346,7 +391,8 @@ module _ (state : List ℤ) where
         let y = variable_named d.name.text s.variables in
         let k = index_value u d.index in
         let v = as_number (formed e s) in
-        let target = target_effect y (index_formed s d.index) c v in
+        let left = unwritten_count e s.bound in
+        let target = target_effect y (index_formed s d.index) c v left in
         acts_same (beside target (paired_effect s ts es c)) (cond t ((target_slot u d, value e u) ∷ []) [] ++ cond t
         (paired u ts es) []) (cond t (paired u (d ∷ ts) (e ∷ es)) [])
         (first_more t (target_slot u d, value e u) (paired u ts es))
@@ -355,7 +401,7 @@ module _ (state : List ℤ) where
         (acts_same target (cond t ((slot_by y k, value e u) ∷ []) []) (cond t ((target_slot u d, value e u) ∷ []) [])
         (ap (λ (m : Option ℕ). cond t ((m, value e u) ∷ []) []) (slot_is d.name.text k))
         (target_acts c v t (value e u) (q, value_is e) y (index_formed s d.index) k (index_is c v t (value e u)
-        d.index)))
+        d.index) left))
         (paired_acts ts es c t q))
 
     condition_holds : (o : Option Expr) → (condition s o).exact ≡ true → (condition s o).measure.bad_range ≡ None →

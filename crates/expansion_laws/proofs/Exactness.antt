@@ -42,6 +42,7 @@ use Rattle.expansion_laws.specs.Forming.{bound_formed, variable_formed, word_for
 use Rattle.expansion_laws.specs.Forming.{number_constant, is_number, is_fixed, is_fixed_range, numbers, fit_values}
 use Rattle.expansion_laws.specs.Forming.{Forming, form_layer, formed}
 use Rattle.expansion_laws.specs.Assigning.{nothing, beside, write_to, element_effect, indexed_effect, target_effect}
+use Rattle.expansion_laws.specs.Assigning.{is_outside, unwritten_count}
 use Rattle.expansion_laws.specs.Assigning.{index_formed, paired_effect, condition, alternative_effect, all_beside}
 use Rattle.expansion_laws.specs.Assigning.{Effecting, component_layer, assign_layer}
 use Rattle.expansion_laws.specs.ExactLaws.{Agrees, ExpressionsExact, ExpressionsConstant, AssignmentsExact}
@@ -395,15 +396,16 @@ module _ (n : NameScope) (s : Scope) (g : Agrees n s) where
 
   target_exact : (d : Target) (e : Expr) (c : Formed) → has_exact_index n d ≡ true → is_exact e n ≡ true →
       (target_effect (variable_named d.name.text s.variables) (index_formed s d.index) c
-      (as_number (formed e s))).exact ≡ true
+      (as_number (formed e s)) (unwritten_count e s.bound)).exact ≡ true
   target_exact d e c h i = by d.index h
     where
       by : (o : Option Expr) → is_exact_or_none n o ≡ true →
-          (target_effect (variable_named d.name.text s.variables) (index_formed s o) c (as_number (formed e s))).exact
-          ≡ true
+          (target_effect (variable_named d.name.text s.variables) (index_formed s o) c (as_number (formed e s))
+          (unwritten_count e s.bound)).exact ≡ true
       by None k = both_true _ _ (value_exact e i) (write_exact _ _ _ _)
-      by (Some x) k = both_true _ _ (both_true _ _ (value_exact e i) (value_exact x k)) (indexed_exact
-          (as_number (formed x s)) (variable_named d.name.text s.variables) c (as_number (formed e s)))
+      by (Some x) k = array_exact (is_outside (as_number (formed x s)) (variable_named d.name.text s.variables)) _ _
+          (value_exact x k) (both_true _ _ (both_true _ _ (value_exact e i) (value_exact x k)) (indexed_exact
+          (as_number (formed x s)) (variable_named d.name.text s.variables) c (as_number (formed e s))))
 
   paired_exact : (ts : List Target) (es : List Expr) (c : Formed) → list_all (has_exact_index n) ts ≡ true →
       list_all (λ e. is_exact e n) es ≡ true →

@@ -1,6 +1,6 @@
 -- What the core of assignments weighs, held against what is counted before folding.
 use Rattle.std.proofs.Common.{◌≡◌, ℕ, zero, suc, ◌+◌, ◌<◌, ◌≤◌, max, ℤ, pos, ◌+ℤ◌, List, [], ◌∷◌, ◌++◌, map, Bool}
-use Rattle.std.proofs.Common.{true, false, cond, Option, Some, None, subst, arith, All}
+use Rattle.std.proofs.Common.{true, false, ◌&&◌, cond, Option, Some, None, subst, arith, All}
 use Rattle.std.proofs.lemmas.Int.{ints}
 use Rattle.std.proofs.lemmas.List.Elements.{All-cons, All-nil}
 use Rattle.std.specs.Prelude.{fold}
@@ -30,7 +30,8 @@ use Rattle.expansion_laws.specs.Assigning.{both_counts, write_count, index_count
 use Rattle.expansion_laws.specs.Assigning.{beside, write_to, equations, any_of, spread, open_effect, stray_effect}
 use Rattle.expansion_laws.specs.Assigning.{element_effect, indexed_effect, plain_slot, target_effect, index_formed}
 use Rattle.expansion_laws.specs.Assigning.{paired_effect, condition, alternative_effect, all_beside, Effecting}
-use Rattle.expansion_laws.specs.Assigning.{component_layer, assign_layer, effect_of}
+use Rattle.expansion_laws.specs.Assigning.{component_layer, assign_layer, effect_of, exactly, is_outside}
+use Rattle.expansion_laws.specs.Assigning.{outside_effect, unwritten_count}
 use Rattle.expansion_laws.specs.WeightLaws.{ScopeWithin, WriteWithin, AssignmentsWithin}
 use Rattle.expansion_laws.proofs.Lightness.{difference_light, zero_light, not_light, and_light, or_light, const_light}
 use Rattle.expansion_laws.proofs.Lightness.{as_term, as_form, fits_law, inside_fits, within_ends, abs_next}
@@ -180,8 +181,8 @@ module _ (slots params : ℕ → ℕ) where
       indexed_light None = stray_light i
       indexed_light (Some x) = element_light x.first x.indices
 
-    plain_light : (x : Option Variable) → Light (target_effect x None c v)
-    plain_light x = light_write (plain_slot x) (form_of c.core) (term_of v.core) (write_count c.measure v.measure)
+    plain_light : (x : Option Variable) (left : Count) → Light (target_effect x None c v left)
+    plain_light x left = light_write (plain_slot x) (form_of c.core) (term_of v.core) (write_count c.measure v.measure)
         (omega (arith, hc)) (omega (arith, hv))
 
   module _ (s : Scope) (g : ScopeWithin slots params s) where
@@ -196,21 +197,29 @@ module _ (slots params : ℕ → ℕ) where
     condition_light (Some e) = as_form slots params (formed e s).core (formed e s).measure
         (fits_law slots params e s g)
 
+    outside_or_light : (c : Formed) → F (form_of c.core) ≤ c.measure.most → (i : Formed) (left : Count) (b : Bool)
+        (e : Effect) → Light e → Light (cond b (outside_effect i c left) e)
+    outside_or_light c h i left true e l = ((omega (arith, h), tt), tt)
+    outside_or_light c h i left false e l = l
+
     target_light : (c : Formed) → F (form_of c.core) ≤ c.measure.most → (x : Option Variable) (o : Option Expr)
-        (e : Expr) →
-        Light (target_effect x (index_formed s o) c (as_number (formed e s)))
-    target_light c h x None e = plain_light c (as_number (formed e s)) h (number_light e).1 x
-    target_light c h x (Some i) e =
-        indexed_light c (as_number (formed e s)) h (number_light e).1 (as_number (formed i s)) (number_light i).0
-        (number_light i).1 x
+        (e : Expr) (left : Count) →
+        Light (target_effect x (index_formed s o) c (as_number (formed e s)) left)
+    target_light c h x None e left = plain_light c (as_number (formed e s)) h (number_light e).1 x left
+    target_light c h x (Some i) e left = outside_or_light c h (as_number (formed i s)) left
+        (is_outside (as_number (formed i s)) x)
+        (exactly ((as_number (formed e s)).exact && (as_number (formed i s)).exact)
+        (indexed_effect (as_number (formed i s)) x c (as_number (formed e s))))
+        (indexed_light c (as_number (formed e s)) h (number_light e).1 (as_number (formed i s)) (number_light i).0
+        (number_light i).1 x)
 
     paired_light : (c : Formed) → F (form_of c.core) ≤ c.measure.most → (ts : List Target) (es : List Expr) →
         Light (paired_effect s ts es c)
     paired_light c h [] es = (tt, tt)
     paired_light c h (d ∷ ts) [] = (tt, tt)
     paired_light c h (d ∷ ts) (e ∷ es) = light_beside (target_effect (variable_named d.name.text s.variables)
-        (index_formed s d.index) c (as_number (formed e s))) (paired_effect s ts es c) (target_light c h
-        (variable_named d.name.text s.variables) d.index e) (paired_light c h ts es)
+        (index_formed s d.index) c (as_number (formed e s)) (unwritten_count e s.bound)) (paired_effect s ts es c)
+        (target_light c h (variable_named d.name.text s.variables) d.index e (unwritten_count e s.bound)) (paired_light c h ts es)
 
     alternative_light : (ts : List Target) (a : Alternative) → Light (alternative_effect s ts a)
     alternative_light ts a = paired_light (condition s a.1) (condition_light a.1) ts (a.0.first ∷ a.0.rest)

@@ -23,6 +23,8 @@ use Rattle.expansion_laws.specs.Forming.{disjunction, denial, comparison, signed
 use Rattle.expansion_laws.specs.Forming.{bound_formed, variable_formed, formed_or_zero, word_formed, element_of}
 use Rattle.expansion_laws.specs.Forming.{gathered, numbers, fit_values, quantified, Forming, form_layer, formed}
 use Rattle.expansion_laws.specs.Assigning.{nothing, beside, exactly, one_more, target_effect, index_formed}
+use Rattle.expansion_laws.specs.Assigning.{unwritten_count}
+use Rattle.expansion_laws.specs.declared.effects.Count.{Count}
 use Rattle.expansion_laws.specs.Assigning.{paired_effect, condition, alternative_effect, all_beside}
 use Rattle.expansion_laws.specs.Assigning.{quantified_effect, Effecting, component_layer, assign_layer}
 use Rattle.expansion_laws.specs.SightLaws.{unnamed, SeeSame, FormedBySight, AssignedBySight}
@@ -73,12 +75,12 @@ element_unnamed : (m : Option Variable) (i : Formed) → element_of m i ≡ elem
 element_unnamed None i = refl
 element_unnamed (Some v) i = refl
 
-target_unnamed : (m : Option Variable) (i : Option Formed) (c v : Formed) → target_effect m i c v ≡ target_effect
-    (option_map unnamed m) i c v
-target_unnamed None None c v = refl
-target_unnamed None (Some i) c v = refl
-target_unnamed (Some y) None c v = refl
-target_unnamed (Some y) (Some i) c v = refl
+target_unnamed : (m : Option Variable) (i : Option Formed) (c v : Formed) (left : Count) →
+    target_effect m i c v left ≡ target_effect (option_map unnamed m) i c v left
+target_unnamed None None c v left = refl
+target_unnamed None (Some i) c v left = refl
+target_unnamed (Some y) None c v left = refl
+target_unnamed (Some y) (Some i) c v left = refl
 
 word_same : (s t : Scope) → SeeSame s t → (name : List ℕ) → word_formed s name ≡ word_formed t name
 word_same s t h name =
@@ -144,15 +146,20 @@ condition_same s t h None = refl
 condition_same s t h (Some e) = ap as_truth (formed_by_sight e s t h)
 
 target_same : (s t : Scope) → SeeSame s t → (d : Target) (e : Expr) (c : Formed) →
-    target_effect (variable_named d.name.text s.variables) (index_formed s d.index) c (as_number (formed e s)) ≡
+    target_effect (variable_named d.name.text s.variables) (index_formed s d.index) c (as_number (formed e s))
+    (unwritten_count e s.bound) ≡
     target_effect (variable_named d.name.text t.variables) (index_formed t d.index) c (as_number (formed e t))
+    (unwritten_count e t.bound)
 target_same s t h d e c =
     let v = variable_named d.name.text s.variables in
     let w = variable_named d.name.text t.variables in
-    two (λ i x. target_effect v i c x) _ _ _ _ (index_same s t h d.index) (ap as_number (formed_by_sight e s t h))
-    ∙ target_unnamed v (index_formed t d.index) c (as_number (formed e t))
-    ∙ ap (λ m. target_effect m (index_formed t d.index) c (as_number (formed e t))) (h.variables d.name.text)
-    ∙ sym (target_unnamed w (index_formed t d.index) c (as_number (formed e t)))
+    let left = unwritten_count e t.bound in
+    ap (λ bs. target_effect v (index_formed s d.index) c (as_number (formed e s)) (unwritten_count e bs)) h.bound
+    ∙ two (λ i x. target_effect v i c x left) _ _ _ _ (index_same s t h d.index)
+    (ap as_number (formed_by_sight e s t h))
+    ∙ target_unnamed v (index_formed t d.index) c (as_number (formed e t)) left
+    ∙ ap (λ m. target_effect m (index_formed t d.index) c (as_number (formed e t)) left) (h.variables d.name.text)
+    ∙ sym (target_unnamed w (index_formed t d.index) c (as_number (formed e t)) left)
 
 paired_same : (s t : Scope) → SeeSame s t → (ts : List Target) (es : List Expr) (c : Formed) → paired_effect s ts es c
     ≡ paired_effect t ts es c

@@ -2,10 +2,12 @@
 -- they
 -- are before folding.
 use Rattle.std.specs.Prelude.{ℕ, zero, suc, ◌+◌, ◌*◌, ◌^◌, max, ℤ, pos, ◌+ℤ◌, List, [], ◌∷◌, ◌++◌, map, fold, Bool}
-use Rattle.std.specs.Prelude.{true, cond, not, ◌&&◌, ◌||◌, Option, Some, None, option_map, nat_le}
+use Rattle.std.specs.Prelude.{true, false, cond, not, ◌&&◌, ◌||◌, Option, Some, None, option_map, nat_le}
 use Rattle.std.specs.Int.RustNames.{unsigned_abs}
-use Rattle.std.specs.Option.{option_and_then}
-use Rattle.unity_syntax.specs.declared.expression.Expr.{Expr}
+use Rattle.std.specs.Option.{option_and_then, is_some}
+use Rattle.case_tables.specs.declared.symbol_table.Symbol.{Symbol}
+use Rattle.unity_syntax.specs.declared.expression.Expr.{Expr, fold-Expr}
+use Rattle.unity_syntax.specs.declared.expression.Expr.TheOpen.{Expr-F}
 use Rattle.unity_syntax.specs.declared.name.Range.{Range}
 use Rattle.unity_syntax.specs.declared.statement.Target.{Target}
 use Rattle.unity_syntax.specs.declared.statement.Component.{Component, fold-Component}
@@ -77,6 +79,45 @@ spread_count count ends i c v = record {
   most = max (i.own + max (unsigned_abs ends.0) (unsigned_abs ends.1)) (max i.most (max c.most v.most));
   bad_range = nearer i.bad_range (nearer c.bad_range v.bad_range);
 }
+
+-- a condition of which there is no write
+abbrev pub condition_count : Measure → Count
+condition_count c = stray_count c
+
+-- one node more
+abbrev pub one_node_more : Count → Count
+one_node_more n = record n { size = counted (1 + n.size) }
+
+-- instances together, as a quantifier over a range
+abbrev pub quantified_count : List (List ℕ × Bound) → Range → Count → Count
+quantified_count bs r n =
+    one_node_more (record n { bad_range = nearer (range_misfit (numbers bs) r) n.bad_range })
+
+-- what is counted of a value that is written nowhere, among bound names: each quantifier in it, and each of their
+-- instances, so that an end that is too large is found in whichever instance it comes; nothing else of it counts
+abbrev pub Counting : Type 0
+Counting = List (List ℕ × Bound) → Count
+
+abbrev pub unwritten_layer : Expr-F Counting → Counting
+unwritten_layer (Expr-F.Implies at left right) bs = both_counts (left bs) (right bs)
+unwritten_layer (Expr-F.And at first rest) bs = fold both_counts (first bs) (map (λ m. m bs) rest)
+unwritten_layer (Expr-F.Or at first rest) bs = fold both_counts (first bs) (map (λ m. m bs) rest)
+unwritten_layer (Expr-F.Not at of) bs = of bs
+unwritten_layer (Expr-F.Compare at left relation right) bs = both_counts (left bs) (right bs)
+unwritten_layer (Expr-F.Sum at minus first rest) bs =
+    fold both_counts (first bs) (map (λ (part : Symbol × Counting). part.1 bs) rest)
+unwritten_layer (Expr-F.Product at first rest) bs = fold both_counts (first bs) (map (λ m. m bs) rest)
+unwritten_layer (Expr-F.Number at number) bs = no_count
+unwritten_layer (Expr-F.True at) bs = no_count
+unwritten_layer (Expr-F.False at) bs = no_count
+unwritten_layer (Expr-F.Word at name None) bs = no_count
+unwritten_layer (Expr-F.Word at name (Some index)) bs = index bs
+unwritten_layer (Expr-F.Brackets at of) bs = of bs
+unwritten_layer (Expr-F.Quantified at which name range of) bs = quantified_count bs range (fold both_counts no_count
+    (map (λ z. one_node_more (of ((name.text, Bound.Number z) ∷ bs))) (fit_values (numbers bs) range)))
+
+abbrev pub unwritten_count : Expr → Counting
+unwritten_count = fold-Expr Counting unwritten_layer
 
 -- one more for an alternative, a component or a quantifier
 abbrev pub one_more : Effect → Effect
@@ -156,11 +197,35 @@ indexed_effect i (Some x) c v = element_effect i x.first x.indices c v
 abbrev pub plain_slot : Option Variable → Option ℕ
 plain_slot x = option_and_then (λ y. slot_at y.first y.indices None) x
 
--- a write to this variable under a condition
-abbrev pub target_effect : Option Variable → Option Formed → Formed → Formed → Effect
-target_effect x None c v = exactly v.exact
+-- the slot of an array at a constant index, where there is one
+abbrev pub constant_slot : Formed → ℕ → ℤ × ℤ → Option ℕ
+constant_slot i first ends =
+    option_and_then (λ k. slot_at first (Some ends) (Some k)) (number_of (term_of i.core))
+
+-- whether a constant index lies outside its array
+abbrev pub is_beyond : Formed → ℕ → Option (ℤ × ℤ) → Bool
+is_beyond i first None = false
+is_beyond i first (Some ends) = i.constant && not (is_some (constant_slot i first ends))
+
+abbrev pub is_outside : Formed → Option Variable → Bool
+is_outside i None = false
+is_outside i (Some x) = is_beyond i x.first x.indices
+
+-- where it does nothing is written: the value is no part of the core, and so much of it counts
+abbrev pub outside_effect : Formed → Formed → Count → Effect
+outside_effect i c left = record {
+  outside = form_of c.core ∷ [];
+  writes = [];
+  exact = i.exact;
+  count = both_counts (both_counts (index_count i.measure) (condition_count c.measure)) left;
+}
+
+-- a write to this variable under a condition; so much of the value counts where it is written nowhere
+abbrev pub target_effect : Option Variable → Option Formed → Formed → Formed → Count → Effect
+target_effect x None c v left = exactly v.exact
     (write_to (plain_slot x) (form_of c.core) (term_of v.core) (write_count c.measure v.measure))
-target_effect x (Some i) c v = exactly (v.exact && i.exact) (indexed_effect i x c v)
+target_effect x (Some i) c v left = cond (is_outside i x) (outside_effect i c left)
+    (exactly (v.exact && i.exact) (indexed_effect i x c v))
 
 -- an index, where there is one, as a number
 abbrev pub index_formed : Scope → Option Expr → Option Formed
@@ -171,7 +236,8 @@ abbrev pub paired_effect : Scope → List Target → List Expr → Formed → Ef
 paired_effect s [] es c = nothing
 paired_effect s (t ∷ ts) [] c = nothing
 paired_effect s (t ∷ ts) (e ∷ es) c = beside
-    (target_effect (variable_named t.name.text s.variables) (index_formed s t.index) c (as_number (formed e s)))
+    (target_effect (variable_named t.name.text s.variables) (index_formed s t.index) c (as_number (formed e s))
+    (unwritten_count e s.bound))
     (paired_effect s ts es c)
 
 -- the condition of an alternative, which holds where there is none

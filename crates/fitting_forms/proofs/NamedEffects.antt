@@ -1,6 +1,6 @@
 -- What the core of an assignment names, by its parts.
 use Rattle.std.proofs.Common.{◌≡◌, ℕ, zero, suc, ◌+◌, ◌<◌, ℤ, pos, ◌+ℤ◌, List, [], ◌∷◌, ◌++◌, map, Bool, true}
-use Rattle.std.proofs.Common.{false, cond, Option, Some, None, refl, sym, ap, ◌∙◌, arith, All}
+use Rattle.std.proofs.Common.{false, ◌&&◌, cond, Option, Some, None, refl, sym, ap, ◌∙◌, arith, All}
 use Rattle.std.proofs.lemmas.List.Elements.{All-cons, All-nil}
 use Rattle.std.specs.Prelude.{fold}
 use Rattle.std.specs.List.{list_all}
@@ -31,7 +31,8 @@ use Rattle.expansion_laws.specs.Assigning.{nothing, beside, write_to, equations,
 use Rattle.expansion_laws.specs.Assigning.{array_effect, stray_effect, element_effect, indexed_effect, plain_slot}
 use Rattle.expansion_laws.specs.Assigning.{target_effect, index_formed, paired_effect, condition, alternative_effect}
 use Rattle.expansion_laws.specs.Assigning.{all_beside, Effecting, component_layer, assign_layer, effect_of}
-use Rattle.expansion_laws.specs.Assigning.{both_counts, index_count, write_count, spread_count}
+use Rattle.expansion_laws.specs.Assigning.{both_counts, index_count, write_count, spread_count, exactly, is_outside}
+use Rattle.expansion_laws.specs.Assigning.{outside_effect, unwritten_count}
 use Rattle.fitting_forms.specs.Naming.{WordTest, or_word, Wording, words_pass, words_pass_or_none, target_words}
 use Rattle.fitting_forms.specs.Naming.{alternative_words, component_words, assign_words, SlotsPass, Sees, WriteNames}
 use Rattle.fitting_forms.specs.Naming.{assignment_passes}
@@ -170,8 +171,8 @@ module _ (slots params : ℕ → Bool) where
     plain_passes (Some x) s = plain_by x x.indices (s x refl)
 
     plain_fine : (x : Option Variable) → ((y : Variable) → x ≡ Some y → SlotsPass slots y y.indices) →
-        Fine (target_effect x None c v)
-    plain_fine x s = fine_write (plain_slot x) (form_of c.core) (term_of v.core) (write_count c.measure v.measure)
+        (left : Count) → Fine (target_effect x None c v left)
+    plain_fine x s left = fine_write (plain_slot x) (form_of c.core) (term_of v.core) (write_count c.measure v.measure)
         (plain_passes x s) hc hv
 
   module _ (alone whole : WordTest) (s : Scope) (g : Sees slots params alone whole s) where
@@ -183,13 +184,21 @@ module _ (slots params : ℕ → Bool) where
     condition_names None p = names-Top slots params
     condition_names (Some e) p = as_form slots params (formed e s).core (names_law slots params e alone whole s p g)
 
+    outside_or_fine : (c : Formed) → F (form_of c.core) ≡ true → (i : Formed) (left : Count) (b : Bool)
+        (e : Effect) → Fine e → Fine (cond b (outside_effect i c left) e)
+    outside_or_fine c h i left true e l = ((h, tt), tt)
+    outside_or_fine c h i left false e l = l
+
     target_fine : (c : Formed) → F (form_of c.core) ≡ true → (x : Option Variable) →
         ((y : Variable) → x ≡ Some y → SlotsPass slots y y.indices) → (o : Option Expr) →
-        words_pass_or_none o alone whole ≡ true → (e : Expr) → words_pass e alone whole ≡ true →
-        Fine (target_effect x (index_formed s o) c (as_number (formed e s)))
-    target_fine c h x y None p e q = plain_fine c (as_number (formed e s)) h (number_names e q) x y
-    target_fine c h x y (Some i) p e q = indexed_fine c (as_number (formed e s)) h (number_names e q)
-        (as_number (formed i s)) (number_names i p) x y
+        words_pass_or_none o alone whole ≡ true → (e : Expr) → words_pass e alone whole ≡ true → (left : Count) →
+        Fine (target_effect x (index_formed s o) c (as_number (formed e s)) left)
+    target_fine c h x y None p e q left = plain_fine c (as_number (formed e s)) h (number_names e q) x y left
+    target_fine c h x y (Some i) p e q left = outside_or_fine c h (as_number (formed i s)) left
+        (is_outside (as_number (formed i s)) x)
+        (exactly ((as_number (formed e s)).exact && (as_number (formed i s)).exact)
+        (indexed_effect (as_number (formed i s)) x c (as_number (formed e s))))
+        (indexed_fine c (as_number (formed e s)) h (number_names e q) (as_number (formed i s)) (number_names i p) x y)
 
     paired_fine : (c : Formed) → F (form_of c.core) ≡ true → (ts : List Target) (es : List Expr) →
         list_all (target_words alone whole) ts ≡ true → list_all (λ e. words_pass e alone whole) es ≡ true →
@@ -202,11 +211,11 @@ module _ (slots params : ℕ → Bool) where
         let words = words_pass e alone whole in
         let others = list_all (λ x. words_pass x alone whole) es in
         fine_beside (target_effect (variable_named d.name.text s.variables) (index_formed s d.index) c
-        (as_number (formed e s))) (paired_effect s ts es c)
+        (as_number (formed e s)) (unwritten_count e s.bound)) (paired_effect s ts es c)
         (target_fine c h (variable_named d.name.text s.variables)
         (λ y f. g.variables d.name.text y (and_first (whole d.name.text) (words_pass_or_none d.index alone whole) here)
         f) d.index (and_second (whole d.name.text) (words_pass_or_none d.index alone whole) here) e
-        (and_first words others q))
+        (and_first words others q) (unwritten_count e s.bound))
         (paired_fine c h ts es more (and_second words others q))
 
     alternative_fine : (ts : List Target) → list_all (target_words alone whole) ts ≡ true → (x : Alternative) →

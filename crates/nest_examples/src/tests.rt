@@ -1,5 +1,6 @@
 // How long counting takes, which no clause says: the ranges have up to 10^18 numbers, and few of these count.
-use nests::{NestEnd, NestRange, is_ever_empty, is_ever_large, room_after};
+use nests::{NestEnd, NestRange, is_ever_empty, is_ever_large, room_after, room_and_turns};
+use std::alloc::{AllocError, Global};
 use std::test::Fail;
 
 const MOST: u64 = 1_000_000_000;
@@ -104,5 +105,78 @@ fn finds_one_number_among_many(rt: HostRuntime) -> Result<(), Fail> {
     // Nothing is met inside ranges without an instance.
     let none = [wide, wide, range(constant(5), constant(4))];
     assert_eq!(rt; is_ever_large(alloc, &none, &constant(2 * MOST))?, false);
+    Ok(())
+}
+
+// Whether nested ranges have so many instances, and at most one turn is taken for each of them at each range.
+fn turns_are_few(alloc: Global, ranges: &[NestRange], instances: u64) -> Result<bool, AllocError> {
+    let counted = room_and_turns(alloc, ranges, 4_096)?;
+    let most = (ranges.len() as u64)
+        .saturating_mul(instances)
+        .saturating_add(1);
+    let left = 4_096_u64.checked_sub(instances);
+    Ok(counted.left == left && counted.turns <= most)
+}
+
+#[test]
+fn takes_no_turn_without_an_instance(rt: HostRuntime) -> Result<(), Fail> {
+    let alloc = rt.alloc();
+    let wide = range(constant(1), constant(MOST));
+
+    // Each number is 999999999 or 10^9, and none is above the one before it.
+    let falling = [
+        wide,
+        range(constant(999_999_999), named(0, 0)),
+        range(constant(999_999_999), named(1, 0)),
+        range(constant(999_999_999), named(2, 0)),
+        range(constant(999_999_999), named(3, 0)),
+        range(constant(999_999_999), named(4, 0)),
+    ];
+    // Each number is 1 or 2, and none is below the one before it.
+    let rising = [
+        wide,
+        range(named(0, 0), constant(2)),
+        range(named(1, 0), constant(2)),
+        range(named(2, 0), constant(2)),
+        range(named(3, 0), constant(2)),
+        range(named(4, 0), constant(2)),
+    ];
+    for depth in 2..=6 {
+        let few = depth as u64 + 1;
+        assert!(rt; turns_are_few(alloc, &falling[..depth], few)?);
+        assert!(rt; turns_are_few(alloc, &rising[..depth], few)?);
+    }
+
+    // Steps of so much leave one instance more than there are ranges, and the last number ties the first.
+    let step = 499_999_999;
+    let steps = [
+        wide,
+        range(named(0, step), constant(MOST)),
+        range(named(1, step), constant(MOST)),
+    ];
+    assert!(rt; turns_are_few(alloc, &steps, 4)?);
+
+    // Where the last range is empty, no number is tried.
+    let none = [
+        wide,
+        wide,
+        wide,
+        wide,
+        wide,
+        range(constant(5), constant(4)),
+    ];
+    assert!(rt; turns_are_few(alloc, &none, 0)?);
+    Ok(())
+}
+
+#[test]
+fn stops_at_the_first_instance_too_many(rt: HostRuntime) -> Result<(), Fail> {
+    let alloc = rt.alloc();
+    let wide = range(constant(1), constant(MOST));
+
+    // With 10^18 instances, one more than the room is counted, and one number i is tried.
+    let counted = room_and_turns(alloc, &[wide, wide], 4_096)?;
+    assert_eq!(rt; counted.left, None);
+    assert_eq!(rt; counted.turns, 4_099);
     Ok(())
 }

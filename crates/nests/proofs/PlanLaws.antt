@@ -1,6 +1,6 @@
 -- What is necessary for an instance, and the sums over the numbers of a range.
 use Rattle.std.proofs.Common.{◌≡◌, ℕ, zero, suc, ◌+◌, ◌-◌, ◌<◌, ◌≤◌, ℤ, pos, negsuc, ◌+ℤ◌, ◌-ℤ◌, neg_ℤ, ◌≤ℤ◌, ◌<ℤ◌}
-use Rattle.std.proofs.Common.{List, [], ◌∷◌, ◌++◌, true, false, cond, Option, Some, length, eq-eqb, get_or, take}
+use Rattle.std.proofs.Common.{min, List, [], ◌∷◌, ◌++◌, true, false, cond, Option, Some, length, eq-eqb, get_or, take}
 use Rattle.std.proofs.Common.{drop, refl, sym, ap, ◌∙◌, subst, arith}
 use Rattle.std.proofs.lemmas.Int.{ints}
 use Rattle.std.proofs.lemmas.List.{take_rest}
@@ -10,7 +10,7 @@ use Rattle.nests.specs.declared.ranges.NestEnd.{NestEnd}
 use Rattle.nests.specs.declared.ranges.NestRange.{NestRange}
 use Rattle.nests.specs.declared.ranges.Condition.{Condition}
 use Rattle.nests.specs.declared.ranges.Interval.{Interval}
-use Rattle.nests.specs.Nests.{LeavesRoom, number_at, end_number, natural, count_up, between, is_fit, are_fit, offset}
+use Rattle.nests.specs.Nests.{LeavesRoom, TakesTurns, most_turns, number_at, end_number, natural, count_up, between, is_fit, are_fit, offset}
 use Rattle.nests.specs.Conditions.{condition_holds, all_hold, sum_over, meeting, is_level, above_end, below_end}
 use Rattle.nests.specs.Conditions.{at_least, at_most, fit_conditions, low_conditions, high_conditions, own, Entails}
 use Rattle.nests.specs.Conditions.{Follows, Necessary, Plans, Narrows, Spans}
@@ -184,6 +184,14 @@ each_past f low i n room whole all h e m = let s = sum_more f low i n h in omega
 pub each_end : (f : ℤ → ℕ) (low : ℤ) (i n room whole all : ℕ) → n ≤ i →
     all + sum_over f (count_up (low +ℤ pos i) (n - i)) ≡ room + whole → LeavesRoom (Some room) all whole
 each_end f low i n room whole all h e = let s = sum_last f low i n h in let r : room + whole ≡ all = omega arith in r
+
+-- turns after turns
+pub turns_more : (first room turns left more : ℕ) (r : ℕ) → min most_turns (first + room) ≤ turns + left →
+    TakesTurns (Some r) left turns more → min most_turns (first + room) ≤ more + r
+turns_more first room turns left more r h k =
+    let l : min 18446744073709551615 (first + room) ≤ turns + left = h in
+    let m : min 18446744073709551615 (turns + left) ≤ more + r = k in
+    omega (arith, l, m)
 
 -- the first of nested ranges, and the rest
 

@@ -1,5 +1,5 @@
 -- Nested ranges and their instances.
-use Rattle.std.specs.Prelude.{◌≡◌, ◌+◌, ◌<◌, MatchOption, ℕ, zero, suc, ℤ, pos, negsuc, neg_ℤ, ◌+ℤ◌, ◌-ℤ◌, List, []}
+use Rattle.std.specs.Prelude.{◌≡◌, ◌+◌, ◌<◌, ◌≤◌, min, MatchOption, ℕ, zero, suc, ℤ, pos, negsuc, neg_ℤ, ◌+ℤ◌, ◌-ℤ◌, List, []}
 use Rattle.std.specs.Prelude.{◌∷◌, ◌++◌, Bool, cond, ◌&&◌, Option, Some, None, nat_le, slice_index_or}
 use Rattle.std.specs.List.{flat_map}
 use Rattle.std.specs.Int.RustNames.{int_lt, unsigned_abs}
@@ -57,3 +57,16 @@ is_empty vs r = are_fit vs r && int_lt (end_number vs r.high) (end_number vs r.l
 -- the room that is left by so many; none where they are more
 abbrev pub LeavesRoom : Option ℕ → ℕ → ℕ → Type 0
 LeavesRoom r room n = MatchOption r (room < n) (λ left. left + n ≡ room)
+
+-- turns are counted up to this
+abbrev pub most_turns : ℕ
+most_turns = 18446744073709551615
+
+-- what is left of a room; nothing where there was too little
+abbrev pub left_over : Option ℕ → ℕ
+left_over None = 0
+left_over (Some left) = left
+
+-- for each instance that took room there is a turn, after those that were taken before
+abbrev pub TakesTurns : Option ℕ → ℕ → ℕ → ℕ → Type 0
+TakesTurns r room before after = min most_turns (before + room) ≤ after + left_over r

@@ -8,5 +8,5 @@ mod questions;
 mod ranges;
 mod walk;
 
-pub use questions::{all_instances, is_ever_empty, is_ever_large, room_after};
-pub use ranges::{NestEnd, NestRange};
+pub use questions::{all_instances, is_ever_empty, is_ever_large, room_after, room_and_turns};
+pub use ranges::{Counted, NestEnd, NestRange};

@@ -32,3 +32,12 @@ pub struct Interval {
     pub low: i128,
     pub high: i128,
 }
+
+/// A count of instances.
+#[derive(Clone, Copy)]
+pub struct Counted {
+    /// What is left of the room for them; `None` where there were more.
+    pub left: Option<u64>,
+    /// The turns that were taken, up to 2^64 - 1.
+    pub turns: u64,
+}

@@ -1,10 +1,10 @@
 //! Counting the instances of nested ranges, over those numbers alone for which there may be one.
 
 ghost use Rattle.std.specs.Prelude.{ℤ, ◌≡◌, ◌+◌, ◌^◌, ◌<◌, ◌≤◌, suc, pos, negsuc, ◌+ℤ◌, ◌-ℤ◌, ◌≤ℤ◌, [], ◌∷◌, ◌++◌};
-ghost use Rattle.std.specs.Prelude.{length, IfOk, OnOk, Some, slice_index_or};
+ghost use Rattle.std.specs.Prelude.{length, IfOk, OnOk, Some, min, slice_index_or};
 ghost use Rattle.std.specs.Int.RustNames.{unsigned_abs};
 ghost use Rattle.std.specs.List.{flat_map};
-ghost use Rattle.nests.specs.Nests.{LeavesRoom, instances, between, end_number, is_fit, natural, number_at};
+ghost use Rattle.nests.specs.Nests.{LeavesRoom, TakesTurns, most_turns, instances, between, end_number, is_fit, natural, number_at};
 ghost use Rattle.nests.specs.Conditions.{Narrows, Plans, Spans, all_hold, condition_holds, interval_of, left_by};
 ghost use Rattle.nests.specs.Conditions.{lowered, meeting, raised, sum_over};
 
@@ -204,8 +204,16 @@ fn one(values: &[i64], leaf: &[Condition], room: u64) -> Option<u64>
     }
 }
 
+/// One turn more, up to 2^64 - 1.
+fn take_turn(turns: &mut u64)
+    ensures { turns.new ≡ min most_turns (turns.old + 1) }
+{
+    *turns = turns.saturating_add(1);
+}
+
 /// Counts the instances of nested ranges that meet the conditions `leaf`, inside ranges with these numbers. The
 /// answer is what is left of the room, and `None` where there is too little. An error says that memory was refused.
+/// Each call is a turn.
 #[cycle(count)]
 pub fn count(
     ranges: &[NestRange],
@@ -213,11 +221,14 @@ pub fn count(
     leaf: &[Condition],
     values: &mut Seq<i64>,
     room: u64,
+    turns: &mut u64,
 ) -> Result<Option<u64>, AllocError>
     requires plans { Plans ranges.now leaf.now (length values.old) plans.now }
     ensures count { IfOk result (λ r. LeavesRoom r room (meeting ranges.now leaf.now values.old)) }
+    ensures turns { IfOk result (λ r. TakesTurns r room turns.old turns.new) }
     ensures values { OnOk result (values.new ≡ values.old) }
 {
+    take_turn(turns);
     match ranges {
         [] => Ok(one(values.as_slice(), leaf, room)),
         [range, inner @ ..] => match plans {
@@ -225,7 +236,7 @@ pub fn count(
             [conditions, deeper @ ..] => {
                 let whole = interval(values.as_slice(), range);
                 let left = kept(values.as_slice(), conditions, values.len(), &whole);
-                each(inner, deeper, leaf, &left, values, room)
+                each(inner, deeper, leaf, &left, values, room, turns)
             }
         },
     }
@@ -239,17 +250,19 @@ fn each(
     interval: &Interval,
     values: &mut Seq<i64>,
     room: u64,
+    turns: &mut u64,
 ) -> Result<Option<u64>, AllocError>
     requires plans { Plans inner.now leaf.now (suc (length values.old)) deeper.now }
     requires low { negsuc 999999999 ≤ℤ interval.now.low }
     requires high { interval.now.high ≤ℤ pos 1000000000 }
     ensures count { IfOk result (λ r. LeavesRoom r room (sum_over
         (λ z. meeting inner.now leaf.now (values.old ++ z ∷ [])) (between interval.now.low interval.now.high))) }
+    ensures turns { IfOk result (λ r. TakesTurns r room turns.old turns.new) }
     ensures values { OnOk result (values.new ≡ values.old) }
 {
     let mut left = room;
     for i in 0..how_many(interval) {
-        match at(inner, deeper, leaf, interval, i, values, left)? {
+        match at(inner, deeper, leaf, interval, i, values, left, turns)? {
             Some(fewer) => left = fewer,
             None => return Ok(None),
         }
@@ -266,6 +279,7 @@ fn at(
     i: u64,
     values: &mut Seq<i64>,
     room: u64,
+    turns: &mut u64,
 ) -> Result<Option<u64>, AllocError>
     requires plans { Plans inner.now leaf.now (suc (length values.old)) deeper.now }
     requires low { negsuc 999999999 ≤ℤ interval.now.low }
@@ -273,11 +287,12 @@ fn at(
     requires within { i < natural (interval.now.high +ℤ pos 1 -ℤ interval.now.low) }
     ensures count { IfOk result (λ r. LeavesRoom r room
         (meeting inner.now leaf.now (values.old ++ (interval.now.low +ℤ pos i) ∷ []))) }
+    ensures turns { IfOk result (λ r. TakesTurns r room turns.old turns.new) }
     ensures values { OnOk result (values.new ≡ values.old) }
 {
     let number = number_in(interval, i);
     values.push(number)?;
-    let counted = count(inner, deeper, leaf, values, room)?;
+    let counted = count(inner, deeper, leaf, values, room, turns)?;
     values.pop();
     Ok(counted)
 }

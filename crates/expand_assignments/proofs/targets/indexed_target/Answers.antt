@@ -1,12 +1,13 @@
-use Rattle.std.proofs.Common.{Some, option_map, ap, ◌∙◌}
+use Rattle.std.proofs.Common.{option_map, sym, ap, ◌∙◌}
 use Rattle.std.proofs.lemmas.Result.{err_from_is_err_and}
 use Rattle.name_laws.specs.SlotLaws.{variable_named}
 use Rattle.name_scopes.specs.Scope.{entries}
 use Rattle.expansion_laws.specs.Forming.{as_number, formed}
+use Rattle.expansion_laws.specs.Assigning.{unwritten_count}
 use Rattle.expand_expressions.specs.Places.{scope, variable_of}
 use Rattle.expand_expressions.specs.Sound.{of_number, of_truth}
 use Rattle.expand_assignments.proofs.PartLaws.{variable_found}
-use Rattle.expand_assignments.proofs.AddLaws.{halts_index, halts_value, indexed_halts, indexed_done}
+use Rattle.expand_assignments.proofs.AddLaws.{halts_index, adds_outside, adds_written}
 use Rattle.expand_assignments.proofs.targets.indexed_target.Goals as goal
 
 pub returns-in_err-i : goal.returns-in_err-i
@@ -16,39 +17,28 @@ returns-in_err-i c =
     rw (p.1, p.2) (halts_index c.in_err-i.field-0.0 c.args.effect.now
     (variable_named c.args.name.now.text s.variables)
     (as_number (formed c.args.index.now s)) (of_truth c.args.c.now) (as_number (formed c.args.e.now s))
-    c.in_err-i.ensures)
+    (unwritten_count c.args.e.now s.bound) c.in_err-i.ensures)
 
-pub returns-in_err-v : goal.returns-in_err-v
-returns-in_err-v c =
-    let s = scope c.args.known.now c.args.env.now in
-    let p = err_from_is_err_and c.from_residual-in_err-v.result c.from_residual-in_err-v.ensures.1 in
-    rw (p.1, p.2) (halts_value c.in_err-v.field-0.0 c.args.effect.now
-    (variable_named c.args.name.now.text s.variables)
-    (Some (as_number (formed c.args.index.now s))) (of_truth c.args.c.now) (as_number (formed c.args.e.now s))
-    c.in_err-v.ensures)
-
-pub returns-in_err-write_indexed : goal.returns-in_err-write_indexed
-returns-in_err-write_indexed c =
+pub returns-then-is_outside : goal.returns-then-is_outside
+returns-then-is_outside c =
     let s = scope c.args.known.now c.args.env.now in
     let name = c.args.name.now.text in
-    let p = err_from_is_err_and c.from_residual-in_err-write_indexed.result
-    c.from_residual-in_err-write_indexed.ensures.1 in
-    rw (p.1, p.2) (indexed_halts c.in_err-write_indexed.field-0.0 c.args.effect.now (variable_named name s.variables)
-    (option_map (variable_of name) c.find_variable.result) (as_number (formed c.args.index.now s))
-    (of_number c.in_ok-i.i)
-    (of_truth c.args.c.now) (as_number (formed c.args.e.now s)) (of_number c.in_ok-v.v)
-    (ap (option_map (variable_of name)) c.find_variable.ensures ∙ variable_found name
+    adds_outside c.outside_target.result c.args.effect.now c.outside_target.new.effect
+    (variable_named name s.variables) (option_map (variable_of name) c.find_variable-variable.result)
+    (as_number (formed c.args.index.now s)) (of_number c.in_ok-i.i) (of_truth c.args.c.now)
+    (as_number (formed c.args.e.now s)) (unwritten_count c.args.e.now s.bound)
+    (ap (option_map (variable_of name)) c.find_variable-variable.ensures ∙ variable_found name
     (entries c.args.known.now.variables.now))
-    c.in_ok-i.ensures.0 c.in_ok-v.ensures.0 (c.in_err-write_indexed.ensures name))
+    c.in_ok-i.ensures.0 (sym (c.is_outside.ensures name) ∙ c.if-is_outside.true) c.outside_target.ensures
 
 pub returns : goal.returns
 returns c =
     let s = scope c.args.known.now c.args.env.now in
     let name = c.args.name.now.text in
-    indexed_done c.args.effect.now c.write_indexed.new.effect c.mark.new.effect (variable_named name s.variables)
-    (option_map (variable_of name) c.find_variable.result) (as_number (formed c.args.index.now s))
-    (of_number c.in_ok-i.i)
-    (of_truth c.args.c.now) (as_number (formed c.args.e.now s)) (of_number c.in_ok-v.v)
-    (ap (option_map (variable_of name)) c.find_variable.ensures ∙ variable_found name
+    adds_written c.written_target.result c.args.effect.now c.written_target.new.effect
+    (variable_named name s.variables) (option_map (variable_of name) c.find_variable-variable.result)
+    (as_number (formed c.args.index.now s)) (of_number c.in_ok-i.i) (of_truth c.args.c.now)
+    (as_number (formed c.args.e.now s)) (unwritten_count c.args.e.now s.bound)
+    (ap (option_map (variable_of name)) c.find_variable-variable.ensures ∙ variable_found name
     (entries c.args.known.now.variables.now))
-    c.in_ok-i.ensures.0 c.in_ok-v.ensures.0 (c.in_ok-write_indexed.ensures name) c.mark.ensures
+    c.in_ok-i.ensures.0 (sym (c.is_outside.ensures name) ∙ c.if-is_outside.false) (c.written_target.ensures name)

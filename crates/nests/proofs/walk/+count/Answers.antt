@@ -1,9 +1,9 @@
 use Rattle.std.proofs.Common.{ℤ, pos, ◌+ℤ◌, ◌-ℤ◌, [], ◌∷◌, ◌++◌, ◌<◌, ◌≤◌, None, Some, false, get_or, subst, ◌∙◌}
 use Rattle.std.proofs.lemmas.Result.{IfOk-weaker}
 use Rattle.nests.specs.declared.ranges.NestRange.{NestRange}
-use Rattle.nests.specs.Nests.{LeavesRoom, natural, between}
+use Rattle.nests.specs.Nests.{LeavesRoom, TakesTurns, natural, between}
 use Rattle.nests.specs.Conditions.{Narrows, Spans, meeting, sum_over}
-use Rattle.nests.proofs.PlanLaws.{count_holds, each_more, each_past, each_end}
+use Rattle.nests.proofs.PlanLaws.{count_holds, each_more, each_past, each_end, turns_more}
 use Rattle.nests.proofs.walk.+count.Goals as goal
 
 pub count-returns-in-len1-up-plans-clause-count : goal.count-returns-in-len1-up-plans-clause-count
@@ -43,6 +43,10 @@ each-loop-i-preserved t c =
       c.in_ok-fewer.ensures.values ∙ c.loop-i.invariant.0,
       each_more f low c.loop-i.i n c.loop-i.left c.in-Some.fewer (sum_over f (between low c.args.interval.now.high))
           c.args.room b c.loop-i.invariant.1 m,
+      turns_more c.args.turns.now c.args.room c.loop-i.turns c.loop-i.left c.at.new.turns c.in-Some.fewer
+          c.loop-i.invariant.2
+          (subst (λ o. TakesTurns o c.loop-i.left c.loop-i.turns c.at.new.turns) c.in-Some.is
+          c.in_ok-fewer.ensures.turns),
     )
 
 pub each-returns-in-None-clause-count : goal.each-returns-in-None-clause-count
