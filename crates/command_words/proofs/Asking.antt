@@ -1,10 +1,12 @@
 -- Words ask for what their places say.
-use Rattle.std.proofs.Common.{◌≡◌, ℕ, Bool, true, false, cond, List, [], ◌∷◌, codes, decimal, Option, Some}
+use Rattle.std.proofs.Common.{◌≡◌, ◌≤◌, ℕ, zero, suc, Bool, true, false, cond, List, [], ◌∷◌, codes, decimal, Option}
+use Rattle.std.proofs.Common.{Some}
 use Rattle.std.proofs.Common.{None, option_map, refl, ap, ◌∙◌, subst, arith}
 use Rattle.std.specs.Str.{bytes_eq}
 use Rattle.std.proofs.lemmas.Slice.Eq.{bytes_eq-Decides}
 use Rattle.command_words.specs.Numbers.{number_in}
-use Rattle.command_words.specs.Requests.{Request, check, run, replay, one_word, three_words, request_of}
+use Rattle.command_words.specs.Requests.{Request, check, prove, run, replay, positive, one_word, two_words}
+use Rattle.command_words.specs.Requests.{three_words, request_of}
 use Rattle.command_words.specs.Laws.{Asks, RequestsAreAsked}
 use Rattle.command_words.proofs.Decimals.{numbers_are_decimal}
 
@@ -21,6 +23,27 @@ one_asked word request e = go (bytes_eq word (codes "check")) refl (bytes_eq wor
     go false h true k some =
         let is : replay ≡ request = cc in subst (Asks (word ∷ [])) is (ap (λ w. w ∷ []) (same_bytes word _ k))
     go false h false k some = cc
+
+prove_asked : (word budget : List ℕ) (found : Option ℕ) (request : Request) → word ≡ codes "prove" →
+    number_in 1000000 budget ≡ found → option_map prove (positive found) ≡ Some request →
+    Asks (word ∷ budget ∷ []) request
+prove_asked word budget None request e f some = cc
+prove_asked word budget (Some zero) request e f some = cc
+prove_asked word budget (Some (suc n)) request e f some =
+    let number = (numbers_are_decimal 1000000 (suc n) budget (omega arith)).0 f in
+    let is : prove (suc n) ≡ request = cc in
+    subst (Asks (word ∷ budget ∷ [])) is
+    (ap (λ w. w ∷ budget ∷ []) e ∙ ap (λ t. codes "prove" ∷ t ∷ []) number.0, omega arith, number.1)
+
+two_asked : (word budget : List ℕ) (request : Request) → two_words word budget ≡ Some request →
+    Asks (word ∷ budget ∷ []) request
+two_asked word budget request e = go (bytes_eq word (codes "prove")) refl e
+  where
+    go : (b : Bool) → bytes_eq word (codes "prove") ≡ b →
+        cond b (option_map prove (positive (number_in 1000000 budget))) None ≡ Some request →
+        Asks (word ∷ budget ∷ []) request
+    go true h some = prove_asked word budget (number_in 1000000 budget) request (same_bytes word _ h) refl some
+    go false h some = cc
 
 run_asked : (word program steps : List ℕ) (found : Option ℕ) (request : Request) → word ≡ codes "run" →
     number_in 1000000 steps ≡ found → option_map (run program) found ≡ Some request →
@@ -45,12 +68,21 @@ three_asked word program steps request e = go (bytes_eq word (codes "run")) refl
 words_asked : (words : List (List ℕ)) (request : Request) → request_of words ≡ Some request → Asks words request
 words_asked [] request e = cc
 words_asked (word ∷ []) request e = one_asked word request e
-words_asked (word ∷ program ∷ []) request e = cc
+words_asked (word ∷ budget ∷ []) request e = two_asked word budget request e
 words_asked (word ∷ program ∷ steps ∷ []) request e = three_asked word program steps request e
 words_asked (word ∷ program ∷ steps ∷ other ∷ rest) request e = cc
 
+more_than_none : (budget : ℕ) → 1 ≤ budget → option_map prove (positive (Some budget)) ≡ Some (prove budget)
+more_than_none zero h = absurd (omega (arith, h))
+more_than_none (suc n) h = refl
+
 asking_words : (words : List (List ℕ)) (request : Request) → Asks words request → request_of words ≡ Some request
 asking_words words check h = ap request_of h
+asking_words words (prove budget) h =
+    ap request_of h.0
+    ∙ ap (λ n. option_map prove (positive n))
+    ((numbers_are_decimal 1000000 budget (decimal budget) (omega arith)).1 (refl, h.2))
+    ∙ more_than_none budget h.1
 asking_words words (run program steps) h =
     ap request_of h.0
     ∙ ap (option_map (run program)) ((numbers_are_decimal 1000000 steps (decimal steps) (omega arith)).1 (refl, h.1))

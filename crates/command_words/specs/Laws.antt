@@ -1,7 +1,7 @@
 -- What words are where they ask for something, as statements that functions name.
 use Rattle.std.specs.Prelude.{◌≡◌, ◌≤◌, ◌<◌, ◌^◌, ◌↔◌, ℕ, List, [], ◌∷◌, codes, decimal, Some}
 use Rattle.command_words.specs.Numbers.{number_in}
-use Rattle.command_words.specs.Requests.{Request, check, run, replay, request_of}
+use Rattle.command_words.specs.Requests.{Request, check, prove, run, replay, request_of}
 
 abbrev pub NumbersAreDecimal : Type 0
 NumbersAreDecimal = (most n : ℕ) (word : List ℕ) → most < 2 ^ 64 →
@@ -10,6 +10,7 @@ NumbersAreDecimal = (most n : ℕ) (word : List ℕ) → most < 2 ^ 64 →
 -- the words for a request
 abbrev pub Asks : List (List ℕ) → Request → Type 0
 Asks words check = words ≡ codes "check" ∷ []
+Asks words (prove budget) = (words ≡ codes "prove" ∷ decimal budget ∷ []) × (1 ≤ budget) × (budget ≤ 1000000)
 Asks words (run program steps) = (words ≡ codes "run" ∷ program ∷ decimal steps ∷ []) × (steps ≤ 1000000)
 Asks words replay = words ≡ codes "replay" ∷ []
 

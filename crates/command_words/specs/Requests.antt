@@ -1,5 +1,6 @@
 -- What words ask for.
-use Rattle.std.specs.Prelude.{ℕ, cond, List, [], ◌∷◌, map, codes, string_bytes, String, Option, Some, None, option_map}
+use Rattle.std.specs.Prelude.{ℕ, zero, suc, cond, List, [], ◌∷◌, map, codes, string_bytes, String, Option, Some, None}
+use Rattle.std.specs.Prelude.{option_map}
 use Rattle.std.specs.Str.{bytes_eq}
 use Rattle.command_words.specs.declared.words.Command.{Command}
 use Rattle.command_words.specs.Numbers.{number_in}
@@ -7,17 +8,29 @@ use Rattle.command_words.specs.Numbers.{number_in}
 -- what the program is asked to do
 pub data Request : Type 0 where
   check : Request
+  prove : (budget : ℕ) → Request
   run : (program : List ℕ) → (steps : ℕ) → Request
   replay : Request
 
 abbrev pub meant : Command → Request
 meant Command.Check = check
+meant (Command.Prove budget) = prove budget
 meant (Command.Run program steps) = run program.now steps
 meant Command.Replay = replay
 
 abbrev pub one_word : List ℕ → Option Request
 one_word word =
     cond (bytes_eq word (codes "check")) (Some check) (cond (bytes_eq word (codes "replay")) (Some replay) None)
+
+-- a number that is not zero
+abbrev pub positive : Option ℕ → Option ℕ
+positive None = None
+positive (Some zero) = None
+positive (Some (suc n)) = Some (suc n)
+
+abbrev pub two_words : List ℕ → List ℕ → Option Request
+two_words word budget =
+    cond (bytes_eq word (codes "prove")) (option_map prove (positive (number_in 1000000 budget))) None
 
 abbrev pub three_words : List ℕ → List ℕ → List ℕ → Option Request
 three_words word program steps =
@@ -26,6 +39,7 @@ three_words word program steps =
 -- what words ask for, by position
 abbrev pub request_of : List (List ℕ) → Option Request
 request_of (word ∷ []) = one_word word
+request_of (word ∷ budget ∷ []) = two_words word budget
 request_of (word ∷ program ∷ steps ∷ []) = three_words word program steps
 request_of words = None
 

@@ -1,9 +1,7 @@
 -- The records of a book fit, from step to step.
-use Rattle.std.proofs.Common.{◌≡◌, true, List, [], ◌∷◌, ◌++◌, length, Option, Some, None, Ok}
+use Rattle.std.proofs.Common.{◌≡◌, List, [], ◌∷◌, ◌++◌, length, Option, Some, None, Ok}
 use Rattle.std.proofs.Common.{sym, ◌∙◌, subst}
 use Rattle.std.specs.Prelude.{All}
-use Rattle.std.specs.List.{list_all}
-use Rattle.std.proofs.lemmas.Bool.{and_parts}
 use Rattle.std.proofs.lemmas.List.Elements.{All-head, All-tail}
 use Rattle.core_terms.specs.declared.programs.CSlot.{CSlot}
 use Rattle.core_terms.specs.declared.programs.CProgram.{CProgram}
@@ -17,23 +15,23 @@ use Rattle.proof_rules.specs.Walk.{has_defined, rule_of}
 use Rattle.safety_rules.specs.declared.places.Derived.{Derived}
 use Rattle.safety_rules.specs.Answers.{derived_of}
 use Rattle.proof_script.specs.declared.plans.Plan.{Plan}
-use Rattle.proof_script.specs.Built.{is_built_step}
-use Rattle.proof_script.specs.Using.{IsEntry, BookFits}
-use Rattle.proof_script.specs.Verdicts.{starts_in, or_rule_fault, refuted_by, grown, taken, step_verdict}
+use Rattle.step_rules.specs.Using.{IsEntry, BookFits}
+use Rattle.step_rules.specs.Starts.{starts_in}
+use Rattle.proof_script.specs.Verdicts.{or_rule_fault, refuted_by, grown, taken, step_verdict}
 use Rattle.proof_script.specs.Verdicts.{steps_verdict, proof_verdict, end_verdict}
 use Rattle.proof_script.proofs.Equations.{taken-is, step-is, steps-none, steps-more, then_so}
 use Rattle.proof_script.proofs.LoopLaws.{end_keeps, rule_passed}
-use Rattle.proof_script.proofs.RuleLaws.{good_step}
+use Rattle.step_rules.proofs.StepLaws.{good_step}
 
-book_join : (slots : List CSlot) (book : List Record) (a : Record) → BookFits slots book → IsEntry slots a →
+pub book_join : (slots : List CSlot) (book : List Record) (a : Record) → BookFits slots book → IsEntry slots a →
     BookFits slots (book ++ a ∷ [])
 book_join slots [] a fits one = (one, tt)
 book_join slots (b ∷ book) a fits one = (fits.0, book_join slots book a fits.1 one)
 
 module _ (slots : List CSlot) (certs : List Cert) (c : CProgram) where
-  pub step_fits : (s : CStep) (plan new : Plan) → IsStep slots s → is_built_step s ≡ true →
+  pub step_fits : (s : CStep) (plan new : Plan) → IsStep slots s →
       BookFits slots plan.records → step_verdict slots certs c s plan ≡ Ok new → BookFits slots new.records
-  step_fits s plan new good built fits e =
+  step_fits s plan new good fits e =
       let parts = then_so (or_rule_fault c.name (Some s.name) (rule_of slots (starts_in slots) c s plan.records))
       (λ (x : Conclusion). taken certs c.name s.name plan (derived_of slots x)) new
       (sym (step-is slots certs c s plan) ∙ e) in
@@ -45,28 +43,27 @@ module _ (slots : List CSlot) (certs : List Cert) (c : CProgram) where
       (λ (done : Unit {0}). Ok (grown plan d)) new (sym (taken-is certs c.name s.name plan d) ∙ parts.2) in
       let same : grown plan d ≡ new = cc (shown.2) in
       subst (λ (p : Plan). BookFits slots p.records) same
-      (book_join slots plan.records x.made fits (good_step slots c s plan.records built good fits x ruled).1)
+      (book_join slots plan.records x.made fits (good_step slots c s plan.records good fits x ruled).1)
 
   pub steps_fit : (steps : List CStep) (plan new : Plan) → All (IsStep slots) steps →
-      list_all is_built_step steps ≡ true → BookFits slots plan.records →
+      BookFits slots plan.records →
       steps_verdict slots certs c steps plan ≡ Ok new → BookFits slots new.records
-  steps_fit [] plan new good built fits e =
+  steps_fit [] plan new good fits e =
       let same : plan ≡ new = cc (sym (steps-none slots certs c plan) ∙ e) in
       subst (λ (p : Plan). BookFits slots p.records) same fits
-  steps_fit (s ∷ rest) plan new good built fits e =
+  steps_fit (s ∷ rest) plan new good fits e =
       let parts = then_so (step_verdict slots certs c s plan) (steps_verdict slots certs c rest) new
       (sym (steps-more slots certs c s rest plan) ∙ e) in
-      let both = and_parts (is_built_step s) (list_all is_built_step rest) built in
-      steps_fit rest parts.0 new (All-tail (IsStep slots) s rest good) both.1
-      (step_fits s plan parts.0 (All-head (IsStep slots) s rest good) both.0 fits parts.1) parts.2
+      steps_fit rest parts.0 new (All-tail (IsStep slots) s rest good)
+      (step_fits s plan parts.0 (All-head (IsStep slots) s rest good) fits parts.1) parts.2
 
 pub proof_fits : (slots : List CSlot) (certs : List Cert) (named : Option CProgram) (proof : CProof) (plan new : Plan) →
-    All (IsStep slots) proof.steps → list_all is_built_step proof.steps ≡ true → BookFits slots plan.records →
+    All (IsStep slots) proof.steps → BookFits slots plan.records →
     proof_verdict slots certs named proof plan ≡ Ok new → BookFits slots new.records
-proof_fits slots certs None proof plan new good built fits e =
+proof_fits slots certs None proof plan new good fits e =
     let same : plan ≡ new = cc in subst (λ (p : Plan). BookFits slots p.records) same fits
-proof_fits slots certs (Some c) proof plan new good built fits e =
+proof_fits slots certs (Some c) proof plan new good fits e =
     let parts = then_so (steps_verdict slots certs c proof.steps plan) (end_verdict c) new e in
     subst (λ (p : Plan). BookFits slots p.records)
     (end_keeps c parts.0 new (has_defined c.name parts.0.records) parts.2)
-    (steps_fit slots certs c proof.steps plan parts.0 good built fits parts.1)
+    (steps_fit slots certs c proof.steps plan parts.0 good fits parts.1)

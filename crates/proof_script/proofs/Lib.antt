@@ -1,9 +1,10 @@
 pub mod BookLaws
+pub mod BudgetLaws
 pub mod Checkable
 pub mod Equations
-pub mod GoodLaws
-pub mod HelperLaws
 pub mod LoopLaws
+pub mod ReachLaws
 pub mod RuleLaws
-pub mod UsingLaws
+pub mod SearchLaws
 pub mod VerdictLaws
+pub mod WalkLaws

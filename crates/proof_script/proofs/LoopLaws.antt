@@ -1,12 +1,9 @@
 -- The verdicts on the rest of a list, from one item to the next.
-use Rattle.std.proofs.Common.{◌≡◌, ℕ, zero, suc, ◌+◌, ◌<◌, ◌≤◌, List, [], ◌∷◌, ◌++◌, length, drop, Result, Ok, Err}
+use Rattle.std.proofs.Common.{◌≡◌, ℕ, suc, ◌+◌, ◌<◌, ◌≤◌, List, [], ◌∷◌, ◌++◌, length, drop, Result, Ok, Err}
 use Rattle.std.proofs.Common.{refl, sym, ap, ◌∙◌, subst, slice_get, slice_index_or, arith, Option, Some, None}
 use Rattle.std.proofs.Common.{true, false, Bool, cond, nat_eq, nat_lt}
 use Rattle.std.specs.Prelude.{All, sum}
-use Rattle.std.proofs.Math.Seq.{drop-cons}
 use Rattle.std.proofs.lemmas.Grind.{common_steps}
-use Rattle.std.specs.List.{list_all}
-use Rattle.std.proofs.lemmas.Bool.{and_parts}
 use Rattle.std.specs.Result.{IsErrAnd}
 use Rattle.case_tables.specs.declared.code_table.Code.{Code}
 use Rattle.core_terms.specs.declared.programs.CSlot.{CSlot}
@@ -23,28 +20,18 @@ use Rattle.proof_rules.specs.Table.{needs}
 use Rattle.proof_rules.specs.Walk.{has_defined, program_of, rule_of}
 use Rattle.safety_rules.specs.declared.places.Derived.{Derived}
 use Rattle.safety_rules.specs.Answers.{derived_of}
+use Rattle.step_rules.proofs.ItemLaws.{drop_at, drop_end}
 use Rattle.proof_script.specs.declared.plans.Plan.{Plan}
 use Rattle.proof_script.specs.declared.plans.StepFault.{StepFault}
 use Rattle.proof_script.specs.declared.plans.ScriptError.{ScriptError}
 use Rattle.proof_script.specs.Giving.{Goes, Passes}
 use Rattle.proof_script.specs.Verdicts.{then_by, refuted_by, or_refutation_fault, failing, grown, taken, step_verdict}
-use Rattle.proof_script.specs.Verdicts.{steps_verdict, proof_verdict, proofs_verdict, starts_in, or_rule_fault}
+use Rattle.step_rules.specs.Starts.{starts_in}
+use Rattle.proof_script.specs.Verdicts.{steps_verdict, proof_verdict, proofs_verdict, or_rule_fault}
 use Rattle.proof_script.specs.Verdicts.{end_verdict}
 use Rattle.proof_script.specs.Verdicts.{surplus_fault, last_verdict, no_plan, verdict_of}
 use Rattle.proof_script.proofs.Equations.{refuted-none, refuted-more, taken-is, step-is, steps-none, steps-more}
 use Rattle.proof_script.proofs.Equations.{proofs-none, proofs-more, then_so}
-
-pub drop_at : {X : Type 0} (xs : List X) (i : ℕ) (x : X) → i < length xs → x ≡ slice_index_or xs i x →
-    drop i xs ≡ x ∷ drop (i + 1) xs
-drop_at xs i x h e =
-    let next : suc i ≡ i + 1 = omega arith in
-    drop-cons xs i x h ∙ ap (λ z. z ∷ drop (suc i) xs) (sym e) ∙ ap (λ k. x ∷ drop k xs) next
-
-pub drop_end : {X : Type 0} (xs : List X) (i : ℕ) → length xs ≤ i → drop i xs ≡ []
-drop_end [] zero h = refl
-drop_end [] (suc i) h = refl
-drop_end (y ∷ xs) zero h = absurd (omega arith)
-drop_end (y ∷ xs) (suc i) h = drop_end xs i (omega (arith, h))
 
 -- an error that is handed on
 pub handed_on : {T : Type 0} (P : Result T ScriptError → Type 0) (r : Result T ScriptError) (e : ScriptError) →
@@ -146,16 +133,7 @@ steps_grow slots certs c (s ∷ rest) plan new e =
 pub sum_more : (n : ℕ) (ns : List ℕ) → sum (n ∷ ns) ≡ n + sum ns
 sum_more n ns = grind (arith, common_steps)
 
--- an item of a list that passes a test, or has a property
-
-pub item_passes : {X : Type 0} (test : X → Bool) (xs : List X) (i : ℕ) (x : X) → i < length xs →
-    x ≡ slice_index_or xs i x → list_all test xs ≡ true → test x ≡ true
-item_passes test [] i x h e all = absurd (omega arith)
-item_passes test (y ∷ xs) zero x h e all =
-    ap test e ∙ (and_parts (test y) (list_all test xs) all).0
-item_passes test (y ∷ xs) (suc i) x h e all =
-    item_passes test xs i x (omega (arith, h)) e (and_parts (test y) (list_all test xs) all).1
-
+-- an item of a list has a property that all have
 pub item_has : {X : Type 0} (P : X → Type 0) (xs : List X) (i : ℕ) (x : X) → i < length xs →
     x ≡ slice_index_or xs i x → All P xs → P x
 item_has P xs i x h e all = subst P (sym e) (all i x h)

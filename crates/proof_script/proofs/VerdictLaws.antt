@@ -30,7 +30,8 @@ use Rattle.safety_rules.specs.Answers.{obligations_of, derived_of}
 use Rattle.proof_script.specs.declared.plans.Plan.{Plan}
 use Rattle.proof_script.specs.Giving.{AreWhole}
 use Rattle.proof_script.specs.Laws.{plan_of, AcceptedFollows, AcceptedHolds}
-use Rattle.proof_script.specs.Verdicts.{starts_in, or_rule_fault, failing_node, failing, or_refutation_fault}
+use Rattle.step_rules.specs.Starts.{starts_in}
+use Rattle.proof_script.specs.Verdicts.{or_rule_fault, failing_node, failing, or_refutation_fault}
 use Rattle.proof_script.specs.Verdicts.{refuted_by, grown, taken, step_verdict, steps_verdict, end_verdict}
 use Rattle.proof_script.specs.Verdicts.{proof_verdict, proofs_verdict, surplus_fault, last_verdict, no_plan}
 use Rattle.proof_script.proofs.Equations.{refuted-more, taken-is, step-is, steps-none, steps-more}
@@ -100,7 +101,7 @@ same_owners : (slots : List CSlot) (place : ℕ) (gs : List Goal) →
 same_owners slots place [] = refl
 same_owners slots place (g ∷ gs) = ap (λ (ns : List ℕ). place ∷ ns) (same_owners slots place gs)
 
-grown_is : (slots : List CSlot) (w : walk.Plan) (x : Conclusion) →
+pub grown_is : (slots : List CSlot) (w : walk.Plan) (x : Conclusion) →
     grown (plan_of slots w) (derived_of slots x) ≡ plan_of slots (planned w x)
 grown_is slots w x =
     ap (λ (os : List Obligation). record {

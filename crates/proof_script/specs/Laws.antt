@@ -1,16 +1,20 @@
 -- What a verdict says of the walk along a document's steps, and of what they claim.
-use Rattle.std.specs.Prelude.{◌≡◌, List, length, Ok}
+use Rattle.std.specs.Prelude.{◌≡◌, ◌≤◌, ℕ, List, length, Result, Ok, Err}
 use Rattle.core_terms.specs.declared.programs.CSlot.{CSlot}
 use Rattle.core_terms.specs.declared.documents.CDocument.{CDocument}
 use Rattle.core_terms.specs.Conditions.{IsDocument}
 use Rattle.obligations.specs.declared.certificates.Cert.{Cert}
 use Rattle.proof_rules.specs.Validity.{AllValid}
 use Rattle.proof_rules.specs.Walk as walk
-use Rattle.proof_rules.specs.Walk.{walk_of}
+use Rattle.proof_rules.specs.Walk.{Failure, walk_of}
 use Rattle.safety_rules.specs.Answers.{obligations_of}
 use Rattle.proof_script.specs.declared.plans.Plan.{Plan}
+use Rattle.proof_script.specs.declared.plans.Proof.{Proof}
 use Rattle.proof_script.specs.Giving.{AreWhole, PlanHolds}
-use Rattle.proof_script.specs.Verdicts.{starts_in, verdict_of}
+use Rattle.proof_script.specs.Proving.{enough_for, Finds}
+use Rattle.proof_script.specs.Reaching.{Reach, reach_of, reached}
+use Rattle.step_rules.specs.Starts.{starts_in}
+use Rattle.proof_script.specs.Verdicts.{rule_fault, verdict_of}
 
 -- the walk's plan, with what is left to be shown as obligations
 abbrev pub plan_of : List CSlot → walk.Plan → Plan
@@ -37,3 +41,18 @@ AcceptedFollows = (d : CDocument) (certs : List Cert) (plan : Plan) → AreWhole
 abbrev pub AcceptedHolds : Type 0
 AcceptedHolds = (d : CDocument) (certs : List Cert) (plan : Plan) → IsDocument d → AreWhole certs →
     verdict_of d certs ≡ Ok plan → PlanHolds d plan
+
+-- how far the steps go is what the walk along them says: the same plan, or the same first failure
+abbrev pub Agrees : List CSlot → Result walk.Plan Failure → Reach → Type 0
+Agrees slots (Ok w) r = r ≡ Ok (plan_of slots w)
+Agrees slots (Err failure) r = (plan : Plan) ×
+    (r ≡ Err (record { plan = plan; fault = rule_fault failure.program failure.step failure.code }))
+
+abbrev pub ReachIsWalk : Type 0
+ReachIsWalk = (d : CDocument) → Agrees d.slots (walk_of d (starts_in d.slots)) (reach_of d)
+
+-- no search ends for want of units where the budget is at least what always suffices for all obligations
+abbrev pub EnoughSuffices : Type 0
+EnoughSuffices = (d : CDocument) (budget program step number : ℕ) →
+    enough_for (reached (reach_of d)).obligations ≤ budget →
+    Finds d budget (Ok (Proof.Budget program step number)) → ⊥

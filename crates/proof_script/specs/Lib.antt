@@ -1,6 +1,6 @@
-pub mod Built
 pub mod Giving
 pub mod Laws
-pub mod Rows
-pub mod Using
+pub mod Proving
+pub mod Reaching
+pub mod Searches
 pub mod Verdicts

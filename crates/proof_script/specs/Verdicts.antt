@@ -1,6 +1,6 @@
 -- The verdict on a document's proofs: the plan of all steps, where each obligation is refuted by the certificate of
 -- its number, or the first failure.
-use Rattle.std.specs.Prelude.{ℕ, suc, ◌+◌, nat_lt, Bool, cond, List, [], ◌∷◌, ◌++◌, map, length, slice_get}
+use Rattle.std.specs.Prelude.{ℕ, suc, ◌+◌, nat_lt, cond, List, [], ◌∷◌, ◌++◌, map, length, slice_get}
 use Rattle.std.specs.Prelude.{Option, Some, None, Result, Ok, Err}
 use Rattle.case_tables.specs.declared.code_table.Code.{Code}
 use Rattle.core_terms.specs.declared.programs.CSlot.{CSlot}
@@ -8,21 +8,16 @@ use Rattle.core_terms.specs.declared.programs.CProgram.{CProgram}
 use Rattle.core_terms.specs.declared.documents.CStep.{CStep}
 use Rattle.core_terms.specs.declared.documents.CProof.{CProof}
 use Rattle.core_terms.specs.declared.documents.CDocument.{CDocument}
-use Rattle.core_terms.specs.Values.{form_value}
 use Rattle.obligations.specs.declared.branches.Obligation.{Obligation}
 use Rattle.obligations.specs.declared.certificates.Cert.{Cert}
 use Rattle.certificate_check.specs.Refutation.{Reading, judged}
-use Rattle.executor.specs.StartState.{start_state}
 use Rattle.proof_rules.specs.Table.{needs}
 use Rattle.proof_rules.specs.Walk.{has_defined, program_of, rule_of}
 use Rattle.safety_rules.specs.declared.places.Derived.{Derived}
 use Rattle.safety_rules.specs.Answers.{derived_of}
+use Rattle.step_rules.specs.Starts.{starts_in}
 use Rattle.proof_script.specs.declared.plans.Plan.{Plan}
 use Rattle.proof_script.specs.declared.plans.StepFault.{StepFault}
-
--- whether the start state of a program meets its initially section
-abbrev pub starts_in : List CSlot → CProgram → Bool
-starts_in slots c = form_value (start_state slots c) [] c.initially
 
 abbrev pub then_by : {A B : Type 0} → Result A StepFault → (A → Result B StepFault) → Result B StepFault
 then_by (Ok x) f = f x

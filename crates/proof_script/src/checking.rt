@@ -1,7 +1,6 @@
 // A whole document against its certificates.
 ghost use Rattle.std.specs.Prelude.{◌≡◌, ◌<◌, ◌^◌, true, IfOk};
 ghost use Rattle.core_terms.specs.Conditions.{IsDocument};
-ghost use Rattle.proof_script.specs.Built.{is_built};
 ghost use Rattle.proof_script.specs.Giving.{AreWhole, Gives, PlanHolds};
 ghost use Rattle.proof_script.specs.Verdicts.{surplus_fault, verdict_of};
 
@@ -38,9 +37,6 @@ fn surplus(obligations: usize) -> ScriptError
 pub fn check(alloc: Global, doc: &CDocument, certs: &[Cert]) -> Result<Plan, ScriptError>
     requires document { IsDocument doc.now }
     requires whole { AreWhole certs.now }
-
-    // So far no step is justified by a proof term.
-    requires built { is_built doc.now ≡ true }
     ensures verdict { Gives result (verdict_of doc.now certs.now) }
     ensures holds { IfOk result (PlanHolds doc.now) }
 {

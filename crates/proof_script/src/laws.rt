@@ -1,9 +1,16 @@
-// The laws of verdicts. The function does nothing: it states them.
-ghost use Rattle.proof_script.specs.Laws.{AcceptedFollows, AcceptedHolds};
+// The laws of verdicts and of searches. The functions do nothing: they state them.
+ghost use Rattle.proof_script.specs.Laws.{AcceptedFollows, AcceptedHolds, EnoughSuffices, ReachIsWalk};
 
 /// Where the verdict is a plan, the walk along the steps gives it, each obligation is valid, and there is
 /// one certificate for each; and the property of each step holds in all executions of its program.
 pub fn verdict_laws()
     ensures follows { AcceptedFollows }
     ensures holds { AcceptedHolds }
+{}
+
+/// How far steps go by their rules is what the walk along them says; and no search ends for want of units
+/// where the budget is at least what always suffices for all obligations.
+pub fn search_laws()
+    ensures walk { ReachIsWalk }
+    ensures enough { EnoughSuffices }
 {}

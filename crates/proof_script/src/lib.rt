@@ -1,20 +1,17 @@
-//! The check of a document's proofs against its certificates.
+//! The check of a document's proofs against its certificates, and the search for certificates.
 #![tactic(auto)]
 
 mod adding;
-mod built;
 mod checking;
-mod kinds;
+mod finding;
 mod laws;
 mod plans;
-mod references;
+mod programs;
+mod proving;
 mod refuting;
-mod ruling;
-mod unions;
-mod using;
 mod walking;
 
-pub use built::is_built;
 pub use checking::check;
-pub use laws::verdict_laws;
-pub use plans::{Plan, ScriptError, StepFault};
+pub use laws::{search_laws, verdict_laws};
+pub use plans::{Plan, Proof, ScriptError, StepFault};
+pub use proving::prove;

@@ -1,9 +1,9 @@
-// What the steps of proofs leave, and how a step fails.
+// What the steps of proofs leave, how a step fails, and what a search for certificates finds.
 ghost use Rattle.std.specs.Prelude.{◌≡◌};
 
 use case_tables::Code;
 use fair_rounds::Record;
-use obligations::Obligation;
+use obligations::{Cert, Obligation, Variable};
 use std::alloc::AllocError;
 use unity_base::Seq;
 
@@ -30,6 +30,31 @@ pub struct StepFault {
     /// The obligation that fails, from 1 through the document, or the first surplus certificate;
     /// `None` where a rule fails.
     pub obligation: Option<u64>,
+}
+
+/// What a search for certificates finds of a document. Programs and steps are told by their words' numbers,
+/// and obligations by their numbers, from 1 through the document.
+#[derive(Drop)]
+pub enum Proof {
+    /// The document is accepted with these certificates, one for each obligation, in order.
+    Proved {
+        plan: Plan,
+        certs: Seq<Cert>,
+    },
+    /// The first obligation that is not valid: it is false at these values of its variables, in order.
+    Refuted {
+        program: u32,
+        step: u32,
+        obligation: u64,
+        variables: Seq<Variable>,
+        values: Seq<i64>,
+    },
+    /// The budget ended at this obligation.
+    Budget {
+        program: u32,
+        step: u32,
+        obligation: u64,
+    },
 }
 
 /// Why the proofs of a document are not accepted.

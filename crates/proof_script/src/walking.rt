@@ -1,26 +1,23 @@
 // The steps of proofs, one after the other.
 ghost use Rattle.std.specs.Prelude.{◌≡◌, ◌+◌, ◌<◌, ◌^◌, All, length, map, sum, true, Some};
-ghost use Rattle.std.specs.List.{list_all};
 ghost use Rattle.core_terms.specs.Conditions.{IsDocument, IsProgram, IsSlot, IsStep};
 ghost use Rattle.core_terms.specs.declared.documents.CProof.{CProof};
 ghost use Rattle.proof_rules.specs.Walk.{program_of};
-ghost use Rattle.proof_script.specs.Built.{is_built, is_built_step};
 ghost use Rattle.proof_script.specs.Giving.{AreWhole, Goes, IsCheckable};
-ghost use Rattle.proof_script.specs.Using.{BookFits};
+ghost use Rattle.step_rules.specs.Using.{BookFits};
 ghost use Rattle.proof_script.specs.Verdicts.{proof_verdict, proofs_verdict, rule_fault, step_verdict, steps_verdict};
 ghost use Rattle.proof_script.specs.Verdicts.{taken};
 
 use crate::adding::add;
-use crate::built::find_program;
-use crate::kinds::has_defined;
 use crate::plans::{Plan, ScriptError, StepFault};
+use crate::programs::find_program;
 use crate::refuting::{StepName, refute_all};
-use crate::ruling::ruled;
 use case_tables::Code;
 use core_terms::{CDocument, CProgram, CProof, CSlot, CStep};
 use obligations::Cert;
 use safety_rules::{Derived, RuleError};
 use std::alloc::Global;
+use step_rules::{has_defined, step_rule};
 use unity_base::Held;
 
 // A condition of a rule fails, or at a proof's end its `defined` step is missing.
@@ -67,13 +64,12 @@ fn take_step(
     requires slots { All IsSlot slots.now }
     requires program { IsProgram slots.now program.now }
     requires step { IsStep slots.now step.now }
-    requires built { is_built_step step.now ≡ true }
     requires whole { AreWhole certs.now }
     requires book { BookFits slots.now plan.old.records }
     requires room { length plan.old.records < 2 ^ 31 }
     ensures { Goes result plan.new (step_verdict slots.now certs.now program.now step.now plan.old) }
 {
-    match ruled(alloc, slots, program, step, plan.records.as_slice()) {
+    match step_rule(alloc, slots, program, step, plan.records.as_slice()) {
         Ok(derived) => {
             let name = StepName {
                 program: program.name,
@@ -98,7 +94,6 @@ fn take_steps(
     requires slots { All IsSlot slots.now }
     requires program { IsProgram slots.now program.now }
     requires steps { All (IsStep slots.now) steps.now }
-    requires built { list_all is_built_step steps.now ≡ true }
     requires whole { AreWhole certs.now }
     requires book { BookFits slots.now plan.old.records }
     requires room { length plan.old.records + length steps.now < 2 ^ 31 }
@@ -122,7 +117,6 @@ fn take_program(
     requires slots { All IsSlot slots.now }
     requires program { IsProgram slots.now program.now }
     requires steps { All (IsStep slots.now) proof.now.steps }
-    requires built { list_all is_built_step proof.now.steps ≡ true }
     requires whole { AreWhole certs.now }
     requires book { BookFits slots.now plan.old.records }
     requires room { length plan.old.records + length proof.now.steps < 2 ^ 31 }
@@ -147,7 +141,6 @@ fn take_proof(
     requires slots { All IsSlot doc.now.slots }
     requires programs { All (IsProgram doc.now.slots) doc.now.programs }
     requires steps { All (IsStep doc.now.slots) proof.now.steps }
-    requires built { list_all is_built_step proof.now.steps ≡ true }
     requires whole { AreWhole certs.now }
     requires book { BookFits doc.now.slots plan.old.records }
     requires room { length plan.old.records + length proof.now.steps < 2 ^ 31 }
@@ -169,7 +162,6 @@ pub(crate) fn take_proofs(
 ) -> Result<(), ScriptError>
     requires document { IsDocument doc.now }
     requires whole { AreWhole certs.now }
-    requires built { is_built doc.now ≡ true }
     requires book { BookFits doc.now.slots plan.old.records }
     requires room { length plan.old.records + sum (map (λ (p : CProof). length p.steps) doc.now.proofs) < 2 ^ 31 }
     ensures { Goes result plan.new

@@ -17,16 +17,15 @@ use Rattle.source_traces.specs.Traces.{source_system, first_state}
 use Rattle.source_traces.specs.Answers.{IsReplay, IsUnknown}
 use Rattle.proof_script.specs.declared.plans.Plan.{Plan}
 use Rattle.proof_script.specs.declared.plans.StepFault.{StepFault}
-use Rattle.proof_script.specs.Built.{is_built}
 use Rattle.proof_script.specs.Verdicts.{verdict_of}
 use Rattle.written_certificates.specs.Certificates.{certificates_of}
 use Rattle.answer_texts.specs.Refusals.{fault_text}
 use Rattle.answer_texts.specs.Verdicts.{accepted_text, rejected_text}
-use Rattle.command_words.specs.Requests.{check, run, replay}
+use Rattle.command_words.specs.Requests.{check, prove, run, replay}
 use Rattle.unity_parser.proofs.Readings.{one_document}
 use Rattle.unity_cli.specs.declared.status.Status.{Status}
-use Rattle.unity_cli.specs.Answer.{greatest_size, IsRead, IsBad, too_long, no_reading, IsJudged, IsAccepted, IsRejected}
-use Rattle.unity_cli.specs.Answer.{IsUnchecked, not_built, Checked, IsTrace, IsRun, HasNoStart, IsNotRun}
+use Rattle.unity_cli.specs.Answer.{greatest_size, IsRead, IsBad, too_long, no_reading, IsAccepted, IsRejected}
+use Rattle.unity_cli.specs.Answer.{Checked, IsTrace, IsRun, HasNoStart, IsNotRun}
 use Rattle.unity_cli.specs.Answer.{no_program, Ran}
 use Rattle.unity_cli.specs.Answer.{IsReplayed, HasNoReplay, IsNotReplayed, no_schedule, unknown, Replayed, Answer}
 use Rattle.unity_cli.specs.Answer as answers
@@ -35,14 +34,15 @@ use Rattle.unity_cli.proofs.FirstFaults.{no_first_fault, one_first_fault}
 
 -- ---- readings
 
-read_once : (bytes : List ℕ) (d e : Document) → IsRead bytes d → IsRead bytes e → d ≡ e
+read_once : (bytes : List ℕ) (d e : Document) → IsRead greatest_size bytes d → IsRead greatest_size bytes e → d ≡ e
 read_once bytes d e a b = one_document bytes d e a.reading.is_document b.reading.is_document
 
-pub read_not_bad : (bytes text : List ℕ) (d : Document) → IsRead bytes d → IsBad bytes text → ⊥
+pub read_not_bad : (bytes text : List ℕ) (d : Document) → IsRead greatest_size bytes d → IsBad greatest_size bytes
+    text → ⊥
 read_not_bad bytes text d r (too_long h e) = let few = r.size in omega (arith, few, h)
 read_not_bad bytes text d r (no_reading code at k f e) = no_first_fault bytes d code at r.reading f
 
-one_bad : (bytes text more : List ℕ) → IsBad bytes text → IsBad bytes more → text ≡ more
+one_bad : (bytes text more : List ℕ) → IsBad greatest_size bytes text → IsBad greatest_size bytes more → text ≡ more
 one_bad bytes text more (too_long h e) (too_long k f) = e ∙ sym f
 one_bad bytes text more (too_long h e) (no_reading code at l g f) = absurd (omega (arith, h, l))
 one_bad bytes text more (no_reading code at l g e) (too_long k f) = absurd (omega (arith, k, l))
@@ -57,7 +57,7 @@ verdict d = verdict_of (core_document d) (certificates_of d)
 
 one_accepted : (bytes text more : List ℕ) → IsAccepted bytes text → IsAccepted bytes more → text ≡ more
 one_accepted bytes text more a b =
-    let same = read_once bytes a.document b.document a.judged.read b.judged.read in
+    let same = read_once bytes a.document b.document a.read b.read in
     let plans : ◌≡◌ {A = Result Plan StepFault} (Ok a.plan) (Ok b.plan) =
     sym a.verdict ∙ ap verdict same ∙ b.verdict in
     let plan : a.plan ≡ b.plan = cc in
@@ -66,7 +66,7 @@ one_accepted bytes text more a b =
 
 one_rejected : (bytes text more : List ℕ) → IsRejected bytes text → IsRejected bytes more → text ≡ more
 one_rejected bytes text more a b =
-    let same = read_once bytes a.document b.document a.judged.read b.judged.read in
+    let same = read_once bytes a.document b.document a.read b.read in
     let faults : ◌≡◌ {A = Result Plan StepFault} (Err a.fault) (Err b.fault) =
     sym a.verdict ∙ ap verdict same ∙ b.verdict in
     let fault : a.fault ≡ b.fault = cc in
@@ -75,39 +75,26 @@ one_rejected bytes text more a b =
 
 accepted_not_rejected : (bytes text more : List ℕ) → IsAccepted bytes text → IsRejected bytes more → ⊥
 accepted_not_rejected bytes text more a b =
-    let same = read_once bytes a.document b.document a.judged.read b.judged.read in
+    let same = read_once bytes a.document b.document a.read b.read in
     let never : ◌≡◌ {A = Result Plan StepFault} (Ok a.plan) (Err b.fault) =
     sym a.verdict ∙ ap verdict same ∙ b.verdict in
     cc
-
-judged_not_unchecked : (bytes text : List ℕ) (d : Document) → IsJudged bytes d → IsUnchecked bytes text → ⊥
-judged_not_unchecked bytes text d j (answers.bad b) = read_not_bad bytes text d j.read b
-judged_not_unchecked bytes text d j (not_built e r h k) =
-    let same = read_once bytes d e j.read r in
-    let never : ◌≡◌ {A = Bool} true false = sym j.built ∙ ap (λ x. is_built (core_document x)) same ∙ h in
-    cc
-
-one_unchecked : (bytes text more : List ℕ) → IsUnchecked bytes text → IsUnchecked bytes more → text ≡ more
-one_unchecked bytes text more (answers.bad a) (answers.bad b) = one_bad bytes text more a b
-one_unchecked bytes text more (answers.bad a) (not_built d r h e) = absurd (read_not_bad bytes text d r a)
-one_unchecked bytes text more (not_built d r h e) (answers.bad b) = absurd (read_not_bad bytes more d r b)
-one_unchecked bytes text more (not_built d r h e) (not_built other s k f) = e ∙ sym f
 
 one_checked : (bytes : List ℕ) (status other : Status) (text more : List ℕ) → Checked bytes status text →
     Checked bytes other more → (status ≡ other) × (text ≡ more)
 one_checked bytes Status.Done Status.Done text more a b = (refl, one_accepted bytes text more a b)
 one_checked bytes Status.Done Status.Rejected text more a b = absurd (accepted_not_rejected bytes text more a b)
 one_checked bytes Status.Done Status.BadDocument text more a b =
-    absurd (judged_not_unchecked bytes more a.document a.judged b)
+    absurd (read_not_bad bytes more a.document a.read b)
 one_checked bytes Status.Rejected Status.Done text more a b = absurd (accepted_not_rejected bytes more text b a)
 one_checked bytes Status.Rejected Status.Rejected text more a b = (refl, one_rejected bytes text more a b)
 one_checked bytes Status.Rejected Status.BadDocument text more a b =
-    absurd (judged_not_unchecked bytes more a.document a.judged b)
+    absurd (read_not_bad bytes more a.document a.read b)
 one_checked bytes Status.BadDocument Status.Done text more a b =
-    absurd (judged_not_unchecked bytes text b.document b.judged a)
+    absurd (read_not_bad bytes text b.document b.read a)
 one_checked bytes Status.BadDocument Status.Rejected text more a b =
-    absurd (judged_not_unchecked bytes text b.document b.judged a)
-one_checked bytes Status.BadDocument Status.BadDocument text more a b = (refl, one_unchecked bytes text more a b)
+    absurd (read_not_bad bytes text b.document b.read a)
+one_checked bytes Status.BadDocument Status.BadDocument text more a b = (refl, one_bad bytes text more a b)
 one_checked bytes Status.Done other text more a b = absurd b
 one_checked bytes Status.Rejected other text more a b = absurd b
 one_checked bytes Status.BadDocument other text more a b = absurd b
@@ -166,7 +153,7 @@ named_program d name c p a none =
     cc
 
 run_not_refused : (bytes name : List ℕ) (steps : ℕ) (d : Document) (defined : Bool) (text more : List ℕ) →
-    IsRead bytes d → IsRun d name steps defined text → IsNotRun bytes name more → ⊥
+    IsRead greatest_size bytes d → IsRun d name steps defined text → IsNotRun bytes name more → ⊥
 run_not_refused bytes name steps d defined text more r a (answers.IsNotRun.bad b) = read_not_bad bytes more d r b
 run_not_refused bytes name steps d defined text more r a (no_program e s none f) =
     named_program e name a.program a.core
@@ -196,7 +183,8 @@ one_refusal bytes name text more (answers.IsNotRun.no_start d r h e) (no_program
 one_refusal bytes name text more (answers.IsNotRun.no_start d r h e) (answers.IsNotRun.no_start other s k f) = e ∙ sym f
 
 both_runs : (bytes name : List ℕ) (steps : ℕ) (d e : Document) (defined also : Bool) (text more : List ℕ) →
-    IsRead bytes d → IsRun d name steps defined text → IsRead bytes e → IsRun e name steps also more →
+    IsRead greatest_size bytes d → IsRun d name steps defined text → IsRead greatest_size bytes e → IsRun e name
+    steps also more →
     (defined ≡ also) × (text ≡ more)
 both_runs bytes name steps d e defined also text more r a s b =
     one_run e name steps defined also text more
@@ -326,7 +314,8 @@ has_schedule d s a none =
     let never : ◌≡◌ {A = Option Schedule} (Some s) None = sym a ∙ none in
     cc
 
-replay_not_refused : (bytes : List ℕ) (d : Document) (defined : Bool) (text more : List ℕ) → IsRead bytes d →
+replay_not_refused : (bytes : List ℕ) (d : Document) (defined : Bool) (text more : List ℕ) → IsRead greatest_size
+    bytes d →
     IsReplayed d defined text → IsNotReplayed bytes more → ⊥
 replay_not_refused bytes d defined text more r a (answers.IsNotReplayed.bad b) = read_not_bad bytes more d r b
 replay_not_refused bytes d defined text more r a (no_schedule e s none f) =
@@ -389,8 +378,9 @@ one_unreplayed bytes text more (answers.IsNotReplayed.no_start d r h e) (unknown
 one_unreplayed bytes text more (answers.IsNotReplayed.no_start d r h e) (answers.IsNotReplayed.no_start other s k f) =
     e ∙ sym f
 
-both_replays : (bytes : List ℕ) (d e : Document) (defined also : Bool) (text more : List ℕ) → IsRead bytes d →
-    IsReplayed d defined text → IsRead bytes e → IsReplayed e also more → (defined ≡ also) × (text ≡ more)
+both_replays : (bytes : List ℕ) (d e : Document) (defined also : Bool) (text more : List ℕ) → IsRead greatest_size
+    bytes d →
+    IsReplayed d defined text → IsRead greatest_size bytes e → IsReplayed e also more → (defined ≡ also) × (text ≡ more)
 both_replays bytes d e defined also text more r a s b =
     one_replay e defined also text more (subst (λ x. IsReplayed x defined text) (read_once bytes d e r s) a) b
 
@@ -420,8 +410,9 @@ one_replayed bytes Status.BadDocument other text more a b = absurd b
 one_replayed bytes status other text more a b = absurd a
 
 pub one_answer : OneAnswer
-one_answer None bytes status other text more a b = (a.0 ∙ sym b.0, a.1 ∙ sym b.1)
-one_answer (Some check) bytes status other text more a b = one_checked bytes status other text more a b
-one_answer (Some (run program steps)) bytes status other text more a b =
+one_answer None any bytes status other text more a b = (a.0 ∙ sym b.0, a.1 ∙ sym b.1)
+one_answer (Some check) any bytes status other text more a b = one_checked bytes status other text more a b
+one_answer (Some (prove budget)) any bytes status other text more a b = absurd any
+one_answer (Some (run program steps)) any bytes status other text more a b =
     one_ran bytes program steps status other text more a b
-one_answer (Some replay) bytes status other text more a b = one_replayed bytes status other text more a b
+one_answer (Some replay) any bytes status other text more a b = one_replayed bytes status other text more a b

@@ -1,5 +1,5 @@
 -- What is told is an answer.
-use Rattle.std.proofs.Common.{◌≡◌, ◌<◌, ℕ, List, [], length, replicate, suc, Bool, true, false, Option}
+use Rattle.std.proofs.Common.{◌≡◌, ◌<◌, ◌≤◌, ℕ, List, [], length, replicate, suc, Bool, true, false, Option}
 use Rattle.std.proofs.Common.{Some, None, Result, Ok, Err, IsErr, IsErrOf, refl, sym, ◌∙◌, subst, arith, codes, ◌++◌}
 use Rattle.std.proofs.Common.{◌∷◌}
 use Rattle.std.proofs.lemmas.List.{length-replicate}
@@ -29,18 +29,20 @@ use Rattle.unity_cli.specs.declared.status.Status.{Status}
 use Rattle.unity_cli.specs.declared.stop.Stop.{Stop}
 use Rattle.unity_cli.specs.declared.reading.Input.{Input}
 use Rattle.unity_cli.specs.declared.reading.Reading.{Reading}
+use Rattle.unity_cli.specs.declared.reading.Text.{Text}
 use Rattle.unity_cli.specs.Status.{HasText}
 use Rattle.unity_cli.specs.Stop.{stop_status}
-use Rattle.unity_cli.specs.Answer.{greatest_size, IsRead, IsBad, IsTrace, IsRun, HasNoStart, Ran, IsReplayed}
-use Rattle.unity_cli.specs.Answer.{HasNoReplay, Replayed, Answer, IsAnswer, Checked, IsAccepted, Tells, TellsPart}
-use Rattle.unity_cli.specs.Answer.{not_built_text}
+use Rattle.unity_cli.specs.Answer.{greatest_size, most_bytes, IsRead, IsBad, IsTrace, IsRun, HasNoStart, Ran}
+use Rattle.unity_cli.specs.Answer.{IsReplayed}
+use Rattle.unity_cli.specs.Answer.{HasNoReplay, Replayed, Answer, IsAnswer, Checked, Searched, IsAccepted, Tells}
+use Rattle.unity_cli.specs.Answer.{TellsPart}
 use Rattle.unity_cli.specs.Reading.{IsReading}
-use Rattle.unity_cli.specs.Truth.{ClaimsAreTrue, ProgramsRun}
-use Rattle.proof_script.specs.Built.{is_built}
+use Rattle.unity_cli.specs.Truth.{ClaimsAreTrue, ProgramsRun, WritesWhatIsTrue}
 use Rattle.unity_cli.specs.Answer as answers
-use Rattle.unity_cli.specs.Input.{IsReadAs, IsInput, IsInputOf, IsSomeInput, IsSomeReading}
-use Rattle.unity_cli.specs.Answering.{Telling, TellsInput, TellsReading, TellsBad, EndsAs}
+use Rattle.unity_cli.specs.Input.{AreKept, IsReadAs, IsInput, IsText, IsTextOf, IsSomeReading}
+use Rattle.unity_cli.specs.Answering.{Telling, TellsReading, TellsText, TellsBad, EndsAs}
 use Rattle.unity_cli.proofs.Accepted.{read_core, read_whole, accepted_true, accepted_runs}
+use Rattle.unity_cli.proofs.Accepted.{accepted_tells_true}
 
 -- ---- bytes
 
@@ -52,20 +54,29 @@ more_than : (n : ℕ) → n < length {A = ℕ} (replicate (suc n) 0)
 more_than n = omega (arith, length-replicate {A = ℕ} (suc n) 0)
 
 -- too many bytes
-pub longer : (left : Option (List ℕ)) → IsLongerThan greatest_size left → IsInputOf left Input.TooLong
-longer None h = record { bytes = replicate (suc greatest_size) 0; were = tt; input_is = more_than greatest_size }
-longer (Some xs) h = record { bytes = xs; were = refl; input_is = h }
+too_many : (most : ℕ) (bytes : List ℕ) (t : Text) → t.input ≡ Input.TooLong → most < length bytes → IsText most bytes t
+too_many most bytes t e h = record {
+  input_is = subst (IsInput most bytes) (sym e) h;
+  kept = subst (λ i. AreKept i t.bytes.items bytes) (sym e) tt;
+}
+
+pub longer : (most : ℕ) (left : Option (List ℕ)) → IsLongerThan most left → (t : Text) → t.input ≡ Input.TooLong →
+    IsTextOf most left t
+longer most None h t e =
+    record {
+      bytes = replicate (suc most) 0;
+      were = tt;
+      text_is = too_many most (replicate (suc most) 0) t e (more_than most);
+    }
+longer most (Some xs) h t e = record { bytes = xs; were = refl; text_is = too_many most xs t e h }
 
 -- ---- what was read
 
-pub sound_core : (r : Reading) → IsSomeReading r → IsCoreDocument r.core
-sound_core r h = subst IsCoreDocument (sym h.1.core_is) (read_core h.0 r.document h.1.read)
+pub sound_core : (most : ℕ) → most ≤ greatest_size → (r : Reading) → IsSomeReading most r → IsCoreDocument r.core
+sound_core most few r h = subst IsCoreDocument (sym h.1.core_is) (read_core most few h.0 r.document h.1.read)
 
-pub sound_certificates : (r : Reading) → IsSomeReading r → AreWhole (certificates_of r.document)
-sound_certificates r h = read_whole h.0 r.document h.1.read
-
-pub some_reading : (r : Reading) → IsSomeInput (Input.Document r) → IsSomeReading r
-some_reading r h = h
+pub sound_certificates : (r : Reading) → IsSomeReading greatest_size r → AreWhole (certificates_of r.document)
+sound_certificates r h = read_whole greatest_size h.0 r.document h.1.read
 
 -- ---- telling
 
@@ -132,13 +143,15 @@ run_trace d name steps c p = program_trace d name c Heading.Run (first_state d p
 abbrev replay_trace : Document → Schedule → Composed → CProgram → List ℕ → List ℕ
 replay_trace d s c p choices = program_trace d s.program.text c Heading.Replay (first_state d p) choices
 
-ran_so : (bytes name : List ℕ) (steps : ℕ) (d : Document) (defined : Bool) (text : List ℕ) → IsRead bytes d →
+ran_so : (bytes name : List ℕ) (steps : ℕ) (d : Document) (defined : Bool) (text : List ℕ) → IsRead greatest_size
+    bytes d →
     IsRun d name steps defined text → Ran bytes name steps (status_for defined) text
 unfolding status_for
 ran_so bytes name steps d true text r t = (d, r, t)
 ran_so bytes name steps d false text r t = (d, r, t)
 
-run_told : (bytes name : List ℕ) (steps : ℕ) (d : Document) → IsRead bytes d → (old mid new : Option (List ℕ))
+run_told : (bytes name : List ℕ) (steps : ℕ) (d : Document) → IsRead greatest_size bytes d → (old mid new : Option
+    (List ℕ))
     (ended : Result Stepped RunError) (status : Status) → Runs d name steps old mid ended →
     EndsAs ended mid new status → Telling (run name steps) bytes old new status
 run_told bytes name steps d r old mid new (Ok Stepped.Done) status h e =
@@ -205,17 +218,18 @@ pub run_answered : (r : Reading) (name : List ℕ) (steps : ℕ) (old mid new : 
 run_answered r name steps old mid new ended status h e bytes is =
     run_told bytes name steps r.document is.read old mid new ended status
     (runs_say r.document name steps old mid ended is.read.reading.named is.read.reading.expands
-    (read_core bytes r.document is.read) (subst (λ c. CoreRuns c name steps old mid ended) is.core_is h)) e
+    (read_core greatest_size (omega arith) bytes r.document is.read) (subst (λ c. CoreRuns c name steps old mid
+    ended) is.core_is h)) e
 
 -- ---- replay
 
-replayed_so : (bytes : List ℕ) (d : Document) (defined : Bool) (text : List ℕ) → IsRead bytes d →
+replayed_so : (bytes : List ℕ) (d : Document) (defined : Bool) (text : List ℕ) → IsRead greatest_size bytes d →
     IsReplayed d defined text → Replayed bytes (status_for defined) text
 unfolding status_for
 replayed_so bytes d true text r t = (d, r, t)
 replayed_so bytes d false text r t = (d, r, t)
 
-replay_told : (bytes : List ℕ) (d : Document) → IsRead bytes d → (old mid new : Option (List ℕ))
+replay_told : (bytes : List ℕ) (d : Document) → IsRead greatest_size bytes d → (old mid new : Option (List ℕ))
     (ended : Result Stepped RunError) (status : Status) → Replays d old mid ended → EndsAs ended mid new status →
     Telling replay bytes old new status
 replay_told bytes d r old mid new (Ok Stepped.Done) status h e =
@@ -291,7 +305,8 @@ pub replay_answered : (r : Reading) (old mid new : Option (List ℕ)) (ended : R
 replay_answered r old mid new ended status h e bytes is =
     replay_told bytes r.document is.read old mid new ended status
     (replays_say r.document old mid ended is.read.reading.named is.read.reading.expands
-    (read_core bytes r.document is.read) (subst (λ c. CoreReplays c old mid ended) is.core_is h)) e
+    (read_core greatest_size (omega arith) bytes r.document is.read) (subst (λ c. CoreReplays c old mid ended)
+    is.core_is h)) e
 
 -- ---- the status of a call that stopped
 
@@ -317,14 +332,14 @@ stopped_writing Stop.Memory e = cc
 
 -- ---- inputs without a reading
 
-pub too_long_bad : (bytes : List ℕ) (input : Input) → input ≡ Input.TooLong → IsInput bytes input →
-    IsBad bytes (refusal_text Code.TooLong)
-too_long_bad bytes input e h = answers.IsBad.too_long (subst (IsInput bytes) e h) refl
+pub too_long_bad : (most : ℕ) (bytes : List ℕ) (input : Input) → input ≡ Input.TooLong → IsInput most bytes input →
+    IsBad most bytes (refusal_text Code.TooLong)
+too_long_bad most bytes input e h = answers.IsBad.too_long (subst (IsInput most bytes) e h) refl
 
-pub fault_bad : (bytes : List ℕ) (input : Input) (code : Code) (at : ℕ) → input ≡ Input.Fault code at →
-    IsInput bytes input → IsBad bytes (fault_text code at)
-fault_bad bytes input code at e h =
-    let f = subst (IsInput bytes) e h in
+pub fault_bad : (most : ℕ) (bytes : List ℕ) (input : Input) (code : Code) (at : ℕ) → input ≡ Input.Fault code at →
+    IsInput most bytes input → IsBad most bytes (fault_text code at)
+fault_bad most bytes input code at e h =
+    let f = subst (IsInput most bytes) e h in
     answers.IsBad.no_reading code at f.0 f.1 refl
 
 -- ---- commands that ended early
@@ -345,36 +360,44 @@ ended_early (Err RunError.Memory) old new status e w = (refl, λ f. cc)
 
 -- ---- check
 
+pub searched_has_text : (bytes : List ℕ) (budget : ℕ) (status : Status) (text : List ℕ) →
+    Searched bytes budget status text → HasText status
+searched_has_text bytes budget Status.Done text h = tt
+searched_has_text bytes budget Status.Rejected text h = tt
+searched_has_text bytes budget Status.BadDocument text h = tt
+searched_has_text bytes budget Status.Refuted text h = tt
+searched_has_text bytes budget Status.Budget text h = tt
+searched_has_text bytes budget Status.Undefined text h = tt
+searched_has_text bytes budget Status.BadWords text h = tt
+searched_has_text bytes budget Status.ReadFault text h = h
+searched_has_text bytes budget Status.WriteFault text h = h
+searched_has_text bytes budget Status.WantOfMemory text h = h
+
 pub checked_has_text : (bytes : List ℕ) (status : Status) (text : List ℕ) → Checked bytes status text → HasText status
 checked_has_text bytes Status.Done text h = tt
 checked_has_text bytes Status.Rejected text h = tt
 checked_has_text bytes Status.BadDocument text h = tt
+checked_has_text bytes Status.Refuted text h = tt
+checked_has_text bytes Status.Budget text h = tt
 checked_has_text bytes Status.Undefined text h = tt
 checked_has_text bytes Status.BadWords text h = tt
 checked_has_text bytes Status.ReadFault text h = h
 checked_has_text bytes Status.WriteFault text h = h
 checked_has_text bytes Status.WantOfMemory text h = h
 
-pub verdict_told : (bytes : List ℕ) (old new : Option (List ℕ)) (meant status : Status) (text : List ℕ) →
-    Checked bytes meant text → (HasText status → Appends old new text) → (HasText status → status ≡ meant) →
-    (status ≡ Status.WriteFault → AppendsPart old new text) → Telling check bytes old new status
-verdict_told bytes old new meant status text checked whole same part = record {
-  whole = λ h. (text, subst (λ s. Checked bytes s text) (sym (same h)) checked, whole h);
-  part = λ w. (meant, text, checked, part w);
+pub answer_told : (request : Request) (bytes : List ℕ) (old new : Option (List ℕ)) (meant status : Status)
+    (text : List ℕ) → Answer (Some request) bytes meant text → (HasText status → Appends old new text) → (HasText
+    status → status ≡ meant) →
+    (status ≡ Status.WriteFault → AppendsPart old new text) → Telling request bytes old new status
+answer_told request bytes old new meant status text answer whole same part = record {
+  whole = λ h. (text, subst (λ s. Answer (Some request) bytes s text) (sym (same h)) answer, whole h);
+  part = λ w. (meant, text, answer, part w);
 }
 
 pub bad_checked : (bytes : List ℕ) (status : Status) (text meant : List ℕ) → status ≡ Status.BadDocument →
     text ≡ meant → Checked bytes Status.BadDocument meant → Checked bytes status text
 bad_checked bytes status text meant e f h =
     subst (λ x. Checked bytes x text) (sym e) (subst (Checked bytes Status.BadDocument) (sym f) h)
-
-pub unchecked : (bytes : List ℕ) (text : List ℕ) → IsBad bytes text → Checked bytes Status.BadDocument text
-unchecked bytes text b = answers.IsUnchecked.bad b
-
-pub unbuilt : (bytes : List ℕ) (r : Reading) → is_built r.core ≡ false → IsReadAs bytes r →
-    Checked bytes Status.BadDocument not_built_text
-unbuilt bytes r h is =
-    answers.IsUnchecked.not_built r.document is.read (subst (λ c. is_built c ≡ false) is.core_is h) refl
 
 -- ---- all requests
 
@@ -383,11 +406,11 @@ pub bad_words : (request : Option Request) (left : Option (List ℕ)) → reques
 bad_words None left e = let some = some_bytes left in record { bytes = some.0; were = some.1; allowed = (refl, refl) }
 bad_words (Some r) left e = cc
 
-pub told_whole : (asked : Option Request) (request : Request) (left : Option (List ℕ)) (input : Input)
-    (old new : Option (List ℕ)) (status : Status) → asked ≡ Some request → IsInputOf left input →
-    TellsInput request input old new status → HasText status → Tells asked left status old new
-told_whole asked request left input old new status e i t h =
-    let told = (t i.bytes i.input_is).whole h in
+pub told_whole : (asked : Option Request) (request : Request) (left : Option (List ℕ)) (t : Text)
+    (old new : Option (List ℕ)) (status : Status) → asked ≡ Some request → IsTextOf (most_bytes (Some request)) left t →
+    TellsText request t old new status → HasText status → Tells asked left status old new
+told_whole asked request left t old new status e i tells h =
+    let told = (tells i.bytes i.text_is).whole h in
     record {
       text = told.0;
       answer = record {
@@ -398,11 +421,11 @@ told_whole asked request left input old new status e i t h =
       appends = told.2;
     }
 
-pub told_part : (asked : Option Request) (request : Request) (left : Option (List ℕ)) (input : Input)
-    (old new : Option (List ℕ)) (status : Status) → asked ≡ Some request → IsInputOf left input →
-    TellsInput request input old new status → status ≡ Status.WriteFault → TellsPart asked left old new
-told_part asked request left input old new status e i t w =
-    let told = (t i.bytes i.input_is).part w in
+pub told_part : (asked : Option Request) (request : Request) (left : Option (List ℕ)) (t : Text)
+    (old new : Option (List ℕ)) (status : Status) → asked ≡ Some request → IsTextOf (most_bytes (Some request)) left t →
+    TellsText request t old new status → status ≡ Status.WriteFault → TellsPart asked left old new
+told_part asked request left t old new status e i tells w =
+    let told = (tells i.bytes i.text_is).part w in
     record {
       status = told.0;
       text = told.1;
@@ -414,36 +437,51 @@ told_part asked request left input old new status e i t w =
       part = told.3;
     }
 
--- the bytes that were left, of which `check` answered that they are accepted
-accepted_bytes : (asked : Option Request) (request : Request) (left : Option (List ℕ)) (input : Input)
-    (old new : Option (List ℕ)) (status : Status) → asked ≡ Some request → (i : IsInputOf left input) →
-    TellsInput request input old new status → status ≡ Status.Done → asked ≡ Some check →
-    (text : List ℕ) × IsAccepted i.bytes text
-accepted_bytes asked request left input old new status e i t done is_check =
-    let told = (t i.bytes i.input_is).whole (subst HasText (sym done) tt) in
+-- the whole text of what is accepted was written
+accepted_writes : (asked : Option Request) (request : Request) (left : Option (List ℕ)) (t : Text)
+    (old new : Option (List ℕ)) (status : Status) → asked ≡ Some request → (i : IsTextOf (most_bytes (Some request))
+    left t)
+    → TellsText request t old new status → status ≡ Status.Done → asked ≡ Some check →
+    (text : List ℕ) × IsAccepted i.bytes text × Appends old new text
+accepted_writes asked request left t old new status e i tells done is_check =
+    let told = (tells i.bytes i.text_is).whole (subst HasText (sym done) tt) in
     let somes : ◌≡◌ {A = Option Request} (Some request) (Some check) = sym e ∙ is_check in
     let same : request ≡ check = cc in (
       told.0,
       subst (λ s. Checked i.bytes s told.0) done
           (subst (λ r. Answer (Some r) i.bytes status told.0) same told.1),
+      told.2,
     )
 
 left_bytes : (left : Option (List ℕ)) (xs bytes : List ℕ) → Was left xs → left ≡ Some bytes → bytes ≡ xs
 left_bytes None xs bytes w e = cc
 left_bytes (Some ys) xs bytes w e = let same : ys ≡ bytes = cc in sym same ∙ w
 
-pub done_claims : (asked : Option Request) (request : Request) (left : Option (List ℕ)) (input : Input)
-    (old new : Option (List ℕ)) (status : Status) → asked ≡ Some request → IsInputOf left input →
-    TellsInput request input old new status → status ≡ Status.Done → asked ≡ Some check → (bytes : List ℕ)
+pub done_claims : (asked : Option Request) (request : Request) (left : Option (List ℕ)) (t : Text)
+    (old new : Option (List ℕ)) (status : Status) → asked ≡ Some request → IsTextOf (most_bytes (Some request)) left t →
+    TellsText request t old new status → status ≡ Status.Done → asked ≡ Some check → (bytes : List ℕ)
     (d : Document) → left ≡ Some bytes → IsReading bytes d → ClaimsAreTrue d
-done_claims asked request left input old new status e i t done is_check bytes d was r =
-    let a = accepted_bytes asked request left input old new status e i t done is_check in
+done_claims asked request left t old new status e i tells done is_check bytes d was r =
+    let a = accepted_writes asked request left t old new status e i tells done is_check in
     accepted_true i.bytes a.0 d a.1 (subst (λ b. IsReading b d) (left_bytes left i.bytes bytes i.were was) r)
 
-pub done_runs : (asked : Option Request) (request : Request) (left : Option (List ℕ)) (input : Input)
-    (old new : Option (List ℕ)) (status : Status) → asked ≡ Some request → IsInputOf left input →
-    TellsInput request input old new status → status ≡ Status.Done → asked ≡ Some check → (bytes : List ℕ)
+pub done_runs : (asked : Option Request) (request : Request) (left : Option (List ℕ)) (t : Text)
+    (old new : Option (List ℕ)) (status : Status) → asked ≡ Some request → IsTextOf (most_bytes (Some request)) left t →
+    TellsText request t old new status → status ≡ Status.Done → asked ≡ Some check → (bytes : List ℕ)
     (d : Document) → left ≡ Some bytes → IsReading bytes d → ProgramsRun d
-done_runs asked request left input old new status e i t done is_check bytes d was r =
-    let a = accepted_bytes asked request left input old new status e i t done is_check in
+done_runs asked request left t old new status e i tells done is_check bytes d was r =
+    let a = accepted_writes asked request left t old new status e i tells done is_check in
     accepted_runs i.bytes a.0 d a.1 (subst (λ b. IsReading b d) (left_bytes left i.bytes bytes i.were was) r)
+
+pub done_tells : (asked : Option Request) (request : Request) (left : Option (List ℕ)) (t : Text)
+    (old new : Option (List ℕ)) (status : Status) → asked ≡ Some request → IsTextOf (most_bytes (Some request)) left t →
+    TellsText request t old new status → status ≡ Status.Done → asked ≡ Some check → (bytes : List ℕ)
+    (d : Document) → left ≡ Some bytes → IsReading bytes d → WritesWhatIsTrue d old new
+done_tells asked request left t old new status e i tells done is_check bytes d was r =
+    let a = accepted_writes asked request left t old new status e i tells done is_check in
+    record {
+      text = a.0;
+      tells = accepted_tells_true i.bytes a.0 d a.1
+          (subst (λ b. IsReading b d) (left_bytes left i.bytes bytes i.were was) r);
+      appends = a.2;
+    }

@@ -9,15 +9,25 @@ use Rattle.answer_texts.specs.Refusals.{fault_text, refusal_text}
 use Rattle.command_words.specs.Requests.{Request}
 use Rattle.unity_cli.specs.declared.reading.Input.{Input}
 use Rattle.unity_cli.specs.declared.reading.Reading.{Reading}
+use Rattle.unity_cli.specs.declared.reading.Text.{Text}
 use Rattle.unity_cli.specs.declared.judge.Answer.{Answer as Told}
 use Rattle.unity_cli.specs.declared.status.Status.{Status}
 use Rattle.unity_cli.specs.Status.{HasText}
-use Rattle.unity_cli.specs.Answer.{Answer, Checked}
-use Rattle.unity_cli.specs.Input.{IsInput, IsReadAs}
+use Rattle.unity_cli.specs.Answer.{greatest_size, greatest_bare_size, most_bytes, Answer, Checked, Searched}
+use Rattle.unity_cli.specs.Input.{AreKept, IsInput, IsReadAs, IsText}
 
 -- the status and the text are what `check` answers
 abbrev pub IsCheckedFor : Input → Told → Type 0
-IsCheckedFor input a = (bytes : List ℕ) → IsInput bytes input → Checked bytes a.status a.text.items
+IsCheckedFor input a = (bytes : List ℕ) → IsInput greatest_size bytes input → Checked bytes a.status a.text.items
+
+-- the status and the text are what `prove` answers
+abbrev pub IsSearchedFor : ℕ → List ℕ → Input → Told → Type 0
+IsSearchedFor budget kept input a = (bytes : List ℕ) → IsInput greatest_bare_size bytes input →
+    AreKept input kept bytes → Searched bytes budget a.status a.text.items
+
+-- of a document
+abbrev pub IsSearchedIn : ℕ → List ℕ → Reading → Told → Type 0
+IsSearchedIn budget bytes r a = IsReadAs greatest_bare_size bytes r → Searched bytes budget a.status a.text.items
 
 -- an answer for these bytes was told whole, or a front part of it
 pub record Telling (request : Request) (bytes : List ℕ) (old new : Option (List ℕ)) (status : Status) : Type 0 where
@@ -27,10 +37,16 @@ pub record Telling (request : Request) (bytes : List ℕ) (old new : Option (Lis
 
 -- whatever bytes the input is
 abbrev pub TellsInput : Request → Input → Option (List ℕ) → Option (List ℕ) → Status → Type 0
-TellsInput request input old new status = (bytes : List ℕ) → IsInput bytes input → Telling request bytes old new status
+TellsInput request input old new status =
+    (bytes : List ℕ) → IsInput (most_bytes (Some request)) bytes input → Telling request bytes old new status
+
+abbrev pub TellsText : Request → Text → Option (List ℕ) → Option (List ℕ) → Status → Type 0
+TellsText request t old new status =
+    (bytes : List ℕ) → IsText (most_bytes (Some request)) bytes t → Telling request bytes old new status
 
 abbrev pub TellsReading : Request → Reading → Option (List ℕ) → Option (List ℕ) → Status → Type 0
-TellsReading request r old new status = (bytes : List ℕ) → IsReadAs bytes r → Telling request bytes old new status
+TellsReading request r old new status =
+    (bytes : List ℕ) → IsReadAs (most_bytes (Some request)) bytes r → Telling request bytes old new status
 
 -- why something cannot be used was told whole, or a front part of it, or nothing for want of memory
 pub record TellsBad (text : List ℕ) (old new : Option (List ℕ)) (status : Status) : Type 0 where

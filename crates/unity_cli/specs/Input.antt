@@ -4,29 +4,43 @@ use Rattle.unity_base.specs.Streams.{Was}
 use Rattle.core_documents.specs.Cores.{core_document}
 use Rattle.unity_cli.specs.declared.reading.Input.{Input}
 use Rattle.unity_cli.specs.declared.reading.Reading.{Reading}
+use Rattle.unity_cli.specs.declared.reading.Text.{Text}
 use Rattle.unity_cli.specs.Reading.{IsFirstFault}
-use Rattle.unity_cli.specs.Answer.{greatest_size, IsRead}
+use Rattle.unity_cli.specs.Answer.{IsRead}
 
 -- the bytes are this document, with its core form
-pub record IsReadAs (bytes : List ℕ) (r : Reading) : Type 0 where
-  pub read : IsRead bytes r.document
+pub record IsReadAs (most : ℕ) (bytes : List ℕ) (r : Reading) : Type 0 where
+  pub read : IsRead most bytes r.document
   pub core_is : r.core ≡ core_document r.document
 
--- what the bytes are: too many, or no document, or a document
-abbrev pub IsInput : List ℕ → Input → Type 0
-IsInput bytes Input.TooLong = greatest_size < length bytes
-IsInput bytes (Input.Fault code at) = (length bytes ≤ greatest_size) × IsFirstFault bytes code at
-IsInput bytes (Input.Document r) = IsReadAs bytes r
+-- what the bytes are: more than so many, or no document, or a document
+abbrev pub IsInput : ℕ → List ℕ → Input → Type 0
+IsInput most bytes Input.TooLong = most < length bytes
+IsInput most bytes (Input.Fault code at) = (length bytes ≤ most) × IsFirstFault bytes code at
+IsInput most bytes (Input.Document r) = IsReadAs most bytes r
+
+-- the bytes of a document are kept
+abbrev pub AreKept : Input → List ℕ → List ℕ → Type 0
+AreKept (Input.Document r) kept bytes = kept ≡ bytes
+AreKept input kept bytes = Unit {0}
+
+-- the text of these bytes
+pub record IsText (most : ℕ) (bytes : List ℕ) (t : Text) : Type 0 where
+  pub input_is : IsInput most bytes t.input
+  pub kept : AreKept t.input t.bytes.items bytes
 
 -- and these are bytes that were left
-pub record IsInputOf (left : Option (List ℕ)) (input : Input) : Type 0 where
+pub record IsTextOf (most : ℕ) (left : Option (List ℕ)) (t : Text) : Type 0 where
   pub bytes : List ℕ
   pub were : Was left bytes
-  pub input_is : IsInput bytes input
+  pub text_is : IsText most bytes t
 
 -- there are bytes that are so
-abbrev pub IsSomeInput : Input → Type 0
-IsSomeInput input = (bytes : List ℕ) × IsInput bytes input
+abbrev pub IsSomeInput : ℕ → Input → Type 0
+IsSomeInput most input = (bytes : List ℕ) × IsInput most bytes input
 
-abbrev pub IsSomeReading : Reading → Type 0
-IsSomeReading r = (bytes : List ℕ) × IsReadAs bytes r
+abbrev pub IsSomeReading : ℕ → Reading → Type 0
+IsSomeReading most r = (bytes : List ℕ) × IsReadAs most bytes r
+
+abbrev pub IsSomeText : ℕ → Text → Type 0
+IsSomeText most t = (bytes : List ℕ) × IsText most bytes t

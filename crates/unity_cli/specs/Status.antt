@@ -6,6 +6,8 @@ abbrev pub status_number : Status → ℕ
 status_number Status.Done = 0
 status_number Status.Rejected = 1
 status_number Status.BadDocument = 2
+status_number Status.Refuted = 3
+status_number Status.Budget = 4
 status_number Status.Undefined = 5
 status_number Status.BadWords = 6
 status_number Status.ReadFault = 7

@@ -1,7 +1,6 @@
 // Judging the proofs of a document.
-ghost use Rattle.std.specs.Prelude.{◌≡◌, List, ℕ, true, IfOk};
-ghost use Rattle.proof_script.specs.Built.{is_built};
-ghost use Rattle.unity_cli.specs.Answer.{Checked};
+ghost use Rattle.std.specs.Prelude.{◌≡◌, List, ℕ, IfOk};
+ghost use Rattle.unity_cli.specs.Answer.{Checked, greatest_size};
 ghost use Rattle.unity_cli.specs.Input.{IsInput, IsReadAs, IsSomeInput, IsSomeReading};
 ghost use Rattle.unity_cli.specs.Answering.{IsCheckedFor};
 
@@ -9,7 +8,7 @@ use crate::reading::{Input, Reading};
 use crate::status::Status;
 use answer_texts::{accepted, document_fault, input_refusal, rejected};
 use case_tables::Code;
-use proof_script::{ScriptError, check, is_built};
+use proof_script::{ScriptError, check};
 use std::alloc::{AllocError, Global};
 use written_certificates::certificates_of;
 
@@ -35,7 +34,7 @@ impl Answer {
 
 /// What `check` answers for the input.
 pub fn judge(alloc: Global, input: &Input) -> Result<Answer, AllocError>
-    requires { IsSomeInput input.now }
+    requires { IsSomeInput greatest_size input.now }
     ensures { IfOk result (IsCheckedFor input.now) }
 {
     match input {
@@ -47,21 +46,9 @@ pub fn judge(alloc: Global, input: &Input) -> Result<Answer, AllocError>
 
 // What `check` answers for a document.
 fn judge_reading(alloc: Global, reading: &Reading) -> Result<Answer, AllocError>
-    requires { IsSomeReading reading.now }
-    ensures { IfOk result (λ a. (bytes : List ℕ) → IsReadAs bytes reading.now → Checked bytes a.status a.text.items) }
-{
-    if is_built(&reading.core) {
-        judge_proofs(alloc, reading)
-    } else {
-        Ok(Answer::bad(Vec::from_slice(alloc, b"bad 9 NotBuilt\n")?))
-    }
-}
-
-// What `check` answers for a document whose proofs are judged.
-fn judge_proofs(alloc: Global, reading: &Reading) -> Result<Answer, AllocError>
-    requires reading { IsSomeReading reading.now }
-    requires built { is_built reading.now.core ≡ true }
-    ensures { IfOk result (λ a. (bytes : List ℕ) → IsReadAs bytes reading.now → Checked bytes a.status a.text.items) }
+    requires { IsSomeReading greatest_size reading.now }
+    ensures { IfOk result (λ a. (bytes : List ℕ) → IsReadAs greatest_size bytes reading.now →
+        Checked bytes a.status a.text.items) }
 {
     let certificates = certificates_of(alloc, &reading.document)?;
     let words = reading.core.words.as_slice();

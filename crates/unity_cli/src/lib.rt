@@ -2,6 +2,7 @@
 #![tactic(auto)]
 
 mod commands;
+mod finding;
 mod judge;
 mod laws;
 mod reading;

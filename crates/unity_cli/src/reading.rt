@@ -1,5 +1,5 @@
 // Reading a document, and its core form.
-ghost use Rattle.std.specs.Prelude.{◌≡◌, ◌≤◌, ◌⊎◌, None, IfOk, IfErr, OnOk, IsErrOf, length};
+ghost use Rattle.std.specs.Prelude.{◌≡◌, ◌≤◌, ◌⊎◌, ℕ, None, IfOk, IfErr, OnOk, IsErrOf, length};
 ghost use Rattle.std.specs.Io.KnownBytes.{IsAtEnd};
 ghost use Rattle.unity_base.specs.Streams.{IsTold, IsLongerThan, LeavesRest};
 ghost use Rattle.unity_parser.specs.Document.{IsDocument};
@@ -8,8 +8,7 @@ ghost use Rattle.name_scopes.specs.Answers.{Stops};
 ghost use Rattle.name_scopes.specs.declared.named.NameFault.{NameFault};
 ghost use Rattle.core_documents.specs.Cores.{core_document};
 ghost use Rattle.core_documents.specs.Faults.{expansion_fault};
-ghost use Rattle.unity_cli.specs.Answer.{greatest_size};
-ghost use Rattle.unity_cli.specs.Input.{IsInput, IsInputOf};
+ghost use Rattle.unity_cli.specs.Input.{IsInput, IsTextOf};
 ghost use Rattle.unity_cli.specs.Reading.{document_fault};
 
 use crate::stop::Stop;
@@ -23,9 +22,6 @@ use unity_base::{Held, ReadError, Source, read_all};
 use unity_parser::read_document;
 use unity_syntax::{Document, SyntaxFault};
 
-/// The greatest number of bytes of a text.
-pub const GREATEST_SIZE: usize = 67_108_864;
-
 /// A document without a fault, and its core form.
 #[derive(Drop)]
 pub struct Reading {
@@ -36,7 +32,7 @@ pub struct Reading {
 /// What some bytes are.
 #[derive(Drop)]
 pub enum Input {
-    /// They are more than `GREATEST_SIZE`.
+    /// They are more than the command takes.
     TooLong,
     /// They are no document without a fault, with the code and the place of the first fault: of the text,
     /// or else of the names, or else of the expansion.
@@ -85,9 +81,8 @@ fn core_of(alloc: Global, document: &Document) -> Result<Held<CDocument>, NameFa
 
 // What the bytes of a document are.
 fn read_text(alloc: Global, bytes: &[u8], document: Held<Document>) -> Result<Input, AllocError>
-    requires size { length bytes.now ≤ greatest_size }
-    requires document { IsDocument bytes.now document }
-    ensures { IfOk result (IsInput bytes.now) }
+    requires { IsDocument bytes.now document }
+    ensures { IfOk result (λ input. (most : ℕ) → length bytes.now ≤ most → IsInput most bytes.now input) }
 {
     match core_of(alloc, document.get()) {
         Ok(core) => {
@@ -102,10 +97,9 @@ fn read_text(alloc: Global, bytes: &[u8], document: Held<Document>) -> Result<In
     }
 }
 
-// What the bytes are, which are not too many.
-fn read_bytes(alloc: Global, bytes: &[u8]) -> Result<Input, AllocError>
-    requires { length bytes.now ≤ greatest_size }
-    ensures { IfOk result (IsInput bytes.now) }
+/// What the bytes are, where they are not too many.
+pub fn read_bytes(alloc: Global, bytes: &[u8]) -> Result<Input, AllocError>
+    ensures { IfOk result (λ input. (most : ℕ) → length bytes.now ≤ most → IsInput most bytes.now input) }
 {
     match read_document(alloc, bytes) {
         Ok(document) => read_text(alloc, bytes, Held::new(alloc, document)?),
@@ -114,17 +108,32 @@ fn read_bytes(alloc: Global, bytes: &[u8]) -> Result<Input, AllocError>
     }
 }
 
-/// Reads the source to its end, or past the greatest number of bytes, and says what it gave.
-pub fn read_input<S: Source>(alloc: Global, src: &mut S) -> Result<Input, Stop>
-    ensures input { IfOk result (IsInputOf (S.left src.old)) }
-    ensures end { OnOk result (IsAtEnd (S.left src.new) ⊎ IsLongerThan greatest_size (S.left src.old)) }
+/// What a source gave.
+#[derive(Drop)]
+pub struct Text {
+    /// The bytes; none where they are too many.
+    pub bytes: Vec<u8>,
+    /// What they are.
+    pub input: Input,
+}
+
+/// Reads the source to its end, or past so many bytes, and says what it gave.
+pub fn read_input<S: Source>(alloc: Global, src: &mut S, most: usize) -> Result<Text, Stop>
+    ensures input { IfOk result (IsTextOf most (S.left src.old)) }
+    ensures end { OnOk result (IsAtEnd (S.left src.new) ⊎ IsLongerThan most (S.left src.old)) }
     ensures rest { LeavesRest (S.left src.old) (S.left src.new) }
     ensures never { IsErrOf result Stop.WriteFault → ⊥ }
     ensures cause { IsTold (S.faults src.old) (S.faults src.new) (IsErrOf result Stop.ReadFault) }
 {
-    match read_all(alloc, src, GREATEST_SIZE) {
-        Ok(bytes) => Ok(read_bytes(alloc, &bytes)?),
-        Err(ReadError::TooLong) => Ok(Input::TooLong),
+    match read_all(alloc, src, most) {
+        Ok(bytes) => {
+            let input = read_bytes(alloc, &bytes)?;
+            Ok(Text { bytes, input })
+        }
+        Err(ReadError::TooLong) => Ok(Text {
+            bytes: Vec::new(alloc),
+            input: Input::TooLong,
+        }),
         Err(ReadError::Failed) => Err(Stop::ReadFault),
         Err(ReadError::Memory) => Err(Stop::Memory),
     }

@@ -2,6 +2,7 @@
 ghost use Rattle.std.specs.Prelude.{◌≡◌};
 ghost use Rattle.unity_base.specs.Streams.{IsTold};
 ghost use Rattle.command_words.specs.Requests.{run, replay};
+ghost use Rattle.unity_cli.specs.Answer.{greatest_size};
 ghost use Rattle.unity_cli.specs.Answering.{TellsInput, TellsReading};
 ghost use Rattle.unity_cli.specs.Input.{IsSomeInput, IsSomeReading};
 
@@ -22,7 +23,7 @@ pub fn write_run<K: Sink>(
     input: &Input,
     out: &mut K,
 ) -> Status
-    requires { IsSomeInput input.now }
+    requires { IsSomeInput greatest_size input.now }
     ensures told { TellsInput (run program.now steps) input.now (K.written out.old) (K.written out.new) result }
     ensures nothing { result ≡ Status.WantOfMemory → out.new ≡ out.old }
     ensures never { result ≡ Status.ReadFault → ⊥ }
@@ -43,7 +44,7 @@ fn run_reading<K: Sink>(
     reading: &Reading,
     out: &mut K,
 ) -> Status
-    requires { IsSomeReading reading.now }
+    requires { IsSomeReading greatest_size reading.now }
     ensures told { TellsReading (run program.now steps) reading.now (K.written out.old) (K.written out.new) result }
     ensures nothing { result ≡ Status.WantOfMemory → out.new ≡ out.old }
     ensures never { result ≡ Status.ReadFault → ⊥ }
@@ -55,7 +56,7 @@ fn run_reading<K: Sink>(
 
 /// Writes what `replay` answers for the input.
 pub fn write_replay<K: Sink>(alloc: Global, input: &Input, out: &mut K) -> Status
-    requires { IsSomeInput input.now }
+    requires { IsSomeInput greatest_size input.now }
     ensures told { TellsInput replay input.now (K.written out.old) (K.written out.new) result }
     ensures nothing { result ≡ Status.WantOfMemory → out.new ≡ out.old }
     ensures never { result ≡ Status.ReadFault → ⊥ }
@@ -70,7 +71,7 @@ pub fn write_replay<K: Sink>(alloc: Global, input: &Input, out: &mut K) -> Statu
 
 // Writes what `replay` answers for a document.
 fn replay_reading<K: Sink>(alloc: Global, reading: &Reading, out: &mut K) -> Status
-    requires { IsSomeReading reading.now }
+    requires { IsSomeReading greatest_size reading.now }
     ensures told { TellsReading replay reading.now (K.written out.old) (K.written out.new) result }
     ensures nothing { result ≡ Status.WantOfMemory → out.new ≡ out.old }
     ensures never { result ≡ Status.ReadFault → ⊥ }

@@ -6,11 +6,17 @@ ghost use Rattle.unity_cli.specs.Status.{status_number};
 pub enum Status {
     /// `check`: each step follows its rule, and each certificate refutes its obligation's negation.
     /// `run`, `replay`: each step was defined.
+    /// `prove`: certificates were found for all obligations.
     Done = 0,
     /// `check`: a step does not follow its rule, or a certificate is missing, one too many, or fails.
+    /// `prove`: a step does not follow its rule, or a proof has no `defined` step.
     Rejected = 1,
     /// The bytes are no document, or none that the command can use.
     BadDocument = 2,
+    /// `prove`: an obligation is false at the values that are written.
+    Refuted = 3,
+    /// `prove`: the budget does not suffice.
+    Budget = 4,
     /// `run`, `replay`: the next step is undefined at the last state that was written.
     Undefined = 5,
     /// The words name no command.

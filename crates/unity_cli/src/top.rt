@@ -6,10 +6,10 @@ ghost use Rattle.unity_syntax.specs.declared.document.Document.{Document};
 ghost use Rattle.command_words.specs.Requests.{asked, check};
 ghost use Rattle.unity_cli.specs.Status.{HasText};
 ghost use Rattle.unity_cli.specs.Reading.{IsReading};
-ghost use Rattle.unity_cli.specs.Answer.{greatest_size, Tells, TellsPart};
-ghost use Rattle.unity_cli.specs.Truth.{ClaimsAreTrue, ProgramsRun};
+ghost use Rattle.unity_cli.specs.Answer.{most_bytes, Tells, TellsPart};
+ghost use Rattle.unity_cli.specs.Truth.{ClaimsAreTrue, ProgramsRun, WritesWhatIsTrue};
 
-use crate::commands::write_command;
+use crate::commands::{most_bytes, write_command};
 use crate::reading::read_input;
 use crate::status::Status;
 use command_words::read_words;
@@ -30,9 +30,13 @@ pub fn unity<S: Source, K: Sink>(
         TellsPart (asked words.now) (S.left src.old) (K.written out.old) (K.written out.new) }
     ensures nothing { (result ≡ Status.ReadFault) ⊎ (result ≡ Status.WantOfMemory) → out.new ≡ out.old }
 
-    // What the proofs of an accepted document claim is true, and their programs have executions.
+    // What the proofs of an accepted document claim is true, each leads-to within the bound that is written; and their
+    // programs have executions.
     ensures safe { result ≡ Status.Done → asked words.now ≡ Some check → (bytes : List ℕ) (d : Document) →
         S.left src.old ≡ Some bytes → IsReading bytes d → ClaimsAreTrue d }
+    ensures bounds { result ≡ Status.Done → asked words.now ≡ Some check → (bytes : List ℕ) (d : Document) →
+        S.left src.old ≡ Some bytes → IsReading bytes d →
+        WritesWhatIsTrue d (K.written out.old) (K.written out.new) }
     ensures runs { result ≡ Status.Done → asked words.now ≡ Some check → (bytes : List ℕ) (d : Document) →
         S.left src.old ≡ Some bytes → IsReading bytes d → ProgramsRun d }
 
@@ -40,9 +44,9 @@ pub fn unity<S: Source, K: Sink>(
     ensures untouched { IsNone (asked words.now) → src.new ≡ src.old }
     ensures not_read { IsNone (asked words.now) → result ≢ Status.ReadFault }
 
-    // A source that was read was read to its end, or past the greatest number of bytes.
+    // A source that was read was read to its end, or past the greatest number of bytes for them.
     ensures end { IsSome (asked words.now) → result ≢ Status.ReadFault → result ≢ Status.WantOfMemory →
-        IsAtEnd (S.left src.new) ⊎ IsLongerThan greatest_size (S.left src.old) }
+        IsAtEnd (S.left src.new) ⊎ IsLongerThan (most_bytes (asked words.now)) (S.left src.old) }
     ensures rest { LeavesRest (S.left src.old) (S.left src.new) }
 
     // A fault has its cause, and none is taken for something else.
@@ -55,8 +59,8 @@ pub fn unity<S: Source, K: Sink>(
             Err(_) => Status::WriteFault,
         };
     };
-    match read_input(alloc, src) {
-        Ok(input) => write_command(alloc, &command, &input, out),
+    match read_input(alloc, src, most_bytes(&command)) {
+        Ok(text) => write_command(alloc, &command, text, out),
         Err(stop) => stop.status(),
     }
 }

@@ -1,7 +1,6 @@
 use Rattle.std.proofs.Common.{◌≡◌, ℕ, ◌+◌, ◌<◌, List, length, drop, map, Result, ◌^◌, sym, ap, ◌∙◌}
 use Rattle.std.proofs.Common.{subst, arith}
 use Rattle.std.specs.Prelude.{All, sum}
-use Rattle.std.specs.List.{list_all}
 use Rattle.core_terms.specs.declared.programs.CSlot.{CSlot}
 use Rattle.core_terms.specs.declared.programs.CProgram.{CProgram}
 use Rattle.core_terms.specs.declared.documents.CProof.{CProof}
@@ -10,11 +9,11 @@ use Rattle.obligations.specs.declared.certificates.Cert.{Cert}
 use Rattle.proof_rules.specs.Walk.{program_of}
 use Rattle.proof_script.specs.declared.plans.Plan.{Plan}
 use Rattle.proof_script.specs.declared.plans.StepFault.{StepFault}
-use Rattle.proof_script.specs.Built.{is_built_proof}
 use Rattle.proof_script.specs.Giving.{Goes}
 use Rattle.proof_script.specs.Verdicts.{proof_verdict, proofs_verdict}
-use Rattle.proof_script.proofs.LoopLaws.{drop_at, handed_on, went, stopped, proofs_at, proofs_end, proof_grows}
-use Rattle.proof_script.proofs.LoopLaws.{item_passes, item_has, fails_whole, sum_more}
+use Rattle.step_rules.proofs.ItemLaws.{drop_at}
+use Rattle.proof_script.proofs.LoopLaws.{handed_on, went, stopped, proofs_at, proofs_end, proof_grows}
+use Rattle.proof_script.proofs.LoopLaws.{item_has, fails_whole, sum_more}
 use Rattle.proof_script.proofs.BookLaws.{proof_fits}
 use Rattle.proof_script.proofs.walking.take_proofs.Goals as goal
 
@@ -24,12 +23,6 @@ take_proof-requires-clause-steps c =
     c.loop-proof.proof-index c.proof-item.result c.loop-proof-test.true c.proof-item.is
     (subst (λ ps. All (IsProof c.args.doc.now.slots c.args.doc.now.programs) ps) (sym c.as_slice-proof-items.ensures)
     c.requires.document.proofs)).steps
-
-pub take_proof-requires-clause-built : goal.take_proof-requires-clause-built
-take_proof-requires-clause-built c =
-    item_passes is_built_proof c.as_slice-proof-items.result.now c.loop-proof.proof-index c.proof-item.result
-    c.loop-proof-test.true c.proof-item.is
-    (ap (list_all is_built_proof) c.as_slice-proof-items.ensures ∙ c.requires.built)
 
 pub take_proof-requires-clause-room : goal.take_proof-requires-clause-room
 take_proof-requires-clause-room c =
@@ -88,10 +81,7 @@ loop-proof-preserved c =
           c.loop-proof.plan c.take_proof.new.plan
           (item_has (IsProof slots programs) proofs i c.proof-item.result c.loop-proof-test.true c.proof-item.is
           (subst (λ ps. All (IsProof slots programs) ps) (sym c.as_slice-proof-items.ensures)
-          c.requires.document.proofs)).steps
-          (item_passes is_built_proof proofs i c.proof-item.result c.loop-proof-test.true c.proof-item.is
-          (ap (list_all is_built_proof) c.as_slice-proof-items.ensures ∙ c.requires.built))
-          c.loop-proof.invariant.book c.in_ok-take_proof.ensures;
+          c.requires.document.proofs)).steps c.loop-proof.invariant.book c.in_ok-take_proof.ensures;
       room = omega (arith, left, room, more);
       same =
           sym (proofs_at slots certs programs proofs i c.proof-item.result c.loop-proof.plan c.loop-proof-test.true

@@ -1,4 +1,5 @@
 use Rattle.std.proofs.Common.{◌≡◌, List, Some, Result, Ok, Err, subst, sym}
+use Rattle.std.proofs.lemmas.List.Elements.{All-weaker}
 use Rattle.core_terms.specs.declared.programs.CSlot.{CSlot}
 use Rattle.core_terms.specs.declared.programs.CProgram.{CProgram}
 use Rattle.core_terms.specs.declared.documents.CStep.{CStep}
@@ -9,20 +10,17 @@ use Rattle.safety_rules.specs.Answers.{Answers}
 use Rattle.proof_script.specs.declared.plans.Plan.{Plan}
 use Rattle.proof_script.specs.declared.plans.ScriptError.{ScriptError}
 use Rattle.proof_script.specs.declared.plans.StepFault.{StepFault}
-use Rattle.proof_script.specs.Giving.{Goes}
-use Rattle.proof_rules.specs.Conclusion.{Conclusion}
-use Rattle.proof_script.specs.Using.{BookFits}
-use Rattle.proof_script.specs.Verdicts.{starts_in, rule_fault, step_verdict}
-use Rattle.proof_script.proofs.RuleLaws.{good_step, given_checkable, step_taken, step_fails}
+use Rattle.obligations.specs.Obligations.{IsObligation}
+use Rattle.proof_script.specs.Giving.{Goes, IsCheckable}
+use Rattle.step_rules.specs.Starts.{starts_in}
+use Rattle.proof_script.specs.Verdicts.{rule_fault, step_verdict}
+use Rattle.proof_script.proofs.Checkable.{checkable}
+use Rattle.proof_script.proofs.RuleLaws.{step_taken, step_fails}
 use Rattle.proof_script.proofs.walking.take_step.Goals as goal
 
 pub take_derived-requires-clause-checkable : goal.take_derived-requires-clause-checkable
 take_derived-requires-clause-checkable c =
-    let slots : List CSlot = c.args.slots.now in
-    let book : List Record = c.as_slice.result.now in
-    given_checkable c.in-Ok.derived slots (rule_of slots (starts_in slots) c.args.program.now c.args.step.now book)
-    (λ (x : Conclusion) e. (good_step slots c.args.program.now c.args.step.now book c.requires.built c.requires.step
-    (subst (λ (rs : List Record). BookFits slots rs) (sym c.as_slice.ensures) c.requires.book) x e).0) c.in-Ok.ensures
+    All-weaker IsObligation IsCheckable checkable c.in-Ok.derived.obligations c.in-Ok.ensures.fits.obligations
 
 pub returns-in-Ok : goal.returns-in-Ok
 returns-in-Ok c =
@@ -32,7 +30,7 @@ returns-in-Ok c =
     subst (λ (v : Result Plan StepFault). Goes c.take_derived.result c.take_derived.new.plan v)
     (sym (step_taken slots c.args.certs.now p s c.args.plan.now c.in-Ok.derived
     (subst (λ (book : List Record). Answers (Ok c.in-Ok.derived) slots (rule_of slots (starts_in slots) p s book))
-    c.as_slice.ensures c.in-Ok.ensures))) c.take_derived.ensures
+    c.as_slice.ensures c.in-Ok.ensures.answer))) c.take_derived.ensures
 
 pub returns-in-Err-Fault : goal.returns-in-Err-Fault
 returns-in-Err-Fault c =
@@ -47,4 +45,5 @@ returns-in-Err-Fault c =
     (subst (λ (book : List Record). Answers (Err (RuleError.Fault c.in-Err-Fault.code)) slots
     (rule_of slots (starts_in slots) p s book)) c.as_slice.ensures
     (subst (λ (e : RuleError). Answers (Err e) slots
-    (rule_of slots (starts_in slots) p s c.as_slice.result.now)) c.in-Err-Fault.field-0-is c.in-Err-Fault.ensures)))
+    (rule_of slots (starts_in slots) p s c.as_slice.result.now)) c.in-Err-Fault.field-0-is
+    c.in-Err-Fault.ensures.answer)))

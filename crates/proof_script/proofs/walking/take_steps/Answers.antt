@@ -6,11 +6,11 @@ use Rattle.core_terms.specs.Conditions.{IsStep}
 use Rattle.obligations.specs.declared.certificates.Cert.{Cert}
 use Rattle.proof_script.specs.declared.plans.Plan.{Plan}
 use Rattle.proof_script.specs.declared.plans.StepFault.{StepFault}
-use Rattle.proof_script.specs.Built.{is_built_step}
 use Rattle.proof_script.specs.Giving.{Goes}
 use Rattle.proof_script.specs.Verdicts.{step_verdict, steps_verdict}
-use Rattle.proof_script.proofs.LoopLaws.{drop_at, handed_on, went, stopped, steps_at, steps_end, step_grows}
-use Rattle.proof_script.proofs.LoopLaws.{item_passes, item_has, fails_whole}
+use Rattle.step_rules.proofs.ItemLaws.{drop_at}
+use Rattle.proof_script.proofs.LoopLaws.{handed_on, went, stopped, steps_at, steps_end, step_grows}
+use Rattle.proof_script.proofs.LoopLaws.{item_has, fails_whole}
 use Rattle.proof_script.proofs.BookLaws.{step_fits}
 use Rattle.proof_script.proofs.walking.take_steps.Goals as goal
 
@@ -18,11 +18,6 @@ pub take_step-requires-clause-step : goal.take_step-requires-clause-step
 take_step-requires-clause-step c =
     item_has (IsStep c.args.slots.now) c.args.steps.now c.loop-step.step-index c.step-item.result c.loop-step-test.true
     c.step-item.is c.requires.steps
-
-pub take_step-requires-clause-built : goal.take_step-requires-clause-built
-take_step-requires-clause-built c =
-    item_passes is_built_step c.args.steps.now c.loop-step.step-index c.step-item.result c.loop-step-test.true
-    c.step-item.is c.requires.built
 
 pub take_step-requires-clause-room : goal.take_step-requires-clause-room
 take_step-requires-clause-room c =
@@ -62,9 +57,7 @@ loop-step-preserved c =
     record {
       book = step_fits slots certs p c.step-item.result c.loop-step.plan c.take_step.new.plan
           (item_has (IsStep slots) c.args.steps.now i c.step-item.result c.loop-step-test.true c.step-item.is
-          c.requires.steps)
-          (item_passes is_built_step c.args.steps.now i c.step-item.result c.loop-step-test.true c.step-item.is
-          c.requires.built) c.loop-step.invariant.book c.in_ok-take_step.ensures;
+          c.requires.steps) c.loop-step.invariant.book c.in_ok-take_step.ensures;
       room = omega (arith, left, room, more);
       same =
           sym (steps_at slots certs p c.args.steps.now i c.step-item.result c.loop-step.plan c.loop-step-test.true

@@ -1,4 +1,5 @@
-use Rattle.unity_cli.proofs.Told.{checked_has_text, verdict_told}
+use Rattle.command_words.specs.Requests.{check}
+use Rattle.unity_cli.proofs.Told.{checked_has_text, answer_told}
 use Rattle.unity_cli.proofs.commands.write_verdict.Goals as goal
 
 pub write_answer-requires : goal.write_answer-requires
@@ -7,5 +8,5 @@ write_answer-requires g c =
 
 pub returns-in-Ok-clause-told : goal.returns-in-Ok-clause-told
 returns-in-Ok-clause-told g c = λ bytes is.
-    verdict_told bytes _ _ c.in-Ok.answer.status c.write_answer.result c.in-Ok.answer.text.items
+    answer_told check bytes _ _ c.in-Ok.answer.status c.write_answer.result c.in-Ok.answer.text.items
     (c.in-Ok.ensures bytes is) c.write_answer.ensures.whole c.write_answer.ensures.status c.write_answer.ensures.part

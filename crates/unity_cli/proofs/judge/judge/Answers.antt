@@ -1,6 +1,7 @@
 use Rattle.std.proofs.Common.{◌∙◌}
 use Rattle.answer_texts.specs.Refusals.{fault_text}
-use Rattle.unity_cli.proofs.Told.{fault_bad, unchecked, bad_checked}
+use Rattle.unity_cli.specs.Answer.{greatest_size}
+use Rattle.unity_cli.proofs.Told.{fault_bad, bad_checked}
 use Rattle.unity_cli.proofs.judge.judge.Goals as goal
 
 pub returns-in_ok-document_fault-in-Fault : goal.returns-in_ok-document_fault-in-Fault
@@ -8,5 +9,4 @@ returns-in_ok-document_fault-in-Fault c = λ bytes is.
     bad_checked bytes c.bad-in-Fault.result.status c.bad-in-Fault.result.text.items
     (fault_text c.in-Fault.code c.in-Fault.at) c.bad-in-Fault.ensures.status
     (c.bad-in-Fault.ensures.text ∙ c.in_ok-document_fault-in-Fault.ensures)
-    (unchecked bytes (fault_text c.in-Fault.code c.in-Fault.at)
-    (fault_bad bytes c.args.input.now c.in-Fault.code c.in-Fault.at c.in-Fault.is is))
+    (fault_bad greatest_size bytes c.args.input.now c.in-Fault.code c.in-Fault.at c.in-Fault.is is)

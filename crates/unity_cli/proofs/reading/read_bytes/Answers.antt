@@ -3,4 +3,4 @@ use Rattle.unity_cli.specs.Reading.{of_text}
 use Rattle.unity_cli.proofs.reading.read_bytes.Goals as goal
 
 pub returns-in-Err-Fault : goal.returns-in-Err-Fault
-returns-in-Err-Fault c = (c.requires, of_text (search rules))
+returns-in-Err-Fault c = λ most few. (few, of_text (search rules))

@@ -1,9 +1,10 @@
-use Rattle.std.proofs.Common.{◌∙◌}
+use Rattle.std.proofs.Common.{arith, ◌∙◌}
+use Rattle.unity_cli.specs.Answer.{greatest_size}
 use Rattle.unity_cli.proofs.Told.{sound_core, replay_answered, ended_early}
 use Rattle.unity_cli.proofs.running.replay_reading.Goals as goal
 
 pub replay_schedule-ended-requires : goal.replay_schedule-ended-requires
-replay_schedule-ended-requires g c = sound_core c.args.reading.now c.requires
+replay_schedule-ended-requires g c = sound_core greatest_size (omega arith) c.args.reading.now c.requires
 
 pub returns-clause-told : goal.returns-clause-told
 returns-clause-told g c = replay_answered c.args.reading.now _ _ _ c.replay_schedule-ended.result c.write_end.result

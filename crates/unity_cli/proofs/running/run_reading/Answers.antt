@@ -1,10 +1,11 @@
-use Rattle.std.proofs.Common.{◌∙◌, subst}
+use Rattle.std.proofs.Common.{arith, ◌∙◌, subst}
 use Rattle.program_traces.specs.Answers.{Runs}
+use Rattle.unity_cli.specs.Answer.{greatest_size}
 use Rattle.unity_cli.proofs.Told.{sound_core, run_answered, ended_early}
 use Rattle.unity_cli.proofs.running.run_reading.Goals as goal
 
 pub run_program-ended-requires : goal.run_program-ended-requires
-run_program-ended-requires g c = sound_core c.args.reading.now c.requires
+run_program-ended-requires g c = sound_core greatest_size (omega arith) c.args.reading.now c.requires
 
 pub returns-clause-told : goal.returns-clause-told
 returns-clause-told g c = run_answered c.args.reading.now c.args.program.now c.args.steps

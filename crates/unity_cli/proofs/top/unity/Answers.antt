@@ -1,5 +1,9 @@
-use Rattle.std.proofs.Common.{◌∙◌, rules, sym, ap, option_map}
-use Rattle.unity_cli.proofs.Told.{bad_words, told_whole, told_part, done_claims, done_runs}
+use Rattle.std.proofs.Common.{◌∙◌, ◌⊎◌, rules, sym, ap, subst, option_map}
+use Rattle.std.specs.Io.KnownBytes.{IsAtEnd}
+use Rattle.unity_base.specs.Streams.{IsLongerThan}
+use Rattle.unity_cli.specs.Answer.{most_bytes}
+use Rattle.unity_cli.specs.Input.{IsTextOf}
+use Rattle.unity_cli.proofs.Told.{bad_words, told_whole, told_part, done_claims, done_runs, done_tells}
 use Rattle.command_words.specs.Requests.{meant, asked}
 use Rattle.unity_cli.proofs.top.unity.Goals as goal
 
@@ -21,31 +25,56 @@ returns-in-Err-clause-part g c = λ _. record {
 pub returns-in-Ok-read_input-clause-answer : goal.returns-in-Ok-read_input-clause-answer
 returns-in-Ok-read_input-clause-answer g c =
     told_whole (asked c.args.words.now) (meant c.in-Some.command) (g.S.Source.left c.args.src.now)
-    c.in-Ok-read_input.input
+    c.in-Ok-read_input.text
     (g.K.Sink.written c.args.out.now) (g.K.Sink.written c.write_command.new.out) c.write_command.result
-    (sym c.read_words.ensures ∙ ap (option_map meant) c.in-Some.is) c.in-Ok-read_input.ensures.input
+    (sym c.read_words.ensures ∙ ap (option_map meant) c.in-Some.is)
+    (subst (λ m. IsTextOf m (g.S.Source.left c.args.src.now) c.in-Ok-read_input.text)
+    c.most_bytes.ensures c.in-Ok-read_input.ensures.input)
     c.write_command.ensures.told
 
 pub returns-in-Ok-read_input-clause-part : goal.returns-in-Ok-read_input-clause-part
 returns-in-Ok-read_input-clause-part g c =
     told_part (asked c.args.words.now) (meant c.in-Some.command) (g.S.Source.left c.args.src.now)
-    c.in-Ok-read_input.input
+    c.in-Ok-read_input.text
     (g.K.Sink.written c.args.out.now) (g.K.Sink.written c.write_command.new.out) c.write_command.result
-    (sym c.read_words.ensures ∙ ap (option_map meant) c.in-Some.is) c.in-Ok-read_input.ensures.input
+    (sym c.read_words.ensures ∙ ap (option_map meant) c.in-Some.is)
+    (subst (λ m. IsTextOf m (g.S.Source.left c.args.src.now) c.in-Ok-read_input.text)
+    c.most_bytes.ensures c.in-Ok-read_input.ensures.input)
     c.write_command.ensures.told
 
 pub returns-in-Ok-read_input-clause-safe : goal.returns-in-Ok-read_input-clause-safe
 returns-in-Ok-read_input-clause-safe g c =
     done_claims (asked c.args.words.now) (meant c.in-Some.command) (g.S.Source.left c.args.src.now)
-    c.in-Ok-read_input.input
+    c.in-Ok-read_input.text
     (g.K.Sink.written c.args.out.now) (g.K.Sink.written c.write_command.new.out) c.write_command.result
-    (sym c.read_words.ensures ∙ ap (option_map meant) c.in-Some.is) c.in-Ok-read_input.ensures.input
+    (sym c.read_words.ensures ∙ ap (option_map meant) c.in-Some.is)
+    (subst (λ m. IsTextOf m (g.S.Source.left c.args.src.now) c.in-Ok-read_input.text)
+    c.most_bytes.ensures c.in-Ok-read_input.ensures.input)
     c.write_command.ensures.told
 
 pub returns-in-Ok-read_input-clause-runs : goal.returns-in-Ok-read_input-clause-runs
 returns-in-Ok-read_input-clause-runs g c =
     done_runs (asked c.args.words.now) (meant c.in-Some.command) (g.S.Source.left c.args.src.now)
-    c.in-Ok-read_input.input
+    c.in-Ok-read_input.text
     (g.K.Sink.written c.args.out.now) (g.K.Sink.written c.write_command.new.out) c.write_command.result
-    (sym c.read_words.ensures ∙ ap (option_map meant) c.in-Some.is) c.in-Ok-read_input.ensures.input
+    (sym c.read_words.ensures ∙ ap (option_map meant) c.in-Some.is)
+    (subst (λ m. IsTextOf m (g.S.Source.left c.args.src.now) c.in-Ok-read_input.text)
+    c.most_bytes.ensures c.in-Ok-read_input.ensures.input)
     c.write_command.ensures.told
+
+pub returns-in-Ok-read_input-clause-bounds : goal.returns-in-Ok-read_input-clause-bounds
+returns-in-Ok-read_input-clause-bounds g c =
+    done_tells (asked c.args.words.now) (meant c.in-Some.command) (g.S.Source.left c.args.src.now)
+    c.in-Ok-read_input.text
+    (g.K.Sink.written c.args.out.now) (g.K.Sink.written c.write_command.new.out) c.write_command.result
+    (sym c.read_words.ensures ∙ ap (option_map meant) c.in-Some.is)
+    (subst (λ m. IsTextOf m (g.S.Source.left c.args.src.now) c.in-Ok-read_input.text)
+    c.most_bytes.ensures c.in-Ok-read_input.ensures.input)
+    c.write_command.ensures.told
+
+pub returns-in-Ok-read_input-clause-end : goal.returns-in-Ok-read_input-clause-end
+returns-in-Ok-read_input-clause-end g c = λ some read memory.
+    subst (λ m. IsAtEnd (g.S.Source.left c.read_input.new.src) ⊎ IsLongerThan m (g.S.Source.left c.args.src.now))
+    (c.most_bytes.ensures
+    ∙ ap most_bytes (sym (sym c.read_words.ensures ∙ ap (option_map meant) c.in-Some.is)))
+    c.in-Ok-read_input.ensures.end

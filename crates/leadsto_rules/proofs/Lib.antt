@@ -1,0 +1,11 @@
+pub mod AnyLaws
+pub mod ArgLaws
+pub mod DeriveLaws
+pub mod GivesLaws
+pub mod InductionLaws
+pub mod NodeLaws
+pub mod RangeLaws
+pub mod ReferredLaws
+pub mod SeesLaws
+pub mod TermLaws
+pub mod TermSizes

@@ -1,0 +1,44 @@
+use Rattle.std.proofs.Common.{List, sym, subst, ◌∙◌}
+use Rattle.std.specs.Prelude.{All}
+use Rattle.core_terms.specs.Conditions.{IsRange}
+use Rattle.core_terms.specs.declared.documents.PTerm.{PTerm}
+use Rattle.fair_rounds.specs.declared.records.Record.{Record}
+use Rattle.proof_rules.specs.Table.{Site, go_on, concluded}
+use Rattle.proof_rules.specs.Terms.{derive_of, term_of, leads_record}
+use Rattle.proof_rules.proofs.DeriveSound.{derive_sound}
+use Rattle.safety_rules.specs.Answers.{site_of, Answers}
+use Rattle.safety_rules.proofs.SoundLaws.{site_good}
+use Rattle.leadsto_rules.specs.Leading.{IsTermIn}
+use Rattle.leadsto_rules.proofs.DeriveLaws.{derived_stands, names_bound, all_are_ranges, sees_parts}
+use Rattle.leadsto_rules.proofs.derivation.derive.Goals as goal
+
+pub derive_in-requires-clause-ranges : goal.derive_in-requires-clause-ranges
+derive_in-requires-clause-ranges c =
+    subst (λ rs. All IsRange rs) (sym (c.as_slice.ensures ∙ c.in_ok-ranges.ensures))
+    (all_are_ranges c.args.pl.now.slots.now c.args.pl.now.params.now c.args.t.now c.requires.place.params
+    c.requires.term)
+
+pub derive_in-requires-clause-term : goal.derive_in-requires-clause-term
+derive_in-requires-clause-term c =
+    subst (λ rs. IsTermIn c.args.pl.now.slots.now rs c.args.t.now)
+    (sym (c.as_slice.ensures ∙ c.in_ok-ranges.ensures))
+    (sees_parts c.args.pl.now.slots.now c.args.pl.now.params.now c.args.t.now c.requires.term)
+
+pub returns-clause-answer : goal.returns-clause-answer
+unfolding derive_of
+returns-clause-answer c =
+    let site : Site = site_of c.args.pl.now in
+    let t : PTerm = c.args.t.now in
+    let book : List Record = c.args.book.now in
+    subst (λ rs. Answers c.derive_in.result site.slots (go_on (term_of site rs book t)
+    (λ l. concluded site.slots rs (leads_record site l) l.forms))) (c.as_slice.ensures ∙ c.in_ok-ranges.ensures)
+    c.derive_in.ensures
+
+pub returns-clause-sound : goal.returns-clause-sound
+returns-clause-sound c stands =
+    let site : Site = site_of c.args.pl.now in
+    let t : PTerm = c.args.t.now in
+    let bound = names_bound site.slots site.params t c.requires.term c.requires.numbers in
+    derived_stands c.args.pl.now c.derive_in.result (derive_of site t c.args.book.now)
+    (λ x e own valid. derive_sound site (site_good c.args.pl.now c.requires.place) c.args.book.now stands t bound.0
+    bound.1 x e own.p own.q valid) (returns-clause-answer c)

@@ -1,0 +1,5 @@
+pub mod Deriving
+pub mod Disjunctions
+pub mod Inductions
+pub mod Leading
+pub mod References

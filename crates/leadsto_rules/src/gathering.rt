@@ -1,0 +1,90 @@
+// Formulas of lists: that all hold, and what follows where all do.
+ghost use Rattle.std.specs.Prelude.{◌≡◌, ◌<◌, ◌++◌, ◌∷◌, [], All, IfOk, OnOk, Some, length};
+ghost use Rattle.proof_rules.specs.Forms as formula;
+ghost use Rattle.safety_rules.specs.Answers.{IsPlace};
+ghost use Rattle.wp_substitution.specs.Joined.{joined_with};
+ghost use Rattle.wp_substitution.specs.Preconditions.{all_of};
+ghost use Rattle.ensures_rules.specs.Foldable.{IsFoldable, AreFoldable};
+
+use core_terms::{CForm, and_form, held_form, not_form, or_form};
+use safety_rules::{Place, using_and};
+use std::alloc::{AllocError, Global};
+use unity_base::Held;
+
+// A formula after those that hold too.
+fn join(
+    alloc: Global,
+    whole: Option<Held<CForm>>,
+    f: Held<CForm>,
+) -> Result<Held<CForm>, AllocError>
+    requires whole { AreFoldable whole }
+    requires formula { IsFoldable f }
+    ensures tree { IfOk result (λ g. g ≡ joined_with whole f) }
+    ensures foldable { IfOk result IsFoldable }
+{
+    match whole {
+        Some(g) => Held::new(alloc, and_form(alloc, g.into_inner(), f.into_inner())?),
+        None => Ok(f),
+    }
+}
+
+fn add_join(alloc: Global, whole: &mut Option<Held<CForm>>, f: &CForm) -> Result<(), AllocError>
+    requires whole { AreFoldable whole.old }
+    requires formula { IsFoldable f.now }
+    ensures whole { OnOk result (whole.new ≡ Some (joined_with whole.old f.now)) }
+    ensures foldable { OnOk result (AreFoldable whole.new) }
+{
+    let more = held_form(alloc, f)?;
+    let joined = join(alloc, whole.take(), more)?;
+    *whole = Some(joined);
+    Ok(())
+}
+
+// That all formulas of a list hold.
+fn all_held(alloc: Global, forms: &[CForm]) -> Result<Held<CForm>, AllocError>
+    requires { All IsFoldable forms.now }
+    ensures tree { IfOk result (λ f. f ≡ all_of forms.now) }
+    ensures foldable { IfOk result IsFoldable }
+{
+    let mut whole = None;
+    for f in forms {
+        add_join(alloc, &mut whole, f)?;
+    }
+    match whole {
+        Some(f) => Ok(f),
+        None => Held::new(alloc, CForm::Top),
+    }
+}
+
+// Where all formulas of a list hold, q does.
+pub(crate) fn implied(
+    alloc: Global,
+    premises: &[CForm],
+    q: Held<CForm>,
+) -> Result<Held<CForm>, AllocError>
+    requires premises { All IsFoldable premises.now }
+    requires some { 0 < length premises.now }
+    requires formula { IsFoldable q }
+    ensures { IfOk result (λ f. f ≡ formula.imply premises.now q) }
+{
+    let whole = all_held(alloc, premises)?;
+    let other = Held::new(alloc, not_form(alloc, whole.into_inner())?)?;
+    Held::new(alloc, or_form(alloc, other.into_inner(), q.into_inner())?)
+}
+
+// Where U and p hold, q does.
+pub(crate) fn follows(
+    alloc: Global,
+    pl: &Place,
+    p: &CForm,
+    q: &CForm,
+) -> Result<Held<CForm>, AllocError>
+    requires place { IsPlace pl.now }
+    requires p { IsFoldable p.now }
+    requires q { IsFoldable q.now }
+    ensures { IfOk result (λ f. f ≡ formula.imply (pl.now.using.now ++ p.now ∷ []) q.now) }
+{
+    let premises = using_and(alloc, pl, p)?;
+    let q = held_form(alloc, q)?;
+    implied(alloc, premises.as_slice(), q)
+}

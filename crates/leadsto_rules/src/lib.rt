@@ -1,0 +1,17 @@
+//! Proof terms: that p leads to q, by the parts of a term.
+#![tactic(auto)]
+
+mod bound;
+mod derivation;
+mod disjunctions;
+mod gathering;
+mod inductions;
+mod joining;
+mod leading;
+mod naming;
+mod nodes;
+mod parts;
+mod ranging;
+mod references;
+
+pub use derivation::derive;

@@ -1,0 +1,80 @@
+// The conditions of each node of a term: its bound and its conclusion.
+ghost use Rattle.std.specs.Prelude.{◌≡◌, ◌^◌, nat_le, Ok, IfOk};
+ghost use Rattle.proof_rules.specs.Limits.{fits};
+ghost use Rattle.proof_rules.specs.Table.{needs};
+ghost use Rattle.proof_rules.specs.Terms as terms;
+ghost use Rattle.safety_rules.specs.Answers.{site_of};
+ghost use Rattle.safety_rules.specs.Usable.{NamesExist};
+ghost use Rattle.leadsto_rules.specs.Leading.{Gives, led_of, are_small, ClaimFits, LedFits};
+
+use case_tables::Code;
+use core_terms::{CForm, CSlot, Range, size_of, weight_of};
+use proof_rules::Led;
+use safety_rules::{Place, RuleError};
+use unity_base::{Held, Seq};
+
+// What a node claims: that p leads to q within so many rounds.
+#[derive(Drop)]
+pub(crate) struct Claim {
+    pub p: Held<CForm>,
+    pub q: Held<CForm>,
+    pub rounds: u128,
+    pub under: Seq<CForm>,
+    pub forms: Seq<CForm>,
+}
+
+// The rounds, where they are at most 2^63.
+pub(crate) fn bounded(rounds: u128) -> Result<u64, RuleError>
+    ensures { Gives result (needs (nat_le rounds (2 ^ 63)) Code.BoundTooLarge (Ok rounds)) }
+{
+    if rounds <= 1 << 63 {
+        Ok(rounds as u64)
+    } else {
+        Err(RuleError::Fault(Code::BoundTooLarge))
+    }
+}
+
+// Whether a formula is small enough for a conclusion.
+fn is_small(f: &CForm, slots: &[CSlot], ranges: &[Range]) -> bool
+    requires { NamesExist slots.now ranges.now f.now }
+    ensures { result ≡ fits slots.now ranges.now f.now }
+{
+    size_of(f) <= 65_536 && weight_of(f, slots, ranges) <= 1 << 62
+}
+
+// Whether p and q are small enough for a conclusion.
+fn are_small(pl: &Place, ranges: &[Range], claim: &Claim) -> bool
+    requires p { NamesExist pl.now.slots.now ranges.now claim.now.p }
+    requires q { NamesExist pl.now.slots.now ranges.now claim.now.q }
+    ensures { result ≡ are_small (site_of pl.now) ranges.now (led_of claim.now) }
+{
+    is_small(claim.p.get(), pl.slots, ranges) && is_small(claim.q.get(), pl.slots, ranges)
+}
+
+// What a node gives, where its bound and its conclusion are small enough.
+pub(crate) fn node(pl: &Place, ranges: &[Range], claim: Claim) -> Result<Led, RuleError>
+    requires { ClaimFits pl.now.slots.now ranges.now claim.p claim.q claim.under claim.forms }
+    ensures answer { Gives result (terms.node (site_of pl.now) ranges.now (led_of claim)) }
+    ensures fits { IfOk result (LedFits pl.now.slots.now ranges.now) }
+{
+    let bound = bounded(claim.rounds)?;
+    let small = are_small(pl, ranges, &claim);
+    let Claim {
+        p,
+        q,
+        rounds: _rounds,
+        under,
+        forms,
+    } = claim;
+    if small {
+        Ok(Led {
+            p,
+            q,
+            bound,
+            under,
+            forms,
+        })
+    } else {
+        Err(RuleError::Fault(Code::FormulaTooLarge))
+    }
+}

@@ -1,0 +1,394 @@
+-- A search for certificates, from one obligation to the next, and where it stops.
+use Rattle.std.proofs.Common.{◌≡◌, ℕ, zero, suc, ◌+◌, ◌≤◌, ◌<◌, ℤ, List, [], ◌∷◌, ◌++◌, map, length, slice_get, true}
+use Rattle.std.proofs.Common.{Some, Result, Ok, Err, refl, sym, ap, ◌∙◌, subst, append_assoc, arith, length-append}
+use Rattle.std.specs.Prelude.{All, sum}
+use Rattle.std.specs.List.{list_all}
+use Rattle.std.specs.Result.{IsErrAnd}
+use Rattle.std.proofs.lemmas.List.{length-map}
+use Rattle.std.proofs.lemmas.List.Elements.{All-nil, All-push}
+use Rattle.std.proofs.lemmas.Grind.{common_steps}
+use Rattle.core_terms.specs.declared.documents.CDocument.{CDocument}
+use Rattle.obligations.specs.declared.branches.Variable.{Variable}
+use Rattle.obligations.specs.declared.branches.Obligation.{Obligation}
+use Rattle.obligations.specs.declared.certificates.Cert.{Cert}
+use Rattle.obligations.specs.Certificates.{units}
+use Rattle.obligations.specs.Opening.{Valid}
+use Rattle.obligations.specs.Plain.{enough}
+use Rattle.certificate_check.specs.Trees.{is_whole}
+use Rattle.certificate_check.proofs.RefutationLaws.{sound}
+use Rattle.fair_rounds.specs.declared.records.Record.{Record}
+use Rattle.linear_prover.specs.Chains.{is_plain_node}
+use Rattle.tree_search.specs.Searching.{Proof, Counterexample, Partial}
+use Rattle.proof_rules.proofs.EachLaws.{Each}
+use Rattle.safety_rules.specs.declared.places.Derived.{Derived}
+use Rattle.proof_script.specs.declared.plans.Plan.{Plan}
+use Rattle.proof_script.specs.declared.plans.StepFault.{StepFault}
+use Rattle.proof_script.specs.declared.refuting.StepName.{StepName}
+use Rattle.proof_script.specs.declared.finding.Finding.{Finding}
+use Rattle.proof_script.specs.declared.finding.Halt.{Halt}
+use Rattle.proof_script.specs.Proving.{units_of, enough_for, Comes, IsFalse, IsOwner, IsProved, IsShort}
+use Rattle.proof_script.specs.Proving.{IsStopped}
+use Rattle.proof_script.specs.Reaching.{Stop, Reach, reach_of, reached}
+use Rattle.proof_script.specs.Searches.{ShownAt, AreShown, IsFinding, Searches, IsUnderWay, Follows}
+use Rattle.proof_script.specs.Verdicts.{grown, no_plan}
+use Rattle.step_rules.proofs.ItemLaws.{to_all}
+use Rattle.proof_script.proofs.ReachLaws.{Extends, accepted, shown_join}
+
+-- lists
+
+sum_push : {X : Type 0} (size : X → ℕ) (xs : List X) (x : X) →
+    sum (map size (xs ++ x ∷ [])) ≡ sum (map size xs) + size x
+sum_push size [] x = last (size x)
+  where
+    last : (n : ℕ) → sum (n ∷ []) ≡ sum [] + n
+    last n = grind (arith, common_steps)
+sum_push size (y ∷ xs) x =
+    let e = sum_push size xs x in
+    step (size y) (map size (xs ++ x ∷ [])) (map size xs) (size x) e
+  where
+    step : (n : ℕ) (ms ns : List ℕ) (k : ℕ) → sum ms ≡ sum ns + k → sum (n ∷ ms) ≡ sum (n ∷ ns) + k
+    step n ms ns k e = grind (arith, common_steps, e)
+
+one_longer : {X : Type 0} (xs : List X) (x : X) → length (xs ++ x ∷ []) ≡ length xs + 1
+one_longer [] x = refl
+one_longer (y ∷ xs) x = let e = one_longer xs x in omega (arith, e)
+
+got_more : {X : Type 0} (xs ys : List X) (k : ℕ) (x : X) → slice_get xs k ≡ Some x → slice_get (xs ++ ys) k ≡ Some x
+got_more [] ys k x e = cc
+got_more (z ∷ xs) ys zero x e = e
+got_more (z ∷ xs) ys (suc k) x e = got_more xs ys k x e
+
+got_next : {X : Type 0} (xs : List X) (x : X) (ys : List X) → slice_get (xs ++ x ∷ ys) (length xs) ≡ Some x
+got_next [] x ys = refl
+got_next (z ∷ xs) x ys = got_next xs x ys
+
+-- certificates
+
+shown_kept : (certs more : List Cert) (n : ℕ) (os : List Obligation) → AreShown certs n os →
+    AreShown (certs ++ more) n os
+shown_kept certs more n [] h = tt
+shown_kept certs more n (o ∷ os) h = (
+  (h.0.0, got_more certs more n h.0.0 h.0.1, h.0.2),
+  shown_kept certs more (suc n) os h.1,
+)
+
+each_valid : (certs : List Cert) (n : ℕ) (os : List Obligation) → AreShown certs n os → Each Valid os
+each_valid certs n [] h = tt
+each_valid certs n (o ∷ os) h = (sound o h.0.0.nodes h.0.2, each_valid certs (suc n) os h.1)
+
+pub all_valid : (os : List Obligation) (f : Finding) → IsFinding os f → All Valid os
+all_valid os f h = to_all Valid os (each_valid f.certs 0 os h.shown)
+
+-- one obligation
+
+pub found_one : (before : List Obligation) (o : Obligation) (cert : Cert) (old new : Finding) → IsFinding before old →
+    Proof o old.left cert.nodes → new.certs ≡ old.certs ++ cert ∷ [] → new.left + units cert.nodes ≡ old.left →
+    new.budget ≡ old.budget → IsFinding (before ++ o ∷ []) new × (new.budget ≡ old.budget)
+found_one before o cert old new h proof certs left budget =
+    let had : length old.certs ≡ length before = h.count in
+    let is_one : ShownAt (old.certs ++ cert ∷ []) (length before) o =
+    (cert, subst (λ n. slice_get (old.certs ++ cert ∷ []) n ≡ Some cert) had (got_next old.certs cert []), proof.walked)
+    in
+    let long : length (old.certs ++ cert ∷ []) ≡ length old.certs + 1 = one_longer old.certs cert in
+    let longer : length (before ++ o ∷ []) ≡ length before + 1 = one_longer before o in
+    let all : units_of (old.certs ++ cert ∷ []) ≡ units_of old.certs + units cert.nodes =
+    sum_push (λ (c : Cert). units c.nodes) old.certs cert in
+    let allowed : enough_for (before ++ o ∷ []) ≡ enough_for before + enough o = sum_push enough before o in
+    let spent = h.spent in
+    let cheap = h.cheap in
+    let more : units cert.nodes ≤ enough o = proof.cheap in (
+      record {
+        count = ap (λ (cs : List Cert). length cs) certs
+            ∙ same_count (length (old.certs ++ cert ∷ [])) (length (before ++ o ∷ [])) (length old.certs)
+            (length before) long longer had;
+        shown = subst (λ (cs : List Cert). AreShown cs 0 (before ++ o ∷ [])) (sym certs)
+            (shown_join (old.certs ++ cert ∷ []) 0 before (o ∷ []) (shown_kept old.certs (cert ∷ []) 0 before h.shown)
+            (subst (λ n. ShownAt (old.certs ++ cert ∷ []) n o) (none_more (length before)) is_one, tt));
+        whole = subst (λ (cs : List Cert). All (λ (c : Cert). is_whole c.nodes 1 ≡ true) cs) (sym certs)
+            (All-push (λ (c : Cert). is_whole c.nodes 1 ≡ true) old.certs cert h.whole proof.whole);
+        plain = subst (λ (cs : List Cert). All (λ (c : Cert). list_all is_plain_node c.nodes ≡ true) cs) (sym certs)
+            (All-push (λ (c : Cert). list_all is_plain_node c.nodes ≡ true) old.certs cert h.plain proof.plain);
+        spent = ap (λ (cs : List Cert). units_of cs + new.left) certs
+            ∙ spent_is (units_of (old.certs ++ cert ∷ [])) (units_of old.certs) (units cert.nodes) new.left old.left
+            old.budget new.budget all left spent budget;
+        cheap = subst (λ (cs : List Cert). units_of cs ≤ enough_for (before ++ o ∷ [])) (sym certs)
+            (cheap_is (units_of (old.certs ++ cert ∷ [])) (units_of old.certs) (units cert.nodes)
+            (enough_for (before ++ o ∷ [])) (enough_for before) (enough o) all allowed cheap more);
+      },
+      budget,
+    )
+  where
+    none_more : (n : ℕ) → n ≡ 0 + n
+    none_more n = omega arith
+
+    same_count : (a b c d : ℕ) → a ≡ c + 1 → b ≡ d + 1 → c ≡ d → a ≡ b
+    same_count a b c d e g h = omega (arith, e, g, h)
+
+    spent_is : (all before one left was budget new : ℕ) → all ≡ before + one → left + one ≡ was →
+        before + was ≡ budget → new ≡ budget → all + left ≡ new
+    spent_is all before one left was budget new e g h k = omega (arith, e, g, h, k)
+
+    cheap_is : (all before one needs first last : ℕ) → all ≡ before + one → needs ≡ first + last → before ≤ first →
+        one ≤ last → all ≤ needs
+    cheap_is all before one needs first last e g h k = omega (arith, e, g, h, k)
+
+abbrev comes_next : (before : List Obligation) (o : Obligation) (old : Finding) (number : ℕ) → IsFinding before old →
+    number ≡ length old.certs + 1 → Comes (before ++ o ∷ []) number o
+comes_next before o old number h e = record {
+  front = before;
+  rest = [];
+  parts = refl;
+  numbered = e ∙ ap (λ n. n + 1) h.count;
+  valid = all_valid before old h;
+}
+
+is_next : (before : List Obligation) (old : Finding) (number : ℕ) → IsFinding before old →
+    number ≡ length old.certs + 1 → length before < number
+is_next before old number h e = let count = h.count in omega (arith, count, e)
+
+pub refuted_one : (name : StepName) (before : List Obligation) (o : Obligation) (old new : Finding) (number : ℕ)
+    (values : List ℤ) → IsFinding before old → Counterexample o values → number ≡ length old.certs + 1 →
+    new.variables ≡ o.variables → new.values ≡ values →
+    Searches (Err (Halt.Refuted name number)) name before (o ∷ []) old new
+refuted_one name before o old new number values h false e variables same = (
+  refl,
+  is_next before old number h e,
+  record {
+    obligation = o;
+    comes = comes_next before o old number h e;
+    variables_are = variables;
+    fails = subst (λ (zs : List ℤ). Counterexample o zs) (sym same) false;
+  },
+)
+
+pub short_one : (name : StepName) (before : List Obligation) (o : Obligation) (old new : Finding) (number : ℕ)
+    (cert : Cert) → IsFinding before old → Partial o old.left cert.nodes → number ≡ length old.certs + 1 →
+    Searches (Err (Halt.Short name number)) name before (o ∷ []) old new
+short_one name before o old new number cert h part e =
+    let spent = h.spent in
+    let cheap = h.cheap in
+    let small = part.small in (
+      refl,
+      is_next before old number h e,
+      record {
+        obligation = o;
+        comes = comes_next before o old number h e;
+        short = less (units_of old.certs) old.left old.budget (enough_for before) (enough o) spent cheap small;
+      },
+    )
+  where
+    less : (spent left budget first last : ℕ) → spent + left ≡ budget → spent ≤ first → left < last →
+        budget < first + last
+    less spent left budget first last e g h = omega (arith, e, g, h)
+
+-- where a search stops among some obligations, it stops there among more
+
+abbrev comes_more : (os all more : List Obligation) (number : ℕ) (o : Obligation) → all ≡ os ++ more →
+    Comes os number o → Comes all number o
+comes_more os all more number o e h = record {
+  front = h.front;
+  rest = h.rest ++ more;
+  parts = e ∙ ap (λ (xs : List Obligation). xs ++ more) h.parts ∙ append_assoc h.front (o ∷ h.rest) more;
+  numbered = h.numbered;
+  valid = h.valid;
+}
+
+false_more : (os all more : List Obligation) (number : ℕ) (variables : List Variable) (values : List ℤ) →
+    all ≡ os ++ more → IsFalse os number variables values → IsFalse all number variables values
+false_more os all more number variables values e h = record {
+  obligation = h.obligation;
+  comes = comes_more os all more number h.obligation e h.comes;
+  variables_are = h.variables_are;
+  fails = h.fails;
+}
+
+short_more : (os all more : List Obligation) (number budget : ℕ) → all ≡ os ++ more → IsShort os number budget →
+    IsShort all number budget
+short_more os all more number budget e h = record {
+  obligation = h.obligation;
+  comes = comes_more os all more number h.obligation e h.comes;
+  short = h.short;
+}
+
+owner_more : (p q : Plan) (number program step : ℕ) → Extends p q → IsOwner p number program step →
+    IsOwner q number program step
+owner_more p q number program step e h = record {
+  place = h.place;
+  at = h.at;
+  made = h.made;
+  numbered = h.numbered;
+  owner = subst (λ (ns : List ℕ). slice_get ns h.place ≡ Some h.at) (sym e.owner.1)
+      (got_more p.owner e.owner.0 h.place h.at h.owner);
+  there = subst (λ (rs : List Record). slice_get rs h.at ≡ Some h.made) (sym e.records.1)
+      (got_more p.records e.records.0 h.at h.made h.there);
+  program_is = h.program_is;
+  step_is = h.step_is;
+}
+
+pub halted_on : {T : Type 0} (P : Result T Halt → Type 0) (r : Result T Halt) (e : Halt) →
+    IsErrAnd r (λ x. x ≡ e) → P (Err e) → P r
+halted_on P (Err x) e h p = subst (λ y. P (Err y)) (sym h) p
+halted_on P (Ok x) e h p = absurd h
+
+later : (before taken : List Obligation) (number : ℕ) → length (before ++ taken) < number → length before < number
+later before taken number h = let long = length-append before taken in omega (arith, long, h)
+
+whole : (before taken os all more : List Obligation) → all ≡ taken ++ (os ++ more) →
+    before ++ all ≡ ((before ++ taken) ++ os) ++ more
+whole before taken os all more e =
+    ap (λ (xs : List Obligation). before ++ xs) e
+    ∙ sym (append_assoc before taken (os ++ more))
+    ∙ sym (append_assoc (before ++ taken) os more)
+
+-- `taken` were taken before those in which it stops, and `more` come after these
+pub search_more : (e : Halt) (name : StepName) (before taken os all more : List Obligation) (first old new : Finding) →
+    all ≡ taken ++ (os ++ more) → old.budget ≡ first.budget → Searches (Err e) name (before ++ taken) os old new →
+    Searches (Err e) name before all first new
+search_more (Halt.Step fault) name before taken os all more first old new e b h = h
+search_more (Halt.Refuted step number) name before taken os all more first old new e b h = (
+  h.0,
+  later before taken number h.1,
+  false_more ((before ++ taken) ++ os) (before ++ all) more number new.variables new.values
+      (whole before taken os all more e) h.2,
+)
+search_more (Halt.Short step number) name before taken os all more first old new e b h = (
+  h.0,
+  later before taken number h.1,
+  subst (λ (n : ℕ). IsShort (before ++ all) number n) b
+      (short_more ((before ++ taken) ++ os) (before ++ all) more number old.budget
+      (whole before taken os all more e) h.2),
+)
+search_more Halt.Memory name before taken os all more first old new e b h = tt
+
+-- a halt in a part is one of the whole
+pub halts_whole : (e : Halt) (first old new : Finding) (p q : Plan) (one whole : Reach) →
+    Extends (reached one) (reached whole) → ((stop : Stop) → one ≡ Err stop → whole ≡ Err stop) →
+    old.budget ≡ first.budget → Follows (Err e) old p new one → Follows (Err e) first q new whole
+halts_whole (Halt.Step fault) first old new p q one whole more stops b h = record {
+  plan = h.plan;
+  stops = stops (record { plan = h.plan; fault = fault }) h.stops;
+  valid = h.valid;
+}
+halts_whole (Halt.Refuted step number) first old new p q one whole more stops b h = (
+  false_more (reached one).obligations (reached whole).obligations more.obligations.0 number new.variables new.values
+      more.obligations.1 h.0,
+  owner_more (reached one) (reached whole) number step.program step.step more h.1,
+)
+halts_whole (Halt.Short step number) first old new p q one whole more stops b h = (
+  subst (λ (n : ℕ). IsShort (reached whole).obligations number n) b
+      (short_more (reached one).obligations (reached whole).obligations more.obligations.0 number old.budget
+      more.obligations.1 h.0),
+  owner_more (reached one) (reached whole) number step.program step.step more h.1,
+)
+halts_whole Halt.Memory first old new p q one whole more stops b h = tt
+
+-- a step's obligations
+
+got_place : {X : Type 0} (xs : List X) (n k : ℕ) → k < length xs → slice_get (map (λ (x : X). n) xs) k ≡ Some n
+got_place [] n k h = absurd (omega arith)
+got_place (x ∷ xs) n zero h = refl
+got_place (x ∷ xs) n (suc k) h = got_place xs n k (omega (arith, h))
+
+got_owner : {X : Type 0} (ns : List ℕ) (xs : List X) (n k : ℕ) → length ns ≤ k → k < length ns + length xs →
+    slice_get (ns ++ map (λ (x : X). n) xs) k ≡ Some n
+got_owner [] xs n k h l = got_place xs n k (omega (arith, l))
+got_owner (m ∷ ns) xs n zero h l = absurd (omega arith)
+got_owner (m ∷ ns) xs n (suc k) h l = got_owner ns xs n k (omega (arith, h)) (omega (arith, l))
+
+owned_by : (plan : Plan) (d : Derived) (name : StepName) (number : ℕ) (o : Obligation) →
+    length plan.owner ≡ length plan.obligations → d.made.program ≡ name.program → d.made.name ≡ name.step →
+    length plan.obligations < number → Comes (plan.obligations ++ d.obligations) number o →
+    IsOwner (grown plan d) number name.program name.step
+owned_by plan d name number o owned program step after h =
+    let all = length-append plan.obligations d.obligations in
+    let parts = ap (λ (xs : List Obligation). length xs) h.parts in
+    let long = length-append h.front (o ∷ h.rest) in
+    let numbered = h.numbered in
+    record {
+      place = length h.front;
+      at = length plan.records;
+      made = d.made;
+      numbered = numbered;
+      owner = got_owner plan.owner d.obligations (length plan.records) (length h.front)
+          (omega (arith, owned, after, numbered)) (omega (arith, owned, all, parts, long));
+      there = got_next plan.records d.made [];
+      program_is = program;
+      step_is = step;
+    }
+
+pub step_halts : (e : Halt) (plan p : Plan) (d : Derived) (name : StepName) (old new : Finding) →
+    length plan.owner ≡ length plan.obligations → d.made.program ≡ name.program → d.made.name ≡ name.step →
+    Searches (Err e) name plan.obligations d.obligations old new → Follows (Err e) old p new (Ok (grown plan d))
+step_halts (Halt.Step fault) plan p d name old new owned program step h = absurd h
+step_halts (Halt.Refuted called number) plan p d name old new owned program step h =
+    let of : IsOwner (grown plan d) number name.program name.step =
+    owned_by plan d name number h.2.obligation owned program step h.1 h.2.comes in
+    (h.2, subst (λ (n : StepName). IsOwner (grown plan d) number n.program n.step) (sym h.0) of)
+step_halts (Halt.Short called number) plan p d name old new owned program step h =
+    let of : IsOwner (grown plan d) number name.program name.step =
+    owned_by plan d name number h.2.obligation owned program step h.1 h.2.comes in
+    (h.2, subst (λ (n : StepName). IsOwner (grown plan d) number n.program n.step) (sym h.0) of)
+step_halts Halt.Memory plan p d name old new owned program step h = tt
+
+pub step_done : (plan p : Plan) (d : Derived) (old new : Finding) → p ≡ grown plan d →
+    length plan.owner ≡ length plan.obligations → IsFinding (plan.obligations ++ d.obligations) new →
+    new.budget ≡ old.budget → Follows (Ok tt) old p new (Ok (grown plan d))
+step_done plan p d old new e owned found budget =
+    let owners = length-append plan.owner (map (λ (o : Obligation). length plan.records) d.obligations) in
+    let mapped : length (map (λ (o : Obligation). length plan.records) d.obligations) ≡ length d.obligations =
+    length-map d.obligations (λ (o : Obligation). length plan.records) in
+    let all = length-append plan.obligations d.obligations in (
+      ap (λ x. Ok x) (sym e),
+      subst (λ (x : Plan). IsUnderWay x new) (sym e) (record {
+        found = found;
+        owned = omega (arith, owners, mapped, all, owned);
+      }),
+      budget,
+    )
+
+-- a rule that fails
+pub stops_at : (plan : Plan) (f : Finding) (fault : StepFault) (r : Reach) → IsUnderWay plan f →
+    r ≡ Err (record { plan = plan; fault = fault }) → IsStopped r fault
+stops_at plan f fault r h e = record {
+  plan = plan;
+  stops = e;
+  valid = all_valid plan.obligations f h.found;
+}
+
+-- a search at its begin, and at its end
+
+pub begins : (budget : ℕ) (plan : Plan) (f : Finding) → plan ≡ no_plan →
+    f ≡ record { budget = budget; left = budget; certs = []; variables = []; values = [] } → IsUnderWay plan f
+begins budget plan f e h =
+    subst (λ p. IsUnderWay p f) (sym e) (subst (λ x. IsUnderWay no_plan x) (sym h) (record {
+      found = record {
+        count = refl;
+        shown = tt;
+        whole = All-nil (λ (c : Cert). is_whole c.nodes 1 ≡ true);
+        plain = All-nil (λ (c : Cert). list_all is_plain_node c.nodes ≡ true);
+        spent = none_spent budget;
+        cheap = none_needed;
+      };
+      owned = refl;
+    }))
+  where
+    none_spent : (n : ℕ) → sum [] + n ≡ n
+    none_spent n = grind (arith, common_steps)
+
+    none_needed : sum [] ≤ sum []
+    none_needed = omega arith
+
+pub proved_by : (d : CDocument) (budget : ℕ) (plan : Plan) (f : Finding) → reach_of d ≡ Ok plan →
+    IsUnderWay plan f → f.budget ≡ budget → IsProved d budget plan f.certs
+proved_by d budget plan f e h same =
+    let count = h.found.count in
+    let spent = h.found.spent in
+    record {
+      verdict = accepted d f.certs plan e h.found.shown (omega (arith, count));
+      within = few (units_of f.certs) f.left f.budget budget spent same;
+      whole = h.found.whole;
+      plain = h.found.plain;
+    }
+  where
+    few : (all left had budget : ℕ) → all + left ≡ had → had ≡ budget → all ≤ budget
+    few all left had budget e h = omega (arith, e, h)

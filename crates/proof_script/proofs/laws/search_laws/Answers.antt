@@ -1,0 +1,9 @@
+use Rattle.proof_script.proofs.BudgetLaws.{suffices}
+use Rattle.proof_script.proofs.WalkLaws.{reach_is_walk}
+use Rattle.proof_script.proofs.laws.search_laws.Goals as goal
+
+pub returns-clause-walk : goal.returns-clause-walk
+returns-clause-walk c = reach_is_walk
+
+pub returns-clause-enough : goal.returns-clause-enough
+returns-clause-enough c = suffices

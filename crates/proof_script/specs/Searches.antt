@@ -1,0 +1,57 @@
+-- How far a search for certificates has come.
+use Rattle.std.specs.Prelude.{◌≡◌, ℕ, suc, ◌+◌, ◌≤◌, ◌<◌, List, [], ◌∷◌, ◌++◌, length, slice_get, Some, Result, Ok, Err}
+use Rattle.obligations.specs.declared.branches.Obligation.{Obligation}
+use Rattle.obligations.specs.declared.certificates.Cert.{Cert}
+use Rattle.certificate_check.specs.Refutation.{judged}
+use Rattle.proof_script.specs.declared.plans.Plan.{Plan}
+use Rattle.proof_script.specs.declared.refuting.StepName.{StepName}
+use Rattle.proof_script.specs.declared.finding.Finding.{Finding}
+use Rattle.proof_script.specs.declared.finding.Halt.{Halt}
+use Rattle.proof_script.specs.Giving.{AreWhole}
+use Rattle.proof_script.specs.Proving.{units_of, enough_for, ArePlain, IsFalse, IsOwner, IsShort, IsStopped}
+use Rattle.proof_script.specs.Reaching.{Reach, reached}
+
+-- the certificate of this number, from 0, refutes the obligation
+abbrev pub ShownAt : List Cert → ℕ → Obligation → Type 0
+ShownAt certs number o = (c : Cert) × (slice_get certs number ≡ Some c) × (judged o c.nodes ≡ Ok [])
+
+-- each obligation, from this number on, is refuted by the certificate of its number
+abbrev pub AreShown : List Cert → ℕ → List Obligation → Type 0
+AreShown certs number [] = Unit {0}
+AreShown certs number (o ∷ os) = ShownAt certs number o × AreShown certs (suc number) os
+
+-- one certificate for each of these obligations
+pub record IsFinding (os : List Obligation) (f : Finding) : Type 0 where
+  pub count : length f.certs ≡ length os
+  pub shown : AreShown f.certs 0 os
+  pub whole : AreWhole f.certs
+  pub plain : ArePlain f.certs
+  pub spent : units_of f.certs + f.left ≡ f.budget
+  pub cheap : units_of f.certs ≤ enough_for os
+
+-- the search among the obligations of a step, after those before
+abbrev pub Searches : Result (Unit {0}) Halt → StepName → List Obligation → List Obligation → Finding → Finding →
+    Type 0
+Searches (Ok done) name before os old new = IsFinding (before ++ os) new × (new.budget ≡ old.budget)
+Searches (Err (Halt.Step fault)) name before os old new = ⊥
+Searches (Err (Halt.Refuted step number)) name before os old new =
+    (step ≡ name) × (length before < number) × IsFalse (before ++ os) number new.variables new.values
+Searches (Err (Halt.Short step number)) name before os old new =
+    (step ≡ name) × (length before < number) × IsShort (before ++ os) number old.budget
+Searches (Err Halt.Memory) name before os old new = Unit {0}
+
+-- one certificate for each obligation of a plan
+pub record IsUnderWay (plan : Plan) (f : Finding) : Type 0 where
+  pub found : IsFinding plan.obligations f
+  pub owned : length plan.owner ≡ length plan.obligations
+
+-- the search along steps that go so far
+abbrev pub Follows : Result (Unit {0}) Halt → Finding → Plan → Finding → Reach → Type 0
+Follows (Ok done) old plan new r = (r ≡ Ok plan) × IsUnderWay plan new × (new.budget ≡ old.budget)
+Follows (Err (Halt.Step fault)) old plan new r = IsStopped r fault
+Follows (Err (Halt.Refuted step number)) old plan new r =
+    IsFalse (reached r).obligations number new.variables new.values
+    × IsOwner (reached r) number step.program step.step
+Follows (Err (Halt.Short step number)) old plan new r =
+    IsShort (reached r).obligations number old.budget × IsOwner (reached r) number step.program step.step
+Follows (Err Halt.Memory) old plan new r = Unit {0}

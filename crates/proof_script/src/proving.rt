@@ -1,0 +1,243 @@
+// The search for the certificates of a document.
+ghost use Rattle.std.specs.Prelude.{◌≡◌, ◌+◌, ◌<◌, ◌^◌, All, Err, Ok, [], length, map, sum, true, Some};
+ghost use Rattle.core_terms.specs.Conditions.{IsDocument, IsProgram, IsSlot, IsStep};
+ghost use Rattle.core_terms.specs.declared.documents.CDocument.{CDocument};
+ghost use Rattle.core_terms.specs.declared.documents.CProof.{CProof};
+ghost use Rattle.obligations.specs.Obligations.{IsObligation};
+ghost use Rattle.proof_rules.specs.Walk.{program_of};
+ghost use Rattle.proof_script.specs.declared.finding.Finding.{Finding};
+ghost use Rattle.proof_script.specs.declared.plans.Plan.{Plan};
+ghost use Rattle.proof_script.specs.Proving.{Finds};
+ghost use Rattle.proof_script.specs.Reaching.{proof_reach, proofs_reach, reach_of, step_reach, steps_reach};
+ghost use Rattle.proof_script.specs.Searches.{Follows, IsUnderWay};
+ghost use Rattle.step_rules.specs.Using.{BookFits};
+ghost use Rattle.proof_script.specs.Verdicts.{grown, rule_fault};
+
+use crate::adding::{add, new_plan};
+use crate::finding::{Finding, Halt, find_all};
+use crate::plans::{Plan, Proof, ScriptError, StepFault};
+use crate::programs::find_program;
+use crate::refuting::StepName;
+use case_tables::Code;
+use core_terms::{CDocument, CProgram, CProof, CSlot, CStep};
+use safety_rules::{Derived, RuleError};
+use std::alloc::Global;
+use step_rules::{has_defined, step_rule};
+use unity_base::{Held, Seq};
+
+// A condition of a rule fails, or at a proof's end its `defined` step is missing.
+fn fault(program: u32, step: Option<u32>, code: Code) -> Halt
+    ensures { result ≡ Halt.Step (rule_fault program step code) }
+{
+    Halt::Step(StepFault {
+        code,
+        program: Some(program),
+        step,
+        obligation: None,
+    })
+}
+
+// The obligations of a step, and then the step is taken.
+fn prove_derived(
+    alloc: Global,
+    name: StepName,
+    derived: Held<Derived>,
+    plan: &mut Plan,
+    finding: &mut Finding,
+) -> Result<(), Halt>
+    requires obligations { All IsObligation derived.obligations }
+    requires program { derived.made.program ≡ name.program }
+    requires step { derived.made.name ≡ name.step }
+    requires room { length plan.old.records < 2 ^ 31 }
+    requires under_way { IsUnderWay plan.old finding.old }
+    ensures { Follows result finding.old plan.new finding.new (Ok (grown plan.old derived)) }
+{
+    let obligations = derived.get().obligations.as_slice();
+    find_all(alloc, name, obligations, finding)?;
+    add(alloc, derived, plan)?;
+    Ok(())
+}
+
+// One step: its rule, and then its obligations.
+fn prove_step(
+    alloc: Global,
+    slots: &[CSlot],
+    program: &CProgram,
+    step: &CStep,
+    plan: &mut Plan,
+    finding: &mut Finding,
+) -> Result<(), Halt>
+    requires slots { All IsSlot slots.now }
+    requires program { IsProgram slots.now program.now }
+    requires step { IsStep slots.now step.now }
+    requires book { BookFits slots.now plan.old.records }
+    requires room { length plan.old.records < 2 ^ 31 }
+    requires under_way { IsUnderWay plan.old finding.old }
+    ensures { Follows result finding.old plan.new finding.new (step_reach slots.now program.now step.now plan.old) }
+{
+    match step_rule(alloc, slots, program, step, plan.records.as_slice()) {
+        Ok(derived) => {
+            let name = StepName {
+                program: program.name,
+                step: step.name,
+            };
+            prove_derived(alloc, name, derived, plan, finding)
+        }
+        Err(RuleError::Fault(code)) => Err(fault(program.name, Some(step.name), code)),
+        Err(RuleError::Memory) => Err(Halt::Memory),
+    }
+}
+
+// The steps of a proof, in order.
+fn prove_steps(
+    alloc: Global,
+    slots: &[CSlot],
+    program: &CProgram,
+    steps: &[CStep],
+    plan: &mut Plan,
+    finding: &mut Finding,
+) -> Result<(), Halt>
+    requires slots { All IsSlot slots.now }
+    requires program { IsProgram slots.now program.now }
+    requires steps { All (IsStep slots.now) steps.now }
+    requires book { BookFits slots.now plan.old.records }
+    requires room { length plan.old.records + length steps.now < 2 ^ 31 }
+    requires under_way { IsUnderWay plan.old finding.old }
+    ensures { Follows result finding.old plan.new finding.new
+        (steps_reach slots.now program.now steps.now plan.old) }
+{
+    for step in steps {
+        prove_step(alloc, slots, program, step, plan, finding)?;
+    }
+    Ok(())
+}
+
+// The proof of a program: its steps, and that one of them is `defined`.
+fn prove_program(
+    alloc: Global,
+    slots: &[CSlot],
+    program: &CProgram,
+    proof: &CProof,
+    plan: &mut Plan,
+    finding: &mut Finding,
+) -> Result<(), Halt>
+    requires slots { All IsSlot slots.now }
+    requires program { IsProgram slots.now program.now }
+    requires steps { All (IsStep slots.now) proof.now.steps }
+    requires book { BookFits slots.now plan.old.records }
+    requires room { length plan.old.records + length proof.now.steps < 2 ^ 31 }
+    requires under_way { IsUnderWay plan.old finding.old }
+    ensures { Follows result finding.old plan.new finding.new
+        (proof_reach slots.now (Some program.now) proof.now plan.old) }
+{
+    prove_steps(alloc, slots, program, proof.steps.as_slice(), plan, finding)?;
+    if has_defined(program.name, plan.records.as_slice()) {
+        Ok(())
+    } else {
+        Err(fault(program.name, None, Code::DefinedMissing))
+    }
+}
+
+// One proof.
+fn prove_proof(
+    alloc: Global,
+    doc: &CDocument,
+    proof: &CProof,
+    plan: &mut Plan,
+    finding: &mut Finding,
+) -> Result<(), Halt>
+    requires slots { All IsSlot doc.now.slots }
+    requires programs { All (IsProgram doc.now.slots) doc.now.programs }
+    requires steps { All (IsStep doc.now.slots) proof.now.steps }
+    requires book { BookFits doc.now.slots plan.old.records }
+    requires room { length plan.old.records + length proof.now.steps < 2 ^ 31 }
+    requires under_way { IsUnderWay plan.old finding.old }
+    ensures { Follows result finding.old plan.new finding.new
+        (proof_reach doc.now.slots (program_of doc.now.programs proof.now.program) proof.now plan.old) }
+{
+    match find_program(proof.program, doc.programs.as_slice()) {
+        None => Ok(()),
+        Some(program) => prove_program(alloc, doc.slots.as_slice(), program, proof, plan, finding),
+    }
+}
+
+// All proofs of a document, in order.
+fn prove_proofs(
+    alloc: Global,
+    doc: &CDocument,
+    plan: &mut Plan,
+    finding: &mut Finding,
+) -> Result<(), Halt>
+    requires document { IsDocument doc.now }
+    requires book { BookFits doc.now.slots plan.old.records }
+    requires room { length plan.old.records + sum (map (λ (p : CProof). length p.steps) doc.now.proofs) < 2 ^ 31 }
+    requires under_way { IsUnderWay plan.old finding.old }
+    ensures { Follows result finding.old plan.new finding.new
+        (proofs_reach doc.now.slots doc.now.programs doc.now.proofs plan.old) }
+{
+    for proof in doc.proofs.as_slice() {
+        prove_proof(alloc, doc, proof, plan, finding)?;
+    }
+    Ok(())
+}
+
+// The search before the first step.
+fn new_finding(alloc: Global, budget: u64) -> Finding
+    ensures { result ≡ record { budget = budget; left = budget; certs = []; variables = []; values = [] } }
+{
+    Finding {
+        budget,
+        left: budget,
+        certs: Seq::new(alloc),
+        variables: Seq::new(alloc),
+        values: Seq::new(alloc),
+    }
+}
+
+// What a search that stopped has found.
+fn halted(halt: Halt, finding: Finding) -> Result<Proof, ScriptError>
+    ensures { (d : CDocument) (old : Finding) (plan : Plan) → Follows (Err halt) old plan finding (reach_of d) →
+        Finds d old.budget result }
+{
+    match halt {
+        Halt::Step(fault) => Err(ScriptError::Step(fault)),
+        Halt::Refuted(name, obligation) => Ok(Proof::Refuted {
+            program: name.program,
+            step: name.step,
+            obligation,
+            variables: finding.variables,
+            values: finding.values,
+        }),
+        Halt::Short(name, obligation) => Ok(Proof::Budget {
+            program: name.program,
+            step: name.step,
+            obligation,
+        }),
+        Halt::Memory => Err(ScriptError::Memory),
+    }
+}
+
+/// Finds certificates with which the proofs of a document are accepted, of at most so many units together, a
+/// unit being a node or a pair of one (this profile's measure). No number in them is outside plus or minus
+/// 2^62.
+///
+/// The steps are taken in order, each step's rule first and then its obligations in order, and each search
+/// gets what is left of the budget. Where a certificate is missing in the end, the answer says why: the
+/// obligation is false at values of its variables in their ranges, or the budget is less than what always
+/// suffices for the obligations up to it. The error is the first failure of a rule, a code from 30 to 42, or
+/// 36 with no step for a proof without a `defined` step, and then all obligations before it are valid; or
+/// `Memory`, where memory was refused.
+pub fn prove(alloc: Global, doc: &CDocument, budget: u64) -> Result<Proof, ScriptError>
+    requires document { IsDocument doc.now }
+    ensures { Finds doc.now budget result }
+{
+    let mut plan = new_plan(alloc);
+    let mut finding = new_finding(alloc, budget);
+    match prove_proofs(alloc, doc, &mut plan, &mut finding) {
+        Ok(()) => Ok(Proof::Proved {
+            plan,
+            certs: finding.certs,
+        }),
+        Err(halt) => halted(halt, finding),
+    }
+}

@@ -1,0 +1,9 @@
+pub mod GoalLaws
+pub mod GoodLaws
+pub mod HelperLaws
+pub mod ItemLaws
+pub mod LedLaws
+pub mod ReferredLaws
+pub mod SmallLaws
+pub mod StepLaws
+pub mod UsingLaws

@@ -1,0 +1,109 @@
+// Kinds of steps, and which rules give them.
+ghost use Rattle.std.specs.Prelude.{◌≡◌, ◌||◌, not};
+ghost use Rattle.core_terms.specs.declared.documents.CRule.{CRule};
+ghost use Rattle.core_terms.specs.declared.documents.PTerm.{out-PTerm};
+ghost use Rattle.core_terms.specs.declared.documents.Ref.{Ref};
+ghost use Rattle.proof_rules.specs.Table as table;
+ghost use Rattle.proof_rules.specs.Walk as walk;
+
+use case_tables::{Kind, RuleName};
+use core_terms::{CRule, PTerm};
+use fair_rounds::Record;
+use safety_rules::{is_ensures, is_unless};
+
+pub(crate) fn is_defined(kind: Kind) -> bool
+    ensures { result ≡ table.is_defined kind }
+{
+    matches!(kind, Kind::Defined)
+}
+
+pub(crate) fn is_invariant(kind: Kind) -> bool
+    ensures { result ≡ table.is_invariant kind }
+{
+    matches!(kind, Kind::Invariant)
+}
+
+fn is_leadsto(kind: Kind) -> bool
+    ensures { result ≡ walk.is_leadsto kind }
+{
+    matches!(kind, Kind::Leadsto)
+}
+
+// Whether two kinds are the same.
+pub(crate) fn is_kind(kind: Kind, other: Kind) -> bool
+    ensures { result ≡ walk.is_kind kind other }
+{
+    match kind {
+        Kind::Defined => is_defined(other),
+        Kind::Invariant => is_invariant(other),
+        Kind::Unless => is_unless(other),
+        Kind::Ensures => is_ensures(other),
+        Kind::Leadsto => is_leadsto(other),
+    }
+}
+
+// Whether a step of this kind may stand before the `defined` step.
+fn is_first(kind: Kind) -> bool
+    ensures { result ≡ walk.is_first kind }
+{
+    is_defined(kind) || is_invariant(kind)
+}
+
+/// Whether a `defined` step of the program is among these.
+pub fn has_defined(program: u32, book: &[Record]) -> bool
+    ensures { result ≡ walk.has_defined program book.now }
+{
+    for record in book {
+        if record.program == program && is_defined(record.kind) {
+            return true;
+        }
+    }
+    false
+}
+
+// Whether a step may stand here: of this kind at first, or after the `defined` step.
+pub(crate) fn may_stand(kind: Kind, program: u32, book: &[Record]) -> bool
+    ensures { result ≡ (walk.is_first kind || walk.has_defined program book.now) }
+{
+    is_first(kind) || has_defined(program, book)
+}
+
+fn has_end(kind: Kind) -> bool
+    ensures { result ≡ (table.is_unless kind || table.is_ensures kind) }
+{
+    is_unless(kind) || is_ensures(kind)
+}
+
+// Whether a pair rule may give this kind.
+fn suits_pair(which: RuleName, kind: Kind) -> bool
+    ensures { (r s : Ref) → result ≡ walk.suits (CRule.Pair which r s) kind }
+{
+    match which {
+        RuleName::Conj => has_end(kind),
+        _ => is_unless(kind),
+    }
+}
+
+// Whether a term may give this kind.
+fn suits_term(t: &PTerm, kind: Kind) -> bool
+    ensures { result ≡ walk.suits_term (out-PTerm t.now) kind }
+{
+    match t {
+        PTerm::From(_) => is_leadsto(kind) || has_end(kind),
+        _ => is_leadsto(kind),
+    }
+}
+
+// Whether a rule may give this kind.
+pub(crate) fn suits(rule: &CRule, kind: Kind) -> bool
+    ensures { result ≡ walk.suits rule.now kind }
+{
+    match rule {
+        CRule::Text => is_first(kind) || is_unless(kind),
+        CRule::TextWith(_) => is_ensures(kind),
+        CRule::WeakenStep(_) => has_end(kind),
+        CRule::Pair(which, _, _) => suits_pair(*which, kind),
+        CRule::Union(_, _) => !is_leadsto(kind),
+        CRule::Proof(t) => suits_term(t, kind),
+    }
+}

@@ -1,0 +1,12 @@
+//! What a step of a proof gives by its rule, from the steps before it.
+#![tactic(auto)]
+
+mod kinds;
+mod references;
+mod ruling;
+mod terms;
+mod unions;
+mod using;
+
+pub use kinds::has_defined;
+pub use ruling::step_rule;
