@@ -1,6 +1,6 @@
 // Four documents with certificates of every kind of node, and what is wrong where one certificate of them is
 // another. Facts are numbered from 1: the two bounds of each variable, then what is settled.
-use super::{ACCEPTED, COUNT, answer, edited, status_of};
+use program_answers::{ACCEPTED, COUNT, answer, edited, status_of};
 use std::alloc::{AllocError, Global};
 use std::test::Fail;
 

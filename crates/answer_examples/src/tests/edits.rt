@@ -1,5 +1,5 @@
 // The first document with one edit each.
-use super::{ACCEPTED, COUNT, answer, edited, status_of};
+use program_answers::{ACCEPTED, COUNT, answer, edited, status_of};
 use std::test::Fail;
 
 const SUM: &str = "2: sum 1*2 1*5;";

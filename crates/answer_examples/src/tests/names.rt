@@ -13,7 +13,7 @@ mod unknown;
 mod well_named;
 mod wrong_type;
 
-use super::{answer, status_of};
+use program_answers::{answer, status_of};
 use std::alloc::{AllocError, Global};
 use std::test::Fail;
 use unity_cli::Status;
@@ -32,9 +32,6 @@ struct Table {
 
 /// How the documents without a proof are answered that have no fault.
 const ACCEPTED: &str = "accepted 0 steps 0 obligations";
-
-/// How those are answered that have a proof which is not judged yet.
-const NOT_BUILT: &str = "bad 9 NotBuilt";
 
 const DOCUMENT: Frame = ("unity 1 ", "");
 

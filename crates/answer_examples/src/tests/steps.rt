@@ -1,5 +1,5 @@
 // Documents with the first condition of a step that fails, and documents whose steps all stand.
-use super::{Row, wrong_answers};
+use program_answers::{Row, wrong_answers};
 use std::test::Fail;
 use unity_cli::Status;
 

@@ -1,5 +1,5 @@
 // Traces of programs and of schedules, and what has none.
-use super::{COUNT, Row, answer, wrong_answers};
+use program_answers::{COUNT, Row, answer, wrong_answers};
 use std::test::Fail;
 use unity_cli::Status;
 

@@ -1,5 +1,5 @@
 // Words, and documents with short answers.
-use super::{ACCEPTED, COUNT, NOTHING, Row, answer, wrong_answers};
+use program_answers::{ACCEPTED, COUNT, NOTHING, Row, answer, wrong_answers};
 use std::test::Fail;
 use unity_cli::Status;
 
@@ -9,6 +9,11 @@ const WORDS: &[(&str, u64, u64, Status, &str)] = &[
     ("", 0, 0, Status::BadWords, "bad words\n"),
     ("check now", 0, 0, Status::BadWords, "bad words\n"),
     ("chuck", 0, 0, Status::BadWords, "bad words\n"),
+    ("prove", 0, 0, Status::BadWords, "bad words\n"),
+    ("prove 0", 0, 0, Status::BadWords, "bad words\n"),
+    ("prove 01", 0, 0, Status::BadWords, "bad words\n"),
+    ("prove 1000001", 0, 0, Status::BadWords, "bad words\n"),
+    ("prove 5 5", 0, 0, Status::BadWords, "bad words\n"),
     ("replay now", 0, 0, Status::BadWords, "bad words\n"),
     ("run", 0, 0, Status::BadWords, "bad words\n"),
     ("run Count", 0, 0, Status::BadWords, "bad words\n"),
@@ -31,6 +36,7 @@ const WORDS: &[(&str, u64, u64, Status, &str)] = &[
     ("check", 2, 0, Status::ReadFault, ""),
     ("check", 3, 0, Status::Done, ACCEPTED),
     ("run Count 5", 1, 0, Status::ReadFault, ""),
+    ("prove 9", 1, 0, Status::ReadFault, ""),
     ("replay", 2, 0, Status::ReadFault, ""),
     ("check", 0, 1, Status::WriteFault, ""),
     ("check", 0, 2, Status::Done, ACCEPTED),

@@ -1,6 +1,6 @@
 // Documents that are at a limit, and past it: 4,096 slots, 4,096 statements, 65,536 nodes, and weights
 // of 2^62.
-use super::{ACCEPTED, DOCUMENT, NOT_BUILT, PROGRAM, PROOF, Table};
+use super::{ACCEPTED, DOCUMENT, PROGRAM, PROOF, Table};
 
 /// Slots, at the name of the first program with whose declarations there are too many.
 pub const SLOTS: &[Table] = &[

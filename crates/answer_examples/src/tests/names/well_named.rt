@@ -1,5 +1,5 @@
 // Documents without a fault.
-use super::{ACCEPTED, NOT_BUILT, PROGRAM, PROOF, Table};
+use super::{ACCEPTED, PROGRAM, PROOF, Table};
 
 /// Documents that come near a fault and have none.
 pub const WELL_NAMED: &[Table] = &[
@@ -48,7 +48,7 @@ program K = Q [] P end",
         ],
     },
     Table {
-        fault: NOT_BUILT,
+        fault: "rejected 36 DefinedMissing P.go",
         frame: PROOF,
         rows: &[
             "proof P go: b leadsto b by induct(m : 0..3, (sum m : 0..1 :: m), (all m : 0..1 :: b), b, from e[m]); end",
