@@ -11,7 +11,8 @@ fi
 
 answer=$(mktemp)
 text=$(mktemp)
-trap 'rm -f "$answer" "$text"' EXIT
+proved=$(mktemp)
+trap 'rm -f "$answer" "$text" "$proved"' EXIT
 passed=0
 failed=0
 
@@ -44,6 +45,37 @@ compare() {
 expect() {
     wanted=examples/$2.expected
     compare "examples/$2.unity" "$1" check < "examples/$2.unity"
+}
+
+# expect_proof DOCUMENT ACCEPTED: for this document `prove` finds certificates, and of what it writes the
+# text by `check` is ACCEPTED.
+expect_proof() {
+    local ended=0
+    wanted=examples/$2
+    crates/unity/out/unity prove 1000000 < "examples/$1.unity" > "$proved" || ended=$?
+    if [ "$ended" = 0 ]; then
+        compare "the proof of examples/$1.unity" 0 check < "$proved"
+    else
+        cat "$proved"
+        count_one 1 "the proof of examples/$1.unity"
+    fi
+}
+
+# expect_bound LINE WORD..: by these words the script that tries a bound on all executions of 8 steps says
+# this line.
+expect_bound() {
+    local line=$1 holds=1
+    shift
+    if [ "$(bash scripts/bounds.sh "$@")" = "$line" ]; then
+        holds=0
+    fi
+    count_one "$holds" "the bound $*"
+}
+
+# expect_refuted DOCUMENT: of this document the text by `prove` is DOCUMENT.refuted.
+expect_refuted() {
+    wanted=examples/$1.refuted
+    compare "$wanted" 3 prove 1000000 < "examples/$1.unity"
 }
 
 # status_of_trace TRACE: 5 where its last step is undefined, and else 0.
@@ -112,6 +144,11 @@ expect_program() {
         "proof P safe: defined by text; end")
 }
 
+# expect_declared STATUS LINE REST: `check` says this line of a program that begins with these declarations.
+expect_declared() {
+    expect_line "$1" "$2" check < <(printf '%s\n' "unity 1" "program P" "declare $3")
+}
+
 # expect_place DOCUMENT LINE COLUMN: the script names this place of the document.
 expect_place() {
     local status=0
@@ -121,6 +158,17 @@ expect_place() {
         holds=0
     fi
     count_one "$holds" "the place in examples/$1.unity"
+}
+
+# expect_step DOCUMENT LINE: of this document the script that proves names the line of the step.
+expect_step() {
+    local status=0
+    bash scripts/prove.sh "examples/$1.unity" > /dev/null 2> "$answer" || status=$?
+    local holds=1
+    if [ "$status" = 3 ] && [ "$(head -n 1 "$answer")" = "examples/$1.unity:$2" ]; then
+        holds=0
+    fi
+    count_one "$holds" "the line of the step in examples/$1.unity"
 }
 
 # expect_refused N TEST: this test of unity_base passes where its Nth allocation is refused.
@@ -156,8 +204,9 @@ expect 0 count_without_proof
 expect 2 empty_range
 expect 2 too_many_statements
 expect 2 heavy_product
-expect 2 ring_of_four
-expect 2 union_of_two
+expect 1 ring_of_four
+expect 1 ring_of_three
+expect 1 union_of_two
 expect 0 flip_array
 expect 0 swap
 expect 0 rounding
@@ -166,9 +215,20 @@ expect 0 safety_calculus
 expect 0 union_proofs
 expect 0 past_the_end
 expect 0 outside_the_array
-expect 2 peterson
-expect 2 readers_writers
-expect 2 two_phase_commit
+expect 1 peterson
+expect 1 readers_writers
+expect 1 two_phase_commit
+expect 1 pick
+expect_proof count count.expected
+expect_proof swap swap.expected
+expect_proof rounding rounding.expected
+expect_proof splitting splitting.expected
+expect_proof safety_calculus safety_calculus.expected
+expect_proof union_proofs union_proofs.expected
+for name in peterson readers_writers two_phase_commit ring_of_four ring_of_three union_of_two; do
+    expect_proof "$name" "$name.accepted"
+done
+expect_refuted pick
 expect_run count
 expect_run flip_array
 expect_run union_of_two
@@ -190,6 +250,10 @@ expect_line 7 "" run Count 5 < .
 expect_full 8 check
 expect_full 8 run Count 5
 expect_full 8 replay
+expect_full 8 prove 1000000
+expect_line 4 "budget Count.safe obligation 1 spent 1" prove 1 < examples/count.unity
+expect_line 6 "bad words" prove 0 < examples/count.unity
+expect_line 6 "bad words" prove 1000001 < examples/count.unity
 expect_blanks 67108864 "bad 3 Unexpected byte 67108864"
 expect_blanks 67108865 "bad 5 TooLong"
 expect_program 1 "rejected 50 CertMissing P.safe obligation 1" \
@@ -200,9 +264,22 @@ expect_program 1 "rejected 42 FormulaTooLarge P.safe" "assign s: x := x if (all 
 expect_program 1 "rejected 42 FormulaTooLarge P.safe" "assign s: <|| i : 1..1500 :: x := x if x = i |>"
 expect_program 1 "rejected 42 FormulaTooLarge P.safe" "assign s: <|| i : 1..9362 :: x := x if x = i |>"
 expect_program 1 "rejected 50 CertMissing P.safe obligation 1" "assign s: <|| i : 1..13000 :: x := 1 |>"
+nothing="accepted 0 steps 0 obligations"
+expect_declared 0 "$nothing" "a : array 1..4095 of 0..1 x : 1..4095 assign s: a[0] := a[x] + a[x] + a[x] end"
+expect_declared 0 "$nothing" "a : array 0..0 of 0..1 x : 0..1 assign s: a[1] := 4611686018427387904 * x - 1 end"
+expect_declared 0 "$nothing" "a : array 0..0 of 0..1 x : 0..1 assign s: a[1] := (sum i : 1..65532 :: x + x) end"
+expect_declared 2 "bad 18 TooLarge byte 56" "a : array 0..0 of 0..1 assign s: a[1] := (sum i : 1..65533 :: 0) end"
+expect_declared 2 "bad 18 TooLarge byte 56" \
+    "a : array 0..0 of 0..1 assign s: a[1] := (sum i : 1..1000000000 :: (sum j : 1..i :: 0)) end"
+expect_declared 2 "bad 13 BadRange byte 104" \
+    "a : array 0..0 of 0..1 assign s: a[1] := (sum i : 8..9 :: (sum j : 999999999..i + 999999992 :: 1)) end"
 expect_place and_or_mixed 4 27
 expect_place comparison_of_three 12 25
 expect_place empty_range 6 27
+expect_step pick 13
+expect_bound "256 lists, 494 states" examples/union_of_two.unity Both 'v["x"] == 0' 'v["x"] == 1' 1 inc flip
+expect_bound "no state with Q: list 1, state 0" examples/union_of_two.unity Both 'v["x"] == 0' 'v["x"] == 1' 0 inc flip
+expect_bound "6561 lists, 3096 states" examples/ring_of_three.unity Ring 1 'v["at"] == 0' 2 'pass[1]' 'pass[2]' wrap
 holds=0
 bash scripts/editors.sh --check || holds=1
 count_one "$holds" "the files in editors/"

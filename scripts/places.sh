@@ -1,0 +1,60 @@
+# Places in a document, for the scripts that run `unity` on a file. Read by `.`; it runs nothing.
+
+# run_unity ANSWER NOTES FILE WORD..: what `unity` says by these words of the file goes to ANSWER. The
+# program that `scripts/test.sh` builds is taken where it is there; else the sources are run as they
+# are, in half a minute and with no proof, and what that says goes to NOTES. The status is that of
+# `unity`.
+run_unity() {
+    local answer=$1 notes=$2 file=$3 status=0
+    shift 3
+    if [ -x "$top/crates/unity/out/unity" ]; then
+        "$top/crates/unity/out/unity" "$@" < "$file" > "$answer" || status=$?
+    else
+        (cd "$top/crates/unity" && rt try -- "$@") < "$file" > "$answer" 2> "$notes" || status=$?
+        if ! grep -q '^run=ended' "$notes"; then
+            cat "$notes" >&2
+        fi
+    fi
+    return "$status"
+}
+
+# show_place AT NAME FILE: the line of the file with that byte, and a caret below the byte. Columns
+# count bytes from 1; of a long line only what stands near the byte is shown.
+show_place() {
+    LC_ALL=C awk -v at="$1" -v name="$2" '
+        function show(line, column, text,    from, before) {
+            from = column > 100 ? column - 100 : 1
+            text = substr(text, from, 160)
+            before = substr(text, 1, column - from)
+            gsub(/[^\t]/, " ", before)
+            printf "%s:%d:%d\n%s\n%s^\n", name, line, column, text, before
+        }
+        at <= seen + length($0) { show(NR, at - seen + 1, $0); shown = 1; exit }
+        { seen += length($0) + 1 }
+        END { if (!shown) show(NR + 1, 1, "") }
+    ' "$3" >&2
+}
+
+# show_byte ANSWER NAME FILE: the place of the byte that the answer names, where it names one.
+show_byte() {
+    local place
+    place=$(sed -n '1s/^bad [0-9][0-9]* [A-Za-z]* byte \([0-9][0-9]*\)$/\1/p' "$1")
+    if [ -n "$place" ]; then
+        show_place "$place" "$2" "$3"
+    fi
+}
+
+# show_step ANSWER NAME FILE: the line of the step that the answer names, where it names one.
+show_step() {
+    local named
+    named=$(sed -n '1s/^\(rejected [0-9][0-9]* [A-Za-z]*\|refuted\|budget\) \([^ ]*\).*$/\2/p' "$1")
+    if [ -n "$named" ]; then
+        LC_ALL=C awk -v named="$named" -v name="$2" '
+            BEGIN { split(named, part, "."); program = part[1]; step = part[2] }
+            { code = $0; sub(/#.*/, "", code) }
+            code ~ "(^|[ \t])proof[ \t]+" program "([ \t]|$)" { inside = 1 }
+            inside && step == "" { printf "%s:%d\n%s\n", name, NR, $0; exit }
+            inside && code ~ "(^|[ \t;])" step "[ \t]*[(:]" { printf "%s:%d\n%s\n", name, NR, $0; exit }
+        ' "$3" >&2
+    fi
+}
