@@ -1,7 +1,9 @@
-//! Trees of the greatest depth, which the calls on obligations take within an ordinary stack.
+//! A small obligation whose numbers were worked out by hand, and trees of the greatest depth, which the calls
+//! on obligations take within an ordinary stack.
 #![tactic(auto)]
 
 ghost use Rattle.std.specs.Prelude.{IfOk};
+ghost use Rattle.obligation_examples.specs.Count.{HasNumbers};
 ghost use Rattle.obligation_examples.specs.Deep.{IsDeepTerm, IsDeepForm};
 
 use core_terms::{CForm, CTerm};
@@ -98,3 +100,9 @@ pub fn deep_term(
     }
     Ok(t)
 }
+
+/// Of the obligation that the step `x := x + 1 if x < 3` is defined, x in 0..3, the height is 3, the need 2,056
+/// and what is enough 514. The function does nothing: it states this.
+pub fn step_numbers()
+    ensures { HasNumbers }
+{}

@@ -1,6 +1,7 @@
 // The deepest trees of 65,536 nodes, through each call that goes down a tree. A call that took too much
 // stack would end the test; that it answers rightly is proved.
-ghost use Rattle.std.specs.Prelude.{◌≡◌, pos};
+ghost use Rattle.std.specs.Prelude.{◌≡◌, ◌≤◌, pos, IfOk};
+ghost use Rattle.core_terms.specs.Places.{form_slots, form_params};
 ghost use Rattle.obligation_examples.specs.Deep.{IsDeepForm};
 
 use super::*;
@@ -79,6 +80,70 @@ fn numbers_of(alloc: Global, f: CForm) -> Result<(u64, u128, usize, usize), Allo
 fn opens_a_small_obligation(rt: HostRuntime) -> Result<(), Fail> {
     let least = deep_form(rt.alloc(), Around::Not, 0)?;
     assert!(rt; numbers_of(rt.alloc(), least)? == (1, 514, 3, 4));
+    Ok(())
+}
+
+// The slot of the numbers 0 to 3.
+fn small_number() -> CSlot
+    ensures low { result.range.lo ≡ pos 0 }
+    ensures high { result.range.hi ≡ pos 3 }
+{
+    CSlot {
+        name: 0,
+        index: None,
+        range: Range { lo: 0, hi: 3 },
+        print: Print::Number,
+    }
+}
+
+// That a constant less a slot is at least 0.
+fn at_most(alloc: Global, most: i64) -> Result<CForm, AllocError>
+    ensures slots { IfOk result (λ f. form_slots f ≤ 1) }
+    ensures params { IfOk result (λ f. form_params f ≤ 0) }
+{
+    let most = Held::new(alloc, CTerm::Const(most))?;
+    let slot = Held::new(alloc, CTerm::Slot(0))?;
+    Ok(CForm::AtLeast(CTerm::Sub(most, slot)))
+}
+
+// That a slot and 1 are within 0..3.
+fn next_inside(alloc: Global) -> Result<CForm, AllocError>
+    ensures slots { IfOk result (λ f. form_slots f ≤ 1) }
+    ensures params { IfOk result (λ f. form_params f ≤ 0) }
+{
+    let slot = Held::new(alloc, CTerm::Slot(0))?;
+    let one = Held::new(alloc, CTerm::Const(1))?;
+    let low = CForm::AtLeast(CTerm::Add(slot, one));
+    Ok(CForm::And(
+        Held::new(alloc, low)?,
+        Held::new(alloc, at_most(alloc, 2)?)?,
+    ))
+}
+
+// That `x := x + 1 if x < 3` is defined, where x is the slot.
+fn step_is_defined(alloc: Global) -> Result<CForm, AllocError>
+    ensures slots { IfOk result (λ f. form_slots f ≤ 1) }
+    ensures params { IfOk result (λ f. form_params f ≤ 0) }
+{
+    let condition = Held::new(alloc, at_most(alloc, 2)?)?;
+    Ok(CForm::Or(
+        Held::new(alloc, CForm::Not(condition))?,
+        Held::new(alloc, next_inside(alloc)?)?,
+    ))
+}
+
+// One case, and two halvings of four values; two leaves with four values each, and 257 units for a leaf.
+#[test]
+fn counts_height_and_need(rt: HostRuntime) -> Result<(), Fail> {
+    let slots = [small_number()];
+    let form = step_is_defined(rt.alloc())?;
+    match make(rt.alloc(), form, slots.as_slice(), [].as_slice()) {
+        Ok(o) => {
+            assert!(rt; height(&o) == 3);
+            assert!(rt; need(&o) == Some(2056));
+        }
+        Err(_) => assert!(rt; false),
+    }
     Ok(())
 }
 

@@ -11,11 +11,11 @@ use tree_search::{settle_first, settle_second};
 use unity_base::Seq;
 
 /// What a side of a formula would add: whether the branch would then have a refuted fact, and how many
-/// facts.
+/// facts and waiting formulas.
 #[derive(Clone, Copy)]
 struct Look {
     dies: bool,
-    facts: usize,
+    added: usize,
 }
 
 /// The branch with a side of a formula alone.
@@ -63,12 +63,12 @@ fn look_with(facts: &[Fact], side: &Branch, watch: &mut Watch) -> Result<Look, A
     take_back(mark, watch);
     Ok(Look {
         dies,
-        facts: side.facts.len(),
+        added: side.facts.len().saturating_add(side.waiting.len()),
     })
 }
 
-/// How good it is to take a formula apart: a side that dies at once counts most, then the facts that are
-/// added.
+/// How good it is to take a formula apart: a side that dies at once counts most, then the facts and the
+/// waiting formulas that are added.
 fn score_of(
     alloc: Global,
     vs: &[Variable],
@@ -84,7 +84,7 @@ fn score_of(
     if one.dies || other.dies {
         Ok(usize::MAX)
     } else {
-        Ok(one.facts.saturating_add(other.facts))
+        Ok(one.added.saturating_add(other.added))
     }
 }
 
@@ -92,7 +92,8 @@ fn score_of(
 const LOOKS: usize = 256;
 
 /// The place of the waiting formula that is best taken apart: the first of which a side dies at once,
-/// else the first whose sides settle most.
+/// else the last whose sides add most. So a goal, and what was taken apart last, come before the
+/// hypotheses.
 pub fn best_place(
     alloc: Global,
     vs: &[Variable],
@@ -107,7 +108,7 @@ pub fn best_place(
     for (place, form) in branch.waiting.as_slice().iter().enumerate() {
         if place < LOOKS && most < usize::MAX {
             let score = score_of(alloc, vs, branch.facts.as_slice(), form.get(), watch)?;
-            if score > most {
+            if score >= most {
                 best = place;
                 most = score;
             }

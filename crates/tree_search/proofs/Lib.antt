@@ -11,3 +11,4 @@ pub mod ExactLaws
 pub mod SlenderLaws
 pub mod EnoughLaws
 pub mod TryLaws
+pub mod EndsLaws

@@ -1,3 +1,5 @@
 pub mod Left
 pub mod Choices
 pub mod Searching
+pub mod Ends
+pub mod Laws

@@ -1,8 +1,12 @@
 //! The search for a certificate along the plain tree of an obligation, by which units are bounded.
 #![tactic(auto)]
 
+mod ends;
+mod laws;
 mod plain_tree;
 
+pub use ends::search_ends;
+pub use laws::enough_laws;
 pub use plain_tree::{
     Ended, Found, Halves, Trail, add_above, add_at_most, cut_back, finish, is_allowed, put_node,
     search_tree, settle_first, settle_second, split_node,
