@@ -3,8 +3,10 @@ pub mod BudgetLaws
 pub mod Checkable
 pub mod Equations
 pub mod LoopLaws
+pub mod PlanLaws
 pub mod ReachLaws
 pub mod RuleLaws
 pub mod SearchLaws
+pub mod SomeLaws
 pub mod VerdictLaws
 pub mod WalkLaws

@@ -129,7 +129,7 @@ pub record Extends (p q : Plan) : Type 0 where
   pub obligations : (more : List Obligation) × (q.obligations ≡ p.obligations ++ more)
   pub owner : (more : List ℕ) × (q.owner ≡ p.owner ++ more)
 
-extends_self : (p : Plan) → Extends p p
+pub extends_self : (p : Plan) → Extends p p
 extends_self p = record {
   records = ([], no_more p.records);
   obligations = ([], no_more p.obligations);

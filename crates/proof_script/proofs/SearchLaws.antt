@@ -161,13 +161,12 @@ refuted_one name before o old new number values h false e variables same = (
   },
 )
 
-pub short_one : (name : StepName) (before : List Obligation) (o : Obligation) (old new : Finding) (number : ℕ)
-    (cert : Cert) → IsFinding before old → Partial o old.left cert.nodes → number ≡ length old.certs + 1 →
+pub short_by : (name : StepName) (before : List Obligation) (o : Obligation) (old new : Finding) (number : ℕ) →
+    IsFinding before old → old.left < enough o → number ≡ length old.certs + 1 →
     Searches (Err (Halt.Short name number)) name before (o ∷ []) old new
-short_one name before o old new number cert h part e =
+short_by name before o old new number h small e =
     let spent = h.spent in
-    let cheap = h.cheap in
-    let small = part.small in (
+    let cheap = h.cheap in (
       refl,
       is_next before old number h e,
       record {
@@ -180,6 +179,11 @@ short_one name before o old new number cert h part e =
     less : (spent left budget first last : ℕ) → spent + left ≡ budget → spent ≤ first → left < last →
         budget < first + last
     less spent left budget first last e g h = omega (arith, e, g, h)
+
+pub short_one : (name : StepName) (before : List Obligation) (o : Obligation) (old new : Finding) (number : ℕ)
+    (cert : Cert) → IsFinding before old → Partial o old.left cert.nodes → number ≡ length old.certs + 1 →
+    Searches (Err (Halt.Short name number)) name before (o ∷ []) old new
+short_one name before o old new number cert h part e = short_by name before o old new number h part.small e
 
 -- where a search stops among some obligations, it stops there among more
 

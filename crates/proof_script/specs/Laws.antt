@@ -10,6 +10,7 @@ use Rattle.proof_rules.specs.Walk.{Failure, walk_of}
 use Rattle.safety_rules.specs.Answers.{obligations_of}
 use Rattle.proof_script.specs.declared.plans.Plan.{Plan}
 use Rattle.proof_script.specs.declared.plans.Proof.{Proof}
+use Rattle.proof_script.specs.declared.plans.ScriptError.{ScriptError}
 use Rattle.proof_script.specs.Giving.{AreWhole, PlanHolds}
 use Rattle.proof_script.specs.Proving.{enough_for, Finds}
 use Rattle.proof_script.specs.Reaching.{Reach, reach_of, reached}
@@ -56,3 +57,14 @@ abbrev pub EnoughSuffices : Type 0
 EnoughSuffices = (d : CDocument) (budget program step number : ℕ) →
     enough_for (reached (reach_of d)).obligations ≤ budget →
     Finds d budget (Ok (Proof.Budget program step number)) → ⊥
+
+-- an answer other than want of memory
+abbrev pub IsTold : Result Proof ScriptError → Type 0
+IsTold (Ok found) = Unit {0}
+IsTold (Err (ScriptError.Step fault)) = Unit {0}
+IsTold (Err ScriptError.Memory) = ⊥
+
+-- whatever the budget, a search may answer something of each document
+abbrev pub SomeFinding : Type 0
+SomeFinding = (d : CDocument) (budget : ℕ) → IsDocument d →
+    (finding : Result Proof ScriptError) × IsTold finding × Finds d budget finding

@@ -1,5 +1,6 @@
 pub mod Giving
 pub mod Laws
+pub mod Planning
 pub mod Proving
 pub mod Reaching
 pub mod Searches

@@ -1,5 +1,5 @@
 // The laws of verdicts and of searches. The functions do nothing: they state them.
-ghost use Rattle.proof_script.specs.Laws.{AcceptedFollows, AcceptedHolds, EnoughSuffices, ReachIsWalk};
+ghost use Rattle.proof_script.specs.Laws.{AcceptedFollows, AcceptedHolds, EnoughSuffices, ReachIsWalk, SomeFinding};
 
 /// Where the verdict is a plan, the walk along the steps gives it, each obligation is valid, and there is
 /// one certificate for each; and the property of each step holds in all executions of its program.
@@ -8,9 +8,11 @@ pub fn verdict_laws()
     ensures holds { AcceptedHolds }
 {}
 
-/// How far steps go by their rules is what the walk along them says; and no search ends for want of units
-/// where the budget is at least what always suffices for all obligations.
+/// How far steps go by their rules is what the walk along them says; no search ends for want of units where
+/// the budget is at least what always suffices for all obligations; and whatever the budget, there is
+/// something for a search to find of each document.
 pub fn search_laws()
     ensures walk { ReachIsWalk }
     ensures enough { EnoughSuffices }
+    ensures some { SomeFinding }
 {}

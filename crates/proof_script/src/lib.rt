@@ -5,6 +5,7 @@ mod adding;
 mod checking;
 mod finding;
 mod laws;
+mod planning;
 mod plans;
 mod programs;
 mod proving;
@@ -13,5 +14,6 @@ mod walking;
 
 pub use checking::check;
 pub use laws::{search_laws, verdict_laws};
+pub use planning::walk;
 pub use plans::{Plan, Proof, ScriptError, StepFault};
 pub use proving::prove;

@@ -21,7 +21,7 @@ use step_rules::{has_defined, step_rule};
 use unity_base::Held;
 
 // A condition of a rule fails, or at a proof's end its `defined` step is missing.
-fn fault(program: u32, step: Option<u32>, code: Code) -> ScriptError
+pub(crate) fn fault(program: u32, step: Option<u32>, code: Code) -> ScriptError
     ensures { result ≡ ScriptError.Step (rule_fault program step code) }
 {
     ScriptError::Step(StepFault {

@@ -1,4 +1,6 @@
+use Rattle.tree_search.proofs.EndsLaws.{search-ends}
 use Rattle.proof_script.proofs.BudgetLaws.{suffices}
+use Rattle.proof_script.proofs.SomeLaws.{some_finding}
 use Rattle.proof_script.proofs.WalkLaws.{reach_is_walk}
 use Rattle.proof_script.proofs.laws.search_laws.Goals as goal
 
@@ -7,3 +9,6 @@ returns-clause-walk c = reach_is_walk
 
 pub returns-clause-enough : goal.returns-clause-enough
 returns-clause-enough c = suffices
+
+pub returns-clause-some : goal.returns-clause-some
+returns-clause-some c = some_finding search-ends
