@@ -5,8 +5,8 @@ use Rattle.std.proofs.Common.{None, option_map, refl, ap, ◌∙◌, subst, arit
 use Rattle.std.specs.Str.{bytes_eq}
 use Rattle.std.proofs.lemmas.Slice.Eq.{bytes_eq-Decides}
 use Rattle.command_words.specs.Numbers.{number_in}
-use Rattle.command_words.specs.Requests.{Request, check, prove, run, replay, positive, one_word, two_words}
-use Rattle.command_words.specs.Requests.{three_words, request_of}
+use Rattle.command_words.specs.Requests.{Request, check, prove, run, replay, demo, positive, several, one_word}
+use Rattle.command_words.specs.Requests.{two_words, three_words, request_of}
 use Rattle.command_words.specs.Laws.{Asks, RequestsAreAsked}
 use Rattle.command_words.proofs.Decimals.{numbers_are_decimal}
 
@@ -35,15 +35,28 @@ prove_asked word budget (Some (suc n)) request e f some =
     subst (Asks (word ∷ budget ∷ [])) is
     (ap (λ w. w ∷ budget ∷ []) e ∙ ap (λ t. codes "prove" ∷ t ∷ []) number.0, omega arith, number.1)
 
-two_asked : (word budget : List ℕ) (request : Request) → two_words word budget ≡ Some request →
-    Asks (word ∷ budget ∷ []) request
-two_asked word budget request e = go (bytes_eq word (codes "prove")) refl e
+demo_asked : (word places : List ℕ) (found : Option ℕ) (request : Request) → word ≡ codes "demo" →
+    number_in 64 places ≡ found → option_map demo (several found) ≡ Some request → Asks (word ∷ places ∷ []) request
+demo_asked word places None request e f some = cc
+demo_asked word places (Some zero) request e f some = cc
+demo_asked word places (Some (suc zero)) request e f some = cc
+demo_asked word places (Some (suc (suc n))) request e f some =
+    let number = (numbers_are_decimal 64 (suc (suc n)) places (omega arith)).0 f in
+    let is : demo (suc (suc n)) ≡ request = cc in
+    subst (Asks (word ∷ places ∷ [])) is
+    (ap (λ w. w ∷ places ∷ []) e ∙ ap (λ t. codes "demo" ∷ t ∷ []) number.0, omega arith, number.1)
+
+two_asked : (word number : List ℕ) (request : Request) → two_words word number ≡ Some request →
+    Asks (word ∷ number ∷ []) request
+two_asked word number request e = go (bytes_eq word (codes "prove")) refl (bytes_eq word (codes "demo")) refl e
   where
-    go : (b : Bool) → bytes_eq word (codes "prove") ≡ b →
-        cond b (option_map prove (positive (number_in 1000000 budget))) None ≡ Some request →
-        Asks (word ∷ budget ∷ []) request
-    go true h some = prove_asked word budget (number_in 1000000 budget) request (same_bytes word _ h) refl some
-    go false h some = cc
+    go : (b : Bool) → bytes_eq word (codes "prove") ≡ b → (c : Bool) → bytes_eq word (codes "demo") ≡ c →
+        cond b (option_map prove (positive (number_in 1000000 number)))
+        (cond c (option_map demo (several (number_in 64 number))) None) ≡ Some request →
+        Asks (word ∷ number ∷ []) request
+    go true h c k some = prove_asked word number (number_in 1000000 number) request (same_bytes word _ h) refl some
+    go false h true k some = demo_asked word number (number_in 64 number) request (same_bytes word _ k) refl some
+    go false h false k some = cc
 
 run_asked : (word program steps : List ℕ) (found : Option ℕ) (request : Request) → word ≡ codes "run" →
     number_in 1000000 steps ≡ found → option_map (run program) found ≡ Some request →
@@ -68,13 +81,18 @@ three_asked word program steps request e = go (bytes_eq word (codes "run")) refl
 words_asked : (words : List (List ℕ)) (request : Request) → request_of words ≡ Some request → Asks words request
 words_asked [] request e = cc
 words_asked (word ∷ []) request e = one_asked word request e
-words_asked (word ∷ budget ∷ []) request e = two_asked word budget request e
+words_asked (word ∷ number ∷ []) request e = two_asked word number request e
 words_asked (word ∷ program ∷ steps ∷ []) request e = three_asked word program steps request e
 words_asked (word ∷ program ∷ steps ∷ other ∷ rest) request e = cc
 
 more_than_none : (budget : ℕ) → 1 ≤ budget → option_map prove (positive (Some budget)) ≡ Some (prove budget)
 more_than_none zero h = absurd (omega (arith, h))
 more_than_none (suc n) h = refl
+
+more_than_one : (places : ℕ) → 2 ≤ places → option_map demo (several (Some places)) ≡ Some (demo places)
+more_than_one zero h = absurd (omega (arith, h))
+more_than_one (suc zero) h = absurd (omega (arith, h))
+more_than_one (suc (suc n)) h = refl
 
 asking_words : (words : List (List ℕ)) (request : Request) → Asks words request → request_of words ≡ Some request
 asking_words words check h = ap request_of h
@@ -87,6 +105,11 @@ asking_words words (run program steps) h =
     ap request_of h.0
     ∙ ap (option_map (run program)) ((numbers_are_decimal 1000000 steps (decimal steps) (omega arith)).1 (refl, h.1))
 asking_words words replay h = ap request_of h
+asking_words words (demo places) h =
+    ap request_of h.0
+    ∙ ap (λ n. option_map demo (several n))
+    ((numbers_are_decimal 64 places (decimal places) (omega arith)).1 (refl, h.2))
+    ∙ more_than_one places h.1
 
 pub requests_are_asked : RequestsAreAsked
 requests_are_asked words request = (words_asked words request, asking_words words request)

@@ -1,5 +1,5 @@
 // Numbers among the words.
-ghost use Rattle.std.specs.Prelude.{◌≡◌, ◌<◌, ◌^◌};
+ghost use Rattle.std.specs.Prelude.{◌≡◌, ◌<◌, ◌≤◌, ◌^◌, IfSome};
 ghost use Rattle.std.specs.List.{list_all};
 ghost use Rattle.command_words.specs.Numbers as numbers;
 
@@ -35,7 +35,8 @@ fn is_plain(word: &[u8]) -> bool
 
 /// The number that a word is, where it is no greater than `most`.
 pub(crate) fn number_in(most: u64, word: &str) -> Option<u64>
-    ensures { result ≡ numbers.number_in most word.now }
+    ensures value { result ≡ numbers.number_in most word.now }
+    ensures within { IfSome result (λ number. number ≤ most) }
 {
     if !is_plain(word.as_bytes()) {
         return None;

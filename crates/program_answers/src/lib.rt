@@ -5,3 +5,4 @@
 mod answers;
 
 pub use answers::{ACCEPTED, COUNT, NOTHING, Row, answer, edited, status_of, wrong_answers};
+pub use unity_cli::{Status, make_demo};

@@ -1,8 +1,7 @@
 // Searches for certificates.
-use program_answers::{ACCEPTED, COUNT, Row, answer, edited, wrong_answers};
+use program_answers::{ACCEPTED, COUNT, Row, Status, answer, edited, make_demo, wrong_answers};
 use std::alloc::{AllocError, Global};
 use std::test::Fail;
-use unity_cli::Status;
 
 /// Two numbers that change places; the word `certificates` stands in a comment alone.
 const SWAP: &str = "unity 1
@@ -77,7 +76,17 @@ fn refusals_of_searches(rt: HostRuntime) -> Result<(), Fail> {
 /// What `check` says of the document that `prove` writes for this one, whose text before the word
 /// `certificates` is `front`.
 fn proved(alloc: Global, document: &str, front: &str) -> Result<String, AllocError> {
-    let (status, text) = answer(alloc, "prove 1000000", document.as_bytes(), 0, 0)?;
+    proved_by(alloc, "prove 1000000", document, front)
+}
+
+/// The same, by these words.
+fn proved_by(
+    alloc: Global,
+    words: &str,
+    document: &str,
+    front: &str,
+) -> Result<String, AllocError> {
+    let (status, text) = answer(alloc, words, document.as_bytes(), 0, 0)?;
     let whole = edited(alloc, text.as_str(), front, "")?;
     if status != Status::Done || !whole.starts_with("\ncertificates\n1: ") {
         return Ok(text);
@@ -91,6 +100,32 @@ fn proved_documents_are_accepted(rt: HostRuntime) -> Result<(), Fail> {
     assert_eq!(rt; proved(rt.alloc(), SWAP, SWAP)?.as_str(), SWAP_ACCEPTED);
     let (front, _) = COUNT.split_once("certificates").unwrap_or((COUNT, ""));
     assert_eq!(rt; proved(rt.alloc(), COUNT, front)?.as_str(), ACCEPTED);
+    Ok(())
+}
+
+/// No even number is odd. What is enough is 2 leaves of 257 units for the first obligation, one leaf of 258
+/// for the second, whose two facts clash, and 6 for the third: 2,320 units together. Where the plain tree
+/// splits ranges of so many values instead, no budget suffices.
+const EVEN: &str = "unity 1
+program Even
+declare
+  x : 0..1000000000
+  y : 0..1000000000
+assign
+  stay: x := x
+end
+proof Even
+  safe: defined by text;
+  odd: invariant not (2 * x = 2 * y + 1) by text;
+end
+";
+
+#[test]
+fn a_budget_of_what_is_enough(rt: HostRuntime) -> Result<(), Fail> {
+    assert_eq!(rt;
+        proved_by(rt.alloc(), "prove 2320", EVEN, EVEN)?.as_str(),
+        "accepted 2 steps 3 obligations\nEven.safe defined\nEven.odd invariant\n"
+    );
     Ok(())
 }
 
@@ -131,6 +166,7 @@ const VALID: &[&str] = &[
     "((b => c) and b) => c",
     "((b => x <= 3) and (not b => x <= 5)) => x <= 5",
     "(all i : 0..2 :: x = i => x <= i)",
+    "(all i : 0..9 :: x = i => x <= i)",
     "(any i : 0..9 :: x = i)",
     "(sum i : 1..3 :: x) = 3 * x",
     "(all i : 0..9 :: i <= x) => x = 9",
@@ -197,5 +233,77 @@ fn false_claims(rt: HostRuntime) -> Result<(), Fail> {
             "of {claim}"
         );
     }
+    Ok(())
+}
+
+/// The ring of two places.
+const RING_OF_TWO: &str = "unity 1
+program Ring
+declare
+  at : 0..1
+initially
+  at = 1
+assign
+  <[] i : 1..1 :: pass: at := i - 1 if at = i |>
+  [] wrap: at := 1 if at = 0
+end
+proof Ring
+  safe: defined by text;
+  step(m : 1..1): true and at = m ensures (true and at < m) or at = 0 by text with pass[m];
+  goal: true leadsto at = 0 by induct(m : 1..1, at, true, at = 0, from step[m]);
+  home: at = 0 ensures at = 1 by text with wrap;
+  again: true leadsto at = 1 by trans(from goal, from home);
+end
+";
+
+#[test]
+fn bytes_of_rings(rt: HostRuntime) -> Result<(), Fail> {
+    let two = make_demo(rt.alloc(), 2)?;
+    assert_eq!(rt;
+        String::from_utf8_lossy(rt.alloc(), &two)?.as_str(),
+        RING_OF_TWO
+    );
+    assert_eq!(rt; make_demo(rt.alloc(), 10)?.len(), 472);
+    assert_eq!(rt; make_demo(rt.alloc(), 11)?.len(), 480);
+    Ok(())
+}
+
+/// What `demo` writes.
+const SHOWN: &[(&str, &str)] = &[
+    (
+        "demo 2",
+        "ring 2 bytes 472
+accepted 5 steps 10 obligations
+Ring.safe defined
+Ring.step ensures
+Ring.goal leadsto 1
+Ring.home ensures
+Ring.again leadsto 2
+",
+    ),
+    (
+        "demo 16",
+        "ring 16 bytes 480
+accepted 5 steps 66 obligations
+Ring.safe defined
+Ring.step ensures
+Ring.goal leadsto 15
+Ring.home ensures
+Ring.again leadsto 16
+",
+    ),
+];
+
+#[test]
+fn rings_are_proved(rt: HostRuntime) -> Result<(), Fail> {
+    for (words, text) in SHOWN {
+        // The source would fail at its first read, which does not come.
+        let (status, written) = answer(rt.alloc(), words, b"", 1, 0)?;
+        assert_eq!(rt; status, Status::Done, "of {words}");
+        assert_eq!(rt; written.as_str(), *text, "of {words}");
+    }
+    let (status, written) = answer(rt.alloc(), "demo 2", b"", 0, 1)?;
+    assert!(rt; status == Status::WriteFault);
+    assert_eq!(rt; written.as_str(), "");
     Ok(())
 }

@@ -3,3 +3,5 @@ pub mod Accepted
 pub mod OneAnswers
 pub mod Told
 pub mod Searched
+pub mod SomeAnswers
+pub mod Shown

@@ -21,7 +21,7 @@ use Rattle.proof_script.specs.Verdicts.{verdict_of}
 use Rattle.written_certificates.specs.Certificates.{certificates_of}
 use Rattle.answer_texts.specs.Refusals.{fault_text}
 use Rattle.answer_texts.specs.Verdicts.{accepted_text, rejected_text}
-use Rattle.command_words.specs.Requests.{check, prove, run, replay}
+use Rattle.command_words.specs.Requests.{check, prove, run, replay, demo}
 use Rattle.unity_parser.proofs.Readings.{one_document}
 use Rattle.unity_cli.specs.declared.status.Status.{Status}
 use Rattle.unity_cli.specs.Answer.{greatest_size, IsRead, IsBad, too_long, no_reading, IsAccepted, IsRejected}
@@ -416,3 +416,4 @@ one_answer (Some (prove budget)) any bytes status other text more a b = absurd a
 one_answer (Some (run program steps)) any bytes status other text more a b =
     one_ran bytes program steps status other text more a b
 one_answer (Some replay) any bytes status other text more a b = one_replayed bytes status other text more a b
+one_answer (Some (demo places)) any bytes status other text more a b = absurd any

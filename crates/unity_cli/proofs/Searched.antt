@@ -8,12 +8,12 @@ use Rattle.proof_script.specs.declared.plans.Proof.{Proof}
 use Rattle.proof_script.specs.declared.plans.ScriptError.{ScriptError}
 use Rattle.proof_script.specs.Proving.{Finds, IsProved}
 use Rattle.certificate_texts.specs.Certificates.{certificates_text}
-use Rattle.unity_cli.specs.declared.judge.Answer.{Answer as Told}
+use Rattle.unity_cli.specs.declared.finding.Found.{Found}
 use Rattle.unity_cli.specs.declared.reading.Input.{Input}
 use Rattle.unity_cli.specs.declared.reading.Reading.{Reading}
 use Rattle.unity_cli.specs.declared.status.Status.{Status}
 use Rattle.unity_cli.specs.Answer.{greatest_size, greatest_bare_size, front, Checked, IsAccepted, IsFinding, Searched}
-use Rattle.unity_cli.specs.Answering.{IsSearchedIn}
+use Rattle.unity_cli.specs.Answering.{HasVerdict, IsSearchedIn}
 use Rattle.unity_cli.specs.Input.{AreKept, IsReadAs}
 use Rattle.unity_cli.proofs.Told.{sound_core}
 
@@ -43,22 +43,28 @@ finds_told bytes budget r finding told text h e is = record {
 
 -- the text with certificates that were found
 pub found_told : (bytes : List ℕ) (budget : ℕ) (r : Reading) (plan : Plan) (certs : List Cert) (before : List ℕ)
-    {E : Type 0} (result : Result Told E) → IsProved r.core budget plan certs →
-    before ≡ front bytes r.document.certificates → IfOk result (λ a. a.status ≡ Status.Done) →
-    IfOk result (λ a. a.text.items ≡ before ++ 10 ∷ certificates_text certs) →
-    IfOk result (λ a. (told : List ℕ) × IsAccepted a.text.items told) → IfOk result (IsSearchedIn budget bytes r)
+    {E : Type 0} (result : Result Found E) → IsProved r.core budget plan certs →
+    before ≡ front bytes r.document.certificates → IfOk result (λ f. f.answer.status ≡ Status.Done) →
+    IfOk result (λ f. f.answer.text.items ≡ before ++ 10 ∷ certificates_text certs) →
+    IfOk result (λ f. IsAccepted f.answer.text.items f.verdict.items) →
+    IfOk result (λ f. IsSearchedIn budget bytes r f.answer)
 found_told bytes budget r plan certs before (Err e) proved front_is done text_is accepted = tt
-found_told bytes budget r plan certs before (Ok a) proved front_is done text_is accepted = λ is.
-    subst (λ s. Searched bytes budget s a.text.items) (sym done) (record {
+found_told bytes budget r plan certs before (Ok f) proved front_is done text_is accepted = λ is.
+    subst (λ s. Searched bytes budget s f.answer.text.items) (sym done) (record {
       document = r.document;
       read = is.read;
       plan = plan;
       certs = certs;
       proved = subst (λ c. IsProved c budget plan certs) is.core_is proved;
       text_is = text_is ∙ ap (λ t. t ++ 10 ∷ certificates_text certs) front_is;
-      verdict_text = accepted.0;
-      accepted = accepted.1;
+      verdict_text = f.verdict.items;
+      accepted = accepted;
     })
+
+pub found_verdict : {E : Type 0} (result : Result Found E) →
+    IfOk result (λ f. IsAccepted f.answer.text.items f.verdict.items) → IfOk result HasVerdict
+found_verdict (Err e) accepted = tt
+found_verdict (Ok f) accepted = λ done. accepted
 
 pub bad_searched : (bytes : List ℕ) (budget : ℕ) (status : Status) (text meant : List ℕ) →
     status ≡ Status.BadDocument → text ≡ meant → Searched bytes budget Status.BadDocument meant →

@@ -1,5 +1,5 @@
 -- What the program answers.
-use Rattle.std.specs.Prelude.{◌≡◌, ◌<◌, ◌≤◌, ℕ, ℤ, List, ◌∷◌, [], ◌++◌, codes, length, take, Bool, true, false}
+use Rattle.std.specs.Prelude.{◌≡◌, ◌<◌, ◌≤◌, ℕ, ℤ, List, ◌∷◌, [], ◌++◌, codes, decimal, length, take, Bool, true, false}
 use Rattle.std.specs.Prelude.{Option, Some, None, Result, Ok, Err}
 use Rattle.std.specs.Io.KnownBytes.{Appends}
 use Rattle.unity_base.specs.Streams.{Was, AppendsPart}
@@ -30,7 +30,8 @@ use Rattle.proof_script.specs.Verdicts.{verdict_of}
 use Rattle.written_certificates.specs.Certificates.{certificates_of}
 use Rattle.answer_texts.specs.Refusals.{fault_text, refusal_text}
 use Rattle.answer_texts.specs.Verdicts.{accepted_text, rejected_text}
-use Rattle.command_words.specs.Requests.{Request, check, prove, run, replay}
+use Rattle.ring_documents.specs.Rings.{ring_bytes}
+use Rattle.command_words.specs.Requests.{Request, check, prove, run, replay, demo}
 use Rattle.unity_cli.specs.Reading.{IsReading, IsFirstFault}
 use Rattle.unity_cli.specs.declared.status.Status.{Status}
 
@@ -145,6 +146,30 @@ Searched bytes budget Status.Refuted text = IsRefuted bytes budget text
 Searched bytes budget Status.Budget text = IsSpent bytes budget text
 Searched bytes budget status text = ⊥
 
+-- ---- demo
+
+-- the units of the search for a ring's certificates
+abbrev pub ring_budget : ℕ
+ring_budget = 1000000
+
+-- `ring N bytes LENGTH`, on a line
+abbrev pub ring_line : ℕ → List ℕ
+ring_line places =
+    codes "ring " ++ (decimal places ++ (codes " bytes " ++ (decimal (length (ring_bytes places)) ++ 10 ∷ [])))
+
+-- certificates were found for the ring, and after its line stands what `check` writes of the ring with them
+pub record IsShown (places : ℕ) (text : List ℕ) : Type 0 where
+  pub proved : List ℕ
+  pub found : IsFound (ring_bytes places) ring_budget proved
+  pub verdict : List ℕ
+  pub accepted : IsAccepted proved verdict
+  pub text_is : text ≡ ring_line places ++ verdict
+
+-- what `demo` answers: what `prove` does for the ring, but for the text where certificates were found
+abbrev pub Shown : ℕ → Status → List ℕ → Type 0
+Shown places Status.Done text = IsShown places text
+Shown places status text = Searched (ring_bytes places) ring_budget status text
+
 -- ---- run and replay
 
 -- a program of the document with its core form, an instance at each place, and how its start state is
@@ -230,6 +255,13 @@ Answer (Some check) bytes status text = Checked bytes status text
 Answer (Some (prove budget)) bytes status text = Searched bytes budget status text
 Answer (Some (run program steps)) bytes status text = Ran bytes program steps status text
 Answer (Some replay) bytes status text = Replayed bytes status text
+Answer (Some (demo places)) bytes status text = Shown places status text
+
+-- whether a source is read: it is for all requests but that of a ring, and it is not for words that are none
+abbrev pub reads_source : Option Request → Bool
+reads_source None = false
+reads_source (Some (demo places)) = false
+reads_source request = true
 
 -- the status and the text are an answer for the bytes that were left
 pub record IsAnswer (request : Option Request) (left : Option (List ℕ)) (status : Status) (text : List ℕ) : Type 0 where

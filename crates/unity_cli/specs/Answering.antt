@@ -11,9 +11,11 @@ use Rattle.unity_cli.specs.declared.reading.Input.{Input}
 use Rattle.unity_cli.specs.declared.reading.Reading.{Reading}
 use Rattle.unity_cli.specs.declared.reading.Text.{Text}
 use Rattle.unity_cli.specs.declared.judge.Answer.{Answer as Told}
+use Rattle.unity_cli.specs.declared.finding.Found.{Found}
 use Rattle.unity_cli.specs.declared.status.Status.{Status}
 use Rattle.unity_cli.specs.Status.{HasText}
-use Rattle.unity_cli.specs.Answer.{greatest_size, greatest_bare_size, most_bytes, Answer, Checked, Searched}
+use Rattle.unity_cli.specs.Answer.{greatest_size, greatest_bare_size, most_bytes, Answer, Checked, IsAccepted}
+use Rattle.unity_cli.specs.Answer.{Searched}
 use Rattle.unity_cli.specs.Input.{AreKept, IsInput, IsReadAs, IsText}
 
 -- the status and the text are what `check` answers
@@ -28,6 +30,10 @@ IsSearchedFor budget kept input a = (bytes : List ℕ) → IsInput greatest_bare
 -- of a document
 abbrev pub IsSearchedIn : ℕ → List ℕ → Reading → Told → Type 0
 IsSearchedIn budget bytes r a = IsReadAs greatest_bare_size bytes r → Searched bytes budget a.status a.text.items
+
+-- with a document's text stands what `check` writes of it
+abbrev pub HasVerdict : Found → Type 0
+HasVerdict f = f.answer.status ≡ Status.Done → IsAccepted f.answer.text.items f.verdict.items
 
 -- an answer for these bytes was told whole, or a front part of it
 pub record Telling (request : Request) (bytes : List ℕ) (old new : Option (List ℕ)) (status : Status) : Type 0 where

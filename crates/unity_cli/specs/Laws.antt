@@ -1,12 +1,13 @@
--- A law of the answers, as a statement.
+-- Laws of the answers, as statements.
 use Rattle.std.specs.Prelude.{◌≡◌, ℕ, List, Option, Some}
-use Rattle.command_words.specs.Requests.{Request, prove}
+use Rattle.command_words.specs.Requests.{Request, prove, demo}
 use Rattle.unity_cli.specs.declared.status.Status.{Status}
 use Rattle.unity_cli.specs.Answer.{Answer}
 
--- all but a search have no choice
+-- all but a search have no choice; that of a ring is one
 abbrev pub IsDetermined : Option Request → Type 0
 IsDetermined (Some (prove budget)) = ⊥
+IsDetermined (Some (demo places)) = ⊥
 IsDetermined request = Unit {0}
 
 -- then words and bytes have at most one status and text
@@ -14,3 +15,10 @@ abbrev pub OneAnswer : Type 0
 OneAnswer = (request : Option Request) → IsDetermined request → (bytes : List ℕ) (status other : Status)
     (text more : List ℕ) → Answer request bytes status text → Answer request bytes other more →
     (status ≡ other) × (text ≡ more)
+
+-- and they have some
+abbrev pub HasAnswer : Option Request → List ℕ → Type 0
+HasAnswer request bytes = (status : Status) × (text : List ℕ) × Answer request bytes status text
+
+abbrev pub SomeAnswer : Type 0
+SomeAnswer = (request : Option Request) → IsDetermined request → (bytes : List ℕ) → HasAnswer request bytes

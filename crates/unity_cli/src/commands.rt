@@ -1,7 +1,7 @@
 // Answering a command.
 ghost use Rattle.std.specs.Prelude.{◌≡◌, ℕ, List, Some};
 ghost use Rattle.unity_base.specs.Streams.{IsTold};
-ghost use Rattle.command_words.specs.Requests.{check, prove, meant};
+ghost use Rattle.command_words.specs.Requests.{HasPlaces, check, prove, meant};
 ghost use Rattle.unity_cli.specs.Answer as answers;
 ghost use Rattle.unity_cli.specs.Answering.{Telling, TellsInput, TellsText};
 ghost use Rattle.unity_cli.specs.Input.{AreKept, IsInput, IsSomeInput, IsSomeText};
@@ -10,6 +10,7 @@ use crate::finding::find;
 use crate::judge::judge;
 use crate::reading::{Input, Text};
 use crate::running::{write_replay, write_run};
+use crate::showing::write_demo;
 use crate::status::Status;
 use crate::telling::write_answer;
 use command_words::Command;
@@ -35,7 +36,8 @@ pub fn most_bytes(command: &Command) -> usize
 /// Writes what the command answers for what a source gave. Only a search needs the bytes themselves; the other
 /// commands let them go first.
 pub fn write_command<K: Sink>(alloc: Global, command: &Command, text: Text, out: &mut K) -> Status
-    requires { IsSomeText (answers.most_bytes (Some (meant command.now))) text }
+    requires text { IsSomeText (answers.most_bytes (Some (meant command.now))) text }
+    requires places { HasPlaces command.now }
     ensures told { TellsText (meant command.now) text (K.written out.old) (K.written out.new) result }
     ensures nothing { result ≡ Status.WantOfMemory → out.new ≡ out.old }
     ensures never { result ≡ Status.ReadFault → ⊥ }
@@ -48,6 +50,7 @@ pub fn write_command<K: Sink>(alloc: Global, command: &Command, text: Text, out:
             write_run(alloc, program, *steps, &input_of(text), out)
         }
         Command::Replay => write_replay(alloc, &input_of(text), out),
+        Command::Demo { places } => write_demo(alloc, *places, out),
     }
 }
 
@@ -94,7 +97,7 @@ fn write_finding<K: Sink>(
     ensures cause { IsTold (K.faults out.old) (K.faults out.new) (result ≡ Status.WriteFault) }
 {
     match find(alloc, budget, kept, input) {
-        Ok(answer) => write_answer(&answer, out),
+        Ok(found) => write_answer(&found.answer, out),
         Err(_) => Status::WantOfMemory,
     }
 }

@@ -1,8 +1,8 @@
 // Finding certificates for the proofs of a document.
-ghost use Rattle.std.specs.Prelude.{◌≡◌, ◌++◌, ◌∷◌, List, ℕ, true, IfOk};
+ghost use Rattle.std.specs.Prelude.{◌≡◌, ◌++◌, ◌∷◌, List, ℕ, IfOk, IfSome};
 ghost use Rattle.certificate_texts.specs.Certificates.{certificates_text};
 ghost use Rattle.unity_cli.specs.Answer.{IsAccepted, front, greatest_bare_size};
-ghost use Rattle.unity_cli.specs.Answering.{IsSearchedFor, IsSearchedIn};
+ghost use Rattle.unity_cli.specs.Answering.{HasVerdict, IsSearchedFor, IsSearchedIn};
 ghost use Rattle.unity_cli.specs.Input.{AreKept, IsInput, IsReadAs};
 
 use crate::judge::{Answer, judge};
@@ -19,14 +19,30 @@ use unity_syntax::Document;
 /// The greatest number of bytes of a text that is checked.
 const GREATEST_SIZE: usize = 67_108_864;
 
+/// What a search gives.
+#[derive(Drop)]
+pub struct Found {
+    /// What `prove` answers.
+    pub answer: Answer,
+    /// Where that is a document with certificates, what `check` writes of it; else nothing.
+    pub verdict: Vec<u8>,
+}
+
 /// What `prove BUDGET` answers for the input, with its bytes where it is a document.
-pub fn find(alloc: Global, budget: u64, kept: &[u8], input: &Input) -> Result<Answer, AllocError>
+pub fn find(alloc: Global, budget: u64, kept: &[u8], input: &Input) -> Result<Found, AllocError>
     requires { (bytes : List ℕ) × IsInput greatest_bare_size bytes input.now × AreKept input.now kept.now bytes }
-    ensures { IfOk result (IsSearchedFor budget kept.now input.now) }
+    ensures answer { IfOk result (λ f. IsSearchedFor budget kept.now input.now f.answer) }
+    ensures verdict { IfOk result HasVerdict }
 {
     match input {
-        Input::TooLong => Ok(Answer::bad(input_refusal(alloc, Code::TooLong)?)),
-        Input::Fault { code, at } => Ok(Answer::bad(document_fault(alloc, *code, *at)?)),
+        Input::TooLong => Ok(Found {
+            answer: Answer::bad(input_refusal(alloc, Code::TooLong)?),
+            verdict: Vec::new(alloc),
+        }),
+        Input::Fault { code, at } => Ok(Found {
+            answer: Answer::bad(document_fault(alloc, *code, *at)?),
+            verdict: Vec::new(alloc),
+        }),
         Input::Document(reading) => find_for(alloc, budget, kept, reading.get()),
     }
 }
@@ -37,9 +53,10 @@ fn find_for(
     budget: u64,
     bytes: &[u8],
     reading: &Reading,
-) -> Result<Answer, AllocError>
+) -> Result<Found, AllocError>
     requires { IsReadAs greatest_bare_size bytes.now reading.now }
-    ensures { IfOk result (IsSearchedIn budget bytes.now reading.now) }
+    ensures answer { IfOk result (λ f. IsSearchedIn budget bytes.now reading.now f.answer) }
+    ensures verdict { IfOk result HasVerdict }
 {
     let words = reading.core.words.as_slice();
     match prove(alloc, &reading.core, budget) {
@@ -55,17 +72,20 @@ fn find_for(
                 variables,
                 values,
             },
-        ) => Ok(Answer {
-            status: Status::Refuted,
-            text: refuted_text(
-                alloc,
-                &reading.core,
-                program,
-                step,
-                obligation,
-                variables.as_slice(),
-                values.as_slice(),
-            )?,
+        ) => Ok(Found {
+            answer: Answer {
+                status: Status::Refuted,
+                text: refuted_text(
+                    alloc,
+                    &reading.core,
+                    program,
+                    step,
+                    obligation,
+                    variables.as_slice(),
+                    values.as_slice(),
+                )?,
+            },
+            verdict: Vec::new(alloc),
         }),
         Ok(
             Proof::Budget {
@@ -73,13 +93,19 @@ fn find_for(
                 step,
                 obligation,
             },
-        ) => Ok(Answer {
-            status: Status::Budget,
-            text: budget_text(alloc, words, program, step, obligation, budget)?,
+        ) => Ok(Found {
+            answer: Answer {
+                status: Status::Budget,
+                text: budget_text(alloc, words, program, step, obligation, budget)?,
+            },
+            verdict: Vec::new(alloc),
         }),
-        Err(ScriptError::Step(fault)) => Ok(Answer {
-            status: Status::Rejected,
-            text: rejected(alloc, words, &fault)?,
+        Err(ScriptError::Step(fault)) => Ok(Found {
+            answer: Answer {
+                status: Status::Rejected,
+                text: rejected(alloc, words, &fault)?,
+            },
+            verdict: Vec::new(alloc),
         }),
         Err(ScriptError::Memory) => Err(AllocError),
     }
@@ -97,32 +123,38 @@ fn front_of<'a>(bytes: &'a [u8], document: &Document) -> &'a [u8]
 
 // The text with these certificates after its front, once it is read again and accepted as it is to be
 // written. No text is known that would not be; for one that were not, no answer is given.
-fn accepted_with(alloc: Global, front: &[u8], certs: &[Cert]) -> Result<Answer, AllocError>
-    ensures status { IfOk result (λ a. a.status ≡ Status.Done) }
-    ensures text { IfOk result (λ a. a.text.items ≡ front.now ++ 10 ∷ certificates_text certs.now) }
-    ensures accepted { IfOk result (λ a. (told : List ℕ) × IsAccepted a.text.items told) }
+fn accepted_with(alloc: Global, front: &[u8], certs: &[Cert]) -> Result<Found, AllocError>
+    ensures status { IfOk result (λ f. f.answer.status ≡ Status.Done) }
+    ensures text { IfOk result (λ f. f.answer.text.items ≡ front.now ++ 10 ∷ certificates_text certs.now) }
+    ensures accepted { IfOk result (λ f. IsAccepted f.answer.text.items f.verdict.items) }
 {
     let mut text = Vec::from_slice(alloc, front)?;
     text.push(b'\n')?;
     push_certificates(alloc, certs, &mut text)?;
-    if is_accepted(alloc, &text)? {
-        Ok(Answer {
-            status: Status::Done,
-            text,
-        })
-    } else {
-        Err(AllocError)
+    match verdict_on(alloc, &text)? {
+        Some(verdict) => Ok(Found {
+            answer: Answer {
+                status: Status::Done,
+                text,
+            },
+            verdict,
+        }),
+        None => Err(AllocError),
     }
 }
 
-// Whether `check` accepts a text.
-fn is_accepted(alloc: Global, text: &[u8]) -> Result<bool, AllocError>
-    ensures { IfOk result (λ yes. yes ≡ true → (told : List ℕ) × IsAccepted text.now told) }
+// What `check` writes of a text that it accepts; `None` of another.
+fn verdict_on(alloc: Global, text: &[u8]) -> Result<Option<Vec<u8>>, AllocError>
+    ensures { IfOk result (λ found. IfSome found (λ verdict. IsAccepted text.now verdict.items)) }
 {
     if text.len() > GREATEST_SIZE {
-        return Ok(false);
+        return Ok(None);
     }
     let input = read_bytes(alloc, text)?;
     let answer = judge(alloc, &input)?;
-    Ok(answer.status == Status::Done)
+    if answer.status == Status::Done {
+        Ok(Some(answer.text))
+    } else {
+        Ok(None)
+    }
 }

@@ -1,7 +1,9 @@
-// A law of the answers. The function does nothing: it states it.
-ghost use Rattle.unity_cli.specs.Laws.{OneAnswer};
+// Laws of the answers. The functions do nothing: they state them.
+ghost use Rattle.unity_cli.specs.Laws.{OneAnswer, SomeAnswer};
 
-/// Words and bytes have at most one status and text.
+/// Words and bytes have one status and text, and no other; of words for a search, whose certificates may differ,
+/// nothing is said.
 pub fn one_answer()
-    ensures { OneAnswer }
+    ensures one { OneAnswer }
+    ensures some { SomeAnswer }
 {}

@@ -1,18 +1,19 @@
 // The top call.
-ghost use Rattle.std.specs.Prelude.{◌≡◌, ◌≢◌, ◌⊎◌, ℕ, List, Some, IsNone, IsSome};
+ghost use Rattle.std.specs.Prelude.{◌≡◌, ◌≢◌, ◌⊎◌, ℕ, List, Some, true, false};
 ghost use Rattle.std.specs.Io.KnownBytes.{IsAtEnd};
 ghost use Rattle.unity_base.specs.Streams.{IsTold, IsLongerThan, LeavesRest};
 ghost use Rattle.unity_syntax.specs.declared.document.Document.{Document};
 ghost use Rattle.command_words.specs.Requests.{asked, check};
 ghost use Rattle.unity_cli.specs.Status.{HasText};
 ghost use Rattle.unity_cli.specs.Reading.{IsReading};
-ghost use Rattle.unity_cli.specs.Answer.{most_bytes, Tells, TellsPart};
+ghost use Rattle.unity_cli.specs.Answer.{most_bytes, reads_source, Tells, TellsPart};
 ghost use Rattle.unity_cli.specs.Truth.{ClaimsAreTrue, ProgramsRun, WritesWhatIsTrue};
 
 use crate::commands::{most_bytes, write_command};
 use crate::reading::read_input;
+use crate::showing::write_demo;
 use crate::status::Status;
-use command_words::read_words;
+use command_words::{Command, read_words};
 use std::alloc::Global;
 use unity_base::{Sink, Source, write_all};
 
@@ -40,12 +41,12 @@ pub fn unity<S: Source, K: Sink>(
     ensures runs { result ≡ Status.Done → asked words.now ≡ Some check → (bytes : List ℕ) (d : Document) →
         S.left src.old ≡ Some bytes → IsReading bytes d → ProgramsRun d }
 
-    // For words that are no command the source is not read.
-    ensures untouched { IsNone (asked words.now) → src.new ≡ src.old }
-    ensures not_read { IsNone (asked words.now) → result ≢ Status.ReadFault }
+    // For words that are no command, and for a ring, the source is not read.
+    ensures untouched { reads_source (asked words.now) ≡ false → src.new ≡ src.old }
+    ensures not_read { reads_source (asked words.now) ≡ false → result ≢ Status.ReadFault }
 
     // A source that was read was read to its end, or past the greatest number of bytes for them.
-    ensures end { IsSome (asked words.now) → result ≢ Status.ReadFault → result ≢ Status.WantOfMemory →
+    ensures end { reads_source (asked words.now) ≡ true → result ≢ Status.ReadFault → result ≢ Status.WantOfMemory →
         IsAtEnd (S.left src.new) ⊎ IsLongerThan (most_bytes (asked words.now)) (S.left src.old) }
     ensures rest { LeavesRest (S.left src.old) (S.left src.new) }
 
@@ -59,6 +60,9 @@ pub fn unity<S: Source, K: Sink>(
             Err(_) => Status::WriteFault,
         };
     };
+    if let Command::Demo { places } = command {
+        return write_demo(alloc, places, out);
+    }
     match read_input(alloc, src, most_bytes(&command)) {
         Ok(text) => write_command(alloc, &command, text, out),
         Err(stop) => stop.status(),

@@ -13,10 +13,9 @@ mod unknown;
 mod well_named;
 mod wrong_type;
 
-use program_answers::{answer, status_of};
+use program_answers::{Status, answer, status_of};
 use std::alloc::{AllocError, Global};
 use std::test::Fail;
-use unity_cli::Status;
 
 /// What stands before a row in its document, and what stands after it.
 type Frame = (&'static str, &'static str);

@@ -1,7 +1,6 @@
 // Documents with the first condition of a step that fails, and documents whose steps all stand.
-use program_answers::{Row, wrong_answers};
+use program_answers::{Row, Status, wrong_answers};
 use std::test::Fail;
-use unity_cli::Status;
 
 const STEPS: &[Row] = &[
     // An `unless` after the two steps of the counter: x = 1 goes on to x = 2.

@@ -1,10 +1,9 @@
 // Texts with the answers that the grammar gives them by hand, through the lexer. Of a text that is
 // refused the first part is what stands before the bad token, and the second begins with it.
 use case_tables::Code;
-use program_answers::{ACCEPTED, COUNT, NOTHING, answer};
+use program_answers::{ACCEPTED, COUNT, NOTHING, Status, answer};
 use std::alloc::{AllocError, Global};
 use std::test::Fail;
-use unity_cli::Status;
 use unity_lexer::lex;
 use unity_parser::parse;
 use unity_syntax::SyntaxFault;

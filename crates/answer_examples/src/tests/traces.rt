@@ -1,7 +1,6 @@
 // Traces of programs and of schedules, and what has none.
-use program_answers::{COUNT, Row, answer, wrong_answers};
+use program_answers::{COUNT, Row, Status, answer, wrong_answers};
 use std::test::Fail;
-use unity_cli::Status;
 
 const UNION: &str = "unity 1
 program Count

@@ -1,7 +1,6 @@
 // Words, and documents with short answers.
-use program_answers::{ACCEPTED, COUNT, NOTHING, Row, answer, wrong_answers};
+use program_answers::{ACCEPTED, COUNT, NOTHING, Row, Status, answer, wrong_answers};
 use std::test::Fail;
-use unity_cli::Status;
 
 /// Words with the first document, where the read and the write of these numbers fail.
 const WORDS: &[(&str, u64, u64, Status, &str)] = &[
@@ -15,6 +14,13 @@ const WORDS: &[(&str, u64, u64, Status, &str)] = &[
     ("prove 1000001", 0, 0, Status::BadWords, "bad words\n"),
     ("prove 5 5", 0, 0, Status::BadWords, "bad words\n"),
     ("replay now", 0, 0, Status::BadWords, "bad words\n"),
+    ("demo", 0, 0, Status::BadWords, "bad words\n"),
+    ("demo 0", 0, 0, Status::BadWords, "bad words\n"),
+    ("demo 1", 0, 0, Status::BadWords, "bad words\n"),
+    ("demo 02", 0, 0, Status::BadWords, "bad words\n"),
+    ("demo 65", 0, 0, Status::BadWords, "bad words\n"),
+    ("demo 2 2", 0, 0, Status::BadWords, "bad words\n"),
+    ("demo two", 0, 0, Status::BadWords, "bad words\n"),
     ("run", 0, 0, Status::BadWords, "bad words\n"),
     ("run Count", 0, 0, Status::BadWords, "bad words\n"),
     ("run 5 Count", 0, 0, Status::BadWords, "bad words\n"),
@@ -45,6 +51,7 @@ const WORDS: &[(&str, u64, u64, Status, &str)] = &[
     ("run None 3", 0, 1, Status::WriteFault, ""),
     ("check now", 1, 1, Status::WriteFault, ""),
     ("run Count 05", 1, 0, Status::BadWords, "bad words\n"),
+    ("demo 1", 1, 0, Status::BadWords, "bad words\n"),
 ];
 
 const DOCUMENTS: &[Row] = &[

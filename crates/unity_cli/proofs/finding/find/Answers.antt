@@ -5,8 +5,8 @@ use Rattle.unity_cli.proofs.Told.{fault_bad}
 use Rattle.unity_cli.proofs.Searched.{bad_searched}
 use Rattle.unity_cli.proofs.finding.find.Goals as goal
 
-pub returns-in_ok-document_fault-in-Fault : goal.returns-in_ok-document_fault-in-Fault
-returns-in_ok-document_fault-in-Fault c = λ bytes is kept.
+pub returns-in_ok-document_fault-in-Fault-clause-answer : goal.returns-in_ok-document_fault-in-Fault-clause-answer
+returns-in_ok-document_fault-in-Fault-clause-answer c = λ bytes is kept.
     bad_searched bytes c.args.budget c.bad-in-Fault.result.status c.bad-in-Fault.result.text.items
     (fault_text c.in-Fault.code c.in-Fault.at) c.bad-in-Fault.ensures.status
     (c.bad-in-Fault.ensures.text ∙ c.in_ok-document_fault-in-Fault.ensures)

@@ -2,25 +2,28 @@ use Rattle.std.proofs.Common.{◌≡◌, ℕ, List, ◌∷◌, ◌++◌, Ok, IfO
 use Rattle.proof_script.specs.Proving.{Finds}
 use Rattle.certificate_texts.specs.Certificates.{certificates_text}
 use Rattle.certificate_texts.specs.Findings.{budget_text, refuted_text}
-use Rattle.unity_cli.proofs.Searched.{searched_core, finds_told, found_told}
+use Rattle.unity_cli.proofs.Searched.{searched_core, finds_told, found_told, found_verdict}
 use Rattle.unity_cli.proofs.finding.find_for.Goals as goal
 
 pub prove-requires : goal.prove-requires
 prove-requires c = record { document = searched_core c.args.bytes.now c.args.reading.now c.requires }
 
-pub returns-in-Ok-Proved : goal.returns-in-Ok-Proved
-returns-in-Ok-Proved c =
+pub returns-in-Ok-Proved-clause-answer : goal.returns-in-Ok-Proved-clause-answer
+returns-in-Ok-Proved-clause-answer c =
     found_told c.args.bytes.now c.args.budget c.args.reading.now c.in-Ok-Proved._plan c.in-Ok-Proved.certs
     c.front_of-front.result.now c.accepted_with.result
     (subst (λ p. Finds c.args.reading.now.core c.args.budget (Ok p)) c.in-Ok-Proved.field-0-is c.in-Ok-Proved.ensures)
     c.front_of-front.ensures
     c.accepted_with.ensures.status
-    (subst (λ cs. IfOk c.accepted_with.result (λ a. a.text.items ≡ c.front_of-front.result.now
+    (subst (λ cs. IfOk c.accepted_with.result (λ f. f.answer.text.items ≡ c.front_of-front.result.now
     ++ 10 ∷ certificates_text cs)) c.as_slice.ensures c.accepted_with.ensures.text)
     c.accepted_with.ensures.accepted
 
-pub returns-in_ok-refuted_text-in-Ok-Refuted : goal.returns-in_ok-refuted_text-in-Ok-Refuted
-returns-in_ok-refuted_text-in-Ok-Refuted c = λ is. record {
+pub returns-in-Ok-Proved-clause-verdict : goal.returns-in-Ok-Proved-clause-verdict
+returns-in-Ok-Proved-clause-verdict c = found_verdict c.accepted_with.result c.accepted_with.ensures.accepted
+
+pub returns-in_ok-refuted_text-in-Ok-Refuted-clause-answer : goal.returns-in_ok-refuted_text-in-Ok-Refuted-clause-answer
+returns-in_ok-refuted_text-in-Ok-Refuted-clause-answer c = λ is. record {
   program = c.in-Ok-Refuted.program;
   step = c.in-Ok-Refuted.step;
   number = c.in-Ok-Refuted.obligation;
@@ -39,8 +42,8 @@ returns-in_ok-refuted_text-in-Ok-Refuted c = λ is. record {
       c.in-Ok-Refuted.obligation c.in-Ok-Refuted.variables zs) c.as_slice-in-Ok-Refuted-2.ensures) is;
 }
 
-pub returns-in_ok-budget_text-in-Ok-Budget : goal.returns-in_ok-budget_text-in-Ok-Budget
-returns-in_ok-budget_text-in-Ok-Budget c = λ is. record {
+pub returns-in_ok-budget_text-in-Ok-Budget-clause-answer : goal.returns-in_ok-budget_text-in-Ok-Budget-clause-answer
+returns-in_ok-budget_text-in-Ok-Budget-clause-answer c = λ is. record {
   program = c.in-Ok-Budget.program;
   step = c.in-Ok-Budget.step;
   number = c.in-Ok-Budget.obligation;

@@ -1,9 +1,10 @@
-use Rattle.std.proofs.Common.{◌∙◌, ◌⊎◌, rules, sym, ap, subst, option_map}
+use Rattle.std.proofs.Common.{◌∙◌, ◌⊎◌, rules, sym, ap, subst, Some, option_map}
 use Rattle.std.specs.Io.KnownBytes.{IsAtEnd}
 use Rattle.unity_base.specs.Streams.{IsLongerThan}
 use Rattle.unity_cli.specs.Answer.{most_bytes}
 use Rattle.unity_cli.specs.Input.{IsTextOf}
 use Rattle.unity_cli.proofs.Told.{bad_words, told_whole, told_part, done_claims, done_runs, done_tells}
+use Rattle.unity_cli.proofs.Shown.{shown_whole, shown_part, ring_is_no_check, others_read}
 use Rattle.command_words.specs.Requests.{meant, asked}
 use Rattle.unity_cli.proofs.top.unity.Goals as goal
 
@@ -22,12 +23,61 @@ returns-in-Err-clause-part g c = λ _. record {
   part = c.in-Err.ensures.part;
 }
 
+pub returns-in-Demo-clause-answer : goal.returns-in-Demo-clause-answer
+returns-in-Demo-clause-answer g c =
+    shown_whole (asked c.args.words.now) c.in-Demo.places (g.S.Source.left c.args.src.now)
+    (g.K.Sink.written c.args.out.now) (g.K.Sink.written c.write_demo.new.out) c.write_demo.result
+    (sym c.read_words.ensures.asked ∙ ap (option_map meant) c.in-Some.is ∙ ap (λ x. Some (meant x)) c.in-Demo.is)
+    c.write_demo.ensures.told
+
+pub returns-in-Demo-clause-part : goal.returns-in-Demo-clause-part
+returns-in-Demo-clause-part g c =
+    shown_part (asked c.args.words.now) c.in-Demo.places (g.S.Source.left c.args.src.now)
+    (g.K.Sink.written c.args.out.now) (g.K.Sink.written c.write_demo.new.out) c.write_demo.result
+    (sym c.read_words.ensures.asked ∙ ap (option_map meant) c.in-Some.is ∙ ap (λ x. Some (meant x)) c.in-Demo.is)
+    c.write_demo.ensures.told
+
+pub returns-in-Demo-clause-safe : goal.returns-in-Demo-clause-safe
+returns-in-Demo-clause-safe g c = λ done is_check. absurd (ring_is_no_check (asked c.args.words.now) c.in-Demo.places
+    (sym c.read_words.ensures.asked ∙ ap (option_map meant) c.in-Some.is ∙ ap (λ x. Some (meant x)) c.in-Demo.is)
+    is_check)
+
+pub returns-in-Demo-clause-runs : goal.returns-in-Demo-clause-runs
+returns-in-Demo-clause-runs g c = λ done is_check. absurd (ring_is_no_check (asked c.args.words.now) c.in-Demo.places
+    (sym c.read_words.ensures.asked ∙ ap (option_map meant) c.in-Some.is ∙ ap (λ x. Some (meant x)) c.in-Demo.is)
+    is_check)
+
+pub returns-in-Demo-clause-bounds : goal.returns-in-Demo-clause-bounds
+returns-in-Demo-clause-bounds g c = λ done is_check. absurd (ring_is_no_check (asked c.args.words.now) c.in-Demo.places
+    (sym c.read_words.ensures.asked ∙ ap (option_map meant) c.in-Some.is ∙ ap (λ x. Some (meant x)) c.in-Demo.is)
+    is_check)
+
+pub returns-in-Ok-read_input-clause-untouched : goal.returns-in-Ok-read_input-clause-untouched
+returns-in-Ok-read_input-clause-untouched g c = λ unread. absurd (others_read (asked c.args.words.now)
+    c.in-Some.command (sym c.read_words.ensures.asked ∙ ap (option_map meant) c.in-Some.is)
+    c.in_default-command.not-Demo unread)
+
+pub returns-in-Ok-read_input-clause-not_read : goal.returns-in-Ok-read_input-clause-not_read
+returns-in-Ok-read_input-clause-not_read g c = λ unread fault. others_read (asked c.args.words.now)
+    c.in-Some.command (sym c.read_words.ensures.asked ∙ ap (option_map meant) c.in-Some.is)
+    c.in_default-command.not-Demo unread
+
+pub returns-in-Err-read_input-clause-untouched : goal.returns-in-Err-read_input-clause-untouched
+returns-in-Err-read_input-clause-untouched g c = λ unread. absurd (others_read (asked c.args.words.now)
+    c.in-Some.command (sym c.read_words.ensures.asked ∙ ap (option_map meant) c.in-Some.is)
+    c.in_default-command.not-Demo unread)
+
+pub returns-in-Err-read_input-clause-not_read : goal.returns-in-Err-read_input-clause-not_read
+returns-in-Err-read_input-clause-not_read g c = λ unread fault. others_read (asked c.args.words.now)
+    c.in-Some.command (sym c.read_words.ensures.asked ∙ ap (option_map meant) c.in-Some.is)
+    c.in_default-command.not-Demo unread
+
 pub returns-in-Ok-read_input-clause-answer : goal.returns-in-Ok-read_input-clause-answer
 returns-in-Ok-read_input-clause-answer g c =
     told_whole (asked c.args.words.now) (meant c.in-Some.command) (g.S.Source.left c.args.src.now)
     c.in-Ok-read_input.text
     (g.K.Sink.written c.args.out.now) (g.K.Sink.written c.write_command.new.out) c.write_command.result
-    (sym c.read_words.ensures ∙ ap (option_map meant) c.in-Some.is)
+    (sym c.read_words.ensures.asked ∙ ap (option_map meant) c.in-Some.is)
     (subst (λ m. IsTextOf m (g.S.Source.left c.args.src.now) c.in-Ok-read_input.text)
     c.most_bytes.ensures c.in-Ok-read_input.ensures.input)
     c.write_command.ensures.told
@@ -37,7 +87,7 @@ returns-in-Ok-read_input-clause-part g c =
     told_part (asked c.args.words.now) (meant c.in-Some.command) (g.S.Source.left c.args.src.now)
     c.in-Ok-read_input.text
     (g.K.Sink.written c.args.out.now) (g.K.Sink.written c.write_command.new.out) c.write_command.result
-    (sym c.read_words.ensures ∙ ap (option_map meant) c.in-Some.is)
+    (sym c.read_words.ensures.asked ∙ ap (option_map meant) c.in-Some.is)
     (subst (λ m. IsTextOf m (g.S.Source.left c.args.src.now) c.in-Ok-read_input.text)
     c.most_bytes.ensures c.in-Ok-read_input.ensures.input)
     c.write_command.ensures.told
@@ -47,7 +97,7 @@ returns-in-Ok-read_input-clause-safe g c =
     done_claims (asked c.args.words.now) (meant c.in-Some.command) (g.S.Source.left c.args.src.now)
     c.in-Ok-read_input.text
     (g.K.Sink.written c.args.out.now) (g.K.Sink.written c.write_command.new.out) c.write_command.result
-    (sym c.read_words.ensures ∙ ap (option_map meant) c.in-Some.is)
+    (sym c.read_words.ensures.asked ∙ ap (option_map meant) c.in-Some.is)
     (subst (λ m. IsTextOf m (g.S.Source.left c.args.src.now) c.in-Ok-read_input.text)
     c.most_bytes.ensures c.in-Ok-read_input.ensures.input)
     c.write_command.ensures.told
@@ -57,7 +107,7 @@ returns-in-Ok-read_input-clause-runs g c =
     done_runs (asked c.args.words.now) (meant c.in-Some.command) (g.S.Source.left c.args.src.now)
     c.in-Ok-read_input.text
     (g.K.Sink.written c.args.out.now) (g.K.Sink.written c.write_command.new.out) c.write_command.result
-    (sym c.read_words.ensures ∙ ap (option_map meant) c.in-Some.is)
+    (sym c.read_words.ensures.asked ∙ ap (option_map meant) c.in-Some.is)
     (subst (λ m. IsTextOf m (g.S.Source.left c.args.src.now) c.in-Ok-read_input.text)
     c.most_bytes.ensures c.in-Ok-read_input.ensures.input)
     c.write_command.ensures.told
@@ -67,7 +117,7 @@ returns-in-Ok-read_input-clause-bounds g c =
     done_tells (asked c.args.words.now) (meant c.in-Some.command) (g.S.Source.left c.args.src.now)
     c.in-Ok-read_input.text
     (g.K.Sink.written c.args.out.now) (g.K.Sink.written c.write_command.new.out) c.write_command.result
-    (sym c.read_words.ensures ∙ ap (option_map meant) c.in-Some.is)
+    (sym c.read_words.ensures.asked ∙ ap (option_map meant) c.in-Some.is)
     (subst (λ m. IsTextOf m (g.S.Source.left c.args.src.now) c.in-Ok-read_input.text)
     c.most_bytes.ensures c.in-Ok-read_input.ensures.input)
     c.write_command.ensures.told
@@ -76,5 +126,5 @@ pub returns-in-Ok-read_input-clause-end : goal.returns-in-Ok-read_input-clause-e
 returns-in-Ok-read_input-clause-end g c = λ some read memory.
     subst (λ m. IsAtEnd (g.S.Source.left c.read_input.new.src) ⊎ IsLongerThan m (g.S.Source.left c.args.src.now))
     (c.most_bytes.ensures
-    ∙ ap most_bytes (sym (sym c.read_words.ensures ∙ ap (option_map meant) c.in-Some.is)))
+    ∙ ap most_bytes (sym (sym c.read_words.ensures.asked ∙ ap (option_map meant) c.in-Some.is)))
     c.in-Ok-read_input.ensures.end

@@ -1,0 +1,126 @@
+-- What is shown of a ring is its answer.
+use Rattle.std.proofs.Common.{◌≡◌, ◌≤◌, ◌-◌, ℕ, List, ◌++◌, length, Bool, true, false, Option, Some, refl, sym, ap}
+use Rattle.std.proofs.Common.{◌∙◌, subst, arith}
+use Rattle.std.proofs.lemmas.Fmt.{length-decimal-le_succ}
+use Rattle.ring_documents.specs.Rings.{ring_bytes}
+use Rattle.ring_documents.proofs.Lengths.{rings_have_lengths}
+use Rattle.command_words.specs.declared.words.Command.{Command}
+use Rattle.command_words.specs.Requests.{Request, check, demo, meant}
+use Rattle.unity_cli.specs.declared.judge.Answer.{Answer as Told}
+use Rattle.unity_cli.specs.declared.reading.Input.{Input}
+use Rattle.unity_cli.specs.declared.status.Status.{Status}
+use Rattle.unity_cli.specs.Status.{HasText}
+use Rattle.unity_cli.specs.Answer.{greatest_bare_size, ring_budget, ring_line, reads_source, Answer, IsAccepted}
+use Rattle.unity_cli.specs.Answer.{Searched, Shown, Tells, TellsPart}
+use Rattle.unity_cli.specs.Answering.{Telling}
+use Rattle.unity_cli.specs.Input.{AreKept, IsInput}
+use Rattle.unity_cli.proofs.Told.{some_bytes}
+use Rattle.unity_cli.proofs.Searched.{are_kept}
+
+-- the bytes of a ring are no more than a search takes
+pub ring_within : (places : ℕ) → places ≤ 64 → length (ring_bytes places) ≤ greatest_bare_size
+ring_within places h =
+    let short = length-decimal-le_succ (places - 1) (omega (arith, h)) in
+    let all = rings_have_lengths places in
+    omega (arith, h, short, all)
+
+-- what is read of them is the ring's document, and they are kept
+pub ring_read : (places : ℕ) → places ≤ 64 → (ring bytes kept : List ℕ) (input : Input) → ring ≡ ring_bytes places →
+    bytes ≡ ring → kept ≡ ring → ((most : ℕ) → length bytes ≤ most → IsInput most bytes input) →
+    IsInput greatest_bare_size (ring_bytes places) input × AreKept input kept (ring_bytes places)
+ring_read places few ring bytes kept input made same held read =
+    let whole : bytes ≡ ring_bytes places = same ∙ made in (
+      subst (λ b. IsInput greatest_bare_size b input) whole
+          (read greatest_bare_size (subst (λ b. length b ≤ greatest_bare_size) (sym whole) (ring_within places few))),
+      subst (λ b. AreKept input b (ring_bytes places)) (sym (held ∙ made)) (are_kept input (ring_bytes places)),
+    )
+
+pub shown_has_text : (places : ℕ) (status : Status) (text : List ℕ) → Shown places status text → HasText status
+shown_has_text places Status.Done text h = tt
+shown_has_text places Status.Rejected text h = tt
+shown_has_text places Status.BadDocument text h = tt
+shown_has_text places Status.Refuted text h = tt
+shown_has_text places Status.Budget text h = tt
+shown_has_text places Status.Undefined text h = tt
+shown_has_text places Status.BadWords text h = tt
+shown_has_text places Status.ReadFault text h = h
+shown_has_text places Status.WriteFault text h = h
+shown_has_text places Status.WantOfMemory text h = h
+
+-- where no certificates were found the answer is that of the search
+pub shown_bare : (places : ℕ) (status : Status) (text : List ℕ) →
+    Searched (ring_bytes places) ring_budget status text → (status ≡ Status.Done → ⊥) → Shown places status text
+shown_bare places Status.Done text h other = absurd (other refl)
+shown_bare places Status.Rejected text h other = h
+shown_bare places Status.BadDocument text h other = h
+shown_bare places Status.Refuted text h other = h
+shown_bare places Status.Budget text h other = h
+shown_bare places Status.Undefined text h other = h
+shown_bare places Status.BadWords text h other = h
+shown_bare places Status.ReadFault text h other = h
+shown_bare places Status.WriteFault text h other = h
+shown_bare places Status.WantOfMemory text h other = h
+
+pub shown_found : (places : ℕ) (a : Told) (verdict text : List ℕ) →
+    Searched (ring_bytes places) ring_budget a.status a.text.items → a.status ≡ Status.Done →
+    IsAccepted a.text.items verdict → text ≡ ring_line places ++ verdict → Shown places Status.Done text
+shown_found places a verdict text h done accepted e = record {
+  proved = a.text.items;
+  found = subst (λ s. Searched (ring_bytes places) ring_budget s a.text.items) done h;
+  verdict = verdict;
+  accepted = accepted;
+  text_is = e;
+}
+
+-- ---- whatever bytes are left
+
+module _ (asked : Option Request) (places : ℕ) (left old new : Option (List ℕ)) (status : Status)
+    (e : asked ≡ Some (demo places)) (tells : (bytes : List ℕ) → Telling (demo places) bytes old new status) where
+  pub shown_whole : HasText status → Tells asked left status old new
+  shown_whole h =
+      let some = some_bytes left in
+      let told = (tells some.0).whole h in
+      record {
+        text = told.0;
+        answer = record {
+          bytes = some.0;
+          were = some.1;
+          allowed = subst (λ a. Answer a some.0 status told.0) (sym e) told.1;
+        };
+        appends = told.2;
+      }
+
+  pub shown_part : status ≡ Status.WriteFault → TellsPart asked left old new
+  shown_part w =
+      let some = some_bytes left in
+      let told = (tells some.0).part w in
+      record {
+        status = told.0;
+        text = told.1;
+        answer = record {
+          bytes = some.0;
+          were = some.1;
+          allowed = subst (λ a. Answer a some.0 told.0 told.1) (sym e) told.2;
+        };
+        part = told.3;
+      }
+
+pub ring_is_no_check : (asked : Option Request) (places : ℕ) → asked ≡ Some (demo places) → asked ≡ Some check → ⊥
+ring_is_no_check asked places e f =
+    let never : ◌≡◌ {A = Option Request} (Some (demo places)) (Some check) = sym e ∙ f in cc
+
+pub ring_reads_nothing : (asked : Option Request) (places : ℕ) → asked ≡ Some (demo places) →
+    reads_source asked ≡ true → ⊥
+ring_reads_nothing asked places e f =
+    let never : ◌≡◌ {A = Bool} false true = sym (ap reads_source e) ∙ f in cc
+
+-- for all other commands the source is read
+pub others_read : (asked : Option Request) (command : Command) → asked ≡ Some (meant command) →
+    ((places : ℕ) → command ≡ Command.Demo places → ⊥) → reads_source asked ≡ false → ⊥
+others_read asked Command.Check e other f = let never : ◌≡◌ {A = Bool} true false = sym (ap reads_source e) ∙ f in cc
+others_read asked (Command.Prove budget) e other f =
+    let never : ◌≡◌ {A = Bool} true false = sym (ap reads_source e) ∙ f in cc
+others_read asked (Command.Run program steps) e other f =
+    let never : ◌≡◌ {A = Bool} true false = sym (ap reads_source e) ∙ f in cc
+others_read asked Command.Replay e other f = let never : ◌≡◌ {A = Bool} true false = sym (ap reads_source e) ∙ f in cc
+others_read asked (Command.Demo places) e other f = other places refl

@@ -1,0 +1,268 @@
+-- Words and bytes have some status and text.
+use Rattle.std.proofs.Common.{◌≡◌, ◌≤◌, ◌<◌, ◌⊎◌, inl, inr, ℕ, List, [], ◌∷◌, length, map, Bool, true, false, Option}
+use Rattle.std.proofs.Common.{Some, None, Result, Ok, Err, refl, sym, ap, ◌∙◌, subst, arith, cond, find, is_none}
+use Rattle.std.proofs.Common.{option_map, nat_lt, codes, ◌++◌}
+use Rattle.case_tables.specs.declared.code_table.Code.{Code}
+use Rattle.unity_syntax.specs.declared.document.Document.{Document}
+use Rattle.unity_syntax.specs.declared.document.Schedule.{Schedule}
+use Rattle.unity_syntax.specs.declared.term.Inst.{Inst}
+use Rattle.unity_parser.proofs.Readings.{some_reading}
+use Rattle.unity_parser.specs.Document.{IsDocument, IsFault}
+use Rattle.unity_meaning.specs.Programs.{Composed, program_named, programs_of}
+use Rattle.name_scopes.specs.Declarations.{some_of}
+use Rattle.name_scopes.specs.Reading.{Fault, earlier}
+use Rattle.name_scopes.specs.WellNamed.{IsWellNamed, name_fault}
+use Rattle.core_documents.specs.Cores.{core_document}
+use Rattle.core_documents.specs.Faults.{expansion_fault}
+use Rattle.core_terms.specs.Conditions.{IsDocument as IsCoreDocument}
+use Rattle.core_terms.specs.declared.programs.CProgram.{CProgram}
+use Rattle.core_meaning.specs.Meaning.{IsCoreOf}
+use Rattle.core_meaning.proofs.Matching.{programs_match}
+use Rattle.schedule_replay.specs.declared.heading.Heading.{Heading}
+use Rattle.schedule_replay.specs.Schedules.{turns}
+use Rattle.program_traces.specs.Programs.{scheduled_program}
+use Rattle.program_traces.proofs.FindingLaws as core
+use Rattle.trace_text.specs.Traces.{all_defined}
+use Rattle.source_traces.specs.Answers.{IsReplay, IsUnknown}
+use Rattle.source_traces.specs.Names.{place_of}
+use Rattle.source_traces.specs.Traces.{source_system, first_state, program_trace}
+use Rattle.source_traces.proofs.Finding.{HasSchedule, scheduled_source, no_schedule_source}
+use Rattle.proof_script.specs.declared.plans.Plan.{Plan}
+use Rattle.proof_script.specs.declared.plans.StepFault.{StepFault}
+use Rattle.proof_script.specs.Verdicts.{verdict_of}
+use Rattle.written_certificates.specs.Certificates.{certificates_of}
+use Rattle.answer_texts.specs.Refusals.{fault_text, refusal_text}
+use Rattle.answer_texts.specs.Verdicts.{accepted_text, rejected_text}
+use Rattle.command_words.specs.Requests.{Request, check, prove, run, replay, demo}
+use Rattle.unity_cli.specs.declared.status.Status.{Status}
+use Rattle.unity_cli.specs.Answer.{greatest_size, IsRead, IsBad, too_long, no_reading, Checked, Ran, Replayed, Answer}
+use Rattle.unity_cli.specs.Answer.{IsTrace, no_program, no_schedule, unknown}
+use Rattle.unity_cli.specs.Answer as answers
+use Rattle.unity_cli.specs.Laws.{IsDetermined, HasAnswer, SomeAnswer}
+use Rattle.unity_cli.specs.Reading.{of_text, of_document, document_fault}
+use Rattle.unity_cli.proofs.Accepted.{read_core}
+
+-- ---- readings
+
+abbrev ReadOrBad : List ℕ → Type 0
+ReadOrBad bytes = ((d : Document) × IsRead greatest_size bytes d) ⊎ ((text : List ℕ) × IsBad greatest_size bytes text)
+
+-- a document that is well named and expands, or its first fault
+by_faults : (bytes : List ℕ) (d : Document) → length bytes ≤ greatest_size → IsDocument bytes d →
+    (f g : Option Fault) → name_fault d ≡ f → expansion_fault d ≡ g → ReadOrBad bytes
+by_faults bytes d few is None None e h = inl (
+  d,
+  record {
+    size = few;
+    reading = record { is_document = is; named = e; expands = h };
+  },
+)
+by_faults bytes d few is (Some f) g e h = inr (
+  fault_text f.code f.at,
+  no_reading f.code f.at few (of_document d is (ap (λ x. earlier x (expansion_fault d)) e)) refl,
+)
+by_faults bytes d few is None (Some g) e h = inr (
+  fault_text g.code g.at,
+  no_reading g.code g.at few
+      (of_document d is (ap (λ x. earlier x (expansion_fault d)) e ∙ ap (λ x. earlier None x) h)) refl,
+)
+
+read_short : (bytes : List ℕ) → length bytes ≤ greatest_size →
+    ((d : Document) × IsDocument bytes d) ⊎ ((code : Code) × (at : ℕ) × IsFault bytes code at) → ReadOrBad bytes
+read_short bytes few (inl (d, is)) = by_faults bytes d few is (name_fault d) (expansion_fault d) refl refl
+read_short bytes few (inr (code, at, fault)) =
+    inr (fault_text code at, no_reading code at few (of_text fault) refl)
+
+read_or_bad : (bytes : List ℕ) → ReadOrBad bytes
+read_or_bad bytes = by_size (nat_lt greatest_size (length bytes)) refl
+  where
+    by_size : (b : Bool) → nat_lt greatest_size (length bytes) ≡ b → ReadOrBad bytes
+    by_size true e = inr (refusal_text Code.TooLong, too_long (grind (arith, e)) refl)
+    by_size false e = read_short bytes (grind (arith, e)) (some_reading bytes)
+
+-- ---- check
+
+checked : (bytes : List ℕ) → ReadOrBad bytes → HasAnswer (Some check) bytes
+checked bytes (inr (text, bad)) = (Status.BadDocument, text, bad)
+checked bytes (inl (d, read)) = by_verdict (verdict_of (core_document d) (certificates_of d)) refl
+  where
+    by_verdict : (v : Result Plan StepFault) → verdict_of (core_document d) (certificates_of d) ≡ v →
+        HasAnswer (Some check) bytes
+    by_verdict (Ok plan) e = (
+      Status.Done,
+      accepted_text (core_document d).words plan,
+      record {
+        document = d;
+        read = read;
+        plan = plan;
+        verdict = e;
+        text_is = refl;
+      },
+    )
+    by_verdict (Err fault) e = (
+      Status.Rejected,
+      rejected_text (core_document d).words fault,
+      record {
+        document = d;
+        read = read;
+        fault = fault;
+        verdict = e;
+        text_is = refl;
+      },
+    )
+
+-- ---- run
+
+abbrev Traced : Document → List ℕ → Composed → CProgram → Heading → List ℕ → Type 0
+Traced d name c p heading choices = (defined : Bool) × (text : List ℕ) × IsTrace d name c p heading choices defined text
+
+traced : (d : Document) (name : List ℕ) (c : Composed) (p : CProgram) (heading : Heading) (choices : List ℕ) →
+    (source_system d c).initial (first_state d p) ≡ true → Traced d name c p heading choices
+traced d name c p heading choices initial = (
+  all_defined (source_system d c) (first_state d p) choices,
+  program_trace d name c heading (first_state d p) choices,
+  record { initial = initial; defined_is = refl; text_is = refl },
+)
+
+ran_core : (bytes name : List ℕ) (steps : ℕ) (d : Document) → IsRead greatest_size bytes d → (c : Composed)
+    (p : CProgram) → IsCoreOf d name c p → HasAnswer (Some (run name steps)) bytes
+ran_core bytes name steps d read c p is =
+    by_start ((source_system d c).initial (first_state d p)) refl
+  where
+    by_trace : Traced d name c p Heading.Run (turns (length c.instances) steps) →
+        HasAnswer (Some (run name steps)) bytes
+    by_trace (true, text, t) = (
+      Status.Done,
+      text,
+      (d, read, record { program = c; core = p; is_core = is; trace = t }),
+    )
+    by_trace (false, text, t) = (
+      Status.Undefined,
+      text,
+      (d, read, record { program = c; core = p; is_core = is; trace = t }),
+    )
+
+    by_start : (b : Bool) → (source_system d c).initial (first_state d p) ≡ b →
+        HasAnswer (Some (run name steps)) bytes
+    by_start true e = by_trace (traced d name c p Heading.Run (turns (length c.instances) steps) e)
+    by_start false e = (
+      Status.BadDocument,
+      refusal_text Code.NoStart,
+      answers.IsNotRun.no_start d read (record {
+        program = c;
+        core = p;
+        is_core = is;
+        not_initial = e;
+      }) refl,
+    )
+
+ran : (bytes name : List ℕ) (steps : ℕ) → ReadOrBad bytes → HasAnswer (Some (run name steps)) bytes
+ran bytes name steps (inr (text, bad)) = (Status.BadDocument, text, answers.IsNotRun.bad bad)
+ran bytes name steps (inl (d, read)) = by_name (program_named name (programs_of d)) refl
+  where
+    by_core : (c : Composed) → (p : CProgram) × IsCoreOf d name c p → HasAnswer (Some (run name steps)) bytes
+    by_core c (p, is) = ran_core bytes name steps d read c p is
+
+    by_name : (o : Option Composed) → program_named name (programs_of d) ≡ o →
+        HasAnswer (Some (run name steps)) bytes
+    by_name None e = (Status.BadDocument, refusal_text Code.NoProgram, no_program d read e refl)
+    by_name (Some c) e = by_core c (programs_match d read.reading.named read.reading.expands name c e)
+
+-- ---- replay
+
+-- where no choice names no instance, all name one
+all_named : (c : Composed) (choices : List Inst) → find (λ i. is_none (place_of c i)) choices ≡ None →
+    (xs : List ℕ) × (map Some xs ≡ map (place_of c) choices)
+all_named c [] e = ([], refl)
+all_named c (i ∷ rest) e = by_place (place_of c i) refl (all_named c rest)
+  where
+    found : Option ℕ → Option Inst
+    found o = cond (is_none o) (Some i) (find (λ j. is_none (place_of c j)) rest)
+
+    by_place : (o : Option ℕ) → place_of c i ≡ o →
+        (find (λ j. is_none (place_of c j)) rest ≡ None →
+        (xs : List ℕ) × (map Some xs ≡ map (place_of c) rest)) →
+        (xs : List ℕ) × (map Some xs ≡ map (place_of c) (i ∷ rest))
+    by_place None h others =
+        let never : ◌≡◌ {A = Option Inst} (Some i) None = sym (ap found h) ∙ e in cc
+    by_place (Some x) h others =
+        let more = others (sym (ap found h) ∙ e) in
+        (x ∷ more.0, ap (λ os. Some x ∷ os) more.1 ∙ ap (λ o. o ∷ map (place_of c) rest) (sym h))
+
+replayed_by : (bytes : List ℕ) (d : Document) → IsRead greatest_size bytes d → (s : Schedule) (c : Composed)
+    (p : CProgram) (xs : List ℕ) → IsReplay d s c p xs → HasAnswer (Some replay) bytes
+replayed_by bytes d read s c p xs is = by_start ((source_system d c).initial (first_state d p)) refl
+  where
+    by_trace : Traced d s.program.text c p Heading.Replay xs → HasAnswer (Some replay) bytes
+    by_trace (true, text, t) = (
+      Status.Done,
+      text,
+      (d, read, record { schedule = s; program = c; core = p; choices = xs; replay_is = is; trace = t }),
+    )
+    by_trace (false, text, t) = (
+      Status.Undefined,
+      text,
+      (d, read, record { schedule = s; program = c; core = p; choices = xs; replay_is = is; trace = t }),
+    )
+
+    by_start : (b : Bool) → (source_system d c).initial (first_state d p) ≡ b → HasAnswer (Some replay) bytes
+    by_start true e = by_trace (traced d s.program.text c p Heading.Replay xs e)
+    by_start false e = (
+      Status.BadDocument,
+      refusal_text Code.NoStart,
+      answers.IsNotReplayed.no_start d read (record {
+        schedule = s;
+        program = c;
+        core = p;
+        choices = xs;
+        replay_is = is;
+        not_initial = e;
+      }) refl,
+    )
+
+scheduled : (bytes : List ℕ) (d : Document) → IsRead greatest_size bytes d → (p : CProgram) → HasSchedule d p →
+    HasAnswer (Some replay) bytes
+scheduled bytes d read p h = by_choice (find (λ i. is_none (place_of h.program i)) (some_of h.schedule.choices)) refl
+  where
+    by_all : (xs : List ℕ) × (map Some xs ≡ map (place_of h.program) (some_of h.schedule.choices)) →
+        HasAnswer (Some replay) bytes
+    by_all (xs, named) = replayed_by bytes d read h.schedule h.program p xs
+        (record { there = h.there; core = h.core; named = named })
+
+    by_choice : (o : Option Inst) →
+        find (λ i. is_none (place_of h.program i)) (some_of h.schedule.choices) ≡ o → HasAnswer (Some replay) bytes
+    by_choice None e = by_all (all_named h.program (some_of h.schedule.choices) e)
+    by_choice (Some i) e = (
+      Status.BadDocument,
+      fault_text Code.NoSuchStatement i.at,
+      unknown d i.at read (record {
+        schedule = h.schedule;
+        there = h.there;
+        program = h.program;
+        source = h.core.source;
+        first = ap (option_map (λ (j : Inst). j.at)) e;
+      }) refl,
+    )
+
+replayed : (bytes : List ℕ) → ReadOrBad bytes → HasAnswer (Some replay) bytes
+replayed bytes (inr (text, bad)) = (Status.BadDocument, text, answers.IsNotReplayed.bad bad)
+replayed bytes (inl (d, read)) = by_program (scheduled_program (core_document d)) refl
+  where
+    by_program : (o : Option CProgram) → scheduled_program (core_document d) ≡ o → HasAnswer (Some replay) bytes
+    by_program None e = (
+      Status.BadDocument,
+      refusal_text Code.NoSchedule,
+      no_schedule d read
+          (no_schedule_source d (core.no_schedule (core_document d)
+          (read_core greatest_size (omega arith) bytes d read) e)) refl,
+    )
+    by_program (Some p) e =
+        scheduled bytes d read p (scheduled_source d read.reading.named read.reading.expands p e)
+
+pub some_answer : SomeAnswer
+some_answer None any bytes = (Status.BadWords, codes "bad words" ++ 10 ∷ [], (refl, refl))
+some_answer (Some check) any bytes = checked bytes (read_or_bad bytes)
+some_answer (Some (prove budget)) any bytes = absurd any
+some_answer (Some (run program steps)) any bytes = ran bytes program steps (read_or_bad bytes)
+some_answer (Some replay) any bytes = replayed bytes (read_or_bad bytes)
+some_answer (Some (demo places)) any bytes = absurd any
