@@ -78,6 +78,18 @@ expect_refuted() {
     compare "$wanted" 3 prove 1000000 < "examples/$1.unity"
 }
 
+# expect_ring PLACES: for a ring of so many places `demo` finds certificates, and writes that its proof is
+# accepted: the token comes to place 0 within one round less than there are places, and home within as many.
+expect_ring() {
+    wanted=$text
+    local digits=$(($1 - 1))
+    digits=${#digits}
+    printf '%s\n' "ring $1 bytes $((464 + 8 * digits))" "accepted 5 steps $((4 * $1 + 2)) obligations" \
+        "Ring.safe defined" "Ring.step ensures" "Ring.goal leadsto $(($1 - 1))" "Ring.home ensures" \
+        "Ring.again leadsto $1" > "$text"
+    compare "unity demo $1" 0 demo "$1" < /dev/null
+}
+
 # status_of_trace TRACE: 5 where its last step is undefined, and else 0.
 status_of_trace() {
     if tail -n 1 "$1" | grep -q '^undefined '; then
@@ -171,6 +183,79 @@ expect_step() {
     count_one "$holds" "the line of the step in examples/$1.unity"
 }
 
+# expect_page PAGE: each command of this page prints what the page says.
+expect_page() {
+    local holds name
+    bash scripts/page.sh "$1" > "$answer" || true
+    if [ ! -s "$answer" ]; then
+        count_one 1 "$1"
+    fi
+    while read -r holds name; do
+        count_one "$holds" "$name"
+    done < "$answer"
+}
+
+# expect_matched NAME LINE N: the Nth pattern of editors/tasks.json matches this line.
+expect_matched() {
+    local pattern holds=1
+    pattern=$(sed -n 's/.*"regexp": "\([^"]*\)".*/\1/p' editors/tasks.json | sed -n "$3p")
+    if [ -n "$pattern" ] && grep -qE "$pattern" <<< "$2"; then
+        holds=0
+    fi
+    count_one "$holds" "pattern $3 of editors/tasks.json on $1"
+}
+
+# expect_matchers: the patterns of editors/tasks.json match what the scripts print of a name that nothing
+# declares, and of a claim that is false.
+expect_matchers() {
+    local task
+    for task in 0 4; do
+        bash scripts/check.sh examples/unknown_name.unity > "$answer" 2>&1 || true
+        expect_matched "a byte's answer" "$(sed -n 1p "$answer")" $((task + 1))
+        expect_matched "a byte's place" "$(sed -n 2p "$answer")" $((task + 2))
+        bash scripts/prove.sh examples/pick.unity > "$answer" 2>&1 || true
+        expect_matched "a step's place" "$(tail -n 2 "$answer" | head -n 1)" $((task + 3))
+        expect_matched "a step's line" "$(tail -n 1 "$answer")" $((task + 4))
+    done
+}
+
+# expect_mistake NAME: of this document in examples/mistakes the text, by `check` where it has certificates
+# and else by `prove`, is NAME.expected, and docs/WRITING.md has a row with it and its code.
+expect_mistake() {
+    local document=examples/mistakes/$1.unity words="prove 1000000" status=1 code holds=1
+    wanted=examples/mistakes/$1.expected
+    if grep -q '^certificates$' "$document"; then
+        words=check
+    fi
+    if grep -q '^bad ' "$wanted"; then
+        status=2
+    fi
+    compare "$document" "$status" $words < "$document"
+    code=$(sed -n '1s/^[a-z]* \([0-9]*\) \([A-Za-z]*\).*/\1 `\2`/p' "$wanted")
+    if grep -F "(../$document)" docs/WRITING.md | grep -qF "$code"; then
+        holds=0
+    fi
+    count_one "$holds" "the row of $document in docs/WRITING.md"
+}
+
+# expect_row CODE: docs/WRITING.md has a row for this code.
+expect_row() {
+    local holds=1
+    if grep -q "^| [0-9]* \`$1\` |" docs/WRITING.md; then
+        holds=0
+    fi
+    count_one "$holds" "the row of $1 in docs/WRITING.md"
+}
+
+# expect_picture DOCUMENT TRACE: the picture of this trace of the document, run or replay, is DOCUMENT.svg.
+expect_picture() {
+    local holds=1
+    if bash scripts/trace_svg.sh < "examples/$1.$2" | cmp -s - "examples/$1.svg"; then
+        holds=0
+    fi
+    count_one "$holds" "examples/$1.svg"
+}
+
 # expect_refused N TEST: this test of unity_base passes where its Nth allocation is refused.
 expect_refused() {
     local holds=1
@@ -218,6 +303,8 @@ expect 0 outside_the_array
 expect 1 peterson
 expect 1 readers_writers
 expect 1 two_phase_commit
+expect 1 barrier
+expect 1 race
 expect 1 pick
 expect_proof count count.expected
 expect_proof swap swap.expected
@@ -225,10 +312,13 @@ expect_proof rounding rounding.expected
 expect_proof splitting splitting.expected
 expect_proof safety_calculus safety_calculus.expected
 expect_proof union_proofs union_proofs.expected
-for name in peterson readers_writers two_phase_commit ring_of_four ring_of_three union_of_two; do
+for name in peterson readers_writers two_phase_commit barrier ring_of_four ring_of_three union_of_two; do
     expect_proof "$name" "$name.accepted"
 done
 expect_refuted pick
+expect_refuted race
+expect_ring 2
+expect_ring 16
 expect_run count
 expect_run flip_array
 expect_run union_of_two
@@ -236,21 +326,27 @@ expect_run outside_the_array
 expect_run peterson
 expect_run readers_writers
 expect_run two_phase_commit
+expect_run barrier
+expect_run race
 expect_replay past_the_end
 expect_replay peterson
 expect_replay two_phase_commit
+expect_replay race
 expect_line 2 "bad 61 NoProgram" run None 3 < examples/count.unity
 expect_line 2 "bad 60 NoSchedule" replay < examples/count.unity
 expect_line 2 "bad 10 Unknown byte 50" run P 1 < examples/unknown_name.unity
 expect_line 6 "bad words" run Count 05 < examples/count.unity
 expect_line 6 "bad words" run Count 1000001 < examples/count.unity
 expect_line 6 "bad words" < examples/count.unity
+expect_line 6 "bad words" demo 1
+expect_line 6 "bad words" demo 65
 expect_line 7 "" check < .
 expect_line 7 "" run Count 5 < .
 expect_full 8 check
 expect_full 8 run Count 5
 expect_full 8 replay
 expect_full 8 prove 1000000
+expect_full 8 demo 2
 expect_line 4 "budget Count.safe obligation 1 spent 1" prove 1 < examples/count.unity
 expect_line 6 "bad words" prove 0 < examples/count.unity
 expect_line 6 "bad words" prove 1000001 < examples/count.unity
@@ -277,12 +373,25 @@ expect_place and_or_mixed 4 27
 expect_place comparison_of_three 12 25
 expect_place empty_range 6 27
 expect_step pick 13
+expect_step race 28
 expect_bound "256 lists, 494 states" examples/union_of_two.unity Both 'v["x"] == 0' 'v["x"] == 1' 1 inc flip
 expect_bound "no state with Q: list 1, state 0" examples/union_of_two.unity Both 'v["x"] == 0' 'v["x"] == 1' 0 inc flip
 expect_bound "6561 lists, 3096 states" examples/ring_of_three.unity Ring 1 'v["at"] == 0' 2 'pass[1]' 'pass[2]' wrap
 holds=0
 bash scripts/editors.sh --check || holds=1
 count_one "$holds" "the files in editors/"
+expect_matchers
+expect_page docs/TUTORIAL.md
+expect_picture race replay
+for document in examples/mistakes/*.unity; do
+    expect_mistake "$(basename "$document" .unity)"
+done
+for code in $(sed -n '/^    (Code,/,/^    };/s/^ *"\([A-Za-z]*\)" => .*/\1/p' crates/case_tables/src/cases.rt); do
+    expect_row "$code"
+done
+deep=$(printf ' round 1 1*1%.0s' {1..1024})
+expect_line 1 "rejected 58 CertTooDeep Count.safe obligation 1" check < \
+    <(sed "s/^1: .*/1:$deep sum 1*1;/" examples/count.unity)
 for allocation in 1 2 3; do
     expect_refused "$allocation" keeps_the_list_where_insert_is_refused
 done

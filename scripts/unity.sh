@@ -1,0 +1,20 @@
+#!/bin/bash
+# Runs `unity` on standard input: bash scripts/unity.sh WORD.. < FILE
+#
+# The words are those of `unity`: check, prove BUDGET, run PROGRAM STEPS and so on. It prints what `unity`
+# prints and exits with its status. The program that `scripts/test.sh` builds is taken where it is there; else
+# the sources are run as they are, in half a minute and with no proof.
+set -eu
+top=$(cd "$(dirname "$0")/.." && pwd)
+if [ -x "$top/crates/unity/out/unity" ]; then
+    exec "$top/crates/unity/out/unity" "$@"
+fi
+. "$top/scripts/places.sh"
+answer=$(mktemp)
+notes=$(mktemp)
+trap 'rm -f "$answer" "$notes"' EXIT
+
+status=0
+run_unity "$answer" "$notes" /dev/stdin "$@" || status=$?
+cat "$answer"
+exit "$status"
