@@ -1,35 +1,41 @@
 -- The record that a term derives, from what is concluded where its bound names are parameters too.
-use Rattle.std.proofs.Common.{◌≡◌, ℕ, List, [], ◌∷◌, ◌++◌, map, length, Bool, true, false, ◌&&◌, Option, Some, None}
-use Rattle.std.proofs.Common.{Result, Ok, Err, IsTrue, refl, sym, ap, ◌∙◌, subst, append-nil}
+use Rattle.std.proofs.Common.{◌≡◌, ℕ, zero, suc, ◌<◌, ℤ, List, [], ◌∷◌, ◌++◌, map, length, Bool, true, false, ◌&&◌}
+use Rattle.std.proofs.Common.{Option, Some, None, Ok, IsTrue, refl, sym, ap, ◌∙◌, subst, append-nil, arith}
 use Rattle.std.specs.Prelude.{All}
+use Rattle.std.specs.Int.RustNames.{int_le}
 use Rattle.std.specs.Option.{IsSome}
 use Rattle.std.specs.List.{list_all}
 use Rattle.std.proofs.lemmas.Bool.{ltb-true}
 use Rattle.std.proofs.lemmas.List.Elements.{All-append}
 use Rattle.case_tables.specs.declared.code_table.Code.{Code}
 use Rattle.core_terms.specs.Conditions.{IsRange, IsNumbered, PTermSees, bound_ranges, is_below, parts_of}
+use Rattle.core_terms.specs.Values.{number_at}
 use Rattle.core_terms.specs.declared.documents.PTerm.{PTerm}
 use Rattle.core_terms.specs.declared.programs.CSlot.{CSlot}
 use Rattle.core_terms.specs.declared.trees.CForm.{CForm}
 use Rattle.core_terms.specs.declared.trees.Range.{Range}
+use Rattle.fair_rounds.specs.Records.{holding, are_in_ranges, Stands}
 use Rattle.fair_rounds.specs.declared.records.Record.{Record}
 use Rattle.proof_rules.proofs.BoundNames.{FormSees, TermSees, numbered, term_well}
+use Rattle.proof_rules.proofs.DeriveSound.{lows, lows_in}
 use Rattle.proof_rules.proofs.EachLaws.{from_all}
-use Rattle.proof_rules.proofs.RowEquations.{concluded-is}
+use Rattle.proof_rules.proofs.NumberLaws.{same_length}
+use Rattle.proof_rules.proofs.RowEquations.{concluded-is, derive-is}
+use Rattle.proof_rules.proofs.SiteLaws.{went_on, concluded_is}
+use Rattle.proof_rules.proofs.TermSound.{term_sound}
 use Rattle.proof_rules.specs.Conclusion.{Conclusion}
 use Rattle.proof_rules.specs.Limits.{fits, is_provable}
-use Rattle.proof_rules.specs.Sound.{AreFull}
-use Rattle.proof_rules.specs.Table.{needs, goals_of, concluded}
-use Rattle.proof_rules.specs.Terms.{is_well_bound}
+use Rattle.proof_rules.specs.Sound.{AreFull, BookStands, IsSite}
+use Rattle.proof_rules.specs.Table.{Site, needs, goals_of, concluded}
+use Rattle.proof_rules.specs.Terms.{is_well_bound, term_of, derive_of, all_ranges, leads_record}
 use Rattle.proof_rules.specs.Validity.{AllValid}
-use Rattle.safety_rules.proofs.SoundLaws.{answer_stands}
-use Rattle.safety_rules.specs.Answers.{Answers, derived_of}
-use Rattle.safety_rules.specs.Sound.{StandsAt}
-use Rattle.safety_rules.specs.declared.places.Derived.{Derived}
-use Rattle.safety_rules.specs.declared.places.Place.{Place}
-use Rattle.safety_rules.specs.declared.places.RuleError.{RuleError}
+use Rattle.proof_rules.specs.declared.led.Led.{Led}
+use Rattle.state_steps.proofs.StepTheorems.{and_left, and_right, both_true}
+use Rattle.unity_meaning.specs.Execution.{System}
+use Rattle.unity_meaning.specs.Properties.{Test, LeadsTo}
 use Rattle.leadsto_rules.proofs.RangeLaws.{parts_ranges}
-use Rattle.leadsto_rules.specs.Deriving.{narrowed, narrowed_row, NamesOwn, DerivedStands}
+use Rattle.leadsto_rules.proofs.VisibleLaws.{Depends, term_depends}
+use Rattle.leadsto_rules.specs.Deriving.{narrowed, narrowed_row}
 use Rattle.leadsto_rules.specs.Leading.{IsTermIn}
 
 pub same_forms : (fs : List CForm) → map (λ (f : CForm). f) fs ≡ fs
@@ -51,17 +57,6 @@ narrowed_is slots ranges params bound made forms =
         (needs b Code.FormulaTooLarge (Ok (record { made = made; goals = goals_of ranges forms })))
     go true = refl
     go false = refl
-
--- what the table gives stands, and so does what is derived
-pub derived_stands : (pl : Place) (answer : Result Derived RuleError) (row : Result Conclusion Code) →
-    ((x : Conclusion) → row ≡ Ok x → NamesOwn pl x.made → AllValid pl.slots.now x.goals → StandsAt pl x.made) →
-    Answers answer pl.slots.now row → DerivedStands pl answer
-derived_stands pl (Err e) row sound given = tt
-derived_stands pl (Ok d) row sound given = λ own valid.
-    answer_stands pl (Ok d) row
-    (λ x e shown.
-    let same : d ≡ derived_of pl.slots.now x = subst (λ r. Answers (Ok d) pl.slots.now r) e given in
-    sound x e (subst (λ (y : Derived). NamesOwn pl y.made) same own) shown) given valid
 
 is_some_of : (o : Option ℕ) → IsSome o → (n : ℕ) × (o ≡ Some n)
 is_some_of None t = cc
@@ -96,3 +91,55 @@ pub sees_parts : (slots : List CSlot) (params : List Range) (t : PTerm) →
     IsTermIn slots (params ++ bound_ranges t) t
 sees_parts slots params t sees =
     (is_below (length params), record { forms = sees.forms; terms = sees.terms; ranges_are = sees.ranges_are })
+
+-- that what a term gives stands
+
+both_in : (rs more : List Range) (e d : List ℤ) → IsTrue (are_in_ranges rs e) → IsTrue (are_in_ranges more d) →
+    IsTrue (are_in_ranges (rs ++ more) (e ++ d))
+both_in [] more [] d h k = k
+both_in [] more (z ∷ e) d h k = cc
+both_in (r ∷ rs) more [] d h k = cc
+both_in (r ∷ rs) more (z ∷ e) d h k =
+    both_true (int_le r.lo z && int_le z r.hi) (are_in_ranges (rs ++ more) (e ++ d))
+    (and_left (int_le r.lo z && int_le z r.hi) (are_in_ranges rs e) h)
+    (both_in rs more e d (and_right (int_le r.lo z && int_le z r.hi) (are_in_ranges rs e) h) k)
+
+in_front : (e d : List ℤ) (n : ℕ) → n < length e → number_at (e ++ d) n ≡ number_at e n
+in_front [] d n h = absurd (omega arith)
+in_front (z ∷ e) d zero h = refl
+in_front (z ∷ e) d (suc n) h = let inner : n < length e = omega arith in in_front e d n inner
+
+-- what depends on the step's parameters alone is worth the same, whatever the bound names are
+same_test : (params : List Range) (e d : List ℤ) (f : CForm) → IsTrue (are_in_ranges params e) →
+    Depends (is_below (length params)) f → holding (e ++ d) f ≡ holding e f
+same_test params e d f inside own = λ i s. own s (e ++ d) e (λ n t.
+    let less = ltb-true n (length params) t in
+    let long = same_length params e inside in in_front e d n (omega (arith, less, long))) i
+
+-- of tests that are the same
+leads_alike : {x : System} {bound : ℕ} {p q : Test} (p' q' : Test) → p ≡ p' → q ≡ q' → LeadsTo x p q bound →
+    LeadsTo x p' q' bound
+leads_alike {x} {bound} {p} {q} p' q' e f h =
+    subst (λ t. LeadsTo x p' t bound) f (subst (λ t. LeadsTo x t q bound) e h)
+
+-- the record that a term gives stands
+pub derived_stands : (site : Site) → IsSite site → (book : List Record) → BookStands site book → (t : PTerm) →
+    PTermSees site.slots (all_ranges site t) (is_below (length site.params)) t → IsNumbered (length site.params) t →
+    (d : Conclusion) → derive_of site t book ≡ Ok d → AllValid site.slots d.goals →
+    Stands site.slots site.program d.made
+derived_stands site good book stands t sees numbers d e valid =
+    let ranges : List Range = all_ranges site t in
+    let part = went_on (term_of site ranges book t) (λ l. concluded site.slots ranges (leads_record site l) l.forms) d
+    (sym (derive-is site t book) ∙ e) in
+    let l : Led = part.0 in
+    let is = concluded_is site.slots ranges (leads_record site l) l.forms d part.2 in
+    let shown = subst (λ (x : Conclusion). AllValid site.slots x.goals) is valid in
+    let bound = names_bound site.slots site.params t sees numbers in
+    let own = term_depends site ranges book (is_below (length site.params)) t sees l part.1 in
+    subst (λ (x : Conclusion). Stands site.slots site.program x.made) (sym is)
+    (λ n inside.
+    let more : List ℤ = lows (bound_ranges t) in
+    let led = term_sound site good book stands t ranges bound.0 l part.1 shown (n ++ more)
+    (both_in site.params (bound_ranges t) n more inside (lows_in (bound_ranges t) bound.1)) in
+    leads_alike _ _ (same_test site.params n more l.p inside own.p) (same_test site.params n more l.q inside own.q)
+    led)

@@ -9,3 +9,4 @@ pub mod ReferredLaws
 pub mod SeesLaws
 pub mod TermLaws
 pub mod TermSizes
+pub mod VisibleLaws

@@ -12,8 +12,9 @@ ghost use Rattle.proof_rules.specs.Terms as terms;
 ghost use Rattle.safety_rules.specs.Answers.{site_of, IsPlace, Answers};
 ghost use Rattle.safety_rules.specs.Goals.{Added};
 ghost use Rattle.safety_rules.specs.Instances.{RecordFits};
+ghost use Rattle.safety_rules.specs.Sound.{StandsWhereShown};
 ghost use Rattle.safety_rules.specs.Usable.{NamesExist};
-ghost use Rattle.leadsto_rules.specs.Deriving.{DerivedStands, narrowed_row};
+ghost use Rattle.leadsto_rules.specs.Deriving.{narrowed_row};
 ghost use Rattle.leadsto_rules.specs.Leading.{IsTermIn, LedFits};
 
 use crate::bound::add_bound;
@@ -189,7 +190,7 @@ pub fn derive(alloc: Global, pl: &Place, t: &PTerm, book: &[Record]) -> Result<D
     requires numbers { IsNumbered (length pl.now.params.now) t.now }
     requires book { All (RecordFits pl.now.slots.now) book.now }
     ensures answer { Answers result pl.now.slots.now (terms.derive_of (site_of pl.now) t.now book.now) }
-    ensures sound { BookStands (site_of pl.now) book.now → DerivedStands pl.now result }
+    ensures sound { BookStands (site_of pl.now) book.now → StandsWhereShown pl.now result }
 {
     let ranges = all_ranges(alloc, pl, t)?;
     derive_in(alloc, pl, ranges.as_slice(), t, book)

@@ -5,11 +5,10 @@ use Rattle.core_terms.specs.declared.documents.PTerm.{PTerm}
 use Rattle.fair_rounds.specs.declared.records.Record.{Record}
 use Rattle.proof_rules.specs.Table.{Site, go_on, concluded}
 use Rattle.proof_rules.specs.Terms.{derive_of, term_of, leads_record}
-use Rattle.proof_rules.proofs.DeriveSound.{derive_sound}
 use Rattle.safety_rules.specs.Answers.{site_of, Answers}
-use Rattle.safety_rules.proofs.SoundLaws.{site_good}
+use Rattle.safety_rules.proofs.SoundLaws.{site_good, answer_stands}
 use Rattle.leadsto_rules.specs.Leading.{IsTermIn}
-use Rattle.leadsto_rules.proofs.DeriveLaws.{derived_stands, names_bound, all_are_ranges, sees_parts}
+use Rattle.leadsto_rules.proofs.DeriveLaws.{all_are_ranges, sees_parts, derived_stands}
 use Rattle.leadsto_rules.proofs.derivation.derive.Goals as goal
 
 pub derive_in-requires-clause-ranges : goal.derive_in-requires-clause-ranges
@@ -38,7 +37,7 @@ pub returns-clause-sound : goal.returns-clause-sound
 returns-clause-sound c stands =
     let site : Site = site_of c.args.pl.now in
     let t : PTerm = c.args.t.now in
-    let bound = names_bound site.slots site.params t c.requires.term c.requires.numbers in
-    derived_stands c.args.pl.now c.derive_in.result (derive_of site t c.args.book.now)
-    (λ x e own valid. derive_sound site (site_good c.args.pl.now c.requires.place) c.args.book.now stands t bound.0
-    bound.1 x e own.p own.q valid) (returns-clause-answer c)
+    let book : List Record = c.args.book.now in
+    answer_stands c.args.pl.now c.derive_in.result (derive_of site t book)
+    (derived_stands site (site_good c.args.pl.now c.requires.place) book stands t c.requires.term c.requires.numbers)
+    (returns-clause-answer c)
