@@ -57,7 +57,8 @@ request_of words = None
 abbrev pub asked : {Z : Type 0} → List (String Z) → Option Request
 asked words = request_of (map string_bytes words)
 
--- a ring has 2 to 64 places
-abbrev pub HasPlaces : Command → Type 0
-HasPlaces (Command.Demo places) = (2 ≤ places) × (places ≤ 64)
-HasPlaces command = Unit {0}
+-- a search has at most 1,000,000 units, and a ring 2 to 64 places
+abbrev pub HasLimits : Command → Type 0
+HasLimits (Command.Prove budget) = budget ≤ 1000000
+HasLimits (Command.Demo places) = (2 ≤ places) × (places ≤ 64)
+HasLimits command = Unit {0}

@@ -1,6 +1,6 @@
 // What words ask for.
 ghost use Rattle.std.specs.Prelude.{◌≡◌, option_map, IfSome};
-ghost use Rattle.command_words.specs.Requests.{asked, meant, HasPlaces, demo, prove};
+ghost use Rattle.command_words.specs.Requests.{asked, meant, HasLimits, demo, prove};
 ghost use Rattle.command_words.specs.Requests.{one_word, positive, several, two_words, three_words};
 ghost use Rattle.command_words.specs.Numbers as numbers;
 
@@ -33,7 +33,7 @@ pub enum Command<'a> {
 /// The command that the words are, read by position. `None` where they are none.
 pub fn read_words(words: &[String]) -> Option<Command<'_>>
     ensures asked { option_map meant result ≡ asked words.now }
-    ensures places { IfSome result HasPlaces }
+    ensures limits { IfSome result HasLimits }
 {
     match words {
         [word] => read_one(word.as_str()),
@@ -46,7 +46,7 @@ pub fn read_words(words: &[String]) -> Option<Command<'_>>
 // A command of one word.
 fn read_one<'a>(word: &str) -> Option<Command<'a>>
     ensures asked { option_map meant result ≡ one_word word.now }
-    ensures places { IfSome result HasPlaces }
+    ensures limits { IfSome result HasLimits }
 {
     if word == "check" {
         Some(Command::Check)
@@ -80,7 +80,7 @@ fn several(number: Option<u64>) -> Option<u64>
 // A search of so many units.
 fn read_budget<'a>(budget: &str) -> Option<Command<'a>>
     ensures asked { option_map meant result ≡ option_map prove (positive (numbers.number_in 1000000 budget.now)) }
-    ensures places { IfSome result HasPlaces }
+    ensures limits { IfSome result HasLimits }
 {
     match positive(number_in(MOST_UNITS, budget)) {
         Some(budget) => Some(Command::Prove { budget }),
@@ -91,7 +91,7 @@ fn read_budget<'a>(budget: &str) -> Option<Command<'a>>
 // A ring of so many places.
 fn read_places<'a>(places: &str) -> Option<Command<'a>>
     ensures asked { option_map meant result ≡ option_map demo (several (numbers.number_in 64 places.now)) }
-    ensures places { IfSome result HasPlaces }
+    ensures limits { IfSome result HasLimits }
 {
     match several(number_in(MOST_PLACES, places)) {
         Some(places) => Some(Command::Demo {
@@ -104,7 +104,7 @@ fn read_places<'a>(places: &str) -> Option<Command<'a>>
 // A command of two words.
 fn read_two<'a>(word: &str, number: &str) -> Option<Command<'a>>
     ensures asked { option_map meant result ≡ two_words word.now number.now }
-    ensures places { IfSome result HasPlaces }
+    ensures limits { IfSome result HasLimits }
 {
     if word == "prove" {
         read_budget(number)
@@ -118,7 +118,7 @@ fn read_two<'a>(word: &str, number: &str) -> Option<Command<'a>>
 // A command of three words.
 fn read_three<'a>(word: &str, program: &'a str, steps: &str) -> Option<Command<'a>>
     ensures asked { option_map meant result ≡ three_words word.now program.now steps.now }
-    ensures places { IfSome result HasPlaces }
+    ensures limits { IfSome result HasLimits }
 {
     if word != "run" {
         return None;
