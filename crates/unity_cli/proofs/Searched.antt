@@ -1,20 +1,30 @@
 -- What a search finds is its answer.
-use Rattle.std.proofs.Common.{◌≡◌, ℕ, List, ◌∷◌, ◌++◌, Result, Ok, Err, IfOk, refl, sym, ap, ◌∙◌, subst, arith}
+use Rattle.std.proofs.Common.{◌≡◌, ◌≤◌, ◌+◌, ℕ, List, ◌∷◌, ◌++◌, length, Option, Some, None, Result, Ok, Err, IfOk, refl}
+use Rattle.std.proofs.Common.{sym, ap, ◌∙◌, subst, arith}
+use Rattle.unity_syntax.specs.declared.document.Document.{Document}
 use Rattle.core_terms.specs.declared.documents.CDocument.{CDocument}
 use Rattle.core_terms.specs.Conditions.{IsDocument as IsCoreDocument}
+use Rattle.core_documents.specs.Cores.{core_document}
 use Rattle.obligations.specs.declared.certificates.Cert.{Cert}
 use Rattle.proof_script.specs.declared.plans.Plan.{Plan}
 use Rattle.proof_script.specs.declared.plans.Proof.{Proof}
 use Rattle.proof_script.specs.declared.plans.ScriptError.{ScriptError}
 use Rattle.proof_script.specs.Proving.{Finds, IsProved}
+use Rattle.proof_script.specs.Verdicts.{verdict_of}
+use Rattle.answer_texts.specs.Verdicts.{accepted_text}
 use Rattle.certificate_texts.specs.Certificates.{certificates_text}
+use Rattle.found_documents.specs.Found.{front, text_with}
+use Rattle.found_texts.specs.Laws.{IsFoundText}
+use Rattle.found_texts.proofs.Found.{proved_is_read}
 use Rattle.unity_cli.specs.declared.finding.Found.{Found}
+use Rattle.unity_cli.specs.declared.judge.Answer.{Answer as Told}
 use Rattle.unity_cli.specs.declared.reading.Input.{Input}
 use Rattle.unity_cli.specs.declared.reading.Reading.{Reading}
 use Rattle.unity_cli.specs.declared.status.Status.{Status}
-use Rattle.unity_cli.specs.Answer.{greatest_size, greatest_bare_size, front, Checked, IsAccepted, IsFinding, Searched}
-use Rattle.unity_cli.specs.Answering.{HasVerdict, IsSearchedIn}
-use Rattle.unity_cli.specs.Input.{AreKept, IsReadAs}
+use Rattle.unity_cli.specs.Answer.{greatest_size, greatest_bare_size, IsRead, IsAccepted, IsFinding, IsFound, Searched}
+use Rattle.unity_cli.specs.Answering.{ComesWith, HasPlan}
+use Rattle.unity_cli.specs.Input.{AreKept, IsReadAs, words_in}
+use Rattle.unity_cli.proofs.Accepted.{read_core}
 use Rattle.unity_cli.proofs.Told.{sound_core}
 
 pub are_kept : (input : Input) (bytes : List ℕ) → AreKept input bytes bytes
@@ -24,10 +34,6 @@ are_kept (Input.Document r) bytes = refl
 
 pub searched_core : (bytes : List ℕ) (r : Reading) → IsReadAs greatest_bare_size bytes r → IsCoreDocument r.core
 searched_core bytes r is = sound_core greatest_bare_size (omega arith) r (bytes, is)
-
-pub done_accepted : (bytes : List ℕ) (status : Status) (text : List ℕ) → Checked bytes status text →
-    status ≡ Status.Done → IsAccepted bytes text
-done_accepted bytes status text h e = subst (λ s. Checked bytes s text) e h
 
 -- what is found of the core form is found of the document
 pub finds_told : (bytes : List ℕ) (budget : ℕ) (r : Reading) (finding : Result Proof ScriptError)
@@ -41,30 +47,75 @@ finds_told bytes budget r finding told text h e is = record {
   text_is = e ∙ ap told is.core_is;
 }
 
--- the text with certificates that were found
-pub found_told : (bytes : List ℕ) (budget : ℕ) (r : Reading) (plan : Plan) (certs : List Cert) (before : List ℕ)
-    {E : Type 0} (result : Result Found E) → IsProved r.core budget plan certs →
-    before ≡ front bytes r.document.certificates → IfOk result (λ f. f.answer.status ≡ Status.Done) →
-    IfOk result (λ f. f.answer.text.items ≡ before ++ 10 ∷ certificates_text certs) →
-    IfOk result (λ f. IsAccepted f.answer.text.items f.verdict.items) →
-    IfOk result (λ f. IsSearchedIn budget bytes r f.answer)
-found_told bytes budget r plan certs before (Err e) proved front_is done text_is accepted = tt
-found_told bytes budget r plan certs before (Ok f) proved front_is done text_is accepted = λ is.
-    subst (λ s. Searched bytes budget s f.answer.text.items) (sym done) (record {
-      document = r.document;
-      read = is.read;
-      plan = plan;
-      certs = certs;
-      proved = subst (λ c. IsProved c budget plan certs) is.core_is proved;
-      text_is = text_is ∙ ap (λ t. t ++ 10 ∷ certificates_text certs) front_is;
-      verdict_text = f.verdict.items;
-      accepted = accepted;
-    })
+-- the document's text with certificates that were found is that document with them, and so it is accepted
+with_accepted : (bytes : List ℕ) (d : Document) (plan : Plan) (certs : List Cert) → IsRead greatest_bare_size bytes d →
+    verdict_of (core_document d) certs ≡ Ok plan → IsFoundText bytes d certs →
+    IsAccepted (text_with bytes d certs) (accepted_text (core_document d).words plan)
+with_accepted bytes d plan certs read verdict found = record {
+  document = record d { certificates = Some found.read.section };
+  read = record {
+    size = within (length (text_with bytes d certs)) (length bytes) found.size read.size;
+    reading = record {
+      is_document = found.read.is_document;
+      named = read.reading.named;
+      expands = read.reading.expands;
+    };
+  };
+  plan = plan;
+  verdict = subst (λ cs. verdict_of (core_document d) cs ≡ Ok plan) (sym found.read.says) verdict;
+  text_is = refl;
+}
+  where
+    within : (a b : ℕ) → a ≤ b + 57000018 → b ≤ greatest_bare_size → a ≤ greatest_size
+    within a b h k = omega (arith, h, k)
 
-pub found_verdict : {E : Type 0} (result : Result Found E) →
-    IfOk result (λ f. IsAccepted f.answer.text.items f.verdict.items) → IfOk result HasVerdict
-found_verdict (Err e) accepted = tt
-found_verdict (Ok f) accepted = λ done. accepted
+found_accepted : (bytes : List ℕ) (budget : ℕ) (d : Document) (plan : Plan) (certs : List Cert) →
+    IsRead greatest_bare_size bytes d → budget ≤ 1000000 → IsProved (core_document d) budget plan certs →
+    IsAccepted (text_with bytes d certs) (accepted_text (core_document d).words plan)
+found_accepted bytes budget d plan certs read few proved =
+    with_accepted bytes d plan certs read proved.verdict
+    (proved_is_read bytes d (core_document d) budget plan certs read.reading.is_document
+    (read_core greatest_bare_size (omega arith) bytes d read) proved few)
+
+-- the text with certificates that were found
+pub found_of : (bytes : List ℕ) (budget : ℕ) (d : Document) (plan : Plan) (certs : List Cert) (text : List ℕ) →
+    IsRead greatest_bare_size bytes d → budget ≤ 1000000 → IsProved (core_document d) budget plan certs →
+    text ≡ text_with bytes d certs → IsFound bytes budget text
+found_of bytes budget d plan certs text read few proved e = record {
+  document = d;
+  read = read;
+  plan = plan;
+  certs = certs;
+  proved = proved;
+  text_is = e;
+  verdict_text = accepted_text (core_document d).words plan;
+  accepted = subst (λ t. IsAccepted t (accepted_text (core_document d).words plan)) (sym e)
+      (found_accepted bytes budget d plan certs read few proved);
+}
+
+module _ (bytes : List ℕ) (budget : ℕ) (r : Reading) (plan : Plan) (certs : List Cert) (before text : List ℕ)
+    (few : budget ≤ 1000000) (proved : IsProved r.core budget plan certs)
+    (front_is : before ≡ front bytes r.document.certificates) (text_is : text ≡ before ++ 10 ∷ certificates_text certs)
+  where
+    whole_text : text ≡ text_with bytes r.document certs
+    whole_text = text_is ∙ ap (λ t. t ++ 10 ∷ certificates_text certs) front_is
+
+    pub found_told : IsReadAs greatest_bare_size bytes r → IsFound bytes budget text
+    found_told is =
+        found_of bytes budget r.document plan certs text is.read few
+        (subst (λ c. IsProved c budget plan certs) is.core_is proved) whole_text
+
+    pub found_planned : IsReadAs greatest_bare_size bytes r → IsAccepted text (accepted_text r.core.words plan)
+    found_planned is =
+        subst (λ t. IsAccepted t (accepted_text r.core.words plan)) (sym whole_text)
+        (subst (λ (c : CDocument). IsAccepted (text_with bytes r.document certs) (accepted_text c.words plan))
+        (sym is.core_is) (found_accepted bytes budget r.document plan certs is.read few
+        (subst (λ c. IsProved c budget plan certs) is.core_is proved)))
+
+-- the words of a document are those of its reading
+pub reading_plan : (input : Input) (r : Reading) {E : Type 0} (result : Result Found E) → input ≡ Input.Document r →
+    IfOk result (HasPlan r.core.words) → IfOk result (HasPlan (words_in input))
+reading_plan input r result e h = subst (λ i. IfOk result (HasPlan (words_in i))) (sym e) h
 
 pub bad_searched : (bytes : List ℕ) (budget : ℕ) (status : Status) (text meant : List ℕ) →
     status ≡ Status.BadDocument → text ≡ meant → Searched bytes budget Status.BadDocument meant →

@@ -1,7 +1,9 @@
 -- What is shown of a ring is its answer.
-use Rattle.std.proofs.Common.{◌≡◌, ◌≤◌, ◌-◌, ℕ, List, ◌++◌, length, Bool, true, false, Option, Some, refl, sym, ap}
-use Rattle.std.proofs.Common.{◌∙◌, subst, arith}
+use Rattle.std.proofs.Common.{◌≡◌, ◌≤◌, ◌-◌, ℕ, List, ◌++◌, length, Bool, true, false, Option, Some, None, refl, sym}
+use Rattle.std.proofs.Common.{ap, ◌∙◌, subst, arith}
 use Rattle.std.proofs.lemmas.Fmt.{length-decimal-le_succ}
+use Rattle.proof_script.specs.declared.plans.Plan.{Plan}
+use Rattle.answer_texts.specs.Verdicts.{accepted_text}
 use Rattle.ring_documents.specs.Rings.{ring_bytes}
 use Rattle.ring_documents.proofs.Lengths.{rings_have_lengths}
 use Rattle.command_words.specs.declared.words.Command.{Command}
@@ -12,7 +14,7 @@ use Rattle.unity_cli.specs.declared.status.Status.{Status}
 use Rattle.unity_cli.specs.Status.{HasText}
 use Rattle.unity_cli.specs.Answer.{greatest_bare_size, ring_budget, ring_line, reads_source, Answer, IsAccepted}
 use Rattle.unity_cli.specs.Answer.{Searched, Shown, Tells, TellsPart}
-use Rattle.unity_cli.specs.Answering.{Telling}
+use Rattle.unity_cli.specs.Answering.{ComesWith, Telling}
 use Rattle.unity_cli.specs.Input.{AreKept, IsInput}
 use Rattle.unity_cli.proofs.Told.{some_bytes}
 use Rattle.unity_cli.proofs.Searched.{are_kept}
@@ -61,6 +63,13 @@ shown_bare places Status.ReadFault text h other = h
 shown_bare places Status.WriteFault text h other = h
 shown_bare places Status.WantOfMemory text h other = h
 
+-- what comes with no plan is no text with certificates
+pub shown_alone : (places : ℕ) (words : List (List ℕ)) (a : Told) (plan : Option Plan) →
+    Searched (ring_bytes places) ring_budget a.status a.text.items → ComesWith words a plan → plan ≡ None →
+    Shown places a.status a.text.items
+shown_alone places words a plan h comes e =
+    shown_bare places a.status a.text.items h (subst (ComesWith words a) e comes)
+
 pub shown_found : (places : ℕ) (a : Told) (verdict text : List ℕ) →
     Searched (ring_bytes places) ring_budget a.status a.text.items → a.status ≡ Status.Done →
     IsAccepted a.text.items verdict → text ≡ ring_line places ++ verdict → Shown places Status.Done text
@@ -71,6 +80,16 @@ shown_found places a verdict text h done accepted e = record {
   accepted = accepted;
   text_is = e;
 }
+
+-- what comes with a plan is, and the plan's verdict is shown
+pub shown_planned : (places : ℕ) (words : List (List ℕ)) (a : Told) (found : Option Plan) (plan : Plan)
+    (verdict text : List ℕ) → Searched (ring_bytes places) ring_budget a.status a.text.items →
+    ComesWith words a found → found ≡ Some plan → verdict ≡ accepted_text words plan →
+    text ≡ ring_line places ++ verdict → Shown places Status.Done text
+shown_planned places words a found plan verdict text h comes e same is =
+    let with_plan : ComesWith words a (Some plan) = subst (ComesWith words a) e comes in
+    shown_found places a verdict text h with_plan.0
+    (subst (IsAccepted a.text.items) (sym same) with_plan.1) is
 
 -- ---- whatever bytes are left
 

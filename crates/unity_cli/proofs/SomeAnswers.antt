@@ -29,60 +29,72 @@ use Rattle.source_traces.specs.Traces.{source_system, first_state, program_trace
 use Rattle.source_traces.proofs.Finding.{HasSchedule, scheduled_source, no_schedule_source}
 use Rattle.proof_script.specs.declared.plans.Plan.{Plan}
 use Rattle.proof_script.specs.declared.plans.StepFault.{StepFault}
+use Rattle.proof_script.specs.declared.plans.Proof.{Proof}
+use Rattle.proof_script.specs.declared.plans.ScriptError.{ScriptError}
+use Rattle.proof_script.specs.Laws.{IsTold}
+use Rattle.proof_script.specs.Proving.{Finds}
 use Rattle.proof_script.specs.Verdicts.{verdict_of}
+use Rattle.proof_script.proofs.SomeLaws.{some_finding}
+use Rattle.tree_search.proofs.EndsLaws.{search-ends}
+use Rattle.certificate_texts.specs.Findings.{budget_text, refuted_text}
+use Rattle.found_documents.specs.Found.{text_with}
+use Rattle.ring_documents.specs.Rings.{ring_bytes}
 use Rattle.written_certificates.specs.Certificates.{certificates_of}
 use Rattle.answer_texts.specs.Refusals.{fault_text, refusal_text}
 use Rattle.answer_texts.specs.Verdicts.{accepted_text, rejected_text}
-use Rattle.command_words.specs.Requests.{Request, check, prove, run, replay, demo}
+use Rattle.command_words.specs.Requests.{Request, check, prove, run, replay, demo, request_of}
+use Rattle.command_words.proofs.Asking.{requests_are_asked}
 use Rattle.unity_cli.specs.declared.status.Status.{Status}
-use Rattle.unity_cli.specs.Answer.{greatest_size, IsRead, IsBad, too_long, no_reading, Checked, Ran, Replayed, Answer}
+use Rattle.unity_cli.specs.Answer.{greatest_size, greatest_bare_size, IsRead, IsBad, too_long, no_reading, Checked}
+use Rattle.unity_cli.specs.Answer.{Searched, Ran, Replayed, Answer, ring_budget, ring_line}
 use Rattle.unity_cli.specs.Answer.{IsTrace, no_program, no_schedule, unknown}
 use Rattle.unity_cli.specs.Answer as answers
-use Rattle.unity_cli.specs.Laws.{IsDetermined, HasAnswer, SomeAnswer}
+use Rattle.unity_cli.specs.Laws.{HasAnswer, IsLimited, LimitedHaveAnswer, SomeAnswer}
 use Rattle.unity_cli.specs.Reading.{of_text, of_document, document_fault}
 use Rattle.unity_cli.proofs.Accepted.{read_core}
+use Rattle.unity_cli.proofs.Searched.{found_of}
 
 -- ---- readings
 
-abbrev ReadOrBad : List ℕ → Type 0
-ReadOrBad bytes = ((d : Document) × IsRead greatest_size bytes d) ⊎ ((text : List ℕ) × IsBad greatest_size bytes text)
+abbrev ReadOrBad : ℕ → List ℕ → Type 0
+ReadOrBad most bytes = ((d : Document) × IsRead most bytes d) ⊎ ((text : List ℕ) × IsBad most bytes text)
 
 -- a document that is well named and expands, or its first fault
-by_faults : (bytes : List ℕ) (d : Document) → length bytes ≤ greatest_size → IsDocument bytes d →
-    (f g : Option Fault) → name_fault d ≡ f → expansion_fault d ≡ g → ReadOrBad bytes
-by_faults bytes d few is None None e h = inl (
+by_faults : (most : ℕ) (bytes : List ℕ) (d : Document) → length bytes ≤ most → IsDocument bytes d →
+    (f g : Option Fault) → name_fault d ≡ f → expansion_fault d ≡ g → ReadOrBad most bytes
+by_faults most bytes d few is None None e h = inl (
   d,
   record {
     size = few;
     reading = record { is_document = is; named = e; expands = h };
   },
 )
-by_faults bytes d few is (Some f) g e h = inr (
+by_faults most bytes d few is (Some f) g e h = inr (
   fault_text f.code f.at,
   no_reading f.code f.at few (of_document d is (ap (λ x. earlier x (expansion_fault d)) e)) refl,
 )
-by_faults bytes d few is None (Some g) e h = inr (
+by_faults most bytes d few is None (Some g) e h = inr (
   fault_text g.code g.at,
   no_reading g.code g.at few
       (of_document d is (ap (λ x. earlier x (expansion_fault d)) e ∙ ap (λ x. earlier None x) h)) refl,
 )
 
-read_short : (bytes : List ℕ) → length bytes ≤ greatest_size →
-    ((d : Document) × IsDocument bytes d) ⊎ ((code : Code) × (at : ℕ) × IsFault bytes code at) → ReadOrBad bytes
-read_short bytes few (inl (d, is)) = by_faults bytes d few is (name_fault d) (expansion_fault d) refl refl
-read_short bytes few (inr (code, at, fault)) =
+read_short : (most : ℕ) (bytes : List ℕ) → length bytes ≤ most →
+    ((d : Document) × IsDocument bytes d) ⊎ ((code : Code) × (at : ℕ) × IsFault bytes code at) → ReadOrBad most bytes
+read_short most bytes few (inl (d, is)) = by_faults most bytes d few is (name_fault d) (expansion_fault d) refl refl
+read_short most bytes few (inr (code, at, fault)) =
     inr (fault_text code at, no_reading code at few (of_text fault) refl)
 
-read_or_bad : (bytes : List ℕ) → ReadOrBad bytes
-read_or_bad bytes = by_size (nat_lt greatest_size (length bytes)) refl
+read_or_bad : (most : ℕ) (bytes : List ℕ) → ReadOrBad most bytes
+read_or_bad most bytes = by_size (nat_lt most (length bytes)) refl
   where
-    by_size : (b : Bool) → nat_lt greatest_size (length bytes) ≡ b → ReadOrBad bytes
+    by_size : (b : Bool) → nat_lt most (length bytes) ≡ b → ReadOrBad most bytes
     by_size true e = inr (refusal_text Code.TooLong, too_long (grind (arith, e)) refl)
-    by_size false e = read_short bytes (grind (arith, e)) (some_reading bytes)
+    by_size false e = read_short most bytes (grind (arith, e)) (some_reading bytes)
 
 -- ---- check
 
-checked : (bytes : List ℕ) → ReadOrBad bytes → HasAnswer (Some check) bytes
+checked : (bytes : List ℕ) → ReadOrBad greatest_size bytes → HasAnswer (Some check) bytes
 checked bytes (inr (text, bad)) = (Status.BadDocument, text, bad)
 checked bytes (inl (d, read)) = by_verdict (verdict_of (core_document d) (certificates_of d)) refl
   where
@@ -156,7 +168,7 @@ ran_core bytes name steps d read c p is =
       }) refl,
     )
 
-ran : (bytes name : List ℕ) (steps : ℕ) → ReadOrBad bytes → HasAnswer (Some (run name steps)) bytes
+ran : (bytes name : List ℕ) (steps : ℕ) → ReadOrBad greatest_size bytes → HasAnswer (Some (run name steps)) bytes
 ran bytes name steps (inr (text, bad)) = (Status.BadDocument, text, answers.IsNotRun.bad bad)
 ran bytes name steps (inl (d, read)) = by_name (program_named name (programs_of d)) refl
   where
@@ -244,7 +256,7 @@ scheduled bytes d read p h = by_choice (find (λ i. is_none (place_of h.program 
       }) refl,
     )
 
-replayed : (bytes : List ℕ) → ReadOrBad bytes → HasAnswer (Some replay) bytes
+replayed : (bytes : List ℕ) → ReadOrBad greatest_size bytes → HasAnswer (Some replay) bytes
 replayed bytes (inr (text, bad)) = (Status.BadDocument, text, answers.IsNotReplayed.bad bad)
 replayed bytes (inl (d, read)) = by_program (scheduled_program (core_document d)) refl
   where
@@ -259,10 +271,111 @@ replayed bytes (inl (d, read)) = by_program (scheduled_program (core_document d)
     by_program (Some p) e =
         scheduled bytes d read p (scheduled_source d read.reading.named read.reading.expands p e)
 
+-- ---- prove
+
+searched : (bytes : List ℕ) (budget : ℕ) → budget ≤ 1000000 → ReadOrBad greatest_bare_size bytes →
+    HasAnswer (Some (prove budget)) bytes
+searched bytes budget few (inr (text, bad)) = (Status.BadDocument, text, bad)
+searched bytes budget few (inl (d, read)) =
+    by_some (some_finding search-ends (core_document d) budget (read_core greatest_bare_size (omega arith) bytes d read))
+  where
+    by_finding : (finding : Result Proof ScriptError) → IsTold finding → Finds (core_document d) budget finding →
+        HasAnswer (Some (prove budget)) bytes
+    by_finding (Ok (Proof.Proved plan certs)) told finds = (
+      Status.Done,
+      text_with bytes d certs,
+      found_of bytes budget d plan certs (text_with bytes d certs) read few finds refl,
+    )
+    by_finding (Ok (Proof.Refuted program step number variables values)) told finds = (
+      Status.Refuted,
+      refuted_text (core_document d) program step number variables values,
+      record {
+        program = program;
+        step = step;
+        number = number;
+        variables = variables;
+        values = values;
+        finding = record { document = d; read = read; finds = finds; text_is = refl };
+      },
+    )
+    by_finding (Ok (Proof.Budget program step number)) told finds = (
+      Status.Budget,
+      budget_text (core_document d).words program step number budget,
+      record {
+        program = program;
+        step = step;
+        number = number;
+        finding = record { document = d; read = read; finds = finds; text_is = refl };
+      },
+    )
+    by_finding (Err (ScriptError.Step fault)) told finds = (
+      Status.Rejected,
+      rejected_text (core_document d).words fault,
+      record {
+        fault = fault;
+        finding = record { document = d; read = read; finds = finds; text_is = refl };
+      },
+    )
+    by_finding (Err ScriptError.Memory) told finds = absurd told
+
+    by_some : (finding : Result Proof ScriptError) × IsTold finding × Finds (core_document d) budget finding →
+        HasAnswer (Some (prove budget)) bytes
+    by_some (finding, told, finds) = by_finding finding told finds
+
+-- ---- demo
+
+shown : (places : ℕ) (bytes : List ℕ) → HasAnswer (Some (prove ring_budget)) (ring_bytes places) →
+    HasAnswer (Some (demo places)) bytes
+shown places bytes (status, text, h) = by_status status text h
+  where
+    by_status : (status : Status) (text : List ℕ) → Searched (ring_bytes places) ring_budget status text →
+        HasAnswer (Some (demo places)) bytes
+    by_status Status.Done text h = (
+      Status.Done,
+      ring_line places ++ h.verdict_text,
+      record {
+        proved = text;
+        found = h;
+        verdict = h.verdict_text;
+        accepted = h.accepted;
+        text_is = refl;
+      },
+    )
+    by_status Status.Rejected text h = (Status.Rejected, text, h)
+    by_status Status.BadDocument text h = (Status.BadDocument, text, h)
+    by_status Status.Refuted text h = (Status.Refuted, text, h)
+    by_status Status.Budget text h = (Status.Budget, text, h)
+    by_status Status.Undefined text h = absurd h
+    by_status Status.BadWords text h = absurd h
+    by_status Status.ReadFault text h = absurd h
+    by_status Status.WriteFault text h = absurd h
+    by_status Status.WantOfMemory text h = absurd h
+
+-- ---- all requests
+
+pub limited_have_answer : LimitedHaveAnswer
+limited_have_answer None limited bytes = (Status.BadWords, codes "bad words" ++ 10 ∷ [], (refl, refl))
+limited_have_answer (Some check) limited bytes = checked bytes (read_or_bad greatest_size bytes)
+limited_have_answer (Some (prove budget)) limited bytes =
+    searched bytes budget limited (read_or_bad greatest_bare_size bytes)
+limited_have_answer (Some (run program steps)) limited bytes =
+    ran bytes program steps (read_or_bad greatest_size bytes)
+limited_have_answer (Some replay) limited bytes = replayed bytes (read_or_bad greatest_size bytes)
+limited_have_answer (Some (demo places)) limited bytes =
+    shown places bytes (searched (ring_bytes places) ring_budget (omega arith)
+    (read_or_bad greatest_bare_size (ring_bytes places)))
+
+-- words ask for no more
+words_are_limited : (words : List (List ℕ)) → IsLimited (request_of words)
+words_are_limited words = by_request (request_of words) refl
+  where
+    by_request : (request : Option Request) → request_of words ≡ request → IsLimited request
+    by_request None e = tt
+    by_request (Some check) e = tt
+    by_request (Some (prove budget)) e = ((requests_are_asked words (prove budget)).0 e).2
+    by_request (Some (run program steps)) e = tt
+    by_request (Some replay) e = tt
+    by_request (Some (demo places)) e = tt
+
 pub some_answer : SomeAnswer
-some_answer None any bytes = (Status.BadWords, codes "bad words" ++ 10 ∷ [], (refl, refl))
-some_answer (Some check) any bytes = checked bytes (read_or_bad bytes)
-some_answer (Some (prove budget)) any bytes = absurd any
-some_answer (Some (run program steps)) any bytes = ran bytes program steps (read_or_bad bytes)
-some_answer (Some replay) any bytes = replayed bytes (read_or_bad bytes)
-some_answer (Some (demo places)) any bytes = absurd any
+some_answer words bytes = limited_have_answer (request_of words) (words_are_limited words) bytes

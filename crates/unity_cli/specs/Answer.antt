@@ -1,11 +1,10 @@
 -- What the program answers.
-use Rattle.std.specs.Prelude.{◌≡◌, ◌<◌, ◌≤◌, ℕ, ℤ, List, ◌∷◌, [], ◌++◌, codes, decimal, length, take, Bool, true, false}
+use Rattle.std.specs.Prelude.{◌≡◌, ◌<◌, ◌≤◌, ℕ, ℤ, List, ◌∷◌, [], ◌++◌, codes, decimal, length, Bool, true, false}
 use Rattle.std.specs.Prelude.{Option, Some, None, Result, Ok, Err}
 use Rattle.std.specs.Io.KnownBytes.{Appends}
 use Rattle.unity_base.specs.Streams.{Was, AppendsPart}
 use Rattle.case_tables.specs.declared.code_table.Code.{Code}
 use Rattle.unity_syntax.specs.declared.document.Document.{Document}
-use Rattle.unity_syntax.specs.declared.certificate.Certificates.{Certificates}
 use Rattle.unity_syntax.specs.declared.document.Schedule.{Schedule}
 use Rattle.unity_meaning.specs.Programs.{Composed, program_named, programs_of}
 use Rattle.core_documents.specs.Cores.{core_document}
@@ -24,10 +23,10 @@ use Rattle.proof_script.specs.declared.plans.ScriptError.{ScriptError}
 use Rattle.proof_script.specs.Proving.{Finds, IsProved}
 use Rattle.obligations.specs.declared.branches.Variable.{Variable}
 use Rattle.obligations.specs.declared.certificates.Cert.{Cert}
-use Rattle.certificate_texts.specs.Certificates.{certificates_text}
 use Rattle.certificate_texts.specs.Findings.{budget_text, refuted_text}
 use Rattle.proof_script.specs.Verdicts.{verdict_of}
 use Rattle.written_certificates.specs.Certificates.{certificates_of}
+use Rattle.found_documents.specs.Found.{text_with}
 use Rattle.answer_texts.specs.Refusals.{fault_text, refusal_text}
 use Rattle.answer_texts.specs.Verdicts.{accepted_text, rejected_text}
 use Rattle.ring_documents.specs.Rings.{ring_bytes}
@@ -85,15 +84,6 @@ Checked bytes Status.BadDocument text = IsBad greatest_size bytes text
 Checked bytes status text = ⊥
 
 -- ---- prove
-
--- the bytes before the word `certificates`, which are all where there is none
-abbrev pub front : List ℕ → Option Certificates → List ℕ
-front bytes None = bytes
-front bytes (Some c) = take c.at bytes
-
--- the document with other certificates: its front, a line feed, and their section
-abbrev pub text_with : List ℕ → Document → List Cert → List ℕ
-text_with bytes d certs = front bytes d.certificates ++ 10 ∷ certificates_text certs
 
 -- certificates within the budget refute all obligations' negations, and `check` accepts the document with them
 pub record IsFound (bytes : List ℕ) (budget : ℕ) (text : List ℕ) : Type 0 where

@@ -1,11 +1,13 @@
 -- What is said of an input, whatever bytes it is.
-use Rattle.std.specs.Prelude.{◌≡◌, ℕ, List, Option, Some, Result, Ok, Err}
+use Rattle.std.specs.Prelude.{◌≡◌, ℕ, List, Option, Some, None, Result, Ok, Err}
 use Rattle.std.specs.Io.KnownBytes.{Appends}
 use Rattle.unity_base.specs.Streams.{AppendsPart}
 use Rattle.case_tables.specs.declared.code_table.Code.{Code}
 use Rattle.executor.specs.declared.runner.Stepped.{Stepped}
 use Rattle.program_traces.specs.declared.error.RunError.{RunError}
+use Rattle.proof_script.specs.declared.plans.Plan.{Plan}
 use Rattle.answer_texts.specs.Refusals.{fault_text, refusal_text}
+use Rattle.answer_texts.specs.Verdicts.{accepted_text}
 use Rattle.command_words.specs.Requests.{Request}
 use Rattle.unity_cli.specs.declared.reading.Input.{Input}
 use Rattle.unity_cli.specs.declared.reading.Reading.{Reading}
@@ -31,9 +33,13 @@ IsSearchedFor budget kept input a = (bytes : List ℕ) → IsInput greatest_bare
 abbrev pub IsSearchedIn : ℕ → List ℕ → Reading → Told → Type 0
 IsSearchedIn budget bytes r a = IsReadAs greatest_bare_size bytes r → Searched bytes budget a.status a.text.items
 
--- with a document's text stands what `check` writes of it
-abbrev pub HasVerdict : Found → Type 0
-HasVerdict f = f.answer.status ≡ Status.Done → IsAccepted f.answer.text.items f.verdict.items
+-- a plan comes where certificates were found, and there alone: `check` writes it of the text with them
+abbrev pub ComesWith : List (List ℕ) → Told → Option Plan → Type 0
+ComesWith words a None = a.status ≡ Status.Done → ⊥
+ComesWith words a (Some plan) = (a.status ≡ Status.Done) × IsAccepted a.text.items (accepted_text words plan)
+
+abbrev pub HasPlan : List (List ℕ) → Found → Type 0
+HasPlan words f = ComesWith words f.answer f.plan
 
 -- an answer for these bytes was told whole, or a front part of it
 pub record Telling (request : Request) (bytes : List ℕ) (old new : Option (List ℕ)) (status : Status) : Type 0 where

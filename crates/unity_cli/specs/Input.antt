@@ -1,5 +1,5 @@
 -- What is read from a source.
-use Rattle.std.specs.Prelude.{◌≡◌, ◌<◌, ◌≤◌, ℕ, List, length, Option}
+use Rattle.std.specs.Prelude.{◌≡◌, ◌<◌, ◌≤◌, ℕ, List, [], length, Option}
 use Rattle.unity_base.specs.Streams.{Was}
 use Rattle.core_documents.specs.Cores.{core_document}
 use Rattle.unity_cli.specs.declared.reading.Input.{Input}
@@ -18,6 +18,11 @@ abbrev pub IsInput : ℕ → List ℕ → Input → Type 0
 IsInput most bytes Input.TooLong = most < length bytes
 IsInput most bytes (Input.Fault code at) = (length bytes ≤ most) × IsFirstFault bytes code at
 IsInput most bytes (Input.Document r) = IsReadAs most bytes r
+
+-- the words of a document's core form
+abbrev pub words_in : Input → List (List ℕ)
+words_in (Input.Document r) = r.core.words
+words_in input = []
 
 -- the bytes of a document are kept
 abbrev pub AreKept : Input → List ℕ → List ℕ → Type 0

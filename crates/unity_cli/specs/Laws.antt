@@ -1,6 +1,6 @@
 -- Laws of the answers, as statements.
-use Rattle.std.specs.Prelude.{◌≡◌, ℕ, List, Option, Some}
-use Rattle.command_words.specs.Requests.{Request, prove, demo}
+use Rattle.std.specs.Prelude.{◌≡◌, ◌≤◌, ℕ, List, Option, Some}
+use Rattle.command_words.specs.Requests.{Request, prove, demo, request_of}
 use Rattle.unity_cli.specs.declared.status.Status.{Status}
 use Rattle.unity_cli.specs.Answer.{Answer}
 
@@ -16,9 +16,18 @@ OneAnswer = (request : Option Request) → IsDetermined request → (bytes : Lis
     (text more : List ℕ) → Answer request bytes status text → Answer request bytes other more →
     (status ≡ other) × (text ≡ more)
 
--- and they have some
 abbrev pub HasAnswer : Option Request → List ℕ → Type 0
 HasAnswer request bytes = (status : Status) × (text : List ℕ) × Answer request bytes status text
 
+-- whatever the words and the bytes, they have some
 abbrev pub SomeAnswer : Type 0
-SomeAnswer = (request : Option Request) → IsDetermined request → (bytes : List ℕ) → HasAnswer request bytes
+SomeAnswer = (words : List (List ℕ)) (bytes : List ℕ) → HasAnswer (request_of words) bytes
+
+-- the units of a search are no more than words can ask for
+abbrev pub IsLimited : Option Request → Type 0
+IsLimited (Some (prove budget)) = budget ≤ 1000000
+IsLimited request = Unit {0}
+
+-- and so has each request that is limited so, whether words ask for it or not
+abbrev pub LimitedHaveAnswer : Type 0
+LimitedHaveAnswer = (request : Option Request) → IsLimited request → (bytes : List ℕ) → HasAnswer request bytes

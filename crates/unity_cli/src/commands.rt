@@ -1,7 +1,7 @@
 // Answering a command.
-ghost use Rattle.std.specs.Prelude.{◌≡◌, ℕ, List, Some};
+ghost use Rattle.std.specs.Prelude.{◌≡◌, ◌≤◌, ℕ, List, Some};
 ghost use Rattle.unity_base.specs.Streams.{IsTold};
-ghost use Rattle.command_words.specs.Requests.{HasPlaces, check, prove, meant};
+ghost use Rattle.command_words.specs.Requests.{HasLimits, check, prove, meant};
 ghost use Rattle.unity_cli.specs.Answer as answers;
 ghost use Rattle.unity_cli.specs.Answering.{Telling, TellsInput, TellsText};
 ghost use Rattle.unity_cli.specs.Input.{AreKept, IsInput, IsSomeInput, IsSomeText};
@@ -37,7 +37,7 @@ pub fn most_bytes(command: &Command) -> usize
 /// commands let them go first.
 pub fn write_command<K: Sink>(alloc: Global, command: &Command, text: Text, out: &mut K) -> Status
     requires text { IsSomeText (answers.most_bytes (Some (meant command.now))) text }
-    requires places { HasPlaces command.now }
+    requires limits { HasLimits command.now }
     ensures told { TellsText (meant command.now) text (K.written out.old) (K.written out.new) result }
     ensures nothing { result ≡ Status.WantOfMemory → out.new ≡ out.old }
     ensures never { result ≡ Status.ReadFault → ⊥ }
@@ -87,8 +87,9 @@ fn write_finding<K: Sink>(
     input: &Input,
     out: &mut K,
 ) -> Status
-    requires { (bytes : List ℕ) × IsInput answers.greatest_bare_size bytes input.now
+    requires input { (bytes : List ℕ) × IsInput answers.greatest_bare_size bytes input.now
         × AreKept input.now kept.now bytes }
+    requires budget { budget ≤ 1000000 }
     ensures told { (bytes : List ℕ) → IsInput answers.greatest_bare_size bytes input.now →
         AreKept input.now kept.now bytes →
         Telling (prove budget) bytes (K.written out.old) (K.written out.new) result }

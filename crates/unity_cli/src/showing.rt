@@ -4,18 +4,30 @@ ghost use Rattle.unity_base.specs.Streams.{IsTold};
 ghost use Rattle.command_words.specs.Requests.{demo};
 ghost use Rattle.unity_cli.specs.Answer.{Shown, ring_line};
 ghost use Rattle.unity_cli.specs.Answering.{Telling};
+ghost use Rattle.unity_cli.specs.Input.{words_in};
 
 use crate::finding::{Found, find};
 use crate::judge::Answer;
-use crate::reading::read_bytes;
+use crate::reading::{Input, read_bytes};
 use crate::status::Status;
 use crate::telling::write_answer;
+use answer_texts::accepted;
 use ring_documents::make_demo;
 use std::alloc::{AllocError, Global};
-use unity_base::Sink;
+use unity_base::{Seq, Sink};
 
 /// The units of the search for a ring's certificates.
 const RING_BUDGET: u64 = 1_000_000;
+
+// The words of a document's core form.
+fn words_of(input: &Input) -> &[Seq<u8>]
+    ensures { result.now ≡ words_in input.now }
+{
+    match input {
+        Input::Document(reading) => reading.get().core.words.as_slice(),
+        _ => &[],
+    }
+}
 
 // What `demo` answers for a ring of so many places.
 fn show(alloc: Global, places: u32) -> Result<Answer, AllocError>
@@ -24,10 +36,11 @@ fn show(alloc: Global, places: u32) -> Result<Answer, AllocError>
 {
     let ring = make_demo(alloc, places)?;
     let input = read_bytes(alloc, &ring)?;
-    let Found { answer, verdict } = find(alloc, RING_BUDGET, &ring, &input)?;
-    if answer.status != Status::Done {
+    let Found { answer, plan } = find(alloc, RING_BUDGET, &ring, &input)?;
+    let Some(plan) = plan else {
         return Ok(answer);
-    }
+    };
+    let verdict = accepted(alloc, words_of(&input), &plan)?;
     let line = format!(in alloc; "ring {places} bytes {}\n", ring.len())?;
     let mut text = line.into_bytes();
     text.extend_from_slice(&verdict)?;

@@ -1,26 +1,33 @@
-use Rattle.std.proofs.Common.{◌≡◌, ℕ, List, ◌∷◌, ◌++◌, Ok, IfOk, ap, ◌∙◌, subst}
+use Rattle.std.proofs.Common.{◌≡◌, ℕ, List, ◌∷◌, ◌++◌, Ok, refl, ap, ◌∙◌, subst}
 use Rattle.proof_script.specs.Proving.{Finds}
 use Rattle.certificate_texts.specs.Certificates.{certificates_text}
 use Rattle.certificate_texts.specs.Findings.{budget_text, refuted_text}
-use Rattle.unity_cli.proofs.Searched.{searched_core, finds_told, found_told, found_verdict}
+use Rattle.unity_cli.proofs.Searched.{searched_core, finds_told, found_told, found_planned}
 use Rattle.unity_cli.proofs.finding.find_for.Goals as goal
 
 pub prove-requires : goal.prove-requires
-prove-requires c = record { document = searched_core c.args.bytes.now c.args.reading.now c.requires }
+prove-requires c = record { document = searched_core c.args.bytes.now c.args.reading.now c.requires.reading }
 
-pub returns-in-Ok-Proved-clause-answer : goal.returns-in-Ok-Proved-clause-answer
-returns-in-Ok-Proved-clause-answer c =
-    found_told c.args.bytes.now c.args.budget c.args.reading.now c.in-Ok-Proved._plan c.in-Ok-Proved.certs
-    c.front_of-front.result.now c.accepted_with.result
+pub returns-in_ok-text-in-Ok-Proved-clause-answer : goal.returns-in_ok-text-in-Ok-Proved-clause-answer
+returns-in_ok-text-in-Ok-Proved-clause-answer c =
+    found_told c.args.bytes.now c.args.budget c.args.reading.now c.in-Ok-Proved.plan c.in-Ok-Proved.certs
+    c.front_of-front.result.now c.in_ok-text-in-Ok-Proved.text.items c.requires.budget
     (subst (λ p. Finds c.args.reading.now.core c.args.budget (Ok p)) c.in-Ok-Proved.field-0-is c.in-Ok-Proved.ensures)
     c.front_of-front.ensures
-    c.accepted_with.ensures.status
-    (subst (λ cs. IfOk c.accepted_with.result (λ f. f.answer.text.items ≡ c.front_of-front.result.now
-    ++ 10 ∷ certificates_text cs)) c.as_slice.ensures c.accepted_with.ensures.text)
-    c.accepted_with.ensures.accepted
+    (subst (λ cs. c.in_ok-text-in-Ok-Proved.text.items ≡ c.front_of-front.result.now ++ 10 ∷ certificates_text cs)
+    c.as_slice.ensures c.in_ok-text-in-Ok-Proved.ensures)
 
-pub returns-in-Ok-Proved-clause-verdict : goal.returns-in-Ok-Proved-clause-verdict
-returns-in-Ok-Proved-clause-verdict c = found_verdict c.accepted_with.result c.accepted_with.ensures.accepted
+pub returns-in_ok-text-in-Ok-Proved-clause-plan : goal.returns-in_ok-text-in-Ok-Proved-clause-plan
+returns-in_ok-text-in-Ok-Proved-clause-plan c = (
+  refl,
+  found_planned c.args.bytes.now c.args.budget c.args.reading.now c.in-Ok-Proved.plan c.in-Ok-Proved.certs
+      c.front_of-front.result.now c.in_ok-text-in-Ok-Proved.text.items c.requires.budget
+      (subst (λ p. Finds c.args.reading.now.core c.args.budget (Ok p)) c.in-Ok-Proved.field-0-is
+      c.in-Ok-Proved.ensures)
+      c.front_of-front.ensures
+      (subst (λ cs. c.in_ok-text-in-Ok-Proved.text.items ≡ c.front_of-front.result.now ++ 10 ∷ certificates_text cs)
+      c.as_slice.ensures c.in_ok-text-in-Ok-Proved.ensures) c.requires.reading,
+)
 
 pub returns-in_ok-refuted_text-in-Ok-Refuted-clause-answer : goal.returns-in_ok-refuted_text-in-Ok-Refuted-clause-answer
 returns-in_ok-refuted_text-in-Ok-Refuted-clause-answer c = λ is. record {
