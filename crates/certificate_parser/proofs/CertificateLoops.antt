@@ -1,8 +1,11 @@
 -- The loops over a certificate's nodes, and over the certificates.
 use Rattle.std.proofs.Common.{◌≡◌, ℕ, suc, true, false, List, [], ◌∷◌, ◌++◌, map, length, refl, sym, ◌∙◌, ap, subst}
-use Rattle.std.proofs.Common.{arith, ◌+◌, ◌<◌, ◌≤◌, Ok, Err}
-use Rattle.ebnf.specs.Ebnf.{Terminal, Tree, more, numbered, numbered_item, prefix_tree, prefix_trees}
+use Rattle.std.proofs.Common.{arith, ◌+◌, ◌<◌, ◌≤◌, Ok, Err, append-nil}
+use Rattle.ebnf.specs.Ebnf.{Terminal, Tree, more, numbered, numbered_item, prefix_tree, prefix_trees, Ebnf, Derives}
 use Rattle.ebnf.specs.Reader.{Read, Unexpected, OtherVersion, TooDeep, after, begins, count, missing, and_then_by, read}
+use Rattle.ebnf.specs.LookAhead.{good}
+use Rattle.ebnf.specs.Outcomes.{Took, Outcome}
+use Rattle.ebnf.proofs.Complete.{reader_lawful}
 use Rattle.ebnf.proofs.Loops.{Reading, numbered_step, numbered_end, numbered_fault, trees_step, trees_end, trees_fault}
 use Rattle.ebnf.proofs.Steps.{read_shorter, trees_more}
 use Rattle.unity_syntax.specs.Classes.{number_class, terminal}
@@ -132,3 +135,18 @@ certificate_shorter n k rest x later e = read_shorter grammar grammar_is (number
 pub some_left : (rest : List Terminal) → begins (number_class ∷ []) rest ≡ true → 0 < count rest
 some_left [] b = cc
 some_left (t ∷ ts) b = omega arith
+
+-- what is read to the end is all of the tokens
+read_to_end : (e : Ebnf) → good grammar e ≡ true → (n : ℕ) (ts : List Terminal) (x : Tree) (rest : List Terminal) →
+    read grammar n e ts ≡ Ok (x, rest) → rest ≡ [] → Derives grammar e x ts
+read_to_end e g n ts x rest is none =
+    let P : Read Tree → Type 0 = λ r. Outcome grammar e (read grammar n e) ts r in
+    let took : Took grammar e (read grammar n e) ts x rest = subst P is (reader_lawful grammar grammar_is n e g ts) in
+    let all : ts ≡ took.taken = took.split ∙ ap (λ us. took.taken ++ us) none ∙ append-nil took.taken in
+    subst (λ us. Derives grammar e x us) (sym all) took.tree
+
+-- a certificate that is read to the end
+pub certificate_whole : (k : ℕ) (ts : List Terminal) (x : Tree) (rest : List Terminal) →
+    read grammar 0 (numbered_item k number_class certificate_) ts ≡ Ok (x, rest) → rest ≡ [] →
+    Derives grammar (numbered_item k number_class certificate_) x ts
+certificate_whole k = read_to_end (numbered_item k number_class certificate_) (good_certificate k) 0

@@ -4,5 +4,5 @@
 mod certificate;
 mod schedules;
 
-pub use certificate::certificates;
+pub use certificate::{certificates, whole_certificate};
 pub use schedules::schedule;

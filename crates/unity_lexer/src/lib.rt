@@ -11,4 +11,4 @@ mod tests;
 mod tokens;
 
 pub use laws::{one_reading, places_in_text, some_reading};
-pub use tokens::lex;
+pub use tokens::{TokenPart, lex, lex_part};
