@@ -137,7 +137,7 @@ some_left [] b = cc
 some_left (t ∷ ts) b = omega arith
 
 -- what is read to the end is all of the tokens
-read_to_end : (e : Ebnf) → good grammar e ≡ true → (n : ℕ) (ts : List Terminal) (x : Tree) (rest : List Terminal) →
+pub read_to_end : (e : Ebnf) → good grammar e ≡ true → (n : ℕ) (ts : List Terminal) (x : Tree) (rest : List Terminal) →
     read grammar n e ts ≡ Ok (x, rest) → rest ≡ [] → Derives grammar e x ts
 read_to_end e g n ts x rest is none =
     let P : Read Tree → Type 0 = λ r. Outcome grammar e (read grammar n e) ts r in

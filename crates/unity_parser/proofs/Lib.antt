@@ -1,3 +1,6 @@
 pub mod ItemForms
+pub mod NoBrackets
 pub mod Parsed
+pub mod Parts
 pub mod Readings
+pub mod SectionReadings

@@ -3,6 +3,7 @@
 
 mod documents;
 mod reading;
+mod sections;
 mod texts;
 
 pub use reading::parse;
