@@ -1,5 +1,5 @@
 // Certificates, from their text to their nodes.
-ghost use Rattle.std.specs.Prelude.{◌≡◌, ◌∷◌, map, IfOk, OnOk, ◌++◌};
+ghost use Rattle.std.specs.Prelude.{◌≡◌, ◌∷◌, map, reverse, IfOk, OnOk, ◌++◌};
 ghost use Rattle.written_certificates.specs.Certificates as written;
 
 use obligations::{Cert, Node};
@@ -102,6 +102,45 @@ pub fn certificates_of(alloc: Global, document: &Document) -> Result<Seq<Cert>, 
 {
     match &document.certificates {
         Some(section) => all_of(alloc, section.items.as_slice()),
+        None => Ok(Seq::new(alloc)),
+    }
+}
+
+// The certificates the other way round.
+fn turned(alloc: Global, certificates: Seq<Cert>) -> Result<Seq<Cert>, AllocError>
+    ensures { IfOk result (λ found. found ≡ reverse certificates) }
+{
+    let mut left = certificates;
+    let mut found = Seq::new(alloc);
+    'certificates: while let Some(certificate) = left.pop() {
+        found.push(certificate)?;
+    }
+    Ok(found)
+}
+
+// Each certificate, from the last one on, and lets it go as it is written.
+fn all_from(alloc: Global, items: Seq<CertText>) -> Result<Seq<Cert>, AllocError>
+    ensures { IfOk result (λ found. found ≡ map written.certificate_of items) }
+{
+    let mut left = items;
+    let mut found = Seq::new(alloc);
+    'certificates: while let Some(certificate) = left.pop() {
+        let certificate = certificate_of(alloc, &certificate)?;
+        found.push(certificate)?;
+    }
+    turned(alloc, found)
+}
+
+/// The certificates of a document, as `certificates_of` gives them, taken out of it: each is let go as it is written
+/// before the next one is read, so that the two forms of them do not stand beside each other.
+///
+/// The error is that memory was refused.
+pub fn certificates_from(alloc: Global, document: Document) -> Result<Seq<Cert>, AllocError>
+    ensures { IfOk result (λ found. found ≡ written.certificates_of document) }
+{
+    let Document { certificates, .. } = document;
+    match certificates {
+        Some(section) => all_from(alloc, section.items),
         None => Ok(Seq::new(alloc)),
     }
 }
