@@ -11,8 +11,29 @@ use case_tables::{Word, words};
 pub(crate) fn reserved_word(word: &[u8]) -> Option<Word>
     ensures { MatchOption result (¬ HasName word_rows word.now) (λ reserved. Contains word_rows (word.now, reserved)) }
 {
+    if let Some(reserved) = node_word(word) {
+        return Some(reserved);
+    }
     if may_be_reserved(word) {
         words().find(word)
+    } else {
+        None
+    }
+}
+
+/// The reserved word with which a node of a certificate begins, where it is spelled so. A text has mostly these, and
+/// they are told without a look into the table.
+fn node_word(word: &[u8]) -> Option<Word>
+    ensures { MatchOption result (Unit {0}) (λ reserved. Contains word_rows (word.now, reserved)) }
+{
+    if word == b"sum".as_slice() {
+        Some(Word::Sum)
+    } else if word == b"round".as_slice() {
+        Some(Word::Round)
+    } else if word == b"split".as_slice() {
+        Some(Word::Split)
+    } else if word == b"case".as_slice() {
+        Some(Word::Case)
     } else {
         None
     }
