@@ -12,3 +12,4 @@ pub mod SlenderLaws
 pub mod EnoughLaws
 pub mod TryLaws
 pub mod EndsLaws
+pub mod LeavesLaws

@@ -547,7 +547,7 @@ fn low_ends(alloc: Global, ranges: &[Range]) -> Result<Seq<i64>, AllocError>
 }
 
 /// How many variables there are.
-fn count_of(vs: &[Variable]) -> u32
+pub fn count_of(vs: &[Variable]) -> u32
     requires { length vs.now < 2 ^ 32 }
     ensures { result ≡ length vs.now }
 {
@@ -555,7 +555,7 @@ fn count_of(vs: &[Variable]) -> u32
 }
 
 /// Whether there is room for the numbers of so many facts. No memory holds as many as would be too many.
-fn numbered(facts: &[Fact]) -> Result<(), AllocError>
+pub fn numbered(facts: &[Fact]) -> Result<(), AllocError>
     ensures { OnOk result (length facts.now < 2 ^ 62) }
 {
     if facts.len() < 1 << 62 {
@@ -701,7 +701,7 @@ fn refute(
 }
 
 /// The ranges of variables.
-fn ranges_in(alloc: Global, vs: &[Variable]) -> Result<Seq<Range>, AllocError>
+pub fn ranges_in(alloc: Global, vs: &[Variable]) -> Result<Seq<Range>, AllocError>
     ensures { IfOk result (λ rs. rs ≡ ranges_of vs.now) }
 {
     let mut ranges = Seq::new(alloc);
