@@ -53,16 +53,32 @@ proof-of o budget nodes m f h k =
           (arith, k, below);
     }
 
--- a leaf's units are enough
-pub small-found : (o : Obligation) (budget : ℕ) (nodes : List Node) → IsObligation o → IsFound o nodes → units nodes ≤
-    budget →
-    units nodes ≤ length o.variables + 256 → Proof o budget nodes
-small-found o budget nodes m f h k =
+-- a leaf's units are within enough
+pub leaf-enough : (o : Obligation) (total : ℕ) → total ≤ length o.variables + 256 → total ≤ enough o
+leaf-enough o total k =
     let some = leaves-some o.variables 960 (ranges_of o.variables) (first_branch o) in
     let more : 1 * leaf_units o.variables ≤ plain_leaves o.variables 960 (ranges_of o.variables) (first_branch o) *
     leaf_units o.variables =
     mul-le-mul_right (leaf_units o.variables) some in
-    proof-of o budget nodes m f h (omega (arith, k, more))
+    omega (arith, k, more)
+
+-- so are those of the leaves that were counted
+pub leaves-enough : (o : Obligation) (total leaves unit : ℕ) →
+    leaves ≤ plain_leaves o.variables 960 (ranges_of o.variables) (first_branch o) →
+    unit ≡ length o.variables + 256 → total ≤ leaves * unit → total ≤ enough o
+leaves-enough o total leaves unit h e k =
+    let same : leaves * unit ≡ leaves * leaf_units o.variables = ap (λ n. leaves * n) e in
+    let more : leaves * leaf_units o.variables ≤
+    plain_leaves o.variables 960 (ranges_of o.variables) (first_branch o) * leaf_units o.variables =
+    mul-le-mul_right (leaf_units o.variables) h in
+    omega (arith, k, same, more)
+
+pub ruleset enough_laws = (obligation-variables, leaf-enough, leaves-enough)
+
+-- units within enough
+pub enough-found : (o : Obligation) (budget total : ℕ) (nodes : List Node) → IsObligation o → IsFound o nodes → total
+    ≡ units nodes → total ≤ budget → total ≤ enough o → Proof o budget nodes
+enough-found o budget total nodes m f e h k = proof-of o budget nodes m f (omega (arith, e, h)) (omega (arith, e, k))
 
 -- the plain tree's search with one unit less
 pub chosen-answers : (o : Obligation) (budget total : ℕ) (nodes : List Node) (found : Found) → IsObligation o →
@@ -82,7 +98,7 @@ chosen-answers o budget total nodes (Found.Refuted values) m f t h z a = a
 chosen-answers o budget total nodes (Found.Budget c) m f t h z a =
     let s = a.small in proof-of o budget nodes m f (omega (arith, t, h)) (omega (arith, t, s, z))
 
-pub ruleset found_laws = (obligation-variables, small-found, chosen-answers)
+pub ruleset found_laws = (obligation-variables, enough-found, chosen-answers)
 
 -- what a closed root says
 pub closed-found : (o : Obligation) (budget spare : ℕ) (nodes : List Node) →

@@ -1,10 +1,11 @@
 //! The search. A certificate that the guided search found is handed out only where it is no larger than
 //! the plain tree allows.
-ghost use Rattle.std.specs.Prelude.{◌≡◌, ◌+◌, ◌-◌, ◌≤◌, ◌<◌, ◌^◌, [], length, true, IfOk};
+ghost use Rattle.std.specs.Prelude.{◌≡◌, ◌+◌, ◌-◌, ◌≤◌, ◌<◌, ◌^◌, [], length, true, false, IfOk};
 ghost use Rattle.obligations.specs.Certificates.{units};
 ghost use Rattle.obligations.specs.Load.{is_light_branch};
 ghost use Rattle.obligations.specs.Obligations.{AreVariables, IsObligation};
 ghost use Rattle.obligations.specs.Opening.{first_branch};
+ghost use Rattle.obligations.specs.Plain.{enough};
 ghost use Rattle.tree_search.specs.Searching.{Answers};
 ghost use Rattle.proof_search.specs.Guided.{Guides, chosen_of, IsFound};
 
@@ -12,11 +13,11 @@ use crate::guided::guide;
 use crate::watch::new_watch;
 use obligations::{Branch, Cert, Node, Obligation, Variable, open_branch};
 use std::alloc::{AllocError, Global};
-use tree_search::{Ended, Found, Trail, search_tree};
+use tree_search::{Ended, Found, Trail, count_leaves, search_tree};
 use unity_base::Seq;
 
 /// The most units of a guided search: where it needs more, the plain tree is searched.
-const GUIDED: u64 = 16_384;
+const GUIDED: u64 = 131_072;
 
 /// Guides the search of a branch.
 fn guide_branch(
@@ -62,8 +63,23 @@ fn leaf_units(vs: &[Variable]) -> u64
     vs.len() as u64 + 256
 }
 
-/// The certificate of nodes of so many units, unless the plain tree has a smaller one. Where a leaf's units
-/// are enough for them, or the plain tree's search ends with one unit less, they are within `enough`.
+/// Whether so many units are seen to be within `enough`: a leaf's units are enough for them, or those of the
+/// leaves that are counted.
+#[tactic(auto, using(crate::proofs::FindingLaws::enough_laws))]
+fn is_within_enough(alloc: Global, o: &Obligation, total: u64) -> Result<bool, AllocError>
+    requires { IsObligation o.now }
+    ensures enough { IfOk result (λ b. b ≡ true → total ≤ enough o.now) }
+    ensures some { IfOk result (λ b. b ≡ false → 0 < total) }
+{
+    if total <= leaf_units(o.variables.as_slice()) {
+        return Ok(true);
+    }
+    let leaves = count_leaves(alloc, o, total / 256 + 1)?;
+    Ok(total <= leaves.saturating_mul(leaf_units(o.variables.as_slice())))
+}
+
+/// The certificate of nodes of so many units, unless the plain tree has a smaller one. Where they are not seen
+/// to be within `enough`, and the plain tree's search ends with one unit less, they are.
 #[tactic(auto, using(crate::proofs::FindingLaws::found_laws))]
 fn allowed(
     alloc: Global,
@@ -78,7 +94,7 @@ fn allowed(
     requires found { IsFound o.now nodes }
     ensures { IfOk result (Answers o.now budget) }
 {
-    if total <= leaf_units(o.variables.as_slice()) {
+    if is_within_enough(alloc, o, total)? {
         return Ok(Found::Proved(Cert { nodes }));
     }
     let found = search_tree(alloc, o, total - 1)?;

@@ -15,10 +15,11 @@ ghost use Rattle.linear_prover.specs.Chains.{Closes, is_plain_number};
 ghost use Rattle.tree_search.specs.Searching.{IsClosed, Met};
 ghost use Rattle.proof_search.specs.Guided.{Guides, ClosedNow, IsAtLeast, with_form};
 
+use crate::chances::Scene;
 use crate::look::best_place;
 use crate::watch::{
-    Middle, Watch, contrary_pairs, low_values, mark_of, narrowest, refuted_place, refuting_pairs,
-    take_back, take_facts,
+    Middle, Watch, has_conflict, low_values, mark_of, narrowest, refuting_pairs, take_back,
+    take_facts,
 };
 use core_terms::CForm;
 use linear_prover::{eliminate, is_closing_sum, is_plain_chain};
@@ -65,25 +66,21 @@ fn judged_sum(
     }
 }
 
-/// The chain of a fact that the limits refute, or of two facts that are contrary.
+/// The chain of facts that the limits refute.
 fn limit_chain(
     alloc: Global,
     vs: &[Variable],
     facts: &[Fact],
-    watch: &Watch,
+    watch: &mut Watch,
 ) -> Result<Option<Seq<Node>>, AllocError>
     requires { AreVariables vs.now }
     ensures { IfOk result (λ o. IfSome o (Closes (length vs.now) facts.now)) }
 {
-    match refuted_place(watch) {
-        Some(place) => {
-            let pairs = refuting_pairs(alloc, facts, watch, place)?;
-            judged_sum(alloc, vs, facts, pairs)
-        }
-        None => {
-            let pairs = contrary_pairs(alloc, facts, watch)?;
-            judged_sum(alloc, vs, facts, pairs)
-        }
+    if has_conflict(watch) {
+        let pairs = refuting_pairs(alloc, facts, watch)?;
+        judged_sum(alloc, vs, facts, pairs)
+    } else {
+        Ok(None)
     }
 }
 
@@ -108,7 +105,7 @@ fn chain_of(
     alloc: Global,
     vs: &[Variable],
     branch: &Branch,
-    watch: &Watch,
+    watch: &mut Watch,
 ) -> Result<Option<Seq<Node>>, AllocError>
     requires { AreVariables vs.now }
     ensures { IfOk result (λ o. IfSome o (Closes (length vs.now) branch.now.facts)) }
@@ -134,7 +131,7 @@ fn close(
     vs: &[Variable],
     rest: u32,
     branch: &Branch,
-    watch: &Watch,
+    watch: &mut Watch,
     trail: &mut Trail,
 ) -> Result<Option<Ended>, AllocError>
     requires variables { AreVariables vs.now }
@@ -513,6 +510,15 @@ fn guide_settled(
     }
 }
 
+/// The place of the waiting formula that is taken apart next.
+fn next_place(vs: &[Variable], branch: &Branch, watch: &mut Watch) -> usize {
+    let scene = Scene {
+        variables: vs,
+        facts: branch.facts.as_slice(),
+    };
+    best_place(scene, branch, watch)
+}
+
 /// Refutes a branch that no chain closes.
 #[cycle(guided)]
 fn guide_open(
@@ -533,7 +539,7 @@ fn guide_open(
         let ended = guide_settled(alloc, vs, rest, watch, branch, trail)?;
         Ok(ended)
     } else {
-        let place = best_place(alloc, vs, branch, watch)?;
+        let place = next_place(vs, branch, watch);
         let ended = guide_case(alloc, vs, rest, place, watch, branch, trail)?;
         Ok(ended)
     }

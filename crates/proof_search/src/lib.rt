@@ -2,8 +2,10 @@
 //! tree, by which units are bounded.
 #![tactic(auto)]
 
+mod chances;
 mod finding;
 mod guided;
+mod lines;
 mod look;
 mod watch;
 

@@ -1,118 +1,90 @@
-//! Looks at what a waiting formula's sides would add.
-ghost use Rattle.std.specs.Prelude.{◌≡◌, ◌≤◌, ◌^◌, true};
-ghost use Rattle.obligations.specs.Load.{need, is_light_branch};
-ghost use Rattle.obligations.specs.Obligations.{AreVariables};
-
-use crate::watch::{Watch, are_refuted, mark_of, take_back};
-use core_terms::CForm;
-use obligations::{Branch, Fact, Variable};
-use std::alloc::{AllocError, Global};
-use tree_search::{settle_first, settle_second};
-use unity_base::Seq;
-
-/// What a side of a formula would add: whether the branch would then have a refuted fact, and how many
-/// facts and waiting formulas.
-#[derive(Clone, Copy)]
-struct Look {
-    dies: bool,
-    added: usize,
-}
-
-/// The branch with a side of a formula alone.
-fn side_alone(
-    alloc: Global,
-    vs: &[Variable],
-    form: &CForm,
-    first: bool,
-) -> Result<Branch, AllocError>
-    requires variables { AreVariables vs.now }
-    requires light { (need form.now).yes ≤ 2 ^ 63 }
-{
-    let mut branch = Branch {
-        facts: Seq::new(alloc),
-        waiting: Seq::new(alloc),
-    };
-    if first {
-        settle_first(alloc, vs, form, &mut branch)?;
-    } else {
-        settle_second(alloc, vs, form, &mut branch)?;
-    }
-    Ok(branch)
-}
-
-/// Looks at a side.
-fn look_at(
-    alloc: Global,
-    vs: &[Variable],
-    facts: &[Fact],
-    form: &CForm,
-    first: bool,
-    watch: &mut Watch,
-) -> Result<Look, AllocError>
-    requires variables { AreVariables vs.now }
-    requires light { (need form.now).yes ≤ 2 ^ 63 }
-{
-    let side = side_alone(alloc, vs, form, first)?;
-    look_with(facts, &side, watch)
-}
-
-/// Looks at what a branch would add.
-fn look_with(facts: &[Fact], side: &Branch, watch: &mut Watch) -> Result<Look, AllocError> {
-    let mark = mark_of(watch);
-    let dies = are_refuted(facts, side.facts.as_slice(), watch)?;
-    take_back(mark, watch);
-    Ok(Look {
-        dies,
-        added: side.facts.len().saturating_add(side.waiting.len()),
-    })
-}
-
-/// How good it is to take a formula apart: a side that dies at once counts most, then the facts and the
-/// waiting formulas that are added.
-fn score_of(
-    alloc: Global,
-    vs: &[Variable],
-    facts: &[Fact],
-    form: &CForm,
-    watch: &mut Watch,
-) -> Result<usize, AllocError>
-    requires variables { AreVariables vs.now }
-    requires light { (need form.now).yes ≤ 2 ^ 63 }
-{
-    let one = look_at(alloc, vs, facts, form, true, watch)?;
-    let other = look_at(alloc, vs, facts, form, false, watch)?;
-    if one.dies || other.dies {
-        Ok(usize::MAX)
-    } else {
-        Ok(one.added.saturating_add(other.added))
-    }
-}
+//! Looks at the waiting formulas of a branch, without settling them.
+use crate::chances::{Scene, chance_of};
+use crate::watch::Watch;
+use core_terms::{CForm, CTerm};
+use obligations::Branch;
 
 /// How many waiting formulas are looked at.
 const LOOKS: usize = 256;
 
-/// The place of the waiting formula that is best taken apart: the first of which a side dies at once,
-/// else the last whose sides add most. So a goal, and what was taken apart last, come before the
-/// hypotheses.
-pub fn best_place(
-    alloc: Global,
-    vs: &[Variable],
-    branch: &Branch,
-    watch: &mut Watch,
-) -> Result<usize, AllocError>
-    requires variables { AreVariables vs.now }
-    requires light { is_light_branch (2 ^ 63) branch.now ≡ true }
-{
+/// Whether a term has an `Ite`.
+fn has_choice(t: &CTerm) -> bool {
+    match t {
+        CTerm::Add(a, b) => has_choice(a.get()) || has_choice(b.get()),
+        CTerm::Sub(a, b) => has_choice(a.get()) || has_choice(b.get()),
+        CTerm::Scale(_, a) => has_choice(a.get()),
+        CTerm::Ite(..) => true,
+        _ => false,
+    }
+}
+
+/// How many facts and waiting formulas a formula adds where it is settled.
+#[cycle(additions)]
+fn adds(f: &CForm) -> usize {
+    match f {
+        CForm::Zero(t) => if has_choice(t) { 1 } else { 2 },
+        CForm::Not(g) => adds_negated(g.get()),
+        CForm::And(g, h) => adds(g.get()).saturating_add(adds(h.get())),
+        CForm::Top => 0,
+        _ => 1,
+    }
+}
+
+/// How many facts and waiting formulas a formula's negation adds where it is settled.
+#[cycle(additions)]
+fn adds_negated(f: &CForm) -> usize {
+    match f {
+        CForm::Not(g) => adds(g.get()),
+        CForm::Or(g, h) => adds_negated(g.get()).saturating_add(adds_negated(h.get())),
+        CForm::Bottom => 0,
+        _ => 1,
+    }
+}
+
+/// How good it is to take a formula of two sides apart. The best is one of which no side may hold, and then
+/// one of which one side may, since nothing has to be tried; and the worst one that holds in any case. Between
+/// them those are better that add more.
+fn score_of(scene: Scene, a: &CForm, b: &CForm, watch: &mut Watch) -> usize {
+    let one = chance_of(scene, a, watch);
+    let other = chance_of(scene, b, watch);
+    if !one.holds && !other.holds {
+        usize::MAX
+    } else if !one.fails || !other.fails {
+        1
+    } else if !one.holds || !other.holds {
+        usize::MAX - 1
+    } else {
+        adds(a).saturating_add(adds(b)).saturating_add(2)
+    }
+}
+
+/// The score of a waiting formula.
+fn score_at(scene: Scene, branch: &Branch, place: usize, watch: &mut Watch) -> usize {
+    match branch.waiting.get(place) {
+        Some(form) => match form.get() {
+            CForm::Or(a, b) => score_of(scene, a.get(), b.get(), watch),
+            _ => 0,
+        },
+        None => 0,
+    }
+}
+
+/// The place of the waiting formula that is best taken apart, of those with one score the last. So a goal,
+/// and what was taken apart last, come before the hypotheses.
+pub fn best_place(scene: Scene, branch: &Branch, watch: &mut Watch) -> usize {
     let mut best = 0;
     let mut most = 0;
-    for (place, form) in branch.waiting.as_slice().iter().enumerate() {
-        if place < LOOKS && most < usize::MAX {
-            let score = score_of(alloc, vs, branch.facts.as_slice(), form.get(), watch)?;
-            if score >= most {
-                best = place;
-                most = score;
-            }
+    let count = branch.waiting.len();
+    for back in 0..count.min(LOOKS) {
+        let place = count - 1 - back;
+        let score = score_at(scene, branch, place, watch);
+        if score > most {
+            best = place;
+            most = score;
+        }
+        if most == usize::MAX {
+            return best;
         }
     }
-    Ok(best)
+    best
 }

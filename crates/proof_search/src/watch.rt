@@ -1,5 +1,6 @@
 //! What a guided search keeps beside a branch: the tightest limits of each variable, and which facts name
 //! more than that. It guides only: what is found with it is judged before it is used.
+use crate::lines::{Lines, add_factor, factors_of, no_lines, rewind};
 use obligations::Fact;
 use std::alloc::{AllocError, Global};
 use unity_base::Seq;
@@ -8,7 +9,7 @@ use unity_base::Seq;
 #[derive(Clone, Copy)]
 struct Limit {
     place: usize,
-    value: i128,
+    value: i64,
 }
 
 /// A limit that was changed: the variable, its side, and the limit before.
@@ -16,18 +17,26 @@ struct Limit {
 struct Change {
     variable: u32,
     low: bool,
-    old: Option<Limit>,
+    old: Limit,
+}
+
+/// A fact that the limits refute, alone or together with another.
+#[derive(Clone, Copy)]
+pub struct Conflict {
+    place: usize,
+    partner: Option<usize>,
 }
 
 /// The limits, with their changes in order, and the facts that are no limit of one variable.
 #[derive(Drop)]
 pub struct Watch {
-    lows: Seq<Option<Limit>>,
-    highs: Seq<Option<Limit>>,
+    lows: Seq<Limit>,
+    highs: Seq<Limit>,
     changes: Seq<Change>,
     coupled: Seq<usize>,
     seen: usize,
-    refuted: Option<usize>,
+    conflict: Option<Conflict>,
+    pub lines: Lines,
 }
 
 /// A state to which a watch can be taken back.
@@ -36,13 +45,14 @@ pub struct Mark {
     changes: usize,
     coupled: usize,
     seen: usize,
-    refuted: Option<usize>,
+    conflict: Option<Conflict>,
 }
 
-fn no_limits(alloc: Global, count: usize) -> Result<Seq<Option<Limit>>, AllocError> {
+/// So many limits of this value.
+fn limits_at(alloc: Global, count: usize, value: i64) -> Result<Seq<Limit>, AllocError> {
     let mut limits = Seq::new(alloc);
     for _ in 0..count {
-        limits.push(None)?;
+        limits.push(Limit { place: 0, value })?;
     }
     Ok(limits)
 }
@@ -50,12 +60,13 @@ fn no_limits(alloc: Global, count: usize) -> Result<Seq<Option<Limit>>, AllocErr
 /// A watch over no facts.
 pub fn new_watch(alloc: Global, count: usize) -> Result<Watch, AllocError> {
     Ok(Watch {
-        lows: no_limits(alloc, count)?,
-        highs: no_limits(alloc, count)?,
+        lows: limits_at(alloc, count, i64::MIN)?,
+        highs: limits_at(alloc, count, i64::MAX)?,
         changes: Seq::new(alloc),
         coupled: Seq::new(alloc),
         seen: 0,
-        refuted: None,
+        conflict: None,
+        lines: no_lines(alloc)?,
     })
 }
 
@@ -65,24 +76,40 @@ pub fn mark_of(watch: &Watch) -> Mark {
         changes: watch.changes.len(),
         coupled: watch.coupled.len(),
         seen: watch.seen,
-        refuted: watch.refuted,
+        conflict: watch.conflict,
     }
 }
 
-fn limit_in(limits: &Seq<Option<Limit>>, variable: u32) -> Option<Limit> {
+/// The limit of a variable. Where there is none, one that limits nothing.
+fn limit_of(variable: u32, low: bool, watch: &Watch) -> Limit {
+    let limits = if low { &watch.lows } else { &watch.highs };
     match limits.get(variable as usize) {
         Some(limit) => *limit,
-        None => None,
+        None => Limit {
+            place: 0,
+            value: if low { i64::MIN } else { i64::MAX },
+        },
     }
 }
 
-fn put_limit(limits: &mut Seq<Option<Limit>>, variable: u32, limit: Option<Limit>) {
+/// The least value of a variable within the limits.
+pub fn low_value(variable: u32, watch: &Watch) -> i64 {
+    limit_of(variable, true, watch).value
+}
+
+/// The greatest value of a variable within the limits.
+pub fn high_value(variable: u32, watch: &Watch) -> i64 {
+    limit_of(variable, false, watch).value
+}
+
+/// Puts a limit in its place, where there is one.
+fn put_limit(limits: &mut Seq<Limit>, variable: u32, limit: Limit) {
     if (variable as usize) < limits.len() {
         let _ = limits.replace(variable as usize, limit);
     }
 }
 
-fn set_limit(variable: u32, low: bool, limit: Option<Limit>, watch: &mut Watch) {
+fn set_limit(variable: u32, low: bool, limit: Limit, watch: &mut Watch) {
     if low {
         put_limit(&mut watch.lows, variable, limit);
     } else {
@@ -99,86 +126,71 @@ pub fn take_back(mark: Mark, watch: &mut Watch) {
     }
     watch.coupled.truncate(mark.coupled);
     watch.seen = mark.seen;
-    watch.refuted = mark.refuted;
-}
-
-/// Whether a limit is tighter than an old one.
-fn is_tighter(low: bool, value: i128, old: Option<Limit>) -> bool {
-    match old {
-        Some(limit) => {
-            if low {
-                value > limit.value
-            } else {
-                value < limit.value
-            }
-        }
-        None => true,
-    }
+    watch.conflict = mark.conflict;
 }
 
 /// Takes a limit in, where it is tighter.
 fn tighten(variable: u32, low: bool, limit: Limit, watch: &mut Watch) -> Result<(), AllocError> {
-    let old = if low {
-        limit_in(&watch.lows, variable)
+    let old = limit_of(variable, low, watch);
+    let is_tighter = if low {
+        limit.value > old.value
     } else {
-        limit_in(&watch.highs, variable)
+        limit.value < old.value
     };
-    if is_tighter(low, limit.value, old) {
+    if is_tighter {
         watch.changes.push(Change { variable, low, old })?;
-        set_limit(variable, low, Some(limit), watch);
-        if is_crossed(variable, watch) {
-            watch.refuted = Some(limit.place);
+        set_limit(variable, low, limit, watch);
+        if low_value(variable, watch) > high_value(variable, watch) {
+            watch.conflict = alone(limit.place);
         }
     }
     Ok(())
 }
 
-/// Whether a variable's low limit is above its high one.
-fn is_crossed(variable: u32, watch: &Watch) -> bool {
-    match (
-        limit_in(&watch.lows, variable),
-        limit_in(&watch.highs, variable),
-    ) {
-        (Some(low), Some(high)) => low.value > high.value,
-        _ => false,
+/// A fact that the limits refute.
+fn alone(place: usize) -> Option<Conflict> {
+    Some(Conflict {
+        place,
+        partner: None,
+    })
+}
+
+/// A number, or the end of its type that is nearest to it.
+pub fn clamped(number: i128) -> i64 {
+    match i64::try_from(number) {
+        Ok(z) => z,
+        Err(_) => { if number < 0 { i64::MIN } else { i64::MAX } }
     }
 }
 
-/// The limit that makes a product with a factor greatest.
-fn limit_for(watch: &Watch, factor: &(u32, i128)) -> Option<Limit> {
-    if factor.1 < 0 {
-        limit_in(&watch.lows, factor.0)
+/// The greatest product of a factor and a variable within the limits.
+pub fn top_of(variable: u32, factor: i64, watch: &Watch) -> i64 {
+    if factor < 0 {
+        factor.saturating_mul(low_value(variable, watch))
+    } else if factor > 0 {
+        factor.saturating_mul(high_value(variable, watch))
     } else {
-        limit_in(&watch.highs, factor.0)
+        0
     }
 }
 
-/// The greatest value of a fact within the limits. `None` where there is none, or it is too great.
-fn greatest(watch: &Watch, fact: &Fact) -> Option<i128> {
-    let mut sum = fact.constant;
-    for factor in fact.factors.as_slice() {
-        let limit = limit_for(watch, factor)?;
-        sum = sum.checked_add(factor.1.checked_mul(limit.value)?)?;
+/// The greatest value of a fact within the limits.
+fn top_of_fact(fact: &Fact, watch: &Watch) -> i64 {
+    let mut sum = clamped(fact.constant);
+    for (variable, factor) in fact.factors.as_slice() {
+        sum = sum.saturating_add(top_of(*variable, clamped(*factor), watch));
     }
-    Some(sum)
-}
-
-/// Whether the limits refute a fact.
-fn is_refuted(watch: &Watch, fact: &Fact) -> bool {
-    match greatest(watch, fact) {
-        Some(value) => value < 0,
-        None => false,
-    }
+    sum
 }
 
 /// The variable and the side that a fact limits alone, and its value there.
-fn own_limit(fact: &Fact) -> Option<(u32, bool, i128)> {
+fn own_limit(fact: &Fact) -> Option<(u32, bool, i64)> {
     match fact.factors.as_slice() {
         [f] => {
             if f.1 == 1 {
-                Some((f.0, true, fact.constant.saturating_neg()))
+                Some((f.0, true, clamped(fact.constant.saturating_neg())))
             } else if f.1 == -1 {
-                Some((f.0, false, fact.constant))
+                Some((f.0, false, clamped(fact.constant)))
             } else {
                 None
             }
@@ -196,101 +208,154 @@ fn take_fact(place: usize, fact: &Fact, watch: &mut Watch) -> Result<(), AllocEr
 }
 
 /// The first of the facts that name more that the limits refute.
-fn first_refuted(facts: &[Fact], watch: &Watch) -> Option<usize> {
+fn first_refuted(facts: &[Fact], watch: &Watch) -> Option<Conflict> {
     for place in watch.coupled.as_slice() {
         if let Some(fact) = facts.get(*place) {
-            if is_refuted(watch, fact) {
-                return Some(*place);
+            if top_of_fact(fact, watch) < 0 {
+                return alone(*place);
             }
         }
     }
     None
 }
 
-/// Whether each factor is the negative of the other's.
-fn are_opposite(one: &[(u32, i128)], other: &[(u32, i128)]) -> bool {
-    one.len() == other.len()
-        && one
-            .iter()
-            .zip(other)
-            .all(|(f, g)| f.0 == g.0 && f.1.checked_add(g.1) == Some(0))
-}
-
-/// Whether the factors of two facts cancel out, and their constants add up to less than 0.
-fn are_contrary(one: &Fact, other: &Fact) -> bool {
-    match one.constant.checked_add(other.constant) {
-        Some(sum) => { sum < 0 && are_opposite(one.factors.as_slice(), other.factors.as_slice()) }
-        None => false,
-    }
-}
-
-/// The first of the facts that name more to which a fact is contrary.
-fn contrary_to(facts: &[Fact], fact: &Fact, watch: &Watch) -> Option<usize> {
-    for place in watch.coupled.as_slice() {
-        if let Some(other) = facts.get(*place) {
-            if are_contrary(fact, other) {
-                return Some(*place);
-            }
-        }
-    }
-    None
-}
-
-/// The first two facts that name more and are contrary, as the pairs of a sum; else none.
-pub fn contrary_pairs(
-    alloc: Global,
-    facts: &[Fact],
-    watch: &Watch,
-) -> Result<Seq<(i64, u64)>, AllocError> {
-    let mut pairs = Seq::new(alloc);
-    for place in watch.coupled.as_slice() {
-        if let Some(fact) = facts.get(*place) {
-            if let Some(other) = contrary_to(facts, fact, watch) {
-                pairs.push((1, number_of(*place)))?;
-                pairs.push((1, number_of(other)))?;
-                return Ok(pairs);
-            }
-        }
-    }
-    Ok(pairs)
-}
-
-/// Takes in the facts that a branch got.
+/// Takes in the facts that a branch got, and looks whether the limits refute any.
 pub fn take_facts(facts: &[Fact], watch: &mut Watch) -> Result<(), AllocError> {
+    let coupled = watch.coupled.len();
     for place in watch.seen..facts.len() {
         if let Some(fact) = facts.get(place) {
             take_fact(place, fact, watch)?;
         }
     }
     watch.seen = facts.len();
-    if watch.refuted.is_none() {
-        watch.refuted = first_refuted(facts, watch);
+    if watch.conflict.is_none() {
+        watch.conflict = first_refuted(facts, watch);
+    }
+    if watch.conflict.is_none() {
+        watch.conflict = first_joint(facts, coupled, watch);
     }
     Ok(())
 }
 
-/// A fact that the limits refute.
-pub fn refuted_place(watch: &Watch) -> Option<usize> {
-    watch.refuted
-}
-
-/// Takes facts in that are only tried. Whether the limits then refute a fact.
-pub fn are_refuted(facts: &[Fact], tried: &[Fact], watch: &mut Watch) -> Result<bool, AllocError> {
-    for fact in tried {
-        if let Some((variable, low, value)) = own_limit(fact) {
-            let limit = Limit {
-                place: facts.len(),
-                value,
-            };
-            tighten(variable, low, limit, watch)?;
+/// The first two facts that the limits refute together, of which one was taken in last: one of those that
+/// name more from this one on.
+fn first_joint(facts: &[Fact], coupled: usize, watch: &mut Watch) -> Option<Conflict> {
+    for number in coupled..watch.coupled.len() {
+        let place = coupled_at(number, watch);
+        if let Some(fact) = facts.get(place) {
+            let partner = partner_of(facts, fact, watch);
+            if partner.is_some() {
+                return Some(Conflict { place, partner });
+            }
         }
     }
-    Ok(
-        watch.refuted.is_some()
-            || tried.iter().any(|fact| is_refuted(watch, fact)
-                || contrary_to(facts, fact, watch).is_some())
-            || first_refuted(facts, watch).is_some(),
-    )
+    None
+}
+
+/// The place of one of the facts that name more.
+fn coupled_at(number: usize, watch: &Watch) -> usize {
+    match watch.coupled.get(number) {
+        Some(place) => *place,
+        None => usize::MAX,
+    }
+}
+
+/// A fact that the limits refute together with this one.
+fn partner_of(facts: &[Fact], fact: &Fact, watch: &mut Watch) -> Option<usize> {
+    let start = watch.lines.used();
+    let partner = if add_fact(fact, start, watch) {
+        let own = line_top(start, clamped(fact.constant), watch);
+        first_partner(facts, start, own, watch)
+    } else {
+        None
+    };
+    rewind(start, &mut watch.lines);
+    partner
+}
+
+/// Adds the factors of a fact to the line from a place on. Whether there was room.
+fn add_fact(fact: &Fact, start: usize, watch: &mut Watch) -> bool {
+    for (variable, factor) in fact.factors.as_slice() {
+        if !add_factor(*variable, clamped(*factor), start, &mut watch.lines) {
+            return false;
+        }
+    }
+    true
+}
+
+/// The first fact that the limits refute together with a line, which has this value at most.
+fn first_partner(facts: &[Fact], start: usize, own: i64, watch: &Watch) -> Option<usize> {
+    for place in watch.coupled.as_slice() {
+        if let Some(other) = facts.get(*place) {
+            if takes_away(start, other, watch)
+                && own.saturating_add(change_by(start, other, watch)) < 0
+            {
+                return Some(*place);
+            }
+        }
+    }
+    None
+}
+
+/// The factor of a variable in a line, 0 where it isn't named.
+fn factor_in(start: usize, variable: u32, watch: &Watch) -> i64 {
+    for (named, factor) in factors_of(start, &watch.lines) {
+        if *named == variable {
+            return *factor;
+        }
+    }
+    0
+}
+
+/// Whether a fact takes away from a factor of a line.
+fn takes_away(start: usize, fact: &Fact, watch: &Watch) -> bool {
+    for (variable, factor) in fact.factors.as_slice() {
+        let own = factor_in(start, *variable, watch);
+        if own != 0 && (own < 0) != (*factor < 0) {
+            return true;
+        }
+    }
+    false
+}
+
+/// By how much a factor changes the greatest value of a line that it is added to.
+fn change_of(start: usize, factor: &(u32, i128), watch: &Watch) -> i64 {
+    let by = clamped(factor.1);
+    let own = factor_in(start, factor.0, watch);
+    let top = top_of(factor.0, own.saturating_add(by), watch);
+    top.saturating_sub(top_of(factor.0, own, watch))
+}
+
+/// By how much a fact changes the greatest value of a line that it is added to.
+fn change_by(start: usize, fact: &Fact, watch: &Watch) -> i64 {
+    let mut change = clamped(fact.constant);
+    for factor in fact.factors.as_slice() {
+        change = change.saturating_add(change_of(start, factor, watch));
+    }
+    change
+}
+
+/// The greatest value of a line within the limits.
+pub fn line_top(start: usize, constant: i64, watch: &Watch) -> i64 {
+    let mut sum = constant;
+    for (variable, factor) in factors_of(start, &watch.lines) {
+        sum = sum.saturating_add(top_of(*variable, *factor, watch));
+    }
+    sum
+}
+
+/// The greatest value of a line within the limits and one of the facts that name more: the least of all. It
+/// has this value by the limits alone.
+pub fn joint_top(facts: &[Fact], start: usize, own: i64, watch: &Watch) -> i64 {
+    let mut least = own;
+    for place in watch.coupled.as_slice() {
+        if let Some(fact) = facts.get(*place) {
+            if takes_away(start, fact, watch) {
+                least = least.min(own.saturating_add(change_by(start, fact, watch)));
+            }
+        }
+    }
+    least
 }
 
 /// The number of a place, from 1.
@@ -298,72 +363,75 @@ fn number_of(place: usize) -> u64 {
     (place as u64).saturating_add(1)
 }
 
-/// A factor's absolute value. `None` where it is past 2^62.
-fn multiplier(factor: i128) -> Option<i64> {
+/// The pair that takes a factor away. `None` where the factor is past 2^62.
+fn pair_against(variable: u32, factor: i64, watch: &Watch) -> Option<(i64, u64)> {
     let times = factor.unsigned_abs();
     if times <= 1 << 62 {
-        Some(times as i64)
+        let limit = limit_of(variable, factor < 0, watch);
+        Some((times as i64, number_of(limit.place)))
     } else {
         None
     }
 }
 
-/// Adds the pair that takes a factor away. Whether there is one.
-fn add_pair(
-    watch: &Watch,
-    factor: &(u32, i128),
-    pairs: &mut Seq<(i64, u64)>,
-) -> Result<bool, AllocError> {
-    match (limit_for(watch, factor), multiplier(factor.1)) {
-        (Some(limit), Some(times)) => {
-            pairs.push((times, number_of(limit.place)))?;
-            Ok(true)
+/// Adds the pairs that take a line's factors away.
+fn add_limits(start: usize, watch: &Watch, pairs: &mut Seq<(i64, u64)>) -> Result<(), AllocError> {
+    for (variable, factor) in factors_of(start, &watch.lines) {
+        if *factor != 0 {
+            if let Some(pair) = pair_against(*variable, *factor, watch) {
+                pairs.push(pair)?;
+            }
         }
-        _ => Ok(false),
     }
+    Ok(())
 }
 
-/// Adds the pairs of a fact and of the limits of its variables. Whether all are there.
-fn add_pairs(
-    watch: &Watch,
+/// Adds a fact to the line from a place on, and its pair.
+fn add_member(
+    facts: &[Fact],
     place: usize,
-    fact: &Fact,
+    start: usize,
+    watch: &mut Watch,
     pairs: &mut Seq<(i64, u64)>,
-) -> Result<bool, AllocError> {
-    pairs.push((1, number_of(place)))?;
-    for factor in fact.factors.as_slice() {
-        if !add_pair(watch, factor, pairs)? {
-            return Ok(false);
+) -> Result<(), AllocError> {
+    if let Some(fact) = facts.get(place) {
+        if add_fact(fact, start, watch) {
+            pairs.push((1, number_of(place)))?;
         }
     }
-    Ok(true)
+    Ok(())
 }
 
-/// The pairs of the fact at a place and of the limits of its variables, where there are such; else none.
+/// The pairs of a sum of the facts that the limits refute, and of the limits; none where nothing is seen to
+/// be refuted.
 pub fn refuting_pairs(
     alloc: Global,
     facts: &[Fact],
-    watch: &Watch,
-    place: usize,
+    watch: &mut Watch,
 ) -> Result<Seq<(i64, u64)>, AllocError> {
     let mut pairs = Seq::new(alloc);
-    if let Some(fact) = facts.get(place) {
-        if !add_pairs(watch, place, fact, &mut pairs)? {
-            pairs.truncate(0);
+    if let Some(conflict) = watch.conflict {
+        let start = watch.lines.used();
+        add_member(facts, conflict.place, start, watch, &mut pairs)?;
+        if let Some(partner) = conflict.partner {
+            add_member(facts, partner, start, watch, &mut pairs)?;
         }
+        add_limits(start, watch, &mut pairs)?;
+        rewind(start, &mut watch.lines);
     }
     Ok(pairs)
+}
+
+/// Whether a fact is seen to be refuted.
+pub fn has_conflict(watch: &Watch) -> bool {
+    watch.conflict.is_some()
 }
 
 /// The low limits of all variables, 0 where there is none.
 pub fn low_values(alloc: Global, watch: &Watch) -> Result<Seq<i64>, AllocError> {
     let mut values = Seq::new(alloc);
     for limit in watch.lows.as_slice() {
-        let value = match limit {
-            Some(low) => i64::try_from(low.value).unwrap_or(0),
-            None => 0,
-        };
-        values.push(value)?;
+        values.push(limit.value)?;
     }
     Ok(values)
 }
@@ -373,21 +441,19 @@ pub fn low_values(alloc: Global, watch: &Watch) -> Result<Seq<i64>, AllocError> 
 pub struct Middle {
     pub variable: u32,
     pub at: i64,
-    width: i128,
+    width: i64,
 }
 
 /// The middle of a variable's limits, where they leave more than one value.
 fn middle_of(watch: &Watch, variable: u32) -> Option<Middle> {
-    let low = limit_in(&watch.lows, variable)?;
-    let high = limit_in(&watch.highs, variable)?;
-    let width = high.value.checked_sub(low.value)?;
+    let low = low_value(variable, watch);
+    let width = high_value(variable, watch).checked_sub(low)?;
     if width < 1 {
         return None;
     }
-    let at = i64::try_from(low.value.checked_add(width / 2)?).ok()?;
     Some(Middle {
         variable,
-        at,
+        at: low.checked_add(width / 2)?,
         width,
     })
 }

@@ -1,0 +1,288 @@
+//! Whether formulas that are not settled may still hold within the limits. It guides only.
+use crate::lines::{add_factor, factors_of, rewind, turn};
+use crate::watch::{Watch, high_value, joint_top, line_top, low_value};
+use core_terms::{CForm, CTerm};
+use obligations::{Fact, Variable};
+
+/// The numbers among which a term's values lie.
+#[derive(Clone, Copy)]
+struct Span {
+    low: i64,
+    high: i64,
+}
+
+/// Whether a formula may hold, and whether it may fail.
+#[derive(Clone, Copy)]
+pub struct Chance {
+    pub holds: bool,
+    pub fails: bool,
+}
+
+/// What a branch is about: its variables, and its facts.
+#[derive(Clone, Copy)]
+pub struct Scene<'a> {
+    pub variables: &'a [Variable],
+    pub facts: &'a [Fact],
+}
+
+/// A number alone.
+fn one_value(number: i64) -> Span {
+    Span {
+        low: number,
+        high: number,
+    }
+}
+
+/// Whether a variable is the slot or the parameter of this number.
+fn is_named(v: &Variable, param: bool, number: u32) -> bool {
+    v.param == param && v.number == number
+}
+
+/// The place of a slot or a parameter. Where all slots occur, a slot's place is its number.
+fn place_of(vs: &[Variable], param: bool, number: u32) -> Option<u32> {
+    if let Some(v) = vs.get(number as usize) {
+        if is_named(v, param, number) {
+            return Some(number);
+        }
+    }
+    for (place, v) in vs.iter().enumerate() {
+        if is_named(v, param, number) {
+            return u32::try_from(place).ok();
+        }
+    }
+    None
+}
+
+/// The limits of a slot or a parameter.
+fn variable_span(scene: Scene, param: bool, number: u32, watch: &Watch) -> Span {
+    match place_of(scene.variables, param, number) {
+        Some(place) => Span {
+            low: low_value(place, watch),
+            high: high_value(place, watch),
+        },
+        None => one_value(0),
+    }
+}
+
+/// The span of a sum.
+fn sum_of(a: Span, b: Span) -> Span {
+    Span {
+        low: a.low.saturating_add(b.low),
+        high: a.high.saturating_add(b.high),
+    }
+}
+
+/// The span of a multiple.
+fn multiple_of(k: i64, a: Span) -> Span {
+    if k < 0 {
+        Span {
+            low: a.high.saturating_mul(k),
+            high: a.low.saturating_mul(k),
+        }
+    } else {
+        Span {
+            low: a.low.saturating_mul(k),
+            high: a.high.saturating_mul(k),
+        }
+    }
+}
+
+/// The span of either.
+fn either_of(a: Span, b: Span) -> Span {
+    Span {
+        low: a.low.min(b.low),
+        high: a.high.max(b.high),
+    }
+}
+
+/// The span of a term within the limits.
+#[cycle(chances)]
+fn span_of(scene: Scene, t: &CTerm, watch: &mut Watch) -> Span {
+    match t {
+        CTerm::Const(c) => one_value(*c),
+        CTerm::Slot(n) => variable_span(scene, false, *n, watch),
+        CTerm::Param(n) => variable_span(scene, true, *n, watch),
+        CTerm::Add(a, b) => {
+            let first = span_of(scene, a.get(), watch);
+            sum_of(first, span_of(scene, b.get(), watch))
+        }
+        CTerm::Sub(a, b) => {
+            let first = span_of(scene, a.get(), watch);
+            sum_of(first, multiple_of(-1, span_of(scene, b.get(), watch)))
+        }
+        CTerm::Scale(k, a) => multiple_of(*k, span_of(scene, a.get(), watch)),
+        CTerm::Ite(c, a, b) => {
+            let when = chance_of(scene, c.get(), watch);
+            if !when.fails {
+                span_of(scene, a.get(), watch)
+            } else if !when.holds {
+                span_of(scene, b.get(), watch)
+            } else {
+                let first = span_of(scene, a.get(), watch);
+                either_of(first, span_of(scene, b.get(), watch))
+            }
+        }
+    }
+}
+
+/// Adds a multiple of a slot or a parameter to the line from a place on. `None` where there is no room.
+fn add_variable(
+    scene: Scene,
+    param: bool,
+    number: u32,
+    by: i64,
+    start: usize,
+    watch: &mut Watch,
+) -> Option<i64> {
+    let place = place_of(scene.variables, param, number)?;
+    if add_factor(place, by, start, &mut watch.lines) {
+        Some(0)
+    } else {
+        None
+    }
+}
+
+/// Adds a multiple of a term to the line from a place on, and gives its constant. `None` where there is no
+/// room, or an `Ite` of which either part may be meant.
+#[cycle(chances)]
+fn add_term(scene: Scene, t: &CTerm, by: i64, start: usize, watch: &mut Watch) -> Option<i64> {
+    match t {
+        CTerm::Const(c) => Some(by.saturating_mul(*c)),
+        CTerm::Slot(n) => add_variable(scene, false, *n, by, start, watch),
+        CTerm::Param(n) => add_variable(scene, true, *n, by, start, watch),
+        CTerm::Add(a, b) => {
+            let first = add_term(scene, a.get(), by, start, watch)?;
+            let second = add_term(scene, b.get(), by, start, watch)?;
+            Some(first.saturating_add(second))
+        }
+        CTerm::Sub(a, b) => {
+            let first = add_term(scene, a.get(), by, start, watch)?;
+            let second = add_term(scene, b.get(), by.saturating_neg(), start, watch)?;
+            Some(first.saturating_add(second))
+        }
+        CTerm::Scale(k, a) => add_term(scene, a.get(), by.saturating_mul(*k), start, watch),
+        CTerm::Ite(c, a, b) => {
+            let when = chance_of(scene, c.get(), watch);
+            if !when.fails {
+                add_term(scene, a.get(), by, start, watch)
+            } else if !when.holds {
+                add_term(scene, b.get(), by, start, watch)
+            } else {
+                None
+            }
+        }
+    }
+}
+
+/// The greatest value of a line within the limits, and where these leave its sign open, with other facts.
+fn top_of_line(scene: Scene, start: usize, constant: i64, watch: &Watch) -> i64 {
+    let own = line_top(start, constant, watch);
+    if own < 0 || factors_of(start, &watch.lines).len() < 2 {
+        own
+    } else {
+        joint_top(scene.facts, start, own, watch)
+    }
+}
+
+/// The span of a line with a constant.
+fn line_span(scene: Scene, start: usize, constant: i64, watch: &mut Watch) -> Span {
+    let high = top_of_line(scene, start, constant, watch);
+    turn(start, &mut watch.lines);
+    let low = top_of_line(scene, start, constant.saturating_neg(), watch);
+    Span {
+        low: low.saturating_neg(),
+        high,
+    }
+}
+
+/// The span of a term of one variable and a number. `None` where it is no such term.
+fn simple_span(scene: Scene, t: &CTerm, watch: &Watch) -> Option<Span> {
+    match t {
+        CTerm::Slot(n) => Some(variable_span(scene, false, *n, watch)),
+        CTerm::Param(n) => Some(variable_span(scene, true, *n, watch)),
+        CTerm::Sub(a, b) => match (a.get(), b.get()) {
+            (CTerm::Slot(n), CTerm::Const(c)) => Some(sum_of(
+                variable_span(scene, false, *n, watch),
+                one_value(c.saturating_neg()),
+            )),
+            _ => None,
+        },
+        _ => None,
+    }
+}
+
+/// The span of a term, by its linear form where that is known.
+#[cycle(chances)]
+fn exact_span(scene: Scene, t: &CTerm, watch: &mut Watch) -> Span {
+    if let Some(span) = simple_span(scene, t, watch) {
+        return span;
+    }
+    let start = watch.lines.used();
+    let constant = add_term(scene, t, 1, start, watch);
+    let span = match constant {
+        Some(constant) => line_span(scene, start, constant, watch),
+        None => span_of(scene, t, watch),
+    };
+    rewind(start, &mut watch.lines);
+    span
+}
+
+/// Whether a formula may hold within the limits, and whether it may fail.
+#[cycle(chances)]
+pub fn chance_of(scene: Scene, f: &CForm, watch: &mut Watch) -> Chance {
+    match f {
+        CForm::Top => Chance {
+            holds: true,
+            fails: false,
+        },
+        CForm::Bottom => Chance {
+            holds: false,
+            fails: true,
+        },
+        CForm::AtLeast(t) => {
+            let span = exact_span(scene, t, watch);
+            Chance {
+                holds: 0 <= span.high,
+                fails: span.low < 0,
+            }
+        }
+        CForm::Zero(t) => {
+            let span = exact_span(scene, t, watch);
+            Chance {
+                holds: span.low <= 0 && 0 <= span.high,
+                fails: span.low < 0 || 0 < span.high,
+            }
+        }
+        CForm::Not(g) => {
+            let chance = chance_of(scene, g.get(), watch);
+            Chance {
+                holds: chance.fails,
+                fails: chance.holds,
+            }
+        }
+        CForm::And(g, h) => {
+            let first = chance_of(scene, g.get(), watch);
+            if first.holds {
+                let second = chance_of(scene, h.get(), watch);
+                Chance {
+                    holds: second.holds,
+                    fails: first.fails || second.fails,
+                }
+            } else {
+                first
+            }
+        }
+        CForm::Or(g, h) => {
+            let first = chance_of(scene, g.get(), watch);
+            if first.fails {
+                let second = chance_of(scene, h.get(), watch);
+                Chance {
+                    holds: first.holds || second.holds,
+                    fails: second.fails,
+                }
+            } else {
+                first
+            }
+        }
+    }
+}
