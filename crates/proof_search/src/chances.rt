@@ -227,6 +227,46 @@ fn exact_span(scene: Scene, t: &CTerm, watch: &mut Watch) -> Span {
     span
 }
 
+/// The chance that a term with this span is at least 0.
+fn least_chance(span: Span) -> Chance {
+    Chance {
+        holds: 0 <= span.high,
+        fails: span.low < 0,
+    }
+}
+
+/// The chance that a term with this span is 0.
+fn zero_chance(span: Span) -> Chance {
+    Chance {
+        holds: span.low <= 0 && 0 <= span.high,
+        fails: span.low < 0 || 0 < span.high,
+    }
+}
+
+/// The chance of a formula's negation.
+fn turned(chance: Chance) -> Chance {
+    Chance {
+        holds: chance.fails,
+        fails: chance.holds,
+    }
+}
+
+/// The chance of two formulas together.
+fn chance_of_both(first: Chance, second: Chance) -> Chance {
+    Chance {
+        holds: first.holds && second.holds,
+        fails: first.fails || second.fails,
+    }
+}
+
+/// The chance of one of two formulas.
+fn chance_of_either(first: Chance, second: Chance) -> Chance {
+    Chance {
+        holds: first.holds || second.holds,
+        fails: first.fails && second.fails,
+    }
+}
+
 /// Whether a formula may hold within the limits, and whether it may fail.
 #[cycle(chances)]
 pub fn chance_of(scene: Scene, f: &CForm, watch: &mut Watch) -> Chance {
@@ -239,35 +279,13 @@ pub fn chance_of(scene: Scene, f: &CForm, watch: &mut Watch) -> Chance {
             holds: false,
             fails: true,
         },
-        CForm::AtLeast(t) => {
-            let span = exact_span(scene, t, watch);
-            Chance {
-                holds: 0 <= span.high,
-                fails: span.low < 0,
-            }
-        }
-        CForm::Zero(t) => {
-            let span = exact_span(scene, t, watch);
-            Chance {
-                holds: span.low <= 0 && 0 <= span.high,
-                fails: span.low < 0 || 0 < span.high,
-            }
-        }
-        CForm::Not(g) => {
-            let chance = chance_of(scene, g.get(), watch);
-            Chance {
-                holds: chance.fails,
-                fails: chance.holds,
-            }
-        }
+        CForm::AtLeast(t) => least_chance(exact_span(scene, t, watch)),
+        CForm::Zero(t) => zero_chance(exact_span(scene, t, watch)),
+        CForm::Not(g) => turned(chance_of(scene, g.get(), watch)),
         CForm::And(g, h) => {
             let first = chance_of(scene, g.get(), watch);
             if first.holds {
-                let second = chance_of(scene, h.get(), watch);
-                Chance {
-                    holds: second.holds,
-                    fails: first.fails || second.fails,
-                }
+                chance_of_both(first, chance_of(scene, h.get(), watch))
             } else {
                 first
             }
@@ -275,11 +293,7 @@ pub fn chance_of(scene: Scene, f: &CForm, watch: &mut Watch) -> Chance {
         CForm::Or(g, h) => {
             let first = chance_of(scene, g.get(), watch);
             if first.fails {
-                let second = chance_of(scene, h.get(), watch);
-                Chance {
-                    holds: first.holds || second.holds,
-                    fails: second.fails,
-                }
+                chance_of_either(first, chance_of(scene, h.get(), watch))
             } else {
                 first
             }
