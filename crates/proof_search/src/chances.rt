@@ -25,6 +25,32 @@ pub struct Scene<'a> {
     pub facts: &'a [Fact],
 }
 
+/// The numbers of a term of which nothing is known.
+fn any_value() -> Span {
+    Span {
+        low: i64::MIN,
+        high: i64::MAX,
+    }
+}
+
+/// The chance of a formula of which nothing is known.
+fn any_chance() -> Chance {
+    Chance {
+        holds: true,
+        fails: true,
+    }
+}
+
+/// Whether one more part is looked at. Of a formula only so many are, so a look takes little of the stack, and a
+/// condition within a condition is not looked at over and over.
+fn goes_on(watch: &mut Watch) -> bool {
+    if watch.parts == 0 {
+        return false;
+    }
+    watch.parts -= 1;
+    true
+}
+
 /// A number alone.
 fn one_value(number: i64) -> Span {
     Span {
@@ -38,19 +64,39 @@ fn is_named(v: &Variable, param: bool, number: u32) -> bool {
     v.param == param && v.number == number
 }
 
-/// The place of a slot or a parameter. Where all slots occur, a slot's place is its number.
-fn place_of(vs: &[Variable], param: bool, number: u32) -> Option<u32> {
-    if let Some(v) = vs.get(number as usize) {
-        if is_named(v, param, number) {
-            return Some(number);
-        }
+/// Whether a variable stands before the slot or the parameter of this number: parameters stand behind all slots.
+fn is_lower(v: &Variable, param: bool, number: u32) -> bool {
+    if v.param == param {
+        v.number < number
+    } else {
+        param
     }
-    for (place, v) in vs.iter().enumerate() {
-        if is_named(v, param, number) {
-            return u32::try_from(place).ok();
+}
+
+/// The place of a slot or a parameter, found by halves.
+fn place_between(vs: &[Variable], param: bool, number: u32) -> Option<u32> {
+    let mut low = 0;
+    let mut high = vs.len();
+    for _ in 0..usize::BITS {
+        if low >= high {
+            return None;
+        }
+        let middle = low + (high - low) / 2;
+        match vs.get(middle) {
+            Some(v) if is_named(v, param, number) => return u32::try_from(middle).ok(),
+            Some(v) if is_lower(v, param, number) => low = middle.saturating_add(1),
+            _ => high = middle,
         }
     }
     None
+}
+
+/// The place of a slot or a parameter. Where all slots occur, a slot's place is its number.
+fn place_of(vs: &[Variable], param: bool, number: u32) -> Option<u32> {
+    match vs.get(number as usize) {
+        Some(v) if is_named(v, param, number) => Some(number),
+        _ => place_between(vs, param, number),
+    }
 }
 
 /// The limits of a slot or a parameter.
@@ -98,6 +144,9 @@ fn either_of(a: Span, b: Span) -> Span {
 /// The span of a term within the limits.
 #[cycle(chances)]
 fn span_of(scene: Scene, t: &CTerm, watch: &mut Watch) -> Span {
+    if !goes_on(watch) {
+        return any_value();
+    }
     match t {
         CTerm::Const(c) => one_value(*c),
         CTerm::Slot(n) => variable_span(scene, false, *n, watch),
@@ -146,6 +195,9 @@ fn add_variable(
 /// room, or an `Ite` of which either part may be meant.
 #[cycle(chances)]
 fn add_term(scene: Scene, t: &CTerm, by: i64, start: usize, watch: &mut Watch) -> Option<i64> {
+    if !goes_on(watch) {
+        return None;
+    }
     match t {
         CTerm::Const(c) => Some(by.saturating_mul(*c)),
         CTerm::Slot(n) => add_variable(scene, false, *n, by, start, watch),
@@ -267,9 +319,12 @@ fn chance_of_either(first: Chance, second: Chance) -> Chance {
     }
 }
 
-/// Whether a formula may hold within the limits, and whether it may fail.
+/// Whether a formula may hold within the limits, and whether it may fail, as far as it is looked at.
 #[cycle(chances)]
 pub fn chance_of(scene: Scene, f: &CForm, watch: &mut Watch) -> Chance {
+    if !goes_on(watch) {
+        return any_chance();
+    }
     match f {
         CForm::Top => Chance {
             holds: true,

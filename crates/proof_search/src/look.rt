@@ -7,6 +7,9 @@ use obligations::Branch;
 /// How many waiting formulas are looked at.
 const LOOKS: usize = 256;
 
+/// How many parts of one of them are looked at.
+const PARTS: u32 = 4_096;
+
 /// Whether a term has an `Ite`.
 fn has_choice(t: &CTerm) -> bool {
     match t {
@@ -62,7 +65,10 @@ fn score_of(scene: Scene, a: &CForm, b: &CForm, watch: &mut Watch) -> usize {
 fn score_at(scene: Scene, branch: &Branch, place: usize, watch: &mut Watch) -> usize {
     match branch.waiting.get(place) {
         Some(form) => match form.get() {
-            CForm::Or(a, b) => score_of(scene, a.get(), b.get(), watch),
+            CForm::Or(a, b) => {
+                watch.parts = PARTS;
+                score_of(scene, a.get(), b.get(), watch)
+            }
             _ => 0,
         },
         None => 0,

@@ -37,6 +37,8 @@ pub struct Watch {
     seen: usize,
     conflict: Option<Conflict>,
     pub lines: Lines,
+    /// How many more parts of a formula are looked at.
+    pub parts: u32,
 }
 
 /// A state to which a watch can be taken back.
@@ -67,6 +69,7 @@ pub fn new_watch(alloc: Global, count: usize) -> Result<Watch, AllocError> {
         seen: 0,
         conflict: None,
         lines: no_lines(alloc)?,
+        parts: 0,
     })
 }
 
