@@ -1,6 +1,6 @@
 -- What a search finds is its answer.
-use Rattle.std.proofs.Common.{◌≡◌, ◌≤◌, ◌+◌, ℕ, List, ◌∷◌, ◌++◌, length, Option, Some, None, Result, Ok, Err, IfOk, refl}
-use Rattle.std.proofs.Common.{sym, ap, ◌∙◌, subst, arith}
+use Rattle.std.proofs.Common.{◌≡◌, ◌≤◌, ◌+◌, ℕ, List, ◌∷◌, ◌++◌, length, Some, Result, Ok, IfOk, refl, sym, ap, ◌∙◌}
+use Rattle.std.proofs.Common.{subst, arith}
 use Rattle.unity_syntax.specs.declared.document.Document.{Document}
 use Rattle.core_terms.specs.declared.documents.CDocument.{CDocument}
 use Rattle.core_terms.specs.Conditions.{IsDocument as IsCoreDocument}
@@ -17,12 +17,11 @@ use Rattle.found_documents.specs.Found.{front, text_with}
 use Rattle.found_texts.specs.Laws.{IsFoundText}
 use Rattle.found_texts.proofs.Found.{proved_is_read}
 use Rattle.unity_cli.specs.declared.finding.Found.{Found}
-use Rattle.unity_cli.specs.declared.judge.Answer.{Answer as Told}
 use Rattle.unity_cli.specs.declared.reading.Input.{Input}
 use Rattle.unity_cli.specs.declared.reading.Reading.{Reading}
 use Rattle.unity_cli.specs.declared.status.Status.{Status}
 use Rattle.unity_cli.specs.Answer.{greatest_size, greatest_bare_size, IsRead, IsAccepted, IsFinding, IsFound, Searched}
-use Rattle.unity_cli.specs.Answering.{ComesWith, HasPlan}
+use Rattle.unity_cli.specs.Answering.{HasPlan}
 use Rattle.unity_cli.specs.Input.{AreKept, IsReadAs, words_in}
 use Rattle.unity_cli.proofs.Accepted.{read_core}
 use Rattle.unity_cli.proofs.Told.{sound_core}

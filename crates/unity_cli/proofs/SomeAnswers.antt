@@ -45,8 +45,8 @@ use Rattle.answer_texts.specs.Verdicts.{accepted_text, rejected_text}
 use Rattle.command_words.specs.Requests.{Request, check, prove, run, replay, demo, request_of}
 use Rattle.command_words.proofs.Asking.{requests_are_asked}
 use Rattle.unity_cli.specs.declared.status.Status.{Status}
-use Rattle.unity_cli.specs.Answer.{greatest_size, greatest_bare_size, IsRead, IsBad, too_long, no_reading, Checked}
-use Rattle.unity_cli.specs.Answer.{Searched, Ran, Replayed, Answer, ring_budget, ring_line}
+use Rattle.unity_cli.specs.Answer.{greatest_size, greatest_bare_size, IsRead, IsBad, too_long, no_reading, Searched}
+use Rattle.unity_cli.specs.Answer.{ring_budget, ring_line}
 use Rattle.unity_cli.specs.Answer.{IsTrace, no_program, no_schedule, unknown}
 use Rattle.unity_cli.specs.Answer as answers
 use Rattle.unity_cli.specs.Laws.{HasAnswer, IsLimited, LimitedHaveAnswer, SomeAnswer}
@@ -277,7 +277,8 @@ searched : (bytes : List ℕ) (budget : ℕ) → budget ≤ 1000000 → ReadOrBa
     HasAnswer (Some (prove budget)) bytes
 searched bytes budget few (inr (text, bad)) = (Status.BadDocument, text, bad)
 searched bytes budget few (inl (d, read)) =
-    by_some (some_finding search-ends (core_document d) budget (read_core greatest_bare_size (omega arith) bytes d read))
+    by_some (some_finding search-ends (core_document d) budget
+    (read_core greatest_bare_size (omega arith) bytes d read))
   where
     by_finding : (finding : Result Proof ScriptError) → IsTold finding → Finds (core_document d) budget finding →
         HasAnswer (Some (prove budget)) bytes
