@@ -1,7 +1,6 @@
 -- What a search found is written so that it can be read.
-use Rattle.std.proofs.Common.{ℕ, ◌≤◌, ◌+◌, ◌*◌, ◌^◌, List, length, arith}
+use Rattle.std.proofs.Common.{ℕ, ◌≤◌, ◌+◌, ◌*◌, ◌^◌, length, arith}
 use Rattle.std.specs.Prelude.{All}
-use Rattle.obligations.specs.declared.certificates.Cert.{Cert}
 use Rattle.section_tokens.specs.Small.{IsSmall}
 use Rattle.proof_script.specs.Proving.{units_of}
 use Rattle.found_documents.specs.Found.{text_with}

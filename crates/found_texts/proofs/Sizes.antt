@@ -19,7 +19,7 @@ use Rattle.certificate_texts.specs.Certificates.{certificates_text}
 use Rattle.written_certificates.specs.Laws.{IsWholeTree}
 use Rattle.section_tokens.specs.Small.{is_small, is_small_pair, is_small_node, IsSmall}
 use Rattle.proof_script.specs.Proving.{units_of}
-use Rattle.found_documents.specs.Found.{front, text_with}
+use Rattle.found_documents.specs.Found.{front}
 use Rattle.found_texts.specs.Laws.{ProvedAreFew, TextIsShort}
 
 -- the lengths of parts, one after another

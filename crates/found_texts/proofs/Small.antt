@@ -1,6 +1,6 @@
 -- Plain certificates with which a document is accepted have small numbers.
 use Rattle.std.proofs.Common.{◌≡◌, ℕ, zero, suc, ◌+◌, ◌≤◌, ◌<◌, nat_lt, List, [], ◌∷◌, ◌++◌, length, slice_get}
-use Rattle.std.proofs.Common.{Bool, true, false, cond, Option, Some, None, Result, Ok, Err, refl, sym, ap, ◌∙◌, subst}
+use Rattle.std.proofs.Common.{Bool, true, false, cond, Option, Some, None, Ok, Err, refl, sym, ap, ◌∙◌, subst}
 use Rattle.std.proofs.Common.{length-append, arith}
 use Rattle.std.specs.Prelude.{All}
 use Rattle.std.specs.List.{list_all}
@@ -35,7 +35,7 @@ use Rattle.step_rules.proofs.ItemLaws.{to_all}
 use Rattle.proof_script.specs.declared.plans.Plan.{Plan}
 use Rattle.proof_script.specs.Giving.{AreWhole}
 use Rattle.proof_script.specs.Proving.{ArePlain}
-use Rattle.proof_script.specs.Reaching.{by_row, step_reach}
+use Rattle.proof_script.specs.Reaching.{by_row}
 use Rattle.proof_script.specs.Verdicts.{end_verdict, failing, failing_node, grown, last_verdict, no_plan}
 use Rattle.proof_script.specs.Verdicts.{or_refutation_fault, or_rule_fault, proof_verdict, proofs_verdict, refuted_by}
 use Rattle.proof_script.specs.Verdicts.{step_verdict, steps_verdict, surplus_fault, taken}
