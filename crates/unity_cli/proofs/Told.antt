@@ -1,6 +1,6 @@
 -- What is told is an answer.
 use Rattle.std.proofs.Common.{◌≡◌, ◌<◌, ◌≤◌, ℕ, List, [], length, replicate, suc, Bool, true, false, Option}
-use Rattle.std.proofs.Common.{Some, None, Result, Ok, Err, IsErr, IsErrOf, refl, sym, ◌∙◌, subst, arith, codes, ◌++◌}
+use Rattle.std.proofs.Common.{Some, None, Result, Ok, Err, IfOk, IsErr, IsErrOf, refl, sym, ◌∙◌, subst, arith, codes, ◌++◌}
 use Rattle.std.proofs.Common.{◌∷◌}
 use Rattle.std.proofs.lemmas.List.{length-replicate}
 use Rattle.std.specs.Io.KnownBytes.{Appends}
@@ -11,7 +11,10 @@ use Rattle.case_tables.specs.declared.code_table.Code.{Code}
 use Rattle.answer_texts.specs.Refusals.{fault_text, refusal_text}
 use Rattle.unity_meaning.specs.Programs.{Composed}
 use Rattle.core_terms.specs.Conditions.{IsDocument as IsCoreDocument}
+use Rattle.core_terms.specs.declared.documents.CDocument.{CDocument}
 use Rattle.core_terms.specs.declared.programs.CProgram.{CProgram}
+use Rattle.core_documents.specs.Cores.{core_document}
+use Rattle.obligations.specs.declared.certificates.Cert.{Cert}
 use Rattle.executor.specs.declared.runner.Stepped.{Stepped}
 use Rattle.schedule_replay.specs.declared.heading.Heading.{Heading}
 use Rattle.schedule_replay.specs.Schedules.{turns}
@@ -26,6 +29,7 @@ use Rattle.proof_script.specs.Giving.{AreWhole}
 use Rattle.written_certificates.specs.Certificates.{certificates_of}
 use Rattle.command_words.specs.Requests.{Request, check, run, replay}
 use Rattle.unity_cli.specs.declared.status.Status.{Status}
+use Rattle.unity_cli.specs.declared.judge.Answer.{Answer as Answered}
 use Rattle.unity_cli.specs.declared.stop.Stop.{Stop}
 use Rattle.unity_cli.specs.declared.reading.Input.{Input}
 use Rattle.unity_cli.specs.declared.reading.Reading.{Reading}
@@ -40,7 +44,7 @@ use Rattle.unity_cli.specs.Reading.{IsReading}
 use Rattle.unity_cli.specs.Truth.{ClaimsAreTrue, ProgramsRun, WritesWhatIsTrue}
 use Rattle.unity_cli.specs.Answer as answers
 use Rattle.unity_cli.specs.Input.{AreKept, IsReadAs, IsInput, IsText, IsTextOf, IsSomeReading}
-use Rattle.unity_cli.specs.Answering.{Telling, TellsReading, TellsText, TellsBad, EndsAs}
+use Rattle.unity_cli.specs.Answering.{Telling, TellsReading, TellsText, TellsBad, EndsAs, IsVerdictOn}
 use Rattle.unity_cli.proofs.Accepted.{read_core, read_whole, accepted_true, accepted_runs}
 use Rattle.unity_cli.proofs.Accepted.{accepted_tells_true}
 
@@ -77,6 +81,29 @@ sound_core most few r h = subst IsCoreDocument (sym h.1.core_is) (read_core most
 
 pub sound_certificates : (r : Reading) → IsSomeReading greatest_size r → AreWhole (certificates_of r.document)
 sound_certificates r h = read_whole greatest_size h.0 r.document h.1.read
+
+-- the verdict on what was read is what `check` answers
+verdict_checked : (bytes : List ℕ) (r : Reading) → IsReadAs greatest_size bytes r → (certs : List Cert) →
+    certs ≡ certificates_of r.document → (status : Status) (text : List ℕ) → IsVerdictOn r.core certs status text →
+    Checked bytes status text
+verdict_checked bytes r is certs e status text v =
+    checked status
+    (subst (λ (core : CDocument). IsVerdictOn core (certificates_of r.document) status text) is.core_is
+    (subst (λ cs. IsVerdictOn r.core cs status text) e v))
+  where
+    checked : (status : Status) →
+        IsVerdictOn (core_document r.document) (certificates_of r.document) status text → Checked bytes status text
+    checked Status.Done v =
+        record { document = r.document; read = is.read; plan = v.0; verdict = v.1; text_is = v.2 }
+    checked Status.Rejected v =
+        record { document = r.document; read = is.read; fault = v.0; verdict = v.1; text_is = v.2 }
+    checked other v = absurd v
+
+pub verdicts_checked : {E : Type 0} (r : Reading) (certs : List Cert) → certs ≡ certificates_of r.document →
+    (answer : Result Answered E) → IfOk answer (λ a. IsVerdictOn r.core certs a.status a.text.items) →
+    IfOk answer (λ a. (bytes : List ℕ) → IsReadAs greatest_size bytes r → Checked bytes a.status a.text.items)
+verdicts_checked r certs e (Ok a) v = λ bytes is. verdict_checked bytes r is certs e a.status a.text.items v
+verdicts_checked r certs e (Err x) v = tt
 
 -- ---- telling
 

@@ -5,9 +5,13 @@ use Rattle.unity_base.specs.Streams.{AppendsPart}
 use Rattle.case_tables.specs.declared.code_table.Code.{Code}
 use Rattle.executor.specs.declared.runner.Stepped.{Stepped}
 use Rattle.program_traces.specs.declared.error.RunError.{RunError}
+use Rattle.core_terms.specs.declared.documents.CDocument.{CDocument}
+use Rattle.obligations.specs.declared.certificates.Cert.{Cert}
 use Rattle.proof_script.specs.declared.plans.Plan.{Plan}
+use Rattle.proof_script.specs.declared.plans.StepFault.{StepFault}
+use Rattle.proof_script.specs.Verdicts.{verdict_of}
 use Rattle.answer_texts.specs.Refusals.{fault_text, refusal_text}
-use Rattle.answer_texts.specs.Verdicts.{accepted_text}
+use Rattle.answer_texts.specs.Verdicts.{accepted_text, rejected_text}
 use Rattle.command_words.specs.Requests.{Request}
 use Rattle.unity_cli.specs.declared.reading.Input.{Input}
 use Rattle.unity_cli.specs.declared.reading.Reading.{Reading}
@@ -77,3 +81,11 @@ EndsAs (Err (RunError.NoSuchStatement at)) old new status =
 EndsAs (Err RunError.NotInitial) old new status = TellsBad (refusal_text Code.NoStart) old new status
 EndsAs (Err RunError.Failed) old new status = (status ≡ Status.WriteFault) × (new ≡ old)
 EndsAs (Err RunError.Memory) old new status = (status ≡ Status.WantOfMemory) × (new ≡ old)
+
+-- the status and the text are the verdict on a document in core form with these certificates
+abbrev pub IsVerdictOn : CDocument → List Cert → Status → List ℕ → Type 0
+IsVerdictOn core certs Status.Done text =
+    (plan : Plan) × (verdict_of core certs ≡ Ok plan) × (text ≡ accepted_text core.words plan)
+IsVerdictOn core certs Status.Rejected text =
+    (fault : StepFault) × (verdict_of core certs ≡ Err fault) × (text ≡ rejected_text core.words fault)
+IsVerdictOn core certs status text = ⊥

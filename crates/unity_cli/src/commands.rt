@@ -44,7 +44,7 @@ pub fn write_command<K: Sink>(alloc: Global, command: &Command, text: Text, out:
     ensures cause { IsTold (K.faults out.old) (K.faults out.new) (result ≡ Status.WriteFault) }
 {
     match command {
-        Command::Check => write_verdict(alloc, &input_of(text), out),
+        Command::Check => write_verdict(alloc, input_of(text), out),
         Command::Prove { budget } => write_finding(alloc, *budget, &text.bytes, &text.input, out),
         Command::Run { program, steps } => {
             write_run(alloc, program, *steps, &input_of(text), out)
@@ -66,9 +66,9 @@ fn input_of(text: Text) -> Input
 }
 
 // Writes what `check` answers for the input.
-fn write_verdict<K: Sink>(alloc: Global, input: &Input, out: &mut K) -> Status
-    requires { IsSomeInput answers.greatest_size input.now }
-    ensures told { TellsInput check input.now (K.written out.old) (K.written out.new) result }
+fn write_verdict<K: Sink>(alloc: Global, input: Input, out: &mut K) -> Status
+    requires { IsSomeInput answers.greatest_size input }
+    ensures told { TellsInput check input (K.written out.old) (K.written out.new) result }
     ensures nothing { result ≡ Status.WantOfMemory → out.new ≡ out.old }
     ensures never { result ≡ Status.ReadFault → ⊥ }
     ensures cause { IsTold (K.faults out.old) (K.faults out.new) (result ≡ Status.WriteFault) }

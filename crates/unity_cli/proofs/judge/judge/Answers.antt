@@ -9,4 +9,4 @@ returns-in_ok-document_fault-in-Fault c = λ bytes is.
     bad_checked bytes c.bad-in-Fault.result.status c.bad-in-Fault.result.text.items
     (fault_text c.in-Fault.code c.in-Fault.at) c.bad-in-Fault.ensures.status
     (c.bad-in-Fault.ensures.text ∙ c.in_ok-document_fault-in-Fault.ensures)
-    (fault_bad greatest_size bytes c.args.input.now c.in-Fault.code c.in-Fault.at c.in-Fault.is is)
+    (fault_bad greatest_size bytes c.args.input c.in-Fault.code c.in-Fault.at c.in-Fault.is is)

@@ -1,10 +1,16 @@
-use Rattle.std.proofs.Common.{arith, rules}
+use Rattle.std.proofs.Common.{arith, subst, sym, ◌∙◌}
+use Rattle.proof_script.specs.Giving.{AreWhole}
 use Rattle.unity_cli.specs.Answer.{greatest_size}
-use Rattle.unity_cli.proofs.Told.{sound_core, sound_certificates}
+use Rattle.unity_cli.proofs.Told.{sound_core, sound_certificates, verdicts_checked}
 use Rattle.unity_cli.proofs.judge.judge_reading.Goals as goal
 
-pub check-requires-clause-document : goal.check-requires-clause-document
-check-requires-clause-document c = sound_core greatest_size (omega arith) c.args.reading.now c.requires
+pub verdict-requires-clause-document : goal.verdict-requires-clause-document
+verdict-requires-clause-document c = sound_core greatest_size (omega arith) c.args.reading c.requires
 
-pub check-requires-clause-whole : goal.check-requires-clause-whole
-check-requires-clause-whole c = search (rules, sound_certificates c.args.reading.now c.requires)
+pub verdict-requires-clause-whole : goal.verdict-requires-clause-whole
+verdict-requires-clause-whole c = subst AreWhole (sym (c.as_slice.ensures ∙ c.in_ok-certificates.ensures))
+    (sound_certificates c.args.reading c.requires)
+
+pub returns : goal.returns
+returns c = verdicts_checked c.args.reading c.as_slice.result.now (c.as_slice.ensures ∙ c.in_ok-certificates.ensures)
+    c.verdict.result c.verdict.ensures
