@@ -61,6 +61,21 @@ expect_proof() {
     fi
 }
 
+# expect_claim TIMES PART: for the claim that so many x of 0..3, with this part between them, are no less than 0,
+# certificates are found within an ordinary stack, and `check` accepts them.
+expect_claim() {
+    wanted=$text
+    printf '%s\n' "accepted 2 steps 3 obligations" "P.safe defined" "P.many invariant" > "$text"
+    {
+        printf '%s\n' "unity 1" "program P declare x : 0..3 assign s: x := x end" "proof P safe: defined by text;"
+        echo "many: invariant x"
+        yes "$2 x" | head -n "$(($1 - 1))"
+        echo ">= 0 by text; end"
+    } > "$answer"
+    crates/unity/out/unity prove 1000000 < "$answer" > "$proved" || true
+    compare "a claim on $1 parts" 0 check < "$proved"
+}
+
 # expect_bound LINE WORD..: by these words the script that tries a bound on all executions of 8 steps says
 # this line.
 expect_bound() {
@@ -315,6 +330,7 @@ expect_proof union_proofs union_proofs.expected
 for name in peterson readers_writers two_phase_commit barrier ring_of_four ring_of_three union_of_two; do
     expect_proof "$name" "$name.accepted"
 done
+expect_claim 13000 +
 expect_refuted pick
 expect_refuted race
 expect_ring 2
