@@ -23,8 +23,8 @@ use Rattle.section_tokens.specs.Pieces.{section_pieces, tokens_from}
 use Rattle.section_tokens.specs.Laws.{FrontIsRead, WholeIsRead}
 use Rattle.found_documents.specs.Found.{front, text_with}
 use Rattle.found_documents.specs.Laws.{AreReadable, IsWith, FoundByTokens}
-use Rattle.found_documents.proofs.Parts.{After, Parts, parts_of}
-use Rattle.found_documents.proofs.NoBrackets.{are_not, none_over_front, section_avoids}
+use Rattle.unity_parser.proofs.Parts.{After, Parts, parts_of}
+use Rattle.unity_parser.proofs.NoBrackets.{are_not, none_over_front, section_avoids}
 use Rattle.found_documents.proofs.Fronts.{cut, order_before, agree_front, agree_take, same_terminals}
 use Rattle.found_documents.proofs.SectionRead.{section_is_derived}
 

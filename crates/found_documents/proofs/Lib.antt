@@ -1,8 +1,6 @@
 pub mod Found
 pub mod FoundByTokens
 pub mod Fronts
-pub mod NoBrackets
-pub mod Parts
 pub mod SaysCertificates
 pub mod SectionRead
 pub mod SectionTokens
