@@ -1,0 +1,62 @@
+// The program's one call.
+ghost use Rattle.std.specs.Prelude.{◌≡◌, ◌≢◌, ◌⊎◌, ◌↔◌, ℕ, List, Some, true, false};
+ghost use Rattle.std.specs.Io.KnownBytes.{IsAtEnd};
+ghost use Rattle.unity_base.specs.Streams.{IsTold, IsLongerThan, LeavesRest};
+ghost use Rattle.unity_syntax.specs.declared.document.Document.{Document};
+ghost use Rattle.unity_parser.specs.Document.{IsDocument};
+ghost use Rattle.command_words.specs.Requests.{asked, check};
+ghost use Rattle.unity_cli.specs.Status.{HasText};
+ghost use Rattle.unity_cli.specs.Answer.{most_bytes, reads_source, Tells, TellsPart};
+ghost use Rattle.unity_cli.specs.Truth.{ClaimsAreTrue, ProgramsRun, WritesWhatIsTrue};
+ghost use Rattle.unity_cli.specs.Starts.{ProgramsStart};
+ghost use Rattle.unity_cli.specs.Following.{FollowsTheRules};
+
+use std::alloc::Global;
+use unity_base::{Sink, Source};
+use unity_cli::Status;
+
+/// The call `unity` of `unity_cli`, with its clauses.
+pub fn unity<S: Source, K: Sink>(
+    alloc: Global,
+    words: &[String],
+    src: &mut S,
+    out: &mut K,
+) -> Status
+    // What is written is the answer for the words and the bytes that were left.
+    ensures answer { HasText result →
+        Tells (asked words.now) (S.left src.old) result (K.written out.old) (K.written out.new) }
+    ensures part { result ≡ Status.WriteFault →
+        TellsPart (asked words.now) (S.left src.old) (K.written out.old) (K.written out.new) }
+    ensures nothing { (result ≡ Status.ReadFault) ⊎ (result ≡ Status.WantOfMemory) → out.new ≡ out.old }
+
+    // A document is accepted exactly where its proofs follow the rules.
+    ensures follows { HasText result → asked words.now ≡ Some check → (bytes : List ℕ) →
+        S.left src.old ≡ Some bytes → (result ≡ Status.Done) ↔ FollowsTheRules bytes }
+
+    // What the proofs of an accepted document claim is true, each leads-to within the bound that is written; and their
+    // programs have executions, one of which begins with the program's start state.
+    ensures safe { result ≡ Status.Done → asked words.now ≡ Some check → (bytes : List ℕ) (d : Document) →
+        S.left src.old ≡ Some bytes → IsDocument bytes d → ClaimsAreTrue d }
+    ensures bounds { result ≡ Status.Done → asked words.now ≡ Some check → (bytes : List ℕ) (d : Document) →
+        S.left src.old ≡ Some bytes → IsDocument bytes d →
+        WritesWhatIsTrue d (K.written out.old) (K.written out.new) }
+    ensures runs { result ≡ Status.Done → asked words.now ≡ Some check → (bytes : List ℕ) (d : Document) →
+        S.left src.old ≡ Some bytes → IsDocument bytes d → ProgramsRun d }
+    ensures starts { result ≡ Status.Done → asked words.now ≡ Some check → (bytes : List ℕ) (d : Document) →
+        S.left src.old ≡ Some bytes → IsDocument bytes d → ProgramsStart d }
+
+    // For words that are no command, and for a ring, the source is not read.
+    ensures untouched { reads_source (asked words.now) ≡ false → src.new ≡ src.old }
+    ensures not_read { reads_source (asked words.now) ≡ false → result ≢ Status.ReadFault }
+
+    // A source that was read was read to its end, or past the greatest number of bytes for them.
+    ensures end { reads_source (asked words.now) ≡ true → result ≢ Status.ReadFault → result ≢ Status.WantOfMemory →
+        IsAtEnd (S.left src.new) ⊎ IsLongerThan (most_bytes (asked words.now)) (S.left src.old) }
+    ensures rest { LeavesRest (S.left src.old) (S.left src.new) }
+
+    // A fault has its cause, and none is taken for something else.
+    ensures source { IsTold (S.faults src.old) (S.faults src.new) (result ≡ Status.ReadFault) }
+    ensures sink { IsTold (K.faults out.old) (K.faults out.new) (result ≡ Status.WriteFault) }
+{
+    unity_cli::unity(alloc, words, src, out)
+}

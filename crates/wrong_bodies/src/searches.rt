@@ -1,0 +1,39 @@
+// What finds certificates.
+ghost use Rattle.std.specs.Prelude.{◌≡◌, map, true, IfOk, IfSome, IsSomeAnd};
+ghost use Rattle.std.specs.List.{list_all};
+ghost use Rattle.obligations.specs.Obligations.{IsObligation};
+ghost use Rattle.obligations.specs.Reach.{some_out_of_reach};
+ghost use Rattle.linear_prover.specs.Chains.{Closes, IsShort};
+ghost use Rattle.linear_prover.specs.Exact.{in_order, is_fact};
+ghost use Rattle.tree_search.specs.Searching.{Answers};
+
+use obligations::{Fact, Node, Obligation};
+use std::alloc::{AllocError, Global};
+use tree_search::Found;
+use unity_base::Seq;
+
+/// The call `close` of `linear_prover`, with its clauses.
+pub fn close(alloc: Global, facts: &[Fact], count: u32) -> Result<Option<Seq<Node>>, AllocError>
+    requires { list_all (is_fact count) facts.now ≡ true }
+    ensures chain { IfOk result (λ o. IfSome o (Closes count facts.now)) }
+    ensures reach { IfOk result (λ o.
+        some_out_of_reach (map (in_order count) facts.now) ≡ true → IsSomeAnd o (IsShort count)) }
+{
+    linear_prover::close(alloc, facts, count)
+}
+
+/// The call `search_tree` of `tree_search`, with its clause.
+pub fn search_tree(alloc: Global, o: &Obligation, budget: u64) -> Result<Found, AllocError>
+    requires { IsObligation o.now }
+    ensures { IfOk result (Answers o.now budget) }
+{
+    tree_search::search_tree(alloc, o, budget)
+}
+
+/// The call `search` of `proof_search`, with its clause.
+pub fn search(alloc: Global, o: &Obligation, budget: u64) -> Result<Found, AllocError>
+    requires { IsObligation o.now }
+    ensures { IfOk result (Answers o.now budget) }
+{
+    proof_search::search(alloc, o, budget)
+}
