@@ -21,8 +21,8 @@ use Rattle.core_terms.proofs.WeightLaws.{own_within}
 use Rattle.wp_substitution.proofs.HeavierLaws.{term_scaled}
 use Rattle.wp_substitution.proofs.LightLaws.{form_light}
 use Rattle.wp_substitution.proofs.PlaceLaws.{difference_within, constant_within, at_least_within}
-use Rattle.ensures_rules.specs.Foldable.{IsFoldable}
-use Rattle.ensures_rules.proofs.JoinLaws.{all_foldable}
+use Rattle.safety_rules.specs.Foldable.{IsFoldable}
+use Rattle.safety_rules.proofs.JoinLaws.{all_foldable}
 use Rattle.proof_rules.specs.Forms.{imply}
 use Rattle.proof_rules.specs.Terms.{measure_lies}
 use Rattle.safety_rules.specs.Usable.{NamesExist}

@@ -11,8 +11,8 @@ use Rattle.core_terms.specs.declared.programs.CSlot.{CSlot}
 use Rattle.core_terms.specs.declared.trees.CForm.{CForm}
 use Rattle.core_terms.specs.declared.trees.Range.{Range}
 use Rattle.wp_substitution.proofs.LightLaws.{form_light}
-use Rattle.ensures_rules.specs.Foldable.{IsFoldable}
-use Rattle.ensures_rules.proofs.JoinLaws.{all_foldable}
+use Rattle.safety_rules.specs.Foldable.{IsFoldable}
+use Rattle.safety_rules.proofs.JoinLaws.{all_foldable}
 use Rattle.proof_rules.specs.Forms.{imply}
 use Rattle.proof_rules.specs.Table.{Site, needs}
 use Rattle.proof_rules.specs.Terms.{node}

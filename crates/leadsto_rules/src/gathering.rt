@@ -4,7 +4,7 @@ ghost use Rattle.proof_rules.specs.Forms as formula;
 ghost use Rattle.safety_rules.specs.Answers.{IsPlace};
 ghost use Rattle.wp_substitution.specs.Joined.{joined_with};
 ghost use Rattle.wp_substitution.specs.Preconditions.{all_of};
-ghost use Rattle.ensures_rules.specs.Foldable.{IsFoldable, AreFoldable};
+ghost use Rattle.safety_rules.specs.Foldable.{IsFoldable, AreFoldable};
 
 use core_terms::{CForm, and_form, held_form, not_form, or_form};
 use safety_rules::{Place, using_and};

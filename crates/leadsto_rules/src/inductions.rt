@@ -5,7 +5,7 @@ ghost use Rattle.core_terms.specs.Conditions.{IsRange};
 ghost use Rattle.core_terms.specs.Folding as fold;
 ghost use Rattle.core_terms.specs.Trees.{same_form};
 ghost use Rattle.core_terms.specs.declared.trees.CTerm.TheVariants.{Const, Param};
-ghost use Rattle.ensures_rules.specs.Foldable.{IsFoldable};
+ghost use Rattle.safety_rules.specs.Foldable.{IsFoldable};
 ghost use Rattle.proof_rules.specs.Forms as formula;
 ghost use Rattle.proof_rules.specs.Table.{needs};
 ghost use Rattle.proof_rules.specs.Terms as terms;

@@ -5,7 +5,7 @@ ghost use Rattle.core_terms.specs.Conditions.{FormFits};
 ghost use Rattle.core_terms.specs.Folding as fold;
 ghost use Rattle.core_terms.specs.Trees.{same_form};
 ghost use Rattle.core_terms.specs.Weights.{plain_weight};
-ghost use Rattle.ensures_rules.specs.Foldable.{IsFoldable};
+ghost use Rattle.safety_rules.specs.Foldable.{IsFoldable};
 ghost use Rattle.fair_rounds.specs.declared.records.Record.{Record as TheRecord};
 ghost use Rattle.proof_rules.specs.Table.{go_on, needs};
 ghost use Rattle.proof_rules.specs.Terms as terms;

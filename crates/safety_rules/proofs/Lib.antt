@@ -1,8 +1,12 @@
+pub mod AgreeLaws
 pub mod AnswerLaws
 pub mod ArgumentLaws
 pub mod EachLaws
 pub mod ErrorLaws
+pub mod FilterLaws
 pub mod InstanceLaws
+pub mod JoinLaws
+pub mod NameLaws
 pub mod OversizedLaws
 pub mod ParamLaws
 pub mod SoundLaws

@@ -1,6 +1,8 @@
 pub mod Answers
 pub mod Errors
+pub mod Foldable
 pub mod Goals
+pub mod Helpers
 pub mod Instances
 pub mod Premises
 pub mod Sound

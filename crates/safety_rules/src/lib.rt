@@ -3,8 +3,13 @@
 
 mod concluding;
 mod definedness;
+mod ensuring;
+mod equations;
+mod gathering;
 mod instances;
 mod instancing;
+mod meanings;
+mod naming;
 mod pairs;
 mod places;
 mod premises;
@@ -14,9 +19,10 @@ mod weakening;
 
 pub use concluding::{add_goal, conclude};
 pub use definedness::defined_rule;
+pub use ensuring::ensures_rule;
 pub use instancing::{instance, instance_in};
 pub use pairs::pair_rule;
 pub use places::{Derived, Place, RuleError};
-pub use recording::{Claim, copied_helper, is_same, some_helper};
-pub use texts::{add_unless, after, invariant_rule, unless_rule, using_and};
+pub use recording::{Claim, copied_helper, is_same};
+pub use texts::{after, invariant_rule, unless_rule, using_and};
 pub use weakening::{is_ensures, is_unless, weaken_rule};

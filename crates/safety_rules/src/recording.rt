@@ -117,10 +117,8 @@ pub fn copied_helper(alloc: Global, helper: &Option<Helper>) -> Result<Option<He
     }
 }
 
-/// A copy of the name of the statement that helps an ensures.
-///
-/// An error says that memory was refused.
-pub fn some_helper(alloc: Global, h: &Helper) -> Result<Option<Helper>, AllocError>
+// A copy of the name of the statement that helps an ensures.
+pub(crate) fn some_helper(alloc: Global, h: &Helper) -> Result<Option<Helper>, AllocError>
     ensures { IfOk result (λ copy. copy ≡ Some h.now) }
 {
     Ok(Some(Helper {

@@ -91,10 +91,8 @@ pub fn using_and(alloc: Global, pl: &Place, p: &CForm) -> Result<Seq<CForm>, All
     Ok(all)
 }
 
-/// Adds the obligations of `p unless q`, one for each statement.
-///
-/// The fault is 42: one is too large.
-pub fn add_unless(
+// Adds the obligations of `p unless q`, one for each statement.
+pub(crate) fn add_unless(
     alloc: Global,
     pl: &Place,
     p: &CForm,

@@ -53,7 +53,7 @@ use Rattle.safety_rules.specs.Answers.{Answers, obligations_of}
 use Rattle.safety_rules.specs.Usable.{NamesExist}
 use Rattle.safety_rules.proofs.UsableLaws.{exist_not, exist_or, exist_imply, exist_wp, exist_defined, all_usable}
 use Rattle.safety_rules.proofs.UsableLaws.{all_exist, fits_exist, usable_closed}
-use Rattle.ensures_rules.proofs.NameLaws.{meant_exists, helped_exists}
+use Rattle.safety_rules.proofs.NameLaws.{meant_exists, helped_exists}
 use Rattle.step_rules.specs.Steps.{IsStepGiven}
 use Rattle.step_rules.specs.Using.{BookFits, IsEntry}
 use Rattle.step_rules.specs.Starts.{starts_in}

@@ -23,12 +23,11 @@ use crate::unions::by_union;
 use crate::using::used;
 use case_tables::{Code, Kind, RuleName};
 use core_terms::{CProgram, CRule, CSlot, CStep, Ref};
-use ensures_rules::ensures_rule;
 use executor::start_of;
 use fair_rounds::Record;
 use safety_rules::{
-    Derived, Place, RuleError, defined_rule, invariant_rule, is_same, pair_rule, unless_rule,
-    weaken_rule,
+    Derived, Place, RuleError, defined_rule, ensures_rule, invariant_rule, is_same, pair_rule,
+    unless_rule, weaken_rule,
 };
 use std::alloc::Global;
 use unity_base::Held;

@@ -1,7 +1,7 @@
 use Rattle.std.proofs.Common.{ap, sym, ◌∙◌}
 use Rattle.std.proofs.lemmas.Result.{IfOk-weaker}
 use Rattle.wp_substitution.specs.Joined.{or_top}
-use Rattle.ensures_rules.proofs.JoinLaws.{held_all}
+use Rattle.safety_rules.proofs.JoinLaws.{held_all}
 use Rattle.leadsto_rules.proofs.gathering.all_held.Goals as goal
 
 pub returns-in-Some-clause-tree : goal.returns-in-Some-clause-tree

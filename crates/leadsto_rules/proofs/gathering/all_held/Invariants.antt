@@ -1,6 +1,6 @@
 use Rattle.std.proofs.Common.{◌≡◌, None, drop}
 use Rattle.wp_substitution.specs.Joined.{joined_all}
-use Rattle.ensures_rules.specs.Foldable.{AreFoldable}
+use Rattle.safety_rules.specs.Foldable.{AreFoldable}
 use Rattle.leadsto_rules.proofs.gathering.all_held.Given as goal
 
 abbrev pub invariant-loop-f : goal.invariant-loop-f

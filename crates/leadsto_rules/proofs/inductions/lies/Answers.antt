@@ -3,8 +3,8 @@ use Rattle.std.proofs.lemmas.Result.{IfOk-weaker}
 use Rattle.core_terms.specs.Folding.{and_form, not_form}
 use Rattle.core_terms.specs.Weights.{plain_weight}
 use Rattle.core_terms.specs.declared.trees.CForm.{CForm}
-use Rattle.ensures_rules.specs.Foldable.{IsFoldable}
-use Rattle.ensures_rules.proofs.JoinLaws.{premises_are}
+use Rattle.safety_rules.specs.Foldable.{IsFoldable}
+use Rattle.safety_rules.proofs.JoinLaws.{premises_are}
 use Rattle.proof_rules.specs.Forms.{imply}
 use Rattle.leadsto_rules.proofs.InductionLaws.{premises_foldable}
 use Rattle.leadsto_rules.proofs.NodeLaws.{some_premise}

@@ -2,7 +2,7 @@ use Rattle.std.proofs.Common.{List, refl, sym, ap, subst, ◌∙◌}
 use Rattle.core_terms.specs.declared.programs.CSlot.{CSlot}
 use Rattle.core_terms.specs.declared.trees.Range.{Range}
 use Rattle.core_terms.specs.Folding.{or_form}
-use Rattle.ensures_rules.specs.Foldable.{IsFoldable}
+use Rattle.safety_rules.specs.Foldable.{IsFoldable}
 use Rattle.safety_rules.proofs.UsableLaws.{fits_exist}
 use Rattle.leadsto_rules.proofs.NodeLaws.{claim_fits, both_closed, both_exist, either_exists, foldable}
 use Rattle.leadsto_rules.proofs.parts.joined_either.Goals as goal

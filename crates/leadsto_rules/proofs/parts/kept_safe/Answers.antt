@@ -3,7 +3,7 @@ use Rattle.core_terms.specs.declared.programs.CSlot.{CSlot}
 use Rattle.core_terms.specs.declared.trees.Range.{Range}
 use Rattle.core_terms.specs.Folding.{and_form, or_form}
 use Rattle.core_terms.specs.Weights.{plain_weight}
-use Rattle.ensures_rules.specs.Foldable.{IsFoldable}
+use Rattle.safety_rules.specs.Foldable.{IsFoldable}
 use Rattle.safety_rules.specs.Answers.{site_of}
 use Rattle.safety_rules.specs.Usable.{NamesExist}
 use Rattle.wp_substitution.proofs.LightLaws.{form_light}

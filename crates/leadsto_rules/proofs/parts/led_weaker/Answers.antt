@@ -4,7 +4,7 @@ use Rattle.core_terms.specs.declared.trees.CForm.{CForm}
 use Rattle.core_terms.specs.declared.trees.Range.{Range}
 use Rattle.safety_rules.specs.Answers.{site_of}
 use Rattle.safety_rules.proofs.UsableLaws.{fits_exist}
-use Rattle.ensures_rules.specs.Foldable.{IsFoldable}
+use Rattle.safety_rules.specs.Foldable.{IsFoldable}
 use Rattle.proof_rules.specs.Forms.{imply}
 use Rattle.leadsto_rules.proofs.NodeLaws.{node_gives, claim_fits, foldable, both_exist}
 use Rattle.leadsto_rules.proofs.NodeLaws.{follows_exist, two_exist, two_pushed}

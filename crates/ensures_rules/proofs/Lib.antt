@@ -1,4 +1,0 @@
-pub mod AgreeLaws
-pub mod FilterLaws
-pub mod JoinLaws
-pub mod NameLaws

@@ -1,6 +1,0 @@
-use Rattle.std.proofs.Common.{◌≡◌, drop}
-use Rattle.proof_rules.specs.Table.{agree}
-use Rattle.ensures_rules.proofs.naming.agree.Given as goal
-
-abbrev pub invariant-loop-place : goal.invariant-loop-place
-invariant-loop-place l = agree (drop l.place l.args) (drop l.place l.indices) ≡ agree l.args l.indices

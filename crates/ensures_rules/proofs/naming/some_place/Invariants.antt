@@ -1,7 +1,0 @@
-use Rattle.std.proofs.Common.{◌≡◌, drop}
-use Rattle.std.specs.List.{list_any}
-use Rattle.ensures_rules.specs.Helpers.{has_place}
-use Rattle.ensures_rules.proofs.naming.some_place.Given as goal
-
-abbrev pub invariant-loop-s : goal.invariant-loop-s
-invariant-loop-s l = list_any (has_place l.h) (drop l.s-index l.statements) ≡ list_any (has_place l.h) l.statements

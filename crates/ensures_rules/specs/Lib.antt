@@ -1,2 +1,0 @@
-pub mod Foldable
-pub mod Helpers

@@ -1,0 +1,62 @@
+use Rattle.std.proofs.Common.{◌++◌, [], Err, Some, refl, sym, ◌∙◌}
+use Rattle.case_tables.specs.declared.kind_table.Kind.{Kind}
+use Rattle.case_tables.specs.declared.code_table.Code.{Code}
+use Rattle.core_terms.specs.declared.trees.CForm.{CForm}
+use Rattle.core_terms.specs.declared.documents.Helper.{Helper}
+use Rattle.proof_rules.specs.Table.{Site, record_of, is_helper, unless_forms, helper_forms, ensures_of}
+use Rattle.proof_rules.proofs.RowEquations.{ensures-is}
+use Rattle.proof_rules.proofs.EnsuresSound.{ensures_sound}
+use Rattle.safety_rules.specs.Answers.{site_of, Answers}
+use Rattle.safety_rules.proofs.AnswerLaws.{needs_met, needs_not, refused_goals, rule_given, refused, given_by}
+use Rattle.safety_rules.proofs.SoundLaws.{site_good, answer_stands, error_stands}
+use Rattle.safety_rules.proofs.ErrorLaws.{handed_on}
+use Rattle.safety_rules.proofs.ensuring.ensures_rule.Goals as goal
+
+pub returns-then-not-is_helper-clause-answer : goal.returns-then-not-is_helper-clause-answer
+returns-then-not-is_helper-clause-answer c =
+    let site : Site = site_of c.args.pl.now in
+    refused site.slots Code.NoSuchStatement (ensures_of site c.args.p.now c.args.q.now c.args.h.now)
+    (ensures-is site c.args.p.now c.args.q.now c.args.h.now
+    ∙ needs_not (is_helper site c.args.h.now) Code.NoSuchStatement _
+    (sym c.is_helper.ensures ∙ c.if-not-is_helper.true))
+
+pub returns-in_err-add_ensures-clause-answer : goal.returns-in_err-add_ensures-clause-answer
+returns-in_err-add_ensures-clause-answer c =
+    let site : Site = site_of c.args.pl.now in
+    let p : CForm = c.args.p.now in
+    let q : CForm = c.args.q.now in
+    let h : Helper = c.args.h.now in
+    let e = c.in_err-add_ensures.field-0.0 in
+    handed_on (λ r. Answers r site.slots (ensures_of site p q h)) c.from_residual.result e c.from_residual.ensures.1
+    (given_by site.slots (Err e) (ensures_of site p q h) _
+    (ensures-is site p q h
+    ∙ needs_met (is_helper site h) Code.NoSuchStatement _ (sym c.is_helper.ensures ∙ c.if-not-is_helper.false))
+    (refused_goals site.slots site.params (Unit {0}) e c.new-goals.result c.add_ensures.new.goals
+    (record_of site Kind.Ensures p q [] (Some h)) (unless_forms site p q ++ helper_forms site p q h)
+    c.in_err-add_ensures.ensures))
+
+pub returns-clause-answer : goal.returns-clause-answer
+returns-clause-answer c =
+    let site : Site = site_of c.args.pl.now in
+    let p : CForm = c.args.p.now in
+    let q : CForm = c.args.q.now in
+    let h : Helper = c.args.h.now in
+    given_by site.slots c.conclude.result (ensures_of site p q h) _
+    (ensures-is site p q h
+    ∙ needs_met (is_helper site h) Code.NoSuchStatement _ (sym c.is_helper.ensures ∙ c.if-not-is_helper.false))
+    (rule_given c.in_ok-add_ensures.field-0 site Kind.Ensures p q c.in_ok-held_form.field-0
+    c.in_ok-held_form-2.field-0 [] ([] ++ []) (Some h) c.in_ok-some_helper.field-0
+    (unless_forms site p q ++ helper_forms site p q h) c.new-goals.result c.add_ensures.new.goals c.conclude.result
+    c.in_ok-held_form.ensures c.in_ok-held_form-2.ensures refl c.in_ok-some_helper.ensures c.new-goals.ensures
+    c.in_ok-add_ensures.ensures c.conclude.ensures)
+
+pub returns-in_err-add_ensures-clause-sound : goal.returns-in_err-add_ensures-clause-sound
+returns-in_err-add_ensures-clause-sound c =
+    error_stands c.args.pl.now c.from_residual.result c.in_err-add_ensures.field-0.0 c.from_residual.ensures.1
+
+pub returns-clause-sound : goal.returns-clause-sound
+returns-clause-sound c =
+    let site : Site = site_of c.args.pl.now in
+    answer_stands c.args.pl.now c.conclude.result (ensures_of site c.args.p.now c.args.q.now c.args.h.now)
+    (λ x e valid. ensures_sound site (site_good c.args.pl.now c.requires.place) c.args.p.now c.args.q.now
+    c.args.h.now x e valid) (returns-clause-answer c)

@@ -1,0 +1,102 @@
+// Which statement is meant, and what it does.
+ghost use Rattle.std.specs.Prelude.{◌≡◌, ◌++◌, ◌∷◌, [], All, IfOk, OnOk, map};
+ghost use Rattle.core_terms.specs.Conditions.{ArgFits, FormFits, StatementFits};
+ghost use Rattle.core_terms.specs.Folding as fold;
+ghost use Rattle.proof_rules.specs.Forms as formula;
+ghost use Rattle.proof_rules.specs.Table as table;
+ghost use Rattle.safety_rules.specs.Answers.{site_of, IsPlace};
+ghost use Rattle.wp_substitution.specs.Preconditions.{all_of};
+ghost use Rattle.safety_rules.specs.Foldable.{IsFoldable};
+
+use crate::equations::add_equations;
+use crate::gathering::{all_held, any_held, implied};
+use crate::naming::may_mean;
+use crate::places::Place;
+use crate::texts::{after, using_and};
+use core_terms::{CForm, CStmt, Helper, copy_form, not_form};
+use std::alloc::{AllocError, Global};
+use unity_base::{Held, Seq};
+use wp_substitution::wp;
+
+// That the indices are those of the statement.
+fn is_meant(alloc: Global, h: &Helper, s: &CStmt) -> Result<Held<CForm>, AllocError>
+    requires { All ArgFits h.now.args }
+    ensures tree { IfOk result (λ f. f ≡ all_of (table.equations h.now.args s.now.indices)) }
+    ensures foldable { IfOk result IsFoldable }
+{
+    let mut all = Seq::new(alloc);
+    add_equations(alloc, &mut all, h.args.as_slice(), s.indices.as_slice())?;
+    all_held(alloc, all.as_slice())
+}
+
+// For each statement that may be meant, that it is.
+fn meanings(alloc: Global, pl: &Place, h: &Helper) -> Result<Seq<CForm>, AllocError>
+    requires { All ArgFits h.now.args }
+    ensures forms { IfOk result (λ fs. fs ≡
+        map (λ s. all_of (table.equations h.now.args s.indices)) (table.instances_of (site_of pl.now) h.now)) }
+    ensures foldable { IfOk result (All IsFoldable) }
+{
+    let mut all = Seq::new(alloc);
+    for s in pl.program.statements.as_slice() {
+        if may_mean(h, s) {
+            let form = is_meant(alloc, h, s)?;
+            all.push(form.into_inner())?;
+        }
+    }
+    Ok(all)
+}
+
+// That one of the statements that may be meant is.
+pub(crate) fn one_meant(alloc: Global, pl: &Place, h: &Helper) -> Result<Held<CForm>, AllocError>
+    requires { All ArgFits h.now.args }
+    ensures { IfOk result (λ f. f ≡ formula.any_of
+        (map (λ s. all_of (table.equations h.now.args s.indices)) (table.instances_of (site_of pl.now) h.now))) }
+{
+    let all = meanings(alloc, pl, h)?;
+    any_held(alloc, all.as_slice())
+}
+
+// U, p, that q does not hold, and that the statement is meant.
+fn premises(
+    alloc: Global,
+    pl: &Place,
+    p: &CForm,
+    q: &CForm,
+    h: &Helper,
+    s: &CStmt,
+) -> Result<Seq<CForm>, AllocError>
+    requires place { IsPlace pl.now }
+    requires p { FormFits pl.now.slots.now pl.now.params.now p.now }
+    requires q { FormFits pl.now.slots.now pl.now.params.now q.now }
+    requires helper { All ArgFits h.now.args }
+    ensures forms { IfOk result (λ all. all ≡ pl.now.using.now
+        ++ p.now ∷ fold.not_form q.now ∷ table.equations h.now.args s.now.indices) }
+    ensures foldable { IfOk result (All IsFoldable) }
+{
+    let mut all = using_and(alloc, pl, p)?;
+    all.push(not_form(alloc, copy_form(alloc, q)?)?)?;
+    add_equations(alloc, &mut all, h.args.as_slice(), s.indices.as_slice())?;
+    Ok(all)
+}
+
+// Where U and p hold and q does not, the statement, if it is meant, gives q.
+pub(crate) fn helped(
+    alloc: Global,
+    pl: &Place,
+    p: &CForm,
+    q: &CForm,
+    h: &Helper,
+    s: &CStmt,
+) -> Result<Held<CForm>, AllocError>
+    requires place { IsPlace pl.now }
+    requires p { FormFits pl.now.slots.now pl.now.params.now p.now }
+    requires q { FormFits pl.now.slots.now pl.now.params.now q.now }
+    requires helper { All ArgFits h.now.args }
+    requires statement { StatementFits pl.now.slots.now s.now }
+    ensures { IfOk result (λ f. f ≡ table.helped_form (site_of pl.now) p.now q.now h.now s.now) }
+{
+    let premises = premises(alloc, pl, p, q, h, s)?;
+    let after = after(alloc, pl, q)?;
+    let before = Held::new(alloc, wp(alloc, s, after.get(), pl.slots)?)?;
+    implied(alloc, premises.as_slice(), before)
+}
