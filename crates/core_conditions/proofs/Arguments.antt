@@ -44,7 +44,7 @@ use Rattle.expand_declarations.specs.References.{names_layer, term_names, param_
 use Rattle.expansion_laws.specs.Forming.{Scope}
 use Rattle.expand_proofs.specs.ProofTerms.{Place, Terming, term_layer, termed, pair_term, ref_in, with_bound_name}
 use Rattle.expand_proofs.specs.Steps.{step_place, core_rule, core_step, core_proof}
-use Rattle.declaration_laws.specs.NameLaws.{proofs_among}
+use Rattle.unity_meaning.specs.Steps.{proofs_among}
 use Rattle.declaration_laws.proofs.Found.{or_right}
 use Rattle.declaration_laws.proofs.Slots.{parts_fault}
 use Rattle.declaration_laws.proofs.Faultless.{each_of_run}

@@ -30,7 +30,7 @@ use Rattle.expand_declarations.specs.References.{with_param, step_params, param_
 use Rattle.expansion_laws.specs.Forming.{Scope}
 use Rattle.expand_proofs.specs.ProofTerms.{Place, termed, ref_in}
 use Rattle.expand_proofs.specs.Steps.{step_place, core_rule, core_step, core_proof}
-use Rattle.declaration_laws.specs.NameLaws.{proofs_among}
+use Rattle.unity_meaning.specs.Steps.{proofs_among}
 use Rattle.declaration_laws.proofs.Slots.{parts_fault}
 use Rattle.declaration_laws.proofs.Faultless.{each_of_run}
 use Rattle.core_documents.specs.Cores.{document_scope}

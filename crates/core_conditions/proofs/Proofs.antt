@@ -27,10 +27,10 @@ use Rattle.name_scopes.specs.WellNamed.{part_of}
 use Rattle.name_laws.proofs.AttributeTheorems.{earlier_first, earlier_second, unless_none}
 use Rattle.document_words.specs.Texts.{Texts, step_texts, proof_texts, part_texts, document_texts}
 use Rattle.document_words.specs.WordNumbers.{document_words, word_number}
-use Rattle.expand_declarations.specs.References.{param_range, between_kind, claim_kind}
+use Rattle.unity_meaning.specs.Steps.{between_kind, claim_kind, proofs_among}
+use Rattle.expand_declarations.specs.References.{param_range}
 use Rattle.expansion_laws.specs.Forming.{Scope}
 use Rattle.expand_proofs.specs.Steps.{core_step, core_proof, claim_p, claim_q, step_place}
-use Rattle.declaration_laws.specs.NameLaws.{proofs_among}
 use Rattle.declaration_laws.specs.WordLaws.{is_among}
 use Rattle.declaration_laws.proofs.Found.{numbers_tell, or_right}
 use Rattle.declaration_laws.proofs.Lists.{IsPart, each_part}

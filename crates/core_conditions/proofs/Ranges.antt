@@ -31,7 +31,7 @@ use Rattle.expand_declarations.specs.References.{text_rule, pair_rule}
 use Rattle.expand_proofs.specs.ProofTerms.{Place, Terming, term_layer, termed, fixed_ends, pair_term, ref_in}
 use Rattle.expand_proofs.specs.ProofTerms.{with_bound_name}
 use Rattle.expand_proofs.specs.Steps.{step_place, core_rule, core_step, core_proof}
-use Rattle.declaration_laws.specs.NameLaws.{proofs_among}
+use Rattle.unity_meaning.specs.Steps.{proofs_among}
 use Rattle.declaration_laws.proofs.Slots.{parts_fault}
 use Rattle.declaration_laws.proofs.Faultless.{each_of_run, sound_range}
 use Rattle.core_documents.specs.Cores.{document_scope}

@@ -20,7 +20,7 @@ use Rattle.document_words.specs.WordNumbers.{document_words}
 use Rattle.expand_declarations.specs.References.{pair_rule}
 use Rattle.expand_proofs.specs.ProofTerms.{Place, Terming, term_layer, termed, pair_term, ref_in, with_bound_name}
 use Rattle.expand_proofs.specs.Steps.{step_place, core_rule, core_step, core_proof}
-use Rattle.declaration_laws.specs.NameLaws.{proofs_among}
+use Rattle.unity_meaning.specs.Steps.{proofs_among}
 use Rattle.core_documents.specs.Cores.{document_scope}
 use Rattle.core_conditions.specs.ArgumentConditions.{EndFits, ends_layer, term_ends, rule_ends, StepLiterals}
 use Rattle.core_conditions.specs.ArgumentConditions.{RuleFits, NumbersFit, StepsFit}

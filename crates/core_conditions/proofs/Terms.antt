@@ -33,7 +33,7 @@ use Rattle.expand_declarations.specs.References.{pair_rule, text_rule}
 use Rattle.expansion_laws.specs.Forming.{Scope}
 use Rattle.expand_proofs.specs.ProofTerms.{Place, Terming, pair_term, term_layer, termed, ref_in, with_bound_name}
 use Rattle.expand_proofs.specs.Steps.{step_place, core_rule, core_step, core_proof}
-use Rattle.declaration_laws.specs.NameLaws.{proofs_among}
+use Rattle.unity_meaning.specs.Steps.{proofs_among}
 use Rattle.core_documents.specs.Cores.{document_scope}
 use Rattle.core_conditions.specs.TermConditions.{ParametersNamed}
 use Rattle.core_conditions.proofs.Proofs.{all_proofs}

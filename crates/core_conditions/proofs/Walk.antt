@@ -42,7 +42,7 @@ use Rattle.expansion_laws.specs.Programs.{core_statement, plain_core}
 use Rattle.expand_declarations.specs.Shown.{shown_slots}
 use Rattle.expand_declarations.specs.Start.{start_values}
 use Rattle.core_terms.specs.Unions.{joined_programs}
-use Rattle.declaration_laws.specs.NameLaws.{proofs_among}
+use Rattle.unity_meaning.specs.Steps.{proofs_among}
 use Rattle.declaration_laws.specs.WordLaws.{is_among}
 use Rattle.declaration_laws.proofs.Found.{numbers_tell}
 use Rattle.declaration_laws.proofs.Slots.{parts_fault}

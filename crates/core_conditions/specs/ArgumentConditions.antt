@@ -16,7 +16,7 @@ use Rattle.name_scopes.specs.Declarations.{some_of}
 use Rattle.name_scopes.specs.Scope.{Bounds, Params}
 use Rattle.name_scopes.specs.WellNamed.{IsWellNamed}
 use Rattle.expand_declarations.specs.References.{core_args}
-use Rattle.declaration_laws.specs.NameLaws.{proofs_among}
+use Rattle.unity_meaning.specs.Steps.{proofs_among}
 use Rattle.core_documents.specs.Cores.{core_document}
 
 -- the number of an offset is within bounds

@@ -14,7 +14,7 @@ use Rattle.name_scopes.specs.WellNamed.{steps_reading, proof_part, part_of}
 use Rattle.name_laws.proofs.AttributeTheorems.{earlier_first, earlier_second}
 use Rattle.document_words.specs.Texts.{Texts}
 use Rattle.document_words.specs.WordNumbers.{document_words}
-use Rattle.declaration_laws.specs.NameLaws.{proofs_among}
+use Rattle.unity_meaning.specs.Steps.{proofs_among}
 use Rattle.declaration_laws.proofs.Slots.{parts_fault}
 use Rattle.expansion_laws.specs.Forming.{Scope}
 use Rattle.expand_proofs.specs.Steps.{core_proof}

@@ -11,6 +11,7 @@ use Rattle.unity_meaning.specs.Names.{Bindings}
 use Rattle.unity_meaning.specs.Setting.{slot_ranges, is_true_at}
 use Rattle.unity_meaning.specs.Programs.{document_setting}
 use Rattle.unity_meaning.specs.Claims.{parameters, are_arguments, argument_bindings}
+use Rattle.unity_meaning.specs.Steps.{EachStep}
 use Rattle.name_scopes.specs.WellNamed.{IsWellNamed}
 use Rattle.name_scopes.specs.Declarations.{some_of}
 use Rattle.core_terms.specs.declared.trees.CForm.{CForm}
@@ -38,11 +39,6 @@ ClaimSays d bindings zs f g (Claim.Between at p which q) =
 -- a step in core form, in a proof of this program
 abbrev pub step_in : Document → Proof → Step → CStep
 step_in d proof step = core_step (document_words d) proof.program.text (document_scope d.parts) step
-
--- what holds of each step of each proof of a document
-abbrev pub EachStep : (Document → Proof → Step → Type 0) → Document → Type 0
-EachStep P d = (place at : ℕ) (proof : Proof) → slice_get d.parts place ≡ Some (Part.Proof at proof) →
-    (number : ℕ) (step : Step) → slice_get proof.steps number ≡ Some step → P d proof step
 
 -- its formulas are those of its claim, whatever the numbers of its parameters;
 abbrev pub ClaimsByBounds : Type 0

@@ -7,7 +7,7 @@ use Rattle.unity_meaning.specs.Programs.{Composed}
 use Rattle.name_scopes.specs.WellNamed.{IsWellNamed}
 use Rattle.core_terms.specs.declared.programs.CProgram.{CProgram}
 use Rattle.document_words.specs.WordNumbers.{document_words}
-use Rattle.declaration_laws.specs.NameLaws.{proofs_among}
+use Rattle.unity_meaning.specs.Steps.{proofs_among}
 use Rattle.expand_proofs.specs.Steps.{core_proof}
 use Rattle.core_documents.specs.Cores.{document_scope, core_document}
 use Rattle.core_documents.specs.Faults.{expansion_fault}

@@ -23,7 +23,8 @@ use Rattle.document_words.specs.WordNumbers.{document_words, word_number}
 use Rattle.expansion_laws.specs.Worth.{values_of}
 use Rattle.expand_declarations.specs.References.{step_params, ref_program, ref_step}
 use Rattle.expand_proofs.specs.Steps.{param_bounds}
-use Rattle.core_meaning.specs.Claims.{EachStep, step_in}
+use Rattle.unity_meaning.specs.Steps.{EachStep}
+use Rattle.core_meaning.specs.Claims.{step_in}
 
 -- a program and a step, by the numbers of their words, and the numbers for the step's parameters; None where an
 -- argument has no number, as one that names a variable

@@ -21,7 +21,8 @@ use Rattle.expansion_laws.specs.Worth.{values_of}
 use Rattle.expand_declarations.specs.References.{step_params}
 use Rattle.expand_proofs.specs.Steps.{param_bounds}
 use Rattle.core_documents.specs.Faults.{expansion_fault}
-use Rattle.core_meaning.specs.Claims.{EachStep, step_in}
+use Rattle.unity_meaning.specs.Steps.{EachStep}
+use Rattle.core_meaning.specs.Claims.{step_in}
 
 -- in core form
 

@@ -32,7 +32,8 @@ use Rattle.name_scopes.specs.WellNamed.{parts_of, share, program_part, proved_pr
 use Rattle.name_scopes.specs.WellNamed.{part_of}
 use Rattle.name_laws.proofs.AttributeTheorems.{earlier_first, earlier_second, unless_none}
 use Rattle.expand_declarations.specs.References.{param_range}
-use Rattle.declaration_laws.specs.NameLaws.{proofs_among, ProgramsDiffer, ProofsDiffer, StepsDiffer, ParamsHaveRanges}
+use Rattle.unity_meaning.specs.Steps.{proofs_among}
+use Rattle.declaration_laws.specs.NameLaws.{ProgramsDiffer, ProofsDiffer, StepsDiffer, ParamsHaveRanges}
 use Rattle.declaration_laws.proofs.Lists.{Pairs, each_pair}
 use Rattle.declaration_laws.proofs.Faultless.{each_of_run, sound_range}
 use Rattle.declaration_laws.proofs.Slots.{parts_fault}

@@ -5,16 +5,11 @@ use Rattle.unity_syntax.specs.declared.document.Part.{Part}
 use Rattle.unity_syntax.specs.declared.document.Document.{Document}
 use Rattle.unity_meaning.specs.Setting.{programs_among}
 use Rattle.unity_meaning.specs.Programs.{name_of}
+use Rattle.unity_meaning.specs.Steps.{proofs_among}
 use Rattle.core_terms.specs.Conditions.{EachPair, IsRange}
 use Rattle.name_scopes.specs.Declarations.{some_of}
 use Rattle.name_scopes.specs.WellNamed.{IsWellNamed}
 use Rattle.expand_declarations.specs.References.{param_range}
-
--- the proofs among a document's parts, in order
-abbrev pub proofs_among : List Part → List Proof
-proofs_among [] = []
-proofs_among (Part.Program at program ∷ rest) = proofs_among rest
-proofs_among (Part.Proof at proof ∷ rest) = proof ∷ proofs_among rest
 
 -- no two programs have one name
 abbrev pub ProgramsDiffer : Type 0

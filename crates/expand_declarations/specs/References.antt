@@ -4,7 +4,6 @@ use Rattle.std.specs.Map.{lookup}
 use Rattle.std.specs.Option.{option_or, option_and_then}
 use Rattle.std.specs.Str.{bytes_eq}
 use Rattle.indexmap.specs.IndexMap.{insert_entry}
-use Rattle.case_tables.specs.declared.kind_table.Kind.{Kind}
 use Rattle.case_tables.specs.declared.rule_table.RuleName.{RuleName}
 use Rattle.case_tables.specs.declared.symbol_table.Symbol.{Symbol}
 use Rattle.case_tables.specs.declared.word_table.Word.{Word}
@@ -15,7 +14,6 @@ use Rattle.unity_syntax.specs.declared.term.Ref.{Ref as TextRef}
 use Rattle.unity_syntax.specs.declared.term.Term.{Term, fold-Term}
 use Rattle.unity_syntax.specs.declared.term.Term.TheOpen.{Term-F}
 use Rattle.unity_syntax.specs.declared.proof.Param.{Param}
-use Rattle.unity_syntax.specs.declared.proof.Claim.{Claim}
 use Rattle.unity_syntax.specs.declared.proof.Rule.{Rule}
 use Rattle.unity_syntax.specs.declared.proof.Step.{Step}
 use Rattle.unity_syntax.specs.declared.document.Schedule.{Schedule}
@@ -128,19 +126,6 @@ pair_rule Word.Disj r s = CRule.Pair RuleName.Disj r s
 pair_rule Word.Simpledisj r s = CRule.Pair RuleName.Simpledisj r s
 pair_rule Word.Union r s = CRule.Union r s
 pair_rule _ r s = CRule.Pair RuleName.Cancel r s
-
--- what stands between p and q; no other word but these and `leadsto` does
-abbrev pub between_kind : Word → Kind
-between_kind Word.Unless = Kind.Unless
-between_kind Word.Ensures = Kind.Ensures
-between_kind _ = Kind.Leadsto
-
--- `stable p` is `p unless false`
-abbrev pub claim_kind : Claim → Kind
-claim_kind (Claim.Defined at) = Kind.Defined
-claim_kind (Claim.Invariant at of) = Kind.Invariant
-claim_kind (Claim.Stable at of) = Kind.Unless
-claim_kind (Claim.Between at p which q) = between_kind which
 
 -- schedules
 

@@ -2,6 +2,7 @@
 
 ghost use Rattle.std.specs.Prelude.{◌≡◌, ◌∷◌, ◌++◌, map, Option, IfOk, OnOk};
 ghost use Rattle.std.specs.Option.{option_and_then};
+ghost use Rattle.unity_meaning.specs.Steps as steps;
 ghost use Rattle.name_scopes.specs.Scope.{bounds, entries};
 ghost use Rattle.name_scopes.specs.Declarations.{some_of};
 ghost use Rattle.name_scopes.specs.WellNamed.{param_number};
@@ -249,7 +250,7 @@ pub fn pair_rule(which: Word, first: Ref, second: Ref) -> CRule
 }
 
 fn between_kind(which: Word) -> Kind
-    ensures { result ≡ spec.between_kind which }
+    ensures { result ≡ steps.between_kind which }
 {
     match which {
         Word::Unless => Kind::Unless,
@@ -260,7 +261,7 @@ fn between_kind(which: Word) -> Kind
 
 /// The kind of the property that a step claims.
 pub fn claim_kind(claim: &Claim) -> Kind
-    ensures { result ≡ spec.claim_kind claim.now }
+    ensures { result ≡ steps.claim_kind claim.now }
 {
     match claim {
         Claim::Defined { at: _ } => Kind::Defined,

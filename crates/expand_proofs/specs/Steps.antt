@@ -31,7 +31,8 @@ use Rattle.expansion_laws.specs.Forming.{Scope}
 use Rattle.document_words.specs.Texts.{Texts}
 use Rattle.document_words.specs.WordNumbers.{word_number}
 use Rattle.expand_declarations.specs.References.{step_params, param_range, param_names, text_rule, pair_rule}
-use Rattle.expand_declarations.specs.References.{claim_kind, core_ref}
+use Rattle.unity_meaning.specs.Steps.{claim_kind}
+use Rattle.expand_declarations.specs.References.{core_ref}
 use Rattle.expand_proofs.specs.Elements.{truth_in, form_in, element_fault}
 use Rattle.expand_proofs.specs.ProofTerms.{Place, Termed, param_bound, place, ref_in, termed}
 use Rattle.expand_proofs.specs.declared.terms.Here.{Here}

@@ -38,7 +38,7 @@ use Rattle.name_scopes.specs.Declarations.{items_of, some_of}
 use Rattle.document_words.specs.Texts.{Texts, plain_texts, var_texts, item_layer, items_layer, items_texts}
 use Rattle.document_words.specs.Texts.{program_texts, step_text, ref_texts, helper_texts, term_layer, term_texts}
 use Rattle.document_words.specs.Texts.{rule_texts, step_texts, proof_texts, part_texts, schedule_texts, document_texts}
-use Rattle.declaration_laws.specs.NameLaws.{proofs_among}
+use Rattle.unity_meaning.specs.Steps.{proofs_among}
 
 -- there are as many words at least
 abbrev Told : Texts → List Word → Type 0

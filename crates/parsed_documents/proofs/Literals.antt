@@ -16,7 +16,7 @@ use Rattle.unity_syntax.specs.View.{view_option, view_list, view_some, view_end,
 use Rattle.unity_syntax.specs.View.{view_term, view_rule, view_step, view_part, view}
 use Rattle.unity_syntax.proofs.TermFolds.{two_terms}
 use Rattle.name_scopes.specs.Declarations.{some_of}
-use Rattle.declaration_laws.specs.NameLaws.{proofs_among}
+use Rattle.unity_meaning.specs.Steps.{proofs_among}
 use Rattle.core_conditions.specs.ArgumentConditions.{EndFits, ends_layer, term_ends, helper_ends, rule_ends}
 use Rattle.core_conditions.specs.ArgumentConditions.{StepLiterals, HasLiterals}
 use Rattle.parsed_documents.proofs.Numerals.{NoneLarger}

@@ -29,7 +29,8 @@ use Rattle.fair_rounds.specs.declared.records.Record.{Record}
 use Rattle.fair_rounds.specs.Records.{core_system, holding, are_in_ranges, KindHolds, Holds}
 use Rattle.proof_rules.specs.Walk.{Plan, program_of}
 use Rattle.proof_rules.proofs.WalkTheorems.{walk_sound}
-use Rattle.expand_declarations.specs.References.{param_range, claim_kind}
+use Rattle.unity_meaning.specs.Steps.{claim_kind, Pairwise, ProofStep, of_proof, document_steps}
+use Rattle.expand_declarations.specs.References.{param_range}
 use Rattle.expansion_laws.specs.Forming.{Scope}
 use Rattle.expand_proofs.specs.Steps.{claim_p, claim_q, step_place}
 use Rattle.document_words.specs.WordNumbers.{document_words}
@@ -38,9 +39,9 @@ use Rattle.core_meaning.specs.Claims.{SaysSame, ClaimSays}
 use Rattle.core_meaning.proofs.Arguments.{claims_say}
 use Rattle.core_meaning.proofs.Meaning.{programs_alike}
 use Rattle.core_meaning.proofs.Proofs.{proofs_found}
-use Rattle.proved_properties.specs.PlanSteps.{IsRecordOf, Pairwise}
+use Rattle.proved_properties.specs.PlanSteps.{IsRecordOf}
 use Rattle.proved_properties.specs.Written.{is_claim, AreClaims}
-use Rattle.proved_properties.specs.Properties.{ProofStep, of_proof, document_steps, core_of}
+use Rattle.proved_properties.specs.Properties.{core_of}
 use Rattle.proved_properties.specs.Properties.{IsProved, IsAccepted, ClaimsAreTrue, EachClaimIsTrue}
 use Rattle.proved_properties.proofs.PlanRecords.{plan_is_steps}
 use Rattle.proved_properties.proofs.Sources.{core_steps_are, StandsIn, each_stands, among_steps, pairs_with, pair_at}

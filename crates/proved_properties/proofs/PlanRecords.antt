@@ -24,7 +24,8 @@ use Rattle.proof_rules.proofs.EachLaws.{Each, from_all, each_join, each_at, foun
 use Rattle.proof_rules.proofs.SiteLaws.{met}
 use Rattle.proof_rules.proofs.EnsuresSound.{some_item}
 use Rattle.proof_rules.proofs.StepSound.{defined_is, defined_params}
-use Rattle.proved_properties.specs.PlanSteps.{CoreStep, of_program, core_steps, IsRecordOf, Pairwise, PlanIsSteps}
+use Rattle.unity_meaning.specs.Steps.{Pairwise}
+use Rattle.proved_properties.specs.PlanSteps.{CoreStep, of_program, core_steps, IsRecordOf, PlanIsSteps}
 use Rattle.proved_properties.specs.PlanSteps.{PlanIsStarted}
 use Rattle.proved_properties.proofs.Rules.{rule_gives}
 

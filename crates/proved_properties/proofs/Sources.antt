@@ -7,12 +7,12 @@ use Rattle.unity_syntax.specs.declared.document.Document.{Document}
 use Rattle.unity_meaning.proofs.ExecutionTheorems.{map-append}
 use Rattle.proof_rules.proofs.EachLaws.{Each, each_join, each_map}
 use Rattle.document_words.specs.WordNumbers.{document_words, word_number}
-use Rattle.declaration_laws.specs.NameLaws.{proofs_among}
+use Rattle.unity_meaning.specs.Steps.{proofs_among, Pairwise, ProofStep, of_proof, proof_steps, document_steps}
 use Rattle.expand_proofs.specs.Steps.{core_step, core_proof}
 use Rattle.core_documents.specs.Cores.{document_scope, core_document}
 use Rattle.core_meaning.proofs.Proofs.{proofs_match}
-use Rattle.proved_properties.specs.PlanSteps.{of_program, core_steps, Pairwise}
-use Rattle.proved_properties.specs.Properties.{ProofStep, of_proof, proof_steps, document_steps, core_of}
+use Rattle.proved_properties.specs.PlanSteps.{of_program, core_steps}
+use Rattle.proved_properties.specs.Properties.{core_of}
 
 -- the core steps are those of the steps
 

@@ -25,7 +25,7 @@ use Rattle.expand_proofs.specs.Steps.{core_proof}
 use Rattle.core_documents.specs.Cores.{document_scope, core_document}
 use Rattle.core_meaning.proofs.Meaning.{programs_alike}
 use Rattle.core_meaning.proofs.Proofs.{proofs_match, proofs_found}
-use Rattle.declaration_laws.specs.NameLaws.{proofs_among}
+use Rattle.unity_meaning.specs.Steps.{proofs_among}
 use Rattle.proved_properties.specs.Executions.{start_meets, ExecutionsExist}
 use Rattle.proved_properties.proofs.PlanRecords.{defined_record}
 use Rattle.proved_properties.proofs.Sources.{mapped_at, proof_among}

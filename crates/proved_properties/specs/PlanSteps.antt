@@ -1,5 +1,6 @@
 -- The records of a plan: one for each step of a document in core form, in order.
 use Rattle.std.specs.Prelude.{◌≡◌, ℕ, List, [], ◌∷◌, ◌++◌, map, Bool, Ok, Some, IsTrue, slice_get}
+use Rattle.unity_meaning.specs.Steps.{Pairwise}
 use Rattle.core_terms.specs.declared.programs.CProgram.{CProgram}
 use Rattle.core_terms.specs.declared.documents.CStep.{CStep}
 use Rattle.core_terms.specs.declared.documents.CProof.{CProof}
@@ -29,13 +30,6 @@ pub record IsRecordOf (s : CoreStep) (r : Record) : Type 0 where
   pub p : r.p ≡ s.step.p
   pub q : r.q ≡ s.step.q
   pub params : r.params ≡ s.step.params
-
--- two lists are equally long, and the two items at each place have the relation
-abbrev pub Pairwise : {X Y : Type 0} → (X → Y → Type 0) → List X → List Y → Type 0
-Pairwise R [] [] = Unit {0}
-Pairwise R [] (y ∷ ys) = ⊥
-Pairwise R (x ∷ xs) [] = ⊥
-Pairwise R (x ∷ xs) (y ∷ ys) = R x y × Pairwise R xs ys
 
 -- where the steps of a document give a plan, its records are theirs, in order;
 abbrev pub PlanIsSteps : Type 0

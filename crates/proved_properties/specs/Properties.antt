@@ -1,9 +1,8 @@
 -- What the steps of an accepted document claim is true.
-use Rattle.std.specs.Prelude.{◌≡◌, ℕ, List, [], ◌∷◌, ◌++◌, map, Bool, None, Some, Ok, slice_get}
-use Rattle.unity_syntax.specs.declared.proof.Step.{Step}
-use Rattle.unity_syntax.specs.declared.proof.Proof.{Proof}
+use Rattle.std.specs.Prelude.{◌≡◌, ℕ, Bool, None, Some, Ok, slice_get}
 use Rattle.unity_syntax.specs.declared.document.Document.{Document}
 use Rattle.unity_meaning.specs.Claims.{Claims}
+use Rattle.unity_meaning.specs.Steps.{EachStep, Pairwise, ProofStep, of_proof, document_steps}
 use Rattle.name_scopes.specs.WellNamed.{IsWellNamed}
 use Rattle.core_terms.specs.declared.programs.CProgram.{CProgram}
 use Rattle.core_terms.specs.Conditions.{IsDocument}
@@ -11,29 +10,11 @@ use Rattle.fair_rounds.specs.declared.records.Record.{Record}
 use Rattle.proof_rules.specs.Validity.{AllValid}
 use Rattle.proof_rules.specs.Walk.{Plan, walk_of}
 use Rattle.document_words.specs.WordNumbers.{document_words, word_number}
-use Rattle.declaration_laws.specs.NameLaws.{proofs_among}
 use Rattle.core_documents.specs.Cores.{core_document}
 use Rattle.core_documents.specs.Faults.{expansion_fault}
-use Rattle.core_meaning.specs.Claims.{EachStep, step_in}
-use Rattle.proved_properties.specs.PlanSteps.{CoreStep, of_program, IsRecordOf, Pairwise}
+use Rattle.core_meaning.specs.Claims.{step_in}
+use Rattle.proved_properties.specs.PlanSteps.{CoreStep, of_program, IsRecordOf}
 use Rattle.proved_properties.specs.Written.{AreClaims}
-
--- a step, and the proof in which it stands
-pub record ProofStep : Type 0 where
-  pub proof : Proof
-  pub step : Step
-
-abbrev pub of_proof : Proof → Step → ProofStep
-of_proof proof step = record { proof = proof; step = step }
-
--- the steps of proofs, one after the other
-abbrev pub proof_steps : List Proof → List ProofStep
-proof_steps [] = []
-proof_steps (proof ∷ rest) = map (of_proof proof) proof.steps ++ proof_steps rest
-
--- all steps of a document, in order
-abbrev pub document_steps : Document → List ProofStep
-document_steps d = proof_steps (proofs_among d.parts)
 
 -- a step in core form
 abbrev pub core_of : Document → ProofStep → CoreStep

@@ -12,7 +12,7 @@ use Rattle.document_words.specs.WordNumbers.{document_words}
 use Rattle.expansion_laws.specs.Forming.{Scope}
 use Rattle.expand_proofs.specs.Steps.{core_step}
 use Rattle.expand_statements.proofs.FaultlessLaws.{faultless_instances}
-use Rattle.declaration_laws.specs.NameLaws.{proofs_among}
+use Rattle.unity_meaning.specs.Steps.{proofs_among}
 use Rattle.declaration_laws.proofs.Slots.{slots_are_sound, slots_have_words}
 use Rattle.core_documents.specs.Cores.{core_document, document_scope, core_proofs}
 use Rattle.fitting_forms.specs.StepLaws as step

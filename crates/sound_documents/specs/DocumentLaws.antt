@@ -3,7 +3,7 @@ use Rattle.std.specs.Prelude.{◌≡◌, ◌<◌, ◌^◌, sum, map, length, Non
 use Rattle.unity_syntax.specs.declared.document.Document.{Document}
 use Rattle.core_terms.specs.Conditions.{IsDocument}
 use Rattle.name_scopes.specs.WellNamed.{IsWellNamed}
-use Rattle.declaration_laws.specs.NameLaws.{proofs_among}
+use Rattle.unity_meaning.specs.Steps.{proofs_among}
 use Rattle.declaration_laws.specs.SlotLaws.{HasFewWords}
 use Rattle.core_documents.specs.Cores.{core_document}
 use Rattle.core_documents.specs.Faults.{expansion_fault}

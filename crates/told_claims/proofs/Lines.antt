@@ -12,12 +12,11 @@ use Rattle.document_words.specs.WordNumbers.{document_words, word_number}
 use Rattle.declaration_laws.specs.WordLaws.{is_among}
 use Rattle.declaration_laws.proofs.Found.{words_found}
 use Rattle.core_conditions.proofs.Programs.{each_has, last_has, itself}
-use Rattle.expand_declarations.specs.References.{claim_kind}
+use Rattle.unity_meaning.specs.Steps.{claim_kind, Pairwise, ProofStep, document_steps}
 use Rattle.core_documents.specs.Cores.{core_document}
 use Rattle.schedule_replay.specs.Lines.{word_text}
 use Rattle.answer_texts.specs.Verdicts.{kind_text, step_line}
-use Rattle.proved_properties.specs.PlanSteps.{Pairwise}
-use Rattle.proved_properties.specs.Properties.{ProofStep, document_steps, IsProved}
+use Rattle.proved_properties.specs.Properties.{IsProved}
 use Rattle.proved_properties.proofs.Claims.{claims_are_true}
 use Rattle.proved_properties.proofs.Sources.{StandsIn, each_stands}
 use Rattle.told_claims.specs.Told.{told_line, told_lines, told_first, AcceptedTells}

@@ -3,13 +3,12 @@ use Rattle.std.specs.Prelude.{◌≡◌, ℕ, Bool, List, [], ◌∷◌, ◌++�
 use Rattle.unity_syntax.specs.declared.document.Document.{Document}
 use Rattle.unity_meaning.specs.Claims.{Claims}
 use Rattle.core_terms.specs.declared.programs.CProgram.{CProgram}
-use Rattle.expand_declarations.specs.References.{claim_kind}
+use Rattle.unity_meaning.specs.Steps.{claim_kind, Pairwise, ProofStep, document_steps}
 use Rattle.core_documents.specs.Cores.{core_document}
 use Rattle.proof_rules.specs.Walk as walk
 use Rattle.proof_script.specs.declared.plans.Plan.{Plan}
 use Rattle.answer_texts.specs.Verdicts.{kind_text, accepted_text}
-use Rattle.proved_properties.specs.PlanSteps.{Pairwise}
-use Rattle.proved_properties.specs.Properties.{ProofStep, document_steps, IsAccepted}
+use Rattle.proved_properties.specs.Properties.{IsAccepted}
 use Rattle.proved_properties.specs.Written.{AreClaims}
 
 -- `PROGRAM.STEP KIND`, and of a leads-to its bound too, on a line

@@ -8,5 +8,6 @@ pub mod Properties
 pub mod RoundLaws
 pub mod Rounds
 pub mod Setting
+pub mod Steps
 pub mod Value
 pub mod Writes
