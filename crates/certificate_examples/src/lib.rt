@@ -1,4 +1,5 @@
-//! Certificates of the greatest depth, which the check takes within an ordinary stack.
+//! Certificates of the greatest depth, which the check takes within an ordinary stack, and chains that are found to
+//! close facts, which it takes as well.
 #![tactic(auto)]
 
 ghost use Rattle.std.specs.Prelude.{◌≡◌, ◌≤◌, ◌^◌, ℕ, suc, true, IfOk, OnOk};
@@ -12,8 +13,11 @@ use obligations::{Cert, Node, Obligation, Variable};
 use std::alloc::{AllocError, Global};
 use unity_base::Seq;
 
+mod chains;
 #[cfg(test)]
 mod tests;
+
+pub use chains::{Row, chain_of, facts_of, row_of, unmet};
 
 /// That a variable of the numbers 0 to 9 is at least 0.
 pub fn at_least_zero(alloc: Global) -> Result<Obligation, AllocError>

@@ -162,23 +162,43 @@ clashed-chain count facts i j f g one two exact h =
       };
     }
 
--- no fact is out of reach
-pub none-out : (all facts : List Fact) → list_any (bounds_refute all) facts ≡ false → list_any
-    (λ f. list_any (clash f) all) facts ≡ false → list_any (is_out_of_reach all) facts ≡ false
-none-out all [] h k = refl
-none-out all (f ∷ facts) h k = by_parts (bounds_refute all f) (list_any (bounds_refute all) facts)
-    (list_any (clash f) all) (list_any (λ f. list_any (clash f) all) facts) h k (none-out all facts)
+-- a fact is out of reach by its bounds or by a clash
+either-out : (all facts : List Fact) → list_any (is_out_of_reach all) facts ≡
+    (list_any (bounds_refute all) facts || list_any (λ f. list_any (clash f) all) facts)
+either-out all [] = refl
+either-out all (f ∷ facts) = ap (λ b. (bounds_refute all f || list_any (clash f) all) || b) (either-out all facts) ∙
+    mixed (bounds_refute all f) (list_any (clash f) all) (list_any (bounds_refute all) facts)
+    (list_any (λ f. list_any (clash f) all) facts)
   where
-    by_parts : (a ac b bs : Bool) → (a || ac) ≡ false → (b || bs) ≡ false →
-        (ac ≡ false → bs ≡ false → list_any (is_out_of_reach all) facts ≡ false) →
-        ((a || b) || list_any (is_out_of_reach all) facts) ≡ false
-    by_parts true ac b bs h k ih = cc
-    by_parts false ac true bs h k ih = cc
-    by_parts false ac false bs h k ih = ih h k
+    mixed : (a b c d : Bool) → ((a || b) || (c || d)) ≡ ((a || c) || (b || d))
+    mixed true b c d = refl
+    mixed false true true d = refl
+    mixed false true false d = refl
+    mixed false false true d = refl
+    mixed false false false d = refl
+
+or-true : (a b : Bool) → b ≡ true → (a || b) ≡ true
+or-true true b e = refl
+or-true false b e = e
 
 pub reach-none : (facts : List Fact) → list_any (bounds_refute facts) facts ≡ false → list_any
     (λ f. list_any (clash f) facts) facts ≡ false → some_out_of_reach facts ≡ false
-reach-none facts h k = none-out facts facts h k
+reach-none facts h k = either-out facts facts ∙ ap (λ b. b || list_any (λ f. list_any (clash f) facts) facts) h ∙ k
+
+pub reach-bounds : (facts : List Fact) → list_any (bounds_refute facts) facts ≡ true → some_out_of_reach facts ≡ true
+reach-bounds facts h = either-out facts facts ∙ ap (λ b. b || list_any (λ f. list_any (clash f) facts) facts) h
+
+pub reach-clash : (facts : List Fact) → list_any (λ f. list_any (clash f) facts) facts ≡ true → some_out_of_reach facts
+    ≡ true
+reach-clash facts h = either-out facts facts ∙ or-true (list_any (bounds_refute facts) facts)
+    (list_any (λ f. list_any (clash f) facts) facts) h
+
+-- an item that passes a test is one of those that do
+pub any-at : {A : Type 0} (t : A → Bool) (xs : List A) (n : ℕ) (x : A) → slice_get xs n ≡ Some x → t x ≡ true →
+    list_any t xs ≡ true
+any-at t [] n x e p = cc
+any-at t (y ∷ ys) zero x e p = let s : y ≡ x = cc in ap (λ b. b || list_any t ys) (ap t s ∙ p)
+any-at t (y ∷ ys) (suc n) x e p = or-true (t y) (list_any t ys) (any-at t ys n x e p)
 
 -- what the code finds
 pub found-is : (facts : List Fact) (n : ℕ) (f g : Fact) → slice_get facts n ≡ Some g → f ≡ get_or facts n f → f ≡ g
@@ -246,6 +266,11 @@ pair-chain count facts p ns c x e =
     c.second.divisor))
     (clashed-chain count facts p.place p.partner.place c.fact c.second.other c.first c.second.there x c.second.clash)
 
-pub ruleset reach_laws = reach-none
+pub clash-any : (facts : List Fact) (p : Pair) → IsClash facts p → list_any (λ f. list_any (clash f) facts) facts ≡
+    true
+clash-any facts p c = any-at (λ f. list_any (clash f) facts) facts p.place c.fact c.first
+    (any-at (clash c.fact) facts p.partner.place c.second.other c.second.there c.second.clash)
 
-pub ruleset clash_laws = (all-exact, clash-inside, pair-chain)
+pub ruleset reach_laws = (reach-none, reach-bounds, reach-clash)
+
+pub ruleset clash_laws = (all-exact, clash-inside, pair-chain, clash-any)

@@ -1,6 +1,6 @@
 //! Chains that close a branch by a fact that is out of reach.
 ghost use Rattle.std.specs.Prelude.{◌≡◌, ◌+◌, ◌-◌, ◌≤◌, ◌<◌, ◌^◌, ◌∷◌, [], suc, pos, true, false, length, slice_get};
-ghost use Rattle.std.specs.Prelude.{Some, IfOk, MatchOption};
+ghost use Rattle.std.specs.Prelude.{Some, IfOk, IfSome, MatchOption};
 ghost use Rattle.std.specs.List.{list_any};
 ghost use Rattle.obligations.specs.Reach.{are_exact, bounds_refute, clash, some_out_of_reach};
 ghost use Rattle.linear_prover.specs.Chains.{ClosesShortly};
@@ -32,9 +32,10 @@ fn sum_against(
     requires exact { are_exact count facts.now ≡ true }
     requires room { length facts.now < 2 ^ 62 }
     requires bounds { Tells count facts.now bounds.now }
-    ensures { IfOk result (λ o. MatchOption o
+    ensures reach { IfOk result (λ o. MatchOption o
         (list_any (bounds_refute facts.now) facts.now ≡ false)
-        (ClosesShortly count facts.now)) }
+        (λ ns. list_any (bounds_refute facts.now) facts.now ≡ true)) }
+    ensures chain { IfOk result (λ o. IfSome o (ClosesShortly count facts.now)) }
 {
     match first_refuted(bounds, facts) {
         Some(place) => {
@@ -50,9 +51,10 @@ fn sum_against(
 fn bound_chain(alloc: Global, facts: &[Fact], count: u32) -> Result<Option<Seq<Node>>, AllocError>
     requires exact { are_exact count facts.now ≡ true }
     requires room { length facts.now < 2 ^ 62 }
-    ensures { IfOk result (λ o. MatchOption o
+    ensures reach { IfOk result (λ o. MatchOption o
         (list_any (bounds_refute facts.now) facts.now ≡ false)
-        (ClosesShortly count facts.now)) }
+        (λ ns. list_any (bounds_refute facts.now) facts.now ≡ true)) }
+    ensures chain { IfOk result (λ o. IfSome o (ClosesShortly count facts.now)) }
 {
     let bounds = bounds_of(alloc, facts, count)?;
     sum_against(alloc, &bounds, facts, count)
@@ -96,9 +98,10 @@ fn nodes_of(alloc: Global, total: usize, pair: Pair) -> Result<Seq<Node>, AllocE
 fn two_facts(alloc: Global, facts: &[Fact], count: u32) -> Result<Option<Seq<Node>>, AllocError>
     requires exact { are_exact count facts.now ≡ true }
     requires room { length facts.now < 2 ^ 62 }
-    ensures { IfOk result (λ o. MatchOption o
+    ensures reach { IfOk result (λ o. MatchOption o
         (list_any (λ f. list_any (clash f) facts.now) facts.now ≡ false)
-        (ClosesShortly count facts.now)) }
+        (λ ns. list_any (λ f. list_any (clash f) facts.now) facts.now ≡ true)) }
+    ensures chain { IfOk result (λ o. IfSome o (ClosesShortly count facts.now)) }
 {
     match first_clash(facts) {
         Some(pair) => Ok(Some(nodes_of(alloc, facts.len(), pair)?)),
@@ -116,9 +119,10 @@ pub fn reach_chain(
 ) -> Result<Option<Seq<Node>>, AllocError>
     requires exact { are_exact count facts.now ≡ true }
     requires room { length facts.now < 2 ^ 62 }
-    ensures { IfOk result (λ o. MatchOption o
+    ensures reach { IfOk result (λ o. MatchOption o
         (some_out_of_reach facts.now ≡ false)
-        (ClosesShortly count facts.now)) }
+        (λ ns. some_out_of_reach facts.now ≡ true)) }
+    ensures chain { IfOk result (λ o. IfSome o (ClosesShortly count facts.now)) }
 {
     match bound_chain(alloc, facts, count)? {
         Some(chain) => Ok(Some(chain)),

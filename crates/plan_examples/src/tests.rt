@@ -126,3 +126,17 @@ fn failures_of_walks(rt: HostRuntime) -> Result<(), Fail> {
     }
     Ok(())
 }
+
+/// A text that is no document, one whose document has a fault, and one that is too long.
+#[test]
+fn texts_without_a_plan(rt: HostRuntime) -> Result<(), Fail> {
+    for text in ["unity 1 program", "unity 1 program P assign s: x := 0 end"] {
+        assert!(rt;
+            plan_of(rt.alloc(), text.as_bytes()).is_err_and(|e| e == NoPlan::Unread),
+            "of {text}"
+        );
+    }
+    let long = [b' '; 65_537];
+    assert!(rt; plan_of(rt.alloc(), long.as_slice()).is_err_and(|e| e == NoPlan::TooLong));
+    Ok(())
+}

@@ -1,5 +1,5 @@
 -- What the searches find.
-use Rattle.std.proofs.Common.{◌≡◌, ℕ, ℤ, not, suc, ◌+◌, ◌-◌, ◌*◌, ◌≤◌, ◌<◌, ◌^◌, true, Some, Ok, List, [], ◌∷◌}
+use Rattle.std.proofs.Common.{◌≡◌, ℕ, ℤ, not, suc, ◌+◌, ◌-◌, ◌*◌, ◌≤◌, ◌<◌, ◌^◌, min, true, Some, Ok, List, [], ◌∷◌}
 use Rattle.std.proofs.Common.{length, arith, refl, sym, ap, subst, ◌∙◌}
 use Rattle.std.proofs.Math.Nat.{mul-le-mul_right}
 use Rattle.std.specs.List.{list_all}
@@ -63,10 +63,11 @@ leaf-enough o total k =
     omega (arith, k, more)
 
 -- so are those of the leaves that were counted
-pub leaves-enough : (o : Obligation) (total leaves unit : ℕ) →
-    leaves ≤ plain_leaves o.variables 960 (ranges_of o.variables) (first_branch o) →
+pub leaves-enough : (o : Obligation) (total wanted leaves unit : ℕ) →
+    leaves ≡ min wanted (plain_leaves o.variables 960 (ranges_of o.variables) (first_branch o)) →
     unit ≡ length o.variables + 256 → total ≤ leaves * unit → total ≤ enough o
-leaves-enough o total leaves unit h e k =
+leaves-enough o total wanted leaves unit n e k =
+    let h : leaves ≤ plain_leaves o.variables 960 (ranges_of o.variables) (first_branch o) = omega (arith, n) in
     let same : leaves * unit ≡ leaves * leaf_units o.variables = ap (λ n. leaves * n) e in
     let more : leaves * leaf_units o.variables ≤
     plain_leaves o.variables 960 (ranges_of o.variables) (first_branch o) * leaf_units o.variables =

@@ -1,4 +1,6 @@
 // Searches for certificates.
+mod programs;
+
 use program_answers::{ACCEPTED, COUNT, Row, Status, answer, edited, make_demo, wrong_answers};
 use std::alloc::{AllocError, Global};
 use std::test::Fail;

@@ -324,7 +324,7 @@ fn middle_of(range: &Range) -> i64
 }
 
 /// The first variable that still has more than one value.
-fn first_halves(ranges: &[Range]) -> Option<Halves>
+pub fn first_halves(ranges: &[Range]) -> Option<Halves>
     requires { length ranges.now < 2 ^ 32 }
     ensures { MatchOption result (first_cut 0 ranges.now ≡ None)
         (λ h. first_cut 0 ranges.now ≡ Some (record { place = h.place; at = h.at })) }
@@ -378,7 +378,7 @@ fn range_at(ranges: &[Range], place: usize) -> Option<&Range>
 
 /// The ranges, with one variable at most this.
 #[tactic(auto, using(crate::proofs::SearchLaws::half_laws))]
-fn low_half(alloc: Global, ranges: &[Range], halves: Halves) -> Result<Seq<Range>, AllocError>
+pub fn low_half(alloc: Global, ranges: &[Range], halves: Halves) -> Result<Seq<Range>, AllocError>
     requires { halves.place < length ranges.now }
     ensures { IfOk result (λ half. half ≡ with_high ranges.now halves.place halves.at) }
 {
@@ -394,7 +394,7 @@ fn low_half(alloc: Global, ranges: &[Range], halves: Halves) -> Result<Seq<Range
 
 /// The ranges, with one variable above this.
 #[tactic(auto, using(crate::proofs::SearchLaws::half_laws))]
-fn high_half(alloc: Global, ranges: &[Range], halves: Halves) -> Result<Seq<Range>, AllocError>
+pub fn high_half(alloc: Global, ranges: &[Range], halves: Halves) -> Result<Seq<Range>, AllocError>
     requires place { halves.place < length ranges.now }
     requires room { halves.at <ℤ pos (2 ^ 63 - 1) }
     ensures { IfOk result (λ half. half ≡ with_low ranges.now halves.place (halves.at +ℤ pos 1)) }

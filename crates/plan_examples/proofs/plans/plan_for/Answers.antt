@@ -1,9 +1,15 @@
-use Rattle.std.proofs.Common.{◌∙◌, sym, subst}
-use Rattle.core_terms.specs.Conditions.{IsDocument}
-use Rattle.parsed_documents.proofs.Reading.{read_cores}
+use Rattle.std.proofs.Common.{◌∙◌, subst}
+use Rattle.plan_examples.specs.Plans.{HasFault}
+use Rattle.plan_examples.proofs.PlanLaws.{core_meets, no_core}
 use Rattle.plan_examples.proofs.plans.plan_for.Goals as goal
 
-pub plan_in-requires : goal.plan_in-requires
-plan_in-requires c = subst IsDocument (sym (c.get.ensures ∙ c.in-Some.ensures.core))
-    (read_cores c.args.bytes.now c.args.document.now c.requires.size c.requires.document c.in-Some.ensures.named
-    c.in-Some.ensures.expands)
+pub walk-requires : goal.walk-requires
+walk-requires c = record {
+  document = core_meets c.args.bytes.now c.args.document.now c.get.result.now c.requires.size c.requires.document
+      c.in-Ok.ensures.named c.in-Ok.ensures.expands (c.get.ensures ∙ c.in-Ok.ensures.core);
+}
+
+pub returns-in-Err-Fault : goal.returns-in-Err-Fault
+returns-in-Err-Fault c =
+    no_core c.args.bytes.now c.args.document.now c.in-Err-Fault.field-0-0 c.in-Err-Fault.field-0-1 c.requires.document
+    (subst (HasFault c.args.document.now) c.in-Err-Fault.field-0-is c.in-Err-Fault.ensures.fault)

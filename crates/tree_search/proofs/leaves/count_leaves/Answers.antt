@@ -12,7 +12,7 @@ some_leaves-requires-clause-ready c =
 
 pub returns : goal.returns
 returns c =
-    root-leaves c.args.o.now c.as_slice-vs.result.now c.as_slice.result.now c.in_ok-branch.branch
+    root-leaves c.args.o.now c.as_slice-vs.result.now c.as_slice.result.now c.in_ok-branch.branch c.args.wanted
     c.in_ok-leaves.leaves c.as_slice-vs.ensures
     (c.as_slice.ensures ∙ c.in_ok-ranges.ensures ∙ ap ranges_of c.as_slice-vs.ensures) c.in_ok-branch.ensures.branch
     c.in_ok-leaves.ensures.leaves
