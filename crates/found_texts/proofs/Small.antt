@@ -13,11 +13,9 @@ use Rattle.core_terms.specs.declared.documents.CProof.{CProof}
 use Rattle.core_terms.specs.Conditions.{IsProgram, IsProof, IsSlot, IsStep}
 use Rattle.obligations.specs.declared.branches.Obligation.{Obligation}
 use Rattle.obligations.specs.declared.certificates.Cert.{Cert}
-use Rattle.obligations.specs.Opening.{first_branch}
 use Rattle.obligations.specs.Obligations.{IsObligation}
-use Rattle.certificate_check.specs.Refutation.{Reading, at_level, judged}
+use Rattle.certificate_check.specs.Refutation.{judged}
 use Rattle.certificate_check.specs.Trees.{is_whole}
-use Rattle.certificate_check.proofs.WholeLaws.{whole-walks}
 use Rattle.linear_prover.specs.Chains.{is_plain_node}
 use Rattle.section_tokens.specs.Small.{IsSmall}
 use Rattle.section_tokens.proofs.PlainLaws.{refuting_is_small}
@@ -43,14 +41,8 @@ use Rattle.proof_script.proofs.Equations.{proofs-more, proofs-none, refuted-more
 use Rattle.proof_script.proofs.Equations.{taken-is, then_so}
 use Rattle.proof_script.proofs.LoopLaws.{named_program, rule_passed}
 use Rattle.proof_script.proofs.ReachLaws.{reach-is, reach_fits}
+use Rattle.proof_script.proofs.VerdictLaws.{unfailing}
 use Rattle.found_texts.specs.Laws.{ProvedAreSmall}
-
--- no node of a whole certificate fails, and so none of the branches is left
-refutes : (o : Obligation) (cert : Cert) → is_whole cert.nodes 1 ≡ true → (r : Reading) → judged o cert.nodes ≡ r →
-    failing_node r ≡ None → judged o cert.nodes ≡ Ok []
-refutes o cert whole (Ok ps) e none =
-    e ∙ ap (λ qs. Ok qs) (whole-walks o.variables cert.nodes (at_level 1 (first_branch o) ∷ []) ps 0 whole e)
-refutes o cert whole (Err failure) e none = cc
 
 no_fault : (program step number : ℕ) (code : Option Code) (done : Unit {0}) →
     or_refutation_fault program step number code ≡ Ok done → code ≡ None
@@ -82,7 +74,7 @@ module _ (slots : List CSlot) (certs : List Cert) (all : All IsSlot slots) (whol
       each_at (λ (x : Cert). list_all is_plain_node x.nodes ≡ true) certs
       (from_all (λ (x : Cert). list_all is_plain_node x.nodes ≡ true) certs plain) number c there in
       let none : failing_node (judged o c.nodes) ≡ None = sym (ap (failing o) there) ∙ passes in
-      refuting_is_small o c is one_tree (refutes o c one_tree (judged o c.nodes) refl none) one_plain
+      refuting_is_small o c is one_tree (unfailing (judged o c.nodes) none) one_plain
 
   next_small : (n : ℕ) → AreSmall n → ((c : Cert) → slice_get certs n ≡ Some c → IsSmall c) → (k : ℕ) (c : Cert) →
       k < suc n → slice_get certs k ≡ Some c → IsSmall c

@@ -2,6 +2,7 @@ pub mod BookLaws
 pub mod BudgetLaws
 pub mod Checkable
 pub mod Equations
+pub mod FollowLaws
 pub mod LoopLaws
 pub mod PlanLaws
 pub mod ReachLaws

@@ -29,7 +29,7 @@ use Rattle.proof_script.specs.declared.finding.Halt.{Halt}
 use Rattle.proof_script.specs.Proving.{units_of, enough_for, Comes, IsFalse, IsOwner, IsProved, IsShort}
 use Rattle.proof_script.specs.Proving.{IsStopped}
 use Rattle.proof_script.specs.Reaching.{Stop, Reach, reach_of, reached}
-use Rattle.proof_script.specs.Searches.{ShownAt, AreShown, IsFinding, Searches, IsUnderWay, Follows}
+use Rattle.proof_script.specs.Searches.{ShownAt, AreShown, IsFinding, Searches, IsUnderWay, SearchGoes}
 use Rattle.proof_script.specs.Verdicts.{grown, no_plan}
 use Rattle.step_rules.proofs.ItemLaws.{to_all}
 use Rattle.proof_script.proofs.ReachLaws.{Extends, accepted, shown_join}
@@ -267,7 +267,7 @@ search_more Halt.Memory name before taken os all more first old new e b h = tt
 -- a halt in a part is one of the whole
 pub halts_whole : (e : Halt) (first old new : Finding) (p q : Plan) (one whole : Reach) →
     Extends (reached one) (reached whole) → ((stop : Stop) → one ≡ Err stop → whole ≡ Err stop) →
-    old.budget ≡ first.budget → Follows (Err e) old p new one → Follows (Err e) first q new whole
+    old.budget ≡ first.budget → SearchGoes (Err e) old p new one → SearchGoes (Err e) first q new whole
 halts_whole (Halt.Step fault) first old new p q one whole more stops b h = record {
   plan = h.plan;
   stops = stops (record { plan = h.plan; fault = fault }) h.stops;
@@ -322,7 +322,7 @@ owned_by plan d name number o owned program step after h =
 
 pub step_halts : (e : Halt) (plan p : Plan) (d : Derived) (name : StepName) (old new : Finding) →
     length plan.owner ≡ length plan.obligations → d.made.program ≡ name.program → d.made.name ≡ name.step →
-    Searches (Err e) name plan.obligations d.obligations old new → Follows (Err e) old p new (Ok (grown plan d))
+    Searches (Err e) name plan.obligations d.obligations old new → SearchGoes (Err e) old p new (Ok (grown plan d))
 step_halts (Halt.Step fault) plan p d name old new owned program step h = absurd h
 step_halts (Halt.Refuted called number) plan p d name old new owned program step h =
     let of : IsOwner (grown plan d) number name.program name.step =
@@ -336,7 +336,7 @@ step_halts Halt.Memory plan p d name old new owned program step h = tt
 
 pub step_done : (plan p : Plan) (d : Derived) (old new : Finding) → p ≡ grown plan d →
     length plan.owner ≡ length plan.obligations → IsFinding (plan.obligations ++ d.obligations) new →
-    new.budget ≡ old.budget → Follows (Ok tt) old p new (Ok (grown plan d))
+    new.budget ≡ old.budget → SearchGoes (Ok tt) old p new (Ok (grown plan d))
 step_done plan p d old new e owned found budget =
     let owners = length-append plan.owner (map (λ (o : Obligation). length plan.records) d.obligations) in
     let mapped : length (map (λ (o : Obligation). length plan.records) d.obligations) ≡ length d.obligations =

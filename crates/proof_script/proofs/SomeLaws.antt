@@ -37,7 +37,7 @@ use Rattle.proof_script.specs.Laws.{IsTold, SomeFinding}
 use Rattle.proof_script.specs.Proving.{Finds}
 use Rattle.proof_script.specs.Reaching.{Reach, Stop, by_row, end_reach, further, proof_reach, proofs_reach, reach_of}
 use Rattle.proof_script.specs.Reaching.{reached, step_reach, steps_reach}
-use Rattle.proof_script.specs.Searches.{IsFinding, Searches, IsUnderWay, Follows}
+use Rattle.proof_script.specs.Searches.{IsFinding, Searches, IsUnderWay, SearchGoes}
 use Rattle.proof_script.specs.Verdicts.{grown, no_plan, rule_fault}
 use Rattle.proof_script.proofs.LoopLaws.{named_program}
 use Rattle.proof_script.proofs.ReachLaws.{Extends, end_extends, extends_self, no_more, on_extends, proof_done}
@@ -170,7 +170,7 @@ module _ (ends : SearchEnds) where
     pub plan : Plan
     pub new : Finding
     pub goes_on : Goes_on result
-    pub follows : Follows result old plan new reach
+    pub follows : SearchGoes result old plan new reach
 
   module _ (slots : List CSlot) (all : All IsSlot slots) where
     step_row : (c : CProgram) (s : CStep) (plan : Plan) (old : Finding) → IsProgram slots c → IsStep slots s →
@@ -204,7 +204,7 @@ module _ (ends : SearchEnds) where
           plan = grown plan d;
           new = new;
           goes_on = tt;
-          follows = subst (λ (r : Reach). Follows (Ok tt) old (grown plan d) new r) (sym is)
+          follows = subst (λ (r : Reach). SearchGoes (Ok tt) old (grown plan d) new r) (sym is)
               (step_done plan (grown plan d) d old new refl way.owned s'.0 s'.1);
         }
         by_result d name program step is new (Err halt) g s' = record {
@@ -212,7 +212,7 @@ module _ (ends : SearchEnds) where
           plan = plan;
           new = new;
           goes_on = g;
-          follows = subst (λ (r : Reach). Follows (Err halt) old plan new r) (sym is)
+          follows = subst (λ (r : Reach). SearchGoes (Err halt) old plan new r) (sym is)
               (step_halts halt plan plan d name old new way.owned program step s');
         }
 
@@ -229,7 +229,7 @@ module _ (ends : SearchEnds) where
         by_first first.new first.plan first.result first.goes_on first.follows
       where
         carried : (p : Plan) (mid : Finding) → one ≡ Ok p → mid.budget ≡ old.budget → (new : Finding) (q : Plan)
-            (r : Result (Unit {0}) Halt) → Goes_on r → Follows r mid q new (f p) → Along old whole
+            (r : Result (Unit {0}) Halt) → Goes_on r → SearchGoes r mid q new (f p) → Along old whole
         carried p mid e budget new q (Ok done) g h = record {
           result = Ok tt;
           plan = q;
@@ -242,7 +242,7 @@ module _ (ends : SearchEnds) where
           plan = q;
           new = new;
           goes_on = g;
-          follows = subst (λ (r : Reach). Follows (Err halt) old q new r) (sym (is ∙ reach_went one p f e))
+          follows = subst (λ (r : Reach). SearchGoes (Err halt) old q new r) (sym (is ∙ reach_went one p f e))
               (halts_whole halt old mid new q q (f p) (f p) (extends_self (reached (f p))) (λ stop x. x) budget h);
         }
 
@@ -250,7 +250,7 @@ module _ (ends : SearchEnds) where
             Along old whole
         then_next p mid e budget a = carried p mid e budget a.new a.plan a.result a.goes_on a.follows
 
-        by_first : (new : Finding) (q : Plan) (r : Result (Unit {0}) Halt) → Goes_on r → Follows r old q new one →
+        by_first : (new : Finding) (q : Plan) (r : Result (Unit {0}) Halt) → Goes_on r → SearchGoes r old q new one →
             Along old whole
         by_first new q (Ok done) g h = then_next q new h.0 h.2 (next q new h.0 h.1)
         by_first new q (Err halt) g h = record {
@@ -347,7 +347,7 @@ abbrev at_first : ℕ → Finding
 at_first budget = record { budget = budget; left = budget; certs = []; variables = []; values = [] }
 
 by_walk : (d : CDocument) (budget : ℕ) (new : Finding) (plan : Plan) (r : Result (Unit {0}) Halt) → Goes_on r →
-    Follows r (at_first budget) plan new (reach_of d) →
+    SearchGoes r (at_first budget) plan new (reach_of d) →
     (finding : Result found.Proof ScriptError) × IsTold finding × Finds d budget finding
 by_walk d budget new plan (Ok done) g h =
     (Ok (found.Proof.Proved plan new.certs), tt, proved_by d budget plan new h.0 h.1 h.2)

@@ -11,82 +11,78 @@ use Rattle.core_terms.specs.declared.documents.CProof.{CProof}
 use Rattle.core_terms.specs.declared.documents.CDocument.{CDocument}
 use Rattle.obligations.specs.declared.branches.Obligation.{Obligation}
 use Rattle.obligations.specs.declared.certificates.Cert.{Cert}
-use Rattle.obligations.specs.Opening.{Valid, first_branch}
-use Rattle.certificate_check.specs.Refutation.{Reading, at_level, judged}
-use Rattle.certificate_check.specs.Trees.{is_whole}
+use Rattle.certificate_check.specs.Refutation.{Reading, judged}
 use Rattle.certificate_check.proofs.RefutationLaws.{sound}
-use Rattle.certificate_check.proofs.WholeLaws.{whole-walks}
 use Rattle.proof_rules.specs.Conclusion.{Conclusion}
 use Rattle.proof_rules.specs.Validity.{Goal, goal_obligation, AllValid}
 use Rattle.proof_rules.specs.Table.{needs}
 use Rattle.proof_rules.specs.Walk as walk
 use Rattle.proof_rules.specs.Walk.{Failure, has_defined, or_failure, further, rule_of, planned, steps_of, proof_end}
 use Rattle.proof_rules.specs.Walk.{program_of, proof_steps, proofs_of}
-use Rattle.proof_rules.proofs.EachLaws.{from_all, each_at}
 use Rattle.proof_rules.proofs.GoalLaws.{goal_shown}
 use Rattle.proof_rules.proofs.SiteLaws.{met}
 use Rattle.proof_rules.proofs.WalkTheorems.{walk_sound}
 use Rattle.safety_rules.specs.Answers.{obligations_of, derived_of}
 use Rattle.proof_script.specs.declared.plans.Plan.{Plan}
-use Rattle.proof_script.specs.Giving.{AreWhole}
-use Rattle.proof_script.specs.Laws.{plan_of, AcceptedFollows, AcceptedHolds}
+use Rattle.proof_script.specs.Laws.{plan_of, AcceptedIsValid, AcceptedHolds}
+use Rattle.proof_script.specs.Searches.{ShownAt, AreShown}
 use Rattle.step_rules.specs.Starts.{starts_in}
 use Rattle.proof_script.specs.Verdicts.{or_rule_fault, failing_node, failing, or_refutation_fault}
 use Rattle.proof_script.specs.Verdicts.{refuted_by, grown, taken, step_verdict, steps_verdict, end_verdict}
-use Rattle.proof_script.specs.Verdicts.{proof_verdict, proofs_verdict, surplus_fault, last_verdict, no_plan}
+use Rattle.proof_script.specs.Verdicts.{proof_verdict, proofs_verdict, surplus_fault, last_verdict, no_plan, verdict_of}
 use Rattle.proof_script.proofs.Equations.{refuted-more, taken-is, step-is, steps-none, steps-more}
 use Rattle.proof_script.proofs.LoopLaws.{rule_passed}
 use Rattle.proof_script.proofs.Equations.{proofs-none, proofs-more, then_so}
+use Rattle.proof_script.proofs.ReachLaws.{shown_join}
 
--- obligations that are refuted are valid
+-- obligations whose certificates do not fail are refuted
 
--- no node of the certificate fails
-refutes : (o : Obligation) (cert : Cert) → is_whole cert.nodes 1 ≡ true → (r : Reading) → judged o cert.nodes ≡ r →
-    failing_node r ≡ None → Valid o
-refutes o cert whole (Ok ps) e none =
-    let left : ps ≡ [] =
-    whole-walks o.variables cert.nodes (at_level 1 (first_branch o) ∷ []) ps 0 whole e in
-    sound o cert.nodes (e ∙ ap (λ qs. Ok qs) left)
-refutes o cert whole (Err failure) e none = cc
+-- no node of the certificate fails, and no branch is left
+pub unfailing : (r : Reading) → failing_node r ≡ None → r ≡ Ok []
+unfailing (Ok []) none = refl
+unfailing (Ok (p ∷ ps)) none = cc
+unfailing (Err failure) none = cc
 
 below : {X : Type 0} (xs : List X) (n : ℕ) (x : X) → slice_get xs n ≡ Some x → n < length xs
 below [] n x e = cc
 below (y ∷ xs) zero x e = omega arith
 below (y ∷ xs) (suc n) x e = let h = below xs n x e in omega (arith, h)
 
-one_valid : (certs : List Cert) → AreWhole certs → (o : Obligation) (number : ℕ) (found : Option Cert) →
-    slice_get certs number ≡ found → failing o found ≡ None → Valid o × (number < length certs)
-one_valid certs whole o number None e none = cc
-one_valid certs whole o number (Some cert) e none = (
-  refutes o cert
-      (each_at (λ (c : Cert). is_whole c.nodes 1 ≡ true) certs
-      (from_all (λ (c : Cert). is_whole c.nodes 1 ≡ true) certs whole) number cert e)
-      (judged o cert.nodes) refl none,
-  below certs number cert e,
-)
+one_shown : (certs : List Cert) (o : Obligation) (number : ℕ) (found : Option Cert) →
+    slice_get certs number ≡ found → failing o found ≡ None → ShownAt certs number o × (number < length certs)
+one_shown certs o number None e none = cc
+one_shown certs o number (Some cert) e none =
+    ((cert, e, unfailing (judged o cert.nodes) none), below certs number cert e)
 
 no_fault : (program step number : ℕ) (code : Option Code) (done : Unit {0}) →
     or_refutation_fault program step number code ≡ Ok done → code ≡ None
 no_fault program step number None done e = refl
 no_fault program step number (Some code) done e = cc
 
-refuted_valid : (slots : List CSlot) (certs : List Cert) → AreWhole certs → (program step number : ℕ)
-    (goals : List Goal) (done : Unit {0}) → number ≤ length certs →
-    refuted_by certs program step number (obligations_of slots goals) ≡ Ok done →
-    AllValid slots goals × (number + length goals ≤ length certs)
-refuted_valid slots certs whole program step number [] done less e = (tt, omega arith)
-refuted_valid slots certs whole program step number (g ∷ goals) done less e =
-    let o : Obligation = goal_obligation slots g.params g.form in
+all_shown : (certs : List Cert) (program step number : ℕ) (os : List Obligation) (done : Unit {0}) →
+    number ≤ length certs → refuted_by certs program step number os ≡ Ok done →
+    AreShown certs number os × (number + length os ≤ length certs)
+all_shown certs program step number [] done less e = (tt, omega arith)
+all_shown certs program step number (o ∷ os) done less e =
     let parts = then_so (or_refutation_fault program step number (failing o (slice_get certs number)))
-    (λ (x : Unit {0}). refuted_by certs program step (suc number) (obligations_of slots goals)) done
-    (sym (refuted-more certs program step number o (obligations_of slots goals)) ∙ e) in
-    let one = one_valid certs whole o number (slice_get certs number) refl
+    (λ (x : Unit {0}). refuted_by certs program step (suc number) os) done
+    (sym (refuted-more certs program step number o os) ∙ e) in
+    let one = one_shown certs o number (slice_get certs number) refl
     (no_fault program step number (failing o (slice_get certs number)) parts.0 parts.1) in
-    let first : Valid o = one.0 in
     let there : number < length certs = one.1 in
-    let rest = refuted_valid slots certs whole program step (suc number) goals done (omega (arith, there)) parts.2 in
-    let all : suc number + length goals ≤ length certs = rest.1 in
-    ((goal_shown slots g.params g.form first, rest.0), omega (arith, all))
+    let rest = all_shown certs program step (suc number) os done (omega (arith, there)) parts.2 in
+    let all : suc number + length os ≤ length certs = rest.1 in
+    ((one.0, rest.0), omega (arith, all))
+
+-- and so they are valid
+shown_valid : (slots : List CSlot) (certs : List Cert) (number : ℕ) (goals : List Goal) →
+    AreShown certs number (obligations_of slots goals) → AllValid slots goals
+shown_valid slots certs number [] h = tt
+shown_valid slots certs number (g ∷ goals) h =
+    let o : Obligation = goal_obligation slots g.params g.form in (
+      goal_shown slots g.params g.form (sound o h.0.0.nodes h.0.2),
+      shown_valid slots certs (suc number) goals h.1,
+    )
 
 -- the plans of verdict and walk
 
@@ -115,19 +111,17 @@ grown_is slots w x =
       owner = w.owner ++ ns;
     }) (same_owners slots (length w.records) x.goals)
 
-valid_join : (slots : List CSlot) (gs hs : List Goal) → AllValid slots gs → AllValid slots hs →
-    AllValid slots (gs ++ hs)
-valid_join slots [] hs v u = u
-valid_join slots (g ∷ gs) hs v u = (v.0, valid_join slots gs hs v.1 u)
-
 length-join : (gs hs : List Goal) → length (gs ++ hs) ≡ length gs + length hs
 length-join [] hs = omega arith
 length-join (g ∷ gs) hs = let e = length-join gs hs in omega (arith, e)
 
 -- what was taken so far is shown, each obligation by a certificate
 record Shown (slots : List CSlot) (certs : List Cert) (w : walk.Plan) : Type 0 where
-  valid : AllValid slots w.goals
+  shown : AreShown certs 0 (obligations_of slots w.goals)
   certified : length w.goals ≤ length certs
+
+abbrev pub no_walk : walk.Plan
+no_walk = record { records = []; goals = []; owner = [] }
 
 -- the walk gives the plan
 record Went (slots : List CSlot) (certs : List Cert) (walked : Result walk.Plan Failure) (plan : Plan) : Type 0 where
@@ -136,7 +130,7 @@ record Went (slots : List CSlot) (certs : List Cert) (walked : Result walk.Plan 
   same : plan ≡ plan_of slots steps
   shown : Shown slots certs steps
 
-module _ (slots : List CSlot) (certs : List Cert) (whole : AreWhole certs) where
+module _ (slots : List CSlot) (certs : List Cert) where
   abbrev starts : CProgram → Bool
   starts = starts_in slots
 
@@ -150,17 +144,25 @@ module _ (slots : List CSlot) (certs : List Cert) (whole : AreWhole certs) where
       (refuted_by certs program step (length (obligations_of slots w.goals)) (obligations_of slots x.goals))
       (λ (done : Unit {0}). Ok (grown (plan_of slots w) (derived_of slots x))) plan
       (sym (taken-is certs program step (plan_of slots w) (derived_of slots x)) ∙ e) in
-      let given = refuted_valid slots certs whole program step (length (obligations_of slots w.goals)) x.goals
+      let given = all_shown certs program step (length (obligations_of slots w.goals)) (obligations_of slots x.goals)
       parts.0 (omega (arith, many, few)) parts.1 in
-      let all : length (obligations_of slots w.goals) + length x.goals ≤ length certs = given.1 in
+      let some : length (obligations_of slots x.goals) ≡ length x.goals = length-map x.goals _ in
+      let all : length (obligations_of slots w.goals) + length (obligations_of slots x.goals) ≤ length certs =
+      given.1 in
       let sum = length-join w.goals x.goals in
       let made : grown (plan_of slots w) (derived_of slots x) ≡ plan = cc (parts.2) in (
         sym made ∙ grown_is slots w x,
         record {
-          valid = valid_join slots w.goals x.goals shown.valid given.0;
-          certified = omega (arith, all, sum, many);
+          shown = subst (λ os. AreShown certs 0 os) (obligations_join slots w.goals x.goals)
+              (shown_join certs 0 (obligations_of slots w.goals) (obligations_of slots x.goals) shown.shown
+              (subst (λ n. AreShown certs n (obligations_of slots x.goals))
+              (zero_more (length (obligations_of slots w.goals))) given.0));
+          certified = omega (arith, all, sum, many, some);
         },
       )
+    where
+      zero_more : (n : ℕ) → n ≡ 0 + n
+      zero_more n = omega arith
 
   steps_shown : (c : CProgram) (steps : List CStep) (w : walk.Plan) (plan : Plan) → Shown slots certs w →
       steps_verdict slots certs c steps (plan_of slots w) ≡ Ok plan →
@@ -243,12 +245,20 @@ last_so : (certs : List Cert) (plan last : Plan) (b : Bool) → nat_lt (length p
 last_so certs plan last true e h = cc
 last_so certs plan last false e h = (cc, grind arith)
 
-pub accepted_follows : AcceptedFollows
-accepted_follows d certs plan whole e =
-    let first : walk.Plan = record { records = []; goals = []; owner = [] } in
+-- what a verdict that is a plan says of the walk: its plan, all of which is shown, with no certificate left
+pub record IsShownPlan (d : CDocument) (certs : List Cert) (plan : Plan) : Type 0 where
+  pub steps : walk.Plan
+  pub walked : proofs_of d (starts_in d.slots) d.proofs no_walk ≡ Ok steps
+  pub planned : plan ≡ plan_of d.slots steps
+  pub shown : AreShown certs 0 (obligations_of d.slots steps.goals)
+  pub certified : length certs ≡ length steps.goals
+
+pub accepted_shown : (d : CDocument) (certs : List Cert) (plan : Plan) → verdict_of d certs ≡ Ok plan →
+    IsShownPlan d certs plan
+accepted_shown d certs plan e =
     let parts = then_so (proofs_verdict d.slots certs d.programs d.proofs no_plan) (last_verdict certs) plan e in
-    let went = proofs_shown d.slots certs whole d refl d.proofs first parts.0
-    (record { valid = tt; certified = omega arith }) parts.1 in
+    let went = proofs_shown d.slots certs d refl d.proofs no_walk parts.0
+    (record { shown = tt; certified = omega arith }) parts.1 in
     let last = last_so certs parts.0 plan (nat_lt (length parts.0.obligations) (length certs)) refl parts.2 in
     let enough : length certs ≤ length parts.0.obligations = last.1 in
     let many : length (obligations_of d.slots went.steps.goals) ≡ length went.steps.goals =
@@ -260,12 +270,23 @@ accepted_follows d certs plan whole e =
       steps = went.steps;
       walked = went.is;
       planned = sym last.0 ∙ went.same;
-      valid = went.shown.valid;
+      shown = went.shown.shown;
       certified = omega (arith, enough, many, same, few);
     }
 
+pub accepted_valid : AcceptedIsValid
+accepted_valid d certs plan e =
+    let s = accepted_shown d certs plan e in
+    record {
+      steps = s.steps;
+      walked = s.walked;
+      planned = s.planned;
+      valid = shown_valid d.slots certs 0 s.steps.goals s.shown;
+      certified = s.certified;
+    }
+
 pub accepted_holds : AcceptedHolds
-accepted_holds d certs plan good whole e place a c there named =
-    let f = accepted_follows d certs plan whole e in
+accepted_holds d certs plan good e place a c there named =
+    let f = accepted_valid d certs plan e in
     walk_sound d good (starts_in d.slots) f.steps f.walked f.valid place a c
     (ap (λ (p : Plan). slice_get p.records place) (sym f.planned) ∙ there) named

@@ -11,7 +11,7 @@ use Rattle.safety_rules.specs.Answers.{obligations_of}
 use Rattle.proof_script.specs.declared.plans.Plan.{Plan}
 use Rattle.proof_script.specs.declared.plans.Proof.{Proof}
 use Rattle.proof_script.specs.declared.plans.ScriptError.{ScriptError}
-use Rattle.proof_script.specs.Giving.{AreWhole, PlanHolds}
+use Rattle.proof_script.specs.Giving.{PlanHolds}
 use Rattle.proof_script.specs.Proving.{enough_for, Finds}
 use Rattle.proof_script.specs.Reaching.{Reach, reach_of, reached}
 use Rattle.step_rules.specs.Starts.{starts_in}
@@ -25,23 +25,23 @@ plan_of slots w = record {
   owner = w.owner;
 }
 
--- the document follows: its walk gives this plan, whose obligations are valid, each with one certificate
-pub record Follows (d : CDocument) (certs : List Cert) (plan : Plan) : Type 0 where
+-- the walk gives this plan, whose obligations are valid, each with one certificate
+pub record IsValidPlan (d : CDocument) (certs : List Cert) (plan : Plan) : Type 0 where
   pub steps : walk.Plan
   pub walked : walk_of d (starts_in d.slots) ≡ Ok steps
   pub planned : plan ≡ plan_of d.slots steps
   pub valid : AllValid d.slots steps.goals
   pub certified : length certs ≡ length steps.goals
 
--- what is accepted follows
-abbrev pub AcceptedFollows : Type 0
-AcceptedFollows = (d : CDocument) (certs : List Cert) (plan : Plan) → AreWhole certs → verdict_of d certs ≡ Ok plan →
-    Follows d certs plan
+-- the plan of what is accepted is valid
+abbrev pub AcceptedIsValid : Type 0
+AcceptedIsValid = (d : CDocument) (certs : List Cert) (plan : Plan) → verdict_of d certs ≡ Ok plan →
+    IsValidPlan d certs plan
 
 -- and what its steps claim holds
 abbrev pub AcceptedHolds : Type 0
-AcceptedHolds = (d : CDocument) (certs : List Cert) (plan : Plan) → IsDocument d → AreWhole certs →
-    verdict_of d certs ≡ Ok plan → PlanHolds d plan
+AcceptedHolds = (d : CDocument) (certs : List Cert) (plan : Plan) → IsDocument d → verdict_of d certs ≡ Ok plan →
+    PlanHolds d plan
 
 -- how far the steps go is what the walk along them says: the same plan, or the same first failure
 abbrev pub Agrees : List CSlot → Result walk.Plan Failure → Reach → Type 0

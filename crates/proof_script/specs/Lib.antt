@@ -1,3 +1,4 @@
+pub mod Following
 pub mod Giving
 pub mod Laws
 pub mod Planning

@@ -46,12 +46,12 @@ pub record IsUnderWay (plan : Plan) (f : Finding) : Type 0 where
   pub owned : length plan.owner ≡ length plan.obligations
 
 -- the search along steps that go so far
-abbrev pub Follows : Result (Unit {0}) Halt → Finding → Plan → Finding → Reach → Type 0
-Follows (Ok done) old plan new r = (r ≡ Ok plan) × IsUnderWay plan new × (new.budget ≡ old.budget)
-Follows (Err (Halt.Step fault)) old plan new r = IsStopped r fault
-Follows (Err (Halt.Refuted step number)) old plan new r =
+abbrev pub SearchGoes : Result (Unit {0}) Halt → Finding → Plan → Finding → Reach → Type 0
+SearchGoes (Ok done) old plan new r = (r ≡ Ok plan) × IsUnderWay plan new × (new.budget ≡ old.budget)
+SearchGoes (Err (Halt.Step fault)) old plan new r = IsStopped r fault
+SearchGoes (Err (Halt.Refuted step number)) old plan new r =
     IsFalse (reached r).obligations number new.variables new.values
     × IsOwner (reached r) number step.program step.step
-Follows (Err (Halt.Short step number)) old plan new r =
+SearchGoes (Err (Halt.Short step number)) old plan new r =
     IsShort (reached r).obligations number old.budget × IsOwner (reached r) number step.program step.step
-Follows (Err Halt.Memory) old plan new r = Unit {0}
+SearchGoes (Err Halt.Memory) old plan new r = Unit {0}

@@ -36,9 +36,10 @@ abbrev pub or_rule_fault : {A : Type 0} → ℕ → Option ℕ → Result A Code
 or_rule_fault program step (Ok x) = Ok x
 or_rule_fault program step (Err code) = Err (rule_fault program step code)
 
--- how a certificate fails against an obligation
+-- how a certificate fails against an obligation: at its first node that fails, or where a subtree of it is missing
 abbrev pub failing_node : Reading → Option Code
-failing_node (Ok ps) = None
+failing_node (Ok []) = None
+failing_node (Ok (p ∷ ps)) = Some Code.CertMissing
 failing_node (Err e) = Some e.0
 
 abbrev pub failing : Obligation → Option Cert → Option Code

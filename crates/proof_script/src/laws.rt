@@ -1,10 +1,13 @@
 // The laws of verdicts and of searches. The functions do nothing: they state them.
-ghost use Rattle.proof_script.specs.Laws.{AcceptedFollows, AcceptedHolds, EnoughSuffices, ReachIsWalk, SomeFinding};
+ghost use Rattle.proof_script.specs.Following.{AcceptedFollows};
+ghost use Rattle.proof_script.specs.Laws.{AcceptedIsValid, AcceptedHolds, EnoughSuffices, ReachIsWalk, SomeFinding};
 
-/// Where the verdict is a plan, the walk along the steps gives it, each obligation is valid, and there is
-/// one certificate for each; and the property of each step holds in all executions of its program.
+/// The verdict is a plan exactly where each step gets its record by the rules, each proof has its `defined` step, and
+/// there is one certificate for each obligation, in order, which refutes it. Then the walk along the steps gives the
+/// plan, each obligation is valid, and the property of each step holds in all executions of its program.
 pub fn verdict_laws()
     ensures follows { AcceptedFollows }
+    ensures valid { AcceptedIsValid }
     ensures holds { AcceptedHolds }
 {}
 

@@ -9,7 +9,7 @@ ghost use Rattle.proof_script.specs.declared.finding.Finding.{Finding};
 ghost use Rattle.proof_script.specs.declared.plans.Plan.{Plan};
 ghost use Rattle.proof_script.specs.Proving.{Finds};
 ghost use Rattle.proof_script.specs.Reaching.{proof_reach, proofs_reach, reach_of, step_reach, steps_reach};
-ghost use Rattle.proof_script.specs.Searches.{Follows, IsUnderWay};
+ghost use Rattle.proof_script.specs.Searches.{SearchGoes, IsUnderWay};
 ghost use Rattle.step_rules.specs.Using.{BookFits};
 ghost use Rattle.proof_script.specs.Verdicts.{grown, rule_fault};
 
@@ -50,7 +50,7 @@ fn prove_derived(
     requires step { derived.made.name ≡ name.step }
     requires room { length plan.old.records < 2 ^ 31 }
     requires under_way { IsUnderWay plan.old finding.old }
-    ensures { Follows result finding.old plan.new finding.new (Ok (grown plan.old derived)) }
+    ensures { SearchGoes result finding.old plan.new finding.new (Ok (grown plan.old derived)) }
 {
     let obligations = derived.get().obligations.as_slice();
     find_all(alloc, name, obligations, finding)?;
@@ -73,7 +73,7 @@ fn prove_step(
     requires book { BookFits slots.now plan.old.records }
     requires room { length plan.old.records < 2 ^ 31 }
     requires under_way { IsUnderWay plan.old finding.old }
-    ensures { Follows result finding.old plan.new finding.new (step_reach slots.now program.now step.now plan.old) }
+    ensures { SearchGoes result finding.old plan.new finding.new (step_reach slots.now program.now step.now plan.old) }
 {
     match step_rule(alloc, slots, program, step, plan.records.as_slice()) {
         Ok(derived) => {
@@ -103,7 +103,7 @@ fn prove_steps(
     requires book { BookFits slots.now plan.old.records }
     requires room { length plan.old.records + length steps.now < 2 ^ 31 }
     requires under_way { IsUnderWay plan.old finding.old }
-    ensures { Follows result finding.old plan.new finding.new
+    ensures { SearchGoes result finding.old plan.new finding.new
         (steps_reach slots.now program.now steps.now plan.old) }
 {
     for step in steps {
@@ -127,7 +127,7 @@ fn prove_program(
     requires book { BookFits slots.now plan.old.records }
     requires room { length plan.old.records + length proof.now.steps < 2 ^ 31 }
     requires under_way { IsUnderWay plan.old finding.old }
-    ensures { Follows result finding.old plan.new finding.new
+    ensures { SearchGoes result finding.old plan.new finding.new
         (proof_reach slots.now (Some program.now) proof.now plan.old) }
 {
     prove_steps(alloc, slots, program, proof.steps.as_slice(), plan, finding)?;
@@ -152,7 +152,7 @@ fn prove_proof(
     requires book { BookFits doc.now.slots plan.old.records }
     requires room { length plan.old.records + length proof.now.steps < 2 ^ 31 }
     requires under_way { IsUnderWay plan.old finding.old }
-    ensures { Follows result finding.old plan.new finding.new
+    ensures { SearchGoes result finding.old plan.new finding.new
         (proof_reach doc.now.slots (program_of doc.now.programs proof.now.program) proof.now plan.old) }
 {
     match find_program(proof.program, doc.programs.as_slice()) {
@@ -172,7 +172,7 @@ fn prove_proofs(
     requires book { BookFits doc.now.slots plan.old.records }
     requires room { length plan.old.records + sum (map (λ (p : CProof). length p.steps) doc.now.proofs) < 2 ^ 31 }
     requires under_way { IsUnderWay plan.old finding.old }
-    ensures { Follows result finding.old plan.new finding.new
+    ensures { SearchGoes result finding.old plan.new finding.new
         (proofs_reach doc.now.slots doc.now.programs doc.now.proofs plan.old) }
 {
     for proof in doc.proofs.as_slice() {
@@ -196,7 +196,7 @@ fn new_finding(alloc: Global, budget: u64) -> Finding
 
 // What a search that stopped has found.
 fn halted(halt: Halt, finding: Finding) -> Result<Proof, ScriptError>
-    ensures { (d : CDocument) (old : Finding) (plan : Plan) → Follows (Err halt) old plan finding (reach_of d) →
+    ensures { (d : CDocument) (old : Finding) (plan : Plan) → SearchGoes (Err halt) old plan finding (reach_of d) →
         Finds d old.budget result }
 {
     match halt {

@@ -6,7 +6,7 @@ use Rattle.name_scopes.specs.declared.named.NameFault.{NameFault}
 use Rattle.name_scopes.specs.Answers.{Stops}
 use Rattle.name_scopes.specs.Reading.{Fault, earlier}
 use Rattle.unity_parser.proofs.Readings.{one_document, no_fault, one_fault}
-use Rattle.unity_cli.specs.Reading.{IsReading, IsFirstFault, of_text, of_document, document_fault}
+use Rattle.unity_cli.specs.WellFormed.{IsWellFormed, IsFirstFault, of_text, of_document, document_fault}
 
 abbrev fault_at : Code → ℕ → Fault
 fault_at code at = record { code = code; at = at }
@@ -16,7 +16,7 @@ no_faults None g e h = h
 no_faults (Some f) g e h = cc
 
 -- a document of a reading has no fault
-pub faultless : (bytes : List ℕ) (d : Document) → IsReading bytes d → document_fault d ≡ None
+pub faultless : (bytes : List ℕ) (d : Document) → IsWellFormed bytes d → document_fault d ≡ None
 faultless bytes d r = no_faults _ _ r.named r.expands
 
 -- what stops at the first of two faults, and at the second where there is no first, stops at the earlier one
@@ -28,7 +28,7 @@ pub stops_second : (e : NameFault) (f g : Option Fault) → f ≡ None → Stops
 stops_second e None g none s = s
 stops_second e (Some f) g none s = cc
 
-pub no_first_fault : (bytes : List ℕ) (d : Document) (code : Code) (at : ℕ) → IsReading bytes d →
+pub no_first_fault : (bytes : List ℕ) (d : Document) (code : Code) (at : ℕ) → IsWellFormed bytes d →
     IsFirstFault bytes code at → ⊥
 no_first_fault bytes d code at r (of_text f) = no_fault bytes d code at r.is_document f
 no_first_fault bytes d code at r (of_document e other f) =

@@ -24,20 +24,25 @@ use Rattle.answer_texts.specs.Verdicts.{accepted_text, rejected_text}
 use Rattle.command_words.specs.Requests.{check, prove, run, replay, demo}
 use Rattle.unity_parser.proofs.Readings.{one_document}
 use Rattle.unity_cli.specs.declared.status.Status.{Status}
-use Rattle.unity_cli.specs.Answer.{greatest_size, IsRead, IsBad, too_long, no_reading, IsAccepted, IsRejected}
-use Rattle.unity_cli.specs.Answer.{Checked, IsTrace, IsRun, HasNoStart, IsNotRun}
-use Rattle.unity_cli.specs.Answer.{no_program, Ran}
-use Rattle.unity_cli.specs.Answer.{IsReplayed, HasNoReplay, IsNotReplayed, no_schedule, unknown, Replayed, Answer}
-use Rattle.unity_cli.specs.Answer as answers
+use Rattle.unity_cli.specs.Admitted.{greatest_size, IsAdmitted, IsBad, too_long, no_reading}
+use Rattle.unity_cli.specs.Answer.Check.{IsAccepted, IsRejected}
+use Rattle.unity_cli.specs.Answer.Check.{Checked}
+use Rattle.unity_cli.specs.Answer.Run.{IsTrace, IsRun, HasNoStart, IsNotRun}
+use Rattle.unity_cli.specs.Answer.Run.{no_program, Ran}
+use Rattle.unity_cli.specs.Answer.Replay.{IsReplayed, HasNoReplay, IsNotReplayed, no_schedule, unknown, Replayed}
+use Rattle.unity_cli.specs.Answer.{Answer}
+use Rattle.unity_cli.specs.Answer.Run as runs
+use Rattle.unity_cli.specs.Answer.Replay as replays
 use Rattle.unity_cli.specs.Laws.{OneAnswer}
 use Rattle.unity_cli.proofs.FirstFaults.{no_first_fault, one_first_fault}
 
 -- ---- readings
 
-read_once : (bytes : List ℕ) (d e : Document) → IsRead greatest_size bytes d → IsRead greatest_size bytes e → d ≡ e
+read_once : (bytes : List ℕ) (d e : Document) → IsAdmitted greatest_size bytes d → IsAdmitted greatest_size bytes e →
+    d ≡ e
 read_once bytes d e a b = one_document bytes d e a.reading.is_document b.reading.is_document
 
-pub read_not_bad : (bytes text : List ℕ) (d : Document) → IsRead greatest_size bytes d → IsBad greatest_size bytes
+pub read_not_bad : (bytes text : List ℕ) (d : Document) → IsAdmitted greatest_size bytes d → IsBad greatest_size bytes
     text → ⊥
 read_not_bad bytes text d r (too_long h e) = let few = r.size in omega (arith, few, h)
 read_not_bad bytes text d r (no_reading code at k f e) = no_first_fault bytes d code at r.reading f
@@ -80,7 +85,7 @@ accepted_not_rejected bytes text more a b =
     sym a.verdict ∙ ap verdict same ∙ b.verdict in
     cc
 
-one_checked : (bytes : List ℕ) (status other : Status) (text more : List ℕ) → Checked bytes status text →
+pub one_checked : (bytes : List ℕ) (status other : Status) (text more : List ℕ) → Checked bytes status text →
     Checked bytes other more → (status ≡ other) × (text ≡ more)
 one_checked bytes Status.Done Status.Done text more a b = (refl, one_accepted bytes text more a b)
 one_checked bytes Status.Done Status.Rejected text more a b = absurd (accepted_not_rejected bytes text more a b)
@@ -153,37 +158,37 @@ named_program d name c p a none =
     cc
 
 run_not_refused : (bytes name : List ℕ) (steps : ℕ) (d : Document) (defined : Bool) (text more : List ℕ) →
-    IsRead greatest_size bytes d → IsRun d name steps defined text → IsNotRun bytes name more → ⊥
-run_not_refused bytes name steps d defined text more r a (answers.IsNotRun.bad b) = read_not_bad bytes more d r b
+    IsAdmitted greatest_size bytes d → IsRun d name steps defined text → IsNotRun bytes name more → ⊥
+run_not_refused bytes name steps d defined text more r a (runs.IsNotRun.bad b) = read_not_bad bytes more d r b
 run_not_refused bytes name steps d defined text more r a (no_program e s none f) =
     named_program e name a.program a.core
     (subst (λ x. IsCoreOf x name a.program a.core) (read_once bytes d e r s) a.is_core)
     none
-run_not_refused bytes name steps d defined text more r a (answers.IsNotRun.no_start e s none f) =
+run_not_refused bytes name steps d defined text more r a (runs.IsNotRun.no_start e s none f) =
     run_started e name steps defined text
     (subst (λ x. IsRun x name steps defined text) (read_once bytes d e r s) a) none
 
 one_refusal : (bytes name text more : List ℕ) → IsNotRun bytes name text → IsNotRun bytes name more → text ≡ more
-one_refusal bytes name text more (answers.IsNotRun.bad a) (answers.IsNotRun.bad b) = one_bad bytes text more a b
-one_refusal bytes name text more (answers.IsNotRun.bad a) (no_program d r h e) =
+one_refusal bytes name text more (runs.IsNotRun.bad a) (runs.IsNotRun.bad b) = one_bad bytes text more a b
+one_refusal bytes name text more (runs.IsNotRun.bad a) (no_program d r h e) =
     absurd (read_not_bad bytes text d r a)
-one_refusal bytes name text more (answers.IsNotRun.bad a) (answers.IsNotRun.no_start d r h e) =
+one_refusal bytes name text more (runs.IsNotRun.bad a) (runs.IsNotRun.no_start d r h e) =
     absurd (read_not_bad bytes text d r a)
-one_refusal bytes name text more (no_program d r h e) (answers.IsNotRun.bad b) =
+one_refusal bytes name text more (no_program d r h e) (runs.IsNotRun.bad b) =
     absurd (read_not_bad bytes more d r b)
 one_refusal bytes name text more (no_program d r h e) (no_program other s k f) = e ∙ sym f
-one_refusal bytes name text more (no_program d r h e) (answers.IsNotRun.no_start other s k f) =
+one_refusal bytes name text more (no_program d r h e) (runs.IsNotRun.no_start other s k f) =
     absurd (named_program other name k.program k.core k.is_core
     (subst (λ x. program_named name (programs_of x) ≡ None) (read_once bytes d other r s) h))
-one_refusal bytes name text more (answers.IsNotRun.no_start d r h e) (answers.IsNotRun.bad b) =
+one_refusal bytes name text more (runs.IsNotRun.no_start d r h e) (runs.IsNotRun.bad b) =
     absurd (read_not_bad bytes more d r b)
-one_refusal bytes name text more (answers.IsNotRun.no_start d r h e) (no_program other s k f) =
+one_refusal bytes name text more (runs.IsNotRun.no_start d r h e) (no_program other s k f) =
     absurd (named_program d name h.program h.core h.is_core
     (subst (λ x. program_named name (programs_of x) ≡ None) (read_once bytes other d s r) k))
-one_refusal bytes name text more (answers.IsNotRun.no_start d r h e) (answers.IsNotRun.no_start other s k f) = e ∙ sym f
+one_refusal bytes name text more (runs.IsNotRun.no_start d r h e) (runs.IsNotRun.no_start other s k f) = e ∙ sym f
 
 both_runs : (bytes name : List ℕ) (steps : ℕ) (d e : Document) (defined also : Bool) (text more : List ℕ) →
-    IsRead greatest_size bytes d → IsRun d name steps defined text → IsRead greatest_size bytes e → IsRun e name
+    IsAdmitted greatest_size bytes d → IsRun d name steps defined text → IsAdmitted greatest_size bytes e → IsRun e name
     steps also more →
     (defined ≡ also) × (text ≡ more)
 both_runs bytes name steps d e defined also text more r a s b =
@@ -314,16 +319,16 @@ has_schedule d s a none =
     let never : ◌≡◌ {A = Option Schedule} (Some s) None = sym a ∙ none in
     cc
 
-replay_not_refused : (bytes : List ℕ) (d : Document) (defined : Bool) (text more : List ℕ) → IsRead greatest_size
+replay_not_refused : (bytes : List ℕ) (d : Document) (defined : Bool) (text more : List ℕ) → IsAdmitted greatest_size
     bytes d →
     IsReplayed d defined text → IsNotReplayed bytes more → ⊥
-replay_not_refused bytes d defined text more r a (answers.IsNotReplayed.bad b) = read_not_bad bytes more d r b
+replay_not_refused bytes d defined text more r a (replays.IsNotReplayed.bad b) = read_not_bad bytes more d r b
 replay_not_refused bytes d defined text more r a (no_schedule e s none f) =
     has_schedule d a.schedule a.replay_is.there (subst (λ x. x.schedule ≡ None) (read_once bytes e d s r) none)
 replay_not_refused bytes d defined text more r a (unknown e at s u f) =
     replay_knows d at a.schedule a.program a.core a.choices a.replay_is
     (subst (λ x. IsUnknown x at) (read_once bytes e d s r) u)
-replay_not_refused bytes d defined text more r a (answers.IsNotReplayed.no_start e s none f) =
+replay_not_refused bytes d defined text more r a (replays.IsNotReplayed.no_start e s none f) =
     replay_started d defined text a (subst HasNoReplay (read_once bytes e d s r) none)
 
 one_unknown : (d : Document) (at other : ℕ) → IsUnknown d at → IsUnknown d other → at ≡ other
@@ -341,46 +346,47 @@ one_unknown d at other a b =
     first_unknown c s = option_map (λ i. i.at) (find (λ i. is_none (place_of c i)) (some_of s.choices))
 
 one_unreplayed : (bytes text more : List ℕ) → IsNotReplayed bytes text → IsNotReplayed bytes more → text ≡ more
-one_unreplayed bytes text more (answers.IsNotReplayed.bad a) (answers.IsNotReplayed.bad b) =
+one_unreplayed bytes text more (replays.IsNotReplayed.bad a) (replays.IsNotReplayed.bad b) =
     one_bad bytes text more a b
-one_unreplayed bytes text more (answers.IsNotReplayed.bad a) (no_schedule d r h e) =
+one_unreplayed bytes text more (replays.IsNotReplayed.bad a) (no_schedule d r h e) =
     absurd (read_not_bad bytes text d r a)
-one_unreplayed bytes text more (answers.IsNotReplayed.bad a) (unknown d at r h e) =
+one_unreplayed bytes text more (replays.IsNotReplayed.bad a) (unknown d at r h e) =
     absurd (read_not_bad bytes text d r a)
-one_unreplayed bytes text more (answers.IsNotReplayed.bad a) (answers.IsNotReplayed.no_start d r h e) =
+one_unreplayed bytes text more (replays.IsNotReplayed.bad a) (replays.IsNotReplayed.no_start d r h e) =
     absurd (read_not_bad bytes text d r a)
-one_unreplayed bytes text more (no_schedule d r h e) (answers.IsNotReplayed.bad b) =
+one_unreplayed bytes text more (no_schedule d r h e) (replays.IsNotReplayed.bad b) =
     absurd (read_not_bad bytes more d r b)
 one_unreplayed bytes text more (no_schedule d r h e) (no_schedule other s k f) = e ∙ sym f
 one_unreplayed bytes text more (no_schedule d r h e) (unknown other at s k f) =
     absurd (has_schedule other k.schedule k.there (subst (λ x. x.schedule ≡ None) (read_once bytes d other r s) h))
-one_unreplayed bytes text more (no_schedule d r h e) (answers.IsNotReplayed.no_start other s k f) =
+one_unreplayed bytes text more (no_schedule d r h e) (replays.IsNotReplayed.no_start other s k f) =
     absurd (has_schedule other k.schedule k.replay_is.there
     (subst (λ x. x.schedule ≡ None) (read_once bytes d other r s) h))
-one_unreplayed bytes text more (unknown d at r h e) (answers.IsNotReplayed.bad b) =
+one_unreplayed bytes text more (unknown d at r h e) (replays.IsNotReplayed.bad b) =
     absurd (read_not_bad bytes more d r b)
 one_unreplayed bytes text more (unknown d at r h e) (no_schedule other s k f) =
     absurd (has_schedule d h.schedule h.there (subst (λ x. x.schedule ≡ None) (read_once bytes other d s r) k))
 one_unreplayed bytes text more (unknown d at r h e) (unknown other place s k f) =
     e ∙ ap (fault_text Code.NoSuchStatement)
     (one_unknown other at place (subst (λ x. IsUnknown x at) (read_once bytes d other r s) h) k) ∙ sym f
-one_unreplayed bytes text more (unknown d at r h e) (answers.IsNotReplayed.no_start other s k f) =
+one_unreplayed bytes text more (unknown d at r h e) (replays.IsNotReplayed.no_start other s k f) =
     absurd (replay_knows other at k.schedule k.program k.core k.choices k.replay_is
     (subst (λ x. IsUnknown x at) (read_once bytes d other r s) h))
-one_unreplayed bytes text more (answers.IsNotReplayed.no_start d r h e) (answers.IsNotReplayed.bad b) =
+one_unreplayed bytes text more (replays.IsNotReplayed.no_start d r h e) (replays.IsNotReplayed.bad b) =
     absurd (read_not_bad bytes more d r b)
-one_unreplayed bytes text more (answers.IsNotReplayed.no_start d r h e) (no_schedule other s k f) =
+one_unreplayed bytes text more (replays.IsNotReplayed.no_start d r h e) (no_schedule other s k f) =
     absurd (has_schedule d h.schedule h.replay_is.there
     (subst (λ x. x.schedule ≡ None) (read_once bytes other d s r) k))
-one_unreplayed bytes text more (answers.IsNotReplayed.no_start d r h e) (unknown other at s k f) =
+one_unreplayed bytes text more (replays.IsNotReplayed.no_start d r h e) (unknown other at s k f) =
     absurd (replay_knows d at h.schedule h.program h.core h.choices h.replay_is
     (subst (λ x. IsUnknown x at) (read_once bytes other d s r) k))
-one_unreplayed bytes text more (answers.IsNotReplayed.no_start d r h e) (answers.IsNotReplayed.no_start other s k f) =
+one_unreplayed bytes text more (replays.IsNotReplayed.no_start d r h e) (replays.IsNotReplayed.no_start other s k f) =
     e ∙ sym f
 
-both_replays : (bytes : List ℕ) (d e : Document) (defined also : Bool) (text more : List ℕ) → IsRead greatest_size
+both_replays : (bytes : List ℕ) (d e : Document) (defined also : Bool) (text more : List ℕ) → IsAdmitted greatest_size
     bytes d →
-    IsReplayed d defined text → IsRead greatest_size bytes e → IsReplayed e also more → (defined ≡ also) × (text ≡ more)
+    IsReplayed d defined text → IsAdmitted greatest_size bytes e → IsReplayed e also more →
+    (defined ≡ also) × (text ≡ more)
 both_replays bytes d e defined also text more r a s b =
     one_replay e defined also text more (subst (λ x. IsReplayed x defined text) (read_once bytes d e r s) a) b
 

@@ -16,13 +16,15 @@ use Rattle.certificate_texts.specs.Certificates.{certificates_text}
 use Rattle.found_documents.specs.Found.{front, text_with}
 use Rattle.found_texts.specs.Laws.{IsFoundText}
 use Rattle.found_texts.proofs.Found.{proved_is_read}
-use Rattle.unity_cli.specs.declared.finding.Found.{Found}
-use Rattle.unity_cli.specs.declared.reading.Input.{Input}
-use Rattle.unity_cli.specs.declared.reading.Reading.{Reading}
+use Rattle.unity_cli.specs.declared.prove.Found.{Found}
+use Rattle.unity_cli.specs.declared.input.Input.{Input}
+use Rattle.unity_cli.specs.declared.input.AdmittedDocument.{AdmittedDocument}
 use Rattle.unity_cli.specs.declared.status.Status.{Status}
-use Rattle.unity_cli.specs.Answer.{greatest_size, greatest_bare_size, IsRead, IsAccepted, IsFinding, IsFound, Searched}
+use Rattle.unity_cli.specs.Admitted.{greatest_size, greatest_bare_size, IsAdmitted}
+use Rattle.unity_cli.specs.Answer.Check.{IsAccepted}
+use Rattle.unity_cli.specs.Answer.Prove.{IsFinding, IsFound, Searched}
 use Rattle.unity_cli.specs.Answering.{HasPlan}
-use Rattle.unity_cli.specs.Input.{AreKept, IsReadAs, words_in}
+use Rattle.unity_cli.specs.Input.{AreKept, IsAdmittedAs, words_in}
 use Rattle.unity_cli.proofs.Accepted.{read_core}
 use Rattle.unity_cli.proofs.Told.{sound_core}
 
@@ -31,14 +33,15 @@ are_kept Input.TooLong bytes = tt
 are_kept (Input.Fault code at) bytes = tt
 are_kept (Input.Document r) bytes = refl
 
-pub searched_core : (bytes : List ℕ) (r : Reading) → IsReadAs greatest_bare_size bytes r → IsCoreDocument r.core
+pub searched_core : (bytes : List ℕ) (r : AdmittedDocument) → IsAdmittedAs greatest_bare_size bytes r →
+    IsCoreDocument r.core
 searched_core bytes r is = sound_core greatest_bare_size (omega arith) r (bytes, is)
 
 -- what is found of the core form is found of the document
-pub finds_told : (bytes : List ℕ) (budget : ℕ) (r : Reading) (finding : Result Proof ScriptError)
+pub finds_told : (bytes : List ℕ) (budget : ℕ) (r : AdmittedDocument) (finding : Result Proof ScriptError)
     (told : CDocument → List ℕ) (text : List ℕ) → Finds r.core budget finding →
     text ≡ told r.core →
-    IsReadAs greatest_bare_size bytes r → IsFinding bytes budget finding told text
+    IsAdmittedAs greatest_bare_size bytes r → IsFinding bytes budget finding told text
 finds_told bytes budget r finding told text h e is = record {
   document = r.document;
   read = is.read;
@@ -47,8 +50,8 @@ finds_told bytes budget r finding told text h e is = record {
 }
 
 -- the document's text with certificates that were found is that document with them, and so it is accepted
-with_accepted : (bytes : List ℕ) (d : Document) (plan : Plan) (certs : List Cert) → IsRead greatest_bare_size bytes d →
-    verdict_of (core_document d) certs ≡ Ok plan → IsFoundText bytes d certs →
+with_accepted : (bytes : List ℕ) (d : Document) (plan : Plan) (certs : List Cert) →
+    IsAdmitted greatest_bare_size bytes d → verdict_of (core_document d) certs ≡ Ok plan → IsFoundText bytes d certs →
     IsAccepted (text_with bytes d certs) (accepted_text (core_document d).words plan)
 with_accepted bytes d plan certs read verdict found = record {
   document = record d { certificates = Some found.read.section };
@@ -69,7 +72,7 @@ with_accepted bytes d plan certs read verdict found = record {
     within a b h k = omega (arith, h, k)
 
 found_accepted : (bytes : List ℕ) (budget : ℕ) (d : Document) (plan : Plan) (certs : List Cert) →
-    IsRead greatest_bare_size bytes d → budget ≤ 1000000 → IsProved (core_document d) budget plan certs →
+    IsAdmitted greatest_bare_size bytes d → budget ≤ 1000000 → IsProved (core_document d) budget plan certs →
     IsAccepted (text_with bytes d certs) (accepted_text (core_document d).words plan)
 found_accepted bytes budget d plan certs read few proved =
     with_accepted bytes d plan certs read proved.verdict
@@ -78,7 +81,7 @@ found_accepted bytes budget d plan certs read few proved =
 
 -- the text with certificates that were found
 pub found_of : (bytes : List ℕ) (budget : ℕ) (d : Document) (plan : Plan) (certs : List Cert) (text : List ℕ) →
-    IsRead greatest_bare_size bytes d → budget ≤ 1000000 → IsProved (core_document d) budget plan certs →
+    IsAdmitted greatest_bare_size bytes d → budget ≤ 1000000 → IsProved (core_document d) budget plan certs →
     text ≡ text_with bytes d certs → IsFound bytes budget text
 found_of bytes budget d plan certs text read few proved e = record {
   document = d;
@@ -92,19 +95,19 @@ found_of bytes budget d plan certs text read few proved e = record {
       (found_accepted bytes budget d plan certs read few proved);
 }
 
-module _ (bytes : List ℕ) (budget : ℕ) (r : Reading) (plan : Plan) (certs : List Cert) (before text : List ℕ)
+module _ (bytes : List ℕ) (budget : ℕ) (r : AdmittedDocument) (plan : Plan) (certs : List Cert) (before text : List ℕ)
     (few : budget ≤ 1000000) (proved : IsProved r.core budget plan certs)
     (front_is : before ≡ front bytes r.document.certificates) (text_is : text ≡ before ++ 10 ∷ certificates_text certs)
   where
     whole_text : text ≡ text_with bytes r.document certs
     whole_text = text_is ∙ ap (λ t. t ++ 10 ∷ certificates_text certs) front_is
 
-    pub found_told : IsReadAs greatest_bare_size bytes r → IsFound bytes budget text
+    pub found_told : IsAdmittedAs greatest_bare_size bytes r → IsFound bytes budget text
     found_told is =
         found_of bytes budget r.document plan certs text is.read few
         (subst (λ c. IsProved c budget plan certs) is.core_is proved) whole_text
 
-    pub found_planned : IsReadAs greatest_bare_size bytes r → IsAccepted text (accepted_text r.core.words plan)
+    pub found_planned : IsAdmittedAs greatest_bare_size bytes r → IsAccepted text (accepted_text r.core.words plan)
     found_planned is =
         subst (λ t. IsAccepted t (accepted_text r.core.words plan)) (sym whole_text)
         (subst (λ (c : CDocument). IsAccepted (text_with bytes r.document certs) (accepted_text c.words plan))
@@ -112,8 +115,8 @@ module _ (bytes : List ℕ) (budget : ℕ) (r : Reading) (plan : Plan) (certs : 
         (subst (λ c. IsProved c budget plan certs) is.core_is proved)))
 
 -- the words of a document are those of its reading
-pub reading_plan : (input : Input) (r : Reading) {E : Type 0} (result : Result Found E) → input ≡ Input.Document r →
-    IfOk result (HasPlan r.core.words) → IfOk result (HasPlan (words_in input))
+pub reading_plan : (input : Input) (r : AdmittedDocument) {E : Type 0} (result : Result Found E) →
+    input ≡ Input.Document r → IfOk result (HasPlan r.core.words) → IfOk result (HasPlan (words_in input))
 reading_plan input r result e h = subst (λ i. IfOk result (HasPlan (words_in i))) (sym e) h
 
 pub bad_searched : (bytes : List ℕ) (budget : ℕ) (status : Status) (text meant : List ℕ) →

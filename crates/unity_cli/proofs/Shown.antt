@@ -8,12 +8,17 @@ use Rattle.ring_documents.specs.Rings.{ring_bytes}
 use Rattle.ring_documents.proofs.Lengths.{rings_have_lengths}
 use Rattle.command_words.specs.declared.words.Command.{Command}
 use Rattle.command_words.specs.Requests.{Request, check, demo, meant}
-use Rattle.unity_cli.specs.declared.judge.Answer.{Answer as Told}
-use Rattle.unity_cli.specs.declared.reading.Input.{Input}
+use Rattle.unity_cli.specs.declared.output.Answer.{Answer as Told}
+use Rattle.unity_cli.specs.declared.input.Input.{Input}
 use Rattle.unity_cli.specs.declared.status.Status.{Status}
 use Rattle.unity_cli.specs.Status.{HasText}
-use Rattle.unity_cli.specs.Answer.{greatest_bare_size, ring_budget, ring_line, reads_source, Answer, IsAccepted}
-use Rattle.unity_cli.specs.Answer.{Searched, Shown, Tells, TellsPart}
+use Rattle.unity_cli.specs.Admitted.{greatest_bare_size}
+use Rattle.unity_cli.specs.Answer.Check.{IsAccepted}
+use Rattle.unity_cli.specs.Answer.Demo.{ring_budget, ring_line}
+use Rattle.unity_cli.specs.Answer.{reads_source, Answer}
+use Rattle.unity_cli.specs.Answer.Prove.{Searched}
+use Rattle.unity_cli.specs.Answer.Demo.{Shown}
+use Rattle.unity_cli.specs.Answer.{Tells, TellsPart}
 use Rattle.unity_cli.specs.Answering.{ComesWith, Telling}
 use Rattle.unity_cli.specs.Input.{AreKept, IsInput}
 use Rattle.unity_cli.proofs.Told.{some_bytes}

@@ -45,19 +45,22 @@ use Rattle.answer_texts.specs.Verdicts.{accepted_text, rejected_text}
 use Rattle.command_words.specs.Requests.{Request, check, prove, run, replay, demo, request_of}
 use Rattle.command_words.proofs.Asking.{requests_are_asked}
 use Rattle.unity_cli.specs.declared.status.Status.{Status}
-use Rattle.unity_cli.specs.Answer.{greatest_size, greatest_bare_size, IsRead, IsBad, too_long, no_reading, Searched}
-use Rattle.unity_cli.specs.Answer.{ring_budget, ring_line}
-use Rattle.unity_cli.specs.Answer.{IsTrace, no_program, no_schedule, unknown}
-use Rattle.unity_cli.specs.Answer as answers
+use Rattle.unity_cli.specs.Admitted.{greatest_size, greatest_bare_size, IsAdmitted, IsBad, too_long, no_reading}
+use Rattle.unity_cli.specs.Answer.Prove.{Searched}
+use Rattle.unity_cli.specs.Answer.Demo.{ring_budget, ring_line}
+use Rattle.unity_cli.specs.Answer.Run.{IsTrace, no_program}
+use Rattle.unity_cli.specs.Answer.Replay.{no_schedule, unknown}
+use Rattle.unity_cli.specs.Answer.Run as runs
+use Rattle.unity_cli.specs.Answer.Replay as replays
 use Rattle.unity_cli.specs.Laws.{HasAnswer, IsLimited, LimitedHaveAnswer, SomeAnswer}
-use Rattle.unity_cli.specs.Reading.{of_text, of_document, document_fault}
+use Rattle.unity_cli.specs.WellFormed.{of_text, of_document, document_fault}
 use Rattle.unity_cli.proofs.Accepted.{read_core}
 use Rattle.unity_cli.proofs.Searched.{found_of}
 
 -- ---- readings
 
 abbrev ReadOrBad : ℕ → List ℕ → Type 0
-ReadOrBad most bytes = ((d : Document) × IsRead most bytes d) ⊎ ((text : List ℕ) × IsBad most bytes text)
+ReadOrBad most bytes = ((d : Document) × IsAdmitted most bytes d) ⊎ ((text : List ℕ) × IsBad most bytes text)
 
 -- a document that is well named and expands, or its first fault
 by_faults : (most : ℕ) (bytes : List ℕ) (d : Document) → length bytes ≤ most → IsDocument bytes d →
@@ -136,7 +139,7 @@ traced d name c p heading choices initial = (
   record { initial = initial; defined_is = refl; text_is = refl },
 )
 
-ran_core : (bytes name : List ℕ) (steps : ℕ) (d : Document) → IsRead greatest_size bytes d → (c : Composed)
+ran_core : (bytes name : List ℕ) (steps : ℕ) (d : Document) → IsAdmitted greatest_size bytes d → (c : Composed)
     (p : CProgram) → IsCoreOf d name c p → HasAnswer (Some (run name steps)) bytes
 ran_core bytes name steps d read c p is =
     by_start ((source_system d c).initial (first_state d p)) refl
@@ -160,7 +163,7 @@ ran_core bytes name steps d read c p is =
     by_start false e = (
       Status.BadDocument,
       refusal_text Code.NoStart,
-      answers.IsNotRun.no_start d read (record {
+      runs.IsNotRun.no_start d read (record {
         program = c;
         core = p;
         is_core = is;
@@ -169,7 +172,7 @@ ran_core bytes name steps d read c p is =
     )
 
 ran : (bytes name : List ℕ) (steps : ℕ) → ReadOrBad greatest_size bytes → HasAnswer (Some (run name steps)) bytes
-ran bytes name steps (inr (text, bad)) = (Status.BadDocument, text, answers.IsNotRun.bad bad)
+ran bytes name steps (inr (text, bad)) = (Status.BadDocument, text, runs.IsNotRun.bad bad)
 ran bytes name steps (inl (d, read)) = by_name (program_named name (programs_of d)) refl
   where
     by_core : (c : Composed) → (p : CProgram) × IsCoreOf d name c p → HasAnswer (Some (run name steps)) bytes
@@ -201,7 +204,7 @@ all_named c (i ∷ rest) e = by_place (place_of c i) refl (all_named c rest)
         let more = others (sym (ap found h) ∙ e) in
         (x ∷ more.0, ap (λ os. Some x ∷ os) more.1 ∙ ap (λ o. o ∷ map (place_of c) rest) (sym h))
 
-replayed_by : (bytes : List ℕ) (d : Document) → IsRead greatest_size bytes d → (s : Schedule) (c : Composed)
+replayed_by : (bytes : List ℕ) (d : Document) → IsAdmitted greatest_size bytes d → (s : Schedule) (c : Composed)
     (p : CProgram) (xs : List ℕ) → IsReplay d s c p xs → HasAnswer (Some replay) bytes
 replayed_by bytes d read s c p xs is = by_start ((source_system d c).initial (first_state d p)) refl
   where
@@ -222,7 +225,7 @@ replayed_by bytes d read s c p xs is = by_start ((source_system d c).initial (fi
     by_start false e = (
       Status.BadDocument,
       refusal_text Code.NoStart,
-      answers.IsNotReplayed.no_start d read (record {
+      replays.IsNotReplayed.no_start d read (record {
         schedule = s;
         program = c;
         core = p;
@@ -232,7 +235,7 @@ replayed_by bytes d read s c p xs is = by_start ((source_system d c).initial (fi
       }) refl,
     )
 
-scheduled : (bytes : List ℕ) (d : Document) → IsRead greatest_size bytes d → (p : CProgram) → HasSchedule d p →
+scheduled : (bytes : List ℕ) (d : Document) → IsAdmitted greatest_size bytes d → (p : CProgram) → HasSchedule d p →
     HasAnswer (Some replay) bytes
 scheduled bytes d read p h = by_choice (find (λ i. is_none (place_of h.program i)) (some_of h.schedule.choices)) refl
   where
@@ -257,7 +260,7 @@ scheduled bytes d read p h = by_choice (find (λ i. is_none (place_of h.program 
     )
 
 replayed : (bytes : List ℕ) → ReadOrBad greatest_size bytes → HasAnswer (Some replay) bytes
-replayed bytes (inr (text, bad)) = (Status.BadDocument, text, answers.IsNotReplayed.bad bad)
+replayed bytes (inr (text, bad)) = (Status.BadDocument, text, replays.IsNotReplayed.bad bad)
 replayed bytes (inl (d, read)) = by_program (scheduled_program (core_document d)) refl
   where
     by_program : (o : Option CProgram) → scheduled_program (core_document d) ≡ o → HasAnswer (Some replay) bytes

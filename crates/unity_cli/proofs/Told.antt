@@ -1,6 +1,7 @@
 -- What is told is an answer.
-use Rattle.std.proofs.Common.{◌≡◌, ◌<◌, ◌≤◌, ℕ, List, [], length, replicate, suc, Bool, true, false, Option}
-use Rattle.std.proofs.Common.{Some, None, Result, Ok, Err, IfOk, IsErr, IsErrOf, refl, sym, ◌∙◌, subst, arith, codes, ◌++◌}
+use Rattle.std.proofs.Common.{◌≡◌, ◌↔◌, ◌<◌, ◌≤◌, ℕ, List, [], length, replicate, suc, Bool, true, false, Option}
+use Rattle.std.proofs.Common.{Some, None, Result, Ok, Err, IfOk, IsErr, IsErrOf, refl, sym, ◌∙◌, subst, arith, codes}
+use Rattle.std.proofs.Common.{◌++◌}
 use Rattle.std.proofs.Common.{◌∷◌}
 use Rattle.std.proofs.lemmas.List.{length-replicate}
 use Rattle.std.specs.Io.KnownBytes.{Appends}
@@ -29,24 +30,34 @@ use Rattle.proof_script.specs.Giving.{AreWhole}
 use Rattle.written_certificates.specs.Certificates.{certificates_of}
 use Rattle.command_words.specs.Requests.{Request, check, run, replay}
 use Rattle.unity_cli.specs.declared.status.Status.{Status}
-use Rattle.unity_cli.specs.declared.judge.Answer.{Answer as Answered}
+use Rattle.unity_cli.specs.declared.output.Answer.{Answer as Answered}
 use Rattle.unity_cli.specs.declared.stop.Stop.{Stop}
-use Rattle.unity_cli.specs.declared.reading.Input.{Input}
-use Rattle.unity_cli.specs.declared.reading.Reading.{Reading}
-use Rattle.unity_cli.specs.declared.reading.Text.{Text}
+use Rattle.unity_cli.specs.declared.input.Input.{Input}
+use Rattle.unity_cli.specs.declared.input.AdmittedDocument.{AdmittedDocument}
+use Rattle.unity_cli.specs.declared.input.Text.{Text}
 use Rattle.unity_cli.specs.Status.{HasText}
 use Rattle.unity_cli.specs.Stop.{stop_status}
-use Rattle.unity_cli.specs.Answer.{greatest_size, most_bytes, IsRead, IsBad, IsTrace, IsRun, HasNoStart, Ran}
-use Rattle.unity_cli.specs.Answer.{IsReplayed}
-use Rattle.unity_cli.specs.Answer.{HasNoReplay, Replayed, Answer, IsAnswer, Checked, Searched, IsAccepted, Tells}
+use Rattle.unity_cli.specs.Admitted.{greatest_size, IsAdmitted, IsBad}
+use Rattle.unity_cli.specs.Answer.Run.{IsRun, Ran}
+use Rattle.unity_cli.specs.Answer.{most_bytes}
+use Rattle.unity_cli.specs.Answer.Replay.{IsReplayed}
+use Rattle.unity_cli.specs.Answer.Check.{Checked, IsAccepted}
+use Rattle.unity_cli.specs.Answer.Prove.{Searched}
+use Rattle.unity_cli.specs.Answer.Replay.{Replayed}
+use Rattle.unity_cli.specs.Answer.{Answer, IsAnswer, Tells}
 use Rattle.unity_cli.specs.Answer.{TellsPart}
-use Rattle.unity_cli.specs.Reading.{IsReading}
+use Rattle.unity_parser.specs.Document.{IsDocument}
 use Rattle.unity_cli.specs.Truth.{ClaimsAreTrue, ProgramsRun, WritesWhatIsTrue}
-use Rattle.unity_cli.specs.Answer as answers
-use Rattle.unity_cli.specs.Input.{AreKept, IsReadAs, IsInput, IsText, IsTextOf, IsSomeReading}
-use Rattle.unity_cli.specs.Answering.{Telling, TellsReading, TellsText, TellsBad, EndsAs, IsVerdictOn}
-use Rattle.unity_cli.proofs.Accepted.{read_core, read_whole, accepted_true, accepted_runs}
-use Rattle.unity_cli.proofs.Accepted.{accepted_tells_true}
+use Rattle.unity_cli.specs.Starts.{ProgramsStart}
+use Rattle.unity_cli.specs.Following.{FollowsTheRules}
+use Rattle.unity_cli.specs.Admitted as admitted
+use Rattle.unity_cli.specs.Answer.Run as runs
+use Rattle.unity_cli.specs.Answer.Replay as replays
+use Rattle.unity_cli.specs.Input.{AreKept, IsAdmittedAs, IsInput, IsText, IsTextOf, IsSomeAdmitted}
+use Rattle.unity_cli.specs.Answering.{Telling, TellsAdmitted, TellsText, TellsBad, EndsAs, IsVerdictOn}
+use Rattle.unity_cli.proofs.Accepted.{read_core, read_whole, accepted_true, accepted_runs, accepted_starts}
+use Rattle.unity_cli.proofs.Accepted.{accepted_tells_true, accepted_follow, followed_accepts}
+use Rattle.unity_cli.proofs.OneAnswers.{one_checked}
 
 -- ---- bytes
 
@@ -76,14 +87,15 @@ longer most (Some xs) h t e = record { bytes = xs; were = refl; text_is = too_ma
 
 -- ---- what was read
 
-pub sound_core : (most : ℕ) → most ≤ greatest_size → (r : Reading) → IsSomeReading most r → IsCoreDocument r.core
+pub sound_core : (most : ℕ) → most ≤ greatest_size → (r : AdmittedDocument) → IsSomeAdmitted most r →
+    IsCoreDocument r.core
 sound_core most few r h = subst IsCoreDocument (sym h.1.core_is) (read_core most few h.0 r.document h.1.read)
 
-pub sound_certificates : (r : Reading) → IsSomeReading greatest_size r → AreWhole (certificates_of r.document)
+pub sound_certificates : (r : AdmittedDocument) → IsSomeAdmitted greatest_size r → AreWhole (certificates_of r.document)
 sound_certificates r h = read_whole greatest_size h.0 r.document h.1.read
 
 -- the verdict on what was read is what `check` answers
-verdict_checked : (bytes : List ℕ) (r : Reading) → IsReadAs greatest_size bytes r → (certs : List Cert) →
+verdict_checked : (bytes : List ℕ) (r : AdmittedDocument) → IsAdmittedAs greatest_size bytes r → (certs : List Cert) →
     certs ≡ certificates_of r.document → (status : Status) (text : List ℕ) → IsVerdictOn r.core certs status text →
     Checked bytes status text
 verdict_checked bytes r is certs e status text v =
@@ -99,9 +111,9 @@ verdict_checked bytes r is certs e status text v =
         record { document = r.document; read = is.read; fault = v.0; verdict = v.1; text_is = v.2 }
     checked other v = absurd v
 
-pub verdicts_checked : {E : Type 0} (r : Reading) (certs : List Cert) → certs ≡ certificates_of r.document →
+pub verdicts_checked : {E : Type 0} (r : AdmittedDocument) (certs : List Cert) → certs ≡ certificates_of r.document →
     (answer : Result Answered E) → IfOk answer (λ a. IsVerdictOn r.core certs a.status a.text.items) →
-    IfOk answer (λ a. (bytes : List ℕ) → IsReadAs greatest_size bytes r → Checked bytes a.status a.text.items)
+    IfOk answer (λ a. (bytes : List ℕ) → IsAdmittedAs greatest_size bytes r → Checked bytes a.status a.text.items)
 verdicts_checked r certs e (Ok a) v = λ bytes is. verdict_checked bytes r is certs e a.status a.text.items v
 verdicts_checked r certs e (Err x) v = tt
 
@@ -170,14 +182,14 @@ run_trace d name steps c p = program_trace d name c Heading.Run (first_state d p
 abbrev replay_trace : Document → Schedule → Composed → CProgram → List ℕ → List ℕ
 replay_trace d s c p choices = program_trace d s.program.text c Heading.Replay (first_state d p) choices
 
-ran_so : (bytes name : List ℕ) (steps : ℕ) (d : Document) (defined : Bool) (text : List ℕ) → IsRead greatest_size
+ran_so : (bytes name : List ℕ) (steps : ℕ) (d : Document) (defined : Bool) (text : List ℕ) → IsAdmitted greatest_size
     bytes d →
     IsRun d name steps defined text → Ran bytes name steps (status_for defined) text
 unfolding status_for
 ran_so bytes name steps d true text r t = (d, r, t)
 ran_so bytes name steps d false text r t = (d, r, t)
 
-run_told : (bytes name : List ℕ) (steps : ℕ) (d : Document) → IsRead greatest_size bytes d → (old mid new : Option
+run_told : (bytes name : List ℕ) (steps : ℕ) (d : Document) → IsAdmitted greatest_size bytes d → (old mid new : Option
     (List ℕ))
     (ended : Result Stepped RunError) (status : Status) → Runs d name steps old mid ended →
     EndsAs ended mid new status → Telling (run name steps) bytes old new status
@@ -211,12 +223,12 @@ run_told bytes name steps d r old mid new (Ok Stepped.Undefined) status h e =
     (subst (λ n. Appends old n (run_trace d name steps h.0 h.1)) (sym e.1) h.3.whole) (λ w. cc)
 run_told bytes name steps d r old mid new (Err RunError.NoProgram) status h e =
     bad_told (run name steps) bytes old mid new status (refusal_text Code.NoProgram)
-    (answers.IsNotRun.no_program d r h.0 refl) h.1 e
+    (runs.IsNotRun.no_program d r h.0 refl) h.1 e
 run_told bytes name steps d r old mid new (Err RunError.NoSchedule) status h e = absurd h
 run_told bytes name steps d r old mid new (Err (RunError.NoSuchStatement at)) status h e = absurd h
 run_told bytes name steps d r old mid new (Err RunError.NotInitial) status h e =
     bad_told (run name steps) bytes old mid new status (refusal_text Code.NoStart)
-    (answers.IsNotRun.no_start d r (record {
+    (runs.IsNotRun.no_start d r (record {
       program = h.0;
       core = h.1;
       is_core = h.2;
@@ -239,9 +251,9 @@ run_told bytes name steps d r old mid new (Err RunError.Failed) status h e =
 run_told bytes name steps d r old mid new (Err RunError.Memory) status h e =
     none_told (run name steps) bytes old new status e.0
 
-pub run_answered : (r : Reading) (name : List ℕ) (steps : ℕ) (old mid new : Option (List ℕ))
+pub run_answered : (r : AdmittedDocument) (name : List ℕ) (steps : ℕ) (old mid new : Option (List ℕ))
     (ended : Result Stepped RunError) (status : Status) → CoreRuns r.core name steps old mid ended →
-    EndsAs ended mid new status → TellsReading (run name steps) r old new status
+    EndsAs ended mid new status → TellsAdmitted (run name steps) r old new status
 run_answered r name steps old mid new ended status h e bytes is =
     run_told bytes name steps r.document is.read old mid new ended status
     (runs_say r.document name steps old mid ended is.read.reading.named is.read.reading.expands
@@ -250,13 +262,13 @@ run_answered r name steps old mid new ended status h e bytes is =
 
 -- ---- replay
 
-replayed_so : (bytes : List ℕ) (d : Document) (defined : Bool) (text : List ℕ) → IsRead greatest_size bytes d →
+replayed_so : (bytes : List ℕ) (d : Document) (defined : Bool) (text : List ℕ) → IsAdmitted greatest_size bytes d →
     IsReplayed d defined text → Replayed bytes (status_for defined) text
 unfolding status_for
 replayed_so bytes d true text r t = (d, r, t)
 replayed_so bytes d false text r t = (d, r, t)
 
-replay_told : (bytes : List ℕ) (d : Document) → IsRead greatest_size bytes d → (old mid new : Option (List ℕ))
+replay_told : (bytes : List ℕ) (d : Document) → IsAdmitted greatest_size bytes d → (old mid new : Option (List ℕ))
     (ended : Result Stepped RunError) (status : Status) → Replays d old mid ended → EndsAs ended mid new status →
     Telling replay bytes old new status
 replay_told bytes d r old mid new (Ok Stepped.Done) status h e =
@@ -294,13 +306,13 @@ replay_told bytes d r old mid new (Ok Stepped.Undefined) status h e =
 replay_told bytes d r old mid new (Err RunError.NoProgram) status h e = absurd h
 replay_told bytes d r old mid new (Err RunError.NoSchedule) status h e =
     bad_told replay bytes old mid new status (refusal_text Code.NoSchedule)
-    (answers.IsNotReplayed.no_schedule d r h.0 refl) h.1 e
+    (replays.IsNotReplayed.no_schedule d r h.0 refl) h.1 e
 replay_told bytes d r old mid new (Err (RunError.NoSuchStatement at)) status h e =
     bad_told replay bytes old mid new status (fault_text Code.NoSuchStatement at)
-    (answers.IsNotReplayed.unknown d at r h.0 refl) h.1 e
+    (replays.IsNotReplayed.unknown d at r h.0 refl) h.1 e
 replay_told bytes d r old mid new (Err RunError.NotInitial) status h e =
     bad_told replay bytes old mid new status (refusal_text Code.NoStart)
-    (answers.IsNotReplayed.no_start d r (record {
+    (replays.IsNotReplayed.no_start d r (record {
       schedule = h.0;
       program = h.1;
       core = h.2;
@@ -326,9 +338,9 @@ replay_told bytes d r old mid new (Err RunError.Failed) status h e =
     })) h.5.1 e.1 e.0
 replay_told bytes d r old mid new (Err RunError.Memory) status h e = none_told replay bytes old new status e.0
 
-pub replay_answered : (r : Reading) (old mid new : Option (List ℕ)) (ended : Result Stepped RunError)
+pub replay_answered : (r : AdmittedDocument) (old mid new : Option (List ℕ)) (ended : Result Stepped RunError)
     (status : Status) → CoreReplays r.core old mid ended → EndsAs ended mid new status →
-    TellsReading replay r old new status
+    TellsAdmitted replay r old new status
 replay_answered r old mid new ended status h e bytes is =
     replay_told bytes r.document is.read old mid new ended status
     (replays_say r.document old mid ended is.read.reading.named is.read.reading.expands
@@ -361,13 +373,13 @@ stopped_writing Stop.Memory e = cc
 
 pub too_long_bad : (most : ℕ) (bytes : List ℕ) (input : Input) → input ≡ Input.TooLong → IsInput most bytes input →
     IsBad most bytes (refusal_text Code.TooLong)
-too_long_bad most bytes input e h = answers.IsBad.too_long (subst (IsInput most bytes) e h) refl
+too_long_bad most bytes input e h = admitted.IsBad.too_long (subst (IsInput most bytes) e h) refl
 
 pub fault_bad : (most : ℕ) (bytes : List ℕ) (input : Input) (code : Code) (at : ℕ) → input ≡ Input.Fault code at →
     IsInput most bytes input → IsBad most bytes (fault_text code at)
 fault_bad most bytes input code at e h =
     let f = subst (IsInput most bytes) e h in
-    answers.IsBad.no_reading code at f.0 f.1 refl
+    admitted.IsBad.no_reading code at f.0 f.1 refl
 
 -- ---- commands that ended early
 
@@ -487,28 +499,56 @@ left_bytes (Some ys) xs bytes w e = let same : ys ≡ bytes = cc in sym same ∙
 pub done_claims : (asked : Option Request) (request : Request) (left : Option (List ℕ)) (t : Text)
     (old new : Option (List ℕ)) (status : Status) → asked ≡ Some request → IsTextOf (most_bytes (Some request)) left t →
     TellsText request t old new status → status ≡ Status.Done → asked ≡ Some check → (bytes : List ℕ)
-    (d : Document) → left ≡ Some bytes → IsReading bytes d → ClaimsAreTrue d
+    (d : Document) → left ≡ Some bytes → IsDocument bytes d → ClaimsAreTrue d
 done_claims asked request left t old new status e i tells done is_check bytes d was r =
     let a = accepted_writes asked request left t old new status e i tells done is_check in
-    accepted_true i.bytes a.0 d a.1 (subst (λ b. IsReading b d) (left_bytes left i.bytes bytes i.were was) r)
+    accepted_true i.bytes a.0 d a.1 (subst (λ b. IsDocument b d) (left_bytes left i.bytes bytes i.were was) r)
 
 pub done_runs : (asked : Option Request) (request : Request) (left : Option (List ℕ)) (t : Text)
     (old new : Option (List ℕ)) (status : Status) → asked ≡ Some request → IsTextOf (most_bytes (Some request)) left t →
     TellsText request t old new status → status ≡ Status.Done → asked ≡ Some check → (bytes : List ℕ)
-    (d : Document) → left ≡ Some bytes → IsReading bytes d → ProgramsRun d
+    (d : Document) → left ≡ Some bytes → IsDocument bytes d → ProgramsRun d
 done_runs asked request left t old new status e i tells done is_check bytes d was r =
     let a = accepted_writes asked request left t old new status e i tells done is_check in
-    accepted_runs i.bytes a.0 d a.1 (subst (λ b. IsReading b d) (left_bytes left i.bytes bytes i.were was) r)
+    accepted_runs i.bytes a.0 d a.1 (subst (λ b. IsDocument b d) (left_bytes left i.bytes bytes i.were was) r)
 
 pub done_tells : (asked : Option Request) (request : Request) (left : Option (List ℕ)) (t : Text)
     (old new : Option (List ℕ)) (status : Status) → asked ≡ Some request → IsTextOf (most_bytes (Some request)) left t →
     TellsText request t old new status → status ≡ Status.Done → asked ≡ Some check → (bytes : List ℕ)
-    (d : Document) → left ≡ Some bytes → IsReading bytes d → WritesWhatIsTrue d old new
+    (d : Document) → left ≡ Some bytes → IsDocument bytes d → WritesWhatIsTrue d old new
 done_tells asked request left t old new status e i tells done is_check bytes d was r =
     let a = accepted_writes asked request left t old new status e i tells done is_check in
     record {
       text = a.0;
       tells = accepted_tells_true i.bytes a.0 d a.1
-          (subst (λ b. IsReading b d) (left_bytes left i.bytes bytes i.were was) r);
+          (subst (λ b. IsDocument b d) (left_bytes left i.bytes bytes i.were was) r);
       appends = a.2;
     }
+
+pub done_starts : (asked : Option Request) (request : Request) (left : Option (List ℕ)) (t : Text)
+    (old new : Option (List ℕ)) (status : Status) → asked ≡ Some request → IsTextOf (most_bytes (Some request)) left t →
+    TellsText request t old new status → status ≡ Status.Done → asked ≡ Some check → (bytes : List ℕ)
+    (d : Document) → left ≡ Some bytes → IsDocument bytes d → ProgramsStart d
+done_starts asked request left t old new status e i tells done is_check bytes d was r =
+    let a = accepted_writes asked request left t old new status e i tells done is_check in
+    accepted_starts i.bytes a.0 d a.1 (subst (λ b. IsDocument b d) (left_bytes left i.bytes bytes i.were was) r)
+
+-- what `check` answers is that it accepts exactly where the proofs follow
+checked_follows : (bytes : List ℕ) (status : Status) (text : List ℕ) → Checked bytes status text →
+    (status ≡ Status.Done) ↔ FollowsTheRules bytes
+checked_follows bytes status text c = (
+  λ done. accepted_follow bytes text (subst (λ s. Checked bytes s text) done c),
+  λ f. let a = followed_accepts bytes f in (one_checked bytes status Status.Done text a.0 c a.1).0,
+)
+
+pub text_follows : (asked : Option Request) (request : Request) (left : Option (List ℕ)) (t : Text)
+    (old new : Option (List ℕ)) (status : Status) → asked ≡ Some request → IsTextOf (most_bytes (Some request)) left t →
+    TellsText request t old new status → HasText status → asked ≡ Some check → (bytes : List ℕ) →
+    left ≡ Some bytes → (status ≡ Status.Done) ↔ FollowsTheRules bytes
+text_follows asked request left t old new status e i tells has is_check bytes was =
+    let told = (tells i.bytes i.text_is).whole has in
+    let somes : ◌≡◌ {A = Option Request} (Some request) (Some check) = sym e ∙ is_check in
+    let same : request ≡ check = cc in
+    checked_follows bytes status told.0
+    (subst (λ b. Checked b status told.0) (sym (left_bytes left i.bytes bytes i.were was))
+    (subst (λ r. Answer (Some r) i.bytes status told.0) same told.1))

@@ -13,16 +13,18 @@ use Rattle.proof_script.specs.Verdicts.{verdict_of}
 use Rattle.answer_texts.specs.Refusals.{fault_text, refusal_text}
 use Rattle.answer_texts.specs.Verdicts.{accepted_text, rejected_text}
 use Rattle.command_words.specs.Requests.{Request}
-use Rattle.unity_cli.specs.declared.reading.Input.{Input}
-use Rattle.unity_cli.specs.declared.reading.Reading.{Reading}
-use Rattle.unity_cli.specs.declared.reading.Text.{Text}
-use Rattle.unity_cli.specs.declared.judge.Answer.{Answer as Told}
-use Rattle.unity_cli.specs.declared.finding.Found.{Found}
+use Rattle.unity_cli.specs.declared.input.Input.{Input}
+use Rattle.unity_cli.specs.declared.input.AdmittedDocument.{AdmittedDocument}
+use Rattle.unity_cli.specs.declared.input.Text.{Text}
+use Rattle.unity_cli.specs.declared.output.Answer.{Answer as Told}
+use Rattle.unity_cli.specs.declared.prove.Found.{Found}
 use Rattle.unity_cli.specs.declared.status.Status.{Status}
 use Rattle.unity_cli.specs.Status.{HasText}
-use Rattle.unity_cli.specs.Answer.{greatest_size, greatest_bare_size, most_bytes, Answer, Checked, IsAccepted}
-use Rattle.unity_cli.specs.Answer.{Searched}
-use Rattle.unity_cli.specs.Input.{AreKept, IsInput, IsReadAs, IsText}
+use Rattle.unity_cli.specs.Admitted.{greatest_size, greatest_bare_size}
+use Rattle.unity_cli.specs.Answer.Check.{Checked, IsAccepted}
+use Rattle.unity_cli.specs.Answer.{most_bytes, Answer}
+use Rattle.unity_cli.specs.Answer.Prove.{Searched}
+use Rattle.unity_cli.specs.Input.{AreKept, IsInput, IsAdmittedAs, IsText}
 
 -- the status and the text are what `check` answers
 abbrev pub IsCheckedFor : Input → Told → Type 0
@@ -34,8 +36,8 @@ IsSearchedFor budget kept input a = (bytes : List ℕ) → IsInput greatest_bare
     AreKept input kept bytes → Searched bytes budget a.status a.text.items
 
 -- of a document
-abbrev pub IsSearchedIn : ℕ → List ℕ → Reading → Told → Type 0
-IsSearchedIn budget bytes r a = IsReadAs greatest_bare_size bytes r → Searched bytes budget a.status a.text.items
+abbrev pub IsSearchedIn : ℕ → List ℕ → AdmittedDocument → Told → Type 0
+IsSearchedIn budget bytes r a = IsAdmittedAs greatest_bare_size bytes r → Searched bytes budget a.status a.text.items
 
 -- a plan comes where certificates were found, and there alone: `check` writes it of the text with them
 abbrev pub ComesWith : List (List ℕ) → Told → Option Plan → Type 0
@@ -60,9 +62,9 @@ abbrev pub TellsText : Request → Text → Option (List ℕ) → Option (List �
 TellsText request t old new status =
     (bytes : List ℕ) → IsText (most_bytes (Some request)) bytes t → Telling request bytes old new status
 
-abbrev pub TellsReading : Request → Reading → Option (List ℕ) → Option (List ℕ) → Status → Type 0
-TellsReading request r old new status =
-    (bytes : List ℕ) → IsReadAs (most_bytes (Some request)) bytes r → Telling request bytes old new status
+abbrev pub TellsAdmitted : Request → AdmittedDocument → Option (List ℕ) → Option (List ℕ) → Status → Type 0
+TellsAdmitted request r old new status =
+    (bytes : List ℕ) → IsAdmittedAs (most_bytes (Some request)) bytes r → Telling request bytes old new status
 
 -- why something cannot be used was told whole, or a front part of it, or nothing for want of memory
 pub record TellsBad (text : List ℕ) (old new : Option (List ℕ)) (status : Status) : Type 0 where

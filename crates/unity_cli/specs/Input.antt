@@ -2,22 +2,22 @@
 use Rattle.std.specs.Prelude.{◌≡◌, ◌<◌, ◌≤◌, ℕ, List, [], length, Option}
 use Rattle.unity_base.specs.Streams.{Was}
 use Rattle.core_documents.specs.Cores.{core_document}
-use Rattle.unity_cli.specs.declared.reading.Input.{Input}
-use Rattle.unity_cli.specs.declared.reading.Reading.{Reading}
-use Rattle.unity_cli.specs.declared.reading.Text.{Text}
-use Rattle.unity_cli.specs.Reading.{IsFirstFault}
-use Rattle.unity_cli.specs.Answer.{IsRead}
+use Rattle.unity_cli.specs.declared.input.Input.{Input}
+use Rattle.unity_cli.specs.declared.input.AdmittedDocument.{AdmittedDocument}
+use Rattle.unity_cli.specs.declared.input.Text.{Text}
+use Rattle.unity_cli.specs.WellFormed.{IsFirstFault}
+use Rattle.unity_cli.specs.Admitted.{IsAdmitted}
 
 -- the bytes are this document, with its core form
-pub record IsReadAs (most : ℕ) (bytes : List ℕ) (r : Reading) : Type 0 where
-  pub read : IsRead most bytes r.document
+pub record IsAdmittedAs (most : ℕ) (bytes : List ℕ) (r : AdmittedDocument) : Type 0 where
+  pub read : IsAdmitted most bytes r.document
   pub core_is : r.core ≡ core_document r.document
 
 -- what the bytes are: more than so many, or no document, or a document
 abbrev pub IsInput : ℕ → List ℕ → Input → Type 0
 IsInput most bytes Input.TooLong = most < length bytes
 IsInput most bytes (Input.Fault code at) = (length bytes ≤ most) × IsFirstFault bytes code at
-IsInput most bytes (Input.Document r) = IsReadAs most bytes r
+IsInput most bytes (Input.Document r) = IsAdmittedAs most bytes r
 
 -- the words of a document's core form
 abbrev pub words_in : Input → List (List ℕ)
@@ -44,8 +44,8 @@ pub record IsTextOf (most : ℕ) (left : Option (List ℕ)) (t : Text) : Type 0 
 abbrev pub IsSomeInput : ℕ → Input → Type 0
 IsSomeInput most input = (bytes : List ℕ) × IsInput most bytes input
 
-abbrev pub IsSomeReading : ℕ → Reading → Type 0
-IsSomeReading most r = (bytes : List ℕ) × IsReadAs most bytes r
+abbrev pub IsSomeAdmitted : ℕ → AdmittedDocument → Type 0
+IsSomeAdmitted most r = (bytes : List ℕ) × IsAdmittedAs most bytes r
 
 abbrev pub IsSomeText : ℕ → Text → Type 0
 IsSomeText most t = (bytes : List ℕ) × IsText most bytes t

@@ -1,8 +1,11 @@
-pub mod Reading
+pub mod WellFormed
+pub mod Admitted
 pub mod Status
 pub mod Stop
 pub mod Answer
 pub mod Input
 pub mod Answering
 pub mod Truth
+pub mod Starts
+pub mod Following
 pub mod Laws

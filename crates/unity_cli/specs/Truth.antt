@@ -1,13 +1,15 @@
 -- What an accepted document means.
-use Rattle.std.specs.Prelude.{◌≡◌, ℕ, List, Option, Some, slice_get}
+use Rattle.std.specs.Prelude.{◌≡◌, ℕ, List, Option, Some, IsTrue, slice_get}
 use Rattle.std.specs.Io.KnownBytes.{Appends}
+use Rattle.state_steps.specs.State.{State}
 use Rattle.unity_syntax.specs.declared.document.Document.{Document}
 use Rattle.unity_syntax.specs.declared.document.Part.{Part}
 use Rattle.unity_syntax.specs.declared.proof.Proof.{Proof}
+use Rattle.unity_meaning.specs.Programs.{Composed, program_named, programs_of, document_setting}
+use Rattle.unity_meaning.specs.Execution.{system_of, EveryChoiceRuns}
 use Rattle.unity_meaning.specs.Claims.{Claims}
-use Rattle.core_meaning.specs.Claims.{EachStep}
+use Rattle.unity_meaning.specs.Steps.{EachStep}
 use Rattle.told_claims.specs.Told.{TellsClaims}
-use Rattle.proved_properties.specs.Executions.{HasExecutions}
 
 -- what each step of each proof claims is true of its program, a leads-to within some bound
 abbrev pub ClaimsAreTrue : Document → Type 0
@@ -20,7 +22,16 @@ pub record WritesWhatIsTrue (d : Document) (old new : Option (List ℕ)) : Type 
   pub tells : TellsClaims d text
   pub appends : Appends old new text
 
--- the program of each proof has an execution for each list of choices
+-- the document's program with this name has an initial state, and every list of choices of its instances, from each
+-- initial state, is that of an execution
+pub record HasRuns (d : Document) (name : List ℕ) : Type 0 where
+  pub program : Composed
+  pub named : program_named name (programs_of d) ≡ Some program
+  pub first : State
+  pub initial : IsTrue ((system_of (document_setting d) program).initial first)
+  pub runs : EveryChoiceRuns (system_of (document_setting d) program)
+
+-- the program of each proof does
 abbrev pub ProgramsRun : Document → Type 0
 ProgramsRun d = (place at : ℕ) (proof : Proof) → slice_get d.parts place ≡ Some (Part.Proof at proof) →
-    HasExecutions d proof.program.text
+    HasRuns d proof.program.text

@@ -1,18 +1,18 @@
 // Answering a command.
-ghost use Rattle.std.specs.Prelude.{◌≡◌, ◌≤◌, ℕ, List, Some};
+ghost use Rattle.std.specs.Prelude.{◌≡◌, Some};
 ghost use Rattle.unity_base.specs.Streams.{IsTold};
-ghost use Rattle.command_words.specs.Requests.{HasLimits, check, prove, meant};
+ghost use Rattle.command_words.specs.Requests.{HasLimits, meant};
 ghost use Rattle.unity_cli.specs.Answer as answers;
-ghost use Rattle.unity_cli.specs.Answering.{Telling, TellsInput, TellsText};
-ghost use Rattle.unity_cli.specs.Input.{AreKept, IsInput, IsSomeInput, IsSomeText};
+ghost use Rattle.unity_cli.specs.Answering.{TellsText};
+ghost use Rattle.unity_cli.specs.Input.{IsSomeText};
 
-use crate::finding::find;
-use crate::judge::judge;
-use crate::reading::{Input, Text};
-use crate::running::{write_replay, write_run};
-use crate::showing::write_demo;
+use crate::check::write_verdict;
+use crate::demo::write_demo;
+use crate::input::{Input, Text};
+use crate::prove::write_finding;
+use crate::replay::write_replay;
+use crate::run::write_run;
 use crate::status::Status;
-use crate::telling::write_answer;
 use command_words::Command;
 use std::alloc::Global;
 use unity_base::Sink;
@@ -63,42 +63,4 @@ fn input_of(text: Text) -> Input
         input,
     } = text;
     input
-}
-
-// Writes what `check` answers for the input.
-fn write_verdict<K: Sink>(alloc: Global, input: Input, out: &mut K) -> Status
-    requires { IsSomeInput answers.greatest_size input }
-    ensures told { TellsInput check input (K.written out.old) (K.written out.new) result }
-    ensures nothing { result ≡ Status.WantOfMemory → out.new ≡ out.old }
-    ensures never { result ≡ Status.ReadFault → ⊥ }
-    ensures cause { IsTold (K.faults out.old) (K.faults out.new) (result ≡ Status.WriteFault) }
-{
-    match judge(alloc, input) {
-        Ok(answer) => write_answer(&answer, out),
-        Err(_) => Status::WantOfMemory,
-    }
-}
-
-// Writes what `prove` answers for the input, with its bytes where it is a document.
-fn write_finding<K: Sink>(
-    alloc: Global,
-    budget: u64,
-    kept: &[u8],
-    input: &Input,
-    out: &mut K,
-) -> Status
-    requires input { (bytes : List ℕ) × IsInput answers.greatest_bare_size bytes input.now
-        × AreKept input.now kept.now bytes }
-    requires budget { budget ≤ 1000000 }
-    ensures told { (bytes : List ℕ) → IsInput answers.greatest_bare_size bytes input.now →
-        AreKept input.now kept.now bytes →
-        Telling (prove budget) bytes (K.written out.old) (K.written out.new) result }
-    ensures nothing { result ≡ Status.WantOfMemory → out.new ≡ out.old }
-    ensures never { result ≡ Status.ReadFault → ⊥ }
-    ensures cause { IsTold (K.faults out.old) (K.faults out.new) (result ≡ Status.WriteFault) }
-{
-    match find(alloc, budget, kept, input) {
-        Ok(found) => write_answer(&found.answer, out),
-        Err(_) => Status::WantOfMemory,
-    }
 }

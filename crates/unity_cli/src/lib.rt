@@ -1,16 +1,17 @@
 //! The program's one call: words and bytes in, a status and a text out.
 #![tactic(auto)]
 
+mod check;
 mod commands;
-mod finding;
-mod judge;
+mod demo;
+mod input;
 mod laws;
-mod reading;
-mod running;
-mod showing;
+mod output;
+mod prove;
+mod replay;
+mod run;
 mod status;
 mod stop;
-mod telling;
 mod top;
 
 pub use laws::one_answer;

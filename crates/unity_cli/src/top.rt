@@ -1,17 +1,19 @@
 // The top call.
-ghost use Rattle.std.specs.Prelude.{◌≡◌, ◌≢◌, ◌⊎◌, ℕ, List, Some, true, false};
+ghost use Rattle.std.specs.Prelude.{◌≡◌, ◌≢◌, ◌⊎◌, ◌↔◌, ℕ, List, Some, true, false};
 ghost use Rattle.std.specs.Io.KnownBytes.{IsAtEnd};
 ghost use Rattle.unity_base.specs.Streams.{IsTold, IsLongerThan, LeavesRest};
 ghost use Rattle.unity_syntax.specs.declared.document.Document.{Document};
+ghost use Rattle.unity_parser.specs.Document.{IsDocument};
 ghost use Rattle.command_words.specs.Requests.{asked, check};
 ghost use Rattle.unity_cli.specs.Status.{HasText};
-ghost use Rattle.unity_cli.specs.Reading.{IsReading};
 ghost use Rattle.unity_cli.specs.Answer.{most_bytes, reads_source, Tells, TellsPart};
 ghost use Rattle.unity_cli.specs.Truth.{ClaimsAreTrue, ProgramsRun, WritesWhatIsTrue};
+ghost use Rattle.unity_cli.specs.Starts.{ProgramsStart};
+ghost use Rattle.unity_cli.specs.Following.{FollowsTheRules};
 
 use crate::commands::{most_bytes, write_command};
-use crate::reading::read_input;
-use crate::showing::write_demo;
+use crate::demo::write_demo;
+use crate::input::read_input;
 use crate::status::Status;
 use command_words::{Command, read_words};
 use std::alloc::Global;
@@ -31,15 +33,21 @@ pub fn unity<S: Source, K: Sink>(
         TellsPart (asked words.now) (S.left src.old) (K.written out.old) (K.written out.new) }
     ensures nothing { (result ≡ Status.ReadFault) ⊎ (result ≡ Status.WantOfMemory) → out.new ≡ out.old }
 
+    // A document is accepted exactly where its proofs follow the rules.
+    ensures follows { HasText result → asked words.now ≡ Some check → (bytes : List ℕ) →
+        S.left src.old ≡ Some bytes → (result ≡ Status.Done) ↔ FollowsTheRules bytes }
+
     // What the proofs of an accepted document claim is true, each leads-to within the bound that is written; and their
-    // programs have executions.
+    // programs have executions, one of which begins with the program's start state.
     ensures safe { result ≡ Status.Done → asked words.now ≡ Some check → (bytes : List ℕ) (d : Document) →
-        S.left src.old ≡ Some bytes → IsReading bytes d → ClaimsAreTrue d }
+        S.left src.old ≡ Some bytes → IsDocument bytes d → ClaimsAreTrue d }
     ensures bounds { result ≡ Status.Done → asked words.now ≡ Some check → (bytes : List ℕ) (d : Document) →
-        S.left src.old ≡ Some bytes → IsReading bytes d →
+        S.left src.old ≡ Some bytes → IsDocument bytes d →
         WritesWhatIsTrue d (K.written out.old) (K.written out.new) }
     ensures runs { result ≡ Status.Done → asked words.now ≡ Some check → (bytes : List ℕ) (d : Document) →
-        S.left src.old ≡ Some bytes → IsReading bytes d → ProgramsRun d }
+        S.left src.old ≡ Some bytes → IsDocument bytes d → ProgramsRun d }
+    ensures starts { result ≡ Status.Done → asked words.now ≡ Some check → (bytes : List ℕ) (d : Document) →
+        S.left src.old ≡ Some bytes → IsDocument bytes d → ProgramsStart d }
 
     // For words that are no command, and for a ring, the source is not read.
     ensures untouched { reads_source (asked words.now) ≡ false → src.new ≡ src.old }

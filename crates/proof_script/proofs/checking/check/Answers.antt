@@ -18,5 +18,5 @@ returns-clause-verdict c =
 
 pub returns-clause-holds : goal.returns-clause-holds
 returns-clause-holds c =
-    accepted_holds c.args.doc.now c.args.certs.now c.take_proofs.new.plan c.requires.document c.requires.whole
+    accepted_holds c.args.doc.now c.args.certs.now c.take_proofs.new.plan c.requires.document
     (returns-clause-verdict c)

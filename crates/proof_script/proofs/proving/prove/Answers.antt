@@ -4,7 +4,7 @@ use Rattle.proof_script.specs.declared.finding.Finding.{Finding}
 use Rattle.proof_script.specs.declared.plans.Plan.{Plan}
 use Rattle.proof_script.specs.Proving.{Finds}
 use Rattle.proof_script.specs.Reaching.{Reach, proofs_reach}
-use Rattle.proof_script.specs.Searches.{Follows}
+use Rattle.proof_script.specs.Searches.{SearchGoes}
 use Rattle.proof_script.proofs.SearchLaws.{begins, proved_by}
 use Rattle.proof_script.proofs.proving.prove.Goals as goal
 
@@ -28,5 +28,5 @@ returns-in-Err c =
     let plan : Plan = c.prove_proofs.new.plan in
     subst (λ (n : ℕ). Finds d n c.halted.result) (ap (λ (f : Finding). f.budget) c.new_finding-finding.ensures)
     (c.halted.ensures d old plan
-    (subst (λ (r : Reach). Follows (Err c.in-Err.halt) old plan new r)
+    (subst (λ (r : Reach). SearchGoes (Err c.in-Err.halt) old plan new r)
     (ap (λ (p : Plan). proofs_reach d.slots d.programs d.proofs p) c.new_plan-plan.ensures) c.in-Err.ensures))

@@ -10,7 +10,7 @@ use Rattle.proof_script.specs.declared.finding.Finding.{Finding}
 use Rattle.proof_script.specs.declared.finding.Halt.{Halt}
 use Rattle.proof_script.specs.declared.plans.Plan.{Plan}
 use Rattle.proof_script.specs.Reaching.{Reach, end_reach, proof_reach, steps_reach}
-use Rattle.proof_script.specs.Searches.{Follows}
+use Rattle.proof_script.specs.Searches.{SearchGoes}
 use Rattle.proof_script.specs.Verdicts.{rule_fault}
 use Rattle.proof_script.proofs.ReachLaws.{end_extends, on_extends, proof_done, proof_undone, reach_stopped}
 use Rattle.proof_script.proofs.SearchLaws.{halted_on, halts_whole, stops_at}
@@ -28,10 +28,10 @@ returns-in_err-prove_steps c =
     let halt : Halt = c.in_err-prove_steps.field-0.0 in
     let one : Reach = steps_reach slots p proof.steps first in
     let whole : Reach = proof_reach slots (Some p) proof first in
-    halted_on (λ r. Follows r old plan new whole) c.from_residual.result halt c.from_residual.ensures.1
+    halted_on (λ r. SearchGoes r old plan new whole) c.from_residual.result halt c.from_residual.ensures.1
     (halts_whole halt old old new plan plan one whole (on_extends one (end_reach p) (end_extends p))
     (λ stop e. reach_stopped one stop (end_reach p) e) refl
-    (subst (λ (ss : List CStep). Follows (Err halt) old plan new (steps_reach slots p ss first)) c.as_slice.ensures
+    (subst (λ (ss : List CStep). SearchGoes (Err halt) old plan new (steps_reach slots p ss first)) c.as_slice.ensures
     c.in_err-prove_steps.ensures))
 
 pub returns-then-has_defined : goal.returns-then-has_defined
@@ -40,7 +40,7 @@ returns-then-has_defined c =
     let p : CProgram = c.args.program.now in
     let proof : CProof = c.args.proof.now in
     let plan : Plan = c.prove_steps.new.plan in
-    let done = subst (λ (ss : List CStep). Follows (Ok c.in_ok-prove_steps.field-0) c.args.finding.now plan
+    let done = subst (λ (ss : List CStep). SearchGoes (Ok c.in_ok-prove_steps.field-0) c.args.finding.now plan
     c.prove_steps.new.finding (steps_reach slots p ss c.args.plan.now)) c.as_slice.ensures
     c.in_ok-prove_steps.ensures in (
       proof_done slots p proof c.args.plan.now plan done.0
@@ -58,9 +58,9 @@ returns-else-has_defined c =
     let plan : Plan = c.prove_steps.new.plan in
     let new : Finding = c.prove_steps.new.finding in
     let whole : Reach = proof_reach slots (Some p) proof c.args.plan.now in
-    let done = subst (λ (ss : List CStep). Follows (Ok c.in_ok-prove_steps.field-0) c.args.finding.now plan new
+    let done = subst (λ (ss : List CStep). SearchGoes (Ok c.in_ok-prove_steps.field-0) c.args.finding.now plan new
     (steps_reach slots p ss c.args.plan.now)) c.as_slice.ensures c.in_ok-prove_steps.ensures in
-    subst (λ (e : Halt). Follows (Err e) c.args.finding.now plan new whole) (sym c.fault.ensures)
+    subst (λ (e : Halt). SearchGoes (Err e) c.args.finding.now plan new whole) (sym c.fault.ensures)
     (stops_at plan new (rule_fault p.name None Code.DefinedMissing) whole done.1
     (proof_undone slots p proof c.args.plan.now plan done.0
     (ap (λ (book : List Record). has_defined p.name book) (sym c.as_slice-2.ensures) ∙ sym c.has_defined.ensures

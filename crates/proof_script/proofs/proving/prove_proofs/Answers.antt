@@ -10,7 +10,7 @@ use Rattle.proof_script.specs.declared.finding.Finding.{Finding}
 use Rattle.proof_script.specs.declared.finding.Halt.{Halt}
 use Rattle.proof_script.specs.declared.plans.Plan.{Plan}
 use Rattle.proof_script.specs.Reaching.{Reach, further, reached, proof_reach, proofs_reach}
-use Rattle.proof_script.specs.Searches.{Follows}
+use Rattle.proof_script.specs.Searches.{SearchGoes}
 use Rattle.step_rules.proofs.ItemLaws.{drop_at}
 use Rattle.proof_script.proofs.LoopLaws.{item_has, sum_more}
 use Rattle.proof_script.proofs.ReachLaws.{Extends, on_extends, proof_reach_fits, proofs_extend, reach_proofs_at}
@@ -54,7 +54,8 @@ returns-in_err-prove_proof c =
     let is : further one (proofs_reach slots programs rest) ≡ whole =
     sym (reach_proofs_at slots programs proofs i c.proof-item.result c.loop-proof.plan c.loop-proof-test.true
     c.proof-item.is) ∙ c.loop-proof.invariant.same in
-    halted_on (λ r. Follows r c.args.finding.now plan new whole) c.from_residual.result halt c.from_residual.ensures.1
+    halted_on (λ r. SearchGoes r c.args.finding.now plan new whole)
+    c.from_residual.result halt c.from_residual.ensures.1
     (halts_whole halt c.args.finding.now c.loop-proof.finding new plan plan one whole
     (subst (λ (r : Reach). Extends (reached one) (reached r)) is
     (on_extends one (proofs_reach slots programs rest) (proofs_extend slots programs rest)))

@@ -10,7 +10,7 @@ use Rattle.proof_script.specs.declared.finding.Finding.{Finding}
 use Rattle.proof_script.specs.declared.finding.Halt.{Halt}
 use Rattle.proof_script.specs.declared.plans.Plan.{Plan}
 use Rattle.proof_script.specs.Reaching.{Reach, step_reach}
-use Rattle.proof_script.specs.Searches.{Follows}
+use Rattle.proof_script.specs.Searches.{SearchGoes}
 use Rattle.step_rules.specs.Starts.{starts_in}
 use Rattle.proof_script.specs.Verdicts.{rule_fault}
 use Rattle.proof_script.proofs.ReachLaws.{reach_fails, reach_taken}
@@ -31,7 +31,7 @@ returns-in-Ok c =
     let slots : List CSlot = c.args.slots.now in
     let p : CProgram = c.args.program.now in
     let s : CStep = c.args.step.now in
-    subst (λ (r : Reach). Follows c.prove_derived.result c.args.finding.now c.prove_derived.new.plan
+    subst (λ (r : Reach). SearchGoes c.prove_derived.result c.args.finding.now c.prove_derived.new.plan
     c.prove_derived.new.finding r)
     (sym (reach_taken slots p s c.args.plan.now c.in-Ok.derived
     (subst (λ (book : List Record). Answers (Ok c.in-Ok.derived) slots (rule_of slots (starts_in slots) p s book))
@@ -46,7 +46,7 @@ returns-in-Err-Fault c =
     let f : Finding = c.args.finding.now in
     let made : c.fault.result ≡ Halt.Step (rule_fault p.name (Some s.name) c.in-Err-Fault.code) =
     cc (c.fault.ensures, c.in-Err-Fault.code-is) in
-    subst (λ (e : Halt). Follows (Err e) f plan f (step_reach slots p s plan)) (sym made)
+    subst (λ (e : Halt). SearchGoes (Err e) f plan f (step_reach slots p s plan)) (sym made)
     (stops_at plan f (rule_fault p.name (Some s.name) c.in-Err-Fault.code) (step_reach slots p s plan)
     c.requires.under_way
     (reach_fails slots p s plan c.in-Err-Fault.code

@@ -7,7 +7,7 @@ use Rattle.proof_script.specs.declared.finding.Finding.{Finding}
 use Rattle.proof_script.specs.declared.finding.Halt.{Halt}
 use Rattle.proof_script.specs.declared.plans.Plan.{Plan}
 use Rattle.proof_script.specs.Reaching.{Reach, further, reached, step_reach, steps_reach}
-use Rattle.proof_script.specs.Searches.{Follows}
+use Rattle.proof_script.specs.Searches.{SearchGoes}
 use Rattle.step_rules.proofs.ItemLaws.{drop_at}
 use Rattle.proof_script.proofs.LoopLaws.{item_has}
 use Rattle.proof_script.proofs.ReachLaws.{Extends, on_extends, reach_fits, reach_grows, reach_steps_at, reach_steps_end}
@@ -41,7 +41,8 @@ returns-in_err-prove_step c =
     let is : further one (steps_reach slots p rest) ≡ whole =
     sym (reach_steps_at slots p c.args.steps.now i c.step-item.result c.loop-step.plan c.loop-step-test.true
     c.step-item.is) ∙ c.loop-step.invariant.same in
-    halted_on (λ r. Follows r c.args.finding.now plan new whole) c.from_residual.result halt c.from_residual.ensures.1
+    halted_on (λ r. SearchGoes r c.args.finding.now plan new whole)
+    c.from_residual.result halt c.from_residual.ensures.1
     (halts_whole halt c.args.finding.now c.loop-step.finding new plan plan one whole
     (subst (λ (r : Reach). Extends (reached one) (reached r)) is
     (on_extends one (steps_reach slots p rest) (steps_extend slots p rest)))

@@ -3,7 +3,8 @@ use Rattle.std.specs.Io.KnownBytes.{IsAtEnd}
 use Rattle.unity_base.specs.Streams.{IsLongerThan}
 use Rattle.unity_cli.specs.Answer.{most_bytes}
 use Rattle.unity_cli.specs.Input.{IsTextOf}
-use Rattle.unity_cli.proofs.Told.{bad_words, told_whole, told_part, done_claims, done_runs, done_tells}
+use Rattle.unity_cli.proofs.Told.{bad_words, told_whole, told_part, done_claims, done_runs, done_starts, done_tells}
+use Rattle.unity_cli.proofs.Told.{text_follows}
 use Rattle.unity_cli.proofs.Shown.{shown_whole, shown_part, ring_is_no_check, others_read}
 use Rattle.command_words.specs.Requests.{meant, asked}
 use Rattle.unity_cli.proofs.top.unity.Goals as goal
@@ -44,6 +45,16 @@ returns-in-Demo-clause-safe g c = λ done is_check. absurd (ring_is_no_check (as
 
 pub returns-in-Demo-clause-runs : goal.returns-in-Demo-clause-runs
 returns-in-Demo-clause-runs g c = λ done is_check. absurd (ring_is_no_check (asked c.args.words.now) c.in-Demo.places
+    (sym c.read_words.ensures.asked ∙ ap (option_map meant) c.in-Some.is ∙ ap (λ x. Some (meant x)) c.in-Demo.is)
+    is_check)
+
+pub returns-in-Demo-clause-starts : goal.returns-in-Demo-clause-starts
+returns-in-Demo-clause-starts g c = λ done is_check. absurd (ring_is_no_check (asked c.args.words.now) c.in-Demo.places
+    (sym c.read_words.ensures.asked ∙ ap (option_map meant) c.in-Some.is ∙ ap (λ x. Some (meant x)) c.in-Demo.is)
+    is_check)
+
+pub returns-in-Demo-clause-follows : goal.returns-in-Demo-clause-follows
+returns-in-Demo-clause-follows g c = λ has is_check. absurd (ring_is_no_check (asked c.args.words.now) c.in-Demo.places
     (sym c.read_words.ensures.asked ∙ ap (option_map meant) c.in-Some.is ∙ ap (λ x. Some (meant x)) c.in-Demo.is)
     is_check)
 
@@ -105,6 +116,26 @@ returns-in-Ok-read_input-clause-safe g c =
 pub returns-in-Ok-read_input-clause-runs : goal.returns-in-Ok-read_input-clause-runs
 returns-in-Ok-read_input-clause-runs g c =
     done_runs (asked c.args.words.now) (meant c.in-Some.command) (g.S.Source.left c.args.src.now)
+    c.in-Ok-read_input.text
+    (g.K.Sink.written c.args.out.now) (g.K.Sink.written c.write_command.new.out) c.write_command.result
+    (sym c.read_words.ensures.asked ∙ ap (option_map meant) c.in-Some.is)
+    (subst (λ m. IsTextOf m (g.S.Source.left c.args.src.now) c.in-Ok-read_input.text)
+    c.most_bytes.ensures c.in-Ok-read_input.ensures.input)
+    c.write_command.ensures.told
+
+pub returns-in-Ok-read_input-clause-starts : goal.returns-in-Ok-read_input-clause-starts
+returns-in-Ok-read_input-clause-starts g c =
+    done_starts (asked c.args.words.now) (meant c.in-Some.command) (g.S.Source.left c.args.src.now)
+    c.in-Ok-read_input.text
+    (g.K.Sink.written c.args.out.now) (g.K.Sink.written c.write_command.new.out) c.write_command.result
+    (sym c.read_words.ensures.asked ∙ ap (option_map meant) c.in-Some.is)
+    (subst (λ m. IsTextOf m (g.S.Source.left c.args.src.now) c.in-Ok-read_input.text)
+    c.most_bytes.ensures c.in-Ok-read_input.ensures.input)
+    c.write_command.ensures.told
+
+pub returns-in-Ok-read_input-clause-follows : goal.returns-in-Ok-read_input-clause-follows
+returns-in-Ok-read_input-clause-follows g c =
+    text_follows (asked c.args.words.now) (meant c.in-Some.command) (g.S.Source.left c.args.src.now)
     c.in-Ok-read_input.text
     (g.K.Sink.written c.args.out.now) (g.K.Sink.written c.write_command.new.out) c.write_command.result
     (sym c.read_words.ensures.asked ∙ ap (option_map meant) c.in-Some.is)

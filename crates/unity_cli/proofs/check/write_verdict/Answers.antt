@@ -1,0 +1,12 @@
+use Rattle.command_words.specs.Requests.{check}
+use Rattle.unity_cli.proofs.Told.{checked_has_text, answer_told}
+use Rattle.unity_cli.proofs.check.write_verdict.Goals as goal
+
+pub write_answer-requires : goal.write_answer-requires
+write_answer-requires g c =
+    checked_has_text c.requires.0 _ _ (c.in-Ok.ensures c.requires.0 c.requires.1)
+
+pub returns-in-Ok-clause-told : goal.returns-in-Ok-clause-told
+returns-in-Ok-clause-told g c = λ bytes is.
+    answer_told check bytes _ _ c.in-Ok.answer.status c.write_answer.result c.in-Ok.answer.text.items
+    (c.in-Ok.ensures bytes is) c.write_answer.ensures.whole c.write_answer.ensures.status c.write_answer.ensures.part

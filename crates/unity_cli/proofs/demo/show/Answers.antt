@@ -1,0 +1,34 @@
+use Rattle.std.proofs.Common.{rules, ◌≡◌, ◌++◌, ℕ, List, ◌∙◌, ap}
+use Rattle.ring_documents.specs.Rings.{ring_bytes}
+use Rattle.answer_texts.specs.Verdicts.{accepted_text}
+use Rattle.unity_cli.specs.Answer.Demo.{ring_line}
+use Rattle.unity_cli.specs.Input.{words_in}
+use Rattle.unity_cli.proofs.Shown.{ring_read, shown_alone, shown_planned}
+use Rattle.unity_cli.proofs.demo.show.Goals as goal
+
+pub find-requires-clause-input : goal.find-requires-clause-input
+find-requires-clause-input c =
+    let read = ring_read c.args.places c.requires.1 c.in_ok-ring.ring.items c.deref.result.now c.deref-2.result.now
+    c.in_ok-input.input c.in_ok-ring.ensures c.deref.ensures.value c.deref-2.ensures.value c.in_ok-input.ensures in
+    (ring_bytes c.args.places, read.0, read.1)
+
+pub returns-in_default : goal.returns-in_default
+returns-in_default c =
+    let read = ring_read c.args.places c.requires.1 c.in_ok-ring.ring.items c.deref.result.now c.deref-2.result.now
+    c.in_ok-input.input c.in_ok-ring.ensures c.deref.ensures.value c.deref-2.ensures.value c.in_ok-input.ensures in
+    shown_alone c.args.places (words_in c.in_ok-input.input) c.in_ok-answer.field-0.answer c.in_ok-answer.field-0.plan
+    (c.in_ok-answer.ensures.answer (ring_bytes c.args.places) read.0 read.1) c.in_ok-answer.ensures.plan
+    c.in_default.is
+
+pub returns : goal.returns
+returns c =
+    let read = ring_read c.args.places c.requires.1 c.in_ok-ring.ring.items c.deref.result.now c.deref-2.result.now
+    c.in_ok-input.input c.in_ok-ring.ensures c.deref.ensures.value c.deref-2.ensures.value c.in_ok-input.ensures in
+    let whole : c.extend_from_slice.new.self.items ≡ ring_line c.args.places ++ c.in_ok-verdict.verdict.items =
+    search rules in
+    shown_planned c.args.places (words_in c.in_ok-input.input) c.in_ok-answer.field-0.answer
+    c.in_ok-answer.field-0.plan c.in-Some.plan c.in_ok-verdict.verdict.items c.extend_from_slice.new.self.items
+    (c.in_ok-answer.ensures.answer (ring_bytes c.args.places) read.0 read.1) c.in_ok-answer.ensures.plan
+    c.in-Some.is
+    (c.in_ok-verdict.ensures
+    ∙ ap (λ (ws : List (List ℕ)). accepted_text ws c.in-Some.plan) c.words_of.ensures) whole

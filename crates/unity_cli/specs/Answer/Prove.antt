@@ -1,0 +1,69 @@
+-- What `prove` answers.
+use Rattle.std.specs.Prelude.{◌≡◌, ℕ, ℤ, List, Result, Ok, Err}
+use Rattle.unity_syntax.specs.declared.document.Document.{Document}
+use Rattle.core_documents.specs.Cores.{core_document}
+use Rattle.core_terms.specs.declared.documents.CDocument.{CDocument}
+use Rattle.proof_script.specs.declared.plans.Plan.{Plan}
+use Rattle.proof_script.specs.declared.plans.StepFault.{StepFault}
+use Rattle.proof_script.specs.declared.plans.Proof.{Proof}
+use Rattle.proof_script.specs.declared.plans.ScriptError.{ScriptError}
+use Rattle.proof_script.specs.Proving.{Finds, IsProved}
+use Rattle.obligations.specs.declared.branches.Variable.{Variable}
+use Rattle.obligations.specs.declared.certificates.Cert.{Cert}
+use Rattle.certificate_texts.specs.Findings.{budget_text, refuted_text}
+use Rattle.found_documents.specs.Found.{text_with}
+use Rattle.answer_texts.specs.Verdicts.{rejected_text}
+use Rattle.unity_cli.specs.declared.status.Status.{Status}
+use Rattle.unity_cli.specs.Admitted.{greatest_bare_size, IsAdmitted, IsBad}
+use Rattle.unity_cli.specs.Answer.Check.{IsAccepted}
+
+-- certificates within the budget refute all obligations' negations, and `check` accepts the document with them
+pub record IsFound (bytes : List ℕ) (budget : ℕ) (text : List ℕ) : Type 0 where
+  pub document : Document
+  pub read : IsAdmitted greatest_bare_size bytes document
+  pub plan : Plan
+  pub certs : List Cert
+  pub proved : IsProved (core_document document) budget plan certs
+  pub text_is : text ≡ text_with bytes document certs
+  pub verdict_text : List ℕ
+  pub accepted : IsAccepted text verdict_text
+
+-- a document, and a finding of the search for its certificates, with the finding's text
+pub record IsFinding (bytes : List ℕ) (budget : ℕ) (finding : Result Proof ScriptError)
+    (told : CDocument → List ℕ) (text : List ℕ) : Type 0 where
+  pub document : Document
+  pub read : IsAdmitted greatest_bare_size bytes document
+  pub finds : Finds (core_document document) budget finding
+  pub text_is : text ≡ told (core_document document)
+
+-- the first rule or proof's end that fails, before which all obligations are valid
+pub record IsStuck (bytes : List ℕ) (budget : ℕ) (text : List ℕ) : Type 0 where
+  pub fault : StepFault
+  pub finding : IsFinding bytes budget (Err (ScriptError.Step fault)) (λ c. rejected_text c.words fault) text
+
+-- the first obligation that is not valid, with values at which it is false
+pub record IsRefuted (bytes : List ℕ) (budget : ℕ) (text : List ℕ) : Type 0 where
+  pub program : ℕ
+  pub step : ℕ
+  pub number : ℕ
+  pub variables : List Variable
+  pub values : List ℤ
+  pub finding : IsFinding bytes budget (Ok (Proof.Refuted program step number variables values))
+      (λ c. refuted_text c program step number variables values) text
+
+-- an obligation up to which the budget is less than what always suffices
+pub record IsSpent (bytes : List ℕ) (budget : ℕ) (text : List ℕ) : Type 0 where
+  pub program : ℕ
+  pub step : ℕ
+  pub number : ℕ
+  pub finding : IsFinding bytes budget (Ok (Proof.Budget program step number))
+      (λ c. budget_text c.words program step number budget) text
+
+-- what `prove` answers for these bytes
+abbrev pub Searched : List ℕ → ℕ → Status → List ℕ → Type 0
+Searched bytes budget Status.Done text = IsFound bytes budget text
+Searched bytes budget Status.Rejected text = IsStuck bytes budget text
+Searched bytes budget Status.BadDocument text = IsBad greatest_bare_size bytes text
+Searched bytes budget Status.Refuted text = IsRefuted bytes budget text
+Searched bytes budget Status.Budget text = IsSpent bytes budget text
+Searched bytes budget status text = ⊥

@@ -1,0 +1,166 @@
+// The command `prove`: certificates for the proofs of a document.
+ghost use Rattle.std.specs.Prelude.{◌≡◌, ◌≤◌, ◌++◌, ◌∷◌, List, ℕ, IfOk};
+ghost use Rattle.unity_base.specs.Streams.{IsTold};
+ghost use Rattle.certificate_texts.specs.Certificates.{certificates_text};
+ghost use Rattle.found_documents.specs.Found.{front};
+ghost use Rattle.unity_cli.specs.Admitted.{greatest_bare_size};
+ghost use Rattle.command_words.specs.Requests as requests;
+ghost use Rattle.unity_cli.specs.Answering.{HasPlan, IsSearchedFor, IsSearchedIn, Telling};
+ghost use Rattle.unity_cli.specs.Input.{AreKept, IsInput, IsAdmittedAs, words_in};
+
+use crate::input::{AdmittedDocument, Input};
+use crate::output::{Answer, write_answer};
+use crate::status::Status;
+use answer_texts::{document_fault, input_refusal, rejected};
+use case_tables::Code;
+use certificate_texts::{budget_text, push_certificates, refuted_text};
+use obligations::Cert;
+use proof_script::{Plan, Proof, ScriptError, prove};
+use std::alloc::{AllocError, Global};
+use unity_base::Sink;
+use unity_syntax::Document;
+
+/// What a search gives.
+#[derive(Drop)]
+pub struct Found {
+    /// What `prove` answers.
+    pub answer: Answer,
+    /// Where that is a document with certificates, the plan for which `check` accepts it; else none.
+    pub plan: Option<Plan>,
+}
+
+/// What `prove BUDGET` answers for the input, with its bytes where it is a document.
+pub fn find(alloc: Global, budget: u64, kept: &[u8], input: &Input) -> Result<Found, AllocError>
+    requires input { (bytes : List ℕ) × IsInput greatest_bare_size bytes input.now × AreKept input.now kept.now bytes }
+    requires budget { budget ≤ 1000000 }
+    ensures answer { IfOk result (λ f. IsSearchedFor budget kept.now input.now f.answer) }
+    ensures plan { IfOk result (HasPlan (words_in input.now)) }
+{
+    match input {
+        Input::TooLong => Ok(Found {
+            answer: Answer::bad(input_refusal(alloc, Code::TooLong)?),
+            plan: None,
+        }),
+        Input::Fault { code, at } => Ok(Found {
+            answer: Answer::bad(document_fault(alloc, *code, *at)?),
+            plan: None,
+        }),
+        Input::Document(reading) => find_for(alloc, budget, kept, reading.get()),
+    }
+}
+
+// What `prove` answers for a document.
+fn find_for(
+    alloc: Global,
+    budget: u64,
+    bytes: &[u8],
+    reading: &AdmittedDocument,
+) -> Result<Found, AllocError>
+    requires reading { IsAdmittedAs greatest_bare_size bytes.now reading.now }
+    requires budget { budget ≤ 1000000 }
+    ensures answer { IfOk result (λ f. IsSearchedIn budget bytes.now reading.now f.answer) }
+    ensures plan { IfOk result (HasPlan reading.now.core.words) }
+{
+    let words = reading.core.words.as_slice();
+    match prove(alloc, &reading.core, budget) {
+        Ok(Proof::Proved { plan, certs }) => {
+            let front = front_of(bytes, &reading.document);
+            let text = text_with(alloc, front, certs.as_slice())?;
+            Ok(Found {
+                answer: Answer {
+                    status: Status::Done,
+                    text,
+                },
+                plan: Some(plan),
+            })
+        },
+        Ok(
+            Proof::Refuted {
+                program,
+                step,
+                obligation,
+                variables,
+                values,
+            },
+        ) => Ok(Found {
+            answer: Answer {
+                status: Status::Refuted,
+                text: refuted_text(
+                    alloc,
+                    &reading.core,
+                    program,
+                    step,
+                    obligation,
+                    variables.as_slice(),
+                    values.as_slice(),
+                )?,
+            },
+            plan: None,
+        }),
+        Ok(
+            Proof::Budget {
+                program,
+                step,
+                obligation,
+            },
+        ) => Ok(Found {
+            answer: Answer {
+                status: Status::Budget,
+                text: budget_text(alloc, words, program, step, obligation, budget)?,
+            },
+            plan: None,
+        }),
+        Err(ScriptError::Step(fault)) => Ok(Found {
+            answer: Answer {
+                status: Status::Rejected,
+                text: rejected(alloc, words, &fault)?,
+            },
+            plan: None,
+        }),
+        Err(ScriptError::Memory) => Err(AllocError),
+    }
+}
+
+// The bytes before the word `certificates`.
+fn front_of<'a>(bytes: &'a [u8], document: &Document) -> &'a [u8]
+    ensures { result.now ≡ front bytes.now document.now.certificates }
+{
+    match &document.certificates {
+        Some(section) => &bytes[..bytes.len().min(section.at as usize)],
+        None => bytes,
+    }
+}
+
+// The text with these certificates after its front.
+fn text_with(alloc: Global, front: &[u8], certs: &[Cert]) -> Result<Vec<u8>, AllocError>
+    ensures { IfOk result (λ text. text.items ≡ front.now ++ 10 ∷ certificates_text certs.now) }
+{
+    let mut text = Vec::from_slice(alloc, front)?;
+    text.push(b'\n')?;
+    push_certificates(alloc, certs, &mut text)?;
+    Ok(text)
+}
+
+/// Writes what `prove` answers for the input, with its bytes where it is a document.
+pub fn write_finding<K: Sink>(
+    alloc: Global,
+    budget: u64,
+    kept: &[u8],
+    input: &Input,
+    out: &mut K,
+) -> Status
+    requires input { (bytes : List ℕ) × IsInput greatest_bare_size bytes input.now
+        × AreKept input.now kept.now bytes }
+    requires budget { budget ≤ 1000000 }
+    ensures told { (bytes : List ℕ) → IsInput greatest_bare_size bytes input.now →
+        AreKept input.now kept.now bytes →
+        Telling (requests.prove budget) bytes (K.written out.old) (K.written out.new) result }
+    ensures nothing { result ≡ Status.WantOfMemory → out.new ≡ out.old }
+    ensures never { result ≡ Status.ReadFault → ⊥ }
+    ensures cause { IsTold (K.faults out.old) (K.faults out.new) (result ≡ Status.WriteFault) }
+{
+    match find(alloc, budget, kept, input) {
+        Ok(found) => write_answer(&found.answer, out),
+        Err(_) => Status::WantOfMemory,
+    }
+}
