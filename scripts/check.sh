@@ -1,25 +1,40 @@
 #!/bin/bash
-# Runs `unity check` on a document: bash scripts/check.sh FILE
+# Runs `unity check` on documents: bash scripts/check.sh FILE..
 #
-# It prints what `unity` prints and exits with its status. Where the answer names a byte of the file,
-# or a step, it also shows the place on standard error: a byte by its line and a caret, a step by its
-# line. The program that `scripts/test.sh` builds is taken where it is there; else the sources are run
-# as they are, in half a minute and with no proof.
+# It prints what `unity` prints and exits with its status; of several files each answer stands below the name of
+# its file, and the status is the first that is not 0. Where the answer names a byte of the file, or a step, it also
+# shows the place on standard error: a byte by its line and a caret, a step by its line. The program that
+# `scripts/build.sh` or `scripts/test.sh` builds is taken where it is there; else the sources are compiled as they
+# are, in about a minute for all files together, and with no proof.
 set -eu
-if [ $# != 1 ] || [ ! -r "$1" ]; then
-    echo "usage: bash scripts/check.sh FILE" >&2
+for file in "$@"; do
+    if [ ! -r "$file" ]; then
+        set --
+    fi
+done
+if [ $# = 0 ]; then
+    echo "usage: bash scripts/check.sh FILE.." >&2
     exit 64
 fi
 top=$(cd "$(dirname "$0")/.." && pwd)
 . "$top/scripts/places.sh"
-file=$(cd "$(dirname "$1")" && pwd)/$(basename "$1")
-answer=$(mktemp)
-notes=$(mktemp)
-trap 'rm -f "$answer" "$notes"' EXIT
+work=$(mktemp -d)
+trap 'rm -rf "$work"' EXIT
 
-status=0
-run_unity "$answer" "$notes" "$file" check || status=$?
-cat "$answer"
-show_byte "$answer" "$1" "$file"
-show_step "$answer" "$1" "$file"
-exit "$status"
+run_on_each "$work" check "$@"
+ended=0
+number=1000
+for file in "$@"; do
+    number=$((number + 1))
+    if [ $# -gt 1 ]; then
+        echo "$file"
+    fi
+    cat "$work/answers/$number"
+    show_byte "$work/answers/$number" "$file" "$file"
+    show_step "$work/answers/$number" "$file" "$file"
+    status=$(cat "$work/statuses/$number")
+    if [ "$ended" = 0 ]; then
+        ended=$status
+    fi
+done
+exit "$ended"

@@ -1,9 +1,9 @@
 # Places in a document, for the scripts that run `unity` on a file. Read by `.`; it runs nothing.
 
 # run_unity ANSWER NOTES FILE WORD..: what `unity` says by these words of the file goes to ANSWER. The
-# program that `scripts/test.sh` builds is taken where it is there; else the sources are run as they
-# are, in half a minute and with no proof, and what that says goes to NOTES. The status is that of
-# `unity`.
+# program that `scripts/build.sh` or `scripts/test.sh` builds is taken where it is there; else the sources
+# are compiled as they are, in about a minute and with no proof, and what that says goes to NOTES. The
+# status is that of `unity`.
 run_unity() {
     local answer=$1 notes=$2 file=$3 status=0
     shift 3
@@ -16,6 +16,48 @@ run_unity() {
         fi
     fi
     return "$status"
+}
+
+# run_on_each WORK WORD FILE..: what `unity` says by this word of each file goes to WORK/answers, and its
+# status to WORK/statuses, under 1001, 1002 and so on. Where the program is not built the sources are
+# compiled once for all files.
+run_on_each() {
+    local work=$1 word=$2 number=1000 file status
+    shift 2
+    mkdir "$work/files" "$work/answers" "$work/statuses"
+    for file in "$@"; do
+        number=$((number + 1))
+        cat "$file" > "$work/files/$number"
+        if [ -x "$top/crates/unity/out/unity" ]; then
+            status=0
+            "$top/crates/unity/out/unity" "$word" < "$file" > "$work/answers/$number" || status=$?
+            echo "$status" > "$work/statuses/$number"
+        fi
+    done
+    if [ ! -x "$top/crates/unity/out/unity" ]; then
+        try_each "$work" "$word"
+    fi
+}
+
+# try_each WORK WORD: as run_on_each, of the files in WORK/files, from the sources. Their answers come one after
+# the other, each below a line with the name of its file, in the order of the names.
+try_each() {
+    local work=$1 word=$2 number status
+    (cd "$top/crates/unity" && rt try --cases "$work/files" -- "$word") > "$work/all" 2> "$work/notes" || true
+    for number in $(ls "$work/files"); do
+        status=$(sed -n "s/^case=$number run=ended status=\([0-9]*\) .*/\1/p" "$work/notes")
+        if [ -z "$status" ]; then
+            cat "$work/notes" >&2
+            status=2
+        fi
+        echo "$status" > "$work/statuses/$number"
+        : > "$work/answers/$number"
+    done
+    LC_ALL=C awk -v work="$work" '
+        BEGIN { next_number = 1001 }
+        $0 == "== " next_number { number = next_number++; next }
+        { print > (work "/answers/" number) }
+    ' "$work/all"
 }
 
 # show_place AT NAME FILE: the line of the file with that byte, and a caret below the byte. Columns

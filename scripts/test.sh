@@ -1,8 +1,8 @@
 #!/bin/bash
 # Runs the gate: every proof, every edit that must be refused, every test, and the program as two
 # compilers build it. Then it runs the built program on the example documents, the script that shows
-# where a text goes wrong, and a test and a run whose allocations are refused in turn. With --built it
-# does the last three alone.
+# where a text goes wrong, and a test and a run whose allocations are refused in turn, and compares the
+# pages and files that scripts write with what they would write. With --built it does all but the first.
 set -eu
 cd "$(dirname "$0")/.."
 if [ "${1:-}" != --built ]; then
@@ -174,6 +174,21 @@ expect_program() {
 # expect_declared STATUS LINE REST: `check` says this line of a program that begins with these declarations.
 expect_declared() {
     expect_line "$1" "$2" check < <(printf '%s\n' "unity 1" "program P" "declare $3")
+}
+
+# expect_each: of two documents the script prints the answers, each below the name of its file, and exits with
+# the first status that is not 0.
+expect_each() {
+    local status=0 name holds=1
+    for name in count count_wrong_sum; do
+        echo "examples/$name.unity"
+        cat "examples/$name.expected"
+    done > "$text"
+    bash scripts/check.sh examples/count.unity examples/count_wrong_sum.unity > "$answer" 2> /dev/null || status=$?
+    if [ "$status" = 1 ] && cmp -s "$answer" "$text"; then
+        holds=0
+    fi
+    count_one "$holds" "two documents at once"
 }
 
 # expect_place DOCUMENT LINE COLUMN: the script names this place of the document.
@@ -385,6 +400,7 @@ expect_declared 2 "bad 18 TooLarge byte 56" \
     "a : array 0..0 of 0..1 assign s: a[1] := (sum i : 1..1000000000 :: (sum j : 1..i :: 0)) end"
 expect_declared 2 "bad 13 BadRange byte 104" \
     "a : array 0..0 of 0..1 assign s: a[1] := (sum i : 8..9 :: (sum j : 999999999..i + 999999992 :: 1)) end"
+expect_each
 expect_place and_or_mixed 4 27
 expect_place comparison_of_three 12 25
 expect_place empty_range 6 27
@@ -396,6 +412,12 @@ expect_bound "6561 lists, 3096 states" examples/ring_of_three.unity Ring 1 'v["a
 holds=0
 bash scripts/editors.sh --check || holds=1
 count_one "$holds" "the files in editors/"
+holds=0
+bash scripts/reading.sh --check || holds=1
+count_one "$holds" "docs/READING.md"
+holds=0
+bash scripts/map.sh --check || holds=1
+count_one "$holds" "the tables of rooms and crates"
 expect_matchers
 expect_page docs/TUTORIAL.md
 expect_picture race replay

@@ -2,8 +2,8 @@
 # Runs `unity` on standard input: bash scripts/unity.sh WORD.. < FILE
 #
 # The words are those of `unity`: check, prove BUDGET, run PROGRAM STEPS and so on. It prints what `unity`
-# prints and exits with its status. The program that `scripts/test.sh` builds is taken where it is there; else
-# the sources are run as they are, in half a minute and with no proof.
+# prints and exits with its status. The program that `scripts/build.sh` or `scripts/test.sh` builds is taken where
+# it is there; else the sources are compiled as they are, in about a minute and with no proof.
 set -eu
 top=$(cd "$(dirname "$0")/.." && pwd)
 if [ -x "$top/crates/unity/out/unity" ]; then
