@@ -15,13 +15,13 @@ use Rattle.proof_rules.specs.Walk.{has_defined, rule_of}
 use Rattle.safety_rules.specs.declared.places.Derived.{Derived}
 use Rattle.safety_rules.specs.Answers.{derived_of}
 use Rattle.proof_script.specs.declared.plans.Plan.{Plan}
-use Rattle.step_rules.specs.Using.{IsEntry, BookFits}
-use Rattle.step_rules.specs.Starts.{starts_in}
+use Rattle.rules_steps.specs.Using.{IsEntry, BookFits}
+use Rattle.rules_steps.specs.Starts.{starts_in}
 use Rattle.proof_script.specs.Verdicts.{or_rule_fault, refuted_by, grown, taken, step_verdict}
 use Rattle.proof_script.specs.Verdicts.{steps_verdict, proof_verdict, end_verdict}
 use Rattle.proof_script.proofs.Equations.{taken-is, step-is, steps-none, steps-more, then_so}
 use Rattle.proof_script.proofs.LoopLaws.{end_keeps, rule_passed}
-use Rattle.step_rules.proofs.StepLaws.{good_step}
+use Rattle.rules_steps.proofs.StepLaws.{good_step}
 
 pub book_join : (slots : List CSlot) (book : List Record) (a : Record) → BookFits slots book → IsEntry slots a →
     BookFits slots (book ++ a ∷ [])

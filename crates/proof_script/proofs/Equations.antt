@@ -11,7 +11,7 @@ use Rattle.safety_rules.specs.declared.places.Derived.{Derived}
 use Rattle.safety_rules.specs.Answers.{derived_of}
 use Rattle.proof_script.specs.declared.plans.Plan.{Plan}
 use Rattle.proof_script.specs.declared.plans.StepFault.{StepFault}
-use Rattle.step_rules.specs.Starts.{starts_in}
+use Rattle.rules_steps.specs.Starts.{starts_in}
 use Rattle.proof_script.specs.Verdicts.{then_by, or_rule_fault, failing, or_refutation_fault, refuted_by}
 use Rattle.proof_script.specs.Verdicts.{grown, taken, step_verdict, steps_verdict, proof_verdict, proofs_verdict}
 

@@ -28,11 +28,11 @@ use Rattle.proof_rules.specs.Walk.{Failure, has_defined, or_failure, further, ru
 use Rattle.proof_rules.specs.Walk.{program_of, proof_steps, proofs_of}
 use Rattle.proof_rules.proofs.SiteLaws.{met}
 use Rattle.safety_rules.specs.Answers.{obligations_of}
-use Rattle.step_rules.specs.Starts.{starts_in}
+use Rattle.rules_steps.specs.Starts.{starts_in}
 use Rattle.proof_script.specs.declared.plans.Plan.{Plan}
 use Rattle.proof_script.specs.Following.{StepsFollow, ProofsFollow, GoalRefuted, Follows, AcceptedFollows}
 use Rattle.proof_script.specs.Giving.{AreWhole}
-use Rattle.proof_script.specs.Laws.{Agrees, plan_of}
+use Rattle.proof_script.specs.Laws.{ReachAgrees, plan_of}
 use Rattle.proof_script.specs.Reaching.{reach_of}
 use Rattle.proof_script.specs.Searches.{ShownAt, AreShown}
 use Rattle.proof_script.specs.Verdicts.{verdict_of}
@@ -263,7 +263,7 @@ follows_so d certs f =
     omega (arith, many, count, as_many) in (
       plan_of d.slots v,
       accepted d certs (plan_of d.slots v)
-          (subst (λ r. Agrees d.slots r (reach_of d)) w.1 (reach_is_walk d))
+          (subst (λ r. ReachAgrees d.slots r (reach_of d)) w.1 (reach_is_walk d))
           (subst (λ gs. AreShown certs 0 (obligations_of d.slots gs)) (sym goals) shown.0) few,
     )
 

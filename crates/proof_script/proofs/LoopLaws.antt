@@ -20,13 +20,13 @@ use Rattle.proof_rules.specs.Table.{needs}
 use Rattle.proof_rules.specs.Walk.{has_defined, program_of, rule_of}
 use Rattle.safety_rules.specs.declared.places.Derived.{Derived}
 use Rattle.safety_rules.specs.Answers.{derived_of}
-use Rattle.step_rules.proofs.ItemLaws.{drop_at, drop_end}
+use Rattle.rules_steps.proofs.ItemLaws.{drop_at, drop_end}
 use Rattle.proof_script.specs.declared.plans.Plan.{Plan}
 use Rattle.proof_script.specs.declared.plans.StepFault.{StepFault}
 use Rattle.proof_script.specs.declared.plans.ScriptError.{ScriptError}
-use Rattle.proof_script.specs.Giving.{Goes, Passes}
+use Rattle.proof_script.specs.Giving.{PlanGoes, Passes}
 use Rattle.proof_script.specs.Verdicts.{then_by, refuted_by, or_refutation_fault, failing, grown, taken, step_verdict}
-use Rattle.step_rules.specs.Starts.{starts_in}
+use Rattle.rules_steps.specs.Starts.{starts_in}
 use Rattle.proof_script.specs.Verdicts.{steps_verdict, proof_verdict, proofs_verdict, or_rule_fault}
 use Rattle.proof_script.specs.Verdicts.{end_verdict}
 use Rattle.proof_script.specs.Verdicts.{surplus_fault, last_verdict, no_plan, verdict_of}
@@ -140,15 +140,15 @@ item_has P xs i x h e all = subst P (sym e) (all i x h)
 
 -- a failure of a part is that of the whole
 pub fails_whole : (T U : Type 0) (e : ScriptError) (new other : Plan) (one whole : Result Plan StepFault) →
-    ((fault : StepFault) → one ≡ Err fault → whole ≡ Err fault) → Goes {T = T} (Err e) new one →
-    Goes {T = U} (Err e) other whole
+    ((fault : StepFault) → one ≡ Err fault → whole ≡ Err fault) → PlanGoes {T = T} (Err e) new one →
+    PlanGoes {T = U} (Err e) other whole
 fails_whole T U (ScriptError.Step fault) new other one whole h g = h fault g
 fails_whole T U ScriptError.Memory new other one whole h g = tt
 
 -- a failure of an obligation is that of its step
 pub fails_step : (T U : Type 0) (e : ScriptError) (other : Plan) (one : Result (Unit {0}) StepFault)
     (whole : Result Plan StepFault) → ((fault : StepFault) → one ≡ Err fault → whole ≡ Err fault) →
-    Passes {T = T} (Err e) one → Goes {T = U} (Err e) other whole
+    Passes {T = T} (Err e) one → PlanGoes {T = U} (Err e) other whole
 fails_step T U (ScriptError.Step fault) other one whole h g = h fault g
 fails_step T U ScriptError.Memory other one whole h g = tt
 

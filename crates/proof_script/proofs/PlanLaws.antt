@@ -4,11 +4,11 @@ use Rattle.core_terms.specs.declared.documents.CDocument.{CDocument}
 use Rattle.core_terms.specs.declared.programs.CSlot.{CSlot}
 use Rattle.proof_rules.specs.Walk as walk
 use Rattle.proof_rules.specs.Walk.{Failure, walk_of}
-use Rattle.step_rules.specs.Starts.{starts_in}
+use Rattle.rules_steps.specs.Starts.{starts_in}
 use Rattle.proof_script.specs.declared.plans.Plan.{Plan}
 use Rattle.proof_script.specs.declared.plans.StepFault.{StepFault}
 use Rattle.proof_script.specs.declared.plans.ScriptError.{ScriptError}
-use Rattle.proof_script.specs.Laws.{Agrees, plan_of}
+use Rattle.proof_script.specs.Laws.{ReachAgrees, plan_of}
 use Rattle.proof_script.specs.Planning.{FailsWith, Reaches, IsPlanOf, IsFailureOf, Walks}
 use Rattle.proof_script.specs.Reaching.{Reach, Stop, reach_of}
 use Rattle.proof_script.specs.Verdicts.{rule_fault}
@@ -25,12 +25,12 @@ misses_whole T U ScriptError.Memory new other one whole h g = tt
 -- what agrees with the walk
 
 same_plan : (slots : List CSlot) (plan : Plan) (walked : Result walk.Plan Failure) (r : Reach) →
-    Agrees slots walked r → r ≡ Ok plan → IsPlanOf slots plan walked
+    ReachAgrees slots walked r → r ≡ Ok plan → IsPlanOf slots plan walked
 same_plan slots plan (Ok w) r h e = (w, refl, cc (h, e))
 same_plan slots plan (Err failure) r h e = cc (h.1, e)
 
 same_failure : (slots : List CSlot) (fault : StepFault) (walked : Result walk.Plan Failure) (r : Reach) →
-    Agrees slots walked r → FailsWith r fault → IsFailureOf fault walked
+    ReachAgrees slots walked r → FailsWith r fault → IsFailureOf fault walked
 same_failure slots fault (Ok w) r h e = cc (h, e.1)
 same_failure slots fault (Err failure) r h e =
     let first : Stop = record { plan = e.0; fault = fault } in

@@ -26,17 +26,17 @@ use Rattle.proof_script.specs.declared.plans.Plan.{Plan}
 use Rattle.proof_script.specs.Reaching.{Stop, Reach, further, by_row, step_reach, steps_reach, end_reach, proof_reach}
 use Rattle.proof_script.specs.Reaching.{proofs_reach, reach_of, reached}
 use Rattle.proof_script.specs.Searches.{ShownAt, AreShown}
-use Rattle.step_rules.specs.Using.{BookFits}
-use Rattle.step_rules.specs.Starts.{starts_in}
+use Rattle.rules_steps.specs.Using.{BookFits}
+use Rattle.rules_steps.specs.Starts.{starts_in}
 use Rattle.proof_script.specs.Verdicts.{then_by, or_rule_fault, rule_fault, failing, failing_node}
 use Rattle.proof_script.specs.Verdicts.{or_refutation_fault, refuted_by, grown, taken, step_verdict, steps_verdict}
 use Rattle.proof_script.specs.Verdicts.{end_verdict, proof_verdict, proofs_verdict, no_plan, verdict_of}
 use Rattle.proof_script.proofs.Equations.{refuted-none, refuted-more, taken-is, step-is, steps-none, steps-more}
 use Rattle.proof_script.proofs.Equations.{proofs-none, proofs-more}
-use Rattle.step_rules.proofs.ItemLaws.{drop_at, drop_end}
+use Rattle.rules_steps.proofs.ItemLaws.{drop_at, drop_end}
 use Rattle.proof_script.proofs.LoopLaws.{went, verdict_is}
 use Rattle.proof_script.proofs.BookLaws.{book_join}
-use Rattle.step_rules.proofs.StepLaws.{answered, failed, good_step}
+use Rattle.rules_steps.proofs.StepLaws.{answered, failed, good_step}
 
 -- equations
 

@@ -10,8 +10,8 @@ use Rattle.proof_rules.specs.Walk.{rule_of}
 use Rattle.safety_rules.specs.declared.places.Derived.{Derived}
 use Rattle.safety_rules.specs.declared.places.RuleError.{RuleError}
 use Rattle.safety_rules.specs.Answers.{derived_of, Answers}
-use Rattle.step_rules.specs.Starts.{starts_in}
-use Rattle.step_rules.proofs.StepLaws.{answered, failed}
+use Rattle.rules_steps.specs.Starts.{starts_in}
+use Rattle.rules_steps.proofs.StepLaws.{answered, failed}
 use Rattle.proof_script.specs.declared.plans.Plan.{Plan}
 use Rattle.proof_script.specs.Verdicts.{then_by, or_rule_fault, rule_fault, taken, step_verdict}
 use Rattle.proof_script.proofs.Equations.{step-is}

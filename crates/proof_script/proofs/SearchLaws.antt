@@ -26,12 +26,13 @@ use Rattle.proof_script.specs.declared.plans.StepFault.{StepFault}
 use Rattle.proof_script.specs.declared.refuting.StepName.{StepName}
 use Rattle.proof_script.specs.declared.finding.Finding.{Finding}
 use Rattle.proof_script.specs.declared.finding.Halt.{Halt}
-use Rattle.proof_script.specs.Proving.{units_of, enough_for, Comes, IsFalse, IsOwner, IsProved, IsShort}
+use Rattle.proof_script.specs.Proving.{units_of, enough_for, ComesAtNumber, IsFalse, IsOwner, ProvedWithin}
+use Rattle.proof_script.specs.Proving.{BudgetIsShort}
 use Rattle.proof_script.specs.Proving.{IsStopped}
 use Rattle.proof_script.specs.Reaching.{Stop, Reach, reach_of, reached}
-use Rattle.proof_script.specs.Searches.{ShownAt, AreShown, IsFinding, Searches, IsUnderWay, SearchGoes}
+use Rattle.proof_script.specs.Searches.{ShownAt, AreShown, HasCertificates, Searches, IsUnderWay, SearchGoes}
 use Rattle.proof_script.specs.Verdicts.{grown, no_plan}
-use Rattle.step_rules.proofs.ItemLaws.{to_all}
+use Rattle.rules_steps.proofs.ItemLaws.{to_all}
 use Rattle.proof_script.proofs.ReachLaws.{Extends, accepted, shown_join}
 
 -- lists
@@ -76,14 +77,15 @@ each_valid : (certs : List Cert) (n : ℕ) (os : List Obligation) → AreShown c
 each_valid certs n [] h = tt
 each_valid certs n (o ∷ os) h = (sound o h.0.0.nodes h.0.2, each_valid certs (suc n) os h.1)
 
-pub all_valid : (os : List Obligation) (f : Finding) → IsFinding os f → All Valid os
+pub all_valid : (os : List Obligation) (f : Finding) → HasCertificates os f → All Valid os
 all_valid os f h = to_all Valid os (each_valid f.certs 0 os h.shown)
 
 -- one obligation
 
-pub found_one : (before : List Obligation) (o : Obligation) (cert : Cert) (old new : Finding) → IsFinding before old →
+pub found_one : (before : List Obligation) (o : Obligation) (cert : Cert) (old new : Finding) →
+    HasCertificates before old →
     Proof o old.left cert.nodes → new.certs ≡ old.certs ++ cert ∷ [] → new.left + units cert.nodes ≡ old.left →
-    new.budget ≡ old.budget → IsFinding (before ++ o ∷ []) new × (new.budget ≡ old.budget)
+    new.budget ≡ old.budget → HasCertificates (before ++ o ∷ []) new × (new.budget ≡ old.budget)
 found_one before o cert old new h proof certs left budget =
     let had : length old.certs ≡ length before = h.count in
     let is_one : ShownAt (old.certs ++ cert ∷ []) (length before) o =
@@ -132,8 +134,9 @@ found_one before o cert old new h proof certs left budget =
         one ≤ last → all ≤ needs
     cheap_is all before one needs first last e g h k = omega (arith, e, g, h, k)
 
-abbrev comes_next : (before : List Obligation) (o : Obligation) (old : Finding) (number : ℕ) → IsFinding before old →
-    number ≡ length old.certs + 1 → Comes (before ++ o ∷ []) number o
+abbrev comes_next : (before : List Obligation) (o : Obligation) (old : Finding) (number : ℕ) →
+    HasCertificates before old →
+    number ≡ length old.certs + 1 → ComesAtNumber (before ++ o ∷ []) number o
 comes_next before o old number h e = record {
   front = before;
   rest = [];
@@ -142,12 +145,12 @@ comes_next before o old number h e = record {
   valid = all_valid before old h;
 }
 
-is_next : (before : List Obligation) (old : Finding) (number : ℕ) → IsFinding before old →
+is_next : (before : List Obligation) (old : Finding) (number : ℕ) → HasCertificates before old →
     number ≡ length old.certs + 1 → length before < number
 is_next before old number h e = let count = h.count in omega (arith, count, e)
 
 pub refuted_one : (name : StepName) (before : List Obligation) (o : Obligation) (old new : Finding) (number : ℕ)
-    (values : List ℤ) → IsFinding before old → Counterexample o values → number ≡ length old.certs + 1 →
+    (values : List ℤ) → HasCertificates before old → Counterexample o values → number ≡ length old.certs + 1 →
     new.variables ≡ o.variables → new.values ≡ values →
     Searches (Err (Halt.Refuted name number)) name before (o ∷ []) old new
 refuted_one name before o old new number values h false e variables same = (
@@ -162,7 +165,7 @@ refuted_one name before o old new number values h false e variables same = (
 )
 
 pub short_by : (name : StepName) (before : List Obligation) (o : Obligation) (old new : Finding) (number : ℕ) →
-    IsFinding before old → old.left < enough o → number ≡ length old.certs + 1 →
+    HasCertificates before old → old.left < enough o → number ≡ length old.certs + 1 →
     Searches (Err (Halt.Short name number)) name before (o ∷ []) old new
 short_by name before o old new number h small e =
     let spent = h.spent in
@@ -181,14 +184,14 @@ short_by name before o old new number h small e =
     less spent left budget first last e g h = omega (arith, e, g, h)
 
 pub short_one : (name : StepName) (before : List Obligation) (o : Obligation) (old new : Finding) (number : ℕ)
-    (cert : Cert) → IsFinding before old → Partial o old.left cert.nodes → number ≡ length old.certs + 1 →
+    (cert : Cert) → HasCertificates before old → Partial o old.left cert.nodes → number ≡ length old.certs + 1 →
     Searches (Err (Halt.Short name number)) name before (o ∷ []) old new
 short_one name before o old new number cert h part e = short_by name before o old new number h part.small e
 
 -- where a search stops among some obligations, it stops there among more
 
 abbrev comes_more : (os all more : List Obligation) (number : ℕ) (o : Obligation) → all ≡ os ++ more →
-    Comes os number o → Comes all number o
+    ComesAtNumber os number o → ComesAtNumber all number o
 comes_more os all more number o e h = record {
   front = h.front;
   rest = h.rest ++ more;
@@ -206,8 +209,8 @@ false_more os all more number variables values e h = record {
   fails = h.fails;
 }
 
-short_more : (os all more : List Obligation) (number budget : ℕ) → all ≡ os ++ more → IsShort os number budget →
-    IsShort all number budget
+short_more : (os all more : List Obligation) (number budget : ℕ) → all ≡ os ++ more → BudgetIsShort os number budget →
+    BudgetIsShort all number budget
 short_more os all more number budget e h = record {
   obligation = h.obligation;
   comes = comes_more os all more number h.obligation e h.comes;
@@ -258,7 +261,7 @@ search_more (Halt.Refuted step number) name before taken os all more first old n
 search_more (Halt.Short step number) name before taken os all more first old new e b h = (
   h.0,
   later before taken number h.1,
-  subst (λ (n : ℕ). IsShort (before ++ all) number n) b
+  subst (λ (n : ℕ). BudgetIsShort (before ++ all) number n) b
       (short_more ((before ++ taken) ++ os) (before ++ all) more number old.budget
       (whole before taken os all more e) h.2),
 )
@@ -279,7 +282,7 @@ halts_whole (Halt.Refuted step number) first old new p q one whole more stops b 
   owner_more (reached one) (reached whole) number step.program step.step more h.1,
 )
 halts_whole (Halt.Short step number) first old new p q one whole more stops b h = (
-  subst (λ (n : ℕ). IsShort (reached whole).obligations number n) b
+  subst (λ (n : ℕ). BudgetIsShort (reached whole).obligations number n) b
       (short_more (reached one).obligations (reached whole).obligations more.obligations.0 number old.budget
       more.obligations.1 h.0),
   owner_more (reached one) (reached whole) number step.program step.step more h.1,
@@ -301,7 +304,7 @@ got_owner (m ∷ ns) xs n (suc k) h l = got_owner ns xs n k (omega (arith, h)) (
 
 owned_by : (plan : Plan) (d : Derived) (name : StepName) (number : ℕ) (o : Obligation) →
     length plan.owner ≡ length plan.obligations → d.made.program ≡ name.program → d.made.name ≡ name.step →
-    length plan.obligations < number → Comes (plan.obligations ++ d.obligations) number o →
+    length plan.obligations < number → ComesAtNumber (plan.obligations ++ d.obligations) number o →
     IsOwner (grown plan d) number name.program name.step
 owned_by plan d name number o owned program step after h =
     let all = length-append plan.obligations d.obligations in
@@ -335,7 +338,7 @@ step_halts (Halt.Short called number) plan p d name old new owned program step h
 step_halts Halt.Memory plan p d name old new owned program step h = tt
 
 pub step_done : (plan p : Plan) (d : Derived) (old new : Finding) → p ≡ grown plan d →
-    length plan.owner ≡ length plan.obligations → IsFinding (plan.obligations ++ d.obligations) new →
+    length plan.owner ≡ length plan.obligations → HasCertificates (plan.obligations ++ d.obligations) new →
     new.budget ≡ old.budget → SearchGoes (Ok tt) old p new (Ok (grown plan d))
 step_done plan p d old new e owned found budget =
     let owners = length-append plan.owner (map (λ (o : Obligation). length plan.records) d.obligations) in
@@ -383,7 +386,7 @@ begins budget plan f e h =
     none_needed = omega arith
 
 pub proved_by : (d : CDocument) (budget : ℕ) (plan : Plan) (f : Finding) → reach_of d ≡ Ok plan →
-    IsUnderWay plan f → f.budget ≡ budget → IsProved d budget plan f.certs
+    IsUnderWay plan f → f.budget ≡ budget → ProvedWithin d budget plan f.certs
 proved_by d budget plan f e h same =
     let count = h.found.count in
     let spent = h.found.spent in

@@ -21,9 +21,9 @@ use Rattle.proof_rules.specs.Conclusion.{Conclusion}
 use Rattle.proof_rules.specs.Walk.{has_defined, program_of, rule_of}
 use Rattle.safety_rules.specs.Answers.{derived_of}
 use Rattle.safety_rules.specs.declared.places.Derived.{Derived}
-use Rattle.step_rules.proofs.GoalLaws.{IsStepRow, told_step}
-use Rattle.step_rules.specs.Starts.{starts_in}
-use Rattle.step_rules.specs.Using.{BookFits}
+use Rattle.rules_steps.proofs.GoalLaws.{IsStepRow, told_step}
+use Rattle.rules_steps.specs.Starts.{starts_in}
+use Rattle.rules_steps.specs.Using.{BookFits}
 use Rattle.tree_search.specs.Ends.{Ending, proved, refuted, short, SearchEnds}
 use Rattle.tree_search.specs.Searching.{Proof}
 use Rattle.proof_script.specs.declared.finding.Finding.{Finding}
@@ -33,11 +33,11 @@ use Rattle.proof_script.specs.declared.plans.Proof as found
 use Rattle.proof_script.specs.declared.plans.ScriptError.{ScriptError}
 use Rattle.proof_script.specs.declared.plans.StepFault.{StepFault}
 use Rattle.proof_script.specs.declared.refuting.StepName.{StepName}
-use Rattle.proof_script.specs.Laws.{IsTold, SomeFinding}
+use Rattle.proof_script.specs.Laws.{IsAnswered, SomeFinding}
 use Rattle.proof_script.specs.Proving.{Finds}
 use Rattle.proof_script.specs.Reaching.{Reach, Stop, by_row, end_reach, further, proof_reach, proofs_reach, reach_of}
 use Rattle.proof_script.specs.Reaching.{reached, step_reach, steps_reach}
-use Rattle.proof_script.specs.Searches.{IsFinding, Searches, IsUnderWay, SearchGoes}
+use Rattle.proof_script.specs.Searches.{HasCertificates, Searches, IsUnderWay, SearchGoes}
 use Rattle.proof_script.specs.Verdicts.{grown, no_plan, rule_fault}
 use Rattle.proof_script.proofs.LoopLaws.{named_program}
 use Rattle.proof_script.proofs.ReachLaws.{Extends, end_extends, extends_self, no_more, on_extends, proof_done}
@@ -64,7 +64,7 @@ record Among (name : StepName) (before os : List Obligation) (old : Finding) : T
 -- one obligation
 
 module _ (ends : SearchEnds) where
-  by_end : (name : StepName) (before : List Obligation) (o : Obligation) (old : Finding) → IsFinding before old →
+  by_end : (name : StepName) (before : List Obligation) (o : Obligation) (old : Finding) → HasCertificates before old →
       Ending o old.left → Among name before (o ∷ []) old
   by_end name before o old h (proved nodes proof) =
       let cert : Cert = record { nodes = nodes } in
@@ -129,14 +129,14 @@ module _ (ends : SearchEnds) where
       joined : (r : Result (Unit {0}) Halt) → Searches r name (before ++ o ∷ []) os mid rest.new →
           Searches r name before (o ∷ os) old rest.new
       joined (Ok done) s =
-          (subst (λ (xs : List Obligation). IsFinding xs rest.new) (one_before before os o) s.0, s.1 ∙ budget)
+          (subst (λ (xs : List Obligation). HasCertificates xs rest.new) (one_before before os o) s.0, s.1 ∙ budget)
       joined (Err halt) s =
           search_more halt name before (o ∷ []) os (o ∷ os) [] old mid rest.new
           (ap (λ (xs : List Obligation). o ∷ xs) (no_more os)) budget s
 
   then_each : (name : StepName) (before os : List Obligation) (o : Obligation) (old : Finding) →
       Among name before (o ∷ []) old →
-      ((new : Finding) → IsFinding (before ++ o ∷ []) new → Among name (before ++ o ∷ []) os new) →
+      ((new : Finding) → HasCertificates (before ++ o ∷ []) new → Among name (before ++ o ∷ []) os new) →
       Among name before (o ∷ os) old
   then_each name before os o old one next = by_result one.new one.result one.goes_on one.searches
     where
@@ -152,12 +152,12 @@ module _ (ends : SearchEnds) where
       }
 
   each_end : (name : StepName) (before os : List Obligation) (old : Finding) → Each IsObligation os →
-      IsFinding before old → Among name before os old
+      HasCertificates before old → Among name before os old
   each_end name before [] old are h = record {
     result = Ok tt;
     new = old;
     goes_on = tt;
-    searches = (subst (λ (xs : List Obligation). IsFinding xs old) (no_more before) h, refl);
+    searches = (subst (λ (xs : List Obligation). HasCertificates xs old) (no_more before) h, refl);
   }
   each_end name before (o ∷ os) old are h =
       then_each name before os o old (by_end name before o old h (ends o old.left are.0))
@@ -348,7 +348,7 @@ at_first budget = record { budget = budget; left = budget; certs = []; variables
 
 by_walk : (d : CDocument) (budget : ℕ) (new : Finding) (plan : Plan) (r : Result (Unit {0}) Halt) → Goes_on r →
     SearchGoes r (at_first budget) plan new (reach_of d) →
-    (finding : Result found.Proof ScriptError) × IsTold finding × Finds d budget finding
+    (finding : Result found.Proof ScriptError) × IsAnswered finding × Finds d budget finding
 by_walk d budget new plan (Ok done) g h =
     (Ok (found.Proof.Proved plan new.certs), tt, proved_by d budget plan new h.0 h.1 h.2)
 by_walk d budget new plan (Err (Halt.Step fault)) g h = (Err (ScriptError.Step fault), tt, h)
@@ -364,5 +364,5 @@ some_finding ends d budget good =
     tt (begins budget no_plan (at_first budget) refl refl))
   where
     chosen : Along ends (at_first budget) (reach_of d) →
-        (finding : Result found.Proof ScriptError) × IsTold finding × Finds d budget finding
+        (finding : Result found.Proof ScriptError) × IsAnswered finding × Finds d budget finding
     chosen a = by_walk d budget a.new a.plan a.result a.goes_on a.follows

@@ -26,7 +26,7 @@ use Rattle.safety_rules.specs.Answers.{obligations_of, derived_of}
 use Rattle.proof_script.specs.declared.plans.Plan.{Plan}
 use Rattle.proof_script.specs.Laws.{plan_of, AcceptedIsValid, AcceptedHolds}
 use Rattle.proof_script.specs.Searches.{ShownAt, AreShown}
-use Rattle.step_rules.specs.Starts.{starts_in}
+use Rattle.rules_steps.specs.Starts.{starts_in}
 use Rattle.proof_script.specs.Verdicts.{or_rule_fault, failing_node, failing, or_refutation_fault}
 use Rattle.proof_script.specs.Verdicts.{refuted_by, grown, taken, step_verdict, steps_verdict, end_verdict}
 use Rattle.proof_script.specs.Verdicts.{proof_verdict, proofs_verdict, surplus_fault, last_verdict, no_plan, verdict_of}

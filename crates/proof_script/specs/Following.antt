@@ -14,7 +14,7 @@ use Rattle.fair_rounds.specs.declared.records.Record.{Record}
 use Rattle.proof_rules.specs.Validity.{Goal, goal_obligation}
 use Rattle.proof_rules.specs.Conclusion.{Conclusion}
 use Rattle.proof_rules.specs.Walk.{has_defined, program_of, rule_of}
-use Rattle.step_rules.specs.Starts.{starts_in}
+use Rattle.rules_steps.specs.Starts.{starts_in}
 use Rattle.proof_script.specs.declared.plans.Plan.{Plan}
 use Rattle.proof_script.specs.Giving.{AreWhole}
 use Rattle.proof_script.specs.Verdicts.{verdict_of}

@@ -15,16 +15,16 @@ use Rattle.proof_script.specs.declared.plans.StepFault.{StepFault}
 use Rattle.proof_script.specs.declared.plans.ScriptError.{ScriptError}
 
 -- the verdict's plan, or its fault
-abbrev pub Gives : Result Plan ScriptError → Result Plan StepFault → Type 0
-Gives (Ok plan) verdict = verdict ≡ Ok plan
-Gives (Err (ScriptError.Step fault)) verdict = verdict ≡ Err fault
-Gives (Err ScriptError.Memory) verdict = Unit {0}
+abbrev pub VerdictAnswers : Result Plan ScriptError → Result Plan StepFault → Type 0
+VerdictAnswers (Ok plan) verdict = verdict ≡ Ok plan
+VerdictAnswers (Err (ScriptError.Step fault)) verdict = verdict ≡ Err fault
+VerdictAnswers (Err ScriptError.Memory) verdict = Unit {0}
 
 -- a call that changes the plan: what it is afterwards, or the fault
-abbrev pub Goes : {T : Type 0} → Result T ScriptError → Plan → Result Plan StepFault → Type 0
-Goes (Ok done) new verdict = verdict ≡ Ok new
-Goes (Err (ScriptError.Step fault)) new verdict = verdict ≡ Err fault
-Goes (Err ScriptError.Memory) new verdict = Unit {0}
+abbrev pub PlanGoes : {T : Type 0} → Result T ScriptError → Plan → Result Plan StepFault → Type 0
+PlanGoes (Ok done) new verdict = verdict ≡ Ok new
+PlanGoes (Err (ScriptError.Step fault)) new verdict = verdict ≡ Err fault
+PlanGoes (Err ScriptError.Memory) new verdict = Unit {0}
 
 -- a call that finds whether something fails
 abbrev pub Passes : {T : Type 0} → Result T ScriptError → Result (Unit {0}) StepFault → Type 0

@@ -14,7 +14,7 @@ use Rattle.proof_script.specs.declared.plans.ScriptError.{ScriptError}
 use Rattle.proof_script.specs.Giving.{PlanHolds}
 use Rattle.proof_script.specs.Proving.{enough_for, Finds}
 use Rattle.proof_script.specs.Reaching.{Reach, reach_of, reached}
-use Rattle.step_rules.specs.Starts.{starts_in}
+use Rattle.rules_steps.specs.Starts.{starts_in}
 use Rattle.proof_script.specs.Verdicts.{rule_fault, verdict_of}
 
 -- the walk's plan, with what is left to be shown as obligations
@@ -44,13 +44,13 @@ AcceptedHolds = (d : CDocument) (certs : List Cert) (plan : Plan) → IsDocument
     PlanHolds d plan
 
 -- how far the steps go is what the walk along them says: the same plan, or the same first failure
-abbrev pub Agrees : List CSlot → Result walk.Plan Failure → Reach → Type 0
-Agrees slots (Ok w) r = r ≡ Ok (plan_of slots w)
-Agrees slots (Err failure) r = (plan : Plan) ×
+abbrev pub ReachAgrees : List CSlot → Result walk.Plan Failure → Reach → Type 0
+ReachAgrees slots (Ok w) r = r ≡ Ok (plan_of slots w)
+ReachAgrees slots (Err failure) r = (plan : Plan) ×
     (r ≡ Err (record { plan = plan; fault = rule_fault failure.program failure.step failure.code }))
 
 abbrev pub ReachIsWalk : Type 0
-ReachIsWalk = (d : CDocument) → Agrees d.slots (walk_of d (starts_in d.slots)) (reach_of d)
+ReachIsWalk = (d : CDocument) → ReachAgrees d.slots (walk_of d (starts_in d.slots)) (reach_of d)
 
 -- no search ends for want of units where the budget is at least what always suffices for all obligations
 abbrev pub EnoughSuffices : Type 0
@@ -59,12 +59,12 @@ EnoughSuffices = (d : CDocument) (budget program step number : ℕ) →
     Finds d budget (Ok (Proof.Budget program step number)) → ⊥
 
 -- an answer other than want of memory
-abbrev pub IsTold : Result Proof ScriptError → Type 0
-IsTold (Ok found) = Unit {0}
-IsTold (Err (ScriptError.Step fault)) = Unit {0}
-IsTold (Err ScriptError.Memory) = ⊥
+abbrev pub IsAnswered : Result Proof ScriptError → Type 0
+IsAnswered (Ok found) = Unit {0}
+IsAnswered (Err (ScriptError.Step fault)) = Unit {0}
+IsAnswered (Err ScriptError.Memory) = ⊥
 
 -- whatever the budget, a search may answer something of each document
 abbrev pub SomeFinding : Type 0
 SomeFinding = (d : CDocument) (budget : ℕ) → IsDocument d →
-    (finding : Result Proof ScriptError) × IsTold finding × Finds d budget finding
+    (finding : Result Proof ScriptError) × IsAnswered finding × Finds d budget finding

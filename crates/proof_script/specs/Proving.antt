@@ -33,7 +33,7 @@ abbrev pub ArePlain : List Cert → Type 0
 ArePlain certs = All (λ (c : Cert). list_all is_plain_node c.nodes ≡ true) certs
 
 -- the document is accepted with these certificates, which have at most so many units together
-pub record IsProved (d : CDocument) (budget : ℕ) (plan : Plan) (certs : List Cert) : Type 0 where
+pub record ProvedWithin (d : CDocument) (budget : ℕ) (plan : Plan) (certs : List Cert) : Type 0 where
   pub verdict : verdict_of d certs ≡ Ok plan
   pub within : units_of certs ≤ budget
   pub whole : AreWhole certs
@@ -46,7 +46,7 @@ pub record IsStopped (r : Reach) (fault : StepFault) : Type 0 where
   pub valid : All Valid plan.obligations
 
 -- the obligation of this number, from 1; those before it are valid
-pub record Comes (os : List Obligation) (number : ℕ) (o : Obligation) : Type 0 where
+pub record ComesAtNumber (os : List Obligation) (number : ℕ) (o : Obligation) : Type 0 where
   pub front : List Obligation
   pub rest : List Obligation
   pub parts : os ≡ front ++ o ∷ rest
@@ -67,25 +67,25 @@ pub record IsOwner (plan : Plan) (number program step : ℕ) : Type 0 where
 -- it is false at these values of its variables, which lie in their ranges
 pub record IsFalse (os : List Obligation) (number : ℕ) (variables : List Variable) (values : List ℤ) : Type 0 where
   pub obligation : Obligation
-  pub comes : Comes os number obligation
+  pub comes : ComesAtNumber os number obligation
   pub variables_are : variables ≡ obligation.variables
   pub fails : Counterexample obligation values
 
 -- the budget is less than what always suffices for the obligations up to this one
-pub record IsShort (os : List Obligation) (number budget : ℕ) : Type 0 where
+pub record BudgetIsShort (os : List Obligation) (number budget : ℕ) : Type 0 where
   pub obligation : Obligation
-  pub comes : Comes os number obligation
+  pub comes : ComesAtNumber os number obligation
   pub short : budget < enough_for comes.front + enough obligation
 
 -- what is found of a document with a budget: certificates with which it is accepted; or the first obligation that is
 -- false, at values; or one up to which the budget does not suffice; or the first failure of a rule. Each comes with
 -- its step; the obligations are those of the steps before any that fails
 abbrev pub Finds : CDocument → ℕ → Result Proof ScriptError → Type 0
-Finds d budget (Ok (Proof.Proved plan certs)) = IsProved d budget plan certs
+Finds d budget (Ok (Proof.Proved plan certs)) = ProvedWithin d budget plan certs
 Finds d budget (Ok (Proof.Refuted program step number variables values)) =
     IsFalse (reached (reach_of d)).obligations number variables values
     × IsOwner (reached (reach_of d)) number program step
 Finds d budget (Ok (Proof.Budget program step number)) =
-    IsShort (reached (reach_of d)).obligations number budget × IsOwner (reached (reach_of d)) number program step
+    BudgetIsShort (reached (reach_of d)).obligations number budget × IsOwner (reached (reach_of d)) number program step
 Finds d budget (Err (ScriptError.Step fault)) = IsStopped (reach_of d) fault
 Finds d budget (Err ScriptError.Memory) = Unit {0}

@@ -12,7 +12,7 @@ use Rattle.proof_rules.specs.Walk.{has_defined, program_of, rule_of}
 use Rattle.safety_rules.specs.Answers.{derived_of}
 use Rattle.proof_script.specs.declared.plans.Plan.{Plan}
 use Rattle.proof_script.specs.declared.plans.StepFault.{StepFault}
-use Rattle.step_rules.specs.Starts.{starts_in}
+use Rattle.rules_steps.specs.Starts.{starts_in}
 use Rattle.proof_script.specs.Verdicts.{rule_fault, grown, no_plan}
 
 -- a failure, and what the steps before it left

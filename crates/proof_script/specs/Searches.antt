@@ -8,7 +8,7 @@ use Rattle.proof_script.specs.declared.refuting.StepName.{StepName}
 use Rattle.proof_script.specs.declared.finding.Finding.{Finding}
 use Rattle.proof_script.specs.declared.finding.Halt.{Halt}
 use Rattle.proof_script.specs.Giving.{AreWhole}
-use Rattle.proof_script.specs.Proving.{units_of, enough_for, ArePlain, IsFalse, IsOwner, IsShort, IsStopped}
+use Rattle.proof_script.specs.Proving.{units_of, enough_for, ArePlain, IsFalse, IsOwner, BudgetIsShort, IsStopped}
 use Rattle.proof_script.specs.Reaching.{Reach, reached}
 
 -- the certificate of this number, from 0, refutes the obligation
@@ -21,7 +21,7 @@ AreShown certs number [] = Unit {0}
 AreShown certs number (o ∷ os) = ShownAt certs number o × AreShown certs (suc number) os
 
 -- one certificate for each of these obligations
-pub record IsFinding (os : List Obligation) (f : Finding) : Type 0 where
+pub record HasCertificates (os : List Obligation) (f : Finding) : Type 0 where
   pub count : length f.certs ≡ length os
   pub shown : AreShown f.certs 0 os
   pub whole : AreWhole f.certs
@@ -32,17 +32,17 @@ pub record IsFinding (os : List Obligation) (f : Finding) : Type 0 where
 -- the search among the obligations of a step, after those before
 abbrev pub Searches : Result (Unit {0}) Halt → StepName → List Obligation → List Obligation → Finding → Finding →
     Type 0
-Searches (Ok done) name before os old new = IsFinding (before ++ os) new × (new.budget ≡ old.budget)
+Searches (Ok done) name before os old new = HasCertificates (before ++ os) new × (new.budget ≡ old.budget)
 Searches (Err (Halt.Step fault)) name before os old new = ⊥
 Searches (Err (Halt.Refuted step number)) name before os old new =
     (step ≡ name) × (length before < number) × IsFalse (before ++ os) number new.variables new.values
 Searches (Err (Halt.Short step number)) name before os old new =
-    (step ≡ name) × (length before < number) × IsShort (before ++ os) number old.budget
+    (step ≡ name) × (length before < number) × BudgetIsShort (before ++ os) number old.budget
 Searches (Err Halt.Memory) name before os old new = Unit {0}
 
 -- one certificate for each obligation of a plan
 pub record IsUnderWay (plan : Plan) (f : Finding) : Type 0 where
-  pub found : IsFinding plan.obligations f
+  pub found : HasCertificates plan.obligations f
   pub owned : length plan.owner ≡ length plan.obligations
 
 -- the search along steps that go so far
@@ -53,5 +53,5 @@ SearchGoes (Err (Halt.Refuted step number)) old plan new r =
     IsFalse (reached r).obligations number new.variables new.values
     × IsOwner (reached r) number step.program step.step
 SearchGoes (Err (Halt.Short step number)) old plan new r =
-    IsShort (reached r).obligations number old.budget × IsOwner (reached r) number step.program step.step
+    BudgetIsShort (reached r).obligations number old.budget × IsOwner (reached r) number step.program step.step
 SearchGoes (Err Halt.Memory) old plan new r = Unit {0}

@@ -1,7 +1,7 @@
 // A whole document against its certificates.
 ghost use Rattle.std.specs.Prelude.{◌≡◌, ◌<◌, ◌^◌, true, IfOk};
 ghost use Rattle.core_terms.specs.Conditions.{IsDocument};
-ghost use Rattle.proof_script.specs.Giving.{AreWhole, Gives, PlanHolds};
+ghost use Rattle.proof_script.specs.Giving.{AreWhole, VerdictAnswers, PlanHolds};
 ghost use Rattle.proof_script.specs.Verdicts.{surplus_fault, verdict_of};
 
 use crate::adding::new_plan;
@@ -37,7 +37,7 @@ fn surplus(obligations: usize) -> ScriptError
 pub fn check(alloc: Global, doc: &CDocument, certs: &[Cert]) -> Result<Plan, ScriptError>
     requires document { IsDocument doc.now }
     requires whole { AreWhole certs.now }
-    ensures verdict { Gives result (verdict_of doc.now certs.now) }
+    ensures verdict { VerdictAnswers result (verdict_of doc.now certs.now) }
     ensures holds { IfOk result (PlanHolds doc.now) }
 {
     let mut plan = new_plan(alloc);

@@ -3,7 +3,7 @@ ghost use Rattle.std.specs.Prelude.{◌≡◌, ◌≤◌, ◌+◌, ◌++◌, ◌
 ghost use Rattle.obligations.specs.Certificates.{units};
 ghost use Rattle.obligations.specs.Obligations.{IsObligation};
 ghost use Rattle.obligations.specs.declared.branches.Obligation.{Obligation};
-ghost use Rattle.proof_script.specs.Searches.{IsFinding, Searches};
+ghost use Rattle.proof_script.specs.Searches.{HasCertificates, Searches};
 
 use crate::plans::StepFault;
 use crate::refuting::StepName;
@@ -76,7 +76,7 @@ fn find(
     finding: &mut Finding,
 ) -> Result<(), Halt>
     requires { IsObligation obligation.now }
-    ensures { (before : List Obligation) → IsFinding before finding.old →
+    ensures { (before : List Obligation) → HasCertificates before finding.old →
         Searches result name before (obligation.now ∷ []) finding.old finding.new }
 {
     let number = finding.certs.as_slice().len() as u64 + 1;
@@ -103,7 +103,7 @@ pub(crate) fn find_all(
     finding: &mut Finding,
 ) -> Result<(), Halt>
     requires { All IsObligation obligations.now }
-    ensures { (before : List Obligation) → IsFinding before finding.old →
+    ensures { (before : List Obligation) → HasCertificates before finding.old →
         Searches result name before obligations.now finding.old finding.new }
 {
     for obligation in obligations {

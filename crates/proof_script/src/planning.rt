@@ -5,8 +5,8 @@ ghost use Rattle.core_terms.specs.declared.documents.CProof.{CProof};
 ghost use Rattle.proof_rules.specs.Walk.{program_of, walk_of};
 ghost use Rattle.proof_script.specs.Planning.{Reaches, Walks};
 ghost use Rattle.proof_script.specs.Reaching.{proof_reach, proofs_reach, step_reach, steps_reach};
-ghost use Rattle.step_rules.specs.Starts.{starts_in};
-ghost use Rattle.step_rules.specs.Using.{BookFits};
+ghost use Rattle.rules_steps.specs.Starts.{starts_in};
+ghost use Rattle.rules_steps.specs.Using.{BookFits};
 
 use crate::adding::{add, new_plan};
 use crate::plans::{Plan, ScriptError};
@@ -14,9 +14,9 @@ use crate::programs::find_program;
 use crate::walking::fault;
 use case_tables::Code;
 use core_terms::{CDocument, CProgram, CProof, CSlot, CStep};
+use rules_steps::{has_defined, step_rule};
 use safety_rules::RuleError;
 use std::alloc::Global;
-use step_rules::{has_defined, step_rule};
 
 // One step, by its rule.
 fn plan_step(

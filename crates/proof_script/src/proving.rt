@@ -10,7 +10,7 @@ ghost use Rattle.proof_script.specs.declared.plans.Plan.{Plan};
 ghost use Rattle.proof_script.specs.Proving.{Finds};
 ghost use Rattle.proof_script.specs.Reaching.{proof_reach, proofs_reach, reach_of, step_reach, steps_reach};
 ghost use Rattle.proof_script.specs.Searches.{SearchGoes, IsUnderWay};
-ghost use Rattle.step_rules.specs.Using.{BookFits};
+ghost use Rattle.rules_steps.specs.Using.{BookFits};
 ghost use Rattle.proof_script.specs.Verdicts.{grown, rule_fault};
 
 use crate::adding::{add, new_plan};
@@ -20,9 +20,9 @@ use crate::programs::find_program;
 use crate::refuting::StepName;
 use case_tables::Code;
 use core_terms::{CDocument, CProgram, CProof, CSlot, CStep};
+use rules_steps::{has_defined, step_rule};
 use safety_rules::{Derived, RuleError};
 use std::alloc::Global;
-use step_rules::{has_defined, step_rule};
 use unity_base::{Held, Seq};
 
 // A condition of a rule fails, or at a proof's end its `defined` step is missing.

@@ -3,8 +3,8 @@ ghost use Rattle.std.specs.Prelude.{◌≡◌, ◌+◌, ◌<◌, ◌^◌, All, l
 ghost use Rattle.core_terms.specs.Conditions.{IsDocument, IsProgram, IsSlot, IsStep};
 ghost use Rattle.core_terms.specs.declared.documents.CProof.{CProof};
 ghost use Rattle.proof_rules.specs.Walk.{program_of};
-ghost use Rattle.proof_script.specs.Giving.{AreWhole, Goes, IsCheckable};
-ghost use Rattle.step_rules.specs.Using.{BookFits};
+ghost use Rattle.proof_script.specs.Giving.{AreWhole, PlanGoes, IsCheckable};
+ghost use Rattle.rules_steps.specs.Using.{BookFits};
 ghost use Rattle.proof_script.specs.Verdicts.{proof_verdict, proofs_verdict, rule_fault, step_verdict, steps_verdict};
 ghost use Rattle.proof_script.specs.Verdicts.{taken};
 
@@ -15,9 +15,9 @@ use crate::refuting::{StepName, refute_all};
 use case_tables::Code;
 use core_terms::{CDocument, CProgram, CProof, CSlot, CStep};
 use obligations::Cert;
+use rules_steps::{has_defined, step_rule};
 use safety_rules::{Derived, RuleError};
 use std::alloc::Global;
-use step_rules::{has_defined, step_rule};
 use unity_base::Held;
 
 // A condition of a rule fails, or at a proof's end its `defined` step is missing.
@@ -43,7 +43,7 @@ fn take_derived(
     requires whole { AreWhole certs.now }
     requires checkable { All IsCheckable derived.obligations }
     requires room { length plan.old.records < 2 ^ 31 }
-    ensures { Goes result plan.new (taken certs.now name.program name.step plan.old derived) }
+    ensures { PlanGoes result plan.new (taken certs.now name.program name.step plan.old derived) }
 {
     let first = plan.obligations.as_slice().len();
     let obligations = derived.get().obligations.as_slice();
@@ -67,7 +67,7 @@ fn take_step(
     requires whole { AreWhole certs.now }
     requires book { BookFits slots.now plan.old.records }
     requires room { length plan.old.records < 2 ^ 31 }
-    ensures { Goes result plan.new (step_verdict slots.now certs.now program.now step.now plan.old) }
+    ensures { PlanGoes result plan.new (step_verdict slots.now certs.now program.now step.now plan.old) }
 {
     match step_rule(alloc, slots, program, step, plan.records.as_slice()) {
         Ok(derived) => {
@@ -97,7 +97,7 @@ fn take_steps(
     requires whole { AreWhole certs.now }
     requires book { BookFits slots.now plan.old.records }
     requires room { length plan.old.records + length steps.now < 2 ^ 31 }
-    ensures { Goes result plan.new (steps_verdict slots.now certs.now program.now steps.now plan.old) }
+    ensures { PlanGoes result plan.new (steps_verdict slots.now certs.now program.now steps.now plan.old) }
 {
     for step in steps {
         take_step(alloc, slots, certs, program, step, plan)?;
@@ -120,7 +120,7 @@ fn take_program(
     requires whole { AreWhole certs.now }
     requires book { BookFits slots.now plan.old.records }
     requires room { length plan.old.records + length proof.now.steps < 2 ^ 31 }
-    ensures { Goes result plan.new (proof_verdict slots.now certs.now (Some program.now) proof.now plan.old) }
+    ensures { PlanGoes result plan.new (proof_verdict slots.now certs.now (Some program.now) proof.now plan.old) }
 {
     take_steps(alloc, slots, certs, program, proof.steps.as_slice(), plan)?;
     if has_defined(program.name, plan.records.as_slice()) {
@@ -144,7 +144,7 @@ fn take_proof(
     requires whole { AreWhole certs.now }
     requires book { BookFits doc.now.slots plan.old.records }
     requires room { length plan.old.records + length proof.now.steps < 2 ^ 31 }
-    ensures { Goes result plan.new (proof_verdict doc.now.slots certs.now
+    ensures { PlanGoes result plan.new (proof_verdict doc.now.slots certs.now
         (program_of doc.now.programs proof.now.program) proof.now plan.old) }
 {
     match find_program(proof.program, doc.programs.as_slice()) {
@@ -164,7 +164,7 @@ pub(crate) fn take_proofs(
     requires whole { AreWhole certs.now }
     requires book { BookFits doc.now.slots plan.old.records }
     requires room { length plan.old.records + sum (map (λ (p : CProof). length p.steps) doc.now.proofs) < 2 ^ 31 }
-    ensures { Goes result plan.new
+    ensures { PlanGoes result plan.new
         (proofs_verdict doc.now.slots certs.now doc.now.programs doc.now.proofs plan.old) }
 {
     for proof in doc.proofs.as_slice() {

@@ -5,7 +5,7 @@ use Rattle.unity_syntax.specs.Classes.{terminals}
 use Rattle.core_terms.specs.Conditions.{IsDocument as IsCoreDocument}
 use Rattle.executor.specs.StartState.{start_state}
 use Rattle.core_documents.specs.Cores.{core_document}
-use Rattle.parsed_documents.proofs.Reading.{read_cores}
+use Rattle.expand_fits.proofs.Parsed.Reading.{read_cores}
 use Rattle.unity_parser.specs.Document.{IsDocument}
 use Rattle.unity_parser.proofs.Readings.{one_document}
 use Rattle.proof_script.specs.Giving.{AreWhole}
@@ -13,19 +13,19 @@ use Rattle.proof_script.specs.declared.plans.Plan.{Plan}
 use Rattle.proof_script.specs.Following.{Follows}
 use Rattle.proof_script.specs.Laws.{IsValidPlan}
 use Rattle.proof_script.specs.Verdicts.{verdict_of}
-use Rattle.step_rules.specs.Starts.{starts_in}
+use Rattle.rules_steps.specs.Starts.{starts_in}
 use Rattle.proof_script.proofs.FollowLaws.{accepted_follows}
 use Rattle.proof_script.proofs.VerdictLaws.{accepted_valid}
-use Rattle.proved_properties.specs.Properties.{IsAccepted as IsProvedBy}
-use Rattle.proved_properties.specs.Written.{AreClaims}
-use Rattle.proved_properties.proofs.Words.{claims_are_written}
-use Rattle.proved_properties.proofs.Claims.{each_claim_is_true}
-use Rattle.proved_properties.proofs.Starts.{executions_exist}
-use Rattle.answer_texts.specs.Verdicts.{accepted_text}
-use Rattle.told_claims.specs.Told.{TellsClaims}
-use Rattle.told_claims.proofs.Lines.{accepted_tells}
-use Rattle.written_certificates.specs.Certificates.{certificates_of}
-use Rattle.written_certificates.proofs.Whole.{are_whole_trees}
+use Rattle.soundness.specs.Properties.{IsValidlyPlanned as IsProvedBy}
+use Rattle.soundness.specs.Written.{AreClaims}
+use Rattle.soundness.proofs.Words.{claims_are_written}
+use Rattle.soundness.proofs.Claims.{each_claim_is_true}
+use Rattle.soundness.proofs.Starts.{executions_exist}
+use Rattle.cli_texts.specs.Verdicts.{accepted_text}
+use Rattle.soundness.specs.Told.{TellsClaims}
+use Rattle.soundness.proofs.Lines.{accepted_tells}
+use Rattle.certificate_reading.specs.Certificates.{certificates_of}
+use Rattle.certificate_reading.proofs.Whole.{are_whole_trees}
 use Rattle.unity_cli.specs.Admitted.{greatest_size, IsAdmitted}
 use Rattle.unity_cli.specs.Answer.Check.{IsAccepted}
 use Rattle.unity_cli.specs.Truth.{ClaimsAreTrue, ProgramsRun}

@@ -6,22 +6,22 @@ use Rattle.unity_syntax.specs.declared.document.Document.{Document}
 use Rattle.unity_syntax.specs.declared.document.Schedule.{Schedule}
 use Rattle.unity_syntax.specs.declared.term.Inst.{Inst}
 use Rattle.name_scopes.specs.Declarations.{some_of}
-use Rattle.source_traces.specs.Names.{place_of}
+use Rattle.run_correct.specs.Names.{place_of}
 use Rattle.unity_meaning.specs.Programs.{Composed, program_named, programs_of}
 use Rattle.core_terms.specs.declared.programs.CProgram.{CProgram}
 use Rattle.core_documents.specs.Cores.{core_document}
 use Rattle.core_meaning.specs.Meaning.{IsCoreOf}
 use Rattle.schedule_replay.specs.declared.heading.Heading.{Heading}
 use Rattle.schedule_replay.specs.Schedules.{turns}
-use Rattle.source_traces.specs.Traces.{source_system, first_state}
-use Rattle.source_traces.specs.Answers.{IsReplay, IsUnknown}
+use Rattle.run_correct.specs.Traces.{source_system, first_state}
+use Rattle.run_correct.specs.Answers.{IsReplay, IsUnknown}
 use Rattle.proof_script.specs.declared.plans.Plan.{Plan}
 use Rattle.proof_script.specs.declared.plans.StepFault.{StepFault}
 use Rattle.proof_script.specs.Verdicts.{verdict_of}
-use Rattle.written_certificates.specs.Certificates.{certificates_of}
-use Rattle.answer_texts.specs.Refusals.{fault_text}
-use Rattle.answer_texts.specs.Verdicts.{accepted_text, rejected_text}
-use Rattle.command_words.specs.Requests.{check, prove, run, replay, demo}
+use Rattle.certificate_reading.specs.Certificates.{certificates_of}
+use Rattle.cli_texts.specs.Refusals.{fault_text}
+use Rattle.cli_texts.specs.Verdicts.{accepted_text, rejected_text}
+use Rattle.cli_words.specs.Requests.{check, prove, run, replay, demo}
 use Rattle.unity_parser.proofs.Readings.{one_document}
 use Rattle.unity_cli.specs.declared.status.Status.{Status}
 use Rattle.unity_cli.specs.Admitted.{greatest_size, IsAdmitted, IsBad, too_long, no_reading}

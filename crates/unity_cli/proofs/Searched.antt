@@ -9,13 +9,13 @@ use Rattle.obligations.specs.declared.certificates.Cert.{Cert}
 use Rattle.proof_script.specs.declared.plans.Plan.{Plan}
 use Rattle.proof_script.specs.declared.plans.Proof.{Proof}
 use Rattle.proof_script.specs.declared.plans.ScriptError.{ScriptError}
-use Rattle.proof_script.specs.Proving.{Finds, IsProved}
+use Rattle.proof_script.specs.Proving.{Finds, ProvedWithin}
 use Rattle.proof_script.specs.Verdicts.{verdict_of}
-use Rattle.answer_texts.specs.Verdicts.{accepted_text}
-use Rattle.certificate_texts.specs.Certificates.{certificates_text}
-use Rattle.found_documents.specs.Found.{front, text_with}
-use Rattle.found_texts.specs.Laws.{IsFoundText}
-use Rattle.found_texts.proofs.Found.{proved_is_read}
+use Rattle.cli_texts.specs.Verdicts.{accepted_text}
+use Rattle.certificate_printing.specs.Certificates.{certificates_text}
+use Rattle.certificate_roundtrip.specs.Found.{front, text_with}
+use Rattle.certificate_roundtrip.specs.TextLaws.{IsFoundText}
+use Rattle.certificate_roundtrip.proofs.FoundTexts.{proved_is_read}
 use Rattle.unity_cli.specs.declared.prove.Found.{Found}
 use Rattle.unity_cli.specs.declared.input.Input.{Input}
 use Rattle.unity_cli.specs.declared.input.AdmittedDocument.{AdmittedDocument}
@@ -72,7 +72,7 @@ with_accepted bytes d plan certs read verdict found = record {
     within a b h k = omega (arith, h, k)
 
 found_accepted : (bytes : List ℕ) (budget : ℕ) (d : Document) (plan : Plan) (certs : List Cert) →
-    IsAdmitted greatest_bare_size bytes d → budget ≤ 1000000 → IsProved (core_document d) budget plan certs →
+    IsAdmitted greatest_bare_size bytes d → budget ≤ 1000000 → ProvedWithin (core_document d) budget plan certs →
     IsAccepted (text_with bytes d certs) (accepted_text (core_document d).words plan)
 found_accepted bytes budget d plan certs read few proved =
     with_accepted bytes d plan certs read proved.verdict
@@ -81,7 +81,7 @@ found_accepted bytes budget d plan certs read few proved =
 
 -- the text with certificates that were found
 pub found_of : (bytes : List ℕ) (budget : ℕ) (d : Document) (plan : Plan) (certs : List Cert) (text : List ℕ) →
-    IsAdmitted greatest_bare_size bytes d → budget ≤ 1000000 → IsProved (core_document d) budget plan certs →
+    IsAdmitted greatest_bare_size bytes d → budget ≤ 1000000 → ProvedWithin (core_document d) budget plan certs →
     text ≡ text_with bytes d certs → IsFound bytes budget text
 found_of bytes budget d plan certs text read few proved e = record {
   document = d;
@@ -96,7 +96,7 @@ found_of bytes budget d plan certs text read few proved e = record {
 }
 
 module _ (bytes : List ℕ) (budget : ℕ) (r : AdmittedDocument) (plan : Plan) (certs : List Cert) (before text : List ℕ)
-    (few : budget ≤ 1000000) (proved : IsProved r.core budget plan certs)
+    (few : budget ≤ 1000000) (proved : ProvedWithin r.core budget plan certs)
     (front_is : before ≡ front bytes r.document.certificates) (text_is : text ≡ before ++ 10 ∷ certificates_text certs)
   where
     whole_text : text ≡ text_with bytes r.document certs
@@ -105,14 +105,14 @@ module _ (bytes : List ℕ) (budget : ℕ) (r : AdmittedDocument) (plan : Plan) 
     pub found_told : IsAdmittedAs greatest_bare_size bytes r → IsFound bytes budget text
     found_told is =
         found_of bytes budget r.document plan certs text is.read few
-        (subst (λ c. IsProved c budget plan certs) is.core_is proved) whole_text
+        (subst (λ c. ProvedWithin c budget plan certs) is.core_is proved) whole_text
 
     pub found_planned : IsAdmittedAs greatest_bare_size bytes r → IsAccepted text (accepted_text r.core.words plan)
     found_planned is =
         subst (λ t. IsAccepted t (accepted_text r.core.words plan)) (sym whole_text)
         (subst (λ (c : CDocument). IsAccepted (text_with bytes r.document certs) (accepted_text c.words plan))
         (sym is.core_is) (found_accepted bytes budget r.document plan certs is.read few
-        (subst (λ c. IsProved c budget plan certs) is.core_is proved)))
+        (subst (λ c. ProvedWithin c budget plan certs) is.core_is proved)))
 
 -- the words of a document are those of its reading
 pub reading_plan : (input : Input) (r : AdmittedDocument) {E : Type 0} (result : Result Found E) →

@@ -3,11 +3,11 @@ use Rattle.std.proofs.Common.{◌≡◌, ◌≤◌, ◌-◌, ℕ, List, ◌++◌
 use Rattle.std.proofs.Common.{ap, ◌∙◌, subst, arith}
 use Rattle.std.proofs.lemmas.Fmt.{length-decimal-le_succ}
 use Rattle.proof_script.specs.declared.plans.Plan.{Plan}
-use Rattle.answer_texts.specs.Verdicts.{accepted_text}
-use Rattle.ring_documents.specs.Rings.{ring_bytes}
-use Rattle.ring_documents.proofs.Lengths.{rings_have_lengths}
-use Rattle.command_words.specs.declared.words.Command.{Command}
-use Rattle.command_words.specs.Requests.{Request, check, demo, meant}
+use Rattle.cli_texts.specs.Verdicts.{accepted_text}
+use Rattle.cli_ring.specs.Rings.{ring_bytes}
+use Rattle.cli_ring.proofs.Lengths.{rings_have_lengths}
+use Rattle.cli_words.specs.declared.words.Command.{Command}
+use Rattle.cli_words.specs.Requests.{Request, check, demo, meant}
 use Rattle.unity_cli.specs.declared.output.Answer.{Answer as Told}
 use Rattle.unity_cli.specs.declared.input.Input.{Input}
 use Rattle.unity_cli.specs.declared.status.Status.{Status}

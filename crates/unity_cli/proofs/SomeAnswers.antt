@@ -20,30 +20,30 @@ use Rattle.core_meaning.specs.Meaning.{IsCoreOf}
 use Rattle.core_meaning.proofs.Matching.{programs_match}
 use Rattle.schedule_replay.specs.declared.heading.Heading.{Heading}
 use Rattle.schedule_replay.specs.Schedules.{turns}
-use Rattle.program_traces.specs.Programs.{scheduled_program}
-use Rattle.program_traces.proofs.FindingLaws as core
-use Rattle.trace_text.specs.Traces.{all_defined}
-use Rattle.source_traces.specs.Answers.{IsReplay, IsUnknown}
-use Rattle.source_traces.specs.Names.{place_of}
-use Rattle.source_traces.specs.Traces.{source_system, first_state, program_trace}
-use Rattle.source_traces.proofs.Finding.{HasSchedule, scheduled_source, no_schedule_source}
+use Rattle.run_traces.specs.Programs.{scheduled_program}
+use Rattle.run_traces.proofs.FindingLaws as core
+use Rattle.run_traces.specs.Traces.{all_defined}
+use Rattle.run_correct.specs.Answers.{IsReplay, IsUnknown}
+use Rattle.run_correct.specs.Names.{place_of}
+use Rattle.run_correct.specs.Traces.{source_system, first_state, program_trace}
+use Rattle.run_correct.proofs.Finding.{HasSchedule, scheduled_source, no_schedule_source}
 use Rattle.proof_script.specs.declared.plans.Plan.{Plan}
 use Rattle.proof_script.specs.declared.plans.StepFault.{StepFault}
 use Rattle.proof_script.specs.declared.plans.Proof.{Proof}
 use Rattle.proof_script.specs.declared.plans.ScriptError.{ScriptError}
-use Rattle.proof_script.specs.Laws.{IsTold}
+use Rattle.proof_script.specs.Laws.{IsAnswered}
 use Rattle.proof_script.specs.Proving.{Finds}
 use Rattle.proof_script.specs.Verdicts.{verdict_of}
 use Rattle.proof_script.proofs.SomeLaws.{some_finding}
 use Rattle.tree_search.proofs.EndsLaws.{search-ends}
-use Rattle.certificate_texts.specs.Findings.{budget_text, refuted_text}
-use Rattle.found_documents.specs.Found.{text_with}
-use Rattle.ring_documents.specs.Rings.{ring_bytes}
-use Rattle.written_certificates.specs.Certificates.{certificates_of}
-use Rattle.answer_texts.specs.Refusals.{fault_text, refusal_text}
-use Rattle.answer_texts.specs.Verdicts.{accepted_text, rejected_text}
-use Rattle.command_words.specs.Requests.{Request, check, prove, run, replay, demo, request_of}
-use Rattle.command_words.proofs.Asking.{requests_are_asked}
+use Rattle.certificate_printing.specs.Findings.{budget_text, refuted_text}
+use Rattle.certificate_roundtrip.specs.Found.{text_with}
+use Rattle.cli_ring.specs.Rings.{ring_bytes}
+use Rattle.certificate_reading.specs.Certificates.{certificates_of}
+use Rattle.cli_texts.specs.Refusals.{fault_text, refusal_text}
+use Rattle.cli_texts.specs.Verdicts.{accepted_text, rejected_text}
+use Rattle.cli_words.specs.Requests.{Request, check, prove, run, replay, demo, request_of}
+use Rattle.cli_words.proofs.Asking.{requests_are_asked}
 use Rattle.unity_cli.specs.declared.status.Status.{Status}
 use Rattle.unity_cli.specs.Admitted.{greatest_size, greatest_bare_size, IsAdmitted, IsBad, too_long, no_reading}
 use Rattle.unity_cli.specs.Answer.Prove.{Searched}
@@ -283,7 +283,7 @@ searched bytes budget few (inl (d, read)) =
     by_some (some_finding search-ends (core_document d) budget
     (read_core greatest_bare_size (omega arith) bytes d read))
   where
-    by_finding : (finding : Result Proof ScriptError) → IsTold finding → Finds (core_document d) budget finding →
+    by_finding : (finding : Result Proof ScriptError) → IsAnswered finding → Finds (core_document d) budget finding →
         HasAnswer (Some (prove budget)) bytes
     by_finding (Ok (Proof.Proved plan certs)) told finds = (
       Status.Done,
@@ -322,7 +322,7 @@ searched bytes budget few (inl (d, read)) =
     )
     by_finding (Err ScriptError.Memory) told finds = absurd told
 
-    by_some : (finding : Result Proof ScriptError) × IsTold finding × Finds (core_document d) budget finding →
+    by_some : (finding : Result Proof ScriptError) × IsAnswered finding × Finds (core_document d) budget finding →
         HasAnswer (Some (prove budget)) bytes
     by_some (finding, told, finds) = by_finding finding told finds
 

@@ -9,7 +9,7 @@ use Rattle.unity_base.specs.Streams.{Was, IsLongerThan, AppendsPart}
 use Rattle.unity_syntax.specs.declared.document.Document.{Document}
 use Rattle.unity_syntax.specs.declared.document.Schedule.{Schedule}
 use Rattle.case_tables.specs.declared.code_table.Code.{Code}
-use Rattle.answer_texts.specs.Refusals.{fault_text, refusal_text}
+use Rattle.cli_texts.specs.Refusals.{fault_text, refusal_text}
 use Rattle.unity_meaning.specs.Programs.{Composed}
 use Rattle.core_terms.specs.Conditions.{IsDocument as IsCoreDocument}
 use Rattle.core_terms.specs.declared.documents.CDocument.{CDocument}
@@ -19,16 +19,16 @@ use Rattle.obligations.specs.declared.certificates.Cert.{Cert}
 use Rattle.executor.specs.declared.runner.Stepped.{Stepped}
 use Rattle.schedule_replay.specs.declared.heading.Heading.{Heading}
 use Rattle.schedule_replay.specs.Schedules.{turns}
-use Rattle.trace_text.specs.Traces.{all_defined, ending}
-use Rattle.program_traces.specs.declared.error.RunError.{RunError}
-use Rattle.program_traces.specs.Answers.{Runs as CoreRuns, Replays as CoreReplays}
-use Rattle.source_traces.specs.Traces.{source_system, first_state, program_trace}
-use Rattle.source_traces.specs.Answers.{Runs, Replays}
-use Rattle.source_traces.proofs.Runs.{runs_say}
-use Rattle.source_traces.proofs.Replays.{replays_say}
+use Rattle.run_traces.specs.Traces.{all_defined, ending}
+use Rattle.run_traces.specs.declared.error.RunError.{RunError}
+use Rattle.run_traces.specs.Answers.{CoreRuns, CoreReplays}
+use Rattle.run_correct.specs.Traces.{source_system, first_state, program_trace}
+use Rattle.run_correct.specs.Answers.{Runs, Replays}
+use Rattle.run_correct.proofs.Runs.{runs_say}
+use Rattle.run_correct.proofs.Replays.{replays_say}
 use Rattle.proof_script.specs.Giving.{AreWhole}
-use Rattle.written_certificates.specs.Certificates.{certificates_of}
-use Rattle.command_words.specs.Requests.{Request, check, run, replay}
+use Rattle.certificate_reading.specs.Certificates.{certificates_of}
+use Rattle.cli_words.specs.Requests.{Request, check, run, replay}
 use Rattle.unity_cli.specs.declared.status.Status.{Status}
 use Rattle.unity_cli.specs.declared.output.Answer.{Answer as Answered}
 use Rattle.unity_cli.specs.declared.stop.Stop.{Stop}

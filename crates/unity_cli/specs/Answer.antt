@@ -7,7 +7,7 @@ pub mod Demo
 use Rattle.std.specs.Prelude.{◌≡◌, ℕ, List, ◌∷◌, [], ◌++◌, codes, Bool, true, false, Option, Some, None}
 use Rattle.std.specs.Io.KnownBytes.{Appends}
 use Rattle.unity_base.specs.Streams.{Was, AppendsPart}
-use Rattle.command_words.specs.Requests.{Request, check, prove, run, replay, demo}
+use Rattle.cli_words.specs.Requests.{Request, check, prove, run, replay, demo}
 use Rattle.unity_cli.specs.declared.status.Status.{Status}
 use Rattle.unity_cli.specs.Admitted.{greatest_size, greatest_bare_size}
 use Rattle.unity_cli.specs.Answer.Check.{Checked}

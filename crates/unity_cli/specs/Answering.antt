@@ -4,15 +4,15 @@ use Rattle.std.specs.Io.KnownBytes.{Appends}
 use Rattle.unity_base.specs.Streams.{AppendsPart}
 use Rattle.case_tables.specs.declared.code_table.Code.{Code}
 use Rattle.executor.specs.declared.runner.Stepped.{Stepped}
-use Rattle.program_traces.specs.declared.error.RunError.{RunError}
+use Rattle.run_traces.specs.declared.error.RunError.{RunError}
 use Rattle.core_terms.specs.declared.documents.CDocument.{CDocument}
 use Rattle.obligations.specs.declared.certificates.Cert.{Cert}
 use Rattle.proof_script.specs.declared.plans.Plan.{Plan}
 use Rattle.proof_script.specs.declared.plans.StepFault.{StepFault}
 use Rattle.proof_script.specs.Verdicts.{verdict_of}
-use Rattle.answer_texts.specs.Refusals.{fault_text, refusal_text}
-use Rattle.answer_texts.specs.Verdicts.{accepted_text, rejected_text}
-use Rattle.command_words.specs.Requests.{Request}
+use Rattle.cli_texts.specs.Refusals.{fault_text, refusal_text}
+use Rattle.cli_texts.specs.Verdicts.{accepted_text, rejected_text}
+use Rattle.cli_words.specs.Requests.{Request}
 use Rattle.unity_cli.specs.declared.input.Input.{Input}
 use Rattle.unity_cli.specs.declared.input.AdmittedDocument.{AdmittedDocument}
 use Rattle.unity_cli.specs.declared.input.Text.{Text}

@@ -3,7 +3,7 @@ use Rattle.std.specs.Prelude.{ℕ, List}
 use Rattle.unity_syntax.specs.declared.document.Document.{Document}
 use Rattle.core_documents.specs.Cores.{core_document}
 use Rattle.proof_script.specs.Following.{Follows}
-use Rattle.written_certificates.specs.Certificates.{certificates_of}
+use Rattle.certificate_reading.specs.Certificates.{certificates_of}
 use Rattle.unity_cli.specs.Admitted.{greatest_size, IsAdmitted}
 
 -- the bytes are a document without a fault; each step of its proofs gets its record by the rules, each proof has its

@@ -1,6 +1,6 @@
 -- Laws of the answers, as statements.
 use Rattle.std.specs.Prelude.{◌≡◌, ◌≤◌, ℕ, List, Option, Some}
-use Rattle.command_words.specs.Requests.{Request, prove, demo, request_of}
+use Rattle.cli_words.specs.Requests.{Request, prove, demo, request_of}
 use Rattle.unity_cli.specs.declared.status.Status.{Status}
 use Rattle.unity_cli.specs.Answer.{Answer}
 

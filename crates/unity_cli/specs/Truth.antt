@@ -9,7 +9,7 @@ use Rattle.unity_meaning.specs.Programs.{Composed, program_named, programs_of, d
 use Rattle.unity_meaning.specs.Execution.{system_of, EveryChoiceRuns}
 use Rattle.unity_meaning.specs.Claims.{Claims}
 use Rattle.unity_meaning.specs.Steps.{EachStep}
-use Rattle.told_claims.specs.Told.{TellsClaims}
+use Rattle.soundness.specs.Told.{TellsClaims}
 
 -- what each step of each proof claims is true of its program, a leads-to within some bound
 abbrev pub ClaimsAreTrue : Document → Type 0

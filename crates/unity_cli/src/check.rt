@@ -6,20 +6,20 @@ ghost use Rattle.proof_script.specs.Giving.{AreWhole};
 ghost use Rattle.unity_cli.specs.Admitted.{greatest_size};
 ghost use Rattle.unity_cli.specs.Answer.Check.{Checked};
 ghost use Rattle.unity_cli.specs.Input.{IsInput, IsAdmittedAs, IsSomeInput, IsSomeAdmitted};
-ghost use Rattle.command_words.specs.Requests as requests;
+ghost use Rattle.cli_words.specs.Requests as requests;
 ghost use Rattle.unity_cli.specs.Answering.{IsCheckedFor, IsVerdictOn, TellsInput};
 
 use crate::input::{AdmittedDocument, Input};
 use crate::output::{Answer, write_answer};
 use crate::status::Status;
-use answer_texts::{accepted, document_fault, input_refusal, rejected};
 use case_tables::Code;
+use certificate_reading::certificates_from;
+use cli_texts::{accepted, document_fault, input_refusal, rejected};
 use core_terms::CDocument;
 use obligations::Cert;
 use proof_script::{ScriptError, check};
 use std::alloc::{AllocError, Global};
 use unity_base::Sink;
-use written_certificates::certificates_from;
 
 /// What `check` answers for the input, which it takes apart: the certificates of its document are let go as they are
 /// written for the check, so that the two forms of them do not stand beside each other.

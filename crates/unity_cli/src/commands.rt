@@ -1,7 +1,7 @@
 // Answering a command.
 ghost use Rattle.std.specs.Prelude.{◌≡◌, Some};
 ghost use Rattle.unity_base.specs.Streams.{IsTold};
-ghost use Rattle.command_words.specs.Requests.{HasLimits, meant};
+ghost use Rattle.cli_words.specs.Requests.{HasLimits, meant};
 ghost use Rattle.unity_cli.specs.Answer as answers;
 ghost use Rattle.unity_cli.specs.Answering.{TellsText};
 ghost use Rattle.unity_cli.specs.Input.{IsSomeText};
@@ -13,7 +13,7 @@ use crate::prove::write_finding;
 use crate::replay::write_replay;
 use crate::run::write_run;
 use crate::status::Status;
-use command_words::Command;
+use cli_words::Command;
 use std::alloc::Global;
 use unity_base::Sink;
 

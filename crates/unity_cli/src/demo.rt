@@ -1,7 +1,7 @@
 // The command `demo`: a search for the document of a ring.
 ghost use Rattle.std.specs.Prelude.{◌≡◌, ◌≤◌, List, ℕ, IfOk};
 ghost use Rattle.unity_base.specs.Streams.{IsTold};
-ghost use Rattle.command_words.specs.Requests.{demo};
+ghost use Rattle.cli_words.specs.Requests.{demo};
 ghost use Rattle.unity_cli.specs.Answer.Demo.{Shown, ring_line};
 ghost use Rattle.unity_cli.specs.Answering.{Telling};
 ghost use Rattle.unity_cli.specs.Input.{words_in};
@@ -10,8 +10,8 @@ use crate::input::{Input, read_bytes};
 use crate::output::{Answer, write_answer};
 use crate::prove::{Found, find};
 use crate::status::Status;
-use answer_texts::accepted;
-use ring_documents::make_demo;
+use cli_ring::make_demo;
+use cli_texts::accepted;
 use std::alloc::{AllocError, Global};
 use unity_base::{Seq, Sink};
 

@@ -14,7 +14,7 @@ mod status;
 mod stop;
 mod top;
 
+pub use cli_ring::make_demo;
 pub use laws::one_answer;
-pub use ring_documents::make_demo;
 pub use status::Status;
 pub use top::unity;

@@ -1,16 +1,16 @@
 // Writing answers.
 ghost use Rattle.std.specs.Prelude.{◌≡◌, ◌≢◌, ◌⊎◌, List, ℕ, IfOk, Err};
-ghost use Rattle.program_traces.specs.declared.error.RunError.{RunError};
+ghost use Rattle.run_traces.specs.declared.error.RunError.{RunError};
 ghost use Rattle.std.specs.Io.KnownBytes.{Appends};
 ghost use Rattle.unity_base.specs.Streams.{IsTold, AppendsPart};
 ghost use Rattle.unity_cli.specs.Status.{HasText};
 ghost use Rattle.unity_cli.specs.Answering.{TellsBad, EndsAs};
 
 use crate::status::Status;
-use answer_texts::{document_fault, input_refusal};
 use case_tables::Code;
+use cli_texts::{document_fault, input_refusal};
 use executor::Stepped;
-use program_traces::RunError;
+use run_traces::RunError;
 use std::alloc::{AllocError, Global};
 use unity_base::{Sink, write_all};
 

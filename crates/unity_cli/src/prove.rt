@@ -1,19 +1,19 @@
 // The command `prove`: certificates for the proofs of a document.
 ghost use Rattle.std.specs.Prelude.{◌≡◌, ◌≤◌, ◌++◌, ◌∷◌, List, ℕ, IfOk};
 ghost use Rattle.unity_base.specs.Streams.{IsTold};
-ghost use Rattle.certificate_texts.specs.Certificates.{certificates_text};
-ghost use Rattle.found_documents.specs.Found.{front};
+ghost use Rattle.certificate_printing.specs.Certificates.{certificates_text};
+ghost use Rattle.certificate_roundtrip.specs.Found.{front};
 ghost use Rattle.unity_cli.specs.Admitted.{greatest_bare_size};
-ghost use Rattle.command_words.specs.Requests as requests;
+ghost use Rattle.cli_words.specs.Requests as requests;
 ghost use Rattle.unity_cli.specs.Answering.{HasPlan, IsSearchedFor, IsSearchedIn, Telling};
 ghost use Rattle.unity_cli.specs.Input.{AreKept, IsInput, IsAdmittedAs, words_in};
 
 use crate::input::{AdmittedDocument, Input};
 use crate::output::{Answer, write_answer};
 use crate::status::Status;
-use answer_texts::{document_fault, input_refusal, rejected};
 use case_tables::Code;
-use certificate_texts::{budget_text, push_certificates, refuted_text};
+use certificate_printing::{budget_text, push_certificates, refuted_text};
+use cli_texts::{document_fault, input_refusal, rejected};
 use obligations::Cert;
 use proof_script::{Plan, Proof, ScriptError, prove};
 use std::alloc::{AllocError, Global};

@@ -1,7 +1,7 @@
 // The command `replay`: the trace of a document's schedule.
 ghost use Rattle.std.specs.Prelude.{◌≡◌};
 ghost use Rattle.unity_base.specs.Streams.{IsTold};
-ghost use Rattle.command_words.specs.Requests.{replay};
+ghost use Rattle.cli_words.specs.Requests.{replay};
 ghost use Rattle.unity_cli.specs.Admitted.{greatest_size};
 ghost use Rattle.unity_cli.specs.Answering.{TellsInput, TellsAdmitted};
 ghost use Rattle.unity_cli.specs.Input.{IsSomeInput, IsSomeAdmitted};
@@ -9,9 +9,9 @@ ghost use Rattle.unity_cli.specs.Input.{IsSomeInput, IsSomeAdmitted};
 use crate::input::{AdmittedDocument, Input};
 use crate::output::{write_bad, write_end};
 use crate::status::Status;
-use answer_texts::{document_fault, input_refusal};
 use case_tables::Code;
-use program_traces::replay_schedule;
+use cli_texts::{document_fault, input_refusal};
+use run_traces::replay_schedule;
 use std::alloc::Global;
 use unity_base::Sink;
 

@@ -4,7 +4,7 @@ ghost use Rattle.std.specs.Io.KnownBytes.{IsAtEnd};
 ghost use Rattle.unity_base.specs.Streams.{IsTold, IsLongerThan, LeavesRest};
 ghost use Rattle.unity_syntax.specs.declared.document.Document.{Document};
 ghost use Rattle.unity_parser.specs.Document.{IsDocument};
-ghost use Rattle.command_words.specs.Requests.{asked, check};
+ghost use Rattle.cli_words.specs.Requests.{asked, check};
 ghost use Rattle.unity_cli.specs.Status.{HasText};
 ghost use Rattle.unity_cli.specs.Answer.{most_bytes, reads_source, Tells, TellsPart};
 ghost use Rattle.unity_cli.specs.Truth.{ClaimsAreTrue, ProgramsRun, WritesWhatIsTrue};
@@ -15,7 +15,7 @@ use crate::commands::{most_bytes, write_command};
 use crate::demo::write_demo;
 use crate::input::read_input;
 use crate::status::Status;
-use command_words::{Command, read_words};
+use cli_words::{Command, read_words};
 use std::alloc::Global;
 use unity_base::{Sink, Source, write_all};
 

@@ -1,7 +1,7 @@
 // What judges a whole document, and what finds its certificates.
 ghost use Rattle.std.specs.Prelude.{IfOk};
 ghost use Rattle.core_terms.specs.Conditions.{IsDocument};
-ghost use Rattle.proof_script.specs.Giving.{AreWhole, Gives, PlanHolds};
+ghost use Rattle.proof_script.specs.Giving.{AreWhole, VerdictAnswers, PlanHolds};
 ghost use Rattle.proof_script.specs.Proving.{Finds};
 ghost use Rattle.proof_script.specs.Verdicts.{verdict_of};
 
@@ -14,7 +14,7 @@ use std::alloc::Global;
 pub fn check(alloc: Global, doc: &CDocument, certs: &[Cert]) -> Result<Plan, ScriptError>
     requires document { IsDocument doc.now }
     requires whole { AreWhole certs.now }
-    ensures verdict { Gives result (verdict_of doc.now certs.now) }
+    ensures verdict { VerdictAnswers result (verdict_of doc.now certs.now) }
     ensures holds { IfOk result (PlanHolds doc.now) }
 {
     proof_script::check(alloc, doc, certs)

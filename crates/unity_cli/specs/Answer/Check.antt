@@ -5,8 +5,8 @@ use Rattle.core_documents.specs.Cores.{core_document}
 use Rattle.proof_script.specs.declared.plans.Plan.{Plan}
 use Rattle.proof_script.specs.declared.plans.StepFault.{StepFault}
 use Rattle.proof_script.specs.Verdicts.{verdict_of}
-use Rattle.written_certificates.specs.Certificates.{certificates_of}
-use Rattle.answer_texts.specs.Verdicts.{accepted_text, rejected_text}
+use Rattle.certificate_reading.specs.Certificates.{certificates_of}
+use Rattle.cli_texts.specs.Verdicts.{accepted_text, rejected_text}
 use Rattle.unity_cli.specs.declared.status.Status.{Status}
 use Rattle.unity_cli.specs.Admitted.{greatest_size, IsAdmitted, IsBad}
 

@@ -1,6 +1,6 @@
 -- What `demo` answers.
 use Rattle.std.specs.Prelude.{◌≡◌, ℕ, List, ◌∷◌, [], ◌++◌, codes, decimal, length}
-use Rattle.ring_documents.specs.Rings.{ring_bytes}
+use Rattle.cli_ring.specs.Rings.{ring_bytes}
 use Rattle.unity_cli.specs.declared.status.Status.{Status}
 use Rattle.unity_cli.specs.Answer.Check.{IsAccepted}
 use Rattle.unity_cli.specs.Answer.Prove.{IsFound, Searched}

@@ -7,12 +7,12 @@ use Rattle.proof_script.specs.declared.plans.Plan.{Plan}
 use Rattle.proof_script.specs.declared.plans.StepFault.{StepFault}
 use Rattle.proof_script.specs.declared.plans.Proof.{Proof}
 use Rattle.proof_script.specs.declared.plans.ScriptError.{ScriptError}
-use Rattle.proof_script.specs.Proving.{Finds, IsProved}
+use Rattle.proof_script.specs.Proving.{Finds, ProvedWithin}
 use Rattle.obligations.specs.declared.branches.Variable.{Variable}
 use Rattle.obligations.specs.declared.certificates.Cert.{Cert}
-use Rattle.certificate_texts.specs.Findings.{budget_text, refuted_text}
-use Rattle.found_documents.specs.Found.{text_with}
-use Rattle.answer_texts.specs.Verdicts.{rejected_text}
+use Rattle.certificate_printing.specs.Findings.{budget_text, refuted_text}
+use Rattle.certificate_roundtrip.specs.Found.{text_with}
+use Rattle.cli_texts.specs.Verdicts.{rejected_text}
 use Rattle.unity_cli.specs.declared.status.Status.{Status}
 use Rattle.unity_cli.specs.Admitted.{greatest_bare_size, IsAdmitted, IsBad}
 use Rattle.unity_cli.specs.Answer.Check.{IsAccepted}
@@ -23,7 +23,7 @@ pub record IsFound (bytes : List ℕ) (budget : ℕ) (text : List ℕ) : Type 0 
   pub read : IsAdmitted greatest_bare_size bytes document
   pub plan : Plan
   pub certs : List Cert
-  pub proved : IsProved (core_document document) budget plan certs
+  pub proved : ProvedWithin (core_document document) budget plan certs
   pub text_is : text ≡ text_with bytes document certs
   pub verdict_text : List ℕ
   pub accepted : IsAccepted text verdict_text

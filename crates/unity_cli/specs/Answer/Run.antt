@@ -7,9 +7,9 @@ use Rattle.schedule_replay.specs.declared.heading.Heading.{Heading}
 use Rattle.schedule_replay.specs.Schedules.{turns}
 use Rattle.core_terms.specs.declared.programs.CProgram.{CProgram}
 use Rattle.core_meaning.specs.Meaning.{IsCoreOf}
-use Rattle.trace_text.specs.Traces.{all_defined}
-use Rattle.source_traces.specs.Traces.{source_system, first_state, program_trace}
-use Rattle.answer_texts.specs.Refusals.{refusal_text}
+use Rattle.run_traces.specs.Traces.{all_defined}
+use Rattle.run_correct.specs.Traces.{source_system, first_state, program_trace}
+use Rattle.cli_texts.specs.Refusals.{refusal_text}
 use Rattle.unity_cli.specs.declared.status.Status.{Status}
 use Rattle.unity_cli.specs.Admitted.{greatest_size, IsAdmitted, IsBad}
 

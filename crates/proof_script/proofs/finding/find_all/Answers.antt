@@ -4,8 +4,8 @@ use Rattle.obligations.specs.declared.branches.Obligation.{Obligation}
 use Rattle.obligations.specs.Obligations.{IsObligation}
 use Rattle.proof_script.specs.declared.finding.Finding.{Finding}
 use Rattle.proof_script.specs.declared.finding.Halt.{Halt}
-use Rattle.proof_script.specs.Searches.{IsFinding, Searches}
-use Rattle.step_rules.proofs.ItemLaws.{drop_at, drop_end}
+use Rattle.proof_script.specs.Searches.{HasCertificates, Searches}
+use Rattle.rules_steps.proofs.ItemLaws.{drop_at, drop_end}
 use Rattle.proof_script.proofs.LoopLaws.{item_has}
 use Rattle.proof_script.proofs.ReachLaws.{no_more}
 use Rattle.proof_script.proofs.SearchLaws.{halted_on, search_more}
@@ -40,7 +40,7 @@ loop-obligation-preserved c before h =
     let o : Obligation = c.obligation-item.result in
     let so_far = c.loop-obligation.invariant before h in
     let one = c.in_ok-find.ensures (before ++ take i os) so_far.0 in (
-      subst (λ (xs : List Obligation). IsFinding xs c.find.new.finding)
+      subst (λ (xs : List Obligation). HasCertificates xs c.find.new.finding)
           (append_assoc before (take i os) (o ∷ [])
           ∙ ap (λ (xs : List Obligation). before ++ xs)
           (sym (take_more os i o c.loop-obligation-test.true
@@ -50,7 +50,7 @@ loop-obligation-preserved c before h =
 
 pub loop-obligation-init : goal.loop-obligation-init
 loop-obligation-init c before h =
-    (subst (λ (xs : List Obligation). IsFinding xs c.args.finding.now) (no_more before) h, refl)
+    (subst (λ (xs : List Obligation). HasCertificates xs c.args.finding.now) (no_more before) h, refl)
 
 pub returns : goal.returns
 returns c before h =
@@ -60,4 +60,4 @@ returns c before h =
     let all : take i os ≡ os =
     no_more (take i os) ∙ ap (λ (xs : List Obligation). take i os ++ xs)
     (sym (drop_end os i c.loop-obligation-test.false)) ∙ take-append-drop i os in
-    (subst (λ (xs : List Obligation). IsFinding (before ++ xs) c.loop-obligation.finding) all so_far.0, so_far.1)
+    (subst (λ (xs : List Obligation). HasCertificates (before ++ xs) c.loop-obligation.finding) all so_far.0, so_far.1)

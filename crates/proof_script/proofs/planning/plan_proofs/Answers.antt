@@ -10,7 +10,7 @@ use Rattle.proof_script.specs.declared.plans.Plan.{Plan}
 use Rattle.proof_script.specs.declared.plans.ScriptError.{ScriptError}
 use Rattle.proof_script.specs.Planning.{Reaches}
 use Rattle.proof_script.specs.Reaching.{Reach, proof_reach, proofs_reach}
-use Rattle.step_rules.proofs.ItemLaws.{drop_at}
+use Rattle.rules_steps.proofs.ItemLaws.{drop_at}
 use Rattle.proof_script.proofs.LoopLaws.{handed_on, item_has, sum_more}
 use Rattle.proof_script.proofs.PlanLaws.{misses_whole}
 use Rattle.proof_script.proofs.ReachLaws.{proof_reach_fits, reach_proofs_at, reach_proofs_end, reach_stopped}

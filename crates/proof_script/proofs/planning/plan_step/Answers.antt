@@ -10,7 +10,7 @@ use Rattle.proof_script.specs.declared.plans.Plan.{Plan}
 use Rattle.proof_script.specs.declared.plans.ScriptError.{ScriptError}
 use Rattle.proof_script.specs.Planning.{Reaches}
 use Rattle.proof_script.specs.Reaching.{step_reach}
-use Rattle.step_rules.specs.Starts.{starts_in}
+use Rattle.rules_steps.specs.Starts.{starts_in}
 use Rattle.proof_script.specs.Verdicts.{rule_fault}
 use Rattle.proof_script.proofs.ReachLaws.{reach_fails, reach_taken}
 use Rattle.proof_script.proofs.planning.plan_step.Goals as goal

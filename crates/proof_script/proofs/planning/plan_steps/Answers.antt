@@ -7,7 +7,7 @@ use Rattle.proof_script.specs.declared.plans.Plan.{Plan}
 use Rattle.proof_script.specs.declared.plans.ScriptError.{ScriptError}
 use Rattle.proof_script.specs.Planning.{Reaches}
 use Rattle.proof_script.specs.Reaching.{Reach, step_reach, steps_reach}
-use Rattle.step_rules.proofs.ItemLaws.{drop_at}
+use Rattle.rules_steps.proofs.ItemLaws.{drop_at}
 use Rattle.proof_script.proofs.LoopLaws.{handed_on, item_has}
 use Rattle.proof_script.proofs.PlanLaws.{misses_whole}
 use Rattle.proof_script.proofs.ReachLaws.{reach_fits, reach_grows, reach_steps_at, reach_steps_end, reach_stopped}

@@ -5,7 +5,7 @@ use Rattle.proof_script.specs.declared.plans.Plan.{Plan}
 use Rattle.proof_script.specs.declared.plans.ScriptError.{ScriptError}
 use Rattle.proof_script.specs.Planning.{Reaches, Walks}
 use Rattle.proof_script.specs.Reaching.{proofs_reach}
-use Rattle.step_rules.specs.Starts.{starts_in}
+use Rattle.rules_steps.specs.Starts.{starts_in}
 use Rattle.proof_script.proofs.LoopLaws.{handed_on}
 use Rattle.proof_script.proofs.PlanLaws.{failure_walks, plan_walks}
 use Rattle.proof_script.proofs.planning.walk.Goals as goal

@@ -11,7 +11,7 @@ use Rattle.proof_script.specs.declared.finding.Halt.{Halt}
 use Rattle.proof_script.specs.declared.plans.Plan.{Plan}
 use Rattle.proof_script.specs.Reaching.{Reach, further, reached, proof_reach, proofs_reach}
 use Rattle.proof_script.specs.Searches.{SearchGoes}
-use Rattle.step_rules.proofs.ItemLaws.{drop_at}
+use Rattle.rules_steps.proofs.ItemLaws.{drop_at}
 use Rattle.proof_script.proofs.LoopLaws.{item_has, sum_more}
 use Rattle.proof_script.proofs.ReachLaws.{Extends, on_extends, proof_reach_fits, proofs_extend, reach_proofs_at}
 use Rattle.proof_script.proofs.ReachLaws.{reach_proofs_end, reach_stopped, reach_went}

@@ -3,7 +3,7 @@ use Rattle.std.specs.Prelude.{sum}
 use Rattle.core_terms.specs.declared.documents.CProof.{CProof}
 use Rattle.proof_script.specs.Reaching.{proofs_reach}
 use Rattle.proof_script.specs.Searches.{IsUnderWay}
-use Rattle.step_rules.specs.Using.{BookFits}
+use Rattle.rules_steps.specs.Using.{BookFits}
 use Rattle.proof_script.proofs.proving.prove_proofs.Given as goal
 
 abbrev pub invariant-loop-proof : goal.invariant-loop-proof

@@ -11,7 +11,7 @@ use Rattle.proof_script.specs.declared.finding.Halt.{Halt}
 use Rattle.proof_script.specs.declared.plans.Plan.{Plan}
 use Rattle.proof_script.specs.Reaching.{Reach, step_reach}
 use Rattle.proof_script.specs.Searches.{SearchGoes}
-use Rattle.step_rules.specs.Starts.{starts_in}
+use Rattle.rules_steps.specs.Starts.{starts_in}
 use Rattle.proof_script.specs.Verdicts.{rule_fault}
 use Rattle.proof_script.proofs.ReachLaws.{reach_fails, reach_taken}
 use Rattle.proof_script.proofs.SearchLaws.{stops_at}

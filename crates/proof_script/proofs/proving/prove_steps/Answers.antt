@@ -8,7 +8,7 @@ use Rattle.proof_script.specs.declared.finding.Halt.{Halt}
 use Rattle.proof_script.specs.declared.plans.Plan.{Plan}
 use Rattle.proof_script.specs.Reaching.{Reach, further, reached, step_reach, steps_reach}
 use Rattle.proof_script.specs.Searches.{SearchGoes}
-use Rattle.step_rules.proofs.ItemLaws.{drop_at}
+use Rattle.rules_steps.proofs.ItemLaws.{drop_at}
 use Rattle.proof_script.proofs.LoopLaws.{item_has}
 use Rattle.proof_script.proofs.ReachLaws.{Extends, on_extends, reach_fits, reach_grows, reach_steps_at, reach_steps_end}
 use Rattle.proof_script.proofs.ReachLaws.{reach_stopped, reach_went, steps_extend}

@@ -1,7 +1,7 @@
 use Rattle.std.proofs.Common.{◌≡◌, ◌+◌, ◌<◌, ◌^◌, drop, length}
 use Rattle.proof_script.specs.Reaching.{steps_reach}
 use Rattle.proof_script.specs.Searches.{IsUnderWay}
-use Rattle.step_rules.specs.Using.{BookFits}
+use Rattle.rules_steps.specs.Using.{BookFits}
 use Rattle.proof_script.proofs.proving.prove_steps.Given as goal
 
 abbrev pub invariant-loop-step : goal.invariant-loop-step

@@ -4,7 +4,7 @@ use Rattle.obligations.specs.declared.certificates.Cert.{Cert}
 use Rattle.safety_rules.specs.declared.places.Derived.{Derived}
 use Rattle.proof_script.specs.declared.plans.Plan.{Plan}
 use Rattle.proof_script.specs.declared.plans.StepFault.{StepFault}
-use Rattle.proof_script.specs.Giving.{Goes}
+use Rattle.proof_script.specs.Giving.{PlanGoes}
 use Rattle.proof_script.specs.Verdicts.{refuted_by, grown, taken}
 use Rattle.proof_script.proofs.LoopLaws.{handed_on, went, stopped, fails_step, taken_from}
 use Rattle.proof_script.proofs.walking.take_derived.Goals as goal
@@ -19,7 +19,7 @@ returns-in_err-refute_all c =
     let before : List Obligation = c.as_slice-first.result.now in
     let os : List Obligation = c.as_slice-obligations.result.now in
     let one : Result (Unit {0}) StepFault = refuted_by certs program step (length before) os in
-    handed_on (λ r. Goes r plan (taken certs program step plan d)) c.from_residual.result
+    handed_on (λ r. PlanGoes r plan (taken certs program step plan d)) c.from_residual.result
     c.in_err-refute_all.field-0.0 c.from_residual.ensures.1
     (fails_step (Unit {0}) (Unit {0}) c.in_err-refute_all.field-0.0 plan one (taken certs program step plan d)
     (λ fault e. taken_from certs program step plan d before os c.as_slice-first.ensures

@@ -9,9 +9,9 @@ use Rattle.obligations.specs.declared.certificates.Cert.{Cert}
 use Rattle.proof_rules.specs.Walk.{program_of}
 use Rattle.proof_script.specs.declared.plans.Plan.{Plan}
 use Rattle.proof_script.specs.declared.plans.StepFault.{StepFault}
-use Rattle.proof_script.specs.Giving.{Goes}
+use Rattle.proof_script.specs.Giving.{PlanGoes}
 use Rattle.proof_script.specs.Verdicts.{proof_verdict, proofs_verdict}
-use Rattle.step_rules.proofs.ItemLaws.{drop_at}
+use Rattle.rules_steps.proofs.ItemLaws.{drop_at}
 use Rattle.proof_script.proofs.LoopLaws.{handed_on, went, stopped, proofs_at, proofs_end, proof_grows}
 use Rattle.proof_script.proofs.LoopLaws.{item_has, fails_whole, sum_more}
 use Rattle.proof_script.proofs.BookLaws.{proof_fits}
@@ -46,7 +46,7 @@ returns-in_err-take_proof c =
     proof_verdict slots certs (program_of programs c.proof-item.result.program) c.proof-item.result
     c.loop-proof.plan in
     let whole : Result Plan StepFault = proofs_verdict slots certs programs c.args.doc.now.proofs c.args.plan.now in
-    handed_on (λ r. Goes r c.take_proof.new.plan whole) c.from_residual.result
+    handed_on (λ r. PlanGoes r c.take_proof.new.plan whole) c.from_residual.result
     c.in_err-take_proof.field-0.0 c.from_residual.ensures.1
     (fails_whole (Unit {0}) (Unit {0}) c.in_err-take_proof.field-0.0 c.take_proof.new.plan
     c.take_proof.new.plan one whole

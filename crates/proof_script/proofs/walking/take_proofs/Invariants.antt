@@ -1,7 +1,7 @@
 use Rattle.std.proofs.Common.{◌≡◌, ◌+◌, ◌<◌, ◌^◌, drop, length, map}
 use Rattle.std.specs.Prelude.{sum}
 use Rattle.core_terms.specs.declared.documents.CProof.{CProof}
-use Rattle.step_rules.specs.Using.{BookFits}
+use Rattle.rules_steps.specs.Using.{BookFits}
 use Rattle.proof_script.specs.Verdicts.{proofs_verdict}
 use Rattle.proof_script.proofs.walking.take_proofs.Given as goal
 

@@ -11,8 +11,8 @@ use Rattle.proof_script.specs.declared.plans.Plan.{Plan}
 use Rattle.proof_script.specs.declared.plans.ScriptError.{ScriptError}
 use Rattle.proof_script.specs.declared.plans.StepFault.{StepFault}
 use Rattle.obligations.specs.Obligations.{IsObligation}
-use Rattle.proof_script.specs.Giving.{Goes, IsCheckable}
-use Rattle.step_rules.specs.Starts.{starts_in}
+use Rattle.proof_script.specs.Giving.{PlanGoes, IsCheckable}
+use Rattle.rules_steps.specs.Starts.{starts_in}
 use Rattle.proof_script.specs.Verdicts.{rule_fault, step_verdict}
 use Rattle.proof_script.proofs.Checkable.{checkable}
 use Rattle.proof_script.proofs.RuleLaws.{step_taken, step_fails}
@@ -27,7 +27,7 @@ returns-in-Ok c =
     let slots : List CSlot = c.args.slots.now in
     let p : CProgram = c.args.program.now in
     let s : CStep = c.args.step.now in
-    subst (λ (v : Result Plan StepFault). Goes c.take_derived.result c.take_derived.new.plan v)
+    subst (λ (v : Result Plan StepFault). PlanGoes c.take_derived.result c.take_derived.new.plan v)
     (sym (step_taken slots c.args.certs.now p s c.args.plan.now c.in-Ok.derived
     (subst (λ (book : List Record). Answers (Ok c.in-Ok.derived) slots (rule_of slots (starts_in slots) p s book))
     c.as_slice.ensures c.in-Ok.ensures.answer))) c.take_derived.ensures
@@ -40,7 +40,7 @@ returns-in-Err-Fault c =
     let verdict : Result Plan StepFault = step_verdict slots c.args.certs.now p s c.args.plan.now in
     let made : c.fault.result ≡ ScriptError.Step (rule_fault p.name (Some s.name) c.in-Err-Fault.code) =
     cc (c.fault.ensures, c.in-Err-Fault.code-is) in
-    subst (λ (e : ScriptError). Goes {T = Unit {0}} (Err e) c.args.plan.now verdict) (sym made)
+    subst (λ (e : ScriptError). PlanGoes {T = Unit {0}} (Err e) c.args.plan.now verdict) (sym made)
     (step_fails slots c.args.certs.now p s c.args.plan.now c.in-Err-Fault.code
     (subst (λ (book : List Record). Answers (Err (RuleError.Fault c.in-Err-Fault.code)) slots
     (rule_of slots (starts_in slots) p s book)) c.as_slice.ensures

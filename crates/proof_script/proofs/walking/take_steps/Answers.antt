@@ -6,9 +6,9 @@ use Rattle.core_terms.specs.Conditions.{IsStep}
 use Rattle.obligations.specs.declared.certificates.Cert.{Cert}
 use Rattle.proof_script.specs.declared.plans.Plan.{Plan}
 use Rattle.proof_script.specs.declared.plans.StepFault.{StepFault}
-use Rattle.proof_script.specs.Giving.{Goes}
+use Rattle.proof_script.specs.Giving.{PlanGoes}
 use Rattle.proof_script.specs.Verdicts.{step_verdict, steps_verdict}
-use Rattle.step_rules.proofs.ItemLaws.{drop_at}
+use Rattle.rules_steps.proofs.ItemLaws.{drop_at}
 use Rattle.proof_script.proofs.LoopLaws.{handed_on, went, stopped, steps_at, steps_end, step_grows}
 use Rattle.proof_script.proofs.LoopLaws.{item_has, fails_whole}
 use Rattle.proof_script.proofs.BookLaws.{step_fits}
@@ -33,7 +33,7 @@ returns-in_err-take_step c =
     let p : CProgram = c.args.program.now in
     let one : Result Plan StepFault = step_verdict slots certs p c.step-item.result c.loop-step.plan in
     let whole : Result Plan StepFault = steps_verdict slots certs p c.args.steps.now c.args.plan.now in
-    handed_on (λ r. Goes r c.take_step.new.plan whole) c.from_residual.result
+    handed_on (λ r. PlanGoes r c.take_step.new.plan whole) c.from_residual.result
     c.in_err-take_step.field-0.0 c.from_residual.ensures.1
     (fails_whole (Unit {0}) (Unit {0}) c.in_err-take_step.field-0.0 c.take_step.new.plan c.take_step.new.plan one whole
     (λ fault e. sym c.loop-step.invariant.same

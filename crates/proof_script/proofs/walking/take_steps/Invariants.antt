@@ -1,5 +1,5 @@
 use Rattle.std.proofs.Common.{◌≡◌, ◌+◌, ◌<◌, ◌^◌, drop, length}
-use Rattle.step_rules.specs.Using.{BookFits}
+use Rattle.rules_steps.specs.Using.{BookFits}
 use Rattle.proof_script.specs.Verdicts.{steps_verdict}
 use Rattle.proof_script.proofs.walking.take_steps.Given as goal
 

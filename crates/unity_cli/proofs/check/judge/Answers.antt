@@ -1,5 +1,5 @@
 use Rattle.std.proofs.Common.{◌∙◌}
-use Rattle.answer_texts.specs.Refusals.{fault_text}
+use Rattle.cli_texts.specs.Refusals.{fault_text}
 use Rattle.unity_cli.specs.Admitted.{greatest_size}
 use Rattle.unity_cli.proofs.Told.{fault_bad, bad_checked}
 use Rattle.unity_cli.proofs.check.judge.Goals as goal

@@ -1,4 +1,4 @@
-use Rattle.command_words.specs.Requests.{check}
+use Rattle.cli_words.specs.Requests.{check}
 use Rattle.unity_cli.proofs.Told.{checked_has_text, answer_told}
 use Rattle.unity_cli.proofs.check.write_verdict.Goals as goal
 

@@ -1,6 +1,6 @@
 use Rattle.std.proofs.Common.{rules, ◌≡◌, ◌++◌, ℕ, List, ◌∙◌, ap}
-use Rattle.ring_documents.specs.Rings.{ring_bytes}
-use Rattle.answer_texts.specs.Verdicts.{accepted_text}
+use Rattle.cli_ring.specs.Rings.{ring_bytes}
+use Rattle.cli_texts.specs.Verdicts.{accepted_text}
 use Rattle.unity_cli.specs.Answer.Demo.{ring_line}
 use Rattle.unity_cli.specs.Input.{words_in}
 use Rattle.unity_cli.proofs.Shown.{ring_read, shown_alone, shown_planned}

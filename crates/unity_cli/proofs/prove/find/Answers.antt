@@ -1,5 +1,5 @@
 use Rattle.std.proofs.Common.{◌∙◌}
-use Rattle.answer_texts.specs.Refusals.{fault_text}
+use Rattle.cli_texts.specs.Refusals.{fault_text}
 use Rattle.unity_cli.specs.Admitted.{greatest_bare_size}
 use Rattle.unity_cli.proofs.Told.{fault_bad}
 use Rattle.unity_cli.proofs.Searched.{bad_searched}

@@ -1,7 +1,7 @@
 use Rattle.std.proofs.Common.{◌≡◌, ℕ, List, ◌∷◌, ◌++◌, Ok, refl, ap, ◌∙◌, subst}
 use Rattle.proof_script.specs.Proving.{Finds}
-use Rattle.certificate_texts.specs.Certificates.{certificates_text}
-use Rattle.certificate_texts.specs.Findings.{budget_text, refuted_text}
+use Rattle.certificate_printing.specs.Certificates.{certificates_text}
+use Rattle.certificate_printing.specs.Findings.{budget_text, refuted_text}
 use Rattle.unity_cli.proofs.Searched.{searched_core, finds_told, found_told, found_planned}
 use Rattle.unity_cli.proofs.prove.find_for.Goals as goal
 

@@ -1,6 +1,6 @@
 use Rattle.case_tables.specs.declared.code_table.Code.{Code}
-use Rattle.answer_texts.specs.Refusals.{fault_text, refusal_text}
-use Rattle.command_words.specs.Requests.{replay}
+use Rattle.cli_texts.specs.Refusals.{fault_text, refusal_text}
+use Rattle.cli_words.specs.Requests.{replay}
 use Rattle.unity_cli.specs.Admitted.{greatest_size}
 use Rattle.unity_cli.specs.Answer.Replay as replays
 use Rattle.unity_cli.proofs.Told.{refused, too_long_bad, fault_bad}

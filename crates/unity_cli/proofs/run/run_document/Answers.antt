@@ -1,5 +1,5 @@
 use Rattle.std.proofs.Common.{arith, ◌∙◌, subst}
-use Rattle.program_traces.specs.Answers.{Runs}
+use Rattle.run_traces.specs.Answers.{CoreRuns}
 use Rattle.unity_cli.specs.Admitted.{greatest_size}
 use Rattle.unity_cli.proofs.Told.{sound_core, run_answered, ended_early}
 use Rattle.unity_cli.proofs.run.run_document.Goals as goal
@@ -11,7 +11,7 @@ pub returns-clause-told : goal.returns-clause-told
 returns-clause-told g c = run_answered c.args.reading.now c.args.program.now c.args.steps
     (g.K.Sink.written c.args.out.now) (g.K.Sink.written c.run_program-ended.new.out)
     (g.K.Sink.written c.write_end.new.out) c.run_program-ended.result c.write_end.result
-    (subst (λ name. Runs c.args.reading.now.core name c.args.steps (g.K.Sink.written c.args.out.now)
+    (subst (λ name. CoreRuns c.args.reading.now.core name c.args.steps (g.K.Sink.written c.args.out.now)
     (g.K.Sink.written c.run_program-ended.new.out) c.run_program-ended.result)
     c.as_bytes.ensures.value c.run_program-ended.ensures.answer) c.write_end.ensures.told
 

@@ -6,7 +6,7 @@ use Rattle.unity_cli.specs.Input.{IsTextOf}
 use Rattle.unity_cli.proofs.Told.{bad_words, told_whole, told_part, done_claims, done_runs, done_starts, done_tells}
 use Rattle.unity_cli.proofs.Told.{text_follows}
 use Rattle.unity_cli.proofs.Shown.{shown_whole, shown_part, ring_is_no_check, others_read}
-use Rattle.command_words.specs.Requests.{meant, asked}
+use Rattle.cli_words.specs.Requests.{meant, asked}
 use Rattle.unity_cli.proofs.top.unity.Goals as goal
 
 pub returns-in-Ok-clause-answer : goal.returns-in-Ok-clause-answer

@@ -1,2 +1,0 @@
-pub mod OpenLaws
-pub mod ChainLaws

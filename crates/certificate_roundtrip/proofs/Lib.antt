@@ -1,0 +1,17 @@
+pub mod SmallNumbers
+pub mod Sizes
+pub mod FoundTexts
+pub mod PieceLaws
+pub mod PlaceLaws
+pub mod PlainLaws
+pub mod ReadsOn
+pub mod SectionLaws
+pub mod SmallLaws
+pub mod FoundDocuments
+pub mod FoundByTokens
+pub mod Fronts
+pub mod SaysCertificates
+pub mod SectionRead
+pub mod SectionTokens
+pub mod Steps
+pub mod Written

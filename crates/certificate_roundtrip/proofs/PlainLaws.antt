@@ -1,0 +1,44 @@
+-- A plain certificate that refutes has small numbers.
+use Rattle.std.proofs.Common.{◌≡◌, ℕ, ◌^◌, ℤ, Bool, true, ◌&&◌, List, [], ◌∷◌, refl, ap, ◌∙◌}
+use Rattle.std.specs.Int.RustNames.{unsigned_abs}
+use Rattle.std.specs.List.{list_all}
+use Rattle.std.proofs.lemmas.Bool.{and_parts}
+use Rattle.obligations.specs.declared.certificates.Node.{Node}
+use Rattle.linear_prover.specs.Chains.{is_plain_node, is_plain_number, is_plain_pair}
+use Rattle.certificate_indexes.specs.Laws.{is_fact_within, is_index_within}
+use Rattle.certificate_indexes.proofs.IndexLaws.{indexes_are_small}
+use Rattle.certificate_roundtrip.specs.SectionLaws.{RefutingIsSmall}
+use Rattle.certificate_roundtrip.specs.Small.{is_small, is_small_node, is_small_pair}
+
+both : (a b : Bool) → a ≡ true → b ≡ true → (a && b) ≡ true
+both a b p q = ap (λ x. x && b) p ∙ q
+
+small_pairs : (ps : List (ℤ × ℕ)) → list_all is_plain_pair ps ≡ true →
+    list_all (is_fact_within (2 ^ 62)) ps ≡ true → list_all is_small_pair ps ≡ true
+small_pairs [] h k = refl
+small_pairs (p ∷ ps) h k =
+    let plain = and_parts (is_plain_pair p) (list_all is_plain_pair ps) h in
+    let there = and_parts (is_fact_within (2 ^ 62) p) (list_all (is_fact_within (2 ^ 62)) ps) k in
+    both (is_small_pair p) (list_all is_small_pair ps)
+    (both (is_small (unsigned_abs p.0)) (is_small p.1) plain.0 there.0) (small_pairs ps plain.1 there.1)
+
+small_node : (n : Node) → is_plain_node n ≡ true → is_index_within (2 ^ 62) n ≡ true → is_small_node n ≡ true
+small_node (Node.Case j) h k = k
+small_node (Node.Split v z) h k = both (is_small v) (is_small (unsigned_abs z)) k h
+small_node (Node.Sum ps) h k = small_pairs ps h k
+small_node (Node.Round d ps) h k =
+    let plain = and_parts (is_plain_number d) (list_all is_plain_pair ps) h in
+    both (is_small (unsigned_abs d)) (list_all is_small_pair ps) plain.0 (small_pairs ps plain.1 k)
+
+small_nodes : (ns : List Node) → list_all is_plain_node ns ≡ true → list_all (is_index_within (2 ^ 62)) ns ≡ true →
+    list_all is_small_node ns ≡ true
+small_nodes [] h k = refl
+small_nodes (n ∷ ns) h k =
+    let plain = and_parts (is_plain_node n) (list_all is_plain_node ns) h in
+    let there = and_parts (is_index_within (2 ^ 62) n) (list_all (is_index_within (2 ^ 62)) ns) k in
+    both (is_small_node n) (list_all is_small_node ns) (small_node n plain.0 there.0)
+    (small_nodes ns plain.1 there.1)
+
+pub refuting_is_small : RefutingIsSmall
+refuting_is_small o c is whole refutes plain =
+    small_nodes c.nodes plain (indexes_are_small o c.nodes is whole refutes)

@@ -1,0 +1,187 @@
+-- Plain certificates with which a document is accepted have small numbers.
+use Rattle.std.proofs.Common.{◌≡◌, ℕ, zero, suc, ◌+◌, ◌≤◌, ◌<◌, nat_lt, List, [], ◌∷◌, ◌++◌, length, slice_get}
+use Rattle.std.proofs.Common.{Bool, true, false, cond, Option, Some, None, Ok, Err, refl, sym, ap, ◌∙◌, subst}
+use Rattle.std.proofs.Common.{length-append, arith}
+use Rattle.std.specs.Prelude.{All}
+use Rattle.std.specs.List.{list_all}
+use Rattle.std.proofs.lemmas.List.Elements.{All-head, All-tail}
+use Rattle.case_tables.specs.declared.code_table.Code.{Code}
+use Rattle.core_terms.specs.declared.programs.CSlot.{CSlot}
+use Rattle.core_terms.specs.declared.programs.CProgram.{CProgram}
+use Rattle.core_terms.specs.declared.documents.CStep.{CStep}
+use Rattle.core_terms.specs.declared.documents.CProof.{CProof}
+use Rattle.core_terms.specs.Conditions.{IsProgram, IsProof, IsSlot, IsStep}
+use Rattle.obligations.specs.declared.branches.Obligation.{Obligation}
+use Rattle.obligations.specs.declared.certificates.Cert.{Cert}
+use Rattle.obligations.specs.Obligations.{IsObligation}
+use Rattle.certificate_check.specs.Refutation.{judged}
+use Rattle.certificate_check.specs.Trees.{is_whole}
+use Rattle.linear_prover.specs.Chains.{is_plain_node}
+use Rattle.certificate_roundtrip.specs.Small.{IsSmallCertificate}
+use Rattle.certificate_roundtrip.proofs.PlainLaws.{refuting_is_small}
+use Rattle.proof_rules.specs.Conclusion.{Conclusion}
+use Rattle.proof_rules.specs.Table.{needs}
+use Rattle.proof_rules.specs.Walk.{has_defined, program_of, rule_of}
+use Rattle.proof_rules.proofs.EachLaws.{Each, from_all, each_at}
+use Rattle.proof_rules.proofs.SiteLaws.{met}
+use Rattle.safety_rules.specs.declared.places.Derived.{Derived}
+use Rattle.safety_rules.specs.Answers.{derived_of}
+use Rattle.rules_steps.specs.Starts.{starts_in}
+use Rattle.rules_steps.specs.Using.{BookFits}
+use Rattle.rules_steps.proofs.GoalLaws.{IsStepRow, told_step}
+use Rattle.rules_steps.proofs.ItemLaws.{to_all}
+use Rattle.proof_script.specs.declared.plans.Plan.{Plan}
+use Rattle.proof_script.specs.Giving.{AreWhole}
+use Rattle.proof_script.specs.Proving.{ArePlain}
+use Rattle.proof_script.specs.Reaching.{by_row}
+use Rattle.proof_script.specs.Verdicts.{end_verdict, failing, failing_node, grown, last_verdict, no_plan}
+use Rattle.proof_script.specs.Verdicts.{or_refutation_fault, or_rule_fault, proof_verdict, proofs_verdict, refuted_by}
+use Rattle.proof_script.specs.Verdicts.{step_verdict, steps_verdict, surplus_fault, taken}
+use Rattle.proof_script.proofs.Equations.{proofs-more, proofs-none, refuted-more, step-is, steps-more, steps-none}
+use Rattle.proof_script.proofs.Equations.{taken-is, then_so}
+use Rattle.proof_script.proofs.LoopLaws.{named_program, rule_passed}
+use Rattle.proof_script.proofs.ReachLaws.{reach-is, reach_fits}
+use Rattle.proof_script.proofs.VerdictLaws.{unfailing}
+use Rattle.certificate_roundtrip.specs.TextLaws.{ProvedAreSmall}
+
+no_fault : (program step number : ℕ) (code : Option Code) (done : Unit {0}) →
+    or_refutation_fault program step number code ≡ Ok done → code ≡ None
+no_fault program step number None done e = refl
+no_fault program step number (Some code) done e = cc
+
+below : {X : Type 0} (xs : List X) (n : ℕ) (x : X) → slice_get xs n ≡ Some x → n < length xs
+below [] n x e = cc
+below (y ∷ xs) zero x e = omega arith
+below (y ∷ xs) (suc n) x e = let h = below xs n x e in omega (arith, h)
+
+each_small : (certs : List Cert) → ((k : ℕ) (c : Cert) → slice_get certs k ≡ Some c → IsSmallCertificate c) →
+    Each IsSmallCertificate certs
+each_small [] h = tt
+each_small (c ∷ cs) h = (h 0 c refl, each_small cs (λ k d e. h (suc k) d e))
+
+module _ (slots : List CSlot) (certs : List Cert) (all : All IsSlot slots) (whole : AreWhole certs)
+    (plain : ArePlain certs) where
+  -- the certificates with numbers below this one are small
+  abbrev AreSmall : ℕ → Type 0
+  AreSmall n = (k : ℕ) (c : Cert) → k < n → slice_get certs k ≡ Some c → IsSmallCertificate c
+
+  one_small : (o : Obligation) → IsObligation o → (number : ℕ) (c : Cert) → slice_get certs number ≡ Some c →
+      failing o (slice_get certs number) ≡ None → IsSmallCertificate c
+  one_small o is number c there passes =
+      let one_tree : is_whole c.nodes 1 ≡ true =
+      each_at (λ (x : Cert). is_whole x.nodes 1 ≡ true) certs
+      (from_all (λ (x : Cert). is_whole x.nodes 1 ≡ true) certs whole) number c there in
+      let one_plain : list_all is_plain_node c.nodes ≡ true =
+      each_at (λ (x : Cert). list_all is_plain_node x.nodes ≡ true) certs
+      (from_all (λ (x : Cert). list_all is_plain_node x.nodes ≡ true) certs plain) number c there in
+      let none : failing_node (judged o c.nodes) ≡ None = sym (ap (failing o) there) ∙ passes in
+      refuting_is_small o c is one_tree (unfailing (judged o c.nodes) none) one_plain
+
+  next_small : (n : ℕ) → AreSmall n → ((c : Cert) → slice_get certs n ≡ Some c → IsSmallCertificate c) →
+      (k : ℕ) (c : Cert) →
+      k < suc n → slice_get certs k ≡ Some c → IsSmallCertificate c
+  next_small n small here k c h there = by_last (nat_lt k n) refl
+    where
+      by_last : (b : Bool) → nat_lt k n ≡ b → IsSmallCertificate c
+      by_last true e = small k c (grind (arith, e)) there
+      by_last false e =
+          let least : n ≤ k = grind (arith, e) in
+          let same : k ≡ n = omega (arith, h, least) in
+          here c (subst (λ m. slice_get certs m ≡ Some c) same there)
+
+  -- the obligations of a step
+  refuted_small : (program step number : ℕ) (os : List Obligation) (done : Unit {0}) → Each IsObligation os →
+      AreSmall number → refuted_by certs program step number os ≡ Ok done → AreSmall (number + length os)
+  refuted_small program step number [] done are small e = λ k c h there. small k c (omega (arith, h)) there
+  refuted_small program step number (o ∷ os) done are small e =
+      let parts = then_so (or_refutation_fault program step number (failing o (slice_get certs number)))
+      (λ (x : Unit {0}). refuted_by certs program step (suc number) os) done
+      (sym (refuted-more certs program step number o os) ∙ e) in
+      let passes = no_fault program step number (failing o (slice_get certs number)) parts.0 parts.1 in
+      let rest = refuted_small program step (suc number) os done are.1
+      (next_small number small (λ c there. one_small o are.0 number c there passes)) parts.2 in
+      λ k c h there. rest k c (omega (arith, h)) there
+
+  -- what was taken so far
+  record IsFine (plan : Plan) : Type 0 where
+    fits : BookFits slots plan.records
+    small : AreSmall (length plan.obligations)
+
+  step_fine : (c : CProgram) (s : CStep) (plan new : Plan) → IsProgram slots c → IsStep slots s → IsFine plan →
+      step_verdict slots certs c s plan ≡ Ok new → IsFine new
+  step_fine c s plan new program good fine e =
+      let ruled = then_so (or_rule_fault c.name (Some s.name) (rule_of slots (starts_in slots) c s plan.records))
+      (λ (x : Conclusion). taken certs c.name s.name plan (derived_of slots x)) new
+      (sym (step-is slots certs c s plan) ∙ e) in
+      let x : Conclusion = ruled.0 in
+      let d : Derived = derived_of slots x in
+      let is : rule_of slots (starts_in slots) c s plan.records ≡ Ok x =
+      rule_passed c.name (Some s.name) (rule_of slots (starts_in slots) c s plan.records) x ruled.1 in
+      let told : IsStepRow slots c s x = told_step slots c s plan.records all program good fine.fits x is in
+      let parts = then_so (refuted_by certs c.name s.name (length plan.obligations) d.obligations)
+      (λ (done : Unit {0}). Ok (grown plan d)) new (sym (taken-is certs c.name s.name plan d) ∙ ruled.2) in
+      let made : grown plan d ≡ new = cc (parts.2) in
+      let small = refuted_small c.name s.name (length plan.obligations) d.obligations parts.0 told.obligations
+      fine.small parts.1 in
+      let long : length (plan.obligations ++ d.obligations) ≡ length plan.obligations + length d.obligations =
+      length-append plan.obligations d.obligations in
+      subst IsFine made (record {
+        fits = reach_fits slots c s plan (grown plan d) good fine.fits
+            (reach-is slots c s plan ∙ ap (by_row slots c.name s.name plan) is);
+        small = subst AreSmall (sym long) small;
+      })
+
+  steps_fine : (c : CProgram) (steps : List CStep) (plan new : Plan) → IsProgram slots c →
+      All (IsStep slots) steps → IsFine plan → steps_verdict slots certs c steps plan ≡ Ok new → IsFine new
+  steps_fine c [] plan new program good fine e =
+      let same : plan ≡ new = cc (sym (steps-none slots certs c plan) ∙ e) in subst IsFine same fine
+  steps_fine c (s ∷ rest) plan new program good fine e =
+      let parts = then_so (step_verdict slots certs c s plan) (steps_verdict slots certs c rest) new
+      (sym (steps-more slots certs c s rest plan) ∙ e) in
+      steps_fine c rest parts.0 new program (All-tail (IsStep slots) s rest good)
+      (step_fine c s plan parts.0 program (All-head (IsStep slots) s rest good) fine parts.1) parts.2
+
+  proof_fine : (named : Option CProgram) (proof : CProof) (plan new : Plan) →
+      ((c : CProgram) → named ≡ Some c → IsProgram slots c) → All (IsStep slots) proof.steps → IsFine plan →
+      proof_verdict slots certs named proof plan ≡ Ok new → IsFine new
+  proof_fine None proof plan new program good fine e =
+      let same : plan ≡ new = cc in subst IsFine same fine
+  proof_fine (Some c) proof plan new program good fine e =
+      let parts = then_so (steps_verdict slots certs c proof.steps plan) (end_verdict c) new e in
+      let mid : Plan = parts.0 in
+      let passed = met (has_defined c.name mid.records) Code.DefinedMissing (Ok mid) new
+      (rule_passed c.name None (needs (has_defined c.name mid.records) Code.DefinedMissing (Ok mid)) new parts.2) in
+      let same : mid ≡ new = cc (passed.1) in
+      subst IsFine same (steps_fine c proof.steps plan mid (program c refl) good fine parts.1)
+
+  proofs_fine : (programs : List CProgram) (proofs : List CProof) (plan new : Plan) → All (IsProgram slots) programs →
+      All (IsProof slots programs) proofs → IsFine plan → proofs_verdict slots certs programs proofs plan ≡ Ok new →
+      IsFine new
+  proofs_fine programs [] plan new are good fine e =
+      let same : plan ≡ new = cc (sym (proofs-none slots certs programs plan) ∙ e) in subst IsFine same fine
+  proofs_fine programs (proof ∷ rest) plan new are good fine e =
+      let named : Option CProgram = program_of programs proof.program in
+      let parts = then_so (proof_verdict slots certs named proof plan) (proofs_verdict slots certs programs rest) new
+      (sym (proofs-more slots certs programs proof rest plan) ∙ e) in
+      let first = proof_fine named proof plan parts.0
+      (λ c e. named_program slots programs proof.program c are e)
+      (All-head (IsProof slots programs) proof rest good).steps fine parts.1 in
+      proofs_fine programs rest parts.0 new are (All-tail (IsProof slots programs) proof rest good) first parts.2
+
+  last_so : (plan last : Plan) (b : Bool) → nat_lt (length plan.obligations) (length certs) ≡ b →
+      cond b (Err (surplus_fault (length plan.obligations))) (Ok plan) ≡ Ok last →
+      length certs ≤ length plan.obligations
+  last_so plan last true e h = cc
+  last_so plan last false e h = grind arith
+
+pub proved_are_small : ProvedAreSmall
+proved_are_small d certs plan good whole plain e =
+    let parts = then_so (proofs_verdict d.slots certs d.programs d.proofs no_plan) (last_verdict certs) plan e in
+    let first : IsFine d.slots certs good.slots whole plain no_plan =
+    record { fits = tt; small = λ k c h there. absurd (omega (arith, h)) } in
+    let fine = proofs_fine d.slots certs good.slots whole plain d.programs d.proofs no_plan parts.0 good.programs
+    good.proofs first parts.1 in
+    let few = last_so d.slots certs good.slots whole plain parts.0 plan
+    (nat_lt (length parts.0.obligations) (length certs)) refl parts.2 in
+    to_all IsSmallCertificate certs (each_small certs (λ k c there.
+    let here = below certs k c there in fine.small k c (omega (arith, here, few)) there))

@@ -1,0 +1,44 @@
+-- The text of a verdict.
+use Rattle.std.specs.Prelude.{ℕ, List, [], ◌∷◌, ◌++◌, codes, decimal, length, Option, Some, None}
+use Rattle.std.specs.List.{flat_map}
+use Rattle.case_tables.specs.declared.kind_table.Kind.{Kind}
+use Rattle.fair_rounds.specs.declared.records.Record.{Record}
+use Rattle.schedule_replay.specs.Lines.{word_text}
+use Rattle.proof_script.specs.declared.plans.Plan.{Plan}
+use Rattle.proof_script.specs.declared.plans.StepFault.{StepFault}
+use Rattle.cli_texts.specs.Names.{kind_name, code_text}
+
+-- ` KIND`, and of a leads-to its bound too, at a line's end
+abbrev pub kind_text : Kind → ℕ → List ℕ
+kind_text Kind.Leadsto bound =
+    codes " " ++ (kind_name Kind.Leadsto ++ (codes " " ++ (decimal bound ++ 10 ∷ [])))
+kind_text kind bound = codes " " ++ (kind_name kind ++ 10 ∷ [])
+
+-- `PROGRAM.STEP KIND`, on a line
+abbrev pub step_line : List (List ℕ) → Record → List ℕ
+step_line words r =
+    word_text words r.program ++ (codes "." ++ (word_text words r.name ++ kind_text r.kind r.bound))
+
+-- how many steps and obligations were accepted, and then each step
+abbrev pub accepted_text : List (List ℕ) → Plan → List ℕ
+accepted_text words plan =
+    codes "accepted " ++ (decimal (length plan.records) ++ (codes " steps "
+    ++ (decimal (length plan.obligations) ++ (codes " obligations" ++ 10 ∷ []))))
+    ++ flat_map (step_line words) plan.records
+
+-- ` PROGRAM.STEP`; ` PROGRAM` where no step is to be told; nothing where no program is
+abbrev pub place_text : List (List ℕ) → Option ℕ → Option ℕ → List ℕ
+place_text words None step = []
+place_text words (Some program) None = codes " " ++ word_text words program
+place_text words (Some program) (Some step) =
+    codes " " ++ (word_text words program ++ (codes "." ++ word_text words step))
+
+abbrev pub obligation_text : Option ℕ → List ℕ
+obligation_text None = []
+obligation_text (Some number) = codes " obligation " ++ decimal number
+
+-- the first failure
+abbrev pub rejected_text : List (List ℕ) → StepFault → List ℕ
+rejected_text words fault =
+    codes "rejected " ++ (code_text fault.code ++ (place_text words fault.program fault.step
+    ++ (obligation_text fault.obligation ++ 10 ∷ [])))

@@ -1,0 +1,130 @@
+// What words ask for.
+ghost use Rattle.std.specs.Prelude.{◌≡◌, option_map, IfSome};
+ghost use Rattle.cli_words.specs.Requests.{asked, meant, HasLimits, demo, prove};
+ghost use Rattle.cli_words.specs.Requests.{one_word, positive, several, two_words, three_words};
+ghost use Rattle.cli_words.specs.Numbers as numbers;
+
+use crate::numbers::number_in;
+
+/// The greatest number of units of a search.
+const MOST_UNITS: u64 = 1_000_000;
+
+/// The greatest number of steps of a run.
+const MOST_STEPS: u64 = 1_000_000;
+
+/// The greatest number of places of a ring.
+const MOST_PLACES: u64 = 64;
+
+/// What the program is asked to do.
+#[derive(Clone, Copy)]
+pub enum Command<'a> {
+    /// `check`: whether the document's proofs follow, with its certificates.
+    Check,
+    /// `prove BUDGET`: certificates for the document's proofs, of at most so many units. 1 to 1,000,000.
+    Prove { budget: u64 },
+    /// `run PROGRAM STEPS`: so many steps of a program, each of its instances in turn. 0 to 1,000,000.
+    Run { program: &'a str, steps: u64 },
+    /// `replay`: the steps that the document's schedule names.
+    Replay,
+    /// `demo N`: certificates for the proof of a ring of so many places. 2 to 64.
+    Demo { places: u32 },
+}
+
+/// The command that the words are, read by position. `None` where they are none.
+pub fn read_words(words: &[String]) -> Option<Command<'_>>
+    ensures asked { option_map meant result ≡ asked words.now }
+    ensures limits { IfSome result HasLimits }
+{
+    match words {
+        [word] => read_one(word.as_str()),
+        [word, number] => read_two(word.as_str(), number.as_str()),
+        [word, program, steps] => read_three(word.as_str(), program.as_str(), steps.as_str()),
+        _ => None,
+    }
+}
+
+// A command of one word.
+fn read_one<'a>(word: &str) -> Option<Command<'a>>
+    ensures asked { option_map meant result ≡ one_word word.now }
+    ensures limits { IfSome result HasLimits }
+{
+    if word == "check" {
+        Some(Command::Check)
+    } else if word == "replay" {
+        Some(Command::Replay)
+    } else {
+        None
+    }
+}
+
+// A number that is not zero.
+fn positive(number: Option<u64>) -> Option<u64>
+    ensures { result ≡ positive number }
+{
+    match number {
+        Some(0) => None,
+        _ => number,
+    }
+}
+
+// A number that is neither zero nor one.
+fn several(number: Option<u64>) -> Option<u64>
+    ensures { result ≡ several number }
+{
+    match number {
+        Some(0 | 1) => None,
+        _ => number,
+    }
+}
+
+// A search of so many units.
+fn read_budget<'a>(budget: &str) -> Option<Command<'a>>
+    ensures asked { option_map meant result ≡ option_map prove (positive (numbers.number_in 1000000 budget.now)) }
+    ensures limits { IfSome result HasLimits }
+{
+    match positive(number_in(MOST_UNITS, budget)) {
+        Some(budget) => Some(Command::Prove { budget }),
+        None => None,
+    }
+}
+
+// A ring of so many places.
+fn read_places<'a>(places: &str) -> Option<Command<'a>>
+    ensures asked { option_map meant result ≡ option_map demo (several (numbers.number_in 64 places.now)) }
+    ensures limits { IfSome result HasLimits }
+{
+    match several(number_in(MOST_PLACES, places)) {
+        Some(places) => Some(Command::Demo {
+            places: places as u32,
+        }),
+        None => None,
+    }
+}
+
+// A command of two words.
+fn read_two<'a>(word: &str, number: &str) -> Option<Command<'a>>
+    ensures asked { option_map meant result ≡ two_words word.now number.now }
+    ensures limits { IfSome result HasLimits }
+{
+    if word == "prove" {
+        read_budget(number)
+    } else if word == "demo" {
+        read_places(number)
+    } else {
+        None
+    }
+}
+
+// A command of three words.
+fn read_three<'a>(word: &str, program: &'a str, steps: &str) -> Option<Command<'a>>
+    ensures asked { option_map meant result ≡ three_words word.now program.now steps.now }
+    ensures limits { IfSome result HasLimits }
+{
+    if word != "run" {
+        return None;
+    }
+    match number_in(MOST_STEPS, steps) {
+        Some(steps) => Some(Command::Run { program, steps }),
+        None => None,
+    }
+}

@@ -1,5 +1,0 @@
-use Rattle.command_words.proofs.Decimals.{numbers_are_decimal}
-use Rattle.command_words.proofs.laws.number_laws.Goals as goal
-
-pub returns : goal.returns
-returns c = numbers_are_decimal

@@ -1,5 +1,0 @@
-use Rattle.command_words.proofs.Asking.{requests_are_asked}
-use Rattle.command_words.proofs.laws.request_laws.Goals as goal
-
-pub returns : goal.returns
-returns c = requests_are_asked

@@ -1,8 +1,0 @@
-use Rattle.core_conditions.proofs.Walk.{statements_apart, proofs_named}
-use Rattle.core_conditions.proofs.laws.naming_laws.Goals as goal
-
-pub returns-clause-statements : goal.returns-clause-statements
-returns-clause-statements c = statements_apart
-
-pub returns-clause-proofs : goal.returns-clause-proofs
-returns-clause-proofs c = proofs_named

@@ -1,0 +1,10 @@
+//! Words and documents with the answers of the whole program, worked out by hand; and the harness that
+//! runs it over sources and sinks in memory, whose calls fail where they are told to.
+#![tactic(auto)]
+
+mod answers;
+#[cfg(test)]
+mod tests;
+
+pub use answers::{ACCEPTED, COUNT, NOTHING, Row, answer, edited, status_of, wrong_answers};
+pub use unity_cli::{Status, make_demo};

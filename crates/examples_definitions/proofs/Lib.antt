@@ -1,0 +1,6 @@
+pub mod ClaimTrials
+pub mod ExamplesRead
+pub mod OperatorTrials
+pub mod ProgramTrials
+pub mod StepTrials
+pub mod ValueTrials

@@ -1,0 +1,9 @@
+use Rattle.examples_definitions.proofs.ValueTrials.{value_examples}
+use Rattle.examples_definitions.proofs.OperatorTrials.{operator_examples}
+use Rattle.examples_definitions.proofs.meanings.value_examples.Goals as goal
+
+pub returns-clause-names : goal.returns-clause-names
+returns-clause-names c = value_examples
+
+pub returns-clause-operators : goal.returns-clause-operators
+returns-clause-operators c = operator_examples

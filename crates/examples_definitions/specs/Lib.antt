@@ -1,0 +1,13 @@
+pub mod ClaimExamples
+pub mod CountText
+pub mod ExpressionText
+pub mod OperatorExamples
+pub mod ProgramExamples
+pub mod ProgramText
+pub mod ProofText
+pub mod RefusedTexts
+pub mod SmallTrees
+pub mod StepExamples
+pub mod TermText
+pub mod TextForms
+pub mod ValueExamples

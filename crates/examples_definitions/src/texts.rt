@@ -1,0 +1,33 @@
+//! Texts of the whole language, read by its grammar. The function does nothing: it states examples.
+
+ghost use Rattle.examples_definitions.specs.TextForms.{IsRead, IsRefused};
+ghost use Rattle.examples_definitions.specs.CountText.{smallest_example, count_example};
+ghost use Rattle.examples_definitions.specs.ProgramText.{program_example};
+ghost use Rattle.examples_definitions.specs.ExpressionText.{expressions_example};
+ghost use Rattle.examples_definitions.specs.ProofText.{proof_example};
+ghost use Rattle.examples_definitions.specs.TermText.{term_example};
+ghost use Rattle.examples_definitions.specs.RefusedTexts.{other_version, second_relation, second_arrow, not_not};
+ghost use Rattle.examples_definitions.specs.RefusedTexts.{and_or};
+ghost use Rattle.examples_definitions.specs.RefusedTexts.{other_number, node_too_many, node_missing};
+ghost use Rattle.examples_definitions.specs.RefusedTexts.{early_end, bracket_too_many};
+
+/// Texts with their tokens: each production is read, and tokens are refused exactly from the first bad
+/// one on.
+pub fn grammar_examples()
+    ensures smallest { IsRead smallest_example }
+    ensures count { IsRead count_example }
+    ensures program { IsRead program_example }
+    ensures expressions { IsRead expressions_example }
+    ensures proof { IsRead proof_example }
+    ensures term { IsRead term_example }
+    ensures other_version { IsRefused other_version }
+    ensures second_relation { IsRefused second_relation }
+    ensures second_arrow { IsRefused second_arrow }
+    ensures not_not { IsRefused not_not }
+    ensures and_or { IsRefused and_or }
+    ensures other_number { IsRefused other_number }
+    ensures node_too_many { IsRefused node_too_many }
+    ensures node_missing { IsRefused node_missing }
+    ensures early_end { IsRefused early_end }
+    ensures bracket_too_many { IsRefused bracket_too_many }
+{}

@@ -1,0 +1,4 @@
+pub mod ChainLaws
+pub mod CountLaws
+pub mod OpenLaws
+pub mod SwapLaws

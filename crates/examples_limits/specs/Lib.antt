@@ -1,0 +1,5 @@
+pub mod Count
+pub mod Deep
+pub mod Light
+pub mod Open
+pub mod Swap

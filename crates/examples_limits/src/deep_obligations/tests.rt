@@ -1,0 +1,198 @@
+// The deepest trees of 65,536 nodes, through each call that goes down a tree. A call that took too much
+// stack would end the test; that it answers rightly is proved.
+ghost use Rattle.std.specs.Prelude.{◌≡◌, ◌≤◌, pos, IfOk};
+ghost use Rattle.core_terms.specs.Places.{form_slots, form_params};
+ghost use Rattle.examples_limits.specs.Deep.{IsDeepForm};
+
+use super::*;
+use core_terms::{CSlot, Print, Range, copy_form};
+use obligations::{
+    Cert, Node, TooLargeError, height, make, need, open_branch, settle, units, with_variables,
+};
+use std::test::Fail;
+use unity_base::Seq;
+
+const NODES: u32 = 65536;
+
+fn bit(name: u32) -> CSlot
+    ensures low { result.range.lo ≡ pos 0 }
+    ensures high { result.range.hi ≡ pos 1 }
+{
+    CSlot {
+        name,
+        index: None,
+        range: Range { lo: 0, hi: 1 },
+        print: Print::Number,
+    }
+}
+
+// Whether an obligation is made of the formula, or it is too large.
+fn is_made(alloc: Global, f: CForm) -> Result<bool, AllocError>
+    requires { IsDeepForm f }
+{
+    let slots = [bit(0)];
+    match make(alloc, f, slots.as_slice(), [].as_slice()) {
+        Ok(o) => Ok(height(&o) <= 960),
+        Err(TooLargeError::TooLarge) => Ok(true),
+        Err(TooLargeError::Memory) => Err(AllocError),
+    }
+}
+
+// Whether the formula is opened and settled.
+fn is_settled(alloc: Global, f: &CForm) -> Result<bool, AllocError>
+    requires { IsDeepForm f.now }
+{
+    let slots = [Range { lo: 0, hi: 1 }];
+    let o = with_variables(alloc, copy_form(alloc, f)?, slots.as_slice(), [].as_slice())?;
+    let branch = open_branch(alloc, &o)?;
+    let branch = settle(alloc, &o, branch, copy_form(alloc, f)?)?;
+    let some = need(&o).is_some();
+    Ok(2 <= branch.facts.len() && (some || !some))
+}
+
+fn goes_through(alloc: Global, f: CForm) -> Result<bool, AllocError>
+    requires { IsDeepForm f }
+{
+    let settled = is_settled(alloc, &f)?;
+    Ok(is_made(alloc, f)? && settled)
+}
+
+// The height, the need, and the facts of the first branch and of that branch with the formula settled,
+// over one slot of 0..1; zeros where the formula is too large.
+fn numbers_of(alloc: Global, f: CForm) -> Result<(u64, u128, usize, usize), AllocError>
+    requires { IsDeepForm f }
+{
+    let todo = copy_form(alloc, &f)?;
+    let slots = [bit(0)];
+    match make(alloc, f, slots.as_slice(), [].as_slice()) {
+        Ok(o) => {
+            let branch = open_branch(alloc, &o)?;
+            let first = branch.facts.len();
+            let branch = settle(alloc, &o, branch, todo)?;
+            Ok((height(&o), need(&o).unwrap_or(0), first, branch.facts.len()))
+        }
+        Err(TooLargeError::TooLarge) => Ok((0, 0, 0, 0)),
+        Err(TooLargeError::Memory) => Err(AllocError),
+    }
+}
+
+#[test]
+fn opens_a_small_obligation(rt: HostRuntime) -> Result<(), Fail> {
+    let least = deep_form(rt.alloc(), Around::Not, 0)?;
+    assert!(rt; numbers_of(rt.alloc(), least)? == (1, 514, 3, 4));
+    Ok(())
+}
+
+// The slot of the numbers 0 to 3.
+fn small_number() -> CSlot
+    ensures low { result.range.lo ≡ pos 0 }
+    ensures high { result.range.hi ≡ pos 3 }
+{
+    CSlot {
+        name: 0,
+        index: None,
+        range: Range { lo: 0, hi: 3 },
+        print: Print::Number,
+    }
+}
+
+// That a constant less a slot is at least 0.
+fn at_most(alloc: Global, most: i64) -> Result<CForm, AllocError>
+    ensures slots { IfOk result (λ f. form_slots f ≤ 1) }
+    ensures params { IfOk result (λ f. form_params f ≤ 0) }
+{
+    let most = Held::new(alloc, CTerm::Const(most))?;
+    let slot = Held::new(alloc, CTerm::Slot(0))?;
+    Ok(CForm::AtLeast(CTerm::Sub(most, slot)))
+}
+
+// That a slot and 1 are within 0..3.
+fn next_inside(alloc: Global) -> Result<CForm, AllocError>
+    ensures slots { IfOk result (λ f. form_slots f ≤ 1) }
+    ensures params { IfOk result (λ f. form_params f ≤ 0) }
+{
+    let slot = Held::new(alloc, CTerm::Slot(0))?;
+    let one = Held::new(alloc, CTerm::Const(1))?;
+    let low = CForm::AtLeast(CTerm::Add(slot, one));
+    Ok(CForm::And(
+        Held::new(alloc, low)?,
+        Held::new(alloc, at_most(alloc, 2)?)?,
+    ))
+}
+
+// That `x := x + 1 if x < 3` is defined, where x is the slot.
+fn step_is_defined(alloc: Global) -> Result<CForm, AllocError>
+    ensures slots { IfOk result (λ f. form_slots f ≤ 1) }
+    ensures params { IfOk result (λ f. form_params f ≤ 0) }
+{
+    let condition = Held::new(alloc, at_most(alloc, 2)?)?;
+    Ok(CForm::Or(
+        Held::new(alloc, CForm::Not(condition))?,
+        Held::new(alloc, next_inside(alloc)?)?,
+    ))
+}
+
+// One case, and two halvings of four values; two leaves with four values each, and 257 units for a leaf.
+#[test]
+fn counts_height_and_need(rt: HostRuntime) -> Result<(), Fail> {
+    let slots = [small_number()];
+    let form = step_is_defined(rt.alloc())?;
+    match make(rt.alloc(), form, slots.as_slice(), [].as_slice()) {
+        Ok(o) => {
+            assert!(rt; height(&o) == 3);
+            assert!(rt; need(&o) == Some(2056));
+        }
+        Err(_) => assert!(rt; false),
+    }
+    Ok(())
+}
+
+#[test]
+fn counts_units(rt: HostRuntime) -> Result<(), Fail> {
+    let mut pairs = Seq::new(rt.alloc());
+    pairs.push((1, 1))?;
+    pairs.push((1, 3))?;
+    let mut nodes = Seq::new(rt.alloc());
+    nodes.push(Node::Split(1, 0))?;
+    nodes.push(Node::Case(1))?;
+    nodes.push(Node::Sum(pairs))?;
+    assert!(rt; units(&Cert { nodes }) == 5);
+    Ok(())
+}
+
+#[test]
+fn takes_deep_formulas(rt: HostRuntime) -> Result<(), Fail> {
+    for (which, part) in [(Around::Not, 1), (Around::And, 2), (Around::Or, 2)] {
+        let f = deep_form(rt.alloc(), which, (NODES - 2) / part)?;
+        assert!(rt; goes_through(rt.alloc(), f)?);
+    }
+    Ok(())
+}
+
+#[test]
+fn takes_deep_terms(rt: HostRuntime) -> Result<(), Fail> {
+    for (which, part) in [
+        (TermAround::Scale, 1),
+        (TermAround::Add, 2),
+        (TermAround::Sub, 2),
+        (TermAround::Branch, 3),
+        (TermAround::Condition, 4),
+    ] {
+        let t = deep_term(rt.alloc(), which, (NODES - 2) / part, CTerm::Slot(0))?;
+        assert!(rt; goes_through(rt.alloc(), CForm::Zero(t))?);
+    }
+    Ok(())
+}
+
+#[test]
+fn takes_deep_choices(rt: HostRuntime) -> Result<(), Fail> {
+    for (which, part) in [
+        (TermAround::Scale, 1),
+        (TermAround::Add, 2),
+        (TermAround::Sub, 2),
+    ] {
+        let t = deep_term(rt.alloc(), which, (NODES - 5) / part, choice(rt.alloc())?)?;
+        assert!(rt; goes_through(rt.alloc(), CForm::Zero(t))?);
+    }
+    Ok(())
+}

@@ -1,0 +1,85 @@
+// Trees of the greatest depth, which the calls on core trees take within an ordinary stack.
+ghost use Rattle.std.specs.Prelude.{IfOk};
+ghost use Rattle.examples_limits.specs.Light.{IsLightTerm, IsLightForm};
+
+use core_terms::{CForm, CTerm};
+use std::alloc::{AllocError, Global};
+use unity_base::Held;
+
+#[cfg(test)]
+mod tests;
+
+/// How a formula is put around another.
+#[derive(Clone, Copy)]
+pub enum Around {
+    Not,
+    And,
+    Or,
+}
+
+/// How a term is put around another.
+#[derive(Clone, Copy)]
+pub enum TermAround {
+    Scale,
+    Add,
+    Sub,
+    Branch,
+    Condition,
+}
+
+/// One more level around a formula.
+pub fn form_around(alloc: Global, which: Around, f: CForm) -> Result<CForm, AllocError>
+    requires { IsLightForm f }
+    ensures { IfOk result IsLightForm }
+{
+    let inner = Held::new(alloc, f)?;
+    match which {
+        Around::Not => Ok(CForm::Not(inner)),
+        Around::And => Ok(CForm::And(inner, Held::new(alloc, CForm::Top)?)),
+        Around::Or => Ok(CForm::Or(inner, Held::new(alloc, CForm::Bottom)?)),
+    }
+}
+
+/// One more level around a term.
+pub fn term_around(alloc: Global, which: TermAround, t: CTerm) -> Result<CTerm, AllocError>
+    requires { IsLightTerm t }
+    ensures { IfOk result IsLightTerm }
+{
+    let zero = Held::new(alloc, CTerm::Const(0))?;
+    match which {
+        TermAround::Scale => Ok(CTerm::Scale(1, Held::new(alloc, t)?)),
+        TermAround::Add => Ok(CTerm::Add(Held::new(alloc, t)?, zero)),
+        TermAround::Sub => Ok(CTerm::Sub(Held::new(alloc, t)?, zero)),
+        TermAround::Branch => Ok(CTerm::Ite(
+            Held::new(alloc, CForm::Top)?,
+            Held::new(alloc, t)?,
+            zero,
+        )),
+        TermAround::Condition => {
+            let second = Held::new(alloc, CTerm::Const(0))?;
+            Ok(CTerm::Ite(Held::new(alloc, CForm::Zero(t))?, zero, second))
+        }
+    }
+}
+
+/// A formula of this many levels around `Top`.
+pub fn deep_form(alloc: Global, which: Around, levels: u32) -> Result<CForm, AllocError>
+    ensures { IfOk result IsLightForm }
+{
+    let mut f = CForm::Top;
+    for _ in 0..levels {
+        f = form_around(alloc, which, f)?;
+    }
+    Ok(f)
+}
+
+/// A term of this many levels around a slot.
+pub fn deep_term(alloc: Global, which: TermAround, levels: u32) -> Result<CTerm, AllocError>
+    ensures { IfOk result IsLightTerm }
+{
+    let mut t = CTerm::Slot(0);
+    for _ in 0..levels {
+        t = term_around(alloc, which, t)?;
+    }
+    Ok(t)
+}

@@ -1,0 +1,111 @@
+// The deepest trees of 65,536 nodes, through each call that goes down a tree. A call that took too much
+// stack would end the test; that it answers rightly is proved.
+ghost use Rattle.examples_limits.specs.Light.{IsLightForm};
+
+use super::*;
+use core_terms::{
+    Arg, CSlot, Print, Range, copy_form, holds, same, size_of, weight_of, with_params, zero_form,
+};
+use std::test::Fail;
+use unity_base::Seq;
+
+const NODES: u32 = 65536;
+
+// Whether the formula has so many nodes, and equals its copy.
+fn goes_down(alloc: Global, f: &CForm, nodes: u64) -> Result<bool, AllocError>
+    requires { IsLightForm f.now }
+{
+    let copy = copy_form(alloc, f)?;
+    let truth = holds(f, [0].as_slice(), [].as_slice());
+    Ok(size_of(f) == nodes && same(f, &copy) && (truth || !truth))
+}
+
+// Whether parameters are put into the formula, and it has no more nodes then.
+fn takes_arguments(alloc: Global, f: &CForm) -> Result<bool, AllocError>
+    requires { IsLightForm f.now }
+{
+    let none: &[Arg] = [].as_slice();
+    Ok(size_of(&with_params(alloc, f, none)?) <= size_of(f))
+}
+
+// Whether the formula weighs at most 1, where slot 0 is 0 or 1.
+fn weighs_little(alloc: Global, f: &CForm) -> Result<bool, AllocError>
+    requires { IsLightForm f.now }
+{
+    let mut slots = Seq::new(alloc);
+    slots.push(CSlot {
+        name: 0,
+        index: None,
+        range: Range { lo: 0, hi: 1 },
+        print: Print::Number,
+    })?;
+    Ok(weight_of(f, slots.as_slice(), [].as_slice()) <= 1)
+}
+
+#[test]
+fn takes_deep_formulas(rt: HostRuntime) -> Result<(), Fail> {
+    for (which, part) in [(Around::Not, 1), (Around::And, 2), (Around::Or, 2)] {
+        let levels = (NODES - 1) / part;
+        let f = deep_form(rt.alloc(), which, levels)?;
+        let nodes = 1 + u64::from(levels) * u64::from(part);
+        assert!(rt; goes_down(rt.alloc(), &f, nodes)?);
+        assert!(rt; takes_arguments(rt.alloc(), &f)?);
+    }
+    Ok(())
+}
+
+#[test]
+fn takes_deep_terms(rt: HostRuntime) -> Result<(), Fail> {
+    for (which, part) in [
+        (TermAround::Scale, 1),
+        (TermAround::Add, 2),
+        (TermAround::Sub, 2),
+        (TermAround::Branch, 3),
+        (TermAround::Condition, 4),
+    ] {
+        let levels = (NODES - 2) / part;
+        let f = CForm::Zero(deep_term(rt.alloc(), which, levels)?);
+        let nodes = 2 + u64::from(levels) * u64::from(part);
+        assert!(rt; goes_down(rt.alloc(), &f, nodes)?);
+
+        // Folding looks down the whole term once.
+        let folded = zero_form(deep_term(rt.alloc(), which, levels)?);
+        assert!(rt; size_of(&folded) <= nodes);
+    }
+    Ok(())
+}
+
+#[test]
+fn puts_arguments_into_deep_terms(rt: HostRuntime) -> Result<(), Fail> {
+    for (which, part) in [
+        (TermAround::Scale, 1),
+        (TermAround::Add, 2),
+        (TermAround::Sub, 2),
+        (TermAround::Branch, 3),
+        (TermAround::Condition, 4),
+    ] {
+        let levels = (NODES - 2) / part;
+        let f = CForm::Zero(deep_term(rt.alloc(), which, levels)?);
+        assert!(rt; takes_arguments(rt.alloc(), &f)?);
+    }
+    Ok(())
+}
+
+#[test]
+fn weighs_deep_trees(rt: HostRuntime) -> Result<(), Fail> {
+    for (which, part) in [(Around::Not, 1), (Around::And, 2), (Around::Or, 2)] {
+        let f = deep_form(rt.alloc(), which, (NODES - 1) / part)?;
+        assert!(rt; weighs_little(rt.alloc(), &f)?);
+    }
+    for (which, part) in [
+        (TermAround::Scale, 1),
+        (TermAround::Add, 2),
+        (TermAround::Sub, 2),
+        (TermAround::Branch, 3),
+        (TermAround::Condition, 4),
+    ] {
+        let f = CForm::Zero(deep_term(rt.alloc(), which, (NODES - 2) / part)?);
+        assert!(rt; weighs_little(rt.alloc(), &f)?);
+    }
+    Ok(())
+}

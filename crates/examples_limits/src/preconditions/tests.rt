@@ -1,0 +1,88 @@
+// What the weakest precondition of the swap is, and that deep formulas take no more than an ordinary stack.
+ghost use Rattle.std.specs.Prelude.{◌≡◌, ◌<◌, ◌≤◌, ◌^◌, IfOk};
+ghost use Rattle.core_terms.specs.Places.{form_slots};
+ghost use Rattle.core_terms.specs.Weights.{plain_weight};
+ghost use Rattle.examples_limits.specs.Light.{IsLightForm};
+ghost use Rattle.core_terms.specs.Conditions.{StatementFits};
+ghost use Rattle.examples_limits.specs.Swap.{two_slots};
+
+use super::*;
+use crate::deep_trees::{Around, TermAround, deep_form, deep_term};
+use core_terms::{same, size_of};
+use std::test::Fail;
+use unity_base::Held;
+use wp_substitution::{defined, wp};
+
+const NODES: u32 = 65536;
+
+// That the sum of two slots is 3.
+fn sum_is_three(alloc: Global, first: u32, second: u32) -> Result<CForm, AllocError>
+    requires first { first < 2 }
+    requires second { second < 2 }
+    ensures slots { IfOk result (λ f. form_slots f ≤ 2) }
+    ensures weight { IfOk result (λ f. plain_weight f ≤ 2 ^ 62) }
+{
+    let sum = CTerm::Add(
+        Held::new(alloc, CTerm::Slot(first))?,
+        Held::new(alloc, CTerm::Slot(second))?,
+    );
+    let sum = Held::new(alloc, sum)?;
+    let three = Held::new(alloc, CTerm::Const(3))?;
+    Ok(CForm::Zero(CTerm::Sub(sum, three)))
+}
+
+// Whether the second part of a formula is this one.
+fn ends_with(f: &CForm, part: &CForm) -> bool {
+    match f {
+        CForm::And(_, second) => same(second.get(), part),
+        _ => false,
+    }
+}
+
+#[test]
+fn swaps_the_slots(rt: HostRuntime) -> Result<(), Fail> {
+    let s = swap(rt.alloc())?;
+    let slots = two_slots(rt.alloc())?;
+    let q = sum_is_three(rt.alloc(), 0, 1)?;
+    let f = wp(rt.alloc(), &s, &q, slots.as_slice())?;
+    assert!(rt; ends_with(&f, &sum_is_three(rt.alloc(), 1, 0)?));
+    Ok(())
+}
+
+// The nodes of the precondition of a deep formula.
+fn goes_down(alloc: Global, s: &CStmt, q: &CForm, slots: &[CSlot]) -> Result<u64, AllocError>
+    requires slots { slots.now ≡ two_slots }
+    requires statement { StatementFits two_slots s.now }
+    requires formula { IsLightForm q.now }
+{
+    Ok(size_of(&wp(alloc, s, q, slots)?))
+}
+
+#[test]
+fn goes_down_deep_formulas(rt: HostRuntime) -> Result<(), Fail> {
+    let s = swap(rt.alloc())?;
+    let slots = two_slots(rt.alloc())?;
+    for (which, part) in [(Around::Not, 1), (Around::And, 2), (Around::Or, 2)] {
+        let q = deep_form(rt.alloc(), which, (NODES - 1) / part)?;
+        assert!(rt; goes_down(rt.alloc(), &s, &q, slots.as_slice())? > 1);
+    }
+    for (which, part) in [
+        (TermAround::Scale, 1),
+        (TermAround::Add, 2),
+        (TermAround::Sub, 2),
+        (TermAround::Branch, 3),
+        (TermAround::Condition, 4),
+    ] {
+        let q = CForm::Zero(deep_term(rt.alloc(), which, (NODES - 2) / part)?);
+        assert!(rt; goes_down(rt.alloc(), &s, &q, slots.as_slice())? > 1);
+    }
+    Ok(())
+}
+
+#[test]
+fn folds_equal_writes(rt: HostRuntime) -> Result<(), Fail> {
+    let s = fives(rt.alloc(), 10000)?;
+    let slots = two_slots(rt.alloc())?;
+    assert!(rt; same(&defined(rt.alloc(), &s, slots.as_slice())?, &CForm::Top));
+    Ok(())
+}

@@ -1,0 +1,8 @@
+-- The start values of programs.
+pub mod Merged
+pub mod ShownStarts
+pub mod StartSlots
+pub mod StartTables
+pub mod StartValues
+pub mod StartWords
+pub mod Starts

@@ -1,0 +1,3 @@
+pub mod DocumentLaws
+pub mod ReadingLaws
+pub mod StartConditions

@@ -1,0 +1,21 @@
+-- Statements, words, programs, proofs and steps are counted, numbered and named.
+pub mod ArgumentNumbers
+pub mod Arguments
+pub mod Counted
+pub mod HelperIndices
+pub mod Instances
+pub mod ItemLaws
+pub mod Labels
+pub mod Lists
+pub mod Numbering
+pub mod Programs
+pub mod Proofs
+pub mod Ranges
+pub mod RefArguments
+pub mod Shown
+pub mod Sizes
+pub mod StepNames
+pub mod StepNumbers
+pub mod TermNumbers
+pub mod Terms
+pub mod Walk

@@ -1,0 +1,23 @@
+-- What core forms name is there, and their parts weigh no more than numbers can say.
+pub mod AnyWords
+pub mod Below
+pub mod Bodies
+pub mod Claims
+pub mod Declaring
+pub mod ItemWords
+pub mod NamedEffects
+pub mod NamedForms
+pub mod Placed
+pub mod ReadWords
+pub mod Scopes
+pub mod Showing
+pub mod ShownPrograms
+pub mod SlotPlaces
+pub mod StepNames
+pub mod StepTerms
+pub mod TermForms
+pub mod TermNumbers
+pub mod TermParts
+pub mod TermRanges
+pub mod Unions
+pub mod Wider

@@ -1,8 +1,0 @@
-use Rattle.fitting_forms.proofs.ReadWords.{expressions_read, assignments_read}
-use Rattle.fitting_forms.proofs.laws.reading_laws.Goals as goal
-
-pub returns-clause-expressions : goal.returns-clause-expressions
-returns-clause-expressions c = expressions_read
-
-pub returns-clause-assignments : goal.returns-clause-assignments
-returns-clause-assignments c = assignments_read

@@ -1,5 +1,0 @@
-pub mod ClaimTrials
-pub mod OperatorTrials
-pub mod ProgramTrials
-pub mod StepTrials
-pub mod ValueTrials

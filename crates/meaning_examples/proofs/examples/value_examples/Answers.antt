@@ -1,9 +1,0 @@
-use Rattle.meaning_examples.proofs.ValueTrials.{value_examples}
-use Rattle.meaning_examples.proofs.OperatorTrials.{operator_examples}
-use Rattle.meaning_examples.proofs.examples.value_examples.Goals as goal
-
-pub returns-clause-names : goal.returns-clause-names
-returns-clause-names c = value_examples
-
-pub returns-clause-operators : goal.returns-clause-operators
-returns-clause-operators c = operator_examples

@@ -1,2 +1,0 @@
-pub mod Deep
-pub mod Count

@@ -1,6 +1,0 @@
-use Rattle.std.proofs.Common.{◌≡◌, drop, find}
-use Rattle.program_traces.specs.Programs.{is_called, program_called}
-use Rattle.program_traces.proofs.finding.program_called.Given as goal
-
-abbrev pub invariant-loop-p : goal.invariant-loop-p
-invariant-loop-p l = program_called l.doc l.name ≡ find (is_called l.doc l.name) (drop l.p-index l.p-items)

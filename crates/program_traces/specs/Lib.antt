@@ -1,3 +1,0 @@
-pub mod Programs
-pub mod Errors
-pub mod Answers

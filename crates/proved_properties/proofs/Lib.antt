@@ -1,6 +1,0 @@
-pub mod Words
-pub mod Rules
-pub mod PlanRecords
-pub mod Sources
-pub mod Claims
-pub mod Starts

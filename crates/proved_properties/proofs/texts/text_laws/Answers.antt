@@ -1,5 +1,0 @@
-use Rattle.proved_properties.proofs.Words.{claims_are_written}
-use Rattle.proved_properties.proofs.texts.text_laws.Goals as goal
-
-pub returns : goal.returns
-returns c = claims_are_written

@@ -1,4 +1,0 @@
-pub mod Written
-pub mod PlanSteps
-pub mod Properties
-pub mod Executions

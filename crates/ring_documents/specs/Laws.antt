@@ -1,7 +1,0 @@
--- A law of the ring's bytes, as a statement.
-use Rattle.std.specs.Prelude.{◌≡◌, ◌+◌, ◌*◌, ◌-◌, ℕ, length, decimal}
-use Rattle.ring_documents.specs.Rings.{ring_bytes}
-
--- how many they are: the number of the last place stands eight times
-abbrev pub RingsHaveLengths : Type 0
-RingsHaveLengths = (n : ℕ) → length (ring_bytes n) ≡ 464 + 8 * length (decimal (n - 1))

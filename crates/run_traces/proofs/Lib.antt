@@ -1,0 +1,6 @@
+pub mod FindingLaws
+pub mod AnswerLaws
+pub mod Writing
+pub mod TraceLaws
+pub mod TraceTheorems
+pub mod TraceAnswers

@@ -1,0 +1,9 @@
+pub mod Programs
+pub mod Errors
+pub mod Answers
+pub mod Choices
+pub mod Traces
+pub mod Cores
+pub mod Laws
+pub mod TraceErrors
+pub mod TraceAnswers

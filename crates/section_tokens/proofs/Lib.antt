@@ -1,6 +1,0 @@
-pub mod PieceLaws
-pub mod PlaceLaws
-pub mod PlainLaws
-pub mod ReadsOn
-pub mod SectionLaws
-pub mod SmallLaws

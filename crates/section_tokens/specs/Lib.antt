@@ -1,3 +1,0 @@
-pub mod Laws
-pub mod Pieces
-pub mod Small

@@ -1,0 +1,150 @@
+-- What the steps of an accepted document claim is true.
+use Rattle.std.proofs.Common.{◌≡◌, ℕ, ℤ, List, [], ◌∷◌, map, Bool, ◌&&◌, Option, Some, None, IsTrue}
+use Rattle.std.proofs.Common.{refl, sym, ap, ◌∙◌, subst, slice_get}
+use Rattle.case_tables.specs.declared.word_table.Word.{Word}
+use Rattle.unity_syntax.specs.declared.expression.Expr.{Expr}
+use Rattle.unity_syntax.specs.declared.proof.Param.{Param}
+use Rattle.unity_syntax.specs.declared.proof.Claim.{Claim}
+use Rattle.unity_syntax.specs.declared.proof.Step.{Step}
+use Rattle.unity_syntax.specs.declared.proof.Proof.{Proof}
+use Rattle.unity_syntax.specs.declared.document.Document.{Document}
+use Rattle.state_steps.specs.State.{in_range}
+use Rattle.unity_meaning.specs.Names.{Bindings}
+use Rattle.unity_meaning.specs.Value.{range_ends}
+use Rattle.unity_meaning.specs.Setting.{slot_ranges, is_true_at}
+use Rattle.unity_meaning.specs.Programs.{Composed, document_setting}
+use Rattle.unity_meaning.specs.Execution.{System, system_of}
+use Rattle.unity_meaning.specs.Properties.{never}
+use Rattle.unity_meaning.specs.Claims.{parameters, are_arguments, argument_bindings, ClaimsOf}
+use Rattle.execution_laws.specs.Alike.{Alike, SameAt}
+use Rattle.execution_laws.proofs.AlikeTheorems.{alike_back, defined_alike, invariant_alike, unless_alike}
+use Rattle.execution_laws.proofs.AlikeTheorems.{ensures_alike, leads_alike}
+use Rattle.name_scopes.specs.Declarations.{some_of}
+use Rattle.core_terms.specs.declared.trees.CForm.{CForm}
+use Rattle.core_terms.specs.declared.programs.CSlot.{CSlot}
+use Rattle.core_terms.specs.declared.programs.CProgram.{CProgram}
+use Rattle.core_terms.specs.Values.{form_value}
+use Rattle.core_terms.proofs.PartLaws.{value-Bottom}
+use Rattle.fair_rounds.specs.declared.records.Record.{Record}
+use Rattle.fair_rounds.specs.Records.{core_system, holding, are_in_ranges, KindHolds, Holds}
+use Rattle.proof_rules.specs.Walk.{Plan, program_of}
+use Rattle.proof_rules.proofs.WalkTheorems.{walk_sound}
+use Rattle.unity_meaning.specs.Steps.{claim_kind, Pairwise, ProofStep, of_proof, document_steps}
+use Rattle.expand_declarations.specs.References.{param_range}
+use Rattle.expansion_laws.specs.Forming.{Scope}
+use Rattle.expand_proofs.specs.Steps.{claim_p, claim_q, step_place}
+use Rattle.document_words.specs.WordNumbers.{document_words}
+use Rattle.core_documents.specs.Cores.{document_scope, core_document}
+use Rattle.core_meaning.specs.Claims.{SaysSame, ClaimSays}
+use Rattle.core_meaning.proofs.Arguments.{claims_say}
+use Rattle.core_meaning.proofs.Meaning.{programs_alike}
+use Rattle.core_meaning.proofs.Proofs.{proofs_found}
+use Rattle.soundness.specs.PlanSteps.{IsRecordOf}
+use Rattle.soundness.specs.Written.{is_claim, AreClaims}
+use Rattle.soundness.specs.Properties.{core_of}
+use Rattle.soundness.specs.Properties.{StepIsProved, IsValidlyPlanned, PlannedStepsAreTrue, EachClaimIsTrue}
+use Rattle.soundness.proofs.PlanRecords.{plan_is_steps}
+use Rattle.soundness.proofs.Sources.{core_steps_are, StandsIn, each_stands, among_steps, pairs_with, pair_at}
+
+-- numbers of parameters
+
+same_params : (o : Option (Param × List Param)) → parameters o ≡ some_of o
+same_params None = refl
+same_params (Some ps) = refl
+
+same_numbers : (ps : List Param) (zs : List ℤ) → are_in_ranges (map param_range ps) zs ≡ are_arguments ps zs
+same_numbers [] [] = refl
+same_numbers [] (z ∷ zs) = refl
+same_numbers (p ∷ ps) [] = refl
+same_numbers (p ∷ ps) (z ∷ zs) =
+    ap (λ b. in_range (Some (range_ends [] p.range)) z && b) (same_numbers ps zs)
+
+-- a claim of a program, by what a record says of its core program
+
+module _ (d : Document) (x : System) (slots : List CSlot) (p : CProgram)
+    (alike : Alike (slot_ranges (document_setting d).variables) (core_system slots p) x) (b : Bindings) (zs : List ℤ)
+    (s : Scope) (r : Record) where
+  abbrev Same : (CForm) → Expr → Type 0
+  Same f of = SameAt (slot_ranges (document_setting d).variables) (holding zs f) (is_true_at (document_setting d) b of)
+
+  same_at : (f g : CForm) (of : Expr) → f ≡ g → SaysSame d b zs g of → Same f of
+  same_at f g of same says = λ state h. ap (λ k. form_value state zs k) same ∙ says state h
+
+  claim_true : (claim : Claim) → IsTrue (is_claim claim) → r.p ≡ claim_p s claim → r.q ≡ claim_q s claim →
+      ClaimSays d b zs (claim_p s claim) (claim_q s claim) claim → KindHolds (claim_kind claim) slots p r zs →
+      ClaimsOf (document_setting d) x b r.bound claim
+  claim_true (Claim.Defined at) t p_is q_is says holds =
+      defined_alike (slot_ranges (document_setting d).variables) (core_system slots p) x alike holds
+  claim_true (Claim.Invariant at of) t p_is q_is says holds =
+      invariant_alike (slot_ranges (document_setting d).variables) (core_system slots p) x alike (holding zs r.p)
+      (is_true_at (document_setting d) b of) (same_at r.p (claim_p s (Claim.Invariant at of)) of p_is says) holds
+  claim_true (Claim.Stable at of) t p_is q_is says holds =
+      unless_alike (slot_ranges (document_setting d).variables) (core_system slots p) x alike (holding zs r.p)
+      (holding zs r.q) (is_true_at (document_setting d) b of) never
+      (same_at r.p (claim_p s (Claim.Stable at of)) of p_is says)
+      (λ state h. ap (λ k. form_value state zs k) q_is ∙ value-Bottom state zs) holds
+  claim_true (Claim.Between at f Word.Unless g) t p_is q_is says holds =
+      unless_alike (slot_ranges (document_setting d).variables) (core_system slots p) x alike (holding zs r.p)
+      (holding zs r.q) (is_true_at (document_setting d) b f) (is_true_at (document_setting d) b g)
+      (same_at r.p (claim_p s (Claim.Between at f Word.Unless g)) f p_is says.0)
+      (same_at r.q (claim_q s (Claim.Between at f Word.Unless g)) g q_is says.1) holds
+  claim_true (Claim.Between at f Word.Ensures g) t p_is q_is says holds =
+      ensures_alike (slot_ranges (document_setting d).variables) (core_system slots p) x alike (holding zs r.p)
+      (holding zs r.q) (is_true_at (document_setting d) b f) (is_true_at (document_setting d) b g)
+      (same_at r.p (claim_p s (Claim.Between at f Word.Ensures g)) f p_is says.0)
+      (same_at r.q (claim_q s (Claim.Between at f Word.Ensures g)) g q_is says.1) holds
+  claim_true (Claim.Between at f Word.Leadsto g) t p_is q_is says holds =
+      leads_alike (slot_ranges (document_setting d).variables) (core_system slots p) x alike (holding zs r.p)
+      (holding zs r.q) (is_true_at (document_setting d) b f) (is_true_at (document_setting d) b g) r.bound
+      (same_at r.p (claim_p s (Claim.Between at f Word.Leadsto g)) f p_is says.0)
+      (same_at r.q (claim_q s (Claim.Between at f Word.Leadsto g)) g q_is says.1) holds
+  claim_true (Claim.Between at f _ g) t p_is q_is says holds = cc t
+
+module _ (d : Document) (starts : CProgram → Bool) (plan : Plan) (accepted : IsValidlyPlanned d starts plan)
+    (words : AreClaims d) where
+  -- the record at a place of the plan, and the step whose it is
+  step_proved : (n : ℕ) (s : ProofStep) (r : Record) → slice_get plan.records n ≡ Some r → StandsIn d s →
+      IsRecordOf (core_of d s) r → StepIsProved d s r
+  step_proved n s r there stands of_step =
+      let proof : Proof = s.proof in
+      let step : Step = s.step in
+      let slots : List CSlot = (core_document d).slots in
+      let found = proofs_found d accepted.named accepted.faultless stands.place stands.at proof stands.proof in
+      let c : Composed = found.0 in
+      let p : CProgram = found.1 in
+      let holds : Holds slots p r = walk_sound (core_document d) accepted.core starts plan accepted.walked
+      accepted.valid n r p there (ap (program_of (core_document d).programs) of_step.program ∙ found.2.found) in
+      let x : System = system_of (document_setting d) c in
+      let alike = alike_back (slot_ranges (document_setting d).variables) x (core_system slots p)
+      (programs_alike d proof.program.text c p found.2) in
+      record {
+        recorded = of_step;
+        claims = record {
+          program = c;
+          named = found.2.source;
+          claimed = λ zs fit.
+              let inside : IsTrue (are_in_ranges r.params zs) =
+              ap (λ rs. are_in_ranges rs zs) of_step.params ∙ same_numbers (some_of step.params) zs
+              ∙ ap (λ ps. are_arguments ps zs) (sym (same_params step.params)) ∙ fit in
+              claim_true d x slots p alike (argument_bindings (parameters step.params) zs) zs
+              (step_place (document_words d) proof.program.text (document_scope d.parts) step).scope r step.claim
+              (words stands.place stands.at proof stands.proof stands.number step stands.step) of_step.p of_step.q
+              (claims_say d accepted.named accepted.faultless stands.place stands.at proof stands.proof
+              stands.number step stands.step zs fit)
+              (subst (λ k. KindHolds k slots p r zs) of_step.kind (holds zs inside));
+        };
+      }
+
+pub claims_are_true : PlannedStepsAreTrue
+claims_are_true d starts plan accepted words =
+    pairs_with (core_of d) IsRecordOf (StandsIn d) (StepIsProved d) (document_steps d) plan.records
+    (subst (λ ss. Pairwise IsRecordOf ss plan.records) (core_steps_are d)
+    (plan_is_steps (core_document d) accepted.core starts plan accepted.walked))
+    (each_stands d) (λ n s r there stands of_step. step_proved d starts plan accepted words n s r there stands of_step)
+
+pub each_claim_is_true : EachClaimIsTrue
+each_claim_is_true d starts plan accepted words place at proof e number step f =
+    let inside = among_steps d.parts place at proof e number step f in
+    let r = pair_at (StepIsProved d) (document_steps d) plan.records (claims_are_true d starts plan accepted words)
+    inside.0 (of_proof proof step) inside.1 in
+    (r.place, r.item, r.there, r.related)

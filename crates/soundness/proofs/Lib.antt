@@ -1,0 +1,7 @@
+pub mod Words
+pub mod Rules
+pub mod PlanRecords
+pub mod Sources
+pub mod Claims
+pub mod Starts
+pub mod Lines

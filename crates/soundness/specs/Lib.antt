@@ -1,0 +1,5 @@
+pub mod Written
+pub mod PlanSteps
+pub mod Properties
+pub mod Executions
+pub mod Told

@@ -1,9 +1,0 @@
-use Rattle.source_traces.proofs.Runs.{runs_say}
-use Rattle.source_traces.proofs.Replays.{replays_say}
-use Rattle.source_traces.proofs.command_laws.Goals as goal
-
-pub returns-clause-runs : goal.returns-clause-runs
-returns-clause-runs c = runs_say
-
-pub returns-clause-replays : goal.returns-clause-replays
-returns-clause-replays c = replays_say

@@ -1,6 +1,0 @@
-use Rattle.std.proofs.Common.{◌≡◌, drop}
-use Rattle.proof_rules.specs.Walk.{has_defined}
-use Rattle.step_rules.proofs.kinds.has_defined.Given as goal
-
-abbrev pub invariant-loop-record : goal.invariant-loop-record
-invariant-loop-record l = has_defined l.program (drop l.record-index l.book) ≡ has_defined l.program l.book

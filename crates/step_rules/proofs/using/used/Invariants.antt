@@ -1,7 +1,0 @@
-use Rattle.std.proofs.Common.{◌≡◌, drop}
-use Rattle.proof_rules.specs.Walk.{used}
-use Rattle.step_rules.proofs.UsingLaws.{after_these}
-use Rattle.step_rules.proofs.using.used.Given as goal
-
-abbrev pub invariant-loop-r : goal.invariant-loop-r
-invariant-loop-r l = after_these l.forms (used l.program l.book (drop l.r-index l.refs)) ≡ used l.program l.book l.refs

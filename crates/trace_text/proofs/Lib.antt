@@ -1,4 +1,0 @@
-pub mod Writing
-pub mod TraceLaws
-pub mod TraceTheorems
-pub mod TraceAnswers

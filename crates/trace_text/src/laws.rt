@@ -1,9 +1,0 @@
-// The laws of traces. The function does nothing: it states them.
-ghost use Rattle.trace_text.specs.Laws.{DefinedRuns, SameTrace};
-
-/// A trace whose steps are all defined shows an execution, if it begins in an initial state. Programs whose
-/// steps agree have one trace.
-pub fn trace_laws()
-    ensures executions { DefinedRuns }
-    ensures same { SameTrace }
-{}
