@@ -1,7 +1,8 @@
 // What wrong bodies change of records and of answers.
 ghost use Rattle.std.specs.Prelude.{◌≡◌, IfOk, OnOk, Ok, [], slice_get, take};
 ghost use Rattle.core_terms.specs.declared.trees.CForm.{out-CForm};
-ghost use Rattle.wrong_bodies.specs.Changes.{changed, either, either_at, goals_of, less_first, part_in, rounds_of, with_bound, with_goals, with_end};
+ghost use Rattle.wrong_bodies.specs.Changes.{changed, either, either_at, goals_of, less_first, part_in, rounds_of};
+ghost use Rattle.wrong_bodies.specs.Changes.{with_bound, with_goals, with_end};
 
 use case_tables::Kind;
 use core_terms::{CForm, Range, copy_forms, held_form};
