@@ -1,5 +1,4 @@
 pub mod Count
 pub mod Deep
-pub mod Light
 pub mod Open
 pub mod Swap

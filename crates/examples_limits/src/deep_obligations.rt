@@ -2,101 +2,20 @@
 // on obligations take within an ordinary stack.
 ghost use Rattle.std.specs.Prelude.{IfOk};
 ghost use Rattle.examples_limits.specs.Count.{HasNumbers};
-ghost use Rattle.examples_limits.specs.Deep.{IsDeepTerm, IsDeepForm};
+ghost use Rattle.examples_limits.specs.Deep.{IsDeepTerm};
 
-use core_terms::{CForm, CTerm};
+use crate::deep_trees::{TermAround, term_around};
+use core_terms::CTerm;
 use std::alloc::{AllocError, Global};
-use unity_base::Held;
 
 #[cfg(test)]
 mod tests;
-
-/// How a formula is put around another.
-#[derive(Clone, Copy)]
-pub enum Around {
-    Not,
-    And,
-    Or,
-}
-
-/// How a term is put around another.
-#[derive(Clone, Copy)]
-pub enum TermAround {
-    Scale,
-    Add,
-    Sub,
-    Branch,
-    Condition,
-}
-
-/// One more level around a formula.
-pub fn form_around(alloc: Global, which: Around, f: CForm) -> Result<CForm, AllocError>
-    requires { IsDeepForm f }
-    ensures { IfOk result IsDeepForm }
-{
-    let inner = Held::new(alloc, f)?;
-    match which {
-        Around::Not => Ok(CForm::Not(inner)),
-        Around::And => Ok(CForm::And(inner, Held::new(alloc, CForm::Top)?)),
-        Around::Or => Ok(CForm::Or(inner, Held::new(alloc, CForm::Bottom)?)),
-    }
-}
-
-/// One more level around a term.
-pub fn term_around(alloc: Global, which: TermAround, t: CTerm) -> Result<CTerm, AllocError>
-    requires { IsDeepTerm t }
-    ensures { IfOk result IsDeepTerm }
-{
-    let zero = Held::new(alloc, CTerm::Const(0))?;
-    match which {
-        TermAround::Scale => Ok(CTerm::Scale(1, Held::new(alloc, t)?)),
-        TermAround::Add => Ok(CTerm::Add(Held::new(alloc, t)?, zero)),
-        TermAround::Sub => Ok(CTerm::Sub(Held::new(alloc, t)?, zero)),
-        TermAround::Branch => Ok(CTerm::Ite(
-            Held::new(alloc, CForm::Top)?,
-            Held::new(alloc, t)?,
-            zero,
-        )),
-        TermAround::Condition => {
-            let second = Held::new(alloc, CTerm::Const(0))?;
-            Ok(CTerm::Ite(Held::new(alloc, CForm::Zero(t))?, zero, second))
-        }
-    }
-}
-
-/// A formula of this many levels around a comparison of slot 0.
-pub fn deep_form(alloc: Global, which: Around, levels: u32) -> Result<CForm, AllocError>
-    ensures { IfOk result IsDeepForm }
-{
-    let mut f = CForm::AtLeast(CTerm::Slot(0));
-    for _ in 0..levels {
-        f = form_around(alloc, which, f)?;
-    }
-    Ok(f)
-}
 
 /// A choice between slot 0 and 0.
 pub fn choice(alloc: Global) -> Result<CTerm, AllocError>
     ensures { IfOk result IsDeepTerm }
 {
     term_around(alloc, TermAround::Branch, CTerm::Slot(0))
-}
-
-/// A term of this many levels around another.
-pub fn deep_term(
-    alloc: Global,
-    which: TermAround,
-    levels: u32,
-    inner: CTerm,
-) -> Result<CTerm, AllocError>
-    requires { IsDeepTerm inner }
-    ensures { IfOk result IsDeepTerm }
-{
-    let mut t = inner;
-    for _ in 0..levels {
-        t = term_around(alloc, which, t)?;
-    }
-    Ok(t)
 }
 
 /// Of the obligation that the step `x := x + 1 if x < 3` is defined, x in 0..3, the height is 3, the need 2,056

@@ -1,6 +1,6 @@
 // Trees of the greatest depth, which the calls on core trees take within an ordinary stack.
 ghost use Rattle.std.specs.Prelude.{IfOk};
-ghost use Rattle.examples_limits.specs.Light.{IsLightTerm, IsLightForm};
+ghost use Rattle.examples_limits.specs.Deep.{IsDeepTerm, IsDeepForm};
 
 use core_terms::{CForm, CTerm};
 use std::alloc::{AllocError, Global};
@@ -29,8 +29,8 @@ pub enum TermAround {
 
 /// One more level around a formula.
 pub fn form_around(alloc: Global, which: Around, f: CForm) -> Result<CForm, AllocError>
-    requires { IsLightForm f }
-    ensures { IfOk result IsLightForm }
+    requires { IsDeepForm f }
+    ensures { IfOk result IsDeepForm }
 {
     let inner = Held::new(alloc, f)?;
     match which {
@@ -42,8 +42,8 @@ pub fn form_around(alloc: Global, which: Around, f: CForm) -> Result<CForm, Allo
 
 /// One more level around a term.
 pub fn term_around(alloc: Global, which: TermAround, t: CTerm) -> Result<CTerm, AllocError>
-    requires { IsLightTerm t }
-    ensures { IfOk result IsLightTerm }
+    requires { IsDeepTerm t }
+    ensures { IfOk result IsDeepTerm }
 {
     let zero = Held::new(alloc, CTerm::Const(0))?;
     match which {
@@ -62,22 +62,34 @@ pub fn term_around(alloc: Global, which: TermAround, t: CTerm) -> Result<CTerm, 
     }
 }
 
-/// A formula of this many levels around `Top`.
-pub fn deep_form(alloc: Global, which: Around, levels: u32) -> Result<CForm, AllocError>
-    ensures { IfOk result IsLightForm }
+/// A formula of this many levels around another.
+pub fn deep_form(
+    alloc: Global,
+    which: Around,
+    levels: u32,
+    inner: CForm,
+) -> Result<CForm, AllocError>
+    requires { IsDeepForm inner }
+    ensures { IfOk result IsDeepForm }
 {
-    let mut f = CForm::Top;
+    let mut f = inner;
     for _ in 0..levels {
         f = form_around(alloc, which, f)?;
     }
     Ok(f)
 }
 
-/// A term of this many levels around a slot.
-pub fn deep_term(alloc: Global, which: TermAround, levels: u32) -> Result<CTerm, AllocError>
-    ensures { IfOk result IsLightTerm }
+/// A term of this many levels around another.
+pub fn deep_term(
+    alloc: Global,
+    which: TermAround,
+    levels: u32,
+    inner: CTerm,
+) -> Result<CTerm, AllocError>
+    requires { IsDeepTerm inner }
+    ensures { IfOk result IsDeepTerm }
 {
-    let mut t = CTerm::Slot(0);
+    let mut t = inner;
     for _ in 0..levels {
         t = term_around(alloc, which, t)?;
     }

@@ -5,12 +5,13 @@ ghost use Rattle.core_terms.specs.Places.{form_slots, form_params};
 ghost use Rattle.examples_limits.specs.Deep.{IsDeepForm};
 
 use super::*;
-use core_terms::{CSlot, Print, Range, copy_form};
+use crate::deep_trees::{Around, deep_form, deep_term};
+use core_terms::{CForm, CSlot, Print, Range, copy_form};
 use obligations::{
     Cert, Node, TooLargeError, height, make, need, open_branch, settle, units, with_variables,
 };
 use std::test::Fail;
-use unity_base::Seq;
+use unity_base::{Held, Seq};
 
 const NODES: u32 = 65536;
 
@@ -78,7 +79,7 @@ fn numbers_of(alloc: Global, f: CForm) -> Result<(u64, u128, usize, usize), Allo
 
 #[test]
 fn opens_a_small_obligation(rt: HostRuntime) -> Result<(), Fail> {
-    let least = deep_form(rt.alloc(), Around::Not, 0)?;
+    let least = CForm::AtLeast(CTerm::Slot(0));
     assert!(rt; numbers_of(rt.alloc(), least)? == (1, 514, 3, 4));
     Ok(())
 }
@@ -163,7 +164,12 @@ fn counts_units(rt: HostRuntime) -> Result<(), Fail> {
 #[test]
 fn takes_deep_formulas(rt: HostRuntime) -> Result<(), Fail> {
     for (which, part) in [(Around::Not, 1), (Around::And, 2), (Around::Or, 2)] {
-        let f = deep_form(rt.alloc(), which, (NODES - 2) / part)?;
+        let f = deep_form(
+            rt.alloc(),
+            which,
+            (NODES - 2) / part,
+            CForm::AtLeast(CTerm::Slot(0)),
+        )?;
         assert!(rt; goes_through(rt.alloc(), f)?);
     }
     Ok(())

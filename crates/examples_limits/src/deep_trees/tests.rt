@@ -1,6 +1,6 @@
 // The deepest trees of 65,536 nodes, through each call that goes down a tree. A call that took too much
 // stack would end the test; that it answers rightly is proved.
-ghost use Rattle.examples_limits.specs.Light.{IsLightForm};
+ghost use Rattle.examples_limits.specs.Deep.{IsDeepForm};
 
 use super::*;
 use core_terms::{
@@ -13,7 +13,7 @@ const NODES: u32 = 65536;
 
 // Whether the formula has so many nodes, and equals its copy.
 fn goes_down(alloc: Global, f: &CForm, nodes: u64) -> Result<bool, AllocError>
-    requires { IsLightForm f.now }
+    requires { IsDeepForm f.now }
 {
     let copy = copy_form(alloc, f)?;
     let truth = holds(f, [0].as_slice(), [].as_slice());
@@ -22,7 +22,7 @@ fn goes_down(alloc: Global, f: &CForm, nodes: u64) -> Result<bool, AllocError>
 
 // Whether parameters are put into the formula, and it has no more nodes then.
 fn takes_arguments(alloc: Global, f: &CForm) -> Result<bool, AllocError>
-    requires { IsLightForm f.now }
+    requires { IsDeepForm f.now }
 {
     let none: &[Arg] = [].as_slice();
     Ok(size_of(&with_params(alloc, f, none)?) <= size_of(f))
@@ -30,7 +30,7 @@ fn takes_arguments(alloc: Global, f: &CForm) -> Result<bool, AllocError>
 
 // Whether the formula weighs at most 1, where slot 0 is 0 or 1.
 fn weighs_little(alloc: Global, f: &CForm) -> Result<bool, AllocError>
-    requires { IsLightForm f.now }
+    requires { IsDeepForm f.now }
 {
     let mut slots = Seq::new(alloc);
     slots.push(CSlot {
@@ -46,7 +46,7 @@ fn weighs_little(alloc: Global, f: &CForm) -> Result<bool, AllocError>
 fn takes_deep_formulas(rt: HostRuntime) -> Result<(), Fail> {
     for (which, part) in [(Around::Not, 1), (Around::And, 2), (Around::Or, 2)] {
         let levels = (NODES - 1) / part;
-        let f = deep_form(rt.alloc(), which, levels)?;
+        let f = deep_form(rt.alloc(), which, levels, CForm::Top)?;
         let nodes = 1 + u64::from(levels) * u64::from(part);
         assert!(rt; goes_down(rt.alloc(), &f, nodes)?);
         assert!(rt; takes_arguments(rt.alloc(), &f)?);
@@ -64,12 +64,12 @@ fn takes_deep_terms(rt: HostRuntime) -> Result<(), Fail> {
         (TermAround::Condition, 4),
     ] {
         let levels = (NODES - 2) / part;
-        let f = CForm::Zero(deep_term(rt.alloc(), which, levels)?);
+        let f = CForm::Zero(deep_term(rt.alloc(), which, levels, CTerm::Slot(0))?);
         let nodes = 2 + u64::from(levels) * u64::from(part);
         assert!(rt; goes_down(rt.alloc(), &f, nodes)?);
 
         // Folding looks down the whole term once.
-        let folded = zero_form(deep_term(rt.alloc(), which, levels)?);
+        let folded = zero_form(deep_term(rt.alloc(), which, levels, CTerm::Slot(0))?);
         assert!(rt; size_of(&folded) <= nodes);
     }
     Ok(())
@@ -85,7 +85,7 @@ fn puts_arguments_into_deep_terms(rt: HostRuntime) -> Result<(), Fail> {
         (TermAround::Condition, 4),
     ] {
         let levels = (NODES - 2) / part;
-        let f = CForm::Zero(deep_term(rt.alloc(), which, levels)?);
+        let f = CForm::Zero(deep_term(rt.alloc(), which, levels, CTerm::Slot(0))?);
         assert!(rt; takes_arguments(rt.alloc(), &f)?);
     }
     Ok(())
@@ -94,7 +94,7 @@ fn puts_arguments_into_deep_terms(rt: HostRuntime) -> Result<(), Fail> {
 #[test]
 fn weighs_deep_trees(rt: HostRuntime) -> Result<(), Fail> {
     for (which, part) in [(Around::Not, 1), (Around::And, 2), (Around::Or, 2)] {
-        let f = deep_form(rt.alloc(), which, (NODES - 1) / part)?;
+        let f = deep_form(rt.alloc(), which, (NODES - 1) / part, CForm::Top)?;
         assert!(rt; weighs_little(rt.alloc(), &f)?);
     }
     for (which, part) in [
@@ -104,7 +104,7 @@ fn weighs_deep_trees(rt: HostRuntime) -> Result<(), Fail> {
         (TermAround::Branch, 3),
         (TermAround::Condition, 4),
     ] {
-        let f = CForm::Zero(deep_term(rt.alloc(), which, (NODES - 2) / part)?);
+        let f = CForm::Zero(deep_term(rt.alloc(), which, (NODES - 2) / part, CTerm::Slot(0))?);
         assert!(rt; weighs_little(rt.alloc(), &f)?);
     }
     Ok(())

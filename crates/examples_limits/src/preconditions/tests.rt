@@ -2,7 +2,7 @@
 ghost use Rattle.std.specs.Prelude.{◌≡◌, ◌<◌, ◌≤◌, ◌^◌, IfOk};
 ghost use Rattle.core_terms.specs.Places.{form_slots};
 ghost use Rattle.core_terms.specs.Weights.{plain_weight};
-ghost use Rattle.examples_limits.specs.Light.{IsLightForm};
+ghost use Rattle.examples_limits.specs.Deep.{IsDeepForm};
 ghost use Rattle.core_terms.specs.Conditions.{StatementFits};
 ghost use Rattle.examples_limits.specs.Swap.{two_slots};
 
@@ -53,7 +53,7 @@ fn swaps_the_slots(rt: HostRuntime) -> Result<(), Fail> {
 fn goes_down(alloc: Global, s: &CStmt, q: &CForm, slots: &[CSlot]) -> Result<u64, AllocError>
     requires slots { slots.now ≡ two_slots }
     requires statement { StatementFits two_slots s.now }
-    requires formula { IsLightForm q.now }
+    requires formula { IsDeepForm q.now }
 {
     Ok(size_of(&wp(alloc, s, q, slots)?))
 }
@@ -63,7 +63,7 @@ fn goes_down_deep_formulas(rt: HostRuntime) -> Result<(), Fail> {
     let s = swap(rt.alloc())?;
     let slots = two_slots(rt.alloc())?;
     for (which, part) in [(Around::Not, 1), (Around::And, 2), (Around::Or, 2)] {
-        let q = deep_form(rt.alloc(), which, (NODES - 1) / part)?;
+        let q = deep_form(rt.alloc(), which, (NODES - 1) / part, CForm::Top)?;
         assert!(rt; goes_down(rt.alloc(), &s, &q, slots.as_slice())? > 1);
     }
     for (which, part) in [
@@ -73,7 +73,7 @@ fn goes_down_deep_formulas(rt: HostRuntime) -> Result<(), Fail> {
         (TermAround::Branch, 3),
         (TermAround::Condition, 4),
     ] {
-        let q = CForm::Zero(deep_term(rt.alloc(), which, (NODES - 2) / part)?);
+        let q = CForm::Zero(deep_term(rt.alloc(), which, (NODES - 2) / part, CTerm::Slot(0))?);
         assert!(rt; goes_down(rt.alloc(), &s, &q, slots.as_slice())? > 1);
     }
     Ok(())
