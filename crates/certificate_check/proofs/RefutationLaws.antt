@@ -35,7 +35,7 @@ use Rattle.certificate_check.specs.Sums.{sum_pairs, no_sum, all_pairs, is_false,
 use Rattle.certificate_check.specs.Refutation.{Made, fails, opens, made_case, made_sum, made_round, made_by, Pending}
 use Rattle.certificate_check.specs.Refutation.{made, pending, after, walk, at_level, go_on, WalkAppends, none_holds}
 use Rattle.certificate_check.specs.Refutation.{WalkKeeps, Sound}
-use Rattle.certificate_check.specs.Trees.{Tree, case_node, split_node, sum_node, round_node, nodes_of, Refutes}
+use Rattle.certificate_check.specs.Trees.{Tree, leaf, one_below, two_below, nodes_of, Refutes}
 
 abbrev is_at_least_0 : ℤ → Bool
 is_at_least_0 z = int_le (pos 0) z
@@ -431,23 +431,16 @@ sound o nodes e values inside =
 pub walk-tree : (vs : List Variable) (t : Tree) (level : ℕ) (b : Branch) (ns : List Node) (ps : List Pending) (at : ℕ) →
     Refutes vs level b t → walk vs (nodes_of t ++ ns) (at_level level b ∷ ps) at ≡ walk vs ns ps
     (at + length (nodes_of t))
-walk-tree vs (case_node k t u) level b ns ps at r =
+walk-tree vs (two_below n e t u) level b ns ps at r =
     ap (after (λ qs. walk vs ((nodes_of t ++ nodes_of u) ++ ns) qs (suc at)) level ps at) r.2
     ∙ ap (λ x. walk vs x (at_level (suc level) r.0 ∷ at_level (suc level) r.1 ∷ ps) (suc at))
     (append_assoc (nodes_of t) (nodes_of u) ns)
     ∙ walk-tree vs t (suc level) r.0 (nodes_of u ++ ns) (at_level (suc level) r.1 ∷ ps) (suc at) r.3
     ∙ walk-tree vs u (suc level) r.1 ns ps (suc at + length (nodes_of t)) r.4
     ∙ ap (walk vs ns ps) (let l = length-append (nodes_of t) (nodes_of u) in omega (arith, l))
-walk-tree vs (split_node v k t u) level b ns ps at r =
-    ap (after (λ qs. walk vs ((nodes_of t ++ nodes_of u) ++ ns) qs (suc at)) level ps at) r.2
-    ∙ ap (λ x. walk vs x (at_level (suc level) r.0 ∷ at_level (suc level) r.1 ∷ ps) (suc at))
-    (append_assoc (nodes_of t) (nodes_of u) ns)
-    ∙ walk-tree vs t (suc level) r.0 (nodes_of u ++ ns) (at_level (suc level) r.1 ∷ ps) (suc at) r.3
-    ∙ walk-tree vs u (suc level) r.1 ns ps (suc at + length (nodes_of t)) r.4
-    ∙ ap (walk vs ns ps) (let l = length-append (nodes_of t) (nodes_of u) in omega (arith, l))
-walk-tree vs (sum_node qs) level b ns ps at r =
+walk-tree vs (leaf n e) level b ns ps at r =
     ap (after (λ qs. walk vs ns qs (suc at)) level ps at) r ∙ ap (walk vs ns ps) (omega arith)
-walk-tree vs (round_node d qs t) level b ns ps at r =
+walk-tree vs (one_below n e t) level b ns ps at r =
     ap (after (λ qs. walk vs (nodes_of t ++ ns) qs (suc at)) level ps at) r.1
     ∙ walk-tree vs t (suc level) r.0 ns ps (suc at) r.2
     ∙ ap (walk vs ns ps) (omega arith)

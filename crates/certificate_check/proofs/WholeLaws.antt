@@ -1,7 +1,7 @@
 -- A walk along whole trees looks at all branches, and is one along a tree.
 use Rattle.std.proofs.Common.{◌≡◌, ℕ, zero, suc, ◌+◌, ◌≤◌, ℤ, Bool, true, false, cond, Option, Some, None, Result, Ok}
 use Rattle.std.proofs.Common.{Err, List, [], ◌∷◌, ◌++◌, length, drop, slice_get, nat_le, nat_lt, length-append}
-use Rattle.std.proofs.Common.{append_assoc, arith, refl, sym, ap, ◌∙◌}
+use Rattle.std.proofs.Common.{append_assoc, arith, refl, sym, ap, ◌∙◌, subst}
 use Rattle.std.proofs.lemmas.List.{drop_all}
 use Rattle.core_terms.specs.declared.trees.CForm.{CForm}
 use Rattle.case_tables.specs.declared.code_table.Code.{Code}
@@ -10,14 +10,15 @@ use Rattle.obligations.specs.declared.branches.Variable.{Variable}
 use Rattle.obligations.specs.declared.branches.Line.{Line}
 use Rattle.obligations.specs.declared.branches.Obligation.{Obligation}
 use Rattle.obligations.specs.declared.certificates.Node.{Node}
+use Rattle.obligations.specs.Certificates.{arity}
 use Rattle.obligations.specs.LinearForms.{fact_of}
 use Rattle.obligations.specs.Opening.{first_branch}
 use Rattle.obligations.specs.Settling.{added}
 use Rattle.certificate_check.specs.Sums.{is_false, all_pairs, is_divisible, divided}
 use Rattle.certificate_check.specs.Refutation.{Made, fails, opens, made_case, made_sum, made_round, made_by, Pending}
 use Rattle.certificate_check.specs.Refutation.{made, pending, after, walk, at_level, judged}
-use Rattle.certificate_check.specs.Trees.{Tree, case_node, split_node, sum_node, round_node, nodes_of, Refutes, Refuted}
-use Rattle.certificate_check.specs.Trees.{arity, is_whole, WalkIsTree}
+use Rattle.certificate_check.specs.Trees.{Tree, leaf, one_below, two_below, nodes_of, Refutes, Refuted}
+use Rattle.certificate_check.specs.Trees.{is_whole, WalkIsTree}
 use Rattle.certificate_check.proofs.RefutationLaws.{walk-tree, sound}
 
 -- a failure, or as many branches
@@ -53,6 +54,14 @@ opened-made : (n : ℕ) (b : Bool) (m : Made) → Opened n m → Opened n (cond 
 opened-made n true m h = h
 opened-made n false m h = tt
 
+opened : (vs : List Variable) (p : Pending) (n : Node) → Opened (arity n) (made vs p n)
+opened vs p n = opened-made (arity n) (nat_le p.level 1024) (made_by vs p.branch n) (opened-by vs p.branch n)
+
+-- a node opens as many branches as it has subtrees
+pub opened-arity : (vs : List Variable) (p : Pending) (n : Node) (bs : List Branch) → made vs p n ≡ opens bs →
+    length bs ≡ arity n
+opened-arity vs p n bs e = subst (Opened (arity n)) e (opened vs p n)
+
 pending-length : (level : ℕ) (bs : List Branch) → length (pending level bs) ≡ length bs
 pending-length level [] = refl
 pending-length level (b ∷ bs) = ap suc (pending-length level bs)
@@ -74,8 +83,7 @@ whole-walks vs [] [] qs at w e = cc
 whole-walks vs [] (p ∷ ps) qs at w e = grind arith
 whole-walks vs (n ∷ ns) [] qs at w e = cc
 whole-walks vs (n ∷ ns) (p ∷ ps) qs at w e =
-    goes-on vs n ns ps qs p.level at (made vs p n) (opened-made (arity n) (nat_le p.level 1024) (made_by vs p.branch n)
-    (opened-by vs p.branch n)) w (λ rs. whole-walks vs ns rs qs (suc at)) e
+    goes-on vs n ns ps qs p.level at (made vs p n) (opened vs p n) w (λ rs. whole-walks vs ns rs qs (suc at)) e
 
 -- a walk whose nodes are all read leaves no branch
 pub read-ends : (vs : List Variable) (ns : List Node) (p : Pending) (ps : List Pending) (place : ℕ) →
@@ -144,22 +152,16 @@ none-read : (vs : List Variable) (n : Node) (level : ℕ) (b : Branch) (ns : Lis
 none-read vs n level b ns ps at (fails c) q o e = absurd (cc)
 none-read vs n level b ns ps at (opens bs) q o e = q ∙ ap opens (none-of bs o)
 
+opened-as : (vs : List Variable) (p : Pending) (n : Node) (count : ℕ) → arity n ≡ count → Opened count (made vs p n)
+opened-as vs p n count e = subst (λ k. Opened k (made vs p n)) e (opened vs p n)
+
 pub reads : (vs : List Variable) (t : Tree) → Reads vs t
-reads vs (case_node k t u) level b ns ps at e =
-    two-read vs (Node.Case k) t u level b ns ps at _ refl
-    (opened-made 2 (nat_le level 1024) (made_by vs b (Node.Case k)) (opened-by vs b (Node.Case k))) e (reads vs t)
-    (reads vs u)
-reads vs (split_node v k t u) level b ns ps at e =
-    two-read vs (Node.Split v k) t u level b ns ps at _ refl
-    (opened-made 2 (nat_le level 1024) (made_by vs b (Node.Split v k)) (opened-by vs b (Node.Split v k))) e
-    (reads vs t) (reads vs u)
-reads vs (round_node d qs t) level b ns ps at e =
-    one-read vs (Node.Round d qs) t level b ns ps at _ refl
-    (opened-made 1 (nat_le level 1024) (made_by vs b (Node.Round d qs)) (opened-by vs b (Node.Round d qs))) e
-    (reads vs t)
-reads vs (sum_node qs) level b ns ps at e =
-    none-read vs (Node.Sum qs) level b ns ps at _ refl
-    (opened-made 0 (nat_le level 1024) (made_by vs b (Node.Sum qs)) (opened-by vs b (Node.Sum qs))) e
+reads vs (leaf n i) level b ns ps at e =
+    none-read vs n level b ns ps at _ refl (opened-as vs (at_level level b) n 0 i) e
+reads vs (one_below n i t) level b ns ps at e =
+    one-read vs n t level b ns ps at _ refl (opened-as vs (at_level level b) n 1 i) e (reads vs t)
+reads vs (two_below n i t u) level b ns ps at e =
+    two-read vs n t u level b ns ps at _ refl (opened-as vs (at_level level b) n 2 i) e (reads vs t) (reads vs u)
 
 -- Whole nodes are those of a tree.
 record Parsed (ns : List Node) (n : ℕ) : Type 0 where
@@ -172,57 +174,54 @@ record Parsed (ns : List Node) (n : ℕ) : Type 0 where
 none-whole : (n : ℕ) → is_whole [] (suc n) ≡ true → ⊥
 none-whole n w = grind arith
 
-parsed : (m : ℕ) (ns : List Node) (n : ℕ) → length ns ≤ m → is_whole ns (suc n) ≡ true → Parsed ns n
-parsed m [] n h w = absurd (none-whole n w)
-parsed m (Node.Sum ps ∷ ns) n h w = record {
-  tree = sum_node ps;
+few-below : (n : Node) → arity n ≤ 2
+few-below (Node.Case k) = omega arith
+few-below (Node.Split v k) = omega arith
+few-below (Node.Sum ps) = omega arith
+few-below (Node.Round d ps) = omega arith
+
+-- a node, and the trees that follow it
+headed : (m : ℕ) (x : Node) (ns : List Node) (n count : ℕ) → arity x ≡ count → count ≤ 2 → length ns ≤ m →
+    is_whole ns (count + n) ≡ true →
+    ((ms : List Node) (k : ℕ) → length ms ≤ m → is_whole ms (suc k) ≡ true → Parsed ms k) → Parsed (x ∷ ns) n
+headed m x ns n zero e few h w next = record {
+  tree = leaf x e;
   rest = ns;
   parts = refl;
-  whole = ap (is_whole ns)
-      (omega arith) ∙ w;
+  whole = ap (is_whole ns) (omega arith) ∙ w;
   shorter = omega arith;
 }
-parsed zero (Node.Case k ∷ ns) n h w = absurd (omega arith)
-parsed zero (Node.Split v k ∷ ns) n h w = absurd (omega arith)
-parsed zero (Node.Round d ps ∷ ns) n h w = absurd (omega arith)
-parsed (suc m) (Node.Round d ps ∷ ns) n h w =
-    let p = parsed m ns n (omega (arith, h)) (ap (is_whole ns) (omega arith) ∙ w) in
+headed m x ns n (suc zero) e few h w next =
+    let p = next ns n h (ap (is_whole ns) (omega arith) ∙ w) in
     let s = p.shorter in
     record {
-      tree = round_node d ps p.tree;
+      tree = one_below x e p.tree;
       rest = p.rest;
-      parts = ap (λ x. Node.Round d ps ∷ x) p.parts;
+      parts = ap (λ y. x ∷ y) p.parts;
       whole = p.whole;
       shorter = omega (arith, s);
     }
-parsed (suc m) (Node.Split v k ∷ ns) n h w =
-    let p = parsed m ns (suc n) (omega (arith, h)) (ap (is_whole ns) (omega arith) ∙ w) in
+headed m x ns n (suc (suc zero)) e few h w next =
+    let p = next ns (suc n) h (ap (is_whole ns) (omega arith) ∙ w) in
     let s = p.shorter in
-    let q = parsed m p.rest n (omega (arith, h, s)) p.whole in
+    let q = next p.rest n (omega (arith, h, s)) p.whole in
     let u = q.shorter in
     record {
-      tree = split_node v k p.tree q.tree;
+      tree = two_below x e p.tree q.tree;
       rest = q.rest;
       parts =
-          ap (λ x. Node.Split v k ∷ x) (p.parts ∙ ap (λ x. nodes_of p.tree ++ x) q.parts
+          ap (λ y. x ∷ y) (p.parts ∙ ap (λ y. nodes_of p.tree ++ y) q.parts
           ∙ sym (append_assoc (nodes_of p.tree) (nodes_of q.tree) q.rest));
       whole = q.whole;
       shorter = omega (arith, s, u);
     }
-parsed (suc m) (Node.Case k ∷ ns) n h w =
-    let p = parsed m ns (suc n) (omega (arith, h)) (ap (is_whole ns) (omega arith) ∙ w) in
-    let s = p.shorter in
-    let q = parsed m p.rest n (omega (arith, h, s)) p.whole in
-    let u = q.shorter in
-    record {
-      tree = case_node k p.tree q.tree;
-      rest = q.rest;
-      parts =
-          ap (λ x. Node.Case k ∷ x) (p.parts ∙ ap (λ x. nodes_of p.tree ++ x) q.parts
-          ∙ sym (append_assoc (nodes_of p.tree) (nodes_of q.tree) q.rest));
-      whole = q.whole;
-      shorter = omega (arith, s, u);
-    }
+headed m x ns n (suc (suc (suc k))) e few h w next = absurd (omega (arith, few))
+
+parsed : (m : ℕ) (ns : List Node) (n : ℕ) → length ns ≤ m → is_whole ns (suc n) ≡ true → Parsed ns n
+parsed m [] n h w = absurd (none-whole n w)
+parsed zero (x ∷ ns) n h w = absurd (omega arith)
+parsed (suc m) (x ∷ ns) n h w =
+    headed m x ns n (arity x) refl (few-below x) (omega (arith, h)) w (λ ms k i j. parsed m ms k i j)
 
 append_nil : {A : Type 0} (xs : List A) → xs ++ [] ≡ xs
 append_nil [] = refl

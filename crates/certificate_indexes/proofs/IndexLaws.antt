@@ -21,10 +21,11 @@ use Rattle.obligations.specs.Opening.{first_branch, range_facts, ranges_only}
 use Rattle.obligations.specs.Plain.{height_of}
 use Rattle.obligations.specs.Settling.{added, outcome, settled, sides, without}
 use Rattle.obligations.proofs.NumberLaws.{few-variables}
-use Rattle.certificate_check.specs.Refutation.{Made, fails, opens, made_case, made_sum, made_round, made_by}
-use Rattle.certificate_check.specs.Sums.{add_pair, all_pairs, divided, is_divisible, no_sum, numbered}
+use Rattle.certificate_check.specs.Refutation.{Made, fails, opens, made_case, made_sum, made_round, made_by, made}
+use Rattle.certificate_check.specs.Refutation.{at_level}
+use Rattle.certificate_check.specs.Sums.{add_pair, all_pairs, divided, is_divisible, is_false, no_sum, numbered}
 use Rattle.certificate_check.specs.Sums.{sum_pairs}
-use Rattle.certificate_check.specs.Trees.{Tree, case_node, split_node, sum_node, round_node, nodes_of, Refutes}
+use Rattle.certificate_check.specs.Trees.{Tree, leaf, one_below, two_below, nodes_of, Refutes}
 use Rattle.certificate_check.proofs.WholeLaws.{walked-refutes}
 use Rattle.certificate_indexes.specs.Laws.{IndexesAreSmall, is_fact_within, is_index_within}
 use Rattle.certificate_indexes.proofs.Rooms.{adds-fit, refused-room, room, sides-room, total, total-joined, waits}
@@ -58,48 +59,6 @@ module _ (vs : List Variable) where
   side-total b k f g e h =
       let j = total-joined (without b k) (outcome vs g).yes in
       let a = (adds-fit vs g).0 in let w = waits-remove b.waiting k f e in omega (arith, j, a, w, h)
-
-  -- what a node opens: no branch with more room taken than one more, and its indexes are there
-
-  record Two (b c d : Branch) (index : ℕ) : Type 0 where
-    first : total c ≤ total b + 1
-    second : total d ≤ total b + 1
-    there : index ≤ length vs + total b
-
-  case-two : (b c d : Branch) (k : ℕ) (o : Option CForm) → slice_get b.waiting k ≡ o →
-      made_case vs b k o ≡ opens (c ∷ d ∷ []) → Two b c d (suc k)
-  case-two b c d k None e m = absurd (cc)
-  case-two b c d k (Some f) e m =
-      let one : settled vs (sides f).0 (without b k) ≡ c = cc in
-      let other : settled vs (sides f).1 (without b k) ≡ d = cc in
-      let s = sides-room f in
-      let p = side-total b k f (sides f).0 e s.0 in let q = side-total b k f (sides f).1 e s.1 in
-      let t1 = ap total one in let t2 = ap total other in
-      let i = in_list b.waiting k f e in let w = waits-long b.waiting in
-      record { first = omega (arith, p, t1); second = omega (arith, q, t2); there = omega (arith, i, w) }
-
-  case-makes : (b c d : Branch) (k : ℕ) → made_by vs b (Node.Case k) ≡ opens (c ∷ d ∷ []) → Two b c d k
-  case-makes b c d zero m = absurd (cc)
-  case-makes b c d (suc k) m = case-two b c d k (slice_get b.waiting k) refl m
-
-  below : (v n : ℕ) → nat_lt v n ≡ true → suc v ≤ n
-  below v n h = grind arith
-
-  split-two : (b c d p q : Branch) (v : ℕ) (g : Bool) → nat_lt v (length vs) ≡ g → total p ≡ total b + 1 →
-      total q ≡ total b + 1 →
-      cond g (opens (p ∷ q ∷ [])) (fails Code.NoSuchVariable) ≡ opens (c ∷ d ∷ []) → Two b c d (suc v)
-  split-two b c d p q v false e h k m = absurd (cc)
-  split-two b c d p q v true e h k m =
-      let one : p ≡ c = cc in
-      let other : q ≡ d = cc in
-      let t1 = ap total one in let t2 = ap total other in
-      let i = below v (length vs) e in
-      record { first = omega (arith, t1, h); second = omega (arith, t2, k); there = omega (arith, i) }
-
-  split-makes : (b c d : Branch) (v : ℕ) (k : ℤ) → made_by vs b (Node.Split v k) ≡ opens (c ∷ d ∷ []) → Two b c d v
-  split-makes b c d zero k m = absurd (cc)
-  split-makes b c d (suc v) k m =
-      split-two b c d _ _ v (nat_lt v (length vs)) refl (total-added b _) (total-added b _) m
 
 -- facts of a sum
 
@@ -137,25 +96,84 @@ level-opens : (g : Bool) (m : Made) (bs : List Branch) → cond g m (fails Code.
 level-opens true m bs e = (refl, e)
 level-opens false m bs e = absurd (cc)
 
+-- branches, each with no more room taken than one more than that of the branch from which they come
+abbrev AreGrown : Branch → List Branch → Type 0
+AreGrown b [] = Unit {0}
+AreGrown b (c ∷ cs) = (total c ≤ total b + 1) × AreGrown b cs
+
 module _ (vs : List Variable) (limit : ℕ) where
-  sum-makes : (b : Branch) (ps : List (ℤ × ℕ)) (r : Result Line Code) → all_pairs vs b.facts ps ≡ r →
-      total b ≤ limit → made_sum r ≡ opens [] → list_all (is_fact_within limit) ps ≡ true
-  sum-makes b ps (Err c) e h m = absurd (cc)
-  sum-makes b ps (Ok l) e h m = facts_within b.facts limit (omega (arith, h)) (Ok (no_sum vs)) l ps e
+  -- the indexes of a node that opens branches are there, and the branches are grown by at most one
+  abbrev Makes : Branch → Node → Type 0
+  Makes b n = (bs : List Branch) → length vs + total b ≤ limit → made_by vs b n ≡ opens bs →
+      (is_index_within limit n ≡ true) × AreGrown b bs
 
-  round-total : (g : Bool) (b c p : Branch) → total p ≡ total b + 1 →
-      cond g (opens (p ∷ [])) (fails Code.NotDivisible) ≡ opens (c ∷ []) → total c ≡ total b + 1
-  round-total false b c p h m = absurd (cc)
-  round-total true b c p h m = let same : p ≡ c = cc in let t = ap total same in omega (arith, t, h)
+  alone : (k : ℕ) → k ≤ limit → (nat_le k limit && true) ≡ true
+  alone k h = ap (λ z. z && true) (le-leb k limit h)
 
-  round-makes : (b c : Branch) (d : ℤ) (ps : List (ℤ × ℕ)) (r : Result Line Code) → all_pairs vs b.facts ps ≡ r →
-      total b ≤ limit → made_round b d r ≡ opens (c ∷ []) →
-      (list_all (is_fact_within limit) ps ≡ true) × (total c ≡ total b + 1)
-  round-makes b c d ps (Err e') e h m = absurd (cc)
-  round-makes b c d ps (Ok l) e h m = (
-    facts_within b.facts limit (omega (arith, h)) (Ok (no_sum vs)) l ps e,
-    round-total (is_divisible d l) b c (added b (fact_of (divided d l))) (total-added b (fact_of (divided d l))) m,
+  case-two : (b : Branch) (k : ℕ) (o : Option CForm) (bs : List Branch) → slice_get b.waiting k ≡ o →
+      length vs + total b ≤ limit → made_case vs b k o ≡ opens bs →
+      (is_index_within limit (Node.Case (suc k)) ≡ true) × AreGrown b bs
+  case-two b k None bs e h m = absurd (cc)
+  case-two b k (Some f) bs e h m =
+      let same : settled vs (sides f).0 (without b k) ∷ settled vs (sides f).1 (without b k) ∷ [] ≡ bs = cc in
+      let s = sides-room f in
+      let p = side-total vs b k f (sides f).0 e s.0 in let q = side-total vs b k f (sides f).1 e s.1 in
+      let i = in_list b.waiting k f e in let w = waits-long b.waiting in (
+        alone (suc k) (omega (arith, i, w, h)),
+        subst (AreGrown b) same (omega (arith, p), (omega (arith, q), tt)),
+      )
+
+  below : (v n : ℕ) → nat_lt v n ≡ true → suc v ≤ n
+  below v n h = grind arith
+
+  split-two : (b p q : Branch) (v : ℕ) (k : ℤ) (g : Bool) (bs : List Branch) → nat_lt v (length vs) ≡ g →
+      total p ≡ total b + 1 → total q ≡ total b + 1 → length vs + total b ≤ limit →
+      cond g (opens (p ∷ q ∷ [])) (fails Code.NoSuchVariable) ≡ opens bs →
+      (is_index_within limit (Node.Split (suc v) k) ≡ true) × AreGrown b bs
+  split-two b p q v k false bs e r t h m = absurd (cc)
+  split-two b p q v k true bs e r t h m =
+      let same : p ∷ q ∷ [] ≡ bs = cc in
+      let i = below v (length vs) e in (
+        alone (suc v) (omega (arith, i, h)),
+        subst (AreGrown b) same (omega (arith, r), (omega (arith, t), tt)),
+      )
+
+  all-facts : (b : Branch) (ps : List (ℤ × ℕ)) (l : Line) → all_pairs vs b.facts ps ≡ Ok l →
+      length vs + total b ≤ limit → list_all (is_fact_within limit) ps ≡ true
+  all-facts b ps l e h = facts_within b.facts limit (omega (arith, h)) (Ok (no_sum vs)) l ps e
+
+  closed : (b : Branch) (g : Bool) (bs : List Branch) → cond g (opens []) (fails Code.BadSum) ≡ opens bs → AreGrown b bs
+  closed b false bs m = absurd (cc)
+  closed b true bs m = let same : [] ≡ bs = cc in subst (AreGrown b) same tt
+
+  sum-makes : (b : Branch) (ps : List (ℤ × ℕ)) (r : Result Line Code) (bs : List Branch) →
+      all_pairs vs b.facts ps ≡ r → length vs + total b ≤ limit → made_sum r ≡ opens bs →
+      (list_all (is_fact_within limit) ps ≡ true) × AreGrown b bs
+  sum-makes b ps (Err c) bs e h m = absurd (cc)
+  sum-makes b ps (Ok l) bs e h m = (all-facts b ps l e h, closed b (is_false l) bs m)
+
+  rounded : (b p : Branch) (g : Bool) (bs : List Branch) → total p ≡ total b + 1 →
+      cond g (opens (p ∷ [])) (fails Code.NotDivisible) ≡ opens bs → AreGrown b bs
+  rounded b p false bs h m = absurd (cc)
+  rounded b p true bs h m = let same : p ∷ [] ≡ bs = cc in subst (AreGrown b) same (omega (arith, h), tt)
+
+  round-makes : (b : Branch) (d : ℤ) (ps : List (ℤ × ℕ)) (r : Result Line Code) (bs : List Branch) →
+      all_pairs vs b.facts ps ≡ r → length vs + total b ≤ limit → made_round b d r ≡ opens bs →
+      (list_all (is_fact_within limit) ps ≡ true) × AreGrown b bs
+  round-makes b d ps (Err c) bs e h m = absurd (cc)
+  round-makes b d ps (Ok l) bs e h m = (
+    all-facts b ps l e h,
+    rounded b (added b (fact_of (divided d l))) (is_divisible d l) bs (total-added b (fact_of (divided d l))) m,
   )
+
+  node-makes : (b : Branch) (n : Node) → Makes b n
+  node-makes b (Node.Case zero) bs h m = absurd (cc)
+  node-makes b (Node.Case (suc k)) bs h m = case-two b k (slice_get b.waiting k) bs refl h m
+  node-makes b (Node.Split zero k) bs h m = absurd (cc)
+  node-makes b (Node.Split (suc v) k) bs h m =
+      split-two b _ _ v k (nat_lt v (length vs)) bs refl (total-added b _) (total-added b _) h m
+  node-makes b (Node.Sum ps) bs h m = sum-makes b ps (all_pairs vs b.facts ps) bs refl h m
+  node-makes b (Node.Round d ps) bs h m = round-makes b d ps (all_pairs vs b.facts ps) bs refl h m
 
   abbrev Small : List Node → Type 0
   Small ns = list_all (is_index_within limit) ns ≡ true
@@ -168,47 +186,41 @@ module _ (vs : List Variable) (limit : ℕ) where
       list_all-append (is_index_within limit) ns ms
       ∙ ap (λ z. z && list_all (is_index_within limit) ms) h ∙ k
 
+  none-left : 1 ≤ 0 → ⊥
+  none-left h = omega (arith, h)
+
   shallow : (level : ℕ) → nat_le level 1024 ≡ true → level ≤ 1024
   shallow level h = grind arith
 
-  -- so many levels are left
+  -- what a node makes of a branch at a level, of which so many are left
+  level-makes : (left level : ℕ) (b : Branch) (n : Node) (bs : List Branch) → 1025 ≤ level + left →
+      (length vs + total b) + left ≤ limit → made vs (at_level level b) n ≡ opens bs →
+      (1 ≤ left) × (is_index_within limit n ≡ true) × AreGrown b bs
+  level-makes left level b n bs l h m =
+      let o = level-opens (nat_le level 1024) (made_by vs b n) bs m in
+      let s = shallow level o.0 in
+      let r = node-makes b n bs (omega (arith, h)) o.1 in
+      (omega (arith, s, l), r.0, r.1)
+
   small-tree : (left level : ℕ) (b : Branch) (t : Tree) → 1025 ≤ level + left → (length vs + total b) + left ≤ limit →
       Refutes vs level b t → Small (nodes_of t)
-  small-tree zero level b (case_node k t u) l h r =
-      let o = level-opens (nat_le level 1024) (made_by vs b (Node.Case k)) (r.0 ∷ r.1 ∷ []) r.2 in
-      let s = shallow level o.0 in absurd (omega (arith, s, l))
-  small-tree zero level b (split_node v k t u) l h r =
-      let o = level-opens (nat_le level 1024) (made_by vs b (Node.Split v k)) (r.0 ∷ r.1 ∷ []) r.2 in
-      let s = shallow level o.0 in absurd (omega (arith, s, l))
-  small-tree zero level b (round_node d ps t) l h r =
-      let o = level-opens (nat_le level 1024) (made_by vs b (Node.Round d ps)) (r.0 ∷ []) r.1 in
-      let s = shallow level o.0 in absurd (omega (arith, s, l))
-  small-tree left level b (sum_node ps) l h r =
-      let o = level-opens (nat_le level 1024) (made_by vs b (Node.Sum ps)) [] r in
-      small-cons (Node.Sum ps) []
-      (sum-makes b ps (all_pairs vs b.facts ps) refl (omega (arith, h)) o.1) refl
-  small-tree (suc left) level b (case_node k t u) l h r =
-      let o = level-opens (nat_le level 1024) (made_by vs b (Node.Case k)) (r.0 ∷ r.1 ∷ []) r.2 in
-      let two = case-makes vs b r.0 r.1 k o.1 in
-      let p = two.first in let q = two.second in let i = two.there in
-      small-cons (Node.Case k) (nodes_of t ++ nodes_of u) (le-leb k limit (omega (arith, i, h)))
-      (small-join (nodes_of t) (nodes_of u)
-      (small-tree left (suc level) r.0 t (omega (arith, l)) (omega (arith, p, h)) r.3)
-      (small-tree left (suc level) r.1 u (omega (arith, l)) (omega (arith, q, h)) r.4))
-  small-tree (suc left) level b (split_node v k t u) l h r =
-      let o = level-opens (nat_le level 1024) (made_by vs b (Node.Split v k)) (r.0 ∷ r.1 ∷ []) r.2 in
-      let two = split-makes vs b r.0 r.1 v k o.1 in
-      let p = two.first in let q = two.second in let i = two.there in
-      small-cons (Node.Split v k) (nodes_of t ++ nodes_of u) (le-leb v limit (omega (arith, i, h)))
-      (small-join (nodes_of t) (nodes_of u)
-      (small-tree left (suc level) r.0 t (omega (arith, l)) (omega (arith, p, h)) r.3)
-      (small-tree left (suc level) r.1 u (omega (arith, l)) (omega (arith, q, h)) r.4))
-  small-tree (suc left) level b (round_node d ps t) l h r =
-      let o = level-opens (nat_le level 1024) (made_by vs b (Node.Round d ps)) (r.0 ∷ []) r.1 in
-      let one = round-makes b r.0 d ps (all_pairs vs b.facts ps) refl (omega (arith, h)) o.1 in
-      let p = one.1 in
-      small-cons (Node.Round d ps) (nodes_of t) one.0
+  small-tree left level b (leaf n e) l h r = small-cons n [] (level-makes left level b n [] l h r).1 refl
+  small-tree zero level b (one_below n e t) l h r =
+      let m = level-makes zero level b n (r.0 ∷ []) l h r.1 in absurd (none-left m.0)
+  small-tree zero level b (two_below n e t u) l h r =
+      let m = level-makes zero level b n (r.0 ∷ r.1 ∷ []) l h r.2 in absurd (none-left m.0)
+  small-tree (suc left) level b (one_below n e t) l h r =
+      let m = level-makes (suc left) level b n (r.0 ∷ []) l h r.1 in
+      let p = m.2.0 in
+      small-cons n (nodes_of t) m.1
       (small-tree left (suc level) r.0 t (omega (arith, l)) (omega (arith, p, h)) r.2)
+  small-tree (suc left) level b (two_below n e t u) l h r =
+      let m = level-makes (suc left) level b n (r.0 ∷ r.1 ∷ []) l h r.2 in
+      let p = m.2.0 in let q = m.2.1.0 in
+      small-cons n (nodes_of t ++ nodes_of u) m.1
+      (small-join (nodes_of t) (nodes_of u)
+      (small-tree left (suc level) r.0 t (omega (arith, l)) (omega (arith, p, h)) r.3)
+      (small-tree left (suc level) r.1 u (omega (arith, l)) (omega (arith, q, h)) r.4))
 
 -- the first branch of an obligation
 

@@ -11,6 +11,7 @@ use Rattle.unity_syntax.specs.Grammar.{grammar, node_, certificate_, certificate
 use Rattle.unity_syntax.specs.Classes.{number_class}
 use Rattle.unity_syntax.specs.View.{view, view_list, view_node, view_certificate, view_certificates, view_option}
 use Rattle.unity_syntax.proofs.Productions.{all_productions}
+use Rattle.obligations.specs.Certificates.{arity}
 use Rattle.certificate_check.specs.Trees.{is_whole}
 use Rattle.certificate_reading.specs.Certificates.{node_of, certificate_of, section_of}
 use Rattle.certificate_reading.specs.Laws.{IsWholeTree, AreWholeTrees}
@@ -54,19 +55,21 @@ document_has =
     each_both (each_any λ parts. each_both (each_any λ schedule.
     each_maybe tt (record { holds = λ y m. certificates_are.holds y m })))))
 
--- as many trees in the text as there are for the check
+-- a node has as many subtrees in the text as for the check
+same_subtrees : (x : WrittenNode) → subtrees (view_node x) ≡ arity (node_of x)
+same_subtrees (WrittenNode.Case at number) = refl
+same_subtrees (WrittenNode.Split at variable minus bound) = refl
+same_subtrees (WrittenNode.Sum at pairs) = refl
+same_subtrees (WrittenNode.Round at minus divisor pairs) = refl
+
+-- so there are as many trees
 same_trees : (ns : List WrittenNode) (n : ℕ) →
     holds_trees subtrees (view_list view_node ns) n ≡ is_whole (map node_of ns) n
 same_trees [] n = refl
 same_trees (x ∷ xs) zero = refl
-same_trees (WrittenNode.Case at number ∷ xs) (suc n) =
-    ap (holds_trees subtrees (view_list view_node xs)) (omega arith) ∙ same_trees xs (2 + n)
-same_trees (WrittenNode.Split at variable minus bound ∷ xs) (suc n) =
-    ap (holds_trees subtrees (view_list view_node xs)) (omega arith) ∙ same_trees xs (2 + n)
-same_trees (WrittenNode.Sum at pairs ∷ xs) (suc n) =
-    ap (holds_trees subtrees (view_list view_node xs)) (omega arith) ∙ same_trees xs (0 + n)
-same_trees (WrittenNode.Round at minus divisor pairs ∷ xs) (suc n) =
-    ap (holds_trees subtrees (view_list view_node xs)) (omega arith) ∙ same_trees xs (1 + n)
+same_trees (x ∷ xs) (suc n) =
+    let same = same_subtrees x in
+    ap (holds_trees subtrees (view_list view_node xs)) (omega (arith, same)) ∙ same_trees xs (arity (node_of x) + n)
 
 items_whole : (cs : List CertText) → EachItem (λ y. IsTree (after_number y)) (view_list view_certificate cs) →
     AllByRecursion IsWholeTree (map certificate_of cs)

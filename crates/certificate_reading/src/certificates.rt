@@ -82,30 +82,6 @@ fn certificate_of(alloc: Global, certificate: &CertText) -> Result<Cert, AllocEr
     Ok(Cert { nodes })
 }
 
-fn all_of(alloc: Global, items: &[CertText]) -> Result<Seq<Cert>, AllocError>
-    ensures { IfOk result (λ found. found ≡ map written.certificate_of items.now) }
-{
-    let mut found = Seq::new(alloc);
-    for certificate in items {
-        let certificate = certificate_of(alloc, certificate)?;
-        found.push(certificate)?;
-    }
-    Ok(found)
-}
-
-/// The certificates of a document, in order; none where it has no section of certificates. No number of a text is
-/// past 2^62, so one that is would be taken as that.
-///
-/// The error is that memory was refused.
-pub fn certificates_of(alloc: Global, document: &Document) -> Result<Seq<Cert>, AllocError>
-    ensures { IfOk result (λ found. found ≡ written.certificates_of document.now) }
-{
-    match &document.certificates {
-        Some(section) => all_of(alloc, section.items.as_slice()),
-        None => Ok(Seq::new(alloc)),
-    }
-}
-
 // The certificates the other way round.
 fn turned(alloc: Global, certificates: Seq<Cert>) -> Result<Seq<Cert>, AllocError>
     ensures { IfOk result (λ found. found ≡ reverse certificates) }
@@ -131,8 +107,9 @@ fn all_from(alloc: Global, items: Seq<CertText>) -> Result<Seq<Cert>, AllocError
     turned(alloc, found)
 }
 
-/// The certificates of a document, as `certificates_of` gives them, taken out of it: each is let go as it is written
-/// before the next one is read, so that the two forms of them do not stand beside each other.
+/// The certificates of a document, in order, taken out of it; none where it has no section of certificates. Each is let
+/// go as it is written before the next one is read, so that the two forms of them do not stand beside each other. No
+/// number of a text is past 2^62, so one that is would be taken as that.
 ///
 /// The error is that memory was refused.
 pub fn certificates_from(alloc: Global, document: Document) -> Result<Seq<Cert>, AllocError>

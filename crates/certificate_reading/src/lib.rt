@@ -4,5 +4,5 @@
 mod certificates;
 mod laws;
 
-pub use certificates::{certificates_from, certificates_of};
+pub use certificates::certificates_from;
 pub use laws::whole_trees;

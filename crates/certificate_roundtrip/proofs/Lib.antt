@@ -1,6 +1,8 @@
 pub mod SmallNumbers
 pub mod Sizes
 pub mod FoundTexts
+pub mod Nodes
+pub mod Parts
 pub mod PieceLaws
 pub mod PlaceLaws
 pub mod PlainLaws

@@ -4,6 +4,7 @@ use Rattle.std.specs.Int.RustNames.{unsigned_abs}
 use Rattle.std.specs.List.{list_all}
 use Rattle.std.proofs.lemmas.Bool.{and_parts}
 use Rattle.obligations.specs.declared.certificates.Node.{Node}
+use Rattle.obligations.specs.Certificates.{node_index, node_number, node_pairs, map_or}
 use Rattle.linear_prover.specs.Chains.{is_plain_node, is_plain_number, is_plain_pair}
 use Rattle.certificate_indexes.specs.Laws.{is_fact_within, is_index_within}
 use Rattle.certificate_indexes.proofs.IndexLaws.{indexes_are_small}
@@ -22,13 +23,22 @@ small_pairs (p ∷ ps) h k =
     both (is_small_pair p) (list_all is_small_pair ps)
     (both (is_small (unsigned_abs p.0)) (is_small p.1) plain.0 there.0) (small_pairs ps plain.1 there.1)
 
+-- a plain node's number and its multipliers are plain
+plain_parts : (n : Node) → is_plain_node n ≡ true →
+    (map_or (node_number n) true is_plain_number ≡ true) × (list_all is_plain_pair (node_pairs n) ≡ true)
+plain_parts (Node.Case j) h = (refl, refl)
+plain_parts (Node.Split v z) h = (h, refl)
+plain_parts (Node.Sum ps) h = (refl, h)
+plain_parts (Node.Round d ps) h = and_parts (is_plain_number d) (list_all is_plain_pair ps) h
+
 small_node : (n : Node) → is_plain_node n ≡ true → is_index_within (2 ^ 62) n ≡ true → is_small_node n ≡ true
-small_node (Node.Case j) h k = k
-small_node (Node.Split v z) h k = both (is_small v) (is_small (unsigned_abs z)) k h
-small_node (Node.Sum ps) h k = small_pairs ps h k
-small_node (Node.Round d ps) h k =
-    let plain = and_parts (is_plain_number d) (list_all is_plain_pair ps) h in
-    both (is_small (unsigned_abs d)) (list_all is_small_pair ps) plain.0 (small_pairs ps plain.1 k)
+small_node n h k =
+    let index : Bool = map_or (node_index n) true is_small in
+    let number : Bool = map_or (node_number n) true is_plain_number in
+    let plain = plain_parts n h in
+    let there = and_parts index (list_all (is_fact_within (2 ^ 62)) (node_pairs n)) k in
+    both index (number && list_all is_small_pair (node_pairs n)) there.0
+    (both number (list_all is_small_pair (node_pairs n)) plain.0 (small_pairs (node_pairs n) plain.1 there.1))
 
 small_nodes : (ns : List Node) → list_all is_plain_node ns ≡ true → list_all (is_index_within (2 ^ 62)) ns ≡ true →
     list_all is_small_node ns ≡ true

@@ -1,25 +1,26 @@
 -- The section that is written is read back into its tokens.
-use Rattle.std.proofs.Common.{◌≡◌, ℕ, suc, ◌≤◌, ◌^◌, nat_le, ℤ, pos, negsuc, true, List, []}
-use Rattle.std.proofs.Common.{◌∷◌}
-use Rattle.std.proofs.Common.{◌+◌, ◌++◌, length, Some, refl, sym, ap, ◌∙◌, subst, arith, append_assoc}
+use Rattle.std.proofs.Common.{◌≡◌, ℕ, suc, ◌≤◌, ◌^◌, nat_le, ℤ, pos, negsuc, true, Option, Some, None, List, []}
+use Rattle.std.proofs.Common.{◌∷◌, ◌+◌, ◌++◌, length, refl, sym, ap, ◌∙◌, subst, arith, append_assoc}
 use Rattle.std.specs.Prelude.{Contains, codes, decimal}
 use Rattle.std.specs.List.{flat_map, list_all}
-use Rattle.std.specs.Fmt.{signed_decimal}
 use Rattle.std.proofs.lemmas.Bool.{and_parts, leb-true}
 use Rattle.case_tables.specs.declared.symbol_table.Symbol.{Symbol}
 use Rattle.case_tables.specs.declared.word_table.Word.{Word}
 use Rattle.case_tables.specs.TableRows.{word_rows}
 use Rattle.obligations.specs.declared.certificates.Cert.{Cert}
 use Rattle.obligations.specs.declared.certificates.Node.{Node}
+use Rattle.obligations.specs.Certificates.{node_index, node_number, node_pairs, map_or}
 use Rattle.unity_lexer.specs.Symbols.{first_symbol}
 use Rattle.unity_lexer.specs.Tokens.{Reads}
-use Rattle.certificate_printing.specs.Certificates.{pair_text, node_text, certificate_line, certificate_lines}
+use Rattle.certificate_printing.specs.Certificates.{node_text, certificate_line, certificate_lines}
 use Rattle.certificate_printing.specs.Certificates.{certificates_text}
 use Rattle.certificate_roundtrip.specs.SectionLaws.{SectionIsRead}
-use Rattle.certificate_roundtrip.specs.Pieces.{Piece, gap, word, sign, number, signed, pair_pieces, node_pieces}
-use Rattle.certificate_roundtrip.specs.Pieces.{line_pieces}
+use Rattle.certificate_roundtrip.specs.Pieces.{Piece, gap, word, sign, number, signed, pair_pieces, index_pieces}
+use Rattle.certificate_roundtrip.specs.Pieces.{number_pieces, node_pieces, line_pieces}
 use Rattle.certificate_roundtrip.specs.Pieces.{lines_pieces, section_pieces, text_of, tokens_from, is_readable}
 use Rattle.certificate_roundtrip.proofs.PieceLaws.{Breaks, Separate, reads_all}
+use Rattle.certificate_roundtrip.proofs.Parts.{parts_join, text_join}
+use Rattle.certificate_roundtrip.proofs.Nodes.{node_words, node_is}
 
 abbrev AreReadable : List Piece → Type 0
 AreReadable ps = list_all is_readable ps ≡ true
@@ -71,17 +72,41 @@ sep_pairs (q ∷ qs) ps k b =
     subst Then (sym (append_assoc (pair_pieces q) (flat_map pair_pieces qs) ps))
     (sep_pair q (flat_map pair_pieces qs ++ ps) (sep_pairs qs ps k b) (breaks_pairs qs ps b))
 
-case_word : Contains word_rows (codes "case", Word.Case)
-case_word = (47, omega arith, refl)
+sep_index : (i : Option ℕ) (ps : List Piece) → Then ps → Breaks (text_of ps) → Then (map_or i [] index_pieces ++ ps)
+sep_index None ps k b = k
+sep_index (Some v) ps k b = sep_blank (number v ∷ ps) (sep_number v ps k b)
 
-split_word : Contains word_rows (codes "split", Word.Split)
-split_word = (48, omega arith, refl)
+breaks_index : (i : Option ℕ) (ps : List Piece) → Breaks (text_of ps) →
+    Breaks (text_of (map_or i [] index_pieces ++ ps))
+breaks_index None ps b = b
+breaks_index (Some v) ps b = refl
 
-sum_word : Contains word_rows (codes "sum", Word.Sum)
-sum_word = (22, omega arith, refl)
+sep_own_number : (o : Option ℤ) (ps : List Piece) → Then ps → Breaks (text_of ps) →
+    Then (map_or o [] number_pieces ++ ps)
+sep_own_number None ps k b = k
+sep_own_number (Some z) ps k b = sep_blank (signed z ++ ps) (sep_signed z ps k b)
 
-round_word : Contains word_rows (codes "round", Word.Round)
-round_word = (49, omega arith, refl)
+breaks_own_number : (o : Option ℤ) (ps : List Piece) → Breaks (text_of ps) →
+    Breaks (text_of (map_or o [] number_pieces ++ ps))
+breaks_own_number None ps b = b
+breaks_own_number (Some z) ps b = refl
+
+sep_node : (n : Node) (ps : List Piece) → Then ps → Breaks (text_of ps) → Then (node_pieces n ++ ps)
+sep_node n ps k b h =
+    let pairs : List Piece = flat_map pair_pieces (node_pairs n) ++ ps in
+    let number : List Piece = map_or (node_number n) [] number_pieces ++ pairs in
+    let to_pairs : Breaks (text_of pairs) = breaks_pairs (node_pairs n) ps b in
+    let to_number : Breaks (text_of number) = breaks_own_number (node_number n) pairs to_pairs in
+    let parts : Then (map_or (node_index n) [] index_pieces ++ number) =
+    sep_index (node_index n) number
+    (sep_own_number (node_number n) pairs (sep_pairs (node_pairs n) ps k b) to_pairs) to_number in
+    let breaks : Breaks (text_of (map_or (node_index n) [] index_pieces ++ number)) =
+    breaks_index (node_index n) number to_number in
+    let here = node_words n in
+    let join = sym (parts_join n ps) in (
+      (32, refl, refl),
+      ((here.there, here.spelled, subst (λ xs. Breaks (text_of xs)) join breaks), subst Then join parts h),
+    )
 
 end_word : Contains word_rows (codes "end", Word.End)
 end_word = (7, omega arith, refl)
@@ -89,39 +114,12 @@ end_word = (7, omega arith, refl)
 certificates_word : Contains word_rows (codes "certificates", Word.Certificates)
 certificates_word = (10, omega arith, refl)
 
-sep_node : (n : Node) (ps : List Piece) → Then ps → Breaks (text_of ps) → Then (node_pieces n ++ ps)
-sep_node (Node.Case j) ps k b h =
-    ((32, refl, refl), ((case_word, refl, refl), sep_blank (number j ∷ ps) (sep_number j ps k b) h))
-sep_node (Node.Split v z) ps k b h =
-    let bound : Then (signed z ++ ps) = sep_signed z ps k b in
-    let variable : Then (number v ∷ gap 32 ∷ (signed z ++ ps)) =
-    sep_number v (gap 32 ∷ (signed z ++ ps)) (sep_blank (signed z ++ ps) bound) refl in (
-      (32, refl, refl),
-      ((split_word, refl, refl), sep_blank (number v ∷ gap 32 ∷ (signed z ++ ps)) variable h),
-    )
-sep_node (Node.Sum qs) ps k b h =
-    ((32, refl, refl), ((sum_word, refl, breaks_pairs qs ps b), sep_pairs qs ps k b h))
-sep_node (Node.Round d qs) ps k b h =
-    let rest : List Piece = flat_map pair_pieces qs ++ ps in
-    let divisor : Then (signed d ++ rest) =
-    sep_signed d rest (sep_pairs qs ps k b) (breaks_pairs qs ps b) in
-    let all : Then (gap 32 ∷ ((signed d ++ flat_map pair_pieces qs) ++ ps)) =
-    subst (λ xs. Then (gap 32 ∷ xs)) (sym (append_assoc (signed d) (flat_map pair_pieces qs) ps))
-    (sep_blank (signed d ++ rest) divisor) in
-    ((32, refl, refl), ((round_word, refl, refl), all h))
-
-breaks_node : (n : Node) (ps : List Piece) → Breaks (text_of (node_pieces n ++ ps))
-breaks_node (Node.Case j) ps = refl
-breaks_node (Node.Split v z) ps = refl
-breaks_node (Node.Sum qs) ps = refl
-breaks_node (Node.Round d qs) ps = refl
-
 breaks_nodes : (ns : List Node) (ps : List Piece) → Breaks (text_of ps) →
     Breaks (text_of (flat_map node_pieces ns ++ ps))
 breaks_nodes [] ps b = b
 breaks_nodes (n ∷ ns) ps b =
     subst (λ xs. Breaks (text_of xs)) (sym (append_assoc (node_pieces n) (flat_map node_pieces ns) ps))
-    (breaks_node n (flat_map node_pieces ns ++ ps))
+    refl
 
 sep_nodes : (ns : List Node) (ps : List Piece) → Then ps → Breaks (text_of ps) → Then (flat_map node_pieces ns ++ ps)
 sep_nodes [] ps k b = k
@@ -135,10 +133,7 @@ line_end = sign 59 Symbol.Semicolon ∷ gap 10 ∷ []
 colon_first : (ns : List Node) (ps : List Piece) →
     first_symbol (58 ∷ text_of ((flat_map node_pieces ns ++ line_end) ++ ps)) ≡ Some (Symbol.Colon, 1)
 colon_first [] ps = refl
-colon_first (Node.Case j ∷ ns) ps = refl
-colon_first (Node.Split v z ∷ ns) ps = refl
-colon_first (Node.Sum qs ∷ ns) ps = refl
-colon_first (Node.Round d qs ∷ ns) ps = refl
+colon_first (n ∷ ns) ps = refl
 
 sep_end : (ps : List Piece) → Then ps → Then (line_end ++ ps)
 sep_end ps k h = ((refl, refl), ((10, refl, refl), k h))
@@ -168,41 +163,6 @@ sep_section certs h =
     ((certificates_word, refl, refl), ((10, refl, refl), sep_lines 1 certs last sep_last h))
 
 -- the text
-
-no_more : (xs : List ℕ) → xs ++ [] ≡ xs
-no_more [] = refl
-no_more (x ∷ xs) = ap (λ ys. x ∷ ys) (no_more xs)
-
-text_join : (ps qs : List Piece) → text_of (ps ++ qs) ≡ text_of ps ++ text_of qs
-text_join [] qs = refl
-text_join (p ∷ ps) qs =
-    ap (λ t. p.bytes ++ t) (text_join ps qs) ∙ sym (append_assoc p.bytes (text_of ps) (text_of qs))
-
-signed_is : (z : ℤ) → text_of (signed z) ≡ signed_decimal z
-signed_is (pos n) = no_more (decimal n)
-signed_is (negsuc n) = ap (λ t. 45 ∷ t) (no_more (decimal (suc n)))
-
-pair_is : (p : ℤ × ℕ) → text_of (pair_pieces p) ≡ pair_text p
-pair_is p =
-    ap (λ t. 32 ∷ t) (text_join (signed p.0) (sign 42 Symbol.Times ∷ number p.1 ∷ [])
-    ∙ ap (λ t. t ++ (42 ∷ (decimal p.1 ++ []))) (signed_is p.0)
-    ∙ ap (λ t. signed_decimal p.0 ++ (42 ∷ t)) (no_more (decimal p.1)))
-
-pairs_are : (qs : List (ℤ × ℕ)) → text_of (flat_map pair_pieces qs) ≡ flat_map pair_text qs
-pairs_are [] = refl
-pairs_are (q ∷ qs) =
-    text_join (pair_pieces q) (flat_map pair_pieces qs)
-    ∙ ap (λ t. t ++ text_of (flat_map pair_pieces qs)) (pair_is q)
-    ∙ ap (λ t. pair_text q ++ t) (pairs_are qs)
-
-node_is : (n : Node) → text_of (node_pieces n) ≡ node_text n
-node_is (Node.Case j) = ap (λ t. codes " case " ++ t) (no_more (decimal j))
-node_is (Node.Split v z) = ap (λ t. codes " split " ++ (decimal v ++ (codes " " ++ t))) (signed_is z)
-node_is (Node.Sum qs) = ap (λ t. codes " sum" ++ t) (pairs_are qs)
-node_is (Node.Round d qs) =
-    ap (λ t. codes " round " ++ t) (text_join (signed d) (flat_map pair_pieces qs)
-    ∙ ap (λ t. t ++ text_of (flat_map pair_pieces qs)) (signed_is d)
-    ∙ ap (λ t. signed_decimal d ++ t) (pairs_are qs))
 
 nodes_are : (ns : List Node) → text_of (flat_map node_pieces ns) ≡ flat_map node_text ns
 nodes_are [] = refl

@@ -1,6 +1,6 @@
 -- How long a text with certificates is.
-use Rattle.std.proofs.Common.{◌≡◌, ℕ, suc, ◌≤◌, ◌+◌, ◌*◌, ◌^◌, ℤ, pos, negsuc, true, List, [], ◌∷◌, ◌++◌, map, length}
-use Rattle.std.proofs.Common.{length-append, Option, Some, None, take, arith}
+use Rattle.std.proofs.Common.{◌≡◌, ℕ, suc, ◌≤◌, ◌+◌, ◌*◌, ◌^◌, ℤ, pos, negsuc, true, ◌&&◌, List, [], ◌∷◌, ◌++◌}
+use Rattle.std.proofs.Common.{map, length, length-append, Option, Some, None, take, sym, ap, ◌∙◌, subst, arith}
 use Rattle.std.specs.Prelude.{All, codes, decimal, sum}
 use Rattle.std.specs.Int.RustNames.{unsigned_abs}
 use Rattle.std.specs.Fmt.{signed_decimal}
@@ -12,12 +12,16 @@ use Rattle.std.proofs.lemmas.List.Elements.{All-head, All-tail}
 use Rattle.unity_syntax.specs.declared.certificate.Certificates.{Certificates}
 use Rattle.obligations.specs.declared.certificates.Cert.{Cert}
 use Rattle.obligations.specs.declared.certificates.Node.{Node}
-use Rattle.obligations.specs.Certificates.{node_units, units}
+use Rattle.obligations.specs.Certificates.{node_index, node_number, node_pairs, map_or, node_units, units}
 use Rattle.certificate_check.specs.Trees.{is_whole}
-use Rattle.certificate_printing.specs.Certificates.{pair_text, round_text, node_text, certificate_line}
+use Rattle.certificate_printing.specs.Certificates.{pair_text, node_text, certificate_line}
 use Rattle.certificate_printing.specs.Certificates.{certificate_lines}
 use Rattle.certificate_printing.specs.Certificates.{certificates_text}
 use Rattle.certificate_reading.specs.Laws.{IsWholeTree}
+use Rattle.certificate_roundtrip.specs.Pieces.{Piece, signed, pair_pieces, index_pieces, number_pieces, part_pieces}
+use Rattle.certificate_roundtrip.specs.Pieces.{node_word, text_of}
+use Rattle.certificate_roundtrip.proofs.Parts.{text_join, signed_is, pairs_are}
+use Rattle.certificate_roundtrip.proofs.Nodes.{node_words, node_is}
 use Rattle.certificate_roundtrip.specs.Small.{is_small, is_small_pair, is_small_node, IsSmallCertificate}
 use Rattle.proof_script.specs.Proving.{units_of}
 use Rattle.certificate_roundtrip.specs.Found.{front}
@@ -52,23 +56,46 @@ pairs_size (p ∷ ps) h =
     let all = length-append (pair_text p) (flat_map pair_text ps) in
     omega (arith, one, rest, all)
 
+index_size : (i : Option ℕ) → map_or i true is_small ≡ true → length (text_of (map_or i [] index_pieces)) ≤ 20
+index_size None h = omega arith
+index_size (Some k) h =
+    joined (codes " ") (decimal k ++ []) 1 19 (omega arith)
+    (joined (decimal k) [] 19 0 (small_digits k h) (omega arith))
+
+number_size : (o : Option ℤ) → map_or o true (λ z. is_small (unsigned_abs z)) ≡ true →
+    length (text_of (map_or o [] number_pieces)) ≤ 21
+number_size None h = omega arith
+number_size (Some z) h =
+    joined (codes " ") (text_of (signed z)) 1 20 (omega arith)
+    (subst (λ t. length t ≤ 20) (sym (signed_is z)) (signed_digits z h))
+
+-- a blank, the word, and what the node has of an index, a number and pairs
 node_size : (n : Node) → is_small_node n ≡ true → length (node_text n) ≤ 47 * node_units n
-node_size (Node.Case k) h =
-    joined (codes " case ") (decimal k) 6 41 (omega arith) (let few = small_digits k h in omega (arith, few))
-node_size (Node.Split v k) h =
-    let parts = and_parts (is_small v) (is_small (unsigned_abs k)) h in
-    joined (codes " split ") (decimal v ++ (codes " " ++ signed_decimal k)) 7 40 (omega arith)
-    (joined (decimal v) (codes " " ++ signed_decimal k) 19 21 (small_digits v parts.0)
-    (joined (codes " ") (signed_decimal k) 1 20 (omega arith) (signed_digits k parts.1)))
-node_size (Node.Sum ps) h =
-    let few = joined (codes " sum") (flat_map pair_text ps) 4 (47 * length ps) (omega arith) (pairs_size ps h) in
-    omega (arith, few)
-node_size (Node.Round d ps) h =
-    let parts = and_parts (is_small (unsigned_abs d)) (list_all is_small_pair ps) h in
-    let few = joined (round_text d) (flat_map pair_text ps) 27 (47 * length ps)
-    (joined (codes " round ") (signed_decimal d) 7 20 (omega arith) (signed_digits d parts.0))
-    (pairs_size ps parts.1) in
-    omega (arith, few)
+node_size n h =
+    let index : List Piece = map_or (node_index n) [] index_pieces in
+    let number : List Piece = map_or (node_number n) [] number_pieces in
+    let pairs : List Piece = flat_map pair_pieces (node_pairs n) in
+    let most : ℕ = 47 * length (node_pairs n) in
+    let named = and_parts (map_or (node_index n) true is_small)
+    (map_or (node_number n) true (λ z. is_small (unsigned_abs z)) && list_all is_small_pair (node_pairs n)) h in
+    let rest = and_parts (map_or (node_number n) true (λ z. is_small (unsigned_abs z)))
+    (list_all is_small_pair (node_pairs n)) named.1 in
+    let text : text_of (part_pieces n) ≡ text_of index ++ (text_of number ++ flat_map pair_text (node_pairs n)) =
+    text_join index (number ++ pairs)
+    ∙ ap (λ t. text_of index ++ t) (text_join number pairs)
+    ∙ ap (λ t. text_of index ++ (text_of number ++ t)) (pairs_are (node_pairs n)) in
+    let parts : length (text_of (part_pieces n)) ≤ 20 + (21 + most) =
+    subst (λ t. length t ≤ 20 + (21 + most)) (sym text)
+    (joined (text_of index) (text_of number ++ flat_map pair_text (node_pairs n)) 20 (21 + most)
+    (index_size (node_index n) named.0)
+    (joined (text_of number) (flat_map pair_text (node_pairs n)) 21 most (number_size (node_number n) rest.0)
+    (pairs_size (node_pairs n) rest.1))) in
+    let all = joined (codes " ") ((node_word n).0 ++ text_of (part_pieces n)) 1 (5 + (20 + (21 + most))) (omega arith)
+    (joined (node_word n).0 (text_of (part_pieces n)) 5 (20 + (21 + most)) (node_words n).short parts) in
+    subst (λ t. length t ≤ 47 * node_units n) (node_is n) (within (length (node_pairs n)) _ all)
+  where
+    within : (count size : ℕ) → size ≤ 1 + (5 + (20 + (21 + 47 * count))) → size ≤ 47 * (1 + count)
+    within count size h = omega (arith, h)
 
 nodes_size : (ns : List Node) → list_all is_small_node ns ≡ true → length (flat_map node_text ns) ≤ 47 * units ns
 nodes_size [] h = omega arith
@@ -80,15 +107,9 @@ nodes_size (n ∷ ns) h =
     omega (arith, one, rest, all)
 
 -- a whole tree has a node
-one_unit : (n : Node) → 1 ≤ node_units n
-one_unit (Node.Case k) = omega arith
-one_unit (Node.Split v k) = omega arith
-one_unit (Node.Sum ps) = omega arith
-one_unit (Node.Round d ps) = omega arith
-
 some_units : (ns : List Node) → is_whole ns 1 ≡ true → 1 ≤ units ns
 some_units [] h = absurd (cc (h))
-some_units (n ∷ ns) h = let one = one_unit n in omega (arith, one)
+some_units (n ∷ ns) h = omega arith
 
 line_size : (number : ℕ) (c : Cert) → number ≤ 1000000 → IsWholeTree c → IsSmallCertificate c →
     length (certificate_line number c) ≤ 57 * units c.nodes

@@ -1,5 +1,5 @@
 -- Certificates with small numbers are written so that they can be read.
-use Rattle.std.proofs.Common.{◌≡◌, ℕ, suc, ◌≤◌, ◌+◌, ◌^◌, ℤ, pos, negsuc, true, ◌&&◌, List, []}
+use Rattle.std.proofs.Common.{◌≡◌, ℕ, suc, ◌≤◌, ◌+◌, ◌^◌, ℤ, pos, negsuc, true, ◌&&◌, Option, Some, None, List, []}
 use Rattle.std.proofs.Common.{◌∷◌, ◌++◌, length, refl, sym, ap, ◌∙◌, subst, arith, append_assoc}
 use Rattle.std.specs.Prelude.{All, codes}
 use Rattle.std.specs.Int.RustNames.{unsigned_abs}
@@ -10,10 +10,13 @@ use Rattle.case_tables.specs.declared.symbol_table.Symbol.{Symbol}
 use Rattle.case_tables.specs.declared.word_table.Word.{Word}
 use Rattle.obligations.specs.declared.certificates.Cert.{Cert}
 use Rattle.obligations.specs.declared.certificates.Node.{Node}
+use Rattle.obligations.specs.Certificates.{node_index, node_number, node_pairs, map_or}
 use Rattle.certificate_roundtrip.specs.SectionLaws.{SmallAreReadable}
-use Rattle.certificate_roundtrip.specs.Pieces.{Piece, gap, word, sign, number, signed, pair_pieces, node_pieces}
+use Rattle.certificate_roundtrip.specs.Pieces.{Piece, gap, word, sign, number, signed, pair_pieces, index_pieces}
+use Rattle.certificate_roundtrip.specs.Pieces.{number_pieces, node_pieces}
 use Rattle.certificate_roundtrip.specs.Pieces.{line_pieces}
 use Rattle.certificate_roundtrip.specs.Pieces.{lines_pieces, is_readable}
+use Rattle.certificate_roundtrip.proofs.Parts.{parts_join}
 use Rattle.certificate_roundtrip.specs.Small.{IsSmallCertificate, is_small, is_small_node, is_small_pair}
 
 abbrev AreReadable : List Piece → Type 0
@@ -41,16 +44,26 @@ pairs_then (q ∷ qs) ps h k =
     subst AreReadable (sym (append_assoc (pair_pieces q) (flat_map pair_pieces qs) ps))
     (pair_then q (flat_map pair_pieces qs ++ ps) parts.0 (pairs_then qs ps parts.1 k))
 
+index_then : (i : Option ℕ) (ps : List Piece) → map_or i true is_small ≡ true → AreReadable ps →
+    AreReadable (map_or i [] index_pieces ++ ps)
+index_then None ps h k = k
+index_then (Some v) ps h k = number_then v ps h k
+
+own_number_then : (o : Option ℤ) (ps : List Piece) → map_or o true (λ z. is_small (unsigned_abs z)) ≡ true →
+    AreReadable ps → AreReadable (map_or o [] number_pieces ++ ps)
+own_number_then None ps h k = k
+own_number_then (Some z) ps h k = signed_then z ps h k
+
 node_then : (n : Node) (ps : List Piece) → is_small_node n ≡ true → AreReadable ps → AreReadable (node_pieces n ++ ps)
-node_then (Node.Case j) ps h k = number_then j ps h k
-node_then (Node.Split v z) ps h k =
-    let parts = and_parts (is_small v) (is_small (unsigned_abs z)) h in
-    number_then v (gap 32 ∷ (signed z ++ ps)) parts.0 (signed_then z ps parts.1 k)
-node_then (Node.Sum qs) ps h k = pairs_then qs ps h k
-node_then (Node.Round d qs) ps h k =
-    let parts = and_parts (is_small (unsigned_abs d)) (list_all is_small_pair qs) h in
-    subst AreReadable (sym (append_assoc (signed d) (flat_map pair_pieces qs) ps))
-    (signed_then d (flat_map pair_pieces qs ++ ps) parts.0 (pairs_then qs ps parts.1 k))
+node_then n ps h k =
+    let pairs : List Piece = flat_map pair_pieces (node_pairs n) in
+    let index = and_parts (map_or (node_index n) true is_small)
+    (map_or (node_number n) true (λ z. is_small (unsigned_abs z)) && list_all is_small_pair (node_pairs n)) h in
+    let number = and_parts (map_or (node_number n) true (λ z. is_small (unsigned_abs z)))
+    (list_all is_small_pair (node_pairs n)) index.1 in
+    subst AreReadable (sym (parts_join n ps))
+    (index_then (node_index n) (map_or (node_number n) [] number_pieces ++ (pairs ++ ps)) index.0
+    (own_number_then (node_number n) (pairs ++ ps) number.0 (pairs_then (node_pairs n) ps number.1 k)))
 
 nodes_then : (ns : List Node) (ps : List Piece) → list_all is_small_node ns ≡ true → AreReadable ps →
     AreReadable (flat_map node_pieces ns ++ ps)

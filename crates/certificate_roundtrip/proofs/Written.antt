@@ -1,50 +1,16 @@
 -- The section that says certificates, as it is written from a place on.
-use Rattle.std.proofs.Common.{ℕ, suc, ◌+◌, ℤ, pos, negsuc, Bool, true, false, List, [], ◌∷◌, length}
+use Rattle.std.proofs.Common.{ℕ, suc, List, [], ◌∷◌}
 use Rattle.std.specs.Prelude.{codes}
 use Rattle.case_tables.specs.declared.symbol_table.Symbol.{Symbol}
 use Rattle.case_tables.specs.declared.word_table.Word.{Word}
-use Rattle.unity_syntax.specs.declared.certificate.Pair.{Pair}
 use Rattle.unity_syntax.specs.declared.certificate.Node.{Node as WrittenNode}
 use Rattle.unity_syntax.specs.declared.certificate.CertText.{CertText}
 use Rattle.unity_syntax.specs.declared.certificate.Certificates.{Certificates}
 use Rattle.obligations.specs.declared.certificates.Node.{Node}
 use Rattle.obligations.specs.declared.certificates.Cert.{Cert}
-use Rattle.certificate_roundtrip.specs.Pieces.{Piece, gap, word, sign, number, signed, pair_pieces, node_pieces}
-use Rattle.certificate_roundtrip.specs.Pieces.{line_pieces}
-
--- where the pieces end that begin at a place
-abbrev pub end_of : ℕ → List Piece → ℕ
-end_of at [] = at
-end_of at (p ∷ ps) = end_of (at + length p.bytes) ps
-
-abbrev pub minus_of : ℤ → Bool
-minus_of (pos n) = false
-minus_of (negsuc n) = true
-
-abbrev pub amount : ℤ → ℕ
-amount (pos n) = n
-amount (negsuc n) = suc n
-
-abbrev pub written_pair : ℕ → ℤ × ℕ → Pair
-written_pair at p = record { at = at + 1; minus = minus_of p.0; multiplier = amount p.0; fact = p.1 }
-
-abbrev pub written_pairs : ℕ → List (ℤ × ℕ) → List Pair
-written_pairs at [] = []
-written_pairs at (p ∷ ps) = written_pair at p ∷ written_pairs (end_of at (pair_pieces p)) ps
-
--- what stands before the pairs of a sum, and before the divisor of a round
-abbrev pub sum_word : List Piece
-sum_word = gap 32 ∷ word (codes "sum") Word.Sum ∷ []
-
-abbrev pub round_word : List Piece
-round_word = gap 32 ∷ word (codes "round") Word.Round ∷ gap 32 ∷ []
-
-abbrev pub written_node : ℕ → Node → WrittenNode
-written_node at (Node.Case k) = WrittenNode.Case (at + 1) k
-written_node at (Node.Split v k) = WrittenNode.Split (at + 1) v (minus_of k) (amount k)
-written_node at (Node.Sum ps) = WrittenNode.Sum (at + 1) (written_pairs (end_of at sum_word) ps)
-written_node at (Node.Round d ps) =
-    WrittenNode.Round (at + 1) (minus_of d) (amount d) (written_pairs (end_of (end_of at round_word) (signed d)) ps)
+use Rattle.certificate_roundtrip.specs.Pieces.{Piece, gap, word, sign, number, node_pieces, line_pieces}
+use Rattle.certificate_roundtrip.proofs.Parts.{end_of}
+use Rattle.certificate_roundtrip.proofs.Nodes.{written_node}
 
 abbrev pub written_nodes : ℕ → List Node → List WrittenNode
 written_nodes at [] = []

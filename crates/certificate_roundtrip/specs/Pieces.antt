@@ -9,6 +9,7 @@ use Rattle.unity_syntax.specs.declared.token.Token.{Token}
 use Rattle.unity_syntax.specs.declared.token.TokenKind.{TokenKind}
 use Rattle.obligations.specs.declared.certificates.Cert.{Cert}
 use Rattle.obligations.specs.declared.certificates.Node.{Node}
+use Rattle.obligations.specs.Certificates.{node_index, node_number, node_pairs, map_or}
 
 -- bytes with the token that they spell; a blank spells none
 pub record Piece : Type 0 where
@@ -34,12 +35,27 @@ signed (negsuc n) = sign 45 Symbol.Minus ∷ number (suc n) ∷ []
 abbrev pub pair_pieces : ℤ × ℕ → List Piece
 pair_pieces p = gap 32 ∷ (signed p.0 ++ (sign 42 Symbol.Times ∷ number p.1 ∷ []))
 
+abbrev pub index_pieces : ℕ → List Piece
+index_pieces k = gap 32 ∷ number k ∷ []
+
+abbrev pub number_pieces : ℤ → List Piece
+number_pieces z = gap 32 ∷ signed z
+
+-- a node's index, its number and its pairs, as far as it has them
+abbrev pub part_pieces : Node → List Piece
+part_pieces n =
+    map_or (node_index n) [] index_pieces
+    ++ (map_or (node_number n) [] number_pieces ++ flat_map pair_pieces (node_pairs n))
+
+-- the word before them
+abbrev pub node_word : Node → List ℕ × Word
+node_word (Node.Case k) = (codes "case", Word.Case)
+node_word (Node.Split v k) = (codes "split", Word.Split)
+node_word (Node.Sum ps) = (codes "sum", Word.Sum)
+node_word (Node.Round d ps) = (codes "round", Word.Round)
+
 abbrev pub node_pieces : Node → List Piece
-node_pieces (Node.Case k) = gap 32 ∷ word (codes "case") Word.Case ∷ gap 32 ∷ number k ∷ []
-node_pieces (Node.Split v k) = gap 32 ∷ word (codes "split") Word.Split ∷ gap 32 ∷ number v ∷ gap 32 ∷ signed k
-node_pieces (Node.Sum ps) = gap 32 ∷ word (codes "sum") Word.Sum ∷ flat_map pair_pieces ps
-node_pieces (Node.Round d ps) =
-    gap 32 ∷ word (codes "round") Word.Round ∷ gap 32 ∷ (signed d ++ flat_map pair_pieces ps)
+node_pieces n = gap 32 ∷ word (node_word n).0 (node_word n).1 ∷ part_pieces n
 
 abbrev pub line_pieces : ℕ → Cert → List Piece
 line_pieces n c =

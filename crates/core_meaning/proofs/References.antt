@@ -42,6 +42,7 @@ use Rattle.expansion_laws.specs.Worth.{bound_value, values_of}
 use Rattle.expansion_laws.specs.Documents.{within}
 use Rattle.expand_declarations.specs.References.{with_param, step_params, param_named, word_arg, core_arg}
 use Rattle.expand_declarations.specs.References.{core_ref, core_helper, pair_rule, text_rule}
+use Rattle.expand_declarations.proofs.PairRules.{of_pair_rule}
 use Rattle.expand_proofs.specs.ProofTerms.{Place, Terming, term_layer, termed, pair_term, param_bound}
 use Rattle.expand_proofs.specs.Steps.{with_param_bound, param_bounds, step_place, core_rule}
 use Rattle.core_documents.specs.Cores.{document_scope}
@@ -209,12 +210,8 @@ module _ (zs : List ℤ) where
 
   two_rules : (which : Word) (r s : Ref) →
       rule_references zs (pair_rule which r s) ≡ core_referred zs r ∷ core_referred zs s ∷ []
-  two_rules Word.Conj r s = refl
-  two_rules Word.Simpleconj r s = refl
-  two_rules Word.Disj r s = refl
-  two_rules Word.Simpledisj r s = refl
-  two_rules Word.Union r s = refl
-  two_rules _ r s = refl
+  two_rules which r s = of_pair_rule (λ rule. rule_references zs rule ≡ core_referred zs r ∷ core_referred zs s ∷ [])
+      which r s (λ name. refl) refl
 
   no_rules : (words : Texts) (bounds : Bounds) (params : Params) (with : Option Inst) →
       rule_references zs (text_rule words bounds params with) ≡ []

@@ -6,20 +6,26 @@ use Rattle.std.proofs.Math.Nat.{mul-le-mul_left}
 use Rattle.std.specs.Option.{option_map}
 use Rattle.std.specs.Int.RustNames.{int_le, unsigned_abs}
 use Rattle.state_steps.specs.State.{int_eq}
-use Rattle.core_terms.specs.declared.trees.CTerm.{CTerm, roll-CTerm, ind-CTerm, fold-roll-CTerm}
+use Rattle.core_terms.specs.declared.trees.CTerm.{CTerm}
 use Rattle.core_terms.specs.declared.trees.CTerm.TheVariants.{Const, Add, Sub, Scale, Ite}
-use Rattle.core_terms.specs.declared.trees.CForm.{CForm, roll-CForm, ind-CForm, fold-roll-CForm}
+use Rattle.core_terms.specs.declared.trees.CForm.{CForm}
 use Rattle.core_terms.specs.declared.trees.CForm.TheVariants.{AtLeast, Zero, Not, And, Or}
 use Rattle.core_terms.specs.declared.trees.CForm.TheOpen.{CTerm-F, CForm-F}
-use Rattle.core_terms.specs.declared.trees.CForm.TheFolds.{map-CForm, map-CTerm}
 use Rattle.core_terms.specs.Values.{term_step, form_step, term_value, form_value}
-use Rattle.core_terms.specs.Weights.{Weights, weigh_term, weigh_form, term_weights, form_weight}
+use Rattle.core_terms.specs.Weights.{Weights, weigh_term, term_weights}
 use Rattle.core_terms.specs.Folding.{joined, chosen, number_step, truth_step, number_of, truth_of, is_small}
 use Rattle.core_terms.specs.Folding.{constant_or, truth_or, branch_or, folded_term, folded_form, sum_term}
 use Rattle.core_terms.specs.Folding.{difference_term, scaled_term, choice_term, at_least_form, zero_form, not_form}
 use Rattle.core_terms.specs.Folding.{and_form, or_form}
-use Rattle.core_terms.proofs.PartLaws.{value-Const, value-Add, value-Sub, value-Scale, value-Ite, value-Top}
+use Rattle.core_terms.proofs.TreeFolds.{Steps, FormWith, TermWith, form_of, term_of, form_layer, term_layer}
+use Rattle.core_terms.proofs.TreeFolds.{fold_form_at, fold_term_at, FormsHave, TermsHave, each_form, each_term}
+use Rattle.core_terms.proofs.HeavierLaws.{weight_steps}
+use Rattle.core_terms.proofs.PartLaws.{value_steps, value-Const, value-Add, value-Sub, value-Scale, value-Ite, value-Top}
 use Rattle.core_terms.proofs.PartLaws.{value-Bottom, value-AtLeast, value-Zero, value-Not, value-And, value-Or}
+
+-- the steps of what is known
+abbrev pub known_steps : Steps (Option Bool) (Option ℤ)
+known_steps = record { form = truth_step; term = number_step }
 
 -- a number, where there is one, is the value, and lies within the weight
 abbrev pub Right : Option ℤ → ℤ → ℕ → Type 0
@@ -91,59 +97,53 @@ module _ (s p : List ℤ) (slots params : ℕ → ℕ) where
   abbrev pub TermRight : CTerm → Type 0
   TermRight t = Right (number_of t) (term_value s p t) (term_weights slots params t).own
 
-  abbrev RightForm : Type 0
-  RightForm = (f : CForm) × FormRight f
+  abbrev RightForms : Type 0
+  RightForms = CForm-F (FormWith FormRight TermRight) (TermWith FormRight TermRight)
 
-  abbrev RightTerm : Type 0
-  RightTerm = (t : CTerm) × TermRight t
+  abbrev RightTerms : Type 0
+  RightTerms = CTerm-F (FormWith FormRight TermRight) (TermWith FormRight TermRight)
 
-  rolled_form : (x : CForm-F CForm CTerm) →
-      True (truth_step (map-CForm CForm CTerm (Option Bool) (Option ℤ) truth_of number_of x))
-      (form_step (map-CForm CForm CTerm Bool ℤ (form_value s p) (term_value s p) x)) → FormRight (roll-CForm x)
-  rolled_form x h =
-      true_along _ _ _ _ (fold-roll-CForm (Option Bool) (Option ℤ) truth_step number_step x)
-      (fold-roll-CForm Bool ℤ form_step (term_step s p) x) h
+  abbrev parts : RightForms → CForm-F CForm CTerm
+  parts y = form_of FormRight TermRight y
 
-  rolled_term : (x : CTerm-F CForm CTerm) →
-      Right (number_step (map-CTerm CForm CTerm (Option Bool) (Option ℤ) truth_of number_of x))
-      (term_step s p (map-CTerm CForm CTerm Bool ℤ (form_value s p) (term_value s p) x))
-      (weigh_term slots params (map-CTerm CForm CTerm ℕ Weights (form_weight slots params) (term_weights slots params)
-      x)).own →
-      TermRight (roll-CTerm x)
-  rolled_term x h =
-      right_along _ _ _ _ _ _ (fold-roll-CTerm (Option Bool) (Option ℤ) truth_step number_step x)
-      (fold-roll-CTerm Bool ℤ form_step (term_step s p) x)
-      (ap (λ (w : Weights). w.own) (fold-roll-CTerm ℕ Weights weigh_form (weigh_term slots params) x)) h
+  abbrev term_parts : RightTerms → CTerm-F CForm CTerm
+  term_parts y = term_of FormRight TermRight y
 
-  form_layer : (y : CForm-F RightForm RightTerm) → FormRight
-      (roll-CForm (map-CForm RightForm RightTerm CForm CTerm (λ e. e.0) (λ e. e.0) y))
-  form_layer CForm-F.Top = rolled_form CForm-F.Top refl
-  form_layer CForm-F.Bottom = rolled_form CForm-F.Bottom refl
-  form_layer (CForm-F.AtLeast t) = rolled_form (CForm-F.AtLeast t.0) (true_tested (λ z. int_le (pos 0) z) _ _ _ t.1)
-  form_layer (CForm-F.Zero t) = rolled_form (CForm-F.Zero t.0) (true_tested (λ z. int_eq z (pos 0)) _ _ _ t.1)
-  form_layer (CForm-F.Not f) = rolled_form (CForm-F.Not f.0) (true_not _ _ f.1)
-  form_layer (CForm-F.And f g) = rolled_form (CForm-F.And f.0 g.0) (true_joined (λ x y. x && y) _ _ _ _ f.1 g.1)
-  form_layer (CForm-F.Or f g) = rolled_form (CForm-F.Or f.0 g.0) (true_joined (λ x y. x || y) _ _ _ _ f.1 g.1)
+  form_keeps : (y : RightForms) → True (truth_step (form_layer known_steps (parts y)))
+      (form_step (form_layer (value_steps s p) (parts y)))
+  form_keeps CForm-F.Top = refl
+  form_keeps CForm-F.Bottom = refl
+  form_keeps (CForm-F.AtLeast t) = true_tested (λ z. int_le (pos 0) z) _ _ _ t.1
+  form_keeps (CForm-F.Zero t) = true_tested (λ z. int_eq z (pos 0)) _ _ _ t.1
+  form_keeps (CForm-F.Not f) = true_not _ _ f.1
+  form_keeps (CForm-F.And f g) = true_joined (λ x y. x && y) _ _ _ _ f.1 g.1
+  form_keeps (CForm-F.Or f g) = true_joined (λ x y. x || y) _ _ _ _ f.1 g.1
 
-  term_layer : (y : CTerm-F RightForm RightTerm) → TermRight
-      (roll-CTerm (map-CTerm RightForm RightTerm CForm CTerm (λ e. e.0) (λ e. e.0) y))
-  term_layer (CTerm-F.Const c) = rolled_term (CTerm-F.Const c) (refl, omega arith)
-  term_layer (CTerm-F.Slot n) = rolled_term (CTerm-F.Slot n) tt
-  term_layer (CTerm-F.Param n) = rolled_term (CTerm-F.Param n) tt
-  term_layer (CTerm-F.Add a b) = rolled_term (CTerm-F.Add a.0 b.0) (right_sum _ _ _ _ _ _ a.1 b.1)
-  term_layer (CTerm-F.Sub a b) = rolled_term (CTerm-F.Sub a.0 b.0) (right_difference _ _ _ _ _ _ a.1 b.1)
-  term_layer (CTerm-F.Scale k a) = rolled_term (CTerm-F.Scale k a.0) (right_scaled k _ _ _ a.1)
-  term_layer (CTerm-F.Ite c a b) = rolled_term (CTerm-F.Ite c.0 a.0 b.0) (right_chosen _ _ _ _ _ _ _ _ c.1 a.1 b.1)
+  term_keeps : (y : RightTerms) → Right (number_step (term_layer known_steps (term_parts y)))
+      (term_step s p (term_layer (value_steps s p) (term_parts y)))
+      (weigh_term slots params (term_layer (weight_steps slots params) (term_parts y))).own
+  term_keeps (CTerm-F.Const c) = (refl, omega arith)
+  term_keeps (CTerm-F.Slot n) = tt
+  term_keeps (CTerm-F.Param n) = tt
+  term_keeps (CTerm-F.Add a b) = right_sum _ _ _ _ _ _ a.1 b.1
+  term_keeps (CTerm-F.Sub a b) = right_difference _ _ _ _ _ _ a.1 b.1
+  term_keeps (CTerm-F.Scale k a) = right_scaled k _ _ _ a.1
+  term_keeps (CTerm-F.Ite c a b) = right_chosen _ _ _ _ _ _ _ _ c.1 a.1 b.1
+
+  form_node : FormsHave FormRight TermRight
+  form_node y =
+      true_along _ _ _ _ (fold_form_at known_steps (parts y)) (fold_form_at (value_steps s p) (parts y)) (form_keeps y)
+
+  term_node : TermsHave FormRight TermRight
+  term_node y =
+      right_along _ _ _ _ _ _ (fold_term_at known_steps (term_parts y)) (fold_term_at (value_steps s p) (term_parts y))
+      (ap (λ (w : Weights). w.own) (fold_term_at (weight_steps slots params) (term_parts y))) (term_keeps y)
 
   pub form_right : (f : CForm) → FormRight f
-  form_right f =
-      ind-CForm FormRight TermRight (λ x y e. subst (λ z. FormRight (roll-CForm z)) e (form_layer y))
-      (λ x y e. subst (λ z. TermRight (roll-CTerm z)) e (term_layer y)) f
+  form_right f = each_form FormRight TermRight form_node term_node f
 
   pub term_right : (t : CTerm) → TermRight t
-  term_right t =
-      ind-CTerm FormRight TermRight (λ x y e. subst (λ z. FormRight (roll-CForm z)) e (form_layer y))
-      (λ x y e. subst (λ z. TermRight (roll-CTerm z)) e (term_layer y)) t
+  term_right t = each_term FormRight TermRight form_node term_node t
 
 -- where weights do not matter
 abbrev none : ℕ → ℕ

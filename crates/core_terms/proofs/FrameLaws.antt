@@ -1,15 +1,18 @@
 -- The value of a formula depends on no parameter that it does not name.
-use Rattle.std.proofs.Common.{◌≡◌, ℕ, ℤ, pos, ◌+ℤ◌, ◌-ℤ◌, ◌*ℤ◌, List, Bool, cond, not, ◌&&◌, ◌||◌, IsTrue, sym, ap, ◌∙◌}
-use Rattle.std.proofs.Common.{subst}
-use Rattle.std.specs.Int.RustNames.{int_le}
-use Rattle.state_steps.specs.State.{int_eq}
-use Rattle.core_terms.specs.declared.trees.CTerm.{CTerm, roll-CTerm, ind-CTerm, fold-roll-CTerm}
-use Rattle.core_terms.specs.declared.trees.CForm.{CForm, roll-CForm, ind-CForm, fold-roll-CForm}
+use Rattle.std.proofs.Common.{◌≡◌, ℕ, ℤ, List, Bool, ◌||◌, IsTrue, refl, sym, ap, ◌∙◌}
+use Rattle.core_terms.specs.declared.trees.CTerm.{CTerm}
+use Rattle.core_terms.specs.declared.trees.CForm.{CForm}
 use Rattle.core_terms.specs.declared.trees.CForm.TheOpen.{CTerm-F, CForm-F}
-use Rattle.core_terms.specs.declared.trees.CForm.TheFolds.{map-CForm, map-CTerm}
 use Rattle.core_terms.specs.Values.{number_at, term_step, form_step, term_value, form_value}
 use Rattle.core_terms.specs.Places.{param_step, some_part, names_param, term_names_param}
 use Rattle.core_terms.proofs.BoolLaws.{or_first, or_second, self_equal}
+use Rattle.core_terms.proofs.TreeFolds.{Steps, FormWith, TermWith, form_of, term_of, form_layer, term_layer}
+use Rattle.core_terms.proofs.TreeFolds.{fold_form_at, fold_term_at, FormsHave, TermsHave, each_form, each_term}
+use Rattle.core_terms.proofs.PartLaws.{value_steps}
+
+-- the steps of whether a parameter is named
+abbrev name_steps : ℕ → Steps Bool Bool
+name_steps n = record { form = some_part; term = param_step n }
 
 module _ (s d e : List ℤ) where
   -- the numbers of all parameters that a test picks are the same
@@ -22,97 +25,67 @@ module _ (s d e : List ℤ) where
   abbrev TermSame : CTerm → Type 0
   TermSame t = Agree (λ n. term_names_param n t) → term_value s d t ≡ term_value s e t
 
-  abbrev SameForm : Type 0
-  SameForm = (f : CForm) × FormSame f
+  first : (named others : ℕ → Bool) → Agree (λ n. named n || others n) → Agree named
+  first named others h n k = h n (or_first (named n) (others n) k)
 
-  abbrev SameTerm : Type 0
-  SameTerm = (t : CTerm) × TermSame t
+  second : (named others : ℕ → Bool) → Agree (λ n. named n || others n) → Agree others
+  second named others h n k = h n (or_second (named n) (others n) k)
 
-  from : (a : List ℤ) (x : CForm-F CForm CTerm) → form_value s a (roll-CForm x) ≡ form_step
-      (map-CForm CForm CTerm Bool ℤ (form_value s a) (term_value s a) x)
-  from a x = fold-roll-CForm Bool ℤ form_step (term_step s a) x
+  abbrev SameForms : Type 0
+  SameForms = CForm-F (FormWith FormSame TermSame) (TermWith FormSame TermSame)
 
-  from_term : (a : List ℤ) (x : CTerm-F CForm CTerm) → term_value s a (roll-CTerm x) ≡ term_step s a
-      (map-CTerm CForm CTerm Bool ℤ (form_value s a) (term_value s a) x)
-  from_term a x = fold-roll-CTerm Bool ℤ form_step (term_step s a) x
+  abbrev SameTerms : Type 0
+  SameTerms = CTerm-F (FormWith FormSame TermSame) (TermWith FormSame TermSame)
 
-  names : (n : ℕ) (x : CForm-F CForm CTerm) → names_param n (roll-CForm x) ≡ some_part
-      (map-CForm CForm CTerm Bool Bool (names_param n) (term_names_param n) x)
-  names n x = fold-roll-CForm Bool Bool some_part (param_step n) x
+  abbrev parts : SameForms → CForm-F CForm CTerm
+  parts y = form_of FormSame TermSame y
 
-  names_term : (n : ℕ) (x : CTerm-F CForm CTerm) → term_names_param n (roll-CTerm x) ≡ param_step n
-      (map-CTerm CForm CTerm Bool Bool (names_param n) (term_names_param n) x)
-  names_term n x = fold-roll-CTerm Bool Bool some_part (param_step n) x
+  abbrev term_parts : SameTerms → CTerm-F CForm CTerm
+  term_parts y = term_of FormSame TermSame y
 
-  form_layer : (y : CForm-F SameForm SameTerm) → FormSame (roll-CForm
-      (map-CForm SameForm SameTerm CForm CTerm (λ e. e.0) (λ e. e.0) y))
-  form_layer CForm-F.Top h = from d CForm-F.Top ∙ sym (from e CForm-F.Top)
-  form_layer CForm-F.Bottom h = from d CForm-F.Bottom ∙ sym (from e CForm-F.Bottom)
-  form_layer (CForm-F.AtLeast t) h =
-      from d (CForm-F.AtLeast t.0) ∙ ap (λ z. int_le (pos 0) z) (t.1 (λ n k. h n (names n (CForm-F.AtLeast t.0) ∙ k))) ∙
-      sym (from e (CForm-F.AtLeast t.0))
-  form_layer (CForm-F.Zero t) h =
-      from d (CForm-F.Zero t.0) ∙ ap (λ z. int_eq z (pos 0)) (t.1 (λ n k. h n (names n (CForm-F.Zero t.0) ∙ k))) ∙ sym
-      (from e (CForm-F.Zero t.0))
-  form_layer (CForm-F.Not f) h =
-      from d (CForm-F.Not f.0) ∙ ap not (f.1 (λ n k. h n (names n (CForm-F.Not f.0) ∙ k))) ∙ sym
-      (from e (CForm-F.Not f.0))
-  form_layer (CForm-F.And f g) h =
-      let one = f.1 (λ n k. h n (names n (CForm-F.And f.0 g.0) ∙ or_first (names_param n f.0) (names_param n g.0) k)) in
-      let two = g.1 (λ n k. h n (names n (CForm-F.And f.0 g.0) ∙ or_second (names_param n f.0) (names_param n g.0) k))
-      in
-      from d (CForm-F.And f.0 g.0) ∙ ap (λ b. b && form_value s d g.0) one ∙ ap (λ b. form_value s e f.0 && b) two ∙ sym
-      (from e (CForm-F.And f.0 g.0))
-  form_layer (CForm-F.Or f g) h =
-      let one = f.1 (λ n k. h n (names n (CForm-F.Or f.0 g.0) ∙ or_first (names_param n f.0) (names_param n g.0) k)) in
-      let two = g.1 (λ n k. h n (names n (CForm-F.Or f.0 g.0) ∙ or_second (names_param n f.0) (names_param n g.0) k)) in
-      from d (CForm-F.Or f.0 g.0) ∙ ap (λ b. b || form_value s d g.0) one ∙ ap (λ b. form_value s e f.0 || b) two ∙ sym
-      (from e (CForm-F.Or f.0 g.0))
+  -- numbers that agree on the parameters of a node give its parts the same values
+  form_same : (y : SameForms) → Agree (λ n. some_part (form_layer (name_steps n) (parts y))) →
+      form_step (form_layer (value_steps s d) (parts y)) ≡ form_step (form_layer (value_steps s e) (parts y))
+  form_same CForm-F.Top h = refl
+  form_same CForm-F.Bottom h = refl
+  form_same (CForm-F.AtLeast t) h = ap (λ z. form_step (CForm-F.AtLeast z)) (t.1 h)
+  form_same (CForm-F.Zero t) h = ap (λ z. form_step (CForm-F.Zero z)) (t.1 h)
+  form_same (CForm-F.Not f) h = ap (λ b. form_step (CForm-F.Not b)) (f.1 h)
+  form_same (CForm-F.And f g) h =
+      λ i. form_step (CForm-F.And (f.1 (first _ _ h) i) (g.1 (second (λ n. names_param n f.0) _ h) i))
+  form_same (CForm-F.Or f g) h =
+      λ i. form_step (CForm-F.Or (f.1 (first _ _ h) i) (g.1 (second (λ n. names_param n f.0) _ h) i))
 
-  term_layer : (y : CTerm-F SameForm SameTerm) → TermSame (roll-CTerm
-      (map-CTerm SameForm SameTerm CForm CTerm (λ e. e.0) (λ e. e.0) y))
-  term_layer (CTerm-F.Const c) h = from_term d (CTerm-F.Const c) ∙ sym (from_term e (CTerm-F.Const c))
-  term_layer (CTerm-F.Slot n) h = from_term d (CTerm-F.Slot n) ∙ sym (from_term e (CTerm-F.Slot n))
-  term_layer (CTerm-F.Param n) h =
-      from_term d (CTerm-F.Param n) ∙ h n (names_term n (CTerm-F.Param n) ∙ self_equal n) ∙ sym
-      (from_term e (CTerm-F.Param n))
-  term_layer (CTerm-F.Add a b) h =
-      let one = a.1 (λ n k. h n (names_term n (CTerm-F.Add a.0 b.0) ∙ or_first (term_names_param n a.0)
-      (term_names_param n b.0) k)) in
-      let two = b.1 (λ n k. h n (names_term n (CTerm-F.Add a.0 b.0) ∙ or_second (term_names_param n a.0)
-      (term_names_param n b.0) k)) in
-      from_term d (CTerm-F.Add a.0 b.0) ∙ ap (λ z. z +ℤ term_value s d b.0) one ∙ ap (λ z. term_value s e a.0 +ℤ z) two
-      ∙ sym (from_term e (CTerm-F.Add a.0 b.0))
-  term_layer (CTerm-F.Sub a b) h =
-      let one = a.1 (λ n k. h n (names_term n (CTerm-F.Sub a.0 b.0) ∙ or_first (term_names_param n a.0)
-      (term_names_param n b.0) k)) in
-      let two = b.1 (λ n k. h n (names_term n (CTerm-F.Sub a.0 b.0) ∙ or_second (term_names_param n a.0)
-      (term_names_param n b.0) k)) in
-      from_term d (CTerm-F.Sub a.0 b.0) ∙ ap (λ z. z -ℤ term_value s d b.0) one ∙ ap (λ z. term_value s e a.0 -ℤ z) two
-      ∙ sym (from_term e (CTerm-F.Sub a.0 b.0))
-  term_layer (CTerm-F.Scale k a) h =
-      from_term d (CTerm-F.Scale k a.0) ∙ ap (λ z. k *ℤ z) (a.1 (λ n t. h n (names_term n (CTerm-F.Scale k a.0) ∙ t))) ∙
-      sym (from_term e (CTerm-F.Scale k a.0))
-  term_layer (CTerm-F.Ite c a b) h =
-      let x : CTerm-F CForm CTerm = CTerm-F.Ite c.0 a.0 b.0 in
-      let condition = c.1 (λ n k. h n (names_term n x ∙ or_first (names_param n c.0)
-      (term_names_param n a.0 || term_names_param n b.0) k)) in
-      let one = a.1 (λ n k. h n (names_term n x ∙ or_second (names_param n c.0)
-      (term_names_param n a.0 || term_names_param n b.0)
-      (or_first (term_names_param n a.0) (term_names_param n b.0) k))) in
-      let two = b.1 (λ n k. h n (names_term n x ∙ or_second (names_param n c.0)
-      (term_names_param n a.0 || term_names_param n b.0)
-      (or_second (term_names_param n a.0) (term_names_param n b.0) k))) in
-      from_term d x ∙ ap (λ v. cond v (term_value s d a.0) (term_value s d b.0)) condition
-      ∙ ap (λ z. cond (form_value s e c.0) z (term_value s d b.0)) one ∙ ap
-      (λ z. cond (form_value s e c.0) (term_value s e a.0) z) two ∙ sym (from_term e x)
+  term_same : (y : SameTerms) → Agree (λ n. param_step n (term_layer (name_steps n) (term_parts y))) →
+      term_step s d (term_layer (value_steps s d) (term_parts y)) ≡
+      term_step s e (term_layer (value_steps s e) (term_parts y))
+  term_same (CTerm-F.Const c) h = refl
+  term_same (CTerm-F.Slot n) h = refl
+  term_same (CTerm-F.Param n) h = h n (self_equal n)
+  term_same (CTerm-F.Add a b) h =
+      λ i. term_step s d (CTerm-F.Add (a.1 (first _ _ h) i) (b.1 (second (λ n. term_names_param n a.0) _ h) i))
+  term_same (CTerm-F.Sub a b) h =
+      λ i. term_step s d (CTerm-F.Sub (a.1 (first _ _ h) i) (b.1 (second (λ n. term_names_param n a.0) _ h) i))
+  term_same (CTerm-F.Scale k a) h = ap (λ z. term_step s d (CTerm-F.Scale k z)) (a.1 h)
+  term_same (CTerm-F.Ite c a b) h =
+      let rest = second (λ n. names_param n c.0) _ h in
+      λ i. term_step s d (CTerm-F.Ite (c.1 (first _ _ h) i) (a.1 (first _ _ rest) i)
+      (b.1 (second (λ n. term_names_param n a.0) _ rest) i))
+
+  form_node : FormsHave FormSame TermSame
+  form_node y h =
+      fold_form_at (value_steps s d) (parts y)
+      ∙ form_same y (λ n k. h n (fold_form_at (name_steps n) (parts y) ∙ k))
+      ∙ sym (fold_form_at (value_steps s e) (parts y))
+
+  term_node : TermsHave FormSame TermSame
+  term_node y h =
+      fold_term_at (value_steps s d) (term_parts y)
+      ∙ term_same y (λ n k. h n (fold_term_at (name_steps n) (term_parts y) ∙ k))
+      ∙ sym (fold_term_at (value_steps s e) (term_parts y))
 
   pub form_frame : (f : CForm) → FormSame f
-  form_frame f =
-      ind-CForm FormSame TermSame (λ x y e. subst (λ z. FormSame (roll-CForm z)) e (form_layer y))
-      (λ x y e. subst (λ z. TermSame (roll-CTerm z)) e (term_layer y)) f
+  form_frame f = each_form FormSame TermSame form_node term_node f
 
   pub term_frame : (t : CTerm) → TermSame t
-  term_frame t =
-      ind-CTerm FormSame TermSame (λ x y e. subst (λ z. FormSame (roll-CForm z)) e (form_layer y))
-      (λ x y e. subst (λ z. TermSame (roll-CTerm z)) e (term_layer y)) t
+  term_frame t = each_term FormSame TermSame form_node term_node t

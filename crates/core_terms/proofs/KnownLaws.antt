@@ -1,29 +1,26 @@
 -- What is known of a tree is still known when it is folded, and is its value.
-use Rattle.std.proofs.Common.{◌≡◌, ◌≤◌, ℤ, List, [], Bool, true, false, cond, Option, Some, None, refl, sym, ap, ◌∙◌}
-use Rattle.std.proofs.Common.{subst}
-use Rattle.core_terms.specs.declared.trees.CTerm.{CTerm, fold-roll-CTerm}
+use Rattle.std.proofs.Common.{◌≡◌, ◌≤◌, ℤ, List, [], Bool, true, false, cond, Option, Some, None, refl, sym, subst}
+use Rattle.core_terms.specs.declared.trees.CTerm.{CTerm}
 use Rattle.core_terms.specs.declared.trees.CTerm.TheVariants.{Const, rolls-Const}
-use Rattle.core_terms.specs.declared.trees.CForm.{CForm, fold-roll-CForm}
+use Rattle.core_terms.specs.declared.trees.CForm.{CForm}
 use Rattle.core_terms.specs.declared.trees.CForm.TheVariants.{Top, Bottom, rolls-Top, rolls-Bottom}
-use Rattle.core_terms.specs.declared.trees.CForm.TheOpen.{CTerm-F, CForm-F}
 use Rattle.core_terms.specs.Values.{term_value, form_value}
 use Rattle.std.specs.Prelude.{MatchOption}
 use Rattle.std.specs.Int.RustNames.{unsigned_abs}
 use Rattle.core_terms.specs.Weights.{one_weight, term_weights, plain_weights}
-use Rattle.core_terms.specs.Folding.{number_step, truth_step, number_of, truth_of, is_small, constant_or, truth_or}
+use Rattle.core_terms.specs.Folding.{number_of, truth_of, is_small, constant_or, truth_or}
 use Rattle.core_terms.specs.Folding.{folded_term, folded_form}
-use Rattle.core_terms.proofs.FoldingLaws.{Right, True, form_right, term_right}
+use Rattle.core_terms.proofs.TreeFolds.{fold_form_is, fold_term_is}
+use Rattle.core_terms.proofs.FoldingLaws.{known_steps, Right, True, form_right, term_right}
 
 number-Const : (z : ℤ) → number_of (Const z) ≡ Some z
-number-Const z = ap number_of (sym (rolls-Const z)) ∙ fold-roll-CTerm (Option Bool) (Option ℤ) truth_step number_step
-    (CTerm-F.Const z)
+number-Const z = fold_term_is known_steps _ _ (rolls-Const z)
 
 truth-Top : truth_of Top ≡ Some true
-truth-Top = ap truth_of (sym rolls-Top) ∙ fold-roll-CForm (Option Bool) (Option ℤ) truth_step number_step CForm-F.Top
+truth-Top = fold_form_is known_steps _ _ rolls-Top
 
 truth-Bottom : truth_of Bottom ≡ Some false
-truth-Bottom = ap truth_of (sym rolls-Bottom) ∙ fold-roll-CForm (Option Bool) (Option ℤ) truth_step number_step
-    CForm-F.Bottom
+truth-Bottom = fold_form_is known_steps _ _ rolls-Bottom
 
 constant_known : (t : CTerm) (m : Option ℤ) → number_of t ≡ m → number_of (constant_or m t) ≡ m
 constant_known t None e = e

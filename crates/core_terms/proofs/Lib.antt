@@ -2,9 +2,11 @@ pub mod BoolLaws
 pub mod CapLaws
 pub mod FoldingLaws
 pub mod FrameLaws
+pub mod HeavierLaws
 pub mod KnownLaws
 pub mod LighterLaws
 pub mod PartLaws
 pub mod ReplacingLaws
 pub mod SameLaws
+pub mod TreeFolds
 pub mod WeightLaws

@@ -1,21 +1,22 @@
 -- A tree with its slots and parameters replaced weighs at most what it does where they weigh as the terms.
-use Rattle.std.proofs.Common.{◌≡◌, ℕ, ◌*◌, ◌≤◌, max, ℤ, Bool, true, false, Option, Some, None, sym, ap, ◌∙◌, subst}
-use Rattle.std.proofs.Common.{arith}
+use Rattle.std.proofs.Common.{◌≡◌, ℕ, ◌*◌, ◌≤◌, max, ℤ, Bool, true, false, Option, Some, None, sym, subst, arith}
 use Rattle.std.proofs.Math.Nat.{mul-le-mul_left}
 use Rattle.std.specs.Int.RustNames.{unsigned_abs}
-use Rattle.core_terms.specs.declared.trees.CTerm.{CTerm, roll-CTerm, ind-CTerm, fold-roll-CTerm}
-use Rattle.core_terms.specs.declared.trees.CTerm.TheVariants.{Add, Sub, Scale, Ite, rolls-Add, rolls-Sub, rolls-Scale}
-use Rattle.core_terms.specs.declared.trees.CTerm.TheVariants.{rolls-Ite}
-use Rattle.core_terms.specs.declared.trees.CForm.{CForm, roll-CForm, ind-CForm, fold-roll-CForm}
+use Rattle.core_terms.specs.declared.trees.CTerm.{CTerm}
+use Rattle.core_terms.specs.declared.trees.CTerm.TheVariants.{Const, Add, Sub, Scale, Ite, rolls-Add, rolls-Sub}
+use Rattle.core_terms.specs.declared.trees.CTerm.TheVariants.{rolls-Scale, rolls-Ite}
+use Rattle.core_terms.specs.declared.trees.CForm.{CForm}
 use Rattle.core_terms.specs.declared.trees.CForm.TheVariants.{AtLeast, Zero, Not, And, Or, rolls-AtLeast, rolls-Zero}
 use Rattle.core_terms.specs.declared.trees.CForm.TheVariants.{rolls-Not, rolls-And, rolls-Or}
 use Rattle.core_terms.specs.declared.trees.CForm.TheOpen.{CTerm-F, CForm-F}
-use Rattle.core_terms.specs.declared.trees.CForm.TheFolds.{map-CForm, map-CTerm}
-use Rattle.core_terms.specs.Weights.{Weights, weigh_term, weigh_form, term_weights, form_weight, sum_weights}
-use Rattle.core_terms.specs.Weights.{multiple_weights, choice_weights}
+use Rattle.core_terms.specs.Weights.{Weights, weighing, term_weights, form_weight, sum_weights, multiple_weights}
+use Rattle.core_terms.specs.Weights.{choice_weights}
 use Rattle.core_terms.specs.Folding.{truth_of, branch_or, sum_term, difference_term, scaled_term, choice_term}
 use Rattle.core_terms.specs.Folding.{at_least_form, zero_form, not_form, and_form, or_form}
-use Rattle.core_terms.specs.Replacing.{replace_term, replace_form, term_with, form_with}
+use Rattle.core_terms.specs.Replacing.{term_with, form_with}
+use Rattle.core_terms.proofs.TreeFolds.{fold_form_is, fold_term_is, FormsKeep, TermsKeep, forms_related, terms_related}
+use Rattle.core_terms.proofs.HeavierLaws.{weight_steps}
+use Rattle.core_terms.proofs.ReplacingLaws.{replace_steps}
 use Rattle.core_terms.proofs.WeightLaws.{Lighter, own_within, folded_lighter, folded_form_lighter, weights-Const}
 use Rattle.core_terms.proofs.WeightLaws.{weight-Top, weight-Bottom}
 
@@ -27,40 +28,35 @@ module _ (slots params : ℕ → ℕ) where
   V f = form_weight slots params f
 
   pub weights-Add : (a b : CTerm) → W (Add a b) ≡ sum_weights (W a) (W b)
-  weights-Add a b = ap W (sym (rolls-Add a b)) ∙ fold-roll-CTerm ℕ Weights weigh_form (weigh_term slots params)
-      (CTerm-F.Add a b)
+  weights-Add a b = fold_term_is (weight_steps slots params) _ _ (rolls-Add a b)
 
   pub weights-Sub : (a b : CTerm) → W (Sub a b) ≡ sum_weights (W a) (W b)
-  weights-Sub a b = ap W (sym (rolls-Sub a b)) ∙ fold-roll-CTerm ℕ Weights weigh_form (weigh_term slots params)
-      (CTerm-F.Sub a b)
+  weights-Sub a b = fold_term_is (weight_steps slots params) _ _ (rolls-Sub a b)
 
   weights-Scale : (k : ℤ) (a : CTerm) → W (Scale k a) ≡ multiple_weights k (W a)
-  weights-Scale k a = ap W (sym (rolls-Scale k a)) ∙ fold-roll-CTerm ℕ Weights weigh_form (weigh_term slots params)
-      (CTerm-F.Scale k a)
+  weights-Scale k a = fold_term_is (weight_steps slots params) _ _ (rolls-Scale k a)
 
   weights-Ite : (c : CForm) (a b : CTerm) → W (Ite c a b) ≡ choice_weights (V c) (W a) (W b)
-  weights-Ite c a b = ap W (sym (rolls-Ite c a b)) ∙ fold-roll-CTerm ℕ Weights weigh_form (weigh_term slots params)
-      (CTerm-F.Ite c a b)
+  weights-Ite c a b = fold_term_is (weight_steps slots params) _ _ (rolls-Ite c a b)
 
   weight-AtLeast : (t : CTerm) → V (AtLeast t) ≡ (W t).most
-  weight-AtLeast t = ap V (sym (rolls-AtLeast t)) ∙ fold-roll-CForm ℕ Weights weigh_form (weigh_term slots params)
-      (CForm-F.AtLeast t)
+  weight-AtLeast t = fold_form_is (weight_steps slots params) _ _ (rolls-AtLeast t)
 
   weight-Zero : (t : CTerm) → V (Zero t) ≡ (W t).most
-  weight-Zero t = ap V (sym (rolls-Zero t)) ∙ fold-roll-CForm ℕ Weights weigh_form (weigh_term slots params)
-      (CForm-F.Zero t)
+  weight-Zero t = fold_form_is (weight_steps slots params) _ _ (rolls-Zero t)
 
   weight-Not : (f : CForm) → V (Not f) ≡ V f
-  weight-Not f = ap V (sym (rolls-Not f)) ∙ fold-roll-CForm ℕ Weights weigh_form (weigh_term slots params)
-      (CForm-F.Not f)
+  weight-Not f = fold_form_is (weight_steps slots params) _ _ (rolls-Not f)
 
   weight-And : (f g : CForm) → V (And f g) ≡ max (V f) (V g)
-  weight-And f g = ap V (sym (rolls-And f g)) ∙ fold-roll-CForm ℕ Weights weigh_form (weigh_term slots params)
-      (CForm-F.And f g)
+  weight-And f g = fold_form_is (weight_steps slots params) _ _ (rolls-And f g)
 
   weight-Or : (f g : CForm) → V (Or f g) ≡ max (V f) (V g)
-  weight-Or f g = ap V (sym (rolls-Or f g)) ∙ fold-roll-CForm ℕ Weights weigh_form (weigh_term slots params)
-      (CForm-F.Or f g)
+  weight-Or f g = fold_form_is (weight_steps slots params) _ _ (rolls-Or f g)
+
+  constant_lighter : (c : ℤ) → Lighter (W (Const c)) (weighing (unsigned_abs c) 0)
+  constant_lighter c = subst (λ w. Lighter w (weighing (unsigned_abs c) 0)) (sym (weights-Const slots params c))
+      (omega arith, omega arith)
 
   -- what each constructor makes weighs at most what bounds of its parts give
   sum_lighter : (a b : CTerm) (v w : Weights) → Lighter (W a) v → Lighter (W b) w → Lighter (W (sum_term a b))
@@ -115,82 +111,40 @@ module _ (slots params : ℕ → ℕ) where
 module _ (slots params after numbers : ℕ → ℕ) (terms names : ℕ → CTerm)
     (slot_is : (n : ℕ) → (term_weights slots params (terms n)).most ≤ after n)
     (param_is : (n : ℕ) → (term_weights slots params (names n)).most ≤ numbers n) where
-  abbrev FormLess : CForm → Type 0
-  FormLess f = form_weight slots params (form_with terms names f) ≤ form_weight after numbers f
+  -- a replaced tree weighs at most so much
+  abbrev FormLess : CForm → ℕ → Type 0
+  FormLess f n = form_weight slots params f ≤ n
 
-  abbrev TermLess : CTerm → Type 0
-  TermLess t = Lighter (term_weights slots params (term_with terms names t)) (term_weights after numbers t)
+  abbrev TermLess : CTerm → Weights → Type 0
+  TermLess t w = Lighter (term_weights slots params t) w
 
-  abbrev LessForm : Type 0
-  LessForm = (f : CForm) × FormLess f
+  -- also one that is put for a slot or a parameter
+  place_less : (t : CTerm) (n : ℕ) → (term_weights slots params t).most ≤ n → TermLess t (weighing n 0)
+  place_less t n h = (omega (arith, h, own_within slots params t), omega (arith, h))
 
-  abbrev LessTerm : Type 0
-  LessTerm = (t : CTerm) × TermLess t
+  form_less : FormsKeep (replace_steps terms names) (weight_steps after numbers) FormLess TermLess
+  form_less CForm-F.Top = omega (arith, weight-Top slots params)
+  form_less CForm-F.Bottom = omega (arith, weight-Bottom slots params)
+  form_less (CForm-F.AtLeast t) = at_least_lighter slots params _ _ t.1.1
+  form_less (CForm-F.Zero t) = zero_lighter slots params _ _ t.1.1
+  form_less (CForm-F.Not f) = not_lighter slots params _ _ f.1
+  form_less (CForm-F.And f g) = and_lighter slots params _ _ _ _ f.1 g.1
+  form_less (CForm-F.Or f g) = or_lighter slots params _ _ _ _ f.1 g.1
 
-  rolled_form : (x : CForm-F CForm CTerm) →
-      form_weight slots params (replace_form (map-CForm CForm CTerm CForm CTerm (form_with terms names)
-      (term_with terms names) x)) ≤
-      weigh_form (map-CForm CForm CTerm ℕ Weights (form_weight after numbers) (term_weights after numbers) x) → FormLess
-      (roll-CForm x)
-  rolled_form x h =
-      subst (λ n. form_weight slots params (form_with terms names (roll-CForm x)) ≤ n)
-      (sym (fold-roll-CForm ℕ Weights weigh_form (weigh_term after numbers) x))
-      (subst (λ g. form_weight slots params g ≤ weigh_form (map-CForm CForm CTerm ℕ Weights (form_weight after numbers)
-      (term_weights after numbers) x))
-      (sym (fold-roll-CForm CForm CTerm replace_form (replace_term terms names) x)) h)
+  term_less : TermsKeep (replace_steps terms names) (weight_steps after numbers) FormLess TermLess
+  term_less (CTerm-F.Const c) = constant_lighter slots params c
+  term_less (CTerm-F.Slot n) = place_less (terms n) (after n) (slot_is n)
+  term_less (CTerm-F.Param n) = place_less (names n) (numbers n) (param_is n)
+  term_less (CTerm-F.Add a b) = sum_lighter slots params _ _ _ _ a.1 b.1
+  term_less (CTerm-F.Sub a b) = difference_lighter slots params _ _ _ _ a.1 b.1
+  term_less (CTerm-F.Scale k a) = multiple_lighter slots params k _ _ a.1
+  term_less (CTerm-F.Ite c a b) = choice_lighter slots params _ _ _ _ _ _ c.1 a.1 b.1
 
-  rolled_term : (x : CTerm-F CForm CTerm) →
-      Lighter (term_weights slots params (replace_term terms names
-      (map-CTerm CForm CTerm CForm CTerm (form_with terms names) (term_with terms names) x)))
-      (weigh_term after numbers (map-CTerm CForm CTerm ℕ Weights (form_weight after numbers)
-      (term_weights after numbers) x)) → TermLess (roll-CTerm x)
-  rolled_term x h =
-      subst (λ w. Lighter (term_weights slots params (term_with terms names (roll-CTerm x))) w)
-      (sym (fold-roll-CTerm ℕ Weights weigh_form (weigh_term after numbers) x))
-      (subst (λ u. Lighter (term_weights slots params u) (weigh_term after numbers
-      (map-CTerm CForm CTerm ℕ Weights (form_weight after numbers) (term_weights after numbers) x)))
-      (sym (fold-roll-CTerm CForm CTerm replace_form (replace_term terms names) x)) h)
-
-  form_layer : (y : CForm-F LessForm LessTerm) → FormLess (roll-CForm
-      (map-CForm LessForm LessTerm CForm CTerm (λ e. e.0) (λ e. e.0) y))
-  form_layer CForm-F.Top = rolled_form CForm-F.Top (omega (arith, weight-Top slots params))
-  form_layer CForm-F.Bottom = rolled_form CForm-F.Bottom (omega (arith, weight-Bottom slots params))
-  form_layer (CForm-F.AtLeast t) = rolled_form (CForm-F.AtLeast t.0) (at_least_lighter slots params _ _ t.1.1)
-  form_layer (CForm-F.Zero t) = rolled_form (CForm-F.Zero t.0) (zero_lighter slots params _ _ t.1.1)
-  form_layer (CForm-F.Not f) = rolled_form (CForm-F.Not f.0) (not_lighter slots params _ _ f.1)
-  form_layer (CForm-F.And f g) = rolled_form (CForm-F.And f.0 g.0) (and_lighter slots params _ _ _ _ f.1 g.1)
-  form_layer (CForm-F.Or f g) = rolled_form (CForm-F.Or f.0 g.0) (or_lighter slots params _ _ _ _ f.1 g.1)
-
-  term_layer : (y : CTerm-F LessForm LessTerm) → TermLess (roll-CTerm
-      (map-CTerm LessForm LessTerm CForm CTerm (λ e. e.0) (λ e. e.0) y))
-  term_layer (CTerm-F.Const c) =
-      rolled_term (CTerm-F.Const c)
-      (subst (λ w. Lighter w (weigh_term after numbers (CTerm-F.Const c))) (sym (weights-Const slots params c))
-      (omega arith, omega arith))
-  term_layer (CTerm-F.Slot n) =
-      rolled_term (CTerm-F.Slot n) (
-        omega (arith, slot_is n, own_within slots params (terms n)),
-        omega
-            (arith, slot_is n),
-      )
-  term_layer (CTerm-F.Param n) =
-      rolled_term (CTerm-F.Param n) (
-        omega (arith, param_is n, own_within slots params (names n)),
-        omega
-            (arith, param_is n),
-      )
-  term_layer (CTerm-F.Add a b) = rolled_term (CTerm-F.Add a.0 b.0) (sum_lighter slots params _ _ _ _ a.1 b.1)
-  term_layer (CTerm-F.Sub a b) = rolled_term (CTerm-F.Sub a.0 b.0) (difference_lighter slots params _ _ _ _ a.1 b.1)
-  term_layer (CTerm-F.Scale k a) = rolled_term (CTerm-F.Scale k a.0) (multiple_lighter slots params k _ _ a.1)
-  term_layer (CTerm-F.Ite c a b) = rolled_term (CTerm-F.Ite c.0 a.0 b.0)
-      (choice_lighter slots params _ _ _ _ _ _ c.1 a.1 b.1)
-
-  pub form_lighter : (f : CForm) → FormLess f
+  pub form_lighter : (f : CForm) → form_weight slots params (form_with terms names f) ≤ form_weight after numbers f
   form_lighter f =
-      ind-CForm FormLess TermLess (λ x y e. subst (λ z. FormLess (roll-CForm z)) e (form_layer y))
-      (λ x y e. subst (λ z. TermLess (roll-CTerm z)) e (term_layer y)) f
+      forms_related (replace_steps terms names) (weight_steps after numbers) FormLess TermLess form_less term_less f
 
-  pub term_lighter : (t : CTerm) → TermLess t
+  pub term_lighter : (t : CTerm) → Lighter (term_weights slots params (term_with terms names t))
+      (term_weights after numbers t)
   term_lighter t =
-      ind-CTerm FormLess TermLess (λ x y e. subst (λ z. FormLess (roll-CForm z)) e (form_layer y))
-      (λ x y e. subst (λ z. TermLess (roll-CTerm z)) e (term_layer y)) t
+      terms_related (replace_steps terms names) (weight_steps after numbers) FormLess TermLess form_less term_less t

@@ -1,16 +1,17 @@
 -- Folding raises no weight.
-use Rattle.std.proofs.Common.{◌≡◌, ℕ, ◌≤◌, ℤ, [], Bool, true, false, cond, Option, Some, None, sym, ap, ◌∙◌, subst}
+use Rattle.std.proofs.Common.{◌≡◌, ℕ, ◌≤◌, ℤ, [], Bool, true, false, cond, Option, Some, None, sym, subst}
 use Rattle.std.proofs.Common.{arith}
 use Rattle.std.specs.Int.RustNames.{unsigned_abs}
-use Rattle.core_terms.specs.declared.trees.CTerm.{CTerm, out-CTerm, fold-roll-CTerm, fold_out-CTerm}
+use Rattle.core_terms.specs.declared.trees.CTerm.{CTerm, out-CTerm, fold_out-CTerm}
 use Rattle.core_terms.specs.declared.trees.CTerm.TheVariants.{Const, rolls-Const}
-use Rattle.core_terms.specs.declared.trees.CForm.{CForm, fold-roll-CForm}
+use Rattle.core_terms.specs.declared.trees.CForm.{CForm}
 use Rattle.core_terms.specs.declared.trees.CForm.TheVariants.{Top, Bottom, rolls-Top, rolls-Bottom}
-use Rattle.core_terms.specs.declared.trees.CForm.TheOpen.{CTerm-F, CForm-F}
-use Rattle.core_terms.specs.declared.trees.CForm.TheFolds.{map-CTerm}
+use Rattle.core_terms.specs.declared.trees.CForm.TheOpen.{CTerm-F}
 use Rattle.core_terms.specs.Weights.{Weights, weighing, weigh_term, weigh_form, term_weights, form_weight, one_weight}
 use Rattle.core_terms.specs.Weights.{plain_weights, plain_weight}
 use Rattle.core_terms.specs.Folding.{number_of, truth_of, is_small, constant_or, truth_or, folded_term, folded_form}
+use Rattle.core_terms.proofs.TreeFolds.{term_layer, fold_form_is, fold_term_is}
+use Rattle.core_terms.proofs.HeavierLaws.{weight_steps}
 use Rattle.core_terms.proofs.FoldingLaws.{Right, term_right}
 
 layer_within : (slots params : ℕ → ℕ) (x : CTerm-F ℕ Weights) → (weigh_term slots params x).own ≤
@@ -28,20 +29,16 @@ pub own_within : (slots params : ℕ → ℕ) (t : CTerm) → (term_weights slot
     (term_weights slots params t).most
 own_within slots params t =
     subst (λ (w : Weights). w.own ≤ w.most) (sym (fold_out-CTerm ℕ Weights weigh_form (weigh_term slots params) t))
-    (layer_within slots params (map-CTerm CForm CTerm ℕ Weights (form_weight slots params) (term_weights slots params)
-    (out-CTerm t)))
+    (layer_within slots params (term_layer (weight_steps slots params) (out-CTerm t)))
 
 pub weights-Const : (slots params : ℕ → ℕ) (z : ℤ) → term_weights slots params (Const z) ≡ weighing (unsigned_abs z) 0
-weights-Const slots params z = ap (term_weights slots params) (sym (rolls-Const z)) ∙ fold-roll-CTerm ℕ Weights
-    weigh_form (weigh_term slots params) (CTerm-F.Const z)
+weights-Const slots params z = fold_term_is (weight_steps slots params) _ _ (rolls-Const z)
 
 pub weight-Top : (slots params : ℕ → ℕ) → form_weight slots params Top ≡ 0
-weight-Top slots params = ap (form_weight slots params) (sym rolls-Top) ∙ fold-roll-CForm ℕ Weights weigh_form
-    (weigh_term slots params) CForm-F.Top
+weight-Top slots params = fold_form_is (weight_steps slots params) _ _ rolls-Top
 
 pub weight-Bottom : (slots params : ℕ → ℕ) → form_weight slots params Bottom ≡ 0
-weight-Bottom slots params = ap (form_weight slots params) (sym rolls-Bottom) ∙ fold-roll-CForm ℕ Weights weigh_form
-    (weigh_term slots params) CForm-F.Bottom
+weight-Bottom slots params = fold_form_is (weight_steps slots params) _ _ rolls-Bottom
 
 -- one term weighs at most as another, itself and with its parts
 abbrev pub Lighter : Weights → Weights → Type 0

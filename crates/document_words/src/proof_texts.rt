@@ -62,48 +62,25 @@ fn add_term<'a>(t: &'a Term, words: &mut Gathered<'a>) -> Result<(), AllocError>
     ensures { OnOk result (seen_keys words.new ≡ with_texts (seen_keys words.old) (texts_of.term_texts t.now)) }
 {
     match t {
-        Term::Imply { at: _, p: _, q: _ } => Ok(()),
-        Term::From { at: _, of } => add_ref(of, words),
-        Term::Pair {
-            at: _,
-            which: _,
-            first,
-            second,
-        } => {
+        Term::Imply { .. } => Ok(()),
+        Term::From { of, .. } => add_ref(of, words),
+        Term::Pair { first, second, .. } => {
             add_term(first.get(), words)?;
             add_term(second.get(), words)
         }
-        Term::Exists {
-            at: _,
-            name,
-            range: _,
-            of,
-        } => {
+        Term::Exists { name, of, .. } => {
             add_name(name, words)?;
             add_term(of.get(), words)
         }
-        Term::Induct {
-            at: _,
-            name,
-            range: _,
-            measure: _,
-            p: _,
-            q: _,
-            of,
-        } => {
+        Term::Induct { name, of, .. } => {
             add_name(name, words)?;
             add_term(of.get(), words)
         }
-        Term::Psp { at: _, of, by } => {
+        Term::Psp { of, by, .. } => {
             add_term(of.get(), words)?;
             add_ref(by, words)
         }
-        Term::Weaken {
-            at: _,
-            p: _,
-            q: _,
-            of,
-        } => add_term(of.get(), words),
+        Term::Weaken { of, .. } => add_term(of.get(), words),
     }
 }
 

@@ -88,43 +88,31 @@ pub fn unwritten(e: &Expr, env: &Env) -> Option<Count>
     ensures { Tells result (spec.unwritten_count e.now (bound_names env.now)) }
 {
     match e {
-        Expr::Implies { at: _, left, right } => {
+        Expr::Implies { left, right, .. } => {
             joined(unwritten(left.get(), env), unwritten(right.get(), env))
         }
-        Expr::And { at: _, first, rest } => parts(unwritten(first.get(), env), rest, env),
-        Expr::Or { at: _, first, rest } => parts(unwritten(first.get(), env), rest, env),
-        Expr::Not { at: _, of } => unwritten(of.get(), env),
-        Expr::Compare {
-            at: _,
-            left,
-            relation: _,
-            right,
-        } => joined(unwritten(left.get(), env), unwritten(right.get(), env)),
-        Expr::Sum {
-            at: _,
-            minus: _,
-            first,
-            rest,
-        } => terms(unwritten(first.get(), env), rest, env),
-        Expr::Product { at: _, first, rest } => parts(unwritten(first.get(), env), rest, env),
-        Expr::Number { at: _, number: _ } => nothing(),
-        Expr::True { at: _ } => nothing(),
-        Expr::False { at: _ } => nothing(),
-        Expr::Word {
-            at: _,
-            name: _,
-            index,
-        } => match index {
+        Expr::And { first, rest, .. } => parts(unwritten(first.get(), env), rest, env),
+        Expr::Or { first, rest, .. } => parts(unwritten(first.get(), env), rest, env),
+        Expr::Not { of, .. } => unwritten(of.get(), env),
+        Expr::Compare { left, right, .. } => joined(
+            unwritten(left.get(), env),
+            unwritten(right.get(), env),
+        ),
+        Expr::Sum { first, rest, .. } => terms(unwritten(first.get(), env), rest, env),
+        Expr::Product { first, rest, .. } => parts(unwritten(first.get(), env), rest, env),
+        Expr::Number { .. } => nothing(),
+        Expr::True { .. } => nothing(),
+        Expr::False { .. } => nothing(),
+        Expr::Word { index, .. } => match index {
             None => nothing(),
             Some(index) => unwritten(index.get(), env),
         },
-        Expr::Brackets { at: _, of } => unwritten(of.get(), env),
+        Expr::Brackets { of, .. } => unwritten(of.get(), env),
         Expr::Quantified {
-            at: _,
-            which: _,
             name,
             range,
             of,
+            ..
         } => quantified(name, range, of.get(), env),
     }
 }

@@ -1,3 +1,4 @@
 pub mod TableLaws
 pub mod LayoutLaws
 pub mod StartLaws
+pub mod PairRules

@@ -118,14 +118,26 @@ abbrev pub text_rule : Texts → Bounds → Params → Option Inst → CRule
 text_rule words bounds params None = CRule.Text
 text_rule words bounds params (Some helper) = CRule.TextWith (core_helper words bounds params helper)
 
--- a rule of two premises; no other word but these and `cancel` stands there
+-- a rule of two premises: one of the table, or the step of a union
+pub data Joined : Type 0 where
+  Pair : RuleName → Joined
+  Union : Joined
+
+-- no other word but these and `cancel` stands there
+abbrev pub rule_of : Word → Joined
+rule_of Word.Conj = Joined.Pair RuleName.Conj
+rule_of Word.Simpleconj = Joined.Pair RuleName.Simpleconj
+rule_of Word.Disj = Joined.Pair RuleName.Disj
+rule_of Word.Simpledisj = Joined.Pair RuleName.Simpledisj
+rule_of Word.Union = Joined.Union
+rule_of _ = Joined.Pair RuleName.Cancel
+
+abbrev pub ruled : Joined → Ref → Ref → CRule
+ruled (Joined.Pair which) r s = CRule.Pair which r s
+ruled Joined.Union r s = CRule.Union r s
+
 abbrev pub pair_rule : Word → Ref → Ref → CRule
-pair_rule Word.Conj r s = CRule.Pair RuleName.Conj r s
-pair_rule Word.Simpleconj r s = CRule.Pair RuleName.Simpleconj r s
-pair_rule Word.Disj r s = CRule.Pair RuleName.Disj r s
-pair_rule Word.Simpledisj r s = CRule.Pair RuleName.Simpledisj r s
-pair_rule Word.Union r s = CRule.Union r s
-pair_rule _ r s = CRule.Pair RuleName.Cancel r s
+pair_rule which r s = ruled (rule_of which) r s
 
 -- schedules
 

@@ -120,45 +120,22 @@ fn add_term_names(t: &Term, words: &WordTable, names: &mut Seq<u32>) -> Result<(
     ensures { OnOk result (names.new ≡ names.old ++ map (word_number words.now) (spec.term_names t.now)) }
 {
     match t {
-        Term::Imply { at: _, p: _, q: _ } => Ok(()),
-        Term::From { at: _, of: _ } => Ok(()),
-        Term::Pair {
-            at: _,
-            which: _,
-            first,
-            second,
-        } => {
+        Term::Imply { .. } => Ok(()),
+        Term::From { .. } => Ok(()),
+        Term::Pair { first, second, .. } => {
             add_term_names(first.get(), words, names)?;
             add_term_names(second.get(), words, names)
         }
-        Term::Exists {
-            at: _,
-            name,
-            range: _,
-            of,
-        } => {
+        Term::Exists { name, of, .. } => {
             names.push(words.number(name))?;
             add_term_names(of.get(), words, names)
         }
-        Term::Induct {
-            at: _,
-            name,
-            range: _,
-            measure: _,
-            p: _,
-            q: _,
-            of,
-        } => {
+        Term::Induct { name, of, .. } => {
             names.push(words.number(name))?;
             add_term_names(of.get(), words, names)
         }
-        Term::Psp { at: _, of, by: _ } => add_term_names(of.get(), words, names),
-        Term::Weaken {
-            at: _,
-            p: _,
-            q: _,
-            of,
-        } => add_term_names(of.get(), words, names),
+        Term::Psp { of, .. } => add_term_names(of.get(), words, names),
+        Term::Weaken { of, .. } => add_term_names(of.get(), words, names),
     }
 }
 

@@ -8,18 +8,18 @@ use Rattle.unity_syntax.specs.Kinds.{Contents, contents}
 use Rattle.unity_syntax.specs.Grammar.{grammar, in_parentheses, make_parentheses, parentheses_}
 use Rattle.token_cursor.proofs.Levels.{shut_by, named_level, named_none}
 
-pub parentheses_level : (n : ℕ) (ts : List Terminal) → 0 < n →
+pub bracket_level : (n : ℕ) (ts : List Terminal) → 0 < n →
     read grammar n (named make_parentheses (in_parentheses Contents.parentheses)) ts
     ≡ (skip (symbol Symbol.OpenParenthesis) ts >>= λ x.
     shut_by (symbol Symbol.CloseParenthesis) (after (make_parentheses (place_of ts))
     (read grammar (n - 1) parentheses_ x.1)))
-parentheses_level n ts h =
+bracket_level n ts h =
     named_level make_parentheses n (symbol Symbol.OpenParenthesis) (contents Contents.parentheses)
     (symbol Symbol.CloseParenthesis) ts h
 
-pub parentheses_none : (n : ℕ) (ts : List Terminal) → n ≡ 0 →
+pub bracket_none : (n : ℕ) (ts : List Terminal) → n ≡ 0 →
     read grammar n (named make_parentheses (in_parentheses Contents.parentheses)) ts
     ≡ (skip (symbol Symbol.OpenParenthesis) ts >>= λ x. Err (TooDeep ts))
-parentheses_none n ts h =
+bracket_none n ts h =
     named_none make_parentheses n (symbol Symbol.OpenParenthesis) (contents Contents.parentheses)
     (symbol Symbol.CloseParenthesis) ts h

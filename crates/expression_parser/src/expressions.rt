@@ -291,7 +291,7 @@ fn word<'a>(alloc: Global, depth: u32, text: Cursor<'a>) -> Parsed<'a, Held<Expr
 }
 
 /// `"[" pred "]"`
-#[tactic(auto, using(token_cursor::proofs::Levels::a_level_left, token_cursor::proofs::Levels::no_level_left))]
+#[tactic(auto, using(token_cursor::proofs::Levels::a_level, token_cursor::proofs::Levels::no_level))]
 #[cycle(expressions)]
 pub fn index<'a>(alloc: Global, depth: u32, text: Cursor<'a>) -> Parsed<'a, Held<Expr>>
     ensures { Reads view_expr result (in_brackets Contents.index) depth text.entry }
@@ -306,7 +306,7 @@ pub fn index<'a>(alloc: Global, depth: u32, text: Cursor<'a>) -> Parsed<'a, Held
 }
 
 /// `"(" pred ")"`, also with a quantifier
-#[tactic(auto, using(crate::proofs::BracketReading::parentheses_level, crate::proofs::BracketReading::parentheses_none))]
+#[tactic(auto, using(crate::proofs::BracketReading::bracket_level, crate::proofs::BracketReading::bracket_none))]
 #[cycle(expressions)]
 fn parentheses<'a>(alloc: Global, depth: u32, text: Cursor<'a>) -> Parsed<'a, Held<Expr>>
     ensures { Reads view_expr result (named make_parentheses (in_parentheses Contents.parentheses)) depth text.entry }

@@ -1,6 +1,6 @@
 -- Readings in a row: what is read before, and what is left.
 use Rattle.std.proofs.Common.{◌≡◌, ℕ, List, [], ◌∷◌, ◌++◌, Bool, ◌&&◌, Option, Some, None, Result, Ok, Err, refl, sym}
-use Rattle.std.proofs.Common.{ap, subst, ◌∙◌, map, append_assoc}
+use Rattle.std.proofs.Common.{ap, subst, ◌∙◌, map, append_assoc, ◌⊎◌, inl, inr}
 use Rattle.case_tables.specs.declared.symbol_table.Symbol.{Symbol}
 use Rattle.case_tables.specs.declared.word_table.Word.{Word}
 use Rattle.unity_syntax.specs.declared.name.Name.{Name}
@@ -101,6 +101,12 @@ read-And s at first rest = layer (Expr-F.And at first rest) _ s (rolls-And at fi
 pub read-Or : (s : Scope) (at : ℕ) (first : Expr) (rest : List Expr) →
     read (Or at first rest) s ≡ placed at (joined Sort.Boolean (operands Sort.Boolean s (read first ∷ map read rest)))
 read-Or s at first rest = layer (Expr-F.Or at first rest) _ s (rolls-Or at first rest)
+
+pub read-junction : (e : Expr) (s : Scope) (first : Expr) (rest : List Expr) →
+    ((at : ℕ) × (e ≡ And at first rest)) ⊎ ((at : ℕ) × (e ≡ Or at first rest)) →
+    (at : ℕ) × (read e s ≡ placed at (joined Sort.Boolean (operands Sort.Boolean s (read first ∷ map read rest))))
+read-junction e s first rest (inl p) = (p.0, ap (λ x. read x s) p.1 ∙ read-And s p.0 first rest)
+read-junction e s first rest (inr p) = (p.0, ap (λ x. read x s) p.1 ∙ read-Or s p.0 first rest)
 
 pub read-Compare : (s : Scope) (at : ℕ) (left : Expr) (relation : Symbol) (right : Expr) →
     read (Compare at left relation right) s ≡ placed at (typed Sort.Boolean

@@ -65,54 +65,18 @@ pub fn place(e: &Expr) -> u64
     ensures { (s : Scope) → (read e.now s).at ≡ result }
 {
     match e {
-        Expr::Implies {
-            at,
-            left: _,
-            right: _,
-        } => *at,
-        Expr::And {
-            at,
-            first: _,
-            rest: _,
-        } => *at,
-        Expr::Or {
-            at,
-            first: _,
-            rest: _,
-        } => *at,
-        Expr::Not { at, of: _ } => *at,
-        Expr::Compare {
-            at,
-            left: _,
-            relation: _,
-            right: _,
-        } => *at,
-        Expr::Sum {
-            at,
-            minus: _,
-            first: _,
-            rest: _,
-        } => *at,
-        Expr::Product {
-            at,
-            first: _,
-            rest: _,
-        } => *at,
-        Expr::Number { at, number: _ } => *at,
-        Expr::True { at } => *at,
-        Expr::False { at } => *at,
-        Expr::Word {
-            at,
-            name: _,
-            index: _,
-        } => *at,
-        Expr::Brackets { at, of: _ } => *at,
-        Expr::Quantified {
-            at,
-            which: _,
-            name: _,
-            range: _,
-            of: _,
-        } => *at,
+        Expr::Implies { at, .. } => *at,
+        Expr::And { at, .. } => *at,
+        Expr::Or { at, .. } => *at,
+        Expr::Not { at, .. } => *at,
+        Expr::Compare { at, .. } => *at,
+        Expr::Sum { at, .. } => *at,
+        Expr::Product { at, .. } => *at,
+        Expr::Number { at, .. } => *at,
+        Expr::True { at, .. } => *at,
+        Expr::False { at, .. } => *at,
+        Expr::Word { at, .. } => *at,
+        Expr::Brackets { at, .. } => *at,
+        Expr::Quantified { at, .. } => *at,
     }
 }

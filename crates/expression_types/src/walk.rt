@@ -1,8 +1,10 @@
 //! The walk over an expression, operands before their operator and from left to right.
 
-ghost use Rattle.std.specs.Prelude.{◌≡◌, ◌∷◌, [], map, Option, Some, None};
-ghost use Rattle.name_scopes.specs.Scope.{scope};
-ghost use Rattle.name_scopes.specs.Reading.{gathers, joined, left_side, needs, operands, product, read};
+ghost use Rattle.std.specs.Prelude.{◌≡◌, ◌∷◌, [], map, Option, Some, None, true};
+ghost use Rattle.name_scopes.specs.declared.named.Meaning.{Meaning};
+ghost use Rattle.name_scopes.specs.Scope.{scope, with_bound};
+ghost use Rattle.name_scopes.specs.Reading.{beside, binding, gathers, joined, left_side, needs, operands};
+ghost use Rattle.name_scopes.specs.Reading.{product, range_reading, read, then, typed, word_reading};
 ghost use Rattle.name_scopes.specs.Answers.{Answers, Notes};
 ghost use Rattle.expression_types.specs.Factors.{further_factors};
 
@@ -12,7 +14,7 @@ use crate::words::{Table, word};
 use case_tables::{Code, Symbol, Word};
 use name_scopes::{Env, Known, Meaning, NameFault, Sort, Typed, with_name};
 use unity_base::{Held, Seq};
-use unity_syntax::Expr;
+use unity_syntax::{Expr, Name, Range};
 
 /// The type of an expression; what its words mean is added to the table.
 #[cycle(walk)]
@@ -20,50 +22,19 @@ pub fn expression(e: &Expr, known: &Known, env: &Env, table: &mut Table) -> Resu
     ensures { Answers result table.old table.new (read e.now (scope known.now env.now)) }
 {
     match e {
-        Expr::Implies { at: _, left, right } => {
-            let first = operand(left, Sort::Boolean, known, env, table)?;
-            after(
-                first,
-                Sort::Boolean,
-                operand(right, Sort::Boolean, known, env, table),
-            )
-        }
-        Expr::And { at: _, first, rest } => {
+        Expr::Implies { left, right, .. } => implication(left, right, known, env, table),
+        Expr::And { first, rest, .. } | Expr::Or { first, rest, .. } => {
             let first = operand(first, Sort::Boolean, known, env, table)?;
-            after(
-                first,
-                Sort::Boolean,
-                all(rest, Sort::Boolean, known, env, table),
-            )
+            after(first, Sort::Boolean, truths(rest, known, env, table))
         }
-        Expr::Or { at: _, first, rest } => {
-            let first = operand(first, Sort::Boolean, known, env, table)?;
-            after(
-                first,
-                Sort::Boolean,
-                all(rest, Sort::Boolean, known, env, table),
-            )
-        }
-        Expr::Not { at: _, of } => operand(of, Sort::Boolean, known, env, table),
+        Expr::Not { of, .. } => operand(of, Sort::Boolean, known, env, table),
         Expr::Compare {
-            at: _,
             left,
             relation,
             right,
-        } => {
-            let first = left_side(left, *relation, known, env, table)?;
-            after(
-                first,
-                Sort::Boolean,
-                operand(right, first.sort, known, env, table),
-            )
-        }
-        Expr::Sum {
-            at: _,
-            minus: _,
-            first,
-            rest,
-        } => {
+            ..
+        } => comparison(left, *relation, right, known, env, table),
+        Expr::Sum { first, rest, .. } => {
             let first = operand(first, Sort::Number, known, env, table)?;
             after(first, Sort::Number, parts(rest, known, env, table))
         }
@@ -71,42 +42,117 @@ pub fn expression(e: &Expr, known: &Known, env: &Env, table: &mut Table) -> Resu
             let first = operand(first, Sort::Number, known, env, table)?;
             factors(*at, first, rest, known, env, table)
         }
-        Expr::Number { at: _, number: _ } => Ok(Typed {
-            sort: Sort::Number,
-            constant: true,
-        }),
-        Expr::True { at: _ } => Ok(Typed {
-            sort: Sort::Boolean,
-            constant: true,
-        }),
-        Expr::False { at: _ } => Ok(Typed {
-            sort: Sort::Boolean,
-            constant: true,
-        }),
-        Expr::Word { at: _, name, index } => match index {
+        Expr::Number { .. } => Ok(constant(Sort::Number)),
+        Expr::True { .. } => Ok(constant(Sort::Boolean)),
+        Expr::False { .. } => Ok(constant(Sort::Boolean)),
+        Expr::Word { name, index, .. } => match index {
             None => word(name, false, known, env, table),
-            Some(index) => {
-                let first = word(name, true, known, env, table)?;
-                after(
-                    first,
-                    first.sort,
-                    operand(index, Sort::Number, known, env, table),
-                )
-            }
+            Some(index) => element(name, index, known, env, table),
         },
-        Expr::Brackets { at: _, of } => expression(of.get(), known, env, table),
+        Expr::Brackets { of, .. } => expression(of.get(), known, env, table),
         Expr::Quantified {
-            at: _,
             which,
             name,
             range,
             of,
-        } => {
-            bind_in(name, range, known, env, table)?;
-            let inner = with_name(&*name, Meaning::Bound(name.at), &*env);
-            operand(of, gathered(*which), known, &inner, table)
-        }
+            ..
+        } => quantified(*which, name, range, of, known, env, table),
     }
+}
+
+/// The type of what names nothing.
+fn constant(sort: Sort) -> Typed
+    ensures sort { result.sort ≡ sort }
+    ensures constant { result.constant ≡ true }
+{
+    Typed {
+        sort,
+        constant: true,
+    }
+}
+
+/// The two sides of an implication.
+#[cycle(walk)]
+fn implication(
+    left: &Held<Expr>,
+    right: &Held<Expr>,
+    known: &Known,
+    env: &Env,
+    table: &mut Table,
+) -> Result<Typed, NameFault>
+    ensures { Answers result table.old table.new
+        (joined Sort.Boolean (operands Sort.Boolean (scope known.now env.now) (read left.now ∷ read right.now ∷ []))) }
+{
+    let first = operand(left, Sort::Boolean, known, env, table)?;
+    after(
+        first,
+        Sort::Boolean,
+        operand(right, Sort::Boolean, known, env, table),
+    )
+}
+
+/// The two sides of a comparison.
+#[cycle(walk)]
+fn comparison(
+    left: &Held<Expr>,
+    relation: Symbol,
+    right: &Held<Expr>,
+    known: &Known,
+    env: &Env,
+    table: &mut Table,
+) -> Result<Typed, NameFault>
+    ensures { Answers result table.old table.new
+        (typed Sort.Boolean (then (left_side relation (read left.now (scope known.now env.now)))
+        (needs (left_side relation (read left.now (scope known.now env.now))).sort
+        (read right.now (scope known.now env.now))))) }
+{
+    let first = left_side(left, relation, known, env, table)?;
+    after(
+        first,
+        Sort::Boolean,
+        operand(right, first.sort, known, env, table),
+    )
+}
+
+/// An element of an array.
+#[cycle(walk)]
+fn element(
+    name: &Name,
+    index: &Held<Expr>,
+    known: &Known,
+    env: &Env,
+    table: &mut Table,
+) -> Result<Typed, NameFault>
+    ensures { Answers result table.old table.new
+        (word_reading (scope known.now env.now) name.now (Some (read index.now (scope known.now env.now)))) }
+{
+    let first = word(name, true, known, env, table)?;
+    after(
+        first,
+        first.sort,
+        operand(index, Sort::Number, known, env, table),
+    )
+}
+
+/// A quantifier: its name, its range, and what it gathers.
+#[cycle(walk)]
+fn quantified(
+    which: Word,
+    name: &Name,
+    range: &Range,
+    of: &Held<Expr>,
+    known: &Known,
+    env: &Env,
+    table: &mut Table,
+) -> Result<Typed, NameFault>
+    ensures { Answers result table.old table.new
+        (beside (beside (binding (scope known.now env.now) name.now (Meaning.Bound name.now.at))
+        (range_reading (scope known.now env.now).bounds range.now)) (needs (gathers which)
+        (read of.now (with_bound (scope known.now env.now) name.now.text (Meaning.Bound name.now.at))))) }
+{
+    bind_in(name, range, known, env, table)?;
+    let inner = with_name(&*name, Meaning::Bound(name.at), &*env);
+    operand(of, gathered(which), known, &inner, table)
 }
 
 /// The type of an operand that is to have a type.
@@ -142,29 +188,25 @@ fn left_side(
     }
 }
 
+/// The further operands of a conjunction or a disjunction.
 #[cycle(walk)]
-fn all(
-    es: &Seq<Expr>,
-    wanted: Sort,
-    known: &Known,
-    env: &Env,
-    table: &mut Table,
-) -> Result<Typed, NameFault>
+fn truths(es: &Seq<Expr>, known: &Known, env: &Env, table: &mut Table) -> Result<Typed, NameFault>
     ensures { Answers result table.old table.new
-        (joined wanted (operands wanted (scope known.now env.now) (map read es.now))) }
+        (joined Sort.Boolean (operands Sort.Boolean (scope known.now env.now) (map read es.now))) }
 {
     let mut constant = true;
     for e in es.as_slice() {
         let found = expression(e, known, env, table)?;
-        let typed = has_type(found, wanted, place(e))?;
+        let typed = has_type(found, Sort::Boolean, place(e))?;
         constant = constant & typed.constant;
     }
     Ok(Typed {
-        sort: wanted,
+        sort: Sort::Boolean,
         constant,
     })
 }
 
+/// The further parts of a sum.
 #[cycle(walk)]
 fn parts(
     es: &Seq<(Symbol, Expr)>,

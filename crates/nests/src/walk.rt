@@ -4,7 +4,8 @@ ghost use Rattle.std.specs.Prelude.{ℤ, ◌≡◌, ◌+◌, ◌^◌, ◌<◌, �
 ghost use Rattle.std.specs.Prelude.{length, IfOk, OnOk, Some, min, slice_index_or};
 ghost use Rattle.std.specs.Int.RustNames.{unsigned_abs};
 ghost use Rattle.std.specs.List.{flat_map};
-ghost use Rattle.nests.specs.Nests.{LeavesRoom, TakesTurns, most_turns, instances, between, end_number, is_fit, natural, number_at};
+ghost use Rattle.nests.specs.Nests.{LeavesRoom, TakesTurns, most_turns, instances, between, end_number, is_fit};
+ghost use Rattle.nests.specs.Nests.{natural, number_at};
 ghost use Rattle.nests.specs.Conditions.{Narrows, Plans, Spans, all_hold, condition_holds, interval_of, left_by};
 ghost use Rattle.nests.specs.Conditions.{lowered, meeting, raised, sum_over};
 

@@ -104,7 +104,7 @@ fn params<'a>(alloc: Global, depth: u32, text: Cursor<'a>) -> Parsed<'a, (Param,
 }
 
 /// `"(" param { "," param } ")"`
-#[tactic(auto, using(token_cursor::proofs::Levels::a_level_left, token_cursor::proofs::Levels::no_level_left))]
+#[tactic(auto, using(token_cursor::proofs::Levels::a_level, token_cursor::proofs::Levels::no_level))]
 fn some_params<'a>(alloc: Global, depth: u32, text: Cursor<'a>) -> Parsed<'a, (Param, Seq<Param>)>
     ensures { Reads (view_some view_param) result (in_parentheses Contents.params) depth text.entry }
 {

@@ -191,7 +191,7 @@ fn pair_term<'a>(alloc: Global, depth: u32, text: Cursor<'a>) -> Parsed<'a, Held
 }
 
 /// `"(" term "," term ")"`, of the term with this word that begins at this place
-#[tactic(auto, using(token_cursor::proofs::Levels::node_with_level, token_cursor::proofs::Levels::node_with_none))]
+#[tactic(auto, using(token_cursor::proofs::Levels::with_level, token_cursor::proofs::Levels::with_none))]
 #[cycle(terms)]
 fn enclosed_pair<'a>(
     alloc: Global,

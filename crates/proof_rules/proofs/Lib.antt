@@ -5,8 +5,10 @@ pub mod EachLaws
 pub mod EnsuresSound
 pub mod FormLaws
 pub mod GoalLaws
+pub mod KindLaws
 pub mod NamedLaws
 pub mod NumberLaws
+pub mod PairLaws
 pub mod RowEquations
 pub mod SiteLaws
 pub mod StepSound

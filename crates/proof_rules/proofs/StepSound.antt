@@ -55,6 +55,8 @@ use Rattle.proof_rules.proofs.NamedLaws.{form_shown}
 use Rattle.proof_rules.proofs.EachLaws.{Each, from_all, found_in, each_at}
 use Rattle.proof_rules.proofs.BoundNames.{FormSees, TermSees, numbered, term_well}
 use Rattle.proof_rules.proofs.SiteLaws.{met, went_on, concluded_is}
+use Rattle.proof_rules.proofs.KindLaws.{invariant_is, ensures_is, leadsto_is, same_kind}
+use Rattle.proof_rules.proofs.PairLaws.{pair_kind, pair_helper, of_pair, pair_kind_is}
 use Rattle.proof_rules.proofs.TextSound.{defined_sound, invariant_sound, unless_sound}
 use Rattle.proof_rules.proofs.EnsuresSound.{ensures_sound}
 use Rattle.proof_rules.proofs.CalcSound.{of_one, weaken_sound, pair_sound, instance_sound, instance_is}
@@ -115,50 +117,6 @@ settled_by site good using kind p q more helper bound holds answer ranges forms 
     settled site good using kind p q more helper bound holds x.made (ap (λ (y : Conclusion). y.made) (gives x e))
     stands
 
--- kinds
-
-unless_is : (k : Kind) → IsTrue (is_unless k) → k ≡ Kind.Unless
-unless_is Kind.Unless t = refl
-unless_is Kind.Defined t = cc
-unless_is Kind.Invariant t = cc
-unless_is Kind.Ensures t = cc
-unless_is Kind.Leadsto t = cc
-
-ensures_is : (k : Kind) → IsTrue (is_ensures k) → k ≡ Kind.Ensures
-ensures_is Kind.Ensures t = refl
-ensures_is Kind.Defined t = cc
-ensures_is Kind.Invariant t = cc
-ensures_is Kind.Unless t = cc
-ensures_is Kind.Leadsto t = cc
-
-pub defined_is : (k : Kind) → IsTrue (is_defined k) → k ≡ Kind.Defined
-defined_is Kind.Defined t = refl
-defined_is Kind.Invariant t = cc
-defined_is Kind.Unless t = cc
-defined_is Kind.Ensures t = cc
-defined_is Kind.Leadsto t = cc
-
-invariant_is : (k : Kind) → IsTrue (is_invariant k) → k ≡ Kind.Invariant
-invariant_is Kind.Invariant t = refl
-invariant_is Kind.Defined t = cc
-invariant_is Kind.Unless t = cc
-invariant_is Kind.Ensures t = cc
-invariant_is Kind.Leadsto t = cc
-
-leadsto_is : (k : Kind) → IsTrue (is_leadsto k) → k ≡ Kind.Leadsto
-leadsto_is Kind.Leadsto t = refl
-leadsto_is Kind.Defined t = cc
-leadsto_is Kind.Invariant t = cc
-leadsto_is Kind.Unless t = cc
-leadsto_is Kind.Ensures t = cc
-
-same_kind_is : (k l : Kind) → IsTrue (is_kind k l) → l ≡ k
-same_kind_is Kind.Defined l t = defined_is l t
-same_kind_is Kind.Invariant l t = invariant_is l t
-same_kind_is Kind.Unless l t = unless_is l t
-same_kind_is Kind.Ensures l t = ensures_is l t
-same_kind_is Kind.Leadsto l t = leadsto_is l t
-
 -- what is known of each record of the book
 pub record RecordGood (slots : List CSlot) (programs : List CProgram) (a : Record) : Type 0 where
   pub kept : (c : CProgram) → find (λ b. nat_eq b.name a.program) programs ≡ Some c → IsKept slots c a
@@ -187,18 +145,12 @@ below_none f few n = go (names_param n f) (few n)
 invariant_params : (k : Kind) (params : List Range) (p q : CForm) → k ≡ Kind.Invariant → KindFits k params p q →
     params ≡ []
 invariant_params Kind.Invariant params p q e fits = fits.0
-invariant_params Kind.Defined params p q e fits = cc
-invariant_params Kind.Unless params p q e fits = cc
-invariant_params Kind.Ensures params p q e fits = cc
-invariant_params Kind.Leadsto params p q e fits = cc
+invariant_params _ params p q e fits = cc
 
 pub defined_params : (k : Kind) (params : List Range) (p q : CForm) → k ≡ Kind.Defined → KindFits k params p q →
     params ≡ []
 defined_params Kind.Defined params p q e fits = fits.0
-defined_params Kind.Invariant params p q e fits = cc
-defined_params Kind.Unless params p q e fits = cc
-defined_params Kind.Ensures params p q e fits = cc
-defined_params Kind.Leadsto params p q e fits = cc
+defined_params _ params p q e fits = cc
 
 pub no_params : (params : List Range) → params ≡ [] → IsTrue (are_in_ranges params [])
 no_params params e = subst (λ rs. IsTrue (are_in_ranges rs [])) (sym e) refl
@@ -396,51 +348,25 @@ module _ (slots : List CSlot) (programs : List CProgram) (c : CProgram)
         (end_gives slots step.params _ forms)) y e
         (weaken_sound site good a step.q premise y e valid)
 
-    -- a pair rule over two unless
-    unlesses_case : (which : RuleName) (a b : Record) → IsPremise site a → IsPremise site b → Holding site a.under →
-        Holding site b.under → (p q : CForm) → (y : Conclusion) → (e : pair_of site which a b ≡ Ok y) →
-        pair_of site which a b ≡
-        needs (is_unless a.kind && is_unless b.kind) Code.WrongKind (paired site Kind.Unless None p q a b) →
-        AllValid slots y.goals → Settled site b.kind y.made
-    unlesses_case which a b pa pb ua ub p q y e is valid =
-        let kinds = met (is_unless a.kind && is_unless b.kind) Code.WrongKind (paired site Kind.Unless None p q a b) y
-        (sym is ∙ e) in
-        subst (λ k. Settled site k y.made)
-        (sym (unless_is b.kind (and_right (is_unless a.kind) (is_unless b.kind) kinds.0)))
-        (settled_by site good holds Kind.Unless p q (a.under ++ b.under) None 0
-        (both_holding site a.under b.under ua ub)
-        (paired site Kind.Unless None p q a b) step.params [] (end_gives slots step.params _ []) y kinds.1
-        (pair_sound site good which a b pa pb y e valid))
+    -- a record that stands is kept
+    abbrev Keeps : Kind → Result Conclusion Code → Type 0
+    Keeps kind answer = (x : Conclusion) → answer ≡ Ok x → Stands slots c x.made → Settled site kind x.made
+
+    need_keeps : (kind : Kind) (asked : Bool) (code : Code) (rest : Result Conclusion Code) → Keeps kind rest →
+        Keeps kind (needs asked code rest)
+    need_keeps kind asked code rest keeps x e stands = keeps x (met asked code rest x e).1 stands
 
     pair_case : (which : RuleName) (a b : Record) → IsPremise site a → IsPremise site b → Holding site a.under →
         Holding site b.under → (y : Conclusion) → pair_of site which a b ≡ Ok y → AllValid slots y.goals →
-        Settled site b.kind y.made
-    unfolding pair_of
-    pair_case RuleName.Conj a b pa pb ua ub y e valid =
-        settled_by site good holds b.kind _ _ (a.under ++ b.under) b.helper 0
-        (both_holding site a.under b.under ua ub)
-        (pair_of site RuleName.Conj a b) step.params []
-        (need_gives (is_unless a.kind && (is_unless b.kind || is_ensures b.kind)) Code.WrongKind _ step.params _ []
+        Settled site (pair_kind which b.kind) y.made
+    pair_case which a b pa pb ua ub y e valid =
+        let kind : Kind = pair_kind which b.kind in
+        let helper : Option Helper = pair_helper which b.helper in
+        of_pair (Keeps kind) site a b which (λ code. λ (x : Conclusion) f stands. cc) (need_keeps kind)
+        (λ p q. settled_by site good holds kind p q (a.under ++ b.under) helper 0
+        (both_holding site a.under b.under ua ub) (paired site kind helper p q a b) step.params []
         (end_gives slots step.params _ [])) y e
-        (pair_sound site good RuleName.Conj a b pa pb y e valid)
-    pair_case RuleName.Simpleconj a b pa pb ua ub y e valid =
-        unlesses_case RuleName.Simpleconj a b pa pb ua ub _ _ y e refl valid
-    pair_case RuleName.Disj a b pa pb ua ub y e valid =
-        unlesses_case RuleName.Disj a b pa pb ua ub _ _ y e refl valid
-    pair_case RuleName.Simpledisj a b pa pb ua ub y e valid =
-        unlesses_case RuleName.Simpledisj a b pa pb ua ub _ _ y e refl valid
-    pair_case RuleName.Cancel a b pa pb ua ub y e valid =
-        let end : Result Conclusion Code =
-        needs (same_form a.q b.p) Code.MiddleDiffers (paired site Kind.Unless None _ b.q a b) in
-        let kinds = met (is_unless a.kind && is_unless b.kind) Code.WrongKind end y e in
-        subst (λ k. Settled site k y.made)
-        (sym (unless_is b.kind (and_right (is_unless a.kind) (is_unless b.kind) kinds.0)))
-        (settled_by site good holds Kind.Unless _ b.q (a.under ++ b.under) None 0
-        (both_holding site a.under b.under ua ub) end step.params []
-        (need_gives (same_form a.q b.p) Code.MiddleDiffers _ step.params _ [] (end_gives slots step.params _ []))
-        y kinds.1
-        (pair_sound site good RuleName.Cancel a b pa pb y e valid))
-    pair_case _ a b pa pb ua ub y e valid = cc
+        (pair_sound site good which a b pa pb y e valid)
 
     -- `from R` for an unless or an ensures
     again_case : (IsTrue (is_leadsto step.kind) → ⊥) → (y : Conclusion) → (t : PTerm-F PTerm) →
@@ -453,18 +379,12 @@ module _ (slots : List CSlot) (programs : List CProgram) (c : CProgram)
         let under = referred_holding step.params (is_kind step.kind) r a one.1 in
         let gives = end_gives slots step.params (record_of site a.kind a.p a.q a.under a.helper) [] in
         let made = ap (λ (z : Conclusion). z.made) (gives y one.2) in
-        subst (λ k. Settled site k y.made) (same_kind_is step.kind a.kind premise.0)
+        subst (λ k. Settled site k y.made) (same_kind step.kind a.kind premise.0)
         (settled site good holds a.kind a.p a.q a.under a.helper 0 under y.made made
         (again_stands site good a (λ t. other (subst (λ k. IsTrue (is_leadsto k))
-        (same_kind_is step.kind a.kind premise.0) t))
+        (same_kind step.kind a.kind premise.0) t))
         premise.1 y.made made))
-    again_case other y (PTerm-F.Imply p q) e valid = cc
-    again_case other y (PTerm-F.Trans t u) e valid = cc
-    again_case other y (PTerm-F.Either t u) e valid = cc
-    again_case other y (PTerm-F.Exists m range t) e valid = cc
-    again_case other y (PTerm-F.Induct m range measure p q t) e valid = cc
-    again_case other y (PTerm-F.Psp t r) e valid = cc
-    again_case other y (PTerm-F.Weaken p q t) e valid = cc
+    again_case other y _ e valid = cc
 
     -- a proof term
     derive_case : (t : PTerm) → RuleSees slots (step.params ++ bound_ranges t) (is_below (length step.params))
@@ -501,13 +421,7 @@ module _ (slots : List CSlot) (programs : List CProgram) (c : CProgram)
         Settled site step.kind y.made
     proof_case t sees y Kind.Leadsto same e p_is q_is valid =
         subst (λ k. Settled site k y.made) (sym same) (derive_case t sees y e p_is q_is valid)
-    proof_case t sees y Kind.Defined same e p_is q_is valid =
-        again_case (λ l. let also = leadsto_is step.kind l in cc) y (out-PTerm t) e valid
-    proof_case t sees y Kind.Invariant same e p_is q_is valid =
-        again_case (λ l. let also = leadsto_is step.kind l in cc) y (out-PTerm t) e valid
-    proof_case t sees y Kind.Unless same e p_is q_is valid =
-        again_case (λ l. let also = leadsto_is step.kind l in cc) y (out-PTerm t) e valid
-    proof_case t sees y Kind.Ensures same e p_is q_is valid =
+    proof_case t sees y _ same e p_is q_is valid =
         again_case (λ l. let also = leadsto_is step.kind l in cc) y (out-PTerm t) e valid
 
     -- the instance of a record of a part
@@ -641,7 +555,7 @@ module _ (slots : List CSlot) (programs : List CProgram) (c : CProgram)
     applied_case parts (CRule.WeakenStep r) sees suited y e p_is q_is valid =
         let one = went_on (referred site step.params book (is_kind step.kind) r) (λ a. weaken_of site a step.q) y e in
         let premise = referred_premise (is_kind step.kind) r one.0 one.1 in
-        subst (λ k. Settled site k y.made) (same_kind_is step.kind one.0.kind premise.0)
+        subst (λ k. Settled site k y.made) (same_kind step.kind one.0.kind premise.0)
         (weaken_case one.0 premise.1 (referred_holding step.params (is_kind step.kind) r one.0 one.1) y one.2 valid)
     applied_case parts (CRule.Pair which r s) sees suited y e p_is q_is valid =
         let one = went_on (referred site step.params book is_unless r) (λ a.
@@ -650,7 +564,7 @@ module _ (slots : List CSlot) (programs : List CProgram) (c : CProgram)
         one.2 in
         let first = referred_premise is_unless r one.0 one.1 in
         let second = referred_premise (is_kind step.kind) s two.0 two.1 in
-        subst (λ k. Settled site k y.made) (same_kind_is step.kind two.0.kind second.0)
+        subst (λ k. Settled site k y.made) (pair_kind_is which r s two.0.kind step.kind second.0 suited)
         (pair_case which one.0 two.0 first.1 second.1 (referred_holding step.params is_unless r one.0 one.1)
         (referred_holding step.params (is_kind step.kind) s two.0 two.1) y two.2 valid)
     applied_case parts (CRule.Union r s) sees suited y e p_is q_is valid = union_case c.parts parts r s y e valid

@@ -33,7 +33,8 @@ use Rattle.proof_rules.specs.WalkLaws.{WalkSound}
 use Rattle.proof_rules.proofs.EachLaws.{Each, from_all, each_join, each_map, each_at, found_in}
 use Rattle.proof_rules.proofs.SiteLaws.{met}
 use Rattle.proof_rules.proofs.EnsuresSound.{some_item}
-use Rattle.proof_rules.proofs.StepSound.{RecordGood, PartsAre, step_good, closed_form, defined_is, defined_params}
+use Rattle.proof_rules.proofs.KindLaws.{defined_is}
+use Rattle.proof_rules.proofs.StepSound.{RecordGood, PartsAre, step_good, closed_form, defined_params}
 use Rattle.proof_rules.proofs.StepSound.{no_params}
 
 -- answers

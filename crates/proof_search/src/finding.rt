@@ -113,7 +113,7 @@ fn found_by(
 ) -> Result<Found, AllocError>
     requires obligation { IsObligation o.now }
     requires limit { limit ≤ budget }
-    requires ended { Guides o.now.variables 960 (first_branch o.now) (record { nodes = []; spare = limit }) trail ended }
+    requires end { Guides o.now.variables 960 (first_branch o.now) (record { nodes = []; spare = limit }) trail ended }
     ensures { IfOk result (Answers o.now budget) }
 {
     let Trail { nodes, spare } = trail;

@@ -47,6 +47,7 @@ use Rattle.proof_rules.specs.Walk.{rule_of, part_record, first_part, second_part
 use Rattle.proof_rules.proofs.EachLaws.{Each, from_all, each_join}
 use Rattle.proof_rules.proofs.RowEquations.{derive-is, defined-is, invariant-is, unless-is, ensures-is, weaken-is}
 use Rattle.proof_rules.proofs.SiteLaws.{met, went_on, concluded_is}
+use Rattle.proof_rules.proofs.PairLaws.{of_pair}
 use Rattle.safety_rules.specs.declared.places.Derived.{Derived}
 use Rattle.safety_rules.specs.declared.places.RuleError.{RuleError}
 use Rattle.safety_rules.specs.Answers.{Answers, obligations_of}
@@ -230,26 +231,9 @@ module _ (site : Site) (closed : All (FormFits site.slots []) site.using) (good 
       (told_in site site.params ranges _ (imply (site.using ++ (a.q ∷ [])) q ∷ []) refl refl (weaker_exist a.q q h k)))
 
   told_pair : (which : RuleName) (a b : Record) → GivesTold site (pair_of site which a b)
-  unfolding pair_of
-  told_pair RuleName.Text a b = λ (x : Conclusion) e. cc
-  told_pair RuleName.Weaken a b = λ (x : Conclusion) e. cc
-  told_pair RuleName.Conj a b = told_needs site _ Code.WrongKind _ (told_in site site.params ranges _ [] refl refl tt)
-  told_pair RuleName.Simpleconj a b = told_needs site _ Code.WrongKind _ (told_in site site.params ranges _ [] refl
-      refl tt)
-  told_pair RuleName.Disj a b = told_needs site _ Code.WrongKind _ (told_in site site.params ranges _ [] refl refl tt)
-  told_pair RuleName.Simpledisj a b = told_needs site _ Code.WrongKind _ (told_in site site.params ranges _ [] refl
-      refl tt)
-  told_pair RuleName.Cancel a b =
-      told_needs site _ Code.WrongKind _ (told_needs site _ Code.MiddleDiffers _
-      (told_in site site.params ranges _ [] refl refl tt))
-  told_pair RuleName.Union a b = λ (x : Conclusion) e. cc
-  told_pair RuleName.Imply a b = λ (x : Conclusion) e. cc
-  told_pair RuleName.From a b = λ (x : Conclusion) e. cc
-  told_pair RuleName.Trans a b = λ (x : Conclusion) e. cc
-  told_pair RuleName.Either a b = λ (x : Conclusion) e. cc
-  told_pair RuleName.Exists a b = λ (x : Conclusion) e. cc
-  told_pair RuleName.Induct a b = λ (x : Conclusion) e. cc
-  told_pair RuleName.Psp a b = λ (x : Conclusion) e. cc
+  told_pair which a b =
+      of_pair (GivesTold site) site a b which (λ code. λ (x : Conclusion) e. cc) (told_needs site)
+      (λ p q. told_in site site.params ranges _ [] refl refl tt)
 
   told_united : (starts : CProgram → Bool) (kind : Kind) (a b : Record) → Each (FormFits slots []) a.under →
       Each (FormFits slots []) b.under → GivesTold site (united starts site kind a b)
@@ -287,22 +271,13 @@ module _ (site : Site) (closed : All (FormFits site.slots []) site.using) (good 
   told_again s book (PTerm-F.From r) = λ (x : Conclusion) e.
       let one = went_on (referred site params book (is_kind s.kind) r) (same_again site) x e in
       told_in site params ranges _ [] refl refl tt x one.2
-  told_again s book (PTerm-F.Imply p q) = λ (x : Conclusion) e. cc
-  told_again s book (PTerm-F.Trans t u) = λ (x : Conclusion) e. cc
-  told_again s book (PTerm-F.Either t u) = λ (x : Conclusion) e. cc
-  told_again s book (PTerm-F.Exists m range t) = λ (x : Conclusion) e. cc
-  told_again s book (PTerm-F.Induct m range measure p q t) = λ (x : Conclusion) e. cc
-  told_again s book (PTerm-F.Psp t r) = λ (x : Conclusion) e. cc
-  told_again s book (PTerm-F.Weaken p q t) = λ (x : Conclusion) e. cc
+  told_again s book _ = λ (x : Conclusion) e. cc
 
   told_proof : (s : CStep) (book : List Record) → BookFits slots book → (t : PTerm) →
       PTermSees slots (all_ranges site t) (is_below (length params)) t → (kind : Kind) →
       GivesTold site (proof_of site s book kind t)
   told_proof s book fit t sees Kind.Leadsto = told_derive book fit t sees
-  told_proof s book fit t sees Kind.Defined = told_again s book (out-PTerm t)
-  told_proof s book fit t sees Kind.Invariant = told_again s book (out-PTerm t)
-  told_proof s book fit t sees Kind.Unless = told_again s book (out-PTerm t)
-  told_proof s book fit t sees Kind.Ensures = told_again s book (out-PTerm t)
+  told_proof s book fit t sees _ = told_again s book (out-PTerm t)
 
   told_applied : (starts : CProgram → Bool) (s : CStep) (book : List Record) → BookFits slots book →
       FormFits slots params s.p → FormFits slots params s.q → (rule : CRule) →

@@ -33,6 +33,8 @@ use Rattle.proof_rules.specs.Walk.{again_of, is_kind, proof_of, same_again, suit
 use Rattle.proof_rules.proofs.EachLaws.{Each, each_join, from_all}
 use Rattle.proof_rules.proofs.RowEquations.{defined-is, invariant-is, unless-is, weaken-is}
 use Rattle.proof_rules.proofs.SiteLaws.{went_on, concluded_is}
+use Rattle.proof_rules.proofs.KindLaws.{ensures_is, same_kind}
+use Rattle.proof_rules.proofs.PairLaws.{pair_kind, pair_helper, of_pair, pair_kind_is}
 use Rattle.safety_rules.specs.declared.places.Place.{Place}
 use Rattle.safety_rules.specs.Answers.{site_of, IsPremiseAt}
 use Rattle.safety_rules.specs.Instances.{HelperFits}
@@ -122,13 +124,6 @@ good_ensures site p q h using helps =
     (good_concluded site Kind.Ensures p q [] (Some h) (unless_forms site p q ++ helper_forms site p q h) helps using
     tt))
 
-ensures_is : (k : Kind) → is_ensures k ≡ true → k ≡ Kind.Ensures
-ensures_is Kind.Defined e = cc
-ensures_is Kind.Invariant e = cc
-ensures_is Kind.Unless e = cc
-ensures_is Kind.Ensures e = refl
-ensures_is Kind.Leadsto e = cc
-
 good_weaken : (site : Site) (a : Record) (q : CForm) → Each (FormFits site.slots []) site.using →
     Each (FormFits site.slots []) a.under → HelperFits site.params a.helper → GivesGood site a.kind (weaken_of site a q)
 good_weaken site a q using under plain =
@@ -136,45 +131,20 @@ good_weaken site a q using under plain =
     (good_needs site a.kind (is_unless a.kind || is_ensures a.kind) Code.WrongKind _
     (good_concluded site a.kind a.p q a.under a.helper (imply (site.using ++ (a.q ∷ [])) q ∷ []) plain using under))
 
-abbrev pair_kind : RuleName → Kind → Kind
-pair_kind RuleName.Conj kind = kind
-pair_kind _ kind = Kind.Unless
+helper_kept : (params : List Range) (which : RuleName) (helper : Option Helper) → HelperFits params helper →
+    HelperFits params (pair_helper which helper)
+helper_kept params RuleName.Conj helper h = h
+helper_kept params _ helper h = tt
 
 good_pair : (site : Site) (which : RuleName) (a b : Record) → Each (FormFits site.slots []) site.using →
     Each (FormFits site.slots []) a.under → Each (FormFits site.slots []) b.under → HelperFits site.params b.helper →
     GivesGood site (pair_kind which b.kind) (pair_of site which a b)
-unfolding pair_of
-good_pair site RuleName.Text a b using first second plain = λ (x : Conclusion) e. cc
-good_pair site RuleName.Weaken a b using first second plain = λ (x : Conclusion) e. cc
-good_pair site RuleName.Conj a b using first second plain =
-    good_needs site b.kind _ Code.WrongKind _
-    (good_concluded site b.kind _ _ (a.under ++ b.under) b.helper [] plain using
+good_pair site which a b using first second plain =
+    let kind : Kind = pair_kind which b.kind in
+    of_pair (GivesGood site kind) site a b which (λ code. λ (x : Conclusion) e. cc) (good_needs site kind)
+    (λ p q. good_concluded site kind p q (a.under ++ b.under) (pair_helper which b.helper) []
+    (helper_kept site.params which b.helper plain) using
     (each_join (FormFits site.slots []) a.under b.under first second))
-good_pair site RuleName.Simpleconj a b using first second plain =
-    good_needs site Kind.Unless _ Code.WrongKind _
-    (good_concluded site Kind.Unless _ _ (a.under ++ b.under) None [] tt using
-    (each_join (FormFits site.slots []) a.under b.under first second))
-good_pair site RuleName.Disj a b using first second plain =
-    good_needs site Kind.Unless _ Code.WrongKind _
-    (good_concluded site Kind.Unless _ _ (a.under ++ b.under) None [] tt using
-    (each_join (FormFits site.slots []) a.under b.under first second))
-good_pair site RuleName.Simpledisj a b using first second plain =
-    good_needs site Kind.Unless _ Code.WrongKind _
-    (good_concluded site Kind.Unless _ _ (a.under ++ b.under) None [] tt using
-    (each_join (FormFits site.slots []) a.under b.under first second))
-good_pair site RuleName.Cancel a b using first second plain =
-    good_needs site Kind.Unless _ Code.WrongKind _
-    (good_needs site Kind.Unless _ Code.MiddleDiffers _
-    (good_concluded site Kind.Unless _ _ (a.under ++ b.under) None [] tt using
-    (each_join (FormFits site.slots []) a.under b.under first second)))
-good_pair site RuleName.Union a b using first second plain = λ (x : Conclusion) e. cc
-good_pair site RuleName.Imply a b using first second plain = λ (x : Conclusion) e. cc
-good_pair site RuleName.From a b using first second plain = λ (x : Conclusion) e. cc
-good_pair site RuleName.Trans a b using first second plain = λ (x : Conclusion) e. cc
-good_pair site RuleName.Either a b using first second plain = λ (x : Conclusion) e. cc
-good_pair site RuleName.Exists a b using first second plain = λ (x : Conclusion) e. cc
-good_pair site RuleName.Induct a b using first second plain = λ (x : Conclusion) e. cc
-good_pair site RuleName.Psp a b using first second plain = λ (x : Conclusion) e. cc
 
 first_helps : (params : List Range) (b : Bool) (one two : Option Helper) → HelperFits params one →
     HelperFits params two → HelperFits params (cond b one two)
@@ -209,59 +179,7 @@ good_united starts site Kind.Ensures a b using first second h k =
     (each_join (FormFits site.slots []) a.under b.under first second))))
 good_united starts site Kind.Leadsto a b using first second h k = λ (x : Conclusion) e. cc
 
--- kinds
-
-pub same_kind : (k l : Kind) → is_kind k l ≡ true → l ≡ k
-same_kind Kind.Defined Kind.Defined e = refl
-same_kind Kind.Defined Kind.Invariant e = cc
-same_kind Kind.Defined Kind.Unless e = cc
-same_kind Kind.Defined Kind.Ensures e = cc
-same_kind Kind.Defined Kind.Leadsto e = cc
-same_kind Kind.Invariant Kind.Defined e = cc
-same_kind Kind.Invariant Kind.Invariant e = refl
-same_kind Kind.Invariant Kind.Unless e = cc
-same_kind Kind.Invariant Kind.Ensures e = cc
-same_kind Kind.Invariant Kind.Leadsto e = cc
-same_kind Kind.Unless Kind.Defined e = cc
-same_kind Kind.Unless Kind.Invariant e = cc
-same_kind Kind.Unless Kind.Unless e = refl
-same_kind Kind.Unless Kind.Ensures e = cc
-same_kind Kind.Unless Kind.Leadsto e = cc
-same_kind Kind.Ensures Kind.Defined e = cc
-same_kind Kind.Ensures Kind.Invariant e = cc
-same_kind Kind.Ensures Kind.Unless e = cc
-same_kind Kind.Ensures Kind.Ensures e = refl
-same_kind Kind.Ensures Kind.Leadsto e = cc
-same_kind Kind.Leadsto Kind.Defined e = cc
-same_kind Kind.Leadsto Kind.Invariant e = cc
-same_kind Kind.Leadsto Kind.Unless e = cc
-same_kind Kind.Leadsto Kind.Ensures e = cc
-same_kind Kind.Leadsto Kind.Leadsto e = refl
-
-unless_is : (k : Kind) → is_unless k ≡ true → is_kind k Kind.Unless ≡ true
-unless_is Kind.Defined e = cc
-unless_is Kind.Invariant e = cc
-unless_is Kind.Unless e = refl
-unless_is Kind.Ensures e = cc
-unless_is Kind.Leadsto e = cc
-
-pair_kind_is : (which : RuleName) (r s : Ref) (k kind : Kind) → is_kind kind k ≡ true →
-    suits (CRule.Pair which r s) kind ≡ true → pair_kind which k ≡ kind
-pair_kind_is RuleName.Text r s k kind e suited = same_kind kind Kind.Unless (unless_is kind suited)
-pair_kind_is RuleName.Weaken r s k kind e suited = same_kind kind Kind.Unless (unless_is kind suited)
-pair_kind_is RuleName.Conj r s k kind e suited = same_kind kind k e
-pair_kind_is RuleName.Simpleconj r s k kind e suited = same_kind kind Kind.Unless (unless_is kind suited)
-pair_kind_is RuleName.Disj r s k kind e suited = same_kind kind Kind.Unless (unless_is kind suited)
-pair_kind_is RuleName.Simpledisj r s k kind e suited = same_kind kind Kind.Unless (unless_is kind suited)
-pair_kind_is RuleName.Cancel r s k kind e suited = same_kind kind Kind.Unless (unless_is kind suited)
-pair_kind_is RuleName.Union r s k kind e suited = same_kind kind Kind.Unless (unless_is kind suited)
-pair_kind_is RuleName.Imply r s k kind e suited = same_kind kind Kind.Unless (unless_is kind suited)
-pair_kind_is RuleName.From r s k kind e suited = same_kind kind Kind.Unless (unless_is kind suited)
-pair_kind_is RuleName.Trans r s k kind e suited = same_kind kind Kind.Unless (unless_is kind suited)
-pair_kind_is RuleName.Either r s k kind e suited = same_kind kind Kind.Unless (unless_is kind suited)
-pair_kind_is RuleName.Exists r s k kind e suited = same_kind kind Kind.Unless (unless_is kind suited)
-pair_kind_is RuleName.Induct r s k kind e suited = same_kind kind Kind.Unless (unless_is kind suited)
-pair_kind_is RuleName.Psp r s k kind e suited = same_kind kind Kind.Unless (unless_is kind suited)
+-- references
 
 abbrev other : Record → Result Record Code
 other b = Err Code.OtherProgram
@@ -335,13 +253,7 @@ good_again site s book fit ranges using (PTerm-F.From r) = λ (x : Conclusion) e
     let a = referred_is site site.params (is_kind s.kind) book r one.0 fit ranges one.1 in
     subst (λ (k : Kind). IsGood site k x) (same_kind s.kind one.0.kind a.kind)
     (good_concluded site one.0.kind one.0.p one.0.q one.0.under one.0.helper [] a.helper using a.under x one.2)
-good_again site s book fit ranges using (PTerm-F.Imply p q) = λ (x : Conclusion) e. cc
-good_again site s book fit ranges using (PTerm-F.Trans t u) = λ (x : Conclusion) e. cc
-good_again site s book fit ranges using (PTerm-F.Either t u) = λ (x : Conclusion) e. cc
-good_again site s book fit ranges using (PTerm-F.Exists m range t) = λ (x : Conclusion) e. cc
-good_again site s book fit ranges using (PTerm-F.Induct m range measure p q t) = λ (x : Conclusion) e. cc
-good_again site s book fit ranges using (PTerm-F.Psp t r) = λ (x : Conclusion) e. cc
-good_again site s book fit ranges using (PTerm-F.Weaken p q t) = λ (x : Conclusion) e. cc
+good_again site s book fit ranges using _ = λ (x : Conclusion) e. cc
 
 good_proof : (site : Site) (s : CStep) (book : List Record) → BookFits site.slots book → All IsRange site.params →
     Each (FormFits site.slots []) site.using → (t : PTerm) →
@@ -350,14 +262,7 @@ good_proof : (site : Site) (s : CStep) (book : List Record) → BookFits site.sl
 good_proof site s book fit ranges using t sees Kind.Leadsto same =
     subst (λ (k : Kind). GivesGood site k (derive_of site t book)) same
     (good_derive site book fit ranges using t sees)
-good_proof site s book fit ranges using t sees Kind.Defined same =
-    good_again site s book fit ranges using (out-PTerm t)
-good_proof site s book fit ranges using t sees Kind.Invariant same =
-    good_again site s book fit ranges using (out-PTerm t)
-good_proof site s book fit ranges using t sees Kind.Unless same =
-    good_again site s book fit ranges using (out-PTerm t)
-good_proof site s book fit ranges using t sees Kind.Ensures same =
-    good_again site s book fit ranges using (out-PTerm t)
+good_proof site s book fit ranges using t sees _ same = good_again site s book fit ranges using (out-PTerm t)
 
 -- a step's row
 

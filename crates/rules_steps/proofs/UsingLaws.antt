@@ -144,10 +144,7 @@ all_cons P x xs first rest (suc k) d less = rest k d (omega (arith, less))
 invariant_params : (k : Kind) (params : List Range) (p q : CForm) → is_invariant k ≡ true → KindFits k params p q →
     params ≡ []
 invariant_params Kind.Invariant params p q e fits = fits.0
-invariant_params Kind.Defined params p q e fits = cc
-invariant_params Kind.Unless params p q e fits = cc
-invariant_params Kind.Ensures params p q e fits = cc
-invariant_params Kind.Leadsto params p q e fits = cc
+invariant_params _ params p q e fits = cc
 
 pub used_fit : (slots : List CSlot) (c : CProgram) (book : List Record) → BookFits slots book → (refs : List Ref)
     (fs : List CForm) → used c book refs ≡ Ok fs → All (FormFits slots []) fs

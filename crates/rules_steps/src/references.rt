@@ -36,22 +36,22 @@ fn instance_for(
     alloc: Global,
     pl: &Place,
     serves: Kind,
-    record: &Record,
+    found: &Record,
     args: &[Arg],
 ) -> Result<Held<Record>, RuleError>
     requires place { IsPlace pl.now }
-    requires record { RecordFits pl.now.slots.now record.now }
-    ensures { AnswersRecord result (needs (nat_eq record.now.program pl.now.program.now.name) Code.OtherProgram
-        (needs (walk.is_kind serves record.now.kind) Code.WrongKind
-        (table.instance_of (site_of pl.now) pl.now.params.now record.now args.now))) }
+    requires found { RecordFits pl.now.slots.now found.now }
+    ensures { AnswersRecord result (needs (nat_eq found.now.program pl.now.program.now.name) Code.OtherProgram
+        (needs (walk.is_kind serves found.now.kind) Code.WrongKind
+        (table.instance_of (site_of pl.now) pl.now.params.now found.now args.now))) }
 {
-    if record.program != pl.program.name {
+    if found.program != pl.program.name {
         return Err(RuleError::Fault(Code::OtherProgram));
     }
-    if !is_kind(serves, record.kind) {
+    if !is_kind(serves, found.kind) {
         return Err(RuleError::Fault(Code::WrongKind));
     }
-    held_record(alloc, instance(alloc, pl, record, args))
+    held_record(alloc, instance(alloc, pl, found, args))
 }
 
 // The instance of the step's record that a reference names.

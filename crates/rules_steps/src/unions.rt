@@ -74,22 +74,22 @@ fn part_instance(
     part: u32,
     claimed: Kind,
     first: Option<Kind>,
-    record: &Record,
+    found: &Record,
     args: &[Arg],
 ) -> Result<Held<Record>, RuleError>
     requires place { IsPlace pl.now }
-    requires record { RecordFits pl.now.slots.now record.now }
-    ensures { AnswersRecord result (needs (nat_eq record.now.program part) Code.OtherProgram
-        (needs (serves_claim claimed first record.now.kind) Code.WrongKind
-        (table.instance_of (site_of pl.now) pl.now.params.now record.now args.now))) }
+    requires found { RecordFits pl.now.slots.now found.now }
+    ensures { AnswersRecord result (needs (nat_eq found.now.program part) Code.OtherProgram
+        (needs (serves_claim claimed first found.now.kind) Code.WrongKind
+        (table.instance_of (site_of pl.now) pl.now.params.now found.now args.now))) }
 {
-    if record.program != part {
+    if found.program != part {
         return Err(RuleError::Fault(Code::OtherProgram));
     }
-    if !serves(claimed, first, record.kind) {
+    if !serves(claimed, first, found.kind) {
         return Err(RuleError::Fault(Code::WrongKind));
     }
-    held_record(alloc, instance(alloc, pl, record, args))
+    held_record(alloc, instance(alloc, pl, found, args))
 }
 
 // The instance of the record of a part's step that a reference names.

@@ -23,7 +23,8 @@ use Rattle.proof_rules.specs.Walk.{proof_end, program_of, proof_steps, proofs_of
 use Rattle.proof_rules.proofs.EachLaws.{Each, from_all, each_join, each_at, found_in}
 use Rattle.proof_rules.proofs.SiteLaws.{met}
 use Rattle.proof_rules.proofs.EnsuresSound.{some_item}
-use Rattle.proof_rules.proofs.StepSound.{defined_is, defined_params}
+use Rattle.proof_rules.proofs.KindLaws.{defined_is}
+use Rattle.proof_rules.proofs.StepSound.{defined_params}
 use Rattle.unity_meaning.specs.Steps.{Pairwise}
 use Rattle.soundness.specs.PlanSteps.{CoreStep, of_program, core_steps, IsRecordOf, PlanIsSteps}
 use Rattle.soundness.specs.PlanSteps.{PlanIsStarted}

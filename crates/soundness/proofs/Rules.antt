@@ -17,7 +17,6 @@ use Rattle.core_terms.specs.declared.documents.PTerm.TheOpen.{PTerm-F}
 use Rattle.core_terms.specs.declared.documents.CRule.{CRule}
 use Rattle.core_terms.specs.declared.documents.CStep.{CStep}
 use Rattle.core_terms.specs.Trees.{same_form}
-use Rattle.core_terms.specs.Folding.{and_form, or_form}
 use Rattle.core_terms.proofs.SameLaws.{same_form_is}
 use Rattle.fair_rounds.specs.declared.records.Record.{Record}
 use Rattle.proof_rules.specs.declared.led.Led.{Led}
@@ -25,61 +24,19 @@ use Rattle.proof_rules.specs.Conclusion.{Conclusion}
 use Rattle.proof_rules.specs.Forms.{imply}
 use Rattle.proof_rules.specs.Table.{Site, needs, go_on, record_of, concluded, is_defined, is_invariant, is_unless}
 use Rattle.proof_rules.specs.Table.{is_ensures, defined_forms, defined_of, invariant_forms, invariant_of, unless_forms}
-use Rattle.proof_rules.specs.Table.{unless_of, is_helper, helper_forms, ensures_of, weaken_of, ends_of_both}
-use Rattle.proof_rules.specs.Table.{ends_of_either, pair_of, shown_forms, first_helper, ending, is_part_pair}
+use Rattle.proof_rules.specs.Table.{unless_of, is_helper, helper_forms, ensures_of, weaken_of}
+use Rattle.proof_rules.specs.Table.{pair_of, shown_forms, first_helper, ending, is_part_pair}
 use Rattle.proof_rules.specs.Table.{union_defined_of, union_invariant_of, union_unless_of, union_ensures_of}
 use Rattle.proof_rules.specs.Table.{instance_of}
 use Rattle.proof_rules.specs.Terms.{found, referred, term_of, all_ranges, leads_record, derive_of}
-use Rattle.proof_rules.specs.Walk.{is_leadsto, is_kind, is_first, has_defined, used, suits_term, suits, text_of}
+use Rattle.proof_rules.specs.Walk.{is_kind, is_first, has_defined, used, suits_term, suits, text_of}
 use Rattle.proof_rules.specs.Walk.{same_again, again_of, proof_of, part_record, first_part, second_part, serves_union}
 use Rattle.proof_rules.specs.Walk.{serves_after, united, applied, claims, step_site, rule_of}
 use Rattle.proof_rules.proofs.SiteLaws.{met, went_on, concluded_is}
+use Rattle.proof_rules.proofs.KindLaws.{ensures_is, same_kind}
+use Rattle.proof_rules.proofs.PairLaws.{pair_kind, pair_helper, of_pair, pair_kind_is}
 use Rattle.proof_rules.proofs.CalcSound.{instance_is}
 use Rattle.soundness.specs.PlanSteps.{of_program, IsRecordOf}
-
--- kinds
-
-unless_is : (k : Kind) → IsTrue (is_unless k) → k ≡ Kind.Unless
-unless_is Kind.Unless t = refl
-unless_is Kind.Defined t = cc
-unless_is Kind.Invariant t = cc
-unless_is Kind.Ensures t = cc
-unless_is Kind.Leadsto t = cc
-
-ensures_is : (k : Kind) → IsTrue (is_ensures k) → k ≡ Kind.Ensures
-ensures_is Kind.Ensures t = refl
-ensures_is Kind.Defined t = cc
-ensures_is Kind.Invariant t = cc
-ensures_is Kind.Unless t = cc
-ensures_is Kind.Leadsto t = cc
-
-defined_is : (k : Kind) → IsTrue (is_defined k) → k ≡ Kind.Defined
-defined_is Kind.Defined t = refl
-defined_is Kind.Invariant t = cc
-defined_is Kind.Unless t = cc
-defined_is Kind.Ensures t = cc
-defined_is Kind.Leadsto t = cc
-
-invariant_is : (k : Kind) → IsTrue (is_invariant k) → k ≡ Kind.Invariant
-invariant_is Kind.Invariant t = refl
-invariant_is Kind.Defined t = cc
-invariant_is Kind.Unless t = cc
-invariant_is Kind.Ensures t = cc
-invariant_is Kind.Leadsto t = cc
-
-leadsto_is : (k : Kind) → IsTrue (is_leadsto k) → k ≡ Kind.Leadsto
-leadsto_is Kind.Leadsto t = refl
-leadsto_is Kind.Defined t = cc
-leadsto_is Kind.Invariant t = cc
-leadsto_is Kind.Unless t = cc
-leadsto_is Kind.Ensures t = cc
-
-same_kind : (k l : Kind) → IsTrue (is_kind k l) → l ≡ k
-same_kind Kind.Defined l t = defined_is l t
-same_kind Kind.Invariant l t = invariant_is l t
-same_kind Kind.Unless l t = unless_is l t
-same_kind Kind.Ensures l t = ensures_is l t
-same_kind Kind.Leadsto l t = leadsto_is l t
 
 -- a step of a program, at any place of a proof
 module _ (slots : List CSlot) (starts : CProgram → Bool) (c : CProgram) (step : CStep) (book : List Record)
@@ -139,33 +96,11 @@ module _ (slots : List CSlot) (starts : CProgram → Bool) (c : CProgram) (step 
       need_gives a.kind (is_unless a.kind || is_ensures a.kind) Code.WrongKind _
       (made_gives a.kind a.p step.q a.under a.helper (imply (using ++ (a.q ∷ [])) step.q ∷ []))
 
-  -- a pair rule over two unless
-  unlesses_give : (a b : Record) (rest : Result Conclusion Code) → Gives Kind.Unless rest →
-      Gives b.kind (needs (is_unless a.kind && is_unless b.kind) Code.WrongKind rest)
-  unlesses_give a b rest gives y e =
-      let kinds = met (is_unless a.kind && is_unless b.kind) Code.WrongKind rest y e in
-      subst (λ k. Fits k y.made)
-      (sym (unless_is b.kind (and_right (is_unless a.kind) (is_unless b.kind) kinds.0))) (gives y kinds.1)
-
-  pair_gives : (which : RuleName) (a b : Record) → Gives b.kind (pair_of site which a b)
-  unfolding pair_of
-  pair_gives RuleName.Conj a b =
-      need_gives b.kind (is_unless a.kind && (is_unless b.kind || is_ensures b.kind)) Code.WrongKind _
-      (made_gives b.kind (and_form a.p b.p) (ends_of_both a.p a.q b.p b.q) (a.under ++ b.under) b.helper [])
-  pair_gives RuleName.Simpleconj a b =
-      unlesses_give a b _
-      (made_gives Kind.Unless (and_form a.p b.p) (or_form a.q b.q) (a.under ++ b.under) None [])
-  pair_gives RuleName.Disj a b =
-      unlesses_give a b _
-      (made_gives Kind.Unless (or_form a.p b.p) (ends_of_either a.p a.q b.p b.q) (a.under ++ b.under) None [])
-  pair_gives RuleName.Simpledisj a b =
-      unlesses_give a b _
-      (made_gives Kind.Unless (or_form a.p b.p) (or_form a.q b.q) (a.under ++ b.under) None [])
-  pair_gives RuleName.Cancel a b =
-      unlesses_give a b _
-      (need_gives Kind.Unless (same_form a.q b.p) Code.MiddleDiffers _
-      (made_gives Kind.Unless (or_form a.p a.q) b.q (a.under ++ b.under) None []))
-  pair_gives _ a b = λ y e. cc
+  pair_gives : (which : RuleName) (a b : Record) → Gives (pair_kind which b.kind) (pair_of site which a b)
+  pair_gives which a b =
+      let kind : Kind = pair_kind which b.kind in
+      of_pair (Gives kind) site a b which (λ code y e. cc) (need_gives kind)
+      (λ p q. made_gives kind p q (a.under ++ b.under) (pair_helper which b.helper) [])
 
   -- a reference gives a record of a kind that serves
   referred_serves : (serves : Kind → Bool) (r : Ref) (b : Record) →
@@ -192,13 +127,7 @@ module _ (slots : List CSlot) (starts : CProgram → Bool) (c : CProgram) (step 
   again_gives : (t : PTerm-F PTerm) → Gives step.kind (again_of site step book t)
   again_gives (PTerm-F.From r) =
       referred_gives r (same_again site) (λ a. made_gives a.kind a.p a.q a.under a.helper [])
-  again_gives (PTerm-F.Imply p q) = λ y e. cc
-  again_gives (PTerm-F.Trans t u) = λ y e. cc
-  again_gives (PTerm-F.Either t u) = λ y e. cc
-  again_gives (PTerm-F.Exists m range t) = λ y e. cc
-  again_gives (PTerm-F.Induct m range measure p q t) = λ y e. cc
-  again_gives (PTerm-F.Psp t r) = λ y e. cc
-  again_gives (PTerm-F.Weaken p q t) = λ y e. cc
+  again_gives _ = λ y e. cc
 
   derive_gives : (t : PTerm) → Gives Kind.Leadsto (derive_of site t book)
   unfolding derive_of
@@ -211,10 +140,7 @@ module _ (slots : List CSlot) (starts : CProgram → Bool) (c : CProgram) (step 
 
   proof_gives : (t : PTerm) (k : Kind) → step.kind ≡ k → Gives step.kind (proof_of site step book k t)
   proof_gives t Kind.Leadsto same = λ y e. subst (λ k. Fits k y.made) (sym same) (derive_gives t y e)
-  proof_gives t Kind.Defined same = again_gives (out-PTerm t)
-  proof_gives t Kind.Invariant same = again_gives (out-PTerm t)
-  proof_gives t Kind.Unless same = again_gives (out-PTerm t)
-  proof_gives t Kind.Ensures same = again_gives (out-PTerm t)
+  proof_gives t _ same = again_gives (out-PTerm t)
 
   united_gives : (a b : Record) (k : Kind) → Gives k (united starts site k a b)
   unfolding union_defined_of union_invariant_of union_unless_of union_ensures_of
@@ -262,7 +188,11 @@ module _ (slots : List CSlot) (starts : CProgram → Bool) (c : CProgram) (step 
   applied_gives (CRule.Pair which r s) suited = λ y e.
       let one = went_on (referred site step.params book is_unless r) (λ a.
       go_on (referred site step.params book (is_kind step.kind) s) (λ b. pair_of site which a b)) y e in
-      referred_gives s (λ b. pair_of site which one.0 b) (λ b. pair_gives which one.0 b) y one.2
+      let two = went_on (referred site step.params book (is_kind step.kind) s) (λ b. pair_of site which one.0 b) y
+      one.2 in
+      subst (λ k. Fits k y.made)
+      (pair_kind_is which r s two.0.kind step.kind (referred_serves (is_kind step.kind) s two.0 two.1) suited)
+      (pair_gives which one.0 two.0 y two.2)
   applied_gives (CRule.Union r s) suited = λ y e.
       let parts = parts_give r s y e in united_gives parts.0 parts.1 step.kind y parts.2
   applied_gives (CRule.Proof t) suited = proof_gives t step.kind refl
@@ -273,10 +203,7 @@ module _ (slots : List CSlot) (starts : CProgram → Bool) (c : CProgram) (step 
       IsTrue (starts c)
   unfolding defined_of
   text_starts Kind.Defined same y e = (met (starts c) Code.NoStart _ y e).0
-  text_starts Kind.Invariant same y e = cc
-  text_starts Kind.Unless same y e = cc
-  text_starts Kind.Ensures same y e = cc
-  text_starts Kind.Leadsto same y e = cc
+  text_starts _ same y e = cc
 
   united_starts : (a b : Record) (k : Kind) → k ≡ Kind.Defined → (y : Conclusion) →
       united starts site k a b ≡ Ok y → IsTrue (starts c)
@@ -285,20 +212,11 @@ module _ (slots : List CSlot) (starts : CProgram → Bool) (c : CProgram) (step 
       let one = met (is_part_pair site a b) Code.OtherProgram _ y e in
       let two = met (is_defined a.kind && is_defined b.kind) Code.WrongKind _ y one.1 in
       (met (starts c) Code.NoStart _ y two.1).0
-  united_starts a b Kind.Invariant same y e = cc
-  united_starts a b Kind.Unless same y e = cc
-  united_starts a b Kind.Ensures same y e = cc
-  united_starts a b Kind.Leadsto same y e = cc
+  united_starts a b _ same y e = cc
 
   no_term : (t : PTerm-F PTerm) → IsTrue (suits_term t Kind.Defined) → ⊥
   no_term (PTerm-F.From r) h = cc
-  no_term (PTerm-F.Imply p q) h = cc
-  no_term (PTerm-F.Trans t u) h = cc
-  no_term (PTerm-F.Either t u) h = cc
-  no_term (PTerm-F.Exists m range t) h = cc
-  no_term (PTerm-F.Induct m range measure p q t) h = cc
-  no_term (PTerm-F.Psp t r) h = cc
-  no_term (PTerm-F.Weaken p q t) h = cc
+  no_term _ h = cc
 
   no_pair : (which : RuleName) (r s : Ref) → IsTrue (suits (CRule.Pair which r s) Kind.Defined) → ⊥
   no_pair RuleName.Conj r s h = cc

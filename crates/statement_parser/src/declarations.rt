@@ -9,7 +9,7 @@ ghost use Rattle.ebnf.specs.Reader.{begins};
 ghost use Rattle.unity_syntax.specs.Classes.{reserved, symbol};
 ghost use Rattle.unity_syntax.specs.Kinds.{Kind, Contents, contents};
 ghost use Rattle.unity_syntax.specs.Grammar.{past, made, in_brackets, name_, number_, minus_, range_, init_value_};
-ghost use Rattle.unity_syntax.specs.Grammar.{init_, def_, plain_, var_type_, var_, one_or_more};
+ghost use Rattle.unity_syntax.specs.Grammar.{init_, start_index_, def_, plain_, var_type_, var_, one_or_more};
 ghost use Rattle.unity_syntax.specs.View.{view_option, view_list, view_some, view_name, view_with_minus, view_plain};
 ghost use Rattle.unity_syntax.specs.View.{view_var_type, view_var, view_def, view_init_value, view_init};
 ghost use Rattle.statement_parser.specs.Forms.{words_in_braces_};
@@ -23,7 +23,7 @@ use unity_base::Seq;
 use unity_syntax::{Def, Init, InitValue, Name, Plain, Var, VarType};
 
 /// `"{" word { "," word } "}"`
-#[tactic(auto, using(token_cursor::proofs::Levels::a_level_left, token_cursor::proofs::Levels::no_level_left))]
+#[tactic(auto, using(token_cursor::proofs::Levels::a_level, token_cursor::proofs::Levels::no_level))]
 fn enclosed_names<'a>(alloc: Global, depth: u32, text: Cursor<'a>) -> Parsed<'a, (Name, Seq<Name>)>
     ensures { Reads (view_some view_name) result words_in_braces_ depth text.entry }
 {
@@ -71,7 +71,7 @@ fn plain<'a>(alloc: Global, depth: u32, text: Cursor<'a>) -> Parsed<'a, Plain>
 }
 
 /// Whether the next token begins a type that is no array.
-#[tactic(auto, unfolding(unity_syntax::specs::Grammar::end_, unity_syntax::specs::Grammar::range_, unity_syntax::specs::Grammar::plain_))]
+#[tactic(auto, unfolding(unity_syntax::proofs::Productions::all_productions))]
 fn begins_plain(text: Cursor) -> bool
     ensures { result ≡ begins (first plain_) (remaining text.entry) }
 {
@@ -206,8 +206,18 @@ fn init_value<'a>(alloc: Global, depth: u32, text: Cursor<'a>) -> Parsed<'a, Ini
     Ok((InitValue::False { at }, text))
 }
 
+/// `[ "-" ] number`
+#[tactic(auto, unfolding(unity_syntax::specs::Grammar::start_index_))]
+fn signed_number<'a>(depth: u32, text: Cursor<'a>) -> Parsed<'a, (bool, u64)>
+    ensures { Reads view_with_minus result start_index_ depth text.entry }
+{
+    let (minus, text) = text.minus();
+    let (number, text) = text.number()?;
+    Ok(((minus, number), text))
+}
+
 /// `[ "-" ] number` in brackets
-#[tactic(auto, using(token_cursor::proofs::Levels::a_level_left, token_cursor::proofs::Levels::no_level_left), unfolding(unity_syntax::specs::Grammar::start_index_))]
+#[tactic(auto, using(token_cursor::proofs::Levels::a_level, token_cursor::proofs::Levels::no_level))]
 fn start_index<'a>(depth: u32, text: Cursor<'a>) -> Parsed<'a, (bool, u64)>
     ensures { Reads view_with_minus result (in_brackets Contents.start_index) depth text.entry }
 {
@@ -215,10 +225,9 @@ fn start_index<'a>(depth: u32, text: Cursor<'a>) -> Parsed<'a, (bool, u64)>
     if depth == 0 {
         return Err(Stop::TooDeep(text));
     }
-    let (minus, rest) = rest.minus();
-    let (number, rest) = rest.number()?;
+    let (index, rest) = signed_number(depth - 1, rest)?;
     let rest = rest.symbol(Symbol::CloseBracket)?;
-    Ok(((minus, number), rest))
+    Ok((index, rest))
 }
 
 /// `[ "[" [ "-" ] number "]" ]`

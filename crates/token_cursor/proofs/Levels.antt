@@ -9,13 +9,13 @@ use Rattle.token_cursor.specs.declared.stop.Stop.{Stop}
 use Rattle.token_cursor.specs.Gives.{Fails}
 use Rattle.token_cursor.proofs.Failing.{through, same_fails}
 
-pub a_level_left : (n o k c : ℕ) (ts : List Terminal) → 0 < n →
+pub a_level : (n o k c : ℕ) (ts : List Terminal) → 0 < n →
     read grammar n (inside o k c) ts ≡ (skip o ts >>= λ x. closed (read grammar (n - 1) (at_number bodies k)) c x.1)
-a_level_left n o k c ts h = inside_some grammar n o k c ts h
+a_level n o k c ts h = inside_some grammar n o k c ts h
 
-pub no_level_left : (n o k c : ℕ) (ts : List Terminal) → n ≡ 0 →
+pub no_level : (n o k c : ℕ) (ts : List Terminal) → n ≡ 0 →
     read grammar n (inside o k c) ts ≡ (skip o ts >>= λ x. Err (TooDeep ts))
-no_level_left n o k c ts h = inside_none grammar n o k c ts h
+no_level n o k c ts h = inside_none grammar n o k c ts h
 
 -- what is read, and then the closing token
 abbrev pub shut_by : ℕ → Read Tree → Read Tree
@@ -79,15 +79,15 @@ pub node_none : (kd at : ℕ) (n o k c : ℕ) (ts : List Terminal) → n ≡ 0 �
 node_none kd at n o k c ts h = after_none (node kd at) n o k c ts h
 
 -- a node of something and what stands in brackets
-pub node_with_level : (kd at : ℕ) (w : Tree) (n o k c : ℕ) (ts : List Terminal) → 0 < n →
+pub with_level : (kd at : ℕ) (w : Tree) (n o k c : ℕ) (ts : List Terminal) → 0 < n →
     after (λ x. node kd at (pair w x)) (read grammar n (inside o k c) ts)
     ≡ (skip o ts >>= λ x. shut_by c (after (λ x. node kd at (pair w x))
     (read grammar (n - 1) (at_number bodies k) x.1)))
-node_with_level kd at w n o k c ts h = after_level (λ x. node kd at (pair w x)) n o k c ts h
+with_level kd at w n o k c ts h = after_level (λ x. node kd at (pair w x)) n o k c ts h
 
-pub node_with_none : (kd at : ℕ) (w : Tree) (n o k c : ℕ) (ts : List Terminal) → n ≡ 0 →
+pub with_none : (kd at : ℕ) (w : Tree) (n o k c : ℕ) (ts : List Terminal) → n ≡ 0 →
     after (λ x. node kd at (pair w x)) (read grammar n (inside o k c) ts) ≡ (skip o ts >>= λ x. Err (TooDeep ts))
-node_with_none kd at w n o k c ts h = after_none (λ x. node kd at (pair w x)) n o k c ts h
+with_none kd at w n o k c ts h = after_none (λ x. node kd at (pair w x)) n o k c ts h
 
 -- a fault in what stands in brackets
 pub contents_fail : (f : Tree → Tree) (n o k c : ℕ) (ts mid : List Terminal) → 0 < n → skip o ts ≡ Ok (unit, mid) →

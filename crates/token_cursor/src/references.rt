@@ -20,7 +20,7 @@ use unity_base::Seq;
 use unity_syntax::{End, Inst, Name, Ref};
 
 /// `"[" end { "," end } "]"`
-#[tactic(auto, using(crate::proofs::Levels::a_level_left, crate::proofs::Levels::no_level_left))]
+#[tactic(auto, using(crate::proofs::Levels::a_level, crate::proofs::Levels::no_level))]
 fn some_indices<'a>(alloc: Global, depth: u32, text: Cursor<'a>) -> Parsed<'a, (End, Seq<End>)>
     ensures { Reads (view_some view_end) result (in_brackets Contents.ends) depth text.entry }
 {

@@ -1,6 +1,6 @@
 -- What the search of the first branch says of its obligation.
-use Rattle.std.proofs.Common.{◌≡◌, ℕ, ℤ, zero, suc, ◌+◌, ◌≤◌, nat_le, nat_lt, not, Bool, true, false, cond, Option}
-use Rattle.std.proofs.Common.{Some, None, Result, Ok, Err, length, slice_get, List, [], ◌∷◌, ◌++◌, arith, refl, sym}
+use Rattle.std.proofs.Common.{◌≡◌, ℕ, suc, ◌+◌, ◌≤◌, not, true, Option}
+use Rattle.std.proofs.Common.{Some, None, Ok, length, List, [], ◌∷◌, ◌++◌, arith, refl, sym}
 use Rattle.std.proofs.Common.{ap, subst, ◌∙◌}
 use Rattle.std.proofs.lemmas.Bool.{and_parts, not-true}
 use Rattle.obligations.specs.declared.branches.Branch.{Branch}
@@ -11,21 +11,16 @@ use Rattle.obligations.specs.declared.certificates.Node.{Node}
 use Rattle.certificate_check.specs.Refutation.{Pending}
 use Rattle.obligations.specs.Settling.{form_at}
 use Rattle.obligations.specs.Opening.{in_ranges, first_branch}
-use Rattle.certificate_check.specs.Refutation.{Made, fails, opens, made_case, case_at, split_at, made_sum, made_round}
-use Rattle.certificate_check.specs.Refutation.{made_by, made, pending, after, walk}
-use Rattle.certificate_check.specs.Sums.{all_pairs, is_false, is_divisible}
-use Rattle.certificate_check.specs.Trees.{arity, is_whole}
-use Rattle.case_tables.specs.declared.code_table.Code.{Code}
-use Rattle.core_terms.specs.declared.trees.CForm.{CForm}
-use Rattle.obligations.specs.declared.branches.Line.{Line}
-use Rattle.obligations.specs.Settling.{settled, sides, without}
+use Rattle.certificate_check.specs.Refutation.{Made, fails, opens, made, pending, after, walk}
+use Rattle.certificate_check.specs.Trees.{is_whole}
+use Rattle.certificate_check.proofs.WholeLaws.{opened-arity}
 use Rattle.linear_prover.specs.Chains.{is_plain_node}
 use Rattle.std.specs.List.{list_all}
 use Rattle.obligations.proofs.OpeningLaws.{first-holds}
 use Rattle.tree_search.specs.declared.plain_tree.Trail.{Trail}
 use Rattle.tree_search.specs.declared.plain_tree.Ended.{Ended}
 use Rattle.tree_search.specs.declared.plain_tree.Found.{Found}
-use Rattle.obligations.specs.Certificates.{units}
+use Rattle.obligations.specs.Certificates.{arity, units}
 use Rattle.tree_search.specs.Left.{left_by, left}
 use Rattle.obligations.specs.Plain.{ranges_of, plain_leaves, enough, need_of}
 use Rattle.tree_search.specs.Searching.{Ready, Ends, IsOpen, IsUnfinished, root, Answers, found_of}
@@ -50,55 +45,6 @@ left-walk vs (n ∷ ns) (p ∷ ps) qs at e = opened (made vs p n) e (λ rs. left
         after (λ rs. walk vs ns rs (suc at)) p.level ps at m ≡ Ok qs
     opened (fails c) e f = let x = left-none vs ns in cc
     opened (opens bs) e f = f (pending (suc p.level) bs ++ ps) e
-
--- a node opens as many branches as it has subtrees
-opened-arity : (vs : List Variable) (p : Pending) (n : Node) (bs : List Branch) → made vs p n ≡ opens bs → length bs ≡
-    arity n
-opened-arity vs p n bs e = by_level (nat_le p.level 1024) e
-  where
-    by_case : (k : ℕ) (o : Option CForm) → made_case vs p.branch k o ≡ opens bs → length bs ≡ 2
-    by_case k None e = cc
-    by_case k (Some f) e = let s : settled vs (sides f).0 (without p.branch k) ∷ settled vs (sides f).1
-        (without p.branch k) ∷ [] ≡ bs = cc in sym (ap length s)
-
-    case : (k : ℕ) → case_at vs p.branch k ≡ opens bs → length bs ≡ 2
-    case zero e = cc
-    case (suc k) e = by_case k (slice_get p.branch.waiting k) e
-
-    by_split : (t : Bool) (c d : Branch) → cond t (opens (c ∷ d ∷ [])) (fails Code.NoSuchVariable) ≡ opens bs → length
-        bs ≡ 2
-    by_split true c d e = let s : c ∷ d ∷ [] ≡ bs = cc in sym (ap length s)
-    by_split false c d e = cc
-
-    split : (v : ℕ) (k : ℤ) → split_at vs p.branch v k ≡ opens bs → length bs ≡ 2
-    split zero k e = cc
-    split (suc v) k e = by_split (nat_lt v (length vs)) _ _ e
-
-    by_sum : (t : Bool) → cond t (opens []) (fails Code.BadSum) ≡ opens bs → length bs ≡ 0
-    by_sum true e = let s : [] ≡ bs = cc in sym (ap length s)
-    by_sum false e = cc
-
-    sum : (r : Result Line Code) → made_sum r ≡ opens bs → length bs ≡ 0
-    sum (Err c) e = cc
-    sum (Ok l) e = by_sum (is_false l) e
-
-    by_round : (t : Bool) (b : Branch) → cond t (opens (b ∷ [])) (fails Code.NotDivisible) ≡ opens bs → length bs ≡ 1
-    by_round true b e = let s : b ∷ [] ≡ bs = cc in sym (ap length s)
-    by_round false b e = cc
-
-    round : (d : ℤ) (r : Result Line Code) → made_round p.branch d r ≡ opens bs → length bs ≡ 1
-    round d (Err c) e = cc
-    round d (Ok l) e = by_round (is_divisible d l) _ e
-
-    by_node : (n : Node) → made_by vs p.branch n ≡ opens bs → length bs ≡ arity n
-    by_node (Node.Case k) e = case k e
-    by_node (Node.Split v k) e = split v k e
-    by_node (Node.Sum ps) e = sum (all_pairs vs p.branch.facts ps) e
-    by_node (Node.Round d ps) e = round d (all_pairs vs p.branch.facts ps) e
-
-    by_level : (t : Bool) → cond t (made_by vs p.branch n) (fails Code.CertTooDeep) ≡ opens bs → length bs ≡ arity n
-    by_level true e = by_node n e
-    by_level false e = cc
 
 -- nodes that leave nothing are whole trees
 pub left-whole : (vs : List Variable) (ns : List Node) (ps : List Pending) → left vs (Some ps) ns ≡ Some [] → is_whole

@@ -23,7 +23,6 @@ use Rattle.unity_syntax.specs.declared.document.Document.{Document}
 use Rattle.unity_syntax.specs.TwoFolds.{TermLayers}
 use Rattle.unity_syntax.proofs.TermFolds.{two_terms}
 use Rattle.core_terms.specs.declared.documents.Arg.{Arg}
-use Rattle.core_terms.specs.declared.documents.Ref.{Ref}
 use Rattle.core_terms.specs.declared.documents.CStep.{CStep}
 use Rattle.core_terms.specs.declared.documents.PTerm.{PTerm}
 use Rattle.core_terms.specs.declared.documents.PTerm.TheVariants.{Imply, From, Trans, Either, Exists, Induct, Psp}
@@ -39,8 +38,9 @@ use Rattle.name_scopes.specs.WellNamed.{part_of, param_number}
 use Rattle.name_laws.proofs.AttributeTheorems.{earlier_first, earlier_second}
 use Rattle.document_words.specs.Texts.{Texts}
 use Rattle.document_words.specs.WordNumbers.{document_words}
-use Rattle.expand_declarations.specs.References.{with_param, step_params, param_range, text_rule, pair_rule}
+use Rattle.expand_declarations.specs.References.{with_param, step_params, param_range, text_rule}
 use Rattle.expand_declarations.specs.References.{names_layer, term_names, param_named, word_arg, core_arg}
+use Rattle.expand_declarations.proofs.PairRules.{of_pair_rule}
 use Rattle.expansion_laws.specs.Forming.{Scope}
 use Rattle.expand_proofs.specs.ProofTerms.{Place, Terming, term_layer, termed, pair_term, ref_in, with_bound_name}
 use Rattle.expand_proofs.specs.Steps.{step_place, core_rule, core_step, core_proof}
@@ -238,14 +238,6 @@ term_named t = two_terms Names term_layer names_layer layer t
 
 -- rules
 
-pair_named : (which : Word) (v : ℕ → Bool) (r s : Ref) → RuleNamed v (pair_rule which r s)
-pair_named Word.Conj v r s = tt
-pair_named Word.Simpleconj v r s = tt
-pair_named Word.Disj v r s = tt
-pair_named Word.Simpledisj v r s = tt
-pair_named Word.Union v r s = tt
-pair_named _ v r s = tt
-
 text_named : (v : ℕ → Bool) (c : Place) → Sees v c → (with : Option Inst) →
     RuleNamed v (text_rule c.words c.bounds c.params with)
 text_named v c h None = tt
@@ -254,7 +246,8 @@ text_named v c h (Some helper) = each_arg v c h (some_of helper.indices)
 rule_named : (v : ℕ → Bool) (c : Place) → Sees v c → (rule : Rule) → RuleNamed v (core_rule c rule)
 rule_named v c h (Rule.Text at with) = text_named v c h with
 rule_named v c h (Rule.Weaken at of) = tt
-rule_named v c h (Rule.Pair at which first second) = pair_named which v (ref_in c first) (ref_in c second)
+rule_named v c h (Rule.Pair at which first second) =
+    of_pair_rule (RuleNamed v) which (ref_in c first) (ref_in c second) (λ name. tt) tt
 rule_named v c h (Rule.Term at of) = term_named of c _ v h
 
 -- steps

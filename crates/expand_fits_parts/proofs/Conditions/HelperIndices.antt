@@ -7,7 +7,6 @@ use Rattle.std.specs.Map.{lookup}
 use Rattle.std.specs.Str.{bytes_eq}
 use Rattle.std.proofs.lemmas.List.Elements.{All-nil, All-cons, All-head, All-tail, All-map, All-weaker}
 use Rattle.case_tables.specs.declared.code_table.Code.{Code}
-use Rattle.case_tables.specs.declared.word_table.Word.{Word}
 use Rattle.unity_syntax.specs.declared.name.Name.{Name}
 use Rattle.unity_syntax.specs.declared.name.End.{End}
 use Rattle.case_tables.specs.declared.symbol_table.Symbol.{Symbol}
@@ -16,7 +15,6 @@ use Rattle.unity_syntax.specs.declared.proof.Param.{Param}
 use Rattle.unity_syntax.specs.declared.proof.Rule.{Rule}
 use Rattle.unity_syntax.specs.declared.proof.Step.{Step}
 use Rattle.unity_syntax.specs.declared.document.Part.{Part}
-use Rattle.core_terms.specs.declared.documents.Ref.{Ref}
 use Rattle.core_terms.specs.Conditions.{IsIndex}
 use Rattle.name_scopes.specs.declared.named.Indices.{Indices}
 use Rattle.name_scopes.specs.declared.named.Meaning.{Meaning}
@@ -31,7 +29,8 @@ use Rattle.name_scopes.specs.WellNamed.{Declared, nothing_declared, proved_progr
 use Rattle.name_laws.proofs.AttributeTheorems.{earlier_first, earlier_second, unless_none}
 use Rattle.name_laws.proofs.Tables.{Each, each_document}
 use Rattle.document_words.specs.WordNumbers.{document_words}
-use Rattle.expand_declarations.specs.References.{with_param, step_params, word_arg, core_arg, text_rule, pair_rule}
+use Rattle.expand_declarations.specs.References.{with_param, step_params, word_arg, core_arg, text_rule}
+use Rattle.expand_declarations.proofs.PairRules.{of_pair_rule}
 use Rattle.expand_proofs.specs.ProofTerms.{Place, ref_in}
 use Rattle.expand_proofs.specs.Steps.{step_place, core_rule, core_step, core_proof}
 use Rattle.unity_meaning.specs.Steps.{proofs_among}
@@ -163,14 +162,6 @@ proofs_indexed (Part.Proof at p ∷ rest) h = All-cons (λ p. All StepIndexed p.
 
 -- rules in core form
 
-pair_indexed : (which : Word) (r s : Ref) → RuleIndexed (pair_rule which r s)
-pair_indexed Word.Conj r s = tt
-pair_indexed Word.Simpleconj r s = tt
-pair_indexed Word.Disj r s = tt
-pair_indexed Word.Simpledisj r s = tt
-pair_indexed Word.Union r s = tt
-pair_indexed _ r s = tt
-
 text_indexed : (c : Place) → c.bounds ≡ [] → (with : Option Inst) → WithIndexed c.params with →
     RuleIndexed (text_rule c.words c.bounds c.params with)
 text_indexed c outside None h = tt
@@ -181,7 +172,7 @@ rule_indexed : (c : Place) → c.bounds ≡ [] → (rule : Rule) → TextIndexed
 rule_indexed c outside (Rule.Text at with) h = text_indexed c outside with h
 rule_indexed c outside (Rule.Weaken at of) h = tt
 rule_indexed c outside (Rule.Pair at which first second) h =
-    pair_indexed which (ref_in c first) (ref_in c second)
+    of_pair_rule RuleIndexed which (ref_in c first) (ref_in c second) (λ name. tt) tt
 rule_indexed c outside (Rule.Term at of) h = tt
 
 pub helpers_indexed : HelpersIndexed

@@ -9,13 +9,11 @@ use Rattle.std.specs.Str.{bytes_eq}
 use Rattle.std.proofs.lemmas.List.Elements.{All-nil, All-cons, All-head, All-tail, All-map, All-weaker}
 use Rattle.indexmap.specs.IndexMap.{insert_entry}
 use Rattle.case_tables.specs.declared.code_table.Code.{Code}
-use Rattle.case_tables.specs.declared.word_table.Word.{Word}
 use Rattle.unity_syntax.specs.declared.term.Inst.{Inst}
 use Rattle.unity_syntax.specs.declared.proof.Param.{Param}
 use Rattle.unity_syntax.specs.declared.proof.Rule.{Rule}
 use Rattle.unity_syntax.specs.declared.proof.Step.{Step}
 use Rattle.unity_syntax.specs.declared.document.Part.{Part}
-use Rattle.core_terms.specs.declared.documents.Ref.{Ref}
 use Rattle.name_scopes.specs.declared.named.Meaning.{Meaning}
 use Rattle.name_scopes.specs.Scope.{Table, Params, found, bound_named, visible}
 use Rattle.name_scopes.specs.Reading.{binding, filled}
@@ -26,7 +24,8 @@ use Rattle.name_scopes.specs.WellNamed.{Declared, nothing_declared, proved_progr
 use Rattle.name_laws.proofs.AttributeTheorems.{earlier_first, earlier_second, unless_none}
 use Rattle.document_words.specs.Texts.{Texts}
 use Rattle.document_words.specs.WordNumbers.{document_words}
-use Rattle.expand_declarations.specs.References.{with_param, step_params, param_range, text_rule, pair_rule}
+use Rattle.expand_declarations.specs.References.{with_param, step_params, param_range, text_rule}
+use Rattle.expand_declarations.proofs.PairRules.{of_pair_rule}
 use Rattle.expansion_laws.specs.Forming.{Scope}
 use Rattle.expand_proofs.specs.ProofTerms.{Place, termed, ref_in}
 use Rattle.expand_proofs.specs.Steps.{step_place, core_rule, core_step, core_proof}
@@ -114,14 +113,6 @@ proofs_apart (Part.Proof at p ∷ rest) h = All-cons (λ p. All Apart p.steps) p
 is_there : {X : Type 0} (o : Option X) (x : X) → o ≡ Some x → IsSome o
 is_there o x e = subst (λ q. IsSome q) (sym e) refl
 
-pair_numbered : (which : Word) (r s : Ref) (n : ℕ) → RuleIsNumbered n (pair_rule which r s)
-pair_numbered Word.Conj r s n = tt
-pair_numbered Word.Simpleconj r s n = tt
-pair_numbered Word.Disj r s n = tt
-pair_numbered Word.Simpledisj r s n = tt
-pair_numbered Word.Union r s n = tt
-pair_numbered _ r s n = tt
-
 text_numbered : (c : Place) (with : Option Inst) (n : ℕ) → RuleIsNumbered n (text_rule c.words c.bounds c.params with)
 text_numbered c None n = tt
 text_numbered c (Some helper) n = tt
@@ -130,7 +121,7 @@ rule_numbered : (c : Place) (rule : Rule) → RuleIsNumbered (length c.params) (
 rule_numbered c (Rule.Text at with) = text_numbered c with (length c.params)
 rule_numbered c (Rule.Weaken at of) = tt
 rule_numbered c (Rule.Pair at which first second) =
-    pair_numbered which (ref_in c first) (ref_in c second) (length c.params)
+    of_pair_rule (RuleIsNumbered (length c.params)) which (ref_in c first) (ref_in c second) (λ name. tt) tt
 rule_numbered c (Rule.Term at of) =
     is_there _ (termed of c (length c.params)).next (counted of c (length c.params)).numbers
 

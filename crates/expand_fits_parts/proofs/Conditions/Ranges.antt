@@ -10,7 +10,6 @@ use Rattle.unity_syntax.specs.declared.proof.Step.{Step}
 use Rattle.unity_syntax.specs.declared.document.Part.{Part}
 use Rattle.unity_syntax.specs.TwoFolds.{TermLayers}
 use Rattle.unity_syntax.proofs.TermFolds.{two_terms}
-use Rattle.core_terms.specs.declared.documents.Ref.{Ref}
 use Rattle.core_terms.specs.declared.documents.PTerm.{PTerm}
 use Rattle.core_terms.specs.declared.documents.PTerm.TheVariants.{Imply, From, Trans, Either, Exists, Induct, Psp}
 use Rattle.core_terms.specs.declared.documents.PTerm.TheVariants.{Weaken}
@@ -27,7 +26,8 @@ use Rattle.name_scopes.specs.WellNamed.{Declared, nothing_declared, proved_progr
 use Rattle.name_laws.proofs.AttributeTheorems.{earlier_first, earlier_second}
 use Rattle.document_words.specs.WordNumbers.{document_words}
 use Rattle.expand_declarations.specs.Numbers.{core_range}
-use Rattle.expand_declarations.specs.References.{text_rule, pair_rule}
+use Rattle.expand_declarations.specs.References.{text_rule}
+use Rattle.expand_declarations.proofs.PairRules.{of_pair_rule}
 use Rattle.expand_proofs.specs.ProofTerms.{Place, Terming, term_layer, termed, fixed_ends, pair_term, ref_in}
 use Rattle.expand_proofs.specs.ProofTerms.{with_bound_name}
 use Rattle.expand_proofs.specs.Steps.{step_place, core_rule, core_step, core_proof}
@@ -123,14 +123,6 @@ module _ (programs : Programs) where
 
 -- rules
 
-pair_has : (which : Word) (r s : Ref) → RuleHasRanges (pair_rule which r s)
-pair_has Word.Conj r s = tt
-pair_has Word.Simpleconj r s = tt
-pair_has Word.Disj r s = tt
-pair_has Word.Simpledisj r s = tt
-pair_has Word.Union r s = tt
-pair_has _ r s = tt
-
 text_has : (c : Place) (with : Option Inst) → RuleHasRanges (text_rule c.words c.bounds c.params with)
 text_has c None = tt
 text_has c (Some helper) = tt
@@ -143,7 +135,8 @@ rule_has : (programs : Programs) (s : NameScope) (next : ℕ) (rule : Rule) →
     (rule_part programs s next rule).fault ≡ None → (c : Place) → RuleHasRanges (core_rule c rule)
 rule_has programs s next (Rule.Text at with) h c = text_has c with
 rule_has programs s next (Rule.Weaken at of) h c = tt
-rule_has programs s next (Rule.Pair at which first second) h c = pair_has which (ref_in c first) (ref_in c second)
+rule_has programs s next (Rule.Pair at which first second) h c =
+    of_pair_rule RuleHasRanges which (ref_in c first) (ref_in c second) (λ name. tt) tt
 rule_has programs s next (Rule.Term at of) h c = ranged programs of s next h c _
 
 step_keeps : (programs : Programs) (table : Table) (steps : List (List ℕ)) (step : Step) →

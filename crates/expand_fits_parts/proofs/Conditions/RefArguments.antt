@@ -30,8 +30,9 @@ use Rattle.name_scopes.specs.Declarations.{some_of}
 use Rattle.name_scopes.specs.WellNamed.{param_number}
 use Rattle.document_words.specs.Texts.{Texts}
 use Rattle.document_words.specs.WordNumbers.{document_words}
-use Rattle.expand_declarations.specs.References.{with_param, param_range, text_rule, pair_rule}
+use Rattle.expand_declarations.specs.References.{with_param, param_range, text_rule}
 use Rattle.expand_declarations.specs.References.{names_layer, term_names}
+use Rattle.expand_declarations.proofs.PairRules.{of_pair_rule}
 use Rattle.expansion_laws.specs.Forming.{Scope}
 use Rattle.expand_proofs.specs.ProofTerms.{Place, Terming, term_layer, termed, pair_term, ref_in, with_bound_name}
 use Rattle.expand_proofs.specs.Steps.{step_place, core_rule, core_step}
@@ -150,15 +151,6 @@ term_refers t = two_terms Limits term_layer names_layer layer t
 
 -- rules
 
-pair_refers : (which : Word) (limit : ℕ) (r s : Ref) → AllNamed limit (r ∷ s ∷ []) →
-    AllNamed limit (rule_refs (pair_rule which r s))
-pair_refers Word.Conj limit r s h = h
-pair_refers Word.Simpleconj limit r s h = h
-pair_refers Word.Disj limit r s h = h
-pair_refers Word.Simpledisj limit r s h = h
-pair_refers Word.Union limit r s h = h
-pair_refers _ limit r s h = h
-
 text_refers : (limit : ℕ) (c : Place) (with : Option Inst) →
     AllNamed limit (rule_refs (text_rule c.words c.bounds c.params with))
 text_refers limit c None = All-nil (RefNamed limit)
@@ -169,9 +161,9 @@ rule_refers : (limit : ℕ) (c : Place) → Sees (is_below limit) c → (rule : 
 rule_refers limit c h (Rule.Text at with) k = text_refers limit c with
 rule_refers limit c h (Rule.Weaken at of) k = one_refers limit c h of
 rule_refers limit c h (Rule.Pair at which first second) k =
-    pair_refers which limit (ref_in c first) (ref_in c second)
-    (All-cons (RefNamed limit) (ref_in c first) (ref_in c second ∷ []) (ref_seen (is_below limit) c h first)
-    (one_refers limit c h second))
+    let all = All-cons (RefNamed limit) (ref_in c first) (ref_in c second ∷ []) (ref_seen (is_below limit) c h first)
+    (one_refers limit c h second) in
+    of_pair_rule (λ rule. AllNamed limit (rule_refs rule)) which (ref_in c first) (ref_in c second) (λ name. all) all
 rule_refers limit c h (Rule.Term at of) k =
     let same = (counted of c (length c.params)).names in
     (term_refers of c (length c.params) limit h (omega arith)).named

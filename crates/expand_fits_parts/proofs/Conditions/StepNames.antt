@@ -30,6 +30,7 @@ use Rattle.document_words.specs.Texts.{rule_texts, step_texts, document_texts}
 use Rattle.document_words.specs.WordNumbers.{document_words, with_texts, word_number}
 use Rattle.expand_declarations.specs.References.{text_rule, pair_rule, ref_program, ref_step, names_layer, term_names}
 use Rattle.expand_declarations.specs.References.{rule_names}
+use Rattle.expand_declarations.proofs.PairRules.{of_pair_rule}
 use Rattle.expansion_laws.specs.Forming.{Scope}
 use Rattle.expand_proofs.specs.ProofTerms.{Place, Terming, term_layer, termed, pair_term, ref_in, with_bound_name}
 use Rattle.expand_proofs.specs.Steps.{step_place, core_rule, core_step, core_proof}
@@ -198,12 +199,9 @@ module _ (texts : Texts) where
     pub refs : Words (rule_refs rule)
 
   pair_says : (which : Word) (r s : Ref) → Words (r ∷ s ∷ []) → Says (pair_rule which r s)
-  pair_says Word.Conj r s h = record { label = tt; refs = h }
-  pair_says Word.Simpleconj r s h = record { label = tt; refs = h }
-  pair_says Word.Disj r s h = record { label = tt; refs = h }
-  pair_says Word.Simpledisj r s h = record { label = tt; refs = h }
-  pair_says Word.Union r s h = record { label = tt; refs = h }
-  pair_says _ r s h = record { label = tt; refs = h }
+  pair_says which r s h = of_pair_rule Says which r s
+      (λ name. record { label = tt; refs = h })
+      (record { label = tt; refs = h })
 
   text_says : (c : Place) → Stands c → (with : Option Inst) → Within (helper_texts with) texts →
       Says (text_rule c.words c.bounds c.params with)

@@ -10,14 +10,13 @@ use Rattle.unity_syntax.specs.declared.proof.Rule.{Rule}
 use Rattle.unity_syntax.specs.TwoFolds.{TermLayers}
 use Rattle.unity_syntax.proofs.TermFolds.{two_terms}
 use Rattle.core_terms.specs.declared.documents.Arg.{Arg}
-use Rattle.core_terms.specs.declared.documents.Ref.{Ref}
 use Rattle.core_terms.specs.declared.documents.PTerm.{PTerm}
 use Rattle.core_terms.specs.declared.documents.PTerm.TheVariants.{Imply, From, Trans, Either, Exists, Induct, Psp}
 use Rattle.core_terms.specs.declared.documents.PTerm.TheVariants.{Weaken}
 use Rattle.core_terms.specs.Conditions.{ArgFits, Parts, parts_step, parts_of, also, rule_refs}
 use Rattle.name_scopes.specs.Declarations.{some_of}
 use Rattle.document_words.specs.WordNumbers.{document_words}
-use Rattle.expand_declarations.specs.References.{pair_rule}
+use Rattle.expand_declarations.proofs.PairRules.{of_pair_rule}
 use Rattle.expand_proofs.specs.ProofTerms.{Place, Terming, term_layer, termed, pair_term, ref_in, with_bound_name}
 use Rattle.expand_proofs.specs.Steps.{step_place, core_rule, core_step, core_proof}
 use Rattle.unity_meaning.specs.Steps.{proofs_among}
@@ -99,37 +98,23 @@ term_fits t = two_terms Bounded term_layer ends_layer layer t
 one_ref : (c : Place) (r : TextRef) → All EndFits (some_of r.args) → AllFit (ref_in c r ∷ [])
 one_ref c r h = All-cons RefFits (ref_in c r) [] (arguments_fit c.bounds c.params r.args h) (All-nil RefFits)
 
-pair_rule_fits : (which : Word) (r s : Ref) → RuleArgumentsFit (pair_rule which r s)
-pair_rule_fits Word.Conj r s = tt
-pair_rule_fits Word.Simpleconj r s = tt
-pair_rule_fits Word.Disj r s = tt
-pair_rule_fits Word.Simpledisj r s = tt
-pair_rule_fits Word.Union r s = tt
-pair_rule_fits _ r s = tt
-
-pair_refs_fit : (which : Word) (r s : Ref) → AllFit (r ∷ s ∷ []) → AllFit (rule_refs (pair_rule which r s))
-pair_refs_fit Word.Conj r s h = h
-pair_refs_fit Word.Simpleconj r s h = h
-pair_refs_fit Word.Disj r s h = h
-pair_refs_fit Word.Simpledisj r s h = h
-pair_refs_fit Word.Union r s h = h
-pair_refs_fit _ r s h = h
-
 rule_fits : (c : Place) (rule : Rule) → All EndFits (rule_ends rule) → RuleArgumentsFit (core_rule c rule)
 rule_fits c (Rule.Text at None) h = tt
 rule_fits c (Rule.Text at (Some helper)) h = arguments_fit c.bounds c.params helper.indices h
 rule_fits c (Rule.Weaken at of) h = tt
-rule_fits c (Rule.Pair at which first second) h = pair_rule_fits which (ref_in c first) (ref_in c second)
+rule_fits c (Rule.Pair at which first second) h =
+    of_pair_rule RuleArgumentsFit which (ref_in c first) (ref_in c second) (λ name. tt) tt
 rule_fits c (Rule.Term at of) h = λ v. term_fits of h c (length c.params) v
 
 refs_fit : (c : Place) (rule : Rule) → All EndFits (rule_ends rule) → AllFit (rule_refs (core_rule c rule))
 refs_fit c (Rule.Text at None) h = All-nil RefFits
 refs_fit c (Rule.Text at (Some helper)) h = All-nil RefFits
 refs_fit c (Rule.Weaken at of) h = one_ref c of h
-refs_fit c (Rule.Pair at which first second) h = pair_refs_fit which (ref_in c first) (ref_in c second)
-    (All-cons RefFits (ref_in c first) (ref_in c second ∷ [])
+refs_fit c (Rule.Pair at which first second) h =
+    let all = All-cons RefFits (ref_in c first) (ref_in c second ∷ [])
     (arguments_fit c.bounds c.params first.args (left_ends (some_of first.args) (some_of second.args) h))
-    (one_ref c second (right_ends (some_of first.args) (some_of second.args) h)))
+    (one_ref c second (right_ends (some_of first.args) (some_of second.args) h)) in
+    of_pair_rule (λ rule. AllFit (rule_refs rule)) which (ref_in c first) (ref_in c second) (λ name. all) all
 refs_fit c (Rule.Term at of) h = terms_fit of h c (length c.params)
 
 pub steps_fit : StepsFit

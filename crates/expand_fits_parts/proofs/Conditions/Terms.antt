@@ -29,7 +29,8 @@ use Rattle.name_scopes.specs.Declarations.{some_of}
 use Rattle.document_words.specs.Texts.{Texts}
 use Rattle.document_words.specs.WordNumbers.{document_words, word_number}
 use Rattle.expand_declarations.specs.References.{param_range, names_layer, term_names, rule_names}
-use Rattle.expand_declarations.specs.References.{pair_rule, text_rule}
+use Rattle.expand_declarations.specs.References.{text_rule}
+use Rattle.expand_declarations.proofs.PairRules.{of_pair_rule}
 use Rattle.expansion_laws.specs.Forming.{Scope}
 use Rattle.expand_proofs.specs.ProofTerms.{Place, Terming, pair_term, term_layer, termed, ref_in, with_bound_name}
 use Rattle.expand_proofs.specs.Steps.{step_place, core_rule, core_step, core_proof}
@@ -162,14 +163,6 @@ counted t = two_terms Counts term_layer names_layer layer t
 
 -- rules
 
-pair_ranges : (which : Word) (r s : Ref) → length (rule_ranges (pair_rule which r s)) ≡ 0
-pair_ranges Word.Conj r s = refl
-pair_ranges Word.Simpleconj r s = refl
-pair_ranges Word.Disj r s = refl
-pair_ranges Word.Simpledisj r s = refl
-pair_ranges Word.Union r s = refl
-pair_ranges _ r s = refl
-
 text_ranges : (c : Place) (with : Option Inst) → length (rule_ranges (text_rule c.words c.bounds c.params with)) ≡ 0
 text_ranges c None = refl
 text_ranges c (Some helper) = refl
@@ -177,7 +170,8 @@ text_ranges c (Some helper) = refl
 rule_named : (c : Place) (rule : Rule) → length (rule_ranges (core_rule c rule)) ≡ length (rule_names rule)
 rule_named c (Rule.Text at with) = text_ranges c with
 rule_named c (Rule.Weaken at of) = refl
-rule_named c (Rule.Pair at which first second) = pair_ranges which (ref_in c first) (ref_in c second)
+rule_named c (Rule.Pair at which first second) =
+    of_pair_rule (λ rule. length (rule_ranges rule) ≡ 0) which (ref_in c first) (ref_in c second) (λ name. refl) refl
 rule_named c (Rule.Term at of) = (counted of c (length c.params)).names
 
 length_mapped : {X Y : Type 0} (f : X → Y) (xs : List X) → length (map f xs) ≡ length xs

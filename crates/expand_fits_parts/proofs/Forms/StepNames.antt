@@ -1,8 +1,6 @@
 -- Each parameter of a step and each name that its term binds has a word.
 use Rattle.std.proofs.Common.{◌≡◌, ℕ, suc, ◌+◌, List, [], ◌∷◌, ◌++◌, map, length, Some, None, refl, sym, ap, ◌∙◌, arith}
 use Rattle.std.proofs.lemmas.List.{length-append}
-use Rattle.case_tables.specs.declared.rule_table.RuleName.{RuleName}
-use Rattle.case_tables.specs.declared.word_table.Word.{Word}
 use Rattle.unity_syntax.specs.declared.proof.Param.{Param}
 use Rattle.unity_syntax.specs.declared.proof.Rule.{Rule}
 use Rattle.unity_syntax.specs.declared.term.Term.{Term}
@@ -12,14 +10,13 @@ use Rattle.unity_syntax.specs.TwoFolds.{Related}
 use Rattle.unity_syntax.proofs.TermFolds.{two_terms}
 use Rattle.name_scopes.specs.Declarations.{some_of}
 use Rattle.core_terms.specs.declared.trees.Range.{Range}
-use Rattle.core_terms.specs.declared.documents.CRule.{CRule}
 use Rattle.core_terms.specs.declared.documents.CStep.{CStep}
-use Rattle.core_terms.specs.declared.documents.Ref.{Ref}
 use Rattle.core_terms.specs.Conditions.{bound_ranges, rule_ranges}
 use Rattle.document_words.specs.Texts.{Texts}
 use Rattle.document_words.specs.WordNumbers.{document_words, word_number}
 use Rattle.expand_declarations.specs.Numbers.{core_range}
-use Rattle.expand_declarations.specs.References.{param_range, pair_rule, names_layer, term_names, rule_names}
+use Rattle.expand_declarations.specs.References.{param_range, names_layer, term_names, rule_names}
+use Rattle.expand_declarations.proofs.PairRules.{of_pair_rule}
 use Rattle.expand_proofs.specs.Elements.{form_in, term_in}
 use Rattle.expand_proofs.specs.ProofTerms.{Place, Terming, fixed_ends, with_bound_name, ref_in, term_layer, termed}
 use Rattle.expand_proofs.specs.Steps.{step_place, core_rule}
@@ -83,22 +80,12 @@ terms_bind t = two_terms AsMany term_layer names_layer layer t
 
 -- and so does a rule
 
-cancel_binds : (r s : Ref) → rule_ranges (CRule.Pair RuleName.Cancel r s) ≡ []
-cancel_binds r s = refl
-
-pair_binds : (which : Word) (r s : Ref) → rule_ranges (pair_rule which r s) ≡ []
-pair_binds Word.Conj r s = refl
-pair_binds Word.Simpleconj r s = refl
-pair_binds Word.Disj r s = refl
-pair_binds Word.Simpledisj r s = refl
-pair_binds Word.Union r s = refl
-pair_binds _ r s = cancel_binds r s
-
 rule_binds : (c : Place) (rule : Rule) → length (rule_names rule) ≡ length (rule_ranges (core_rule c rule))
 rule_binds c (Rule.Text at None) = refl
 rule_binds c (Rule.Text at (Some helper)) = refl
 rule_binds c (Rule.Weaken at of) = refl
-rule_binds c (Rule.Pair at which r s) = no_more _ (pair_binds which _ _)
+rule_binds c (Rule.Pair at which r s) =
+    of_pair_rule (λ rule. 0 ≡ length (rule_ranges rule)) which (ref_in c r) (ref_in c s) (λ name. refl) refl
 rule_binds c (Rule.Term at of) = terms_bind of c (length c.params)
 
 mapped : {X Y : Type 0} (f : X → Y) (xs : List X) → length (map f xs) ≡ length xs

@@ -4,8 +4,6 @@ use Rattle.std.proofs.Common.{suc, subst}
 use Rattle.std.specs.Prelude.{fold}
 use Rattle.std.specs.Option.{is_some}
 use Rattle.case_tables.specs.declared.code_table.Code.{Code}
-use Rattle.case_tables.specs.declared.word_table.Word.{Word}
-use Rattle.case_tables.specs.declared.rule_table.RuleName.{RuleName}
 use Rattle.unity_syntax.specs.declared.proof.Param.{Param}
 use Rattle.unity_syntax.specs.declared.proof.Rule.{Rule}
 use Rattle.unity_syntax.specs.declared.proof.Step.{Step}
@@ -19,15 +17,14 @@ use Rattle.name_laws.proofs.AttributeTheorems.{earlier_first, earlier_second, un
 use Rattle.name_laws.proofs.Mirrored.{not_some}
 use Rattle.core_terms.specs.declared.trees.Range.{Range}
 use Rattle.core_terms.specs.declared.programs.CSlot.{CSlot}
-use Rattle.core_terms.specs.declared.documents.CRule.{CRule}
 use Rattle.core_terms.specs.declared.documents.CStep.{CStep}
-use Rattle.core_terms.specs.declared.documents.Ref.{Ref}
 use Rattle.core_terms.specs.Conditions.{is_below, bound_ranges, IsNumbered}
 use Rattle.document_words.specs.Texts.{Texts}
 use Rattle.document_words.specs.WordNumbers.{document_words}
-use Rattle.expand_declarations.specs.References.{with_param, param_range, pair_rule}
+use Rattle.expand_declarations.specs.References.{with_param, param_range}
+use Rattle.expand_declarations.proofs.PairRules.{of_pair_rule}
 use Rattle.expansion_laws.specs.Forming.{Scope}
-use Rattle.expand_proofs.specs.ProofTerms.{Place, termed}
+use Rattle.expand_proofs.specs.ProofTerms.{Place, termed, ref_in}
 use Rattle.expand_proofs.specs.Steps.{param_bounds, step_place, claim_formulas, rule_formulas, step_formulas}
 use Rattle.expand_proofs.specs.Steps.{core_rule, core_step, step_fault}
 use Rattle.core_documents.specs.Cores.{document_scope, core_document}
@@ -63,24 +60,14 @@ ranges_count [] = refl
 ranges_count (p ∷ ps) = ap suc (ranges_count ps)
 
 module _ (slots : List CSlot) (params : List Range) where
-  cancel_fits : (r s : Ref) → RuleFits slots params (CRule.Pair RuleName.Cancel r s)
-  cancel_fits r s = tt
-
-  pair_fits : (which : Word) (r s : Ref) → RuleFits slots params (pair_rule which r s)
-  pair_fits Word.Conj r s = tt
-  pair_fits Word.Simpleconj r s = tt
-  pair_fits Word.Disj r s = tt
-  pair_fits Word.Simpledisj r s = tt
-  pair_fits Word.Union r s = tt
-  pair_fits _ r s = cancel_fits r s
-
   rule_fits : (c : Place) → ((more : List Range) → ScopeFits slots (params ++ more) c.scope) →
       ScopeNames (is_below (length slots)) (is_below (length params)) c.scope → length c.params ≡ length params →
       (rule : Rule) → Smalls (rule_formulas c rule) → RuleFits slots params (core_rule c rule)
   rule_fits c g names count (Rule.Text at None) small = tt
   rule_fits c g names count (Rule.Text at (Some helper)) small = tt
   rule_fits c g names count (Rule.Weaken at of) small = tt
-  rule_fits c g names count (Rule.Pair at which r s) small = pair_fits which _ _
+  rule_fits c g names count (Rule.Pair at which r s) small =
+      of_pair_rule (RuleFits slots params) which (ref_in c r) (ref_in c s) (λ name. tt) tt
   rule_fits c g names count (Rule.Term at of) small =
       let more = bound_ranges (termed of c (length c.params)).core in
       (terms_fine slots (params ++ more) of c (length c.params) (is_below (length params)) (g more) names
@@ -114,23 +101,13 @@ terms_fit d named h =
 
 -- the numbers of bound names
 
-cancel_numbered : (first : ℕ) (r s : Ref) → RuleNumbered first (CRule.Pair RuleName.Cancel r s)
-cancel_numbered first r s = tt
-
-pair_numbered : (first : ℕ) (which : Word) (r s : Ref) → RuleNumbered first (pair_rule which r s)
-pair_numbered first Word.Conj r s = tt
-pair_numbered first Word.Simpleconj r s = tt
-pair_numbered first Word.Disj r s = tt
-pair_numbered first Word.Simpledisj r s = tt
-pair_numbered first Word.Union r s = tt
-pair_numbered first _ r s = cancel_numbered first r s
-
 rule_numbered : (c : Place) (first : ℕ) → length c.params ≡ first → (rule : Rule) →
     RuleNumbered first (core_rule c rule)
 rule_numbered c first count (Rule.Text at None) = tt
 rule_numbered c first count (Rule.Text at (Some helper)) = tt
 rule_numbered c first count (Rule.Weaken at of) = tt
-rule_numbered c first count (Rule.Pair at which r s) = pair_numbered first which _ _
+rule_numbered c first count (Rule.Pair at which r s) =
+    of_pair_rule (RuleNumbered first) which (ref_in c r) (ref_in c s) (λ name. tt) tt
 rule_numbered c first count (Rule.Term at of) =
     subst (λ n. IsNumbered n (termed of c (length c.params)).core) count
     (ap (λ o. is_some o) (terms_numbered of c (length c.params)))

@@ -1,8 +1,6 @@
 -- The ranges of the names that proof terms bind have no fault in the text.
 use Rattle.std.proofs.Common.{◌≡◌, ℕ, ◌+◌, List, [], Bool, Some, None, refl, sym, subst, All, length, map}
 use Rattle.std.proofs.lemmas.List.Elements.{All-nil, All-cons, All-append}
-use Rattle.case_tables.specs.declared.rule_table.RuleName.{RuleName}
-use Rattle.case_tables.specs.declared.word_table.Word.{Word}
 use Rattle.unity_syntax.specs.declared.proof.Rule.{Rule}
 use Rattle.unity_syntax.specs.declared.proof.Step.{Step}
 use Rattle.unity_syntax.specs.declared.term.Term.{Term}
@@ -19,13 +17,12 @@ use Rattle.name_scopes.specs.Proofs.{Programs, Derived, boolean, number, ref_rea
 use Rattle.name_scopes.specs.Proofs.{term_part, term_layer as walk_layer, proof_scope, param_part, step_body}
 use Rattle.name_laws.proofs.AttributeTheorems.{earlier_first, earlier_second}
 use Rattle.core_terms.specs.declared.trees.Range.{Range}
-use Rattle.core_terms.specs.declared.documents.CRule.{CRule}
 use Rattle.core_terms.specs.declared.documents.CStep.{CStep}
-use Rattle.core_terms.specs.declared.documents.Ref.{Ref}
 use Rattle.core_terms.specs.Conditions.{Parts, parts_of, also, is_below}
 use Rattle.document_words.specs.WordNumbers.{document_words}
 use Rattle.expand_declarations.specs.Numbers.{core_range}
-use Rattle.expand_declarations.specs.References.{param_range, pair_rule}
+use Rattle.expand_declarations.specs.References.{param_range}
+use Rattle.expand_declarations.proofs.PairRules.{of_pair_rule}
 use Rattle.expand_proofs.specs.Elements.{form_in, term_in}
 use Rattle.expand_proofs.specs.ProofTerms.{Place, Terming, fixed_ends, with_bound_name, ref_in, term_layer, termed}
 use Rattle.expand_proofs.specs.Steps.{step_place, core_rule}
@@ -104,23 +101,13 @@ module _ (programs : Programs) where
   terms_read : (t : Term) → AllRead (termed t) (term_part programs t)
   terms_read t = two_terms AllRead term_layer (walk_layer programs) layer t
 
-cancel_reads : (params : List Range) (r s : Ref) → RuleReads params (CRule.Pair RuleName.Cancel r s)
-cancel_reads params r s = tt
-
-pair_reads : (params : List Range) (which : Word) (r s : Ref) → RuleReads params (pair_rule which r s)
-pair_reads params Word.Conj r s = tt
-pair_reads params Word.Simpleconj r s = tt
-pair_reads params Word.Disj r s = tt
-pair_reads params Word.Simpledisj r s = tt
-pair_reads params Word.Union r s = tt
-pair_reads params _ r s = cancel_reads params r s
-
 rule_reads : (programs : Programs) (c : Place) (params : List Range) (rule : Rule) (s : NameScope) (k : ℕ) →
     (rule_part programs s k rule).fault ≡ None → RuleReads params (core_rule c rule)
 rule_reads programs c params (Rule.Text at None) s k fault = tt
 rule_reads programs c params (Rule.Text at (Some helper)) s k fault = tt
 rule_reads programs c params (Rule.Weaken at of) s k fault = tt
-rule_reads programs c params (Rule.Pair at which q r) s k fault = pair_reads params which _ _
+rule_reads programs c params (Rule.Pair at which q r) s k fault =
+    of_pair_rule (RuleReads params) which (ref_in c q) (ref_in c r) (λ name. tt) tt
 rule_reads programs c params (Rule.Term at of) s k fault =
     terms_read programs of c (length c.params) (is_below (length params)) s k fault
 

@@ -1,15 +1,46 @@
-use Rattle.std.proofs.Common.{map, drop}
+use Rattle.std.proofs.Common.{◌+◌, ◌*◌, map, max, drop}
+use Rattle.unity_syntax.specs.declared.expression.Expr.{size-Expr}
 use Rattle.name_scopes.specs.declared.named.Sort.{Sort}
 use Rattle.name_scopes.specs.Scope.{scope}
 use Rattle.name_scopes.specs.Reading.{read, joined, operands}
 use Rattle.expression_types.proofs.Steps.{Leads, LeadsLinear}
 use Rattle.expression_types.proofs.walk.+walk.Given as goal
 
-abbrev pub invariant-all-loop-e : goal.invariant-all-loop-e
-invariant-all-loop-e l =
-    Leads l.constant l.table (joined l.wanted (operands l.wanted (scope l.known l.env)
+abbrev pub decreases-expression : goal.decreases-expression
+decreases-expression l = 4 * size-Expr l.e.now
+
+abbrev pub decreases-operand : goal.decreases-operand
+decreases-operand l = 4 * size-Expr l.e.now + 1
+
+abbrev pub decreases-left_side : goal.decreases-left_side
+decreases-left_side l = 4 * size-Expr l.e.now + 2
+
+abbrev pub decreases-implication : goal.decreases-implication
+decreases-implication l = 4 * max (size-Expr l.left.now) (size-Expr l.right.now) + 2
+
+abbrev pub decreases-comparison : goal.decreases-comparison
+decreases-comparison l = 4 * max (size-Expr l.left.now) (size-Expr l.right.now) + 3
+
+abbrev pub decreases-element : goal.decreases-element
+decreases-element l = 4 * size-Expr l.index.now + 2
+
+abbrev pub decreases-quantified : goal.decreases-quantified
+decreases-quantified l = 4 * size-Expr l.of.now + 2
+
+abbrev pub decreases-truths : goal.decreases-truths
+decreases-truths l = 4 * goal.size-truths l + 1
+
+abbrev pub decreases-parts : goal.decreases-parts
+decreases-parts l = 4 * goal.size-parts l + 1
+
+abbrev pub decreases-factors : goal.decreases-factors
+decreases-factors l = 4 * goal.size-factors l + 1
+
+abbrev pub invariant-truths-loop-e : goal.invariant-truths-loop-e
+invariant-truths-loop-e l =
+    Leads l.constant l.table (joined Sort.Boolean (operands Sort.Boolean (scope l.known l.env)
     (map read (drop l.e-index l.e-items))))
-    l.initial.table (joined l.wanted (operands l.wanted (scope l.known l.env) (map read l.e-items)))
+    l.initial.table (joined Sort.Boolean (operands Sort.Boolean (scope l.known l.env) (map read l.e-items)))
 
 abbrev pub invariant-parts-loop-e : goal.invariant-parts-loop-e
 invariant-parts-loop-e l =

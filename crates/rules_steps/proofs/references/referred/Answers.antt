@@ -11,8 +11,8 @@ use Rattle.rules_steps.proofs.ReferredLaws.{instance_row_is}
 use Rattle.rules_steps.proofs.UsingLaws.{found_entry}
 use Rattle.rules_steps.proofs.references.referred.Goals as goal
 
-pub instance_for-requires-clause-record : goal.instance_for-requires-clause-record
-instance_for-requires-clause-record c =
+pub instance_for-requires-clause-found : goal.instance_for-requires-clause-found
+instance_for-requires-clause-found c =
     (found_entry c.args.pl.now.slots.now c.args.book.now c.args.r.now.program c.args.r.now.step c.in-Some.record.now
     c.requires.book (sym c.in-Some.ensures)).parts
 

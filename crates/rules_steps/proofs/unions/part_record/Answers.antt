@@ -11,8 +11,8 @@ use Rattle.rules_steps.proofs.ReferredLaws.{instance_row_is}
 use Rattle.rules_steps.proofs.UsingLaws.{found_entry}
 use Rattle.rules_steps.proofs.unions.part_record.Goals as goal
 
-pub part_instance-requires-clause-record : goal.part_instance-requires-clause-record
-part_instance-requires-clause-record c =
+pub part_instance-requires-clause-found : goal.part_instance-requires-clause-found
+part_instance-requires-clause-found c =
     (found_entry c.args.pl.now.slots.now c.args.book.now c.args.r.now.program c.args.r.now.step
     c.in-Some.record.now c.requires.book (sym c.in-Some.ensures)).parts
 

@@ -23,16 +23,7 @@ other_pair site RuleName.Simpleconj a b conj simple disj other cancel = absurd (
 other_pair site RuleName.Disj a b conj simple disj other cancel = absurd (disj refl)
 other_pair site RuleName.Simpledisj a b conj simple disj other cancel = absurd (other refl)
 other_pair site RuleName.Cancel a b conj simple disj other cancel = absurd (cancel refl)
-other_pair site RuleName.Text a b conj simple disj other cancel = refl
-other_pair site RuleName.Weaken a b conj simple disj other cancel = refl
-other_pair site RuleName.Union a b conj simple disj other cancel = refl
-other_pair site RuleName.Imply a b conj simple disj other cancel = refl
-other_pair site RuleName.From a b conj simple disj other cancel = refl
-other_pair site RuleName.Trans a b conj simple disj other cancel = refl
-other_pair site RuleName.Either a b conj simple disj other cancel = refl
-other_pair site RuleName.Exists a b conj simple disj other cancel = refl
-other_pair site RuleName.Induct a b conj simple disj other cancel = refl
-other_pair site RuleName.Psp a b conj simple disj other cancel = refl
+other_pair site _ a b conj simple disj other cancel = refl
 
 pair_stands : (pl : Place) → IsPlace pl → (which : RuleName) (a b : Record) → IsPremiseAt pl a → IsPremiseAt pl b →
     StandsAt pl a → StandsAt pl b → (answer : Result Derived RuleError) →
