@@ -1,14 +1,23 @@
 # Places in a document, for the scripts that run `unity` on a file. Read by `.`; it runs nothing.
 
-# run_unity ANSWER NOTES FILE WORD..: what `unity` says by these words of the file goes to ANSWER. The
-# program that `scripts/build.sh` or `scripts/test.sh` builds is taken where it is there; else the sources
-# are compiled as they are, in about a minute and with no proof, and what that says goes to NOTES. The
-# status is that of `unity`.
+# The program that `scripts/build.sh` or `scripts/test.sh` builds, or that `scripts/install.sh` put beside the scripts;
+# empty where neither is there.
+built=$top/crates/unity/out/unity
+if [ ! -d "$top/crates" ]; then
+    built=$top/../../bin/unity
+fi
+if [ ! -x "$built" ]; then
+    built=
+fi
+
+# run_unity ANSWER NOTES FILE WORD..: what `unity` says by these words of the file goes to ANSWER. The built
+# program is taken where it is there; else the sources are compiled as they are, in about a minute and with no
+# proof, and what that says goes to NOTES. The status is that of `unity`.
 run_unity() {
     local answer=$1 notes=$2 file=$3 status=0
     shift 3
-    if [ -x "$top/crates/unity/out/unity" ]; then
-        "$top/crates/unity/out/unity" "$@" < "$file" > "$answer" || status=$?
+    if [ -n "$built" ]; then
+        "$built" "$@" < "$file" > "$answer" || status=$?
     else
         (cd "$top/crates/unity" && rt try -- "$@") < "$file" > "$answer" 2> "$notes" || status=$?
         if ! grep -q '^run=ended' "$notes"; then
@@ -28,13 +37,13 @@ run_on_each() {
     for file in "$@"; do
         number=$((number + 1))
         cat "$file" > "$work/files/$number"
-        if [ -x "$top/crates/unity/out/unity" ]; then
+        if [ -n "$built" ]; then
             status=0
-            "$top/crates/unity/out/unity" "$word" < "$file" > "$work/answers/$number" || status=$?
+            "$built" "$word" < "$file" > "$work/answers/$number" || status=$?
             echo "$status" > "$work/statuses/$number"
         fi
     done
-    if [ ! -x "$top/crates/unity/out/unity" ]; then
+    if [ -z "$built" ]; then
         try_each "$work" "$word"
     fi
 }

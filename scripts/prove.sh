@@ -2,9 +2,10 @@
 # Finds the certificates of a document: bash scripts/prove.sh FILE [BUDGET]
 #
 # Where `unity prove` finds them, the document with its certificates goes to a file beside FILE, whose
-# name has `.proved` before its ending, and that name is printed. Else it prints what `unity` prints,
-# and on standard error the line of the step that it names, or the place of the byte. It exits with the
-# status of `unity`. BUDGET is 1000000 where none is given.
+# name has `.proved` before its ending, and that name is printed. Else that file is removed where an earlier
+# run left it, and it prints what `unity` prints, and on standard error the line of the step that it names, or the
+# place of the byte. It exits with the status of `unity`. BUDGET is 1000000 where none is given; a small one, as
+# 10000, tells sooner which obligation is dear, and `scripts/why.sh` what a refusal means.
 set -eu
 if [ $# -lt 1 ] || [ $# -gt 2 ] || [ ! -r "$1" ]; then
     echo "usage: bash scripts/prove.sh FILE [BUDGET]" >&2
@@ -31,6 +32,7 @@ if [ "$status" = 0 ]; then
     cp "$answer" "$(proved_name "$file")"
     proved_name "$1"
 else
+    rm -f "$(proved_name "$file")"
     cat "$answer"
     show_byte "$answer" "$1" "$file"
     show_step "$answer" "$1" "$file"

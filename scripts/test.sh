@@ -268,6 +268,134 @@ expect_mistake() {
     count_one "$holds" "the row of $document in docs/WRITING.md"
 }
 
+# promised NAME: the lines that docs/WRITING.md promises of this document in examples/mistakes: those of its row.
+promised() {
+    grep -F "(../examples/mistakes/$1.unity)" docs/WRITING.md | head -n 1 | sed 's/\[\([^]]*\)\]([^)]*)/\1/g' |
+        awk -F ' *[|] *' '
+            NF == 5 { print "written: " $2; next }
+            { print "the usual mistake: " $3; print "the cure: " $4 }
+        '
+}
+
+# expect_said NAME LINE: what was said last has this line.
+expect_said() {
+    local holds=1
+    if grep -qxF -e "$2" "$answer"; then
+        holds=0
+    fi
+    count_one "$holds" "why.sh of $1: $2"
+}
+
+# expect_why NAME: of this document in examples/mistakes scripts/why.sh says NAME.expected first, and then what
+# docs/WRITING.md promises: the row, and what stands for this document in the table below.
+expect_why() {
+    local name line lines
+    bash scripts/why.sh "examples/mistakes/$1.unity" > "$answer" || true
+    lines=$(wc -l < "examples/mistakes/$1.expected")
+    local holds=1
+    if head -n "$lines" "$answer" | cmp -s - "examples/mistakes/$1.expected"; then
+        holds=0
+    fi
+    count_one "$holds" "why.sh of $1"
+    while read -r line; do
+        expect_said "$1" "$line"
+    done < <(promised "$1")
+    while IFS='|' read -r name line; do
+        if [ "$name" = "$1" ]; then
+            expect_said "$1" "$line"
+        fi
+    done <<'END'
+misspelt|declared before it: x, inc
+label_twice|inc also stands at line 9
+step_below|e stands below, at line 14
+part_of_a_union|Count.go is a step of Count, and go one of Both
+from_unless|u is an unless
+leadsto_by_text|go claims a leadsto, by `text`
+union_of_invariants|Idle.top is an invariant
+middle_written_otherwise|the second begins with               x >= 1
+induct_without_and|`induct` wants its part to begin with  true and 3 - x = m
+other_words|the rule gives the right side  x = 1
+using_stable|up is a stable
+no_defined|the proof of Count has no `defined` step
+start_not_found|the start state is x=0 y=0: there x + y = 3 does not hold
+variable_as_argument|x is a variable, in step[x]
+argument_outside|s takes m : 0..2, and r says s[3]
+helper_misspelt|step is none of Count's statements: inc
+certificate_missing|obligation 3, of Count.top: inc keeps it
+certificate_left_over|the proofs leave 3 obligations
+END
+}
+
+# expect_cause DOCUMENT: of this document what scripts/why.sh says is DOCUMENT.why.
+expect_cause() {
+    local holds=1
+    bash scripts/why.sh "examples/$1.unity" > "$answer" || true
+    if cmp -s "$answer" "examples/$1.why"; then
+        holds=0
+    fi
+    count_one "$holds" "examples/$1.why"
+}
+
+# expect_counted DOCUMENT ACCEPTED: scripts/why.sh counts as many obligations as `check` accepts.
+expect_counted() {
+    local holds=1 counted
+    counted=$(cd scripts && python3 -B -c '
+import sys, plan
+with open(sys.argv[1], encoding="latin-1") as file:
+    it = plan.Plan(file.read())
+print(sum(len(it.obligations(step)) for step in it.document.steps()))' "../examples/$1.unity")
+    if head -n 1 "examples/$2" | grep -q " $counted obligations$"; then
+        holds=0
+    fi
+    count_one "$holds" "the $counted obligations of examples/$1.unity"
+}
+
+# expect_units UNITS: scripts/cost.sh counts so many units of the counter, whose certificates docs/CERTIFICATES.md has.
+expect_units() {
+    local holds=1
+    bash scripts/cost.sh examples/count.unity --using > "$answer" || true
+    if grep -qx " *$1  *3  all 2 steps" "$answer"; then
+        holds=0
+    fi
+    count_one "$holds" "the units of examples/count.unity"
+}
+
+# expect_none_left: where a proof fails, scripts/prove.sh removes the proved document of an earlier run.
+expect_none_left() {
+    local room holds=1
+    room=$(mktemp -d)
+    cp examples/pick.unity "$room/pick.unity"
+    : > "$room/pick.proved.unity"
+    bash scripts/prove.sh "$room/pick.unity" > "$answer" 2>&1 || true
+    if [ ! -e "$room/pick.proved.unity" ] && grep -q '^refuted ' "$answer"; then
+        holds=0
+    fi
+    rm -r "$room"
+    count_one "$holds" "an old proved document"
+}
+
+# expect_installed: from a folder that scripts/install.sh wrote the commands do what the scripts do here.
+expect_installed() {
+    local room holds=1
+    room=$(mktemp -d)
+    bash scripts/install.sh "$room/here" > "$answer"
+    {
+        "$room/here/bin/unity" check < examples/count.unity
+        "$room/here/bin/unity-why" examples/pick.unity || true
+        "$room/here/bin/unity-check-all" examples/causes 2 || true
+    } > "$answer" 2>&1
+    {
+        cat examples/count.expected
+        bash scripts/why.sh examples/pick.unity || true
+        bash scripts/check_all.sh examples/causes || true
+    } > "$text" 2>&1
+    if cmp -s "$answer" "$text" && [ "$(tail -n 1 "$text")" = "0 of 6 accepted" ]; then
+        holds=0
+    fi
+    rm -r "$room"
+    count_one "$holds" "the installed commands"
+}
+
 # expect_row CODE: docs/WRITING.md has a row for this code.
 expect_row() {
     local holds=1
@@ -336,6 +464,9 @@ expect 1 two_phase_commit
 expect 1 barrier
 expect 1 race
 expect 1 pick
+for name in bakery chang_roberts k_state go_back_n msi dining; do
+    expect 1 "$name"
+done
 expect_proof count count.expected
 expect_proof swap swap.expected
 expect_proof rounding rounding.expected
@@ -344,6 +475,18 @@ expect_proof safety_calculus safety_calculus.expected
 expect_proof union_proofs union_proofs.expected
 for name in peterson readers_writers two_phase_commit barrier ring_of_four ring_of_three union_of_two; do
     expect_proof "$name" "$name.accepted"
+done
+for name in k_state chang_roberts bakery msi; do
+    expect_proof "$name" "$name.accepted"
+done
+for name in safety_calculus union_proofs; do
+    expect_counted "$name" "$name.expected"
+done
+for name in peterson barrier ring_of_four union_of_two bakery chang_roberts k_state go_back_n msi dining; do
+    expect_counted "$name" "$name.accepted"
+done
+for name in bakery chang_roberts k_state go_back_n msi dining; do
+    expect_cause "causes/$name"
 done
 expect_claim 13000 +
 expect_refuted pick
@@ -419,10 +562,14 @@ holds=0
 bash scripts/map.sh --check || holds=1
 count_one "$holds" "the tables of rooms and crates"
 expect_matchers
+expect_units 25
+expect_none_left
+expect_installed
 expect_page docs/TUTORIAL.md
 expect_picture race replay
 for document in examples/mistakes/*.unity; do
     expect_mistake "$(basename "$document" .unity)"
+    expect_why "$(basename "$document" .unity)"
 done
 for code in $(sed -n '/^    (Code,/,/^    };/s/^ *"\([A-Za-z]*\)" => .*/\1/p' crates/case_tables/src/cases.rt); do
     expect_row "$code"

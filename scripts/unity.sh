@@ -6,10 +6,10 @@
 # it is there; else the sources are compiled as they are, in about a minute and with no proof.
 set -eu
 top=$(cd "$(dirname "$0")/.." && pwd)
-if [ -x "$top/crates/unity/out/unity" ]; then
-    exec "$top/crates/unity/out/unity" "$@"
-fi
 . "$top/scripts/places.sh"
+if [ -n "$built" ]; then
+    exec "$built" "$@"
+fi
 answer=$(mktemp)
 notes=$(mktemp)
 trap 'rm -f "$answer" "$notes"' EXIT
