@@ -10,7 +10,7 @@ work=$(mktemp -d)
 trap 'rm -rf "$work"' EXIT
 
 mkdir -p "$work/crates"
-for name in unity_base case_tables state_steps core_terms examples_limits; do
+for name in unity_base case_tables meaning_states core_terms examples_limits; do
     mkdir "$work/crates/$name"
     for part in src specs proofs out; do
         if [ -d "$top/crates/$name/$part" ]; then
@@ -19,7 +19,7 @@ for name in unity_base case_tables state_steps core_terms examples_limits; do
     done
     grep "^$name:" "$top/crates.txt" >>"$work/crates.txt"
 done
-echo "core_speed: unity_base case_tables state_steps core_terms examples_limits" >>"$work/crates.txt"
+echo "core_speed: unity_base case_tables meaning_states core_terms examples_limits" >>"$work/crates.txt"
 mkdir -p "$work/crates/core_speed/src" "$work/crates/core_speed/specs"
 : >"$work/crates/core_speed/specs/Lib.antt"
 cat >"$work/crates/core_speed/src/main.rt" <<'END'

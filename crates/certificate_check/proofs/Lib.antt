@@ -2,3 +2,5 @@ pub mod MachineLaws
 pub mod RefutationLaws
 pub mod SumLaws
 pub mod WholeLaws
+pub mod IndexLaws
+pub mod Rooms

@@ -22,7 +22,7 @@ use Rattle.certificate_check.specs.declared.machine.Todo.{Todo}
 use Rattle.certificate_check.specs.declared.machine.Frame.{Frame}
 use Rattle.certificate_check.specs.Refutation.{made_case, case_at, at_level}
 use Rattle.certificate_check.specs.Machines.{base_of, full_by, full_of, second_by, second_of, waiting_first, behind}
-use Rattle.certificate_check.specs.Machines.{place_fits, Fits, turned, step_by, is_light_todo, are_light}
+use Rattle.certificate_check.specs.Machines.{place_fits, FramesFit, turned, step_by, is_light_todo, are_light}
 
 branch-same : (a b : Branch) → a.facts ≡ b.facts → a.waiting ≡ b.waiting → a ≡ b
 branch-same a b p q = ap (λ x. record { facts = x; waiting = a.waiting }) p ∙ ap
@@ -34,21 +34,21 @@ pub base-joined : (f : Frame) (b x : Branch) → f.facts ≤ length b.facts → 
 base-joined f b x p q = branch-same _ _ (take-append-le f.facts b.facts x.facts p)
     (take-append-le f.waits b.waiting x.waiting q)
 
-pub behind-joined : (vs : List Variable) (fs : List Frame) (b x : Branch) → Fits fs b → behind vs fs (joined b x) ≡
+pub behind-joined : (vs : List Variable) (fs : List Frame) (b x : Branch) → FramesFit fs b → behind vs fs (joined b x) ≡
     behind vs fs b
 behind-joined vs [] b x h = refl
 behind-joined vs (f ∷ fs) b x h =
     ap (λ y. waiting_first f.first (record { level = suc f.level; branch = second_by vs f.todo y })
     (behind vs fs (full_by f.todo y))) (base-joined f b x h.1 h.2)
 
-pub fits-joined : (fs : List Frame) (b x : Branch) → Fits fs b → Fits fs (joined b x)
+pub fits-joined : (fs : List Frame) (b x : Branch) → FramesFit fs b → FramesFit fs (joined b x)
 fits-joined [] b x h = tt
 fits-joined (f ∷ fs) b x h = (
   h.0,
   let l = length-append b.facts x.facts in let p = h.1 in omega (arith, l, p),
   let l = length-append b.waiting x.waiting in let p = h.2 in omega (arith, l, p),
   h.3,
-  subst (λ y. Fits fs (full_by f.todo y)) (sym (base-joined f b x h.1 h.2)) h.4,
+  subst (λ y. FramesFit fs (full_by f.todo y)) (sym (base-joined f b x h.1 h.2)) h.4,
 )
 
 -- a frame at the branch that it was made at
@@ -91,14 +91,15 @@ second-long vs (Todo.Split variable at) b =
     let l = length-append b.facts (at_least variable (at +ℤ pos 1) ∷ []) in let k =
     length-append b.waiting [] in (omega (arith, l), omega (arith, k))
 
-pub first-turns : (vs : List Variable) (f : Frame) (fs : List Frame) (b : Branch) → f.first ≡ true → Fits (f ∷ fs) b →
+pub first-turns : (vs : List Variable) (f : Frame) (fs : List Frame) (b : Branch) → f.first ≡ true → FramesFit (f ∷ fs)
+    b →
     at_level (suc f.level) (second_of vs f b) ∷ behind vs (turned f ∷ fs) (second_of vs f b) ≡ behind vs (f ∷ fs) b
 first-turns vs f fs b e h =
     ap (λ y. at_level (suc f.level) (second_of vs f b) ∷ behind vs fs (full_by f.todo y))
     (second-base vs f.todo f b h.1 h.2)
     ∙ ap (λ z. waiting_first z (at_level (suc f.level) (second_of vs f b)) (behind vs fs (full_of f b))) (sym e)
 
-pub turned-fits : (vs : List Variable) (f : Frame) (fs : List Frame) (b : Branch) → Fits (f ∷ fs) b → Fits
+pub turned-fits : (vs : List Variable) (f : Frame) (fs : List Frame) (b : Branch) → FramesFit (f ∷ fs) b → FramesFit
     (turned f ∷ fs) (second_of vs f b)
 turned-fits vs f fs b h =
     let l = second-long vs f.todo (base_of f b) in
@@ -109,7 +110,7 @@ turned-fits vs f fs b h =
       omega (arith, l0, p),
       omega (arith, l1, q),
       h.3,
-      subst (λ y. Fits fs (full_by f.todo y))
+      subst (λ y. FramesFit fs (full_by f.todo y))
           (sym (second-base vs f.todo f b h.1 h.2)) h.4,
     )
 
@@ -134,8 +135,8 @@ over vs f fs b c x p q e t =
     ∙ ap (λ y. at_level (suc f.level) (second_by vs f.todo c) ∷ behind vs fs y) e
 
 pub over-fits : (f : Frame) (fs : List Frame) (b c x : Branch) → f.level ≤ 1024 → f.facts ≡ length c.facts →
-    f.waits ≡ length c.waiting → full_by f.todo c ≡ b → place_fits f.todo f.waits → Fits fs b →
-    Fits (f ∷ fs) (joined c x)
+    f.waits ≡ length c.waiting → full_by f.todo c ≡ b → place_fits f.todo f.waits → FramesFit fs b →
+    FramesFit (f ∷ fs) (joined c x)
 over-fits f fs b c x l p q e t h =
     let whole = base-joined f c x (omega (arith, p)) (omega (arith, q)) ∙ base-whole f c p q in
     let m = length-append c.facts x.facts in let k = length-append c.waiting x.waiting in (
@@ -143,8 +144,8 @@ over-fits f fs b c x l p q e t h =
       omega (arith, m, p),
       omega (arith, k, q),
       t,
-      subst (λ y. Fits fs (full_by f.todo y)) (sym whole)
-          (subst (Fits fs) (sym e) h),
+      subst (λ y. FramesFit fs (full_by f.todo y)) (sym whole)
+          (subst (FramesFit fs) (sym e) h),
     )
 
 pub reversed : {A : Type 0} (xs : List A) (x : A) → reverse (xs ++ x ∷ []) ≡ x ∷ reverse xs
@@ -153,9 +154,10 @@ reversed xs x = reverse-append xs (x ∷ [])
 pub ruleset frame_laws = (first-turns, turned-fits, second-ends, full-long, reversed)
 
 -- the innermost frame, where the last of a list is it
-pub popped-fits : (fs old : List Frame) (f : Frame) (b : Branch) → old ≡ fs ++ f ∷ [] → Fits (reverse old) b → Fits
+pub popped-fits : (fs old : List Frame) (f : Frame) (b : Branch) → old ≡ fs ++ f ∷ [] → FramesFit (reverse old) b →
+    FramesFit
     (f ∷ reverse fs) b
-popped-fits fs old f b e h = subst (λ x. Fits x b) (ap reverse e ∙ reversed fs f) h
+popped-fits fs old f b e h = subst (λ x. FramesFit x b) (ap reverse e ∙ reversed fs f) h
 
 pub popped-behind : (vs : List Variable) (fs old : List Frame) (f : Frame) (b : Branch) → old ≡ fs ++ f ∷ [] →
     behind vs (f ∷ reverse fs) b ≡ behind vs (reverse old) b
@@ -174,12 +176,12 @@ case_frame level facts waits place form =
 
 pub case-goes : (vs : List Variable) (level : ℕ) (b now : Branch) (k place facts waits : ℕ)
     (frames more : List Frame) (form : CForm) →
-    k ≡ suc place → slice_get b.waiting place ≡ Some form → place < length b.waiting → level ≤ 1024 → Fits
+    k ≡ suc place → slice_get b.waiting place ≡ Some form → place < length b.waiting → level ≤ 1024 → FramesFit
     (reverse frames) b →
     facts ≡ length b.facts → waits ≡ length (remove b.waiting place) →
     more ≡ frames ++ case_frame level facts waits place form ∷ [] → now ≡ settled vs (sides form).0 (without b place) →
     (step_by level (behind vs (reverse frames) b) (case_at vs b k) ≡ Ok
-    (at_level (level + 1) now ∷ behind vs (reverse more) now)) × Fits (reverse more) now
+    (at_level (level + 1) now ∷ behind vs (reverse more) now)) × FramesFit (reverse more) now
 case-goes vs level b now k place facts waits frames more form ek taken inside low fits ef ew em en =
     let full : full_by (Todo.Case place form) (without b place) ≡ b =
     ap (λ w. record { facts = b.facts; waiting = w }) (insert-remove b.waiting place form taken) in
@@ -197,16 +199,17 @@ case-goes vs level b now k place facts waits frames more form ek taken inside lo
           ∙ ap (λ z. Ok (at_level (level + 1) (settled vs (sides form).0 (without b place)) ∷ behind vs z
           (settled vs (sides form).0 (without b place)))) (sym turn)
           ∙ ap (λ z. Ok (at_level (level + 1) z ∷ behind vs (reverse more) z)) (sym en),
-      subst (Fits (reverse more)) (sym en) (subst (λ z. Fits z (settled vs (sides form).0 (without b place))) (sym turn)
+      subst (FramesFit (reverse more)) (sym en) (subst (λ z. FramesFit z (settled vs (sides form).0 (without b place)))
+          (sym turn)
           (over-fits f (reverse frames) b (without b place) x low ef ew full room fits)),
     )
 
 pub added-behind : (vs : List Variable) (fs : List Frame) (b new : Branch) (f : Fact) → new ≡ added b f →
-    Fits fs b → behind vs fs new ≡ behind vs fs b
+    FramesFit fs b → behind vs fs new ≡ behind vs fs b
 added-behind vs fs b new f e h = ap (behind vs fs) e ∙ behind-joined vs fs b (record { facts = f ∷ []; waiting = [] }) h
 
-pub added-fits : (fs : List Frame) (b new : Branch) (f : Fact) → new ≡ added b f → Fits fs b → Fits fs new
-added-fits fs b new f e h = subst (Fits fs) (sym e) (fits-joined fs b (record { facts = f ∷ []; waiting = [] }) h)
+pub added-fits : (fs : List Frame) (b new : Branch) (f : Fact) → new ≡ added b f → FramesFit fs b → FramesFit fs new
+added-fits fs b new f e h = subst (FramesFit fs) (sym e) (fits-joined fs b (record { facts = f ∷ []; waiting = [] }) h)
 
 pub ruleset round_laws = (added-behind, added-fits)
 

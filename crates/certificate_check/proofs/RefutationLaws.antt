@@ -15,7 +15,7 @@ use Rattle.core_terms.specs.declared.trees.CForm.TheFolds.{map-CForm}
 use Rattle.core_terms.specs.Values.{number_at, form_step}
 use Rattle.core_terms.specs.declared.trees.CTerm.{CTerm}
 use Rattle.core_terms.specs.declared.trees.CForm.TheOpen.{CForm-F}
-use Rattle.state_steps.specs.State.{int_eq}
+use Rattle.meaning_states.specs.State.{int_eq}
 use Rattle.case_tables.specs.declared.code_table.Code.{Code}
 use Rattle.obligations.specs.declared.branches.Fact.{Fact}
 use Rattle.obligations.specs.declared.branches.Branch.{Branch}
@@ -32,10 +32,11 @@ use Rattle.obligations.proofs.SettlingLaws.{settled-holds}
 use Rattle.obligations.proofs.OpeningLaws.{ranges-long, first-holds}
 use Rattle.certificate_check.specs.Sums.{add_factors, with_constant, add_times, numbered, or_too_big, add_pair}
 use Rattle.certificate_check.specs.Sums.{sum_pairs, no_sum, all_pairs, is_false, is_divisible, divided}
-use Rattle.certificate_check.specs.Refutation.{Made, fails, opens, made_case, made_sum, made_round, made_by, Pending}
+use Rattle.certificate_check.specs.Refutation.{NodeEffect, fails, opens, made_case, made_sum, made_round, made_by}
+use Rattle.certificate_check.specs.Refutation.{OpenBranch}
 use Rattle.certificate_check.specs.Refutation.{made, pending, after, walk, at_level, go_on, WalkAppends, none_holds}
 use Rattle.certificate_check.specs.Refutation.{WalkKeeps, Sound}
-use Rattle.certificate_check.specs.Trees.{Tree, leaf, one_below, two_below, nodes_of, Refutes}
+use Rattle.certificate_check.specs.Trees.{CertTree, leaf, one_below, two_below, nodes_of, Refutes}
 
 abbrev is_at_least_0 : ℤ → Bool
 is_at_least_0 z = int_le (pos 0) z
@@ -227,7 +228,7 @@ or_same : (a : Bool) → a ≡ (a || a)
 or_same true = refl
 or_same false = refl
 
-opens_of : Made → List Branch
+opens_of : NodeEffect → List Branch
 opens_of (fails c) = []
 opens_of (opens bs) = bs
 
@@ -380,7 +381,7 @@ module _ (vs : List Variable) (values : List ℤ) (long : length values ≡ leng
   made_by-sound b (Node.Sum ps) bs e h = sum-sound b ps (all_pairs vs b.facts ps) refl bs e
   made_by-sound b (Node.Round d ps) bs e h = round-sound b d ps (all_pairs vs b.facts ps) refl bs e h
 
-  made-sound : (p : Pending) (n : Node) (bs : List Branch) → made vs p n ≡ opens bs → none_hold bs ≡ true →
+  made-sound : (p : OpenBranch) (n : Node) (bs : List Branch) → made vs p n ≡ opens bs → none_hold bs ≡ true →
       B p.branch ≡ false
   made-sound p n bs e h = leveled (nat_le p.level 1024) e
     where
@@ -388,7 +389,7 @@ module _ (vs : List Variable) (values : List ℤ) (long : length values ≡ leng
       leveled false d = absurd (cc)
       leveled true d = made_by-sound p.branch n bs d h
 
-  none_of : (level : ℕ) (bs : List Branch) (ps : List Pending) →
+  none_of : (level : ℕ) (bs : List Branch) (ps : List OpenBranch) →
       none_holds vs values (pending level bs ++ ps) ≡ true → (none_hold bs ≡ true) × (none_holds vs values ps ≡ true)
   none_of level [] ps h = (refl, h)
   none_of level (b ∷ bs) ps h =
@@ -396,14 +397,14 @@ module _ (vs : List Variable) (values : List ℤ) (long : length values ≡ leng
       let rest = none_of level bs ps parts.1 in
       (ap (λ z. z && none_hold bs) parts.0 ∙ rest.0, rest.1)
 
-  pub walk-keeps : (ns : List Node) (ps qs : List Pending) (at : ℕ) → walk vs ns ps at ≡ Ok qs →
+  pub walk-keeps : (ns : List Node) (ps qs : List OpenBranch) (at : ℕ) → walk vs ns ps at ≡ Ok qs →
       none_holds vs values qs ≡ true → none_holds vs values ps ≡ true
   walk-keeps [] ps qs at e h = let same : ps ≡ qs = cc in ap (none_holds vs values) same ∙ h
   walk-keeps (n ∷ ns) [] qs at e h = refl
   walk-keeps (n ∷ ns) (p ∷ ps) qs at e h = opened (made vs p n) refl e (λ rs d. walk-keeps ns rs qs (suc at) d h)
     where
-      opened : (m : Made) → made vs p n ≡ m → after (λ rs. walk vs ns rs (suc at)) p.level ps at m ≡ Ok qs →
-          ((rs : List Pending) → walk vs ns rs (suc at) ≡ Ok qs → none_holds vs values rs ≡ true) →
+      opened : (m : NodeEffect) → made vs p n ≡ m → after (λ rs. walk vs ns rs (suc at)) p.level ps at m ≡ Ok qs →
+          ((rs : List OpenBranch) → walk vs ns rs (suc at) ≡ Ok qs → none_holds vs values rs ≡ true) →
           none_holds vs values (p ∷ ps) ≡ true
       opened (fails c) q d ih = absurd (cc)
       opened (opens bs) q d ih =
@@ -428,7 +429,8 @@ sound o nodes e values inside =
     (sym (first-holds o values long) ∙ first)
 
 -- A walk along the nodes of a tree.
-pub walk-tree : (vs : List Variable) (t : Tree) (level : ℕ) (b : Branch) (ns : List Node) (ps : List Pending) (at : ℕ) →
+pub walk-tree : (vs : List Variable) (t : CertTree) (level : ℕ) (b : Branch) (ns : List Node) (ps : List OpenBranch)
+    (at : ℕ) →
     Refutes vs level b t → walk vs (nodes_of t ++ ns) (at_level level b ∷ ps) at ≡ walk vs ns ps
     (at + length (nodes_of t))
 walk-tree vs (two_below n e t u) level b ns ps at r =
@@ -450,8 +452,8 @@ walk-none : (vs : List Variable) (ns : List Node) (at : ℕ) → walk vs ns [] a
 walk-none vs [] at = refl
 walk-none vs (n ∷ ns) at = refl
 
-appends-after : (vs : List Variable) (ns ms : List Node) (level at : ℕ) (ps : List Pending) (m : Made) →
-    ((qs : List Pending) → walk vs (ns ++ ms) qs (suc at) ≡
+appends-after : (vs : List Variable) (ns ms : List Node) (level at : ℕ) (ps : List OpenBranch) (m : NodeEffect) →
+    ((qs : List OpenBranch) → walk vs (ns ++ ms) qs (suc at) ≡
     go_on (walk vs ns qs (suc at)) (λ rs. walk vs ms rs (suc at + length ns))) →
     after (λ qs. walk vs (ns ++ ms) qs (suc at)) level ps at m ≡
     go_on (after (λ qs. walk vs ns qs (suc at)) level ps at m) (λ rs. walk vs ms rs (suc at + length ns))

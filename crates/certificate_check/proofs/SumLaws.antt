@@ -8,7 +8,7 @@ use Rattle.obligations.specs.declared.branches.Line.{Line}
 use Rattle.obligations.specs.LinearForms.{add_at}
 use Rattle.std.specs.Int.{int_div_euclid}
 use Rattle.obligations.specs.LinearForms.{sparse}
-use Rattle.state_steps.specs.State.{int_eq}
+use Rattle.meaning_states.specs.State.{int_eq}
 use Rattle.certificate_check.specs.Sums.{add_factors, numbered, add_pair, sum_pairs}
 
 -- the next factor of a list

@@ -15,14 +15,15 @@ use Rattle.obligations.specs.LinearForms.{fact_of}
 use Rattle.obligations.specs.Opening.{first_branch}
 use Rattle.obligations.specs.Settling.{added}
 use Rattle.certificate_check.specs.Sums.{is_false, all_pairs, is_divisible, divided}
-use Rattle.certificate_check.specs.Refutation.{Made, fails, opens, made_case, made_sum, made_round, made_by, Pending}
-use Rattle.certificate_check.specs.Refutation.{made, pending, after, walk, at_level, judged}
-use Rattle.certificate_check.specs.Trees.{Tree, leaf, one_below, two_below, nodes_of, Refutes, Refuted}
+use Rattle.certificate_check.specs.Refutation.{NodeEffect, fails, opens, made_case, made_sum, made_round, made_by}
+use Rattle.certificate_check.specs.Refutation.{OpenBranch}
+use Rattle.certificate_check.specs.Refutation.{made, pending, after, walk, at_level, walk_from_root}
+use Rattle.certificate_check.specs.Trees.{CertTree, leaf, one_below, two_below, nodes_of, Refutes, Refuted}
 use Rattle.certificate_check.specs.Trees.{is_whole, WalkIsTree}
 use Rattle.certificate_check.proofs.RefutationLaws.{walk-tree, sound}
 
 -- a failure, or as many branches
-abbrev Opened : ℕ → Made → Type 0
+abbrev Opened : ℕ → NodeEffect → Type 0
 Opened n (fails c) = Unit {0}
 Opened n (opens bs) = length bs ≡ n
 
@@ -50,15 +51,15 @@ opened-by vs b (Node.Split (suc v) k) = opened-if 2 (nat_lt v (length vs)) _ Cod
 opened-by vs b (Node.Sum ps) = opened-sum (all_pairs vs b.facts ps)
 opened-by vs b (Node.Round d ps) = opened-round b d (all_pairs vs b.facts ps)
 
-opened-made : (n : ℕ) (b : Bool) (m : Made) → Opened n m → Opened n (cond b m (fails Code.CertTooDeep))
+opened-made : (n : ℕ) (b : Bool) (m : NodeEffect) → Opened n m → Opened n (cond b m (fails Code.CertTooDeep))
 opened-made n true m h = h
 opened-made n false m h = tt
 
-opened : (vs : List Variable) (p : Pending) (n : Node) → Opened (arity n) (made vs p n)
+opened : (vs : List Variable) (p : OpenBranch) (n : Node) → Opened (arity n) (made vs p n)
 opened vs p n = opened-made (arity n) (nat_le p.level 1024) (made_by vs p.branch n) (opened-by vs p.branch n)
 
 -- a node opens as many branches as it has subtrees
-pub opened-arity : (vs : List Variable) (p : Pending) (n : Node) (bs : List Branch) → made vs p n ≡ opens bs →
+pub opened-arity : (vs : List Variable) (p : OpenBranch) (n : Node) (bs : List Branch) → made vs p n ≡ opens bs →
     length bs ≡ arity n
 opened-arity vs p n bs e = subst (Opened (arity n)) e (opened vs p n)
 
@@ -66,9 +67,9 @@ pending-length : (level : ℕ) (bs : List Branch) → length (pending level bs) 
 pending-length level [] = refl
 pending-length level (b ∷ bs) = ap suc (pending-length level bs)
 
-goes-on : (vs : List Variable) (n : Node) (ns : List Node) (ps qs : List Pending) (level at : ℕ) (m : Made) →
+goes-on : (vs : List Variable) (n : Node) (ns : List Node) (ps qs : List OpenBranch) (level at : ℕ) (m : NodeEffect) →
     Opened (arity n) m → is_whole ns (arity n + length ps) ≡ true →
-    ((rs : List Pending) → is_whole ns (length rs) ≡ true → walk vs ns rs (suc at) ≡ Ok qs → qs ≡ []) →
+    ((rs : List OpenBranch) → is_whole ns (length rs) ≡ true → walk vs ns rs (suc at) ≡ Ok qs → qs ≡ []) →
     after (λ rs. walk vs ns rs (suc at)) level ps at m ≡ Ok qs → qs ≡ []
 goes-on vs n ns ps qs level at (fails c) o w ih e = cc
 goes-on vs n ns ps qs level at (opens bs) o w ih e =
@@ -77,7 +78,7 @@ goes-on vs n ns ps qs level at (opens bs) o w ih e =
     (arith, l, p, o)) ∙ w) e
 
 -- nodes of as many whole trees as there are branches leave none
-pub whole-walks : (vs : List Variable) (ns : List Node) (ps qs : List Pending) (at : ℕ) →
+pub whole-walks : (vs : List Variable) (ns : List Node) (ps qs : List OpenBranch) (at : ℕ) →
     is_whole ns (length ps) ≡ true → walk vs ns ps at ≡ Ok qs → qs ≡ []
 whole-walks vs [] [] qs at w e = cc
 whole-walks vs [] (p ∷ ps) qs at w e = grind arith
@@ -86,7 +87,7 @@ whole-walks vs (n ∷ ns) (p ∷ ps) qs at w e =
     goes-on vs n ns ps qs p.level at (made vs p n) (opened vs p n) w (λ rs. whole-walks vs ns rs qs (suc at)) e
 
 -- a walk whose nodes are all read leaves no branch
-pub read-ends : (vs : List Variable) (ns : List Node) (p : Pending) (ps : List Pending) (place : ℕ) →
+pub read-ends : (vs : List Variable) (ns : List Node) (p : OpenBranch) (ps : List OpenBranch) (place : ℕ) →
     length ns ≤ place → walk vs (drop place ns) ps place ≡ walk vs ns (p ∷ []) 0 → is_whole ns 1 ≡ true →
     walk vs ns (p ∷ []) 0 ≡ Ok []
 read-ends vs ns p ps place h e w =
@@ -109,13 +110,14 @@ none-of : (bs : List Branch) → length bs ≡ 0 → bs ≡ []
 none-of [] e = refl
 none-of (b ∷ bs) e = absurd (omega arith)
 
-abbrev Reads : List Variable → Tree → Type 0
+abbrev Reads : List Variable → CertTree → Type 0
 Reads vs t =
-    (level : ℕ) (b : Branch) (ns : List Node) (ps : List Pending) (at : ℕ) →
+    (level : ℕ) (b : Branch) (ns : List Node) (ps : List OpenBranch) (at : ℕ) →
     walk vs (nodes_of t ++ ns) (at_level level b ∷ ps) at ≡ Ok [] → Refutes vs level b t
 
-two-read : (vs : List Variable) (n : Node) (t u : Tree) (level : ℕ) (b : Branch) (ns : List Node) (ps : List Pending)
-    (at : ℕ) (m : Made) → made vs (at_level level b) n ≡ m → Opened 2 m →
+two-read : (vs : List Variable) (n : Node) (t u : CertTree) (level : ℕ) (b : Branch) (ns : List Node)
+    (ps : List OpenBranch)
+    (at : ℕ) (m : NodeEffect) → made vs (at_level level b) n ≡ m → Opened 2 m →
     after (λ qs. walk vs ((nodes_of t ++ nodes_of u) ++ ns) qs (suc at)) level ps at m ≡ Ok [] → Reads vs t →
     Reads vs u →
     (c d : Branch) × (made vs (at_level level b) n ≡ opens (c ∷ d ∷ [])) × Refutes vs (suc level) c t × Refutes vs
@@ -133,8 +135,9 @@ two-read vs n t u level b ns ps at (opens bs) q o e rt ru =
     ∙ first in
     (w.0, w.1, q ∙ ap opens w.2, left, ru (suc level) w.1 ns ps (suc at + length (nodes_of t)) second)
 
-one-read : (vs : List Variable) (n : Node) (t : Tree) (level : ℕ) (b : Branch) (ns : List Node) (ps : List Pending)
-    (at : ℕ) (m : Made) → made vs (at_level level b) n ≡ m → Opened 1 m →
+one-read : (vs : List Variable) (n : Node) (t : CertTree) (level : ℕ) (b : Branch) (ns : List Node)
+    (ps : List OpenBranch)
+    (at : ℕ) (m : NodeEffect) → made vs (at_level level b) n ≡ m → Opened 1 m →
     after (λ qs. walk vs (nodes_of t ++ ns) qs (suc at)) level ps at m ≡ Ok [] → Reads vs t →
     (c : Branch) × (made vs (at_level level b) n ≡ opens (c ∷ [])) × Refutes vs (suc level) c t
 one-read vs n t level b ns ps at (fails c) q o e rt = absurd (cc)
@@ -146,16 +149,16 @@ one-read vs n t level b ns ps at (opens bs) q o e rt =
           (ap (λ x. walk vs (nodes_of t ++ ns) (pending (suc level) x ++ ps) (suc at)) (sym w.1) ∙ e),
     )
 
-none-read : (vs : List Variable) (n : Node) (level : ℕ) (b : Branch) (ns : List Node) (ps : List Pending) (at : ℕ)
-    (m : Made) → made vs (at_level level b) n ≡ m → Opened 0 m →
+none-read : (vs : List Variable) (n : Node) (level : ℕ) (b : Branch) (ns : List Node) (ps : List OpenBranch) (at : ℕ)
+    (m : NodeEffect) → made vs (at_level level b) n ≡ m → Opened 0 m →
     after (λ qs. walk vs ns qs (suc at)) level ps at m ≡ Ok [] → made vs (at_level level b) n ≡ opens []
 none-read vs n level b ns ps at (fails c) q o e = absurd (cc)
 none-read vs n level b ns ps at (opens bs) q o e = q ∙ ap opens (none-of bs o)
 
-opened-as : (vs : List Variable) (p : Pending) (n : Node) (count : ℕ) → arity n ≡ count → Opened count (made vs p n)
+opened-as : (vs : List Variable) (p : OpenBranch) (n : Node) (count : ℕ) → arity n ≡ count → Opened count (made vs p n)
 opened-as vs p n count e = subst (λ k. Opened k (made vs p n)) e (opened vs p n)
 
-pub reads : (vs : List Variable) (t : Tree) → Reads vs t
+pub reads : (vs : List Variable) (t : CertTree) → Reads vs t
 reads vs (leaf n i) level b ns ps at e =
     none-read vs n level b ns ps at _ refl (opened-as vs (at_level level b) n 0 i) e
 reads vs (one_below n i t) level b ns ps at e =
@@ -165,7 +168,7 @@ reads vs (two_below n i t u) level b ns ps at e =
 
 -- Whole nodes are those of a tree.
 record Parsed (ns : List Node) (n : ℕ) : Type 0 where
-  tree : Tree
+  tree : CertTree
   rest : List Node
   parts : ns ≡ nodes_of tree ++ rest
   whole : is_whole rest n ≡ true
@@ -232,7 +235,7 @@ nothing-remaining [] w = refl
 nothing-remaining (n ∷ ns) w = absurd (cc)
 
 -- nodes that are walked to their end are those of a tree that refutes
-pub walked-refutes : (o : Obligation) (nodes : List Node) → is_whole nodes 1 ≡ true → judged o nodes ≡ Ok [] →
+pub walked-refutes : (o : Obligation) (nodes : List Node) → is_whole nodes 1 ≡ true → walk_from_root o nodes ≡ Ok [] →
     Refuted o nodes
 walked-refutes o nodes w e =
     let p = parsed (length nodes) nodes 0 (omega arith) w in
@@ -246,7 +249,7 @@ walked-refutes o nodes w e =
     )
 
 -- and the other way round
-pub refutes-walked : (o : Obligation) (nodes : List Node) → Refuted o nodes → judged o nodes ≡ Ok []
+pub refutes-walked : (o : Obligation) (nodes : List Node) → Refuted o nodes → walk_from_root o nodes ≡ Ok []
 refutes-walked o nodes r =
     ap (λ x. walk o.variables x (at_level 1 (first_branch o) ∷ []) 0) (sym r.1 ∙ sym (append_nil (nodes_of r.0)))
     ∙ walk-tree o.variables r.0 1 (first_branch o) [] [] 0 r.2

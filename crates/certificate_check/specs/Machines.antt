@@ -14,7 +14,7 @@ use Rattle.certificate_check.specs.declared.machine.Frame.{Frame}
 use Rattle.certificate_check.specs.declared.machine.Machine.{Machine}
 use Rattle.certificate_check.specs.declared.errors.Stop.{Stop}
 use Rattle.certificate_check.specs.declared.errors.CertError.{CertError}
-use Rattle.certificate_check.specs.Refutation.{Made, fails, opens, Pending, Reading, at_level, pending}
+use Rattle.certificate_check.specs.Refutation.{NodeEffect, fails, opens, OpenBranch, WalkResult, at_level, pending}
 
 -- a branch cut back to a frame's lengths
 abbrev pub base_of : Frame → Branch → Branch
@@ -36,11 +36,11 @@ second_by vs (Todo.Split variable at) b = added b (at_least variable (at +ℤ po
 abbrev pub second_of : List Variable → Frame → Branch → Branch
 second_of vs f b = second_by vs f.todo (base_of f b)
 
-abbrev pub waiting_first : Bool → Pending → List Pending → List Pending
+abbrev pub waiting_first : Bool → OpenBranch → List OpenBranch → List OpenBranch
 waiting_first b p ps = cond b (p ∷ ps) ps
 
 -- the branches that frames have still to refute, from the innermost frame on
-abbrev pub behind : List Variable → List Frame → Branch → List Pending
+abbrev pub behind : List Variable → List Frame → Branch → List OpenBranch
 behind vs [] b = []
 behind vs (f ∷ fs) b = waiting_first f.first (at_level (suc f.level) (second_of vs f b)) (behind vs fs (full_of f b))
 
@@ -49,25 +49,25 @@ place_fits (Todo.Case place form) n = place ≤ n
 place_fits (Todo.Split variable at) n = Unit {0}
 
 -- the lengths in frames fit the branch
-abbrev pub Fits : List Frame → Branch → Type 0
-Fits [] b = Unit {0}
-Fits (f ∷ fs) b =
+abbrev pub FramesFit : List Frame → Branch → Type 0
+FramesFit [] b = Unit {0}
+FramesFit (f ∷ fs) b =
     (f.level ≤ 1024) × (f.facts ≤ length b.facts) × (f.waits ≤ length b.waiting) × place_fits f.todo f.waits
-    × Fits fs (full_of f b)
+    × FramesFit fs (full_of f b)
 
 -- the branches that are still to be refuted, in order
-abbrev pub pendings : List Variable → Machine → List Pending
+abbrev pub pendings : List Variable → Machine → List OpenBranch
 pendings vs m = cond m.done [] (at_level m.level m.branch ∷ behind vs (reverse m.frames) m.branch)
 
 abbrev pub IsFit : Machine → Type 0
-IsFit m = Fits (reverse m.frames) m.branch × (m.level ≤ 1025)
+IsFit m = FramesFit (reverse m.frames) m.branch × (m.level ≤ 1025)
 
 -- the branches behind the one that the next node belongs to
-abbrev pub rest_of : List Variable → Machine → List Pending
+abbrev pub rest_of : List Variable → Machine → List OpenBranch
 rest_of vs m = behind vs (reverse m.frames) m.branch
 
 -- one node against the first of the branches
-abbrev pub step_by : ℕ → List Pending → Made → Result (List Pending) Code
+abbrev pub step_by : ℕ → List OpenBranch → NodeEffect → Result (List OpenBranch) Code
 step_by level ps (fails c) = Err c
 step_by level ps (opens bs) = Ok (pending (suc level) bs ++ ps)
 
@@ -84,16 +84,16 @@ abbrev pub are_light : List Frame → Bool
 are_light fs = list_all (λ f. is_light_todo f.todo) fs
 
 -- nor settling one that waits, or is taken out in a frame
-pub record IsLight (m : Machine) : Type 0 where
+pub record IsLightMachine (m : Machine) : Type 0 where
   pub waiting : is_light_branch (2 ^ 63) m.branch ≡ true
   pub taken : are_light m.frames ≡ true
 
 -- what a function that reads a node promises, for what the node makes of the branch
-abbrev pub GoesErr : List Variable → Machine → Made → Stop → Type 0
+abbrev pub GoesErr : List Variable → Machine → NodeEffect → Stop → Type 0
 GoesErr vs old m (Stop.Fault c) = step_by old.level (rest_of vs old) m ≡ Err c
 GoesErr vs old m Stop.Memory = Unit {0}
 
-abbrev pub Goes : List Variable → Machine → Made → Machine → Type 0
+abbrev pub Goes : List Variable → Machine → NodeEffect → Machine → Type 0
 Goes vs old m new = (step_by old.level (rest_of vs old) m ≡ Ok (pendings vs new)) × IsFit new
 
 -- the error is the sum's failure, or that memory was refused
@@ -102,6 +102,6 @@ FailsSum r (Stop.Fault c) = r ≡ Err c
 FailsSum r Stop.Memory = Unit {0}
 
 -- the error is the first node that fails and its code, or that memory was refused
-abbrev pub FailsReading : Reading → CertError → Type 0
+abbrev pub FailsReading : WalkResult → CertError → Type 0
 FailsReading r (CertError.Fault code node) = r ≡ Err (code, node)
 FailsReading r CertError.Memory = Unit {0}

@@ -15,95 +15,95 @@ use Rattle.obligations.specs.Settling.{settled, sides, without, added, branch_ho
 use Rattle.certificate_check.specs.Sums.{all_pairs, is_false, is_divisible, divided}
 
 -- What a node makes of a branch: a failure, or the branches that its subtrees have to refute.
-pub data Made : Type 0 where
-  fails : Code → Made
-  opens : List Branch → Made
+pub data NodeEffect : Type 0 where
+  fails : Code → NodeEffect
+  opens : List Branch → NodeEffect
 
-abbrev pub made_case : List Variable → Branch → ℕ → Option CForm → Made
+abbrev pub made_case : List Variable → Branch → ℕ → Option CForm → NodeEffect
 made_case vs b k None = fails Code.NothingToCase
 made_case vs b k (Some f) = opens (settled vs (sides f).0 (without b k) ∷ settled vs (sides f).1 (without b k) ∷ [])
 
 -- what `case` makes of a branch: its waiting formula of this number is taken out, and either side settled
-abbrev pub case_at : List Variable → Branch → ℕ → Made
+abbrev pub case_at : List Variable → Branch → ℕ → NodeEffect
 case_at vs b zero = fails Code.NothingToCase
 case_at vs b (suc k) = made_case vs b k (slice_get b.waiting k)
 
 -- what `split` makes: the variable is at most k, or above it
-abbrev pub split_at : List Variable → Branch → ℕ → ℤ → Made
+abbrev pub split_at : List Variable → Branch → ℕ → ℤ → NodeEffect
 split_at vs b zero k = fails Code.NoSuchVariable
 split_at vs b (suc v) k =
     cond (nat_lt v (length vs)) (opens (added b (at_most v k) ∷ added b (at_least v (k +ℤ pos 1)) ∷ []))
     (fails Code.NoSuchVariable)
 
 -- a sum closes the branch where it is false
-abbrev pub made_sum : Result Line Code → Made
+abbrev pub made_sum : Result Line Code → NodeEffect
 made_sum (Err c) = fails c
 made_sum (Ok l) = cond (is_false l) (opens []) (fails Code.BadSum)
 
 -- a sum whose factors the number divides is added as a fact, divided and rounded down
-abbrev pub made_round : Branch → ℤ → Result Line Code → Made
+abbrev pub made_round : Branch → ℤ → Result Line Code → NodeEffect
 made_round b d (Err c) = fails c
 made_round b d (Ok l) = cond (is_divisible d l) (opens (added b (fact_of (divided d l)) ∷ [])) (fails Code.NotDivisible)
 
-abbrev pub made_by : List Variable → Branch → Node → Made
+abbrev pub made_by : List Variable → Branch → Node → NodeEffect
 made_by vs b (Node.Case k) = case_at vs b k
 made_by vs b (Node.Split v k) = split_at vs b v k
 made_by vs b (Node.Sum ps) = made_sum (all_pairs vs b.facts ps)
 made_by vs b (Node.Round d ps) = made_round b d (all_pairs vs b.facts ps)
 
 -- a branch with its level, which is 1 at the first branch
-pub record Pending : Type 0 where
+pub record OpenBranch : Type 0 where
   pub level : ℕ
   pub branch : Branch
 
 -- a node past level 1,024 fails
-abbrev pub made : List Variable → Pending → Node → Made
+abbrev pub made : List Variable → OpenBranch → Node → NodeEffect
 made vs p n = cond (nat_le p.level 1024) (made_by vs p.branch n) (fails Code.CertTooDeep)
 
-abbrev pub pending : ℕ → List Branch → List Pending
+abbrev pub pending : ℕ → List Branch → List OpenBranch
 pending level bs = map (λ b. record { level = level; branch = b }) bs
 
 -- the branches that are still to be refuted, in order, or the first node that fails and its code
-abbrev pub Reading : Type 0
-Reading = Result (List Pending) (Code × ℕ)
+abbrev pub WalkResult : Type 0
+WalkResult = Result (List OpenBranch) (Code × ℕ)
 
-abbrev pub after : (List Pending → Reading) → ℕ → List Pending → ℕ → Made → Reading
+abbrev pub after : (List OpenBranch → WalkResult) → ℕ → List OpenBranch → ℕ → NodeEffect → WalkResult
 after rest level ps at (fails c) = Err (c, at)
 after rest level ps at (opens bs) = rest (pending (suc level) bs ++ ps)
 
 -- The nodes from the place `at` on, against the branches that are still to be refuted, in order. Where there
 -- are none, no node is looked at.
-abbrev pub walk : List Variable → List Node → List Pending → ℕ → Reading
+abbrev pub walk : List Variable → List Node → List OpenBranch → ℕ → WalkResult
 walk vs [] ps at = Ok ps
 walk vs (n ∷ ns) [] at = Ok []
 walk vs (n ∷ ns) (p ∷ ps) at = after (λ qs. walk vs ns qs (suc at)) p.level ps at (made vs p n)
 
-abbrev pub at_level : ℕ → Branch → Pending
+abbrev pub at_level : ℕ → Branch → OpenBranch
 at_level level b = record { level = level; branch = b }
 
 -- what a walk along the nodes makes of an obligation's first branch
-abbrev pub judged : Obligation → List Node → Reading
-judged o nodes = walk o.variables nodes (at_level 1 (first_branch o) ∷ []) 0
+abbrev pub walk_from_root : Obligation → List Node → WalkResult
+walk_from_root o nodes = walk o.variables nodes (at_level 1 (first_branch o) ∷ []) 0
 
 -- further nodes go on where a walk ended
-abbrev pub go_on : Reading → (List Pending → Reading) → Reading
+abbrev pub go_on : WalkResult → (List OpenBranch → WalkResult) → WalkResult
 go_on (Ok ps) rest = rest ps
 go_on (Err e) rest = Err e
 
 abbrev pub WalkAppends : Type 0
-WalkAppends = (vs : List Variable) (ns ms : List Node) (ps : List Pending) (at : ℕ) →
+WalkAppends = (vs : List Variable) (ns ms : List Node) (ps : List OpenBranch) (at : ℕ) →
     walk vs (ns ++ ms) ps at ≡ go_on (walk vs ns ps at) (λ qs. walk vs ms qs (at + length ns))
 
 -- none of the branches holds at these values
-abbrev pub none_holds : List Variable → List ℤ → List Pending → Bool
+abbrev pub none_holds : List Variable → List ℤ → List OpenBranch → Bool
 none_holds vs values ps = list_all (λ p. not (branch_holds vs values p.branch)) ps
 
 -- where none of the branches holds that a walk leaves, none of those held with which it began
 abbrev pub WalkKeeps : Type 0
 WalkKeeps = (vs : List Variable) (values : List ℤ) → length values ≡ length vs → (ns : List Node)
-    (ps qs : List Pending) (at : ℕ) → walk vs ns ps at ≡ Ok qs → none_holds vs values qs ≡ true →
+    (ps qs : List OpenBranch) (at : ℕ) → walk vs ns ps at ≡ Ok qs → none_holds vs values qs ≡ true →
     none_holds vs values ps ≡ true
 
 -- an obligation of which a walk leaves no branch is valid
 abbrev pub Sound : Type 0
-Sound = (o : Obligation) (nodes : List Node) → judged o nodes ≡ Ok [] → Valid o
+Sound = (o : Obligation) (nodes : List Node) → walk_from_root o nodes ≡ Ok [] → Valid o

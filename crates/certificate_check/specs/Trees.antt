@@ -6,22 +6,22 @@ use Rattle.obligations.specs.declared.branches.Obligation.{Obligation}
 use Rattle.obligations.specs.declared.certificates.Node.{Node}
 use Rattle.obligations.specs.Certificates.{arity}
 use Rattle.obligations.specs.Opening.{first_branch}
-use Rattle.certificate_check.specs.Refutation.{opens, made, at_level, judged}
+use Rattle.certificate_check.specs.Refutation.{opens, made, at_level, walk_from_root}
 
 -- a node with as many subtrees as it has
-pub data Tree : Type 0 where
-  leaf : (n : Node) → arity n ≡ 0 → Tree
-  one_below : (n : Node) → arity n ≡ 1 → Tree → Tree
-  two_below : (n : Node) → arity n ≡ 2 → Tree → Tree → Tree
+pub data CertTree : Type 0 where
+  leaf : (n : Node) → arity n ≡ 0 → CertTree
+  one_below : (n : Node) → arity n ≡ 1 → CertTree → CertTree
+  two_below : (n : Node) → arity n ≡ 2 → CertTree → CertTree → CertTree
 
 -- a tree's nodes, each before its subtrees
-abbrev pub nodes_of : Tree → List Node
+abbrev pub nodes_of : CertTree → List Node
 nodes_of (leaf n e) = n ∷ []
 nodes_of (one_below n e t) = n ∷ nodes_of t
 nodes_of (two_below n e t u) = n ∷ (nodes_of t ++ nodes_of u)
 
 -- a tree refutes a branch: its node opens branches, and each is refuted by a subtree
-abbrev pub Refutes : List Variable → ℕ → Branch → Tree → Type 0
+abbrev pub Refutes : List Variable → ℕ → Branch → CertTree → Type 0
 Refutes vs level b (leaf n e) = made vs (at_level level b) n ≡ opens []
 Refutes vs level b (one_below n e t) =
     (c : Branch) × (made vs (at_level level b) n ≡ opens (c ∷ [])) × Refutes vs (suc level) c t
@@ -31,7 +31,7 @@ Refutes vs level b (two_below n e t u) =
 
 -- some tree of these nodes refutes the obligation's first branch
 abbrev pub Refuted : Obligation → List Node → Type 0
-Refuted o nodes = (t : Tree) × (nodes_of t ≡ nodes) × Refutes o.variables 1 (first_branch o) t
+Refuted o nodes = (t : CertTree) × (nodes_of t ≡ nodes) × Refutes o.variables 1 (first_branch o) t
 
 -- the nodes are as many whole trees
 abbrev pub is_whole : List Node → ℕ → Bool
@@ -42,4 +42,4 @@ is_whole (x ∷ xs) (suc n) = is_whole xs (arity x + n)
 -- the nodes of one tree refute an obligation exactly where a walk along them leaves no branch
 abbrev pub WalkIsTree : Type 0
 WalkIsTree = (o : Obligation) (nodes : List Node) → is_whole nodes 1 ≡ true →
-    (judged o nodes ≡ Ok []) ↔ Refuted o nodes
+    (walk_from_root o nodes ≡ Ok []) ↔ Refuted o nodes

@@ -3,11 +3,13 @@
 #![tactic(auto)]
 
 mod errors;
+mod indexes;
 mod laws;
 mod machine;
 mod sums;
 
 pub use errors::CertError;
+pub use indexes::index_laws;
 pub use laws::certificate_laws;
 pub use machine::check_cert;
 pub use sums::{add_pairs, closes, divides, rounded};

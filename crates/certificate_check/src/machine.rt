@@ -10,10 +10,12 @@ ghost use Rattle.obligations.specs.Opening.{Valid, first_branch, at_most, at_lea
 ghost use Rattle.obligations.specs.Obligations.{AreVariables};
 ghost use Rattle.certificate_check.specs.Sums.{all_pairs};
 ghost use Rattle.certificate_check.specs.Refutation.{at_level, case_at, split_at, made, made_sum, made_round, walk};
-ghost use Rattle.certificate_check.specs.Refutation.{judged};
+ghost use Rattle.certificate_check.specs.Refutation.{walk_from_root};
 ghost use Rattle.certificate_check.specs.Trees.{is_whole, Refuted};
-ghost use Rattle.certificate_check.specs.Machines.{base_of, full_by, second_by, behind, place_fits, Fits, pendings};
-ghost use Rattle.certificate_check.specs.Machines.{IsFit, rest_of, is_light_todo, are_light, IsLight, Goes, GoesErr};
+ghost use Rattle.certificate_check.specs.Machines.{base_of, full_by, second_by, behind, place_fits, FramesFit};
+ghost use Rattle.certificate_check.specs.Machines.{pendings};
+ghost use Rattle.certificate_check.specs.Machines.{IsFit, rest_of, is_light_todo, are_light, IsLightMachine, Goes};
+ghost use Rattle.certificate_check.specs.Machines.{GoesErr};
 ghost use Rattle.certificate_check.specs.Machines.{FailsSum, FailsReading};
 
 use crate::errors::{CertError, Stop};
@@ -190,18 +192,18 @@ fn resume(
     frame: Frame,
 ) -> Result<bool, AllocError>
     requires variables { AreVariables vs.now }
-    requires fits { Fits (frame ∷ reverse machine.old.frames) machine.old.branch }
+    requires fits { FramesFit (frame ∷ reverse machine.old.frames) machine.old.branch }
     requires going { machine.old.done ≡ false }
-    requires light { IsLight machine.old }
+    requires light { IsLightMachine machine.old }
     requires taken { is_light_todo frame.todo ≡ true }
     ensures second { IfOk result (λ on. on ≡ true →
         (pendings vs.now machine.new ≡ behind vs.now (frame ∷ reverse machine.old.frames) machine.old.branch)
         × IsFit machine.new) }
     ensures back { IfOk result (λ on. on ≡ false →
         (rest_of vs.now machine.new ≡ behind vs.now (frame ∷ reverse machine.old.frames) machine.old.branch)
-        × Fits (reverse machine.new.frames) machine.new.branch × (machine.new.frames ≡ machine.old.frames)
+        × FramesFit (reverse machine.new.frames) machine.new.branch × (machine.new.frames ≡ machine.old.frames)
         × (machine.new.done ≡ false) × (machine.new.level ≡ machine.old.level)) }
-    ensures light { OnOk result (IsLight machine.new) }
+    ensures light { OnOk result (IsLightMachine machine.new) }
 {
     cut(&frame, &mut machine.branch);
     if frame.first {
@@ -225,13 +227,13 @@ fn resume(
 #[tactic(auto, using(crate::proofs::MachineLaws::back_laws))]
 fn go_back(alloc: Global, vs: &[Variable], machine: &mut Machine) -> Result<(), AllocError>
     requires variables { AreVariables vs.now }
-    requires fits { Fits (reverse machine.old.frames) machine.old.branch }
+    requires fits { FramesFit (reverse machine.old.frames) machine.old.branch }
     requires level { machine.old.level ≤ 1025 }
     requires going { machine.old.done ≡ false }
-    requires light { IsLight machine.old }
+    requires light { IsLightMachine machine.old }
     ensures pending { OnOk result (pendings vs.now machine.new ≡ rest_of vs.now machine.old) }
     ensures fit { OnOk result (IsFit machine.new) }
-    ensures light { OnOk result (IsLight machine.new) }
+    ensures light { OnOk result (IsLightMachine machine.new) }
 {
     'frames: loop {
         match machine.frames.pop() {
@@ -254,9 +256,9 @@ fn open_case(alloc: Global, vs: &[Variable], machine: &mut Machine, k: u64) -> R
     requires fits { IsFit machine.old }
     requires level { machine.old.level ≤ 1024 }
     requires going { machine.old.done ≡ false }
-    requires light { IsLight machine.old }
+    requires light { IsLightMachine machine.old }
     ensures ok { OnOk result (Goes vs.now machine.old (case_at vs.now machine.old.branch k) machine.new) }
-    ensures light { OnOk result (IsLight machine.new) }
+    ensures light { OnOk result (IsLightMachine machine.new) }
     ensures err { IfErr result (GoesErr vs.now machine.old (case_at vs.now machine.old.branch k)) }
 {
     if k == 0 || k as usize > machine.branch.waiting.len() {
@@ -290,9 +292,9 @@ fn open_split(
     requires fits { IsFit machine.old }
     requires level { machine.old.level ≤ 1024 }
     requires going { machine.old.done ≡ false }
-    requires light { IsLight machine.old }
+    requires light { IsLightMachine machine.old }
     ensures ok { OnOk result (Goes vs.now machine.old (split_at vs.now machine.old.branch variable k) machine.new) }
-    ensures light { OnOk result (IsLight machine.new) }
+    ensures light { OnOk result (IsLightMachine machine.new) }
     ensures err { IfErr result (GoesErr vs.now machine.old (split_at vs.now machine.old.branch variable k)) }
 {
     if variable == 0 || variable as usize > vs.len() {
@@ -345,10 +347,10 @@ fn close(
     requires variables { AreVariables vs.now }
     requires fits { IsFit machine.old }
     requires going { machine.old.done ≡ false }
-    requires light { IsLight machine.old }
+    requires light { IsLightMachine machine.old }
     ensures ok { OnOk result
         (Goes vs.now machine.old (made_sum (all_pairs vs.now machine.old.branch.facts pairs.now)) machine.new) }
-    ensures light { OnOk result (IsLight machine.new) }
+    ensures light { OnOk result (IsLightMachine machine.new) }
     ensures err { IfErr result
         (GoesErr vs.now machine.old (made_sum (all_pairs vs.now machine.old.branch.facts pairs.now))) }
 {
@@ -373,10 +375,10 @@ fn round(
     requires fits { IsFit machine.old }
     requires level { machine.old.level ≤ 1024 }
     requires going { machine.old.done ≡ false }
-    requires light { IsLight machine.old }
+    requires light { IsLightMachine machine.old }
     ensures ok { OnOk result (Goes vs.now machine.old
         (made_round machine.old.branch d.now (all_pairs vs.now machine.old.branch.facts pairs.now)) machine.new) }
-    ensures light { OnOk result (IsLight machine.new) }
+    ensures light { OnOk result (IsLightMachine machine.new) }
     ensures err { IfErr result (GoesErr vs.now machine.old
         (made_round machine.old.branch d.now (all_pairs vs.now machine.old.branch.facts pairs.now))) }
 {
@@ -395,10 +397,10 @@ fn take(alloc: Global, vs: &[Variable], machine: &mut Machine, node: &Node) -> R
     requires variables { AreVariables vs.now }
     requires fits { IsFit machine.old }
     requires going { machine.old.done ≡ false }
-    requires light { IsLight machine.old }
+    requires light { IsLightMachine machine.old }
     ensures ok { OnOk result (Goes vs.now machine.old
         (made vs.now (at_level machine.old.level machine.old.branch) node.now) machine.new) }
-    ensures light { OnOk result (IsLight machine.new) }
+    ensures light { OnOk result (IsLightMachine machine.new) }
     ensures err { IfErr result (GoesErr vs.now machine.old
         (made vs.now (at_level machine.old.level machine.old.branch) node.now)) }
 {
@@ -456,10 +458,10 @@ pub fn check_cert(alloc: Global, o: &Obligation, c: &Cert) -> Result<(), CertErr
     requires whole { is_whole c.now.nodes 1 ≡ true }
 
     // It is taken exactly where a walk along its nodes leaves no branch, so where its tree refutes.
-    ensures walked { OnOk result (judged o.now c.now.nodes ≡ Ok []) }
+    ensures walked { OnOk result (walk_from_root o.now c.now.nodes ≡ Ok []) }
     ensures refuted { OnOk result (Refuted o.now c.now.nodes) }
     ensures not_refuted { IfErr result (λ e. e ≢ CertError.Memory → Refuted o.now c.now.nodes → ⊥) }
-    ensures fault { IfErr result (FailsReading (judged o.now c.now.nodes)) }
+    ensures fault { IfErr result (FailsReading (walk_from_root o.now c.now.nodes)) }
     ensures valid { OnOk result (Valid o.now) }
 {
     match open_branch(alloc, o) {

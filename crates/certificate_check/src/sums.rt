@@ -4,7 +4,7 @@ ghost use Rattle.std.specs.Prelude.{OnErr, IfOk, IsTrue, Some, None, Ok, Err, Bo
 ghost use Rattle.std.specs.Prelude.{List, [], ◌∷◌, ◌++◌};
 ghost use Rattle.std.specs.Option.{option_copied};
 ghost use Rattle.std.specs.List.{list_all};
-ghost use Rattle.state_steps.specs.State.{int_eq};
+ghost use Rattle.meaning_states.specs.State.{int_eq};
 ghost use Rattle.core_terms.specs.Values.{number_at};
 ghost use Rattle.std.specs.Int.{int_rem_euclid, int_div_euclid};
 ghost use Rattle.certificate_check.specs.Sums.{add_factors, add_times, numbered, add_pair, sum_pairs, is_false};

@@ -1,11 +1,12 @@
 -- What the trees of a form look like, with the nodes of prefix trees counted.
 use Rattle.std.proofs.Common.{◌≡◌, ℕ, zero, suc, ◌+◌, ◌⊎◌, inl, inr, List, Bool, true, false, nat_eq, refl, ap}
 use Rattle.std.proofs.Common.{◌∙◌, subst}
-use Rattle.ebnf.specs.Ebnf.{Terminal, Tree, unit, pair, left, right, none, some, more, nil, node, Ebnf}
-use Rattle.ebnf.specs.Ebnf.{valued, both, either, maybe, numbered, prefix_trees, named, Grammar}
-use Rattle.ebnf.specs.Ebnf.{Derives, is_token, is_valued, is_version, is_both, is_left, is_right, is_none, is_some}
-use Rattle.ebnf.specs.Ebnf.{is_nil, is_more, is_no_number, is_next_number, is_no_tree, is_next_node, is_named}
-use Rattle.ebnf.specs.Ebnf.{is_inside}
+use Rattle.grammar_theory.specs.Ebnf.{Terminal, Tree, unit, pair, left, right, none, some, more, nil, node, Ebnf}
+use Rattle.grammar_theory.specs.Ebnf.{valued, both, either, maybe, numbered, prefix_trees, named, Grammar}
+use Rattle.grammar_theory.specs.Ebnf.{Derives, is_token, is_valued, is_version, is_both, is_left, is_right, is_none}
+use Rattle.grammar_theory.specs.Ebnf.{is_some}
+use Rattle.grammar_theory.specs.Ebnf.{is_nil, is_more, is_no_number, is_next_number, is_no_tree, is_next_node, is_named}
+use Rattle.grammar_theory.specs.Ebnf.{is_inside}
 
 -- the items of a repetition are the nodes of so many trees, each node before its subtrees
 abbrev pub holds_trees : (Tree → ℕ) → Tree → ℕ → Bool

@@ -3,7 +3,7 @@ use Rattle.std.proofs.Common.{◌≡◌, ℕ, zero, suc, ◌+◌, List, [], ◌�
 use Rattle.std.proofs.Common.{refl, sym, ap, ◌∙◌, arith}
 use Rattle.std.specs.List.{AllByRecursion}
 use Rattle.std.proofs.lemmas.List.Elements.{All-from_recursion}
-use Rattle.ebnf.specs.Ebnf.{Tree, pair, some, node}
+use Rattle.grammar_theory.specs.Ebnf.{Tree, pair, some, node}
 use Rattle.unity_syntax.specs.declared.certificate.Node.{Node as WrittenNode}
 use Rattle.unity_syntax.specs.declared.certificate.CertText.{CertText}
 use Rattle.unity_syntax.specs.declared.certificate.Certificates.{Certificates}

@@ -3,8 +3,8 @@ use Rattle.std.proofs.Common.{◌≡◌, ℕ, ◌+◌, List, [], ◌∷◌, ◌+
 use Rattle.std.proofs.Common.{◌∙◌, subst}
 use Rattle.std.proofs.lemmas.List.{map-append}
 use Rattle.case_tables.specs.declared.word_table.Word.{Word}
-use Rattle.ebnf.specs.Ebnf.{Terminal, Derives}
-use Rattle.ebnf.specs.Answers.{overfull}
+use Rattle.grammar_theory.specs.Ebnf.{Terminal, Derives}
+use Rattle.grammar_theory.specs.Answers.{overfull}
 use Rattle.unity_syntax.specs.declared.token.Token.{Token}
 use Rattle.unity_syntax.specs.declared.certificate.Certificates.{Certificates}
 use Rattle.unity_syntax.specs.declared.document.Document.{Document}

@@ -7,7 +7,7 @@ use Rattle.std.specs.Fmt.{signed_decimal}
 use Rattle.std.proofs.lemmas.Bool.{and_parts}
 use Rattle.case_tables.specs.declared.word_table.Word.{Word}
 use Rattle.case_tables.specs.TableRows.{word_rows}
-use Rattle.ebnf.specs.Ebnf.{Derives}
+use Rattle.grammar_theory.specs.Ebnf.{Derives}
 use Rattle.unity_syntax.specs.declared.certificate.Node.{Node as WrittenNode}
 use Rattle.unity_syntax.specs.Kinds.{Kind}
 use Rattle.unity_syntax.specs.Grammar.{grammar, node_, subtrees}

@@ -7,7 +7,7 @@ use Rattle.std.specs.Fmt.{signed_decimal}
 use Rattle.std.proofs.lemmas.Bool.{and_parts, leb-true}
 use Rattle.std.proofs.lemmas.List.Folds.{list_all-append}
 use Rattle.case_tables.specs.declared.symbol_table.Symbol.{Symbol}
-use Rattle.ebnf.specs.Ebnf.{Terminal, Tree, pair, Ebnf, many, Derives, both, is_nil, is_more}
+use Rattle.grammar_theory.specs.Ebnf.{Terminal, Tree, pair, Ebnf, many, Derives, both, is_nil, is_more}
 use Rattle.unity_syntax.specs.declared.certificate.Pair.{Pair}
 use Rattle.unity_syntax.specs.declared.token.TokenKind.{TokenKind}
 use Rattle.unity_syntax.specs.Classes.{terminal, terminals}

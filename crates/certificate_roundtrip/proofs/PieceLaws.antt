@@ -19,7 +19,8 @@ use Rattle.unity_syntax.specs.declared.token.TokenKind.{TokenKind}
 use Rattle.unity_syntax.specs.declared.token.TokenKind.TheVariants as kind
 use Rattle.unity_lexer.specs.Pieces.{is_other}
 use Rattle.unity_lexer.specs.Symbols.{first_symbol}
-use Rattle.unity_lexer.specs.Tokens.{IsGap, IsLongestRun, Reads, Spells, begins_with_spare_zero, blank, gap, is_blank}
+use Rattle.unity_lexer.specs.Tokens.{IsGap, IsLongestRun, Tokenizes, Spells, begins_with_spare_zero, blank, gap}
+use Rattle.unity_lexer.specs.Tokens.{is_blank}
 use Rattle.unity_lexer.specs.Tokens.{is_numeral, is_word, is_word_byte, nothing, token}
 use Rattle.unity_lexer.proofs.Begins.{symbol_begins, take_front}
 use Rattle.unity_lexer.proofs.Longest.{longest_numeral, longest_word, opens}
@@ -185,18 +186,18 @@ text_end at w next =
     end_is at (length w) (length next) ∙ ap (λ n. at + n) (sym (length-append w next))
 
 pub reads_all : (at : ℕ) (ps : List Piece) → Separate ps →
-    Reads at (text_of ps) (tokens_from at ps) (at + length (text_of ps)) []
-reads_all at [] h = subst (λ n. Reads at [] [] n []) (none at) nothing
+    Tokenizes at (text_of ps) (tokens_from at ps) (at + length (text_of ps)) []
+reads_all at [] h = subst (λ n. Tokenizes at [] [] n []) (none at) nothing
   where
     none : (n : ℕ) → n ≡ n + 0
     none n = omega arith
 reads_all at (p ∷ ps) h =
-    subst (λ n. Reads at (text_of (p ∷ ps)) (tokens_from at (p ∷ ps)) n []) (text_end at p.bytes (text_of ps))
+    subst (λ n. Tokenizes at (text_of (p ∷ ps)) (tokens_from at (p ∷ ps)) n []) (text_end at p.bytes (text_of ps))
     (read_first p.bytes p.token (text_of ps) (tokens_from (at + length p.bytes) ps)
     ((at + length p.bytes) + length (text_of ps)) h.0 (reads_all (at + length p.bytes) ps h.1))
   where
     read_first : (w : List ℕ) (k : Option TokenKind) (next : List ℕ) (ts : List Token) (end : ℕ) → Ends w k next →
-        Reads (at + length w) next ts end [] → Reads at (w ++ next) (with_token at w k ts) end []
+        Tokenizes (at + length w) next ts end [] → Tokenizes at (w ++ next) (with_token at w k ts) end []
     read_first w None next ts end e r =
         gap w next refl (subst (λ x. IsGap next x) (sym e.1) (blank e.0 e.2)) r
     read_first w (Some (kind.Word)) next ts end e r = absurd e

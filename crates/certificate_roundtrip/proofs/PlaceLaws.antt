@@ -5,7 +5,7 @@ use Rattle.std.specs.List.{list_all}
 use Rattle.std.proofs.lemmas.List.{append-nil}
 use Rattle.obligations.specs.declared.certificates.Cert.{Cert}
 use Rattle.unity_syntax.specs.declared.token.Token.{Token}
-use Rattle.unity_lexer.specs.Tokens.{IsTokens, Reads, gap, blank}
+use Rattle.unity_lexer.specs.Tokens.{IsTokens, Tokenizes, gap, blank}
 use Rattle.unity_lexer.proofs.Begins.{take_front}
 use Rattle.certificate_printing.specs.Certificates.{certificates_text}
 use Rattle.certificate_roundtrip.specs.SectionLaws.{FrontIsRead, WholeIsRead}
@@ -19,19 +19,19 @@ section_end n front text e = omega (arith, e, length-append front (10 ∷ text))
 
 -- the section at any place
 section_at : (at : ℕ) (certs : List Cert) → list_all is_readable (section_pieces certs) ≡ true →
-    Reads at (certificates_text certs) (tokens_from at (section_pieces certs))
+    Tokenizes at (certificates_text certs) (tokens_from at (section_pieces certs))
     (at + length (certificates_text certs)) []
 section_at at certs h =
-    subst (λ t. Reads at t (tokens_from at (section_pieces certs)) (at + length t) []) (section_is certs)
+    subst (λ t. Tokenizes at t (tokens_from at (section_pieces certs)) (at + length t) []) (section_is certs)
     (reads_all at (section_pieces certs) (sep_section certs h))
 
 -- and after a front that is read, and a line feed
 after_front : (front : List ℕ) (n : ℕ) (tokens : List Token) (certs : List Cert) → n ≡ length front →
-    Reads 0 (front ++ 10 ∷ certificates_text certs) tokens n (10 ∷ certificates_text certs) →
+    Tokenizes 0 (front ++ 10 ∷ certificates_text certs) tokens n (10 ∷ certificates_text certs) →
     list_all is_readable (section_pieces certs) ≡ true →
     IsTokens (front ++ 10 ∷ certificates_text certs) (tokens ++ tokens_from (n + 1) (section_pieces certs))
 after_front front n tokens certs e reads h =
-    subst (λ m. Reads 0 (front ++ 10 ∷ certificates_text certs)
+    subst (λ m. Tokenizes 0 (front ++ 10 ∷ certificates_text certs)
     (tokens ++ tokens_from (n + 1) (section_pieces certs)) m [])
     (section_end n front (certificates_text certs) e)
     (reads_then reads
@@ -57,5 +57,6 @@ whole_is_read bytes tokens certs is_read h =
     let part = reads_on is_read in
     let whole : part.front ≡ bytes = sym (part.split ∙ append-nil part.front) in
     after_front bytes (length bytes) tokens certs refl
-    (subst (λ f. Reads 0 (f ++ 10 ∷ certificates_text certs) tokens (length bytes) (10 ∷ certificates_text certs)) whole
+    (subst (λ f. Tokenizes 0 (f ++ 10 ∷ certificates_text certs) tokens (length bytes) (10 ∷ certificates_text certs))
+    whole
     (part.on (certificates_text certs))) h

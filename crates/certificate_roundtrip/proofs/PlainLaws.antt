@@ -6,8 +6,8 @@ use Rattle.std.proofs.lemmas.Bool.{and_parts}
 use Rattle.obligations.specs.declared.certificates.Node.{Node}
 use Rattle.obligations.specs.Certificates.{node_index, node_number, node_pairs, map_or}
 use Rattle.linear_prover.specs.Chains.{is_plain_node, is_plain_number, is_plain_pair}
-use Rattle.certificate_indexes.specs.Laws.{is_fact_within, is_index_within}
-use Rattle.certificate_indexes.proofs.IndexLaws.{indexes_are_small}
+use Rattle.certificate_check.specs.Indexes.{is_fact_within, is_index_within}
+use Rattle.certificate_check.proofs.IndexLaws.{indexes_are_small}
 use Rattle.certificate_roundtrip.specs.SectionLaws.{RefutingIsSmall}
 use Rattle.certificate_roundtrip.specs.Small.{is_small, is_small_node, is_small_pair}
 

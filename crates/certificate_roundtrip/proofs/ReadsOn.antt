@@ -7,8 +7,8 @@ use Rattle.std.specs.Char.{is_ascii_alphabetic, is_ascii_digit}
 use Rattle.std.proofs.lemmas.Grind.{common_steps}
 use Rattle.case_tables.specs.TableRows.{symbol_rows}
 use Rattle.unity_syntax.specs.declared.token.Token.{Token}
-use Rattle.unity_lexer.specs.Tokens.{is_word_byte, IsRun, word, numeral, symbol, IsLongestRun}
-use Rattle.unity_lexer.specs.Tokens.{LineEnds, IsGap, blank, comment, Reads, nothing, gap, token}
+use Rattle.unity_lexer.specs.Tokens.{is_word_byte, IsPieceOfText, word, numeral, symbol, IsLongestRun}
+use Rattle.unity_lexer.specs.Tokens.{LineEnds, IsGap, blank, comment, Tokenizes, nothing, gap, token}
 use Rattle.unity_lexer.proofs.Longest.{and_left, and_right, letter_continues, row_passes}
 
 -- a byte other than a line feed
@@ -40,7 +40,7 @@ made_inner first more f m b w h =
     both_true (is_inner b) (list_all is_inner w) (word_byte_inner b (f b (and_left (first b) (list_all more w) h)))
     (all_inner more (λ c k. word_byte_inner c (m c k)) w (and_right (first b) (list_all more w) h))
 
-run_inner : (w : List ℕ) → IsRun w → list_all is_inner w ≡ true
+run_inner : (w : List ℕ) → IsPieceOfText w → list_all is_inner w ≡ true
 run_inner [] r = refl
 run_inner (b ∷ w) (word made) =
     made_inner is_ascii_alphabetic is_word_byte letter_continues (λ c h. h) b w made
@@ -98,13 +98,13 @@ pub record ReadsOn (at : ℕ) (text : List ℕ) (tokens : List Token) (end : ℕ
   pub front : List ℕ
   pub split : text ≡ front ++ rest
   pub end_is : end ≡ at + length front
-  pub on : (r : List ℕ) → Reads at (front ++ 10 ∷ r) tokens end (10 ∷ r)
+  pub on : (r : List ℕ) → Tokenizes at (front ++ 10 ∷ r) tokens end (10 ∷ r)
 
 end_after : (at end : ℕ) (piece front : List ℕ) → end ≡ (at + length piece) + length front →
     end ≡ at + length (piece ++ front)
 end_after at end piece front e = omega (arith, e, length-append piece front)
 
-pub reads_on : {at end : ℕ} {text rest : List ℕ} {tokens : List Token} → Reads at text tokens end rest →
+pub reads_on : {at end : ℕ} {text rest : List ℕ} {tokens : List Token} → Tokenizes at text tokens end rest →
     ReadsOn at text tokens end rest
 reads_on nothing = record {
   front = [];
@@ -133,7 +133,7 @@ reads_on {at = at} {end = end} {text = text} {rest = rest} (token run after k lo
 
 -- what is read up to a place, and what is read from there on
 pub reads_then : {at mid end : ℕ} {text from rest : List ℕ} {first second : List Token} →
-    Reads at text first mid from → Reads mid from second end rest → Reads at text (first ++ second) end rest
+    Tokenizes at text first mid from → Tokenizes mid from second end rest → Tokenizes at text (first ++ second) end rest
 reads_then nothing later = later
 reads_then (gap piece after cut is_gap reads) later = gap piece after cut is_gap (reads_then reads later)
 reads_then (token run after k long spells reads) later = token run after k long spells (reads_then reads later)
@@ -141,10 +141,10 @@ reads_then (token run after k long spells reads) later = token run after k long 
 -- what was read before a token, up to its place
 pub record ReadsBefore (at : ℕ) (text : List ℕ) (before : List Token) (start : ℕ) : Type 0 where
   pub rest : List ℕ
-  pub reads : Reads at text before start rest
+  pub reads : Tokenizes at text before start rest
 
 pub reads_before : {at end : ℕ} {text rest : List ℕ} {tokens : List Token} (before : List Token) (t : Token)
-    (after : List Token) → Reads at text tokens end rest → tokens ≡ before ++ t ∷ after →
+    (after : List Token) → Tokenizes at text tokens end rest → tokens ≡ before ++ t ∷ after →
     ReadsBefore at text before t.start
 reads_before [] t after nothing e = cc
 reads_before (b ∷ bs) t after nothing e = cc
@@ -154,14 +154,14 @@ reads_before before t after (gap piece more cut is_gap reads) e =
 reads_before {at = at} {text = text} [] t after (token run more k long spells reads) e =
     let head : record { kind = k; start = at; end = at + length run } ≡ t = cc in
     let place : at ≡ t.start = ap (λ (x : Token). x.start) head in
-    record { rest = text; reads = subst (λ n. Reads at text [] n text) place nothing }
+    record { rest = text; reads = subst (λ n. Tokenizes at text [] n text) place nothing }
 reads_before {at = at} {text = text} (b ∷ bs) t after (token run more k long spells reads) e =
     let head : record { kind = k; start = at; end = at + length run } ≡ b = cc in
     let tail = the_tail (record { kind = k; start = at; end = at + length run }) b _ (bs ++ t ∷ after) e in
     let later = reads_before bs t after reads tail in
     record {
       rest = later.rest;
-      reads = subst (λ (x : Token). Reads at text (x ∷ bs) t.start later.rest) head
+      reads = subst (λ (x : Token). Tokenizes at text (x ∷ bs) t.start later.rest) head
           (token run more k long spells later.reads);
     }
   where

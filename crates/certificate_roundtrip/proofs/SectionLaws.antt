@@ -11,7 +11,7 @@ use Rattle.obligations.specs.declared.certificates.Cert.{Cert}
 use Rattle.obligations.specs.declared.certificates.Node.{Node}
 use Rattle.obligations.specs.Certificates.{node_index, node_number, node_pairs, map_or}
 use Rattle.unity_lexer.specs.Symbols.{first_symbol}
-use Rattle.unity_lexer.specs.Tokens.{Reads}
+use Rattle.unity_lexer.specs.Tokens.{Tokenizes}
 use Rattle.certificate_printing.specs.Certificates.{node_text, certificate_line, certificate_lines}
 use Rattle.certificate_printing.specs.Certificates.{certificates_text}
 use Rattle.certificate_roundtrip.specs.SectionLaws.{SectionIsRead}
@@ -191,8 +191,8 @@ section_is certs =
 pub section_is_read : SectionIsRead
 section_is_read certs h =
     let ps : List Piece = section_pieces certs in
-    subst (λ t. Reads 0 t (tokens_from 0 ps) (length t) []) (section_is certs)
-    (subst (λ n. Reads 0 (text_of ps) (tokens_from 0 ps) n []) (none (length (text_of ps)))
+    subst (λ t. Tokenizes 0 t (tokens_from 0 ps) (length t) []) (section_is certs)
+    (subst (λ n. Tokenizes 0 (text_of ps) (tokens_from 0 ps) n []) (none (length (text_of ps)))
     (reads_all 0 ps (sep_section certs h)))
   where
     none : (n : ℕ) → 0 + n ≡ n

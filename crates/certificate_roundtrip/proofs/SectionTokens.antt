@@ -5,8 +5,8 @@ use Rattle.std.specs.List.{flat_map, AllByRecursion}
 use Rattle.std.proofs.lemmas.Bool.{eqb-true}
 use Rattle.case_tables.specs.declared.symbol_table.Symbol.{Symbol}
 use Rattle.case_tables.specs.declared.word_table.Word.{Word}
-use Rattle.ebnf.specs.Ebnf.{numbered, numbered_item, prefix_trees, Derives, is_valued, is_both, is_no_number}
-use Rattle.ebnf.specs.Ebnf.{is_next_number, is_no_tree, is_next_node, is_named}
+use Rattle.grammar_theory.specs.Ebnf.{numbered, numbered_item, prefix_trees, Derives, is_valued, is_both, is_no_number}
+use Rattle.grammar_theory.specs.Ebnf.{is_next_number, is_no_tree, is_next_node, is_named}
 use Rattle.unity_syntax.specs.Classes.{number_class}
 use Rattle.unity_syntax.specs.Kinds.{Kind}
 use Rattle.unity_syntax.specs.Grammar.{grammar, node_, certificate_, certificates_, subtrees}

@@ -14,16 +14,16 @@ use Rattle.core_terms.specs.Conditions.{IsProgram, IsProof, IsSlot, IsStep}
 use Rattle.obligations.specs.declared.branches.Obligation.{Obligation}
 use Rattle.obligations.specs.declared.certificates.Cert.{Cert}
 use Rattle.obligations.specs.Obligations.{IsObligation}
-use Rattle.certificate_check.specs.Refutation.{judged}
+use Rattle.certificate_check.specs.Refutation.{walk_from_root}
 use Rattle.certificate_check.specs.Trees.{is_whole}
 use Rattle.linear_prover.specs.Chains.{is_plain_node}
 use Rattle.certificate_roundtrip.specs.Small.{IsSmallCertificate}
 use Rattle.certificate_roundtrip.proofs.PlainLaws.{refuting_is_small}
-use Rattle.proof_rules.specs.Conclusion.{Conclusion}
-use Rattle.proof_rules.specs.Table.{needs}
-use Rattle.proof_rules.specs.Walk.{has_defined, program_of, rule_of}
-use Rattle.proof_rules.proofs.EachLaws.{Each, from_all, each_at}
-use Rattle.proof_rules.proofs.SiteLaws.{met}
+use Rattle.rules_table.specs.Conclusion.{Conclusion}
+use Rattle.rules_table.specs.Table.{needs}
+use Rattle.rules_table.specs.Walk.{has_defined, program_of, rule_of}
+use Rattle.rules_table.proofs.EachLaws.{Each, from_all, each_at}
+use Rattle.rules_table.proofs.SiteLaws.{met}
 use Rattle.safety_rules.specs.declared.places.Derived.{Derived}
 use Rattle.safety_rules.specs.Answers.{derived_of}
 use Rattle.rules_steps.specs.Starts.{starts_in}
@@ -74,8 +74,8 @@ module _ (slots : List CSlot) (certs : List Cert) (all : All IsSlot slots) (whol
       let one_plain : list_all is_plain_node c.nodes ≡ true =
       each_at (λ (x : Cert). list_all is_plain_node x.nodes ≡ true) certs
       (from_all (λ (x : Cert). list_all is_plain_node x.nodes ≡ true) certs plain) number c there in
-      let none : failing_node (judged o c.nodes) ≡ None = sym (ap (failing o) there) ∙ passes in
-      refuting_is_small o c is one_tree (unfailing (judged o c.nodes) none) one_plain
+      let none : failing_node (walk_from_root o c.nodes) ≡ None = sym (ap (failing o) there) ∙ passes in
+      refuting_is_small o c is one_tree (unfailing (walk_from_root o c.nodes) none) one_plain
 
   next_small : (n : ℕ) → AreSmall n → ((c : Cert) → slice_get certs n ≡ Some c → IsSmallCertificate c) →
       (k : ℕ) (c : Cert) →

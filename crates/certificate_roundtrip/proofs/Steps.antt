@@ -1,9 +1,10 @@
 -- Derivations of the small forms of which the certificates section is made.
 use Rattle.std.proofs.Common.{◌≡◌, ℕ, List, [], ◌∷◌, ◌++◌, refl}
 use Rattle.case_tables.specs.declared.symbol_table.Symbol.{Symbol}
-use Rattle.ebnf.specs.Ebnf.{Terminal, Tree, unit, numeral, pair, none, some, node, Ebnf, Grammar, place_of}
-use Rattle.ebnf.specs.Ebnf.{both, Derives, is_token, is_both, is_left, is_right, is_none, is_some, is_named, fixed}
-use Rattle.ebnf.proofs.Classes.{has_itself}
+use Rattle.grammar_theory.specs.Ebnf.{Terminal, Tree, unit, numeral, pair, none, some, node, Ebnf, Grammar, place_of}
+use Rattle.grammar_theory.specs.Ebnf.{both, Derives, is_token, is_both, is_left, is_right, is_none, is_some, is_named}
+use Rattle.grammar_theory.specs.Ebnf.{fixed}
+use Rattle.grammar_theory.proofs.Classes.{has_itself}
 use Rattle.unity_syntax.specs.Classes.{number_class, symbol}
 use Rattle.unity_syntax.specs.Kinds.{Kind, kind}
 use Rattle.unity_syntax.specs.Grammar.{past, up_to, ◌or◌, made, minus_, number_}

@@ -1,7 +1,7 @@
 -- The text of a document with certificates that were found is that document with these certificates.
 use Rattle.std.specs.Prelude.{◌≡◌, ℕ, ◌≤◌, ◌^◌, true, List, map, length, Some, All}
 use Rattle.std.specs.List.{list_all}
-use Rattle.ebnf.specs.Ebnf.{Derives}
+use Rattle.grammar_theory.specs.Ebnf.{Derives}
 use Rattle.unity_syntax.specs.declared.certificate.Certificates.{Certificates}
 use Rattle.unity_syntax.specs.declared.document.Document.{Document}
 use Rattle.unity_syntax.specs.Classes.{terminals}

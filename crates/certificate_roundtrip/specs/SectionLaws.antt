@@ -5,7 +5,7 @@ use Rattle.case_tables.specs.declared.word_table.Word.{Word}
 use Rattle.obligations.specs.declared.branches.Obligation.{Obligation}
 use Rattle.obligations.specs.declared.certificates.Cert.{Cert}
 use Rattle.obligations.specs.Obligations.{IsObligation}
-use Rattle.certificate_check.specs.Refutation.{judged}
+use Rattle.certificate_check.specs.Refutation.{walk_from_root}
 use Rattle.certificate_check.specs.Trees.{is_whole}
 use Rattle.linear_prover.specs.Chains.{is_plain_node}
 use Rattle.unity_syntax.specs.declared.token.Token.{Token}
@@ -18,7 +18,7 @@ use Rattle.certificate_roundtrip.specs.Small.{IsSmallCertificate}
 -- a whole and plain certificate that refutes the negation of an obligation has no number past 2^62
 abbrev pub RefutingIsSmall : Type 0
 RefutingIsSmall = (o : Obligation) (c : Cert) → IsObligation o → is_whole c.nodes 1 ≡ true →
-    judged o c.nodes ≡ Ok [] → list_all is_plain_node c.nodes ≡ true → IsSmallCertificate c
+    walk_from_root o c.nodes ≡ Ok [] → list_all is_plain_node c.nodes ≡ true → IsSmallCertificate c
 
 -- where no number is past 2^62, nor that of certificates, all can be read
 abbrev pub SmallAreReadable : Type 0

@@ -1,7 +1,7 @@
 -- Certificates with which a document is accepted, and the text with them.
 use Rattle.std.specs.Prelude.{◌≡◌, ℕ, ◌+◌, ◌*◌, ◌≤◌, List, length, All, Ok}
 use Rattle.core_terms.specs.declared.documents.CDocument.{CDocument}
-use Rattle.core_terms.specs.Conditions.{IsDocument as IsCoreDocument}
+use Rattle.core_terms.specs.Conditions.{IsCoreDocument}
 use Rattle.unity_syntax.specs.declared.document.Document.{Document}
 use Rattle.unity_parser.specs.Document.{IsDocument}
 use Rattle.obligations.specs.declared.certificates.Cert.{Cert}

@@ -5,7 +5,7 @@ use Rattle.std.proofs.lemmas.Int.{ints, unsigned_abs-mul}
 use Rattle.std.proofs.Math.Nat.{mul-le-mul_left}
 use Rattle.std.specs.Option.{option_map}
 use Rattle.std.specs.Int.RustNames.{int_le, unsigned_abs}
-use Rattle.state_steps.specs.State.{int_eq}
+use Rattle.meaning_states.specs.State.{int_eq}
 use Rattle.core_terms.specs.declared.trees.CTerm.{CTerm}
 use Rattle.core_terms.specs.declared.trees.CTerm.TheVariants.{Const, Add, Sub, Scale, Ite}
 use Rattle.core_terms.specs.declared.trees.CForm.{CForm}
@@ -20,7 +20,8 @@ use Rattle.core_terms.specs.Folding.{and_form, or_form}
 use Rattle.core_terms.proofs.TreeFolds.{Steps, FormWith, TermWith, form_of, term_of, form_layer, term_layer}
 use Rattle.core_terms.proofs.TreeFolds.{fold_form_at, fold_term_at, FormsHave, TermsHave, each_form, each_term}
 use Rattle.core_terms.proofs.HeavierLaws.{weight_steps}
-use Rattle.core_terms.proofs.PartLaws.{value_steps, value-Const, value-Add, value-Sub, value-Scale, value-Ite, value-Top}
+use Rattle.core_terms.proofs.PartLaws.{value_steps, value-Const, value-Add, value-Sub, value-Scale, value-Ite}
+use Rattle.core_terms.proofs.PartLaws.{value-Top}
 use Rattle.core_terms.proofs.PartLaws.{value-Bottom, value-AtLeast, value-Zero, value-Not, value-And, value-Or}
 
 -- the steps of what is known

@@ -5,7 +5,7 @@ use Rattle.std.proofs.Common.{Bool, cond, not, ◌&&◌, ◌||◌, ap, ◌∙◌
 use Rattle.std.proofs.lemmas.Int.{ints}
 use Rattle.std.proofs.Math.Nat.{mul-le-mul_left}
 use Rattle.std.specs.Int.RustNames.{int_le, unsigned_abs}
-use Rattle.state_steps.specs.State.{int_eq}
+use Rattle.meaning_states.specs.State.{int_eq}
 use Rattle.core_terms.specs.declared.trees.CTerm.{CTerm}
 use Rattle.core_terms.specs.declared.trees.CTerm.TheVariants.{Const, Slot, Param, Scale, rolls-Scale}
 use Rattle.core_terms.specs.declared.trees.CForm.{CForm}
@@ -20,7 +20,8 @@ use Rattle.core_terms.proofs.TreeFolds.{Steps, fold_term_is, FormsKeep, TermsKee
 use Rattle.core_terms.proofs.HeavierLaws as heavier
 use Rattle.core_terms.proofs.HeavierLaws.{weight_steps}
 use Rattle.core_terms.proofs.WeightLaws.{own_within}
-use Rattle.core_terms.proofs.PartLaws.{value_steps, value-Const, value-Slot, value-Param, value-Add, value-Sub, value-Top}
+use Rattle.core_terms.proofs.PartLaws.{value_steps, value-Const, value-Slot, value-Param, value-Add, value-Sub}
+use Rattle.core_terms.proofs.PartLaws.{value-Top}
 use Rattle.core_terms.proofs.PartLaws.{value-Bottom}
 use Rattle.core_terms.proofs.FoldingLaws.{value-sum_term, value-difference_term, value-scaled_term, value-choice_term}
 use Rattle.core_terms.proofs.FoldingLaws.{value-at_least_form, value-zero_form, value-not_form, value-and_form}

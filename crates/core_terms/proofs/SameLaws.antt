@@ -7,7 +7,7 @@ use Rattle.std.proofs.lemmas.Bool.Decides.{eqb_tells}
 use borrow.Author.Differences.{le-true}
 use Rattle.std.specs.Int.RustNames.{int_le}
 use Rattle.core_terms.proofs.BoolLaws.{and_left, and_right, both_true, le_passes, self_equal}
-use Rattle.state_steps.specs.State.{int_eq}
+use Rattle.meaning_states.specs.State.{int_eq}
 use Rattle.core_terms.specs.declared.trees.CTerm.{CTerm, out-CTerm, out-roll-CTerm, roll-out-CTerm, roll-CTerm}
 use Rattle.core_terms.specs.declared.trees.CForm.{CForm, out-CForm, out-roll-CForm, roll-out-CForm, roll-CForm}
 use Rattle.core_terms.specs.declared.trees.CForm.TheOpen.{CTerm-F, CForm-F}

@@ -172,22 +172,22 @@ abbrev pub parts_of : PTerm → (ℕ → Bool) → Parts
 parts_of = fold-PTerm ((ℕ → Bool) → Parts) parts_step
 
 -- arguments name only what is visible, and their numbers are within bounds
-pub record ArgsSee (visible : ℕ → Bool) (args : List Arg) : Type 0 where
+pub record ArgsWellScoped (visible : ℕ → Bool) (args : List Arg) : Type 0 where
   pub numbers : All ArgFits args
   pub names : All (λ a. IsTrue (arg_names_only visible a)) args
 
 -- a helper has no variable among its arguments
-pub record HelperSees (visible : ℕ → Bool) (h : Helper) : Type 0 where
-  pub args : ArgsSee visible h.args
+pub record HelperWellScoped (visible : ℕ → Bool) (h : Helper) : Type 0 where
+  pub args : ArgsWellScoped visible h.args
   pub indices : All IsIndex h.args
 
 -- a term names only what is visible, and its parts fit, where parameters and bound names have these ranges
-pub record PTermSees (slots : List CSlot) (ranges : List Range) (visible : ℕ → Bool) (t : PTerm) : Type 0 where
+pub record TermWellScoped (slots : List CSlot) (ranges : List Range) (visible : ℕ → Bool) (t : PTerm) : Type 0 where
   pub forms : All (λ e. FormFits slots ranges e.1) (parts_of t visible).forms
   pub form_names : All (λ e. IsTrue (form_names_only any_place e.0 e.1)) (parts_of t visible).forms
   pub terms : All (λ e. TermFits slots ranges e.1) (parts_of t visible).terms
   pub term_names : All (λ e. IsTrue (term_names_only any_place e.0 e.1)) (parts_of t visible).terms
-  pub args : All (λ e. ArgsSee e.0 e.1) (parts_of t visible).args
+  pub args : All (λ e. ArgsWellScoped e.0 e.1) (parts_of t visible).args
   pub ranges_are : All IsRange (parts_of t visible).ranges
 
 -- the number after those that a term binds, if they follow this one in reading order
@@ -202,8 +202,8 @@ numbered_step (PTerm-F.Psp t r) n = t n
 numbered_step (PTerm-F.Weaken p q t) n = t n
 
 -- a term's bound names have the numbers from this one on, in reading order
-abbrev pub IsNumbered : ℕ → PTerm → Type 0
-IsNumbered first t = IsSome (fold-PTerm (ℕ → Option ℕ) numbered_step t first)
+abbrev pub NumbersBoundNames : ℕ → PTerm → Type 0
+NumbersBoundNames first t = IsSome (fold-PTerm (ℕ → Option ℕ) numbered_step t first)
 
 -- the ranges of a term's bound names, in reading order
 abbrev pub ranges_step : PTerm-F (List Range) → List Range
@@ -248,10 +248,11 @@ rule_ranges (CRule.Proof t) = bound_ranges t
 rule_ranges _ = []
 
 -- a rule names only what is visible, in the order of its numbers
-abbrev pub RuleSees : List CSlot → List Range → (ℕ → Bool) → ℕ → CRule → Type 0
-RuleSees slots ranges visible count (CRule.TextWith h) = HelperSees visible h
-RuleSees slots ranges visible count (CRule.Proof t) = PTermSees slots ranges visible t × IsNumbered count t
-RuleSees slots ranges visible count _ = ⊤
+abbrev pub RuleWellScoped : List CSlot → List Range → (ℕ → Bool) → ℕ → CRule → Type 0
+RuleWellScoped slots ranges visible count (CRule.TextWith h) = HelperWellScoped visible h
+RuleWellScoped slots ranges visible count (CRule.Proof t) = TermWellScoped slots ranges visible t × NumbersBoundNames
+    count t
+RuleWellScoped slots ranges visible count _ = ⊤
 
 -- the parameters of a step are visible
 abbrev pub is_below : ℕ → ℕ → Bool
@@ -270,9 +271,10 @@ pub record IsStep (slots : List CSlot) (s : CStep) : Type 0 where
   pub p : FormFits slots s.params s.p
   pub q : FormFits slots s.params s.q
   pub kind : KindFits s.kind s.params s.p s.q
-  pub rule : RuleSees slots (s.params ++ rule_ranges s.rule) (is_below (length s.params)) (length s.params) s.rule
-  pub refs : All (λ r. ArgsSee (is_below (length s.params + length (rule_ranges s.rule))) r.args) (rule_refs s.rule)
-  pub using : All (λ r. ArgsSee (is_below (length s.params)) r.args) s.using
+  pub rule : RuleWellScoped slots (s.params ++ rule_ranges s.rule) (is_below (length s.params)) (length s.params) s.rule
+  pub refs : All (λ r. ArgsWellScoped (is_below (length s.params + length (rule_ranges s.rule))) r.args)
+      (rule_refs s.rule)
+  pub using : All (λ r. ArgsWellScoped (is_below (length s.params)) r.args) s.using
 
 -- a number of a word is its place among them
 abbrev pub IsWord : List (List ℕ) → ℕ → Type 0
@@ -322,7 +324,7 @@ ScheduleFits words programs None = ⊤
 ScheduleFits words programs (Some s) = IsNamed programs s.program × All (λ c. IsWord words c.label) s.choices
 
 -- a whole document
-pub record IsDocument (d : CDocument) : Type 0 where
+pub record IsCoreDocument (d : CDocument) : Type 0 where
   pub version : d.version ≡ 1
   pub slots : All IsSlot d.slots
   pub slot_words : All (λ s. IsWord d.words s.name × PrintWords d.words s.print) d.slots

@@ -3,7 +3,7 @@ use Rattle.std.specs.Prelude.{◌^◌, ℤ, pos, ◌+ℤ◌, ◌-ℤ◌, ◌*ℤ
 use Rattle.std.specs.Prelude.{None, nat_le}
 use Rattle.std.specs.Option.{option_map}
 use Rattle.std.specs.Int.RustNames.{int_le, unsigned_abs}
-use Rattle.state_steps.specs.State.{int_eq}
+use Rattle.meaning_states.specs.State.{int_eq}
 use Rattle.core_terms.specs.declared.trees.CTerm.{CTerm, fold-CTerm}
 use Rattle.core_terms.specs.declared.trees.CTerm.TheVariants.{Const, Add, Sub, Scale, Ite}
 use Rattle.core_terms.specs.declared.trees.CForm.{CForm, fold-CForm}

@@ -8,7 +8,7 @@ use Rattle.core_terms.specs.declared.trees.CForm.{CForm, fold-CForm}
 use Rattle.core_terms.specs.declared.trees.CForm.TheVariants.{Top, Bottom}
 use Rattle.core_terms.specs.declared.trees.CForm.TheOpen.{CTerm-F, CForm-F}
 use Rattle.core_terms.specs.declared.documents.Arg.{Arg}
-use Rattle.state_steps.specs.State.{State}
+use Rattle.meaning_states.specs.State.{State}
 use Rattle.core_terms.specs.Values.{number_at, form_value}
 use Rattle.core_terms.specs.Weights.{Weights, one_weight, term_weights, form_weight}
 use Rattle.core_terms.specs.Folding.{sum_term, difference_term, scaled_term, choice_term, at_least_form, zero_form}

@@ -1,8 +1,8 @@
 -- The step of a core statement.
 use Rattle.std.specs.Prelude.{pos, List, [], ◌∷◌, ◌++◌, map, cond, Option, Some, None}
 use Rattle.std.specs.List.{flat_map}
-use Rattle.state_steps.specs.State.{State, Ranges}
-use Rattle.state_steps.specs.Step.{Write, step}
+use Rattle.meaning_states.specs.State.{State, Ranges}
+use Rattle.meaning_states.specs.Step.{Write, step}
 use Rattle.core_terms.specs.declared.trees.CForm.{CForm}
 use Rattle.core_terms.specs.declared.programs.CSlot.{CSlot}
 use Rattle.core_terms.specs.declared.programs.CWrite.{CWrite}

@@ -1,6 +1,6 @@
 -- Whether two trees are equal, as a test.
 use Rattle.std.specs.Prelude.{nat_eq, Bool, true, false, ◌&&◌}
-use Rattle.state_steps.specs.State.{int_eq}
+use Rattle.meaning_states.specs.State.{int_eq}
 use Rattle.core_terms.specs.declared.trees.CTerm.{CTerm, out-CTerm, fold-CTerm}
 use Rattle.core_terms.specs.declared.trees.CForm.{CForm, out-CForm, fold-CForm}
 use Rattle.core_terms.specs.declared.trees.CForm.TheOpen.{CTerm-F, CForm-F}

@@ -6,12 +6,12 @@ use Rattle.std.specs.Prelude.{◌↔◌, ◌≤ℤ◌, ◌<ℤ◌, ◌+ℤ◌, p
 use Rattle.std.specs.Int.RustNames.{int_le}
 use Rattle.std.proofs.lemmas.Int.{ints, by_lt_z}
 use borrow.Author.Differences.{le-true}
-use Rattle.state_steps.specs.State.{State, is_state, in_range}
-use Rattle.state_steps.proofs.StepTheorems.{and_left, and_right}
+use Rattle.meaning_states.specs.State.{State, is_state, in_range}
+use Rattle.meaning_states.proofs.StepTheorems.{and_left, and_right}
 use Rattle.core_terms.specs.declared.programs.CSlot.{CSlot}
 use Rattle.core_terms.specs.Steps.{slot_ranges}
-use Rattle.unity_meaning.specs.Execution.{System}
-use Rattle.unity_meaning.specs.Properties.{Test}
+use Rattle.meaning_documents.specs.Execution.{System}
+use Rattle.meaning_documents.specs.Properties.{Test}
 use Rattle.examples_bounds.specs.Walking.{Leads, LeadsOn}
 
 and_no : (b c : Bool) → false ≡ c → false ≡ (b && c)

@@ -8,9 +8,9 @@ use Rattle.std.proofs.lemmas.Option.{slice_get_within, slice_get-map}
 use Rattle.std.specs.Prelude.{option_and_then}
 use Rattle.std.specs.Int.RustNames.{int_le, unsigned_abs}
 use borrow.Author.Differences.{le-true}
-use Rattle.state_steps.specs.State.{State, is_state, in_range}
-use Rattle.state_steps.proofs.StepTheorems.{and_left, and_right, step_keeps_ranges}
-use Rattle.unity_meaning.specs.Execution.{chosen_step, act_step}
+use Rattle.meaning_states.specs.State.{State, is_state, in_range}
+use Rattle.meaning_states.proofs.StepTheorems.{and_left, and_right, step_keeps_ranges}
+use Rattle.meaning_documents.specs.Execution.{chosen_step, act_step}
 use Rattle.core_terms.specs.declared.trees.CForm.{CForm}
 use Rattle.core_terms.specs.declared.programs.CSlot.{CSlot}
 use Rattle.core_terms.specs.declared.programs.CStmt.{CStmt}

@@ -1,7 +1,7 @@
 -- A claim of a program, as its executions see it.
 use Rattle.std.specs.Prelude.{◌≡◌, ◌<◌, ◌^◌}
-use Rattle.unity_meaning.specs.Execution.{System}
-use Rattle.unity_meaning.specs.Properties.{Test}
+use Rattle.meaning_documents.specs.Execution.{System}
+use Rattle.meaning_documents.specs.Properties.{Test}
 use Rattle.core_terms.specs.declared.trees.CForm.TheVariants.{Top}
 use Rattle.core_terms.specs.Conditions.{IsProgram}
 use Rattle.fair_rounds.specs.Records.{core_system, holding}

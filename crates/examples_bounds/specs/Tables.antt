@@ -5,8 +5,8 @@ use Rattle.core_terms.specs.declared.programs.CStmt.{CStmt}
 use Rattle.core_terms.specs.Weights.{slot_weight}
 
 -- no slot weighs much
-abbrev pub AreLight : List CSlot → Type 0
-AreLight slots = (n : ℕ) → slot_weight slots n ≤ 2 ^ 32
+abbrev pub SlotsAreLight : List CSlot → Type 0
+SlotsAreLight slots = (n : ℕ) → slot_weight slots n ≤ 2 ^ 32
 
 -- each statement's label is its place
 abbrev pub AreNumbered : List CStmt → Type 0

@@ -1,13 +1,13 @@
 // Whether numbers are a state, and the walk from each state.
 ghost use Rattle.std.specs.Prelude.{◌≡◌, ◌↔◌, ◌<◌, ◌≤◌, ◌∷◌, ◌++◌, ◌≤ℤ◌, ℤ, [], length, IfOk, IsTrue, Some, slice_get};
-ghost use Rattle.state_steps.specs.State.{is_state};
+ghost use Rattle.meaning_states.specs.State.{is_state};
 ghost use Rattle.core_terms.specs.Conditions.{IsProgram};
 ghost use Rattle.core_terms.specs.Steps.{slot_ranges};
 ghost use Rattle.fair_rounds.specs.Records.{core_system, holding};
 ghost use Rattle.examples_bounds.specs.Bounded.{LeadsEverywhere};
 ghost use Rattle.examples_bounds.specs.Claims.{IsClaim, claimed, before, after};
 ghost use Rattle.examples_bounds.specs.Readable.{IsReadable};
-ghost use Rattle.examples_bounds.specs.Tables.{AreLight};
+ghost use Rattle.examples_bounds.specs.Tables.{SlotsAreLight};
 ghost use Rattle.examples_bounds.specs.Walking.{LeadsOn};
 
 use crate::opening::open_program;
@@ -35,7 +35,7 @@ pub fn is_in(slots: &[CSlot], state: &[i64]) -> bool
 #[cycle(filling)]
 fn leads_on(alloc: Global, claim: &Claim, begun: &[i64], most: u32) -> Result<bool, AllocError>
     requires claim { IsClaim claim.now }
-    requires light { AreLight claim.now.slots.now }
+    requires light { SlotsAreLight claim.now.slots.now }
     requires begun { length begun.now ≤ length claim.now.slots.now }
     ensures { IfOk result (λ b. IsTrue b ↔ LeadsOn (slot_ranges claim.now.slots.now) most (claimed claim.now)
         (before claim.now) (after claim.now) claim.now.bound begun.now) }
@@ -53,7 +53,7 @@ fn leads_on(alloc: Global, claim: &Claim, begun: &[i64], most: u32) -> Result<bo
 #[cycle(filling)]
 fn leads_onward(alloc: Global, claim: &Claim, begun: &[i64], most: u32) -> Result<bool, AllocError>
     requires claim { IsClaim claim.now }
-    requires light { AreLight claim.now.slots.now }
+    requires light { SlotsAreLight claim.now.slots.now }
     requires begun { length begun.now < length claim.now.slots.now }
     ensures { IfOk result (λ b. IsTrue b ↔ LeadsOn (slot_ranges claim.now.slots.now) most (claimed claim.now)
         (before claim.now) (after claim.now) claim.now.bound begun.now) }
@@ -78,7 +78,7 @@ fn leads_with(
     most: u32,
 ) -> Result<bool, AllocError>
     requires claim { IsClaim claim.now }
-    requires light { AreLight claim.now.slots.now }
+    requires light { SlotsAreLight claim.now.slots.now }
     requires begun { length begun.now < length claim.now.slots.now }
     ensures { IfOk result (λ b. IsTrue b ↔ LeadsOn (slot_ranges claim.now.slots.now) most (claimed claim.now)
         (before claim.now) (after claim.now) claim.now.bound (begun.now ++ number ∷ [])) }
@@ -104,7 +104,7 @@ pub fn leads_everywhere(
     most: u32,
 ) -> Result<bool, AllocError>
     requires program { IsProgram slots.now program.now }
-    requires light { AreLight slots.now }
+    requires light { SlotsAreLight slots.now }
     requires p { IsReadable slots.now params.now p.now }
     requires q { IsReadable slots.now params.now q.now }
     ensures { IfOk result (λ b. IsTrue b ↔ LeadsEverywhere (slot_ranges slots.now) most

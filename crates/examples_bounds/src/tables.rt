@@ -2,13 +2,13 @@
 ghost use Rattle.std.specs.Prelude.{◌≡◌, ◌↔◌, ◌<◌, ◌≤◌, ◌^◌, ℕ, pos, List, [], length, IfOk, IsTrue, All};
 ghost use Rattle.core_terms.specs.Conditions.{FormFits, IsProgram, StatementFits, NamesShown, is_shown, any_place};
 ghost use Rattle.core_terms.specs.Conditions.{EachPair, WriteFits};
-ghost use Rattle.state_steps.specs.State.{State};
+ghost use Rattle.meaning_states.specs.State.{State};
 ghost use Rattle.core_terms.specs.Values.{form_value, number_at};
 ghost use Rattle.core_terms.specs.Places.{form_names_only, term_names_only};
 ghost use Rattle.core_terms.specs.Weights.{slot_weight};
 ghost use Rattle.core_terms.specs.declared.programs.CStmt.{CStmt};
 ghost use Rattle.examples_bounds.specs.Readable.{IsReadable};
-ghost use Rattle.examples_bounds.specs.Tables.{AreLight, AreNumbered};
+ghost use Rattle.examples_bounds.specs.Tables.{SlotsAreLight, AreNumbered};
 
 use core_terms::{CForm, CProgram, CSlot, CStmt, CTerm, CWrite, Print, Range};
 use std::alloc::{AllocError, Global};
@@ -27,7 +27,7 @@ pub struct Move {
 ///
 /// An error says that memory was refused.
 pub fn slots_to(alloc: Global, tops: &[u32]) -> Result<Seq<CSlot>, AllocError>
-    ensures light { IfOk result AreLight }
+    ensures light { IfOk result SlotsAreLight }
     ensures count { IfOk result (λ slots. length slots ≡ length tops.now) }
 {
     let mut slots = Seq::new(alloc);
@@ -49,7 +49,7 @@ pub fn slots_to(alloc: Global, tops: &[u32]) -> Result<Seq<CSlot>, AllocError>
 ///
 /// An error says that memory was refused.
 pub fn equals(alloc: Global, slots: &[CSlot], slot: u32, number: u32) -> Result<CForm, AllocError>
-    requires { AreLight slots.now }
+    requires { SlotsAreLight slots.now }
     ensures fits { IfOk result (FormFits slots.now []) }
     ensures readable { IfOk result (IsReadable slots.now []) }
     ensures meaning { IfOk result (λ f. (state : State) → IsTrue (form_value state [] f) ↔
@@ -75,7 +75,7 @@ pub fn always(slots: &[CSlot]) -> CForm
 
 // A write that makes a move. A move of a slot that isn't there is never made.
 fn write_of(alloc: Global, slots: &[CSlot], step: Move) -> Result<CWrite, AllocError>
-    requires light { AreLight slots.now }
+    requires light { SlotsAreLight slots.now }
     requires slot { step.slot < length slots.now }
     ensures fits { IfOk result (WriteFits slots.now) }
     ensures slot { IfOk result (λ w. w.slot ≡ step.slot) }
@@ -100,7 +100,7 @@ fn statement_of(
     label: u32,
     moves: &[Move],
 ) -> Result<CStmt, AllocError>
-    requires light { AreLight slots.now }
+    requires light { SlotsAreLight slots.now }
     requires shown { (n : ℕ) → n < length slots.now → IsTrue (is_shown shown.now n) }
     ensures label { IfOk result (λ s. s.label ≡ label) }
     ensures fits { IfOk result (StatementFits slots.now) }
@@ -127,7 +127,7 @@ fn statements_of(
     shown: &[u32],
     rows: &[&[Move]],
 ) -> Result<Seq<CStmt>, AllocError>
-    requires light { AreLight slots.now }
+    requires light { SlotsAreLight slots.now }
     requires shown { (n : ℕ) → n < length slots.now → IsTrue (is_shown shown.now n) }
     requires few { length rows.now ≤ 4096 }
     ensures labels { IfOk result AreNumbered }
@@ -166,7 +166,7 @@ pub fn table(
     slot: u32,
     number: u32,
 ) -> Result<CProgram, AllocError>
-    requires light { AreLight slots.now }
+    requires light { SlotsAreLight slots.now }
     requires slots { length slots.now < 2 ^ 32 }
     requires some { 1 ≤ length rows.now }
     requires few { length rows.now ≤ 4096 }

@@ -2,7 +2,7 @@
 // every state. And the rounds of lists of choices.
 ghost use Rattle.std.specs.Prelude.{◌≤◌, ◌<◌, ◌^◌, [], length, IfOk, All};
 ghost use Rattle.examples_bounds.specs.Readable.{IsReadable};
-ghost use Rattle.examples_bounds.specs.Tables.{AreLight};
+ghost use Rattle.examples_bounds.specs.Tables.{SlotsAreLight};
 
 use super::*;
 use core_terms::{CForm, CSlot};
@@ -33,7 +33,7 @@ fn turn(slot: u32, from: u32, to: u32) -> Move {
 
 // Where there is no first formula, it always holds.
 fn premise(alloc: Global, slots: &[CSlot], p: Option<Has>) -> Result<CForm, AllocError>
-    requires { AreLight slots.now }
+    requires { SlotsAreLight slots.now }
     ensures { IfOk result (IsReadable slots.now []) }
 {
     match p {

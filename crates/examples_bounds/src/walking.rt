@@ -1,7 +1,7 @@
 // The walk through all executions of a few choices.
 ghost use Rattle.std.specs.Prelude.{◌≡◌, ◌↔◌, ◌<◌, ◌∷◌, ◌++◌, ℕ, List, [], length, IfOk, IsTrue};
-ghost use Rattle.state_steps.specs.State.{State, is_state};
-ghost use Rattle.unity_meaning.specs.Execution.{chosen_step};
+ghost use Rattle.meaning_states.specs.State.{State, is_state};
+ghost use Rattle.meaning_documents.specs.Execution.{chosen_step};
 ghost use Rattle.core_terms.specs.Steps.{slot_ranges};
 ghost use Rattle.fair_rounds.specs.Counts.{StandsFor};
 ghost use Rattle.fair_rounds.specs.Records.{core_system};

@@ -7,15 +7,15 @@ use Rattle.std.proofs.lemmas.Int.{ints}
 use borrow.Author.Differences.{le-true}
 use Rattle.std.specs.Int.RustNames.{int_le}
 use Rattle.unity_syntax.specs.declared.expression.Expr.{Expr}
-use Rattle.state_steps.specs.State.{State, is_state}
-use Rattle.unity_meaning.specs.Names.{Bindings}
-use Rattle.unity_meaning.specs.Setting.{is_true_at}
-use Rattle.unity_meaning.specs.Programs.{Composed, document_setting}
-use Rattle.unity_meaning.specs.Execution.{Act, System, IsExecution, act_step, chosen_step, system_of}
-use Rattle.unity_meaning.specs.Rounds.{rounds, IsShortest}
-use Rattle.unity_meaning.specs.Properties.{Test, Everywhere, IsAlwaysDefined, Unless, Helps, Ensures, LeadsTo}
+use Rattle.meaning_states.specs.State.{State, is_state}
+use Rattle.meaning_documents.specs.Names.{Bindings}
+use Rattle.meaning_documents.specs.Setting.{is_true_at}
+use Rattle.meaning_documents.specs.Programs.{Composed, document_setting}
+use Rattle.meaning_documents.specs.Execution.{Act, System, IsExecution, act_step, chosen_step, system_of}
+use Rattle.meaning_documents.specs.Rounds.{rounds, IsShortest}
+use Rattle.meaning_documents.specs.Properties.{Test, Everywhere, IsAlwaysDefined, Unless, Helps, Ensures, LeadsTo}
 use Rattle.unity_syntax.specs.declared.proof.Step.{Step}
-use Rattle.unity_meaning.specs.Claims.{Claims, StepClaims, ClaimsOf, are_arguments, argument_bindings, parameters}
+use Rattle.meaning_documents.specs.Claims.{Claims, StepClaims, ClaimsOf, are_arguments, argument_bindings, parameters}
 use Rattle.examples_definitions.specs.SmallTrees.{word, number, equal, less}
 use Rattle.examples_definitions.specs.ClaimExamples.{count_proof, safe, jump, goal, overrun, overrunning, some_helps}
 use Rattle.examples_definitions.specs.ClaimExamples.{each_helps, counting, count, counter, CountsToTwo, BeginsAtNought}
@@ -23,13 +23,13 @@ use Rattle.examples_definitions.specs.ClaimExamples.{CountIsDefined, FirstIsEnsu
 use Rattle.examples_definitions.specs.ClaimExamples.{NotWithinOne}
 use Rattle.examples_definitions.specs.ClaimExamples.{OverrunIsUndefined, choosing, either, chooser, NoneForAllStates}
 use Rattle.examples_definitions.specs.ClaimExamples.{OneForEachParameter, NoSuchProgram, ClaimExamples}
-use Rattle.unity_meaning.proofs.ValueLaws.{value_laws}
-use Rattle.unity_meaning.proofs.WriteLaws.{write_laws}
-use Rattle.unity_meaning.proofs.InstanceLaws.{instance_laws}
-use Rattle.state_steps.proofs.StepTheorems.{and_left, and_right}
-use Rattle.unity_meaning.proofs.ExecutionTheorems.{every_state_in_range, each_is_a_step, get_at}
-use Rattle.unity_meaning.proofs.RoundTheorems.{rounds_most}
-use Rattle.unity_meaning.proofs.PropertyTheorems.{next, get-drop, leads_is_follows}
+use Rattle.meaning_documents.proofs.ValueLaws.{value_laws}
+use Rattle.meaning_documents.proofs.WriteLaws.{write_laws}
+use Rattle.meaning_documents.proofs.InstanceLaws.{instance_laws}
+use Rattle.meaning_states.proofs.StepTheorems.{and_left, and_right}
+use Rattle.meaning_documents.proofs.ExecutionTheorems.{every_state_in_range, each_is_a_step, get_at}
+use Rattle.meaning_documents.proofs.RoundTheorems.{rounds_most}
+use Rattle.meaning_documents.proofs.PropertyTheorems.{next, get-drop, leads_is_follows}
 
 one_state : (s t : State) → Some s ≡ Some t → s ≡ t
 one_state s t e = cc

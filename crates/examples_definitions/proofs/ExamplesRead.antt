@@ -1,6 +1,6 @@
 -- The texts are read as their trees, by computation.
 use Rattle.std.proofs.Common.{refl}
-use Rattle.examples_definitions.specs.TextForms.{IsRead, IsRefused}
+use Rattle.examples_definitions.specs.TextForms.{IsRead, IsRefusedText}
 use Rattle.examples_definitions.specs.CountText.{smallest_example, count_example}
 use Rattle.examples_definitions.specs.ProgramText.{program_example}
 use Rattle.examples_definitions.specs.ExpressionText.{expressions_example}
@@ -69,42 +69,42 @@ pub term_read : IsRead term_example
 unfolding all_productions
 term_read = simp (views) refl
 
-pub other_version_is_refused : IsRefused other_version
+pub other_version_is_refused : IsRefusedText other_version
 unfolding all_productions
 other_version_is_refused = refl
 
-pub second_relation_is_refused : IsRefused second_relation
+pub second_relation_is_refused : IsRefusedText second_relation
 unfolding all_productions
 second_relation_is_refused = refl
 
-pub second_arrow_is_refused : IsRefused second_arrow
+pub second_arrow_is_refused : IsRefusedText second_arrow
 unfolding all_productions
 second_arrow_is_refused = refl
 
-pub not_not_is_refused : IsRefused not_not
+pub not_not_is_refused : IsRefusedText not_not
 unfolding all_productions
 not_not_is_refused = refl
 
-pub and_or_is_refused : IsRefused and_or
+pub and_or_is_refused : IsRefusedText and_or
 unfolding all_productions
 and_or_is_refused = refl
 
-pub other_number_is_refused : IsRefused other_number
+pub other_number_is_refused : IsRefusedText other_number
 unfolding all_productions
 other_number_is_refused = refl
 
-pub node_too_many_is_refused : IsRefused node_too_many
+pub node_too_many_is_refused : IsRefusedText node_too_many
 unfolding all_productions
 node_too_many_is_refused = refl
 
-pub node_missing_is_refused : IsRefused node_missing
+pub node_missing_is_refused : IsRefusedText node_missing
 unfolding all_productions
 node_missing_is_refused = refl
 
-pub early_end_is_refused : IsRefused early_end
+pub early_end_is_refused : IsRefusedText early_end
 unfolding all_productions
 early_end_is_refused = refl
 
-pub bracket_too_many_is_refused : IsRefused bracket_too_many
+pub bracket_too_many_is_refused : IsRefusedText bracket_too_many
 unfolding all_productions
 bracket_too_many_is_refused = refl

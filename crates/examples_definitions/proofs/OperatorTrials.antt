@@ -4,7 +4,7 @@ use Rattle.examples_definitions.specs.OperatorExamples.{OperatorExamples, Equals
 use Rattle.examples_definitions.specs.OperatorExamples.{IsAtLeast, TruthsCompare, Negations, Implications, Conjunctions}
 use Rattle.examples_definitions.specs.OperatorExamples.{Disjunctions, Products, IndicesBelowNought, RangeBelowNought}
 use Rattle.examples_definitions.specs.OperatorExamples.{EndsWithOffset}
-use Rattle.unity_meaning.proofs.ValueLaws.{value_laws}
+use Rattle.meaning_documents.proofs.ValueLaws.{value_laws}
 
 equals_found : Equals
 equals_found = simp value_laws refl

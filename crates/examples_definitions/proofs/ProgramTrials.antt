@@ -1,10 +1,10 @@
 -- The unions and rounds of `specs/ProgramExamples.antt`, found by rewriting.
 use Rattle.std.proofs.Common.{ℕ, zero, suc, ◌<◌, [], ◌∷◌, refl, arith, take}
-use Rattle.unity_meaning.specs.Rounds.{rounds}
+use Rattle.meaning_documents.specs.Rounds.{rounds}
 use Rattle.examples_definitions.specs.ProgramExamples.{UnionExamples, RoundExamples, UnionInOrder, UnionOfUnion}
 use Rattle.examples_definitions.specs.ProgramExamples.{UnionOfSections, LaterIsNoPart, SlotsOfDocument, ShortestOfOne}
 use Rattle.examples_definitions.specs.ProgramExamples.{ShortestOfTwo}
-use Rattle.unity_meaning.proofs.InstanceLaws.{instance_laws}
+use Rattle.meaning_documents.proofs.InstanceLaws.{instance_laws}
 
 in_order_found : UnionInOrder
 in_order_found = simp instance_laws refl

@@ -9,9 +9,9 @@ use Rattle.examples_definitions.specs.StepExamples.{ValueOutside}
 use Rattle.examples_definitions.specs.StepExamples.{AllAtOnce, NothingAtOnce, WritesInOrder, OuterSlowest}
 use Rattle.examples_definitions.specs.StepExamples.{InnerFromOuter}
 use Rattle.examples_definitions.specs.StepExamples.{SortSteps}
-use Rattle.unity_meaning.proofs.ValueLaws.{value_laws}
-use Rattle.unity_meaning.proofs.WriteLaws.{write_laws}
-use Rattle.unity_meaning.proofs.InstanceLaws.{instance_laws}
+use Rattle.meaning_documents.proofs.ValueLaws.{value_laws}
+use Rattle.meaning_documents.proofs.WriteLaws.{write_laws}
+use Rattle.meaning_documents.proofs.InstanceLaws.{instance_laws}
 
 swap_found : SwapSwaps
 swap_found = simp (write_laws, value_laws) refl

@@ -7,7 +7,7 @@ use Rattle.examples_definitions.specs.ValueExamples.{ElementIsRead, ElementAbove
 use Rattle.examples_definitions.specs.ValueExamples.{AnyOfNone, SumOfNone, SumOfElements, AllFailsAtOne, AnyHoldsAtOne}
 use Rattle.examples_definitions.specs.ValueExamples.{InnerRange, BindingHidesNothing, BindingChangesNoAlways}
 use Rattle.examples_definitions.specs.ValueExamples.{BindingIsItself}
-use Rattle.unity_meaning.proofs.ValueLaws.{value_laws}
+use Rattle.meaning_documents.proofs.ValueLaws.{value_laws}
 
 slots_found : SlotsInOrder
 slots_found = refl

@@ -5,12 +5,12 @@ use Rattle.unity_syntax.specs.declared.proof.Claim.{Claim}
 use Rattle.unity_syntax.specs.declared.proof.Step.{Step}
 use Rattle.unity_syntax.specs.declared.proof.Proof.{Proof}
 use Rattle.unity_syntax.specs.declared.document.Document.{Document}
-use Rattle.state_steps.specs.State.{State}
-use Rattle.unity_meaning.specs.Programs.{Composed, document_setting}
-use Rattle.unity_meaning.specs.Execution.{System, IsExecution, system_of}
-use Rattle.unity_meaning.specs.Instances.{instances}
+use Rattle.meaning_states.specs.State.{State}
+use Rattle.meaning_documents.specs.Programs.{Composed, document_setting}
+use Rattle.meaning_documents.specs.Execution.{System, IsExecution, system_of}
+use Rattle.meaning_documents.specs.Instances.{instances}
 use Rattle.unity_syntax.specs.declared.statement.Items.{Items}
-use Rattle.unity_meaning.specs.Claims.{Claims}
+use Rattle.meaning_documents.specs.Claims.{Claims}
 use Rattle.examples_definitions.specs.SmallTrees.{word, number, sum_of, equal, less, range, variable, target, one}
 use Rattle.examples_definitions.specs.SmallTrees.{plainly}
 use Rattle.examples_definitions.specs.SmallTrees.{if_true, set, statement, lone, beside, initial_program, free_program}

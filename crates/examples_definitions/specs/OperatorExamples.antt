@@ -5,9 +5,9 @@ use Rattle.case_tables.specs.declared.symbol_table.Symbol.TheVariants.{Below as 
 use Rattle.case_tables.specs.declared.word_table.Word.{Word}
 use Rattle.unity_syntax.specs.declared.expression.Expr
 use Rattle.unity_syntax.specs.declared.expression.Expr.{Expr}
-use Rattle.state_steps.specs.State.{State}
-use Rattle.unity_meaning.specs.Value.{value}
-use Rattle.unity_meaning.specs.Setting.{Setting, setting_of, seen}
+use Rattle.meaning_states.specs.State.{State}
+use Rattle.meaning_documents.specs.Value.{value}
+use Rattle.meaning_documents.specs.Setting.{Setting, setting_of, seen}
 use Rattle.examples_definitions.specs.SmallTrees.{word, element, number, sum_of, minus, equal, compare, and_of, or_of}
 use Rattle.examples_definitions.specs.SmallTrees.{range, range_below, range_beside, over, variable, truth_variable}
 use Rattle.examples_definitions.specs.SmallTrees.{array}

@@ -2,7 +2,7 @@
 use Rattle.std.specs.Prelude.{[], ◌∷◌, codes}
 use Rattle.case_tables.specs.declared.word_table.Word.{Word}
 use Rattle.case_tables.specs.declared.symbol_table.Symbol.{Symbol}
-use Rattle.ebnf.specs.Reader.{Unexpected, OtherVersion, TooDeep}
+use Rattle.grammar_theory.specs.Reader.{Unexpected, OtherVersion, TooDeep}
 use Rattle.examples_definitions.specs.TextForms.{name_token, number_token, reserved_token, symbol_token, Refusal}
 
 -- a number that is no version

@@ -4,12 +4,12 @@ use Rattle.unity_syntax.specs.declared.expression.Expr.{Expr}
 use Rattle.unity_syntax.specs.declared.statement.Component.{Component}
 use Rattle.unity_syntax.specs.declared.statement.Assign.{Assign}
 use Rattle.unity_syntax.specs.declared.statement.Items.{Items}
-use Rattle.state_steps.specs.State.{State}
-use Rattle.state_steps.specs.Step.{step}
-use Rattle.unity_meaning.specs.Writes.{writes}
-use Rattle.unity_meaning.specs.Instances.{instances, instance_name}
-use Rattle.unity_meaning.specs.Setting.{Setting, setting_of, slot_ranges, seen}
-use Rattle.unity_meaning.specs.Execution.{instance_step}
+use Rattle.meaning_states.specs.State.{State}
+use Rattle.meaning_states.specs.Step.{step}
+use Rattle.meaning_documents.specs.Writes.{writes}
+use Rattle.meaning_documents.specs.Instances.{instances, instance_name}
+use Rattle.meaning_documents.specs.Setting.{Setting, setting_of, slot_ranges, seen}
+use Rattle.meaning_documents.specs.Execution.{instance_step}
 use Rattle.examples_definitions.specs.SmallTrees.{word, element, number, sum_of, equal, less, range, range_from}
 use Rattle.examples_definitions.specs.SmallTrees.{variable}
 use Rattle.examples_definitions.specs.SmallTrees.{array, target, element_target, one, two, plainly, if_true, if_either}

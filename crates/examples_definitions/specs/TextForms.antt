@@ -2,8 +2,8 @@
 use Rattle.std.specs.Prelude.{◌≡◌, ℕ, List, ◌++◌, Ok, Err, codes}
 use Rattle.case_tables.specs.declared.word_table.Word.{Word}
 use Rattle.case_tables.specs.declared.symbol_table.Symbol.{Symbol}
-use Rattle.ebnf.specs.Reader.{Fault, read_whole}
-use Rattle.ebnf.specs.Ebnf.{Terminal}
+use Rattle.grammar_theory.specs.Reader.{Fault, read_whole}
+use Rattle.grammar_theory.specs.Ebnf.{Terminal}
 use Rattle.unity_syntax.specs.Classes.{terminals}
 use Rattle.unity_syntax.specs.Grammar.{grammar, document_}
 use Rattle.unity_syntax.specs.View.{view}
@@ -70,6 +70,6 @@ pub record Refusal : Type 0 where
   pub fault : List Terminal → Fault
 
 -- The first tokens are those of a document's beginning, and the rest is refused.
-abbrev pub IsRefused : Refusal → Type 0
-IsRefused r = read_whole grammar r.levels document_ (terminals r.text (r.before ++ r.rest)) ≡
+abbrev pub IsRefusedText : Refusal → Type 0
+IsRefusedText r = read_whole grammar r.levels document_ (terminals r.text (r.before ++ r.rest)) ≡
     Err (r.fault (terminals r.text r.rest))

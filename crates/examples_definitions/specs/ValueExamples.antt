@@ -3,9 +3,9 @@ use Rattle.std.specs.Prelude.{◌≡◌, ℤ, pos, [], ◌∷◌, map, true, fal
 use Rattle.case_tables.specs.declared.word_table.Word.{Word}
 use Rattle.unity_syntax.specs.declared.expression.Expr.{Expr}
 use Rattle.unity_syntax.specs.declared.program.Program.{Program}
-use Rattle.state_steps.specs.State.{State}
-use Rattle.unity_meaning.specs.Value.{value}
-use Rattle.unity_meaning.specs.Setting.{Setting, setting_of, slot_ranges, seen}
+use Rattle.meaning_states.specs.State.{State}
+use Rattle.meaning_documents.specs.Value.{value}
+use Rattle.meaning_documents.specs.Setting.{Setting, setting_of, slot_ranges, seen}
 use Rattle.examples_definitions.specs.SmallTrees.{word, element, number, sum_of, difference, minus, equal, less, range}
 use Rattle.examples_definitions.specs.SmallTrees.{range_from, over, variable, truth_variable, array, truth_array}
 use Rattle.examples_definitions.specs.SmallTrees.{enumeration, always, target, one, plainly, set, statement, lone}

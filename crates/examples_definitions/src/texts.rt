@@ -1,6 +1,6 @@
 //! Texts of the whole language, read by its grammar. The function does nothing: it states examples.
 
-ghost use Rattle.examples_definitions.specs.TextForms.{IsRead, IsRefused};
+ghost use Rattle.examples_definitions.specs.TextForms.{IsRead, IsRefusedText};
 ghost use Rattle.examples_definitions.specs.CountText.{smallest_example, count_example};
 ghost use Rattle.examples_definitions.specs.ProgramText.{program_example};
 ghost use Rattle.examples_definitions.specs.ExpressionText.{expressions_example};
@@ -20,14 +20,14 @@ pub fn grammar_examples()
     ensures expressions { IsRead expressions_example }
     ensures proof { IsRead proof_example }
     ensures term { IsRead term_example }
-    ensures other_version { IsRefused other_version }
-    ensures second_relation { IsRefused second_relation }
-    ensures second_arrow { IsRefused second_arrow }
-    ensures not_not { IsRefused not_not }
-    ensures and_or { IsRefused and_or }
-    ensures other_number { IsRefused other_number }
-    ensures node_too_many { IsRefused node_too_many }
-    ensures node_missing { IsRefused node_missing }
-    ensures early_end { IsRefused early_end }
-    ensures bracket_too_many { IsRefused bracket_too_many }
+    ensures other_version { IsRefusedText other_version }
+    ensures second_relation { IsRefusedText second_relation }
+    ensures second_arrow { IsRefusedText second_arrow }
+    ensures not_not { IsRefusedText not_not }
+    ensures and_or { IsRefusedText and_or }
+    ensures other_number { IsRefusedText other_number }
+    ensures node_too_many { IsRefusedText node_too_many }
+    ensures node_missing { IsRefusedText node_missing }
+    ensures early_end { IsRefusedText early_end }
+    ensures bracket_too_many { IsRefusedText bracket_too_many }
 {}

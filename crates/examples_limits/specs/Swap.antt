@@ -6,7 +6,7 @@ use Rattle.core_terms.specs.declared.programs.Print.{Print}
 use Rattle.core_terms.specs.declared.programs.CSlot.{CSlot}
 use Rattle.core_terms.specs.declared.programs.CWrite.{CWrite}
 use Rattle.core_terms.specs.declared.programs.CStmt.{CStmt}
-use Rattle.state_steps.specs.State.{State, is_state}
+use Rattle.meaning_states.specs.State.{State, is_state}
 use Rattle.core_terms.specs.Conditions.{StatementFits}
 use Rattle.core_terms.specs.Steps.{slot_ranges, core_step}
 

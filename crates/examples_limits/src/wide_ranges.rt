@@ -1,5 +1,7 @@
 // How long counting takes, which no clause says: the ranges have up to 10^18 numbers, and few of these count.
-use nests::{NestEnd, NestRange, is_ever_empty, is_ever_large, room_after, room_and_turns};
+use expand_counting::{
+    NestEnd, NestRange, is_ever_empty, is_ever_large, room_after, room_and_turns,
+};
 use std::alloc::{AllocError, Global};
 use std::test::Fail;
 

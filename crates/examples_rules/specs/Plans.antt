@@ -2,13 +2,13 @@
 use Rattle.std.specs.Prelude.{◌≡◌, ◌<◌, ℕ, List, length, None, Result, Ok, Err}
 use Rattle.unity_syntax.specs.declared.document.Document.{Document}
 use Rattle.unity_parser.specs.Document.{IsDocument}
-use Rattle.name_scopes.specs.WellNamed.{IsWellNamed}
-use Rattle.name_scopes.specs.declared.named.NameFault.{NameFault}
+use Rattle.names_rules.specs.WellNamed.{IsWellNamed}
+use Rattle.names_rules.specs.declared.named.NameFault.{NameFault}
 use Rattle.core_terms.specs.declared.documents.CDocument.{CDocument}
-use Rattle.core_documents.specs.Cores.{core_document}
-use Rattle.core_documents.specs.Faults.{expansion_fault}
-use Rattle.proof_rules.specs.Walk as walk
-use Rattle.proof_rules.specs.Walk.{Failure, walk_of}
+use Rattle.expand_documents.specs.Cores.{core_document}
+use Rattle.expand_documents.specs.Faults.{expansion_fault}
+use Rattle.rules_table.specs.Walk as walk
+use Rattle.rules_table.specs.Walk.{Failure, walk_of}
 use Rattle.rules_steps.specs.Starts.{starts_in}
 use Rattle.proof_script.specs.declared.plans.Plan.{Plan}
 use Rattle.proof_script.specs.Planning.{IsPlanOf, IsFailureOf}
@@ -33,9 +33,9 @@ steps_of c = walk_of c (starts_in c.slots)
 
 -- the plan of the document's steps, or the first of them that fails; or the text has no core form, or is too long;
 -- want of memory says nothing
-abbrev pub Plans : List ℕ → Result Plan NoPlan → Type 0
-Plans bytes (Ok plan) = (c : CDocument) × HasCore bytes c × IsPlanOf c.slots plan (steps_of c)
-Plans bytes (Err (NoPlan.Step fault)) = (c : CDocument) × HasCore bytes c × IsFailureOf fault (steps_of c)
-Plans bytes (Err NoPlan.Unread) = (c : CDocument) → HasCore bytes c → ⊥
-Plans bytes (Err NoPlan.TooLong) = 65536 < length bytes
-Plans bytes (Err NoPlan.Memory) = Unit {0}
+abbrev pub PlansText : List ℕ → Result Plan NoPlan → Type 0
+PlansText bytes (Ok plan) = (c : CDocument) × HasCore bytes c × IsPlanOf c.slots plan (steps_of c)
+PlansText bytes (Err (NoPlan.Step fault)) = (c : CDocument) × HasCore bytes c × IsFailureOf fault (steps_of c)
+PlansText bytes (Err NoPlan.Unread) = (c : CDocument) → HasCore bytes c → ⊥
+PlansText bytes (Err NoPlan.TooLong) = 65536 < length bytes
+PlansText bytes (Err NoPlan.Memory) = Unit {0}

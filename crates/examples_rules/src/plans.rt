@@ -1,14 +1,14 @@
 // What the steps of a text's proofs leave.
 ghost use Rattle.std.specs.Prelude.{◌≡◌, ◌≤◌, ◌^◌, length, None, IfOk, IfErr, OnOk};
 ghost use Rattle.unity_parser.specs.Document.{IsDocument};
-ghost use Rattle.name_scopes.specs.WellNamed.{IsWellNamed};
-ghost use Rattle.core_documents.specs.Cores.{core_document};
-ghost use Rattle.core_documents.specs.Faults.{expansion_fault};
-ghost use Rattle.name_scopes.specs.declared.named.NameFault.{NameFault};
-ghost use Rattle.examples_rules.specs.Plans.{HasFault, Plans};
+ghost use Rattle.names_rules.specs.WellNamed.{IsWellNamed};
+ghost use Rattle.expand_documents.specs.Cores.{core_document};
+ghost use Rattle.expand_documents.specs.Faults.{expansion_fault};
+ghost use Rattle.names_rules.specs.declared.named.NameFault.{NameFault};
+ghost use Rattle.examples_rules.specs.Plans.{HasFault, PlansText};
 
 use core_terms::CDocument;
-use name_scopes::NameFault;
+use names_rules::NameFault;
 use proof_script::{Plan, ScriptError, StepFault, walk};
 use quantified_assign::expand;
 use ranges_types::{Names, check_names};
@@ -36,7 +36,7 @@ pub enum NoPlan {
 /// The records of all steps of the text's proofs, and what is left to be shown for them.
 #[tactic(auto, using(crate::proofs::PlanLaws::text_laws))]
 pub fn plan_of(alloc: Global, bytes: &[u8]) -> Result<Plan, NoPlan>
-    ensures { Plans bytes.now result }
+    ensures { PlansText bytes.now result }
 {
     if bytes.len() > GREATEST_SIZE {
         return Err(NoPlan::TooLong);
@@ -53,7 +53,7 @@ pub fn plan_of(alloc: Global, bytes: &[u8]) -> Result<Plan, NoPlan>
 fn plan_for(alloc: Global, bytes: &[u8], document: &Document) -> Result<Plan, NoPlan>
     requires size { length bytes.now ≤ 2 ^ 29 }
     requires document { IsDocument bytes.now document.now }
-    ensures { Plans bytes.now result }
+    ensures { PlansText bytes.now result }
 {
     match core_of(alloc, document) {
         Ok(core) => match walk(alloc, core.get()) {

@@ -7,16 +7,16 @@ use Rattle.std.specs.List.{list_all, list_any}
 use Rattle.std.specs.Option.{option_map}
 use Rattle.std.proofs.lemmas.Option.{slice_get-map, slice_get_read}
 use Rattle.std.proofs.lemmas.Bool.Decides.{eqb_tells}
-use Rattle.state_steps.specs.State.{State, Ranges, int_eq, in_range}
-use Rattle.state_steps.specs.Step.{Write, is_inside, agrees, all_agree, is_defined, put, written, step}
-use Rattle.state_steps.proofs.StepTheorems.{and_left, and_right, same_number}
+use Rattle.meaning_states.specs.State.{State, Ranges, int_eq, in_range}
+use Rattle.meaning_states.specs.Step.{Write, is_inside, agrees, all_agree, is_defined, put, written, step}
+use Rattle.meaning_states.proofs.StepTheorems.{and_left, and_right, same_number}
 use Rattle.core_terms.specs.declared.trees.CForm.{CForm}
 use Rattle.core_terms.specs.declared.programs.CSlot.{CSlot}
 use Rattle.core_terms.specs.declared.programs.CStmt.{CStmt}
 use Rattle.core_terms.specs.declared.programs.CWrite.{CWrite}
 use Rattle.core_terms.specs.Values.{number_at, term_value, form_value}
 use Rattle.core_terms.specs.Steps.{slot_ranges, outside_writes, inside_writes, core_writes, core_step}
-use Rattle.executor.specs.Preparing.{unmarked, marks, IsPrepared, write_at, is_addable, is_target, TouchesOnly}
+use Rattle.executor.specs.Preparing.{unmarked, marks, IsStepPrepared, write_at, is_addable, is_target, TouchesOnly}
 use Rattle.executor.proofs.StartLaws.{put-slice_set}
 
 -- one of the writes is for the slot
@@ -111,7 +111,7 @@ both_more i all a false h = cc
 
 -- one write more is defined where it may be added
 pub defined_more : (ranges : Ranges) (state next : State) (marked : List Bool) (ws : List Write) (n : ℕ) (z : ℤ) →
-    n < length state → IsPrepared ranges state next marked ws →
+    n < length state → IsStepPrepared ranges state next marked ws →
     is_defined ranges ((Some n, z) ∷ ws) ≡ is_addable ranges next marked n z
 defined_more ranges state next marked ws n z h p =
     both_more (in_range (slice_get ranges n) z) (list_all (is_inside ranges) ws) (list_all (agrees (Some n, z)) ws)
@@ -127,12 +127,12 @@ pub added : (ranges : Ranges) (state next after : State) (marked more : List Boo
     form_value state [] w.when ≡ true → z ≡ term_value state [] w.value → w.slot < length state →
     r ≡ is_addable ranges next marked w.slot z → (IsTrue r → after ≡ put next w.slot z) →
     (IsTrue r → more ≡ slice_set marked w.slot true) → IsTrue r → (ws : List Write) →
-    IsPrepared ranges state next marked ws → IsPrepared ranges state after more (write_at state w ++ ws)
+    IsStepPrepared ranges state next marked ws → IsStepPrepared ranges state after more (write_at state w ++ ws)
 added ranges state next after marked more w z r holds number h test moves marks_it passed ws p =
     let one : write_at state w ≡ (Some w.slot, z) ∷ [] =
     ap (λ b. cond b ((Some w.slot, term_value state [] w.value) ∷ []) []) holds
     ∙ ap (λ x. (Some w.slot, x) ∷ []) (sym number) in
-    subst (λ xs. IsPrepared ranges state after more (xs ++ ws)) (sym one) (record {
+    subst (λ xs. IsStepPrepared ranges state after more (xs ++ ws)) (sym one) (record {
       next_is = moves passed ∙ ap (λ s. put s w.slot z) p.next_is;
       marked_is = marks_it passed ∙ ap (λ s. slice_set s w.slot true) p.marked_is;
       defined = defined_more ranges state next marked ws w.slot z h p ∙ sym test ∙ passed;
@@ -142,7 +142,7 @@ added ranges state next after marked more w z r holds number h test moves marks_
 pub refused : (ranges : Ranges) (state next : State) (marked : List Bool) (w : CWrite) (z : ℤ) (r : Bool) →
     form_value state [] w.when ≡ true → z ≡ term_value state [] w.value → w.slot < length state →
     r ≡ is_addable ranges next marked w.slot z → r ≡ false → (ws : List Write) →
-    IsPrepared ranges state next marked ws → is_defined ranges (write_at state w ++ ws) ≡ false
+    IsStepPrepared ranges state next marked ws → is_defined ranges (write_at state w ++ ws) ≡ false
 refused ranges state next marked w z r holds number h test failed ws p =
     let one : write_at state w ≡ (Some w.slot, z) ∷ [] =
     ap (λ b. cond b ((Some w.slot, term_value state [] w.value) ∷ []) []) holds
@@ -209,7 +209,8 @@ writes_before state ws (suc place) w h e =
 
 -- a write that was refused changed nothing
 pub prepared_still : (ranges : Ranges) (state next after : State) (marked more : List Bool) (ws : List Write) →
-    after ≡ next → more ≡ marked → IsPrepared ranges state next marked ws → IsPrepared ranges state after more ws
+    after ≡ next → more ≡ marked → IsStepPrepared ranges state next marked ws → IsStepPrepared ranges state after more
+    ws
 prepared_still ranges state next after marked more ws e f p =
     record { next_is = e ∙ p.next_is; marked_is = f ∙ p.marked_is; defined = p.defined }
 
@@ -259,7 +260,7 @@ is_target_later (w ∷ ws) (suc place) n h = is_target_later ws place n (later (
 
 -- what is prepared of the writes from a place on changes targets alone
 pub touches : (ranges : Ranges) (state next : State) (marked : List Bool) (ws : List CWrite) (place : ℕ) →
-    IsPrepared ranges state next marked (inside_writes state (drop place ws)) → TouchesOnly ws state next marked
+    IsStepPrepared ranges state next marked (inside_writes state (drop place ws)) → TouchesOnly ws state next marked
 touches ranges state next marked ws place p n h =
     let same = untouched state (drop place ws) n (is_target_later ws place n h) in
     (ap (λ s. slice_get s n) p.next_is ∙ same.0, ap (λ s. slice_get s n) p.marked_is ∙ same.1)

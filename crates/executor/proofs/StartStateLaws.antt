@@ -8,8 +8,8 @@ use Rattle.std.specs.List.{enumerate_from, filter_map, cons_option}
 use Rattle.std.specs.Int.RustNames.{int_le}
 use Rattle.std.proofs.lemmas.Int.{ints}
 use Rattle.std.proofs.lemmas.Bool.Decides.{Decides-eqb}
-use Rattle.state_steps.specs.State.{int_eq, in_range, is_state}
-use Rattle.state_steps.proofs.StepTheorems.{and_right, both_true}
+use Rattle.meaning_states.specs.State.{int_eq, in_range, is_state}
+use Rattle.meaning_states.proofs.StepTheorems.{and_right, both_true}
 use Rattle.core_terms.specs.declared.trees.CTerm.{CTerm}
 use Rattle.core_terms.specs.declared.trees.CForm.{CForm, out-CForm}
 use Rattle.core_terms.specs.declared.trees.CForm.TheOpen.{CForm-F}

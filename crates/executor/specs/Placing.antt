@@ -1,7 +1,7 @@
 -- Entries put into a state, from the last to the first, so that of several for one slot the first stands.
 use Rattle.std.specs.Prelude.{ℕ, ℤ, List, [], ◌∷◌, map}
-use Rattle.state_steps.specs.State.{State}
-use Rattle.state_steps.specs.Step.{put}
+use Rattle.meaning_states.specs.State.{State}
+use Rattle.meaning_states.specs.Step.{put}
 use Rattle.core_terms.specs.declared.programs.CSlot.{CSlot}
 
 abbrev pub placed : State → List (ℕ × ℤ) → State

@@ -3,8 +3,8 @@
 use Rattle.std.specs.Prelude.{◌≡◌, ℕ, nat_eq, ℤ, List, [], ◌∷◌, map, Bool, true, false, cond, not, ◌&&◌, ◌||◌, Some}
 use Rattle.std.specs.Prelude.{None, IsTrue, slice_get, slice_set, slice_index_or}
 use Rattle.std.specs.List.{list_any}
-use Rattle.state_steps.specs.State.{State, Ranges, int_eq, in_range}
-use Rattle.state_steps.specs.Step.{Write, is_defined, written}
+use Rattle.meaning_states.specs.State.{State, Ranges, int_eq, in_range}
+use Rattle.meaning_states.specs.Step.{Write, is_defined, written}
 use Rattle.core_terms.specs.declared.programs.CWrite.{CWrite}
 use Rattle.core_terms.specs.Values.{number_at, term_value, form_value}
 
@@ -19,7 +19,7 @@ marks clear ((None, z) ∷ ws) = marks clear ws
 marks clear ((Some n, z) ∷ ws) = slice_set (marks clear ws) n true
 
 -- a defined step of these writes is made in `next`, and its slots are marked
-pub record IsPrepared (ranges : Ranges) (state next : State) (marked : List Bool) (ws : List Write) : Type 0 where
+pub record IsStepPrepared (ranges : Ranges) (state next : State) (marked : List Bool) (ws : List Write) : Type 0 where
   pub next_is : next ≡ written state ws
   pub marked_is : marked ≡ marks (unmarked state) ws
   pub defined : IsTrue (is_defined ranges ws)

@@ -1,6 +1,6 @@
 -- The runner of a program, and the step that a choice gives.
 use Rattle.std.specs.Prelude.{ℕ, List, Option, slice_get, option_and_then}
-use Rattle.state_steps.specs.State.{State}
+use Rattle.meaning_states.specs.State.{State}
 use Rattle.core_terms.specs.declared.programs.CSlot.{CSlot}
 use Rattle.core_terms.specs.declared.programs.CProgram.{CProgram}
 use Rattle.core_terms.specs.Steps.{core_step}

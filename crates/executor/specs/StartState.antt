@@ -4,7 +4,7 @@ use Rattle.std.specs.Prelude.{ℕ, nat_eq, ℤ, pos, List, [], ◌∷◌, ◌++�
 use Rattle.std.specs.Prelude.{Some, None, unwrap_or, slice_get, option_and_then}
 use Rattle.std.specs.Option.{option_map}
 use Rattle.std.specs.List.{filter_map, enumerate_from}
-use Rattle.state_steps.specs.State.{State, int_eq, in_range}
+use Rattle.meaning_states.specs.State.{State, int_eq, in_range}
 use Rattle.core_terms.specs.declared.trees.CTerm.{CTerm, out-CTerm, roll-CTerm}
 use Rattle.core_terms.specs.declared.trees.CForm.{CForm, out-CForm, roll-CForm, fold-CForm}
 use Rattle.core_terms.specs.declared.trees.CForm.TheOpen.{CTerm-F, CForm-F}

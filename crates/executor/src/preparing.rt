@@ -2,13 +2,13 @@
 ghost use Rattle.std.specs.Prelude.{◌≡◌, ◌<◌, ◌++◌, ℕ, List, [], length, IsTrue, false, slice_get, slice_set, Some};
 ghost use Rattle.std.specs.Prelude.{None, true, cond, not, ◌||◌, slice_index_or};
 ghost use Rattle.std.specs.List.{list_any};
-ghost use Rattle.state_steps.specs.State.{is_state, in_range, int_eq};
-ghost use Rattle.state_steps.specs.Step.{Write, is_defined, put, written};
+ghost use Rattle.meaning_states.specs.State.{is_state, in_range, int_eq};
+ghost use Rattle.meaning_states.specs.Step.{Write, is_defined, put, written};
 ghost use Rattle.core_terms.specs.declared.programs.CWrite.{CWrite};
 ghost use Rattle.core_terms.specs.Values.{form_value, number_at};
 ghost use Rattle.core_terms.specs.Steps.{slot_ranges, inside_writes, core_step};
 ghost use Rattle.executor.specs.Fitting.{FormsRun, StatementRuns, WriteRuns, WritesRun};
-ghost use Rattle.executor.specs.Preparing.{IsPrepared, TouchesOnly, write_at, is_addable, unmarked};
+ghost use Rattle.executor.specs.Preparing.{IsStepPrepared, TouchesOnly, write_at, is_addable, unmarked};
 
 use core_terms::{CForm, CSlot, CStmt, CWrite, Range, holds, value};
 
@@ -98,10 +98,10 @@ fn add_write(
     requires next { length next.old ≡ length state.now }
     requires marked { length marked.old ≡ length state.now }
     ensures added { IsTrue result → (ws : List Write) →
-        IsPrepared (slot_ranges slots.now) state.now next.old marked.old ws →
-        IsPrepared (slot_ranges slots.now) state.now next.new marked.new (write_at state.now write.now ++ ws) }
+        IsStepPrepared (slot_ranges slots.now) state.now next.old marked.old ws →
+        IsStepPrepared (slot_ranges slots.now) state.now next.new marked.new (write_at state.now write.now ++ ws) }
     ensures refused { result ≡ false → (ws : List Write) →
-        IsPrepared (slot_ranges slots.now) state.now next.old marked.old ws →
+        IsStepPrepared (slot_ranges slots.now) state.now next.old marked.old ws →
         is_defined (slot_ranges slots.now) (write_at state.now write.now ++ ws) ≡ false }
     ensures next { result ≡ false → next.new ≡ next.old }
     ensures marked { result ≡ false → marked.new ≡ marked.old }

@@ -1,7 +1,7 @@
 // A program that is run step by step.
 ghost use Rattle.std.specs.Prelude.{◌≡◌, ◌<◌, length, Some, None, true, false, IsTrue, IfOk, IsErrOf, ◌↔◌, []};
 ghost use Rattle.std.specs.Prelude.{slice_get};
-ghost use Rattle.state_steps.specs.State.{is_state};
+ghost use Rattle.meaning_states.specs.State.{is_state};
 ghost use Rattle.core_terms.specs.Values.{form_value};
 ghost use Rattle.core_terms.specs.Steps.{slot_ranges};
 ghost use Rattle.core_terms.specs.Conditions.{IsProgram};

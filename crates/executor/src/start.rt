@@ -1,8 +1,8 @@
 // The start state of a program.
 ghost use Rattle.std.specs.Prelude.{◌≡◌, ◌∷◌, [], IfOk, IsTrue, All, option_and_then, slice_get};
 ghost use Rattle.std.specs.List.{filter_map};
-ghost use Rattle.state_steps.specs.State.{in_range, is_state};
-ghost use Rattle.state_steps.specs.Step.{put};
+ghost use Rattle.meaning_states.specs.State.{in_range, is_state};
+ghost use Rattle.meaning_states.specs.Step.{put};
 ghost use Rattle.core_terms.specs.Conditions.{IsSlot, IsProgram};
 ghost use Rattle.core_terms.specs.Steps.{slot_ranges};
 ghost use Rattle.executor.specs.StartState as start;

@@ -8,24 +8,24 @@ use Rattle.std.proofs.Math.Seq.{drop-cons}
 use Rattle.unity_syntax.specs.declared.expression.Expr.{Expr}
 use Rattle.unity_syntax.specs.declared.statement.Target.{Target}
 use Rattle.unity_syntax.specs.declared.statement.Values.{Values}
-use Rattle.unity_meaning.specs.Names.{Variable}
-use Rattle.unity_meaning.specs.Value.{count_up}
-use Rattle.name_laws.specs.SlotLaws.{variable_named}
-use Rattle.expansion_laws.specs.declared.cores.Formed.{Formed}
-use Rattle.expansion_laws.specs.declared.effects.Effect.{Effect}
-use Rattle.expansion_laws.specs.Forming.{Scope, as_number, formed, form_of, term_of}
-use Rattle.expansion_laws.specs.Assigning.{beside, nothing, one_more, exactly, condition, write_to, write_count}
-use Rattle.expansion_laws.specs.Assigning.{plain_slot, indexed_effect, index_formed, target_effect, paired_effect}
-use Rattle.expansion_laws.specs.Assigning.{alternative_effect, is_large_effect}
+use Rattle.meaning_documents.specs.Names.{Variable}
+use Rattle.meaning_documents.specs.Value.{count_up}
+use Rattle.meaning_documents.specs.Names.{variable_named}
+use Rattle.expand_rules.specs.declared.cores.Formed.{Formed}
+use Rattle.expand_rules.specs.declared.effects.Effect.{Effect}
+use Rattle.expand_rules.specs.Forming.{Scope, as_number, formed, form_of, term_of}
+use Rattle.expand_rules.specs.Assigning.{beside, nothing, one_more, exactly, condition, write_to, write_count}
+use Rattle.expand_rules.specs.Assigning.{plain_slot, indexed_effect, index_formed, target_effect, paired_effect}
+use Rattle.expand_rules.specs.Assigning.{alternative_effect, is_large_effect}
 use Rattle.expand_expressions.specs.declared.refusal.Refusal.{Refusal}
-use Rattle.expand_assignments.specs.Adding.{with_range, Adds, AddsAll, Counts, Halts, GivesNumber, GivesTruth}
+use Rattle.expand_assignments.specs.Adding.{with_range, Adds, AddsAll, CountsPart, Halts, GivesNumber, GivesTruth}
 use Rattle.expand_assignments.specs.Adding.{one_node, with_count}
 use Rattle.expand_assignments.proofs.EffectLaws.{ranged, ranged_beside, beside_assoc, beside_nothing, exactly_beside}
 use Rattle.expand_assignments.proofs.EffectLaws.{one_more_beside, fold_beside, all_beside_nothing, large_beside}
 use Rattle.expand_assignments.proofs.EffectLaws.{large_fold, large_one_more}
 use Rattle.expand_assignments.proofs.PastLaws.{past_value, past_written, past_index, past_condition, great_beside}
-use Rattle.expansion_laws.specs.declared.effects.Count.{Count}
-use Rattle.expansion_laws.specs.Assigning.{is_outside, outside_effect, unwritten_count}
+use Rattle.expand_rules.specs.declared.effects.Count.{Count}
+use Rattle.expand_rules.specs.Assigning.{is_outside, outside_effect, unwritten_count}
 use Rattle.expand_assignments.specs.Adding.{written_effect}
 
 -- where a part is too large
@@ -99,7 +99,7 @@ adds_second (Err r) old mid new x y e h = halts_second r old mid x y e h
 
 -- one node more
 pub adds_one : (r : Result (Unit {0}) Refusal) (old mid new x : Effect) → mid ≡ beside old x →
-    Counts r mid new one_node → Adds r old new (one_more x)
+    CountsPart r mid new one_node → Adds r old new (one_more x)
 adds_one (Ok t) old mid new x e h = h.0 ∙ ap (λ m. with_count m one_node) e ∙ one_more_beside old x
 adds_one (Err Refusal.Memory) old mid new x e h = tt
 adds_one (Err Refusal.TooLarge) old mid new x e h =

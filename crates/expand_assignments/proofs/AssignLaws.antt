@@ -9,11 +9,11 @@ use Rattle.unity_syntax.specs.declared.statement.Component.{Component, fold-roll
 use Rattle.unity_syntax.specs.declared.statement.Component.TheOpen.{Component-F}
 use Rattle.unity_syntax.specs.declared.statement.Component.TheVariants.{rolls-Set, rolls-Quantified}
 use Rattle.unity_syntax.specs.declared.statement.Assign.{Assign, fold-roll-Assign}
-use Rattle.unity_meaning.specs.Writes.{alternatives}
-use Rattle.expansion_laws.specs.Forming.{Scope, with_number, numbers, fit_values}
-use Rattle.expansion_laws.specs.Assigning.{Effecting, beside, nothing, one_more, alternative_effect}
-use Rattle.expansion_laws.specs.Assigning.{quantified_effect, component_layer, assign_layer, component_effect}
-use Rattle.expansion_laws.specs.Assigning.{effect_of}
+use Rattle.meaning_documents.specs.Writes.{alternatives}
+use Rattle.expand_rules.specs.Forming.{Scope, with_number, numbers, fit_values}
+use Rattle.expand_rules.specs.Assigning.{Effecting, beside, nothing, one_more, alternative_effect}
+use Rattle.expand_rules.specs.Assigning.{quantified_effect, component_layer, assign_layer, component_effect}
+use Rattle.expand_rules.specs.Assigning.{effect_of}
 
 pub component-Set : (at : ℕ) (first : Target) (rest : List Target) (alts : Alts) (s : Scope) →
     component_effect (Component.Set at first rest alts) s ≡ one_more

@@ -7,18 +7,18 @@ use Rattle.std.proofs.Math.Bool.{and_assoc}
 use Rattle.core_terms.specs.declared.trees.CForm.{CForm}
 use Rattle.core_terms.specs.declared.programs.CWrite.{CWrite}
 use Rattle.core_terms.specs.Folding.{number_of}
-use Rattle.unity_meaning.specs.Names.{slot_at}
-use Rattle.unity_meaning.specs.Value.{range_size}
+use Rattle.meaning_documents.specs.Names.{slot_at}
+use Rattle.meaning_documents.specs.Value.{range_size}
 use Rattle.std.specs.Option.{option_and_then}
-use Rattle.expansion_laws.specs.declared.cores.Formed.{Formed}
-use Rattle.expansion_laws.specs.declared.effects.Count.{Count}
-use Rattle.expansion_laws.specs.declared.effects.Effect.{Effect}
-use Rattle.expansion_laws.specs.Measures.{counted, nearer}
+use Rattle.expand_rules.specs.declared.cores.Formed.{Formed}
+use Rattle.expand_rules.specs.declared.effects.Count.{Count}
+use Rattle.expand_rules.specs.declared.effects.Effect.{Effect}
+use Rattle.expand_rules.specs.Measures.{counted, nearer}
 use Rattle.expand_assignments.specs.Adding.{with_count, one_node}
-use Rattle.expansion_laws.specs.Forming.{term_of, form_of}
-use Rattle.expansion_laws.specs.Assigning.{both_counts, index_count, write_count, spread_count, write_to, open_effect}
-use Rattle.expansion_laws.specs.Assigning.{array_effect, no_count, one_more, nothing, beside, exactly}
-use Rattle.expansion_laws.specs.Assigning.{is_large_effect}
+use Rattle.expand_rules.specs.Forming.{term_of, form_of}
+use Rattle.expand_rules.specs.Assigning.{both_counts, index_count, write_count, spread_count, write_to, open_effect}
+use Rattle.expand_rules.specs.Assigning.{array_effect, no_count, one_more, nothing, beside, exactly}
+use Rattle.expand_rules.specs.Assigning.{is_large_effect}
 
 abbrev made : List CForm → List CWrite → Bool → Count → Effect
 made a v x m = record { outside = a; writes = v; exact = x; count = m }

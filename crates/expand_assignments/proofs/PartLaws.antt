@@ -5,12 +5,12 @@ use Rattle.std.proofs.lemmas.Bool.{lt-leb}
 use Rattle.std.proofs.lemmas.Slice.Eq.{bytes_eq-Decides}
 use Rattle.std.specs.Map.{lookup}
 use Rattle.std.specs.Str.{bytes_eq}
-use Rattle.name_laws.specs.SlotLaws.{variable_named}
-use Rattle.expansion_laws.specs.declared.cores.Core.{Core}
-use Rattle.expansion_laws.specs.declared.cores.Measure.{Measure}
-use Rattle.expansion_laws.specs.declared.cores.Formed.{Formed}
-use Rattle.expansion_laws.specs.Limits.{is_past}
-use Rattle.expansion_laws.specs.Forming.{as_number, as_truth}
+use Rattle.meaning_documents.specs.Names.{variable_named}
+use Rattle.expand_rules.specs.declared.cores.Core.{Core}
+use Rattle.expand_rules.specs.declared.cores.Measure.{Measure}
+use Rattle.expand_rules.specs.declared.cores.Formed.{Formed}
+use Rattle.expand_rules.specs.Limits.{is_past}
+use Rattle.expand_rules.specs.Forming.{as_number, as_truth}
 use Rattle.expand_expressions.specs.declared.places.VariableSlots.{VariableSlots}
 use Rattle.expand_expressions.specs.Places.{variable_of, variables_of}
 use Rattle.expand_assignments.proofs.PastLaws.{past_tells}

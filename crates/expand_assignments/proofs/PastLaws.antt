@@ -6,23 +6,23 @@ use Rattle.std.proofs.lemmas.Bool.{leb-false}
 use Rattle.std.specs.Option.{option_and_then}
 use Rattle.unity_syntax.specs.declared.expression.Expr.{Expr}
 use Rattle.unity_syntax.specs.declared.statement.Target.{Target}
-use Rattle.unity_meaning.specs.Names.{Variable, slot_at}
-use Rattle.unity_meaning.specs.Value.{range_size}
+use Rattle.meaning_documents.specs.Names.{Variable, slot_at}
+use Rattle.meaning_documents.specs.Value.{range_size}
 use Rattle.core_terms.specs.declared.trees.CTerm.{CTerm}
 use Rattle.core_terms.specs.declared.trees.CForm.{CForm}
 use Rattle.core_terms.specs.Folding.{number_of}
-use Rattle.expansion_laws.specs.declared.cores.Measure.{Measure}
-use Rattle.expansion_laws.specs.declared.cores.Formed.{Formed}
-use Rattle.expansion_laws.specs.declared.effects.Count.{Count}
-use Rattle.expansion_laws.specs.declared.effects.Effect.{Effect}
-use Rattle.expansion_laws.specs.Limits.{is_past}
-use Rattle.name_laws.specs.SlotLaws.{variable_named}
-use Rattle.expansion_laws.specs.Forming.{Scope, term_of, form_of, as_number, formed}
-use Rattle.expansion_laws.specs.Assigning.{both_counts, whole, write_count, index_count, stray_count, spread_nodes}
-use Rattle.expansion_laws.specs.Assigning.{spread_count, write_to, open_effect, array_effect, element_effect}
-use Rattle.expansion_laws.specs.Assigning.{indexed_effect, plain_slot, target_effect, index_formed, paired_effect}
-use Rattle.expansion_laws.specs.Assigning.{beside, is_large_effect, condition_count, is_beyond, is_outside}
-use Rattle.expansion_laws.specs.Assigning.{outside_effect, unwritten_count}
+use Rattle.expand_rules.specs.declared.cores.Measure.{Measure}
+use Rattle.expand_rules.specs.declared.cores.Formed.{Formed}
+use Rattle.expand_rules.specs.declared.effects.Count.{Count}
+use Rattle.expand_rules.specs.declared.effects.Effect.{Effect}
+use Rattle.expand_rules.specs.Limits.{is_past}
+use Rattle.meaning_documents.specs.Names.{variable_named}
+use Rattle.expand_rules.specs.Forming.{Scope, term_of, form_of, as_number, formed}
+use Rattle.expand_rules.specs.Assigning.{both_counts, whole, write_count, index_count, stray_count, spread_nodes}
+use Rattle.expand_rules.specs.Assigning.{spread_count, write_to, open_effect, array_effect, element_effect}
+use Rattle.expand_rules.specs.Assigning.{indexed_effect, plain_slot, target_effect, index_formed, paired_effect}
+use Rattle.expand_rules.specs.Assigning.{beside, is_large_effect, condition_count, is_beyond, is_outside}
+use Rattle.expand_rules.specs.Assigning.{outside_effect, unwritten_count}
 use Rattle.expand_assignments.specs.Adding.{written_effect}
 use Rattle.expand_assignments.proofs.EffectLaws.{shows}
 

@@ -7,8 +7,8 @@ use Rattle.core_terms.specs.declared.trees.CTerm.TheVariants.{Const}
 use Rattle.core_terms.specs.declared.trees.CForm.{CForm}
 use Rattle.core_terms.specs.declared.programs.CWrite.{CWrite}
 use Rattle.core_terms.specs.Folding.{difference_term, zero_form, or_form}
-use Rattle.unity_meaning.specs.Names.{natural}
-use Rattle.expansion_laws.specs.Assigning.{any_of, equations, spread}
+use Rattle.meaning_documents.specs.Names.{natural}
+use Rattle.expand_rules.specs.Assigning.{any_of, equations, spread}
 use Rattle.expand_assignments.specs.Adding.{spread_write}
 
 pub natural_above : (z : ℤ) (n : ℕ) → n < natural z → pos n <ℤ z

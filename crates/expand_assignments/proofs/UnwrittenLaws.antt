@@ -1,7 +1,8 @@
 -- What counts of values that are written nowhere: one equation for each kind of expression, and where a part is past
 -- the limit of nodes.
 use Rattle.std.proofs.Common.{◌≡◌, ℕ, zero, suc, ◌+◌, ◌-◌, ◌<◌, ◌≤◌, ℤ, pos, ◌+ℤ◌, List, [], ◌∷◌, map, fold, drop}
-use Rattle.std.proofs.Common.{get_or, length, Bool, true, false, not, Option, Some, None, sym, ap, ◌∙◌, subst, refl, arith}
+use Rattle.std.proofs.Common.{get_or, length, Bool, true, false, not, Option, Some, None, sym, ap, ◌∙◌, subst, refl}
+use Rattle.std.proofs.Common.{arith}
 use Rattle.std.proofs.lemmas.Int.{ints}
 use Rattle.std.proofs.Math.Seq.{drop-cons}
 use Rattle.std.specs.Option.{is_some}
@@ -17,14 +18,14 @@ use Rattle.unity_syntax.specs.declared.expression.Expr.TheVariants.{rolls-Implie
 use Rattle.unity_syntax.specs.declared.expression.Expr.TheVariants.{rolls-Compare, rolls-Sum, rolls-Product}
 use Rattle.unity_syntax.specs.declared.expression.Expr.TheVariants.{rolls-Number, rolls-True, rolls-False, rolls-Word}
 use Rattle.unity_syntax.specs.declared.expression.Expr.TheVariants.{rolls-Brackets, rolls-Quantified}
-use Rattle.unity_meaning.specs.Value.{count_up}
-use Rattle.expansion_laws.specs.declared.cores.Bound.{Bound}
-use Rattle.expansion_laws.specs.declared.effects.Count.{Count}
-use Rattle.expansion_laws.specs.Forming.{numbers, fit_values}
-use Rattle.expansion_laws.specs.Assigning.{no_count, both_counts, one_node_more, quantified_count, Counting}
-use Rattle.expansion_laws.specs.Assigning.{unwritten_layer, unwritten_count}
-use Rattle.expansion_laws.proofs.Equations.{map_twice}
-use Rattle.expand_assignments.specs.Adding.{Tells, instances_count}
+use Rattle.meaning_documents.specs.Value.{count_up}
+use Rattle.expand_rules.specs.declared.cores.Bound.{Bound}
+use Rattle.expand_rules.specs.declared.effects.Count.{Count}
+use Rattle.expand_rules.specs.Forming.{numbers, fit_values}
+use Rattle.expand_rules.specs.Assigning.{no_count, both_counts, one_node_more, quantified_count, Counting}
+use Rattle.expand_rules.specs.Assigning.{unwritten_layer, unwritten_count}
+use Rattle.expand_rules.proofs.Equations.{map_twice}
+use Rattle.expand_assignments.specs.Adding.{TellsCount, instances_count}
 
 unfolds : (d : Expr-F Expr) (e : Expr) → roll-Expr d ≡ e → (bs : List (List ℕ × Bound)) → unwritten_count e bs ≡
     unwritten_layer (map-Expr Expr Counting unwritten_count d) bs
@@ -112,17 +113,17 @@ past_fold m (n ∷ ns) h = past_fold (both_counts m n) ns (past_first m n h)
 -- parts that are joined already, and those that are left
 pub record Halfway (a : Option Count) (left : List Count) (total : Count) : Type 0 where
   pub now : Count
-  pub told : Tells a now
+  pub told : TellsCount a now
   pub same : fold both_counts now left ≡ total
 
-pub halfway_begin : (a : Option Count) (n : Count) (ns : List Count) → Tells a n →
+pub halfway_begin : (a : Option Count) (n : Count) (ns : List Count) → TellsCount a n →
     Halfway a ns (fold both_counts n ns)
 halfway_begin a n ns h = record { now = n; told = h; same = refl }
 
 halfway_past : (a : Option Count) (ns : List Count) (total : Count) → a ≡ None → Halfway a ns total →
     65536 < total.size
 halfway_past a ns total e h = subst (λ (n : Count). 65536 < n.size) h.same
-    (past_fold h.now ns (subst (λ o. Tells o h.now) e h.told))
+    (past_fold h.now ns (subst (λ o. TellsCount o h.now) e h.told))
 
 none_is : (a : Option Count) (b : Bool) → is_some a ≡ not b → b ≡ true → a ≡ None
 none_is None b e h = refl
@@ -132,9 +133,10 @@ pub halfway_none : (a : Option Count) (ns : List Count) (total : Count) (b : Boo
     Halfway a ns total → 65536 < total.size
 halfway_none a ns total b e t h = halfway_past a ns total (none_is a b e t) h
 
-pub halfway_end : (a : Option Count) (ns : List Count) (total : Count) → ns ≡ [] → Halfway a ns total → Tells a total
+pub halfway_end : (a : Option Count) (ns : List Count) (total : Count) → ns ≡ [] → Halfway a ns total → TellsCount a
+    total
 halfway_end a ns total e h =
-    subst (λ n. Tells a n) (ap (fold both_counts h.now) (sym e) ∙ h.same) h.told
+    subst (λ n. TellsCount a n) (ap (fold both_counts h.now) (sym e) ∙ h.same) h.told
 
 pub none_left : {X : Type 0} (f : X → Count) (xs : List X) (i : ℕ) → length xs ≤ i → map f (drop i xs) ≡ []
 none_left f [] zero h = refl
@@ -143,7 +145,8 @@ none_left f (x ∷ xs) zero h = absurd (let l : suc (length xs) ≤ 0 = h in ome
 none_left f (x ∷ xs) (suc i) h = none_left f xs i (let l : suc (length xs) ≤ suc i = h in omega arith)
 
 pub halfway_next : {X : Type 0} (f : X → Count) (xs : List X) (i : ℕ) (d : X) (a new : Option Count)
-    (total : Count) → i < length xs → ((m : Count) → Tells a m → Tells new (both_counts m (f (get_or xs i d)))) →
+    (total : Count) → i < length xs → ((m : Count) → TellsCount a m → TellsCount new
+    (both_counts m (f (get_or xs i d)))) →
     Halfway a (map f (drop i xs)) total → Halfway new (map f (drop (i + 1) xs)) total
 halfway_next f xs i d a new total l joins h =
     let e : suc i ≡ i + 1 = omega arith in record {
@@ -156,7 +159,7 @@ halfway_next f xs i d a new total l joins h =
 abbrev pub numbered : (ℤ → Count) → ℤ → ℕ → ℕ → List Count
 numbered f low i n = map f (count_up (low +ℤ pos i) (n - i))
 
-pub numbers_begin : (f : ℤ → Count) (low : ℤ) (n : ℕ) (a : Option Count) (m : Count) → Tells a m →
+pub numbers_begin : (f : ℤ → Count) (low : ℤ) (n : ℕ) (a : Option Count) (m : Count) → TellsCount a m →
     Halfway a (numbered f low 0 n) (fold both_counts m (map f (count_up low n)))
 numbers_begin f low n a m h =
     let z : low +ℤ pos 0 ≡ low = omega (arith, ints) in
@@ -168,7 +171,7 @@ numbers_begin f low n a m h =
     }
 
 pub numbers_next : (f : ℤ → Count) (low : ℤ) (i n : ℕ) (a new : Option Count) (total : Count) → i < n →
-    ((m : Count) → Tells a m → Tells new (both_counts m (f (low +ℤ pos i)))) →
+    ((m : Count) → TellsCount a m → TellsCount new (both_counts m (f (low +ℤ pos i)))) →
     Halfway a (numbered f low i n) total → Halfway new (numbered f low (i + 1) n) total
 numbers_next f low i n a new total l joins h =
     let m : n - i ≡ suc (n - (i + 1)) = omega arith in

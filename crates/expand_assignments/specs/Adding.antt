@@ -1,28 +1,29 @@
 -- What calls add to an effect.
-use Rattle.std.specs.Prelude.{◌≡◌, ◌<◌, Some, ℕ, ℤ, true, false, Result, Ok, Err, None, List, ◌∷◌, map, fold, ◌&&◌, Bool, Option}
+use Rattle.std.specs.Prelude.{◌≡◌, ◌<◌, Some, ℕ, ℤ, true, false, Result, Ok, Err, None, List, ◌∷◌, map, fold, ◌&&◌}
+use Rattle.std.specs.Prelude.{Bool, Option}
 use Rattle.core_terms.specs.declared.trees.CTerm.{CTerm}
 use Rattle.core_terms.specs.declared.trees.CTerm.TheVariants.{Const}
 use Rattle.core_terms.specs.declared.trees.CForm.{CForm}
 use Rattle.core_terms.specs.declared.programs.CWrite.{CWrite}
 use Rattle.core_terms.specs.Folding.{difference_term, zero_form, and_form}
-use Rattle.expansion_laws.specs.declared.effects.Count.{Count}
-use Rattle.expansion_laws.specs.declared.effects.Effect.{Effect}
-use Rattle.expansion_laws.specs.Assigning.{no_count, one_node_more, unwritten_count, exactly, indexed_effect}
-use Rattle.expansion_laws.specs.Assigning.{both_counts, nothing, beside, one_more, alternative_effect}
-use Rattle.expansion_laws.specs.Assigning.{quantified_effect, effect_of, is_large_effect}
+use Rattle.expand_rules.specs.declared.effects.Count.{Count}
+use Rattle.expand_rules.specs.declared.effects.Effect.{Effect}
+use Rattle.expand_rules.specs.Assigning.{no_count, one_node_more, unwritten_count, exactly, indexed_effect}
+use Rattle.expand_rules.specs.Assigning.{both_counts, nothing, beside, one_more, alternative_effect}
+use Rattle.expand_rules.specs.Assigning.{quantified_effect, effect_of, is_large_effect}
 use Rattle.unity_syntax.specs.declared.name.Name.{Name}
 use Rattle.unity_syntax.specs.declared.name.Range.{Range}
 use Rattle.unity_syntax.specs.declared.statement.Target.{Target}
 use Rattle.unity_syntax.specs.declared.statement.Alts.{Alts}
 use Rattle.unity_syntax.specs.declared.statement.Assign.{Assign}
-use Rattle.unity_meaning.specs.Writes.{alternatives}
-use Rattle.expansion_laws.specs.declared.cores.Formed.{Formed}
-use Rattle.expansion_laws.specs.declared.cores.Bound.{Bound}
-use Rattle.unity_meaning.specs.Names.{Variable}
+use Rattle.meaning_documents.specs.Writes.{alternatives}
+use Rattle.expand_rules.specs.declared.cores.Formed.{Formed}
+use Rattle.expand_rules.specs.declared.cores.Bound.{Bound}
+use Rattle.meaning_documents.specs.Names.{Variable}
 use Rattle.unity_syntax.specs.declared.expression.Expr.{Expr}
-use Rattle.expansion_laws.specs.Measures.{nearer}
-use Rattle.expansion_laws.specs.Forming.{Scope, with_number, numbers, fit_values}
-use Rattle.expansion_laws.specs.Limits.{is_past}
+use Rattle.expand_rules.specs.Measures.{nearer}
+use Rattle.expand_rules.specs.Forming.{Scope, with_number, numbers, fit_values}
+use Rattle.expand_rules.specs.Limits.{is_past}
 use Rattle.expand_expressions.specs.declared.refusal.Refusal.{Refusal}
 use Rattle.expand_expressions.specs.declared.operations.NumberCore.{NumberCore}
 use Rattle.expand_expressions.specs.declared.operations.TruthCore.{TruthCore}
@@ -34,10 +35,10 @@ abbrev pub with_count : Effect → Count → Effect
 with_count e part = record e { count = both_counts e.count part }
 
 -- a call counts a part, or stops exactly where the whole is too large
-abbrev pub Counts : Result (Unit {0}) Refusal → Effect → Effect → Count → Type 0
-Counts (Ok t) old new part = (new ≡ with_count old part) × (is_large_effect (with_count old part) ≡ false)
-Counts (Err Refusal.Memory) old new part = Unit {0}
-Counts (Err Refusal.TooLarge) old new part = is_large_effect (with_count old part) ≡ true
+abbrev pub CountsPart : Result (Unit {0}) Refusal → Effect → Effect → Count → Type 0
+CountsPart (Ok t) old new part = (new ≡ with_count old part) × (is_large_effect (with_count old part) ≡ false)
+CountsPart (Err Refusal.Memory) old new part = Unit {0}
+CountsPart (Err Refusal.TooLarge) old new part = is_large_effect (with_count old part) ≡ true
 
 -- a call that adds an effect stops only where both together are too large; want of memory says nothing
 abbrev pub Halts : Refusal → Effect → Effect → Type 0
@@ -102,9 +103,9 @@ abbrev pub written_effect : Formed → Option Variable → Formed → Formed →
 written_effect i x c v = exactly (v.exact && i.exact) (indexed_effect i x c v)
 
 -- a call gives a count, or none where it is past the limit of nodes
-abbrev pub Tells : Option Count → Count → Type 0
-Tells (Some n) m = n ≡ m
-Tells None m = 65536 < m.size
+abbrev pub TellsCount : Option Count → Count → Type 0
+TellsCount (Some n) m = n ≡ m
+TellsCount None m = 65536 < m.size
 
 -- what counts of an instance of a quantifier in a value that is written nowhere, and of all of them
 abbrev pub inside_count : List (List ℕ × Bound) → Name → Expr → ℤ → Count

@@ -2,8 +2,8 @@
 
 ghost use Rattle.std.specs.Prelude.{◌≡◌, ◌∷◌, ◌≤◌, Some, map};
 ghost use Rattle.std.specs.Option.{option_copied};
-ghost use Rattle.unity_meaning.specs.Writes.{alternatives, conditional};
-ghost use Rattle.expansion_laws.specs.Assigning as spec;
+ghost use Rattle.meaning_documents.specs.Writes.{alternatives, conditional};
+ghost use Rattle.expand_rules.specs.Assigning as spec;
 ghost use Rattle.expand_expressions.specs.Places.{IsReady, scope};
 ghost use Rattle.expand_expressions.specs.Sound.{IsSound, of_truth};
 ghost use Rattle.expand_assignments.specs.Adding.{Adds, AddsAll};
@@ -13,7 +13,7 @@ use crate::parts::condition;
 use crate::targets::target;
 use crate::writes::mark;
 use expand_expressions::{Env, Known, Refusal, TruthCore};
-use expansion_laws::Effect;
+use expand_rules::Effect;
 use std::alloc::Global;
 use unity_syntax::{Alts, Expr, Target, Values};
 

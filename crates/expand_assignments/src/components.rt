@@ -2,12 +2,12 @@
 
 ghost use Rattle.std.specs.Prelude.{◌≡◌, ◌∷◌, ◌≤◌, ◌^◌, ◌&&◌, ◌+ℤ◌, ◌<◌, pos, map};
 ghost use Rattle.std.specs.Int.RustNames.{unsigned_abs};
-ghost use Rattle.unity_meaning.specs.Value.{count_up};
-ghost use Rattle.expansion_laws.specs.Forming.{numbers, with_number};
-ghost use Rattle.expansion_laws.specs.Measures as measures;
-ghost use Rattle.expansion_laws.specs.Assigning as spec;
+ghost use Rattle.meaning_documents.specs.Value.{count_up};
+ghost use Rattle.expand_rules.specs.Forming.{numbers, with_number};
+ghost use Rattle.expand_rules.specs.Measures as measures;
+ghost use Rattle.expand_rules.specs.Assigning as spec;
 ghost use Rattle.expand_expressions.specs.Places.{IsReady, bound_names, scope};
-ghost use Rattle.expansion_laws.specs.declared.cores.Bound.TheVariants.{Number};
+ghost use Rattle.expand_rules.specs.declared.cores.Bound.TheVariants.{Number};
 ghost use Rattle.expand_assignments.specs.Adding.{Adds, AddsAll, each_effect, set_effect, with_range};
 
 use crate::alternatives::all_alternatives;
@@ -16,7 +16,7 @@ use crate::places::bound_at;
 use expand_expressions::{
     Env, Known, Numbers, Refusal, is_fixed_range, range_misfit, range_numbers, with_bound,
 };
-use expansion_laws::{Bound, Effect};
+use expand_rules::{Bound, Effect};
 use std::alloc::Global;
 use unity_base::Seq;
 use unity_syntax::{Alts, Assign, Component, Name, Range, Target};

@@ -2,13 +2,13 @@
 
 ghost use Rattle.std.specs.Prelude.{◌≡◌, ◌+◌, ◌*◌, ◌^◌, ◌<◌, ◌≤◌, ◌||◌, max, not, nat_le, Ok, Err};
 ghost use Rattle.std.specs.Int.RustNames.{unsigned_abs};
-ghost use Rattle.expansion_laws.specs.Measures.{counted, nearer};
-ghost use Rattle.expansion_laws.specs.Assigning as spec;
-ghost use Rattle.expand_assignments.specs.Adding.{Counts, one_node};
+ghost use Rattle.expand_rules.specs.Measures.{counted, nearer};
+ghost use Rattle.expand_rules.specs.Assigning as spec;
+ghost use Rattle.expand_assignments.specs.Adding.{CountsPart, one_node};
 
 use core_terms::Range;
 use expand_expressions::Refusal;
-use expansion_laws::{Count, Effect, Measure};
+use expand_rules::{Count, Effect, Measure};
 
 // A size, counted up to one past its limit.
 fn counted(size: u64) -> u64
@@ -128,9 +128,9 @@ pub fn is_large(count: &Count) -> bool
     count.most > 1 << 62 || count.size > 65_536
 }
 
-/// Counts a part. `TooLarge` exactly where the whole is too large.
+/// CountsPart a part. `TooLarge` exactly where the whole is too large.
 pub fn count_in(part: Count, effect: &mut Effect) -> Result<(), Refusal>
-    ensures { Counts result effect.old effect.new part }
+    ensures { CountsPart result effect.old effect.new part }
 {
     effect.count = both_counts(effect.count, part);
     if is_large(&effect.count) {
@@ -140,9 +140,9 @@ pub fn count_in(part: Count, effect: &mut Effect) -> Result<(), Refusal>
     }
 }
 
-/// Counts one node more.
+/// CountsPart one node more.
 pub fn count_one(effect: &mut Effect) -> Result<(), Refusal>
-    ensures { Counts result effect.old effect.new one_node }
+    ensures { CountsPart result effect.old effect.new one_node }
 {
     let one = Count {
         size: 1,

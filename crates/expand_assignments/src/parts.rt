@@ -3,15 +3,15 @@
 ghost use Rattle.std.specs.Prelude.{◌≡◌, IfOk};
 ghost use Rattle.core_terms.specs.declared.trees.CForm.TheVariants.{Top};
 ghost use Rattle.std.specs.Option.{option_copied};
-ghost use Rattle.expansion_laws.specs.Forming.{as_number, as_truth, formed, truth_constant};
-ghost use Rattle.expansion_laws.specs.Assigning as spec;
+ghost use Rattle.expand_rules.specs.Forming.{as_number, as_truth, formed, truth_constant};
+ghost use Rattle.expand_rules.specs.Assigning as spec;
 ghost use Rattle.expand_expressions.specs.Places.{IsReady, scope};
 ghost use Rattle.expand_expressions.specs.Sound.{IsSound, of_truth};
 ghost use Rattle.expand_assignments.specs.Adding.{GivesNumber, GivesTruth};
 
 use core_terms::CForm;
 use expand_expressions::{Env, Known, NumberCore, Refusal, TruthCore, form, number, truth};
-use expansion_laws::Measure;
+use expand_rules::Measure;
 use std::alloc::{AllocError, Global};
 use unity_base::Held;
 use unity_syntax::Expr;

@@ -2,13 +2,13 @@
 
 ghost use Rattle.std.specs.Prelude.{◌≡◌, ◌+◌, ◌^◌, ◌≤◌, ◌<◌, pos, ◌+ℤ◌, Some};
 ghost use Rattle.std.specs.Int.RustNames.{unsigned_abs};
-ghost use Rattle.unity_meaning.specs.Names as names;
-ghost use Rattle.expansion_laws.specs.declared.cores.Bound.TheVariants.{Number};
-ghost use Rattle.unity_meaning.specs.Value.{range_size};
+ghost use Rattle.meaning_documents.specs.Names as names;
+ghost use Rattle.expand_rules.specs.declared.cores.Bound.TheVariants.{Number};
+ghost use Rattle.meaning_documents.specs.Value.{range_size};
 
 use core_terms::Range;
 use expand_expressions::Numbers;
-use expansion_laws::Bound;
+use expand_rules::Bound;
 
 /// The slots of an array.
 #[derive(Clone, Copy)]

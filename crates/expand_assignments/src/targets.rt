@@ -2,10 +2,10 @@
 
 ghost use Rattle.std.specs.Prelude.{◌≡◌, ◌∷◌, ◌≤◌, ◌+◌, ◌^◌, ℕ, List, Some, None, MatchOption};
 ghost use Rattle.std.specs.Option.{option_map};
-ghost use Rattle.unity_meaning.specs.Setting.{slots_for};
-ghost use Rattle.name_laws.specs.SlotLaws.{variable_named};
-ghost use Rattle.expansion_laws.specs.Forming.{as_number, formed};
-ghost use Rattle.expansion_laws.specs.Assigning as spec;
+ghost use Rattle.meaning_documents.specs.Setting.{slots_for};
+ghost use Rattle.meaning_documents.specs.Names.{variable_named};
+ghost use Rattle.expand_rules.specs.Forming.{as_number, formed};
+ghost use Rattle.expand_rules.specs.Assigning as spec;
 ghost use Rattle.expand_expressions.specs.Places.{IsReady, bound_names, ends_of, scope, variable_of};
 ghost use Rattle.expand_expressions.specs.Sound.{IsSound, of_number, of_truth};
 ghost use Rattle.expand_assignments.specs.Adding.{Adds, written_effect};
@@ -16,7 +16,7 @@ use crate::writes::{is_outside, mark, write_indexed, write_outside, write_plain}
 use expand_expressions::{
     Env, Known, NumberCore, Refusal, TruthCore, VariableSlots, find_variable,
 };
-use expansion_laws::Effect;
+use expand_rules::Effect;
 use std::alloc::Global;
 use unity_syntax::{Expr, Name, Target};
 

@@ -4,25 +4,25 @@ ghost use Rattle.std.specs.Prelude.{◌≡◌, ◌∷◌, ◌≤◌, ◌^◌, �
 ghost use Rattle.std.specs.Int.RustNames.{unsigned_abs};
 ghost use Rattle.case_tables.specs.declared.symbol_table.Symbol.{Symbol};
 ghost use Rattle.unity_syntax.specs.declared.expression.Expr.{Expr};
-ghost use Rattle.unity_meaning.specs.Value.{count_up};
-ghost use Rattle.expansion_laws.specs.declared.effects.Count.{Count};
-ghost use Rattle.expansion_laws.specs.Forming.{fit_values, numbers};
-ghost use Rattle.expansion_laws.specs.Measures as measures;
-ghost use Rattle.expansion_laws.specs.Assigning as spec;
+ghost use Rattle.meaning_documents.specs.Value.{count_up};
+ghost use Rattle.expand_rules.specs.declared.effects.Count.{Count};
+ghost use Rattle.expand_rules.specs.Forming.{fit_values, numbers};
+ghost use Rattle.expand_rules.specs.Measures as measures;
+ghost use Rattle.expand_rules.specs.Assigning as spec;
 ghost use Rattle.expand_expressions.specs.Places.{bound_names};
-ghost use Rattle.expand_assignments.specs.Adding.{Tells, inside_count, instances_count};
+ghost use Rattle.expand_assignments.specs.Adding.{TellsCount, inside_count, instances_count};
 
 use crate::counts::{both_counts, nearer, one_node_more};
 use crate::places::bound_at;
 use case_tables::Symbol;
 use expand_expressions::{Env, Numbers, range_misfit, range_numbers, with_bound};
-use expansion_laws::Count;
+use expand_rules::Count;
 use unity_base::Seq;
 use unity_syntax::{Expr, Name, Range};
 
 // A count; none where it is past the limit of nodes.
 fn within(count: Count) -> Option<Count>
-    ensures { Tells result count }
+    ensures { TellsCount result count }
 {
     if count.size > 65_536 {
         None
@@ -32,7 +32,7 @@ fn within(count: Count) -> Option<Count>
 }
 
 fn nothing() -> Option<Count>
-    ensures { Tells result spec.no_count }
+    ensures { TellsCount result spec.no_count }
 {
     Some(Count {
         size: 0,
@@ -44,7 +44,7 @@ fn nothing() -> Option<Count>
 // Both together.
 #[tactic(auto, using(crate::proofs::UnwrittenLaws::past_first, crate::proofs::UnwrittenLaws::past_second))]
 fn joined(a: Option<Count>, b: Option<Count>) -> Option<Count>
-    ensures { (m n : Count) → Tells a m → Tells b n → Tells result (spec.both_counts m n) }
+    ensures { (m n : Count) → TellsCount a m → TellsCount b n → TellsCount result (spec.both_counts m n) }
 {
     match a {
         None => None,
@@ -58,7 +58,7 @@ fn joined(a: Option<Count>, b: Option<Count>) -> Option<Count>
 // One node more.
 #[tactic(auto, using(crate::proofs::UnwrittenLaws::past_more))]
 fn more(a: Option<Count>) -> Option<Count>
-    ensures { (n : Count) → Tells a n → Tells result (spec.one_node_more n) }
+    ensures { (n : Count) → TellsCount a n → TellsCount result (spec.one_node_more n) }
 {
     match a {
         None => None,
@@ -68,8 +68,8 @@ fn more(a: Option<Count>) -> Option<Count>
 
 // With the place of an end that is too large.
 fn ranged(bad_range: Option<u64>, a: Option<Count>) -> Option<Count>
-    ensures { (n : Count) → Tells a n →
-        Tells result (record n { bad_range = measures.nearer bad_range n.bad_range }) }
+    ensures { (n : Count) → TellsCount a n →
+        TellsCount result (record n { bad_range = measures.nearer bad_range n.bad_range }) }
 {
     match a {
         None => None,
@@ -85,7 +85,7 @@ fn ranged(bad_range: Option<u64>, a: Option<Count>) -> Option<Count>
 /// that was unfolded.
 #[cycle(unwritten)]
 pub fn unwritten(e: &Expr, env: &Env) -> Option<Count>
-    ensures { Tells result (spec.unwritten_count e.now (bound_names env.now)) }
+    ensures { TellsCount result (spec.unwritten_count e.now (bound_names env.now)) }
 {
     match e {
         Expr::Implies { left, right, .. } => {
@@ -120,7 +120,7 @@ pub fn unwritten(e: &Expr, env: &Env) -> Option<Count>
 // A part, with those that follow it.
 #[cycle(unwritten)]
 fn parts(first: Option<Count>, rest: &Seq<Expr>, env: &Env) -> Option<Count>
-    ensures { (n : Count) → Tells first n → Tells result (fold spec.both_counts n
+    ensures { (n : Count) → TellsCount first n → TellsCount result (fold spec.both_counts n
         (map (λ (x : Expr). spec.unwritten_count x (bound_names env.now)) rest.now)) }
 {
     let mut whole = first;
@@ -136,7 +136,7 @@ fn parts(first: Option<Count>, rest: &Seq<Expr>, env: &Env) -> Option<Count>
 // The parts of a sum.
 #[cycle(unwritten)]
 fn terms(first: Option<Count>, rest: &Seq<(Symbol, Expr)>, env: &Env) -> Option<Count>
-    ensures { (n : Count) → Tells first n → Tells result (fold spec.both_counts n
+    ensures { (n : Count) → TellsCount first n → TellsCount result (fold spec.both_counts n
         (map (λ (p : Symbol × Expr). spec.unwritten_count p.1 (bound_names env.now)) rest.now)) }
 {
     let mut whole = first;
@@ -151,7 +151,7 @@ fn terms(first: Option<Count>, rest: &Seq<(Symbol, Expr)>, env: &Env) -> Option<
 
 #[cycle(unwritten)]
 fn quantified(name: &Name, range: &Range, of: &Expr, env: &Env) -> Option<Count>
-    ensures { Tells result (spec.quantified_count (bound_names env.now) range.now
+    ensures { TellsCount result (spec.quantified_count (bound_names env.now) range.now
         (instances_count (bound_names env.now) name.now of.now
         (fit_values (numbers (bound_names env.now)) range.now))) }
 {
@@ -164,7 +164,7 @@ fn quantified(name: &Name, range: &Range, of: &Expr, env: &Env) -> Option<Count>
 fn instances(name: &Name, numbers: &Numbers, of: &Expr, env: &Env) -> Option<Count>
     requires first { unsigned_abs numbers.now.first ≤ 1000000000 }
     requires count { numbers.now.count ≤ 2000000001 }
-    ensures { Tells result (instances_count (bound_names env.now) name.now of.now
+    ensures { TellsCount result (instances_count (bound_names env.now) name.now of.now
         (count_up numbers.now.first numbers.now.count)) }
 {
     let mut whole = nothing();
@@ -181,7 +181,7 @@ fn instances(name: &Name, numbers: &Numbers, of: &Expr, env: &Env) -> Option<Cou
 fn instance(name: &Name, numbers: &Numbers, i: u64, of: &Expr, env: &Env) -> Option<Count>
     requires first { unsigned_abs numbers.now.first ≤ 1000000000 }
     requires within { i < 2 ^ 31 }
-    ensures { Tells result (inside_count (bound_names env.now) name.now of.now (numbers.now.first +ℤ pos i)) }
+    ensures { TellsCount result (inside_count (bound_names env.now) name.now of.now (numbers.now.first +ℤ pos i)) }
 {
     let inner = with_bound(&*name, bound_at(numbers, i), &*env);
     more(unwritten(of, &inner))

@@ -4,12 +4,12 @@ ghost use Rattle.std.specs.Prelude.{◌≡◌, ◌∷◌, [], ◌++◌, ◌+◌,
 ghost use Rattle.std.specs.Prelude.{MatchOption};
 ghost use Rattle.std.specs.Option.{option_and_then, option_map};
 ghost use Rattle.core_terms.specs.Folding.{and_form, not_form, number_of};
-ghost use Rattle.unity_meaning.specs.Names.{slot_at};
-ghost use Rattle.unity_meaning.specs.Value.{range_size};
-ghost use Rattle.unity_meaning.specs.Setting.{slots_for};
+ghost use Rattle.meaning_documents.specs.Names.{slot_at};
+ghost use Rattle.meaning_documents.specs.Value.{range_size};
+ghost use Rattle.meaning_documents.specs.Setting.{slots_for};
 ghost use Rattle.expand_expressions.specs.Sound.{IsSound, of_number, of_truth};
 ghost use Rattle.expand_expressions.specs.Places.{ends_of, variable_of};
-ghost use Rattle.expansion_laws.specs.Assigning as spec;
+ghost use Rattle.expand_rules.specs.Assigning as spec;
 ghost use Rattle.expand_assignments.specs.Adding.{Adds, slot_ends};
 
 use crate::arrays::{outside, push_spread};
@@ -17,7 +17,7 @@ use crate::counts::{both_counts, count_in, index_count, spread_count, stray_coun
 use crate::places::ArraySlots;
 use core_terms::{CWrite, copy_form};
 use expand_expressions::{NumberCore, Refusal, TruthCore, VariableSlots};
-use expansion_laws::{Count, Effect};
+use expand_rules::{Count, Effect};
 use std::alloc::{AllocError, Global};
 
 fn push_outside(alloc: Global, c: &TruthCore, effect: &mut Effect) -> Result<(), AllocError>

@@ -16,17 +16,17 @@ use borrow.Author.Tests.{ltb-true}
 use Rattle.indexmap.specs.IndexMap.{insert_entry}
 use Rattle.unity_syntax.specs.declared.declaration.Var.{Var}
 use Rattle.unity_syntax.specs.declared.document.Part.{Part}
-use Rattle.unity_meaning.specs.Names.{Variable}
-use Rattle.unity_meaning.specs.Value.{range_size}
-use Rattle.unity_meaning.specs.Setting.{slots_for, slot_count, type_indices, variable_from, with_declaration}
-use Rattle.unity_meaning.specs.Setting.{with_declarations, declarations, programs_among}
-use Rattle.name_scopes.specs.Scope.{entries, seen_entries}
-use Rattle.name_scopes.proofs.Lookups.{inserted}
+use Rattle.meaning_documents.specs.Names.{Variable}
+use Rattle.meaning_documents.specs.Value.{range_size}
+use Rattle.meaning_documents.specs.Setting.{slots_for, slot_count, type_indices, variable_from, with_declaration}
+use Rattle.meaning_documents.specs.Setting.{with_declarations, declarations, programs_among}
+use Rattle.names_rules.specs.Scope.{entries, seen_entries}
+use Rattle.names_rules.proofs.Lookups.{inserted}
 use Rattle.expand_declarations.proofs.TableLaws.{bytes_eq-sym, insert_absent}
 use Rattle.expand_expressions.specs.declared.places.VariableSlots.{VariableSlots}
 use Rattle.expand_expressions.specs.Places.{HasSlots, ends_of, variable_of, variables_of, AreNear}
 use Rattle.expand_declarations.specs.declared.layout.Layout.{Layout}
-use Rattle.document_words.specs.Texts.{Texts}
+use Rattle.expand_declarations.specs.Texts.{Texts}
 use Rattle.expand_declarations.specs.Slots.{slot_at, index_values, slots_of, element_slots, is_known, new_slots}
 use Rattle.expand_declarations.specs.Slots.{part_declarations, declared_by, most_slots, past_from, variables_in}
 use Rattle.expand_declarations.specs.Slots.{IsCounted, Laid, AreNearEnds, HasNearIndices, DeclaredNear, HaveSlots}

@@ -9,8 +9,8 @@ use Rattle.std.proofs.lemmas.Int.{ints}
 use Rattle.std.proofs.lemmas.List.Sums.{fold-append}
 use lib.Signed.{◌≤ℤ◌}
 use Rattle.indexmap.specs.IndexMap.{insert_entry}
-use Rattle.unity_meaning.specs.Names.{Bindings, natural, number_of, or_zero, slot_at, slot_named}
-use Rattle.unity_meaning.specs.Value.{range_size}
+use Rattle.meaning_documents.specs.Names.{Bindings, natural, number_of, or_zero, slot_at, slot_named}
+use Rattle.meaning_documents.specs.Value.{range_size}
 use Rattle.expand_expressions.specs.declared.places.VariableSlots.{VariableSlots}
 use Rattle.expand_expressions.specs.Places.{ends_of, variables_of}
 use Rattle.expand_declarations.specs.Start.{with_word, with_words}

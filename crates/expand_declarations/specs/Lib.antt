@@ -1,3 +1,5 @@
+pub mod Texts
+pub mod WordNumbers
 pub mod Numbers
 pub mod Slots
 pub mod Shown

@@ -17,7 +17,7 @@ use Rattle.unity_syntax.specs.declared.proof.Param.{Param}
 use Rattle.unity_syntax.specs.declared.proof.Rule.{Rule}
 use Rattle.unity_syntax.specs.declared.proof.Step.{Step}
 use Rattle.unity_syntax.specs.declared.document.Schedule.{Schedule}
-use Rattle.unity_meaning.specs.Value.{end_value, range_ends, signed, with_offset}
+use Rattle.meaning_documents.specs.Value.{end_value, range_ends, signed, with_offset}
 use Rattle.core_terms.specs.declared.trees.Range.{Range}
 use Rattle.core_terms.specs.declared.documents.Arg.{Arg}
 use Rattle.core_terms.specs.declared.documents.Ref.{Ref}
@@ -25,11 +25,11 @@ use Rattle.core_terms.specs.declared.documents.Helper.{Helper}
 use Rattle.core_terms.specs.declared.documents.CRule.{CRule}
 use Rattle.core_terms.specs.declared.documents.Choice.{Choice}
 use Rattle.core_terms.specs.declared.documents.CSchedule.{CSchedule}
-use Rattle.name_scopes.specs.Scope.{Bounds, Params}
-use Rattle.name_scopes.specs.Declarations.{some_of}
-use Rattle.name_scopes.specs.WellNamed.{param_number}
-use Rattle.document_words.specs.Texts.{Texts}
-use Rattle.document_words.specs.WordNumbers.{word_number}
+use Rattle.names_rules.specs.Scope.{Bounds, Params}
+use Rattle.names_rules.specs.Declarations.{some_of}
+use Rattle.names_rules.specs.WellNamed.{param_number}
+use Rattle.expand_declarations.specs.Texts.{Texts}
+use Rattle.expand_declarations.specs.WordNumbers.{word_number}
 use Rattle.expand_declarations.specs.Numbers.{core_range}
 
 -- parameters

@@ -3,8 +3,8 @@ use Rattle.std.specs.Prelude.{ℕ, ◌+◌, List, [], ◌∷◌, map, cond, Bool
 use Rattle.std.specs.List.{list_any}
 use Rattle.unity_syntax.specs.declared.declaration.Var.{Var}
 use Rattle.core_terms.specs.declared.programs.CSlot.{CSlot}
-use Rattle.document_words.specs.Texts.{Texts}
-use Rattle.document_words.specs.WordNumbers.{word_number}
+use Rattle.expand_declarations.specs.Texts.{Texts}
+use Rattle.expand_declarations.specs.WordNumbers.{word_number}
 
 -- the places of the items that pass a test, where the first item has this place
 abbrev pub places_from : {X : Type 0} → (X → Bool) → ℕ → List X → List ℕ

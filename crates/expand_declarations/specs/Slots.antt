@@ -9,19 +9,19 @@ use Rattle.unity_syntax.specs.declared.name.Range.{Range as TextRange}
 use Rattle.unity_syntax.specs.declared.declaration.Plain.{Plain}
 use Rattle.unity_syntax.specs.declared.declaration.Var.{Var}
 use Rattle.unity_syntax.specs.declared.document.Part.{Part}
-use Rattle.unity_meaning.specs.Names.{Variable}
-use Rattle.unity_meaning.specs.Value.{range_ends, range_size, count_up}
-use Rattle.unity_meaning.specs.Setting.{element_type, type_indices, plain_range, slot_count, with_declaration}
-use Rattle.unity_meaning.specs.Setting.{with_declarations, declarations, setting_of, programs_among}
+use Rattle.meaning_documents.specs.Names.{Variable}
+use Rattle.meaning_documents.specs.Value.{range_ends, range_size, count_up}
+use Rattle.meaning_documents.specs.Setting.{element_type, type_indices, plain_range, slot_count, with_declaration}
+use Rattle.meaning_documents.specs.Setting.{with_declarations, declarations, setting_of, programs_among}
 use Rattle.core_terms.specs.declared.programs.Print.{Print}
 use Rattle.core_terms.specs.declared.programs.CSlot.{CSlot}
-use Rattle.name_scopes.specs.Scope.{entries}
+use Rattle.names_rules.specs.Scope.{entries}
 use Rattle.expand_expressions.specs.declared.places.VariableSlots.{VariableSlots}
 use Rattle.expand_expressions.specs.Places.{HasSlots, variables_of}
 use Rattle.expand_declarations.specs.declared.layout.Layout.{Layout}
 use Rattle.expand_declarations.specs.declared.layout.Laying.{Laying}
-use Rattle.document_words.specs.Texts.{Texts}
-use Rattle.document_words.specs.WordNumbers.{word_number}
+use Rattle.expand_declarations.specs.Texts.{Texts}
+use Rattle.expand_declarations.specs.WordNumbers.{word_number}
 use Rattle.expand_declarations.specs.Numbers.{core_range}
 
 -- the ends of a range that names nothing

@@ -4,9 +4,9 @@ ghost use Rattle.std.specs.Prelude.{◌≡◌, pos, is_some, IfOk, OnOk};
 ghost use Rattle.std.specs.List.{flat_map};
 ghost use Rattle.std.specs.Map.{lookup};
 ghost use Rattle.std.specs.Str.{bytes_eq};
-ghost use Rattle.unity_meaning.specs.Setting.{declarations, plain_words, with_places};
-ghost use Rattle.name_scopes.specs.Scope.{entries};
-ghost use Rattle.name_scopes.specs.Declarations.{items_of};
+ghost use Rattle.meaning_documents.specs.Setting.{declarations, plain_words, with_places};
+ghost use Rattle.names_rules.specs.Scope.{entries};
+ghost use Rattle.names_rules.specs.Declarations.{items_of};
 ghost use Rattle.expand_declarations.specs.Start as spec;
 
 use crate::numbers::literal;

@@ -2,19 +2,19 @@
 
 ghost use Rattle.std.specs.Prelude.{◌≡◌, ◌+◌, ◌-◌, ◌≤◌, ◌^◌, [], ◌∷◌, ◌++◌, pos, ◌+ℤ◌, ◌<◌, false, map, Some, None};
 ghost use Rattle.std.specs.Prelude.{IfOk, OnOk, length, option_map};
-ghost use Rattle.unity_meaning.specs.Value.{range_size};
-ghost use Rattle.unity_meaning.specs.Setting.{declarations, is_boolean, element_type, plain_range, slots_for};
-ghost use Rattle.unity_meaning.specs.Setting.{type_indices, variable_from};
-ghost use Rattle.name_scopes.specs.Scope.{entries};
-ghost use Rattle.name_scopes.specs.Declarations.{items_of};
-ghost use Rattle.document_words.specs.WordNumbers.{word_number};
+ghost use Rattle.meaning_documents.specs.Value.{range_size};
+ghost use Rattle.meaning_documents.specs.Setting.{declarations, is_boolean, element_type, plain_range, slots_for};
+ghost use Rattle.meaning_documents.specs.Setting.{type_indices, variable_from};
+ghost use Rattle.names_rules.specs.Scope.{entries};
+ghost use Rattle.names_rules.specs.Declarations.{items_of};
+ghost use Rattle.expand_declarations.specs.WordNumbers.{word_number};
 ghost use Rattle.expand_declarations.specs.Numbers.{core_range};
 ghost use Rattle.expand_expressions.specs.Places.{ends_of, variable_of, variables_of};
 ghost use Rattle.expand_declarations.specs.Slots as spec;
 
 use crate::numbers::{fixed_range, literal};
+use crate::words::WordTable;
 use core_terms::{CSlot, Print, Range};
-use document_words::WordTable;
 use expand_expressions::{VariableSlots, VariableTable};
 use indexmap::IndexMap;
 use std::alloc::{AllocError, Global};

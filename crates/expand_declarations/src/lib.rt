@@ -1,5 +1,5 @@
-//! The parts of the core form that need no expression: slots, start values, ranges, parameters,
-//! references and schedules.
+//! The parts of the core form that need no expression: words with their numbers, slots, start values, ranges,
+//! parameters, references and schedules.
 #![tactic(auto)]
 
 mod enumerations;
@@ -7,10 +7,13 @@ mod laws;
 mod layout;
 mod numbers;
 mod params;
+mod proof_texts;
 mod references;
 mod schedules;
 mod shown;
 mod start;
+mod texts;
+mod words;
 
 pub use enumerations::enumeration_words;
 pub use laws::parts_before;
@@ -23,3 +26,5 @@ pub use references::{
 pub use schedules::core_schedule;
 pub use shown::shown_slots;
 pub use start::start_values;
+pub use texts::document_words;
+pub use words::WordTable;

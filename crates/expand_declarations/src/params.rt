@@ -1,16 +1,16 @@
 //! The parameters of steps, and the names that their terms bind.
 
 ghost use Rattle.std.specs.Prelude.{◌≡◌, [], ◌++◌, map, fold, IfOk, OnOk};
-ghost use Rattle.name_scopes.specs.Scope.{entries};
-ghost use Rattle.name_scopes.specs.Declarations.{some_of};
-ghost use Rattle.document_words.specs.WordNumbers.{word_number};
+ghost use Rattle.names_rules.specs.Scope.{entries};
+ghost use Rattle.names_rules.specs.Declarations.{some_of};
+ghost use Rattle.expand_declarations.specs.WordNumbers.{word_number};
 ghost use Rattle.expand_declarations.specs.References as spec;
 
 use crate::numbers::fixed_range;
+use crate::words::WordTable;
 use core_terms::Range;
-use document_words::WordTable;
 use indexmap::IndexMap;
-use name_scopes::ParamTable;
+use names_rules::ParamTable;
 use std::alloc::{AllocError, Global};
 use unity_base::Seq;
 use unity_syntax::{Param, Rule, Step, Term};

@@ -2,18 +2,18 @@
 
 ghost use Rattle.std.specs.Prelude.{◌≡◌, ◌∷◌, ◌++◌, map, Option, IfOk, OnOk};
 ghost use Rattle.std.specs.Option.{option_and_then};
-ghost use Rattle.unity_meaning.specs.Steps as steps;
-ghost use Rattle.name_scopes.specs.Scope.{bounds, entries};
-ghost use Rattle.name_scopes.specs.Declarations.{some_of};
-ghost use Rattle.name_scopes.specs.WellNamed.{param_number};
-ghost use Rattle.document_words.specs.WordNumbers.{word_number};
+ghost use Rattle.meaning_documents.specs.Steps as steps;
+ghost use Rattle.names_rules.specs.Scope.{bounds, entries};
+ghost use Rattle.names_rules.specs.Declarations.{some_of};
+ghost use Rattle.names_rules.specs.WellNamed.{param_number};
+ghost use Rattle.expand_declarations.specs.WordNumbers.{word_number};
 ghost use Rattle.expand_declarations.specs.References as spec;
 
 use crate::numbers::{literal, offset};
+use crate::words::WordTable;
 use case_tables::{Kind, RuleName, Symbol, Word};
 use core_terms::{Arg, CRule, Helper, Ref};
-use document_words::WordTable;
-use name_scopes::{Env, Meaning, ParamTable, bound, param};
+use names_rules::{Env, Meaning, ParamTable, bound, param};
 use std::alloc::{AllocError, Global};
 use unity_base::Seq;
 use unity_syntax::{Claim, End, Inst, Name, Ref as TextRef};

@@ -1,13 +1,13 @@
 //! Schedules.
 
 ghost use Rattle.std.specs.Prelude.{◌≡◌, [], ◌++◌, map, IfOk, OnOk};
-ghost use Rattle.unity_meaning.specs.Value.{end_value};
-ghost use Rattle.name_scopes.specs.Declarations.{some_of};
+ghost use Rattle.meaning_documents.specs.Value.{end_value};
+ghost use Rattle.names_rules.specs.Declarations.{some_of};
 ghost use Rattle.expand_declarations.specs.References as spec;
 
 use crate::numbers::fixed_end;
+use crate::words::WordTable;
 use core_terms::{CSchedule, Choice};
-use document_words::WordTable;
 use std::alloc::{AllocError, Global};
 use unity_base::Seq;
 use unity_syntax::{End, Inst, Schedule};

@@ -2,11 +2,11 @@
 
 ghost use Rattle.std.specs.Prelude.{◌≡◌, ◌≤◌, ℕ, false, nat_eq, length, IfOk, OnOk};
 ghost use Rattle.std.specs.List.{list_any};
-ghost use Rattle.name_scopes.specs.Declarations.{items_of};
+ghost use Rattle.names_rules.specs.Declarations.{items_of};
 ghost use Rattle.expand_declarations.specs.Shown.{declared_names, is_slot_of, places_from, shown_slots};
 
+use crate::words::WordTable;
 use core_terms::CSlot;
-use document_words::WordTable;
 use indexmap::IndexSet;
 use std::alloc::{AllocError, Global};
 use unity_base::Seq;

@@ -1,8 +1,8 @@
 -- Which equation two cores have.
 use Rattle.std.proofs.Common.{◌≡◌, Bool, true, false, ◌&&◌, refl}
-use Rattle.expansion_laws.specs.declared.cores.Core.{Core}
-use Rattle.expansion_laws.specs.declared.cores.Formed.{Formed}
-use Rattle.expansion_laws.specs.Forming.{difference, is_zero, conjunction, implication, equation_by, equation}
+use Rattle.expand_rules.specs.declared.cores.Core.{Core}
+use Rattle.expand_rules.specs.declared.cores.Formed.{Formed}
+use Rattle.expand_rules.specs.Forming.{difference, is_zero, conjunction, implication, equation_by, equation}
 use Rattle.expand_expressions.specs.Sound.{is_truth_core}
 
 truths : (c d : Core) (a b : Formed) → is_truth_core c ≡ true → is_truth_core d ≡ true →

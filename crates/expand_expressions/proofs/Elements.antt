@@ -13,17 +13,17 @@ use Rattle.core_terms.specs.Weights.{one_weight, plain_weights, plain_weight}
 use Rattle.core_terms.proofs.WeightLaws.{own_within, weights-Const}
 use Rattle.core_terms.specs.declared.trees.CTerm.TheVariants.{Const, Slot, rolls-Slot}
 use Rattle.core_terms.specs.Folding.{number_of, choice_term, zero_form, difference_term}
-use Rattle.unity_meaning.specs.Names.{slot_at, natural}
-use Rattle.unity_meaning.specs.Value.{range_size}
-use Rattle.name_laws.specs.SlotLaws.{variable_named}
-use Rattle.expansion_laws.specs.declared.cores.Formed.{Formed}
+use Rattle.meaning_documents.specs.Names.{slot_at, natural}
+use Rattle.meaning_documents.specs.Value.{range_size}
+use Rattle.meaning_documents.specs.Names.{variable_named}
+use Rattle.expand_rules.specs.declared.cores.Formed.{Formed}
 use Rattle.std.specs.Prelude.{MatchOption}
-use Rattle.name_scopes.specs.Scope.{entries}
-use Rattle.expansion_laws.specs.Limits.{is_past}
-use Rattle.expansion_laws.proofs.Growing.{typed_keeps}
+use Rattle.names_rules.specs.Scope.{entries}
+use Rattle.expand_rules.specs.Limits.{is_past}
+use Rattle.expand_rules.proofs.Growing.{typed_keeps}
 use Rattle.expand_expressions.specs.declared.places.Known.{Known}
-use Rattle.expansion_laws.specs.Forming.{slot_term, chain, typed, element_of}
-use Rattle.expansion_laws.proofs.KnownChains.{chain_known}
+use Rattle.expand_rules.specs.Forming.{slot_term, chain, typed, element_of}
+use Rattle.expand_rules.proofs.KnownChains.{chain_known}
 use Rattle.expand_expressions.specs.declared.places.VariableSlots.{VariableSlots}
 use Rattle.expand_expressions.specs.Places.{IsReady, HasSlots, variable_of, variables_of, element_slots}
 

@@ -3,11 +3,11 @@ use Rattle.std.proofs.Common.{◌≡◌, ℕ, zero, suc, ℤ, pos, negsuc, ◌�
 use Rattle.std.proofs.Common.{cond, Option, Some, None, refl}
 use Rattle.std.specs.Map.{lookup}
 use Rattle.std.specs.Str.{bytes_eq}
-use Rattle.unity_meaning.specs.Names.{number_of, or_zero, natural}
+use Rattle.meaning_documents.specs.Names.{number_of, or_zero, natural}
 use Rattle.std.specs.Int.RustNames.{unsigned_abs}
 use Rattle.std.proofs.lemmas.Int.{ints}
-use Rattle.expansion_laws.specs.declared.cores.Bound.{Bound}
-use Rattle.expansion_laws.specs.Forming.{numbers, number_in}
+use Rattle.expand_rules.specs.declared.cores.Bound.{Bound}
+use Rattle.expand_rules.specs.Forming.{numbers, number_in}
 use Rattle.expand_expressions.specs.Places.{bound_number}
 
 pub number_of_name : (name : List ℕ) (bs : List (List ℕ × Bound)) →

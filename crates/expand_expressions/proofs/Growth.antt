@@ -6,32 +6,33 @@ use Rattle.std.proofs.lemmas.Int.{ints}
 use Rattle.std.specs.Prelude.{fold}
 use Rattle.case_tables.specs.declared.symbol_table.Symbol.{Symbol}
 use Rattle.case_tables.specs.declared.word_table.Word.{Word}
-use Rattle.unity_meaning.specs.Value.{count_up}
-use Rattle.expansion_laws.specs.declared.cores.Formed.{Formed}
-use Rattle.expansion_laws.specs.Limits.{is_past, is_too_large}
-use Rattle.expansion_laws.specs.Forming.{as_number, as_truth, sum, product, conjunction, disjunction, plus, gathered}
-use Rattle.expansion_laws.proofs.Growing.{fold_keeps, as_number_keeps, as_truth_keeps, sum_first, sum_second}
-use Rattle.expansion_laws.proofs.Growing.{product_first, product_second, conjunction_first, conjunction_second}
-use Rattle.expansion_laws.proofs.Growing.{disjunction_first, disjunction_second, plus_first, plus_second}
-use Rattle.expansion_laws.proofs.Growing.{large_of_past, sum_large, product_large, conjunction_large}
-use Rattle.expansion_laws.proofs.Growing.{disjunction_large}
+use Rattle.meaning_documents.specs.Value.{count_up}
+use Rattle.expand_rules.specs.declared.cores.Formed.{Formed}
+use Rattle.expand_rules.specs.Limits.{is_past, is_too_large}
+use Rattle.expand_rules.specs.Forming.{as_number, as_truth, sum, product, conjunction, disjunction, plus, gathered}
+use Rattle.expand_rules.proofs.Growing.{fold_keeps, as_number_keeps, as_truth_keeps, sum_first, sum_second}
+use Rattle.expand_rules.proofs.Growing.{product_first, product_second, conjunction_first, conjunction_second}
+use Rattle.expand_rules.proofs.Growing.{disjunction_first, disjunction_second, plus_first, plus_second}
+use Rattle.expand_rules.proofs.Growing.{large_of_past, sum_large, product_large, conjunction_large}
+use Rattle.expand_rules.proofs.Growing.{disjunction_large}
 use Rattle.expand_expressions.specs.declared.refusal.Refusal.{Refusal}
 use Rattle.expand_expressions.specs.declared.joining.Joint.{Joint}
-use Rattle.expand_expressions.specs.Sound.{Gives, GivesWhole}
+use Rattle.expand_expressions.specs.Sound.{GivesCore, GivesWhole}
 use Rattle.expand_expressions.specs.Joints.{joint_of, begin_of, word_joint, none_of}
 
 -- an answer about a part is one about the whole
-pub passes : (e : Refusal) (a b : Formed) → (is_past a ≡ true → is_past b ≡ true) → Gives (Err e) a → Gives (Err e) b
+pub passes : (e : Refusal) (a b : Formed) → (is_past a ≡ true → is_past b ≡ true) → GivesCore (Err e) a → GivesCore
+    (Err e) b
 passes Refusal.Memory a b f h = tt
 passes Refusal.TooLarge a b f h = f h
 
-pub passes_whole : (e : Refusal) (a b : Formed) → (is_past a ≡ true → is_too_large b ≡ true) → Gives (Err e) a →
+pub passes_whole : (e : Refusal) (a b : Formed) → (is_past a ≡ true → is_too_large b ≡ true) → GivesCore (Err e) a →
     GivesWhole (Err e) b
 passes_whole Refusal.Memory a b f h = tt
 passes_whole Refusal.TooLarge a b f h = f h
 
 pub passes_back : (e : Refusal) (a b : Formed) → (is_too_large a ≡ true → is_past b ≡ true) → GivesWhole (Err e) a →
-    Gives (Err e) b
+    GivesCore (Err e) b
 passes_back Refusal.Memory a b f h = tt
 passes_back Refusal.TooLarge a b f h = f h
 
@@ -173,7 +174,7 @@ first_large which f low n h p = begin_large which f low n h (begin_keeps (word_j
 
 pub passes_at : {X : Type 0} (e : Refusal) (f : X → Formed) (x y : X) (b : Formed) → x ≡ y →
     (is_past (f y) ≡ true → is_past b ≡ true) →
-    Gives (Err e) (f x) → Gives (Err e) b
+    GivesCore (Err e) (f x) → GivesCore (Err e) b
 passes_at e f x y b q k h = passes e (f x) b (λ i. k (subst (λ z. is_past (f z) ≡ true) q i)) h
 
 module _ {X : Type 0} (f : X → Formed) (j : Joint) (whole : Formed) (items rest : List X) (i : ℕ) (begin : Formed)

@@ -5,11 +5,11 @@ use Rattle.std.specs.Map.{lookup}
 use Rattle.std.specs.Str.{bytes_eq}
 use Rattle.core_terms.specs.declared.trees.CTerm.TheVariants.{Slot}
 use Rattle.core_terms.specs.declared.trees.Range.{Range}
-use Rattle.unity_meaning.specs.Names.{slot_at}
-use Rattle.name_laws.specs.SlotLaws.{variable_named}
-use Rattle.expansion_laws.specs.declared.cores.Formed.{Formed}
-use Rattle.expansion_laws.specs.Measures.{ends_weight}
-use Rattle.expansion_laws.specs.Forming.{as_truth, varying, typed, variable_formed, element_of}
+use Rattle.meaning_documents.specs.Names.{slot_at}
+use Rattle.meaning_documents.specs.Names.{variable_named}
+use Rattle.expand_rules.specs.declared.cores.Formed.{Formed}
+use Rattle.expand_rules.specs.Measures.{ends_weight}
+use Rattle.expand_rules.specs.Forming.{as_truth, varying, typed, variable_formed, element_of}
 use Rattle.expand_expressions.specs.declared.places.VariableSlots.{VariableSlots}
 use Rattle.expand_expressions.specs.Places.{ends_of, variable_of, variables_of, plain_slots, no_indices, slot_formed}
 

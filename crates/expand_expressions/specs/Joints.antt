@@ -2,9 +2,9 @@
 use Rattle.std.specs.Prelude.{pos}
 use Rattle.case_tables.specs.declared.word_table.Word.{Word}
 use Rattle.core_terms.specs.declared.trees.CForm.TheVariants.{Top, Bottom}
-use Rattle.expansion_laws.specs.declared.cores.Formed.{Formed}
-use Rattle.expansion_laws.specs.Forming.{as_number, as_truth, sum, product, conjunction, disjunction, number_constant}
-use Rattle.expansion_laws.specs.Forming.{truth_constant}
+use Rattle.expand_rules.specs.declared.cores.Formed.{Formed}
+use Rattle.expand_rules.specs.Forming.{as_number, as_truth, sum, product, conjunction, disjunction, number_constant}
+use Rattle.expand_rules.specs.Forming.{truth_constant}
 use Rattle.expand_expressions.specs.declared.joining.Joint.{Joint}
 
 abbrev pub joint_of : Joint → Formed → Formed → Formed

@@ -4,17 +4,17 @@ use Rattle.std.specs.Int.RustNames.{unsigned_abs}
 use Rattle.std.specs.Map.{lookup}
 use Rattle.std.specs.Str.{bytes_eq}
 use Rattle.core_terms.specs.declared.trees.Range.{Range}
-use Rattle.unity_meaning.specs.Names.{Variable}
-use Rattle.unity_meaning.specs.Setting.{slots_for}
-use Rattle.name_scopes.specs.Scope.{entries}
-use Rattle.expansion_laws.specs.declared.cores.Bound.{Bound}
-use Rattle.expansion_laws.specs.declared.cores.Formed.{Formed}
-use Rattle.expansion_laws.specs.Forming.{Scope, number_in, number_constant, as_truth, varying, variable_formed}
-use Rattle.expansion_laws.specs.Forming.{formed_or_zero, no_element, element_by}
-use Rattle.expansion_laws.specs.Measures.{ends_weight}
+use Rattle.meaning_documents.specs.Names.{Variable}
+use Rattle.meaning_documents.specs.Setting.{slots_for}
+use Rattle.names_rules.specs.Scope.{entries}
+use Rattle.expand_rules.specs.declared.cores.Bound.{Bound}
+use Rattle.expand_rules.specs.declared.cores.Formed.{Formed}
+use Rattle.expand_rules.specs.Forming.{Scope, number_in, number_constant, as_truth, varying, variable_formed}
+use Rattle.expand_rules.specs.Forming.{formed_or_zero, no_element, element_by}
+use Rattle.expand_rules.specs.Measures.{ends_weight}
 use Rattle.core_terms.specs.declared.trees.CTerm.TheVariants.{Slot}
 use Rattle.std.specs.Option.{option_or}
-use Rattle.name_laws.specs.SlotLaws.{variable_named}
+use Rattle.meaning_documents.specs.Names.{variable_named}
 use Rattle.expand_expressions.specs.declared.places.VariableSlots.{VariableSlots}
 use Rattle.expand_expressions.specs.declared.places.Known.{Known}
 use Rattle.expand_expressions.specs.declared.places.Env.{Env, fold-Env}

@@ -2,30 +2,30 @@
 use Rattle.std.specs.Prelude.{◌≡◌, ℕ, ◌^◌, ◌<◌, ◌≤◌, Bool, true, false, Result, Ok, Err}
 use Rattle.core_terms.specs.Folding.{number_of, truth_of}
 use Rattle.core_terms.specs.Weights.{plain_weights, plain_weight}
-use Rattle.expansion_laws.specs.declared.cores.Core.{Core}
-use Rattle.expansion_laws.specs.declared.cores.Measure.{Measure}
-use Rattle.expansion_laws.specs.declared.cores.Formed.{Formed}
-use Rattle.expansion_laws.specs.Limits.{is_past, is_too_large}
+use Rattle.expand_rules.specs.declared.cores.Core.{Core}
+use Rattle.expand_rules.specs.declared.cores.Measure.{Measure}
+use Rattle.expand_rules.specs.declared.cores.Formed.{Formed}
+use Rattle.expand_rules.specs.Limits.{is_past, is_too_large}
 use Rattle.expand_expressions.specs.declared.refusal.Refusal.{Refusal}
 use Rattle.expand_expressions.specs.declared.operations.NumberCore.{NumberCore}
 use Rattle.expand_expressions.specs.declared.operations.TruthCore.{TruthCore}
 
 -- what stands beside the tree is known of it, and it weighs no more than is counted
-abbrev pub Fits : Core → Measure → Type 0
-Fits (Core.Number t known) m =
+abbrev pub FitsMeasure : Core → Measure → Type 0
+FitsMeasure (Core.Number t known) m =
     (known ≡ number_of t) × ((plain_weights t).own ≤ m.own) × ((plain_weights t).most ≤ m.most)
-Fits (Core.Truth f known) m = (known ≡ truth_of f) × (plain_weight f ≤ m.most)
+FitsMeasure (Core.Truth f known) m = (known ≡ truth_of f) × (plain_weight f ≤ m.most)
 
 pub record IsSound (a : Formed) : Type 0 where
-  pub fits : Fits a.core a.measure
+  pub fits : FitsMeasure a.core a.measure
   pub least : a.measure.own ≤ a.measure.most
   pub size : a.measure.size ≤ 65537
 
 -- a call gives this, or stops because what this is a part of is too large; want of memory says nothing
-abbrev pub Gives : Result Formed Refusal → Formed → Type 0
-Gives (Ok a) b = a ≡ b
-Gives (Err Refusal.Memory) b = Unit {0}
-Gives (Err Refusal.TooLarge) b = is_past b ≡ true
+abbrev pub GivesCore : Result Formed Refusal → Formed → Type 0
+GivesCore (Ok a) b = a ≡ b
+GivesCore (Err Refusal.Memory) b = Unit {0}
+GivesCore (Err Refusal.TooLarge) b = is_past b ≡ true
 
 -- a number, and a truth, as what they are
 abbrev pub of_number : NumberCore → Formed

@@ -8,12 +8,12 @@ ghost use Rattle.std.specs.Str.{bytes_eq};
 ghost use Rattle.core_terms.specs.declared.trees.CTerm.TheVariants.{Const, Slot};
 ghost use Rattle.core_terms.specs.Folding.{number_of, choice_term, zero_form, difference_term};
 ghost use Rattle.core_terms.specs.Weights.{plain_weights};
-ghost use Rattle.unity_meaning.specs.Names.{slot_at};
-ghost use Rattle.unity_meaning.specs.Value.{range_size};
-ghost use Rattle.name_laws.specs.SlotLaws.{variable_named};
-ghost use Rattle.expansion_laws.specs.Forming as spec;
-ghost use Rattle.expansion_laws.specs.Forming.{slot_term};
-ghost use Rattle.expand_expressions.specs.Sound.{IsSound, Gives, of_number};
+ghost use Rattle.meaning_documents.specs.Names.{slot_at};
+ghost use Rattle.meaning_documents.specs.Value.{range_size};
+ghost use Rattle.meaning_documents.specs.Names.{variable_named};
+ghost use Rattle.expand_rules.specs.Forming as spec;
+ghost use Rattle.expand_rules.specs.Forming.{slot_term};
+ghost use Rattle.expand_expressions.specs.Sound.{IsSound, GivesCore, of_number};
 ghost use Rattle.expand_expressions.specs.Places.{IsReady, HasSlots, IsNear, scope, variable_of, variables_of, ends_of};
 ghost use Rattle.expand_expressions.specs.Places.{element_slots};
 
@@ -24,7 +24,7 @@ use crate::products::{is_past_by, limited};
 use crate::refusal::Refusal;
 use crate::words::typed;
 use core_terms::{CTerm, Range, choice_known, difference_known, held_term, zero_known};
-use expansion_laws::{Core, Formed};
+use expand_rules::{Core, Formed};
 use std::alloc::{AllocError, Global};
 use unity_base::Held;
 use unity_syntax::Name;
@@ -238,7 +238,7 @@ fn array(alloc: Global, v: VariableSlots, ends: Range, index: NumberCore) -> Res
     requires light { index.measure.most ≤ 2 ^ 62 + 1 }
     requires near { IsNear ends }
     requires slots { v.first + range_size (ends_of ends) ≤ 2 ^ 32 }
-    ensures formed { Gives result (spec.array_formed (variable_of [] v) (of_number index) (ends_of ends)) }
+    ensures formed { GivesCore result (spec.array_formed (variable_of [] v) (of_number index) (ends_of ends)) }
     ensures sound { IfOk result IsSound }
     ensures light { IfOk result (λ f. f.measure.most ≤ 2 ^ 62) }
 {
@@ -261,7 +261,7 @@ fn array(alloc: Global, v: VariableSlots, ends: Range, index: NumberCore) -> Res
 // What is read of no array.
 fn no_element(alloc: Global, index: NumberCore) -> Result<Formed, Refusal>
     requires sound { IsSound (of_number index) }
-    ensures formed { Gives result (spec.no_element (of_number index)) }
+    ensures formed { GivesCore result (spec.no_element (of_number index)) }
     ensures sound { IfOk result IsSound }
     ensures light { IfOk result (λ f. f.measure.most ≤ 2 ^ 62) }
 {
@@ -287,7 +287,7 @@ fn typed_array(
     requires light { index.measure.most ≤ 2 ^ 62 + 1 }
     requires near { IsNear ends }
     requires slots { v.first + range_size (ends_of ends) ≤ 2 ^ 32 }
-    ensures formed { Gives result (spec.typed (variable_of [] v)
+    ensures formed { GivesCore result (spec.typed (variable_of [] v)
         (spec.array_formed (variable_of [] v) (of_number index) (ends_of ends))) }
     ensures sound { IfOk result IsSound }
     ensures light { IfOk result (λ f. f.measure.most ≤ 2 ^ 62) }
@@ -304,7 +304,7 @@ fn read_at(
     requires sound { IsSound (of_number index) }
     requires light { index.measure.most ≤ 2 ^ 62 + 1 }
     requires slots { MatchOption variable (Unit {0}) HasSlots }
-    ensures formed { Gives result (element_slots variable (of_number index)) }
+    ensures formed { GivesCore result (element_slots variable (of_number index)) }
     ensures sound { IfOk result IsSound }
     ensures light { IfOk result (λ f. f.measure.most ≤ 2 ^ 62) }
 {
@@ -329,7 +329,7 @@ pub fn element(
     requires ready { IsReady known.now }
     requires sound { IsSound index }
     requires light { index.measure.most ≤ 2 ^ 62 }
-    ensures formed { Gives result (spec.element_of
+    ensures formed { GivesCore result (spec.element_of
         (variable_named name.now.text (scope known.now env.now).variables) (spec.as_number index)) }
     ensures sound { IfOk result IsSound }
     ensures light { IfOk result (λ f. f.measure.most ≤ 2 ^ 62) }

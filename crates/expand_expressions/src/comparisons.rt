@@ -2,7 +2,7 @@
 
 ghost use Rattle.std.specs.Prelude.{◌≡◌, ◌+◌, ◌-◌, ◌*◌, ◌^◌, ◌<◌, ◌≤◌, IfOk, max};
 ghost use Rattle.std.specs.Int.RustNames.{unsigned_abs};
-ghost use Rattle.expansion_laws.specs.Forming as spec;
+ghost use Rattle.expand_rules.specs.Forming as spec;
 ghost use Rattle.core_terms.specs.declared.trees.CForm.TheVariants.{Top, Bottom};
 ghost use Rattle.expand_expressions.specs.Sound.{IsSound, is_truth_core};
 
@@ -12,7 +12,7 @@ use crate::operations::{
 };
 use case_tables::Symbol;
 use core_terms::{CForm, CTerm, held_form, held_term};
-use expansion_laws::{Core, Formed};
+use expand_rules::{Core, Formed};
 use std::alloc::{AllocError, Global};
 use unity_base::Held;
 

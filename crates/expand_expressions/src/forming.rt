@@ -4,10 +4,10 @@ ghost use Rattle.std.specs.Prelude.{◌≡◌, ◌^◌, ◌≤◌, IfOk, map, fo
 ghost use Rattle.std.specs.Int.RustNames.{unsigned_abs};
 ghost use Rattle.case_tables.specs.declared.symbol_table.Symbol.{Symbol};
 ghost use Rattle.unity_syntax.specs.declared.expression.Expr.{Expr};
-ghost use Rattle.unity_meaning.specs.Value.{count_up};
-ghost use Rattle.expansion_laws.specs.Forming as spec;
-ghost use Rattle.expansion_laws.specs.Forming.{formed};
-ghost use Rattle.expand_expressions.specs.Sound.{IsSound, Gives, GivesWhole};
+ghost use Rattle.meaning_documents.specs.Value.{count_up};
+ghost use Rattle.expand_rules.specs.Forming as spec;
+ghost use Rattle.expand_rules.specs.Forming.{formed};
+ghost use Rattle.expand_expressions.specs.Sound.{IsSound, GivesCore, GivesWhole};
 ghost use Rattle.expand_expressions.specs.Joints.{joint_of, begin_of};
 ghost use Rattle.expand_expressions.specs.Places.{IsReady, scope, bound_names};
 
@@ -24,7 +24,7 @@ use crate::ranges::{Numbers, is_fixed_range, range_misfit, range_numbers};
 use crate::refusal::Refusal;
 use crate::words::word;
 use case_tables::{Symbol, Word};
-use expansion_laws::Formed;
+use expand_rules::Formed;
 use std::alloc::Global;
 use unity_base::Seq;
 use unity_syntax::{Expr, Name, Range};
@@ -37,7 +37,7 @@ use unity_syntax::{Expr, Name, Range};
 #[cycle(form)]
 pub fn form(alloc: Global, e: &Expr, env: &Env, known: &Known) -> Result<Formed, Refusal>
     requires ready { IsReady known.now }
-    ensures formed { Gives result (formed e.now (scope known.now env.now)) }
+    ensures formed { GivesCore result (formed e.now (scope known.now env.now)) }
     ensures sound { IfOk result IsSound }
     ensures light { IfOk result (λ f. f.measure.most ≤ 2 ^ 62) }
 {
@@ -116,7 +116,7 @@ fn all(
     requires ready { IsReady known.now }
     requires sound { IsSound first }
     requires light { first.measure.most ≤ 2 ^ 62 }
-    ensures formed { Gives result (fold (joint_of joint) (begin_of joint first)
+    ensures formed { GivesCore result (fold (joint_of joint) (begin_of joint first)
         (map (λ (x : Expr). formed x (scope known.now env.now)) rest.now)) }
     ensures sound { IfOk result IsSound }
     ensures light { IfOk result (λ f. f.measure.most ≤ 2 ^ 62) }
@@ -142,7 +142,7 @@ fn added(
     requires ready { IsReady known.now }
     requires sound { IsSound first }
     requires light { first.measure.most ≤ 2 ^ 62 }
-    ensures formed { Gives result (fold spec.plus (spec.signed minus first)
+    ensures formed { GivesCore result (fold spec.plus (spec.signed minus first)
         (map (λ (p : Symbol × Expr). (p.0, formed p.1 (scope known.now env.now))) rest.now)) }
     ensures sound { IfOk result IsSound }
     ensures light { IfOk result (λ f. f.measure.most ≤ 2 ^ 62) }
@@ -167,7 +167,7 @@ fn quantified(
     known: &Known,
 ) -> Result<Formed, Refusal>
     requires ready { IsReady known.now }
-    ensures formed { Gives result (spec.quantified (bound_names env.now) range.now (spec.gathered which
+    ensures formed { GivesCore result (spec.quantified (bound_names env.now) range.now (spec.gathered which
         (map (λ z. formed of.now (spec.with_number (scope known.now env.now) name.now.text z))
         (spec.fit_values (spec.numbers (bound_names env.now)) range.now)))) }
     ensures sound { IfOk result IsSound }

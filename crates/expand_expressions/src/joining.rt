@@ -2,8 +2,8 @@
 
 ghost use Rattle.std.specs.Prelude.{◌≡◌, ◌+◌, ◌^◌, ◌<◌, ◌≤◌, ◌+ℤ◌, pos, IfOk};
 ghost use Rattle.std.specs.Int.RustNames.{unsigned_abs};
-ghost use Rattle.expansion_laws.specs.Forming as spec;
-ghost use Rattle.expand_expressions.specs.Sound.{IsSound, Gives};
+ghost use Rattle.expand_rules.specs.Forming as spec;
+ghost use Rattle.expand_expressions.specs.Sound.{IsSound, GivesCore};
 ghost use Rattle.expand_expressions.specs.Joints.{joint_of, begin_of, word_joint, none_of};
 
 use crate::comparisons::{
@@ -14,7 +14,7 @@ use crate::products::{limited, product};
 use crate::ranges::Numbers;
 use crate::refusal::Refusal;
 use case_tables::{Symbol, Word};
-use expansion_laws::{Bound, Formed};
+use expand_rules::{Bound, Formed};
 use std::alloc::{AllocError, Global};
 
 /// What joins parts.
@@ -32,7 +32,7 @@ pub fn joined(alloc: Global, joint: Joint, a: Formed, b: Formed) -> Result<Forme
     requires second { IsSound b }
     requires first_light { a.measure.most ≤ 2 ^ 62 }
     requires second_light { b.measure.most ≤ 2 ^ 62 }
-    ensures formed { Gives result (joint_of joint a b) }
+    ensures formed { GivesCore result (joint_of joint a b) }
     ensures sound { IfOk result IsSound }
     ensures light { IfOk result (λ f. f.measure.most ≤ 2 ^ 62) }
 {
@@ -48,7 +48,7 @@ pub fn joined(alloc: Global, joint: Joint, a: Formed, b: Formed) -> Result<Forme
 pub fn begun(alloc: Global, joint: Joint, a: Formed) -> Result<Formed, Refusal>
     requires sound { IsSound a }
     requires light { a.measure.most ≤ 2 ^ 62 }
-    ensures formed { Gives result (begin_of joint a) }
+    ensures formed { GivesCore result (begin_of joint a) }
     ensures sound { IfOk result IsSound }
     ensures light { IfOk result (λ f. f.measure.most ≤ 2 ^ 62) }
 {
@@ -97,7 +97,7 @@ pub fn bound_at(numbers: Numbers, place: u64) -> Bound
 pub fn signed(alloc: Global, minus: bool, a: Formed) -> Result<Formed, Refusal>
     requires sound { IsSound a }
     requires light { a.measure.most ≤ 2 ^ 62 }
-    ensures formed { Gives result (spec.signed minus a) }
+    ensures formed { GivesCore result (spec.signed minus a) }
     ensures sound { IfOk result IsSound }
     ensures light { IfOk result (λ f. f.measure.most ≤ 2 ^ 62) }
 {
@@ -114,7 +114,7 @@ pub fn plus(alloc: Global, symbol: Symbol, a: Formed, b: Formed) -> Result<Forme
     requires second { IsSound b }
     requires first_light { a.measure.most ≤ 2 ^ 62 }
     requires second_light { b.measure.most ≤ 2 ^ 62 }
-    ensures formed { Gives result (spec.plus a (symbol, b)) }
+    ensures formed { GivesCore result (spec.plus a (symbol, b)) }
     ensures sound { IfOk result IsSound }
     ensures light { IfOk result (λ f. f.measure.most ≤ 2 ^ 62) }
 {
@@ -128,7 +128,7 @@ pub fn plus(alloc: Global, symbol: Symbol, a: Formed, b: Formed) -> Result<Forme
 pub fn denied(alloc: Global, a: Formed) -> Result<Formed, Refusal>
     requires sound { IsSound a }
     requires light { a.measure.most ≤ 2 ^ 62 }
-    ensures formed { Gives result (spec.denial a) }
+    ensures formed { GivesCore result (spec.denial a) }
     ensures sound { IfOk result IsSound }
     ensures light { IfOk result (λ f. f.measure.most ≤ 2 ^ 62) }
 {
@@ -141,7 +141,7 @@ pub fn implied(alloc: Global, a: Formed, b: Formed) -> Result<Formed, Refusal>
     requires second { IsSound b }
     requires first_light { a.measure.most ≤ 2 ^ 62 }
     requires second_light { b.measure.most ≤ 2 ^ 62 }
-    ensures formed { Gives result (spec.implication a b) }
+    ensures formed { GivesCore result (spec.implication a b) }
     ensures sound { IfOk result IsSound }
     ensures light { IfOk result (λ f. f.measure.most ≤ 2 ^ 62) }
 {
@@ -154,7 +154,7 @@ pub fn compared(alloc: Global, relation: Symbol, a: Formed, b: Formed) -> Result
     requires second { IsSound b }
     requires first_light { a.measure.most ≤ 2 ^ 62 }
     requires second_light { b.measure.most ≤ 2 ^ 62 }
-    ensures formed { Gives result (spec.comparison relation a b) }
+    ensures formed { GivesCore result (spec.comparison relation a b) }
     ensures sound { IfOk result IsSound }
     ensures light { IfOk result (λ f. f.measure.most ≤ 2 ^ 62) }
 {
@@ -163,7 +163,7 @@ pub fn compared(alloc: Global, relation: Symbol, a: Formed, b: Formed) -> Result
 
 /// A number that is written.
 pub fn literal(alloc: Global, number: u64) -> Result<Formed, Refusal>
-    ensures formed { Gives result (spec.number_constant (pos number)) }
+    ensures formed { GivesCore result (spec.number_constant (pos number)) }
     ensures sound { IfOk result IsSound }
     ensures light { IfOk result (λ f. f.measure.most ≤ 2 ^ 62) }
 {

@@ -2,12 +2,12 @@
 
 ghost use Rattle.std.specs.Prelude.{◌≡◌, ◌+◌, ◌*◌, ◌^◌, ◌<◌, ◌≤◌, min, max};
 ghost use Rattle.std.specs.Int.RustNames.{unsigned_abs};
-ghost use Rattle.expansion_laws.specs.Measures as spec;
-ghost use Rattle.unity_meaning.specs.Value as value;
-ghost use Rattle.unity_meaning.specs.Names as names;
+ghost use Rattle.expand_rules.specs.Measures as spec;
+ghost use Rattle.meaning_documents.specs.Value as value;
+ghost use Rattle.meaning_documents.specs.Names as names;
 
 use core_terms::Range;
-use expansion_laws::Measure;
+use expand_rules::Measure;
 
 // A size, counted up to one past its limit.
 fn counted(size: u64) -> u64

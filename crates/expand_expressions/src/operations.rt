@@ -4,8 +4,8 @@
 ghost use Rattle.std.specs.Prelude.{◌≡◌, ◌+◌, ◌*◌, ◌^◌, ◌<◌, ◌≤◌, ◌-◌, IfOk, max};
 ghost use Rattle.core_terms.specs.Folding.{number_of, truth_of};
 ghost use Rattle.core_terms.specs.Weights.{plain_weights, plain_weight};
-ghost use Rattle.expansion_laws.specs.Forming as spec;
-ghost use Rattle.expand_expressions.specs.Sound.{Fits, IsSound, of_number, of_truth};
+ghost use Rattle.expand_rules.specs.Forming as spec;
+ghost use Rattle.expand_expressions.specs.Sound.{FitsMeasure, IsSound, of_number, of_truth};
 
 use crate::measures::{
     choice_measure, leaf, negation_measure, over_measure, pair_measure, sum_measure,
@@ -14,7 +14,7 @@ use core_terms::{
     CForm, CTerm, and_known, at_least_known, choice_known, difference_known, not_known, or_known,
     scaled_known, sum_known, zero_known,
 };
-use expansion_laws::{Core, Formed, Measure};
+use expand_rules::{Core, Formed, Measure};
 use std::alloc::{AllocError, Global};
 use unity_base::Held;
 

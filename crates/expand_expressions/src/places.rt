@@ -4,11 +4,11 @@ ghost use Rattle.std.specs.Prelude.{◌≡◌, [], ◌∷◌};
 ghost use Rattle.std.specs.Map.{lookup};
 ghost use Rattle.std.specs.Str.{bytes_eq};
 ghost use Rattle.std.specs.Option.{option_copied};
-ghost use Rattle.name_scopes.specs.Scope.{entries};
+ghost use Rattle.names_rules.specs.Scope.{entries};
 ghost use Rattle.expand_expressions.specs.Places.{bound_names};
 
 use core_terms::Range;
-use expansion_laws::{Bound, Formed};
+use expand_rules::{Bound, Formed};
 use indexmap::IndexMap;
 use unity_syntax::Name;
 

@@ -4,17 +4,17 @@ ghost use Rattle.std.specs.Prelude.{◌≡◌, ◌+◌, ◌*◌, ◌^◌, ◌<�
 ghost use Rattle.std.specs.Int.RustNames.{unsigned_abs};
 ghost use Rattle.core_terms.specs.Folding.{number_of, scaled_term};
 ghost use Rattle.core_terms.specs.Weights.{plain_weights};
-ghost use Rattle.unity_meaning.specs.Names.{or_zero};
-ghost use Rattle.expansion_laws.specs.Measures as measures;
-ghost use Rattle.expansion_laws.specs.Forming as spec;
-ghost use Rattle.expansion_laws.specs.Limits as limits;
-ghost use Rattle.expand_expressions.specs.Sound.{IsSound, Gives, GivesLight, of_number};
+ghost use Rattle.meaning_documents.specs.Names.{or_zero};
+ghost use Rattle.expand_rules.specs.Measures as measures;
+ghost use Rattle.expand_rules.specs.Forming as spec;
+ghost use Rattle.expand_rules.specs.Limits as limits;
+ghost use Rattle.expand_expressions.specs.Sound.{IsSound, GivesCore, GivesLight, of_number};
 
 use crate::measures::multiple_measure;
 use crate::operations::{NumberCore, number};
 use crate::refusal::Refusal;
 use core_terms::{CTerm, scaled_known};
-use expansion_laws::{Core, Formed, Measure};
+use expand_rules::{Core, Formed, Measure};
 use std::alloc::{AllocError, Global};
 use unity_base::Held;
 
@@ -29,7 +29,7 @@ pub fn is_past_by(constant: bool, measure: Measure) -> bool
 /// What an expression becomes, unless whatever it is a part of is too large.
 pub fn limited(a: Formed) -> Result<Formed, Refusal>
     requires { IsSound a }
-    ensures formed { Gives result a }
+    ensures formed { GivesCore result a }
     ensures sound { IfOk result IsSound }
     ensures light { IfOk result (λ f. f.measure.most ≤ 2 ^ 62) }
 {
@@ -133,7 +133,7 @@ pub fn product(alloc: Global, a: Formed, b: Formed) -> Result<Formed, Refusal>
     requires second { IsSound b }
     requires first_light { a.measure.most ≤ 2 ^ 62 }
     requires second_light { b.measure.most ≤ 2 ^ 62 }
-    ensures formed { Gives result (spec.product a b) }
+    ensures formed { GivesCore result (spec.product a b) }
     ensures sound { IfOk result IsSound }
     ensures light { IfOk result (λ f. f.measure.most ≤ 2 ^ 62) }
 {

@@ -3,18 +3,18 @@
 ghost use Rattle.std.specs.Prelude.{◌≡◌, ◌+◌, ◌^◌, ◌≤◌, ◌<◌, ◌+ℤ◌, ◌≤ℤ◌, pos};
 ghost use Rattle.std.specs.Int.RustNames.{unsigned_abs};
 ghost use Rattle.case_tables.specs.declared.symbol_table.Symbol.{Symbol};
-ghost use Rattle.unity_meaning.specs.Names as names;
-ghost use Rattle.unity_meaning.specs.Value as value;
-ghost use Rattle.unity_meaning.specs.Value.{count_up};
-ghost use Rattle.expansion_laws.specs.Measures as spec;
-ghost use Rattle.expansion_laws.specs.Forming as forming;
+ghost use Rattle.meaning_documents.specs.Names as names;
+ghost use Rattle.meaning_documents.specs.Value as value;
+ghost use Rattle.meaning_documents.specs.Value.{count_up};
+ghost use Rattle.expand_rules.specs.Measures as spec;
+ghost use Rattle.expand_rules.specs.Forming as forming;
 ghost use Rattle.expand_expressions.specs.Places.{bound_names, bound_number};
 
 use crate::measures::{nearer, range_size};
 use crate::places::{Env, find_bound};
 use case_tables::Symbol;
 use core_terms::Range as Ends;
-use expansion_laws::Bound;
+use expand_rules::Bound;
 use unity_syntax::{End, Name, Range};
 
 /// So many numbers from the first on.

@@ -6,11 +6,11 @@ ghost use Rattle.std.specs.Int.RustNames.{unsigned_abs};
 ghost use Rattle.std.specs.Map.{lookup};
 ghost use Rattle.std.specs.Str.{bytes_eq};
 ghost use Rattle.core_terms.specs.declared.trees.CTerm.TheVariants.{Slot, Param};
-ghost use Rattle.unity_meaning.specs.Names.{slot_at};
-ghost use Rattle.name_scopes.specs.Scope.{entries};
-ghost use Rattle.expansion_laws.specs.Measures as measures;
-ghost use Rattle.expansion_laws.specs.Forming as spec;
-ghost use Rattle.expand_expressions.specs.Sound.{IsSound, Gives};
+ghost use Rattle.meaning_documents.specs.Names.{slot_at};
+ghost use Rattle.names_rules.specs.Scope.{entries};
+ghost use Rattle.expand_rules.specs.Measures as measures;
+ghost use Rattle.expand_rules.specs.Forming as spec;
+ghost use Rattle.expand_expressions.specs.Sound.{IsSound, GivesCore};
 ghost use Rattle.expand_expressions.specs.Places.{IsReady, scope, ends_of, plain_slots, slot_formed, declared_word};
 
 use crate::comparisons::{as_truth, copied, number_constant};
@@ -21,7 +21,7 @@ use crate::places::{
 use crate::products::limited;
 use crate::refusal::Refusal;
 use core_terms::CTerm;
-use expansion_laws::{Bound, Core, Formed};
+use expand_rules::{Bound, Core, Formed};
 use std::alloc::{AllocError, Global};
 use unity_base::Held;
 use unity_syntax::Name;
@@ -147,7 +147,7 @@ fn read(alloc: Global, name: &Name, env: &Env, known: &Known) -> Result<Formed, 
 /// What a word stands for: a bound name or a parameter, an always name, a variable or a word of an enumeration.
 pub fn word(alloc: Global, name: &Name, env: &Env, known: &Known) -> Result<Formed, Refusal>
     requires { IsReady known.now }
-    ensures formed { Gives result (spec.word_formed (scope known.now env.now) name.now.text) }
+    ensures formed { GivesCore result (spec.word_formed (scope known.now env.now) name.now.text) }
     ensures sound { IfOk result IsSound }
     ensures light { IfOk result (λ f. f.measure.most ≤ 2 ^ 62) }
 {

@@ -6,15 +6,15 @@ use Rattle.core_terms.specs.declared.trees.Range.{Range}
 use Rattle.core_terms.specs.declared.programs.CSlot.{CSlot}
 use Rattle.core_terms.specs.declared.documents.CRule.{CRule}
 use Rattle.core_terms.specs.declared.documents.CProof.{CProof}
-use Rattle.core_terms.specs.Conditions.{is_below, RuleSees, rule_ranges}
-use Rattle.document_words.specs.Texts.{Texts}
-use Rattle.document_words.specs.WordNumbers.{document_words}
-use Rattle.expansion_laws.specs.Forming.{Scope}
-use Rattle.expand_proofs.specs.Steps.{core_step}
+use Rattle.core_terms.specs.Conditions.{is_below, RuleWellScoped, rule_ranges}
+use Rattle.expand_declarations.specs.Texts.{Texts}
+use Rattle.expand_declarations.specs.WordNumbers.{document_words}
+use Rattle.expand_rules.specs.Forming.{Scope}
+use Rattle.expand_steps.specs.Steps.{core_step}
 use Rattle.expand_statements.proofs.FaultlessLaws.{faultless_instances}
-use Rattle.unity_meaning.specs.Steps.{proofs_among}
-use Rattle.declaration_laws.proofs.Slots.{slots_are_sound, slots_have_words}
-use Rattle.core_documents.specs.Cores.{core_document, document_scope, core_proofs}
+use Rattle.meaning_documents.specs.Steps.{proofs_among}
+use Rattle.expand_correct.proofs.Declared.Slots.{slots_are_sound, slots_have_words}
+use Rattle.expand_documents.specs.Cores.{core_document, document_scope, core_proofs}
 use Rattle.expand_fits_parts.specs.Forms.StepLaws as step
 use Rattle.expand_fits_parts.proofs.Forms.Bodies.{programs_fit}
 use Rattle.expand_fits_parts.proofs.Forms.ShownPrograms.{programs_show}
@@ -46,7 +46,7 @@ use Rattle.expand_fits.proofs.Initial.ShownStarts.{starts_shown}
 rule_sees : (slots : List CSlot) (params : List Range) (rule : CRule) → RuleNamed (is_below (length params)) rule →
     RuleArgumentsFit rule → RuleIndexed rule → RuleIsNumbered (length params) rule → RuleHasRanges rule →
     step.RuleFits slots params rule →
-    RuleSees slots (params ++ rule_ranges rule) (is_below (length params)) (length params) rule
+    RuleWellScoped slots (params ++ rule_ranges rule) (is_below (length params)) (length params) rule
 rule_sees slots params CRule.Text named fits indexed numbered ranges forms = tt
 rule_sees slots params (CRule.TextWith h) named fits indexed numbered ranges forms =
     record { args = record { numbers = fits; names = named }; indices = indexed }

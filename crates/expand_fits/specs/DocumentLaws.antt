@@ -1,12 +1,12 @@
 -- The core form of a document meets all conditions of the calls above.
 use Rattle.std.specs.Prelude.{◌≡◌, ◌<◌, ◌^◌, sum, map, length, None}
 use Rattle.unity_syntax.specs.declared.document.Document.{Document}
-use Rattle.core_terms.specs.Conditions.{IsDocument}
-use Rattle.name_scopes.specs.WellNamed.{IsWellNamed}
-use Rattle.unity_meaning.specs.Steps.{proofs_among}
-use Rattle.declaration_laws.specs.SlotLaws.{HasFewWords}
-use Rattle.core_documents.specs.Cores.{core_document}
-use Rattle.core_documents.specs.Faults.{expansion_fault}
+use Rattle.core_terms.specs.Conditions.{IsCoreDocument}
+use Rattle.names_rules.specs.WellNamed.{IsWellNamed}
+use Rattle.meaning_documents.specs.Steps.{proofs_among}
+use Rattle.expand_correct.specs.Declared.SlotLaws.{HasFewWords}
+use Rattle.expand_documents.specs.Cores.{core_document}
+use Rattle.expand_documents.specs.Faults.{expansion_fault}
 use Rattle.expand_fits_parts.specs.Forms.ShowingLaws.{HasApartNames}
 use Rattle.expand_fits_parts.specs.Conditions.ArgumentConditions.{HasLiterals}
 use Rattle.expand_fits.specs.StartConditions.{HasApartWords}
@@ -28,4 +28,4 @@ pub record IsWellFormedForCore (d : Document) : Type 0 where
   pub enumerations : HasApartWords d
 
 abbrev pub DocumentsSound : Type 0
-DocumentsSound = (d : Document) → IsWellFormedForCore d → IsDocument (core_document d)
+DocumentsSound = (d : Document) → IsWellFormedForCore d → IsCoreDocument (core_document d)

@@ -1,10 +1,10 @@
 -- A document that was read from a text is sound.
 use Rattle.std.specs.Prelude.{◌≡◌, ℕ, ◌≤◌, ◌^◌, List, length, None}
 use Rattle.unity_syntax.specs.declared.document.Document.{Document}
-use Rattle.core_terms.specs.Conditions.{IsDocument as IsCoreDocument}
-use Rattle.name_scopes.specs.WellNamed.{IsWellNamed}
-use Rattle.core_documents.specs.Cores.{core_document}
-use Rattle.core_documents.specs.Faults.{expansion_fault}
+use Rattle.core_terms.specs.Conditions.{IsCoreDocument}
+use Rattle.names_rules.specs.WellNamed.{IsWellNamed}
+use Rattle.expand_documents.specs.Cores.{core_document}
+use Rattle.expand_documents.specs.Faults.{expansion_fault}
 use Rattle.expand_fits.specs.DocumentLaws.{IsWellFormedForCore}
 use Rattle.unity_parser.specs.Document.{IsDocument}
 

@@ -4,11 +4,11 @@ use Rattle.std.specs.List.{flat_map}
 use Rattle.unity_syntax.specs.declared.declaration.Plain.{Plain}
 use Rattle.unity_syntax.specs.declared.declaration.Var.{Var}
 use Rattle.unity_syntax.specs.declared.document.Document.{Document}
-use Rattle.unity_meaning.specs.Setting.{element_type}
+use Rattle.meaning_documents.specs.Setting.{element_type}
 use Rattle.core_terms.specs.Conditions.{EachPair, StartFits, is_shown}
-use Rattle.name_scopes.specs.WellNamed.{IsWellNamed}
+use Rattle.names_rules.specs.WellNamed.{IsWellNamed}
 use Rattle.expand_declarations.specs.Slots.{declared_by}
-use Rattle.core_documents.specs.Cores.{core_document}
+use Rattle.expand_documents.specs.Cores.{core_document}
 use Rattle.expand_fits_parts.specs.Forms.ShowingLaws.{HasApartNames}
 
 -- an enumeration: the byte of its first word, and the number of its last one

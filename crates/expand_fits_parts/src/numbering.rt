@@ -30,12 +30,12 @@ pub fn program_laws()
     ensures unions { UnionsFit }
 {}
 
-ghost use Rattle.expand_fits_parts.specs.Conditions.SizeConditions.{SlotsAreFew, StatementsAreFew};
+ghost use Rattle.expand_fits_parts.specs.Conditions.SizeConditions.{CoreSlotsAreFew, StatementsAreFew};
 
 /// A document without a fault of size has at most 4,096 slots, and each of its programs, unions too, has 1 to
 /// 4,096 statements.
 pub fn size_laws()
-    ensures slots { SlotsAreFew }
+    ensures slots { CoreSlotsAreFew }
     ensures statements { StatementsAreFew }
 {}
 

@@ -12,10 +12,10 @@ use Rattle.unity_syntax.specs.declared.statement.Item.{Item, fold-roll-Item}
 use Rattle.unity_syntax.specs.declared.statement.Item.TheOpen.{Item-F}
 use Rattle.unity_syntax.specs.declared.statement.Item.TheVariants.{rolls-Quantified}
 use Rattle.unity_syntax.specs.declared.statement.Items.{Items, fold-roll-Items}
-use Rattle.unity_meaning.specs.Names.{Bindings}
-use Rattle.unity_meaning.specs.Value.{count_up}
-use Rattle.unity_meaning.specs.Instances.{Unfolding, items_layer}
-use Rattle.expansion_laws.specs.Forming.{fit_values}
+use Rattle.meaning_documents.specs.Names.{Bindings}
+use Rattle.meaning_documents.specs.Value.{count_up}
+use Rattle.meaning_documents.specs.Instances.{Unfolding, items_layer}
+use Rattle.expand_rules.specs.Forming.{fit_values}
 use Rattle.expand_statements.specs.Building.{fit_layer, fit_item, fit_items}
 
 pub fit-Quantified : (at : ℕ) (name : Name) (range : Range) (of : Items) (b : Bindings) →

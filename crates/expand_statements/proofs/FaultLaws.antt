@@ -6,17 +6,17 @@ use Rattle.std.proofs.Math.Seq.{drop-cons}
 use Rattle.std.specs.List.{list_any}
 use Rattle.case_tables.specs.declared.code_table.Code.{Code}
 use Rattle.unity_syntax.specs.declared.name.Name.{Name}
-use Rattle.unity_meaning.specs.Names.{Bindings}
-use Rattle.nests.specs.declared.ranges.NestRange.{NestRange}
-use Rattle.nests.specs.Nests.{instances}
-use Rattle.statement_lists.specs.Chains.{BoundNames, bound_inside, standing}
-use Rattle.name_scopes.specs.declared.named.NameFault.{NameFault}
-use Rattle.name_scopes.specs.Reading.{Fault, earlier}
-use Rattle.name_scopes.specs.Answers.{Demands}
-use Rattle.expansion_laws.specs.declared.effects.Effect.{Effect}
-use Rattle.expansion_laws.specs.Measures.{nearer}
-use Rattle.expansion_laws.specs.Assigning.{is_large_effect}
-use Rattle.expansion_laws.specs.Lists.{fault_at, first_bad_range, statement_fault}
+use Rattle.meaning_documents.specs.Names.{Bindings}
+use Rattle.expand_counting.specs.declared.ranges.NestRange.{NestRange}
+use Rattle.expand_counting.specs.Nests.{instances}
+use Rattle.expand_statements.specs.Chains.{BoundNames, bound_inside, standing}
+use Rattle.names_rules.specs.declared.named.NameFault.{NameFault}
+use Rattle.names_rules.specs.Reading.{Fault, earlier}
+use Rattle.names_rules.specs.Answers.{Demands}
+use Rattle.expand_rules.specs.declared.effects.Effect.{Effect}
+use Rattle.expand_rules.specs.Measures.{nearer}
+use Rattle.expand_rules.specs.Assigning.{is_large_effect}
+use Rattle.expand_rules.specs.Lists.{fault_at, first_bad_range, statement_fault}
 
 -- the fault of a statement of which some instances were seen already, with this place of a bad range
 abbrev pub fault_from : Name → Option ℕ → List Effect → Option Fault

@@ -11,18 +11,18 @@ use Rattle.unity_syntax.specs.declared.statement.Item.{Item, roll-Item, fold-rol
 use Rattle.unity_syntax.specs.declared.statement.Item.TheOpen.{Item-F, Items-F}
 use Rattle.unity_syntax.specs.declared.statement.Item.TheFolds.{map-Item, map-Items}
 use Rattle.unity_syntax.specs.declared.statement.Items.{Items, roll-Items, ind-Items, fold-roll-Items}
-use Rattle.unity_meaning.specs.Names.{Bindings}
-use Rattle.unity_meaning.specs.Value.{end_value, range_values}
-use Rattle.unity_meaning.specs.Instances.{Instance, Unfolding, item_layer, items_layer, item_instances, unfolded}
-use Rattle.unity_meaning.specs.Instances.{instances}
-use Rattle.name_scopes.specs.Reading.{Fault, earlier}
-use Rattle.expansion_laws.specs.declared.effects.Effect.{Effect}
-use Rattle.expansion_laws.specs.Measures.{nearer, is_fit, place_of}
-use Rattle.expansion_laws.specs.Forming.{Scope, fit_values}
-use Rattle.expansion_laws.specs.Assigning.{among, effect_of, is_large_effect, stated}
-use Rattle.expansion_laws.specs.Lists.{Failing, fault_layer, faults_layer, item_fault, items_fault, inside}
-use Rattle.expansion_laws.specs.Lists.{fault_at, place_where, empty_place, large_place, range_place, range_fault}
-use Rattle.expansion_laws.specs.Lists.{first_bad_range, first_fault, statement_fault}
+use Rattle.meaning_documents.specs.Names.{Bindings}
+use Rattle.meaning_documents.specs.Value.{end_value, range_values}
+use Rattle.meaning_documents.specs.Instances.{Instance, Unfolding, item_layer, items_layer, item_instances, unfolded}
+use Rattle.meaning_documents.specs.Instances.{instances}
+use Rattle.names_rules.specs.Reading.{Fault, earlier}
+use Rattle.expand_rules.specs.declared.effects.Effect.{Effect}
+use Rattle.expand_rules.specs.Measures.{nearer, is_fit, place_of}
+use Rattle.expand_rules.specs.Forming.{Scope, fit_values}
+use Rattle.expand_rules.specs.Assigning.{among, effect_of, is_large_effect, stated}
+use Rattle.expand_rules.specs.Lists.{Failing, fault_layer, faults_layer, item_fault, items_fault, inside}
+use Rattle.expand_rules.specs.Lists.{fault_at, place_where, empty_place, large_place, range_place, range_fault}
+use Rattle.expand_rules.specs.Lists.{first_bad_range, first_fault, statement_fault}
 use Rattle.expand_statements.specs.Building.{instance_of, fit_layer, fit_item, fit_items}
 use Rattle.expand_statements.specs.ItemLaws.{FitIsAll, FaultlessInstances}
 

@@ -6,12 +6,12 @@ use Rattle.unity_syntax.specs.declared.statement.Item.{Item, fold-roll-Item}
 use Rattle.unity_syntax.specs.declared.statement.Item.TheOpen.{Item-F}
 use Rattle.unity_syntax.specs.declared.statement.Item.TheVariants.{rolls-Statement}
 use Rattle.unity_syntax.specs.declared.statement.Items.{Items, fold-roll-Items}
-use Rattle.unity_meaning.specs.Names.{Bindings}
-use Rattle.name_scopes.specs.Reading.{earlier}
-use Rattle.expansion_laws.specs.Forming.{Scope}
-use Rattle.expansion_laws.specs.Assigning.{among, effect_of}
-use Rattle.expansion_laws.specs.Lists.{Failing, fault_layer, faults_layer, item_fault, items_fault}
-use Rattle.expansion_laws.specs.Lists.{statement_fault, first_fault}
+use Rattle.meaning_documents.specs.Names.{Bindings}
+use Rattle.names_rules.specs.Reading.{earlier}
+use Rattle.expand_rules.specs.Forming.{Scope}
+use Rattle.expand_rules.specs.Assigning.{among, effect_of}
+use Rattle.expand_rules.specs.Lists.{Failing, fault_layer, faults_layer, item_fault, items_fault}
+use Rattle.expand_rules.specs.Lists.{statement_fault, first_fault}
 
 pub fault-Statement : (s : Scope) (at : ℕ) (label : Name) (assign : Assign) (bs : List Bindings) →
     item_fault s (Item.Statement at label assign) bs ≡ statement_fault label

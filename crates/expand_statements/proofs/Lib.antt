@@ -1,3 +1,7 @@
+pub mod EndLaws
+pub mod StandingLaws
+pub mod CountLaws
+pub mod PlaceLaws
 pub mod VisitLaws
 pub mod FaultLaws
 pub mod ItemLaws

@@ -1,15 +1,15 @@
 -- A statement in core form, by the numbers of its bound names; and the statements of a program.
 use Rattle.std.proofs.Common.{◌≡◌, ℕ, List, [], ◌∷◌, ◌++◌, map, None, Result, OnOk, refl, ap, ◌∙◌}
 use Rattle.unity_syntax.specs.declared.statement.Items.{Items}
-use Rattle.unity_meaning.specs.Instances.{instances}
+use Rattle.meaning_documents.specs.Instances.{instances}
 use Rattle.core_terms.specs.declared.programs.CStmt.{CStmt}
-use Rattle.document_words.specs.Texts.{Texts}
-use Rattle.document_words.specs.WordNumbers.{word_number}
-use Rattle.expansion_laws.specs.declared.cores.Bound.{Bound}
-use Rattle.expansion_laws.specs.Forming.{Scope, numbers}
-use Rattle.expansion_laws.specs.Assigning.{stated, statements}
-use Rattle.expansion_laws.specs.Lists.{items_fault}
-use Rattle.expansion_laws.specs.Programs.{core_statement}
+use Rattle.expand_declarations.specs.Texts.{Texts}
+use Rattle.expand_declarations.specs.WordNumbers.{word_number}
+use Rattle.expand_rules.specs.declared.cores.Bound.{Bound}
+use Rattle.expand_rules.specs.Forming.{Scope, numbers}
+use Rattle.expand_rules.specs.Assigning.{stated, statements}
+use Rattle.expand_rules.specs.Lists.{items_fault}
+use Rattle.expand_rules.specs.Programs.{core_statement}
 use Rattle.expand_statements.specs.Building.{made_statement, fit_items}
 use Rattle.expand_statements.proofs.BuildLaws.{gives_same}
 use Rattle.expand_statements.proofs.FaultlessLaws.{fit_is_all}

@@ -4,12 +4,12 @@ use Rattle.std.proofs.Common.{false, Err, inl, inr, length, get_or, take}
 use Rattle.std.proofs.Common.{drop, refl, sym, ap, ◌∙◌, arith}
 use Rattle.std.proofs.lemmas.List.{take_rest}
 use Rattle.unity_syntax.specs.declared.name.Name.{Name}
-use Rattle.unity_meaning.specs.Names.{Bindings}
-use Rattle.expansion_laws.specs.declared.cores.Bound.{Bound}
-use Rattle.expansion_laws.specs.declared.effects.Effect.{Effect}
-use Rattle.expansion_laws.specs.Assigning.{nothing, beside, is_large_effect}
+use Rattle.meaning_documents.specs.Names.{Bindings}
+use Rattle.expand_rules.specs.declared.cores.Bound.{Bound}
+use Rattle.expand_rules.specs.declared.effects.Effect.{Effect}
+use Rattle.expand_rules.specs.Assigning.{nothing, beside, is_large_effect}
 use Rattle.expand_assignments.proofs.EffectLaws.{tells, shows}
-use Rattle.statement_lists.specs.Chains.{BoundNames, bound_inside}
+use Rattle.expand_statements.specs.Chains.{BoundNames, bound_inside}
 use Rattle.expand_expressions.specs.declared.refusal.Refusal.{Refusal}
 use Rattle.expand_assignments.specs.Adding.{Halts}
 use Rattle.expand_statements.specs.Visiting.{bounds_inside, GivesPlace}

@@ -6,15 +6,15 @@ use Rattle.unity_syntax.specs.declared.statement.Assign.{Assign}
 use Rattle.unity_syntax.specs.declared.statement.Item.{Item, fold-Item}
 use Rattle.unity_syntax.specs.declared.statement.Item.TheOpen.{Item-F}
 use Rattle.unity_syntax.specs.declared.statement.Items.{Items, fold-Items}
-use Rattle.unity_meaning.specs.Names.{Bindings}
-use Rattle.unity_meaning.specs.Instances.{Instance, Unfolding, items_layer, outermost_first}
+use Rattle.meaning_documents.specs.Names.{Bindings}
+use Rattle.meaning_documents.specs.Instances.{Instance, Unfolding, items_layer, outermost_first}
 use Rattle.core_terms.specs.declared.programs.CStmt.{CStmt}
-use Rattle.document_words.specs.Texts.{Texts}
-use Rattle.document_words.specs.WordNumbers.{word_number}
-use Rattle.expansion_laws.specs.declared.cores.Bound.{Bound}
-use Rattle.expansion_laws.specs.Forming.{Scope, numbers, fit_values}
-use Rattle.expansion_laws.specs.Assigning.{stated}
-use Rattle.expansion_laws.specs.Programs.{core_statement}
+use Rattle.expand_declarations.specs.Texts.{Texts}
+use Rattle.expand_declarations.specs.WordNumbers.{word_number}
+use Rattle.expand_rules.specs.declared.cores.Bound.{Bound}
+use Rattle.expand_rules.specs.Forming.{Scope, numbers, fit_values}
+use Rattle.expand_rules.specs.Assigning.{stated}
+use Rattle.expand_rules.specs.Programs.{core_statement}
 
 abbrev pub instance_of : Name → Bindings → Assign → Instance
 instance_of label b a = record { label = label.text; bindings = b; assign = a }
@@ -35,6 +35,6 @@ abbrev pub fit_items : Items → Unfolding
 fit_items = fold-Items Unfolding Unfolding fit_layer items_layer
 
 -- bound names that stand for numbers alone, and these numbers, the outermost first
-pub record IsNumbered (bs : List (List ℕ × Bound)) (indices : List ℤ) : Type 0 where
+pub record AreNumberBindings (bs : List (List ℕ × Bound)) (indices : List ℤ) : Type 0 where
   pub same : bs ≡ map (λ x. (x.0, Bound.Number x.1)) (numbers bs)
   pub indices_same : indices ≡ outermost_first (numbers bs)

@@ -1,10 +1,10 @@
 -- What is known of a program's statements where they have no fault.
 use Rattle.std.specs.Prelude.{◌≡◌, ℕ, [], ◌∷◌, false, Some, None, slice_get}
 use Rattle.unity_syntax.specs.declared.statement.Items.{Items}
-use Rattle.unity_meaning.specs.Instances.{Instance, instances}
-use Rattle.expansion_laws.specs.Forming.{Scope}
-use Rattle.expansion_laws.specs.Assigning.{is_large_effect, stated}
-use Rattle.expansion_laws.specs.Lists.{items_fault}
+use Rattle.meaning_documents.specs.Instances.{Instance, instances}
+use Rattle.expand_rules.specs.Forming.{Scope}
+use Rattle.expand_rules.specs.Assigning.{is_large_effect, stated}
+use Rattle.expand_rules.specs.Lists.{items_fault}
 use Rattle.expand_statements.specs.Building.{fit_items}
 
 -- where statements have no fault, each end of a range is within the limit: no instance is left out

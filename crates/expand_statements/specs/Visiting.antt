@@ -1,19 +1,19 @@
 -- Where the code stands in an instance of a statement, and what it answers of it.
 use Rattle.std.specs.Prelude.{◌≡◌, ℕ, ℤ, pos, List, [], ◌∷◌, true, false, Option, Result, Ok, Err}
 use Rattle.case_tables.specs.declared.code_table.Code.{Code}
-use Rattle.name_scopes.specs.declared.named.NameFault.{NameFault}
-use Rattle.name_scopes.specs.Scope.{entries}
-use Rattle.name_scopes.specs.Reading.{Fault}
-use Rattle.name_scopes.specs.Answers.{Stops}
-use Rattle.expansion_laws.specs.declared.cores.Bound.{Bound}
-use Rattle.expansion_laws.specs.declared.effects.Effect.{Effect}
-use Rattle.expansion_laws.specs.Forming.{Scope}
-use Rattle.expansion_laws.specs.Assigning.{is_large_effect}
-use Rattle.expansion_laws.specs.Lists.{fault_at}
+use Rattle.names_rules.specs.declared.named.NameFault.{NameFault}
+use Rattle.names_rules.specs.Scope.{entries}
+use Rattle.names_rules.specs.Reading.{Fault}
+use Rattle.names_rules.specs.Answers.{Stops}
+use Rattle.expand_rules.specs.declared.cores.Bound.{Bound}
+use Rattle.expand_rules.specs.declared.effects.Effect.{Effect}
+use Rattle.expand_rules.specs.Forming.{Scope}
+use Rattle.expand_rules.specs.Assigning.{is_large_effect}
+use Rattle.expand_rules.specs.Lists.{fault_at}
 use Rattle.expand_expressions.specs.declared.places.Known.{Known}
 use Rattle.expand_expressions.specs.declared.refusal.Refusal.{Refusal}
 use Rattle.expand_expressions.specs.Places.{variables_of}
-use Rattle.statement_lists.specs.Chains.{BoundNames}
+use Rattle.expand_statements.specs.Chains.{BoundNames}
 
 -- a document's scope, among bound names
 abbrev pub scope_among : Known → List (List ℕ × Bound) → Scope

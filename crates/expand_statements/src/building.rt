@@ -3,23 +3,23 @@
 ghost use Rattle.std.specs.Prelude.{◌≡◌, ◌∷◌, [], ◌++◌, ◌^◌, ◌≤◌, ◌<◌, ◌+ℤ◌, pos, map, None, IfOk, OnOk};
 ghost use Rattle.std.specs.List.{flat_map};
 ghost use Rattle.std.specs.Int.RustNames.{unsigned_abs};
-ghost use Rattle.unity_meaning.specs.Value.{count_up};
-ghost use Rattle.document_words.specs.WordNumbers.{word_number};
-ghost use Rattle.expansion_laws.specs.Assigning as spec;
-ghost use Rattle.expansion_laws.specs.Assigning.{statements};
-ghost use Rattle.expansion_laws.specs.Forming.{numbers};
-ghost use Rattle.expansion_laws.specs.Lists.{items_fault};
-ghost use Rattle.expansion_laws.specs.Programs.{core_statement};
+ghost use Rattle.meaning_documents.specs.Value.{count_up};
+ghost use Rattle.expand_declarations.specs.WordNumbers.{word_number};
+ghost use Rattle.expand_rules.specs.Assigning as spec;
+ghost use Rattle.expand_rules.specs.Assigning.{statements};
+ghost use Rattle.expand_rules.specs.Forming.{numbers};
+ghost use Rattle.expand_rules.specs.Lists.{items_fault};
+ghost use Rattle.expand_rules.specs.Programs.{core_statement};
 ghost use Rattle.expand_expressions.specs.Places.{IsReady, bound_names};
 ghost use Rattle.expand_statements.specs.Visiting.{scope_among};
-ghost use Rattle.expand_statements.specs.Building.{IsNumbered, fit_item, fit_items, instance_of, made_statement};
+ghost use Rattle.expand_statements.specs.Building.{AreNumberBindings, fit_item, fit_items, instance_of, made_statement};
 
 use crate::visiting::nothing;
 use core_terms::CStmt;
-use document_words::WordTable;
 use expand_assignments::effect_in;
+use expand_declarations::WordTable;
 use expand_expressions::{Env, Known, Numbers, outside, range_numbers, with_bound};
-use expansion_laws::{Bound, Effect};
+use expand_rules::{Bound, Effect};
 use std::alloc::{AllocError, Global};
 use unity_base::Seq;
 use unity_syntax::{Assign, Item, Items, Name};
@@ -69,7 +69,7 @@ fn push_statement(
     list: &mut Seq<CStmt>,
 ) -> Result<(), AllocError>
     requires ready { IsReady known.now }
-    requires numbered { IsNumbered (bound_names env.now) indices.now }
+    requires numbered { AreNumberBindings (bound_names env.now) indices.now }
     ensures { OnOk result (list.new ≡ list.old ++ made_statement words.now (scope_among known.now [])
         (instance_of label.now (numbers (bound_names env.now)) a.now) ∷ []) }
 {
@@ -107,7 +107,7 @@ fn push_item(
     list: &mut Seq<CStmt>,
 ) -> Result<(), AllocError>
     requires ready { IsReady known.now }
-    requires numbered { IsNumbered (bound_names env.now) indices.now }
+    requires numbered { AreNumberBindings (bound_names env.now) indices.now }
     ensures { OnOk result (list.new ≡ list.old ++ map (made_statement words.now (scope_among known.now []))
         (fit_item item.now (numbers (bound_names env.now)))) }
 {
@@ -152,7 +152,7 @@ fn push_numbers(
     list: &mut Seq<CStmt>,
 ) -> Result<(), AllocError>
     requires ready { IsReady known.now }
-    requires numbered { IsNumbered (bound_names env.now) indices.now }
+    requires numbered { AreNumberBindings (bound_names env.now) indices.now }
     requires first { unsigned_abs taken.now.first ≤ 1000000000 }
     requires count { taken.now.count ≤ 2000000001 }
     ensures { OnOk result (list.new ≡ list.old ++ map (made_statement words.now (scope_among known.now []))
@@ -179,7 +179,7 @@ fn push_number(
     list: &mut Seq<CStmt>,
 ) -> Result<(), AllocError>
     requires ready { IsReady known.now }
-    requires numbered { IsNumbered (bound_names env.now) indices.now }
+    requires numbered { AreNumberBindings (bound_names env.now) indices.now }
     ensures { OnOk result (list.new ≡ list.old ++ map (made_statement words.now (scope_among known.now []))
         (fit_items of.now ((name.now.text, number) ∷ numbers (bound_names env.now)))) }
 {
@@ -207,7 +207,7 @@ fn push_all(
     list: &mut Seq<CStmt>,
 ) -> Result<(), AllocError>
     requires ready { IsReady known.now }
-    requires numbered { IsNumbered (bound_names env.now) indices.now }
+    requires numbered { AreNumberBindings (bound_names env.now) indices.now }
     ensures { OnOk result (list.new ≡ list.old ++ map (made_statement words.now (scope_among known.now []))
         (fit_items items.now (numbers (bound_names env.now)))) }
 {
@@ -226,7 +226,7 @@ fn push_further(
     list: &mut Seq<CStmt>,
 ) -> Result<(), AllocError>
     requires ready { IsReady known.now }
-    requires numbered { IsNumbered (bound_names env.now) indices.now }
+    requires numbered { AreNumberBindings (bound_names env.now) indices.now }
     ensures { OnOk result (list.new ≡ list.old ++ map (made_statement words.now (scope_among known.now []))
         (flat_map (λ i. fit_item i (numbers (bound_names env.now))) items.now)) }
 {

@@ -1,21 +1,22 @@
 //! The first fault of a program's statements.
 
 ghost use Rattle.std.specs.Prelude.{◌≡◌, ◌∷◌, [], map, length, OnOk};
-ghost use Rattle.name_scopes.specs.Answers.{Demands};
-ghost use Rattle.expansion_laws.specs.Assigning.{among, effect_of};
-ghost use Rattle.expansion_laws.specs.Lists as lists;
+ghost use Rattle.names_rules.specs.Answers.{Demands};
+ghost use Rattle.expand_rules.specs.Assigning.{among, effect_of};
+ghost use Rattle.expand_rules.specs.Lists as lists;
 ghost use Rattle.expand_expressions.specs.Places.{IsReady};
-ghost use Rattle.statement_lists.specs.Chains.{bound_inside};
-ghost use Rattle.statement_lists.specs.Standing.{standing_in};
+ghost use Rattle.expand_statements.specs.Chains.{bound_inside};
+ghost use Rattle.expand_statements.specs.Standing.{standing_in};
 ghost use Rattle.expand_statements.specs.Visiting.{GivesBadRange, scope_among};
 
+use crate::chains::Chain;
+use crate::places::check_range;
 use crate::visiting::instance_place;
 use case_tables::Code;
 use expand_assignments::nearer;
+use expand_counting::all_instances;
 use expand_expressions::{Known, Refusal};
-use name_scopes::NameFault;
-use nests::all_instances;
-use statement_lists::{Chain, check_range};
+use names_rules::NameFault;
 use std::alloc::Global;
 use unity_base::Seq;
 use unity_syntax::{Assign, Item, Items, Name};

@@ -1,16 +1,16 @@
 //! What a statement becomes in one of its instances.
 
 ghost use Rattle.std.specs.Prelude.{◌≡◌, ◌∷◌, [], ◌≤◌, map};
-ghost use Rattle.expansion_laws.specs.Assigning as spec;
-ghost use Rattle.expansion_laws.specs.Assigning.{among, effect_of};
+ghost use Rattle.expand_rules.specs.Assigning as spec;
+ghost use Rattle.expand_rules.specs.Assigning.{among, effect_of};
 ghost use Rattle.expand_expressions.specs.Places.{IsReady, bound_names};
 ghost use Rattle.expand_assignments.specs.Adding.{Adds};
-ghost use Rattle.statement_lists.specs.Chains.{bound_inside};
+ghost use Rattle.expand_statements.specs.Chains.{bound_inside};
 ghost use Rattle.expand_statements.specs.Visiting.{GivesPlace, bounds_inside, scope_among};
 
 use expand_assignments::{effect_in, is_large};
 use expand_expressions::{Env, Known, Refusal, outside, with_bound};
-use expansion_laws::{Bound, Count, Effect};
+use expand_rules::{Bound, Count, Effect};
 use std::alloc::Global;
 use unity_base::Seq;
 use unity_syntax::{Assign, Name};

@@ -1,9 +1,9 @@
 -- Records that are kept have their properties.
 use Rattle.std.proofs.Common.{ℤ, List, subst}
 use Rattle.case_tables.specs.declared.kind_table.Kind.{Kind}
-use Rattle.unity_meaning.specs.Properties.{IsAlwaysDefined, IsInvariant}
-use Rattle.execution_laws.proofs.StandingTheorems.{defined_holds, invariant_holds, unless_holds, ensures_holds}
-use Rattle.execution_laws.proofs.StandingTheorems.{leads_holds}
+use Rattle.meaning_documents.specs.Properties.{IsAlwaysDefined, IsInvariant}
+use Rattle.meaning_laws.proofs.StandingTheorems.{defined_holds, invariant_holds, unless_holds, ensures_holds}
+use Rattle.meaning_laws.proofs.StandingTheorems.{leads_holds}
 use Rattle.core_terms.specs.declared.programs.CSlot.{CSlot}
 use Rattle.core_terms.specs.declared.programs.CProgram.{CProgram}
 use Rattle.fair_rounds.specs.declared.records.Record.{Record}

@@ -1,7 +1,7 @@
 -- Records that are kept have their properties.
 use Rattle.std.specs.Prelude.{◌≡◌, ℤ, List, IsTrue}
 use Rattle.case_tables.specs.declared.kind_table.Kind.{Kind}
-use Rattle.unity_meaning.specs.Properties.{IsAlwaysDefined, IsInvariant}
+use Rattle.meaning_documents.specs.Properties.{IsAlwaysDefined, IsInvariant}
 use Rattle.core_terms.specs.declared.programs.CSlot.{CSlot}
 use Rattle.core_terms.specs.declared.programs.CProgram.{CProgram}
 use Rattle.fair_rounds.specs.declared.records.Record.{Record}

@@ -3,10 +3,10 @@ use Rattle.std.specs.Prelude.{◌≡◌, ℕ, nat_eq, ℤ, Bool, true, false, �
 use Rattle.std.specs.Prelude.{IsTrue, slice_get}
 use Rattle.std.specs.List.{list_all}
 use Rattle.case_tables.specs.declared.kind_table.Kind.{Kind}
-use Rattle.state_steps.specs.State.{int_eq, is_state, in_range}
-use Rattle.unity_meaning.specs.Execution.{System}
-use Rattle.unity_meaning.specs.Properties.{Test, IsAlwaysDefined, IsInvariant, Unless, Ensures, LeadsTo}
-use Rattle.execution_laws.specs.Stands.{DefinedStands, InvariantStands, UnlessStands, EnsuresStands, LeadsStands}
+use Rattle.meaning_states.specs.State.{int_eq, is_state, in_range}
+use Rattle.meaning_documents.specs.Execution.{System}
+use Rattle.meaning_documents.specs.Properties.{Test, IsAlwaysDefined, IsInvariant, Unless, Ensures, LeadsTo}
+use Rattle.meaning_laws.specs.Stands.{DefinedStands, InvariantStands, UnlessStands, EnsuresStands, LeadsStands}
 use Rattle.core_terms.specs.declared.trees.Range.{Range}
 use Rattle.core_terms.specs.declared.trees.CForm.{CForm}
 use Rattle.core_terms.specs.declared.programs.CStmt.{CStmt}

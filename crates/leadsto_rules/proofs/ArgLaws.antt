@@ -15,7 +15,7 @@ use Rattle.core_terms.specs.Weights.{Weights, weigh_term, weigh_form, one_weight
 use Rattle.core_terms.proofs.LighterLaws.{form_lighter}
 use Rattle.core_terms.proofs.ReplacingLaws.{form_scaled}
 use Rattle.core_terms.proofs.WeightLaws.{weights-Const}
-use Rattle.proof_rules.specs.Numbers.{args_from, form_for}
+use Rattle.rules_table.specs.Numbers.{args_from, form_for}
 
 -- the argument at a place
 abbrev pub argument_at : ℕ → ℤ → ℕ → Arg

@@ -8,7 +8,7 @@ use Rattle.std.specs.List.{list_all}
 use Rattle.std.proofs.lemmas.Bool.{ltb-true}
 use Rattle.std.proofs.lemmas.List.Elements.{All-append}
 use Rattle.case_tables.specs.declared.code_table.Code.{Code}
-use Rattle.core_terms.specs.Conditions.{IsRange, IsNumbered, PTermSees, bound_ranges, is_below, parts_of}
+use Rattle.core_terms.specs.Conditions.{IsRange, NumbersBoundNames, TermWellScoped, bound_ranges, is_below, parts_of}
 use Rattle.core_terms.specs.Values.{number_at}
 use Rattle.core_terms.specs.declared.documents.PTerm.{PTerm}
 use Rattle.core_terms.specs.declared.programs.CSlot.{CSlot}
@@ -16,23 +16,23 @@ use Rattle.core_terms.specs.declared.trees.CForm.{CForm}
 use Rattle.core_terms.specs.declared.trees.Range.{Range}
 use Rattle.fair_rounds.specs.Records.{holding, are_in_ranges, Stands}
 use Rattle.fair_rounds.specs.declared.records.Record.{Record}
-use Rattle.proof_rules.proofs.BoundNames.{FormSees, TermSees, numbered, term_well}
-use Rattle.proof_rules.proofs.DeriveSound.{lows, lows_in}
-use Rattle.proof_rules.proofs.EachLaws.{from_all}
-use Rattle.proof_rules.proofs.NumberLaws.{same_length}
-use Rattle.proof_rules.proofs.RowEquations.{concluded-is, derive-is}
-use Rattle.proof_rules.proofs.SiteLaws.{went_on, concluded_is}
-use Rattle.proof_rules.proofs.TermSound.{term_sound}
-use Rattle.proof_rules.specs.Conclusion.{Conclusion}
-use Rattle.proof_rules.specs.Limits.{fits, is_provable}
-use Rattle.proof_rules.specs.Sound.{AreFull, BookStands, IsSite}
-use Rattle.proof_rules.specs.Table.{Site, needs, goals_of, concluded}
-use Rattle.proof_rules.specs.Terms.{is_well_bound, term_of, derive_of, all_ranges, leads_record}
-use Rattle.proof_rules.specs.Validity.{AllValid}
-use Rattle.proof_rules.specs.declared.led.Led.{Led}
-use Rattle.state_steps.proofs.StepTheorems.{and_left, and_right, both_true}
-use Rattle.unity_meaning.specs.Execution.{System}
-use Rattle.unity_meaning.specs.Properties.{Test, LeadsTo}
+use Rattle.rules_table.proofs.BoundNames.{FormSees, TermSees, numbered, term_well}
+use Rattle.rules_table.proofs.DeriveSound.{lows, lows_in}
+use Rattle.rules_table.proofs.EachLaws.{from_all}
+use Rattle.rules_table.proofs.NumberLaws.{same_length}
+use Rattle.rules_table.proofs.RowEquations.{concluded-is, derive-is}
+use Rattle.rules_table.proofs.SiteLaws.{went_on, concluded_is}
+use Rattle.rules_table.proofs.TermSound.{term_sound}
+use Rattle.rules_table.specs.Conclusion.{Conclusion}
+use Rattle.rules_table.specs.Limits.{fits, is_provable}
+use Rattle.rules_table.specs.Sound.{AreFull, BookStands, IsSite}
+use Rattle.rules_table.specs.Table.{Site, needs, goals_of, concluded}
+use Rattle.rules_table.specs.Terms.{is_well_bound, term_of, derive_of, all_ranges, leads_record}
+use Rattle.rules_table.specs.Validity.{AllValid}
+use Rattle.rules_table.specs.declared.led.Led.{Led}
+use Rattle.meaning_states.proofs.StepTheorems.{and_left, and_right, both_true}
+use Rattle.meaning_documents.specs.Execution.{System}
+use Rattle.meaning_documents.specs.Properties.{Test, LeadsTo}
 use Rattle.leadsto_rules.proofs.RangeLaws.{parts_ranges}
 use Rattle.leadsto_rules.proofs.VisibleLaws.{Depends, term_depends}
 use Rattle.leadsto_rules.specs.Deriving.{narrowed, narrowed_row}
@@ -64,7 +64,7 @@ is_some_of (Some n) t = (n, refl)
 
 -- a term's bound names have their ranges
 pub names_bound : (slots : List CSlot) (params : List Range) (t : PTerm) →
-    PTermSees slots (params ++ bound_ranges t) (is_below (length params)) t → IsNumbered (length params) t →
+    TermWellScoped slots (params ++ bound_ranges t) (is_below (length params)) t → NumbersBoundNames (length params) t →
     IsTrue (is_well_bound (params ++ bound_ranges t) t) × AreFull (bound_ranges t)
 names_bound slots params t sees numbers =
     let visible : ℕ → Bool = is_below (length params) in
@@ -81,13 +81,14 @@ names_bound slots params t sees numbers =
 
 -- the ranges of all names are such, and the term's parts fit
 pub all_are_ranges : (slots : List CSlot) (params : List Range) (t : PTerm) → All IsRange params →
-    PTermSees slots (params ++ bound_ranges t) (is_below (length params)) t → All IsRange (params ++ bound_ranges t)
+    TermWellScoped slots (params ++ bound_ranges t) (is_below (length params)) t → All IsRange
+    (params ++ bound_ranges t)
 all_are_ranges slots params t are sees =
     All-append IsRange params (bound_ranges t) are
     (subst (λ rs. All IsRange rs) (parts_ranges t (is_below (length params))) sees.ranges_are)
 
 pub sees_parts : (slots : List CSlot) (params : List Range) (t : PTerm) →
-    PTermSees slots (params ++ bound_ranges t) (is_below (length params)) t →
+    TermWellScoped slots (params ++ bound_ranges t) (is_below (length params)) t →
     IsTermIn slots (params ++ bound_ranges t) t
 sees_parts slots params t sees =
     (is_below (length params), record { forms = sees.forms; terms = sees.terms; ranges_are = sees.ranges_are })
@@ -124,7 +125,8 @@ leads_alike {x} {bound} {p} {q} p' q' e f h =
 
 -- the record that a term gives stands
 pub derived_stands : (site : Site) → IsSite site → (book : List Record) → BookStands site book → (t : PTerm) →
-    PTermSees site.slots (all_ranges site t) (is_below (length site.params)) t → IsNumbered (length site.params) t →
+    TermWellScoped site.slots (all_ranges site t) (is_below (length site.params)) t → NumbersBoundNames
+    (length site.params) t →
     (d : Conclusion) → derive_of site t book ≡ Ok d → AllValid site.slots d.goals →
     Stands site.slots site.program d.made
 derived_stands site good book stands t sees numbers d e valid =

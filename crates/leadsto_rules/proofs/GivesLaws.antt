@@ -1,36 +1,36 @@
 -- What calls give, from what the calls of their parts give.
 use Rattle.std.proofs.Common.{◌≡◌, Bool, true, false, Result, Ok, Err, refl, sym, subst}
 use Rattle.case_tables.specs.declared.code_table.Code.{Code}
-use Rattle.proof_rules.specs.Table.{needs, go_on}
+use Rattle.rules_table.specs.Table.{needs, go_on}
 use Rattle.safety_rules.specs.declared.places.RuleError.{RuleError}
-use Rattle.leadsto_rules.specs.Leading.{Gives}
+use Rattle.leadsto_rules.specs.Leading.{TermGives}
 
 -- a row is another
 pub gives_same : {A : Type 0} (answer : Result A RuleError) (row rest : Result A Code) → row ≡ rest →
-    Gives answer rest → Gives answer row
-gives_same answer row rest is given = subst (λ x. Gives answer x) (sym is) given
+    TermGives answer rest → TermGives answer row
+gives_same answer row rest is given = subst (λ x. TermGives answer x) (sym is) given
 
 -- a part gives nothing
-pub part_fails : {A B : Type 0} (e : RuleError) (row : Result A Code) (f : A → Result B Code) → Gives (Err e) row →
-    Gives (Err e) (go_on row f)
+pub part_fails : {A B : Type 0} (e : RuleError) (row : Result A Code) (f : A → Result B Code) → TermGives (Err e) row →
+    TermGives (Err e) (go_on row f)
 part_fails RuleError.Memory row f given = tt
 part_fails (RuleError.Fault code) (Ok x) f given = absurd given
 part_fails (RuleError.Fault code) (Err first) f given = given
 
 -- it gives something
 pub part_given : {A B : Type 0} (x : A) (row : Result A Code) (f : A → Result B Code) (answer : Result B RuleError) →
-    Gives (Ok x) row → Gives answer (f x) → Gives answer (go_on row f)
-part_given x (Ok y) f answer given rest = subst (λ z. Gives answer (f z)) given rest
+    TermGives (Ok x) row → TermGives answer (f x) → TermGives answer (go_on row f)
+part_given x (Ok y) f answer given rest = subst (λ z. TermGives answer (f z)) given rest
 part_given x (Err code) f answer given rest = absurd given
 
 -- a condition is met
 pub need_met : {A : Type 0} (b : Bool) (code : Code) (rest : Result A Code) (answer : Result A RuleError) →
-    b ≡ true → Gives answer rest → Gives answer (needs b code rest)
+    b ≡ true → TermGives answer rest → TermGives answer (needs b code rest)
 need_met true code rest answer e given = given
 need_met false code rest answer e given = cc
 
 -- it is not
 pub need_fails : {A : Type 0} (b : Bool) (code : Code) (rest : Result A Code) → b ≡ false →
-    Gives (Err (RuleError.Fault code)) (needs b code rest)
+    TermGives (Err (RuleError.Fault code)) (needs b code rest)
 need_fails true code rest e = cc
 need_fails false code rest e = refl

@@ -7,7 +7,7 @@ use Rattle.std.specs.Option.{option_map}
 use Rattle.std.specs.Int.RustNames.{unsigned_abs}
 use Rattle.std.proofs.lemmas.Int.{ints}
 use Rattle.std.proofs.lemmas.List.Elements.{All-push}
-use Rattle.unity_meaning.specs.Names.{natural}
+use Rattle.meaning_documents.specs.Names.{natural}
 use Rattle.core_terms.specs.Conditions.{FormFits, TermFits}
 use Rattle.core_terms.specs.Folding.{not_form, at_least_form, difference_term}
 use Rattle.core_terms.specs.Places.{slots_step, params_step, term_slots, term_params}
@@ -23,8 +23,8 @@ use Rattle.wp_substitution.proofs.LightLaws.{form_light}
 use Rattle.wp_substitution.proofs.PlaceLaws.{difference_within, constant_within, at_least_within}
 use Rattle.safety_rules.specs.Foldable.{IsFoldable}
 use Rattle.safety_rules.proofs.JoinLaws.{all_foldable}
-use Rattle.proof_rules.specs.Forms.{imply}
-use Rattle.proof_rules.specs.Terms.{measure_lies}
+use Rattle.rules_table.specs.Forms.{imply}
+use Rattle.rules_table.specs.Terms.{measure_lies}
 use Rattle.safety_rules.specs.Usable.{NamesExist}
 use Rattle.safety_rules.proofs.UsableLaws.{slot_counts, param_counts, usable, all_usable}
 use Rattle.safety_rules.proofs.UsableLaws.{both_usable, light_not, all_exist, exist_imply, exist_and}

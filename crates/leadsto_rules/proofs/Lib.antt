@@ -1,3 +1,4 @@
+pub mod PartLaws
 pub mod AnyLaws
 pub mod ArgLaws
 pub mod DeriveLaws

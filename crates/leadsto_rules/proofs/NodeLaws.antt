@@ -13,50 +13,50 @@ use Rattle.core_terms.specs.declared.trees.Range.{Range}
 use Rattle.wp_substitution.proofs.LightLaws.{form_light}
 use Rattle.safety_rules.specs.Foldable.{IsFoldable}
 use Rattle.safety_rules.proofs.JoinLaws.{all_foldable}
-use Rattle.proof_rules.specs.Forms.{imply}
-use Rattle.proof_rules.specs.Table.{Site, needs}
-use Rattle.proof_rules.specs.Terms.{node}
-use Rattle.proof_rules.specs.declared.led.Led.{Led}
+use Rattle.rules_table.specs.Forms.{imply}
+use Rattle.rules_table.specs.Table.{Site, needs}
+use Rattle.rules_table.specs.Terms.{node}
+use Rattle.rules_table.specs.declared.led.Led.{Led}
 use Rattle.safety_rules.specs.declared.places.RuleError.{RuleError}
 use Rattle.safety_rules.specs.Usable.{NamesExist, IsUsable}
 use Rattle.safety_rules.proofs.UsableLaws.{usable, all_usable, all_exist, exist_imply, exist_and, exist_or, fits_exist}
 use Rattle.safety_rules.proofs.AnswerLaws.{first_false}
 use Rattle.leadsto_rules.specs.Disjunctions.{GivesAny}
-use Rattle.leadsto_rules.specs.Leading.{Gives, ClaimFits}
+use Rattle.leadsto_rules.specs.Leading.{TermGives, ClaimFits}
 use Rattle.leadsto_rules.proofs.GivesLaws.{need_fails}
-use Rattle.proof_rules.specs.Limits.{fits}
+use Rattle.rules_table.specs.Limits.{fits}
 use Rattle.core_terms.specs.Sizes.{form_nodes}
 use Rattle.std.proofs.lemmas.Bool.{lt-leb}
 use Rattle.std.proofs.Common.{nat_le, ◌^◌, ◌&&◌}
 
 -- the rounds of a node
 pub bound_fails : {A B : Type 0} (e : RuleError) (b : Bool) (code : Code) (n : A) (rest : Result B Code) →
-    Gives (Err e) (needs b code (Ok n)) → Gives (Err e) (needs b code rest)
+    TermGives (Err e) (needs b code (Ok n)) → TermGives (Err e) (needs b code rest)
 bound_fails RuleError.Memory b code n rest given = tt
 bound_fails (RuleError.Fault c) true code n rest given = absurd given
 bound_fails (RuleError.Fault c) false code n rest given = given
 
 pub bound_given : {A B : Type 0} (x n : A) (b : Bool) (code : Code) (rest : Result B Code)
-    (answer : Result B RuleError) → Gives (Ok x) (needs b code (Ok n)) → (x ≡ n → Gives answer rest) →
-    Gives answer (needs b code rest)
+    (answer : Result B RuleError) → TermGives (Ok x) (needs b code (Ok n)) → (x ≡ n → TermGives answer rest) →
+    TermGives answer (needs b code rest)
 bound_given x n true code rest answer given next = next given
 bound_given x n false code rest answer given next = absurd given
 
 -- the parts are those of what is to be given
 pub node_gives : (site : Site) (ranges : List Range) (answer : Result Led RuleError) {p p' q q' : CForm} {n n' : ℕ}
     {under under' forms forms' : List CForm} → p' ≡ p → q' ≡ q → n' ≡ n → under' ≡ under → forms' ≡ forms →
-    Gives answer (node site ranges (record { p = p'; q = q'; bound = n'; under = under'; forms = forms' })) →
-    Gives answer (node site ranges (record { p = p; q = q; bound = n; under = under; forms = forms }))
+    TermGives answer (node site ranges (record { p = p'; q = q'; bound = n'; under = under'; forms = forms' })) →
+    TermGives answer (node site ranges (record { p = p; q = q; bound = n; under = under; forms = forms }))
 node_gives site ranges answer {p} {p'} {q} {q'} {n} {n'} {under} {under'} {forms} {forms'} e f g h k given =
-    subst (λ (x : CForm). Gives answer (node site ranges
+    subst (λ (x : CForm). TermGives answer (node site ranges
     (record { p = x; q = q; bound = n; under = under; forms = forms }))) e
-    (subst (λ (x : CForm). Gives answer (node site ranges
+    (subst (λ (x : CForm). TermGives answer (node site ranges
     (record { p = p'; q = x; bound = n; under = under; forms = forms }))) f
-    (subst (λ (x : ℕ). Gives answer (node site ranges
+    (subst (λ (x : ℕ). TermGives answer (node site ranges
     (record { p = p'; q = q'; bound = x; under = under; forms = forms }))) g
-    (subst (λ (x : List CForm). Gives answer (node site ranges
+    (subst (λ (x : List CForm). TermGives answer (node site ranges
     (record { p = p'; q = q'; bound = n'; under = x; forms = forms }))) h
-    (subst (λ (x : List CForm). Gives answer (node site ranges
+    (subst (λ (x : List CForm). TermGives answer (node site ranges
     (record { p = p'; q = q'; bound = n'; under = under'; forms = x }))) k given))))
 
 pub foldable : (slots : List CSlot) (ranges : List Range) (f : CForm) → FormFits slots ranges f → IsFoldable f
@@ -128,19 +128,19 @@ two_pushed forms {mid} {new} {f} {g} {f'} {g'} one two same_f same_g =
     two ∙ ap (λ fs. fs ++ g' ∷ []) one ∙ append_assoc forms (f' ∷ []) (g' ∷ [])
     ∙ ap (λ x. forms ++ (x ∷ g' ∷ [])) same_f ∙ ap (λ x. forms ++ (f ∷ x ∷ [])) same_g
 
-pub bound_is : {A : Type 0} (x n : A) (b : Bool) (code : Code) → Gives (Ok x) (needs b code (Ok n)) → x ≡ n
+pub bound_is : {A : Type 0} (x n : A) (b : Bool) (code : Code) → TermGives (Ok x) (needs b code (Ok n)) → x ≡ n
 bound_is x n true code given = given
 bound_is x n false code given = absurd given
 
 -- a node whose p is too large
 pub large_fails : (site : Site) (ranges : List Range) (l : Led) (rounds : ℕ) (e : RuleError) →
-    Gives (Ok rounds) (needs (nat_le l.bound (2 ^ 63)) Code.BoundTooLarge (Ok l.bound)) → GivesAny (Err e) l.p →
-    Gives (Err e) (node site ranges l)
+    TermGives (Ok rounds) (needs (nat_le l.bound (2 ^ 63)) Code.BoundTooLarge (Ok l.bound)) → GivesAny (Err e) l.p →
+    TermGives (Err e) (node site ranges l)
 large_fails site ranges l rounds RuleError.Memory bounded large = tt
 large_fails site ranges l rounds (RuleError.Fault code) bounded large =
     bound_given rounds l.bound (nat_le l.bound (2 ^ 63)) Code.BoundTooLarge _ (Err (RuleError.Fault code)) bounded
     (λ same.
-    subst (λ c. Gives (Err (RuleError.Fault c))
+    subst (λ c. TermGives (Err (RuleError.Fault c))
     (needs (fits site.slots ranges l.p && fits site.slots ranges l.q) Code.FormulaTooLarge (Ok l))) (sym large.0)
     (need_fails (fits site.slots ranges l.p && fits site.slots ranges l.q) Code.FormulaTooLarge (Ok l)
     (first_false (fits site.slots ranges l.p) (fits site.slots ranges l.q)

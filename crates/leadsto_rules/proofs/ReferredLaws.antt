@@ -6,7 +6,7 @@ use Rattle.std.specs.Prelude.{All}
 use Rattle.std.specs.List.{find, list_any}
 use Rattle.std.proofs.lemmas.Bool.{leb-true}
 use Rattle.std.proofs.lemmas.List.Elements.{All-head, All-tail}
-use Rattle.state_steps.proofs.StepTheorems.{and_left, and_right}
+use Rattle.meaning_states.proofs.StepTheorems.{and_left, and_right}
 use Rattle.case_tables.specs.declared.code_table.Code.{Code}
 use Rattle.core_terms.specs.Conditions.{FormFits, IsRange}
 use Rattle.core_terms.specs.Replacing.{form_at}
@@ -18,12 +18,12 @@ use Rattle.core_terms.specs.declared.programs.CSlot.{CSlot}
 use Rattle.core_terms.specs.declared.trees.CForm.{CForm}
 use Rattle.core_terms.specs.declared.trees.Range.{Range}
 use Rattle.fair_rounds.specs.declared.records.Record.{Record}
-use Rattle.proof_rules.specs.Limits.{fits}
-use Rattle.proof_rules.specs.Table.{Site, needs, instance_of, is_slot, are_arguments, record_with}
-use Rattle.proof_rules.specs.Terms.{known, found}
-use Rattle.proof_rules.proofs.CalcSound.{instance_is}
-use Rattle.proof_rules.proofs.RowEquations.{instance-is}
-use Rattle.proof_rules.proofs.SiteLaws.{met}
+use Rattle.rules_table.specs.Limits.{fits}
+use Rattle.rules_table.specs.Table.{Site, needs, instance_of, is_slot, are_arguments, record_with}
+use Rattle.rules_table.specs.Terms.{known, found}
+use Rattle.rules_table.proofs.CalcSound.{instance_is}
+use Rattle.rules_table.proofs.RowEquations.{instance-is}
+use Rattle.rules_table.proofs.SiteLaws.{met}
 use Rattle.safety_rules.specs.Instances.{RecordFits}
 use Rattle.safety_rules.specs.Usable.{NamesExist}
 use Rattle.safety_rules.proofs.InstanceLaws.{can_put}

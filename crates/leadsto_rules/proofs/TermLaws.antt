@@ -7,13 +7,13 @@ use Rattle.core_terms.specs.declared.documents.PTerm.TheVariants.{Trans, Either,
 use Rattle.core_terms.specs.declared.documents.Ref.{Ref}
 use Rattle.core_terms.specs.declared.trees.Range.{Range}
 use Rattle.fair_rounds.specs.declared.records.Record.{Record}
-use Rattle.proof_rules.specs.Table.{Site, needs, go_on, is_unless}
-use Rattle.proof_rules.specs.Terms.{Ask, term_of, node, referred, leads_on, leads_either, leads_safely}
-use Rattle.proof_rules.specs.declared.led.Led.{Led}
-use Rattle.proof_rules.proofs.RowEquations.{term-Trans, term-Either, term-Psp}
+use Rattle.rules_table.specs.Table.{Site, needs, go_on, is_unless}
+use Rattle.rules_table.specs.Terms.{Ask, term_of, node, referred, leads_on, leads_either, leads_safely}
+use Rattle.rules_table.specs.declared.led.Led.{Led}
+use Rattle.rules_table.proofs.RowEquations.{term-Trans, term-Either, term-Psp}
 use Rattle.safety_rules.specs.Instances.{AnswersRecord}
 use Rattle.safety_rules.specs.declared.places.RuleError.{RuleError}
-use Rattle.leadsto_rules.specs.Leading.{Gives}
+use Rattle.leadsto_rules.specs.Leading.{TermGives}
 use Rattle.leadsto_rules.proofs.GivesLaws.{gives_same, part_given}
 
 module _ (site : Site) (ranges : List Range) (book : List Record) where
@@ -30,17 +30,18 @@ module _ (site : Site) (ranges : List Range) (book : List Record) where
   then_safely a b = node site ranges (leads_safely a b)
 
   pub trans_given : (t u : PTerm) (first : Led) (second answer : Result Led RuleError) →
-      Gives (Ok first) (asked t) → Gives second (asked u) →
-      ((row : Ask) → Gives second row → Gives answer (go_on row (then_on first))) → Gives answer (asked (Trans t u))
+      TermGives (Ok first) (asked t) → TermGives second (asked u) →
+      ((row : Ask) → TermGives second row → TermGives answer (go_on row (then_on first))) → TermGives answer
+      (asked (Trans t u))
   trans_given t u first second answer one two whole =
       gives_same answer (asked (Trans t u)) (go_on (asked t) (λ a. go_on (asked u) (then_on a)))
       (term-Trans site ranges book t u)
       (part_given first (asked t) (λ a. go_on (asked u) (then_on a)) answer one (whole (asked u) two))
 
   pub either_given : (t u : PTerm) (first : Led) (second answer : Result Led RuleError) →
-      Gives (Ok first) (asked t) → Gives second (asked u) →
-      ((row : Ask) → Gives second row → Gives answer (go_on row (then_either first))) →
-      Gives answer (asked (Either t u))
+      TermGives (Ok first) (asked t) → TermGives second (asked u) →
+      ((row : Ask) → TermGives second row → TermGives answer (go_on row (then_either first))) →
+      TermGives answer (asked (Either t u))
   either_given t u first second answer one two whole =
       gives_same answer (asked (Either t u)) (go_on (asked t) (λ a. go_on (asked u) (then_either a)))
       (term-Either site ranges book t u)
@@ -48,9 +49,9 @@ module _ (site : Site) (ranges : List Range) (book : List Record) where
 
   pub psp_given : (t : PTerm) (r : Ref) (first : Led) (second : Result Record RuleError)
       (answer : Result Led RuleError) →
-      Gives (Ok first) (asked t) → AnswersRecord second (referred site ranges book is_unless r) →
-      ((row : Result Record Code) → AnswersRecord second row → Gives answer (go_on row (then_safely first))) →
-      Gives answer (asked (Psp t r))
+      TermGives (Ok first) (asked t) → AnswersRecord second (referred site ranges book is_unless r) →
+      ((row : Result Record Code) → AnswersRecord second row → TermGives answer (go_on row (then_safely first))) →
+      TermGives answer (asked (Psp t r))
   psp_given t r first second answer one two whole =
       let row : Result Record Code = referred site ranges book is_unless r in
       gives_same answer (asked (Psp t r)) (go_on (asked t) (λ a. go_on row (then_safely a)))

@@ -10,7 +10,7 @@ use Rattle.core_terms.proofs.FoldingLaws.{value-and_form, value-or_form}
 use Rattle.core_terms.proofs.FrameLaws.{form_frame}
 use Rattle.core_terms.proofs.ReplacingLaws.{form_at_value}
 use Rattle.core_terms.specs.Conditions.{Parts, no_parts, both_parts, also, parts_step, parts_of}
-use Rattle.core_terms.specs.Conditions.{arg_names_only, ArgsSee, PTermSees}
+use Rattle.core_terms.specs.Conditions.{arg_names_only, ArgsWellScoped, TermWellScoped}
 use Rattle.core_terms.specs.Folding.{and_form, or_form}
 use Rattle.core_terms.specs.Places.{names_param}
 use Rattle.core_terms.specs.Replacing.{arg_value, arg_values, form_at}
@@ -24,20 +24,20 @@ use Rattle.core_terms.specs.declared.documents.Ref.{Ref}
 use Rattle.core_terms.specs.declared.trees.CForm.{CForm}
 use Rattle.core_terms.specs.declared.trees.Range.{Range}
 use Rattle.fair_rounds.specs.declared.records.Record.{Record}
-use Rattle.proof_rules.proofs.BoundNames.{FormSees}
-use Rattle.proof_rules.proofs.CalcSound.{instance_is}
-use Rattle.proof_rules.proofs.EachLaws.{Each, from_all, each_parts}
-use Rattle.proof_rules.proofs.FormLaws.{value_any}
-use Rattle.proof_rules.proofs.NamedLaws.{form_shown}
-use Rattle.proof_rules.proofs.SiteLaws.{met, went_on}
-use Rattle.proof_rules.proofs.TermSound.{node_is}
-use Rattle.proof_rules.specs.Forms.{any_of}
-use Rattle.proof_rules.specs.Numbers.{numbers_of, args_from, form_for}
-use Rattle.proof_rules.specs.Table.{Site, needs, go_on, instance_of, is_unless}
-use Rattle.proof_rules.specs.Terms.{Ask, found, referred, leads, node, leads_from, leads_by, leads_on, leads_either}
-use Rattle.proof_rules.specs.Terms.{leads_any, at_measure, below_measure, leads_down, leads_safely, leads_weaker}
-use Rattle.proof_rules.specs.Terms.{term_step, term_of}
-use Rattle.proof_rules.specs.declared.led.Led.{Led}
+use Rattle.rules_table.proofs.BoundNames.{FormSees}
+use Rattle.rules_table.proofs.CalcSound.{instance_is}
+use Rattle.rules_table.proofs.EachLaws.{Each, from_all, each_parts}
+use Rattle.rules_table.proofs.FormLaws.{value_any}
+use Rattle.rules_table.proofs.NamedLaws.{form_shown}
+use Rattle.rules_table.proofs.SiteLaws.{met, went_on}
+use Rattle.rules_table.proofs.TermSound.{node_is}
+use Rattle.rules_table.specs.Forms.{any_of}
+use Rattle.rules_table.specs.Numbers.{numbers_of, args_from, form_for}
+use Rattle.rules_table.specs.Table.{Site, needs, go_on, instance_of, is_unless}
+use Rattle.rules_table.specs.Terms.{Ask, found, referred, leads, node, leads_from, leads_by, leads_on, leads_either}
+use Rattle.rules_table.specs.Terms.{leads_any, at_measure, below_measure, leads_down, leads_safely, leads_weaker}
+use Rattle.rules_table.specs.Terms.{term_step, term_of}
+use Rattle.rules_table.specs.declared.led.Led.{Led}
 
 -- the numbers of the visible parameters are the same
 abbrev Alike : (ℕ → Bool) → List ℤ → List ℤ → Type 0
@@ -86,7 +86,7 @@ args_alike v (Arg.Param n add ∷ args) d e sees same =
     ∙ ap (λ zs. (number_at e n +ℤ add) ∷ zs) (args_alike v args d e sees.1 same)
 args_alike v (Arg.Slot ∷ args) d e sees same = ap (λ zs. pos 0 ∷ zs) (args_alike v args d e sees.1 same)
 
-put_depends : (v : ℕ → Bool) (args : List Arg) (f : CForm) → ArgsSee v args → Depends v (form_at args f)
+put_depends : (v : ℕ → Bool) (args : List Arg) (f : CForm) → ArgsWellScoped v args → Depends v (form_at args f)
 put_depends v args f sees s d e same =
     form_at_value s d args f
     ∙ ap (λ zs. form_value s zs f)
@@ -178,12 +178,12 @@ unnamed_depends v m f h free s d e same =
 -- formulas and arguments name only what is visible at them
 record Seen (parts : Parts) : Type 0 where
   pub forms : Each FormSees parts.forms
-  pub args : Each (λ e. ArgsSee e.0 e.1) parts.args
+  pub args : Each (λ e. ArgsWellScoped e.0 e.1) parts.args
 
 both_seen : (a b : Parts) → Seen (both_parts a b) → Seen a × Seen b
 both_seen a b seen =
     let forms = each_parts FormSees a.forms b.forms seen.forms in
-    let args = each_parts (λ e. ArgsSee e.0 e.1) a.args b.args seen.args in
+    let args = each_parts (λ e. ArgsWellScoped e.0 e.1) a.args b.args seen.args in
     (record { forms = forms.0; args = args.0 }, record { forms = forms.1; args = args.1 })
 
 module _ (site : Site) (ranges : List Range) (book : List Record) where
@@ -201,7 +201,7 @@ module _ (site : Site) (ranges : List Range) (book : List Record) where
       Own v (needs b code rest)
   of_need v b code rest shown l e = let one = met b code rest l e in shown one.0 l one.1
 
-  reference : (v : ℕ → Bool) (serves : Kind → Bool) (r : Ref) (a : Record) → ArgsSee v r.args →
+  reference : (v : ℕ → Bool) (serves : Kind → Bool) (r : Ref) (a : Record) → ArgsWellScoped v r.args →
       referred site ranges book serves r ≡ Ok a → BothDepend v a.p a.q
   reference v serves r a sees h =
       let one = went_on (found book r) (λ b. needs (nat_eq b.program site.program.name) Code.OtherProgram
@@ -294,10 +294,10 @@ module _ (site : Site) (ranges : List Range) (book : List Record) where
   term_own t = ind-PTerm TermOwn (λ z y e. subst (λ k. TermOwn (roll-PTerm k)) e (layer y)) t
 
   -- of a term that names only what is visible
-  pub term_depends : (v : ℕ → Bool) (t : PTerm) → PTermSees site.slots ranges v t → (l : Led) →
+  pub term_depends : (v : ℕ → Bool) (t : PTerm) → TermWellScoped site.slots ranges v t → (l : Led) →
       term_of site ranges book t ≡ Ok l → BothDepend v l.p l.q
   term_depends v t sees =
       term_own t v (record {
         forms = from_all FormSees (parts_of t v).forms sees.form_names;
-        args = from_all (λ e. ArgsSee e.0 e.1) (parts_of t v).args sees.args;
+        args = from_all (λ e. ArgsWellScoped e.0 e.1) (parts_of t v).args sees.args;
       })

@@ -3,7 +3,7 @@ use Rattle.std.specs.Prelude.{ℕ, List, Result, Ok, Err}
 use Rattle.case_tables.specs.declared.code_table.Code.{Code}
 use Rattle.core_terms.specs.declared.trees.Range.{Range}
 use Rattle.fair_rounds.specs.declared.records.Record.{Record}
-use Rattle.proof_rules.specs.Conclusion.{Conclusion}
+use Rattle.rules_table.specs.Conclusion.{Conclusion}
 
 -- a record of other parameters and rounds
 abbrev pub narrowed : List Range → ℕ → Record → Record

@@ -6,8 +6,8 @@ use Rattle.core_terms.specs.Places.{form_params}
 use Rattle.core_terms.specs.Sizes.{form_nodes}
 use Rattle.core_terms.specs.Weights.{plain_weight}
 use Rattle.core_terms.specs.declared.trees.CForm.{CForm}
-use Rattle.proof_rules.specs.Forms.{any_of}
-use Rattle.proof_rules.specs.Numbers.{count_up, form_for}
+use Rattle.rules_table.specs.Forms.{any_of}
+use Rattle.rules_table.specs.Numbers.{count_up, form_for}
 use Rattle.safety_rules.specs.declared.places.RuleError.{RuleError}
 use Rattle.leadsto_rules.specs.declared.disjunctions.Disjunction.{Disjunction}
 use Rattle.leadsto_rules.specs.declared.disjunctions.Instances.{Instances}
@@ -26,14 +26,14 @@ pub record IsInstanced (i : Instances) : Type 0 where
   pub light : plain_weight i.form.now ≤ 2 ^ 62
 
 -- the truth that stands beside a disjunction is its truth, and it has no fewer nodes than were counted
-pub record IsKnown (d : Disjunction) : Type 0 where
+pub record DisjunctionKnown (d : Disjunction) : Type 0 where
   pub truth : d.truth ≡ truth_of d.whole
   pub nodes : d.nodes ≤ form_nodes d.whole
 
 -- as far as it has come: so many instances, from a number on
-pub record IsSoFar (i : Instances) (z : ℤ) (total : ℕ) (d : Disjunction) : Type 0 where
+pub record IsJoinedSoFar (i : Instances) (z : ℤ) (total : ℕ) (d : Disjunction) : Type 0 where
   pub whole : d.whole ≡ any_of (instances_at i z d.done)
-  pub known : IsKnown d
+  pub known : DisjunctionKnown d
   pub some : 1 ≤ d.done
   pub within : d.done ≤ total
 

@@ -7,9 +7,9 @@ use Rattle.core_terms.specs.declared.programs.CSlot.{CSlot}
 use Rattle.core_terms.specs.declared.trees.CForm.{CForm}
 use Rattle.core_terms.specs.declared.trees.Range.{Range}
 use Rattle.fair_rounds.specs.declared.records.Record.{Record}
-use Rattle.proof_rules.specs.Limits.{fits}
-use Rattle.proof_rules.specs.Table.{Site}
-use Rattle.proof_rules.specs.declared.led.Led.{Led}
+use Rattle.rules_table.specs.Limits.{fits}
+use Rattle.rules_table.specs.Table.{Site}
+use Rattle.rules_table.specs.declared.led.Led.{Led}
 use Rattle.safety_rules.specs.Usable.{NamesExist}
 use Rattle.safety_rules.specs.declared.places.RuleError.{RuleError}
 use Rattle.leadsto_rules.specs.declared.nodes.Claim.{Claim}
@@ -19,12 +19,12 @@ abbrev pub led_of : Claim → Led
 led_of c = record { p = c.p; q = c.q; bound = c.rounds; under = c.under; forms = c.forms }
 
 -- the call gives what the table gives, or the code of the first condition that fails; want of memory says nothing
-abbrev pub Gives : {A : Type 0} → Result A RuleError → Result A Code → Type 0
-Gives (Ok x) (Ok y) = x ≡ y
-Gives (Ok x) (Err code) = ⊥
-Gives (Err (RuleError.Fault code)) (Ok y) = ⊥
-Gives (Err (RuleError.Fault code)) (Err first) = code ≡ first
-Gives (Err RuleError.Memory) y = Unit {0}
+abbrev pub TermGives : {A : Type 0} → Result A RuleError → Result A Code → Type 0
+TermGives (Ok x) (Ok y) = x ≡ y
+TermGives (Ok x) (Err code) = ⊥
+TermGives (Err (RuleError.Fault code)) (Ok y) = ⊥
+TermGives (Err (RuleError.Fault code)) (Err first) = code ≡ first
+TermGives (Err RuleError.Memory) y = Unit {0}
 
 -- p and q are small enough for a conclusion
 abbrev pub are_small : Site → List Range → Led → Bool

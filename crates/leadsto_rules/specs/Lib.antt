@@ -1,3 +1,5 @@
+pub mod Lines
+pub mod Stretches
 pub mod Deriving
 pub mod Disjunctions
 pub mod Inductions

@@ -6,8 +6,8 @@ use Rattle.core_terms.specs.declared.documents.Ref.{Ref}
 use Rattle.core_terms.specs.declared.programs.CSlot.{CSlot}
 use Rattle.core_terms.specs.declared.trees.Range.{Range}
 use Rattle.fair_rounds.specs.declared.records.Record.{Record}
-use Rattle.proof_rules.specs.Table.{is_unless}
-use Rattle.proof_rules.specs.Terms.{leads}
+use Rattle.rules_table.specs.Table.{is_unless}
+use Rattle.rules_table.specs.Terms.{leads}
 use Rattle.leadsto_rules.specs.declared.references.Purpose.{Purpose}
 
 -- the reference names the step of this record

@@ -2,14 +2,14 @@
 ghost use Rattle.std.specs.Prelude.{◌≡◌, ◌++◌, All, IfOk, List, None, Result, length};
 ghost use Rattle.case_tables.specs.declared.code_table.Code.{Code as TheCode};
 ghost use Rattle.case_tables.specs.declared.kind_table.Kind.{Kind as TheKind};
-ghost use Rattle.core_terms.specs.Conditions.{IsNumbered, IsRange, PTermSees, bound_ranges, is_below};
+ghost use Rattle.core_terms.specs.Conditions.{NumbersBoundNames, IsRange, TermWellScoped, bound_ranges, is_below};
 ghost use Rattle.core_terms.specs.declared.programs.CSlot.{CSlot};
-ghost use Rattle.proof_rules.specs.Conclusion.{Conclusion};
-ghost use Rattle.proof_rules.specs.Sound.{BookStands};
-ghost use Rattle.proof_rules.specs.Table as table;
-ghost use Rattle.proof_rules.specs.Table.{go_on};
-ghost use Rattle.proof_rules.specs.Terms as terms;
-ghost use Rattle.safety_rules.specs.Answers.{site_of, IsPlace, Answers};
+ghost use Rattle.rules_table.specs.Conclusion.{Conclusion};
+ghost use Rattle.rules_table.specs.Sound.{BookStands};
+ghost use Rattle.rules_table.specs.Table as table;
+ghost use Rattle.rules_table.specs.Table.{go_on};
+ghost use Rattle.rules_table.specs.Terms as terms;
+ghost use Rattle.safety_rules.specs.Answers.{site_of, IsPlace, RuleAnswers};
 ghost use Rattle.safety_rules.specs.Goals.{Added};
 ghost use Rattle.safety_rules.specs.Instances.{RecordFits};
 ghost use Rattle.safety_rules.specs.Sound.{StandsWhereShown};
@@ -23,7 +23,7 @@ use case_tables::Kind;
 use core_terms::{CForm, PTerm, Range, copy_form, held_form};
 use fair_rounds::Record;
 use obligations::Obligation;
-use proof_rules::Led;
+use rules_table::Led;
 use safety_rules::{Claim, Derived, Place, RuleError, add_goal, conclude};
 use std::alloc::{AllocError, Global};
 use unity_base::Seq;
@@ -72,8 +72,8 @@ fn narrowed(
     params: Seq<Range>,
     bound: u64,
 ) -> Result<Derived, RuleError>
-    ensures { (slots : List CSlot) (row : Result Conclusion TheCode) → Answers answer slots row →
-        Answers result slots (narrowed_row params bound row) }
+    ensures { (slots : List CSlot) (row : Result Conclusion TheCode) → RuleAnswers answer slots row →
+        RuleAnswers result slots (narrowed_row params bound row) }
 {
     match answer {
         Ok(derived) => {
@@ -112,7 +112,7 @@ fn narrowed(
 fn concluded_wide(alloc: Global, wide: &Place, led: &Led) -> Result<Derived, RuleError>
     requires place { IsPlace wide.now }
     requires led { LedFits wide.now.slots.now wide.now.params.now led.now }
-    ensures { Answers result wide.now.slots.now (table.concluded wide.now.slots.now wide.now.params.now
+    ensures { RuleAnswers result wide.now.slots.now (table.concluded wide.now.slots.now wide.now.params.now
         (table.record_of (site_of wide.now) TheKind.Leadsto led.now.p led.now.q led.now.under None) led.now.forms) }
 {
     let mut goals = Seq::new(alloc);
@@ -133,7 +133,7 @@ fn derived(alloc: Global, pl: &Place, ranges: &[Range], led: &Led) -> Result<Der
     requires place { IsPlace pl.now }
     requires ranges { All IsRange ranges.now }
     requires led { LedFits pl.now.slots.now ranges.now led.now }
-    ensures { Answers result pl.now.slots.now (table.concluded pl.now.slots.now ranges.now
+    ensures { RuleAnswers result pl.now.slots.now (table.concluded pl.now.slots.now ranges.now
         (terms.leads_record (site_of pl.now) led.now) led.now.forms) }
 {
     let params = copied(alloc, pl.params)?;
@@ -167,7 +167,7 @@ fn derive_in(
     requires ranges { All IsRange ranges.now }
     requires book { All (RecordFits pl.now.slots.now) book.now }
     requires term { IsTermIn pl.now.slots.now ranges.now t.now }
-    ensures { Answers result pl.now.slots.now (go_on (terms.term_of (site_of pl.now) ranges.now book.now t.now)
+    ensures { RuleAnswers result pl.now.slots.now (go_on (terms.term_of (site_of pl.now) ranges.now book.now t.now)
         (λ l. table.concluded pl.now.slots.now ranges.now (terms.leads_record (site_of pl.now) l) l.forms)) }
 {
     let led = lead(alloc, pl, ranges, book, t)?;
@@ -185,11 +185,11 @@ fn derive_in(
 /// above 2^63; 42: p, q, an instance or an obligation is too large.
 pub fn derive(alloc: Global, pl: &Place, t: &PTerm, book: &[Record]) -> Result<Derived, RuleError>
     requires place { IsPlace pl.now }
-    requires term { PTermSees pl.now.slots.now (pl.now.params.now ++ bound_ranges t.now)
+    requires term { TermWellScoped pl.now.slots.now (pl.now.params.now ++ bound_ranges t.now)
         (is_below (length pl.now.params.now)) t.now }
-    requires numbers { IsNumbered (length pl.now.params.now) t.now }
+    requires numbers { NumbersBoundNames (length pl.now.params.now) t.now }
     requires book { All (RecordFits pl.now.slots.now) book.now }
-    ensures answer { Answers result pl.now.slots.now (terms.derive_of (site_of pl.now) t.now book.now) }
+    ensures answer { RuleAnswers result pl.now.slots.now (terms.derive_of (site_of pl.now) t.now book.now) }
     ensures sound { BookStands (site_of pl.now) book.now → StandsWhereShown pl.now result }
 {
     let ranges = all_ranges(alloc, pl, t)?;

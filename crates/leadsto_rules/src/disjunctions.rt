@@ -8,14 +8,16 @@ ghost use Rattle.core_terms.specs.Folding as fold;
 ghost use Rattle.core_terms.specs.Weights.{plain_weight};
 ghost use Rattle.core_terms.specs.declared.documents.Arg.{Arg as TheArg};
 ghost use Rattle.core_terms.specs.declared.trees.CForm.TheVariants.{Top, Bottom};
-ghost use Rattle.proof_rules.specs.Forms.{any_of, or_any};
-ghost use Rattle.proof_rules.specs.Numbers.{numbers_of, args_from};
-ghost use Rattle.leadsto_rules.specs.Disjunctions.{instance_at, instances_at, IsInstanced, IsKnown, IsSoFar, GivesAny};
+ghost use Rattle.rules_table.specs.Forms.{any_of, or_any};
+ghost use Rattle.rules_table.specs.Numbers.{numbers_of, args_from};
+ghost use Rattle.leadsto_rules.specs.Disjunctions.{instance_at, instances_at, IsInstanced, DisjunctionKnown};
+ghost use Rattle.leadsto_rules.specs.Disjunctions.{IsJoinedSoFar, GivesAny};
 
 use crate::inductions::count_of;
+use crate::lines::{Start, Stretch};
+use crate::stretches::truth_on;
 use case_tables::Code;
 use core_terms::{Arg, CForm, Range, or_known, size_of, truth_of, with_params};
-use number_stretches::{Start, Stretch, truth_on};
 use safety_rules::RuleError;
 use std::alloc::{AllocError, Global};
 use unity_base::{Held, Seq};
@@ -83,7 +85,7 @@ fn started(alloc: Global, i: &Instances, number: i64) -> Result<Disjunction, All
     requires number { unsigned_abs number ≤ 2 ^ 62 }
     ensures whole { IfOk result (λ d. d.whole ≡ instance_at i.now number) }
     ensures done { IfOk result (λ d. d.done ≡ 1) }
-    ensures known { IfOk result IsKnown }
+    ensures known { IfOk result DisjunctionKnown }
 {
     let whole = instance(alloc, i, number)?;
     let truth = truth_of(whole.get());
@@ -108,12 +110,12 @@ fn nodes_of(truth: Option<bool>, first: u64, second: u64) -> u64
 
 // A disjunction with one formula more.
 fn joined(alloc: Global, d: Disjunction, g: Held<CForm>) -> Result<Disjunction, AllocError>
-    requires known { IsKnown d }
+    requires known { DisjunctionKnown d }
     requires weight { plain_weight g ≤ 2 ^ 126 }
     requires done { d.done < 2 ^ 32 }
     ensures whole { IfOk result (λ e. e.whole ≡ fold.or_form d.whole g) }
     ensures done { IfOk result (λ e. e.done ≡ d.done + 1) }
-    ensures known { IfOk result IsKnown }
+    ensures known { IfOk result DisjunctionKnown }
 {
     let Disjunction {
         whole,
@@ -136,7 +138,7 @@ fn joined(alloc: Global, d: Disjunction, g: Held<CForm>) -> Result<Disjunction, 
 fn settled(alloc: Global, holds: bool, done: u64) -> Result<Disjunction, AllocError>
     ensures whole { IfOk result (λ d. d.whole ≡ cond holds Top Bottom) }
     ensures done { IfOk result (λ d. d.done ≡ done) }
-    ensures known { IfOk result IsKnown }
+    ensures known { IfOk result DisjunctionKnown }
 {
     let whole = if holds { CForm::Top } else { CForm::Bottom };
     Ok(Disjunction {
@@ -167,7 +169,7 @@ fn stretch(i: &Instances, number: i64, reach: u64) -> Option<Stretch>
 
 // The truth of the disjunction with the formula at a number and at some that follow, where both are known.
 fn known_with(d: &Disjunction, i: &Instances, number: i64, reach: u64) -> Option<Stretch>
-    requires { IsKnown d.now }
+    requires { DisjunctionKnown d.now }
     ensures truth { IfSome result (λ s.
         or_any d.now.whole (instances_at i.now number (s.reach + 1)) ≡ cond s.holds Top Bottom) }
     ensures reach { IfSome result (λ s. s.reach ≤ reach) }
@@ -200,9 +202,9 @@ fn further(
     requires formula { IsInstanced i.now }
     requires low { unsigned_abs low ≤ 1000000000 }
     requires total { total ≤ 2000000001 }
-    requires before { IsSoFar i.now low total d }
+    requires before { IsJoinedSoFar i.now low total d }
     requires more { d.done < total }
-    ensures after { IfOk result (IsSoFar i.now low total) }
+    ensures after { IfOk result (IsJoinedSoFar i.now low total) }
     ensures further { IfOk result (λ e. d.done < e.done) }
 {
     let number = number_after(low, d.done);

@@ -1,6 +1,6 @@
 // Formulas of lists: that all hold, and what follows where all do.
 ghost use Rattle.std.specs.Prelude.{◌≡◌, ◌<◌, ◌++◌, ◌∷◌, [], All, IfOk, OnOk, Some, length};
-ghost use Rattle.proof_rules.specs.Forms as formula;
+ghost use Rattle.rules_table.specs.Forms as formula;
 ghost use Rattle.safety_rules.specs.Answers.{IsPlace};
 ghost use Rattle.wp_substitution.specs.Joined.{joined_with};
 ghost use Rattle.wp_substitution.specs.Preconditions.{all_of};

@@ -6,13 +6,13 @@ ghost use Rattle.core_terms.specs.Folding as fold;
 ghost use Rattle.core_terms.specs.Trees.{same_form};
 ghost use Rattle.core_terms.specs.declared.trees.CTerm.TheVariants.{Const, Param};
 ghost use Rattle.safety_rules.specs.Foldable.{IsFoldable};
-ghost use Rattle.proof_rules.specs.Forms as formula;
-ghost use Rattle.proof_rules.specs.Table.{needs};
-ghost use Rattle.proof_rules.specs.Terms as terms;
+ghost use Rattle.rules_table.specs.Forms as formula;
+ghost use Rattle.rules_table.specs.Table.{needs};
+ghost use Rattle.rules_table.specs.Terms as terms;
 ghost use Rattle.safety_rules.specs.Answers.{site_of, IsPlace};
-ghost use Rattle.unity_meaning.specs.Value.{range_size};
+ghost use Rattle.meaning_documents.specs.Value.{range_size};
 ghost use Rattle.leadsto_rules.specs.Inductions.{IsLightInduction, InductionFits};
-ghost use Rattle.leadsto_rules.specs.Leading.{Gives, LedFits};
+ghost use Rattle.leadsto_rules.specs.Leading.{TermGives, LedFits};
 
 use crate::gathering::implied;
 use crate::nodes::{Claim, node};
@@ -22,7 +22,7 @@ use core_terms::{
     CForm, CTerm, Range, at_least_form, copy_form, difference_term, held_form, held_term, not_form,
     zero_form,
 };
-use proof_rules::Led;
+use rules_table::Led;
 use safety_rules::{Place, RuleError, is_same, using_and};
 use std::alloc::{AllocError, Global};
 use unity_base::Held;
@@ -162,7 +162,7 @@ fn fallen(
     requires place { IsPlace pl.now }
     requires induction { InductionFits pl.now.slots.now ranges.now i.now }
     requires t { LedFits pl.now.slots.now ranges.now t }
-    ensures answer { Gives result (terms.node (site_of pl.now) ranges.now
+    ensures answer { TermGives result (terms.node (site_of pl.now) ranges.now
         (terms.leads_down pl.now.using.now i.now.range i.now.measure.now i.now.p.now i.now.q.now t)) }
     ensures fits { IfOk result (LedFits pl.now.slots.now ranges.now) }
 {
@@ -197,7 +197,7 @@ pub(crate) fn led_down(
     requires place { IsPlace pl.now }
     requires induction { InductionFits pl.now.slots.now ranges.now i.now }
     requires t { LedFits pl.now.slots.now ranges.now t }
-    ensures answer { Gives result (needs (same_form t.p (terms.at_measure i.now.measure.now i.now.name i.now.p.now)
+    ensures answer { TermGives result (needs (same_form t.p (terms.at_measure i.now.measure.now i.now.name i.now.p.now)
         && same_form t.q (terms.below_measure i.now.measure.now i.now.name i.now.p.now i.now.q.now))
         TheCode.MiddleDiffers (terms.node (site_of pl.now) ranges.now
         (terms.leads_down pl.now.using.now i.now.range i.now.measure.now i.now.p.now i.now.q.now t))) }

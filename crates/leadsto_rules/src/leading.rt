@@ -1,10 +1,10 @@
 // What a term gives, by its parts in reading order.
 ghost use Rattle.std.specs.Prelude.{◌≡◌, All, IfOk};
 ghost use Rattle.core_terms.specs.Conditions.{IsRange};
-ghost use Rattle.proof_rules.specs.Terms as terms;
+ghost use Rattle.rules_table.specs.Terms as terms;
 ghost use Rattle.safety_rules.specs.Answers.{site_of, IsPlace};
 ghost use Rattle.safety_rules.specs.Instances.{RecordFits};
-ghost use Rattle.leadsto_rules.specs.Leading.{Gives, LedFits, IsTermIn};
+ghost use Rattle.leadsto_rules.specs.Leading.{TermGives, LedFits, IsTermIn};
 
 use crate::inductions::{Induction, led_down};
 use crate::parts::{led_by, led_either, led_from, led_on, led_safely, led_weaker};
@@ -12,7 +12,7 @@ use crate::ranging::led_any;
 use crate::references::{Purpose, referred};
 use core_terms::{PTerm, Range};
 use fair_rounds::Record;
-use proof_rules::Led;
+use rules_table::Led;
 use safety_rules::{Place, RuleError};
 use std::alloc::Global;
 
@@ -28,7 +28,7 @@ pub(crate) fn lead(
     requires ranges { All IsRange ranges.now }
     requires book { All (RecordFits pl.now.slots.now) book.now }
     requires term { IsTermIn pl.now.slots.now ranges.now t.now }
-    ensures answer { Gives result (terms.term_of (site_of pl.now) ranges.now book.now t.now) }
+    ensures answer { TermGives result (terms.term_of (site_of pl.now) ranges.now book.now t.now) }
     ensures fits { IfOk result (LedFits pl.now.slots.now ranges.now) }
 {
     match t {

@@ -8,10 +8,12 @@ mod gathering;
 mod inductions;
 mod joining;
 mod leading;
+mod lines;
 mod naming;
 mod nodes;
 mod parts;
 mod ranging;
 mod references;
+mod stretches;
 
 pub use derivation::derive;

@@ -1,15 +1,15 @@
 // The conditions of each node of a term: its bound and its conclusion.
 ghost use Rattle.std.specs.Prelude.{◌≡◌, ◌^◌, nat_le, Ok, IfOk};
-ghost use Rattle.proof_rules.specs.Limits.{fits};
-ghost use Rattle.proof_rules.specs.Table.{needs};
-ghost use Rattle.proof_rules.specs.Terms as terms;
+ghost use Rattle.rules_table.specs.Limits.{fits};
+ghost use Rattle.rules_table.specs.Table.{needs};
+ghost use Rattle.rules_table.specs.Terms as terms;
 ghost use Rattle.safety_rules.specs.Answers.{site_of};
 ghost use Rattle.safety_rules.specs.Usable.{NamesExist};
-ghost use Rattle.leadsto_rules.specs.Leading.{Gives, led_of, are_small, ClaimFits, LedFits};
+ghost use Rattle.leadsto_rules.specs.Leading.{TermGives, led_of, are_small, ClaimFits, LedFits};
 
 use case_tables::Code;
 use core_terms::{CForm, CSlot, Range, size_of, weight_of};
-use proof_rules::Led;
+use rules_table::Led;
 use safety_rules::{Place, RuleError};
 use unity_base::{Held, Seq};
 
@@ -25,7 +25,7 @@ pub(crate) struct Claim {
 
 // The rounds, where they are at most 2^63.
 pub(crate) fn bounded(rounds: u128) -> Result<u64, RuleError>
-    ensures { Gives result (needs (nat_le rounds (2 ^ 63)) Code.BoundTooLarge (Ok rounds)) }
+    ensures { TermGives result (needs (nat_le rounds (2 ^ 63)) Code.BoundTooLarge (Ok rounds)) }
 {
     if rounds <= 1 << 63 {
         Ok(rounds as u64)
@@ -54,7 +54,7 @@ fn are_small(pl: &Place, ranges: &[Range], claim: &Claim) -> bool
 // What a node gives, where its bound and its conclusion are small enough.
 pub(crate) fn node(pl: &Place, ranges: &[Range], claim: Claim) -> Result<Led, RuleError>
     requires { ClaimFits pl.now.slots.now ranges.now claim.p claim.q claim.under claim.forms }
-    ensures answer { Gives result (terms.node (site_of pl.now) ranges.now (led_of claim)) }
+    ensures answer { TermGives result (terms.node (site_of pl.now) ranges.now (led_of claim)) }
     ensures fits { IfOk result (LedFits pl.now.slots.now ranges.now) }
 {
     let bound = bounded(claim.rounds)?;

@@ -7,13 +7,13 @@ ghost use Rattle.core_terms.specs.Trees.{same_form};
 ghost use Rattle.core_terms.specs.Weights.{plain_weight};
 ghost use Rattle.safety_rules.specs.Foldable.{IsFoldable};
 ghost use Rattle.fair_rounds.specs.declared.records.Record.{Record as TheRecord};
-ghost use Rattle.proof_rules.specs.Table.{go_on, needs};
-ghost use Rattle.proof_rules.specs.Terms as terms;
-ghost use Rattle.proof_rules.specs.declared.led.Led.{Led as TheLed};
+ghost use Rattle.rules_table.specs.Table.{go_on, needs};
+ghost use Rattle.rules_table.specs.Terms as terms;
+ghost use Rattle.rules_table.specs.declared.led.Led.{Led as TheLed};
 ghost use Rattle.safety_rules.specs.Answers.{site_of, IsPlace};
 ghost use Rattle.safety_rules.specs.Instances.{AnswersRecord};
 ghost use Rattle.safety_rules.specs.Usable.{NamesExist};
-ghost use Rattle.leadsto_rules.specs.Leading.{Gives, LedFits, beside};
+ghost use Rattle.leadsto_rules.specs.Leading.{TermGives, LedFits, beside};
 ghost use Rattle.leadsto_rules.specs.References.{FitsIn};
 
 use crate::gathering::follows;
@@ -22,7 +22,7 @@ use crate::nodes::{Claim, node};
 use case_tables::{Code, Kind};
 use core_terms::{CForm, Range, and_form, copy_forms, held_form, or_form};
 use fair_rounds::Record;
-use proof_rules::Led;
+use rules_table::Led;
 use safety_rules::{Place, RuleError, is_same};
 use std::alloc::{AllocError, Global};
 use unity_base::{Held, Seq};
@@ -84,7 +84,7 @@ pub(crate) fn led_by(
     requires place { IsPlace pl.now }
     requires p { FormFits pl.now.slots.now ranges.now p.now }
     requires q { FormFits pl.now.slots.now ranges.now q.now }
-    ensures answer { Gives result
+    ensures answer { TermGives result
         (terms.node (site_of pl.now) ranges.now (terms.leads_by pl.now.using.now p.now q.now)) }
     ensures fits { IfOk result (LedFits pl.now.slots.now ranges.now) }
 {
@@ -114,7 +114,7 @@ fn rounds_of(a: &Record) -> u64
 // What a record says.
 fn told(alloc: Global, pl: &Place, ranges: &[Range], a: &Record) -> Result<Led, RuleError>
     requires { FitsIn pl.now.slots.now ranges.now a.now }
-    ensures answer { Gives result (terms.node (site_of pl.now) ranges.now (terms.leads_from a.now)) }
+    ensures answer { TermGives result (terms.node (site_of pl.now) ranges.now (terms.leads_from a.now)) }
     ensures fits { IfOk result (LedFits pl.now.slots.now ranges.now) }
 {
     let claim = Claim {
@@ -135,7 +135,7 @@ pub(crate) fn led_from(
     a: Result<Held<Record>, RuleError>,
 ) -> Result<Led, RuleError>
     requires { IfOk a (FitsIn pl.now.slots.now ranges.now) }
-    ensures answer { (row : Result TheRecord TheCode) → AnswersRecord a row → Gives result (go_on row (λ a.
+    ensures answer { (row : Result TheRecord TheCode) → AnswersRecord a row → TermGives result (go_on row (λ a.
         terms.node (site_of pl.now) ranges.now (terms.leads_from a))) }
     ensures fits { IfOk result (LedFits pl.now.slots.now ranges.now) }
 {
@@ -149,7 +149,7 @@ pub(crate) fn led_from(
 fn joined_on(alloc: Global, pl: &Place, ranges: &[Range], t: Led, u: Led) -> Result<Led, RuleError>
     requires t { LedFits pl.now.slots.now ranges.now t }
     requires u { LedFits pl.now.slots.now ranges.now u }
-    ensures answer { Gives result (terms.node (site_of pl.now) ranges.now (terms.leads_on t u)) }
+    ensures answer { TermGives result (terms.node (site_of pl.now) ranges.now (terms.leads_on t u)) }
     ensures fits { IfOk result (LedFits pl.now.slots.now ranges.now) }
 {
     let Led {
@@ -186,7 +186,7 @@ pub(crate) fn led_on(
 ) -> Result<Led, RuleError>
     requires t { LedFits pl.now.slots.now ranges.now t }
     requires u { IfOk u (LedFits pl.now.slots.now ranges.now) }
-    ensures answer { (row : Result TheLed TheCode) → Gives u row → Gives result (go_on row (λ u.
+    ensures answer { (row : Result TheLed TheCode) → TermGives u row → TermGives result (go_on row (λ u.
         needs (same_form t.q u.p) TheCode.MiddleDiffers
         (terms.node (site_of pl.now) ranges.now (terms.leads_on t u)))) }
     ensures fits { IfOk result (LedFits pl.now.slots.now ranges.now) }
@@ -213,7 +213,7 @@ fn joined_either(
 ) -> Result<Led, RuleError>
     requires t { LedFits pl.now.slots.now ranges.now t }
     requires u { LedFits pl.now.slots.now ranges.now u }
-    ensures answer { Gives result (terms.node (site_of pl.now) ranges.now (terms.leads_either t u)) }
+    ensures answer { TermGives result (terms.node (site_of pl.now) ranges.now (terms.leads_either t u)) }
     ensures fits { IfOk result (LedFits pl.now.slots.now ranges.now) }
 {
     let p = either_of(alloc, t.p.get(), u.p.get())?;
@@ -251,7 +251,7 @@ pub(crate) fn led_either(
 ) -> Result<Led, RuleError>
     requires t { LedFits pl.now.slots.now ranges.now t }
     requires u { IfOk u (LedFits pl.now.slots.now ranges.now) }
-    ensures answer { (row : Result TheLed TheCode) → Gives u row → Gives result (go_on row (λ u. needs
+    ensures answer { (row : Result TheLed TheCode) → TermGives u row → TermGives result (go_on row (λ u. needs
         (same_form t.q u.q) TheCode.MiddleDiffers (terms.node (site_of pl.now) ranges.now (terms.leads_either t u)))) }
     ensures fits { IfOk result (LedFits pl.now.slots.now ranges.now) }
 {
@@ -280,7 +280,7 @@ pub(crate) fn led_weaker(
     requires p { FormFits pl.now.slots.now ranges.now p.now }
     requires q { FormFits pl.now.slots.now ranges.now q.now }
     requires t { LedFits pl.now.slots.now ranges.now t }
-    ensures answer { Gives result
+    ensures answer { TermGives result
         (terms.node (site_of pl.now) ranges.now (terms.leads_weaker pl.now.using.now p.now q.now t)) }
     ensures fits { IfOk result (LedFits pl.now.slots.now ranges.now) }
 {
@@ -332,7 +332,7 @@ fn beside(
     requires record { FitsIn pl.now.slots.now ranges.now a.now }
     requires p { NamesExist pl.now.slots.now ranges.now p.now }
     requires q { NamesExist pl.now.slots.now ranges.now q.now }
-    ensures answer { Gives result (terms.node (site_of pl.now) ranges.now (beside t a.now p.now q.now)) }
+    ensures answer { TermGives result (terms.node (site_of pl.now) ranges.now (beside t a.now p.now q.now)) }
     ensures fits { IfOk result (LedFits pl.now.slots.now ranges.now) }
 {
     let more_under = copy_forms(alloc, a.under.as_slice())?;
@@ -364,7 +364,7 @@ fn kept_safe(
 ) -> Result<Led, RuleError>
     requires t { LedFits pl.now.slots.now ranges.now t }
     requires record { FitsIn pl.now.slots.now ranges.now a.now }
-    ensures answer { Gives result (terms.node (site_of pl.now) ranges.now (terms.leads_safely t a.now)) }
+    ensures answer { TermGives result (terms.node (site_of pl.now) ranges.now (terms.leads_safely t a.now)) }
     ensures fits { IfOk result (LedFits pl.now.slots.now ranges.now) }
 {
     let p = both_of(alloc, t.p.get(), &a.p)?;
@@ -382,7 +382,7 @@ pub(crate) fn led_safely(
 ) -> Result<Led, RuleError>
     requires t { LedFits pl.now.slots.now ranges.now t }
     requires record { IfOk a (FitsIn pl.now.slots.now ranges.now) }
-    ensures answer { (row : Result TheRecord TheCode) → AnswersRecord a row → Gives result (go_on row (λ a.
+    ensures answer { (row : Result TheRecord TheCode) → AnswersRecord a row → TermGives result (go_on row (λ a.
         terms.node (site_of pl.now) ranges.now (terms.leads_safely t a))) }
     ensures fits { IfOk result (LedFits pl.now.slots.now ranges.now) }
 {

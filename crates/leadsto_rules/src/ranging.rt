@@ -4,20 +4,20 @@ ghost use Rattle.case_tables.specs.declared.code_table.Code.{Code as TheCode};
 ghost use Rattle.core_terms.specs.Conditions.{IsRange};
 ghost use Rattle.core_terms.specs.Places.{form_params, names_param};
 ghost use Rattle.core_terms.specs.Weights.{plain_weight};
-ghost use Rattle.proof_rules.specs.Forms.{any_of};
-ghost use Rattle.proof_rules.specs.Numbers.{form_for, numbers_of};
-ghost use Rattle.proof_rules.specs.Table.{needs};
-ghost use Rattle.proof_rules.specs.Terms as terms;
+ghost use Rattle.rules_table.specs.Forms.{any_of};
+ghost use Rattle.rules_table.specs.Numbers.{form_for, numbers_of};
+ghost use Rattle.rules_table.specs.Table.{needs};
+ghost use Rattle.rules_table.specs.Terms as terms;
 ghost use Rattle.safety_rules.specs.Answers.{site_of};
 ghost use Rattle.leadsto_rules.specs.Disjunctions.{GivesAny};
-ghost use Rattle.leadsto_rules.specs.Leading.{Gives, LedFits};
+ghost use Rattle.leadsto_rules.specs.Leading.{TermGives, LedFits};
 
 use crate::disjunctions::{Instances, any_instance};
 use crate::naming::names;
 use crate::nodes::{Claim, bounded, node};
 use case_tables::Code;
 use core_terms::{CForm, Range};
-use proof_rules::Led;
+use rules_table::Led;
 use safety_rules::{Place, RuleError};
 use std::alloc::Global;
 use unity_base::Held;
@@ -50,7 +50,7 @@ fn any_led(
 ) -> Result<Led, RuleError>
     requires range { IsRange range }
     requires t { LedFits pl.now.slots.now ranges.now t }
-    ensures answer { Gives result
+    ensures answer { TermGives result
         (terms.node (site_of pl.now) ranges.now (terms.leads_any ranges.now name range t)) }
     ensures fits { IfOk result (LedFits pl.now.slots.now ranges.now) }
 {
@@ -84,7 +84,7 @@ pub(crate) fn led_any(
 ) -> Result<Led, RuleError>
     requires range { IsRange range }
     requires t { LedFits pl.now.slots.now ranges.now t }
-    ensures answer { Gives result (needs (not (names_param name t.q)) TheCode.ParamEscapes
+    ensures answer { TermGives result (needs (not (names_param name t.q)) TheCode.ParamEscapes
         (terms.node (site_of pl.now) ranges.now (terms.leads_any ranges.now name range t))) }
     ensures fits { IfOk result (LedFits pl.now.slots.now ranges.now) }
 {

@@ -3,9 +3,9 @@ ghost use Rattle.std.specs.Prelude.{◌≡◌, nat_eq, option_copied, All, IfOk,
 ghost use Rattle.case_tables.specs.declared.code_table.Code.{Code as TheCode};
 ghost use Rattle.core_terms.specs.Conditions.{IsRange};
 ghost use Rattle.fair_rounds.specs.declared.records.Record.{Record as TheRecord};
-ghost use Rattle.proof_rules.specs.Table as table;
-ghost use Rattle.proof_rules.specs.Table.{needs};
-ghost use Rattle.proof_rules.specs.Terms as terms;
+ghost use Rattle.rules_table.specs.Table as table;
+ghost use Rattle.rules_table.specs.Table.{needs};
+ghost use Rattle.rules_table.specs.Terms as terms;
 ghost use Rattle.safety_rules.specs.Answers.{site_of};
 ghost use Rattle.safety_rules.specs.Instances.{RecordFits, AnswersRecord};
 ghost use Rattle.leadsto_rules.specs.References.{is_named, serves, FitsIn};

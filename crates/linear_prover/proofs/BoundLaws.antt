@@ -6,11 +6,11 @@ use Rattle.std.specs.Int.RustNames.{int_le}
 use Rattle.std.proofs.lemmas.Int.{ints}
 use Rattle.std.proofs.lemmas.List.{take_more}
 use Rattle.std.proofs.lemmas.Option.{slice_get_past}
-use Rattle.state_steps.specs.State.{int_eq}
+use Rattle.meaning_states.specs.State.{int_eq}
 use Rattle.obligations.specs.declared.branches.Fact.{Fact}
 use Rattle.obligations.specs.declared.branches.Bound.{Bound}
 use Rattle.obligations.specs.Reach.{is_bound_of, bound_at, tighter, tightest}
-use Rattle.linear_prover.specs.Tables.{bound_here, bound_in, AreNumbered, AreBounds}
+use Rattle.linear_prover.specs.Tables.{bound_here, bound_in, AreBoundPlaces, AreBounds}
 
 int-le-is : (a b : ℤ) → int_le a b ≡ true → a ≤ℤ b
 int-le-is a b h = grind (arith, ints)
@@ -180,7 +180,7 @@ tight-place (f ∷ facts) n v side = by_test (is_bound_of v side f.factors) (tig
 
 pub numbered : (count : ℕ) (side : ℤ) (facts : List Fact) (table : List (Option Bound)) → AreBounds count side facts
     table →
-    length facts < 2 ^ 62 → AreNumbered table
+    length facts < 2 ^ 62 → AreBoundPlaces table
 numbered count side facts table b h v = by_place (nat_lt v count) refl
   where
     some_less : (o : Option Bound) → IfSome o (λ b. b.place < 0 + length facts) → IfSome o (λ b. b.place < 2 ^ 64 - 1)

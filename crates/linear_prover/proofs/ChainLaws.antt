@@ -9,7 +9,7 @@ use Rattle.std.proofs.lemmas.Bool.{and_parts}
 use Rattle.obligations.specs.declared.branches.Fact.{Fact}
 use Rattle.obligations.specs.declared.branches.Bound.{Bound}
 use Rattle.obligations.specs.declared.certificates.Node.{Node}
-use Rattle.state_steps.specs.State.{int_eq}
+use Rattle.meaning_states.specs.State.{int_eq}
 use Rattle.obligations.specs.Certificates.{units}
 use Rattle.obligations.specs.Reach.{is_exact, is_within, are_exact, tightest, side_for, Total, total_with, total_of}
 use Rattle.obligations.specs.Reach.{is_refuted_by, bounds_refute, pair_for, bound_pairs, are_opposite, divisor_of}
@@ -19,7 +19,7 @@ use Rattle.linear_prover.specs.Chains.{Closes, IsShort, ClosesShortly, is_plain_
 use Rattle.linear_prover.specs.Chains.{is_plain_node}
 use Rattle.linear_prover.specs.declared.bounds.Bounds.{Bounds}
 use Rattle.linear_prover.specs.declared.clash.Pair.{Pair}
-use Rattle.linear_prover.specs.Tables.{IsAt, Tells, is_refuted_in, pairs_in}
+use Rattle.linear_prover.specs.Tables.{IsAt, BoundsTell, is_refuted_in, pairs_in}
 use Rattle.linear_prover.specs.Clashes.{IsPartner, IsClash, clash_chain}
 use Rattle.linear_prover.proofs.TotalLaws.{total-is, pairs-are}
 use Rattle.std.proofs.lemmas.Option.{slice_get_within, get_or_from_slice_get}
@@ -204,12 +204,13 @@ any-at t (y ∷ ys) (suc n) x e p = or-true (t y) (list_any t ys) (any-at t ys n
 pub found-is : (facts : List Fact) (n : ℕ) (f g : Fact) → slice_get facts n ≡ Some g → f ≡ get_or facts n f → f ≡ g
 found-is facts n f g e h = h ∙ get_or_from_slice_get facts n g f e
 
-refuted-same : (count : ℕ) (facts : List Fact) (bounds : Bounds) (f : Fact) → Tells count facts bounds → is_within count
+refuted-same : (count : ℕ) (facts : List Fact) (bounds : Bounds) (f : Fact) → BoundsTell count facts bounds → is_within
+    count
     f.factors ≡ true → is_refuted_in bounds f ≡ bounds_refute facts f
 refuted-same count facts bounds f t w = ap (is_refuted_by f.constant)
     (total-is count facts bounds f.factors t.lows t.highs w)
 
-pub refuted-none : (count : ℕ) (all facts : List Fact) (bounds : Bounds) → Tells count all bounds → are_exact count
+pub refuted-none : (count : ℕ) (all facts : List Fact) (bounds : Bounds) → BoundsTell count all bounds → are_exact count
     facts ≡ true → list_any (is_refuted_in bounds) facts ≡ list_any (bounds_refute all) facts
 refuted-none count all [] bounds t x = refl
 refuted-none count all (f ∷ facts) bounds t x =
@@ -218,7 +219,7 @@ refuted-none count all (f ∷ facts) bounds t x =
     ap (λ b. b || list_any (is_refuted_in bounds) facts) (refuted-same count all bounds f t b.1) ∙ ap
     (λ b. bounds_refute all f || b) (refuted-none count all facts bounds t a.1)
 
-pub refuted-at : (count : ℕ) (facts : List Fact) (bounds : Bounds) (n : ℕ) (f : Fact) → Tells count facts bounds →
+pub refuted-at : (count : ℕ) (facts : List Fact) (bounds : Bounds) (n : ℕ) (f : Fact) → BoundsTell count facts bounds →
     are_exact count facts ≡ true →
     (r : IsAt (is_refuted_in bounds) facts n) → f ≡ get_or facts n f → (slice_get facts n ≡ Some f) ×
     (bounds_refute facts f ≡ true)
@@ -231,7 +232,7 @@ refuted-at count facts bounds n f t x r e =
     )
 
 pub sum-chain : (count : ℕ) (facts : List Fact) (bounds : Bounds) (n m : ℕ) (f : Fact) (ps : List (ℤ × ℕ))
-    (ns : List Node) → Tells count facts bounds → are_exact count facts ≡ true →
+    (ns : List Node) → BoundsTell count facts bounds → are_exact count facts ≡ true →
     IsAt (is_refuted_in bounds) facts n → f ≡ get_or facts n f → m ≡ n + 1 → ps ≡ (pos 1, m) ∷ pairs_in bounds f.factors
     → ns ≡ Node.Sum ps ∷ [] → ClosesShortly count facts ns
 sum-chain count facts bounds n m f ps ns t x r e k p q =

@@ -13,7 +13,7 @@ use Rattle.obligations.specs.declared.branches.Line.{Line}
 use Rattle.obligations.specs.declared.certificates.Node.{Node}
 use Rattle.case_tables.specs.declared.code_table.Code.{Code}
 use Rattle.core_terms.specs.Values.{number_at}
-use Rattle.state_steps.specs.State.{int_eq}
+use Rattle.meaning_states.specs.State.{int_eq}
 use Rattle.obligations.specs.LinearForms.{sparse, fact_of}
 use Rattle.obligations.specs.Load.{is_small}
 use Rattle.certificate_check.specs.Sums.{then_pair, add_pair, is_divisible, divided}

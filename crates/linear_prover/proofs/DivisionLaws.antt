@@ -12,7 +12,7 @@ use Rattle.std.proofs.lemmas.Nat.Gcd.{dvd_trans, dvd-zero, mod-eq-zero_of_dvd}
 use Rattle.std.proofs.lemmas.Int.{ints}
 use Rattle.std.proofs.lemmas.Bool.{and_parts}
 use Rattle.core_terms.specs.Values.{number_at}
-use Rattle.state_steps.specs.State.{int_eq}
+use Rattle.meaning_states.specs.State.{int_eq}
 use Rattle.obligations.specs.LinearForms.{sparse}
 use Rattle.obligations.specs.Reach.{is_exact, are_opposite, gcd, divisor_of, is_moderate}
 use Rattle.linear_prover.specs.Exact.{factor_in}

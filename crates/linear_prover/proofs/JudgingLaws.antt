@@ -6,7 +6,7 @@ use Rattle.obligations.specs.declared.branches.Fact.{Fact}
 use Rattle.obligations.specs.declared.certificates.Node.{Node}
 use Rattle.certificate_check.specs.Sums.{is_divisible}
 use Rattle.certificate_check.specs.Refutation.{opens, made_sum}
-use Rattle.linear_prover.specs.Chains.{nulls, total_pairs, Closes, IsRound, AddsRound}
+use Rattle.linear_prover.specs.Chains.{nulls, total_pairs, Closes, IsRoundStep, AddsRound}
 
 pub nulls_more : (n : ℕ) → nulls (n + 1) ≡ nulls n ++ pos 0 ∷ []
 nulls_more n = let one : n + 1 ≡ suc n = omega arith in ap nulls one ∙ more n

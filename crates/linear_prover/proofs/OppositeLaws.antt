@@ -7,7 +7,7 @@ use Rattle.std.specs.Int.{IsGcd, int_div_euclid}
 use Rattle.std.specs.Int.RustNames.{int_le, unsigned_abs}
 use Rattle.std.proofs.lemmas.Bool.{and_parts}
 use Rattle.obligations.specs.declared.branches.Fact.{Fact}
-use Rattle.state_steps.specs.State.{int_eq}
+use Rattle.meaning_states.specs.State.{int_eq}
 use Rattle.obligations.specs.Reach.{is_exact, are_opposite, gcd, divisor_of, is_moderate_fact, is_some_factor, clash}
 use Rattle.std.proofs.lemmas.Nat.Gcd.{dvd_antisymm, dvd-zero}
 use Rattle.linear_prover.proofs.GcdLaws.{gcd-is}

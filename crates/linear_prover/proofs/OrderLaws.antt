@@ -11,7 +11,7 @@ use Rattle.std.specs.Int.RustNames.{int_le}
 use Rattle.std.proofs.lemmas.Int.{ints}
 use Rattle.std.proofs.lemmas.Bool.{and_parts}
 use lib.IntN.{*ℤ-zero}
-use Rattle.state_steps.specs.State.{int_eq}
+use Rattle.meaning_states.specs.State.{int_eq}
 use Rattle.core_terms.specs.Values.{number_at}
 use Rattle.case_tables.specs.declared.code_table.Code.{Code}
 use Rattle.obligations.specs.declared.branches.Fact.{Fact}
@@ -21,7 +21,7 @@ use Rattle.obligations.specs.LinearForms.{add_at, sparse, fact_of}
 use Rattle.obligations.specs.Load.{is_small}
 use Rattle.obligations.specs.Reach.{is_exact, is_within, are_exact}
 use Rattle.obligations.proofs.LineLaws.{length-add_at}
-use Rattle.certificate_check.specs.Refutation.{Made, fails, opens, made_sum}
+use Rattle.certificate_check.specs.Refutation.{NodeEffect, fails, opens, made_sum}
 use Rattle.certificate_check.specs.Sums.{add_factors, with_constant, add_times, numbered, or_too_big, add_pair}
 use Rattle.certificate_check.specs.Sums.{then_pair, sum_pairs, is_divisible, divided}
 use Rattle.linear_prover.specs.Chains.{nulls, null_line, total_pairs, Closes}

@@ -12,7 +12,7 @@ use Rattle.obligations.specs.declared.branches.Fact.{Fact}
 use Rattle.obligations.specs.declared.branches.Line.{Line}
 use Rattle.case_tables.specs.declared.code_table.Code.{Code}
 use Rattle.core_terms.specs.Values.{number_at}
-use Rattle.state_steps.specs.State.{int_eq}
+use Rattle.meaning_states.specs.State.{int_eq}
 use Rattle.obligations.specs.LinearForms.{add_at}
 use Rattle.obligations.specs.Load.{is_small}
 use Rattle.certificate_check.specs.Sums.{add_factors, with_constant, add_times, or_too_big, add_pair, sum_pairs}

@@ -68,7 +68,7 @@ IsTotal count facts ps None = Unit {0}
 IsTotal count facts ps (Some l) = total_pairs count facts ps ≡ Ok l
 
 -- a round adds this fact
-pub record IsRound (count : ℕ) (facts : List Fact) (d : ℤ) (ps : List (ℤ × ℕ)) (f : Fact) : Type 0 where
+pub record IsRoundStep (count : ℕ) (facts : List Fact) (d : ℤ) (ps : List (ℤ × ℕ)) (f : Fact) : Type 0 where
   pub line : Line
   pub total : total_pairs count facts ps ≡ Ok line
   pub divisible : is_divisible d line ≡ true
@@ -76,5 +76,5 @@ pub record IsRound (count : ℕ) (facts : List Fact) (d : ℤ) (ps : List (ℤ �
 
 pub record AddsRound (count : ℕ) (d : ℤ) (ps : List (ℤ × ℕ)) (old new : List Fact) : Type 0 where
   pub fact : Fact
-  pub round : IsRound count old d ps fact
+  pub round : IsRoundStep count old d ps fact
   pub added : new ≡ old ++ fact ∷ []

@@ -5,7 +5,7 @@ use Rattle.std.specs.Int.{int_div_euclid}
 use Rattle.std.specs.Int.RustNames.{unsigned_abs}
 use Rattle.obligations.specs.declared.branches.Fact.{Fact}
 use Rattle.obligations.specs.declared.certificates.Node.{Node}
-use Rattle.state_steps.specs.State.{int_eq}
+use Rattle.meaning_states.specs.State.{int_eq}
 use Rattle.obligations.specs.Reach.{divisor_of, is_moderate_fact, is_some_factor, clash}
 use Rattle.linear_prover.specs.declared.clash.Rounding.{Rounding}
 use Rattle.linear_prover.specs.declared.clash.Partner.{Partner}

@@ -17,8 +17,8 @@ abbrev pub bound_in : List (Option Bound) → ℕ → Option Bound
 bound_in table v = bound_here (slice_get table v)
 
 -- the bounds of a table have numbers: a place and one more
-abbrev pub AreNumbered : List (Option Bound) → Type 0
-AreNumbered table = (v : ℕ) → IfSome (bound_in table v) (λ b. b.place < 2 ^ 64 - 1)
+abbrev pub AreBoundPlaces : List (Option Bound) → Type 0
+AreBoundPlaces table = (v : ℕ) → IfSome (bound_in table v) (λ b. b.place < 2 ^ 64 - 1)
 
 -- a table has the tightest bound of each variable from one side
 pub record AreBounds (count : ℕ) (side : ℤ) (facts : List Fact) (table : List (Option Bound)) : Type 0 where
@@ -68,8 +68,8 @@ pub record IsAt {A : Type 0} (test : A → Bool) (xs : List A) (n : ℕ) : Type 
   pub passes : test item ≡ true
 
 -- the tables of both sides
-pub record Tells (count : ℕ) (facts : List Fact) (bounds : Bounds) : Type 0 where
+pub record BoundsTell (count : ℕ) (facts : List Fact) (bounds : Bounds) : Type 0 where
   pub lows : AreBounds count (pos 1) facts bounds.lows
   pub highs : AreBounds count (negsuc 0) facts bounds.highs
-  pub low_numbers : AreNumbered bounds.lows
-  pub high_numbers : AreNumbered bounds.highs
+  pub low_numbers : AreBoundPlaces bounds.lows
+  pub high_numbers : AreBoundPlaces bounds.highs

@@ -5,7 +5,8 @@ ghost use Rattle.std.specs.List.{list_all, list_any};
 ghost use Rattle.std.specs.Int.RustNames.{unsigned_abs};
 ghost use Rattle.obligations.specs.Reach.{is_bound_of, bound_at, tighter, tightest, total_with, is_refuted_by};
 ghost use Rattle.obligations.specs.Reach.{pair_for};
-ghost use Rattle.linear_prover.specs.Tables.{bound_in, AreNumbered, AreBounds, Tells, is_lost, light_total, IsNextSum};
+ghost use Rattle.linear_prover.specs.Tables.{bound_in, AreBoundPlaces, AreBounds, BoundsTell, is_lost, light_total};
+ghost use Rattle.linear_prover.specs.Tables.{IsNextSum};
 ghost use Rattle.linear_prover.specs.Tables.{against, total_in, is_refuted_in, IsAt, pairs_of, pairs_in};
 ghost use Rattle.linear_prover.specs.Chains.{is_plain_number, is_plain_factor};
 
@@ -80,7 +81,7 @@ fn bounds_from(
 ) -> Result<Seq<Option<Bound>>, AllocError>
     requires { length facts.now < 2 ^ 62 }
     ensures bounds { IfOk result (AreBounds count side.now facts.now) }
-    ensures numbers { IfOk result AreNumbered }
+    ensures numbers { IfOk result AreBoundPlaces }
 {
     let mut table = Seq::new(alloc);
     'variables: for _ in 0..count {
@@ -102,7 +103,7 @@ pub struct Bounds {
 /// The tightest bounds that facts give.
 pub fn bounds_of(alloc: Global, facts: &[Fact], count: u32) -> Result<Bounds, AllocError>
     requires { length facts.now < 2 ^ 62 }
-    ensures { IfOk result (Tells count facts.now) }
+    ensures { IfOk result (BoundsTell count facts.now) }
 {
     Ok(Bounds {
         lows: bounds_from(alloc, facts, count, &1)?,
@@ -249,8 +250,8 @@ pub fn pairs_against(
     number: u64,
     fact: &Fact,
 ) -> Result<Seq<(i64, u64)>, AllocError>
-    requires lows { AreNumbered bounds.now.lows }
-    requires highs { AreNumbered bounds.now.highs }
+    requires lows { AreBoundPlaces bounds.now.lows }
+    requires highs { AreBoundPlaces bounds.now.highs }
     requires plain { list_all is_plain_factor fact.now.factors ≡ true }
     ensures { IfOk result (λ ps. ps ≡ (pos 1, number) ∷ pairs_in bounds.now fact.now.factors) }
 {

@@ -5,7 +5,7 @@ ghost use Rattle.std.specs.Prelude.{false, length, IfOk, IfSome, MatchOption};
 ghost use Rattle.std.specs.List.{list_all, list_any};
 ghost use Rattle.std.specs.Int.{IsGcd, int_div_euclid};
 ghost use Rattle.std.specs.Int.RustNames.{int_le, unsigned_abs};
-ghost use Rattle.state_steps.specs.State.{int_eq};
+ghost use Rattle.meaning_states.specs.State.{int_eq};
 ghost use Rattle.obligations.specs.Reach.{is_exact, are_opposite, gcd, divisor_of, is_moderate, is_moderate_fact};
 ghost use Rattle.obligations.specs.Reach.{is_some_factor, clash};
 ghost use Rattle.linear_prover.specs.Tables.{IsAt};

@@ -6,9 +6,9 @@ use crate::bounds::bounds_of;
 use crate::columns::{Column, Columns, columns_of, rows_of};
 use crate::judging::is_closing;
 use obligations::{Fact, Node};
+use search_simplex::{Multiple, multipliers};
 use std::alloc::{AllocError, Global};
 use unity_base::Seq;
-use whole_simplex::{Multiple, multipliers};
 
 /// The most rounds before a sum.
 const ROUNDS: usize = 63;

@@ -3,11 +3,11 @@ ghost use Rattle.std.specs.Prelude.{◌≡◌, ◌+◌, ◌<◌, ◌^◌, ◌++�
 ghost use Rattle.std.specs.Prelude.{map, zero, suc, IfOk, IfSome, OnOk};
 ghost use Rattle.std.specs.List.{list_all};
 ghost use Rattle.std.specs.Int.{int_div_euclid, int_rem_euclid};
-ghost use Rattle.state_steps.specs.State.{int_eq};
+ghost use Rattle.meaning_states.specs.State.{int_eq};
 ghost use Rattle.obligations.specs.LinearForms.{fact_of};
 ghost use Rattle.certificate_check.specs.Sums.{is_divisible, divided};
 ghost use Rattle.certificate_check.specs.Refutation.{made_sum, opens};
-ghost use Rattle.linear_prover.specs.Chains.{nulls, null_line, total_pairs, Closes, IsTotal, IsRound, AddsRound};
+ghost use Rattle.linear_prover.specs.Chains.{nulls, null_line, total_pairs, Closes, IsTotal, IsRoundStep, AddsRound};
 ghost use Rattle.linear_prover.specs.Chains.{is_plain_number, is_plain_pair, is_plain_node};
 
 use certificate_check::{add_pairs, closes, divides, rounded};
@@ -82,7 +82,7 @@ fn round_fact(
     divisor: i64,
     pairs: &[(i64, u64)],
 ) -> Result<Option<Fact>, AllocError>
-    ensures { IfOk result (λ o. IfSome o (IsRound count facts.now divisor pairs.now)) }
+    ensures { IfOk result (λ o. IfSome o (IsRoundStep count facts.now divisor pairs.now)) }
 {
     match total(alloc, facts, count, pairs)? {
         Some(line) => fact_after(alloc, &line, divisor),

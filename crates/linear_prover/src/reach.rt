@@ -4,7 +4,7 @@ ghost use Rattle.std.specs.Prelude.{Some, IfOk, IfSome, MatchOption};
 ghost use Rattle.std.specs.List.{list_any};
 ghost use Rattle.obligations.specs.Reach.{are_exact, bounds_refute, clash, some_out_of_reach};
 ghost use Rattle.linear_prover.specs.Chains.{ClosesShortly};
-ghost use Rattle.linear_prover.specs.Tables.{Tells};
+ghost use Rattle.linear_prover.specs.Tables.{BoundsTell};
 ghost use Rattle.linear_prover.specs.Clashes.{clash_chain};
 
 use crate::bounds::{Bounds, bounds_of, first_refuted, pairs_against};
@@ -31,7 +31,7 @@ fn sum_against(
 ) -> Result<Option<Seq<Node>>, AllocError>
     requires exact { are_exact count facts.now ≡ true }
     requires room { length facts.now < 2 ^ 62 }
-    requires bounds { Tells count facts.now bounds.now }
+    requires bounds { BoundsTell count facts.now bounds.now }
     ensures reach { IfOk result (λ o. MatchOption o
         (list_any (bounds_refute facts.now) facts.now ≡ false)
         (λ ns. list_any (bounds_refute facts.now) facts.now ≡ true)) }

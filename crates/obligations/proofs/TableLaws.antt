@@ -12,7 +12,7 @@ use Rattle.obligations.specs.declared.branches.Variable.{Variable}
 use Rattle.obligations.specs.declared.branches.Line.{Line}
 use Rattle.obligations.specs.LinearForms.{sparse, zeros}
 use Rattle.obligations.specs.Settling.{joined, nothing, one_fact, two_facts, one_waiting, first_ite, least_adds}
-use Rattle.obligations.specs.Settling.{zero_adds, unequal_adds, below_zero, Outcome, outcome_step, outcome}
+use Rattle.obligations.specs.Settling.{zero_adds, unequal_adds, below_zero, Settled, outcome_step, outcome}
 use Rattle.obligations.specs.Settling.{term_tree_step, settled, refused}
 use Rattle.obligations.proofs.TreeLaws.{form_fold, R, term_tree-is, outcome-tree}
 
@@ -33,15 +33,15 @@ joined-nothing a = branch-of _ _ (append_nil a.facts) (append_nil a.waiting)
 
 module _ (vs : List Variable) where
   outcome_at : (x : CForm-F CForm CTerm) (f : CForm) → roll-CForm x ≡ f →
-      outcome vs f ≡ outcome_step vs (map-CForm CForm CTerm Outcome CTerm (outcome vs) (R vs) x)
+      outcome vs f ≡ outcome_step vs (map-CForm CForm CTerm Settled CTerm (outcome vs) (R vs) x)
   outcome_at x f e = form_fold (outcome_step vs) term_tree_step x f e
 
   pub settled-Top : (b : Branch) → settled vs Top b ≡ b
-  settled-Top b = ap (λ (o : Outcome). joined b o.yes) (outcome_at CForm-F.Top Top rolls-Top) ∙ joined-nothing b
+  settled-Top b = ap (λ (o : Settled). joined b o.yes) (outcome_at CForm-F.Top Top rolls-Top) ∙ joined-nothing b
 
   pub refused-Bottom : (b : Branch) → refused vs Bottom b ≡ b
   refused-Bottom b =
-      ap (λ (o : Outcome). joined b o.no) (outcome_at CForm-F.Bottom Bottom rolls-Bottom) ∙ joined-nothing b
+      ap (λ (o : Settled). joined b o.no) (outcome_at CForm-F.Bottom Bottom rolls-Bottom) ∙ joined-nothing b
 
   sparse-zeros : {A : Type 0} (n : ℕ) (vs : List A) → sparse n (zeros vs) ≡ []
   sparse-zeros n [] = refl
@@ -49,60 +49,60 @@ module _ (vs : List Variable) where
 
   pub settled-Bottom : (b : Branch) → settled vs Bottom b ≡ joined b
       (record { facts = record { factors = []; constant = negsuc 0 } ∷ []; waiting = [] })
-  settled-Bottom b = ap (λ (o : Outcome). joined b o.yes) (outcome_at CForm-F.Bottom Bottom rolls-Bottom)
+  settled-Bottom b = ap (λ (o : Settled). joined b o.yes) (outcome_at CForm-F.Bottom Bottom rolls-Bottom)
       ∙ ap (λ x. joined b (record { facts = record { factors = x; constant = negsuc 0 } ∷ []; waiting = [] }))
       (sparse-zeros 0 vs)
 
   pub refused-Top : (b : Branch) → refused vs Top b ≡ joined b
       (record { facts = record { factors = []; constant = negsuc 0 } ∷ []; waiting = [] })
-  refused-Top b = ap (λ (o : Outcome). joined b o.no) (outcome_at CForm-F.Top Top rolls-Top)
+  refused-Top b = ap (λ (o : Settled). joined b o.no) (outcome_at CForm-F.Top Top rolls-Top)
       ∙ ap (λ x. joined b (record { facts = record { factors = x; constant = negsuc 0 } ∷ []; waiting = [] }))
       (sparse-zeros 0 vs)
 
   pub settled-AtLeast : (t : CTerm) (b : Branch) → settled vs (AtLeast t) b ≡ joined b (least_adds vs t (first_ite t))
   settled-AtLeast t b =
-      ap (λ (o : Outcome). joined b o.yes) (outcome_at (CForm-F.AtLeast t) (AtLeast t) (rolls-AtLeast t)
+      ap (λ (o : Settled). joined b o.yes) (outcome_at (CForm-F.AtLeast t) (AtLeast t) (rolls-AtLeast t)
       ∙ ap (λ x. outcome_step vs (CForm-F.AtLeast x)) (term_tree-is vs t))
 
   pub refused-AtLeast : (t : CTerm) (b : Branch) →
       refused vs (AtLeast t) b ≡ joined b (least_adds vs (below_zero t) (first_ite (below_zero t)))
   refused-AtLeast t b =
-      ap (λ (o : Outcome). joined b o.no) (outcome_at (CForm-F.AtLeast t) (AtLeast t) (rolls-AtLeast t)
+      ap (λ (o : Settled). joined b o.no) (outcome_at (CForm-F.AtLeast t) (AtLeast t) (rolls-AtLeast t)
       ∙ ap (λ x. outcome_step vs (CForm-F.AtLeast x)) (term_tree-is vs t))
 
   pub settled-Zero : (t : CTerm) (b : Branch) → settled vs (Zero t) b ≡ joined b (zero_adds vs t (first_ite t))
   settled-Zero t b =
-      ap (λ (o : Outcome). joined b o.yes) (outcome_at (CForm-F.Zero t) (Zero t) (rolls-Zero t)
+      ap (λ (o : Settled). joined b o.yes) (outcome_at (CForm-F.Zero t) (Zero t) (rolls-Zero t)
       ∙ ap (λ x. outcome_step vs (CForm-F.Zero x)) (term_tree-is vs t))
 
   pub refused-Zero : (t : CTerm) (b : Branch) → refused vs (Zero t) b ≡ joined b (unequal_adds t (first_ite t))
   refused-Zero t b =
-      ap (λ (o : Outcome). joined b o.no) (outcome_at (CForm-F.Zero t) (Zero t) (rolls-Zero t)
+      ap (λ (o : Settled). joined b o.no) (outcome_at (CForm-F.Zero t) (Zero t) (rolls-Zero t)
       ∙ ap (λ x. outcome_step vs (CForm-F.Zero x)) (term_tree-is vs t))
 
   pub settled-Not : (f : CForm) (b : Branch) → settled vs (Not f) b ≡ refused vs f b
-  settled-Not f b = ap (λ (o : Outcome). joined b o.yes) (outcome_at (CForm-F.Not f) (Not f) (rolls-Not f))
+  settled-Not f b = ap (λ (o : Settled). joined b o.yes) (outcome_at (CForm-F.Not f) (Not f) (rolls-Not f))
 
   pub refused-Not : (f : CForm) (b : Branch) → refused vs (Not f) b ≡ settled vs f b
-  refused-Not f b = ap (λ (o : Outcome). joined b o.no) (outcome_at (CForm-F.Not f) (Not f) (rolls-Not f))
+  refused-Not f b = ap (λ (o : Settled). joined b o.no) (outcome_at (CForm-F.Not f) (Not f) (rolls-Not f))
 
   pub settled-And : (f g : CForm) (b : Branch) → settled vs (And f g) b ≡ settled vs g (settled vs f b)
   settled-And f g b =
-      ap (λ (o : Outcome). joined b o.yes) (outcome_at (CForm-F.And f g) (And f g) (rolls-And f g))
+      ap (λ (o : Settled). joined b o.yes) (outcome_at (CForm-F.And f g) (And f g) (rolls-And f g))
       ∙ sym (joined-joined b (outcome vs f).yes (outcome vs g).yes)
 
   pub refused-Or : (f g : CForm) (b : Branch) → refused vs (Or f g) b ≡ refused vs g (refused vs f b)
   refused-Or f g b =
-      ap (λ (o : Outcome). joined b o.no) (outcome_at (CForm-F.Or f g) (Or f g) (rolls-Or f g))
+      ap (λ (o : Settled). joined b o.no) (outcome_at (CForm-F.Or f g) (Or f g) (rolls-Or f g))
       ∙ sym (joined-joined b (outcome vs f).no (outcome vs g).no)
 
   pub settled-Or : (f g : CForm) (b : Branch) → settled vs (Or f g) b ≡ joined b (one_waiting (Or f g))
-  settled-Or f g b = ap (λ (o : Outcome). joined b o.yes) (outcome_at (CForm-F.Or f g) (Or f g) (rolls-Or f g))
+  settled-Or f g b = ap (λ (o : Settled). joined b o.yes) (outcome_at (CForm-F.Or f g) (Or f g) (rolls-Or f g))
       ∙ ap (λ x. joined b (one_waiting (Or x (outcome vs g).tree))) (outcome-tree vs f)
       ∙ ap (λ x. joined b (one_waiting (Or f x))) (outcome-tree vs g)
 
   pub refused-And : (f g : CForm) (b : Branch) → refused vs (And f g) b ≡ joined b (one_waiting (Or (Not f) (Not g)))
-  refused-And f g b = ap (λ (o : Outcome). joined b o.no) (outcome_at (CForm-F.And f g) (And f g) (rolls-And f g))
+  refused-And f g b = ap (λ (o : Settled). joined b o.no) (outcome_at (CForm-F.And f g) (And f g) (rolls-And f g))
       ∙ ap (λ x. joined b (one_waiting (Or (Not x) (Not (outcome vs g).tree)))) (outcome-tree vs f)
       ∙ ap (λ x. joined b (one_waiting (Or (Not f) (Not x)))) (outcome-tree vs g)
 

@@ -18,7 +18,7 @@ use Rattle.obligations.specs.declared.branches.Choice.{Choice}
 use Rattle.obligations.specs.LinearForms.{zeros, place_of, line_of_const, line_of_place, line_plus, no_line}
 use Rattle.obligations.specs.LinearForms.{linear_step, linear}
 use Rattle.obligations.specs.Settling.{within, first_choice, Parted, form_tree_step, parted_step, parted, first_ite}
-use Rattle.obligations.specs.Settling.{Outcome, term_tree_step, outcome_step, outcome}
+use Rattle.obligations.specs.Settling.{Settled, term_tree_step, outcome_step, outcome}
 use Rattle.obligations.proofs.LineLaws.{length-zeros, length-add_at, length-plus}
 
 -- The folds, form by form.
@@ -58,7 +58,7 @@ module _ (vs : List Variable) where
 
   -- what stands in the fold of settling for a term: the term
   abbrev pub R : CTerm → CTerm
-  R = fold-CTerm Outcome CTerm (outcome_step vs) term_tree_step
+  R = fold-CTerm Settled CTerm (outcome_step vs) term_tree_step
 
 abbrev form_tree : CForm → CForm
 form_tree = fold-CForm CForm Parted form_tree_step parted_step
@@ -189,8 +189,8 @@ module _ (vs : List Variable) where
   tree_of x f e = form_fold form_tree_step parted_step x f e
 
   abbrev outcome_of : (x : CForm-F CForm CTerm) (f : CForm) → roll-CForm x ≡ f →
-      (outcome vs f).tree ≡ (outcome_step vs (map-CForm CForm CTerm Outcome CTerm (outcome vs) (R vs) x)).tree
-  outcome_of x f e = ap (λ (o : Outcome). o.tree) (form_fold (outcome_step vs) term_tree_step x f e)
+      (outcome vs f).tree ≡ (outcome_step vs (map-CForm CForm CTerm Settled CTerm (outcome vs) (R vs) x)).tree
+  outcome_of x f e = ap (λ (o : Settled). o.tree) (form_fold (outcome_step vs) term_tree_step x f e)
 
   top-tree : FormTree Top
   top-tree = record { same = tree_of CForm-F.Top Top rolls-Top; tree = outcome_of CForm-F.Top Top rolls-Top }

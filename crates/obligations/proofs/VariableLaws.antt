@@ -14,7 +14,7 @@ use Rattle.core_terms.specs.declared.trees.CForm.TheFolds.{map-CForm, map-CTerm}
 use Rattle.core_terms.specs.declared.trees.Range.{Range}
 use Rattle.obligations.specs.declared.branches.Variable.{Variable}
 use Rattle.obligations.specs.declared.branches.Obligation.{Obligation}
-use Rattle.state_steps.specs.State.{int_eq}
+use Rattle.meaning_states.specs.State.{int_eq}
 use Rattle.core_terms.specs.Values.{number_at, term_step, form_step, term_value, form_value}
 use Rattle.obligations.specs.LinearForms.{is_named, place_of}
 use Rattle.obligations.specs.Settling.{term_at_step, term_at, form_at}

@@ -134,12 +134,12 @@ abbrev pub below_zero : CTerm → CTerm
 below_zero t = Sub (Const (negsuc 0)) t
 
 -- a formula, and what it and its negation add
-pub record Outcome : Type 0 where
+pub record Settled : Type 0 where
   pub tree : CForm
   pub yes : Branch
   pub no : Branch
 
-abbrev pub term_tree_step : CTerm-F Outcome CTerm → CTerm
+abbrev pub term_tree_step : CTerm-F Settled CTerm → CTerm
 term_tree_step (CTerm-F.Const c) = Const c
 term_tree_step (CTerm-F.Slot n) = Slot n
 term_tree_step (CTerm-F.Param n) = Param n
@@ -149,7 +149,7 @@ term_tree_step (CTerm-F.Scale k a) = Scale k a
 term_tree_step (CTerm-F.Ite c a b) = Ite c.tree a b
 
 -- what a formula and its negation add, from what its parts do
-abbrev pub outcome_step : List Variable → CForm-F Outcome CTerm → Outcome
+abbrev pub outcome_step : List Variable → CForm-F Settled CTerm → Settled
 outcome_step vs CForm-F.Top = record { tree = Top; yes = nothing; no = one_fact (line_of_const vs (negsuc 0)) }
 outcome_step vs CForm-F.Bottom = record { tree = Bottom; yes = one_fact (line_of_const vs (negsuc 0)); no = nothing }
 outcome_step vs (CForm-F.AtLeast t) = record {
@@ -174,8 +174,8 @@ outcome_step vs (CForm-F.Or f g) = record {
   no = joined f.no g.no;
 }
 
-abbrev pub outcome : List Variable → CForm → Outcome
-outcome vs = fold-CForm Outcome CTerm (outcome_step vs) term_tree_step
+abbrev pub outcome : List Variable → CForm → Settled
+outcome vs = fold-CForm Settled CTerm (outcome_step vs) term_tree_step
 
 -- the branch with a formula settled
 abbrev pub settled : List Variable → CForm → Branch → Branch

@@ -10,8 +10,8 @@ use Rattle.core_terms.specs.declared.documents.CProof.{CProof}
 use Rattle.core_terms.specs.Conditions.{IsStep}
 use Rattle.obligations.specs.declared.certificates.Cert.{Cert}
 use Rattle.fair_rounds.specs.declared.records.Record.{Record}
-use Rattle.proof_rules.specs.Conclusion.{Conclusion}
-use Rattle.proof_rules.specs.Walk.{has_defined, rule_of}
+use Rattle.rules_table.specs.Conclusion.{Conclusion}
+use Rattle.rules_table.specs.Walk.{has_defined, rule_of}
 use Rattle.safety_rules.specs.declared.places.Derived.{Derived}
 use Rattle.safety_rules.specs.Answers.{derived_of}
 use Rattle.proof_script.specs.declared.plans.Plan.{Plan}

@@ -6,7 +6,7 @@ use Rattle.core_terms.specs.declared.documents.CStep.{CStep}
 use Rattle.core_terms.specs.declared.documents.CProof.{CProof}
 use Rattle.obligations.specs.declared.branches.Obligation.{Obligation}
 use Rattle.obligations.specs.declared.certificates.Cert.{Cert}
-use Rattle.proof_rules.specs.Walk.{program_of, rule_of}
+use Rattle.rules_table.specs.Walk.{program_of, rule_of}
 use Rattle.safety_rules.specs.declared.places.Derived.{Derived}
 use Rattle.safety_rules.specs.Answers.{derived_of}
 use Rattle.proof_script.specs.declared.plans.Plan.{Plan}

@@ -7,26 +7,26 @@ use Rattle.std.specs.List.{list_any, find}
 use Rattle.std.proofs.lemmas.List.{length-map}
 use Rattle.std.proofs.lemmas.List.Elements.{All-head, All-tail}
 use Rattle.case_tables.specs.declared.code_table.Code.{Code}
-use Rattle.unity_meaning.specs.Steps.{Pairwise}
+use Rattle.meaning_documents.specs.Steps.{Pairwise}
 use Rattle.core_terms.specs.declared.programs.CSlot.{CSlot}
 use Rattle.core_terms.specs.declared.programs.CProgram.{CProgram}
 use Rattle.core_terms.specs.declared.documents.CStep.{CStep}
 use Rattle.core_terms.specs.declared.documents.CProof.{CProof}
 use Rattle.core_terms.specs.declared.documents.CDocument.{CDocument}
-use Rattle.core_terms.specs.Conditions.{IsDocument, IsProof}
+use Rattle.core_terms.specs.Conditions.{IsCoreDocument, IsProof}
 use Rattle.obligations.specs.declared.branches.Obligation.{Obligation}
 use Rattle.obligations.specs.declared.certificates.Cert.{Cert}
-use Rattle.certificate_check.specs.Refutation.{judged}
+use Rattle.certificate_check.specs.Refutation.{walk_from_root}
 use Rattle.certificate_check.specs.Trees.{is_whole}
 use Rattle.certificate_check.proofs.WholeLaws.{walked-refutes, refutes-walked}
 use Rattle.fair_rounds.specs.declared.records.Record.{Record}
-use Rattle.proof_rules.specs.Conclusion.{Conclusion}
-use Rattle.proof_rules.specs.Validity.{Goal, goal_obligation}
-use Rattle.proof_rules.specs.Table.{needs}
-use Rattle.proof_rules.specs.Walk as walk
-use Rattle.proof_rules.specs.Walk.{Failure, has_defined, or_failure, further, rule_of, planned, steps_of, proof_end}
-use Rattle.proof_rules.specs.Walk.{program_of, proof_steps, proofs_of}
-use Rattle.proof_rules.proofs.SiteLaws.{met}
+use Rattle.rules_table.specs.Conclusion.{Conclusion}
+use Rattle.rules_table.specs.Validity.{Goal, goal_obligation}
+use Rattle.rules_table.specs.Table.{needs}
+use Rattle.rules_table.specs.Walk as walk
+use Rattle.rules_table.specs.Walk.{Failure, has_defined, or_failure, further, rule_of, planned, steps_of, proof_end}
+use Rattle.rules_table.specs.Walk.{program_of, proof_steps, proofs_of}
+use Rattle.rules_table.proofs.SiteLaws.{met}
 use Rattle.safety_rules.specs.Answers.{obligations_of}
 use Rattle.rules_steps.specs.Starts.{starts_in}
 use Rattle.proof_script.specs.declared.plans.Plan.{Plan}
@@ -209,7 +209,7 @@ module _ (slots : List CSlot) where
   goal_refuted g c certs whole h =
       let o : Obligation = goal_obligation slots g.params g.form in
       let same : c ≡ h.0 = cc (h.1) in
-      walked-refutes o c.nodes whole (ap (λ (x : Cert). judged o x.nodes) same ∙ h.2)
+      walked-refutes o c.nodes whole (ap (λ (x : Cert). walk_from_root o x.nodes) same ∙ h.2)
 
   paired : (goals : List Goal) (certs : List Cert) → AreWhole certs → AreShown certs 0 (obligations_of slots goals) →
       length certs ≡ length goals → Pairwise (GoalRefuted slots) goals certs
@@ -239,7 +239,7 @@ module _ (slots : List CSlot) where
 
 -- ---- the whole document
 
-accepted_so : (d : CDocument) (certs : List Cert) → IsDocument d → AreWhole certs →
+accepted_so : (d : CDocument) (certs : List Cert) → IsCoreDocument d → AreWhole certs →
     (plan : Plan) × (verdict_of d certs ≡ Ok plan) → Follows d certs
 accepted_so d certs good whole a =
     let s = accepted_shown d certs a.0 a.1 in

@@ -14,10 +14,10 @@ use Rattle.core_terms.specs.declared.documents.CDocument.{CDocument}
 use Rattle.core_terms.specs.Conditions.{IsProgram}
 use Rattle.obligations.specs.declared.branches.Obligation.{Obligation}
 use Rattle.obligations.specs.declared.certificates.Cert.{Cert}
-use Rattle.proof_rules.specs.Conclusion.{Conclusion}
-use Rattle.proof_rules.proofs.EachLaws.{from_all, each_at, found_in}
-use Rattle.proof_rules.specs.Table.{needs}
-use Rattle.proof_rules.specs.Walk.{has_defined, program_of, rule_of}
+use Rattle.rules_table.specs.Conclusion.{Conclusion}
+use Rattle.rules_table.proofs.EachLaws.{from_all, each_at, found_in}
+use Rattle.rules_table.specs.Table.{needs}
+use Rattle.rules_table.specs.Walk.{has_defined, program_of, rule_of}
 use Rattle.safety_rules.specs.declared.places.Derived.{Derived}
 use Rattle.safety_rules.specs.Answers.{derived_of}
 use Rattle.rules_steps.proofs.ItemLaws.{drop_at, drop_end}

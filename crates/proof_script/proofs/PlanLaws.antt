@@ -2,8 +2,8 @@
 use Rattle.std.proofs.Common.{◌≡◌, Result, Ok, Err, sym, ap, ◌∙◌, refl, subst, List}
 use Rattle.core_terms.specs.declared.documents.CDocument.{CDocument}
 use Rattle.core_terms.specs.declared.programs.CSlot.{CSlot}
-use Rattle.proof_rules.specs.Walk as walk
-use Rattle.proof_rules.specs.Walk.{Failure, walk_of}
+use Rattle.rules_table.specs.Walk as walk
+use Rattle.rules_table.specs.Walk.{Failure, walk_of}
 use Rattle.rules_steps.specs.Starts.{starts_in}
 use Rattle.proof_script.specs.declared.plans.Plan.{Plan}
 use Rattle.proof_script.specs.declared.plans.StepFault.{StepFault}

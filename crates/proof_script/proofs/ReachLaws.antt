@@ -16,12 +16,12 @@ use Rattle.core_terms.specs.Conditions.{IsStep}
 use Rattle.obligations.specs.declared.branches.Obligation.{Obligation}
 use Rattle.obligations.specs.declared.certificates.Cert.{Cert}
 use Rattle.fair_rounds.specs.declared.records.Record.{Record}
-use Rattle.proof_rules.specs.Conclusion.{Conclusion}
-use Rattle.proof_rules.specs.Table.{needs}
-use Rattle.proof_rules.specs.Walk.{has_defined, program_of, rule_of}
+use Rattle.rules_table.specs.Conclusion.{Conclusion}
+use Rattle.rules_table.specs.Table.{needs}
+use Rattle.rules_table.specs.Walk.{has_defined, program_of, rule_of}
 use Rattle.safety_rules.specs.declared.places.Derived.{Derived}
 use Rattle.safety_rules.specs.declared.places.RuleError.{RuleError}
-use Rattle.safety_rules.specs.Answers.{Answers, derived_of}
+use Rattle.safety_rules.specs.Answers.{RuleAnswers, derived_of}
 use Rattle.proof_script.specs.declared.plans.Plan.{Plan}
 use Rattle.proof_script.specs.Reaching.{Stop, Reach, further, by_row, step_reach, steps_reach, end_reach, proof_reach}
 use Rattle.proof_script.specs.Reaching.{proofs_reach, reach_of, reached}
@@ -409,7 +409,7 @@ accepted d certs plan e h few =
 -- what a call's answer says of a step
 
 pub reach_taken : (slots : List CSlot) (c : CProgram) (s : CStep) (plan : Plan) (d : Derived) →
-    Answers (Ok d) slots (rule_of slots (starts_in slots) c s plan.records) →
+    RuleAnswers (Ok d) slots (rule_of slots (starts_in slots) c s plan.records) →
     step_reach slots c s plan ≡ Ok (grown plan d)
 reach_taken slots c s plan d h =
     let x = answered d slots (rule_of slots (starts_in slots) c s plan.records) h in
@@ -417,7 +417,7 @@ reach_taken slots c s plan d h =
     ∙ ap (λ (y : Derived). Ok (grown plan y)) (sym x.2)
 
 pub reach_fails : (slots : List CSlot) (c : CProgram) (s : CStep) (plan : Plan) (code : Code) →
-    Answers (Err (RuleError.Fault code)) slots (rule_of slots (starts_in slots) c s plan.records) →
+    RuleAnswers (Err (RuleError.Fault code)) slots (rule_of slots (starts_in slots) c s plan.records) →
     step_reach slots c s plan ≡
     Err (record { plan = plan; fault = rule_fault c.name (Some s.name) code })
 reach_fails slots c s plan code h =

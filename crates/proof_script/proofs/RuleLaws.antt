@@ -5,11 +5,11 @@ use Rattle.core_terms.specs.declared.programs.CSlot.{CSlot}
 use Rattle.core_terms.specs.declared.programs.CProgram.{CProgram}
 use Rattle.core_terms.specs.declared.documents.CStep.{CStep}
 use Rattle.obligations.specs.declared.certificates.Cert.{Cert}
-use Rattle.proof_rules.specs.Conclusion.{Conclusion}
-use Rattle.proof_rules.specs.Walk.{rule_of}
+use Rattle.rules_table.specs.Conclusion.{Conclusion}
+use Rattle.rules_table.specs.Walk.{rule_of}
 use Rattle.safety_rules.specs.declared.places.Derived.{Derived}
 use Rattle.safety_rules.specs.declared.places.RuleError.{RuleError}
-use Rattle.safety_rules.specs.Answers.{derived_of, Answers}
+use Rattle.safety_rules.specs.Answers.{derived_of, RuleAnswers}
 use Rattle.rules_steps.specs.Starts.{starts_in}
 use Rattle.rules_steps.proofs.StepLaws.{answered, failed}
 use Rattle.proof_script.specs.declared.plans.Plan.{Plan}
@@ -17,7 +17,7 @@ use Rattle.proof_script.specs.Verdicts.{then_by, or_rule_fault, rule_fault, take
 use Rattle.proof_script.proofs.Equations.{step-is}
 
 pub step_taken : (slots : List CSlot) (certs : List Cert) (c : CProgram) (s : CStep) (plan : Plan) (d : Derived) →
-    Answers (Ok d) slots (rule_of slots (starts_in slots) c s plan.records) →
+    RuleAnswers (Ok d) slots (rule_of slots (starts_in slots) c s plan.records) →
     step_verdict slots certs c s plan ≡ taken certs c.name s.name plan d
 step_taken slots certs c s plan d h =
     let x = answered d slots (rule_of slots (starts_in slots) c s plan.records) h in
@@ -27,7 +27,7 @@ step_taken slots certs c s plan d h =
     ∙ ap (λ (y : Derived). taken certs c.name s.name plan y) (sym x.2)
 
 pub step_fails : (slots : List CSlot) (certs : List Cert) (c : CProgram) (s : CStep) (plan : Plan) (code : Code) →
-    Answers (Err (RuleError.Fault code)) slots (rule_of slots (starts_in slots) c s plan.records) →
+    RuleAnswers (Err (RuleError.Fault code)) slots (rule_of slots (starts_in slots) c s plan.records) →
     step_verdict slots certs c s plan ≡ Err (rule_fault c.name (Some s.name) code)
 step_fails slots certs c s plan code h =
     step-is slots certs c s plan

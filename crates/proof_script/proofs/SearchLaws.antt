@@ -18,8 +18,8 @@ use Rattle.certificate_check.specs.Trees.{is_whole}
 use Rattle.certificate_check.proofs.RefutationLaws.{sound}
 use Rattle.fair_rounds.specs.declared.records.Record.{Record}
 use Rattle.linear_prover.specs.Chains.{is_plain_node}
-use Rattle.tree_search.specs.Searching.{Proof, Counterexample, Partial}
-use Rattle.proof_rules.proofs.EachLaws.{Each}
+use Rattle.search_tree.specs.Searching.{Proof, Counterexample, Partial}
+use Rattle.rules_table.proofs.EachLaws.{Each}
 use Rattle.safety_rules.specs.declared.places.Derived.{Derived}
 use Rattle.proof_script.specs.declared.plans.Plan.{Plan}
 use Rattle.proof_script.specs.declared.plans.StepFault.{StepFault}

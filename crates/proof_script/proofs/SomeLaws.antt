@@ -6,7 +6,7 @@ use Rattle.std.proofs.Common.{arith}
 use Rattle.std.specs.Prelude.{All}
 use Rattle.std.proofs.lemmas.List.Elements.{All-head, All-tail}
 use Rattle.case_tables.specs.declared.code_table.Code.{Code}
-use Rattle.core_terms.specs.Conditions.{IsDocument, IsProgram, IsProof, IsSlot, IsStep}
+use Rattle.core_terms.specs.Conditions.{IsCoreDocument, IsProgram, IsProof, IsSlot, IsStep}
 use Rattle.core_terms.specs.declared.programs.CSlot.{CSlot}
 use Rattle.core_terms.specs.declared.programs.CProgram.{CProgram}
 use Rattle.core_terms.specs.declared.documents.CStep.{CStep}
@@ -16,16 +16,16 @@ use Rattle.obligations.specs.Certificates.{units}
 use Rattle.obligations.specs.Obligations.{IsObligation}
 use Rattle.obligations.specs.declared.branches.Obligation.{Obligation}
 use Rattle.obligations.specs.declared.certificates.Cert.{Cert}
-use Rattle.proof_rules.proofs.EachLaws.{Each}
-use Rattle.proof_rules.specs.Conclusion.{Conclusion}
-use Rattle.proof_rules.specs.Walk.{has_defined, program_of, rule_of}
+use Rattle.rules_table.proofs.EachLaws.{Each}
+use Rattle.rules_table.specs.Conclusion.{Conclusion}
+use Rattle.rules_table.specs.Walk.{has_defined, program_of, rule_of}
 use Rattle.safety_rules.specs.Answers.{derived_of}
 use Rattle.safety_rules.specs.declared.places.Derived.{Derived}
 use Rattle.rules_steps.proofs.GoalLaws.{IsStepRow, told_step}
 use Rattle.rules_steps.specs.Starts.{starts_in}
 use Rattle.rules_steps.specs.Using.{BookFits}
-use Rattle.tree_search.specs.Ends.{Ending, proved, refuted, short, SearchEnds}
-use Rattle.tree_search.specs.Searching.{Proof}
+use Rattle.search_tree.specs.Ends.{Ending, proved, refuted, short, SearchEnds}
+use Rattle.search_tree.specs.Searching.{Proof}
 use Rattle.proof_script.specs.declared.finding.Finding.{Finding}
 use Rattle.proof_script.specs.declared.finding.Halt.{Halt}
 use Rattle.proof_script.specs.declared.plans.Plan.{Plan}

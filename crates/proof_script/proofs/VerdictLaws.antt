@@ -11,17 +11,17 @@ use Rattle.core_terms.specs.declared.documents.CProof.{CProof}
 use Rattle.core_terms.specs.declared.documents.CDocument.{CDocument}
 use Rattle.obligations.specs.declared.branches.Obligation.{Obligation}
 use Rattle.obligations.specs.declared.certificates.Cert.{Cert}
-use Rattle.certificate_check.specs.Refutation.{Reading, judged}
+use Rattle.certificate_check.specs.Refutation.{WalkResult, walk_from_root}
 use Rattle.certificate_check.proofs.RefutationLaws.{sound}
-use Rattle.proof_rules.specs.Conclusion.{Conclusion}
-use Rattle.proof_rules.specs.Validity.{Goal, goal_obligation, AllValid}
-use Rattle.proof_rules.specs.Table.{needs}
-use Rattle.proof_rules.specs.Walk as walk
-use Rattle.proof_rules.specs.Walk.{Failure, has_defined, or_failure, further, rule_of, planned, steps_of, proof_end}
-use Rattle.proof_rules.specs.Walk.{program_of, proof_steps, proofs_of}
-use Rattle.proof_rules.proofs.GoalLaws.{goal_shown}
-use Rattle.proof_rules.proofs.SiteLaws.{met}
-use Rattle.proof_rules.proofs.WalkTheorems.{walk_sound}
+use Rattle.rules_table.specs.Conclusion.{Conclusion}
+use Rattle.rules_table.specs.Validity.{Goal, goal_obligation, AllValid}
+use Rattle.rules_table.specs.Table.{needs}
+use Rattle.rules_table.specs.Walk as walk
+use Rattle.rules_table.specs.Walk.{Failure, has_defined, or_failure, further, rule_of, planned, steps_of, proof_end}
+use Rattle.rules_table.specs.Walk.{program_of, proof_steps, proofs_of}
+use Rattle.rules_table.proofs.GoalLaws.{goal_shown}
+use Rattle.rules_table.proofs.SiteLaws.{met}
+use Rattle.rules_table.proofs.WalkTheorems.{walk_sound}
 use Rattle.safety_rules.specs.Answers.{obligations_of, derived_of}
 use Rattle.proof_script.specs.declared.plans.Plan.{Plan}
 use Rattle.proof_script.specs.Laws.{plan_of, AcceptedIsValid, AcceptedHolds}
@@ -38,7 +38,7 @@ use Rattle.proof_script.proofs.ReachLaws.{shown_join}
 -- obligations whose certificates do not fail are refuted
 
 -- no node of the certificate fails, and no branch is left
-pub unfailing : (r : Reading) → failing_node r ≡ None → r ≡ Ok []
+pub unfailing : (r : WalkResult) → failing_node r ≡ None → r ≡ Ok []
 unfailing (Ok []) none = refl
 unfailing (Ok (p ∷ ps)) none = cc
 unfailing (Err failure) none = cc
@@ -52,7 +52,7 @@ one_shown : (certs : List Cert) (o : Obligation) (number : ℕ) (found : Option 
     slice_get certs number ≡ found → failing o found ≡ None → ShownAt certs number o × (number < length certs)
 one_shown certs o number None e none = cc
 one_shown certs o number (Some cert) e none =
-    ((cert, e, unfailing (judged o cert.nodes) none), below certs number cert e)
+    ((cert, e, unfailing (walk_from_root o cert.nodes) none), below certs number cert e)
 
 no_fault : (program step number : ℕ) (code : Option Code) (done : Unit {0}) →
     or_refutation_fault program step number code ≡ Ok done → code ≡ None

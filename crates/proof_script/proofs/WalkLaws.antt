@@ -8,11 +8,11 @@ use Rattle.core_terms.specs.declared.programs.CProgram.{CProgram}
 use Rattle.core_terms.specs.declared.documents.CStep.{CStep}
 use Rattle.core_terms.specs.declared.documents.CProof.{CProof}
 use Rattle.core_terms.specs.declared.documents.CDocument.{CDocument}
-use Rattle.proof_rules.specs.Conclusion.{Conclusion}
-use Rattle.proof_rules.specs.Table.{needs}
-use Rattle.proof_rules.specs.Walk as walk
-use Rattle.proof_rules.specs.Walk.{Failure, has_defined, or_failure, rule_of, planned, steps_of, proof_end, program_of}
-use Rattle.proof_rules.specs.Walk.{proof_steps, proofs_of}
+use Rattle.rules_table.specs.Conclusion.{Conclusion}
+use Rattle.rules_table.specs.Table.{needs}
+use Rattle.rules_table.specs.Walk as walk
+use Rattle.rules_table.specs.Walk.{Failure, has_defined, or_failure, rule_of, planned, steps_of, proof_end, program_of}
+use Rattle.rules_table.specs.Walk.{proof_steps, proofs_of}
 use Rattle.proof_script.specs.declared.plans.Plan.{Plan}
 use Rattle.proof_script.specs.Laws.{ReachAgrees, ReachIsWalk, plan_of}
 use Rattle.proof_script.specs.Reaching.{Reach, further, by_row, steps_reach, end_reach, proof_reach}

@@ -1,19 +1,19 @@
 -- When a document follows: each step of its proofs gets its record by the rules, each proof has its `defined` step, and
 -- each obligation that is left has one certificate, which refutes it.
 use Rattle.std.specs.Prelude.{◌≡◌, ◌↔◌, true, List, [], ◌∷◌, ◌++◌, Some, Ok}
-use Rattle.unity_meaning.specs.Steps.{Pairwise}
+use Rattle.meaning_documents.specs.Steps.{Pairwise}
 use Rattle.core_terms.specs.declared.programs.CSlot.{CSlot}
 use Rattle.core_terms.specs.declared.programs.CProgram.{CProgram}
 use Rattle.core_terms.specs.declared.documents.CStep.{CStep}
 use Rattle.core_terms.specs.declared.documents.CProof.{CProof}
 use Rattle.core_terms.specs.declared.documents.CDocument.{CDocument}
-use Rattle.core_terms.specs.Conditions.{IsDocument}
+use Rattle.core_terms.specs.Conditions.{IsCoreDocument}
 use Rattle.obligations.specs.declared.certificates.Cert.{Cert}
 use Rattle.certificate_check.specs.Trees.{Refuted}
 use Rattle.fair_rounds.specs.declared.records.Record.{Record}
-use Rattle.proof_rules.specs.Validity.{Goal, goal_obligation}
-use Rattle.proof_rules.specs.Conclusion.{Conclusion}
-use Rattle.proof_rules.specs.Walk.{has_defined, program_of, rule_of}
+use Rattle.rules_table.specs.Validity.{Goal, goal_obligation}
+use Rattle.rules_table.specs.Conclusion.{Conclusion}
+use Rattle.rules_table.specs.Walk.{has_defined, program_of, rule_of}
 use Rattle.rules_steps.specs.Starts.{starts_in}
 use Rattle.proof_script.specs.declared.plans.Plan.{Plan}
 use Rattle.proof_script.specs.Giving.{AreWhole}
@@ -48,5 +48,5 @@ pub record Follows (d : CDocument) (certs : List Cert) : Type 0 where
 
 -- the verdict is a plan exactly where the document follows
 abbrev pub AcceptedFollows : Type 0
-AcceptedFollows = (d : CDocument) (certs : List Cert) → IsDocument d → AreWhole certs →
+AcceptedFollows = (d : CDocument) (certs : List Cert) → IsCoreDocument d → AreWhole certs →
     ((plan : Plan) × (verdict_of d certs ≡ Ok plan)) ↔ Follows d certs

@@ -9,7 +9,7 @@ use Rattle.obligations.specs.Obligations.{AreVariables}
 use Rattle.certificate_check.specs.Trees.{is_whole}
 use Rattle.fair_rounds.specs.declared.records.Record.{Record}
 use Rattle.fair_rounds.specs.Records.{Holds}
-use Rattle.proof_rules.specs.Walk.{program_of}
+use Rattle.rules_table.specs.Walk.{program_of}
 use Rattle.proof_script.specs.declared.plans.Plan.{Plan}
 use Rattle.proof_script.specs.declared.plans.StepFault.{StepFault}
 use Rattle.proof_script.specs.declared.plans.ScriptError.{ScriptError}

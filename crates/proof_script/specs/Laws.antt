@@ -2,11 +2,11 @@
 use Rattle.std.specs.Prelude.{◌≡◌, ◌≤◌, ℕ, List, length, Result, Ok, Err}
 use Rattle.core_terms.specs.declared.programs.CSlot.{CSlot}
 use Rattle.core_terms.specs.declared.documents.CDocument.{CDocument}
-use Rattle.core_terms.specs.Conditions.{IsDocument}
+use Rattle.core_terms.specs.Conditions.{IsCoreDocument}
 use Rattle.obligations.specs.declared.certificates.Cert.{Cert}
-use Rattle.proof_rules.specs.Validity.{AllValid}
-use Rattle.proof_rules.specs.Walk as walk
-use Rattle.proof_rules.specs.Walk.{Failure, walk_of}
+use Rattle.rules_table.specs.Validity.{AllValid}
+use Rattle.rules_table.specs.Walk as walk
+use Rattle.rules_table.specs.Walk.{Failure, walk_of}
 use Rattle.safety_rules.specs.Answers.{obligations_of}
 use Rattle.proof_script.specs.declared.plans.Plan.{Plan}
 use Rattle.proof_script.specs.declared.plans.Proof.{Proof}
@@ -40,7 +40,7 @@ AcceptedIsValid = (d : CDocument) (certs : List Cert) (plan : Plan) → verdict_
 
 -- and what its steps claim holds
 abbrev pub AcceptedHolds : Type 0
-AcceptedHolds = (d : CDocument) (certs : List Cert) (plan : Plan) → IsDocument d → verdict_of d certs ≡ Ok plan →
+AcceptedHolds = (d : CDocument) (certs : List Cert) (plan : Plan) → IsCoreDocument d → verdict_of d certs ≡ Ok plan →
     PlanHolds d plan
 
 -- how far the steps go is what the walk along them says: the same plan, or the same first failure
@@ -66,5 +66,5 @@ IsAnswered (Err ScriptError.Memory) = ⊥
 
 -- whatever the budget, a search may answer something of each document
 abbrev pub SomeFinding : Type 0
-SomeFinding = (d : CDocument) (budget : ℕ) → IsDocument d →
+SomeFinding = (d : CDocument) (budget : ℕ) → IsCoreDocument d →
     (finding : Result Proof ScriptError) × IsAnswered finding × Finds d budget finding

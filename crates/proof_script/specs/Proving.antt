@@ -11,7 +11,7 @@ use Rattle.obligations.specs.Opening.{Valid}
 use Rattle.obligations.specs.Plain.{enough}
 use Rattle.fair_rounds.specs.declared.records.Record.{Record}
 use Rattle.linear_prover.specs.Chains.{is_plain_node}
-use Rattle.tree_search.specs.Searching.{Counterexample}
+use Rattle.search_tree.specs.Searching.{Counterexample}
 use Rattle.proof_script.specs.declared.plans.Plan.{Plan}
 use Rattle.proof_script.specs.declared.plans.StepFault.{StepFault}
 use Rattle.proof_script.specs.declared.plans.ScriptError.{ScriptError}

@@ -2,7 +2,7 @@
 use Rattle.std.specs.Prelude.{◌≡◌, ℕ, suc, ◌+◌, ◌≤◌, ◌<◌, List, [], ◌∷◌, ◌++◌, length, slice_get, Some, Result, Ok, Err}
 use Rattle.obligations.specs.declared.branches.Obligation.{Obligation}
 use Rattle.obligations.specs.declared.certificates.Cert.{Cert}
-use Rattle.certificate_check.specs.Refutation.{judged}
+use Rattle.certificate_check.specs.Refutation.{walk_from_root}
 use Rattle.proof_script.specs.declared.plans.Plan.{Plan}
 use Rattle.proof_script.specs.declared.refuting.StepName.{StepName}
 use Rattle.proof_script.specs.declared.finding.Finding.{Finding}
@@ -13,7 +13,7 @@ use Rattle.proof_script.specs.Reaching.{Reach, reached}
 
 -- the certificate of this number, from 0, refutes the obligation
 abbrev pub ShownAt : List Cert → ℕ → Obligation → Type 0
-ShownAt certs number o = (c : Cert) × (slice_get certs number ≡ Some c) × (judged o c.nodes ≡ Ok [])
+ShownAt certs number o = (c : Cert) × (slice_get certs number ≡ Some c) × (walk_from_root o c.nodes ≡ Ok [])
 
 -- each obligation, from this number on, is refuted by the certificate of its number
 abbrev pub AreShown : List Cert → ℕ → List Obligation → Type 0

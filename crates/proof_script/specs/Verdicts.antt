@@ -10,9 +10,9 @@ use Rattle.core_terms.specs.declared.documents.CProof.{CProof}
 use Rattle.core_terms.specs.declared.documents.CDocument.{CDocument}
 use Rattle.obligations.specs.declared.branches.Obligation.{Obligation}
 use Rattle.obligations.specs.declared.certificates.Cert.{Cert}
-use Rattle.certificate_check.specs.Refutation.{Reading, judged}
-use Rattle.proof_rules.specs.Table.{needs}
-use Rattle.proof_rules.specs.Walk.{has_defined, program_of, rule_of}
+use Rattle.certificate_check.specs.Refutation.{WalkResult, walk_from_root}
+use Rattle.rules_table.specs.Table.{needs}
+use Rattle.rules_table.specs.Walk.{has_defined, program_of, rule_of}
 use Rattle.safety_rules.specs.declared.places.Derived.{Derived}
 use Rattle.safety_rules.specs.Answers.{derived_of}
 use Rattle.rules_steps.specs.Starts.{starts_in}
@@ -37,14 +37,14 @@ or_rule_fault program step (Ok x) = Ok x
 or_rule_fault program step (Err code) = Err (rule_fault program step code)
 
 -- how a certificate fails against an obligation: at its first node that fails, or where a subtree of it is missing
-abbrev pub failing_node : Reading → Option Code
+abbrev pub failing_node : WalkResult → Option Code
 failing_node (Ok []) = None
 failing_node (Ok (p ∷ ps)) = Some Code.CertMissing
 failing_node (Err e) = Some e.0
 
 abbrev pub failing : Obligation → Option Cert → Option Code
 failing o None = Some Code.CertMissing
-failing o (Some cert) = failing_node (judged o cert.nodes)
+failing o (Some cert) = failing_node (walk_from_root o cert.nodes)
 
 -- the obligation with this number, from 0, is not refuted
 abbrev pub refutation_fault : ℕ → ℕ → ℕ → Code → StepFault

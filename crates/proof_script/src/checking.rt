@@ -1,6 +1,6 @@
 // A whole document against its certificates.
 ghost use Rattle.std.specs.Prelude.{◌≡◌, ◌<◌, ◌^◌, true, IfOk};
-ghost use Rattle.core_terms.specs.Conditions.{IsDocument};
+ghost use Rattle.core_terms.specs.Conditions.{IsCoreDocument};
 ghost use Rattle.proof_script.specs.Giving.{AreWhole, VerdictAnswers, PlanHolds};
 ghost use Rattle.proof_script.specs.Verdicts.{surplus_fault, verdict_of};
 
@@ -35,7 +35,7 @@ fn surplus(obligations: usize) -> ScriptError
 /// node of a certificate that fails, and 51 at the end for the first certificate past the last obligation;
 /// or `Memory`, where memory was refused.
 pub fn check(alloc: Global, doc: &CDocument, certs: &[Cert]) -> Result<Plan, ScriptError>
-    requires document { IsDocument doc.now }
+    requires document { IsCoreDocument doc.now }
     requires whole { AreWhole certs.now }
     ensures verdict { VerdictAnswers result (verdict_of doc.now certs.now) }
     ensures holds { IfOk result (PlanHolds doc.now) }

@@ -1,8 +1,8 @@
 // The steps of proofs by their rules alone: their records, and what is left to be shown for them.
 ghost use Rattle.std.specs.Prelude.{◌+◌, ◌<◌, ◌^◌, All, length, map, sum, Some};
-ghost use Rattle.core_terms.specs.Conditions.{IsDocument, IsProgram, IsSlot, IsStep};
+ghost use Rattle.core_terms.specs.Conditions.{IsCoreDocument, IsProgram, IsSlot, IsStep};
 ghost use Rattle.core_terms.specs.declared.documents.CProof.{CProof};
-ghost use Rattle.proof_rules.specs.Walk.{program_of, walk_of};
+ghost use Rattle.rules_table.specs.Walk.{program_of, walk_of};
 ghost use Rattle.proof_script.specs.Planning.{Reaches, Walks};
 ghost use Rattle.proof_script.specs.Reaching.{proof_reach, proofs_reach, step_reach, steps_reach};
 ghost use Rattle.rules_steps.specs.Starts.{starts_in};
@@ -110,7 +110,7 @@ fn plan_proof(
 
 // All proofs of a document, in order.
 fn plan_proofs(alloc: Global, doc: &CDocument, plan: &mut Plan) -> Result<(), ScriptError>
-    requires document { IsDocument doc.now }
+    requires document { IsCoreDocument doc.now }
     requires book { BookFits doc.now.slots plan.old.records }
     requires room { length plan.old.records + sum (map (λ (p : CProof). length p.steps) doc.now.proofs) < 2 ^ 31 }
     ensures { Reaches result plan.new
@@ -129,7 +129,7 @@ fn plan_proofs(alloc: Global, doc: &CDocument, plan: &mut Plan) -> Result<(), Sc
 /// The error is the first failure: a code from 30 to 42 for the first condition of a step's rule that fails,
 /// or 36 with no step for a proof without a `defined` step; or `Memory`, where memory was refused.
 pub fn walk(alloc: Global, doc: &CDocument) -> Result<Plan, ScriptError>
-    requires document { IsDocument doc.now }
+    requires document { IsCoreDocument doc.now }
     ensures { Walks doc.now.slots result (walk_of doc.now (starts_in doc.now.slots)) }
 {
     let mut plan = new_plan(alloc);

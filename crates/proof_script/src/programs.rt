@@ -1,7 +1,7 @@
 // The program of a proof.
 ghost use Rattle.std.specs.Prelude.{◌≡◌};
 ghost use Rattle.std.specs.Option.{option_copied};
-ghost use Rattle.proof_rules.specs.Walk.{program_of};
+ghost use Rattle.rules_table.specs.Walk.{program_of};
 
 use core_terms::CProgram;
 

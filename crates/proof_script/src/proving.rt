@@ -1,10 +1,10 @@
 // The search for the certificates of a document.
 ghost use Rattle.std.specs.Prelude.{◌≡◌, ◌+◌, ◌<◌, ◌^◌, All, Err, Ok, [], length, map, sum, true, Some};
-ghost use Rattle.core_terms.specs.Conditions.{IsDocument, IsProgram, IsSlot, IsStep};
+ghost use Rattle.core_terms.specs.Conditions.{IsCoreDocument, IsProgram, IsSlot, IsStep};
 ghost use Rattle.core_terms.specs.declared.documents.CDocument.{CDocument};
 ghost use Rattle.core_terms.specs.declared.documents.CProof.{CProof};
 ghost use Rattle.obligations.specs.Obligations.{IsObligation};
-ghost use Rattle.proof_rules.specs.Walk.{program_of};
+ghost use Rattle.rules_table.specs.Walk.{program_of};
 ghost use Rattle.proof_script.specs.declared.finding.Finding.{Finding};
 ghost use Rattle.proof_script.specs.declared.plans.Plan.{Plan};
 ghost use Rattle.proof_script.specs.Proving.{Finds};
@@ -168,7 +168,7 @@ fn prove_proofs(
     plan: &mut Plan,
     finding: &mut Finding,
 ) -> Result<(), Halt>
-    requires document { IsDocument doc.now }
+    requires document { IsCoreDocument doc.now }
     requires book { BookFits doc.now.slots plan.old.records }
     requires room { length plan.old.records + sum (map (λ (p : CProof). length p.steps) doc.now.proofs) < 2 ^ 31 }
     requires under_way { IsUnderWay plan.old finding.old }
@@ -228,7 +228,7 @@ fn halted(halt: Halt, finding: Finding) -> Result<Proof, ScriptError>
 /// 36 with no step for a proof without a `defined` step, and then all obligations before it are valid; or
 /// `Memory`, where memory was refused.
 pub fn prove(alloc: Global, doc: &CDocument, budget: u64) -> Result<Proof, ScriptError>
-    requires document { IsDocument doc.now }
+    requires document { IsCoreDocument doc.now }
     ensures { Finds doc.now budget result }
 {
     let mut plan = new_plan(alloc);

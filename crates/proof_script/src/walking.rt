@@ -1,8 +1,8 @@
 // The steps of proofs, one after the other.
 ghost use Rattle.std.specs.Prelude.{◌≡◌, ◌+◌, ◌<◌, ◌^◌, All, length, map, sum, true, Some};
-ghost use Rattle.core_terms.specs.Conditions.{IsDocument, IsProgram, IsSlot, IsStep};
+ghost use Rattle.core_terms.specs.Conditions.{IsCoreDocument, IsProgram, IsSlot, IsStep};
 ghost use Rattle.core_terms.specs.declared.documents.CProof.{CProof};
-ghost use Rattle.proof_rules.specs.Walk.{program_of};
+ghost use Rattle.rules_table.specs.Walk.{program_of};
 ghost use Rattle.proof_script.specs.Giving.{AreWhole, PlanGoes, IsCheckable};
 ghost use Rattle.rules_steps.specs.Using.{BookFits};
 ghost use Rattle.proof_script.specs.Verdicts.{proof_verdict, proofs_verdict, rule_fault, step_verdict, steps_verdict};
@@ -160,7 +160,7 @@ pub(crate) fn take_proofs(
     certs: &[Cert],
     plan: &mut Plan,
 ) -> Result<(), ScriptError>
-    requires document { IsDocument doc.now }
+    requires document { IsCoreDocument doc.now }
     requires whole { AreWhole certs.now }
     requires book { BookFits doc.now.slots plan.old.records }
     requires room { length plan.old.records + sum (map (λ (p : CProof). length p.steps) doc.now.proofs) < 2 ^ 31 }

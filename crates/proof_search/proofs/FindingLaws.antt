@@ -17,15 +17,15 @@ use Rattle.std.proofs.lemmas.Bool.{and_parts, not-true}
 use Rattle.obligations.specs.Plain.{ranges_of, plain_leaves, leaf_units, enough, need_of}
 use Rattle.obligations.proofs.NumberLaws.{obligation-variables, obligation-load}
 use Rattle.linear_prover.specs.Chains.{is_plain_node}
-use Rattle.tree_search.specs.declared.plain_tree.Trail.{Trail}
-use Rattle.tree_search.specs.declared.plain_tree.Ended.{Ended}
-use Rattle.tree_search.specs.declared.plain_tree.Found.{Found}
-use Rattle.tree_search.specs.Left.{left}
-use Rattle.tree_search.specs.Searching.{root, Proof, Counterexample, Answers, found_of, Met}
-use Rattle.tree_search.proofs.ReadyLaws.{leaves-some, ready-root}
-use Rattle.tree_search.proofs.EnoughLaws.{enough-below}
-use Rattle.tree_search.proofs.RootLaws.{left-walk, left-whole}
-use Rattle.proof_search.specs.Guided.{Closing, Guides, IsFound, chosen_of}
+use Rattle.search_tree.specs.declared.plain_tree.Trail.{Trail}
+use Rattle.search_tree.specs.declared.plain_tree.Ended.{Ended}
+use Rattle.search_tree.specs.declared.plain_tree.Found.{Found}
+use Rattle.search_tree.specs.Left.{left}
+use Rattle.search_tree.specs.Searching.{root, Proof, Counterexample, SearchAnswers, found_of, Met}
+use Rattle.search_tree.proofs.ReadyLaws.{leaves-some, ready-root}
+use Rattle.search_tree.proofs.EnoughLaws.{enough-below}
+use Rattle.search_tree.proofs.RootLaws.{left-walk, left-whole}
+use Rattle.proof_search.specs.Guided.{Closing, Guides, IsWholeWalk, chosen_of}
 
 pub root-light : (o : Obligation) (b : Branch) → IsObligation o → b ≡ first_branch o → is_light_branch (2 ^ 63) b ≡
     true
@@ -39,7 +39,8 @@ root-guides o vs b x y e p q g =
 
 pub ruleset root_laws = (obligation-variables, obligation-load, root-light, root-guides)
 
-proof-of : (o : Obligation) (budget : ℕ) (nodes : List Node) → IsObligation o → IsFound o nodes → units nodes ≤ budget
+proof-of : (o : Obligation) (budget : ℕ) (nodes : List Node) → IsObligation o → IsWholeWalk o nodes → units nodes ≤
+    budget
     → units nodes ≤ enough o → Proof o budget nodes
 proof-of o budget nodes m f h k =
     let below = enough-below o m in
@@ -77,14 +78,15 @@ leaves-enough o total wanted leaves unit n e k =
 pub ruleset enough_laws = (obligation-variables, leaf-enough, leaves-enough)
 
 -- units within enough
-pub enough-found : (o : Obligation) (budget total : ℕ) (nodes : List Node) → IsObligation o → IsFound o nodes → total
+pub enough-found : (o : Obligation) (budget total : ℕ) (nodes : List Node) → IsObligation o → IsWholeWalk o nodes →
+    total
     ≡ units nodes → total ≤ budget → total ≤ enough o → Proof o budget nodes
 enough-found o budget total nodes m f e h k = proof-of o budget nodes m f (omega (arith, e, h)) (omega (arith, e, k))
 
 -- the plain tree's search with one unit less
 pub chosen-answers : (o : Obligation) (budget total : ℕ) (nodes : List Node) (found : Found) → IsObligation o →
-    IsFound o nodes → total ≡ units nodes → total ≤ budget →
-    0 < total → Answers o (total - 1) found → Answers o budget (chosen_of found nodes)
+    IsWholeWalk o nodes → total ≡ units nodes → total ≤ budget →
+    0 < total → SearchAnswers o (total - 1) found → SearchAnswers o budget (chosen_of found nodes)
 chosen-answers o budget total nodes (Found.Proved c) m f t h z a =
     let w = a.within in
     record {
@@ -104,7 +106,7 @@ pub ruleset found_laws = (obligation-variables, enough-found, chosen-answers)
 -- what a closed root says
 pub closed-found : (o : Obligation) (budget spare : ℕ) (nodes : List Node) →
     Closing o.variables 960 (first_branch o) (record { nodes = []; spare = budget })
-    (record { nodes = nodes; spare = spare }) → IsFound o nodes
+    (record { nodes = nodes; spare = spare }) → IsWholeWalk o nodes
 closed-found o budget spare nodes c = record {
   whole = left-whole o.variables nodes (root o) (c.closes (root o) [] refl);
   walked = left-walk o.variables nodes (root o) [] 0 (c.closes (root o) [] refl);

@@ -17,16 +17,16 @@ use Rattle.obligations.specs.Settling.{settled, sides, added, without, form_at, 
 use Rattle.obligations.proofs.NeedLaws.{settled-light}
 use Rattle.obligations.proofs.SettlingLaws.{settled-holds}
 use Rattle.obligations.proofs.LightLaws.{first-side, second-side, remove-light}
-use Rattle.certificate_check.specs.Refutation.{Pending, opens, made_case, made, at_level}
+use Rattle.certificate_check.specs.Refutation.{OpenBranch, opens, made_case, made, at_level}
 use Rattle.certificate_check.proofs.RefutationLaws.{side_in, holds-without}
 use Rattle.linear_prover.specs.Chains.{Closes, is_plain_node, is_plain_number}
-use Rattle.tree_search.specs.declared.plain_tree.Trail.{Trail}
-use Rattle.tree_search.specs.declared.plain_tree.Ended.{Ended}
-use Rattle.tree_search.specs.Left.{left_by, left}
-use Rattle.tree_search.specs.Searching.{level_of, Met, Finishes, IsClosed}
-use Rattle.tree_search.proofs.SearchLaws.{undone, units-append, left-append, made-level, chain-closes}
-use Rattle.tree_search.proofs.ReadyLaws.{added-met, split-opens}
-use Rattle.tree_search.proofs.CycleLaws.{kept, Put}
+use Rattle.search_tree.specs.declared.plain_tree.Trail.{Trail}
+use Rattle.search_tree.specs.declared.plain_tree.Ended.{Ended}
+use Rattle.search_tree.specs.Left.{left_by, left}
+use Rattle.search_tree.specs.Searching.{level_of, Met, Finishes, IsClosed}
+use Rattle.search_tree.proofs.SearchLaws.{undone, units-append, left-append, made-level, chain-closes}
+use Rattle.search_tree.proofs.ReadyLaws.{added-met, split-opens}
+use Rattle.search_tree.proofs.CycleLaws.{kept, Put}
 use Rattle.proof_search.specs.Guided.{Closing, Guides, ClosedNow, with_form}
 
 -- a chain that was added, or not, ends a branch
@@ -56,7 +56,7 @@ pub ruleset undo_laws = undone
 module _ (vs : List Variable) (k : ℕ) (b c d : Branch) (n : Node) (one : node_units n ≡ 1)
     (simple : is_plain_node n ≡ true) (deep : suc k ≤ 960)
     (opened : made vs (at_level (level_of (suc k)) b) n ≡ opens (c ∷ d ∷ [])) where
-  after-node : (x y : Trail) → y.nodes ≡ x.nodes ++ n ∷ [] → (first ps : List Pending) →
+  after-node : (x y : Trail) → y.nodes ≡ x.nodes ++ n ∷ [] → (first ps : List OpenBranch) →
       left vs (Some first) x.nodes ≡ Some (at_level (level_of (suc k)) b ∷ ps) →
       left vs (Some first) y.nodes ≡ Some (at_level (level_of k) c ∷ at_level (level_of k) d ∷ ps)
   after-node x y e first ps s =

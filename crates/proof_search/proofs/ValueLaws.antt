@@ -8,7 +8,7 @@ use Rattle.obligations.specs.declared.branches.Branch.{Branch}
 use Rattle.obligations.specs.declared.branches.Variable.{Variable}
 use Rattle.obligations.specs.LinearForms.{sum_of, fact_holds}
 use Rattle.obligations.specs.Settling.{form_at}
-use Rattle.tree_search.specs.Searching.{Met}
+use Rattle.search_tree.specs.Searching.{Met}
 
 pub sum-next : (values : List ℤ) (fs : List (ℕ × ℤ)) (left : ℕ) (d : ℕ × ℤ) (sum next : ℤ) → 0 < left → left ≤ length
     fs →

@@ -6,14 +6,14 @@ ghost use Rattle.obligations.specs.Load.{is_light_branch};
 ghost use Rattle.obligations.specs.Obligations.{AreVariables, IsObligation};
 ghost use Rattle.obligations.specs.Opening.{first_branch};
 ghost use Rattle.obligations.specs.Plain.{enough};
-ghost use Rattle.tree_search.specs.Searching.{Answers};
-ghost use Rattle.proof_search.specs.Guided.{Guides, chosen_of, IsFound};
+ghost use Rattle.search_tree.specs.Searching.{SearchAnswers};
+ghost use Rattle.proof_search.specs.Guided.{Guides, chosen_of, IsWholeWalk};
 
 use crate::guided::guide;
 use crate::watch::new_watch;
 use obligations::{Branch, Cert, Node, Obligation, Variable, open_branch};
+use search_tree::{Ended, Found, Trail, count_leaves, search_tree};
 use std::alloc::{AllocError, Global};
-use tree_search::{Ended, Found, Trail, count_leaves, search_tree};
 use unity_base::Seq;
 
 /// The most units of a guided search: where it needs more, the plain tree is searched.
@@ -91,8 +91,8 @@ fn allowed(
     requires obligation { IsObligation o.now }
     requires total { total ≡ units nodes }
     requires within { total ≤ budget }
-    requires found { IsFound o.now nodes }
-    ensures { IfOk result (Answers o.now budget) }
+    requires found { IsWholeWalk o.now nodes }
+    ensures { IfOk result (SearchAnswers o.now budget) }
 {
     if is_within_enough(alloc, o, total)? {
         return Ok(Found::Proved(Cert { nodes }));
@@ -114,7 +114,7 @@ fn found_by(
     requires obligation { IsObligation o.now }
     requires limit { limit ≤ budget }
     requires end { Guides o.now.variables 960 (first_branch o.now) (record { nodes = []; spare = limit }) trail ended }
-    ensures { IfOk result (Answers o.now budget) }
+    ensures { IfOk result (SearchAnswers o.now budget) }
 {
     let Trail { nodes, spare } = trail;
     match ended {
@@ -129,7 +129,7 @@ fn found_by(
 /// of a certificate, only where the budget is less than `enough`.
 pub fn search(alloc: Global, o: &Obligation, budget: u64) -> Result<Found, AllocError>
     requires { IsObligation o.now }
-    ensures { IfOk result (Answers o.now budget) }
+    ensures { IfOk result (SearchAnswers o.now budget) }
 {
     let limit = budget.min(GUIDED);
     let mut trail = Trail {

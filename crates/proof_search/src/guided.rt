@@ -12,8 +12,8 @@ ghost use Rattle.obligations.specs.Opening.{at_most, at_least, first_branch};
 ghost use Rattle.obligations.specs.Settling.{settled, sides, added, without};
 ghost use Rattle.core_terms.specs.Values.{number_at};
 ghost use Rattle.linear_prover.specs.Chains.{Closes, is_plain_number};
-ghost use Rattle.tree_search.specs.Searching.{IsClosed, Met};
-ghost use Rattle.proof_search.specs.Guided.{Guides, ClosedNow, IsAtLeast, with_form};
+ghost use Rattle.search_tree.specs.Searching.{IsClosed, Met};
+ghost use Rattle.proof_search.specs.Guided.{Guides, ClosedNow, IsNotNegative, with_form};
 
 use crate::chances::Scene;
 use crate::look::best_place;
@@ -24,11 +24,11 @@ use crate::watch::{
 use core_terms::CForm;
 use linear_prover::{eliminate, is_closing_sum, is_plain_chain};
 use obligations::{Branch, Fact, Node, Variable};
-use std::alloc::{AllocError, Global};
-use tree_search::{
+use search_tree::{
     Ended, Halves, Trail, add_above, add_at_most, cut_back, finish, put_node, settle_first,
     settle_second, split_node,
 };
+use std::alloc::{AllocError, Global};
 use unity_base::Seq;
 
 /// How many variables there are.
@@ -199,7 +199,7 @@ fn is_met(fact: &Fact, values: &[i64]) -> bool
 
 /// Whether a sum and a constant are seen to be at least 0 together.
 fn is_at_least(sum: &i128, constant: &i128) -> bool
-    ensures { result ≡ true → IsAtLeast (sum.now +ℤ constant.now) }
+    ensures { result ≡ true → IsNotNegative (sum.now +ℤ constant.now) }
 {
     match sum.checked_add(*constant) {
         Some(value) => 0 <= value,

@@ -10,4 +10,4 @@ mod look;
 mod watch;
 
 pub use finding::search;
-pub use tree_search::Found;
+pub use search_tree::Found;

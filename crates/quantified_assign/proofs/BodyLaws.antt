@@ -13,43 +13,43 @@ use Rattle.core_terms.proofs.LighterLaws.{and_lighter}
 use Rattle.unity_syntax.specs.declared.program.Program.{Program}
 use Rattle.unity_syntax.specs.declared.proof.Proof.{Proof}
 use Rattle.unity_syntax.specs.declared.document.Part.{Part}
-use Rattle.name_scopes.specs.declared.named.NameFault.{NameFault}
-use Rattle.name_scopes.specs.Reading.{Fault, earlier}
-use Rattle.name_scopes.specs.Answers.{Stops}
-use Rattle.name_scopes.proofs.Steps.{stops_first}
-use Rattle.name_laws.proofs.AttributeTheorems.{earlier_first}
-use Rattle.document_words.specs.Texts.{Texts}
-use Rattle.expansion_laws.specs.Forming.{Scope}
-use Rattle.expand_proofs.specs.Steps.{Lists, core_proof, proof_fault}
-use Rattle.core_documents.specs.Cores.{core_named, core_program, with_core, with_cores, core_proofs}
-use Rattle.core_documents.specs.Faults.{body_fault, bodies_fault, program_fault, with_part}
-use Rattle.quantified_assign.specs.Bodies.{IsLight, AreLight, HasLight, MadeProgram, IsUnion, MadeUnion}
+use Rattle.names_rules.specs.declared.named.NameFault.{NameFault}
+use Rattle.names_rules.specs.Reading.{Fault, earlier}
+use Rattle.names_rules.specs.Answers.{Stops}
+use Rattle.names_rules.proofs.Steps.{stops_first}
+use Rattle.names_rules.proofs.Faults.{earlier_first}
+use Rattle.expand_declarations.specs.Texts.{Texts}
+use Rattle.expand_rules.specs.Forming.{Scope}
+use Rattle.expand_steps.specs.Steps.{Lists, core_proof, proof_fault}
+use Rattle.expand_documents.specs.Cores.{core_named, core_program, with_core, with_cores, core_proofs}
+use Rattle.expand_documents.specs.Faults.{body_fault, bodies_fault, program_fault, with_part}
+use Rattle.quantified_assign.specs.Bodies.{HasLightForm, StartsAreLight, HasLight, MadeProgram, IsUnited, MadeUnion}
 use Rattle.quantified_assign.specs.Bodies.{AddedProgram, AddsProgram, Bodied, AddsBodies}
 
 -- weights
 
 -- a program that is found is among light ones
-pub found_light : (name : ℕ) (ps : List CProgram) → AreLight ps → HasLight (core_named name ps)
+pub found_light : (name : ℕ) (ps : List CProgram) → StartsAreLight ps → HasLight (core_named name ps)
 found_light name ps light = among ps light.each
   where
-    by : (p : CProgram) (rest : Option CProgram) (b : Bool) → IsLight p.initially → HasLight rest →
+    by : (p : CProgram) (rest : Option CProgram) (b : Bool) → HasLightForm p.initially → HasLight rest →
         HasLight (cond b (Some p) rest)
     by p rest true h k = h
     by p rest false h k = k
 
-    among : (ps : List CProgram) → All (λ c. IsLight c.initially) ps → HasLight (core_named name ps)
+    among : (ps : List CProgram) → All (λ c. HasLightForm c.initially) ps → HasLight (core_named name ps)
     among [] h = tt
     among (p ∷ ps) h = by p (core_named name ps) (nat_eq p.name name)
-        (All-head (λ (c : CProgram). IsLight c.initially) p ps h)
-        (among ps (All-tail (λ (c : CProgram). IsLight c.initially) p ps h))
+        (All-head (λ (c : CProgram). HasLightForm c.initially) p ps h)
+        (among ps (All-tail (λ (c : CProgram). HasLightForm c.initially) p ps h))
 
-pub both_light : (f g : CProgram) → IsLight f.initially → IsLight g.initially →
+pub both_light : (f g : CProgram) → HasLightForm f.initially → HasLightForm g.initially →
     max (plain_weight f.initially) (plain_weight g.initially) ≤ 2 ^ 62
 both_light f g h k = omega (arith, h.weight, k.weight)
 
 -- the union of light programs is light
-pub union_light : (name : ℕ) (f g : CProgram) → IsLight f.initially → IsLight g.initially →
-    IsLight (joined_programs name f g).initially
+pub union_light : (name : ℕ) (f g : CProgram) → HasLightForm f.initially → HasLightForm g.initially →
+    HasLightForm (joined_programs name f g).initially
 union_light name f g h k = record {
   weight = omega (
     arith,
@@ -61,23 +61,23 @@ union_light name f g h k = record {
 
 -- programs that are added
 
-pub added_none : (old : List CProgram) (core : Option CProgram) (fault : Option Fault) → AreLight old →
+pub added_none : (old : List CProgram) (core : Option CProgram) (fault : Option Fault) → StartsAreLight old →
     MadeUnion None core fault → AddedProgram old old core fault
 added_none old core fault light u =
     record { programs = ap (with_core old) u.union.same; light = light; fine = u.fine }
 
 pub added_some : (old new : List CProgram) (c : CProgram) (core : Option CProgram) (fault : Option Fault) →
-    AreLight old → MadeUnion (Some c) core fault → new ≡ old ++ c ∷ [] → AddedProgram old new core fault
+    StartsAreLight old → MadeUnion (Some c) core fault → new ≡ old ++ c ∷ [] → AddedProgram old new core fault
 added_some old new c core fault light u e = record {
   programs = e ∙ ap (with_core old) u.union.same;
   light = record {
-    each = subst (All (λ (c : CProgram). IsLight c.initially)) (sym e)
-        (All-push (λ (c : CProgram). IsLight c.initially) old c light.each u.union.light);
+    each = subst (All (λ (c : CProgram). HasLightForm c.initially)) (sym e)
+        (All-push (λ (c : CProgram). HasLightForm c.initially) old c light.each u.union.light);
   };
   fine = u.fine;
 }
 
-pub added_made : (old new : List CProgram) (c core : CProgram) (fault : Option Fault) → AreLight old →
+pub added_made : (old new : List CProgram) (c core : CProgram) (fault : Option Fault) → StartsAreLight old →
     MadeProgram c core fault → new ≡ old ++ c ∷ [] → AddedProgram old new (Some core) fault
 added_made old new c core fault light m e = added_some old new c (Some core) fault light
     (record { union = record { same = ap (λ (c : CProgram). Some c) m.same; light = m.light }; fine = m.fine }) e
@@ -100,7 +100,7 @@ module _ (words : Texts) (s : Scope) (slots : List CSlot) where
 
   -- a proof alone
   pub proof_part : (result : Result (Unit {0}) NameFault) (before : List CProgram) (old new : List CProof) (at : ℕ)
-      (p : Proof) → AreLight before →
+      (p : Proof) → StartsAreLight before →
       Lists result old new (core_proof words s p ∷ []) (proof_fault words s p) →
       AddsBodies result words s slots before before old new (Part.Proof at p ∷ [])
   proof_part (Ok t) before old new at p light a = record {
@@ -117,7 +117,7 @@ module _ (words : Texts) (s : Scope) (slots : List CSlot) where
     pub programs : with_cores words s slots now rest ≡ with_cores words s slots before all
     pub proofs : made ++ core_proofs words s rest ≡ old ++ core_proofs words s all
     pub faults : bodies_fault words s slots now rest ≡ bodies_fault words s slots before all
-    pub light : AreLight now
+    pub light : StartsAreLight now
 
   cores_first : (now : List CProgram) (p : Part) (rest : List Part) →
       with_cores words s slots now (p ∷ rest) ≡ with_cores words s slots (with_cores words s slots now (p ∷ [])) rest

@@ -7,24 +7,24 @@ use Rattle.core_terms.specs.declared.programs.CSlot.{CSlot}
 use Rattle.core_terms.specs.declared.programs.CProgram.{CProgram}
 use Rattle.core_terms.specs.declared.documents.CProof.{CProof}
 use Rattle.unity_syntax.specs.declared.document.Part.{Part}
-use Rattle.name_scopes.specs.declared.named.NameFault.{NameFault}
-use Rattle.name_scopes.specs.Reading.{Fault, earlier}
-use Rattle.name_scopes.specs.Answers.{Stops}
-use Rattle.name_scopes.proofs.Steps.{stops_first, stops_later}
-use Rattle.document_words.specs.Texts.{Texts}
-use Rattle.expansion_laws.specs.Forming.{Scope}
-use Rattle.expansion_laws.specs.declared.cores.Formed.{Formed}
-use Rattle.expand_always.specs.AlwaysNames.{AreSound}
-use Rattle.core_documents.specs.Cores.{with_parts, with_cores, core_proofs}
-use Rattle.core_documents.specs.Faults.{bodies_fault, headings_fault, headed}
+use Rattle.names_rules.specs.declared.named.NameFault.{NameFault}
+use Rattle.names_rules.specs.Reading.{Fault, earlier}
+use Rattle.names_rules.specs.Answers.{Stops}
+use Rattle.names_rules.proofs.Steps.{stops_first, stops_later}
+use Rattle.expand_declarations.specs.Texts.{Texts}
+use Rattle.expand_rules.specs.Forming.{Scope}
+use Rattle.expand_rules.specs.declared.cores.Formed.{Formed}
+use Rattle.expand_documents.specs.AlwaysNames.{AreSound}
+use Rattle.expand_documents.specs.Cores.{with_parts, with_cores, core_proofs}
+use Rattle.expand_documents.specs.Faults.{bodies_fault, headings_fault, headed}
 use Rattle.quantified_assign.specs.declared.headings.Stop.{Stop}
-use Rattle.quantified_assign.specs.Bodies.{IsLight, AreLight, Bodied, AddsBodies}
+use Rattle.quantified_assign.specs.Bodies.{HasLightForm, StartsAreLight, Bodied, AddsBodies}
 use Rattle.quantified_assign.specs.Headings.{IsStop}
-use Rattle.quantified_assign.specs.Expanding.{scope_fault, Makes}
+use Rattle.quantified_assign.specs.Expanding.{scope_fault, MakesBodies}
 use Rattle.quantified_assign.proofs.HeadingLaws.{fine_headed, headed_fine}
 
-pub no_programs : AreLight []
-no_programs = record { each = All-nil (λ (c : CProgram). IsLight c.initially) }
+pub no_programs : StartsAreLight []
+no_programs = record { each = All-nil (λ (c : CProgram). HasLightForm c.initially) }
 
 pub no_always : AreSound []
 no_always = record { each = λ name a e. cc e }
@@ -43,7 +43,7 @@ module _ (words : Texts) (s : Scope) (slots : List CSlot) (cores : List CProgram
   -- parts whose headings have no fault
   pub made_whole : (result : Result (Unit {0}) NameFault) → headings_fault s parts ≡ None →
       AddsBodies result words (with_parts s parts) slots [] cores [] more parts →
-      Makes result words s slots cores more parts
+      MakesBodies result words s slots cores more parts
   made_whole (Ok t) fine b = record {
     programs = b.programs;
     proofs = b.proofs;

@@ -8,17 +8,17 @@ use Rattle.case_tables.specs.declared.code_table.Code.{Code}
 use Rattle.unity_syntax.specs.declared.declaration.Def.{Def}
 use Rattle.unity_syntax.specs.declared.program.Program.{Program}
 use Rattle.unity_syntax.specs.declared.document.Part.{Part}
-use Rattle.unity_meaning.specs.Setting.{definitions}
-use Rattle.name_scopes.specs.declared.named.NameFault.{NameFault}
-use Rattle.name_scopes.specs.Reading.{Fault, earlier}
-use Rattle.name_scopes.specs.Answers.{Stops}
-use Rattle.name_scopes.proofs.Steps.{stops_first, stops_later}
-use Rattle.name_laws.proofs.AttributeTheorems.{earlier_first, earlier_second}
-use Rattle.expansion_laws.specs.Forming.{Scope}
-use Rattle.expand_always.specs.AlwaysNames.{Always, AreSound, Defines, with_definition, with_definitions}
-use Rattle.expand_always.specs.AlwaysNames.{definitions_fault}
-use Rattle.core_documents.specs.Cores.{part_definitions, with_parts}
-use Rattle.core_documents.specs.Faults.{count_fault, heading_fault, headings_fault, headed}
+use Rattle.meaning_documents.specs.Setting.{definitions}
+use Rattle.names_rules.specs.declared.named.NameFault.{NameFault}
+use Rattle.names_rules.specs.Reading.{Fault, earlier}
+use Rattle.names_rules.specs.Answers.{Stops}
+use Rattle.names_rules.proofs.Steps.{stops_first, stops_later}
+use Rattle.names_rules.proofs.Faults.{earlier_first, earlier_second}
+use Rattle.expand_rules.specs.Forming.{Scope}
+use Rattle.expand_documents.specs.AlwaysNames.{Always, AreSound, Defines, with_definition, with_definitions}
+use Rattle.expand_documents.specs.AlwaysNames.{definitions_fault}
+use Rattle.expand_documents.specs.Cores.{part_definitions, with_parts}
+use Rattle.expand_documents.specs.Faults.{count_fault, heading_fault, headings_fault, headed}
 use Rattle.quantified_assign.specs.declared.headings.Stop.{Stop}
 use Rattle.quantified_assign.specs.Headings.{program_heading, AddsProgram, AddedHeading, AddsHeading, AddedHeadings}
 use Rattle.quantified_assign.specs.Headings.{IsStop}

@@ -5,40 +5,40 @@ use Rattle.core_terms.specs.declared.programs.CProgram.{CProgram}
 use Rattle.core_terms.specs.declared.programs.CSlot.{CSlot}
 use Rattle.core_terms.specs.declared.documents.CProof.{CProof}
 use Rattle.core_terms.specs.Weights.{plain_weight}
-use Rattle.unity_meaning.specs.Setting.{items_of}
+use Rattle.meaning_documents.specs.Setting.{items_of}
 use Rattle.unity_syntax.specs.declared.program.Program.{Program}
 use Rattle.unity_syntax.specs.declared.document.Part.{Part}
-use Rattle.name_scopes.specs.declared.named.NameFault.{NameFault}
-use Rattle.name_scopes.specs.Reading.{Fault, earlier}
-use Rattle.name_scopes.specs.Answers.{Stops}
-use Rattle.name_scopes.specs.Declarations.{some_of}
-use Rattle.document_words.specs.Texts.{Texts}
-use Rattle.document_words.specs.WordNumbers.{word_number}
+use Rattle.names_rules.specs.declared.named.NameFault.{NameFault}
+use Rattle.names_rules.specs.Reading.{Fault, earlier}
+use Rattle.names_rules.specs.Answers.{Stops}
+use Rattle.names_rules.specs.Declarations.{some_of}
+use Rattle.expand_declarations.specs.Texts.{Texts}
+use Rattle.expand_declarations.specs.WordNumbers.{word_number}
 use Rattle.expand_declarations.specs.Shown.{shown_slots}
 use Rattle.expand_declarations.specs.Start.{start_values}
-use Rattle.expansion_laws.specs.Forming.{Scope, form_of}
-use Rattle.expansion_laws.specs.Lists.{items_fault}
-use Rattle.expansion_laws.specs.Programs.{plain_core}
+use Rattle.expand_rules.specs.Forming.{Scope, form_of}
+use Rattle.expand_rules.specs.Lists.{items_fault}
+use Rattle.expand_rules.specs.Programs.{plain_core}
 use Rattle.expand_expressions.specs.declared.operations.TruthCore.{TruthCore}
 use Rattle.expand_expressions.specs.Places.{IsReady}
 use Rattle.expand_expressions.specs.Sound.{IsSound, of_truth}
-use Rattle.expand_proofs.specs.Elements.{element_fault}
-use Rattle.expand_proofs.specs.Steps.{outer_scope}
-use Rattle.core_documents.specs.Cores.{core_program, with_core, with_cores, core_proofs}
-use Rattle.core_documents.specs.Faults.{initially_fault, program_fault, bodies_fault}
+use Rattle.expand_steps.specs.Elements.{element_fault}
+use Rattle.expand_steps.specs.Steps.{outer_scope}
+use Rattle.expand_documents.specs.Cores.{core_program, with_core, with_cores, core_proofs}
+use Rattle.expand_documents.specs.Faults.{initially_fault, program_fault, bodies_fault}
 use Rattle.quantified_assign.specs.declared.programs.Making.{Making}
 use Rattle.quantified_assign.specs.declared.programs.Sections.{Sections}
 
 -- formulas of first states
 
 -- a formula that weighs no more than is allowed
-pub record IsLight (f : CForm) : Type 0 where
+pub record HasLightForm (f : CForm) : Type 0 where
   pub weight : plain_weight f ≤ 2 ^ 62
 
 -- a call that gives a formula, or stops at its fault
 pub record GivenForm (f core : CForm) (fault : Option Fault) : Type 0 where
   pub same : f ≡ core
-  pub light : IsLight f
+  pub light : HasLightForm f
   pub fine : fault ≡ None
 
 abbrev pub GivesForm : Result CForm NameFault → CForm → Option Fault → Type 0
@@ -49,19 +49,19 @@ GivesForm (Err e) core fault = Stops e fault
 pub record IsSettled (t : TruthCore) : Type 0 where
   pub sound : IsSound (of_truth t)
 
-abbrev pub Settles : Result CForm NameFault → TruthCore → ℕ → Type 0
-Settles result t front = GivesForm result (form_of (of_truth t).core) (element_fault front (of_truth t ∷ []))
+abbrev pub SettlesForm : Result CForm NameFault → TruthCore → ℕ → Type 0
+SettlesForm result t front = GivesForm result (form_of (of_truth t).core) (element_fault front (of_truth t ∷ []))
 
 -- programs
 
 -- programs whose first states have formulas that weigh no more than is allowed
-pub record AreLight (programs : List CProgram) : Type 0 where
-  pub each : All (λ c. IsLight c.initially) programs
+pub record StartsAreLight (programs : List CProgram) : Type 0 where
+  pub each : All (λ c. HasLightForm c.initially) programs
 
 -- the same of a program, if there is one
 abbrev pub HasLight : Option CProgram → Type 0
 HasLight None = Unit {0}
-HasLight (Some c) = IsLight c.initially
+HasLight (Some c) = HasLightForm c.initially
 
 -- what the code knows is in order, and there are few enough slots
 pub record IsPrepared (m : Making) : Type 0 where
@@ -82,7 +82,7 @@ sections_fault m p = earlier (initially_fault (outer_scope m.known.now) p.initia
 -- a call that gives a program, or stops at its first fault
 pub record MadeProgram (c core : CProgram) (fault : Option Fault) : Type 0 where
   pub same : c ≡ core
-  pub light : IsLight c.initially
+  pub light : HasLightForm c.initially
   pub fine : fault ≡ None
 
 abbrev pub MakesProgram : Result CProgram NameFault → CProgram → Option Fault → Type 0
@@ -90,12 +90,12 @@ MakesProgram (Ok c) core fault = MadeProgram c core fault
 MakesProgram (Err e) core fault = Stops e fault
 
 -- a union, where there is one
-pub record IsUnion (u core : Option CProgram) : Type 0 where
+pub record IsUnited (u core : Option CProgram) : Type 0 where
   pub same : u ≡ core
   pub light : HasLight u
 
 pub record MadeUnion (u core : Option CProgram) (fault : Option Fault) : Type 0 where
-  pub union : IsUnion u core
+  pub union : IsUnited u core
   pub fine : fault ≡ None
 
 abbrev pub MakesUnion : Result (Option CProgram) NameFault → Option CProgram → Option Fault → Type 0
@@ -105,7 +105,7 @@ MakesUnion (Err e) core fault = Stops e fault
 -- a call that adds a program, if there is one, or stops at its first fault
 pub record AddedProgram (old new : List CProgram) (core : Option CProgram) (fault : Option Fault) : Type 0 where
   pub programs : new ≡ with_core old core
-  pub light : AreLight new
+  pub light : StartsAreLight new
   pub fine : fault ≡ None
 
 abbrev pub AddsProgram :
@@ -127,7 +127,7 @@ pub record Bodied (words : Texts) (s : Scope) (slots : List CSlot) (before after
     (old new : List CProof) (parts : List Part) : Type 0 where
   pub programs : after ≡ with_cores words s slots before parts
   pub proofs : new ≡ old ++ core_proofs words s parts
-  pub light : AreLight after
+  pub light : StartsAreLight after
   pub fine : bodies_fault words s slots before parts ≡ None
 
 abbrev pub AddsBodies :

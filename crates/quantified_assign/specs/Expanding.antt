@@ -4,19 +4,19 @@ use Rattle.unity_syntax.specs.declared.name.Name.{Name}
 use Rattle.unity_syntax.specs.declared.program.Program.{Program}
 use Rattle.unity_syntax.specs.declared.document.Part.{Part}
 use Rattle.unity_syntax.specs.declared.document.Document.{Document}
-use Rattle.name_scopes.specs.declared.named.NameFault.{NameFault}
-use Rattle.name_scopes.specs.Reading.{Fault, earlier}
-use Rattle.name_scopes.specs.Answers.{Stops}
+use Rattle.names_rules.specs.declared.named.NameFault.{NameFault}
+use Rattle.names_rules.specs.Reading.{Fault, earlier}
+use Rattle.names_rules.specs.Answers.{Stops}
 use Rattle.core_terms.specs.declared.programs.CSlot.{CSlot}
 use Rattle.core_terms.specs.declared.programs.CProgram.{CProgram}
 use Rattle.core_terms.specs.declared.documents.CProof.{CProof}
 use Rattle.core_terms.specs.declared.documents.CDocument.{CDocument}
-use Rattle.document_words.specs.Texts.{Texts}
+use Rattle.expand_declarations.specs.Texts.{Texts}
 use Rattle.expand_declarations.specs.Slots.{document_slots}
 use Rattle.expand_declarations.specs.References.{core_schedule}
-use Rattle.expansion_laws.specs.Forming.{Scope}
-use Rattle.core_documents.specs.Cores.{with_parts, document_scope, with_cores, core_proofs, core_document}
-use Rattle.core_documents.specs.Faults.{bodies_fault, headings_fault, headed, expansion_fault}
+use Rattle.expand_rules.specs.Forming.{Scope}
+use Rattle.expand_documents.specs.Cores.{with_parts, document_scope, with_cores, core_proofs, core_document}
+use Rattle.expand_documents.specs.Faults.{bodies_fault, headings_fault, headed, expansion_fault}
 use Rattle.quantified_assign.specs.declared.contents.Contents.{Contents}
 
 -- parts whose slots and words are known
@@ -27,16 +27,16 @@ scope_fault words s slots parts =
     earlier (bodies_fault words (with_parts s (headed s parts)) slots [] (headed s parts)) (headings_fault s parts)
 
 -- the programs and the proofs of parts, which have no fault
-pub record Made (words : Texts) (s : Scope) (slots : List CSlot) (cores : List CProgram) (more : List CProof)
+pub record BodiesMade (words : Texts) (s : Scope) (slots : List CSlot) (cores : List CProgram) (more : List CProof)
     (parts : List Part) : Type 0 where
   pub programs : cores ≡ with_cores words (with_parts s parts) slots [] parts
   pub proofs : more ≡ core_proofs words (with_parts s parts) parts
   pub fine : scope_fault words s slots parts ≡ None
 
-abbrev pub Makes :
+abbrev pub MakesBodies :
     Result (Unit {0}) NameFault → Texts → Scope → List CSlot → List CProgram → List CProof → List Part → Type 0
-Makes (Ok t) words s slots programs proofs parts = Made words s slots programs proofs parts
-Makes (Err e) words s slots programs proofs parts = Stops e (scope_fault words s slots parts)
+MakesBodies (Ok t) words s slots programs proofs parts = BodiesMade words s slots programs proofs parts
+MakesBodies (Err e) words s slots programs proofs parts = Stops e (scope_fault words s slots parts)
 
 -- parts
 
@@ -47,9 +47,9 @@ pub record Held (words : Texts) (c : Contents) (parts : List Part) (fault : Opti
   pub proofs : c.proofs ≡ core_proofs words (document_scope parts) parts
   pub fine : fault ≡ None
 
-abbrev pub Holds : Result Contents NameFault → Texts → List Part → Option Fault → Type 0
-Holds (Ok c) words parts fault = Held words c parts fault
-Holds (Err e) words parts fault = Stops e fault
+abbrev pub HoldsContents : Result Contents NameFault → Texts → List Part → Option Fault → Type 0
+HoldsContents (Ok c) words parts fault = Held words c parts fault
+HoldsContents (Err e) words parts fault = Stops e fault
 
 -- the name of a program
 abbrev pub name_of : Program → Name

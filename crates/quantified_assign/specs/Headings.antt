@@ -2,14 +2,14 @@
 use Rattle.std.specs.Prelude.{◌≡◌, ◌<◌, List, length, take, Option, Some, None, Result, Ok, Err}
 use Rattle.unity_syntax.specs.declared.program.Program.{Program}
 use Rattle.unity_syntax.specs.declared.document.Part.{Part}
-use Rattle.unity_meaning.specs.Setting.{definitions}
-use Rattle.name_scopes.specs.declared.named.NameFault.{NameFault}
-use Rattle.name_scopes.specs.Reading.{Fault, earlier}
-use Rattle.name_scopes.specs.Answers.{Stops}
-use Rattle.expansion_laws.specs.Forming.{Scope}
-use Rattle.expand_always.specs.AlwaysNames.{Always, AreSound, with_definitions, definitions_fault}
-use Rattle.core_documents.specs.Cores.{part_definitions, with_parts}
-use Rattle.core_documents.specs.Faults.{count_fault, heading_fault, headings_fault, headed}
+use Rattle.meaning_documents.specs.Setting.{definitions}
+use Rattle.names_rules.specs.declared.named.NameFault.{NameFault}
+use Rattle.names_rules.specs.Reading.{Fault, earlier}
+use Rattle.names_rules.specs.Answers.{Stops}
+use Rattle.expand_rules.specs.Forming.{Scope}
+use Rattle.expand_documents.specs.AlwaysNames.{Always, AreSound, with_definitions, definitions_fault}
+use Rattle.expand_documents.specs.Cores.{part_definitions, with_parts}
+use Rattle.expand_documents.specs.Faults.{count_fault, heading_fault, headings_fault, headed}
 use Rattle.quantified_assign.specs.declared.headings.Stop.{Stop}
 
 -- the fault of a program's heading

@@ -1,14 +1,14 @@
 //! The programs and the proofs of parts, without their headings.
 
 ghost use Rattle.std.specs.Prelude.{◌∷◌, []};
-ghost use Rattle.expand_proofs.specs.Steps.{Lists, core_proof, outer_scope, proof_fault};
-ghost use Rattle.quantified_assign.specs.Bodies.{AddsIn, AddsCore, AreLight, IsPrepared};
+ghost use Rattle.expand_steps.specs.Steps.{Lists, core_proof, outer_scope, proof_fault};
+ghost use Rattle.quantified_assign.specs.Bodies.{AddsIn, AddsCore, StartsAreLight, IsPrepared};
 
 use crate::programs::{Making, Sections, add_plain};
 use crate::unions::add_union;
 use core_terms::{CProgram, CProof};
-use expand_proofs::core_proof;
-use name_scopes::NameFault;
+use expand_steps::core_proof;
+use names_rules::NameFault;
 use std::alloc::Global;
 use unity_base::Seq;
 use unity_syntax::{Part, Program, Proof};
@@ -20,7 +20,7 @@ fn add_program(
     programs: &mut Seq<CProgram>,
 ) -> Result<(), NameFault>
     requires ready { IsPrepared making.now }
-    requires light { AreLight programs.old }
+    requires light { StartsAreLight programs.old }
     ensures { AddsCore result making.now programs.old programs.new program.now }
 {
     match program {
@@ -75,7 +75,7 @@ fn add_part(
     proofs: &mut Seq<CProof>,
 ) -> Result<(), NameFault>
     requires ready { IsPrepared making.now }
-    requires light { AreLight programs.old }
+    requires light { StartsAreLight programs.old }
     ensures { AddsIn result making.now programs.old programs.new proofs.old proofs.new (part.now ∷ []) }
 {
     match part {
@@ -93,7 +93,7 @@ pub fn add_bodies(
     proofs: &mut Seq<CProof>,
 ) -> Result<(), NameFault>
     requires ready { IsPrepared making.now }
-    requires light { AreLight programs.old }
+    requires light { StartsAreLight programs.old }
     ensures { AddsIn result making.now programs.old programs.new proofs.old proofs.new parts.now }
 {
     for part in parts {

@@ -1,11 +1,11 @@
 //! The slots, the programs and the proofs of parts.
 
 ghost use Rattle.std.specs.Prelude.{◌≡◌, ◌<◌, ◌≤◌, [], length, None, Some};
-ghost use Rattle.name_scopes.specs.Scope.{entries};
-ghost use Rattle.name_scopes.specs.Answers.{Demands, Stops};
-ghost use Rattle.core_documents.specs.Faults.{headings_fault, laid_fault, parts_fault, part_name};
-ghost use Rattle.core_documents.specs.Cores.{declared_scope, with_parts};
-ghost use Rattle.expand_always.specs.AlwaysNames.{AreSound, AreVariables, definition_scope};
+ghost use Rattle.names_rules.specs.Scope.{entries};
+ghost use Rattle.names_rules.specs.Answers.{Demands, Stops};
+ghost use Rattle.expand_documents.specs.Faults.{headings_fault, laid_fault, parts_fault, part_name};
+ghost use Rattle.expand_documents.specs.Cores.{declared_scope, with_parts};
+ghost use Rattle.expand_documents.specs.AlwaysNames.{AreSound, VariablesHaveSlots, definition_scope};
 ghost use Rattle.expand_declarations.specs.Slots.{DeclaredNear, IsWhole, document_slots, past_part};
 ghost use Rattle.quantified_assign.specs.Bodies.{AddsBodies};
 ghost use Rattle.quantified_assign.specs.Expanding as spec;
@@ -15,11 +15,10 @@ use crate::headings::add_headings;
 use crate::programs::Making;
 use case_tables::Code;
 use core_terms::{CProgram, CProof, CSlot};
-use document_words::WordTable;
-use expand_declarations::{Laying, Layout, enumeration_words, lay_out};
+use expand_declarations::{Laying, Layout, WordTable, enumeration_words, lay_out};
 use expand_expressions::{AlwaysTable, Known, ValueTable};
 use indexmap::IndexMap;
-use name_scopes::NameFault;
+use names_rules::NameFault;
 use std::alloc::Global;
 use unity_base::Seq;
 use unity_syntax::{Name, Part, Program};
@@ -44,7 +43,7 @@ fn add_known<'a>(
     proofs: &mut Seq<CProof>,
 ) -> Result<(), NameFault>
     requires slots { length layout.now.slots ≤ 4096 }
-    requires variables { AreVariables (entries layout.now.variables) }
+    requires variables { VariablesHaveSlots (entries layout.now.variables) }
     requires sound { AreSound (entries always.now) }
     requires first { programs.old ≡ [] }
     ensures { AddsBodies result words.now
@@ -75,7 +74,7 @@ fn add_headed<'a>(
     proofs: &mut Seq<CProof>,
 ) -> Result<(), NameFault>
     requires slots { length layout.now.slots ≤ 4096 }
-    requires variables { AreVariables (entries layout.now.variables) }
+    requires variables { VariablesHaveSlots (entries layout.now.variables) }
     requires first { programs.old ≡ [] }
     requires headed { headings_fault
         (definition_scope (entries layout.now.variables) (entries values.now) []) parts.now ≡ None }
@@ -104,10 +103,10 @@ fn add_valued<'a>(
     proofs: &mut Seq<CProof>,
 ) -> Result<(), NameFault>
     requires slots { length layout.now.slots ≤ 4096 }
-    requires variables { AreVariables (entries layout.now.variables) }
+    requires variables { VariablesHaveSlots (entries layout.now.variables) }
     requires first { programs.old ≡ [] }
     requires none { proofs.old ≡ [] }
-    ensures { spec.Makes result words.now
+    ensures { spec.MakesBodies result words.now
         (definition_scope (entries layout.now.variables) (entries values.now) [])
         layout.now.slots programs.new proofs.new parts.now }
 {
@@ -139,7 +138,7 @@ fn add_laid<'a>(
     requires whole { IsWhole words.now layout.now parts.now }
     requires first { programs.old ≡ [] }
     requires none { proofs.old ≡ [] }
-    ensures { spec.Makes result words.now (declared_scope parts.now)
+    ensures { spec.MakesBodies result words.now (declared_scope parts.now)
         (document_slots words.now parts.now) programs.new proofs.new parts.now }
 {
     let values = enumeration_words(alloc, parts)?;
@@ -154,7 +153,7 @@ fn laid_contents<'a>(
     layout: Layout<'a>,
 ) -> Result<Contents, NameFault>
     requires { IsWhole words.now layout parts.now }
-    ensures { spec.Holds result words.now parts.now (laid_fault words.now parts.now) }
+    ensures { spec.HoldsContents result words.now parts.now (laid_fault words.now parts.now) }
 {
     let mut programs = Seq::new(alloc);
     let mut proofs = Seq::new(alloc);
@@ -246,7 +245,7 @@ pub fn contents_of<'a>(
     words: &WordTable<'a>,
 ) -> Result<Contents, NameFault>
     requires { DeclaredNear parts.now }
-    ensures { spec.Holds result words.now parts.now
+    ensures { spec.HoldsContents result words.now parts.now
         (parts_fault words.now parts.now (past_part parts.now)) }
 {
     match lay_out(alloc, parts, words)? {

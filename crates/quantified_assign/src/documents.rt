@@ -1,16 +1,15 @@
 //! Documents.
 
 ghost use Rattle.std.specs.Prelude.{◌≡◌, option_map, IfOk};
-ghost use Rattle.name_scopes.specs.WellNamed.{IsWellNamed};
+ghost use Rattle.names_rules.specs.WellNamed.{IsWellNamed};
 ghost use Rattle.expand_declarations.specs.References.{core_schedule};
 ghost use Rattle.expand_declarations.specs.Slots.{DeclaredNear};
 ghost use Rattle.quantified_assign.specs.Expanding as spec;
 
 use crate::contents::{Contents, contents_of};
 use core_terms::{CDocument, CSchedule};
-use document_words::{WordTable, document_words};
-use expand_declarations::core_schedule;
-use name_scopes::NameFault;
+use expand_declarations::{WordTable, core_schedule, document_words};
+use names_rules::NameFault;
 use ranges_types::Names;
 use std::alloc::{AllocError, Global};
 use unity_syntax::{Document, Schedule};

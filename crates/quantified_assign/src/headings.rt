@@ -1,16 +1,16 @@
 //! The headings of parts: how many statements a program has, and its always names.
 
 ghost use Rattle.std.specs.Prelude.{IfOk};
-ghost use Rattle.name_scopes.specs.Scope.{entries};
-ghost use Rattle.unity_meaning.specs.Setting.{items_of};
-ghost use Rattle.expand_always.specs.AlwaysNames.{AreSound, AreVariables, Defines, definition_scope};
+ghost use Rattle.names_rules.specs.Scope.{entries};
+ghost use Rattle.meaning_documents.specs.Setting.{items_of};
+ghost use Rattle.expand_documents.specs.AlwaysNames.{AreSound, VariablesHaveSlots, Defines, definition_scope};
 ghost use Rattle.quantified_assign.specs.Headings as spec;
 
 use case_tables::Code;
-use expand_always::add_definitions;
+use expand_documents::add_definitions;
 use expand_expressions::{AlwaysTable, ValueTable, VariableTable};
-use name_scopes::NameFault;
-use statement_lists::check_count;
+use expand_statements::check_count;
+use names_rules::NameFault;
 use std::alloc::{AllocError, Global};
 use unity_base::Seq;
 use unity_syntax::{Def, Part, Program};
@@ -30,7 +30,7 @@ fn add_section<'a>(
     values: &ValueTable<'a>,
     always: &mut AlwaysTable<'a>,
 ) -> Result<(), NameFault>
-    requires variables { AreVariables (entries variables.now) }
+    requires variables { VariablesHaveSlots (entries variables.now) }
     requires always { AreSound (entries always.old) }
     ensures { Defines result (definition_scope (entries variables.now) (entries values.now) (entries always.old))
         (entries always.new) (items_of section.now) }
@@ -48,7 +48,7 @@ fn add_program<'a>(
     values: &ValueTable<'a>,
     always: &mut AlwaysTable<'a>,
 ) -> Result<(), NameFault>
-    requires variables { AreVariables (entries variables.now) }
+    requires variables { VariablesHaveSlots (entries variables.now) }
     requires sound { AreSound (entries always.old) }
     ensures { spec.AddsProgram result
         (definition_scope (entries variables.now) (entries values.now) (entries always.old))
@@ -83,7 +83,7 @@ fn add_heading<'a>(
     values: &ValueTable<'a>,
     always: &mut AlwaysTable<'a>,
 ) -> Result<(), NameFault>
-    requires variables { AreVariables (entries variables.now) }
+    requires variables { VariablesHaveSlots (entries variables.now) }
     requires sound { AreSound (entries always.old) }
     ensures { spec.AddsHeading result
         (definition_scope (entries variables.now) (entries values.now) (entries always.old))
@@ -106,7 +106,7 @@ pub fn add_headings<'a>(
     values: &ValueTable<'a>,
     always: &mut AlwaysTable<'a>,
 ) -> Result<Option<Stop>, AllocError>
-    requires variables { AreVariables (entries variables.now) }
+    requires variables { VariablesHaveSlots (entries variables.now) }
     requires sound { AreSound (entries always.old) }
     ensures { IfOk result (λ stop. spec.AddsHeadings stop
         (definition_scope (entries variables.now) (entries values.now) (entries always.old))

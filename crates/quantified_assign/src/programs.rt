@@ -1,23 +1,22 @@
 //! Programs that are no unions.
 
 ghost use Rattle.std.specs.Prelude.{◌≡◌, ◌∷◌, [], map, Some, None, IfOk};
-ghost use Rattle.expand_proofs.specs.Steps.{outer_scope};
-ghost use Rattle.core_documents.specs.Faults.{initially_fault};
-ghost use Rattle.expansion_laws.specs.Lists.{items_fault};
-ghost use Rattle.expansion_laws.specs.Assigning.{statements};
-ghost use Rattle.expansion_laws.specs.Programs.{core_statement, initial_form};
-ghost use Rattle.document_words.specs.WordNumbers.{word_number};
+ghost use Rattle.expand_steps.specs.Steps.{outer_scope};
+ghost use Rattle.expand_documents.specs.Faults.{initially_fault};
+ghost use Rattle.expand_rules.specs.Lists.{items_fault};
+ghost use Rattle.expand_rules.specs.Assigning.{statements};
+ghost use Rattle.expand_rules.specs.Programs.{core_statement, initial_form};
+ghost use Rattle.expand_declarations.specs.WordNumbers.{word_number};
 ghost use Rattle.expand_expressions.specs.Places.{IsReady};
 ghost use Rattle.quantified_assign.specs.Bodies as spec;
 
 use case_tables::Code;
 use core_terms::{CForm, CProgram, CSlot, CStmt};
-use document_words::WordTable;
-use expand_declarations::{shown_slots, start_values};
+use expand_declarations::{WordTable, shown_slots, start_values};
 use expand_expressions::{Known, TruthCore, outside, truth};
-use expand_proofs::{formed, is_too_large};
 use expand_statements::{check_items, push_statements};
-use name_scopes::NameFault;
+use expand_steps::{formed, is_too_large};
+use names_rules::NameFault;
 use std::alloc::{AllocError, Global};
 use unity_base::Seq;
 use unity_syntax::{Init, Initially, Items, Name, Var};
@@ -43,7 +42,7 @@ pub struct Sections<'p> {
 // A formula that stands by itself, unless it is too large, or else an end of a range in it is.
 fn settled(t: TruthCore, front: u64) -> Result<CForm, NameFault>
     requires { spec.IsSettled t }
-    ensures { spec.Settles result t front }
+    ensures { spec.SettlesForm result t front }
 {
     if is_too_large(t.constant, t.measure) {
         return Err(NameFault::Fault {
@@ -135,7 +134,7 @@ fn checked_program(
     making: &Making,
 ) -> Result<CProgram, NameFault>
     requires ready { spec.IsPrepared making.now }
-    requires light { spec.IsLight initially }
+    requires light { spec.HasLightForm initially }
     ensures { spec.MakesProgram result (record (spec.core_of making.now sections.now) { initially = initially })
         (items_fault (outer_scope making.now.known.now) sections.now.items.now ([] ∷ [])) }
 {
@@ -161,7 +160,7 @@ pub fn add_plain(
     programs: &mut Seq<CProgram>,
 ) -> Result<(), NameFault>
     requires ready { spec.IsPrepared making.now }
-    requires light { spec.AreLight programs.old }
+    requires light { spec.StartsAreLight programs.old }
     ensures { spec.AddsProgram result programs.old programs.new (Some (spec.core_of making.now sections.now))
         (spec.sections_fault making.now sections.now) }
 {

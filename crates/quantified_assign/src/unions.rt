@@ -2,16 +2,16 @@
 
 ghost use Rattle.std.specs.Prelude.{◌≡◌, ◌+◌, ◌≤◌, IfOk};
 ghost use Rattle.std.specs.Option.{option_copied};
-ghost use Rattle.core_documents.specs.Cores.{core_named, core_union};
-ghost use Rattle.core_documents.specs.Faults.{size_of};
-ghost use Rattle.document_words.specs.WordNumbers.{word_number};
-ghost use Rattle.statement_lists.specs.Counts.{too_many};
-ghost use Rattle.quantified_assign.specs.Bodies.{AddsProgram, AreLight, HasLight, IsUnion, MakesUnion};
+ghost use Rattle.expand_documents.specs.Cores.{core_named, core_union};
+ghost use Rattle.expand_documents.specs.Faults.{size_of};
+ghost use Rattle.expand_declarations.specs.WordNumbers.{word_number};
+ghost use Rattle.expand_statements.specs.Counts.{too_many};
+ghost use Rattle.quantified_assign.specs.Bodies.{AddsProgram, StartsAreLight, HasLight, IsUnited, MakesUnion};
 
 use case_tables::Code;
 use core_terms::{CProgram, join_programs};
-use document_words::WordTable;
-use name_scopes::NameFault;
+use expand_declarations::WordTable;
+use names_rules::NameFault;
 use std::alloc::{AllocError, Global};
 use unity_base::Seq;
 use unity_syntax::Name;
@@ -50,7 +50,7 @@ fn joined(
     requires sizes { size_of (option_copied first) + size_of (option_copied second) ≤ 4096 }
     requires first { HasLight (option_copied first) }
     requires second { HasLight (option_copied second) }
-    ensures { IfOk result (λ u. IsUnion u (core_union name (option_copied first.entry) (option_copied second.entry))) }
+    ensures { IfOk result (λ u. IsUnited u (core_union name (option_copied first.entry) (option_copied second.entry))) }
 {
     match first {
         None => Ok(None),
@@ -91,7 +91,7 @@ fn union_of(
     words: &WordTable,
     programs: &[CProgram],
 ) -> Result<Option<CProgram>, NameFault>
-    requires { AreLight programs.now }
+    requires { StartsAreLight programs.now }
     ensures { MakesUnion result (core_union (word_number words.now name.now.text)
         (core_named (word_number words.now left.now.text) programs.now)
         (core_named (word_number words.now right.now.text) programs.now))
@@ -113,7 +113,7 @@ pub fn add_union(
     words: &WordTable,
     programs: &mut Seq<CProgram>,
 ) -> Result<(), NameFault>
-    requires { AreLight programs.old }
+    requires { StartsAreLight programs.old }
     ensures { AddsProgram result programs.old programs.new (core_union (word_number words.now name.now.text)
         (core_named (word_number words.now left.now.text) programs.old)
         (core_named (word_number words.now right.now.text) programs.old))

@@ -1,6 +1,6 @@
 -- The kinds of names, all together.
 use Rattle.std.proofs.Common.{ℕ, List}
-use Rattle.name_scopes.specs.Reading.{Words}
+use Rattle.names_rules.specs.Reading.{Words}
 use Rattle.ranges_types.specs.declared.numbering.NameKind.{NameKind}
 use Rattle.ranges_types.specs.Numbers.{ArePlaces}
 

@@ -1,3 +1,4 @@
+pub mod Taking
 pub mod Small
 pub mod EachKind
 pub mod ShareSame

@@ -1,9 +1,9 @@
 -- What small meanings give a place.
 use Rattle.std.proofs.Common.{◌≡◌, ℕ, Bool, true, false, cond, nat_eq, Option, Some, [], ◌∷◌, refl}
 use Rattle.std.specs.Prelude.{◌&&◌}
-use Rattle.name_scopes.specs.declared.named.Meaning.{Meaning}
-use Rattle.name_scopes.specs.Reading.{Words}
-use Rattle.name_scopes.specs.WellNamed.{meaning_at}
+use Rattle.names_rules.specs.declared.named.Meaning.{Meaning}
+use Rattle.names_rules.specs.Reading.{Words}
+use Rattle.names_rules.specs.WellNamed.{meaning_at}
 use Rattle.ranges_types.specs.Numbers.{IsSmall, are_small, is_small}
 
 small_first : (here first rest : Bool) (meaning : Meaning) (after : Option Meaning) → is_small meaning ≡ first →

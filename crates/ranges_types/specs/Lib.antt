@@ -1,2 +1,3 @@
+pub mod Enters
 pub mod Tables
 pub mod Numbers

@@ -4,10 +4,10 @@ use Rattle.std.specs.Prelude.{Bool, true, nat_eq, nat_le, fold, length}
 use Rattle.std.specs.List.{list_all}
 use Rattle.std.specs.Map.{lookup}
 use Rattle.indexmap.specs.IndexMap.{IndexMap}
-use Rattle.name_scopes.specs.declared.named.Meaning.{Meaning}
-use Rattle.name_scopes.specs.Reading.{Words}
-use Rattle.name_scopes.specs.WellNamed.{variable_place, always_place, bound_place, program_place}
-use Rattle.name_scopes.specs.WellNamed.{with_place, places, meaning_at}
+use Rattle.names_rules.specs.declared.named.Meaning.{Meaning}
+use Rattle.names_rules.specs.Reading.{Words}
+use Rattle.names_rules.specs.WellNamed.{variable_place, always_place, bound_place, program_place}
+use Rattle.names_rules.specs.WellNamed.{with_place, places, meaning_at}
 use Rattle.ranges_types.specs.declared.indexing.Index.{Index}
 use Rattle.ranges_types.specs.declared.numbering.NameKind.{NameKind}
 

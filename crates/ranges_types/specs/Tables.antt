@@ -3,13 +3,13 @@ use Rattle.std.specs.Prelude.{◌≡◌, Result, Ok, Err}
 use Rattle.std.specs.Str.{bytes_eq}
 use Rattle.indexmap.specs.IndexMap.{insert_entry}
 use Rattle.unity_syntax.specs.declared.name.Name.{Name}
-use Rattle.name_scopes.specs.declared.named.NameFault.{NameFault}
-use Rattle.name_scopes.specs.declared.named.Composed.{Composed}
-use Rattle.name_scopes.specs.Scope.{entries, seen_keys}
-use Rattle.name_scopes.specs.Proofs.{Programs}
-use Rattle.name_scopes.specs.WellNamed.{Declared, IsWellNamed, name_fault, name_words}
-use Rattle.name_scopes.specs.Reading.{Words}
-use Rattle.name_scopes.specs.Answers.{Stops}
+use Rattle.names_rules.specs.declared.named.NameFault.{NameFault}
+use Rattle.names_rules.specs.declared.named.Composed.{Composed}
+use Rattle.names_rules.specs.Scope.{entries, seen_keys}
+use Rattle.names_rules.specs.Proofs.{Programs}
+use Rattle.names_rules.specs.WellNamed.{Declared, IsWellNamed, name_fault, name_words}
+use Rattle.names_rules.specs.Reading.{Words}
+use Rattle.names_rules.specs.Answers.{Stops}
 use Rattle.unity_syntax.specs.declared.document.Document.{Document}
 use Rattle.ranges_types.specs.declared.store.Tables.{Tables}
 

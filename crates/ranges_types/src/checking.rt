@@ -1,14 +1,14 @@
 //! The check of a document's names.
 
 ghost use Rattle.std.specs.Prelude.{◌≡◌};
-ghost use Rattle.name_scopes.specs.WellNamed.{nothing_declared};
+ghost use Rattle.names_rules.specs.WellNamed.{nothing_declared};
 ghost use Rattle.ranges_types.specs.Tables.{Checks, declared_in};
 
 use crate::documents::document;
 use crate::store::Tables;
-use expression_types::Table;
 use indexmap::{IndexMap, IndexSet};
-use name_scopes::NameFault;
+use names_checks::Table;
+use names_rules::NameFault;
 use std::alloc::Global;
 use unity_base::Seq;
 use unity_syntax::Document;

@@ -1,21 +1,20 @@
 //! Documents.
 
 ghost use Rattle.std.specs.Prelude.{◌≡◌, ◌∷◌, map, [], Some, None};
-ghost use Rattle.name_scopes.specs.Scope.{entries};
-ghost use Rattle.name_scopes.specs.Reading.{all_beside};
-ghost use Rattle.name_scopes.specs.Part.{run};
-ghost use Rattle.name_scopes.specs.Declarations.{some_of};
-ghost use Rattle.name_scopes.specs.WellNamed.{choice_reading, document_part, nothing_declared, part_of};
-ghost use Rattle.name_scopes.specs.WellNamed.{schedule_reading};
-ghost use Rattle.name_scopes.specs.Answers.{Leaves, Notes};
+ghost use Rattle.names_rules.specs.Scope.{entries};
+ghost use Rattle.names_rules.specs.Reading.{all_beside};
+ghost use Rattle.names_rules.specs.Part.{run};
+ghost use Rattle.names_rules.specs.Declarations.{some_of};
+ghost use Rattle.names_rules.specs.WellNamed.{choice_reading, document_part, nothing_declared, part_of};
+ghost use Rattle.names_rules.specs.WellNamed.{schedule_reading};
+ghost use Rattle.names_rules.specs.Answers.{Leaves, Notes};
 ghost use Rattle.ranges_types.specs.Tables.{declared_in};
 
 use crate::programs::program;
 use crate::scripts::proof;
 use crate::store::Tables;
-use expression_types::Table;
-use name_scopes::{Indices, Known, NameFault, NameTable, outside};
-use proof_types::{arguments, program_word};
+use names_checks::{Table, arguments, program_word};
+use names_rules::{Indices, Known, NameFault, NameTable, outside};
 use std::alloc::Global;
 use unity_base::Seq;
 use unity_syntax::{Document, Inst, Part, Schedule};

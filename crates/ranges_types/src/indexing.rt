@@ -6,7 +6,7 @@ ghost use Rattle.ranges_types.specs.Numbers.{ArePlaces, Indexes, IsEmpty, are_sm
 use crate::meanings::give_all;
 use crate::numbering::{NameKind, add_places};
 use indexmap::{IndexMap, IndexSet};
-use name_scopes::Meaning;
+use names_rules::Meaning;
 use std::alloc::{AllocError, Global};
 
 /// What each word means, and the places at which names are first declared, in order.

@@ -1,11 +1,11 @@
 //! What the word at each place means.
 
 ghost use Rattle.std.specs.Prelude.{◌≡◌, ℕ, [], OnOk};
-ghost use Rattle.name_scopes.specs.WellNamed.{meaning_at};
+ghost use Rattle.names_rules.specs.WellNamed.{meaning_at};
 ghost use Rattle.ranges_types.specs.Numbers.{Means, meaning_in};
 
 use indexmap::IndexMap;
-use name_scopes::Meaning;
+use names_rules::Meaning;
 use std::alloc::AllocError;
 
 fn give(at: u64, meaning: Meaning, meanings: &mut IndexMap<u64, Meaning>) -> Result<(), AllocError>

@@ -2,17 +2,17 @@
 
 ghost use Rattle.std.specs.Prelude.{◌≡◌, ◌<◌, ◌^◌, length};
 ghost use Rattle.std.specs.Option.{option_and_then};
-ghost use Rattle.name_scopes.specs.WellNamed.{always_place, bound_place, program_place, variable_place};
-ghost use Rattle.name_scopes.specs.WellNamed.{meaning_at, number_among, number_at, param_number, value_number};
+ghost use Rattle.names_rules.specs.WellNamed.{always_place, bound_place, program_place, variable_place};
+ghost use Rattle.names_rules.specs.WellNamed.{meaning_at, number_among, number_at, param_number, value_number};
 ghost use Rattle.ranges_types.specs.Numbers.{IsSmall, place_of};
 ghost use Rattle.ranges_types.specs.Tables.{Checks};
 
 use crate::checking::check_words;
 use crate::indexing::{Index, index_of, of_kind};
 use crate::numbering::{NameKind, place_of};
-use expression_types::Table;
 use indexmap::IndexSet;
-use name_scopes::{Meaning, NameFault};
+use names_checks::Table;
+use names_rules::{Meaning, NameFault};
 use std::alloc::Global;
 use std::marker::Model;
 use unity_syntax::Document;
@@ -26,7 +26,7 @@ pub struct Names {
 }
 
 impl Model for Names {
-    ghost use Rattle.name_scopes.specs.Reading.{Words};
+    ghost use Rattle.names_rules.specs.Reading.{Words};
     ghost use Rattle.ranges_types.specs.Numbers.{Indexes};
 
     ghost Value = { Words };

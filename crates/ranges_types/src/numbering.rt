@@ -1,11 +1,11 @@
 //! The numbers of names.
 
 ghost use Rattle.std.specs.Prelude.{◌≡◌, OnOk};
-ghost use Rattle.name_scopes.specs.WellNamed.{with_place};
+ghost use Rattle.names_rules.specs.WellNamed.{with_place};
 ghost use Rattle.ranges_types.specs.Numbers.{place_of, with_places};
 
 use indexmap::IndexSet;
-use name_scopes::Meaning;
+use names_rules::Meaning;
 use std::alloc::AllocError;
 
 /// A kind of names that are numbered through a document.

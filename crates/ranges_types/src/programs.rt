@@ -1,25 +1,26 @@
 //! Programs.
 
 ghost use Rattle.std.specs.Prelude.{◌≡◌, [], ◌∷◌, Option};
-ghost use Rattle.name_scopes.specs.Scope.{entries, scope, seen_keys};
-ghost use Rattle.name_scopes.specs.Part.{run};
-ghost use Rattle.name_scopes.specs.Declarations.{always_part, init_part, initially_reading, items_of, program_scope};
-ghost use Rattle.name_scopes.specs.Declarations.{some_of, variable_part};
-ghost use Rattle.name_scopes.specs.WellNamed.{declarations_part, new_program, plain_program, program_body};
-ghost use Rattle.name_scopes.specs.WellNamed.{program_part, start_reading};
-ghost use Rattle.name_scopes.specs.Answers.{Leaves, Notes};
+ghost use Rattle.names_rules.specs.Scope.{entries, scope, seen_keys};
+ghost use Rattle.names_rules.specs.Part.{run};
+ghost use Rattle.names_rules.specs.Declarations.{always_part, init_part, initially_reading, items_of, program_scope};
+ghost use Rattle.names_rules.specs.Declarations.{some_of, variable_part};
+ghost use Rattle.names_rules.specs.WellNamed.{declarations_part, new_program, plain_program, program_body};
+ghost use Rattle.names_rules.specs.WellNamed.{program_part, start_reading};
+ghost use Rattle.names_rules.specs.Answers.{Leaves, Notes};
 ghost use Rattle.ranges_types.specs.Tables.{Composes, declared_in};
 
+use crate::definitions::always;
+use crate::start::{StartSlots, inits};
 use crate::store::Tables;
 use crate::unions::union_program;
+use crate::variable::variables;
 use case_tables::Code;
-use expression_types::{Table, demand, value};
 use indexmap::IndexSet;
-use name_scopes::{
+use names_checks::{Table, WordSet, demand, items, value};
+use names_rules::{
     Composed, Env, Known, Meaning, NameFault, NameTable, ProgramTable, Sort, find_program, outside,
 };
-use program_types::{StartSlots, always, inits, variables};
-use statement_types::{WordSet, items};
 use std::alloc::Global;
 use unity_base::Seq;
 use unity_syntax::{Def, Init, Initially, Items, Name, Program, Var};

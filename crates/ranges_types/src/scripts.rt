@@ -1,19 +1,17 @@
 //! Proofs.
 
 ghost use Rattle.std.specs.Prelude.{◌≡◌, []};
-ghost use Rattle.name_scopes.specs.Scope.{entries, seen_keys};
-ghost use Rattle.name_scopes.specs.Part.{run};
-ghost use Rattle.name_scopes.specs.Proofs.{step_part};
-ghost use Rattle.name_scopes.specs.WellNamed.{proof_part, steps_reading};
-ghost use Rattle.name_scopes.specs.Answers.{Leaves, Notes};
+ghost use Rattle.names_rules.specs.Scope.{entries, seen_keys};
+ghost use Rattle.names_rules.specs.Part.{run};
+ghost use Rattle.names_rules.specs.Proofs.{step_part};
+ghost use Rattle.names_rules.specs.WellNamed.{proof_part, steps_reading};
+ghost use Rattle.names_rules.specs.Answers.{Leaves, Notes};
 ghost use Rattle.ranges_types.specs.Tables.{declared_in};
 
 use crate::store::Tables;
-use expression_types::Table;
 use indexmap::IndexSet;
-use name_scopes::{NameFault, NameTable, ProgramTable};
-use proof_types::{program_word, step};
-use statement_types::{WordSet, take};
+use names_checks::{Table, WordSet, program_word, step, take};
+use names_rules::{NameFault, NameTable, ProgramTable};
 use std::alloc::Global;
 use unity_syntax::{Proof, Step};
 

@@ -2,7 +2,7 @@
 
 ghost use Rattle.std.specs.Prelude.{◌≡◌, ℕ, ◌||◌, IfOk, OnOk, [], nat_eq};
 ghost use Rattle.std.specs.List.{list_any};
-ghost use Rattle.name_scopes.specs.WellNamed.{share};
+ghost use Rattle.names_rules.specs.WellNamed.{share};
 
 use indexmap::IndexSet;
 use std::alloc::{AllocError, Global};

@@ -1,7 +1,7 @@
 //! What a document so far declares.
 
-use name_scopes::{NameTable, ProgramTable};
-use statement_types::WordSet;
+use names_checks::WordSet;
+use names_rules::{NameTable, ProgramTable};
 
 /// What a document so far declares.
 #[derive(Drop)]

@@ -2,19 +2,18 @@
 
 ghost use Rattle.std.specs.Prelude.{◌≡◌, ◌++◌, IfOk, not};
 ghost use Rattle.case_tables.specs.declared.code_table.Code.{Code};
-ghost use Rattle.name_scopes.specs.Scope.{entries};
-ghost use Rattle.name_scopes.specs.WellNamed.{parts_of, share, union_program, union_reading};
-ghost use Rattle.name_scopes.specs.Reading.{unless};
-ghost use Rattle.name_scopes.specs.Answers.{Demands, Leaves, Notes};
+ghost use Rattle.names_rules.specs.Scope.{entries};
+ghost use Rattle.names_rules.specs.WellNamed.{parts_of, share, union_program, union_reading};
+ghost use Rattle.names_rules.specs.Reading.{unless};
+ghost use Rattle.names_rules.specs.Answers.{Demands, Leaves, Notes};
 ghost use Rattle.ranges_types.specs.Tables.{declared_in};
 
 use crate::programs::{compose, new_program};
 use crate::sharing::share;
 use crate::store::Tables;
 use case_tables::Code;
-use expression_types::{Table, demand};
-use name_scopes::{Composed, NameFault, ProgramTable, find_program};
-use proof_types::program_word;
+use names_checks::{Table, demand, program_word};
+use names_rules::{Composed, NameFault, ProgramTable, find_program};
 use std::alloc::{AllocError, Global};
 use unity_base::Seq;
 use unity_syntax::Name;

@@ -18,7 +18,8 @@ use Rattle.core_terms.specs.declared.documents.PTerm.{PTerm, out-PTerm}
 use Rattle.core_terms.specs.declared.documents.PTerm.TheOpen.{PTerm-F}
 use Rattle.core_terms.specs.declared.documents.CRule.{CRule}
 use Rattle.core_terms.specs.declared.documents.CStep.{CStep}
-use Rattle.core_terms.specs.Conditions.{FormFits, HelperSees, IsProgram, IsRange, IsSlot, IsStep, PTermSees, RuleSees}
+use Rattle.core_terms.specs.Conditions.{FormFits, HelperWellScoped, IsProgram, IsRange, IsSlot, IsStep, TermWellScoped}
+use Rattle.core_terms.specs.Conditions.{RuleWellScoped}
 use Rattle.core_terms.specs.Conditions.{StatementFits, is_below, rule_ranges}
 use Rattle.core_terms.specs.Folding.{or_form, not_form}
 use Rattle.core_terms.specs.Sizes.{form_nodes}
@@ -29,28 +30,28 @@ use Rattle.obligations.specs.Plain.{height_of}
 use Rattle.obligations.proofs.ObligationLaws.{is-obligation, refused-for-size, refused-for-height}
 use Rattle.wp_substitution.specs.Preconditions.{all_of, defined_form, wp_form}
 use Rattle.fair_rounds.specs.declared.records.Record.{Record}
-use Rattle.proof_rules.specs.Conclusion.{Conclusion}
-use Rattle.proof_rules.specs.Forms.{any_of, imply}
-use Rattle.proof_rules.specs.Limits.{is_provable}
-use Rattle.proof_rules.specs.Validity.{Goal, goal_obligation}
-use Rattle.proof_rules.specs.Table.{Site, needs, go_on, goals_of, concluded, defined_forms, kept_form}
-use Rattle.proof_rules.specs.Table.{invariant_forms, unless_form, unless_forms, equations, instances_of, names_some}
-use Rattle.proof_rules.specs.Table.{meant_forms, helped_form, helper_forms, is_helper, ensures_of, is_unless}
-use Rattle.proof_rules.specs.Table.{is_ensures}
-use Rattle.proof_rules.specs.Table.{weaken_of, pair_of, shown_forms, union_defined_of, union_invariant_of}
-use Rattle.proof_rules.specs.Table.{union_unless_of, union_ensures_of}
-use Rattle.proof_rules.specs.Terms.{all_ranges, derive_of, leads_record, referred, term_of}
-use Rattle.proof_rules.specs.declared.led.Led.{Led}
-use Rattle.proof_rules.specs.Walk.{again_of, applied, claims, is_kind, proof_of, same_again, step_site, suits, text_of}
-use Rattle.proof_rules.specs.Walk.{used}
-use Rattle.proof_rules.specs.Walk.{rule_of, part_record, first_part, second_part, serves_union, serves_after, united}
-use Rattle.proof_rules.proofs.EachLaws.{Each, from_all, each_join}
-use Rattle.proof_rules.proofs.RowEquations.{derive-is, defined-is, invariant-is, unless-is, ensures-is, weaken-is}
-use Rattle.proof_rules.proofs.SiteLaws.{met, went_on, concluded_is}
-use Rattle.proof_rules.proofs.PairLaws.{of_pair}
+use Rattle.rules_table.specs.Conclusion.{Conclusion}
+use Rattle.rules_table.specs.Forms.{any_of, imply}
+use Rattle.rules_table.specs.Limits.{is_provable}
+use Rattle.rules_table.specs.Validity.{Goal, goal_obligation}
+use Rattle.rules_table.specs.Table.{Site, needs, go_on, goals_of, concluded, defined_forms, kept_form}
+use Rattle.rules_table.specs.Table.{invariant_forms, unless_form, unless_forms, equations, instances_of, names_some}
+use Rattle.rules_table.specs.Table.{meant_forms, helped_form, helper_forms, is_helper, ensures_of, is_unless}
+use Rattle.rules_table.specs.Table.{is_ensures}
+use Rattle.rules_table.specs.Table.{weaken_of, pair_of, shown_forms, union_defined_of, union_invariant_of}
+use Rattle.rules_table.specs.Table.{union_unless_of, union_ensures_of}
+use Rattle.rules_table.specs.Terms.{all_ranges, derive_of, leads_record, referred, term_of}
+use Rattle.rules_table.specs.declared.led.Led.{Led}
+use Rattle.rules_table.specs.Walk.{again_of, applied, claims, is_kind, proof_of, same_again, step_site, suits, text_of}
+use Rattle.rules_table.specs.Walk.{used}
+use Rattle.rules_table.specs.Walk.{rule_of, part_record, first_part, second_part, serves_union, serves_after, united}
+use Rattle.rules_table.proofs.EachLaws.{Each, from_all, each_join}
+use Rattle.rules_table.proofs.RowEquations.{derive-is, defined-is, invariant-is, unless-is, ensures-is, weaken-is}
+use Rattle.rules_table.proofs.SiteLaws.{met, went_on, concluded_is}
+use Rattle.rules_table.proofs.PairLaws.{of_pair}
 use Rattle.safety_rules.specs.declared.places.Derived.{Derived}
 use Rattle.safety_rules.specs.declared.places.RuleError.{RuleError}
-use Rattle.safety_rules.specs.Answers.{Answers, obligations_of}
+use Rattle.safety_rules.specs.Answers.{RuleAnswers, obligations_of}
 use Rattle.safety_rules.specs.Usable.{NamesExist}
 use Rattle.safety_rules.proofs.UsableLaws.{exist_not, exist_or, exist_imply, exist_wp, exist_defined, all_usable}
 use Rattle.safety_rules.proofs.UsableLaws.{all_exist, fits_exist, usable_closed}
@@ -165,7 +166,7 @@ module _ (site : Site) (closed : All (FormFits site.slots []) site.using) (good 
   filtered test (s ∷ ss) fits = chosen_first (test s) s (filter test ss) fits.0 (filtered test ss fits.1)
 
   helper_exist : (p q : CForm) (h : Helper) → FormFits slots params p → FormFits slots params q →
-      HelperSees (is_below (length params)) h → Each Exist (helper_forms site p q h)
+      HelperWellScoped (is_below (length params)) h → Each Exist (helper_forms site p q h)
   helper_exist p q h fp fq sees =
       each_join Exist (meant_forms site h) (map (helped_form site p q h) (instances_of site h))
       (meant (names_some h.args))
@@ -215,7 +216,7 @@ module _ (site : Site) (closed : All (FormFits site.slots []) site.using) (good 
   told_text starts s Kind.Leadsto h k = λ (x : Conclusion) e. cc
 
   told_ensures : (p q : CForm) (h : Helper) → FormFits slots params p → FormFits slots params q →
-      HelperSees (is_below (length params)) h → GivesTold site (ensures_of site p q h)
+      HelperWellScoped (is_below (length params)) h → GivesTold site (ensures_of site p q h)
   told_ensures p q h fp fq sees =
       subst (λ r. GivesTold site r) (sym (ensures-is site p q h))
       (told_needs site (is_helper site h) Code.NoSuchStatement _
@@ -256,7 +257,7 @@ module _ (site : Site) (closed : All (FormFits site.slots []) site.using) (good 
   told_united starts Kind.Leadsto a b first second = λ (x : Conclusion) e. cc
 
   told_derive : (book : List Record) → BookFits slots book → (t : PTerm) →
-      PTermSees slots (all_ranges site t) (is_below (length params)) t → GivesTold site (derive_of site t book)
+      TermWellScoped slots (all_ranges site t) (is_below (length params)) t → GivesTold site (derive_of site t book)
   told_derive book fit t sees x e =
       let all : List Range = all_ranges site t in
       let one = went_on (term_of site all book t) (λ (l : Led). concluded slots all (leads_record site l) l.forms) x
@@ -274,14 +275,14 @@ module _ (site : Site) (closed : All (FormFits site.slots []) site.using) (good 
   told_again s book _ = λ (x : Conclusion) e. cc
 
   told_proof : (s : CStep) (book : List Record) → BookFits slots book → (t : PTerm) →
-      PTermSees slots (all_ranges site t) (is_below (length params)) t → (kind : Kind) →
+      TermWellScoped slots (all_ranges site t) (is_below (length params)) t → (kind : Kind) →
       GivesTold site (proof_of site s book kind t)
   told_proof s book fit t sees Kind.Leadsto = told_derive book fit t sees
   told_proof s book fit t sees _ = told_again s book (out-PTerm t)
 
   told_applied : (starts : CProgram → Bool) (s : CStep) (book : List Record) → BookFits slots book →
       FormFits slots params s.p → FormFits slots params s.q → (rule : CRule) →
-      RuleSees slots (params ++ rule_ranges rule) (is_below (length params)) (length params) rule →
+      RuleWellScoped slots (params ++ rule_ranges rule) (is_below (length params)) (length params) rule →
       GivesTold site (applied starts site s book rule)
   told_applied starts s book fit p q CRule.Text sees =
       told_text starts s s.kind (fits_exist slots params s.p p) (fits_exist slots params s.q q)
@@ -382,7 +383,7 @@ module _ (slots : List CSlot) (c : CProgram) (s : CStep) (book : List Record) wh
 -- what a call gives for a step
 pub given_step : (slots : List CSlot) (c : CProgram) (s : CStep) (book : List Record) → All IsSlot slots →
     IsProgram slots c → IsStep slots s → BookFits slots book → (answer : Result Derived RuleError) →
-    Answers answer slots (rule_of slots (starts_in slots) c s book) → IfOk answer (IsStepGiven slots c s)
+    RuleAnswers answer slots (rule_of slots (starts_in slots) c s book) → IfOk answer (IsStepGiven slots c s)
 given_step slots c s book all program good fits (Err e) h = tt
 given_step slots c s book all program good fits (Ok d) h =
     let x = answered d slots (rule_of slots (starts_in slots) c s book) h in

@@ -22,19 +22,19 @@ use Rattle.core_terms.specs.declared.documents.CStep.{CStep}
 use Rattle.core_terms.specs.Conditions.{FormFits, IsRange, IsStep, KindFits}
 use Rattle.core_terms.specs.Trees.{same_form}
 use Rattle.fair_rounds.specs.declared.records.Record.{Record}
-use Rattle.proof_rules.specs.Conclusion.{Conclusion}
-use Rattle.proof_rules.specs.Forms.{imply}
-use Rattle.proof_rules.specs.Table.{Site, needs, go_on, with_each, record_of, concluded, defined_forms, invariant_forms}
-use Rattle.proof_rules.specs.Table.{unless_forms, is_unless, is_ensures, weaken_of, pair_of}
-use Rattle.proof_rules.specs.Table.{instance_of}
-use Rattle.proof_rules.specs.Terms.{all_ranges, derive_of, found, leads_record, referred, term_of}
-use Rattle.proof_rules.specs.declared.led.Led.{Led}
-use Rattle.proof_rules.specs.Walk.{again_of, is_kind, proof_of, same_again, suits, text_of, applied}
-use Rattle.proof_rules.proofs.EachLaws.{Each, each_join, from_all}
-use Rattle.proof_rules.proofs.RowEquations.{defined-is, invariant-is, unless-is, weaken-is}
-use Rattle.proof_rules.proofs.SiteLaws.{went_on, concluded_is}
-use Rattle.proof_rules.proofs.KindLaws.{ensures_is, same_kind}
-use Rattle.proof_rules.proofs.PairLaws.{pair_kind, pair_helper, of_pair, pair_kind_is}
+use Rattle.rules_table.specs.Conclusion.{Conclusion}
+use Rattle.rules_table.specs.Forms.{imply}
+use Rattle.rules_table.specs.Table.{Site, needs, go_on, with_each, record_of, concluded, defined_forms, invariant_forms}
+use Rattle.rules_table.specs.Table.{unless_forms, is_unless, is_ensures, weaken_of, pair_of}
+use Rattle.rules_table.specs.Table.{instance_of}
+use Rattle.rules_table.specs.Terms.{all_ranges, derive_of, found, leads_record, referred, term_of}
+use Rattle.rules_table.specs.declared.led.Led.{Led}
+use Rattle.rules_table.specs.Walk.{again_of, is_kind, proof_of, same_again, suits, text_of, applied}
+use Rattle.rules_table.proofs.EachLaws.{Each, each_join, from_all}
+use Rattle.rules_table.proofs.RowEquations.{defined-is, invariant-is, unless-is, weaken-is}
+use Rattle.rules_table.proofs.SiteLaws.{went_on, concluded_is}
+use Rattle.rules_table.proofs.KindLaws.{ensures_is, same_kind}
+use Rattle.rules_table.proofs.PairLaws.{pair_kind, pair_helper, of_pair, pair_kind_is}
 use Rattle.safety_rules.specs.declared.places.Place.{Place}
 use Rattle.safety_rules.specs.Answers.{site_of, IsPremiseAt}
 use Rattle.safety_rules.specs.Instances.{HelperFits}
@@ -45,14 +45,14 @@ use Rattle.rules_steps.proofs.LedLaws.{bound_are_ranges, term_fits}
 use Rattle.rules_steps.proofs.ReferredLaws.{IsReferred, instance_row_is, referred_is}
 use Rattle.leadsto_rules.specs.Leading.{IsTermIn}
 use Rattle.rules_steps.proofs.UsingLaws.{found_entry, known_so}
-use Rattle.core_terms.specs.Conditions.{PTermSees, RuleSees, bound_ranges, is_below, rule_ranges}
-use Rattle.proof_rules.specs.Table.{ensures_of, is_helper, helper_forms}
-use Rattle.proof_rules.proofs.RowEquations.{derive-is, ensures-is}
+use Rattle.core_terms.specs.Conditions.{TermWellScoped, RuleWellScoped, bound_ranges, is_below, rule_ranges}
+use Rattle.rules_table.specs.Table.{ensures_of, is_helper, helper_forms}
+use Rattle.rules_table.proofs.RowEquations.{derive-is, ensures-is}
 use Rattle.std.proofs.Common.{Err}
 use Rattle.rules_steps.proofs.HelperLaws.{helper_seen}
-use Rattle.proof_rules.specs.Table.{union_defined_of, union_invariant_of, union_unless_of, union_ensures_of}
-use Rattle.proof_rules.specs.Table.{shown_forms, first_helper}
-use Rattle.proof_rules.specs.Walk.{part_record, first_part, second_part, serves_union, serves_after, united}
+use Rattle.rules_table.specs.Table.{union_defined_of, union_invariant_of, union_unless_of, union_ensures_of}
+use Rattle.rules_table.specs.Table.{shown_forms, first_helper}
+use Rattle.rules_table.specs.Walk.{part_record, first_part, second_part, serves_union, serves_after, united}
 
 -- lists
 
@@ -213,19 +213,20 @@ premise_is pl serves a is = record {
 
 -- the ranges that a term sees are ranges
 pub seen_ranges : (site : Site) (t : PTerm) → All IsRange site.params →
-    PTermSees site.slots (all_ranges site t) (is_below (length site.params)) t → All IsRange (all_ranges site t)
+    TermWellScoped site.slots (all_ranges site t) (is_below (length site.params)) t → All IsRange (all_ranges site t)
 seen_ranges site t ranges sees =
     All-append IsRange site.params (bound_ranges t) ranges
     (bound_are_ranges t (is_below (length site.params)) sees.ranges_are)
 
-pub seen_term : (site : Site) (t : PTerm) → PTermSees site.slots (all_ranges site t) (is_below (length site.params)) t →
+pub seen_term : (site : Site) (t : PTerm) → TermWellScoped site.slots (all_ranges site t)
+    (is_below (length site.params)) t →
     IsTermIn site.slots (all_ranges site t) t
 seen_term site t sees =
     (is_below (length site.params), record { forms = sees.forms; terms = sees.terms; ranges_are = sees.ranges_are })
 
 good_derive : (site : Site) (book : List Record) → BookFits site.slots book → All IsRange site.params →
     Each (FormFits site.slots []) site.using → (t : PTerm) →
-    PTermSees site.slots (all_ranges site t) (is_below (length site.params)) t →
+    TermWellScoped site.slots (all_ranges site t) (is_below (length site.params)) t →
     GivesGood site Kind.Leadsto (derive_of site t book)
 good_derive site book fit ranges using t sees x e =
     let all : List Range = all_ranges site t in
@@ -257,7 +258,7 @@ good_again site s book fit ranges using _ = λ (x : Conclusion) e. cc
 
 good_proof : (site : Site) (s : CStep) (book : List Record) → BookFits site.slots book → All IsRange site.params →
     Each (FormFits site.slots []) site.using → (t : PTerm) →
-    PTermSees site.slots (all_ranges site t) (is_below (length site.params)) t → (kind : Kind) → kind ≡ s.kind →
+    TermWellScoped site.slots (all_ranges site t) (is_below (length site.params)) t → (kind : Kind) → kind ≡ s.kind →
     GivesGood site s.kind (proof_of site s book kind t)
 good_proof site s book fit ranges using t sees Kind.Leadsto same =
     subst (λ (k : Kind). GivesGood site k (derive_of site t book)) same
@@ -269,7 +270,8 @@ good_proof site s book fit ranges using t sees _ same = good_again site s book f
 pub good_applied : (starts : CProgram → Bool) (site : Site) (s : CStep) (book : List Record) →
     BookFits site.slots book → All IsRange site.params → Each (FormFits site.slots []) site.using → (rule : CRule) →
     suits rule s.kind ≡ true →
-    RuleSees site.slots (site.params ++ rule_ranges rule) (is_below (length site.params)) (length site.params) rule →
+    RuleWellScoped site.slots (site.params ++ rule_ranges rule) (is_below (length site.params)) (length site.params)
+    rule →
     GivesGood site s.kind (applied starts site s book rule)
 good_applied starts site s book fit ranges using CRule.Text suited sees = good_text starts site s s.kind using
 good_applied starts site s book fit ranges using (CRule.WeakenStep r) suited sees = λ (x : Conclusion) e.

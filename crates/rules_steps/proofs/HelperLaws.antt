@@ -5,13 +5,13 @@ use Rattle.std.specs.Prelude.{All}
 use Rattle.std.specs.Int.RustNames.{unsigned_abs, int_le}
 use Rattle.std.proofs.lemmas.Int.{ints}
 use Rattle.std.proofs.lemmas.List.Elements.{All-nil, All-cons, All-head, All-tail}
-use Rattle.state_steps.proofs.StepTheorems.{and_left, and_right}
+use Rattle.meaning_states.proofs.StepTheorems.{and_left, and_right}
 use Rattle.core_terms.specs.declared.trees.Range.{Range}
 use Rattle.core_terms.specs.declared.documents.Arg.{Arg}
 use Rattle.core_terms.specs.declared.documents.Helper.{Helper}
-use Rattle.core_terms.specs.Conditions.{IsRange, ArgFits, IsIndex, HelperSees}
-use Rattle.proof_rules.specs.Table.{lies_in, is_argument, are_arguments, moved_at, put_in, helper_with}
-use Rattle.proof_rules.proofs.EachLaws.{from_all, each_at}
+use Rattle.core_terms.specs.Conditions.{IsRange, ArgFits, IsIndex, HelperWellScoped}
+use Rattle.rules_table.specs.Table.{lies_in, is_argument, are_arguments, moved_at, put_in, helper_with}
+use Rattle.rules_table.proofs.EachLaws.{from_all, each_at}
 use Rattle.safety_rules.specs.Instances.{IsSmallIndex, SumFits, IndexFits, HelperFits}
 
 got_range : (ranges : List Range) (n : ℕ) (s : Range) → All IsRange ranges → slice_get ranges n ≡ Some s → IsRange s
@@ -110,5 +110,5 @@ indices_seen params (a ∷ args) all few index =
     (indices_seen params args all (All-tail ArgFits a args few) (All-tail IsIndex a args index))
 
 pub helper_seen : (params : List Range) (visible : ℕ → Bool) (h : Helper) → All IsRange params →
-    HelperSees visible h → HelperFits params (Some h)
+    HelperWellScoped visible h → HelperFits params (Some h)
 helper_seen params visible h all sees = indices_seen params h.args all sees.args.numbers sees.indices

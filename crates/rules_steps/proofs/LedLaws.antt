@@ -26,22 +26,22 @@ use Rattle.core_terms.specs.Folding.{or_form, not_form, at_least_form, differenc
 use Rattle.core_terms.specs.Places.{slots_step, params_step, term_slots, term_params, names_param}
 use Rattle.core_terms.specs.Replacing.{arg_term, arg_at}
 use Rattle.core_terms.specs.Trees.{same_form}
-use Rattle.state_steps.proofs.StepTheorems.{and_left, and_right}
+use Rattle.meaning_states.proofs.StepTheorems.{and_left, and_right}
 use Rattle.wp_substitution.proofs.PlaceLaws.{count-Slot, constant_within, form_within, bottom_within, at_least_within}
 use Rattle.wp_substitution.proofs.PlaceLaws.{difference_within}
 use Rattle.fair_rounds.specs.declared.records.Record.{Record}
-use Rattle.proof_rules.specs.Forms.{any_of, imply, or_any}
-use Rattle.proof_rules.specs.Limits.{fits}
-use Rattle.proof_rules.specs.Numbers.{args_from, form_for, numbers_of}
-use Rattle.proof_rules.specs.Table.{Site, needs, go_on, is_unless}
-use Rattle.proof_rules.specs.Terms.{at_measure, below_measure, leads, leads_any, leads_by, leads_down, leads_either}
-use Rattle.proof_rules.specs.Terms.{leads_from, leads_on, leads_safely, leads_weaker, measure_lies, node, referred}
-use Rattle.proof_rules.specs.Terms.{term_of}
-use Rattle.proof_rules.specs.declared.led.Led.{Led}
-use Rattle.proof_rules.proofs.RowEquations.{term-Imply, term-From, term-Trans, term-Either, term-Exists, term-Induct}
-use Rattle.proof_rules.proofs.RowEquations.{term-Psp, term-Weaken}
-use Rattle.proof_rules.proofs.EachLaws.{Each, each_join, each_parts, from_all}
-use Rattle.proof_rules.proofs.SiteLaws.{met, went_on}
+use Rattle.rules_table.specs.Forms.{any_of, imply, or_any}
+use Rattle.rules_table.specs.Limits.{fits}
+use Rattle.rules_table.specs.Numbers.{args_from, form_for, numbers_of}
+use Rattle.rules_table.specs.Table.{Site, needs, go_on, is_unless}
+use Rattle.rules_table.specs.Terms.{at_measure, below_measure, leads, leads_any, leads_by, leads_down, leads_either}
+use Rattle.rules_table.specs.Terms.{leads_from, leads_on, leads_safely, leads_weaker, measure_lies, node, referred}
+use Rattle.rules_table.specs.Terms.{term_of}
+use Rattle.rules_table.specs.declared.led.Led.{Led}
+use Rattle.rules_table.proofs.RowEquations.{term-Imply, term-From, term-Trans, term-Either, term-Exists, term-Induct}
+use Rattle.rules_table.proofs.RowEquations.{term-Psp, term-Weaken}
+use Rattle.rules_table.proofs.EachLaws.{Each, each_join, each_parts, from_all}
+use Rattle.rules_table.proofs.SiteLaws.{met, went_on}
 use Rattle.safety_rules.specs.Usable.{NamesExist}
 use Rattle.safety_rules.proofs.InstanceLaws.{shifted_within}
 use Rattle.safety_rules.proofs.ParamLaws.{params_kept}

@@ -14,14 +14,14 @@ use Rattle.core_terms.specs.Conditions.{FormFits, IsRange}
 use Rattle.core_terms.specs.Replacing.{form_at}
 use Rattle.core_terms.specs.Sizes.{form_nodes}
 use Rattle.core_terms.specs.Weights.{form_weight, slot_weight, place_weight}
-use Rattle.state_steps.proofs.StepTheorems.{and_left, and_right}
+use Rattle.meaning_states.proofs.StepTheorems.{and_left, and_right}
 use Rattle.fair_rounds.specs.declared.records.Record.{Record}
-use Rattle.proof_rules.specs.Limits.{fits}
-use Rattle.proof_rules.specs.Table.{Site, needs, is_slot, are_arguments, record_with, instance_of}
-use Rattle.proof_rules.specs.Terms.{found, referred}
-use Rattle.proof_rules.proofs.EachLaws.{Each, from_all}
-use Rattle.proof_rules.proofs.RowEquations.{instance-is}
-use Rattle.proof_rules.proofs.SiteLaws.{met, went_on}
+use Rattle.rules_table.specs.Limits.{fits}
+use Rattle.rules_table.specs.Table.{Site, needs, is_slot, are_arguments, record_with, instance_of}
+use Rattle.rules_table.specs.Terms.{found, referred}
+use Rattle.rules_table.proofs.EachLaws.{Each, from_all}
+use Rattle.rules_table.proofs.RowEquations.{instance-is}
+use Rattle.rules_table.proofs.SiteLaws.{met, went_on}
 use Rattle.safety_rules.specs.Instances.{CanPut, HelperFits}
 use Rattle.safety_rules.proofs.InstanceLaws.{can_put}
 use Rattle.rules_steps.specs.Using.{IsEntry, BookFits}

@@ -6,20 +6,20 @@ use Rattle.core_terms.specs.declared.trees.CForm.{CForm}
 use Rattle.core_terms.specs.Conditions.{FormFits, IsStep}
 use Rattle.core_terms.specs.Trees.{same_form}
 use Rattle.core_terms.proofs.SameLaws.{same_form_is}
-use Rattle.state_steps.proofs.StepTheorems.{and_left, and_right}
+use Rattle.meaning_states.proofs.StepTheorems.{and_left, and_right}
 use Rattle.core_terms.specs.declared.programs.CSlot.{CSlot}
 use Rattle.core_terms.specs.declared.programs.CProgram.{CProgram}
 use Rattle.core_terms.specs.declared.documents.CStep.{CStep}
 use Rattle.fair_rounds.specs.declared.records.Record.{Record}
-use Rattle.proof_rules.specs.Conclusion.{Conclusion}
-use Rattle.proof_rules.specs.Table.{Site, needs, go_on}
-use Rattle.proof_rules.proofs.SiteLaws.{met, went_on}
-use Rattle.proof_rules.specs.Walk.{is_first, has_defined, used, suits, applied, claims, step_site}
-use Rattle.proof_rules.specs.Walk.{rule_of}
-use Rattle.proof_rules.proofs.EachLaws.{Each, from_all}
+use Rattle.rules_table.specs.Conclusion.{Conclusion}
+use Rattle.rules_table.specs.Table.{Site, needs, go_on}
+use Rattle.rules_table.proofs.SiteLaws.{met, went_on}
+use Rattle.rules_table.specs.Walk.{is_first, has_defined, used, suits, applied, claims, step_site}
+use Rattle.rules_table.specs.Walk.{rule_of}
+use Rattle.rules_table.proofs.EachLaws.{Each, from_all}
 use Rattle.safety_rules.specs.declared.places.Derived.{Derived}
 use Rattle.safety_rules.specs.declared.places.RuleError.{RuleError}
-use Rattle.safety_rules.specs.Answers.{derived_of, Answers}
+use Rattle.safety_rules.specs.Answers.{derived_of, RuleAnswers}
 use Rattle.rules_steps.specs.Starts.{starts_in}
 use Rattle.rules_steps.specs.Using.{Uses, IsEntry, BookFits}
 use Rattle.rules_steps.proofs.SmallLaws.{IsSmall}
@@ -50,9 +50,9 @@ module _ (slots : List CSlot) (c : CProgram) (s : CStep) (book : List Record) wh
   unfolding rule_of
   rule-is = refl
 
-  pub not_yet : may_stand ≡ false → Answers (Err (RuleError.Fault Code.DefinedMissing)) slots row
+  pub not_yet : may_stand ≡ false → RuleAnswers (Err (RuleError.Fault Code.DefinedMissing)) slots row
   not_yet missing =
-      subst (λ r. Answers (Err (RuleError.Fault Code.DefinedMissing)) slots r)
+      subst (λ r. RuleAnswers (Err (RuleError.Fault Code.DefinedMissing)) slots r)
       (sym (rule-is ∙ ap (λ (b : Bool). needs b Code.DefinedMissing (used_row (used c book s.using))) missing)) refl
 
   -- what follows the invariants that are used
@@ -63,22 +63,22 @@ module _ (slots : List CSlot) (c : CProgram) (s : CStep) (book : List Record) wh
 
   -- a call that finds the invariants fails
   pub not_used : may_stand ≡ true → (error : RuleError) → Uses (Err error) (used c book s.using) →
-      Answers (Err error) slots row
+      RuleAnswers (Err error) slots row
   not_used stands (RuleError.Fault code) is =
-      subst (λ r. Answers (Err (RuleError.Fault code)) slots r) (sym (used_so stands (Err code) is)) refl
+      subst (λ r. RuleAnswers (Err (RuleError.Fault code)) slots r) (sym (used_so stands (Err code) is)) refl
   not_used stands RuleError.Memory is = tt
 
   pub not_this : may_stand ≡ true → (using : List CForm) → used c book s.using ≡ Ok using →
-      suits s.rule s.kind ≡ false → Answers (Err (RuleError.Fault Code.WrongKind)) slots row
+      suits s.rule s.kind ≡ false → RuleAnswers (Err (RuleError.Fault Code.WrongKind)) slots row
   not_this stands using is wrong =
-      subst (λ r. Answers (Err (RuleError.Fault Code.WrongKind)) slots r)
+      subst (λ r. RuleAnswers (Err (RuleError.Fault Code.WrongKind)) slots r)
       (sym (used_so stands (Ok using) is ∙ ap (λ (b : Bool). needs b Code.WrongKind (applied_row using)) wrong)) refl
 
   pub given_so : may_stand ≡ true → (using : List CForm) → used c book s.using ≡ Ok using →
-      suits s.rule s.kind ≡ true → (answer : Result Derived RuleError) → Answers answer slots (applied_row using) →
-      Answers answer slots row
+      suits s.rule s.kind ≡ true → (answer : Result Derived RuleError) → RuleAnswers answer slots (applied_row using) →
+      RuleAnswers answer slots row
   given_so stands using is serves answer given =
-      subst (λ r. Answers answer slots r)
+      subst (λ r. RuleAnswers answer slots r)
       (sym (used_so stands (Ok using) is ∙ ap (λ (b : Bool). needs b Code.WrongKind (applied_row using)) serves)) given
 
   -- what the row gives is small, and its record fits
@@ -108,12 +108,12 @@ module _ (slots : List CSlot) (c : CProgram) (s : CStep) (book : List Record) wh
 
 -- what a call's answer says of a row
 
-pub answered : (d : Derived) (slots : List CSlot) (r : Result Conclusion Code) → Answers (Ok d) slots r →
+pub answered : (d : Derived) (slots : List CSlot) (r : Result Conclusion Code) → RuleAnswers (Ok d) slots r →
     (x : Conclusion) × (r ≡ Ok x) × (d ≡ derived_of slots x)
 answered d slots (Ok x) h = (x, refl, h)
 answered d slots (Err code) h = absurd h
 
 pub failed : (code : Code) (slots : List CSlot) (r : Result Conclusion Code) →
-    Answers (Err (RuleError.Fault code)) slots r → r ≡ Err code
+    RuleAnswers (Err (RuleError.Fault code)) slots r → r ≡ Err code
 failed code slots (Ok x) h = absurd h
 failed code slots (Err first) h = ap (λ (k : Code). Err k) (sym h)

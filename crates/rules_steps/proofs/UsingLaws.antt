@@ -18,12 +18,12 @@ use Rattle.core_terms.specs.Conditions.{FormFits, KindFits}
 use Rattle.core_terms.specs.declared.trees.Range.{Range}
 use Rattle.case_tables.specs.declared.kind_table.Kind.{Kind}
 use Rattle.fair_rounds.specs.declared.records.Record.{Record}
-use Rattle.proof_rules.specs.Table.{needs, go_on, is_invariant}
-use Rattle.proof_rules.specs.Terms.{known, found}
-use Rattle.proof_rules.specs.Walk.{is_empty, used}
-use Rattle.proof_rules.proofs.EachLaws.{found_in}
-use Rattle.proof_rules.proofs.SiteLaws.{met, went_on}
-use Rattle.state_steps.proofs.StepTheorems.{and_left}
+use Rattle.rules_table.specs.Table.{needs, go_on, is_invariant}
+use Rattle.rules_table.specs.Terms.{known, found}
+use Rattle.rules_table.specs.Walk.{is_empty, used}
+use Rattle.rules_table.proofs.EachLaws.{found_in}
+use Rattle.rules_table.proofs.SiteLaws.{met, went_on}
+use Rattle.meaning_states.proofs.StepTheorems.{and_left}
 use Rattle.safety_rules.specs.declared.places.RuleError.{RuleError}
 use Rattle.rules_steps.specs.Using.{use_of, UsesOne, Uses, IsEntry, BookFits}
 use Rattle.rules_steps.proofs.ItemLaws.{drop_at, drop_end}

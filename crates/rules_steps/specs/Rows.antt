@@ -9,11 +9,11 @@ use Rattle.core_terms.specs.declared.programs.CProgram.{CProgram}
 use Rattle.core_terms.specs.declared.documents.Ref.{Ref}
 use Rattle.core_terms.specs.declared.documents.CStep.{CStep}
 use Rattle.fair_rounds.specs.declared.records.Record.{Record}
-use Rattle.proof_rules.specs.Conclusion.{Conclusion}
-use Rattle.proof_rules.specs.Table.{Site, go_on, pair_of, weaken_of}
-use Rattle.proof_rules.specs.Terms.{referred}
-use Rattle.proof_rules.specs.Walk.{first_part, second_part, is_kind, part_record, same_again, serves_union}
-use Rattle.proof_rules.specs.Walk.{serves_after, united}
+use Rattle.rules_table.specs.Conclusion.{Conclusion}
+use Rattle.rules_table.specs.Table.{Site, go_on, pair_of, weaken_of}
+use Rattle.rules_table.specs.Terms.{referred}
+use Rattle.rules_table.specs.Walk.{first_part, second_part, is_kind, part_record, same_again, serves_union}
+use Rattle.rules_table.specs.Walk.{serves_after, united}
 
 -- `weaken R`
 abbrev pub weaken_row : Site → CStep → List Record → Ref → Result Conclusion Code

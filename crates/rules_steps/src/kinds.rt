@@ -3,8 +3,8 @@ ghost use Rattle.std.specs.Prelude.{◌≡◌, ◌||◌, not};
 ghost use Rattle.core_terms.specs.declared.documents.CRule.{CRule};
 ghost use Rattle.core_terms.specs.declared.documents.PTerm.{out-PTerm};
 ghost use Rattle.core_terms.specs.declared.documents.Ref.{Ref};
-ghost use Rattle.proof_rules.specs.Table as table;
-ghost use Rattle.proof_rules.specs.Walk as walk;
+ghost use Rattle.rules_table.specs.Table as table;
+ghost use Rattle.rules_table.specs.Walk as walk;
 
 use case_tables::{Kind, RuleName};
 use core_terms::{CRule, PTerm};

@@ -1,9 +1,9 @@
 // The records of earlier steps, with arguments for their parameters.
 ghost use Rattle.std.specs.Prelude.{◌≡◌, nat_eq, IfOk, Result};
-ghost use Rattle.proof_rules.specs.Table as table;
-ghost use Rattle.proof_rules.specs.Table.{needs};
-ghost use Rattle.proof_rules.specs.Terms as terms;
-ghost use Rattle.proof_rules.specs.Walk as walk;
+ghost use Rattle.rules_table.specs.Table as table;
+ghost use Rattle.rules_table.specs.Table.{needs};
+ghost use Rattle.rules_table.specs.Terms as terms;
+ghost use Rattle.rules_table.specs.Walk as walk;
 ghost use Rattle.fair_rounds.specs.declared.records.Record.{Record};
 ghost use Rattle.safety_rules.specs.Answers.{IsPlace, IsPremiseAt, site_of};
 ghost use Rattle.safety_rules.specs.Instances.{AnswersRecord, RecordFits};

@@ -1,15 +1,16 @@
 // What a step's rule gives.
 ghost use Rattle.std.specs.Prelude.{◌≡◌, ◌++◌, All, IfOk, List, Ok, Result, length};
 ghost use Rattle.core_terms.specs.declared.programs.CSlot.{CSlot};
-ghost use Rattle.core_terms.specs.Conditions.{FormFits, IsProgram, IsSlot, IsStep, RuleSees, is_below, rule_ranges};
+ghost use Rattle.core_terms.specs.Conditions.{FormFits, IsProgram, IsSlot, IsStep, RuleWellScoped, is_below};
+ghost use Rattle.core_terms.specs.Conditions.{rule_ranges};
 ghost use Rattle.core_terms.specs.declared.documents.CRule.{CRule};
 ghost use Rattle.core_terms.specs.Trees.{same_form};
-ghost use Rattle.proof_rules.specs.Conclusion.{Conclusion};
-ghost use Rattle.proof_rules.specs.Table as table;
-ghost use Rattle.proof_rules.specs.Table.{go_on, needs};
-ghost use Rattle.proof_rules.specs.Walk as walk;
+ghost use Rattle.rules_table.specs.Conclusion.{Conclusion};
+ghost use Rattle.rules_table.specs.Table as table;
+ghost use Rattle.rules_table.specs.Table.{go_on, needs};
+ghost use Rattle.rules_table.specs.Walk as walk;
 ghost use Rattle.fair_rounds.specs.declared.records.Record.{Record};
-ghost use Rattle.safety_rules.specs.Answers.{Answers, IsPlace, IsPremiseAt, site_of};
+ghost use Rattle.safety_rules.specs.Answers.{RuleAnswers, IsPlace, IsPremiseAt, site_of};
 ghost use Rattle.safety_rules.specs.Instances.{AnswersRecord};
 ghost use Rattle.rules_steps.specs.Rows.{pair_row, weaken_row};
 ghost use Rattle.rules_steps.specs.Steps.{IsStepGiven};
@@ -44,8 +45,8 @@ pub(crate) fn held(
     alloc: Global,
     answer: Result<Derived, RuleError>,
 ) -> Result<Held<Derived>, RuleError>
-    ensures { (slots : List CSlot) (row : Result Conclusion Code) → Answers answer slots row →
-        Answers result slots row }
+    ensures { (slots : List CSlot) (row : Result Conclusion Code) → RuleAnswers answer slots row →
+        RuleAnswers result slots row }
 {
     match answer {
         Ok(derived) => Ok(Held::new(alloc, derived)?),
@@ -58,8 +59,8 @@ fn claimed(
     step: &CStep,
     answer: Result<Held<Derived>, RuleError>,
 ) -> Result<Held<Derived>, RuleError>
-    ensures { (slots : List CSlot) (row : Result Conclusion Code) → Answers answer slots row →
-        Answers result slots (go_on row (λ x. needs (walk.claims step.now x) Code.ConclusionDiffers (Ok x))) }
+    ensures { (slots : List CSlot) (row : Result Conclusion Code) → RuleAnswers answer slots row →
+        RuleAnswers result slots (go_on row (λ x. needs (walk.claims step.now x) Code.ConclusionDiffers (Ok x))) }
 {
     let derived = answer?;
     if is_claimed(step, &derived.get().made) {
@@ -72,7 +73,7 @@ fn claimed(
 // That no step is undefined, from the program's start state.
 fn by_start(alloc: Global, pl: &Place) -> Result<Derived, RuleError>
     requires { IsPlace pl.now }
-    ensures { Answers result pl.now.slots.now
+    ensures { RuleAnswers result pl.now.slots.now
         (table.defined_of (site_of pl.now) (starts_in pl.now.slots.now pl.now.program.now)) }
 {
     let start = start_of(alloc, pl.program, pl.slots)?;
@@ -84,7 +85,7 @@ fn by_text(alloc: Global, pl: &Place, step: &CStep) -> Result<Held<Derived>, Rul
     requires place { IsPlace pl.now }
     requires p { FormFits pl.now.slots.now pl.now.params.now step.now.p }
     requires q { FormFits pl.now.slots.now pl.now.params.now step.now.q }
-    ensures { Answers result pl.now.slots.now
+    ensures { RuleAnswers result pl.now.slots.now
         (walk.text_of (starts_in pl.now.slots.now) (site_of pl.now) step.now step.now.kind) }
 {
     match step.kind {
@@ -106,7 +107,7 @@ fn by_weaken(
     requires place { IsPlace pl.now }
     requires q { FormFits pl.now.slots.now pl.now.params.now step.now.q }
     requires book { BookFits pl.now.slots.now book.now }
-    ensures { Answers result pl.now.slots.now (weaken_row (site_of pl.now) step.now book.now r.now) }
+    ensures { RuleAnswers result pl.now.slots.now (weaken_row (site_of pl.now) step.now book.now r.now) }
 {
     match referred(alloc, pl, book, step.kind, r) {
         Ok(record) => held(alloc, weaken_rule(alloc, pl, record.get(), &step.q)),
@@ -125,7 +126,7 @@ fn with_second(
     requires place { IsPlace pl.now }
     requires first { IsPremiseAt pl.now first }
     requires second { IfOk second (IsPremiseAt pl.now) }
-    ensures { (row : Result Record Code) → AnswersRecord second row → Answers result pl.now.slots.now
+    ensures { (row : Result Record Code) → AnswersRecord second row → RuleAnswers result pl.now.slots.now
         (go_on row (table.pair_of (site_of pl.now) which first)) }
 {
     match second {
@@ -149,7 +150,7 @@ fn by_pair(
 ) -> Result<Held<Derived>, RuleError>
     requires place { IsPlace pl.now }
     requires book { BookFits pl.now.slots.now book.now }
-    ensures { Answers result pl.now.slots.now (pair_row (site_of pl.now) kind book.now which r.now s.now) }
+    ensures { RuleAnswers result pl.now.slots.now (pair_row (site_of pl.now) kind book.now which r.now s.now) }
 {
     match referred(alloc, pl, book, Kind::Unless, r) {
         Ok(first) => {
@@ -170,10 +171,10 @@ fn applied(
     requires place { IsPlace pl.now }
     requires p { FormFits pl.now.slots.now pl.now.params.now step.now.p }
     requires q { FormFits pl.now.slots.now pl.now.params.now step.now.q }
-    requires rule { RuleSees pl.now.slots.now (pl.now.params.now ++ rule_ranges step.now.rule)
+    requires rule { RuleWellScoped pl.now.slots.now (pl.now.params.now ++ rule_ranges step.now.rule)
         (is_below (length pl.now.params.now)) (length pl.now.params.now) step.now.rule }
     requires book { BookFits pl.now.slots.now book.now }
-    ensures { Answers result pl.now.slots.now (walk.applied (starts_in pl.now.slots.now) (site_of pl.now) step.now
+    ensures { RuleAnswers result pl.now.slots.now (walk.applied (starts_in pl.now.slots.now) (site_of pl.now) step.now
         book.now step.now.rule) }
 {
     match &step.rule {
@@ -205,7 +206,7 @@ pub fn step_rule(
     requires program { IsProgram slots.now program.now }
     requires step { IsStep slots.now step.now }
     requires book { BookFits slots.now book.now }
-    ensures answer { Answers result slots.now
+    ensures answer { RuleAnswers result slots.now
         (walk.rule_of slots.now (starts_in slots.now) program.now step.now book.now) }
     ensures fits { IfOk result (IsStepGiven slots.now program.now step.now) }
 {

@@ -1,8 +1,8 @@
 // Steps by proof terms: a leads-to that is derived, and an earlier step taken again.
 ghost use Rattle.std.specs.Prelude.{◌++◌, length};
-ghost use Rattle.core_terms.specs.Conditions.{IsNumbered, PTermSees, bound_ranges, is_below};
-ghost use Rattle.proof_rules.specs.Walk as walk;
-ghost use Rattle.safety_rules.specs.Answers.{Answers, IsPlace, IsPremiseAt, site_of};
+ghost use Rattle.core_terms.specs.Conditions.{NumbersBoundNames, TermWellScoped, bound_ranges, is_below};
+ghost use Rattle.rules_table.specs.Walk as walk;
+ghost use Rattle.safety_rules.specs.Answers.{RuleAnswers, IsPlace, IsPremiseAt, site_of};
 ghost use Rattle.rules_steps.specs.Rows.{again_row, from_row};
 ghost use Rattle.rules_steps.specs.Using.{BookFits};
 
@@ -19,7 +19,7 @@ use unity_base::{Held, Seq};
 // The record under the step's name.
 fn same_again(alloc: Global, pl: &Place, a: &Record) -> Result<Derived, RuleError>
     requires { IsPremiseAt pl.now a.now }
-    ensures { Answers result pl.now.slots.now (walk.same_again (site_of pl.now) a.now) }
+    ensures { RuleAnswers result pl.now.slots.now (walk.same_again (site_of pl.now) a.now) }
 {
     let claim = Claim {
         kind: a.kind,
@@ -42,7 +42,7 @@ fn by_again(
 ) -> Result<Held<Derived>, RuleError>
     requires place { IsPlace pl.now }
     requires book { BookFits pl.now.slots.now book.now }
-    ensures { Answers result pl.now.slots.now (again_row (site_of pl.now) kind book.now r.now) }
+    ensures { RuleAnswers result pl.now.slots.now (again_row (site_of pl.now) kind book.now r.now) }
 {
     match referred(alloc, pl, book, kind, r) {
         Ok(record) => held(alloc, same_again(alloc, pl, record.get())),
@@ -60,7 +60,7 @@ fn by_from(
 ) -> Result<Held<Derived>, RuleError>
     requires place { IsPlace pl.now }
     requires book { BookFits pl.now.slots.now book.now }
-    ensures { Answers result pl.now.slots.now (from_row (site_of pl.now) kind book.now t.now) }
+    ensures { RuleAnswers result pl.now.slots.now (from_row (site_of pl.now) kind book.now t.now) }
 {
     match t {
         PTerm::From(r) => by_again(alloc, pl, kind, book, r),
@@ -77,11 +77,11 @@ pub(crate) fn by_term(
     t: &PTerm,
 ) -> Result<Held<Derived>, RuleError>
     requires place { IsPlace pl.now }
-    requires term { PTermSees pl.now.slots.now (pl.now.params.now ++ bound_ranges t.now)
+    requires term { TermWellScoped pl.now.slots.now (pl.now.params.now ++ bound_ranges t.now)
         (is_below (length pl.now.params.now)) t.now }
-    requires numbers { IsNumbered (length pl.now.params.now) t.now }
+    requires numbers { NumbersBoundNames (length pl.now.params.now) t.now }
     requires book { BookFits pl.now.slots.now book.now }
-    ensures { Answers result pl.now.slots.now
+    ensures { RuleAnswers result pl.now.slots.now
         (walk.proof_of (site_of pl.now) step.now book.now step.now.kind t.now) }
 {
     match step.kind {

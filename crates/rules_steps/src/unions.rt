@@ -2,10 +2,10 @@
 ghost use Rattle.std.specs.Prelude.{◌≡◌, nat_eq, IfOk, Option, Result, Some};
 ghost use Rattle.core_terms.specs.declared.programs.CProgram.{CProgram};
 ghost use Rattle.fair_rounds.specs.declared.records.Record.{Record};
-ghost use Rattle.proof_rules.specs.Table as table;
-ghost use Rattle.proof_rules.specs.Table.{go_on, needs};
-ghost use Rattle.proof_rules.specs.Walk as walk;
-ghost use Rattle.safety_rules.specs.Answers.{Answers, IsPlace, IsPremiseAt, site_of};
+ghost use Rattle.rules_table.specs.Table as table;
+ghost use Rattle.rules_table.specs.Table.{go_on, needs};
+ghost use Rattle.rules_table.specs.Walk as walk;
+ghost use Rattle.safety_rules.specs.Answers.{RuleAnswers, IsPlace, IsPremiseAt, site_of};
 ghost use Rattle.safety_rules.specs.Instances.{AnswersRecord, RecordFits};
 ghost use Rattle.rules_steps.specs.Rows.{serves_claim, union_row};
 ghost use Rattle.rules_steps.specs.Using.{BookFits};
@@ -140,7 +140,7 @@ fn defined_union(alloc: Global, pl: &Place, a: &Record, b: &Record) -> Result<De
     requires place { IsPlace pl.now }
     requires a { IsPremiseAt pl.now a.now }
     requires b { IsPremiseAt pl.now b.now }
-    ensures { Answers result pl.now.slots.now (table.union_defined_of (site_of pl.now)
+    ensures { RuleAnswers result pl.now.slots.now (table.union_defined_of (site_of pl.now)
         (starts_in pl.now.slots.now pl.now.program.now) a.now b.now) }
 {
     let start = start_of(alloc, pl.program, pl.slots)?;
@@ -158,7 +158,7 @@ fn united(
     requires place { IsPlace pl.now }
     requires a { IsPremiseAt pl.now a.now }
     requires b { IsPremiseAt pl.now b.now }
-    ensures { Answers result pl.now.slots.now
+    ensures { RuleAnswers result pl.now.slots.now
         (walk.united (starts_in pl.now.slots.now) (site_of pl.now) kind a.now b.now) }
 {
     match kind {
@@ -181,7 +181,7 @@ fn with_other(
     requires place { IsPlace pl.now }
     requires first { IsPremiseAt pl.now first }
     requires second { IfOk second (IsPremiseAt pl.now) }
-    ensures { (row : Result Record Code) → AnswersRecord second row → Answers result pl.now.slots.now
+    ensures { (row : Result Record Code) → AnswersRecord second row → RuleAnswers result pl.now.slots.now
         (go_on row (walk.united (starts_in pl.now.slots.now) (site_of pl.now) kind first)) }
 {
     match second {
@@ -201,7 +201,7 @@ pub(crate) fn by_union(
 ) -> Result<Held<Derived>, RuleError>
     requires place { IsPlace pl.now }
     requires book { BookFits pl.now.slots.now book.now }
-    ensures { Answers result pl.now.slots.now
+    ensures { RuleAnswers result pl.now.slots.now
         (union_row (starts_in pl.now.slots.now) (site_of pl.now) kind book.now r.now s.now) }
 {
     let part = first_part(pl.program);

@@ -8,24 +8,24 @@ use Rattle.std.specs.Str.{bytes_eq}
 use Rattle.unity_syntax.specs.declared.term.Inst.{Inst}
 use Rattle.unity_syntax.specs.declared.document.Schedule.{Schedule}
 use Rattle.unity_syntax.specs.declared.document.Document.{Document}
-use Rattle.unity_meaning.specs.Programs.{Composed, program_named, programs_of}
-use Rattle.name_scopes.specs.Declarations.{some_of}
-use Rattle.name_scopes.specs.WellNamed.{IsWellNamed}
+use Rattle.meaning_documents.specs.Programs.{Composed, program_named, programs_of}
+use Rattle.names_rules.specs.Declarations.{some_of}
+use Rattle.names_rules.specs.WellNamed.{IsWellNamed}
 use Rattle.core_terms.specs.declared.programs.CProgram.{CProgram}
-use Rattle.document_words.specs.Texts.{document_texts, part_texts, schedule_texts}
-use Rattle.document_words.specs.WordNumbers.{document_words, word_number}
-use Rattle.declaration_laws.specs.WordLaws.{is_among}
-use Rattle.declaration_laws.proofs.Found.{or_left, or_right}
-use Rattle.declaration_laws.proofs.Lists.{part_right}
+use Rattle.expand_declarations.specs.Texts.{document_texts, part_texts, schedule_texts}
+use Rattle.expand_declarations.specs.WordNumbers.{document_words, word_number}
+use Rattle.expand_correct.specs.Declared.WordLaws.{is_among}
+use Rattle.expand_correct.proofs.Declared.Found.{or_left, or_right}
+use Rattle.expand_correct.proofs.Declared.Lists.{part_right}
 use Rattle.expand_declarations.specs.References.{core_schedule}
 use Rattle.schedule_replay.specs.Lines.{word_text}
 use Rattle.run_traces.specs.Programs.{is_called, program_called, program_of, scheduled_program}
-use Rattle.exact_documents.specs.Parts.{Everywhere}
-use Rattle.core_documents.specs.Cores.{core_document}
-use Rattle.core_documents.specs.Faults.{expansion_fault}
-use Rattle.core_meaning.specs.Meaning.{IsCoreOf}
-use Rattle.core_meaning.proofs.Matching.{programs_match, cores_match}
-use Rattle.unity_meaning.specs.Setting.{programs_among}
+use Rattle.expand_correct.specs.Exact.Parts.{EachItem}
+use Rattle.expand_documents.specs.Cores.{core_document}
+use Rattle.expand_documents.specs.Faults.{expansion_fault}
+use Rattle.expand_correct.specs.Preserved.Meaning.{IsCoreProgramOf}
+use Rattle.expand_correct.proofs.Preserved.Matching.{programs_match, cores_match}
+use Rattle.meaning_documents.specs.Setting.{programs_among}
 use Rattle.run_correct.specs.Shown.{document_places, with_shown}
 use Rattle.run_correct.proofs.Lists.{weaker, same_text, text_same, each_among, numbers_as_texts}
 use Rattle.run_correct.proofs.Pairs.{found_pair}
@@ -64,13 +64,13 @@ none_found {X} test (y ∷ ys) (suc place) x e f t =
 
 -- the program that `run` finds has the name in the document
 pub called_source : (d : Document) → IsWellNamed d → expansion_fault d ≡ None → (name : List ℕ) (p : CProgram) →
-    program_called (core_document d) name ≡ Some p → (c : Composed) × IsCoreOf d name c p
+    program_called (core_document d) name ≡ Some p → (c : Composed) × IsCoreProgramOf d name c p
 called_source d named fault name p e =
     let f = found_at (is_called (core_document d) name) (core_document d).programs p e in
     let s = cores_match d named fault f.place p f.there in
     let m = all_names_match d s.0 s.1 p named s.2 in
     let same : s.0 ≡ name = sym m.name_is ∙ same_text (word_text (document_words d) p.name) name f.passes in
-    (s.1, subst (λ (n : List ℕ). IsCoreOf d n s.1 p) same s.2)
+    (s.1, subst (λ (n : List ℕ). IsCoreProgramOf d n s.1 p) same s.2)
 
 -- where it finds none, no program has it
 pub no_program_source : (d : Document) → IsWellNamed d → expansion_fault d ≡ None → (name : List ℕ) →
@@ -96,7 +96,7 @@ schedule_among d s there text h =
     (ap (λ (o : Option Schedule). is_among (schedule_texts o) text) there ∙ h)
 
 pub labels_among : (d : Document) (s : Schedule) → d.schedule ≡ Some s →
-    Everywhere (λ (i : Inst). is_among (document_texts d) i.label.text ≡ true) (some_of s.choices)
+    EachItem (λ (i : Inst). is_among (document_texts d) i.label.text ≡ true) (some_of s.choices)
 labels_among d s there =
     let labels = map (λ (j : Inst). j.label.text) (some_of s.choices) in
     weaker (λ (i : Inst). is_among labels i.label.text ≡ true)
@@ -110,7 +110,7 @@ pub record HasSchedule (d : Document) (p : CProgram) : Type 0 where
   pub schedule : Schedule
   pub there : d.schedule ≡ Some schedule
   pub program : Composed
-  pub core : IsCoreOf d schedule.program.text program p
+  pub core : IsCoreProgramOf d schedule.program.text program p
 
 scheduled_by : (d : Document) → IsWellNamed d → expansion_fault d ≡ None → (p : CProgram) (s : Schedule) →
     d.schedule ≡ Some s → program_of (core_document d) (core_schedule (document_words d) s) ≡ Some p →
@@ -133,7 +133,7 @@ scheduled_by d named fault p s there e =
       schedule = s;
       there = there;
       program = m.1;
-      core = subst (λ (n : List ℕ). IsCoreOf d n m.1 p) same m.2;
+      core = subst (λ (n : List ℕ). IsCoreProgramOf d n m.1 p) same m.2;
     }
 
 pub scheduled_source : (d : Document) → IsWellNamed d → expansion_fault d ≡ None → (p : CProgram) →

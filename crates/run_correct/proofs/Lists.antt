@@ -7,21 +7,21 @@ use Rattle.std.specs.Str.{bytes_eq}
 use Rattle.std.proofs.lemmas.Bool.Decides.{eqb_tells}
 use Rattle.std.proofs.lemmas.Slice.Eq.{bytes_eq-Decides}
 use Rattle.core_terms.proofs.BoolLaws.{self_equal}
-use Rattle.document_words.specs.Texts.{Texts}
-use Rattle.document_words.specs.WordNumbers.{with_texts, word_number}
-use Rattle.declaration_laws.specs.WordLaws.{is_among}
-use Rattle.declaration_laws.proofs.Found.{words_found, numbers_tell, or_left, or_right}
+use Rattle.expand_declarations.specs.Texts.{Texts}
+use Rattle.expand_declarations.specs.WordNumbers.{with_texts, word_number}
+use Rattle.expand_correct.specs.Declared.WordLaws.{is_among}
+use Rattle.expand_correct.proofs.Declared.Found.{words_found, numbers_tell, or_left, or_right}
 use Rattle.schedule_replay.specs.Lines.{word_text}
-use Rattle.exact_documents.specs.Parts.{Everywhere}
+use Rattle.expand_correct.specs.Exact.Parts.{EachItem}
 
-pub weaker : {X : Type 0} (P Q : X → Type 0) → ((x : X) → P x → Q x) → (xs : List X) → Everywhere P xs →
-    Everywhere Q xs
+pub weaker : {X : Type 0} (P Q : X → Type 0) → ((x : X) → P x → Q x) → (xs : List X) → EachItem P xs →
+    EachItem Q xs
 weaker P Q f xs h place x e = f x (h place x e)
 
-pub behind : {X : Type 0} (P : X → Type 0) (x : X) (xs : List X) → Everywhere P (x ∷ xs) → Everywhere P xs
+pub behind : {X : Type 0} (P : X → Type 0) (x : X) (xs : List X) → EachItem P (x ∷ xs) → EachItem P xs
 behind P x xs h place y e = h (suc place) y e
 
-pub none_of : {X : Type 0} (P : X → Type 0) → Everywhere P []
+pub none_of : {X : Type 0} (P : X → Type 0) → EachItem P []
 none_of P place x e = cc e
 
 pub some_same : {X : Type 0} (x y : X) → Some x ≡ Some y → x ≡ y
@@ -52,7 +52,7 @@ text_same a b h = (bytes_eq-Decides a b).1 h
 
 -- each text that is gathered from items is among them
 pub each_among : {X : Type 0} (f : X → List ℕ) (xs : List X) →
-    Everywhere (λ x. is_among (map f xs) (f x) ≡ true) xs
+    EachItem (λ x. is_among (map f xs) (f x) ≡ true) xs
 each_among f [] place x e = cc e
 each_among f (y ∷ ys) zero x e = let same : y ≡ x = cc in
     or_left (bytes_eq (f x) (f y)) (is_among (map f ys) (f x)) (text_same (f x) (f y) (ap f (sym same)))

@@ -8,23 +8,23 @@ use Rattle.std.specs.Str.{bytes_eq}
 use Rattle.std.specs.Cmp.Lexicographic.{pointwise}
 use Rattle.unity_syntax.specs.declared.term.Inst.{Inst}
 use Rattle.unity_syntax.specs.declared.document.Document.{Document}
-use Rattle.unity_meaning.specs.Value.{end_value}
-use Rattle.unity_meaning.specs.Instances.{Instance, outermost_first}
-use Rattle.unity_meaning.specs.Programs.{Composed, programs_of}
-use Rattle.name_scopes.specs.Declarations.{some_of}
+use Rattle.meaning_documents.specs.Value.{end_value}
+use Rattle.meaning_documents.specs.Instances.{Instance, outermost_first}
+use Rattle.meaning_documents.specs.Programs.{Composed, programs_of}
+use Rattle.names_rules.specs.Declarations.{some_of}
 use Rattle.core_terms.specs.declared.programs.CStmt.{CStmt}
 use Rattle.core_terms.specs.declared.programs.CProgram.{CProgram}
-use Rattle.document_words.specs.Texts.{Texts, document_texts}
-use Rattle.document_words.specs.WordNumbers.{document_words, with_texts, word_number}
-use Rattle.declaration_laws.specs.WordLaws.{is_among}
-use Rattle.expansion_laws.proofs.Operations.{two}
+use Rattle.expand_declarations.specs.Texts.{Texts, document_texts}
+use Rattle.expand_declarations.specs.WordNumbers.{document_words, with_texts, word_number}
+use Rattle.expand_correct.specs.Declared.WordLaws.{is_among}
+use Rattle.expand_correct.proofs.Values.Operations.{two}
 use Rattle.expand_declarations.specs.References.{core_choice}
 use Rattle.schedule_replay.specs.Lines.{word_text, indices_text, instance_text as core_instance_text}
 use Rattle.schedule_replay.specs.Lines.{chosen_text as core_chosen_text}
 use Rattle.schedule_replay.specs.Schedules.{is_named as is_core_named, place_of as core_place_of}
-use Rattle.exact_documents.specs.Parts.{Everywhere}
-use Rattle.core_documents.specs.Cores.{core_document}
-use Rattle.unity_meaning.specs.Setting.{programs_among}
+use Rattle.expand_correct.specs.Exact.Parts.{EachItem}
+use Rattle.expand_documents.specs.Cores.{core_document}
+use Rattle.meaning_documents.specs.Setting.{programs_among}
 use Rattle.run_correct.specs.Shown.{document_places, with_shown, shown_slots}
 use Rattle.run_correct.specs.Names.{instance_text, chosen_text, is_named, place_of}
 use Rattle.run_correct.specs.Laws.{core_name, numbered_name, NamesMatch, AllNamesMatch}
@@ -71,7 +71,7 @@ module _ (texts : Texts) where
       (ap (word_text words) (label_alike s i e) ∙ word_is texts i.label h) (ap indices_text (indices_alike s i e))
 
   pub texts_alike : (ss : List CStmt) (is : List Instance) → map core_name ss ≡ map (numbered_name words) is →
-      Everywhere (HasLabel texts) is → (choice : ℕ) →
+      EachItem (HasLabel texts) is → (choice : ℕ) →
       option_map_or (core_instance_text words) (slice_get ss choice) []
       ≡ option_map_or instance_text (slice_get is choice) []
   texts_alike [] [] e h choice = refl
@@ -98,7 +98,7 @@ module _ (texts : Texts) where
 
   pub places_alike : (choice : Inst) (place : ℕ) (ss : List CStmt) (is : List Instance) →
       is_among texts choice.label.text ≡ true → map core_name ss ≡ map (numbered_name words) is →
-      Everywhere (HasLabel texts) is →
+      EachItem (HasLabel texts) is →
       position_from (is_core_named (core_choice words choice)) place ss ≡ position_from (is_named choice) place is
   places_alike choice place [] [] written e h = refl
   places_alike choice place [] (i ∷ is) written e h = cc e

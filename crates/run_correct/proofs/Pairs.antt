@@ -3,13 +3,13 @@ use Rattle.std.proofs.Common.{◌≡◌, ℕ, nat_eq, List, [], ◌∷◌, ◌++
 use Rattle.std.proofs.Common.{Option, Some, refl, sym, ap, ◌∙◌, subst}
 use Rattle.std.specs.Prelude.{⊤}
 use Rattle.std.specs.Str.{bytes_eq}
-use Rattle.unity_meaning.specs.Programs.{Composed, Known, program_named}
+use Rattle.meaning_documents.specs.Programs.{Composed, Known, program_named}
 use Rattle.core_terms.specs.declared.programs.CProgram.{CProgram}
-use Rattle.document_words.specs.Texts.{Texts}
-use Rattle.document_words.specs.WordNumbers.{with_texts, word_number}
-use Rattle.declaration_laws.specs.WordLaws.{is_among}
-use Rattle.exact_documents.specs.Parts.{Everywhere}
-use Rattle.core_documents.specs.Cores.{core_named}
+use Rattle.expand_declarations.specs.Texts.{Texts}
+use Rattle.expand_declarations.specs.WordNumbers.{with_texts, word_number}
+use Rattle.expand_correct.specs.Declared.WordLaws.{is_among}
+use Rattle.expand_correct.specs.Exact.Parts.{EachItem}
+use Rattle.expand_documents.specs.Cores.{core_named}
 use Rattle.run_correct.specs.Shown.{Showing, shown_named}
 use Rattle.run_correct.specs.Laws.{core_name, numbered_name}
 use Rattle.run_correct.proofs.Lists.{same_nat, same_text, text_same, some_same, numbers_as_texts}
@@ -40,7 +40,7 @@ module _ (texts : Texts) where
     pub written : is_among texts name ≡ true
     pub numbered : p.name ≡ number name
     pub names : map core_name p.statements ≡ map (numbered_name (with_texts [] texts)) c.instances
-    pub labels : Everywhere (HasLabel texts) c.instances
+    pub labels : EachItem (HasLabel texts) c.instances
     pub shows : p.shown ≡ shown
 
   abbrev pub ArePairs : Known → Showing → List CProgram → Type 0

@@ -5,31 +5,31 @@ use Rattle.std.specs.Prelude.{find, is_none}
 use Rattle.unity_syntax.specs.declared.term.Inst.{Inst}
 use Rattle.unity_syntax.specs.declared.document.Schedule.{Schedule}
 use Rattle.unity_syntax.specs.declared.document.Document.{Document}
-use Rattle.unity_meaning.specs.Programs.{Composed}
-use Rattle.name_scopes.specs.Declarations.{some_of}
-use Rattle.name_scopes.specs.WellNamed.{IsWellNamed}
+use Rattle.meaning_documents.specs.Programs.{Composed}
+use Rattle.names_rules.specs.Declarations.{some_of}
+use Rattle.names_rules.specs.WellNamed.{IsWellNamed}
 use Rattle.core_terms.specs.declared.programs.CStmt.{CStmt}
 use Rattle.core_terms.specs.declared.programs.CProgram.{CProgram}
 use Rattle.core_terms.specs.declared.documents.Choice.{Choice}
 use Rattle.core_terms.specs.declared.documents.CSchedule.{CSchedule}
-use Rattle.core_terms.specs.Conditions.{IsDocument}
-use Rattle.document_words.specs.Texts.{document_texts}
-use Rattle.document_words.specs.WordNumbers.{document_words}
-use Rattle.declaration_laws.specs.WordLaws.{is_among}
+use Rattle.core_terms.specs.Conditions.{IsCoreDocument}
+use Rattle.expand_declarations.specs.Texts.{document_texts}
+use Rattle.expand_declarations.specs.WordNumbers.{document_words}
+use Rattle.expand_correct.specs.Declared.WordLaws.{is_among}
 use Rattle.expand_declarations.specs.References.{core_choice, core_schedule}
-use Rattle.expansion_laws.proofs.Operations.{two}
+use Rattle.expand_correct.proofs.Values.Operations.{two}
 use Rattle.executor.specs.declared.runner.Stepped.{Stepped}
 use Rattle.schedule_replay.specs.declared.heading.Heading.{Heading}
 use Rattle.schedule_replay.specs.Schedules.{IsSchedule, first_unknown, place_of as core_place_of}
-use Rattle.schedule_replay.specs.Schedules.{IsUnknown as IsCoreUnknown}
+use Rattle.schedule_replay.specs.Schedules.{IsUnknownChoice as IsCoreUnknown}
 use Rattle.run_traces.specs.declared.trace_error.TraceError.{TraceError}
 use Rattle.run_traces.specs.declared.error.RunError.{RunError}
 use Rattle.run_traces.specs.Programs.{scheduled_program}
 use Rattle.run_traces.specs.Answers.{CoreReplayTraces}
 use Rattle.run_traces.proofs.FindingLaws.{named_statements, no_schedule}
-use Rattle.exact_documents.specs.Parts.{Everywhere}
-use Rattle.core_documents.specs.Cores.{core_document}
-use Rattle.core_documents.specs.Faults.{expansion_fault}
+use Rattle.expand_correct.specs.Exact.Parts.{EachItem}
+use Rattle.expand_documents.specs.Cores.{core_document}
+use Rattle.expand_documents.specs.Faults.{expansion_fault}
 use Rattle.run_correct.specs.Names.{place_of}
 use Rattle.run_correct.specs.Answers.{ReplayTraces, IsUnknown}
 use Rattle.run_correct.specs.Laws.{NamesMatch, ReplaysSay}
@@ -43,7 +43,7 @@ module _ (d : Document) (name : List ℕ) (c : Composed) (p : CProgram) (h : Nam
   core_choices is = map (core_choice (document_words d)) is
 
   abbrev AreWritten : List Inst → Type 0
-  AreWritten is = Everywhere (λ (i : Inst). is_among (document_texts d) i.label.text ≡ true) is
+  AreWritten is = EachItem (λ (i : Inst). is_among (document_texts d) i.label.text ≡ true) is
 
   -- the places of the instances that choices name
   places_same : (is : List Inst) → AreWritten is →
@@ -115,7 +115,7 @@ unknown_by d p at named h found i =
     }
 
 -- a document whose schedule names an instance that isn't there
-unknown_source : (d : Document) (at : ℕ) → IsWellNamed d → expansion_fault d ≡ None → IsDocument (core_document d) →
+unknown_source : (d : Document) (at : ℕ) → IsWellNamed d → expansion_fault d ≡ None → IsCoreDocument (core_document d) →
     IsCoreUnknown (core_document d) at → IsUnknown d at
 unknown_source d at named fault whole i = by (scheduled_program (core_document d)) refl
   where
@@ -124,7 +124,7 @@ unknown_source d at named fault whole i = by (scheduled_program (core_document d
     by (Some p) e = unknown_by d p at named (scheduled_source d named fault p e) e i
 
 replay_traces : (d : Document) (old new : Option (List ℕ)) (answer : Result Stepped TraceError) → IsWellNamed d →
-    expansion_fault d ≡ None → IsDocument (core_document d) → CoreReplayTraces (core_document d) old new answer →
+    expansion_fault d ≡ None → IsCoreDocument (core_document d) → CoreReplayTraces (core_document d) old new answer →
     ReplayTraces d old new answer
 replay_traces d old new answer named fault whole r =
     let h = scheduled_source d named fault r.0 r.2 in (

@@ -1,16 +1,16 @@
 -- What `run` answers over the core form of a document is what it answers over the document.
 use Rattle.std.proofs.Common.{◌≡◌, ℕ, List, length, Option, Result, Ok, Err, None, subst}
 use Rattle.unity_syntax.specs.declared.document.Document.{Document}
-use Rattle.name_scopes.specs.WellNamed.{IsWellNamed}
-use Rattle.core_terms.specs.Conditions.{IsDocument}
+use Rattle.names_rules.specs.WellNamed.{IsWellNamed}
+use Rattle.core_terms.specs.Conditions.{IsCoreDocument}
 use Rattle.executor.specs.declared.runner.Stepped.{Stepped}
 use Rattle.schedule_replay.specs.declared.heading.Heading.{Heading}
 use Rattle.schedule_replay.specs.Schedules.{turns}
 use Rattle.run_traces.specs.declared.trace_error.TraceError.{TraceError}
 use Rattle.run_traces.specs.declared.error.RunError.{RunError}
 use Rattle.run_traces.specs.Answers.{CoreRunTraces}
-use Rattle.core_documents.specs.Cores.{core_document}
-use Rattle.core_documents.specs.Faults.{expansion_fault}
+use Rattle.expand_documents.specs.Cores.{core_document}
+use Rattle.expand_documents.specs.Faults.{expansion_fault}
 use Rattle.run_correct.specs.Answers.{Traces, RunTraces}
 use Rattle.run_correct.specs.Laws.{RunsSay}
 use Rattle.run_correct.proofs.Texts.{traces_say}
@@ -18,7 +18,7 @@ use Rattle.run_correct.proofs.Finding.{called_source, no_program_source}
 
 run_traces : (d : Document) (name : List ℕ) (steps : ℕ) (old new : Option (List ℕ))
     (answer : Result Stepped TraceError) →
-    IsWellNamed d → expansion_fault d ≡ None → IsDocument (core_document d) →
+    IsWellNamed d → expansion_fault d ≡ None → IsCoreDocument (core_document d) →
     CoreRunTraces (core_document d) name steps old new answer → RunTraces d name steps old new answer
 run_traces d name steps old new answer named fault whole r =
     let s = called_source d named fault name r.0 r.1 in (

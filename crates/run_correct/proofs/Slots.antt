@@ -11,25 +11,25 @@ use Rattle.unity_syntax.specs.declared.name.Name.{Name}
 use Rattle.unity_syntax.specs.declared.declaration.Plain.{Plain}
 use Rattle.unity_syntax.specs.declared.declaration.Var.{Var}
 use Rattle.unity_syntax.specs.declared.document.Document.{Document}
-use Rattle.state_steps.specs.State.{State}
-use Rattle.unity_meaning.specs.Names.{Variable}
-use Rattle.unity_meaning.specs.Setting.{element_type, type_indices, with_declaration}
+use Rattle.meaning_states.specs.State.{State}
+use Rattle.meaning_documents.specs.Names.{Variable}
+use Rattle.meaning_documents.specs.Setting.{element_type, type_indices, with_declaration}
 use Rattle.core_terms.specs.declared.programs.CSlot.{CSlot}
 use Rattle.core_terms.specs.Values.{number_at}
-use Rattle.document_words.specs.Texts.{Texts, plain_texts, var_texts, document_texts}
-use Rattle.document_words.specs.WordNumbers.{document_words, with_texts, word_number}
+use Rattle.expand_declarations.specs.Texts.{Texts, plain_texts, var_texts, document_texts}
+use Rattle.expand_declarations.specs.WordNumbers.{document_words, with_texts, word_number}
 use Rattle.expand_declarations.specs.Slots.{index_values, is_known, print_of, slot_at, slots_of, new_slots, declared_by}
 use Rattle.expand_declarations.specs.Shown.{places_from, declared_names, is_slot_of}
-use Rattle.declaration_laws.specs.WordLaws.{is_among}
-use Rattle.declaration_laws.proofs.Found.{or_left, or_right}
-use Rattle.declaration_laws.proofs.Lists.{IsPart}
-use Rattle.expansion_laws.proofs.Operations.{two}
+use Rattle.expand_correct.specs.Declared.WordLaws.{is_among}
+use Rattle.expand_correct.proofs.Declared.Found.{or_left, or_right}
+use Rattle.expand_correct.proofs.Declared.Lists.{IsPart}
+use Rattle.expand_correct.proofs.Values.Operations.{two}
 use Rattle.schedule_replay.specs.Lines.{word_text, index_text, value_text as core_value_text}
 use Rattle.schedule_replay.specs.Lines.{slot_text as core_slot_text}
 use Rattle.schedule_replay.specs.Lines.{known_slot_text}
-use Rattle.exact_documents.specs.Parts.{Everywhere}
-use Rattle.exact_documents.proofs.Statements.{everywhere_joined}
-use Rattle.core_documents.specs.Cores.{core_document}
+use Rattle.expand_correct.specs.Exact.Parts.{EachItem}
+use Rattle.expand_correct.proofs.Exact.Statements.{everywhere_joined}
+use Rattle.expand_documents.specs.Cores.{core_document}
 use Rattle.run_correct.specs.Shown.{SlotOfVariable, places_of, new_places, document_places, value_text}
 use Rattle.run_correct.specs.Shown.{place_text, slot_text, is_declared}
 use Rattle.run_correct.proofs.Lists.{weaker, behind, none_of, text_same, each_among, word_is, numbers_as_texts}
@@ -68,19 +68,19 @@ abbrev pub PlaceWritten : Texts → SlotOfVariable → Type 0
 PlaceWritten texts e = IsWritten texts e.0
 
 indices_written : (texts : Texts) (v : Var) → IsWritten texts v → (is : List (Option ℤ)) →
-    Everywhere (PlaceWritten texts) (map (λ index. (v, index)) is)
+    EachItem (PlaceWritten texts) (map (λ index. (v, index)) is)
 indices_written texts v w [] place e same = cc same
 indices_written texts v w (i ∷ is) zero e same = let here : (v, i) ≡ e = cc in
     subst (PlaceWritten texts) here w
 indices_written texts v w (i ∷ is) (suc place) e same = indices_written texts v w is place e same
 
 some_written : (texts : Texts) (b : Bool) (v : Var) → IsWritten texts v →
-    Everywhere (PlaceWritten texts) (cond b [] (places_of v))
+    EachItem (PlaceWritten texts) (cond b [] (places_of v))
 some_written texts true v w = none_of (PlaceWritten texts)
 some_written texts false v w = indices_written texts v w (index_values (type_indices v.kind))
 
-pub places_written : (texts : Texts) (vs : List Variable) (ds : List Var) → Everywhere (IsWritten texts) ds →
-    Everywhere (PlaceWritten texts) (new_places vs ds)
+pub places_written : (texts : Texts) (vs : List Variable) (ds : List Var) → EachItem (IsWritten texts) ds →
+    EachItem (PlaceWritten texts) (new_places vs ds)
 places_written texts vs [] w = none_of (PlaceWritten texts)
 places_written texts vs (v ∷ ds) w =
     everywhere_joined (PlaceWritten texts) (cond (is_known vs v.name.text) [] (places_of v))
@@ -97,7 +97,7 @@ module _ (texts : Texts) where
   abbrev words : Texts
   words = with_texts [] texts
 
-  enumerated_same : (ws : List Name) (n : ℕ) → Everywhere (λ (w : Name). is_among texts w.text ≡ true) ws →
+  enumerated_same : (ws : List Name) (n : ℕ) → EachItem (λ (w : Name). is_among texts w.text ≡ true) ws →
       option_map_or (word_text words) (slice_get (map (λ (w : Name). word_number words w.text) ws) n) []
       ≡ option_map_or (λ (w : Name). w.text) (slice_get ws n) []
   enumerated_same [] n h = refl
@@ -126,7 +126,7 @@ module _ (texts : Texts) where
       (value_same (element_type e.0.kind) z (λ t h. w.among t
       (or_right (bytes_eq t e.0.name.text) (is_among (plain_texts (element_type e.0.kind)) t) h)))
 
-  slots_same : (es : List SlotOfVariable) (n : ℕ) (z : ℤ) → Everywhere (PlaceWritten texts) es →
+  slots_same : (es : List SlotOfVariable) (n : ℕ) (z : ℤ) → EachItem (PlaceWritten texts) es →
       option_map_or (λ s. known_slot_text words s z) (slice_get (map (core_slot words) es) n) []
       ≡ option_map_or (λ e. place_text e z) (slice_get es n) []
   slots_same [] n z h = refl
@@ -135,7 +135,7 @@ module _ (texts : Texts) where
 
   -- slots that are shown
 
-  declared_same : (e : SlotOfVariable) (vs : List Var) → PlaceWritten texts e → Everywhere (IsWritten texts) vs →
+  declared_same : (e : SlotOfVariable) (vs : List Var) → PlaceWritten texts e → EachItem (IsWritten texts) vs →
       is_slot_of (declared_names words vs) (core_slot words e) ≡ is_declared vs e
   declared_same e [] w h = refl
   declared_same e (v ∷ vs) w h =
@@ -146,8 +146,8 @@ module _ (texts : Texts) where
       (name_written texts v (h 0 v refl)))
       (declared_same e vs w (behind (IsWritten texts) v vs h))
 
-  pub shown_same : (vs : List Var) (place : ℕ) (es : List SlotOfVariable) → Everywhere (IsWritten texts) vs →
-      Everywhere (PlaceWritten texts) es →
+  pub shown_same : (vs : List Var) (place : ℕ) (es : List SlotOfVariable) → EachItem (IsWritten texts) vs →
+      EachItem (PlaceWritten texts) es →
       places_from (is_slot_of (declared_names words vs)) place (map (core_slot words) es)
       ≡ places_from (is_declared vs) place es
   shown_same vs place [] w h = refl
@@ -161,7 +161,7 @@ module _ (texts : Texts) where
 -- documents
 
 abbrev pub AllWritten : Document → Type 0
-AllWritten d = Everywhere (IsWritten (document_texts d)) (declared_by d.parts)
+AllWritten d = EachItem (IsWritten (document_texts d)) (declared_by d.parts)
 
 pub slot_text_same : (d : Document) → AllWritten d → (state : State) (n : ℕ) →
     core_slot_text (core_document d) state n ≡ slot_text d state n

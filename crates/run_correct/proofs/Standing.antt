@@ -14,41 +14,42 @@ use Rattle.unity_syntax.specs.declared.program.Program.{Program}
 use Rattle.unity_syntax.specs.declared.statement.Items.{Items}
 use Rattle.unity_syntax.specs.declared.document.Part.{Part}
 use Rattle.unity_syntax.specs.declared.document.Document.{Document}
-use Rattle.unity_meaning.specs.Instances.{Instance, outermost_first, instances}
-use Rattle.unity_meaning.specs.Setting.{programs_among}
-use Rattle.unity_meaning.specs.Programs.{Composed, Known, program_named, union, initial_formula, union_of, name_of}
-use Rattle.unity_meaning.specs.Programs.{composed, with_composed, with_programs, programs_of}
-use Rattle.name_scopes.specs.declared.named.Composed.{Composed as NamedParts}
-use Rattle.name_scopes.specs.Reading.{earlier, unless}
+use Rattle.meaning_documents.specs.Instances.{Instance, outermost_first, instances}
+use Rattle.meaning_documents.specs.Setting.{programs_among}
+use Rattle.meaning_documents.specs.Programs.{Composed, Known, program_named, union, initial_formula, union_of, name_of}
+use Rattle.meaning_documents.specs.Programs.{composed, with_composed, with_programs, programs_of}
+use Rattle.names_rules.specs.declared.named.Composed.{Composed as NamedParts}
+use Rattle.names_rules.specs.Reading.{earlier, unless}
 use Rattle.case_tables.specs.declared.code_table.Code.{Code}
-use Rattle.name_scopes.specs.Part.{run}
-use Rattle.name_scopes.specs.Declarations.{items_of, some_of}
-use Rattle.name_scopes.specs.Proofs.{Programs, program_reading}
-use Rattle.name_scopes.specs.WellNamed.{Declared, nothing_declared, new_program, parts_of, share, program_part}
-use Rattle.name_scopes.specs.WellNamed.{proof_part, part_of, IsWellNamed}
-use Rattle.name_laws.proofs.AttributeTheorems.{earlier_first, earlier_second}
+use Rattle.names_rules.specs.Part.{run}
+use Rattle.names_rules.specs.Declarations.{items_of, some_of}
+use Rattle.names_rules.specs.Proofs.{Programs, program_reading}
+use Rattle.names_rules.specs.WellNamed.{Declared, nothing_declared, new_program, parts_of, share, program_part}
+use Rattle.names_rules.specs.WellNamed.{proof_part, part_of, IsWellNamed}
+use Rattle.names_rules.proofs.Faults.{earlier_first, earlier_second}
 use Rattle.core_terms.specs.declared.programs.CSlot.{CSlot}
 use Rattle.core_terms.specs.declared.programs.CProgram.{CProgram}
 use Rattle.core_terms.specs.Unions.{merged, joined_programs}
-use Rattle.document_words.specs.Texts.{Texts, var_texts, items_texts, program_texts, part_texts, document_texts}
-use Rattle.document_words.specs.WordNumbers.{document_words, with_texts, word_number}
+use Rattle.expand_declarations.specs.Texts.{Texts, var_texts, items_texts, program_texts, part_texts, document_texts}
+use Rattle.expand_declarations.specs.WordNumbers.{document_words, with_texts, word_number}
 use Rattle.expand_declarations.specs.Slots.{declared_by, document_slots}
 use Rattle.expand_declarations.specs.Shown.{places_from, declared_names, is_slot_of, shown_slots}
 use Rattle.expand_declarations.specs.Start.{start_values}
-use Rattle.declaration_laws.specs.WordLaws.{is_among}
-use Rattle.declaration_laws.proofs.Found.{or_left}
-use Rattle.declaration_laws.proofs.Lists.{IsPart, part_right, part_cons}
-use Rattle.declaration_laws.proofs.Slots.{parts_fault, each_part_texts}
-use Rattle.expansion_laws.specs.Forming.{Scope}
-use Rattle.expansion_laws.specs.Assigning.{stated}
-use Rattle.expansion_laws.specs.Programs.{core_statement, plain_core}
-use Rattle.expansion_laws.proofs.Operations.{two}
-use Rattle.exact_documents.specs.Parts.{Everywhere}
-use Rattle.exact_documents.proofs.Statements.{everywhere_joined}
-use Rattle.core_documents.specs.Cores.{core_named, core_union, core_program, with_core, with_cores, document_scope}
-use Rattle.core_documents.specs.Cores.{core_document}
-use Rattle.core_meaning.proofs.Matching.{known_name}
-use Rattle.core_meaning.proofs.Pairs.{is_named, named_some, named_with, entered_with}
+use Rattle.expand_correct.specs.Declared.WordLaws.{is_among}
+use Rattle.expand_correct.proofs.Declared.Found.{or_left}
+use Rattle.expand_correct.proofs.Declared.Lists.{IsPart, part_right, part_cons}
+use Rattle.expand_correct.proofs.Declared.Slots.{each_part_texts}
+use Rattle.expand_declarations.proofs.NearIndices.{parts_fault}
+use Rattle.expand_rules.specs.Forming.{Scope}
+use Rattle.expand_rules.specs.Assigning.{stated}
+use Rattle.expand_rules.specs.Programs.{core_statement, plain_core}
+use Rattle.expand_correct.proofs.Values.Operations.{two}
+use Rattle.expand_correct.specs.Exact.Parts.{EachItem}
+use Rattle.expand_correct.proofs.Exact.Statements.{everywhere_joined}
+use Rattle.expand_documents.specs.Cores.{core_named, core_union, core_program, with_core, with_cores, document_scope}
+use Rattle.expand_documents.specs.Cores.{core_document}
+use Rattle.expand_correct.proofs.Preserved.Matching.{known_name}
+use Rattle.expand_correct.proofs.Preserved.Pairs.{is_named, named_some, named_with, entered_with}
 use Rattle.run_correct.specs.Shown.{SlotOfVariable, document_places, Showing, is_declared, shown_named, shown_by}
 use Rattle.run_correct.specs.Shown.{with_shown}
 use Rattle.run_correct.specs.Laws.{core_name, numbered_name}
@@ -73,7 +74,7 @@ abbrev has : Programs → List ℕ → Bool
 has programs name = is_some (lookup (bytes_eq name) programs)
 
 module _ (texts : Texts) (s : Scope) (slots : List CSlot) (places : List SlotOfVariable)
-    (laid : slots ≡ map (core_slot (with_texts [] texts)) places) (placed : Everywhere (PlaceWritten texts) places)
+    (laid : slots ≡ map (core_slot (with_texts [] texts)) places) (placed : EachItem (PlaceWritten texts) places)
   where
     abbrev words : Texts
     words = with_texts [] texts
@@ -96,7 +97,7 @@ module _ (texts : Texts) (s : Scope) (slots : List CSlot) (places : List SlotOfV
 
     plain_pair : (name : Name) (shown others : List ℕ) (start : List (ℕ × ℤ)) (initially : Option Initially)
         (items : Items) →
-        is_among texts name.text ≡ true → Everywhere (HasLabel texts) (instances items) → shown ≡ others →
+        is_among texts name.text ≡ true → EachItem (HasLabel texts) (instances items) → shown ≡ others →
         IsNamedPair texts name.text (record { initially = initial_formula initially; instances = instances items })
         others
         (plain_core (word_number words) s (word_number words name.text) shown start initially items)

@@ -7,20 +7,20 @@ use Rattle.std.specs.List.{flat_map}
 use Rattle.std.specs.Io.KnownBytes.{Appends}
 use Rattle.unity_base.specs.Streams.{AppendsPart}
 use Rattle.unity_syntax.specs.declared.document.Document.{Document}
-use Rattle.state_steps.specs.State.{State, Ranges, is_state}
-use Rattle.unity_meaning.specs.Setting.{slot_ranges}
-use Rattle.unity_meaning.specs.Programs.{Composed, document_setting}
-use Rattle.unity_meaning.specs.Execution.{chosen_step}
-use Rattle.unity_meaning.specs.Rounds.{rounds}
-use Rattle.execution_laws.specs.Alike.{Alike}
-use Rattle.name_scopes.specs.WellNamed.{IsWellNamed}
+use Rattle.meaning_states.specs.State.{State, Ranges, is_state}
+use Rattle.meaning_documents.specs.Setting.{slot_ranges}
+use Rattle.meaning_documents.specs.Programs.{Composed, document_setting}
+use Rattle.meaning_documents.specs.Execution.{chosen_step}
+use Rattle.meaning_documents.specs.Rounds.{rounds}
+use Rattle.meaning_laws.specs.Alike.{StepEquivalent}
+use Rattle.names_rules.specs.WellNamed.{IsWellNamed}
 use Rattle.core_terms.specs.declared.programs.CProgram.{CProgram}
-use Rattle.core_terms.specs.Conditions.{IsDocument}
+use Rattle.core_terms.specs.Conditions.{IsCoreDocument}
 use Rattle.core_terms.specs.Steps.{slot_ranges as core_ranges}
 use Rattle.core_terms.specs.Values.{form_value}
 use Rattle.fair_rounds.specs.Records.{core_system}
-use Rattle.document_words.specs.WordNumbers.{document_words, word_number}
-use Rattle.expansion_laws.proofs.Operations.{two}
+use Rattle.expand_declarations.specs.WordNumbers.{document_words, word_number}
+use Rattle.expand_correct.proofs.Values.Operations.{two}
 use Rattle.executor.proofs.StartStateLaws.{start_is_state}
 use Rattle.schedule_replay.specs.declared.heading.Heading.{Heading}
 use Rattle.schedule_replay.specs.Lines.{slot_text as core_slot_text, rounds_line, heading_line as core_heading_line}
@@ -31,9 +31,9 @@ use Rattle.run_traces.specs.Traces.{steps_text as core_steps_text}
 use Rattle.run_traces.proofs.TraceTheorems.{same_trace}
 use Rattle.run_traces.proofs.TraceAnswers.{program_in}
 use Rattle.run_traces.proofs.FindingLaws.{found_in}
-use Rattle.core_documents.specs.Cores.{core_document}
-use Rattle.core_meaning.specs.Meaning.{IsCoreOf}
-use Rattle.core_meaning.proofs.Meaning.{slots_match, programs_alike}
+use Rattle.expand_documents.specs.Cores.{core_document}
+use Rattle.expand_correct.specs.Preserved.Meaning.{IsCoreProgramOf}
+use Rattle.expand_correct.proofs.Preserved.Meaning.{slots_match, programs_alike}
 use Rattle.run_correct.specs.Traces.{source_system, first_state, heading_line, state_line, step_line, steps_text}
 use Rattle.run_correct.specs.Traces.{program_trace}
 use Rattle.run_correct.specs.Shown.{slot_text, shown_text}
@@ -98,8 +98,8 @@ module _ (d : Document) (name : List ℕ) (c : Composed) (p : CProgram) (h : Nam
       choices) count ∙ lines_same last 0 start choices)
 
 -- the start state is a state of the document
-start_state_is : (d : Document) (name : List ℕ) (c : Composed) (p : CProgram) → IsDocument (core_document d) →
-    IsCoreOf d name c p → IsTrue (is_state (core_ranges (core_document d).slots) (first_state d p))
+start_state_is : (d : Document) (name : List ℕ) (c : Composed) (p : CProgram) → IsCoreDocument (core_document d) →
+    IsCoreProgramOf d name c p → IsTrue (is_state (core_ranges (core_document d).slots) (first_state d p))
 start_state_is d name c p whole h =
     let there = found_in (λ q. nat_eq q.name (word_number (document_words d) name)) (core_document d).programs p
     h.found in
@@ -119,13 +119,13 @@ pub record IsSame (d : Document) (name : List ℕ) (c : Composed) (p : CProgram)
       ≡ all_defined (source_system d c) (first_state d p) choices
 
 pub trace_same : (d : Document) (name : List ℕ) (c : Composed) (p : CProgram) (heading : Heading)
-    (choices : List ℕ) → IsWellNamed d → IsDocument (core_document d) → IsCoreOf d name c p →
+    (choices : List ℕ) → IsWellNamed d → IsCoreDocument (core_document d) → IsCoreProgramOf d name c p →
     IsSame d name c p heading choices
 trace_same d name c p heading choices named whole h =
     let slots = (core_document d).slots in
     let start = first_state d p in
     let ranges = slot_ranges (document_setting d).variables in
-    let alike : Alike ranges (source_system d c) (core_system slots p) = programs_alike d name c p h in
+    let alike : StepEquivalent ranges (source_system d c) (core_system slots p) = programs_alike d name c p h in
     let fits = start_state_is d name c p whole h in
     let inside = subst (λ (r : Ranges). IsTrue (is_state r start)) (slots_match d) fits in
     let same = same_trace (core_document d) p (source_system d c) (core_system slots p) (is_state ranges) heading start

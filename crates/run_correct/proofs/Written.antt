@@ -6,17 +6,17 @@ use Rattle.unity_syntax.specs.declared.declaration.Var.{Var}
 use Rattle.unity_syntax.specs.declared.program.Program.{Program}
 use Rattle.unity_syntax.specs.declared.document.Part.{Part}
 use Rattle.unity_syntax.specs.declared.document.Document.{Document}
-use Rattle.unity_meaning.specs.Setting.{items_of, declarations}
-use Rattle.document_words.specs.Texts.{Texts, var_texts, items_texts, program_texts, part_texts, document_texts}
+use Rattle.meaning_documents.specs.Setting.{items_of, declarations}
+use Rattle.expand_declarations.specs.Texts.{Texts, var_texts, items_texts, program_texts, part_texts, document_texts}
 use Rattle.expand_declarations.specs.Slots.{part_declarations}
-use Rattle.declaration_laws.proofs.Lists.{IsPart, part_left, part_right, part_cons, part_trans}
-use Rattle.declaration_laws.proofs.Slots.{each_part_texts}
-use Rattle.exact_documents.specs.Parts.{Everywhere}
-use Rattle.exact_documents.proofs.Statements.{everywhere_joined}
+use Rattle.expand_correct.proofs.Declared.Lists.{IsPart, part_left, part_right, part_cons, part_trans}
+use Rattle.expand_correct.proofs.Declared.Slots.{each_part_texts}
+use Rattle.expand_correct.specs.Exact.Parts.{EachItem}
+use Rattle.expand_correct.proofs.Exact.Statements.{everywhere_joined}
 use Rattle.run_correct.proofs.Lists.{weaker, none_of}
 use Rattle.run_correct.proofs.Slots.{IsWritten, AllWritten}
 
-each_variable : (vs : List Var) → Everywhere (IsWritten (flat_map var_texts vs)) vs
+each_variable : (vs : List Var) → EachItem (IsWritten (flat_map var_texts vs)) vs
 each_variable [] place x e = cc e
 each_variable (v ∷ vs) zero x e = let same : v ≡ x = cc in
     subst (IsWritten (var_texts v ++ flat_map var_texts vs)) same (part_left (var_texts v) (flat_map var_texts vs))
@@ -25,7 +25,7 @@ each_variable (v ∷ vs) (suc place) x e =
     (each_variable vs place x e) (part_right (var_texts v) (flat_map var_texts vs))
 
 pub program_written : (texts : Texts) (p : Program) → IsPart (program_texts p) texts →
-    Everywhere (IsWritten texts) (declarations p)
+    EachItem (IsWritten texts) (declarations p)
 program_written texts (Program.Union at name left right) h = none_of (IsWritten texts)
 program_written texts (Program.Plain at name declare always initially start items) h =
     let vs = flat_map var_texts (items_of declare) in
@@ -36,7 +36,7 @@ program_written texts (Program.Plain at name declare always initially start item
     (items_of declare) (each_variable (items_of declare))
 
 parts_written : (texts : Texts) (parts : List Part) → All (λ p. IsPart (part_texts p) texts) parts →
-    Everywhere (IsWritten texts) (flat_map part_declarations parts)
+    EachItem (IsWritten texts) (flat_map part_declarations parts)
 parts_written texts [] h = none_of (IsWritten texts)
 parts_written texts (Part.Program at p ∷ rest) h =
     everywhere_joined (IsWritten texts) (declarations p) (flat_map part_declarations rest)

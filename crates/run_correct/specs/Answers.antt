@@ -6,8 +6,8 @@ use Rattle.std.specs.Io.KnownBytes.{Appends}
 use Rattle.unity_base.specs.Streams.{AppendsPart}
 use Rattle.unity_syntax.specs.declared.document.Schedule.{Schedule}
 use Rattle.unity_syntax.specs.declared.document.Document.{Document}
-use Rattle.unity_meaning.specs.Programs.{Composed, program_named, programs_of}
-use Rattle.name_scopes.specs.Declarations.{some_of}
+use Rattle.meaning_documents.specs.Programs.{Composed, program_named, programs_of}
+use Rattle.names_rules.specs.Declarations.{some_of}
 use Rattle.core_terms.specs.declared.programs.CProgram.{CProgram}
 use Rattle.executor.specs.declared.runner.Stepped.{Stepped}
 use Rattle.schedule_replay.specs.declared.heading.Heading.{Heading}
@@ -15,7 +15,7 @@ use Rattle.schedule_replay.specs.Schedules.{turns}
 use Rattle.run_traces.specs.declared.trace_error.TraceError.{TraceError}
 use Rattle.run_traces.specs.Traces.{all_defined, ending}
 use Rattle.run_traces.specs.declared.error.RunError.{RunError}
-use Rattle.core_meaning.specs.Meaning.{IsCoreOf}
+use Rattle.expand_correct.specs.Preserved.Meaning.{IsCoreProgramOf}
 use Rattle.run_correct.specs.Names.{place_of}
 use Rattle.run_correct.specs.Traces.{source_system, first_state, program_trace}
 
@@ -40,7 +40,7 @@ Traces d name c p heading choices old new (Err TraceError.Memory) = new ≡ old
 
 -- the trace of a run: that of the program with this name, each instance in turn
 abbrev pub RunTraces : Document → List ℕ → ℕ → Option (List ℕ) → Option (List ℕ) → Result Stepped TraceError → Type 0
-RunTraces d name steps old new answer = (c : Composed) × (p : CProgram) × IsCoreOf d name c p
+RunTraces d name steps old new answer = (c : Composed) × (p : CProgram) × IsCoreProgramOf d name c p
     × Traces d name c p Heading.Run (turns (length c.instances) steps) old new answer
 
 -- what `run` answers, and what it wrote
@@ -56,7 +56,7 @@ Runs d name steps old new (Err RunError.Memory) = RunTraces d name steps old new
 -- the document's schedule names this program, and the instances at these places
 pub record IsReplay (d : Document) (s : Schedule) (c : Composed) (p : CProgram) (choices : List ℕ) : Type 0 where
   pub there : d.schedule ≡ Some s
-  pub core : IsCoreOf d s.program.text c p
+  pub core : IsCoreProgramOf d s.program.text c p
   pub named : map Some choices ≡ map (place_of c) (some_of s.choices)
 
 -- the trace of a replay

@@ -6,10 +6,10 @@ use Rattle.std.specs.Ordering.{int_eq}
 use Rattle.std.specs.Str.{bytes_eq}
 use Rattle.std.specs.Cmp.Lexicographic.{pointwise}
 use Rattle.unity_syntax.specs.declared.term.Inst.{Inst}
-use Rattle.unity_meaning.specs.Value.{end_value}
-use Rattle.unity_meaning.specs.Instances.{Instance, outermost_first}
-use Rattle.unity_meaning.specs.Programs.{Composed}
-use Rattle.name_scopes.specs.Declarations.{some_of}
+use Rattle.meaning_documents.specs.Value.{end_value}
+use Rattle.meaning_documents.specs.Instances.{Instance, outermost_first}
+use Rattle.meaning_documents.specs.Programs.{Composed}
+use Rattle.names_rules.specs.Declarations.{some_of}
 use Rattle.schedule_replay.specs.Lines.{indices_text}
 
 -- an instance's name: its label, and the numbers of its bound names, as in `pass[2]` or `move[0,1]`

@@ -9,10 +9,10 @@ use Rattle.unity_syntax.specs.declared.declaration.Plain.{Plain}
 use Rattle.unity_syntax.specs.declared.declaration.Var.{Var}
 use Rattle.unity_syntax.specs.declared.program.Program.{Program}
 use Rattle.unity_syntax.specs.declared.document.Document.{Document}
-use Rattle.state_steps.specs.State.{State, int_eq}
-use Rattle.unity_meaning.specs.Names.{Variable}
-use Rattle.unity_meaning.specs.Setting.{items_of, element_type, type_indices, with_declaration, programs_among}
-use Rattle.unity_meaning.specs.Programs.{name_of}
+use Rattle.meaning_states.specs.State.{State, int_eq}
+use Rattle.meaning_documents.specs.Names.{Variable}
+use Rattle.meaning_documents.specs.Setting.{items_of, element_type, type_indices, with_declaration, programs_among}
+use Rattle.meaning_documents.specs.Programs.{name_of}
 use Rattle.core_terms.specs.Values.{number_at}
 use Rattle.core_terms.specs.Unions.{merged}
 use Rattle.expand_declarations.specs.Slots.{index_values, is_known, declared_by}

@@ -1,16 +1,16 @@
 -- The trace of a program of a document: the states that its own steps give.
 use Rattle.std.specs.Prelude.{ℕ, ◌+◌, List, [], ◌∷◌, ◌++◌, length, Option, Some, None, codes, decimal}
 use Rattle.unity_syntax.specs.declared.document.Document.{Document}
-use Rattle.state_steps.specs.State.{State}
-use Rattle.unity_meaning.specs.Programs.{Composed, document_setting}
-use Rattle.unity_meaning.specs.Execution.{System, system_of, chosen_step}
-use Rattle.unity_meaning.specs.Rounds.{rounds}
+use Rattle.meaning_states.specs.State.{State}
+use Rattle.meaning_documents.specs.Programs.{Composed, document_setting}
+use Rattle.meaning_documents.specs.Execution.{System, system_of, chosen_step}
+use Rattle.meaning_documents.specs.Rounds.{rounds}
 use Rattle.core_terms.specs.declared.programs.CProgram.{CProgram}
 use Rattle.executor.specs.StartState.{start_state}
 use Rattle.schedule_replay.specs.declared.heading.Heading.{Heading}
 use Rattle.schedule_replay.specs.Lines.{rounds_line}
 use Rattle.run_traces.specs.Traces.{following}
-use Rattle.core_documents.specs.Cores.{core_document}
+use Rattle.expand_documents.specs.Cores.{core_document}
 use Rattle.run_correct.specs.Names.{chosen_text}
 use Rattle.run_correct.specs.Shown.{shown_text}
 

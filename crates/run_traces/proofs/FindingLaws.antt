@@ -6,7 +6,7 @@ use Rattle.std.specs.List.{list_any}
 use Rattle.core_terms.specs.declared.programs.CProgram.{CProgram}
 use Rattle.core_terms.specs.declared.documents.CSchedule.{CSchedule}
 use Rattle.core_terms.specs.declared.documents.CDocument.{CDocument}
-use Rattle.core_terms.specs.Conditions.{IsDocument, ScheduleFits}
+use Rattle.core_terms.specs.Conditions.{IsCoreDocument, ScheduleFits}
 use Rattle.schedule_replay.specs.Schedules.{statements_of}
 use Rattle.run_traces.specs.Programs.{is_called, program_called, program_of, scheduled_program}
 
@@ -34,7 +34,7 @@ any_found {X} test (x ∷ xs) h e = go (test x) h e (any_found test xs)
     go false h e rest = rest h e
 
 -- the schedule of a document names a program
-pub no_schedule : (d : CDocument) → IsDocument d → scheduled_program d ≡ None → d.schedule ≡ None
+pub no_schedule : (d : CDocument) → IsCoreDocument d → scheduled_program d ≡ None → d.schedule ≡ None
 no_schedule d h e = go d.schedule h.schedule e
   where
     go : (o : Option CSchedule) → ScheduleFits d.words d.programs o → option_and_then (program_of d) o ≡ None →

@@ -4,17 +4,17 @@ use Rattle.std.proofs.Common.{◌∙◌, subst, is_ok, arith}
 use Rattle.std.specs.Prelude.{IsErrOf}
 use Rattle.unity_base.specs.declared.streams.Failed.{Failed}
 use Rattle.unity_base.specs.Streams.{HasCause, IsTold}
-use Rattle.state_steps.specs.State.{State}
+use Rattle.meaning_states.specs.State.{State}
 use Rattle.core_terms.specs.declared.programs.CProgram.{CProgram}
 use Rattle.core_terms.specs.declared.documents.CDocument.{CDocument}
-use Rattle.core_terms.specs.Conditions.{IsDocument, IsProgram}
+use Rattle.core_terms.specs.Conditions.{IsCoreDocument, IsProgram}
 use Rattle.core_terms.specs.Values.{form_value}
 use Rattle.executor.specs.declared.runner.StartError.{StartError}
 use Rattle.executor.specs.declared.runner.Stepped.{Stepped}
 use Rattle.schedule_replay.specs.declared.heading.Heading.{Heading}
 use Rattle.run_traces.specs.declared.trace_error.TraceError.{TraceError}
 use Rattle.run_traces.specs.TraceErrors.{trace_error}
-use Rattle.run_traces.specs.TraceAnswers.{Traces}
+use Rattle.run_traces.specs.TraceAnswers.{CoreTraces}
 
 -- nothing was counted, and the answer is another one
 pub still : (count : ℕ) (answer : Type 0) → (answer → ⊥) → IsTold count count answer
@@ -59,12 +59,12 @@ not_memory r h f =
 pub no_trace : (d : CDocument) (p : CProgram) (heading : Heading) (start : State) (choices : List ℕ)
     (old : Option (List ℕ)) (e : StartError) (t : TraceError) → t ≡ trace_error e →
     (e ≡ StartError.NotInitial → form_value start [] p.initially ≡ false) →
-    Traces d p heading start choices old old (Err t)
+    CoreTraces d p heading start choices old old (Err t)
 no_trace d p heading start choices old StartError.NotInitial t h initial =
-    subst (λ (u : TraceError). Traces d p heading start choices old old (Err u)) (sym h) (initial refl, refl)
+    subst (λ (u : TraceError). CoreTraces d p heading start choices old old (Err u)) (sym h) (initial refl, refl)
 no_trace d p heading start choices old StartError.Memory t h initial =
-    subst (λ (u : TraceError). Traces d p heading start choices old old (Err u)) (sym h) refl
+    subst (λ (u : TraceError). CoreTraces d p heading start choices old old (Err u)) (sym h) refl
 
 -- a program of a document
-pub program_in : (d : CDocument) (p : CProgram) → IsDocument d → Contains d.programs p → IsProgram d.slots p
+pub program_in : (d : CDocument) (p : CProgram) → IsCoreDocument d → Contains d.programs p → IsProgram d.slots p
 program_in d p h there = subst (IsProgram d.slots) there.2 (h.programs there.0 p there.1)

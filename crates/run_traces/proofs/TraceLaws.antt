@@ -8,13 +8,13 @@ use Rattle.std.specs.List.{range_with_len}
 use Rattle.std.proofs.lemmas.Option.{slice_get-map, slice_get_past, slice_get_within, get_or_from_slice_get}
 use Rattle.std.proofs.lemmas.List.FromFn.{length-map-range_with_len}
 use Rattle.std.proofs.lemmas.List.{take_all, at_drop_all}
-use Rattle.state_steps.specs.State.{State}
-use Rattle.unity_meaning.specs.Rounds.{rounds}
+use Rattle.meaning_states.specs.State.{State}
+use Rattle.meaning_documents.specs.Rounds.{rounds}
 use Rattle.fair_rounds.proofs.CountLaws.{few_rounds}
 use Rattle.core_terms.specs.declared.programs.CProgram.{CProgram}
 use Rattle.core_terms.specs.declared.documents.CDocument.{CDocument}
 use Rattle.executor.specs.declared.runner.Stepped.{Stepped}
-use Rattle.unity_meaning.specs.Execution.{System, act_step, chosen_step}
+use Rattle.meaning_documents.specs.Execution.{System, act_step, chosen_step}
 use Rattle.core_terms.specs.declared.programs.CSlot.{CSlot}
 use Rattle.core_terms.specs.declared.programs.CStmt.{CStmt}
 use Rattle.core_terms.specs.Steps.{core_step}

@@ -1,7 +1,7 @@
 -- The trace of a core program.
 use Rattle.std.specs.Prelude.{ℕ, List, length}
-use Rattle.state_steps.specs.State.{State}
-use Rattle.unity_meaning.specs.Rounds.{rounds}
+use Rattle.meaning_states.specs.State.{State}
+use Rattle.meaning_documents.specs.Rounds.{rounds}
 use Rattle.core_terms.specs.declared.programs.CProgram.{CProgram}
 use Rattle.core_terms.specs.declared.documents.CDocument.{CDocument}
 use Rattle.fair_rounds.specs.Records.{core_system}

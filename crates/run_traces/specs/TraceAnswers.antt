@@ -1,7 +1,7 @@
 -- What a call answers that writes the trace of a program.
 use Rattle.std.specs.Prelude.{◌≡◌, ℕ, List, [], true, false, Option, Result, Ok, Err}
 use Rattle.std.specs.Io.KnownBytes.{Appends}
-use Rattle.state_steps.specs.State.{State}
+use Rattle.meaning_states.specs.State.{State}
 use Rattle.unity_base.specs.Streams.{AppendsPart}
 use Rattle.core_terms.specs.declared.programs.CProgram.{CProgram}
 use Rattle.core_terms.specs.declared.documents.CDocument.{CDocument}
@@ -17,7 +17,7 @@ abbrev pub program_trace : CDocument → CProgram → Heading → State → List
 program_trace d p heading start choices = trace_text d p (core_system d.slots p) heading start choices
 
 -- the state is an initial one; the whole trace from it was written, and ends so
-pub record IsTraced (d : CDocument) (p : CProgram) (heading : Heading) (start : State) (choices : List ℕ)
+pub record IsCoreTraced (d : CDocument) (p : CProgram) (heading : Heading) (start : State) (choices : List ℕ)
     (old new : Option (List ℕ)) (end : Stepped) : Type 0 where
   pub initial : form_value start [] p.initially ≡ true
   pub whole : Appends old new (program_trace d p heading start choices)
@@ -25,11 +25,11 @@ pub record IsTraced (d : CDocument) (p : CProgram) (heading : Heading) (start : 
 
 -- the trace from an initial state was written, or a proper part of it; or the state is no initial one, or memory was
 -- refused, and nothing was written
-abbrev pub Traces : CDocument → CProgram → Heading → State → List ℕ → Option (List ℕ) → Option (List ℕ) →
+abbrev pub CoreTraces : CDocument → CProgram → Heading → State → List ℕ → Option (List ℕ) → Option (List ℕ) →
     Result Stepped TraceError → Type 0
-Traces d p heading start choices old new (Ok end) = IsTraced d p heading start choices old new end
-Traces d p heading start choices old new (Err TraceError.NotInitial) =
+CoreTraces d p heading start choices old new (Ok end) = IsCoreTraced d p heading start choices old new end
+CoreTraces d p heading start choices old new (Err TraceError.NotInitial) =
     (form_value start [] p.initially ≡ false) × (new ≡ old)
-Traces d p heading start choices old new (Err TraceError.Failed) =
+CoreTraces d p heading start choices old new (Err TraceError.Failed) =
     (form_value start [] p.initially ≡ true) × AppendsPart old new (program_trace d p heading start choices)
-Traces d p heading start choices old new (Err TraceError.Memory) = new ≡ old
+CoreTraces d p heading start choices old new (Err TraceError.Memory) = new ≡ old

@@ -1,7 +1,7 @@
 // The two commands that write traces.
 ghost use Rattle.std.specs.Prelude.{◌≡◌, length, IsErrOf, Contains, Some, IsErr};
 ghost use Rattle.unity_base.specs.Streams.{IsTold};
-ghost use Rattle.core_terms.specs.Conditions.{IsDocument};
+ghost use Rattle.core_terms.specs.Conditions.{IsCoreDocument};
 ghost use Rattle.run_traces.specs.Choices.{AreAmong};
 ghost use Rattle.run_traces.specs.Cores.{core_choices};
 ghost use Rattle.run_traces.specs.Programs as named;
@@ -30,7 +30,7 @@ pub fn run_program<K: Sink>(
     steps: u64,
     out: &mut K,
 ) -> Result<Stepped, RunError>
-    requires { IsDocument doc.now }
+    requires { IsCoreDocument doc.now }
     ensures answer { CoreRuns doc.now program.now steps (K.written out.old) (K.written out.new) result }
     ensures cause { IsTold (K.faults out.old) (K.faults out.new) (IsErrOf result RunError.Failed) }
     ensures untouched { IsErr result → (IsErrOf result RunError.Failed → ⊥) → out.new ≡ out.old }
@@ -53,7 +53,7 @@ pub fn replay_schedule<K: Sink>(
     doc: &CDocument,
     out: &mut K,
 ) -> Result<Stepped, RunError>
-    requires { IsDocument doc.now }
+    requires { IsCoreDocument doc.now }
     ensures answer { CoreReplays doc.now (K.written out.old) (K.written out.new) result }
     ensures cause { IsTold (K.faults out.old) (K.faults out.new) (IsErrOf result RunError.Failed) }
     ensures untouched { IsErr result → (IsErrOf result RunError.Failed → ⊥) → out.new ≡ out.old }
@@ -71,7 +71,7 @@ fn replay_program<K: Sink>(
     p: &CProgram,
     out: &mut K,
 ) -> Result<Stepped, RunError>
-    requires document { IsDocument doc.now }
+    requires document { IsCoreDocument doc.now }
     requires program { named.scheduled_program doc.now ≡ Some p.now }
     ensures answer { CoreReplays doc.now (K.written out.old) (K.written out.new) result }
     ensures cause { IsTold (K.faults out.old) (K.faults out.new) (IsErrOf result RunError.Failed) }
@@ -99,7 +99,7 @@ fn write_program<K: Sink>(
     choices: &Choices,
     out: &mut K,
 ) -> Result<Stepped, RunError>
-    requires document { IsDocument doc.now }
+    requires document { IsCoreDocument doc.now }
     requires program { Contains doc.now.programs p.now }
     requires instances { AreAmong (length p.now.statements) choices.now }
     ensures answer { TraceAnswers doc.now p.now heading (core_choices p.now choices.now)

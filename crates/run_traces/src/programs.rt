@@ -1,13 +1,13 @@
 // The trace of a program from its start state.
 ghost use Rattle.std.specs.Prelude.{◌≡◌, ◌≤◌, [], length, IsErrOf, IsTrue, Contains, IsErr};
 ghost use Rattle.unity_base.specs.Streams.{IsTold};
-ghost use Rattle.core_terms.specs.Conditions.{IsDocument, IsProgram};
-ghost use Rattle.state_steps.specs.State.{is_state};
+ghost use Rattle.core_terms.specs.Conditions.{IsCoreDocument, IsProgram};
+ghost use Rattle.meaning_states.specs.State.{is_state};
 ghost use Rattle.core_terms.specs.Steps.{slot_ranges};
 ghost use Rattle.core_terms.specs.Values.{form_value};
 ghost use Rattle.executor.specs.StartState.{start_state};
 ghost use Rattle.executor.specs.Running.{program_of, slots_of, state_of};
-ghost use Rattle.run_traces.specs.TraceAnswers.{Traces};
+ghost use Rattle.run_traces.specs.TraceAnswers.{CoreTraces};
 ghost use Rattle.run_traces.specs.Choices.{AreAmong};
 ghost use Rattle.run_traces.specs.Cores.{core_choices};
 
@@ -34,10 +34,10 @@ pub(crate) fn trace_program<K: Sink>(
     choices: &Choices,
     out: &mut K,
 ) -> Result<Stepped, TraceError>
-    requires document { IsDocument doc.now }
+    requires document { IsCoreDocument doc.now }
     requires program { Contains doc.now.programs p.now }
     requires instances { AreAmong (length p.now.statements) choices.now }
-    ensures answer { Traces doc.now p.now heading (start_state doc.now.slots p.now) (core_choices p.now choices.now)
+    ensures answer { CoreTraces doc.now p.now heading (start_state doc.now.slots p.now) (core_choices p.now choices.now)
         (K.written out.old) (K.written out.new) result }
     ensures cause { IsTold (K.faults out.old) (K.faults out.new) (IsErrOf result TraceError.Failed) }
     ensures untouched { IsErr result → (IsErrOf result TraceError.Failed → ⊥) → out.new ≡ out.old }
@@ -59,7 +59,7 @@ fn trace_from<K: Sink>(
     requires program { IsProgram doc.now.slots p.now }
     requires start { IsTrue (is_state (slot_ranges doc.now.slots) start.now) }
     requires instances { AreAmong (length p.now.statements) choices.now }
-    ensures answer { Traces doc.now p.now heading start.now (core_choices p.now choices.now)
+    ensures answer { CoreTraces doc.now p.now heading start.now (core_choices p.now choices.now)
         (K.written out.old) (K.written out.new) result }
     ensures cause { IsTold (K.faults out.old) (K.faults out.new) (IsErrOf result TraceError.Failed) }
     ensures untouched { IsErr result → (IsErrOf result TraceError.Failed → ⊥) → out.new ≡ out.old }
@@ -85,7 +85,7 @@ fn trace_by<K: Sink>(
     requires some { 1 ≤ length p.now.statements }
     requires few { length p.now.statements ≤ 4096 }
     requires instances { AreAmong (length p.now.statements) choices.now }
-    ensures answer { Traces doc.now p.now heading (state_of runner.old) (core_choices p.now choices.now)
+    ensures answer { CoreTraces doc.now p.now heading (state_of runner.old) (core_choices p.now choices.now)
         (K.written out.old) (K.written out.new) result }
     ensures cause { IsTold (K.faults out.old) (K.faults out.new) (IsErrOf result TraceError.Failed) }
     ensures untouched { IsErr result → (IsErrOf result TraceError.Failed → ⊥) → out.new ≡ out.old }

@@ -3,7 +3,7 @@ use Rattle.std.proofs.Common.{◌≡◌, ℕ, zero, suc, ◌+◌, ◌<◌, ◌�
 use Rattle.std.proofs.Common.{refl, sym, ap, ◌∙◌, length, drop, slice_index_or, add-one, append_assoc, arith}
 use Rattle.core_terms.specs.declared.trees.CForm.{CForm}
 use Rattle.core_terms.specs.declared.documents.Arg.{Arg}
-use Rattle.proof_rules.specs.Table.{agree, equations}
+use Rattle.rules_table.specs.Table.{agree, equations}
 use Rattle.safety_rules.specs.Helpers.{agrees, equation_of}
 
 agree-cons : (a : Arg) (args : List Arg) (z : ℤ) (zs : List ℤ) → agree (a ∷ args) (z ∷ zs) ≡

@@ -11,16 +11,16 @@ use Rattle.core_terms.specs.declared.trees.CForm.{CForm}
 use Rattle.core_terms.specs.declared.programs.CSlot.{CSlot}
 use Rattle.obligations.specs.declared.branches.Obligation.{Obligation}
 use Rattle.fair_rounds.specs.declared.records.Record.{Record}
-use Rattle.proof_rules.specs.Limits.{fits, is_provable}
-use Rattle.proof_rules.specs.Validity.{goal_obligation}
-use Rattle.proof_rules.specs.Conclusion.{Conclusion}
+use Rattle.rules_table.specs.Limits.{fits, is_provable}
+use Rattle.rules_table.specs.Validity.{goal_obligation}
+use Rattle.rules_table.specs.Conclusion.{Conclusion}
 use Rattle.case_tables.specs.declared.kind_table.Kind.{Kind}
 use Rattle.core_terms.specs.declared.documents.Helper.{Helper}
-use Rattle.proof_rules.specs.Table.{Site, needs, goals_of, record_of, concluded, paired}
-use Rattle.proof_rules.proofs.RowEquations.{concluded-is}
+use Rattle.rules_table.specs.Table.{Site, needs, goals_of, record_of, concluded, paired}
+use Rattle.rules_table.proofs.RowEquations.{concluded-is}
 use Rattle.safety_rules.specs.declared.places.Derived.{Derived}
 use Rattle.safety_rules.specs.declared.places.RuleError.{RuleError}
-use Rattle.safety_rules.specs.Answers.{obligations_of, derived_of, Answers}
+use Rattle.safety_rules.specs.Answers.{obligations_of, derived_of, RuleAnswers}
 use Rattle.safety_rules.specs.Goals.{Added, Concludes}
 
 pub needs_met : {A : Type 0} (b : Bool) (code : Code) (rest : Result A Code) → b ≡ true → needs b code rest ≡ rest
@@ -66,18 +66,18 @@ module _ (slots : List CSlot) (params : List Range) where
   -- a formula of the obligations is too large
   pub refused_goals : (T : Type 0) (error : RuleError) (old new : List Obligation) (made : Record)
       (forms : List CForm) →
-      Added {T = T} (Err error) old new slots params forms → Answers (Err error) slots
+      Added {T = T} (Err error) old new slots params forms → RuleAnswers (Err error) slots
       (concluded slots params made forms)
   refused_goals T RuleError.Memory old new made forms added = tt
   refused_goals T (RuleError.Fault code) old new made forms added =
-      subst (λ x. Answers (Err (RuleError.Fault code)) slots x)
+      subst (λ x. RuleAnswers (Err (RuleError.Fault code)) slots x)
       (sym (too_large made forms (second_false (small made) (shown forms) added.1))) added.0
 
   -- the obligations are there, and the record is made of them
   pub given_goals : (answer : Result Derived RuleError) (made : Record) (forms : List CForm) (goals : List Obligation)
       →
       goals ≡ map (goal_obligation slots params) forms → shown forms ≡ true →
-      Concludes answer slots params made goals → Answers answer slots (concluded slots params made forms)
+      Concludes answer slots params made goals → RuleAnswers answer slots (concluded slots params made forms)
   given_goals (Ok d) made forms goals are provable given =
       let x : Conclusion = record { made = made; goals = goals_of params forms } in
       let is : concluded slots params made forms ≡ Ok x =
@@ -88,9 +88,9 @@ module _ (slots : List CSlot) (params : List Range) where
       let same : d ≡ derived_of slots x =
       given.0 ∙ ap (λ (os : List Obligation). record { made = made; obligations = os })
       (are ∙ obligations_are slots params forms) in
-      subst (λ y. Answers (Ok d) slots y) (sym is) same
+      subst (λ y. RuleAnswers (Ok d) slots y) (sym is) same
   given_goals (Err (RuleError.Fault code)) made forms goals are provable given =
-      subst (λ y. Answers (Err (RuleError.Fault code)) slots y)
+      subst (λ y. RuleAnswers (Err (RuleError.Fault code)) slots y)
       (sym (too_large made forms (first_false (small made) (shown forms) given.1))) given.0
   given_goals (Err RuleError.Memory) made forms goals are provable given = tt
 
@@ -225,7 +225,7 @@ pub rule_given : {T : Type 0} (done : T) (site : Site) (kind : Kind) (p q p' q' 
     (answer : Result Derived RuleError) → p' ≡ p → q' ≡ q → under' ≡ under → helper' ≡ helper → old ≡ [] →
     Added (Ok done) old goals site.slots site.params forms →
     Concludes answer site.slots site.params (record_of site kind p' q' under' helper') goals →
-    Answers answer site.slots (concluded site.slots site.params (record_of site kind p q under helper) forms)
+    RuleAnswers answer site.slots (concluded site.slots site.params (record_of site kind p q under helper) forms)
 rule_given done site kind p q p' q' under under' helper helper' forms old goals answer same_p same_q same_under
     same_helper none added given =
     given_goals site.slots site.params answer (record_of site kind p q under helper) forms goals
@@ -238,20 +238,20 @@ rule_given done site kind p q p' q' under under' helper helper' forms old goals 
 
 -- a condition of a row fails
 pub refused : (slots : List CSlot) (code : Code) (row : Result Conclusion Code) → row ≡ Err code →
-    Answers (Err (RuleError.Fault code)) slots row
-refused slots code row is = subst (λ x. Answers (Err (RuleError.Fault code)) slots x) (sym is) refl
+    RuleAnswers (Err (RuleError.Fault code)) slots row
+refused slots code row is = subst (λ x. RuleAnswers (Err (RuleError.Fault code)) slots x) (sym is) refl
 
 -- a row gives what follows its condition
 pub given_by : (slots : List CSlot) (answer : Result Derived RuleError) (row rest : Result Conclusion Code) →
-    row ≡ rest → Answers answer slots rest → Answers answer slots row
-given_by slots answer row rest is given = subst (λ x. Answers answer slots x) (sym is) given
+    row ≡ rest → RuleAnswers answer slots rest → RuleAnswers answer slots row
+given_by slots answer row rest is given = subst (λ x. RuleAnswers answer slots x) (sym is) given
 
 -- two premises, under what both stand under
 pub paired_given : (site : Site) (a b : Record) (kind : Kind) (p q p' q' : CForm) (first second : List CForm)
     (helper helper' : Option Helper) (goals : List Obligation) (answer : Result Derived RuleError) → p' ≡ p → q' ≡ q →
     first ≡ a.under → second ≡ b.under → helper' ≡ helper → goals ≡ [] →
     Concludes answer site.slots site.params (record_of site kind p' q' (first ++ second) helper') goals →
-    Answers answer site.slots (paired site kind helper p q a b)
+    RuleAnswers answer site.slots (paired site kind helper p q a b)
 paired_given site a b kind p q p' q' first second helper helper' goals answer same_p same_q one two same_helper none
     given =
     rule_given (tt {0}) site kind p q p' q' (a.under ++ b.under) (first ++ second) helper helper' [] [] goals answer
@@ -259,8 +259,8 @@ paired_given site a b kind p q p' q' first second helper helper' goals answer sa
 
 pub same_pair : (site : Site) (a b : Record) (p q p' q' : CForm) (answer : Result Derived RuleError) → p' ≡ p → q' ≡ q
     →
-    Answers answer site.slots (paired site Kind.Unless None p' q' a b) →
-    Answers answer site.slots (paired site Kind.Unless None p q a b)
+    RuleAnswers answer site.slots (paired site Kind.Unless None p' q' a b) →
+    RuleAnswers answer site.slots (paired site Kind.Unless None p q a b)
 same_pair site a b p q p' q' answer same_p same_q given =
-    subst (λ f. Answers answer site.slots (paired site Kind.Unless None f q a b)) same_p
-    (subst (λ f. Answers answer site.slots (paired site Kind.Unless None p' f a b)) same_q given)
+    subst (λ f. RuleAnswers answer site.slots (paired site Kind.Unless None f q a b)) same_p
+    (subst (λ f. RuleAnswers answer site.slots (paired site Kind.Unless None p' f a b)) same_q given)

@@ -3,7 +3,7 @@ use Rattle.std.proofs.Common.{◌≡◌, ℕ, zero, suc, ◌+◌, ◌<◌, ◌�
 use Rattle.std.proofs.Common.{IsTrue, refl, sym, ap, ◌∙◌, length, drop, slice_get, slice_index_or, add-one, arith}
 use Rattle.core_terms.specs.declared.trees.Range.{Range}
 use Rattle.core_terms.specs.declared.documents.Arg.{Arg}
-use Rattle.proof_rules.specs.Table.{is_argument, are_arguments}
+use Rattle.rules_table.specs.Table.{is_argument, are_arguments}
 
 pub got_within : {X : Type 0} (xs : List X) (n : ℕ) (d : X) → n < length xs →
     slice_get xs n ≡ Some (slice_index_or xs n d)

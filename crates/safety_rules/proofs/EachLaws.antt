@@ -3,7 +3,7 @@ use Rattle.std.proofs.Common.{◌≡◌, List, [], ◌∷◌, ◌++◌, cond, re
 use Rattle.std.specs.List.{list_any}
 use Rattle.core_terms.specs.declared.trees.CForm.{CForm}
 use Rattle.core_terms.specs.Trees.{same_form}
-use Rattle.proof_rules.specs.Table.{with_each}
+use Rattle.rules_table.specs.Table.{with_each}
 
 each-two : (seen xs ys : List CForm) → with_each seen (xs ++ ys) ≡ with_each (with_each seen xs) ys
 each-two seen [] ys = refl

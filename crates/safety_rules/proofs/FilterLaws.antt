@@ -8,8 +8,8 @@ use Rattle.core_terms.specs.declared.trees.Range.{Range}
 use Rattle.core_terms.specs.declared.trees.CForm.{CForm}
 use Rattle.core_terms.specs.declared.programs.CSlot.{CSlot}
 use Rattle.obligations.specs.declared.branches.Obligation.{Obligation}
-use Rattle.proof_rules.specs.Limits.{is_provable}
-use Rattle.proof_rules.specs.Validity.{goal_obligation}
+use Rattle.rules_table.specs.Limits.{is_provable}
+use Rattle.rules_table.specs.Validity.{goal_obligation}
 use Rattle.safety_rules.specs.declared.places.RuleError.{RuleError}
 use Rattle.safety_rules.specs.Goals.{Added}
 use Rattle.safety_rules.proofs.AnswerLaws.{AddedFor}

@@ -7,7 +7,7 @@ use Rattle.std.specs.Int.RustNames.{unsigned_abs, int_le}
 use Rattle.std.proofs.lemmas.Int.{ints}
 use Rattle.std.proofs.lemmas.List.Elements.{All-nil, All-cons, All-head, All-tail}
 use borrow.Author.Differences.{le-true}
-use Rattle.state_steps.proofs.StepTheorems.{and_left, and_right}
+use Rattle.meaning_states.proofs.StepTheorems.{and_left, and_right}
 use Rattle.case_tables.specs.declared.code_table.Code.{Code}
 use Rattle.core_terms.specs.declared.trees.Range.{Range}
 use Rattle.core_terms.specs.declared.trees.CTerm.{CTerm, fold-CTerm, fold-roll-CTerm}
@@ -23,7 +23,7 @@ use Rattle.core_terms.specs.Replacing.{shifted, arg_term, arg_at, IsSmallArg}
 use Rattle.wp_substitution.proofs.LightLaws.{form_light}
 use Rattle.wp_substitution.proofs.PlaceLaws.{Counts, count-Slot, count-Param, constant_within, form_within}
 use Rattle.fair_rounds.specs.declared.records.Record.{Record}
-use Rattle.proof_rules.specs.Table.{is_argument, are_arguments, lies_in}
+use Rattle.rules_table.specs.Table.{is_argument, are_arguments, lies_in}
 use Rattle.safety_rules.specs.declared.places.RuleError.{RuleError}
 use Rattle.safety_rules.specs.Instances.{IsSmallIndex, SumFits, IndexFits, HelperFits, CanPut, CanMove}
 use Rattle.safety_rules.specs.Instances.{MayPut, AllMayPut, AnswersRecord}

@@ -8,7 +8,7 @@ use Rattle.core_terms.specs.declared.trees.Range.{Range}
 use Rattle.core_terms.specs.declared.programs.CSlot.{CSlot}
 use Rattle.core_terms.specs.declared.trees.CForm.{CForm}
 use Rattle.core_terms.specs.Folding.{and_form, or_form, not_form}
-use Rattle.proof_rules.specs.Forms.{or_any, any_of, imply}
+use Rattle.rules_table.specs.Forms.{or_any, any_of, imply}
 use Rattle.wp_substitution.specs.Joined.{joined_all, or_top}
 use Rattle.wp_substitution.specs.Preconditions.{and_all, all_of}
 use Rattle.safety_rules.specs.Usable.{IsUsable}

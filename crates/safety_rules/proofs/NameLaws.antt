@@ -17,8 +17,8 @@ use Rattle.core_terms.specs.Replacing.{shifted}
 use Rattle.wp_substitution.specs.Preconditions.{and_all, all_of, wp_form}
 use Rattle.wp_substitution.proofs.PlaceLaws.{constant_within, difference_within, zero_within, top_within}
 use Rattle.wp_substitution.proofs.PlaceLaws.{bottom_within}
-use Rattle.proof_rules.specs.Forms.{or_any, any_of, imply}
-use Rattle.proof_rules.specs.Table.{equations}
+use Rattle.rules_table.specs.Forms.{or_any, any_of, imply}
+use Rattle.rules_table.specs.Table.{equations}
 use Rattle.safety_rules.specs.Usable.{NamesExist}
 use Rattle.safety_rules.proofs.InstanceLaws.{shifted_within}
 use Rattle.safety_rules.proofs.UsableLaws.{slot_counts, param_counts, exist_not, exist_and, exist_or, exist_imply}

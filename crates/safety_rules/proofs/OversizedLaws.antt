@@ -15,9 +15,9 @@ use Rattle.obligations.specs.Plain.{height_of}
 use Rattle.wp_substitution.specs.Preconditions.{all_of, defined_form, wp_form}
 use Rattle.wp_substitution.specs.Oversized.{IsOversized}
 use Rattle.wp_substitution.proofs.OversizedLaws.{or_second_large, wp_large}
-use Rattle.proof_rules.specs.Forms.{imply}
-use Rattle.proof_rules.specs.Limits.{is_provable}
-use Rattle.proof_rules.specs.Validity.{goal_obligation}
+use Rattle.rules_table.specs.Forms.{imply}
+use Rattle.rules_table.specs.Limits.{is_provable}
+use Rattle.rules_table.specs.Validity.{goal_obligation}
 use Rattle.safety_rules.specs.declared.places.RuleError.{RuleError}
 use Rattle.safety_rules.specs.Goals.{Added}
 use Rattle.safety_rules.proofs.AnswerLaws.{first_false, second_false}

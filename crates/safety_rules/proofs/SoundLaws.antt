@@ -9,17 +9,17 @@ use Rattle.core_terms.specs.declared.programs.CSlot.{CSlot}
 use Rattle.core_terms.specs.Conditions.{FormFits, IsSlot}
 use Rattle.obligations.specs.Opening.{Valid}
 use Rattle.fair_rounds.specs.declared.records.Record.{Record}
-use Rattle.proof_rules.specs.Conclusion.{Conclusion}
-use Rattle.proof_rules.specs.Validity.{Goal, goal_obligation, AllValid}
-use Rattle.proof_rules.specs.Sound.{AreClosed, IsSite, IsPremise}
-use Rattle.proof_rules.proofs.EachLaws.{from_all}
-use Rattle.proof_rules.proofs.GoalLaws.{goal_shown}
-use Rattle.proof_rules.proofs.StepSound.{closed_form}
-use Rattle.proof_rules.proofs.WalkTheorems.{lows_state}
+use Rattle.rules_table.specs.Conclusion.{Conclusion}
+use Rattle.rules_table.specs.Validity.{Goal, goal_obligation, AllValid}
+use Rattle.rules_table.specs.Sound.{AreClosed, IsSite, IsPremise}
+use Rattle.rules_table.proofs.EachLaws.{from_all}
+use Rattle.rules_table.proofs.GoalLaws.{goal_shown}
+use Rattle.rules_table.proofs.StepSound.{closed_form}
+use Rattle.rules_table.proofs.WalkTheorems.{lows_state}
 use Rattle.safety_rules.specs.declared.places.Place.{Place}
 use Rattle.safety_rules.specs.declared.places.Derived.{Derived}
 use Rattle.safety_rules.specs.declared.places.RuleError.{RuleError}
-use Rattle.safety_rules.specs.Answers.{site_of, IsPlace, IsPremiseAt, obligations_of, Answers}
+use Rattle.safety_rules.specs.Answers.{site_of, IsPlace, IsPremiseAt, obligations_of, RuleAnswers}
 use Rattle.safety_rules.specs.Sound.{StandsAt, StandsWhereShown}
 
 all_closed : (slots : List CSlot) (fs : List CForm) → All (FormFits slots []) fs → AreClosed fs
@@ -53,7 +53,7 @@ goals_valid slots (g ∷ goals) valid = (
 given_stands : (pl : Place) (d : Derived) (row : Result Conclusion Code) →
     ((x : Conclusion) → row ≡ Ok x → AllValid pl.slots.now x.goals → StandsAt pl x.made) →
     (r : Result Conclusion Code) →
-    row ≡ r → Answers (Ok d) pl.slots.now r → All Valid d.obligations → StandsAt pl d.made
+    row ≡ r → RuleAnswers (Ok d) pl.slots.now r → All Valid d.obligations → StandsAt pl d.made
 given_stands pl d row sound (Ok x) e same valid =
     subst (λ (y : Derived). StandsAt pl y.made) (sym same)
     (sound x e (goals_valid pl.slots.now x.goals (subst (λ (y : Derived). All Valid y.obligations) same valid)))
@@ -62,7 +62,7 @@ given_stands pl d row sound (Err code) e same valid = absurd same
 -- what the table gives stands, and so does what the call gives
 pub answer_stands : (pl : Place) (answer : Result Derived RuleError) (row : Result Conclusion Code) →
     ((x : Conclusion) → row ≡ Ok x → AllValid pl.slots.now x.goals → StandsAt pl x.made) →
-    Answers answer pl.slots.now row → StandsWhereShown pl answer
+    RuleAnswers answer pl.slots.now row → StandsWhereShown pl answer
 answer_stands pl (Ok d) row sound given = given_stands pl d row sound row refl given
 answer_stands pl (Err error) row sound given = tt
 

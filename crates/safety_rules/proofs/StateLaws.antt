@@ -3,8 +3,8 @@ use Rattle.std.proofs.Common.{ℕ, zero, suc, ◌*◌, ◌≤◌, ◌^◌, max, 
 use Rattle.std.proofs.lemmas.Int.{ints}
 use Rattle.std.specs.Int.RustNames.{int_le, unsigned_abs}
 use borrow.Author.Differences.{le-true}
-use Rattle.state_steps.specs.State.{State, is_state, in_range}
-use Rattle.state_steps.proofs.StepTheorems.{and_left, and_right}
+use Rattle.meaning_states.specs.State.{State, is_state, in_range}
+use Rattle.meaning_states.proofs.StepTheorems.{and_left, and_right}
 use Rattle.core_terms.specs.declared.trees.CForm.{CForm}
 use Rattle.core_terms.specs.declared.programs.CSlot.{CSlot}
 use Rattle.core_terms.specs.Steps.{slot_ranges}

@@ -19,8 +19,8 @@ use Rattle.wp_substitution.specs.Joined.{IsLight, joined_all}
 use Rattle.wp_substitution.proofs.PlaceLaws.{Counts, not_within, and_within, or_within}
 use Rattle.wp_substitution.proofs.NamedLaws.{defined_below, defined_params, wp_slots, wp_params}
 use Rattle.wp_substitution.proofs.LightLaws.{form_light}
-use Rattle.proof_rules.specs.Forms.{imply}
-use Rattle.proof_rules.specs.Table.{ends_of_both, ends_of_either}
+use Rattle.rules_table.specs.Forms.{imply}
+use Rattle.rules_table.specs.Table.{ends_of_both, ends_of_either}
 use Rattle.safety_rules.specs.Premises.{implied_by}
 use Rattle.safety_rules.specs.Usable.{NamesExist, IsUsable}
 

@@ -5,9 +5,9 @@ use Rattle.core_terms.specs.declared.programs.CSlot.{CSlot}
 use Rattle.core_terms.specs.Conditions.{FormFits, IsRange, IsSlot, IsProgram}
 use Rattle.obligations.specs.declared.branches.Obligation.{Obligation}
 use Rattle.fair_rounds.specs.declared.records.Record.{Record}
-use Rattle.proof_rules.specs.Validity.{Goal, goal_obligation}
-use Rattle.proof_rules.specs.Conclusion.{Conclusion}
-use Rattle.proof_rules.specs.Table.{Site}
+use Rattle.rules_table.specs.Validity.{Goal, goal_obligation}
+use Rattle.rules_table.specs.Conclusion.{Conclusion}
+use Rattle.rules_table.specs.Table.{Site}
 use Rattle.safety_rules.specs.declared.places.Place.{Place}
 use Rattle.safety_rules.specs.declared.places.Derived.{Derived}
 use Rattle.safety_rules.specs.declared.places.RuleError.{RuleError}
@@ -45,9 +45,9 @@ abbrev pub derived_of : List CSlot → Conclusion → Derived
 derived_of slots x = record { made = x.made; obligations = obligations_of slots x.goals }
 
 -- the call gives what the table gives, or the code of the first condition that fails; want of memory says nothing
-abbrev pub Answers : Result Derived RuleError → List CSlot → Result Conclusion Code → Type 0
-Answers (Ok d) slots (Ok x) = d ≡ derived_of slots x
-Answers (Ok d) slots (Err code) = ⊥
-Answers (Err (RuleError.Fault code)) slots (Ok x) = ⊥
-Answers (Err (RuleError.Fault code)) slots (Err first) = code ≡ first
-Answers (Err RuleError.Memory) slots x = Unit {0}
+abbrev pub RuleAnswers : Result Derived RuleError → List CSlot → Result Conclusion Code → Type 0
+RuleAnswers (Ok d) slots (Ok x) = d ≡ derived_of slots x
+RuleAnswers (Ok d) slots (Err code) = ⊥
+RuleAnswers (Err (RuleError.Fault code)) slots (Ok x) = ⊥
+RuleAnswers (Err (RuleError.Fault code)) slots (Err first) = code ≡ first
+RuleAnswers (Err RuleError.Memory) slots x = Unit {0}

@@ -7,8 +7,8 @@ use Rattle.core_terms.specs.declared.trees.CForm.{CForm}
 use Rattle.core_terms.specs.declared.programs.CSlot.{CSlot}
 use Rattle.obligations.specs.declared.branches.Obligation.{Obligation}
 use Rattle.fair_rounds.specs.declared.records.Record.{Record}
-use Rattle.proof_rules.specs.Limits.{fits, is_provable}
-use Rattle.proof_rules.specs.Validity.{goal_obligation}
+use Rattle.rules_table.specs.Limits.{fits, is_provable}
+use Rattle.rules_table.specs.Validity.{goal_obligation}
 use Rattle.safety_rules.specs.declared.places.Derived.{Derived}
 use Rattle.safety_rules.specs.declared.places.RuleError.{RuleError}
 

@@ -1,6 +1,6 @@
 -- The statement that helps: its indices, one by one.
 use Rattle.std.specs.Prelude.{nat_eq, ℤ, Bool, true, false, ◌&&◌, List, [], ◌∷◌, length}
-use Rattle.state_steps.specs.State.{int_eq}
+use Rattle.meaning_states.specs.State.{int_eq}
 use Rattle.core_terms.specs.Folding.{zero_form, difference_term}
 use Rattle.core_terms.specs.Replacing.{shifted}
 use Rattle.core_terms.specs.declared.trees.CForm.{CForm}
@@ -8,7 +8,7 @@ use Rattle.core_terms.specs.declared.trees.CTerm.TheVariants.{Const}
 use Rattle.core_terms.specs.declared.documents.Arg.{Arg}
 use Rattle.core_terms.specs.declared.documents.Helper.{Helper}
 use Rattle.core_terms.specs.declared.programs.CStmt.{CStmt}
-use Rattle.proof_rules.specs.Table.{agree}
+use Rattle.rules_table.specs.Table.{agree}
 
 -- an index may be this number
 abbrev pub agrees : Arg → ℤ → Bool

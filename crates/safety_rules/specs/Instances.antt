@@ -13,8 +13,8 @@ use Rattle.core_terms.specs.Places.{form_params}
 use Rattle.core_terms.specs.Replacing.{form_at, IsSmallArg}
 use Rattle.fair_rounds.specs.declared.records.Record.{Record}
 use Rattle.fair_rounds.specs.Records.{are_in_ranges, KindStands}
-use Rattle.proof_rules.specs.Limits.{fits}
-use Rattle.proof_rules.specs.Table.{Site, helper_with}
+use Rattle.rules_table.specs.Limits.{fits}
+use Rattle.rules_table.specs.Table.{Site, helper_with}
 use Rattle.wp_substitution.specs.Joined.{IsLight}
 use Rattle.safety_rules.specs.declared.places.Place.{Place}
 use Rattle.safety_rules.specs.declared.places.RuleError.{RuleError}

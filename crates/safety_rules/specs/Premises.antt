@@ -11,5 +11,5 @@ implied_by None q = q
 implied_by (Some f) q = or_form (not_form f) q
 
 -- premises of this weight at most, where slots and parameters weigh 1
-abbrev pub AreLight : Option CForm → Type 0
-AreLight whole = plain_weight (or_top whole) ≤ 2 ^ 62
+abbrev pub PremisesAreLight : Option CForm → Type 0
+PremisesAreLight whole = plain_weight (or_top whole) ≤ 2 ^ 62

@@ -1,8 +1,8 @@
 // What is left to be shown, and the record of what is claimed.
 ghost use Rattle.std.specs.Prelude.{◌≡◌, ◌≤◌, ◌++◌, ◌∷◌, [], length};
 ghost use Rattle.core_terms.specs.Places.{form_slots, form_params};
-ghost use Rattle.proof_rules.specs.Limits.{fits};
-ghost use Rattle.proof_rules.specs.Table as table;
+ghost use Rattle.rules_table.specs.Limits.{fits};
+ghost use Rattle.rules_table.specs.Table as table;
 ghost use Rattle.safety_rules.specs.Answers.{site_of, IsPlace};
 ghost use Rattle.safety_rules.specs.Goals.{Added, Concludes};
 ghost use Rattle.safety_rules.specs.Usable.{NamesExist};

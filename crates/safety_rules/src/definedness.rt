@@ -1,13 +1,13 @@
 // That no step is undefined.
 ghost use Rattle.std.specs.Prelude.{◌≡◌, ◌++◌, ◌∷◌, [], IfOk, IsTrue};
-ghost use Rattle.state_steps.specs.State.{is_state};
+ghost use Rattle.meaning_states.specs.State.{is_state};
 ghost use Rattle.core_terms.specs.Steps.{slot_ranges};
 ghost use Rattle.core_terms.specs.Values.{form_value};
 ghost use Rattle.core_terms.specs.Conditions.{StatementFits};
 ghost use Rattle.wp_substitution.specs.Preconditions.{defined_form};
-ghost use Rattle.proof_rules.specs.Forms as formula;
-ghost use Rattle.proof_rules.specs.Table as table;
-ghost use Rattle.safety_rules.specs.Answers.{site_of, IsPlace, Answers};
+ghost use Rattle.rules_table.specs.Forms as formula;
+ghost use Rattle.rules_table.specs.Table as table;
+ghost use Rattle.safety_rules.specs.Answers.{site_of, IsPlace, RuleAnswers};
 ghost use Rattle.safety_rules.specs.Goals.{Added};
 ghost use Rattle.safety_rules.specs.Sound.{StandsWhereShown};
 
@@ -57,7 +57,7 @@ fn add_defined(alloc: Global, pl: &Place, goals: &mut Seq<Obligation>) -> Result
 pub fn defined_rule(alloc: Global, pl: &Place, start: &[i64]) -> Result<Derived, RuleError>
     requires place { IsPlace pl.now }
     requires start { IsTrue (is_state (slot_ranges pl.now.slots.now) start.now) }
-    ensures answer { Answers result pl.now.slots.now (table.defined_of (site_of pl.now)
+    ensures answer { RuleAnswers result pl.now.slots.now (table.defined_of (site_of pl.now)
         (form_value start.now [] pl.now.program.now.initially)) }
     ensures sound { StandsWhereShown pl.now result }
 {

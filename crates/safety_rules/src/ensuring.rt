@@ -1,8 +1,8 @@
 // An ensures by the statement that helps.
 ghost use Rattle.std.specs.Prelude.{◌≡◌, ◌++◌, [], IfOk, Some, length, map};
-ghost use Rattle.core_terms.specs.Conditions.{FormFits, HelperSees, is_below};
-ghost use Rattle.proof_rules.specs.Table as table;
-ghost use Rattle.safety_rules.specs.Answers.{site_of, IsPlace, Answers};
+ghost use Rattle.core_terms.specs.Conditions.{FormFits, HelperWellScoped, is_below};
+ghost use Rattle.rules_table.specs.Table as table;
+ghost use Rattle.safety_rules.specs.Answers.{site_of, IsPlace, RuleAnswers};
 ghost use Rattle.safety_rules.specs.Goals.{Added};
 ghost use Rattle.safety_rules.specs.Sound.{StandsWhereShown};
 
@@ -26,7 +26,7 @@ fn add_meant(
     goals: &mut Seq<Obligation>,
 ) -> Result<(), RuleError>
     requires place { IsPlace pl.now }
-    requires helper { HelperSees (is_below (length pl.now.params.now)) h.now }
+    requires helper { HelperWellScoped (is_below (length pl.now.params.now)) h.now }
     ensures { Added result goals.old goals.new pl.now.slots.now pl.now.params.now
         (table.meant_forms (site_of pl.now) h.now) }
 {
@@ -49,7 +49,7 @@ fn add_helped(
     requires place { IsPlace pl.now }
     requires p { FormFits pl.now.slots.now pl.now.params.now p.now }
     requires q { FormFits pl.now.slots.now pl.now.params.now q.now }
-    requires helper { HelperSees (is_below (length pl.now.params.now)) h.now }
+    requires helper { HelperWellScoped (is_below (length pl.now.params.now)) h.now }
     ensures { Added result goals.old goals.new pl.now.slots.now pl.now.params.now
         (map (table.helped_form (site_of pl.now) p.now q.now h.now) (table.instances_of (site_of pl.now) h.now)) }
 {
@@ -74,7 +74,7 @@ fn add_helper(
     requires place { IsPlace pl.now }
     requires p { FormFits pl.now.slots.now pl.now.params.now p.now }
     requires q { FormFits pl.now.slots.now pl.now.params.now q.now }
-    requires helper { HelperSees (is_below (length pl.now.params.now)) h.now }
+    requires helper { HelperWellScoped (is_below (length pl.now.params.now)) h.now }
     ensures { Added result goals.old goals.new pl.now.slots.now pl.now.params.now
         (table.helper_forms (site_of pl.now) p.now q.now h.now) }
 {
@@ -94,7 +94,7 @@ fn add_ensures(
     requires place { IsPlace pl.now }
     requires p { FormFits pl.now.slots.now pl.now.params.now p.now }
     requires q { FormFits pl.now.slots.now pl.now.params.now q.now }
-    requires helper { HelperSees (is_below (length pl.now.params.now)) h.now }
+    requires helper { HelperWellScoped (is_below (length pl.now.params.now)) h.now }
     ensures { Added result goals.old goals.new pl.now.slots.now pl.now.params.now
         (table.unless_forms (site_of pl.now) p.now q.now ++ table.helper_forms (site_of pl.now) p.now q.now h.now) }
 {
@@ -118,8 +118,8 @@ pub fn ensures_rule(
     requires place { IsPlace pl.now }
     requires p { FormFits pl.now.slots.now pl.now.params.now p.now }
     requires q { FormFits pl.now.slots.now pl.now.params.now q.now }
-    requires helper { HelperSees (is_below (length pl.now.params.now)) h.now }
-    ensures answer { Answers result pl.now.slots.now (table.ensures_of (site_of pl.now) p.now q.now h.now) }
+    requires helper { HelperWellScoped (is_below (length pl.now.params.now)) h.now }
+    ensures answer { RuleAnswers result pl.now.slots.now (table.ensures_of (site_of pl.now) p.now q.now h.now) }
     ensures sound { StandsWhereShown pl.now result }
 {
     if !is_helper(pl, h) {

@@ -6,7 +6,7 @@ ghost use Rattle.core_terms.specs.Folding as fold;
 ghost use Rattle.core_terms.specs.Replacing.{shifted, arg_term};
 ghost use Rattle.core_terms.specs.Weights.{plain_weights};
 ghost use Rattle.core_terms.specs.declared.trees.CTerm.TheVariants.{Const};
-ghost use Rattle.proof_rules.specs.Table as table;
+ghost use Rattle.rules_table.specs.Table as table;
 ghost use Rattle.safety_rules.specs.Helpers.{equation_of};
 ghost use Rattle.safety_rules.specs.Foldable.{IsFoldable};
 

@@ -1,7 +1,7 @@
 // Formulas of lists: that all hold, that one holds, and what follows where all do.
 ghost use Rattle.std.specs.Prelude.{◌≡◌, ◌<◌, All, IfOk, OnOk, Some, length};
 ghost use Rattle.core_terms.specs.Folding as fold;
-ghost use Rattle.proof_rules.specs.Forms as formula;
+ghost use Rattle.rules_table.specs.Forms as formula;
 ghost use Rattle.wp_substitution.specs.Joined.{joined_with};
 ghost use Rattle.wp_substitution.specs.Preconditions.{all_of};
 ghost use Rattle.safety_rules.specs.Foldable.{IsFoldable, AreFoldable, either_with};

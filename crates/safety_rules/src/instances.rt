@@ -2,7 +2,7 @@
 ghost use Rattle.std.specs.Prelude.{◌≡◌, ◌+ℤ◌, Some, slice_get, All, IfOk, map};
 ghost use Rattle.std.specs.List.{list_any};
 ghost use Rattle.std.specs.Int.RustNames.{int_le};
-ghost use Rattle.proof_rules.specs.Table as table;
+ghost use Rattle.rules_table.specs.Table as table;
 ghost use Rattle.safety_rules.specs.Instances.{CanMove, MayPut, AllMayPut};
 
 use core_terms::{Arg, Helper, Range};

@@ -2,8 +2,8 @@
 ghost use Rattle.std.specs.Prelude.{◌≡◌, ◌&&◌, All, Ok, IfOk};
 ghost use Rattle.core_terms.specs.Conditions.{IsRange};
 ghost use Rattle.core_terms.specs.Replacing.{form_at};
-ghost use Rattle.proof_rules.specs.Limits.{fits};
-ghost use Rattle.proof_rules.specs.Table as table;
+ghost use Rattle.rules_table.specs.Limits.{fits};
+ghost use Rattle.rules_table.specs.Table as table;
 ghost use Rattle.safety_rules.specs.Answers.{site_of, IsPlace};
 ghost use Rattle.safety_rules.specs.Instances.{RecordFits, CanPut, AllMayPut, AnswersForm, AnswersRecord, StandsIn};
 ghost use Rattle.safety_rules.specs.Instances.{instance_with};

@@ -2,8 +2,8 @@
 ghost use Rattle.std.specs.Prelude.{◌≡◌, ◌++◌, ◌∷◌, [], All, IfOk, OnOk, map};
 ghost use Rattle.core_terms.specs.Conditions.{ArgFits, FormFits, StatementFits};
 ghost use Rattle.core_terms.specs.Folding as fold;
-ghost use Rattle.proof_rules.specs.Forms as formula;
-ghost use Rattle.proof_rules.specs.Table as table;
+ghost use Rattle.rules_table.specs.Forms as formula;
+ghost use Rattle.rules_table.specs.Table as table;
 ghost use Rattle.safety_rules.specs.Answers.{site_of, IsPlace};
 ghost use Rattle.wp_substitution.specs.Preconditions.{all_of};
 ghost use Rattle.safety_rules.specs.Foldable.{IsFoldable};

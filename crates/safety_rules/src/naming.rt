@@ -1,7 +1,7 @@
 // Which statements the one that helps may be.
 ghost use Rattle.std.specs.Prelude.{◌≡◌, ◌&&◌, nat_eq, length};
 ghost use Rattle.std.specs.List.{list_any};
-ghost use Rattle.proof_rules.specs.Table as table;
+ghost use Rattle.rules_table.specs.Table as table;
 ghost use Rattle.safety_rules.specs.Answers.{site_of};
 ghost use Rattle.safety_rules.specs.Helpers.{agrees, may_mean, has_place};
 

@@ -2,8 +2,8 @@
 ghost use Rattle.std.specs.Prelude.{◌≡◌, ◌≤◌, ◌^◌, ◌&&◌, ◌||◌, ◌++◌, [], max, None, IfOk};
 ghost use Rattle.core_terms.specs.Weights.{plain_weight};
 ghost use Rattle.core_terms.specs.Folding as fold;
-ghost use Rattle.proof_rules.specs.Table as table;
-ghost use Rattle.safety_rules.specs.Answers.{site_of, IsPlace, IsPremiseAt, Answers};
+ghost use Rattle.rules_table.specs.Table as table;
+ghost use Rattle.safety_rules.specs.Answers.{site_of, IsPlace, IsPremiseAt, RuleAnswers};
 ghost use Rattle.safety_rules.specs.Sound.{StandsAt, StandsWhereShown};
 ghost use Rattle.safety_rules.specs.Usable.{NamesExist};
 
@@ -65,7 +65,7 @@ fn paired(
 ) -> Result<Derived, RuleError>
     requires p { NamesExist pl.now.slots.now pl.now.params.now p }
     requires q { NamesExist pl.now.slots.now pl.now.params.now q }
-    ensures { Answers result pl.now.slots.now
+    ensures { RuleAnswers result pl.now.slots.now
         (table.paired (site_of pl.now) Kind.Unless None p q a.now b.now) }
 {
     let claim = Claim {
@@ -84,7 +84,7 @@ fn conj(alloc: Global, pl: &Place, a: &Record, b: &Record) -> Result<Derived, Ru
     requires place { IsPlace pl.now }
     requires a { IsPremiseAt pl.now a.now }
     requires b { IsPremiseAt pl.now b.now }
-    ensures { Answers result pl.now.slots.now (table.pair_of (site_of pl.now) RuleName.Conj a.now b.now) }
+    ensures { RuleAnswers result pl.now.slots.now (table.pair_of (site_of pl.now) RuleName.Conj a.now b.now) }
 {
     if !may_join(a, b) {
         return Err(RuleError::Fault(Code::WrongKind));
@@ -105,7 +105,7 @@ fn simple_conj(alloc: Global, pl: &Place, a: &Record, b: &Record) -> Result<Deri
     requires place { IsPlace pl.now }
     requires a { IsPremiseAt pl.now a.now }
     requires b { IsPremiseAt pl.now b.now }
-    ensures { Answers result pl.now.slots.now (table.pair_of (site_of pl.now) RuleName.Simpleconj a.now b.now) }
+    ensures { RuleAnswers result pl.now.slots.now (table.pair_of (site_of pl.now) RuleName.Simpleconj a.now b.now) }
 {
     if !are_unless(a, b) {
         return Err(RuleError::Fault(Code::WrongKind));
@@ -120,7 +120,7 @@ fn disj(alloc: Global, pl: &Place, a: &Record, b: &Record) -> Result<Derived, Ru
     requires place { IsPlace pl.now }
     requires a { IsPremiseAt pl.now a.now }
     requires b { IsPremiseAt pl.now b.now }
-    ensures { Answers result pl.now.slots.now (table.pair_of (site_of pl.now) RuleName.Disj a.now b.now) }
+    ensures { RuleAnswers result pl.now.slots.now (table.pair_of (site_of pl.now) RuleName.Disj a.now b.now) }
 {
     if !are_unless(a, b) {
         return Err(RuleError::Fault(Code::WrongKind));
@@ -135,7 +135,7 @@ fn simple_disj(alloc: Global, pl: &Place, a: &Record, b: &Record) -> Result<Deri
     requires place { IsPlace pl.now }
     requires a { IsPremiseAt pl.now a.now }
     requires b { IsPremiseAt pl.now b.now }
-    ensures { Answers result pl.now.slots.now (table.pair_of (site_of pl.now) RuleName.Simpledisj a.now b.now) }
+    ensures { RuleAnswers result pl.now.slots.now (table.pair_of (site_of pl.now) RuleName.Simpledisj a.now b.now) }
 {
     if !are_unless(a, b) {
         return Err(RuleError::Fault(Code::WrongKind));
@@ -150,7 +150,7 @@ fn cancel(alloc: Global, pl: &Place, a: &Record, b: &Record) -> Result<Derived, 
     requires place { IsPlace pl.now }
     requires a { IsPremiseAt pl.now a.now }
     requires b { IsPremiseAt pl.now b.now }
-    ensures { Answers result pl.now.slots.now (table.pair_of (site_of pl.now) RuleName.Cancel a.now b.now) }
+    ensures { RuleAnswers result pl.now.slots.now (table.pair_of (site_of pl.now) RuleName.Cancel a.now b.now) }
 {
     if !are_unless(a, b) {
         return Err(RuleError::Fault(Code::WrongKind));
@@ -178,7 +178,7 @@ pub fn pair_rule(
     requires place { IsPlace pl.now }
     requires a { IsPremiseAt pl.now a.now }
     requires b { IsPremiseAt pl.now b.now }
-    ensures answer { Answers result pl.now.slots.now (table.pair_of (site_of pl.now) which a.now b.now) }
+    ensures answer { RuleAnswers result pl.now.slots.now (table.pair_of (site_of pl.now) which a.now b.now) }
     ensures sound { StandsAt pl.now a.now → StandsAt pl.now b.now → StandsWhereShown pl.now result }
 {
     match which {

@@ -3,7 +3,7 @@ ghost use Rattle.std.specs.Prelude.{◌≡◌, ◌^◌, ◌≤◌, IfOk, OnOk, S
 ghost use Rattle.core_terms.specs.Weights.{plain_weight};
 ghost use Rattle.core_terms.specs.Folding as fold;
 ghost use Rattle.wp_substitution.specs.Joined.{joined_with, joined_all, IsLight};
-ghost use Rattle.safety_rules.specs.Premises.{implied_by, AreLight};
+ghost use Rattle.safety_rules.specs.Premises.{implied_by, PremisesAreLight};
 
 use core_terms::{CForm, and_form, copy_form, held_form, not_form, or_form};
 use std::alloc::{AllocError, Global};
@@ -15,10 +15,10 @@ pub(crate) fn add(
     whole: &mut Option<Held<CForm>>,
     f: Held<CForm>,
 ) -> Result<(), AllocError>
-    requires light { AreLight whole.old }
+    requires light { PremisesAreLight whole.old }
     requires formula { plain_weight f ≤ 2 ^ 62 }
     ensures whole { OnOk result (whole.new ≡ Some (joined_with whole.old f)) }
-    ensures light { OnOk result (AreLight whole.new) }
+    ensures light { OnOk result (PremisesAreLight whole.new) }
 {
     let joined = join(alloc, whole.take(), f)?;
     *whole = Some(joined);
@@ -31,7 +31,7 @@ fn join(
     whole: Option<Held<CForm>>,
     f: Held<CForm>,
 ) -> Result<Held<CForm>, AllocError>
-    requires light { AreLight whole }
+    requires light { PremisesAreLight whole }
     requires formula { plain_weight f ≤ 2 ^ 62 }
     ensures tree { IfOk result (λ g. g ≡ joined_with whole f) }
     ensures light { IfOk result (λ g. plain_weight g ≤ 2 ^ 62) }
@@ -48,10 +48,10 @@ pub(crate) fn add_copy(
     whole: &mut Option<Held<CForm>>,
     f: &CForm,
 ) -> Result<(), AllocError>
-    requires light { AreLight whole.old }
+    requires light { PremisesAreLight whole.old }
     requires formula { plain_weight f.now ≤ 2 ^ 62 }
     ensures whole { OnOk result (whole.new ≡ Some (joined_with whole.old f.now)) }
-    ensures light { OnOk result (AreLight whole.new) }
+    ensures light { OnOk result (PremisesAreLight whole.new) }
 {
     let more = held_form(alloc, f)?;
     add(alloc, whole, more)
@@ -63,10 +63,10 @@ pub(crate) fn add_not(
     whole: &mut Option<Held<CForm>>,
     f: &CForm,
 ) -> Result<(), AllocError>
-    requires light { AreLight whole.old }
+    requires light { PremisesAreLight whole.old }
     requires formula { plain_weight f.now ≤ 2 ^ 62 }
     ensures whole { OnOk result (whole.new ≡ Some (joined_with whole.old (fold.not_form f.now))) }
-    ensures light { OnOk result (AreLight whole.new) }
+    ensures light { OnOk result (PremisesAreLight whole.new) }
 {
     let other = Held::new(alloc, not_form(alloc, copy_form(alloc, f)?)?)?;
     add(alloc, whole, other)
@@ -76,7 +76,7 @@ pub(crate) fn add_not(
 pub(crate) fn joined(alloc: Global, forms: &[CForm]) -> Result<Option<Held<CForm>>, AllocError>
     requires { All IsLight forms.now }
     ensures whole { IfOk result (λ whole. whole ≡ joined_all None forms.now) }
-    ensures light { IfOk result AreLight }
+    ensures light { IfOk result PremisesAreLight }
 {
     let mut whole = None;
     for f in forms {
@@ -91,7 +91,7 @@ pub(crate) fn imply(
     whole: Option<Held<CForm>>,
     q: Held<CForm>,
 ) -> Result<CForm, AllocError>
-    requires light { AreLight whole }
+    requires light { PremisesAreLight whole }
     requires formula { plain_weight q ≤ 2 ^ 125 }
     ensures tree { IfOk result (λ f. f ≡ implied_by whole q) }
     ensures light { plain_weight q ≤ 2 ^ 62 → IfOk result IsLight }

@@ -2,9 +2,9 @@
 ghost use Rattle.std.specs.Prelude.{◌≡◌, ◌++◌, ◌∷◌, [], IfOk, All, map};
 ghost use Rattle.core_terms.specs.Conditions.{FormFits, StatementFits};
 ghost use Rattle.wp_substitution.specs.Preconditions.{defined_form, wp_form};
-ghost use Rattle.proof_rules.specs.Forms as formula;
-ghost use Rattle.proof_rules.specs.Table as table;
-ghost use Rattle.safety_rules.specs.Answers.{site_of, IsPlace, Answers};
+ghost use Rattle.rules_table.specs.Forms as formula;
+ghost use Rattle.rules_table.specs.Table as table;
+ghost use Rattle.safety_rules.specs.Answers.{site_of, IsPlace, RuleAnswers};
 ghost use Rattle.safety_rules.specs.Goals.{Added};
 ghost use Rattle.safety_rules.specs.Sound.{StandsWhereShown};
 ghost use Rattle.safety_rules.specs.Usable.{IsUsable};
@@ -119,7 +119,7 @@ pub fn unless_rule(alloc: Global, pl: &Place, p: &CForm, q: &CForm) -> Result<De
     requires place { IsPlace pl.now }
     requires p { FormFits pl.now.slots.now pl.now.params.now p.now }
     requires q { FormFits pl.now.slots.now pl.now.params.now q.now }
-    ensures answer { Answers result pl.now.slots.now (table.unless_of (site_of pl.now) p.now q.now) }
+    ensures answer { RuleAnswers result pl.now.slots.now (table.unless_of (site_of pl.now) p.now q.now) }
     ensures sound { StandsWhereShown pl.now result }
 {
     let mut goals = Seq::new(alloc);
@@ -172,7 +172,7 @@ fn starts(alloc: Global, pl: &Place, p: &CForm) -> Result<CForm, AllocError>
 pub fn invariant_rule(alloc: Global, pl: &Place, p: &CForm) -> Result<Derived, RuleError>
     requires place { IsPlace pl.now }
     requires p { FormFits pl.now.slots.now pl.now.params.now p.now }
-    ensures answer { Answers result pl.now.slots.now (table.invariant_of (site_of pl.now) p.now) }
+    ensures answer { RuleAnswers result pl.now.slots.now (table.invariant_of (site_of pl.now) p.now) }
     ensures sound { StandsWhereShown pl.now result }
 {
     let mut goals = Seq::new(alloc);

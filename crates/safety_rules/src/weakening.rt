@@ -1,9 +1,9 @@
 // A weaker end of an unless or an ensures.
 ghost use Rattle.std.specs.Prelude.{◌≡◌, ◌++◌, ◌∷◌, ◌||◌, [], IfOk};
 ghost use Rattle.core_terms.specs.Conditions.{FormFits};
-ghost use Rattle.proof_rules.specs.Forms as formula;
-ghost use Rattle.proof_rules.specs.Table as table;
-ghost use Rattle.safety_rules.specs.Answers.{site_of, IsPlace, IsPremiseAt, Answers};
+ghost use Rattle.rules_table.specs.Forms as formula;
+ghost use Rattle.rules_table.specs.Table as table;
+ghost use Rattle.safety_rules.specs.Answers.{site_of, IsPlace, IsPremiseAt, RuleAnswers};
 ghost use Rattle.safety_rules.specs.Goals.{Added};
 ghost use Rattle.safety_rules.specs.Sound.{StandsAt, StandsWhereShown};
 ghost use Rattle.safety_rules.specs.Usable.{IsUsable};
@@ -80,7 +80,7 @@ pub fn weaken_rule(alloc: Global, pl: &Place, a: &Record, r: &CForm) -> Result<D
     requires place { IsPlace pl.now }
     requires record { IsPremiseAt pl.now a.now }
     requires r { FormFits pl.now.slots.now pl.now.params.now r.now }
-    ensures answer { Answers result pl.now.slots.now (table.weaken_of (site_of pl.now) a.now r.now) }
+    ensures answer { RuleAnswers result pl.now.slots.now (table.weaken_of (site_of pl.now) a.now r.now) }
     ensures sound { StandsAt pl.now a.now → StandsWhereShown pl.now result }
 {
     if !has_end(a.kind) {

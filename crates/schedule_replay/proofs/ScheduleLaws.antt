@@ -10,7 +10,7 @@ use Rattle.std.proofs.lemmas.Bool.Decides.{Decides-eqb}
 use Rattle.core_terms.specs.declared.programs.CStmt.{CStmt}
 use Rattle.core_terms.specs.declared.documents.Choice.{Choice}
 use Rattle.core_terms.specs.Conditions.{EachPair, AreApart}
-use Rattle.state_steps.proofs.StepTheorems.{and_left, and_right}
+use Rattle.meaning_states.proofs.StepTheorems.{and_left, and_right}
 use Rattle.schedule_replay.specs.Schedules.{is_named, place_of, first_unknown}
 
 -- a place at which the test passes, where it passes at no place before, is the first

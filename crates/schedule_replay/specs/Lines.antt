@@ -4,7 +4,7 @@ use Rattle.std.specs.Prelude.{slice_get, codes, decimal}
 use Rattle.std.specs.Option.{option_map_or}
 use Rattle.std.specs.List.{flat_map, join_with_byte}
 use Rattle.std.specs.Fmt.{signed_decimal}
-use Rattle.state_steps.specs.State.{State, int_eq}
+use Rattle.meaning_states.specs.State.{State, int_eq}
 use Rattle.core_terms.specs.declared.programs.Print.{Print}
 use Rattle.core_terms.specs.declared.programs.CSlot.{CSlot}
 use Rattle.core_terms.specs.declared.programs.CStmt.{CStmt}

@@ -41,22 +41,22 @@ abbrev pub first_unknown : List CStmt → List Choice → Option Choice
 first_unknown statements choices = find (λ c. is_none (place_of statements c)) choices
 
 -- the first choice that names no instance stands at this byte
-pub record IsUnknown (d : CDocument) (at : ℕ) : Type 0 where
+pub record IsUnknownChoice (d : CDocument) (at : ℕ) : Type 0 where
   pub schedule : CSchedule
   pub there : d.schedule ≡ Some schedule
   pub first : option_map (λ c. c.at) (first_unknown (statements_of d schedule.program) schedule.choices) ≡ Some at
 
 -- why there are no places for these choices
-abbrev pub IsRefused : List CStmt → List Choice → ScheduleError → Type 0
-IsRefused statements choices ScheduleError.NoSchedule = ⊥
-IsRefused statements choices (ScheduleError.Fault code at) =
+abbrev pub HasNoPlaces : List CStmt → List Choice → ScheduleError → Type 0
+HasNoPlaces statements choices ScheduleError.NoSchedule = ⊥
+HasNoPlaces statements choices (ScheduleError.Fault code at) =
     (code ≡ Code.NoSuchStatement) × (option_map (λ c. c.at) (first_unknown statements choices) ≡ Some at)
-IsRefused statements choices ScheduleError.Memory = ⊤
+HasNoPlaces statements choices ScheduleError.Memory = ⊤
 
 -- why a document has no schedule to replay; for want of memory nothing is said
 abbrev pub HasNoSchedule : CDocument → ScheduleError → Type 0
 HasNoSchedule d ScheduleError.NoSchedule = d.schedule ≡ None
-HasNoSchedule d (ScheduleError.Fault code at) = (code ≡ Code.NoSuchStatement) × IsUnknown d at
+HasNoSchedule d (ScheduleError.Fault code at) = (code ≡ Code.NoSuchStatement) × IsUnknownChoice d at
 HasNoSchedule d ScheduleError.Memory = ⊤
 
 -- the choices of a run of so many steps among k instances: one after the other, and again from the first

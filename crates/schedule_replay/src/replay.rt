@@ -1,6 +1,6 @@
 // The schedule of a document.
 ghost use Rattle.std.specs.Prelude.{◌≡◌, ◌<◌, ◌≤◌, ◌↔◌, length, map, All, IfOk, IfErr, IfSome, IsErrOf, None, Some};
-ghost use Rattle.core_terms.specs.Conditions.{EachPair, AreApart, IsDocument};
+ghost use Rattle.core_terms.specs.Conditions.{EachPair, AreApart, IsCoreDocument};
 ghost use Rattle.schedule_replay.specs.Schedules as named;
 
 use crate::schedule::ScheduleError;
@@ -12,7 +12,7 @@ use unity_base::Seq;
 
 /// The places of the instances that the document's schedule names, in order.
 pub fn read_schedule(alloc: Global, doc: &CDocument) -> Result<Seq<u32>, ScheduleError>
-    requires { IsDocument doc.now }
+    requires { IsCoreDocument doc.now }
     ensures places { IfOk result (named.IsSchedule doc.now) }
     ensures instances { IfOk result (named.AreInstances doc.now) }
     ensures refused { IfErr result (named.HasNoSchedule doc.now) }
@@ -29,7 +29,7 @@ pub fn read_schedule(alloc: Global, doc: &CDocument) -> Result<Seq<u32>, Schedul
 
 // The instances of the program of this name.
 fn statements_of(doc: &CDocument, name: u32) -> &[CStmt]
-    requires { IsDocument doc.now }
+    requires { IsCoreDocument doc.now }
     ensures statements { result.now ≡ named.statements_of doc.now name }
     ensures few { length result.now ≤ 4096 }
     ensures apart { EachPair AreApart result.now }
@@ -52,7 +52,7 @@ fn places_of(
     requires apart { EachPair AreApart statements.now }
     ensures places { IfOk result (λ places. map Some places ≡ map (named.place_of statements.now) choices.now) }
     ensures below { IfOk result (λ places. All (λ n. n < length statements.now) places) }
-    ensures refused { IfErr result (named.IsRefused statements.now choices.now) }
+    ensures refused { IfErr result (named.HasNoPlaces statements.now choices.now) }
 {
     let order = order_of(alloc, statements)?;
     let mut places = Seq::new(alloc);

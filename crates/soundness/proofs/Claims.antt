@@ -8,18 +8,18 @@ use Rattle.unity_syntax.specs.declared.proof.Claim.{Claim}
 use Rattle.unity_syntax.specs.declared.proof.Step.{Step}
 use Rattle.unity_syntax.specs.declared.proof.Proof.{Proof}
 use Rattle.unity_syntax.specs.declared.document.Document.{Document}
-use Rattle.state_steps.specs.State.{in_range}
-use Rattle.unity_meaning.specs.Names.{Bindings}
-use Rattle.unity_meaning.specs.Value.{range_ends}
-use Rattle.unity_meaning.specs.Setting.{slot_ranges, is_true_at}
-use Rattle.unity_meaning.specs.Programs.{Composed, document_setting}
-use Rattle.unity_meaning.specs.Execution.{System, system_of}
-use Rattle.unity_meaning.specs.Properties.{never}
-use Rattle.unity_meaning.specs.Claims.{parameters, are_arguments, argument_bindings, ClaimsOf}
-use Rattle.execution_laws.specs.Alike.{Alike, SameAt}
-use Rattle.execution_laws.proofs.AlikeTheorems.{alike_back, defined_alike, invariant_alike, unless_alike}
-use Rattle.execution_laws.proofs.AlikeTheorems.{ensures_alike, leads_alike}
-use Rattle.name_scopes.specs.Declarations.{some_of}
+use Rattle.meaning_states.specs.State.{in_range}
+use Rattle.meaning_documents.specs.Names.{Bindings}
+use Rattle.meaning_documents.specs.Value.{range_ends}
+use Rattle.meaning_documents.specs.Setting.{slot_ranges, is_true_at}
+use Rattle.meaning_documents.specs.Programs.{Composed, document_setting}
+use Rattle.meaning_documents.specs.Execution.{System, system_of}
+use Rattle.meaning_documents.specs.Properties.{never}
+use Rattle.meaning_documents.specs.Claims.{parameters, are_arguments, argument_bindings, ClaimsOf}
+use Rattle.meaning_laws.specs.Alike.{StepEquivalent, SameAt}
+use Rattle.meaning_laws.proofs.AlikeTheorems.{alike_back, defined_alike, invariant_alike, unless_alike}
+use Rattle.meaning_laws.proofs.AlikeTheorems.{ensures_alike, leads_alike}
+use Rattle.names_rules.specs.Declarations.{some_of}
 use Rattle.core_terms.specs.declared.trees.CForm.{CForm}
 use Rattle.core_terms.specs.declared.programs.CSlot.{CSlot}
 use Rattle.core_terms.specs.declared.programs.CProgram.{CProgram}
@@ -27,18 +27,18 @@ use Rattle.core_terms.specs.Values.{form_value}
 use Rattle.core_terms.proofs.PartLaws.{value-Bottom}
 use Rattle.fair_rounds.specs.declared.records.Record.{Record}
 use Rattle.fair_rounds.specs.Records.{core_system, holding, are_in_ranges, KindHolds, Holds}
-use Rattle.proof_rules.specs.Walk.{Plan, program_of}
-use Rattle.proof_rules.proofs.WalkTheorems.{walk_sound}
-use Rattle.unity_meaning.specs.Steps.{claim_kind, Pairwise, ProofStep, of_proof, document_steps}
+use Rattle.rules_table.specs.Walk.{Plan, program_of}
+use Rattle.rules_table.proofs.WalkTheorems.{walk_sound}
+use Rattle.meaning_documents.specs.Steps.{claim_kind, Pairwise, ProofStep, of_proof, document_steps}
 use Rattle.expand_declarations.specs.References.{param_range}
-use Rattle.expansion_laws.specs.Forming.{Scope}
-use Rattle.expand_proofs.specs.Steps.{claim_p, claim_q, step_place}
-use Rattle.document_words.specs.WordNumbers.{document_words}
-use Rattle.core_documents.specs.Cores.{document_scope, core_document}
-use Rattle.core_meaning.specs.Claims.{SaysSame, ClaimSays}
-use Rattle.core_meaning.proofs.Arguments.{claims_say}
-use Rattle.core_meaning.proofs.Meaning.{programs_alike}
-use Rattle.core_meaning.proofs.Proofs.{proofs_found}
+use Rattle.expand_rules.specs.Forming.{Scope}
+use Rattle.expand_steps.specs.Steps.{claim_p, claim_q, step_place}
+use Rattle.expand_declarations.specs.WordNumbers.{document_words}
+use Rattle.expand_documents.specs.Cores.{document_scope, core_document}
+use Rattle.expand_correct.specs.Preserved.Claims.{SameTruth, ClaimSays}
+use Rattle.expand_correct.proofs.Preserved.Arguments.{claims_say}
+use Rattle.expand_correct.proofs.Preserved.Meaning.{programs_alike}
+use Rattle.expand_correct.proofs.Preserved.Proofs.{proofs_found}
 use Rattle.soundness.specs.PlanSteps.{IsRecordOf}
 use Rattle.soundness.specs.Written.{is_claim, AreClaims}
 use Rattle.soundness.specs.Properties.{core_of}
@@ -62,12 +62,13 @@ same_numbers (p ∷ ps) (z ∷ zs) =
 -- a claim of a program, by what a record says of its core program
 
 module _ (d : Document) (x : System) (slots : List CSlot) (p : CProgram)
-    (alike : Alike (slot_ranges (document_setting d).variables) (core_system slots p) x) (b : Bindings) (zs : List ℤ)
+    (alike : StepEquivalent (slot_ranges (document_setting d).variables) (core_system slots p) x) (b : Bindings)
+    (zs : List ℤ)
     (s : Scope) (r : Record) where
   abbrev Same : (CForm) → Expr → Type 0
   Same f of = SameAt (slot_ranges (document_setting d).variables) (holding zs f) (is_true_at (document_setting d) b of)
 
-  same_at : (f g : CForm) (of : Expr) → f ≡ g → SaysSame d b zs g of → Same f of
+  same_at : (f g : CForm) (of : Expr) → f ≡ g → SameTruth d b zs g of → Same f of
   same_at f g of same says = λ state h. ap (λ k. form_value state zs k) same ∙ says state h
 
   claim_true : (claim : Claim) → IsTrue (is_claim claim) → r.p ≡ claim_p s claim → r.q ≡ claim_q s claim →

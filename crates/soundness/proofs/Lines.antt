@@ -4,16 +4,16 @@ use Rattle.std.proofs.Common.{refl, sym, ap, ◌∙◌, subst, slice_get, unwrap
 use Rattle.std.specs.List.{flat_map}
 use Rattle.unity_syntax.specs.declared.document.Part.{Part}
 use Rattle.unity_syntax.specs.declared.document.Document.{Document}
-use Rattle.unity_meaning.specs.Claims.{Claims}
+use Rattle.meaning_documents.specs.Claims.{Claims}
 use Rattle.fair_rounds.specs.declared.records.Record.{Record}
-use Rattle.proof_rules.proofs.EachLaws.{Each}
-use Rattle.document_words.specs.Texts.{Texts, part_texts, step_texts, schedule_texts, document_texts}
-use Rattle.document_words.specs.WordNumbers.{document_words, word_number}
-use Rattle.declaration_laws.specs.WordLaws.{is_among}
-use Rattle.declaration_laws.proofs.Found.{words_found}
+use Rattle.rules_table.proofs.EachLaws.{Each}
+use Rattle.expand_declarations.specs.Texts.{Texts, part_texts, step_texts, schedule_texts, document_texts}
+use Rattle.expand_declarations.specs.WordNumbers.{document_words, word_number}
+use Rattle.expand_correct.specs.Declared.WordLaws.{is_among}
+use Rattle.expand_correct.proofs.Declared.Found.{words_found}
 use Rattle.expand_fits_parts.proofs.Conditions.Programs.{each_has, last_has, itself}
-use Rattle.unity_meaning.specs.Steps.{claim_kind, Pairwise, ProofStep, document_steps}
-use Rattle.core_documents.specs.Cores.{core_document}
+use Rattle.meaning_documents.specs.Steps.{claim_kind, Pairwise, ProofStep, document_steps}
+use Rattle.expand_documents.specs.Cores.{core_document}
 use Rattle.schedule_replay.specs.Lines.{word_text}
 use Rattle.cli_texts.specs.Verdicts.{kind_text, step_line}
 use Rattle.soundness.specs.Properties.{StepIsProved}

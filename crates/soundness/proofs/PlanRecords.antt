@@ -7,25 +7,25 @@ use Rattle.std.proofs.lemmas.Bool.{eqb-true}
 use Rattle.std.proofs.lemmas.List.Folds.{list_any-append}
 use Rattle.case_tables.specs.declared.kind_table.Kind.{Kind}
 use Rattle.case_tables.specs.declared.code_table.Code.{Code}
-use Rattle.state_steps.proofs.StepTheorems.{and_left, and_right}
+use Rattle.meaning_states.proofs.StepTheorems.{and_left, and_right}
 use Rattle.core_terms.specs.declared.programs.CSlot.{CSlot}
 use Rattle.core_terms.specs.declared.programs.CProgram.{CProgram}
 use Rattle.core_terms.specs.declared.documents.CStep.{CStep}
 use Rattle.core_terms.specs.declared.documents.CProof.{CProof}
 use Rattle.core_terms.specs.declared.documents.CDocument.{CDocument}
-use Rattle.core_terms.specs.Conditions.{IsStep, IsProof, IsDocument}
+use Rattle.core_terms.specs.Conditions.{IsStep, IsProof, IsCoreDocument}
 use Rattle.core_terms.proofs.BoolLaws.{or_first}
 use Rattle.fair_rounds.specs.declared.records.Record.{Record}
-use Rattle.proof_rules.specs.Conclusion.{Conclusion}
-use Rattle.proof_rules.specs.Table.{needs, is_defined}
-use Rattle.proof_rules.specs.Walk.{Plan, Failure, has_defined, or_failure, further, rule_of, planned, steps_of}
-use Rattle.proof_rules.specs.Walk.{proof_end, program_of, proof_steps, proofs_of, walk_of}
-use Rattle.proof_rules.proofs.EachLaws.{Each, from_all, each_join, each_at, found_in}
-use Rattle.proof_rules.proofs.SiteLaws.{met}
-use Rattle.proof_rules.proofs.EnsuresSound.{some_item}
-use Rattle.proof_rules.proofs.KindLaws.{defined_is}
-use Rattle.proof_rules.proofs.StepSound.{defined_params}
-use Rattle.unity_meaning.specs.Steps.{Pairwise}
+use Rattle.rules_table.specs.Conclusion.{Conclusion}
+use Rattle.rules_table.specs.Table.{needs, is_defined}
+use Rattle.rules_table.specs.Walk.{Plan, Failure, has_defined, or_failure, further, rule_of, planned, steps_of}
+use Rattle.rules_table.specs.Walk.{proof_end, program_of, proof_steps, proofs_of, walk_of}
+use Rattle.rules_table.proofs.EachLaws.{Each, from_all, each_join, each_at, found_in}
+use Rattle.rules_table.proofs.SiteLaws.{met}
+use Rattle.rules_table.proofs.EnsuresSound.{some_item}
+use Rattle.rules_table.proofs.KindLaws.{defined_is}
+use Rattle.rules_table.proofs.StepSound.{defined_params}
+use Rattle.meaning_documents.specs.Steps.{Pairwise}
 use Rattle.soundness.specs.PlanSteps.{CoreStep, of_program, core_steps, IsRecordOf, PlanIsSteps}
 use Rattle.soundness.specs.PlanSteps.{PlanIsStarted}
 use Rattle.soundness.proofs.Rules.{rule_gives}
@@ -189,7 +189,7 @@ module _ (programs : List CProgram) (starts : CProgram → Bool) where
         );
       }
 
-walked : (d : CDocument) → IsDocument d → (starts : CProgram → Bool) (plan : Plan) → walk_of d starts ≡ Ok plan →
+walked : (d : CDocument) → IsCoreDocument d → (starts : CProgram → Bool) (plan : Plan) → walk_of d starts ≡ Ok plan →
     Walked d.programs starts d.proofs (record { records = []; goals = []; owner = [] }) plan
 walked d is starts plan e =
     proofs_added d.programs starts d refl d.proofs (from_all (IsProof d.slots d.programs) d.proofs is.proofs)
@@ -201,14 +201,14 @@ plan_is_steps d is starts plan e =
     subst (λ rs. Pairwise IsRecordOf (core_steps d.proofs) rs) (sym adds.joined) adds.pairs
 
 -- each record of a `defined` step is such a one
-pub defined_well : (d : CDocument) → IsDocument d → (starts : CProgram → Bool) (plan : Plan) →
+pub defined_well : (d : CDocument) → IsCoreDocument d → (starts : CProgram → Bool) (plan : Plan) →
     walk_of d starts ≡ Ok plan → Each (DefinedWell d.programs starts) plan.records
 defined_well d is starts plan e =
     let adds = (walked d is starts plan e).adds in
     subst (λ rs. Each (DefinedWell d.programs starts) rs) (sym adds.joined) adds.well
 
 -- the program of a proof has the record of a `defined` step
-pub proof_defined : (d : CDocument) → IsDocument d → (starts : CProgram → Bool) (plan : Plan) →
+pub proof_defined : (d : CDocument) → IsCoreDocument d → (starts : CProgram → Bool) (plan : Plan) →
     walk_of d starts ≡ Ok plan → (place : ℕ) (proof : CProof) → slice_get d.proofs place ≡ Some proof →
     IsTrue (has_defined proof.program plan.records)
 proof_defined d is starts plan e place proof there =
@@ -224,7 +224,7 @@ pub record DefinedRecord (d : CDocument) (starts : CProgram → Bool) (plan : Pl
   pub params : found.params ≡ []
   pub may_start : IsTrue (starts c)
 
-pub defined_record : (d : CDocument) → IsDocument d → (starts : CProgram → Bool) (plan : Plan) →
+pub defined_record : (d : CDocument) → IsCoreDocument d → (starts : CProgram → Bool) (plan : Plan) →
     walk_of d starts ≡ Ok plan → (place : ℕ) (proof : CProof) → slice_get d.proofs place ≡ Some proof →
     (c : CProgram) → program_of d.programs proof.program ≡ Some c → DefinedRecord d starts plan c
 defined_record d is starts plan e place proof there c named =

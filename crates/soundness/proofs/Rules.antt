@@ -4,7 +4,7 @@ use Rattle.std.proofs.Common.{Ok, IsTrue, refl, sym, ap, ◌∙◌, subst, nat_e
 use Rattle.case_tables.specs.declared.kind_table.Kind.{Kind}
 use Rattle.case_tables.specs.declared.rule_table.RuleName.{RuleName}
 use Rattle.case_tables.specs.declared.code_table.Code.{Code}
-use Rattle.state_steps.proofs.StepTheorems.{and_left, and_right}
+use Rattle.meaning_states.proofs.StepTheorems.{and_left, and_right}
 use Rattle.core_terms.specs.declared.trees.Range.{Range}
 use Rattle.core_terms.specs.declared.trees.CForm.{CForm}
 use Rattle.core_terms.specs.declared.trees.CForm.TheVariants.{Top, Bottom}
@@ -19,23 +19,23 @@ use Rattle.core_terms.specs.declared.documents.CStep.{CStep}
 use Rattle.core_terms.specs.Trees.{same_form}
 use Rattle.core_terms.proofs.SameLaws.{same_form_is}
 use Rattle.fair_rounds.specs.declared.records.Record.{Record}
-use Rattle.proof_rules.specs.declared.led.Led.{Led}
-use Rattle.proof_rules.specs.Conclusion.{Conclusion}
-use Rattle.proof_rules.specs.Forms.{imply}
-use Rattle.proof_rules.specs.Table.{Site, needs, go_on, record_of, concluded, is_defined, is_invariant, is_unless}
-use Rattle.proof_rules.specs.Table.{is_ensures, defined_forms, defined_of, invariant_forms, invariant_of, unless_forms}
-use Rattle.proof_rules.specs.Table.{unless_of, is_helper, helper_forms, ensures_of, weaken_of}
-use Rattle.proof_rules.specs.Table.{pair_of, shown_forms, first_helper, ending, is_part_pair}
-use Rattle.proof_rules.specs.Table.{union_defined_of, union_invariant_of, union_unless_of, union_ensures_of}
-use Rattle.proof_rules.specs.Table.{instance_of}
-use Rattle.proof_rules.specs.Terms.{found, referred, term_of, all_ranges, leads_record, derive_of}
-use Rattle.proof_rules.specs.Walk.{is_kind, is_first, has_defined, used, suits_term, suits, text_of}
-use Rattle.proof_rules.specs.Walk.{same_again, again_of, proof_of, part_record, first_part, second_part, serves_union}
-use Rattle.proof_rules.specs.Walk.{serves_after, united, applied, claims, step_site, rule_of}
-use Rattle.proof_rules.proofs.SiteLaws.{met, went_on, concluded_is}
-use Rattle.proof_rules.proofs.KindLaws.{ensures_is, same_kind}
-use Rattle.proof_rules.proofs.PairLaws.{pair_kind, pair_helper, of_pair, pair_kind_is}
-use Rattle.proof_rules.proofs.CalcSound.{instance_is}
+use Rattle.rules_table.specs.declared.led.Led.{Led}
+use Rattle.rules_table.specs.Conclusion.{Conclusion}
+use Rattle.rules_table.specs.Forms.{imply}
+use Rattle.rules_table.specs.Table.{Site, needs, go_on, record_of, concluded, is_defined, is_invariant, is_unless}
+use Rattle.rules_table.specs.Table.{is_ensures, defined_forms, defined_of, invariant_forms, invariant_of, unless_forms}
+use Rattle.rules_table.specs.Table.{unless_of, is_helper, helper_forms, ensures_of, weaken_of}
+use Rattle.rules_table.specs.Table.{pair_of, shown_forms, first_helper, ending, is_part_pair}
+use Rattle.rules_table.specs.Table.{union_defined_of, union_invariant_of, union_unless_of, union_ensures_of}
+use Rattle.rules_table.specs.Table.{instance_of}
+use Rattle.rules_table.specs.Terms.{found, referred, term_of, all_ranges, leads_record, derive_of}
+use Rattle.rules_table.specs.Walk.{is_kind, is_first, has_defined, used, suits_term, suits, text_of}
+use Rattle.rules_table.specs.Walk.{same_again, again_of, proof_of, part_record, first_part, second_part, serves_union}
+use Rattle.rules_table.specs.Walk.{serves_after, united, applied, claims, step_site, rule_of}
+use Rattle.rules_table.proofs.SiteLaws.{met, went_on, concluded_is}
+use Rattle.rules_table.proofs.KindLaws.{ensures_is, same_kind}
+use Rattle.rules_table.proofs.PairLaws.{pair_kind, pair_helper, of_pair, pair_kind_is}
+use Rattle.rules_table.proofs.CalcSound.{instance_is}
 use Rattle.soundness.specs.PlanSteps.{of_program, IsRecordOf}
 
 -- a step of a program, at any place of a proof

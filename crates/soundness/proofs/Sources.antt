@@ -4,13 +4,13 @@ use Rattle.unity_syntax.specs.declared.proof.Step.{Step}
 use Rattle.unity_syntax.specs.declared.proof.Proof.{Proof}
 use Rattle.unity_syntax.specs.declared.document.Part.{Part}
 use Rattle.unity_syntax.specs.declared.document.Document.{Document}
-use Rattle.unity_meaning.proofs.ExecutionTheorems.{map-append}
-use Rattle.proof_rules.proofs.EachLaws.{Each, each_join, each_map}
-use Rattle.document_words.specs.WordNumbers.{document_words, word_number}
-use Rattle.unity_meaning.specs.Steps.{proofs_among, Pairwise, ProofStep, of_proof, proof_steps, document_steps}
-use Rattle.expand_proofs.specs.Steps.{core_step, core_proof}
-use Rattle.core_documents.specs.Cores.{document_scope, core_document}
-use Rattle.core_meaning.proofs.Proofs.{proofs_match}
+use Rattle.meaning_documents.proofs.ExecutionTheorems.{map-append}
+use Rattle.rules_table.proofs.EachLaws.{Each, each_join, each_map}
+use Rattle.expand_declarations.specs.WordNumbers.{document_words, word_number}
+use Rattle.meaning_documents.specs.Steps.{proofs_among, Pairwise, ProofStep, of_proof, proof_steps, document_steps}
+use Rattle.expand_steps.specs.Steps.{core_step, core_proof}
+use Rattle.expand_documents.specs.Cores.{document_scope, core_document}
+use Rattle.expand_correct.proofs.Preserved.Proofs.{proofs_match}
 use Rattle.soundness.specs.PlanSteps.{of_program, core_steps}
 use Rattle.soundness.specs.Properties.{core_of}
 

@@ -1,14 +1,14 @@
 -- The programs of accepted proofs have executions.
 use Rattle.std.proofs.Common.{◌≡◌, nat_eq, List, [], Some, ap, ◌∙◌}
 use Rattle.std.proofs.Common.{subst, slice_get}
-use Rattle.state_steps.specs.State.{State, is_state}
-use Rattle.state_steps.proofs.StepTheorems.{both_true}
-use Rattle.unity_meaning.specs.Setting.{slot_ranges}
-use Rattle.unity_meaning.specs.Programs.{Composed, document_setting}
-use Rattle.unity_meaning.specs.Execution.{System, system_of}
-use Rattle.unity_meaning.specs.Properties.{IsAlwaysDefined}
-use Rattle.unity_meaning.proofs.ExecutionTheorems.{defined_runs}
-use Rattle.execution_laws.proofs.AlikeTheorems.{alike_back, defined_alike}
+use Rattle.meaning_states.specs.State.{State, is_state}
+use Rattle.meaning_states.proofs.StepTheorems.{both_true}
+use Rattle.meaning_documents.specs.Setting.{slot_ranges}
+use Rattle.meaning_documents.specs.Programs.{Composed, document_setting}
+use Rattle.meaning_documents.specs.Execution.{System, system_of}
+use Rattle.meaning_documents.specs.Properties.{IsAlwaysDefined}
+use Rattle.meaning_documents.proofs.ExecutionTheorems.{defined_runs}
+use Rattle.meaning_laws.proofs.AlikeTheorems.{alike_back, defined_alike}
 use Rattle.core_terms.specs.declared.programs.CSlot.{CSlot}
 use Rattle.core_terms.specs.declared.programs.CProgram.{CProgram}
 use Rattle.core_terms.specs.Conditions.{IsProgram}
@@ -17,15 +17,15 @@ use Rattle.core_terms.specs.Values.{form_value}
 use Rattle.fair_rounds.specs.Records.{core_system, KindHolds, are_in_ranges}
 use Rattle.executor.specs.StartState.{start_state}
 use Rattle.executor.proofs.StartStateLaws.{start_is_state}
-use Rattle.proof_rules.specs.Walk.{program_of}
-use Rattle.proof_rules.proofs.EachLaws.{from_all, each_at, found_in}
-use Rattle.proof_rules.proofs.WalkTheorems.{walk_sound}
-use Rattle.document_words.specs.WordNumbers.{document_words, word_number}
-use Rattle.expand_proofs.specs.Steps.{core_proof}
-use Rattle.core_documents.specs.Cores.{document_scope, core_document}
-use Rattle.core_meaning.proofs.Meaning.{programs_alike}
-use Rattle.core_meaning.proofs.Proofs.{proofs_match, proofs_found}
-use Rattle.unity_meaning.specs.Steps.{proofs_among}
+use Rattle.rules_table.specs.Walk.{program_of}
+use Rattle.rules_table.proofs.EachLaws.{from_all, each_at, found_in}
+use Rattle.rules_table.proofs.WalkTheorems.{walk_sound}
+use Rattle.expand_declarations.specs.WordNumbers.{document_words, word_number}
+use Rattle.expand_steps.specs.Steps.{core_proof}
+use Rattle.expand_documents.specs.Cores.{document_scope, core_document}
+use Rattle.expand_correct.proofs.Preserved.Meaning.{programs_alike}
+use Rattle.expand_correct.proofs.Preserved.Proofs.{proofs_match, proofs_found}
+use Rattle.meaning_documents.specs.Steps.{proofs_among}
 use Rattle.soundness.specs.Executions.{start_meets, ExecutionsExist}
 use Rattle.soundness.proofs.PlanRecords.{defined_record}
 use Rattle.soundness.proofs.Sources.{mapped_at, proof_among}

@@ -2,9 +2,9 @@
 use Rattle.std.proofs.Common.{◌≡◌, ℕ, zero, suc, List, [], ◌∷◌, map, Some, IsTrue, inl, inr}
 use Rattle.std.proofs.Common.{refl, ap, ◌∙◌, subst, slice_get, arith}
 use Rattle.case_tables.specs.declared.word_table.Word.{Word}
-use Rattle.ebnf.specs.Ebnf.{Tree, choice, pair, node, Ebnf, both, either, many}
-use Rattle.ebnf.specs.Ebnf.{named, one_of, has}
-use Rattle.ebnf.specs.Lists.{list}
+use Rattle.grammar_theory.specs.Ebnf.{Tree, choice, pair, node, Ebnf, both, either, many}
+use Rattle.grammar_theory.specs.Ebnf.{named, one_of, has}
+use Rattle.grammar_theory.specs.Lists.{list}
 use Rattle.unity_syntax.specs.Classes.{reserved}
 use Rattle.unity_syntax.specs.Kinds.{Kind, kind}
 use Rattle.unity_syntax.specs.Grammar.{second, first, chosen, past, up_to, ◌or◌, claim_, step_, proof_}

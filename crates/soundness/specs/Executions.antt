@@ -3,15 +3,15 @@ use Rattle.std.specs.Prelude.{◌≡◌, ℕ, List, [], Bool, Some, IsTrue, slic
 use Rattle.unity_syntax.specs.declared.proof.Proof.{Proof}
 use Rattle.unity_syntax.specs.declared.document.Part.{Part}
 use Rattle.unity_syntax.specs.declared.document.Document.{Document}
-use Rattle.unity_meaning.specs.Programs.{Composed, document_setting}
-use Rattle.unity_meaning.specs.Execution.{system_of, EveryChoiceRuns}
+use Rattle.meaning_documents.specs.Programs.{Composed, document_setting}
+use Rattle.meaning_documents.specs.Execution.{system_of, EveryChoiceRuns}
 use Rattle.core_terms.specs.declared.programs.CSlot.{CSlot}
 use Rattle.core_terms.specs.declared.programs.CProgram.{CProgram}
 use Rattle.core_terms.specs.Values.{form_value}
 use Rattle.executor.specs.StartState.{start_state}
-use Rattle.proof_rules.specs.Walk.{Plan}
-use Rattle.core_documents.specs.Cores.{core_document}
-use Rattle.core_meaning.specs.Meaning.{IsCoreOf}
+use Rattle.rules_table.specs.Walk.{Plan}
+use Rattle.expand_documents.specs.Cores.{core_document}
+use Rattle.expand_correct.specs.Preserved.Meaning.{IsCoreProgramOf}
 use Rattle.soundness.specs.Properties.{IsValidlyPlanned}
 
 -- the start state of a program meets its initially section
@@ -23,7 +23,7 @@ start_meets slots p = form_value (start_state slots p) [] p.initially
 pub record HasExecutions (d : Document) (name : List ℕ) : Type 0 where
   pub program : Composed
   pub core : CProgram
-  pub is_core : IsCoreOf d name program core
+  pub is_core : IsCoreProgramOf d name program core
   pub initial : IsTrue ((system_of (document_setting d) program).initial (start_state (core_document d).slots core))
   pub runs : EveryChoiceRuns (system_of (document_setting d) program)
 

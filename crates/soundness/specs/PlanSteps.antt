@@ -1,13 +1,13 @@
 -- The records of a plan: one for each step of a document in core form, in order.
 use Rattle.std.specs.Prelude.{◌≡◌, ℕ, List, [], ◌∷◌, ◌++◌, map, Bool, Ok, Some, IsTrue, slice_get}
-use Rattle.unity_meaning.specs.Steps.{Pairwise}
+use Rattle.meaning_documents.specs.Steps.{Pairwise}
 use Rattle.core_terms.specs.declared.programs.CProgram.{CProgram}
 use Rattle.core_terms.specs.declared.documents.CStep.{CStep}
 use Rattle.core_terms.specs.declared.documents.CProof.{CProof}
 use Rattle.core_terms.specs.declared.documents.CDocument.{CDocument}
-use Rattle.core_terms.specs.Conditions.{IsDocument}
+use Rattle.core_terms.specs.Conditions.{IsCoreDocument}
 use Rattle.fair_rounds.specs.declared.records.Record.{Record}
-use Rattle.proof_rules.specs.Walk.{Plan, has_defined, program_of, walk_of}
+use Rattle.rules_table.specs.Walk.{Plan, has_defined, program_of, walk_of}
 
 -- a step, and the number of the program that its proof is about
 pub record CoreStep : Type 0 where
@@ -33,7 +33,7 @@ pub record IsRecordOf (s : CoreStep) (r : Record) : Type 0 where
 
 -- where the steps of a document give a plan, its records are theirs, in order;
 abbrev pub PlanIsSteps : Type 0
-PlanIsSteps = (d : CDocument) → IsDocument d → (starts : CProgram → Bool) (plan : Plan) →
+PlanIsSteps = (d : CDocument) → IsCoreDocument d → (starts : CProgram → Bool) (plan : Plan) →
     walk_of d starts ≡ Ok plan → Pairwise IsRecordOf (core_steps d.proofs) plan.records
 
 -- what a plan has of the program of each proof: a record of a `defined` step, and the program passes the test of
@@ -43,6 +43,6 @@ pub record IsStarted (starts : CProgram → Bool) (plan : Plan) (c : CProgram) :
   pub always_defined : IsTrue (has_defined c.name plan.records)
 
 abbrev pub PlanIsStarted : Type 0
-PlanIsStarted = (d : CDocument) → IsDocument d → (starts : CProgram → Bool) (plan : Plan) →
+PlanIsStarted = (d : CDocument) → IsCoreDocument d → (starts : CProgram → Bool) (plan : Plan) →
     walk_of d starts ≡ Ok plan → (place : ℕ) (proof : CProof) → slice_get d.proofs place ≡ Some proof →
     (c : CProgram) → program_of d.programs proof.program ≡ Some c → IsStarted starts plan c

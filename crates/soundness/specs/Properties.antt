@@ -1,18 +1,18 @@
 -- What the steps of an accepted document claim is true.
 use Rattle.std.specs.Prelude.{◌≡◌, ℕ, Bool, None, Some, Ok, slice_get}
 use Rattle.unity_syntax.specs.declared.document.Document.{Document}
-use Rattle.unity_meaning.specs.Claims.{Claims}
-use Rattle.unity_meaning.specs.Steps.{EachStep, Pairwise, ProofStep, of_proof, document_steps}
-use Rattle.name_scopes.specs.WellNamed.{IsWellNamed}
+use Rattle.meaning_documents.specs.Claims.{Claims}
+use Rattle.meaning_documents.specs.Steps.{EachStep, Pairwise, ProofStep, of_proof, document_steps}
+use Rattle.names_rules.specs.WellNamed.{IsWellNamed}
 use Rattle.core_terms.specs.declared.programs.CProgram.{CProgram}
-use Rattle.core_terms.specs.Conditions.{IsDocument}
+use Rattle.core_terms.specs.Conditions.{IsCoreDocument}
 use Rattle.fair_rounds.specs.declared.records.Record.{Record}
-use Rattle.proof_rules.specs.Validity.{AllValid}
-use Rattle.proof_rules.specs.Walk.{Plan, walk_of}
-use Rattle.document_words.specs.WordNumbers.{document_words, word_number}
-use Rattle.core_documents.specs.Cores.{core_document}
-use Rattle.core_documents.specs.Faults.{expansion_fault}
-use Rattle.core_meaning.specs.Claims.{step_in}
+use Rattle.rules_table.specs.Validity.{AllValid}
+use Rattle.rules_table.specs.Walk.{Plan, walk_of}
+use Rattle.expand_declarations.specs.WordNumbers.{document_words, word_number}
+use Rattle.expand_documents.specs.Cores.{core_document}
+use Rattle.expand_documents.specs.Faults.{expansion_fault}
+use Rattle.expand_correct.specs.Preserved.Claims.{step_in}
 use Rattle.soundness.specs.PlanSteps.{CoreStep, of_program, IsRecordOf}
 use Rattle.soundness.specs.Written.{AreClaims}
 
@@ -30,7 +30,7 @@ pub record StepIsProved (d : Document) (s : ProofStep) (r : Record) : Type 0 whe
 pub record IsValidlyPlanned (d : Document) (starts : CProgram → Bool) (plan : Plan) : Type 0 where
   pub named : IsWellNamed d
   pub faultless : expansion_fault d ≡ None
-  pub core : IsDocument (core_document d)
+  pub core : IsCoreDocument (core_document d)
   pub walked : walk_of (core_document d) starts ≡ Ok plan
   pub valid : AllValid (core_document d).slots plan.goals
 

@@ -1,11 +1,11 @@
 -- What the text of an accepted document tells.
 use Rattle.std.specs.Prelude.{◌≡◌, ℕ, Bool, List, [], ◌∷◌, ◌++◌, codes, decimal, length}
 use Rattle.unity_syntax.specs.declared.document.Document.{Document}
-use Rattle.unity_meaning.specs.Claims.{Claims}
+use Rattle.meaning_documents.specs.Claims.{Claims}
 use Rattle.core_terms.specs.declared.programs.CProgram.{CProgram}
-use Rattle.unity_meaning.specs.Steps.{claim_kind, Pairwise, ProofStep, document_steps}
-use Rattle.core_documents.specs.Cores.{core_document}
-use Rattle.proof_rules.specs.Walk as walk
+use Rattle.meaning_documents.specs.Steps.{claim_kind, Pairwise, ProofStep, document_steps}
+use Rattle.expand_documents.specs.Cores.{core_document}
+use Rattle.rules_table.specs.Walk as walk
 use Rattle.proof_script.specs.declared.plans.Plan.{Plan}
 use Rattle.cli_texts.specs.Verdicts.{kind_text, accepted_text}
 use Rattle.soundness.specs.Properties.{IsValidlyPlanned}

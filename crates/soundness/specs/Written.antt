@@ -1,13 +1,13 @@
 -- The words that stand between the two predicates of a claim, where a document has a text.
 use Rattle.std.specs.Prelude.{◌≡◌, ℕ, List, Bool, true, false, Some, IsTrue, slice_get}
 use Rattle.case_tables.specs.declared.word_table.Word.{Word}
-use Rattle.ebnf.specs.Ebnf.{Terminal}
+use Rattle.grammar_theory.specs.Ebnf.{Terminal}
 use Rattle.unity_syntax.specs.declared.proof.Claim.{Claim}
 use Rattle.unity_syntax.specs.declared.proof.Step.{Step}
 use Rattle.unity_syntax.specs.declared.proof.Proof.{Proof}
 use Rattle.unity_syntax.specs.declared.document.Part.{Part}
 use Rattle.unity_syntax.specs.declared.document.Document.{Document}
-use Rattle.unity_syntax.specs.ReadingLaws.{IsDocument}
+use Rattle.unity_syntax.specs.ReadingLaws.{AreTokensOf}
 
 abbrev pub is_between : Word → Bool
 is_between Word.Unless = true
@@ -27,4 +27,4 @@ AreClaims d = (place at : ℕ) (proof : Proof) → slice_get d.parts place ≡ S
 
 -- where it has tokens of which it is the document
 abbrev pub ClaimsAreWritten : Type 0
-ClaimsAreWritten = (d : Document) (ts : List Terminal) → IsDocument ts d → AreClaims d
+ClaimsAreWritten = (d : Document) (ts : List Terminal) → AreTokensOf ts d → AreClaims d

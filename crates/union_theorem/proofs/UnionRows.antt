@@ -5,10 +5,10 @@ use Rattle.case_tables.specs.declared.code_table.Code.{Code}
 use Rattle.core_terms.specs.Trees.{same_form}
 use Rattle.core_terms.specs.declared.trees.CForm.TheVariants.{Top, Bottom}
 use Rattle.fair_rounds.specs.declared.records.Record.{Record}
-use Rattle.proof_rules.specs.Conclusion.{Conclusion}
-use Rattle.proof_rules.specs.Table.{Site, needs, record_of, concluded, shown_forms, is_part_pair, is_unless, is_ensures}
-use Rattle.proof_rules.specs.Table.{is_defined, is_invariant, first_helper, ending, union_unless_of, union_ensures_of}
-use Rattle.proof_rules.specs.Table.{union_invariant_of, union_defined_of}
+use Rattle.rules_table.specs.Conclusion.{Conclusion}
+use Rattle.rules_table.specs.Table.{Site, needs, record_of, concluded, shown_forms, is_part_pair, is_unless, is_ensures}
+use Rattle.rules_table.specs.Table.{is_defined, is_invariant, first_helper, ending, union_unless_of, union_ensures_of}
+use Rattle.rules_table.specs.Table.{union_invariant_of, union_defined_of}
 
 -- what a union concludes, once its conditions are met
 abbrev pub united_unless : Site → Record → Record → Result Conclusion Code

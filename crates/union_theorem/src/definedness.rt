@@ -1,12 +1,12 @@
 // That no step of a union is undefined.
 ghost use Rattle.std.specs.Prelude.{[], IsTrue};
-ghost use Rattle.state_steps.specs.State.{is_state};
+ghost use Rattle.meaning_states.specs.State.{is_state};
 ghost use Rattle.core_terms.specs.Steps.{slot_ranges};
 ghost use Rattle.core_terms.specs.Values.{form_value};
 ghost use Rattle.core_terms.specs.declared.programs.CProgram.{CProgram};
-ghost use Rattle.proof_rules.specs.Sound.{IsUnion, IsPart};
-ghost use Rattle.proof_rules.specs.Table as table;
-ghost use Rattle.safety_rules.specs.Answers.{site_of, IsPlace, IsPremiseAt, Answers};
+ghost use Rattle.rules_table.specs.Sound.{IsUnionOf, IsPartPremise};
+ghost use Rattle.rules_table.specs.Table as table;
+ghost use Rattle.safety_rules.specs.Answers.{site_of, IsPlace, IsPremiseAt, RuleAnswers};
 ghost use Rattle.safety_rules.specs.Sound.{StandsWhereShown};
 
 use crate::kinds::{are_defined, is_part_pair};
@@ -33,10 +33,10 @@ pub fn union_defined(
     requires a { IsPremiseAt pl.now a.now }
     requires b { IsPremiseAt pl.now b.now }
     requires start { IsTrue (is_state (slot_ranges pl.now.slots.now) start.now) }
-    ensures answer { Answers result pl.now.slots.now (table.union_defined_of (site_of pl.now)
+    ensures answer { RuleAnswers result pl.now.slots.now (table.union_defined_of (site_of pl.now)
         (form_value start.now [] pl.now.program.now.initially) a.now b.now) }
-    ensures sound { (f g : CProgram) → IsUnion (site_of pl.now) f g → IsPart (site_of pl.now) f a.now →
-        IsPart (site_of pl.now) g b.now → StandsWhereShown pl.now result }
+    ensures sound { (f g : CProgram) → IsUnionOf (site_of pl.now) f g → IsPartPremise (site_of pl.now) f a.now →
+        IsPartPremise (site_of pl.now) g b.now → StandsWhereShown pl.now result }
 {
     if !is_part_pair(pl, a, b) {
         return Err(RuleError::Fault(Code::OtherProgram));

@@ -2,7 +2,7 @@
 ghost use Rattle.std.specs.Prelude.{◌≡◌, ◌&&◌, ◌||◌};
 ghost use Rattle.core_terms.specs.Trees.{same_form};
 ghost use Rattle.core_terms.specs.declared.trees.CForm.TheVariants.{Bottom};
-ghost use Rattle.proof_rules.specs.Table as table;
+ghost use Rattle.rules_table.specs.Table as table;
 ghost use Rattle.safety_rules.specs.Answers.{site_of};
 
 use case_tables::Kind;

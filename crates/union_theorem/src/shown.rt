@@ -1,9 +1,9 @@
 // What the parts stand under has to follow in the union.
 ghost use Rattle.std.specs.Prelude.{◌++◌, [], All, map};
 ghost use Rattle.core_terms.specs.Conditions.{FormFits};
-ghost use Rattle.proof_rules.specs.Forms as formula;
-ghost use Rattle.proof_rules.specs.Table as table;
-ghost use Rattle.safety_rules.specs.Answers.{site_of, IsPlace, IsPremiseAt, Answers};
+ghost use Rattle.rules_table.specs.Forms as formula;
+ghost use Rattle.rules_table.specs.Table as table;
+ghost use Rattle.safety_rules.specs.Answers.{site_of, IsPlace, IsPremiseAt, RuleAnswers};
 ghost use Rattle.safety_rules.specs.Goals.{Added};
 ghost use Rattle.safety_rules.specs.Usable.{NamesExist};
 
@@ -68,7 +68,7 @@ pub(crate) fn united(
     requires b { IsPremiseAt pl.now b.now }
     requires p { NamesExist pl.now.slots.now pl.now.params.now p.now }
     requires q { NamesExist pl.now.slots.now pl.now.params.now q.now }
-    ensures { Answers result pl.now.slots.now (table.concluded pl.now.slots.now pl.now.params.now
+    ensures { RuleAnswers result pl.now.slots.now (table.concluded pl.now.slots.now pl.now.params.now
         (table.record_of (site_of pl.now) kind p.now q.now (a.now.under ++ b.now.under) helper.now)
         (table.shown_forms (site_of pl.now) a.now b.now)) }
 {

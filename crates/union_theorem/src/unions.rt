@@ -1,8 +1,8 @@
 // What an unless, an ensures or an invariant of each part gives.
 ghost use Rattle.core_terms.specs.declared.programs.CProgram.{CProgram};
-ghost use Rattle.proof_rules.specs.Sound.{IsUnion, IsPart};
-ghost use Rattle.proof_rules.specs.Table as table;
-ghost use Rattle.safety_rules.specs.Answers.{site_of, IsPlace, IsPremiseAt, Answers};
+ghost use Rattle.rules_table.specs.Sound.{IsUnionOf, IsPartPremise};
+ghost use Rattle.rules_table.specs.Table as table;
+ghost use Rattle.safety_rules.specs.Answers.{site_of, IsPlace, IsPremiseAt, RuleAnswers};
 ghost use Rattle.safety_rules.specs.Sound.{StandsWhereShown};
 
 use crate::kinds::{
@@ -24,9 +24,9 @@ pub fn union_unless(alloc: Global, pl: &Place, a: &Record, b: &Record) -> Result
     requires place { IsPlace pl.now }
     requires a { IsPremiseAt pl.now a.now }
     requires b { IsPremiseAt pl.now b.now }
-    ensures answer { Answers result pl.now.slots.now (table.union_unless_of (site_of pl.now) a.now b.now) }
-    ensures sound { (f g : CProgram) → IsUnion (site_of pl.now) f g → IsPart (site_of pl.now) f a.now →
-        IsPart (site_of pl.now) g b.now → StandsWhereShown pl.now result }
+    ensures answer { RuleAnswers result pl.now.slots.now (table.union_unless_of (site_of pl.now) a.now b.now) }
+    ensures sound { (f g : CProgram) → IsUnionOf (site_of pl.now) f g → IsPartPremise (site_of pl.now) f a.now →
+        IsPartPremise (site_of pl.now) g b.now → StandsWhereShown pl.now result }
 {
     if !is_part_pair(pl, a, b) {
         return Err(RuleError::Fault(Code::OtherProgram));
@@ -54,9 +54,9 @@ pub fn union_ensures(
     requires place { IsPlace pl.now }
     requires a { IsPremiseAt pl.now a.now }
     requires b { IsPremiseAt pl.now b.now }
-    ensures answer { Answers result pl.now.slots.now (table.union_ensures_of (site_of pl.now) a.now b.now) }
-    ensures sound { (f g : CProgram) → IsUnion (site_of pl.now) f g → IsPart (site_of pl.now) f a.now →
-        IsPart (site_of pl.now) g b.now → StandsWhereShown pl.now result }
+    ensures answer { RuleAnswers result pl.now.slots.now (table.union_ensures_of (site_of pl.now) a.now b.now) }
+    ensures sound { (f g : CProgram) → IsUnionOf (site_of pl.now) f g → IsPartPremise (site_of pl.now) f a.now →
+        IsPartPremise (site_of pl.now) g b.now → StandsWhereShown pl.now result }
 {
     if !is_part_pair(pl, a, b) {
         return Err(RuleError::Fault(Code::OtherProgram));
@@ -93,9 +93,9 @@ pub fn union_invariant(
     requires place { IsPlace pl.now }
     requires a { IsPremiseAt pl.now a.now }
     requires b { IsPremiseAt pl.now b.now }
-    ensures answer { Answers result pl.now.slots.now (table.union_invariant_of (site_of pl.now) a.now b.now) }
-    ensures sound { (f g : CProgram) → IsUnion (site_of pl.now) f g → IsPart (site_of pl.now) f a.now →
-        IsPart (site_of pl.now) g b.now → StandsWhereShown pl.now result }
+    ensures answer { RuleAnswers result pl.now.slots.now (table.union_invariant_of (site_of pl.now) a.now b.now) }
+    ensures sound { (f g : CProgram) → IsUnionOf (site_of pl.now) f g → IsPartPremise (site_of pl.now) f a.now →
+        IsPartPremise (site_of pl.now) g b.now → StandsWhereShown pl.now result }
 {
     if !is_part_pair(pl, a, b) {
         return Err(RuleError::Fault(Code::OtherProgram));

@@ -2,9 +2,9 @@
 use Rattle.std.proofs.Common.{◌≡◌, ◌↔◌, ℕ, ◌≤◌, List, Ok, refl, sym, ap, subst, arith}
 use Rattle.unity_syntax.specs.declared.document.Document.{Document}
 use Rattle.unity_syntax.specs.Classes.{terminals}
-use Rattle.core_terms.specs.Conditions.{IsDocument as IsCoreDocument}
+use Rattle.core_terms.specs.Conditions.{IsCoreDocument}
 use Rattle.executor.specs.StartState.{start_state}
-use Rattle.core_documents.specs.Cores.{core_document}
+use Rattle.expand_documents.specs.Cores.{core_document}
 use Rattle.expand_fits.proofs.Parsed.Reading.{read_cores}
 use Rattle.unity_parser.specs.Document.{IsDocument}
 use Rattle.unity_parser.proofs.Readings.{one_document}

@@ -2,9 +2,9 @@
 use Rattle.std.proofs.Common.{◌≡◌, ℕ, List, Option, None, Some, sym, ◌∙◌, ap}
 use Rattle.case_tables.specs.declared.code_table.Code.{Code}
 use Rattle.unity_syntax.specs.declared.document.Document.{Document}
-use Rattle.name_scopes.specs.declared.named.NameFault.{NameFault}
-use Rattle.name_scopes.specs.Answers.{Stops}
-use Rattle.name_scopes.specs.Reading.{Fault, earlier}
+use Rattle.names_rules.specs.declared.named.NameFault.{NameFault}
+use Rattle.names_rules.specs.Answers.{Stops}
+use Rattle.names_rules.specs.Reading.{Fault, earlier}
 use Rattle.unity_parser.proofs.Readings.{one_document, no_fault, one_fault}
 use Rattle.unity_cli.specs.WellFormed.{IsWellFormed, IsFirstFault, of_text, of_document, document_fault}
 

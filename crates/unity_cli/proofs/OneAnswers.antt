@@ -5,12 +5,12 @@ use Rattle.case_tables.specs.declared.code_table.Code.{Code}
 use Rattle.unity_syntax.specs.declared.document.Document.{Document}
 use Rattle.unity_syntax.specs.declared.document.Schedule.{Schedule}
 use Rattle.unity_syntax.specs.declared.term.Inst.{Inst}
-use Rattle.name_scopes.specs.Declarations.{some_of}
+use Rattle.names_rules.specs.Declarations.{some_of}
 use Rattle.run_correct.specs.Names.{place_of}
-use Rattle.unity_meaning.specs.Programs.{Composed, program_named, programs_of}
+use Rattle.meaning_documents.specs.Programs.{Composed, program_named, programs_of}
 use Rattle.core_terms.specs.declared.programs.CProgram.{CProgram}
-use Rattle.core_documents.specs.Cores.{core_document}
-use Rattle.core_meaning.specs.Meaning.{IsCoreOf}
+use Rattle.expand_documents.specs.Cores.{core_document}
+use Rattle.expand_correct.specs.Preserved.Meaning.{IsCoreProgramOf}
 use Rattle.schedule_replay.specs.declared.heading.Heading.{Heading}
 use Rattle.schedule_replay.specs.Schedules.{turns}
 use Rattle.run_correct.specs.Traces.{source_system, first_state}
@@ -107,8 +107,8 @@ one_checked bytes status other text more a b = absurd a
 
 -- ---- traces
 
-one_program : (d : Document) (name : List ℕ) (c e : Composed) (p q : CProgram) → IsCoreOf d name c p →
-    IsCoreOf d name e q → (c ≡ e) × (p ≡ q)
+one_program : (d : Document) (name : List ℕ) (c e : Composed) (p q : CProgram) → IsCoreProgramOf d name c p →
+    IsCoreProgramOf d name e q → (c ≡ e) × (p ≡ q)
 one_program d name c e p q a b =
     let sources : ◌≡◌ {A = Option Composed} (Some c) (Some e) = sym a.source ∙ b.source in
     let cores : ◌≡◌ {A = Option CProgram} (Some p) (Some q) = sym a.found ∙ b.found in
@@ -151,7 +151,7 @@ run_started d name steps defined text a b =
     (one_program d name a.program b.program a.core b.core a.is_core b.is_core) a.trace)
     b.not_initial
 
-named_program : (d : Document) (name : List ℕ) (c : Composed) (p : CProgram) → IsCoreOf d name c p →
+named_program : (d : Document) (name : List ℕ) (c : Composed) (p : CProgram) → IsCoreProgramOf d name c p →
     program_named name (programs_of d) ≡ None → ⊥
 named_program d name c p a none =
     let never : ◌≡◌ {A = Option Composed} (Some c) None = sym a.source ∙ none in
@@ -162,7 +162,7 @@ run_not_refused : (bytes name : List ℕ) (steps : ℕ) (d : Document) (defined 
 run_not_refused bytes name steps d defined text more r a (runs.IsNotRun.bad b) = read_not_bad bytes more d r b
 run_not_refused bytes name steps d defined text more r a (no_program e s none f) =
     named_program e name a.program a.core
-    (subst (λ x. IsCoreOf x name a.program a.core) (read_once bytes d e r s) a.is_core)
+    (subst (λ x. IsCoreProgramOf x name a.program a.core) (read_once bytes d e r s) a.is_core)
     none
 run_not_refused bytes name steps d defined text more r a (runs.IsNotRun.no_start e s none f) =
     run_started e name steps defined text
@@ -246,7 +246,7 @@ one_replay_of : (d : Document) (s t : Schedule) (c e : Composed) (p q : CProgram
     IsReplay d s c p xs → IsReplay d t e q ys → SameReplay s t c e p q xs ys
 one_replay_of d s t c e p q xs ys a b =
     let schedules = same_schedule d s t a.there b.there in
-    let moved = subst (λ x. IsCoreOf d x.program.text c p) schedules a.core in
+    let moved = subst (λ x. IsCoreProgramOf d x.program.text c p) schedules a.core in
     let programs = one_program d t.program.text c e p q moved b.core in
     let choices =
     a.named ∙ ap (λ x. map (place_of c) (some_of x.choices)) schedules

@@ -3,8 +3,8 @@ use Rattle.std.proofs.Common.{◌≡◌, ◌≤◌, ◌+◌, ℕ, List, ◌∷�
 use Rattle.std.proofs.Common.{subst, arith}
 use Rattle.unity_syntax.specs.declared.document.Document.{Document}
 use Rattle.core_terms.specs.declared.documents.CDocument.{CDocument}
-use Rattle.core_terms.specs.Conditions.{IsDocument as IsCoreDocument}
-use Rattle.core_documents.specs.Cores.{core_document}
+use Rattle.core_terms.specs.Conditions.{IsCoreDocument}
+use Rattle.expand_documents.specs.Cores.{core_document}
 use Rattle.obligations.specs.declared.certificates.Cert.{Cert}
 use Rattle.proof_script.specs.declared.plans.Plan.{Plan}
 use Rattle.proof_script.specs.declared.plans.Proof.{Proof}

@@ -8,16 +8,16 @@ use Rattle.unity_syntax.specs.declared.document.Schedule.{Schedule}
 use Rattle.unity_syntax.specs.declared.term.Inst.{Inst}
 use Rattle.unity_parser.proofs.Readings.{some_reading}
 use Rattle.unity_parser.specs.Document.{IsDocument, IsFault}
-use Rattle.unity_meaning.specs.Programs.{Composed, program_named, programs_of}
-use Rattle.name_scopes.specs.Declarations.{some_of}
-use Rattle.name_scopes.specs.Reading.{Fault, earlier}
-use Rattle.name_scopes.specs.WellNamed.{IsWellNamed, name_fault}
-use Rattle.core_documents.specs.Cores.{core_document}
-use Rattle.core_documents.specs.Faults.{expansion_fault}
-use Rattle.core_terms.specs.Conditions.{IsDocument as IsCoreDocument}
+use Rattle.meaning_documents.specs.Programs.{Composed, program_named, programs_of}
+use Rattle.names_rules.specs.Declarations.{some_of}
+use Rattle.names_rules.specs.Reading.{Fault, earlier}
+use Rattle.names_rules.specs.WellNamed.{IsWellNamed, name_fault}
+use Rattle.expand_documents.specs.Cores.{core_document}
+use Rattle.expand_documents.specs.Faults.{expansion_fault}
+use Rattle.core_terms.specs.Conditions.{IsCoreDocument}
 use Rattle.core_terms.specs.declared.programs.CProgram.{CProgram}
-use Rattle.core_meaning.specs.Meaning.{IsCoreOf}
-use Rattle.core_meaning.proofs.Matching.{programs_match}
+use Rattle.expand_correct.specs.Preserved.Meaning.{IsCoreProgramOf}
+use Rattle.expand_correct.proofs.Preserved.Matching.{programs_match}
 use Rattle.schedule_replay.specs.declared.heading.Heading.{Heading}
 use Rattle.schedule_replay.specs.Schedules.{turns}
 use Rattle.run_traces.specs.Programs.{scheduled_program}
@@ -35,7 +35,7 @@ use Rattle.proof_script.specs.Laws.{IsAnswered}
 use Rattle.proof_script.specs.Proving.{Finds}
 use Rattle.proof_script.specs.Verdicts.{verdict_of}
 use Rattle.proof_script.proofs.SomeLaws.{some_finding}
-use Rattle.tree_search.proofs.EndsLaws.{search-ends}
+use Rattle.search_tree.proofs.EndsLaws.{search-ends}
 use Rattle.certificate_printing.specs.Findings.{budget_text, refuted_text}
 use Rattle.certificate_roundtrip.specs.Found.{text_with}
 use Rattle.cli_ring.specs.Rings.{ring_bytes}
@@ -140,7 +140,7 @@ traced d name c p heading choices initial = (
 )
 
 ran_core : (bytes name : List ℕ) (steps : ℕ) (d : Document) → IsAdmitted greatest_size bytes d → (c : Composed)
-    (p : CProgram) → IsCoreOf d name c p → HasAnswer (Some (run name steps)) bytes
+    (p : CProgram) → IsCoreProgramOf d name c p → HasAnswer (Some (run name steps)) bytes
 ran_core bytes name steps d read c p is =
     by_start ((source_system d c).initial (first_state d p)) refl
   where
@@ -175,7 +175,7 @@ ran : (bytes name : List ℕ) (steps : ℕ) → ReadOrBad greatest_size bytes �
 ran bytes name steps (inr (text, bad)) = (Status.BadDocument, text, runs.IsNotRun.bad bad)
 ran bytes name steps (inl (d, read)) = by_name (program_named name (programs_of d)) refl
   where
-    by_core : (c : Composed) → (p : CProgram) × IsCoreOf d name c p → HasAnswer (Some (run name steps)) bytes
+    by_core : (c : Composed) → (p : CProgram) × IsCoreProgramOf d name c p → HasAnswer (Some (run name steps)) bytes
     by_core c (p, is) = ran_core bytes name steps d read c p is
 
     by_name : (o : Option Composed) → program_named name (programs_of d) ≡ o →

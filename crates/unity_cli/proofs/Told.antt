@@ -10,11 +10,11 @@ use Rattle.unity_syntax.specs.declared.document.Document.{Document}
 use Rattle.unity_syntax.specs.declared.document.Schedule.{Schedule}
 use Rattle.case_tables.specs.declared.code_table.Code.{Code}
 use Rattle.cli_texts.specs.Refusals.{fault_text, refusal_text}
-use Rattle.unity_meaning.specs.Programs.{Composed}
-use Rattle.core_terms.specs.Conditions.{IsDocument as IsCoreDocument}
+use Rattle.meaning_documents.specs.Programs.{Composed}
+use Rattle.core_terms.specs.Conditions.{IsCoreDocument}
 use Rattle.core_terms.specs.declared.documents.CDocument.{CDocument}
 use Rattle.core_terms.specs.declared.programs.CProgram.{CProgram}
-use Rattle.core_documents.specs.Cores.{core_document}
+use Rattle.expand_documents.specs.Cores.{core_document}
 use Rattle.obligations.specs.declared.certificates.Cert.{Cert}
 use Rattle.executor.specs.declared.runner.Stepped.{Stepped}
 use Rattle.schedule_replay.specs.declared.heading.Heading.{Heading}

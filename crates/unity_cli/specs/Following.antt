@@ -1,7 +1,7 @@
 -- Which bytes are a document whose proofs follow the rules.
 use Rattle.std.specs.Prelude.{ℕ, List}
 use Rattle.unity_syntax.specs.declared.document.Document.{Document}
-use Rattle.core_documents.specs.Cores.{core_document}
+use Rattle.expand_documents.specs.Cores.{core_document}
 use Rattle.proof_script.specs.Following.{Follows}
 use Rattle.certificate_reading.specs.Certificates.{certificates_of}
 use Rattle.unity_cli.specs.Admitted.{greatest_size, IsAdmitted}

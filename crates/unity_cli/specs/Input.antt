@@ -1,7 +1,7 @@
 -- What is read from a source.
 use Rattle.std.specs.Prelude.{◌≡◌, ◌<◌, ◌≤◌, ℕ, List, [], length, Option}
 use Rattle.unity_base.specs.Streams.{Was}
-use Rattle.core_documents.specs.Cores.{core_document}
+use Rattle.expand_documents.specs.Cores.{core_document}
 use Rattle.unity_cli.specs.declared.input.Input.{Input}
 use Rattle.unity_cli.specs.declared.input.AdmittedDocument.{AdmittedDocument}
 use Rattle.unity_cli.specs.declared.input.Text.{Text}

@@ -3,18 +3,18 @@ use Rattle.std.specs.Prelude.{◌≡◌, ℕ, List, Some, IsTrue, slice_get}
 use Rattle.unity_syntax.specs.declared.document.Document.{Document}
 use Rattle.unity_syntax.specs.declared.document.Part.{Part}
 use Rattle.unity_syntax.specs.declared.proof.Proof.{Proof}
-use Rattle.unity_meaning.specs.Programs.{Composed, document_setting}
-use Rattle.unity_meaning.specs.Execution.{system_of}
+use Rattle.meaning_documents.specs.Programs.{Composed, document_setting}
+use Rattle.meaning_documents.specs.Execution.{system_of}
 use Rattle.core_terms.specs.declared.programs.CProgram.{CProgram}
 use Rattle.executor.specs.StartState.{start_state}
-use Rattle.core_documents.specs.Cores.{core_document}
-use Rattle.core_meaning.specs.Meaning.{IsCoreOf}
+use Rattle.expand_documents.specs.Cores.{core_document}
+use Rattle.expand_correct.specs.Preserved.Meaning.{IsCoreProgramOf}
 
 -- the start state of the document's program with this name, which `run` and `replay` begin with, is an initial one
 pub record HasInitialStart (d : Document) (name : List ℕ) : Type 0 where
   pub program : Composed
   pub core : CProgram
-  pub is_core : IsCoreOf d name program core
+  pub is_core : IsCoreProgramOf d name program core
   pub initial : IsTrue ((system_of (document_setting d) program).initial (start_state (core_document d).slots core))
 
 -- that of the program of each proof is

@@ -1,14 +1,14 @@
 -- What an accepted document means.
 use Rattle.std.specs.Prelude.{◌≡◌, ℕ, List, Option, Some, IsTrue, slice_get}
 use Rattle.std.specs.Io.KnownBytes.{Appends}
-use Rattle.state_steps.specs.State.{State}
+use Rattle.meaning_states.specs.State.{State}
 use Rattle.unity_syntax.specs.declared.document.Document.{Document}
 use Rattle.unity_syntax.specs.declared.document.Part.{Part}
 use Rattle.unity_syntax.specs.declared.proof.Proof.{Proof}
-use Rattle.unity_meaning.specs.Programs.{Composed, program_named, programs_of, document_setting}
-use Rattle.unity_meaning.specs.Execution.{system_of, EveryChoiceRuns}
-use Rattle.unity_meaning.specs.Claims.{Claims}
-use Rattle.unity_meaning.specs.Steps.{EachStep}
+use Rattle.meaning_documents.specs.Programs.{Composed, program_named, programs_of, document_setting}
+use Rattle.meaning_documents.specs.Execution.{system_of, EveryChoiceRuns}
+use Rattle.meaning_documents.specs.Claims.{Claims}
+use Rattle.meaning_documents.specs.Steps.{EachStep}
 use Rattle.soundness.specs.Told.{TellsClaims}
 
 -- what each step of each proof claims is true of its program, a leads-to within some bound

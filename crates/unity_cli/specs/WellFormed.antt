@@ -3,9 +3,9 @@ use Rattle.std.specs.Prelude.{◌≡◌, ℕ, List, Option, Some, None}
 use Rattle.case_tables.specs.declared.code_table.Code.{Code}
 use Rattle.unity_syntax.specs.declared.document.Document.{Document}
 use Rattle.unity_parser.specs.Document.{IsDocument, IsFault}
-use Rattle.name_scopes.specs.Reading.{Fault, earlier}
-use Rattle.name_scopes.specs.WellNamed.{IsWellNamed, name_fault}
-use Rattle.core_documents.specs.Faults.{expansion_fault}
+use Rattle.names_rules.specs.Reading.{Fault, earlier}
+use Rattle.names_rules.specs.WellNamed.{IsWellNamed, name_fault}
+use Rattle.expand_documents.specs.Faults.{expansion_fault}
 
 -- the bytes are this document, and neither its names nor its expansion have a fault
 pub record IsWellFormed (bytes : List ℕ) (d : Document) : Type 0 where

@@ -1,7 +1,7 @@
 // The command `check`: the verdict on the proofs of a document.
 ghost use Rattle.std.specs.Prelude.{◌≡◌, List, ℕ, IfOk};
 ghost use Rattle.unity_base.specs.Streams.{IsTold};
-ghost use Rattle.core_terms.specs.Conditions.{IsDocument};
+ghost use Rattle.core_terms.specs.Conditions.{IsCoreDocument};
 ghost use Rattle.proof_script.specs.Giving.{AreWhole};
 ghost use Rattle.unity_cli.specs.Admitted.{greatest_size};
 ghost use Rattle.unity_cli.specs.Answer.Check.{Checked};
@@ -47,7 +47,7 @@ fn judge_document(alloc: Global, reading: AdmittedDocument) -> Result<Answer, Al
 
 // The verdict on a document in core form with these certificates.
 fn verdict(alloc: Global, core: &CDocument, certificates: &[Cert]) -> Result<Answer, AllocError>
-    requires document { IsDocument core.now }
+    requires document { IsCoreDocument core.now }
     requires whole { AreWhole certificates.now }
     ensures { IfOk result (λ a. IsVerdictOn core.now certificates.now a.status a.text.items) }
 {

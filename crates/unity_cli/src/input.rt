@@ -3,18 +3,18 @@ ghost use Rattle.std.specs.Prelude.{◌≡◌, ◌≤◌, ◌⊎◌, ℕ, None, 
 ghost use Rattle.std.specs.Io.KnownBytes.{IsAtEnd};
 ghost use Rattle.unity_base.specs.Streams.{IsTold, IsLongerThan, LeavesRest};
 ghost use Rattle.unity_parser.specs.Document.{IsDocument};
-ghost use Rattle.name_scopes.specs.WellNamed.{IsWellNamed};
-ghost use Rattle.name_scopes.specs.Answers.{Stops};
-ghost use Rattle.name_scopes.specs.declared.named.NameFault.{NameFault};
-ghost use Rattle.core_documents.specs.Cores.{core_document};
-ghost use Rattle.core_documents.specs.Faults.{expansion_fault};
+ghost use Rattle.names_rules.specs.WellNamed.{IsWellNamed};
+ghost use Rattle.names_rules.specs.Answers.{Stops};
+ghost use Rattle.names_rules.specs.declared.named.NameFault.{NameFault};
+ghost use Rattle.expand_documents.specs.Cores.{core_document};
+ghost use Rattle.expand_documents.specs.Faults.{expansion_fault};
 ghost use Rattle.unity_cli.specs.Input.{IsInput, IsTextOf};
 ghost use Rattle.unity_cli.specs.WellFormed.{document_fault};
 
 use crate::stop::Stop;
 use case_tables::Code;
 use core_terms::CDocument;
-use name_scopes::NameFault;
+use names_rules::NameFault;
 use quantified_assign::expand;
 use ranges_types::{Names, check_names};
 use std::alloc::{AllocError, Global};

@@ -18,7 +18,8 @@ use Rattle.unity_lexer.specs.declared.piece.Piece.TheVariants.{Gap, Token, Fault
 use Rattle.case_tables.specs.TableRows.{symbol_rows}
 use Rattle.unity_lexer.specs.Symbols.{first_symbol}
 use Rattle.unity_lexer.specs.Tokens.{is_blank, is_word_byte, is_word, is_numeral, is_number, begins_with_spare_zero}
-use Rattle.unity_lexer.specs.Tokens.{IsRun, symbol, IsLongestRun, LineEnds, IsGap, blank, comment, Spells, bad_number}
+use Rattle.unity_lexer.specs.Tokens.{IsPieceOfText, symbol, IsLongestRun, LineEnds, IsGap, blank, comment, Spells}
+use Rattle.unity_lexer.specs.Tokens.{bad_number}
 use Rattle.unity_lexer.specs.Tokens.{bad_byte}
 use Rattle.unity_lexer.specs.Pieces.{is_other, IsFront, BeginsWith}
 use Rattle.unity_lexer.proofs.Longest.{opens, and_left, and_right, not_both, run_opens, run_at_other, symbol_opens}
@@ -143,7 +144,8 @@ opens_some p [] o = absurd (not_both false o refl)
 opens_some p (b ∷ bs) o = omega arith
 
 -- a run that begins a text, and the symbol that it is
-symbol_at : (text other after : List ℕ) → opens is_other text ≡ true → text ≡ other ++ after → IsRun other → 0 < length
+symbol_at : (text other after : List ℕ) → opens is_other text ≡ true → text ≡ other ++ after → IsPieceOfText other → 0 <
+    length
     other → (s : Symbol) × Contains symbol_rows (other, s)
 symbol_at text [] after o cut run some = absurd (omega arith)
 symbol_at text (c ∷ cs) after o cut run some = run_at_other c cs (subst (λ t. opens is_other t ≡ true) cut o) run
@@ -162,13 +164,13 @@ symbol_begins text s n o h =
     ) in
     let name_is : take n text ≡ row.name = ap (λ m. take m text) row.size_is ∙ ap (λ t. take (length row.name) t) split
     ∙ take_front row.name (drop (length row.name) text) in
-    let run : IsRun row.name = symbol s row.contains in
+    let run : IsPieceOfText row.name = symbol s row.contains in
     let some : 0 < length row.name = opens_some is_other row.name (symbol_opens row.name s row.contains) in
     let size : length (take n text) ≡ n = ap length name_is ∙ sym row.size_is in (
       (omega (arith, row.size_is, some), omega (arith, row.size_is, fits)),
       record {
         split = sym (take-append-drop n text);
-        is_run = subst IsRun (sym name_is) run;
+        is_run = subst IsPieceOfText (sym name_is) run;
         longest = λ other after cut other_run.
             let empty_or_not : (length other ≡ 0) ⊎ (0 < length other) = grind arith in
             subst (λ m. length other ≤ m) (sym size) (elim empty_or_not [

@@ -12,7 +12,8 @@ use Rattle.std.proofs.lemmas.List.Folds.{length-prefix_len}
 use Rattle.case_tables.specs.declared.symbol_table.Symbol.{Symbol}
 use Rattle.unity_lexer.specs.Pieces.{is_other}
 use Rattle.case_tables.specs.TableRows.{symbol_rows}
-use Rattle.unity_lexer.specs.Tokens.{is_blank, is_word_byte, is_made_of, is_word, is_numeral, IsRun, word, numeral}
+use Rattle.unity_lexer.specs.Tokens.{is_blank, is_word_byte, is_made_of, is_word, is_numeral, IsPieceOfText, word}
+use Rattle.unity_lexer.specs.Tokens.{numeral}
 use Rattle.unity_lexer.specs.Tokens.{symbol, IsLongestRun}
 
 -- tests that both pass, or not
@@ -60,26 +61,28 @@ pub letter_continues : (b : ℕ) → is_ascii_alphabetic b ≡ true → is_word_
 letter_continues b h = grind (arith, common_steps)
 
 -- a run that begins with a letter is a word
-pub run_at_letter : (b : ℕ) (bs : List ℕ) → is_ascii_alphabetic b ≡ true → IsRun (b ∷ bs) → is_word (b ∷ bs) ≡ true
+pub run_at_letter : (b : ℕ) (bs : List ℕ) → is_ascii_alphabetic b ≡ true → IsPieceOfText (b ∷ bs) → is_word (b ∷ bs) ≡
+    true
 run_at_letter b bs h (word made) = made
 run_at_letter b bs h (numeral made) = absurd (letter_no_digit b h (and_left _ _ made))
 run_at_letter b bs h (symbol s here) = absurd (letter_no_other b h (symbol_opens (b ∷ bs) s here))
 
 -- a run that begins with a digit is a numeral
-pub run_at_digit : (b : ℕ) (bs : List ℕ) → is_ascii_digit b ≡ true → IsRun (b ∷ bs) → is_numeral (b ∷ bs) ≡ true
+pub run_at_digit : (b : ℕ) (bs : List ℕ) → is_ascii_digit b ≡ true → IsPieceOfText (b ∷ bs) → is_numeral (b ∷ bs) ≡ true
 run_at_digit b bs h (word made) = absurd (letter_no_digit b (and_left _ _ made) h)
 run_at_digit b bs h (numeral made) = made
 run_at_digit b bs h (symbol s here) = absurd (digit_no_other b h (symbol_opens (b ∷ bs) s here))
 
 -- a run that begins with another byte is a symbol
-pub run_at_other : (b : ℕ) (bs : List ℕ) → is_other b ≡ true → IsRun (b ∷ bs) → (s : Symbol) × Contains symbol_rows
+pub run_at_other : (b : ℕ) (bs : List ℕ) → is_other b ≡ true → IsPieceOfText (b ∷ bs) → (s : Symbol) × Contains
+    symbol_rows
     (b ∷ bs, s)
 run_at_other b bs h (word made) = absurd (letter_no_other b (and_left _ _ made) h)
 run_at_other b bs h (numeral made) = absurd (digit_no_other b (and_left _ _ made) h)
 run_at_other b bs h (symbol s here) = (s, here)
 
 -- a run has a byte
-pub run_opens : (w : List ℕ) → IsRun w → opens (λ b. not (is_blank b) && not (b == 35)) w ≡ true
+pub run_opens : (w : List ℕ) → IsPieceOfText w → opens (λ b. not (is_blank b) && not (b == 35)) w ≡ true
 run_opens [] (word made) = absurd (not_both false made refl)
 run_opens [] (numeral made) = absurd (not_both false made refl)
 run_opens [] (symbol s here) = absurd (not_both false (symbol_opens [] s here) refl)
@@ -134,8 +137,9 @@ module _ (first more : ℕ → Bool) (included : (b : ℕ) → first b ≡ true 
       (passing_front more other after (made_passes other made))
 
   -- and no longer run begins the text, where a run that begins so is made so
-  pub longest_front : (text : List ℕ) → ((b : ℕ) (bs : List ℕ) → first b ≡ true → IsRun (b ∷ bs) → is_made_of first more
-      (b ∷ bs) ≡ true) → ((w : List ℕ) → is_made_of first more w ≡ true → IsRun w)
+  pub longest_front : (text : List ℕ) → ((b : ℕ) (bs : List ℕ) → first b ≡ true → IsPieceOfText (b ∷ bs) → is_made_of
+      first more
+      (b ∷ bs) ≡ true) → ((w : List ℕ) → is_made_of first more w ≡ true → IsPieceOfText w)
       → opens first text ≡ true → IsLongestRun text (take (prefix_len more text) text)
       (drop (prefix_len more text) text)
   longest_front text made_at run_from o = record {
@@ -145,7 +149,8 @@ module _ (first more : ℕ → Bool) (included : (b : ℕ) → first b ≡ true 
         (no_longer other after split run);
   }
     where
-      no_longer : (other after : List ℕ) → text ≡ other ++ after → IsRun other → length other ≤ prefix_len more text
+      no_longer : (other after : List ℕ) → text ≡ other ++ after → IsPieceOfText other → length other ≤ prefix_len more
+          text
       no_longer [] after split run = omega arith
       no_longer (c ∷ cs) after split run = made_no_longer text (c ∷ cs) after split
           (made_at c cs (subst (λ t. opens first t ≡ true) split o) run)

@@ -10,8 +10,10 @@ use Rattle.case_tables.specs.declared.word_table.Word.{Word}
 use Rattle.unity_syntax.specs.declared.token.Token.{Token}
 use Rattle.unity_syntax.specs.declared.token.TokenKind.{TokenKind}
 use Rattle.unity_syntax.specs.declared.token.TokenKind.TheVariants as kind
-use Rattle.unity_lexer.specs.Tokens.{is_blank, is_word, is_numeral, is_number, IsRun, IsLongestRun, LineEnds, IsGap}
-use Rattle.unity_lexer.specs.Tokens.{blank, comment, Spells, Reads, nothing, gap, token, IsFaulty, bad_number, bad_byte}
+use Rattle.unity_lexer.specs.Tokens.{is_blank, is_word, is_numeral, is_number, IsPieceOfText, IsLongestRun, LineEnds}
+use Rattle.unity_lexer.specs.Tokens.{IsGap}
+use Rattle.unity_lexer.specs.Tokens.{blank, comment, Spells, Tokenizes, nothing, gap, token, IsFaulty, bad_number}
+use Rattle.unity_lexer.specs.Tokens.{bad_byte}
 use Rattle.unity_lexer.specs.Tokens.{IsTokens, FirstBad, IsReading}
 use Rattle.unity_lexer.specs.Pieces.{is_other}
 use Rattle.unity_lexer.proofs.Longest.{opens, and_left, and_right, not_both, row_passes, symbol_opens, run_opens}
@@ -133,7 +135,7 @@ record Stops (text : List ℕ) : Type 0 where
   no_token : (run after : List ℕ) (k : TokenKind) → IsLongestRun text run after → Spells run k → ⊥
 
 -- no run begins an empty text
-run_some : (run after : List ℕ) → IsRun run → [] ≡ run ++ after → ⊥
+run_some : (run after : List ℕ) → IsPieceOfText run → [] ≡ run ++ after → ⊥
 run_some [] after is_run cut = not_both false (run_opens [] is_run) refl
 run_some (b ∷ bs) after is_run cut = cc
 
@@ -172,10 +174,10 @@ abbrev Same : List Token → List Token → ℕ → ℕ → List ℕ → List �
 Same ts us end stop rest left = (ts ≡ us) × (end ≡ stop) × (rest ≡ left)
 
 -- reading goes on alike after equal pieces
-reads_at : (at : ℕ) (p q a b : List ℕ) (us : List Token) (stop : ℕ) (left : List ℕ) → p ≡ q → a ≡ b → Reads
-    (at + length q) b us stop left → Reads (at + length p) a us stop left
-reads_at at p q a b us stop left e f reads = subst (λ w. Reads (at + length w) a us stop left) (sym e)
-    (subst (λ t. Reads (at + length q) t us stop left) (sym f) reads)
+reads_at : (at : ℕ) (p q a b : List ℕ) (us : List Token) (stop : ℕ) (left : List ℕ) → p ≡ q → a ≡ b → Tokenizes
+    (at + length q) b us stop left → Tokenizes (at + length p) a us stop left
+reads_at at p q a b us stop left e f reads = subst (λ w. Tokenizes (at + length w) a us stop left) (sym e)
+    (subst (λ t. Tokenizes (at + length q) t us stop left) (sym f) reads)
 
 -- equal tokens before equal ones
 tokens_same : (at : ℕ) (k j : TokenKind) (v w : List ℕ) (ts us : List Token) → k ≡ j → v ≡ w → ts ≡ us → token_at at
@@ -183,8 +185,9 @@ tokens_same : (at : ℕ) (k j : TokenKind) (v w : List ℕ) (ts us : List Token)
 tokens_same at k j v w ts us e f g = (λ i. token_at at (length (f i)) (e i) ∷ g i)
 
 -- two readings up to where nothing more is read are one
-reads_same : {at end stop : ℕ} {text rest left : List ℕ} {ts us : List Token} → Reads at text ts end rest → Stops rest →
-    Reads at text us stop left → Stops left → Same ts us end stop rest left
+reads_same : {at end stop : ℕ} {text rest left : List ℕ} {ts us : List Token} → Tokenizes at text ts end rest → Stops
+    rest →
+    Tokenizes at text us stop left → Stops left → Same ts us end stop rest left
 reads_same nothing halt nothing stop = (refl, refl, refl)
 reads_same nothing halt (gap piece after cut is reads) stop = absurd (halt.no_gap piece after cut is)
 reads_same nothing halt (token run after k longest spells reads) stop = absurd

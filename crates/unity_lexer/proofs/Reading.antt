@@ -2,7 +2,7 @@
 use Rattle.std.proofs.Common.{◌≡◌, ℕ, ◌+◌, List, [], ◌∷◌, ◌++◌, length}
 use Rattle.unity_syntax.specs.declared.token.Token.{Token}
 use Rattle.unity_syntax.specs.declared.token.TokenKind.{TokenKind}
-use Rattle.unity_lexer.specs.Tokens.{IsGap, IsLongestRun, Spells, Reads, nothing, gap, token}
+use Rattle.unity_lexer.specs.Tokens.{IsGap, IsLongestRun, Spells, Tokenizes, nothing, gap, token}
 
 -- a token at a place, of so many bytes
 abbrev pub token_at : ℕ → ℕ → TokenKind → Token
@@ -10,7 +10,7 @@ token_at place size k = record { kind = k; start = place; end = place + size }
 
 -- a gap where reading has come to
 pub reads_gap : {at end : ℕ} {text rest : List ℕ} {tokens : List Token} (piece after : List ℕ) → rest ≡ piece ++ after →
-    IsGap after piece → Reads at text tokens end rest → Reads at text tokens (end + length piece) after
+    IsGap after piece → Tokenizes at text tokens end rest → Tokenizes at text tokens (end + length piece) after
 reads_gap piece after split is_gap nothing = gap piece after split is_gap nothing
 reads_gap piece after split is_gap (gap first more cut is reads) = gap first more cut is
     (reads_gap piece after split is_gap reads)
@@ -19,8 +19,8 @@ reads_gap piece after split is_gap (token run more k longest spells reads) = tok
 
 -- a token there
 pub reads_token : {at end : ℕ} {text rest : List ℕ} {tokens : List Token} (run after : List ℕ) (k : TokenKind) →
-    IsLongestRun rest run after → Spells run k → Reads at text tokens end rest
-    → Reads at text (tokens ++ token_at end (length run) k ∷ []) (end + length run) after
+    IsLongestRun rest run after → Spells run k → Tokenizes at text tokens end rest
+    → Tokenizes at text (tokens ++ token_at end (length run) k ∷ []) (end + length run) after
 reads_token run after k longest spells nothing = token run after k longest spells nothing
 reads_token run after k longest spells (gap first more cut is reads) = gap first more cut is
     (reads_token run after k longest spells reads)

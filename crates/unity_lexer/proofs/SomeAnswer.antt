@@ -17,7 +17,8 @@ use Rattle.unity_syntax.specs.declared.token.TokenKind.TheVariants as kind
 use Rattle.unity_lexer.specs.declared.piece.Piece.{Piece}
 use Rattle.unity_lexer.specs.declared.piece.Piece.TheVariants as pieces
 use Rattle.unity_lexer.specs.Symbols.{first_symbol}
-use Rattle.unity_lexer.specs.Tokens.{is_blank, is_word_byte, is_number, Spells, Reads, nothing, gap, token, IsFaulty}
+use Rattle.unity_lexer.specs.Tokens.{is_blank, is_word_byte, is_number, Spells, Tokenizes, nothing, gap, token}
+use Rattle.unity_lexer.specs.Tokens.{IsFaulty}
 use Rattle.unity_lexer.specs.Tokens.{IsTokens, FirstBad, IsReading, AreInOrder, IsSpelledIn}
 use Rattle.unity_lexer.specs.Pieces.{is_other, BeginsWith}
 use Rattle.unity_lexer.proofs.Longest.{opens, run_opens}
@@ -83,7 +84,7 @@ record Ends (at : ℕ) (text : List ℕ) : Type 0 where
   tokens : List Token
   place : ℕ
   rest : List ℕ
-  reads : Reads at text tokens place rest
+  reads : Tokenizes at text tokens place rest
   ended : (rest ≡ []) ⊎ ((code : Code) × IsFaulty rest code)
 
 -- reading ends, whatever the text
@@ -125,7 +126,8 @@ ends (suc n) at (b ∷ bs) l = on (λ place t short. ends n place t short) (begu
     }
 
 -- as many bytes are passed as the place rises
-pub reads_place : {at end : ℕ} {text rest : List ℕ} {ts : List Token} → Reads at text ts end rest → at + length text ≡
+pub reads_place : {at end : ℕ} {text rest : List ℕ} {ts : List Token} → Tokenizes at text ts end rest → at + length
+    text ≡
     end + length rest
 reads_place nothing = refl
 reads_place (gap piece after cut is reads) = let e = reads_place reads in omega
@@ -142,8 +144,8 @@ some_reading text = at (ends (length text) 0 text (omega arith))
       | inl none ↦
           let place_is : e.place ≡ length text = omega (arith, reads_place e.reads, ap length none) in (
             Ok e.tokens,
-            subst (λ n. Reads 0 text e.tokens n []) place_is
-                (subst (λ r. Reads 0 text e.tokens e.place r) none e.reads),
+            subst (λ n. Tokenizes 0 text e.tokens n []) place_is
+                (subst (λ r. Tokenizes 0 text e.tokens e.place r) none e.reads),
           )
       | inr bad ↦ (Err (bad.0, e.place), record { tokens = e.tokens; rest = e.rest; reads = e.reads; faulty = bad.1 })
     ]
@@ -154,7 +156,7 @@ earlier [] m n to l h = omega arith
 earlier (t ∷ ts) m n to l h = (omega (arith, h.0), h.1, h.2)
 
 -- tokens that are read stand in order
-in_order : {at end : ℕ} {text rest : List ℕ} {ts : List Token} → Reads at text ts end rest → AreInOrder at end ts
+in_order : {at end : ℕ} {text rest : List ℕ} {ts : List Token} → Tokenizes at text ts end rest → AreInOrder at end ts
 in_order nothing = omega arith
 in_order (gap piece after cut is reads) = earlier _ _ _ _ (omega arith) (in_order reads)
 in_order (token run after k longest spells reads) = (
@@ -186,7 +188,8 @@ longer_front : (front piece : List ℕ) (at : ℕ) → length front ≡ at → l
 longer_front front piece at e = omega (arith, length-append front piece)
 
 -- each token is spelled at its place in the whole text
-spelled : {at end : ℕ} {text rest : List ℕ} {ts : List Token} (front : List ℕ) → length front ≡ at → Reads at text ts
+spelled : {at end : ℕ} {text rest : List ℕ} {ts : List Token} (front : List ℕ) → length front ≡ at → Tokenizes at text
+    ts
     end rest → AllByRecursion (IsSpelledIn (front ++ text)) ts
 spelled front e nothing = tt
 spelled {ts = ts} front e (gap piece after cut is reads) =

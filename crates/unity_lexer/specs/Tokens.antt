@@ -54,16 +54,16 @@ Spells w (kind.Reserved r) = Contains word_rows (w, r)
 Spells w (kind.Symbol s) = Contains symbol_rows (w, s)
 
 -- what is read as one piece: a word, a numeral, be it a number or not, or a symbol
-pub data IsRun : List ℕ → Type 0 where
-  word : {w : List ℕ} → IsTrue (is_word w) → IsRun w
-  numeral : {w : List ℕ} → IsTrue (is_numeral w) → IsRun w
-  symbol : {w : List ℕ} (s : Symbol) → Contains symbol_rows (w, s) → IsRun w
+pub data IsPieceOfText : List ℕ → Type 0 where
+  word : {w : List ℕ} → IsTrue (is_word w) → IsPieceOfText w
+  numeral : {w : List ℕ} → IsTrue (is_numeral w) → IsPieceOfText w
+  symbol : {w : List ℕ} (s : Symbol) → Contains symbol_rows (w, s) → IsPieceOfText w
 
 -- the text is this run and then the rest, and no longer run begins it
 pub record IsLongestRun (text run rest : List ℕ) : Type 0 where
   pub split : text ≡ run ++ rest
-  pub is_run : IsRun run
-  pub longest : (other after : List ℕ) → text ≡ other ++ after → IsRun other → length other ≤ length run
+  pub is_run : IsPieceOfText run
+  pub longest : (other after : List ℕ) → text ≡ other ++ after → IsPieceOfText other → length other ≤ length run
 
 -- a line ends here: with the text, or with a line feed
 abbrev pub LineEnds : List ℕ → Type 0
@@ -78,16 +78,16 @@ pub data IsGap (rest : List ℕ) : List ℕ → Type 0 where
       → IsGap rest (35 ∷ line)
 
 -- a text that begins at the place `at` is read into these tokens, up to `end`, where the rest begins
-pub data Reads : (at : ℕ) (text : List ℕ) (tokens : List Token) (end : ℕ) (rest : List ℕ) → Type 0 where
-  nothing : {at : ℕ} {text : List ℕ} → Reads at text [] at text
+pub data Tokenizes : (at : ℕ) (text : List ℕ) (tokens : List Token) (end : ℕ) (rest : List ℕ) → Type 0 where
+  nothing : {at : ℕ} {text : List ℕ} → Tokenizes at text [] at text
   gap : {at end : ℕ} {text rest : List ℕ} {tokens : List Token} (piece after : List ℕ)
       → text ≡ piece ++ after → IsGap after piece
-      → Reads (at + length piece) after tokens end rest
-      → Reads at text tokens end rest
+      → Tokenizes (at + length piece) after tokens end rest
+      → Tokenizes at text tokens end rest
   token : {at end : ℕ} {text rest : List ℕ} {tokens : List Token} (run after : List ℕ) (k : TokenKind)
       → IsLongestRun text run after → Spells run k
-      → Reads (at + length run) after tokens end rest
-      → Reads at text (record { kind = k; start = at; end = at + length run } ∷ tokens) end rest
+      → Tokenizes (at + length run) after tokens end rest
+      → Tokenizes at text (record { kind = k; start = at; end = at + length run } ∷ tokens) end rest
 
 -- nothing is read where this text begins, and why: a numeral that is no number, or no gap and no run
 pub data IsFaulty : List ℕ → Code → Type 0 where
@@ -96,18 +96,18 @@ pub data IsFaulty : List ℕ → Code → Type 0 where
       → IsFaulty text BadNumber
   bad_byte : {text : List ℕ}
       → text ≢ []
-      → ((piece after : List ℕ) → text ≡ piece ++ after → (IsGap after piece → ⊥) × (IsRun piece → ⊥))
+      → ((piece after : List ℕ) → text ≡ piece ++ after → (IsGap after piece → ⊥) × (IsPieceOfText piece → ⊥))
       → IsFaulty text BadByte
 
 -- the whole text is read into these tokens
 abbrev pub IsTokens : List ℕ → List Token → Type 0
-IsTokens text tokens = Reads 0 text tokens (length text) []
+IsTokens text tokens = Tokenizes 0 text tokens (length text) []
 
 -- the text is read up to this place, and there nothing more can be read
 pub record FirstBad (text : List ℕ) (code : Code) (place : ℕ) : Type 0 where
   pub tokens : List Token
   pub rest : List ℕ
-  pub reads : Reads 0 text tokens place rest
+  pub reads : Tokenizes 0 text tokens place rest
   pub faulty : IsFaulty rest code
 
 -- how a text is read: into its tokens, or up to its first fault
@@ -116,9 +116,9 @@ IsReading text (Ok tokens) = IsTokens text tokens
 IsReading text (Err (code, place)) = FirstBad text code place
 
 -- why a text is refused: its first fault, or no memory
-abbrev pub IsRefused : List ℕ → SyntaxFault → Type 0
-IsRefused text (Fault code place) = FirstBad text code place
-IsRefused text Memory = Unit {0}
+abbrev pub IsTokenRefusal : List ℕ → SyntaxFault → Type 0
+IsTokenRefusal text (Fault code place) = FirstBad text code place
+IsTokenRefusal text Memory = Unit {0}
 
 -- from one place up to another: each token has a byte, and none begins before the last one ends
 abbrev pub AreInOrder : ℕ → ℕ → List Token → Type 0
@@ -130,8 +130,8 @@ abbrev pub IsSpelledIn : List ℕ → Token → Type 0
 IsSpelledIn text t = Spells (slice_range text t.start t.end) t.kind
 
 -- from one place on, the text is read into these tokens up to another, and no further than to its end
-pub record IsPart (from : ℕ) (text : List ℕ) (tokens : List Token) (end : ℕ) : Type 0 where
-  pub reads : Reads from (drop from text) tokens end (drop end text)
+pub record IsPartRead (from : ℕ) (text : List ℕ) (tokens : List Token) (end : ℕ) : Type 0 where
+  pub reads : Tokenizes from (drop from text) tokens end (drop end text)
   pub within : end ≤ length text
   -- each token has a byte
   pub size : from + length tokens ≤ end
@@ -140,7 +140,7 @@ pub record IsPart (from : ℕ) (text : List ℕ) (tokens : List Token) (end : �
 pub record FirstBadFrom (from : ℕ) (text : List ℕ) (code : Code) (place : ℕ) : Type 0 where
   pub tokens : List Token
   pub rest : List ℕ
-  pub reads : Reads from (drop from text) tokens place rest
+  pub reads : Tokenizes from (drop from text) tokens place rest
   pub faulty : IsFaulty rest code
 
 -- why a text is refused from this place on: its first fault there, or no memory

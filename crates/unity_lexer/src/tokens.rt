@@ -1,7 +1,8 @@
 //! The tokens of a text.
 
 ghost use Rattle.std.specs.Prelude.{◌≡◌, ◌≤◌, IfOk, IfErr, OnOk, length, None, All};
-ghost use Rattle.unity_lexer.specs.Tokens.{IsTokens, IsRefused, IsPart, IsRefusedFrom, AreInOrder, IsSpelledIn};
+ghost use Rattle.unity_lexer.specs.Tokens.{IsTokens, IsTokenRefusal, IsPartRead, IsRefusedFrom, AreInOrder};
+ghost use Rattle.unity_lexer.specs.Tokens.{IsSpelledIn};
 
 use crate::piece::{Piece, first_piece};
 use std::alloc::Global;
@@ -29,7 +30,7 @@ pub fn lex(alloc: Global, bytes: &[u8]) -> Result<Seq<Token>, SyntaxFault>
     ensures tokens { IfOk result (λ tokens. IsTokens bytes.now tokens) }
     ensures places { IfOk result (λ tokens. AreInOrder 0 (length bytes.now) tokens) }
     ensures spelled { IfOk result (λ tokens. All (IsSpelledIn bytes.now) tokens) }
-    ensures fault { IfErr result (λ fault. IsRefused bytes.now fault) }
+    ensures fault { IfErr result (λ fault. IsTokenRefusal bytes.now fault) }
 {
     match lex_part(alloc, bytes, 0, None) {
         Ok(part) => Ok(part.tokens),
@@ -46,7 +47,7 @@ pub fn lex_part(
     last: Option<TokenKind>,
 ) -> Result<TokenPart, SyntaxFault>
     requires { from ≤ length bytes.now }
-    ensures part { IfOk result (λ part. IsPart from bytes.now part.tokens part.end) }
+    ensures part { IfOk result (λ part. IsPartRead from bytes.now part.tokens part.end) }
     ensures whole { IfOk result (λ part. last ≡ None → part.end ≡ length bytes.now) }
     ensures fault { IfErr result (λ fault. IsRefusedFrom from bytes.now fault) }
 {

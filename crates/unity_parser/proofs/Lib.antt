@@ -1,3 +1,5 @@
+pub mod CertificateLoops
+pub mod NodeForms
 pub mod ItemForms
 pub mod NoBrackets
 pub mod Parsed

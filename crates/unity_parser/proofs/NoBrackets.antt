@@ -4,13 +4,16 @@ use Rattle.std.proofs.Common.{None, refl, ap, ◌∙◌}
 use Rattle.std.specs.List.{list_all}
 use Rattle.std.proofs.lemmas.Bool.{and_parts}
 use Rattle.std.proofs.lemmas.List.Folds.{list_all-append}
-use Rattle.ebnf.specs.Ebnf.{Terminal, Tree, Ebnf, token, valued, version, both, either, maybe, many, numbered, named}
-use Rattle.ebnf.specs.Ebnf.{prefix_trees, inside, Grammar, has, Derives, is_token, is_valued, is_version, is_both}
-use Rattle.ebnf.specs.Ebnf.{is_left, is_right, is_none, is_some, is_nil, is_more, is_no_number, is_next_number}
-use Rattle.ebnf.specs.Ebnf.{is_no_tree, is_next_node, is_named, is_inside}
-use Rattle.ebnf.specs.LookAhead.{apart}
-use Rattle.ebnf.specs.Answers.{overfull, deeper}
-use Rattle.ebnf.proofs.Classes.{apart_has, not_true}
+use Rattle.grammar_theory.specs.Ebnf.{Terminal, Tree, Ebnf, token, valued, version, both, either, maybe, many, numbered}
+use Rattle.grammar_theory.specs.Ebnf.{named}
+use Rattle.grammar_theory.specs.Ebnf.{prefix_trees, inside, Grammar, has, Derives, is_token, is_valued, is_version}
+use Rattle.grammar_theory.specs.Ebnf.{is_both}
+use Rattle.grammar_theory.specs.Ebnf.{is_left, is_right, is_none, is_some, is_nil, is_more, is_no_number}
+use Rattle.grammar_theory.specs.Ebnf.{is_next_number}
+use Rattle.grammar_theory.specs.Ebnf.{is_no_tree, is_next_node, is_named, is_inside}
+use Rattle.grammar_theory.specs.LookAhead.{apart}
+use Rattle.grammar_theory.specs.Answers.{overfull, deeper}
+use Rattle.grammar_theory.proofs.Classes.{apart_has, not_true}
 use Rattle.unity_syntax.specs.Grammar.{grammar, certificates_}
 use Rattle.unity_syntax.proofs.Productions.{all_productions}
 

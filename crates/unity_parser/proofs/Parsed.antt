@@ -1,10 +1,10 @@
 -- From what the reader does to what the answer means.
 use Rattle.std.proofs.Common.{◌≡◌, ℕ, suc, ◌≤◌, List, [], ◌∷◌, length, Result, Ok, Err, subst, sym, ap, refl, arith}
-use Rattle.ebnf.specs.Ebnf.{Tree}
-use Rattle.ebnf.specs.Reader.{Fault, Unexpected, OtherVersion, TooDeep, read_whole}
-use Rattle.ebnf.specs.Words.{Word, words, spelled, IsSublist, is_done, is_left_out, is_kept}
-use Rattle.ebnf.proofs.Theorems.{exact}
-use Rattle.ebnf.proofs.WordOrder.{words_kept}
+use Rattle.grammar_theory.specs.Ebnf.{Tree}
+use Rattle.grammar_theory.specs.Reader.{Fault, Unexpected, OtherVersion, TooDeep, read_whole}
+use Rattle.grammar_theory.specs.Words.{Word, words, spelled, IsSublist, is_done, is_left_out, is_kept}
+use Rattle.grammar_theory.proofs.Theorems.{exact}
+use Rattle.grammar_theory.proofs.WordOrder.{words_kept}
 use Rattle.unity_syntax.specs.declared.token.Token.{Token}
 use Rattle.unity_syntax.specs.declared.document.Document.{Document}
 use Rattle.unity_syntax.specs.declared.fault.SyntaxFault.{SyntaxFault}
@@ -13,16 +13,16 @@ use Rattle.unity_syntax.specs.Grammar.{grammar, document_}
 use Rattle.unity_syntax.specs.View.{view}
 use Rattle.unity_syntax.proofs.LookAhead.{grammar_is, document_is}
 use Rattle.unity_syntax.proofs.WordsKept.{bodies_keep, document_keeps}
-use Rattle.token_cursor.specs.declared.stop.Stop.{Stop}
-use Rattle.token_cursor.specs.Gives.{Fails, remaining}
+use Rattle.parser_expressions.specs.declared.stop.Stop.{Stop}
+use Rattle.parser_expressions.specs.Gives.{Fails, remaining}
 use Rattle.unity_lexer.specs.Tokens.{AreInOrder}
-use Rattle.unity_parser.specs.ParseAnswers.{most_brackets, IsExact, IsDocumentOf, IsRefusal, IsRefusedFor, Names}
+use Rattle.unity_parser.specs.ParseAnswers.{most_brackets, IsExactAnswer, IsDocumentOf, IsRefusal, IsRefusedFor, Names}
 use Rattle.unity_parser.specs.ParseAnswers.{WordsRise, code_of, rest_of, beginning}
 
 -- the reader's answer is exact
 exactly : (bytes : List ℕ) (tokens : List Token) (answer : Result Tree Fault) → read_whole grammar most_brackets
-    document_ (terminals bytes tokens) ≡ answer → IsExact bytes tokens answer
-exactly bytes tokens answer e = subst (λ r. IsExact bytes tokens r) e
+    document_ (terminals bytes tokens) ≡ answer → IsExactAnswer bytes tokens answer
+exactly bytes tokens answer e = subst (λ r. IsExactAnswer bytes tokens r) e
     (exact grammar grammar_is document_ document_is most_brackets (terminals bytes tokens))
 
 pub is_document : (bytes : List ℕ) (tokens : List Token) (d : Document) → read_whole grammar most_brackets document_

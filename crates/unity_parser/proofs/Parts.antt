@@ -3,9 +3,10 @@ use Rattle.std.proofs.Common.{◌≡◌, ℕ, List, [], ◌∷◌, ◌++◌, ◌
 use Rattle.std.proofs.Common.{subst, append_assoc}
 use Rattle.std.specs.Prelude.{IsTrue}
 use Rattle.case_tables.specs.declared.word_table.Word.{Word}
-use Rattle.ebnf.specs.Ebnf.{Terminal, Tree, pair, none, some, node, Ebnf, token, both, maybe, named, Grammar, has}
-use Rattle.ebnf.specs.Ebnf.{place_of, Derives, is_token, is_both, is_none, is_some, is_named}
-use Rattle.ebnf.proofs.Classes.{has_one}
+use Rattle.grammar_theory.specs.Ebnf.{Terminal, Tree, pair, none, some, node, Ebnf, token, both, maybe, named, Grammar}
+use Rattle.grammar_theory.specs.Ebnf.{has}
+use Rattle.grammar_theory.specs.Ebnf.{place_of, Derives, is_token, is_both, is_none, is_some, is_named}
+use Rattle.grammar_theory.proofs.Classes.{has_one}
 use Rattle.unity_syntax.specs.declared.certificate.Certificates.{Certificates}
 use Rattle.unity_syntax.specs.declared.document.Document.{Document}
 use Rattle.unity_syntax.specs.Classes.{reserved}

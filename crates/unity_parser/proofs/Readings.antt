@@ -2,11 +2,11 @@
 use Rattle.std.proofs.Common.{◌≡◌, ◌⊎◌, inl, inr, ℕ, List, Result, Ok, Err, IfOk, IfErr, refl, sym, ◌∙◌, ap, subst}
 use Rattle.std.proofs.Common.{length}
 use Rattle.case_tables.specs.declared.code_table.Code.{Code}
-use Rattle.ebnf.specs.Ebnf.{Tree}
-use Rattle.ebnf.specs.Reader.{Fault, read_whole}
-use Rattle.ebnf.specs.Words.{words}
-use Rattle.ebnf.proofs.OneAnswer.{one_answer}
-use Rattle.ebnf.proofs.Theorems.{exact}
+use Rattle.grammar_theory.specs.Ebnf.{Tree}
+use Rattle.grammar_theory.specs.Reader.{Fault, read_whole}
+use Rattle.grammar_theory.specs.Words.{words}
+use Rattle.grammar_theory.proofs.OneAnswer.{one_answer}
+use Rattle.grammar_theory.proofs.Theorems.{exact}
 use Rattle.unity_syntax.specs.declared.token.Token.{Token}
 use Rattle.unity_syntax.specs.declared.fault.SyntaxFault.{SyntaxFault}
 use Rattle.unity_syntax.specs.declared.document.Document.{Document}
@@ -19,17 +19,19 @@ use Rattle.unity_syntax.proofs.EachTree.{each_tree_}
 use Rattle.unity_lexer.specs.Tokens.{IsTokens, IsReading, AreInOrder}
 use Rattle.unity_lexer.proofs.SomeAnswer.{IsTokens-in_order, some_reading as some_tokens}
 use Rattle.unity_lexer.proofs.OneAnswer.{IsTokens-unique, FirstBad-unique, IsTokens-no_fault}
-use Rattle.unity_parser.specs.ParseAnswers.{IsExact, IsRefusal, IsRefusedFor, WordsRise, code_of, rest_of, beginning}
+use Rattle.unity_parser.specs.ParseAnswers.{IsExactAnswer, IsRefusal, IsRefusedFor, WordsRise, code_of, rest_of}
+use Rattle.unity_parser.specs.ParseAnswers.{beginning}
 use Rattle.unity_parser.specs.Document.{IsTextFault, IsDocument, IsFault, no_token, no_document, SomeReading}
 use Rattle.unity_parser.specs.Document.{OneDocument, NoFault, OneFault}
 
 -- A text of these tokens is a document, or has a first fault.
-by_answer : (bytes : List ℕ) (ts : List Token) → IsTokens bytes ts → (answer : Result Tree Fault) → IsExact bytes ts
+by_answer : (bytes : List ℕ) (ts : List Token) → IsTokens bytes ts → (answer : Result Tree Fault) → IsExactAnswer bytes
+    ts
     answer →
     ((d : Document) × IsDocument bytes d) ⊎ ((code : Code) × (at : ℕ) × IsFault bytes code at)
 by_answer bytes ts l (Ok x) e =
     let v = each_tree_ x (terminals bytes ts) e.0 in
-    inl (v.of, record { tokens = ts; lexed = l; parsed = subst (λ y. IsExact bytes ts (Ok y)) (sym v.same) e })
+    inl (v.of, record { tokens = ts; lexed = l; parsed = subst (λ y. IsExactAnswer bytes ts (Ok y)) (sym v.same) e })
 by_answer bytes ts l (Err f) e =
     inr (
       code_of f,
@@ -49,10 +51,10 @@ some_reading bytes = let r = some_tokens bytes in by_tokens bytes r.0 r.1
 
 -- the tokens of a text have one answer
 read_once : (bytes : List ℕ) (ts us : List Token) → IsTokens bytes ts → IsTokens bytes us → (a b : Result Tree Fault) →
-    IsExact bytes ts a → IsExact bytes us b → a ≡ b
+    IsExactAnswer bytes ts a → IsExactAnswer bytes us b → a ≡ b
 read_once bytes ts us l m a b r s =
     one_answer grammar document_ (terminals bytes ts) grammar_is document_is 200 a b r
-    (subst (λ xs. IsExact bytes xs b) (IsTokens-unique bytes us ts m l) s)
+    (subst (λ xs. IsExactAnswer bytes xs b) (IsTokens-unique bytes us ts m l) s)
 
 pub one_document : OneDocument
 one_document bytes d e a b =

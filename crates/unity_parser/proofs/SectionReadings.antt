@@ -4,12 +4,12 @@ use Rattle.std.proofs.Common.{Some, None, ◌==◌, refl, sym, ap, ◌∙◌, su
 use Rattle.std.proofs.lemmas.Bool.{eqb-true}
 use Rattle.std.proofs.lemmas.List.{map-append}
 use Rattle.case_tables.specs.declared.word_table.Word.{Word}
-use Rattle.ebnf.specs.Ebnf.{Terminal, Tree, unit, fixed, numbered, numbered_item, has, Derives}
-use Rattle.ebnf.specs.Ebnf.{is_token, is_both, is_named, is_no_number, is_next_number}
-use Rattle.ebnf.specs.Answers.{overfull}
-use Rattle.ebnf.specs.Words.{words}
-use Rattle.ebnf.proofs.Classes.{has_itself}
-use Rattle.ebnf.proofs.Starts.{starts}
+use Rattle.grammar_theory.specs.Ebnf.{Terminal, Tree, unit, fixed, numbered, numbered_item, has, Derives}
+use Rattle.grammar_theory.specs.Ebnf.{is_token, is_both, is_named, is_no_number, is_next_number}
+use Rattle.grammar_theory.specs.Answers.{overfull}
+use Rattle.grammar_theory.specs.Words.{words}
+use Rattle.grammar_theory.proofs.Classes.{has_itself}
+use Rattle.grammar_theory.proofs.Starts.{starts}
 use Rattle.unity_syntax.specs.declared.token.Token.{Token}
 use Rattle.unity_syntax.specs.declared.token.TokenKind.{TokenKind}
 use Rattle.unity_syntax.specs.declared.certificate.CertText.{CertText}
@@ -19,7 +19,7 @@ use Rattle.unity_syntax.specs.Classes.{number_class, reserved, terminal, termina
 use Rattle.unity_syntax.specs.Grammar.{grammar, certificate_, certificates_, document_}
 use Rattle.unity_syntax.specs.View.{view, view_certificate, view_certificates, view_list}
 use Rattle.unity_syntax.proofs.Productions.{all_productions}
-use Rattle.unity_lexer.specs.Tokens.{Reads, nothing, gap, token, IsPart}
+use Rattle.unity_lexer.specs.Tokens.{Tokenizes, nothing, gap, token, IsPartRead}
 use Rattle.unity_lexer.proofs.SomeAnswer.{IsTokens-in_order}
 use Rattle.unity_parser.specs.ParseAnswers.{IsDocumentOf, WordsRise, most_brackets}
 use Rattle.unity_parser.specs.Document.{IsDocument}
@@ -30,7 +30,7 @@ use Rattle.unity_parser.proofs.Parts.{After, Parts, parts_of}
 
 -- what is read up to a place, and what is read from there on
 reads_then : {at mid end : ℕ} {text from rest : List ℕ} {first second : List Token} →
-    Reads at text first mid from → Reads mid from second end rest → Reads at text (first ++ second) end rest
+    Tokenizes at text first mid from → Tokenizes mid from second end rest → Tokenizes at text (first ++ second) end rest
 reads_then nothing later = later
 reads_then (gap piece after cut is_gap reads) later = gap piece after cut is_gap (reads_then reads later)
 reads_then (token run after k long spells reads) later = token run after k long spells (reads_then reads later)
@@ -52,7 +52,7 @@ has_token bytes number x (t ∷ ts) d = omega arith
 
 -- the certificate that all tokens of a part are
 pub item_of : (bytes : List ℕ) (number from : ℕ) (x : CertText) (end : ℕ) (tokens : List Token) →
-    IsPart from bytes tokens end →
+    IsPartRead from bytes tokens end →
     Derives grammar (numbered_item number number_class certificate_) (view_certificate x) (terminals bytes tokens) →
     IsItem bytes number from x end
 item_of bytes number from x end tokens part d = record {
@@ -64,12 +64,12 @@ item_of bytes number from x end tokens part d = record {
 }
 
 -- the end of a section that all tokens of a part are
-pub end_of : (bytes : List ℕ) (from end : ℕ) (tokens : List Token) → IsPart from bytes tokens end →
+pub end_of : (bytes : List ℕ) (from end : ℕ) (tokens : List Token) → IsPartRead from bytes tokens end →
     end ≡ length bytes → Derives grammar (fixed (reserved Word.End)) unit (terminals bytes tokens) → IsEnd bytes from
 end_of bytes from end tokens part at_end d = record {
   tokens = tokens;
-  reads = subst (λ n. Reads from (drop from bytes) tokens n []) at_end
-      (subst (λ rest. Reads from (drop from bytes) tokens end rest) (drop_to_end end bytes at_end) part.reads);
+  reads = subst (λ n. Tokenizes from (drop from bytes) tokens n []) at_end
+      (subst (λ rest. Tokenizes from (drop from bytes) tokens end rest) (drop_to_end end bytes at_end) part.reads);
   derives = d;
 }
   where
@@ -109,7 +109,8 @@ more_items bytes from items number begin are x end is next e = record {
       ≡ terminals bytes (are.tokens ++ is.tokens) ++ us =
       sym (append_assoc (terminals bytes are.tokens) (terminals bytes is.tokens) us)
       ∙ ap (λ ts. ts ++ us) (sym (terminals_join bytes are.tokens is.tokens)) in
-      subst (λ ts. Derives grammar (numbered 1 number_class certificate_) (view_list view_certificate (next ++ rest)) ts)
+      subst (λ ts. Derives grammar (numbered 1 number_class certificate_) (view_list view_certificate (next ++ rest))
+      ts)
       tokens_are (subst (λ xs. Derives grammar (numbered 1 number_class certificate_) (view_list view_certificate xs)
       (terminals bytes are.tokens ++ (terminals bytes is.tokens ++ us))) list_is all);
   few = let f = are.few in let l = is.longer in omega arith;
@@ -144,7 +145,8 @@ whole_section bytes from items number begin are end at = record {
       (terminals bytes are.tokens) =
       subst (λ xs. Derives grammar (numbered 1 number_class certificate_) (view_list view_certificate xs)
       (terminals bytes are.tokens)) (append-nil items)
-      (subst (λ ts. Derives grammar (numbered 1 number_class certificate_) (view_list view_certificate (items ++ [])) ts)
+      (subst (λ ts. Derives grammar (numbered 1 number_class certificate_) (view_list view_certificate (items ++ []))
+      ts)
       (append-nil (terminals bytes are.tokens)) (are.derives [] [] is_no_number)) in
       subst (λ ts. Derives grammar certificates_ (view_certificates (record { at = at; items = items })) (t ∷ ts))
       (sym (terminals_join bytes are.tokens end.tokens))
@@ -160,7 +162,7 @@ front_is_all d ts parts none =
 
 -- a document without certificates, and then a section of them
 pub document_with : (bytes : List ℕ) (front : List Token) (word : Token) (end : ℕ) (d : Document) (c : Certificates) →
-    IsPart 0 bytes (front ++ word ∷ []) end → IsDocumentOf bytes front d → d.certificates ≡ None →
+    IsPartRead 0 bytes (front ++ word ∷ []) end → IsDocumentOf bytes front d → d.certificates ≡ None →
     word.kind ≡ TokenKind.Reserved Word.Certificates → c.at ≡ word.start → IsSection bytes end c →
     IsDocument bytes (record d { certificates = Some c })
 document_with bytes front word end d c part parsed none kind at s =

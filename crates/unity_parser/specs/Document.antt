@@ -14,8 +14,7 @@ pub record IsDocument (bytes : List ℕ) (d : Document) : Type 0 where
   pub parsed : IsDocumentOf bytes tokens d
 
 -- the first fault of bytes that are no document, with its code and its place: where no token can be read, or else at
--- the
--- first token that no document has there
+-- the first token that no document has there
 pub data IsFault (bytes : List ℕ) (code : Code) (at : ℕ) : Type 0 where
   no_token : FirstBad bytes code at → IsFault bytes code at
   no_document : (tokens : List Token) → IsTokens bytes tokens → IsRefusal bytes tokens code at → IsFault bytes code at

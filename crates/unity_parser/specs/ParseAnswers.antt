@@ -1,30 +1,30 @@
 -- What the answer for a text means.
 use Rattle.std.specs.Prelude.{◌≡◌, ℕ, suc, ◌<◌, ◌≤◌, List, [], ◌∷◌, length, Result, Ok, Err}
 use Rattle.case_tables.specs.declared.code_table.Code.{Code}
-use Rattle.ebnf.specs.Ebnf.{Terminal, Tree}
-use Rattle.ebnf.specs.Reader.{Fault, Unexpected, OtherVersion, TooDeep}
-use Rattle.ebnf.specs.Answers.{IsAnswer}
-use Rattle.ebnf.specs.Words.{Word}
+use Rattle.grammar_theory.specs.Ebnf.{Terminal, Tree}
+use Rattle.grammar_theory.specs.Reader.{Fault, Unexpected, OtherVersion, TooDeep}
+use Rattle.grammar_theory.specs.Answers.{IsReadAnswer}
+use Rattle.grammar_theory.specs.Words.{Word}
 use Rattle.unity_syntax.specs.declared.token.Token.{Token}
 use Rattle.unity_syntax.specs.declared.document.Document.{Document}
 use Rattle.unity_syntax.specs.declared.fault.SyntaxFault.{SyntaxFault}
 use Rattle.unity_syntax.specs.Classes.{terminals}
 use Rattle.unity_syntax.specs.Grammar.{grammar, document_}
 use Rattle.unity_syntax.specs.View.{view}
-use Rattle.token_cursor.specs.declared.stop.Stop.{Stop}
-use Rattle.token_cursor.specs.Gives.{remaining}
+use Rattle.parser_expressions.specs.declared.stop.Stop.{Stop}
+use Rattle.parser_expressions.specs.Gives.{remaining}
 
 -- how many brackets may be open at once
 abbrev pub most_brackets : ℕ
 most_brackets = 200
 
 -- The answer for a text of these tokens, as the grammar has it: the tree of a document, or why there is none.
-abbrev pub IsExact : List ℕ → List Token → Result Tree Fault → Type 0
-IsExact bytes tokens answer = IsAnswer grammar most_brackets document_ (terminals bytes tokens) answer
+abbrev pub IsExactAnswer : List ℕ → List Token → Result Tree Fault → Type 0
+IsExactAnswer bytes tokens answer = IsReadAnswer grammar most_brackets document_ (terminals bytes tokens) answer
 
 -- The text of these tokens is the document.
 abbrev pub IsDocumentOf : List ℕ → List Token → Document → Type 0
-IsDocumentOf bytes tokens d = IsExact bytes tokens (Ok (view d))
+IsDocumentOf bytes tokens d = IsExactAnswer bytes tokens (Ok (view d))
 
 -- the code of a fault
 abbrev pub code_of : Fault → Code
@@ -46,7 +46,7 @@ beginning end (t ∷ ts) = t.place
 -- The text of these tokens has the fault that the code names, at the place.
 pub record IsRefusal (bytes : List ℕ) (tokens : List Token) (code : Code) (at : ℕ) : Type 0 where
   pub fault : Fault
-  pub exact : IsExact bytes tokens (Err fault)
+  pub exact : IsExactAnswer bytes tokens (Err fault)
   pub code_is : code ≡ code_of fault
   pub place_is : at ≡ beginning (length bytes) (rest_of fault)
 

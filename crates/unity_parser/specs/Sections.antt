@@ -1,21 +1,21 @@
 -- A text whose certificates are read one after the other, each from its own tokens.
 use Rattle.std.specs.Prelude.{◌≡◌, ℕ, ◌+◌, ◌<◌, ◌≤◌, List, [], ◌∷◌, ◌++◌, length, drop}
 use Rattle.case_tables.specs.declared.word_table.Word.{Word}
-use Rattle.ebnf.specs.Ebnf.{Terminal, unit, fixed, numbered, numbered_item, Derives}
+use Rattle.grammar_theory.specs.Ebnf.{Terminal, unit, fixed, numbered, numbered_item, Derives}
 use Rattle.unity_syntax.specs.declared.token.Token.{Token}
 use Rattle.unity_syntax.specs.declared.certificate.CertText.{CertText}
 use Rattle.unity_syntax.specs.declared.certificate.Certificates.{Certificates}
 use Rattle.unity_syntax.specs.Classes.{number_class, reserved, terminals}
 use Rattle.unity_syntax.specs.Grammar.{grammar, certificate_, certificates_}
 use Rattle.unity_syntax.specs.View.{view_certificate, view_certificates, view_list}
-use Rattle.unity_lexer.specs.Tokens.{Reads}
+use Rattle.unity_lexer.specs.Tokens.{Tokenizes}
 use Rattle.unity_parser.specs.declared.sections.Next.{Next}
 use Rattle.unity_parser.specs.declared.sections.Next.TheVariants.{Item, End}
 
 -- from one place to another, the text is the certificate of this number
 pub record IsItem (bytes : List ℕ) (number from : ℕ) (x : CertText) (end : ℕ) : Type 0 where
   pub tokens : List Token
-  pub reads : Reads from (drop from bytes) tokens end (drop end bytes)
+  pub reads : Tokenizes from (drop from bytes) tokens end (drop end bytes)
   pub derives : Derives grammar (numbered_item number number_class certificate_) (view_certificate x)
       (terminals bytes tokens)
   pub longer : from < end
@@ -24,7 +24,7 @@ pub record IsItem (bytes : List ℕ) (number from : ℕ) (x : CertText) (end : �
 -- from this place on, the text is the word that ends a section
 pub record IsEnd (bytes : List ℕ) (from : ℕ) : Type 0 where
   pub tokens : List Token
-  pub reads : Reads from (drop from bytes) tokens (length bytes) []
+  pub reads : Tokenizes from (drop from bytes) tokens (length bytes) []
   pub derives : Derives grammar (fixed (reserved Word.End)) unit (terminals bytes tokens)
 
 -- what follows in a section
@@ -35,7 +35,7 @@ IsNext bytes number from End = IsEnd bytes from
 -- up to this place, the text is these certificates of a section, of which the next one has this number
 pub record AreItems (bytes : List ℕ) (from : ℕ) (items : List CertText) (number begin : ℕ) : Type 0 where
   pub tokens : List Token
-  pub reads : Reads from (drop from bytes) tokens begin (drop begin bytes)
+  pub reads : Tokenizes from (drop from bytes) tokens begin (drop begin bytes)
   pub derives : (rest : List CertText) (us : List Terminal) →
       Derives grammar (numbered number number_class certificate_) (view_list view_certificate rest) us →
       Derives grammar (numbered 1 number_class certificate_) (view_list view_certificate (items ++ rest))
@@ -46,6 +46,6 @@ pub record AreItems (bytes : List ℕ) (from : ℕ) (items : List CertText) (num
 -- from this place on, the text is the rest of a section behind its first word
 pub record IsSection (bytes : List ℕ) (from : ℕ) (c : Certificates) : Type 0 where
   pub tokens : List Token
-  pub reads : Reads from (drop from bytes) tokens (length bytes) []
+  pub reads : Tokenizes from (drop from bytes) tokens (length bytes) []
   pub derives : (t : Terminal) → t.class ≡ reserved Word.Certificates → t.place ≡ c.at →
       Derives grammar certificates_ (view_certificates c) (t ∷ terminals bytes tokens)

@@ -2,22 +2,23 @@
 
 ghost use Rattle.std.specs.Prelude.{◌≡◌, [], ◌∷◌};
 ghost use Rattle.case_tables.specs.declared.word_table.Word.{Word};
-ghost use Rattle.ebnf.specs.Ebnf.{many, maybe, node, version};
-ghost use Rattle.ebnf.specs.LookAhead.{first};
-ghost use Rattle.ebnf.specs.Reader.{begins};
+ghost use Rattle.grammar_theory.specs.Ebnf.{many, maybe, node, version};
+ghost use Rattle.grammar_theory.specs.LookAhead.{first};
+ghost use Rattle.grammar_theory.specs.Reader.{begins};
 ghost use Rattle.unity_syntax.specs.Classes.{number_class, reserved};
 ghost use Rattle.unity_syntax.specs.Kinds.{Kind, kind};
 ghost use Rattle.unity_syntax.specs.Grammar.{made, program_, proof_, part_, schedule_, certificates_, document_};
 ghost use Rattle.unity_syntax.specs.View.{view, view_certificates, view_list, view_number, view_option, view_part};
 ghost use Rattle.unity_syntax.specs.View.{view_schedule};
-ghost use Rattle.token_cursor.specs.Gives.{Reads, remaining};
+ghost use Rattle.parser_expressions.specs.Gives.{Reads, remaining};
 
+use crate::certificate::certificates;
+use crate::schedules::schedule;
 use case_tables::Word;
-use certificate_parser::{certificates, schedule};
-use proof_parser::proof;
-use statement_parser::program;
+use parser_expressions::{Cursor, Parsed, Stop};
+use parser_programs::program;
+use parser_proofs::proof;
 use std::alloc::Global;
-use token_cursor::{Cursor, Parsed, Stop};
 use unity_base::{Held, Seq};
 use unity_syntax::{Certificates, Document, Part, Schedule, TokenKind};
 

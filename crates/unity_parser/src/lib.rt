@@ -1,8 +1,10 @@
 //! The reader of documents: from bytes to the one tree that they are, or their first fault.
 #![tactic(auto)]
 
+mod certificate;
 mod documents;
 mod reading;
+mod schedules;
 mod sections;
 mod texts;
 

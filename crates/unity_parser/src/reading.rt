@@ -1,18 +1,18 @@
 //! The one document of a text's tokens, or why there is none.
 
 ghost use Rattle.std.specs.Prelude.{◌≡◌, IfOk, IfErr, length};
-ghost use Rattle.ebnf.specs.Reader.{ended, read_whole};
-ghost use Rattle.ebnf.specs.Words.{words};
+ghost use Rattle.grammar_theory.specs.Reader.{ended, read_whole};
+ghost use Rattle.grammar_theory.specs.Words.{words};
 ghost use Rattle.unity_syntax.specs.Grammar.{grammar, document_};
 ghost use Rattle.unity_syntax.specs.View.{view};
 ghost use Rattle.unity_lexer.specs.Tokens.{AreInOrder};
-ghost use Rattle.token_cursor.specs.Gives.{Gives, Reads, remaining};
+ghost use Rattle.parser_expressions.specs.Gives.{Gives, Reads, remaining};
 ghost use Rattle.unity_parser.specs.ParseAnswers.{beginning, Names, IsDocumentOf, IsRefusedFor, WordsRise};
 
 use crate::documents::document;
 use case_tables::Code;
+use parser_expressions::{Cursor, Stop};
 use std::alloc::Global;
-use token_cursor::{Cursor, Stop};
 use unity_syntax::{Document, SyntaxFault, Token};
 
 /// How many brackets may be open at once.

@@ -2,15 +2,15 @@
 
 ghost use Rattle.std.specs.Prelude.{◌≡◌, ◌≤◌, length, true, MatchOption};
 ghost use Rattle.case_tables.specs.declared.word_table.Word.{Word};
-ghost use Rattle.ebnf.specs.Ebnf.{unit, fixed, Derives};
+ghost use Rattle.grammar_theory.specs.Ebnf.{unit, fixed, Derives};
 ghost use Rattle.unity_syntax.specs.Classes.{reserved, terminals};
 ghost use Rattle.unity_syntax.specs.Grammar.{grammar};
 ghost use Rattle.unity_parser.specs.Sections.{IsNext, IsSection};
 
+use crate::certificate::whole_certificate;
 use case_tables::Symbol;
-use certificate_parser::whole_certificate;
+use parser_expressions::Cursor;
 use std::alloc::Global;
-use token_cursor::Cursor;
 use unity_base::Seq;
 use unity_lexer::{TokenPart, lex_part};
 use unity_syntax::{CertText, Certificates, TokenKind};

@@ -1,8 +1,8 @@
 // The reading of a text: its document, or its first fault.
 ghost use Rattle.std.specs.Prelude.{◌≡◌, IfOk, IfErr, length, Some, MatchOption};
-ghost use Rattle.ebnf.specs.Words.{words};
+ghost use Rattle.grammar_theory.specs.Words.{words};
 ghost use Rattle.unity_syntax.specs.View.{view};
-ghost use Rattle.unity_lexer.specs.Tokens.{IsTokens, IsPart};
+ghost use Rattle.unity_lexer.specs.Tokens.{IsTokens, IsPartRead};
 ghost use Rattle.unity_parser.specs.ParseAnswers.{WordsRise};
 ghost use Rattle.unity_parser.specs.Document.{IsDocument, IsTextFault, SomeReading, OneDocument, NoFault, OneFault};
 
@@ -46,7 +46,7 @@ fn with_section(document: Document, section: Certificates) -> Document
 /// Reads a document whose tokens up to the first word of its certificates are these, and its certificates one after the
 /// other. `None` where the text is no such document, or memory is refused.
 fn by_parts(alloc: Global, bytes: &[u8], front: TokenPart) -> Option<Document>
-    requires { IsPart 0 bytes.now front.tokens front.end }
+    requires { IsPartRead 0 bytes.now front.tokens front.end }
     ensures { MatchOption result (Unit {0}) (IsDocument bytes.now) }
 {
     let TokenPart { mut tokens, end } = front;

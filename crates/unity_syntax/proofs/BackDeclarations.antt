@@ -1,6 +1,6 @@
 -- Reading what stands before a program's statements back from its tree.
 use Rattle.std.proofs.Common.{ℕ, Bool, [], ◌∷◌, refl, ap}
-use Rattle.ebnf.specs.Ebnf.{Tree}
+use Rattle.grammar_theory.specs.Ebnf.{Tree}
 use Rattle.unity_syntax.specs.Kinds.{Kind}
 use Rattle.unity_syntax.specs.View.{view_name, view_plain, view_var_type, view_var, view_def, view_with_minus}
 use Rattle.unity_syntax.specs.View.{view_init_value, view_init}

@@ -1,6 +1,6 @@
 -- Reading programs, proofs, certificates and documents back from their trees.
 use Rattle.std.proofs.Common.{◌≡◌, List, [], ◌∷◌, Option, refl, sym, ap, ◌∙◌}
-use Rattle.ebnf.specs.Ebnf.{Tree, unit, nil, more}
+use Rattle.grammar_theory.specs.Ebnf.{Tree, unit, nil, more}
 use Rattle.unity_syntax.specs.Kinds.{Kind}
 use Rattle.unity_syntax.specs.View.{view_list, view_some, view_var, view_def, view_init, view_initially, view_program}
 use Rattle.unity_syntax.specs.View.{view_inst, view_ref, view_param, view_claim, view_rule, view_step, view_proof}

@@ -1,8 +1,8 @@
 -- Reading names, ranges and expressions back from their trees.
 use Rattle.std.proofs.Common.{◌≡◌, ℕ, List, [], ◌∷◌, map, None, Some, refl, ap, subst, ◌∙◌}
 use Rattle.case_tables.specs.declared.symbol_table.Symbol.{Symbol}
-use Rattle.ebnf.specs.Ebnf.{Tree}
-use Rattle.ebnf.specs.Lists.{list}
+use Rattle.grammar_theory.specs.Ebnf.{Tree}
+use Rattle.grammar_theory.specs.Lists.{list}
 use Rattle.unity_syntax.specs.Kinds.{Kind}
 use Rattle.unity_syntax.specs.View.{view_list, view_signed, view_name, view_number, view_end, view_range, tree_itself}
 use Rattle.unity_syntax.specs.View.{view_expr_step, view_expr}

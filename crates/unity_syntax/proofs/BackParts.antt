@@ -6,7 +6,7 @@ use Rattle.case_tables.specs.declared.word_table.Word.TheVariants.{Unity}
 use Rattle.case_tables.specs.declared.symbol_table.Symbol.{Symbol}
 use Rattle.case_tables.specs.declared.symbol_table.Symbol.TheVariants.{Assign}
 use Rattle.case_tables.specs.TableRows.{word_rows, symbol_rows}
-use Rattle.ebnf.specs.Ebnf.{Tree, unit, leaf, numeral, choice, pair, some, more, node}
+use Rattle.grammar_theory.specs.Ebnf.{Tree, unit, leaf, numeral, choice, pair, some, more, node}
 use Rattle.unity_syntax.specs.Classes.{reserved, symbol}
 use Rattle.unity_syntax.specs.Kinds.{Kind, kind}
 use Rattle.unity_syntax.specs.View.{view_flag, view_option, view_list, view_some, view_signed}

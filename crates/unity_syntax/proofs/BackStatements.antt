@@ -1,7 +1,7 @@
 -- Reading statements back from their trees.
 use Rattle.std.proofs.Common.{◌≡◌, ℕ, List, [], ◌∷◌, map, refl, ap, subst, ◌∙◌}
-use Rattle.ebnf.specs.Ebnf.{Tree, unit}
-use Rattle.ebnf.specs.Lists.{list}
+use Rattle.grammar_theory.specs.Ebnf.{Tree, unit}
+use Rattle.grammar_theory.specs.Lists.{list}
 use Rattle.unity_syntax.specs.Kinds.{Kind}
 use Rattle.unity_syntax.specs.View.{view_expr, view_target, view_values, view_choice, view_choices, view_alts}
 use Rattle.unity_syntax.specs.View.{view_component_step, view_assign_step, view_component, view_assign, view_item_step}

@@ -1,6 +1,6 @@
 -- Reading references and terms back from their trees.
 use Rattle.std.proofs.Common.{◌≡◌, ℕ, [], ◌∷◌, ap, subst, ◌∙◌}
-use Rattle.ebnf.specs.Ebnf.{Tree, unit}
+use Rattle.grammar_theory.specs.Ebnf.{Tree, unit}
 use Rattle.unity_syntax.specs.Kinds.{Kind}
 use Rattle.unity_syntax.specs.View.{view_some, view_name, view_end, view_inst, view_ref, view_term_step, view_term}
 use Rattle.unity_syntax.specs.declared.name.Range.{Range}

@@ -4,7 +4,8 @@ use Rattle.std.proofs.Common.{ap}
 use Rattle.case_tables.specs.declared.word_table.Word.{Word}
 use Rattle.case_tables.specs.declared.symbol_table.Symbol.{Symbol}
 use Rattle.case_tables.specs.declared.symbol_table.Symbol.TheVariants.{Below as below}
-use Rattle.ebnf.specs.Ebnf.{Terminal, Tree, pair, right, more, node, Ebnf, Derives, both, many, prefix_tree, repeated}
+use Rattle.grammar_theory.specs.Ebnf.{Terminal, Tree, pair, right, more, node, Ebnf, Derives, both, many, prefix_tree}
+use Rattle.grammar_theory.specs.Ebnf.{repeated}
 use Rattle.unity_syntax.specs.Classes.{reserved, symbol}
 use Rattle.unity_syntax.specs.Kinds.{Kind, kind, Contents}
 use Rattle.unity_syntax.specs.Grammar.{make_parentheses, make_product, make_sum, make_compare, make_unit, make_joined}

@@ -1,9 +1,10 @@
 -- What holds of every tree of a form, where it is known of what stands in brackets.
 use Rattle.std.proofs.Common.{◌≡◌, ℕ, Bool, true, false, ◌||◌, eqb, eqb-true, inl, inr, List, [], ◌∷◌, map, Option}
 use Rattle.std.proofs.Common.{None, Some, refl, ap, ◌∙◌, subst}
-use Rattle.ebnf.specs.Ebnf.{Tree, unit, choice, pair, left, right, some, more, node, Ebnf, version, both, either, maybe}
-use Rattle.ebnf.specs.Ebnf.{many, numbered, named, inside, fixed, one_of, prefix_tree, has}
-use Rattle.ebnf.specs.Lists.{list}
+use Rattle.grammar_theory.specs.Ebnf.{Tree, unit, choice, pair, left, right, some, more, node, Ebnf, version, both}
+use Rattle.grammar_theory.specs.Ebnf.{either, maybe}
+use Rattle.grammar_theory.specs.Ebnf.{many, numbered, named, inside, fixed, one_of, prefix_tree, has}
+use Rattle.grammar_theory.specs.Lists.{list}
 use Rattle.unity_syntax.specs.Grammar.{past, up_to, ◌or◌, one_or_more, name_, number_}
 use Rattle.unity_syntax.specs.View.{view_flag, view_option, view_list, view_some, view_name, view_number, view_node}
 use Rattle.unity_syntax.specs.declared.name.Name.{Name}

@@ -1,7 +1,7 @@
 -- One token of look-ahead tells what to do, by computation.
 use Rattle.std.proofs.Common.{ℕ, zero, suc, Bool, List, [], ◌∷◌, refl, IsTrue}
-use Rattle.ebnf.specs.Ebnf.{Ebnf}
-use Rattle.ebnf.specs.LookAhead.{good, plain, paired, IsGrammar, IsForm}
+use Rattle.grammar_theory.specs.Ebnf.{Ebnf}
+use Rattle.grammar_theory.specs.LookAhead.{good, plain, paired, IsGrammar, IsForm}
 use Rattle.unity_syntax.specs.Grammar.{grammar, bodies, pred_, document_, at_number}
 use Rattle.unity_syntax.proofs.Productions.{all_productions}
 

@@ -1,11 +1,14 @@
 -- What trees of a form look like, where it is known of what stands in brackets: each derived tree is made so.
 use Rattle.std.proofs.Common.{◌≡◌, ℕ, zero, suc, ◌⊎◌, inl, inr, List, [], ◌∷◌, IsTrue, refl, ap, ◌∙◌}
-use Rattle.ebnf.specs.Ebnf.{Terminal, Tree, unit, numeral, pair, left, right, none, some, more, node, Ebnf, token}
-use Rattle.ebnf.specs.Ebnf.{valued, version, both, either, maybe, many, numbered, prefix_trees, named, inside, Grammar}
-use Rattle.ebnf.specs.Ebnf.{has, Derives, is_token, is_valued, is_version, is_both, is_left, is_right, is_none, is_some}
-use Rattle.ebnf.specs.Ebnf.{is_nil, is_more, is_no_number, is_next_number, is_no_tree, is_next_node, is_named}
-use Rattle.ebnf.specs.Ebnf.{is_inside}
-use Rattle.ebnf.specs.Lists.{list}
+use Rattle.grammar_theory.specs.Ebnf.{Terminal, Tree, unit, numeral, pair, left, right, none, some, more, node, Ebnf}
+use Rattle.grammar_theory.specs.Ebnf.{token}
+use Rattle.grammar_theory.specs.Ebnf.{valued, version, both, either, maybe, many, numbered, prefix_trees, named, inside}
+use Rattle.grammar_theory.specs.Ebnf.{Grammar}
+use Rattle.grammar_theory.specs.Ebnf.{has, Derives, is_token, is_valued, is_version, is_both, is_left, is_right}
+use Rattle.grammar_theory.specs.Ebnf.{is_none, is_some}
+use Rattle.grammar_theory.specs.Ebnf.{is_nil, is_more, is_no_number, is_next_number, is_no_tree, is_next_node, is_named}
+use Rattle.grammar_theory.specs.Ebnf.{is_inside}
+use Rattle.grammar_theory.specs.Lists.{list}
 
 -- each tree of a list is made so
 abbrev pub EachOf : (Tree → Type 0) → List Tree → Type 0

@@ -2,7 +2,7 @@
 use Rattle.std.proofs.Common.{◌≡◌, ℕ, Bool, List, [], ◌∷◌, map, Option, None, Some, refl, sym, ap, ◌∙◌}
 use Rattle.case_tables.specs.declared.word_table.Word.{Word}
 use Rattle.case_tables.specs.declared.symbol_table.Symbol.{Symbol}
-use Rattle.ebnf.specs.Ebnf.{Tree, unit, numeral, choice, pair, more, node}
+use Rattle.grammar_theory.specs.Ebnf.{Tree, unit, numeral, choice, pair, more, node}
 use Rattle.unity_syntax.specs.Classes.{reserved, symbol}
 use Rattle.unity_syntax.specs.Kinds.{Kind, kind}
 use Rattle.unity_syntax.specs.View.{view_flag, view_option, view_list, view_signed, view_name, view_range}

@@ -1,7 +1,7 @@
 -- What stands in brackets is the view of what the typed trees have there.
 use Rattle.std.proofs.Common.{◌≡◌, ℕ, zero, suc, ◌⊎◌, inl, inr, List, [], ◌∷◌, refl}
 use Rattle.case_tables.specs.declared.word_table.Word.{Word}
-use Rattle.ebnf.specs.Ebnf.{Tree, choice, pair, left, right}
+use Rattle.grammar_theory.specs.Ebnf.{Tree, choice, pair, left, right}
 use Rattle.unity_syntax.specs.Classes.{reserved}
 use Rattle.unity_syntax.specs.Kinds.{Contents}
 use Rattle.unity_syntax.specs.View.{view_some, view_name, view_end, view_range, view_expr, view_with_minus, view_assign}

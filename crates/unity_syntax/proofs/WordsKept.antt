@@ -1,8 +1,8 @@
 -- The productions make no words, and put none elsewhere.
 use Rattle.std.proofs.Common.{ℕ, zero, suc, List, [], ◌∷◌}
-use Rattle.ebnf.specs.Ebnf.{Terminal, Tree, pair, left, right, none, some, nil, Ebnf}
-use Rattle.ebnf.specs.Words.{words, spelled, IsSublist, is_done, is_left_out, is_kept, KeepsWords}
-use Rattle.ebnf.proofs.WordOrder.{none_kept, all_kept, kept_first, kept_second, keeps_repeated}
+use Rattle.grammar_theory.specs.Ebnf.{Terminal, Tree, pair, left, right, none, some, nil, Ebnf}
+use Rattle.grammar_theory.specs.Words.{words, spelled, IsSublist, is_done, is_left_out, is_kept, KeepsWords}
+use Rattle.grammar_theory.proofs.WordOrder.{none_kept, all_kept, kept_first, kept_second, keeps_repeated}
 use Rattle.unity_syntax.specs.Grammar.{second, first, chosen, make_parentheses, make_product, make_sum, make_compare}
 use Rattle.unity_syntax.specs.Grammar.{make_unit, make_joined, make_pred, make_program, make_weaken, and_, or_}
 use Rattle.unity_syntax.specs.Grammar.{at_number, bodies, grammar, end_, range_, atom_, product_, sum_, compare_, unit_}

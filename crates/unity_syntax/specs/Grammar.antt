@@ -9,8 +9,10 @@ use Rattle.std.specs.Prelude.{ℕ, zero, suc, false, ◌||◌, ◌==◌, if◌th
 use Rattle.case_tables.specs.declared.word_table.Word.{Word}
 use Rattle.case_tables.specs.declared.symbol_table.Symbol.{Symbol}
 use Rattle.case_tables.specs.declared.symbol_table.Symbol.TheVariants.{Below as below}
-use Rattle.ebnf.specs.Ebnf.{Tree, unit, pair, left, right, none, some, nil, node, Ebnf, version, both, either, maybe}
-use Rattle.ebnf.specs.Ebnf.{many, numbered, prefix_tree, named, inside, fixed, word, number, one_of, repeated, Grammar}
+use Rattle.grammar_theory.specs.Ebnf.{Tree, unit, pair, left, right, none, some, nil, node, Ebnf, version, both, either}
+use Rattle.grammar_theory.specs.Ebnf.{maybe}
+use Rattle.grammar_theory.specs.Ebnf.{many, numbered, prefix_tree, named, inside, fixed, word, number, one_of, repeated}
+use Rattle.grammar_theory.specs.Ebnf.{Grammar}
 use Rattle.unity_syntax.specs.Classes.{name_class, number_class, reserved, symbol}
 use Rattle.unity_syntax.specs.Kinds.{Kind, kind, Contents, contents}
 

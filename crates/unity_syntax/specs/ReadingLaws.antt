@@ -1,8 +1,8 @@
 -- The laws of the grammar of the language, and of the view of the typed trees.
 use Rattle.std.specs.Prelude.{◌≡◌, List}
-use Rattle.ebnf.specs.Ebnf.{Terminal, Tree, Derives}
-use Rattle.ebnf.specs.LookAhead.{IsGrammar, IsForm}
-use Rattle.ebnf.specs.Words.{words, spelled, IsSublist}
+use Rattle.grammar_theory.specs.Ebnf.{Terminal, Tree, Derives}
+use Rattle.grammar_theory.specs.LookAhead.{IsGrammar, IsForm}
+use Rattle.grammar_theory.specs.Words.{words, spelled, IsSublist}
 use Rattle.unity_syntax.specs.Classes.{class_of, value_of}
 use Rattle.unity_syntax.specs.Grammar.{grammar, document_}
 use Rattle.unity_syntax.specs.View.{view}
@@ -10,8 +10,8 @@ use Rattle.unity_syntax.specs.declared.token.TokenKind.{TokenKind}
 use Rattle.unity_syntax.specs.declared.document.Document.{Document}
 
 -- The tokens are those of the document.
-abbrev pub IsDocument : List Terminal → Document → Type 0
-IsDocument ts d = Derives grammar document_ (view d) ts
+abbrev pub AreTokensOf : List Terminal → Document → Type 0
+AreTokensOf ts d = Derives grammar document_ (view d) ts
 
 -- Tokens of one class and one value are of one kind.
 abbrev pub OneKind : Type 0
@@ -22,21 +22,22 @@ abbrev pub OneLookAhead : Type 0
 OneLookAhead = IsGrammar grammar × IsForm grammar document_
 
 -- Tokens have at most one tree.
-abbrev pub OneTree : Type 0
-OneTree = (x y : Tree) (ts : List Terminal) → Derives grammar document_ x ts → Derives grammar document_ y ts → x ≡ y
+abbrev pub OneDocumentTree : Type 0
+OneDocumentTree = (x y : Tree) (ts : List Terminal) → Derives grammar document_ x ts → Derives grammar document_ y ts →
+    x ≡ y
 
 -- Documents with one tree are one document.
 abbrev pub ViewLosesNothing : Type 0
 ViewLosesNothing = (d e : Document) → view d ≡ view e → d ≡ e
 
 -- Tokens are those of at most one document.
-abbrev pub OneDocument : Type 0
-OneDocument = (d e : Document) (ts : List Terminal) → IsDocument ts d → IsDocument ts e → d ≡ e
+abbrev pub OneDocumentOfTokens : Type 0
+OneDocumentOfTokens = (d e : Document) (ts : List Terminal) → AreTokensOf ts d → AreTokensOf ts e → d ≡ e
 
 -- Each tree is that of a document.
 abbrev pub EachTree : Type 0
 EachTree = (x : Tree) (ts : List Terminal) → Derives grammar document_ x ts → (d : Document) × (view d ≡ x)
 
 -- The words of a tree are words of its tokens, in their order, each with the place and the text of a token of its own.
-abbrev pub WordsRise : Type 0
-WordsRise = (x : Tree) (ts : List Terminal) → Derives grammar document_ x ts → IsSublist (words x) (spelled ts)
+abbrev pub WordsInTokenOrder : Type 0
+WordsInTokenOrder = (x : Tree) (ts : List Terminal) → Derives grammar document_ x ts → IsSublist (words x) (spelled ts)

@@ -2,8 +2,8 @@
 -- says which variant it is, its place is the part's `at`, and its parts are the fields in their order.
 use Rattle.std.specs.Prelude.{ℕ, Bool, true, false, List, map, Option, None, Some}
 use Rattle.case_tables.specs.declared.symbol_table.Symbol.{Symbol}
-use Rattle.ebnf.specs.Ebnf.{Tree, unit, leaf, numeral, choice, pair, none, some, more, node}
-use Rattle.ebnf.specs.Lists.{list}
+use Rattle.grammar_theory.specs.Ebnf.{Tree, unit, leaf, numeral, choice, pair, none, some, more, node}
+use Rattle.grammar_theory.specs.Lists.{list}
 use Rattle.unity_syntax.specs.Classes.{reserved, symbol}
 use Rattle.unity_syntax.specs.Kinds.{Kind, kind}
 use Rattle.unity_syntax.specs.declared.name.Name.{Name}

@@ -1,8 +1,8 @@
 //! The laws of the grammar of the whole language, and of the view of the typed trees in the trees that
 //! the grammar makes. These functions do nothing: each states a law.
 
-ghost use Rattle.unity_syntax.specs.ReadingLaws.{OneKind, OneLookAhead, OneTree, EachTree};
-ghost use Rattle.unity_syntax.specs.ReadingLaws.{ViewLosesNothing, OneDocument, WordsRise};
+ghost use Rattle.unity_syntax.specs.ReadingLaws.{OneKind, OneLookAhead, OneDocumentTree, EachTree};
+ghost use Rattle.unity_syntax.specs.ReadingLaws.{ViewLosesNothing, OneDocumentOfTokens, WordsInTokenOrder};
 
 /// Tokens of one class and one value are of one kind.
 pub fn one_kind()
@@ -16,7 +16,7 @@ pub fn is_grammar()
 
 /// Tokens have at most one tree.
 pub fn one_tree()
-    ensures { OneTree }
+    ensures { OneDocumentTree }
 {}
 
 /// Each part of a document can be told from its tree: documents with one tree are one document.
@@ -31,10 +31,10 @@ pub fn each_tree()
 
 /// Tokens are those of at most one document.
 pub fn one_document()
-    ensures { OneDocument }
+    ensures { OneDocumentOfTokens }
 {}
 
 /// The words of a tree are words of its tokens, in their order.
 pub fn words_rise()
-    ensures { WordsRise }
+    ensures { WordsInTokenOrder }
 {}

@@ -3,8 +3,8 @@ use Rattle.std.proofs.Common.{◌≡◌, ◌≢◌, ℕ, zero, suc, nat_eq, ◌<
 use Rattle.std.proofs.Common.{false, cond, Some, None, All, IsTrue, refl, sym, ap, ◌∙◌, subst, inl, inr, arith}
 use Rattle.std.proofs.lemmas.Bool.Decides.{eqb_tells}
 use Rattle.std.proofs.lemmas.List.Elements.{All-head, All-tail}
-use Rattle.state_steps.specs.State.{State, in_range, is_state}
-use Rattle.state_steps.specs.Step.{Write, put, written}
+use Rattle.meaning_states.specs.State.{State, in_range, is_state}
+use Rattle.meaning_states.specs.Step.{Write, put, written}
 use Rattle.core_terms.specs.declared.trees.CForm.{CForm}
 use Rattle.core_terms.specs.declared.programs.CSlot.{CSlot}
 use Rattle.core_terms.specs.declared.programs.CWrite.{CWrite}
@@ -14,7 +14,7 @@ use Rattle.core_terms.specs.Steps.{slot_ranges, outside_writes, inside_writes, c
 use Rattle.core_terms.specs.Folding.{choice_term}
 use Rattle.core_terms.proofs.PartLaws.{value-Slot}
 use Rattle.core_terms.proofs.FoldingLaws.{value-choice_term}
-use Rattle.state_steps.proofs.StepTheorems.{and_right}
+use Rattle.meaning_states.proofs.StepTheorems.{and_right}
 use Rattle.wp_substitution.specs.Preconditions.{slot_after}
 
 length-put : (xs : List ℤ) (n : ℕ) (z : ℤ) → length (put xs n z) ≡ length xs

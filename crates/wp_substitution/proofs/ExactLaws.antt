@@ -2,8 +2,8 @@
 use Rattle.std.proofs.Common.{◌≡◌, ◌<◌, ℤ, List, [], length, Bool, true, false, cond, ◌&&◌, Some, None, All, IsTrue}
 use Rattle.std.proofs.Common.{refl, ap, ◌∙◌, arith}
 use Rattle.std.proofs.lemmas.List.Elements.{All-weaker}
-use Rattle.state_steps.specs.State.{State, is_state}
-use Rattle.state_steps.specs.Step.{is_defined, written}
+use Rattle.meaning_states.specs.State.{State, is_state}
+use Rattle.meaning_states.specs.Step.{is_defined, written}
 use Rattle.core_terms.specs.declared.trees.CTerm.TheVariants.{Param}
 use Rattle.core_terms.specs.declared.trees.CForm.{CForm}
 use Rattle.core_terms.specs.declared.programs.CSlot.{CSlot}

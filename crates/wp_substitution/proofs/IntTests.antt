@@ -3,7 +3,7 @@ use Rattle.std.proofs.Common.{◌≡◌, ℤ, pos, ◌-ℤ◌, ◌≤ℤ◌, ◌
 use Rattle.std.proofs.lemmas.Int.{ints}
 use borrow.Author.Differences.{le-true, le-false}
 use Rattle.std.specs.Int.RustNames.{int_le}
-use Rattle.state_steps.specs.State.{int_eq}
+use Rattle.meaning_states.specs.State.{int_eq}
 
 le_yes : (a b : ℤ) → a ≤ℤ b → int_le a b ≡ true
 le_yes a b h = elim (int_le a b) as (λ v. int_le a b ≡ v → v ≡ true) [

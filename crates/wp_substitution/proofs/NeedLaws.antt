@@ -5,8 +5,8 @@ use Rattle.std.specs.List.{list_all}
 use Rattle.std.specs.Option.{option_map}
 use Rattle.std.proofs.lemmas.List.Folds.{list_all-append, list_all-map}
 use Rattle.std.specs.Int.RustNames.{int_le}
-use Rattle.state_steps.specs.State.{State, Ranges, int_eq, in_range}
-use Rattle.state_steps.specs.Step.{Write, is_inside, agrees, all_agree, is_defined}
+use Rattle.meaning_states.specs.State.{State, Ranges, int_eq, in_range}
+use Rattle.meaning_states.specs.Step.{Write, is_inside, agrees, all_agree, is_defined}
 use Rattle.core_terms.specs.declared.trees.CTerm.{CTerm}
 use Rattle.core_terms.specs.declared.trees.CTerm.TheVariants.{Const}
 use Rattle.core_terms.specs.declared.trees.CForm.{CForm}

@@ -5,7 +5,7 @@ use Rattle.std.proofs.Common.{◌-ℤ◌, length-drop, arith}
 use Rattle.std.specs.Option.{option_map}
 use Rattle.std.proofs.lemmas.Bool.{eq-eqb}
 use Rattle.std.proofs.lemmas.List.{take_all, at_drop_all}
-use Rattle.state_steps.specs.State.{int_eq}
+use Rattle.meaning_states.specs.State.{int_eq}
 use Rattle.core_terms.specs.declared.trees.CTerm.{CTerm, fold-roll-CTerm}
 use Rattle.core_terms.specs.declared.trees.CTerm.TheVariants.{Sub, rolls-Sub}
 use Rattle.core_terms.specs.declared.trees.CForm.{CForm, fold-roll-CForm}

@@ -1,6 +1,6 @@
 -- What the formulas of statements are good for.
 use Rattle.std.specs.Prelude.{◌≡◌, ℤ, List, Bool, true, false, Option, Some, None, IsTrue}
-use Rattle.state_steps.specs.State.{State, is_state}
+use Rattle.meaning_states.specs.State.{State, is_state}
 use Rattle.core_terms.specs.declared.trees.CForm.{CForm}
 use Rattle.core_terms.specs.declared.programs.CSlot.{CSlot}
 use Rattle.core_terms.specs.declared.programs.CStmt.{CStmt}

@@ -3,7 +3,7 @@ use Rattle.std.specs.Prelude.{◌≡◌, ◌≤◌, ◌^◌, pos, ◌-ℤ◌, Bo
 use Rattle.std.specs.Prelude.{MatchOption}
 use Rattle.std.specs.Option.{option_map}
 use Rattle.std.specs.Int.RustNames.{unsigned_abs}
-use Rattle.state_steps.specs.State.{int_eq}
+use Rattle.meaning_states.specs.State.{int_eq}
 use Rattle.core_terms.specs.declared.trees.CForm.{CForm}
 use Rattle.core_terms.specs.declared.trees.CForm.TheVariants.{Top}
 use Rattle.core_terms.specs.declared.programs.CWrite.{CWrite}
@@ -32,7 +32,7 @@ abbrev pub IsFolded : CForm → Type 0
 IsFolded f = folded_form f ≡ f
 
 -- the truth that stands beside a conjunction is its truth; it is folded, and weighs little
-pub record IsKnown (c : Conjunction) : Type 0 where
+pub record ConjunctionKnown (c : Conjunction) : Type 0 where
   pub truth : c.truth ≡ truth_of (or_top c.whole)
   pub folded : IsFolded (or_top c.whole)
   pub weight : plain_weight (or_top c.whole) ≤ 2 ^ 65

@@ -4,7 +4,7 @@ ghost use Rattle.std.specs.Bool.{OnTrue};
 ghost use Rattle.core_terms.specs.declared.trees.CForm.{CForm};
 ghost use Rattle.core_terms.specs.Weights.{plain_weight};
 ghost use Rattle.core_terms.specs.Folding.{truth_of};
-ghost use Rattle.wp_substitution.specs.Joined.{joined_with, or_top, IsFolded, IsKnown};
+ghost use Rattle.wp_substitution.specs.Joined.{joined_with, or_top, IsFolded, ConjunctionKnown};
 
 use core_terms::{CForm, and_known};
 use std::alloc::{AllocError, Global};
@@ -23,7 +23,7 @@ impl Conjunction {
     #[tactic(auto, using(crate::proofs::KnownLaws::top_laws))]
     pub fn new() -> Conjunction
         ensures whole { result.whole ≡ None }
-        ensures known { IsKnown result }
+        ensures known { ConjunctionKnown result }
     {
         Conjunction {
             whole: None,
@@ -38,12 +38,12 @@ impl Conjunction {
         f: Held<CForm>,
         truth: Option<bool>,
     ) -> Result<(), AllocError>
-        requires known { IsKnown self.old }
+        requires known { ConjunctionKnown self.old }
         requires truth { truth ≡ truth_of f }
         requires folded { IsFolded f }
         requires weight { plain_weight f ≤ 2 ^ 65 }
         ensures whole { OnOk result (self.new.whole ≡ Some (joined_with self.old.whole f)) }
-        ensures known { OnOk result (IsKnown self.new) }
+        ensures known { OnOk result (ConjunctionKnown self.new) }
     {
         let mut now = truth;
         let joined = join(alloc, self.whole.take(), self.truth, f, &mut now)?;
@@ -54,7 +54,7 @@ impl Conjunction {
 
     /// Whether one formula more would leave the whole as it is; `truth` is that of the formula, where known.
     pub fn stays_with(&self, truth: Option<bool>) -> bool
-        requires { IsKnown self.now }
+        requires { ConjunctionKnown self.now }
         ensures { OnTrue result
             ((f : CForm) → truth_of f ≡ truth → self.now.whole ≡ Some (joined_with self.now.whole f)) }
     {

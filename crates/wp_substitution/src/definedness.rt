@@ -6,7 +6,8 @@ ghost use Rattle.core_terms.specs.Conditions.{StatementFits};
 ghost use Rattle.core_terms.specs.Folding as fold;
 ghost use Rattle.wp_substitution.specs.Preconditions.{inside_form, write_form, pair_form, writes_to, pair_forms};
 ghost use Rattle.wp_substitution.specs.Preconditions.{defined_form};
-ghost use Rattle.wp_substitution.specs.Joined.{joined_with, joined_all, IsKnown, IsLight, IsLightWrite, known_write};
+ghost use Rattle.wp_substitution.specs.Joined.{joined_with, joined_all, ConjunctionKnown, IsLight, IsLightWrite};
+ghost use Rattle.wp_substitution.specs.Joined.{known_write};
 ghost use Rattle.wp_substitution.specs.Joined.{IsSmallKnown};
 ghost use Rattle.wp_substitution.specs.Exact.{HoldsWhereDefined};
 
@@ -58,10 +59,10 @@ pub fn held_defined(
 // That no write lies outside.
 #[tactic(auto, using(crate::proofs::KnownLaws::folded_laws))]
 fn add_outside(alloc: Global, all: &mut Conjunction, outside: &[CForm]) -> Result<(), AllocError>
-    requires known { IsKnown all.old }
+    requires known { ConjunctionKnown all.old }
     requires light { All IsLight outside.now }
     ensures whole { OnOk result (all.new.whole ≡ joined_all all.old.whole (map fold.not_form outside.now)) }
-    ensures known { OnOk result (IsKnown all.new) }
+    ensures known { OnOk result (ConjunctionKnown all.new) }
 {
     for f in outside {
         let mut truth = None;
@@ -79,10 +80,10 @@ fn add_writes(
     writes: &[CWrite],
     slots: &[CSlot],
 ) -> Result<(), AllocError>
-    requires known { IsKnown all.old }
+    requires known { ConjunctionKnown all.old }
     requires light { All IsLightWrite writes.now }
     ensures whole { OnOk result (all.new.whole ≡ joined_all all.old.whole (map (write_form slots.now) writes.now)) }
-    ensures known { OnOk result (IsKnown all.new) }
+    ensures known { OnOk result (ConjunctionKnown all.new) }
 {
     for w in writes {
         let mut truth = None;
@@ -94,10 +95,10 @@ fn add_writes(
 
 // That no slot gets two values.
 fn add_pairs(alloc: Global, all: &mut Conjunction, writes: &[CWrite]) -> Result<(), AllocError>
-    requires known { IsKnown all.old }
+    requires known { ConjunctionKnown all.old }
     requires light { All IsLightWrite writes.now }
     ensures whole { OnOk result (all.new.whole ≡ joined_all all.old.whole (pair_forms writes.now)) }
-    ensures known { OnOk result (IsKnown all.new) }
+    ensures known { OnOk result (ConjunctionKnown all.new) }
 {
     let knowns = known_writes(alloc, writes)?;
     let knowns = knowns.as_slice();
@@ -124,7 +125,7 @@ fn add_pairs_of(
     later: &[CWrite],
     knowns: &[Known],
 ) -> Result<(), AllocError>
-    requires known { IsKnown all.old }
+    requires known { ConjunctionKnown all.old }
     requires write { IsLightWrite w.now }
     requires light { All IsLightWrite later.now }
     requires first { known ≡ known_write w.now }
@@ -133,7 +134,7 @@ fn add_pairs_of(
     requires all_small { All IsSmallKnown knowns.now }
     ensures whole { OnOk result
         (all.new.whole ≡ joined_all all.old.whole (map (pair_form w.now) (writes_to w.now.slot later.now))) }
-    ensures known { OnOk result (IsKnown all.new) }
+    ensures known { OnOk result (ConjunctionKnown all.new) }
 {
     for (place, v) in later.iter().enumerate() {
         if w.slot == v.slot {
@@ -152,12 +153,12 @@ fn add_pair(
     w: &CWrite,
     truth: Option<bool>,
 ) -> Result<(), AllocError>
-    requires known { IsKnown all.old }
+    requires known { ConjunctionKnown all.old }
     requires first { IsLightWrite v.now }
     requires second { IsLightWrite w.now }
     requires truth { fold.truth_of (pair_form v.now w.now) ≡ truth }
     ensures whole { OnOk result (all.new.whole ≡ Some (joined_with all.old.whole (pair_form v.now w.now))) }
-    ensures known { OnOk result (IsKnown all.new) }
+    ensures known { OnOk result (ConjunctionKnown all.new) }
 {
     if all.stays_with(truth) {
         return Ok(());

@@ -1,11 +1,12 @@
 // What gives the records of steps.
 ghost use Rattle.std.specs.Prelude.{◌++◌, All, length};
-ghost use Rattle.core_terms.specs.Conditions.{FormFits, HelperSees, IsNumbered, PTermSees, bound_ranges, is_below};
+ghost use Rattle.core_terms.specs.Conditions.{FormFits, HelperWellScoped, NumbersBoundNames, TermWellScoped};
+ghost use Rattle.core_terms.specs.Conditions.{bound_ranges, is_below};
 ghost use Rattle.core_terms.specs.declared.programs.CProgram.{CProgram};
-ghost use Rattle.proof_rules.specs.Sound.{BookStands, IsPart, IsUnion};
-ghost use Rattle.proof_rules.specs.Table as table;
-ghost use Rattle.proof_rules.specs.Terms as terms;
-ghost use Rattle.safety_rules.specs.Answers.{Answers, IsPlace, IsPremiseAt, site_of};
+ghost use Rattle.rules_table.specs.Sound.{BookStands, IsPartPremise, IsUnionOf};
+ghost use Rattle.rules_table.specs.Table as table;
+ghost use Rattle.rules_table.specs.Terms as terms;
+ghost use Rattle.safety_rules.specs.Answers.{RuleAnswers, IsPlace, IsPremiseAt, site_of};
 ghost use Rattle.safety_rules.specs.Instances.{RecordFits};
 ghost use Rattle.safety_rules.specs.Sound.{StandsAt, StandsWhereShown};
 
@@ -19,7 +20,7 @@ use std::alloc::Global;
 pub fn invariant_rule(alloc: Global, pl: &Place, p: &CForm) -> Result<Derived, RuleError>
     requires place { IsPlace pl.now }
     requires p { FormFits pl.now.slots.now pl.now.params.now p.now }
-    ensures answer { Answers result pl.now.slots.now (table.invariant_of (site_of pl.now) p.now) }
+    ensures answer { RuleAnswers result pl.now.slots.now (table.invariant_of (site_of pl.now) p.now) }
     ensures sound { StandsWhereShown pl.now result }
 {
     safety_rules::invariant_rule(alloc, pl, p)
@@ -36,8 +37,8 @@ pub fn ensures_rule(
     requires place { IsPlace pl.now }
     requires p { FormFits pl.now.slots.now pl.now.params.now p.now }
     requires q { FormFits pl.now.slots.now pl.now.params.now q.now }
-    requires helper { HelperSees (is_below (length pl.now.params.now)) h.now }
-    ensures answer { Answers result pl.now.slots.now (table.ensures_of (site_of pl.now) p.now q.now h.now) }
+    requires helper { HelperWellScoped (is_below (length pl.now.params.now)) h.now }
+    ensures answer { RuleAnswers result pl.now.slots.now (table.ensures_of (site_of pl.now) p.now q.now h.now) }
     ensures sound { StandsWhereShown pl.now result }
 {
     safety_rules::ensures_rule(alloc, pl, p, q, h)
@@ -48,7 +49,7 @@ pub fn weaken_rule(alloc: Global, pl: &Place, a: &Record, r: &CForm) -> Result<D
     requires place { IsPlace pl.now }
     requires record { IsPremiseAt pl.now a.now }
     requires r { FormFits pl.now.slots.now pl.now.params.now r.now }
-    ensures answer { Answers result pl.now.slots.now (table.weaken_of (site_of pl.now) a.now r.now) }
+    ensures answer { RuleAnswers result pl.now.slots.now (table.weaken_of (site_of pl.now) a.now r.now) }
     ensures sound { StandsAt pl.now a.now → StandsWhereShown pl.now result }
 {
     safety_rules::weaken_rule(alloc, pl, a, r)
@@ -65,7 +66,7 @@ pub fn pair_rule(
     requires place { IsPlace pl.now }
     requires a { IsPremiseAt pl.now a.now }
     requires b { IsPremiseAt pl.now b.now }
-    ensures answer { Answers result pl.now.slots.now (table.pair_of (site_of pl.now) which a.now b.now) }
+    ensures answer { RuleAnswers result pl.now.slots.now (table.pair_of (site_of pl.now) which a.now b.now) }
     ensures sound { StandsAt pl.now a.now → StandsAt pl.now b.now → StandsWhereShown pl.now result }
 {
     safety_rules::pair_rule(alloc, pl, which, a, b)
@@ -76,9 +77,9 @@ pub fn union_unless(alloc: Global, pl: &Place, a: &Record, b: &Record) -> Result
     requires place { IsPlace pl.now }
     requires a { IsPremiseAt pl.now a.now }
     requires b { IsPremiseAt pl.now b.now }
-    ensures answer { Answers result pl.now.slots.now (table.union_unless_of (site_of pl.now) a.now b.now) }
-    ensures sound { (f g : CProgram) → IsUnion (site_of pl.now) f g → IsPart (site_of pl.now) f a.now →
-        IsPart (site_of pl.now) g b.now → StandsWhereShown pl.now result }
+    ensures answer { RuleAnswers result pl.now.slots.now (table.union_unless_of (site_of pl.now) a.now b.now) }
+    ensures sound { (f g : CProgram) → IsUnionOf (site_of pl.now) f g → IsPartPremise (site_of pl.now) f a.now →
+        IsPartPremise (site_of pl.now) g b.now → StandsWhereShown pl.now result }
 {
     union_theorem::union_unless(alloc, pl, a, b)
 }
@@ -86,11 +87,11 @@ pub fn union_unless(alloc: Global, pl: &Place, a: &Record, b: &Record) -> Result
 /// The call `derive` of `leadsto_rules`, with its clauses.
 pub fn derive(alloc: Global, pl: &Place, t: &PTerm, book: &[Record]) -> Result<Derived, RuleError>
     requires place { IsPlace pl.now }
-    requires term { PTermSees pl.now.slots.now (pl.now.params.now ++ bound_ranges t.now)
+    requires term { TermWellScoped pl.now.slots.now (pl.now.params.now ++ bound_ranges t.now)
         (is_below (length pl.now.params.now)) t.now }
-    requires numbers { IsNumbered (length pl.now.params.now) t.now }
+    requires numbers { NumbersBoundNames (length pl.now.params.now) t.now }
     requires book { All (RecordFits pl.now.slots.now) book.now }
-    ensures answer { Answers result pl.now.slots.now (terms.derive_of (site_of pl.now) t.now book.now) }
+    ensures answer { RuleAnswers result pl.now.slots.now (terms.derive_of (site_of pl.now) t.now book.now) }
     ensures sound { BookStands (site_of pl.now) book.now → StandsWhereShown pl.now result }
 {
     leadsto_rules::derive(alloc, pl, t, book)

@@ -1,6 +1,6 @@
 // What judges a whole document, and what finds its certificates.
 ghost use Rattle.std.specs.Prelude.{IfOk};
-ghost use Rattle.core_terms.specs.Conditions.{IsDocument};
+ghost use Rattle.core_terms.specs.Conditions.{IsCoreDocument};
 ghost use Rattle.proof_script.specs.Giving.{AreWhole, VerdictAnswers, PlanHolds};
 ghost use Rattle.proof_script.specs.Proving.{Finds};
 ghost use Rattle.proof_script.specs.Verdicts.{verdict_of};
@@ -12,7 +12,7 @@ use std::alloc::Global;
 
 /// The call `check` of `proof_script`, with its clauses.
 pub fn check(alloc: Global, doc: &CDocument, certs: &[Cert]) -> Result<Plan, ScriptError>
-    requires document { IsDocument doc.now }
+    requires document { IsCoreDocument doc.now }
     requires whole { AreWhole certs.now }
     ensures verdict { VerdictAnswers result (verdict_of doc.now certs.now) }
     ensures holds { IfOk result (PlanHolds doc.now) }
@@ -22,7 +22,7 @@ pub fn check(alloc: Global, doc: &CDocument, certs: &[Cert]) -> Result<Plan, Scr
 
 /// The call `prove` of `proof_script`, with its clause.
 pub fn prove(alloc: Global, doc: &CDocument, budget: u64) -> Result<Proof, ScriptError>
-    requires document { IsDocument doc.now }
+    requires document { IsCoreDocument doc.now }
     ensures { Finds doc.now budget result }
 {
     proof_script::prove(alloc, doc, budget)

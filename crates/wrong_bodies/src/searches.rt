@@ -5,11 +5,11 @@ ghost use Rattle.obligations.specs.Obligations.{IsObligation};
 ghost use Rattle.obligations.specs.Reach.{some_out_of_reach};
 ghost use Rattle.linear_prover.specs.Chains.{Closes, IsShort};
 ghost use Rattle.linear_prover.specs.Exact.{in_order, is_fact};
-ghost use Rattle.tree_search.specs.Searching.{Answers};
+ghost use Rattle.search_tree.specs.Searching.{SearchAnswers};
 
 use obligations::{Fact, Node, Obligation};
+use search_tree::Found;
 use std::alloc::{AllocError, Global};
-use tree_search::Found;
 use unity_base::Seq;
 
 /// The call `close` of `linear_prover`, with its clauses.
@@ -22,18 +22,18 @@ pub fn close(alloc: Global, facts: &[Fact], count: u32) -> Result<Option<Seq<Nod
     linear_prover::close(alloc, facts, count)
 }
 
-/// The call `search_tree` of `tree_search`, with its clause.
+/// The call `search_tree` of `search_tree`, with its clause.
 pub fn search_tree(alloc: Global, o: &Obligation, budget: u64) -> Result<Found, AllocError>
     requires { IsObligation o.now }
-    ensures { IfOk result (Answers o.now budget) }
+    ensures { IfOk result (SearchAnswers o.now budget) }
 {
-    tree_search::search_tree(alloc, o, budget)
+    search_tree::search_tree(alloc, o, budget)
 }
 
 /// The call `search` of `proof_search`, with its clause.
 pub fn search(alloc: Global, o: &Obligation, budget: u64) -> Result<Found, AllocError>
     requires { IsObligation o.now }
-    ensures { IfOk result (Answers o.now budget) }
+    ensures { IfOk result (SearchAnswers o.now budget) }
 {
     proof_search::search(alloc, o, budget)
 }

@@ -13,37 +13,38 @@ use Rattle.unity_syntax.specs.declared.declaration.Def.{Def}
 use Rattle.unity_syntax.specs.declared.declaration.Init.{Init}
 use Rattle.unity_syntax.specs.declared.program.Program.{Program}
 use Rattle.unity_syntax.specs.declared.document.Part.{Part as DocumentPart}
-use Rattle.unity_meaning.specs.Names.{Variable}
-use Rattle.unity_meaning.specs.Setting.{programs_among, slots_for, with_declarations}
-use Rattle.name_scopes.specs.declared.named.Named.{Named}
-use Rattle.name_scopes.specs.declared.named.Sort.{Sort}
-use Rattle.name_scopes.specs.Scope.{Table, is_variable, is_value, is_visible, visible}
-use Rattle.name_scopes.specs.Reading.{earlier}
-use Rattle.name_scopes.specs.Part.{run}
-use Rattle.name_scopes.specs.Declarations.{items_of, some_of, program_scope, value_named, variable_part, always_part}
-use Rattle.name_scopes.specs.Declarations.{initially_reading}
-use Rattle.name_scopes.specs.Statements.{items_part}
-use Rattle.name_scopes.specs.WellNamed.{Declared, nothing_declared, new_program, start_reading, program_body, part_of}
-use Rattle.name_laws.specs.SlotLaws.{variable_named}
-use Rattle.name_laws.specs.VariableLaws.{Mirrors}
-use Rattle.name_laws.specs.StayingLaws.{StaysIn}
-use Rattle.name_laws.proofs.AttributeTheorems.{earlier_first, earlier_second, and_first, and_second}
-use Rattle.name_laws.proofs.Inserts.{bytes_same}
-use Rattle.name_laws.proofs.Mirrored.{mirrored_by_documents}
-use Rattle.name_laws.proofs.Staying.{stays_in_documents}
+use Rattle.meaning_documents.specs.Names.{Variable}
+use Rattle.meaning_documents.specs.Setting.{programs_among, slots_for, with_declarations}
+use Rattle.names_rules.specs.declared.named.Named.{Named}
+use Rattle.names_rules.specs.declared.named.Sort.{Sort}
+use Rattle.names_rules.specs.Scope.{Table, is_variable, is_value, is_visible, visible}
+use Rattle.names_rules.specs.Reading.{earlier}
+use Rattle.names_rules.specs.Part.{run}
+use Rattle.names_rules.specs.Declarations.{items_of, some_of, program_scope, value_named, variable_part, always_part}
+use Rattle.names_rules.specs.Declarations.{initially_reading}
+use Rattle.names_rules.specs.Statements.{items_part}
+use Rattle.names_rules.specs.WellNamed.{Declared, nothing_declared, new_program, start_reading, program_body, part_of}
+use Rattle.meaning_documents.specs.Names.{variable_named}
+use Rattle.names_laws.specs.VariableLaws.{Mirrors}
+use Rattle.names_laws.specs.StayingLaws.{StaysIn}
+use Rattle.names_laws.proofs.AttributeTheorems.{and_first, and_second}
+use Rattle.names_rules.proofs.Faults.{earlier_first, earlier_second}
+use Rattle.names_laws.proofs.Inserts.{bytes_same}
+use Rattle.names_laws.proofs.Mirrored.{mirrored_by_documents}
+use Rattle.names_laws.proofs.Staying.{stays_in_documents}
 use Rattle.core_terms.specs.declared.programs.CSlot.{CSlot}
 use Rattle.core_terms.specs.declared.programs.CProgram.{CProgram}
 use Rattle.core_terms.specs.Conditions.{is_shown}
 use Rattle.core_terms.specs.Unions.{gives, merged}
-use Rattle.document_words.specs.Texts.{Texts}
-use Rattle.document_words.specs.WordNumbers.{document_words, word_number}
-use Rattle.expansion_laws.specs.Forming.{Scope}
+use Rattle.expand_declarations.specs.Texts.{Texts}
+use Rattle.expand_declarations.specs.WordNumbers.{document_words, word_number}
+use Rattle.expand_rules.specs.Forming.{Scope}
 use Rattle.expand_declarations.specs.Slots.{declared_by, document_slots}
 use Rattle.expand_declarations.specs.Shown.{shown_slots}
 use Rattle.expand_declarations.specs.Start.{start_slot, start_entry, start_values}
-use Rattle.declaration_laws.proofs.Agreed.{variables_agree}
-use Rattle.declaration_laws.proofs.Slots.{parts_fault}
-use Rattle.core_documents.specs.Cores.{declared_scope, part_definitions, document_scope}
+use Rattle.expand_correct.proofs.Declared.Agreed.{variables_agree}
+use Rattle.expand_declarations.proofs.NearIndices.{parts_fault}
+use Rattle.expand_documents.specs.Cores.{declared_scope, part_definitions, document_scope}
 use Rattle.expand_fits_parts.specs.Forms.Naming.{SlotsPass}
 use Rattle.expand_fits_parts.specs.Forms.Placing.{declares}
 use Rattle.expand_fits_parts.specs.Forms.ShowingLaws.{names_apart}

@@ -10,15 +10,15 @@ use Rattle.std.specs.Int.RustNames.{int_le}
 use Rattle.std.specs.List.{list_any}
 use Rattle.std.specs.Str.{bytes_eq}
 use Rattle.unity_syntax.specs.declared.declaration.Var.{Var}
-use Rattle.unity_meaning.specs.Names.{Variable, natural, slot_at}
-use Rattle.unity_meaning.specs.Setting.{slots_for, slot_count, variable_from, with_declaration, with_declarations}
-use Rattle.name_scopes.specs.declared.named.Span.{Span}
-use Rattle.name_scopes.specs.Reading.{signed}
-use Rattle.name_scopes.specs.Declarations.{is_index, index_number}
-use Rattle.name_laws.specs.SlotLaws.{variable_named}
-use Rattle.name_laws.specs.VariableLaws.{span_ends}
-use Rattle.name_laws.proofs.AttributeTheorems.{and_first, and_second}
-use Rattle.name_laws.proofs.Inserts.{same_bytes, taken}
+use Rattle.meaning_documents.specs.Names.{Variable, natural, slot_at}
+use Rattle.meaning_documents.specs.Setting.{slots_for, slot_count, variable_from, with_declaration, with_declarations}
+use Rattle.names_rules.specs.declared.named.Span.{Span}
+use Rattle.names_rules.specs.Reading.{signed}
+use Rattle.names_rules.specs.Declarations.{is_index, index_number}
+use Rattle.meaning_documents.specs.Names.{variable_named}
+use Rattle.names_laws.specs.VariableLaws.{span_ends}
+use Rattle.names_laws.proofs.AttributeTheorems.{and_first, and_second}
+use Rattle.names_laws.proofs.Inserts.{same_bytes, taken}
 use Rattle.expand_declarations.specs.Start.{index_of}
 use Rattle.expand_declarations.proofs.StartLaws.{distance_below}
 

@@ -19,32 +19,34 @@ use Rattle.unity_syntax.specs.declared.declaration.Var.{Var}
 use Rattle.unity_syntax.specs.declared.declaration.Def.{Def}
 use Rattle.unity_syntax.specs.declared.program.Program.{Program}
 use Rattle.unity_syntax.specs.declared.document.Part.{Part as DocumentPart}
-use Rattle.unity_meaning.specs.Names.{Bindings, Variable}
-use Rattle.unity_meaning.specs.Value.{end_value, range_ends}
-use Rattle.unity_meaning.specs.Setting as setting
-use Rattle.unity_meaning.specs.Setting.{declarations, plain_range, with_places, plain_words, slot_count, variable_from}
-use Rattle.unity_meaning.specs.Setting.{with_declaration, with_declarations}
+use Rattle.meaning_documents.specs.Names.{Bindings, Variable}
+use Rattle.meaning_documents.specs.Value.{end_value, range_ends}
+use Rattle.meaning_documents.specs.Setting as setting
+use Rattle.meaning_documents.specs.Setting.{declarations, plain_range, with_places, plain_words, slot_count}
+use Rattle.meaning_documents.specs.Setting.{variable_from}
+use Rattle.meaning_documents.specs.Setting.{with_declaration, with_declarations}
 use Rattle.unity_syntax.proofs.BackParts.{both_same}
-use Rattle.name_scopes.specs.declared.named.Meaning.{Meaning}
-use Rattle.name_scopes.specs.declared.named.Sort.{Sort}
-use Rattle.name_scopes.specs.declared.named.Span.{Span}
-use Rattle.name_scopes.specs.declared.named.Named.{Named}
-use Rattle.name_scopes.specs.Scope.{Table, no_span, is_variable, is_value}
-use Rattle.name_scopes.specs.Reading.{earlier, unless, same_sort, read, end_reading, upside_down, filled}
-use Rattle.name_scopes.specs.Part.{run, quiet}
-use Rattle.name_scopes.specs.Declarations.{items_of, some_of, program_scope, with_named, is_declared, value_named}
-use Rattle.name_scopes.specs.Declarations.{is_value_of, is_word, are_words, is_last, sort_or, known_sort, is_repeated}
-use Rattle.name_scopes.specs.Declarations.{words_sort, enumerated, repeated, words_part, end_number, span_of}
-use Rattle.name_scopes.specs.Declarations.{plain_sort}
-use Rattle.name_scopes.specs.Declarations.{plain_span, plain_part, type_part, element_type}
-use Rattle.name_scopes.specs.Declarations.{variable_named as named_here, may_declare, agrees, variable_as}
-use Rattle.name_scopes.specs.Declarations.{variable_part, always_named, definition, definition_scope, always_part}
-use Rattle.name_scopes.specs.WellNamed.{Declared, nothing_declared, new_program, program_body, program_part, part_of}
-use Rattle.name_laws.specs.SlotLaws.{variable_named}
-use Rattle.name_laws.specs.VariableLaws.{span_ends, Mirrors}
-use Rattle.name_laws.proofs.AttributeTheorems.{earlier_first, earlier_second, and_first, and_second, unless_none}
-use Rattle.name_laws.proofs.Inserts.{same_bytes, bytes_same, chosen, taken, added, found_added, still_found}
-use Rattle.name_laws.proofs.Mirrored.{not_some, mirrored_by_variables, mirrored_by_definitions}
+use Rattle.names_rules.specs.declared.named.Meaning.{Meaning}
+use Rattle.names_rules.specs.declared.named.Sort.{Sort}
+use Rattle.names_rules.specs.declared.named.Span.{Span}
+use Rattle.names_rules.specs.declared.named.Named.{Named}
+use Rattle.names_rules.specs.Scope.{Table, no_span, is_variable, is_value}
+use Rattle.names_rules.specs.Reading.{earlier, unless, same_sort, read, end_reading, upside_down, filled}
+use Rattle.names_rules.specs.Part.{run, quiet}
+use Rattle.names_rules.specs.Declarations.{items_of, some_of, program_scope, with_named, is_declared, value_named}
+use Rattle.names_rules.specs.Declarations.{is_value_of, is_word, are_words, is_last, sort_or, known_sort, is_repeated}
+use Rattle.names_rules.specs.Declarations.{words_sort, enumerated, repeated, words_part, end_number, span_of}
+use Rattle.names_rules.specs.Declarations.{plain_sort}
+use Rattle.names_rules.specs.Declarations.{plain_span, plain_part, type_part, element_type}
+use Rattle.names_rules.specs.Declarations.{variable_named as named_here, may_declare, agrees, variable_as}
+use Rattle.names_rules.specs.Declarations.{variable_part, always_named, definition, definition_scope, always_part}
+use Rattle.names_rules.specs.WellNamed.{Declared, nothing_declared, new_program, program_body, program_part, part_of}
+use Rattle.meaning_documents.specs.Names.{variable_named}
+use Rattle.names_laws.specs.VariableLaws.{span_ends, Mirrors}
+use Rattle.names_laws.proofs.AttributeTheorems.{and_first, and_second}
+use Rattle.names_rules.proofs.Faults.{earlier_first, earlier_second, unless_none}
+use Rattle.names_laws.proofs.Inserts.{same_bytes, bytes_same, chosen, taken, added, found_added, still_found}
+use Rattle.names_laws.proofs.Mirrored.{not_some, mirrored_by_variables, mirrored_by_definitions}
 use Rattle.expand_declarations.specs.Slots.{declared_by}
 use Rattle.expand_declarations.specs.Start.{enumeration_words, var_words}
 use Rattle.expand_declarations.proofs.LayoutLaws.{with_declarations-append}

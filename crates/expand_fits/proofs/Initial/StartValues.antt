@@ -20,36 +20,38 @@ use Rattle.unity_syntax.specs.declared.declaration.Var.{Var}
 use Rattle.unity_syntax.specs.declared.declaration.Init.{Init}
 use Rattle.unity_syntax.specs.declared.declaration.InitValue.{InitValue}
 use Rattle.unity_syntax.specs.declared.program.Program.{Program}
-use Rattle.unity_meaning.specs.Names.{Bindings, Variable, slot_named, number_of, or_zero}
-use Rattle.unity_meaning.specs.Setting.{programs_among, slot_ranges, element_type}
-use Rattle.name_scopes.specs.declared.named.Sort.{Sort}
-use Rattle.name_scopes.specs.declared.named.Span.{Span}
-use Rattle.name_scopes.specs.declared.named.Named.{Named}
-use Rattle.name_scopes.specs.Scope.{Table, is_value, found}
-use Rattle.name_scopes.specs.Reading.{unless, same_sort, signed}
-use Rattle.name_scopes.specs.Part.{run}
-use Rattle.name_scopes.specs.Declarations.{some_of, program_scope, in_span, start_word, start_value}
-use Rattle.name_scopes.specs.WellNamed.{nothing_declared, part_of}
-use Rattle.name_laws.specs.SlotLaws.{variable_named, variables_of}
-use Rattle.name_laws.specs.VariableLaws.{Mirrors}
-use Rattle.name_laws.specs.StayingLaws.{StaysIn}
-use Rattle.name_laws.proofs.AttributeTheorems.{earlier_first, earlier_second, and_first, and_second, unless_none}
-use Rattle.name_laws.proofs.Slots.{slots_as_declared}
-use Rattle.name_laws.proofs.Mirrored.{mirrored_by_documents}
+use Rattle.meaning_documents.specs.Names.{Bindings, Variable, slot_named, number_of, or_zero}
+use Rattle.meaning_documents.specs.Setting.{programs_among, slot_ranges, element_type}
+use Rattle.names_rules.specs.declared.named.Sort.{Sort}
+use Rattle.names_rules.specs.declared.named.Span.{Span}
+use Rattle.names_rules.specs.declared.named.Named.{Named}
+use Rattle.names_rules.specs.Scope.{Table, is_value, found}
+use Rattle.names_rules.specs.Reading.{unless, same_sort, signed}
+use Rattle.names_rules.specs.Part.{run}
+use Rattle.names_rules.specs.Declarations.{some_of, program_scope, in_span, start_word, start_value}
+use Rattle.names_rules.specs.WellNamed.{nothing_declared, part_of}
+use Rattle.meaning_documents.specs.Setting.{variables_of}
+use Rattle.meaning_documents.specs.Names.{variable_named}
+use Rattle.names_laws.specs.VariableLaws.{Mirrors}
+use Rattle.names_laws.specs.StayingLaws.{StaysIn}
+use Rattle.names_laws.proofs.AttributeTheorems.{and_first, and_second}
+use Rattle.names_rules.proofs.Faults.{earlier_first, earlier_second, unless_none}
+use Rattle.names_laws.proofs.Slots.{slots_as_declared}
+use Rattle.names_laws.proofs.Mirrored.{mirrored_by_documents}
 use Rattle.core_terms.specs.declared.programs.CSlot.{CSlot}
 use Rattle.core_terms.specs.Conditions.{StartFits}
 use Rattle.core_terms.specs.Unions.{gives}
-use Rattle.document_words.specs.Texts.{Texts}
-use Rattle.document_words.specs.WordNumbers.{document_words, word_number}
-use Rattle.expansion_laws.specs.Forming.{Scope}
+use Rattle.expand_declarations.specs.Texts.{Texts}
+use Rattle.expand_declarations.specs.WordNumbers.{document_words, word_number}
+use Rattle.expand_rules.specs.Forming.{Scope}
 use Rattle.expand_declarations.specs.Slots.{declared_by, document_slots}
 use Rattle.expand_declarations.specs.Start.{index_of, start_number, start_entry, start_values}
 use Rattle.expand_declarations.specs.Start.{enumeration_words, first_words}
 use Rattle.expand_declarations.proofs.StartLaws.{number-found}
-use Rattle.declaration_laws.specs.Agreement.{slot_ends}
-use Rattle.declaration_laws.proofs.Agreed.{variables_agree, ranges_agree}
-use Rattle.declaration_laws.proofs.Slots.{parts_fault}
-use Rattle.core_documents.specs.Cores.{declared_scope, part_definitions, document_scope}
+use Rattle.expand_correct.specs.Declared.Agreement.{slot_ends}
+use Rattle.expand_correct.proofs.Declared.Agreed.{variables_agree, ranges_agree}
+use Rattle.expand_declarations.proofs.NearIndices.{parts_fault}
+use Rattle.expand_documents.specs.Cores.{declared_scope, part_definitions, document_scope}
 use Rattle.expand_fits.specs.StartConditions.{plain_enumeration, enumerations, StartsFit}
 use Rattle.expand_fits_parts.proofs.Conditions.Lists.{Pairs, pairs_of}
 use Rattle.expand_fits_parts.proofs.Conditions.Programs.{Makes, all_cores, union_makes}

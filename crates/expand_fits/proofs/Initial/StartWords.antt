@@ -6,8 +6,8 @@ use Rattle.std.specs.Option.{option_or}
 use Rattle.std.specs.Map.{lookup}
 use Rattle.std.specs.Str.{bytes_eq}
 use Rattle.indexmap.specs.IndexMap.{insert_entry}
-use Rattle.unity_meaning.specs.Names.{Bindings}
-use Rattle.name_laws.proofs.Inserts.{same_bytes, bytes_same, taken, skipped}
+use Rattle.meaning_documents.specs.Names.{Bindings}
+use Rattle.names_laws.proofs.Inserts.{same_bytes, bytes_same, taken, skipped}
 use Rattle.expand_declarations.specs.Start.{with_word, first_words}
 
 lookup_same : (es : Bindings) (word : List ℕ) (v : ℤ) →

@@ -17,37 +17,38 @@ use Rattle.unity_syntax.specs.declared.declaration.Init.{Init}
 use Rattle.unity_syntax.specs.declared.program.Program.{Program}
 use Rattle.unity_syntax.specs.declared.document.Part.{Part as DocumentPart}
 use Rattle.unity_syntax.specs.declared.document.Document.{Document}
-use Rattle.unity_meaning.specs.Names.{Bindings, Variable, slot_named}
-use Rattle.unity_meaning.specs.Setting.{programs_among, declarations}
-use Rattle.name_scopes.specs.declared.named.Named.{Named}
-use Rattle.name_scopes.specs.Scope.{Scope as NameScope, Table, is_variable, found, is_visible, visible}
-use Rattle.name_scopes.specs.Reading.{earlier, unless}
-use Rattle.name_scopes.specs.Part.{run}
-use Rattle.name_scopes.specs.Declarations.{items_of, some_of, program_scope, variable_part, always_part}
-use Rattle.name_scopes.specs.Declarations.{initially_reading, StartSlot, StartSlots, same_slot, is_index}
-use Rattle.name_scopes.specs.Declarations.{index_number, variable_place, slot_of, start_value, init_found}
-use Rattle.name_scopes.specs.Declarations.{init_part}
-use Rattle.name_scopes.specs.Statements.{items_part}
-use Rattle.name_scopes.specs.WellNamed.{Declared, IsWellNamed, nothing_declared, new_program, start_reading}
-use Rattle.name_scopes.specs.WellNamed.{program_body, part_of}
-use Rattle.name_laws.specs.SlotLaws.{variable_named, variables_of}
-use Rattle.name_laws.specs.VariableLaws.{Mirrors}
-use Rattle.name_laws.specs.StayingLaws.{StaysIn}
-use Rattle.name_laws.proofs.AttributeTheorems.{earlier_first, earlier_second, unless_none}
-use Rattle.name_laws.proofs.Slots.{slot_of_named}
-use Rattle.name_laws.proofs.Mirrored.{mirrored_by_documents}
-use Rattle.name_laws.proofs.Staying.{stays_in_documents}
+use Rattle.meaning_documents.specs.Names.{Bindings, Variable, slot_named}
+use Rattle.meaning_documents.specs.Setting.{programs_among, declarations}
+use Rattle.names_rules.specs.declared.named.Named.{Named}
+use Rattle.names_rules.specs.Scope.{Scope as NameScope, Table, is_variable, found, is_visible, visible}
+use Rattle.names_rules.specs.Reading.{earlier, unless}
+use Rattle.names_rules.specs.Part.{run}
+use Rattle.names_rules.specs.Declarations.{items_of, some_of, program_scope, variable_part, always_part}
+use Rattle.names_rules.specs.Declarations.{initially_reading, StartSlot, StartSlots, same_slot, is_index}
+use Rattle.names_rules.specs.Declarations.{index_number, variable_place, slot_of, start_value, init_found}
+use Rattle.names_rules.specs.Declarations.{init_part}
+use Rattle.names_rules.specs.Statements.{items_part}
+use Rattle.names_rules.specs.WellNamed.{Declared, IsWellNamed, nothing_declared, new_program, start_reading}
+use Rattle.names_rules.specs.WellNamed.{program_body, part_of}
+use Rattle.meaning_documents.specs.Setting.{variables_of}
+use Rattle.meaning_documents.specs.Names.{variable_named}
+use Rattle.names_laws.specs.VariableLaws.{Mirrors}
+use Rattle.names_laws.specs.StayingLaws.{StaysIn}
+use Rattle.names_rules.proofs.Faults.{earlier_first, earlier_second, unless_none}
+use Rattle.names_laws.proofs.Slots.{slot_of_named}
+use Rattle.names_laws.proofs.Mirrored.{mirrored_by_documents}
+use Rattle.names_laws.proofs.Staying.{stays_in_documents}
 use Rattle.core_terms.specs.declared.programs.CSlot.{CSlot}
 use Rattle.core_terms.specs.Conditions.{EachPair}
 use Rattle.core_terms.specs.Unions.{gives, joined_start}
-use Rattle.document_words.specs.Texts.{Texts}
-use Rattle.document_words.specs.WordNumbers.{document_words, word_number}
-use Rattle.expansion_laws.specs.Forming.{Scope}
+use Rattle.expand_declarations.specs.Texts.{Texts}
+use Rattle.expand_declarations.specs.WordNumbers.{document_words, word_number}
+use Rattle.expand_rules.specs.Forming.{Scope}
 use Rattle.expand_declarations.specs.Slots.{document_slots}
 use Rattle.expand_declarations.specs.Start.{index_of, start_slot, start_entry, start_values}
-use Rattle.expand_always.specs.AlwaysNames.{with_definition, with_definitions}
-use Rattle.declaration_laws.proofs.Slots.{parts_fault}
-use Rattle.core_documents.specs.Cores.{core_document, declared_scope, part_definitions, document_scope}
+use Rattle.expand_documents.specs.AlwaysNames.{with_definition, with_definitions}
+use Rattle.expand_declarations.proofs.NearIndices.{parts_fault}
+use Rattle.expand_documents.specs.Cores.{core_document, declared_scope, part_definitions, document_scope}
 use Rattle.expand_fits.specs.StartConditions.{StartsOnce}
 use Rattle.expand_fits_parts.proofs.Conditions.Lists.{Pairs, each_pair, pairs_on, pairs_with, pairs_map}
 use Rattle.expand_fits_parts.proofs.Conditions.Programs.{Makes, all_cores, union_makes}

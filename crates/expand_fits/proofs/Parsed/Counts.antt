@@ -4,8 +4,8 @@ use Rattle.std.proofs.Common.{length-append}
 use Rattle.std.specs.Prelude.{sum, sum_by}
 use Rattle.std.proofs.lemmas.List.Sums.{sum-map, sum_by-cons}
 use Rattle.std.specs.List.{flat_map}
-use Rattle.ebnf.specs.Ebnf.{Tree}
-use Rattle.ebnf.specs.Words.{Word, words}
+use Rattle.grammar_theory.specs.Ebnf.{Tree}
+use Rattle.grammar_theory.specs.Words.{Word, words}
 use Rattle.unity_syntax.specs.declared.name.Name.{Name}
 use Rattle.unity_syntax.specs.declared.declaration.Plain.{Plain}
 use Rattle.unity_syntax.specs.declared.declaration.VarType.{VarType}
@@ -32,13 +32,14 @@ use Rattle.unity_syntax.specs.View.{view_term_step, view_term, view_param, view_
 use Rattle.unity_syntax.specs.View.{view_proof, view_certificates, view_schedule, view_part, view, view_end}
 use Rattle.unity_syntax.proofs.TermFolds.{two_terms}
 use Rattle.unity_syntax.proofs.ItemFolds.{two_items}
-use Rattle.ebnf.specs.Lists.{list}
-use Rattle.unity_meaning.specs.Setting.{element_type}
-use Rattle.name_scopes.specs.Declarations.{items_of, some_of}
-use Rattle.document_words.specs.Texts.{Texts, plain_texts, var_texts, item_layer, items_layer, items_texts}
-use Rattle.document_words.specs.Texts.{program_texts, step_text, ref_texts, helper_texts, term_layer, term_texts}
-use Rattle.document_words.specs.Texts.{rule_texts, step_texts, proof_texts, part_texts, schedule_texts, document_texts}
-use Rattle.unity_meaning.specs.Steps.{proofs_among}
+use Rattle.grammar_theory.specs.Lists.{list}
+use Rattle.meaning_documents.specs.Setting.{element_type}
+use Rattle.names_rules.specs.Declarations.{items_of, some_of}
+use Rattle.expand_declarations.specs.Texts.{Texts, plain_texts, var_texts, item_layer, items_layer, items_texts}
+use Rattle.expand_declarations.specs.Texts.{program_texts, step_text, ref_texts, helper_texts, term_layer, term_texts}
+use Rattle.expand_declarations.specs.Texts.{rule_texts, step_texts, proof_texts, part_texts, schedule_texts}
+use Rattle.expand_declarations.specs.Texts.{document_texts}
+use Rattle.meaning_documents.specs.Steps.{proofs_among}
 
 -- there are as many words at least
 abbrev Told : Texts → List Word → Type 0

@@ -1,7 +1,7 @@
 -- The numbers in the arguments of steps are numbers of the document's tree.
 use Rattle.std.proofs.Common.{◌^◌, List, [], ◌∷◌, Option, Some, None, All}
 use Rattle.std.proofs.lemmas.List.Elements.{All-nil, All-cons, All-append}
-use Rattle.ebnf.specs.Ebnf.{Tree}
+use Rattle.grammar_theory.specs.Ebnf.{Tree}
 use Rattle.unity_syntax.specs.declared.name.End.{End}
 use Rattle.unity_syntax.specs.declared.term.Inst.{Inst}
 use Rattle.unity_syntax.specs.declared.term.Ref.{Ref}
@@ -15,8 +15,8 @@ use Rattle.unity_syntax.specs.TwoFolds.{TermLayers}
 use Rattle.unity_syntax.specs.View.{view_option, view_list, view_some, view_end, view_inst, view_ref, view_term_step}
 use Rattle.unity_syntax.specs.View.{view_term, view_rule, view_step, view_part, view}
 use Rattle.unity_syntax.proofs.TermFolds.{two_terms}
-use Rattle.name_scopes.specs.Declarations.{some_of}
-use Rattle.unity_meaning.specs.Steps.{proofs_among}
+use Rattle.names_rules.specs.Declarations.{some_of}
+use Rattle.meaning_documents.specs.Steps.{proofs_among}
 use Rattle.expand_fits_parts.specs.Conditions.ArgumentConditions.{EndFits, ends_layer, term_ends, helper_ends}
 use Rattle.expand_fits_parts.specs.Conditions.ArgumentConditions.{rule_ends}
 use Rattle.expand_fits_parts.specs.Conditions.ArgumentConditions.{StepLiterals, HasLiterals}

@@ -1,6 +1,6 @@
 -- The productions make no larger numbers than those of their tokens.
 use Rattle.std.proofs.Common.{ℕ, zero, suc, ◌≤◌, List, [], ◌∷◌}
-use Rattle.ebnf.specs.Ebnf.{Terminal, Tree, pair, left, right, none, some, nil, Ebnf}
+use Rattle.grammar_theory.specs.Ebnf.{Terminal, Tree, pair, left, right, none, some, nil, Ebnf}
 use Rattle.unity_syntax.specs.Grammar.{second, first, chosen, make_parentheses, make_product, make_sum, make_compare}
 use Rattle.unity_syntax.specs.Grammar.{make_unit, make_joined, make_pred, make_program, make_weaken, and_, or_}
 use Rattle.unity_syntax.specs.Grammar.{at_number, bodies, grammar, end_, range_, atom_, product_, sum_, compare_, unit_}

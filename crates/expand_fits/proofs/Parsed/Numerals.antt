@@ -1,10 +1,14 @@
 -- The numbers of a tree are numbers of its tokens: none is larger than the largest of these.
 use Rattle.std.proofs.Common.{◌≡◌, ℕ, ◌≤◌, List, [], ◌∷◌, ◌++◌, subst}
-use Rattle.ebnf.specs.Ebnf.{Terminal, Tree, unit, leaf, numeral, choice, pair, left, right, none, some, nil, more, node}
-use Rattle.ebnf.specs.Ebnf.{Ebnf, token, valued, version, both, either, maybe, many, numbered, prefix_trees, named}
-use Rattle.ebnf.specs.Ebnf.{inside, to_items, repeated, Grammar, Derives, is_token, is_valued, is_version, is_both}
-use Rattle.ebnf.specs.Ebnf.{is_left, is_right, is_none, is_some, is_nil, is_more, is_no_number, is_next_number}
-use Rattle.ebnf.specs.Ebnf.{is_no_tree, is_next_node, is_named, is_inside}
+use Rattle.grammar_theory.specs.Ebnf.{Terminal, Tree, unit, leaf, numeral, choice, pair, left, right, none, some, nil}
+use Rattle.grammar_theory.specs.Ebnf.{more, node}
+use Rattle.grammar_theory.specs.Ebnf.{Ebnf, token, valued, version, both, either, maybe, many, numbered, prefix_trees}
+use Rattle.grammar_theory.specs.Ebnf.{named}
+use Rattle.grammar_theory.specs.Ebnf.{inside, to_items, repeated, Grammar, Derives, is_token, is_valued, is_version}
+use Rattle.grammar_theory.specs.Ebnf.{is_both}
+use Rattle.grammar_theory.specs.Ebnf.{is_left, is_right, is_none, is_some, is_nil, is_more, is_no_number}
+use Rattle.grammar_theory.specs.Ebnf.{is_next_number}
+use Rattle.grammar_theory.specs.Ebnf.{is_no_tree, is_next_node, is_named, is_inside}
 
 -- no number in the tree is larger
 abbrev pub NoneLarger : ℕ → Tree → Type 0

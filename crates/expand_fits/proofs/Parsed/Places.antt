@@ -6,8 +6,8 @@ use Rattle.std.specs.List.{flat_map, list_any}
 use Rattle.std.proofs.lemmas.Bool.{ne_eqb}
 use Rattle.std.proofs.lemmas.Grind.{flat_map-append}
 use Rattle.std.proofs.lemmas.List.Elements.{All-nil, All-cons}
-use Rattle.ebnf.specs.Words.{Word, words, IsSublist, is_done, is_left_out, is_kept}
-use Rattle.ebnf.proofs.WordOrder.{none_kept, kept_both, kept_again, kept_first, kept_second}
+use Rattle.grammar_theory.specs.Words.{Word, words, IsSublist, is_done, is_left_out, is_kept}
+use Rattle.grammar_theory.proofs.WordOrder.{none_kept, kept_both, kept_again, kept_first, kept_second}
 use Rattle.unity_syntax.specs.declared.declaration.Plain.{Plain}
 use Rattle.unity_syntax.specs.declared.declaration.VarType.{VarType}
 use Rattle.unity_syntax.specs.declared.declaration.Var.{Var}
@@ -17,11 +17,11 @@ use Rattle.unity_syntax.specs.declared.document.Document.{Document}
 use Rattle.unity_syntax.specs.View.{view_option, view_list, view_some, view_name, view_range, view_plain}
 use Rattle.unity_syntax.specs.View.{view_var_type, view_var, view_def, view_init, view_items, view_initially}
 use Rattle.unity_syntax.specs.View.{view_program, view_proof, view_schedule, view_certificates, view_part, view}
-use Rattle.unity_meaning.specs.Setting.{element_type, declarations, programs_among}
-use Rattle.name_scopes.specs.Declarations.{items_of}
+use Rattle.meaning_documents.specs.Setting.{element_type, declarations, programs_among}
+use Rattle.names_rules.specs.Declarations.{items_of}
 use Rattle.core_terms.specs.Conditions.{EachPair}
 use Rattle.expand_declarations.specs.Slots.{declared_by}
-use Rattle.declaration_laws.proofs.Lists.{Pairs, each_pair}
+use Rattle.expand_correct.proofs.Declared.Lists.{Pairs, each_pair}
 use Rattle.expand_fits_parts.specs.Forms.ShowingLaws.{names_apart}
 use Rattle.expand_fits.specs.StartConditions.{plain_enumeration, enumerations}
 use Rattle.unity_parser.specs.ParseAnswers.{WordsRise}

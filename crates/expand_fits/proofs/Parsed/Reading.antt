@@ -1,6 +1,6 @@
 -- A document that was read from a text is sound.
 use Rattle.std.proofs.Common.{ℕ, ◌≤◌, ◌<◌, ◌^◌, List, length, arith}
-use Rattle.ebnf.specs.Words.{words}
+use Rattle.grammar_theory.specs.Words.{words}
 use Rattle.unity_syntax.specs.declared.document.Document.{Document}
 use Rattle.unity_syntax.specs.Classes.{terminals}
 use Rattle.unity_syntax.specs.Grammar.{grammar}

@@ -5,8 +5,9 @@ use Rattle.std.proofs.lemmas.Bool.{leb-true}
 use Rattle.unity_syntax.specs.declared.token.Token.{Token}
 use Rattle.unity_syntax.specs.declared.token.TokenKind.{TokenKind}
 use Rattle.unity_syntax.specs.Classes.{value_of, terminals}
-use Rattle.name_laws.proofs.AttributeTheorems.{and_first, and_second}
-use Rattle.unity_lexer.specs.Tokens.{IsTokens, Reads, nothing, gap, token, Spells, is_numeral, begins_with_spare_zero}
+use Rattle.names_laws.proofs.AttributeTheorems.{and_first, and_second}
+use Rattle.unity_lexer.specs.Tokens.{IsTokens, Tokenizes, nothing, gap, token, Spells, is_numeral}
+use Rattle.unity_lexer.specs.Tokens.{begins_with_spare_zero}
 use Rattle.expand_fits.proofs.Parsed.Numerals.{SmallTokens}
 
 number_small : (w : List ℕ) (n : ℕ) → Spells w (TokenKind.Number n) → n ≤ 2 ^ 62
@@ -23,7 +24,7 @@ value_small w (TokenKind.Number n) h = number_small w n h
 value_small w (TokenKind.Reserved r) h = omega arith
 value_small w (TokenKind.Symbol s) h = omega arith
 
-reads_small : (bytes : List ℕ) {at end : ℕ} {text rest : List ℕ} {ts : List Token} → Reads at text ts end rest →
+reads_small : (bytes : List ℕ) {at end : ℕ} {text rest : List ℕ} {ts : List Token} → Tokenizes at text ts end rest →
     SmallTokens (2 ^ 62) (terminals bytes ts)
 reads_small bytes nothing = tt
 reads_small bytes (gap piece after e g more) = reads_small bytes more

@@ -1,8 +1,8 @@
 -- The version of a document is 1.
 use Rattle.std.proofs.Common.{◌≡◌, ℕ, ◌||◌, ◌==◌, List, IsTrue, refl, sym, ◌∙◌, ap}
 use Rattle.std.proofs.lemmas.Bool.{eqb-true}
-use Rattle.ebnf.specs.Ebnf.{Terminal, Tree, numeral, pair, node, Ebnf, version, both, named, Grammar, Derives}
-use Rattle.ebnf.specs.Ebnf.{is_version, is_both, is_named}
+use Rattle.grammar_theory.specs.Ebnf.{Terminal, Tree, numeral, pair, node, Ebnf, version, both, named, Grammar, Derives}
+use Rattle.grammar_theory.specs.Ebnf.{is_version, is_both, is_named}
 use Rattle.unity_syntax.specs.declared.document.Document.{Document}
 use Rattle.unity_syntax.specs.Kinds.{Kind, kind}
 use Rattle.unity_syntax.specs.Grammar.{grammar, document_, second}

@@ -6,10 +6,10 @@ use Rattle.std.proofs.lemmas.Int.{ints}
 use Rattle.std.proofs.lemmas.List.Elements.{All-nil, All-cons, All-head, All-tail}
 use Rattle.case_tables.specs.declared.symbol_table.Symbol.{Symbol}
 use Rattle.unity_syntax.specs.declared.name.End.{End}
-use Rattle.unity_meaning.specs.Value.{signed, plus}
+use Rattle.meaning_documents.specs.Value.{signed, plus}
 use Rattle.core_terms.specs.Conditions.{ArgFits}
-use Rattle.name_scopes.specs.Declarations.{some_of}
-use Rattle.name_scopes.specs.Scope.{Bounds, Params}
+use Rattle.names_rules.specs.Declarations.{some_of}
+use Rattle.names_rules.specs.Scope.{Bounds, Params}
 use Rattle.expand_declarations.specs.References.{core_arg, word_arg, param_named}
 use Rattle.expand_fits_parts.specs.Conditions.ArgumentConditions.{OffsetFits, EndFits, ArgumentsFit}
 

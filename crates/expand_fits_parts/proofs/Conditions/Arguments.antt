@@ -28,27 +28,27 @@ use Rattle.core_terms.specs.declared.documents.PTerm.{PTerm}
 use Rattle.core_terms.specs.declared.documents.PTerm.TheVariants.{Imply, From, Trans, Either, Exists, Induct, Psp}
 use Rattle.core_terms.specs.declared.documents.PTerm.TheVariants.{Weaken}
 use Rattle.core_terms.specs.Conditions.{Parts, parts_step, parts_of, also, arg_names_only, is_below}
-use Rattle.name_scopes.specs.declared.named.Meaning.{Meaning}
-use Rattle.name_scopes.specs.Scope.{Table, Params}
-use Rattle.name_scopes.specs.Part.{run}
-use Rattle.name_scopes.specs.Declarations.{some_of}
-use Rattle.name_scopes.specs.Proofs.{Programs, proof_scope, param_part, step_name, step_body, step_rest, step_part}
-use Rattle.name_scopes.specs.WellNamed.{Declared, IsWellNamed, nothing_declared, proved_program, steps_reading}
-use Rattle.name_scopes.specs.WellNamed.{part_of, param_number}
-use Rattle.name_laws.proofs.AttributeTheorems.{earlier_first, earlier_second}
-use Rattle.document_words.specs.Texts.{Texts}
-use Rattle.document_words.specs.WordNumbers.{document_words}
+use Rattle.names_rules.specs.declared.named.Meaning.{Meaning}
+use Rattle.names_rules.specs.Scope.{Table, Params}
+use Rattle.names_rules.specs.Part.{run}
+use Rattle.names_rules.specs.Declarations.{some_of}
+use Rattle.names_rules.specs.Proofs.{Programs, proof_scope, param_part, step_name, step_body, step_rest, step_part}
+use Rattle.names_rules.specs.WellNamed.{Declared, IsWellNamed, nothing_declared, proved_program, steps_reading}
+use Rattle.names_rules.specs.WellNamed.{part_of, param_number}
+use Rattle.names_rules.proofs.Faults.{earlier_first, earlier_second}
+use Rattle.expand_declarations.specs.Texts.{Texts}
+use Rattle.expand_declarations.specs.WordNumbers.{document_words}
 use Rattle.expand_declarations.specs.References.{with_param, step_params, param_range, text_rule}
 use Rattle.expand_declarations.specs.References.{names_layer, term_names, param_named, word_arg, core_arg}
 use Rattle.expand_declarations.proofs.PairRules.{of_pair_rule}
-use Rattle.expansion_laws.specs.Forming.{Scope}
-use Rattle.expand_proofs.specs.ProofTerms.{Place, Terming, term_layer, termed, pair_term, ref_in, with_bound_name}
-use Rattle.expand_proofs.specs.Steps.{step_place, core_rule, core_step, core_proof}
-use Rattle.unity_meaning.specs.Steps.{proofs_among}
-use Rattle.declaration_laws.proofs.Found.{or_right}
-use Rattle.declaration_laws.proofs.Slots.{parts_fault}
-use Rattle.declaration_laws.proofs.Faultless.{each_of_run}
-use Rattle.core_documents.specs.Cores.{document_scope, core_document}
+use Rattle.expand_rules.specs.Forming.{Scope}
+use Rattle.expand_steps.specs.ProofTerms.{Place, Terming, term_layer, termed, pair_term, ref_in, with_bound_name}
+use Rattle.expand_steps.specs.Steps.{step_place, core_rule, core_step, core_proof}
+use Rattle.meaning_documents.specs.Steps.{proofs_among}
+use Rattle.expand_correct.proofs.Declared.Found.{or_right}
+use Rattle.expand_declarations.proofs.NearIndices.{parts_fault}
+use Rattle.expand_declarations.proofs.Faultless.{each_of_run}
+use Rattle.expand_documents.specs.Cores.{document_scope, core_document}
 use Rattle.expand_fits_parts.specs.Conditions.StepConditions.{ArgsNamed, RuleNamed, UsingNamed, RulesNamed}
 use Rattle.expand_fits_parts.proofs.Conditions.Proofs.{all_proofs}
 use Rattle.expand_fits_parts.proofs.Conditions.Numbering.{entered_length, new_param}

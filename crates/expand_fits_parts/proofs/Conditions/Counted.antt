@@ -16,17 +16,17 @@ use Rattle.unity_syntax.specs.declared.statement.Assign.{Assign}
 use Rattle.unity_syntax.specs.declared.statement.Item
 use Rattle.unity_syntax.specs.declared.statement.Item.{Item}
 use Rattle.unity_syntax.specs.declared.statement.Items.{Items}
-use Rattle.unity_meaning.specs.Names.{Bindings, natural}
-use Rattle.unity_meaning.specs.Value.{end_value, range_ends, range_size, count_up, range_values}
-use Rattle.unity_meaning.specs.Instances.{Instance, Unfolding, item_instances, unfolded, instances}
-use Rattle.unity_meaning.proofs.InstanceLaws.{instances-Statement, instances-Quantified, instances-Items}
-use Rattle.name_laws.proofs.AttributeTheorems.{earlier_first, earlier_second}
-use Rattle.expansion_laws.specs.Measures.{nearer, is_fit, is_fit_range, place_of}
-use Rattle.expansion_laws.specs.Forming.{Scope, fit_values}
-use Rattle.expansion_laws.specs.Lists.{total, item_count, items_count, inside, item_fault, items_fault, first_fault}
-use Rattle.expansion_laws.specs.Lists.{fault_at, place_where, is_empty, empty_place, large_place, range_place}
-use Rattle.expansion_laws.specs.Lists.{range_fault}
-use Rattle.statement_lists.proofs.CountLaws.{count-Statement, count-Quantified, count-parts}
+use Rattle.meaning_documents.specs.Names.{Bindings, natural}
+use Rattle.meaning_documents.specs.Value.{end_value, range_ends, range_size, count_up, range_values}
+use Rattle.meaning_documents.specs.Instances.{Instance, Unfolding, item_instances, unfolded, instances}
+use Rattle.meaning_documents.proofs.InstanceLaws.{instances-Statement, instances-Quantified, instances-Items}
+use Rattle.names_rules.proofs.Faults.{earlier_first, earlier_second}
+use Rattle.expand_rules.specs.Measures.{nearer, is_fit, is_fit_range, place_of}
+use Rattle.expand_rules.specs.Forming.{Scope, fit_values}
+use Rattle.expand_rules.specs.Lists.{total, item_count, items_count, inside, item_fault, items_fault, first_fault}
+use Rattle.expand_rules.specs.Lists.{fault_at, place_where, is_empty, empty_place, large_place, range_place}
+use Rattle.expand_rules.specs.Lists.{range_fault}
+use Rattle.expand_statements.proofs.CountLaws.{count-Statement, count-Quantified, count-parts}
 use Rattle.expand_fits_parts.specs.Conditions.StatementConditions.{InstancesCounted}
 use Rattle.expand_fits_parts.proofs.Conditions.ItemLaws.{of_items, fault-Quantified, fault-Items}
 

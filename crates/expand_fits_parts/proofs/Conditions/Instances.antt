@@ -14,12 +14,12 @@ use Rattle.unity_syntax.specs.declared.statement.Assign.{Assign}
 use Rattle.unity_syntax.specs.declared.statement.Item
 use Rattle.unity_syntax.specs.declared.statement.Item.{Item}
 use Rattle.unity_syntax.specs.declared.statement.Items.{Items}
-use Rattle.unity_meaning.specs.Names.{Bindings}
-use Rattle.unity_meaning.specs.Value.{end_value, range_ends, range_size, count_up, range_values}
-use Rattle.unity_meaning.specs.Instances.{Instance, Unfolding, outermost_first, item_instances, unfolded, instances}
-use Rattle.unity_meaning.proofs.InstanceLaws.{instances-Statement, instances-Quantified, instances-Items}
-use Rattle.document_words.specs.Texts.{Texts, item_texts, items_texts}
-use Rattle.expand_fits_parts.specs.Conditions.StatementConditions.{AreApart, InstancesApart, InstancesLabelled}
+use Rattle.meaning_documents.specs.Names.{Bindings}
+use Rattle.meaning_documents.specs.Value.{end_value, range_ends, range_size, count_up, range_values}
+use Rattle.meaning_documents.specs.Instances.{Instance, Unfolding, outermost_first, item_instances, unfolded, instances}
+use Rattle.meaning_documents.proofs.InstanceLaws.{instances-Statement, instances-Quantified, instances-Items}
+use Rattle.expand_declarations.specs.Texts.{Texts, item_texts, items_texts}
+use Rattle.expand_fits_parts.specs.Conditions.StatementConditions.{ApartInstances, InstancesApart, InstancesLabelled}
 use Rattle.expand_fits_parts.proofs.Conditions.Lists.{Pairs, each_pair, pairs_on, all_both}
 use Rattle.expand_fits_parts.proofs.Conditions.ItemLaws.{of_items}
 use Rattle.expand_fits_parts.proofs.Conditions.Labels.{has, Fresh, Apart, Differs, fresh_parts, apart, labelled}
@@ -308,11 +308,11 @@ length_numbers (b ∷ bs) = let all = length-append (outermost_first bs) (b.1 �
 pub instances_apart : InstancesApart
 instances_apart s labels items h =
     let n = named items labels (labelled items s labels h).fresh in
-    each_pair AreApart (instances items) (both (instances items) (n.level [] [] refl) (n.differ []))
+    each_pair ApartInstances (instances items) (both (instances items) (n.level [] [] refl) (n.differ []))
   where
-    front : (i : Instance) (js : List Instance) → All (SameLength i) js → All (Differ i) js → All (AreApart i) js
-    front i [] h k = All-nil (AreApart i)
-    front i (j ∷ js) h k = All-cons (AreApart i) j js (record {
+    front : (i : Instance) (js : List Instance) → All (SameLength i) js → All (Differ i) js → All (ApartInstances i) js
+    front i [] h k = All-nil (ApartInstances i)
+    front i (j ∷ js) h k = All-cons (ApartInstances i) j js (record {
       differ = All-head (Differ i) j js k;
       alike = λ same. length_numbers i.bindings ∙ All-head (SameLength i) j js h same
           ∙ sym (length_numbers j.bindings);
@@ -323,7 +323,7 @@ instances_apart s labels items h =
     tails x xs ys h = All-weaker (λ i. All (SameLength i) (x ∷ xs)) (λ i. All (SameLength i) xs)
         (λ i k. All-tail (SameLength i) x xs k) ys h
 
-    both : (xs : List Instance) → All (λ i. All (SameLength i) xs) xs → Pairs Differ xs → Pairs AreApart xs
+    both : (xs : List Instance) → All (λ i. All (SameLength i) xs) xs → Pairs Differ xs → Pairs ApartInstances xs
     both [] h k = tt
     both (x ∷ xs) h k = (
       front x xs (All-tail (SameLength x) x xs (All-head (λ i. All (SameLength i) (x ∷ xs)) x xs h)) k.0,

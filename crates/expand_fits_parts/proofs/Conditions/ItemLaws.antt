@@ -11,17 +11,17 @@ use Rattle.unity_syntax.specs.declared.statement.Item.TheOpen.{Item-F, Items-F}
 use Rattle.unity_syntax.specs.declared.statement.Item.TheFolds.{map-Item, map-Items}
 use Rattle.unity_syntax.specs.declared.statement.Item.TheVariants.{rolls-Statement, rolls-Quantified}
 use Rattle.unity_syntax.specs.declared.statement.Items.{Items, roll-Items, ind-Items, fold-roll-Items}
-use Rattle.unity_meaning.specs.Names.{Bindings}
-use Rattle.name_scopes.specs.declared.named.Meaning.{Meaning}
-use Rattle.name_scopes.specs.Scope.{Scope, with_bound}
-use Rattle.name_scopes.specs.Reading.{earlier, beside, binding, filled}
-use Rattle.name_scopes.specs.Part.{before, quiet, run}
-use Rattle.name_scopes.specs.Statements.{Listed, Labels, assign_reading, item_part, items_part, label_part}
-use Rattle.name_scopes.specs.Statements.{item_layer, items_layer}
-use Rattle.expansion_laws.specs.Forming.{Scope as CoreScope}
-use Rattle.expansion_laws.specs.Assigning.{effect_of, among}
-use Rattle.expansion_laws.specs.Lists.{Failing, fault_layer, faults_layer, item_fault, items_fault, first_fault}
-use Rattle.expansion_laws.specs.Lists.{statement_fault, range_fault, inside}
+use Rattle.meaning_documents.specs.Names.{Bindings}
+use Rattle.names_rules.specs.declared.named.Meaning.{Meaning}
+use Rattle.names_rules.specs.Scope.{Scope, with_bound}
+use Rattle.names_rules.specs.Reading.{earlier, beside, binding, filled}
+use Rattle.names_rules.specs.Part.{before, quiet, run}
+use Rattle.names_rules.specs.Statements.{Listed, Labels, assign_reading, item_part, items_part, label_part}
+use Rattle.names_rules.specs.Statements.{item_layer, items_layer}
+use Rattle.expand_rules.specs.Forming.{Scope as CoreScope}
+use Rattle.expand_rules.specs.Assigning.{effect_of, among}
+use Rattle.expand_rules.specs.Lists.{Failing, fault_layer, faults_layer, item_fault, items_fault, first_fault}
+use Rattle.expand_rules.specs.Lists.{statement_fault, range_fault, inside}
 
 -- induction
 

@@ -16,13 +16,13 @@ use Rattle.unity_syntax.specs.declared.statement.Item.{Item, fold-roll-Item}
 use Rattle.unity_syntax.specs.declared.statement.Item.TheOpen.{Item-F}
 use Rattle.unity_syntax.specs.declared.statement.Item.TheVariants.{rolls-Statement, rolls-Quantified}
 use Rattle.unity_syntax.specs.declared.statement.Items.{Items, fold-roll-Items}
-use Rattle.name_scopes.specs.declared.named.Meaning.{Meaning}
-use Rattle.name_scopes.specs.Scope.{Scope, with_bound}
-use Rattle.name_scopes.specs.Reading.{earlier, unless, beside, binding, filled}
-use Rattle.name_scopes.specs.Part.{Part, run}
-use Rattle.name_scopes.specs.Statements.{Labels, assign_reading, item_part, items_part}
-use Rattle.name_laws.proofs.AttributeTheorems.{earlier_first, earlier_second, unless_none}
-use Rattle.document_words.specs.Texts.{Texts, item_layer, items_layer, item_texts, items_texts}
+use Rattle.names_rules.specs.declared.named.Meaning.{Meaning}
+use Rattle.names_rules.specs.Scope.{Scope, with_bound}
+use Rattle.names_rules.specs.Reading.{earlier, unless, beside, binding, filled}
+use Rattle.names_rules.specs.Part.{Part, run}
+use Rattle.names_rules.specs.Statements.{Labels, assign_reading, item_part, items_part}
+use Rattle.names_rules.proofs.Faults.{earlier_first, earlier_second, unless_none}
+use Rattle.expand_declarations.specs.Texts.{Texts, item_layer, items_layer, item_texts, items_texts}
 use Rattle.expand_fits_parts.proofs.Conditions.ItemLaws.{of_items, part-Statement, part-Quantified, part-Items}
 
 -- the texts of items, one equation for each kind

@@ -14,25 +14,25 @@ use Rattle.unity_syntax.specs.declared.proof.Param.{Param}
 use Rattle.unity_syntax.specs.declared.proof.Rule.{Rule}
 use Rattle.unity_syntax.specs.declared.proof.Step.{Step}
 use Rattle.unity_syntax.specs.declared.document.Part.{Part}
-use Rattle.name_scopes.specs.declared.named.Meaning.{Meaning}
-use Rattle.name_scopes.specs.Scope.{Table, Params, found, bound_named, visible}
-use Rattle.name_scopes.specs.Reading.{binding, filled}
-use Rattle.name_scopes.specs.Part.{run}
-use Rattle.name_scopes.specs.Declarations.{some_of}
-use Rattle.name_scopes.specs.Proofs.{Programs, proof_scope, param_part, step_name, step_body, step_rest, step_part}
-use Rattle.name_scopes.specs.WellNamed.{Declared, nothing_declared, proved_program, steps_reading, part_of}
-use Rattle.name_laws.proofs.AttributeTheorems.{earlier_first, earlier_second, unless_none}
-use Rattle.document_words.specs.Texts.{Texts}
-use Rattle.document_words.specs.WordNumbers.{document_words}
+use Rattle.names_rules.specs.declared.named.Meaning.{Meaning}
+use Rattle.names_rules.specs.Scope.{Table, Params, found, bound_named, visible}
+use Rattle.names_rules.specs.Reading.{binding, filled}
+use Rattle.names_rules.specs.Part.{run}
+use Rattle.names_rules.specs.Declarations.{some_of}
+use Rattle.names_rules.specs.Proofs.{Programs, proof_scope, param_part, step_name, step_body, step_rest, step_part}
+use Rattle.names_rules.specs.WellNamed.{Declared, nothing_declared, proved_program, steps_reading, part_of}
+use Rattle.names_rules.proofs.Faults.{earlier_first, earlier_second, unless_none}
+use Rattle.expand_declarations.specs.Texts.{Texts}
+use Rattle.expand_declarations.specs.WordNumbers.{document_words}
 use Rattle.expand_declarations.specs.References.{with_param, step_params, param_range, text_rule}
 use Rattle.expand_declarations.proofs.PairRules.{of_pair_rule}
-use Rattle.expansion_laws.specs.Forming.{Scope}
-use Rattle.expand_proofs.specs.ProofTerms.{Place, termed, ref_in}
-use Rattle.expand_proofs.specs.Steps.{step_place, core_rule, core_step, core_proof}
-use Rattle.unity_meaning.specs.Steps.{proofs_among}
-use Rattle.declaration_laws.proofs.Slots.{parts_fault}
-use Rattle.declaration_laws.proofs.Faultless.{each_of_run}
-use Rattle.core_documents.specs.Cores.{document_scope}
+use Rattle.expand_rules.specs.Forming.{Scope}
+use Rattle.expand_steps.specs.ProofTerms.{Place, termed, ref_in}
+use Rattle.expand_steps.specs.Steps.{step_place, core_rule, core_step, core_proof}
+use Rattle.meaning_documents.specs.Steps.{proofs_among}
+use Rattle.expand_declarations.proofs.NearIndices.{parts_fault}
+use Rattle.expand_declarations.proofs.Faultless.{each_of_run}
+use Rattle.expand_documents.specs.Cores.{document_scope}
 use Rattle.expand_fits_parts.specs.Conditions.TermConditions.{RuleIsNumbered, TermsNumbered}
 use Rattle.expand_fits_parts.proofs.Conditions.Proofs.{all_proofs}
 use Rattle.expand_fits_parts.proofs.Conditions.Terms.{counted}

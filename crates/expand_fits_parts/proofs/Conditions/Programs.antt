@@ -17,30 +17,31 @@ use Rattle.unity_syntax.specs.declared.statement.Item.{Item}
 use Rattle.unity_syntax.specs.declared.statement.Items.{Items}
 use Rattle.unity_syntax.specs.declared.document.Part.{Part}
 use Rattle.unity_syntax.specs.declared.document.Document.{Document}
-use Rattle.unity_meaning.specs.Names.{Bindings}
-use Rattle.unity_meaning.specs.Value.{range_values}
-use Rattle.unity_meaning.specs.Setting.{programs_among, items_of}
-use Rattle.unity_meaning.specs.Programs.{name_of}
-use Rattle.unity_meaning.specs.Instances.{Instance, item_instances, unfolded, instances}
-use Rattle.unity_meaning.proofs.InstanceLaws.{instances-Statement, instances-Quantified, instances-Items}
+use Rattle.meaning_documents.specs.Names.{Bindings}
+use Rattle.meaning_documents.specs.Value.{range_values}
+use Rattle.meaning_documents.specs.Setting.{programs_among, items_of}
+use Rattle.meaning_documents.specs.Programs.{name_of}
+use Rattle.meaning_documents.specs.Instances.{Instance, item_instances, unfolded, instances}
+use Rattle.meaning_documents.proofs.InstanceLaws.{instances-Statement, instances-Quantified, instances-Items}
 use Rattle.core_terms.specs.declared.programs.CSlot.{CSlot}
 use Rattle.core_terms.specs.declared.programs.CProgram.{CProgram}
 use Rattle.core_terms.specs.Conditions.{IsWord, ProgramWords, UnionFits}
 use Rattle.core_terms.specs.Unions.{joined_programs}
-use Rattle.document_words.specs.Texts.{Texts, item_texts, items_texts, program_texts, part_texts, document_texts}
-use Rattle.document_words.specs.Texts.{var_texts}
-use Rattle.document_words.specs.WordNumbers.{document_words, with_texts, word_number}
+use Rattle.expand_declarations.specs.Texts.{Texts, item_texts, items_texts, program_texts, part_texts, document_texts}
+use Rattle.expand_declarations.specs.Texts.{var_texts}
+use Rattle.expand_declarations.specs.WordNumbers.{document_words, with_texts, word_number}
 use Rattle.expand_declarations.specs.Slots.{document_slots}
-use Rattle.expansion_laws.specs.Forming.{Scope}
-use Rattle.expansion_laws.specs.Assigning.{stated, statements}
-use Rattle.expansion_laws.specs.Programs.{core_statement}
-use Rattle.declaration_laws.specs.WordLaws.{is_among}
-use Rattle.declaration_laws.proofs.Found.{stands_at_number, gathered, words_found, numbers_tell, or_left, or_right}
-use Rattle.declaration_laws.proofs.Lists.{IsPart}
-use Rattle.declaration_laws.proofs.Slots.{each_part_texts}
-use Rattle.declaration_laws.proofs.Names.{programs_differ}
-use Rattle.core_documents.specs.Cores.{core_document, document_scope, core_named, core_union, core_program, with_core}
-use Rattle.core_documents.specs.Cores.{with_cores}
+use Rattle.expand_rules.specs.Forming.{Scope}
+use Rattle.expand_rules.specs.Assigning.{stated, statements}
+use Rattle.expand_rules.specs.Programs.{core_statement}
+use Rattle.expand_correct.specs.Declared.WordLaws.{is_among}
+use Rattle.expand_correct.proofs.Declared.Found.{stands_at_number, gathered, words_found, numbers_tell, or_left}
+use Rattle.expand_correct.proofs.Declared.Found.{or_right}
+use Rattle.expand_correct.proofs.Declared.Lists.{IsPart}
+use Rattle.expand_correct.proofs.Declared.Slots.{each_part_texts}
+use Rattle.expand_correct.proofs.Declared.Names.{programs_differ}
+use Rattle.expand_documents.specs.Cores.{core_document, document_scope, core_named, core_union, core_program, with_core}
+use Rattle.expand_documents.specs.Cores.{with_cores}
 use Rattle.expand_fits_parts.specs.Conditions.WordConditions.{TextsHavePlaces, NumbersTellTexts, ProgramsHaveWords}
 use Rattle.expand_fits_parts.specs.Conditions.ProgramConditions.{ProgramNamesDiffer, UnionsFit}
 use Rattle.expand_fits_parts.proofs.Conditions.Lists.{Pairs, each_pair, pairs_of, pairs_on, pairs_with}

@@ -18,26 +18,27 @@ use Rattle.core_terms.specs.declared.trees.Range.{Range}
 use Rattle.core_terms.specs.declared.trees.CForm.{CForm}
 use Rattle.core_terms.specs.declared.documents.CProof.{CProof}
 use Rattle.core_terms.specs.Conditions.{EachPair, IsRange, KindFits}
-use Rattle.name_scopes.specs.Scope.{Table}
-use Rattle.name_scopes.specs.Reading.{unless, earlier}
-use Rattle.name_scopes.specs.Declarations.{some_of}
-use Rattle.name_scopes.specs.Proofs.{Programs, takes_params, step_rest, step_part}
-use Rattle.name_scopes.specs.WellNamed.{Declared, nothing_declared, proved_program, steps_reading}
-use Rattle.name_scopes.specs.WellNamed.{part_of}
-use Rattle.name_laws.proofs.AttributeTheorems.{earlier_first, earlier_second, unless_none}
-use Rattle.document_words.specs.Texts.{Texts, step_texts, proof_texts, part_texts, document_texts}
-use Rattle.document_words.specs.WordNumbers.{document_words, word_number}
-use Rattle.unity_meaning.specs.Steps.{between_kind, claim_kind, proofs_among}
+use Rattle.names_rules.specs.Scope.{Table}
+use Rattle.names_rules.specs.Reading.{unless, earlier}
+use Rattle.names_rules.specs.Declarations.{some_of}
+use Rattle.names_rules.specs.Proofs.{Programs, takes_params, step_rest, step_part}
+use Rattle.names_rules.specs.WellNamed.{Declared, nothing_declared, proved_program, steps_reading}
+use Rattle.names_rules.specs.WellNamed.{part_of}
+use Rattle.names_rules.proofs.Faults.{earlier_first, earlier_second, unless_none}
+use Rattle.expand_declarations.specs.Texts.{Texts, step_texts, proof_texts, part_texts, document_texts}
+use Rattle.expand_declarations.specs.WordNumbers.{document_words, word_number}
+use Rattle.meaning_documents.specs.Steps.{between_kind, claim_kind, proofs_among}
 use Rattle.expand_declarations.specs.References.{param_range}
-use Rattle.expansion_laws.specs.Forming.{Scope}
-use Rattle.expand_proofs.specs.Steps.{core_step, core_proof, claim_p, claim_q, step_place}
-use Rattle.declaration_laws.specs.WordLaws.{is_among}
-use Rattle.declaration_laws.proofs.Found.{numbers_tell, or_right}
-use Rattle.declaration_laws.proofs.Lists.{IsPart, each_part}
-use Rattle.declaration_laws.proofs.Slots.{each_part_texts, parts_fault}
-use Rattle.declaration_laws.proofs.Faultless.{each_of_run}
-use Rattle.declaration_laws.proofs.Names.{proofs_differ, steps_differ, params_have_ranges}
-use Rattle.core_documents.specs.Cores.{document_scope, core_proofs}
+use Rattle.expand_rules.specs.Forming.{Scope}
+use Rattle.expand_steps.specs.Steps.{core_step, core_proof, claim_p, claim_q, step_place}
+use Rattle.expand_correct.specs.Declared.WordLaws.{is_among}
+use Rattle.expand_correct.proofs.Declared.Found.{numbers_tell, or_right}
+use Rattle.expand_correct.proofs.Declared.Lists.{IsPart, each_part}
+use Rattle.expand_correct.proofs.Declared.Slots.{each_part_texts}
+use Rattle.expand_declarations.proofs.NearIndices.{parts_fault}
+use Rattle.expand_declarations.proofs.Faultless.{each_of_run}
+use Rattle.expand_correct.proofs.Declared.Names.{proofs_differ, steps_differ, params_have_ranges}
+use Rattle.expand_documents.specs.Cores.{document_scope, core_proofs}
 use Rattle.expand_fits_parts.specs.Conditions.ProofConditions.{ProofProgramsDiffer, StepNamesDiffer}
 use Rattle.expand_fits_parts.specs.Conditions.ProofConditions.{ParametersHaveRanges, KindsFit}
 use Rattle.expand_fits_parts.proofs.Conditions.Lists.{each_pair, pairs_of, pairs_with, pairs_map}

@@ -14,27 +14,27 @@ use Rattle.core_terms.specs.declared.documents.PTerm.{PTerm}
 use Rattle.core_terms.specs.declared.documents.PTerm.TheVariants.{Imply, From, Trans, Either, Exists, Induct, Psp}
 use Rattle.core_terms.specs.declared.documents.PTerm.TheVariants.{Weaken}
 use Rattle.core_terms.specs.Conditions.{IsRange, Parts, parts_step, parts_of, also}
-use Rattle.name_scopes.specs.declared.named.Meaning.{Meaning}
-use Rattle.name_scopes.specs.Scope.{Scope as NameScope, Table, with_bound}
-use Rattle.name_scopes.specs.Reading.{beside, binding, filled}
-use Rattle.name_scopes.specs.Part.{run}
-use Rattle.name_scopes.specs.Declarations.{some_of}
-use Rattle.name_scopes.specs.Proofs.{Programs, Derived, proof_scope, param_part, step_name, step_body, step_rest}
-use Rattle.name_scopes.specs.Proofs.{step_part, boolean, number, claim_reading, rule_part, ref_reading, term_part}
-use Rattle.name_scopes.specs.Proofs as reading
-use Rattle.name_scopes.specs.WellNamed.{Declared, nothing_declared, proved_program, steps_reading, part_of}
-use Rattle.name_laws.proofs.AttributeTheorems.{earlier_first, earlier_second}
-use Rattle.document_words.specs.WordNumbers.{document_words}
+use Rattle.names_rules.specs.declared.named.Meaning.{Meaning}
+use Rattle.names_rules.specs.Scope.{Scope as NameScope, Table, with_bound}
+use Rattle.names_rules.specs.Reading.{beside, binding, filled}
+use Rattle.names_rules.specs.Part.{run}
+use Rattle.names_rules.specs.Declarations.{some_of}
+use Rattle.names_rules.specs.Proofs.{Programs, Derived, proof_scope, param_part, step_name, step_body, step_rest}
+use Rattle.names_rules.specs.Proofs.{step_part, boolean, number, claim_reading, rule_part, ref_reading, term_part}
+use Rattle.names_rules.specs.Proofs as reading
+use Rattle.names_rules.specs.WellNamed.{Declared, nothing_declared, proved_program, steps_reading, part_of}
+use Rattle.names_rules.proofs.Faults.{earlier_first, earlier_second}
+use Rattle.expand_declarations.specs.WordNumbers.{document_words}
 use Rattle.expand_declarations.specs.Numbers.{core_range}
 use Rattle.expand_declarations.specs.References.{text_rule}
 use Rattle.expand_declarations.proofs.PairRules.{of_pair_rule}
-use Rattle.expand_proofs.specs.ProofTerms.{Place, Terming, term_layer, termed, fixed_ends, pair_term, ref_in}
-use Rattle.expand_proofs.specs.ProofTerms.{with_bound_name}
-use Rattle.expand_proofs.specs.Steps.{step_place, core_rule, core_step, core_proof}
-use Rattle.unity_meaning.specs.Steps.{proofs_among}
-use Rattle.declaration_laws.proofs.Slots.{parts_fault}
-use Rattle.declaration_laws.proofs.Faultless.{each_of_run, sound_range}
-use Rattle.core_documents.specs.Cores.{document_scope}
+use Rattle.expand_steps.specs.ProofTerms.{Place, Terming, term_layer, termed, fixed_ends, pair_term, ref_in}
+use Rattle.expand_steps.specs.ProofTerms.{with_bound_name}
+use Rattle.expand_steps.specs.Steps.{step_place, core_rule, core_step, core_proof}
+use Rattle.meaning_documents.specs.Steps.{proofs_among}
+use Rattle.expand_declarations.proofs.NearIndices.{parts_fault}
+use Rattle.expand_declarations.proofs.Faultless.{each_of_run, sound_range}
+use Rattle.expand_documents.specs.Cores.{document_scope}
 use Rattle.expand_fits_parts.specs.Conditions.TermConditions.{RuleHasRanges, BoundNamesHaveRanges}
 use Rattle.expand_fits_parts.proofs.Conditions.Proofs.{all_proofs}
 use Rattle.expand_fits_parts.proofs.Conditions.Terms.{at-Imply, at-From, at-Trans, at-Either, at-Exists, at-Induct}

@@ -24,19 +24,19 @@ use Rattle.core_terms.specs.declared.documents.PTerm.{PTerm}
 use Rattle.core_terms.specs.declared.documents.PTerm.TheVariants.{Imply, From, Trans, Either, Exists, Induct, Psp}
 use Rattle.core_terms.specs.declared.documents.PTerm.TheVariants.{Weaken}
 use Rattle.core_terms.specs.Conditions.{is_below, refs_step, term_refs, rule_refs, rule_ranges}
-use Rattle.name_scopes.specs.declared.named.Meaning.{Meaning}
-use Rattle.name_scopes.specs.Scope.{Params}
-use Rattle.name_scopes.specs.Declarations.{some_of}
-use Rattle.name_scopes.specs.WellNamed.{param_number}
-use Rattle.document_words.specs.Texts.{Texts}
-use Rattle.document_words.specs.WordNumbers.{document_words}
+use Rattle.names_rules.specs.declared.named.Meaning.{Meaning}
+use Rattle.names_rules.specs.Scope.{Params}
+use Rattle.names_rules.specs.Declarations.{some_of}
+use Rattle.names_rules.specs.WellNamed.{param_number}
+use Rattle.expand_declarations.specs.Texts.{Texts}
+use Rattle.expand_declarations.specs.WordNumbers.{document_words}
 use Rattle.expand_declarations.specs.References.{with_param, param_range, text_rule}
 use Rattle.expand_declarations.specs.References.{names_layer, term_names}
 use Rattle.expand_declarations.proofs.PairRules.{of_pair_rule}
-use Rattle.expansion_laws.specs.Forming.{Scope}
-use Rattle.expand_proofs.specs.ProofTerms.{Place, Terming, term_layer, termed, pair_term, ref_in, with_bound_name}
-use Rattle.expand_proofs.specs.Steps.{step_place, core_rule, core_step}
-use Rattle.core_documents.specs.Cores.{document_scope}
+use Rattle.expand_rules.specs.Forming.{Scope}
+use Rattle.expand_steps.specs.ProofTerms.{Place, Terming, term_layer, termed, pair_term, ref_in, with_bound_name}
+use Rattle.expand_steps.specs.Steps.{step_place, core_rule, core_step}
+use Rattle.expand_documents.specs.Cores.{document_scope}
 use Rattle.expand_fits_parts.specs.Conditions.StepConditions.{ArgsNamed, RefsNamed}
 use Rattle.expand_fits_parts.proofs.Conditions.Terms.{at-Imply, at-From, at-Trans, at-Either, at-Exists, at-Induct}
 use Rattle.expand_fits_parts.proofs.Conditions.Terms.{at-Psp}

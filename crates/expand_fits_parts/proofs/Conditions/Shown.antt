@@ -12,27 +12,27 @@ use Rattle.unity_syntax.specs.declared.program.Program.{Program}
 use Rattle.unity_syntax.specs.declared.term.Inst.{Inst}
 use Rattle.unity_syntax.specs.declared.document.Schedule.{Schedule}
 use Rattle.unity_syntax.specs.declared.document.Document.{Document}
-use Rattle.unity_meaning.specs.Setting.{programs_among, items_of}
+use Rattle.meaning_documents.specs.Setting.{programs_among, items_of}
 use Rattle.core_terms.specs.declared.programs.CSlot.{CSlot}
 use Rattle.core_terms.specs.declared.programs.CProgram.{CProgram}
 use Rattle.core_terms.specs.Conditions.{EachPair, IsWord, ScheduleFits}
 use Rattle.core_terms.specs.Unions.{with_slot, merged}
-use Rattle.name_scopes.specs.Reading.{all_beside}
-use Rattle.name_scopes.specs.Part.{run}
-use Rattle.name_scopes.specs.Declarations.{some_of}
-use Rattle.name_scopes.specs.Proofs.{program_reading}
-use Rattle.name_scopes.specs.WellNamed.{Declared, IsWellNamed, nothing_declared, part_of, choice_reading}
-use Rattle.name_scopes.specs.WellNamed.{schedule_reading}
-use Rattle.name_laws.proofs.AttributeTheorems.{earlier_first, earlier_second}
-use Rattle.document_words.specs.Texts.{Texts, part_texts, schedule_texts, document_texts}
-use Rattle.document_words.specs.WordNumbers.{document_words, word_number}
+use Rattle.names_rules.specs.Reading.{all_beside}
+use Rattle.names_rules.specs.Part.{run}
+use Rattle.names_rules.specs.Declarations.{some_of}
+use Rattle.names_rules.specs.Proofs.{program_reading}
+use Rattle.names_rules.specs.WellNamed.{Declared, IsWellNamed, nothing_declared, part_of, choice_reading}
+use Rattle.names_rules.specs.WellNamed.{schedule_reading}
+use Rattle.names_rules.proofs.Faults.{earlier_first, earlier_second}
+use Rattle.expand_declarations.specs.Texts.{Texts, part_texts, schedule_texts, document_texts}
+use Rattle.expand_declarations.specs.WordNumbers.{document_words, word_number}
 use Rattle.expand_declarations.specs.Slots.{document_slots}
 use Rattle.expand_declarations.specs.Shown.{shown_slots}
 use Rattle.expand_declarations.specs.References.{core_choice, core_schedule}
-use Rattle.expansion_laws.specs.Forming.{Scope}
-use Rattle.declaration_laws.specs.WordLaws.{is_among}
-use Rattle.declaration_laws.proofs.Slots.{shown_exist, shown_rise}
-use Rattle.core_documents.specs.Cores.{core_document, document_scope}
+use Rattle.expand_rules.specs.Forming.{Scope}
+use Rattle.expand_correct.specs.Declared.WordLaws.{is_among}
+use Rattle.expand_correct.proofs.Declared.Slots.{shown_exist, shown_rise}
+use Rattle.expand_documents.specs.Cores.{core_document, document_scope}
 use Rattle.expand_fits_parts.specs.Conditions.ShownConditions.{ShownSlotsExist, ShownSlotsRise, SchedulesFit}
 use Rattle.expand_fits_parts.proofs.Conditions.Lists.{Pairs, each_pair, pairs_of, pairs_on}
 use Rattle.expand_fits_parts.proofs.Conditions.Programs.{Makes, all_cores, union_makes, is_word, itself, last_has}

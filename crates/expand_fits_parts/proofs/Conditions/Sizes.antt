@@ -11,30 +11,30 @@ use Rattle.unity_syntax.specs.declared.declaration.Var.{Var}
 use Rattle.unity_syntax.specs.declared.program.Program.{Program}
 use Rattle.unity_syntax.specs.declared.document.Part.{Part}
 use Rattle.unity_syntax.specs.declared.document.Document.{Document}
-use Rattle.unity_meaning.specs.Names.{Variable}
-use Rattle.unity_meaning.specs.Setting.{slot_count, with_declaration, with_declarations, definitions}
-use Rattle.unity_meaning.specs.Instances.{instances}
+use Rattle.meaning_documents.specs.Names.{Variable}
+use Rattle.meaning_documents.specs.Setting.{slot_count, with_declaration, with_declarations, definitions}
+use Rattle.meaning_documents.specs.Instances.{instances}
 use Rattle.core_terms.specs.declared.programs.CSlot.{CSlot}
 use Rattle.core_terms.specs.declared.programs.CProgram.{CProgram}
-use Rattle.name_scopes.specs.Reading.{Fault}
-use Rattle.name_laws.proofs.AttributeTheorems.{earlier_first, earlier_second}
-use Rattle.document_words.specs.Texts.{Texts}
-use Rattle.document_words.specs.WordNumbers.{document_words, word_number}
+use Rattle.names_rules.specs.Reading.{Fault}
+use Rattle.names_rules.proofs.Faults.{earlier_first, earlier_second}
+use Rattle.expand_declarations.specs.Texts.{Texts}
+use Rattle.expand_declarations.specs.WordNumbers.{document_words, word_number}
 use Rattle.expand_declarations.specs.Slots.{part_declarations, declared_by, document_slots, most_slots, past_from}
 use Rattle.expand_declarations.specs.Slots.{past_part}
-use Rattle.expansion_laws.specs.Forming.{Scope}
-use Rattle.expansion_laws.specs.Assigning.{stated, statements}
-use Rattle.expansion_laws.specs.Programs.{core_statement}
-use Rattle.expansion_laws.specs.Lists.{items_fault, statement_count}
-use Rattle.statement_lists.specs.Counts.{too_many}
-use Rattle.expand_always.specs.AlwaysNames.{definitions_fault, with_definitions}
-use Rattle.declaration_laws.proofs.Agreed.{variables_agree, counts_agree}
-use Rattle.core_documents.specs.Cores.{document_scope, declared_scope, with_parts, part_definitions}
-use Rattle.core_documents.specs.Cores.{core_named, core_union, core_program, with_core, with_cores}
-use Rattle.core_documents.specs.Faults.{count_fault, heading_fault, headings_fault, headed, initially_fault, size_of}
-use Rattle.core_documents.specs.Faults.{program_fault, body_fault, bodies_fault, laid_fault, slots_fault}
-use Rattle.core_documents.specs.Faults.{parts_fault, expansion_fault}
-use Rattle.expand_fits_parts.specs.Conditions.SizeConditions.{SlotsAreFew, StatementsAreFew}
+use Rattle.expand_rules.specs.Forming.{Scope}
+use Rattle.expand_rules.specs.Assigning.{stated, statements}
+use Rattle.expand_rules.specs.Programs.{core_statement}
+use Rattle.expand_rules.specs.Lists.{items_fault, statement_count}
+use Rattle.expand_statements.specs.Counts.{too_many}
+use Rattle.expand_documents.specs.AlwaysNames.{definitions_fault, with_definitions}
+use Rattle.expand_correct.proofs.Declared.Agreed.{variables_agree, counts_agree}
+use Rattle.expand_documents.specs.Cores.{document_scope, declared_scope, with_parts, part_definitions}
+use Rattle.expand_documents.specs.Cores.{core_named, core_union, core_program, with_core, with_cores}
+use Rattle.expand_documents.specs.Faults.{count_fault, heading_fault, headings_fault, headed, initially_fault, size_of}
+use Rattle.expand_documents.specs.Faults.{program_fault, body_fault, bodies_fault, laid_fault, slots_fault}
+use Rattle.expand_documents.specs.Faults.{parts_fault, expansion_fault}
+use Rattle.expand_fits_parts.specs.Conditions.SizeConditions.{CoreSlotsAreFew, StatementsAreFew}
 use Rattle.expand_fits_parts.proofs.Conditions.Counted.{instances_counted}
 use Rattle.expand_fits_parts.proofs.Conditions.Programs.{IfThere, find_there}
 
@@ -97,7 +97,7 @@ few_from place vs (p ∷ rest) few e =
         more (let l = ltb-false most_slots (slot_count (with_declarations vs (part_declarations p))) t in
         omega arith) f
 
-pub slots_are_few : SlotsAreFew
+pub slots_are_few : CoreSlotsAreFew
 slots_are_few d h =
     let l = laid_out d h in
     let few = few_from 0 [] d.parts (omega arith) l.whole in

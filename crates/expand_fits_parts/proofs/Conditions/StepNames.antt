@@ -24,20 +24,21 @@ use Rattle.core_terms.specs.declared.documents.PTerm.{PTerm}
 use Rattle.core_terms.specs.declared.documents.PTerm.TheVariants.{Imply, From, Trans, Either, Exists, Induct, Psp}
 use Rattle.core_terms.specs.declared.documents.PTerm.TheVariants.{Weaken}
 use Rattle.core_terms.specs.Conditions.{IsWord, RefWords, RuleWords, StepWords, refs_step, term_refs, rule_refs}
-use Rattle.name_scopes.specs.Declarations.{some_of}
-use Rattle.document_words.specs.Texts.{Texts, ref_texts, step_text, helper_texts, term_layer as text_layer, term_texts}
-use Rattle.document_words.specs.Texts.{rule_texts, step_texts, document_texts}
-use Rattle.document_words.specs.WordNumbers.{document_words, with_texts, word_number}
+use Rattle.names_rules.specs.Declarations.{some_of}
+use Rattle.expand_declarations.specs.Texts.{Texts, ref_texts, step_text, helper_texts, term_layer as text_layer}
+use Rattle.expand_declarations.specs.Texts.{term_texts}
+use Rattle.expand_declarations.specs.Texts.{rule_texts, step_texts, document_texts}
+use Rattle.expand_declarations.specs.WordNumbers.{document_words, with_texts, word_number}
 use Rattle.expand_declarations.specs.References.{text_rule, pair_rule, ref_program, ref_step, names_layer, term_names}
 use Rattle.expand_declarations.specs.References.{rule_names}
 use Rattle.expand_declarations.proofs.PairRules.{of_pair_rule}
-use Rattle.expansion_laws.specs.Forming.{Scope}
-use Rattle.expand_proofs.specs.ProofTerms.{Place, Terming, term_layer, termed, pair_term, ref_in, with_bound_name}
-use Rattle.expand_proofs.specs.Steps.{step_place, core_rule, core_step, core_proof}
-use Rattle.unity_meaning.specs.Steps.{proofs_among}
-use Rattle.declaration_laws.specs.WordLaws.{is_among}
-use Rattle.declaration_laws.proofs.Found.{or_right}
-use Rattle.core_documents.specs.Cores.{document_scope}
+use Rattle.expand_rules.specs.Forming.{Scope}
+use Rattle.expand_steps.specs.ProofTerms.{Place, Terming, term_layer, termed, pair_term, ref_in, with_bound_name}
+use Rattle.expand_steps.specs.Steps.{step_place, core_rule, core_step, core_proof}
+use Rattle.meaning_documents.specs.Steps.{proofs_among}
+use Rattle.expand_correct.specs.Declared.WordLaws.{is_among}
+use Rattle.expand_correct.proofs.Declared.Found.{or_right}
+use Rattle.expand_documents.specs.Cores.{document_scope}
 use Rattle.expand_fits_parts.specs.Conditions.StepConditions.{StepsHaveWords}
 use Rattle.expand_fits_parts.proofs.Conditions.Programs.{is_word, itself, each_has, last_has}
 use Rattle.expand_fits_parts.proofs.Conditions.Proofs.{all_proofs, HasProof, HasStep, proof_steps, document_proofs}

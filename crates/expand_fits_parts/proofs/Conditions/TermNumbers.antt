@@ -12,8 +12,8 @@ use Rattle.core_terms.specs.declared.documents.PTerm.{PTerm}
 use Rattle.core_terms.specs.declared.documents.PTerm.TheVariants.{Imply, From, Trans, Either, Exists, Induct, Psp}
 use Rattle.core_terms.specs.declared.documents.PTerm.TheVariants.{Weaken}
 use Rattle.core_terms.specs.Conditions.{ArgFits, refs_step, term_refs}
-use Rattle.name_scopes.specs.Declarations.{some_of}
-use Rattle.expand_proofs.specs.ProofTerms.{Place, Terming, term_layer, pair_term, ref_in, with_bound_name}
+use Rattle.names_rules.specs.Declarations.{some_of}
+use Rattle.expand_steps.specs.ProofTerms.{Place, Terming, term_layer, pair_term, ref_in, with_bound_name}
 use Rattle.expand_fits_parts.specs.Conditions.ArgumentConditions.{EndFits, ends_layer, TermArgumentsFit}
 use Rattle.expand_fits_parts.proofs.Conditions.ArgumentNumbers.{arguments_fit}
 use Rattle.expand_fits_parts.proofs.Conditions.Terms.{at-Imply, at-From, at-Trans, at-Either, at-Exists, at-Induct}

@@ -25,17 +25,17 @@ use Rattle.core_terms.specs.declared.documents.PTerm.TheVariants.{Weaken, rolls-
 use Rattle.core_terms.specs.declared.documents.PTerm.TheVariants.{rolls-Either, rolls-Exists, rolls-Induct, rolls-Psp}
 use Rattle.core_terms.specs.declared.documents.PTerm.TheVariants.{rolls-Weaken}
 use Rattle.core_terms.specs.Conditions.{numbered_step, ranges_step, bound_ranges, rule_ranges}
-use Rattle.name_scopes.specs.Declarations.{some_of}
-use Rattle.document_words.specs.Texts.{Texts}
-use Rattle.document_words.specs.WordNumbers.{document_words, word_number}
+use Rattle.names_rules.specs.Declarations.{some_of}
+use Rattle.expand_declarations.specs.Texts.{Texts}
+use Rattle.expand_declarations.specs.WordNumbers.{document_words, word_number}
 use Rattle.expand_declarations.specs.References.{param_range, names_layer, term_names, rule_names}
 use Rattle.expand_declarations.specs.References.{text_rule}
 use Rattle.expand_declarations.proofs.PairRules.{of_pair_rule}
-use Rattle.expansion_laws.specs.Forming.{Scope}
-use Rattle.expand_proofs.specs.ProofTerms.{Place, Terming, pair_term, term_layer, termed, ref_in, with_bound_name}
-use Rattle.expand_proofs.specs.Steps.{step_place, core_rule, core_step, core_proof}
-use Rattle.unity_meaning.specs.Steps.{proofs_among}
-use Rattle.core_documents.specs.Cores.{document_scope}
+use Rattle.expand_rules.specs.Forming.{Scope}
+use Rattle.expand_steps.specs.ProofTerms.{Place, Terming, pair_term, term_layer, termed, ref_in, with_bound_name}
+use Rattle.expand_steps.specs.Steps.{step_place, core_rule, core_step, core_proof}
+use Rattle.meaning_documents.specs.Steps.{proofs_among}
+use Rattle.expand_documents.specs.Cores.{document_scope}
 use Rattle.expand_fits_parts.specs.Conditions.TermConditions.{ParametersNamed}
 use Rattle.expand_fits_parts.proofs.Conditions.Proofs.{all_proofs}
 

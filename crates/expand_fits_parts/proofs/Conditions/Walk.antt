@@ -17,37 +17,37 @@ use Rattle.unity_syntax.specs.declared.name.Name.{Name}
 use Rattle.unity_syntax.specs.declared.program.Program.{Program}
 use Rattle.unity_syntax.specs.declared.document.Part.{Part}
 use Rattle.unity_syntax.specs.declared.document.Document.{Document}
-use Rattle.unity_meaning.specs.Setting.{programs_among, items_of as declared_items}
-use Rattle.unity_meaning.specs.Instances.{Instance, instances}
+use Rattle.meaning_documents.specs.Setting.{programs_among, items_of as declared_items}
+use Rattle.meaning_documents.specs.Instances.{Instance, instances}
 use Rattle.core_terms.specs.declared.programs.CStmt.{CStmt}
 use Rattle.core_terms.specs.declared.programs.CSlot.{CSlot}
 use Rattle.core_terms.specs.declared.programs.CProgram.{CProgram}
 use Rattle.core_terms.specs.Conditions.{EachPair, AreApart, IsNamed}
-use Rattle.name_scopes.specs.declared.named.Composed.{Composed}
-use Rattle.name_scopes.specs.Reading.{earlier, unless}
-use Rattle.name_scopes.specs.Part.{run}
-use Rattle.name_scopes.specs.Declarations.{items_of, some_of, program_scope, initially_reading}
-use Rattle.name_scopes.specs.Statements.{items_part}
-use Rattle.name_scopes.specs.Proofs.{Programs, program_word, program_reading}
-use Rattle.name_scopes.specs.WellNamed.{Declared, IsWellNamed, nothing_declared, new_program, declarations_part}
-use Rattle.name_scopes.specs.WellNamed.{program_body, start_reading, parts_or, parts_of, share}
-use Rattle.name_scopes.specs.WellNamed.{program_part, proof_part, part_of, steps_reading}
-use Rattle.name_laws.proofs.AttributeTheorems.{earlier_first, earlier_second, unless_none}
-use Rattle.document_words.specs.Texts.{Texts, var_texts, items_texts, document_texts}
-use Rattle.document_words.specs.WordNumbers.{document_words, with_texts, word_number}
+use Rattle.names_rules.specs.declared.named.Composed.{Composed}
+use Rattle.names_rules.specs.Reading.{earlier, unless}
+use Rattle.names_rules.specs.Part.{run}
+use Rattle.names_rules.specs.Declarations.{items_of, some_of, program_scope, initially_reading}
+use Rattle.names_rules.specs.Statements.{items_part}
+use Rattle.names_rules.specs.Proofs.{Programs, program_word, program_reading}
+use Rattle.names_rules.specs.WellNamed.{Declared, IsWellNamed, nothing_declared, new_program, declarations_part}
+use Rattle.names_rules.specs.WellNamed.{program_body, start_reading, parts_or, parts_of, share}
+use Rattle.names_rules.specs.WellNamed.{program_part, proof_part, part_of, steps_reading}
+use Rattle.names_rules.proofs.Faults.{earlier_first, earlier_second, unless_none}
+use Rattle.expand_declarations.specs.Texts.{Texts, var_texts, items_texts, document_texts}
+use Rattle.expand_declarations.specs.WordNumbers.{document_words, with_texts, word_number}
 use Rattle.expand_declarations.specs.Slots.{document_slots}
-use Rattle.expansion_laws.specs.Forming.{Scope}
-use Rattle.expansion_laws.specs.Assigning.{stated, statements}
-use Rattle.expansion_laws.specs.Programs.{core_statement, plain_core}
+use Rattle.expand_rules.specs.Forming.{Scope}
+use Rattle.expand_rules.specs.Assigning.{stated, statements}
+use Rattle.expand_rules.specs.Programs.{core_statement, plain_core}
 use Rattle.expand_declarations.specs.Shown.{shown_slots}
 use Rattle.expand_declarations.specs.Start.{start_values}
 use Rattle.core_terms.specs.Unions.{joined_programs}
-use Rattle.unity_meaning.specs.Steps.{proofs_among}
-use Rattle.declaration_laws.specs.WordLaws.{is_among}
-use Rattle.declaration_laws.proofs.Found.{numbers_tell}
-use Rattle.declaration_laws.proofs.Slots.{parts_fault}
-use Rattle.core_documents.specs.Cores.{core_document, document_scope, core_named, core_union, core_program, with_core}
-use Rattle.core_documents.specs.Cores.{with_cores}
+use Rattle.meaning_documents.specs.Steps.{proofs_among}
+use Rattle.expand_correct.specs.Declared.WordLaws.{is_among}
+use Rattle.expand_correct.proofs.Declared.Found.{numbers_tell}
+use Rattle.expand_declarations.proofs.NearIndices.{parts_fault}
+use Rattle.expand_documents.specs.Cores.{core_document, document_scope, core_named, core_union, core_program, with_core}
+use Rattle.expand_documents.specs.Cores.{with_cores}
 use Rattle.expand_fits_parts.specs.Conditions.StatementConditions as instance
 use Rattle.expand_fits_parts.specs.Conditions.NamedConditions.{StatementsApart, ProofsNamed}
 use Rattle.expand_fits_parts.proofs.Conditions.Lists.{Pairs, each_pair, pairs_of, pairs_on, pairs_map, pairs_with}
@@ -543,12 +543,13 @@ module _ (texts : Texts) (s : Scope) (slots : List CSlot) where
         apart = pairs_map AreApart (core_statement (word_number words)) (statements s items)
             (pairs_map (λ x y. AreApart (core_statement (word_number words) x) (core_statement (word_number words) y))
             (stated s) (instances items)
-            (pairs_with (λ i. is_among texts i.label ≡ true) instance.AreApart (λ i j. AreApart (core_of i) (core_of j))
+            (pairs_with (λ i. is_among texts i.label ≡ true) instance.ApartInstances
+            (λ i j. AreApart (core_of i) (core_of j))
             (λ i j k m a. record {
               differ = λ same more. a.differ (numbers_tell texts i.label j.label k m same) more;
               alike = λ same. a.alike (numbers_tell texts i.label j.label k m same);
             }) (instances items) there
-            (pairs_of instance.AreApart (instances items) (instances_apart place d.labels items fault))));
+            (pairs_of instance.ApartInstances (instances items) (instances_apart place d.labels items fault))));
         labels = map-append (λ (x : ℕ × List ℕ). x.1) owners more
             ∙ ap (λ us. us ++ map (λ (x : ℕ × List ℕ). x.1) more) w.labels
             ∙ ap (λ us. d.labels ++ us) (owns_texts name.at ts) ∙ sym l.same;

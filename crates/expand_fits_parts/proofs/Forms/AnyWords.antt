@@ -9,8 +9,8 @@ use Rattle.unity_syntax.specs.declared.statement.Component.TheOpen.{Component-F}
 use Rattle.unity_syntax.specs.TwoFolds.{Related, ExpressionLayers, ComponentLayers, AssignLayers}
 use Rattle.unity_syntax.proofs.ExpressionFolds.{two_expressions}
 use Rattle.unity_syntax.proofs.AssignmentFolds.{two_assignments}
-use Rattle.unity_meaning.specs.Writes.{Alternative, alternatives}
-use Rattle.name_laws.proofs.AttributeTheorems.{and_both}
+use Rattle.meaning_documents.specs.Writes.{Alternative, alternatives}
+use Rattle.names_laws.proofs.AttributeTheorems.{and_both}
 use Rattle.expand_fits_parts.specs.Forms.Naming.{any_word, Wording, words_layer, words_pass, words_pass_or_none}
 use Rattle.expand_fits_parts.specs.Forms.Naming.{target_words}
 use Rattle.expand_fits_parts.specs.Forms.Naming.{alternative_words, component_words, assign_words}

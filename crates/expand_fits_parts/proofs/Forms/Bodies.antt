@@ -16,14 +16,14 @@ use Rattle.unity_syntax.specs.declared.program.Program.{Program}
 use Rattle.unity_syntax.specs.declared.statement.Items.{Items}
 use Rattle.unity_syntax.specs.declared.document.Part.{Part}
 use Rattle.unity_syntax.specs.declared.document.Document.{Document}
-use Rattle.unity_meaning.specs.Names.{Variable}
-use Rattle.unity_meaning.specs.Instances.{instances}
-use Rattle.unity_meaning.specs.Setting.{items_of, declarations, programs_among, setting_of, with_declarations}
-use Rattle.unity_meaning.specs.Setting.{slot_count}
-use Rattle.name_scopes.specs.Reading.{Fault, earlier}
-use Rattle.name_scopes.specs.Declarations.{some_of}
-use Rattle.name_laws.specs.SlotLaws.{variable_named}
-use Rattle.name_laws.proofs.AttributeTheorems.{earlier_first, earlier_second}
+use Rattle.meaning_documents.specs.Names.{Variable}
+use Rattle.meaning_documents.specs.Instances.{instances}
+use Rattle.meaning_documents.specs.Setting.{items_of, declarations, programs_among, setting_of, with_declarations}
+use Rattle.meaning_documents.specs.Setting.{slot_count}
+use Rattle.names_rules.specs.Reading.{Fault, earlier}
+use Rattle.names_rules.specs.Declarations.{some_of}
+use Rattle.meaning_documents.specs.Names.{variable_named}
+use Rattle.names_rules.proofs.Faults.{earlier_first, earlier_second}
 use Rattle.core_terms.specs.declared.programs.CSlot.{CSlot}
 use Rattle.core_terms.specs.declared.programs.CProgram.{CProgram}
 use Rattle.core_terms.specs.declared.trees.Range.{Range}
@@ -32,25 +32,25 @@ use Rattle.core_terms.specs.Weights.{form_weight, slot_weight, place_weight}
 use Rattle.core_terms.specs.Unions.{joined_programs}
 use Rattle.core_terms.specs.Conditions.{is_below, StatementFits}
 use Rattle.core_terms.proofs.WeightLaws.{weight-Top}
-use Rattle.document_words.specs.Texts.{Texts}
-use Rattle.document_words.specs.WordNumbers.{document_words, word_number}
+use Rattle.expand_declarations.specs.Texts.{Texts}
+use Rattle.expand_declarations.specs.WordNumbers.{document_words, word_number}
 use Rattle.expand_declarations.specs.Slots.{most_slots, part_declarations, declared_by, document_slots, past_from}
 use Rattle.expand_declarations.specs.Slots.{past_part}
 use Rattle.expand_declarations.specs.Shown.{shown_slots}
 use Rattle.expand_declarations.specs.Start.{start_values}
-use Rattle.expansion_laws.specs.declared.cores.Formed.{Formed}
-use Rattle.expansion_laws.specs.Forming.{Scope, formed, as_truth}
-use Rattle.expansion_laws.specs.Assigning.{Stated, stated}
-use Rattle.expansion_laws.specs.Lists.{items_fault}
-use Rattle.expansion_laws.specs.Limits.{is_too_large}
-use Rattle.expansion_laws.specs.Programs.{initial_form, core_statement, plain_core}
-use Rattle.expansion_laws.proofs.Lightness.{expressions_within, fits_truth}
-use Rattle.expand_proofs.specs.Elements.{nearest, some_too_large, bad_range, element_fault}
-use Rattle.expand_always.specs.AlwaysNames.{with_definition, with_definitions}
-use Rattle.core_documents.specs.Cores.{declared_scope, part_definitions, with_parts, document_scope, core_named}
-use Rattle.core_documents.specs.Cores.{core_union, core_program, with_core, with_cores}
-use Rattle.core_documents.specs.Faults.{heading_fault, headings_fault, headed, initially_fault, body_fault, with_part}
-use Rattle.core_documents.specs.Faults.{bodies_fault, laid_fault, slots_fault, parts_fault, expansion_fault}
+use Rattle.expand_rules.specs.declared.cores.Formed.{Formed}
+use Rattle.expand_rules.specs.Forming.{Scope, formed, as_truth}
+use Rattle.expand_rules.specs.Assigning.{Stated, stated}
+use Rattle.expand_rules.specs.Lists.{items_fault}
+use Rattle.expand_rules.specs.Limits.{is_too_large}
+use Rattle.expand_rules.specs.Programs.{initial_form, core_statement, plain_core}
+use Rattle.expand_correct.proofs.Values.Lightness.{expressions_within, fits_truth}
+use Rattle.expand_steps.specs.Elements.{nearest, some_too_large, bad_range, element_fault}
+use Rattle.expand_documents.specs.AlwaysNames.{with_definition, with_definitions}
+use Rattle.expand_documents.specs.Cores.{declared_scope, part_definitions, with_parts, document_scope, core_named}
+use Rattle.expand_documents.specs.Cores.{core_union, core_program, with_core, with_cores}
+use Rattle.expand_documents.specs.Faults.{heading_fault, headings_fault, headed, initially_fault, body_fault, with_part}
+use Rattle.expand_documents.specs.Faults.{bodies_fault, laid_fault, slots_fault, parts_fault, expansion_fault}
 use Rattle.expand_fits_parts.specs.Forms.Fitting.{ScopeFits}
 use Rattle.expand_fits_parts.specs.Forms.Programs.{ProgramFits, ProgramKeeps}
 use Rattle.expand_fits_parts.specs.Forms.DocumentLaws.{FaultlessInstances, BodiesFaultless, HeadingsFaultless}

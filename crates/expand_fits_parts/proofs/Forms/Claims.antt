@@ -17,40 +17,40 @@ use Rattle.unity_syntax.specs.declared.proof.Param.{Param}
 use Rattle.unity_syntax.specs.declared.proof.Claim.{Claim}
 use Rattle.unity_syntax.specs.declared.proof.Step.{Step}
 use Rattle.unity_syntax.specs.declared.document.Part.{Part as DocumentPart}
-use Rattle.name_scopes.specs.declared.named.Meaning.{Meaning}
-use Rattle.name_scopes.specs.Scope.{Table, Params, found, bound_named, visible}
-use Rattle.name_scopes.specs.Reading.{binding, filled}
-use Rattle.name_scopes.specs.Part.{run}
-use Rattle.name_scopes.specs.Declarations.{some_of}
-use Rattle.name_scopes.specs.Proofs.{Programs, proof_scope, param_part, step_name, step_body, step_rest, step_part}
-use Rattle.name_scopes.specs.WellNamed.{Declared, nothing_declared, proved_program, part_of}
-use Rattle.name_scopes.specs.WellNamed.{schedule_reading}
-use Rattle.name_laws.proofs.AttributeTheorems.{earlier_first, earlier_second, unless_none}
-use Rattle.name_laws.proofs.Mirrored.{not_some}
+use Rattle.names_rules.specs.declared.named.Meaning.{Meaning}
+use Rattle.names_rules.specs.Scope.{Table, Params, found, bound_named, visible}
+use Rattle.names_rules.specs.Reading.{binding, filled}
+use Rattle.names_rules.specs.Part.{run}
+use Rattle.names_rules.specs.Declarations.{some_of}
+use Rattle.names_rules.specs.Proofs.{Programs, proof_scope, param_part, step_name, step_body, step_rest, step_part}
+use Rattle.names_rules.specs.WellNamed.{Declared, nothing_declared, proved_program, part_of}
+use Rattle.names_rules.specs.WellNamed.{schedule_reading}
+use Rattle.names_rules.proofs.Faults.{earlier_first, earlier_second, unless_none}
+use Rattle.names_laws.proofs.Mirrored.{not_some}
 use Rattle.core_terms.specs.declared.trees.Range.{Range}
 use Rattle.core_terms.specs.declared.trees.CForm.TheVariants.{Top, Bottom}
 use Rattle.core_terms.specs.declared.programs.CSlot.{CSlot}
 use Rattle.core_terms.specs.declared.programs.CProgram.{CProgram}
 use Rattle.core_terms.specs.declared.documents.CProof.{CProof}
 use Rattle.core_terms.specs.declared.documents.CStep.{CStep}
-use Rattle.unity_meaning.specs.Value.{range_ends}
+use Rattle.meaning_documents.specs.Value.{range_ends}
 use Rattle.core_terms.specs.Weights.{range_weight, slot_weight, place_weight}
 use Rattle.core_terms.specs.Conditions.{is_below, FormFits}
 use Rattle.core_terms.proofs.WeightLaws.{weight-Top, weight-Bottom}
-use Rattle.document_words.specs.Texts.{Texts}
-use Rattle.document_words.specs.WordNumbers.{document_words}
+use Rattle.expand_declarations.specs.Texts.{Texts}
+use Rattle.expand_declarations.specs.WordNumbers.{document_words}
 use Rattle.expand_declarations.specs.Slots.{document_slots}
 use Rattle.expand_declarations.specs.References.{param_range}
-use Rattle.expansion_laws.specs.declared.cores.Bound.{Bound}
-use Rattle.expansion_laws.specs.declared.cores.Formed.{Formed}
-use Rattle.expansion_laws.specs.Measures.{ends_weight}
-use Rattle.expansion_laws.specs.Forming.{Scope}
-use Rattle.expand_proofs.specs.ProofTerms.{param_bound}
-use Rattle.expand_proofs.specs.Steps.{with_param_bound, param_bounds, step_place, claim_p, claim_q, claim_formulas}
-use Rattle.expand_proofs.specs.Steps.{rule_formulas, step_formulas, core_step, step_fault, steps_fault, core_proof}
-use Rattle.core_documents.specs.Cores.{document_scope, core_proofs, core_document}
-use Rattle.core_documents.specs.Faults.{body_fault, with_part, bodies_fault, expansion_fault}
-use Rattle.name_scopes.specs.WellNamed.{IsWellNamed}
+use Rattle.expand_rules.specs.declared.cores.Bound.{Bound}
+use Rattle.expand_rules.specs.declared.cores.Formed.{Formed}
+use Rattle.expand_rules.specs.Measures.{ends_weight}
+use Rattle.expand_rules.specs.Forming.{Scope}
+use Rattle.expand_steps.specs.ProofTerms.{param_bound}
+use Rattle.expand_steps.specs.Steps.{with_param_bound, param_bounds, step_place, claim_p, claim_q, claim_formulas}
+use Rattle.expand_steps.specs.Steps.{rule_formulas, step_formulas, core_step, step_fault, steps_fault, core_proof}
+use Rattle.expand_documents.specs.Cores.{document_scope, core_proofs, core_document}
+use Rattle.expand_documents.specs.Faults.{body_fault, with_part, bodies_fault, expansion_fault}
+use Rattle.names_rules.specs.WellNamed.{IsWellNamed}
 use Rattle.unity_syntax.specs.declared.document.Document.{Document}
 use Rattle.expand_fits_parts.specs.Forms.Fitting.{ScopeFits}
 use Rattle.expand_fits_parts.specs.Forms.StepLaws.{StepClaimFits, ClaimsFit}

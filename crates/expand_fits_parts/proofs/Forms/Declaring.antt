@@ -8,18 +8,19 @@ use Rattle.unity_syntax.specs.declared.declaration.Plain.{Plain}
 use Rattle.unity_syntax.specs.declared.declaration.VarType.{VarType}
 use Rattle.unity_syntax.specs.declared.declaration.Var.{Var}
 use Rattle.unity_syntax.specs.declared.declaration.Def.{Def}
-use Rattle.name_scopes.specs.declared.named.Sort.{Sort}
-use Rattle.name_scopes.specs.declared.named.Named.{Named}
-use Rattle.name_scopes.specs.Scope.{Table, is_variable}
-use Rattle.name_scopes.specs.Reading.{Reading, earlier, unless, read}
-use Rattle.name_scopes.specs.Part.{run, quiet}
-use Rattle.name_scopes.specs.Declarations.{with_named, value_named, is_repeated, repeated, enumerated, words_part}
-use Rattle.name_scopes.specs.Declarations.{plain_part, type_part, variable_named as named_here, variable_as}
-use Rattle.name_scopes.specs.Declarations.{variable_part}
-use Rattle.name_scopes.specs.Declarations.{may_declare, agrees}
-use Rattle.name_scopes.specs.Declarations.{always_named, definition_scope, always_part}
-use Rattle.name_laws.proofs.Inserts.{added}
-use Rattle.name_laws.proofs.AttributeTheorems.{earlier_first, earlier_second, unless_none, and_first}
+use Rattle.names_rules.specs.declared.named.Sort.{Sort}
+use Rattle.names_rules.specs.declared.named.Named.{Named}
+use Rattle.names_rules.specs.Scope.{Table, is_variable}
+use Rattle.names_rules.specs.Reading.{Reading, earlier, unless, read}
+use Rattle.names_rules.specs.Part.{run, quiet}
+use Rattle.names_rules.specs.Declarations.{with_named, value_named, is_repeated, repeated, enumerated, words_part}
+use Rattle.names_rules.specs.Declarations.{plain_part, type_part, variable_named as named_here, variable_as}
+use Rattle.names_rules.specs.Declarations.{variable_part}
+use Rattle.names_rules.specs.Declarations.{may_declare, agrees}
+use Rattle.names_rules.specs.Declarations.{always_named, definition_scope, always_part}
+use Rattle.names_laws.proofs.Inserts.{added}
+use Rattle.names_laws.proofs.AttributeTheorems.{and_first}
+use Rattle.names_rules.proofs.Faults.{earlier_first, earlier_second, unless_none}
 use Rattle.case_tables.specs.declared.code_table.Code.{Code}
 
 module _ (Q : List ℕ → Named → Type 0) (value : (w : List ℕ) (sort : Sort) (number : ℕ) → Q w (value_named sort number))

@@ -5,19 +5,19 @@ use Rattle.unity_syntax.specs.declared.statement.Items.{Items}
 use Rattle.unity_syntax.specs.declared.statement.Item.TheOpen.{Item-F}
 use Rattle.unity_syntax.specs.TwoFolds.{Related, ItemLayers, ItemsLayers}
 use Rattle.unity_syntax.proofs.ItemFolds.{two_items}
-use Rattle.unity_meaning.specs.Names.{Bindings}
-use Rattle.unity_meaning.specs.Value.{range_values}
-use Rattle.unity_meaning.specs.Instances.{Instance, Unfolding, unfolded}
-use Rattle.unity_meaning.specs.Instances.{item_layer as unfold_item, items_layer as unfold_items}
-use Rattle.name_scopes.specs.declared.named.Meaning.{Meaning}
-use Rattle.name_scopes.specs.Scope.{Scope as NameScope, with_bound}
-use Rattle.name_scopes.specs.Reading.{beside, binding, filled}
-use Rattle.name_scopes.specs.Part.{run}
-use Rattle.name_scopes.specs.Statements.{Labels, Listed, label_part, assign_reading, item_layer, items_layer}
-use Rattle.name_scopes.specs.Statements.{items_part}
-use Rattle.name_laws.proofs.AttributeTheorems.{earlier_first, earlier_second}
-use Rattle.expansion_laws.specs.Forming.{Scope}
-use Rattle.expansion_laws.specs.Assigning.{among, stated}
+use Rattle.meaning_documents.specs.Names.{Bindings}
+use Rattle.meaning_documents.specs.Value.{range_values}
+use Rattle.meaning_documents.specs.Instances.{Instance, Unfolding, unfolded}
+use Rattle.meaning_documents.specs.Instances.{item_layer as unfold_item, items_layer as unfold_items}
+use Rattle.names_rules.specs.declared.named.Meaning.{Meaning}
+use Rattle.names_rules.specs.Scope.{Scope as NameScope, with_bound}
+use Rattle.names_rules.specs.Reading.{beside, binding, filled}
+use Rattle.names_rules.specs.Part.{run}
+use Rattle.names_rules.specs.Statements.{Labels, Listed, label_part, assign_reading, item_layer, items_layer}
+use Rattle.names_rules.specs.Statements.{items_part}
+use Rattle.names_rules.proofs.Faults.{earlier_first, earlier_second}
+use Rattle.expand_rules.specs.Forming.{Scope}
+use Rattle.expand_rules.specs.Assigning.{among, stated}
 use Rattle.expand_fits_parts.specs.Forms.Naming.{WordTest, or_word, Sees, EffectNames}
 use Rattle.expand_fits_parts.specs.Forms.Visible.{FoundPass}
 use Rattle.expand_fits_parts.proofs.Forms.NamedForms.{inside_sees}

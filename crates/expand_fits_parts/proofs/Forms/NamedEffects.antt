@@ -10,11 +10,11 @@ use Rattle.unity_syntax.specs.declared.statement.Assign.{Assign}
 use Rattle.unity_syntax.specs.declared.statement.Component.TheOpen.{Component-F}
 use Rattle.unity_syntax.specs.TwoFolds.{Related, ComponentLayers, AssignLayers}
 use Rattle.unity_syntax.proofs.AssignmentFolds.{two_assignments}
-use Rattle.unity_meaning.specs.Names.{Variable, slot_at}
-use Rattle.unity_meaning.specs.Value.{range_size}
-use Rattle.unity_meaning.specs.Writes.{Alternative, alternatives}
-use Rattle.name_laws.specs.SlotLaws.{variable_named}
-use Rattle.name_laws.proofs.AttributeTheorems.{and_first, and_second}
+use Rattle.meaning_documents.specs.Names.{Variable, slot_at}
+use Rattle.meaning_documents.specs.Value.{range_size}
+use Rattle.meaning_documents.specs.Writes.{Alternative, alternatives}
+use Rattle.meaning_documents.specs.Names.{variable_named}
+use Rattle.names_laws.proofs.AttributeTheorems.{and_first, and_second}
 use Rattle.expand_fits_parts.proofs.Forms.SlotPlaces.{at_slot}
 use Rattle.core_terms.specs.declared.trees.CTerm.{CTerm}
 use Rattle.core_terms.specs.declared.trees.CTerm.TheVariants.{Const}
@@ -23,16 +23,16 @@ use Rattle.core_terms.specs.declared.programs.CWrite.{CWrite}
 use Rattle.core_terms.specs.Places.{term_names_only, form_names_only}
 use Rattle.core_terms.specs.Folding.{number_of, difference_term, zero_form, not_form, or_form}
 use Rattle.std.specs.Option.{option_and_then}
-use Rattle.expansion_laws.specs.declared.cores.Formed.{Formed}
-use Rattle.expansion_laws.specs.declared.effects.Count.{Count}
-use Rattle.expansion_laws.specs.declared.effects.Effect.{Effect}
-use Rattle.expansion_laws.specs.Forming.{Scope, with_number, term_of, form_of, as_number, numbers, fit_values, formed}
-use Rattle.expansion_laws.specs.Assigning.{nothing, beside, write_to, equations, any_of, spread, open_effect}
-use Rattle.expansion_laws.specs.Assigning.{array_effect, stray_effect, element_effect, indexed_effect, plain_slot}
-use Rattle.expansion_laws.specs.Assigning.{target_effect, index_formed, paired_effect, condition, alternative_effect}
-use Rattle.expansion_laws.specs.Assigning.{all_beside, Effecting, component_layer, assign_layer, effect_of}
-use Rattle.expansion_laws.specs.Assigning.{both_counts, index_count, write_count, spread_count, exactly, is_outside}
-use Rattle.expansion_laws.specs.Assigning.{outside_effect, unwritten_count}
+use Rattle.expand_rules.specs.declared.cores.Formed.{Formed}
+use Rattle.expand_rules.specs.declared.effects.Count.{Count}
+use Rattle.expand_rules.specs.declared.effects.Effect.{Effect}
+use Rattle.expand_rules.specs.Forming.{Scope, with_number, term_of, form_of, as_number, numbers, fit_values, formed}
+use Rattle.expand_rules.specs.Assigning.{nothing, beside, write_to, equations, any_of, spread, open_effect}
+use Rattle.expand_rules.specs.Assigning.{array_effect, stray_effect, element_effect, indexed_effect, plain_slot}
+use Rattle.expand_rules.specs.Assigning.{target_effect, index_formed, paired_effect, condition, alternative_effect}
+use Rattle.expand_rules.specs.Assigning.{all_beside, Effecting, component_layer, assign_layer, effect_of}
+use Rattle.expand_rules.specs.Assigning.{both_counts, index_count, write_count, spread_count, exactly, is_outside}
+use Rattle.expand_rules.specs.Assigning.{outside_effect, unwritten_count}
 use Rattle.expand_fits_parts.specs.Forms.Naming.{WordTest, or_word, Wording, words_pass, words_pass_or_none}
 use Rattle.expand_fits_parts.specs.Forms.Naming.{target_words}
 use Rattle.expand_fits_parts.specs.Forms.Naming.{alternative_words, component_words, assign_words, SlotsPass, Sees}

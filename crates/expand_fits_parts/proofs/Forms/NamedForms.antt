@@ -12,10 +12,10 @@ use Rattle.unity_syntax.specs.declared.expression.Expr.{Expr}
 use Rattle.unity_syntax.specs.declared.expression.Expr.TheOpen.{Expr-F}
 use Rattle.unity_syntax.specs.TwoFolds.{Related, ExpressionLayers}
 use Rattle.unity_syntax.proofs.ExpressionFolds.{two_expressions}
-use Rattle.unity_meaning.specs.Names.{Variable}
-use Rattle.unity_meaning.specs.Value.{range_size}
-use Rattle.name_laws.specs.SlotLaws.{variable_named}
-use Rattle.name_laws.proofs.AttributeTheorems.{and_both, and_first, and_second}
+use Rattle.meaning_documents.specs.Names.{Variable}
+use Rattle.meaning_documents.specs.Value.{range_size}
+use Rattle.meaning_documents.specs.Names.{variable_named}
+use Rattle.names_laws.proofs.AttributeTheorems.{and_both, and_first, and_second}
 use Rattle.core_terms.specs.declared.trees.CTerm.{CTerm, fold-roll-CTerm}
 use Rattle.core_terms.specs.declared.trees.CTerm.TheVariants.{Const, Slot, Param, Add, Sub, Scale, Ite, rolls-Const}
 use Rattle.core_terms.specs.declared.trees.CTerm.TheVariants.{rolls-Slot, rolls-Param, rolls-Add, rolls-Sub}
@@ -29,16 +29,16 @@ use Rattle.core_terms.specs.Places.{only_step, all_parts, term_names_only, form_
 use Rattle.core_terms.specs.Folding.{number_of, truth_of, is_small, constant_or, truth_or, branch_or, folded_term}
 use Rattle.core_terms.specs.Folding.{folded_form, sum_term, difference_term, scaled_term, choice_term, at_least_form}
 use Rattle.core_terms.specs.Folding.{zero_form, not_form, and_form, or_form}
-use Rattle.expansion_laws.specs.declared.cores.Core.{Core}
-use Rattle.expansion_laws.specs.declared.cores.Bound.{Bound}
-use Rattle.expansion_laws.specs.declared.cores.Formed.{Formed}
-use Rattle.expansion_laws.specs.Forming.{Scope, with_number, term_of, form_of, factor_of, as_number, as_truth, sum}
-use Rattle.expansion_laws.specs.Forming.{difference, negation, multiple, product, at_least_zero, is_zero, denial}
-use Rattle.expansion_laws.specs.Forming.{conjunction, disjunction, implication, equation_by, equation, excess}
-use Rattle.expansion_laws.specs.Forming.{comparison, signed, plus, chain, array_formed}
-use Rattle.expansion_laws.specs.Forming.{bound_formed, variable_formed, formed_or_zero}
-use Rattle.expansion_laws.specs.Forming.{element_by, element_of, number_constant, truth_constant, gathered_by, gathered}
-use Rattle.expansion_laws.specs.Forming.{numbers, fit_values, Forming, form_layer, formed}
+use Rattle.expand_rules.specs.declared.cores.Core.{Core}
+use Rattle.expand_rules.specs.declared.cores.Bound.{Bound}
+use Rattle.expand_rules.specs.declared.cores.Formed.{Formed}
+use Rattle.expand_rules.specs.Forming.{Scope, with_number, term_of, form_of, factor_of, as_number, as_truth, sum}
+use Rattle.expand_rules.specs.Forming.{difference, negation, multiple, product, at_least_zero, is_zero, denial}
+use Rattle.expand_rules.specs.Forming.{conjunction, disjunction, implication, equation_by, equation, excess}
+use Rattle.expand_rules.specs.Forming.{comparison, signed, plus, chain, array_formed}
+use Rattle.expand_rules.specs.Forming.{bound_formed, variable_formed, formed_or_zero}
+use Rattle.expand_rules.specs.Forming.{element_by, element_of, number_constant, truth_constant, gathered_by, gathered}
+use Rattle.expand_rules.specs.Forming.{numbers, fit_values, Forming, form_layer, formed}
 use Rattle.expand_fits_parts.specs.Forms.Naming.{WordTest, or_word, Wording, words_layer, words_pass, SlotsPass}
 use Rattle.expand_fits_parts.specs.Forms.Naming.{core_names_only}
 use Rattle.expand_fits_parts.specs.Forms.Naming.{Sees}

@@ -9,19 +9,20 @@ use Rattle.std.proofs.lemmas.Bool.{lt-ltb, eq-eqb}
 use Rattle.std.specs.List.{list_any}
 use Rattle.std.specs.Str.{bytes_eq}
 use Rattle.unity_syntax.specs.declared.declaration.Var.{Var}
-use Rattle.unity_meaning.specs.Names.{Variable}
-use Rattle.unity_meaning.specs.Value.{range_size, count_up}
-use Rattle.unity_meaning.specs.Setting.{element_type, type_indices, plain_range, slots_for, slot_count, variable_from}
-use Rattle.unity_meaning.specs.Setting.{with_declaration, with_declarations}
-use Rattle.name_laws.specs.SlotLaws.{variable_named}
-use Rattle.name_laws.proofs.Inserts.{same_bytes, chosen}
+use Rattle.meaning_documents.specs.Names.{Variable}
+use Rattle.meaning_documents.specs.Value.{range_size, count_up}
+use Rattle.meaning_documents.specs.Setting.{element_type, type_indices, plain_range, slots_for, slot_count}
+use Rattle.meaning_documents.specs.Setting.{variable_from}
+use Rattle.meaning_documents.specs.Setting.{with_declaration, with_declarations}
+use Rattle.meaning_documents.specs.Names.{variable_named}
+use Rattle.names_laws.proofs.Inserts.{same_bytes, chosen}
 use Rattle.core_terms.specs.declared.programs.CSlot.{CSlot}
 use Rattle.core_terms.specs.Weights.{range_weight, slot_weight}
 use Rattle.core_terms.specs.Conditions.{is_below, is_shown}
-use Rattle.expansion_laws.specs.Measures.{ends_weight}
-use Rattle.expansion_laws.specs.WeightLaws.{SlotsWithin}
-use Rattle.document_words.specs.Texts.{Texts}
-use Rattle.document_words.specs.WordNumbers.{word_number}
+use Rattle.expand_rules.specs.Measures.{ends_weight}
+use Rattle.expand_correct.specs.Values.WeightLaws.{SlotsWithin}
+use Rattle.expand_declarations.specs.Texts.{Texts}
+use Rattle.expand_declarations.specs.WordNumbers.{word_number}
 use Rattle.expand_declarations.specs.Numbers.{core_range}
 use Rattle.expand_declarations.specs.Slots.{index_values, slot_at, slots_of, is_known, new_slots}
 use Rattle.expand_declarations.specs.Shown.{places_from, declared_names, is_slot_of, shown_slots}

@@ -19,18 +19,20 @@ use Rattle.unity_syntax.specs.declared.statement.Component.TheOpen.{Component-F}
 use Rattle.unity_syntax.specs.TwoFolds.{Related, ExpressionLayers, ComponentLayers, AssignLayers}
 use Rattle.unity_syntax.proofs.ExpressionFolds.{two_expressions}
 use Rattle.unity_syntax.proofs.AssignmentFolds.{two_assignments}
-use Rattle.unity_meaning.specs.Writes.{alternatives, conditional}
-use Rattle.name_scopes.specs.declared.named.Meaning.{Meaning}
-use Rattle.name_scopes.specs.declared.named.Named.{Named}
-use Rattle.name_scopes.specs.declared.named.Sort.{Sort}
-use Rattle.name_scopes.specs.Scope.{Scope as NameScope, found, bound_named, visible, is_variable, with_bound}
-use Rattle.name_scopes.specs.Reading.{Reading, Read, earlier, unless, same_sort, same_bool, needs, gathers, in_order}
-use Rattle.name_scopes.specs.Reading.{is_linear, left_side, word_found, binding, range_reading, all_beside, read_layer}
-use Rattle.name_scopes.specs.Reading.{read}
-use Rattle.name_scopes.specs.Statements.{target_word, target_head, index_reading, target_reading, values_reading}
-use Rattle.name_scopes.specs.Statements.{condition_reading, alternative_reading, further_reading, alternatives_reading}
-use Rattle.name_scopes.specs.Statements.{component_layer, assign_layer}
-use Rattle.name_laws.proofs.AttributeTheorems.{earlier_first, earlier_second, and_both, unless_none}
+use Rattle.meaning_documents.specs.Writes.{alternatives, conditional}
+use Rattle.names_rules.specs.declared.named.Meaning.{Meaning}
+use Rattle.names_rules.specs.declared.named.Named.{Named}
+use Rattle.names_rules.specs.declared.named.Sort.{Sort}
+use Rattle.names_rules.specs.Scope.{Scope as NameScope, found, bound_named, visible, is_variable, with_bound}
+use Rattle.names_rules.specs.Reading.{Reading, ReadingAt, earlier, unless, same_sort, same_bool, needs, gathers}
+use Rattle.names_rules.specs.Reading.{in_order}
+use Rattle.names_rules.specs.Reading.{is_linear, left_side, word_found, binding, range_reading, all_beside, read_layer}
+use Rattle.names_rules.specs.Reading.{read}
+use Rattle.names_rules.specs.Statements.{target_word, target_head, index_reading, target_reading, values_reading}
+use Rattle.names_rules.specs.Statements.{condition_reading, alternative_reading, further_reading, alternatives_reading}
+use Rattle.names_rules.specs.Statements.{component_layer, assign_layer}
+use Rattle.names_laws.proofs.AttributeTheorems.{and_both}
+use Rattle.names_rules.proofs.Faults.{earlier_first, earlier_second, unless_none}
 use Rattle.expand_fits_parts.specs.Forms.Naming.{WordTest, or_word, Wording, words_layer, words_pass}
 use Rattle.expand_fits_parts.specs.Forms.Naming.{words_pass_or_none}
 use Rattle.expand_fits_parts.specs.Forms.Naming.{target_words, alternative_words, component_words, assign_words}
@@ -74,7 +76,7 @@ inside_found n alone whole name at g = record {
     no_variable x m e h k = let same : x ≡ m = cc e in
         cc (ap (λ (y : Named). is_variable y.meaning || is_some y.indices) same, h, k)
 
-abbrev Reads : Read → Wording → Type 0
+abbrev Reads : ReadingAt → Wording → Type 0
 Reads m p = (n : NameScope) (alone whole : WordTest) → FoundPass n alone whole → (m n).fault ≡ None →
     p alone whole ≡ true
 
@@ -105,14 +107,14 @@ module _ (n : NameScope) (a w : WordTest) (g : FoundPass n a w) where
 
   sums_read : (ks : List (Symbol × Part)) →
       (in_order (map (λ m. needs Sort.Number (m n)) (map (λ part. part.1) (map (λ (k : Symbol × Part).
-      let p : Symbol × Read = (k.0, k.1.0) in p) ks)))).fault ≡ None →
+      let p : Symbol × ReadingAt = (k.0, k.1.0) in p) ks)))).fault ≡ None →
       list_all (λ (part : Symbol × Wording). part.1 a w) (map (λ (k : Symbol × Part).
       let p : Symbol × Wording = (k.0, k.1.1) in p) ks) ≡ true
   sums_read [] h = refl
   sums_read (k ∷ ks) h =
       let f = (needs Sort.Number (k.1.0 n)).fault in
       let rest = (in_order (map (λ m. needs Sort.Number (m n)) (map (λ part. part.1) (map (λ (j : Symbol × Part).
-      let p : Symbol × Read = (j.0, j.1.0) in p) ks)))).fault in
+      let p : Symbol × ReadingAt = (j.0, j.1.0) in p) ks)))).fault in
       and_both (k.1.1 a w) (list_all (λ (part : Symbol × Wording). part.1 a w) (map (λ (j : Symbol × Part).
       let p : Symbol × Wording = (j.0, j.1.1) in p) ks)) (part_reads Sort.Number k.1 (earlier_first f rest h))
       (sums_read ks (earlier_second f rest h))
@@ -163,7 +165,7 @@ layer (Expr-F.Compare at l relation r) n a w g h =
 layer (Expr-F.Sum at minus x xs) n a w g h =
     let f = (needs Sort.Number (x.0 n)).fault in
     let rest = (in_order (map (λ m. needs Sort.Number (m n)) (map (λ part. part.1) (map (λ (k : Symbol × Part).
-    let p : Symbol × Read = (k.0, k.1.0) in p) xs)))).fault in
+    let p : Symbol × ReadingAt = (k.0, k.1.0) in p) xs)))).fault in
     and_both (x.1 a w) (list_all (λ (part : Symbol × Wording). part.1 a w) (map (λ (k : Symbol × Part).
     let p : Symbol × Wording = (k.0, k.1.1) in p) xs)) (part_reads n a w g Sort.Number x (earlier_first f rest h))
     (sums_read n a w g xs (earlier_second f rest h))

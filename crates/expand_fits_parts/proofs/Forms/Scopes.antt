@@ -9,9 +9,9 @@ use Rattle.std.specs.Option.{option_or}
 use Rattle.std.specs.Str.{bytes_eq}
 use Rattle.indexmap.specs.IndexMap.{insert_entry}
 use Rattle.unity_syntax.specs.declared.expression.Expr.{Expr}
-use Rattle.unity_meaning.specs.Names.{Bindings, Variable, slot_at}
-use Rattle.name_laws.specs.SlotLaws.{variable_named}
-use Rattle.name_laws.proofs.Inserts.{same_bytes, bytes_same, chosen, taken, skipped}
+use Rattle.meaning_documents.specs.Names.{Bindings, Variable, slot_at}
+use Rattle.meaning_documents.specs.Names.{variable_named}
+use Rattle.names_laws.proofs.Inserts.{same_bytes, bytes_same, chosen, taken, skipped}
 use Rattle.core_terms.specs.declared.trees.CTerm.{CTerm}
 use Rattle.core_terms.specs.declared.trees.CForm.{CForm}
 use Rattle.core_terms.specs.declared.trees.CTerm.TheVariants.{Slot}
@@ -21,16 +21,16 @@ use Rattle.core_terms.specs.declared.programs.CWrite.{CWrite}
 use Rattle.core_terms.specs.Places.{form_names_only, term_names_only}
 use Rattle.core_terms.specs.Weights.{form_weight, term_weights, slot_weight, place_weight}
 use Rattle.core_terms.specs.Conditions.{is_below, FormFits, TermFits, WriteFits, StatementFits}
-use Rattle.expansion_laws.specs.declared.cores.Bound.{Bound}
-use Rattle.expansion_laws.specs.declared.cores.Formed.{Formed}
-use Rattle.expansion_laws.specs.Measures.{ends_weight}
-use Rattle.expansion_laws.specs.Forming.{Scope, as_truth, as_number, form_of, term_of, typed, varying, number_constant}
-use Rattle.expansion_laws.specs.Forming.{bound_formed, variable_formed, formed_or_zero, formed}
-use Rattle.expansion_laws.specs.Assigning.{Stated, stated, among, is_large_effect}
-use Rattle.expansion_laws.specs.Programs.{core_statement}
-use Rattle.expansion_laws.specs.WeightLaws.{WriteWithin, EffectWithin, CoreWithin}
-use Rattle.expansion_laws.proofs.Lightness.{expressions_within, fits_truth, fits_number}
-use Rattle.expansion_laws.proofs.LightEffects.{assignments_within}
+use Rattle.expand_rules.specs.declared.cores.Bound.{Bound}
+use Rattle.expand_rules.specs.declared.cores.Formed.{Formed}
+use Rattle.expand_rules.specs.Measures.{ends_weight}
+use Rattle.expand_rules.specs.Forming.{Scope, as_truth, as_number, form_of, term_of, typed, varying, number_constant}
+use Rattle.expand_rules.specs.Forming.{bound_formed, variable_formed, formed_or_zero, formed}
+use Rattle.expand_rules.specs.Assigning.{Stated, stated, among, is_large_effect}
+use Rattle.expand_rules.specs.Programs.{core_statement}
+use Rattle.expand_correct.specs.Values.WeightLaws.{WriteWithin, EffectWithin, CoreWithin}
+use Rattle.expand_correct.proofs.Values.Lightness.{expressions_within, fits_truth, fits_number}
+use Rattle.expand_correct.proofs.Values.LightEffects.{assignments_within}
 use Rattle.expand_fits_parts.specs.Forms.Naming.{any_word, SlotsPass, core_names_only, Sees, WriteNames, EffectNames}
 use Rattle.expand_fits_parts.specs.Forms.Fitting.{ScopeNames, ScopeFits}
 use Rattle.expand_fits_parts.specs.Forms.FittingLaws.{FormulasFit, NumbersFit, InstancesFit, DefinitionsFit}

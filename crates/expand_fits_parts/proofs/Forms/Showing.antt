@@ -9,24 +9,24 @@ use Rattle.indexmap.specs.IndexMap.{insert_entry}
 use Rattle.case_tables.specs.declared.code_table.Code.{Code}
 use Rattle.unity_syntax.specs.declared.declaration.Var.{Var}
 use Rattle.unity_syntax.specs.declared.declaration.Def.{Def}
-use Rattle.unity_meaning.specs.Names.{Bindings, Variable}
-use Rattle.name_scopes.specs.declared.named.Meaning.{Meaning}
-use Rattle.name_scopes.specs.declared.named.Named.{Named}
-use Rattle.name_scopes.specs.Scope.{Table, is_variable, is_value, is_visible, visible}
-use Rattle.name_scopes.specs.Reading.{unless, read}
-use Rattle.name_scopes.specs.Declarations.{with_named, is_declared, always_named, definition}
-use Rattle.name_scopes.specs.Declarations.{definition_scope, always_part}
-use Rattle.name_laws.specs.SlotLaws.{variable_named}
-use Rattle.name_laws.specs.VariableLaws.{Mirrors}
-use Rattle.name_laws.specs.StayingLaws.{StaysIn}
-use Rattle.name_laws.specs.AlwaysLaws.{is_always, IsAlwaysIn}
-use Rattle.name_laws.proofs.AttributeTheorems.{earlier_first, earlier_second, unless_none}
-use Rattle.name_laws.proofs.Inserts.{added, found_added, kept_beside}
-use Rattle.name_laws.proofs.Mirrored.{not_some}
-use Rattle.name_laws.proofs.Staying.{stays_in_definitions}
+use Rattle.meaning_documents.specs.Names.{Bindings, Variable}
+use Rattle.names_rules.specs.declared.named.Meaning.{Meaning}
+use Rattle.names_rules.specs.declared.named.Named.{Named}
+use Rattle.names_rules.specs.Scope.{Table, is_variable, is_value, is_visible, visible}
+use Rattle.names_rules.specs.Reading.{unless, read}
+use Rattle.names_rules.specs.Declarations.{with_named, is_declared, always_named, definition}
+use Rattle.names_rules.specs.Declarations.{definition_scope, always_part}
+use Rattle.meaning_documents.specs.Names.{variable_named}
+use Rattle.names_laws.specs.VariableLaws.{Mirrors}
+use Rattle.names_laws.specs.StayingLaws.{StaysIn}
+use Rattle.names_laws.specs.AlwaysLaws.{is_always, IsAlwaysIn}
+use Rattle.names_rules.proofs.Faults.{earlier_first, earlier_second, unless_none}
+use Rattle.names_laws.proofs.Inserts.{added, found_added, kept_beside}
+use Rattle.names_laws.proofs.Mirrored.{not_some}
+use Rattle.names_laws.proofs.Staying.{stays_in_definitions}
 use Rattle.core_terms.specs.Conditions.{any_place}
-use Rattle.expansion_laws.specs.declared.cores.Formed.{Formed}
-use Rattle.expansion_laws.specs.Forming.{Scope, variable_formed, number_constant, formed}
+use Rattle.expand_rules.specs.declared.cores.Formed.{Formed}
+use Rattle.expand_rules.specs.Forming.{Scope, variable_formed, number_constant, formed}
 use Rattle.expand_fits_parts.specs.Forms.Naming.{WordTest, SlotsPass, Sees}
 use Rattle.expand_fits_parts.specs.Forms.Visible.{FoundPass}
 use Rattle.expand_fits_parts.specs.Forms.Placing.{declares}

@@ -17,41 +17,42 @@ use Rattle.unity_syntax.specs.declared.declaration.Def.{Def}
 use Rattle.unity_syntax.specs.declared.program.Initially.{Initially}
 use Rattle.unity_syntax.specs.declared.program.Program.{Program}
 use Rattle.unity_syntax.specs.declared.document.Part.{Part as DocumentPart}
-use Rattle.unity_meaning.specs.Names.{Bindings, Variable}
-use Rattle.unity_meaning.specs.Instances.{instances}
-use Rattle.unity_meaning.specs.Setting.{programs_among, setting_of, with_declarations}
-use Rattle.name_scopes.specs.declared.named.Meaning.{Meaning}
-use Rattle.name_scopes.specs.declared.named.Named.{Named}
-use Rattle.name_scopes.specs.declared.named.Sort.{Sort}
-use Rattle.name_scopes.specs.Scope.{Scope as NameScope, Table, is_variable, is_value}
-use Rattle.name_scopes.specs.Reading.{earlier, unless, same_sort, beside, read}
-use Rattle.name_scopes.specs.Part.{Part, run}
-use Rattle.name_scopes.specs.Declarations.{items_of, some_of, program_scope, variable_part, always_part}
-use Rattle.name_scopes.specs.Declarations.{initially_reading, value_named}
-use Rattle.name_scopes.specs.Statements.{Labels, items_part}
-use Rattle.name_scopes.specs.WellNamed.{Declared, nothing_declared, new_program, start_reading}
-use Rattle.name_scopes.specs.WellNamed.{program_body, program_part, part_of, schedule_reading}
-use Rattle.name_laws.specs.SlotLaws.{variable_named}
-use Rattle.name_laws.specs.VariableLaws.{Mirrors}
-use Rattle.name_laws.specs.StayingLaws.{StaysIn}
-use Rattle.name_laws.specs.AlwaysLaws.{is_always}
-use Rattle.name_laws.proofs.AttributeTheorems.{earlier_first, earlier_second, and_first, and_second}
-use Rattle.name_laws.proofs.Inserts.{bytes_same}
-use Rattle.name_laws.proofs.Mirrored.{mirrored_by_documents}
-use Rattle.name_laws.proofs.Staying.{stays_in_documents, stays_in_variables, stays_in_definitions}
+use Rattle.meaning_documents.specs.Names.{Bindings, Variable}
+use Rattle.meaning_documents.specs.Instances.{instances}
+use Rattle.meaning_documents.specs.Setting.{programs_among, setting_of, with_declarations}
+use Rattle.names_rules.specs.declared.named.Meaning.{Meaning}
+use Rattle.names_rules.specs.declared.named.Named.{Named}
+use Rattle.names_rules.specs.declared.named.Sort.{Sort}
+use Rattle.names_rules.specs.Scope.{Scope as NameScope, Table, is_variable, is_value}
+use Rattle.names_rules.specs.Reading.{earlier, unless, same_sort, beside, read}
+use Rattle.names_rules.specs.Part.{Part, run}
+use Rattle.names_rules.specs.Declarations.{items_of, some_of, program_scope, variable_part, always_part}
+use Rattle.names_rules.specs.Declarations.{initially_reading, value_named}
+use Rattle.names_rules.specs.Statements.{Labels, items_part}
+use Rattle.names_rules.specs.WellNamed.{Declared, nothing_declared, new_program, start_reading}
+use Rattle.names_rules.specs.WellNamed.{program_body, program_part, part_of, schedule_reading}
+use Rattle.meaning_documents.specs.Names.{variable_named}
+use Rattle.names_laws.specs.VariableLaws.{Mirrors}
+use Rattle.names_laws.specs.StayingLaws.{StaysIn}
+use Rattle.names_laws.specs.AlwaysLaws.{is_always}
+use Rattle.names_laws.proofs.AttributeTheorems.{and_first, and_second}
+use Rattle.names_rules.proofs.Faults.{earlier_first, earlier_second}
+use Rattle.names_laws.proofs.Inserts.{bytes_same}
+use Rattle.names_laws.proofs.Mirrored.{mirrored_by_documents}
+use Rattle.names_laws.proofs.Staying.{stays_in_documents, stays_in_variables, stays_in_definitions}
 use Rattle.core_terms.specs.Places.{form_names_only}
 use Rattle.core_terms.specs.Conditions.{is_shown, any_place, NamesShown}
 use Rattle.core_terms.specs.declared.programs.CSlot.{CSlot}
-use Rattle.document_words.specs.Texts.{Texts}
-use Rattle.document_words.specs.WordNumbers.{document_words, word_number}
+use Rattle.expand_declarations.specs.Texts.{Texts}
+use Rattle.expand_declarations.specs.WordNumbers.{document_words, word_number}
 use Rattle.expand_declarations.specs.Slots.{declared_by, document_slots}
 use Rattle.expand_declarations.specs.Shown.{shown_slots}
 use Rattle.expand_declarations.specs.Start.{enumeration_words, first_words}
-use Rattle.expansion_laws.specs.Forming.{Scope, formed}
-use Rattle.expansion_laws.specs.Assigning.{Stated, stated}
-use Rattle.expansion_laws.specs.Programs.{initial_form, core_statement}
-use Rattle.expand_always.specs.AlwaysNames.{with_definition, with_definitions}
-use Rattle.core_documents.specs.Cores.{part_definitions, with_parts, with_cores}
+use Rattle.expand_rules.specs.Forming.{Scope, formed}
+use Rattle.expand_rules.specs.Assigning.{Stated, stated}
+use Rattle.expand_rules.specs.Programs.{initial_form, core_statement}
+use Rattle.expand_documents.specs.AlwaysNames.{with_definition, with_definitions}
+use Rattle.expand_documents.specs.Cores.{part_definitions, with_parts, with_cores}
 use Rattle.expand_fits_parts.specs.Forms.Naming.{SlotsPass, Sees, EffectNames}
 use Rattle.expand_fits_parts.specs.Forms.Placing.{declares}
 use Rattle.expand_fits_parts.specs.Forms.Programs.{ProgramShows}

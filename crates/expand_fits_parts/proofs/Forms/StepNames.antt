@@ -8,19 +8,19 @@ use Rattle.unity_syntax.specs.declared.term.Term.TheOpen.{Term-F}
 use Rattle.unity_syntax.specs.declared.term.Term.TheFolds.{map-Term}
 use Rattle.unity_syntax.specs.TwoFolds.{Related}
 use Rattle.unity_syntax.proofs.TermFolds.{two_terms}
-use Rattle.name_scopes.specs.Declarations.{some_of}
+use Rattle.names_rules.specs.Declarations.{some_of}
 use Rattle.core_terms.specs.declared.trees.Range.{Range}
 use Rattle.core_terms.specs.declared.documents.CStep.{CStep}
 use Rattle.core_terms.specs.Conditions.{bound_ranges, rule_ranges}
-use Rattle.document_words.specs.Texts.{Texts}
-use Rattle.document_words.specs.WordNumbers.{document_words, word_number}
+use Rattle.expand_declarations.specs.Texts.{Texts}
+use Rattle.expand_declarations.specs.WordNumbers.{document_words, word_number}
 use Rattle.expand_declarations.specs.Numbers.{core_range}
 use Rattle.expand_declarations.specs.References.{param_range, names_layer, term_names, rule_names}
 use Rattle.expand_declarations.proofs.PairRules.{of_pair_rule}
-use Rattle.expand_proofs.specs.Elements.{form_in, term_in}
-use Rattle.expand_proofs.specs.ProofTerms.{Place, Terming, fixed_ends, with_bound_name, ref_in, term_layer, termed}
-use Rattle.expand_proofs.specs.Steps.{step_place, core_rule}
-use Rattle.core_documents.specs.Cores.{document_scope}
+use Rattle.expand_steps.specs.Elements.{form_in, term_in}
+use Rattle.expand_steps.specs.ProofTerms.{Place, Terming, fixed_ends, with_bound_name, ref_in, term_layer, termed}
+use Rattle.expand_steps.specs.Steps.{step_place, core_rule}
+use Rattle.expand_documents.specs.Cores.{document_scope}
 use Rattle.expand_fits_parts.specs.Forms.StepLaws.{NamesCounted}
 use Rattle.expand_fits_parts.proofs.Forms.Claims.{proofs_have}
 use Rattle.expand_fits_parts.proofs.Forms.TermParts.{ranges-Imply, ranges-From, ranges-Exists, ranges-Induct}

@@ -7,27 +7,27 @@ use Rattle.case_tables.specs.declared.code_table.Code.{Code}
 use Rattle.unity_syntax.specs.declared.proof.Param.{Param}
 use Rattle.unity_syntax.specs.declared.proof.Rule.{Rule}
 use Rattle.unity_syntax.specs.declared.proof.Step.{Step}
-use Rattle.name_scopes.specs.declared.named.Meaning.{Meaning}
-use Rattle.name_scopes.specs.Scope.{Table, Params, found}
-use Rattle.name_scopes.specs.Reading.{binding, filled}
-use Rattle.name_scopes.specs.Part.{run}
-use Rattle.name_scopes.specs.Declarations.{some_of}
-use Rattle.name_scopes.specs.Proofs.{proof_scope, param_part}
-use Rattle.name_laws.proofs.AttributeTheorems.{earlier_first, earlier_second, unless_none}
-use Rattle.name_laws.proofs.Mirrored.{not_some}
+use Rattle.names_rules.specs.declared.named.Meaning.{Meaning}
+use Rattle.names_rules.specs.Scope.{Table, Params, found}
+use Rattle.names_rules.specs.Reading.{binding, filled}
+use Rattle.names_rules.specs.Part.{run}
+use Rattle.names_rules.specs.Declarations.{some_of}
+use Rattle.names_rules.specs.Proofs.{proof_scope, param_part}
+use Rattle.names_rules.proofs.Faults.{earlier_first, earlier_second, unless_none}
+use Rattle.names_laws.proofs.Mirrored.{not_some}
 use Rattle.core_terms.specs.declared.trees.Range.{Range}
 use Rattle.core_terms.specs.declared.programs.CSlot.{CSlot}
 use Rattle.core_terms.specs.declared.documents.CStep.{CStep}
-use Rattle.core_terms.specs.Conditions.{is_below, bound_ranges, IsNumbered}
-use Rattle.document_words.specs.Texts.{Texts}
-use Rattle.document_words.specs.WordNumbers.{document_words}
+use Rattle.core_terms.specs.Conditions.{is_below, bound_ranges, NumbersBoundNames}
+use Rattle.expand_declarations.specs.Texts.{Texts}
+use Rattle.expand_declarations.specs.WordNumbers.{document_words}
 use Rattle.expand_declarations.specs.References.{with_param, param_range}
 use Rattle.expand_declarations.proofs.PairRules.{of_pair_rule}
-use Rattle.expansion_laws.specs.Forming.{Scope}
-use Rattle.expand_proofs.specs.ProofTerms.{Place, termed, ref_in}
-use Rattle.expand_proofs.specs.Steps.{param_bounds, step_place, claim_formulas, rule_formulas, step_formulas}
-use Rattle.expand_proofs.specs.Steps.{core_rule, core_step, step_fault}
-use Rattle.core_documents.specs.Cores.{document_scope, core_document}
+use Rattle.expand_rules.specs.Forming.{Scope}
+use Rattle.expand_steps.specs.ProofTerms.{Place, termed, ref_in}
+use Rattle.expand_steps.specs.Steps.{param_bounds, step_place, claim_formulas, rule_formulas, step_formulas}
+use Rattle.expand_steps.specs.Steps.{core_rule, core_step, step_fault}
+use Rattle.expand_documents.specs.Cores.{document_scope, core_document}
 use Rattle.expand_fits_parts.specs.Forms.Fitting.{ScopeNames, ScopeFits}
 use Rattle.expand_fits_parts.specs.Forms.StepLaws.{RuleFits, RuleNumbered, TermsFit, NamesNumbered}
 use Rattle.expand_fits_parts.proofs.Forms.TermNumbers.{terms_numbered}
@@ -109,7 +109,7 @@ rule_numbered c first count (Rule.Weaken at of) = tt
 rule_numbered c first count (Rule.Pair at which r s) =
     of_pair_rule (RuleNumbered first) which (ref_in c r) (ref_in c s) (λ name. tt) tt
 rule_numbered c first count (Rule.Term at of) =
-    subst (λ n. IsNumbered n (termed of c (length c.params)).core) count
+    subst (λ n. NumbersBoundNames n (termed of c (length c.params)).core) count
     (ap (λ o. is_some o) (terms_numbered of c (length c.params)))
 
 pub names_numbered : NamesNumbered

@@ -15,7 +15,7 @@ use Rattle.unity_syntax.specs.declared.term.Term.TheOpen.{Term-F}
 use Rattle.unity_syntax.specs.declared.term.Term.TheFolds.{map-Term}
 use Rattle.unity_syntax.specs.TwoFolds.{Related}
 use Rattle.unity_syntax.proofs.TermFolds.{two_terms}
-use Rattle.name_laws.proofs.Inserts.{chosen}
+use Rattle.names_laws.proofs.Inserts.{chosen}
 use Rattle.core_terms.specs.declared.trees.Range.{Range}
 use Rattle.core_terms.specs.declared.trees.CTerm.{CTerm}
 use Rattle.core_terms.specs.declared.trees.CForm.{CForm}
@@ -26,14 +26,14 @@ use Rattle.core_terms.specs.Weights.{range_weight, place_weight}
 use Rattle.core_terms.specs.Conditions.{is_below, any_place, FormFits, TermFits, Parts, no_parts, both_parts, also}
 use Rattle.core_terms.specs.Conditions.{parts_of, bound_ranges}
 use Rattle.expand_declarations.specs.Numbers.{core_range}
-use Rattle.expansion_laws.specs.declared.cores.Core.{Core}
-use Rattle.expansion_laws.specs.declared.cores.Bound.{Bound}
-use Rattle.expansion_laws.specs.declared.cores.Formed.{Formed}
-use Rattle.expansion_laws.specs.Measures.{ends_weight}
-use Rattle.expansion_laws.specs.Forming.{Scope, formed}
-use Rattle.expand_proofs.specs.Elements.{truth_in, number_in, form_in, term_in}
-use Rattle.expand_proofs.specs.ProofTerms.{Place, Termed, Terming, fixed_ends, param_bound, with_bound_name, ref_in}
-use Rattle.expand_proofs.specs.ProofTerms.{term_layer, termed}
+use Rattle.expand_rules.specs.declared.cores.Core.{Core}
+use Rattle.expand_rules.specs.declared.cores.Bound.{Bound}
+use Rattle.expand_rules.specs.declared.cores.Formed.{Formed}
+use Rattle.expand_rules.specs.Measures.{ends_weight}
+use Rattle.expand_rules.specs.Forming.{Scope, formed}
+use Rattle.expand_steps.specs.Elements.{truth_in, number_in, form_in, term_in}
+use Rattle.expand_steps.specs.ProofTerms.{Place, Termed, Terming, fixed_ends, param_bound, with_bound_name, ref_in}
+use Rattle.expand_steps.specs.ProofTerms.{term_layer, termed}
 use Rattle.expand_fits_parts.specs.Forms.Naming.{core_names_only}
 use Rattle.expand_fits_parts.specs.Forms.Fitting.{ScopeNames, ScopeFits}
 use Rattle.expand_fits_parts.specs.Forms.StepLaws.{ProofPartsFit}

@@ -8,32 +8,32 @@ use Rattle.unity_syntax.specs.declared.term.Term.TheOpen.{Term-F}
 use Rattle.unity_syntax.specs.declared.term.Term.TheFolds.{map-Term}
 use Rattle.unity_syntax.specs.TwoFolds.{Related}
 use Rattle.unity_syntax.proofs.TermFolds.{two_terms}
-use Rattle.name_scopes.specs.declared.named.Meaning.{Meaning}
-use Rattle.name_scopes.specs.Scope.{Scope as NameScope, with_bound}
-use Rattle.name_scopes.specs.Reading.{binding, filled, beside, all_beside, earlier}
-use Rattle.name_scopes.specs.Part.{run}
-use Rattle.name_scopes.specs.Declarations.{some_of}
-use Rattle.name_scopes.specs.Proofs.{Programs, Derived, boolean, number, ref_reading, claim_reading, rule_part}
-use Rattle.name_scopes.specs.Proofs.{term_part, term_layer as walk_layer, proof_scope, param_part, step_body}
-use Rattle.name_laws.proofs.AttributeTheorems.{earlier_first, earlier_second}
+use Rattle.names_rules.specs.declared.named.Meaning.{Meaning}
+use Rattle.names_rules.specs.Scope.{Scope as NameScope, with_bound}
+use Rattle.names_rules.specs.Reading.{binding, filled, beside, all_beside, earlier}
+use Rattle.names_rules.specs.Part.{run}
+use Rattle.names_rules.specs.Declarations.{some_of}
+use Rattle.names_rules.specs.Proofs.{Programs, Derived, boolean, number, ref_reading, claim_reading, rule_part}
+use Rattle.names_rules.specs.Proofs.{term_part, term_layer as walk_layer, proof_scope, param_part, step_body}
+use Rattle.names_rules.proofs.Faults.{earlier_first, earlier_second}
 use Rattle.core_terms.specs.declared.trees.Range.{Range}
 use Rattle.core_terms.specs.declared.documents.CStep.{CStep}
 use Rattle.core_terms.specs.Conditions.{Parts, parts_of, also, is_below}
-use Rattle.document_words.specs.WordNumbers.{document_words}
+use Rattle.expand_declarations.specs.WordNumbers.{document_words}
 use Rattle.expand_declarations.specs.Numbers.{core_range}
 use Rattle.expand_declarations.specs.References.{param_range}
 use Rattle.expand_declarations.proofs.PairRules.{of_pair_rule}
-use Rattle.expand_proofs.specs.Elements.{form_in, term_in}
-use Rattle.expand_proofs.specs.ProofTerms.{Place, Terming, fixed_ends, with_bound_name, ref_in, term_layer, termed}
-use Rattle.expand_proofs.specs.Steps.{step_place, core_rule}
-use Rattle.core_documents.specs.Cores.{document_scope}
-use Rattle.expand_fits_parts.specs.Forms.StepLaws.{IsRead, RuleReads, RangesRead}
+use Rattle.expand_steps.specs.Elements.{form_in, term_in}
+use Rattle.expand_steps.specs.ProofTerms.{Place, Terming, fixed_ends, with_bound_name, ref_in, term_layer, termed}
+use Rattle.expand_steps.specs.Steps.{step_place, core_rule}
+use Rattle.expand_documents.specs.Cores.{document_scope}
+use Rattle.expand_fits_parts.specs.Forms.StepLaws.{IsReadRange, RuleReads, RangesRead}
 use Rattle.expand_fits_parts.proofs.Forms.Claims.{proofs_have}
 use Rattle.expand_fits_parts.proofs.Forms.TermParts.{parts-Imply, parts-From, parts-Exists, parts-Induct, parts-Psp}
 use Rattle.expand_fits_parts.proofs.Forms.TermParts.{parts-Weaken, pair_parts}
 
 abbrev Read : Parts → Type 0
-Read ps = All IsRead ps.ranges
+Read ps = All IsReadRange ps.ranges
 
 abbrev AllRead : Terming → Derived → Type 0
 AllRead m walk = (c : Place) (next : ℕ) (v : ℕ → Bool) (s : NameScope) (k : ℕ) → (walk s k).fault ≡ None →
@@ -44,16 +44,16 @@ module _ (programs : Programs) where
       AllRead (term_layer (map-Term (Related AllRead) Terming (λ r. r.0) y))
       (walk_layer programs (map-Term (Related AllRead) Derived (λ r. r.1) y))
   layer (Term-F.Imply at p q) c next v s k fault =
-      subst (λ ps. Read ps) (sym (parts-Imply (form_in c.scope p) (form_in c.scope q) v)) (All-nil IsRead)
+      subst (λ ps. Read ps) (sym (parts-Imply (form_in c.scope p) (form_in c.scope q) v)) (All-nil IsReadRange)
   layer (Term-F.From at of) c next v s k fault =
-      subst (λ ps. Read ps) (sym (parts-From (ref_in c of) v)) (All-nil IsRead)
+      subst (λ ps. Read ps) (sym (parts-From (ref_in c of) v)) (All-nil IsReadRange)
   layer (Term-F.Pair at which x y) c next v s k fault =
       let t = x.0 c next in
       let u = y.0 c t.next in
       let first = x.1 s k in
       let second = y.1 s first.after in
       subst (λ ps. Read ps) (sym ((pair_parts which t.core u.core).parts v))
-      (All-append IsRead (parts_of t.core v).ranges (parts_of u.core v).ranges
+      (All-append IsReadRange (parts_of t.core v).ranges (parts_of u.core v).ranges
       (x.2 c next v s k (earlier_first first.fault second.fault fault))
       (y.2 c t.next v s first.after (earlier_second first.fault second.fault fault)))
   layer (Term-F.Exists at name range x) c next v s k fault =
@@ -65,7 +65,7 @@ module _ (programs : Programs) where
       let rest = x.1 (with_bound s name.text (Meaning.Param k)) (k + 1) in
       let sound = earlier_second b.fault (filled [] range).fault (earlier_first own.fault rest.fault fault) in
       subst (λ ps. Read ps) (sym (parts-Exists next r t.core v))
-      (All-cons IsRead r (parts_of t.core (also next v)).ranges
+      (All-cons IsReadRange r (parts_of t.core (also next v)).ranges
       (record { text = range; sound = sound; core = refl })
       (x.2 inner (next + 1) (also next v) (with_bound s name.text (Meaning.Param k)) (k + 1)
       (earlier_second own.fault rest.fault fault)))
@@ -82,7 +82,7 @@ module _ (programs : Programs) where
       (earlier_first bound.fault parts.fault (earlier_first own.fault rest.fault fault)) in
       subst (λ ps. Read ps)
       (sym (parts-Induct next r (term_in c.scope measure) (form_in c.scope p) (form_in c.scope q) t.core v))
-      (All-cons IsRead r (parts_of t.core (also next v)).ranges
+      (All-cons IsReadRange r (parts_of t.core (also next v)).ranges
       (record { text = range; sound = sound; core = refl })
       (x.2 inner (next + 1) (also next v) (with_bound s name.text (Meaning.Param k)) (k + 1)
       (earlier_second own.fault rest.fault fault)))
@@ -90,8 +90,8 @@ module _ (programs : Programs) where
       let t = x.0 c next in
       let first = x.1 s k in
       subst (λ ps. Read ps) (sym (parts-Psp t.core (ref_in c by) v))
-      (All-append IsRead (parts_of t.core v).ranges []
-      (x.2 c next v s k (earlier_first first.fault (ref_reading programs s by).fault fault)) (All-nil IsRead))
+      (All-append IsReadRange (parts_of t.core v).ranges []
+      (x.2 c next v s k (earlier_first first.fault (ref_reading programs s by).fault fault)) (All-nil IsReadRange))
   layer (Term-F.Weaken at p q x) c next v s k fault =
       let t = x.0 c next in
       let own = beside (boolean p s) (boolean q s) in

@@ -12,7 +12,7 @@ use Rattle.core_terms.specs.Folding.{and_form}
 use Rattle.core_terms.specs.Weights.{form_weight, slot_weight, place_weight}
 use Rattle.core_terms.specs.Unions.{with_slot, merged}
 use Rattle.core_terms.specs.Conditions.{is_below, is_shown, any_place, StatementFits, NamesShown}
-use Rattle.expansion_laws.proofs.Lightness.{and_light}
+use Rattle.expand_correct.proofs.Values.Lightness.{and_light}
 use Rattle.expand_fits_parts.specs.Forms.Programs.{KeepsFit, UnionsKeep, UnionsShow}
 use Rattle.expand_fits_parts.proofs.Forms.Below.{forms_below}
 use Rattle.expand_fits_parts.proofs.Forms.NamedForms.{and_names}

@@ -1,7 +1,7 @@
 -- What names only slots and parameters that pass tests names only those that pass wider tests.
 use Rattle.std.proofs.Common.{◌≡◌, ℕ, Bool, true, sym, ◌∙◌, subst}
 use Rattle.std.specs.Prelude.{◌&&◌}
-use Rattle.name_laws.proofs.AttributeTheorems.{and_first, and_second, and_both}
+use Rattle.names_laws.proofs.AttributeTheorems.{and_first, and_second, and_both}
 use Rattle.core_terms.specs.declared.trees.CTerm.{CTerm, roll-CTerm, ind-CTerm, fold-roll-CTerm}
 use Rattle.core_terms.specs.declared.trees.CForm.{CForm, roll-CForm, ind-CForm, fold-roll-CForm}
 use Rattle.core_terms.specs.declared.trees.CForm.TheOpen.{CTerm-F, CForm-F}

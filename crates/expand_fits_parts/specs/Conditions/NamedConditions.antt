@@ -2,8 +2,8 @@
 use Rattle.std.specs.Prelude.{All}
 use Rattle.unity_syntax.specs.declared.document.Document.{Document}
 use Rattle.core_terms.specs.Conditions.{EachPair, AreApart, IsNamed}
-use Rattle.name_scopes.specs.WellNamed.{IsWellNamed}
-use Rattle.core_documents.specs.Cores.{core_document}
+use Rattle.names_rules.specs.WellNamed.{IsWellNamed}
+use Rattle.expand_documents.specs.Cores.{core_document}
 
 -- two statements of a program differ in label or indices, and those of one label have equally many indices,
 abbrev pub StatementsApart : Type 0

@@ -3,8 +3,8 @@ use Rattle.std.specs.Prelude.{◌≡◌, ℕ, Some, slice_get, take}
 use Rattle.unity_syntax.specs.declared.document.Document.{Document}
 use Rattle.core_terms.specs.declared.programs.CProgram.{CProgram}
 use Rattle.core_terms.specs.Conditions.{EachPair, UnionFits}
-use Rattle.name_scopes.specs.WellNamed.{IsWellNamed}
-use Rattle.core_documents.specs.Cores.{core_document}
+use Rattle.names_rules.specs.WellNamed.{IsWellNamed}
+use Rattle.expand_documents.specs.Cores.{core_document}
 
 -- no two programs have one name
 abbrev pub ProgramNamesDiffer : Type 0

@@ -2,8 +2,8 @@
 use Rattle.std.specs.Prelude.{◌≡◌, All}
 use Rattle.unity_syntax.specs.declared.document.Document.{Document}
 use Rattle.core_terms.specs.Conditions.{EachPair, IsRange, KindFits}
-use Rattle.name_scopes.specs.WellNamed.{IsWellNamed}
-use Rattle.core_documents.specs.Cores.{core_document}
+use Rattle.names_rules.specs.WellNamed.{IsWellNamed}
+use Rattle.expand_documents.specs.Cores.{core_document}
 
 -- no two proofs are of one program,
 abbrev pub ProofProgramsDiffer : Type 0

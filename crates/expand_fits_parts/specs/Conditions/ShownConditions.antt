@@ -2,9 +2,9 @@
 use Rattle.std.specs.Prelude.{◌<◌, length, All}
 use Rattle.unity_syntax.specs.declared.document.Document.{Document}
 use Rattle.core_terms.specs.Conditions.{EachPair, ScheduleFits}
-use Rattle.name_scopes.specs.WellNamed.{IsWellNamed}
-use Rattle.document_words.specs.WordNumbers.{document_words}
-use Rattle.core_documents.specs.Cores.{core_document}
+use Rattle.names_rules.specs.WellNamed.{IsWellNamed}
+use Rattle.expand_declarations.specs.WordNumbers.{document_words}
+use Rattle.expand_documents.specs.Cores.{core_document}
 
 -- the slots that a program shows exist,
 abbrev pub ShownSlotsExist : Type 0

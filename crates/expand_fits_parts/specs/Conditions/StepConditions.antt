@@ -4,9 +4,9 @@ use Rattle.unity_syntax.specs.declared.document.Document.{Document}
 use Rattle.core_terms.specs.declared.documents.Arg.{Arg}
 use Rattle.core_terms.specs.declared.documents.CRule.{CRule}
 use Rattle.core_terms.specs.Conditions.{StepWords, arg_names_only, parts_of, is_below, rule_ranges, rule_refs}
-use Rattle.name_scopes.specs.WellNamed.{IsWellNamed}
-use Rattle.document_words.specs.WordNumbers.{document_words}
-use Rattle.core_documents.specs.Cores.{core_document}
+use Rattle.names_rules.specs.WellNamed.{IsWellNamed}
+use Rattle.expand_declarations.specs.WordNumbers.{document_words}
+use Rattle.expand_documents.specs.Cores.{core_document}
 
 -- the names of steps and their parameters, and what their rules and `using` name, are words
 abbrev pub StepsHaveWords : Type 0

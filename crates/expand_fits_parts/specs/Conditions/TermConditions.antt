@@ -2,9 +2,9 @@
 use Rattle.std.specs.Prelude.{◌≡◌, ℕ, ◌+◌, Bool, length, All, ⊤}
 use Rattle.unity_syntax.specs.declared.document.Document.{Document}
 use Rattle.core_terms.specs.declared.documents.CRule.{CRule}
-use Rattle.core_terms.specs.Conditions.{IsRange, IsNumbered, rule_ranges, parts_of}
-use Rattle.name_scopes.specs.WellNamed.{IsWellNamed}
-use Rattle.core_documents.specs.Cores.{core_document}
+use Rattle.core_terms.specs.Conditions.{IsRange, NumbersBoundNames, rule_ranges, parts_of}
+use Rattle.names_rules.specs.WellNamed.{IsWellNamed}
+use Rattle.expand_documents.specs.Cores.{core_document}
 
 -- a step has a name for each of its parameters and each name that its term binds,
 abbrev pub ParametersNamed : Type 0
@@ -13,7 +13,7 @@ ParametersNamed = (d : Document) → All (λ p. All
 
 -- the names that a rule binds have the numbers from this one on
 abbrev pub RuleIsNumbered : ℕ → CRule → Type 0
-RuleIsNumbered count (CRule.Proof t) = IsNumbered count t
+RuleIsNumbered count (CRule.Proof t) = NumbersBoundNames count t
 RuleIsNumbered count _ = ⊤
 
 -- and these have the numbers after those of the parameters

@@ -2,10 +2,10 @@
 use Rattle.std.specs.Prelude.{◌≡◌, ℕ, List, true, Some, slice_get, All}
 use Rattle.unity_syntax.specs.declared.document.Document.{Document}
 use Rattle.core_terms.specs.Conditions.{ProgramWords}
-use Rattle.document_words.specs.Texts.{document_texts}
-use Rattle.document_words.specs.WordNumbers.{document_words, word_number}
-use Rattle.declaration_laws.specs.WordLaws.{is_among}
-use Rattle.core_documents.specs.Cores.{core_document}
+use Rattle.expand_declarations.specs.Texts.{document_texts}
+use Rattle.expand_declarations.specs.WordNumbers.{document_words, word_number}
+use Rattle.expand_correct.specs.Declared.WordLaws.{is_among}
+use Rattle.expand_documents.specs.Cores.{core_document}
 
 -- a text that the core form names has its place,
 abbrev pub TextsHavePlaces : Type 0

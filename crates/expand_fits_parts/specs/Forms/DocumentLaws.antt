@@ -2,16 +2,16 @@
 use Rattle.std.specs.Prelude.{◌≡◌, ℕ, List, [], ◌∷◌, false, Some, None, slice_get, All}
 use Rattle.unity_syntax.specs.declared.statement.Items.{Items}
 use Rattle.unity_syntax.specs.declared.document.Document.{Document}
-use Rattle.unity_meaning.specs.Instances.{Instance, instances}
+use Rattle.meaning_documents.specs.Instances.{Instance, instances}
 use Rattle.core_terms.specs.declared.trees.Range.{Range}
-use Rattle.document_words.specs.WordNumbers.{document_words}
+use Rattle.expand_declarations.specs.WordNumbers.{document_words}
 use Rattle.expand_declarations.specs.Slots.{document_slots}
-use Rattle.expansion_laws.specs.Forming.{Scope}
-use Rattle.expansion_laws.specs.Lists.{items_fault}
-use Rattle.expansion_laws.specs.Assigning.{stated, is_large_effect}
-use Rattle.core_documents.specs.Cores.{document_scope, core_document}
-use Rattle.core_documents.specs.Faults.{bodies_fault, headings_fault, expansion_fault}
-use Rattle.core_documents.specs.Cores.{declared_scope}
+use Rattle.expand_rules.specs.Forming.{Scope}
+use Rattle.expand_rules.specs.Lists.{items_fault}
+use Rattle.expand_rules.specs.Assigning.{stated, is_large_effect}
+use Rattle.expand_documents.specs.Cores.{document_scope, core_document}
+use Rattle.expand_documents.specs.Faults.{bodies_fault, headings_fault, expansion_fault}
+use Rattle.expand_documents.specs.Cores.{declared_scope}
 use Rattle.expand_fits_parts.specs.Forms.Fitting.{ScopeFits}
 use Rattle.expand_fits_parts.specs.Forms.Programs.{ProgramFits}
 

@@ -3,16 +3,16 @@
 use Rattle.std.specs.Prelude.{◌≡◌, ℕ, List, length, Bool, true, Some}
 use Rattle.std.specs.Map.{lookup}
 use Rattle.std.specs.Str.{bytes_eq}
-use Rattle.unity_meaning.specs.Names.{Variable}
-use Rattle.name_laws.specs.SlotLaws.{variable_named}
+use Rattle.meaning_documents.specs.Names.{Variable}
+use Rattle.meaning_documents.specs.Names.{variable_named}
 use Rattle.core_terms.specs.declared.programs.CSlot.{CSlot}
 use Rattle.core_terms.specs.declared.trees.Range.{Range}
 use Rattle.core_terms.specs.Conditions.{is_below}
 use Rattle.core_terms.specs.Weights.{slot_weight, place_weight}
-use Rattle.expansion_laws.specs.declared.cores.Bound.{Bound}
-use Rattle.expansion_laws.specs.declared.cores.Formed.{Formed}
-use Rattle.expansion_laws.specs.Forming.{Scope}
-use Rattle.expansion_laws.specs.WeightLaws.{ScopeWithin}
+use Rattle.expand_rules.specs.declared.cores.Bound.{Bound}
+use Rattle.expand_rules.specs.declared.cores.Formed.{Formed}
+use Rattle.expand_rules.specs.Forming.{Scope}
+use Rattle.expand_correct.specs.Values.WeightLaws.{ScopeWithin}
 use Rattle.expand_fits_parts.specs.Forms.Naming.{SlotsPass, core_names_only}
 
 -- all that the words of a scope stand for names only slots and parameters that pass tests

@@ -3,13 +3,13 @@ use Rattle.std.specs.Prelude.{◌≡◌, ◌^◌, ◌≤◌, ℕ, List, [], fals
 use Rattle.std.specs.Str.{bytes_eq}
 use Rattle.indexmap.specs.IndexMap.{insert_entry}
 use Rattle.unity_syntax.specs.declared.expression.Expr.{Expr}
-use Rattle.unity_meaning.specs.Instances.{Instance}
+use Rattle.meaning_documents.specs.Instances.{Instance}
 use Rattle.core_terms.specs.declared.programs.CSlot.{CSlot}
 use Rattle.core_terms.specs.declared.trees.Range.{Range}
 use Rattle.core_terms.specs.Conditions.{FormFits, TermFits, StatementFits}
-use Rattle.expansion_laws.specs.Forming.{Scope, formed, as_truth, as_number, form_of, term_of}
-use Rattle.expansion_laws.specs.Assigning.{stated, is_large_effect}
-use Rattle.expansion_laws.specs.Programs.{core_statement}
+use Rattle.expand_rules.specs.Forming.{Scope, formed, as_truth, as_number, form_of, term_of}
+use Rattle.expand_rules.specs.Assigning.{stated, is_large_effect}
+use Rattle.expand_rules.specs.Programs.{core_statement}
 use Rattle.expand_fits_parts.specs.Forms.Fitting.{ScopeFits}
 
 -- an expression as a formula,

@@ -8,15 +8,15 @@ use Rattle.unity_syntax.specs.declared.expression.Expr.TheOpen.{Expr-F}
 use Rattle.unity_syntax.specs.declared.statement.Target.{Target}
 use Rattle.unity_syntax.specs.declared.statement.Assign.{Assign, fold-Assign}
 use Rattle.unity_syntax.specs.declared.statement.Component.TheOpen.{Component-F, Assign-F}
-use Rattle.unity_meaning.specs.Names.{Variable}
-use Rattle.unity_meaning.specs.Value.{range_size}
-use Rattle.unity_meaning.specs.Writes.{Alternative, alternatives}
-use Rattle.name_laws.specs.SlotLaws.{variable_named}
+use Rattle.meaning_documents.specs.Names.{Variable}
+use Rattle.meaning_documents.specs.Value.{range_size}
+use Rattle.meaning_documents.specs.Writes.{Alternative, alternatives}
+use Rattle.meaning_documents.specs.Names.{variable_named}
 use Rattle.core_terms.specs.declared.programs.CWrite.{CWrite}
 use Rattle.core_terms.specs.Places.{term_names_only, form_names_only}
-use Rattle.expansion_laws.specs.declared.cores.Core.{Core}
-use Rattle.expansion_laws.specs.declared.effects.Effect.{Effect}
-use Rattle.expansion_laws.specs.Forming.{Scope, word_formed}
+use Rattle.expand_rules.specs.declared.cores.Core.{Core}
+use Rattle.expand_rules.specs.declared.effects.Effect.{Effect}
+use Rattle.expand_rules.specs.Forming.{Scope, word_formed}
 
 -- words
 

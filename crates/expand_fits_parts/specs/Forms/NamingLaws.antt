@@ -7,8 +7,8 @@ use Rattle.core_terms.specs.declared.trees.CTerm.{CTerm}
 use Rattle.core_terms.specs.declared.trees.CForm.{CForm}
 use Rattle.core_terms.specs.Conditions.{is_below}
 use Rattle.core_terms.specs.Places.{term_slots, form_slots, term_params, form_params, term_names_only, form_names_only}
-use Rattle.expansion_laws.specs.Forming.{Scope, formed}
-use Rattle.expansion_laws.specs.Assigning.{effect_of}
+use Rattle.expand_rules.specs.Forming.{Scope, formed}
+use Rattle.expand_rules.specs.Assigning.{effect_of}
 use Rattle.expand_fits_parts.specs.Forms.Naming.{WordTest, any_word, words_pass, assignment_passes, core_names_only}
 use Rattle.expand_fits_parts.specs.Forms.Naming.{Sees}
 use Rattle.expand_fits_parts.specs.Forms.Naming.{EffectNames}

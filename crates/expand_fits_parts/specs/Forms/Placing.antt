@@ -4,13 +4,13 @@ use Rattle.std.specs.Prelude.{◌≡◌, ℕ, List, [], length, true, Some}
 use Rattle.std.specs.List.{list_any}
 use Rattle.std.specs.Str.{bytes_eq}
 use Rattle.unity_syntax.specs.declared.declaration.Var.{Var}
-use Rattle.unity_meaning.specs.Names.{Variable}
-use Rattle.unity_meaning.specs.Setting.{with_declarations}
-use Rattle.name_laws.specs.SlotLaws.{variable_named}
+use Rattle.meaning_documents.specs.Names.{Variable}
+use Rattle.meaning_documents.specs.Setting.{with_declarations}
+use Rattle.meaning_documents.specs.Names.{variable_named}
 use Rattle.core_terms.specs.Weights.{slot_weight}
 use Rattle.core_terms.specs.Conditions.{is_below, is_shown}
-use Rattle.expansion_laws.specs.WeightLaws.{SlotsWithin}
-use Rattle.document_words.specs.Texts.{Texts}
+use Rattle.expand_correct.specs.Values.WeightLaws.{SlotsWithin}
+use Rattle.expand_declarations.specs.Texts.{Texts}
 use Rattle.expand_declarations.specs.Slots.{new_slots}
 use Rattle.expand_declarations.specs.Shown.{shown_slots}
 use Rattle.expand_fits_parts.specs.Forms.Naming.{SlotsPass, WordTest}

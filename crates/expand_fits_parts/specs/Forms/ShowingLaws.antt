@@ -3,9 +3,9 @@ use Rattle.std.specs.Prelude.{◌≡◌, ℕ, List, [], ◌∷◌, Bool, true, n
 use Rattle.std.specs.List.{list_any}
 use Rattle.unity_syntax.specs.declared.program.Program.{Program}
 use Rattle.unity_syntax.specs.declared.document.Document.{Document}
-use Rattle.unity_meaning.specs.Setting.{programs_among}
-use Rattle.name_scopes.specs.WellNamed.{IsWellNamed}
-use Rattle.core_documents.specs.Cores.{core_document}
+use Rattle.meaning_documents.specs.Setting.{programs_among}
+use Rattle.names_rules.specs.WellNamed.{IsWellNamed}
+use Rattle.expand_documents.specs.Cores.{core_document}
 use Rattle.expand_fits_parts.specs.Forms.Programs.{ProgramShows}
 
 -- whether the name of each program that is no union stands at a byte of its own, and at none of these

@@ -2,20 +2,20 @@
 -- and the names that are bound around them.
 use Rattle.std.specs.Prelude.{◌≡◌, ℕ, ◌+◌, List, [], ◌++◌, length, None, All, IsTrue, ⊤}
 use Rattle.unity_syntax.specs.declared.document.Document.{Document}
-use Rattle.name_scopes.specs.WellNamed.{IsWellNamed}
+use Rattle.names_rules.specs.WellNamed.{IsWellNamed}
 use Rattle.core_terms.specs.declared.programs.CSlot.{CSlot}
 use Rattle.core_terms.specs.declared.documents.CStep.{CStep}
 use Rattle.core_terms.specs.declared.documents.CRule.{CRule}
 use Rattle.core_terms.specs.declared.trees.Range.{Range}
 use Rattle.unity_syntax.specs.declared.name.Range.{Range as TextRange}
-use Rattle.unity_meaning.specs.Value.{range_ends}
-use Rattle.name_scopes.specs.Reading.{filled}
+use Rattle.meaning_documents.specs.Value.{range_ends}
+use Rattle.names_rules.specs.Reading.{filled}
 use Rattle.expand_declarations.specs.Numbers.{core_range}
 use Rattle.core_terms.specs.Places.{form_names_only, term_names_only}
 use Rattle.core_terms.specs.Conditions.{FormFits, TermFits, Parts, parts_of, bound_ranges, any_place, is_below}
-use Rattle.core_terms.specs.Conditions.{IsNumbered, rule_ranges}
-use Rattle.core_documents.specs.Cores.{core_document}
-use Rattle.core_documents.specs.Faults.{expansion_fault}
+use Rattle.core_terms.specs.Conditions.{NumbersBoundNames, rule_ranges}
+use Rattle.expand_documents.specs.Cores.{core_document}
+use Rattle.expand_documents.specs.Faults.{expansion_fault}
 
 -- the formulas of a step's claim
 pub record StepClaimFits (slots : List CSlot) (c : CStep) : Type 0 where
@@ -45,7 +45,7 @@ TermsFit = (d : Document) → IsWellNamed d → expansion_fault d ≡ None →
 
 -- the names that a rule binds have the numbers from this one on, in reading order
 abbrev pub RuleNumbered : ℕ → CRule → Type 0
-RuleNumbered first (CRule.Proof t) = IsNumbered first t
+RuleNumbered first (CRule.Proof t) = NumbersBoundNames first t
 RuleNumbered first _ = ⊤
 
 -- those of a step come after its parameters,
@@ -60,14 +60,14 @@ NamesCounted = (d : Document) → IsWellNamed d → expansion_fault d ≡ None �
     (core_document d).proofs
 
 -- a range in the text that has no fault, in which no name stands, has this core form
-pub record IsRead (r : Range) : Type 0 where
+pub record IsReadRange (r : Range) : Type 0 where
   pub text : TextRange
   pub sound : (filled [] text).fault ≡ None
   pub core : r ≡ core_range (range_ends [] text)
 
 -- those of the names that a rule binds
 abbrev pub RuleReads : List Range → CRule → Type 0
-RuleReads params (CRule.Proof t) = All IsRead (parts_of t (is_below (length params))).ranges
+RuleReads params (CRule.Proof t) = All IsReadRange (parts_of t (is_below (length params))).ranges
 RuleReads params _ = ⊤
 
 abbrev pub RangesRead : Type 0

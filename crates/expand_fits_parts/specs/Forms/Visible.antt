@@ -4,10 +4,10 @@ use Rattle.std.specs.Prelude.{◌≡◌, ℕ, List, true, ◌||◌, Some, None}
 use Rattle.std.specs.Option.{is_some}
 use Rattle.unity_syntax.specs.declared.expression.Expr.{Expr}
 use Rattle.unity_syntax.specs.declared.statement.Assign.{Assign}
-use Rattle.name_scopes.specs.declared.named.Named.{Named}
-use Rattle.name_scopes.specs.Scope.{Scope as NameScope, found, is_variable}
-use Rattle.name_scopes.specs.Reading.{read}
-use Rattle.name_scopes.specs.Statements.{assign_reading}
+use Rattle.names_rules.specs.declared.named.Named.{Named}
+use Rattle.names_rules.specs.Scope.{Scope as NameScope, found, is_variable}
+use Rattle.names_rules.specs.Reading.{read}
+use Rattle.names_rules.specs.Statements.{assign_reading}
 use Rattle.expand_fits_parts.specs.Forms.Naming.{WordTest, words_pass, assignment_passes}
 
 -- the words that are found pass the first test, and those among them that are variables or arrays the second

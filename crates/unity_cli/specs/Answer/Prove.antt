@@ -1,7 +1,7 @@
 -- What `prove` answers.
 use Rattle.std.specs.Prelude.{◌≡◌, ℕ, ℤ, List, Result, Ok, Err}
 use Rattle.unity_syntax.specs.declared.document.Document.{Document}
-use Rattle.core_documents.specs.Cores.{core_document}
+use Rattle.expand_documents.specs.Cores.{core_document}
 use Rattle.core_terms.specs.declared.documents.CDocument.{CDocument}
 use Rattle.proof_script.specs.declared.plans.Plan.{Plan}
 use Rattle.proof_script.specs.declared.plans.StepFault.{StepFault}

@@ -3,7 +3,7 @@ use Rattle.std.specs.Prelude.{◌≡◌, ℕ, List, Bool, true, false, None}
 use Rattle.case_tables.specs.declared.code_table.Code.{Code}
 use Rattle.unity_syntax.specs.declared.document.Document.{Document}
 use Rattle.unity_syntax.specs.declared.document.Schedule.{Schedule}
-use Rattle.unity_meaning.specs.Programs.{Composed}
+use Rattle.meaning_documents.specs.Programs.{Composed}
 use Rattle.schedule_replay.specs.declared.heading.Heading.{Heading}
 use Rattle.core_terms.specs.declared.programs.CProgram.{CProgram}
 use Rattle.run_correct.specs.Traces.{source_system, first_state}

@@ -2,11 +2,11 @@
 use Rattle.std.specs.Prelude.{◌≡◌, ℕ, List, length, Bool, true, false, None}
 use Rattle.case_tables.specs.declared.code_table.Code.{Code}
 use Rattle.unity_syntax.specs.declared.document.Document.{Document}
-use Rattle.unity_meaning.specs.Programs.{Composed, program_named, programs_of}
+use Rattle.meaning_documents.specs.Programs.{Composed, program_named, programs_of}
 use Rattle.schedule_replay.specs.declared.heading.Heading.{Heading}
 use Rattle.schedule_replay.specs.Schedules.{turns}
 use Rattle.core_terms.specs.declared.programs.CProgram.{CProgram}
-use Rattle.core_meaning.specs.Meaning.{IsCoreOf}
+use Rattle.expand_correct.specs.Preserved.Meaning.{IsCoreProgramOf}
 use Rattle.run_traces.specs.Traces.{all_defined}
 use Rattle.run_correct.specs.Traces.{source_system, first_state, program_trace}
 use Rattle.cli_texts.specs.Refusals.{refusal_text}
@@ -24,14 +24,14 @@ pub record IsTrace (d : Document) (name : List ℕ) (c : Composed) (p : CProgram
 pub record IsRun (d : Document) (name : List ℕ) (steps : ℕ) (defined : Bool) (text : List ℕ) : Type 0 where
   pub program : Composed
   pub core : CProgram
-  pub is_core : IsCoreOf d name program core
+  pub is_core : IsCoreProgramOf d name program core
   pub trace : IsTrace d name program core Heading.Run (turns (length program.instances) steps) defined text
 
 -- the start state of the program with this name is no initial one
 pub record HasNoStart (d : Document) (name : List ℕ) : Type 0 where
   pub program : Composed
   pub core : CProgram
-  pub is_core : IsCoreOf d name program core
+  pub is_core : IsCoreProgramOf d name program core
   pub not_initial : (source_system d program).initial (first_state d core) ≡ false
 
 -- what cannot be run: it has no reading, or no program with this name, or no start

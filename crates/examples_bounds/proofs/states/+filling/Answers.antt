@@ -6,10 +6,10 @@ use Rattle.std.proofs.lemmas.Option.{slice_get_read}
 use Rattle.std.specs.Prelude.{◌↔◌}
 use Rattle.std.proofs.lemmas.Int.{ints, to_z-of_z}
 use Rattle.std.proofs.lemmas.Result.{IfOk-weaker}
-use Rattle.state_steps.specs.State.{State}
+use Rattle.meaning_states.specs.State.{State}
 use Rattle.core_terms.specs.declared.programs.CSlot.{CSlot}
 use Rattle.core_terms.specs.Steps.{slot_ranges}
-use Rattle.unity_meaning.specs.Execution.{System}
+use Rattle.meaning_documents.specs.Execution.{System}
 use Rattle.examples_bounds.specs.Claims.{claimed, before, after}
 use Rattle.examples_bounds.specs.Walking.{LeadsOn}
 use Rattle.examples_bounds.proofs.LoopLaws.{always, never, refuted}

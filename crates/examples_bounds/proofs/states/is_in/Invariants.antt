@@ -1,5 +1,5 @@
 use Rattle.std.proofs.Common.{◌≡◌, drop, length}
-use Rattle.state_steps.specs.State.{is_state}
+use Rattle.meaning_states.specs.State.{is_state}
 use Rattle.core_terms.specs.Steps.{slot_ranges}
 use Rattle.examples_bounds.proofs.states.is_in.Given as goal
 

@@ -1,6 +1,6 @@
 use Rattle.std.proofs.Common.{List, map, ap, IsTrue, subst}
 use Rattle.std.specs.Prelude.{◌↔◌}
-use Rattle.state_steps.specs.State.{State}
+use Rattle.meaning_states.specs.State.{State}
 use Rattle.core_terms.specs.declared.programs.CStmt.{CStmt}
 use Rattle.core_terms.specs.Steps.{core_step, slot_ranges}
 use Rattle.fair_rounds.specs.Records.{core_system, holding}

@@ -2,10 +2,10 @@ use Rattle.std.proofs.Common.{◌++◌, ◌∷◌, [], ◌<◌, ◌-◌, length}
 use Rattle.std.proofs.Common.{IsTrue, sym, subst, ◌∙◌, arith, rules}
 use Rattle.std.specs.Prelude.{◌↔◌}
 use Rattle.std.proofs.lemmas.Result.{IfOk-weaker}
-use Rattle.state_steps.specs.State.{State, is_state}
+use Rattle.meaning_states.specs.State.{State, is_state}
 use Rattle.core_terms.specs.Steps.{slot_ranges}
-use Rattle.unity_meaning.specs.Execution.{System}
-use Rattle.unity_meaning.specs.Properties.{Test}
+use Rattle.meaning_documents.specs.Execution.{System}
+use Rattle.meaning_documents.specs.Properties.{Test}
 use Rattle.examples_bounds.specs.Claims.{claimed, after}
 use Rattle.examples_bounds.specs.Walking.{Comes, ComesAt}
 use Rattle.examples_bounds.proofs.LoopLaws.{always, never, refuted, below_more}

@@ -1,8 +1,8 @@
 use Rattle.std.proofs.Common.{◌≡◌, ◌∙◌, ap, sym, subst, get_or, rules, slice_set, Some, None, cond, not, ◌||◌, true}
 use Rattle.std.proofs.Common.{false, to_z, of_z}
 use Rattle.std.specs.Int.{w64, w128}
-use Rattle.state_steps.specs.State.{in_range, int_eq}
-use Rattle.state_steps.specs.Step.{put}
+use Rattle.meaning_states.specs.State.{in_range, int_eq}
+use Rattle.meaning_states.specs.Step.{put}
 use Rattle.core_terms.specs.declared.programs.CSlot.{CSlot}
 use Rattle.core_terms.specs.Values.{number_at}
 use Rattle.core_terms.specs.Steps.{slot_ranges}

@@ -1,7 +1,7 @@
 use Rattle.std.proofs.Common.{List, [], length, slice_get, sym, ap, ◌∙◌, refl, arith}
 use Rattle.std.specs.List.{list_any}
-use Rattle.state_steps.specs.Step.{is_defined, written}
-use Rattle.state_steps.proofs.StepTheorems.{step_keeps_ranges}
+use Rattle.meaning_states.specs.Step.{is_defined, written}
+use Rattle.meaning_states.proofs.StepTheorems.{step_keeps_ranges}
 use Rattle.core_terms.specs.declared.programs.CWrite.{CWrite}
 use Rattle.core_terms.specs.Values.{form_value}
 use Rattle.core_terms.specs.Steps.{slot_ranges, core_writes, inside_writes}

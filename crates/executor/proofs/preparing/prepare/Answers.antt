@@ -1,8 +1,8 @@
 use Rattle.std.proofs.Common.{◌≡◌, ◌-◌, length, Some, slice_get, refl, sym, ap, ◌∙◌, subst, arith}
 use Rattle.std.proofs.lemmas.Option.{slice_get_read}
-use Rattle.state_steps.specs.Step.{is_defined}
+use Rattle.meaning_states.specs.Step.{is_defined}
 use Rattle.core_terms.specs.Steps.{slot_ranges}
-use Rattle.executor.specs.Preparing.{IsPrepared}
+use Rattle.executor.specs.Preparing.{IsStepPrepared}
 use Rattle.executor.proofs.PreparingLaws.{writes_before, undefined_stays, prepared_still, touches}
 use Rattle.executor.proofs.preparing.prepare.Goals as goal
 
@@ -38,7 +38,7 @@ loop-place-preserved c =
     slice_get_read c.args.writes.now (length c.args.writes.now)
     (c.loop-place.place - 1) c.index-writes-place.result refl
     (omega arith) c.index-writes-place.is in
-    subst (λ xs. IsPrepared
+    subst (λ xs. IsStepPrepared
     (slot_ranges c.args.slots.now) c.args.state.now c.add_write.new.next c.add_write.new.marked xs)
     (writes_before c.args.state.now c.args.writes.now c.loop-place.place _ c.loop-place-test.true there)
     (c.add_write.ensures.added c.if-not-add_write.false _ c.loop-place.invariant)

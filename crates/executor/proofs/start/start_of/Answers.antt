@@ -1,5 +1,5 @@
 use Rattle.std.proofs.Common.{IsTrue, sym, subst}
-use Rattle.state_steps.specs.State.{State, is_state}
+use Rattle.meaning_states.specs.State.{State, is_state}
 use Rattle.core_terms.specs.Steps.{slot_ranges}
 use Rattle.executor.proofs.StartLaws.{start_is_placed}
 use Rattle.executor.proofs.StartStateLaws.{start_is_state}

@@ -2,9 +2,9 @@ use Rattle.std.proofs.Common.{◌∷◌, List, Option, Some, Err, map, sym, subs
 use Rattle.std.proofs.lemmas.Result.{err_from_is_err_and}
 use Rattle.unity_syntax.specs.declared.expression.Expr.{Expr}
 use Rattle.unity_syntax.specs.declared.statement.Values.{Values}
-use Rattle.unity_meaning.specs.Writes.{Alternative, alternatives, conditional}
-use Rattle.expansion_laws.specs.declared.effects.Effect.{Effect}
-use Rattle.expansion_laws.specs.Assigning.{alternative_effect}
+use Rattle.meaning_documents.specs.Writes.{Alternative, alternatives, conditional}
+use Rattle.expand_rules.specs.declared.effects.Effect.{Effect}
+use Rattle.expand_rules.specs.Assigning.{alternative_effect}
 use Rattle.expand_expressions.specs.Places.{scope}
 use Rattle.expand_assignments.specs.Adding.{AddsAll}
 use Rattle.expand_assignments.proofs.AddLaws.{halts_front, adds_front, map-map}

@@ -2,9 +2,9 @@ use Rattle.std.proofs.Common.{◌∷◌, ◌+◌, map, drop, fold, sym, ◌∙�
 use Rattle.std.proofs.lemmas.Result.{err_from_is_err_and}
 use Rattle.unity_syntax.specs.declared.expression.Expr.{Expr}
 use Rattle.unity_syntax.specs.declared.statement.Values.{Values}
-use Rattle.unity_meaning.specs.Writes.{conditional}
-use Rattle.expansion_laws.specs.declared.effects.Effect.{Effect}
-use Rattle.expansion_laws.specs.Assigning.{beside, alternative_effect}
+use Rattle.meaning_documents.specs.Writes.{conditional}
+use Rattle.expand_rules.specs.declared.effects.Effect.{Effect}
+use Rattle.expand_rules.specs.Assigning.{beside, alternative_effect}
 use Rattle.expand_expressions.specs.Places.{scope}
 use Rattle.expand_assignments.proofs.AddLaws.{all_halts, left_of}
 use Rattle.expand_assignments.proofs.alternatives.further.Goals as goal

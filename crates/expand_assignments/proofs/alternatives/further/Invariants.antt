@@ -1,6 +1,6 @@
 use Rattle.std.proofs.Common.{◌≡◌, ◌∷◌, drop, fold, map}
-use Rattle.unity_meaning.specs.Writes.{conditional}
-use Rattle.expansion_laws.specs.Assigning.{beside, alternative_effect}
+use Rattle.meaning_documents.specs.Writes.{conditional}
+use Rattle.expand_rules.specs.Assigning.{beside, alternative_effect}
 use Rattle.expand_expressions.specs.Places.{scope}
 use Rattle.expand_assignments.proofs.alternatives.further.Given as goal
 

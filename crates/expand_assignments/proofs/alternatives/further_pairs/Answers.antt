@@ -1,5 +1,5 @@
 use Rattle.std.proofs.Common.{◌<◌, ◌≤◌, length, min, subst, sym}
-use Rattle.expansion_laws.specs.Assigning.{beside, paired_effect}
+use Rattle.expand_rules.specs.Assigning.{beside, paired_effect}
 use Rattle.expand_expressions.specs.Places.{scope}
 use Rattle.expand_expressions.specs.Sound.{of_truth}
 use Rattle.expand_assignments.proofs.AddLaws.{pairs_next, pairs_end}

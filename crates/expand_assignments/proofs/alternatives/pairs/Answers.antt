@@ -1,8 +1,8 @@
 use Rattle.std.proofs.Common.{List, subst}
 use Rattle.unity_syntax.specs.declared.expression.Expr.{Expr}
-use Rattle.name_laws.specs.SlotLaws.{variable_named}
-use Rattle.expansion_laws.specs.Forming.{as_number, formed}
-use Rattle.expansion_laws.specs.Assigning.{target_effect, index_formed, paired_effect, unwritten_count}
+use Rattle.meaning_documents.specs.Names.{variable_named}
+use Rattle.expand_rules.specs.Forming.{as_number, formed}
+use Rattle.expand_rules.specs.Assigning.{target_effect, index_formed, paired_effect, unwritten_count}
 use Rattle.expand_expressions.specs.Places.{scope}
 use Rattle.expand_expressions.specs.Sound.{of_truth}
 use Rattle.expand_assignments.specs.Adding.{Adds}

@@ -1,6 +1,6 @@
 use Rattle.std.proofs.Common.{◌≡◌, ◌+◌, ◌-◌, ◌++◌, pos, ◌+ℤ◌}
-use Rattle.unity_meaning.specs.Value.{range_size}
-use Rattle.expansion_laws.specs.Assigning.{spread}
+use Rattle.meaning_documents.specs.Value.{range_size}
+use Rattle.expand_rules.specs.Assigning.{spread}
 use Rattle.expand_assignments.specs.Adding.{slot_ends}
 use Rattle.expand_assignments.proofs.arrays.push_spread.Given as goal
 

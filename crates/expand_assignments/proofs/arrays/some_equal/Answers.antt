@@ -1,8 +1,8 @@
 use Rattle.std.proofs.Common.{◌≡◌, ◌-◌, ◌<◌, pos, ◌+ℤ◌, ◌+◌, fold, subst, sym}
 use Rattle.core_terms.specs.Folding.{or_form}
 use Rattle.core_terms.specs.declared.trees.CForm.{CForm}
-use Rattle.unity_meaning.specs.Value.{range_size}
-use Rattle.expansion_laws.specs.Assigning.{any_of, equations}
+use Rattle.meaning_documents.specs.Value.{range_size}
+use Rattle.expand_rules.specs.Assigning.{any_of, equations}
 use Rattle.expand_assignments.specs.Adding.{slot_ends}
 use Rattle.expand_assignments.proofs.SpreadLaws.{any_next}
 use Rattle.expand_assignments.proofs.arrays.some_equal.Goals as goal

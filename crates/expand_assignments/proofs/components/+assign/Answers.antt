@@ -2,12 +2,12 @@ use Rattle.std.proofs.Common.{◌≡◌, ◌∷◌, ◌+◌, ℤ, List, Err, Ok,
 use Rattle.std.proofs.lemmas.Result.{err_from_is_err_and}
 use Rattle.unity_syntax.specs.declared.statement.Assign.{Assign}
 use Rattle.unity_syntax.specs.declared.statement.Component.{Component}
-use Rattle.unity_meaning.specs.Value.{count_up}
-use Rattle.expansion_laws.specs.declared.cores.Bound.{Bound}
-use Rattle.expansion_laws.specs.declared.effects.Effect.{Effect}
-use Rattle.expansion_laws.specs.Forming.{with_number, numbers, fit_values, is_fixed_range}
-use Rattle.expansion_laws.specs.Measures.{range_misfit}
-use Rattle.expansion_laws.specs.Assigning.{beside, nothing, component_effect, effect_of}
+use Rattle.meaning_documents.specs.Value.{count_up}
+use Rattle.expand_rules.specs.declared.cores.Bound.{Bound}
+use Rattle.expand_rules.specs.declared.effects.Effect.{Effect}
+use Rattle.expand_rules.specs.Forming.{with_number, numbers, fit_values, is_fixed_range}
+use Rattle.expand_rules.specs.Measures.{range_misfit}
+use Rattle.expand_rules.specs.Assigning.{beside, nothing, component_effect, effect_of}
 use Rattle.expand_expressions.specs.Places.{scope}
 use Rattle.expand_assignments.specs.Adding.{Adds, AddsAll, Halts, each_effect, with_range}
 use Rattle.expand_assignments.proofs.AddLaws.{adds_all_beside, adds_one, halts_ranged, ranged_done, adds_all_after}

@@ -1,7 +1,7 @@
 use Rattle.std.proofs.Common.{◌≡◌, ◌-◌, ◌≤◌, ◌+ℤ◌, pos, drop, fold, map}
-use Rattle.unity_meaning.specs.Value.{count_up}
-use Rattle.expansion_laws.specs.Forming.{with_number}
-use Rattle.expansion_laws.specs.Assigning.{beside, component_effect, effect_of}
+use Rattle.meaning_documents.specs.Value.{count_up}
+use Rattle.expand_rules.specs.Forming.{with_number}
+use Rattle.expand_rules.specs.Assigning.{beside, component_effect, effect_of}
 use Rattle.expand_expressions.specs.Places.{scope}
 use Rattle.expand_assignments.proofs.components.+assign.Given as goal
 

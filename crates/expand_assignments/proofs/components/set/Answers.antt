@@ -1,8 +1,8 @@
 use Rattle.std.proofs.Common.{◌∷◌, List, Err, Ok, map, fold}
 use Rattle.std.proofs.lemmas.Result.{err_from_is_err_and}
-use Rattle.unity_meaning.specs.Writes.{alternatives}
-use Rattle.expansion_laws.specs.declared.effects.Effect.{Effect}
-use Rattle.expansion_laws.specs.Assigning.{alternative_effect, beside, nothing}
+use Rattle.meaning_documents.specs.Writes.{alternatives}
+use Rattle.expand_rules.specs.declared.effects.Effect.{Effect}
+use Rattle.expand_rules.specs.Assigning.{alternative_effect, beside, nothing}
 use Rattle.expand_expressions.specs.Places.{scope}
 use Rattle.expand_assignments.proofs.AddLaws.{halts_one_more, adds_all_beside, adds_one}
 use Rattle.expand_assignments.proofs.components.set.Goals as goal

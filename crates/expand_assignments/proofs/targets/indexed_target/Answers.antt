@@ -1,9 +1,9 @@
 use Rattle.std.proofs.Common.{option_map, sym, ap, ◌∙◌}
 use Rattle.std.proofs.lemmas.Result.{err_from_is_err_and}
-use Rattle.name_laws.specs.SlotLaws.{variable_named}
-use Rattle.name_scopes.specs.Scope.{entries}
-use Rattle.expansion_laws.specs.Forming.{as_number, formed}
-use Rattle.expansion_laws.specs.Assigning.{unwritten_count}
+use Rattle.meaning_documents.specs.Names.{variable_named}
+use Rattle.names_rules.specs.Scope.{entries}
+use Rattle.expand_rules.specs.Forming.{as_number, formed}
+use Rattle.expand_rules.specs.Assigning.{unwritten_count}
 use Rattle.expand_expressions.specs.Places.{scope, variable_of}
 use Rattle.expand_expressions.specs.Sound.{of_number, of_truth}
 use Rattle.expand_assignments.proofs.PartLaws.{variable_found}

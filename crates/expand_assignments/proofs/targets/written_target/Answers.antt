@@ -1,6 +1,6 @@
 use Rattle.std.proofs.Common.{option_map}
 use Rattle.std.proofs.lemmas.Result.{err_from_is_err_and}
-use Rattle.expansion_laws.specs.Forming.{as_number, formed}
+use Rattle.expand_rules.specs.Forming.{as_number, formed}
 use Rattle.expand_expressions.specs.Places.{scope, variable_of}
 use Rattle.expand_expressions.specs.Sound.{of_number, of_truth}
 use Rattle.expand_assignments.proofs.AddLaws.{halts_written, indexed_halts, indexed_done}

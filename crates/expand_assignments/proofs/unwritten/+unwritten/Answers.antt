@@ -2,11 +2,11 @@ use Rattle.std.proofs.Common.{◌<◌, ◌+ℤ◌, pos, List, map, fold, drop}
 use Rattle.std.proofs.Common.{subst}
 use Rattle.case_tables.specs.declared.symbol_table.Symbol.{Symbol}
 use Rattle.unity_syntax.specs.declared.expression.Expr.{Expr}
-use Rattle.unity_meaning.specs.Value.{count_up}
-use Rattle.expansion_laws.specs.Forming.{fit_values, numbers}
-use Rattle.expansion_laws.specs.Assigning.{no_count, both_counts, unwritten_count, quantified_count}
+use Rattle.meaning_documents.specs.Value.{count_up}
+use Rattle.expand_rules.specs.Forming.{fit_values, numbers}
+use Rattle.expand_rules.specs.Assigning.{no_count, both_counts, unwritten_count, quantified_count}
 use Rattle.expand_expressions.specs.Places.{bound_names}
-use Rattle.expand_assignments.specs.Adding.{Tells, inside_count, instances_count}
+use Rattle.expand_assignments.specs.Adding.{TellsCount, inside_count, instances_count}
 use Rattle.expand_assignments.proofs.UnwrittenLaws.{unwritten-And, unwritten-Or, unwritten-Sum, unwritten-Product}
 use Rattle.expand_assignments.proofs.UnwrittenLaws.{unwritten-Quantified, halfway_begin, halfway_none}
 use Rattle.expand_assignments.proofs.UnwrittenLaws.{halfway_end, halfway_next, none_left, numbered, numbers_begin}
@@ -19,7 +19,8 @@ instances-loop-i-init t c =
     c.args.numbers.now.count c.nothing-whole.result no_count c.nothing-whole.ensures
 
 pub instances-returns-then-is_none : goal.instances-returns-then-is_none
-instances-returns-then-is_none t c = halfway_none c.loop-i.whole _ _ c.is_none.result c.is_none.ensures c.if-is_none.true c.loop-i.invariant
+instances-returns-then-is_none t c = halfway_none c.loop-i.whole _ _ c.is_none.result c.is_none.ensures
+    c.if-is_none.true c.loop-i.invariant
 
 pub instances-loop-i-preserved : goal.instances-loop-i-preserved
 instances-loop-i-preserved t c =
@@ -56,14 +57,15 @@ parts-loop-e-preserved t c =
     let item = c.e-item.result in
     λ n h. halfway_next f xs c.loop-e.e-index item c.loop-e.whole c.joined-whole.result
     (fold both_counts n (map f xs)) c.loop-e-test.true
-    (λ m k. subst (λ (y : Expr). Tells c.joined-whole.result (both_counts m (f y))) c.e-item.is
+    (λ m k. subst (λ (y : Expr). TellsCount c.joined-whole.result (both_counts m (f y))) c.e-item.is
     (c.joined-whole.ensures m (f item) k c.unwritten.ensures)) (c.loop-e.invariant n h)
 
 pub parts-returns : goal.parts-returns
 parts-returns t c =
     let f = λ (x : Expr). unwritten_count x (bound_names c.args.env.now) in
     let xs = c.as_slice-e-items.result.now in
-    λ n h. subst (λ (ys : List Expr). Tells c.loop-e.whole (fold both_counts n (map f ys))) c.as_slice-e-items.ensures
+    λ n h. subst (λ (ys : List Expr). TellsCount c.loop-e.whole (fold both_counts n (map f ys)))
+    c.as_slice-e-items.ensures
     (halfway_end c.loop-e.whole (map f (drop c.loop-e.e-index xs)) (fold both_counts n (map f xs))
     (none_left f xs c.loop-e.e-index c.loop-e-test.false) (c.loop-e.invariant n h))
 
@@ -76,7 +78,8 @@ pub terms-returns-then-is_none : goal.terms-returns-then-is_none
 terms-returns-then-is_none t c =
     let f = λ (p : Symbol × Expr). unwritten_count p.1 (bound_names c.args.env.now) in
     λ n h. subst (λ (ys : List (Symbol × Expr)). 65536 < (fold both_counts n (map f ys)).size)
-    c.as_slice-part-items.ensures (halfway_none c.loop-part.whole _ _ c.is_none.result c.is_none.ensures c.if-is_none.true (c.loop-part.invariant n h))
+    c.as_slice-part-items.ensures (halfway_none c.loop-part.whole _ _ c.is_none.result c.is_none.ensures
+    c.if-is_none.true (c.loop-part.invariant n h))
 
 pub terms-loop-part-preserved : goal.terms-loop-part-preserved
 terms-loop-part-preserved t c =
@@ -85,14 +88,14 @@ terms-loop-part-preserved t c =
     let item = c.part-item.result in
     λ n h. halfway_next f xs c.loop-part.part-index item c.loop-part.whole c.joined-whole.result
     (fold both_counts n (map f xs)) c.loop-part-test.true
-    (λ m k. subst (λ (y : Symbol × Expr). Tells c.joined-whole.result (both_counts m (f y))) c.part-item.is
+    (λ m k. subst (λ (y : Symbol × Expr). TellsCount c.joined-whole.result (both_counts m (f y))) c.part-item.is
     (c.joined-whole.ensures m (f item) k c.unwritten.ensures)) (c.loop-part.invariant n h)
 
 pub terms-returns : goal.terms-returns
 terms-returns t c =
     let f = λ (p : Symbol × Expr). unwritten_count p.1 (bound_names c.args.env.now) in
     let xs = c.as_slice-part-items.result.now in
-    λ n h. subst (λ (ys : List (Symbol × Expr)). Tells c.loop-part.whole (fold both_counts n (map f ys)))
+    λ n h. subst (λ (ys : List (Symbol × Expr)). TellsCount c.loop-part.whole (fold both_counts n (map f ys)))
     c.as_slice-part-items.ensures
     (halfway_end c.loop-part.whole (map f (drop c.loop-part.part-index xs)) (fold both_counts n (map f xs))
     (none_left f xs c.loop-part.part-index c.loop-part-test.false) (c.loop-part.invariant n h))
@@ -101,31 +104,31 @@ pub unwritten-returns-in-And : goal.unwritten-returns-in-And
 unwritten-returns-in-And t c =
     let f = λ (x : Expr). unwritten_count x (bound_names c.args.env.now) in
     rw (c.in-And.is, unwritten-And) (c.parts.ensures (f c.in-And.first)
-    (subst (λ (x : Expr). Tells c.unwritten-in-And.result (f x)) c.get-in-And.ensures c.unwritten-in-And.ensures))
+    (subst (λ (x : Expr). TellsCount c.unwritten-in-And.result (f x)) c.get-in-And.ensures c.unwritten-in-And.ensures))
 
 pub unwritten-returns-in-Or : goal.unwritten-returns-in-Or
 unwritten-returns-in-Or t c =
     let f = λ (x : Expr). unwritten_count x (bound_names c.args.env.now) in
     rw (c.in-Or.is, unwritten-Or) (c.parts-in-Or.ensures (f c.in-Or.first)
-    (subst (λ (x : Expr). Tells c.unwritten-in-Or.result (f x)) c.get-in-Or.ensures c.unwritten-in-Or.ensures))
+    (subst (λ (x : Expr). TellsCount c.unwritten-in-Or.result (f x)) c.get-in-Or.ensures c.unwritten-in-Or.ensures))
 
 pub unwritten-returns-in-Sum : goal.unwritten-returns-in-Sum
 unwritten-returns-in-Sum t c =
     let f = λ (x : Expr). unwritten_count x (bound_names c.args.env.now) in
     rw (c.in-Sum.is, unwritten-Sum) (c.terms.ensures (f c.in-Sum.first)
-    (subst (λ (x : Expr). Tells c.unwritten-in-Sum.result (f x)) c.get-in-Sum.ensures c.unwritten-in-Sum.ensures))
+    (subst (λ (x : Expr). TellsCount c.unwritten-in-Sum.result (f x)) c.get-in-Sum.ensures c.unwritten-in-Sum.ensures))
 
 pub unwritten-returns-in-Product : goal.unwritten-returns-in-Product
 unwritten-returns-in-Product t c =
     let f = λ (x : Expr). unwritten_count x (bound_names c.args.env.now) in
     rw (c.in-Product.is, unwritten-Product) (c.parts-in-Product.ensures (f c.in-Product.first)
-    (subst (λ (x : Expr). Tells c.unwritten-in-Product.result (f x)) c.get-in-Product.ensures
+    (subst (λ (x : Expr). TellsCount c.unwritten-in-Product.result (f x)) c.get-in-Product.ensures
     c.unwritten-in-Product.ensures))
 
 pub unwritten-returns-in-Quantified : goal.unwritten-returns-in-Quantified
 unwritten-returns-in-Quantified t c =
     let bs = bound_names c.args.env.now in
     let q = c.in-Quantified in
-    rw (q.is, unwritten-Quantified) (subst (λ (x : Expr). Tells c.quantified.result
+    rw (q.is, unwritten-Quantified) (subst (λ (x : Expr). TellsCount c.quantified.result
     (quantified_count bs q.range (instances_count bs q.name x (fit_values (numbers bs) q.range))))
     c.get-in-Quantified.ensures c.quantified.ensures)

@@ -1,11 +1,11 @@
 use Rattle.std.proofs.Common.{map, fold, drop}
 use Rattle.case_tables.specs.declared.symbol_table.Symbol.{Symbol}
 use Rattle.unity_syntax.specs.declared.expression.Expr.{Expr}
-use Rattle.unity_meaning.specs.Value.{count_up}
-use Rattle.expansion_laws.specs.declared.effects.Count.{Count}
-use Rattle.expansion_laws.specs.Assigning.{both_counts, unwritten_count}
+use Rattle.meaning_documents.specs.Value.{count_up}
+use Rattle.expand_rules.specs.declared.effects.Count.{Count}
+use Rattle.expand_rules.specs.Assigning.{both_counts, unwritten_count}
 use Rattle.expand_expressions.specs.Places.{bound_names}
-use Rattle.expand_assignments.specs.Adding.{Tells, inside_count, instances_count}
+use Rattle.expand_assignments.specs.Adding.{TellsCount, inside_count, instances_count}
 use Rattle.expand_assignments.proofs.UnwrittenLaws.{Halfway, numbered}
 use Rattle.expand_assignments.proofs.unwritten.+unwritten.Given as goal
 
@@ -15,12 +15,12 @@ invariant-instances-loop-i l =
     (instances_count (bound_names l.env) l.name l.of (count_up l.numbers.first l.numbers.count))
 
 abbrev pub invariant-parts-loop-e : goal.invariant-parts-loop-e
-invariant-parts-loop-e l = (n : Count) → Tells l.fn.first n →
+invariant-parts-loop-e l = (n : Count) → TellsCount l.fn.first n →
     Halfway l.whole (map (λ (x : Expr). unwritten_count x (bound_names l.env)) (drop l.e-index l.e-items))
     (fold both_counts n (map (λ (x : Expr). unwritten_count x (bound_names l.env)) l.e-items))
 
 abbrev pub invariant-terms-loop-part : goal.invariant-terms-loop-part
-invariant-terms-loop-part l = (n : Count) → Tells l.fn.first n →
+invariant-terms-loop-part l = (n : Count) → TellsCount l.fn.first n →
     Halfway l.whole
     (map (λ (p : Symbol × Expr). unwritten_count p.1 (bound_names l.env)) (drop l.part-index l.part-items))
     (fold both_counts n (map (λ (p : Symbol × Expr). unwritten_count p.1 (bound_names l.env)) l.part-items))

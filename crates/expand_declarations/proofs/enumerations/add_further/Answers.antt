@@ -1,6 +1,6 @@
 use Rattle.std.proofs.Common.{ap, ◌∙◌, ◌+◌, sym, drop, [], ◌∷◌, pos, add-one}
-use Rattle.unity_meaning.specs.Setting.{with_places}
-use Rattle.name_scopes.specs.Scope.{entries}
+use Rattle.meaning_documents.specs.Setting.{with_places}
+use Rattle.names_rules.specs.Scope.{entries}
 use Rattle.expand_declarations.proofs.LayoutLaws.{drop_item}
 use Rattle.expand_declarations.proofs.StartLaws.{words_more}
 use Rattle.expand_declarations.proofs.enumerations.add_further.Goals as goal

@@ -1,6 +1,6 @@
 use Rattle.std.proofs.Common.{◌≡◌, drop, ◌+◌}
-use Rattle.unity_meaning.specs.Setting.{with_places}
-use Rattle.name_scopes.specs.Scope.{entries}
+use Rattle.meaning_documents.specs.Setting.{with_places}
+use Rattle.names_rules.specs.Scope.{entries}
 use Rattle.expand_declarations.specs.Start.{with_words}
 use Rattle.expand_declarations.proofs.enumerations.add_further.Given as goal
 

@@ -1,5 +1,5 @@
 use Rattle.std.proofs.Common.{ap, ◌+◌, drop}
-use Rattle.name_scopes.specs.Scope.{entries}
+use Rattle.names_rules.specs.Scope.{entries}
 use Rattle.expand_declarations.specs.Start.{part_words, enumeration_words}
 use Rattle.expand_declarations.proofs.LayoutLaws.{drop_item}
 use Rattle.expand_declarations.proofs.StartLaws.{words_more}

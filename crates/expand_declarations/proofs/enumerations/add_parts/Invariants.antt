@@ -1,5 +1,5 @@
 use Rattle.std.proofs.Common.{◌≡◌, drop}
-use Rattle.name_scopes.specs.Scope.{entries}
+use Rattle.names_rules.specs.Scope.{entries}
 use Rattle.expand_declarations.specs.Start.{enumeration_words, with_words}
 use Rattle.expand_declarations.proofs.enumerations.add_parts.Given as goal
 

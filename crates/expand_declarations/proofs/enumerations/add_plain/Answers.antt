@@ -1,8 +1,8 @@
 use Rattle.std.proofs.Common.{◌≡◌, OnOk, List, [], ◌∷◌, pos, sym, subst}
 use Rattle.unity_syntax.specs.declared.name.Name.{Name}
 use Rattle.unity_syntax.specs.declared.declaration.Plain.{Plain}
-use Rattle.unity_meaning.specs.Setting.{plain_words, with_places}
-use Rattle.name_scopes.specs.Scope.{entries}
+use Rattle.meaning_documents.specs.Setting.{plain_words, with_places}
+use Rattle.names_rules.specs.Scope.{entries}
 use Rattle.expand_declarations.specs.Start.{with_words}
 use Rattle.expand_declarations.proofs.StartLaws.{words_both}
 use Rattle.expand_declarations.proofs.enumerations.add_plain.Goals as goal

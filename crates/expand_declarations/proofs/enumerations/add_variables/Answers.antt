@@ -1,6 +1,6 @@
 use Rattle.std.proofs.Common.{ap, ◌+◌, drop}
 use Rattle.std.specs.List.{flat_map}
-use Rattle.name_scopes.specs.Scope.{entries}
+use Rattle.names_rules.specs.Scope.{entries}
 use Rattle.expand_declarations.specs.Start.{var_words}
 use Rattle.expand_declarations.proofs.LayoutLaws.{drop_item}
 use Rattle.expand_declarations.proofs.StartLaws.{words_more}

@@ -1,6 +1,6 @@
 use Rattle.std.proofs.Common.{◌≡◌, drop}
 use Rattle.std.specs.List.{flat_map}
-use Rattle.name_scopes.specs.Scope.{entries}
+use Rattle.names_rules.specs.Scope.{entries}
 use Rattle.expand_declarations.specs.Start.{var_words, with_words}
 use Rattle.expand_declarations.proofs.enumerations.add_variables.Given as goal
 

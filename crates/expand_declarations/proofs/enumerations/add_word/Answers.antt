@@ -1,8 +1,8 @@
 use Rattle.std.proofs.Common.{◌≡◌, ◌∙◌, ap, sym, ℕ, List, pos, ℤ, rules, to_z, of_z, w64}
 use Rattle.std.specs.Str.{bytes_eq}
 use Rattle.indexmap.specs.IndexMap.{insert_entry}
-use Rattle.name_scopes.specs.Scope.{entries, seen_entries}
-use Rattle.name_scopes.proofs.Lookups.{inserted}
+use Rattle.names_rules.specs.Scope.{entries, seen_entries}
+use Rattle.names_rules.proofs.Lookups.{inserted}
 use Rattle.expand_declarations.proofs.StartLaws.{word_known, word_new}
 use Rattle.expand_declarations.proofs.enumerations.add_word.Goals as goal
 

@@ -1,5 +1,5 @@
 use Rattle.std.proofs.Common.{◌≡◌, ◌++◌, map, take}
-use Rattle.document_words.specs.WordNumbers.{word_number}
+use Rattle.expand_declarations.specs.WordNumbers.{word_number}
 use Rattle.expand_declarations.proofs.layout.add_numbers.Given as goal
 
 abbrev pub invariant-loop-name : goal.invariant-loop-name

@@ -1,5 +1,5 @@
 use Rattle.std.proofs.Common.{ap, ◌∙◌}
-use Rattle.name_scopes.specs.Scope.{seen_entries}
+use Rattle.names_rules.specs.Scope.{seen_entries}
 use Rattle.expand_expressions.specs.Places.{variables_of}
 use Rattle.expand_declarations.proofs.LayoutLaws.{entered}
 use Rattle.expand_declarations.proofs.layout.enter.Goals as goal

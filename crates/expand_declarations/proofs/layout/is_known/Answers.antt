@@ -1,8 +1,8 @@
 use Rattle.std.proofs.Common.{◌∙◌, ap, is_some}
 use Rattle.std.specs.Map.{lookup}
 use Rattle.std.specs.Str.{bytes_eq}
-use Rattle.name_scopes.specs.Scope.{entries}
-use Rattle.name_scopes.proofs.Lookups.{lookup_seen}
+use Rattle.names_rules.specs.Scope.{entries}
+use Rattle.names_rules.proofs.Lookups.{lookup_seen}
 use Rattle.expand_declarations.proofs.LayoutLaws.{known_found}
 use Rattle.expand_declarations.proofs.layout.is_known.Goals as goal
 

@@ -1,5 +1,5 @@
 use Rattle.std.proofs.Common.{subst, ap, ℕ, Option}
-use Rattle.name_scopes.specs.Scope.{seen_entries}
+use Rattle.names_rules.specs.Scope.{seen_entries}
 use Rattle.expand_expressions.specs.Places.{variables_of}
 use Rattle.expand_declarations.specs.declared.layout.Layout.{Layout}
 use Rattle.expand_declarations.specs.Slots.{LaysParts}

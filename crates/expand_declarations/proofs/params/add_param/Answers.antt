@@ -1,8 +1,8 @@
 use Rattle.std.proofs.Common.{◌∙◌, ap, sym, ℕ, List}
 use Rattle.std.specs.Str.{bytes_eq}
 use Rattle.indexmap.specs.IndexMap.{insert_entry}
-use Rattle.name_scopes.specs.Scope.{entries, seen_entries}
-use Rattle.name_scopes.proofs.Lookups.{inserted}
+use Rattle.names_rules.specs.Scope.{entries, seen_entries}
+use Rattle.names_rules.proofs.Lookups.{inserted}
 use Rattle.expand_declarations.proofs.TableLaws.{length-seen_entries}
 use Rattle.expand_declarations.proofs.params.add_param.Goals as goal
 

@@ -1,5 +1,5 @@
 use Rattle.std.proofs.Common.{◌≡◌, ◌++◌, map, take}
-use Rattle.name_scopes.specs.Scope.{bounds, entries}
+use Rattle.names_rules.specs.Scope.{bounds, entries}
 use Rattle.expand_declarations.specs.References.{core_arg}
 use Rattle.expand_declarations.proofs.references.add_args.Given as goal
 

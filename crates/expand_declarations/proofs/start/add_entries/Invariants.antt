@@ -1,5 +1,5 @@
 use Rattle.std.proofs.Common.{◌≡◌, ◌++◌, take}
-use Rattle.name_scopes.specs.Scope.{entries}
+use Rattle.names_rules.specs.Scope.{entries}
 use Rattle.expand_expressions.specs.Places.{variables_of}
 use Rattle.expand_declarations.specs.Start.{start_values}
 use Rattle.expand_declarations.proofs.start.add_entries.Given as goal

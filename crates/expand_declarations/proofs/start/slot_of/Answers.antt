@@ -1,8 +1,8 @@
 use Rattle.std.proofs.Common.{◌∙◌, ap, sym, ℕ, Option}
 use Rattle.std.specs.Prelude.{unwrap_or, option_map}
 use Rattle.std.specs.Option.{option_and_then}
-use Rattle.unity_meaning.specs.Names.{slot_at}
-use Rattle.name_scopes.specs.Scope.{entries}
+use Rattle.meaning_documents.specs.Names.{slot_at}
+use Rattle.names_rules.specs.Scope.{entries}
 use Rattle.expand_expressions.specs.declared.places.VariableSlots.{VariableSlots}
 use Rattle.expand_expressions.specs.Places.{ends_of}
 use Rattle.expand_declarations.proofs.StartLaws.{slot_named-found}

@@ -1,6 +1,6 @@
 use Rattle.std.proofs.Common.{◌≡◌, ◌∙◌, ap, pos, rules, to_z, of_z, w64}
 use Rattle.std.specs.Prelude.{unwrap_or}
-use Rattle.name_scopes.specs.Scope.{entries}
+use Rattle.names_rules.specs.Scope.{entries}
 use Rattle.expand_declarations.proofs.StartLaws.{number-found}
 use Rattle.expand_declarations.proofs.start.word_value.Goals as goal
 

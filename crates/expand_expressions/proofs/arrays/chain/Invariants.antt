@@ -2,7 +2,7 @@ use Rattle.std.proofs.Common.{◌≡◌, ◌+◌, ◌-◌, ◌≤◌, ◌+ℤ◌
 use Rattle.std.specs.Int.RustNames.{unsigned_abs}
 use Rattle.core_terms.specs.Folding.{number_of}
 use Rattle.core_terms.specs.Weights.{plain_weights}
-use Rattle.expansion_laws.specs.Forming.{chain}
+use Rattle.expand_rules.specs.Forming.{chain}
 use Rattle.expand_expressions.proofs.arrays.chain.Given as goal
 
 abbrev pub invariant-loop-k : goal.invariant-loop-k

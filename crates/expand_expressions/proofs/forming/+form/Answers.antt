@@ -4,22 +4,22 @@ use Rattle.std.proofs.lemmas.Result.{err_from_is_err_and}
 use Rattle.std.specs.Prelude.{fold}
 use Rattle.case_tables.specs.declared.symbol_table.Symbol.{Symbol}
 use Rattle.unity_syntax.specs.declared.expression.Expr.{Expr}
-use Rattle.unity_meaning.specs.Value.{count_up}
-use Rattle.name_laws.specs.SlotLaws.{variable_named}
-use Rattle.expansion_laws.specs.declared.cores.Bound.{Bound}
-use Rattle.expansion_laws.specs.declared.cores.Formed.{Formed}
-use Rattle.expansion_laws.specs.Limits.{is_past, is_too_large}
-use Rattle.expansion_laws.specs.Measures.{quantifier_measure, range_misfit}
-use Rattle.expansion_laws.specs.Forming.{Scope, with_number, as_truth, conjunction, disjunction, product, plus}
-use Rattle.expansion_laws.specs.Forming.{signed, denial, comparison, gathered, numbers, fit_values, quantified}
-use Rattle.expansion_laws.specs.Forming.{formed}
-use Rattle.expansion_laws.proofs.Equations.{formed-And, formed-Or, formed-Not, formed-Compare, formed-Sum}
-use Rattle.expansion_laws.proofs.Equations.{formed-Product, formed-Element, formed-Quantified}
-use Rattle.expansion_laws.proofs.Growing.{as_truth_keeps, denial_keeps, comparison_first, comparison_second}
-use Rattle.expansion_laws.proofs.Growing.{signed_keeps, element_keeps, quantified_keeps, fold_keeps, product_first}
-use Rattle.expansion_laws.proofs.Growing.{large_of_size}
+use Rattle.meaning_documents.specs.Value.{count_up}
+use Rattle.meaning_documents.specs.Names.{variable_named}
+use Rattle.expand_rules.specs.declared.cores.Bound.{Bound}
+use Rattle.expand_rules.specs.declared.cores.Formed.{Formed}
+use Rattle.expand_rules.specs.Limits.{is_past, is_too_large}
+use Rattle.expand_rules.specs.Measures.{quantifier_measure, range_misfit}
+use Rattle.expand_rules.specs.Forming.{Scope, with_number, as_truth, conjunction, disjunction, product, plus}
+use Rattle.expand_rules.specs.Forming.{signed, denial, comparison, gathered, numbers, fit_values, quantified}
+use Rattle.expand_rules.specs.Forming.{formed}
+use Rattle.expand_rules.proofs.Equations.{formed-And, formed-Or, formed-Not, formed-Compare, formed-Sum}
+use Rattle.expand_rules.proofs.Equations.{formed-Product, formed-Element, formed-Quantified}
+use Rattle.expand_rules.proofs.Growing.{as_truth_keeps, denial_keeps, comparison_first, comparison_second}
+use Rattle.expand_rules.proofs.Growing.{signed_keeps, element_keeps, quantified_keeps, fold_keeps, product_first}
+use Rattle.expand_rules.proofs.Growing.{large_of_size}
 use Rattle.expand_expressions.specs.declared.joining.Joint.{Joint}
-use Rattle.expand_expressions.specs.Sound.{Gives, GivesWhole}
+use Rattle.expand_expressions.specs.Sound.{GivesCore, GivesWhole}
 use Rattle.expand_expressions.specs.Joints.{joint_of, begin_of, word_joint}
 use Rattle.expand_expressions.specs.Places.{scope, bound_names}
 use Rattle.expand_expressions.proofs.Growth.{passes, passes_whole, passes_back, passes_at, fold_past, begin_keeps}
@@ -45,7 +45,7 @@ form-returns-in_ok-first-in-And-clause-formed t c =
     let s = scope c.args.known.now c.args.env.now in
     let f = λ (x : Expr). formed x s in
     rw (c.in-And.is, formed-And)
-    (subst (λ a. Gives c.all.result (fold conjunction (begin_of Joint.And a) (map f c.in-And.rest)))
+    (subst (λ a. GivesCore c.all.result (fold conjunction (begin_of Joint.And a) (map f c.in-And.rest)))
     (c.in_ok-first-in-And.ensures.formed ∙ ap f c.get-in-And.ensures) c.all.ensures.formed)
 
 pub form-returns-in_err-first-in-Or-clause-formed : goal.form-returns-in_err-first-in-Or-clause-formed
@@ -65,7 +65,7 @@ form-returns-in_ok-first-in-Or-clause-formed t c =
     let s = scope c.args.known.now c.args.env.now in
     let f = λ (x : Expr). formed x s in
     rw (c.in-Or.is, formed-Or)
-    (subst (λ a. Gives c.all-in-Or.result (fold disjunction (begin_of Joint.Or a) (map f c.in-Or.rest)))
+    (subst (λ a. GivesCore c.all-in-Or.result (fold disjunction (begin_of Joint.Or a) (map f c.in-Or.rest)))
     (c.in_ok-first-in-Or.ensures.formed ∙ ap f c.get-in-Or.ensures) c.all-in-Or.ensures.formed)
 
 pub form-returns-in_err-first-in-Product-clause-formed : goal.form-returns-in_err-first-in-Product-clause-formed
@@ -86,7 +86,7 @@ form-returns-in_ok-first-in-Product-clause-formed t c =
     let s = scope c.args.known.now c.args.env.now in
     let f = λ (x : Expr). formed x s in
     rw (c.in-Product.is, formed-Product)
-    (subst (λ a. Gives c.all-in-Product.result (fold product (begin_of Joint.Product a) (map f c.in-Product.rest)))
+    (subst (λ a. GivesCore c.all-in-Product.result (fold product (begin_of Joint.Product a) (map f c.in-Product.rest)))
     (c.in_ok-first-in-Product.ensures.formed ∙ ap f c.get-in-Product.ensures) c.all-in-Product.ensures.formed)
 
 pub form-returns-in_err-first-in-Sum-clause-formed : goal.form-returns-in_err-first-in-Sum-clause-formed
@@ -108,7 +108,7 @@ form-returns-in_ok-first-in-Sum-clause-formed t c =
     let s = scope c.args.known.now c.args.env.now in
     let f = λ (x : Expr). formed x s in
     rw (c.in-Sum.is, formed-Sum)
-    (subst (λ a. Gives c.added.result (fold plus (signed c.in-Sum.minus a)
+    (subst (λ a. GivesCore c.added.result (fold plus (signed c.in-Sum.minus a)
     (map (λ (q : Symbol × Expr). (q.0, formed q.1 s)) c.in-Sum.rest)))
     (c.in_ok-first-in-Sum.ensures.formed ∙ ap f c.get-in-Sum.ensures) c.added.ensures.formed)
 
@@ -163,7 +163,7 @@ form-returns-in-Quantified-clause-formed t c =
     let f = λ (x : Expr). formed x s in
     let q = c.in-Quantified in
     rw (q.is, formed-Quantified)
-    (subst (λ (x : Expr). Gives c.quantified.result (quantified s.bound q.range (gathered q.which
+    (subst (λ (x : Expr). GivesCore c.quantified.result (quantified s.bound q.range (gathered q.which
     (map (λ z. formed x (with_number s q.name.text z)) (fit_values (numbers s.bound) q.range)))))
     c.get-in-Quantified.ensures c.quantified.ensures.formed)
 
@@ -258,7 +258,7 @@ quantified-returns-clause-formed t c =
     (numbers s.bound) c.args.range.now = sym c.range_numbers-numbers.ensures.values in
     let whole : c.in_ok-whole.whole ≡ gathered c.args.which (map f (fit_values (numbers s.bound) c.args.range.now)) =
     c.in_ok-whole.ensures.formed ∙ ap (λ zs. gathered c.args.which (map f zs)) values in
-    subst (λ a. Gives c.limited.result a)
+    subst (λ a. GivesCore c.limited.result a)
     (ap (λ m. record c.in_ok-whole.whole {
       exact = c.is_fixed_range.result && c.in_ok-whole.whole.exact;
       measure = m;
@@ -352,7 +352,7 @@ instances-returns-in_err-first-clause-formed t c =
     let p = err_from_is_err_and c.from_residual-in_err-first.result c.from_residual-in_err-first.ensures.1 in
     rw (p.1, p.2) (passes_whole c.in_err-first.field-0.0 (f (low +ℤ pos 0)) goal
     (first_large c.args.which f low n c.if-numbers-eq0.false)
-    (subst (λ a. Gives (Err c.in_err-first.field-0.0) a) same c.in_err-first.ensures.formed))
+    (subst (λ a. GivesCore (Err c.in_err-first.field-0.0) a) same c.in_err-first.ensures.formed))
 
 pub instances-returns-in_err-whole-clause-formed : goal.instances-returns-in_err-whole-clause-formed
 instances-returns-in_err-whole-clause-formed t c =
@@ -372,7 +372,7 @@ instances-returns-in_err-whole-clause-formed t c =
     (c.in_ok-first.ensures.formed ∙ same) in
     rw (p.1, p.2) (passes_whole c.in_err-whole.field-0.0 (begin_of (word_joint c.args.which) (f (low +ℤ pos 0))) goal
     (begin_large c.args.which f low n c.if-numbers-eq0.false)
-    (subst (λ a. Gives (Err c.in_err-whole.field-0.0) a) part c.in_err-whole.ensures.formed))
+    (subst (λ a. GivesCore (Err c.in_err-whole.field-0.0) a) part c.in_err-whole.ensures.formed))
 
 pub instances-returns-then-whole-gt65536-clause-formed : goal.instances-returns-then-whole-gt65536-clause-formed
 instances-returns-then-whole-gt65536-clause-formed t c =
@@ -400,7 +400,7 @@ instances-returns-in_err-next-clause-formed t c =
     rw (p.1, p.2) (passes_whole c.in_err-next.field-0.0 (f (low +ℤ pos c.loop-k.k)) goal
     (instance_large c.joint_of_word-joint.result f low c.loop-k.k n c.loop-k.whole goal c.loop-k-test.true
     c.loop-k.invariant.0)
-    (subst (λ a. Gives (Err c.in_err-next.field-0.0) a) same c.in_err-next.ensures.formed))
+    (subst (λ a. GivesCore (Err c.in_err-next.field-0.0) a) same c.in_err-next.ensures.formed))
 
 pub instances-returns-in_err-whole-2-clause-formed : goal.instances-returns-in_err-whole-2-clause-formed
 instances-returns-in_err-whole-2-clause-formed t c =
@@ -422,4 +422,4 @@ instances-returns-in_err-whole-2-clause-formed t c =
     (f (low +ℤ pos c.loop-k.k))) goal
     (joined_large c.joint_of_word-joint.result f low c.loop-k.k n c.loop-k.whole goal c.loop-k-test.true
     c.loop-k.invariant.0)
-    (subst (λ a. Gives (Err c.in_err-whole-2.field-0.0) a) part c.in_err-whole-2.ensures.formed))
+    (subst (λ a. GivesCore (Err c.in_err-whole-2.field-0.0) a) part c.in_err-whole-2.ensures.formed))

@@ -2,8 +2,8 @@ use Rattle.std.proofs.Common.{◌≡◌, ◌^◌, ◌≤◌, map, drop}
 use Rattle.std.specs.Prelude.{fold}
 use Rattle.case_tables.specs.declared.symbol_table.Symbol.{Symbol}
 use Rattle.unity_syntax.specs.declared.expression.Expr.{Expr}
-use Rattle.unity_meaning.specs.Value.{count_up}
-use Rattle.expansion_laws.specs.Forming.{formed, plus, gathered, with_number}
+use Rattle.meaning_documents.specs.Value.{count_up}
+use Rattle.expand_rules.specs.Forming.{formed, plus, gathered, with_number}
 use Rattle.expand_expressions.specs.Sound.{IsSound}
 use Rattle.expand_expressions.specs.Joints.{joint_of}
 use Rattle.expand_expressions.specs.Places.{scope}

@@ -1,7 +1,7 @@
 use Rattle.std.proofs.Common.{◌∙◌, ap}
 use Rattle.std.specs.Map.{lookup}
 use Rattle.std.specs.Str.{bytes_eq}
-use Rattle.name_scopes.proofs.Lookups.{lookup_seen}
+use Rattle.names_rules.proofs.Lookups.{lookup_seen}
 use Rattle.expand_expressions.proofs.places.find_variable.Goals as goal
 
 pub returns : goal.returns

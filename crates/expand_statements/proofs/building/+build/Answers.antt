@@ -4,10 +4,10 @@ use Rattle.std.proofs.lemmas.Int.{to_z-of_z}
 use Rattle.std.specs.List.{flat_map}
 use Rattle.unity_syntax.specs.declared.statement.Item.{Item}
 use Rattle.unity_syntax.specs.declared.statement.Items.{Items}
-use Rattle.unity_meaning.specs.Instances.{Instance}
-use Rattle.unity_meaning.specs.Value.{count_up}
+use Rattle.meaning_documents.specs.Instances.{Instance}
+use Rattle.meaning_documents.specs.Value.{count_up}
 use Rattle.core_terms.specs.declared.programs.CStmt.{CStmt}
-use Rattle.expansion_laws.specs.Forming.{numbers}
+use Rattle.expand_rules.specs.Forming.{numbers}
 use Rattle.expand_expressions.specs.Places.{bound_names}
 use Rattle.expand_statements.specs.Visiting.{scope_among}
 use Rattle.expand_statements.specs.Building.{fit_item, fit_items, made_statement}

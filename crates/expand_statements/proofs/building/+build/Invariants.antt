@@ -1,7 +1,7 @@
 use Rattle.std.proofs.Common.{◌≡◌, ◌∷◌, ◌++◌, ◌-◌, ◌+ℤ◌, pos, [], drop, map}
 use Rattle.std.specs.List.{flat_map}
-use Rattle.unity_meaning.specs.Value.{count_up}
-use Rattle.expansion_laws.specs.Forming.{numbers}
+use Rattle.meaning_documents.specs.Value.{count_up}
+use Rattle.expand_rules.specs.Forming.{numbers}
 use Rattle.expand_expressions.specs.Places.{bound_names}
 use Rattle.expand_statements.specs.Visiting.{scope_among}
 use Rattle.expand_statements.specs.Building.{fit_item, fit_items, made_statement}

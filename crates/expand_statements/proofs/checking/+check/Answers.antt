@@ -1,10 +1,10 @@
 use Rattle.std.proofs.Common.{[], map, sym, subst, Option}
 use Rattle.unity_syntax.specs.declared.statement.Item.{Item}
-use Rattle.name_scopes.specs.Answers.{Demands}
-use Rattle.name_scopes.specs.Reading.{Fault}
-use Rattle.expansion_laws.specs.Lists.{item_fault, first_fault}
-use Rattle.statement_lists.specs.declared.chains.Chain.{Chain}
-use Rattle.statement_lists.specs.Standing.{standing_in}
+use Rattle.names_rules.specs.Answers.{Demands}
+use Rattle.names_rules.specs.Reading.{Fault}
+use Rattle.expand_rules.specs.Lists.{item_fault, first_fault}
+use Rattle.expand_statements.specs.declared.chains.Chain.{Chain}
+use Rattle.expand_statements.specs.Standing.{standing_in}
 use Rattle.expand_statements.specs.Visiting.{scope_among}
 use Rattle.expand_statements.proofs.ItemLaws.{fault-Statement, fault-parts}
 use Rattle.expand_statements.proofs.FaultLaws.{demands_second}

@@ -1,6 +1,6 @@
 use Rattle.std.proofs.Common.{◌≡◌, [], drop, map}
-use Rattle.expansion_laws.specs.Lists.{first_fault, item_fault}
-use Rattle.statement_lists.specs.Standing.{standing_in}
+use Rattle.expand_rules.specs.Lists.{first_fault, item_fault}
+use Rattle.expand_statements.specs.Standing.{standing_in}
 use Rattle.expand_statements.specs.Visiting.{scope_among}
 use Rattle.expand_statements.proofs.checking.+check.Given as goal
 

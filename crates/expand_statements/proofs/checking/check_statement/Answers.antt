@@ -2,13 +2,13 @@ use Rattle.std.proofs.Common.{[], List, sym, subst, ap, ◌∙◌, Option}
 use Rattle.std.proofs.lemmas.Result.{err_from_is_err_and}
 use Rattle.case_tables.specs.declared.code_table.Code.{Code}
 use Rattle.unity_syntax.specs.declared.name.Name.{Name}
-use Rattle.unity_meaning.specs.Names.{Bindings}
-use Rattle.name_scopes.specs.Answers.{Stops}
-use Rattle.name_scopes.specs.Reading.{Fault}
-use Rattle.expansion_laws.specs.declared.effects.Effect.{Effect}
-use Rattle.expansion_laws.specs.Assigning.{among, effect_of}
-use Rattle.expansion_laws.specs.Lists.{fault_at}
-use Rattle.statement_lists.specs.Standing.{names_of}
+use Rattle.meaning_documents.specs.Names.{Bindings}
+use Rattle.names_rules.specs.Answers.{Stops}
+use Rattle.names_rules.specs.Reading.{Fault}
+use Rattle.expand_rules.specs.declared.effects.Effect.{Effect}
+use Rattle.expand_rules.specs.Assigning.{among, effect_of}
+use Rattle.expand_rules.specs.Lists.{fault_at}
+use Rattle.expand_statements.specs.Standing.{names_of}
 use Rattle.expand_statements.specs.Visiting.{scope_among}
 use Rattle.expand_statements.proofs.VisitLaws.{texts}
 use Rattle.expand_statements.proofs.FaultLaws.{fault_standing}

@@ -1,7 +1,7 @@
 use Rattle.std.proofs.Common.{◌≡◌, [], drop, map}
-use Rattle.expansion_laws.specs.Assigning.{among, effect_of}
-use Rattle.expansion_laws.specs.Lists.{statement_fault}
-use Rattle.statement_lists.specs.Chains.{bound_inside}
+use Rattle.expand_rules.specs.Assigning.{among, effect_of}
+use Rattle.expand_rules.specs.Lists.{statement_fault}
+use Rattle.expand_statements.specs.Chains.{bound_inside}
 use Rattle.expand_statements.specs.Visiting.{scope_among}
 use Rattle.expand_statements.proofs.FaultLaws.{fault_from}
 use Rattle.expand_statements.proofs.checking.first_place.Given as goal

@@ -1,8 +1,8 @@
 use Rattle.std.proofs.Common.{◌≡◌, [], sym, ap, ◌∙◌}
 use Rattle.std.proofs.lemmas.Result.{err_from_is_err_and}
-use Rattle.expansion_laws.specs.declared.effects.Effect.{Effect}
-use Rattle.expansion_laws.specs.Assigning.{among, effect_of}
-use Rattle.statement_lists.specs.Chains.{bound_inside}
+use Rattle.expand_rules.specs.declared.effects.Effect.{Effect}
+use Rattle.expand_rules.specs.Assigning.{among, effect_of}
+use Rattle.expand_statements.specs.Chains.{bound_inside}
 use Rattle.expand_expressions.specs.Places.{bound_names}
 use Rattle.expand_statements.specs.Visiting.{bounds_inside, scope_among}
 use Rattle.expand_statements.proofs.VisitLaws.{texts, bounds_numbered, place_halts, place_large, place_found}

@@ -1,9 +1,9 @@
 use Rattle.std.proofs.Common.{◌++◌, [], None, Ok, Err, refl, subst, ◌∙◌, append-nil}
 use Rattle.case_tables.specs.declared.kind_table.Kind.{Kind}
 use Rattle.fair_rounds.specs.declared.records.Record.{Record}
-use Rattle.proof_rules.specs.Table.{Site, record_of, concluded}
-use Rattle.proof_rules.specs.declared.led.Led.{Led}
-use Rattle.safety_rules.specs.Answers.{site_of, Answers}
+use Rattle.rules_table.specs.Table.{Site, record_of, concluded}
+use Rattle.rules_table.specs.declared.led.Led.{Led}
+use Rattle.safety_rules.specs.Answers.{site_of, RuleAnswers}
 use Rattle.safety_rules.specs.Goals.{Added}
 use Rattle.safety_rules.proofs.AnswerLaws.{refused_goals, rule_given}
 use Rattle.safety_rules.proofs.ErrorLaws.{handed_on}
@@ -15,7 +15,7 @@ returns-in_err-add_forms c =
     let led : Led = c.args.led.now in
     let made : Record = record_of site Kind.Leadsto led.p led.q led.under None in
     let e = c.in_err-add_forms.field-0.0 in
-    handed_on (λ r. Answers r site.slots (concluded site.slots site.params made led.forms)) c.from_residual.result e
+    handed_on (λ r. RuleAnswers r site.slots (concluded site.slots site.params made led.forms)) c.from_residual.result e
     c.from_residual.ensures.1
     (refused_goals site.slots site.params (Unit {0}) e c.new-goals.result c.add_forms.new.goals made led.forms
     (subst (λ fs. Added {T = Unit {0}} (Err e) c.new-goals.result c.add_forms.new.goals site.slots site.params fs)

@@ -3,9 +3,9 @@ use Rattle.std.specs.Prelude.{All}
 use Rattle.core_terms.specs.Conditions.{IsRange}
 use Rattle.core_terms.specs.declared.documents.PTerm.{PTerm}
 use Rattle.fair_rounds.specs.declared.records.Record.{Record}
-use Rattle.proof_rules.specs.Table.{Site, go_on, concluded}
-use Rattle.proof_rules.specs.Terms.{derive_of, term_of, leads_record}
-use Rattle.safety_rules.specs.Answers.{site_of, Answers}
+use Rattle.rules_table.specs.Table.{Site, go_on, concluded}
+use Rattle.rules_table.specs.Terms.{derive_of, term_of, leads_record}
+use Rattle.safety_rules.specs.Answers.{site_of, RuleAnswers}
 use Rattle.safety_rules.proofs.SoundLaws.{site_good, answer_stands}
 use Rattle.leadsto_rules.specs.Leading.{IsTermIn}
 use Rattle.leadsto_rules.proofs.DeriveLaws.{all_are_ranges, sees_parts, derived_stands}
@@ -29,7 +29,7 @@ returns-clause-answer c =
     let site : Site = site_of c.args.pl.now in
     let t : PTerm = c.args.t.now in
     let book : List Record = c.args.book.now in
-    subst (λ rs. Answers c.derive_in.result site.slots (go_on (term_of site rs book t)
+    subst (λ rs. RuleAnswers c.derive_in.result site.slots (go_on (term_of site rs book t)
     (λ l. concluded site.slots rs (leads_record site l) l.forms))) (c.as_slice.ensures ∙ c.in_ok-ranges.ensures)
     c.derive_in.ensures
 

@@ -3,9 +3,9 @@ use Rattle.case_tables.specs.declared.kind_table.Kind.{Kind}
 use Rattle.core_terms.specs.declared.programs.CSlot.{CSlot}
 use Rattle.core_terms.specs.declared.trees.Range.{Range}
 use Rattle.fair_rounds.specs.declared.records.Record.{Record}
-use Rattle.proof_rules.specs.Table.{record_of, concluded}
-use Rattle.proof_rules.specs.declared.led.Led.{Led}
-use Rattle.safety_rules.specs.Answers.{site_of, Answers}
+use Rattle.rules_table.specs.Table.{record_of, concluded}
+use Rattle.rules_table.specs.declared.led.Led.{Led}
+use Rattle.safety_rules.specs.Answers.{site_of, RuleAnswers}
 use Rattle.leadsto_rules.specs.Deriving.{narrowed_row}
 use Rattle.leadsto_rules.proofs.DeriveLaws.{narrowed_is}
 use Rattle.leadsto_rules.proofs.derivation.derived.Goals as goal
@@ -18,7 +18,8 @@ returns c =
     let led : Led = c.args.led.now in
     let made : Record = record_of (record (site_of c.args.pl.now) { params = ranges }) Kind.Leadsto led.p led.q
     led.under None in
-    subst (λ row. Answers c.narrowed.result slots row) (sym (narrowed_is slots ranges params led.bound made led.forms))
-    (subst (λ ps. Answers c.narrowed.result slots
+    subst (λ row. RuleAnswers c.narrowed.result slots row) (sym (narrowed_is slots ranges params led.bound made
+    led.forms))
+    (subst (λ ps. RuleAnswers c.narrowed.result slots
     (narrowed_row ps led.bound (concluded slots ranges made led.forms))) c.in_ok-params.ensures
     (c.narrowed.ensures slots (concluded slots ranges made led.forms) c.concluded_wide-answer.ensures))

@@ -1,6 +1,6 @@
 use Rattle.std.proofs.Common.{◌+◌, ℤ, List, ◌++◌, ◌∷◌, [], take, ap, sym, ◌∙◌, arith, w64, to_z, of_z}
 use Rattle.core_terms.specs.declared.trees.Range.{Range}
-use Rattle.proof_rules.specs.Numbers.{args_from}
+use Rattle.rules_table.specs.Numbers.{args_from}
 use Rattle.leadsto_rules.proofs.ArgLaws.{one_more}
 use Rattle.leadsto_rules.proofs.disjunctions.arguments.Goals as goal
 

@@ -1,5 +1,5 @@
 use Rattle.std.proofs.Common.{◌≡◌, take}
-use Rattle.proof_rules.specs.Numbers.{args_from}
+use Rattle.rules_table.specs.Numbers.{args_from}
 use Rattle.leadsto_rules.proofs.disjunctions.arguments.Given as goal
 
 abbrev pub invariant-loop-place : goal.invariant-loop-place

@@ -5,7 +5,7 @@ use Rattle.std.proofs.lemmas.Result.{IfOk-weaker}
 use Rattle.core_terms.specs.Replacing.{IsSmallArg, form_at}
 use Rattle.core_terms.specs.Weights.{plain_weight}
 use Rattle.core_terms.specs.declared.trees.Range.{Range}
-use Rattle.proof_rules.specs.Numbers.{args_from}
+use Rattle.rules_table.specs.Numbers.{args_from}
 use Rattle.leadsto_rules.proofs.ArgLaws.{count_arguments, small_arguments, instance_light}
 use Rattle.leadsto_rules.proofs.disjunctions.instance.Goals as goal
 

@@ -1,8 +1,8 @@
 use Rattle.std.proofs.Common.{ℤ, subst, w64}
 use Rattle.std.specs.Option.{IfSome}
 use Rattle.std.proofs.lemmas.Int.{to_z-of_z}
-use Rattle.number_stretches.specs.Stretches.{IsTruthOn}
-use Rattle.proof_rules.specs.Numbers.{args_from}
+use Rattle.leadsto_rules.specs.Stretches.{IsTruthOn}
+use Rattle.rules_table.specs.Numbers.{args_from}
 use Rattle.leadsto_rules.proofs.ArgLaws.{number_put}
 use Rattle.leadsto_rules.proofs.disjunctions.stretch.Goals as goal
 

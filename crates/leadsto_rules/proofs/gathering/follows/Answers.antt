@@ -1,6 +1,6 @@
 use Rattle.std.proofs.Common.{◌++◌, ◌∷◌, [], ap, ◌∙◌}
 use Rattle.std.proofs.lemmas.Result.{IfOk-weaker}
-use Rattle.proof_rules.specs.Forms.{imply}
+use Rattle.rules_table.specs.Forms.{imply}
 use Rattle.leadsto_rules.proofs.NodeLaws.{premises_foldable, some_premise}
 use Rattle.leadsto_rules.proofs.gathering.follows.Goals as goal
 

@@ -5,7 +5,7 @@ use Rattle.core_terms.specs.Weights.{plain_weight}
 use Rattle.core_terms.specs.declared.trees.CForm.{CForm}
 use Rattle.safety_rules.specs.Foldable.{IsFoldable}
 use Rattle.safety_rules.proofs.JoinLaws.{premises_are}
-use Rattle.proof_rules.specs.Forms.{imply}
+use Rattle.rules_table.specs.Forms.{imply}
 use Rattle.leadsto_rules.proofs.InductionLaws.{premises_foldable}
 use Rattle.leadsto_rules.proofs.NodeLaws.{some_premise}
 use Rattle.leadsto_rules.proofs.inductions.lies.Goals as goal

@@ -2,17 +2,17 @@ use Rattle.std.proofs.Common.{arith, List, sym, subst, Ok}
 use Rattle.core_terms.specs.declared.programs.CSlot.{CSlot}
 use Rattle.core_terms.specs.declared.trees.Range.{Range}
 use Rattle.fair_rounds.specs.declared.records.Record.{Record}
-use Rattle.proof_rules.specs.Table.{Site}
-use Rattle.proof_rules.specs.Terms.{term_of}
+use Rattle.rules_table.specs.Table.{Site}
+use Rattle.rules_table.specs.Terms.{term_of}
 use Rattle.safety_rules.specs.Answers.{site_of}
-use Rattle.leadsto_rules.specs.Leading.{Gives, IsTermIn}
+use Rattle.leadsto_rules.specs.Leading.{TermGives, IsTermIn}
 use Rattle.leadsto_rules.proofs.SeesLaws.{sees-Imply, sees-Trans, sees-Either, sees-Psp, sees-Weaken}
 use Rattle.leadsto_rules.proofs.SeesLaws.{sees-Induct, sees-Exists}
 use Rattle.leadsto_rules.proofs.TermLaws.{trans_given, either_given, psp_given}
 use Rattle.leadsto_rules.proofs.TermSizes.{first_of_trans, second_of_trans, first_of_either, second_of_either}
 use Rattle.leadsto_rules.proofs.TermSizes.{part_of_exists, part_of_induct, part_of_psp, part_of_weaken}
 use Rattle.core_terms.specs.declared.documents.PTerm.TheVariants.{Exists}
-use Rattle.proof_rules.proofs.RowEquations.{term-Exists}
+use Rattle.rules_table.proofs.RowEquations.{term-Exists}
 use Rattle.leadsto_rules.proofs.GivesLaws.{gives_same, part_given}
 use Rattle.leadsto_rules.proofs.leading.+lead.Goals as goal
 
@@ -167,12 +167,12 @@ returns-in_ok-first-in-Trans-clause-answer t c =
     let site : Site = site_of c.args.pl.now in
     let ranges : List Range = c.args.ranges.now in
     let book : List Record = c.args.book.now in
-    subst (λ x. Gives c.led_on.result (term_of site ranges book x)) (sym c.in-Trans.is)
+    subst (λ x. TermGives c.led_on.result (term_of site ranges book x)) (sym c.in-Trans.is)
     (trans_given site ranges book c.in-Trans.t c.in-Trans.u c.in_ok-first-in-Trans.first c.lead-second.result
     c.led_on.result
-    (subst (λ x. Gives (Ok c.in_ok-first-in-Trans.first) (term_of site ranges book x)) c.get.ensures
+    (subst (λ x. TermGives (Ok c.in_ok-first-in-Trans.first) (term_of site ranges book x)) c.get.ensures
     c.in_ok-first-in-Trans.ensures.answer)
-    (subst (λ x. Gives c.lead-second.result (term_of site ranges book x))
+    (subst (λ x. TermGives c.lead-second.result (term_of site ranges book x))
     c.get-in-Trans.ensures c.lead-second.ensures.answer)
     c.led_on.ensures.answer)
 
@@ -181,12 +181,12 @@ returns-in_ok-first-in-Either-clause-answer t c =
     let site : Site = site_of c.args.pl.now in
     let ranges : List Range = c.args.ranges.now in
     let book : List Record = c.args.book.now in
-    subst (λ x. Gives c.led_either.result (term_of site ranges book x)) (sym c.in-Either.is)
+    subst (λ x. TermGives c.led_either.result (term_of site ranges book x)) (sym c.in-Either.is)
     (either_given site ranges book c.in-Either.t c.in-Either.u c.in_ok-first-in-Either.first
     c.lead-second-in-Either.result c.led_either.result
-    (subst (λ x. Gives (Ok c.in_ok-first-in-Either.first) (term_of site ranges book x)) c.get-in-Either.ensures
+    (subst (λ x. TermGives (Ok c.in_ok-first-in-Either.first) (term_of site ranges book x)) c.get-in-Either.ensures
     c.in_ok-first-in-Either.ensures.answer)
-    (subst (λ x. Gives c.lead-second-in-Either.result (term_of site ranges book x))
+    (subst (λ x. TermGives c.lead-second-in-Either.result (term_of site ranges book x))
     c.get-in-Either-2.ensures c.lead-second-in-Either.ensures.answer)
     c.led_either.ensures.answer)
 
@@ -195,10 +195,10 @@ returns-in_ok-part-in-Psp-clause-answer t c =
     let site : Site = site_of c.args.pl.now in
     let ranges : List Range = c.args.ranges.now in
     let book : List Record = c.args.book.now in
-    subst (λ x. Gives c.led_safely.result (term_of site ranges book x)) (sym c.in-Psp.is)
+    subst (λ x. TermGives c.led_safely.result (term_of site ranges book x)) (sym c.in-Psp.is)
     (psp_given site ranges book c.in-Psp.t c.in-Psp.r c.in_ok-part-in-Psp.part c.referred-a-in-Psp.result
     c.led_safely.result
-    (subst (λ x. Gives (Ok c.in_ok-part-in-Psp.part) (term_of site ranges book x)) c.get-in-Psp.ensures
+    (subst (λ x. TermGives (Ok c.in_ok-part-in-Psp.part) (term_of site ranges book x)) c.get-in-Psp.ensures
     c.in_ok-part-in-Psp.ensures.answer) c.referred-a-in-Psp.ensures.answer c.led_safely.ensures.answer)
 
 pub lead-requires-in-Induct : goal.lead-requires-in-Induct
@@ -266,9 +266,9 @@ returns-in_ok-part-in-Exists-clause-answer t c =
     let site : Site = site_of c.args.pl.now in
     let ranges : List Range = c.args.ranges.now in
     let book : List Record = c.args.book.now in
-    subst (λ x. Gives c.led_any.result (term_of site ranges book x)) (sym c.in-Exists.is)
+    subst (λ x. TermGives c.led_any.result (term_of site ranges book x)) (sym c.in-Exists.is)
     (gives_same c.led_any.result (term_of site ranges book (Exists c.in-Exists.name c.in-Exists.range c.in-Exists.t)) _
     (term-Exists site ranges book c.in-Exists.name c.in-Exists.range c.in-Exists.t)
     (part_given c.in_ok-part-in-Exists.part (term_of site ranges book c.in-Exists.t) _ c.led_any.result
-    (subst (λ x. Gives (Ok c.in_ok-part-in-Exists.part) (term_of site ranges book x)) c.get-in-Exists.ensures
+    (subst (λ x. TermGives (Ok c.in_ok-part-in-Exists.part) (term_of site ranges book x)) c.get-in-Exists.ensures
     c.in_ok-part-in-Exists.ensures.answer) c.led_any.ensures.answer))

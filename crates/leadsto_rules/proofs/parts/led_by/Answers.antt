@@ -5,7 +5,7 @@ use Rattle.core_terms.specs.declared.programs.CSlot.{CSlot}
 use Rattle.core_terms.specs.declared.trees.CForm.{CForm}
 use Rattle.core_terms.specs.declared.trees.Range.{Range}
 use Rattle.safety_rules.proofs.UsableLaws.{fits_exist}
-use Rattle.proof_rules.specs.Forms.{imply}
+use Rattle.rules_table.specs.Forms.{imply}
 use Rattle.leadsto_rules.proofs.NodeLaws.{foldable, claim_fits, follows_exist, one_exists}
 use Rattle.leadsto_rules.proofs.parts.led_by.Goals as goal
 

@@ -5,7 +5,7 @@ use Rattle.core_terms.specs.declared.trees.Range.{Range}
 use Rattle.safety_rules.specs.Answers.{site_of}
 use Rattle.safety_rules.proofs.UsableLaws.{fits_exist}
 use Rattle.safety_rules.specs.Foldable.{IsFoldable}
-use Rattle.proof_rules.specs.Forms.{imply}
+use Rattle.rules_table.specs.Forms.{imply}
 use Rattle.leadsto_rules.proofs.NodeLaws.{node_gives, claim_fits, foldable, both_exist}
 use Rattle.leadsto_rules.proofs.NodeLaws.{follows_exist, two_exist, two_pushed}
 use Rattle.leadsto_rules.proofs.parts.led_weaker.Goals as goal

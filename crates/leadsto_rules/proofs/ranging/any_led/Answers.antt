@@ -4,17 +4,17 @@ use Rattle.core_terms.specs.Weights.{plain_weight}
 use Rattle.core_terms.specs.declared.programs.CSlot.{CSlot}
 use Rattle.core_terms.specs.declared.trees.CForm.{CForm}
 use Rattle.core_terms.specs.declared.trees.Range.{Range}
-use Rattle.proof_rules.specs.Forms.{any_of}
-use Rattle.proof_rules.specs.Numbers.{form_for, numbers_of}
-use Rattle.proof_rules.specs.Table.{needs}
-use Rattle.proof_rules.specs.Terms.{node, leads_any}
+use Rattle.rules_table.specs.Forms.{any_of}
+use Rattle.rules_table.specs.Numbers.{form_for, numbers_of}
+use Rattle.rules_table.specs.Table.{needs}
+use Rattle.rules_table.specs.Terms.{node, leads_any}
 use Rattle.safety_rules.specs.Answers.{site_of}
 use Rattle.safety_rules.proofs.ErrorLaws.{handed_on}
 use Rattle.safety_rules.proofs.UsableLaws.{fits_exist}
-use Rattle.unity_meaning.specs.Value.{range_size}
+use Rattle.meaning_documents.specs.Value.{range_size}
 use Rattle.wp_substitution.proofs.LightLaws.{form_light}
 use Rattle.leadsto_rules.specs.Disjunctions.{GivesAny}
-use Rattle.leadsto_rules.specs.Leading.{Gives}
+use Rattle.leadsto_rules.specs.Leading.{TermGives}
 use Rattle.leadsto_rules.proofs.NodeLaws.{claim_fits, node_gives, bound_is, large_fails}
 use Rattle.leadsto_rules.proofs.RangeLaws.{instance_exists, any_exists}
 use Rattle.leadsto_rules.proofs.ranging.any_led.Goals as goal
@@ -43,10 +43,10 @@ returns-in_err-whole-clause-answer c =
     let ranges : List Range = c.args.ranges.now in
     let led = leads_any ranges c.args.name c.args.range c.args.t in
     let e = c.in_err-whole.field-0.0 in
-    handed_on (λ r. Gives r (node site ranges led)) c.from_residual-in_err-whole.result e
+    handed_on (λ r. TermGives r (node site ranges led)) c.from_residual-in_err-whole.result e
     c.from_residual-in_err-whole.ensures.1
     (large_fails site ranges led c.in_ok-rounds.rounds e
-    (subst (λ (n : ℕ). Gives (Ok c.in_ok-rounds.rounds) (needs (nat_le n (2 ^ 63)) Code.BoundTooLarge (Ok n)))
+    (subst (λ (n : ℕ). TermGives (Ok c.in_ok-rounds.rounds) (needs (nat_le n (2 ^ 63)) Code.BoundTooLarge (Ok n)))
     c.from.ensures c.in_ok-rounds.ensures)
     (subst (λ f. GivesAny (Err e) (any_of (map (λ z. form_for ranges c.args.name z f) (numbers_of c.args.range))))
     c.get.ensures c.in_err-whole.ensures))

@@ -1,8 +1,8 @@
 use Rattle.std.proofs.Common.{◌+◌, List, length, subst, ap, refl}
 use Rattle.obligations.specs.declared.branches.Obligation.{Obligation}
 use Rattle.obligations.specs.declared.certificates.Cert.{Cert}
-use Rattle.tree_search.specs.declared.plain_tree.Found.{Found}
-use Rattle.tree_search.specs.Searching.{Answers}
+use Rattle.search_tree.specs.declared.plain_tree.Found.{Found}
+use Rattle.search_tree.specs.Searching.{SearchAnswers}
 use Rattle.proof_script.specs.declared.finding.Finding.{Finding}
 use Rattle.proof_script.proofs.SearchLaws.{found_one, refuted_one, short_one}
 use Rattle.proof_script.proofs.finding.find.Goals as goal
@@ -12,7 +12,7 @@ returns-in-Ok-Proved c before h =
     let o : Obligation = c.args.obligation.now in
     let old : Finding = c.args.finding.now in
     found_one before o c.in-Ok-Proved.cert old c.keep.new.finding h
-    (subst (λ (x : Found). Answers o old.left x) c.in-Ok-Proved.field-0-is c.in-Ok-Proved.ensures)
+    (subst (λ (x : Found). SearchAnswers o old.left x) c.in-Ok-Proved.field-0-is c.in-Ok-Proved.ensures)
     c.in_ok-keep-in-Ok-Proved.ensures.certs c.in_ok-keep-in-Ok-Proved.ensures.left
     c.in_ok-keep-in-Ok-Proved.ensures.budget
 
@@ -28,7 +28,7 @@ returns-in-Ok-Refuted c before h =
       values = c.in-Ok-Refuted.values;
     } in
     refuted_one c.args.name before o old new (length c.as_slice.result.now + 1) c.in-Ok-Refuted.values h
-    (subst (λ (x : Found). Answers o old.left x) c.in-Ok-Refuted.field-0-is c.in-Ok-Refuted.ensures)
+    (subst (λ (x : Found). SearchAnswers o old.left x) c.in-Ok-Refuted.field-0-is c.in-Ok-Refuted.ensures)
     (ap (λ (cs : List Cert). length cs + 1) c.as_slice.ensures) c.in_ok-finding-in-Ok-Refuted.ensures refl
 
 pub returns-in-Ok-Budget : goal.returns-in-Ok-Budget
@@ -36,5 +36,5 @@ returns-in-Ok-Budget c before h =
     let o : Obligation = c.args.obligation.now in
     let old : Finding = c.args.finding.now in
     short_one c.args.name before o old old (length c.as_slice.result.now + 1) c.in-Ok-Budget.field-0-0 h
-    (subst (λ (x : Found). Answers o old.left x) c.in-Ok-Budget.field-0-is c.in-Ok-Budget.ensures)
+    (subst (λ (x : Found). SearchAnswers o old.left x) c.in-Ok-Budget.field-0-is c.in-Ok-Budget.ensures)
     (ap (λ (cs : List Cert). length cs + 1) c.as_slice.ensures)

@@ -1,4 +1,4 @@
-use Rattle.tree_search.proofs.EndsLaws.{search-ends}
+use Rattle.search_tree.proofs.EndsLaws.{search-ends}
 use Rattle.proof_script.proofs.BudgetLaws.{suffices}
 use Rattle.proof_script.proofs.SomeLaws.{some_finding}
 use Rattle.proof_script.proofs.WalkLaws.{reach_is_walk}

@@ -2,7 +2,7 @@ use Rattle.std.proofs.Common.{List, subst, sym, ap, ◌∙◌}
 use Rattle.core_terms.specs.declared.programs.CSlot.{CSlot}
 use Rattle.core_terms.specs.declared.programs.CProgram.{CProgram}
 use Rattle.core_terms.specs.Conditions.{IsProgram}
-use Rattle.proof_rules.specs.Walk.{program_of}
+use Rattle.rules_table.specs.Walk.{program_of}
 use Rattle.proof_script.proofs.LoopLaws.{named_program}
 use Rattle.proof_script.proofs.planning.plan_proof.Goals as goal
 

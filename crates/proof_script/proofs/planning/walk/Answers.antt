@@ -1,6 +1,6 @@
 use Rattle.std.proofs.Common.{sym, ap, ◌∙◌, subst, Err}
 use Rattle.core_terms.specs.declared.documents.CDocument.{CDocument}
-use Rattle.proof_rules.specs.Walk.{walk_of}
+use Rattle.rules_table.specs.Walk.{walk_of}
 use Rattle.proof_script.specs.declared.plans.Plan.{Plan}
 use Rattle.proof_script.specs.declared.plans.ScriptError.{ScriptError}
 use Rattle.proof_script.specs.Planning.{Reaches, Walks}

@@ -5,7 +5,7 @@ use Rattle.core_terms.specs.declared.programs.CSlot.{CSlot}
 use Rattle.core_terms.specs.declared.programs.CProgram.{CProgram}
 use Rattle.core_terms.specs.declared.documents.CProof.{CProof}
 use Rattle.core_terms.specs.Conditions.{IsProof}
-use Rattle.proof_rules.specs.Walk.{program_of}
+use Rattle.rules_table.specs.Walk.{program_of}
 use Rattle.proof_script.specs.declared.finding.Finding.{Finding}
 use Rattle.proof_script.specs.declared.finding.Halt.{Halt}
 use Rattle.proof_script.specs.declared.plans.Plan.{Plan}

@@ -3,9 +3,9 @@ use Rattle.core_terms.specs.declared.programs.CSlot.{CSlot}
 use Rattle.core_terms.specs.declared.programs.CProgram.{CProgram}
 use Rattle.core_terms.specs.declared.documents.CStep.{CStep}
 use Rattle.fair_rounds.specs.declared.records.Record.{Record}
-use Rattle.proof_rules.specs.Walk.{rule_of}
+use Rattle.rules_table.specs.Walk.{rule_of}
 use Rattle.safety_rules.specs.declared.places.RuleError.{RuleError}
-use Rattle.safety_rules.specs.Answers.{Answers}
+use Rattle.safety_rules.specs.Answers.{RuleAnswers}
 use Rattle.proof_script.specs.declared.finding.Finding.{Finding}
 use Rattle.proof_script.specs.declared.finding.Halt.{Halt}
 use Rattle.proof_script.specs.declared.plans.Plan.{Plan}
@@ -34,7 +34,7 @@ returns-in-Ok c =
     subst (λ (r : Reach). SearchGoes c.prove_derived.result c.args.finding.now c.prove_derived.new.plan
     c.prove_derived.new.finding r)
     (sym (reach_taken slots p s c.args.plan.now c.in-Ok.derived
-    (subst (λ (book : List Record). Answers (Ok c.in-Ok.derived) slots (rule_of slots (starts_in slots) p s book))
+    (subst (λ (book : List Record). RuleAnswers (Ok c.in-Ok.derived) slots (rule_of slots (starts_in slots) p s book))
     c.as_slice.ensures c.in-Ok.ensures.answer))) c.prove_derived.ensures
 
 pub returns-in-Err-Fault : goal.returns-in-Err-Fault
@@ -50,8 +50,8 @@ returns-in-Err-Fault c =
     (stops_at plan f (rule_fault p.name (Some s.name) c.in-Err-Fault.code) (step_reach slots p s plan)
     c.requires.under_way
     (reach_fails slots p s plan c.in-Err-Fault.code
-    (subst (λ (book : List Record). Answers (Err (RuleError.Fault c.in-Err-Fault.code)) slots
+    (subst (λ (book : List Record). RuleAnswers (Err (RuleError.Fault c.in-Err-Fault.code)) slots
     (rule_of slots (starts_in slots) p s book)) c.as_slice.ensures
-    (subst (λ (e : RuleError). Answers (Err e) slots
+    (subst (λ (e : RuleError). RuleAnswers (Err e) slots
     (rule_of slots (starts_in slots) p s c.as_slice.result.now)) c.in-Err-Fault.field-0-is
     c.in-Err-Fault.ensures.answer))))

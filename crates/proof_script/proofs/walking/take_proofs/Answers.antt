@@ -6,7 +6,7 @@ use Rattle.core_terms.specs.declared.programs.CProgram.{CProgram}
 use Rattle.core_terms.specs.declared.documents.CProof.{CProof}
 use Rattle.core_terms.specs.Conditions.{IsProof}
 use Rattle.obligations.specs.declared.certificates.Cert.{Cert}
-use Rattle.proof_rules.specs.Walk.{program_of}
+use Rattle.rules_table.specs.Walk.{program_of}
 use Rattle.proof_script.specs.declared.plans.Plan.{Plan}
 use Rattle.proof_script.specs.declared.plans.StepFault.{StepFault}
 use Rattle.proof_script.specs.Giving.{PlanGoes}

@@ -4,9 +4,9 @@ use Rattle.core_terms.specs.declared.programs.CSlot.{CSlot}
 use Rattle.core_terms.specs.declared.programs.CProgram.{CProgram}
 use Rattle.core_terms.specs.declared.documents.CStep.{CStep}
 use Rattle.fair_rounds.specs.declared.records.Record.{Record}
-use Rattle.proof_rules.specs.Walk.{rule_of}
+use Rattle.rules_table.specs.Walk.{rule_of}
 use Rattle.safety_rules.specs.declared.places.RuleError.{RuleError}
-use Rattle.safety_rules.specs.Answers.{Answers}
+use Rattle.safety_rules.specs.Answers.{RuleAnswers}
 use Rattle.proof_script.specs.declared.plans.Plan.{Plan}
 use Rattle.proof_script.specs.declared.plans.ScriptError.{ScriptError}
 use Rattle.proof_script.specs.declared.plans.StepFault.{StepFault}
@@ -29,7 +29,7 @@ returns-in-Ok c =
     let s : CStep = c.args.step.now in
     subst (λ (v : Result Plan StepFault). PlanGoes c.take_derived.result c.take_derived.new.plan v)
     (sym (step_taken slots c.args.certs.now p s c.args.plan.now c.in-Ok.derived
-    (subst (λ (book : List Record). Answers (Ok c.in-Ok.derived) slots (rule_of slots (starts_in slots) p s book))
+    (subst (λ (book : List Record). RuleAnswers (Ok c.in-Ok.derived) slots (rule_of slots (starts_in slots) p s book))
     c.as_slice.ensures c.in-Ok.ensures.answer))) c.take_derived.ensures
 
 pub returns-in-Err-Fault : goal.returns-in-Err-Fault
@@ -42,8 +42,8 @@ returns-in-Err-Fault c =
     cc (c.fault.ensures, c.in-Err-Fault.code-is) in
     subst (λ (e : ScriptError). PlanGoes {T = Unit {0}} (Err e) c.args.plan.now verdict) (sym made)
     (step_fails slots c.args.certs.now p s c.args.plan.now c.in-Err-Fault.code
-    (subst (λ (book : List Record). Answers (Err (RuleError.Fault c.in-Err-Fault.code)) slots
+    (subst (λ (book : List Record). RuleAnswers (Err (RuleError.Fault c.in-Err-Fault.code)) slots
     (rule_of slots (starts_in slots) p s book)) c.as_slice.ensures
-    (subst (λ (e : RuleError). Answers (Err e) slots
+    (subst (λ (e : RuleError). RuleAnswers (Err e) slots
     (rule_of slots (starts_in slots) p s c.as_slice.result.now)) c.in-Err-Fault.field-0-is
     c.in-Err-Fault.ensures.answer)))

@@ -4,7 +4,7 @@ use Rattle.obligations.specs.declared.branches.Branch.{Branch}
 use Rattle.obligations.specs.declared.certificates.Node.{Node}
 use Rattle.obligations.specs.Load.{is_light_branch}
 use Rattle.obligations.specs.Settling.{settled, sides}
-use Rattle.tree_search.proofs.CycleLaws.{taken, kept, put-is}
+use Rattle.search_tree.proofs.CycleLaws.{taken, kept, put-is}
 use Rattle.proof_search.specs.Guided.{Guides}
 use Rattle.proof_search.proofs.GuidedLaws.{is-true, first-light, second-light, form-light, room-left, left-light}
 use Rattle.proof_search.proofs.GuidedLaws.{taken-out, put-back, sides-guided, sides-met, halves-guided}

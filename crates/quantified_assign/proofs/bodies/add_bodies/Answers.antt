@@ -5,9 +5,9 @@ use Rattle.core_terms.specs.declared.programs.CSlot.{CSlot}
 use Rattle.core_terms.specs.declared.programs.CProgram.{CProgram}
 use Rattle.core_terms.specs.declared.documents.CProof.{CProof}
 use Rattle.unity_syntax.specs.declared.document.Part.{Part}
-use Rattle.document_words.specs.Texts.{Texts}
-use Rattle.expansion_laws.specs.Forming.{Scope}
-use Rattle.expand_proofs.specs.Steps.{outer_scope}
+use Rattle.expand_declarations.specs.Texts.{Texts}
+use Rattle.expand_rules.specs.Forming.{Scope}
+use Rattle.expand_steps.specs.Steps.{outer_scope}
 use Rattle.quantified_assign.proofs.BodyLaws.{BodiesAhead, bodies_stop}
 use Rattle.quantified_assign.proofs.bodies.add_bodies.Goals as goal
 

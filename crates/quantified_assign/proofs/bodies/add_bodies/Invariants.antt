@@ -1,5 +1,5 @@
 use Rattle.std.proofs.Common.{drop}
-use Rattle.expand_proofs.specs.Steps.{outer_scope}
+use Rattle.expand_steps.specs.Steps.{outer_scope}
 use Rattle.quantified_assign.proofs.BodyLaws.{BodiesAhead}
 use Rattle.quantified_assign.proofs.bodies.add_bodies.Given as goal
 

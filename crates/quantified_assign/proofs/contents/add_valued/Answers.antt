@@ -1,8 +1,8 @@
 use Rattle.std.proofs.Common.{List, [], subst, ap, Option}
 use Rattle.core_terms.specs.declared.documents.CProof.{CProof}
-use Rattle.name_scopes.specs.Scope.{entries, seen_entries}
-use Rattle.expansion_laws.specs.Forming.{Scope}
-use Rattle.expand_always.specs.AlwaysNames.{Always, definition_scope}
+use Rattle.names_rules.specs.Scope.{entries, seen_entries}
+use Rattle.expand_rules.specs.Forming.{Scope}
+use Rattle.expand_documents.specs.AlwaysNames.{Always, definition_scope}
 use Rattle.quantified_assign.specs.declared.headings.Stop.{Stop}
 use Rattle.quantified_assign.specs.Bodies.{AddsBodies}
 use Rattle.quantified_assign.specs.Headings.{AddsHeadings}

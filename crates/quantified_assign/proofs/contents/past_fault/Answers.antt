@@ -1,8 +1,8 @@
 use Rattle.std.proofs.Common.{Some, Option, drop, sym, ap, ◌∙◌}
 use Rattle.case_tables.specs.declared.code_table.Code.{Code}
 use Rattle.unity_syntax.specs.declared.name.Name.{Name}
-use Rattle.name_scopes.specs.Reading.{Fault, earlier}
-use Rattle.core_documents.specs.Faults.{slots_fault}
+use Rattle.names_rules.specs.Reading.{Fault, earlier}
+use Rattle.expand_documents.specs.Faults.{slots_fault}
 use Rattle.expand_declarations.proofs.LayoutLaws.{drop_item, parts_before_are_few, parts_before_are_near}
 use Rattle.quantified_assign.proofs.contents.past_fault.Goals as goal
 

@@ -1,6 +1,6 @@
 use Rattle.std.proofs.Common.{subst, sym}
 use Rattle.expand_declarations.specs.Slots.{DeclaredNear}
-use Rattle.declaration_laws.proofs.Slots.{indices_are_near}
+use Rattle.expand_declarations.proofs.NearIndices.{indices_are_near}
 use Rattle.quantified_assign.proofs.documents.expand.Goals as goal
 
 pub contents_of-requires : goal.contents_of-requires

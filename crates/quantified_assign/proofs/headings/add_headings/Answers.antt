@@ -1,11 +1,11 @@
 use Rattle.std.proofs.Common.{◌+◌, List, drop, subst}
-use Rattle.name_scopes.specs.declared.named.NameFault.{NameFault}
-use Rattle.name_scopes.specs.Answers.{Stops}
-use Rattle.core_documents.specs.Faults.{heading_fault}
+use Rattle.names_rules.specs.declared.named.NameFault.{NameFault}
+use Rattle.names_rules.specs.Answers.{Stops}
+use Rattle.expand_documents.specs.Faults.{heading_fault}
 use Rattle.unity_syntax.specs.declared.document.Part.{Part}
-use Rattle.name_scopes.specs.Scope.{entries}
-use Rattle.expansion_laws.specs.Forming.{Scope}
-use Rattle.expand_always.specs.AlwaysNames.{definition_scope}
+use Rattle.names_rules.specs.Scope.{entries}
+use Rattle.expand_rules.specs.Forming.{Scope}
+use Rattle.expand_documents.specs.AlwaysNames.{definition_scope}
 use Rattle.expand_declarations.proofs.LayoutLaws.{drop_item}
 use Rattle.quantified_assign.proofs.HeadingLaws.{HeadingsAhead, headings_more, headings_stop}
 use Rattle.quantified_assign.proofs.headings.add_headings.Goals as goal

@@ -1,6 +1,6 @@
 use Rattle.std.proofs.Common.{drop}
-use Rattle.name_scopes.specs.Scope.{entries}
-use Rattle.expand_always.specs.AlwaysNames.{definition_scope}
+use Rattle.names_rules.specs.Scope.{entries}
+use Rattle.expand_documents.specs.AlwaysNames.{definition_scope}
 use Rattle.quantified_assign.proofs.HeadingLaws.{HeadingsAhead}
 use Rattle.quantified_assign.proofs.headings.add_headings.Given as goal
 

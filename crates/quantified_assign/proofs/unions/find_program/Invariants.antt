@@ -1,5 +1,5 @@
 use Rattle.std.proofs.Common.{◌≡◌, drop}
-use Rattle.core_documents.specs.Cores.{core_named}
+use Rattle.expand_documents.specs.Cores.{core_named}
 use Rattle.quantified_assign.proofs.unions.find_program.Given as goal
 
 abbrev pub invariant-loop-program : goal.invariant-loop-program

@@ -1,7 +1,7 @@
 use Rattle.std.proofs.Common.{Some, ap, subst, sym, Option, Bor}
 use Rattle.std.specs.Option.{option_copied}
 use Rattle.core_terms.specs.declared.programs.CProgram.{CProgram}
-use Rattle.quantified_assign.specs.Bodies.{HasLight, IsLight}
+use Rattle.quantified_assign.specs.Bodies.{HasLight, HasLightForm}
 use Rattle.quantified_assign.proofs.BodyLaws.{union_light}
 use Rattle.quantified_assign.proofs.unions.joined.Goals as goal
 
@@ -13,5 +13,5 @@ returns-in_ok-join_programs-in-Some-second c =
     let k = subst (λ (o : Option (Bor CProgram)). HasLight (option_copied o)) c.in-Some-second.is c.requires.second in
     rw (c.in-Some.is, c.in-Some-second.is) (record {
       same = ap (λ (p : CProgram). Some p) made;
-      light = subst (λ (p : CProgram). IsLight p.initially) (sym made) (union_light c.args.name f g h k);
+      light = subst (λ (p : CProgram). HasLightForm p.initially) (sym made) (union_light c.args.name f g h k);
     })

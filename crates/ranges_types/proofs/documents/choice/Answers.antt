@@ -1,8 +1,8 @@
 use Rattle.std.proofs.Common.{subst, []}
-use Rattle.name_scopes.specs.declared.named.Indices.{Indices}
-use Rattle.name_scopes.specs.Scope.{Bounds, entries}
-use Rattle.name_scopes.specs.Proofs.{arguments_reading, proof_scope}
-use Rattle.name_scopes.specs.Answers.{Notes}
+use Rattle.names_rules.specs.declared.named.Indices.{Indices}
+use Rattle.names_rules.specs.Scope.{Bounds, entries}
+use Rattle.names_rules.specs.Proofs.{arguments_reading, proof_scope}
+use Rattle.names_rules.specs.Answers.{Notes}
 use Rattle.ranges_types.proofs.documents.choice.Goals as goal
 
 pub returns : goal.returns

@@ -1,7 +1,7 @@
 use Rattle.std.proofs.Common.{drop, map}
-use Rattle.name_scopes.specs.Reading.{all_beside}
-use Rattle.name_scopes.specs.WellNamed.{choice_reading}
-use Rattle.name_scopes.proofs.Steps.{Rest}
+use Rattle.names_rules.specs.Reading.{all_beside}
+use Rattle.names_rules.specs.WellNamed.{choice_reading}
+use Rattle.names_rules.proofs.Steps.{Rest}
 use Rattle.ranges_types.specs.Tables.{declared_in}
 use Rattle.ranges_types.proofs.documents.further.Given as goal
 

@@ -1,7 +1,7 @@
 use Rattle.std.proofs.Common.{drop}
-use Rattle.name_scopes.specs.Part.{run}
-use Rattle.name_scopes.specs.WellNamed.{part_of}
-use Rattle.name_scopes.proofs.Steps.{Ahead}
+use Rattle.names_rules.specs.Part.{run}
+use Rattle.names_rules.specs.WellNamed.{part_of}
+use Rattle.names_rules.proofs.Steps.{Ahead}
 use Rattle.ranges_types.specs.Tables.{declared_in}
 use Rattle.ranges_types.proofs.documents.parts.Given as goal
 

@@ -1,5 +1,5 @@
 use Rattle.std.proofs.Common.{◌≡◌, ℕ, ◌≤◌, drop, length}
-use Rattle.name_scopes.specs.WellNamed.{meaning_at}
+use Rattle.names_rules.specs.WellNamed.{meaning_at}
 use Rattle.ranges_types.specs.Numbers.{meaning_in}
 use Rattle.ranges_types.proofs.meanings.give_all.Given as goal
 

@@ -1,8 +1,8 @@
 use Rattle.std.proofs.Common.{ap, ◌∙◌, ℕ, List}
 use Rattle.std.specs.Str.{bytes_eq}
 use Rattle.indexmap.specs.IndexMap.{insert_entry}
-use Rattle.name_scopes.specs.Scope.{entries, seen_entries}
-use Rattle.name_scopes.proofs.Lookups.{inserted}
+use Rattle.names_rules.specs.Scope.{entries, seen_entries}
+use Rattle.names_rules.proofs.Lookups.{inserted}
 use Rattle.ranges_types.proofs.programs.compose.Goals as goal
 
 pub returns-in-Ok : goal.returns-in-Ok

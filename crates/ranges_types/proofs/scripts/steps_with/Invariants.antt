@@ -1,8 +1,8 @@
 use Rattle.std.proofs.Common.{drop}
-use Rattle.name_scopes.specs.Scope.{entries, seen_keys}
-use Rattle.name_scopes.specs.Part.{run}
-use Rattle.name_scopes.specs.Proofs.{step_part}
-use Rattle.name_scopes.proofs.Steps.{Ahead}
+use Rattle.names_rules.specs.Scope.{entries, seen_keys}
+use Rattle.names_rules.specs.Part.{run}
+use Rattle.names_rules.specs.Proofs.{step_part}
+use Rattle.names_rules.proofs.Steps.{Ahead}
 use Rattle.ranges_types.proofs.scripts.steps_with.Given as goal
 
 abbrev pub invariant-loop-s : goal.invariant-loop-s

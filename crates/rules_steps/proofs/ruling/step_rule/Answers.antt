@@ -8,12 +8,12 @@ use Rattle.core_terms.specs.declared.documents.Ref.{Ref}
 use Rattle.core_terms.specs.declared.documents.CStep.{CStep}
 use Rattle.core_terms.specs.Conditions.{FormFits, IsRange}
 use Rattle.fair_rounds.specs.declared.records.Record.{Record}
-use Rattle.proof_rules.specs.Walk.{step_site, applied, used, rule_of}
-use Rattle.safety_rules.specs.Answers.{Answers}
+use Rattle.rules_table.specs.Walk.{step_site, applied, used, rule_of}
+use Rattle.safety_rules.specs.Answers.{RuleAnswers}
 use Rattle.rules_steps.specs.Using.{Uses}
 use Rattle.rules_steps.specs.Starts.{starts_in}
 use Rattle.std.specs.Prelude.{◌++◌, length}
-use Rattle.core_terms.specs.Conditions.{RuleSees, is_below, rule_ranges}
+use Rattle.core_terms.specs.Conditions.{RuleWellScoped, is_below, rule_ranges}
 use Rattle.rules_steps.proofs.GoalLaws.{given_step}
 use Rattle.rules_steps.proofs.StepLaws.{not_yet, not_used, not_this, given_so}
 use Rattle.rules_steps.proofs.UsingLaws.{handed_back, used_fit}
@@ -30,7 +30,7 @@ returns-in_err-using-clause-answer c =
     let p : CProgram = c.args.program.now in
     let s : CStep = c.args.step.now in
     let book : List Record = c.args.book.now in
-    handed_back (λ r. Answers r slots (rule_of slots (starts_in slots) p s book)) c.from_residual.result
+    handed_back (λ r. RuleAnswers r slots (rule_of slots (starts_in slots) p s book)) c.from_residual.result
     c.in_err-using.field-0.0 c.from_residual.ensures.1
     (not_used slots p s book (sym c.may_stand.ensures ∙ c.if-not-may_stand.false)
     c.in_err-using.field-0.0
@@ -69,7 +69,8 @@ applied-answer-requires-clause-q c =
 pub applied-answer-requires-clause-rule : goal.applied-answer-requires-clause-rule
 applied-answer-requires-clause-rule c =
     let s : CStep = c.args.step.now in
-    subst (λ (ps : List Range). RuleSees c.args.slots.now (ps ++ rule_ranges s.rule) (is_below (length ps)) (length ps)
+    subst (λ (ps : List Range). RuleWellScoped c.args.slots.now (ps ++ rule_ranges s.rule) (is_below (length ps))
+    (length ps)
     s.rule) (sym c.as_slice-2.ensures) c.requires.step.rule
 
 pub returns-clause-answer : goal.returns-clause-answer
@@ -83,11 +84,11 @@ returns-clause-answer c =
     (ap (λ (refs : List Ref). used p book refs) (sym c.as_slice.ensures) ∙ c.in_ok-using.ensures)
     (sym c.suits.ensures ∙ c.if-not-suits.false) c.claimed.result
     (c.claimed.ensures slots (applied (starts_in slots) (step_site slots p s using) s book s.rule)
-    (subst (λ (ps : List Range). Answers c.applied-answer.result slots
+    (subst (λ (ps : List Range). RuleAnswers c.applied-answer.result slots
     (applied (starts_in slots)
     (record { program = p; slots = slots; params = ps; name = s.name; using = using }) s book s.rule))
     c.as_slice-2.ensures
-    (subst (λ (fs : List CForm). Answers c.applied-answer.result slots
+    (subst (λ (fs : List CForm). RuleAnswers c.applied-answer.result slots
     (applied (starts_in slots)
     (record { program = p; slots = slots; params = c.as_slice-2.result.now; name = s.name; using = fs }) s book s.rule))
     c.as_slice-3.ensures c.applied-answer.ensures)))

@@ -4,11 +4,11 @@ use Rattle.case_tables.specs.declared.code_table.Code.{Code}
 use Rattle.core_terms.specs.declared.programs.CSlot.{CSlot}
 use Rattle.core_terms.specs.declared.documents.Ref.{Ref}
 use Rattle.fair_rounds.specs.declared.records.Record.{Record}
-use Rattle.proof_rules.specs.Conclusion.{Conclusion}
-use Rattle.proof_rules.specs.Table.{Site, go_on}
-use Rattle.proof_rules.specs.Walk.{first_part, second_part, serves_union, serves_after, part_record, united}
+use Rattle.rules_table.specs.Conclusion.{Conclusion}
+use Rattle.rules_table.specs.Table.{Site, go_on}
+use Rattle.rules_table.specs.Walk.{first_part, second_part, serves_union, serves_after, part_record, united}
 use Rattle.safety_rules.specs.declared.places.RuleError.{RuleError}
-use Rattle.safety_rules.specs.Answers.{site_of, Answers}
+use Rattle.safety_rules.specs.Answers.{site_of, RuleAnswers}
 use Rattle.safety_rules.specs.Instances.{AnswersRecord}
 use Rattle.rules_steps.specs.Starts.{starts_in}
 use Rattle.rules_steps.proofs.unions.by_union.Goals as goal
@@ -18,7 +18,7 @@ given_record a (Ok x) h = ap (λ (r : Record). Ok r) (sym h)
 given_record a (Err code) h = absurd h
 
 refused_record : (slots : List CSlot) (e : RuleError) (row : Result Record Code) (f : Record → Result Conclusion Code) →
-    AnswersRecord (Err e) row → Answers (Err e) slots (go_on row f)
+    AnswersRecord (Err e) row → RuleAnswers (Err e) slots (go_on row f)
 refused_record slots (RuleError.Fault code) (Ok x) f h = absurd h
 refused_record slots (RuleError.Fault code) (Err first) f h = h
 refused_record slots RuleError.Memory row f h = tt
@@ -42,7 +42,7 @@ returns-in-Ok c =
     (subst (λ (a : Record). AnswersRecord c.part_record-second.result
     (part_record site book c.second_part-other.result (serves_after kind a.kind) s)) c.get.ensures
     c.part_record-second.ensures.answer) in
-    subst (λ (q : Result Record Code). Answers c.with_other.result slots
+    subst (λ (q : Result Record Code). RuleAnswers c.with_other.result slots
     (go_on q (λ a. go_on (part_record site book (second_part site.program.parts) (serves_after kind a.kind) s)
     (λ b. united (starts_in slots) site kind a b)))) (sym one)
     (c.with_other.ensures

@@ -1,12 +1,12 @@
 use Rattle.std.proofs.Common.{[], List, IsTrue, Err, sym, ap, ◌∙◌, subst}
-use Rattle.state_steps.specs.State.{State, is_state}
+use Rattle.meaning_states.specs.State.{State, is_state}
 use Rattle.core_terms.specs.declared.programs.CSlot.{CSlot}
 use Rattle.core_terms.specs.Conditions.{IsProgram}
 use Rattle.core_terms.specs.Steps.{slot_ranges}
 use Rattle.core_terms.specs.Values.{form_value}
 use Rattle.executor.specs.declared.runner.StartError.{StartError}
 use Rattle.run_traces.specs.Cores.{core_choices}
-use Rattle.run_traces.specs.TraceAnswers.{Traces}
+use Rattle.run_traces.specs.TraceAnswers.{CoreTraces}
 use Rattle.run_traces.proofs.TraceAnswers.{still, not_failed, no_trace}
 use Rattle.run_traces.proofs.programs.trace_from.Goals as goal
 
@@ -38,7 +38,7 @@ trace_by-requires-clause-few g c = c.requires.program.few
 
 pub returns-in-Ok-clause-answer : goal.returns-in-Ok-clause-answer
 returns-in-Ok-clause-answer g c =
-    subst (λ (state : State). Traces c.args.doc.now c.args.p.now c.args.heading state
+    subst (λ (state : State). CoreTraces c.args.doc.now c.args.p.now c.args.heading state
     (core_choices c.args.p.now c.args.choices.now) (g.K.Sink.written c.args.out.now)
     (g.K.Sink.written c.trace_by.new.out) c.trace_by.result) c.in-Ok.ensures.state c.trace_by.ensures.answer
 

@@ -1,6 +1,6 @@
 use Rattle.std.proofs.Common.{◌≡◌, List, IsTrue, All, Result, Err, refl, sym, ap, ◌∙◌, subst}
 use Rattle.std.proofs.lemmas.Result.{err_from_is_err_and}
-use Rattle.state_steps.specs.State.{State, is_state}
+use Rattle.meaning_states.specs.State.{State, is_state}
 use Rattle.core_terms.specs.declared.programs.CSlot.{CSlot}
 use Rattle.core_terms.specs.Conditions.{IsSlot, IsProgram}
 use Rattle.core_terms.specs.Steps.{slot_ranges}
@@ -8,7 +8,7 @@ use Rattle.executor.specs.declared.runner.Stepped.{Stepped}
 use Rattle.executor.specs.StartState.{start_state}
 use Rattle.run_traces.specs.declared.trace_error.TraceError.{TraceError}
 use Rattle.run_traces.specs.Cores.{core_choices}
-use Rattle.run_traces.specs.TraceAnswers.{Traces}
+use Rattle.run_traces.specs.TraceAnswers.{CoreTraces}
 use Rattle.run_traces.proofs.TraceAnswers.{still, program_in, not_memory}
 use Rattle.run_traces.proofs.programs.trace_program.Goals as goal
 
@@ -24,7 +24,7 @@ trace_from-requires-clause-start g c =
 
 pub returns-clause-answer : goal.returns-clause-answer
 returns-clause-answer g c =
-    subst (λ (state : State). Traces c.args.doc.now c.args.p.now c.args.heading state
+    subst (λ (state : State). CoreTraces c.args.doc.now c.args.p.now c.args.heading state
     (core_choices c.args.p.now c.args.choices.now) (g.K.Sink.written c.args.out.now)
     (g.K.Sink.written c.trace_from.new.out) c.trace_from.result)
     (c.as_slice-2.ensures ∙ c.in_ok-start.ensures.numbers
@@ -37,7 +37,7 @@ pub returns-in_err-start-clause-answer : goal.returns-in_err-start-clause-answer
 returns-in_err-start-clause-answer g c =
     let p = err_from_is_err_and c.from_residual.result c.from_residual.ensures.1 in
     let memory : c.from_residual.result ≡ Err TraceError.Memory = p.1 ∙ ap (λ (e : TraceError). Err e) p.2 in
-    subst (λ (r : Result Stepped TraceError). Traces c.args.doc.now c.args.p.now c.args.heading
+    subst (λ (r : Result Stepped TraceError). CoreTraces c.args.doc.now c.args.p.now c.args.heading
     (start_state c.args.doc.now.slots c.args.p.now) (core_choices c.args.p.now c.args.choices.now)
     (g.K.Sink.written c.args.out.now) (g.K.Sink.written c.args.out.now) r) (sym memory) refl
 

@@ -4,10 +4,10 @@ use Rattle.std.specs.Prelude.{IfSome}
 use Rattle.std.specs.Io.KnownBytes.{Appends}
 use Rattle.unity_base.specs.Streams.{AppendsPart}
 use Rattle.std.proofs.lemmas.Option.{slice_get_within}
-use Rattle.state_steps.specs.State.{State}
-use Rattle.unity_meaning.specs.Rounds.{rounds}
+use Rattle.meaning_states.specs.State.{State}
+use Rattle.meaning_documents.specs.Rounds.{rounds}
 use Rattle.fair_rounds.specs.Counts.{StandsFor}
-use Rattle.unity_meaning.specs.Execution.{chosen_step}
+use Rattle.meaning_documents.specs.Execution.{chosen_step}
 use Rattle.fair_rounds.specs.Records.{core_system}
 use Rattle.executor.specs.Running.{state_of}
 use Rattle.schedule_replay.specs.Lines.{rounds_line}

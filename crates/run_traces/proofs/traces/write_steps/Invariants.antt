@@ -1,5 +1,5 @@
 use Rattle.std.proofs.Common.{◌≡◌, ◌-◌, ◌≤◌, length, take, drop}
-use Rattle.unity_meaning.specs.Rounds.{rounds}
+use Rattle.meaning_documents.specs.Rounds.{rounds}
 use Rattle.fair_rounds.specs.Records.{core_system}
 use Rattle.fair_rounds.specs.Counts.{StandsFor}
 use Rattle.executor.specs.Running.{program_of, slots_of, state_of}

@@ -2,7 +2,7 @@ use Rattle.std.proofs.Common.{◌++◌, length, None, subst}
 use Rattle.std.specs.Io.KnownBytes.{Appends}
 use Rattle.std.proofs.KnownBytes.{Appends-trans}
 use Rattle.unity_base.specs.Streams.{AppendsPart}
-use Rattle.unity_meaning.specs.Rounds.{rounds}
+use Rattle.meaning_documents.specs.Rounds.{rounds}
 use Rattle.fair_rounds.specs.Records.{core_system}
 use Rattle.executor.specs.Running.{state_of}
 use Rattle.schedule_replay.specs.Lines.{heading_line, state_line, rounds_line}

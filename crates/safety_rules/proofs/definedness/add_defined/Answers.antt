@@ -12,7 +12,7 @@ use Rattle.core_terms.specs.Conditions.{StatementFits}
 use Rattle.wp_substitution.specs.Preconditions.{defined_form}
 use Rattle.wp_substitution.specs.Oversized.{IsOversized}
 use Rattle.wp_substitution.proofs.LightLaws.{writes_light}
-use Rattle.proof_rules.specs.Forms.{imply}
+use Rattle.rules_table.specs.Forms.{imply}
 use Rattle.safety_rules.specs.declared.places.RuleError.{RuleError}
 use Rattle.safety_rules.specs.Usable.{NamesExist}
 use Rattle.safety_rules.specs.Goals.{Added}
@@ -52,7 +52,8 @@ returns-then-branch c =
     (loop_fails slots params (Unit {0}) (Unit {0}) (RuleError.Fault Code.FormulaTooLarge) make
     c.as_slice-s-items.result.now c.loop-s.s-index c.s-item.result (make c.s-item.result) c.args.goals.now
     c.loop-s.goals c.loop-s.goals c.loop-s-test.true c.s-item.is refl
-    (defined_refused slots params (Unit {0}) c.loop-s.goals c.loop-s.goals c.args.pl.now.using.now c.s-item.result (large slots)))
+    (defined_refused slots params (Unit {0}) c.loop-s.goals c.loop-s.goals c.args.pl.now.using.now c.s-item.result
+    (large slots)))
 
 pub where_defined-requires-clause-statement : goal.where_defined-requires-clause-statement
 where_defined-requires-clause-statement c =

@@ -4,10 +4,10 @@ use Rattle.case_tables.specs.declared.code_table.Code.{Code}
 use Rattle.core_terms.specs.declared.trees.CForm.TheVariants.{Top}
 use Rattle.core_terms.specs.Values.{form_value}
 use Rattle.wp_substitution.proofs.AfterLaws.{length_of_state}
-use Rattle.proof_rules.specs.Table.{Site, record_of, defined_forms, defined_of}
-use Rattle.proof_rules.proofs.RowEquations.{defined-is}
-use Rattle.proof_rules.proofs.TextSound.{defined_sound}
-use Rattle.safety_rules.specs.Answers.{site_of, Answers}
+use Rattle.rules_table.specs.Table.{Site, record_of, defined_forms, defined_of}
+use Rattle.rules_table.proofs.RowEquations.{defined-is}
+use Rattle.rules_table.proofs.TextSound.{defined_sound}
+use Rattle.safety_rules.specs.Answers.{site_of, RuleAnswers}
 use Rattle.safety_rules.proofs.AnswerLaws.{needs_met, needs_not, refused_goals, rule_given, refused, given_by}
 use Rattle.safety_rules.proofs.ErrorLaws.{handed_on}
 use Rattle.safety_rules.proofs.SoundLaws.{site_good, answer_stands, error_stands}
@@ -37,7 +37,8 @@ returns-in_err-add_defined-clause-answer c =
     let site : Site = site_of c.args.pl.now in
     let starts : Bool = form_value c.args.start.now [] site.program.initially in
     let e = c.in_err-add_defined.field-0.0 in
-    handed_on (λ r. Answers r site.slots (defined_of site starts)) c.from_residual.result e c.from_residual.ensures.1
+    handed_on (λ r. RuleAnswers r site.slots (defined_of site starts)) c.from_residual.result e
+    c.from_residual.ensures.1
     (given_by site.slots (Err e) (defined_of site starts) _
     (defined-is site starts ∙ needs_met starts Code.NoStart _ (sym c.holds.ensures ∙ c.if-not-holds.false))
     (refused_goals site.slots site.params (Unit {0}) e c.new-goals.result c.add_defined.new.goals

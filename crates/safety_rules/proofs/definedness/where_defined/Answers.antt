@@ -1,6 +1,6 @@
 use Rattle.std.proofs.Common.{ap, ◌∙◌}
 use Rattle.std.proofs.lemmas.Result.{IfOk-weaker}
-use Rattle.proof_rules.specs.Forms.{imply}
+use Rattle.rules_table.specs.Forms.{imply}
 use Rattle.safety_rules.specs.Premises.{implied_by}
 use Rattle.safety_rules.proofs.UsableLaws.{all_usable, all_light, imply-is}
 use Rattle.safety_rules.proofs.definedness.where_defined.Goals as goal

@@ -1,7 +1,7 @@
 use Rattle.std.proofs.Common.{◌++◌}
 use Rattle.core_terms.specs.declared.trees.CForm.{CForm}
 use Rattle.core_terms.specs.declared.documents.Helper.{Helper}
-use Rattle.proof_rules.specs.Table.{Site, unless_forms, helper_forms}
+use Rattle.rules_table.specs.Table.{Site, unless_forms, helper_forms}
 use Rattle.safety_rules.specs.Answers.{site_of}
 use Rattle.safety_rules.specs.Goals.{Added}
 use Rattle.safety_rules.proofs.AnswerLaws.{first_part_fails, second_part_added}

@@ -9,7 +9,7 @@ use Rattle.core_terms.specs.declared.programs.CSlot.{CSlot}
 use Rattle.core_terms.specs.declared.programs.CStmt.{CStmt}
 use Rattle.core_terms.specs.Conditions.{StatementFits}
 use Rattle.obligations.specs.declared.branches.Obligation.{Obligation}
-use Rattle.proof_rules.specs.Table.{Site, helped_form}
+use Rattle.rules_table.specs.Table.{Site, helped_form}
 use Rattle.safety_rules.specs.Answers.{site_of}
 use Rattle.safety_rules.specs.Usable.{NamesExist}
 use Rattle.safety_rules.specs.Goals.{Added}

@@ -1,5 +1,5 @@
 use Rattle.std.proofs.Common.{filter, take}
-use Rattle.proof_rules.specs.Table.{helped_form}
+use Rattle.rules_table.specs.Table.{helped_form}
 use Rattle.safety_rules.specs.Answers.{site_of}
 use Rattle.safety_rules.proofs.AnswerLaws.{AddedFor}
 use Rattle.safety_rules.specs.Helpers.{may_mean}

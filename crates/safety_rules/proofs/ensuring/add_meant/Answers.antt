@@ -1,5 +1,5 @@
 use Rattle.std.proofs.Common.{sym, subst, ◌∙◌}
-use Rattle.proof_rules.specs.Table.{Site, instances_of}
+use Rattle.rules_table.specs.Table.{Site, instances_of}
 use Rattle.safety_rules.specs.Answers.{site_of}
 use Rattle.safety_rules.specs.Usable.{NamesExist}
 use Rattle.safety_rules.proofs.NameLaws.{meant_exists}

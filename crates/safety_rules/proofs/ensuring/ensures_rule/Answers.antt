@@ -3,10 +3,10 @@ use Rattle.case_tables.specs.declared.kind_table.Kind.{Kind}
 use Rattle.case_tables.specs.declared.code_table.Code.{Code}
 use Rattle.core_terms.specs.declared.trees.CForm.{CForm}
 use Rattle.core_terms.specs.declared.documents.Helper.{Helper}
-use Rattle.proof_rules.specs.Table.{Site, record_of, is_helper, unless_forms, helper_forms, ensures_of}
-use Rattle.proof_rules.proofs.RowEquations.{ensures-is}
-use Rattle.proof_rules.proofs.EnsuresSound.{ensures_sound}
-use Rattle.safety_rules.specs.Answers.{site_of, Answers}
+use Rattle.rules_table.specs.Table.{Site, record_of, is_helper, unless_forms, helper_forms, ensures_of}
+use Rattle.rules_table.proofs.RowEquations.{ensures-is}
+use Rattle.rules_table.proofs.EnsuresSound.{ensures_sound}
+use Rattle.safety_rules.specs.Answers.{site_of, RuleAnswers}
 use Rattle.safety_rules.proofs.AnswerLaws.{needs_met, needs_not, refused_goals, rule_given, refused, given_by}
 use Rattle.safety_rules.proofs.SoundLaws.{site_good, answer_stands, error_stands}
 use Rattle.safety_rules.proofs.ErrorLaws.{handed_on}
@@ -27,7 +27,7 @@ returns-in_err-add_ensures-clause-answer c =
     let q : CForm = c.args.q.now in
     let h : Helper = c.args.h.now in
     let e = c.in_err-add_ensures.field-0.0 in
-    handed_on (λ r. Answers r site.slots (ensures_of site p q h)) c.from_residual.result e c.from_residual.ensures.1
+    handed_on (λ r. RuleAnswers r site.slots (ensures_of site p q h)) c.from_residual.result e c.from_residual.ensures.1
     (given_by site.slots (Err e) (ensures_of site p q h) _
     (ensures-is site p q h
     ∙ needs_met (is_helper site h) Code.NoSuchStatement _ (sym c.is_helper.ensures ∙ c.if-not-is_helper.false))

@@ -1,5 +1,5 @@
 use Rattle.std.proofs.Common.{◌≡◌, drop}
-use Rattle.proof_rules.specs.Table.{are_arguments}
+use Rattle.rules_table.specs.Table.{are_arguments}
 use Rattle.safety_rules.proofs.instances.are_arguments.Given as goal
 
 abbrev pub invariant-loop-place : goal.invariant-loop-place

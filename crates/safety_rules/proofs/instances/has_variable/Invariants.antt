@@ -1,6 +1,6 @@
 use Rattle.std.proofs.Common.{◌≡◌, drop}
 use Rattle.std.specs.List.{list_any}
-use Rattle.proof_rules.specs.Table.{is_slot}
+use Rattle.rules_table.specs.Table.{is_slot}
 use Rattle.safety_rules.proofs.instances.has_variable.Given as goal
 
 abbrev pub invariant-loop-arg : goal.invariant-loop-arg

@@ -1,7 +1,7 @@
 use Rattle.std.proofs.Common.{◌≡◌, Some, ap, sym, subst, ◌∙◌, slice_index_or, pos, w64}
 use Rattle.std.proofs.lemmas.Int.{to_z-of_z}
 use Rattle.core_terms.specs.declared.trees.Range.{Range}
-use Rattle.proof_rules.specs.Table.{lies_in}
+use Rattle.rules_table.specs.Table.{lies_in}
 use Rattle.safety_rules.proofs.ArgumentLaws.{got_within, got_past}
 use Rattle.safety_rules.proofs.instances.named_argument.Goals as goal
 

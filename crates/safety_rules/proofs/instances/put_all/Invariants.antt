@@ -1,5 +1,5 @@
 use Rattle.std.proofs.Common.{◌≡◌, map, take}
-use Rattle.proof_rules.specs.Table.{put_in}
+use Rattle.rules_table.specs.Table.{put_in}
 use Rattle.safety_rules.proofs.instances.put_all.Given as goal
 
 abbrev pub invariant-loop-index : goal.invariant-loop-index

@@ -3,8 +3,8 @@ use Rattle.core_terms.specs.declared.documents.Arg.{Arg}
 use Rattle.core_terms.specs.declared.trees.Range.{Range}
 use Rattle.fair_rounds.specs.Records.{are_in_ranges}
 use Rattle.fair_rounds.specs.declared.records.Record.{Record}
-use Rattle.proof_rules.specs.Table.{Site, instance_of}
-use Rattle.proof_rules.proofs.CalcSound.{instance_is, instance_sound}
+use Rattle.rules_table.specs.Table.{Site, instance_of}
+use Rattle.rules_table.proofs.CalcSound.{instance_is, instance_sound}
 use Rattle.safety_rules.specs.Answers.{site_of}
 use Rattle.safety_rules.specs.Sound.{StandsAt}
 use Rattle.safety_rules.proofs.InstanceLaws.{record_stands}

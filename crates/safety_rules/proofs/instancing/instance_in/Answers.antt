@@ -5,10 +5,10 @@ use Rattle.core_terms.specs.declared.trees.Range.{Range}
 use Rattle.core_terms.specs.declared.documents.Arg.{Arg}
 use Rattle.core_terms.specs.Replacing.{form_at}
 use Rattle.fair_rounds.specs.declared.records.Record.{Record}
-use Rattle.proof_rules.specs.Limits.{fits}
-use Rattle.proof_rules.specs.Table.{Site, needs, is_slot, are_arguments, record_with, instance_of}
-use Rattle.proof_rules.proofs.CalcSound.{instance_sound}
-use Rattle.proof_rules.proofs.RowEquations.{instance-is}
+use Rattle.rules_table.specs.Limits.{fits}
+use Rattle.rules_table.specs.Table.{Site, needs, is_slot, are_arguments, record_with, instance_of}
+use Rattle.rules_table.proofs.CalcSound.{instance_sound}
+use Rattle.rules_table.proofs.RowEquations.{instance-is}
 use Rattle.safety_rules.specs.Answers.{site_of}
 use Rattle.safety_rules.specs.Instances.{StandsIn}
 use Rattle.safety_rules.proofs.AnswerLaws.{needs_met, needs_not}

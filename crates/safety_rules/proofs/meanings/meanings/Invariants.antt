@@ -1,7 +1,7 @@
 use Rattle.std.proofs.Common.{◌≡◌, map, filter, take}
 use Rattle.std.specs.Prelude.{All}
 use Rattle.core_terms.specs.declared.programs.CStmt.{CStmt}
-use Rattle.proof_rules.specs.Table.{equations}
+use Rattle.rules_table.specs.Table.{equations}
 use Rattle.wp_substitution.specs.Preconditions.{all_of}
 use Rattle.safety_rules.specs.Foldable.{IsFoldable}
 use Rattle.safety_rules.specs.Helpers.{may_mean}

@@ -1,5 +1,5 @@
 use Rattle.std.proofs.Common.{◌≡◌, drop}
-use Rattle.proof_rules.specs.Table.{agree}
+use Rattle.rules_table.specs.Table.{agree}
 use Rattle.safety_rules.proofs.naming.agree.Given as goal
 
 abbrev pub invariant-loop-place : goal.invariant-loop-place

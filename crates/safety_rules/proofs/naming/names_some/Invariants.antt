@@ -1,5 +1,5 @@
 use Rattle.std.proofs.Common.{◌≡◌, drop}
-use Rattle.proof_rules.specs.Table.{names_some}
+use Rattle.rules_table.specs.Table.{names_some}
 use Rattle.safety_rules.proofs.naming.names_some.Given as goal
 
 abbrev pub invariant-loop-arg : goal.invariant-loop-arg

@@ -5,8 +5,8 @@ use Rattle.core_terms.specs.declared.programs.CSlot.{CSlot}
 use Rattle.core_terms.specs.Folding.{or_form}
 use Rattle.core_terms.specs.Trees.{same_form}
 use Rattle.fair_rounds.specs.declared.records.Record.{Record}
-use Rattle.proof_rules.specs.Table.{Site, is_unless}
-use Rattle.proof_rules.proofs.RowEquations.{cancel-is}
+use Rattle.rules_table.specs.Table.{Site, is_unless}
+use Rattle.rules_table.proofs.RowEquations.{cancel-is}
 use Rattle.safety_rules.specs.Answers.{site_of}
 use Rattle.safety_rules.specs.Usable.{NamesExist}
 use Rattle.safety_rules.proofs.UsableLaws.{exist_or, fits_max, fits_exist}

@@ -4,8 +4,8 @@ use Rattle.core_terms.specs.declared.trees.Range.{Range}
 use Rattle.core_terms.specs.declared.programs.CSlot.{CSlot}
 use Rattle.core_terms.specs.Folding.{and_form}
 use Rattle.fair_rounds.specs.declared.records.Record.{Record}
-use Rattle.proof_rules.specs.Table.{Site, is_unless, is_ensures, ends_of_both}
-use Rattle.proof_rules.proofs.RowEquations.{conj-is}
+use Rattle.rules_table.specs.Table.{Site, is_unless, is_ensures, ends_of_both}
+use Rattle.rules_table.proofs.RowEquations.{conj-is}
 use Rattle.safety_rules.specs.Answers.{site_of}
 use Rattle.safety_rules.specs.Usable.{NamesExist}
 use Rattle.safety_rules.proofs.UsableLaws.{exist_and, fits_max, fits_exist, exist_ends}

@@ -2,13 +2,13 @@ use Rattle.std.proofs.Common.{Result, ◌≡◌, Err, refl}
 use Rattle.case_tables.specs.declared.rule_table.RuleName.{RuleName}
 use Rattle.case_tables.specs.declared.code_table.Code.{Code}
 use Rattle.fair_rounds.specs.declared.records.Record.{Record}
-use Rattle.proof_rules.specs.Table.{Site, pair_of}
+use Rattle.rules_table.specs.Table.{Site, pair_of}
 use Rattle.safety_rules.specs.declared.places.Place.{Place}
 use Rattle.safety_rules.specs.declared.places.Derived.{Derived}
 use Rattle.safety_rules.specs.declared.places.RuleError.{RuleError}
 use Rattle.safety_rules.specs.Sound.{StandsAt, StandsWhereShown}
-use Rattle.safety_rules.specs.Answers.{Answers, IsPlace, IsPremiseAt, site_of}
-use Rattle.proof_rules.proofs.CalcSound.{pair_sound}
+use Rattle.safety_rules.specs.Answers.{RuleAnswers, IsPlace, IsPremiseAt, site_of}
+use Rattle.rules_table.proofs.CalcSound.{pair_sound}
 use Rattle.safety_rules.proofs.SoundLaws.{site_good, premise_good, answer_stands}
 use Rattle.safety_rules.proofs.AnswerLaws.{refused}
 use Rattle.safety_rules.proofs.pairs.pair_rule.Goals as goal
@@ -27,7 +27,7 @@ other_pair site _ a b conj simple disj other cancel = refl
 
 pair_stands : (pl : Place) → IsPlace pl → (which : RuleName) (a b : Record) → IsPremiseAt pl a → IsPremiseAt pl b →
     StandsAt pl a → StandsAt pl b → (answer : Result Derived RuleError) →
-    Answers answer pl.slots.now (pair_of (site_of pl) which a b) → StandsWhereShown pl answer
+    RuleAnswers answer pl.slots.now (pair_of (site_of pl) which a b) → StandsWhereShown pl answer
 pair_stands pl place which a b pa pb one two answer given =
     answer_stands pl answer (pair_of (site_of pl) which a b)
     (λ x e valid. pair_sound (site_of pl) (site_good pl place) which a b (premise_good pl a pa one)

@@ -1,5 +1,5 @@
 use Rattle.std.proofs.Common.{◌≡◌, drop}
-use Rattle.proof_rules.specs.Table.{with_each}
+use Rattle.rules_table.specs.Table.{with_each}
 use Rattle.safety_rules.proofs.recording.add_each.Given as goal
 
 abbrev pub invariant-loop-f : goal.invariant-loop-f

@@ -1,5 +1,5 @@
 use Rattle.std.proofs.Common.{[], ap, sym, ◌∙◌}
-use Rattle.proof_rules.specs.Table.{with_each}
+use Rattle.rules_table.specs.Table.{with_each}
 use Rattle.safety_rules.proofs.EachLaws.{each-append}
 use Rattle.safety_rules.proofs.recording.under_with.Goals as goal
 

@@ -5,8 +5,8 @@ use Rattle.core_terms.specs.declared.trees.CForm.{CForm}
 use Rattle.core_terms.specs.declared.programs.CSlot.{CSlot}
 use Rattle.core_terms.specs.declared.programs.CStmt.{CStmt}
 use Rattle.wp_substitution.specs.Preconditions.{wp_form}
-use Rattle.proof_rules.specs.Forms.{imply}
-use Rattle.proof_rules.specs.Table.{Site, kept_form, invariant_forms}
+use Rattle.rules_table.specs.Forms.{imply}
+use Rattle.rules_table.specs.Table.{Site, kept_form, invariant_forms}
 use Rattle.safety_rules.specs.Answers.{site_of}
 use Rattle.safety_rules.specs.Goals.{Added}
 use Rattle.safety_rules.specs.Usable.{IsUsable, NamesExist}

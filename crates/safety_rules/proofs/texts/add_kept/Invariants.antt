@@ -1,7 +1,7 @@
 use Rattle.std.proofs.Common.{take}
 use Rattle.core_terms.specs.declared.programs.CStmt.{CStmt}
 use Rattle.wp_substitution.specs.Preconditions.{wp_form}
-use Rattle.proof_rules.specs.Forms.{imply}
+use Rattle.rules_table.specs.Forms.{imply}
 use Rattle.safety_rules.proofs.AnswerLaws.{AddedFor}
 use Rattle.safety_rules.proofs.texts.add_kept.Given as goal
 

@@ -6,7 +6,7 @@ use Rattle.core_terms.specs.declared.programs.CStmt.{CStmt}
 use Rattle.core_terms.specs.Folding.{not_form, or_form}
 use Rattle.core_terms.specs.Weights.{plain_weight}
 use Rattle.wp_substitution.specs.Preconditions.{wp_form}
-use Rattle.proof_rules.specs.Forms.{imply}
+use Rattle.rules_table.specs.Forms.{imply}
 use Rattle.safety_rules.specs.Goals.{Added}
 use Rattle.safety_rules.specs.Usable.{IsUsable}
 use Rattle.safety_rules.proofs.UsableLaws.{usable, both_usable, light_not, light_or}

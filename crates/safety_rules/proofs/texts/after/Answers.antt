@@ -4,7 +4,7 @@ use Rattle.core_terms.specs.declared.trees.CForm.{CForm}
 use Rattle.core_terms.specs.declared.programs.CSlot.{CSlot}
 use Rattle.core_terms.specs.declared.trees.Range.{Range}
 use Rattle.core_terms.specs.Weights.{plain_weight}
-use Rattle.proof_rules.specs.Forms.{imply}
+use Rattle.rules_table.specs.Forms.{imply}
 use Rattle.safety_rules.specs.Premises.{implied_by}
 use Rattle.safety_rules.specs.Usable.{IsUsable, NamesExist}
 use Rattle.safety_rules.proofs.UsableLaws.{all_usable, all_light, all_exist, exist_imply, imply-is}

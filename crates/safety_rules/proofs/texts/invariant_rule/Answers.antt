@@ -2,11 +2,11 @@ use Rattle.std.proofs.Common.{◌++◌, [], Err, None, refl, sym, subst}
 use Rattle.case_tables.specs.declared.kind_table.Kind.{Kind}
 use Rattle.core_terms.specs.declared.trees.CForm.{CForm}
 use Rattle.core_terms.specs.declared.trees.CForm.TheVariants.{Bottom}
-use Rattle.proof_rules.specs.Table.{Site, record_of, invariant_forms, invariant_of}
-use Rattle.proof_rules.proofs.RowEquations.{invariant-is}
-use Rattle.safety_rules.specs.Answers.{site_of, Answers}
+use Rattle.rules_table.specs.Table.{Site, record_of, invariant_forms, invariant_of}
+use Rattle.rules_table.proofs.RowEquations.{invariant-is}
+use Rattle.safety_rules.specs.Answers.{site_of, RuleAnswers}
 use Rattle.safety_rules.proofs.AnswerLaws.{refused_goals, rule_given}
-use Rattle.proof_rules.proofs.TextSound.{invariant_sound}
+use Rattle.rules_table.proofs.TextSound.{invariant_sound}
 use Rattle.safety_rules.proofs.SoundLaws.{site_good, answer_stands, error_stands}
 use Rattle.safety_rules.proofs.ErrorLaws.{handed_on}
 use Rattle.safety_rules.proofs.texts.invariant_rule.Goals as goal
@@ -16,8 +16,8 @@ returns-in_err-add_invariant-clause-answer c =
     let site : Site = site_of c.args.pl.now in
     let p : CForm = c.args.p.now in
     let e = c.in_err-add_invariant.field-0.0 in
-    handed_on (λ r. Answers r site.slots (invariant_of site p)) c.from_residual.result e c.from_residual.ensures.1
-    (subst (λ x. Answers (Err e) site.slots x) (sym (invariant-is site p))
+    handed_on (λ r. RuleAnswers r site.slots (invariant_of site p)) c.from_residual.result e c.from_residual.ensures.1
+    (subst (λ x. RuleAnswers (Err e) site.slots x) (sym (invariant-is site p))
     (refused_goals site.slots site.params (Unit {0}) e c.new-goals.result c.add_invariant.new.goals
     (record_of site Kind.Invariant p Bottom [] None) (invariant_forms site p) c.in_err-add_invariant.ensures))
 
@@ -25,7 +25,7 @@ pub returns-clause-answer : goal.returns-clause-answer
 returns-clause-answer c =
     let site : Site = site_of c.args.pl.now in
     let p : CForm = c.args.p.now in
-    subst (λ x. Answers c.conclude.result site.slots x) (sym (invariant-is site p))
+    subst (λ x. RuleAnswers c.conclude.result site.slots x) (sym (invariant-is site p))
     (rule_given c.in_ok-add_invariant.field-0 site Kind.Invariant p Bottom c.in_ok-held_form.field-0
     c.in_ok-new.field-0 []
     ([] ++ []) None None (invariant_forms site p) c.new-goals.result c.add_invariant.new.goals c.conclude.result

@@ -2,7 +2,7 @@ use Rattle.std.proofs.Common.{List, ap, ◌∙◌}
 use Rattle.std.proofs.lemmas.Result.{IfOk-weaker}
 use Rattle.core_terms.specs.declared.programs.CSlot.{CSlot}
 use Rattle.wp_substitution.specs.Preconditions.{wp_form}
-use Rattle.proof_rules.specs.Forms.{imply}
+use Rattle.rules_table.specs.Forms.{imply}
 use Rattle.safety_rules.specs.Premises.{implied_by}
 use Rattle.safety_rules.proofs.UsableLaws.{imply-is}
 use Rattle.safety_rules.proofs.texts.kept.Goals as goal

@@ -1,11 +1,11 @@
 use Rattle.std.proofs.Common.{◌++◌, [], Err, None, refl, sym, subst}
 use Rattle.case_tables.specs.declared.kind_table.Kind.{Kind}
 use Rattle.core_terms.specs.declared.trees.CForm.{CForm}
-use Rattle.proof_rules.specs.Table.{Site, record_of, unless_forms, unless_of}
-use Rattle.proof_rules.proofs.RowEquations.{unless-is}
-use Rattle.safety_rules.specs.Answers.{site_of, Answers}
+use Rattle.rules_table.specs.Table.{Site, record_of, unless_forms, unless_of}
+use Rattle.rules_table.proofs.RowEquations.{unless-is}
+use Rattle.safety_rules.specs.Answers.{site_of, RuleAnswers}
 use Rattle.safety_rules.proofs.AnswerLaws.{refused_goals, rule_given}
-use Rattle.proof_rules.proofs.TextSound.{unless_sound}
+use Rattle.rules_table.proofs.TextSound.{unless_sound}
 use Rattle.safety_rules.proofs.SoundLaws.{site_good, answer_stands, error_stands}
 use Rattle.safety_rules.proofs.ErrorLaws.{handed_on}
 use Rattle.safety_rules.proofs.texts.unless_rule.Goals as goal
@@ -16,8 +16,8 @@ returns-in_err-add_unless-clause-answer c =
     let p : CForm = c.args.p.now in
     let q : CForm = c.args.q.now in
     let e = c.in_err-add_unless.field-0.0 in
-    handed_on (λ r. Answers r site.slots (unless_of site p q)) c.from_residual.result e c.from_residual.ensures.1
-    (subst (λ x. Answers (Err e) site.slots x) (sym (unless-is site p q))
+    handed_on (λ r. RuleAnswers r site.slots (unless_of site p q)) c.from_residual.result e c.from_residual.ensures.1
+    (subst (λ x. RuleAnswers (Err e) site.slots x) (sym (unless-is site p q))
     (refused_goals site.slots site.params (Unit {0}) e c.new-goals.result c.add_unless.new.goals
     (record_of site Kind.Unless p q [] None) (unless_forms site p q) c.in_err-add_unless.ensures))
 
@@ -26,7 +26,7 @@ returns-clause-answer c =
     let site : Site = site_of c.args.pl.now in
     let p : CForm = c.args.p.now in
     let q : CForm = c.args.q.now in
-    subst (λ x. Answers c.conclude.result site.slots x) (sym (unless-is site p q))
+    subst (λ x. RuleAnswers c.conclude.result site.slots x) (sym (unless-is site p q))
     (rule_given c.in_ok-add_unless.field-0 site Kind.Unless p q c.in_ok-held_form.field-0 c.in_ok-held_form-2.field-0
     []
     ([] ++ []) None None (unless_forms site p q) c.new-goals.result c.add_unless.new.goals c.conclude.result

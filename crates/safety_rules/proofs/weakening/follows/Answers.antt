@@ -1,7 +1,7 @@
 use Rattle.std.proofs.Common.{None, ap, ◌∙◌}
 use Rattle.std.proofs.lemmas.Result.{IfOk-weaker}
 use Rattle.wp_substitution.specs.Joined.{joined_all}
-use Rattle.proof_rules.specs.Forms.{imply}
+use Rattle.rules_table.specs.Forms.{imply}
 use Rattle.safety_rules.specs.Premises.{implied_by}
 use Rattle.safety_rules.proofs.UsableLaws.{all_light, pushed_usable, imply-is}
 use Rattle.safety_rules.proofs.weakening.follows.Goals as goal

@@ -2,13 +2,13 @@ use Rattle.std.proofs.Common.{◌++◌, ◌∷◌, ◌||◌, [], Err, sym, ◌�
 use Rattle.case_tables.specs.declared.code_table.Code.{Code}
 use Rattle.core_terms.specs.declared.trees.CForm.{CForm}
 use Rattle.fair_rounds.specs.declared.records.Record.{Record}
-use Rattle.proof_rules.specs.Forms.{imply}
-use Rattle.proof_rules.specs.Table.{Site, record_of, weaken_of, is_unless, is_ensures}
-use Rattle.proof_rules.proofs.RowEquations.{weaken-is}
-use Rattle.safety_rules.specs.Answers.{site_of, Answers}
+use Rattle.rules_table.specs.Forms.{imply}
+use Rattle.rules_table.specs.Table.{Site, record_of, weaken_of, is_unless, is_ensures}
+use Rattle.rules_table.proofs.RowEquations.{weaken-is}
+use Rattle.safety_rules.specs.Answers.{site_of, RuleAnswers}
 use Rattle.safety_rules.proofs.UsableLaws.{usable}
 use Rattle.safety_rules.proofs.AnswerLaws.{needs_met, needs_not, refused_goals, rule_given, refused, given_by}
-use Rattle.proof_rules.proofs.CalcSound.{weaken_sound}
+use Rattle.rules_table.proofs.CalcSound.{weaken_sound}
 use Rattle.safety_rules.proofs.SoundLaws.{site_good, premise_good, answer_stands, error_stands}
 use Rattle.safety_rules.proofs.ErrorLaws.{handed_on}
 use Rattle.safety_rules.proofs.weakening.weaken_rule.Goals as goal
@@ -35,7 +35,7 @@ returns-in_err-add_follows-clause-answer c =
     let a : Record = c.args.a.now in
     let r : CForm = c.args.r.now in
     let e = c.in_err-add_follows.field-0.0 in
-    handed_on (λ x. Answers x site.slots (weaken_of site a r)) c.from_residual.result e c.from_residual.ensures.1
+    handed_on (λ x. RuleAnswers x site.slots (weaken_of site a r)) c.from_residual.result e c.from_residual.ensures.1
     (given_by site.slots (Err e) (weaken_of site a r) _
     (weaken-is site a r
     ∙ needs_met (is_unless a.kind || is_ensures a.kind) Code.WrongKind _

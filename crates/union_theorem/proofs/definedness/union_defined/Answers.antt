@@ -2,8 +2,8 @@ use Rattle.std.proofs.Common.{◌&&◌, Bool, [], sym, ◌∙◌, arith}
 use Rattle.case_tables.specs.declared.code_table.Code.{Code}
 use Rattle.core_terms.specs.Values.{form_value}
 use Rattle.fair_rounds.specs.declared.records.Record.{Record}
-use Rattle.proof_rules.specs.Table.{Site, is_part_pair, is_defined, union_defined_of}
-use Rattle.proof_rules.proofs.UnionSound.{union_defined_sound}
+use Rattle.rules_table.specs.Table.{Site, is_part_pair, is_defined, union_defined_of}
+use Rattle.rules_table.proofs.UnionSound.{union_defined_sound}
 use Rattle.safety_rules.specs.Answers.{site_of}
 use Rattle.safety_rules.proofs.AnswerLaws.{needs_met, needs_not, refused, given_by}
 use Rattle.wp_substitution.proofs.AfterLaws.{length_of_state}

@@ -1,5 +1,5 @@
 use Rattle.std.proofs.Common.{take}
-use Rattle.proof_rules.specs.Forms.{imply}
+use Rattle.rules_table.specs.Forms.{imply}
 use Rattle.safety_rules.proofs.AnswerLaws.{AddedFor}
 use Rattle.union_theorem.proofs.shown.add_shown.Given as goal
 

@@ -1,7 +1,7 @@
 use Rattle.std.proofs.Common.{◌++◌, ap, ◌∙◌}
 use Rattle.fair_rounds.specs.declared.records.Record.{Record}
-use Rattle.proof_rules.specs.Table.{Site, record_of, concluded, shown_forms}
-use Rattle.safety_rules.specs.Answers.{site_of, Answers}
+use Rattle.rules_table.specs.Table.{Site, record_of, concluded, shown_forms}
+use Rattle.safety_rules.specs.Answers.{site_of, RuleAnswers}
 use Rattle.safety_rules.proofs.AnswerLaws.{refused_goals, rule_given}
 use Rattle.safety_rules.proofs.ErrorLaws.{handed_on}
 use Rattle.union_theorem.proofs.shown.united.Goals as goal
@@ -14,7 +14,7 @@ returns-in_err-add_both_shown c =
     let made : Record =
     record_of site c.args.kind c.args.p.now c.args.q.now (a.under ++ b.under) c.args.helper.now in
     let e = c.in_err-add_both_shown.field-0.0 in
-    handed_on (λ r. Answers r site.slots (concluded site.slots site.params made (shown_forms site a b)))
+    handed_on (λ r. RuleAnswers r site.slots (concluded site.slots site.params made (shown_forms site a b)))
     c.from_residual.result e c.from_residual.ensures.1
     (refused_goals site.slots site.params (Unit {0}) e c.new-goals.result c.add_both_shown.new.goals made
     (shown_forms site a b) c.in_err-add_both_shown.ensures)

@@ -3,9 +3,9 @@ use Rattle.case_tables.specs.declared.kind_table.Kind.{Kind}
 use Rattle.case_tables.specs.declared.code_table.Code.{Code}
 use Rattle.core_terms.specs.Trees.{same_form}
 use Rattle.fair_rounds.specs.declared.records.Record.{Record}
-use Rattle.proof_rules.specs.Table.{Site, record_of, concluded, shown_forms, is_part_pair, union_ensures_of}
-use Rattle.proof_rules.proofs.UnionSound.{union_ensures_sound}
-use Rattle.safety_rules.specs.Answers.{site_of, Answers}
+use Rattle.rules_table.specs.Table.{Site, record_of, concluded, shown_forms, is_part_pair, union_ensures_of}
+use Rattle.rules_table.proofs.UnionSound.{union_ensures_sound}
+use Rattle.safety_rules.specs.Answers.{site_of, RuleAnswers}
 use Rattle.safety_rules.proofs.AnswerLaws.{needs_met, needs_not, refused, given_by}
 use Rattle.safety_rules.proofs.SoundLaws.{site_good, answer_stands}
 use Rattle.union_theorem.proofs.UnionRows.{union_ensures-is, united_ensures, one_ensures}
@@ -53,7 +53,7 @@ returns-clause-answer c =
     ∙ needs_met (one_ensures a b) Code.WrongKind _ (sym c.is_ensured.ensures ∙ c.if-not-is_ensured.false)
     ∙ needs_met (same_form a.p b.p && same_form a.q b.q) Code.MiddleDiffers _ (sym c.are_alike.ensures
     ∙ c.if-not-are_alike.false))
-    (subst (λ h. Answers c.united.result site.slots (concluded site.slots site.params
+    (subst (λ h. RuleAnswers c.united.result site.slots (concluded site.slots site.params
     (record_of site Kind.Ensures a.p a.q (a.under ++ b.under) h) (shown_forms site a b))) c.first_helper.ensures
     c.united.ensures)
 

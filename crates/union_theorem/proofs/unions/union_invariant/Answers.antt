@@ -3,8 +3,8 @@ use Rattle.case_tables.specs.declared.code_table.Code.{Code}
 use Rattle.core_terms.specs.Trees.{same_form}
 use Rattle.core_terms.specs.declared.trees.CForm.TheVariants.{Bottom}
 use Rattle.fair_rounds.specs.declared.records.Record.{Record}
-use Rattle.proof_rules.specs.Table.{Site, is_part_pair, ending, union_invariant_of}
-use Rattle.proof_rules.proofs.UnionSound.{union_invariant_sound}
+use Rattle.rules_table.specs.Table.{Site, is_part_pair, ending, union_invariant_of}
+use Rattle.rules_table.proofs.UnionSound.{union_invariant_sound}
 use Rattle.safety_rules.specs.Answers.{site_of}
 use Rattle.safety_rules.proofs.AnswerLaws.{needs_met, needs_not, refused, given_by}
 use Rattle.safety_rules.proofs.SoundLaws.{site_good, answer_stands}

@@ -4,13 +4,13 @@ use Rattle.std.proofs.lemmas.List.{take-append-drop, length-take-le, drop-drop}
 use Rattle.unity_syntax.specs.declared.token.Token.{Token}
 use Rattle.unity_syntax.specs.declared.token.TokenKind.{TokenKind}
 use Rattle.unity_lexer.specs.declared.piece.Piece.TheVariants as pieces
-use Rattle.unity_lexer.specs.Tokens.{Reads, nothing, IsPart}
+use Rattle.unity_lexer.specs.Tokens.{Tokenizes, nothing, IsPartRead}
 use Rattle.unity_lexer.specs.Pieces.{BeginsWith}
 use Rattle.unity_lexer.proofs.Reading.{token_at, reads_gap, reads_token}
 use Rattle.unity_lexer.proofs.tokens.lex_part.Goals as goal
 
 pub loop-at-init : goal.loop-at-init
-loop-at-init c = subst (λ (tokens : List Token). IsPart c.args.from c.args.bytes.now tokens c.args.from)
+loop-at-init c = subst (λ (tokens : List Token). IsPartRead c.args.from c.args.bytes.now tokens c.args.from)
     (sym c.new-tokens.ensures)
     (record { reads = nothing; within = omega arith; size = omega arith })
 
@@ -18,17 +18,18 @@ loop-at-init c = subst (λ (tokens : List Token). IsPart c.args.from c.args.byte
 rest_is : (bytes : List ℕ) (at : ℕ) → take (length bytes - at) (drop at bytes) ≡ drop at bytes
 rest_is bytes at = take_all (length bytes - at) (drop at bytes) (omega (arith, length-drop at bytes))
 
-module _ (from : ℕ) (bytes : List ℕ) (tokens : List Token) (at size : ℕ) (part : IsPart from bytes tokens at) where
+module _ (from : ℕ) (bytes : List ℕ) (tokens : List Token) (at size : ℕ) (part : IsPartRead from bytes tokens at) where
   -- the next piece keeps the reader within the text
   still_within : size ≤ length (drop at bytes) → at + size ≤ length bytes
   still_within h = let w = part.within in omega (arith, length-drop at bytes)
 
-  moved : (ts : List Token) → size ≤ length (drop at bytes) → Reads from (drop from bytes) ts
-      (at + length (take size (drop at bytes))) (drop size (drop at bytes)) → Reads from (drop from bytes) ts (at + size)
+  moved : (ts : List Token) → size ≤ length (drop at bytes) → Tokenizes from (drop from bytes) ts
+      (at + length (take size (drop at bytes))) (drop size (drop at bytes)) → Tokenizes from (drop from bytes) ts
+      (at + size)
       (drop (at + size) bytes)
   moved ts fits r = rw (length-take-le size (drop at bytes) fits, drop-drop size at bytes) at r
 
-  after_gap : BeginsWith (drop at bytes) (pieces.Gap size) → IsPart from bytes tokens (at + size)
+  after_gap : BeginsWith (drop at bytes) (pieces.Gap size) → IsPartRead from bytes tokens (at + size)
   after_gap begins = record {
     reads = moved tokens begins.0.1 (reads_gap (take size (drop at bytes)) (drop size (drop at bytes))
         (sym (take-append-drop size (drop at bytes))) begins.1 part.reads);
@@ -36,11 +37,11 @@ module _ (from : ℕ) (bytes : List ℕ) (tokens : List Token) (at size : ℕ) (
     size = let s = part.size in omega arith;
   }
 
-  after_token : (k : TokenKind) → BeginsWith (drop at bytes) (pieces.Token k size) → IsPart from bytes
+  after_token : (k : TokenKind) → BeginsWith (drop at bytes) (pieces.Token k size) → IsPartRead from bytes
       (tokens ++ token_at at size k ∷ []) (at + size)
   after_token k begins = record {
     reads = moved (tokens ++ token_at at size k ∷ []) begins.0.1
-        (subst (λ n. Reads from (drop from bytes) (tokens ++ token_at at n k ∷ [])
+        (subst (λ n. Tokenizes from (drop from bytes) (tokens ++ token_at at n k ∷ [])
         (at + length (take size (drop at bytes))) (drop size (drop at bytes)))
         (length-take-le size (drop at bytes) begins.0.1)
         (reads_token (take size (drop at bytes)) (drop size (drop at bytes)) k begins.1 begins.2 part.reads));
@@ -54,12 +55,12 @@ module _ (from : ℕ) (bytes : List ℕ) (tokens : List Token) (at size : ℕ) (
   }
 
   gap_goes_on : BeginsWith (take (length bytes - at) (drop at bytes)) (pieces.Gap size) →
-      IsPart from bytes tokens (at + size)
+      IsPartRead from bytes tokens (at + size)
   gap_goes_on begins = after_gap (subst (λ t. BeginsWith t (pieces.Gap size)) (rest_is bytes at) begins)
 
   token_goes_on : (k : TokenKind) → BeginsWith (take (length bytes - at) (drop at bytes)) (pieces.Token k size) →
-      (next : List Token) → next ≡ tokens ++ token_at at size k ∷ [] → IsPart from bytes next (at + size)
-  token_goes_on k begins next e = subst (λ (ts : List Token). IsPart from bytes ts (at + size)) (sym e)
+      (next : List Token) → next ≡ tokens ++ token_at at size k ∷ [] → IsPartRead from bytes next (at + size)
+  token_goes_on k begins next e = subst (λ (ts : List Token). IsPartRead from bytes ts (at + size)) (sym e)
       (after_token k (subst (λ t. BeginsWith t (pieces.Token k size)) (rest_is bytes at) begins))
 
 pub loop-at-preserved-in-Gap : goal.loop-at-preserved-in-Gap

@@ -1,8 +1,8 @@
 use Rattle.std.proofs.Common.{sym, ◌∙◌}
 use Rattle.std.proofs.lemmas.Result.{err_from_is_err_and}
 use Rattle.unity_syntax.specs.View.{view_part}
-use Rattle.token_cursor.specs.Gives.{remaining}
-use Rattle.token_cursor.proofs.Repetition.{goes_on, ends, fails, shorter}
+use Rattle.parser_expressions.specs.Gives.{remaining}
+use Rattle.parser_expressions.proofs.Repetition.{goes_on, ends, fails, shorter}
 use Rattle.unity_parser.proofs.ItemForms.{is_part}
 use Rattle.unity_parser.proofs.documents.parts.Goals as goal
 

@@ -1,8 +1,8 @@
-use Rattle.ebnf.specs.Reader.{count}
+use Rattle.grammar_theory.specs.Reader.{count}
 use Rattle.unity_syntax.specs.Grammar.{part_}
 use Rattle.unity_syntax.specs.View.{view_part}
-use Rattle.token_cursor.specs.Gives.{remaining}
-use Rattle.token_cursor.proofs.Repetition.{Items}
+use Rattle.parser_expressions.specs.Gives.{remaining}
+use Rattle.parser_expressions.proofs.Repetition.{Items}
 use Rattle.unity_parser.proofs.documents.parts.Given as goal
 
 abbrev pub invariant-items : goal.invariant-items

@@ -2,7 +2,7 @@ use Rattle.std.proofs.Common.{◌≡◌, ◌++◌, ◌∷◌, [], List, rules, N
 use Rattle.case_tables.specs.declared.word_table.Word.{Word}
 use Rattle.unity_syntax.specs.declared.token.Token.{Token}
 use Rattle.unity_syntax.specs.declared.token.TokenKind.{TokenKind}
-use Rattle.unity_lexer.specs.Tokens.{IsPart}
+use Rattle.unity_lexer.specs.Tokens.{IsPartRead}
 use Rattle.unity_parser.specs.ParseAnswers.{IsDocumentOf}
 use Rattle.unity_parser.specs.Document.{IsDocument}
 use Rattle.unity_parser.proofs.SectionReadings.{document_with}
@@ -11,8 +11,8 @@ use Rattle.unity_parser.proofs.texts.by_parts.Goals as goal
 pub returns : goal.returns
 returns c =
     let popped : c.args.front.tokens ≡ c.pop.new.self ++ c.in_ok-word.word ∷ [] = search rules in
-    let part : IsPart 0 c.args.bytes.now (c.pop.new.self ++ c.in_ok-word.word ∷ []) c.args.front.end =
-    subst (λ (ts : List Token). IsPart 0 c.args.bytes.now ts c.args.front.end) popped c.requires in
+    let part : IsPartRead 0 c.args.bytes.now (c.pop.new.self ++ c.in_ok-word.word ∷ []) c.args.front.end =
+    subst (λ (ts : List Token). IsPartRead 0 c.args.bytes.now ts c.args.front.end) popped c.requires in
     let parsed : IsDocumentOf c.args.bytes.now c.pop.new.self c.in_ok-document.document =
     subst (λ (ts : List Token). IsDocumentOf c.args.bytes.now ts c.in_ok-document.document) c.as_slice.ensures
     (search rules) in

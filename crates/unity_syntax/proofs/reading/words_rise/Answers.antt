@@ -1,4 +1,4 @@
-use Rattle.ebnf.proofs.WordOrder.{words_kept}
+use Rattle.grammar_theory.proofs.WordOrder.{words_kept}
 use Rattle.unity_syntax.specs.Grammar.{grammar}
 use Rattle.unity_syntax.proofs.WordsKept.{bodies_keep, document_keeps}
 use Rattle.unity_syntax.proofs.reading.words_rise.Goals as goal

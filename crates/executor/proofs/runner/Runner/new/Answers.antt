@@ -1,6 +1,6 @@
 use Rattle.std.proofs.Common.{IsTrue, length, false, sym, ap, subst, ◌∙◌, refl}
 use Rattle.std.proofs.lemmas.Simd.{splat_is_map}
-use Rattle.state_steps.specs.State.{State, is_state}
+use Rattle.meaning_states.specs.State.{State, is_state}
 use Rattle.core_terms.specs.Steps.{slot_ranges}
 use Rattle.executor.specs.Preparing.{unmarked}
 use Rattle.executor.proofs.StateLaws.{form_runs, form_fits, statements_fit}

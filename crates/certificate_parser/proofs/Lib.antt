@@ -1,2 +1,0 @@
-pub mod CertificateLoops
-pub mod ItemForms

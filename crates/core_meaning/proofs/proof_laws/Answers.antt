@@ -1,8 +1,0 @@
-use Rattle.core_meaning.proofs.Proofs.{proofs_match, proofs_found}
-use Rattle.core_meaning.proofs.proof_laws.Goals as goal
-
-pub returns-clause-proofs : goal.returns-clause-proofs
-returns-clause-proofs c = proofs_match
-
-pub returns-clause-found : goal.returns-clause-found
-returns-clause-found c = proofs_found

@@ -1,8 +1,0 @@
-use Rattle.core_meaning.proofs.Sights.{sees_alike, sees_alike_among}
-use Rattle.core_meaning.proofs.sight_laws.Goals as goal
-
-pub returns-clause-outside : goal.returns-clause-outside
-returns-clause-outside c = sees_alike
-
-pub returns-clause-among : goal.returns-clause-among
-returns-clause-among c = sees_alike_among

@@ -1,6 +1,0 @@
-pub mod Lists
-pub mod Agreed
-pub mod Found
-pub mod Faultless
-pub mod Slots
-pub mod Names

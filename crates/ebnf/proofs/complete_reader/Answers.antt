@@ -1,5 +1,0 @@
-use Rattle.ebnf.proofs.Complete.{complete}
-use Rattle.ebnf.proofs.complete_reader.Goals as goal
-
-pub returns : goal.returns
-returns c = λ g e is good x ts derives levels rest. complete g is derives good levels rest

@@ -1,5 +1,0 @@
-use Rattle.ebnf.proofs.Theorems.{exact}
-use Rattle.ebnf.proofs.exact_answer.Goals as goal
-
-pub returns : goal.returns
-returns c = λ g e is form. exact g is e form

@@ -1,5 +1,0 @@
-use Rattle.ebnf.proofs.OneAnswer as answer
-use Rattle.ebnf.proofs.one_answer.Goals as goal
-
-pub returns : goal.returns
-returns c = λ g e is form levels ts. answer.one_answer g e ts is form levels

@@ -1,0 +1,13 @@
+pub mod Operations
+pub mod SameSteps
+pub mod Values
+pub mod DocumentValues
+pub mod Indices
+pub mod Doing
+pub mod DocumentSteps
+pub mod SameSight
+pub mod Matching
+pub mod Exactness
+pub mod Lightness
+pub mod LightEffects
+pub mod Agreeing

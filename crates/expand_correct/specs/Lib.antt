@@ -1,0 +1,4 @@
+pub mod Values
+pub mod Declared
+pub mod Exact
+pub mod Preserved

@@ -1,0 +1,3 @@
+pub mod AlwaysNames
+pub mod Cores
+pub mod Faults

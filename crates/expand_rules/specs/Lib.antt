@@ -1,0 +1,7 @@
+pub mod Measures
+pub mod Forming
+pub mod Limits
+pub mod Assigning
+pub mod Documents
+pub mod Lists
+pub mod Programs

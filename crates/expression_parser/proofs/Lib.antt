@@ -1,4 +1,0 @@
-pub mod BracketReading
-pub mod ExpressionTrees
-pub mod ItemForms
-pub mod JoinedReading

@@ -1,9 +1,0 @@
-use Rattle.std.proofs.Common.{◌∙◌, ap}
-use Rattle.std.proofs.lemmas.Result.{IfOk-weaker}
-use Rattle.unity_syntax.specs.View.{view_expr}
-use Rattle.expression_parser.proofs.ExpressionTrees.{sum_tree}
-use Rattle.expression_parser.proofs.nodes.long_sum.Goals as goal
-
-pub returns : goal.returns
-returns c = IfOk-weaker c.new.result _ _ (λ x e. ap view_expr e ∙ sum_tree c.args.at c.args.minus c.args.first
-    c.args.rest) c.new.ensures

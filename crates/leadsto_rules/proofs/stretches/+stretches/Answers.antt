@@ -1,0 +1,120 @@
+use Rattle.std.proofs.Common.{ℤ, List, true, false, cond, not, refl, ap, sym, subst, ◌∙◌, rules, w64, FitsSigned}
+use Rattle.std.proofs.lemmas.Int.{to_z-of_z}
+use Rattle.core_terms.specs.declared.documents.Arg.{Arg}
+use Rattle.core_terms.specs.declared.trees.CForm.TheVariants.{And, Or, AtLeast, Zero}
+use Rattle.core_terms.specs.declared.trees.CTerm.TheVariants.{Add, Sub, Scale, Ite}
+use Rattle.leadsto_rules.specs.Lines.{sum_line, difference_line, multiple_line}
+use Rattle.leadsto_rules.specs.Stretches.{IsLineOn, IsTruthOn}
+use Rattle.leadsto_rules.proofs.PartLaws.{on-Add, on-Sub, on-Scale, on-Ite, on-AtLeast, on-Zero, on-Not, on-And}
+use Rattle.leadsto_rules.proofs.PartLaws.{on-Or, fewer_numbers, shorter_line, on_true_weaker, on_true_given}
+use Rattle.leadsto_rules.proofs.stretches.+stretches.Goals as goal
+
+pub truth_from-returns-in_ok-truth_from-in-Not-clause-truth :
+    goal.truth_from-returns-in_ok-truth_from-in-Not-clause-truth
+truth_from-returns-in_ok-truth_from-in-Not-clause-truth t c args puts =
+    let z : ℤ = c.args.start.now.number in
+    let n = c.truth_from.new.reach in
+    let b = c.in_ok-truth_from-in-Not.field-0 in
+    let known = subst (λ f. IsTruthOn args z n f b) c.get.ensures (c.in_ok-truth_from-in-Not.ensures.truth args puts) in
+    subst (λ f. IsTruthOn args z n f (not b)) (sym c.in-Not.is) (on-Not args z n c.in-Not.g b known)
+
+pub at_least_from-returns-then-line_from-clause-truth : goal.at_least_from-returns-then-line_from-clause-truth
+at_least_from-returns-then-line_from-clause-truth t c args puts =
+    on-AtLeast args c.args.start.now.number c.line_from.new.reach c.at_least-stretch.result.reach c.args.t.now
+    c.line_from.new.line c.at_least-stretch.result.holds (c.if-line_from.ensures.line args puts)
+    c.at_least-stretch.ensures.within c.at_least-stretch.ensures.truth
+
+pub zero_from-returns-then-line_from-clause-truth : goal.zero_from-returns-then-line_from-clause-truth
+zero_from-returns-then-line_from-clause-truth t c args puts =
+    on-Zero args c.args.start.now.number c.line_from.new.reach c.zero-stretch.result.reach c.args.t.now
+    c.line_from.new.line c.zero-stretch.result.holds (c.if-line_from.ensures.line args puts)
+    c.zero-stretch.ensures.within c.zero-stretch.ensures.truth
+
+pub both_from-returns-clause-truth : goal.both_from-returns-clause-truth
+both_from-returns-clause-truth t c args puts =
+    let z : ℤ = c.args.start.now.number in
+    let m = c.truth_from.new.reach in
+    let n = c.truth_from-2.new.reach in
+    on-And args z n c.args.g.now c.args.h.now c.in_ok-first.first c.in_ok-second.second _
+    (subst (λ f. IsTruthOn args z n f c.in_ok-first.first) c.get-2.ensures (c.in_ok-first.ensures.truth args puts))
+    (fewer_numbers args z c.args.h.now c.in_ok-second.second m n c.truth_from-2.ensures.reach
+    (subst (λ f. IsTruthOn args z m f c.in_ok-second.second) c.get.ensures (c.in_ok-second.ensures.truth args puts)))
+    refl
+
+pub either_from-returns-clause-truth : goal.either_from-returns-clause-truth
+either_from-returns-clause-truth t c args puts =
+    let z : ℤ = c.args.start.now.number in
+    let m = c.truth_from.new.reach in
+    let n = c.truth_from-2.new.reach in
+    on-Or args z n c.args.g.now c.args.h.now c.in_ok-first.first c.in_ok-second.second _
+    (subst (λ f. IsTruthOn args z n f c.in_ok-first.first) c.get-2.ensures (c.in_ok-first.ensures.truth args puts))
+    (fewer_numbers args z c.args.h.now c.in_ok-second.second m n c.truth_from-2.ensures.reach
+    (subst (λ f. IsTruthOn args z m f c.in_ok-second.second) c.get.ensures (c.in_ok-second.ensures.truth args puts)))
+    refl
+
+pub line_from-returns-then-line_from-clause-line : goal.line_from-returns-then-line_from-clause-line
+line_from-returns-then-line_from-clause-line t c args puts =
+    let z : ℤ = c.args.start.now.number in
+    let n = c.line_from.new.reach in
+    let l = c.line_from.new.line in
+    let fits : FitsSigned w64 c.in-Scale.k = search rules in
+    let part = subst (λ a. IsLineOn args z n a l) c.get.ensures (c.if-line_from.ensures.line args puts) in
+    on_true_weaker _ _ c.multiply.result
+    (λ e. subst (λ u. IsLineOn args z n u c.multiply.new.line) (sym c.in-Scale.is)
+    (on-Scale args z n c.in-Scale.k c.in-Scale.a l c.multiply.new.line part
+    (e ∙ ap (λ k. multiple_line k l) (to_z-of_z w64 c.in-Scale.k fits)))) c.multiply.ensures
+
+pub choice_from-returns-in-Some-true-clause-line : goal.choice_from-returns-in-Some-true-clause-line
+choice_from-returns-in-Some-true-clause-line t c args puts =
+    let z : ℤ = c.args.start.now.number in
+    let m = c.truth_from.new.reach in
+    let n = c.line_from.new.reach in
+    let l = c.line_from.new.line in
+    let known = subst (λ f. IsTruthOn args z m f true) c.get.ensures
+    (subst (λ b. IsTruthOn args z m c.get.result.now b) c.in-Some-true.field-0-test
+    (c.in-Some-true.ensures.truth args puts)) in
+    on_true_weaker _ _ c.line_from.result
+    (λ h. on-Ite args z n c.args.c.now c.args.a.now c.args.b.now true l
+    (fewer_numbers args z c.args.c.now true m n c.line_from.ensures.reach known)
+    (subst (λ a. IsLineOn args z n a l) c.get-in-Some-true.ensures h)) (c.line_from.ensures.line args puts)
+
+pub choice_from-returns-in-Some-false-clause-line : goal.choice_from-returns-in-Some-false-clause-line
+choice_from-returns-in-Some-false-clause-line t c args puts =
+    let z : ℤ = c.args.start.now.number in
+    let m = c.truth_from.new.reach in
+    let n = c.line_from-in-Some-false.new.reach in
+    let l = c.line_from-in-Some-false.new.line in
+    let known = subst (λ f. IsTruthOn args z m f false) c.get.ensures
+    (subst (λ b. IsTruthOn args z m c.get.result.now b) c.in-Some-false.field-0-test
+    (c.in-Some-false.ensures.truth args puts)) in
+    on_true_weaker _ _ c.line_from-in-Some-false.result
+    (λ h. on-Ite args z n c.args.c.now c.args.a.now c.args.b.now false l
+    (fewer_numbers args z c.args.c.now false m n c.line_from-in-Some-false.ensures.reach known)
+    (subst (λ a. IsLineOn args z n a l) c.get-in-Some-false.ensures h))
+    (c.line_from-in-Some-false.ensures.line args puts)
+
+pub sum_from-returns-clause-line : goal.sum_from-returns-clause-line
+sum_from-returns-clause-line t c args puts =
+    let z : ℤ = c.args.start.now.number in
+    let m = c.line_from.new.reach in
+    let n = c.line_from-2.new.reach in
+    let l = c.line_from-2.new.line in
+    let k = c.line_from.new.line in
+    let first = subst (λ x. IsLineOn args z n x l) c.get-2.ensures (c.if-not-line_from-2.ensures.line args puts) in
+    let second = shorter_line args z c.args.b.now k m n c.line_from-2.ensures.reach
+    (subst (λ x. IsLineOn args z m x k) c.get.ensures (c.if-not-line_from.ensures.line args puts)) in
+    on_true_weaker _ _ c.add.result
+    (λ e. on-Add args z n c.args.a.now c.args.b.now l k c.add.new.line first second e) c.add.ensures
+
+pub difference_from-returns-clause-line : goal.difference_from-returns-clause-line
+difference_from-returns-clause-line t c args puts =
+    let z : ℤ = c.args.start.now.number in
+    let m = c.line_from.new.reach in
+    let n = c.line_from-2.new.reach in
+    let l = c.line_from-2.new.line in
+    let k = c.line_from.new.line in
+    let first = subst (λ x. IsLineOn args z n x l) c.get-2.ensures (c.if-not-line_from-2.ensures.line args puts) in
+    let second = shorter_line args z c.args.b.now k m n c.line_from-2.ensures.reach
+    (subst (λ x. IsLineOn args z m x k) c.get.ensures (c.if-not-line_from.ensures.line args puts)) in
+    on_true_weaker _ _ c.subtract.result
+    (λ e. on-Sub args z n c.args.a.now c.args.b.now l k c.subtract.new.line first second e) c.subtract.ensures

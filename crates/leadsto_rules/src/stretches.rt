@@ -1,0 +1,195 @@
+// The truth of a formula from a number on. What is found stands beside the result, and nodes of several parts have
+// functions of their own: so the frames are small.
+ghost use Rattle.std.specs.Prelude.{◌≡◌, ℕ, ◌≤◌, ℤ, List, IfSome};
+ghost use Rattle.std.specs.Bool.{OnTrue};
+ghost use Rattle.core_terms.specs.declared.documents.Arg.{Arg};
+ghost use Rattle.core_terms.specs.declared.trees.CForm.TheVariants.{AtLeast, Zero, And, Or};
+ghost use Rattle.core_terms.specs.declared.trees.CTerm.TheVariants.{Param, Add, Sub, Ite};
+ghost use Rattle.leadsto_rules.specs.Stretches.{PutsNumber, IsLineOn, IsTruthOn};
+
+use crate::lines::{Line, Start, Stretch, add, at_least, known_line, multiply, subtract, zero};
+use core_terms::{CForm, CTerm};
+use unity_base::Held;
+
+/// Whether the formula holds where the number is put for the parameter, and for how many of the further numbers it
+/// stays so. `None` where that is not known, as where the formula names a slot or another parameter.
+pub fn truth_on(f: &CForm, start: &Start) -> Option<Stretch>
+    ensures truth { (args : ℤ → List Arg) → PutsNumber start.now.name args →
+        IfSome result (λ s. IsTruthOn args start.now.number s.reach f.now s.holds) }
+    ensures reach { IfSome result (λ s. s.reach ≤ start.now.reach) }
+{
+    let mut reach = start.reach;
+    let holds = truth_from(f, start, &mut reach)?;
+    Some(Stretch { holds, reach })
+}
+
+// Whether the formula holds, for so many numbers; they become fewer where it does not stay so.
+#[cycle(stretches)]
+fn truth_from(f: &CForm, start: &Start, reach: &mut u64) -> Option<bool>
+    ensures truth { (args : ℤ → List Arg) → PutsNumber start.now.name args →
+        IfSome result (IsTruthOn args start.now.number reach.new f.now) }
+    ensures reach { reach.new ≤ reach.old }
+{
+    match f {
+        CForm::Top => Some(true),
+        CForm::Bottom => Some(false),
+        CForm::AtLeast(t) => at_least_from(t, start, reach),
+        CForm::Zero(t) => zero_from(t, start, reach),
+        CForm::Not(g) => Some(!truth_from(g.get(), start, reach)?),
+        CForm::And(g, h) => both_from(g, h, start, reach),
+        CForm::Or(g, h) => either_from(g, h, start, reach),
+    }
+}
+
+#[cycle(stretches)]
+#[inline(never)]
+fn at_least_from(t: &CTerm, start: &Start, reach: &mut u64) -> Option<bool>
+    ensures truth { (args : ℤ → List Arg) → PutsNumber start.now.name args →
+        IfSome result (IsTruthOn args start.now.number reach.new (AtLeast t.now)) }
+    ensures reach { reach.new ≤ reach.old }
+{
+    let mut line = Line { value: 0, slope: 0 };
+    if line_from(t, start, reach, &mut line) {
+        let stretch = at_least(line, *reach);
+        *reach = stretch.reach;
+        Some(stretch.holds)
+    } else {
+        None
+    }
+}
+
+#[cycle(stretches)]
+#[inline(never)]
+fn zero_from(t: &CTerm, start: &Start, reach: &mut u64) -> Option<bool>
+    ensures truth { (args : ℤ → List Arg) → PutsNumber start.now.name args →
+        IfSome result (IsTruthOn args start.now.number reach.new (Zero t.now)) }
+    ensures reach { reach.new ≤ reach.old }
+{
+    let mut line = Line { value: 0, slope: 0 };
+    if line_from(t, start, reach, &mut line) {
+        let stretch = zero(line, *reach);
+        *reach = stretch.reach;
+        Some(stretch.holds)
+    } else {
+        None
+    }
+}
+
+#[cycle(stretches)]
+#[inline(never)]
+fn both_from(g: &Held<CForm>, h: &Held<CForm>, start: &Start, reach: &mut u64) -> Option<bool>
+    ensures truth { (args : ℤ → List Arg) → PutsNumber start.now.name args →
+        IfSome result (IsTruthOn args start.now.number reach.new (And g.now h.now)) }
+    ensures reach { reach.new ≤ reach.old }
+{
+    let second = truth_from(h.get(), start, reach)?;
+    let first = truth_from(g.get(), start, reach)?;
+    Some(first & second)
+}
+
+#[cycle(stretches)]
+#[inline(never)]
+fn either_from(g: &Held<CForm>, h: &Held<CForm>, start: &Start, reach: &mut u64) -> Option<bool>
+    ensures truth { (args : ℤ → List Arg) → PutsNumber start.now.name args →
+        IfSome result (IsTruthOn args start.now.number reach.new (Or g.now h.now)) }
+    ensures reach { reach.new ≤ reach.old }
+{
+    let second = truth_from(h.get(), start, reach)?;
+    let first = truth_from(g.get(), start, reach)?;
+    Some(first | second)
+}
+
+// Whether the line of the term is known, for so many numbers; they become fewer where another line begins.
+#[cycle(stretches)]
+fn line_from(t: &CTerm, start: &Start, reach: &mut u64, line: &mut Line) -> bool
+    ensures line { (args : ℤ → List Arg) → PutsNumber start.now.name args →
+        OnTrue result (IsLineOn args start.now.number reach.new t.now line.new) }
+    ensures reach { reach.new ≤ reach.old }
+{
+    match t {
+        CTerm::Const(c) => known_line(line, *c, 0),
+        CTerm::Slot(_) => false,
+        CTerm::Param(n) => param_line(*n, start, line),
+        CTerm::Add(a, b) => sum_from(a, b, start, reach, line),
+        CTerm::Sub(a, b) => difference_from(a, b, start, reach, line),
+        CTerm::Scale(k, a) => line_from(a.get(), start, reach, line) && multiply(*k, line),
+        CTerm::Ite(c, a, b) => choice_from(c, a, b, start, reach, line),
+    }
+}
+
+// The line of the parameter.
+#[inline(never)]
+fn param_line(name: u32, start: &Start, line: &mut Line) -> bool
+    ensures { (args : ℤ → List Arg) (reach : ℕ) → PutsNumber start.now.name args →
+        OnTrue result (IsLineOn args start.now.number reach (Param name) line.new) }
+{
+    name == start.name && known_line(line, start.number, 1)
+}
+
+#[cycle(stretches)]
+#[inline(never)]
+fn sum_from(
+    a: &Held<CTerm>,
+    b: &Held<CTerm>,
+    start: &Start,
+    reach: &mut u64,
+    line: &mut Line,
+) -> bool
+    ensures line { (args : ℤ → List Arg) → PutsNumber start.now.name args →
+        OnTrue result (IsLineOn args start.now.number reach.new (Add a.now b.now) line.new) }
+    ensures reach { reach.new ≤ reach.old }
+{
+    let mut second = Line { value: 0, slope: 0 };
+    if !line_from(b.get(), start, reach, &mut second) {
+        return false;
+    }
+    if !line_from(a.get(), start, reach, line) {
+        return false;
+    }
+    add(line, &second)
+}
+
+#[cycle(stretches)]
+#[inline(never)]
+fn difference_from(
+    a: &Held<CTerm>,
+    b: &Held<CTerm>,
+    start: &Start,
+    reach: &mut u64,
+    line: &mut Line,
+) -> bool
+    ensures line { (args : ℤ → List Arg) → PutsNumber start.now.name args →
+        OnTrue result (IsLineOn args start.now.number reach.new (Sub a.now b.now) line.new) }
+    ensures reach { reach.new ≤ reach.old }
+{
+    let mut second = Line { value: 0, slope: 0 };
+    if !line_from(b.get(), start, reach, &mut second) {
+        return false;
+    }
+    if !line_from(a.get(), start, reach, line) {
+        return false;
+    }
+    subtract(line, &second)
+}
+
+// The line of the branch, for as long as it is the same.
+#[cycle(stretches)]
+#[inline(never)]
+fn choice_from(
+    c: &Held<CForm>,
+    a: &Held<CTerm>,
+    b: &Held<CTerm>,
+    start: &Start,
+    reach: &mut u64,
+    line: &mut Line,
+) -> bool
+    ensures line { (args : ℤ → List Arg) → PutsNumber start.now.name args →
+        OnTrue result (IsLineOn args start.now.number reach.new (Ite c.now a.now b.now) line.new) }
+    ensures reach { reach.new ≤ reach.old }
+{
+    match truth_from(c.get(), start, reach) {
+        Some(true) => line_from(a.get(), start, reach, line),
+        Some(false) => line_from(b.get(), start, reach, line),
+        None => false,
+    }
+}

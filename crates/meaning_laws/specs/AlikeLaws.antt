@@ -1,0 +1,56 @@
+-- Systems that are alike have the same properties.
+use Rattle.std.specs.Prelude.{◌≡◌, ℕ, List, IsTrue, length}
+use Rattle.meaning_states.specs.State.{State, Ranges, is_state}
+use Rattle.meaning_documents.specs.Setting.{Setting, slot_ranges}
+use Rattle.meaning_documents.specs.Programs.{Composed}
+use Rattle.meaning_documents.specs.Execution.{System, IsExecution, system_of, is_initial, chosen_step}
+use Rattle.meaning_documents.specs.Properties.{Test, IsAlwaysDefined, IsInvariant, Unless, Ensures, LeadsTo}
+use Rattle.meaning_laws.specs.Systems.{kept}
+use Rattle.meaning_laws.specs.Alike.{StepEquivalent, SameAt}
+
+-- to be alike a program of a document is to start as it does, and at each state of the document to step as it does
+abbrev pub SourceAlike : Type 0
+SourceAlike = (g : Setting) (c : Composed) (y : System) → length c.instances ≡ length y.steps →
+    ((state : State) → is_initial g c state ≡ y.initial state) →
+    ((state : State) (choice : ℕ) → IsTrue (is_state (slot_ranges g.variables) state) →
+    chosen_step (system_of g c) choice state ≡ chosen_step y choice state) →
+    StepEquivalent (slot_ranges g.variables) (system_of g c) y
+
+-- the second is alike the first; so each law below leads back too
+abbrev pub AlikeBack : Type 0
+AlikeBack = (ranges : Ranges) (x y : System) → StepEquivalent ranges x y → StepEquivalent ranges y x
+
+-- kept to tests that pass at the same states, they are alike too
+abbrev pub KeptAlike : Type 0
+KeptAlike = (ranges : Ranges) (x y : System) → StepEquivalent ranges x y → (u v : Test) → SameAt ranges u v →
+    StepEquivalent ranges (kept u x) (kept v y)
+
+-- they have the same executions
+abbrev pub RunsAlike : Type 0
+RunsAlike = (ranges : Ranges) (x y : System) → StepEquivalent ranges x y →
+    (first : State) (choices : List ℕ) (later : List State) → IsExecution x first choices later →
+    IsExecution y first choices later
+
+-- what one claims by `defined`, the other does
+abbrev pub DefinedAlike : Type 0
+DefinedAlike = (ranges : Ranges) (x y : System) → StepEquivalent ranges x y → IsAlwaysDefined x → IsAlwaysDefined y
+
+-- by `invariant p`, for tests that pass at the same states
+abbrev pub InvariantAlike : Type 0
+InvariantAlike = (ranges : Ranges) (x y : System) → StepEquivalent ranges x y → (p p' : Test) → SameAt ranges p p' →
+    IsInvariant x p → IsInvariant y p'
+
+-- by `p unless q`, and so by `stable p`
+abbrev pub UnlessAlike : Type 0
+UnlessAlike = (ranges : Ranges) (x y : System) → StepEquivalent ranges x y → (p q p' q' : Test) →
+    SameAt ranges p p' → SameAt ranges q q' → Unless x p q → Unless y p' q'
+
+-- by `p ensures q`
+abbrev pub EnsuresAlike : Type 0
+EnsuresAlike = (ranges : Ranges) (x y : System) → StepEquivalent ranges x y → (p q p' q' : Test) →
+    SameAt ranges p p' → SameAt ranges q q' → Ensures x p q → Ensures y p' q'
+
+-- by `p leadsto q`, within the same bound
+abbrev pub LeadsAlike : Type 0
+LeadsAlike = (ranges : Ranges) (x y : System) → StepEquivalent ranges x y → (p q p' q' : Test) (bound : ℕ) →
+    SameAt ranges p p' → SameAt ranges q q' → LeadsTo x p q bound → LeadsTo y p' q' bound

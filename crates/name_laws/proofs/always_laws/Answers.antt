@@ -1,5 +1,0 @@
-use Rattle.name_laws.proofs.AlwaysNames.{defined_is_always}
-use Rattle.name_laws.proofs.always_laws.Goals as goal
-
-pub returns : goal.returns
-returns c = defined_is_always

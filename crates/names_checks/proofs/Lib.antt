@@ -1,0 +1,3 @@
+pub mod ReadingSteps
+pub mod StatementLaws
+pub mod Taking

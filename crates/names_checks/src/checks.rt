@@ -1,0 +1,82 @@
+//! Conditions, and the faults where they fail.
+
+ghost use Rattle.std.specs.Prelude.{◌≡◌};
+ghost use Rattle.names_rules.specs.Scope.{Scope};
+ghost use Rattle.names_rules.specs.Reading.{read, same_sort, unless};
+ghost use Rattle.names_rules.specs.Answers.{After, Demands, FitsSort};
+
+use case_tables::Code;
+use names_rules::{NameFault, Sort, Typed};
+use unity_syntax::Expr;
+
+/// A fault unless this is so.
+pub fn demand(holds: bool, code: Code, at: u64) -> Result<(), NameFault>
+    ensures { Demands result (unless holds code at) }
+{
+    if holds {
+        Ok(())
+    } else {
+        Err(NameFault::Fault { code, at })
+    }
+}
+
+/// Whether two types are one.
+pub fn same(a: Sort, b: Sort) -> bool
+    ensures { result ≡ same_sort a b }
+{
+    match (a, b) {
+        (Sort::Number, Sort::Number) => true,
+        (Sort::Boolean, Sort::Boolean) => true,
+        (Sort::Words { at: m, last: _ }, Sort::Words { at: n, last: _ }) => m == n,
+        _ => false,
+    }
+}
+
+/// An operand that is to have a type.
+pub fn has_type(found: Typed, wanted: Sort, at: u64) -> Result<Typed, NameFault>
+    ensures { FitsSort result found wanted at }
+{
+    if same(found.sort, wanted) {
+        Ok(Typed {
+            sort: wanted,
+            constant: found.constant,
+        })
+    } else {
+        Err(NameFault::Fault {
+            code: Code::WrongType,
+            at,
+        })
+    }
+}
+
+/// An operand, and those that follow it.
+pub fn after(first: Typed, sort: Sort, rest: Result<Typed, NameFault>) -> Result<Typed, NameFault>
+    ensures { After result first sort rest }
+{
+    let rest = rest?;
+    Ok(Typed {
+        sort,
+        constant: first.constant & rest.constant,
+    })
+}
+
+/// The first byte of an expression.
+pub fn place(e: &Expr) -> u64
+    ensures { (s : Scope) → (read e.now s).at ≡ result }
+{
+    match e {
+        Expr::Implies { at, .. } => *at,
+        Expr::And { at, .. } => *at,
+        Expr::Or { at, .. } => *at,
+        Expr::Not { at, .. } => *at,
+        Expr::Compare { at, .. } => *at,
+        Expr::Sum { at, .. } => *at,
+        Expr::Product { at, .. } => *at,
+        Expr::Number { at, .. } => *at,
+        Expr::True { at, .. } => *at,
+        Expr::False { at, .. } => *at,
+        Expr::Word { at, .. } => *at,
+        Expr::Brackets { at, .. } => *at,
+        Expr::Quantified { at, .. } => *at,
+    }
+}

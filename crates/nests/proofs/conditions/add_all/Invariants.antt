@@ -1,6 +1,0 @@
-use Rattle.std.proofs.Common.{◌++◌, take}
-use Rattle.nests.specs.Conditions.{Entails}
-use Rattle.nests.proofs.conditions.add_all.Given as goal
-
-abbrev pub invariant-loop-c : goal.invariant-loop-c
-invariant-loop-c l = Entails (l.initial.list ++ take l.c-index l.conditions) l.list

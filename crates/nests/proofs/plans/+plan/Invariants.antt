@@ -1,5 +1,0 @@
-use Rattle.std.proofs.Common.{length}
-use Rattle.nests.proofs.plans.+plan.Given as goal
-
-abbrev pub decreases-plan : goal.decreases-plan
-decreases-plan l = length l.ranges.now

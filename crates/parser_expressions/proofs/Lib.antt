@@ -1,0 +1,11 @@
+pub mod BoundReading
+pub mod Failing
+pub mod Giving
+pub mod ItemForms
+pub mod Levels
+pub mod Repetition
+pub mod WordClasses
+pub mod BracketReading
+pub mod ExpressionTrees
+pub mod OperandForms
+pub mod JoinedReading

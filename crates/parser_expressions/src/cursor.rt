@@ -1,0 +1,336 @@
+//! Tokens that are still to be read, and the reading of one of them.
+
+ghost use Rattle.std.specs.Prelude.{◌≡◌, IfOk, slice_range, [], ◌∷◌, map, true, false, MatchOption, Ok};
+ghost use Rattle.case_tables.specs.declared.word_table.Word.{Word};
+ghost use Rattle.case_tables.specs.declared.symbol_table.Symbol.{Symbol};
+ghost use Rattle.grammar_theory.specs.Ebnf.{choice, has, place_of, one_of};
+ghost use Rattle.grammar_theory.specs.LookAhead.{first};
+ghost use Rattle.grammar_theory.specs.Reader.{begins, read};
+ghost use Rattle.unity_syntax.specs.Classes.{name_class, number_class, reserved, symbol, class_of};
+ghost use Rattle.unity_syntax.specs.Grammar.{grammar, name_, number_, minus_, plus_or_minus_, relation_, quantified_};
+ghost use Rattle.unity_syntax.specs.View.{view_name, view_number, view_flag};
+ghost use Rattle.parser_expressions.specs.Gives.{Skips, Reads, remaining};
+
+use crate::stop::{Parsed, Stop};
+use case_tables::{Symbol, Word};
+use std::alloc::{AllocError, Global};
+use unity_base::Seq;
+use unity_syntax::{Name, Token, TokenKind};
+
+/// The tokens that are left of a text, and the text's bytes.
+#[derive(Clone, Copy)]
+pub struct Cursor<'a> {
+    pub bytes: &'a [u8],
+    pub tokens: &'a [Token],
+}
+
+/// The relations of numbers.
+const RELATIONS: &[Symbol] = &[
+    Symbol::Equal,
+    Symbol::NotEqual,
+    Symbol::Below,
+    Symbol::AtMost,
+    Symbol::Above,
+    Symbol::AtLeast,
+];
+
+/// Whether a token of this kind is the symbol.
+fn is_symbol(kind: TokenKind, wanted: Symbol) -> bool
+    ensures { result ≡ has (symbol wanted ∷ []) (class_of kind) }
+{
+    match kind {
+        TokenKind::Symbol(symbol) => symbol == wanted,
+        _ => false,
+    }
+}
+
+/// Whether a token of this kind is the reserved word.
+fn is_reserved(kind: TokenKind, wanted: Word) -> bool
+    ensures { result ≡ has (reserved wanted ∷ []) (class_of kind) }
+{
+    match kind {
+        TokenKind::Reserved(word) => word == wanted,
+        _ => false,
+    }
+}
+
+/// Which of these symbols a token of this kind is.
+fn symbol_in(kind: TokenKind, wanted: &[Symbol]) -> Option<Symbol>
+    ensures { let is_one = has (map symbol wanted.now) (class_of kind) in
+        MatchOption result (is_one ≡ false) (λ found. (is_one ≡ true) × (class_of kind ≡ symbol found)) }
+{
+    for symbol in wanted {
+        if is_symbol(kind, *symbol) {
+            return Some(*symbol);
+        }
+    }
+    None
+}
+
+/// Which of these reserved words a token of this kind is.
+fn word_in(kind: TokenKind, wanted: &[Word]) -> Option<Word>
+    ensures { let is_one = has (map reserved wanted.now) (class_of kind) in
+        MatchOption result (is_one ≡ false) (λ found. (is_one ≡ true) × (class_of kind ≡ reserved found)) }
+{
+    for word in wanted {
+        if is_reserved(kind, *word) {
+            return Some(*word);
+        }
+    }
+    None
+}
+
+impl<'a> Cursor<'a> {
+    /// The place of the next token.
+    pub fn place(self) -> u64
+        ensures { result ≡ place_of (remaining self.entry) }
+    {
+        match self.tokens {
+            [] => 0,
+            [first, ..] => first.start,
+        }
+    }
+
+    /// Whether the next token is this symbol.
+    pub fn begins_symbol(self, wanted: Symbol) -> bool
+        ensures { result ≡ begins (symbol wanted ∷ []) (remaining self.entry) }
+    {
+        match self.tokens {
+            [] => false,
+            [first, ..] => is_symbol(first.kind, wanted),
+        }
+    }
+
+    /// Whether the next token is this reserved word.
+    pub fn begins_reserved(self, wanted: Word) -> bool
+        ensures { result ≡ begins (reserved wanted ∷ []) (remaining self.entry) }
+    {
+        match self.tokens {
+            [] => false,
+            [first, ..] => is_reserved(first.kind, wanted),
+        }
+    }
+
+    /// Whether the next token is one of these symbols.
+    pub fn begins_one_symbol(self, wanted: &[Symbol]) -> bool
+        ensures { result ≡ begins (map symbol wanted.now) (remaining self.entry) }
+    {
+        match self.tokens {
+            [] => false,
+            [first, ..] => symbol_in(first.kind, wanted).is_some(),
+        }
+    }
+
+    /// Whether the next token is one of these reserved words.
+    pub fn begins_one_reserved(self, wanted: &[Word]) -> bool
+        ensures { result ≡ begins (map reserved wanted.now) (remaining self.entry) }
+    {
+        match self.tokens {
+            [] => false,
+            [first, ..] => word_in(first.kind, wanted).is_some(),
+        }
+    }
+
+    /// Whether the next token is `-` or a number.
+    pub fn begins_signed_number(self) -> bool
+        ensures { result ≡ begins (symbol Symbol.Minus ∷ number_class ∷ []) (remaining self.entry) }
+    {
+        match self.tokens {
+            [] => false,
+            [first, ..] => match first.kind {
+                TokenKind::Number(_) => true,
+                kind => is_symbol(kind, Symbol::Minus),
+            },
+        }
+    }
+
+    /// Whether the next token is a name.
+    pub fn begins_name(self) -> bool
+        ensures { result ≡ begins (name_class ∷ []) (remaining self.entry) }
+    {
+        match self.tokens {
+            [] => false,
+            [first, ..] => matches!(first.kind, TokenKind::Word),
+        }
+    }
+
+    /// Whether the next token is a number.
+    pub fn begins_number(self) -> bool
+        ensures { result ≡ begins (number_class ∷ []) (remaining self.entry) }
+    {
+        match self.tokens {
+            [] => false,
+            [first, ..] => matches!(first.kind, TokenKind::Number(_)),
+        }
+    }
+
+    /// What remains after the symbol, which has to come.
+    pub fn symbol(self, wanted: Symbol) -> Result<Cursor<'a>, Stop<'a>>
+        ensures { Skips (symbol wanted) result self.entry }
+    {
+        let [first, tokens @ ..] = self.tokens else {
+            return Err(Stop::Unexpected(self));
+        };
+        if is_symbol(first.kind, wanted) {
+            return Ok(Cursor { tokens, ..self });
+        }
+        Err(Stop::Unexpected(self))
+    }
+
+    /// What remains after the reserved word, which has to come.
+    pub fn reserved(self, wanted: Word) -> Result<Cursor<'a>, Stop<'a>>
+        ensures { Skips (reserved wanted) result self.entry }
+    {
+        let [first, tokens @ ..] = self.tokens else {
+            return Err(Stop::Unexpected(self));
+        };
+        if is_reserved(first.kind, wanted) {
+            return Ok(Cursor { tokens, ..self });
+        }
+        Err(Stop::Unexpected(self))
+    }
+
+    /// What remains after the word `end`, which has to come.
+    pub fn end(self) -> Result<Cursor<'a>, Stop<'a>>
+        ensures { Skips (reserved Word.End) result self.entry }
+    {
+        self.reserved(Word::End)
+    }
+
+    /// Which of these symbols comes, as one has to, and what remains after it.
+    pub fn one_symbol(self, wanted: &[Symbol]) -> Parsed<'a, Symbol>
+        ensures { Reads (λ x. choice (symbol x)) result (one_of (map symbol wanted.now)) 0 self.entry }
+    {
+        let [first, tokens @ ..] = self.tokens else {
+            return Err(Stop::Unexpected(self));
+        };
+        match symbol_in(first.kind, wanted) {
+            Some(symbol) => Ok((symbol, Cursor { tokens, ..self })),
+            None => Err(Stop::Unexpected(self)),
+        }
+    }
+
+    /// Which of these reserved words comes, as one has to, and what remains after it.
+    pub fn one_reserved(self, wanted: &[Word]) -> Parsed<'a, Word>
+        ensures { Reads (λ x. choice (reserved x)) result (one_of (map reserved wanted.now)) 0 self.entry }
+    {
+        let [first, tokens @ ..] = self.tokens else {
+            return Err(Stop::Unexpected(self));
+        };
+        match word_in(first.kind, wanted) {
+            Some(word) => Ok((word, Cursor { tokens, ..self })),
+            None => Err(Stop::Unexpected(self)),
+        }
+    }
+
+    /// Whether the next token is `+` or `-`.
+    pub fn begins_sign(self) -> bool
+        ensures { result ≡ begins (symbol Symbol.Plus ∷ symbol Symbol.Minus ∷ []) (remaining self.entry) }
+    {
+        self.begins_one_symbol(&[Symbol::Plus, Symbol::Minus])
+    }
+
+    /// `+` or `-`, and what remains after it.
+    pub fn sign(self) -> Parsed<'a, Symbol>
+        ensures { Reads (λ x. choice (symbol x)) result plus_or_minus_ 0 self.entry }
+    {
+        self.one_symbol(&[Symbol::Plus, Symbol::Minus])
+    }
+
+    /// Whether the next token is a relation of numbers.
+    pub fn begins_relation(self) -> bool
+        ensures { result ≡ begins (first relation_) (remaining self.entry) }
+    {
+        self.begins_one_symbol(RELATIONS)
+    }
+
+    /// A relation of numbers, and what remains after it.
+    pub fn relation(self) -> Parsed<'a, Symbol>
+        ensures { Reads (λ x. choice (symbol x)) result relation_ 0 self.entry }
+    {
+        self.one_symbol(RELATIONS)
+    }
+
+    /// Whether the next token is `all`, `any` or `sum`.
+    #[tactic(auto, unfolding(unity_syntax::specs::Grammar::quantified_))]
+    pub fn begins_quantifier(self) -> bool
+        ensures { result ≡ begins (first quantified_) (remaining self.entry) }
+    {
+        self.begins_one_reserved(&[Word::All, Word::Any, Word::Sum])
+    }
+
+    /// `all`, `any` or `sum`, and what remains after it.
+    pub fn quantifier(self) -> Parsed<'a, Word>
+        ensures { Reads (λ x. choice (reserved x)) result
+            (one_of (map reserved (Word.All ∷ Word.Any ∷ Word.Sum ∷ []))) 0 self.entry }
+    {
+        self.one_reserved(&[Word::All, Word::Any, Word::Sum])
+    }
+
+    /// Whether `-` comes, and what remains after it.
+    pub fn minus(self) -> (bool, Cursor<'a>)
+        ensures { read grammar 0 minus_ (remaining self.entry) ≡ Ok (view_flag result.0, remaining result.1) }
+    {
+        match self.tokens {
+            [first, tokens @ ..] if is_symbol(first.kind, Symbol::Minus) => (
+                true,
+                Cursor { tokens, ..self },
+            ),
+            _ => (false, self),
+        }
+    }
+
+    /// A name, and what remains after it.
+    pub fn name(self, alloc: Global) -> Parsed<'a, Name>
+        ensures { Reads view_name result name_ 0 self.entry }
+    {
+        let [first, tokens @ ..] = self.tokens else {
+            return Err(Stop::Unexpected(self));
+        };
+        match first.kind {
+            TokenKind::Word => {
+                let text = between(self.bytes, first.start as usize, first.end as usize);
+                let text = copied(alloc, text)?;
+                let name = Name {
+                    at: first.start,
+                    text,
+                };
+                Ok((name, Cursor { tokens, ..self }))
+            }
+            _ => Err(Stop::Unexpected(self)),
+        }
+    }
+
+    /// A number, and what remains after it.
+    pub fn number(self) -> Parsed<'a, u64>
+        ensures { Reads view_number result number_ 0 self.entry }
+    {
+        let [first, tokens @ ..] = self.tokens else {
+            return Err(Stop::Unexpected(self));
+        };
+        match first.kind {
+            TokenKind::Number(value) => Ok((value, Cursor { tokens, ..self })),
+            _ => Err(Stop::Unexpected(self)),
+        }
+    }
+}
+
+/// The bytes from one place up to another, as far as there are any.
+fn between(bytes: &[u8], start: usize, end: usize) -> &[u8]
+    ensures { result.now ≡ slice_range bytes.now start end }
+{
+    let from = start.min(bytes.len());
+    let to = end.min(bytes.len()).max(from);
+    &bytes[from..to]
+}
+
+/// A list of the bytes.
+fn copied(alloc: Global, bytes: &[u8]) -> Result<Seq<u8>, AllocError>
+    ensures { IfOk result (λ text. text ≡ bytes.now) }
+{
+    let mut text = Seq::new(alloc);
+    for byte in bytes {
+        text.push(*byte)?;
+    }
+    Ok(text)
+}

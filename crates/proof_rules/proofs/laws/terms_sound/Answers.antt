@@ -1,9 +1,0 @@
-use Rattle.proof_rules.proofs.TermSound.{term_sound}
-use Rattle.proof_rules.proofs.DeriveSound.{derive_sound}
-use Rattle.proof_rules.proofs.laws.terms_sound.Goals as goal
-
-pub returns-clause-term : goal.returns-clause-term
-returns-clause-term c = term_sound
-
-pub returns-clause-derive : goal.returns-clause-derive
-returns-clause-derive c = derive_sound

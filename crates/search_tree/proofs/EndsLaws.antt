@@ -1,0 +1,247 @@
+-- Every branch that is ready is closed within its leaves' units, or there are values that make all of it hold.
+use Rattle.std.proofs.Common.{◌≡◌, ℕ, zero, suc, ◌+◌, ◌-◌, ◌*◌, ◌≤◌, ◌<◌, nat_le, ℤ, pos, ◌+ℤ◌, Bool, true, false, ◌||◌}
+use Rattle.std.proofs.Common.{Option, Some, None, List, [], ◌∷◌, ◌++◌, map, length, slice_get, arith, refl, sym, ap}
+use Rattle.std.proofs.Common.{subst}
+use Rattle.std.proofs.Math.Nat.{mul-le-mul_right}
+use Rattle.std.specs.List.{list_any}
+use Rattle.core_terms.specs.declared.trees.CForm.{CForm}
+use Rattle.core_terms.specs.declared.trees.Range.{Range}
+use Rattle.obligations.specs.declared.branches.Branch.{Branch}
+use Rattle.obligations.specs.declared.branches.Fact.{Fact}
+use Rattle.obligations.specs.declared.branches.Obligation.{Obligation}
+use Rattle.obligations.specs.declared.branches.Variable.{Variable}
+use Rattle.obligations.specs.declared.certificates.Node.{Node}
+use Rattle.obligations.specs.Settling.{settled, sides, added}
+use Rattle.obligations.specs.Opening.{at_most, at_least, first_branch}
+use Rattle.obligations.specs.Reach.{are_exact, bounds_refute, clash, is_out_of_reach, some_out_of_reach}
+use Rattle.obligations.specs.Certificates.{node_units, units}
+use Rattle.obligations.specs.Obligations.{IsObligation}
+use Rattle.obligations.specs.Plain.{Cut, ranges_of, first_cut, with_high, with_low, waiting_only, open_leaves}
+use Rattle.obligations.specs.Plain.{cut_leaves, plain_leaves, leaf_units, enough}
+use Rattle.certificate_check.specs.Refutation.{opens, made, at_level}
+use Rattle.linear_prover.specs.Chains.{ClosesShortly, is_plain_node}
+use Rattle.linear_prover.specs.Tables.{IsAt}
+use Rattle.linear_prover.proofs.ChainLaws.{refuted-chain, clashed-chain}
+use Rattle.search_tree.specs.declared.plain_tree.Trail.{Trail}
+use Rattle.search_tree.specs.declared.plain_tree.Ended.{Ended}
+use Rattle.search_tree.specs.Searching.{Ready, Closed, Met, level_of}
+use Rattle.search_tree.specs.Ends.{Ending, proved, refuted, short, SearchEnds}
+use Rattle.search_tree.proofs.SearchLaws.{finished-ends}
+use Rattle.search_tree.proofs.TreeLaws.{second-closed}
+use Rattle.search_tree.proofs.TryLaws.{tried-short}
+use Rattle.search_tree.proofs.RootLaws.{search-answers}
+use Rattle.search_tree.proofs.ReadyLaws.{leaves-some, unreached-leaves, case-opens, split-opens, first-met, second-met}
+use Rattle.search_tree.proofs.ReadyLaws.{added-met, ready-first, ready-second, ready-deep, cut-is, ready-cut, ready-low}
+use Rattle.search_tree.proofs.ReadyLaws.{ready-high, leaf-met, ready-root}
+
+le-is : (a b : ℕ) → nat_le a b ≡ true → a ≤ b
+le-is a b h = grind arith
+
+gt-is : (a b : ℕ) → nat_le a b ≡ false → b < a
+gt-is a b h = grind arith
+
+-- A fact out of reach has a chain.
+any-at : {A : Type 0} (t : A → Bool) (xs : List A) → list_any t xs ≡ true → (n : ℕ) × IsAt t xs n
+any-at t [] e = cc
+any-at t (x ∷ xs) e = by_test (t x) refl e (any-at t xs)
+  where
+    by_test : (b : Bool) → t x ≡ b → (b || list_any t xs) ≡ true → (list_any t xs ≡ true → (n : ℕ) × IsAt t xs n) →
+        (n : ℕ) × IsAt t (x ∷ xs) n
+    by_test true q d f = (zero, record { item = x; there = refl; passes = q })
+    by_test false q d f =
+        let r = f d in
+        let a = r.1 in
+        (suc r.0, record { item = a.item; there = a.there; passes = a.passes })
+
+abbrev Chain : ℕ → List Fact → Type 0
+Chain count facts = (ns : List Node) × ClosesShortly count facts ns
+
+-- a fact that the bounds refute, or that clashes with another
+fact-chain : (count : ℕ) (facts : List Fact) (i : ℕ) (f : Fact) → slice_get facts i ≡ Some f → are_exact count facts ≡
+    true → (t : Bool) → bounds_refute facts f ≡ t → (t || list_any (clash f) facts) ≡ true → Chain count facts
+fact-chain count facts i f there exact true q e = (_, refuted-chain count facts i f there exact q)
+fact-chain count facts i f there exact false q e =
+    let a = any-at (clash f) facts e in
+    let g = a.1 in
+    (_, clashed-chain count facts i a.0 f g.item there g.there exact g.passes)
+
+reach-chain : (count : ℕ) (facts : List Fact) → are_exact count facts ≡ true → some_out_of_reach facts ≡ true → Chain
+    count facts
+reach-chain count facts exact e =
+    let a = any-at (is_out_of_reach facts) facts e in
+    let f = a.1 in
+    fact-chain count facts a.0 f.item f.there exact (bounds_refute facts f.item) refl f.passes
+
+-- How a branch ends where the units suffice.
+data Outcome (vs : List Variable) (k leaves : ℕ) (b : Branch) (old : Trail) : Type 0 where
+  closed : (new : Trail) → Closed vs k leaves b old new → Outcome vs k leaves b old
+  met : (values : List ℤ) → Met vs b values → Outcome vs k leaves b old
+
+abbrev Suffices : List Variable → ℕ → Trail → Type 0
+Suffices vs leaves x = leaves * leaf_units vs ≤ x.spare + 1
+
+-- a branch with these leaves ends, whatever was before
+abbrev Goes : List Variable → ℕ → ℕ → Branch → Type 0
+Goes vs k leaves b = (x : Trail) → Suffices vs leaves x → Outcome vs k leaves b x
+
+-- A chain.
+chain-goes : (vs : List Variable) (k leaves : ℕ) (b : Branch) → k ≤ 960 → 1 ≤ leaves → Chain (length vs) b.facts →
+    Goes vs k leaves b
+chain-goes vs k leaves b h one c x s =
+    let ns : List Node = c.0 in
+    let few = c.1.short in
+    let cheap = few.cheap in
+    let more : 1 * leaf_units vs ≤ leaves * leaf_units vs = mul-le-mul_right (leaf_units vs) one in
+    let room : units ns ≤ x.spare = omega (arith, cheap, more, s) in
+    let y : Trail = record { nodes = x.nodes ++ ns; spare = x.spare - units ns } in
+    closed y (finished-ends vs k leaves b x y Ended.Closed h one
+    (tried-short vs b.facts ns x y Ended.Closed c.1 (refl, omega (arith, room))))
+
+-- A node that opens two branches.
+module _ (vs : List Variable) (k l m : ℕ) (b c d : Branch) (n : Node) (one : node_units n ≡ 1)
+    (simple : is_plain_node n ≡ true) (deep : suc k ≤ 960)
+    (opened : made vs (at_level (level_of (suc k)) b) n ≡ opens (c ∷ d ∷ []))
+    (some : 1 ≤ m)
+    (up : (values : List ℤ) → Met vs c values → Met vs b values)
+    (down : (values : List ℤ) → Met vs d values → Met vs b values) where
+  more : 1 * leaf_units vs ≤ m * leaf_units vs
+  more = mul-le-mul_right (leaf_units vs) some
+
+  sum-leaves : (l + m) * leaf_units vs ≡ l * leaf_units vs + m * leaf_units vs
+  sum-leaves = omega arith
+
+  abbrev with_node : Trail → Trail
+  with_node x = record { nodes = x.nodes ++ n ∷ []; spare = x.spare - 1 }
+
+  spent-one : (x : Trail) → Suffices vs (l + m) x → (x.spare - 1) + node_units n ≡ x.spare
+  spent-one x s = let w = sum-leaves in let a = more in omega (arith, w, a, s, one)
+
+  first-room : (x : Trail) → Suffices vs (l + m) x → Suffices vs l (with_node x)
+  first-room x s = let w = sum-leaves in let a = more in omega (arith, w, a, s)
+
+  second-room : (x z : Trail) → Suffices vs (l + m) x → Closed vs k l c (with_node x) z → Suffices vs m z
+  second-room x z s p =
+      let w = sum-leaves in let a = more in let cost = p.cost in let spent = p.spent in
+      omega (arith, w, a, s, cost, spent)
+
+  second-goes : (x z : Trail) → Suffices vs (l + m) x → Closed vs k l c (with_node x) z → Outcome vs k m d z →
+      Outcome vs (suc k) (l + m) b x
+  second-goes x z s p (closed w q) = closed w (second-closed vs k l m b c d n one simple deep opened x (with_node x) z
+      w refl (spent-one x s) p q)
+  second-goes x z s p (met values q) = met values (down values q)
+
+  first-goes : (x : Trail) → Suffices vs (l + m) x → Goes vs k m d → Outcome vs k l c (with_node x) →
+      Outcome vs (suc k) (l + m) b x
+  first-goes x s go (closed z p) = second-goes x z s p (go z (second-room x z s p))
+  first-goes x s go (met values q) = met values (up values q)
+
+  both-go : Goes vs k l c → Goes vs k m d → Goes vs (suc k) (l + m) b
+  both-go first second x s = first-goes x s second (first (with_node x) (first-room x s))
+
+-- Branches with so many levels left.
+abbrev AllGo : List Variable → ℕ → Type 0
+AllGo vs k = (rs : List Range) (b : Branch) → Ready vs k rs b → Goes vs k (plain_leaves vs k rs b) b
+
+sides-go : (vs : List Variable) (k : ℕ) (rs : List Range) (f : CForm) (b : Branch) → suc k ≤ 960 → AllGo vs k →
+    Ready vs (suc k) rs (waiting_only b (f ∷ b.waiting)) →
+    Goes vs (suc k) (open_leaves vs (plain_leaves vs k) rs b (f ∷ b.waiting)) (waiting_only b (f ∷ b.waiting))
+sides-go vs k rs f b deep go r =
+    both-go vs k (plain_leaves vs k rs (settled vs (sides f).0 b)) (plain_leaves vs k rs (settled vs (sides f).1 b))
+    (waiting_only b (f ∷ b.waiting)) (settled vs (sides f).0 b) (settled vs (sides f).1 b) (Node.Case 1) refl refl deep
+    (case-opens vs k f b deep) (leaves-some vs k rs (settled vs (sides f).1 b)) (first-met vs f b) (second-met vs f b)
+    (go rs (settled vs (sides f).0 b) (ready-first vs k rs f b r))
+    (go rs (settled vs (sides f).1 b) (ready-second vs k rs f b r))
+
+halves-go : (vs : List Variable) (k : ℕ) (rs : List Range) (b : Branch) (place : ℕ) (at : ℤ) → suc k ≤ 960 → AllGo vs k
+    → Ready vs (suc k) rs b → b.waiting ≡ [] → first_cut 0 rs ≡ Some (record { place = place; at = at }) →
+    Goes vs (suc k) (cut_leaves (plain_leaves vs k) rs b (Some (record { place = place; at = at }))) b
+halves-go vs k rs b place at deep go r w e =
+    let cut = cut-is vs (suc k) rs b place at r e in
+    let long = r.long in
+    let inside = cut.inside in
+    both-go vs k (plain_leaves vs k (with_high rs place at) (added b (at_most place at)))
+    (plain_leaves vs k (with_low rs place (at +ℤ pos 1)) (added b (at_least place (at +ℤ pos 1)))) b
+    (added b (at_most place at)) (added b (at_least place (at +ℤ pos 1))) (Node.Split (place + 1) at) refl cut.simple
+    deep (split-opens vs k b place at deep (omega (arith, long, inside)))
+    (leaves-some vs k (with_low rs place (at +ℤ pos 1)) (added b (at_least place (at +ℤ pos 1))))
+    (added-met vs b (at_most place at)) (added-met vs b (at_least place (at +ℤ pos 1)))
+    (go (with_high rs place at) (added b (at_most place at)) (ready-low vs k rs b place at r w e))
+    (go (with_low rs place (at +ℤ pos 1)) (added b (at_least place (at +ℤ pos 1)))
+    (ready-high vs k rs b place at r w e))
+
+-- the first waiting formula stands before the others
+whole : (b : Branch) (f : CForm) (fs : List CForm) → b.waiting ≡ f ∷ fs → waiting_only b (f ∷ fs) ≡ b
+whole b f fs e = ap (waiting_only b) (sym e)
+
+leaf-goes : (vs : List Variable) (k leaves : ℕ) (rs : List Range) (b : Branch) → Ready vs k rs b → some_out_of_reach
+    b.facts ≡ false → b.waiting ≡ [] → first_cut 0 rs ≡ None → Goes vs k leaves b
+leaf-goes vs k leaves rs b r u w e x s = met (map (λ (r : Range). r.lo) rs) (leaf-met vs k rs b r u w e)
+
+-- no fact is out of reach, and a level is left
+cut-goes : (vs : List Variable) (k : ℕ) (rs : List Range) (b : Branch) → suc k ≤ 960 → AllGo vs k → Ready vs (suc k)
+    rs b → some_out_of_reach b.facts ≡ false → b.waiting ≡ [] → (o : Option Cut) → first_cut 0 rs ≡ o →
+    Goes vs (suc k) (cut_leaves (plain_leaves vs k) rs b o) b
+cut-goes vs k rs b deep go r u w None e = leaf-goes vs (suc k) 1 rs b r u w e
+cut-goes vs k rs b deep go r u w (Some c) e = halves-go vs k rs b c.place c.at deep go r w e
+
+open-goes : (vs : List Variable) (k : ℕ) (rs : List Range) (b : Branch) → suc k ≤ 960 → AllGo vs k → Ready vs (suc k)
+    rs b → some_out_of_reach b.facts ≡ false → (ws : List CForm) → b.waiting ≡ ws →
+    Goes vs (suc k) (open_leaves vs (plain_leaves vs k) rs b ws) b
+open-goes vs k rs b deep go r u [] w = cut-goes vs k rs b deep go r u w (first_cut 0 rs) refl
+open-goes vs k rs b deep go r u (f ∷ fs) w =
+    let same = whole b f fs w in
+    subst (Goes vs (suc k) (open_leaves vs (plain_leaves vs k) rs b (f ∷ fs))) same
+    (sides-go vs k rs f (waiting_only b fs) deep go (subst (Ready vs (suc k) rs) (sym same) r))
+
+-- no level is left
+end-goes : (vs : List Variable) (leaves : ℕ) (rs : List Range) (b : Branch) → Ready vs 0 rs b → some_out_of_reach
+    b.facts ≡ false → (ws : List CForm) → b.waiting ≡ ws → Goes vs 0 leaves b
+end-goes vs leaves rs b r u (f ∷ fs) w =
+    let one = ready-deep vs 0 rs f (waiting_only b fs) (subst (Ready vs 0 rs) (sym (whole b f fs w)) r) in
+    absurd (omega (arith, one))
+end-goes vs leaves rs b r u [] w = by_cut (first_cut 0 rs) refl
+  where
+    by_cut : (o : Option Cut) → first_cut 0 rs ≡ o → Goes vs 0 leaves b
+    by_cut None e = leaf-goes vs 0 leaves rs b r u w e
+    by_cut (Some c) e = let one = ready-cut vs 0 rs b c.place c.at r e in absurd (omega (arith, one))
+
+all-go : (vs : List Variable) (k : ℕ) → k ≤ 960 → AllGo vs k
+all-go vs zero h rs b r = by_reach (some_out_of_reach b.facts) refl
+  where
+    by_reach : (t : Bool) → some_out_of_reach b.facts ≡ t → Goes vs 0 1 b
+    by_reach true e = chain-goes vs 0 1 b h (omega arith) (reach-chain (length vs) b.facts r.exact e)
+    by_reach false e = end-goes vs 1 rs b r e b.waiting refl
+all-go vs (suc k) h rs b r = by_reach (some_out_of_reach b.facts) refl (all-go vs k (omega (arith, h)))
+  where
+    by_reach : (t : Bool) → some_out_of_reach b.facts ≡ t → AllGo vs k → Goes vs (suc k) (plain_leaves vs (suc k) rs b)
+        b
+    by_reach true e go = chain-goes vs (suc k) (plain_leaves vs (suc k) rs b) b h (leaves-some vs (suc k) rs b)
+        (reach-chain (length vs) b.facts r.exact e)
+    by_reach false e go = subst (λ n. Goes vs (suc k) n b) (sym (unreached-leaves vs k rs b e))
+        (open-goes vs k rs b h go r e b.waiting refl)
+
+-- The branch that an obligation starts from.
+abbrev all_leaves : Obligation → ℕ
+all_leaves o = plain_leaves o.variables 960 (ranges_of o.variables) (first_branch o)
+
+abbrev start : ℕ → Trail
+start budget = record { nodes = []; spare = budget }
+
+root-ends : (o : Obligation) (budget : ℕ) → IsObligation o →
+    Outcome o.variables 960 (all_leaves o) (first_branch o) (start budget) → Ending o budget
+root-ends o budget m (closed new c) = proved new.nodes
+    (search-answers o m o.variables (ranges_of o.variables) (first_branch o) (start budget) new Ended.Closed budget _
+    refl refl refl refl refl c refl)
+root-ends o budget m (met values c) = refuted values
+    (search-answers o m o.variables (ranges_of o.variables) (first_branch o) (start budget) (start budget)
+    (Ended.Refuted values) budget _ refl refl refl refl refl c refl)
+
+pub search-ends : SearchEnds
+search-ends o budget m = by_budget (nat_le (enough o) budget) refl
+  where
+    by_budget : (t : Bool) → nat_le (enough o) budget ≡ t → Ending o budget
+    by_budget true e =
+        let w = le-is (enough o) budget e in
+        root-ends o budget m (all-go o.variables 960 (omega arith) (ranges_of o.variables) (first_branch o)
+        (ready-root o m) (start budget) (omega (arith, w)))
+    by_budget false e = short (gt-is (enough o) budget e)

@@ -1,0 +1,197 @@
+-- What the search keeps.
+use Rattle.std.proofs.Common.{◌≡◌, ℕ, zero, suc, ◌+◌, ◌*◌, ◌≤◌, ◌<◌, ◌≤ℤ◌, ◌<ℤ◌, ℤ, nat_le, slice_set, slice_get}
+use Rattle.std.proofs.Common.{slice_index_or, ◌&&◌, Ok, pos, negsuc, ◌+ℤ◌, ◌-ℤ◌, true, false, cond, Option, Some}
+use Rattle.std.proofs.Common.{None, List, [], ◌∷◌, ◌++◌, take, drop, length, arith, refl, sym, ap, subst, ◌∙◌}
+use Rattle.std.proofs.Math.Nat.{mul-le-mul_right}
+use Rattle.std.proofs.lemmas.Int.{ints}
+use Rattle.std.specs.Int.RustNames.{int_le}
+use Rattle.std.specs.Prelude.{int_div}
+use Rattle.core_terms.specs.declared.trees.Range.{Range}
+use Rattle.case_tables.specs.declared.code_table.Code.{Code}
+use Rattle.obligations.specs.declared.branches.Branch.{Branch}
+use Rattle.obligations.specs.declared.branches.Variable.{Variable}
+use Rattle.core_terms.specs.declared.trees.CForm.{CForm}
+use Rattle.obligations.specs.declared.certificates.Node.{Node}
+use Rattle.certificate_check.specs.Refutation.{OpenBranch}
+use Rattle.obligations.specs.declared.branches.Fact.{Fact}
+use Rattle.obligations.specs.LinearForms.{zeros, fact_of}
+use Rattle.obligations.specs.Settling.{settled, outcome}
+use Rattle.certificate_check.specs.Sums.{sum_pairs, all_pairs, divided}
+use Rattle.obligations.specs.Settling.{added}
+use Rattle.certificate_check.specs.Refutation.{fails, opens, made_by, made_sum, made_round, made, at_level}
+use Rattle.search_tree.specs.declared.plain_tree.Trail.{Trail}
+use Rattle.search_tree.specs.declared.plain_tree.Ended.{Ended}
+use Rattle.linear_prover.specs.Chains.{nulls, total_pairs, Closes, is_plain_node}
+use Rattle.std.specs.List.{list_all}
+use Rattle.std.proofs.lemmas.List.Folds.{list_all-append}
+use Rattle.obligations.specs.Certificates.{units}
+use Rattle.search_tree.specs.Left.{left_by, left_after, left}
+use Rattle.obligations.specs.Plain.{first_cut, middle, with_high, with_low, leaf_units}
+use Rattle.search_tree.specs.Searching.{IsOpen, level_of, Ends, Tried}
+
+take-whole : {A : Type 0} (xs ys : List A) (n : ℕ) → n ≡ length xs → take n (xs ++ ys) ≡ xs
+take-whole [] ys n e = ap (λ k. take k ys) e
+take-whole (x ∷ xs) ys n e = ap (λ k. take k (x ∷ (xs ++ ys))) e ∙ ap (λ z. x ∷ z) (take-whole xs ys (length xs) refl)
+
+-- what settling adds is dropped again
+pub undone : (vs : List Variable) (f : CForm) (b c d e : Branch) (n m : ℕ) → c ≡ settled vs f b → d ≡ c → n ≡ length
+    b.facts → m ≡ length b.waiting →
+    e ≡ record { facts = take n d.facts; waiting = take m d.waiting } → e ≡ b
+undone vs f b c d e n m p q h k r =
+    r ∙ ap (λ (x : Branch). record { facts = take n x.facts; waiting = take m x.waiting }) (q ∙ p)
+    ∙ ap (λ x. record { facts = x; waiting = take m (b.waiting ++ (outcome vs f).yes.waiting) })
+    (take-whole b.facts (outcome vs f).yes.facts n h)
+    ∙ ap (λ x. record { facts = b.facts; waiting = x }) (take-whole b.waiting (outcome vs f).yes.waiting m k)
+
+pub ruleset undo_laws = undone
+
+pub units-append : (xs ys : List Node) → units (xs ++ ys) ≡ units xs + units ys
+units-append [] ys = omega arith
+units-append (x ∷ xs) ys = let ih = units-append xs ys in omega (arith, ih)
+
+pub left-append : (vs : List Variable) (r : Option (List OpenBranch)) (ns ms : List Node) → left vs r (ns ++ ms) ≡ left
+    vs (left vs r ns) ms
+left-append vs r [] ms = refl
+left-append vs r (n ∷ ns) ms = left-append vs (left_after vs r n) ns ms
+
+-- The next variable of a search for a cut.
+pub cut-stop : (rs : List Range) (i n : ℕ) (d : Range) → i < length rs → int_le (slice_index_or rs i d).hi
+    (slice_index_or rs i d).lo ≡ false →
+    first_cut n (drop i rs) ≡ Some (record { place = n; at = middle (slice_index_or rs i d) })
+cut-stop [] i n d h e = absurd (omega arith)
+cut-stop (r ∷ rs) zero n d h e = ap (λ b. cond b (first_cut (suc n) rs) (Some (record { place = n; at = middle r })))
+    e
+cut-stop (r ∷ rs) (suc i) n d h e = cut-stop rs i n d (omega arith) e
+
+pub cut-next : (rs : List Range) (i n : ℕ) (d : Range) → i < length rs → int_le (slice_index_or rs i d).hi
+    (slice_index_or rs i d).lo ≡ true →
+    first_cut (n + 1) (drop (i + 1) rs) ≡ first_cut n (drop i rs)
+cut-next [] i n d h e = absurd (omega arith)
+cut-next (r ∷ rs) zero n d h e =
+    let one : n + 1 ≡ suc n = omega arith in
+    ap (λ k. first_cut k rs) one ∙ sym (ap (λ b. cond b (first_cut (suc n) rs)
+    (Some (record { place = n; at = middle r }))) e)
+cut-next (r ∷ rs) (suc i) n d h e = let one : suc i + 1 ≡ suc (i + 1) = omega arith in ap
+    (λ k. first_cut (n + 1) (drop k (r ∷ rs))) one ∙ cut-next rs i n d (omega arith) e
+
+le-not : (a b : ℤ) → a <ℤ b → int_le b a ≡ false
+le-not a b h = grind (arith, ints)
+
+le-is : (a b : ℤ) → (a <ℤ b → ⊥) → int_le b a ≡ true
+le-is a b h = grind (arith, ints)
+
+pub set-high : (rs : List Range) (n : ℕ) (r : Range) (k : ℤ) → slice_get rs n ≡ Some r → slice_set rs n
+    (record { lo = r.lo; hi = k }) ≡ with_high rs n k
+set-high [] n r k e = cc
+set-high (x ∷ rs) zero r k e = let s : x ≡ r = cc in ap (λ (z : Range). record { lo = z.lo; hi = k } ∷ rs) (sym s)
+set-high (x ∷ rs) (suc n) r k e = ap (λ z. x ∷ z) (set-high rs n r k e)
+
+pub set-low : (rs : List Range) (n : ℕ) (r : Range) (k : ℤ) → slice_get rs n ≡ Some r → slice_set rs n
+    (record { lo = k; hi = r.hi }) ≡ with_low rs n k
+set-low [] n r k e = cc
+set-low (x ∷ rs) zero r k e = let s : x ≡ r = cc in ap (λ (z : Range). record { lo = k; hi = z.hi } ∷ rs) (sym s)
+set-low (x ∷ rs) (suc n) r k e = ap (λ z. x ∷ z) (set-low rs n r k e)
+
+pub past-high : (rs : List Range) (n : ℕ) (k : ℤ) → slice_get rs n ≡ None → rs ≡ with_high rs n k
+past-high [] n k e = refl
+past-high (x ∷ rs) zero k e = cc
+past-high (x ∷ rs) (suc n) k e = ap (λ z. x ∷ z) (past-high rs n k e)
+
+pub past-low : (rs : List Range) (n : ℕ) (k : ℤ) → slice_get rs n ≡ None → rs ≡ with_low rs n k
+past-low [] n k e = refl
+past-low (x ∷ rs) zero k e = cc
+past-low (x ∷ rs) (suc n) k e = ap (λ z. x ∷ z) (past-low rs n k e)
+
+pub high-is : (rs half new : List Range) (n : ℕ) (r item : Range) (k : ℤ) → new ≡ slice_set half n item → half ≡ rs →
+    slice_get rs n ≡ Some r → item ≡ record { lo = r.lo; hi = k } → new ≡ with_high rs n k
+high-is rs half new n r item k p q e i = p ∙ ap (λ z. slice_set z n item) q ∙ ap (slice_set rs n) i ∙ set-high rs n r
+    k e
+
+pub low-is : (rs half new : List Range) (n : ℕ) (r item : Range) (k : ℤ) → new ≡ slice_set half n item → half ≡ rs →
+    slice_get rs n ≡ Some r → item ≡ record { lo = k; hi = r.hi } → new ≡ with_low rs n k
+low-is rs half new n r item k p q e i = p ∙ ap (λ z. slice_set z n item) q ∙ ap (slice_set rs n) i ∙ set-low rs n r k
+    e
+
+pub ruleset half_laws = (set-high, set-low, past-high, past-low)
+
+-- Levels.
+pub made-level : (vs : List Variable) (level : ℕ) (b : Branch) (n : Node) → level ≤ 1024 → made vs (at_level level b)
+    n ≡ made_by vs b n
+made-level vs level b n h = ap (λ t. cond t (made_by vs b n) (fails Code.CertTooDeep)) (le-true level 1024 h)
+  where
+    le-true : (a b : ℕ) → a ≤ b → nat_le a b ≡ true
+    le-true a b h = grind arith
+
+-- the sum of nothing, by variables and by their number
+nulls-are : (vs : List Variable) → zeros vs ≡ nulls (length vs)
+nulls-are [] = refl
+nulls-are (v ∷ vs) = ap (λ zs. pos 0 ∷ zs) (nulls-are vs)
+
+pub same-total : (vs : List Variable) (facts : List Fact) (ps : List (ℤ × ℕ)) → all_pairs vs facts ps ≡ total_pairs
+    (length vs) facts ps
+same-total vs facts ps = ap (λ zs. sum_pairs facts (Ok (record { factors = zs; constant = pos 0 })) ps) (nulls-are vs)
+
+-- a chain closes its branch
+pub chain-closes : (vs : List Variable) (ns : List Node) (level : ℕ) (b : Branch) (ps : List OpenBranch) → Closes
+    (length vs) b.facts ns → level + length ns ≤ 1025 →
+    left vs (Some (at_level level b ∷ ps)) ns ≡ Some ps
+chain-closes vs [] level b ps c h = absurd c
+chain-closes vs (Node.Case k ∷ ns) level b ps c h = absurd c
+chain-closes vs (Node.Split v k ∷ ns) level b ps c h = absurd c
+chain-closes vs (Node.Sum qs ∷ []) level b ps c h = ap (left_by level ps)
+    (made-level vs level b (Node.Sum qs) (omega arith) ∙ ap made_sum (same-total vs b.facts qs) ∙ c)
+chain-closes vs (Node.Sum qs ∷ n ∷ ns) level b ps c h = absurd c
+chain-closes vs (Node.Round d qs ∷ ns) level b ps c h =
+    let l = c.0 in
+    let m : made vs (at_level level b) (Node.Round d qs) ≡ opens (added b (fact_of (divided d l)) ∷ []) =
+    made-level vs level b (Node.Round d qs) (omega arith) ∙ ap (made_round b d) (same-total vs b.facts qs ∙ c.1)
+    ∙ ap (λ t. cond t (opens (added b (fact_of (divided d l)) ∷ [])) (fails Code.NotDivisible)) c.2 in
+    ap (λ x. left vs (left_by level ps x) ns) m ∙ chain-closes vs ns (suc level) (added b (fact_of (divided d l))) ps
+    c.3 (omega arith)
+
+-- a chain that was added, or not, ends a branch
+pub finished-ends : (vs : List Variable) (k leaves : ℕ) (b : Branch) (old new : Trail) (e : Ended) → k ≤ 960 → 1 ≤
+    leaves → Tried vs b.facts old new e → Ends vs k leaves b old new e
+finished-ends vs k leaves b old new Ended.Closed h one t =
+    let f = t.finished in let f1 = f.1 in
+    let u : units new.nodes ≡ units old.nodes + units t.nodes = ap units f.0 ∙ units-append old.nodes t.nodes in
+    let cheap = t.cheap in let short = t.short in
+    let more : 1 * leaf_units vs ≤ leaves * leaf_units vs = mul-le-mul_right (leaf_units vs) one in
+    record {
+      closes = λ first ps s. ap (left vs (Some first)) f.0 ∙ left-append vs (Some first) old.nodes t.nodes ∙ ap
+          (λ r. left vs r t.nodes) s
+          ∙ chain-closes vs t.nodes (level_of k) b ps t.closes (omega arith);
+      plain = λ h. ap (list_all is_plain_node) f.0 ∙ list_all-append is_plain_node old.nodes t.nodes ∙ ap
+          (λ b. b && list_all is_plain_node t.nodes) h ∙ t.plain;
+      cost = omega (arith, u, cheap, more);
+      spent = omega (arith, u, f1);
+    }
+finished-ends vs k leaves b old new Ended.Stopped h one t =
+    let f = t.finished in let f0 = f.0 in
+    let cheap = t.cheap in
+    let same = ap (λ (x : Trail). x.nodes) f.1 in
+    let spare = ap (λ (x : Trail). x.spare) f.1 in
+    let more : 1 * leaf_units vs ≤ leaves * leaf_units vs = mul-le-mul_right (leaf_units vs) one in
+    record {
+      opened = λ first ps s. subst IsOpen (sym (ap (left vs (Some first)) same ∙ s)) tt;
+      short = omega (arith, f0, cheap, more);
+      last = omega (arith, f0, cheap, spare);
+      spent = let u = ap units same in omega (arith, u, spare);
+    }
+finished-ends vs k leaves b old new (Ended.Refuted values) h one t = absurd t.finished
+
+-- The middle of a range lies in it.
+half-below : (width : ℤ) → pos 0 ≤ℤ width → (pos 0 ≤ℤ int_div width (pos 2)) × (int_div width (pos 2) ≤ℤ width)
+half-below (pos n) h = (omega (arith, ints), omega (arith, ints))
+half-below (negsuc n) h = absurd (omega (arith, ints))
+
+pub middle-low : (lo hi : ℤ) → lo ≤ℤ hi → pos 0 ≤ℤ (hi -ℤ lo)
+middle-low lo hi h = omega (arith, ints)
+
+pub middle-half : (lo hi : ℤ) → lo ≤ℤ hi → pos 0 ≤ℤ int_div (hi -ℤ lo) (pos 2)
+middle-half lo hi h = (half-below (hi -ℤ lo) (middle-low lo hi h)).0
+
+pub middle-high : (lo hi : ℤ) → lo ≤ℤ hi → (lo +ℤ int_div (hi -ℤ lo) (pos 2)) ≤ℤ hi
+middle-high lo hi h = let k = (half-below (hi -ℤ lo) (middle-low lo hi h)).1 in omega (arith, ints, k)
+
+pub ruleset middle_laws = (middle-low, middle-half, middle-high)

@@ -1,0 +1,281 @@
+//! A count of the plain tree's leaves that goes no further than is asked: it tells that a certificate has no
+//! more units than `enough` without a search for another.
+ghost use Rattle.std.specs.Prelude.{◌≡◌, ◌+◌, ◌-◌, ◌*◌, ◌≤◌, ◌<◌, ◌^◌, ◌∷◌, [], suc, pos, ◌+ℤ◌, ◌-ℤ◌, ◌<ℤ◌, min};
+ghost use Rattle.std.specs.Prelude.{length, take, true, false, Some, IfOk, OnOk};
+ghost use Rattle.obligations.specs.Load.{need};
+ghost use Rattle.obligations.specs.Obligations.{AreVariables, IsObligation};
+ghost use Rattle.obligations.specs.Opening.{at_most, at_least, first_branch};
+ghost use Rattle.obligations.specs.Plain.{ranges_of, first_cut, with_high, with_low, waiting_only, cut_leaves};
+ghost use Rattle.obligations.specs.Plain.{open_leaves, plain_leaves};
+ghost use Rattle.obligations.specs.Reach.{are_exact, some_out_of_reach};
+ghost use Rattle.obligations.specs.Settling.{settled, sides, added};
+ghost use Rattle.search_tree.specs.Searching.{Ready};
+
+use crate::plain_tree::{
+    Halves, add_above, add_at_most, count_of, cut_back, first_halves, high_half, low_half,
+    numbered, ranges_in, settle_first, settle_second,
+};
+use core_terms::{CForm, Range};
+use linear_prover::reach_chain;
+use obligations::{Branch, Fact, Obligation, Variable, open_branch};
+use std::alloc::{AllocError, Global};
+
+/// Whether some fact is out of reach.
+fn some_out_of_reach(alloc: Global, vs: &[Variable], facts: &[Fact]) -> Result<bool, AllocError>
+    requires variables { AreVariables vs.now }
+    requires exact { are_exact (length vs.now) facts.now ≡ true }
+    ensures { IfOk result (λ b. b ≡ some_out_of_reach facts.now) }
+{
+    numbered(facts)?;
+    match reach_chain(alloc, facts, count_of(vs))? {
+        Some(_) => Ok(true),
+        None => Ok(false),
+    }
+}
+
+/// Counts leaves with the first side of a formula.
+#[cycle(leaves)]
+#[tactic(auto, using(crate::proofs::SearchLaws::undo_laws))]
+fn first_leaves(
+    alloc: Global,
+    vs: &[Variable],
+    rest: u32,
+    ranges: &[Range],
+    wanted: u64,
+    form: &CForm,
+    branch: &mut Branch,
+) -> Result<u64, AllocError>
+    requires variables { AreVariables vs.now }
+    requires rest { rest ≤ 960 }
+    requires form { (need form.now).yes ≤ 2 ^ 63 }
+    requires ready { Ready vs.now rest ranges.now (settled vs.now (sides form.now).0 branch.old) }
+    ensures leaves { IfOk result (λ n. n ≡ min wanted (plain_leaves vs.now rest ranges.now
+        (settled vs.now (sides form.now).0 branch.old))) }
+    ensures branch { OnOk result (branch.new ≡ branch.old) }
+{
+    let facts = branch.facts.len();
+    let waits = branch.waiting.len();
+    settle_first(alloc, vs, form, branch)?;
+    let leaves = some_leaves(alloc, vs, rest, ranges, wanted, branch)?;
+    cut_back(branch, facts, waits);
+    Ok(leaves)
+}
+
+/// Counts leaves with the second side of a formula.
+#[cycle(leaves)]
+#[tactic(auto, using(crate::proofs::SearchLaws::undo_laws))]
+fn second_leaves(
+    alloc: Global,
+    vs: &[Variable],
+    rest: u32,
+    ranges: &[Range],
+    wanted: u64,
+    form: &CForm,
+    branch: &mut Branch,
+) -> Result<u64, AllocError>
+    requires variables { AreVariables vs.now }
+    requires rest { rest ≤ 960 }
+    requires form { (need form.now).yes ≤ 2 ^ 63 }
+    requires ready { Ready vs.now rest ranges.now (settled vs.now (sides form.now).1 branch.old) }
+    ensures leaves { IfOk result (λ n. n ≡ min wanted (plain_leaves vs.now rest ranges.now
+        (settled vs.now (sides form.now).1 branch.old))) }
+    ensures branch { OnOk result (branch.new ≡ branch.old) }
+{
+    let facts = branch.facts.len();
+    let waits = branch.waiting.len();
+    settle_second(alloc, vs, form, branch)?;
+    let leaves = some_leaves(alloc, vs, rest, ranges, wanted, branch)?;
+    cut_back(branch, facts, waits);
+    Ok(leaves)
+}
+
+/// Counts the leaves of both sides of a branch's first waiting formula, which was taken out.
+#[cycle(leaves)]
+fn leaves_of_sides(
+    alloc: Global,
+    vs: &[Variable],
+    rest: u32,
+    ranges: &[Range],
+    wanted: u64,
+    form: &CForm,
+    branch: &mut Branch,
+) -> Result<u64, AllocError>
+    requires variables { AreVariables vs.now }
+    requires rest { rest < 960 }
+    requires ready { Ready vs.now (suc rest) ranges.now (waiting_only branch.old (form.now ∷ branch.old.waiting)) }
+    ensures leaves { IfOk result (λ n. n ≡ min wanted (open_leaves vs.now (plain_leaves vs.now rest) ranges.now
+        branch.old (form.now ∷ branch.old.waiting))) }
+    ensures branch { OnOk result (branch.new ≡ branch.old) }
+{
+    let first = first_leaves(alloc, vs, rest, ranges, wanted, form, branch)?;
+    if first >= wanted {
+        return Ok(first);
+    }
+    let second = second_leaves(alloc, vs, rest, ranges, wanted - first, form, branch)?;
+    Ok(first + second)
+}
+
+/// Counts leaves with a variable at most the middle of its range.
+#[cycle(leaves)]
+#[tactic(auto, using(crate::proofs::SearchLaws::undo_laws))]
+fn low_leaves(
+    alloc: Global,
+    vs: &[Variable],
+    rest: u32,
+    ranges: &[Range],
+    wanted: u64,
+    halves: Halves,
+    branch: &mut Branch,
+) -> Result<u64, AllocError>
+    requires variables { AreVariables vs.now }
+    requires rest { rest ≤ 960 }
+    requires place { halves.place < length ranges.now }
+    requires ready { Ready vs.now rest (with_high ranges.now halves.place halves.at)
+        (added branch.old (at_most halves.place halves.at)) }
+    ensures leaves { IfOk result (λ n. n ≡ min wanted (plain_leaves vs.now rest
+        (with_high ranges.now halves.place halves.at) (added branch.old (at_most halves.place halves.at)))) }
+    ensures branch { OnOk result (branch.new ≡ branch.old) }
+{
+    let facts = branch.facts.len();
+    let waits = branch.waiting.len();
+    let half = low_half(alloc, ranges, halves)?;
+    add_at_most(alloc, halves, branch)?;
+    let leaves = some_leaves(alloc, vs, rest, half.as_slice(), wanted, branch)?;
+    cut_back(branch, facts, waits);
+    Ok(leaves)
+}
+
+/// Counts leaves with a variable above the middle of its range.
+#[cycle(leaves)]
+#[tactic(auto, using(crate::proofs::SearchLaws::undo_laws))]
+fn high_leaves(
+    alloc: Global,
+    vs: &[Variable],
+    rest: u32,
+    ranges: &[Range],
+    wanted: u64,
+    halves: Halves,
+    branch: &mut Branch,
+) -> Result<u64, AllocError>
+    requires variables { AreVariables vs.now }
+    requires rest { rest ≤ 960 }
+    requires place { halves.place < length ranges.now }
+    requires room { halves.at <ℤ pos (2 ^ 63 - 1) }
+    requires ready { Ready vs.now rest (with_low ranges.now halves.place (halves.at +ℤ pos 1))
+        (added branch.old (at_least halves.place (halves.at +ℤ pos 1))) }
+    ensures leaves { IfOk result (λ n. n ≡ min wanted (plain_leaves vs.now rest
+        (with_low ranges.now halves.place (halves.at +ℤ pos 1))
+        (added branch.old (at_least halves.place (halves.at +ℤ pos 1))))) }
+    ensures branch { OnOk result (branch.new ≡ branch.old) }
+{
+    let facts = branch.facts.len();
+    let waits = branch.waiting.len();
+    let half = high_half(alloc, ranges, halves)?;
+    add_above(alloc, halves, branch)?;
+    let leaves = some_leaves(alloc, vs, rest, half.as_slice(), wanted, branch)?;
+    cut_back(branch, facts, waits);
+    Ok(leaves)
+}
+
+/// Counts the leaves of both halves of a variable's range.
+#[cycle(leaves)]
+fn leaves_of_halves(
+    alloc: Global,
+    vs: &[Variable],
+    rest: u32,
+    ranges: &[Range],
+    wanted: u64,
+    halves: Halves,
+    branch: &mut Branch,
+) -> Result<u64, AllocError>
+    requires variables { AreVariables vs.now }
+    requires rest { rest < 960 }
+    requires ready { Ready vs.now (suc rest) ranges.now branch.old }
+    requires halves { first_cut 0 ranges.now ≡ Some (record { place = halves.place; at = halves.at }) }
+    requires none { branch.old.waiting ≡ [] }
+    ensures leaves { IfOk result (λ n. n ≡ min wanted (cut_leaves (plain_leaves vs.now rest) ranges.now branch.old
+        (Some (record { place = halves.place; at = halves.at })))) }
+    ensures branch { OnOk result (branch.new ≡ branch.old) }
+{
+    let low = low_leaves(alloc, vs, rest, ranges, wanted, halves, branch)?;
+    if low >= wanted {
+        return Ok(low);
+    }
+    let high = high_leaves(alloc, vs, rest, ranges, wanted - low, halves, branch)?;
+    Ok(low + high)
+}
+
+/// Counts the leaves of a branch without a fact out of reach.
+#[cycle(leaves)]
+fn open_some_leaves(
+    alloc: Global,
+    vs: &[Variable],
+    rest: u32,
+    ranges: &[Range],
+    wanted: u64,
+    branch: &mut Branch,
+) -> Result<u64, AllocError>
+    requires variables { AreVariables vs.now }
+    requires rest { rest ≤ 960 }
+    requires wanted { 1 ≤ wanted }
+    requires ready { Ready vs.now rest ranges.now branch.old }
+    requires reach { some_out_of_reach branch.old.facts ≡ false }
+    ensures leaves { IfOk result (λ n. n ≡ min wanted (plain_leaves vs.now rest ranges.now branch.old)) }
+    ensures branch { OnOk result (branch.new ≡ branch.old) }
+{
+    if branch.waiting.len() > 0 {
+        let form = branch.waiting.remove(0);
+        let leaves = leaves_of_sides(alloc, vs, rest - 1, ranges, wanted, form.get(), branch)?;
+        branch.waiting.insert(0, form)?;
+        Ok(leaves)
+    } else {
+        match first_halves(ranges) {
+            Some(halves) => {
+                let leaves = leaves_of_halves(alloc, vs, rest - 1, ranges, wanted, halves, branch)?;
+                Ok(leaves)
+            }
+            None => Ok(1),
+        }
+    }
+}
+
+/// Counts the leaves of a branch, up to the number that is wanted.
+#[cycle(leaves)]
+fn some_leaves(
+    alloc: Global,
+    vs: &[Variable],
+    rest: u32,
+    ranges: &[Range],
+    wanted: u64,
+    branch: &mut Branch,
+) -> Result<u64, AllocError>
+    requires variables { AreVariables vs.now }
+    requires rest { rest ≤ 960 }
+    requires ready { Ready vs.now rest ranges.now branch.old }
+    ensures leaves { IfOk result (λ n. n ≡ min wanted (plain_leaves vs.now rest ranges.now branch.old)) }
+    ensures branch { OnOk result (branch.new ≡ branch.old) }
+{
+    if wanted <= 1 {
+        return Ok(wanted);
+    }
+    if some_out_of_reach(alloc, vs, branch.facts.as_slice())? {
+        return Ok(1);
+    }
+    let leaves = open_some_leaves(alloc, vs, rest, ranges, wanted, branch)?;
+    Ok(leaves)
+}
+
+/// How many leaves an obligation's plain tree has, and the number that is wanted where it has more. The leaves
+/// that are not wanted are not visited.
+#[tactic(auto, using(crate::proofs::RootLaws::obligation_laws))]
+pub fn count_leaves(alloc: Global, o: &Obligation, wanted: u64) -> Result<u64, AllocError>
+    requires { IsObligation o.now }
+    ensures { IfOk result (λ n. n ≡ min wanted (plain_leaves o.now.variables 960 (ranges_of o.now.variables)
+        (first_branch o.now))) }
+{
+    let mut branch = open_branch(alloc, o)?;
+    let vs = o.variables.as_slice();
+    let ranges = ranges_in(alloc, vs)?;
+    let leaves = some_leaves(alloc, vs, 960, ranges.as_slice(), wanted, &mut branch)?;
+    Ok(leaves)
+}

@@ -1,4 +1,0 @@
-pub mod EndLaws
-pub mod StandingLaws
-pub mod CountLaws
-pub mod PlaceLaws

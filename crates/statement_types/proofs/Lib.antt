@@ -1,2 +1,0 @@
-pub mod StatementLaws
-pub mod Taking

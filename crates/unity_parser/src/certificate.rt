@@ -1,0 +1,253 @@
+//! Certificates and their nodes.
+
+ghost use Rattle.std.specs.Prelude.{◌≡◌, ◌≤◌, MatchOption};
+ghost use Rattle.case_tables.specs.declared.word_table.Word.{Word};
+ghost use Rattle.case_tables.specs.declared.symbol_table.Symbol.{Symbol};
+ghost use Rattle.grammar_theory.specs.Ebnf.{both, many, more, numbered, numbered_item, prefix_tree, prefix_trees, unit};
+ghost use Rattle.grammar_theory.specs.Ebnf.{Derives};
+ghost use Rattle.grammar_theory.specs.Reader.{take_number};
+ghost use Rattle.unity_syntax.specs.Classes.{number_class, reserved};
+ghost use Rattle.unity_syntax.specs.Kinds.{Kind};
+ghost use Rattle.unity_syntax.specs.Grammar.{made, past, minus_, number_, multiple_, node_, subtrees, certificate_};
+ghost use Rattle.unity_syntax.specs.Grammar.{certificates_, grammar};
+ghost use Rattle.unity_syntax.specs.View.{view_certificate, view_certificates, view_list, view_node, view_pair};
+ghost use Rattle.parser_expressions.specs.Gives.{Gives, Reads, remaining};
+
+use case_tables::{Symbol, Word};
+use parser_expressions::{Cursor, Parsed, Stop};
+use std::alloc::Global;
+use unity_base::Seq;
+use unity_syntax::{CertText, Certificates, Node, Pair, TokenKind};
+
+/// `pair = [ "-" ] number "*" number`
+#[tactic(auto, unfolding(unity_syntax::specs::Grammar::multiple_))]
+fn multiple<'a>(depth: u32, text: Cursor<'a>) -> Parsed<'a, Pair>
+    ensures { Reads view_pair result multiple_ depth text.entry }
+{
+    let at = text.place();
+    let (minus, text) = text.minus();
+    let (multiplier, text) = text.number()?;
+    let text = text.symbol(Symbol::Times)?;
+    let (fact, text) = text.number()?;
+    let pair = Pair {
+        at,
+        minus,
+        multiplier,
+        fact,
+    };
+    Ok((pair, text))
+}
+
+/// `{ pair }`
+fn multiples<'a>(alloc: Global, depth: u32, text: Cursor<'a>) -> Parsed<'a, Seq<Pair>>
+    ensures { Reads (view_list view_pair) result (many multiple_) depth text.entry }
+{
+    let mut found = Seq::new(alloc);
+    let mut rest = text;
+    'items: while rest.begins_signed_number() {
+        let (item, later) = multiple(depth, rest)?;
+        found.push(item)?;
+        rest = later;
+    }
+    Ok((found, rest))
+}
+
+/// `"case" number`
+fn case_node<'a>(text: Cursor<'a>) -> Parsed<'a, Node>
+    ensures { Reads view_node result (made Kind.node_case (past (reserved Word.Case) number_)) 0 text.entry }
+{
+    let at = text.place();
+    let text = text.reserved(Word::Case)?;
+    let (number, text) = text.number()?;
+    Ok((Node::Case { at, number }, text))
+}
+
+/// `"split" number [ "-" ] number`
+fn split_node<'a>(text: Cursor<'a>) -> Parsed<'a, Node>
+    ensures { Reads view_node result
+        (made Kind.node_split (past (reserved Word.Split) (both number_ (both minus_ number_)))) 0 text.entry }
+{
+    let at = text.place();
+    let text = text.reserved(Word::Split)?;
+    let (variable, text) = text.number()?;
+    let (minus, text) = text.minus();
+    let (bound, text) = text.number()?;
+    let node = Node::Split {
+        at,
+        variable,
+        minus,
+        bound,
+    };
+    Ok((node, text))
+}
+
+/// `"sum" { pair }`
+fn sum_node<'a>(alloc: Global, depth: u32, text: Cursor<'a>) -> Parsed<'a, Node>
+    ensures { Reads view_node result (made Kind.node_sum (past (reserved Word.Sum) (many multiple_))) depth text.entry }
+{
+    let at = text.place();
+    let text = text.reserved(Word::Sum)?;
+    let (pairs, text) = multiples(alloc, depth, text)?;
+    Ok((Node::Sum { at, pairs }, text))
+}
+
+/// `"round" [ "-" ] number { pair }`
+fn round_node<'a>(alloc: Global, depth: u32, text: Cursor<'a>) -> Parsed<'a, Node>
+    ensures { Reads view_node result
+        (made Kind.node_round (past (reserved Word.Round) (both minus_ (both number_ (many multiple_)))))
+        depth text.entry }
+{
+    let at = text.place();
+    let text = text.reserved(Word::Round)?;
+    let (minus, text) = text.minus();
+    let (divisor, text) = text.number()?;
+    let (pairs, text) = multiples(alloc, depth, text)?;
+    let node = Node::Round {
+        at,
+        minus,
+        divisor,
+        pairs,
+    };
+    Ok((node, text))
+}
+
+/// `node = "case" number | "split" number [ "-" ] number | "sum" { pair }
+///       | "round" [ "-" ] number { pair }`
+#[tactic(auto, unfolding(unity_syntax::specs::Grammar::node_))]
+fn node<'a>(alloc: Global, depth: u32, text: Cursor<'a>) -> Parsed<'a, Node>
+    ensures { Reads view_node result node_ depth text.entry }
+{
+    if text.begins_reserved(Word::Case) {
+        return case_node(text);
+    }
+    if text.begins_reserved(Word::Split) {
+        return split_node(text);
+    }
+    if text.begins_reserved(Word::Sum) {
+        return sum_node(alloc, depth, text);
+    }
+    round_node(alloc, depth, text)
+}
+
+/// How many subtrees follow a node.
+fn subtree_count(node: &Node) -> u128
+    ensures { result ≡ subtrees (view_node node.now) }
+{
+    match node {
+        Node::Case { .. } => 2,
+        Node::Split { .. } => 2,
+        Node::Sum { .. } => 0,
+        Node::Round { .. } => 1,
+    }
+}
+
+/// The nodes of so many trees in prefix order. The number of those that are missing is kept in 128
+/// bits, as no text has so many nodes that it would not fit.
+fn more_nodes<'a>(alloc: Global, depth: u32, trees: u128, text: Cursor<'a>) -> Parsed<'a, Seq<Node>>
+    requires { trees ≤ 2 }
+    ensures { Reads (view_list view_node) result (prefix_trees trees subtrees node_) depth text.entry }
+{
+    let mut found = Seq::new(alloc);
+    let mut rest = text;
+    let mut missing = trees;
+    'items: while missing > 0 {
+        let (item, later) = node(alloc, depth, rest)?;
+        missing = missing - 1 + subtree_count(&item);
+        found.push(item)?;
+        rest = later;
+    }
+    Ok((found, rest))
+}
+
+/// `node { node }`, the nodes of one tree in prefix order
+#[tactic(auto, using(crate::proofs::CertificateLoops::one_tree_more))]
+fn nodes<'a>(alloc: Global, depth: u32, text: Cursor<'a>) -> Parsed<'a, (Node, Seq<Node>)>
+    ensures { Reads (λ x. more (view_node x.0) (view_list view_node x.1)) result
+        (prefix_tree subtrees node_) depth text.entry }
+{
+    let (first, text) = node(alloc, depth, text)?;
+    let trees = subtree_count(&first);
+    let (rest, text) = more_nodes(alloc, depth, trees, text)?;
+    Ok(((first, rest), text))
+}
+
+/// What is left after this number, which has to come.
+fn this_number<'a>(number: u64, text: Cursor<'a>) -> Result<Cursor<'a>, Stop<'a>>
+    ensures { Gives (λ rest. (unit, remaining rest)) result (take_number number_class number (remaining text.entry)) }
+{
+    let [first, tokens @ ..] = text.tokens else {
+        return Err(Stop::Unexpected(text));
+    };
+    match first.kind {
+        TokenKind::Number(value) if value == number => Ok(Cursor { tokens, ..text }),
+        _ => Err(Stop::Unexpected(text)),
+    }
+}
+
+/// `":" node { node } ";"`
+#[tactic(auto, unfolding(unity_syntax::specs::Grammar::certificate_))]
+fn body<'a>(alloc: Global, depth: u32, text: Cursor<'a>) -> Parsed<'a, (Node, Seq<Node>)>
+    ensures { Reads (λ x. more (view_node x.0) (view_list view_node x.1)) result certificate_ depth text.entry }
+{
+    let text = text.symbol(Symbol::Colon)?;
+    let (found, text) = nodes(alloc, depth, text)?;
+    let text = text.symbol(Symbol::Semicolon)?;
+    Ok((found, text))
+}
+
+/// `number ":" node { node } ";"`, with this number
+fn certificate<'a>(alloc: Global, depth: u32, number: u64, text: Cursor<'a>) -> Parsed<'a, CertText>
+    ensures { Reads view_certificate result (numbered_item number number_class certificate_) depth text.entry }
+{
+    let at = text.place();
+    let text = this_number(number, text)?;
+    let ((first, rest), text) = body(alloc, depth, text)?;
+    let certificate = CertText {
+        at,
+        number,
+        first,
+        rest,
+    };
+    Ok((certificate, text))
+}
+
+/// The certificate of this number that all the tokens that are left are. `None` where they are not, or memory is
+/// refused.
+pub fn whole_certificate(alloc: Global, number: u64, text: Cursor) -> Option<CertText>
+    ensures { MatchOption result (Unit {0}) (λ x.
+        Derives grammar (numbered_item number number_class certificate_) (view_certificate x) (remaining text.entry)) }
+{
+    match certificate(alloc, 0, number, text) {
+        Ok((found, rest)) if rest.tokens.is_empty() => Some(found),
+        _ => None,
+    }
+}
+
+/// `{ number ":" node { node } ";" }`, where the numbers count up from 1
+fn all_certificates<'a>(alloc: Global, depth: u32, text: Cursor<'a>) -> Parsed<'a, Seq<CertText>>
+    ensures { Reads (view_list view_certificate) result (numbered 1 number_class certificate_) depth text.entry }
+{
+    let mut found = Seq::new(alloc);
+    let mut rest = text;
+    let mut count = 0;
+    'items: while rest.begins_number() {
+        let number = count + 1;
+        let (item, later) = certificate(alloc, depth, number, rest)?;
+        found.push(item)?;
+        rest = later;
+        count = number;
+    }
+    Ok((found, rest))
+}
+
+/// `certificates = "certificates" { number ":" node { node } ";" } "end"`
+#[tactic(auto, unfolding(unity_syntax::specs::Grammar::certificates_))]
+pub fn certificates<'a>(alloc: Global, depth: u32, text: Cursor<'a>) -> Parsed<'a, Certificates>
+    ensures { Reads view_certificates result certificates_ depth text.entry }
+{
+    let at = text.place();
+    let text = text.reserved(Word::Certificates)?;
+    let (items, text) = all_certificates(alloc, depth, text)?;
+    let text = text.end()?;
+    Ok((Certificates { at, items }, text))
+}

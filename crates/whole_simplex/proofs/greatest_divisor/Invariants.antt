@@ -1,4 +1,0 @@
-use Rattle.whole_simplex.proofs.greatest_divisor.Given as goal
-
-abbrev pub decreases-steps : goal.decreases-steps
-decreases-steps l = l.other
