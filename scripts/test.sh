@@ -488,6 +488,12 @@ done
 for name in bakery chang_roberts k_state go_back_n msi dining; do
     expect_cause "causes/$name"
 done
+# the programs of the book of Chandy and Misra
+for name in meeting_time; do
+    expect 1 "$name"
+    expect_proof "$name" "$name.accepted"
+    expect_counted "$name" "$name.accepted"
+done
 expect_claim 13000 +
 expect_refuted pick
 expect_refuted race
