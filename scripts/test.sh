@@ -489,7 +489,7 @@ for name in bakery chang_roberts k_state go_back_n msi dining; do
     expect_cause "causes/$name"
 done
 # the programs of the book of Chandy and Misra
-for name in meeting_time sort; do
+for name in meeting_time sort odd_even; do
     expect 1 "$name"
     expect_proof "$name" "$name.accepted"
     expect_counted "$name" "$name.accepted"
@@ -509,6 +509,7 @@ expect_run two_phase_commit
 expect_run barrier
 expect_run race
 expect_run sort
+expect_run odd_even
 expect_replay past_the_end
 expect_replay peterson
 expect_replay two_phase_commit
