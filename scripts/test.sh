@@ -489,7 +489,7 @@ for name in bakery chang_roberts k_state go_back_n msi dining; do
     expect_cause "causes/$name"
 done
 # the programs of the book of Chandy and Misra
-for name in meeting_time sort odd_even reachability shortest_path; do
+for name in meeting_time sort odd_even reachability shortest_path termination; do
     expect 1 "$name"
     expect_proof "$name" "$name.accepted"
     expect_counted "$name" "$name.accepted"
@@ -514,6 +514,7 @@ expect_replay past_the_end
 expect_replay peterson
 expect_replay two_phase_commit
 expect_replay race
+expect_replay termination
 expect_line 2 "bad 61 NoProgram" run None 3 < examples/count.unity
 expect_line 2 "bad 60 NoSchedule" replay < examples/count.unity
 expect_line 2 "bad 10 Unknown byte 50" run P 1 < examples/unknown_name.unity
