@@ -489,7 +489,7 @@ for name in bakery chang_roberts k_state go_back_n msi dining; do
     expect_cause "causes/$name"
 done
 # the programs of the book of Chandy and Misra
-for name in meeting_time sort odd_even reachability shortest_path termination binomial; do
+for name in meeting_time sort odd_even reachability shortest_path termination binomial garbage; do
     expect 1 "$name"
     expect_proof "$name" "$name.accepted"
     expect_counted "$name" "$name.accepted"
