@@ -1,0 +1,79 @@
+// ---- Where in the document an answer points, and the picture of a trace. No part of this touches the page.
+
+// The line (from 1) and the index in the text of a byte of the document, which answers count from 0.
+function placeOfByte(source, at) {
+  const bytes = new TextEncoder().encode(source);
+  const before = new TextDecoder().decode(bytes.subarray(0, Math.min(at, bytes.length)));
+  return { line: before.split('\n').length, index: before.length };
+}
+
+// The line of a step: after the line that begins its proof, the first with its name before `(` or `:`.
+function placeOfStep(source, program, step) {
+  const head = new RegExp(`(^|[ \\t])proof[ \\t]+${program}([ \\t]|$)`);
+  const named = step && new RegExp(`(^|[ \\t;])${step}[ \\t]*[(:]`);
+  let index = 0, inside = false, number = 1;
+  for (const line of source.split('\n')) {
+    const code = line.replace(/#.*/, '');
+    inside = inside || head.test(code);
+    if (inside && (!step || named.test(code))) return { line: number, index };
+    index += line.length + 1;
+    number++;
+  }
+  return null;
+}
+
+function placeOf(source, answer) {
+  const first = answer.split('\n', 1)[0];
+  const byte = /^bad \d+ \w+ byte (\d+)$/.exec(first);
+  if (byte) return placeOfByte(source, Number(byte[1]));
+  const step = /^(?:rejected \d+ \w+|refuted|budget) (\w+)(?:\.(\w+))?/.exec(first);
+  return step && placeOfStep(source, step[1], step[2]);
+}
+
+const isTrace = answer => /^(run|replay) \w+\n/.test(answer);
+
+// The states of a trace, as rows of a number, a statement and the values; and the heads of the columns.
+function tableOf(trace) {
+  const lines = trace.replace(/\n$/, '').split('\n'), rows = [], head = ['state', 'statement'];
+  for (const line of lines.slice(1, -1)) {
+    const words = line.split(' '), first = rows.length ? 2 : 1;
+    const cells = words.slice(first).map(it => [it.slice(0, it.indexOf('=')), it.slice(it.indexOf('=') + 1)]);
+    cells.forEach(([name], k) => { head[k + 2] = name; });
+    rows.push([words[0], rows.length ? words[1] : '', ...cells.map(it => it[1])]);
+  }
+  return { title: lines[0], head, rows, last: lines[lines.length - 1] };
+}
+
+const escaped = text => text.replace(/&/g, '&amp;').replace(/</g, '&lt;').replace(/>/g, '&gt;');
+
+// The picture of a trace, byte by byte the one that scripts/trace_svg.sh draws.
+function traceSvg(trace) {
+  const { title, head, rows, last } = tableOf(trace);
+  const wide = head.map((name, k) => Math.max(name.length, ...rows.map(it => it[k].length)));
+  const x = [];
+  let left = 10;
+  wide.forEach((n, k) => { x[k] = left; left += n * 8 + 16; });
+  const width = Math.max(left + 2, title.length * 8 + 30, last.length * 8 + 30), height = rows.length * 20 + 96;
+  const cell = (at, y, kind, text) => `<text x="${at}" y="${y}"${kind && ` class="${kind}"`}>${escaped(text)}</text>`;
+  const out = [
+    `<svg xmlns="http://www.w3.org/2000/svg" width="${width}" height="${height}" viewBox="0 0 ${width} ${height}">`,
+    `<title>${escaped(title)}</title>`,
+    '<style>text { font: 13px monospace; fill: #202020 } .head, .new { font-weight: bold }',
+    '.bad { font-weight: bold; fill: #a00000 } .mark { fill: #ffe08a } line { stroke: #b0b0b0 }</style>',
+    `<rect width="${width}" height="${height}" fill="#ffffff"/>`,
+    cell(10, 24, 'head', title),
+    ...head.map((name, k) => cell(x[k], 52, 'head', name)),
+    `<line x1="10" y1="60" x2="${left - 6}" y2="60"/>`,
+  ];
+  rows.forEach((state, n) => {
+    const y = 78 + n * 20;
+    state.forEach((value, k) => {
+      const changed = n > 0 && k > 1 && value !== rows[n - 1][k];
+      const mark = `<rect class="mark" x="${x[k] - 4}" y="${y - 14}" width="${wide[k] * 8 + 8}" height="18"/>`;
+      if (changed) out.push(mark);
+      out.push(cell(x[k], y, changed ? 'new' : '', value));
+    });
+  });
+  out.push(cell(10, height - 10, /^undefined/.test(last) ? 'bad' : '', last), '</svg>');
+  return out.join('\n') + '\n';
+}

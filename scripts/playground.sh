@@ -1,0 +1,108 @@
+#!/bin/bash
+# Makes the page in which documents are checked in a browser, playground/unity.html, and tries it:
+#
+#     bash scripts/playground.sh [--check | --try | --all] [--pictures]
+#
+# The page is one file with the program in it, as WebAssembly. Each of its answers is compared with that of the native
+# program on all of examples/ (under node), its places and pictures with those of scripts/, and the page is driven in
+# Debian's chromium, without a window: it fails where anything left the page. What can't be tried here, since `node`,
+# `chromium`, `wasm-opt` or the built program is missing, is said, and is a failure with --all alone.
+# --check makes nothing, and fails where the page is not the one of the present sources. --try makes nothing either, and
+# tries the page that is there. With --pictures the browser's pictures in docs/ are made anew.
+# The libraries and the program are those that scripts/test.sh or scripts/build.sh left in crates/*/out.
+set -eu
+top=$(cd "$(dirname "$0")/.." && pwd)
+cd "$top"
+. scripts/places.sh
+export PYTHONDONTWRITEBYTECODE=1
+page=playground/unity.html
+here=scripts/playground
+makes=1
+tries=1
+all=
+pictures=
+failed=0
+work=$(mktemp -d)
+trap 'rm -rf "$work"' EXIT
+
+for word in "$@"; do
+    case $word in
+        --check) makes= tries= ;;
+        --try) makes= ;;
+        --all) all=1 ;;
+        --pictures) pictures=docs ;;
+        *) echo "usage: bash scripts/playground.sh [--check | --try | --all] [--pictures]" >&2; exit 64 ;;
+    esac
+done
+
+# has NAME FOR: whether there is such a command. Where there is none it says what is not done.
+has() {
+    if command -v "$1" > /dev/null; then
+        return 0
+    fi
+    echo "$1 is missing, so this was not done: $2"
+    if [ -n "$all" ]; then
+        failed=1
+    fi
+    return 1
+}
+
+# make_page: the module, and the page of it, with the commit in its foot; a star where files have changed since.
+make_page() {
+    local commit
+    commit=$(git rev-parse --short=12 HEAD)
+    if ! python3 $here/sources.py --names | xargs git diff --quiet HEAD --; then
+        commit="$commit*"
+    fi
+    bash $here/module.sh "$work/unity.wasm"
+    python3 $here/build.py "$work/unity.wasm" "$page" "$commit" "$(python3 $here/sources.py)"
+}
+
+# is_present: whether the page says that it was made of the present sources.
+is_present() {
+    grep -q "<span id=\"sources\">$(python3 $here/sources.py)</span>" "$page"
+}
+
+# try_part WORD..: runs it, and remembers where it fails.
+try_part() {
+    "$@" || failed=1
+}
+
+# try_heap: the heap in C by itself, and the arithmetic that stands beside it.
+try_heap() {
+    bash $here/module.sh "$work/heap.wasm" --heap && node $here/try_heap.mjs "$work/heap.wasm"
+}
+
+if [ -n "$makes" ] && has wasm-opt "a new page was not made"; then
+    make_page
+fi
+if [ ! -e "$page" ]; then
+    echo "there is no $page" >&2
+    exit 1
+elif is_present; then
+    echo "$page is made of the present sources"
+else
+    echo "$page is made of other sources than the present ones: bash scripts/playground.sh makes it anew"
+    failed=1
+fi
+if [ -z "$tries" ]; then
+    exit "$failed"
+fi
+if has node "the answers, places and pictures were not compared"; then
+    if has wasm-opt "the heap was not tried by itself"; then
+        try_part try_heap
+    fi
+    try_part node $here/try_places.mjs "$page"
+    if [ -n "$built" ]; then
+        try_part node $here/try_answers.mjs "$page" "$built"
+    else
+        echo "the program is not built (scripts/build.sh), so the answers were not compared"
+        if [ -n "$all" ]; then
+            failed=1
+        fi
+    fi
+fi
+if has chromium "the page was not tried in a browser"; then
+    try_part python3 $here/try_browser.py "$page" $pictures
+fi
+exit "$failed"
