@@ -1,7 +1,7 @@
 //! What a page in a browser calls: the program's one call, over bytes that the page holds.
 #![tactic(auto)]
 
-ghost use Rattle.std.specs.Prelude.{◌≡◌, ◌≤◌, length, take, [], ◌∷◌, Some, IfOk, string_bytes};
+ghost use Rattle.std.specs.Prelude.{◌≡◌, ◌≢◌, ◌≤◌, length, take, [], ◌∷◌, Some, IfOk, false, string_bytes};
 ghost use Rattle.std.specs.Str.{IsUtf8};
 ghost use Rattle.unity_syntax.specs.declared.document.Document.{Document};
 ghost use Rattle.unity_parser.specs.Document.{IsDocument};
@@ -9,17 +9,21 @@ ghost use Rattle.cli_words.specs.Requests.{asked, request_of, check};
 ghost use Rattle.unity_cli.specs.Answer.{Tells};
 ghost use Rattle.unity_cli.specs.Status.{HasText, status_number};
 ghost use Rattle.unity_cli.specs.Truth.{ClaimsAreTrue, ProgramsRun, WritesWhatIsTrue};
-ghost use Rattle.unity_web.specs.Web.{IsAnswered};
+ghost use Rattle.unity_web.specs.Web.{IsGiven, IsTooLong};
 
+mod text_sink;
+
+use crate::text_sink::TextSink;
 use std::alloc::{AllocError, Global};
-use unity_base::{MemSink, MemSource};
+use unity_base::MemSource;
 use unity_cli::{Status, unity};
 
 /// How a call ended.
 #[derive(Drop)]
 #[repr(C)]
 pub struct Answer {
-    /// The number with which the program would exit. 8: the room is too small for the text.
+    /// The number with which the program would exit. 8: the text is longer than the room, and none of it stands there.
+    /// 9: memory was refused. 7 does not come: the document is at hand.
     pub status: u32,
     /// How many bytes of the room are the text.
     pub len: usize,
@@ -37,7 +41,17 @@ impl Answer {
     }
 }
 
-// The text stands in the room from its start.
+// Whether no whole text comes with a status.
+fn is_fault(status: Status) -> bool
+    ensures { result ≡ false → HasText status }
+{
+    match status {
+        Status::ReadFault | Status::WriteFault | Status::WantOfMemory => true,
+        _ => false,
+    }
+}
+
+// The text stands in the room from its start, or none of it where it is longer.
 fn write_answer(
     alloc: Global,
     words: &[String],
@@ -47,6 +61,9 @@ fn write_answer(
     ensures within { IfOk result (λ r. r.1 ≤ length room.new) }
     ensures tells { IfOk result (λ r. HasText r.0 →
         Tells (asked words.now) (Some source.now) r.0 (Some []) (Some (take r.1 room.new))) }
+    ensures too_long { IfOk result (λ r. r.0 ≡ Status.WriteFault →
+        IsTooLong (asked words.now) source.now (length room.new)) }
+    ensures read { IfOk result (λ r. r.0 ≢ Status.ReadFault) }
     ensures safe { IfOk result (λ r. r.0 ≡ Status.Done → asked words.now ≡ Some check →
         (d : Document) → IsDocument source.now d → ClaimsAreTrue d) }
     ensures bounds { IfOk result (λ r. r.0 ≡ Status.Done → asked words.now ≡ Some check →
@@ -55,9 +72,13 @@ fn write_answer(
         (d : Document) → IsDocument source.now d → ProgramsRun d) }
 {
     let mut src = MemSource::new(source.to_vec(alloc)?, Vec::new(alloc));
-    let mut out = MemSink::new(alloc, room.len(), Vec::new(alloc))?;
+    let mut out = TextSink::new(alloc);
     let status = unity(alloc, words, &mut src, &mut out);
-    let text = out.written();
+    // The source gives all bytes that it has, and the sink fails where memory is refused alone.
+    if is_fault(status) {
+        return Err(AllocError);
+    }
+    let text = out.text();
     if room.len() < text.len() {
         return Ok((Status::WriteFault, 0));
     }
@@ -67,7 +88,7 @@ fn write_answer(
 
 fn answer_in(alloc: Global, words: &[String], source: &[u8], room: &mut [u8]) -> Answer
     ensures within { result.len ≤ length room.new }
-    ensures answered { IsAnswered (asked words.now) source.now result.status (take result.len room.new) }
+    ensures answered { IsGiven (asked words.now) source.now (length room.new) result.status (take result.len room.new) }
     ensures safe { result.status ≡ 0 → asked words.now ≡ Some check →
         (d : Document) → IsDocument source.now d → ClaimsAreTrue d }
     ensures bounds { result.status ≡ 0 → asked words.now ≡ Some check →
@@ -96,7 +117,7 @@ fn answer_one(
 ) -> Result<Answer, AllocError>
     ensures within { IfOk result (λ answer. answer.len ≤ length room.new) }
     ensures answered { IfOk result (λ answer. IsUtf8 word.now →
-        IsAnswered (request_of (word.now ∷ [])) source.now answer.status (take answer.len room.new)) }
+        IsGiven (request_of (word.now ∷ [])) source.now (length room.new) answer.status (take answer.len room.new)) }
     ensures safe { IfOk result (λ answer. IsUtf8 word.now → answer.status ≡ 0 →
         request_of (word.now ∷ []) ≡ Some check → (d : Document) → IsDocument source.now d → ClaimsAreTrue d) }
     ensures bounds { IfOk result (λ answer. IsUtf8 word.now → answer.status ≡ 0 →
@@ -118,7 +139,8 @@ fn answer_two(
 ) -> Result<Answer, AllocError>
     ensures within { IfOk result (λ answer. answer.len ≤ length room.new) }
     ensures answered { IfOk result (λ answer. IsUtf8 word.now → IsUtf8 second.now →
-        IsAnswered (request_of (word.now ∷ second.now ∷ [])) source.now answer.status (take answer.len room.new)) }
+        IsGiven (request_of (word.now ∷ second.now ∷ [])) source.now (length room.new) answer.status
+        (take answer.len room.new)) }
 {
     let words = [word_of(alloc, word)?, word_of(alloc, second)?];
     Ok(answer_in(alloc, &words, source, room))
@@ -134,7 +156,7 @@ fn answer_three(
 ) -> Result<Answer, AllocError>
     ensures within { IfOk result (λ answer. answer.len ≤ length room.new) }
     ensures answered { IfOk result (λ answer. IsUtf8 word.now → IsUtf8 second.now → IsUtf8 third.now →
-        IsAnswered (request_of (word.now ∷ second.now ∷ third.now ∷ [])) source.now answer.status
+        IsGiven (request_of (word.now ∷ second.now ∷ third.now ∷ [])) source.now (length room.new) answer.status
         (take answer.len room.new)) }
 {
     let words = [
@@ -156,7 +178,8 @@ pub extern "C" fn unity_one(
 )
     ensures within { answer.new.len ≤ length room.new }
     ensures answered { IsUtf8 word.now →
-        IsAnswered (request_of (word.now ∷ [])) source.now answer.new.status (take answer.new.len room.new) }
+        IsGiven (request_of (word.now ∷ [])) source.now (length room.new) answer.new.status
+        (take answer.new.len room.new) }
     ensures safe { IsUtf8 word.now → answer.new.status ≡ 0 → request_of (word.now ∷ []) ≡ Some check →
         (d : Document) → IsDocument source.now d → ClaimsAreTrue d }
     ensures bounds { IsUtf8 word.now → answer.new.status ≡ 0 → request_of (word.now ∷ []) ≡ Some check →
@@ -183,7 +206,7 @@ pub extern "C" fn unity_two(
 )
     ensures within { answer.new.len ≤ length room.new }
     ensures answered { IsUtf8 word.now → IsUtf8 second.now →
-        IsAnswered (request_of (word.now ∷ second.now ∷ [])) source.now answer.new.status
+        IsGiven (request_of (word.now ∷ second.now ∷ [])) source.now (length room.new) answer.new.status
         (take answer.new.len room.new) }
 {
     *answer = match answer_two(alloc, word, second, source, room) {
@@ -205,7 +228,7 @@ pub extern "C" fn unity_three(
 )
     ensures within { answer.new.len ≤ length room.new }
     ensures answered { IsUtf8 word.now → IsUtf8 second.now → IsUtf8 third.now →
-        IsAnswered (request_of (word.now ∷ second.now ∷ third.now ∷ [])) source.now answer.new.status
+        IsGiven (request_of (word.now ∷ second.now ∷ third.now ∷ [])) source.now (length room.new) answer.new.status
         (take answer.new.len room.new) }
 {
     *answer = match answer_three(alloc, word, second, third, source, room) {

@@ -18,9 +18,9 @@ returns-clause-safe c = λ done is_check d reading. c.unity-status.ensures.safe 
 
 pub returns-clause-bounds : goal.returns-clause-bounds
 returns-clause-bounds c = λ done is_check d reading.
-    let copied : c.copy_from_slice.new.self ≡ c.written-text.result.now = c.copy_from_slice.ensures.after in
-    whole d _ _ _ (c.unity-status.ensures.bounds done is_check _ d (search rules) reading) c.in_ok-out.ensures.bytes
-    (take_at _ _ _ (ap length copied) ∙ copied ∙ c.written-text.ensures)
+    let copied : c.copy_from_slice.new.self ≡ c.text-text.result.now = c.copy_from_slice.ensures.after in
+    whole d _ _ _ (c.unity-status.ensures.bounds done is_check _ d (search rules) reading) c.new-out.ensures.text
+    (take_at _ _ _ (ap length copied) ∙ copied ∙ c.text-text.ensures)
 
 pub returns-clause-runs : goal.returns-clause-runs
 returns-clause-runs c = λ done is_check d reading. c.unity-status.ensures.runs done is_check _ d (search rules) reading
