@@ -7,7 +7,7 @@ ghost use Rattle.core_terms.specs.Folding as fold;
 
 use crate::trees::{CForm, CTerm};
 use std::alloc::{AllocError, Global};
-use unity_base::Held;
+use unity_base::Shared;
 
 /// The value of a term that has no slot and no parameter; `None` where one is named.
 // The last part is looked at first, since it mostly tells that there is none. Nodes have functions of
@@ -31,7 +31,7 @@ pub fn number_of(t: &CTerm) -> Option<i128>
 
 #[cycle(known)]
 #[inline(never)]
-fn known_sum(a: &Held<CTerm>, b: &Held<CTerm>) -> Option<i128>
+fn known_sum(a: &Shared<CTerm>, b: &Shared<CTerm>) -> Option<i128>
     requires { (sum_weights (plain_weights a.now) (plain_weights b.now)).most ≤ 2 ^ 126 }
     ensures value { result ≡ fold.joined (λ x y. x +ℤ y) (fold.number_of a.now) (fold.number_of b.now) }
     ensures bound { MatchOption result (Unit {0}) (λ z. unsigned_abs z ≤
@@ -43,7 +43,7 @@ fn known_sum(a: &Held<CTerm>, b: &Held<CTerm>) -> Option<i128>
 
 #[cycle(known)]
 #[inline(never)]
-fn known_difference(a: &Held<CTerm>, b: &Held<CTerm>) -> Option<i128>
+fn known_difference(a: &Shared<CTerm>, b: &Shared<CTerm>) -> Option<i128>
     requires { (sum_weights (plain_weights a.now) (plain_weights b.now)).most ≤ 2 ^ 126 }
     ensures value { result ≡ fold.joined (λ x y. x -ℤ y) (fold.number_of a.now) (fold.number_of b.now) }
     ensures bound { MatchOption result (Unit {0}) (λ z. unsigned_abs z ≤
@@ -55,7 +55,7 @@ fn known_difference(a: &Held<CTerm>, b: &Held<CTerm>) -> Option<i128>
 
 #[cycle(known)]
 #[inline(never)]
-fn known_multiple(k: i64, a: &Held<CTerm>) -> Option<i128>
+fn known_multiple(k: i64, a: &Shared<CTerm>) -> Option<i128>
     requires { (multiple_weights k (plain_weights a.now)).most ≤ 2 ^ 126 }
     ensures value { result ≡ option_map (λ x. k *ℤ x) (fold.number_of a.now) }
     ensures bound { MatchOption result (Unit {0}) (λ z. unsigned_abs z ≤ unsigned_abs k * (plain_weights a.now).own) }
@@ -65,7 +65,7 @@ fn known_multiple(k: i64, a: &Held<CTerm>) -> Option<i128>
 
 #[cycle(known)]
 #[inline(never)]
-fn known_choice(c: &Held<CForm>, a: &Held<CTerm>, b: &Held<CTerm>) -> Option<i128>
+fn known_choice(c: &Shared<CForm>, a: &Shared<CTerm>, b: &Shared<CTerm>) -> Option<i128>
     requires { (choice_weights (plain_weight c.now) (plain_weights a.now) (plain_weights b.now)).most ≤ 2 ^ 126 }
     ensures value { result ≡ fold.chosen (fold.truth_of c.now) (fold.number_of a.now) (fold.number_of b.now) }
     ensures bound { MatchOption result (Unit {0}) (λ z. unsigned_abs z ≤
@@ -169,7 +169,7 @@ pub fn sum_term(alloc: Global, a: CTerm, b: CTerm) -> Result<CTerm, AllocError>
     ensures own { IfOk result (λ t. (plain_weights t).own ≤ (plain_weights a).own + (plain_weights b).own) }
     ensures most { IfOk result (λ t. (plain_weights t).most ≤ 2 ^ 126) }
 {
-    let whole = CTerm::Add(Held::new(alloc, a)?, Held::new(alloc, b)?);
+    let whole = CTerm::Add(Shared::new(alloc, a)?, Shared::new(alloc, b)?);
     Ok(folded_term(whole))
 }
 
@@ -183,7 +183,7 @@ pub fn difference_term(alloc: Global, a: CTerm, b: CTerm) -> Result<CTerm, Alloc
     ensures own { IfOk result (λ t. (plain_weights t).own ≤ (plain_weights a).own + (plain_weights b).own) }
     ensures most { IfOk result (λ t. (plain_weights t).most ≤ 2 ^ 126) }
 {
-    let whole = CTerm::Sub(Held::new(alloc, a)?, Held::new(alloc, b)?);
+    let whole = CTerm::Sub(Shared::new(alloc, a)?, Shared::new(alloc, b)?);
     Ok(folded_term(whole))
 }
 
@@ -197,7 +197,7 @@ pub fn scaled_term(alloc: Global, k: i64, a: CTerm) -> Result<CTerm, AllocError>
     ensures own { IfOk result (λ t. (plain_weights t).own ≤ unsigned_abs k * (plain_weights a).own) }
     ensures most { IfOk result (λ t. (plain_weights t).most ≤ 2 ^ 126) }
 {
-    let whole = CTerm::Scale(k, Held::new(alloc, a)?);
+    let whole = CTerm::Scale(k, Shared::new(alloc, a)?);
     Ok(folded_term(whole))
 }
 
@@ -214,9 +214,9 @@ pub fn choice_term(alloc: Global, c: CForm, a: CTerm, b: CTerm) -> Result<CTerm,
         Some(true) => Ok(a),
         Some(false) => Ok(b),
         None => Ok(CTerm::Ite(
-            Held::new(alloc, c)?,
-            Held::new(alloc, a)?,
-            Held::new(alloc, b)?,
+            Shared::new(alloc, c)?,
+            Shared::new(alloc, a)?,
+            Shared::new(alloc, b)?,
         )),
     }
 }
@@ -247,7 +247,7 @@ pub fn not_form(alloc: Global, f: CForm) -> Result<CForm, AllocError>
     ensures tree { IfOk result (λ h. h ≡ fold.not_form f) }
     ensures weight { IfOk result (λ h. plain_weight h ≤ plain_weight f) }
 {
-    let whole = CForm::Not(Held::new(alloc, f)?);
+    let whole = CForm::Not(Shared::new(alloc, f)?);
     Ok(folded_form(whole))
 }
 
@@ -259,7 +259,7 @@ pub fn and_form(alloc: Global, f: CForm, g: CForm) -> Result<CForm, AllocError>
     ensures tree { IfOk result (λ h. h ≡ fold.and_form f g) }
     ensures weight { IfOk result (λ h. plain_weight h ≤ max (plain_weight f) (plain_weight g)) }
 {
-    let whole = CForm::And(Held::new(alloc, f)?, Held::new(alloc, g)?);
+    let whole = CForm::And(Shared::new(alloc, f)?, Shared::new(alloc, g)?);
     Ok(folded_form(whole))
 }
 
@@ -271,7 +271,7 @@ pub fn or_form(alloc: Global, f: CForm, g: CForm) -> Result<CForm, AllocError>
     ensures tree { IfOk result (λ h. h ≡ fold.or_form f g) }
     ensures weight { IfOk result (λ h. plain_weight h ≤ max (plain_weight f) (plain_weight g)) }
 {
-    let whole = CForm::Or(Held::new(alloc, f)?, Held::new(alloc, g)?);
+    let whole = CForm::Or(Shared::new(alloc, f)?, Shared::new(alloc, g)?);
     Ok(folded_form(whole))
 }
 
@@ -279,25 +279,25 @@ pub fn or_form(alloc: Global, f: CForm, g: CForm) -> Result<CForm, AllocError>
 ///
 /// An error says that memory was refused.
 #[inline(never)]
-pub fn placed_form(alloc: Global, whole: CForm) -> Result<Held<CForm>, AllocError>
+pub fn placed_form(alloc: Global, whole: CForm) -> Result<Shared<CForm>, AllocError>
     requires { plain_weight whole ≤ 2 ^ 126 }
     ensures tree { IfOk result (λ h. h ≡ fold.folded_form whole) }
     ensures weight { IfOk result (λ h. plain_weight h ≤ plain_weight whole) }
 {
-    Held::new(alloc, folded_form(whole))
+    Shared::new(alloc, folded_form(whole))
 }
 
 /// A term, folded, in a place of its own.
 ///
 /// An error says that memory was refused.
 #[inline(never)]
-pub fn placed_term(alloc: Global, whole: CTerm) -> Result<Held<CTerm>, AllocError>
+pub fn placed_term(alloc: Global, whole: CTerm) -> Result<Shared<CTerm>, AllocError>
     requires { (plain_weights whole).most ≤ 2 ^ 126 }
     ensures tree { IfOk result (λ t. t ≡ fold.folded_term whole) }
     ensures own { IfOk result (λ t. (plain_weights t).own ≤ (plain_weights whole).own) }
     ensures most { IfOk result (λ t. (plain_weights t).most ≤ (plain_weights whole).most) }
 {
-    Held::new(alloc, folded_term(whole))
+    Shared::new(alloc, folded_term(whole))
 }
 
 /// The choice between two terms, folded, in a place of its own.
@@ -306,10 +306,10 @@ pub fn placed_term(alloc: Global, whole: CTerm) -> Result<Held<CTerm>, AllocErro
 #[inline(never)]
 pub fn placed_choice(
     alloc: Global,
-    c: Held<CForm>,
-    a: Held<CTerm>,
-    b: Held<CTerm>,
-) -> Result<Held<CTerm>, AllocError>
+    c: Shared<CForm>,
+    a: Shared<CTerm>,
+    b: Shared<CTerm>,
+) -> Result<Shared<CTerm>, AllocError>
     requires { plain_weight c ≤ 2 ^ 126 }
     ensures tree { IfOk result (λ t. t ≡ fold.choice_term c a b) }
     ensures own { IfOk result (λ t. (plain_weights t).own ≤ max (plain_weights a).own (plain_weights b).own) }
@@ -319,6 +319,6 @@ pub fn placed_choice(
     match truth_of(c.get()) {
         Some(true) => Ok(a),
         Some(false) => Ok(b),
-        None => Held::new(alloc, CTerm::Ite(c, a, b)),
+        None => Shared::new(alloc, CTerm::Ite(c, a, b)),
     }
 }

@@ -6,10 +6,11 @@ ghost use Rattle.meaning_states.specs.State.{int_eq};
 ghost use Rattle.core_terms.specs.Weights.{plain_weights, plain_weight, sum_weights, multiple_weights, choice_weights};
 ghost use Rattle.core_terms.specs.Folding as fold;
 
+use crate::copies::owned_term;
 use crate::folding::{form_by, scaled, term_by};
 use crate::trees::{CForm, CTerm};
 use std::alloc::{AllocError, Global};
-use unity_base::Held;
+use unity_base::Shared;
 
 /// The sum of two terms, folded. `first` is the number of the first term, and `number` that of the
 /// second before the call and that of the result after it; there is none where a slot or a parameter is named.
@@ -19,11 +20,11 @@ use unity_base::Held;
 #[tactic(auto, using(crate::proofs::KnownLaws::number_bound))]
 pub fn sum_known(
     alloc: Global,
-    a: Held<CTerm>,
+    a: Shared<CTerm>,
     first: Option<i128>,
-    b: Held<CTerm>,
+    b: Shared<CTerm>,
     number: &mut Option<i128>,
-) -> Result<Held<CTerm>, AllocError>
+) -> Result<Shared<CTerm>, AllocError>
     requires first { first ≡ fold.number_of a }
     requires second { number.old ≡ fold.number_of b }
     requires weight { (sum_weights (plain_weights a) (plain_weights b)).most ≤ 2 ^ 126 }
@@ -55,11 +56,11 @@ fn sum_number(a: &CTerm, first: Option<i128>, b: &CTerm, second: Option<i128>) -
 #[tactic(auto, using(crate::proofs::KnownLaws::number_bound))]
 pub fn difference_known(
     alloc: Global,
-    a: Held<CTerm>,
+    a: Shared<CTerm>,
     first: Option<i128>,
-    b: Held<CTerm>,
+    b: Shared<CTerm>,
     number: &mut Option<i128>,
-) -> Result<Held<CTerm>, AllocError>
+) -> Result<Shared<CTerm>, AllocError>
     requires first { first ≡ fold.number_of a }
     requires second { number.old ≡ fold.number_of b }
     requires weight { (sum_weights (plain_weights a) (plain_weights b)).most ≤ 2 ^ 126 }
@@ -97,9 +98,9 @@ fn difference_number(
 pub fn scaled_known(
     alloc: Global,
     k: i64,
-    a: Held<CTerm>,
+    a: Shared<CTerm>,
     number: &mut Option<i128>,
-) -> Result<Held<CTerm>, AllocError>
+) -> Result<Shared<CTerm>, AllocError>
     requires part { number.old ≡ fold.number_of a }
     requires weight { (multiple_weights k (plain_weights a)).most ≤ 2 ^ 126 }
     ensures tree { IfOk result (λ t. t ≡ fold.scaled_term k a) }
@@ -128,13 +129,13 @@ fn scaled_number(k: i64, a: &CTerm, part: Option<i128>) -> Option<i128>
 #[inline(never)]
 pub fn choice_known(
     alloc: Global,
-    c: Held<CForm>,
+    c: Shared<CForm>,
     truth: Option<bool>,
-    a: Held<CTerm>,
+    a: Shared<CTerm>,
     first: Option<i128>,
-    b: Held<CTerm>,
+    b: Shared<CTerm>,
     number: &mut Option<i128>,
-) -> Result<Held<CTerm>, AllocError>
+) -> Result<Shared<CTerm>, AllocError>
     requires condition { truth ≡ fold.truth_of c }
     requires first { first ≡ fold.number_of a }
     requires second { number.old ≡ fold.number_of b }
@@ -152,7 +153,7 @@ pub fn choice_known(
         Some(false) => Ok(b),
         None => {
             *number = None;
-            Held::new(alloc, CTerm::Ite(c, a, b))
+            Shared::new(alloc, CTerm::Ite(c, a, b))
         }
     }
 }
@@ -164,17 +165,20 @@ pub fn choice_known(
 #[tactic(auto, using(crate::proofs::WeightLaws::weight_folded_form))]
 pub fn at_least_known(
     alloc: Global,
-    t: Held<CTerm>,
+    t: Shared<CTerm>,
     number: Option<i128>,
     truth: &mut Option<bool>,
-) -> Result<Held<CForm>, AllocError>
+) -> Result<Shared<CForm>, AllocError>
     requires { number ≡ fold.number_of t }
     ensures tree { IfOk result (λ f. f ≡ fold.at_least_form t) }
     ensures truth { IfOk result (λ f. truth.new ≡ fold.truth_of f) }
     ensures weight { IfOk result (λ f. plain_weight f ≤ (plain_weights t).most) }
 {
     *truth = number.map(|z| z >= 0);
-    Held::new(alloc, form_by(CForm::AtLeast(t.into_inner()), *truth))
+    Shared::new(
+        alloc,
+        form_by(CForm::AtLeast(owned_term(alloc, t)?), *truth),
+    )
 }
 
 /// That a term is 0, folded, and the truth of that. `number` is the number of the term.
@@ -184,10 +188,10 @@ pub fn at_least_known(
 #[tactic(auto, using(crate::proofs::WeightLaws::weight_folded_form))]
 pub fn zero_known(
     alloc: Global,
-    t: Held<CTerm>,
+    t: Shared<CTerm>,
     number: Option<i128>,
     truth: &mut Option<bool>,
-) -> Result<Held<CForm>, AllocError>
+) -> Result<Shared<CForm>, AllocError>
     requires { number ≡ fold.number_of t }
     ensures tree { IfOk result (λ f. f ≡ fold.zero_form t) }
     ensures truth { IfOk result (λ f. truth.new ≡ fold.truth_of f) }
@@ -197,7 +201,7 @@ pub fn zero_known(
         Some(z) => Some(z == 0),
         None => None,
     };
-    Held::new(alloc, form_by(CForm::Zero(t.into_inner()), *truth))
+    Shared::new(alloc, form_by(CForm::Zero(owned_term(alloc, t)?), *truth))
 }
 
 /// That a formula does not hold, folded. `truth` is that of the formula before the call and that of the
@@ -208,16 +212,16 @@ pub fn zero_known(
 #[tactic(auto, using(crate::proofs::WeightLaws::weight_folded_form))]
 pub fn not_known(
     alloc: Global,
-    f: Held<CForm>,
+    f: Shared<CForm>,
     truth: &mut Option<bool>,
-) -> Result<Held<CForm>, AllocError>
+) -> Result<Shared<CForm>, AllocError>
     requires { truth.old ≡ fold.truth_of f }
     ensures tree { IfOk result (λ h. h ≡ fold.not_form f) }
     ensures truth { IfOk result (λ h. truth.new ≡ fold.truth_of h) }
     ensures weight { IfOk result (λ h. plain_weight h ≤ plain_weight f) }
 {
     *truth = truth.map(|holds| !holds);
-    Held::new(alloc, form_by(CForm::Not(f), *truth))
+    Shared::new(alloc, form_by(CForm::Not(f), *truth))
 }
 
 /// That two formulas hold, folded. `first` is the truth of the first formula, and `truth` that of the
@@ -228,11 +232,11 @@ pub fn not_known(
 #[tactic(auto, using(crate::proofs::WeightLaws::weight_folded_form))]
 pub fn and_known(
     alloc: Global,
-    f: Held<CForm>,
+    f: Shared<CForm>,
     first: Option<bool>,
-    g: Held<CForm>,
+    g: Shared<CForm>,
     truth: &mut Option<bool>,
-) -> Result<Held<CForm>, AllocError>
+) -> Result<Shared<CForm>, AllocError>
     requires first { first ≡ fold.truth_of f }
     requires second { truth.old ≡ fold.truth_of g }
     ensures tree { IfOk result (λ h. h ≡ fold.and_form f g) }
@@ -243,7 +247,7 @@ pub fn and_known(
         (Some(x), Some(y)) => Some(x && y),
         _ => None,
     };
-    Held::new(alloc, form_by(CForm::And(f, g), *truth))
+    Shared::new(alloc, form_by(CForm::And(f, g), *truth))
 }
 
 /// That one of two formulas holds, folded. `first` is the truth of the first formula, and `truth` that of the
@@ -254,11 +258,11 @@ pub fn and_known(
 #[tactic(auto, using(crate::proofs::WeightLaws::weight_folded_form))]
 pub fn or_known(
     alloc: Global,
-    f: Held<CForm>,
+    f: Shared<CForm>,
     first: Option<bool>,
-    g: Held<CForm>,
+    g: Shared<CForm>,
     truth: &mut Option<bool>,
-) -> Result<Held<CForm>, AllocError>
+) -> Result<Shared<CForm>, AllocError>
     requires first { first ≡ fold.truth_of f }
     requires second { truth.old ≡ fold.truth_of g }
     ensures tree { IfOk result (λ h. h ≡ fold.or_form f g) }
@@ -269,18 +273,22 @@ pub fn or_known(
         (Some(x), Some(y)) => Some(x || y),
         _ => None,
     };
-    Held::new(alloc, form_by(CForm::Or(f, g), *truth))
+    Shared::new(alloc, form_by(CForm::Or(f, g), *truth))
 }
 
 // A term, folded, in a place of its own.
 #[inline(never)]
 #[tactic(auto, using(crate::proofs::WeightLaws::own_folded_term, crate::proofs::WeightLaws::most_folded_term))]
-fn placed_term(alloc: Global, whole: CTerm, number: Option<i128>) -> Result<Held<CTerm>, AllocError>
+fn placed_term(
+    alloc: Global,
+    whole: CTerm,
+    number: Option<i128>,
+) -> Result<Shared<CTerm>, AllocError>
     requires { number ≡ fold.number_of whole }
     ensures tree { IfOk result (λ t. t ≡ fold.folded_term whole) }
     ensures number { IfOk result (λ t. fold.number_of t ≡ number) }
     ensures own { IfOk result (λ t. (plain_weights t).own ≤ (plain_weights whole).own) }
     ensures most { IfOk result (λ t. (plain_weights t).most ≤ (plain_weights whole).most) }
 {
-    Held::new(alloc, term_by(whole, number))
+    Shared::new(alloc, term_by(whole, number))
 }

@@ -15,7 +15,7 @@ mod replacing;
 mod trees;
 mod weights;
 
-pub use copies::{copy_form, copy_term, held_form, held_term};
+pub use copies::{copy_form, copy_term, held_form, held_term, owned_form, owned_term};
 pub use documents::{Arg, CDocument, CProof, CRule, CSchedule, CStep, Choice, Helper, PTerm, Ref};
 pub use equality::{same, same_term};
 pub use evaluation::{holds, value};
@@ -30,7 +30,7 @@ pub use known::{
     sum_known, zero_known,
 };
 pub use laws::{folding_laws, frame_laws, replacing_laws, same_is_equal};
-pub use measures::{size_of, size_of_term};
+pub use measures::{size_of, size_of_term, size_within, term_within};
 pub use programs::{CProgram, CSlot, CStmt, CWrite, Print};
 pub use replacing::with_params;
 pub use trees::{CForm, CTerm, Range};

@@ -9,11 +9,12 @@ ghost use Rattle.core_terms.specs.Folding as fold;
 ghost use Rattle.core_terms.specs.Replacing.{IsSmallArg, shifted, arg_term, form_at, term_at, choice_at, MeansAt};
 ghost use Rattle.core_terms.specs.Replacing.{put_weights, put_weight};
 
+use crate::copies::owned_form;
 use crate::documents::Arg;
 use crate::known;
 use crate::trees::{CForm, CTerm};
 use std::alloc::{AllocError, Global};
-use unity_base::Held;
+use unity_base::Shared;
 
 /// The formula with each parameter replaced by its argument, and folded.
 ///
@@ -28,7 +29,7 @@ pub fn with_params(alloc: Global, f: &CForm, args: &[Arg]) -> Result<CForm, Allo
     ensures meaning { IfOk result (MeansAt args.now f.now) }
 {
     let mut truth = None;
-    Ok(put_form(alloc, f, args, &mut truth)?.into_inner())
+    owned_form(alloc, put_form(alloc, f, args, &mut truth)?)
 }
 
 // The formula with its parameters replaced; `truth` is then that of the result.
@@ -38,7 +39,7 @@ fn put_form(
     f: &CForm,
     args: &[Arg],
     truth: &mut Option<bool>,
-) -> Result<Held<CForm>, AllocError>
+) -> Result<Shared<CForm>, AllocError>
     requires params { form_params f.now ≤ length args.now }
     requires small { All IsSmallArg args.now }
     requires weight { put_weight f.now ≤ 2 ^ 126 }
@@ -49,11 +50,11 @@ fn put_form(
     match f {
         CForm::Top => {
             *truth = Some(true);
-            Held::new(alloc, CForm::Top)
+            Shared::new(alloc, CForm::Top)
         }
         CForm::Bottom => {
             *truth = Some(false);
-            Held::new(alloc, CForm::Bottom)
+            Shared::new(alloc, CForm::Bottom)
         }
         CForm::AtLeast(t) => put_at_least(alloc, t, args, truth),
         CForm::Zero(t) => put_zero(alloc, t, args, truth),
@@ -70,7 +71,7 @@ fn put_at_least(
     t: &CTerm,
     args: &[Arg],
     truth: &mut Option<bool>,
-) -> Result<Held<CForm>, AllocError>
+) -> Result<Shared<CForm>, AllocError>
     requires params { term_params t.now ≤ length args.now }
     requires small { All IsSmallArg args.now }
     requires weight { (put_weights t.now).most ≤ 2 ^ 126 }
@@ -90,7 +91,7 @@ fn put_zero(
     t: &CTerm,
     args: &[Arg],
     truth: &mut Option<bool>,
-) -> Result<Held<CForm>, AllocError>
+) -> Result<Shared<CForm>, AllocError>
     requires params { term_params t.now ≤ length args.now }
     requires small { All IsSmallArg args.now }
     requires weight { (put_weights t.now).most ≤ 2 ^ 126 }
@@ -107,11 +108,11 @@ fn put_zero(
 #[inline(never)]
 fn put_and(
     alloc: Global,
-    g: &Held<CForm>,
-    h: &Held<CForm>,
+    g: &Shared<CForm>,
+    h: &Shared<CForm>,
     args: &[Arg],
     truth: &mut Option<bool>,
-) -> Result<Held<CForm>, AllocError>
+) -> Result<Shared<CForm>, AllocError>
     requires params { max (form_params g.now) (form_params h.now) ≤ length args.now }
     requires small { All IsSmallArg args.now }
     requires weight { max (put_weight g.now) (put_weight h.now) ≤ 2 ^ 126 }
@@ -129,11 +130,11 @@ fn put_and(
 #[inline(never)]
 fn put_or(
     alloc: Global,
-    g: &Held<CForm>,
-    h: &Held<CForm>,
+    g: &Shared<CForm>,
+    h: &Shared<CForm>,
     args: &[Arg],
     truth: &mut Option<bool>,
-) -> Result<Held<CForm>, AllocError>
+) -> Result<Shared<CForm>, AllocError>
     requires params { max (form_params g.now) (form_params h.now) ≤ length args.now }
     requires small { All IsSmallArg args.now }
     requires weight { max (put_weight g.now) (put_weight h.now) ≤ 2 ^ 126 }
@@ -154,7 +155,7 @@ fn put_term(
     t: &CTerm,
     args: &[Arg],
     number: &mut Option<i128>,
-) -> Result<Held<CTerm>, AllocError>
+) -> Result<Shared<CTerm>, AllocError>
     requires params { term_params t.now ≤ length args.now }
     requires small { All IsSmallArg args.now }
     requires weight { (put_weights t.now).most ≤ 2 ^ 126 }
@@ -167,7 +168,7 @@ fn put_term(
         CTerm::Const(c) => put_const(alloc, *c, number),
         CTerm::Slot(n) => {
             *number = None;
-            Held::new(alloc, CTerm::Slot(*n))
+            Shared::new(alloc, CTerm::Slot(*n))
         }
         CTerm::Param(n) => put_arg(alloc, args, *n, number),
         CTerm::Add(a, b) => put_sum(alloc, a, b, args, number),
@@ -180,23 +181,23 @@ fn put_term(
 }
 
 #[inline(never)]
-fn put_const(alloc: Global, c: i64, number: &mut Option<i128>) -> Result<Held<CTerm>, AllocError>
+fn put_const(alloc: Global, c: i64, number: &mut Option<i128>) -> Result<Shared<CTerm>, AllocError>
     ensures tree { IfOk result (λ u. u ≡ CTerm.Const c) }
     ensures number { IfOk result (λ u. number.new ≡ fold.number_of u) }
 {
     *number = Some(c as i128);
-    Held::new(alloc, CTerm::Const(c))
+    Shared::new(alloc, CTerm::Const(c))
 }
 
 #[cycle(replacing)]
 #[inline(never)]
 fn put_sum(
     alloc: Global,
-    a: &Held<CTerm>,
-    b: &Held<CTerm>,
+    a: &Shared<CTerm>,
+    b: &Shared<CTerm>,
     args: &[Arg],
     number: &mut Option<i128>,
-) -> Result<Held<CTerm>, AllocError>
+) -> Result<Shared<CTerm>, AllocError>
     requires params { max (term_params a.now) (term_params b.now) ≤ length args.now }
     requires small { All IsSmallArg args.now }
     requires weight { (sum_weights (put_weights a.now) (put_weights b.now)).most ≤ 2 ^ 126 }
@@ -216,11 +217,11 @@ fn put_sum(
 #[inline(never)]
 fn put_difference(
     alloc: Global,
-    a: &Held<CTerm>,
-    b: &Held<CTerm>,
+    a: &Shared<CTerm>,
+    b: &Shared<CTerm>,
     args: &[Arg],
     number: &mut Option<i128>,
-) -> Result<Held<CTerm>, AllocError>
+) -> Result<Shared<CTerm>, AllocError>
     requires params { max (term_params a.now) (term_params b.now) ≤ length args.now }
     requires small { All IsSmallArg args.now }
     requires weight { (sum_weights (put_weights a.now) (put_weights b.now)).most ≤ 2 ^ 126 }
@@ -240,12 +241,12 @@ fn put_difference(
 #[inline(never)]
 fn put_choice(
     alloc: Global,
-    c: &Held<CForm>,
-    a: &Held<CTerm>,
-    b: &Held<CTerm>,
+    c: &Shared<CForm>,
+    a: &Shared<CTerm>,
+    b: &Shared<CTerm>,
     args: &[Arg],
     number: &mut Option<i128>,
-) -> Result<Held<CTerm>, AllocError>
+) -> Result<Shared<CTerm>, AllocError>
     requires params { max (form_params c.now) (max (term_params a.now) (term_params b.now)) ≤ length args.now }
     requires small { All IsSmallArg args.now }
     requires condition { put_weight c.now ≤ 2 ^ 126 }
@@ -271,7 +272,7 @@ fn put_arg(
     args: &[Arg],
     place: u32,
     number: &mut Option<i128>,
-) -> Result<Held<CTerm>, AllocError>
+) -> Result<Shared<CTerm>, AllocError>
     requires place { place < length args.now }
     requires small { All IsSmallArg args.now }
     ensures tree { IfOk result (λ u. u ≡ arg_term (slice_get args.now place)) }
@@ -298,7 +299,7 @@ fn arg_in(args: &[Arg], place: u32) -> Arg
 }
 
 // A parameter with a number added.
-fn shifted_param(alloc: Global, number: u32, add: i64) -> Result<Held<CTerm>, AllocError>
+fn shifted_param(alloc: Global, number: u32, add: i64) -> Result<Shared<CTerm>, AllocError>
     requires { unsigned_abs add ≤ 2 ^ 62 }
     ensures tree { IfOk result (λ u. u ≡ shifted number add) }
     ensures number { IfOk result (λ u. fold.number_of u ≡ None) }
@@ -306,14 +307,14 @@ fn shifted_param(alloc: Global, number: u32, add: i64) -> Result<Held<CTerm>, Al
     ensures most { IfOk result (λ u. (plain_weights u).most ≤ 2 ^ 63) }
 {
     if add == 0 {
-        return Held::new(alloc, CTerm::Param(number));
+        return Shared::new(alloc, CTerm::Param(number));
     }
-    let param = Held::new(alloc, CTerm::Param(number))?;
+    let param = Shared::new(alloc, CTerm::Param(number))?;
     if add > 0 {
-        let more = Held::new(alloc, CTerm::Const(add))?;
-        Held::new(alloc, CTerm::Add(param, more))
+        let more = Shared::new(alloc, CTerm::Const(add))?;
+        Shared::new(alloc, CTerm::Add(param, more))
     } else {
-        let less = Held::new(alloc, CTerm::Const(-add))?;
-        Held::new(alloc, CTerm::Sub(param, less))
+        let less = Shared::new(alloc, CTerm::Const(-add))?;
+        Shared::new(alloc, CTerm::Sub(param, less))
     }
 }

@@ -1,5 +1,5 @@
 // Ranges, terms and formulas.
-use unity_base::Held;
+use unity_base::Shared;
 
 /// The whole numbers from `lo` to `hi`, both ends included.
 #[derive(Clone, Copy, Debug, PartialEq, Eq)]
@@ -18,13 +18,13 @@ pub enum CTerm {
     /// What the parameter of this number is.
     Param(u32),
     /// The sum of two terms.
-    Add(Held<CTerm>, Held<CTerm>),
+    Add(Shared<CTerm>, Shared<CTerm>),
     /// The first term less the second.
-    Sub(Held<CTerm>, Held<CTerm>),
+    Sub(Shared<CTerm>, Shared<CTerm>),
     /// So many times the term.
-    Scale(i64, Held<CTerm>),
+    Scale(i64, Shared<CTerm>),
     /// The first term where the formula holds, and the second elsewhere.
-    Ite(Held<CForm>, Held<CTerm>, Held<CTerm>),
+    Ite(Shared<CForm>, Shared<CTerm>, Shared<CTerm>),
 }
 
 /// A formula, which holds or does not hold at a state and numbers of parameters.
@@ -39,37 +39,49 @@ pub enum CForm {
     /// The term is 0.
     Zero(CTerm),
     /// The formula does not hold.
-    Not(Held<CForm>),
+    Not(Shared<CForm>),
     /// Both formulas hold.
-    And(Held<CForm>, Held<CForm>),
+    And(Shared<CForm>, Shared<CForm>),
     /// One of the formulas holds, or both do.
-    Or(Held<CForm>, Held<CForm>),
+    Or(Shared<CForm>, Shared<CForm>),
 }
 
-// A drop goes down the first parts in a loop and calls itself for the others, so that a tree nested to
-// the left takes no stack, and one nested to the right a small frame for each two nodes.
+// A drop goes down the first parts in a loop and calls itself for the others. It stops at a part that has
+// another owner.
 impl Drop for CTerm {
     #[cycle(drops)]
     fn drop(mut self) {
         loop {
-            match self {
+            let next = match self {
                 CTerm::Const(_) => return,
                 CTerm::Slot(_) => return,
                 CTerm::Param(_) => return,
                 CTerm::Add(a, b) => {
-                    drop_term(b.into_inner());
-                    self = a.into_inner();
+                    if let Some(part) = b.into_inner() {
+                        drop_term(part);
+                    }
+                    a
                 }
                 CTerm::Sub(a, b) => {
-                    drop_term(b.into_inner());
-                    self = a.into_inner();
+                    if let Some(part) = b.into_inner() {
+                        drop_term(part);
+                    }
+                    a
                 }
-                CTerm::Scale(_, a) => self = a.into_inner(),
+                CTerm::Scale(_, a) => a,
                 CTerm::Ite(c, a, b) => {
-                    drop_form(c.into_inner());
-                    drop_term(b.into_inner());
-                    self = a.into_inner();
+                    if let Some(part) = c.into_inner() {
+                        drop_form(part);
+                    }
+                    if let Some(part) = b.into_inner() {
+                        drop_term(part);
+                    }
+                    a
                 }
+            };
+            match next.into_inner() {
+                Some(t) => self = t,
+                None => return,
             }
         }
     }
@@ -85,20 +97,28 @@ impl Drop for CForm {
     #[cycle(drops)]
     fn drop(mut self) {
         loop {
-            match self {
+            let next = match self {
                 CForm::Top => return,
                 CForm::Bottom => return,
                 CForm::AtLeast(_t) => return,
                 CForm::Zero(_t) => return,
-                CForm::Not(g) => self = g.into_inner(),
+                CForm::Not(g) => g,
                 CForm::And(g, h) => {
-                    drop_form(h.into_inner());
-                    self = g.into_inner();
+                    if let Some(part) = h.into_inner() {
+                        drop_form(part);
+                    }
+                    g
                 }
                 CForm::Or(g, h) => {
-                    drop_form(h.into_inner());
-                    self = g.into_inner();
+                    if let Some(part) = h.into_inner() {
+                        drop_form(part);
+                    }
+                    g
                 }
+            };
+            match next.into_inner() {
+                Some(f) => self = f,
+                None => return,
             }
         }
     }
