@@ -10,12 +10,12 @@ ghost use Rattle.wp_substitution.specs.Chains.{chain_at, IsChain, AreChains};
 use core_terms::{CTerm, CWrite, choice_known, held_form, held_term, number_of, truth_of};
 use std::alloc::{AllocError, Global};
 use std::collections::BTreeMap;
-use unity_base::Held;
+use unity_base::Shared;
 
 /// The term of what a slot holds after some writes, and its number where it names no slot and no parameter.
 #[derive(Drop)]
 pub struct Chain {
-    pub term: Held<CTerm>,
+    pub term: Shared<CTerm>,
     pub number: Option<i128>,
 }
 
@@ -63,7 +63,7 @@ fn take_chain(
     match chains.remove(&slot) {
         Some(chain) => Ok(chain),
         None => Ok(Chain {
-            term: Held::new(alloc, CTerm::Slot(slot))?,
+            term: Shared::new(alloc, CTerm::Slot(slot))?,
             number: None,
         }),
     }

@@ -8,13 +8,13 @@ ghost use Rattle.wp_substitution.specs.Joined.{joined_with, or_top, IsFolded, Co
 
 use core_terms::{CForm, and_known};
 use std::alloc::{AllocError, Global};
-use unity_base::Held;
+use unity_base::Shared;
 
 /// The formulas so far, joined; none where there was none yet. Beside them stands the truth of the whole,
 /// where it is known.
 #[derive(Drop)]
 pub struct Conjunction {
-    pub whole: Option<Held<CForm>>,
+    pub whole: Option<Shared<CForm>>,
     pub truth: Option<bool>,
 }
 
@@ -35,7 +35,7 @@ impl Conjunction {
     pub fn add(
         &mut self,
         alloc: Global,
-        f: Held<CForm>,
+        f: Shared<CForm>,
         truth: Option<bool>,
     ) -> Result<(), AllocError>
         requires known { ConjunctionKnown self.old }
@@ -71,13 +71,13 @@ impl Conjunction {
     }
 
     /// The whole; `Top` of no formula.
-    pub fn into_form(self, alloc: Global) -> Result<Held<CForm>, AllocError>
+    pub fn into_form(self, alloc: Global) -> Result<Shared<CForm>, AllocError>
         ensures { IfOk result (λ f. f ≡ or_top self.whole) }
     {
         let Conjunction { whole, truth: _ } = self;
         match whole {
             Some(f) => Ok(f),
-            None => Held::new(alloc, CForm::Top),
+            None => Shared::new(alloc, CForm::Top),
         }
     }
 }
@@ -86,11 +86,11 @@ impl Conjunction {
 #[tactic(auto, using(crate::proofs::KnownLaws::folded_laws))]
 fn join(
     alloc: Global,
-    whole: Option<Held<CForm>>,
+    whole: Option<Shared<CForm>>,
     first: Option<bool>,
-    f: Held<CForm>,
+    f: Shared<CForm>,
     truth: &mut Option<bool>,
-) -> Result<Held<CForm>, AllocError>
+) -> Result<Shared<CForm>, AllocError>
     requires first { first ≡ truth_of (or_top whole) }
     requires weight { plain_weight (or_top whole) ≤ 2 ^ 65 }
     requires second { truth.old ≡ truth_of f }

@@ -15,10 +15,10 @@ use crate::conjunction::Conjunction;
 use crate::known::{Known, known_pair, known_writes};
 use core_terms::{
     CForm, CSlot, CStmt, CTerm, CWrite, Range, and_known, at_least_known, difference_known,
-    held_form, held_term, not_known, number_of, or_known, truth_of, zero_known,
+    held_form, held_term, not_known, number_of, or_known, owned_form, truth_of, zero_known,
 };
 use std::alloc::{AllocError, Global};
-use unity_base::Held;
+use unity_base::Shared;
 
 /// The formula that holds exactly where the statement is defined: no write lies outside an array, each
 /// value lies in the range of its slot, and no slot would get two values. It is
@@ -32,7 +32,7 @@ pub fn defined(alloc: Global, s: &CStmt, slots: &[CSlot]) -> Result<CForm, Alloc
     ensures meaning { IfOk result (HoldsWhereDefined slots.now s.now) }
 {
     let mut truth = None;
-    Ok(held_defined(alloc, s, slots, &mut truth)?.into_inner())
+    Ok(owned_form(alloc, held_defined(alloc, s, slots, &mut truth)?)?)
 }
 
 /// The same in a place of its own; `truth` is then that of the result.
@@ -41,7 +41,7 @@ pub fn held_defined(
     s: &CStmt,
     slots: &[CSlot],
     truth: &mut Option<bool>,
-) -> Result<Held<CForm>, AllocError>
+) -> Result<Shared<CForm>, AllocError>
     requires outside { All IsLight s.now.outside }
     requires writes { All IsLightWrite s.now.writes }
     ensures tree { IfOk result (λ f. f ≡ defined_form slots.now s.now) }
@@ -170,7 +170,7 @@ fn add_pair(
 }
 
 // That a formula does not hold.
-fn idle(alloc: Global, when: &CForm, truth: &mut Option<bool>) -> Result<Held<CForm>, AllocError>
+fn idle(alloc: Global, when: &CForm, truth: &mut Option<bool>) -> Result<Shared<CForm>, AllocError>
     requires { IsLight when.now }
     ensures tree { IfOk result (λ f. f ≡ fold.not_form when.now) }
     ensures truth { IfOk result (λ f. truth.new ≡ fold.truth_of f) }
@@ -187,7 +187,7 @@ fn write_need(
     w: &CWrite,
     slots: &[CSlot],
     truth: &mut Option<bool>,
-) -> Result<Held<CForm>, AllocError>
+) -> Result<Shared<CForm>, AllocError>
     requires { IsLightWrite w.now }
     ensures tree { IfOk result (λ f. f ≡ write_form slots.now w.now) }
     ensures truth { IfOk result (λ f. truth.new ≡ fold.truth_of f) }
@@ -206,7 +206,7 @@ fn inside(
     slots: &[CSlot],
     slot: u32,
     truth: &mut Option<bool>,
-) -> Result<Held<CForm>, AllocError>
+) -> Result<Shared<CForm>, AllocError>
     requires own { (plain_weights value.now).own ≤ 2 ^ 62 }
     requires most { (plain_weights value.now).most ≤ 2 ^ 62 }
     ensures tree { IfOk result (λ f. f ≡ inside_form value.now (slice_get slots.now slot)) }
@@ -217,7 +217,7 @@ fn inside(
         Some(slot) => within(alloc, value, slot.range, truth),
         None => {
             *truth = Some(false);
-            Held::new(alloc, CForm::Bottom)
+            Shared::new(alloc, CForm::Bottom)
         }
     }
 }
@@ -227,7 +227,7 @@ fn within(
     value: &CTerm,
     range: Range,
     truth: &mut Option<bool>,
-) -> Result<Held<CForm>, AllocError>
+) -> Result<Shared<CForm>, AllocError>
     requires own { (plain_weights value.now).own ≤ 2 ^ 62 }
     requires most { (plain_weights value.now).most ≤ 2 ^ 62 }
     ensures tree { IfOk result (λ f. f ≡
@@ -248,7 +248,7 @@ fn at_least(
     value: &CTerm,
     low: i64,
     truth: &mut Option<bool>,
-) -> Result<Held<CForm>, AllocError>
+) -> Result<Shared<CForm>, AllocError>
     requires own { (plain_weights value.now).own ≤ 2 ^ 62 }
     requires most { (plain_weights value.now).most ≤ 2 ^ 62 }
     ensures tree { IfOk result (λ f. f ≡ fold.at_least_form (fold.difference_term value.now (Const low))) }
@@ -258,7 +258,7 @@ fn at_least(
     let mut number = Some(low as i128);
     let first = number_of(value);
     let value = held_term(alloc, value)?;
-    let low = Held::new(alloc, CTerm::Const(low))?;
+    let low = Shared::new(alloc, CTerm::Const(low))?;
     let above = difference_known(alloc, value, first, low, &mut number)?;
     at_least_known(alloc, above, number, truth)
 }
@@ -269,7 +269,7 @@ fn at_most(
     value: &CTerm,
     high: i64,
     truth: &mut Option<bool>,
-) -> Result<Held<CForm>, AllocError>
+) -> Result<Shared<CForm>, AllocError>
     requires own { (plain_weights value.now).own ≤ 2 ^ 62 }
     requires most { (plain_weights value.now).most ≤ 2 ^ 62 }
     ensures tree { IfOk result (λ f. f ≡ fold.at_least_form (fold.difference_term (Const high) value.now)) }
@@ -278,7 +278,7 @@ fn at_most(
 {
     let mut number = number_of(value);
     let value = held_term(alloc, value)?;
-    let first = Held::new(alloc, CTerm::Const(high))?;
+    let first = Shared::new(alloc, CTerm::Const(high))?;
     let below = difference_known(alloc, first, Some(high as i128), value, &mut number)?;
     at_least_known(alloc, below, number, truth)
 }
@@ -289,7 +289,7 @@ fn pair_need(
     v: &CWrite,
     w: &CWrite,
     truth: &mut Option<bool>,
-) -> Result<Held<CForm>, AllocError>
+) -> Result<Shared<CForm>, AllocError>
     requires first { IsLightWrite v.now }
     requires second { IsLightWrite w.now }
     ensures tree { IfOk result (λ f. f ≡ pair_form v.now w.now) }
@@ -307,7 +307,7 @@ fn not_both(
     f: &CForm,
     g: &CForm,
     truth: &mut Option<bool>,
-) -> Result<Held<CForm>, AllocError>
+) -> Result<Shared<CForm>, AllocError>
     requires first { IsLight f.now }
     requires second { IsLight g.now }
     ensures tree { IfOk result (λ h. h ≡ fold.not_form (fold.and_form f.now g.now)) }
@@ -327,7 +327,7 @@ fn equal(
     a: &CTerm,
     b: &CTerm,
     truth: &mut Option<bool>,
-) -> Result<Held<CForm>, AllocError>
+) -> Result<Shared<CForm>, AllocError>
     requires first { (plain_weights a.now).own ≤ 2 ^ 62 }
     requires second { (plain_weights b.now).own ≤ 2 ^ 62 }
     requires first_most { (plain_weights a.now).most ≤ 2 ^ 62 }

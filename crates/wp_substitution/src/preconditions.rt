@@ -11,9 +11,9 @@ ghost use Rattle.wp_substitution.specs.Exact.{HoldsBefore};
 use crate::chains::chains;
 use crate::definedness::held_defined;
 use crate::substitution;
-use core_terms::{CForm, CSlot, CStmt, CWrite, and_known};
+use core_terms::{CForm, CSlot, CStmt, CWrite, and_known, owned_form};
 use std::alloc::{AllocError, Global};
-use unity_base::Held;
+use unity_base::Shared;
 
 /// The weakest precondition of the statement for `q`: the formula that holds exactly where the statement is
 /// defined and `q` holds after it (chapter 2 of the book). All written slots are replaced at once, and the
@@ -34,7 +34,7 @@ pub fn wp(alloc: Global, s: &CStmt, q: &CForm, slots: &[CSlot]) -> Result<CForm,
     let mut truth = None;
     let defined = held_defined(alloc, s, slots, &mut first)?;
     let after = held_after(alloc, s.writes.as_slice(), q, &mut truth)?;
-    Ok(and_known(alloc, defined, first, after, &mut truth)?.into_inner())
+    Ok(owned_form(alloc, and_known(alloc, defined, first, after, &mut truth)?)?)
 }
 
 // The formula with all written slots replaced.
@@ -43,7 +43,7 @@ fn held_after(
     writes: &[CWrite],
     q: &CForm,
     truth: &mut Option<bool>,
-) -> Result<Held<CForm>, AllocError>
+) -> Result<Shared<CForm>, AllocError>
     requires writes { All IsLightWrite writes.now }
     requires weight { plain_weight q.now ≤ 2 ^ 62 }
     ensures tree { IfOk result (λ f. f ≡ form_after writes.now q.now) }

@@ -10,12 +10,12 @@ ghost use Rattle.wp_substitution.specs.Chains.{after_weight};
 
 use crate::chains::Chain;
 use core_terms::{
-    CForm, CTerm, and_known, at_least_known, choice_known, difference_known, held_term, not_known,
-    or_known, scaled_known, sum_known, zero_known,
+    CForm, CTerm, and_known, at_least_known, choice_known, difference_known, not_known, or_known,
+    scaled_known, sum_known, zero_known,
 };
 use std::alloc::{AllocError, Global};
 use std::collections::BTreeMap;
-use unity_base::Held;
+use unity_base::Shared;
 
 /// The formula with its slots replaced; `truth` is then that of the result.
 ///
@@ -26,7 +26,7 @@ pub fn form_after(
     f: &CForm,
     chains: &BTreeMap<u32, Chain>,
     truth: &mut Option<bool>,
-) -> Result<Held<CForm>, AllocError>
+) -> Result<Shared<CForm>, AllocError>
     requires known { AreChains chains.now }
     requires weight { after_weight f.now ≤ 2 ^ 126 }
     ensures tree { IfOk result (λ g. g ≡ form_by chains.now f.now) }
@@ -36,11 +36,11 @@ pub fn form_after(
     match f {
         CForm::Top => {
             *truth = Some(true);
-            Held::new(alloc, CForm::Top)
+            Shared::new(alloc, CForm::Top)
         }
         CForm::Bottom => {
             *truth = Some(false);
-            Held::new(alloc, CForm::Bottom)
+            Shared::new(alloc, CForm::Bottom)
         }
         CForm::AtLeast(t) => at_least_after(alloc, t, chains, truth),
         CForm::Zero(t) => zero_after(alloc, t, chains, truth),
@@ -57,7 +57,7 @@ fn at_least_after(
     t: &CTerm,
     chains: &BTreeMap<u32, Chain>,
     truth: &mut Option<bool>,
-) -> Result<Held<CForm>, AllocError>
+) -> Result<Shared<CForm>, AllocError>
     requires known { AreChains chains.now }
     requires weight { (after_weights t.now).most ≤ 2 ^ 126 }
     ensures tree { IfOk result (λ f. f ≡ fold.at_least_form (term_by chains.now t.now)) }
@@ -76,7 +76,7 @@ fn zero_after(
     t: &CTerm,
     chains: &BTreeMap<u32, Chain>,
     truth: &mut Option<bool>,
-) -> Result<Held<CForm>, AllocError>
+) -> Result<Shared<CForm>, AllocError>
     requires known { AreChains chains.now }
     requires weight { (after_weights t.now).most ≤ 2 ^ 126 }
     ensures tree { IfOk result (λ f. f ≡ fold.zero_form (term_by chains.now t.now)) }
@@ -92,11 +92,11 @@ fn zero_after(
 #[inline(never)]
 fn and_after(
     alloc: Global,
-    g: &Held<CForm>,
-    h: &Held<CForm>,
+    g: &Shared<CForm>,
+    h: &Shared<CForm>,
     chains: &BTreeMap<u32, Chain>,
     truth: &mut Option<bool>,
-) -> Result<Held<CForm>, AllocError>
+) -> Result<Shared<CForm>, AllocError>
     requires known { AreChains chains.now }
     requires weight { max (after_weight g.now) (after_weight h.now) ≤ 2 ^ 126 }
     ensures tree { IfOk result (λ both. both ≡ fold.and_form (form_by chains.now g.now) (form_by chains.now h.now)) }
@@ -113,11 +113,11 @@ fn and_after(
 #[inline(never)]
 fn or_after(
     alloc: Global,
-    g: &Held<CForm>,
-    h: &Held<CForm>,
+    g: &Shared<CForm>,
+    h: &Shared<CForm>,
     chains: &BTreeMap<u32, Chain>,
     truth: &mut Option<bool>,
-) -> Result<Held<CForm>, AllocError>
+) -> Result<Shared<CForm>, AllocError>
     requires known { AreChains chains.now }
     requires weight { max (after_weight g.now) (after_weight h.now) ≤ 2 ^ 126 }
     ensures tree { IfOk result (λ either. either ≡ fold.or_form (form_by chains.now g.now) (form_by chains.now h.now)) }
@@ -137,7 +137,7 @@ fn term_after(
     t: &CTerm,
     chains: &BTreeMap<u32, Chain>,
     number: &mut Option<i128>,
-) -> Result<Held<CTerm>, AllocError>
+) -> Result<Shared<CTerm>, AllocError>
     requires known { AreChains chains.now }
     requires weight { (after_weights t.now).most ≤ 2 ^ 126 }
     ensures tree { IfOk result (λ u. u ≡ term_by chains.now t.now) }
@@ -150,7 +150,7 @@ fn term_after(
         CTerm::Slot(n) => chain_of(alloc, chains, *n, number),
         CTerm::Param(n) => {
             *number = None;
-            Held::new(alloc, CTerm::Param(*n))
+            Shared::new(alloc, CTerm::Param(*n))
         }
         CTerm::Add(a, b) => sum_after(alloc, a, b, chains, number),
         CTerm::Sub(a, b) => difference_after(alloc, a, b, chains, number),
@@ -167,23 +167,27 @@ fn term_after(
 }
 
 #[inline(never)]
-fn const_after(alloc: Global, c: i64, number: &mut Option<i128>) -> Result<Held<CTerm>, AllocError>
+fn const_after(
+    alloc: Global,
+    c: i64,
+    number: &mut Option<i128>,
+) -> Result<Shared<CTerm>, AllocError>
     ensures tree { IfOk result (λ u. u ≡ CTerm.Const c) }
     ensures number { IfOk result (λ u. number.new ≡ fold.number_of u) }
 {
     *number = Some(c as i128);
-    Held::new(alloc, CTerm::Const(c))
+    Shared::new(alloc, CTerm::Const(c))
 }
 
 #[cycle(after)]
 #[inline(never)]
 fn sum_after(
     alloc: Global,
-    a: &Held<CTerm>,
-    b: &Held<CTerm>,
+    a: &Shared<CTerm>,
+    b: &Shared<CTerm>,
     chains: &BTreeMap<u32, Chain>,
     number: &mut Option<i128>,
-) -> Result<Held<CTerm>, AllocError>
+) -> Result<Shared<CTerm>, AllocError>
     requires known { AreChains chains.now }
     requires weight { (sum_weights (after_weights a.now) (after_weights b.now)).most ≤ 2 ^ 126 }
     ensures tree { IfOk result (λ u. u ≡ fold.sum_term (term_by chains.now a.now) (term_by chains.now b.now)) }
@@ -202,11 +206,11 @@ fn sum_after(
 #[inline(never)]
 fn difference_after(
     alloc: Global,
-    a: &Held<CTerm>,
-    b: &Held<CTerm>,
+    a: &Shared<CTerm>,
+    b: &Shared<CTerm>,
     chains: &BTreeMap<u32, Chain>,
     number: &mut Option<i128>,
-) -> Result<Held<CTerm>, AllocError>
+) -> Result<Shared<CTerm>, AllocError>
     requires known { AreChains chains.now }
     requires weight { (sum_weights (after_weights a.now) (after_weights b.now)).most ≤ 2 ^ 126 }
     ensures tree { IfOk result (λ u. u ≡ fold.difference_term (term_by chains.now a.now) (term_by chains.now b.now)) }
@@ -225,12 +229,12 @@ fn difference_after(
 #[inline(never)]
 fn choice_after(
     alloc: Global,
-    c: &Held<CForm>,
-    a: &Held<CTerm>,
-    b: &Held<CTerm>,
+    c: &Shared<CForm>,
+    a: &Shared<CTerm>,
+    b: &Shared<CTerm>,
     chains: &BTreeMap<u32, Chain>,
     number: &mut Option<i128>,
-) -> Result<Held<CTerm>, AllocError>
+) -> Result<Shared<CTerm>, AllocError>
     requires known { AreChains chains.now }
     requires condition { after_weight c.now ≤ 2 ^ 126 }
     requires most { max (after_weights a.now).most (after_weights b.now).most ≤ 2 ^ 126 }
@@ -255,7 +259,7 @@ fn chain_of(
     chains: &BTreeMap<u32, Chain>,
     slot: u32,
     number: &mut Option<i128>,
-) -> Result<Held<CTerm>, AllocError>
+) -> Result<Shared<CTerm>, AllocError>
     requires { AreChains chains.now }
     ensures tree { IfOk result (λ u. u ≡ chain_at chains.now slot) }
     ensures number { IfOk result (λ u. number.new ≡ fold.number_of u) }
@@ -265,11 +269,11 @@ fn chain_of(
     match chains.get(&slot) {
         Some(chain) => {
             *number = chain.number;
-            held_term(alloc, chain.term.get())
+            chain.term.share()
         }
         None => {
             *number = None;
-            Held::new(alloc, CTerm::Slot(slot))
+            Shared::new(alloc, CTerm::Slot(slot))
         }
     }
 }

@@ -12,5 +12,5 @@ held_defined-requires-clause-writes c = writes_light c.args.slots.now c.args.s.n
 
 pub returns-clause-meaning : goal.returns-clause-meaning
 returns-clause-meaning c state params =
-    ap (form_value state params) (c.into_inner.ensures ∙ c.in_ok-held_defined.ensures.tree)
+    ap (form_value state params) (c.in_ok-owned_form.ensures ∙ c.in_ok-held_defined.ensures.tree)
     ∙ definedness c.args.slots.now c.args.s.now c.requires state params
