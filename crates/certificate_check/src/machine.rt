@@ -26,13 +26,13 @@ use obligations::{
     Branch, Cert, Fact, Line, Node, Obligation, Variable, open_branch, settle_onto, zero_line,
 };
 use std::alloc::{AllocError, Global};
-use unity_base::{Held, Seq};
+use unity_base::{Seq, Shared};
 
 /// How a branch goes on after its first subtree.
 #[derive(Drop)]
 pub enum Todo {
     /// With the other side of the waiting formula that was taken from this place.
-    Case { place: usize, form: Held<CForm> },
+    Case { place: usize, form: Shared<CForm> },
     /// With the variable at this place above a number.
     Split { variable: u32, at: i64 },
 }

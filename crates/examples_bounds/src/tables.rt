@@ -12,7 +12,7 @@ ghost use Rattle.examples_bounds.specs.Tables.{SlotsAreLight, AreNumbered};
 
 use core_terms::{CForm, CProgram, CSlot, CStmt, CTerm, CWrite, Print, Range};
 use std::alloc::{AllocError, Global};
-use unity_base::{Held, Seq};
+use unity_base::{Seq, Shared};
 
 /// What a statement does at some states: where one slot has a number, a slot, which may be another, gets a number.
 #[derive(Clone, Copy)]
@@ -60,8 +60,8 @@ pub fn equals(alloc: Global, slots: &[CSlot], slot: u32, number: u32) -> Result<
     if slots.len() <= slot as usize {
         return Ok(CForm::Bottom);
     }
-    let place = Held::new(alloc, CTerm::Slot(slot))?;
-    let other = Held::new(alloc, CTerm::Const(number as i64))?;
+    let place = Shared::new(alloc, CTerm::Slot(slot))?;
+    let other = Shared::new(alloc, CTerm::Const(number as i64))?;
     Ok(CForm::Zero(CTerm::Sub(place, other)))
 }
 

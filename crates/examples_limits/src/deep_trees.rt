@@ -4,7 +4,7 @@ ghost use Rattle.examples_limits.specs.Deep.{IsDeepTerm, IsDeepForm};
 
 use core_terms::{CForm, CTerm};
 use std::alloc::{AllocError, Global};
-use unity_base::Held;
+use unity_base::Shared;
 
 #[cfg(test)]
 mod tests;
@@ -32,11 +32,11 @@ pub fn form_around(alloc: Global, which: Around, f: CForm) -> Result<CForm, Allo
     requires { IsDeepForm f }
     ensures { IfOk result IsDeepForm }
 {
-    let inner = Held::new(alloc, f)?;
+    let inner = Shared::new(alloc, f)?;
     match which {
         Around::Not => Ok(CForm::Not(inner)),
-        Around::And => Ok(CForm::And(inner, Held::new(alloc, CForm::Top)?)),
-        Around::Or => Ok(CForm::Or(inner, Held::new(alloc, CForm::Bottom)?)),
+        Around::And => Ok(CForm::And(inner, Shared::new(alloc, CForm::Top)?)),
+        Around::Or => Ok(CForm::Or(inner, Shared::new(alloc, CForm::Bottom)?)),
     }
 }
 
@@ -45,19 +45,19 @@ pub fn term_around(alloc: Global, which: TermAround, t: CTerm) -> Result<CTerm, 
     requires { IsDeepTerm t }
     ensures { IfOk result IsDeepTerm }
 {
-    let zero = Held::new(alloc, CTerm::Const(0))?;
+    let zero = Shared::new(alloc, CTerm::Const(0))?;
     match which {
-        TermAround::Scale => Ok(CTerm::Scale(1, Held::new(alloc, t)?)),
-        TermAround::Add => Ok(CTerm::Add(Held::new(alloc, t)?, zero)),
-        TermAround::Sub => Ok(CTerm::Sub(Held::new(alloc, t)?, zero)),
+        TermAround::Scale => Ok(CTerm::Scale(1, Shared::new(alloc, t)?)),
+        TermAround::Add => Ok(CTerm::Add(Shared::new(alloc, t)?, zero)),
+        TermAround::Sub => Ok(CTerm::Sub(Shared::new(alloc, t)?, zero)),
         TermAround::Branch => Ok(CTerm::Ite(
-            Held::new(alloc, CForm::Top)?,
-            Held::new(alloc, t)?,
+            Shared::new(alloc, CForm::Top)?,
+            Shared::new(alloc, t)?,
             zero,
         )),
         TermAround::Condition => {
-            let second = Held::new(alloc, CTerm::Const(0))?;
-            Ok(CTerm::Ite(Held::new(alloc, CForm::Zero(t))?, zero, second))
+            let second = Shared::new(alloc, CTerm::Const(0))?;
+            Ok(CTerm::Ite(Shared::new(alloc, CForm::Zero(t))?, zero, second))
         }
     }
 }

@@ -10,12 +10,12 @@ ghost use Rattle.expand_assignments.specs.Adding.{slot_ends, spread_write};
 
 use crate::places::ArraySlots;
 use core_terms::{
-    CForm, CTerm, CWrite, and_known, copy_term, difference_known, held_form, held_term, not_known,
-    or_known, zero_known,
+    CForm, CTerm, CWrite, and_known, copy_term, difference_known, not_known, or_known, owned_form,
+    zero_known,
 };
 use expand_expressions::{NumberCore, TruthCore};
 use std::alloc::{AllocError, Global};
-use unity_base::{Held, Seq};
+use unity_base::{Seq, Shared};
 
 // That an index is this number.
 fn equation(
@@ -23,15 +23,15 @@ fn equation(
     index: &NumberCore,
     number: i64,
     truth: &mut Option<bool>,
-) -> Result<Held<CForm>, AllocError>
+) -> Result<Shared<CForm>, AllocError>
     requires sound { IsSound (of_number index.now) }
     requires light { index.now.measure.most ≤ 2 ^ 62 }
     ensures form { IfOk result (λ f. f ≡ zero_form (difference_term index.now.term (Const number))) }
     ensures truth { IfOk result (λ f. truth.new ≡ truth_of f) }
 {
     let mut known = Some(number as i128);
-    let constant = Held::new(alloc, CTerm::Const(number))?;
-    let copy = held_term(alloc, index.term.get())?;
+    let constant = Shared::new(alloc, CTerm::Const(number))?;
+    let copy = index.term.share()?;
     let less = difference_known(alloc, copy, index.known, constant, &mut known)?;
     zero_known(alloc, less, known, truth)
 }
@@ -42,7 +42,7 @@ fn guarded(
     index: &NumberCore,
     number: i64,
     c: &TruthCore,
-) -> Result<Held<CForm>, AllocError>
+) -> Result<Shared<CForm>, AllocError>
     requires index { IsSound (of_number index.now) }
     requires light { index.now.measure.most ≤ 2 ^ 62 }
     requires condition { IsSound (of_truth c.now) }
@@ -50,7 +50,7 @@ fn guarded(
 {
     let mut truth = None;
     let same = equation(alloc, index, number, &mut truth)?;
-    let condition = held_form(alloc, c.form.get())?;
+    let condition = c.form.share()?;
     and_known(alloc, condition, c.known, same, &mut truth)
 }
 
@@ -71,7 +71,7 @@ fn push_write(
     ensures { OnOk result (writes.new ≡ writes.old ++
         spread_write index.now.term (slots.now.ends.lo +ℤ pos place) (slots.now.first + place) c.now.form v.now ∷ []) }
 {
-    let when = guarded(alloc, index, slots.index_at(place), c)?.into_inner();
+    let when = owned_form(alloc, guarded(alloc, index, slots.index_at(place), c)?)?;
     let value = copy_term(alloc, v)?;
     writes.push(CWrite {
         slot: slots.slot(place),
@@ -104,12 +104,12 @@ pub fn push_spread(
 // That a form holds, or that the index is the one at a place.
 fn or_equal(
     alloc: Global,
-    first: Held<CForm>,
+    first: Shared<CForm>,
     index: &NumberCore,
     slots: &ArraySlots,
     place: u64,
     truth: &mut Option<bool>,
-) -> Result<Held<CForm>, AllocError>
+) -> Result<Shared<CForm>, AllocError>
     requires known { truth.old ≡ truth_of first }
     requires sound { IsSound (of_number index.now) }
     requires light { index.now.measure.most ≤ 2 ^ 62 }
@@ -129,7 +129,7 @@ fn some_equal(
     index: &NumberCore,
     slots: &ArraySlots,
     truth: &mut Option<bool>,
-) -> Result<Held<CForm>, AllocError>
+) -> Result<Shared<CForm>, AllocError>
     requires sound { IsSound (of_number index.now) }
     requires light { index.now.measure.most ≤ 2 ^ 62 }
     requires some { 0 < range_size (slot_ends slots.now) }
@@ -149,7 +149,7 @@ fn any_equal(
     index: &NumberCore,
     slots: &ArraySlots,
     truth: &mut Option<bool>,
-) -> Result<Held<CForm>, AllocError>
+) -> Result<Shared<CForm>, AllocError>
     requires sound { IsSound (of_number index.now) }
     requires light { index.now.measure.most ≤ 2 ^ 62 }
     ensures form { IfOk result (λ f. f ≡
@@ -158,7 +158,7 @@ fn any_equal(
 {
     if slots.len() == 0 {
         *truth = Some(false);
-        Held::new(alloc, CForm::Bottom)
+        Shared::new(alloc, CForm::Bottom)
     } else {
         some_equal(alloc, index, slots, truth)
     }
@@ -170,7 +170,7 @@ pub fn outside(
     index: &NumberCore,
     slots: &ArraySlots,
     c: &TruthCore,
-) -> Result<Held<CForm>, AllocError>
+) -> Result<Shared<CForm>, AllocError>
     requires index { IsSound (of_number index.now) }
     requires light { index.now.measure.most ≤ 2 ^ 62 }
     requires condition { IsSound (of_truth c.now) }
@@ -180,6 +180,6 @@ pub fn outside(
     let mut truth = None;
     let any = any_equal(alloc, index, slots, &mut truth)?;
     let none = not_known(alloc, any, &mut truth)?;
-    let condition = held_form(alloc, c.form.get())?;
+    let condition = c.form.share()?;
     and_known(alloc, condition, c.known, none, &mut truth)
 }

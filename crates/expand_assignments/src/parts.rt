@@ -13,7 +13,7 @@ use core_terms::CForm;
 use expand_expressions::{Env, Known, NumberCore, Refusal, TruthCore, form, number, truth};
 use expand_rules::Measure;
 use std::alloc::{AllocError, Global};
-use unity_base::Held;
+use unity_base::Shared;
 use unity_syntax::Expr;
 
 /// A value or an index.
@@ -32,7 +32,7 @@ fn always(alloc: Global) -> Result<TruthCore, AllocError>
     ensures sound { IfOk result (λ c. IsSound (of_truth c)) }
 {
     Ok(TruthCore {
-        form: Held::new(alloc, CForm::Top)?,
+        form: Shared::new(alloc, CForm::Top)?,
         known: Some(true),
         constant: true,
         exact: true,

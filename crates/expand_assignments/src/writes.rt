@@ -15,7 +15,7 @@ ghost use Rattle.expand_assignments.specs.Adding.{Adds, slot_ends};
 use crate::arrays::{outside, push_spread};
 use crate::counts::{both_counts, count_in, index_count, spread_count, stray_count, write_count};
 use crate::places::ArraySlots;
-use core_terms::{CWrite, copy_form};
+use core_terms::{CWrite, copy_form, owned_form, owned_term};
 use expand_expressions::{NumberCore, Refusal, TruthCore, VariableSlots};
 use expand_rules::{Count, Effect};
 use std::alloc::{AllocError, Global};
@@ -42,7 +42,7 @@ fn push_plain(
     effect.writes.push(CWrite {
         slot,
         when,
-        value: v.term.into_inner(),
+        value: owned_term(alloc, v.term)?,
     })
 }
 
@@ -122,7 +122,7 @@ fn push_open(
           (range_size (slot_ends slots.now)) c.now.form v.now.term;
     }) }
 {
-    let form = outside(alloc, index, slots, c)?.into_inner();
+    let form = owned_form(alloc, outside(alloc, index, slots, c)?)?;
     effect.outside.push(form)?;
     push_spread(alloc, index, slots, c, v.term.get(), &mut effect.writes)
 }

@@ -23,10 +23,10 @@ use crate::places::{Env, Known, VariableSlots, find_variable};
 use crate::products::{is_past_by, limited};
 use crate::refusal::Refusal;
 use crate::words::typed;
-use core_terms::{CTerm, Range, choice_known, difference_known, held_term, zero_known};
+use core_terms::{CTerm, Range, choice_known, difference_known, zero_known};
 use expand_rules::{Core, Formed};
 use std::alloc::{AllocError, Global};
-use unity_base::Held;
+use unity_base::Shared;
 use unity_syntax::Name;
 
 // An index of an array, and its slot.
@@ -53,10 +53,10 @@ fn place_above(first: u32, ends: Range, above: u64) -> Place
 }
 
 // The term of an index.
-fn index_term(alloc: Global, place: Place) -> Result<Held<CTerm>, AllocError>
+fn index_term(alloc: Global, place: Place) -> Result<Shared<CTerm>, AllocError>
     ensures { IfOk result (λ t. t ≡ Const place.at) }
 {
-    Held::new(alloc, CTerm::Const(place.at))
+    Shared::new(alloc, CTerm::Const(place.at))
 }
 
 // A choice of a slot at one index, before the choices for the others.
@@ -64,9 +64,9 @@ fn link(
     alloc: Global,
     index: &NumberCore,
     place: Place,
-    rest: Held<CTerm>,
+    rest: Shared<CTerm>,
     number: &mut Option<i128>,
-) -> Result<Held<CTerm>, AllocError>
+) -> Result<Shared<CTerm>, AllocError>
     requires sound { IsSound (of_number index.now) }
     requires light { index.now.measure.most ≤ 2 ^ 62 + 1 }
     requires rest { number.old ≡ number_of rest }
@@ -78,13 +78,13 @@ fn link(
         max (index.now.measure.own + unsigned_abs place.at)
         (max index.now.measure.most (max 1 (plain_weights rest).most))) }
 {
-    let copy = held_term(alloc, index.term.get())?;
+    let copy = index.term.share()?;
     let constant = index_term(alloc, place)?;
     let mut known = Some(i128::from(place.at));
     let less = difference_known(alloc, copy, index.known, constant, &mut known)?;
     let mut truth = None;
     let same = zero_known(alloc, less, known, &mut truth)?;
-    let read = Held::new(alloc, CTerm::Slot(place.slot))?;
+    let read = Shared::new(alloc, CTerm::Slot(place.slot))?;
     choice_known(alloc, same, truth, read, None, rest, number)
 }
 
@@ -96,7 +96,7 @@ fn chain(
     ends: Range,
     count: u64,
     number: &mut Option<i128>,
-) -> Result<Held<CTerm>, AllocError>
+) -> Result<Shared<CTerm>, AllocError>
     requires sound { IsSound (of_number index.now) }
     requires light { index.now.measure.most ≤ 2 ^ 62 + 1 }
     requires low { unsigned_abs ends.lo ≤ 2 ^ 61 }
@@ -111,7 +111,7 @@ fn chain(
         (max index.now.measure.most 1)) }
 {
     *number = Some(0);
-    let mut term = Held::new(alloc, CTerm::Const(0))?;
+    let mut term = Shared::new(alloc, CTerm::Const(0))?;
     for k in 0..count {
         let place = place_above(first, ends, count - (k + 1));
         term = link(alloc, index, place, term, number)?;
@@ -160,7 +160,7 @@ fn slot_read(
     alloc: Global,
     slot: Option<u32>,
     number: &mut Option<i128>,
-) -> Result<Held<CTerm>, AllocError>
+) -> Result<Shared<CTerm>, AllocError>
     ensures tree { IfOk result (λ t. t ≡ slot_term slot) }
     ensures known { IfOk result (λ t. number.new ≡ number_of t) }
     ensures own { IfOk result (λ t. (plain_weights t).own ≤ 1) }
@@ -169,11 +169,11 @@ fn slot_read(
     match slot {
         Some(slot) => {
             *number = None;
-            Held::new(alloc, CTerm::Slot(slot))
+            Shared::new(alloc, CTerm::Slot(slot))
         }
         None => {
             *number = Some(0);
-            Held::new(alloc, CTerm::Const(0))
+            Shared::new(alloc, CTerm::Const(0))
         }
     }
 }
@@ -186,7 +186,7 @@ fn chosen(
     first: u32,
     ends: Range,
     number: &mut Option<i128>,
-) -> Result<Held<CTerm>, AllocError>
+) -> Result<Shared<CTerm>, AllocError>
     requires sound { IsSound (of_number index.now) }
     requires light { index.now.measure.most ≤ 2 ^ 62 + 1 }
     requires near { IsNear ends }
@@ -212,7 +212,7 @@ fn open_choice(
     first: u32,
     ends: Range,
     number: &mut Option<i128>,
-) -> Result<Held<CTerm>, AllocError>
+) -> Result<Shared<CTerm>, AllocError>
     requires sound { IsSound (of_number index.now) }
     requires light { index.now.measure.most ≤ 2 ^ 62 + 1 }
     requires near { IsNear ends }

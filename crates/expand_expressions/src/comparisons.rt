@@ -11,10 +11,10 @@ use crate::operations::{
     at_least_zero, conjunction, denial, difference, disjunction, is_zero, number, truth,
 };
 use case_tables::Symbol;
-use core_terms::{CForm, CTerm, held_form, held_term};
+use core_terms::{CForm, CTerm};
 use expand_rules::{Core, Formed};
 use std::alloc::{AllocError, Global};
-use unity_base::Held;
+use unity_base::Shared;
 
 /// An equal one.
 pub fn copied(alloc: Global, a: &Formed) -> Result<Formed, AllocError>
@@ -23,11 +23,11 @@ pub fn copied(alloc: Global, a: &Formed) -> Result<Formed, AllocError>
 {
     let core = match &a.core {
         Core::Number { term, known } => Core::Number {
-            term: held_term(alloc, term.get())?,
+            term: term.share()?,
             known: *known,
         },
         Core::Truth { form, known } => Core::Truth {
-            form: held_form(alloc, form.get())?,
+            form: form.share()?,
             known: *known,
         },
     };
@@ -86,7 +86,7 @@ pub fn number_constant(alloc: Global, number: i64) -> Result<Formed, AllocError>
 {
     Ok(Formed {
         core: Core::Number {
-            term: Held::new(alloc, CTerm::Const(number))?,
+            term: Shared::new(alloc, CTerm::Const(number))?,
             known: Some(number as i128),
         },
         constant: true,
@@ -102,7 +102,7 @@ pub fn top(alloc: Global) -> Result<Formed, AllocError>
 {
     Ok(Formed {
         core: Core::Truth {
-            form: Held::new(alloc, CForm::Top)?,
+            form: Shared::new(alloc, CForm::Top)?,
             known: Some(true),
         },
         constant: true,
@@ -118,7 +118,7 @@ pub fn bottom(alloc: Global) -> Result<Formed, AllocError>
 {
     Ok(Formed {
         core: Core::Truth {
-            form: Held::new(alloc, CForm::Bottom)?,
+            form: Shared::new(alloc, CForm::Bottom)?,
             known: Some(false),
         },
         constant: true,
@@ -248,7 +248,7 @@ fn never(alloc: Global, a: Formed, b: Formed) -> Result<Formed, AllocError>
 {
     Ok(Formed {
         core: Core::Truth {
-            form: Held::new(alloc, CForm::Bottom)?,
+            form: Shared::new(alloc, CForm::Bottom)?,
             known: Some(false),
         },
         constant: a.constant & b.constant,

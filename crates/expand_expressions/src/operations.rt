@@ -16,12 +16,12 @@ use core_terms::{
 };
 use expand_rules::{Core, Formed, Measure};
 use std::alloc::{AllocError, Global};
-use unity_base::Held;
+use unity_base::Shared;
 
 /// A number: its term, and what is said of what an expression becomes.
 #[derive(Drop)]
 pub struct NumberCore {
-    pub term: Held<CTerm>,
+    pub term: Shared<CTerm>,
     pub known: Option<i128>,
     pub constant: bool,
     pub exact: bool,
@@ -31,7 +31,7 @@ pub struct NumberCore {
 /// A truth: its formula, and what is said of what an expression becomes.
 #[derive(Drop)]
 pub struct TruthCore {
-    pub form: Held<CForm>,
+    pub form: Shared<CForm>,
     pub known: Option<bool>,
     pub constant: bool,
     pub exact: bool,
@@ -76,10 +76,10 @@ pub fn number(alloc: Global, a: Formed) -> Result<NumberCore, AllocError>
 // 1 where a formula holds, and 0 elsewhere.
 fn chosen(
     alloc: Global,
-    form: Held<CForm>,
+    form: Shared<CForm>,
     truth: Option<bool>,
     number: &mut Option<i128>,
-) -> Result<Held<CTerm>, AllocError>
+) -> Result<Shared<CTerm>, AllocError>
     requires { truth ≡ truth_of form }
     ensures term { IfOk result (λ t. t ≡ spec.term_of (Core.Truth form truth)) }
     ensures known { IfOk result (λ t. number.new ≡ number_of t) }
@@ -87,8 +87,8 @@ fn chosen(
     ensures most { IfOk result (λ t. (plain_weights t).most ≤ max 1 (plain_weight form)) }
 {
     *number = Some(0);
-    let one = Held::new(alloc, CTerm::Const(1))?;
-    let zero = Held::new(alloc, CTerm::Const(0))?;
+    let one = Shared::new(alloc, CTerm::Const(1))?;
+    let zero = Shared::new(alloc, CTerm::Const(0))?;
     choice_known(alloc, form, truth, one, Some(1), zero, number)
 }
 
@@ -131,10 +131,10 @@ pub fn truth(alloc: Global, a: Formed) -> Result<TruthCore, AllocError>
 // That a number is at least 1.
 fn holding(
     alloc: Global,
-    term: Held<CTerm>,
+    term: Shared<CTerm>,
     number: Option<i128>,
     truth: &mut Option<bool>,
-) -> Result<Held<CForm>, AllocError>
+) -> Result<Shared<CForm>, AllocError>
     requires known { number ≡ number_of term }
     requires own { (plain_weights term).own < 2 ^ 64 }
     requires most { (plain_weights term).most < 2 ^ 64 }
@@ -142,7 +142,7 @@ fn holding(
     ensures known { IfOk result (λ f. truth.new ≡ truth_of f) }
     ensures weight { IfOk result (λ f. plain_weight f ≤ max ((plain_weights term).own + 1) (plain_weights term).most) }
 {
-    let one = Held::new(alloc, CTerm::Const(1))?;
+    let one = Shared::new(alloc, CTerm::Const(1))?;
     let mut known = Some(1);
     let less = difference_known(alloc, term, number, one, &mut known)?;
     at_least_known(alloc, less, known, truth)

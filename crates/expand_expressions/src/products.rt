@@ -16,7 +16,7 @@ use crate::refusal::Refusal;
 use core_terms::{CTerm, scaled_known};
 use expand_rules::{Core, Formed, Measure};
 use std::alloc::{AllocError, Global};
-use unity_base::Held;
+use unity_base::Shared;
 
 /// Whether whatever has a part of this size, constant or not, is too large.
 pub fn is_past_by(constant: bool, measure: Measure) -> bool
@@ -69,10 +69,10 @@ fn weighed_multiple(k: i64, factor: Measure, a: Measure) -> Option<Measure>
 fn scaled(
     alloc: Global,
     k: i64,
-    term: Held<CTerm>,
+    term: Shared<CTerm>,
     own: u64,
     number: &mut Option<i128>,
-) -> Result<Held<CTerm>, AllocError>
+) -> Result<Shared<CTerm>, AllocError>
     requires known { number.old ≡ number_of term }
     requires own { (plain_weights term).own ≤ own }
     requires weight { unsigned_abs k * own ≤ 2 ^ 62 }

@@ -23,7 +23,7 @@ use crate::refusal::Refusal;
 use core_terms::CTerm;
 use expand_rules::{Bound, Core, Formed};
 use std::alloc::{AllocError, Global};
-use unity_base::Held;
+use unity_base::Shared;
 use unity_syntax::Name;
 
 // A slot of such a weight.
@@ -35,7 +35,7 @@ fn slot_read(alloc: Global, slot: u32, weight: u64) -> Result<Formed, AllocError
 {
     Ok(Formed {
         core: Core::Number {
-            term: Held::new(alloc, CTerm::Slot(slot))?,
+            term: Shared::new(alloc, CTerm::Slot(slot))?,
             known: None,
         },
         constant: false,
@@ -51,7 +51,7 @@ fn param_read(alloc: Global, number: u32, weight: u64) -> Result<Formed, AllocEr
 {
     Ok(Formed {
         core: Core::Number {
-            term: Held::new(alloc, CTerm::Param(number))?,
+            term: Shared::new(alloc, CTerm::Param(number))?,
             known: None,
         },
         constant: false,

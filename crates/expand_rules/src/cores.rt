@@ -1,16 +1,16 @@
 use core_terms::{CForm, CTerm};
-use unity_base::Held;
+use unity_base::Shared;
 
 /// The core of an expression: a term where it is a number, and a formula where it is a truth. Beside
 /// it stands what it is worth where it names no slot and no parameter.
 #[derive(Drop)]
 pub enum Core {
     Number {
-        term: Held<CTerm>,
+        term: Shared<CTerm>,
         known: Option<i128>,
     },
     Truth {
-        form: Held<CForm>,
+        form: Shared<CForm>,
         known: Option<bool>,
     },
 }

@@ -1,6 +1,6 @@
 //! Formulas of a step, and the metric of an induction.
 
-ghost use Rattle.std.specs.Prelude.{◌≡◌, ◌∷◌, [], ◌^◌, ◌≤◌};
+ghost use Rattle.std.specs.Prelude.{◌≡◌, ◌∷◌, [], ◌^◌, ◌≤◌, IfOk};
 ghost use Rattle.expand_rules.specs.Forming.{as_number, as_truth, form_of, formed, term_of};
 ghost use Rattle.expand_rules.specs.Measures.{nearer};
 ghost use Rattle.expand_expressions.specs.Places.{IsReady, scope};
@@ -10,11 +10,11 @@ ghost use Rattle.expand_steps.specs.Elements.{term_in};
 ghost use Rattle.expand_steps.specs.Elements.{truth_in};
 
 use case_tables::Code;
-use core_terms::{CForm, CTerm};
+use core_terms::{CForm, CTerm, owned_form, owned_term};
 use expand_expressions::{Env, Known, NumberCore, Refusal, TruthCore, form, number, truth};
 use expand_rules::{Formed, Measure};
 use names_rules::NameFault;
-use std::alloc::Global;
+use std::alloc::{AllocError, Global};
 use unity_syntax::Expr;
 
 /// Whether what has this measure, constant or not, is too large: it weighs more than 2^62, or has more than
@@ -94,11 +94,11 @@ fn settled_truth(
 {
     let t = truth(alloc, f)?;
     note(t.constant, t.measure, front, bad)?;
-    Ok(form_of(t))
+    Ok(form_of(alloc, t)?)
 }
 
-fn form_of(t: TruthCore) -> CForm
-    ensures { result ≡ form_of (of_truth t).core }
+fn form_of(alloc: Global, t: TruthCore) -> Result<CForm, AllocError>
+    ensures { IfOk result (λ f. f ≡ form_of (of_truth t).core) }
 {
     let TruthCore {
         form,
@@ -107,7 +107,7 @@ fn form_of(t: TruthCore) -> CForm
         exact: _,
         measure: _,
     } = t;
-    form.into_inner()
+    owned_form(alloc, form)
 }
 
 fn settled_number(
@@ -121,11 +121,11 @@ fn settled_number(
 {
     let n = number(alloc, f)?;
     note(n.constant, n.measure, front, bad)?;
-    Ok(term_of(n))
+    Ok(term_of(alloc, n)?)
 }
 
-fn term_of(n: NumberCore) -> CTerm
-    ensures { result ≡ term_of (of_number n).core }
+fn term_of(alloc: Global, n: NumberCore) -> Result<CTerm, AllocError>
+    ensures { IfOk result (λ t. t ≡ term_of (of_number n).core) }
 {
     let NumberCore {
         term,
@@ -134,7 +134,7 @@ fn term_of(n: NumberCore) -> CTerm
         exact: _,
         measure: _,
     } = n;
-    term.into_inner()
+    owned_term(alloc, term)
 }
 
 /// A formula in core form. `Fault` exactly where it is too large, at the front of what it is a part of.

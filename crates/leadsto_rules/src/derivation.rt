@@ -20,7 +20,7 @@ ghost use Rattle.leadsto_rules.specs.Leading.{IsTermIn, LedFits};
 use crate::bound::add_bound;
 use crate::leading::lead;
 use case_tables::Kind;
-use core_terms::{CForm, PTerm, Range, copy_form, held_form};
+use core_terms::{CForm, PTerm, Range, copy_form};
 use fair_rounds::Record;
 use obligations::Obligation;
 use rules_table::Led;
@@ -119,8 +119,8 @@ fn concluded_wide(alloc: Global, wide: &Place, led: &Led) -> Result<Derived, Rul
     add_forms(alloc, wide, led.forms.as_slice(), &mut goals)?;
     let claim = Claim {
         kind: Kind::Leadsto,
-        p: held_form(alloc, led.p.get())?,
-        q: held_form(alloc, led.q.get())?,
+        p: led.p.share()?,
+        q: led.q.share()?,
         first: led.under.as_slice(),
         second: &[],
         helper: None,

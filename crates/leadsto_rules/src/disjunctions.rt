@@ -20,7 +20,7 @@ use case_tables::Code;
 use core_terms::{Arg, CForm, Range, or_known, size_of, truth_of, with_params};
 use safety_rules::RuleError;
 use std::alloc::{AllocError, Global};
-use unity_base::{Held, Seq};
+use unity_base::{Seq, Shared};
 
 // A formula, the number of a name in it, and the ranges of all names.
 #[derive(Drop)]
@@ -34,7 +34,7 @@ pub(crate) struct Instances<'a> {
 // many numbers are done.
 #[derive(Drop)]
 struct Disjunction {
-    whole: Held<CForm>,
+    whole: Shared<CForm>,
     truth: Option<bool>,
     nodes: u64,
     done: u64,
@@ -69,14 +69,14 @@ fn arguments(alloc: Global, i: &Instances, number: i64) -> Result<Seq<Arg>, Allo
 }
 
 // The formula at a number.
-fn instance(alloc: Global, i: &Instances, number: i64) -> Result<Held<CForm>, AllocError>
+fn instance(alloc: Global, i: &Instances, number: i64) -> Result<Shared<CForm>, AllocError>
     requires formula { IsInstanced i.now }
     requires number { unsigned_abs number ≤ 2 ^ 62 }
     ensures tree { IfOk result (λ f. f ≡ instance_at i.now number) }
     ensures weight { IfOk result (λ f. plain_weight f ≤ 2 ^ 126) }
 {
     let args = arguments(alloc, i, number)?;
-    Held::new(alloc, with_params(alloc, i.form, args.as_slice())?)
+    Shared::new(alloc, with_params(alloc, i.form, args.as_slice())?)
 }
 
 // The formula at a first number.
@@ -109,7 +109,7 @@ fn nodes_of(truth: Option<bool>, first: u64, second: u64) -> u64
 }
 
 // A disjunction with one formula more.
-fn joined(alloc: Global, d: Disjunction, g: Held<CForm>) -> Result<Disjunction, AllocError>
+fn joined(alloc: Global, d: Disjunction, g: Shared<CForm>) -> Result<Disjunction, AllocError>
     requires known { DisjunctionKnown d }
     requires weight { plain_weight g ≤ 2 ^ 126 }
     requires done { d.done < 2 ^ 32 }
@@ -142,7 +142,7 @@ fn settled(alloc: Global, holds: bool, done: u64) -> Result<Disjunction, AllocEr
 {
     let whole = if holds { CForm::Top } else { CForm::Bottom };
     Ok(Disjunction {
-        whole: Held::new(alloc, whole)?,
+        whole: Shared::new(alloc, whole)?,
         truth: Some(holds),
         nodes: 0,
         done,
@@ -229,7 +229,7 @@ pub(crate) fn any_instance(
     alloc: Global,
     i: &Instances,
     range: Range,
-) -> Result<Held<CForm>, RuleError>
+) -> Result<Shared<CForm>, RuleError>
     requires formula { IsInstanced i.now }
     requires range { IsRange range }
     ensures { GivesAny result (any_of (map (instance_at i.now) (numbers_of range))) }

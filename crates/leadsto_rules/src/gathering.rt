@@ -6,29 +6,32 @@ ghost use Rattle.wp_substitution.specs.Joined.{joined_with};
 ghost use Rattle.wp_substitution.specs.Preconditions.{all_of};
 ghost use Rattle.safety_rules.specs.Foldable.{IsFoldable, AreFoldable};
 
-use core_terms::{CForm, and_form, held_form, not_form, or_form};
+use core_terms::{CForm, and_form, held_form, not_form, or_form, owned_form};
 use safety_rules::{Place, using_and};
 use std::alloc::{AllocError, Global};
-use unity_base::Held;
+use unity_base::Shared;
 
 // A formula after those that hold too.
 fn join(
     alloc: Global,
-    whole: Option<Held<CForm>>,
-    f: Held<CForm>,
-) -> Result<Held<CForm>, AllocError>
+    whole: Option<Shared<CForm>>,
+    f: Shared<CForm>,
+) -> Result<Shared<CForm>, AllocError>
     requires whole { AreFoldable whole }
     requires formula { IsFoldable f }
     ensures tree { IfOk result (λ g. g ≡ joined_with whole f) }
     ensures foldable { IfOk result IsFoldable }
 {
     match whole {
-        Some(g) => Held::new(alloc, and_form(alloc, g.into_inner(), f.into_inner())?),
+        Some(g) => Shared::new(
+            alloc,
+            and_form(alloc, owned_form(alloc, g)?, owned_form(alloc, f)?)?,
+        ),
         None => Ok(f),
     }
 }
 
-fn add_join(alloc: Global, whole: &mut Option<Held<CForm>>, f: &CForm) -> Result<(), AllocError>
+fn add_join(alloc: Global, whole: &mut Option<Shared<CForm>>, f: &CForm) -> Result<(), AllocError>
     requires whole { AreFoldable whole.old }
     requires formula { IsFoldable f.now }
     ensures whole { OnOk result (whole.new ≡ Some (joined_with whole.old f.now)) }
@@ -41,7 +44,7 @@ fn add_join(alloc: Global, whole: &mut Option<Held<CForm>>, f: &CForm) -> Result
 }
 
 // That all formulas of a list hold.
-fn all_held(alloc: Global, forms: &[CForm]) -> Result<Held<CForm>, AllocError>
+fn all_held(alloc: Global, forms: &[CForm]) -> Result<Shared<CForm>, AllocError>
     requires { All IsFoldable forms.now }
     ensures tree { IfOk result (λ f. f ≡ all_of forms.now) }
     ensures foldable { IfOk result IsFoldable }
@@ -52,7 +55,7 @@ fn all_held(alloc: Global, forms: &[CForm]) -> Result<Held<CForm>, AllocError>
     }
     match whole {
         Some(f) => Ok(f),
-        None => Held::new(alloc, CForm::Top),
+        None => Shared::new(alloc, CForm::Top),
     }
 }
 
@@ -60,16 +63,19 @@ fn all_held(alloc: Global, forms: &[CForm]) -> Result<Held<CForm>, AllocError>
 pub(crate) fn implied(
     alloc: Global,
     premises: &[CForm],
-    q: Held<CForm>,
-) -> Result<Held<CForm>, AllocError>
+    q: Shared<CForm>,
+) -> Result<Shared<CForm>, AllocError>
     requires premises { All IsFoldable premises.now }
     requires some { 0 < length premises.now }
     requires formula { IsFoldable q }
     ensures { IfOk result (λ f. f ≡ formula.imply premises.now q) }
 {
     let whole = all_held(alloc, premises)?;
-    let other = Held::new(alloc, not_form(alloc, whole.into_inner())?)?;
-    Held::new(alloc, or_form(alloc, other.into_inner(), q.into_inner())?)
+    let other = Shared::new(alloc, not_form(alloc, owned_form(alloc, whole)?)?)?;
+    Shared::new(
+        alloc,
+        or_form(alloc, owned_form(alloc, other)?, owned_form(alloc, q)?)?,
+    )
 }
 
 // Where U and p hold, q does.
@@ -78,7 +84,7 @@ pub(crate) fn follows(
     pl: &Place,
     p: &CForm,
     q: &CForm,
-) -> Result<Held<CForm>, AllocError>
+) -> Result<Shared<CForm>, AllocError>
     requires place { IsPlace pl.now }
     requires p { IsFoldable p.now }
     requires q { IsFoldable q.now }

@@ -20,12 +20,12 @@ use crate::parts::{both, either};
 use case_tables::Code;
 use core_terms::{
     CForm, CTerm, Range, at_least_form, copy_form, difference_term, held_form, held_term, not_form,
-    zero_form,
+    owned_form, owned_term, zero_form,
 };
 use rules_table::Led;
 use safety_rules::{Place, RuleError, is_same, using_and};
 use std::alloc::{AllocError, Global};
-use unity_base::Held;
+use unity_base::Shared;
 
 // What an induction is over: a name and its range, a measure, p and q.
 #[derive(Drop)]
@@ -38,21 +38,21 @@ pub(crate) struct Induction<'a> {
 }
 
 // That the measure is the name's number.
-fn at_number(alloc: Global, i: &Induction) -> Result<Held<CForm>, AllocError>
+fn at_number(alloc: Global, i: &Induction) -> Result<Shared<CForm>, AllocError>
     requires { IsLightInduction i.now }
     ensures tree { IfOk result (λ f. f ≡ fold.zero_form (fold.difference_term i.now.measure.now (Param i.now.name))) }
     ensures foldable { IfOk result IsFoldable }
 {
     let measure = held_term(alloc, i.measure)?;
-    let gap = Held::new(
+    let gap = Shared::new(
         alloc,
-        difference_term(alloc, measure.into_inner(), CTerm::Param(i.name))?,
+        difference_term(alloc, owned_term(alloc, measure)?, CTerm::Param(i.name))?,
     )?;
-    Held::new(alloc, zero_form(gap.into_inner()))
+    Shared::new(alloc, zero_form(owned_term(alloc, gap)?))
 }
 
 // p, where the measure is the name's number.
-fn at_measure(alloc: Global, i: &Induction) -> Result<Held<CForm>, AllocError>
+fn at_measure(alloc: Global, i: &Induction) -> Result<Shared<CForm>, AllocError>
     requires { IsLightInduction i.now }
     ensures { IfOk result (λ f. f ≡ terms.at_measure i.now.measure.now i.now.name i.now.p.now) }
 {
@@ -61,26 +61,26 @@ fn at_measure(alloc: Global, i: &Induction) -> Result<Held<CForm>, AllocError>
 }
 
 // That the measure is below the name's number.
-fn below_number(alloc: Global, i: &Induction) -> Result<Held<CForm>, AllocError>
+fn below_number(alloc: Global, i: &Induction) -> Result<Shared<CForm>, AllocError>
     requires { IsLightInduction i.now }
     ensures tree { IfOk result (λ f. f ≡ fold.at_least_form
         (fold.difference_term (fold.difference_term (Param i.now.name) i.now.measure.now) (Const (pos 1)))) }
     ensures foldable { IfOk result IsFoldable }
 {
     let measure = held_term(alloc, i.measure)?;
-    let gap = Held::new(
+    let gap = Shared::new(
         alloc,
-        difference_term(alloc, CTerm::Param(i.name), measure.into_inner())?,
+        difference_term(alloc, CTerm::Param(i.name), owned_term(alloc, measure)?)?,
     )?;
-    let less = Held::new(
+    let less = Shared::new(
         alloc,
-        difference_term(alloc, gap.into_inner(), CTerm::Const(1))?,
+        difference_term(alloc, owned_term(alloc, gap)?, CTerm::Const(1))?,
     )?;
-    Held::new(alloc, at_least_form(less.into_inner()))
+    Shared::new(alloc, at_least_form(owned_term(alloc, less)?))
 }
 
 // p where the measure is below the name's number, or q.
-fn below_measure(alloc: Global, i: &Induction) -> Result<Held<CForm>, AllocError>
+fn below_measure(alloc: Global, i: &Induction) -> Result<Shared<CForm>, AllocError>
     requires { IsLightInduction i.now }
     ensures { IfOk result (λ f. f ≡ terms.below_measure i.now.measure.now i.now.name i.now.p.now i.now.q.now) }
 {
@@ -90,37 +90,37 @@ fn below_measure(alloc: Global, i: &Induction) -> Result<Held<CForm>, AllocError
 }
 
 // That a number is at most the measure.
-fn above_low(alloc: Global, i: &Induction) -> Result<Held<CForm>, AllocError>
+fn above_low(alloc: Global, i: &Induction) -> Result<Shared<CForm>, AllocError>
     requires { IsLightInduction i.now }
     ensures tree { IfOk result (λ f. f ≡ fold.at_least_form
         (fold.difference_term i.now.measure.now (Const i.now.range.lo))) }
     ensures foldable { IfOk result IsFoldable }
 {
     let measure = held_term(alloc, i.measure)?;
-    let gap = Held::new(
+    let gap = Shared::new(
         alloc,
-        difference_term(alloc, measure.into_inner(), CTerm::Const(i.range.lo))?,
+        difference_term(alloc, owned_term(alloc, measure)?, CTerm::Const(i.range.lo))?,
     )?;
-    Held::new(alloc, at_least_form(gap.into_inner()))
+    Shared::new(alloc, at_least_form(owned_term(alloc, gap)?))
 }
 
 // That the measure is at most a number.
-fn below_high(alloc: Global, i: &Induction) -> Result<Held<CForm>, AllocError>
+fn below_high(alloc: Global, i: &Induction) -> Result<Shared<CForm>, AllocError>
     requires { IsLightInduction i.now }
     ensures tree { IfOk result (λ f. f ≡ fold.at_least_form
         (fold.difference_term (Const i.now.range.hi) i.now.measure.now)) }
     ensures foldable { IfOk result IsFoldable }
 {
     let measure = held_term(alloc, i.measure)?;
-    let gap = Held::new(
+    let gap = Shared::new(
         alloc,
-        difference_term(alloc, CTerm::Const(i.range.hi), measure.into_inner())?,
+        difference_term(alloc, CTerm::Const(i.range.hi), owned_term(alloc, measure)?)?,
     )?;
-    Held::new(alloc, at_least_form(gap.into_inner()))
+    Shared::new(alloc, at_least_form(owned_term(alloc, gap)?))
 }
 
 // Where U and p hold and q does not, the measure lies in the range.
-fn lies(alloc: Global, pl: &Place, i: &Induction) -> Result<Held<CForm>, AllocError>
+fn lies(alloc: Global, pl: &Place, i: &Induction) -> Result<Shared<CForm>, AllocError>
     requires place { IsPlace pl.now }
     requires light { IsLightInduction i.now }
     ensures { IfOk result (λ f. f ≡ formula.imply (pl.now.using.now ++ i.now.p.now ∷ fold.not_form i.now.q.now ∷ [])
@@ -175,7 +175,7 @@ fn fallen(
         forms,
     } = t;
     let mut forms = forms;
-    forms.push(form.into_inner())?;
+    forms.push(owned_form(alloc, form)?)?;
     let claim = Claim {
         p: held_form(alloc, i.p)?,
         q: held_form(alloc, i.q)?,

@@ -8,16 +8,16 @@ ghost use Rattle.safety_rules.specs.Usable.{NamesExist};
 ghost use Rattle.leadsto_rules.specs.Leading.{TermGives, led_of, are_small, ClaimFits, LedFits};
 
 use case_tables::Code;
-use core_terms::{CForm, CSlot, Range, size_of, weight_of};
+use core_terms::{CForm, CSlot, Range, size_within, weight_of};
 use rules_table::Led;
 use safety_rules::{Place, RuleError};
-use unity_base::{Held, Seq};
+use unity_base::{Seq, Shared};
 
 // What a node claims: that p leads to q within so many rounds.
 #[derive(Drop)]
 pub(crate) struct Claim {
-    pub p: Held<CForm>,
-    pub q: Held<CForm>,
+    pub p: Shared<CForm>,
+    pub q: Shared<CForm>,
     pub rounds: u128,
     pub under: Seq<CForm>,
     pub forms: Seq<CForm>,
@@ -39,7 +39,10 @@ fn is_small(f: &CForm, slots: &[CSlot], ranges: &[Range]) -> bool
     requires { NamesExist slots.now ranges.now f.now }
     ensures { result ≡ fits slots.now ranges.now f.now }
 {
-    size_of(f) <= 65_536 && weight_of(f, slots, ranges) <= 1 << 62
+    match size_within(f, 65_536) {
+        Some(_) => weight_of(f, slots, ranges) <= 1 << 62,
+        None => false,
+    }
 }
 
 // Whether p and q are small enough for a conclusion.

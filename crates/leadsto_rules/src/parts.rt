@@ -20,39 +20,49 @@ use crate::gathering::follows;
 use crate::joining::both_lists;
 use crate::nodes::{Claim, node};
 use case_tables::{Code, Kind};
-use core_terms::{CForm, Range, and_form, copy_forms, held_form, or_form};
+use core_terms::{CForm, Range, and_form, copy_forms, held_form, or_form, owned_form};
 use fair_rounds::Record;
 use rules_table::Led;
 use safety_rules::{Place, RuleError, is_same};
 use std::alloc::{AllocError, Global};
-use unity_base::{Held, Seq};
+use unity_base::{Held, Seq, Shared};
 
 // That one of two formulas holds.
 pub(crate) fn either(
     alloc: Global,
-    p: Held<CForm>,
-    q: Held<CForm>,
-) -> Result<Held<CForm>, AllocError>
+    p: Shared<CForm>,
+    q: Shared<CForm>,
+) -> Result<Shared<CForm>, AllocError>
     requires p { IsFoldable p }
     requires q { IsFoldable q }
     ensures tree { IfOk result (λ f. f ≡ fold.or_form p q) }
     ensures weight { IfOk result (λ f. plain_weight f ≤ max (plain_weight p) (plain_weight q)) }
 {
-    Held::new(alloc, or_form(alloc, p.into_inner(), q.into_inner())?)
+    Shared::new(
+        alloc,
+        or_form(alloc, owned_form(alloc, p)?, owned_form(alloc, q)?)?,
+    )
 }
 
 // That both formulas hold.
-pub(crate) fn both(alloc: Global, p: Held<CForm>, q: Held<CForm>) -> Result<Held<CForm>, AllocError>
+pub(crate) fn both(
+    alloc: Global,
+    p: Shared<CForm>,
+    q: Shared<CForm>,
+) -> Result<Shared<CForm>, AllocError>
     requires p { IsFoldable p }
     requires q { IsFoldable q }
     ensures tree { IfOk result (λ f. f ≡ fold.and_form p q) }
     ensures weight { IfOk result (λ f. plain_weight f ≤ max (plain_weight p) (plain_weight q)) }
 {
-    Held::new(alloc, and_form(alloc, p.into_inner(), q.into_inner())?)
+    Shared::new(
+        alloc,
+        and_form(alloc, owned_form(alloc, p)?, owned_form(alloc, q)?)?,
+    )
 }
 
 // That one of two formulas holds, from copies.
-fn either_of(alloc: Global, p: &CForm, q: &CForm) -> Result<Held<CForm>, AllocError>
+fn either_of(alloc: Global, p: &CForm, q: &CForm) -> Result<Shared<CForm>, AllocError>
     requires p { IsFoldable p.now }
     requires q { IsFoldable q.now }
     ensures { IfOk result (λ f. f ≡ fold.or_form p.now q.now) }
@@ -63,7 +73,7 @@ fn either_of(alloc: Global, p: &CForm, q: &CForm) -> Result<Held<CForm>, AllocEr
 }
 
 // That both formulas hold, from copies.
-fn both_of(alloc: Global, p: &CForm, q: &CForm) -> Result<Held<CForm>, AllocError>
+fn both_of(alloc: Global, p: &CForm, q: &CForm) -> Result<Shared<CForm>, AllocError>
     requires p { IsFoldable p.now }
     requires q { IsFoldable q.now }
     ensures { IfOk result (λ f. f ≡ fold.and_form p.now q.now) }
@@ -90,7 +100,7 @@ pub(crate) fn led_by(
 {
     let form = follows(alloc, pl, p, q)?;
     let mut forms = Seq::new(alloc);
-    forms.push(form.into_inner())?;
+    forms.push(owned_form(alloc, form)?)?;
     let claim = Claim {
         p: held_form(alloc, p)?,
         q: held_form(alloc, q)?,
@@ -294,8 +304,8 @@ pub(crate) fn led_weaker(
         forms,
     } = t;
     let mut forms = forms;
-    forms.push(before.into_inner())?;
-    forms.push(after.into_inner())?;
+    forms.push(owned_form(alloc, before)?)?;
+    forms.push(owned_form(alloc, after)?)?;
     let claim = Claim {
         p: held_form(alloc, p)?,
         q: held_form(alloc, q)?,
@@ -307,7 +317,7 @@ pub(crate) fn led_weaker(
 }
 
 // That q and the record's p hold, or its q does.
-fn kept_or_ended(alloc: Global, q: &CForm, a: &Record) -> Result<Held<CForm>, AllocError>
+fn kept_or_ended(alloc: Global, q: &CForm, a: &Record) -> Result<Shared<CForm>, AllocError>
     requires q { plain_weight q.now ≤ 2 ^ 62 }
     requires before { plain_weight a.now.p ≤ 2 ^ 62 }
     requires after { plain_weight a.now.q ≤ 2 ^ 62 }

@@ -20,7 +20,7 @@ use core_terms::{CForm, Range};
 use rules_table::Led;
 use safety_rules::{Place, RuleError};
 use std::alloc::Global;
-use unity_base::Held;
+use unity_base::Shared;
 
 // That a formula holds with one of the numbers of a range for the name.
 fn any_number(
@@ -29,7 +29,7 @@ fn any_number(
     name: u32,
     range: Range,
     form: &CForm,
-) -> Result<Held<CForm>, RuleError>
+) -> Result<Shared<CForm>, RuleError>
     requires range { IsRange range }
     requires names { form_params form.now ≤ length ranges.now }
     requires light { plain_weight form.now ≤ 2 ^ 62 }

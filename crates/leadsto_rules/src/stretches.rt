@@ -9,7 +9,7 @@ ghost use Rattle.leadsto_rules.specs.Stretches.{PutsNumber, IsLineOn, IsTruthOn}
 
 use crate::lines::{Line, Start, Stretch, add, at_least, known_line, multiply, subtract, zero};
 use core_terms::{CForm, CTerm};
-use unity_base::Held;
+use unity_base::Shared;
 
 /// Whether the formula holds where the number is put for the parameter, and for how many of the further numbers it
 /// stays so. `None` where that is not known, as where the formula names a slot or another parameter.
@@ -77,7 +77,7 @@ fn zero_from(t: &CTerm, start: &Start, reach: &mut u64) -> Option<bool>
 
 #[cycle(stretches)]
 #[inline(never)]
-fn both_from(g: &Held<CForm>, h: &Held<CForm>, start: &Start, reach: &mut u64) -> Option<bool>
+fn both_from(g: &Shared<CForm>, h: &Shared<CForm>, start: &Start, reach: &mut u64) -> Option<bool>
     ensures truth { (args : ℤ → List Arg) → PutsNumber start.now.name args →
         IfSome result (IsTruthOn args start.now.number reach.new (And g.now h.now)) }
     ensures reach { reach.new ≤ reach.old }
@@ -89,7 +89,7 @@ fn both_from(g: &Held<CForm>, h: &Held<CForm>, start: &Start, reach: &mut u64) -
 
 #[cycle(stretches)]
 #[inline(never)]
-fn either_from(g: &Held<CForm>, h: &Held<CForm>, start: &Start, reach: &mut u64) -> Option<bool>
+fn either_from(g: &Shared<CForm>, h: &Shared<CForm>, start: &Start, reach: &mut u64) -> Option<bool>
     ensures truth { (args : ℤ → List Arg) → PutsNumber start.now.name args →
         IfSome result (IsTruthOn args start.now.number reach.new (Or g.now h.now)) }
     ensures reach { reach.new ≤ reach.old }
@@ -129,8 +129,8 @@ fn param_line(name: u32, start: &Start, line: &mut Line) -> bool
 #[cycle(stretches)]
 #[inline(never)]
 fn sum_from(
-    a: &Held<CTerm>,
-    b: &Held<CTerm>,
+    a: &Shared<CTerm>,
+    b: &Shared<CTerm>,
     start: &Start,
     reach: &mut u64,
     line: &mut Line,
@@ -152,8 +152,8 @@ fn sum_from(
 #[cycle(stretches)]
 #[inline(never)]
 fn difference_from(
-    a: &Held<CTerm>,
-    b: &Held<CTerm>,
+    a: &Shared<CTerm>,
+    b: &Shared<CTerm>,
     start: &Start,
     reach: &mut u64,
     line: &mut Line,
@@ -176,9 +176,9 @@ fn difference_from(
 #[cycle(stretches)]
 #[inline(never)]
 fn choice_from(
-    c: &Held<CForm>,
-    a: &Held<CTerm>,
-    b: &Held<CTerm>,
+    c: &Shared<CForm>,
+    a: &Shared<CTerm>,
+    b: &Shared<CTerm>,
     start: &Start,
     reach: &mut u64,
     line: &mut Line,

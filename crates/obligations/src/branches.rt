@@ -1,7 +1,7 @@
 // Obligations, and branches: facts that are linear in the variables, and formulas that wait to be taken
 // apart.
 use core_terms::{CForm, CTerm, Range};
-use unity_base::{Held, Seq};
+use unity_base::{Seq, Shared};
 
 /// A slot or a parameter that occurs in an obligation, with the values that it may have.
 #[derive(Clone, Copy, Debug, PartialEq, Eq)]
@@ -40,15 +40,15 @@ pub struct Line {
 #[derive(Drop)]
 pub struct Branch {
     pub facts: Seq<Fact>,
-    pub waiting: Seq<Held<CForm>>,
+    pub waiting: Seq<Shared<CForm>>,
 }
 
 /// A term's first `Ite`: its condition, and the term with either part in the place of the `Ite`.
 #[derive(Drop)]
 pub struct Choice {
-    pub when: Held<CForm>,
-    pub yes: Held<CTerm>,
-    pub no: Held<CTerm>,
+    pub when: Shared<CForm>,
+    pub yes: Shared<CTerm>,
+    pub no: Shared<CTerm>,
 }
 
 /// A one-variable fact that bounds its variable: the fact's place in a list, and its constant. Of two

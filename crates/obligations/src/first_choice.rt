@@ -5,24 +5,24 @@ ghost use Rattle.core_terms.specs.declared.trees.CTerm.TheVariants.{Add, Sub, Sc
 ghost use Rattle.obligations.specs.Settling.{within, first_ite};
 
 use crate::branches::Choice;
-use core_terms::{CForm, CTerm, held_form, held_term};
+use core_terms::{CForm, CTerm};
 use std::alloc::{AllocError, Global};
-use unity_base::Held;
+use unity_base::{Held, Shared};
 
 /// The choice at an `Ite`.
 #[inline(never)]
 fn choice_of(
     alloc: Global,
-    c: &Held<CForm>,
-    a: &Held<CTerm>,
-    b: &Held<CTerm>,
+    c: &Shared<CForm>,
+    a: &Shared<CTerm>,
+    b: &Shared<CTerm>,
 ) -> Result<Option<Held<Choice>>, AllocError>
     ensures { IfOk result (λ o. o ≡ Some (record { when = c.now; yes = a.now; no = b.now })) }
 {
     let choice = Choice {
-        when: held_form(alloc, c.get())?,
-        yes: held_term(alloc, a.get())?,
-        no: held_term(alloc, b.get())?,
+        when: c.share()?,
+        yes: a.share()?,
+        no: b.share()?,
     };
     Ok(Some(Held::new(alloc, choice)?))
 }
@@ -32,13 +32,13 @@ fn choice_of(
 fn in_sum_first(
     alloc: Global,
     choice: Held<Choice>,
-    b: &Held<CTerm>,
+    b: &Shared<CTerm>,
 ) -> Result<Option<Held<Choice>>, AllocError>
     ensures { IfOk result (λ o. o ≡ Some (within (λ x. Add x b.now) choice)) }
 {
     let Choice { when, yes, no } = choice.into_inner();
-    let yes = Held::new(alloc, CTerm::Add(yes, held_term(alloc, b.get())?))?;
-    let no = Held::new(alloc, CTerm::Add(no, held_term(alloc, b.get())?))?;
+    let yes = Shared::new(alloc, CTerm::Add(yes, b.share()?))?;
+    let no = Shared::new(alloc, CTerm::Add(no, b.share()?))?;
     Ok(Some(Held::new(alloc, Choice { when, yes, no })?))
 }
 
@@ -46,14 +46,14 @@ fn in_sum_first(
 #[inline(never)]
 fn in_sum_second(
     alloc: Global,
-    a: &Held<CTerm>,
+    a: &Shared<CTerm>,
     choice: Held<Choice>,
 ) -> Result<Option<Held<Choice>>, AllocError>
     ensures { IfOk result (λ o. o ≡ Some (within (λ x. Add a.now x) choice)) }
 {
     let Choice { when, yes, no } = choice.into_inner();
-    let yes = Held::new(alloc, CTerm::Add(held_term(alloc, a.get())?, yes))?;
-    let no = Held::new(alloc, CTerm::Add(held_term(alloc, a.get())?, no))?;
+    let yes = Shared::new(alloc, CTerm::Add(a.share()?, yes))?;
+    let no = Shared::new(alloc, CTerm::Add(a.share()?, no))?;
     Ok(Some(Held::new(alloc, Choice { when, yes, no })?))
 }
 
@@ -62,13 +62,13 @@ fn in_sum_second(
 fn in_difference_first(
     alloc: Global,
     choice: Held<Choice>,
-    b: &Held<CTerm>,
+    b: &Shared<CTerm>,
 ) -> Result<Option<Held<Choice>>, AllocError>
     ensures { IfOk result (λ o. o ≡ Some (within (λ x. Sub x b.now) choice)) }
 {
     let Choice { when, yes, no } = choice.into_inner();
-    let yes = Held::new(alloc, CTerm::Sub(yes, held_term(alloc, b.get())?))?;
-    let no = Held::new(alloc, CTerm::Sub(no, held_term(alloc, b.get())?))?;
+    let yes = Shared::new(alloc, CTerm::Sub(yes, b.share()?))?;
+    let no = Shared::new(alloc, CTerm::Sub(no, b.share()?))?;
     Ok(Some(Held::new(alloc, Choice { when, yes, no })?))
 }
 
@@ -76,14 +76,14 @@ fn in_difference_first(
 #[inline(never)]
 fn in_difference_second(
     alloc: Global,
-    a: &Held<CTerm>,
+    a: &Shared<CTerm>,
     choice: Held<Choice>,
 ) -> Result<Option<Held<Choice>>, AllocError>
     ensures { IfOk result (λ o. o ≡ Some (within (λ x. Sub a.now x) choice)) }
 {
     let Choice { when, yes, no } = choice.into_inner();
-    let yes = Held::new(alloc, CTerm::Sub(held_term(alloc, a.get())?, yes))?;
-    let no = Held::new(alloc, CTerm::Sub(held_term(alloc, a.get())?, no))?;
+    let yes = Shared::new(alloc, CTerm::Sub(a.share()?, yes))?;
+    let no = Shared::new(alloc, CTerm::Sub(a.share()?, no))?;
     Ok(Some(Held::new(alloc, Choice { when, yes, no })?))
 }
 
@@ -97,8 +97,8 @@ fn in_multiple(
     ensures { IfOk result (λ o. o ≡ Some (within (λ x. Scale k.now x) choice)) }
 {
     let Choice { when, yes, no } = choice.into_inner();
-    let yes = Held::new(alloc, CTerm::Scale(*k, yes))?;
-    let no = Held::new(alloc, CTerm::Scale(*k, no))?;
+    let yes = Shared::new(alloc, CTerm::Scale(*k, yes))?;
+    let no = Shared::new(alloc, CTerm::Scale(*k, no))?;
     Ok(Some(Held::new(alloc, Choice { when, yes, no })?))
 }
 
@@ -127,8 +127,8 @@ pub fn find_choice(alloc: Global, t: &CTerm) -> Result<Option<Held<Choice>>, All
 #[inline(never)]
 fn find_in_sum(
     alloc: Global,
-    a: &Held<CTerm>,
-    b: &Held<CTerm>,
+    a: &Shared<CTerm>,
+    b: &Shared<CTerm>,
 ) -> Result<Option<Held<Choice>>, AllocError>
     ensures { IfOk result (λ o. o ≡ first_ite (Add a.now b.now)) }
 {
@@ -145,8 +145,8 @@ fn find_in_sum(
 #[inline(never)]
 fn find_in_difference(
     alloc: Global,
-    a: &Held<CTerm>,
-    b: &Held<CTerm>,
+    a: &Shared<CTerm>,
+    b: &Shared<CTerm>,
 ) -> Result<Option<Held<Choice>>, AllocError>
     ensures { IfOk result (λ o. o ≡ first_ite (Sub a.now b.now)) }
 {

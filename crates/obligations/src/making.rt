@@ -30,7 +30,7 @@ ghost use Rattle.obligations.specs.Obligations.{are_in_order, is_within_limits, 
 use crate::branches::Obligation;
 use crate::occurrence::add_occurring;
 use crate::shapes::capped_height;
-use core_terms::{CForm, CSlot, Range, size_of, weight_of};
+use core_terms::{CForm, CSlot, Range, size_within, weight_of};
 use std::alloc::{AllocError, Global};
 use unity_base::Seq;
 
@@ -94,7 +94,10 @@ fn is_small_form(form: &CForm, slots: &[CSlot], params: &[Range]) -> bool
     ensures { result ≡ (nat_le (form_nodes form.now) 65536
         && nat_le (form_weight (slot_weight slots.now) (place_weight params.now) form.now) (2 ^ 62)) }
 {
-    size_of(form) <= 65_536 && weight_of(form, slots, params) <= 1 << 62
+    match size_within(form, 65_536) {
+        Some(_) => weight_of(form, slots, params) <= 1 << 62,
+        None => false,
+    }
 }
 
 // Whether an obligation's height is within its limit.

@@ -12,9 +12,9 @@ ghost use Rattle.obligations.specs.Obligations.{AreVariables};
 use crate::branches::{Branch, Choice, Fact, Obligation, Variable};
 use crate::first_choice::find_choice;
 use crate::linear::{fact_from, line_of, negative_of};
-use core_terms::{CForm, CTerm, held_form, held_term};
+use core_terms::{CForm, CTerm, held_term, owned_term};
 use std::alloc::{AllocError, Global};
-use unity_base::{Held, Seq};
+use unity_base::{Held, Seq, Shared};
 
 /// Adds a fact.
 pub fn add_fact(fact: Fact, branch: &mut Branch) -> Result<(), AllocError>
@@ -25,7 +25,7 @@ pub fn add_fact(fact: Fact, branch: &mut Branch) -> Result<(), AllocError>
 }
 
 /// Adds a formula that waits.
-fn add_waiting(form: Held<CForm>, branch: &mut Branch) -> Result<(), AllocError>
+fn add_waiting(form: Shared<CForm>, branch: &mut Branch) -> Result<(), AllocError>
     ensures { OnOk result (branch.new ≡ joined branch.old (one_waiting form)) }
 {
     branch.waiting.push(form)?;
@@ -46,62 +46,65 @@ fn add_false(alloc: Global, branch: &mut Branch) -> Result<(), AllocError>
 }
 
 /// That a formula does not hold.
-fn negation_of(alloc: Global, f: &CForm) -> Result<Held<CForm>, AllocError>
+fn negation_of(alloc: Global, f: &Shared<CForm>) -> Result<Shared<CForm>, AllocError>
     ensures { IfOk result (λ g. g ≡ Not f.now) }
 {
-    let copy = held_form(alloc, f)?;
-    Held::new(alloc, CForm::Not(copy))
+    Shared::new(alloc, CForm::Not(f.share()?))
 }
 
 /// The negation of a condition with a formula.
-fn otherwise(alloc: Global, when: &CForm, no: Held<CForm>) -> Result<Held<CForm>, AllocError>
+fn otherwise(
+    alloc: Global,
+    when: &Shared<CForm>,
+    no: Shared<CForm>,
+) -> Result<Shared<CForm>, AllocError>
     ensures { IfOk result (λ f. f ≡ And (Not when.now) no) }
 {
     let not = negation_of(alloc, when)?;
-    Held::new(alloc, CForm::And(not, no))
+    Shared::new(alloc, CForm::And(not, no))
 }
 
 /// The condition with one formula, or its negation with the other.
 fn choose(
     alloc: Global,
-    when: Held<CForm>,
-    yes: Held<CForm>,
-    no: Held<CForm>,
-) -> Result<Held<CForm>, AllocError>
+    when: Shared<CForm>,
+    yes: Shared<CForm>,
+    no: Shared<CForm>,
+) -> Result<Shared<CForm>, AllocError>
     ensures { IfOk result (λ f. f ≡ Or (And when yes) (And (Not when) no)) }
 {
-    let second = otherwise(alloc, when.get(), no)?;
-    let first = Held::new(alloc, CForm::And(when, yes))?;
-    Held::new(alloc, CForm::Or(first, second))
+    let second = otherwise(alloc, &when, no)?;
+    let first = Shared::new(alloc, CForm::And(when, yes))?;
+    Shared::new(alloc, CForm::Or(first, second))
 }
 
-fn least_choice(alloc: Global, choice: Held<Choice>) -> Result<Held<CForm>, AllocError>
+fn least_choice(alloc: Global, choice: Held<Choice>) -> Result<Shared<CForm>, AllocError>
     ensures { IfOk result (λ f. f ≡ choice_form AtLeast choice) }
 {
     let Choice { when, yes, no } = choice.into_inner();
-    let yes = Held::new(alloc, CForm::AtLeast(yes.into_inner()))?;
-    let no = Held::new(alloc, CForm::AtLeast(no.into_inner()))?;
+    let yes = Shared::new(alloc, CForm::AtLeast(owned_term(alloc, yes)?))?;
+    let no = Shared::new(alloc, CForm::AtLeast(owned_term(alloc, no)?))?;
     choose(alloc, when, yes, no)
 }
 
-fn zero_choice(alloc: Global, choice: Held<Choice>) -> Result<Held<CForm>, AllocError>
+fn zero_choice(alloc: Global, choice: Held<Choice>) -> Result<Shared<CForm>, AllocError>
     ensures { IfOk result (λ f. f ≡ choice_form Zero choice) }
 {
     let Choice { when, yes, no } = choice.into_inner();
-    let yes = Held::new(alloc, CForm::Zero(yes.into_inner()))?;
-    let no = Held::new(alloc, CForm::Zero(no.into_inner()))?;
+    let yes = Shared::new(alloc, CForm::Zero(owned_term(alloc, yes)?))?;
+    let no = Shared::new(alloc, CForm::Zero(owned_term(alloc, no)?))?;
     choose(alloc, when, yes, no)
 }
 
 /// That a term is not 0.
-fn unequal(alloc: Global, t: Held<CTerm>) -> Result<Held<CForm>, AllocError>
+fn unequal(alloc: Global, t: Shared<CTerm>) -> Result<Shared<CForm>, AllocError>
     ensures { IfOk result (λ f. f ≡ Not (Zero t)) }
 {
-    let zero = Held::new(alloc, CForm::Zero(t.into_inner()))?;
-    Held::new(alloc, CForm::Not(zero))
+    let zero = Shared::new(alloc, CForm::Zero(owned_term(alloc, t)?))?;
+    Shared::new(alloc, CForm::Not(zero))
 }
 
-fn unequal_choice(alloc: Global, choice: Held<Choice>) -> Result<Held<CForm>, AllocError>
+fn unequal_choice(alloc: Global, choice: Held<Choice>) -> Result<Shared<CForm>, AllocError>
     ensures { IfOk result (λ f. f ≡ choice_form (λ x. Not (Zero x)) choice) }
 {
     let Choice { when, yes, no } = choice.into_inner();
@@ -180,21 +183,21 @@ fn settle_least(
 }
 
 /// -1 minus a term.
-fn below(alloc: Global, t: &CTerm) -> Result<Held<CTerm>, AllocError>
+fn below(alloc: Global, t: &CTerm) -> Result<Shared<CTerm>, AllocError>
     ensures { IfOk result (λ u. u ≡ below_zero t.now) }
 {
-    let minus_one = Held::new(alloc, CTerm::Const(-1))?;
+    let minus_one = Shared::new(alloc, CTerm::Const(-1))?;
     let copy = held_term(alloc, t)?;
-    Held::new(alloc, CTerm::Sub(minus_one, copy))
+    Shared::new(alloc, CTerm::Sub(minus_one, copy))
 }
 
 /// A term minus 1.
-fn above(alloc: Global, t: &CTerm) -> Result<Held<CTerm>, AllocError>
+fn above(alloc: Global, t: &CTerm) -> Result<Shared<CTerm>, AllocError>
     ensures { IfOk result (λ u. u ≡ Sub t.now (Const (pos 1))) }
 {
     let copy = held_term(alloc, t)?;
-    let one = Held::new(alloc, CTerm::Const(1))?;
-    Held::new(alloc, CTerm::Sub(copy, one))
+    let one = Shared::new(alloc, CTerm::Const(1))?;
+    Shared::new(alloc, CTerm::Sub(copy, one))
 }
 
 /// Settles that a term is below 0.
@@ -270,14 +273,14 @@ fn settle_zero(
 }
 
 /// That a term is above 0 or below it.
-fn apart(alloc: Global, t: &CTerm) -> Result<Held<CForm>, AllocError>
+fn apart(alloc: Global, t: &CTerm) -> Result<Shared<CForm>, AllocError>
     ensures { IfOk result (λ f. f ≡ Or (AtLeast (Sub t.now (Const (pos 1)))) (AtLeast (Sub (Const (negsuc 0)) t.now))) }
 {
     let above = above(alloc, t)?;
-    let above = Held::new(alloc, CForm::AtLeast(above.into_inner()))?;
+    let above = Shared::new(alloc, CForm::AtLeast(owned_term(alloc, above)?))?;
     let below = below(alloc, t)?;
-    let below = Held::new(alloc, CForm::AtLeast(below.into_inner()))?;
-    Held::new(alloc, CForm::Or(above, below))
+    let below = Shared::new(alloc, CForm::AtLeast(owned_term(alloc, below)?))?;
+    Shared::new(alloc, CForm::Or(above, below))
 }
 
 /// Adds that a term is above 0 or below it, or the choice that it has to wait for.
@@ -312,23 +315,33 @@ fn refuse_zero(alloc: Global, t: &CTerm, branch: &mut Branch) -> Result<(), Allo
 
 /// Adds a waiting formula of two others.
 #[inline(never)]
-fn wait_or(alloc: Global, g: &CForm, h: &CForm, branch: &mut Branch) -> Result<(), AllocError>
+fn wait_or(
+    alloc: Global,
+    g: &Shared<CForm>,
+    h: &Shared<CForm>,
+    branch: &mut Branch,
+) -> Result<(), AllocError>
     ensures { OnOk result (branch.new ≡ joined branch.old (one_waiting (Or g.now h.now))) }
 {
-    let first = held_form(alloc, g)?;
-    let second = held_form(alloc, h)?;
-    let form = Held::new(alloc, CForm::Or(first, second))?;
+    let first = g.share()?;
+    let second = h.share()?;
+    let form = Shared::new(alloc, CForm::Or(first, second))?;
     add_waiting(form, branch)
 }
 
 /// Adds a waiting formula of the negations of two others.
 #[inline(never)]
-fn wait_nots(alloc: Global, g: &CForm, h: &CForm, branch: &mut Branch) -> Result<(), AllocError>
+fn wait_nots(
+    alloc: Global,
+    g: &Shared<CForm>,
+    h: &Shared<CForm>,
+    branch: &mut Branch,
+) -> Result<(), AllocError>
     ensures { OnOk result (branch.new ≡ joined branch.old (one_waiting (Or (Not g.now) (Not h.now)))) }
 {
     let first = negation_of(alloc, g)?;
     let second = negation_of(alloc, h)?;
-    let form = Held::new(alloc, CForm::Or(first, second))?;
+    let form = Shared::new(alloc, CForm::Or(first, second))?;
     add_waiting(form, branch)
 }
 
@@ -367,7 +380,7 @@ pub fn settle_onto(
             settle_onto(alloc, vs, g.get(), branch)?;
             settle_onto(alloc, vs, h.get(), branch)
         }
-        CForm::Or(g, h) => wait_or(alloc, g.get(), h.get(), branch),
+        CForm::Or(g, h) => wait_or(alloc, g, h, branch),
     }
 }
 
@@ -389,7 +402,7 @@ pub fn refuse_onto(
         CForm::AtLeast(t) => refuse_least(alloc, vs, t, branch),
         CForm::Zero(t) => refuse_zero(alloc, t, branch),
         CForm::Not(g) => settle_onto(alloc, vs, g.get(), branch),
-        CForm::And(g, h) => wait_nots(alloc, g.get(), h.get(), branch),
+        CForm::And(g, h) => wait_nots(alloc, g, h, branch),
         CForm::Or(g, h) => {
             refuse_onto(alloc, vs, g.get(), branch)?;
             refuse_onto(alloc, vs, h.get(), branch)

@@ -8,7 +8,7 @@ ghost use Rattle.obligations.specs.Obligations.{IsObligation};
 
 use crate::branches::{Obligation, Variable};
 use core_terms::{CForm, CTerm, Range};
-use unity_base::Held;
+use unity_base::Shared;
 
 /// The number at which numbers of leaves and units stop.
 const MANY: u128 = 1 << 127;
@@ -192,7 +192,7 @@ fn zero_leaves(t: &CTerm) -> (u128, u128)
 
 #[cycle(leaves)]
 #[inline(never)]
-fn not_leaves(g: &Held<CForm>) -> (u128, u128)
+fn not_leaves(g: &Shared<CForm>) -> (u128, u128)
     ensures yes { result.0 ≡ min (shapes (Not g.now)).yes.leaves (2 ^ 127) }
     ensures no { result.1 ≡ min (shapes (Not g.now)).no.leaves (2 ^ 127) }
 {
@@ -202,7 +202,7 @@ fn not_leaves(g: &Held<CForm>) -> (u128, u128)
 
 #[cycle(leaves)]
 #[inline(never)]
-fn and_leaves(g: &Held<CForm>, h: &Held<CForm>) -> (u128, u128)
+fn and_leaves(g: &Shared<CForm>, h: &Shared<CForm>) -> (u128, u128)
     ensures yes { result.0 ≡ min (shapes (And g.now h.now)).yes.leaves (2 ^ 127) }
     ensures no { result.1 ≡ min (shapes (And g.now h.now)).no.leaves (2 ^ 127) }
 {
@@ -213,7 +213,7 @@ fn and_leaves(g: &Held<CForm>, h: &Held<CForm>) -> (u128, u128)
 
 #[cycle(leaves)]
 #[inline(never)]
-fn or_leaves(g: &Held<CForm>, h: &Held<CForm>) -> (u128, u128)
+fn or_leaves(g: &Shared<CForm>, h: &Shared<CForm>) -> (u128, u128)
     ensures yes { result.0 ≡ min (shapes (Or g.now h.now)).yes.leaves (2 ^ 127) }
     ensures no { result.1 ≡ min (shapes (Or g.now h.now)).no.leaves (2 ^ 127) }
 {
@@ -240,7 +240,7 @@ fn term_leaves(t: &CTerm) -> u128
 
 #[cycle(leaves)]
 #[inline(never)]
-fn choice_leaves(c: &Held<CForm>, a: &Held<CTerm>, b: &Held<CTerm>) -> u128
+fn choice_leaves(c: &Shared<CForm>, a: &Shared<CTerm>, b: &Shared<CTerm>) -> u128
     ensures { result ≡ min (term_shape (Ite c.now a.now b.now)).leaves (2 ^ 127) }
 {
     let when = form_leaves(c.get());

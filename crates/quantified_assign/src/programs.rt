@@ -11,7 +11,7 @@ ghost use Rattle.expand_expressions.specs.Places.{IsReady};
 ghost use Rattle.quantified_assign.specs.Bodies as spec;
 
 use case_tables::Code;
-use core_terms::{CForm, CProgram, CSlot, CStmt};
+use core_terms::{CForm, CProgram, CSlot, CStmt, owned_form};
 use expand_declarations::{WordTable, shown_slots, start_values};
 use expand_expressions::{Known, TruthCore, outside, truth};
 use expand_statements::{check_items, push_statements};
@@ -40,7 +40,7 @@ pub struct Sections<'p> {
 }
 
 // A formula that stands by itself, unless it is too large, or else an end of a range in it is.
-fn settled(t: TruthCore, front: u64) -> Result<CForm, NameFault>
+fn settled(alloc: Global, t: TruthCore, front: u64) -> Result<CForm, NameFault>
     requires { spec.IsSettled t }
     ensures { spec.SettlesForm result t front }
 {
@@ -55,7 +55,7 @@ fn settled(t: TruthCore, front: u64) -> Result<CForm, NameFault>
             code: Code::BadRange,
             at,
         }),
-        None => Ok(t.form.into_inner()),
+        None => Ok(owned_form(alloc, t.form)?),
     }
 }
 
@@ -67,7 +67,7 @@ fn section_form(alloc: Global, section: &Initially, known: &Known) -> Result<CFo
 {
     let f = formed(alloc, &section.of, known, &outside(), section.at)?;
     let t = truth(alloc, f)?;
-    settled(t, section.at)
+    settled(alloc, t, section.at)
 }
 
 // What holds of each first state.

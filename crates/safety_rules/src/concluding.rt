@@ -10,7 +10,7 @@ ghost use Rattle.safety_rules.specs.Usable.{NamesExist};
 use crate::places::{Derived, Place, RuleError};
 use crate::recording::{Claim, recorded};
 use case_tables::Code;
-use core_terms::{CForm, CSlot, Range, size_of, weight_of};
+use core_terms::{CForm, CSlot, Range, size_within, weight_of};
 use fair_rounds::Record;
 use obligations::{Obligation, TooLargeError, make};
 use std::alloc::Global;
@@ -21,7 +21,10 @@ pub(crate) fn is_small(f: &CForm, slots: &[CSlot], params: &[Range]) -> bool
     requires { NamesExist slots.now params.now f.now }
     ensures { result ≡ fits slots.now params.now f.now }
 {
-    size_of(f) <= 65_536 && weight_of(f, slots, params) <= 1 << 62
+    match size_within(f, 65_536) {
+        Some(_) => weight_of(f, slots, params) <= 1 << 62,
+        None => false,
+    }
 }
 
 /// Adds the obligation that a formula holds at every state and all numbers of the parameters.

@@ -19,7 +19,7 @@ use case_tables::{Code, Kind};
 use core_terms::{CForm, CStmt, holds};
 use obligations::Obligation;
 use std::alloc::{AllocError, Global};
-use unity_base::{Held, Seq};
+use unity_base::{Seq, Shared};
 use wp_substitution::{defined, is_oversized};
 
 // Where U holds, the step of the statement is defined.
@@ -28,7 +28,7 @@ fn where_defined(alloc: Global, pl: &Place, s: &CStmt) -> Result<CForm, AllocErr
     requires statement { StatementFits pl.now.slots.now s.now }
     ensures { IfOk result (λ f. f ≡ formula.imply pl.now.using.now (defined_form pl.now.slots.now s.now)) }
 {
-    let form = Held::new(alloc, defined(alloc, s, pl.slots)?)?;
+    let form = Shared::new(alloc, defined(alloc, s, pl.slots)?)?;
     let using = joined(alloc, pl.using)?;
     imply(alloc, using, form)
 }
@@ -68,8 +68,8 @@ pub fn defined_rule(alloc: Global, pl: &Place, start: &[i64]) -> Result<Derived,
     add_defined(alloc, pl, &mut goals)?;
     let claim = Claim {
         kind: Kind::Defined,
-        p: Held::new(alloc, CForm::Top)?,
-        q: Held::new(alloc, CForm::Top)?,
+        p: Shared::new(alloc, CForm::Top)?,
+        q: Shared::new(alloc, CForm::Top)?,
         first: &[],
         second: &[],
         helper: None,

@@ -13,7 +13,7 @@ use crate::places::{Derived, Place, RuleError};
 use crate::recording::{Claim, some_helper};
 use crate::texts::add_unless;
 use case_tables::{Code, Kind};
-use core_terms::{CForm, Helper, held_form};
+use core_terms::{CForm, Helper, held_form, owned_form};
 use obligations::Obligation;
 use std::alloc::{AllocError, Global};
 use unity_base::Seq;
@@ -34,7 +34,7 @@ fn add_meant(
         return Ok(());
     }
     let form = one_meant(alloc, pl, h)?;
-    add_goal(alloc, pl, goals, form.into_inner())
+    add_goal(alloc, pl, goals, owned_form(alloc, form)?)
 }
 
 // The obligations of the statements that may be meant: each that is gives q.
@@ -56,7 +56,7 @@ fn add_helped(
     for s in pl.program.statements.as_slice() {
         if may_mean(h, s) {
             let form = helped(alloc, pl, p, q, h, s)?;
-            add_goal(alloc, pl, goals, form.into_inner())?;
+            add_goal(alloc, pl, goals, owned_form(alloc, form)?)?;
         }
     }
     Ok(())

@@ -10,42 +10,42 @@ ghost use Rattle.rules_table.specs.Table as table;
 ghost use Rattle.safety_rules.specs.Helpers.{equation_of};
 ghost use Rattle.safety_rules.specs.Foldable.{IsFoldable};
 
-use core_terms::{Arg, CForm, CTerm, difference_term, zero_form};
+use core_terms::{Arg, CForm, CTerm, difference_term, owned_form, owned_term, zero_form};
 use std::alloc::{AllocError, Global};
-use unity_base::{Held, Seq};
+use unity_base::{Seq, Shared};
 
 // A parameter with a number added.
-fn shifted_param(alloc: Global, number: u32, add: i64) -> Result<Held<CTerm>, AllocError>
+fn shifted_param(alloc: Global, number: u32, add: i64) -> Result<Shared<CTerm>, AllocError>
     requires { unsigned_abs add ≤ 2 ^ 62 }
     ensures tree { IfOk result (λ t. t ≡ shifted number add) }
     ensures own { IfOk result (λ t. (plain_weights t).own ≤ 2 ^ 63) }
     ensures most { IfOk result (λ t. (plain_weights t).most ≤ 2 ^ 63) }
 {
     if add == 0 {
-        return Held::new(alloc, CTerm::Param(number));
+        return Shared::new(alloc, CTerm::Param(number));
     }
-    let param = Held::new(alloc, CTerm::Param(number))?;
+    let param = Shared::new(alloc, CTerm::Param(number))?;
     if add > 0 {
-        let more = Held::new(alloc, CTerm::Const(add))?;
-        Held::new(alloc, CTerm::Add(param, more))
+        let more = Shared::new(alloc, CTerm::Const(add))?;
+        Shared::new(alloc, CTerm::Add(param, more))
     } else {
-        let less = Held::new(alloc, CTerm::Const(-add))?;
-        Held::new(alloc, CTerm::Sub(param, less))
+        let less = Shared::new(alloc, CTerm::Const(-add))?;
+        Shared::new(alloc, CTerm::Sub(param, less))
     }
 }
 
 // That a parameter with a number added is the index.
-fn equation(alloc: Global, number: u32, add: i64, index: i64) -> Result<Held<CForm>, AllocError>
+fn equation(alloc: Global, number: u32, add: i64, index: i64) -> Result<Shared<CForm>, AllocError>
     requires { unsigned_abs add ≤ 2 ^ 62 }
     ensures tree { IfOk result (λ f. f ≡ fold.zero_form (fold.difference_term (shifted number add) (Const index))) }
     ensures foldable { IfOk result IsFoldable }
 {
     let term = shifted_param(alloc, number, add)?;
-    let difference = Held::new(
+    let difference = Shared::new(
         alloc,
-        difference_term(alloc, term.into_inner(), CTerm::Const(index))?,
+        difference_term(alloc, owned_term(alloc, term)?, CTerm::Const(index))?,
     )?;
-    Held::new(alloc, zero_form(difference.into_inner()))
+    Shared::new(alloc, zero_form(owned_term(alloc, difference)?))
 }
 
 // Adds that the index, if it names a parameter, is this number.
@@ -59,7 +59,7 @@ fn add_equation(alloc: Global, all: &mut Seq<CForm>, arg: Arg, index: i64) -> Re
         Arg::Number(_) => Ok(()),
         Arg::Param { number, add } => {
             let form = equation(alloc, number, add, index)?;
-            all.push(form.into_inner())
+            all.push(owned_form(alloc, form)?)
         }
         Arg::Slot => Ok(()),
     }

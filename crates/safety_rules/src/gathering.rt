@@ -6,28 +6,31 @@ ghost use Rattle.wp_substitution.specs.Joined.{joined_with};
 ghost use Rattle.wp_substitution.specs.Preconditions.{all_of};
 ghost use Rattle.safety_rules.specs.Foldable.{IsFoldable, AreFoldable, either_with};
 
-use core_terms::{CForm, and_form, held_form, not_form, or_form};
+use core_terms::{CForm, and_form, held_form, not_form, or_form, owned_form};
 use std::alloc::{AllocError, Global};
-use unity_base::Held;
+use unity_base::Shared;
 
 // A formula after those that hold too.
 fn join(
     alloc: Global,
-    whole: Option<Held<CForm>>,
-    f: Held<CForm>,
-) -> Result<Held<CForm>, AllocError>
+    whole: Option<Shared<CForm>>,
+    f: Shared<CForm>,
+) -> Result<Shared<CForm>, AllocError>
     requires whole { AreFoldable whole }
     requires formula { IsFoldable f }
     ensures tree { IfOk result (λ g. g ≡ joined_with whole f) }
     ensures foldable { IfOk result IsFoldable }
 {
     match whole {
-        Some(g) => Held::new(alloc, and_form(alloc, g.into_inner(), f.into_inner())?),
+        Some(g) => Shared::new(
+            alloc,
+            and_form(alloc, owned_form(alloc, g)?, owned_form(alloc, f)?)?,
+        ),
         None => Ok(f),
     }
 }
 
-fn add_join(alloc: Global, whole: &mut Option<Held<CForm>>, f: &CForm) -> Result<(), AllocError>
+fn add_join(alloc: Global, whole: &mut Option<Shared<CForm>>, f: &CForm) -> Result<(), AllocError>
     requires whole { AreFoldable whole.old }
     requires formula { IsFoldable f.now }
     ensures whole { OnOk result (whole.new ≡ Some (joined_with whole.old f.now)) }
@@ -40,7 +43,7 @@ fn add_join(alloc: Global, whole: &mut Option<Held<CForm>>, f: &CForm) -> Result
 }
 
 // That all formulas of a list hold.
-pub(crate) fn all_held(alloc: Global, forms: &[CForm]) -> Result<Held<CForm>, AllocError>
+pub(crate) fn all_held(alloc: Global, forms: &[CForm]) -> Result<Shared<CForm>, AllocError>
     requires { All IsFoldable forms.now }
     ensures tree { IfOk result (λ f. f ≡ all_of forms.now) }
     ensures foldable { IfOk result IsFoldable }
@@ -51,28 +54,31 @@ pub(crate) fn all_held(alloc: Global, forms: &[CForm]) -> Result<Held<CForm>, Al
     }
     match whole {
         Some(f) => Ok(f),
-        None => Held::new(alloc, CForm::Top),
+        None => Shared::new(alloc, CForm::Top),
     }
 }
 
 // A formula or one of the others.
 fn part(
     alloc: Global,
-    whole: Option<Held<CForm>>,
-    f: Held<CForm>,
-) -> Result<Held<CForm>, AllocError>
+    whole: Option<Shared<CForm>>,
+    f: Shared<CForm>,
+) -> Result<Shared<CForm>, AllocError>
     requires whole { AreFoldable whole }
     requires formula { IsFoldable f }
     ensures tree { IfOk result (λ g. g ≡ either_with whole f) }
     ensures foldable { IfOk result IsFoldable }
 {
     match whole {
-        Some(g) => Held::new(alloc, or_form(alloc, g.into_inner(), f.into_inner())?),
+        Some(g) => Shared::new(
+            alloc,
+            or_form(alloc, owned_form(alloc, g)?, owned_form(alloc, f)?)?,
+        ),
         None => Ok(f),
     }
 }
 
-fn add_part(alloc: Global, whole: &mut Option<Held<CForm>>, f: &CForm) -> Result<(), AllocError>
+fn add_part(alloc: Global, whole: &mut Option<Shared<CForm>>, f: &CForm) -> Result<(), AllocError>
     requires whole { AreFoldable whole.old }
     requires formula { IsFoldable f.now }
     ensures whole { OnOk result (whole.new ≡ Some (either_with whole.old f.now)) }
@@ -85,7 +91,7 @@ fn add_part(alloc: Global, whole: &mut Option<Held<CForm>>, f: &CForm) -> Result
 }
 
 // That one of the formulas of a list holds.
-pub(crate) fn any_held(alloc: Global, forms: &[CForm]) -> Result<Held<CForm>, AllocError>
+pub(crate) fn any_held(alloc: Global, forms: &[CForm]) -> Result<Shared<CForm>, AllocError>
     requires { All IsFoldable forms.now }
     ensures { IfOk result (λ f. f ≡ formula.any_of forms.now) }
 {
@@ -95,7 +101,7 @@ pub(crate) fn any_held(alloc: Global, forms: &[CForm]) -> Result<Held<CForm>, Al
     }
     match whole {
         Some(f) => Ok(f),
-        None => Held::new(alloc, CForm::Bottom),
+        None => Shared::new(alloc, CForm::Bottom),
     }
 }
 
@@ -103,14 +109,17 @@ pub(crate) fn any_held(alloc: Global, forms: &[CForm]) -> Result<Held<CForm>, Al
 pub(crate) fn implied(
     alloc: Global,
     premises: &[CForm],
-    q: Held<CForm>,
-) -> Result<Held<CForm>, AllocError>
+    q: Shared<CForm>,
+) -> Result<Shared<CForm>, AllocError>
     requires premises { All IsFoldable premises.now }
     requires some { 0 < length premises.now }
     requires formula { IsFoldable q }
     ensures { IfOk result (λ f. f ≡ formula.imply premises.now q) }
 {
     let whole = all_held(alloc, premises)?;
-    let other = Held::new(alloc, not_form(alloc, whole.into_inner())?)?;
-    Held::new(alloc, or_form(alloc, other.into_inner(), q.into_inner())?)
+    let other = Shared::new(alloc, not_form(alloc, owned_form(alloc, whole)?)?)?;
+    Shared::new(
+        alloc,
+        or_form(alloc, owned_form(alloc, other)?, owned_form(alloc, q)?)?,
+    )
 }

@@ -14,10 +14,10 @@ use crate::instances::{are_arguments, has_variable, helper_with};
 use crate::places::{Place, RuleError};
 use crate::recording::copied_ranges;
 use case_tables::Code;
-use core_terms::{Arg, CForm, CSlot, Range, copy_forms, with_params};
+use core_terms::{Arg, CForm, CSlot, Range, copy_forms, owned_form, with_params};
 use fair_rounds::Record;
 use std::alloc::Global;
-use unity_base::Held;
+use unity_base::Shared;
 
 // A formula with the arguments put in, if it is small enough.
 fn formula_with(
@@ -26,11 +26,11 @@ fn formula_with(
     ranges: &[Range],
     f: &CForm,
     args: &[Arg],
-) -> Result<Held<CForm>, RuleError>
+) -> Result<Shared<CForm>, RuleError>
     requires { CanPut slots.now ranges.now args.now f.now }
     ensures { AnswersForm result slots.now ranges.now (form_at args.now f.now) }
 {
-    let g = Held::new(alloc, with_params(alloc, f, args)?)?;
+    let g = Shared::new(alloc, with_params(alloc, f, args)?)?;
     if is_small(g.get(), slots, ranges) {
         Ok(g)
     } else {
@@ -44,8 +44,8 @@ fn instance_of_forms(
     pl: &Place,
     a: &Record,
     args: &[Arg],
-    p: Held<CForm>,
-    q: Held<CForm>,
+    p: Shared<CForm>,
+    q: Shared<CForm>,
 ) -> Result<Record, RuleError>
     requires { AllMayPut args.now a.now.helper }
     ensures { AnswersRecord result (Ok (instance_with (site_of pl.now) a.now args.now p q)) }
@@ -57,8 +57,8 @@ fn instance_of_forms(
         name: a.name,
         program: a.program,
         kind: a.kind,
-        p: p.into_inner(),
-        q: q.into_inner(),
+        p: owned_form(alloc, p)?,
+        q: owned_form(alloc, q)?,
         under,
         params,
         bound: a.bound,

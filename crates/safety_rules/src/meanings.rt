@@ -13,13 +13,13 @@ use crate::gathering::{all_held, any_held, implied};
 use crate::naming::may_mean;
 use crate::places::Place;
 use crate::texts::{after, using_and};
-use core_terms::{CForm, CStmt, Helper, copy_form, not_form};
+use core_terms::{CForm, CStmt, Helper, copy_form, not_form, owned_form};
 use std::alloc::{AllocError, Global};
-use unity_base::{Held, Seq};
+use unity_base::{Seq, Shared};
 use wp_substitution::wp;
 
 // That the indices are those of the statement.
-fn is_meant(alloc: Global, h: &Helper, s: &CStmt) -> Result<Held<CForm>, AllocError>
+fn is_meant(alloc: Global, h: &Helper, s: &CStmt) -> Result<Shared<CForm>, AllocError>
     requires { All ArgFits h.now.args }
     ensures tree { IfOk result (λ f. f ≡ all_of (table.equations h.now.args s.now.indices)) }
     ensures foldable { IfOk result IsFoldable }
@@ -40,14 +40,14 @@ fn meanings(alloc: Global, pl: &Place, h: &Helper) -> Result<Seq<CForm>, AllocEr
     for s in pl.program.statements.as_slice() {
         if may_mean(h, s) {
             let form = is_meant(alloc, h, s)?;
-            all.push(form.into_inner())?;
+            all.push(owned_form(alloc, form)?)?;
         }
     }
     Ok(all)
 }
 
 // That one of the statements that may be meant is.
-pub(crate) fn one_meant(alloc: Global, pl: &Place, h: &Helper) -> Result<Held<CForm>, AllocError>
+pub(crate) fn one_meant(alloc: Global, pl: &Place, h: &Helper) -> Result<Shared<CForm>, AllocError>
     requires { All ArgFits h.now.args }
     ensures { IfOk result (λ f. f ≡ formula.any_of
         (map (λ s. all_of (table.equations h.now.args s.indices)) (table.instances_of (site_of pl.now) h.now))) }
@@ -87,7 +87,7 @@ pub(crate) fn helped(
     q: &CForm,
     h: &Helper,
     s: &CStmt,
-) -> Result<Held<CForm>, AllocError>
+) -> Result<Shared<CForm>, AllocError>
     requires place { IsPlace pl.now }
     requires p { FormFits pl.now.slots.now pl.now.params.now p.now }
     requires q { FormFits pl.now.slots.now pl.now.params.now q.now }
@@ -97,6 +97,6 @@ pub(crate) fn helped(
 {
     let premises = premises(alloc, pl, p, q, h, s)?;
     let after = after(alloc, pl, q)?;
-    let before = Held::new(alloc, wp(alloc, s, after.get(), pl.slots)?)?;
+    let before = Shared::new(alloc, wp(alloc, s, after.get(), pl.slots)?)?;
     implied(alloc, premises.as_slice(), before)
 }

@@ -16,7 +16,7 @@ use case_tables::{Code, Kind, RuleName};
 use core_terms::{CForm, held_form};
 use fair_rounds::Record;
 use std::alloc::{AllocError, Global};
-use unity_base::{Held, Seq};
+use unity_base::{Seq, Shared};
 
 fn are_unless(a: &Record, b: &Record) -> bool
     ensures { result ≡ (table.is_unless a.now.kind && table.is_unless b.now.kind) }
@@ -31,7 +31,7 @@ fn may_join(a: &Record, b: &Record) -> bool
 }
 
 // What either ends on, while the other still holds or ends too.
-fn ends_of_both(alloc: Global, a: &Record, b: &Record) -> Result<Held<CForm>, AllocError>
+fn ends_of_both(alloc: Global, a: &Record, b: &Record) -> Result<Shared<CForm>, AllocError>
     requires a { max (plain_weight a.now.p) (plain_weight a.now.q) ≤ 2 ^ 62 }
     requires b { max (plain_weight b.now.p) (plain_weight b.now.q) ≤ 2 ^ 62 }
     ensures { IfOk result (λ f. f ≡ table.ends_of_both a.now.p a.now.q b.now.p b.now.q) }
@@ -43,7 +43,7 @@ fn ends_of_both(alloc: Global, a: &Record, b: &Record) -> Result<Held<CForm>, Al
 }
 
 // What either ends on where the other does not hold, or both end on.
-fn ends_of_either(alloc: Global, a: &Record, b: &Record) -> Result<Held<CForm>, AllocError>
+fn ends_of_either(alloc: Global, a: &Record, b: &Record) -> Result<Shared<CForm>, AllocError>
     requires a { max (plain_weight a.now.p) (plain_weight a.now.q) ≤ 2 ^ 62 }
     requires b { max (plain_weight b.now.p) (plain_weight b.now.q) ≤ 2 ^ 62 }
     ensures { IfOk result (λ f. f ≡ table.ends_of_either a.now.p a.now.q b.now.p b.now.q) }
@@ -60,8 +60,8 @@ fn paired(
     pl: &Place,
     a: &Record,
     b: &Record,
-    p: Held<CForm>,
-    q: Held<CForm>,
+    p: Shared<CForm>,
+    q: Shared<CForm>,
 ) -> Result<Derived, RuleError>
     requires p { NamesExist pl.now.slots.now pl.now.params.now p }
     requires q { NamesExist pl.now.slots.now pl.now.params.now q }

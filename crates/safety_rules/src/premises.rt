@@ -5,15 +5,15 @@ ghost use Rattle.core_terms.specs.Folding as fold;
 ghost use Rattle.wp_substitution.specs.Joined.{joined_with, joined_all, IsLight};
 ghost use Rattle.safety_rules.specs.Premises.{implied_by, PremisesAreLight};
 
-use core_terms::{CForm, and_form, copy_form, held_form, not_form, or_form};
+use core_terms::{CForm, and_form, copy_form, held_form, not_form, or_form, owned_form};
 use std::alloc::{AllocError, Global};
-use unity_base::Held;
+use unity_base::Shared;
 
 // Joins one formula more.
 pub(crate) fn add(
     alloc: Global,
-    whole: &mut Option<Held<CForm>>,
-    f: Held<CForm>,
+    whole: &mut Option<Shared<CForm>>,
+    f: Shared<CForm>,
 ) -> Result<(), AllocError>
     requires light { PremisesAreLight whole.old }
     requires formula { plain_weight f ≤ 2 ^ 62 }
@@ -28,16 +28,19 @@ pub(crate) fn add(
 // A formula after the others.
 fn join(
     alloc: Global,
-    whole: Option<Held<CForm>>,
-    f: Held<CForm>,
-) -> Result<Held<CForm>, AllocError>
+    whole: Option<Shared<CForm>>,
+    f: Shared<CForm>,
+) -> Result<Shared<CForm>, AllocError>
     requires light { PremisesAreLight whole }
     requires formula { plain_weight f ≤ 2 ^ 62 }
     ensures tree { IfOk result (λ g. g ≡ joined_with whole f) }
     ensures light { IfOk result (λ g. plain_weight g ≤ 2 ^ 62) }
 {
     match whole {
-        Some(g) => Held::new(alloc, and_form(alloc, g.into_inner(), f.into_inner())?),
+        Some(g) => Shared::new(
+            alloc,
+            and_form(alloc, owned_form(alloc, g)?, owned_form(alloc, f)?)?,
+        ),
         None => Ok(f),
     }
 }
@@ -45,7 +48,7 @@ fn join(
 // Joins a copy of a formula.
 pub(crate) fn add_copy(
     alloc: Global,
-    whole: &mut Option<Held<CForm>>,
+    whole: &mut Option<Shared<CForm>>,
     f: &CForm,
 ) -> Result<(), AllocError>
     requires light { PremisesAreLight whole.old }
@@ -60,7 +63,7 @@ pub(crate) fn add_copy(
 // Joins that a formula does not hold.
 pub(crate) fn add_not(
     alloc: Global,
-    whole: &mut Option<Held<CForm>>,
+    whole: &mut Option<Shared<CForm>>,
     f: &CForm,
 ) -> Result<(), AllocError>
     requires light { PremisesAreLight whole.old }
@@ -68,12 +71,12 @@ pub(crate) fn add_not(
     ensures whole { OnOk result (whole.new ≡ Some (joined_with whole.old (fold.not_form f.now))) }
     ensures light { OnOk result (PremisesAreLight whole.new) }
 {
-    let other = Held::new(alloc, not_form(alloc, copy_form(alloc, f)?)?)?;
+    let other = Shared::new(alloc, not_form(alloc, copy_form(alloc, f)?)?)?;
     add(alloc, whole, other)
 }
 
 // All formulas of a list, joined.
-pub(crate) fn joined(alloc: Global, forms: &[CForm]) -> Result<Option<Held<CForm>>, AllocError>
+pub(crate) fn joined(alloc: Global, forms: &[CForm]) -> Result<Option<Shared<CForm>>, AllocError>
     requires { All IsLight forms.now }
     ensures whole { IfOk result (λ whole. whole ≡ joined_all None forms.now) }
     ensures light { IfOk result PremisesAreLight }
@@ -88,8 +91,8 @@ pub(crate) fn joined(alloc: Global, forms: &[CForm]) -> Result<Option<Held<CForm
 // Where the premises hold, so does the formula.
 pub(crate) fn imply(
     alloc: Global,
-    whole: Option<Held<CForm>>,
-    q: Held<CForm>,
+    whole: Option<Shared<CForm>>,
+    q: Shared<CForm>,
 ) -> Result<CForm, AllocError>
     requires light { PremisesAreLight whole }
     requires formula { plain_weight q ≤ 2 ^ 125 }
@@ -98,66 +101,69 @@ pub(crate) fn imply(
 {
     match whole {
         Some(f) => {
-            let other = Held::new(alloc, not_form(alloc, f.into_inner())?)?;
-            or_form(alloc, other.into_inner(), q.into_inner())
+            let other = Shared::new(alloc, not_form(alloc, owned_form(alloc, f)?)?)?;
+            or_form(alloc, owned_form(alloc, other)?, owned_form(alloc, q)?)
         }
-        None => Ok(q.into_inner()),
+        None => owned_form(alloc, q),
     }
 }
 
 // That one of two formulas holds.
-pub(crate) fn either(alloc: Global, p: &CForm, q: &CForm) -> Result<Held<CForm>, AllocError>
+pub(crate) fn either(alloc: Global, p: &CForm, q: &CForm) -> Result<Shared<CForm>, AllocError>
     requires { max (plain_weight p.now) (plain_weight q.now) ≤ 2 ^ 62 }
     ensures tree { IfOk result (λ f. f ≡ fold.or_form p.now q.now) }
     ensures light { IfOk result (λ f. plain_weight f ≤ 2 ^ 62) }
 {
     let first = held_form(alloc, p)?;
     let second = held_form(alloc, q)?;
-    Held::new(
+    Shared::new(
         alloc,
-        or_form(alloc, first.into_inner(), second.into_inner())?,
+        or_form(alloc, owned_form(alloc, first)?, owned_form(alloc, second)?)?,
     )
 }
 
 // That two formulas hold.
-pub(crate) fn both(alloc: Global, p: &CForm, q: &CForm) -> Result<Held<CForm>, AllocError>
+pub(crate) fn both(alloc: Global, p: &CForm, q: &CForm) -> Result<Shared<CForm>, AllocError>
     requires { max (plain_weight p.now) (plain_weight q.now) ≤ 2 ^ 62 }
     ensures tree { IfOk result (λ f. f ≡ fold.and_form p.now q.now) }
     ensures light { IfOk result (λ f. plain_weight f ≤ 2 ^ 62) }
 {
     let first = held_form(alloc, p)?;
     let second = held_form(alloc, q)?;
-    Held::new(
+    Shared::new(
         alloc,
-        and_form(alloc, first.into_inner(), second.into_inner())?,
+        and_form(alloc, owned_form(alloc, first)?, owned_form(alloc, second)?)?,
     )
 }
 
 // That the first formula does not hold, and the second does.
-pub(crate) fn second_alone(alloc: Global, p: &CForm, q: &CForm) -> Result<Held<CForm>, AllocError>
+pub(crate) fn second_alone(alloc: Global, p: &CForm, q: &CForm) -> Result<Shared<CForm>, AllocError>
     requires { max (plain_weight p.now) (plain_weight q.now) ≤ 2 ^ 62 }
     ensures tree { IfOk result (λ f. f ≡ fold.and_form (fold.not_form p.now) q.now) }
     ensures light { IfOk result (λ f. plain_weight f ≤ 2 ^ 62) }
 {
-    let other = Held::new(alloc, not_form(alloc, copy_form(alloc, p)?)?)?;
+    let other = Shared::new(alloc, not_form(alloc, copy_form(alloc, p)?)?)?;
     both(alloc, other.get(), q)
 }
 
 // That one of three formulas holds.
 pub(crate) fn one_of_three(
     alloc: Global,
-    first: Held<CForm>,
-    second: Held<CForm>,
-    third: Held<CForm>,
-) -> Result<Held<CForm>, AllocError>
+    first: Shared<CForm>,
+    second: Shared<CForm>,
+    third: Shared<CForm>,
+) -> Result<Shared<CForm>, AllocError>
     requires first { plain_weight first ≤ 2 ^ 62 }
     requires second { plain_weight second ≤ 2 ^ 62 }
     requires third { plain_weight third ≤ 2 ^ 62 }
     ensures { IfOk result (λ f. f ≡ fold.or_form (fold.or_form first second) third) }
 {
-    let two = Held::new(
+    let two = Shared::new(
         alloc,
-        or_form(alloc, first.into_inner(), second.into_inner())?,
+        or_form(alloc, owned_form(alloc, first)?, owned_form(alloc, second)?)?,
     )?;
-    Held::new(alloc, or_form(alloc, two.into_inner(), third.into_inner())?)
+    Shared::new(
+        alloc,
+        or_form(alloc, owned_form(alloc, two)?, owned_form(alloc, third)?)?,
+    )
 }

@@ -7,18 +7,18 @@ ghost use Rattle.safety_rules.specs.Answers.{site_of};
 
 use crate::places::Place;
 use case_tables::Kind;
-use core_terms::{Arg, CForm, Helper, Range, copy_form, same};
+use core_terms::{Arg, CForm, Helper, Range, copy_form, owned_form, same};
 use fair_rounds::Record;
 use std::alloc::{AllocError, Global};
-use unity_base::{Held, Seq};
+use unity_base::{Held, Seq, Shared};
 
 /// What a rule claims: its kind, p and q, the formulas under which its premises stand, and the
 /// statement that helps.
 #[derive(Drop)]
 pub struct Claim<'a> {
     pub kind: Kind,
-    pub p: Held<CForm>,
-    pub q: Held<CForm>,
+    pub p: Shared<CForm>,
+    pub q: Shared<CForm>,
     pub first: &'a [CForm],
     pub second: &'a [CForm],
     pub helper: Option<Helper>,
@@ -148,8 +148,8 @@ pub(crate) fn recorded(alloc: Global, pl: &Place, claim: Claim) -> Result<Held<R
             name: pl.name,
             program: pl.program.name,
             kind,
-            p: p.into_inner(),
-            q: q.into_inner(),
+            p: owned_form(alloc, p)?,
+            q: owned_form(alloc, q)?,
             under,
             params,
             bound: 0,

@@ -17,13 +17,13 @@ use case_tables::{Code, Kind};
 use core_terms::{CForm, CStmt, copy_form, copy_forms, held_form, not_form};
 use obligations::Obligation;
 use std::alloc::{AllocError, Global};
-use unity_base::{Held, Seq};
+use unity_base::{Seq, Shared};
 use wp_substitution::{is_oversized, wp};
 
 /// The formula, where U holds.
 ///
 /// An error says that memory was refused.
-pub fn after(alloc: Global, pl: &Place, q: &CForm) -> Result<Held<CForm>, AllocError>
+pub fn after(alloc: Global, pl: &Place, q: &CForm) -> Result<Shared<CForm>, AllocError>
     requires place { IsPlace pl.now }
     requires q { IsUsable pl.now.slots.now pl.now.params.now q.now }
     ensures tree { IfOk result (λ f. f ≡ formula.imply pl.now.using.now q.now) }
@@ -31,7 +31,7 @@ pub fn after(alloc: Global, pl: &Place, q: &CForm) -> Result<Held<CForm>, AllocE
 {
     let using = joined(alloc, pl.using)?;
     let q = held_form(alloc, q)?;
-    Held::new(alloc, imply(alloc, using, q)?)
+    Shared::new(alloc, imply(alloc, using, q)?)
 }
 
 // Where the premises hold, the step of the statement is defined and gives q, where U holds after it.
@@ -50,7 +50,7 @@ fn kept(
         (wp_form pl.now.slots.now s.now (formula.imply pl.now.using.now q.now))) }
 {
     let after = after(alloc, pl, q)?;
-    let before = Held::new(alloc, wp(alloc, s, after.get(), pl.slots)?)?;
+    let before = Shared::new(alloc, wp(alloc, s, after.get(), pl.slots)?)?;
     let premises = joined(alloc, premises)?;
     imply(alloc, premises, before)
 }
@@ -180,7 +180,7 @@ pub fn invariant_rule(alloc: Global, pl: &Place, p: &CForm) -> Result<Derived, R
     let claim = Claim {
         kind: Kind::Invariant,
         p: held_form(alloc, p)?,
-        q: Held::new(alloc, CForm::Bottom)?,
+        q: Shared::new(alloc, CForm::Bottom)?,
         first: &[],
         second: &[],
         helper: None,

@@ -8,7 +8,7 @@ ghost use Rattle.safety_rules.specs.Goals.{Added};
 ghost use Rattle.safety_rules.specs.Usable.{NamesExist};
 
 use case_tables::Kind;
-use core_terms::{CForm, Helper, held_form};
+use core_terms::{CForm, Helper, held_form, owned_form};
 use fair_rounds::Record;
 use obligations::Obligation;
 use safety_rules::{Claim, Derived, Place, RuleError, add_goal, after, conclude, copied_helper};
@@ -29,7 +29,7 @@ fn add_shown(
 {
     for f in forms {
         let form = after(alloc, pl, f)?;
-        add_goal(alloc, pl, goals, form.into_inner())?;
+        add_goal(alloc, pl, goals, owned_form(alloc, form)?)?;
     }
     Ok(())
 }

@@ -5,12 +5,12 @@ ghost use Rattle.wrong_bodies.specs.Changes.{changed, either, either_at, goals_o
 ghost use Rattle.wrong_bodies.specs.Changes.{with_bound, with_goals, with_end};
 
 use case_tables::Kind;
-use core_terms::{CForm, Range, copy_forms, held_form};
+use core_terms::{CForm, Range, copy_form, copy_forms, held_form};
 use fair_rounds::Record;
 use obligations::Obligation;
 use safety_rules::{Derived, RuleError, copied_helper};
 use std::alloc::{AllocError, Global};
-use unity_base::{Held, Seq};
+use unity_base::{Held, Seq, Shared};
 
 fn copied_ranges(alloc: Global, ranges: &[Range]) -> Result<Seq<Range>, AllocError>
     ensures { IfOk result (λ copy. copy ≡ ranges.now) }
@@ -34,8 +34,8 @@ pub fn changed_record(
 ) -> Result<Held<Record>, AllocError>
     ensures { IfOk result (λ r. r ≡ record a.now { kind = kind; q = q.now; under = under.now }) }
 {
-    let p = held_form(alloc, &a.p)?;
-    let q = held_form(alloc, q)?;
+    let p = copy_form(alloc, &a.p)?;
+    let q = copy_form(alloc, q)?;
     let under = copy_forms(alloc, under)?;
     let params = copied_ranges(alloc, a.params.as_slice())?;
     let helper = copied_helper(alloc, &a.helper)?;
@@ -45,8 +45,8 @@ pub fn changed_record(
             name: a.name,
             program: a.program,
             kind,
-            p: p.into_inner(),
-            q: q.into_inner(),
+            p,
+            q,
             under,
             params,
             bound: a.bound,
@@ -75,23 +75,23 @@ pub fn rounds_of(answer: &Result<Derived, RuleError>) -> u64
 }
 
 /// An answer with this end.
-pub fn with_end(answer: Result<Derived, RuleError>, q: Held<CForm>) -> Result<Derived, RuleError>
+pub fn with_end(answer: Result<Derived, RuleError>, q: CForm) -> Result<Derived, RuleError>
     ensures { result ≡ changed (with_end q) answer }
 {
     let mut derived = answer?;
-    derived.made.q = q.into_inner();
+    derived.made.q = q;
     Ok(derived)
 }
 
 /// The first part of a disjunction, and of another formula all.
 ///
 /// An error says that memory was refused.
-pub fn first_part(alloc: Global, f: &CForm) -> Result<Held<CForm>, AllocError>
+pub fn first_part(alloc: Global, f: &CForm) -> Result<CForm, AllocError>
     ensures { IfOk result (λ part. part ≡ part_in (out-CForm f.now) f.now) }
 {
     match f {
-        CForm::Or(first, _) => held_form(alloc, first.get()),
-        _ => held_form(alloc, f),
+        CForm::Or(first, _) => copy_form(alloc, first.get()),
+        _ => copy_form(alloc, f),
     }
 }
 
@@ -139,7 +139,7 @@ fn either(alloc: Global, one: &Obligation, two: Obligation) -> Result<Held<Oblig
     ensures { IfOk result (λ o. o ≡ either one.now two) }
 {
     let Obligation { form, variables } = two;
-    let second = Held::new(alloc, form)?;
+    let second = Shared::new(alloc, form)?;
     let first = held_form(alloc, &one.form)?;
     let form = CForm::Or(first, second);
     Held::new(alloc, Obligation { form, variables })

@@ -187,6 +187,14 @@ proof Fan big: invariant (sum i : 1..150 :: x) >= 0 by text; end",
         Status::Rejected,
         "rejected 50 CertMissing Fan.big obligation 1\n",
     ),
+    // also where it has 800,000,000, which stand in few places
+    (
+        "check",
+        "unity 1 program Fan declare x : 0..3 assign s: x := (sum i : 1..20000 :: x) end
+proof Fan big: invariant (sum i : 1..20000 :: x) >= 0 by text; end",
+        Status::Rejected,
+        "rejected 42 FormulaTooLarge Fan.big\n",
+    ),
     // and an obligation in which cases stand more than 960 deep
     (
         "check",

@@ -10,7 +10,7 @@ use core_terms::{CForm, CTerm, Range};
 use linear_prover::close;
 use obligations::{Cert, Fact, Obligation, Variable};
 use std::alloc::{AllocError, Global};
-use unity_base::{Held, Seq};
+use unity_base::{Seq, Shared};
 
 /// That x, y and z times these numbers and a constant add up to 0 at least.
 #[derive(Clone, Copy)]
@@ -91,7 +91,7 @@ fn multiple(alloc: Global, times: i32, slot: u32) -> Result<CTerm, AllocError>
     ensures own { IfOk result (λ t. (term_load t).own ≤ 2 ^ 31) }
     ensures most { IfOk result (λ t. (term_load t).most ≡ 0) }
 {
-    Ok(CTerm::Scale(times as i64, Held::new(alloc, CTerm::Slot(slot))?))
+    Ok(CTerm::Scale(times as i64, Shared::new(alloc, CTerm::Slot(slot))?))
 }
 
 /// The sum of which a row says that it is at least 0.
@@ -99,12 +99,12 @@ fn sum_of(alloc: Global, row: &Row) -> Result<CTerm, AllocError>
     ensures own { IfOk result (λ t. (term_load t).own ≤ 2 ^ 33) }
     ensures most { IfOk result (λ t. (term_load t).most ≡ 0) }
 {
-    let x = Held::new(alloc, multiple(alloc, row.x, 0)?)?;
-    let y = Held::new(alloc, multiple(alloc, row.y, 1)?)?;
-    let z = Held::new(alloc, multiple(alloc, row.z, 2)?)?;
-    let constant = Held::new(alloc, CTerm::Const(row.constant as i64))?;
-    let last = Held::new(alloc, CTerm::Add(z, constant))?;
-    let more = Held::new(alloc, CTerm::Add(y, last))?;
+    let x = Shared::new(alloc, multiple(alloc, row.x, 0)?)?;
+    let y = Shared::new(alloc, multiple(alloc, row.y, 1)?)?;
+    let z = Shared::new(alloc, multiple(alloc, row.z, 2)?)?;
+    let constant = Shared::new(alloc, CTerm::Const(row.constant as i64))?;
+    let last = Shared::new(alloc, CTerm::Add(z, constant))?;
+    let more = Shared::new(alloc, CTerm::Add(y, last))?;
     Ok(CTerm::Add(x, more))
 }
 
@@ -113,9 +113,9 @@ fn or_unmet(alloc: Global, row: &Row, form: CForm) -> Result<CForm, AllocError>
     requires { form_load form ≤ 2 ^ 62 }
     ensures { IfOk result (λ f. form_load f ≤ 2 ^ 62) }
 {
-    let met = Held::new(alloc, CForm::AtLeast(sum_of(alloc, row)?))?;
-    let unmet = Held::new(alloc, CForm::Not(met))?;
-    Ok(CForm::Or(unmet, Held::new(alloc, form)?))
+    let met = Shared::new(alloc, CForm::AtLeast(sum_of(alloc, row)?))?;
+    let unmet = Shared::new(alloc, CForm::Not(met))?;
+    Ok(CForm::Or(unmet, Shared::new(alloc, form)?))
 }
 
 /// That some row is not met.

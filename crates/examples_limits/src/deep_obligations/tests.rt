@@ -11,7 +11,7 @@ use obligations::{
     Cert, Node, TooLargeError, height, make, need, open_branch, settle, units, with_variables,
 };
 use std::test::Fail;
-use unity_base::{Held, Seq};
+use unity_base::{Seq, Shared};
 
 const NODES: u32 = 65536;
 
@@ -102,8 +102,8 @@ fn at_most(alloc: Global, most: i64) -> Result<CForm, AllocError>
     ensures slots { IfOk result (λ f. form_slots f ≤ 1) }
     ensures params { IfOk result (λ f. form_params f ≤ 0) }
 {
-    let most = Held::new(alloc, CTerm::Const(most))?;
-    let slot = Held::new(alloc, CTerm::Slot(0))?;
+    let most = Shared::new(alloc, CTerm::Const(most))?;
+    let slot = Shared::new(alloc, CTerm::Slot(0))?;
     Ok(CForm::AtLeast(CTerm::Sub(most, slot)))
 }
 
@@ -112,12 +112,12 @@ fn next_inside(alloc: Global) -> Result<CForm, AllocError>
     ensures slots { IfOk result (λ f. form_slots f ≤ 1) }
     ensures params { IfOk result (λ f. form_params f ≤ 0) }
 {
-    let slot = Held::new(alloc, CTerm::Slot(0))?;
-    let one = Held::new(alloc, CTerm::Const(1))?;
+    let slot = Shared::new(alloc, CTerm::Slot(0))?;
+    let one = Shared::new(alloc, CTerm::Const(1))?;
     let low = CForm::AtLeast(CTerm::Add(slot, one));
     Ok(CForm::And(
-        Held::new(alloc, low)?,
-        Held::new(alloc, at_most(alloc, 2)?)?,
+        Shared::new(alloc, low)?,
+        Shared::new(alloc, at_most(alloc, 2)?)?,
     ))
 }
 
@@ -126,10 +126,10 @@ fn step_is_defined(alloc: Global) -> Result<CForm, AllocError>
     ensures slots { IfOk result (λ f. form_slots f ≤ 1) }
     ensures params { IfOk result (λ f. form_params f ≤ 0) }
 {
-    let condition = Held::new(alloc, at_most(alloc, 2)?)?;
+    let condition = Shared::new(alloc, at_most(alloc, 2)?)?;
     Ok(CForm::Or(
-        Held::new(alloc, CForm::Not(condition))?,
-        Held::new(alloc, next_inside(alloc)?)?,
+        Shared::new(alloc, CForm::Not(condition))?,
+        Shared::new(alloc, next_inside(alloc)?)?,
     ))
 }
 

@@ -10,7 +10,7 @@ use super::*;
 use crate::deep_trees::{Around, TermAround, deep_form, deep_term};
 use core_terms::{same, size_of};
 use std::test::Fail;
-use unity_base::Held;
+use unity_base::Shared;
 use wp_substitution::{defined, wp};
 
 const NODES: u32 = 65536;
@@ -23,11 +23,11 @@ fn sum_is_three(alloc: Global, first: u32, second: u32) -> Result<CForm, AllocEr
     ensures weight { IfOk result (λ f. plain_weight f ≤ 2 ^ 62) }
 {
     let sum = CTerm::Add(
-        Held::new(alloc, CTerm::Slot(first))?,
-        Held::new(alloc, CTerm::Slot(second))?,
+        Shared::new(alloc, CTerm::Slot(first))?,
+        Shared::new(alloc, CTerm::Slot(second))?,
     );
-    let sum = Held::new(alloc, sum)?;
-    let three = Held::new(alloc, CTerm::Const(3))?;
+    let sum = Shared::new(alloc, sum)?;
+    let three = Shared::new(alloc, CTerm::Const(3))?;
     Ok(CForm::Zero(CTerm::Sub(sum, three)))
 }
 

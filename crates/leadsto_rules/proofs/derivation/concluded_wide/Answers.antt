@@ -25,10 +25,10 @@ pub returns : goal.returns
 returns c =
     let site : Site = site_of c.args.wide.now in
     let led : Led = c.args.led.now in
-    rule_given c.in_ok-add_forms.field-0 site Kind.Leadsto led.p led.q c.in_ok-held_form.field-0
-    c.in_ok-held_form-2.field-0 led.under (c.as_slice-2.result.now ++ []) None None led.forms c.new-goals.result
-    c.add_forms.new.goals c.conclude.result (c.in_ok-held_form.ensures ∙ c.get.ensures)
-    (c.in_ok-held_form-2.ensures ∙ c.get-2.ensures) (append-nil c.as_slice-2.result.now ∙ c.as_slice-2.ensures) refl
+    rule_given c.in_ok-add_forms.field-0 site Kind.Leadsto led.p led.q c.in_ok-share.field-0
+    c.in_ok-share-2.field-0 led.under (c.as_slice-2.result.now ++ []) None None led.forms c.new-goals.result
+    c.add_forms.new.goals c.conclude.result (c.in_ok-share.ensures)
+    (c.in_ok-share-2.ensures) (append-nil c.as_slice-2.result.now ∙ c.as_slice-2.ensures) refl
     c.new-goals.ensures
     (subst (λ fs. Added (Ok c.in_ok-add_forms.field-0) c.new-goals.result c.add_forms.new.goals site.slots site.params
     fs) c.as_slice.ensures c.in_ok-add_forms.ensures) c.conclude.ensures

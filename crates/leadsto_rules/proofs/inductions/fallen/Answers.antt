@@ -19,7 +19,7 @@ node-requires c =
     let t = c.args.t in
     let i = c.args.i.now in
     claim_fits slots ranges c.in_ok-held_form.ensures c.in_ok-held_form-2.ensures refl
-    (c.in_ok-push.ensures.ok ∙ ap (λ f. t.forms ++ f ∷ []) (c.into_inner.ensures ∙ c.in_ok-form.ensures))
+    (c.in_ok-push.ensures.ok ∙ ap (λ f. t.forms ++ f ∷ []) (c.in_ok-owned_form.ensures ∙ c.in_ok-form.ensures))
     (fits_exist slots ranges i.p.now c.requires.induction.p) (fits_exist slots ranges i.q.now c.requires.induction.q)
     c.requires.t.under
     (both_exist slots ranges t.forms (_ ∷ []) c.requires.t.forms
@@ -29,5 +29,5 @@ pub returns-clause-answer : goal.returns-clause-answer
 returns-clause-answer c =
     node_gives (site_of c.args.pl.now) c.args.ranges.now c.node.result c.in_ok-held_form.ensures
     c.in_ok-held_form-2.ensures c.rounds_down.ensures refl
-    (c.in_ok-push.ensures.ok ∙ ap (λ f. c.args.t.forms ++ f ∷ []) (c.into_inner.ensures ∙ c.in_ok-form.ensures))
+    (c.in_ok-push.ensures.ok ∙ ap (λ f. c.args.t.forms ++ f ∷ []) (c.in_ok-owned_form.ensures ∙ c.in_ok-form.ensures))
     c.node.ensures.answer

@@ -24,7 +24,7 @@ node-requires c =
     let q : CForm = c.args.q.now in
     claim_fits slots ranges {under = []} {forms = imply (using ++ p ∷ []) q ∷ []} c.in_ok-held_form.ensures
     c.in_ok-held_form-2.ensures c.new.ensures
-    (c.in_ok-push.ensures.ok ∙ ap (λ fs. fs ++ c.into_inner.result ∷ []) c.new-forms.ensures
-    ∙ ap (λ f. f ∷ []) (c.into_inner.ensures ∙ c.in_ok-form.ensures))
+    (c.in_ok-push.ensures.ok ∙ ap (λ fs. fs ++ c.in_ok-owned_form.field-0 ∷ []) c.new-forms.ensures
+    ∙ ap (λ f. f ∷ []) (c.in_ok-owned_form.ensures ∙ c.in_ok-form.ensures))
     (fits_exist slots ranges p c.requires.p) (fits_exist slots ranges q c.requires.q) (All-nil (FormFits slots []))
     (one_exists slots ranges _ (follows_exist slots ranges using p q c.requires.place.using c.requires.p c.requires.q))

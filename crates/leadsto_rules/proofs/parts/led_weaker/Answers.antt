@@ -39,8 +39,8 @@ node-requires c =
     claim_fits slots ranges c.in_ok-held_form.ensures
     c.in_ok-held_form-2.ensures refl
     (two_pushed t.forms c.in_ok-push.ensures.ok c.in_ok-push-2.ensures.ok
-    (c.into_inner.ensures ∙ c.in_ok-before.ensures ∙ ap (λ f. imply (using ++ p ∷ []) f) c.get.ensures)
-    (c.into_inner-2.ensures ∙ c.in_ok-after.ensures ∙ ap (λ f. imply (using ++ f ∷ []) q) c.get-2.ensures))
+    (c.in_ok-owned_form.ensures ∙ c.in_ok-before.ensures ∙ ap (λ f. imply (using ++ p ∷ []) f) c.get.ensures)
+    (c.in_ok-owned_form-2.ensures ∙ c.in_ok-after.ensures ∙ ap (λ f. imply (using ++ f ∷ []) q) c.get-2.ensures))
     (fits_exist slots ranges p c.requires.p) (fits_exist slots ranges q c.requires.q) c.requires.t.under
     (both_exist slots ranges t.forms (one ∷ two ∷ []) c.requires.t.forms
     (two_exist slots ranges one two (follows_exist slots ranges using p t.p c.requires.place.using c.requires.p
@@ -55,6 +55,6 @@ returns-clause-answer c =
     node_gives (site_of c.args.pl.now) c.args.ranges.now c.node.result c.in_ok-held_form.ensures
     c.in_ok-held_form-2.ensures c.from.ensures refl
     (two_pushed t.forms c.in_ok-push.ensures.ok c.in_ok-push-2.ensures.ok
-    (c.into_inner.ensures ∙ c.in_ok-before.ensures ∙ ap (λ f. imply (using ++ p ∷ []) f) c.get.ensures)
-    (c.into_inner-2.ensures ∙ c.in_ok-after.ensures ∙ ap (λ f. imply (using ++ f ∷ []) q) c.get-2.ensures))
+    (c.in_ok-owned_form.ensures ∙ c.in_ok-before.ensures ∙ ap (λ f. imply (using ++ p ∷ []) f) c.get.ensures)
+    (c.in_ok-owned_form-2.ensures ∙ c.in_ok-after.ensures ∙ ap (λ f. imply (using ++ f ∷ []) q) c.get-2.ensures))
     c.node.ensures.answer

@@ -51,10 +51,8 @@ settle_onto-returns-in_ok-settle_onto-in-And t c =
 pub settle_onto-returns-in-Or : goal.settle_onto-returns-in-Or
 settle_onto-returns-in-Or t c =
     on_ok_weaker c.wait_or.result
-    (λ e. e ∙ sym (settled-Or c.args.vs.now c.get-in-Or.result.now c.get-in-Or-2.result.now c.args.branch.now)
-    ∙ ap (λ f. settled c.args.vs.now f c.args.branch.now)
-    (ap (λ g. Or g c.get-in-Or-2.result.now) c.get-in-Or.ensures ∙ ap (λ h. Or c.in-Or.g h) c.get-in-Or-2.ensures
-    ∙ sym c.in-Or.is))
+    (λ e. e ∙ sym (settled-Or c.args.vs.now c.in-Or.g c.in-Or.h c.args.branch.now)
+    ∙ ap (λ f. settled c.args.vs.now f c.args.branch.now) (sym c.in-Or.is))
     c.wait_or.ensures
 
 pub refuse_onto-refuse_least-requires-clause-load : goal.refuse_onto-refuse_least-requires-clause-load
@@ -86,10 +84,8 @@ refuse_onto-returns-in-Zero t c =
 pub refuse_onto-returns-in-And : goal.refuse_onto-returns-in-And
 refuse_onto-returns-in-And t c =
     on_ok_weaker c.wait_nots.result
-    (λ e. e ∙ sym (refused-And c.args.vs.now c.get-in-And.result.now c.get-in-And-2.result.now c.args.branch.now)
-    ∙ ap (λ f. refused c.args.vs.now f c.args.branch.now)
-    (ap (λ g. And g c.get-in-And-2.result.now) c.get-in-And.ensures ∙ ap (λ h. And c.in-And.g h) c.get-in-And-2.ensures
-    ∙ sym c.in-And.is))
+    (λ e. e ∙ sym (refused-And c.args.vs.now c.in-And.g c.in-And.h c.args.branch.now)
+    ∙ ap (λ f. refused c.args.vs.now f c.args.branch.now) (sym c.in-And.is))
     c.wait_nots.ensures
 
 pub refuse_onto-returns-in_ok-refuse_onto-in-Or : goal.refuse_onto-returns-in_ok-refuse_onto-in-Or

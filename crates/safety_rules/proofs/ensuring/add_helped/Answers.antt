@@ -20,7 +20,8 @@ use Rattle.safety_rules.proofs.FilterLaws.{filter_takes, filter_drops, one_after
 use Rattle.safety_rules.proofs.FilterLaws.{filter_added}
 use Rattle.safety_rules.proofs.NameLaws.{helped_exists}
 use Rattle.safety_rules.proofs.ensuring.add_helped.Goals as goal
-use Rattle.safety_rules.proofs.ensuring.add_helped.Goals.{then-may_mean+in_ok-form+in_ok-add_goal, else-may_mean}
+use Rattle.safety_rules.proofs.ensuring.add_helped.Goals.{then-may_mean+in_ok-form+in_ok-owned_form+in_ok-add_goal}
+use Rattle.safety_rules.proofs.ensuring.add_helped.Goals.{else-may_mean}
 
 item_fits : (slots : List CSlot) (items all : List CStmt) (i : ℕ) (s : CStmt) → s ≡ slice_index_or items i s →
     i < length items → items ≡ all → All (StatementFits slots) all → StatementFits slots s
@@ -49,7 +50,7 @@ add_goal-requires-clause-names c =
     item_fits c.args.pl.now.slots.now c.as_slice-s-items.result.now c.args.pl.now.program.now.statements
     c.loop-s.s-index
     c.s-item.result c.s-item.is c.loop-s-test.true c.as_slice-s-items.ensures c.requires.place.program.statements in
-    subst (λ f. NamesExist slots params f) (sym (c.into_inner.ensures ∙ c.in_ok-form.ensures))
+    subst (λ f. NamesExist slots params f) (sym (c.in_ok-owned_form.ensures ∙ c.in_ok-form.ensures))
     (helped_exists slots params using c.args.p.now c.args.q.now c.args.h.now.args c.s-item.result
     c.requires.place.using c.requires.p c.requires.q c.requires.helper.args.names fits)
 
@@ -67,9 +68,9 @@ returns-in_err-add_goal c =
     c.as_slice-s-items.ensures
     (filter_fails site.slots site.params (Unit {0})
     (Unit {0}) c.in_err-add_goal.field-0.0 make test c.as_slice-s-items.result.now c.loop-s.s-index
-    c.s-item.result c.into_inner.result c.may_mean.result c.args.goals.now c.loop-s.goals c.add_goal.new.goals
+    c.s-item.result c.in_ok-owned_form.field-0 c.may_mean.result c.args.goals.now c.loop-s.goals c.add_goal.new.goals
     c.loop-s-test.true c.s-item.is c.may_mean.ensures c.if-may_mean.true
-    (c.into_inner.ensures ∙ c.in_ok-form.ensures) c.in_err-add_goal.ensures))
+    (c.in_ok-owned_form.ensures ∙ c.in_ok-form.ensures) c.in_err-add_goal.ensures))
 
 pub loop-s-preserved : goal.loop-s-preserved
 loop-s-preserved c =
@@ -79,15 +80,15 @@ loop-s-preserved c =
     let items : List CStmt = c.as_slice-s-items.result.now in
     let i = c.loop-s.s-index in
     elim c.if-may_mean.branch [
-      | then-may_mean+in_ok-form+in_ok-add_goal w ↦
+      | then-may_mean+in_ok-form+in_ok-owned_form+in_ok-add_goal w ↦
           subst (λ (os : List Obligation). AddedFor site.slots site.params make (filter test (take (i + 1) items))
           c.args.goals.now os) (sym w.goals-is)
           (one_after site.slots site.params w.in_ok-add_goal.field-0 make (filter test (take i items))
-          (filter test (take (i + 1) items)) c.s-item.result w.into_inner.result c.args.goals.now c.loop-s.goals
+          (filter test (take (i + 1) items)) c.s-item.result w.in_ok-owned_form.field-0 c.args.goals.now c.loop-s.goals
           w.add_goal.new.goals
           (filter_takes test items i c.s-item.result c.may_mean.result c.loop-s-test.true c.s-item.is
           c.may_mean.ensures w.if-may_mean.true)
-          (w.into_inner.ensures ∙ w.in_ok-form.ensures) c.loop-s.invariant w.in_ok-add_goal.ensures)
+          (w.in_ok-owned_form.ensures ∙ w.in_ok-form.ensures) c.loop-s.invariant w.in_ok-add_goal.ensures)
       | else-may_mean w ↦
           subst (λ (os : List Obligation). AddedFor site.slots site.params make (filter test (take (i + 1) items))
           c.args.goals.now os) (sym w.goals-is)

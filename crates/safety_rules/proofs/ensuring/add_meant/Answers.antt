@@ -8,6 +8,6 @@ use Rattle.safety_rules.proofs.ensuring.add_meant.Goals as goal
 pub add_goal-requires-clause-names : goal.add_goal-requires-clause-names
 add_goal-requires-clause-names c =
     let site : Site = site_of c.args.pl.now in
-    subst (λ f. NamesExist site.slots site.params f) (sym (c.into_inner.ensures ∙ c.in_ok-form.ensures))
+    subst (λ f. NamesExist site.slots site.params f) (sym (c.in_ok-owned_form.ensures ∙ c.in_ok-form.ensures))
     (meant_exists site.slots site.params c.args.h.now.args (instances_of site c.args.h.now)
     c.requires.helper.args.names)

@@ -30,7 +30,7 @@ after-requires-clause-q c =
 
 pub add_goal-requires-clause-names : goal.add_goal-requires-clause-names
 add_goal-requires-clause-names c =
-    subst (λ f. NamesExist c.args.pl.now.slots.now c.args.pl.now.params.now f) (sym c.into_inner.ensures)
+    subst (λ f. NamesExist c.args.pl.now.slots.now c.args.pl.now.params.now f) (sym c.in_ok-owned_form.ensures)
     (c.in_ok-form.ensures.usable.names)
 
 pub returns-in_err-add_goal : goal.returns-in_err-add_goal
@@ -42,15 +42,15 @@ returns-in_err-add_goal c =
     c.from_residual-in_err-add_goal.result c.in_err-add_goal.field-0.0 c.from_residual-in_err-add_goal.ensures.1
     (loop_fails slots params (Unit {0})
     (Unit {0}) c.in_err-add_goal.field-0.0 make c.args.forms.now c.loop-f.f-index
-    c.f-item.result c.into_inner.result c.args.goals.now c.loop-f.goals c.add_goal.new.goals c.loop-f-test.true
-    c.f-item.is (c.into_inner.ensures ∙ c.in_ok-form.ensures.tree) c.in_err-add_goal.ensures)
+    c.f-item.result c.in_ok-owned_form.field-0 c.args.goals.now c.loop-f.goals c.add_goal.new.goals c.loop-f-test.true
+    c.f-item.is (c.in_ok-owned_form.ensures ∙ c.in_ok-form.ensures.tree) c.in_err-add_goal.ensures)
 
 pub loop-f-preserved : goal.loop-f-preserved
 loop-f-preserved c =
     one_more c.args.pl.now.slots.now c.args.pl.now.params.now c.in_ok-add_goal.field-0
-    (imply c.args.pl.now.using.now) c.args.forms.now c.loop-f.f-index c.f-item.result c.into_inner.result
+    (imply c.args.pl.now.using.now) c.args.forms.now c.loop-f.f-index c.f-item.result c.in_ok-owned_form.field-0
     c.args.goals.now c.loop-f.goals c.add_goal.new.goals c.loop-f-test.true c.f-item.is
-    (c.into_inner.ensures ∙ c.in_ok-form.ensures.tree) c.loop-f.invariant c.in_ok-add_goal.ensures
+    (c.in_ok-owned_form.ensures ∙ c.in_ok-form.ensures.tree) c.loop-f.invariant c.in_ok-add_goal.ensures
 
 pub returns : goal.returns
 returns c =
