@@ -1,4 +1,4 @@
-//! The reading of a certificate's nodes. One branch is held, and for each open `case`, `split` and `share` a frame
+//! The reading of a certificate's nodes. One branch is held, and for each open `case` and `split` a frame
 //! that says how it goes on after the first subtree: the branch grows at the ends of its lists, and is cut
 //! back for the second one.
 ghost use Rattle.std.specs.Prelude.{◌≡◌, ◌≢◌, ◌≤◌, ◌<◌, ◌^◌, pos, ◌+ℤ◌, ◌∷◌, [], IfErr, IfOk, OnOk, MatchResult, true};
@@ -8,11 +8,8 @@ ghost use Rattle.obligations.specs.Settling.{settled, sides, added};
 ghost use Rattle.obligations.specs.Load.{form_load, need, is_light_branch};
 ghost use Rattle.obligations.specs.Opening.{Valid, first_branch, at_most, at_least};
 ghost use Rattle.obligations.specs.Obligations.{AreVariables};
-ghost use Rattle.std.specs.List.{list_all};
-ghost use Rattle.obligations.specs.Load.{is_small};
-ghost use Rattle.certificate_check.specs.Sums.{all_pairs, stated};
-ghost use Rattle.certificate_check.specs.Refutation.{allowing, case_at, split_at, made, made_sum, made_round};
-ghost use Rattle.certificate_check.specs.Refutation.{made_share, walk};
+ghost use Rattle.certificate_check.specs.Sums.{all_pairs};
+ghost use Rattle.certificate_check.specs.Refutation.{at_level, case_at, split_at, made, made_sum, made_round, walk};
 ghost use Rattle.certificate_check.specs.Refutation.{walk_from_root};
 ghost use Rattle.certificate_check.specs.Trees.{is_whole, Refuted};
 ghost use Rattle.certificate_check.specs.Machines.{base_of, full_by, second_by, behind, place_fits, FramesFit};
@@ -22,12 +19,11 @@ ghost use Rattle.certificate_check.specs.Machines.{GoesErr};
 ghost use Rattle.certificate_check.specs.Machines.{FailsSum, FailsReading};
 
 use crate::errors::{CertError, Stop};
-use crate::sums::{add_pairs, add_variables, below_0, closes, copy_fact, divides, rounded};
+use crate::sums::{add_pairs, closes, divides, rounded};
 use case_tables::Code;
 use core_terms::CForm;
 use obligations::{
-    Branch, Cert, Fact, Line, Node, Obligation, Variable, fact_from, open_branch, settle_onto,
-    zero_line,
+    Branch, Cert, Fact, Line, Node, Obligation, Variable, open_branch, settle_onto, zero_line,
 };
 use std::alloc::{AllocError, Global};
 use unity_base::{Seq, Shared};
@@ -37,26 +33,25 @@ use unity_base::{Seq, Shared};
 pub enum Todo {
     /// With the other side of the waiting formula that was taken from this place.
     Case { place: usize, form: Shared<CForm> },
-    /// With a fact.
-    Fact(Fact),
+    /// With the variable at this place above a number.
+    Split { variable: u32, at: i64 },
 }
 
-/// A node of two subtrees that are being read, with how many levels it is allowed, the lengths of its branch's lists,
-/// and whether the first subtree is being read.
+/// A `case` or a `split` whose subtrees are being read, with the lengths of its branch's lists, and whether
+/// the first subtree is being read.
 #[derive(Drop)]
 pub struct Frame {
-    pub levels: u32,
+    pub level: u32,
     pub facts: usize,
     pub waits: usize,
     pub todo: Todo,
     pub first: bool,
 }
 
-/// The branch that the next node belongs to, how many levels are allowed there, and the frames around it, the
-/// innermost one last.
+/// The branch that the next node belongs to, its level, and the frames around it, the innermost one last.
 #[derive(Drop)]
 pub struct Machine {
-    pub levels: u32,
+    pub level: u32,
     pub branch: Branch,
     pub frames: Seq<Frame>,
     pub done: bool,
@@ -83,7 +78,7 @@ fn put_back(todo: Todo, branch: &mut Branch) -> Result<(), AllocError>
 {
     match todo {
         Todo::Case { place, form } => branch.waiting.insert(place, form),
-        Todo::Fact(_) => Ok(()),
+        Todo::Split { .. } => Ok(()),
     }
 }
 
@@ -182,7 +177,9 @@ fn go_second(
 {
     match todo {
         Todo::Case { form, .. } => settle_second(alloc, vs, form.get(), branch),
-        Todo::Fact(fact) => add(branch, copy_fact(alloc, fact)?),
+        Todo::Split { variable, at } => {
+            add(branch, bound_below(alloc, *variable, *at as i128 + 1)?)
+        }
     }
 }
 
@@ -205,15 +202,15 @@ fn resume(
     ensures back { IfOk result (λ on. on ≡ false →
         (rest_of vs.now machine.new ≡ behind vs.now (frame ∷ reverse machine.old.frames) machine.old.branch)
         × FramesFit (reverse machine.new.frames) machine.new.branch × (machine.new.frames ≡ machine.old.frames)
-        × (machine.new.done ≡ false) × (machine.new.levels ≡ machine.old.levels)) }
+        × (machine.new.done ≡ false) × (machine.new.level ≡ machine.old.level)) }
     ensures light { OnOk result (IsLightMachine machine.new) }
 {
     cut(&frame, &mut machine.branch);
     if frame.first {
         go_second(alloc, vs, &frame.todo, &mut machine.branch)?;
-        machine.levels = frame.levels - 1;
+        machine.level = frame.level + 1;
         machine.frames.push(Frame {
-            levels: frame.levels,
+            level: frame.level,
             facts: frame.facts,
             waits: frame.waits,
             todo: frame.todo,
@@ -231,6 +228,7 @@ fn resume(
 fn go_back(alloc: Global, vs: &[Variable], machine: &mut Machine) -> Result<(), AllocError>
     requires variables { AreVariables vs.now }
     requires fits { FramesFit (reverse machine.old.frames) machine.old.branch }
+    requires level { machine.old.level ≤ 1025 }
     requires going { machine.old.done ≡ false }
     requires light { IsLightMachine machine.old }
     ensures pending { OnOk result (pendings vs.now machine.new ≡ rest_of vs.now machine.old) }
@@ -256,7 +254,7 @@ fn go_back(alloc: Global, vs: &[Variable], machine: &mut Machine) -> Result<(), 
 fn open_case(alloc: Global, vs: &[Variable], machine: &mut Machine, k: u64) -> Result<(), Stop>
     requires variables { AreVariables vs.now }
     requires fits { IsFit machine.old }
-    requires levels { 0 < machine.old.levels }
+    requires level { machine.old.level ≤ 1024 }
     requires going { machine.old.done ≡ false }
     requires light { IsLightMachine machine.old }
     ensures ok { OnOk result (Goes vs.now machine.old (case_at vs.now machine.old.branch k) machine.new) }
@@ -272,13 +270,13 @@ fn open_case(alloc: Global, vs: &[Variable], machine: &mut Machine, k: u64) -> R
     let waits = machine.branch.waiting.len();
     settle_first(alloc, vs, form.get(), &mut machine.branch)?;
     machine.frames.push(Frame {
-        levels: machine.levels,
+        level: machine.level,
         facts,
         waits,
         todo: Todo::Case { place, form },
         first: true,
     })?;
-    machine.levels -= 1;
+    machine.level += 1;
     Ok(())
 }
 
@@ -292,7 +290,7 @@ fn open_split(
 ) -> Result<(), Stop>
     requires variables { AreVariables vs.now }
     requires fits { IsFit machine.old }
-    requires levels { 0 < machine.old.levels }
+    requires level { machine.old.level ≤ 1024 }
     requires going { machine.old.done ≡ false }
     requires light { IsLightMachine machine.old }
     ensures ok { OnOk result (Goes vs.now machine.old (split_at vs.now machine.old.branch variable k) machine.new) }
@@ -307,74 +305,16 @@ fn open_split(
     let waits = machine.branch.waiting.len();
     add(&mut machine.branch, bound_above(alloc, place, k as i128)?)?;
     machine.frames.push(Frame {
-        levels: machine.levels,
+        level: machine.level,
         facts,
         waits,
-        todo: Todo::Fact(bound_below(alloc, place, k as i128 + 1)?),
+        todo: Todo::Split {
+            variable: place,
+            at: k,
+        },
         first: true,
     })?;
-    machine.levels -= 1;
-    Ok(())
-}
-
-/// The number and the multiples of variables that a `share` states.
-#[tactic(auto, using(crate::proofs::SumLaws::stated_laws))]
-fn statement(
-    alloc: Global,
-    vs: &[Variable],
-    constant: i64,
-    pairs: &Seq<(i64, u64)>,
-) -> Result<Line, Stop>
-    requires variables { AreVariables vs.now }
-    ensures line { MatchResult result
-        (λ line. stated vs.now constant pairs.now ≡ Ok line)
-        (λ stop. FailsSum (stated vs.now constant pairs.now) stop) }
-    ensures size { IfOk result (λ line. length line.factors ≡ length vs.now) }
-    ensures factors { IfOk result (λ line. list_all is_small line.factors ≡ true) }
-    ensures constant { IfOk result (λ line. is_small line.constant ≡ true) }
-{
-    let mut line = zero_line(alloc, vs)?;
-    line.constant = constant as i128;
-    match add_variables(pairs.as_slice(), &mut line) {
-        Ok(()) => Ok(line),
-        Err(code) => Err(Stop::Fault(code)),
-    }
-}
-
-/// Goes on where a statement is false, and then with it.
-fn open_share(
-    alloc: Global,
-    vs: &[Variable],
-    machine: &mut Machine,
-    constant: i64,
-    pairs: &Seq<(i64, u64)>,
-) -> Result<(), Stop>
-    requires variables { AreVariables vs.now }
-    requires fits { IsFit machine.old }
-    requires levels { 0 < machine.old.levels }
-    requires going { machine.old.done ≡ false }
-    requires light { IsLightMachine machine.old }
-    ensures ok { OnOk result
-        (Goes vs.now machine.old (made_share machine.old.branch (stated vs.now constant pairs.now)) machine.new) }
-    ensures light { OnOk result (IsLightMachine machine.new) }
-    ensures err { IfErr result
-        (GoesErr vs.now machine.old (made_share machine.old.branch (stated vs.now constant pairs.now))) }
-{
-    let line = statement(alloc, vs, constant, pairs)?;
-    let facts = machine.branch.facts.len();
-    let waits = machine.branch.waiting.len();
-    add(
-        &mut machine.branch,
-        fact_from(alloc, &below_0(alloc, &line)?)?,
-    )?;
-    machine.frames.push(Frame {
-        levels: machine.levels,
-        facts,
-        waits,
-        todo: Todo::Fact(fact_from(alloc, &line)?),
-        first: true,
-    })?;
-    machine.levels -= 1;
+    machine.level += 1;
     Ok(())
 }
 
@@ -433,7 +373,7 @@ fn round(
 ) -> Result<(), Stop>
     requires variables { AreVariables vs.now }
     requires fits { IsFit machine.old }
-    requires levels { 0 < machine.old.levels }
+    requires level { machine.old.level ≤ 1024 }
     requires going { machine.old.done ≡ false }
     requires light { IsLightMachine machine.old }
     ensures ok { OnOk result (Goes vs.now machine.old
@@ -447,7 +387,7 @@ fn round(
         return Err(Stop::Fault(Code::NotDivisible));
     }
     add(&mut machine.branch, rounded(alloc, *d, &sum)?)?;
-    machine.levels -= 1;
+    machine.level += 1;
     Ok(())
 }
 
@@ -459,12 +399,12 @@ fn take(alloc: Global, vs: &[Variable], machine: &mut Machine, node: &Node) -> R
     requires going { machine.old.done ≡ false }
     requires light { IsLightMachine machine.old }
     ensures ok { OnOk result (Goes vs.now machine.old
-        (made vs.now (allowing machine.old.levels machine.old.branch) node.now) machine.new) }
+        (made vs.now (at_level machine.old.level machine.old.branch) node.now) machine.new) }
     ensures light { OnOk result (IsLightMachine machine.new) }
     ensures err { IfErr result (GoesErr vs.now machine.old
-        (made vs.now (allowing machine.old.levels machine.old.branch) node.now)) }
+        (made vs.now (at_level machine.old.level machine.old.branch) node.now)) }
 {
-    if machine.levels == 0 {
+    if machine.level > 1024 {
         return Err(Stop::Fault(Code::CertTooDeep));
     }
     match node {
@@ -472,29 +412,20 @@ fn take(alloc: Global, vs: &[Variable], machine: &mut Machine, node: &Node) -> R
         Node::Split(variable, k) => open_split(alloc, vs, machine, *variable, *k),
         Node::Sum(pairs) => close(alloc, vs, machine, pairs),
         Node::Round(d, pairs) => round(alloc, vs, machine, d, pairs),
-        // No term of a form has a quotient.
-        Node::Quot(_) => Err(Stop::Fault(Code::NothingToQuot)),
-        Node::Share(constant, pairs) => open_share(alloc, vs, machine, *constant, pairs),
     }
 }
 
 /// Whether the nodes refute a branch, or the first that fails.
-fn read(
-    alloc: Global,
-    vs: &[Variable],
-    first: Branch,
-    nodes: &[Node],
-    levels: u32,
-) -> Result<(), CertError>
+fn read(alloc: Global, vs: &[Variable], first: Branch, nodes: &[Node]) -> Result<(), CertError>
     requires variables { AreVariables vs.now }
     requires whole { is_whole nodes.now 1 ≡ true }
     requires light { is_light_branch (2 ^ 63) first ≡ true }
     ensures { MatchResult result
-        (λ _. walk vs.now nodes.now (allowing levels first ∷ []) 0 ≡ Ok [])
-        (FailsReading (walk vs.now nodes.now (allowing levels first ∷ []) 0)) }
+        (λ _. walk vs.now nodes.now (at_level 1 first ∷ []) 0 ≡ Ok [])
+        (FailsReading (walk vs.now nodes.now (at_level 1 first ∷ []) 0)) }
 {
     let mut machine = Machine {
-        levels,
+        level: 1,
         branch: first,
         frames: Seq::new(alloc),
         done: false,
@@ -517,30 +448,24 @@ fn read(
     Ok(())
 }
 
-/// Whether a certificate of at most so many levels refutes an obligation. Where it does, the obligation is valid. Else the
+/// Whether a certificate refutes an obligation. Where it does, the obligation is valid. Else the
 /// error is `Fault` with the first node that fails, from 0, and how; or `Memory`, where memory was
 /// refused. No number that is met is past 2^126, since the form's load is limited.
 #[tactic(auto, using(crate::proofs::WholeLaws::check_laws))]
-pub fn check_cert(alloc: Global, o: &Obligation, c: &Cert, levels: u32) -> Result<(), CertError>
+pub fn check_cert(alloc: Global, o: &Obligation, c: &Cert) -> Result<(), CertError>
     requires variables { AreVariables o.now.variables }
     requires load { form_load o.now.form ≤ 2 ^ 62 }
     requires whole { is_whole c.now.nodes 1 ≡ true }
 
     // It is taken exactly where a walk along its nodes leaves no branch, so where its tree refutes.
-    ensures walked { OnOk result (walk_from_root levels o.now c.now.nodes ≡ Ok []) }
-    ensures refuted { OnOk result (Refuted levels o.now c.now.nodes) }
-    ensures not_refuted { IfErr result (λ e. e ≢ CertError.Memory → Refuted levels o.now c.now.nodes → ⊥) }
-    ensures fault { IfErr result (FailsReading (walk_from_root levels o.now c.now.nodes)) }
+    ensures walked { OnOk result (walk_from_root o.now c.now.nodes ≡ Ok []) }
+    ensures refuted { OnOk result (Refuted o.now c.now.nodes) }
+    ensures not_refuted { IfErr result (λ e. e ≢ CertError.Memory → Refuted o.now c.now.nodes → ⊥) }
+    ensures fault { IfErr result (FailsReading (walk_from_root o.now c.now.nodes)) }
     ensures valid { OnOk result (Valid o.now) }
 {
     match open_branch(alloc, o) {
-        Ok(first) => read(
-            alloc,
-            o.variables.as_slice(),
-            first,
-            c.nodes.as_slice(),
-            levels,
-        ),
+        Ok(first) => read(alloc, o.variables.as_slice(), first, c.nodes.as_slice()),
         Err(_) => Err(CertError::Memory),
     }
 }

@@ -17,15 +17,12 @@ number_of true n = neg_ℤ (pos (min n (2 ^ 62)))
 abbrev pub pair_of : Pair → ℤ × ℕ
 pair_of p = (number_of p.minus p.multiplier, p.fact)
 
--- A node, as it is written. The check has no nodes `quot` and `share`: in the place of each stands one with as many
--- subtrees that refutes no branch, a `round` by 0 and a `case` of form 0.
+-- a node, as it is written
 abbrev pub node_of : WrittenNode → Node
 node_of (WrittenNode.Case at number) = Node.Case number
 node_of (WrittenNode.Split at variable minus bound) = Node.Split variable (number_of minus bound)
 node_of (WrittenNode.Sum at pairs) = Node.Sum (map pair_of pairs)
 node_of (WrittenNode.Round at minus divisor pairs) = Node.Round (number_of minus divisor) (map pair_of pairs)
-node_of (WrittenNode.Quot at number) = Node.Round (pos 0) []
-node_of (WrittenNode.Share at minus constant pairs) = Node.Case 0
 
 abbrev pub certificate_of : CertText → Cert
 certificate_of c = record { nodes = node_of c.first ∷ map node_of c.rest }

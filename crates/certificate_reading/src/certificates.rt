@@ -34,7 +34,6 @@ fn pairs_of(alloc: Global, pairs: &[Pair]) -> Result<Seq<(i64, u64)>, AllocError
     Ok(found)
 }
 
-// A node; the check has none for `quot` and `share`, which are answered as want of memory.
 fn node_of(alloc: Global, node: &text::Node) -> Result<Node, AllocError>
     ensures { IfOk result (λ found. found ≡ written.node_of node.now) }
 {
@@ -59,7 +58,6 @@ fn node_of(alloc: Global, node: &text::Node) -> Result<Node, AllocError>
             let pairs = pairs_of(alloc, pairs.as_slice())?;
             Ok(Node::Round(signed(*minus, *divisor), pairs))
         }
-        text::Node::Quot { .. } | text::Node::Share { .. } => Err(AllocError),
     }
 }
 
@@ -113,7 +111,7 @@ fn all_from(alloc: Global, items: Seq<CertText>) -> Result<Seq<Cert>, AllocError
 /// go as it is written before the next one is read, so that the two forms of them do not stand beside each other. No
 /// number of a text is past 2^62, so one that is would be taken as that.
 ///
-/// The error is that memory was refused, or that a node is a `quot` or a `share`, which the check does not know.
+/// The error is that memory was refused.
 pub fn certificates_from(alloc: Global, document: Document) -> Result<Seq<Cert>, AllocError>
     ensures { IfOk result (λ found. found ≡ written.certificates_of document) }
 {

@@ -1,5 +1,5 @@
 -- What each kind of node has of its own: its word, its text, how the grammar writes it, and that this says the node.
-use Rattle.std.proofs.Common.{◌≡◌, ℕ, ◌+◌, ◌≤◌, ◌^◌, nat_le, ℤ, Bool, true, List, [], ◌∷◌, ◌++◌, length, refl, ap, ◌∙◌}
+use Rattle.std.proofs.Common.{◌≡◌, ℕ, ◌+◌, ◌≤◌, ◌^◌, nat_le, ℤ, true, List, [], ◌∷◌, ◌++◌, length, refl, ap, ◌∙◌}
 use Rattle.std.proofs.Common.{arith}
 use Rattle.std.specs.Prelude.{Contains, codes, decimal}
 use Rattle.std.specs.List.{flat_map, list_all}
@@ -73,20 +73,20 @@ says_node at (Node.Round d ps) h =
     both_same (λ (z : ℤ) (qs : List (ℤ × ℕ)). Node.Round z qs) (says_number d c.0)
     (says_pairs (end_of (end_of at round_word) (signed d)) ps c.1)
 
-pub node_derives : (later : Bool) (bytes : List ℕ) (at : ℕ) (n : Node) →
-    Derives grammar node_ (view_node (written_node at n)) (seen later bytes at (node_pieces n))
+pub node_derives : (bytes : List ℕ) (at : ℕ) (n : Node) →
+    Derives grammar node_ (view_node (written_node at n)) (seen bytes at (node_pieces n))
 unfolding all_productions
-node_derives later bytes at (Node.Case k) = chose_left (made_of Kind.node_case (fixed_then number_is) refl)
-node_derives later bytes at (Node.Split v k) =
+node_derives bytes at (Node.Case k) = chose_left (made_of Kind.node_case (fixed_then number_is) refl)
+node_derives bytes at (Node.Split v k) =
     chose_right (chose_left (made_of Kind.node_split
-    (fixed_then (number_then (signed_derives later bytes _ k))) refl))
-node_derives later bytes at (Node.Sum ps) =
+    (fixed_then (number_then (signed_derives bytes _ k))) refl))
+node_derives bytes at (Node.Sum ps) =
     chose_right (chose_right (chose_left (made_of Kind.node_sum
-    (fixed_then (pairs_derive later bytes (end_of at sum_word) ps)) refl)))
-node_derives later bytes at (Node.Round d ps) =
-    chose_right (chose_right (chose_right (chose_left (made_of Kind.node_round
-    (fixed_then (signed_then later bytes (end_of at round_word) d (flat_map pair_pieces ps) _ _
-    (pairs_derive later bytes (end_of (end_of at round_word) (signed d)) ps))) refl))))
+    (fixed_then (pairs_derive bytes (end_of at sum_word) ps)) refl)))
+node_derives bytes at (Node.Round d ps) =
+    chose_right (chose_right (chose_right (made_of Kind.node_round
+    (fixed_then (signed_then bytes (end_of at round_word) d (flat_map pair_pieces ps) _ _
+    (pairs_derive bytes (end_of (end_of at round_word) (signed d)) ps))) refl)))
 
 pub subtrees_are : (at : ℕ) (n : Node) → subtrees (view_node (written_node at n)) ≡ arity n
 subtrees_are at (Node.Case k) = refl

@@ -29,8 +29,6 @@ plain_parts : (n : Node) → is_plain_node n ≡ true →
 plain_parts (Node.Case j) h = (refl, refl)
 plain_parts (Node.Split v z) h = (h, refl)
 plain_parts (Node.Sum ps) h = (refl, h)
-plain_parts (Node.Quot k) h = absurd (cc)
-plain_parts (Node.Share c ps) h = absurd (cc)
 plain_parts (Node.Round d ps) h = and_parts (is_plain_number d) (list_all is_plain_pair ps) h
 
 small_node : (n : Node) → is_plain_node n ≡ true → is_index_within (2 ^ 62) n ≡ true → is_small_node n ≡ true
@@ -52,5 +50,5 @@ small_nodes (n ∷ ns) h k =
     (small_nodes ns plain.1 there.1)
 
 pub refuting_is_small : RefutingIsSmall
-refuting_is_small levels o c few is whole refutes plain =
-    small_nodes c.nodes plain (indexes_are_small levels o c.nodes few is whole refutes)
+refuting_is_small o c is whole refutes plain =
+    small_nodes c.nodes plain (indexes_are_small o c.nodes is whole refutes)

@@ -7,6 +7,6 @@ use Rattle.certificate_roundtrip.proofs.SectionTokens.{section_derives}
 use Rattle.certificate_roundtrip.proofs.Written.{written_section}
 
 pub section_is_derived : SectionIsDerived
-section_is_derived later bytes at certs whole readable =
+section_is_derived bytes at certs whole readable =
     let w = recursion_from_All IsWholeTree certs whole in
-    (written_section at certs, section_derives later bytes at certs w, says_section at certs w readable)
+    (written_section at certs, section_derives bytes at certs w, says_section at certs w readable)

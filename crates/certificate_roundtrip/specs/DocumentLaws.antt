@@ -1,5 +1,5 @@
 -- The text of a document with certificates that were found is that document with these certificates.
-use Rattle.std.specs.Prelude.{◌≡◌, ℕ, ◌≤◌, ◌^◌, Bool, true, List, map, length, Some, All}
+use Rattle.std.specs.Prelude.{◌≡◌, ℕ, ◌≤◌, ◌^◌, true, List, map, length, Some, All}
 use Rattle.std.specs.List.{list_all}
 use Rattle.grammar_theory.specs.Ebnf.{Derives}
 use Rattle.unity_syntax.specs.declared.certificate.Certificates.{Certificates}
@@ -22,11 +22,10 @@ AreReadable certs = list_all is_readable (section_pieces certs) ≡ true
 
 -- the tokens of a written section are those of a section that says these certificates
 abbrev pub SectionIsDerived : Type 0
-SectionIsDerived = (later : Bool) (bytes : List ℕ) (at : ℕ) (certs : List Cert) → All IsWholeTree certs → AreReadable
-    certs →
+SectionIsDerived = (bytes : List ℕ) (at : ℕ) (certs : List Cert) → All IsWholeTree certs → AreReadable certs →
     (section : Certificates)
     × Derives grammar certificates_ (view_certificates section)
-    (terminals later bytes (tokens_from at (section_pieces certs)))
+    (terminals bytes (tokens_from at (section_pieces certs)))
     × (map certificate_of section.items ≡ certs)
 
 -- the text is the document with another section, which says these certificates

@@ -6,5 +6,4 @@ mod steps;
 mod tables;
 mod texts;
 mod traces;
-mod versions;
 mod words;

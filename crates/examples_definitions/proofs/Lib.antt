@@ -1,5 +1,4 @@
 pub mod ClaimTrials
-pub mod DivisionTrials
 pub mod ExamplesRead
 pub mod OperatorTrials
 pub mod ProgramTrials

@@ -1,6 +1,5 @@
 pub mod ClaimExamples
 pub mod CountText
-pub mod DivisionExamples
 pub mod ExpressionText
 pub mod OperatorExamples
 pub mod ProgramExamples
@@ -12,4 +11,3 @@ pub mod StepExamples
 pub mod TermText
 pub mod TextForms
 pub mod ValueExamples
-pub mod VersionText

@@ -7,7 +7,6 @@ use Rattle.case_tables.specs.declared.word_table.Word.{Word}
 use Rattle.unity_syntax.specs.declared.name.Name.{Name}
 use Rattle.unity_syntax.specs.declared.name.End.{End}
 use Rattle.unity_syntax.specs.declared.name.Range.{Range}
-use Rattle.unity_syntax.specs.declared.expression.Operator.{Operator}
 use Rattle.unity_syntax.specs.declared.expression.Expr
 use Rattle.unity_syntax.specs.declared.expression.Expr.{Expr}
 use Rattle.unity_syntax.specs.declared.declaration.Plain.{Plain}
@@ -56,14 +55,6 @@ difference e f = Expr.Sum 0 false e ((Symbol.Minus, f) ∷ [])
 -- `-e`
 abbrev pub minus : Expr → Expr
 minus e = Expr.Sum 0 true e []
-
--- `e * f`, `e div f` or `e mod f`
-abbrev pub operated : Expr → Operator → Expr → Expr
-operated e operator f = Expr.Product 0 e ((operator, f) ∷ [])
-
--- `(e)`
-abbrev pub bracketed : Expr → Expr
-bracketed e = Expr.Brackets 0 e
 
 -- `e = f`
 abbrev pub equal : Expr → Expr → Expr
@@ -239,7 +230,7 @@ step_for label text r claim =
       using = None;
     }
 
--- `p unless q`, or with another word between them
+-- `p unless q`, or with `ensures` or `leadsto`
 abbrev pub between : Expr → Word → Expr → Claim
 between p which q = Claim.Between 0 p which q
 

@@ -1,2 +1,1 @@
-pub mod DivisionTheorems
 pub mod StepTheorems

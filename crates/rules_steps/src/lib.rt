@@ -1,7 +1,6 @@
 //! What a step of a proof gives by its rule, from the steps before it.
 #![tactic(auto)]
 
-mod around;
 mod kinds;
 mod references;
 mod ruling;
@@ -9,6 +8,5 @@ mod terms;
 mod unions;
 mod using;
 
-pub use around::Around;
 pub use kinds::has_defined;
 pub use ruling::step_rule;

@@ -1,5 +1,4 @@
 pub mod AssignmentFolds
-pub mod Avoids
 pub mod BackDeclarations
 pub mod BackDocuments
 pub mod BackExpressions
@@ -11,7 +10,6 @@ pub mod EachTree
 pub mod Every
 pub mod ExpressionFolds
 pub mod ItemFolds
-mod LaterWords
 pub mod LookAhead
 pub mod Made
 pub mod Productions

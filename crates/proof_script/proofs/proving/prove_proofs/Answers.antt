@@ -1,6 +1,8 @@
 use Rattle.std.proofs.Common.{◌≡◌, ℕ, ◌+◌, ◌<◌, List, length, drop, map, ◌^◌, sym, ap, ◌∙◌}
-use Rattle.std.proofs.Common.{subst, arith}
-use Rattle.std.specs.Prelude.{sum}
+use Rattle.std.proofs.Common.{subst, refl, arith}
+use Rattle.std.specs.Prelude.{All, sum}
+use Rattle.core_terms.specs.declared.programs.CSlot.{CSlot}
+use Rattle.core_terms.specs.declared.programs.CProgram.{CProgram}
 use Rattle.core_terms.specs.declared.documents.CProof.{CProof}
 use Rattle.core_terms.specs.Conditions.{IsProof}
 use Rattle.rules_table.specs.Walk.{program_of}
@@ -14,20 +16,19 @@ use Rattle.proof_script.proofs.LoopLaws.{item_has, sum_more}
 use Rattle.proof_script.proofs.ReachLaws.{Extends, on_extends, proof_reach_fits, proofs_extend, reach_proofs_at}
 use Rattle.proof_script.proofs.ReachLaws.{reach_proofs_end, reach_stopped, reach_went}
 use Rattle.proof_script.proofs.SearchLaws.{halted_on, halts_whole}
-use Rattle.rules_table.specs.Walk.{Around}
-use Rattle.rules_steps.specs.Starts.{seen_of}
-use Rattle.proof_script.proofs.proving.prove_each.Goals as goal
+use Rattle.proof_script.proofs.proving.prove_proofs.Goals as goal
 
 pub prove_proof-requires-clause-steps : goal.prove_proof-requires-clause-steps
 prove_proof-requires-clause-steps c =
-    (item_has (IsProof c.args.around.now.slots.now c.args.around.now.programs.now) c.args.proofs.now
+    (item_has (IsProof c.args.doc.now.slots c.args.doc.now.programs) c.as_slice-proof-items.result.now
     c.loop-proof.proof-index c.proof-item.result c.loop-proof-test.true c.proof-item.is
-    c.requires.proofs).steps
+    (subst (λ ps. All (IsProof c.args.doc.now.slots c.args.doc.now.programs) ps) (sym c.as_slice-proof-items.ensures)
+    c.requires.document.proofs)).steps
 
 pub prove_proof-requires-clause-room : goal.prove_proof-requires-clause-room
 prove_proof-requires-clause-room c =
     let i : ℕ = c.loop-proof.proof-index in
-    let proofs : List CProof = c.args.proofs.now in
+    let proofs : List CProof = c.as_slice-proof-items.result.now in
     let left : sum (map (λ (p : CProof). length p.steps) (drop i proofs)) ≡
     length c.proof-item.result.steps + sum (map (λ (p : CProof). length p.steps) (drop (i + 1) proofs)) =
     ap (λ (ps : List CProof). sum (map (λ (p : CProof). length p.steps) ps))
@@ -39,35 +40,37 @@ prove_proof-requires-clause-room c =
 
 pub returns-in_err-prove_proof : goal.returns-in_err-prove_proof
 returns-in_err-prove_proof c =
-    let seen : Around = seen_of c.args.around.now in
-    let proofs : List CProof = c.args.proofs.now in
+    let slots : List CSlot = c.args.doc.now.slots in
+    let programs : List CProgram = c.args.doc.now.programs in
+    let proofs : List CProof = c.as_slice-proof-items.result.now in
     let i : ℕ = c.loop-proof.proof-index in
     let plan : Plan = c.prove_proof.new.plan in
     let new : Finding = c.prove_proof.new.finding in
     let halt : Halt = c.in_err-prove_proof.field-0.0 in
     let one : Reach =
-    proof_reach seen (program_of seen.programs c.proof-item.result.program) c.proof-item.result c.loop-proof.plan in
-    let whole : Reach = proofs_reach seen c.args.proofs.now c.args.plan.now in
+    proof_reach slots (program_of programs c.proof-item.result.program) c.proof-item.result c.loop-proof.plan in
+    let whole : Reach = proofs_reach slots programs c.args.doc.now.proofs c.args.plan.now in
     let rest : List CProof = drop (i + 1) proofs in
-    let is : further one (proofs_reach seen rest) ≡ whole =
-    sym (reach_proofs_at seen proofs i c.proof-item.result c.loop-proof.plan c.loop-proof-test.true
+    let is : further one (proofs_reach slots programs rest) ≡ whole =
+    sym (reach_proofs_at slots programs proofs i c.proof-item.result c.loop-proof.plan c.loop-proof-test.true
     c.proof-item.is) ∙ c.loop-proof.invariant.same in
     halted_on (λ r. SearchGoes r c.args.finding.now plan new whole)
     c.from_residual.result halt c.from_residual.ensures.1
     (halts_whole halt c.args.finding.now c.loop-proof.finding new plan plan one whole
     (subst (λ (r : Reach). Extends (reached one) (reached r)) is
-    (on_extends one (proofs_reach seen rest) (proofs_extend seen rest)))
-    (λ stop e. sym is ∙ reach_stopped one stop (proofs_reach seen rest) e) c.loop-proof.invariant.budget
+    (on_extends one (proofs_reach slots programs rest) (proofs_extend slots programs rest)))
+    (λ stop e. sym is ∙ reach_stopped one stop (proofs_reach slots programs rest) e) c.loop-proof.invariant.budget
     c.in_err-prove_proof.ensures)
 
 pub loop-proof-preserved : goal.loop-proof-preserved
 loop-proof-preserved c =
-    let seen : Around = seen_of c.args.around.now in
+    let slots : List CSlot = c.args.doc.now.slots in
+    let programs : List CProgram = c.args.doc.now.programs in
     let i : ℕ = c.loop-proof.proof-index in
-    let proofs : List CProof = c.args.proofs.now in
+    let proofs : List CProof = c.as_slice-proof-items.result.now in
     let new : Plan = c.prove_proof.new.plan in
     let one : Reach =
-    proof_reach seen (program_of seen.programs c.proof-item.result.program) c.proof-item.result c.loop-proof.plan in
+    proof_reach slots (program_of programs c.proof-item.result.program) c.proof-item.result c.loop-proof.plan in
     let left : sum (map (λ (p : CProof). length p.steps) (drop i proofs)) ≡
     length c.proof-item.result.steps + sum (map (λ (p : CProof). length p.steps) (drop (i + 1) proofs)) =
     ap (λ (ps : List CProof). sum (map (λ (p : CProof). length p.steps) ps))
@@ -75,10 +78,11 @@ loop-proof-preserved c =
     ∙ sum_more (length c.proof-item.result.steps)
     (map (λ (p : CProof). length p.steps) (drop (i + 1) proofs)) in
     let room = c.loop-proof.invariant.room in
-    let fits = proof_reach_fits seen (program_of seen.programs c.proof-item.result.program) c.proof-item.result
+    let fits = proof_reach_fits slots (program_of programs c.proof-item.result.program) c.proof-item.result
     c.loop-proof.plan new
-    (item_has (IsProof seen.slots seen.programs) proofs i c.proof-item.result c.loop-proof-test.true c.proof-item.is
-    c.requires.proofs).steps c.loop-proof.invariant.book c.in_ok-prove_proof.ensures.0 in
+    (item_has (IsProof slots programs) proofs i c.proof-item.result c.loop-proof-test.true c.proof-item.is
+    (subst (λ ps. All (IsProof slots programs) ps) (sym c.as_slice-proof-items.ensures)
+    c.requires.document.proofs)).steps c.loop-proof.invariant.book c.in_ok-prove_proof.ensures.0 in
     let more = fits.1 in
     record {
       book = fits.0;
@@ -86,16 +90,29 @@ loop-proof-preserved c =
       under_way = c.in_ok-prove_proof.ensures.1;
       budget = c.in_ok-prove_proof.ensures.2 ∙ c.loop-proof.invariant.budget;
       same =
-          sym (reach_proofs_at seen proofs i c.proof-item.result c.loop-proof.plan c.loop-proof-test.true
+          sym (reach_proofs_at slots programs proofs i c.proof-item.result c.loop-proof.plan c.loop-proof-test.true
           c.proof-item.is
-          ∙ reach_went one new (proofs_reach seen (drop (i + 1) proofs)) c.in_ok-prove_proof.ensures.0)
+          ∙ reach_went one new (proofs_reach slots programs (drop (i + 1) proofs)) c.in_ok-prove_proof.ensures.0)
           ∙ c.loop-proof.invariant.same;
+    }
+
+pub loop-proof-init : goal.loop-proof-init
+loop-proof-init c =
+    let same = c.as_slice-proof-items.ensures in
+    record {
+      book = c.requires.book;
+      room = subst (λ (ps : List CProof). length c.args.plan.now.records
+          + sum (map (λ (p : CProof). length p.steps) ps) < 2 ^ 31) (sym same) c.requires.room;
+      under_way = c.requires.under_way;
+      budget = refl;
+      same = ap (λ (ps : List CProof). proofs_reach c.args.doc.now.slots c.args.doc.now.programs ps c.args.plan.now)
+          same;
     }
 
 pub returns : goal.returns
 returns c = (
   sym c.loop-proof.invariant.same
-      ∙ reach_proofs_end (seen_of c.args.around.now) c.args.proofs.now
+      ∙ reach_proofs_end c.args.doc.now.slots c.args.doc.now.programs c.as_slice-proof-items.result.now
       c.loop-proof.proof-index c.loop-proof.plan c.loop-proof-test.false,
   c.loop-proof.invariant.under_way,
   c.loop-proof.invariant.budget,
