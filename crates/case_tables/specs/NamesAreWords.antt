@@ -23,6 +23,11 @@ word_of_rule RuleName.Either = Word.Either
 word_of_rule RuleName.Exists = Word.Exists
 word_of_rule RuleName.Induct = Word.Induct
 word_of_rule RuleName.Psp = Word.Psp
+word_of_rule RuleName.Superpose = Word.Superpose
+word_of_rule RuleName.Complete = Word.Complete
+word_of_rule RuleName.Until = Word.Until
+word_of_rule RuleName.Detects = Word.Detects
+word_of_rule RuleName.Constant = Word.Constant
 
 -- the word that a kind is named by
 abbrev pub word_of_kind : Kind → Word
@@ -31,6 +36,10 @@ word_of_kind Kind.Invariant = Word.Invariant
 word_of_kind Kind.Unless = Word.Unless
 word_of_kind Kind.Ensures = Word.Ensures
 word_of_kind Kind.Leadsto = Word.Leadsto
+word_of_kind Kind.Until = Word.Until
+word_of_kind Kind.Detects = Word.Detects
+word_of_kind Kind.Constant = Word.Constant
+word_of_kind Kind.Fixed = Word.Fixed
 
 -- the reserved word that each rule's name spells is the rule's word
 abbrev pub RulesAreWords : Type 0
