@@ -113,10 +113,12 @@ reads_closed f c t us rest x h (inl e) = inl (ap (λ r. r >>= λ x. skip c x.1 >
     (λ b. as_tree (λ t. unit) (one_if b t rest) >>= λ z. Ok (x, z.1)) (has_itself c t.class h))
 reads_closed f c t us rest x h (inr d) = inr (d.0, ap (λ r. r >>= λ x. skip c x.1 >>= λ z. Ok (x.0, z.1)) d.1)
 
-reads_version : (any : Bool) (c v : ℕ) (t : Terminal) (rest : List Terminal) → t.class ≡ c → (any || eqb t.value v) ≡
-    true → IsReadAs (as_tree (λ t. numeral t.value) (check_version any v (take_if (λ t. eqb t.class c) (t ∷ rest))))
+reads_version : (any : Bool) (c : ℕ) (vs : List ℕ) (t : Terminal) (rest : List Terminal) → t.class ≡ c →
+    (any || has vs t.value) ≡ true → IsReadAs (as_tree (λ t. numeral t.value) (check_version any vs (take_if (λ t. eqb
+    t.class c) (t ∷ rest))))
     (numeral t.value) rest
-reads_version any c v t rest h q = inl (ap (λ b. as_tree (λ t. numeral t.value) (check_version any v (one_if b t rest)))
+reads_version any c vs t rest h q = inl (ap (λ b. as_tree (λ t. numeral t.value) (check_version any vs (one_if b t
+    rest)))
     (eq-eqb t.class c h) ∙ ap (λ b. as_tree (λ t. numeral t.value) (version_if b t rest)) q)
 
 module _ (G : Grammar) (is : IsGrammar G) where
@@ -146,7 +148,7 @@ module _ (G : Grammar) (is : IsGrammar G) where
   complete (is_valued {c = c} {v = v} {t = t} h q) g n rest s = inl
       (ap (λ b. as_tree (λ t. unit) (one_if b t rest)) (and_true (eqb t.class c) (eqb t.value v) (eq-eqb t.class c h)
       (eq-eqb t.value v q)))
-  complete (is_version {c = c} {v = v} {t = t} h q) g n rest s = reads_version G.any_version c v t rest h q
+  complete (is_version {c = c} {vs = vs} {t = t} h q) g n rest s = reads_version G.any_version c vs t rest h q
   complete (is_both {a = a} {b = b} {x = x} {y = y} {us = us} {vs = vs} d1 d2 q) g n rest s =
       let w = good_both G a b g in
       let h1 : IsReadAs (read G n a (us ++ (vs ++ rest))) x (vs ++ rest) = complete d1 w.good_first n (vs ++ rest)

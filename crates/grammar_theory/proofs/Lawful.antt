@@ -227,7 +227,7 @@ module _ (G : Grammar) (one : (k : ℕ) → HasSome G (G.body k)) where
   lawful levels within inner (token classes keep) h = single G (token classes keep) (λ t. has classes t.class) keep
       (some_of G one (token classes keep) h) (λ t q. is_token {keep = keep} q)
   lawful levels within inner (valued c v) h = valued_lawful G c v
-  lawful levels within inner (version c v) h = version_lawful G c v (plain_some G (version c v) refl)
+  lawful levels within inner (version c vs) h = version_lawful G c vs (plain_some G (version c vs) h)
   lawful levels within inner (both a b) h =
       let g = good_both G a b h in
       both_lawful G a b (reading G levels within a) (reading G levels within b)

@@ -82,25 +82,25 @@ number_level g n c v h ts = level_tree g n ts (λ t. unit) (take_if (λ t. eqb t
     (token_level g n (c ∷ []) h (λ t. eqb t.class c && eqb t.value v)
     (λ t q. has_itself c t.class (eqb-true t.class c (and_left (eqb t.class c) (eqb t.value v) q))) ts)
 
-version_at_level : (g : Grammar) (n c : ℕ) → neutral g (c ∷ []) ≡ true → (any : Bool) (v : ℕ) (t : Terminal)
+version_at_level : (g : Grammar) (n c : ℕ) → neutral g (c ∷ []) ≡ true → (any : Bool) (vs : List ℕ) (t : Terminal)
     (ts : List Terminal) (b d : Bool) → (b ≡ true → has (c ∷ []) t.class ≡ true) → Level g n (t ∷ ts)
     (one_if b t ts >>= λ x. version_if d t x.1)
-version_at_level g n c h any v t ts true true q = step_neutral g n t ts (c ∷ []) h (q refl)
-version_at_level g n c h any v t ts true false q = (n, refl)
-version_at_level g n c h any v t ts false d q = (n, refl)
+version_at_level g n c h any vs t ts true true q = step_neutral g n t ts (c ∷ []) h (q refl)
+version_at_level g n c h any vs t ts true false q = (n, refl)
+version_at_level g n c h any vs t ts false d q = (n, refl)
 
-version_same : (any : Bool) (v : ℕ) (t : Terminal) (ts : List Terminal) (b : Bool) → check_version any v (one_if b t ts)
-    ≡ (one_if b t ts >>= λ x. version_if (any || eqb t.value v) t x.1)
-version_same any v t ts true = refl
-version_same any v t ts false = refl
+version_same : (any : Bool) (vs : List ℕ) (t : Terminal) (ts : List Terminal) (b : Bool) → check_version any vs
+    (one_if b t ts) ≡ (one_if b t ts >>= λ x. version_if (any || has vs t.value) t x.1)
+version_same any vs t ts true = refl
+version_same any vs t ts false = refl
 
-version_level : (g : Grammar) (n c : ℕ) → neutral g (c ∷ []) ≡ true → (any : Bool) (v : ℕ) (ts : List Terminal) → Level
-    g n ts (check_version any v (take_if (λ t. eqb t.class c) ts))
-version_level g n c h any v [] = (n, refl)
-version_level g n c h any v (t ∷ ts) =
+version_level : (g : Grammar) (n c : ℕ) → neutral g (c ∷ []) ≡ true → (any : Bool) (vs : List ℕ) (ts : List Terminal) →
+    Level g n ts (check_version any vs (take_if (λ t. eqb t.class c) ts))
+version_level g n c h any vs [] = (n, refl)
+version_level g n c h any vs (t ∷ ts) =
     let P : Read Terminal → Type 0 = λ r. Level g n (t ∷ ts) r in
-    subst P (sym (version_same any v t ts (eqb t.class c))) (version_at_level g n c h any v t ts (eqb t.class c)
-    (any || eqb t.value v) (λ q. has_itself c t.class (eqb-true t.class c q)))
+    subst P (sym (version_same any vs t ts (eqb t.class c))) (version_at_level g n c h any vs t ts (eqb t.class c)
+    (any || has vs t.value) (λ q. has_itself c t.class (eqb-true t.class c q)))
 
 cond_level : (g : Grammar) (n : ℕ) (ts : List Terminal) (v : Bool) (r s : Read Tree) → Level g n ts r → Level g n ts s →
     Level g n ts (cond v r s)
@@ -178,8 +178,9 @@ module _ (G : Grammar) where
   reading_level levels within inner (token classes keep) h ts = level_tree G levels ts keep (take_one classes ts)
       (token_level G levels classes h (λ t. has classes t.class) (λ t q. q) ts)
   reading_level levels within inner (valued c v) h ts = number_level G levels c v h ts
-  reading_level levels within inner (version c v) h ts = level_tree G levels ts (λ t. numeral t.value)
-      (check_version G.any_version v (take_if (λ t. eqb t.class c) ts)) (version_level G levels c h G.any_version v ts)
+  reading_level levels within inner (version c vs) h ts = level_tree G levels ts (λ t. numeral t.value)
+      (check_version G.any_version vs (take_if (λ t. eqb t.class c) ts)) (version_level G levels c h G.any_version vs
+      ts)
   reading_level levels within inner (both x y) h ts = level_then G levels ts (λ t. reading G levels within y) pair
       (reading G levels within x ts) (reading_level levels within inner x (and_left (paired G x) (paired G y) h) ts)
       (λ t. reading_level levels within inner y (and_right (paired G x) (paired G y) h))

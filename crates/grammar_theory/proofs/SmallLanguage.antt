@@ -86,7 +86,7 @@ subtrees _ = 0
 
 -- document = "doc" number [ sum ] { number ":" node { node } ";" }
 unfoldable document_ : Ebnf
-document_ = both (fixed doc_class) (both (version number_class 1)
+document_ = both (fixed doc_class) (both (version number_class (1 ∷ []))
     (both (maybe sum_) (numbered 1 number_class (both (fixed colon_class)
     (both (prefix_tree subtrees node_) (fixed end_class))))))
 

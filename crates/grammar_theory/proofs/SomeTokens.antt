@@ -12,7 +12,7 @@ use Rattle.grammar_theory.specs.LookAhead.{apart, empties, first, last, sample_t
 use Rattle.grammar_theory.specs.LookAhead.{copies}
 use Rattle.grammar_theory.specs.LookAhead.{if_passes, sample, plain, good}
 use Rattle.grammar_theory.specs.Outcomes.{HasSome}
-use Rattle.grammar_theory.proofs.Classes.{and_left, and_right, or_right}
+use Rattle.grammar_theory.proofs.Classes.{and_left, and_right, or_left, or_right}
 
 -- The tree is one of the form, of tokens at place 0.
 pub record Sampled (G : Grammar) (e : Ebnf) (x : Tree) : Type 0 where
@@ -125,11 +125,12 @@ sampled G (token classes keep) test x q = token_sampled G classes keep test x q
 sampled G (valued c v) test x q = one_sampled G (valued c v) test unit
     (record { tokens = sample_token c v ∷ []; derives = is_valued {t = sample_token c v} refl refl; at_start = refl }) x
     q
-sampled G (version c v) test x q = one_sampled G (version c v) test (numeral v)
+sampled G (version c []) test x q = cc
+sampled G (version c (v ∷ vs)) test x q = one_sampled G (version c (v ∷ vs)) test (numeral v)
     (record {
       tokens = sample_token c v ∷ [];
-      derives = is_version {c = c} {v = v} {t = sample_token c v} refl
-          (or_right G.any_version (eqb v v) (eq-eqb v v refl));
+      derives = is_version {c = c} {vs = v ∷ vs} {t = sample_token c v} refl
+          (or_right G.any_version (eqb v v || has vs v) (or_left (eqb v v) (has vs v) (eq-eqb v v refl)));
       at_start = refl;
     }) x q
 sampled G (both a b) test x q = tested G (both a b) test (pair_of (sample a (λ x. true)) (sample b (λ x. true)))
@@ -175,7 +176,7 @@ trees_some G n arity a h m = plain_some G (prefix_trees m arity a) (trees_there 
 pub some_of : (G : Grammar) → ((k : ℕ) → HasSome G (G.body k)) → (e : Ebnf) → good G e ≡ true → HasSome G e
 some_of G inner (token classes keep) h = plain_some G (token classes keep) h
 some_of G inner (valued c v) h = plain_some G (valued c v) refl
-some_of G inner (version c v) h = plain_some G (version c v) refl
+some_of G inner (version c vs) h = plain_some G (version c vs) h
 some_of G inner (both a b) h =
     let x = some_of G inner a (and_left (good G a) (good G b && apart (first b) (last a)) h) in
     let y = some_of G inner b (and_left (good G b) (apart (first b) (last a))

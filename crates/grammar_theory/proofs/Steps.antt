@@ -55,22 +55,22 @@ module _ (c v : ℕ) where
   number_missing [] h = refl
   number_missing (t ∷ ts) h = ap (λ b. as_tree (λ t. unit) (one_if (b && eqb t.value v) t ts)) (begins_not c t h)
 
--- A version: it is this one, it is another, and there is no number.
-module _ (G : Grammar) (n c v : ℕ) where
-  pub version_here : (t : Terminal) (ts : List Terminal) → t.class ≡ c → t.value ≡ v → read G n (version c v) (t ∷ ts) ≡
-      Ok (numeral t.value, ts)
-  version_here t ts h q = version_reads G c v t ts true true (eq-eqb t.class c h)
-      (or_right G.any_version (eqb t.value v) (eq-eqb t.value v q))
+-- A version: it is one of these, it is another, and there is no number.
+module _ (G : Grammar) (n c : ℕ) (vs : List ℕ) where
+  pub version_here : (t : Terminal) (ts : List Terminal) → t.class ≡ c → has vs t.value ≡ true → read G n (version c vs)
+      (t ∷ ts) ≡ Ok (numeral t.value, ts)
+  version_here t ts h q = version_reads G c vs t ts true true (eq-eqb t.class c h)
+      (or_right G.any_version (has vs t.value) q)
 
-  pub version_other : (t : Terminal) (ts : List Terminal) → G.any_version ≡ false → t.class ≡ c → t.value ≢ v → read G n
-      (version c v) (t ∷ ts) ≡ Err (OtherVersion (t ∷ ts))
-  version_other t ts a h q = version_reads G c v t ts true false (eq-eqb t.class c h)
-      (ap (λ b. b || eqb t.value v) a ∙ differs t.value v q)
+  pub version_other : (t : Terminal) (ts : List Terminal) → G.any_version ≡ false → t.class ≡ c →
+      has vs t.value ≡ false → read G n (version c vs) (t ∷ ts) ≡ Err (OtherVersion (t ∷ ts))
+  version_other t ts a h q = version_reads G c vs t ts true false (eq-eqb t.class c h)
+      (ap (λ b. b || has vs t.value) a ∙ q)
 
-  pub version_missing : (ts : List Terminal) → begins (c ∷ []) ts ≡ false → read G n (version c v) ts ≡ Err
+  pub version_missing : (ts : List Terminal) → begins (c ∷ []) ts ≡ false → read G n (version c vs) ts ≡ Err
       (Unexpected ts)
   version_missing [] h = refl
-  version_missing (t ∷ ts) h = version_reads G c v t ts false (G.any_version || eqb t.value v) (begins_not c t h) refl
+  version_missing (t ∷ ts) h = version_reads G c vs t ts false (G.any_version || has vs t.value) (begins_not c t h) refl
 
 module _ (G : Grammar) (is : IsGrammar G) (n : ℕ) where
   -- Braces: one item more, none, and a fault in an item.

@@ -1,6 +1,6 @@
 -- The readers of single tokens are lawful.
 use Rattle.std.proofs.Common.{◌≡◌, ℕ, Bool, true, false, ◌||◌, eqb, List, [], ◌∷◌, refl, sym, ◌∙◌, ap, subst, eqb-true}
-use Rattle.grammar_theory.specs.Ebnf.{Terminal, Tree, numeral, Ebnf, version, Derives, Grammar, is_version}
+use Rattle.grammar_theory.specs.Ebnf.{Terminal, Tree, numeral, Ebnf, version, Derives, Grammar, has, is_version}
 use Rattle.grammar_theory.specs.Reader.{Read, ◌>>=◌, one_if, take_if, version_if, check_version, as_tree}
 use Rattle.grammar_theory.specs.Answers.{Opens}
 use Rattle.grammar_theory.specs.Outcomes.{HasSome, Outcome, Lawful}
@@ -36,34 +36,34 @@ module _ (G : Grammar) (e : Ebnf) (passes : Terminal → Bool) (keep : Terminal 
   single (t ∷ ts) = single_at t ts (passes t) refl
 
 -- a version
-abbrev pub version_reader : Grammar → ℕ → ℕ → List Terminal → Read Tree
-version_reader G c v ts = as_tree (λ t. numeral t.value) (check_version G.any_version v
+abbrev pub version_reader : Grammar → ℕ → List ℕ → List Terminal → Read Tree
+version_reader G c vs ts = as_tree (λ t. numeral t.value) (check_version G.any_version vs
     (take_if (λ t. eqb t.class c) ts))
 
 abbrev pub version_at : Bool → Bool → Terminal → List Terminal → Read Tree
 version_at is_class is_value t ts = as_tree (λ t. numeral t.value)
     (one_if is_class t ts >>= λ x. version_if is_value t x.1)
 
-module _ (G : Grammar) (c v : ℕ) where
+module _ (G : Grammar) (c : ℕ) (vs : List ℕ) where
   pub version_same : (t : Terminal) (ts : List Terminal) (b : Bool) → as_tree (λ t. numeral t.value)
-      (check_version G.any_version v (one_if b t ts)) ≡ version_at b (G.any_version || eqb t.value v) t ts
+      (check_version G.any_version vs (one_if b t ts)) ≡ version_at b (G.any_version || has vs t.value) t ts
   version_same t ts true = refl
   version_same t ts false = refl
 
   pub version_reads : (t : Terminal) (ts : List Terminal) (b d : Bool) → eqb t.class c ≡ b →
-      (G.any_version || eqb t.value v) ≡ d → version_reader G c v (t ∷ ts) ≡ version_at b d t ts
+      (G.any_version || has vs t.value) ≡ d → version_reader G c vs (t ∷ ts) ≡ version_at b d t ts
   version_reads t ts b d q p = version_same t ts (eqb t.class c) ∙ ap
-      (λ b. version_at b (G.any_version || eqb t.value v) t ts) q ∙ ap (λ d. version_at b d t ts) p
+      (λ b. version_at b (G.any_version || has vs t.value) t ts) q ∙ ap (λ d. version_at b d t ts) p
 
-module _ (G : Grammar) (c v : ℕ) (one : HasSome G (version c v)) where
+module _ (G : Grammar) (c : ℕ) (vs : List ℕ) (one : HasSome G (version c vs)) where
   version_outcome : (t : Terminal) (ts : List Terminal) (b d : Bool) → eqb t.class c ≡ b →
-      (G.any_version || eqb t.value v) ≡ d → Outcome G (version c v) (version_reader G c v) (t ∷ ts)
+      (G.any_version || has vs t.value) ≡ d → Outcome G (version c vs) (version_reader G c vs) (t ∷ ts)
       (version_at b d t ts)
   version_outcome t ts true true q p = record {
     taken = t ∷ [];
     split = refl;
     tree = is_version (eqb-true t.class c q) p;
-    local = λ s was now h. version_reads G c v t (s ∷ now) true true q p;
+    local = λ s was now h. version_reads G c vs t (s ∷ now) true true q p;
   }
   version_outcome t ts true false q p = record {
     front = [];
@@ -71,27 +71,27 @@ module _ (G : Grammar) (c v : ℕ) (one : HasSome G (version c v)) where
     later = ts;
     rest_is = refl;
     split = refl;
-    opens = opens_none G (version c v) one;
+    opens = opens_none G (version c vs) one;
     other = record { tree = numeral t.value; rest = []; derives = is_version (eqb-true t.class c q) refl };
-    local = λ now. version_reads G c v t now true false q p;
+    local = λ now. version_reads G c vs t now true false q p;
   }
   version_outcome t ts false d q p = record {
     front = [];
     split = refl;
-    opens = opens_none G (version c v) one;
+    opens = opens_none G (version c vs) one;
     local = λ s was now h. let w : t ≡ s = cc in
-        let q' : eqb s.class c ≡ false = subst (λ (u : Terminal). eqb u.class c ≡ false) w q in version_reads G c v s
-        now false (G.any_version || eqb s.value v) q' refl;
+        let q' : eqb s.class c ≡ false = subst (λ (u : Terminal). eqb u.class c ≡ false) w q in version_reads G c vs s
+        now false (G.any_version || has vs s.value) q' refl;
   }
 
-  pub version_lawful : Lawful G (version c v) (version_reader G c v)
+  pub version_lawful : Lawful G (version c vs) (version_reader G c vs)
   version_lawful [] = record {
     front = [];
     split = refl;
-    opens = opens_none G (version c v) one;
+    opens = opens_none G (version c vs) one;
     local = λ t was now h.
         cc;
   }
-  version_lawful (t ∷ ts) = subst (λ r. Outcome G (version c v) (version_reader G c v) (t ∷ ts) r)
-      (sym (version_same G c v t ts (eqb t.class c))) (version_outcome t ts (eqb t.class c)
-      (G.any_version || eqb t.value v) refl refl)
+  version_lawful (t ∷ ts) = subst (λ r. Outcome G (version c vs) (version_reader G c vs) (t ∷ ts) r)
+      (sym (version_same G c vs t ts (eqb t.class c))) (version_outcome t ts (eqb t.class c)
+      (G.any_version || has vs t.value) refl refl)

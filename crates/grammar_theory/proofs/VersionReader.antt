@@ -5,7 +5,7 @@ use Rattle.grammar_theory.specs.Ebnf.{Terminal, place_of, Tree, numeral, pair, l
 use Rattle.grammar_theory.specs.Ebnf.{Ebnf}
 use Rattle.grammar_theory.specs.Ebnf.{token, valued, version, both, either, maybe, many, numbered, prefix_trees, named}
 use Rattle.grammar_theory.specs.Ebnf.{inside}
-use Rattle.grammar_theory.specs.Ebnf.{Grammar, of_any_version}
+use Rattle.grammar_theory.specs.Ebnf.{Grammar, of_any_version, has}
 use Rattle.grammar_theory.specs.LookAhead.{first, good, paired, IsGrammar}
 use Rattle.grammar_theory.specs.Reader.{Read, OtherVersion, ◌>>=◌, begins, take_if, take_number, version_if}
 use Rattle.grammar_theory.specs.Reader.{check_version}
@@ -67,10 +67,10 @@ alike_version_if : (t : Terminal) (ts : List Terminal) (b : Bool) → Alike
 alike_version_if t ts true = inl refl
 alike_version_if t ts false = inr (t ∷ ts, refl)
 
-alike_version : (any : Bool) (v : ℕ) (r : Read Terminal) → Alike
-    (as_tree (λ t. numeral t.value) (check_version any v r)) (as_tree (λ t. numeral t.value) (check_version true v r))
-alike_version any v (Ok p) = alike_version_if p.0 p.1 (any || eqb p.0.value v)
-alike_version any v (Err d) = inl refl
+alike_version : (any : Bool) (vs : List ℕ) (r : Read Terminal) → Alike
+    (as_tree (λ t. numeral t.value) (check_version any vs r)) (as_tree (λ t. numeral t.value) (check_version true vs r))
+alike_version any vs (Ok p) = alike_version_if p.0 p.1 (any || has vs p.0.value)
+alike_version any vs (Err d) = inl refl
 
 module _ (G : Grammar) where
   abbrev Any : Grammar
@@ -81,7 +81,7 @@ module _ (G : Grammar) where
       → (e : Ebnf) (ts : List Terminal) → Alike (reading G levels w e ts) (reading Any levels z e ts)
   reading_alike levels w z inner (token classes keep) ts = inl refl
   reading_alike levels w z inner (valued c v) ts = inl refl
-  reading_alike levels w z inner (version c v) ts = alike_version G.any_version v (take_if (λ t. eqb t.class c) ts)
+  reading_alike levels w z inner (version c vs) ts = alike_version G.any_version vs (take_if (λ t. eqb t.class c) ts)
   reading_alike levels w z inner (both a b) ts = alike_then (λ x. reading G levels w b) (λ x. reading Any levels z b)
       pair (λ x. reading_alike levels w z inner b) (reading G levels w a ts) (reading Any levels z a ts)
       (reading_alike levels w z inner a ts)
@@ -125,7 +125,7 @@ module _ (G : Grammar) where
   pub good_any : (e : Ebnf) → good Any e ≡ good G e
   good_any (token classes keep) = refl
   good_any (valued c v) = refl
-  good_any (version c v) = refl
+  good_any (version c vs) = refl
   good_any (both a b) = and_same (good_any a) (and_same (good_any b) refl)
   good_any (either a b) = and_same (good_any a) (and_same (good_any b) refl)
   good_any (maybe a) = and_same (good_any a) refl
@@ -138,7 +138,7 @@ module _ (G : Grammar) where
   paired_any : (e : Ebnf) → paired Any e ≡ paired G e
   paired_any (token classes keep) = refl
   paired_any (valued c v) = refl
-  paired_any (version c v) = refl
+  paired_any (version c vs) = refl
   paired_any (both a b) = and_same (paired_any a) (paired_any b)
   paired_any (either a b) = and_same (paired_any a) (paired_any b)
   paired_any (maybe a) = paired_any a

@@ -49,8 +49,9 @@ pub data Ebnf : Type 0 where
   token : (classes : List ℕ) → (keep : Terminal → Tree) → Ebnf
   -- a token of the class with the value
   valued : (class value : ℕ) → Ebnf
-  -- a token of the class with the value: another value says that the text is of another version of the language
-  version : (class value : ℕ) → Ebnf
+  -- a token of the class with one of the values: another value says that the text is of another version of the
+  -- language
+  version : (class : ℕ) → (values : List ℕ) → Ebnf
   -- one after the other
   both : Ebnf → Ebnf → Ebnf
   -- one or the other
@@ -126,8 +127,8 @@ pub data Derives (g : Grammar) : Ebnf → Tree → List Terminal → Type 0 wher
       → IsTrue (has classes t.class) → Derives g (token classes keep) (keep t) (t ∷ [])
   is_valued : {c v : ℕ} {t : Terminal}
       → t.class ≡ c → t.value ≡ v → Derives g (valued c v) unit (t ∷ [])
-  is_version : {c v : ℕ} {t : Terminal}
-      → t.class ≡ c → IsTrue (g.any_version || t.value == v) → Derives g (version c v) (numeral t.value) (t ∷ [])
+  is_version : {c : ℕ} {vs : List ℕ} {t : Terminal}
+      → t.class ≡ c → IsTrue (g.any_version || has vs t.value) → Derives g (version c vs) (numeral t.value) (t ∷ [])
   is_both : {a b : Ebnf} {x y : Tree} {us vs ts : List Terminal}
       → Derives g a x us → Derives g b y vs → ts ≡ us ++ vs → Derives g (both a b) (pair x y) ts
   is_left : {a b : Ebnf} {x : Tree} {ts : List Terminal}

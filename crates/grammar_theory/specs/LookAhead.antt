@@ -15,7 +15,7 @@ apart (m ∷ ms) ns = not (has ns m) && apart ms ns
 abbrev pub empties : Ebnf → Bool
 empties (token classes keep) = false
 empties (valued c v) = false
-empties (version c v) = false
+empties (version c vs) = false
 empties (both a b) = empties a && empties b
 empties (either a b) = empties a || empties b
 empties (maybe a) = true
@@ -29,7 +29,7 @@ empties (inside o k c) = false
 abbrev pub first : Ebnf → List ℕ
 first (token classes keep) = classes
 first (valued c v) = c ∷ []
-first (version c v) = c ∷ []
+first (version c vs) = c ∷ []
 first (both a b) = if empties a then first a ++ first b else first a
 first (either a b) = first a ++ first b
 first (maybe a) = first a
@@ -43,7 +43,7 @@ first (inside o k c) = o ∷ []
 abbrev pub last : Ebnf → List ℕ
 last (token classes keep) = []
 last (valued c v) = []
-last (version c v) = []
+last (version c vs) = []
 last (both a b) = if empties b then last a ++ last b else last b
 last (either a b) = if empties b then first a ++ (last a ++ last b) else last a ++ last b
 last (maybe a) = first a ++ last a
@@ -60,6 +60,11 @@ sample_token c v = record { class = c; place = 0; value = v; text = [] }
 abbrev pub token_of : List ℕ → (Terminal → Tree) → Option Tree
 token_of [] keep = None
 token_of (c ∷ cs) keep = Some (keep (sample_token c 0))
+
+-- the first of the values, as a tree
+abbrev pub numeral_of : List ℕ → Option Tree
+numeral_of [] = None
+numeral_of (v ∷ vs) = Some (numeral v)
 
 abbrev pub pair_of : Option Tree → Option Tree → Option Tree
 pair_of None y = None
@@ -85,7 +90,7 @@ if_passes test (Some x) = if test x then Some x else None
 abbrev pub sample : Ebnf → (Tree → Bool) → Option Tree
 sample (token classes keep) test = if_passes test (token_of classes keep)
 sample (valued c v) test = if_passes test (Some unit)
-sample (version c v) test = if_passes test (Some (numeral v))
+sample (version c vs) test = if_passes test (numeral_of vs)
 sample (both a b) test = if_passes test (pair_of (sample a (λ x. true)) (sample b (λ x. true)))
 sample (either a b) test = either_of (sample a (λ x. test (left x))) (sample b (λ x. test (right x)))
 sample (maybe a) test = if_passes test (Some none)
@@ -106,7 +111,7 @@ plain e = is_some (sample e (λ x. true))
 abbrev pub good : Grammar → Ebnf → Bool
 good g (token classes keep) = plain (token classes keep)
 good g (valued c v) = true
-good g (version c v) = true
+good g (version c vs) = plain (version c vs)
 good g (both a b) = good g a && (good g b && apart (first b) (last a))
 good g (either a b) = good g a && (good g b && (not (empties a) && apart (first b) (first a)))
 good g (maybe a) = good g a && not (empties a)
@@ -125,7 +130,7 @@ neutral g classes = apart classes g.opening && apart classes g.closing
 abbrev pub paired : Grammar → Ebnf → Bool
 paired g (token classes keep) = neutral g classes
 paired g (valued c v) = neutral g (c ∷ [])
-paired g (version c v) = neutral g (c ∷ [])
+paired g (version c vs) = neutral g (c ∷ [])
 paired g (both a b) = paired g a && paired g b
 paired g (either a b) = paired g a && paired g b
 paired g (maybe a) = paired g a

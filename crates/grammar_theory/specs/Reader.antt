@@ -45,8 +45,8 @@ take_one classes ts = take_if (λ t. has classes t.class) ts
 abbrev pub version_if : Bool → Terminal → List Terminal → Read Terminal
 version_if b t ts = if b then Ok (t, ts) else Err (OtherVersion (t ∷ ts))
 
-abbrev pub check_version : Bool → ℕ → Read Terminal → Read Terminal
-check_version any v r = r >>= λ x. version_if (any || x.0.value == v) x.0 x.1
+abbrev pub check_version : Bool → List ℕ → Read Terminal → Read Terminal
+check_version any values r = r >>= λ x. version_if (any || has values x.0.value) x.0 x.1
 
 -- what is kept of a token
 abbrev pub as_tree : (Terminal → Tree) → Read Terminal → Read Tree
@@ -110,8 +110,8 @@ opened (suc n) f at ts = f ts
 abbrev pub reading : Grammar → ℕ → (ℕ → List Terminal → Read Tree) → Ebnf → List Terminal → Read Tree
 reading g levels within (token classes keep) ts = as_tree keep (take_one classes ts)
 reading g levels within (valued c v) ts = take_number c v ts
-reading g levels within (version c v) ts =
-    as_tree (λ t. numeral t.value) (check_version g.any_version v (take_if (λ t. t.class == c) ts))
+reading g levels within (version c vs) ts =
+    as_tree (λ t. numeral t.value) (check_version g.any_version vs (take_if (λ t. t.class == c) ts))
 reading g levels within (both a b) ts = and_then (reading g levels within b) pair (reading g levels within a ts)
 reading g levels within (either a b) ts = if begins (first a) ts then after left (reading g levels within a ts)
     else after right (reading g levels within b ts)

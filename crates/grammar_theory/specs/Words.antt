@@ -39,7 +39,7 @@ pub data IsSublist : List Word → List Word → Type 0 where
 abbrev pub KeepsWords : Ebnf → Type 0
 KeepsWords (token classes keep) = (t : Terminal) → IsSublist (words (keep t)) (spelled (t ∷ []))
 KeepsWords (valued c v) = Unit {0}
-KeepsWords (version c v) = Unit {0}
+KeepsWords (version c vs) = Unit {0}
 KeepsWords (both a b) = KeepsWords a × KeepsWords b
 KeepsWords (either a b) = KeepsWords a × KeepsWords b
 KeepsWords (maybe a) = KeepsWords a

@@ -3,14 +3,15 @@ use Rattle.std.proofs.Common.{[], ◌∷◌, refl}
 use Rattle.case_tables.specs.declared.word_table.Word.{Word}
 use Rattle.case_tables.specs.declared.symbol_table.Symbol.{Symbol}
 use Rattle.grammar_theory.specs.Ebnf.{both}
+use Rattle.grammar_theory.specs.LookAhead.{first}
 use Rattle.unity_syntax.specs.Classes.{reserved, symbol}
-use Rattle.unity_syntax.specs.Grammar.{past, atom_, product_, and_, or_, plus_or_minus_}
+use Rattle.unity_syntax.specs.Grammar.{atom_, product_, and_, or_, plus_or_minus_, operator_}
 use Rattle.unity_syntax.proofs.Productions.{all_productions}
 use Rattle.parser_expressions.proofs.Repetition.{IsItem}
 use Rattle.parser_expressions.specs.declared.joints.Joint.{Joint}
 use Rattle.parser_expressions.specs.Joints.{joint_word, joined_unit_}
 
-pub is_factor : IsItem (past (symbol Symbol.Times) atom_) (symbol Symbol.Times ∷ [])
+pub is_factor : IsItem (both operator_ atom_) (first operator_)
 unfolding all_productions
 is_factor = record { good_many = refl; begins_with = refl; takes = refl }
 

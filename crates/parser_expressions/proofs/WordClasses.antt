@@ -1,11 +1,15 @@
--- Two reserved words are the same where their classes are.
-use Rattle.std.proofs.Common.{◌≡◌, ◌≢◌, ◌+◌, ℕ, Bool, true, false, eqb, ◌||◌, refl, sym, ap, arith, eqb-true, eq-eqb}
+-- Two reserved words are the same where their classes are, and only a symbol has the class of a symbol.
+use Rattle.std.proofs.Common.{◌≡◌, ◌≢◌, ◌+◌, ◌<◌, ◌∙◌, ℕ, Bool, true, false, not, cond, eqb, ◌||◌, ◌&&◌}
+use Rattle.std.proofs.Common.{refl, sym, ap, arith, eqb-true, eq-eqb}
 use Rattle.case_tables.specs.declared.word_table.Word.{Word}
+use Rattle.case_tables.specs.declared.symbol_table.Symbol.{Symbol}
 use Rattle.case_tables.specs.contracts.word_table.WordPartialEq.TheImpl.{ghosts as words}
 use Rattle.case_tables.specs.contracts.word_table.Word.{the_type}
 use denote.Enum.Bare.{tag_one, same_true, same_false}
 use denote.Enum.Declared.{tag_of}
-use Rattle.unity_syntax.specs.Classes.{reserved}
+use Rattle.unity_syntax.specs.Classes.{reserved, symbol, is_later, later_class, class_of_reserved, class_of}
+use Rattle.unity_syntax.specs.declared.token.TokenKind.{TokenKind}
+use Rattle.unity_syntax.proofs.ClassLaws.{kind_of_symbol}
 
 -- words are numbered in their order
 number : (w : Word) → reserved w ≡ 2 + tag_of the_type w
@@ -88,3 +92,35 @@ same_word a b = go (words.eq a b) refl
         (ap (λ v. v || false) (eq-eqb (reserved b) (reserved a) e))
     go false q = sym (ap (λ v. v || false) (differs (reserved b) (reserved a)
         (λ e. same_false the_type a b q (same_class a b e))))
+
+below : (w : Word) → reserved w < later_class
+below Word.Unity = omega arith
+below w = omega arith
+
+-- a word that stands in the text has its own class there, and another has that of no word
+abbrev class_in : Bool → Bool → Word → ℕ
+class_in later is a = cond (is && not later) later_class (reserved a)
+
+pub stands_as : (later : Bool) (a b : Word) → (later || not (is_later a)) ≡ true → words.eq a b ≡
+    (eqb (reserved b) (class_of_reserved later a) || false)
+stands_as later a b = go later (is_later a)
+  where
+    go : (later is : Bool) → (later || not is) ≡ true → words.eq a b ≡ (eqb (reserved b) (class_in later is a) || false)
+    go later false h = same_word a b
+    go true true h = same_word a b
+    go false true h = cc
+
+pub stands_not : (later : Bool) (a b : Word) → (later || not (is_later a)) ≡ false → false ≡
+    (eqb (reserved b) (class_of_reserved later a) || false)
+stands_not later a b = go later (is_later a)
+  where
+    go : (later is : Bool) → (later || not is) ≡ false → false ≡ (eqb (reserved b) (class_in later is a) || false)
+    go true is h = cc
+    go false false h = cc
+    go false true h = let less = below b in sym (ap (λ v. v || false) (differs (reserved b) later_class
+        (λ e. absurd (omega (arith, less, e)))))
+
+pub no_symbol : (later : Bool) (k : TokenKind) (s : Symbol) → ((t : Symbol) → k ≢ TokenKind.Symbol t) → false ≡
+    (eqb (symbol s) (class_of later k) || false)
+no_symbol later k s h = sym (ap (λ v. v || false) (differs (symbol s) (class_of later k)
+    (λ e. h s (kind_of_symbol later k s (sym e)))))

@@ -9,7 +9,7 @@ use Rattle.parser_expressions.specs.declared.stop.Stop.{Stop}
 
 -- the tokens that are still to be read
 abbrev pub remaining : Cursor → List Terminal
-remaining text = terminals text.bytes.now text.tokens.now
+remaining text = terminals text.later text.bytes.now text.tokens.now
 
 -- the reader has this fault; want of memory says nothing
 abbrev pub Fails : {A : Type 0} → Stop → Result A Fault → Type 0

@@ -1,13 +1,15 @@
 //! Tokens that are still to be read, and the reading of one of them.
 
-ghost use Rattle.std.specs.Prelude.{◌≡◌, IfOk, slice_range, [], ◌∷◌, map, true, false, MatchOption, Ok};
+ghost use Rattle.std.specs.Prelude.{◌≡◌, IfOk, slice_range, not, ◌||◌, [], ◌∷◌, map, true, false, MatchOption, Ok};
 ghost use Rattle.case_tables.specs.declared.word_table.Word.{Word};
 ghost use Rattle.case_tables.specs.declared.symbol_table.Symbol.{Symbol};
 ghost use Rattle.grammar_theory.specs.Ebnf.{choice, has, place_of, one_of};
 ghost use Rattle.grammar_theory.specs.LookAhead.{first};
 ghost use Rattle.grammar_theory.specs.Reader.{begins, read};
-ghost use Rattle.unity_syntax.specs.Classes.{name_class, number_class, reserved, symbol, class_of};
-ghost use Rattle.unity_syntax.specs.Grammar.{grammar, name_, number_, minus_, plus_or_minus_, relation_, quantified_};
+ghost use Rattle.unity_syntax.specs.declared.expression.Operator.{Operator};
+ghost use Rattle.unity_syntax.specs.Classes.{name_class, number_class, reserved, symbol, operator, is_later, class_of};
+ghost use Rattle.unity_syntax.specs.Grammar.{grammar, name_, number_, minus_, plus_or_minus_, operator_, relation_};
+ghost use Rattle.unity_syntax.specs.Grammar.{quantified_};
 ghost use Rattle.unity_syntax.specs.View.{view_name, view_number, view_flag};
 ghost use Rattle.parser_expressions.specs.Gives.{Skips, Reads, remaining};
 
@@ -15,13 +17,15 @@ use crate::stop::{Parsed, Stop};
 use case_tables::{Symbol, Word};
 use std::alloc::{AllocError, Global};
 use unity_base::Seq;
-use unity_syntax::{Name, Token, TokenKind};
+use unity_syntax::{Name, Operator, Token, TokenKind};
 
-/// The tokens that are left of a text, and the text's bytes.
+/// The tokens that are left of a text, the text's bytes, and whether the text is of version 2: in
+/// another the words that only version 2 has are tokens that stand nowhere.
 #[derive(Clone, Copy)]
 pub struct Cursor<'a> {
     pub bytes: &'a [u8],
     pub tokens: &'a [Token],
+    pub later: bool,
 }
 
 /// The relations of numbers.
@@ -34,53 +38,97 @@ const RELATIONS: &[Symbol] = &[
     Symbol::AtLeast,
 ];
 
-/// Whether a token of this kind is the symbol.
-fn is_symbol(kind: TokenKind, wanted: Symbol) -> bool
-    ensures { result ≡ has (symbol wanted ∷ []) (class_of kind) }
+/// Whether only version 2 has this reserved word.
+fn is_later(word: Word) -> bool
+    ensures { result ≡ is_later word }
 {
-    match kind {
-        TokenKind::Symbol(symbol) => symbol == wanted,
-        _ => false,
-    }
-}
-
-/// Whether a token of this kind is the reserved word.
-fn is_reserved(kind: TokenKind, wanted: Word) -> bool
-    ensures { result ≡ has (reserved wanted ∷ []) (class_of kind) }
-{
-    match kind {
-        TokenKind::Reserved(word) => word == wanted,
-        _ => false,
-    }
-}
-
-/// Which of these symbols a token of this kind is.
-fn symbol_in(kind: TokenKind, wanted: &[Symbol]) -> Option<Symbol>
-    ensures { let is_one = has (map symbol wanted.now) (class_of kind) in
-        MatchOption result (is_one ≡ false) (λ found. (is_one ≡ true) × (class_of kind ≡ symbol found)) }
-{
-    for symbol in wanted {
-        if is_symbol(kind, *symbol) {
-            return Some(*symbol);
-        }
-    }
-    None
-}
-
-/// Which of these reserved words a token of this kind is.
-fn word_in(kind: TokenKind, wanted: &[Word]) -> Option<Word>
-    ensures { let is_one = has (map reserved wanted.now) (class_of kind) in
-        MatchOption result (is_one ≡ false) (λ found. (is_one ≡ true) × (class_of kind ≡ reserved found)) }
-{
-    for word in wanted {
-        if is_reserved(kind, *word) {
-            return Some(*word);
-        }
-    }
-    None
+    matches!(
+        word,
+        Word::Div
+            | Word::Mod
+            | Word::Quot
+            | Word::Share
+            | Word::Until
+            | Word::Detects
+            | Word::Constant
+            | Word::Complete
+            | Word::Superpose
+            | Word::Fixed
+    )
 }
 
 impl<'a> Cursor<'a> {
+    /// Whether a token of this kind is the symbol.
+    fn is_symbol(self, kind: TokenKind, wanted: Symbol) -> bool
+        ensures { result ≡ has (symbol wanted ∷ []) (class_of self.entry.later kind) }
+    {
+        match kind {
+            TokenKind::Symbol(symbol) => symbol == wanted,
+            _ => false,
+        }
+    }
+
+    /// Whether a reserved word may stand anywhere in the text.
+    fn stands(self, word: Word) -> bool
+        ensures { result ≡ (self.entry.later || not (is_later word)) }
+    {
+        self.later || !is_later(word)
+    }
+
+    /// Whether a token of this kind is the reserved word.
+    fn is_reserved(self, kind: TokenKind, wanted: Word) -> bool
+        ensures { result ≡ has (reserved wanted ∷ []) (class_of self.entry.later kind) }
+    {
+        match kind {
+            TokenKind::Reserved(word) => self.stands(word) && word == wanted,
+            _ => false,
+        }
+    }
+
+    /// Which of these symbols a token of this kind is.
+    fn symbol_in(self, kind: TokenKind, wanted: &[Symbol]) -> Option<Symbol>
+        ensures { let class = class_of self.entry.later kind in let is_one = has (map symbol wanted.now) class in
+            MatchOption result (is_one ≡ false) (λ found. (is_one ≡ true) × (class ≡ symbol found)) }
+    {
+        for symbol in wanted {
+            if self.is_symbol(kind, *symbol) {
+                return Some(*symbol);
+            }
+        }
+        None
+    }
+
+    /// Which of these reserved words a token of this kind is.
+    fn word_in(self, kind: TokenKind, wanted: &[Word]) -> Option<Word>
+        ensures { let class = class_of self.entry.later kind in let is_one = has (map reserved wanted.now) class in
+            MatchOption result (is_one ≡ false) (λ found. (is_one ≡ true) × (class ≡ reserved found)) }
+    {
+        for word in wanted {
+            if self.is_reserved(kind, *word) {
+                return Some(*word);
+            }
+        }
+        None
+    }
+
+    /// Which operator of a product a token of this kind is.
+    fn operator_in(self, kind: TokenKind) -> Option<Operator>
+        ensures { let class = class_of self.entry.later kind in
+            let is_one = has (map operator (Operator.Times ∷ Operator.Div ∷ Operator.Mod ∷ [])) class in
+            MatchOption result (is_one ≡ false) (λ found. (is_one ≡ true) × (class ≡ operator found)) }
+    {
+        if self.is_symbol(kind, Symbol::Times) {
+            return Some(Operator::Times);
+        }
+        if self.is_reserved(kind, Word::Div) {
+            return Some(Operator::Div);
+        }
+        if self.is_reserved(kind, Word::Mod) {
+            return Some(Operator::Mod);
+        }
+        None
+    }
+
     /// The place of the next token.
     pub fn place(self) -> u64
         ensures { result ≡ place_of (remaining self.entry) }
@@ -97,7 +145,7 @@ impl<'a> Cursor<'a> {
     {
         match self.tokens {
             [] => false,
-            [first, ..] => is_symbol(first.kind, wanted),
+            [first, ..] => self.is_symbol(first.kind, wanted),
         }
     }
 
@@ -107,7 +155,7 @@ impl<'a> Cursor<'a> {
     {
         match self.tokens {
             [] => false,
-            [first, ..] => is_reserved(first.kind, wanted),
+            [first, ..] => self.is_reserved(first.kind, wanted),
         }
     }
 
@@ -117,7 +165,7 @@ impl<'a> Cursor<'a> {
     {
         match self.tokens {
             [] => false,
-            [first, ..] => symbol_in(first.kind, wanted).is_some(),
+            [first, ..] => self.symbol_in(first.kind, wanted).is_some(),
         }
     }
 
@@ -127,7 +175,7 @@ impl<'a> Cursor<'a> {
     {
         match self.tokens {
             [] => false,
-            [first, ..] => word_in(first.kind, wanted).is_some(),
+            [first, ..] => self.word_in(first.kind, wanted).is_some(),
         }
     }
 
@@ -139,7 +187,7 @@ impl<'a> Cursor<'a> {
             [] => false,
             [first, ..] => match first.kind {
                 TokenKind::Number(_) => true,
-                kind => is_symbol(kind, Symbol::Minus),
+                kind => self.is_symbol(kind, Symbol::Minus),
             },
         }
     }
@@ -171,7 +219,7 @@ impl<'a> Cursor<'a> {
         let [first, tokens @ ..] = self.tokens else {
             return Err(Stop::Unexpected(self));
         };
-        if is_symbol(first.kind, wanted) {
+        if self.is_symbol(first.kind, wanted) {
             return Ok(Cursor { tokens, ..self });
         }
         Err(Stop::Unexpected(self))
@@ -184,7 +232,7 @@ impl<'a> Cursor<'a> {
         let [first, tokens @ ..] = self.tokens else {
             return Err(Stop::Unexpected(self));
         };
-        if is_reserved(first.kind, wanted) {
+        if self.is_reserved(first.kind, wanted) {
             return Ok(Cursor { tokens, ..self });
         }
         Err(Stop::Unexpected(self))
@@ -204,7 +252,7 @@ impl<'a> Cursor<'a> {
         let [first, tokens @ ..] = self.tokens else {
             return Err(Stop::Unexpected(self));
         };
-        match symbol_in(first.kind, wanted) {
+        match self.symbol_in(first.kind, wanted) {
             Some(symbol) => Ok((symbol, Cursor { tokens, ..self })),
             None => Err(Stop::Unexpected(self)),
         }
@@ -217,7 +265,7 @@ impl<'a> Cursor<'a> {
         let [first, tokens @ ..] = self.tokens else {
             return Err(Stop::Unexpected(self));
         };
-        match word_in(first.kind, wanted) {
+        match self.word_in(first.kind, wanted) {
             Some(word) => Ok((word, Cursor { tokens, ..self })),
             None => Err(Stop::Unexpected(self)),
         }
@@ -235,6 +283,29 @@ impl<'a> Cursor<'a> {
         ensures { Reads (λ x. choice (symbol x)) result plus_or_minus_ 0 self.entry }
     {
         self.one_symbol(&[Symbol::Plus, Symbol::Minus])
+    }
+
+    /// Whether the next token is an operator of a product.
+    pub fn begins_operator(self) -> bool
+        ensures { result ≡ begins (first operator_) (remaining self.entry) }
+    {
+        match self.tokens {
+            [] => false,
+            [first, ..] => self.operator_in(first.kind).is_some(),
+        }
+    }
+
+    /// An operator of a product, and what remains after it.
+    pub fn operator(self) -> Parsed<'a, Operator>
+        ensures { Reads (λ x. choice (operator x)) result operator_ 0 self.entry }
+    {
+        let [first, tokens @ ..] = self.tokens else {
+            return Err(Stop::Unexpected(self));
+        };
+        match self.operator_in(first.kind) {
+            Some(operator) => Ok((operator, Cursor { tokens, ..self })),
+            None => Err(Stop::Unexpected(self)),
+        }
     }
 
     /// Whether the next token is a relation of numbers.
@@ -272,7 +343,7 @@ impl<'a> Cursor<'a> {
         ensures { read grammar 0 minus_ (remaining self.entry) ≡ Ok (view_flag result.0, remaining result.1) }
     {
         match self.tokens {
-            [first, tokens @ ..] if is_symbol(first.kind, Symbol::Minus) => (
+            [first, tokens @ ..] if self.is_symbol(first.kind, Symbol::Minus) => (
                 true,
                 Cursor { tokens, ..self },
             ),

@@ -6,10 +6,11 @@ ghost use Rattle.grammar_theory.specs.Ebnf.{pair, both, fixed, maybe, many, name
 ghost use Rattle.unity_syntax.specs.Classes.{reserved, symbol};
 ghost use Rattle.unity_syntax.specs.Kinds.{Kind, kind, Contents};
 ghost use Rattle.unity_syntax.specs.Grammar.{past, made, in_brackets, in_parentheses, name_, plus_or_minus_, number_};
+ghost use Rattle.unity_syntax.specs.Grammar.{operator_};
 ghost use Rattle.unity_syntax.specs.Grammar.{atom_, product_, sum_, compare_, unit_, joined_, pred_, quantified_};
 ghost use Rattle.unity_syntax.specs.Grammar.{parentheses_, make_parentheses};
-ghost use Rattle.unity_syntax.specs.View.{view_list, view_signed, view_expr};
-ghost use Rattle.parser_expressions.specs.Gives.{Skips, Reads, ReadsAs};
+ghost use Rattle.unity_syntax.specs.View.{view_list, view_signed, view_factor, view_expr};
+ghost use Rattle.parser_expressions.specs.Gives.{Reads, ReadsAs};
 ghost use Rattle.parser_expressions.specs.Joints.{joint_kind, joined_unit_};
 
 use crate::cursor::Cursor;
@@ -20,7 +21,7 @@ use crate::stop::{Parsed, Stop};
 use case_tables::{Symbol, Word};
 use std::alloc::Global;
 use unity_base::{Held, Seq};
-use unity_syntax::Expr;
+use unity_syntax::{Expr, Operator};
 
 /// `"if" pred`
 pub fn condition<'a>(alloc: Global, depth: u32, text: Cursor<'a>) -> Parsed<'a, Held<Expr>>
@@ -179,7 +180,7 @@ fn next_product<'a>(alloc: Global, depth: u32, text: Cursor<'a>) -> Parsed<'a, (
     Ok(((sign, product), text))
 }
 
-/// `product = atom { "*" atom }`
+/// `product = atom { ( "*" | "div" | "mod" ) atom }`
 #[tactic(auto, unfolding(unity_syntax::specs::Grammar::product_))]
 #[cycle(expressions)]
 fn product<'a>(alloc: Global, depth: u32, text: Cursor<'a>) -> Parsed<'a, Held<Expr>>
@@ -192,35 +193,38 @@ fn product<'a>(alloc: Global, depth: u32, text: Cursor<'a>) -> Parsed<'a, Held<E
     Ok((whole, text))
 }
 
-/// `{ "*" atom }`
+/// `{ ( "*" | "div" | "mod" ) atom }`
 #[cycle(expressions)]
-fn more_factors<'a>(alloc: Global, depth: u32, text: Cursor<'a>) -> Parsed<'a, Seq<Expr>>
-    ensures { Reads (view_list view_expr) result (many (past (symbol Symbol.Times) atom_)) depth text.entry }
+fn more_factors<'a>(
+    alloc: Global,
+    depth: u32,
+    text: Cursor<'a>,
+) -> Parsed<'a, Seq<(Operator, Expr)>>
+    ensures { Reads (view_list (view_factor view_expr)) result (many (both operator_ atom_)) depth text.entry }
 {
     let mut found = Seq::new(alloc);
     let mut rest = text;
-    'items: while rest.begins_symbol(Symbol::Times) {
+    'items: while rest.begins_operator() {
         let (item, later) = next_factor(alloc, depth, rest)?;
-        found.push(item.into_inner())?;
+        let (operator, factor) = item;
+        found.push((operator, factor.into_inner()))?;
         rest = later;
     }
     Ok((found, rest))
 }
 
-/// What remains after `*`, which has to come.
-fn times<'a>(text: Cursor<'a>) -> Result<Cursor<'a>, Stop<'a>>
-    ensures { Skips (symbol Symbol.Times) result text.entry }
-{
-    text.symbol(Symbol::Times)
-}
-
-/// `"*" atom`
+/// `( "*" | "div" | "mod" ) atom`
 #[cycle(expressions)]
-fn next_factor<'a>(alloc: Global, depth: u32, text: Cursor<'a>) -> Parsed<'a, Held<Expr>>
-    ensures { Reads view_expr result (past (symbol Symbol.Times) atom_) depth text.entry }
+fn next_factor<'a>(
+    alloc: Global,
+    depth: u32,
+    text: Cursor<'a>,
+) -> Parsed<'a, (Operator, Held<Expr>)>
+    ensures { Reads (view_factor view_expr) result (both operator_ atom_) depth text.entry }
 {
-    let text = times(text)?;
-    atom(alloc, depth, text)
+    let (operator, text) = text.operator()?;
+    let (factor, text) = atom(alloc, depth, text)?;
+    Ok(((operator, factor), text))
 }
 
 /// `number`

@@ -5,7 +5,8 @@ ghost use Rattle.grammar_theory.specs.Ebnf.{unit, choice, pair, none, some, node
 ghost use Rattle.unity_syntax.specs.Classes.{reserved, symbol};
 ghost use Rattle.unity_syntax.specs.Kinds.{Kind, kind};
 ghost use Rattle.unity_syntax.specs.Grammar.{make_product, make_sum};
-ghost use Rattle.unity_syntax.specs.View.{view_flag, view_list, view_signed, view_name, view_number, view_expr};
+ghost use Rattle.unity_syntax.specs.View.{view_flag, view_list, view_signed, view_factor, view_name, view_number};
+ghost use Rattle.unity_syntax.specs.View.{view_expr};
 ghost use Rattle.parser_expressions.specs.Bounds.{view_bound_over};
 ghost use Rattle.parser_expressions.specs.Joints.{joint_kind};
 
@@ -14,7 +15,7 @@ use crate::ranges::BoundName;
 use case_tables::{Symbol, Word};
 use std::alloc::{AllocError, Global};
 use unity_base::{Held, Seq};
-use unity_syntax::{Expr, Name};
+use unity_syntax::{Expr, Name, Operator};
 
 /// `left "=>" right`
 pub fn implies(
@@ -123,10 +124,10 @@ fn long_product(
     alloc: Global,
     at: u64,
     first: Held<Expr>,
-    rest: Seq<Expr>,
+    rest: Seq<(Operator, Expr)>,
 ) -> Result<Held<Expr>, AllocError>
-    ensures { IfOk result (λ x.
-        view_expr x ≡ node (kind Kind.expr_product) at (pair (view_expr first) (view_list view_expr rest))) }
+    ensures { IfOk result (λ x. view_expr x
+        ≡ node (kind Kind.expr_product) at (pair (view_expr first) (view_list (view_factor view_expr) rest))) }
 {
     Held::new(alloc, Expr::Product { at, first, rest })
 }
@@ -136,9 +137,10 @@ pub fn product(
     alloc: Global,
     at: u64,
     first: Held<Expr>,
-    rest: Seq<Expr>,
+    rest: Seq<(Operator, Expr)>,
 ) -> Result<Held<Expr>, AllocError>
-    ensures { IfOk result (λ x. view_expr x ≡ make_product at (pair (view_expr first) (view_list view_expr rest))) }
+    ensures { IfOk result (λ x.
+        view_expr x ≡ make_product at (pair (view_expr first) (view_list (view_factor view_expr) rest))) }
 {
     match rest.as_slice() {
         [] => Ok(first),

@@ -31,10 +31,19 @@ const PAIR_RULES: &[Word] = &[
     Word::Simpledisj,
     Word::Cancel,
     Word::Union,
+    Word::Until,
+    Word::Detects,
+    Word::Constant,
 ];
 
 /// The words that stand between two predicates.
-const BETWEEN: &[Word] = &[Word::Unless, Word::Ensures, Word::Leadsto];
+const BETWEEN: &[Word] = &[
+    Word::Unless,
+    Word::Ensures,
+    Word::Leadsto,
+    Word::Until,
+    Word::Detects,
+];
 
 /// Whether a rule of two references begins here.
 fn begins_pair_rule(text: Cursor) -> bool
@@ -43,17 +52,19 @@ fn begins_pair_rule(text: Cursor) -> bool
     text.begins_one_reserved(PAIR_RULES)
 }
 
-/// `pairrule = "conj" | "simpleconj" | "disj" | "simpledisj" | "cancel" | "union"`
+/// `pairrule = "conj" | "simpleconj" | "disj" | "simpledisj" | "cancel" | "union"
+///           | "until" | "detects" | "constant"`
 fn pair_rule_word<'a>(text: Cursor<'a>) -> Parsed<'a, Word>
     ensures { Reads (λ x. choice (reserved x)) result pairrule_ 0 text.entry }
 {
     text.one_reserved(PAIR_RULES)
 }
 
-/// `"unless" | "ensures" | "leadsto"`
+/// `"unless" | "ensures" | "leadsto" | "until" | "detects"`
 fn between_word<'a>(text: Cursor<'a>) -> Parsed<'a, Word>
     ensures { Reads (λ x. choice (reserved x)) result
-        (one_of (map reserved (Word.Unless ∷ Word.Ensures ∷ Word.Leadsto ∷ []))) 0 text.entry }
+        (one_of (map reserved (Word.Unless ∷ Word.Ensures ∷ Word.Leadsto ∷ Word.Until ∷ Word.Detects ∷ [])))
+        0 text.entry }
 {
     text.one_reserved(BETWEEN)
 }
@@ -166,11 +177,35 @@ fn stable_claim<'a>(alloc: Global, depth: u32, text: Cursor<'a>) -> Parsed<'a, C
     Ok((Claim::Stable { at, of }, text))
 }
 
-/// `pred ( "unless" | "ensures" | "leadsto" ) pred`
+/// `"constant" pred`
+fn constant_claim<'a>(alloc: Global, depth: u32, text: Cursor<'a>) -> Parsed<'a, Claim>
+    ensures { Reads view_claim result
+        (made Kind.claim_constant (past (reserved Word.Constant) pred_)) depth text.entry }
+{
+    let at = text.place();
+    let text = text.reserved(Word::Constant)?;
+    let (of, text) = pred(alloc, depth, text)?;
+    let of = of.into_inner();
+    Ok((Claim::Constant { at, of }, text))
+}
+
+/// `"fixed" pred`
+fn fixed_claim<'a>(alloc: Global, depth: u32, text: Cursor<'a>) -> Parsed<'a, Claim>
+    ensures { Reads view_claim result (made Kind.claim_fixed (past (reserved Word.Fixed) pred_)) depth text.entry }
+{
+    let at = text.place();
+    let text = text.reserved(Word::Fixed)?;
+    let (of, text) = pred(alloc, depth, text)?;
+    let of = of.into_inner();
+    Ok((Claim::Fixed { at, of }, text))
+}
+
+/// `pred ( "unless" | "ensures" | "leadsto" | "until" | "detects" ) pred`
 fn between_claim<'a>(alloc: Global, depth: u32, text: Cursor<'a>) -> Parsed<'a, Claim>
     ensures { Reads view_claim result
         (made Kind.claim_between
-        (both pred_ (both (one_of (map reserved (Word.Unless ∷ Word.Ensures ∷ Word.Leadsto ∷ []))) pred_)))
+        (both pred_ (both (one_of (map reserved
+        (Word.Unless ∷ Word.Ensures ∷ Word.Leadsto ∷ Word.Until ∷ Word.Detects ∷ []))) pred_)))
         depth text.entry }
 {
     let at = text.place();
@@ -186,8 +221,8 @@ fn between_claim<'a>(alloc: Global, depth: u32, text: Cursor<'a>) -> Parsed<'a, 
     Ok((claim, text))
 }
 
-/// `claim = "defined" | "invariant" pred | "stable" pred
-///        | pred ( "unless" | "ensures" | "leadsto" ) pred`
+/// `claim = "defined" | "invariant" pred | "stable" pred | "constant" pred | "fixed" pred
+///        | pred ( "unless" | "ensures" | "leadsto" | "until" | "detects" ) pred`
 #[tactic(auto, unfolding(unity_syntax::specs::Grammar::claim_))]
 fn claim<'a>(alloc: Global, depth: u32, text: Cursor<'a>) -> Parsed<'a, Claim>
     ensures { Reads view_claim result claim_ depth text.entry }
@@ -200,6 +235,12 @@ fn claim<'a>(alloc: Global, depth: u32, text: Cursor<'a>) -> Parsed<'a, Claim>
     }
     if text.begins_reserved(Word::Stable) {
         return stable_claim(alloc, depth, text);
+    }
+    if text.begins_reserved(Word::Constant) {
+        return constant_claim(alloc, depth, text);
+    }
+    if text.begins_reserved(Word::Fixed) {
+        return fixed_claim(alloc, depth, text);
     }
     between_claim(alloc, depth, text)
 }
@@ -261,6 +302,39 @@ fn pair_rule<'a>(alloc: Global, depth: u32, text: Cursor<'a>) -> Parsed<'a, Rule
     Ok((rule, text))
 }
 
+/// `"superpose" ref`
+fn superpose_rule<'a>(alloc: Global, depth: u32, text: Cursor<'a>) -> Parsed<'a, Rule>
+    ensures { Reads view_rule result
+        (made Kind.rule_superpose (past (reserved Word.Superpose) ref_)) depth text.entry }
+{
+    let at = text.place();
+    let text = text.reserved(Word::Superpose)?;
+    let (of, text) = reference(alloc, depth, text)?;
+    Ok((Rule::Superpose { at, of }, text))
+}
+
+/// `"complete" ref ref ref ref`
+fn complete_rule<'a>(alloc: Global, depth: u32, text: Cursor<'a>) -> Parsed<'a, Rule>
+    ensures { Reads view_rule result
+        (made Kind.rule_complete (past (reserved Word.Complete) (both ref_ (both ref_ (both ref_ ref_)))))
+        depth text.entry }
+{
+    let at = text.place();
+    let text = text.reserved(Word::Complete)?;
+    let (first, text) = reference(alloc, depth, text)?;
+    let (second, text) = reference(alloc, depth, text)?;
+    let (third, text) = reference(alloc, depth, text)?;
+    let (fourth, text) = reference(alloc, depth, text)?;
+    let rule = Rule::Complete {
+        at,
+        first,
+        second,
+        third,
+        fourth,
+    };
+    Ok((rule, text))
+}
+
 /// A term that does not begin with `weaken`.
 fn term_rule<'a>(alloc: Global, depth: u32, text: Cursor<'a>) -> Parsed<'a, Rule>
     ensures { Reads view_rule result (made Kind.rule_term other_term_) depth text.entry }
@@ -271,7 +345,8 @@ fn term_rule<'a>(alloc: Global, depth: u32, text: Cursor<'a>) -> Parsed<'a, Rule
     Ok((Rule::Term { at, of }, text))
 }
 
-/// `rule = "text" [ "with" inst ] | "weaken" ref | pairrule ref ref | term`
+/// `rule = "text" [ "with" inst ] | "weaken" ref | pairrule ref ref | "superpose" ref
+///       | "complete" ref ref ref ref | term`
 #[tactic(auto, unfolding(unity_syntax::specs::Grammar::rule_))]
 fn rule<'a>(alloc: Global, depth: u32, text: Cursor<'a>) -> Parsed<'a, Rule>
     ensures { Reads view_rule result rule_ depth text.entry }
@@ -284,6 +359,12 @@ fn rule<'a>(alloc: Global, depth: u32, text: Cursor<'a>) -> Parsed<'a, Rule>
     }
     if begins_pair_rule(text) {
         return pair_rule(alloc, depth, text);
+    }
+    if text.begins_reserved(Word::Superpose) {
+        return superpose_rule(alloc, depth, text);
+    }
+    if text.begins_reserved(Word::Complete) {
+        return complete_rule(alloc, depth, text);
     }
     term_rule(alloc, depth, text)
 }

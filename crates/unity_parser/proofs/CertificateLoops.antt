@@ -1,5 +1,6 @@
 -- The loops over a certificate's nodes, and over the certificates.
-use Rattle.std.proofs.Common.{◌≡◌, ℕ, suc, true, false, List, [], ◌∷◌, ◌++◌, map, length, refl, sym, ◌∙◌, ap, subst}
+use Rattle.std.proofs.Common.{◌≡◌, ℕ, suc, Bool, true, false, List, [], ◌∷◌, ◌++◌, map, length, refl, sym, ◌∙◌, ap}
+use Rattle.std.proofs.Common.{subst}
 use Rattle.std.proofs.Common.{arith, ◌+◌, ◌<◌, ◌≤◌, Ok, Err, append-nil}
 use Rattle.grammar_theory.specs.Ebnf.{Terminal, Tree, more, numbered, numbered_item, prefix_tree, prefix_trees, Ebnf}
 use Rattle.grammar_theory.specs.Ebnf.{Derives}
@@ -28,12 +29,12 @@ map_more view [] x = refl
 map_more view (y ∷ ys) x = ap (λ v. view y ∷ v) (map_more view ys x)
 
 -- as many as the tokens
-count_terminals : (bytes : List ℕ) (ts : List Token) → count (map (terminal bytes) ts) ≡ length ts
-count_terminals bytes [] = refl
-count_terminals bytes (t ∷ ts) = ap suc (count_terminals bytes ts)
+count_terminals : (later : Bool) (bytes : List ℕ) (ts : List Token) → count (map (terminal later bytes) ts) ≡ length ts
+count_terminals later bytes [] = refl
+count_terminals later bytes (t ∷ ts) = ap suc (count_terminals later bytes ts)
 
 pub count_left : (text : Cursor) → count (remaining text) ≡ length text.tokens.now
-count_left text = count_terminals text.bytes.now text.tokens.now
+count_left text = count_terminals text.later text.bytes.now text.tokens.now
 
 -- The nodes so far, at the rest, where so many trees are missing.
 abbrev pub Nodes : ℕ → ℕ → List Terminal → List Node → ℕ → List Terminal → Type 0
@@ -77,6 +78,8 @@ subtrees_few (Node.Case at number) = omega arith
 subtrees_few (Node.Split at variable minus bound) = omega arith
 subtrees_few (Node.Sum at pairs) = omega arith
 subtrees_few (Node.Round at minus divisor pairs) = omega arith
+subtrees_few (Node.Quot at number) = omega arith
+subtrees_few (Node.Share at minus constant pairs) = omega arith
 
 no_more_missing : (n : ℕ) (r : Read Tree)
     → and_then_by (λ x. read grammar n (prefix_trees (missing subtrees 1 x) subtrees node_)) more r ≡ and_then_by

@@ -1,15 +1,17 @@
 -- From the tokens of a document to those of its parts, and back with another section.
-use Rattle.std.proofs.Common.{◌≡◌, ℕ, List, [], ◌∷◌, ◌++◌, ◌⊎◌, inl, inr, Option, Some, None, refl, sym, ap, ◌∙◌}
+use Rattle.std.proofs.Common.{◌≡◌, ℕ, Bool, List, [], ◌∷◌, ◌++◌, ◌⊎◌, inl, inr, Option, Some, None, refl, sym, ap, ◌∙◌}
 use Rattle.std.proofs.Common.{subst, append_assoc}
 use Rattle.std.specs.Prelude.{IsTrue}
 use Rattle.case_tables.specs.declared.word_table.Word.{Word}
-use Rattle.grammar_theory.specs.Ebnf.{Terminal, Tree, pair, none, some, node, Ebnf, token, both, maybe, named, Grammar}
+use Rattle.grammar_theory.specs.Ebnf.{Terminal, Tree, pair, none, some, node, Ebnf, token, version, both, maybe, named}
+use Rattle.grammar_theory.specs.Ebnf.{Grammar}
 use Rattle.grammar_theory.specs.Ebnf.{has}
-use Rattle.grammar_theory.specs.Ebnf.{place_of, Derives, is_token, is_both, is_none, is_some, is_named}
+use Rattle.grammar_theory.specs.Ebnf.{place_of, Derives, is_token, is_version, is_both, is_none, is_some, is_named}
 use Rattle.grammar_theory.proofs.Classes.{has_one}
+use Rattle.unity_syntax.specs.declared.token.Token.{Token}
 use Rattle.unity_syntax.specs.declared.certificate.Certificates.{Certificates}
 use Rattle.unity_syntax.specs.declared.document.Document.{Document}
-use Rattle.unity_syntax.specs.Classes.{reserved}
+use Rattle.unity_syntax.specs.Classes.{reserved, terminals, says_later}
 use Rattle.unity_syntax.specs.Kinds.{Kind, kind}
 use Rattle.unity_syntax.specs.Grammar.{grammar, document_, certificates_, second}
 use Rattle.unity_syntax.specs.View.{view, view_option, view_certificates}
@@ -55,6 +57,10 @@ of_maybe : {G : Grammar} {a : Ebnf} {z : Tree} {ts : List Terminal} → Derives 
     ((none ≡ z) × (ts ≡ [])) ⊎ ((y : Tree) × Derives G a y ts × (some y ≡ z))
 of_maybe is_none = inl (refl, refl)
 of_maybe (is_some {x = x} d) = inr (x, d, refl)
+
+of_version : {G : Grammar} {c : ℕ} {vs : List ℕ} {z : Tree} {ts : List Terminal} → Derives G (version c vs) z ts →
+    (t : Terminal) × (ts ≡ t ∷ [])
+of_version (is_version {t = t} h q) = (t, refl)
 
 of_token : {G : Grammar} {cs : List ℕ} {keep : Terminal → Tree} {z : Tree} {ts : List Terminal} →
     Derives G (token cs keep) z ts → (t : Terminal) × IsTrue (has cs t.class) × (ts ≡ t ∷ [])
@@ -115,11 +121,23 @@ abbrev section_in : Tree → Tree
 section_in (node k p (pair x (pair y (pair z w)))) = w
 section_in x = x
 
+-- two tokens at least: the word `unity` and the number of the version
+abbrev pub BeginsWithTwo : List Terminal → Type 0
+BeginsWithTwo ts = (t : Terminal) × (u : Terminal) × (rest : List Terminal) × (ts ≡ t ∷ u ∷ rest)
+
+-- they alone say the version, whatever follows
+pub says_first : (later : Bool) (bytes : List ℕ) (front more : List Token) (ts : List Terminal) →
+    terminals later bytes front ≡ ts → BeginsWithTwo ts → says_later (front ++ more) ≡ says_later front
+says_first later bytes [] more ts e two = let q = two.3 in absurd (cc (e, q))
+says_first later bytes (f ∷ []) more ts e two = let q = two.3 in absurd (cc (e, q))
+says_first later bytes (f ∷ g ∷ fs) more ts e two = refl
+
 -- the tokens that stay, and how another section's tokens go on
 pub record Parts (d : Document) (ts : List Terminal) : Type 0 where
   pub front : List Terminal
   pub after : List Terminal
   pub split : ts ≡ front ++ after
+  pub begins : BeginsWithTwo front
   pub after_is : After d.certificates after
   pub put : (s : Certificates) (us : List Terminal) → Derives grammar certificates_ (view_certificates s) us →
       Derives grammar document_ (view (record d { certificates = Some s })) (front ++ us)
@@ -134,6 +152,7 @@ parts_of d ts h =
     let parts = of_both version.later in
     let last = of_both parts.later in
     let first = of_token past.earlier in
+    let number = of_version (of_named version.earlier).derives in
     let rest : past.other ≡ pair version.one (pair parts.one (pair last.one last.other)) =
     sym (ap (λ x. pair version.one (pair parts.one x)) last.is ∙ ap (λ x. pair version.one x) parts.is ∙ version.is) in
     let inner : past.other ≡ whole.tree = ap (λ x. second content.place x) past.is ∙ content.is in
@@ -146,6 +165,13 @@ parts_of d ts h =
       front = past.front ++ (version.front ++ (parts.front ++ last.front));
       after = last.more;
       split = tokens ∙ sym (four past.front version.front parts.front last.front last.more);
+      begins = (
+        first.0,
+        number.0,
+        parts.front ++ last.front,
+        ap (λ x. x ++ (version.front ++ (parts.front ++ last.front))) first.2
+            ∙ ap (λ x. first.0 ∷ (x ++ (parts.front ++ last.front))) number.1,
+      );
       after_is = after_is d.certificates last.other last.more last.later (ap section_in there);
       put = λ s us new.
           let kept : List Terminal = version.front ++ (parts.front ++ (last.front ++ us)) in

@@ -10,7 +10,7 @@ use Rattle.grammar_theory.proofs.Theorems.{exact}
 use Rattle.unity_syntax.specs.declared.token.Token.{Token}
 use Rattle.unity_syntax.specs.declared.fault.SyntaxFault.{SyntaxFault}
 use Rattle.unity_syntax.specs.declared.document.Document.{Document}
-use Rattle.unity_syntax.specs.Classes.{terminals}
+use Rattle.unity_syntax.specs.Classes.{terminals, says_later}
 use Rattle.unity_syntax.specs.Grammar.{grammar, document_}
 use Rattle.unity_syntax.specs.View.{view}
 use Rattle.unity_syntax.proofs.LookAhead.{grammar_is, document_is}
@@ -30,7 +30,7 @@ by_answer : (bytes : List ℕ) (ts : List Token) → IsTokens bytes ts → (answ
     answer →
     ((d : Document) × IsDocument bytes d) ⊎ ((code : Code) × (at : ℕ) × IsFault bytes code at)
 by_answer bytes ts l (Ok x) e =
-    let v = each_tree_ x (terminals bytes ts) e.0 in
+    let v = each_tree_ x (terminals (says_later ts) bytes ts) e.0 in
     inl (v.of, record { tokens = ts; lexed = l; parsed = subst (λ y. IsExactAnswer bytes ts (Ok y)) (sym v.same) e })
 by_answer bytes ts l (Err f) e =
     inr (
@@ -42,8 +42,8 @@ by_answer bytes ts l (Err f) e =
 
 by_tokens : (bytes : List ℕ) (reading : Result (List Token) (Code × ℕ)) → IsReading bytes reading →
     ((d : Document) × IsDocument bytes d) ⊎ ((code : Code) × (at : ℕ) × IsFault bytes code at)
-by_tokens bytes (Ok ts) l = by_answer bytes ts l (read_whole grammar 200 document_ (terminals bytes ts))
-    (exact grammar grammar_is document_ document_is 200 (terminals bytes ts))
+by_tokens bytes (Ok ts) l = by_answer bytes ts l (read_whole grammar 200 document_ (terminals (says_later ts) bytes ts))
+    (exact grammar grammar_is document_ document_is 200 (terminals (says_later ts) bytes ts))
 by_tokens bytes (Err (code, at)) l = inr (code, at, no_token l)
 
 pub some_reading : SomeReading
@@ -53,7 +53,7 @@ some_reading bytes = let r = some_tokens bytes in by_tokens bytes r.0 r.1
 read_once : (bytes : List ℕ) (ts us : List Token) → IsTokens bytes ts → IsTokens bytes us → (a b : Result Tree Fault) →
     IsExactAnswer bytes ts a → IsExactAnswer bytes us b → a ≡ b
 read_once bytes ts us l m a b r s =
-    one_answer grammar document_ (terminals bytes ts) grammar_is document_is 200 a b r
+    one_answer grammar document_ (terminals (says_later ts) bytes ts) grammar_is document_is 200 a b r
     (subst (λ xs. IsExactAnswer bytes xs b) (IsTokens-unique bytes us ts m l) s)
 
 pub one_document : OneDocument

@@ -1,5 +1,5 @@
 -- Sections that are read one certificate after the other, and the documents that they end.
-use Rattle.std.proofs.Common.{◌≡◌, ℕ, suc, ◌+◌, ◌<◌, ◌≤◌, true, false, List, [], ◌∷◌, ◌++◌, length, drop}
+use Rattle.std.proofs.Common.{◌≡◌, ℕ, suc, ◌+◌, ◌<◌, ◌≤◌, Bool, true, false, List, [], ◌∷◌, ◌++◌, length, drop}
 use Rattle.std.proofs.Common.{Some, None, ◌==◌, refl, sym, ap, ◌∙◌, subst, append_assoc, append-nil, arith}
 use Rattle.std.proofs.lemmas.Bool.{eqb-true}
 use Rattle.std.proofs.lemmas.List.{map-append}
@@ -15,7 +15,7 @@ use Rattle.unity_syntax.specs.declared.token.TokenKind.{TokenKind}
 use Rattle.unity_syntax.specs.declared.certificate.CertText.{CertText}
 use Rattle.unity_syntax.specs.declared.certificate.Certificates.{Certificates}
 use Rattle.unity_syntax.specs.declared.document.Document.{Document}
-use Rattle.unity_syntax.specs.Classes.{number_class, reserved, terminal, terminals, class_of}
+use Rattle.unity_syntax.specs.Classes.{number_class, reserved, terminal, terminals, says_later, class_of}
 use Rattle.unity_syntax.specs.Grammar.{grammar, certificate_, certificates_, document_}
 use Rattle.unity_syntax.specs.View.{view, view_certificate, view_certificates, view_list}
 use Rattle.unity_syntax.proofs.Productions.{all_productions}
@@ -24,9 +24,9 @@ use Rattle.unity_lexer.proofs.SomeAnswer.{IsTokens-in_order}
 use Rattle.unity_parser.specs.ParseAnswers.{IsDocumentOf, WordsRise, most_brackets}
 use Rattle.unity_parser.specs.Document.{IsDocument}
 use Rattle.unity_parser.specs.Sections.{IsItem, IsEnd, AreItems, IsSection}
-use Rattle.unity_parser.proofs.NoBrackets.{are_not, none_over_front, section_avoids}
+use Rattle.unity_parser.proofs.NoBrackets.{none_over_front, section_opens_none}
 use Rattle.unity_parser.proofs.Parsed.{words_stand}
-use Rattle.unity_parser.proofs.Parts.{After, Parts, parts_of}
+use Rattle.unity_parser.proofs.Parts.{After, Parts, parts_of, says_first}
 
 -- what is read up to a place, and what is read from there on
 reads_then : {at mid end : ℕ} {text from rest : List ℕ} {first second : List Token} →
@@ -35,9 +35,9 @@ reads_then nothing later = later
 reads_then (gap piece after cut is_gap reads) later = gap piece after cut is_gap (reads_then reads later)
 reads_then (token run after k long spells reads) later = token run after k long spells (reads_then reads later)
 
-terminals_join : (bytes : List ℕ) (ts us : List Token) → terminals bytes (ts ++ us) ≡ terminals bytes ts ++ terminals
-    bytes us
-terminals_join bytes ts us = map-append (terminal bytes) ts us
+terminals_join : (later : Bool) (bytes : List ℕ) (ts us : List Token) → terminals later bytes (ts ++ us) ≡
+    terminals later bytes ts ++ terminals later bytes us
+terminals_join later bytes ts us = map-append (terminal later bytes) ts us
 
 -- nothing is left
 pub none_left : {A : Type 0} (xs : List A) → (length xs == 0) ≡ true → xs ≡ []
@@ -45,28 +45,29 @@ none_left [] h = refl
 none_left (x ∷ xs) h = let e = eqb-true (suc (length xs)) 0 h in absurd (omega (arith, e))
 
 -- a certificate has a token
-has_token : (bytes : List ℕ) (number : ℕ) (x : Tree) (ts : List Token) →
-    Derives grammar (numbered_item number number_class certificate_) x (terminals bytes ts) → 0 < length ts
-has_token bytes number x [] d = let h : false ≡ true = starts d in absurd cc
-has_token bytes number x (t ∷ ts) d = omega arith
+has_token : (later : Bool) (bytes : List ℕ) (number : ℕ) (x : Tree) (ts : List Token) →
+    Derives grammar (numbered_item number number_class certificate_) x (terminals later bytes ts) → 0 < length ts
+has_token later bytes number x [] d = let h : false ≡ true = starts d in absurd cc
+has_token later bytes number x (t ∷ ts) d = omega arith
 
 -- the certificate that all tokens of a part are
-pub item_of : (bytes : List ℕ) (number from : ℕ) (x : CertText) (end : ℕ) (tokens : List Token) →
+pub item_of : (later : Bool) (bytes : List ℕ) (number from : ℕ) (x : CertText) (end : ℕ) (tokens : List Token) →
     IsPartRead from bytes tokens end →
-    Derives grammar (numbered_item number number_class certificate_) (view_certificate x) (terminals bytes tokens) →
-    IsItem bytes number from x end
-item_of bytes number from x end tokens part d = record {
+    Derives grammar (numbered_item number number_class certificate_) (view_certificate x)
+    (terminals later bytes tokens) → IsItem later bytes number from x end
+item_of later bytes number from x end tokens part d = record {
   tokens = tokens;
   reads = part.reads;
   derives = d;
-  longer = let h = has_token bytes number (view_certificate x) tokens d in let s = part.size in omega arith;
+  longer = let h = has_token later bytes number (view_certificate x) tokens d in let s = part.size in omega arith;
   within = part.within;
 }
 
 -- the end of a section that all tokens of a part are
-pub end_of : (bytes : List ℕ) (from end : ℕ) (tokens : List Token) → IsPartRead from bytes tokens end →
-    end ≡ length bytes → Derives grammar (fixed (reserved Word.End)) unit (terminals bytes tokens) → IsEnd bytes from
-end_of bytes from end tokens part at_end d = record {
+pub end_of : (later : Bool) (bytes : List ℕ) (from end : ℕ) (tokens : List Token) → IsPartRead from bytes tokens end →
+    end ≡ length bytes → Derives grammar (fixed (reserved Word.End)) unit (terminals later bytes tokens) →
+    IsEnd later bytes from
+end_of later bytes from end tokens part at_end d = record {
   tokens = tokens;
   reads = subst (λ n. Tokenizes from (drop from bytes) tokens n []) at_end
       (subst (λ rest. Tokenizes from (drop from bytes) tokens end rest) (drop_to_end end bytes at_end) part.reads);
@@ -81,8 +82,8 @@ end_of bytes from end tokens part at_end d = record {
     drop_to_end end bytes e = ap (λ n. drop n bytes) e ∙ drop_length bytes
 
 -- no certificate yet
-pub no_items : (bytes : List ℕ) (from : ℕ) → from ≤ length bytes → AreItems bytes from [] 1 from
-no_items bytes from h = record {
+pub no_items : (later : Bool) (bytes : List ℕ) (from : ℕ) → from ≤ length bytes → AreItems later bytes from [] 1 from
+no_items later bytes from h = record {
   tokens = [];
   reads = nothing;
   derives = λ rest us d. d;
@@ -91,28 +92,28 @@ no_items bytes from h = record {
 }
 
 -- one certificate more
-pub more_items : (bytes : List ℕ) (from : ℕ) (items : List CertText) (number begin : ℕ) →
-    AreItems bytes from items number begin → (x : CertText) (end : ℕ) → IsItem bytes number begin x end →
-    (next : List CertText) → next ≡ items ++ x ∷ [] → AreItems bytes from next (number + 1) end
-more_items bytes from items number begin are x end is next e = record {
+pub more_items : (later : Bool) (bytes : List ℕ) (from : ℕ) (items : List CertText) (number begin : ℕ) →
+    AreItems later bytes from items number begin → (x : CertText) (end : ℕ) → IsItem later bytes number begin x end →
+    (next : List CertText) → next ≡ items ++ x ∷ [] → AreItems later bytes from next (number + 1) end
+more_items later bytes from items number begin are x end is next e = record {
   tokens = are.tokens ++ is.tokens;
   reads = reads_then are.reads is.reads;
   derives = λ rest us d.
       let one : Derives grammar (numbered number number_class certificate_)
-      (view_list view_certificate (x ∷ rest)) (terminals bytes is.tokens ++ us) =
+      (view_list view_certificate (x ∷ rest)) (terminals later bytes is.tokens ++ us) =
       is_next_number is.derives (subst (λ n. Derives grammar (numbered n number_class certificate_)
       (view_list view_certificate rest) us) (add_one number) d) refl in
-      let all = are.derives (x ∷ rest) (terminals bytes is.tokens ++ us) one in
+      let all = are.derives (x ∷ rest) (terminals later bytes is.tokens ++ us) one in
       let list_is : items ++ x ∷ rest ≡ next ++ rest =
       sym (append_assoc items (x ∷ []) rest) ∙ ap (λ xs. xs ++ rest) (sym e) in
-      let tokens_are : terminals bytes are.tokens ++ (terminals bytes is.tokens ++ us)
-      ≡ terminals bytes (are.tokens ++ is.tokens) ++ us =
-      sym (append_assoc (terminals bytes are.tokens) (terminals bytes is.tokens) us)
-      ∙ ap (λ ts. ts ++ us) (sym (terminals_join bytes are.tokens is.tokens)) in
+      let tokens_are : terminals later bytes are.tokens ++ (terminals later bytes is.tokens ++ us)
+      ≡ terminals later bytes (are.tokens ++ is.tokens) ++ us =
+      sym (append_assoc (terminals later bytes are.tokens) (terminals later bytes is.tokens) us)
+      ∙ ap (λ ts. ts ++ us) (sym (terminals_join later bytes are.tokens is.tokens)) in
       subst (λ ts. Derives grammar (numbered 1 number_class certificate_) (view_list view_certificate (next ++ rest))
       ts)
       tokens_are (subst (λ xs. Derives grammar (numbered 1 number_class certificate_) (view_list view_certificate xs)
-      (terminals bytes are.tokens ++ (terminals bytes is.tokens ++ us))) list_is all);
+      (terminals later bytes are.tokens ++ (terminals later bytes is.tokens ++ us))) list_is all);
   few = let f = are.few in let l = is.longer in omega arith;
   within = is.within;
 }
@@ -134,24 +135,24 @@ section_derived c t us vs class place items end =
     (has_itself (reserved Word.Certificates) (reserved Word.Certificates) refl)))
     (is_named (is_both items end refl) refl) refl) refl) (sym place)
 
-pub whole_section : (bytes : List ℕ) (from : ℕ) (items : List CertText) (number begin : ℕ) →
-    AreItems bytes from items number begin → IsEnd bytes begin → (at : ℕ) →
-    IsSection bytes from (record { at = at; items = items })
-whole_section bytes from items number begin are end at = record {
+pub whole_section : (later : Bool) (bytes : List ℕ) (from : ℕ) (items : List CertText) (number begin : ℕ) →
+    AreItems later bytes from items number begin → IsEnd later bytes begin → (at : ℕ) →
+    IsSection later bytes from (record { at = at; items = items })
+whole_section later bytes from items number begin are end at = record {
   tokens = are.tokens ++ end.tokens;
   reads = reads_then are.reads end.reads;
   derives = λ t class place.
       let listed : Derives grammar (numbered 1 number_class certificate_) (view_list view_certificate items)
-      (terminals bytes are.tokens) =
+      (terminals later bytes are.tokens) =
       subst (λ xs. Derives grammar (numbered 1 number_class certificate_) (view_list view_certificate xs)
-      (terminals bytes are.tokens)) (append-nil items)
+      (terminals later bytes are.tokens)) (append-nil items)
       (subst (λ ts. Derives grammar (numbered 1 number_class certificate_) (view_list view_certificate (items ++ []))
       ts)
-      (append-nil (terminals bytes are.tokens)) (are.derives [] [] is_no_number)) in
+      (append-nil (terminals later bytes are.tokens)) (are.derives [] [] is_no_number)) in
       subst (λ ts. Derives grammar certificates_ (view_certificates (record { at = at; items = items })) (t ∷ ts))
-      (sym (terminals_join bytes are.tokens end.tokens))
-      (section_derived (record { at = at; items = items }) t (terminals bytes are.tokens) (terminals bytes end.tokens)
-      class place listed end.derives);
+      (sym (terminals_join later bytes are.tokens end.tokens))
+      (section_derived (record { at = at; items = items }) t (terminals later bytes are.tokens)
+      (terminals later bytes end.tokens) class place listed end.derives);
 }
 
 -- nothing follows the parts of a document without certificates
@@ -163,17 +164,24 @@ front_is_all d ts parts none =
 -- a document without certificates, and then a section of them
 pub document_with : (bytes : List ℕ) (front : List Token) (word : Token) (end : ℕ) (d : Document) (c : Certificates) →
     IsPartRead 0 bytes (front ++ word ∷ []) end → IsDocumentOf bytes front d → d.certificates ≡ None →
-    word.kind ≡ TokenKind.Reserved Word.Certificates → c.at ≡ word.start → IsSection bytes end c →
+    word.kind ≡ TokenKind.Reserved Word.Certificates → c.at ≡ word.start → IsSection (says_later front) bytes end c →
     IsDocument bytes (record d { certificates = Some c })
 document_with bytes front word end d c part parsed none kind at s =
-    let ts : List Terminal = terminals bytes front in
+    let later : Bool = says_later front in
+    let ts : List Terminal = terminals later bytes front in
     let parts : Parts d ts = parts_of d ts parsed.0 in
-    let us : List Terminal = terminal bytes word ∷ terminals bytes s.tokens in
+    let us : List Terminal = terminal later bytes word ∷ terminals later bytes s.tokens in
     let new : Derives grammar certificates_ (view_certificates c) us =
-    s.derives (terminal bytes word) (ap class_of kind) (sym at) in
-    let seen : terminals bytes ((front ++ word ∷ []) ++ s.tokens) ≡ parts.front ++ us =
-    ap (terminals bytes) (append_assoc front (word ∷ []) s.tokens) ∙ terminals_join bytes front (word ∷ s.tokens)
-    ∙ ap (λ ts. ts ++ us) (front_is_all d ts parts none) in
+    s.derives (terminal later bytes word) (ap (class_of later) kind) (sym at) in
+    let all : List Token = (front ++ word ∷ []) ++ s.tokens in
+    let joined : terminals later bytes all ≡ parts.front ++ us =
+    ap (terminals later bytes) (append_assoc front (word ∷ []) s.tokens)
+    ∙ terminals_join later bytes front (word ∷ s.tokens) ∙ ap (λ ts. ts ++ us) (front_is_all d ts parts none) in
+    let said : says_later all ≡ later =
+    ap says_later (append_assoc front (word ∷ []) s.tokens)
+    ∙ says_first later bytes front (word ∷ s.tokens) parts.front (front_is_all d ts parts none) parts.begins in
+    let seen : terminals (says_later all) bytes all ≡ parts.front ++ us = ap (λ l. terminals l bytes all) said ∙ joined
+    in
     record {
       tokens = (front ++ word ∷ []) ++ s.tokens;
       lexed = reads_then part.reads s.reads;
@@ -181,7 +189,7 @@ document_with bytes front word end d c part parsed none kind at s =
         subst (λ ts. Derives grammar document_ (view (record d { certificates = Some c })) ts) (sym seen)
             (parts.put c us new),
         ap (overfull grammar most_brackets) seen
-            ∙ none_over_front grammar parts.front parts.after us (are_not grammar.opening new section_avoids)
+            ∙ none_over_front grammar parts.front parts.after us (section_opens_none new)
             most_brackets (sym (ap (overfull grammar most_brackets) parts.split) ∙ parsed.1),
       );
     }

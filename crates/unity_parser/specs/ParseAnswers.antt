@@ -8,7 +8,7 @@ use Rattle.grammar_theory.specs.Words.{Word}
 use Rattle.unity_syntax.specs.declared.token.Token.{Token}
 use Rattle.unity_syntax.specs.declared.document.Document.{Document}
 use Rattle.unity_syntax.specs.declared.fault.SyntaxFault.{SyntaxFault}
-use Rattle.unity_syntax.specs.Classes.{terminals}
+use Rattle.unity_syntax.specs.Classes.{terminals, says_later}
 use Rattle.unity_syntax.specs.Grammar.{grammar, document_}
 use Rattle.unity_syntax.specs.View.{view}
 use Rattle.parser_expressions.specs.declared.stop.Stop.{Stop}
@@ -20,7 +20,8 @@ most_brackets = 200
 
 -- The answer for a text of these tokens, as the grammar has it: the tree of a document, or why there is none.
 abbrev pub IsExactAnswer : List ℕ → List Token → Result Tree Fault → Type 0
-IsExactAnswer bytes tokens answer = IsReadAnswer grammar most_brackets document_ (terminals bytes tokens) answer
+IsExactAnswer bytes tokens answer =
+    IsReadAnswer grammar most_brackets document_ (terminals (says_later tokens) bytes tokens) answer
 
 -- The text of these tokens is the document.
 abbrev pub IsDocumentOf : List ℕ → List Token → Document → Type 0

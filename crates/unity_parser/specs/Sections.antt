@@ -1,5 +1,6 @@
--- A text whose certificates are read one after the other, each from its own tokens.
-use Rattle.std.specs.Prelude.{◌≡◌, ℕ, ◌+◌, ◌<◌, ◌≤◌, List, [], ◌∷◌, ◌++◌, length, drop}
+-- A text whose certificates are read one after the other, each from its own tokens. `later` says whether it is of
+-- version 2.
+use Rattle.std.specs.Prelude.{◌≡◌, ℕ, Bool, ◌+◌, ◌<◌, ◌≤◌, List, [], ◌∷◌, ◌++◌, length, drop}
 use Rattle.case_tables.specs.declared.word_table.Word.{Word}
 use Rattle.grammar_theory.specs.Ebnf.{Terminal, unit, fixed, numbered, numbered_item, Derives}
 use Rattle.unity_syntax.specs.declared.token.Token.{Token}
@@ -13,39 +14,39 @@ use Rattle.unity_parser.specs.declared.sections.Next.{Next}
 use Rattle.unity_parser.specs.declared.sections.Next.TheVariants.{Item, End}
 
 -- from one place to another, the text is the certificate of this number
-pub record IsItem (bytes : List ℕ) (number from : ℕ) (x : CertText) (end : ℕ) : Type 0 where
+pub record IsItem (later : Bool) (bytes : List ℕ) (number from : ℕ) (x : CertText) (end : ℕ) : Type 0 where
   pub tokens : List Token
   pub reads : Tokenizes from (drop from bytes) tokens end (drop end bytes)
   pub derives : Derives grammar (numbered_item number number_class certificate_) (view_certificate x)
-      (terminals bytes tokens)
+      (terminals later bytes tokens)
   pub longer : from < end
   pub within : end ≤ length bytes
 
 -- from this place on, the text is the word that ends a section
-pub record IsEnd (bytes : List ℕ) (from : ℕ) : Type 0 where
+pub record IsEnd (later : Bool) (bytes : List ℕ) (from : ℕ) : Type 0 where
   pub tokens : List Token
   pub reads : Tokenizes from (drop from bytes) tokens (length bytes) []
-  pub derives : Derives grammar (fixed (reserved Word.End)) unit (terminals bytes tokens)
+  pub derives : Derives grammar (fixed (reserved Word.End)) unit (terminals later bytes tokens)
 
 -- what follows in a section
-abbrev pub IsNext : List ℕ → ℕ → ℕ → Next → Type 0
-IsNext bytes number from (Item x end) = IsItem bytes number from x end
-IsNext bytes number from End = IsEnd bytes from
+abbrev pub IsNext : Bool → List ℕ → ℕ → ℕ → Next → Type 0
+IsNext later bytes number from (Item x end) = IsItem later bytes number from x end
+IsNext later bytes number from End = IsEnd later bytes from
 
 -- up to this place, the text is these certificates of a section, of which the next one has this number
-pub record AreItems (bytes : List ℕ) (from : ℕ) (items : List CertText) (number begin : ℕ) : Type 0 where
+pub record AreItems (later : Bool) (bytes : List ℕ) (from : ℕ) (items : List CertText) (number begin : ℕ) : Type 0 where
   pub tokens : List Token
   pub reads : Tokenizes from (drop from bytes) tokens begin (drop begin bytes)
   pub derives : (rest : List CertText) (us : List Terminal) →
       Derives grammar (numbered number number_class certificate_) (view_list view_certificate rest) us →
       Derives grammar (numbered 1 number_class certificate_) (view_list view_certificate (items ++ rest))
-      (terminals bytes tokens ++ us)
+      (terminals later bytes tokens ++ us)
   pub few : number ≤ begin + 1
   pub within : begin ≤ length bytes
 
 -- from this place on, the text is the rest of a section behind its first word
-pub record IsSection (bytes : List ℕ) (from : ℕ) (c : Certificates) : Type 0 where
+pub record IsSection (later : Bool) (bytes : List ℕ) (from : ℕ) (c : Certificates) : Type 0 where
   pub tokens : List Token
   pub reads : Tokenizes from (drop from bytes) tokens (length bytes) []
   pub derives : (t : Terminal) → t.class ≡ reserved Word.Certificates → t.place ≡ c.at →
-      Derives grammar certificates_ (view_certificates c) (t ∷ terminals bytes tokens)
+      Derives grammar certificates_ (view_certificates c) (t ∷ terminals later bytes tokens)

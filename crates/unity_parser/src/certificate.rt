@@ -111,8 +111,38 @@ fn round_node<'a>(alloc: Global, depth: u32, text: Cursor<'a>) -> Parsed<'a, Nod
     Ok((node, text))
 }
 
+/// `"quot" number`
+fn quot_node<'a>(text: Cursor<'a>) -> Parsed<'a, Node>
+    ensures { Reads view_node result (made Kind.node_quot (past (reserved Word.Quot) number_)) 0 text.entry }
+{
+    let at = text.place();
+    let text = text.reserved(Word::Quot)?;
+    let (number, text) = text.number()?;
+    Ok((Node::Quot { at, number }, text))
+}
+
+/// `"share" [ "-" ] number { pair }`
+fn share_node<'a>(alloc: Global, depth: u32, text: Cursor<'a>) -> Parsed<'a, Node>
+    ensures { Reads view_node result
+        (made Kind.node_share (past (reserved Word.Share) (both minus_ (both number_ (many multiple_)))))
+        depth text.entry }
+{
+    let at = text.place();
+    let text = text.reserved(Word::Share)?;
+    let (minus, text) = text.minus();
+    let (constant, text) = text.number()?;
+    let (pairs, text) = multiples(alloc, depth, text)?;
+    let node = Node::Share {
+        at,
+        minus,
+        constant,
+        pairs,
+    };
+    Ok((node, text))
+}
+
 /// `node = "case" number | "split" number [ "-" ] number | "sum" { pair }
-///       | "round" [ "-" ] number { pair }`
+///       | "round" [ "-" ] number { pair } | "quot" number | "share" [ "-" ] number { pair }`
 #[tactic(auto, unfolding(unity_syntax::specs::Grammar::node_))]
 fn node<'a>(alloc: Global, depth: u32, text: Cursor<'a>) -> Parsed<'a, Node>
     ensures { Reads view_node result node_ depth text.entry }
@@ -126,7 +156,13 @@ fn node<'a>(alloc: Global, depth: u32, text: Cursor<'a>) -> Parsed<'a, Node>
     if text.begins_reserved(Word::Sum) {
         return sum_node(alloc, depth, text);
     }
-    round_node(alloc, depth, text)
+    if text.begins_reserved(Word::Round) {
+        return round_node(alloc, depth, text);
+    }
+    if text.begins_reserved(Word::Quot) {
+        return quot_node(text);
+    }
+    share_node(alloc, depth, text)
 }
 
 /// How many subtrees follow a node.
@@ -138,6 +174,8 @@ fn subtree_count(node: &Node) -> u128
         Node::Split { .. } => 2,
         Node::Sum { .. } => 0,
         Node::Round { .. } => 1,
+        Node::Quot { .. } => 1,
+        Node::Share { .. } => 2,
     }
 }
 

@@ -22,16 +22,16 @@ use std::alloc::Global;
 use unity_base::{Held, Seq};
 use unity_syntax::{Certificates, Document, Part, Schedule, TokenKind};
 
-/// The number of the version, which has to be 1, and its place.
+/// The number of the version, which has to be 1 or 2, and its place.
 fn version<'a>(text: Cursor<'a>) -> Parsed<'a, (u64, u64)>
     ensures { Reads (λ x. node (kind Kind.version) x.0 (view_number x.1)) result
-        (made Kind.version (version number_class 1)) 0 text.entry }
+        (made Kind.version (version number_class (1 ∷ 2 ∷ []))) 0 text.entry }
 {
     let [first, tokens @ ..] = text.tokens else {
         return Err(Stop::Unexpected(text));
     };
     match first.kind {
-        TokenKind::Number(number) if number == 1 => Ok((
+        TokenKind::Number(number) if number == 1 || number == 2 => Ok((
             (first.start, number),
             Cursor { tokens, ..text },
         )),

@@ -1,4 +1,5 @@
 //! Sections of certificates that are read one certificate after the other, so that the tokens of one alone are kept.
+//! `later` says whether the text is of version 2.
 
 ghost use Rattle.std.specs.Prelude.{◌≡◌, ◌≤◌, length, true, MatchOption};
 ghost use Rattle.case_tables.specs.declared.word_table.Word.{Word};
@@ -25,12 +26,17 @@ pub enum Next {
 }
 
 /// Whether these tokens are the end of a section, with which the text ends.
-fn ends(bytes: &[u8], part: &TokenPart) -> bool
+fn ends(later: bool, bytes: &[u8], part: &TokenPart) -> bool
     ensures { result ≡ true → (part.now.end ≡ length bytes.now)
-        × Derives grammar (fixed (reserved Word.End)) unit (terminals bytes.now part.now.tokens) }
+        × Derives grammar (fixed (reserved Word.End)) unit (terminals later bytes.now part.now.tokens) }
 {
     let tokens = part.tokens.as_slice();
-    match (Cursor { bytes, tokens }).end() {
+    let text = Cursor {
+        bytes,
+        tokens,
+        later,
+    };
+    match text.end() {
         Ok(rest) => rest.tokens.is_empty() && part.end == bytes.len(),
         Err(_) => false,
     }
@@ -38,31 +44,42 @@ fn ends(bytes: &[u8], part: &TokenPart) -> bool
 
 /// What follows in a section from a place on. `None` where it is neither the certificate of this number nor the end,
 /// or memory is refused.
-fn read_next(alloc: Global, bytes: &[u8], number: u64, from: usize) -> Option<Next>
+fn read_next(alloc: Global, later: bool, bytes: &[u8], number: u64, from: usize) -> Option<Next>
     requires { from ≤ length bytes.now }
-    ensures { MatchOption result (Unit {0}) (IsNext bytes.now number from) }
+    ensures { MatchOption result (Unit {0}) (IsNext later bytes.now number from) }
 {
     let last = TokenKind::Symbol(Symbol::Semicolon);
     let part = lex_part(alloc, bytes, from, Some(last)).ok()?;
-    if ends(bytes, &part) {
+    if ends(later, bytes, &part) {
         return Some(Next::End);
     }
     let tokens = part.tokens.as_slice();
-    let item = whole_certificate(alloc, number, Cursor { bytes, tokens })?;
+    let text = Cursor {
+        bytes,
+        tokens,
+        later,
+    };
+    let item = whole_certificate(alloc, number, text)?;
     Some(Next::Item(item, part.end))
 }
 
 /// The section whose first word stands at a place, from behind that word to the end of the text. `None` where the rest
 /// of the text is no such section, or memory is refused.
-pub(crate) fn section(alloc: Global, bytes: &[u8], at: u64, from: usize) -> Option<Certificates>
+pub(crate) fn section(
+    alloc: Global,
+    later: bool,
+    bytes: &[u8],
+    at: u64,
+    from: usize,
+) -> Option<Certificates>
     requires { from ≤ length bytes.now }
-    ensures { MatchOption result (Unit {0}) (λ c. (c.at ≡ at) × IsSection bytes.now from c) }
+    ensures { MatchOption result (Unit {0}) (λ c. (c.at ≡ at) × IsSection later bytes.now from c) }
 {
     let mut items = Seq::new(alloc);
     let mut begin = from;
     let mut number = 1;
     'items: loop {
-        match read_next(alloc, bytes, number, begin)? {
+        match read_next(alloc, later, bytes, number, begin)? {
             Next::Item(item, end) => {
                 items.push(item).ok()?;
                 begin = end;

@@ -6,7 +6,7 @@ ghost use Rattle.unity_lexer.specs.Tokens.{IsTokens, IsPartRead};
 ghost use Rattle.unity_parser.specs.ParseAnswers.{WordsRise};
 ghost use Rattle.unity_parser.specs.Document.{IsDocument, IsTextFault, SomeReading, OneDocument, NoFault, OneFault};
 
-use crate::reading::parse;
+use crate::reading::{parse, says_later};
 use crate::sections::section;
 use case_tables::Word;
 use std::alloc::Global;
@@ -58,7 +58,8 @@ fn by_parts(alloc: Global, bytes: &[u8], front: TokenPart) -> Option<Document>
     if document.certificates.is_some() {
         return None;
     }
-    let section = section(alloc, bytes, word.start, end)?;
+    let later = says_later(tokens.as_slice());
+    let section = section(alloc, later, bytes, word.start, end)?;
     Some(with_section(document, section))
 }
 

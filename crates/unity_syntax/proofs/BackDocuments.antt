@@ -10,6 +10,7 @@ use Rattle.unity_syntax.specs.declared.declaration.Var.{Var}
 use Rattle.unity_syntax.specs.declared.declaration.Def.{Def}
 use Rattle.unity_syntax.specs.declared.program.Initially.{Initially}
 use Rattle.unity_syntax.specs.declared.program.Program.{Program}
+use Rattle.unity_syntax.specs.declared.term.Ref.{Ref}
 use Rattle.unity_syntax.specs.declared.proof.Param.{Param}
 use Rattle.unity_syntax.specs.declared.proof.Claim.{Claim}
 use Rattle.unity_syntax.specs.declared.proof.Rule.{Rule}
@@ -83,6 +84,8 @@ claim_of t =
     (Kind.claim_defined, Claim.Defined (place_in t))
     ∷ (Kind.claim_invariant, Claim.Invariant (place_in t) (expr_of (parts_in t)))
     ∷ (Kind.claim_stable, Claim.Stable (place_in t) (expr_of (parts_in t)))
+    ∷ (Kind.claim_constant, Claim.Constant (place_in t) (expr_of (parts_in t)))
+    ∷ (Kind.claim_fixed, Claim.Fixed (place_in t) (expr_of (parts_in t)))
     ∷ []) (Claim.Between (place_in t) (expr_of (first_in (parts_in t)))
     (word_of_class (class_in (first_in (second_in (parts_in t))))) (expr_of (second_in (second_in (parts_in t)))))
     (kind_in t)
@@ -91,6 +94,8 @@ claim_back : IsBack view_claim claim_of
 claim_back (Claim.Defined at) = refl
 claim_back (Claim.Invariant at p) = ap (λ p. Claim.Invariant at p) (expr_back p)
 claim_back (Claim.Stable at p) = ap (λ p. Claim.Stable at p) (expr_back p)
+claim_back (Claim.Constant at p) = ap (λ p. Claim.Constant at p) (expr_back p)
+claim_back (Claim.Fixed at p) = ap (λ p. Claim.Fixed at p) (expr_back p)
 claim_back (Claim.Between at p which q) =
     three_same (λ p w q. Claim.Between at p w q) (expr_back p) (word_back which) (expr_back q)
 
@@ -104,6 +109,13 @@ rule_of t =
       Rule.Pair (place_in t) (word_of_class (class_in (first_in (parts_in t))))
           (ref_of (first_in (second_in (parts_in t)))) (ref_of (second_in (second_in (parts_in t)))),
     )
+    ∷ (Kind.rule_superpose, Rule.Superpose (place_in t) (ref_of (parts_in t)))
+    ∷ (
+      Kind.rule_complete,
+      Rule.Complete (place_in t) (ref_of (first_in (parts_in t)))
+          (ref_of (first_in (second_in (parts_in t)))) (ref_of (first_in (second_in (second_in (parts_in t)))))
+          (ref_of (second_in (second_in (second_in (parts_in t))))),
+    )
     ∷ []) (Rule.Term (place_in t) (term_of (parts_in t))) (kind_in t)
 
 rule_back : IsBack view_rule rule_of
@@ -111,6 +123,10 @@ rule_back (Rule.Text at inst) = ap (λ i. Rule.Text at i) (option_back view_inst
 rule_back (Rule.Weaken at ref) = ap (λ r. Rule.Weaken at r) (ref_back ref)
 rule_back (Rule.Pair at which r s) =
     three_same (λ w r s. Rule.Pair at w r s) (word_back which) (ref_back r) (ref_back s)
+rule_back (Rule.Superpose at ref) = ap (λ r. Rule.Superpose at r) (ref_back ref)
+rule_back (Rule.Complete at r s t u) =
+    both_same (λ r (f : Ref → Rule). f r) (ref_back r)
+    (three_same (λ s t u r. Rule.Complete at r s t u) (ref_back s) (ref_back t) (ref_back u))
 rule_back (Rule.Term at term) = ap (λ t. Rule.Term at t) (term_back term)
 
 abbrev step_of : Tree → Step
@@ -163,6 +179,12 @@ node_of t =
           (flag_of (first_in (second_in (parts_in t)))) (number_of (second_in (second_in (parts_in t)))),
     )
     ∷ (Kind.node_sum, Node.Sum (place_in t) (list_of pair_of (parts_in t)))
+    ∷ (Kind.node_quot, Node.Quot (place_in t) (number_of (parts_in t)))
+    ∷ (
+      Kind.node_share,
+      Node.Share (place_in t) (flag_of (first_in (parts_in t))) (number_of (first_in (second_in (parts_in t))))
+          (list_of pair_of (second_in (second_in (parts_in t)))),
+    )
     ∷ []) (Node.Round (place_in t) (flag_of (first_in (parts_in t))) (number_of (first_in (second_in (parts_in t))))
     (list_of pair_of (second_in (second_in (parts_in t))))) (kind_in t)
 
@@ -172,6 +194,9 @@ node_back (Node.Split at variable minus bound) = ap (λ m. Node.Split at variabl
 node_back (Node.Sum at pairs) = ap (λ ps. Node.Sum at ps) (list_back view_pair pair_of pair_back pairs)
 node_back (Node.Round at minus divisor pairs) =
     both_same (λ m ps. Node.Round at m divisor ps) (flag_back minus) (list_back view_pair pair_of pair_back pairs)
+node_back (Node.Quot at number) = refl
+node_back (Node.Share at minus constant pairs) =
+    both_same (λ m ps. Node.Share at m constant ps) (flag_back minus) (list_back view_pair pair_of pair_back pairs)
 
 -- the items of a repetition
 abbrev head_in : Tree → Tree

@@ -4,14 +4,16 @@ use Rattle.case_tables.specs.declared.symbol_table.Symbol.{Symbol}
 use Rattle.grammar_theory.specs.Ebnf.{Tree}
 use Rattle.grammar_theory.specs.Lists.{list}
 use Rattle.unity_syntax.specs.Kinds.{Kind}
-use Rattle.unity_syntax.specs.View.{view_list, view_signed, view_name, view_number, view_end, view_range, tree_itself}
-use Rattle.unity_syntax.specs.View.{view_expr_step, view_expr}
+use Rattle.unity_syntax.specs.View.{view_list, view_signed, view_factor, view_name, view_number, view_end, view_range}
+use Rattle.unity_syntax.specs.View.{tree_itself, view_expr_step, view_expr}
 use Rattle.unity_syntax.specs.declared.name.End.{End}
 use Rattle.unity_syntax.specs.declared.name.Range.{Range}
+use Rattle.unity_syntax.specs.declared.expression.Operator.{Operator}
 use Rattle.unity_syntax.specs.declared.expression.Expr.{Expr, roll-Expr, ind-Expr, fold-roll-Expr}
 use Rattle.unity_syntax.specs.declared.expression.Expr.TheOpen.{Expr-F}
 use Rattle.unity_syntax.specs.declared.expression.Expr.TheFolds.{map-Expr}
 use Rattle.unity_syntax.proofs.BackParts.{both_same, three_same, word_of_class, symbol_of_class, word_back, symbol_back}
+use Rattle.unity_syntax.proofs.BackParts.{operator_of_class, operator_back}
 use Rattle.unity_syntax.proofs.BackParts.{place_in, kind_in, parts_in, first_in, second_in, class_in, name_of}
 use Rattle.unity_syntax.proofs.BackParts.{number_of, flag_of, option_of, signed_of, IsBack, flag_back, option_back}
 use Rattle.unity_syntax.proofs.BackParts.{signed_back, by_kind, Known, known, known_value, known_first, known_second}
@@ -64,9 +66,12 @@ expr_layer k at t x =
     ∷ (
       Kind.expr_sum,
       Expr-F.Sum at (flag_of (first_in t)) (known_first no_expr (known_second x))
-          (known_signed no_expr (known_second (known_second x))),
+          (known_signed symbol_of_class no_expr (known_second (known_second x))),
     )
-    ∷ (Kind.expr_product, Expr-F.Product at (known_first no_expr x) (known_list no_expr (known_second x)))
+    ∷ (
+      Kind.expr_product,
+      Expr-F.Product at (known_first no_expr x) (known_signed operator_of_class no_expr (known_second x)),
+    )
     ∷ (Kind.expr_number, Expr-F.Number at (number_of t))
     ∷ (Kind.expr_false, Expr-F.False at)
     ∷ (Kind.expr_word, Expr-F.Word at (name_of (first_in t)) (known_option no_expr (known_second x)))
@@ -97,14 +102,20 @@ exprs_back : (es : List BackExpr) → known_list no_expr (known expr_step (list 
 exprs_back [] = refl
 exprs_back (e ∷ es) = both_same (λ y ys. y ∷ ys) e.1 (exprs_back es)
 
-abbrev unsigned : List (Symbol × BackExpr) → List (Symbol × Expr)
+abbrev unsigned : {S : Type 0} → List (S × BackExpr) → List (S × Expr)
 unsigned xs = map (λ x. (x.0, x.1.0)) xs
 
 products_back : (xs : List (Symbol × BackExpr))
-    → known_signed no_expr (known expr_step
+    → known_signed symbol_of_class no_expr (known expr_step
     (view_list (view_signed tree_itself) (map (λ x. (x.0, view_expr x.1)) (unsigned xs)))) ≡ unsigned xs
 products_back [] = refl
 products_back (x ∷ xs) = three_same (λ s y ys. (s, y) ∷ ys) (symbol_back x.0) x.1.1 (products_back xs)
+
+factors_back : (xs : List (Operator × BackExpr))
+    → known_signed operator_of_class no_expr (known expr_step
+    (view_list (view_factor tree_itself) (map (λ x. (x.0, view_expr x.1)) (unsigned xs)))) ≡ unsigned xs
+factors_back [] = refl
+factors_back (x ∷ xs) = three_same (λ o y ys. (o, y) ∷ ys) (operator_back x.0) x.1.1 (factors_back xs)
 
 rolled : (x : Expr-F Expr) → expr_of (view_expr_step (map-Expr Expr Tree view_expr x)) ≡ roll-Expr x →
     Back (roll-Expr x)
@@ -119,7 +130,7 @@ layer (Expr-F.Compare at l relation r) =
     rolled _ (three_same (λ x s y. roll-Expr (Expr-F.Compare at x s y)) l.1 (symbol_back relation) r.1)
 layer (Expr-F.Sum at minus x xs) =
     rolled _ (three_same (λ m x ys. roll-Expr (Expr-F.Sum at m x ys)) (flag_back minus) x.1 (products_back xs))
-layer (Expr-F.Product at x xs) = rolled _ (both_same (λ x ys. roll-Expr (Expr-F.Product at x ys)) x.1 (exprs_back xs))
+layer (Expr-F.Product at x xs) = rolled _ (both_same (λ x ys. roll-Expr (Expr-F.Product at x ys)) x.1 (factors_back xs))
 layer (Expr-F.Number at number) = rolled _ refl
 layer (Expr-F.True at) = rolled _ refl
 layer (Expr-F.False at) = rolled _ refl

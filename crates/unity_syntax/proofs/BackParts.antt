@@ -7,9 +7,10 @@ use Rattle.case_tables.specs.declared.symbol_table.Symbol.{Symbol}
 use Rattle.case_tables.specs.declared.symbol_table.Symbol.TheVariants.{Assign}
 use Rattle.case_tables.specs.TableRows.{word_rows, symbol_rows}
 use Rattle.grammar_theory.specs.Ebnf.{Tree, unit, leaf, numeral, choice, pair, some, more, node}
-use Rattle.unity_syntax.specs.Classes.{reserved, symbol}
+use Rattle.unity_syntax.specs.Classes.{reserved, symbol, operator}
 use Rattle.unity_syntax.specs.Kinds.{Kind, kind}
 use Rattle.unity_syntax.specs.View.{view_flag, view_option, view_list, view_some, view_signed}
+use Rattle.unity_syntax.specs.declared.expression.Operator.{Operator}
 use Rattle.unity_syntax.specs.declared.name.Name.{Name}
 
 pub both_same : {A B C : Type 0} (f : A → B → C) {a a' : A} {b b' : B} → a ≡ a' → b ≡ b' → f a b ≡ f a' b'
@@ -19,7 +20,7 @@ pub three_same : {A B C D : Type 0} (f : A → B → C → D) {a a' : A} {b b' :
     f a b c ≡ f a' b' c'
 three_same f {a' = a'} {b = b} {c = c} p q r = ap (λ x. f x b c) p ∙ both_same (f a') q r
 
--- Words and symbols.
+-- Words, symbols and operators.
 
 abbrev row_at : {X : Type 0} → X → List (List ℕ × X) → ℕ → X
 row_at other [] n = other
@@ -39,6 +40,15 @@ word_back w = refl
 pub symbol_back : (s : Symbol) → symbol_of_class (symbol s) ≡ s
 symbol_back Assign = refl
 symbol_back s = refl
+
+abbrev pub operator_of_class : ℕ → Operator
+operator_of_class c = if c == operator Operator.Div then Operator.Div
+    else (if c == operator Operator.Mod then Operator.Mod else Operator.Times)
+
+pub operator_back : (o : Operator) → operator_of_class (operator o) ≡ o
+operator_back Operator.Times = refl
+operator_back Operator.Div = refl
+operator_back Operator.Mod = refl
 
 -- The parts of a tree.
 
@@ -164,7 +174,7 @@ abbrev known_class : {A : Type 0} → Known A → ℕ
 known_class (known_pair (known_token t) y) = class_in t
 known_class _ = 0
 
-abbrev pub known_signed : {A : Type 0} → A → Known A → List (Symbol × A)
-known_signed other (known_more x xs) =
-    (symbol_of_class (known_class x), known_value other (known_second x)) ∷ known_signed other xs
-known_signed other _ = []
+abbrev pub known_signed : {A S : Type 0} → (ℕ → S) → A → Known A → List (S × A)
+known_signed sign_of other (known_more x xs) =
+    (sign_of (known_class x), known_value other (known_second x)) ∷ known_signed sign_of other xs
+known_signed sign_of other _ = []

@@ -6,17 +6,19 @@ use Rattle.case_tables.specs.declared.symbol_table.Symbol.{Symbol}
 use Rattle.case_tables.specs.declared.symbol_table.Symbol.TheVariants.{Below as below}
 use Rattle.grammar_theory.specs.Ebnf.{Terminal, Tree, pair, right, more, node, Ebnf, Derives, both, many, prefix_tree}
 use Rattle.grammar_theory.specs.Ebnf.{repeated}
-use Rattle.unity_syntax.specs.Classes.{reserved, symbol}
+use Rattle.unity_syntax.specs.Classes.{reserved, symbol, operator}
 use Rattle.unity_syntax.specs.Kinds.{Kind, kind, Contents}
 use Rattle.unity_syntax.specs.Grammar.{make_parentheses, make_product, make_sum, make_compare, make_unit, make_joined}
-use Rattle.unity_syntax.specs.Grammar.{make_pred, make_weaken, name_, number_, minus_, plus_or_minus_, relation_}
+use Rattle.unity_syntax.specs.Grammar.{make_pred, make_weaken, name_, number_, minus_, plus_or_minus_, operator_}
+use Rattle.unity_syntax.specs.Grammar.{relation_}
 use Rattle.unity_syntax.specs.Grammar.{choice_, over_range, in_brackets, in_parentheses, past, made, subtrees}
 use Rattle.unity_syntax.specs.Grammar.{at_number, bodies, grammar, end_, range_, atom_, product_, sum_, compare_, unit_}
 use Rattle.unity_syntax.specs.Grammar.{joined_, pred_, parentheses_, values_, alts_, target_, comp_, assign_, item_}
 use Rattle.unity_syntax.specs.Grammar.{items_, init_value_, init_, def_, plain_, var_type_, var_, program_, ends_, ref_}
 use Rattle.unity_syntax.specs.Grammar.{inst_, other_term_, term_, rule_, claim_, param_, params_, step_, proof_}
 use Rattle.unity_syntax.specs.Grammar.{multiple_, node_, certificate_, certificates_, schedule_, part_, document_}
-use Rattle.unity_syntax.specs.View.{view_flag, view_option, view_list, view_some, view_signed, view_name, view_number}
+use Rattle.unity_syntax.specs.View.{view_flag, view_option, view_list, view_some, view_signed, view_factor, view_name}
+use Rattle.unity_syntax.specs.View.{view_number}
 use Rattle.unity_syntax.specs.View.{view_end, view_range, view_expr, view_plain, view_var_type, view_var, view_def}
 use Rattle.unity_syntax.specs.View.{view_with_minus, view_init_value, view_init, view_target, view_values, view_choice}
 use Rattle.unity_syntax.specs.View.{view_choices, view_alts, view_component, view_assign, view_item, view_items}
@@ -34,6 +36,7 @@ use Rattle.unity_syntax.specs.declared.proof.Claim.{Claim}
 use Rattle.unity_syntax.specs.declared.proof.Rule.{Rule}
 use Rattle.unity_syntax.specs.declared.certificate.Node.{Node}
 use Rattle.unity_syntax.specs.declared.document.Part.{Part}
+use Rattle.unity_syntax.specs.declared.expression.Operator.{Operator}
 use Rattle.unity_syntax.specs.declared.expression.Expr.{Expr}
 use Rattle.unity_syntax.specs.declared.term.Term.{Term}
 use Rattle.unity_syntax.specs.declared.statement.Assign.{roll-Assign}
@@ -104,13 +107,22 @@ atom_every =
     (every_named λ p. every_inside {view = view_either view_quantified view_expr}
     (λ x v. v) λ x. parentheses_seen p x))))
 
-product_seen : (p : ℕ) (x : Expr) (xs : List Expr) → IsView view_expr (make_product p (view_some view_expr (x, xs)))
+product_seen : (p : ℕ) (x : Expr) (xs : List (Operator × Expr)) →
+    IsView view_expr (make_product p (pair (view_expr x) (view_list (view_factor view_expr) xs)))
 product_seen p x [] = seen x
 product_seen p x (y ∷ ys) = seen_by (expr.Product p x (y ∷ ys)) (eq.view-Product p x (y ∷ ys))
 
+factor_every : Every (both operator_ atom_) (IsView (view_factor view_expr))
+factor_every = every_both
+    (every_one_of operator (Operator.Times ∷ Operator.Div ∷ Operator.Mod ∷ []) λ o. every_view atom_every λ x. seen (
+      o,
+      x,
+    ))
+
 product_every : Every product_ (IsView view_expr)
 unfolding all_productions
-product_every = every_named λ p. every_one_or_more atom_every λ xs. product_seen p xs.0 xs.1
+product_every = every_named λ p. every_both
+    (every_view atom_every λ x. every_many factor_every λ xs. product_seen p x xs)
 
 sum_seen : (p : ℕ) (m : Bool) (x : Expr) (xs : List (Symbol × Expr)) →
     IsView view_expr (make_sum p (pair (view_flag m) (pair (view_expr x) (view_list (view_signed view_expr) xs))))
@@ -381,9 +393,13 @@ rule_every =
     (every_view weaken_parts_every λ x. term_rule_seen p x)))
     (every_or (every_made λ p. every_both
     (every_one_of reserved (Word.Conj ∷ Word.Simpleconj ∷ Word.Disj ∷ Word.Simpledisj ∷ Word.Cancel ∷ Word.Union ∷
-    []) λ w.
+    Word.Until ∷ Word.Detects ∷ Word.Constant ∷ []) λ w.
     every_both (every_view ref_every λ r. every_view ref_every λ s. seen (Rule.Pair p w r s))))
-    (every_made λ p. every_view other_term_every λ t. seen (Rule.Term p t))))
+    (every_or (every_made λ p. every_past (every_view ref_every λ r. seen (Rule.Superpose p r)))
+    (every_or (every_made λ p. every_past (every_both (every_view ref_every λ r. every_both
+    (every_view ref_every λ s. every_both (every_view ref_every λ t. every_view ref_every λ u.
+    seen (Rule.Complete p r s t u))))))
+    (every_made λ p. every_view other_term_every λ t. seen (Rule.Term p t))))))
 
 claim_every : Every claim_ (IsView view_claim)
 unfolding all_productions
@@ -391,10 +407,12 @@ claim_every =
     every_or (every_made λ p. every_fixed (seen (Claim.Defined p)))
     (every_or (every_made λ p. every_past (every_view pred_every λ e. seen (Claim.Invariant p e)))
     (every_or (every_made λ p. every_past (every_view pred_every λ e. seen (Claim.Stable p e)))
+    (every_or (every_made λ p. every_past (every_view pred_every λ e. seen (Claim.Constant p e)))
+    (every_or (every_made λ p. every_past (every_view pred_every λ e. seen (Claim.Fixed p e)))
     (every_made λ p. every_both
     (every_view pred_every λ e. every_both
-    (every_one_of reserved (Word.Unless ∷ Word.Ensures ∷ Word.Leadsto ∷ []) λ w.
-    every_view pred_every λ f. seen (Claim.Between p e w f))))))
+    (every_one_of reserved (Word.Unless ∷ Word.Ensures ∷ Word.Leadsto ∷ Word.Until ∷ Word.Detects ∷ []) λ w.
+    every_view pred_every λ f. seen (Claim.Between p e w f))))))))
 
 param_every : Every param_ (IsView view_param)
 unfolding all_productions
@@ -442,9 +460,13 @@ node_every =
     (every_or (every_made λ p. every_past
     (every_both (every_number λ v. every_both (every_flag λ m. every_number λ b. seen (Node.Split p v m b)))))
     (every_or (every_made λ p. every_past (every_many multiple_every λ xs. seen (Node.Sum p xs)))
+    (every_or (every_made λ p. every_past
+    (every_both (every_flag λ m. every_both
+    (every_number λ d. every_many multiple_every λ xs. seen (Node.Round p m d xs)))))
+    (every_or (every_made λ p. every_past (every_number λ n. seen (Node.Quot p n)))
     (every_made λ p. every_past
     (every_both (every_flag λ m. every_both
-    (every_number λ d. every_many multiple_every λ xs. seen (Node.Round p m d xs)))))))
+    (every_number λ c. every_many multiple_every λ xs. seen (Node.Share p m c xs)))))))))
 
 nodes_every : Every (prefix_tree subtrees node_) (IsView view_nodes)
 nodes_every = every_prefix_tree node_every λ xs. seen xs

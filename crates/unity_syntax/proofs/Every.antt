@@ -28,7 +28,8 @@ every_name {P = P} h = record { holds = λ x m. subst P m.2 (h (record { at = m.
 pub every_number : {P : Tree → Type 0} → ((n : ℕ) → P (view_number n)) → Every number_ P
 every_number {P = P} h = record { holds = λ x m. subst P m.2 (h m.0.value) }
 
-pub every_version : {c v : ℕ} {P : Tree → Type 0} → ((n : ℕ) → P (view_number n)) → Every (version c v) P
+pub every_version : {c : ℕ} {vs : List ℕ} {P : Tree → Type 0} → ((n : ℕ) → P (view_number n)) →
+    Every (version c vs) P
 every_version {P = P} h = record { holds = λ x m. subst P m.1 (h m.0) }
 
 -- a class among those of some values is that of one of them

@@ -1,7 +1,6 @@
 -- Two folds of every expression are related where each layer is: one fold gives the related values of both, and a map
 -- after a fold is a fold.
 use Rattle.std.proofs.Common.{◌≡◌, List, [], ◌∷◌, map, Some, None, refl, sym, subst, ap, ◌∙◌}
-use Rattle.case_tables.specs.declared.symbol_table.Symbol.{Symbol}
 use Rattle.unity_syntax.specs.declared.expression.Expr.{Expr, roll-Expr, ind-Expr, fold-Expr, fold-roll-Expr}
 use Rattle.unity_syntax.specs.declared.expression.Expr.TheOpen.{Expr-F}
 use Rattle.unity_syntax.specs.declared.expression.Expr.TheFolds.{map-Expr}
@@ -28,10 +27,11 @@ module _ (C A : Type 0) (m : C → A) (h : Expr-F C → C) (f : Expr-F A → A)
   all_fused [] = refl
   all_fused (k ∷ ks) = both_same (λ x xs. x ∷ xs) k.1 (all_fused ks)
 
-  abbrev signed : {X Y : Type 0} → (X → Y) → List (Symbol × X) → List (Symbol × Y)
+  -- parts behind signs or operators
+  abbrev signed : {S X Y : Type 0} → (X → Y) → List (S × X) → List (S × Y)
   signed g xs = map (λ x. (x.0, g x.1)) xs
 
-  signed_fused : (ks : List (Symbol × Part)) →
+  signed_fused : {S : Type 0} (ks : List (S × Part)) →
       signed m (signed (fold-Expr C h) (signed (λ k. k.0) ks)) ≡ signed (fold-Expr A f) (signed (λ k. k.0) ks)
   signed_fused [] = refl
   signed_fused (k ∷ ks) = both_same (λ x xs. (k.0, x) ∷ xs) k.1.1 (signed_fused ks)
@@ -44,7 +44,7 @@ module _ (C A : Type 0) (m : C → A) (h : Expr-F C → C) (f : Expr-F A → A)
   parts_fused (Expr-F.Not at x) = ap (λ y. Expr-F.Not at y) x.1
   parts_fused (Expr-F.Compare at l relation r) = both_same (λ x y. Expr-F.Compare at x relation y) l.1 r.1
   parts_fused (Expr-F.Sum at minus x xs) = both_same (λ y ys. Expr-F.Sum at minus y ys) x.1 (signed_fused xs)
-  parts_fused (Expr-F.Product at x xs) = both_same (λ y ys. Expr-F.Product at y ys) x.1 (all_fused xs)
+  parts_fused (Expr-F.Product at x xs) = both_same (λ y ys. Expr-F.Product at y ys) x.1 (signed_fused xs)
   parts_fused (Expr-F.Number at number) = refl
   parts_fused (Expr-F.True at) = refl
   parts_fused (Expr-F.False at) = refl

@@ -1,4 +1,5 @@
 pub mod AssignmentFolds
+pub mod Avoids
 pub mod BackDeclarations
 pub mod BackDocuments
 pub mod BackExpressions
@@ -10,6 +11,7 @@ pub mod EachTree
 pub mod Every
 pub mod ExpressionFolds
 pub mod ItemFolds
+mod LaterWords
 pub mod LookAhead
 pub mod Made
 pub mod Productions

@@ -6,12 +6,12 @@ use Rattle.unity_syntax.specs.Grammar.{grammar, bodies, pred_, document_, at_num
 use Rattle.unity_syntax.proofs.Productions.{all_productions}
 
 -- the test holds of each form of a list
-abbrev Each : (Ebnf → Bool) → List Ebnf → Type 0
+abbrev pub Each : (Ebnf → Bool) → List Ebnf → Type 0
 Each test [] = Unit {0}
 Each test (e ∷ es) = IsTrue (test e) × Each test es
 
 -- what holds of each form of a list, and of an expression, holds of the form at each number
-each_number : (test : Ebnf → Bool) (es : List Ebnf) → Each test es → IsTrue (test pred_) → (k : ℕ) →
+pub each_number : (test : Ebnf → Bool) (es : List Ebnf) → Each test es → IsTrue (test pred_) → (k : ℕ) →
     IsTrue (test (at_number es k))
 each_number test [] each other k = other
 each_number test (e ∷ es) each other zero = each.0

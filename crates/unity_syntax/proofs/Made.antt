@@ -29,7 +29,7 @@ Item P x = (k : ℕ) × (p : ℕ) × (y : Tree) × P y × (node k p (pair unit y
 abbrev pub Made : (ℕ → Tree → Type 0) → Ebnf → Tree → Type 0
 Made within (token classes keep) x = (t : Terminal) × IsTrue (has classes t.class) × (keep t ≡ x)
 Made within (valued c v) x = unit ≡ x
-Made within (version c v) x = (n : ℕ) × (numeral n ≡ x)
+Made within (version c vs) x = (n : ℕ) × (numeral n ≡ x)
 Made within (both a b) x = (y : Tree) × (z : Tree) × Made within a y × Made within b z × (pair y z ≡ x)
 Made within (either a b) x = ((y : Tree) × Made within a y × (left y ≡ x)) ⊎
     ((y : Tree) × Made within b y × (right y ≡ x))

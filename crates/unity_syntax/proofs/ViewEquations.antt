@@ -5,12 +5,13 @@ use Rattle.case_tables.specs.declared.symbol_table.Symbol.{Symbol}
 use Rattle.grammar_theory.specs.Ebnf.{Tree, unit, numeral, choice, pair, more, node}
 use Rattle.unity_syntax.specs.Classes.{reserved, symbol}
 use Rattle.unity_syntax.specs.Kinds.{Kind, kind}
-use Rattle.unity_syntax.specs.View.{view_flag, view_option, view_list, view_signed, view_name, view_range}
+use Rattle.unity_syntax.specs.View.{view_flag, view_option, view_list, view_signed, view_factor, view_name, view_range}
 use Rattle.unity_syntax.specs.View.{view_expr_step, view_expr, tree_itself, view_target, view_alts, view_component_step}
 use Rattle.unity_syntax.specs.View.{view_assign_step, view_component, view_assign, view_item_step, view_items_step}
 use Rattle.unity_syntax.specs.View.{view_item, view_items, view_ref, view_term_step, view_term}
 use Rattle.unity_syntax.specs.declared.name.Name.{Name}
 use Rattle.unity_syntax.specs.declared.name.Range.{Range}
+use Rattle.unity_syntax.specs.declared.expression.Operator.{Operator}
 use Rattle.unity_syntax.specs.declared.expression.Expr.{Expr, roll-Expr, fold-roll-Expr}
 use Rattle.unity_syntax.specs.declared.expression.Expr.TheVariants.{Implies, And, Or, Not, Compare, Sum, Product}
 use Rattle.unity_syntax.specs.declared.expression.Expr.TheVariants.{Number, True, False, Word as word, Brackets}
@@ -52,6 +53,11 @@ products_seen : (xs : List (Symbol × Expr)) →
 products_seen [] = refl
 products_seen (x ∷ xs) = ap (λ ys. more (view_signed view_expr x) ys) (products_seen xs)
 
+factors_seen : (xs : List (Operator × Expr)) →
+    view_list (view_factor tree_itself) (map (λ x. (x.0, view_expr x.1)) xs) ≡ view_list (view_factor view_expr) xs
+factors_seen [] = refl
+factors_seen (x ∷ xs) = ap (λ ys. more (view_factor view_expr x) ys) (factors_seen xs)
+
 pub view-Implies : (at : ℕ) (l r : Expr) →
     view_expr (Implies at l r) ≡ node (kind Kind.expr_implies) at (pair (view_expr l) (view_expr r))
 view-Implies at l r = seen _ _ (rolls-Implies at l r)
@@ -79,9 +85,11 @@ pub view-Sum : (at : ℕ) (minus : Bool) (x : Expr) (xs : List (Symbol × Expr))
 view-Sum at minus x xs = seen _ _ (rolls-Sum at minus x xs) ∙
     ap (λ ys. node (kind Kind.expr_sum) at (pair (view_flag minus) (pair (view_expr x) ys))) (products_seen xs)
 
-pub view-Product : (at : ℕ) (x : Expr) (xs : List Expr) →
-    view_expr (Product at x xs) ≡ node (kind Kind.expr_product) at (pair (view_expr x) (view_list view_expr xs))
-view-Product at x xs = seen _ _ (rolls-Product at x xs)
+pub view-Product : (at : ℕ) (x : Expr) (xs : List (Operator × Expr))
+    → view_expr (Product at x xs) ≡
+    node (kind Kind.expr_product) at (pair (view_expr x) (view_list (view_factor view_expr) xs))
+view-Product at x xs = seen _ _ (rolls-Product at x xs) ∙
+    ap (λ ys. node (kind Kind.expr_product) at (pair (view_expr x) ys)) (factors_seen xs)
 
 pub view-Number : (at n : ℕ) → view_expr (Number at n) ≡ node (kind Kind.expr_number) at (numeral n)
 view-Number at n = seen _ _ (rolls-Number at n)

@@ -120,7 +120,7 @@ atom_keeps = or_else (made_ dropped)
 
 product_keeps : KeepsWords product_
 unfolding all_productions
-product_keeps = (one_or_more_ atom_keeps, product_kept)
+product_keeps = ((atom_keeps, (dropped, atom_keeps)), product_kept)
 
 sum_keeps : KeepsWords sum_
 unfolding all_productions
@@ -233,13 +233,15 @@ rule_keeps : KeepsWords rule_
 unfolding all_productions
 rule_keeps =
     or_else (made_ (past_ (past_ inst_keeps))) (or_else (past_ (ref_keeps, tt), weaken_kept)
-    (or_else (made_ (dropped, (ref_keeps, ref_keeps))) (made_ other_term_keeps)))
+    (or_else (made_ (dropped, (ref_keeps, ref_keeps))) (or_else (made_ (past_ ref_keeps))
+    (or_else (made_ (past_ (ref_keeps, (ref_keeps, (ref_keeps, ref_keeps))))) (made_ other_term_keeps)))))
 
 claim_keeps : KeepsWords claim_
 unfolding all_productions
 claim_keeps =
     or_else (made_ dropped) (or_else (made_ (past_ pred_keeps))
-    (or_else (made_ (past_ pred_keeps)) (made_ (pred_keeps, (dropped, pred_keeps)))))
+    (or_else (made_ (past_ pred_keeps)) (or_else (made_ (past_ pred_keeps)) (or_else (made_ (past_ pred_keeps))
+    (made_ (pred_keeps, (dropped, pred_keeps)))))))
 
 param_keeps : KeepsWords param_
 unfolding all_productions
@@ -261,7 +263,8 @@ node_keeps : KeepsWords node_
 unfolding all_productions
 node_keeps =
     or_else (made_ (past_ dropped)) (or_else (made_ (past_ (dropped, (dropped, dropped))))
-    (or_else (made_ (past_ multiple_keeps)) (made_ (past_ (dropped, (dropped, multiple_keeps))))))
+    (or_else (made_ (past_ multiple_keeps)) (or_else (made_ (past_ (dropped, (dropped, multiple_keeps))))
+    (or_else (made_ (past_ dropped)) (made_ (past_ (dropped, (dropped, multiple_keeps))))))))
 
 certificates_keep : KeepsWords certificates_
 unfolding all_productions

@@ -1,12 +1,14 @@
 -- The tokens of a text as the grammar sees them. The class of a token is a number: one for all names, one for all
 -- numbers, and one for each reserved word and each symbol, which follow in the order in which the language lists them.
-use Rattle.std.specs.Prelude.{ℕ, List, [], map, slice_range}
+-- The words that only version 2 has are all of one class in a text of version 1, and no production names that class.
+use Rattle.std.specs.Prelude.{ℕ, Bool, true, false, not, ◌&&◌, ◌==◌, if◌then◌else◌, List, [], ◌∷◌, map, slice_range}
 use Rattle.case_tables.specs.declared.word_table.Word.{Word}
 use Rattle.case_tables.specs.declared.symbol_table.Symbol.{Symbol}
 use Rattle.case_tables.specs.declared.symbol_table.Symbol.TheVariants.{Below as below}
 use Rattle.grammar_theory.specs.Ebnf.{Terminal}
 use Rattle.unity_syntax.specs.declared.token.TokenKind.{TokenKind}
 use Rattle.unity_syntax.specs.declared.token.Token.{Token}
+use Rattle.unity_syntax.specs.declared.expression.Operator.{Operator}
 
 -- a word that is not reserved
 abbrev pub name_class : ℕ
@@ -111,12 +113,45 @@ symbol Symbol.Plus = 88
 symbol Symbol.Minus = 89
 symbol Symbol.Times = 90
 
+-- an operator of a product
+abbrev pub operator : Operator → ℕ
+operator Operator.Times = symbol Symbol.Times
+operator Operator.Div = reserved Word.Div
+operator Operator.Mod = reserved Word.Mod
+
+-- a reserved word that only version 2 has
+abbrev pub is_later : Word → Bool
+is_later Word.Div = true
+is_later Word.Mod = true
+is_later Word.Quot = true
+is_later Word.Share = true
+is_later Word.Until = true
+is_later Word.Detects = true
+is_later Word.Constant = true
+is_later Word.Complete = true
+is_later Word.Superpose = true
+is_later Word.Fixed = true
+is_later _ = false
+
+-- such a word in a text of version 1
+abbrev pub later_class : ℕ
+later_class = 91
+
+-- the class of a reserved word, where `later` says whether the text is of version 2
+abbrev pub class_of_reserved : Bool → Word → ℕ
+class_of_reserved later w = if is_later w && not later then later_class else reserved w
+
 -- the class of a token
-abbrev pub class_of : TokenKind → ℕ
-class_of TokenKind.Word = name_class
-class_of (TokenKind.Number value) = number_class
-class_of (TokenKind.Reserved w) = reserved w
-class_of (TokenKind.Symbol s) = symbol s
+abbrev pub class_of : Bool → TokenKind → ℕ
+class_of later TokenKind.Word = name_class
+class_of later (TokenKind.Number value) = number_class
+class_of later (TokenKind.Reserved w) = class_of_reserved later w
+class_of later (TokenKind.Symbol s) = symbol s
+
+-- a word that only version 2 has
+abbrev pub is_later_token : TokenKind → Bool
+is_later_token (TokenKind.Reserved w) = is_later w
+is_later_token _ = false
 
 -- the value of a number
 abbrev pub value_of : TokenKind → ℕ
@@ -133,15 +168,20 @@ text_of bytes start end (TokenKind.Reserved w) = []
 text_of bytes start end (TokenKind.Symbol s) = []
 
 -- a token of a text
-abbrev pub terminal : List ℕ → Token → Terminal
-terminal bytes token =
+abbrev pub terminal : Bool → List ℕ → Token → Terminal
+terminal later bytes token =
     record {
-      class = class_of token.kind;
+      class = class_of later token.kind;
       place = token.start;
       value = value_of token.kind;
       text = text_of bytes token.start token.end token.kind;
     }
 
 -- the tokens of a text
-abbrev pub terminals : List ℕ → List Token → List Terminal
-terminals bytes tokens = map (terminal bytes) tokens
+abbrev pub terminals : Bool → List ℕ → List Token → List Terminal
+terminals later bytes tokens = map (terminal later bytes) tokens
+
+-- The text says that it is of version 2: that is its second token, after the word `unity`.
+abbrev pub says_later : List Token → Bool
+says_later (first ∷ second ∷ rest) = value_of second.kind == 2
+says_later _ = false

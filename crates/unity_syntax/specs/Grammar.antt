@@ -1,4 +1,5 @@
--- The grammar of the language, as it is written in docs/LANGUAGE.md.
+-- The grammar of the language, as it is written in docs/LANGUAGE.md. It is that of version 2: in a text of version 1
+-- the words that only version 2 has are no tokens of any production (specs/Classes.antt).
 --
 -- Above each production stands its line. A production stands below those that it names, so that the order is that of
 -- the page from its end to its beginning, except where expressions, ranges and references are needed earlier. What
@@ -13,8 +14,9 @@ use Rattle.grammar_theory.specs.Ebnf.{Tree, unit, pair, left, right, none, some,
 use Rattle.grammar_theory.specs.Ebnf.{maybe}
 use Rattle.grammar_theory.specs.Ebnf.{many, numbered, prefix_tree, named, inside, fixed, word, number, one_of, repeated}
 use Rattle.grammar_theory.specs.Ebnf.{Grammar}
-use Rattle.unity_syntax.specs.Classes.{name_class, number_class, reserved, symbol}
+use Rattle.unity_syntax.specs.Classes.{name_class, number_class, reserved, symbol, operator}
 use Rattle.unity_syntax.specs.Kinds.{Kind, kind, Contents, contents}
+use Rattle.unity_syntax.specs.declared.expression.Operator.{Operator}
 
 -- the second of two parts
 abbrev pub second : ℕ → Tree → Tree
@@ -114,9 +116,13 @@ abbrev pub make_product : ℕ → Tree → Tree
 make_product place (pair x nil) = x
 make_product place x = node (kind Kind.expr_product) place x
 
--- product = atom { "*" atom }
+-- "*" | "div" | "mod"
+abbrev pub operator_ : Ebnf
+operator_ = one_of (map operator (Operator.Times ∷ Operator.Div ∷ Operator.Mod ∷ []))
+
+-- product = atom { ( "*" | "div" | "mod" ) atom }
 unfoldable pub product_ : Ebnf
-product_ = named make_product (one_or_more (symbol Symbol.Times) atom_)
+product_ = named make_product (both atom_ (many (both operator_ atom_)))
 
 -- one product without `-`, or a sum
 abbrev pub make_sum : ℕ → Tree → Tree
@@ -395,27 +401,33 @@ make_weaken place (left x) = node (kind Kind.rule_weaken) place x
 make_weaken place (right x) = node (kind Kind.rule_term) place (node (kind Kind.term_weaken) place x)
 make_weaken place _ = unit
 
--- pairrule = "conj" | "simpleconj" | "disj" | "simpledisj" | "cancel" | "union"
+-- pairrule = "conj" | "simpleconj" | "disj" | "simpledisj" | "cancel" | "union" | "until" | "detects" | "constant"
 abbrev pub pairrule_ : Ebnf
 pairrule_ = one_of (map reserved
-    (Word.Conj ∷ Word.Simpleconj ∷ Word.Disj ∷ Word.Simpledisj ∷ Word.Cancel ∷ Word.Union ∷ []))
+    (Word.Conj ∷ Word.Simpleconj ∷ Word.Disj ∷ Word.Simpledisj ∷ Word.Cancel ∷ Word.Union
+    ∷ Word.Until ∷ Word.Detects ∷ Word.Constant ∷ []))
 
--- rule = "text" [ "with" inst ] | "weaken" ref | pairrule ref ref | term
+-- rule = "text" [ "with" inst ] | "weaken" ref | pairrule ref ref | "superpose" ref | "complete" ref ref ref ref | term
 unfoldable pub rule_ : Ebnf
 rule_ =
     made Kind.rule_text (past (reserved Word.Text) (maybe (past (reserved Word.With) inst_)))
     or named make_weaken (past (reserved Word.Weaken) (either ref_ (in_parentheses Contents.weaken)))
     or made Kind.rule_pair (both pairrule_ (both ref_ ref_))
+    or made Kind.rule_superpose (past (reserved Word.Superpose) ref_)
+    or made Kind.rule_complete (past (reserved Word.Complete) (both ref_ (both ref_ (both ref_ ref_))))
     or made Kind.rule_term other_term_
 
--- claim = "defined" | "invariant" pred | "stable" pred | pred ( "unless" | "ensures" | "leadsto" ) pred
+-- claim = "defined" | "invariant" pred | "stable" pred | "constant" pred | "fixed" pred
+--       | pred ( "unless" | "ensures" | "leadsto" | "until" | "detects" ) pred
 unfoldable pub claim_ : Ebnf
 claim_ =
     made Kind.claim_defined (fixed (reserved Word.Defined))
     or made Kind.claim_invariant (past (reserved Word.Invariant) pred_)
     or made Kind.claim_stable (past (reserved Word.Stable) pred_)
-    or made Kind.claim_between (both pred_
-    (both (one_of (map reserved (Word.Unless ∷ Word.Ensures ∷ Word.Leadsto ∷ []))) pred_))
+    or made Kind.claim_constant (past (reserved Word.Constant) pred_)
+    or made Kind.claim_fixed (past (reserved Word.Fixed) pred_)
+    or made Kind.claim_between (both pred_ (both (one_of (map reserved
+    (Word.Unless ∷ Word.Ensures ∷ Word.Leadsto ∷ Word.Until ∷ Word.Detects ∷ []))) pred_))
 
 -- param = word ":" range
 unfoldable pub param_ : Ebnf
@@ -445,17 +457,21 @@ unfoldable pub multiple_ : Ebnf
 multiple_ = made Kind.pair (both minus_ (both number_ (past (symbol Symbol.Times) number_)))
 
 -- node = "case" number | "split" number [ "-" ] number | "sum" { pair } | "round" [ "-" ] number { pair }
+--      | "quot" number | "share" [ "-" ] number { pair }
 unfoldable pub node_ : Ebnf
 node_ =
     made Kind.node_case (past (reserved Word.Case) number_)
     or made Kind.node_split (past (reserved Word.Split) (both number_ (both minus_ number_)))
     or made Kind.node_sum (past (reserved Word.Sum) (many multiple_))
     or made Kind.node_round (past (reserved Word.Round) (both minus_ (both number_ (many multiple_))))
+    or made Kind.node_quot (past (reserved Word.Quot) number_)
+    or made Kind.node_share (past (reserved Word.Share) (both minus_ (both number_ (many multiple_))))
 
 -- how many subtrees follow a node of the kind
 abbrev pub subtrees_of : ℕ → ℕ
 subtrees_of k =
-    if k == kind Kind.node_case || k == kind Kind.node_split then 2 else (if k == kind Kind.node_round then 1 else 0)
+    if k == kind Kind.node_case || (k == kind Kind.node_split || k == kind Kind.node_share) then 2
+    else (if k == kind Kind.node_round || k == kind Kind.node_quot then 1 else 0)
 
 -- how many subtrees follow a node
 abbrev pub subtrees : Tree → ℕ
@@ -481,10 +497,10 @@ schedule_ = made Kind.schedule (past (reserved Word.Schedule)
 unfoldable pub part_ : Ebnf
 part_ = made Kind.part_program program_ or made Kind.part_proof proof_
 
--- document = "unity" number { program | proof } [ schedule ] [ certificates ], where the number is 1
+-- document = "unity" number { program | proof } [ schedule ] [ certificates ], where the number is 1 or 2
 unfoldable pub document_ : Ebnf
 document_ = made Kind.document (past (reserved Word.Unity)
-    (both (made Kind.version (version number_class 1))
+    (both (made Kind.version (version number_class (1 ∷ 2 ∷ [])))
     (both (many part_) (both (maybe schedule_) (maybe certificates_)))))
 
 -- the form with a number in a list, and an expression past its end

@@ -24,6 +24,8 @@ pub data Kind : Type 0 where
   pair node_case node_split node_sum node_round certificates : Kind
   -- documents
   schedule part_program part_proof version document : Kind
+  -- claims, rules and nodes of the later version
+  claim_constant claim_fixed rule_superpose rule_complete node_quot node_share : Kind
 
 -- the number of each kind
 abbrev pub kind : Kind → ℕ
@@ -98,6 +100,12 @@ kind Kind.part_program = 67
 kind Kind.part_proof = 68
 kind Kind.version = 69
 kind Kind.document = 70
+kind Kind.claim_constant = 71
+kind Kind.claim_fixed = 72
+kind Kind.rule_superpose = 73
+kind Kind.rule_complete = 74
+kind Kind.node_quot = 75
+kind Kind.node_share = 76
 
 -- What stands in brackets.
 pub data Contents : Type 0 where

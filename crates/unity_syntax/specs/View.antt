@@ -4,12 +4,13 @@ use Rattle.std.specs.Prelude.{ℕ, Bool, true, false, List, map, Option, None, S
 use Rattle.case_tables.specs.declared.symbol_table.Symbol.{Symbol}
 use Rattle.grammar_theory.specs.Ebnf.{Tree, unit, leaf, numeral, choice, pair, none, some, more, node}
 use Rattle.grammar_theory.specs.Lists.{list}
-use Rattle.unity_syntax.specs.Classes.{reserved, symbol}
+use Rattle.unity_syntax.specs.Classes.{reserved, symbol, operator}
 use Rattle.unity_syntax.specs.Kinds.{Kind, kind}
 use Rattle.unity_syntax.specs.declared.name.Name.{Name}
 use Rattle.unity_syntax.specs.declared.name.End.{End}
 use Rattle.unity_syntax.specs.declared.name.Range.{Range}
 use Rattle.unity_syntax.specs.declared.expression.Expr.{Expr, fold-Expr}
+use Rattle.unity_syntax.specs.declared.expression.Operator.{Operator}
 use Rattle.unity_syntax.specs.declared.expression.Expr.TheOpen.{Expr-F}
 use Rattle.unity_syntax.specs.declared.declaration.Plain.{Plain}
 use Rattle.unity_syntax.specs.declared.declaration.VarType.{VarType}
@@ -67,6 +68,10 @@ view_some view_part xs = pair (view_part xs.0) (view_list view_part xs.1)
 abbrev pub view_signed : {A : Type 0} → (A → Tree) → Symbol × A → Tree
 view_signed view_part x = pair (choice (symbol x.0)) (view_part x.1)
 
+-- an operator and its right operand
+abbrev pub view_factor : {A : Type 0} → (A → Tree) → Operator × A → Tree
+view_factor view_part x = pair (choice (operator x.0)) (view_part x.1)
+
 -- Names and ranges.
 
 -- a word, with its place and its text
@@ -103,7 +108,8 @@ view_expr_step (Expr-F.Compare at l relation r) =
     node (kind Kind.expr_compare) at (pair l (pair (choice (symbol relation)) r))
 view_expr_step (Expr-F.Sum at minus x xs) =
     node (kind Kind.expr_sum) at (pair (view_flag minus) (pair x (view_list (view_signed tree_itself) xs)))
-view_expr_step (Expr-F.Product at x xs) = node (kind Kind.expr_product) at (pair x (list xs))
+view_expr_step (Expr-F.Product at x xs) =
+    node (kind Kind.expr_product) at (pair x (view_list (view_factor tree_itself) xs))
 view_expr_step (Expr-F.Number at number) = node (kind Kind.expr_number) at (view_number number)
 view_expr_step (Expr-F.True at) = node (kind Kind.expr_true) at unit
 view_expr_step (Expr-F.False at) = node (kind Kind.expr_false) at unit
@@ -270,6 +276,8 @@ abbrev pub view_claim : Claim → Tree
 view_claim (Claim.Defined at) = node (kind Kind.claim_defined) at unit
 view_claim (Claim.Invariant at p) = node (kind Kind.claim_invariant) at (view_expr p)
 view_claim (Claim.Stable at p) = node (kind Kind.claim_stable) at (view_expr p)
+view_claim (Claim.Constant at p) = node (kind Kind.claim_constant) at (view_expr p)
+view_claim (Claim.Fixed at p) = node (kind Kind.claim_fixed) at (view_expr p)
 view_claim (Claim.Between at p which q) =
     node (kind Kind.claim_between) at (pair (view_expr p) (pair (choice (reserved which)) (view_expr q)))
 
@@ -279,6 +287,9 @@ view_rule (Rule.Text at inst) = node (kind Kind.rule_text) at (view_option view_
 view_rule (Rule.Weaken at ref) = node (kind Kind.rule_weaken) at (view_ref ref)
 view_rule (Rule.Pair at which r s) =
     node (kind Kind.rule_pair) at (pair (choice (reserved which)) (pair (view_ref r) (view_ref s)))
+view_rule (Rule.Superpose at ref) = node (kind Kind.rule_superpose) at (view_ref ref)
+view_rule (Rule.Complete at r s t u) =
+    node (kind Kind.rule_complete) at (pair (view_ref r) (pair (view_ref s) (pair (view_ref t) (view_ref u))))
 view_rule (Rule.Term at term) = node (kind Kind.rule_term) at (view_term term)
 
 -- a step
@@ -306,6 +317,9 @@ view_node (Node.Split at variable minus bound) =
 view_node (Node.Sum at pairs) = node (kind Kind.node_sum) at (view_list view_pair pairs)
 view_node (Node.Round at minus divisor pairs) =
     node (kind Kind.node_round) at (pair (view_flag minus) (pair (view_number divisor) (view_list view_pair pairs)))
+view_node (Node.Quot at number) = node (kind Kind.node_quot) at (view_number number)
+view_node (Node.Share at minus constant pairs) =
+    node (kind Kind.node_share) at (pair (view_flag minus) (pair (view_number constant) (view_list view_pair pairs)))
 
 -- A certificate is an item under its number, as a numbered repetition makes it.
 abbrev pub view_certificate : CertText → Tree

@@ -13,7 +13,7 @@ pub struct Pair {
 
 /// A node of a certificate:
 /// `node = "case" number | "split" number [ "-" ] number | "sum" { pair }
-///       | "round" [ "-" ] number { pair }`.
+///       | "round" [ "-" ] number { pair } | "quot" number | "share" [ "-" ] number { pair }`.
 #[derive(Drop)]
 pub enum Node {
     /// Takes a waiting form apart.
@@ -38,6 +38,18 @@ pub enum Node {
         at: u64,
         minus: bool,
         divisor: u64,
+        pairs: Seq<Pair>,
+    },
+    /// Takes a quotient out of a waiting form.
+    Quot {
+        at: u64,
+        number: u64,
+    },
+    /// States a fact of variables, given by their numbers, to show it once.
+    Share {
+        at: u64,
+        minus: bool,
+        constant: u64,
         pairs: Seq<Pair>,
     },
 }

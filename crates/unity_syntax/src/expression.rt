@@ -4,6 +4,17 @@ use crate::name::{Name, Range};
 use case_tables::{Symbol, Word};
 use unity_base::{Held, Seq};
 
+/// What stands between two factors of a product.
+#[derive(Clone, Copy, Debug, PartialEq, Eq)]
+pub enum Operator {
+    /// `"*"`
+    Times,
+    /// `"div"`: the quotient, rounded down.
+    Div,
+    /// `"mod"`: what such a division leaves.
+    Mod,
+}
+
 /// An expression: the productions from `pred` to `atom`. One operand with no operator is the tree
 /// of that operand.
 #[derive(Drop)]
@@ -45,11 +56,11 @@ pub enum Expr {
         first: Held<Expr>,
         rest: Seq<(Symbol, Expr)>,
     },
-    /// `atom "*" atom { "*" atom }`
+    /// `atom operator atom { operator atom }`, read from the left
     Product {
         at: u64,
         first: Held<Expr>,
-        rest: Seq<Expr>,
+        rest: Seq<(Operator, Expr)>,
     },
     /// `number`
     Number {

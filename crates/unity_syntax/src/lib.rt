@@ -19,14 +19,15 @@ mod token;
 pub use certificate::{CertText, Certificates, Node, Pair};
 pub use declaration::{Def, Init, InitValue, Plain, Var, VarType};
 pub use document::{Document, Part, Schedule};
-pub use expression::Expr;
+pub use expression::{Expr, Operator};
 pub use fault::SyntaxFault;
 pub use folding::{Relation, two_folds};
 pub use name::{End, Name, Range};
 pub use program::{Initially, Program};
 pub use proof::{Claim, Param, Proof, Rule, Step};
 pub use reading::{
-    each_tree, is_grammar, one_document, one_kind, one_tree, view_loses_nothing, words_rise,
+    each_tree, is_grammar, no_later_word, one_document, one_kind, one_tree, view_loses_nothing,
+    words_rise,
 };
 pub use statement::{Alts, Assign, Component, Item, Items, Target, Values};
 pub use term::{Inst, Ref, Term};

@@ -15,8 +15,8 @@ pub struct Param {
 }
 
 /// What a step claims:
-/// `claim = "defined" | "invariant" pred | "stable" pred
-///        | pred ( "unless" | "ensures" | "leadsto" ) pred`.
+/// `claim = "defined" | "invariant" pred | "stable" pred | "constant" pred | "fixed" pred
+///        | pred ( "unless" | "ensures" | "leadsto" | "until" | "detects" ) pred`.
 #[derive(Drop)]
 pub enum Claim {
     Defined {
@@ -30,7 +30,15 @@ pub enum Claim {
         at: u64,
         of: Expr,
     },
-    /// `unless`, `ensures` or `leadsto`, as `which` says.
+    Constant {
+        at: u64,
+        of: Expr,
+    },
+    Fixed {
+        at: u64,
+        of: Expr,
+    },
+    /// `unless`, `ensures`, `leadsto`, `until` or `detects`, as `which` says.
     Between {
         at: u64,
         p: Expr,
@@ -40,8 +48,10 @@ pub enum Claim {
 }
 
 /// How a step is proved:
-/// `rule = "text" [ "with" inst ] | "weaken" ref | pairrule ref ref | term`, with
-/// `pairrule = "conj" | "simpleconj" | "disj" | "simpledisj" | "cancel" | "union"`.
+/// `rule = "text" [ "with" inst ] | "weaken" ref | pairrule ref ref | "superpose" ref
+///       | "complete" ref ref ref ref | term`, with
+/// `pairrule = "conj" | "simpleconj" | "disj" | "simpledisj" | "cancel" | "union"
+///           | "until" | "detects" | "constant"`.
 #[derive(Drop)]
 pub enum Rule {
     Text {
@@ -57,6 +67,18 @@ pub enum Rule {
         which: Word,
         first: Ref,
         second: Ref,
+    },
+    /// The step of the program under this one, carried up.
+    Superpose {
+        at: u64,
+        of: Ref,
+    },
+    Complete {
+        at: u64,
+        first: Ref,
+        second: Ref,
+        third: Ref,
+        fourth: Ref,
     },
     Term {
         at: u64,

@@ -2,9 +2,11 @@
 //! the grammar makes. These functions do nothing: each states a law.
 
 ghost use Rattle.unity_syntax.specs.ReadingLaws.{OneKind, OneLookAhead, OneDocumentTree, EachTree};
-ghost use Rattle.unity_syntax.specs.ReadingLaws.{ViewLosesNothing, OneDocumentOfTokens, WordsInTokenOrder};
+ghost use Rattle.unity_syntax.specs.ReadingLaws.{ViewLosesNothing, OneDocumentOfTokens, NoLaterWord};
+ghost use Rattle.unity_syntax.specs.ReadingLaws.{WordsInTokenOrder};
 
-/// Tokens of one class and one value are of one kind.
+/// Tokens of one class and one value are of one kind, but for the words that a text of version 1 may not
+/// have.
 pub fn one_kind()
     ensures { OneKind }
 {}
@@ -32,6 +34,12 @@ pub fn each_tree()
 /// Tokens are those of at most one document.
 pub fn one_document()
     ensures { OneDocumentOfTokens }
+{}
+
+/// A text that is not of version 2 and that is a document has none of the words that only version 2 has: such a word
+/// stands nowhere in the grammar, and is refused where it stands.
+pub fn no_later_word()
+    ensures { NoLaterWord }
 {}
 
 /// The words of a tree are words of its tokens, in their order.

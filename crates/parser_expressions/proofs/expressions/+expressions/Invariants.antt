@@ -1,10 +1,8 @@
 use Rattle.std.proofs.Common.{◌+◌, ◌*◌}
-use Rattle.case_tables.specs.declared.symbol_table.Symbol.{Symbol}
 use Rattle.grammar_theory.specs.Ebnf.{both}
 use Rattle.grammar_theory.specs.Reader.{count}
-use Rattle.unity_syntax.specs.Classes.{symbol}
-use Rattle.unity_syntax.specs.Grammar.{past, atom_, product_, plus_or_minus_}
-use Rattle.unity_syntax.specs.View.{view_signed, view_expr}
+use Rattle.unity_syntax.specs.Grammar.{atom_, product_, plus_or_minus_, operator_}
+use Rattle.unity_syntax.specs.View.{view_signed, view_factor, view_expr}
 use Rattle.parser_expressions.specs.Joints.{joined_unit_}
 use Rattle.parser_expressions.specs.Gives.{remaining}
 use Rattle.parser_expressions.proofs.Repetition.{Items}
@@ -82,7 +80,7 @@ abbrev pub decreases-more_products-items : goal.decreases-more_products-items
 decreases-more_products-items l = count (remaining l.rest)
 
 abbrev pub invariant-more_factors-items : goal.invariant-more_factors-items
-invariant-more_factors-items l = Items view_expr (past (symbol Symbol.Times) atom_) l.depth (remaining l.fn.text)
+invariant-more_factors-items l = Items (view_factor view_expr) (both operator_ atom_) l.depth (remaining l.fn.text)
     l.found (remaining l.rest)
 
 abbrev pub decreases-more_factors-items : goal.decreases-more_factors-items

@@ -15,4 +15,4 @@ returns-in-Ok c =
     let none : c.in-Ok.rest.tokens.now ≡ [] = no_item c.in-Ok.rest.tokens.now
     (sym c.is_empty.ensures ∙ c.if-is_empty.true) in
     certificate_whole c.args.number (remaining c.args.text) (view_certificate c.in-Ok.found) (remaining c.in-Ok.rest)
-    c.in-Ok.ensures (ap (terminals c.in-Ok.rest.bytes.now) none)
+    c.in-Ok.ensures (ap (terminals c.in-Ok.rest.later c.in-Ok.rest.bytes.now) none)

@@ -11,13 +11,14 @@ use Rattle.unity_parser.proofs.sections.ends.Goals as goal
 
 pub returns-then-is_empty : goal.returns-then-is_empty
 returns-then-is_empty c = λ h.
-    let all : Derives grammar (fixed (reserved Word.End)) unit (terminals c.args.bytes.now
+    let all : Derives grammar (fixed (reserved Word.End)) unit (terminals c.args.later c.args.bytes.now
     c.as_slice-tokens.result.now) =
-    read_to_end (fixed (reserved Word.End)) refl 0 (terminals c.args.bytes.now c.as_slice-tokens.result.now) unit
+    read_to_end (fixed (reserved Word.End)) refl 0 (terminals c.args.later c.args.bytes.now
+    c.as_slice-tokens.result.now) unit
     (remaining c.in-Ok.rest) c.in-Ok.ensures
-    (ap (terminals c.in-Ok.rest.bytes.now)
+    (ap (terminals c.in-Ok.rest.later c.in-Ok.rest.bytes.now)
     (none_left c.in-Ok.rest.tokens.now (sym c.is_empty.ensures ∙ c.if-is_empty.true))) in (
       eqb-true c.args.part.now.end (length c.args.bytes.now) h,
-      subst (λ ts. Derives grammar (fixed (reserved Word.End)) unit (terminals c.args.bytes.now ts))
+      subst (λ ts. Derives grammar (fixed (reserved Word.End)) unit (terminals c.args.later c.args.bytes.now ts))
           c.as_slice-tokens.ensures all,
     )

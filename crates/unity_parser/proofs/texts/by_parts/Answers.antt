@@ -4,7 +4,9 @@ use Rattle.unity_syntax.specs.declared.token.Token.{Token}
 use Rattle.unity_syntax.specs.declared.token.TokenKind.{TokenKind}
 use Rattle.unity_lexer.specs.Tokens.{IsPartRead}
 use Rattle.unity_parser.specs.ParseAnswers.{IsDocumentOf}
+use Rattle.unity_syntax.specs.Classes.{says_later}
 use Rattle.unity_parser.specs.Document.{IsDocument}
+use Rattle.unity_parser.specs.Sections.{IsSection}
 use Rattle.unity_parser.proofs.SectionReadings.{document_with}
 use Rattle.unity_parser.proofs.texts.by_parts.Goals as goal
 
@@ -18,6 +20,8 @@ returns c =
     (search rules) in
     let none : c.in_ok-document.document.certificates ≡ None = search rules in
     let kind : c.in_ok-word.word.kind ≡ TokenKind.Reserved Word.Certificates = search rules in
+    let said : c.says_later-later.result ≡ says_later c.pop.new.self = search rules in
     subst (IsDocument c.args.bytes.now) (sym c.with_section.ensures)
     (document_with c.args.bytes.now c.pop.new.self c.in_ok-word.word c.args.front.end c.in_ok-document.document
-    c.in_ok-section.section part parsed none kind c.in_ok-section.ensures.0 c.in_ok-section.ensures.1)
+    c.in_ok-section.section part parsed none kind c.in_ok-section.ensures.0
+    (subst (λ l. IsSection l c.args.bytes.now c.args.front.end c.in_ok-section.section) said c.in_ok-section.ensures.1))

@@ -1,8 +1,0 @@
-use Rattle.std.proofs.Common.{◌≡◌, drop, map}
-use Rattle.grammar_theory.specs.Ebnf.{has}
-use Rattle.unity_syntax.specs.Classes.{symbol, class_of}
-use Rattle.parser_expressions.proofs.cursor.symbol_in.Given as goal
-
-abbrev pub invariant-loop-symbol : goal.invariant-loop-symbol
-invariant-loop-symbol l = has (map symbol (drop l.symbol-index l.wanted)) (class_of l.kind) ≡ has (map symbol l.wanted)
-    (class_of l.kind)
