@@ -5,6 +5,7 @@ use Rattle.case_tables.specs.declared.symbol_table.Symbol.{Symbol}
 use Rattle.case_tables.specs.declared.word_table.Word.{Word}
 use Rattle.unity_syntax.specs.declared.name.Name.{Name}
 use Rattle.unity_syntax.specs.declared.name.Range.{Range}
+use Rattle.unity_syntax.specs.declared.expression.Operator.{Operator}
 use Rattle.unity_syntax.specs.declared.expression.Expr
 use Rattle.unity_syntax.specs.declared.expression.Expr.{Expr, roll-Expr, fold-roll-Expr}
 use Rattle.unity_syntax.specs.declared.expression.Expr.TheFolds.{map-Expr}
@@ -46,8 +47,9 @@ pub value-Sum : (at : ℕ) (minus : Bool) (first : Expr) (rest : List (Symbol ×
     added s (signed minus (value first s)) (map (λ part. (part.0, value part.1)) rest)
 value-Sum at minus first rest s = unfolds _ _ (rolls-Sum at minus first rest) s
 
-pub value-Product : (at : ℕ) (first : Expr) (rest : List Expr) (s : Sight) →
-    value (Expr.Product at first rest) s ≡ multiplied s (value first s) (map value rest)
+pub value-Product : (at : ℕ) (first : Expr) (rest : List (Operator × Expr)) (s : Sight) →
+    value (Expr.Product at first rest) s ≡
+    multiplied s (value first s) (map (λ factor. (factor.0, value factor.1)) rest)
 value-Product at first rest s = unfolds _ _ (rolls-Product at first rest) s
 
 pub value-Number : (at number : ℕ) (s : Sight) → value (Expr.Number at number) s ≡ pos number

@@ -12,7 +12,8 @@ use Rattle.meaning_documents.specs.Value.{range_ends}
 use Rattle.meaning_documents.specs.Setting.{Setting, is_true_at}
 use Rattle.meaning_documents.specs.Programs.{Composed, program_named, programs_of, document_setting}
 use Rattle.meaning_documents.specs.Execution.{System, system_of}
-use Rattle.meaning_documents.specs.Properties.{Test, IsAlwaysDefined, IsInvariant, IsStable, Unless, Ensures, LeadsTo}
+use Rattle.meaning_documents.specs.Properties.{Test, IsAlwaysDefined, IsInvariant, Fixed, IsStable, Constant, Unless}
+use Rattle.meaning_documents.specs.Properties.{Ensures, LeadsTo, Until, Detects}
 
 -- the parameters of a step, in order
 abbrev pub parameters : Option (Param × List Param) → List Param
@@ -32,18 +33,23 @@ argument_bindings [] zs = []
 argument_bindings (p ∷ ps) [] = []
 argument_bindings (p ∷ ps) (z ∷ zs) = (p.name.text, z) ∷ argument_bindings ps zs
 
--- what `p unless q`, `p ensures q` or `p leadsto q`, within a bound, says; `_` is each word that is none of the three
+-- what `p unless q`, `p ensures q`, `p leadsto q`, `p until q` or `p detects q`, within a bound, says; `_` is each word
+-- that is none of the five
 abbrev pub ClaimsBetween : System → Word → ℕ → Test → Test → Type 0
 ClaimsBetween x Word.Unless bound p q = Unless x p q
 ClaimsBetween x Word.Ensures bound p q = Ensures x p q
 ClaimsBetween x Word.Leadsto bound p q = LeadsTo x p q bound
+ClaimsBetween x Word.Until bound p q = Until x p q bound
+ClaimsBetween x Word.Detects bound p q = Detects x p q bound
 ClaimsBetween x _ bound p q = ⊥
 
--- what a claim says of a program, for these numbers of the parameters; a leads-to within the bound
+-- what a claim says of a program, for these numbers of the parameters; what leads to something, within the bound
 abbrev pub ClaimsOf : Setting → System → Bindings → ℕ → Claim → Type 0
 ClaimsOf g x bindings bound (Claim.Defined at) = IsAlwaysDefined x
 ClaimsOf g x bindings bound (Claim.Invariant at p) = IsInvariant x (is_true_at g bindings p)
 ClaimsOf g x bindings bound (Claim.Stable at p) = IsStable x (is_true_at g bindings p)
+ClaimsOf g x bindings bound (Claim.Constant at p) = Constant x (is_true_at g bindings p)
+ClaimsOf g x bindings bound (Claim.Fixed at p) = Fixed x (is_true_at g bindings p)
 ClaimsOf g x bindings bound (Claim.Between at p which q) =
     ClaimsBetween x which bound (is_true_at g bindings p) (is_true_at g bindings q)
 

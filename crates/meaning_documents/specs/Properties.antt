@@ -30,6 +30,14 @@ IsAlwaysDefined x = Everywhere x
 abbrev pub IsInvariant : System → Test → Type 0
 IsInvariant x p = Everywhere x (λ state. IsTrue (p state))
 
+-- a fixed point: the step of each instance is defined there and leads back to it
+abbrev pub IsFixedPoint : System → State → Type 0
+IsFixedPoint x state = (choice : ℕ) (act : Act) → slice_get x.steps choice ≡ Some act → act state ≡ Some state
+
+-- `fixed p`: every state with p, of every execution, is a fixed point
+abbrev pub Fixed : System → Test → Type 0
+Fixed x p = Everywhere x (λ state. IsTrue (p state) → IsFixedPoint x state)
+
 -- `p unless q`: at adjacent states of every execution, if the first has p and not q, the second has p or q
 abbrev pub Unless : System → Test → Test → Type 0
 Unless x p q = (first : State) (choices : List ℕ) (later : List State) → IsExecution x first choices later →
@@ -40,6 +48,12 @@ Unless x p q = (first : State) (choices : List ℕ) (later : List State) → IsE
 -- `stable p`: p unless false
 abbrev pub IsStable : System → Test → Type 0
 IsStable x p = Unless x p never
+
+-- `constant p`: at adjacent states of every execution, p holds at both or at neither
+abbrev pub Constant : System → Test → Type 0
+Constant x p = (first : State) (choices : List ℕ) (later : List State) → IsExecution x first choices later →
+    (place : ℕ) (now next : State) → slice_get (first ∷ later) place ≡ Some now →
+    slice_get (first ∷ later) (suc place) ≡ Some next → p now ≡ p next
 
 -- the step of an act is defined and gives a state with q, from every state of every execution that has p and not q
 abbrev pub Helps : System → Test → Test → Act → Type 0
@@ -66,3 +80,17 @@ abbrev pub LeadsTo : System → Test → Test → ℕ → Type 0
 LeadsTo x p q bound = (first : State) (choices : List ℕ) (later : List State) → IsExecution x first choices later →
     (place n : ℕ) (state : State) → slice_get (first ∷ later) place ≡ Some state → IsTrue (p state) →
     IsShortest (drop place choices) (length x.steps) bound n → HoldsSoon q (first ∷ later) place (place + n)
+
+-- `p until q` within a bound: p unless q, and p leads to q
+pub record Until (x : System) (p q : Test) (bound : ℕ) : Type 0 where
+  pub unless : Unless x p q
+  pub leads : LeadsTo x p q bound
+
+-- q holds where p does
+abbrev pub implied : Test → Test → Test
+implied p q state = not (p state) || q state
+
+-- `p detects q` within a bound: where p holds q does, and q leads to p
+pub record Detects (x : System) (p q : Test) (bound : ℕ) : Type 0 where
+  pub always : IsInvariant x (implied p q)
+  pub leads : LeadsTo x q p bound

@@ -12,6 +12,8 @@ use Rattle.unity_syntax.specs.declared.document.Document.{Document}
 abbrev pub between_kind : Word → Kind
 between_kind Word.Unless = Kind.Unless
 between_kind Word.Ensures = Kind.Ensures
+between_kind Word.Until = Kind.Until
+between_kind Word.Detects = Kind.Detects
 between_kind _ = Kind.Leadsto
 
 -- `stable p` is `p unless false`
@@ -19,6 +21,8 @@ abbrev pub claim_kind : Claim → Kind
 claim_kind (Claim.Defined at) = Kind.Defined
 claim_kind (Claim.Invariant at of) = Kind.Invariant
 claim_kind (Claim.Stable at of) = Kind.Unless
+claim_kind (Claim.Constant at of) = Kind.Constant
+claim_kind (Claim.Fixed at of) = Kind.Fixed
 claim_kind (Claim.Between at p which q) = between_kind which
 
 -- what holds of each step of each proof of a document

@@ -7,9 +7,11 @@ use Rattle.case_tables.specs.declared.symbol_table.Symbol.{Symbol}
 use Rattle.case_tables.specs.declared.word_table.Word.{Word}
 use Rattle.unity_syntax.specs.declared.name.End.{End}
 use Rattle.unity_syntax.specs.declared.name.Range.{Range}
+use Rattle.unity_syntax.specs.declared.expression.Operator.{Operator}
 use Rattle.unity_syntax.specs.declared.expression.Expr.{Expr, fold-Expr}
 use Rattle.unity_syntax.specs.declared.expression.Expr.TheOpen.{Expr-F}
 use Rattle.meaning_states.specs.State.{int_eq}
+use Rattle.meaning_states.specs.Division.{floored, rest_of}
 use Rattle.meaning_documents.specs.Names.{Bindings, Sight, with_name, number_of, or_zero, natural, word_value}
 use Rattle.meaning_documents.specs.Names.{element_value}
 
@@ -88,10 +90,16 @@ abbrev pub added : Sight → ℤ → List (Symbol × Meaning) → ℤ
 added s z [] = z
 added s z (part ∷ rest) = added s (plus z part.0 (part.1 s)) rest
 
--- a number times the factors of a product
-abbrev pub multiplied : Sight → ℤ → List Meaning → ℤ
+-- `a * b`, `a div b` or `a mod b`
+abbrev pub operated : ℤ → Operator → ℤ → ℤ
+operated a Operator.Times b = a *ℤ b
+operated a Operator.Div b = floored a b
+operated a Operator.Mod b = rest_of a b
+
+-- a number with the operators of a product, each with its right operand, from left to right
+abbrev pub multiplied : Sight → ℤ → List (Operator × Meaning) → ℤ
 multiplied s z [] = z
-multiplied s z (factor ∷ rest) = multiplied s (z *ℤ factor s) rest
+multiplied s z (factor ∷ rest) = multiplied s (operated z factor.0 (factor.1 s)) rest
 
 -- a word, or an array's element at the value of its index
 abbrev pub indexed_value : Sight → List ℕ → Option Meaning → ℤ

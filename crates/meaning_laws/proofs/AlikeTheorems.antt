@@ -13,8 +13,8 @@ use Rattle.meaning_documents.specs.Properties.{Test, but_not}
 use Rattle.meaning_documents.proofs.ExecutionTheorems.{chosen_instance, get_at, kept}
 use Rattle.meaning_laws.specs.Systems.{passing}
 use Rattle.meaning_laws.specs.Alike.{StepEquivalent, SameAt}
-use Rattle.meaning_laws.specs.AlikeLaws.{SourceAlike, AlikeBack, KeptAlike, RunsAlike, DefinedAlike, InvariantAlike}
-use Rattle.meaning_laws.specs.AlikeLaws.{UnlessAlike, EnsuresAlike, LeadsAlike}
+use Rattle.meaning_laws.specs.AlikeLaws.{SourceAlike, AlikeBack, KeptAlike, RunsAlike, DefinedAlike, FixedAlike}
+use Rattle.meaning_laws.specs.AlikeLaws.{InvariantAlike, UnlessAlike, ConstantAlike, EnsuresAlike, LeadsAlike}
 use Rattle.meaning_laws.proofs.KeptTheorems.{kept_length, act_of_kept, step_of_kept}
 
 pub alike_back : AlikeBack
@@ -113,6 +113,15 @@ defined_alike ranges x y alike always first choices later run place s e choice a
     always first choices later
     (other ranges x y alike first choices later run) place s e choice first_act.0 first_act.1 (same ∙ undefined)
 
+pub fixed_alike : FixedAlike
+fixed_alike ranges x y alike p p' sp fixed first choices later run place s e h choice act d =
+    let here = there ranges x y alike first choices later run place s e in
+    let first_act = other_act ranges y x (alike_back ranges x y alike) choice act d in
+    let same = same_act ranges x y alike choice first_act.0 act first_act.1 d s here in
+    sym same ∙
+    fixed first choices later (other ranges x y alike first choices later run) place s e (sp s here ∙ h) choice
+    first_act.0 first_act.1
+
 pub invariant_alike : InvariantAlike
 invariant_alike ranges x y alike p p' sp always first choices later run place s e =
     sym (sp s (there ranges x y alike first choices later run place s e)) ∙
@@ -130,6 +139,13 @@ unless_alike ranges x y alike p q p' q' sp sq safe first choices later run place
     sym (ap (λ b. b || q next) (sp next after) ∙ ap (λ b. p' next || b) (sq next after)) ∙
     safe first choices later (other ranges x y alike first choices later run) place now next e d
     (same_before ranges p q p' q' sp sq now (inside place now e) h)
+
+pub constant_alike : ConstantAlike
+constant_alike ranges x y alike p p' sp steady first choices later run place now next e d =
+    let inside = there ranges x y alike first choices later run in
+    sym (sp now (inside place now e)) ∙
+    (steady first choices later (other ranges x y alike first choices later run) place now next e d ∙
+    sp next (inside (suc place) next d))
 
 pub ensures_alike : EnsuresAlike
 ensures_alike ranges x y alike p q p' q' sp sq known =

@@ -18,8 +18,8 @@ use Rattle.meaning_laws.specs.Systems.{kept}
 use Rattle.meaning_laws.specs.Stands.{EnsuresStands}
 use Rattle.meaning_laws.specs.KeptLaws.{ImplicationKept, UnlessKept, EnsuresLeadsKept, DefinedNarrows}
 use Rattle.meaning_laws.specs.KeptLaws.{InvariantNarrows, UnlessNarrows, EnsuresNarrows, LeadsNarrows}
-use Rattle.meaning_laws.specs.StandingLaws.{InvariantBoth, DefinedHolds, InvariantHolds, UnlessHolds, EnsuresHolds}
-use Rattle.meaning_laws.specs.StandingLaws.{LeadsHolds}
+use Rattle.meaning_laws.specs.StandingLaws.{InvariantBoth, DefinedHolds, FixedHolds, InvariantHolds, UnlessHolds}
+use Rattle.meaning_laws.specs.StandingLaws.{ConstantHolds, EnsuresHolds, LeadsHolds}
 use Rattle.meaning_laws.proofs.KeptTheorems.{kept_runs, kept_length}
 
 pub invariant_both : InvariantBoth
@@ -30,6 +30,10 @@ invariant_both x u v one other first choices later run place state e =
 pub defined_holds : DefinedHolds
 defined_holds x u always stands first choices later run place state e choice act f =
     stands state choice act (always first choices later run place state e) f
+
+pub fixed_holds : FixedHolds
+fixed_holds x u p always stands first choices later run place state e h =
+    stands state (always first choices later run place state e) h
 
 -- by induction on the place
 pub invariant_holds : InvariantHolds
@@ -48,6 +52,12 @@ unless_holds x u p q always stands first choices later run place now next e d h 
     let step = each_is_a_step x first choices later run place now next e d in
     stands step.0 now next (always first choices later run place now e)
     (always first choices later run (suc place) next d) step.2 h
+
+pub constant_holds : ConstantHolds
+constant_holds x u p always stands first choices later run place now next e d =
+    let step = each_is_a_step x first choices later run place now next e d in
+    stands step.0 now next (always first choices later run place now e)
+    (always first choices later run (suc place) next d) step.2
 
 some_step : (o : Option State) → o ≢ None → (t : State) × (o ≡ Some t)
 some_step None h = absurd (h refl)

@@ -4,7 +4,8 @@ use Rattle.meaning_states.specs.State.{State, Ranges, is_state}
 use Rattle.meaning_documents.specs.Setting.{Setting, slot_ranges}
 use Rattle.meaning_documents.specs.Programs.{Composed}
 use Rattle.meaning_documents.specs.Execution.{System, IsExecution, system_of, is_initial, chosen_step}
-use Rattle.meaning_documents.specs.Properties.{Test, IsAlwaysDefined, IsInvariant, Unless, Ensures, LeadsTo}
+use Rattle.meaning_documents.specs.Properties.{Test, IsAlwaysDefined, IsInvariant, Fixed, Unless, Constant, Ensures}
+use Rattle.meaning_documents.specs.Properties.{LeadsTo}
 use Rattle.meaning_laws.specs.Systems.{kept}
 use Rattle.meaning_laws.specs.Alike.{StepEquivalent, SameAt}
 
@@ -35,7 +36,12 @@ RunsAlike = (ranges : Ranges) (x y : System) → StepEquivalent ranges x y →
 abbrev pub DefinedAlike : Type 0
 DefinedAlike = (ranges : Ranges) (x y : System) → StepEquivalent ranges x y → IsAlwaysDefined x → IsAlwaysDefined y
 
--- by `invariant p`, for tests that pass at the same states
+-- by `fixed p`, for tests that pass at the same states
+abbrev pub FixedAlike : Type 0
+FixedAlike = (ranges : Ranges) (x y : System) → StepEquivalent ranges x y → (p p' : Test) → SameAt ranges p p' →
+    Fixed x p → Fixed y p'
+
+-- by `invariant p`
 abbrev pub InvariantAlike : Type 0
 InvariantAlike = (ranges : Ranges) (x y : System) → StepEquivalent ranges x y → (p p' : Test) → SameAt ranges p p' →
     IsInvariant x p → IsInvariant y p'
@@ -44,6 +50,11 @@ InvariantAlike = (ranges : Ranges) (x y : System) → StepEquivalent ranges x y 
 abbrev pub UnlessAlike : Type 0
 UnlessAlike = (ranges : Ranges) (x y : System) → StepEquivalent ranges x y → (p q p' q' : Test) →
     SameAt ranges p p' → SameAt ranges q q' → Unless x p q → Unless y p' q'
+
+-- by `constant p`
+abbrev pub ConstantAlike : Type 0
+ConstantAlike = (ranges : Ranges) (x y : System) → StepEquivalent ranges x y → (p p' : Test) → SameAt ranges p p' →
+    Constant x p → Constant y p'
 
 -- by `p ensures q`
 abbrev pub EnsuresAlike : Type 0

@@ -4,7 +4,7 @@
 use Rattle.std.specs.Prelude.{◌≡◌, ◌≢◌, ℕ, ◌<◌, ◌||◌, Some, None, IsTrue, length, slice_get}
 use Rattle.meaning_states.specs.State.{State}
 use Rattle.meaning_documents.specs.Execution.{Act, System, chosen_step}
-use Rattle.meaning_documents.specs.Properties.{Test, but_not, LeadsTo}
+use Rattle.meaning_documents.specs.Properties.{Test, but_not, IsFixedPoint, LeadsTo}
 use Rattle.meaning_laws.specs.Systems.{kept}
 
 -- what holds of each defined step by one choice between states with u
@@ -24,6 +24,10 @@ StepKeeps p now next = IsTrue (p now) → IsTrue (p next)
 abbrev pub StepUnless : Test → Test → State → State → Type 0
 StepUnless p q now next = IsTrue (but_not p q now) → IsTrue (p next || q next)
 
+-- p holds before and after a step, or at neither
+abbrev pub StepSame : Test → State → State → Type 0
+StepSame p now next = p now ≡ p next
+
 -- a step from a state with p and not q gives q
 abbrev pub StepHelps : Test → Test → State → State → Type 0
 StepHelps p q now next = IsTrue (but_not p q now) → IsTrue (q next)
@@ -33,6 +37,10 @@ abbrev pub DefinedStands : System → Test → Type 0
 DefinedStands x u = (state : State) (choice : ℕ) (act : Act) → IsTrue (u state) → slice_get x.steps choice ≡ Some act →
     act state ≢ None
 
+-- `fixed p`: each state with u and p is a fixed point
+abbrev pub FixedStands : System → Test → Test → Type 0
+FixedStands x u p = (state : State) → IsTrue (u state) → IsTrue (p state) → IsFixedPoint x state
+
 -- `invariant p`: each initial state with u has p, and each step keeps it
 pub record InvariantStands (x : System) (u p : Test) : Type 0 where
   pub starts : (state : State) → IsTrue (x.initial state) → IsTrue (u state) → IsTrue (p state)
@@ -41,6 +49,10 @@ pub record InvariantStands (x : System) (u p : Test) : Type 0 where
 -- `p unless q`: no step leads from p and not q to neither
 abbrev pub UnlessStands : System → Test → Test → Test → Type 0
 UnlessStands x u p q = EachDefinedStep x u (StepUnless p q)
+
+-- `constant p`: no step changes whether p holds
+abbrev pub ConstantStands : System → Test → Test → Type 0
+ConstantStands x u p = EachDefinedStep x u (StepSame p)
 
 -- `p ensures q` by the instance of this choice: p unless q, and each step of the instance leads from p and not q to q
 pub record EnsuresStands (x : System) (u p q : Test) (choice : ℕ) : Type 0 where

@@ -11,8 +11,8 @@
 ghost use Rattle.meaning_laws.specs.KeptLaws.{KeptRuns, ImplicationKept, UnlessKept, EnsuresLeadsKept};
 ghost use Rattle.meaning_laws.specs.KeptLaws.{DefinedNarrows, InvariantNarrows, UnlessNarrows, EnsuresNarrows};
 ghost use Rattle.meaning_laws.specs.KeptLaws.{LeadsNarrows};
-ghost use Rattle.meaning_laws.specs.StandingLaws.{InvariantBoth, DefinedHolds, InvariantHolds, UnlessHolds};
-ghost use Rattle.meaning_laws.specs.StandingLaws.{EnsuresHolds, LeadsHolds};
+ghost use Rattle.meaning_laws.specs.StandingLaws.{InvariantBoth, DefinedHolds, FixedHolds, InvariantHolds};
+ghost use Rattle.meaning_laws.specs.StandingLaws.{UnlessHolds, ConstantHolds, EnsuresHolds, LeadsHolds};
 ghost use Rattle.meaning_laws.specs.PairRules.{ConjunctionRule, ConjunctionEnsured, SimpleConjunction, Disjunction};
 ghost use Rattle.meaning_laws.specs.PairRules.{SimpleDisjunction, Cancellation, WeakerUnless, WeakerEnsures};
 ghost use Rattle.meaning_laws.specs.UnionRules.{UnionIsTogether, UnionDefined, UnionUnless, UnionInvariant};
@@ -21,7 +21,8 @@ ghost use Rattle.meaning_laws.specs.RoundSums.{RoundsAreLeft, LaterHaveFewer, Ro
 ghost use Rattle.meaning_laws.specs.ProgressLaws.{Transitivity, EitherLeads, AnyLeads, ProgressWithSafety, LeadsWeaker};
 ghost use Rattle.meaning_laws.specs.ProgressLaws.{LeadsByInduction};
 ghost use Rattle.meaning_laws.specs.AlikeLaws.{SourceAlike, AlikeBack, KeptAlike, RunsAlike, DefinedAlike};
-ghost use Rattle.meaning_laws.specs.AlikeLaws.{InvariantAlike, UnlessAlike, EnsuresAlike, LeadsAlike};
+ghost use Rattle.meaning_laws.specs.AlikeLaws.{FixedAlike, InvariantAlike, UnlessAlike, ConstantAlike};
+ghost use Rattle.meaning_laws.specs.AlikeLaws.{EnsuresAlike, LeadsAlike};
 ghost use Rattle.meaning_laws.specs.Examples.{CounterIsSafe, CounterEnsures, CounterArrives, UnionOfTwo};
 ghost use Rattle.meaning_laws.specs.Examples.{CountersAlike};
 
@@ -48,8 +49,10 @@ pub fn narrowing_laws()
 pub fn standing_laws()
     ensures both { InvariantBoth }
     ensures defined { DefinedHolds }
+    ensures fixed { FixedHolds }
     ensures invariant { InvariantHolds }
     ensures unless { UnlessHolds }
+    ensures constant { ConstantHolds }
     ensures ensured { EnsuresHolds }
     ensures leads { LeadsHolds }
 {}
@@ -106,8 +109,10 @@ pub fn alike_laws()
     ensures kept { KeptAlike }
     ensures runs { RunsAlike }
     ensures defined { DefinedAlike }
+    ensures fixed { FixedAlike }
     ensures invariant { InvariantAlike }
     ensures unless { UnlessAlike }
+    ensures constant { ConstantAlike }
     ensures ensured { EnsuresAlike }
     ensures leads { LeadsAlike }
 {}

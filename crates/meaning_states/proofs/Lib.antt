@@ -1,1 +1,2 @@
+pub mod DivisionTheorems
 pub mod StepTheorems

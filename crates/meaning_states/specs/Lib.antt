@@ -1,3 +1,5 @@
+pub mod Division
+pub mod DivisionLaws
 pub mod State
 pub mod Step
 pub mod StepLaws

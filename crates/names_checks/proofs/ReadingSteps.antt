@@ -5,6 +5,7 @@ use Rattle.case_tables.specs.declared.symbol_table.Symbol.{Symbol}
 use Rattle.case_tables.specs.declared.word_table.Word.{Word}
 use Rattle.unity_syntax.specs.declared.name.Name.{Name}
 use Rattle.unity_syntax.specs.declared.name.Range.{Range}
+use Rattle.unity_syntax.specs.declared.expression.Operator.{Operator}
 use Rattle.unity_syntax.specs.declared.expression.Expr.{Expr, roll-Expr, fold-roll-Expr}
 use Rattle.unity_syntax.specs.declared.expression.Expr.TheFolds.{map-Expr}
 use Rattle.unity_syntax.specs.declared.expression.Expr.TheOpen.{Expr-F}
@@ -19,7 +20,7 @@ use Rattle.names_rules.specs.declared.named.NameFault.{NameFault}
 use Rattle.names_rules.specs.Scope.{Scope, with_bound}
 use Rattle.names_rules.specs.Reading.{Fault, Words, Reading, ReadingAt, earlier, then, beside, typed, read, read_layer}
 use Rattle.names_rules.specs.Reading.{placed, joined, operands, needs, left_side, word_reading, range_reading, binding}
-use Rattle.names_rules.specs.Reading.{gathers, product, is_linear, in_order, unless}
+use Rattle.names_rules.specs.Reading.{gathers, product, factors, right_sides, is_linear, in_order, unless}
 use Rattle.case_tables.specs.declared.code_table.Code.{Code}
 use Rattle.names_rules.specs.Answers.{GivesReading, Notes, Stops, After}
 use Rattle.names_checks.specs.Factors.{further_factors}
@@ -30,13 +31,13 @@ pub record Leads (constant : Bool) (now : Words) (q : Reading) (old : Words) (r 
   pub constants : constant && q.constant ≡ r.constant
   pub words : now ++ q.words ≡ old ++ r.words
 
--- the same for factors, of which at most one is not constant so far or not
-pub record LeadsLinear (linear constant : Bool) (now : Words) (qs : List Reading) (first : Bool) (old : Words)
-    (rs : List Reading) : Type 0 where
-  pub faults : (in_order qs).fault ≡ (in_order rs).fault
+-- the same for operators with their right operands, which may all stand where they do so far or not
+pub record LeadsLinear (linear constant : Bool) (now : Words) (qs : List (Operator × Reading)) (first : Bool)
+    (old : Words) (rs : List (Operator × Reading)) : Type 0 where
+  pub faults : (in_order (right_sides qs)).fault ≡ (in_order (right_sides rs)).fault
   pub linears : linear && is_linear constant qs ≡ is_linear first rs
-  pub constants : constant && (in_order qs).constant ≡ first && (in_order rs).constant
-  pub words : now ++ (in_order qs).words ≡ old ++ (in_order rs).words
+  pub constants : constant && (in_order (right_sides qs)).constant ≡ first && (in_order (right_sides rs)).constant
+  pub words : now ++ (in_order (right_sides qs)).words ≡ old ++ (in_order (right_sides rs)).words
 
 pub stops_later : (e : NameFault) (f g : Option Fault) → f ≡ None → Stops e g → Stops e (earlier f g)
 stops_later e f g h s = subst (λ y. Stops e (earlier y g)) (sym h) s
@@ -68,23 +69,24 @@ beside_answers (Ok t) old mid new x q p a = (
 beside_answers (Err e) old mid new x q p a = stops_later e x.fault q.fault p.0 a
 
 -- the fault of a product after a first factor without a fault
-factor_fault : (at : ℕ) (x : Reading) (rs : List Reading) (constant : Bool) → x.fault ≡ None → constant ≡ x.constant →
-    (product at (x ∷ rs)).fault ≡ (further_factors at constant rs).fault
+factor_fault : (at : ℕ) (x : Reading) (rs : List (Operator × Reading)) (constant : Bool) → x.fault ≡ None →
+    constant ≡ x.constant → (product at x rs).fault ≡ (further_factors at constant rs).fault
 factor_fault at x rs constant f k =
-    ap (λ y. earlier (earlier y (in_order rs).fault) (unless (is_linear x.constant rs) Code.NotLinear at)) f
-    ∙ ap (λ b. earlier (in_order rs).fault (unless (is_linear b rs) Code.NotLinear at)) (sym k)
+    let more = in_order (right_sides rs) in
+    ap (λ y. earlier (earlier y more.fault) (unless (is_linear x.constant rs) Code.NotLinear at)) f
+    ∙ ap (λ b. earlier more.fault (unless (is_linear b rs) Code.NotLinear at)) (sym k)
 
 pub product_answers : (at : ℕ) (first : Typed) (result : Result Typed NameFault) (old mid new : Words) (x : Reading)
-    (rs : List Reading) →
+    (rs : List (Operator × Reading)) →
     GivesReading (Ok first) old mid x → GivesReading result mid new (further_factors at first.constant rs) →
-    GivesReading result old
-    new (product at (x ∷ rs))
-product_answers at first (Ok t) old mid new x rs p a = (
-  factor_fault at x rs first.constant p.0 p.2 ∙ a.0,
-  a.1,
-  a.2 ∙ ap (λ y. y && (in_order rs).constant) p.2,
-  a.3 ∙ ap (λ y. y ++ (in_order rs).words) p.3 ∙ append_assoc old x.words (in_order rs).words,
-)
+    GivesReading result old new (product at x rs)
+product_answers at first (Ok t) old mid new x rs p a =
+    let more = in_order (right_sides rs) in (
+      factor_fault at x rs first.constant p.0 p.2 ∙ a.0,
+      a.1,
+      a.2 ∙ ap (λ y. y && more.constant) p.2,
+      a.3 ∙ ap (λ y. y ++ more.words) p.3 ∙ append_assoc old x.words more.words,
+    )
 product_answers at first (Err e) old mid new x rs p a =
     subst (λ (y : Option Fault). Stops e y) (sym (factor_fault at x rs first.constant p.0 p.2)) a
 
@@ -129,8 +131,9 @@ pub read-Sum : (s : Scope) (at : ℕ) (minus : Bool) (first : Expr) (rest : List
 read-Sum s at minus first rest = layer (Expr-F.Sum at minus first rest) _ s (rolls-Sum at minus first rest)
     ∙ ap (λ y. placed at (joined Sort.Number (operands Sort.Number s (read first ∷ y)))) (second-parts rest)
 
-pub read-Product : (s : Scope) (at : ℕ) (first : Expr) (rest : List Expr) →
-    read (Product at first rest) s ≡ placed at (product at (operands Sort.Number s (read first ∷ map read rest)))
+pub read-Product : (s : Scope) (at : ℕ) (first : Expr) (rest : List (Operator × Expr)) →
+    read (Product at first rest) s ≡ placed at (product at (needs Sort.Number (read first s))
+    (factors s (map (λ (f : Operator × Expr). let m : Operator × ReadingAt = (f.0, read f.1) in m) rest)))
 read-Product s at first rest = layer (Expr-F.Product at first rest) _ s (rolls-Product at first rest)
 
 pub read-Word : (s : Scope) (at : ℕ) (name : Name) (index : Expr) →

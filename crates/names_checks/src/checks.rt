@@ -2,12 +2,12 @@
 
 ghost use Rattle.std.specs.Prelude.{◌≡◌};
 ghost use Rattle.names_rules.specs.Scope.{Scope};
-ghost use Rattle.names_rules.specs.Reading.{read, same_sort, unless};
+ghost use Rattle.names_rules.specs.Reading.{may_join, read, same_sort, unless};
 ghost use Rattle.names_rules.specs.Answers.{After, Demands, FitsSort};
 
 use case_tables::Code;
 use names_rules::{NameFault, Sort, Typed};
-use unity_syntax::Expr;
+use unity_syntax::{Expr, Operator};
 
 /// A fault unless this is so.
 pub fn demand(holds: bool, code: Code, at: u64) -> Result<(), NameFault>
@@ -58,6 +58,17 @@ pub fn after(first: Typed, sort: Sort, rest: Result<Typed, NameFault>) -> Result
         sort,
         constant: first.constant & rest.constant,
     })
+}
+
+/// Whether an operator may stand between sides that are constant or not.
+pub fn may_join(operator: Operator, left: bool, right: bool) -> bool
+    ensures { result ≡ may_join operator left right }
+{
+    match operator {
+        Operator::Times => left | right,
+        Operator::Div => right,
+        Operator::Mod => right,
+    }
 }
 
 /// The first byte of an expression.

@@ -31,6 +31,8 @@ fn claim(c: &Claim, known: &Known, env: &Env, table: &mut Table) -> Result<(), N
         Claim::Defined { at: _ } => Ok(()),
         Claim::Invariant { at: _, of } => value(of, Sort::Boolean, known, env, table),
         Claim::Stable { at: _, of } => value(of, Sort::Boolean, known, env, table),
+        Claim::Constant { at: _, of } => value(of, Sort::Boolean, known, env, table),
+        Claim::Fixed { at: _, of } => value(of, Sort::Boolean, known, env, table),
         Claim::Between {
             at: _,
             p,
@@ -62,6 +64,19 @@ fn rule(
         } => {
             reference(first, programs, known, env, table)?;
             reference(second, programs, known, env, table)
+        }
+        Rule::Superpose { at: _, of } => reference(of, programs, known, env, table),
+        Rule::Complete {
+            at: _,
+            first,
+            second,
+            third,
+            fourth,
+        } => {
+            reference(first, programs, known, env, table)?;
+            reference(second, programs, known, env, table)?;
+            reference(third, programs, known, env, table)?;
+            reference(fourth, programs, known, env, table)
         }
         Rule::Term { at: _, of } => term(of, programs, known, env, next, table),
     }

@@ -3,18 +3,18 @@
 ghost use Rattle.std.specs.Prelude.{◌≡◌, ◌∷◌, [], map, Option, Some, None, true};
 ghost use Rattle.names_rules.specs.declared.named.Meaning.{Meaning};
 ghost use Rattle.names_rules.specs.Scope.{scope, with_bound};
-ghost use Rattle.names_rules.specs.Reading.{beside, binding, gathers, joined, left_side, needs, operands};
-ghost use Rattle.names_rules.specs.Reading.{product, range_reading, read, then, typed, word_reading};
+ghost use Rattle.names_rules.specs.Reading.{beside, binding, factors, gathers, joined, left_side, needs};
+ghost use Rattle.names_rules.specs.Reading.{operands, range_reading, read, then, typed, word_reading};
 ghost use Rattle.names_rules.specs.Answers.{GivesReading, Notes};
 ghost use Rattle.names_checks.specs.Factors.{further_factors};
 
-use crate::checks::{after, demand, has_type, place};
+use crate::checks::{after, demand, has_type, may_join, place};
 use crate::ranges::bind_in;
 use crate::words::{Table, word};
 use case_tables::{Code, Symbol, Word};
 use names_rules::{Env, Known, Meaning, NameFault, Sort, Typed, with_name};
 use unity_base::{Held, Seq};
-use unity_syntax::{Expr, Name, Range};
+use unity_syntax::{Expr, Name, Operator, Range};
 
 /// The type of an expression; what its words mean is added to the table.
 #[cycle(walk)]
@@ -229,25 +229,25 @@ fn parts(
     })
 }
 
-/// The further factors of a product.
+/// The further operands of a product, each after its operator.
 #[cycle(walk)]
 fn factors(
     at: u64,
     first: Typed,
-    es: &Seq<Expr>,
+    es: &Seq<(Operator, Expr)>,
     known: &Known,
     env: &Env,
     table: &mut Table,
 ) -> Result<Typed, NameFault>
-    ensures { GivesReading result table.old table.new
-        (further_factors at first.constant (operands Sort.Number (scope known.now env.now) (map read es.now))) }
+    ensures { GivesReading result table.old table.new (further_factors at first.constant
+        (factors (scope known.now env.now) (map (λ f. (f.0, read f.1)) es.now))) }
 {
     let mut constant = first.constant;
     let mut linear = true;
-    for e in es.as_slice() {
+    for (operator, e) in es.as_slice() {
         let found = expression(e, known, env, table)?;
         let typed = has_type(found, Sort::Number, place(e))?;
-        linear = linear & (constant | typed.constant);
+        linear = linear & may_join(*operator, constant, typed.constant);
         constant = constant & typed.constant;
     }
     demand(linear, Code::NotLinear, at)?;

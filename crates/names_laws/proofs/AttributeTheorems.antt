@@ -1,5 +1,5 @@
 -- A reading without a fault and the attributes of its expression, by the kinds of expressions.
-use Rattle.std.proofs.Common.{◌≡◌, ℕ, List, [], ◌∷◌, map, Bool, true, false, cond, not, ◌&&◌, ◌||◌, Option, Some, None}
+use Rattle.std.proofs.Common.{◌≡◌, ℕ, List, [], ◌∷◌, map, Bool, true, false, cond, not, ◌&&◌, Option, Some, None}
 use Rattle.std.proofs.Common.{option_map, refl, sym, ap, ◌∙◌, subst}
 use Rattle.std.specs.Map.{lookup}
 use Rattle.std.specs.Option.{is_some, option_or}
@@ -9,6 +9,7 @@ use Rattle.case_tables.specs.declared.symbol_table.Symbol.{Symbol}
 use Rattle.unity_syntax.specs.declared.name.End.{End}
 use Rattle.unity_syntax.specs.declared.name.Name.{Name}
 use Rattle.unity_syntax.specs.declared.name.Range.{Range}
+use Rattle.unity_syntax.specs.declared.expression.Operator.{Operator}
 use Rattle.unity_syntax.specs.declared.expression.Expr.{Expr}
 use Rattle.unity_syntax.specs.declared.expression.Expr.TheOpen.{Expr-F}
 use Rattle.unity_syntax.specs.TwoFolds.{Related, ExpressionLayers}
@@ -19,9 +20,10 @@ use Rattle.names_rules.specs.declared.named.Named.{Named}
 use Rattle.names_rules.specs.Scope.{Scope, Table, Bounds, found, is_param, bound_named, is_visible, visible, with_bound}
 use Rattle.names_rules.specs.Reading.{Fault, Reading, ReadingAt, earlier, unless, same_sort, needs, gathers, in_order}
 use Rattle.names_rules.specs.Reading.{is_linear, left_side, same_bool, word_found, binding, range_reading, end_reading}
-use Rattle.names_rules.specs.Reading.{end_word, read_layer, read}
+use Rattle.names_rules.specs.Reading.{end_word, read_layer, read, may_join, right_sides, product}
+use Rattle.names_rules.specs.Reading.{factors as right_operands}
 use Rattle.names_rules.proofs.Faults.{earlier_first, earlier_second, unless_none}
-use Rattle.names_laws.specs.Attributes.{Attributes, Attributed, attributes, both, all, times, factors, is_number}
+use Rattle.names_laws.specs.Attributes.{Attributes, Attributed, attributes, both, all, operated, factors, is_number}
 use Rattle.names_laws.specs.Attributes.{is_fixed_end, is_fixed, attribute_layer, word_attributes}
 use Rattle.names_laws.specs.AttributeLaws.{VariesAsArray, ArraysVary, ExactWhereFaultless, ConstantAsRead}
 use Rattle.names_laws.specs.AttributeLaws.{DocumentsVary}
@@ -46,6 +48,15 @@ readings sort s ks = map (λ m. needs sort (m s)) (map (λ k. k.0) ks)
 
 abbrev tellings : Scope → List Part → List Attributes
 tellings s ks = map (λ m. m s) (map (λ k. k.1) ks)
+
+-- the further operands of a product with their operators, as they are read,
+abbrev sided : Scope → List (Operator × Part) → List (Operator × Reading)
+sided s ks = right_operands s (map (λ (k : Operator × Part). let m : Operator × ReadingAt = (k.0, k.1.0) in m) ks)
+
+-- and with their attributes
+abbrev sides_told : Scope → List (Operator × Part) → List (Operator × Attributes)
+sides_told s ks =
+    map (λ m. (m.0, m.1 s)) (map (λ (k : Operator × Part). let m : Operator × Attributed = (k.0, k.1.1) in m) ks)
 
 pub and_both : (a b : Bool) → a ≡ true → b ≡ true → (a && b) ≡ true
 and_both true b h k = k
@@ -93,22 +104,25 @@ module _ (s : Scope) (vary : ArraysVary s.names) where
       (cc (t.0, x.0), and_both a.exact (k.1 s).exact t.1 x.1) (earlier_second f rest.fault h) in
       (y.0 ∙ and_assoc c (k.0 s).constant rest.constant, y.1)
 
-  factors_tell : (sort : Sort) (ks : List Part) (c : Bool) (a : Attributes) → (a.constant ≡ c) × (a.exact ≡ true) →
-      is_linear c (readings sort s ks) ≡ true →
-      Tells (in_order (readings sort s ks)).fault (c && (in_order (readings sort s ks)).constant)
-      (factors a (tellings s ks))
-  factors_tell sort [] c a t l h = (t.0 ∙ sym (and_true c), t.1)
-  factors_tell sort (k ∷ ks) c a t l h =
-      let rest = in_order (readings sort s ks) in
-      let f = (needs sort (k.0 s)).fault in
-      let d = (k.0 s).constant in
-      let more = is_linear (c && d) (readings sort s ks) in
-      let x = tells_part sort k (earlier_first f rest.fault h) in
-      let one : (a.constant || (k.1 s).constant) ≡ true =
-      ap (λ z. z || (k.1 s).constant) t.0 ∙ ap (λ z. c || z) x.0 ∙ and_first (c || d) more l in
-      let y = factors_tell sort ks (c && d) (times a (k.1 s))
-      (cc (t.0, x.0), and_both (a.constant || (k.1 s).constant) _ one (and_both a.exact (k.1 s).exact t.1 x.1))
-      (and_second (c || d) more l) (earlier_second f rest.fault h) in
+  factors_tell : (ks : List (Operator × Part)) (c : Bool) (a : Attributes) → (a.constant ≡ c) × (a.exact ≡ true) →
+      is_linear c (sided s ks) ≡ true →
+      Tells (in_order (right_sides (sided s ks))).fault (c && (in_order (right_sides (sided s ks))).constant)
+      (factors a (sides_told s ks))
+  factors_tell [] c a t l h = (t.0 ∙ sym (and_true c), t.1)
+  factors_tell (k ∷ ks) c a t l h =
+      let rest = in_order (right_sides (sided s ks)) in
+      let f = (needs Sort.Number (k.1.0 s)).fault in
+      let d = (k.1.0 s).constant in
+      let b : Attributes = k.1.1 s in
+      let more = is_linear (c && d) (sided s ks) in
+      let x = tells_part Sort.Number k.1 (earlier_first f rest.fault h) in
+      let joins : may_join k.0 a.constant b.constant ≡ true =
+      ap (λ z. may_join k.0 z b.constant) t.0 ∙ ap (λ z. may_join k.0 c z) x.0 ∙ and_first (may_join k.0 c d) more l in
+      let y = factors_tell ks (c && d) (operated k.0 a b) (
+        cc (t.0, x.0),
+        and_both (may_join k.0 a.constant b.constant) _ joins (and_both a.exact b.exact t.1 x.1),
+      )
+      (and_second (may_join k.0 c d) more l) (earlier_second f rest.fault h) in
       (y.0 ∙ and_assoc c d rest.constant, y.1)
 
   -- operands, from the first on
@@ -120,18 +134,17 @@ module _ (s : Scope) (vary : ArraysVary s.names) where
       let g = (in_order (readings sort s ks)).fault in
       all_tell sort ks (k.0 s).constant (k.1 s) (tells_part sort k (earlier_first f g h)) (earlier_second f g h)
 
-  product_tells : (at : ℕ) (k : Part) (ks : List Part) →
-      Tells (earlier (in_order (readings Sort.Number s (k ∷ ks))).fault
-      (unless (is_linear true (readings Sort.Number s (k ∷ ks))) Code.NotLinear at))
-      (in_order (readings Sort.Number s (k ∷ ks))).constant (factors (k.1 s) (tellings s ks))
+  product_tells : (at : ℕ) (k : Part) (ks : List (Operator × Part)) →
+      Tells (product at (needs Sort.Number (k.0 s)) (sided s ks)).fault
+      (product at (needs Sort.Number (k.0 s)) (sided s ks)).constant (factors (k.1 s) (sides_told s ks))
   product_tells at k ks h =
       let f = (needs Sort.Number (k.0 s)).fault in
-      let g = (in_order (readings Sort.Number s ks)).fault in
-      let u = unless (is_linear true (readings Sort.Number s (k ∷ ks))) Code.NotLinear at in
+      let g = (in_order (right_sides (sided s ks))).fault in
+      let linear = is_linear (k.0 s).constant (sided s ks) in
+      let u = unless linear Code.NotLinear at in
       let i = earlier_first (earlier f g) u h in
-      factors_tell Sort.Number ks (k.0 s).constant (k.1 s) (tells_part Sort.Number k (earlier_first f g i))
-      (unless_none (is_linear true (readings Sort.Number s (k ∷ ks))) Code.NotLinear at
-      (earlier_second (earlier f g) u h))
+      factors_tell ks (k.0 s).constant (k.1 s) (tells_part Sort.Number k (earlier_first f g i))
+      (unless_none linear Code.NotLinear at (earlier_second (earlier f g) u h))
       (earlier_second f g i)
 
 -- the parts of a sum, without their signs

@@ -1,17 +1,19 @@
 -- What the names in an expression decide: whether it is constant, and whether a linear term can say it exactly.
-use Rattle.std.specs.Prelude.{List, [], ◌∷◌, map, Bool, true, false, not, ◌&&◌, ◌||◌, Option, Some, None, option_map}
+use Rattle.std.specs.Prelude.{List, [], ◌∷◌, map, Bool, true, false, not, ◌&&◌, Option, Some, None, option_map}
 use Rattle.std.specs.Map.{lookup}
 use Rattle.std.specs.Str.{bytes_eq}
 use Rattle.unity_syntax.specs.declared.name.End.{End}
 use Rattle.unity_syntax.specs.declared.name.Range.{Range}
+use Rattle.unity_syntax.specs.declared.expression.Operator.{Operator}
 use Rattle.unity_syntax.specs.declared.expression.Expr.{Expr, fold-Expr}
 use Rattle.unity_syntax.specs.declared.expression.Expr.TheOpen.{Expr-F}
 use Rattle.names_rules.specs.declared.named.Meaning.{Meaning}
 use Rattle.names_rules.specs.declared.named.Named.{Named}
 use Rattle.names_rules.specs.Scope.{Scope, Bounds, found, is_param, with_bound}
+use Rattle.names_rules.specs.Reading.{may_join}
 
--- whether an expression is constant: it names no variable and no parameter; and whether it is exact: each product has
--- at most one factor that is not constant, and each word in a range end is a bound name
+-- whether an expression is constant: it names no variable and no parameter; and whether it is exact: each `*` has a
+-- constant on one of its two sides, each `div` and `mod` on the right one, and each word in a range end is a bound name
 pub record Attributes : Type 0 where
   pub constant : Bool
   pub exact : Bool
@@ -29,14 +31,17 @@ abbrev pub all : Attributes → List Attributes → Attributes
 all a [] = a
 all a (b ∷ bs) = all (both a b) bs
 
--- those of a product of two factors
-abbrev pub times : Attributes → Attributes → Attributes
-times a b = record { constant = a.constant && b.constant; exact = (a.constant || b.constant) && (a.exact && b.exact) }
+-- those of the two sides of an operator
+abbrev pub operated : Operator → Attributes → Attributes → Attributes
+operated operator a b = record {
+  constant = a.constant && b.constant;
+  exact = may_join operator a.constant b.constant && (a.exact && b.exact);
+}
 
--- those of a product with further factors
-abbrev pub factors : Attributes → List Attributes → Attributes
+-- those of a product, from the left
+abbrev pub factors : Attributes → List (Operator × Attributes) → Attributes
 factors a [] = a
-factors a (b ∷ bs) = factors (times a b) bs
+factors a (b ∷ bs) = factors (operated b.0 a b.1) bs
 
 -- whether a word with a meaning is constant
 abbrev pub is_constant : Option Named → Bool
@@ -77,7 +82,7 @@ attribute_layer (Expr-F.Or at first rest) s = all (first s) (map (λ m. m s) res
 attribute_layer (Expr-F.Not at of) s = of s
 attribute_layer (Expr-F.Compare at left relation right) s = both (left s) (right s)
 attribute_layer (Expr-F.Sum at minus first rest) s = all (first s) (map (λ part. part.1 s) rest)
-attribute_layer (Expr-F.Product at first rest) s = factors (first s) (map (λ m. m s) rest)
+attribute_layer (Expr-F.Product at first rest) s = factors (first s) (map (λ m. (m.0, m.1 s)) rest)
 attribute_layer (Expr-F.Number at number) s = constantly
 attribute_layer (Expr-F.True at) s = constantly
 attribute_layer (Expr-F.False at) s = constantly
@@ -90,7 +95,7 @@ attribute_layer (Expr-F.Quantified at which name range of) s =
 abbrev pub attributes : Expr → Attributed
 attributes = fold-Expr Attributed attribute_layer
 
--- whether each product has at most one factor that is not constant, and each word in a range end is a bound name
+-- whether each operator of a product has constants where it needs them, and each word in a range end is a bound name
 abbrev pub is_exact : Expr → Scope → Bool
 is_exact e s = (attributes e s).exact
 

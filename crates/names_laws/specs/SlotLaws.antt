@@ -1,7 +1,6 @@
 -- What the slots of a document's variables hold.
-use Rattle.std.specs.Prelude.{◌≡◌, ℕ, ℤ, pos, List, [], ◌∷◌, true, cond, Option, Some, None, slice_get, slice_index_or}
+use Rattle.std.specs.Prelude.{◌≡◌, ℕ, ℤ, pos, List, true, Option, Some, slice_get, slice_index_or}
 use Rattle.std.specs.Prelude.{◌⊎◌}
-use Rattle.std.specs.Str.{bytes_eq}
 use Rattle.unity_syntax.specs.declared.program.Program.{Program}
 use Rattle.meaning_states.specs.State.{State, is_state, in_range}
 use Rattle.meaning_documents.specs.Names.{Variable, slot_named, variable_named}

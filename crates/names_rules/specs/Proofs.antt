@@ -122,6 +122,8 @@ abbrev pub claim_reading : Scope → Claim → Reading
 claim_reading s (Claim.Defined at) = plain Sort.Boolean
 claim_reading s (Claim.Invariant at of) = boolean of s
 claim_reading s (Claim.Stable at of) = boolean of s
+claim_reading s (Claim.Constant at of) = boolean of s
+claim_reading s (Claim.Fixed at of) = boolean of s
 claim_reading s (Claim.Between at p which q) = beside (boolean p s) (boolean q s)
 
 -- a rule; the names that a term binds are numbered from this number on
@@ -130,6 +132,9 @@ rule_part programs s next (Rule.Text at with) = quiet next (helper_reading s wit
 rule_part programs s next (Rule.Weaken at of) = quiet next (ref_reading programs s of)
 rule_part programs s next (Rule.Pair at which first second) =
     quiet next (beside (ref_reading programs s first) (ref_reading programs s second))
+rule_part programs s next (Rule.Superpose at of) = quiet next (ref_reading programs s of)
+rule_part programs s next (Rule.Complete at first second third fourth) =
+    quiet next (all_beside (map (ref_reading programs s) (first ∷ second ∷ third ∷ fourth ∷ [])))
 rule_part programs s next (Rule.Term at of) = term_part programs of s next
 
 -- whether a claim may have parameters

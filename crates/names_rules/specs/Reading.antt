@@ -12,6 +12,7 @@ use Rattle.case_tables.specs.declared.word_table.Word.{Word}
 use Rattle.unity_syntax.specs.declared.name.Name.{Name}
 use Rattle.unity_syntax.specs.declared.name.End.{End}
 use Rattle.unity_syntax.specs.declared.name.Range.{Range}
+use Rattle.unity_syntax.specs.declared.expression.Operator.{Operator}
 use Rattle.unity_syntax.specs.declared.expression.Expr.{Expr, fold-Expr}
 use Rattle.unity_syntax.specs.declared.expression.Expr.TheOpen.{Expr-F}
 use Rattle.names_rules.specs.declared.named.Meaning.{Meaning}
@@ -174,15 +175,27 @@ left_side Symbol.Equal r = r
 left_side Symbol.NotEqual r = r
 left_side _ r = needs Sort.Number r
 
--- whether at most one factor is not constant, where these follow others that are constant or not
-abbrev pub is_linear : Bool → List Reading → Bool
-is_linear constant [] = true
-is_linear constant (r ∷ rest) = (constant || r.constant) && is_linear (constant && r.constant) rest
+-- whether an operator may stand between sides that are constant or not: `*` needs a constant on one of its two sides,
+-- `div` and `mod` on the right one
+abbrev pub may_join : Operator → Bool → Bool → Bool
+may_join Operator.Times left right = left || right
+may_join Operator.Div left right = right
+may_join Operator.Mod left right = right
 
--- factors; their product may name variables and parameters in one of them
-abbrev pub product : ℕ → List Reading → Reading
-product at rs = record (joined Sort.Number rs) {
-  fault = earlier (in_order rs).fault (unless (is_linear true rs) Code.NotLinear at);
+-- whether each operator may stand where it does, its left side being all before it, which is constant or not
+abbrev pub is_linear : Bool → List (Operator × Reading) → Bool
+is_linear constant [] = true
+is_linear constant (f ∷ rest) = may_join f.0 constant f.1.constant && is_linear (constant && f.1.constant) rest
+
+-- right operands, without their operators
+abbrev pub right_sides : List (Operator × Reading) → List Reading
+right_sides fs = map (λ f. f.1) fs
+
+-- a product: the fault of an operator that may not stand there comes after those of all operands
+abbrev pub product : ℕ → Reading → List (Operator × Reading) → Reading
+product at first rest = record (joined Sort.Number (first ∷ right_sides rest)) {
+  fault = earlier (in_order (first ∷ right_sides rest)).fault
+      (unless (is_linear first.constant rest) Code.NotLinear at);
 }
 
 -- what an expression is, at each place where it may stand
@@ -192,6 +205,10 @@ ReadingAt = Scope → Reading
 -- operands that are to have this type
 abbrev pub operands : Sort → Scope → List ReadingAt → List Reading
 operands sort s ms = map (λ m. needs sort (m s)) ms
+
+-- the further operands of a product, which are to be numbers, each with its operator
+abbrev pub factors : Scope → List (Operator × ReadingAt) → List (Operator × Reading)
+factors s ms = map (λ m. (m.0, needs Sort.Number (m.1 s))) ms
 
 -- each kind of expression, from its parts
 abbrev pub read_layer : Expr-F ReadingAt → ReadingAt
@@ -207,7 +224,7 @@ read_layer (Expr-F.Compare at left relation right) s = placed at (typed Sort.Boo
 read_layer (Expr-F.Sum at minus first rest) s =
     placed at (joined Sort.Number (operands Sort.Number s (first ∷ map (λ part. part.1) rest)))
 read_layer (Expr-F.Product at first rest) s =
-    placed at (product at (operands Sort.Number s (first ∷ rest)))
+    placed at (product at (needs Sort.Number (first s)) (factors s rest))
 read_layer (Expr-F.Number at number) s = placed at (plain Sort.Number)
 read_layer (Expr-F.True at) s = placed at (plain Sort.Boolean)
 read_layer (Expr-F.False at) s = placed at (plain Sort.Boolean)

@@ -1,5 +1,6 @@
 use Rattle.meaning_laws.proofs.AlikeTheorems.{source_alike, alike_back, kept_alike, runs_alike, defined_alike}
-use Rattle.meaning_laws.proofs.AlikeTheorems.{invariant_alike, unless_alike, ensures_alike, leads_alike}
+use Rattle.meaning_laws.proofs.AlikeTheorems.{fixed_alike, invariant_alike, unless_alike, constant_alike}
+use Rattle.meaning_laws.proofs.AlikeTheorems.{ensures_alike, leads_alike}
 use Rattle.meaning_laws.proofs.alike_laws.Goals as goal
 
 pub returns-clause-source : goal.returns-clause-source
@@ -17,11 +18,17 @@ returns-clause-runs c = runs_alike
 pub returns-clause-defined : goal.returns-clause-defined
 returns-clause-defined c = defined_alike
 
+pub returns-clause-fixed : goal.returns-clause-fixed
+returns-clause-fixed c = fixed_alike
+
 pub returns-clause-invariant : goal.returns-clause-invariant
 returns-clause-invariant c = invariant_alike
 
 pub returns-clause-unless : goal.returns-clause-unless
 returns-clause-unless c = unless_alike
+
+pub returns-clause-constant : goal.returns-clause-constant
+returns-clause-constant c = constant_alike
 
 pub returns-clause-ensured : goal.returns-clause-ensured
 returns-clause-ensured c = ensures_alike

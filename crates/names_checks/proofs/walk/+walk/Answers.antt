@@ -1,10 +1,12 @@
 use Rattle.std.proofs.Common.{subst, map}
 use Rattle.case_tables.specs.declared.symbol_table.Symbol.{Symbol}
+use Rattle.unity_syntax.specs.declared.expression.Operator.{Operator}
 use Rattle.unity_syntax.specs.declared.expression.Expr.{Expr}
 use Rattle.names_rules.specs.declared.named.Meaning.{Meaning}
 use Rattle.names_rules.specs.declared.named.Sort.{Sort}
 use Rattle.names_rules.specs.Scope.{scope, Bounds, with_bound}
-use Rattle.names_rules.specs.Reading.{read, needs, joined, operands, left_side, beside, binding, range_reading, gathers}
+use Rattle.names_rules.specs.Reading.{read, needs, joined, operands, factors, left_side, beside, binding}
+use Rattle.names_rules.specs.Reading.{range_reading, gathers, ReadingAt}
 use Rattle.names_rules.specs.Answers.{GivesReading}
 use Rattle.names_checks.proofs.ReadingSteps.{after_answers, beside_answers, product_answers, read-junction}
 use Rattle.names_checks.proofs.ReadingSteps.{read-Implies, read-Compare, read-Sum, read-Product, read-Quantified}
@@ -35,7 +37,8 @@ pub expression-returns-in_ok-first-in-Product : goal.expression-returns-in_ok-fi
 expression-returns-in_ok-first-in-Product t c = let s = scope c.args.known.now c.args.env.now in
     rw (c.in-Product.is, read-Product) (product_answers c.in-Product.at _ c.factors.result c.args.table.now
     c.operand-in-Product.new.table _ (needs Sort.Number (read c.in-Product.first s))
-    (operands Sort.Number s (map read c.in-Product.rest)) c.in_ok-first-in-Product.ensures c.factors.ensures)
+    (factors s (map (λ (f : Operator × Expr). let m : Operator × ReadingAt = (f.0, read f.1) in m) c.in-Product.rest))
+    c.in_ok-first-in-Product.ensures c.factors.ensures)
 
 pub expression-returns-in-Quantified : goal.expression-returns-in-Quantified
 expression-returns-in-Quantified t c = rw (c.in-Quantified.is, read-Quantified) c.quantified.ensures

@@ -2,7 +2,7 @@ use Rattle.std.proofs.Common.{◌+◌, ◌*◌, map, max, drop}
 use Rattle.unity_syntax.specs.declared.expression.Expr.{size-Expr}
 use Rattle.names_rules.specs.declared.named.Sort.{Sort}
 use Rattle.names_rules.specs.Scope.{scope}
-use Rattle.names_rules.specs.Reading.{read, joined, operands}
+use Rattle.names_rules.specs.Reading.{read, joined, operands, factors}
 use Rattle.names_checks.proofs.ReadingSteps.{Leads, LeadsLinear}
 use Rattle.names_checks.proofs.walk.+walk.Given as goal
 
@@ -48,8 +48,8 @@ invariant-parts-loop-e l =
     (map (λ p. read p.1) (drop l.e-index l.e-items))))
     l.initial.table (joined Sort.Number (operands Sort.Number (scope l.known l.env) (map (λ p. read p.1) l.e-items)))
 
-abbrev pub invariant-factors-loop-e : goal.invariant-factors-loop-e
-invariant-factors-loop-e l =
-    LeadsLinear l.linear l.constant l.table (operands Sort.Number (scope l.known l.env)
-    (map read (drop l.e-index l.e-items)))
-    l.initial.constant l.initial.table (operands Sort.Number (scope l.known l.env) (map read l.e-items))
+abbrev pub invariant-factors-loop-operator : goal.invariant-factors-loop-operator
+invariant-factors-loop-operator l =
+    LeadsLinear l.linear l.constant l.table
+    (factors (scope l.known l.env) (map (λ f. (f.0, read f.1)) (drop l.operator-index l.operator-items)))
+    l.initial.constant l.initial.table (factors (scope l.known l.env) (map (λ f. (f.0, read f.1)) l.operator-items))
