@@ -1,6 +1,6 @@
 -- What holds of formulas, programs and documents that are handed to a call.
 use Rattle.std.specs.Prelude.{◌≡◌, ℕ, ◌+◌, ◌-◌, ◌^◌, ◌<◌, ◌≤◌, nat_eq, nat_lt, ℤ, pos, ◌≤ℤ◌, List, [], ◌∷◌, ◌++◌, map}
-use Rattle.std.specs.Prelude.{length, Bool, true, cond, ◌||◌, Option, Some, None, IsTrue, IsSome, All, Contains}
+use Rattle.std.specs.Prelude.{◌⊎◌, length, Bool, true, cond, ◌||◌, Option, Some, None, IsTrue, IsSome, All, Contains}
 use Rattle.std.specs.Prelude.{option_and_then, slice_get, sum, take, ⊤}
 use Rattle.std.specs.List.{list_any}
 use Rattle.std.specs.Int.RustNames.{unsigned_abs}
@@ -240,6 +240,8 @@ rule_refs (CRule.TextWith h) = []
 rule_refs (CRule.WeakenStep r) = r ∷ []
 rule_refs (CRule.Pair which r s) = r ∷ s ∷ []
 rule_refs (CRule.Union r s) = r ∷ s ∷ []
+rule_refs (CRule.Superpose r) = r ∷ []
+rule_refs (CRule.Complete r s t u) = r ∷ s ∷ t ∷ u ∷ []
 rule_refs (CRule.Proof t) = term_refs t
 
 -- the ranges of the names that a rule binds
@@ -258,11 +260,17 @@ RuleWellScoped slots ranges visible count _ = ⊤
 abbrev pub is_below : ℕ → ℕ → Bool
 is_below count n = nat_lt n count
 
--- what the formulas of a kind are, and that `defined` and `invariant` have no parameters
+-- what the formulas of a kind are where it does not have two, and that `defined` and `invariant` have no parameters
 abbrev pub KindFits : Kind → List Range → CForm → CForm → Type 0
 KindFits Kind.Defined params p q = (params ≡ []) × (p ≡ Top) × (q ≡ Top)
 KindFits Kind.Invariant params p q = (params ≡ []) × (q ≡ Bottom)
-KindFits _ params p q = ⊤
+KindFits Kind.Unless params p q = ⊤
+KindFits Kind.Ensures params p q = ⊤
+KindFits Kind.Leadsto params p q = ⊤
+KindFits Kind.Until params p q = ⊤
+KindFits Kind.Detects params p q = ⊤
+KindFits Kind.Constant params p q = q ≡ Bottom
+KindFits Kind.Fixed params p q = q ≡ Bottom
 
 -- a step over these slots
 pub record IsStep (slots : List CSlot) (s : CStep) : Type 0 where
@@ -325,7 +333,7 @@ ScheduleFits words programs (Some s) = IsNamed programs s.program × All (λ c. 
 
 -- a whole document
 pub record IsCoreDocument (d : CDocument) : Type 0 where
-  pub version : d.version ≡ 1
+  pub version : (d.version ≡ 1) ⊎ (d.version ≡ 2)
   pub slots : All IsSlot d.slots
   pub slot_words : All (λ s. IsWord d.words s.name × PrintWords d.words s.print) d.slots
   pub programs : All (IsProgram d.slots) d.programs

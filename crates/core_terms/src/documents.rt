@@ -55,6 +55,10 @@ pub enum CRule {
     Pair(RuleName, Ref, Ref),
     /// From a step of each part of a union.
     Union(Ref, Ref),
+    /// From a step of the program under this one, which is a layer over it.
+    Superpose(Ref),
+    /// From two leads-to steps and the two unless steps that keep what they reach.
+    Complete(Ref, Ref, Ref, Ref),
     Proof(PTerm),
 }
 
@@ -69,7 +73,7 @@ pub struct CStep {
     pub kind: Kind,
     /// `Top` for `defined`.
     pub p: CForm,
-    /// `Top` for `defined`, and `Bottom` for `invariant`.
+    /// `Top` for `defined`, and `Bottom` for `invariant`, `stable`, `constant` and `fixed`.
     pub q: CForm,
     pub rule: CRule,
     pub using: Seq<Ref>,

@@ -14,6 +14,7 @@ use Rattle.unity_syntax.specs.declared.expression.Expr
 use Rattle.unity_syntax.specs.declared.expression.Expr.{Expr, roll-Expr, fold-roll-Expr}
 use Rattle.unity_syntax.specs.declared.expression.Expr.TheFolds.{map-Expr}
 use Rattle.unity_syntax.specs.declared.expression.Expr.TheOpen.{Expr-F}
+use Rattle.unity_syntax.specs.declared.expression.Operator.{Operator}
 use Rattle.unity_syntax.specs.declared.expression.Expr.TheVariants.{rolls-Implies, rolls-And, rolls-Or, rolls-Not}
 use Rattle.unity_syntax.specs.declared.expression.Expr.TheVariants.{rolls-Compare, rolls-Sum, rolls-Product}
 use Rattle.unity_syntax.specs.declared.expression.Expr.TheVariants.{rolls-Number, rolls-True, rolls-False, rolls-Word}
@@ -49,10 +50,12 @@ pub unwritten-Or : (at : ℕ) (x : Expr) (xs : List Expr) (bs : List (List ℕ �
 unwritten-Or at x xs bs = unfolds _ _ (rolls-Or at x xs) bs ∙ ap (fold both_counts (unwritten_count x bs))
     (map_twice unwritten_count (λ m. m bs) xs)
 
-pub unwritten-Product : (at : ℕ) (x : Expr) (xs : List Expr) (bs : List (List ℕ × Bound)) →
-    unwritten_count (Expr.Product at x xs) bs ≡ fold both_counts (unwritten_count x bs) (of_all bs xs)
+pub unwritten-Product : (at : ℕ) (x : Expr) (xs : List (Operator × Expr)) (bs : List (List ℕ × Bound)) →
+    unwritten_count (Expr.Product at x xs) bs ≡
+    fold both_counts (unwritten_count x bs) (map (λ (p : Operator × Expr). unwritten_count p.1 bs) xs)
 unwritten-Product at x xs bs = unfolds _ _ (rolls-Product at x xs) bs
-    ∙ ap (fold both_counts (unwritten_count x bs)) (map_twice unwritten_count (λ m. m bs) xs)
+    ∙ ap (fold both_counts (unwritten_count x bs)) (map_twice (λ (p : Operator × Expr). (p.0, unwritten_count p.1))
+    (λ (p : Operator × Counting). p.1 bs) xs)
 
 pub unwritten-Sum : (at : ℕ) (minus : Bool) (x : Expr) (xs : List (Symbol × Expr)) (bs : List (List ℕ × Bound)) →
     unwritten_count (Expr.Sum at minus x xs) bs ≡

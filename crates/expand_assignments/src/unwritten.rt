@@ -4,6 +4,7 @@ ghost use Rattle.std.specs.Prelude.{◌≡◌, ◌∷◌, ◌≤◌, ◌^◌, �
 ghost use Rattle.std.specs.Int.RustNames.{unsigned_abs};
 ghost use Rattle.case_tables.specs.declared.symbol_table.Symbol.{Symbol};
 ghost use Rattle.unity_syntax.specs.declared.expression.Expr.{Expr};
+ghost use Rattle.unity_syntax.specs.declared.expression.Operator.{Operator};
 ghost use Rattle.meaning_documents.specs.Value.{count_up};
 ghost use Rattle.expand_rules.specs.declared.effects.Count.{Count};
 ghost use Rattle.expand_rules.specs.Forming.{fit_values, numbers};
@@ -18,7 +19,7 @@ use case_tables::Symbol;
 use expand_expressions::{Env, Numbers, range_misfit, range_numbers, with_bound};
 use expand_rules::Count;
 use unity_base::Seq;
-use unity_syntax::{Expr, Name, Range};
+use unity_syntax::{Expr, Name, Operator, Range};
 
 // A count; none where it is past the limit of nodes.
 fn within(count: Count) -> Option<Count>
@@ -99,7 +100,7 @@ pub fn unwritten(e: &Expr, env: &Env) -> Option<Count>
             unwritten(right.get(), env),
         ),
         Expr::Sum { first, rest, .. } => terms(unwritten(first.get(), env), rest, env),
-        Expr::Product { first, rest, .. } => parts(unwritten(first.get(), env), rest, env),
+        Expr::Product { first, rest, .. } => factors(unwritten(first.get(), env), rest, env),
         Expr::Number { .. } => nothing(),
         Expr::True { .. } => nothing(),
         Expr::False { .. } => nothing(),
@@ -138,6 +139,22 @@ fn parts(first: Option<Count>, rest: &Seq<Expr>, env: &Env) -> Option<Count>
 fn terms(first: Option<Count>, rest: &Seq<(Symbol, Expr)>, env: &Env) -> Option<Count>
     ensures { (n : Count) → TellsCount first n → TellsCount result (fold spec.both_counts n
         (map (λ (p : Symbol × Expr). spec.unwritten_count p.1 (bound_names env.now)) rest.now)) }
+{
+    let mut whole = first;
+    for part in rest.as_slice() {
+        if whole.is_none() {
+            return None;
+        }
+        whole = joined(whole, unwritten(&part.1, env));
+    }
+    whole
+}
+
+// The operands of a product.
+#[cycle(unwritten)]
+fn factors(first: Option<Count>, rest: &Seq<(Operator, Expr)>, env: &Env) -> Option<Count>
+    ensures { (n : Count) → TellsCount first n → TellsCount result (fold spec.both_counts n
+        (map (λ (p : Operator × Expr). spec.unwritten_count p.1 (bound_names env.now)) rest.now)) }
 {
     let mut whole = first;
     for part in rest.as_slice() {

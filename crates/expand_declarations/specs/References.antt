@@ -62,6 +62,8 @@ abbrev pub rule_names : Rule → Texts
 rule_names (Rule.Text at with) = []
 rule_names (Rule.Weaken at of) = []
 rule_names (Rule.Pair at which first second) = []
+rule_names (Rule.Superpose at of) = []
+rule_names (Rule.Complete at first second third fourth) = []
 rule_names (Rule.Term at of) = term_names of
 
 -- the names of a step's parameters, and of those that its term binds, by their numbers
@@ -129,6 +131,9 @@ rule_of Word.Conj = Joined.Pair RuleName.Conj
 rule_of Word.Simpleconj = Joined.Pair RuleName.Simpleconj
 rule_of Word.Disj = Joined.Pair RuleName.Disj
 rule_of Word.Simpledisj = Joined.Pair RuleName.Simpledisj
+rule_of Word.Until = Joined.Pair RuleName.Until
+rule_of Word.Detects = Joined.Pair RuleName.Detects
+rule_of Word.Constant = Joined.Pair RuleName.Constant
 rule_of Word.Union = Joined.Union
 rule_of _ = Joined.Pair RuleName.Cancel
 

@@ -86,6 +86,9 @@ abbrev pub rule_texts : Rule → Texts
 rule_texts (Rule.Text at with) = helper_texts with
 rule_texts (Rule.Weaken at of) = ref_texts of
 rule_texts (Rule.Pair at which first second) = ref_texts first ++ ref_texts second
+rule_texts (Rule.Superpose at of) = ref_texts of
+rule_texts (Rule.Complete at first second third fourth) =
+    (ref_texts first ++ ref_texts second) ++ (ref_texts third ++ ref_texts fourth)
 rule_texts (Rule.Term at of) = term_texts of
 
 -- a step's name, its parameters, and what its rule and `using` name

@@ -151,6 +151,14 @@ fn add_rule_names(rule: &Rule, words: &WordTable, names: &mut Seq<u32>) -> Resul
             first: _,
             second: _,
         } => Ok(()),
+        Rule::Superpose { at: _, of: _ } => Ok(()),
+        Rule::Complete {
+            at: _,
+            first: _,
+            second: _,
+            third: _,
+            fourth: _,
+        } => Ok(()),
         Rule::Term { at: _, of } => add_term_names(of, words, names),
     }
 }

@@ -1,6 +1,6 @@
 //! The words that proofs name.
 
-ghost use Rattle.std.specs.Prelude.{◌≡◌, map, OnOk};
+ghost use Rattle.std.specs.Prelude.{◌≡◌, ◌++◌, map, OnOk};
 ghost use Rattle.std.specs.List.{flat_map};
 ghost use Rattle.names_rules.specs.Scope.{seen_keys};
 ghost use Rattle.names_rules.specs.Declarations.{some_of};
@@ -84,6 +84,14 @@ fn add_term<'a>(t: &'a Term, words: &mut Gathered<'a>) -> Result<(), AllocError>
     }
 }
 
+fn add_pair<'a>(r: &'a Ref, s: &'a Ref, words: &mut Gathered<'a>) -> Result<(), AllocError>
+    ensures { OnOk result (seen_keys words.new
+        ≡ with_texts (seen_keys words.old) (texts_of.ref_texts r.now ++ texts_of.ref_texts s.now)) }
+{
+    add_ref(r, words)?;
+    add_ref(s, words)
+}
+
 fn add_rule<'a>(rule: &'a Rule, words: &mut Gathered<'a>) -> Result<(), AllocError>
     ensures { OnOk result (seen_keys words.new ≡ with_texts (seen_keys words.old) (texts_of.rule_texts rule.now)) }
 {
@@ -95,9 +103,17 @@ fn add_rule<'a>(rule: &'a Rule, words: &mut Gathered<'a>) -> Result<(), AllocErr
             which: _,
             first,
             second,
+        } => add_pair(first, second, words),
+        Rule::Superpose { at: _, of } => add_ref(of, words),
+        Rule::Complete {
+            at: _,
+            first,
+            second,
+            third,
+            fourth,
         } => {
-            add_ref(first, words)?;
-            add_ref(second, words)
+            add_pair(first, second, words)?;
+            add_pair(third, fourth, words)
         }
         Rule::Term { at: _, of } => add_term(of, words),
     }

@@ -244,6 +244,9 @@ pub fn pair_rule(which: Word, first: Ref, second: Ref) -> CRule
         Word::Simpleconj => CRule::Pair(RuleName::Simpleconj, first, second),
         Word::Disj => CRule::Pair(RuleName::Disj, first, second),
         Word::Simpledisj => CRule::Pair(RuleName::Simpledisj, first, second),
+        Word::Until => CRule::Pair(RuleName::Until, first, second),
+        Word::Detects => CRule::Pair(RuleName::Detects, first, second),
+        Word::Constant => CRule::Pair(RuleName::Constant, first, second),
         Word::Union => CRule::Union(first, second),
         _ => CRule::Pair(RuleName::Cancel, first, second),
     }
@@ -255,6 +258,8 @@ fn between_kind(which: Word) -> Kind
     match which {
         Word::Unless => Kind::Unless,
         Word::Ensures => Kind::Ensures,
+        Word::Until => Kind::Until,
+        Word::Detects => Kind::Detects,
         _ => Kind::Leadsto,
     }
 }
@@ -267,6 +272,8 @@ pub fn claim_kind(claim: &Claim) -> Kind
         Claim::Defined { at: _ } => Kind::Defined,
         Claim::Invariant { at: _, of: _ } => Kind::Invariant,
         Claim::Stable { at: _, of: _ } => Kind::Unless,
+        Claim::Constant { at: _, of: _ } => Kind::Constant,
+        Claim::Fixed { at: _, of: _ } => Kind::Fixed,
         Claim::Between {
             at: _,
             p: _,

@@ -6,14 +6,15 @@ use Rattle.std.proofs.lemmas.Int.{ints}
 use Rattle.std.specs.Prelude.{fold}
 use Rattle.case_tables.specs.declared.symbol_table.Symbol.{Symbol}
 use Rattle.case_tables.specs.declared.word_table.Word.{Word}
+use Rattle.unity_syntax.specs.declared.expression.Operator.{Operator}
 use Rattle.meaning_documents.specs.Value.{count_up}
 use Rattle.expand_rules.specs.declared.cores.Formed.{Formed}
 use Rattle.expand_rules.specs.Limits.{is_past, is_too_large}
-use Rattle.expand_rules.specs.Forming.{as_number, as_truth, sum, product, conjunction, disjunction, plus, gathered}
+use Rattle.expand_rules.specs.Forming.{as_number, as_truth, sum, conjunction, disjunction, plus, gathered, factored}
 use Rattle.expand_rules.proofs.Growing.{fold_keeps, as_number_keeps, as_truth_keeps, sum_first, sum_second}
-use Rattle.expand_rules.proofs.Growing.{product_first, product_second, conjunction_first, conjunction_second}
+use Rattle.expand_rules.proofs.Growing.{factored_first, factored_second, conjunction_first, conjunction_second}
 use Rattle.expand_rules.proofs.Growing.{disjunction_first, disjunction_second, plus_first, plus_second}
-use Rattle.expand_rules.proofs.Growing.{large_of_past, sum_large, product_large, conjunction_large}
+use Rattle.expand_rules.proofs.Growing.{large_of_past, sum_large, conjunction_large}
 use Rattle.expand_rules.proofs.Growing.{disjunction_large}
 use Rattle.expand_expressions.specs.declared.refusal.Refusal.{Refusal}
 use Rattle.expand_expressions.specs.declared.joining.Joint.{Joint}
@@ -42,25 +43,21 @@ pub joint_first : (j : Joint) (a b : Formed) → is_past a ≡ true → is_past 
 joint_first Joint.And = conjunction_first
 joint_first Joint.Or = disjunction_first
 joint_first Joint.Sum = sum_first
-joint_first Joint.Product = product_first
 
 pub joint_second : (j : Joint) (a b : Formed) → is_past b ≡ true → is_past (joint_of j a b) ≡ true
 joint_second Joint.And = conjunction_second
 joint_second Joint.Or = disjunction_second
 joint_second Joint.Sum = sum_second
-joint_second Joint.Product = product_second
 
 pub joint_large : (j : Joint) (a b : Formed) → is_too_large a ≡ true → is_too_large (joint_of j a b) ≡ true
 joint_large Joint.And = conjunction_large
 joint_large Joint.Or = disjunction_large
 joint_large Joint.Sum = sum_large
-joint_large Joint.Product = product_large
 
 pub begin_keeps : (j : Joint) (a : Formed) → is_past a ≡ true → is_past (begin_of j a) ≡ true
 begin_keeps Joint.And = as_truth_keeps
 begin_keeps Joint.Or = as_truth_keeps
 begin_keeps Joint.Sum = as_number_keeps
-begin_keeps Joint.Product = λ a h. h
 
 pub fold_past : (j : Joint) (a : Formed) (bs : List Formed) → is_past a ≡ true → is_past (fold (joint_of j) a bs) ≡
     true
@@ -76,12 +73,23 @@ pub next_past : (j : Joint) (a b : Formed) (bs : List Formed) → is_past b ≡ 
     (fold (joint_of j) a (b ∷ bs)) ≡ true
 next_past j a b bs h = fold_past j (joint_of j a b) bs (joint_second j a b h)
 
-pub plus_fold : (a : Formed) (bs : List (Symbol × Formed)) → is_past a ≡ true → is_past (fold plus a bs) ≡ true
-plus_fold a bs h = fold_keeps plus (λ x p i. plus_first p.0 x p.1 i) a bs h
+-- parts that are marked: by a sign in a sum, by an operator in a product
+abbrev pub MarkedFirst : {S : Type 0} → (Formed → S × Formed → Formed) → Type 0
+MarkedFirst {S} op = (o : S) (a b : Formed) → is_past a ≡ true → is_past (op a (o, b)) ≡ true
 
-pub plus_next : (a : Formed) (o : Symbol) (b : Formed) (bs : List (Symbol × Formed)) → is_past b ≡ true → is_past
-    (fold plus a ((o, b) ∷ bs)) ≡ true
-plus_next a o b bs h = plus_fold (plus a (o, b)) bs (plus_second o a b h)
+abbrev pub MarkedSecond : {S : Type 0} → (Formed → S × Formed → Formed) → Type 0
+MarkedSecond {S} op = (o : S) (a b : Formed) → is_past b ≡ true → is_past (op a (o, b)) ≡ true
+
+pub marked_fold : {S : Type 0} (op : Formed → S × Formed → Formed) → MarkedFirst op → (a : Formed)
+    (bs : List (S × Formed)) → is_past a ≡ true → is_past (fold op a bs) ≡ true
+marked_fold op k a bs h = fold_keeps op (λ x p i. k p.0 x p.1 i) a bs h
+
+pub plus_fold : (a : Formed) (bs : List (Symbol × Formed)) → is_past a ≡ true → is_past (fold plus a bs) ≡ true
+plus_fold a bs h = marked_fold plus plus_first a bs h
+
+pub factored_fold : (a : Formed) (bs : List (Operator × Formed)) → is_past a ≡ true →
+    is_past (fold factored a bs) ≡ true
+factored_fold a bs h = marked_fold factored factored_first a bs h
 
 -- instances
 
@@ -201,29 +209,31 @@ module _ {X : Type 0} (f : X → Formed) (j : Joint) (whole : Formed) (items res
       (fold_past j (joint_of j whole (f item)) (map f (drop (suc i) items))
       (subst (λ a. is_past (joint_of j whole a) ≡ true) e p))
 
-module _ {X : Type 0} (f : X → Formed) (whole : Formed) (items rest : List (Symbol × X)) (i : ℕ) (begin : Formed)
-    (initial : Formed)
+module _ {S X : Type 0} (op : Formed → S × Formed → Formed) (first_keeps : MarkedFirst op)
+    (second_keeps : MarkedSecond op) (f : X → Formed) (whole : Formed) (items rest : List (S × X)) (i : ℕ)
+    (begin : Formed) (initial : Formed)
     (within : i < length items) (first : initial ≡ begin) (same : items ≡ rest)
-    (leads : fold plus whole (map (λ (p : Symbol × X). (p.0, f p.1)) (drop i items)) ≡ fold plus initial
-    (map (λ (p : Symbol × X). (p.0, f p.1)) items)) where
-  abbrev signs : List (Symbol × X) → List (Symbol × Formed)
-  signs xs = map (λ (p : Symbol × X). (p.0, f p.1)) xs
+    (leads : fold op whole (map (λ (p : S × X). (p.0, f p.1)) (drop i items)) ≡ fold op initial
+    (map (λ (p : S × X). (p.0, f p.1)) items)) where
+  abbrev marks : List (S × X) → List (S × Formed)
+  marks xs = map (λ (p : S × X). (p.0, f p.1)) xs
 
-  sum_is : fold plus whole (signs (drop i items)) ≡ fold plus begin (signs rest)
-  sum_is = leads ∙ ap (λ a. fold plus a (signs items)) first ∙ ap (λ xs. fold plus begin (signs xs)) same
+  marked_is : fold op whole (marks (drop i items)) ≡ fold op begin (marks rest)
+  marked_is = leads ∙ ap (λ a. fold op a (marks items)) first ∙ ap (λ xs. fold op begin (marks xs)) same
 
-  pub sum_next : (item : Symbol × X) → item ≡ get_or items i item → is_past (f item.1) ≡ true → is_past
-      (fold plus begin (signs rest)) ≡ true
-  sum_next item is p = subst (λ a. is_past a ≡ true)
-      (sym (ap (λ xs. fold plus whole (signs xs)) (drop-cons items i item within ∙ ap (λ x. x ∷ drop (suc i) items)
-      (sym is))) ∙ sum_is)
-      (plus_next whole item.0 (f item.1) (signs (drop (suc i) items)) p)
+  pub marked_next : (item : S × X) → item ≡ get_or items i item → is_past (f item.1) ≡ true → is_past
+      (fold op begin (marks rest)) ≡ true
+  marked_next item is p = subst (λ a. is_past a ≡ true)
+      (sym (ap (λ xs. fold op whole (marks xs)) (drop-cons items i item within ∙ ap (λ x. x ∷ drop (suc i) items)
+      (sym is))) ∙ marked_is)
+      (marked_fold op first_keeps (op whole (item.0, f item.1)) (marks (drop (suc i) items))
+      (second_keeps item.0 whole (f item.1) p))
 
-  pub sum_joined : (item : Symbol × X) (next : Formed) → item ≡ get_or items i item → next ≡ f item.1 → is_past
-      (plus whole (item.0, next)) ≡ true →
-      is_past (fold plus begin (signs rest)) ≡ true
-  sum_joined item next is e p = subst (λ a. is_past a ≡ true)
-      (sym (ap (λ xs. fold plus whole (signs xs)) (drop-cons items i item within ∙ ap (λ x. x ∷ drop (suc i) items)
-      (sym is))) ∙ sum_is)
-      (plus_fold (plus whole (item.0, f item.1)) (signs (drop (suc i) items))
-      (subst (λ a. is_past (plus whole (item.0, a)) ≡ true) e p))
+  pub marked_joined : (item : S × X) (next : Formed) → item ≡ get_or items i item → next ≡ f item.1 → is_past
+      (op whole (item.0, next)) ≡ true →
+      is_past (fold op begin (marks rest)) ≡ true
+  marked_joined item next is e p = subst (λ a. is_past a ≡ true)
+      (sym (ap (λ xs. fold op whole (marks xs)) (drop-cons items i item within ∙ ap (λ x. x ∷ drop (suc i) items)
+      (sym is))) ∙ marked_is)
+      (marked_fold op first_keeps (op whole (item.0, f item.1)) (marks (drop (suc i) items))
+      (subst (λ a. is_past (op whole (item.0, a)) ≡ true) e p))

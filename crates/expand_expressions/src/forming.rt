@@ -4,6 +4,7 @@ ghost use Rattle.std.specs.Prelude.{◌≡◌, ◌^◌, ◌≤◌, IfOk, map, fo
 ghost use Rattle.std.specs.Int.RustNames.{unsigned_abs};
 ghost use Rattle.case_tables.specs.declared.symbol_table.Symbol.{Symbol};
 ghost use Rattle.unity_syntax.specs.declared.expression.Expr.{Expr};
+ghost use Rattle.unity_syntax.specs.declared.expression.Operator.{Operator};
 ghost use Rattle.meaning_documents.specs.Value.{count_up};
 ghost use Rattle.expand_rules.specs.Forming as spec;
 ghost use Rattle.expand_rules.specs.Forming.{formed};
@@ -14,8 +15,8 @@ ghost use Rattle.expand_expressions.specs.Places.{IsReady, scope, bound_names};
 use crate::arrays::element;
 use crate::comparisons::{bottom, top};
 use crate::joining::{
-    Joint, begun, bound_at, compared, denied, implied, joined, joint_of_word, literal, none, plus,
-    signed,
+    Joint, begun, bound_at, compared, denied, factored, implied, joined, joint_of_word, literal,
+    none, plus, signed,
 };
 use crate::measures::quantifier_measure;
 use crate::places::{Env, Known, with_bound};
@@ -27,7 +28,7 @@ use case_tables::{Symbol, Word};
 use expand_rules::Formed;
 use std::alloc::Global;
 use unity_base::Seq;
-use unity_syntax::{Expr, Name, Range};
+use unity_syntax::{Expr, Name, Operator, Range};
 
 /// What an expression becomes: a term or a formula, folded, with always names put in place and quantifiers
 /// unfolded.
@@ -80,7 +81,7 @@ pub fn form(alloc: Global, e: &Expr, env: &Env, known: &Known) -> Result<Formed,
         }
         Expr::Product { at: _, first, rest } => {
             let first = form(alloc, first.get(), env, known)?;
-            all(alloc, Joint::Product, first, rest, env, known)
+            multiplied(alloc, first, rest, env, known)
         }
         Expr::Number { at: _, number } => literal(alloc, *number),
         Expr::True { at: _ } => limited(top(alloc)?),
@@ -151,6 +152,31 @@ fn added(
     for part in rest.as_slice() {
         let next = form(alloc, &part.1, env, known)?;
         whole = plus(alloc, part.0, whole, next)?;
+    }
+    Ok(whole)
+}
+
+// The operands of a product.
+#[cycle(form)]
+fn multiplied(
+    alloc: Global,
+    first: Formed,
+    rest: &Seq<(Operator, Expr)>,
+    env: &Env,
+    known: &Known,
+) -> Result<Formed, Refusal>
+    requires ready { IsReady known.now }
+    requires sound { IsSound first }
+    requires light { first.measure.most ≤ 2 ^ 62 }
+    ensures formed { GivesCore result (fold spec.factored first
+        (map (λ (p : Operator × Expr). (p.0, formed p.1 (scope known.now env.now))) rest.now)) }
+    ensures sound { IfOk result IsSound }
+    ensures light { IfOk result (λ f. f.measure.most ≤ 2 ^ 62) }
+{
+    let mut whole = first;
+    for part in rest.as_slice() {
+        let next = form(alloc, &part.1, env, known)?;
+        whole = factored(alloc, part.0, whole, next)?;
     }
     Ok(whole)
 }

@@ -16,6 +16,7 @@ use crate::refusal::Refusal;
 use case_tables::{Symbol, Word};
 use expand_rules::{Bound, Formed};
 use std::alloc::{AllocError, Global};
+use unity_syntax::Operator;
 
 /// What joins parts.
 #[derive(Clone, Copy)]
@@ -23,7 +24,6 @@ pub enum Joint {
     And,
     Or,
     Sum,
-    Product,
 }
 
 /// Two parts, joined.
@@ -40,7 +40,6 @@ pub fn joined(alloc: Global, joint: Joint, a: Formed, b: Formed) -> Result<Forme
         Joint::And => limited(conjunction(alloc, a, b)?),
         Joint::Or => limited(disjunction(alloc, a, b)?),
         Joint::Sum => limited(sum(alloc, a, b)?),
-        Joint::Product => product(alloc, a, b),
     }
 }
 
@@ -56,7 +55,6 @@ pub fn begun(alloc: Global, joint: Joint, a: Formed) -> Result<Formed, Refusal>
         Joint::And => limited(as_truth(alloc, a)?),
         Joint::Or => limited(as_truth(alloc, a)?),
         Joint::Sum => limited(as_number(alloc, a)?),
-        Joint::Product => Ok(a),
     }
 }
 
@@ -121,6 +119,24 @@ pub fn plus(alloc: Global, symbol: Symbol, a: Formed, b: Formed) -> Result<Forme
     match symbol {
         Symbol::Minus => limited(difference(alloc, a, b)?),
         _ => limited(sum(alloc, a, b)?),
+    }
+}
+
+/// An operator of a product and its right operand, after all that stands before them. No core is a quotient or a
+/// remainder: for these, `Memory`.
+pub fn factored(alloc: Global, op: Operator, a: Formed, b: Formed) -> Result<Formed, Refusal>
+    requires first { IsSound a }
+    requires second { IsSound b }
+    requires first_light { a.measure.most ≤ 2 ^ 62 }
+    requires second_light { b.measure.most ≤ 2 ^ 62 }
+    ensures formed { GivesCore result (spec.factored a (op, b)) }
+    ensures sound { IfOk result IsSound }
+    ensures light { IfOk result (λ f. f.measure.most ≤ 2 ^ 62) }
+{
+    match op {
+        Operator::Times => product(alloc, a, b),
+        Operator::Div => Err(Refusal::Memory),
+        Operator::Mod => Err(Refusal::Memory),
     }
 }
 

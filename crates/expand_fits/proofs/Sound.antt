@@ -53,6 +53,8 @@ rule_sees slots params (CRule.TextWith h) named fits indexed numbered ranges for
 rule_sees slots params (CRule.WeakenStep r) named fits indexed numbered ranges forms = tt
 rule_sees slots params (CRule.Pair which r s) named fits indexed numbered ranges forms = tt
 rule_sees slots params (CRule.Union r s) named fits indexed numbered ranges forms = tt
+rule_sees slots params (CRule.Superpose r) named fits indexed numbered ranges forms = tt
+rule_sees slots params (CRule.Complete r s t u) named fits indexed numbered ranges forms = tt
 rule_sees slots params (CRule.Proof t) named fits indexed numbered ranges forms =
     let visible = is_below (length params) in (
       record {

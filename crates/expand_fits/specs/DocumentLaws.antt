@@ -1,5 +1,5 @@
 -- The core form of a document meets all conditions of the calls above.
-use Rattle.std.specs.Prelude.{◌≡◌, ◌<◌, ◌^◌, sum, map, length, None}
+use Rattle.std.specs.Prelude.{◌≡◌, ◌⊎◌, ◌<◌, ◌^◌, sum, map, length, None}
 use Rattle.unity_syntax.specs.declared.document.Document.{Document}
 use Rattle.core_terms.specs.Conditions.{IsCoreDocument}
 use Rattle.names_rules.specs.WellNamed.{IsWellNamed}
@@ -15,12 +15,12 @@ use Rattle.expand_fits.specs.StartConditions.{HasApartWords}
 pub record HasFewSteps (d : Document) : Type 0 where
   pub few : sum (map (λ p. length p.steps) (proofs_among d.parts)) < 2 ^ 31
 
--- a document without a fault, of the one version that there is, with no more words and steps and no larger numbers than
--- can be told, in which the names of programs and the enumerations stand at bytes of their own
+-- a document without a fault, of one of the two versions, with no more words and steps and no larger numbers than can
+-- be told, in which the names of programs and the enumerations stand at bytes of their own
 pub record IsWellFormedForCore (d : Document) : Type 0 where
   pub named : IsWellNamed d
   pub expands : expansion_fault d ≡ None
-  pub version : d.number ≡ 1
+  pub version : (d.number ≡ 1) ⊎ (d.number ≡ 2)
   pub words : HasFewWords d
   pub steps : HasFewSteps d
   pub literals : HasLiterals d

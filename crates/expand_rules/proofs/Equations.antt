@@ -9,6 +9,7 @@ use Rattle.unity_syntax.specs.declared.expression.Expr
 use Rattle.unity_syntax.specs.declared.expression.Expr.{Expr, roll-Expr, fold-roll-Expr}
 use Rattle.unity_syntax.specs.declared.expression.Expr.TheFolds.{map-Expr}
 use Rattle.unity_syntax.specs.declared.expression.Expr.TheOpen.{Expr-F}
+use Rattle.unity_syntax.specs.declared.expression.Operator.{Operator}
 use Rattle.unity_syntax.specs.declared.expression.Expr.TheVariants.{rolls-Implies, rolls-And, rolls-Or, rolls-Not}
 use Rattle.unity_syntax.specs.declared.expression.Expr.TheVariants.{rolls-Compare, rolls-Sum, rolls-Product}
 use Rattle.unity_syntax.specs.declared.expression.Expr.TheVariants.{rolls-Number, rolls-True, rolls-False, rolls-Word}
@@ -16,7 +17,7 @@ use Rattle.unity_syntax.specs.declared.expression.Expr.TheVariants.{rolls-Bracke
 use Rattle.meaning_documents.specs.Names.{variable_named}
 use Rattle.core_terms.specs.declared.trees.CForm.TheVariants.{Top, Bottom}
 use Rattle.expand_rules.specs.Forming.{Scope, with_number, as_number, as_truth, number_constant, truth_constant}
-use Rattle.expand_rules.specs.Forming.{product, denial, conjunction, disjunction, implication, comparison, signed}
+use Rattle.expand_rules.specs.Forming.{factored, denial, conjunction, disjunction, implication, comparison, signed}
 use Rattle.expand_rules.specs.Forming.{plus, word_formed, element_of, gathered, numbers, fit_values, quantified}
 use Rattle.expand_rules.specs.Forming.{Forming, form_layer, formed}
 
@@ -57,10 +58,12 @@ formed-Sum at minus x xs s = unfolds _ _ (rolls-Sum at minus x xs) s
     ∙ ap (fold plus (signed minus (formed x s))) (map_twice (λ (p : Symbol × Expr). (p.0, formed p.1))
     (λ (p : Symbol × Forming). (p.0, p.1 s)) xs)
 
-pub formed-Product : (at : ℕ) (x : Expr) (xs : List Expr) (s : Scope) →
-    formed (Expr.Product at x xs) s ≡ fold product (formed x s) (map (λ e. formed e s) xs)
-formed-Product at x xs s = unfolds _ _ (rolls-Product at x xs) s ∙ ap (fold product (formed x s)) (map_twice formed
-    (λ m. m s) xs)
+pub formed-Product : (at : ℕ) (x : Expr) (xs : List (Operator × Expr)) (s : Scope) →
+    formed (Expr.Product at x xs) s ≡ fold factored (formed x s) (map (λ (p : Operator × Expr).
+    (p.0, formed p.1 s)) xs)
+formed-Product at x xs s = unfolds _ _ (rolls-Product at x xs) s
+    ∙ ap (fold factored (formed x s)) (map_twice (λ (p : Operator × Expr). (p.0, formed p.1))
+    (λ (p : Operator × Forming). (p.0, p.1 s)) xs)
 
 pub formed-Number : (at n : ℕ) (s : Scope) → formed (Expr.Number at n) s ≡ number_constant (pos n)
 formed-Number at n s = unfolds _ _ (rolls-Number at n) s

@@ -6,6 +6,7 @@ use Rattle.std.proofs.Math.Nat.{mul-le-mul_right}
 use Rattle.std.specs.Prelude.{fold}
 use Rattle.std.specs.Int.RustNames.{unsigned_abs}
 use Rattle.case_tables.specs.declared.symbol_table.Symbol.{Symbol}
+use Rattle.unity_syntax.specs.declared.expression.Operator.{Operator}
 use Rattle.unity_syntax.specs.declared.name.Range.{Range}
 use Rattle.meaning_documents.specs.Names.{Variable}
 use Rattle.meaning_documents.specs.Value.{range_size}
@@ -14,12 +15,13 @@ use Rattle.expand_rules.specs.declared.cores.Bound.{Bound}
 use Rattle.expand_rules.specs.declared.cores.Measure.{Measure}
 use Rattle.expand_rules.specs.declared.cores.Formed.{Formed}
 use Rattle.expand_rules.specs.Measures.{sum_measure, multiple_measure, negation_measure, over_measure, pair_measure}
-use Rattle.expand_rules.specs.Measures.{ends_weight, element_measure, quantifier_measure, range_misfit}
+use Rattle.expand_rules.specs.Measures.{ends_weight, element_measure, quantifier_measure, quotient_measure}
+use Rattle.expand_rules.specs.Measures.{range_misfit}
 use Rattle.expand_rules.specs.Forming.{as_number, as_truth, number_measure, truth_measure, number_constant}
 use Rattle.expand_rules.specs.Forming.{factor_of, sum, difference, negation, multiple, product, at_least_zero}
 use Rattle.expand_rules.specs.Forming.{is_zero, denial, conjunction, disjunction, implication, equation_by}
 use Rattle.expand_rules.specs.Forming.{equation, excess, never, comparison, signed, plus, typed, no_element}
-use Rattle.expand_rules.specs.Forming.{array_formed, element_by, element_of, numbers, quantified}
+use Rattle.expand_rules.specs.Forming.{array_formed, element_by, element_of, numbers, quantified, quotient, factored}
 use Rattle.expand_rules.specs.Limits.{is_past, is_too_large}
 
 abbrev pub IsPast : Formed → Type 0
@@ -156,6 +158,14 @@ pair_grows_second m n = record {
   size = λ e. omega (arith, e);
 }
 
+quotient_grows_first : (m n : Measure) → Grows m (quotient_measure m n)
+quotient_grows_first m n =
+    record { most = omega arith; quantified = λ e. omega (arith, e); size = λ e. omega (arith, e) }
+
+quotient_grows_second : (m n : Measure) → Grows n (quotient_measure m n)
+quotient_grows_second m n =
+    record { most = omega arith; quantified = λ e. omega (arith, e); size = λ e. omega (arith, e) }
+
 above : (x y z : ℕ) → y ≤ max x (max y z)
 above x y z = omega arith
 
@@ -243,13 +253,31 @@ product_grows_second : (a b : Formed) (c : Bool) → Grows b.measure (cond c (mu
 product_grows_second a b true = multiple_second a b
 product_grows_second a b false = multiple_first b a
 
-pub product_first : KeepsFirst product
+product_first : KeepsFirst product
 product_first a b = past_grows a (product a b) (product_grows_first a b a.constant) (and_false_left a.constant
     b.constant)
 
-pub product_second : KeepsSecond product
+product_second : KeepsSecond product
 product_second a b = past_grows b (product a b) (product_grows_second a b a.constant) (and_false_right a.constant
     b.constant)
+
+quotient_first : KeepsFirst quotient
+quotient_first a b = past_grows a (quotient a b) (grows_on _ _ _ (number_grows a.core a.measure)
+    (quotient_grows_first (as_number a).measure (as_number b).measure)) (and_false_left a.constant b.constant)
+
+quotient_second : KeepsSecond quotient
+quotient_second a b = past_grows b (quotient a b) (grows_on _ _ _ (number_grows b.core b.measure)
+    (quotient_grows_second (as_number a).measure (as_number b).measure)) (and_false_right a.constant b.constant)
+
+pub factored_first : (op : Operator) → KeepsFirst (λ a b. factored a (op, b))
+factored_first Operator.Times a b h = product_first a b h
+factored_first Operator.Div a b h = quotient_first a b h
+factored_first Operator.Mod a b h = quotient_first a b h
+
+pub factored_second : (op : Operator) → KeepsSecond (λ a b. factored a (op, b))
+factored_second Operator.Times a b h = product_second a b h
+factored_second Operator.Div a b h = quotient_second a b h
+factored_second Operator.Mod a b h = quotient_second a b h
 
 pub at_least_keeps : Keeps at_least_zero
 at_least_keeps a = past_grows a (at_least_zero a) (grows_on _ _ _ (number_grows a.core a.measure)
@@ -427,10 +455,6 @@ quantified_keeps bs r a h = elim (either (is_past a) (not (nat_le a.measure.size
 pub sum_large : (a b : Formed) → is_too_large a ≡ true → is_too_large (sum a b) ≡ true
 sum_large a b = large_grows a (sum a b) (grows_on _ _ _ (number_grows a.core a.measure) (sum_grows_first
     (as_number a).measure (as_number b).measure)) (and_false_left a.constant b.constant)
-
-pub product_large : (a b : Formed) → is_too_large a ≡ true → is_too_large (product a b) ≡ true
-product_large a b = large_grows a (product a b) (product_grows_first a b a.constant) (and_false_left a.constant
-    b.constant)
 
 pub conjunction_large : (a b : Formed) → is_too_large a ≡ true → is_too_large (conjunction a b) ≡ true
 conjunction_large a b = large_grows a (conjunction a b) (grows_on _ _ _ (truth_grows a.core a.measure)

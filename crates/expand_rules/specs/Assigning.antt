@@ -7,6 +7,7 @@ use Rattle.std.specs.Option.{option_and_then, is_some}
 use Rattle.case_tables.specs.declared.symbol_table.Symbol.{Symbol}
 use Rattle.unity_syntax.specs.declared.expression.Expr.{Expr, fold-Expr}
 use Rattle.unity_syntax.specs.declared.expression.Expr.TheOpen.{Expr-F}
+use Rattle.unity_syntax.specs.declared.expression.Operator.{Operator}
 use Rattle.unity_syntax.specs.declared.name.Range.{Range}
 use Rattle.unity_syntax.specs.declared.statement.Target.{Target}
 use Rattle.unity_syntax.specs.declared.statement.Component.{Component, fold-Component}
@@ -104,7 +105,8 @@ unwritten_layer (Expr-F.Not at of) bs = of bs
 unwritten_layer (Expr-F.Compare at left relation right) bs = both_counts (left bs) (right bs)
 unwritten_layer (Expr-F.Sum at minus first rest) bs =
     fold both_counts (first bs) (map (λ (part : Symbol × Counting). part.1 bs) rest)
-unwritten_layer (Expr-F.Product at first rest) bs = fold both_counts (first bs) (map (λ m. m bs) rest)
+unwritten_layer (Expr-F.Product at first rest) bs =
+    fold both_counts (first bs) (map (λ (part : Operator × Counting). part.1 bs) rest)
 unwritten_layer (Expr-F.Number at number) bs = no_count
 unwritten_layer (Expr-F.True at) bs = no_count
 unwritten_layer (Expr-F.False at) bs = no_count

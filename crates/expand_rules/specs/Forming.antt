@@ -12,6 +12,7 @@ use Rattle.unity_syntax.specs.declared.name.End.{End}
 use Rattle.unity_syntax.specs.declared.name.Range.{Range}
 use Rattle.unity_syntax.specs.declared.expression.Expr.{Expr, fold-Expr}
 use Rattle.unity_syntax.specs.declared.expression.Expr.TheOpen.{Expr-F}
+use Rattle.unity_syntax.specs.declared.expression.Operator.{Operator}
 use Rattle.meaning_documents.specs.Names.{Bindings, Variable, or_zero, slot_at}
 use Rattle.meaning_documents.specs.Value.{range_values, range_size}
 use Rattle.meaning_documents.specs.Names.{variable_named}
@@ -27,7 +28,7 @@ use Rattle.expand_rules.specs.declared.cores.Measure.{Measure}
 use Rattle.expand_rules.specs.declared.cores.Formed.{Formed}
 use Rattle.expand_rules.specs.Measures.{ends_weight, leaf, sum_measure, multiple_measure, negation_measure}
 use Rattle.expand_rules.specs.Measures.{over_measure, pair_measure, choice_measure, element_measure}
-use Rattle.expand_rules.specs.Measures.{quantifier_measure, is_fit_range, range_misfit}
+use Rattle.expand_rules.specs.Measures.{quantifier_measure, quotient_measure, is_fit_range, range_misfit}
 
 -- where an expression stands: the document's variables and enumeration words, what always names have become, and what
 -- bound names and parameters stand for, the innermost first
@@ -155,6 +156,18 @@ product a b = record (cond a.constant (multiple a b) (multiple b a)) {
   constant = a.constant && b.constant;
   exact = (a.constant || b.constant) && (a.exact && b.exact);
 }
+
+-- a quotient or a remainder: a fault, and no number of it is used
+abbrev pub quotient : Formed → Formed → Formed
+quotient a b = record (both (λ x y. number_core (Const (pos 0))) quotient_measure (as_number a) (as_number b)) {
+  exact = b.constant && (a.exact && b.exact);
+}
+
+-- an operator of a product and its right operand, after all that stands before them
+abbrev pub factored : Formed → Operator × Formed → Formed
+factored a (Operator.Times, b) = product a b
+factored a (Operator.Div, b) = quotient a b
+factored a (Operator.Mod, b) = quotient a b
 
 -- that a number is at least 0, and that it is 0
 abbrev pub at_least_zero : Formed → Formed
@@ -345,7 +358,7 @@ form_layer (Expr-F.Not at of) s = denial (of s)
 form_layer (Expr-F.Compare at left relation right) s = comparison relation (left s) (right s)
 form_layer (Expr-F.Sum at minus first rest) s =
     fold plus (signed minus (first s)) (map (λ part. (part.0, part.1 s)) rest)
-form_layer (Expr-F.Product at first rest) s = fold product (first s) (map (λ m. m s) rest)
+form_layer (Expr-F.Product at first rest) s = fold factored (first s) (map (λ part. (part.0, part.1 s)) rest)
 form_layer (Expr-F.Number at number) s = number_constant (pos number)
 form_layer (Expr-F.True at) s = truth_constant Top
 form_layer (Expr-F.False at) s = truth_constant Bottom

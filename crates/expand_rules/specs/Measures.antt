@@ -46,6 +46,10 @@ multiple_measure k factor a = record {
   bad_range = nearer factor.bad_range a.bad_range;
 }
 
+-- a quotient or a remainder: no core is one, so that it counts as a fault at the first byte of the text
+abbrev pub quotient_measure : Measure → Measure → Measure
+quotient_measure a b = record (sum_measure a b) { bad_range = Some 0 }
+
 -- a number taken from 0
 abbrev pub negation_measure : Measure → Measure
 negation_measure a = record a { size = counted (1 + a.size) }

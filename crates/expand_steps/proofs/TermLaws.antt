@@ -23,7 +23,7 @@ termed-Pair at which first second c next =
     ap (λ x. termed x c next) (sym (rolls-Pair at which first second)) ∙
     ap (λ m. m c next) (fold-roll-Term Terming term_layer (Term-F.Pair at which first second))
 
-nearer-none : (a : Option ℕ) → nearer a None ≡ a
+pub nearer-none : (a : Option ℕ) → nearer a None ≡ a
 nearer-none None = refl
 nearer-none (Some x) = refl
 

@@ -54,17 +54,21 @@ step_place words owner s step = record {
   params = step_params (some_of step.params);
 }
 
--- `defined` says `Top` twice; the q of an invariant and of `stable` is `Bottom`
+-- `defined` says `Top` twice; the q of a claim of one condition is `Bottom`
 abbrev pub claim_p : Scope → Claim → CForm
 claim_p s (Claim.Defined at) = Top
 claim_p s (Claim.Invariant at of) = form_in s of
 claim_p s (Claim.Stable at of) = form_in s of
+claim_p s (Claim.Constant at of) = form_in s of
+claim_p s (Claim.Fixed at of) = form_in s of
 claim_p s (Claim.Between at p which q) = form_in s p
 
 abbrev pub claim_q : Scope → Claim → CForm
 claim_q s (Claim.Defined at) = Top
 claim_q s (Claim.Invariant at of) = Bottom
 claim_q s (Claim.Stable at of) = Bottom
+claim_q s (Claim.Constant at of) = Bottom
+claim_q s (Claim.Fixed at of) = Bottom
 claim_q s (Claim.Between at p which q) = form_in s q
 
 abbrev pub claim_pair : Scope → Claim → CForm × CForm
@@ -74,6 +78,8 @@ abbrev pub claim_formulas : Scope → Claim → List Formed
 claim_formulas s (Claim.Defined at) = []
 claim_formulas s (Claim.Invariant at of) = truth_in s of ∷ []
 claim_formulas s (Claim.Stable at of) = truth_in s of ∷ []
+claim_formulas s (Claim.Constant at of) = truth_in s of ∷ []
+claim_formulas s (Claim.Fixed at of) = truth_in s of ∷ []
 claim_formulas s (Claim.Between at p which q) = truth_in s p ∷ truth_in s q ∷ []
 
 -- the names that a term binds have the numbers after those of the parameters
@@ -81,12 +87,17 @@ abbrev pub core_rule : Place → Rule → CRule
 core_rule c (Rule.Text at with) = text_rule c.words c.bounds c.params with
 core_rule c (Rule.Weaken at of) = CRule.WeakenStep (ref_in c of)
 core_rule c (Rule.Pair at which first second) = pair_rule which (ref_in c first) (ref_in c second)
+core_rule c (Rule.Superpose at of) = CRule.Superpose (ref_in c of)
+core_rule c (Rule.Complete at first second third fourth) =
+    CRule.Complete (ref_in c first) (ref_in c second) (ref_in c third) (ref_in c fourth)
 core_rule c (Rule.Term at of) = CRule.Proof (termed of c (length c.params)).core
 
 abbrev pub rule_formulas : Place → Rule → List Formed
 rule_formulas c (Rule.Text at with) = []
 rule_formulas c (Rule.Weaken at of) = []
 rule_formulas c (Rule.Pair at which first second) = []
+rule_formulas c (Rule.Superpose at of) = []
+rule_formulas c (Rule.Complete at first second third fourth) = []
 rule_formulas c (Rule.Term at of) = (termed of c (length c.params)).formulas
 
 -- a step in core form, and its formulas in reading order
@@ -133,6 +144,19 @@ abbrev pub two_premises : Here → Env → Word → TextRef → TextRef → CRul
 two_premises here names which first second = pair_rule which
     (core_ref here.words.now here.owner.now.text (bounds names) (entries here.params.now) first)
     (core_ref here.words.now here.owner.now.text (bounds names) (entries here.params.now) second)
+
+-- a step that is justified by one of the program under this one
+abbrev pub one_below : Here → Env → TextRef → CRule
+one_below here names r =
+    CRule.Superpose (core_ref here.words.now here.owner.now.text (bounds names) (entries here.params.now) r)
+
+-- a step that is justified by four others
+abbrev pub four_premises : Here → Env → TextRef → TextRef → TextRef → TextRef → CRule
+four_premises here names first second third fourth = CRule.Complete
+    (core_ref here.words.now here.owner.now.text (bounds names) (entries here.params.now) first)
+    (core_ref here.words.now here.owner.now.text (bounds names) (entries here.params.now) second)
+    (core_ref here.words.now here.owner.now.text (bounds names) (entries here.params.now) third)
+    (core_ref here.words.now here.owner.now.text (bounds names) (entries here.params.now) fourth)
 
 -- a term whose bound names have the numbers after those of the parameters
 abbrev pub step_term : Here → Env → BoundEnv → Term → Termed

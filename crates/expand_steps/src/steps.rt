@@ -112,6 +112,8 @@ fn claim(
         Claim::Defined { at: _ } => Ok((CForm::Top, CForm::Top)),
         Claim::Invariant { at: _, of } => invariant(alloc, of, here, env, bad),
         Claim::Stable { at: _, of } => invariant(alloc, of, here, env, bad),
+        Claim::Constant { at: _, of } => invariant(alloc, of, here, env, bad),
+        Claim::Fixed { at: _, of } => invariant(alloc, of, here, env, bad),
         Claim::Between {
             at: _,
             p,
@@ -143,6 +145,31 @@ fn premises(
     let first = ref_in(alloc, first, here, names)?;
     let second = ref_in(alloc, second, here, names)?;
     Ok(pair_rule(which, first, second))
+}
+
+fn layer(alloc: Global, r: &TextRef, here: &Here, names: &Env) -> Result<CRule, AllocError>
+    ensures { IfOk result (λ rule. rule ≡ spec.one_below here.now names.now r.now) }
+{
+    Ok(CRule::Superpose(ref_in(alloc, r, here, names)?))
+}
+
+fn completion(
+    alloc: Global,
+    first: &TextRef,
+    second: &TextRef,
+    third: &TextRef,
+    fourth: &TextRef,
+    here: &Here,
+    names: &Env,
+) -> Result<CRule, AllocError>
+    ensures { IfOk result (λ rule. rule ≡
+        spec.four_premises here.now names.now first.now second.now third.now fourth.now) }
+{
+    let first = ref_in(alloc, first, here, names)?;
+    let second = ref_in(alloc, second, here, names)?;
+    let third = ref_in(alloc, third, here, names)?;
+    let fourth = ref_in(alloc, fourth, here, names)?;
+    Ok(CRule::Complete(first, second, third, fourth))
 }
 
 fn proof_term(
@@ -185,6 +212,14 @@ fn rule(
             first,
             second,
         } => Ok(premises(alloc, *which, first, second, here, names)?),
+        Rule::Superpose { at: _, of } => Ok(layer(alloc, of, here, names)?),
+        Rule::Complete {
+            at: _,
+            first,
+            second,
+            third,
+            fourth,
+        } => Ok(completion(alloc, first, second, third, fourth, here, names)?),
         Rule::Term { at: _, of } => proof_term(alloc, of, here, names, env, bad),
     }
 }

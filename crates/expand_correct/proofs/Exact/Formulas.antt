@@ -274,6 +274,10 @@ module _ (d : Document) (fault : (run part_of nothing_declared d.parts).fault â‰
         everywhere_one IsExactFormula _ (formula_exact Sort.Boolean of n bs fits h)
     claim_exact (Claim.Stable at of) n bs fits h =
         everywhere_one IsExactFormula _ (formula_exact Sort.Boolean of n bs fits h)
+    claim_exact (Claim.Constant at of) n bs fits h =
+        everywhere_one IsExactFormula _ (formula_exact Sort.Boolean of n bs fits h)
+    claim_exact (Claim.Fixed at of) n bs fits h =
+        everywhere_one IsExactFormula _ (formula_exact Sort.Boolean of n bs fits h)
     claim_exact (Claim.Between at p which q) n bs fits h =
         let both = two_exact p q n bs fits h in everywhere_two IsExactFormula _ _ both.0 both.1
 
@@ -284,6 +288,9 @@ module _ (d : Document) (fault : (run part_of nothing_declared d.parts).fault â‰
     rule_exact (Rule.Text at with) n next words owner bs bounds params fits h = everywhere_none IsExactFormula
     rule_exact (Rule.Weaken at of) n next words owner bs bounds params fits h = everywhere_none IsExactFormula
     rule_exact (Rule.Pair at which first second) n next words owner bs bounds params fits h =
+        everywhere_none IsExactFormula
+    rule_exact (Rule.Superpose at of) n next words owner bs bounds params fits h = everywhere_none IsExactFormula
+    rule_exact (Rule.Complete at first second third fourth) n next words owner bs bounds params fits h =
         everywhere_none IsExactFormula
     rule_exact (Rule.Term at of) n next words owner bs bounds params fits h =
         term_exact of n next words owner bs bounds params (length params) fits h

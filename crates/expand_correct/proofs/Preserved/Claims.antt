@@ -75,6 +75,12 @@ claim_says d bs zs more (Claim.Invariant at of) x n =
 claim_says d bs zs more (Claim.Stable at of) x n =
     let f = truth_in (within (document_scope d.parts) bs) of in
     formula_says d bs zs of (x 0 f refl) (nearer_first f.measure.bad_range (nearest more) n)
+claim_says d bs zs more (Claim.Constant at of) x n =
+    let f = truth_in (within (document_scope d.parts) bs) of in
+    formula_says d bs zs of (x 0 f refl) (nearer_first f.measure.bad_range (nearest more) n)
+claim_says d bs zs more (Claim.Fixed at of) x n =
+    let f = truth_in (within (document_scope d.parts) bs) of in
+    formula_says d bs zs of (x 0 f refl) (nearer_first f.measure.bad_range (nearest more) n)
 claim_says d bs zs more (Claim.Between at p which q) x n =
     let f = truth_in (within (document_scope d.parts) bs) p in
     let g = truth_in (within (document_scope d.parts) bs) q in (

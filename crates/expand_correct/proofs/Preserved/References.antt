@@ -289,6 +289,13 @@ module _ (zs : List ℤ) where
     rule_refers (Rule.Pair at which first second) s bindings alike = two_rules which _ _
         ∙ before_list _ _ _ _ (ref_same words owner [] params bindings alike first)
         (before_list _ _ [] [] (ref_same words owner [] params bindings alike second) refl)
+    rule_refers (Rule.Superpose at of) s bindings alike =
+        before_list _ _ [] [] (ref_same words owner [] params bindings alike of) refl
+    rule_refers (Rule.Complete at first second third fourth) s bindings alike =
+        before_list _ _ _ _ (ref_same words owner [] params bindings alike first)
+        (before_list _ _ _ _ (ref_same words owner [] params bindings alike second)
+        (before_list _ _ _ _ (ref_same words owner [] params bindings alike third)
+        (before_list _ _ [] [] (ref_same words owner [] params bindings alike fourth) refl)))
     rule_refers (Rule.Term at of) s bindings alike = (term_refers of s [] bindings (length params) alike).0
 
 pub using_refers : UsingRefers

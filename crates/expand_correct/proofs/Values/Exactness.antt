@@ -12,6 +12,7 @@ use Rattle.unity_syntax.specs.declared.name.End.{End}
 use Rattle.unity_syntax.specs.declared.name.Range.{Range}
 use Rattle.unity_syntax.specs.declared.expression.Expr.{Expr}
 use Rattle.unity_syntax.specs.declared.expression.Expr.TheOpen.{Expr-F}
+use Rattle.unity_syntax.specs.declared.expression.Operator.{Operator}
 use Rattle.unity_syntax.specs.declared.statement.Target.{Target}
 use Rattle.unity_syntax.specs.declared.statement.Values.{Values}
 use Rattle.unity_syntax.specs.declared.statement.Component.TheOpen.{Component-F}
@@ -35,8 +36,8 @@ use Rattle.core_terms.specs.declared.trees.CTerm.{CTerm}
 use Rattle.core_terms.specs.declared.trees.CForm.{CForm}
 use Rattle.expand_rules.specs.declared.effects.Count.{Count}
 use Rattle.expand_rules.specs.declared.effects.Effect.{Effect}
-use Rattle.expand_rules.specs.Forming.{Scope, with_number, as_truth, as_number, sum, difference, product}
-use Rattle.expand_rules.specs.Forming.{implication, conjunction, disjunction, denial, equation_by, comparison}
+use Rattle.expand_rules.specs.Forming.{Scope, with_number, as_truth, as_number, sum, difference, product, quotient}
+use Rattle.expand_rules.specs.Forming.{factored, implication, conjunction, disjunction, denial, equation_by, comparison}
 use Rattle.expand_rules.specs.Forming.{signed, plus, array_formed, element_by, element_of, formed_or_zero}
 use Rattle.expand_rules.specs.Forming.{bound_formed, variable_formed, word_formed, gathered_by, gathered}
 use Rattle.expand_rules.specs.Forming.{number_constant, is_number, is_fixed, is_fixed_range, numbers, fit_values}
@@ -145,7 +146,8 @@ keeps_both op p a b x y h i = record {
   exact = λ e. p.exact x y (h.exact (and_left a.exact b.exact e)) (i.exact (and_right a.exact b.exact e));
 }
 
-keeps_product : (a b : Attributes) (x y : Formed) → Keeps a x → Keeps b y → Keeps (names.times a b) (product x y)
+keeps_product : (a b : Attributes) (x y : Formed) → Keeps a x → Keeps b y →
+    Keeps (names.operated Operator.Times a b) (product x y)
 keeps_product a b x y h i = record {
   constant = λ e. both_true x.constant y.constant (h.constant (and_left a.constant b.constant e))
       (i.constant (and_right a.constant b.constant e));
@@ -156,6 +158,27 @@ keeps_product a b x y h i = record {
       (a.exact && b.exact) e))
       (both_true x.exact y.exact (h.exact (and_left a.exact b.exact parts)) (i.exact (and_right a.exact b.exact
       parts)));
+}
+
+keeps_quotient : (a b : Attributes) (x y : Formed) → Keeps a x → Keeps b y →
+    Keeps (names.operated Operator.Div a b) (quotient x y)
+keeps_quotient a b x y h i = record {
+  constant = λ e. both_true x.constant y.constant (h.constant (and_left a.constant b.constant e))
+      (i.constant (and_right a.constant b.constant e));
+  exact = λ e.
+      let parts = and_right b.constant (a.exact && b.exact) e in
+      both_true y.constant (x.exact && y.exact) (i.constant (and_left b.constant (a.exact && b.exact) e))
+      (both_true x.exact y.exact (h.exact (and_left a.exact b.exact parts)) (i.exact (and_right a.exact b.exact
+      parts)));
+}
+
+keeps_factored : (o : Operator) (a b : Attributes) (x y : Formed) → Keeps a x → Keeps b y →
+    Keeps (names.operated o a b) (factored x (o, y))
+keeps_factored Operator.Times a b x y h i = keeps_product a b x y h i
+keeps_factored Operator.Div a b x y h i = keeps_quotient a b x y h i
+keeps_factored Operator.Mod a b x y h i = record {
+  constant = (keeps_quotient a b x y h i).constant;
+  exact = (keeps_quotient a b x y h i).exact;
 }
 
 signed_keeps : (minus : Bool) (a : Attributes) (x : Formed) → Keeps a x → Keeps a (signed minus x)
@@ -176,12 +199,15 @@ keeps_all op p n s g a x h (k ∷ ks) =
     keeps_all op p n s g (names.both a (k.0 n)) (op x (k.1 s)) (keeps_both op p a (k.0 n) x (k.1 s) h (k.2 n s g)) ks
 
 keeps_factors : (n : NameScope) (s : Scope) → Agrees n s → (a : Attributes) (x : Formed) → Keeps a x →
-    (ks : List Part) →
-    Keeps (names.factors a (map (λ m. m n) (map (λ k. k.0) ks))) (fold product x (map (λ m. m s) (map (λ k. k.1) ks)))
+    (ks : List (Operator × Part)) →
+    Keeps (names.factors a (map (λ (m : Operator × Attributed). (m.0, m.1 n)) (map (λ (k : Operator × Part).
+    (k.0, k.1.0)) ks)))
+    (fold factored x (map (λ (m : Operator × Forming). (m.0, m.1 s)) (map (λ (k : Operator × Part).
+    (k.0, k.1.1)) ks)))
 keeps_factors n s g a x h [] = h
 keeps_factors n s g a x h (k ∷ ks) =
-    keeps_factors n s g (names.times a (k.0 n)) (product x (k.1 s)) (keeps_product a (k.0 n) x (k.1 s) h (k.2 n s g))
-    ks
+    keeps_factors n s g (names.operated k.0 a (k.1.0 n)) (factored x (k.0, k.1.1 s))
+    (keeps_factored k.0 a (k.1.0 n) x (k.1.1 s) h (k.1.2 n s g)) ks
 
 abbrev parts_of : List (Symbol × Part) → List (Symbol × Forming)
 parts_of ks = map (λ (k : Symbol × Part). (k.0, k.1.1)) ks

@@ -13,6 +13,7 @@ use Rattle.case_tables.specs.declared.symbol_table.Symbol.{Symbol}
 use Rattle.case_tables.specs.declared.word_table.Word.{Word}
 use Rattle.unity_syntax.specs.declared.expression.Expr.{Expr}
 use Rattle.unity_syntax.specs.declared.expression.Expr.TheOpen.{Expr-F}
+use Rattle.unity_syntax.specs.declared.expression.Operator.{Operator}
 use Rattle.unity_syntax.specs.TwoFolds.{Related, ExpressionLayers}
 use Rattle.unity_syntax.proofs.ExpressionFolds.{two_expressions}
 use Rattle.unity_syntax.specs.declared.name.Range.{Range}
@@ -40,7 +41,8 @@ use Rattle.expand_rules.specs.declared.cores.Formed.{Formed}
 use Rattle.expand_rules.specs.Measures.{ends_weight}
 use Rattle.expand_rules.specs.Forming.{Scope, with_number, term_of, form_of, factor_of, number_measure}
 use Rattle.expand_rules.specs.Forming.{truth_measure, as_number, as_truth, sum, difference, negation, multiple}
-use Rattle.expand_rules.specs.Forming.{product, at_least_zero, is_zero, denial, conjunction, disjunction}
+use Rattle.expand_rules.specs.Forming.{product, quotient, factored, at_least_zero, is_zero}
+use Rattle.expand_rules.specs.Forming.{denial, conjunction, disjunction}
 use Rattle.expand_rules.specs.Forming.{implication, equation_by, equation, excess, comparison, signed, plus}
 use Rattle.expand_rules.specs.Forming.{bound_formed, typed, variable_formed, formed_or_zero, word_formed, chain}
 use Rattle.expand_rules.specs.Forming.{no_element, array_formed, element_by, element_of, number_constant}
@@ -224,6 +226,14 @@ module _ (slots params : ℕ → ℕ) where
 
   fits_product : (a b : Formed) → Fits a → Fits b → Fits (product a b)
   fits_product a b h i = product_by a.constant a b h i
+
+  fits_quotient : (a b : Formed) → Fits (quotient a b)
+  fits_quotient a b = let zero = const_light (pos 0) in (omega (arith, zero.0), omega (arith, zero.1))
+
+  fits_factored : (a : Formed) (o : Operator) (b : Formed) → Fits a → Fits b → Fits (factored a (o, b))
+  fits_factored a Operator.Times b h i = fits_product a b h i
+  fits_factored a Operator.Div b h i = fits_quotient a b
+  fits_factored a Operator.Mod b h i = fits_quotient a b
 
   fits_at_least : (a : Formed) → Fits a → Fits (at_least_zero a)
   fits_at_least a h = let x = as_term a.core a.measure h in let l = at_least_light (term_of a.core) in
@@ -445,6 +455,13 @@ module _ (slots params : ℕ → ℕ) where
   sums_fit s g a h [] = h
   sums_fit s g a h (x ∷ xs) = sums_fit s g (plus a (x.0, x.1.0 s)) (fits_plus a x.0 (x.1.0 s) h (x.1.2 s g)) xs
 
+  factors_fit : (s : Scope) → ScopeWithin slots params s → (a : Formed) → Fits a → (xs : List (Operator × Part)) →
+      Fits (fold factored a (map (λ (part : Operator × Forming). (part.0, part.1 s)) (map (λ (k : Operator × Part).
+      (k.0, k.1.0)) xs)))
+  factors_fit s g a h [] = h
+  factors_fit s g a h (x ∷ xs) =
+      factors_fit s g (factored a (x.0, x.1.0 s)) (fits_factored a x.0 (x.1.0 s) h (x.1.2 s g)) xs
+
   joined_fits : (op : Formed → Formed → Formed) → KeepsFit op → (f : ℤ → Formed) → ((z : ℤ) → Fits (f z)) →
       (a : Formed) → Fits a → (zs : List ℤ) →
       Fits (fold op a (map f zs))
@@ -497,7 +514,7 @@ module _ (slots params : ℕ → ℕ) where
   layer (Expr-F.Not at x) s g = fits_denial (x.0 s) (x.2 s g)
   layer (Expr-F.Compare at l r x) s g = fits_comparison r (l.0 s) (x.0 s) (l.2 s g) (x.2 s g)
   layer (Expr-F.Sum at minus x xs) s g = sums_fit s g (signed minus (x.0 s)) (fits_signed minus (x.0 s) (x.2 s g)) xs
-  layer (Expr-F.Product at x xs) s g = fold_fits product fits_product s g (x.0 s) (x.2 s g) xs
+  layer (Expr-F.Product at x xs) s g = factors_fit s g (x.0 s) (x.2 s g) xs
   layer (Expr-F.Number at number) s g = fits_constant (pos number)
   layer (Expr-F.True at) s g = fits_top
   layer (Expr-F.False at) s g = fits_bottom

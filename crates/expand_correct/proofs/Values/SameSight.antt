@@ -7,6 +7,7 @@ use Rattle.std.specs.Str.{bytes_eq}
 use Rattle.case_tables.specs.declared.symbol_table.Symbol.{Symbol}
 use Rattle.unity_syntax.specs.declared.expression.Expr.{Expr}
 use Rattle.unity_syntax.specs.declared.expression.Expr.TheOpen.{Expr-F}
+use Rattle.unity_syntax.specs.declared.expression.Operator.{Operator}
 use Rattle.unity_syntax.specs.declared.statement.Target.{Target}
 use Rattle.unity_syntax.specs.declared.statement.Component.TheOpen.{Component-F}
 use Rattle.unity_syntax.specs.TwoFolds.{Related, ExpressionLayers, ComponentLayers, AssignLayers}
@@ -19,7 +20,7 @@ use Rattle.expand_rules.specs.declared.cores.Bound.{Bound}
 use Rattle.expand_rules.specs.declared.cores.Formed.{Formed}
 use Rattle.expand_rules.specs.declared.effects.Effect.{Effect}
 use Rattle.expand_rules.specs.Forming.{Scope, with_number, as_truth, as_number, implication, conjunction}
-use Rattle.expand_rules.specs.Forming.{disjunction, denial, comparison, signed, plus, product, number_constant}
+use Rattle.expand_rules.specs.Forming.{disjunction, denial, comparison, signed, plus, factored, number_constant}
 use Rattle.expand_rules.specs.Forming.{bound_formed, variable_formed, formed_or_zero, word_formed, element_of}
 use Rattle.expand_rules.specs.Forming.{gathered, numbers, fit_values, quantified, Forming, form_layer, formed}
 use Rattle.expand_rules.specs.Assigning.{nothing, beside, exactly, one_more, target_effect, index_formed}
@@ -41,15 +42,16 @@ all_same : (s t : Scope) → SeeSame s t → (xs : List Part) → map (λ m. m s
 all_same s t h [] = refl
 all_same s t h (x ∷ xs) = two (λ y ys. y ∷ ys) _ _ _ _ (x.2 s t h) (all_same s t h xs)
 
-abbrev signs : Scope → List (Symbol × Forming) → List (Symbol × Formed)
-signs s xs = map (λ (p : Symbol × Forming). (p.0, p.1 s)) xs
+-- parts that are marked: by a sign in a sum, by an operator in a product
+abbrev marks : {S : Type 0} → Scope → List (S × Forming) → List (S × Formed)
+marks {S} s xs = map (λ (p : S × Forming). (p.0, p.1 s)) xs
 
-sums_same : (s t : Scope) → SeeSame s t → (xs : List (Symbol × Part)) →
-    signs s (map {B = Symbol × Forming} (λ (k : Symbol × Part). (k.0, k.1.0)) xs) ≡
-    signs t (map {B = Symbol × Forming} (λ (k : Symbol × Part). (k.0, k.1.1)) xs)
-sums_same s t h [] = refl
-sums_same s t h (x ∷ xs) = two (λ (y : Formed) (ys : List (Symbol × Formed)). (x.0, y) ∷ ys) _ _ _ _ (x.1.2 s t h)
-    (sums_same s t h xs)
+marked_same : {S : Type 0} (s t : Scope) → SeeSame s t → (xs : List (S × Part)) →
+    marks s (map {B = S × Forming} (λ (k : S × Part). (k.0, k.1.0)) xs) ≡
+    marks t (map {B = S × Forming} (λ (k : S × Part). (k.0, k.1.1)) xs)
+marked_same s t h [] = refl
+marked_same {S} s t h (x ∷ xs) = two (λ (y : Formed) (ys : List (S × Formed)). (x.0, y) ∷ ys) _ _ _ _ (x.1.2 s t h)
+    (marked_same s t h xs)
 
 inside_same : (s t : Scope) (name : List ℕ) (z : ℤ) → SeeSame s t → SeeSame (with_number s name z)
     (with_number t name z)
@@ -117,8 +119,8 @@ layer (Expr-F.Or at x xs) s t h = two (λ a bs. fold disjunction (as_truth a) bs
 layer (Expr-F.Not at x) s t h = ap denial (x.2 s t h)
 layer (Expr-F.Compare at l r x) s t h = two (comparison r) _ _ _ _ (l.2 s t h) (x.2 s t h)
 layer (Expr-F.Sum at minus x xs) s t h = two (λ a bs. fold plus (signed minus a) bs) _ _ _ _ (x.2 s t h)
-    (sums_same s t h xs)
-layer (Expr-F.Product at x xs) s t h = two (λ a bs. fold product a bs) _ _ _ _ (x.2 s t h) (all_same s t h xs)
+    (marked_same s t h xs)
+layer (Expr-F.Product at x xs) s t h = two (λ a bs. fold factored a bs) _ _ _ _ (x.2 s t h) (marked_same s t h xs)
 layer (Expr-F.Number at n) s t h = refl
 layer (Expr-F.True at) s t h = refl
 layer (Expr-F.False at) s t h = refl

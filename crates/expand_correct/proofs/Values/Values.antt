@@ -17,6 +17,7 @@ use Rattle.unity_syntax.specs.declared.name.End.{End}
 use Rattle.unity_syntax.specs.declared.name.Range.{Range}
 use Rattle.unity_syntax.specs.declared.expression.Expr.{Expr}
 use Rattle.unity_syntax.specs.declared.expression.Expr.TheOpen.{Expr-F}
+use Rattle.unity_syntax.specs.declared.expression.Operator.{Operator}
 use Rattle.unity_syntax.specs.TwoFolds.{Related, ExpressionLayers}
 use Rattle.unity_syntax.proofs.ExpressionFolds.{two_expressions}
 use Rattle.meaning_states.specs.State.{State, int_eq}
@@ -42,7 +43,8 @@ use Rattle.expand_rules.specs.Forming.{Scope, with_number, number_core, truth_co
 use Rattle.expand_rules.specs.Forming.{number_constant, truth_constant, number_measure, as_number, truth_measure}
 use Rattle.expand_rules.specs.Forming.{as_truth, through, both, sum_core, difference_core, negated_core}
 use Rattle.expand_rules.specs.Forming.{at_least_core, zero_core, not_core, and_core, or_core, sum, difference}
-use Rattle.expand_rules.specs.Forming.{negation, factor_of, multiple, product, at_least_zero, is_zero, denial}
+use Rattle.expand_rules.specs.Forming.{negation, factor_of, multiple, product, quotient, factored, at_least_zero}
+use Rattle.expand_rules.specs.Forming.{is_zero, denial}
 use Rattle.expand_rules.specs.Forming.{conjunction, disjunction, implication, equation_by, equation, excess}
 use Rattle.expand_rules.specs.Forming.{comparison, signed, plus, bound_formed, typed, variable_formed}
 use Rattle.expand_rules.specs.Forming.{formed_or_zero, word_formed, no_element, array_formed, element_by}
@@ -413,6 +415,16 @@ module _ (state params : List ℤ) where
         (and_left a.exact b.exact parts) (and_right a.exact b.exact parts) n;
   }
 
+  -- a quotient is a fault, so that nothing is asked of its value
+  formed_quotient : (a b : Formed) (z : ℤ) → IsFormed (quotient a b) z
+  formed_quotient a b z = record { known = λ e. ap is_some (number-Const (pos 0)); value = λ e n. cc n }
+
+  formed_factored : (a : Formed) (o : Operator) (b : Formed) (x y : ℤ) → IsFormed a x → IsFormed b y →
+      IsFormed (factored a (o, b)) (source.operated x o y)
+  formed_factored a Operator.Times b x y h i = formed_product a b x y h i
+  formed_factored a Operator.Div b x y h i = formed_quotient a b (source.operated x Operator.Div y)
+  formed_factored a Operator.Mod b x y h i = formed_quotient a b (source.operated x Operator.Mod y)
+
   -- words
 
   abbrev Meant : Option Formed → Option ℤ → Type 0
@@ -717,11 +729,15 @@ module _ (state params : List ℤ) where
       formed_added s t (plus a (x.0, x.1.0 s)) (source.plus z x.0 (x.1.1 t)) xs h (formed_plus a x.0 (x.1.0 s) z
       (x.1.1 t) k (x.1.2 s t h))
 
-  formed_multiplied : (s : Scope) (t : Sight) (a : Formed) (z : ℤ) (xs : List Part) → Sees s t → IsFormed a z →
-      IsFormed (fold product a (map (λ m. m s) (map (λ k. k.0) xs))) (source.multiplied t z (map (λ k. k.1) xs))
+  formed_multiplied : (s : Scope) (t : Sight) (a : Formed) (z : ℤ) (xs : List (Operator × Part)) → Sees s t →
+      IsFormed a z →
+      IsFormed (fold factored a (map (λ (part : Operator × Forming). (part.0, part.1 s)) (map (λ (k : Operator × Part).
+      (k.0, k.1.0)) xs)))
+      (source.multiplied t z (map (λ (k : Operator × Part). (k.0, k.1.1)) xs))
   formed_multiplied s t a z [] h k = k
   formed_multiplied s t a z (x ∷ xs) h k =
-      formed_multiplied s t (product a (x.0 s)) (z *ℤ x.1 t) xs h (formed_product a (x.0 s) z (x.1 t) k (x.2 s t h))
+      formed_multiplied s t (factored a (x.0, x.1.0 s)) (source.operated z x.0 (x.1.1 t)) xs h
+      (formed_factored a x.0 (x.1.0 s) z (x.1.1 t) k (x.1.2 s t h))
 
   all_parts : (t : Sight) (xs : List Meaning) → list_all holds (map (λ m. m t) xs) ≡ list_all (λ m. holds (m t)) xs
   all_parts t [] = refl

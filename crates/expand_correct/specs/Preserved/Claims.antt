@@ -33,6 +33,8 @@ abbrev pub ClaimSays : Document → Bindings → List ℤ → CForm → CForm �
 ClaimSays d bindings zs f g (Claim.Defined at) = ⊤
 ClaimSays d bindings zs f g (Claim.Invariant at of) = SameTruth d bindings zs f of
 ClaimSays d bindings zs f g (Claim.Stable at of) = SameTruth d bindings zs f of
+ClaimSays d bindings zs f g (Claim.Constant at of) = SameTruth d bindings zs f of
+ClaimSays d bindings zs f g (Claim.Fixed at of) = SameTruth d bindings zs f of
 ClaimSays d bindings zs f g (Claim.Between at p which q) =
     SameTruth d bindings zs f p × SameTruth d bindings zs g q
 

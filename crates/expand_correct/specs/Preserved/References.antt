@@ -64,6 +64,9 @@ rule_references zs (CRule.TextWith helper) = []
 rule_references zs (CRule.WeakenStep r) = core_referred zs r ∷ []
 rule_references zs (CRule.Pair which r s) = core_referred zs r ∷ core_referred zs s ∷ []
 rule_references zs (CRule.Union r s) = core_referred zs r ∷ core_referred zs s ∷ []
+rule_references zs (CRule.Superpose r) = core_referred zs r ∷ []
+rule_references zs (CRule.Complete r s t u) =
+    core_referred zs r ∷ core_referred zs s ∷ core_referred zs t ∷ core_referred zs u ∷ []
 rule_references zs (CRule.Proof t) = core_references zs t
 
 -- in the document, in a proof of this program, for these numbers of the names around
@@ -116,6 +119,10 @@ source_references words owner zs bindings next (Rule.Text at with) = []
 source_references words owner zs bindings next (Rule.Weaken at of) = source_referred words owner bindings of ∷ []
 source_references words owner zs bindings next (Rule.Pair at which first second) =
     source_referred words owner bindings first ∷ source_referred words owner bindings second ∷ []
+source_references words owner zs bindings next (Rule.Superpose at of) = source_referred words owner bindings of ∷ []
+source_references words owner zs bindings next (Rule.Complete at first second third fourth) =
+    source_referred words owner bindings first ∷ source_referred words owner bindings second
+    ∷ source_referred words owner bindings third ∷ source_referred words owner bindings fourth ∷ []
 source_references words owner zs bindings next (Rule.Term at of) =
     (term_references words owner zs of bindings next).all
 

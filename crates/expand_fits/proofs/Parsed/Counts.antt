@@ -49,6 +49,19 @@ Told texts ws = length texts ≤ length ws
 told_both : (a b : Texts) (us vs : List Word) → Told a us → Told b vs → Told (a ++ b) (us ++ vs)
 told_both a b us vs h k = omega (arith, length-append a b, length-append us vs)
 
+-- those of four parts, in two pairs
+told_pairs : (a b c d : Texts) (us vs ws xs : List Word) → Told a us → Told b vs → Told c ws → Told d xs →
+    Told ((a ++ b) ++ (c ++ d)) (us ++ (vs ++ (ws ++ xs)))
+told_pairs a b c d us vs ws xs h i j k = omega (
+  arith,
+  length-append (a ++ b) (c ++ d),
+  length-append a b,
+  length-append c d,
+  length-append us (vs ++ (ws ++ xs)),
+  length-append vs (ws ++ xs),
+  length-append ws xs,
+)
+
 told_first : (a : Texts) (us vs : List Word) → Told a us → Told a (us ++ vs)
 told_first a us vs h = omega (arith, length-append us vs)
 
@@ -204,6 +217,10 @@ told_rule (Rule.Text at with) = told_helper with
 told_rule (Rule.Weaken at of) = told_ref of
 told_rule (Rule.Pair at which first second) = told_both (ref_texts first) (ref_texts second) (words (view_ref first))
     (words (view_ref second)) (told_ref first) (told_ref second)
+told_rule (Rule.Superpose at of) = told_ref of
+told_rule (Rule.Complete at r s t u) =
+    told_pairs (ref_texts r) (ref_texts s) (ref_texts t) (ref_texts u) (words (view_ref r)) (words (view_ref s))
+    (words (view_ref t)) (words (view_ref u)) (told_ref r) (told_ref s) (told_ref t) (told_ref u)
 told_rule (Rule.Term at of) = told_term of
 
 told_step : (s : Step) → Told (step_texts s) (words (view_step s))

@@ -1,5 +1,5 @@
 -- The numbers in the arguments of steps are numbers of the document's tree.
-use Rattle.std.proofs.Common.{◌^◌, List, [], ◌∷◌, Option, Some, None, All}
+use Rattle.std.proofs.Common.{◌^◌, List, [], ◌∷◌, ◌++◌, Option, Some, None, All}
 use Rattle.std.proofs.lemmas.List.Elements.{All-nil, All-cons, All-append}
 use Rattle.grammar_theory.specs.Ebnf.{Tree}
 use Rattle.unity_syntax.specs.declared.name.End.{End}
@@ -72,6 +72,11 @@ rule_fits (Rule.Text at with) h = helper_fits with h
 rule_fits (Rule.Weaken at of) h = ref_fits of h
 rule_fits (Rule.Pair at which first second) h =
     All-append EndFits (some_of first.args) (some_of second.args) (ref_fits first h.1.0) (ref_fits second h.1.1)
+rule_fits (Rule.Superpose at of) h = ref_fits of h
+rule_fits (Rule.Complete at first second third fourth) h =
+    All-append EndFits (some_of first.args ++ some_of second.args) (some_of third.args ++ some_of fourth.args)
+    (All-append EndFits (some_of first.args) (some_of second.args) (ref_fits first h.0) (ref_fits second h.1.0))
+    (All-append EndFits (some_of third.args) (some_of fourth.args) (ref_fits third h.1.1.0) (ref_fits fourth h.1.1.1))
 rule_fits (Rule.Term at of) h = term_fits of h
 
 step_fits : (s : Step) → Small (view_step s) → StepLiterals s

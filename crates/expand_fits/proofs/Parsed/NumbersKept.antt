@@ -127,7 +127,7 @@ module _ (most : ℕ) where
 
   product_keeps : KeepsNumbers most product_
   unfolding all_productions
-  product_keeps = (one_or_more_ atom_keeps, product_kept)
+  product_keeps = ((atom_keeps, (dropped, atom_keeps)), product_kept)
 
   sum_keeps : KeepsNumbers most sum_
   unfolding all_productions
@@ -240,13 +240,15 @@ module _ (most : ℕ) where
   unfolding all_productions
   rule_keeps =
       or_else (made_ (past_ (past_ inst_keeps))) (or_else (past_ (ref_keeps, tt), weaken_kept)
-      (or_else (made_ (dropped, (ref_keeps, ref_keeps))) (made_ other_term_keeps)))
+      (or_else (made_ (dropped, (ref_keeps, ref_keeps))) (or_else (made_ (past_ ref_keeps))
+      (or_else (made_ (past_ (ref_keeps, (ref_keeps, (ref_keeps, ref_keeps))))) (made_ other_term_keeps)))))
 
   claim_keeps : KeepsNumbers most claim_
   unfolding all_productions
   claim_keeps =
       or_else (made_ dropped) (or_else (made_ (past_ pred_keeps))
-      (or_else (made_ (past_ pred_keeps)) (made_ (pred_keeps, (dropped, pred_keeps)))))
+      (or_else (made_ (past_ pred_keeps)) (or_else (made_ (past_ pred_keeps))
+      (or_else (made_ (past_ pred_keeps)) (made_ (pred_keeps, (dropped, pred_keeps)))))))
 
   param_keeps : KeepsNumbers most param_
   unfolding all_productions
@@ -268,7 +270,8 @@ module _ (most : ℕ) where
   unfolding all_productions
   node_keeps =
       or_else (made_ (past_ counted)) (or_else (made_ (past_ (counted, (dropped, counted))))
-      (or_else (made_ (past_ multiple_keeps)) (made_ (past_ (dropped, (counted, multiple_keeps))))))
+      (or_else (made_ (past_ multiple_keeps)) (or_else (made_ (past_ (dropped, (counted, multiple_keeps))))
+      (or_else (made_ (past_ counted)) (made_ (past_ (dropped, (counted, multiple_keeps))))))))
 
   certificates_keep : KeepsNumbers most certificates_
   unfolding all_productions

@@ -2,7 +2,7 @@
 use Rattle.std.proofs.Common.{ℕ, ◌≤◌, ◌<◌, ◌^◌, List, length, arith}
 use Rattle.grammar_theory.specs.Words.{words}
 use Rattle.unity_syntax.specs.declared.document.Document.{Document}
-use Rattle.unity_syntax.specs.Classes.{terminals}
+use Rattle.unity_syntax.specs.Classes.{terminals, says_later}
 use Rattle.unity_syntax.specs.Grammar.{grammar}
 use Rattle.unity_syntax.specs.View.{view}
 use Rattle.unity_lexer.proofs.SomeAnswer.{IsTokens-in_order}
@@ -31,7 +31,7 @@ not_more bytes d is =
 -- no number in it is larger than those of the tokens
 small : (bytes : List ℕ) (d : Document) → IsDocument bytes d → NoneLarger (2 ^ 62) (view d)
 small bytes d is = numbers_small (2 ^ 62) grammar (bodies_keep (2 ^ 62)) is.parsed.0 (document_keeps (2 ^ 62))
-    (tokens_small bytes bytes is.tokens is.lexed)
+    (tokens_small (says_later is.tokens) bytes bytes is.tokens is.lexed)
 
 few_texts : (n texts bytes : ℕ) → texts ≤ n → n ≤ bytes → bytes ≤ 2 ^ 29 → texts ≤ 1000000000
 few_texts n texts bytes h k l = omega arith
@@ -47,7 +47,7 @@ read_sound bytes d size is named expands =
     record {
       named = named;
       expands = expands;
-      version = version_is d (terminals bytes is.tokens) is.parsed.0;
+      version = version_is d (terminals (says_later is.tokens) bytes is.tokens) is.parsed.0;
       words = record { few = few_texts n _ (length bytes) (texts_told d) most size };
       steps = record { few = few_steps n _ (length bytes) (all_steps_told d) most size };
       literals = literals_fit d (small bytes d is);

@@ -1,5 +1,5 @@
 -- No number that the lexer reads is larger than 2^62.
-use Rattle.std.proofs.Common.{ℕ, ◌^◌, ◌≤◌, List, ◌&&◌, nat_le, not, subst, sym, arith}
+use Rattle.std.proofs.Common.{ℕ, ◌^◌, ◌≤◌, List, Bool, ◌&&◌, nat_le, not, subst, sym, arith}
 use Rattle.std.specs.Str.Parse.{digits_value}
 use Rattle.std.proofs.lemmas.Bool.{leb-true}
 use Rattle.unity_syntax.specs.declared.token.Token.{Token}
@@ -24,12 +24,13 @@ value_small w (TokenKind.Number n) h = number_small w n h
 value_small w (TokenKind.Reserved r) h = omega arith
 value_small w (TokenKind.Symbol s) h = omega arith
 
-reads_small : (bytes : List ℕ) {at end : ℕ} {text rest : List ℕ} {ts : List Token} → Tokenizes at text ts end rest →
-    SmallTokens (2 ^ 62) (terminals bytes ts)
-reads_small bytes nothing = tt
-reads_small bytes (gap piece after e g more) = reads_small bytes more
-reads_small bytes (token run after k long spells more) = (value_small run k spells, reads_small bytes more)
+reads_small : (later : Bool) (bytes : List ℕ) {at end : ℕ} {text rest : List ℕ} {ts : List Token} →
+    Tokenizes at text ts end rest → SmallTokens (2 ^ 62) (terminals later bytes ts)
+reads_small later bytes nothing = tt
+reads_small later bytes (gap piece after e g more) = reads_small later bytes more
+reads_small later bytes (token run after k long spells more) =
+    (value_small run k spells, reads_small later bytes more)
 
-pub tokens_small : (bytes text : List ℕ) (ts : List Token) → IsTokens text ts →
-    SmallTokens (2 ^ 62) (terminals bytes ts)
-tokens_small bytes text ts h = reads_small bytes h
+pub tokens_small : (later : Bool) (bytes text : List ℕ) (ts : List Token) → IsTokens text ts →
+    SmallTokens (2 ^ 62) (terminals later bytes ts)
+tokens_small later bytes text ts h = reads_small later bytes h

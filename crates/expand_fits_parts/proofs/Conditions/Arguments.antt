@@ -248,6 +248,8 @@ rule_named v c h (Rule.Text at with) = text_named v c h with
 rule_named v c h (Rule.Weaken at of) = tt
 rule_named v c h (Rule.Pair at which first second) =
     of_pair_rule (RuleNamed v) which (ref_in c first) (ref_in c second) (λ name. tt) tt
+rule_named v c h (Rule.Superpose at of) = tt
+rule_named v c h (Rule.Complete at first second third fourth) = tt
 rule_named v c h (Rule.Term at of) = term_named of c _ v h
 
 -- steps

@@ -102,6 +102,8 @@ abbrev TextIndexed : Params → Rule → Type 0
 TextIndexed params (Rule.Text at with) = WithIndexed params with
 TextIndexed params (Rule.Weaken at of) = Unit {0}
 TextIndexed params (Rule.Pair at which first second) = Unit {0}
+TextIndexed params (Rule.Superpose at of) = Unit {0}
+TextIndexed params (Rule.Complete at first second third fourth) = Unit {0}
 TextIndexed params (Rule.Term at of) = Unit {0}
 
 rule_text : (programs : Programs) (names : Table) (params : Params) → Each NoParam names → (next : ℕ) (rule : Rule) →
@@ -111,6 +113,8 @@ rule_text programs names params none next (Rule.Text at (Some helper)) h =
     ends_indexed names params none (some_of helper.indices) h
 rule_text programs names params none next (Rule.Weaken at of) h = tt
 rule_text programs names params none next (Rule.Pair at which first second) h = tt
+rule_text programs names params none next (Rule.Superpose at of) h = tt
+rule_text programs names params none next (Rule.Complete at first second third fourth) h = tt
 rule_text programs names params none next (Rule.Term at of) h = tt
 
 abbrev StepIndexed : Step → Type 0
@@ -173,6 +177,8 @@ rule_indexed c outside (Rule.Text at with) h = text_indexed c outside with h
 rule_indexed c outside (Rule.Weaken at of) h = tt
 rule_indexed c outside (Rule.Pair at which first second) h =
     of_pair_rule RuleIndexed which (ref_in c first) (ref_in c second) (λ name. tt) tt
+rule_indexed c outside (Rule.Superpose at of) h = tt
+rule_indexed c outside (Rule.Complete at first second third fourth) h = tt
 rule_indexed c outside (Rule.Term at of) h = tt
 
 pub helpers_indexed : HelpersIndexed

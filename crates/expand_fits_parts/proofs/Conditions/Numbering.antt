@@ -122,6 +122,8 @@ rule_numbered c (Rule.Text at with) = text_numbered c with (length c.params)
 rule_numbered c (Rule.Weaken at of) = tt
 rule_numbered c (Rule.Pair at which first second) =
     of_pair_rule (RuleIsNumbered (length c.params)) which (ref_in c first) (ref_in c second) (λ name. tt) tt
+rule_numbered c (Rule.Superpose at of) = tt
+rule_numbered c (Rule.Complete at first second third fourth) = tt
 rule_numbered c (Rule.Term at of) =
     is_there _ (termed of c (length c.params)).next (counted of c (length c.params)).numbers
 

@@ -184,24 +184,32 @@ no_params (Some ps) h = cc h
 between_fits : (which : Word) (params : List Range) (p q : CForm) → KindFits (between_kind which) params p q
 between_fits which params p q = by (between_kind which) (never which)
   where
-    -- neither `defined` nor `invariant` stands between two formulas
+    -- these kinds stand between two formulas
     IsBetween : Kind → Type 0
     IsBetween Kind.Unless = Unit {0}
     IsBetween Kind.Ensures = Unit {0}
     IsBetween Kind.Leadsto = Unit {0}
+    IsBetween Kind.Until = Unit {0}
+    IsBetween Kind.Detects = Unit {0}
     IsBetween _ = ⊥
 
     never : (w : Word) → IsBetween (between_kind w)
     never Word.Unless = tt
     never Word.Ensures = tt
+    never Word.Until = tt
+    never Word.Detects = tt
     never _ = tt
 
     by : (k : Kind) → IsBetween k → KindFits k params p q
     by Kind.Unless h = tt
     by Kind.Ensures h = tt
     by Kind.Leadsto h = tt
+    by Kind.Until h = tt
+    by Kind.Detects h = tt
     by Kind.Defined h = absurd h
     by Kind.Invariant h = absurd h
+    by Kind.Constant h = absurd h
+    by Kind.Fixed h = absurd h
 
 claim_fits : (c : Scope) (params : Option (Param × List Param)) (claim : Claim) →
     (not (is_some params) || takes_params claim) ≡ true →
@@ -209,6 +217,8 @@ claim_fits : (c : Scope) (params : Option (Param × List Param)) (claim : Claim)
 claim_fits c params (Claim.Defined at) h = (no_params params h, refl, refl)
 claim_fits c params (Claim.Invariant at of) h = (no_params params h, refl)
 claim_fits c params (Claim.Stable at of) h = tt
+claim_fits c params (Claim.Constant at of) h = refl
+claim_fits c params (Claim.Fixed at of) h = refl
 claim_fits c params (Claim.Between at p which q) h = between_fits which (map param_range (some_of params)) _ _
 
 pub kinds_fit : KindsFit

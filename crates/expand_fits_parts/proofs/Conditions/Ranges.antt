@@ -137,6 +137,8 @@ rule_has programs s next (Rule.Text at with) h c = text_has c with
 rule_has programs s next (Rule.Weaken at of) h c = tt
 rule_has programs s next (Rule.Pair at which first second) h c =
     of_pair_rule RuleHasRanges which (ref_in c first) (ref_in c second) (λ name. tt) tt
+rule_has programs s next (Rule.Superpose at of) h c = tt
+rule_has programs s next (Rule.Complete at first second third fourth) h c = tt
 rule_has programs s next (Rule.Term at of) h c = ranged programs of s next h c _
 
 step_keeps : (programs : Programs) (table : Table) (steps : List (List ℕ)) (step : Step) →

@@ -164,6 +164,14 @@ rule_refers limit c h (Rule.Pair at which first second) k =
     let all = All-cons (RefNamed limit) (ref_in c first) (ref_in c second ∷ []) (ref_seen (is_below limit) c h first)
     (one_refers limit c h second) in
     of_pair_rule (λ rule. AllNamed limit (rule_refs rule)) which (ref_in c first) (ref_in c second) (λ name. all) all
+rule_refers limit c h (Rule.Superpose at of) k = one_refers limit c h of
+rule_refers limit c h (Rule.Complete at first second third fourth) k =
+    let v = is_below limit in
+    All-cons (RefNamed limit) (ref_in c first) (ref_in c second ∷ ref_in c third ∷ ref_in c fourth ∷ [])
+    (ref_seen v c h first)
+    (All-cons (RefNamed limit) (ref_in c second) (ref_in c third ∷ ref_in c fourth ∷ []) (ref_seen v c h second)
+    (All-cons (RefNamed limit) (ref_in c third) (ref_in c fourth ∷ []) (ref_seen v c h third)
+    (one_refers limit c h fourth)))
 rule_refers limit c h (Rule.Term at of) k =
     let same = (counted of c (length c.params)).names in
     (term_refers of c (length c.params) limit h (omega arith)).named

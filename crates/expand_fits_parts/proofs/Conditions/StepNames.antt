@@ -101,6 +101,8 @@ rule_within : (rule : Rule) → Within (rule_names rule) (rule_texts rule)
 rule_within (Rule.Text at with) t k = cc k
 rule_within (Rule.Weaken at of) t k = cc k
 rule_within (Rule.Pair at which first second) t k = cc k
+rule_within (Rule.Superpose at of) t k = cc k
+rule_within (Rule.Complete at first second third fourth) t k = cc k
 rule_within (Rule.Term at of) t k = bound_within of t k
 
 -- references
@@ -212,14 +214,28 @@ module _ (texts : Texts) where
     refs = All-nil (RefWords words);
   }
 
+  -- two references, before others
+  two_words : (c : Place) → Stands c → (r s : TextRef) (more : List Ref) → Within (ref_texts r ++ ref_texts s) texts →
+      Words more → Words (ref_in c r ∷ ref_in c s ∷ more)
+  two_words c k r s more h rest = All-cons (RefWords words) (ref_in c r) (ref_in c s ∷ more)
+      (ref_words c k r (within_left (ref_texts r) (ref_texts s) texts h))
+      (All-cons (RefWords words) (ref_in c s) more
+      (ref_words c k s (within_right (ref_texts r) (ref_texts s) texts h)) rest)
+
   rule_says : (c : Place) → Stands c → (rule : Rule) → Within (rule_texts rule) texts → Says (core_rule c rule)
   rule_says c k (Rule.Text at with) h = text_says c k with h
   rule_says c k (Rule.Weaken at of) h = record { label = tt; refs = one_word c k of h }
   rule_says c k (Rule.Pair at which first second) h =
       pair_says which (ref_in c first) (ref_in c second)
-      (All-cons (RefWords words) (ref_in c first) (ref_in c second ∷ [])
-      (ref_words c k first (within_left (ref_texts first) (ref_texts second) texts h))
-      (one_word c k second (within_right (ref_texts first) (ref_texts second) texts h)))
+      (two_words c k first second [] h (All-nil (RefWords words)))
+  rule_says c k (Rule.Superpose at of) h = record { label = tt; refs = one_word c k of h }
+  rule_says c k (Rule.Complete at first second third fourth) h =
+      let begin = ref_texts first ++ ref_texts second in
+      let end = ref_texts third ++ ref_texts fourth in record {
+        label = tt;
+        refs = two_words c k first second (ref_in c third ∷ ref_in c fourth ∷ []) (within_left begin end texts h)
+            (two_words c k third fourth [] (within_right begin end texts h) (All-nil (RefWords words)));
+      }
   rule_says c k (Rule.Term at of) h = record { label = tt; refs = named of h c k _ }
 
   -- steps

@@ -1,5 +1,5 @@
 -- The numbers in the arguments of steps.
-use Rattle.std.proofs.Common.{◌≡◌, ℕ, ◌+◌, List, [], ◌∷◌, length, Bool, Some, None, sym, subst, All}
+use Rattle.std.proofs.Common.{◌≡◌, ℕ, ◌+◌, List, [], ◌∷◌, ◌++◌, length, Bool, Some, None, sym, subst, All}
 use Rattle.std.proofs.lemmas.List.Elements.{All-nil, All-cons, All-append, All-map, All-weaker}
 use Rattle.case_tables.specs.declared.word_table.Word.{Word}
 use Rattle.unity_syntax.specs.declared.name.End.{End}
@@ -9,6 +9,7 @@ use Rattle.unity_syntax.specs.declared.term.Term.TheOpen.{Term-F}
 use Rattle.unity_syntax.specs.declared.proof.Rule.{Rule}
 use Rattle.unity_syntax.specs.TwoFolds.{TermLayers}
 use Rattle.unity_syntax.proofs.TermFolds.{two_terms}
+use Rattle.core_terms.specs.declared.documents.Ref.{Ref}
 use Rattle.core_terms.specs.declared.documents.Arg.{Arg}
 use Rattle.core_terms.specs.declared.documents.PTerm.{PTerm}
 use Rattle.core_terms.specs.declared.documents.PTerm.TheVariants.{Imply, From, Trans, Either, Exists, Induct, Psp}
@@ -98,12 +99,22 @@ term_fits t = two_terms Bounded term_layer ends_layer layer t
 one_ref : (c : Place) (r : TextRef) → All EndFits (some_of r.args) → AllFit (ref_in c r ∷ [])
 one_ref c r h = All-cons RefFits (ref_in c r) [] (arguments_fit c.bounds c.params r.args h) (All-nil RefFits)
 
+-- two references, before others
+two_refs : (c : Place) (r s : TextRef) (more : List Ref) → All EndFits (some_of r.args ++ some_of s.args) →
+    AllFit more → AllFit (ref_in c r ∷ ref_in c s ∷ more)
+two_refs c r s more h rest = All-cons RefFits (ref_in c r) (ref_in c s ∷ more)
+    (arguments_fit c.bounds c.params r.args (left_ends (some_of r.args) (some_of s.args) h))
+    (All-cons RefFits (ref_in c s) more
+    (arguments_fit c.bounds c.params s.args (right_ends (some_of r.args) (some_of s.args) h)) rest)
+
 rule_fits : (c : Place) (rule : Rule) → All EndFits (rule_ends rule) → RuleArgumentsFit (core_rule c rule)
 rule_fits c (Rule.Text at None) h = tt
 rule_fits c (Rule.Text at (Some helper)) h = arguments_fit c.bounds c.params helper.indices h
 rule_fits c (Rule.Weaken at of) h = tt
 rule_fits c (Rule.Pair at which first second) h =
     of_pair_rule RuleArgumentsFit which (ref_in c first) (ref_in c second) (λ name. tt) tt
+rule_fits c (Rule.Superpose at of) h = tt
+rule_fits c (Rule.Complete at first second third fourth) h = tt
 rule_fits c (Rule.Term at of) h = λ v. term_fits of h c (length c.params) v
 
 refs_fit : (c : Place) (rule : Rule) → All EndFits (rule_ends rule) → AllFit (rule_refs (core_rule c rule))
@@ -111,10 +122,14 @@ refs_fit c (Rule.Text at None) h = All-nil RefFits
 refs_fit c (Rule.Text at (Some helper)) h = All-nil RefFits
 refs_fit c (Rule.Weaken at of) h = one_ref c of h
 refs_fit c (Rule.Pair at which first second) h =
-    let all = All-cons RefFits (ref_in c first) (ref_in c second ∷ [])
-    (arguments_fit c.bounds c.params first.args (left_ends (some_of first.args) (some_of second.args) h))
-    (one_ref c second (right_ends (some_of first.args) (some_of second.args) h)) in
+    let all = two_refs c first second [] h (All-nil RefFits) in
     of_pair_rule (λ rule. AllFit (rule_refs rule)) which (ref_in c first) (ref_in c second) (λ name. all) all
+refs_fit c (Rule.Superpose at of) h = one_ref c of h
+refs_fit c (Rule.Complete at first second third fourth) h =
+    let begin = some_of first.args ++ some_of second.args in
+    let end = some_of third.args ++ some_of fourth.args in
+    two_refs c first second (ref_in c third ∷ ref_in c fourth ∷ []) (left_ends begin end h)
+    (two_refs c third fourth [] (right_ends begin end h) (All-nil RefFits))
 refs_fit c (Rule.Term at of) h = terms_fit of h c (length c.params)
 
 pub steps_fit : StepsFit

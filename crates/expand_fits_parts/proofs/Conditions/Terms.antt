@@ -172,6 +172,8 @@ rule_named c (Rule.Text at with) = text_ranges c with
 rule_named c (Rule.Weaken at of) = refl
 rule_named c (Rule.Pair at which first second) =
     of_pair_rule (λ rule. length (rule_ranges rule) ≡ 0) which (ref_in c first) (ref_in c second) (λ name. refl) refl
+rule_named c (Rule.Superpose at of) = refl
+rule_named c (Rule.Complete at first second third fourth) = refl
 rule_named c (Rule.Term at of) = (counted of c (length c.params)).names
 
 length_mapped : {X Y : Type 0} (f : X → Y) (xs : List X) → length (map f xs) ≡ length xs

@@ -4,6 +4,7 @@ use Rattle.std.specs.List.{list_all}
 use Rattle.case_tables.specs.declared.symbol_table.Symbol.{Symbol}
 use Rattle.unity_syntax.specs.declared.expression.Expr.{Expr}
 use Rattle.unity_syntax.specs.declared.expression.Expr.TheOpen.{Expr-F}
+use Rattle.unity_syntax.specs.declared.expression.Operator.{Operator}
 use Rattle.unity_syntax.specs.declared.statement.Target.{Target}
 use Rattle.unity_syntax.specs.declared.statement.Component.TheOpen.{Component-F}
 use Rattle.unity_syntax.specs.TwoFolds.{Related, ExpressionLayers, ComponentLayers, AssignLayers}
@@ -27,12 +28,13 @@ all_pass [] = refl
 all_pass (x ∷ xs) = and_both (x.0 any_word any_word) (list_all (λ m. m any_word any_word) (map (λ k. k.0) xs)) x.2
     (all_pass xs)
 
-sums_pass : (xs : List (Symbol × Part)) → list_all (λ (part : Symbol × Wording). part.1 any_word any_word)
-    (map (λ (k : Symbol × Part). (k.0, k.1.0)) xs) ≡ true
-sums_pass [] = refl
-sums_pass (x ∷ xs) = and_both (x.1.0 any_word any_word)
-    (list_all (λ (part : Symbol × Wording). part.1 any_word any_word)
-    (map (λ (k : Symbol × Part). (k.0, k.1.0)) xs)) x.1.2 (sums_pass xs)
+-- parts that are marked: by a sign in a sum, by an operator in a product
+marked_pass : {S : Type 0} (xs : List (S × Part)) → list_all (λ (part : S × Wording). part.1 any_word any_word)
+    (map (λ (k : S × Part). (k.0, k.1.0)) xs) ≡ true
+marked_pass [] = refl
+marked_pass {S} (x ∷ xs) = and_both (x.1.0 any_word any_word)
+    (list_all (λ (part : S × Wording). part.1 any_word any_word)
+    (map (λ (k : S × Part). (k.0, k.1.0)) xs)) x.1.2 (marked_pass xs)
 
 abbrev first_passes : Part → List Part → Type 0
 first_passes x xs =
@@ -49,8 +51,9 @@ layer (Expr-F.Or at x xs) = many_pass x xs
 layer (Expr-F.Not at x) = x.2
 layer (Expr-F.Compare at l r x) = and_both (l.0 any_word any_word) (x.0 any_word any_word) l.2 x.2
 layer (Expr-F.Sum at minus x xs) = and_both (x.0 any_word any_word) (list_all (λ (part : Symbol × Wording).
-    part.1 any_word any_word) (map (λ (k : Symbol × Part). (k.0, k.1.0)) xs)) x.2 (sums_pass xs)
-layer (Expr-F.Product at x xs) = many_pass x xs
+    part.1 any_word any_word) (map (λ (k : Symbol × Part). (k.0, k.1.0)) xs)) x.2 (marked_pass xs)
+layer (Expr-F.Product at x xs) = and_both (x.0 any_word any_word) (list_all (λ (part : Operator × Wording).
+    part.1 any_word any_word) (map (λ (k : Operator × Part). (k.0, k.1.0)) xs)) x.2 (marked_pass xs)
 layer (Expr-F.Number at number) = refl
 layer (Expr-F.True at) = refl
 layer (Expr-F.False at) = refl

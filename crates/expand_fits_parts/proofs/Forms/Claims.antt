@@ -238,12 +238,16 @@ module _ (slots : List CSlot) (params : List Range) (s : Scope) (g : ScopeFits s
   p_fits (Claim.Defined at) h = top_fits slots params
   p_fits (Claim.Invariant at of) h = formulas_fit slots params s of g h.0
   p_fits (Claim.Stable at of) h = formulas_fit slots params s of g h.0
+  p_fits (Claim.Constant at of) h = formulas_fit slots params s of g h.0
+  p_fits (Claim.Fixed at of) h = formulas_fit slots params s of g h.0
   p_fits (Claim.Between at p which q) h = formulas_fit slots params s p g h.0
 
   q_fits : (claim : Claim) → Smalls (claim_formulas s claim) → FormFits slots params (claim_q s claim)
   q_fits (Claim.Defined at) h = top_fits slots params
   q_fits (Claim.Invariant at of) h = bottom_fits slots params
   q_fits (Claim.Stable at of) h = bottom_fits slots params
+  q_fits (Claim.Constant at of) h = bottom_fits slots params
+  q_fits (Claim.Fixed at of) h = bottom_fits slots params
   q_fits (Claim.Between at p which q) h = formulas_fit slots params s q g h.1.0
 
 module _ (words : Texts) (s : Scope) (slots : List CSlot) (Has : CStep → Type 0)

@@ -10,6 +10,7 @@ use Rattle.case_tables.specs.declared.symbol_table.Symbol.{Symbol}
 use Rattle.case_tables.specs.declared.word_table.Word.{Word}
 use Rattle.unity_syntax.specs.declared.expression.Expr.{Expr}
 use Rattle.unity_syntax.specs.declared.expression.Expr.TheOpen.{Expr-F}
+use Rattle.unity_syntax.specs.declared.expression.Operator.{Operator}
 use Rattle.unity_syntax.specs.TwoFolds.{Related, ExpressionLayers}
 use Rattle.unity_syntax.proofs.ExpressionFolds.{two_expressions}
 use Rattle.meaning_documents.specs.Names.{Variable}
@@ -33,7 +34,8 @@ use Rattle.expand_rules.specs.declared.cores.Core.{Core}
 use Rattle.expand_rules.specs.declared.cores.Bound.{Bound}
 use Rattle.expand_rules.specs.declared.cores.Formed.{Formed}
 use Rattle.expand_rules.specs.Forming.{Scope, with_number, term_of, form_of, factor_of, as_number, as_truth, sum}
-use Rattle.expand_rules.specs.Forming.{difference, negation, multiple, product, at_least_zero, is_zero, denial}
+use Rattle.expand_rules.specs.Forming.{difference, negation, multiple, product, factored, at_least_zero, is_zero}
+use Rattle.expand_rules.specs.Forming.{denial}
 use Rattle.expand_rules.specs.Forming.{conjunction, disjunction, implication, equation_by, equation, excess}
 use Rattle.expand_rules.specs.Forming.{comparison, signed, plus, chain, array_formed}
 use Rattle.expand_rules.specs.Forming.{bound_formed, variable_formed, formed_or_zero}
@@ -204,6 +206,11 @@ module _ (slots params : ℕ → Bool) where
       by true = fine_multiple a b i
       by false = fine_multiple b a h
 
+  fine_factored : (a : Formed) (o : Operator) (b : Formed) → Fine a → Fine b → Fine (factored a (o, b))
+  fine_factored a Operator.Times b h i = fine_product a b h i
+  fine_factored a Operator.Div b h i = names-Const (pos 0)
+  fine_factored a Operator.Mod b h i = names-Const (pos 0)
+
   fine_at_least : (a : Formed) → Fine a → Fine (at_least_zero a)
   fine_at_least a h = at_least_names (term_of a.core) (as_term a.core h)
 
@@ -323,6 +330,19 @@ module _ (slots params : ℕ → Bool) where
         let rest = and_second (x.1.0 alone whole) more p in
         sums_fine (plus a (x.0, x.1.1 s)) (fine_plus a x.0 (x.1.1 s) h (x.1.2 alone whole s here g)) xs rest
 
+    factors_fine : (a : Formed) → Fine a → (xs : List (Operator × Part)) →
+        list_all (λ (part : Operator × Wording). part.1 alone whole) (map (λ (k : Operator × Part). (k.0, k.1.0)) xs)
+        ≡ true →
+        Fine (fold factored a (map (λ (part : Operator × Forming). (part.0, part.1 s)) (map (λ (k : Operator × Part).
+        (k.0, k.1.1)) xs)))
+    factors_fine a h [] p = h
+    factors_fine a h (x ∷ xs) p =
+        let more = list_all (λ (part : Operator × Wording). part.1 alone whole) (map (λ (k : Operator × Part).
+        (k.0, k.1.0)) xs) in
+        let here = and_first (x.1.0 alone whole) more p in
+        let rest = and_second (x.1.0 alone whole) more p in
+        factors_fine (factored a (x.0, x.1.1 s)) (fine_factored a x.0 (x.1.1 s) h (x.1.2 alone whole s here g)) xs rest
+
   joined_fine : (op : Formed → Formed → Formed) → KeepsFine op → (f : ℤ → Formed) → ((z : ℤ) → Fine (f z)) →
       (a : Formed) → Fine a → (zs : List ℤ) → Fine (fold op a (map f zs))
   joined_fine op k f h a i [] = i
@@ -376,9 +396,9 @@ module _ (slots params : ℕ → Bool) where
       sums_fine a w s g (signed minus (x.1 s)) (fine_signed minus (x.1 s) (x.2 a w s (and_first (x.0 a w) more p) g)) xs
       (and_second (x.0 a w) more p)
   layer (Expr-F.Product at x xs) a w s p g =
-      let more = list_all (λ m. m a w) (map (λ k. k.0) xs) in
-      fold_fine a w s g product fine_product (x.1 s) (x.2 a w s (and_first (x.0 a w) more p) g) xs
-      (and_second (x.0 a w) more p)
+      let more = list_all (λ (part : Operator × Wording). part.1 a w) (map (λ (k : Operator × Part).
+      (k.0, k.1.0)) xs) in
+      factors_fine a w s g (x.1 s) (x.2 a w s (and_first (x.0 a w) more p) g) xs (and_second (x.0 a w) more p)
   layer (Expr-F.Number at number) a w s p g = fine_constant (pos number)
   layer (Expr-F.True at) a w s p g = fine_top
   layer (Expr-F.False at) a w s p g = fine_bottom

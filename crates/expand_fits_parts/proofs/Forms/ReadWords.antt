@@ -13,6 +13,7 @@ use Rattle.case_tables.specs.declared.symbol_table.Symbol.{Symbol}
 use Rattle.unity_syntax.specs.declared.name.Name.{Name}
 use Rattle.unity_syntax.specs.declared.expression.Expr.{Expr}
 use Rattle.unity_syntax.specs.declared.expression.Expr.TheOpen.{Expr-F}
+use Rattle.unity_syntax.specs.declared.expression.Operator.{Operator}
 use Rattle.unity_syntax.specs.declared.statement.Target.{Target}
 use Rattle.unity_syntax.specs.declared.statement.Values.{Values}
 use Rattle.unity_syntax.specs.declared.statement.Component.TheOpen.{Component-F}
@@ -25,7 +26,7 @@ use Rattle.names_rules.specs.declared.named.Named.{Named}
 use Rattle.names_rules.specs.declared.named.Sort.{Sort}
 use Rattle.names_rules.specs.Scope.{Scope as NameScope, found, bound_named, visible, is_variable, with_bound}
 use Rattle.names_rules.specs.Reading.{Reading, ReadingAt, earlier, unless, same_sort, same_bool, needs, gathers}
-use Rattle.names_rules.specs.Reading.{in_order}
+use Rattle.names_rules.specs.Reading.{in_order, factors, right_sides}
 use Rattle.names_rules.specs.Reading.{is_linear, left_side, word_found, binding, range_reading, all_beside, read_layer}
 use Rattle.names_rules.specs.Reading.{read}
 use Rattle.names_rules.specs.Statements.{target_word, target_head, index_reading, target_reading, values_reading}
@@ -119,6 +120,21 @@ module _ (n : NameScope) (a w : WordTest) (g : FoundPass n a w) where
       let p : Symbol × Wording = (j.0, j.1.1) in p) ks)) (part_reads Sort.Number k.1 (earlier_first f rest h))
       (sums_read ks (earlier_second f rest h))
 
+  abbrev operands_of : List (Operator × Part) → List Reading
+  operands_of ks = right_sides (factors n (map (λ (k : Operator × Part).
+      let p : Operator × ReadingAt = (k.0, k.1.0) in p) ks))
+
+  factors_read : (ks : List (Operator × Part)) → (in_order (operands_of ks)).fault ≡ None →
+      list_all (λ (part : Operator × Wording). part.1 a w) (map (λ (k : Operator × Part).
+      let p : Operator × Wording = (k.0, k.1.1) in p) ks) ≡ true
+  factors_read [] h = refl
+  factors_read (k ∷ ks) h =
+      let f = (needs Sort.Number (k.1.0 n)).fault in
+      let rest = (in_order (operands_of ks)).fault in
+      and_both (k.1.1 a w) (list_all (λ (part : Operator × Wording). part.1 a w) (map (λ (j : Operator × Part).
+      let p : Operator × Wording = (j.0, j.1.1) in p) ks)) (part_reads Sort.Number k.1 (earlier_first f rest h))
+      (factors_read ks (earlier_second f rest h))
+
   word_reads : (name : Name) (o : Option Named) → ((m : Named) → o ≡ Some m → found n name.text ≡ Some m) →
       (word_found n name false o).fault ≡ None → a name.text ≡ true
   word_reads name None same h = cc h
@@ -170,9 +186,14 @@ layer (Expr-F.Sum at minus x xs) n a w g h =
     let p : Symbol × Wording = (k.0, k.1.1) in p) xs)) (part_reads n a w g Sort.Number x (earlier_first f rest h))
     (sums_read n a w g xs (earlier_second f rest h))
 layer (Expr-F.Product at x xs) n a w g h =
-    let rs = map (λ m. needs Sort.Number (m n)) (x.0 ∷ map (λ j. j.0) xs) in
-    many_read n a w g Sort.Number x xs (earlier_first (in_order rs).fault
-    (unless (is_linear true rs) Code.NotLinear at) h)
+    let first = needs Sort.Number (x.0 n) in
+    let parts = map (λ (k : Operator × Part). let p : Operator × ReadingAt = (k.0, k.1.0) in p) xs in
+    let rest = (in_order (operands_of n a w g xs)).fault in
+    let both : earlier first.fault rest ≡ None = earlier_first (earlier first.fault rest)
+    (unless (is_linear first.constant (factors n parts)) Code.NotLinear at) h in
+    and_both (x.1 a w) (list_all (λ (part : Operator × Wording). part.1 a w) (map (λ (k : Operator × Part).
+    let p : Operator × Wording = (k.0, k.1.1) in p) xs)) (part_reads n a w g Sort.Number x (earlier_first first.fault
+    rest both)) (factors_read n a w g xs (earlier_second first.fault rest both))
 layer (Expr-F.Number at number) n a w g h = refl
 layer (Expr-F.True at) n a w g h = refl
 layer (Expr-F.False at) n a w g h = refl

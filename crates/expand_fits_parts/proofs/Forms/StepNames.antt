@@ -86,6 +86,8 @@ rule_binds c (Rule.Text at (Some helper)) = refl
 rule_binds c (Rule.Weaken at of) = refl
 rule_binds c (Rule.Pair at which r s) =
     of_pair_rule (λ rule. 0 ≡ length (rule_ranges rule)) which (ref_in c r) (ref_in c s) (λ name. refl) refl
+rule_binds c (Rule.Superpose at of) = refl
+rule_binds c (Rule.Complete at r s t u) = refl
 rule_binds c (Rule.Term at of) = terms_bind of c (length c.params)
 
 mapped : {X Y : Type 0} (f : X → Y) (xs : List X) → length (map f xs) ≡ length xs

@@ -68,6 +68,8 @@ module _ (slots : List CSlot) (params : List Range) where
   rule_fits c g names count (Rule.Weaken at of) small = tt
   rule_fits c g names count (Rule.Pair at which r s) small =
       of_pair_rule (RuleFits slots params) which (ref_in c r) (ref_in c s) (λ name. tt) tt
+  rule_fits c g names count (Rule.Superpose at of) small = tt
+  rule_fits c g names count (Rule.Complete at r s t u) small = tt
   rule_fits c g names count (Rule.Term at of) small =
       let more = bound_ranges (termed of c (length c.params)).core in
       (terms_fine slots (params ++ more) of c (length c.params) (is_below (length params)) (g more) names
@@ -108,6 +110,8 @@ rule_numbered c first count (Rule.Text at (Some helper)) = tt
 rule_numbered c first count (Rule.Weaken at of) = tt
 rule_numbered c first count (Rule.Pair at which r s) =
     of_pair_rule (RuleNumbered first) which (ref_in c r) (ref_in c s) (λ name. tt) tt
+rule_numbered c first count (Rule.Superpose at of) = tt
+rule_numbered c first count (Rule.Complete at r s t u) = tt
 rule_numbered c first count (Rule.Term at of) =
     subst (λ n. NumbersBoundNames n (termed of c (length c.params)).core) count
     (ap (λ o. is_some o) (terms_numbered of c (length c.params)))

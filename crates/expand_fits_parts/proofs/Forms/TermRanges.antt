@@ -108,6 +108,8 @@ rule_reads programs c params (Rule.Text at (Some helper)) s k fault = tt
 rule_reads programs c params (Rule.Weaken at of) s k fault = tt
 rule_reads programs c params (Rule.Pair at which q r) s k fault =
     of_pair_rule (RuleReads params) which (ref_in c q) (ref_in c r) (λ name. tt) tt
+rule_reads programs c params (Rule.Superpose at of) s k fault = tt
+rule_reads programs c params (Rule.Complete at q r t u) s k fault = tt
 rule_reads programs c params (Rule.Term at of) s k fault =
     terms_read programs of c (length c.params) (is_below (length params)) s k fault
 

@@ -61,6 +61,9 @@ abbrev pub rule_ends : Rule → List End
 rule_ends (Rule.Text at with) = helper_ends with
 rule_ends (Rule.Weaken at of) = some_of of.args
 rule_ends (Rule.Pair at which first second) = some_of first.args ++ some_of second.args
+rule_ends (Rule.Superpose at of) = some_of of.args
+rule_ends (Rule.Complete at first second third fourth) =
+    (some_of first.args ++ some_of second.args) ++ (some_of third.args ++ some_of fourth.args)
 rule_ends (Rule.Term at of) = term_ends of
 
 -- the numbers in the arguments of a step are within bounds

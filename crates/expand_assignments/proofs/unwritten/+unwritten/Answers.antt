@@ -2,6 +2,7 @@ use Rattle.std.proofs.Common.{◌<◌, ◌+ℤ◌, pos, List, map, fold, drop}
 use Rattle.std.proofs.Common.{subst}
 use Rattle.case_tables.specs.declared.symbol_table.Symbol.{Symbol}
 use Rattle.unity_syntax.specs.declared.expression.Expr.{Expr}
+use Rattle.unity_syntax.specs.declared.expression.Operator.{Operator}
 use Rattle.meaning_documents.specs.Value.{count_up}
 use Rattle.expand_rules.specs.Forming.{fit_values, numbers}
 use Rattle.expand_rules.specs.Assigning.{no_count, both_counts, unwritten_count, quantified_count}
@@ -100,6 +101,37 @@ terms-returns t c =
     (halfway_end c.loop-part.whole (map f (drop c.loop-part.part-index xs)) (fold both_counts n (map f xs))
     (none_left f xs c.loop-part.part-index c.loop-part-test.false) (c.loop-part.invariant n h))
 
+pub factors-loop-part-init : goal.factors-loop-part-init
+factors-loop-part-init t c =
+    λ n h. halfway_begin c.args.first n (map (λ (p : Operator × Expr). unwritten_count p.1 (bound_names c.args.env.now))
+    c.as_slice-part-items.result.now) h
+
+pub factors-returns-then-is_none : goal.factors-returns-then-is_none
+factors-returns-then-is_none t c =
+    let f = λ (p : Operator × Expr). unwritten_count p.1 (bound_names c.args.env.now) in
+    λ n h. subst (λ (ys : List (Operator × Expr)). 65536 < (fold both_counts n (map f ys)).size)
+    c.as_slice-part-items.ensures (halfway_none c.loop-part.whole _ _ c.is_none.result c.is_none.ensures
+    c.if-is_none.true (c.loop-part.invariant n h))
+
+pub factors-loop-part-preserved : goal.factors-loop-part-preserved
+factors-loop-part-preserved t c =
+    let f = λ (p : Operator × Expr). unwritten_count p.1 (bound_names c.args.env.now) in
+    let xs = c.as_slice-part-items.result.now in
+    let item = c.part-item.result in
+    λ n h. halfway_next f xs c.loop-part.part-index item c.loop-part.whole c.joined-whole.result
+    (fold both_counts n (map f xs)) c.loop-part-test.true
+    (λ m k. subst (λ (y : Operator × Expr). TellsCount c.joined-whole.result (both_counts m (f y))) c.part-item.is
+    (c.joined-whole.ensures m (f item) k c.unwritten.ensures)) (c.loop-part.invariant n h)
+
+pub factors-returns : goal.factors-returns
+factors-returns t c =
+    let f = λ (p : Operator × Expr). unwritten_count p.1 (bound_names c.args.env.now) in
+    let xs = c.as_slice-part-items.result.now in
+    λ n h. subst (λ (ys : List (Operator × Expr)). TellsCount c.loop-part.whole (fold both_counts n (map f ys)))
+    c.as_slice-part-items.ensures
+    (halfway_end c.loop-part.whole (map f (drop c.loop-part.part-index xs)) (fold both_counts n (map f xs))
+    (none_left f xs c.loop-part.part-index c.loop-part-test.false) (c.loop-part.invariant n h))
+
 pub unwritten-returns-in-And : goal.unwritten-returns-in-And
 unwritten-returns-in-And t c =
     let f = λ (x : Expr). unwritten_count x (bound_names c.args.env.now) in
@@ -121,7 +153,7 @@ unwritten-returns-in-Sum t c =
 pub unwritten-returns-in-Product : goal.unwritten-returns-in-Product
 unwritten-returns-in-Product t c =
     let f = λ (x : Expr). unwritten_count x (bound_names c.args.env.now) in
-    rw (c.in-Product.is, unwritten-Product) (c.parts-in-Product.ensures (f c.in-Product.first)
+    rw (c.in-Product.is, unwritten-Product) (c.factors.ensures (f c.in-Product.first)
     (subst (λ (x : Expr). TellsCount c.unwritten-in-Product.result (f x)) c.get-in-Product.ensures
     c.unwritten-in-Product.ensures))
 

@@ -1,6 +1,7 @@
 use Rattle.std.proofs.Common.{map, fold, drop}
 use Rattle.case_tables.specs.declared.symbol_table.Symbol.{Symbol}
 use Rattle.unity_syntax.specs.declared.expression.Expr.{Expr}
+use Rattle.unity_syntax.specs.declared.expression.Operator.{Operator}
 use Rattle.meaning_documents.specs.Value.{count_up}
 use Rattle.expand_rules.specs.declared.effects.Count.{Count}
 use Rattle.expand_rules.specs.Assigning.{both_counts, unwritten_count}
@@ -24,3 +25,9 @@ invariant-terms-loop-part l = (n : Count) → TellsCount l.fn.first n →
     Halfway l.whole
     (map (λ (p : Symbol × Expr). unwritten_count p.1 (bound_names l.env)) (drop l.part-index l.part-items))
     (fold both_counts n (map (λ (p : Symbol × Expr). unwritten_count p.1 (bound_names l.env)) l.part-items))
+
+abbrev pub invariant-factors-loop-part : goal.invariant-factors-loop-part
+invariant-factors-loop-part l = (n : Count) → TellsCount l.fn.first n →
+    Halfway l.whole
+    (map (λ (p : Operator × Expr). unwritten_count p.1 (bound_names l.env)) (drop l.part-index l.part-items))
+    (fold both_counts n (map (λ (p : Operator × Expr). unwritten_count p.1 (bound_names l.env)) l.part-items))

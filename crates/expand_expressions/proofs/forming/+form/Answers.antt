@@ -4,28 +4,29 @@ use Rattle.std.proofs.lemmas.Result.{err_from_is_err_and}
 use Rattle.std.specs.Prelude.{fold}
 use Rattle.case_tables.specs.declared.symbol_table.Symbol.{Symbol}
 use Rattle.unity_syntax.specs.declared.expression.Expr.{Expr}
+use Rattle.unity_syntax.specs.declared.expression.Operator.{Operator}
 use Rattle.meaning_documents.specs.Value.{count_up}
 use Rattle.meaning_documents.specs.Names.{variable_named}
 use Rattle.expand_rules.specs.declared.cores.Bound.{Bound}
 use Rattle.expand_rules.specs.declared.cores.Formed.{Formed}
 use Rattle.expand_rules.specs.Limits.{is_past, is_too_large}
 use Rattle.expand_rules.specs.Measures.{quantifier_measure, range_misfit}
-use Rattle.expand_rules.specs.Forming.{Scope, with_number, as_truth, conjunction, disjunction, product, plus}
+use Rattle.expand_rules.specs.Forming.{Scope, with_number, as_truth, conjunction, disjunction, factored, plus}
 use Rattle.expand_rules.specs.Forming.{signed, denial, comparison, gathered, numbers, fit_values, quantified}
 use Rattle.expand_rules.specs.Forming.{formed}
 use Rattle.expand_rules.proofs.Equations.{formed-And, formed-Or, formed-Not, formed-Compare, formed-Sum}
 use Rattle.expand_rules.proofs.Equations.{formed-Product, formed-Element, formed-Quantified}
 use Rattle.expand_rules.proofs.Growing.{as_truth_keeps, denial_keeps, comparison_first, comparison_second}
-use Rattle.expand_rules.proofs.Growing.{signed_keeps, element_keeps, quantified_keeps, fold_keeps, product_first}
-use Rattle.expand_rules.proofs.Growing.{large_of_size}
+use Rattle.expand_rules.proofs.Growing.{signed_keeps, element_keeps, quantified_keeps, factored_first, factored_second}
+use Rattle.expand_rules.proofs.Growing.{plus_first, plus_second, large_of_size}
 use Rattle.expand_expressions.specs.declared.joining.Joint.{Joint}
 use Rattle.expand_expressions.specs.Sound.{GivesCore, GivesWhole}
 use Rattle.expand_expressions.specs.Joints.{joint_of, begin_of, word_joint}
 use Rattle.expand_expressions.specs.Places.{scope, bound_names}
 use Rattle.expand_expressions.proofs.Growth.{passes, passes_whole, passes_back, passes_at, fold_past, begin_keeps}
-use Rattle.expand_expressions.proofs.Growth.{plus_fold, list_next, list_joined, sum_next, sum_joined, instances_begin}
-use Rattle.expand_expressions.proofs.Growth.{instances_more, instances_end, instance_large, joined_large, whole_large}
-use Rattle.expand_expressions.proofs.Growth.{begin_large, first_large}
+use Rattle.expand_expressions.proofs.Growth.{plus_fold, factored_fold, list_next, list_joined, marked_next}
+use Rattle.expand_expressions.proofs.Growth.{marked_joined, instances_begin, instances_more, instances_end}
+use Rattle.expand_expressions.proofs.Growth.{instance_large, joined_large, whole_large, begin_large, first_large}
 use Rattle.expand_expressions.proofs.forming.+form.Goals as goal
 
 pub form-returns-in_err-first-in-And-clause-formed : goal.form-returns-in_err-first-in-And-clause-formed
@@ -74,11 +75,11 @@ form-returns-in_err-first-in-Product-clause-formed t c =
     let f = λ (x : Expr). formed x s in
     let p = err_from_is_err_and c.from_residual-in_err-first-in-Product.result
     c.from_residual-in_err-first-in-Product.ensures.1 in
+    let parts = map (λ (q : Operator × Expr). (q.0, formed q.1 s)) c.in-Product.rest in
     rw (p.1, p.2, c.in-Product.is, formed-Product)
     (passes_at c.in_err-first-in-Product.field-0.0 f c.get-in-Product.result.now c.in-Product.first
-    (fold product (begin_of Joint.Product (f c.in-Product.first)) (map f c.in-Product.rest))
-    c.get-in-Product.ensures (λ h. fold_past Joint.Product (begin_of Joint.Product (f c.in-Product.first))
-    (map f c.in-Product.rest) (begin_keeps Joint.Product (f c.in-Product.first) h))
+    (fold factored (f c.in-Product.first) parts)
+    c.get-in-Product.ensures (factored_fold (f c.in-Product.first) parts)
     c.in_err-first-in-Product.ensures.formed)
 
 pub form-returns-in_ok-first-in-Product-clause-formed : goal.form-returns-in_ok-first-in-Product-clause-formed
@@ -86,8 +87,9 @@ form-returns-in_ok-first-in-Product-clause-formed t c =
     let s = scope c.args.known.now c.args.env.now in
     let f = λ (x : Expr). formed x s in
     rw (c.in-Product.is, formed-Product)
-    (subst (λ a. GivesCore c.all-in-Product.result (fold product (begin_of Joint.Product a) (map f c.in-Product.rest)))
-    (c.in_ok-first-in-Product.ensures.formed ∙ ap f c.get-in-Product.ensures) c.all-in-Product.ensures.formed)
+    (subst (λ a. GivesCore c.multiplied.result (fold factored a
+    (map (λ (q : Operator × Expr). (q.0, formed q.1 s)) c.in-Product.rest)))
+    (c.in_ok-first-in-Product.ensures.formed ∙ ap f c.get-in-Product.ensures) c.multiplied.ensures.formed)
 
 pub form-returns-in_err-first-in-Sum-clause-formed : goal.form-returns-in_err-first-in-Sum-clause-formed
 form-returns-in_err-first-in-Sum-clause-formed t c =
@@ -219,7 +221,8 @@ added-returns-in_err-next-clause-formed t c =
     let parts = map (λ (q : Symbol × Expr). (q.0, formed q.1 s)) c.args.rest.now in
     let p = err_from_is_err_and c.from_residual-in_err-next.result c.from_residual-in_err-next.ensures.1 in
     rw (p.1, p.2) (passes c.in_err-next.field-0.0 (f c.part-item.result.1) (fold plus begin parts)
-    (sum_next f c.loop-part.whole c.as_slice-part-items.result.now c.args.rest.now c.loop-part.part-index begin
+    (marked_next plus plus_first plus_second f c.loop-part.whole c.as_slice-part-items.result.now
+    c.args.rest.now c.loop-part.part-index begin
     c.in_ok-whole.whole c.loop-part-test.true c.in_ok-whole.ensures.formed c.as_slice-part-items.ensures
     c.loop-part.invariant.0 c.part-item.result c.part-item.is) c.in_err-next.ensures.formed)
 
@@ -232,10 +235,36 @@ added-returns-in_err-whole-2-clause-formed t c =
     let p = err_from_is_err_and c.from_residual-in_err-whole-2.result c.from_residual-in_err-whole-2.ensures.1 in
     rw (p.1, p.2) (passes c.in_err-whole-2.field-0.0 (plus c.loop-part.whole
     (c.part-item.result.0, c.in_ok-next.next)) (fold plus begin parts)
-    (sum_joined f c.loop-part.whole c.as_slice-part-items.result.now c.args.rest.now c.loop-part.part-index begin
+    (marked_joined plus plus_first plus_second f c.loop-part.whole c.as_slice-part-items.result.now
+    c.args.rest.now c.loop-part.part-index begin
     c.in_ok-whole.whole c.loop-part-test.true c.in_ok-whole.ensures.formed c.as_slice-part-items.ensures
     c.loop-part.invariant.0 c.part-item.result c.in_ok-next.next c.part-item.is c.in_ok-next.ensures.formed)
     c.in_err-whole-2.ensures.formed)
+
+pub multiplied-returns-in_err-next-clause-formed : goal.multiplied-returns-in_err-next-clause-formed
+multiplied-returns-in_err-next-clause-formed t c =
+    let s = scope c.args.known.now c.args.env.now in
+    let f = λ (x : Expr). formed x s in
+    let parts = map (λ (q : Operator × Expr). (q.0, formed q.1 s)) c.args.rest.now in
+    let p = err_from_is_err_and c.from_residual.result c.from_residual.ensures.1 in
+    rw (p.1, p.2) (passes c.in_err-next.field-0.0 (f c.part-item.result.1) (fold factored c.args.first parts)
+    (marked_next factored factored_first factored_second f c.loop-part.whole c.as_slice-part-items.result.now
+    c.args.rest.now c.loop-part.part-index c.args.first c.args.first c.loop-part-test.true refl
+    c.as_slice-part-items.ensures c.loop-part.invariant.0 c.part-item.result c.part-item.is)
+    c.in_err-next.ensures.formed)
+
+pub multiplied-returns-in_err-whole-clause-formed : goal.multiplied-returns-in_err-whole-clause-formed
+multiplied-returns-in_err-whole-clause-formed t c =
+    let s = scope c.args.known.now c.args.env.now in
+    let f = λ (x : Expr). formed x s in
+    let parts = map (λ (q : Operator × Expr). (q.0, formed q.1 s)) c.args.rest.now in
+    let p = err_from_is_err_and c.from_residual-in_err-whole.result c.from_residual-in_err-whole.ensures.1 in
+    rw (p.1, p.2) (passes c.in_err-whole.field-0.0 (factored c.loop-part.whole
+    (c.part-item.result.0, c.in_ok-next.next)) (fold factored c.args.first parts)
+    (marked_joined factored factored_first factored_second f c.loop-part.whole c.as_slice-part-items.result.now
+    c.args.rest.now c.loop-part.part-index c.args.first c.args.first c.loop-part-test.true refl
+    c.as_slice-part-items.ensures c.loop-part.invariant.0 c.part-item.result c.in_ok-next.next c.part-item.is
+    c.in_ok-next.ensures.formed) c.in_err-whole.ensures.formed)
 
 pub quantified-returns-in_err-whole-clause-formed : goal.quantified-returns-in_err-whole-clause-formed
 quantified-returns-in_err-whole-clause-formed t c =
