@@ -1,7 +1,7 @@
 -- The indexes in a certificate that refutes are within the facts, waiting formulas and variables that there are.
-use Rattle.std.proofs.Common.{◌≡◌, ℕ, zero, suc, ◌+◌, ◌≤◌, ◌^◌, ℤ, Bool, true, false, ◌&&◌, cond, List, []}
-use Rattle.std.proofs.Common.{◌∷◌, ◌++◌, length, slice_get, nat_le, nat_lt, Option, Some, None, Result, Ok, Err, arith}
-use Rattle.std.proofs.Common.{refl, sym, ap, ◌∙◌, subst}
+use Rattle.std.proofs.Common.{◌≡◌, ℕ, zero, suc, ◌+◌, ◌-◌, ◌≤◌, ◌^◌, ℤ, pos, ◌*ℤ◌, Bool, true, false, ◌&&◌, cond, List}
+use Rattle.std.proofs.Common.{[], ◌∷◌, ◌++◌, length, slice_get, nat_le, nat_lt, Option, Some, None, Result, Ok, Err, arith}
+use Rattle.std.proofs.Common.{refl, ap, ◌∙◌, subst}
 use Rattle.std.specs.Prelude.{remove}
 use Rattle.std.specs.List.{list_all}
 use Rattle.std.proofs.lemmas.List.Folds.{list_all-append}
@@ -15,16 +15,18 @@ use Rattle.obligations.specs.declared.branches.Line.{Line}
 use Rattle.obligations.specs.declared.branches.Obligation.{Obligation}
 use Rattle.obligations.specs.declared.branches.Variable.{Variable}
 use Rattle.obligations.specs.declared.certificates.Node.{Node}
-use Rattle.obligations.specs.LinearForms.{fact_of}
+use Rattle.obligations.specs.LinearForms.{fact_of, line_of_const}
 use Rattle.obligations.specs.Obligations.{weight_of}
 use Rattle.obligations.specs.Opening.{first_branch, range_facts, ranges_only}
 use Rattle.obligations.specs.Plain.{height_of}
 use Rattle.obligations.specs.Settling.{added, outcome, settled, sides, without}
 use Rattle.obligations.proofs.NumberLaws.{few-variables}
+use Rattle.obligations.proofs.LineLaws.{length-zeros, length-add_at}
+use Rattle.certificate_check.proofs.SumLaws.{pairs-pass, added-variable}
 use Rattle.certificate_check.specs.Refutation.{NodeEffect, fails, opens, made_case, made_sum, made_round, made_by, made}
-use Rattle.certificate_check.specs.Refutation.{at_level}
+use Rattle.certificate_check.specs.Refutation.{allowing, made_share}
 use Rattle.certificate_check.specs.Sums.{add_pair, all_pairs, divided, is_divisible, is_false, no_sum, numbered}
-use Rattle.certificate_check.specs.Sums.{sum_pairs}
+use Rattle.certificate_check.specs.Sums.{fact_step, variable_step, stated, below_0}
 use Rattle.certificate_check.specs.Trees.{CertTree, leaf, one_below, two_below, nodes_of, Refutes}
 use Rattle.certificate_check.proofs.WholeLaws.{walked-refutes}
 use Rattle.certificate_check.specs.Indexes.{IndexesAreSmall, is_fact_within, is_index_within}
@@ -62,32 +64,32 @@ module _ (vs : List Variable) where
 
 -- facts of a sum
 
-sum-stays : (facts : List Fact) (c : Code) (ps : List (ℤ × ℕ)) → sum_pairs facts (Err c) ps ≡ Err c
-sum-stays facts c [] = refl
-sum-stays facts c (p ∷ ps) = sum-stays facts c ps
-
 numbered-in : (facts : List Fact) (n : ℕ) (f : Fact) → numbered facts n ≡ Some f → n ≤ length facts
 numbered-in facts zero f e = omega arith
 numbered-in facts (suc n) f e = in_list facts n f e
 
 module _ (facts : List Fact) (limit : ℕ) (fits : length facts ≤ limit) where
-  abbrev Within : List (ℤ × ℕ) → Type 0
-  Within ps = list_all (is_fact_within limit) ps ≡ true
+  abbrev no_size : Line → ℕ
+  no_size l = 0
 
-  facts_within : (r : Result Line Code) (l : Line) (ps : List (ℤ × ℕ)) → sum_pairs facts r ps ≡ Ok l → Within ps
-  facts_within r l [] e = refl
-  facts_within (Err c) l (p ∷ ps) e =
-      let stays : Err c ≡ Ok l = sym (sum-stays facts c (p ∷ ps)) ∙ e in absurd (cc)
-  facts_within (Ok sum) l (p ∷ ps) e =
-      ap (λ z. z && list_all (is_fact_within limit) ps)
-      (le-leb p.1 limit (here p (numbered facts p.1) refl sum l ps e))
-      ∙ facts_within (add_pair p.0 (numbered facts p.1) sum) l ps e
+  fact-within : (p : ℤ × ℕ) (l m : Line) → no_size l ≡ 0 → fact_step facts p l ≡ Ok m →
+      (is_fact_within limit p ≡ true) × (no_size m ≡ 0)
+  fact-within p l m z e = (le-leb p.1 limit (here (numbered facts p.1) refl e), refl)
     where
-      here : (p : ℤ × ℕ) (o : Option Fact) → numbered facts p.1 ≡ o → (sum l : Line) (ps : List (ℤ × ℕ)) →
-          sum_pairs facts (add_pair p.0 o sum) ps ≡ Ok l → p.1 ≤ limit
-      here p None n sum l ps e =
-          let stays : Err Code.NoSuchFact ≡ Ok l = sym (sum-stays facts Code.NoSuchFact ps) ∙ e in absurd (cc)
-      here p (Some f) n sum l ps e = let h = numbered-in facts p.1 f n in omega (arith, h, fits)
+      here : (o : Option Fact) → numbered facts p.1 ≡ o → add_pair p.0 o l ≡ Ok m → p.1 ≤ limit
+      here None n d = absurd (cc)
+      here (Some f) n d = let h = numbered-in facts p.1 f n in omega (arith, h, fits)
+
+-- variables of a statement
+
+variable-within : (limit n : ℕ) → n ≤ limit → (p : ℤ × ℕ) (l m : Line) → length l.factors ≡ n →
+    variable_step p l ≡ Ok m → (is_fact_within limit p ≡ true) × (length m.factors ≡ n)
+variable-within limit n h p l m size e =
+    let a = added-variable p.0 p.1 l m e in
+    let c = a.counted in let t = a.there in (
+      le-leb p.1 limit (omega (arith, c, t, size, h)),
+      ap (λ (x : Line). length x.factors) a.sum ∙ length-add_at l.factors a.place (p.0 *ℤ pos 1) ∙ size,
+    )
 
 -- trees
 
@@ -140,7 +142,9 @@ module _ (vs : List Variable) (limit : ℕ) where
 
   all-facts : (b : Branch) (ps : List (ℤ × ℕ)) (l : Line) → all_pairs vs b.facts ps ≡ Ok l →
       length vs + total b ≤ limit → list_all (is_fact_within limit) ps ≡ true
-  all-facts b ps l e h = facts_within b.facts limit (omega (arith, h)) (Ok (no_sum vs)) l ps e
+  all-facts b ps l e h =
+      pairs-pass (fact_step b.facts) (is_fact_within limit) (λ l. 0) 0
+      (fact-within b.facts limit (omega (arith, h))) ps (no_sum vs) l refl e
 
   closed : (b : Branch) (g : Bool) (bs : List Branch) → cond g (opens []) (fails Code.BadSum) ≡ opens bs → AreGrown b bs
   closed b false bs m = absurd (cc)
@@ -166,6 +170,18 @@ module _ (vs : List Variable) (limit : ℕ) where
     rounded b (added b (fact_of (divided d l))) (is_divisible d l) bs (total-added b (fact_of (divided d l))) m,
   )
 
+  share-makes : (b : Branch) (c : ℤ) (ps : List (ℤ × ℕ)) (r : Result Line Code) (bs : List Branch) →
+      stated vs c ps ≡ r → length vs + total b ≤ limit → made_share b r ≡ opens bs →
+      (list_all (is_fact_within limit) ps ≡ true) × AreGrown b bs
+  share-makes b c ps (Err e) bs q h m = absurd (cc)
+  share-makes b c ps (Ok l) bs q h m =
+      let same : added b (fact_of (below_0 l)) ∷ added b (fact_of l) ∷ [] ≡ bs = cc in
+      let low = total-added b (fact_of (below_0 l)) in let high = total-added b (fact_of l) in (
+        pairs-pass variable_step (is_fact_within limit) (λ l. length l.factors) (length vs)
+            (variable-within limit (length vs) (omega (arith, h))) ps (line_of_const vs c) l (length-zeros vs) q,
+        subst (AreGrown b) same (omega (arith, low), (omega (arith, high), tt)),
+      )
+
   node-makes : (b : Branch) (n : Node) → Makes b n
   node-makes b (Node.Case zero) bs h m = absurd (cc)
   node-makes b (Node.Case (suc k)) bs h m = case-two b k (slice_get b.waiting k) bs refl h m
@@ -174,6 +190,8 @@ module _ (vs : List Variable) (limit : ℕ) where
       split-two b _ _ v k (nat_lt v (length vs)) bs refl (total-added b _) (total-added b _) h m
   node-makes b (Node.Sum ps) bs h m = sum-makes b ps (all_pairs vs b.facts ps) bs refl h m
   node-makes b (Node.Round d ps) bs h m = round-makes b d ps (all_pairs vs b.facts ps) bs refl h m
+  node-makes b (Node.Quot k) bs h m = absurd (cc)
+  node-makes b (Node.Share c ps) bs h m = share-makes b c ps (stated vs c ps) bs refl h m
 
   abbrev Small : List Node → Type 0
   Small ns = list_all (is_index_within limit) ns ≡ true
@@ -186,42 +204,31 @@ module _ (vs : List Variable) (limit : ℕ) where
       list_all-append (is_index_within limit) ns ms
       ∙ ap (λ z. z && list_all (is_index_within limit) ms) h ∙ k
 
-  none-left : 1 ≤ 0 → ⊥
-  none-left h = omega (arith, h)
+  some-left : (levels : ℕ) → nat_lt 0 levels ≡ true → 1 ≤ levels
+  some-left levels h = grind arith
 
-  shallow : (level : ℕ) → nat_le level 1024 ≡ true → level ≤ 1024
-  shallow level h = grind arith
-
-  -- what a node makes of a branch at a level, of which so many are left
-  level-makes : (left level : ℕ) (b : Branch) (n : Node) (bs : List Branch) → 1025 ≤ level + left →
-      (length vs + total b) + left ≤ limit → made vs (at_level level b) n ≡ opens bs →
-      (1 ≤ left) × (is_index_within limit n ≡ true) × AreGrown b bs
-  level-makes left level b n bs l h m =
-      let o = level-opens (nat_le level 1024) (made_by vs b n) bs m in
-      let s = shallow level o.0 in
+  -- what a node makes of a branch where so many levels are left
+  level-makes : (levels : ℕ) (b : Branch) (n : Node) (bs : List Branch) → (length vs + total b) + levels ≤ limit →
+      made vs (allowing levels b) n ≡ opens bs → (1 ≤ levels) × (is_index_within limit n ≡ true) × AreGrown b bs
+  level-makes levels b n bs h m =
+      let o = level-opens (nat_lt 0 levels) (made_by vs b n) bs m in
       let r = node-makes b n bs (omega (arith, h)) o.1 in
-      (omega (arith, s, l), r.0, r.1)
+      (some-left levels o.0, r.0, r.1)
 
-  small-tree : (left level : ℕ) (b : Branch) (t : CertTree) → 1025 ≤ level + left → (length vs + total b) + left ≤
-      limit →
-      Refutes vs level b t → Small (nodes_of t)
-  small-tree left level b (leaf n e) l h r = small-cons n [] (level-makes left level b n [] l h r).1 refl
-  small-tree zero level b (one_below n e t) l h r =
-      let m = level-makes zero level b n (r.0 ∷ []) l h r.1 in absurd (none-left m.0)
-  small-tree zero level b (two_below n e t u) l h r =
-      let m = level-makes zero level b n (r.0 ∷ r.1 ∷ []) l h r.2 in absurd (none-left m.0)
-  small-tree (suc left) level b (one_below n e t) l h r =
-      let m = level-makes (suc left) level b n (r.0 ∷ []) l h r.1 in
-      let p = m.2.0 in
-      small-cons n (nodes_of t) m.1
-      (small-tree left (suc level) r.0 t (omega (arith, l)) (omega (arith, p, h)) r.2)
-  small-tree (suc left) level b (two_below n e t u) l h r =
-      let m = level-makes (suc left) level b n (r.0 ∷ r.1 ∷ []) l h r.2 in
-      let p = m.2.0 in let q = m.2.1.0 in
+  small-tree : (levels : ℕ) (b : Branch) (t : CertTree) → (length vs + total b) + levels ≤ limit →
+      Refutes vs levels b t → Small (nodes_of t)
+  small-tree levels b (leaf n e) h r = small-cons n [] (level-makes levels b n [] h r).1 refl
+  small-tree levels b (one_below n e t) h r =
+      let m = level-makes levels b n (r.0 ∷ []) h r.1 in
+      let some = m.0 in let p = m.2.0 in
+      small-cons n (nodes_of t) m.1 (small-tree (levels - 1) r.0 t (omega (arith, some, p, h)) r.2)
+  small-tree levels b (two_below n e t u) h r =
+      let m = level-makes levels b n (r.0 ∷ r.1 ∷ []) h r.2 in
+      let some = m.0 in let p = m.2.0 in let q = m.2.1.0 in
       small-cons n (nodes_of t ++ nodes_of u) m.1
       (small-join (nodes_of t) (nodes_of u)
-      (small-tree left (suc level) r.0 t (omega (arith, l)) (omega (arith, p, h)) r.3)
-      (small-tree left (suc level) r.1 u (omega (arith, l)) (omega (arith, q, h)) r.4))
+      (small-tree (levels - 1) r.0 t (omega (arith, some, p, h)) r.3)
+      (small-tree (levels - 1) r.1 u (omega (arith, some, q, h)) r.4))
 
 -- the first branch of an obligation
 
@@ -240,14 +247,13 @@ first-total o =
     let r = range-facts-length 0 o.variables in omega (arith, j, a, n, r)
 
 pub indexes_are_small : IndexesAreSmall
-indexes_are_small o nodes is whole e =
+indexes_are_small levels o nodes few_levels is whole e =
     let limits = and_parts (nat_le (height_of o) 960)
     (nat_le (form_nodes o.form) 65536 && nat_le (weight_of o) (2 ^ 62)) is.limits in
     let sizes = and_parts (nat_le (form_nodes o.form) 65536) (nat_le (weight_of o) (2 ^ 62)) limits.1 in
     let size : form_nodes o.form ≤ 65536 = le-is (form_nodes o.form) 65536 sizes.0 in
     let few = few-variables o.variables is.order o.form is.occurring in
     let t = first-total o in
-    let found = walked-refutes o nodes whole e in
+    let found = walked-refutes levels o nodes whole e in
     subst (λ ns. list_all (is_index_within (2 ^ 62)) ns ≡ true) found.1
-    (small-tree o.variables (2 ^ 62) 1024 1 (first_branch o) found.0 (omega arith) (omega (arith, t, few, size))
-    found.2)
+    (small-tree o.variables (2 ^ 62) levels (first_branch o) found.0 (omega (arith, t, few, size, few_levels)) found.2)

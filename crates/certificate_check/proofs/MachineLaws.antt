@@ -1,5 +1,6 @@
 -- Frames keep what is pending, and all that waits stays light.
-use Rattle.std.proofs.Common.{◌≡◌, ℕ, zero, suc, ◌+◌, ◌<◌, ◌≤◌, ◌^◌, pos, ◌+ℤ◌, Bool, true, false, ◌&&◌, Some, Ok, List}
+use Rattle.std.proofs.Common.{◌≡◌, ℕ, zero, suc, ◌-◌, ◌<◌, ◌≤◌, ◌^◌, Bool, true, false, ◌&&◌, cond, Some, Ok, List}
+use Rattle.std.proofs.Common.{nat_lt, ℤ, pos, ◌+ℤ◌, Result}
 use Rattle.std.proofs.Common.{[], ◌∷◌, ◌++◌, length, take, reverse, slice_get, length-append, arith, refl, sym, ap, ◌∙◌}
 use Rattle.std.proofs.Common.{subst}
 use Rattle.std.specs.Prelude.{insert, remove}
@@ -14,13 +15,19 @@ use Rattle.obligations.specs.declared.branches.Branch.{Branch}
 use Rattle.obligations.specs.declared.branches.Variable.{Variable}
 use Rattle.obligations.specs.declared.branches.Obligation.{Obligation}
 use Rattle.obligations.specs.Load.{need, form_load, is_light, is_light_branch}
-use Rattle.obligations.specs.Opening.{at_least, ranges_only, first_branch}
+use Rattle.case_tables.specs.declared.code_table.Code.{Code}
+use Rattle.obligations.specs.declared.branches.Line.{Line}
+use Rattle.obligations.specs.declared.certificates.Node.{Node}
+use Rattle.obligations.specs.LinearForms.{fact_of}
+use Rattle.obligations.specs.Opening.{ranges_only, first_branch, at_most, at_least}
 use Rattle.obligations.specs.Settling.{joined, settled, sides, without, added, outcome}
 use Rattle.obligations.proofs.LightLaws.{remove-light}
 use Rattle.obligations.proofs.NeedLaws.{settled-light, refused-light, need-within}
 use Rattle.certificate_check.specs.declared.machine.Todo.{Todo}
 use Rattle.certificate_check.specs.declared.machine.Frame.{Frame}
-use Rattle.certificate_check.specs.Refutation.{made_case, case_at, at_level}
+use Rattle.certificate_check.specs.Refutation.{NodeEffect, fails, opens, made_case, case_at, split_at}
+use Rattle.certificate_check.specs.Refutation.{made_share, made_by, made, allowing}
+use Rattle.certificate_check.specs.Sums.{below_0}
 use Rattle.certificate_check.specs.Machines.{base_of, full_by, full_of, second_by, second_of, waiting_first, behind}
 use Rattle.certificate_check.specs.Machines.{place_fits, FramesFit, turned, step_by, is_light_todo, are_light}
 
@@ -38,7 +45,7 @@ pub behind-joined : (vs : List Variable) (fs : List Frame) (b x : Branch) → Fr
     behind vs fs b
 behind-joined vs [] b x h = refl
 behind-joined vs (f ∷ fs) b x h =
-    ap (λ y. waiting_first f.first (record { level = suc f.level; branch = second_by vs f.todo y })
+    ap (λ y. waiting_first f.first (record { levels = f.levels - 1; branch = second_by vs f.todo y })
     (behind vs fs (full_by f.todo y))) (base-joined f b x h.1 h.2)
 
 pub fits-joined : (fs : List Frame) (b x : Branch) → FramesFit fs b → FramesFit fs (joined b x)
@@ -77,8 +84,8 @@ second-base : (vs : List Variable) (t : Todo) (f : Frame) (b : Branch) → f.fac
 second-base vs (Todo.Case place form) f b p q =
     base-joined f (base_of f b) (outcome vs (sides form).1).yes (omega (arith, length-take-le f.facts b.facts p))
     (omega (arith, length-take-le f.waits b.waiting q)) ∙ base-base f b p q
-second-base vs (Todo.Split variable at) f b p q =
-    base-joined f (base_of f b) (record { facts = at_least variable (at +ℤ pos 1) ∷ []; waiting = [] })
+second-base vs (Todo.Fact fact) f b p q =
+    base-joined f (base_of f b) (record { facts = fact ∷ []; waiting = [] })
     (omega (arith, length-take-le f.facts b.facts p)) (omega (arith, length-take-le f.waits b.waiting q))
     ∙ base-base f b p q
 
@@ -87,17 +94,17 @@ second-long : (vs : List Variable) (t : Todo) (b : Branch) → (length b.facts �
 second-long vs (Todo.Case place form) b =
     let l = length-append b.facts (outcome vs (sides form).1).yes.facts in let k =
     length-append b.waiting (outcome vs (sides form).1).yes.waiting in (omega (arith, l), omega (arith, k))
-second-long vs (Todo.Split variable at) b =
-    let l = length-append b.facts (at_least variable (at +ℤ pos 1) ∷ []) in let k =
+second-long vs (Todo.Fact fact) b =
+    let l = length-append b.facts (fact ∷ []) in let k =
     length-append b.waiting [] in (omega (arith, l), omega (arith, k))
 
 pub first-turns : (vs : List Variable) (f : Frame) (fs : List Frame) (b : Branch) → f.first ≡ true → FramesFit (f ∷ fs)
     b →
-    at_level (suc f.level) (second_of vs f b) ∷ behind vs (turned f ∷ fs) (second_of vs f b) ≡ behind vs (f ∷ fs) b
+    allowing (f.levels - 1) (second_of vs f b) ∷ behind vs (turned f ∷ fs) (second_of vs f b) ≡ behind vs (f ∷ fs) b
 first-turns vs f fs b e h =
-    ap (λ y. at_level (suc f.level) (second_of vs f b) ∷ behind vs fs (full_by f.todo y))
+    ap (λ y. allowing (f.levels - 1) (second_of vs f b) ∷ behind vs fs (full_by f.todo y))
     (second-base vs f.todo f b h.1 h.2)
-    ∙ ap (λ z. waiting_first z (at_level (suc f.level) (second_of vs f b)) (behind vs fs (full_of f b))) (sym e)
+    ∙ ap (λ z. waiting_first z (allowing (f.levels - 1) (second_of vs f b)) (behind vs fs (full_of f b))) (sym e)
 
 pub turned-fits : (vs : List Variable) (f : Frame) (fs : List Frame) (b : Branch) → FramesFit (f ∷ fs) b → FramesFit
     (turned f ∷ fs) (second_of vs f b)
@@ -116,7 +123,7 @@ turned-fits vs f fs b h =
 
 pub second-ends : (vs : List Variable) (f : Frame) (fs : List Frame) (b : Branch) → f.first ≡ false → behind vs fs
     (full_of f b) ≡ behind vs (f ∷ fs) b
-second-ends vs f fs b e = ap (λ z. waiting_first z (at_level (suc f.level) (second_of vs f b))
+second-ends vs f fs b e = ap (λ z. waiting_first z (allowing (f.levels - 1) (second_of vs f b))
     (behind vs fs (full_of f b))) (sym e)
 
 pub full-long : (f : Frame) (b : Branch) → f.facts ≤ length b.facts → f.waits ≤ length b.waiting →
@@ -126,15 +133,15 @@ full-long f b p q h = subst (place_fits f.todo) (sym (length-take-le f.waits b.w
 -- a new frame over the branch that it was made at
 pub over : (vs : List Variable) (f : Frame) (fs : List Frame) (b c x : Branch) → f.facts ≡ length c.facts →
     f.waits ≡ length c.waiting → full_by f.todo c ≡ b → f.first ≡ true →
-    behind vs (f ∷ fs) (joined c x) ≡ at_level (suc f.level) (second_by vs f.todo c) ∷ behind vs fs b
+    behind vs (f ∷ fs) (joined c x) ≡ allowing (f.levels - 1) (second_by vs f.todo c) ∷ behind vs fs b
 over vs f fs b c x p q e t =
     let whole = base-joined f c x (omega (arith, p)) (omega (arith, q)) ∙ base-whole f c p q in
-    ap (λ y. waiting_first f.first (at_level (suc f.level) (second_by vs f.todo y))
+    ap (λ y. waiting_first f.first (allowing (f.levels - 1) (second_by vs f.todo y))
     (behind vs fs (full_by f.todo y))) whole
-    ∙ ap (λ z. waiting_first z (at_level (suc f.level) (second_by vs f.todo c)) (behind vs fs (full_by f.todo c))) t
-    ∙ ap (λ y. at_level (suc f.level) (second_by vs f.todo c) ∷ behind vs fs y) e
+    ∙ ap (λ z. waiting_first z (allowing (f.levels - 1) (second_by vs f.todo c)) (behind vs fs (full_by f.todo c))) t
+    ∙ ap (λ y. allowing (f.levels - 1) (second_by vs f.todo c) ∷ behind vs fs y) e
 
-pub over-fits : (f : Frame) (fs : List Frame) (b c x : Branch) → f.level ≤ 1024 → f.facts ≡ length c.facts →
+pub over-fits : (f : Frame) (fs : List Frame) (b c x : Branch) → 0 < f.levels → f.facts ≡ length c.facts →
     f.waits ≡ length c.waiting → full_by f.todo c ≡ b → place_fits f.todo f.waits → FramesFit fs b →
     FramesFit (f ∷ fs) (joined c x)
 over-fits f fs b c x l p q e t h =
@@ -171,38 +178,91 @@ remove-length (x ∷ xs) zero h = omega arith
 remove-length (x ∷ xs) (suc k) h = let ih = remove-length xs k (omega arith) in omega (arith, ih)
 
 abbrev pub case_frame : ℕ → ℕ → ℕ → ℕ → CForm → Frame
-case_frame level facts waits place form =
-    record { level = level; facts = facts; waits = waits; todo = Todo.Case place form; first = true }
+case_frame levels facts waits place form =
+    record { levels = levels; facts = facts; waits = waits; todo = Todo.Case place form; first = true }
 
-pub case-goes : (vs : List Variable) (level : ℕ) (b now : Branch) (k place facts waits : ℕ)
+pub case-goes : (vs : List Variable) (levels : ℕ) (b now : Branch) (k place facts waits : ℕ)
     (frames more : List Frame) (form : CForm) →
-    k ≡ suc place → slice_get b.waiting place ≡ Some form → place < length b.waiting → level ≤ 1024 → FramesFit
+    k ≡ suc place → slice_get b.waiting place ≡ Some form → place < length b.waiting → 0 < levels → FramesFit
     (reverse frames) b →
     facts ≡ length b.facts → waits ≡ length (remove b.waiting place) →
-    more ≡ frames ++ case_frame level facts waits place form ∷ [] → now ≡ settled vs (sides form).0 (without b place) →
-    (step_by level (behind vs (reverse frames) b) (case_at vs b k) ≡ Ok
-    (at_level (level + 1) now ∷ behind vs (reverse more) now)) × FramesFit (reverse more) now
-case-goes vs level b now k place facts waits frames more form ek taken inside low fits ef ew em en =
+    more ≡ frames ++ case_frame levels facts waits place form ∷ [] → now ≡ settled vs (sides form).0 (without b place) →
+    (step_by levels (behind vs (reverse frames) b) (case_at vs b k) ≡ Ok
+    (allowing (levels - 1) now ∷ behind vs (reverse more) now)) × FramesFit (reverse more) now
+case-goes vs levels b now k place facts waits frames more form ek taken inside low fits ef ew em en =
     let full : full_by (Todo.Case place form) (without b place) ≡ b =
     ap (λ w. record { facts = b.facts; waiting = w }) (insert-remove b.waiting place form taken) in
-    let f : Frame = case_frame level facts waits place form in
+    let f : Frame = case_frame levels facts waits place form in
     let turn : reverse more ≡ f ∷ reverse frames = ap reverse em ∙ reversed frames f in
     let x : Branch = (outcome vs (sides form).0).yes in
     let o = over vs f (reverse frames) b (without b place) x ef ew full refl in
-    let next : level + 1 ≡ suc level = omega arith in
     let room : place ≤ waits = (let r = remove-length b.waiting place inside in omega (arith, r, ew)) in (
-      ap (λ z. step_by level (behind vs (reverse frames) b) (case_at vs b z)) ek
-          ∙ ap (λ z. step_by level (behind vs (reverse frames) b) (made_case vs b place z)) taken
-          ∙ ap (λ z. Ok (at_level (suc level) (settled vs (sides form).0 (without b place)) ∷ z)) (sym o)
-          ∙ ap (λ z. Ok (at_level z (settled vs (sides form).0 (without b place)) ∷ behind vs (f ∷ reverse frames)
-          (settled vs (sides form).0 (without b place)))) (sym next)
-          ∙ ap (λ z. Ok (at_level (level + 1) (settled vs (sides form).0 (without b place)) ∷ behind vs z
+      ap (λ z. step_by levels (behind vs (reverse frames) b) (case_at vs b z)) ek
+          ∙ ap (λ z. step_by levels (behind vs (reverse frames) b) (made_case vs b place z)) taken
+          ∙ ap (λ z. Ok (allowing (levels - 1) (settled vs (sides form).0 (without b place)) ∷ z)) (sym o)
+          ∙ ap (λ z. Ok (allowing (levels - 1) (settled vs (sides form).0 (without b place)) ∷ behind vs z
           (settled vs (sides form).0 (without b place)))) (sym turn)
-          ∙ ap (λ z. Ok (at_level (level + 1) z ∷ behind vs (reverse more) z)) (sym en),
+          ∙ ap (λ z. Ok (allowing (levels - 1) z ∷ behind vs (reverse more) z)) (sym en),
       subst (FramesFit (reverse more)) (sym en) (subst (λ z. FramesFit z (settled vs (sides form).0 (without b place)))
           (sym turn)
           (over-fits f (reverse frames) b (without b place) x low ef ew full room fits)),
     )
+
+abbrev pub fact_frame : ℕ → ℕ → ℕ → Fact → Frame
+fact_frame levels facts waits fact =
+    record { levels = levels; facts = facts; waits = waits; todo = Todo.Fact fact; first = true }
+
+-- a node that goes on with one fact, and then with another
+pub fact-goes : (vs : List Variable) (levels : ℕ) (b now : Branch) (facts waits : ℕ) (frames more : List Frame)
+    (g h : Fact) (effect : NodeEffect) (done : Bool) → 0 < levels → FramesFit (reverse frames) b →
+    facts ≡ length b.facts → waits ≡ length b.waiting → more ≡ frames ++ fact_frame levels facts waits h ∷ [] →
+    now ≡ added b g → effect ≡ opens (added b g ∷ added b h ∷ []) → done ≡ false →
+    (step_by levels (behind vs (reverse frames) b) effect ≡ Ok
+    (cond done [] (allowing (levels - 1) now ∷ behind vs (reverse more) now))) × FramesFit (reverse more) now
+fact-goes vs levels b now facts waits frames more g h effect done low fits ef ew em en ee ed =
+    let f : Frame = fact_frame levels facts waits h in
+    let turn : reverse more ≡ f ∷ reverse frames = ap reverse em ∙ reversed frames f in
+    let x : Branch = record { facts = g ∷ []; waiting = [] } in
+    let o = over vs f (reverse frames) b b x ef ew refl refl in (
+      ap (step_by levels (behind vs (reverse frames) b)) ee
+          ∙ ap (λ z. Ok (allowing (levels - 1) (added b g) ∷ z)) (sym o)
+          ∙ ap (λ z. Ok (allowing (levels - 1) (added b g) ∷ behind vs z (added b g))) (sym turn)
+          ∙ ap (λ z. Ok (allowing (levels - 1) z ∷ behind vs (reverse more) z)) (sym en)
+          ∙ ap (λ d. Ok (cond d [] (allowing (levels - 1) now ∷ behind vs (reverse more) now))) (sym ed),
+      subst (FramesFit (reverse more)) (sym en) (subst (λ z. FramesFit z (added b g)) (sym turn)
+          (over-fits f (reverse frames) b b x low ef ew refl tt fits)),
+    )
+
+-- the two branches of a variable that is there
+pub split-opens : (vs : List Variable) (b : Branch) (v place : ℕ) (k low high : ℤ) (g h : Fact) → v ≡ suc place →
+    place < length vs → low ≡ k → high ≡ k +ℤ pos 1 → g ≡ at_most place low → h ≡ at_least place high →
+    split_at vs b v k ≡ opens (added b g ∷ added b h ∷ [])
+split-opens vs b v place k low high g h ev inside el eu eg eh =
+    ap (λ w. split_at vs b w k) ev
+    ∙ ap (λ t. cond t (opens (added b (at_most place k) ∷ added b (at_least place (k +ℤ pos 1)) ∷ []))
+    (fails Code.NoSuchVariable)) (below place (length vs) inside)
+    ∙ ap (λ x. opens (added b x ∷ added b (at_least place (k +ℤ pos 1)) ∷ [])) (sym (eg ∙ ap (at_most place) el))
+    ∙ ap (λ x. opens (added b g ∷ added b x ∷ [])) (sym (eh ∙ ap (at_least place) eu))
+  where
+    below : (a b : ℕ) → a < b → nat_lt a b ≡ true
+    below a b h = grind arith
+
+-- the two branches of a statement
+pub share-opens : (b : Branch) (r : Result Line Code) (l m : Line) (g h : Fact) → r ≡ Ok l → m ≡ below_0 l →
+    g ≡ fact_of m → h ≡ fact_of l → made_share b r ≡ opens (added b g ∷ added b h ∷ [])
+share-opens b r l m g h er em eg eh =
+    ap (made_share b) er
+    ∙ ap (λ x. opens (added b (fact_of x) ∷ added b (fact_of l) ∷ [])) (sym em)
+    ∙ ap (λ x. opens (added b x ∷ added b (fact_of l) ∷ [])) (sym eg)
+    ∙ ap (λ x. opens (added b g ∷ added b x ∷ [])) (sym eh)
+
+-- what a node makes where a level is left
+pub made-allowed : (vs : List Variable) (levels : ℕ) (b : Branch) (n : Node) → 0 < levels →
+    made vs (allowing levels b) n ≡ made_by vs b n
+made-allowed vs levels b n h = ap (λ t. cond t (made_by vs b n) (fails Code.CertTooDeep)) (some levels h)
+  where
+    some : (a : ℕ) → 0 < a → nat_lt 0 a ≡ true
+    some a h = grind arith
 
 pub added-behind : (vs : List Variable) (fs : List Frame) (b new : Branch) (f : Fact) → new ≡ added b f →
     FramesFit fs b → behind vs fs new ≡ behind vs fs b

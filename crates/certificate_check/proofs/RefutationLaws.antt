@@ -1,8 +1,8 @@
 -- A certificate that refutes a branch leaves it no values.
 use Rattle.std.proofs.Common.{◌≡◌, ℕ, zero, suc, ◌+◌, ℤ, pos, negsuc, neg_ℤ, ◌+ℤ◌, ◌*ℤ◌, Bool, true, false, cond, not}
 use Rattle.std.proofs.Common.{◌&&◌, ◌||◌, Option, Some, None, Result, Ok, Err, List, [], ◌∷◌, ◌++◌, map, length}
-use Rattle.std.proofs.Common.{slice_get, remove, nat_lt, nat_le, div-add-mod', arith, append_assoc, length-append, refl}
-use Rattle.std.proofs.Common.{sym, ap, subst, ◌∙◌}
+use Rattle.std.proofs.Common.{◌-◌, slice_get, remove, nat_lt, div-add-mod', arith, append_assoc, length-append, refl}
+use Rattle.std.proofs.Common.{sym, ap, ◌∙◌}
 use Rattle.std.specs.List.{list_all}
 use Rattle.std.specs.Int.{int_div_euclid, int_rem_euclid}
 use Rattle.std.specs.Int.RustNames.{int_le}
@@ -31,10 +31,13 @@ use Rattle.obligations.proofs.LineLaws.{int_eq-true, fact_of-value, dot-zeros, l
 use Rattle.obligations.proofs.SettlingLaws.{settled-holds}
 use Rattle.obligations.proofs.OpeningLaws.{ranges-long, first-holds}
 use Rattle.certificate_check.specs.Sums.{add_factors, with_constant, add_times, numbered, or_too_big, add_pair}
-use Rattle.certificate_check.specs.Sums.{sum_pairs, no_sum, all_pairs, is_false, is_divisible, divided}
+use Rattle.certificate_check.specs.Sums.{sum_pairs, fact_step, no_sum, all_pairs, is_false, is_divisible, divided}
+use Rattle.certificate_check.specs.Sums.{stated, below_0}
 use Rattle.certificate_check.specs.Refutation.{NodeEffect, fails, opens, made_case, made_sum, made_round, made_by}
+use Rattle.certificate_check.specs.Refutation.{made_share}
+use Rattle.certificate_check.proofs.SumLaws.{pairs-keep}
 use Rattle.certificate_check.specs.Refutation.{OpenBranch}
-use Rattle.certificate_check.specs.Refutation.{made, pending, after, walk, at_level, go_on, WalkAppends, none_holds}
+use Rattle.certificate_check.specs.Refutation.{made, pending, after, walk, allowing, go_on, WalkAppends, none_holds}
 use Rattle.certificate_check.specs.Refutation.{WalkKeeps, Sound}
 use Rattle.certificate_check.specs.Trees.{CertTree, leaf, one_below, two_below, nodes_of, Refutes}
 
@@ -124,22 +127,10 @@ module _ (vs : List Variable) (values : List ℤ) (long : length values ≡ leng
                 (line_value values l) s.least (times-at_least_0 p.0 (fact_value values f) q (fact_at p.1 n)) v.0;
           }
 
-  stays_err : (c : Code) (ps : List (ℤ × ℕ)) → sum_pairs facts (Err c) ps ≡ Err c
-  stays_err c [] = refl
-  stays_err c (p ∷ ps) = stays_err c ps
-
-  sums_next : (ps : List (ℤ × ℕ)) → ((sum l : Line) → Sums vs values sum → sum_pairs facts (Ok sum) ps ≡ Ok l →
-      Sums vs values l) →
-      (p : ℤ × ℕ) (sum l : Line) (r : Result Line Code) → Sums vs values sum →
-      add_pair p.0 (numbered facts p.1) sum ≡ r → sum_pairs facts r ps ≡ Ok l → Sums vs values l
-  sums_next ps ih p sum l (Err c) s q d = let x = stays_err c ps in cc
-  sums_next ps ih p sum l (Ok m) s q d = ih m l (add_pair-sums p (numbered facts p.1) sum m refl s q) d
-
   sum_pairs-sums : (ps : List (ℤ × ℕ)) (sum l : Line) → Sums vs values sum → sum_pairs facts (Ok sum) ps ≡ Ok l →
       Sums vs values l
-  sum_pairs-sums [] sum l s e = let same : sum ≡ l = cc in subst (Sums vs values) same s
-  sum_pairs-sums (p ∷ ps) sum l s e =
-      sums_next ps (sum_pairs-sums ps) p sum l (add_pair p.0 (numbered facts p.1) sum) s refl e
+  sum_pairs-sums =
+      pairs-keep (fact_step facts) (Sums vs values) (λ p l m s e. add_pair-sums p (numbered facts p.1) l m refl s e)
 
   no_sum-sums : Sums vs values (no_sum vs)
   no_sum-sums = record { size = length-zeros vs; least = ap (λ z. int_le (pos 0) (z +ℤ pos 0)) (dot-zeros vs values) }
@@ -213,6 +204,32 @@ one-or-other x k =
     let low = (negsuc 0 *ℤ x +ℤ pos 0) +ℤ k in
     let high = (pos 1 *ℤ x +ℤ pos 0) +ℤ neg_ℤ (k +ℤ pos 1) in
     or-cover (int_le (pos 0) low) (int_le (pos 0) high) (other x k low high (omega (arith, ints)) (omega (arith, ints)))
+
+neg-times : (z v : ℤ) → neg_ℤ z *ℤ v ≡ neg_ℤ (z *ℤ v)
+neg-times z v =
+    let whole = add-times z (neg_ℤ z) v in
+    let zero-sum : z +ℤ neg_ℤ z ≡ pos 0 = omega (arith, ints) in
+    let none : (z +ℤ neg_ℤ z) *ℤ v ≡ pos 0 = ap (λ x. x *ℤ v) zero-sum ∙ zero-*ℤ v in
+    omega (arith, ints, whole, none)
+
+dot-negatives : (fs values : List ℤ) → dot (map neg_ℤ fs) values ≡ neg_ℤ (dot fs values)
+dot-negatives [] values = refl
+dot-negatives (z ∷ fs) [] = refl
+dot-negatives (z ∷ fs) (v ∷ values) =
+    let n = neg-times z v in let ih = dot-negatives fs values in omega (arith, ints, n, ih)
+
+stated-or-not : (values : List ℤ) (l : Line) →
+    (fact_holds values (fact_of (below_0 l)) || fact_holds values (fact_of l)) ≡ true
+stated-or-not values l =
+    let low = fact_value values (fact_of (below_0 l)) in
+    let high = fact_value values (fact_of l) in
+    let a = fact_of-value values (below_0 l) in
+    let b = fact_of-value values l in
+    let d = dot-negatives l.factors values in
+    or-cover (int_le (pos 0) low) (int_le (pos 0) high) (one low high (omega (arith, ints, a, b, d)))
+  where
+    one : (low high : ℤ) → low ≡ neg_ℤ high +ℤ negsuc 0 → int_le (pos 0) low ≡ false → int_le (pos 0) high ≡ true
+    one low high e f = grind (arith, ints)
 
 and_comm : (a b : Bool) → (a && b) ≡ (b && a)
 and_comm true true = refl
@@ -363,6 +380,18 @@ module _ (vs : List Variable) (values : List ℤ) (long : length values ≡ leng
           let no = ap none_hold same ∙ h in
           true≢false (sym no ∙ ap (λ z. not z && true) all))
 
+  -- a line is at least 0, or it is below 0
+  share-sound : (b : Branch) (r : Result Line Code) (bs : List Branch) → made_share b r ≡ opens bs →
+      none_hold bs ≡ true → B b ≡ false
+  share-sound b (Err c) bs e h = absurd (cc)
+  share-sound b (Ok l) bs e h =
+      let low = fact_of (below_0 l) in
+      let high = fact_of l in
+      let none = ap none_hold (opens-same e) ∙ h in
+      split-cover (B b) (fact_holds values low) (fact_holds values high) (stated-or-not values l)
+      (sym (ap (λ z. not z && (not (B (added b high)) && true)) (holds-added b low)
+      ∙ ap (λ z. not (B b && fact_holds values low) && (not z && true)) (holds-added b high)) ∙ none)
+
   made_by-sound : (b : Branch) (n : Node) (bs : List Branch) → made_by vs b n ≡ opens bs → none_hold bs ≡ true →
       B b ≡ false
   made_by-sound b (Node.Case zero) bs e h = absurd (cc)
@@ -380,21 +409,23 @@ module _ (vs : List Variable) (values : List ℤ) (long : length values ≡ leng
       parted true d = split-sound b v k (ap none_hold (opens-same d) ∙ h)
   made_by-sound b (Node.Sum ps) bs e h = sum-sound b ps (all_pairs vs b.facts ps) refl bs e
   made_by-sound b (Node.Round d ps) bs e h = round-sound b d ps (all_pairs vs b.facts ps) refl bs e h
+  made_by-sound b (Node.Quot k) bs e h = absurd (cc)
+  made_by-sound b (Node.Share c ps) bs e h = share-sound b (stated vs c ps) bs e h
 
   made-sound : (p : OpenBranch) (n : Node) (bs : List Branch) → made vs p n ≡ opens bs → none_hold bs ≡ true →
       B p.branch ≡ false
-  made-sound p n bs e h = leveled (nat_le p.level 1024) e
+  made-sound p n bs e h = leveled (nat_lt 0 p.levels) e
     where
       leveled : (t : Bool) → cond t (made_by vs p.branch n) (fails Code.CertTooDeep) ≡ opens bs → B p.branch ≡ false
       leveled false d = absurd (cc)
       leveled true d = made_by-sound p.branch n bs d h
 
-  none_of : (level : ℕ) (bs : List Branch) (ps : List OpenBranch) →
-      none_holds vs values (pending level bs ++ ps) ≡ true → (none_hold bs ≡ true) × (none_holds vs values ps ≡ true)
-  none_of level [] ps h = (refl, h)
-  none_of level (b ∷ bs) ps h =
-      let parts = and_parts (not (B b)) (none_holds vs values (pending level bs ++ ps)) h in
-      let rest = none_of level bs ps parts.1 in
+  none_of : (levels : ℕ) (bs : List Branch) (ps : List OpenBranch) →
+      none_holds vs values (pending levels bs ++ ps) ≡ true → (none_hold bs ≡ true) × (none_holds vs values ps ≡ true)
+  none_of levels [] ps h = (refl, h)
+  none_of levels (b ∷ bs) ps h =
+      let parts = and_parts (not (B b)) (none_holds vs values (pending levels bs ++ ps)) h in
+      let rest = none_of levels bs ps parts.1 in
       (ap (λ z. z && none_hold bs) parts.0 ∙ rest.0, rest.1)
 
   pub walk-keeps : (ns : List Node) (ps qs : List OpenBranch) (at : ℕ) → walk vs ns ps at ≡ Ok qs →
@@ -403,12 +434,12 @@ module _ (vs : List Variable) (values : List ℤ) (long : length values ≡ leng
   walk-keeps (n ∷ ns) [] qs at e h = refl
   walk-keeps (n ∷ ns) (p ∷ ps) qs at e h = opened (made vs p n) refl e (λ rs d. walk-keeps ns rs qs (suc at) d h)
     where
-      opened : (m : NodeEffect) → made vs p n ≡ m → after (λ rs. walk vs ns rs (suc at)) p.level ps at m ≡ Ok qs →
+      opened : (m : NodeEffect) → made vs p n ≡ m → after (λ rs. walk vs ns rs (suc at)) p.levels ps at m ≡ Ok qs →
           ((rs : List OpenBranch) → walk vs ns rs (suc at) ≡ Ok qs → none_holds vs values rs ≡ true) →
           none_holds vs values (p ∷ ps) ≡ true
       opened (fails c) q d ih = absurd (cc)
       opened (opens bs) q d ih =
-          let parts = none_of (suc p.level) bs ps (ih (pending (suc p.level) bs ++ ps) d) in
+          let parts = none_of (p.levels - 1) bs ps (ih (pending (p.levels - 1) bs ++ ps) d) in
           ap (λ z. not z && none_holds vs values ps) (made-sound p n bs q parts.0) ∙ parts.1
 
 refutes-valid : (t f : Bool) → t ≡ true → (t && not f) ≡ false → f ≡ true
@@ -420,31 +451,31 @@ pub keeps : WalkKeeps
 keeps vs values long = walk-keeps vs values long
 
 pub sound : Sound
-sound o nodes e values inside =
+sound levels o nodes e values inside =
     let long = ranges-long o.variables values inside in
-    let none = walk-keeps o.variables values long nodes (at_level 1 (first_branch o) ∷ []) [] 0 e refl in
+    let none = walk-keeps o.variables values long nodes (allowing levels (first_branch o) ∷ []) [] 0 e refl in
     let first = not-true (branch_holds o.variables values (first_branch o))
     (and_parts (not (branch_holds o.variables values (first_branch o))) true none).0 in
     refutes-valid (in_ranges o.variables values) (form_at o.variables values o.form) inside
     (sym (first-holds o values long) ∙ first)
 
 -- A walk along the nodes of a tree.
-pub walk-tree : (vs : List Variable) (t : CertTree) (level : ℕ) (b : Branch) (ns : List Node) (ps : List OpenBranch)
+pub walk-tree : (vs : List Variable) (t : CertTree) (levels : ℕ) (b : Branch) (ns : List Node) (ps : List OpenBranch)
     (at : ℕ) →
-    Refutes vs level b t → walk vs (nodes_of t ++ ns) (at_level level b ∷ ps) at ≡ walk vs ns ps
+    Refutes vs levels b t → walk vs (nodes_of t ++ ns) (allowing levels b ∷ ps) at ≡ walk vs ns ps
     (at + length (nodes_of t))
-walk-tree vs (two_below n e t u) level b ns ps at r =
-    ap (after (λ qs. walk vs ((nodes_of t ++ nodes_of u) ++ ns) qs (suc at)) level ps at) r.2
-    ∙ ap (λ x. walk vs x (at_level (suc level) r.0 ∷ at_level (suc level) r.1 ∷ ps) (suc at))
+walk-tree vs (two_below n e t u) levels b ns ps at r =
+    ap (after (λ qs. walk vs ((nodes_of t ++ nodes_of u) ++ ns) qs (suc at)) levels ps at) r.2
+    ∙ ap (λ x. walk vs x (allowing (levels - 1) r.0 ∷ allowing (levels - 1) r.1 ∷ ps) (suc at))
     (append_assoc (nodes_of t) (nodes_of u) ns)
-    ∙ walk-tree vs t (suc level) r.0 (nodes_of u ++ ns) (at_level (suc level) r.1 ∷ ps) (suc at) r.3
-    ∙ walk-tree vs u (suc level) r.1 ns ps (suc at + length (nodes_of t)) r.4
+    ∙ walk-tree vs t (levels - 1) r.0 (nodes_of u ++ ns) (allowing (levels - 1) r.1 ∷ ps) (suc at) r.3
+    ∙ walk-tree vs u (levels - 1) r.1 ns ps (suc at + length (nodes_of t)) r.4
     ∙ ap (walk vs ns ps) (let l = length-append (nodes_of t) (nodes_of u) in omega (arith, l))
-walk-tree vs (leaf n e) level b ns ps at r =
-    ap (after (λ qs. walk vs ns qs (suc at)) level ps at) r ∙ ap (walk vs ns ps) (omega arith)
-walk-tree vs (one_below n e t) level b ns ps at r =
-    ap (after (λ qs. walk vs (nodes_of t ++ ns) qs (suc at)) level ps at) r.1
-    ∙ walk-tree vs t (suc level) r.0 ns ps (suc at) r.2
+walk-tree vs (leaf n e) levels b ns ps at r =
+    ap (after (λ qs. walk vs ns qs (suc at)) levels ps at) r ∙ ap (walk vs ns ps) (omega arith)
+walk-tree vs (one_below n e t) levels b ns ps at r =
+    ap (after (λ qs. walk vs (nodes_of t ++ ns) qs (suc at)) levels ps at) r.1
+    ∙ walk-tree vs t (levels - 1) r.0 ns ps (suc at) r.2
     ∙ ap (walk vs ns ps) (omega arith)
 
 -- Where there is no branch, no node is looked at.
@@ -452,13 +483,13 @@ walk-none : (vs : List Variable) (ns : List Node) (at : ℕ) → walk vs ns [] a
 walk-none vs [] at = refl
 walk-none vs (n ∷ ns) at = refl
 
-appends-after : (vs : List Variable) (ns ms : List Node) (level at : ℕ) (ps : List OpenBranch) (m : NodeEffect) →
+appends-after : (vs : List Variable) (ns ms : List Node) (levels at : ℕ) (ps : List OpenBranch) (m : NodeEffect) →
     ((qs : List OpenBranch) → walk vs (ns ++ ms) qs (suc at) ≡
     go_on (walk vs ns qs (suc at)) (λ rs. walk vs ms rs (suc at + length ns))) →
-    after (λ qs. walk vs (ns ++ ms) qs (suc at)) level ps at m ≡
-    go_on (after (λ qs. walk vs ns qs (suc at)) level ps at m) (λ rs. walk vs ms rs (suc at + length ns))
-appends-after vs ns ms level at ps (fails c) ih = refl
-appends-after vs ns ms level at ps (opens bs) ih = ih (pending (suc level) bs ++ ps)
+    after (λ qs. walk vs (ns ++ ms) qs (suc at)) levels ps at m ≡
+    go_on (after (λ qs. walk vs ns qs (suc at)) levels ps at m) (λ rs. walk vs ms rs (suc at + length ns))
+appends-after vs ns ms levels at ps (fails c) ih = refl
+appends-after vs ns ms levels at ps (opens bs) ih = ih (pending (levels - 1) bs ++ ps)
 
 -- a walk can be made in parts
 pub walk-appends : WalkAppends
@@ -466,7 +497,7 @@ walk-appends vs [] ms ps at = ap (walk vs ms ps) (omega arith)
 walk-appends vs (n ∷ ns) ms [] at = sym (walk-none vs ms (at + length (n ∷ ns)))
 walk-appends vs (n ∷ ns) ms (p ∷ ps) at =
     let count : suc at + length ns ≡ at + length (n ∷ ns) = omega arith in
-    appends-after vs ns ms p.level at ps (made vs p n) (λ qs. walk-appends vs ns ms qs (suc at))
+    appends-after vs ns ms p.levels at ps (made vs p n) (λ qs. walk-appends vs ns ms qs (suc at))
     ∙ ap (λ k. go_on (walk vs (n ∷ ns) (p ∷ ps) at) (λ rs. walk vs ms rs k)) count
 
 -- A sum keeps its length.

@@ -1,15 +1,22 @@
 -- Sums of factors, as the code makes them.
-use Rattle.std.proofs.Common.{◌≡◌, ℕ, zero, suc, ◌+◌, ◌<◌, ℤ, pos, ◌*ℤ◌, map, ◌++◌, append_assoc, Bool, true, false}
-use Rattle.std.proofs.Common.{cond, Some, None, Result, Ok, Err, List, [], ◌∷◌, drop, length, slice_index_or, arith}
-use Rattle.std.proofs.Common.{refl, sym, ap, ◌∙◌}
-use Rattle.obligations.specs.declared.branches.Fact.{Fact}
+use Rattle.std.proofs.Common.{◌≡◌, ℕ, zero, suc, ◌+◌, ◌-◌, ◌<◌, ◌≤◌, ℤ, pos, ◌+ℤ◌, ◌*ℤ◌, map, ◌++◌, append_assoc}
+use Rattle.std.proofs.Common.{Bool, true, false, ◌&&◌, cond, Some, None, Result, Ok, Err, List, [], ◌∷◌, drop, length}
+use Rattle.std.proofs.Common.{slice_index_or, nat_lt, FitsSigned, arith, refl, sym, ap, subst, ◌∙◌}
+use mir.Syntax.{w64}
+use Rattle.std.specs.List.{list_all}
+use Rattle.std.proofs.lemmas.Bool.{and_parts}
+use Rattle.core_terms.specs.Values.{number_at}
+use Rattle.obligations.specs.declared.branches.Variable.{Variable}
+use Rattle.obligations.specs.Load.{is_small}
+use Rattle.obligations.proofs.LineLaws.{length-zeros, length-add_at}
 use Rattle.case_tables.specs.declared.code_table.Code.{Code}
 use Rattle.obligations.specs.declared.branches.Line.{Line}
-use Rattle.obligations.specs.LinearForms.{add_at}
+use Rattle.obligations.specs.LinearForms.{add_at, zeros, line_of_const}
 use Rattle.std.specs.Int.{int_div_euclid}
 use Rattle.obligations.specs.LinearForms.{sparse}
 use Rattle.meaning_states.specs.State.{int_eq}
-use Rattle.certificate_check.specs.Sums.{add_factors, numbered, add_pair, sum_pairs}
+use Rattle.certificate_check.specs.Sums.{add_factors, with_constant, or_too_big, PairStep, each_pair, add_variable}
+use Rattle.certificate_check.specs.Sums.{variable_step}
 
 -- the next factor of a list
 more-at : (m : ℤ) (f : ℕ × ℤ) (fs : List (ℕ × ℤ)) (sum next : List ℤ) (b : Bool) →
@@ -40,28 +47,153 @@ factors-none m [] i d sum h e = absurd (omega arith)
 factors-none m (f ∷ fs) zero d sum h e = none-at m f fs sum _ e
 factors-none m (f ∷ fs) (suc i) d sum h e = factors-none m fs i d sum (omega arith) e
 
-pub pairs-more : (facts : List Fact) (ps : List (ℤ × ℕ)) (i : ℕ) (d : ℤ × ℕ) (sum : Line) (r : Result Line Code) →
-    i < length ps →
-    add_pair (slice_index_or ps i d).0 (numbered facts (slice_index_or ps i d).1) sum ≡ r →
-    sum_pairs facts r (drop (i + 1) ps) ≡ sum_pairs facts (Ok sum) (drop i ps)
-pairs-more facts [] i d sum r h e = absurd (omega arith)
-pairs-more facts (p ∷ ps) zero d sum r h e = ap (λ x. sum_pairs facts x ps) (sym e)
-pairs-more facts (p ∷ ps) (suc i) d sum r h e =
-    let n : suc i + 1 ≡ suc (i + 1) = omega arith in ap (λ n. sum_pairs facts r (drop n (p ∷ ps))) n
-    ∙ pairs-more facts ps i d sum r (omega arith) e
+pub pairs-more : (step : PairStep) (ps : List (ℤ × ℕ)) (i : ℕ) (d : ℤ × ℕ) (sum : Line) (r : Result Line Code) →
+    i < length ps → step (slice_index_or ps i d) sum ≡ r →
+    each_pair step r (drop (i + 1) ps) ≡ each_pair step (Ok sum) (drop i ps)
+pairs-more step [] i d sum r h e = absurd (omega arith)
+pairs-more step (p ∷ ps) zero d sum r h e = ap (λ x. each_pair step x ps) (sym e)
+pairs-more step (p ∷ ps) (suc i) d sum r h e =
+    let n : suc i + 1 ≡ suc (i + 1) = omega arith in ap (λ n. each_pair step r (drop n (p ∷ ps))) n
+    ∙ pairs-more step ps i d sum r (omega arith) e
 
-pub pairs-stop : (facts : List Fact) (code : Code) (ps : List (ℤ × ℕ)) → sum_pairs facts (Err code) ps ≡ Err code
-pairs-stop facts code [] = refl
-pairs-stop facts code (p ∷ ps) = pairs-stop facts code ps
+pub pairs-stop : (step : PairStep) (code : Code) (ps : List (ℤ × ℕ)) → each_pair step (Err code) ps ≡ Err code
+pairs-stop step code [] = refl
+pairs-stop step code (p ∷ ps) = pairs-stop step code ps
 
-pub pairs-stopped : (facts : List Fact) (ps : List (ℤ × ℕ)) (i : ℕ) (d : ℤ × ℕ) (sum first : Line) (code : Code) →
-    i < length ps →
-    add_pair (slice_index_or ps i d).0 (numbered facts (slice_index_or ps i d).1) sum ≡ Err code →
-    sum_pairs facts (Ok sum) (drop i ps) ≡ sum_pairs facts (Ok first) ps → sum_pairs facts (Ok first) ps ≡ Err code
-pairs-stopped facts ps i d sum first code h e k =
-    sym k ∙ sym (pairs-more facts ps i d sum (Err code) h e) ∙ pairs-stop facts code (drop (i + 1) ps)
+pub pairs-stopped : (step : PairStep) (ps : List (ℤ × ℕ)) (i : ℕ) (d : ℤ × ℕ) (sum first : Line) (code : Code) →
+    i < length ps → step (slice_index_or ps i d) sum ≡ Err code →
+    each_pair step (Ok sum) (drop i ps) ≡ each_pair step (Ok first) ps → each_pair step (Ok first) ps ≡ Err code
+pairs-stopped step ps i d sum first code h e k =
+    sym k ∙ sym (pairs-more step ps i d sum (Err code) h e) ∙ pairs-stop step code (drop (i + 1) ps)
 
 pub ruleset stop_laws = pairs-stopped
+
+-- a variable that is there
+pub variable-there : (m : ℤ) (v : ℕ) (l : Line) → 0 < v → v ≤ length l.factors →
+    add_variable m v l ≡ or_too_big (with_constant l.constant (add_factors m ((v - 1, pos 1) ∷ []) l.factors))
+variable-there m zero l h k = absurd (omega arith)
+variable-there m (suc v) l h k =
+    ap (λ t. cond t (or_too_big (with_constant l.constant (add_factors m ((v, pos 1) ∷ []) l.factors)))
+    (Err Code.NoSuchVariable)) (below v (length l.factors) (omega arith))
+    ∙ ap (λ w. or_too_big (with_constant l.constant (add_factors m ((w, pos 1) ∷ []) l.factors))) one-less
+  where
+    one-less : v ≡ suc v - 1
+    one-less = omega arith
+
+    below : (a b : ℕ) → a < b → nat_lt a b ≡ true
+    below a b h = grind arith
+
+pub ruleset variable_laws = variable-there
+
+-- what each pair keeps is kept by all of them
+module _ (step : PairStep) (P : Line → Type 0) (one : (p : ℤ × ℕ) (l m : Line) → P l → step p l ≡ Ok m → P m) where
+  pub pairs-keep : (ps : List (ℤ × ℕ)) (l m : Line) → P l → each_pair step (Ok l) ps ≡ Ok m → P m
+  pairs-keep [] l m h e = let same : l ≡ m = cc in subst P same h
+  pairs-keep (p ∷ ps) l m h e = next (step p l) refl e (λ k. pairs-keep ps k m)
+    where
+      next : (r : Result Line Code) → step p l ≡ r → each_pair step r ps ≡ Ok m →
+          ((k : Line) → P k → each_pair step (Ok k) ps ≡ Ok m → P m) → P m
+      next (Err c) q d ih = let stays : Err c ≡ Ok m = sym (pairs-stop step c ps) ∙ d in absurd (cc)
+      next (Ok k) q d ih = ih k (one p l k h q) d
+
+-- what is so of each pair that is taken is so of all of them
+module _ (step : PairStep) (test : ℤ × ℕ → Bool) (size : Line → ℕ) (n : ℕ)
+    (one : (p : ℤ × ℕ) (l m : Line) → size l ≡ n → step p l ≡ Ok m → (test p ≡ true) × (size m ≡ n)) where
+  pub pairs-pass : (ps : List (ℤ × ℕ)) (l m : Line) → size l ≡ n → each_pair step (Ok l) ps ≡ Ok m →
+      list_all test ps ≡ true
+  pairs-pass [] l m h e = refl
+  pairs-pass (p ∷ ps) l m h e = next (step p l) refl e (λ k. pairs-pass ps k m)
+    where
+      next : (r : Result Line Code) → step p l ≡ r → each_pair step r ps ≡ Ok m →
+          ((k : Line) → size k ≡ n → each_pair step (Ok k) ps ≡ Ok m → list_all test ps ≡ true) →
+          (test p && list_all test ps) ≡ true
+      next (Err c) q d ih = let stays : Err c ≡ Ok m = sym (pairs-stop step c ps) ∙ d in absurd (cc)
+      next (Ok k) q d ih = let o = one p l k h q in ap (λ z. z && list_all test ps) o.0 ∙ ih k o.1 d
+
+-- an item of a list that passes
+pub all-at-index : {A : Type 0} (test : A → Bool) (xs : List A) (i : ℕ) (x : A) → i < length xs →
+    x ≡ slice_index_or xs i x → list_all test xs ≡ true → test x ≡ true
+all-at-index test [] i x h e a = absurd (omega arith)
+all-at-index test (y ∷ ys) zero x h e a = ap test e ∙ (and_parts (test y) (list_all test ys) a).0
+all-at-index test (y ∷ ys) (suc i) x h e a =
+    all-at-index test ys i x (omega arith) e (and_parts (test y) (list_all test ys) a).1
+
+-- Statements.
+
+-- the numbers of a line are within the limit
+pub record SmallLine (n : ℕ) (l : Line) : Type 0 where
+  pub size : length l.factors ≡ n
+  pub factors : list_all is_small l.factors ≡ true
+  pub constant : is_small l.constant ≡ true
+
+-- what a pair adds to a statement
+pub record Added (m : ℤ) (v : ℕ) (l k : Line) : Type 0 where
+  pub place : ℕ
+  pub counted : v ≡ suc place
+  pub there : place < length l.factors
+  pub small : is_small (number_at l.factors place +ℤ m *ℤ pos 1) ≡ true
+  pub sum : k ≡ record { factors = add_at l.factors place (m *ℤ pos 1); constant = l.constant }
+
+pub added-variable : (m : ℤ) (v : ℕ) (l k : Line) → add_variable m v l ≡ Ok k → Added m v l k
+added-variable m zero l k e = absurd (cc)
+added-variable m (suc w) l k e = named (nat_lt w (length l.factors)) refl e
+  where
+    sum : ℤ
+    sum = number_at l.factors w +ℤ m *ℤ pos 1
+
+    small : (a b : Bool) → w < length l.factors → is_small sum ≡ b →
+        or_too_big (with_constant l.constant (cond (a && b) (Some (add_at l.factors w (m *ℤ pos 1))) None)) ≡ Ok k →
+        Added m (suc w) l k
+    small true true h q d =
+        let same : record { factors = add_at l.factors w (m *ℤ pos 1); constant = l.constant } ≡ k = cc in
+        record { place = w; counted = refl; there = h; small = q; sum = sym same }
+    small true false h q d = absurd (cc)
+    small false b h q d = absurd (cc)
+
+    named : (t : Bool) → nat_lt w (length l.factors) ≡ t →
+        cond t (or_too_big (with_constant l.constant (add_factors m ((w, pos 1) ∷ []) l.factors)))
+        (Err Code.NoSuchVariable) ≡ Ok k → Added m (suc w) l k
+    named false q d = absurd (cc)
+    named true q d = small (is_small (m *ℤ pos 1)) (is_small sum) (grind arith) refl d
+
+small-put : (xs : List ℤ) (n : ℕ) (z : ℤ) → list_all is_small xs ≡ true → is_small (number_at xs n +ℤ z) ≡ true →
+    list_all is_small (add_at xs n z) ≡ true
+small-put [] n z h k = refl
+small-put (x ∷ xs) zero z h k =
+    ap (λ b. b && list_all is_small xs) k ∙ (and_parts (is_small x) (list_all is_small xs) h).1
+small-put (x ∷ xs) (suc n) z h k =
+    let p = and_parts (is_small x) (list_all is_small xs) h in
+    ap (λ b. b && list_all is_small (add_at xs n z)) p.0 ∙ small-put xs n z p.1 k
+
+-- the numbers of a statement stay within the limit
+variable-keeps : (n : ℕ) (p : ℤ × ℕ) (l m : Line) → SmallLine n l → variable_step p l ≡ Ok m → SmallLine n m
+variable-keeps n p l m s e =
+    let a = added-variable p.0 p.1 l m e in
+    let w = a.place in
+    subst (SmallLine n) (sym a.sum) (record {
+      size = length-add_at l.factors w (p.0 *ℤ pos 1) ∙ s.size;
+      factors = small-put l.factors w (p.0 *ℤ pos 1) s.factors a.small;
+      constant = s.constant;
+    })
+
+small-zeros : {A : Type 0} (xs : List A) → list_all is_small (zeros xs) ≡ true
+small-zeros [] = refl
+small-zeros (x ∷ xs) = small-zeros xs
+
+small-number : (c : ℤ) → FitsSigned w64 c → is_small c ≡ true
+small-number c fits = grind arith
+
+pub stated-small : (vs : List Variable) (c z : ℤ) (ps : List (ℤ × ℕ)) (none l : Line) → FitsSigned w64 c → z ≡ c →
+    none ≡ line_of_const vs (pos 0) →
+    each_pair variable_step (Ok (record { factors = none.factors; constant = z })) ps ≡ Ok l → SmallLine (length vs) l
+stated-small vs c z ps none l fits same n e =
+    pairs-keep variable_step (SmallLine (length vs)) (variable-keeps (length vs)) ps (line_of_const vs z) l
+    (record {
+      size = length-zeros vs;
+      factors = small-zeros vs;
+      constant = ap is_small same ∙ small-number c fits;
+    })
+    (ap (λ (y : Line). each_pair variable_step (Ok (record { factors = y.factors; constant = z })) ps) (sym n) ∙ e)
 
 sparse-cons : (n : ℕ) (z : ℤ) (zs : List ℤ) → sparse n (z ∷ zs) ≡ sparse n (z ∷ []) ++ sparse (suc n) zs
 sparse-cons n z zs =

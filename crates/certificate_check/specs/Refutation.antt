@@ -1,6 +1,6 @@
 -- When a certificate refutes a branch, and which node fails first where none does.
-use Rattle.std.specs.Prelude.{◌≡◌, nat_le, nat_lt, ℕ, zero, suc, ◌+◌, ℤ, pos, ◌+ℤ◌, Bool, true, cond, not, Option, Some}
-use Rattle.std.specs.Prelude.{None, Result, Ok, Err, List, [], ◌∷◌, ◌++◌, map, length, slice_get}
+use Rattle.std.specs.Prelude.{◌≡◌, ◌≤◌, nat_lt, ℕ, zero, suc, ◌+◌, ◌-◌, ℤ, pos, ◌+ℤ◌, Bool, true, cond, not, Option}
+use Rattle.std.specs.Prelude.{Some, None, Result, Ok, Err, List, [], ◌∷◌, ◌++◌, map, length, slice_get}
 use Rattle.std.specs.List.{list_all}
 use Rattle.core_terms.specs.declared.trees.CForm.{CForm}
 use Rattle.case_tables.specs.declared.code_table.Code.{Code}
@@ -12,7 +12,7 @@ use Rattle.obligations.specs.declared.certificates.Node.{Node}
 use Rattle.obligations.specs.LinearForms.{fact_of}
 use Rattle.obligations.specs.Opening.{Valid, first_branch, at_most, at_least}
 use Rattle.obligations.specs.Settling.{settled, sides, without, added, branch_holds}
-use Rattle.certificate_check.specs.Sums.{all_pairs, is_false, is_divisible, divided}
+use Rattle.certificate_check.specs.Sums.{all_pairs, is_false, is_divisible, divided, stated, below_0}
 
 -- What a node makes of a branch: a failure, or the branches that its subtrees have to refute.
 pub data NodeEffect : Type 0 where
@@ -45,45 +45,52 @@ abbrev pub made_round : Branch → ℤ → Result Line Code → NodeEffect
 made_round b d (Err c) = fails c
 made_round b d (Ok l) = cond (is_divisible d l) (opens (added b (fact_of (divided d l)) ∷ [])) (fails Code.NotDivisible)
 
+-- what `share` makes: the stated fact is to be refuted, and then used
+abbrev pub made_share : Branch → Result Line Code → NodeEffect
+made_share b (Err c) = fails c
+made_share b (Ok l) = opens (added b (fact_of (below_0 l)) ∷ added b (fact_of l) ∷ [])
+
 abbrev pub made_by : List Variable → Branch → Node → NodeEffect
 made_by vs b (Node.Case k) = case_at vs b k
 made_by vs b (Node.Split v k) = split_at vs b v k
 made_by vs b (Node.Sum ps) = made_sum (all_pairs vs b.facts ps)
 made_by vs b (Node.Round d ps) = made_round b d (all_pairs vs b.facts ps)
+made_by vs b (Node.Quot k) = fails Code.NothingToQuot
+made_by vs b (Node.Share c ps) = made_share b (stated vs c ps)
 
--- a branch with its level, which is 1 at the first branch
+-- a branch, and how many levels of nodes may refute it
 pub record OpenBranch : Type 0 where
-  pub level : ℕ
+  pub levels : ℕ
   pub branch : Branch
 
--- a node past level 1,024 fails
+-- a node for which no level is left fails
 abbrev pub made : List Variable → OpenBranch → Node → NodeEffect
-made vs p n = cond (nat_le p.level 1024) (made_by vs p.branch n) (fails Code.CertTooDeep)
+made vs p n = cond (nat_lt 0 p.levels) (made_by vs p.branch n) (fails Code.CertTooDeep)
 
 abbrev pub pending : ℕ → List Branch → List OpenBranch
-pending level bs = map (λ b. record { level = level; branch = b }) bs
+pending levels bs = map (λ b. record { levels = levels; branch = b }) bs
 
 -- the branches that are still to be refuted, in order, or the first node that fails and its code
 abbrev pub WalkResult : Type 0
 WalkResult = Result (List OpenBranch) (Code × ℕ)
 
 abbrev pub after : (List OpenBranch → WalkResult) → ℕ → List OpenBranch → ℕ → NodeEffect → WalkResult
-after rest level ps at (fails c) = Err (c, at)
-after rest level ps at (opens bs) = rest (pending (suc level) bs ++ ps)
+after rest levels ps at (fails c) = Err (c, at)
+after rest levels ps at (opens bs) = rest (pending (levels - 1) bs ++ ps)
 
 -- The nodes from the place `at` on, against the branches that are still to be refuted, in order. Where there
 -- are none, no node is looked at.
 abbrev pub walk : List Variable → List Node → List OpenBranch → ℕ → WalkResult
 walk vs [] ps at = Ok ps
 walk vs (n ∷ ns) [] at = Ok []
-walk vs (n ∷ ns) (p ∷ ps) at = after (λ qs. walk vs ns qs (suc at)) p.level ps at (made vs p n)
+walk vs (n ∷ ns) (p ∷ ps) at = after (λ qs. walk vs ns qs (suc at)) p.levels ps at (made vs p n)
 
-abbrev pub at_level : ℕ → Branch → OpenBranch
-at_level level b = record { level = level; branch = b }
+abbrev pub allowing : ℕ → Branch → OpenBranch
+allowing levels b = record { levels = levels; branch = b }
 
--- what a walk along the nodes makes of an obligation's first branch
-abbrev pub walk_from_root : Obligation → List Node → WalkResult
-walk_from_root o nodes = walk o.variables nodes (at_level 1 (first_branch o) ∷ []) 0
+-- what a walk along the nodes makes of an obligation's first branch, where so many levels are allowed
+abbrev pub walk_from_root : ℕ → Obligation → List Node → WalkResult
+walk_from_root levels o nodes = walk o.variables nodes (allowing levels (first_branch o) ∷ []) 0
 
 -- further nodes go on where a walk ended
 abbrev pub go_on : WalkResult → (List OpenBranch → WalkResult) → WalkResult
@@ -106,4 +113,9 @@ WalkKeeps = (vs : List Variable) (values : List ℤ) → length values ≡ lengt
 
 -- an obligation of which a walk leaves no branch is valid
 abbrev pub Sound : Type 0
-Sound = (o : Obligation) (nodes : List Node) → walk_from_root o nodes ≡ Ok [] → Valid o
+Sound = (levels : ℕ) (o : Obligation) (nodes : List Node) → walk_from_root levels o nodes ≡ Ok [] → Valid o
+
+-- what refutes within some levels does so within more
+abbrev pub MoreLevels : Type 0
+MoreLevels = (few many : ℕ) (o : Obligation) (nodes : List Node) → few ≤ many →
+    walk_from_root few o nodes ≡ Ok [] → walk_from_root many o nodes ≡ Ok []

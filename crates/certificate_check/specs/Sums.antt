@@ -1,5 +1,6 @@
 -- Sums of multiples of facts, pair by pair.
-use Rattle.std.specs.Prelude.{ℕ, zero, suc, ℤ, pos, ◌+ℤ◌, ◌*ℤ◌, Bool, cond, not, ◌&&◌, Option, Some, None, Result, Ok}
+use Rattle.std.specs.Prelude.{ℕ, zero, suc, nat_lt, ℤ, pos, negsuc, neg_ℤ, ◌+ℤ◌, ◌*ℤ◌, Bool, cond, not, ◌&&◌, Option}
+use Rattle.std.specs.Prelude.{Some, None, Result, Ok, length}
 use Rattle.std.specs.Prelude.{Err, List, [], ◌∷◌, map, slice_get}
 use Rattle.std.specs.List.{list_all}
 use Rattle.std.specs.Int.{int_div_euclid, int_rem_euclid}
@@ -10,7 +11,7 @@ use Rattle.case_tables.specs.declared.code_table.Code.{Code}
 use Rattle.obligations.specs.declared.branches.Fact.{Fact}
 use Rattle.obligations.specs.declared.branches.Line.{Line}
 use Rattle.obligations.specs.declared.branches.Variable.{Variable}
-use Rattle.obligations.specs.LinearForms.{add_at, zeros}
+use Rattle.obligations.specs.LinearForms.{add_at, zeros, line_of_const}
 use Rattle.obligations.specs.Load.{is_small}
 
 -- m times each factor added to the running sum, unless a product or a sum is too big
@@ -46,14 +47,45 @@ abbrev pub add_pair : ℤ → Option Fact → Line → Result Line Code
 add_pair m None sum = Err Code.NoSuchFact
 add_pair m (Some f) sum = cond (int_le (pos 0) m) (or_too_big (add_times m f sum)) (Err Code.BadSum)
 
-abbrev pub then_pair : List Fact → Result Line Code → ℤ × ℕ → Result Line Code
-then_pair facts (Ok sum) p = add_pair p.0 (numbered facts p.1) sum
-then_pair facts (Err c) p = Err c
+-- what a pair makes of a line
+abbrev pub PairStep : Type 0
+PairStep = ℤ × ℕ → Line → Result Line Code
+
+abbrev pub then_by : PairStep → Result Line Code → ℤ × ℕ → Result Line Code
+then_by step (Ok l) p = step p l
+then_by step (Err c) p = Err c
+
+-- what pairs make of a line, one after the other
+abbrev pub each_pair : PairStep → Result Line Code → List (ℤ × ℕ) → Result Line Code
+each_pair step r [] = r
+each_pair step r (p ∷ ps) = each_pair step (then_by step r p) ps
+
+-- a pair names a fact
+abbrev pub fact_step : List Fact → PairStep
+fact_step facts p l = add_pair p.0 (numbered facts p.1) l
 
 -- the sum of multiples of facts, pair by pair
 abbrev pub sum_pairs : List Fact → Result Line Code → List (ℤ × ℕ) → Result Line Code
-sum_pairs facts r [] = r
-sum_pairs facts r (p ∷ ps) = sum_pairs facts (then_pair facts r p) ps
+sum_pairs facts = each_pair (fact_step facts)
+
+-- m times a variable, counted from 1, is added where the variable is there and no number too big
+abbrev pub add_variable : ℤ → ℕ → Line → Result Line Code
+add_variable m zero l = Err Code.NoSuchVariable
+add_variable m (suc v) l =
+    cond (nat_lt v (length l.factors))
+    (or_too_big (with_constant l.constant (add_factors m ((v, pos 1) ∷ []) l.factors))) (Err Code.NoSuchVariable)
+
+-- a pair names a variable
+abbrev pub variable_step : PairStep
+variable_step p l = add_variable p.0 p.1 l
+
+-- a number and multiples of variables, pair by pair
+abbrev pub stated : List Variable → ℤ → List (ℤ × ℕ) → Result Line Code
+stated vs c ps = each_pair variable_step (Ok (line_of_const vs c)) ps
+
+-- that a line is below 0, as a line that is at least 0
+abbrev pub below_0 : Line → Line
+below_0 l = record { factors = map neg_ℤ l.factors; constant = neg_ℤ l.constant +ℤ negsuc 0 }
 
 abbrev pub no_sum : List Variable → Line
 no_sum vs = record { factors = zeros vs; constant = pos 0 }

@@ -12,4 +12,4 @@ pub use errors::CertError;
 pub use indexes::index_laws;
 pub use laws::certificate_laws;
 pub use machine::check_cert;
-pub use sums::{add_pairs, closes, divides, rounded};
+pub use sums::{add_pairs, closes, copy_fact, divides, rounded};

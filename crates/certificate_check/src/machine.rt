@@ -1,4 +1,4 @@
-//! The reading of a certificate's nodes. One branch is held, and for each open `case` and `split` a frame
+//! The reading of a certificate's nodes. One branch is held, and for each open `case`, `split` and `share` a frame
 //! that says how it goes on after the first subtree: the branch grows at the ends of its lists, and is cut
 //! back for the second one.
 ghost use Rattle.std.specs.Prelude.{◌≡◌, ◌≢◌, ◌≤◌, ◌<◌, ◌^◌, pos, ◌+ℤ◌, ◌∷◌, [], IfErr, IfOk, OnOk, MatchResult, true};
@@ -8,8 +8,11 @@ ghost use Rattle.obligations.specs.Settling.{settled, sides, added};
 ghost use Rattle.obligations.specs.Load.{form_load, need, is_light_branch};
 ghost use Rattle.obligations.specs.Opening.{Valid, first_branch, at_most, at_least};
 ghost use Rattle.obligations.specs.Obligations.{AreVariables};
-ghost use Rattle.certificate_check.specs.Sums.{all_pairs};
-ghost use Rattle.certificate_check.specs.Refutation.{at_level, case_at, split_at, made, made_sum, made_round, walk};
+ghost use Rattle.std.specs.List.{list_all};
+ghost use Rattle.obligations.specs.Load.{is_small};
+ghost use Rattle.certificate_check.specs.Sums.{all_pairs, stated};
+ghost use Rattle.certificate_check.specs.Refutation.{allowing, case_at, split_at, made, made_sum, made_round};
+ghost use Rattle.certificate_check.specs.Refutation.{made_share, walk};
 ghost use Rattle.certificate_check.specs.Refutation.{walk_from_root};
 ghost use Rattle.certificate_check.specs.Trees.{is_whole, Refuted};
 ghost use Rattle.certificate_check.specs.Machines.{base_of, full_by, second_by, behind, place_fits, FramesFit};
@@ -19,11 +22,12 @@ ghost use Rattle.certificate_check.specs.Machines.{GoesErr};
 ghost use Rattle.certificate_check.specs.Machines.{FailsSum, FailsReading};
 
 use crate::errors::{CertError, Stop};
-use crate::sums::{add_pairs, closes, divides, rounded};
+use crate::sums::{add_pairs, add_variables, below_0, closes, copy_fact, divides, rounded};
 use case_tables::Code;
 use core_terms::CForm;
 use obligations::{
-    Branch, Cert, Fact, Line, Node, Obligation, Variable, open_branch, settle_onto, zero_line,
+    Branch, Cert, Fact, Line, Node, Obligation, Variable, fact_from, open_branch, settle_onto,
+    zero_line,
 };
 use std::alloc::{AllocError, Global};
 use unity_base::{Seq, Shared};
@@ -33,25 +37,26 @@ use unity_base::{Seq, Shared};
 pub enum Todo {
     /// With the other side of the waiting formula that was taken from this place.
     Case { place: usize, form: Shared<CForm> },
-    /// With the variable at this place above a number.
-    Split { variable: u32, at: i64 },
+    /// With a fact.
+    Fact(Fact),
 }
 
-/// A `case` or a `split` whose subtrees are being read, with the lengths of its branch's lists, and whether
-/// the first subtree is being read.
+/// A node of two subtrees that are being read, with how many levels it is allowed, the lengths of its branch's lists,
+/// and whether the first subtree is being read.
 #[derive(Drop)]
 pub struct Frame {
-    pub level: u32,
+    pub levels: u32,
     pub facts: usize,
     pub waits: usize,
     pub todo: Todo,
     pub first: bool,
 }
 
-/// The branch that the next node belongs to, its level, and the frames around it, the innermost one last.
+/// The branch that the next node belongs to, how many levels are allowed there, and the frames around it, the
+/// innermost one last.
 #[derive(Drop)]
 pub struct Machine {
-    pub level: u32,
+    pub levels: u32,
     pub branch: Branch,
     pub frames: Seq<Frame>,
     pub done: bool,
@@ -78,7 +83,7 @@ fn put_back(todo: Todo, branch: &mut Branch) -> Result<(), AllocError>
 {
     match todo {
         Todo::Case { place, form } => branch.waiting.insert(place, form),
-        Todo::Split { .. } => Ok(()),
+        Todo::Fact(_) => Ok(()),
     }
 }
 
@@ -177,9 +182,7 @@ fn go_second(
 {
     match todo {
         Todo::Case { form, .. } => settle_second(alloc, vs, form.get(), branch),
-        Todo::Split { variable, at } => {
-            add(branch, bound_below(alloc, *variable, *at as i128 + 1)?)
-        }
+        Todo::Fact(fact) => add(branch, copy_fact(alloc, fact)?),
     }
 }
 
@@ -202,15 +205,15 @@ fn resume(
     ensures back { IfOk result (λ on. on ≡ false →
         (rest_of vs.now machine.new ≡ behind vs.now (frame ∷ reverse machine.old.frames) machine.old.branch)
         × FramesFit (reverse machine.new.frames) machine.new.branch × (machine.new.frames ≡ machine.old.frames)
-        × (machine.new.done ≡ false) × (machine.new.level ≡ machine.old.level)) }
+        × (machine.new.done ≡ false) × (machine.new.levels ≡ machine.old.levels)) }
     ensures light { OnOk result (IsLightMachine machine.new) }
 {
     cut(&frame, &mut machine.branch);
     if frame.first {
         go_second(alloc, vs, &frame.todo, &mut machine.branch)?;
-        machine.level = frame.level + 1;
+        machine.levels = frame.levels - 1;
         machine.frames.push(Frame {
-            level: frame.level,
+            levels: frame.levels,
             facts: frame.facts,
             waits: frame.waits,
             todo: frame.todo,
@@ -228,7 +231,6 @@ fn resume(
 fn go_back(alloc: Global, vs: &[Variable], machine: &mut Machine) -> Result<(), AllocError>
     requires variables { AreVariables vs.now }
     requires fits { FramesFit (reverse machine.old.frames) machine.old.branch }
-    requires level { machine.old.level ≤ 1025 }
     requires going { machine.old.done ≡ false }
     requires light { IsLightMachine machine.old }
     ensures pending { OnOk result (pendings vs.now machine.new ≡ rest_of vs.now machine.old) }
@@ -254,7 +256,7 @@ fn go_back(alloc: Global, vs: &[Variable], machine: &mut Machine) -> Result<(), 
 fn open_case(alloc: Global, vs: &[Variable], machine: &mut Machine, k: u64) -> Result<(), Stop>
     requires variables { AreVariables vs.now }
     requires fits { IsFit machine.old }
-    requires level { machine.old.level ≤ 1024 }
+    requires levels { 0 < machine.old.levels }
     requires going { machine.old.done ≡ false }
     requires light { IsLightMachine machine.old }
     ensures ok { OnOk result (Goes vs.now machine.old (case_at vs.now machine.old.branch k) machine.new) }
@@ -270,13 +272,13 @@ fn open_case(alloc: Global, vs: &[Variable], machine: &mut Machine, k: u64) -> R
     let waits = machine.branch.waiting.len();
     settle_first(alloc, vs, form.get(), &mut machine.branch)?;
     machine.frames.push(Frame {
-        level: machine.level,
+        levels: machine.levels,
         facts,
         waits,
         todo: Todo::Case { place, form },
         first: true,
     })?;
-    machine.level += 1;
+    machine.levels -= 1;
     Ok(())
 }
 
@@ -290,7 +292,7 @@ fn open_split(
 ) -> Result<(), Stop>
     requires variables { AreVariables vs.now }
     requires fits { IsFit machine.old }
-    requires level { machine.old.level ≤ 1024 }
+    requires levels { 0 < machine.old.levels }
     requires going { machine.old.done ≡ false }
     requires light { IsLightMachine machine.old }
     ensures ok { OnOk result (Goes vs.now machine.old (split_at vs.now machine.old.branch variable k) machine.new) }
@@ -305,16 +307,73 @@ fn open_split(
     let waits = machine.branch.waiting.len();
     add(&mut machine.branch, bound_above(alloc, place, k as i128)?)?;
     machine.frames.push(Frame {
-        level: machine.level,
+        levels: machine.levels,
         facts,
         waits,
-        todo: Todo::Split {
-            variable: place,
-            at: k,
-        },
+        todo: Todo::Fact(bound_below(alloc, place, k as i128 + 1)?),
         first: true,
     })?;
-    machine.level += 1;
+    machine.levels -= 1;
+    Ok(())
+}
+
+/// The number and the multiples of variables that a `share` states.
+fn statement(
+    alloc: Global,
+    vs: &[Variable],
+    constant: i64,
+    pairs: &Seq<(i64, u64)>,
+) -> Result<Line, Stop>
+    requires variables { AreVariables vs.now }
+    ensures line { MatchResult result
+        (λ line. stated vs.now constant pairs.now ≡ Ok line)
+        (λ stop. FailsSum (stated vs.now constant pairs.now) stop) }
+    ensures size { IfOk result (λ line. length line.factors ≡ length vs.now) }
+    ensures factors { IfOk result (λ line. list_all is_small line.factors ≡ true) }
+    ensures constant { IfOk result (λ line. is_small line.constant ≡ true) }
+{
+    let mut line = zero_line(alloc, vs)?;
+    line.constant = constant as i128;
+    match add_variables(pairs.as_slice(), &mut line) {
+        Ok(()) => Ok(line),
+        Err(code) => Err(Stop::Fault(code)),
+    }
+}
+
+/// Goes on where a statement is false, and then with it.
+fn open_share(
+    alloc: Global,
+    vs: &[Variable],
+    machine: &mut Machine,
+    constant: i64,
+    pairs: &Seq<(i64, u64)>,
+) -> Result<(), Stop>
+    requires variables { AreVariables vs.now }
+    requires fits { IsFit machine.old }
+    requires levels { 0 < machine.old.levels }
+    requires going { machine.old.done ≡ false }
+    requires light { IsLightMachine machine.old }
+    ensures ok { OnOk result
+        (Goes vs.now machine.old (made_share machine.old.branch (stated vs.now constant pairs.now)) machine.new) }
+    ensures light { OnOk result (IsLightMachine machine.new) }
+    ensures err { IfErr result
+        (GoesErr vs.now machine.old (made_share machine.old.branch (stated vs.now constant pairs.now))) }
+{
+    let line = statement(alloc, vs, constant, pairs)?;
+    let facts = machine.branch.facts.len();
+    let waits = machine.branch.waiting.len();
+    add(
+        &mut machine.branch,
+        fact_from(alloc, &below_0(alloc, &line)?)?,
+    )?;
+    machine.frames.push(Frame {
+        levels: machine.levels,
+        facts,
+        waits,
+        todo: Todo::Fact(fact_from(alloc, &line)?),
+        first: true,
+    })?;
+    machine.levels -= 1;
     Ok(())
 }
 
@@ -373,7 +432,7 @@ fn round(
 ) -> Result<(), Stop>
     requires variables { AreVariables vs.now }
     requires fits { IsFit machine.old }
-    requires level { machine.old.level ≤ 1024 }
+    requires levels { 0 < machine.old.levels }
     requires going { machine.old.done ≡ false }
     requires light { IsLightMachine machine.old }
     ensures ok { OnOk result (Goes vs.now machine.old
@@ -387,7 +446,7 @@ fn round(
         return Err(Stop::Fault(Code::NotDivisible));
     }
     add(&mut machine.branch, rounded(alloc, *d, &sum)?)?;
-    machine.level += 1;
+    machine.levels -= 1;
     Ok(())
 }
 
@@ -399,12 +458,12 @@ fn take(alloc: Global, vs: &[Variable], machine: &mut Machine, node: &Node) -> R
     requires going { machine.old.done ≡ false }
     requires light { IsLightMachine machine.old }
     ensures ok { OnOk result (Goes vs.now machine.old
-        (made vs.now (at_level machine.old.level machine.old.branch) node.now) machine.new) }
+        (made vs.now (allowing machine.old.levels machine.old.branch) node.now) machine.new) }
     ensures light { OnOk result (IsLightMachine machine.new) }
     ensures err { IfErr result (GoesErr vs.now machine.old
-        (made vs.now (at_level machine.old.level machine.old.branch) node.now)) }
+        (made vs.now (allowing machine.old.levels machine.old.branch) node.now)) }
 {
-    if machine.level > 1024 {
+    if machine.levels == 0 {
         return Err(Stop::Fault(Code::CertTooDeep));
     }
     match node {
@@ -412,20 +471,29 @@ fn take(alloc: Global, vs: &[Variable], machine: &mut Machine, node: &Node) -> R
         Node::Split(variable, k) => open_split(alloc, vs, machine, *variable, *k),
         Node::Sum(pairs) => close(alloc, vs, machine, pairs),
         Node::Round(d, pairs) => round(alloc, vs, machine, d, pairs),
+        // No term of a form has a quotient.
+        Node::Quot(_) => Err(Stop::Fault(Code::NothingToQuot)),
+        Node::Share(constant, pairs) => open_share(alloc, vs, machine, *constant, pairs),
     }
 }
 
 /// Whether the nodes refute a branch, or the first that fails.
-fn read(alloc: Global, vs: &[Variable], first: Branch, nodes: &[Node]) -> Result<(), CertError>
+fn read(
+    alloc: Global,
+    vs: &[Variable],
+    first: Branch,
+    nodes: &[Node],
+    levels: u32,
+) -> Result<(), CertError>
     requires variables { AreVariables vs.now }
     requires whole { is_whole nodes.now 1 ≡ true }
     requires light { is_light_branch (2 ^ 63) first ≡ true }
     ensures { MatchResult result
-        (λ _. walk vs.now nodes.now (at_level 1 first ∷ []) 0 ≡ Ok [])
-        (FailsReading (walk vs.now nodes.now (at_level 1 first ∷ []) 0)) }
+        (λ _. walk vs.now nodes.now (allowing levels first ∷ []) 0 ≡ Ok [])
+        (FailsReading (walk vs.now nodes.now (allowing levels first ∷ []) 0)) }
 {
     let mut machine = Machine {
-        level: 1,
+        levels,
         branch: first,
         frames: Seq::new(alloc),
         done: false,
@@ -448,24 +516,30 @@ fn read(alloc: Global, vs: &[Variable], first: Branch, nodes: &[Node]) -> Result
     Ok(())
 }
 
-/// Whether a certificate refutes an obligation. Where it does, the obligation is valid. Else the
-/// error is `Fault` with the first node that fails, from 0, and how; or `Memory`, where memory was
-/// refused. No number that is met is past 2^126, since the form's load is limited.
-#[tactic(auto, using(crate::proofs::WholeLaws::check_laws))]
-pub fn check_cert(alloc: Global, o: &Obligation, c: &Cert) -> Result<(), CertError>
+/// Whether a certificate of at most so many levels refutes an obligation. Where it does, the
+/// obligation is valid. Else the error is `Fault` with the first node that fails, from 0, and how;
+/// or `Memory`, where memory was refused. No number that is met is past 2^126, since the form's
+/// load is limited.
+pub fn check_cert(alloc: Global, o: &Obligation, c: &Cert, levels: u32) -> Result<(), CertError>
     requires variables { AreVariables o.now.variables }
     requires load { form_load o.now.form ≤ 2 ^ 62 }
     requires whole { is_whole c.now.nodes 1 ≡ true }
 
     // It is taken exactly where a walk along its nodes leaves no branch, so where its tree refutes.
-    ensures walked { OnOk result (walk_from_root o.now c.now.nodes ≡ Ok []) }
-    ensures refuted { OnOk result (Refuted o.now c.now.nodes) }
-    ensures not_refuted { IfErr result (λ e. e ≢ CertError.Memory → Refuted o.now c.now.nodes → ⊥) }
-    ensures fault { IfErr result (FailsReading (walk_from_root o.now c.now.nodes)) }
+    ensures walked { OnOk result (walk_from_root levels o.now c.now.nodes ≡ Ok []) }
+    ensures refuted { OnOk result (Refuted levels o.now c.now.nodes) }
+    ensures not_refuted { IfErr result (λ e. e ≢ CertError.Memory → Refuted levels o.now c.now.nodes → ⊥) }
+    ensures fault { IfErr result (FailsReading (walk_from_root levels o.now c.now.nodes)) }
     ensures valid { OnOk result (Valid o.now) }
 {
     match open_branch(alloc, o) {
-        Ok(first) => read(alloc, o.variables.as_slice(), first, c.nodes.as_slice()),
+        Ok(first) => read(
+            alloc,
+            o.variables.as_slice(),
+            first,
+            c.nodes.as_slice(),
+            levels,
+        ),
         Err(_) => Err(CertError::Memory),
     }
 }

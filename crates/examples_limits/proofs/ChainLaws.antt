@@ -11,6 +11,8 @@ pub closes_whole : (count : ℕ) (facts : List Fact) (ns : List Node) → Closes
 closes_whole count facts [] c = absurd c
 closes_whole count facts (Node.Case k ∷ ns) c = absurd c
 closes_whole count facts (Node.Split v k ∷ ns) c = absurd c
+closes_whole count facts (Node.Quot k ∷ ns) c = absurd c
+closes_whole count facts (Node.Share z ps ∷ ns) c = absurd c
 closes_whole count facts (Node.Sum ps ∷ []) c = refl
 closes_whole count facts (Node.Sum ps ∷ n ∷ ns) c = absurd c
 closes_whole count facts (Node.Round d ps ∷ ns) c =

@@ -16,7 +16,7 @@ use Rattle.core_terms.specs.Values.{number_at}
 use Rattle.meaning_states.specs.State.{int_eq}
 use Rattle.obligations.specs.LinearForms.{sparse, fact_of}
 use Rattle.obligations.specs.Load.{is_small}
-use Rattle.certificate_check.specs.Sums.{then_pair, add_pair, is_divisible, divided}
+use Rattle.certificate_check.specs.Sums.{then_by, fact_step, add_pair, is_divisible, divided}
 use Rattle.certificate_check.specs.Refutation.{opens, fails, made_sum}
 use Rattle.obligations.specs.Reach.{is_exact, are_opposite, divisor_of, is_moderate, is_moderate_fact, is_some_factor}
 use Rattle.obligations.specs.Reach.{clash}
@@ -264,7 +264,7 @@ module _ (count : ℕ) (facts : List Fact) (i j d : ℕ) (f g : Fact) (positive 
       second.line,
       second.is,
       second-round.divisible,
-      ap (λ r. made_sum (then_pair all r (pos 1, suc (suc (length facts))))) sum.is
+      ap (λ r. made_sum (then_by (fact_step all) r (pos 1, suc (suc (length facts))))) sum.is
           ∙ ap (λ o. made_sum (add_pair (pos 1) o sum.line)) there
           ∙ ap made_sum both.is
           ∙ ap (λ b. cond (b && not (int_le (pos 0) both.out.constant)) (opens []) (fails Code.BadSum))

@@ -23,7 +23,7 @@ use Rattle.obligations.specs.Reach.{is_exact, is_within, are_exact}
 use Rattle.obligations.proofs.LineLaws.{length-add_at}
 use Rattle.certificate_check.specs.Refutation.{NodeEffect, fails, opens, made_sum}
 use Rattle.certificate_check.specs.Sums.{add_factors, with_constant, add_times, numbered, or_too_big, add_pair}
-use Rattle.certificate_check.specs.Sums.{then_pair, sum_pairs, is_divisible, divided}
+use Rattle.certificate_check.specs.Sums.{then_by, sum_pairs, is_divisible, divided}
 use Rattle.linear_prover.specs.Chains.{nulls, null_line, total_pairs, Closes}
 use Rattle.linear_prover.specs.Exact.{factor_in, is_once, is_fact, factors_from, in_order}
 use Rattle.linear_prover.proofs.SumLaws.{length-nulls, nulls-at, small-is, factor-here, factor-else, add-there}
@@ -415,6 +415,8 @@ closes-same : (count : ℕ) (facts : List Fact) (ns : List Node) (extra : List F
 closes-same count facts [] extra a c = absurd c
 closes-same count facts (Node.Case k ∷ ns) extra a c = absurd c
 closes-same count facts (Node.Split v k ∷ ns) extra a c = absurd c
+closes-same count facts (Node.Quot k ∷ ns) extra a c = absurd c
+closes-same count facts (Node.Share z ps ∷ ns) extra a c = absurd c
 closes-same count facts (Node.Sum ps ∷ n ∷ ns) extra a c = absurd c
 closes-same count facts (Node.Sum ps ∷ []) extra a c = by_total (total_pairs count (more count facts extra) ps) refl c
   where

@@ -1,6 +1,6 @@
 -- Closing chains: rounds, and then a sum that is false.
-use Rattle.std.specs.Prelude.{◌≡◌, ◌≤◌, ℕ, zero, suc, ◌+◌, ◌^◌, max, nat_le, ℤ, pos, Bool, true, ◌&&◌, Option, Some}
-use Rattle.std.specs.Prelude.{None, Result, Ok, List, [], ◌∷◌, ◌++◌, length}
+use Rattle.std.specs.Prelude.{◌≡◌, ◌≤◌, ℕ, zero, suc, ◌+◌, ◌^◌, max, nat_le, ℤ, pos, Bool, true, false, ◌&&◌, Option}
+use Rattle.std.specs.Prelude.{Some, None, Result, Ok, List, [], ◌∷◌, ◌++◌, length}
 use Rattle.std.specs.List.{list_all}
 use Rattle.std.specs.Int.RustNames.{unsigned_abs}
 use Rattle.obligations.specs.declared.branches.Fact.{Fact}
@@ -29,6 +29,8 @@ abbrev pub Closes : ℕ → List Fact → List Node → Type 0
 Closes count facts [] = ⊥
 Closes count facts (Node.Case k ∷ ns) = ⊥
 Closes count facts (Node.Split v k ∷ ns) = ⊥
+Closes count facts (Node.Quot k ∷ ns) = ⊥
+Closes count facts (Node.Share c ps ∷ ns) = ⊥
 Closes count facts (Node.Sum ps ∷ []) = made_sum (total_pairs count facts ps) ≡ opens []
 Closes count facts (Node.Sum ps ∷ n ∷ ns) = ⊥
 Closes count facts (Node.Round d ps ∷ ns) =
@@ -45,11 +47,14 @@ is_plain_factor f = is_plain_number f.1
 abbrev pub is_plain_pair : ℤ × ℕ → Bool
 is_plain_pair p = is_plain_number p.0
 
+-- a node that version 1 has, none of whose numbers is outside
 abbrev pub is_plain_node : Node → Bool
 is_plain_node (Node.Case k) = true
 is_plain_node (Node.Split v k) = is_plain_number k
 is_plain_node (Node.Sum ps) = list_all is_plain_pair ps
 is_plain_node (Node.Round d ps) = is_plain_number d && list_all is_plain_pair ps
+is_plain_node (Node.Quot k) = false
+is_plain_node (Node.Share c ps) = false
 
 -- at most two rounds before the sum, and few units, all of whose numbers are within plus or minus 2^62
 pub record IsShort (count : ℕ) (ns : List Node) : Type 0 where

@@ -10,7 +10,7 @@ ghost use Rattle.certificate_check.specs.Refutation.{made_sum, opens};
 ghost use Rattle.linear_prover.specs.Chains.{nulls, null_line, total_pairs, Closes, IsTotal, IsRoundStep, AddsRound};
 ghost use Rattle.linear_prover.specs.Chains.{is_plain_number, is_plain_pair, is_plain_node};
 
-use certificate_check::{add_pairs, closes, divides, rounded};
+use certificate_check::{add_pairs, closes, copy_fact, divides, rounded};
 use obligations::{Fact, Line, Node};
 use std::alloc::{AllocError, Global};
 use unity_base::Seq;
@@ -88,26 +88,6 @@ fn round_fact(
         Some(line) => fact_after(alloc, &line, divisor),
         None => Ok(None),
     }
-}
-
-fn copy_factors(alloc: Global, factors: &[(u32, i128)]) -> Result<Seq<(u32, i128)>, AllocError>
-    ensures { IfOk result (λ copy. copy ≡ factors.now) }
-{
-    let mut copy = Seq::new(alloc);
-    for factor in factors {
-        copy.push(*factor)?;
-    }
-    Ok(copy)
-}
-
-fn copy_fact(alloc: Global, fact: &Fact) -> Result<Fact, AllocError>
-    ensures { IfOk result (λ copy. copy ≡ fact.now) }
-{
-    let factors = copy_factors(alloc, fact.factors.as_slice())?;
-    Ok(Fact {
-        factors,
-        constant: fact.constant,
-    })
 }
 
 /// Equal facts.
@@ -196,7 +176,7 @@ fn are_plain_pairs(pairs: &[(i64, u64)]) -> bool
     pairs.iter().all(|pair| is_plain_number(&pair.0))
 }
 
-/// Whether all numbers of a node are.
+/// Whether a node is one that version 1 has, and all its numbers are.
 fn is_plain(node: &Node) -> bool
     ensures { result ≡ is_plain_node node.now }
 {
@@ -206,6 +186,8 @@ fn is_plain(node: &Node) -> bool
         Node::Sum(pairs) => are_plain_pairs(pairs.as_slice()),
         Node::Round(divisor, pairs) => is_plain_number(divisor)
             && are_plain_pairs(pairs.as_slice()),
+        Node::Quot(_) => false,
+        Node::Share(_, _) => false,
     }
 }
 

@@ -15,6 +15,11 @@ pub enum Node {
     Sum(Seq<(i64, u64)>),
     /// Adds multiples of facts, divides by a number and rounds the constant down.
     Round(i64, Seq<(i64, u64)>),
+    /// Takes a quotient out of the waiting formula of this number.
+    Quot(u64),
+    /// States that a number and multiples of variables, each a multiplier and the variable's number, add up to at
+    /// least 0; goes on where they don't, and then with that fact.
+    Share(i64, Seq<(i64, u64)>),
 }
 
 /// A tree of nodes, each before its subtrees.
@@ -37,10 +42,12 @@ fn units_of_node(node: &Node) -> u64
         Node::Split(_, _) => 1,
         Node::Sum(pairs) => units_of_pairs(pairs),
         Node::Round(_, pairs) => units_of_pairs(pairs),
+        Node::Quot(_) => 1,
+        Node::Share(_, pairs) => units_of_pairs(pairs),
     }
 }
 
-/// The size of a certificate: one for each node, and one for each pair of a sum or a round; or
+/// The size of a certificate: one for each node, and one for each pair of a sum, a round or a share; or
 /// 2^64 - 1 where that is more.
 #[tactic(auto, using(crate::proofs::CertificateLaws::units_laws))]
 pub fn units(c: &Cert) -> u64

@@ -17,7 +17,7 @@ mod small;
 pub use branches::{Bound, Branch, Choice, Fact, Line, Obligation, Variable};
 pub use certificates::{Cert, Node, units};
 pub use laws::{obligation_laws, settling_laws};
-pub use linear::{factor_at, zero_line};
+pub use linear::{fact_from, factor_at, zero_line};
 pub use making::{TooLargeError, make, with_variables};
 pub use opening::open_branch;
 pub use settling::{refuse_onto, settle, settle_onto};

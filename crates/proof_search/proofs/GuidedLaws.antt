@@ -17,13 +17,13 @@ use Rattle.obligations.specs.Settling.{settled, sides, added, without, form_at, 
 use Rattle.obligations.proofs.NeedLaws.{settled-light}
 use Rattle.obligations.proofs.SettlingLaws.{settled-holds}
 use Rattle.obligations.proofs.LightLaws.{first-side, second-side, remove-light}
-use Rattle.certificate_check.specs.Refutation.{OpenBranch, opens, made_case, made, at_level}
+use Rattle.certificate_check.specs.Refutation.{OpenBranch, opens, made_case, made, allowing}
 use Rattle.certificate_check.proofs.RefutationLaws.{side_in, holds-without}
 use Rattle.linear_prover.specs.Chains.{Closes, is_plain_node, is_plain_number}
 use Rattle.search_tree.specs.declared.plain_tree.Trail.{Trail}
 use Rattle.search_tree.specs.declared.plain_tree.Ended.{Ended}
 use Rattle.search_tree.specs.Left.{left_by, left}
-use Rattle.search_tree.specs.Searching.{level_of, Met, Finishes, IsClosed}
+use Rattle.search_tree.specs.Searching.{levels_of, Met, Finishes, IsClosed}
 use Rattle.search_tree.proofs.SearchLaws.{undone, units-append, left-append, made-level, chain-closes}
 use Rattle.search_tree.proofs.ReadyLaws.{added-met, split-opens}
 use Rattle.search_tree.proofs.CycleLaws.{kept, Put}
@@ -40,7 +40,7 @@ chain-guides vs k b ns old new Ended.Closed h c l p f =
     record {
       closes = λ first ps g. ap (left vs (Some first)) f.0 ∙ left-append vs (Some first) old.nodes ns ∙ ap
           (λ r. left vs r ns) g
-          ∙ chain-closes vs ns (level_of k) b ps c (omega arith);
+          ∙ chain-closes vs ns (levels_of k) b ps c (omega arith);
       plain = λ g. ap (list_all is_plain_node) f.0 ∙ list_all-append is_plain_node old.nodes ns ∙ ap
           (λ t. t && list_all is_plain_node ns) g ∙ p;
       spent = omega (arith, u, s);
@@ -55,14 +55,14 @@ pub ruleset undo_laws = undone
 -- a node, and the nodes of both branches that it opens
 module _ (vs : List Variable) (k : ℕ) (b c d : Branch) (n : Node) (one : node_units n ≡ 1)
     (simple : is_plain_node n ≡ true) (deep : suc k ≤ 960)
-    (opened : made vs (at_level (level_of (suc k)) b) n ≡ opens (c ∷ d ∷ [])) where
+    (opened : made vs (allowing (levels_of (suc k)) b) n ≡ opens (c ∷ d ∷ [])) where
   after-node : (x y : Trail) → y.nodes ≡ x.nodes ++ n ∷ [] → (first ps : List OpenBranch) →
-      left vs (Some first) x.nodes ≡ Some (at_level (level_of (suc k)) b ∷ ps) →
-      left vs (Some first) y.nodes ≡ Some (at_level (level_of k) c ∷ at_level (level_of k) d ∷ ps)
+      left vs (Some first) x.nodes ≡ Some (allowing (levels_of (suc k)) b ∷ ps) →
+      left vs (Some first) y.nodes ≡ Some (allowing (levels_of k) c ∷ allowing (levels_of k) d ∷ ps)
   after-node x y e first ps s =
-      let next : suc (level_of (suc k)) ≡ level_of k = omega (arith, deep) in
+      let next : levels_of (suc k) - 1 ≡ levels_of k = omega arith in
       ap (left vs (Some first)) e ∙ left-append vs (Some first) x.nodes (n ∷ []) ∙ ap (λ r. left vs r (n ∷ [])) s
-      ∙ ap (left_by (level_of (suc k)) ps) opened ∙ ap (λ lv. Some (at_level lv c ∷ at_level lv d ∷ ps)) next
+      ∙ ap (left_by (levels_of (suc k)) ps) opened ∙ ap (λ lv. Some (allowing lv c ∷ allowing lv d ∷ ps)) next
 
   both-closed : (x y z w : Trail) → Put x y n → Closing vs k c y z → Closing vs k d z w → Closing vs (suc k) b x w
   both-closed x y z w put p q =
@@ -70,7 +70,7 @@ module _ (vs : List Variable) (k : ℕ) (b c d : Branch) (n : Node) (one : node_
       let u = ap units e ∙ units-append x.nodes (n ∷ []) in
       let p1 = p.spent in let q1 = q.spent in
       record {
-        closes = λ first ps g. q.closes first ps (p.closes first (at_level (level_of k) d ∷ ps)
+        closes = λ first ps g. q.closes first ps (p.closes first (allowing (levels_of k) d ∷ ps)
             (after-node x y e first ps g));
         plain = λ h. q.plain (p.plain (ap (list_all is_plain_node) e ∙ list_all-append is_plain_node x.nodes (n ∷ [])
             ∙ ap (λ t. t && (is_plain_node n && true)) h ∙ ap (λ t. t && true) simple));
@@ -111,10 +111,10 @@ module _ (vs : List Variable) (k place : ℕ) (f : CForm) (b : Branch) (inside :
   out-again : without (with_form b place f) place ≡ b
   out-again = ap (λ ws. record { facts = b.facts; waiting = ws }) (remove-insert b.waiting place f inside)
 
-  case-opens : made vs (at_level (level_of (suc k)) (with_form b place f)) (Node.Case (suc place)) ≡ opens
+  case-opens : made vs (allowing (levels_of (suc k)) (with_form b place f)) (Node.Case (suc place)) ≡ opens
       (settled vs (sides f).0 b ∷ settled vs (sides f).1 b ∷ [])
   case-opens =
-      made-level vs (level_of (suc k)) (with_form b place f) (Node.Case (suc place)) (omega arith)
+      made-level vs (levels_of (suc k)) (with_form b place f) (Node.Case (suc place)) (omega arith)
       ∙ ap (made_case vs (with_form b place f) place) (get-insert b.waiting place f inside)
       ∙ ap (λ c. opens (settled vs (sides f).0 c ∷ settled vs (sides f).1 c ∷ [])) out-again
 

@@ -8,7 +8,7 @@ use Rattle.obligations.specs.declared.branches.Obligation.{Obligation}
 use Rattle.obligations.specs.declared.branches.Variable.{Variable}
 use Rattle.obligations.specs.Certificates.{units}
 use Rattle.obligations.specs.Opening.{first_branch}
-use Rattle.certificate_check.specs.Refutation.{OpenBranch, at_level, walk_from_root}
+use Rattle.certificate_check.specs.Refutation.{OpenBranch, allowing, walk_from_root}
 use Rattle.certificate_check.specs.Trees.{is_whole}
 use Rattle.linear_prover.specs.Chains.{is_plain_node}
 use Rattle.search_tree.specs.declared.plain_tree.Trail.{Trail}
@@ -16,11 +16,11 @@ use Rattle.search_tree.specs.declared.plain_tree.Ended.{Ended}
 use Rattle.search_tree.specs.declared.plain_tree.Found.{Found}
 use Rattle.obligations.specs.declared.certificates.Node.{Node}
 use Rattle.search_tree.specs.Left.{left}
-use Rattle.search_tree.specs.Searching.{level_of, Met}
+use Rattle.search_tree.specs.Searching.{levels_of, Met}
 
 -- The nodes after `old` close a branch with k levels left.
 pub record Closing (vs : List Variable) (k : ℕ) (b : Branch) (old new : Trail) : Type 0 where
-  pub closes : (first ps : List OpenBranch) → left vs (Some first) old.nodes ≡ Some (at_level (level_of k) b ∷ ps) →
+  pub closes : (first ps : List OpenBranch) → left vs (Some first) old.nodes ≡ Some (allowing (levels_of k) b ∷ ps) →
       left vs (Some first) new.nodes ≡ Some ps
   pub plain : list_all is_plain_node old.nodes ≡ true → list_all is_plain_node new.nodes ≡ true
   pub spent : units new.nodes + new.spare ≡ units old.nodes + old.spare
@@ -46,7 +46,7 @@ with_form b n f = record { facts = b.facts; waiting = insert b.waiting n f }
 -- nodes that a walk takes to its end
 pub record IsWholeWalk (o : Obligation) (nodes : List Node) : Type 0 where
   pub whole : is_whole nodes 1 ≡ true
-  pub walked : walk_from_root o nodes ≡ Ok []
+  pub walked : walk_from_root 1024 o nodes ≡ Ok []
   pub plain : list_all is_plain_node nodes ≡ true
 
 -- these nodes in place of an ended budget

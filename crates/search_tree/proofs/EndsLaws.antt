@@ -18,13 +18,13 @@ use Rattle.obligations.specs.Certificates.{node_units, units}
 use Rattle.obligations.specs.Obligations.{IsObligation}
 use Rattle.obligations.specs.Plain.{Cut, ranges_of, first_cut, with_high, with_low, waiting_only, open_leaves}
 use Rattle.obligations.specs.Plain.{cut_leaves, plain_leaves, leaf_units, enough}
-use Rattle.certificate_check.specs.Refutation.{opens, made, at_level}
+use Rattle.certificate_check.specs.Refutation.{opens, made, allowing}
 use Rattle.linear_prover.specs.Chains.{ClosesShortly, is_plain_node}
 use Rattle.linear_prover.specs.Tables.{IsAt}
 use Rattle.linear_prover.proofs.ChainLaws.{refuted-chain, clashed-chain}
 use Rattle.search_tree.specs.declared.plain_tree.Trail.{Trail}
 use Rattle.search_tree.specs.declared.plain_tree.Ended.{Ended}
-use Rattle.search_tree.specs.Searching.{Ready, Closed, Met, level_of}
+use Rattle.search_tree.specs.Searching.{Ready, Closed, Met, levels_of}
 use Rattle.search_tree.specs.Ends.{Ending, proved, refuted, short, SearchEnds}
 use Rattle.search_tree.proofs.SearchLaws.{finished-ends}
 use Rattle.search_tree.proofs.TreeLaws.{second-closed}
@@ -100,7 +100,7 @@ chain-goes vs k leaves b h one c x s =
 -- A node that opens two branches.
 module _ (vs : List Variable) (k l m : ℕ) (b c d : Branch) (n : Node) (one : node_units n ≡ 1)
     (simple : is_plain_node n ≡ true) (deep : suc k ≤ 960)
-    (opened : made vs (at_level (level_of (suc k)) b) n ≡ opens (c ∷ d ∷ []))
+    (opened : made vs (allowing (levels_of (suc k)) b) n ≡ opens (c ∷ d ∷ []))
     (some : 1 ≤ m)
     (up : (values : List ℤ) → Met vs c values → Met vs b values)
     (down : (values : List ℤ) → Met vs d values → Met vs b values) where

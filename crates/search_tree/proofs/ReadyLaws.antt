@@ -27,13 +27,13 @@ use Rattle.obligations.specs.Opening.{range_facts, ranges_only, first_branch}
 use Rattle.obligations.specs.LinearForms.{fact_holds}
 use Rattle.obligations.specs.Settling.{sides, added}
 use Rattle.obligations.specs.Opening.{at_most, at_least}
-use Rattle.certificate_check.specs.Refutation.{split_at, fails, opens, made, at_level}
+use Rattle.certificate_check.specs.Refutation.{split_at, fails, opens, made, allowing}
 use Rattle.obligations.proofs.SettlingLaws.{settled-holds}
 use Rattle.certificate_check.proofs.RefutationLaws.{side_in, holds-without, holds-added}
 use Rattle.obligations.specs.Reach.{is_exact, is_within, are_exact, some_out_of_reach}
 use Rattle.obligations.specs.Plain.{Cut, ranges_of, first_cut, with_high, with_low, waiting_only, cuts_of}
 use Rattle.obligations.specs.Plain.{plain_leaves, open_leaves, cut_leaves}
-use Rattle.search_tree.specs.Searching.{Ready, Met, Has, AreBounded, is_slender, level_of}
+use Rattle.search_tree.specs.Searching.{Ready, Met, Has, AreBounded, is_slender, levels_of}
 use Rattle.obligations.proofs.NumberLaws.{obligation-height, obligation-load, obligation-narrow, obligation-sound}
 use Rattle.obligations.specs.Obligations.{is_sound_range, IsObligation}
 use Rattle.meaning_states.specs.State.{int_eq}
@@ -105,9 +105,9 @@ unreached-leaves vs k rs b e = ap (λ t. cond t 1 (open_leaves vs (plain_leaves 
 
 -- The branches of a waiting formula.
 pub case-opens : (vs : List Variable) (k : ℕ) (f : CForm) (b : Branch) → suc k ≤ 960 →
-    made vs (at_level (level_of (suc k)) (waiting_only b (f ∷ b.waiting))) (Node.Case 1) ≡ opens
+    made vs (allowing (levels_of (suc k)) (waiting_only b (f ∷ b.waiting))) (Node.Case 1) ≡ opens
     (settled vs (sides f).0 b ∷ settled vs (sides f).1 b ∷ [])
-case-opens vs k f b h = made-level vs (level_of (suc k)) (waiting_only b (f ∷ b.waiting)) (Node.Case 1) (omega arith)
+case-opens vs k f b h = made-level vs (levels_of (suc k)) (waiting_only b (f ∷ b.waiting)) (Node.Case 1) (omega arith)
 
 or-left : (a b : Bool) → a ≡ true → (a || b) ≡ true
 or-left true b e = refl
@@ -491,11 +491,11 @@ lt-true : (a b : ℕ) → a < b → nat_lt a b ≡ true
 lt-true a b h = grind arith
 
 pub split-opens : (vs : List Variable) (k : ℕ) (b : Branch) (place : ℕ) (at : ℤ) → suc k ≤ 960 → place < length vs →
-    made vs (at_level (level_of (suc k)) b) (Node.Split (place + 1) at) ≡ opens
+    made vs (allowing (levels_of (suc k)) b) (Node.Split (place + 1) at) ≡ opens
     (added b (at_most place at) ∷ added b (at_least place (at +ℤ pos 1)) ∷ [])
 split-opens vs k b place at h i =
     let one : place + 1 ≡ suc place = omega arith in
-    made-level vs (level_of (suc k)) b (Node.Split (place + 1) at) (omega arith)
+    made-level vs (levels_of (suc k)) b (Node.Split (place + 1) at) (omega arith)
     ∙ ap (λ v. split_at vs b v at) one ∙ ap (λ t. cond t (opens
     (added b (at_most place at) ∷ added b (at_least place (at +ℤ pos 1)) ∷ [])) (fails Code.NoSuchVariable))
     (lt-true place (length vs) i)

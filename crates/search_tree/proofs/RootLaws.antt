@@ -1,5 +1,5 @@
 -- What the search of the first branch says of its obligation.
-use Rattle.std.proofs.Common.{◌≡◌, ℕ, suc, ◌+◌, ◌≤◌, not, true, Option}
+use Rattle.std.proofs.Common.{◌≡◌, ℕ, suc, ◌+◌, ◌-◌, ◌≤◌, not, true, Option}
 use Rattle.std.proofs.Common.{Some, None, Ok, length, List, [], ◌∷◌, ◌++◌, arith, refl, sym}
 use Rattle.std.proofs.Common.{ap, subst, ◌∙◌}
 use Rattle.std.proofs.lemmas.Bool.{and_parts, not-true}
@@ -41,11 +41,11 @@ left-walk vs [] ps qs at e = let s : ps ≡ qs = cc in ap Ok s
 left-walk vs (n ∷ ns) [] qs at e = let x = left-none vs ns in cc
 left-walk vs (n ∷ ns) (p ∷ ps) qs at e = opened (made vs p n) e (λ rs. left-walk vs ns rs qs (suc at))
   where
-    opened : (m : NodeEffect) → left vs (left_by p.level ps m) ns ≡ Some qs →
+    opened : (m : NodeEffect) → left vs (left_by p.levels ps m) ns ≡ Some qs →
         ((rs : List OpenBranch) → left vs (Some rs) ns ≡ Some qs → walk vs ns rs (suc at) ≡ Ok qs) →
-        after (λ rs. walk vs ns rs (suc at)) p.level ps at m ≡ Ok qs
+        after (λ rs. walk vs ns rs (suc at)) p.levels ps at m ≡ Ok qs
     opened (fails c) e f = let x = left-none vs ns in cc
-    opened (opens bs) e f = f (pending (suc p.level) bs ++ ps) e
+    opened (opens bs) e f = f (pending (p.levels - 1) bs ++ ps) e
 
 -- nodes that leave nothing are whole trees
 pub left-whole : (vs : List Variable) (ns : List Node) (ps : List OpenBranch) → left vs (Some ps) ns ≡ Some [] →
@@ -56,19 +56,19 @@ left-whole vs [] (p ∷ ps) e = cc
 left-whole vs (n ∷ ns) [] e = let x = left-none vs ns in cc
 left-whole vs (n ∷ ns) (p ∷ ps) e = opened (made vs p n) refl e (left-whole vs ns)
   where
-    long : (level : ℕ) (bs : List Branch) → length (pending level bs ++ ps) ≡ length bs + length ps
-    long level [] = omega arith
-    long level (b ∷ bs) = let ih = long level bs in omega (arith, ih)
+    long : (levels : ℕ) (bs : List Branch) → length (pending levels bs ++ ps) ≡ length bs + length ps
+    long levels [] = omega arith
+    long levels (b ∷ bs) = let ih = long levels bs in omega (arith, ih)
 
-    opened : (m : NodeEffect) → made vs p n ≡ m → left vs (left_by p.level ps m) ns ≡ Some [] →
+    opened : (m : NodeEffect) → made vs p n ≡ m → left vs (left_by p.levels ps m) ns ≡ Some [] →
         ((qs : List OpenBranch) → left vs (Some qs) ns ≡ Some [] → is_whole ns (length qs) ≡ true) → is_whole ns
         (arity n + length ps) ≡ true
     opened (fails c) q e f = let x = left-none vs ns in cc
     opened (opens bs) q e f =
         let a = opened-arity vs p n bs q in
-        let l : arity n + length ps ≡ length (pending (suc p.level) bs ++ ps) =
-        (let w = long (suc p.level) bs in omega (arith, a, w)) in
-        ap (is_whole ns) l ∙ f (pending (suc p.level) bs ++ ps) e
+        let l : arity n + length ps ≡ length (pending (p.levels - 1) bs ++ ps) =
+        (let w = long (p.levels - 1) bs in omega (arith, a, w)) in
+        ap (is_whole ns) l ∙ f (pending (p.levels - 1) bs ++ ps) e
 
 unfinished : (vs : List Variable) (ns : List Node) (ps : List OpenBranch) (r : Option (List OpenBranch)) → left vs
     (Some ps)

@@ -1,5 +1,5 @@
 -- What the search keeps.
-use Rattle.std.proofs.Common.{◌≡◌, ℕ, zero, suc, ◌+◌, ◌*◌, ◌≤◌, ◌<◌, ◌≤ℤ◌, ◌<ℤ◌, ℤ, nat_le, slice_set, slice_get}
+use Rattle.std.proofs.Common.{◌≡◌, ℕ, zero, suc, ◌+◌, ◌-◌, ◌*◌, ◌≤◌, ◌<◌, ◌≤ℤ◌, ◌<ℤ◌, ℤ, nat_lt, slice_set, slice_get}
 use Rattle.std.proofs.Common.{slice_index_or, ◌&&◌, Ok, pos, negsuc, ◌+ℤ◌, ◌-ℤ◌, true, false, cond, Option, Some}
 use Rattle.std.proofs.Common.{None, List, [], ◌∷◌, ◌++◌, take, drop, length, arith, refl, sym, ap, subst, ◌∙◌}
 use Rattle.std.proofs.Math.Nat.{mul-le-mul_right}
@@ -18,7 +18,7 @@ use Rattle.obligations.specs.LinearForms.{zeros, fact_of}
 use Rattle.obligations.specs.Settling.{settled, outcome}
 use Rattle.certificate_check.specs.Sums.{sum_pairs, all_pairs, divided}
 use Rattle.obligations.specs.Settling.{added}
-use Rattle.certificate_check.specs.Refutation.{fails, opens, made_by, made_sum, made_round, made, at_level}
+use Rattle.certificate_check.specs.Refutation.{fails, opens, made_by, made_sum, made_round, made, allowing}
 use Rattle.search_tree.specs.declared.plain_tree.Trail.{Trail}
 use Rattle.search_tree.specs.declared.plain_tree.Ended.{Ended}
 use Rattle.linear_prover.specs.Chains.{nulls, total_pairs, Closes, is_plain_node}
@@ -27,7 +27,7 @@ use Rattle.std.proofs.lemmas.List.Folds.{list_all-append}
 use Rattle.obligations.specs.Certificates.{units}
 use Rattle.search_tree.specs.Left.{left_by, left_after, left}
 use Rattle.obligations.specs.Plain.{first_cut, middle, with_high, with_low, leaf_units}
-use Rattle.search_tree.specs.Searching.{IsOpen, level_of, Ends, Tried}
+use Rattle.search_tree.specs.Searching.{IsOpen, levels_of, Ends, Tried}
 
 take-whole : {A : Type 0} (xs ys : List A) (n : ℕ) → n ≡ length xs → take n (xs ++ ys) ≡ xs
 take-whole [] ys n e = ap (λ k. take k ys) e
@@ -115,12 +115,12 @@ low-is rs half new n r item k p q e i = p ∙ ap (λ z. slice_set z n item) q �
 pub ruleset half_laws = (set-high, set-low, past-high, past-low)
 
 -- Levels.
-pub made-level : (vs : List Variable) (level : ℕ) (b : Branch) (n : Node) → level ≤ 1024 → made vs (at_level level b)
+pub made-level : (vs : List Variable) (levels : ℕ) (b : Branch) (n : Node) → 0 < levels → made vs (allowing levels b)
     n ≡ made_by vs b n
-made-level vs level b n h = ap (λ t. cond t (made_by vs b n) (fails Code.CertTooDeep)) (le-true level 1024 h)
+made-level vs levels b n h = ap (λ t. cond t (made_by vs b n) (fails Code.CertTooDeep)) (some levels h)
   where
-    le-true : (a b : ℕ) → a ≤ b → nat_le a b ≡ true
-    le-true a b h = grind arith
+    some : (a : ℕ) → 0 < a → nat_lt 0 a ≡ true
+    some a h = grind arith
 
 -- the sum of nothing, by variables and by their number
 nulls-are : (vs : List Variable) → zeros vs ≡ nulls (length vs)
@@ -132,21 +132,23 @@ pub same-total : (vs : List Variable) (facts : List Fact) (ps : List (ℤ × ℕ
 same-total vs facts ps = ap (λ zs. sum_pairs facts (Ok (record { factors = zs; constant = pos 0 })) ps) (nulls-are vs)
 
 -- a chain closes its branch
-pub chain-closes : (vs : List Variable) (ns : List Node) (level : ℕ) (b : Branch) (ps : List OpenBranch) → Closes
-    (length vs) b.facts ns → level + length ns ≤ 1025 →
-    left vs (Some (at_level level b ∷ ps)) ns ≡ Some ps
-chain-closes vs [] level b ps c h = absurd c
-chain-closes vs (Node.Case k ∷ ns) level b ps c h = absurd c
-chain-closes vs (Node.Split v k ∷ ns) level b ps c h = absurd c
-chain-closes vs (Node.Sum qs ∷ []) level b ps c h = ap (left_by level ps)
-    (made-level vs level b (Node.Sum qs) (omega arith) ∙ ap made_sum (same-total vs b.facts qs) ∙ c)
-chain-closes vs (Node.Sum qs ∷ n ∷ ns) level b ps c h = absurd c
-chain-closes vs (Node.Round d qs ∷ ns) level b ps c h =
+pub chain-closes : (vs : List Variable) (ns : List Node) (levels : ℕ) (b : Branch) (ps : List OpenBranch) → Closes
+    (length vs) b.facts ns → length ns ≤ levels →
+    left vs (Some (allowing levels b ∷ ps)) ns ≡ Some ps
+chain-closes vs [] levels b ps c h = absurd c
+chain-closes vs (Node.Case k ∷ ns) levels b ps c h = absurd c
+chain-closes vs (Node.Split v k ∷ ns) levels b ps c h = absurd c
+chain-closes vs (Node.Quot k ∷ ns) levels b ps c h = absurd c
+chain-closes vs (Node.Share z qs ∷ ns) levels b ps c h = absurd c
+chain-closes vs (Node.Sum qs ∷ []) levels b ps c h = ap (left_by levels ps)
+    (made-level vs levels b (Node.Sum qs) (omega arith) ∙ ap made_sum (same-total vs b.facts qs) ∙ c)
+chain-closes vs (Node.Sum qs ∷ n ∷ ns) levels b ps c h = absurd c
+chain-closes vs (Node.Round d qs ∷ ns) levels b ps c h =
     let l = c.0 in
-    let m : made vs (at_level level b) (Node.Round d qs) ≡ opens (added b (fact_of (divided d l)) ∷ []) =
-    made-level vs level b (Node.Round d qs) (omega arith) ∙ ap (made_round b d) (same-total vs b.facts qs ∙ c.1)
+    let m : made vs (allowing levels b) (Node.Round d qs) ≡ opens (added b (fact_of (divided d l)) ∷ []) =
+    made-level vs levels b (Node.Round d qs) (omega arith) ∙ ap (made_round b d) (same-total vs b.facts qs ∙ c.1)
     ∙ ap (λ t. cond t (opens (added b (fact_of (divided d l)) ∷ [])) (fails Code.NotDivisible)) c.2 in
-    ap (λ x. left vs (left_by level ps x) ns) m ∙ chain-closes vs ns (suc level) (added b (fact_of (divided d l))) ps
+    ap (λ x. left vs (left_by levels ps x) ns) m ∙ chain-closes vs ns (levels - 1) (added b (fact_of (divided d l))) ps
     c.3 (omega arith)
 
 -- a chain that was added, or not, ends a branch
@@ -160,7 +162,7 @@ finished-ends vs k leaves b old new Ended.Closed h one t =
     record {
       closes = λ first ps s. ap (left vs (Some first)) f.0 ∙ left-append vs (Some first) old.nodes t.nodes ∙ ap
           (λ r. left vs r t.nodes) s
-          ∙ chain-closes vs t.nodes (level_of k) b ps t.closes (omega arith);
+          ∙ chain-closes vs t.nodes (levels_of k) b ps t.closes (omega arith);
       plain = λ h. ap (list_all is_plain_node) f.0 ∙ list_all-append is_plain_node old.nodes t.nodes ∙ ap
           (λ b. b && list_all is_plain_node t.nodes) h ∙ t.plain;
       cost = omega (arith, u, cheap, more);

@@ -14,7 +14,7 @@ use Rattle.obligations.specs.Settling.{branch_holds, form_at}
 use Rattle.obligations.specs.Load.{is_light_branch, form_load}
 use Rattle.obligations.specs.Obligations.{is_sound_range}
 use Rattle.obligations.specs.Opening.{in_ranges, first_branch}
-use Rattle.certificate_check.specs.Refutation.{at_level, walk_from_root, WalkResult}
+use Rattle.certificate_check.specs.Refutation.{allowing, walk_from_root, WalkResult}
 use Rattle.obligations.specs.Opening.{at_most, at_least}
 use Rattle.search_tree.specs.declared.plain_tree.Trail.{Trail}
 use Rattle.search_tree.specs.declared.plain_tree.Ended.{Ended}
@@ -64,12 +64,13 @@ IsOpen None = ⊥
 IsOpen (Some []) = ⊥
 IsOpen (Some (p ∷ ps)) = Unit {0}
 
-abbrev pub level_of : ℕ → ℕ
-level_of k = 961 - k
+-- how many levels are left where so many are for the plain tree: a closing chain may have 64
+abbrev pub levels_of : ℕ → ℕ
+levels_of k = 64 + k
 
 -- The nodes after `old` close a branch with k levels left, within its leaves' units.
 pub record Closed (vs : List Variable) (k leaves : ℕ) (b : Branch) (old new : Trail) : Type 0 where
-  pub closes : (first ps : List OpenBranch) → left vs (Some first) old.nodes ≡ Some (at_level (level_of k) b ∷ ps) →
+  pub closes : (first ps : List OpenBranch) → left vs (Some first) old.nodes ≡ Some (allowing (levels_of k) b ∷ ps) →
       left
       vs (Some first) new.nodes ≡ Some ps
   pub plain : list_all is_plain_node old.nodes ≡ true → list_all is_plain_node new.nodes ≡ true
@@ -79,7 +80,7 @@ pub record Closed (vs : List Variable) (k leaves : ℕ) (b : Branch) (old new : 
 -- The budget ended inside a branch: something is left, a leaf's units are not there any more, and the leaves' units
 -- were not there before.
 pub record BudgetEnded (vs : List Variable) (k leaves : ℕ) (b : Branch) (old new : Trail) : Type 0 where
-  pub opened : (first ps : List OpenBranch) → left vs (Some first) old.nodes ≡ Some (at_level (level_of k) b ∷ ps) →
+  pub opened : (first ps : List OpenBranch) → left vs (Some first) old.nodes ≡ Some (allowing (levels_of k) b ∷ ps) →
       IsOpen (left vs (Some first) new.nodes)
   pub short : old.spare + 1 < leaves * leaf_units vs
   pub last : new.spare + 1 < leaf_units vs
@@ -128,11 +129,11 @@ IsUnfinished (Err e) = ⊥
 
 -- the branch that is to be refuted at first
 abbrev pub root : Obligation → List OpenBranch
-root o = at_level 1 (first_branch o) ∷ []
+root o = allowing 1024 (first_branch o) ∷ []
 
 pub record Proof (o : Obligation) (budget : ℕ) (nodes : List Node) : Type 0 where
   pub whole : is_whole nodes 1 ≡ true
-  pub walked : walk_from_root o nodes ≡ Ok []
+  pub walked : walk_from_root 1024 o nodes ≡ Ok []
   pub plain : list_all is_plain_node nodes ≡ true
   pub within : units nodes ≤ budget
   pub cheap : units nodes ≤ enough o
@@ -146,7 +147,7 @@ pub record Counterexample (o : Obligation) (values : List ℤ) : Type 0 where
 pub record Partial (o : Obligation) (budget : ℕ) (nodes : List Node) : Type 0 where
   pub small : budget < enough o
   pub needs : budget < need_of o
-  pub opened : IsUnfinished (walk_from_root o nodes)
+  pub opened : IsUnfinished (walk_from_root 1024 o nodes)
   pub within : units nodes ≤ budget
   pub full : budget < units nodes + (length o.variables + 255)
 

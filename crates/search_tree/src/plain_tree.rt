@@ -57,6 +57,8 @@ fn after_node(node: &Node, spare: u64) -> Option<u64>
         Node::Split(_, _) => 0,
         Node::Sum(pairs) => pairs.len(),
         Node::Round(_, pairs) => pairs.len(),
+        Node::Quot(_) => 0,
+        Node::Share(_, pairs) => pairs.len(),
     };
     if spare <= pairs as u64 {
         None

@@ -1,29 +1,32 @@
-// Trees of 1,024 levels and of 1,025: a call that took too much stack would end the test; that it
-// answers rightly is proved. And facts for which a chain is found, or none is.
+// Trees of as many levels as are allowed and of one more: a call that took too much stack would end the test; that
+// it answers rightly is proved. And facts for which a chain is found, or none is.
 use super::*;
 use case_tables::Code;
 use certificate_check::{CertError, check_cert};
 use std::test::Fail;
 
-fn checked(alloc: Global, levels: u32) -> Result<(), CertError> {
+fn checked(alloc: Global, levels: u32, allowed: u32) -> Result<(), CertError> {
     let o = at_least_zero(alloc).map_err(|_| CertError::Memory)?;
     let c = deep_cert(alloc, levels).map_err(|_| CertError::Memory)?;
-    check_cert(alloc, &o, &c)
+    check_cert(alloc, &o, &c, allowed)
 }
 
 #[test]
 fn takes_the_deepest_tree(rt: HostRuntime) -> Result<(), Fail> {
-    assert!(rt; checked(rt.alloc(), 1024).is_ok());
+    assert!(rt; checked(rt.alloc(), 1024, 1024).is_ok());
+    assert!(rt; checked(rt.alloc(), 4096, 4096).is_ok());
     Ok(())
 }
 
 #[test]
 fn refuses_a_deeper_tree(rt: HostRuntime) -> Result<(), Fail> {
-    let fault = CertError::Fault {
-        code: Code::CertTooDeep,
-        node: 1024,
-    };
-    assert!(rt; checked(rt.alloc(), 1025) == Err(fault));
+    for allowed in [1024, 4096] {
+        let fault = CertError::Fault {
+            code: Code::CertTooDeep,
+            node: u64::from(allowed),
+        };
+        assert!(rt; checked(rt.alloc(), allowed + 1, allowed) == Err(fault));
+    }
     Ok(())
 }
 
@@ -34,7 +37,7 @@ fn closing(alloc: Global, greatest: i32, rows: &[Row]) -> Result<Option<usize>, 
     match chain_of(alloc, facts.as_slice()).map_err(|_| CertError::Memory)? {
         Some(cert) => {
             let o = unmet(alloc, greatest, rows).map_err(|_| CertError::Memory)?;
-            check_cert(alloc, &o, &cert)?;
+            check_cert(alloc, &o, &cert, 1024)?;
             Ok(Some(cert.nodes.len()))
         }
         None => Ok(None),

@@ -1,5 +1,5 @@
 use Rattle.certificate_check.proofs.RefutationLaws.{walk-appends, keeps, sound}
-use Rattle.certificate_check.proofs.WholeLaws.{walk-is-tree}
+use Rattle.certificate_check.proofs.WholeLaws.{walk-is-tree, more-levels}
 use Rattle.certificate_check.proofs.laws.certificate_laws.Goals as goal
 
 pub returns-clause-appends : goal.returns-clause-appends
@@ -13,3 +13,6 @@ returns-clause-sound c = sound
 
 pub returns-clause-tree : goal.returns-clause-tree
 returns-clause-tree c = walk-is-tree
+
+pub returns-clause-more : goal.returns-clause-more
+returns-clause-more c = more-levels

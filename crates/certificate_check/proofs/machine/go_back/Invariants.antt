@@ -1,11 +1,11 @@
-use Rattle.std.proofs.Common.{◌≡◌, ◌≤◌, reverse, length, false}
+use Rattle.std.proofs.Common.{◌≡◌, reverse, length, false}
 use Rattle.certificate_check.specs.Machines.{FramesFit, rest_of, IsLightMachine}
 use Rattle.certificate_check.proofs.machine.go_back.Given as goal
 
 abbrev pub invariant-frames : goal.invariant-frames
 invariant-frames l =
     FramesFit (reverse l.machine.frames) l.machine.branch × (rest_of l.vs l.machine ≡ rest_of l.fn.vs l.fn.machine)
-    × (l.machine.done ≡ false) × (l.machine.level ≤ 1025) × IsLightMachine l.machine
+    × (l.machine.done ≡ false) × IsLightMachine l.machine
 
 abbrev pub decreases-frames : goal.decreases-frames
 decreases-frames l = length l.machine.frames

@@ -1,7 +1,7 @@
-use Rattle.std.proofs.Common.{◌∙◌, ap, cond, sym, Ok, arith, ◌∷◌, [], ◌+◌, ◌^◌, reverse}
+use Rattle.std.proofs.Common.{◌∙◌, ap, cond, sym, Ok, arith, ◌∷◌, [], ◌-◌, ◌^◌, reverse}
 use Rattle.obligations.specs.Load.{is_light}
 use Rattle.obligations.specs.Settling.{settled, sides}
-use Rattle.certificate_check.specs.Refutation.{at_level}
+use Rattle.certificate_check.specs.Refutation.{allowing}
 use Rattle.certificate_check.specs.Machines.{behind}
 use Rattle.certificate_check.proofs.MachineLaws.{case-goes, light-bound, get-all, without-light, pushed-light}
 use Rattle.certificate_check.proofs.machine.open_case.Goals as goal
@@ -26,14 +26,14 @@ returns-clause-ok c =
     let now = c.in_ok-settle_first.ensures.branch
     ∙ ap (λ f. settled vs (sides f).0 (record { facts = facts; waiting = c.remove-form.new.self })) c.get.ensures
     ∙ ap (λ w. settled vs (sides form).0 (record { facts = facts; waiting = w })) c.remove-form.ensures.rest in
-    let g = case-goes vs c.args.machine.now.level c.args.machine.now.branch c.settle_first.new.branch c.args.k _
+    let g = case-goes vs c.args.machine.now.levels c.args.machine.now.branch c.settle_first.new.branch c.args.k _
     c.len-facts.result c.len-waits.result c.args.machine.now.frames c.push.new.self form
-    (grind arith) c.remove-form.ensures.item (grind arith) c.requires.level c.requires.fits.0 (grind arith)
+    (grind arith) c.remove-form.ensures.item (grind arith) c.requires.levels c.requires.fits (grind arith)
     (grind arith) c.in_ok-push.ensures.ok now in (
       g.0
-          ∙ ap (λ d. Ok (cond d [] (at_level (c.args.machine.now.level + 1) c.settle_first.new.branch
+          ∙ ap (λ d. Ok (cond d [] (allowing (c.args.machine.now.levels - 1) c.settle_first.new.branch
           ∷ behind vs (reverse c.push.new.self) c.settle_first.new.branch))) (sym c.requires.going),
-      (g.1, omega (arith, c.requires.level)),
+      g.1,
     )
 
 pub returns-clause-light : goal.returns-clause-light
