@@ -8,10 +8,15 @@ use Rattle.proof_script.specs.declared.plans.Plan.{Plan}
 use Rattle.proof_script.specs.declared.plans.StepFault.{StepFault}
 use Rattle.cli_texts.specs.Names.{kind_name, code_text}
 
--- ` KIND`, and of a leads-to its bound too, at a line's end
+-- ` KIND BOUND`, at a line's end
+abbrev pub bounded_text : Kind → ℕ → List ℕ
+bounded_text kind bound = codes " " ++ (kind_name kind ++ (codes " " ++ (decimal bound ++ 10 ∷ [])))
+
+-- ` KIND`, and its bound too where it leads to something, at a line's end
 abbrev pub kind_text : Kind → ℕ → List ℕ
-kind_text Kind.Leadsto bound =
-    codes " " ++ (kind_name Kind.Leadsto ++ (codes " " ++ (decimal bound ++ 10 ∷ [])))
+kind_text Kind.Leadsto bound = bounded_text Kind.Leadsto bound
+kind_text Kind.Until bound = bounded_text Kind.Until bound
+kind_text Kind.Detects bound = bounded_text Kind.Detects bound
 kind_text kind bound = codes " " ++ (kind_name kind ++ 10 ∷ [])
 
 -- `PROGRAM.STEP KIND`, on a line

@@ -20,12 +20,15 @@ fn word(words: &[Seq<u8>], number: u32) -> &[u8]
     }
 }
 
-// ` KIND`, and of a leads-to its bound too.
+// ` KIND`, and its bound too where it leads to something.
 fn push_kind(alloc: Global, text: &mut Vec<u8>, kind: Kind, bound: u64) -> Result<(), AllocError>
     ensures { OnOk result (text.new.items ≡ text.old.items ++ verdict.kind_text kind bound) }
 {
     let line = match kind {
-        Kind::Leadsto => format!(in alloc; " {} {bound}\n", kind.name())?,
+        Kind::Leadsto | Kind::Until | Kind::Detects => format!(in alloc;
+            " {} {bound}\n",
+            kind.name()
+        )?,
         _ => format!(in alloc; " {}\n", kind.name())?,
     };
     text.extend_from_slice(line.as_bytes())

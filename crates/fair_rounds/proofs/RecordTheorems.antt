@@ -1,9 +1,9 @@
 -- Records that are kept have their properties.
 use Rattle.std.proofs.Common.{ℤ, List, subst}
 use Rattle.case_tables.specs.declared.kind_table.Kind.{Kind}
-use Rattle.meaning_documents.specs.Properties.{IsAlwaysDefined, IsInvariant}
+use Rattle.meaning_documents.specs.Properties.{implied, IsAlwaysDefined, IsInvariant}
 use Rattle.meaning_laws.proofs.StandingTheorems.{defined_holds, invariant_holds, unless_holds, ensures_holds}
-use Rattle.meaning_laws.proofs.StandingTheorems.{leads_holds}
+use Rattle.meaning_laws.proofs.StandingTheorems.{leads_holds, fixed_holds, constant_holds}
 use Rattle.core_terms.specs.declared.programs.CSlot.{CSlot}
 use Rattle.core_terms.specs.declared.programs.CProgram.{CProgram}
 use Rattle.fair_rounds.specs.declared.records.Record.{Record}
@@ -33,6 +33,19 @@ holds_kind slots c r always under e Kind.Ensures h =
     h.ensured
 holds_kind slots c r always under e Kind.Leadsto h =
     leads_holds (core_system slots c) (meets slots r.under) (holding e r.p) (holding e r.q) r.bound under h
+holds_kind slots c r always under e Kind.Until h = record {
+  unless = unless_holds (core_system slots c) (meets slots r.under) (holding e r.p) (holding e r.q) under h.0;
+  leads = leads_holds (core_system slots c) (meets slots r.under) (holding e r.p) (holding e r.q) r.bound under h.1;
+}
+holds_kind slots c r always under e Kind.Detects h = record {
+  always = invariant_holds (core_system slots c) (meets slots r.under) (implied (holding e r.p) (holding e r.q)) under
+      h.0;
+  leads = leads_holds (core_system slots c) (meets slots r.under) (holding e r.q) (holding e r.p) r.bound under h.1;
+}
+holds_kind slots c r always under e Kind.Constant h =
+    constant_holds (core_system slots c) (meets slots r.under) (holding e r.p) under h
+holds_kind slots c r always under e Kind.Fixed h =
+    fixed_holds (core_system slots c) (meets slots r.under) (holding e r.p) under h
 
 pub kept_holds : KeptHolds
 kept_holds slots c r always kept e inside = holds_kind slots c r always kept.under e r.kind (kept.stands e inside)

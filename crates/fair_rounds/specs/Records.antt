@@ -5,8 +5,10 @@ use Rattle.std.specs.List.{list_all}
 use Rattle.case_tables.specs.declared.kind_table.Kind.{Kind}
 use Rattle.meaning_states.specs.State.{int_eq, is_state, in_range}
 use Rattle.meaning_documents.specs.Execution.{System}
-use Rattle.meaning_documents.specs.Properties.{Test, IsAlwaysDefined, IsInvariant, Unless, Ensures, LeadsTo}
-use Rattle.meaning_laws.specs.Stands.{DefinedStands, InvariantStands, UnlessStands, EnsuresStands, LeadsStands}
+use Rattle.meaning_documents.specs.Properties.{Test, implied, IsAlwaysDefined, IsInvariant, Unless, Ensures, LeadsTo}
+use Rattle.meaning_documents.specs.Properties.{Until, Detects, Constant, Fixed}
+use Rattle.meaning_laws.specs.Stands.{DefinedStands, FixedStands, InvariantStands, UnlessStands, ConstantStands}
+use Rattle.meaning_laws.specs.Stands.{EnsuresStands, LeadsStands}
 use Rattle.core_terms.specs.declared.trees.Range.{Range}
 use Rattle.core_terms.specs.declared.trees.CForm.{CForm}
 use Rattle.core_terms.specs.declared.programs.CStmt.{CStmt}
@@ -64,7 +66,7 @@ pub record EnsuresNamed (slots : List CSlot) (c : CProgram) (u p q : Test) (e : 
   pub named : NamedAt c h e choice
 
 -- what a record of a kind says of single steps, for these numbers of the parameters: from each state that meets
--- `under` to such a state. For a leads-to, what it says of the executions whose states all do
+-- `under` to such a state. Where it leads to something, what it says of the executions whose states all do
 abbrev pub KindStands : Kind → List CSlot → CProgram → Record → List ℤ → Type 0
 KindStands Kind.Defined slots c r e = DefinedStands (core_system slots c) (meets slots r.under)
 KindStands Kind.Invariant slots c r e = InvariantStands (core_system slots c) (meets slots r.under) (holding e r.p)
@@ -74,6 +76,14 @@ KindStands Kind.Ensures slots c r e =
     EnsuresNamed slots c (meets slots r.under) (holding e r.p) (holding e r.q) e r.helper
 KindStands Kind.Leadsto slots c r e =
     LeadsStands (core_system slots c) (meets slots r.under) (holding e r.p) (holding e r.q) r.bound
+KindStands Kind.Until slots c r e =
+    UnlessStands (core_system slots c) (meets slots r.under) (holding e r.p) (holding e r.q)
+    × LeadsStands (core_system slots c) (meets slots r.under) (holding e r.p) (holding e r.q) r.bound
+KindStands Kind.Detects slots c r e =
+    InvariantStands (core_system slots c) (meets slots r.under) (implied (holding e r.p) (holding e r.q))
+    × LeadsStands (core_system slots c) (meets slots r.under) (holding e r.q) (holding e r.p) r.bound
+KindStands Kind.Constant slots c r e = ConstantStands (core_system slots c) (meets slots r.under) (holding e r.p)
+KindStands Kind.Fixed slots c r e = FixedStands (core_system slots c) (meets slots r.under) (holding e r.p)
 
 -- a record stands
 abbrev pub Stands : List CSlot → CProgram → Record → Type 0
@@ -86,6 +96,10 @@ KindHolds Kind.Invariant slots c r e = IsInvariant (core_system slots c) (holdin
 KindHolds Kind.Unless slots c r e = Unless (core_system slots c) (holding e r.p) (holding e r.q)
 KindHolds Kind.Ensures slots c r e = Ensures (core_system slots c) (holding e r.p) (holding e r.q)
 KindHolds Kind.Leadsto slots c r e = LeadsTo (core_system slots c) (holding e r.p) (holding e r.q) r.bound
+KindHolds Kind.Until slots c r e = Until (core_system slots c) (holding e r.p) (holding e r.q) r.bound
+KindHolds Kind.Detects slots c r e = Detects (core_system slots c) (holding e r.p) (holding e r.q) r.bound
+KindHolds Kind.Constant slots c r e = Constant (core_system slots c) (holding e r.p)
+KindHolds Kind.Fixed slots c r e = Fixed (core_system slots c) (holding e r.p)
 
 -- a record's property holds
 abbrev pub Holds : List CSlot → CProgram → Record → Type 0

@@ -12,13 +12,13 @@ pub struct Record {
     pub kind: Kind,
     /// `Top` for `defined`.
     pub p: CForm,
-    /// `Top` for `defined`, and `Bottom` for `invariant`.
+    /// `Top` for `defined`, and `Bottom` for `invariant`, `stable`, `constant` and `fixed`.
     pub q: CForm,
     /// What is assumed to hold at every state; these formulas name no parameter.
     pub under: Seq<CForm>,
     /// The range of each parameter, by number.
     pub params: Seq<Range>,
-    /// The rounds of a leads-to, and 0 for the other kinds.
+    /// The rounds of a kind that leads to something, and 0 for the others.
     pub bound: u64,
     /// The statement that helps, of an ensures alone.
     pub helper: Option<Helper>,

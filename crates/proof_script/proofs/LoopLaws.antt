@@ -11,13 +11,13 @@ use Rattle.core_terms.specs.declared.programs.CProgram.{CProgram}
 use Rattle.core_terms.specs.declared.documents.CStep.{CStep}
 use Rattle.core_terms.specs.declared.documents.CProof.{CProof}
 use Rattle.core_terms.specs.declared.documents.CDocument.{CDocument}
-use Rattle.core_terms.specs.Conditions.{IsProgram}
+use Rattle.core_terms.specs.Conditions.{IsProgram, IsProof, IsCoreDocument}
 use Rattle.obligations.specs.declared.branches.Obligation.{Obligation}
 use Rattle.obligations.specs.declared.certificates.Cert.{Cert}
 use Rattle.rules_table.specs.Conclusion.{Conclusion}
 use Rattle.rules_table.proofs.EachLaws.{from_all, each_at, found_in}
 use Rattle.rules_table.specs.Table.{needs}
-use Rattle.rules_table.specs.Walk.{has_defined, program_of, rule_of}
+use Rattle.rules_table.specs.Walk.{Around, has_defined, program_of, rule_of}
 use Rattle.safety_rules.specs.declared.places.Derived.{Derived}
 use Rattle.safety_rules.specs.Answers.{derived_of}
 use Rattle.rules_steps.proofs.ItemLaws.{drop_at, drop_end}
@@ -25,8 +25,10 @@ use Rattle.proof_script.specs.declared.plans.Plan.{Plan}
 use Rattle.proof_script.specs.declared.plans.StepFault.{StepFault}
 use Rattle.proof_script.specs.declared.plans.ScriptError.{ScriptError}
 use Rattle.proof_script.specs.Giving.{PlanGoes, Passes}
-use Rattle.proof_script.specs.Verdicts.{then_by, refuted_by, or_refutation_fault, failing, grown, taken, step_verdict}
-use Rattle.rules_steps.specs.Starts.{starts_in}
+use Rattle.proof_script.specs.Verdicts.{then_by, most_levels, refuted_by, or_refutation_fault, failing, grown, taken}
+use Rattle.proof_script.specs.Verdicts.{step_verdict}
+use Rattle.rules_steps.specs.declared.around.Around.{Around as SeenBy}
+use Rattle.rules_steps.specs.Starts.{document_seen, seen_of}
 use Rattle.proof_script.specs.Verdicts.{steps_verdict, proof_verdict, proofs_verdict, or_rule_fault}
 use Rattle.proof_script.specs.Verdicts.{end_verdict}
 use Rattle.proof_script.specs.Verdicts.{surplus_fault, last_verdict, no_plan, verdict_of}
@@ -48,60 +50,60 @@ pub stopped : {A B : Type 0} (r : Result A StepFault) (fault : StepFault) (f : A
     r ≡ Err fault → then_by r f ≡ Err fault
 stopped r fault f e = ap (λ y. then_by y f) e
 
-module _ (slots : List CSlot) (certs : List Cert) (c : CProgram) where
+module _ (seen : Around) (certs : List Cert) (c : CProgram) where
   pub steps_at : (steps : List CStep) (i : ℕ) (s : CStep) (plan : Plan) → i < length steps →
       s ≡ slice_index_or steps i s →
-      steps_verdict slots certs c (drop i steps) plan ≡
-      then_by (step_verdict slots certs c s plan) (steps_verdict slots certs c (drop (i + 1) steps))
+      steps_verdict seen certs c (drop i steps) plan ≡
+      then_by (step_verdict seen certs c s plan) (steps_verdict seen certs c (drop (i + 1) steps))
   steps_at steps i s plan h e =
-      ap (λ (ss : List CStep). steps_verdict slots certs c ss plan) (drop_at steps i s h e)
-      ∙ steps-more slots certs c s (drop (i + 1) steps) plan
+      ap (λ (ss : List CStep). steps_verdict seen certs c ss plan) (drop_at steps i s h e)
+      ∙ steps-more seen certs c s (drop (i + 1) steps) plan
 
   pub steps_end : (steps : List CStep) (i : ℕ) (plan : Plan) → length steps ≤ i →
-      steps_verdict slots certs c (drop i steps) plan ≡ Ok plan
+      steps_verdict seen certs c (drop i steps) plan ≡ Ok plan
   steps_end steps i plan h =
-      ap (λ (ss : List CStep). steps_verdict slots certs c ss plan) (drop_end steps i h)
-      ∙ steps-none slots certs c plan
+      ap (λ (ss : List CStep). steps_verdict seen certs c ss plan) (drop_end steps i h)
+      ∙ steps-none seen certs c plan
 
-module _ (slots : List CSlot) (certs : List Cert) (programs : List CProgram) where
+module _ (seen : Around) (certs : List Cert) where
   pub proofs_at : (proofs : List CProof) (i : ℕ) (p : CProof) (plan : Plan) → i < length proofs →
       p ≡ slice_index_or proofs i p →
-      proofs_verdict slots certs programs (drop i proofs) plan ≡
-      then_by (proof_verdict slots certs (program_of programs p.program) p plan)
-      (proofs_verdict slots certs programs (drop (i + 1) proofs))
+      proofs_verdict seen certs (drop i proofs) plan ≡
+      then_by (proof_verdict seen certs (program_of seen.programs p.program) p plan)
+      (proofs_verdict seen certs (drop (i + 1) proofs))
   proofs_at proofs i p plan h e =
-      ap (λ (ps : List CProof). proofs_verdict slots certs programs ps plan) (drop_at proofs i p h e)
-      ∙ proofs-more slots certs programs p (drop (i + 1) proofs) plan
+      ap (λ (ps : List CProof). proofs_verdict seen certs ps plan) (drop_at proofs i p h e)
+      ∙ proofs-more seen certs p (drop (i + 1) proofs) plan
 
   pub proofs_end : (proofs : List CProof) (i : ℕ) (plan : Plan) → length proofs ≤ i →
-      proofs_verdict slots certs programs (drop i proofs) plan ≡ Ok plan
+      proofs_verdict seen certs (drop i proofs) plan ≡ Ok plan
   proofs_end proofs i plan h =
-      ap (λ (ps : List CProof). proofs_verdict slots certs programs ps plan) (drop_end proofs i h)
-      ∙ proofs-none slots certs programs plan
+      ap (λ (ps : List CProof). proofs_verdict seen certs ps plan) (drop_end proofs i h)
+      ∙ proofs-none seen certs plan
 
-module _ (certs : List Cert) (program step : ℕ) where
+module _ (levels : ℕ) (certs : List Cert) (program step : ℕ) where
   pub refuted_at : (os : List Obligation) (i : ℕ) (o : Obligation) (number : ℕ) → i < length os →
       o ≡ slice_index_or os i o →
-      refuted_by certs program step number (drop i os) ≡
-      then_by (or_refutation_fault program step number (failing o (slice_get certs number))) (λ done.
-      refuted_by certs program step (suc number) (drop (i + 1) os))
+      refuted_by levels certs program step number (drop i os) ≡
+      then_by (or_refutation_fault program step number (failing levels o (slice_get certs number))) (λ done.
+      refuted_by levels certs program step (suc number) (drop (i + 1) os))
   refuted_at os i o number h e =
-      ap (λ (rest : List Obligation). refuted_by certs program step number rest) (drop_at os i o h e)
-      ∙ refuted-more certs program step number o (drop (i + 1) os)
+      ap (λ (rest : List Obligation). refuted_by levels certs program step number rest) (drop_at os i o h e)
+      ∙ refuted-more levels certs program step number o (drop (i + 1) os)
 
   pub refuted_end : (os : List Obligation) (i : ℕ) (number : ℕ) → length os ≤ i →
-      refuted_by certs program step number (drop i os) ≡ Ok tt
+      refuted_by levels certs program step number (drop i os) ≡ Ok tt
   refuted_end os i number h =
-      ap (λ (rest : List Obligation). refuted_by certs program step number rest) (drop_end os i h)
-      ∙ refuted-none certs program step number
+      ap (λ (rest : List Obligation). refuted_by levels certs program step number rest) (drop_end os i h)
+      ∙ refuted-none levels certs program step number
 
 -- how many records there are
 
-pub taken_grows : (certs : List Cert) (program step : ℕ) (plan : Plan) (d : Derived) (new : Plan) →
-    taken certs program step plan d ≡ Ok new → length new.records ≡ length plan.records + 1
-taken_grows certs program step plan d new e =
-    let parts = then_so (refuted_by certs program step (length plan.obligations) d.obligations)
-    (λ (done : Unit {0}). Ok (grown plan d)) new (sym (taken-is certs program step plan d) ∙ e) in
+pub taken_grows : (levels : ℕ) (certs : List Cert) (program step : ℕ) (plan : Plan) (d : Derived) (new : Plan) →
+    taken levels certs program step plan d ≡ Ok new → length new.records ≡ length plan.records + 1
+taken_grows levels certs program step plan d new e =
+    let parts = then_so (refuted_by levels certs program step (length plan.obligations) d.obligations)
+    (λ (done : Unit {0}). Ok (grown plan d)) new (sym (taken-is levels certs program step plan d) ∙ e) in
     let same : grown plan d ≡ new = cc (parts.2) in
     sym (ap (λ (p : Plan). length p.records) same) ∙ one_more plan.records d.made
   where
@@ -109,24 +111,24 @@ taken_grows certs program step plan d new e =
     one_more [] x = refl
     one_more (y ∷ xs) x = let e = one_more xs x in omega (arith, e)
 
-pub step_grows : (slots : List CSlot) (certs : List Cert) (c : CProgram) (s : CStep) (plan new : Plan) →
-    step_verdict slots certs c s plan ≡ Ok new → length new.records ≡ length plan.records + 1
-step_grows slots certs c s plan new e =
-    let parts = then_so (or_rule_fault c.name (Some s.name) (rule_of slots (starts_in slots) c s plan.records))
-    (λ (x : Conclusion). taken certs c.name s.name plan (derived_of slots x)) new
-    (sym (step-is slots certs c s plan) ∙ e) in
-    taken_grows certs c.name s.name plan (derived_of slots parts.0) new parts.2
+pub step_grows : (seen : Around) (certs : List Cert) (c : CProgram) (s : CStep) (plan new : Plan) →
+    step_verdict seen certs c s plan ≡ Ok new → length new.records ≡ length plan.records + 1
+step_grows seen certs c s plan new e =
+    let parts = then_so (or_rule_fault c.name (Some s.name) (rule_of seen c s plan.records))
+    (λ (x : Conclusion). taken (most_levels seen.version) certs c.name s.name plan (derived_of seen.slots x)) new
+    (sym (step-is seen certs c s plan) ∙ e) in
+    taken_grows (most_levels seen.version) certs c.name s.name plan (derived_of seen.slots parts.0) new parts.2
 
-pub steps_grow : (slots : List CSlot) (certs : List Cert) (c : CProgram) (steps : List CStep) (plan new : Plan) →
-    steps_verdict slots certs c steps plan ≡ Ok new → length new.records ≡ length plan.records + length steps
-steps_grow slots certs c [] plan new e =
-    let same : plan ≡ new = cc (sym (steps-none slots certs c plan) ∙ e) in
+pub steps_grow : (seen : Around) (certs : List Cert) (c : CProgram) (steps : List CStep) (plan new : Plan) →
+    steps_verdict seen certs c steps plan ≡ Ok new → length new.records ≡ length plan.records + length steps
+steps_grow seen certs c [] plan new e =
+    let same : plan ≡ new = cc (sym (steps-none seen certs c plan) ∙ e) in
     let count = ap (λ (p : Plan). length p.records) (sym same) in omega (arith, count)
-steps_grow slots certs c (s ∷ rest) plan new e =
-    let parts = then_so (step_verdict slots certs c s plan) (steps_verdict slots certs c rest) new
-    (sym (steps-more slots certs c s rest plan) ∙ e) in
-    let one = step_grows slots certs c s plan parts.0 parts.1 in
-    let more = steps_grow slots certs c rest parts.0 new parts.2 in
+steps_grow seen certs c (s ∷ rest) plan new e =
+    let parts = then_so (step_verdict seen certs c s plan) (steps_verdict seen certs c rest) new
+    (sym (steps-more seen certs c s rest plan) ∙ e) in
+    let one = step_grows seen certs c s plan parts.0 parts.1 in
+    let more = steps_grow seen certs c rest parts.0 new parts.2 in
     omega (arith, one, more)
 
 -- the numbers of a list, one by one
@@ -170,28 +172,30 @@ rule_passed program step (Ok y) x e = let same : y ≡ x = cc in ap (λ z. Ok z)
 rule_passed program step (Err code) x e = cc
 
 -- a proof adds no more records than it has steps
-pub proof_grows : (slots : List CSlot) (certs : List Cert) (found : Option CProgram) (proof : CProof)
-    (plan new : Plan) → proof_verdict slots certs found proof plan ≡ Ok new →
+pub proof_grows : (seen : Around) (certs : List Cert) (found : Option CProgram) (proof : CProof)
+    (plan new : Plan) → proof_verdict seen certs found proof plan ≡ Ok new →
     length new.records ≤ length plan.records + length proof.steps
-proof_grows slots certs None proof plan new e =
+proof_grows seen certs None proof plan new e =
     let same : plan ≡ new = cc in
     let count = ap (λ (p : Plan). length p.records) (sym same) in omega (arith, count)
-proof_grows slots certs (Some c) proof plan new e =
-    let parts = then_so (steps_verdict slots certs c proof.steps plan) (end_verdict c) new e in
-    let one = steps_grow slots certs c proof.steps plan parts.0 parts.1 in
+proof_grows seen certs (Some c) proof plan new e =
+    let parts = then_so (steps_verdict seen certs c proof.steps plan) (end_verdict c) new e in
+    let one = steps_grow seen certs c proof.steps plan parts.0 parts.1 in
     let kept = end_keeps c parts.0 new (has_defined c.name parts.0.records) parts.2 in
     let count = ap (λ (p : Plan). length p.records) (sym kept) in
     omega (arith, one, count)
 
 -- the obligations of a step, from equal parts
-pub taken_from : (certs : List Cert) (program step : ℕ) (plan : Plan) (d : Derived) (before os : List Obligation) →
-    before ≡ plan.obligations → os ≡ d.obligations → taken certs program step plan d ≡
-    then_by (refuted_by certs program step (length before) os) (λ done. Ok (grown plan d))
-taken_from certs program step plan d before os e h =
-    taken-is certs program step plan d
-    ∙ ap (λ (n : ℕ). then_by (refuted_by certs program step n d.obligations) (λ (done : Unit {0}). Ok (grown plan d)))
+pub taken_from : (levels : ℕ) (certs : List Cert) (program step : ℕ) (plan : Plan) (d : Derived)
+    (before os : List Obligation) →
+    before ≡ plan.obligations → os ≡ d.obligations → taken levels certs program step plan d ≡
+    then_by (refuted_by levels certs program step (length before) os) (λ done. Ok (grown plan d))
+taken_from levels certs program step plan d before os e h =
+    taken-is levels certs program step plan d
+    ∙ ap (λ (n : ℕ). then_by (refuted_by levels certs program step n d.obligations)
+    (λ (done : Unit {0}). Ok (grown plan d)))
     (ap (λ (xs : List Obligation). length xs) (sym e))
-    ∙ ap (λ (xs : List Obligation). then_by (refuted_by certs program step (length before) xs)
+    ∙ ap (λ (xs : List Obligation). then_by (refuted_by levels certs program step (length before) xs)
     (λ (done : Unit {0}). Ok (grown plan d))) (sym h)
 
 -- the program of a name is one of the document's
@@ -201,12 +205,19 @@ named_program slots programs name p all e =
     let f = found_in (λ (q : CProgram). nat_eq q.name name) programs p e in
     each_at (IsProgram slots) programs (from_all (IsProgram slots) programs all) f.place p f.there
 
+-- what is so of a document's proofs is so of them as its steps see it
+pub seen_proofs : (d : CDocument) (a : SeenBy) (proofs : List CProof) → IsCoreDocument d → seen_of a ≡ document_seen d →
+    proofs ≡ d.proofs → All (IsProof a.slots.now a.programs.now) proofs
+seen_proofs d a proofs good seen same =
+    subst (λ (s : Around). All (IsProof s.slots s.programs) proofs) (sym seen)
+    (subst (λ (ps : List CProof). All (IsProof d.slots d.programs) ps) (sym same) good.proofs)
+
 -- no certificate is left
 pub verdict_is : (d : CDocument) (certs : List Cert) (plan : Plan) →
-    proofs_verdict d.slots certs d.programs d.proofs no_plan ≡ Ok plan → length certs ≤ length plan.obligations →
+    proofs_verdict (document_seen d) certs d.proofs no_plan ≡ Ok plan → length certs ≤ length plan.obligations →
     verdict_of d certs ≡ Ok plan
 verdict_is d certs plan e few =
-    went (proofs_verdict d.slots certs d.programs d.proofs no_plan) plan (last_verdict certs) e
+    went (proofs_verdict (document_seen d) certs d.proofs no_plan) plan (last_verdict certs) e
     ∙ ap (λ (b : Bool). cond b (Err (surplus_fault (length plan.obligations))) (Ok plan))
     (not_less (length plan.obligations) (length certs) few)
   where

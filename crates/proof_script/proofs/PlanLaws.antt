@@ -1,5 +1,5 @@
 -- Steps by their rules alone, from one to the next, and that they are the walk along the table of rules.
-use Rattle.std.proofs.Common.{◌≡◌, Result, Ok, Err, sym, ap, ◌∙◌, refl, subst, List}
+use Rattle.std.proofs.Common.{◌≡◌, Result, Ok, Err, sym, ap, ◌∙◌, refl, List}
 use Rattle.core_terms.specs.declared.documents.CDocument.{CDocument}
 use Rattle.core_terms.specs.declared.programs.CSlot.{CSlot}
 use Rattle.rules_table.specs.Walk as walk
@@ -8,7 +8,7 @@ use Rattle.rules_steps.specs.Starts.{starts_in}
 use Rattle.proof_script.specs.declared.plans.Plan.{Plan}
 use Rattle.proof_script.specs.declared.plans.StepFault.{StepFault}
 use Rattle.proof_script.specs.declared.plans.ScriptError.{ScriptError}
-use Rattle.proof_script.specs.Laws.{ReachAgrees, plan_of}
+use Rattle.proof_script.specs.Laws.{ReachAgrees}
 use Rattle.proof_script.specs.Planning.{FailsWith, Reaches, IsPlanOf, IsFailureOf, Walks}
 use Rattle.proof_script.specs.Reaching.{Reach, Stop, reach_of}
 use Rattle.proof_script.specs.Verdicts.{rule_fault}

@@ -18,7 +18,7 @@ use Rattle.obligations.specs.declared.certificates.Cert.{Cert}
 use Rattle.fair_rounds.specs.declared.records.Record.{Record}
 use Rattle.rules_table.specs.Conclusion.{Conclusion}
 use Rattle.rules_table.specs.Table.{needs}
-use Rattle.rules_table.specs.Walk.{has_defined, program_of, rule_of}
+use Rattle.rules_table.specs.Walk.{Around, has_defined, program_of, rule_of}
 use Rattle.safety_rules.specs.declared.places.Derived.{Derived}
 use Rattle.safety_rules.specs.declared.places.RuleError.{RuleError}
 use Rattle.safety_rules.specs.Answers.{RuleAnswers, derived_of}
@@ -27,9 +27,10 @@ use Rattle.proof_script.specs.Reaching.{Stop, Reach, further, by_row, step_reach
 use Rattle.proof_script.specs.Reaching.{proofs_reach, reach_of, reached}
 use Rattle.proof_script.specs.Searches.{ShownAt, AreShown}
 use Rattle.rules_steps.specs.Using.{BookFits}
-use Rattle.rules_steps.specs.Starts.{starts_in}
+use Rattle.rules_steps.specs.Starts.{document_seen}
 use Rattle.proof_script.specs.Verdicts.{then_by, or_rule_fault, rule_fault, failing, failing_node}
-use Rattle.proof_script.specs.Verdicts.{or_refutation_fault, refuted_by, grown, taken, step_verdict, steps_verdict}
+use Rattle.proof_script.specs.Verdicts.{most_levels, or_refutation_fault, refuted_by, grown, taken, step_verdict}
+use Rattle.proof_script.specs.Verdicts.{steps_verdict}
 use Rattle.proof_script.specs.Verdicts.{end_verdict, proof_verdict, proofs_verdict, no_plan, verdict_of}
 use Rattle.proof_script.proofs.Equations.{refuted-none, refuted-more, taken-is, step-is, steps-none, steps-more}
 use Rattle.proof_script.proofs.Equations.{proofs-none, proofs-more}
@@ -40,30 +41,30 @@ use Rattle.rules_steps.proofs.StepLaws.{answered, failed, good_step}
 
 -- equations
 
-pub reach-is : (slots : List CSlot) (c : CProgram) (s : CStep) (plan : Plan) → step_reach slots c s plan ≡
-    by_row slots c.name s.name plan (rule_of slots (starts_in slots) c s plan.records)
+pub reach-is : (seen : Around) (c : CProgram) (s : CStep) (plan : Plan) → step_reach seen c s plan ≡
+    by_row seen.slots c.name s.name plan (rule_of seen c s plan.records)
 unfolding step_reach
-reach-is slots c s plan = refl
+reach-is seen c s plan = refl
 
-pub reaches-none : (slots : List CSlot) (c : CProgram) (plan : Plan) → steps_reach slots c [] plan ≡ Ok plan
+pub reaches-none : (seen : Around) (c : CProgram) (plan : Plan) → steps_reach seen c [] plan ≡ Ok plan
 unfolding steps_reach
-reaches-none slots c plan = refl
+reaches-none seen c plan = refl
 
-pub reaches-more : (slots : List CSlot) (c : CProgram) (s : CStep) (rest : List CStep) (plan : Plan) →
-    steps_reach slots c (s ∷ rest) plan ≡ further (step_reach slots c s plan) (steps_reach slots c rest)
+pub reaches-more : (seen : Around) (c : CProgram) (s : CStep) (rest : List CStep) (plan : Plan) →
+    steps_reach seen c (s ∷ rest) plan ≡ further (step_reach seen c s plan) (steps_reach seen c rest)
 unfolding steps_reach
-reaches-more slots c s rest plan = refl
+reaches-more seen c s rest plan = refl
 
-pub proofs_reach-none : (slots : List CSlot) (programs : List CProgram) (plan : Plan) →
-    proofs_reach slots programs [] plan ≡ Ok plan
+pub proofs_reach-none : (seen : Around) (plan : Plan) →
+    proofs_reach seen [] plan ≡ Ok plan
 unfolding proofs_reach
-proofs_reach-none slots programs plan = refl
+proofs_reach-none seen plan = refl
 
-pub proofs_reach-more : (slots : List CSlot) (programs : List CProgram) (proof : CProof) (rest : List CProof)
-    (plan : Plan) → proofs_reach slots programs (proof ∷ rest) plan ≡
-    further (proof_reach slots (program_of programs proof.program) proof plan) (proofs_reach slots programs rest)
+pub proofs_reach-more : (seen : Around) (proof : CProof) (rest : List CProof)
+    (plan : Plan) → proofs_reach seen (proof ∷ rest) plan ≡
+    further (proof_reach seen (program_of seen.programs proof.program) proof plan) (proofs_reach seen rest)
 unfolding proofs_reach
-proofs_reach-more slots programs proof rest plan = refl
+proofs_reach-more seen proof rest plan = refl
 
 -- a part's answer, and what follows it
 further_so : (r : Reach) (f : Plan → Reach) (new : Plan) → further r f ≡ Ok new →
@@ -82,32 +83,32 @@ reached_is r plan e = ap reached e
 
 -- the items of a list, one by one
 
-pub reach_steps_at : (slots : List CSlot) (c : CProgram) (steps : List CStep) (i : ℕ) (s : CStep) (plan : Plan) →
-    i < length steps → s ≡ slice_index_or steps i s → steps_reach slots c (drop i steps) plan ≡
-    further (step_reach slots c s plan) (steps_reach slots c (drop (i + 1) steps))
-reach_steps_at slots c steps i s plan h e =
-    ap (λ (ss : List CStep). steps_reach slots c ss plan) (drop_at steps i s h e)
-    ∙ reaches-more slots c s (drop (i + 1) steps) plan
+pub reach_steps_at : (seen : Around) (c : CProgram) (steps : List CStep) (i : ℕ) (s : CStep) (plan : Plan) →
+    i < length steps → s ≡ slice_index_or steps i s → steps_reach seen c (drop i steps) plan ≡
+    further (step_reach seen c s plan) (steps_reach seen c (drop (i + 1) steps))
+reach_steps_at seen c steps i s plan h e =
+    ap (λ (ss : List CStep). steps_reach seen c ss plan) (drop_at steps i s h e)
+    ∙ reaches-more seen c s (drop (i + 1) steps) plan
 
-pub reach_steps_end : (slots : List CSlot) (c : CProgram) (steps : List CStep) (i : ℕ) (plan : Plan) →
-    length steps ≤ i → steps_reach slots c (drop i steps) plan ≡ Ok plan
-reach_steps_end slots c steps i plan h =
-    ap (λ (ss : List CStep). steps_reach slots c ss plan) (drop_end steps i h) ∙ reaches-none slots c plan
+pub reach_steps_end : (seen : Around) (c : CProgram) (steps : List CStep) (i : ℕ) (plan : Plan) →
+    length steps ≤ i → steps_reach seen c (drop i steps) plan ≡ Ok plan
+reach_steps_end seen c steps i plan h =
+    ap (λ (ss : List CStep). steps_reach seen c ss plan) (drop_end steps i h) ∙ reaches-none seen c plan
 
-pub reach_proofs_at : (slots : List CSlot) (programs : List CProgram) (proofs : List CProof) (i : ℕ) (p : CProof)
+pub reach_proofs_at : (seen : Around) (proofs : List CProof) (i : ℕ) (p : CProof)
     (plan : Plan) → i < length proofs → p ≡ slice_index_or proofs i p →
-    proofs_reach slots programs (drop i proofs) plan ≡
-    further (proof_reach slots (program_of programs p.program) p plan)
-    (proofs_reach slots programs (drop (i + 1) proofs))
-reach_proofs_at slots programs proofs i p plan h e =
-    ap (λ (ps : List CProof). proofs_reach slots programs ps plan) (drop_at proofs i p h e)
-    ∙ proofs_reach-more slots programs p (drop (i + 1) proofs) plan
+    proofs_reach seen (drop i proofs) plan ≡
+    further (proof_reach seen (program_of seen.programs p.program) p plan)
+    (proofs_reach seen (drop (i + 1) proofs))
+reach_proofs_at seen proofs i p plan h e =
+    ap (λ (ps : List CProof). proofs_reach seen ps plan) (drop_at proofs i p h e)
+    ∙ proofs_reach-more seen p (drop (i + 1) proofs) plan
 
-pub reach_proofs_end : (slots : List CSlot) (programs : List CProgram) (proofs : List CProof) (i : ℕ) (plan : Plan) →
-    length proofs ≤ i → proofs_reach slots programs (drop i proofs) plan ≡ Ok plan
-reach_proofs_end slots programs proofs i plan h =
-    ap (λ (ps : List CProof). proofs_reach slots programs ps plan) (drop_end proofs i h)
-    ∙ proofs_reach-none slots programs plan
+pub reach_proofs_end : (seen : Around) (proofs : List CProof) (i : ℕ) (plan : Plan) →
+    length proofs ≤ i → proofs_reach seen (drop i proofs) plan ≡ Ok plan
+reach_proofs_end seen proofs i plan h =
+    ap (λ (ps : List CProof). proofs_reach seen ps plan) (drop_end proofs i h)
+    ∙ proofs_reach-none seen plan
 
 -- plans only grow
 
@@ -165,20 +166,20 @@ row_extends : (slots : List CSlot) (program step : ℕ) (plan : Plan) (r : Resul
 row_extends slots program step plan (Ok x) = grown_extends plan (derived_of slots x)
 row_extends slots program step plan (Err code) = extends_self plan
 
-step_extends : (slots : List CSlot) (c : CProgram) (s : CStep) (plan : Plan) →
-    Extends plan (reached (step_reach slots c s plan))
-step_extends slots c s plan =
-    subst (λ r. Extends plan (reached r)) (sym (reach-is slots c s plan))
-    (row_extends slots c.name s.name plan (rule_of slots (starts_in slots) c s plan.records))
+step_extends : (seen : Around) (c : CProgram) (s : CStep) (plan : Plan) →
+    Extends plan (reached (step_reach seen c s plan))
+step_extends seen c s plan =
+    subst (λ r. Extends plan (reached r)) (sym (reach-is seen c s plan))
+    (row_extends seen.slots c.name s.name plan (rule_of seen c s plan.records))
 
-pub steps_extend : (slots : List CSlot) (c : CProgram) (steps : List CStep) (plan : Plan) →
-    Extends plan (reached (steps_reach slots c steps plan))
-steps_extend slots c [] plan =
-    subst (λ r. Extends plan (reached r)) (sym (reaches-none slots c plan)) (extends_self plan)
-steps_extend slots c (s ∷ rest) plan =
-    subst (λ r. Extends plan (reached r)) (sym (reaches-more slots c s rest plan))
-    (further_extends plan (step_reach slots c s plan) (steps_reach slots c rest) (step_extends slots c s plan)
-    (steps_extend slots c rest))
+pub steps_extend : (seen : Around) (c : CProgram) (steps : List CStep) (plan : Plan) →
+    Extends plan (reached (steps_reach seen c steps plan))
+steps_extend seen c [] plan =
+    subst (λ r. Extends plan (reached r)) (sym (reaches-none seen c plan)) (extends_self plan)
+steps_extend seen c (s ∷ rest) plan =
+    subst (λ r. Extends plan (reached r)) (sym (reaches-more seen c s rest plan))
+    (further_extends plan (step_reach seen c s plan) (steps_reach seen c rest) (step_extends seen c s plan)
+    (steps_extend seen c rest))
 
 abbrev pub ended : Bool → CProgram → Plan → Reach
 ended b c plan =
@@ -191,22 +192,22 @@ end_extends c plan = chosen (has_defined c.name plan.records)
     chosen true = extends_self plan
     chosen false = extends_self plan
 
-proof_extends : (slots : List CSlot) (found : Option CProgram) (proof : CProof) (plan : Plan) →
-    Extends plan (reached (proof_reach slots found proof plan))
-proof_extends slots None proof plan = extends_self plan
-proof_extends slots (Some c) proof plan =
-    further_extends plan (steps_reach slots c proof.steps plan) (end_reach c)
-    (steps_extend slots c proof.steps plan) (end_extends c)
+proof_extends : (seen : Around) (found : Option CProgram) (proof : CProof) (plan : Plan) →
+    Extends plan (reached (proof_reach seen found proof plan))
+proof_extends seen None proof plan = extends_self plan
+proof_extends seen (Some c) proof plan =
+    further_extends plan (steps_reach seen c proof.steps plan) (end_reach c)
+    (steps_extend seen c proof.steps plan) (end_extends c)
 
-pub proofs_extend : (slots : List CSlot) (programs : List CProgram) (proofs : List CProof) (plan : Plan) →
-    Extends plan (reached (proofs_reach slots programs proofs plan))
-proofs_extend slots programs [] plan =
-    subst (λ r. Extends plan (reached r)) (sym (proofs_reach-none slots programs plan)) (extends_self plan)
-proofs_extend slots programs (proof ∷ rest) plan =
-    subst (λ r. Extends plan (reached r)) (sym (proofs_reach-more slots programs proof rest plan))
-    (further_extends plan (proof_reach slots (program_of programs proof.program) proof plan)
-    (proofs_reach slots programs rest) (proof_extends slots (program_of programs proof.program) proof plan)
-    (proofs_extend slots programs rest))
+pub proofs_extend : (seen : Around) (proofs : List CProof) (plan : Plan) →
+    Extends plan (reached (proofs_reach seen proofs plan))
+proofs_extend seen [] plan =
+    subst (λ r. Extends plan (reached r)) (sym (proofs_reach-none seen plan)) (extends_self plan)
+proofs_extend seen (proof ∷ rest) plan =
+    subst (λ r. Extends plan (reached r)) (sym (proofs_reach-more seen proof rest plan))
+    (further_extends plan (proof_reach seen (program_of seen.programs proof.program) proof plan)
+    (proofs_reach seen rest) (proof_extends seen (program_of seen.programs proof.program) proof plan)
+    (proofs_extend seen rest))
 
 -- the records of a plan
 
@@ -219,41 +220,41 @@ row_so : (slots : List CSlot) (program step : ℕ) (plan new : Plan) (r : Result
 row_so slots program step plan new (Ok x) e = (x, refl, cc)
 row_so slots program step plan new (Err code) e = cc
 
-pub step_grown : (slots : List CSlot) (c : CProgram) (s : CStep) (plan new : Plan) →
-    step_reach slots c s plan ≡ Ok new → (x : Conclusion) × (rule_of slots (starts_in slots) c s plan.records ≡ Ok x)
-    × (new ≡ grown plan (derived_of slots x))
-step_grown slots c s plan new e =
-    row_so slots c.name s.name plan new (rule_of slots (starts_in slots) c s plan.records)
-    (sym (reach-is slots c s plan) ∙ e)
+pub step_grown : (seen : Around) (c : CProgram) (s : CStep) (plan new : Plan) →
+    step_reach seen c s plan ≡ Ok new → (x : Conclusion) × (rule_of seen c s plan.records ≡ Ok x)
+    × (new ≡ grown plan (derived_of seen.slots x))
+step_grown seen c s plan new e =
+    row_so seen.slots c.name s.name plan new (rule_of seen c s plan.records)
+    (sym (reach-is seen c s plan) ∙ e)
 
-pub reach_grows : (slots : List CSlot) (c : CProgram) (s : CStep) (plan new : Plan) →
-    step_reach slots c s plan ≡ Ok new → length new.records ≡ length plan.records + 1
-reach_grows slots c s plan new e =
-    let g = step_grown slots c s plan new e in
+pub reach_grows : (seen : Around) (c : CProgram) (s : CStep) (plan new : Plan) →
+    step_reach seen c s plan ≡ Ok new → length new.records ≡ length plan.records + 1
+reach_grows seen c s plan new e =
+    let g = step_grown seen c s plan new e in
     ap (λ (p : Plan). length p.records) g.2 ∙ one_longer plan.records g.0.made
 
-pub reach_fits : (slots : List CSlot) (c : CProgram) (s : CStep) (plan new : Plan) → IsStep slots s →
-    BookFits slots plan.records → step_reach slots c s plan ≡ Ok new →
-    BookFits slots new.records
-reach_fits slots c s plan new good fits e =
-    let g = step_grown slots c s plan new e in
-    subst (λ (p : Plan). BookFits slots p.records) (sym g.2)
-    (book_join slots plan.records g.0.made fits (good_step slots c s plan.records good fits g.0 g.1).1)
+pub reach_fits : (seen : Around) (c : CProgram) (s : CStep) (plan new : Plan) → IsStep seen.slots s →
+    BookFits seen.slots plan.records → step_reach seen c s plan ≡ Ok new →
+    BookFits seen.slots new.records
+reach_fits seen c s plan new good fits e =
+    let g = step_grown seen c s plan new e in
+    subst (λ (p : Plan). BookFits seen.slots p.records) (sym g.2)
+    (book_join seen.slots plan.records g.0.made fits (good_step seen c s plan.records good fits g.0 g.1).1)
 
-steps_reach_fit : (slots : List CSlot) (c : CProgram) (steps : List CStep) (plan new : Plan) →
-    All (IsStep slots) steps → BookFits slots plan.records →
-    steps_reach slots c steps plan ≡ Ok new →
-    BookFits slots new.records × (length new.records ≡ length plan.records + length steps)
-steps_reach_fit slots c [] plan new good fits e =
-    let same : plan ≡ new = cc (sym (reaches-none slots c plan) ∙ e) in
+steps_reach_fit : (seen : Around) (c : CProgram) (steps : List CStep) (plan new : Plan) →
+    All (IsStep seen.slots) steps → BookFits seen.slots plan.records →
+    steps_reach seen c steps plan ≡ Ok new →
+    BookFits seen.slots new.records × (length new.records ≡ length plan.records + length steps)
+steps_reach_fit seen c [] plan new good fits e =
+    let same : plan ≡ new = cc (sym (reaches-none seen c plan) ∙ e) in
     let count = ap (λ (p : Plan). length p.records) (sym same) in
-    (subst (λ (p : Plan). BookFits slots p.records) same fits, omega (arith, count))
-steps_reach_fit slots c (s ∷ rest) plan new good fits e =
-    let parts = further_so (step_reach slots c s plan) (steps_reach slots c rest) new
-    (sym (reaches-more slots c s rest plan) ∙ e) in
-    let one = reach_grows slots c s plan parts.0 parts.1 in
-    let more = steps_reach_fit slots c rest parts.0 new (All-tail (IsStep slots) s rest good)
-    (reach_fits slots c s plan parts.0 (All-head (IsStep slots) s rest good) fits parts.1) parts.2 in
+    (subst (λ (p : Plan). BookFits seen.slots p.records) same fits, omega (arith, count))
+steps_reach_fit seen c (s ∷ rest) plan new good fits e =
+    let parts = further_so (step_reach seen c s plan) (steps_reach seen c rest) new
+    (sym (reaches-more seen c s rest plan) ∙ e) in
+    let one = reach_grows seen c s plan parts.0 parts.1 in
+    let more = steps_reach_fit seen c rest parts.0 new (All-tail (IsStep seen.slots) s rest good)
+    (reach_fits seen c s plan parts.0 (All-head (IsStep seen.slots) s rest good) fits parts.1) parts.2 in
     let count = more.1 in
     (more.0, omega (arith, one, count))
 
@@ -261,108 +262,113 @@ end_same : (c : CProgram) (plan new : Plan) (b : Bool) → ended b c plan ≡ Ok
 end_same c plan new true e = (refl, cc)
 end_same c plan new false e = cc
 
-pub proof_reach_fits : (slots : List CSlot) (named : Option CProgram) (proof : CProof) (plan new : Plan) →
-    All (IsStep slots) proof.steps → BookFits slots plan.records →
-    proof_reach slots named proof plan ≡ Ok new →
-    BookFits slots new.records × (length new.records ≤ length plan.records + length proof.steps)
-proof_reach_fits slots None proof plan new good fits e =
+pub proof_reach_fits : (seen : Around) (named : Option CProgram) (proof : CProof) (plan new : Plan) →
+    All (IsStep seen.slots) proof.steps → BookFits seen.slots plan.records →
+    proof_reach seen named proof plan ≡ Ok new →
+    BookFits seen.slots new.records × (length new.records ≤ length plan.records + length proof.steps)
+proof_reach_fits seen None proof plan new good fits e =
     let same : plan ≡ new = cc in
     let count = ap (λ (p : Plan). length p.records) (sym same) in
-    (subst (λ (p : Plan). BookFits slots p.records) same fits, omega (arith, count))
-proof_reach_fits slots (Some c) proof plan new good fits e =
-    let parts = further_so (steps_reach slots c proof.steps plan) (end_reach c) new e in
+    (subst (λ (p : Plan). BookFits seen.slots p.records) same fits, omega (arith, count))
+proof_reach_fits seen (Some c) proof plan new good fits e =
+    let parts = further_so (steps_reach seen c proof.steps plan) (end_reach c) new e in
     let kept = end_same c parts.0 new (has_defined c.name parts.0.records) parts.2 in
-    let all = steps_reach_fit slots c proof.steps plan parts.0 good fits parts.1 in
+    let all = steps_reach_fit seen c proof.steps plan parts.0 good fits parts.1 in
     let count = all.1 in
     let same = ap (λ (p : Plan). length p.records) (sym kept.1) in
-    (subst (λ (p : Plan). BookFits slots p.records) kept.1 all.0, omega (arith, count, same))
+    (subst (λ (p : Plan). BookFits seen.slots p.records) kept.1 all.0, omega (arith, count, same))
 
 -- obligations that certificates refute
 
-pub shown_join : (certs : List Cert) (n : ℕ) (os ps : List Obligation) → AreShown certs n os →
-    AreShown certs (n + length os) ps → AreShown certs n (os ++ ps)
-shown_join certs n [] ps h k = subst (λ m. AreShown certs m ps) (none n) k
+pub shown_join : (levels : ℕ) (certs : List Cert) (n : ℕ) (os ps : List Obligation) → AreShown levels certs n os →
+    AreShown levels certs (n + length os) ps → AreShown levels certs n (os ++ ps)
+shown_join levels certs n [] ps h k = subst (λ m. AreShown levels certs m ps) (none n) k
   where
     none : (n : ℕ) → n + 0 ≡ n
     none n = omega arith
-shown_join certs n (o ∷ os) ps h k = (
+shown_join levels certs n (o ∷ os) ps h k = (
   h.0,
-  shown_join certs (suc n) os ps h.1 (subst (λ m. AreShown certs m ps) (one n (length os)) k),
+  shown_join levels certs (suc n) os ps h.1 (subst (λ m. AreShown levels certs m ps) (one n (length os)) k),
 )
   where
     one : (n m : ℕ) → n + suc m ≡ suc n + m
     one n m = omega arith
 
-shown_split : (certs : List Cert) (n : ℕ) (os ps : List Obligation) → AreShown certs n (os ++ ps) →
-    AreShown certs n os × AreShown certs (n + length os) ps
-shown_split certs n [] ps h = (tt, subst (λ m. AreShown certs m ps) (none n) h)
+shown_split : (levels : ℕ) (certs : List Cert) (n : ℕ) (os ps : List Obligation) → AreShown levels certs n (os ++ ps) →
+    AreShown levels certs n os × AreShown levels certs (n + length os) ps
+shown_split levels certs n [] ps h = (tt, subst (λ m. AreShown levels certs m ps) (none n) h)
   where
     none : (n : ℕ) → n ≡ n + 0
     none n = omega arith
-shown_split certs n (o ∷ os) ps h =
-    let rest = shown_split certs (suc n) os ps h.1 in
-    ((h.0, rest.0), subst (λ m. AreShown certs m ps) (one n (length os)) rest.1)
+shown_split levels certs n (o ∷ os) ps h =
+    let rest = shown_split levels certs (suc n) os ps h.1 in
+    ((h.0, rest.0), subst (λ m. AreShown levels certs m ps) (one n (length os)) rest.1)
   where
     one : (n m : ℕ) → suc n + m ≡ n + suc m
     one n m = omega arith
 
 module _ (certs : List Cert) where
-  one_passes : (o : Obligation) (number : ℕ) → ShownAt certs number o → failing o (slice_get certs number) ≡ None
-  one_passes o number h = ap (failing o) h.1 ∙ ap failing_node h.2
+  one_passes : (levels : ℕ) (o : Obligation) (number : ℕ) → ShownAt levels certs number o →
+      failing levels o (slice_get certs number) ≡ None
+  one_passes levels o number h = ap (failing levels o) h.1 ∙ ap failing_node h.2
 
-  all_pass : (program step number : ℕ) (os : List Obligation) → AreShown certs number os →
-      refuted_by certs program step number os ≡ Ok tt
-  all_pass program step number [] h = refuted-none certs program step number
-  all_pass program step number (o ∷ os) h =
-      refuted-more certs program step number o os
+  all_pass : (levels program step number : ℕ) (os : List Obligation) → AreShown levels certs number os →
+      refuted_by levels certs program step number os ≡ Ok tt
+  all_pass levels program step number [] h = refuted-none levels certs program step number
+  all_pass levels program step number (o ∷ os) h =
+      refuted-more levels certs program step number o os
       ∙ ap (λ (r : Option Code). then_by (or_refutation_fault program step number r) (λ done.
-      refuted_by certs program step (suc number) os)) (one_passes o number h.0)
-      ∙ all_pass program step (suc number) os h.1
+      refuted_by levels certs program step (suc number) os)) (one_passes levels o number h.0)
+      ∙ all_pass levels program step (suc number) os h.1
 
-  before_shown : (p q : Plan) → Extends p q → AreShown certs 0 q.obligations → AreShown certs 0 p.obligations
-  before_shown p q h all =
-      (shown_split certs 0 p.obligations h.obligations.0
-      (subst (λ os. AreShown certs 0 os) h.obligations.1 all)).0
+  before_shown : (levels : ℕ) (p q : Plan) → Extends p q → AreShown levels certs 0 q.obligations →
+      AreShown levels certs 0 p.obligations
+  before_shown levels p q h all =
+      (shown_split levels certs 0 p.obligations h.obligations.0
+      (subst (λ os. AreShown levels certs 0 os) h.obligations.1 all)).0
 
-  step_accepted : (program step : ℕ) (plan : Plan) (d : Derived) → AreShown certs 0 (grown plan d).obligations →
-      taken certs program step plan d ≡ Ok (grown plan d)
-  step_accepted program step plan d h =
-      taken-is certs program step plan d
+  step_accepted : (levels program step : ℕ) (plan : Plan) (d : Derived) →
+      AreShown levels certs 0 (grown plan d).obligations →
+      taken levels certs program step plan d ≡ Ok (grown plan d)
+  step_accepted levels program step plan d h =
+      taken-is levels certs program step plan d
       ∙ ap (λ r. then_by r (λ (done : Unit {0}). Ok (grown plan d)))
-      (all_pass program step (length plan.obligations) d.obligations
-      (subst (λ n. AreShown certs n d.obligations) (zero_more (length plan.obligations))
-      (shown_split certs 0 plan.obligations d.obligations h).1))
+      (all_pass levels program step (length plan.obligations) d.obligations
+      (subst (λ n. AreShown levels certs n d.obligations) (zero_more (length plan.obligations))
+      (shown_split levels certs 0 plan.obligations d.obligations h).1))
     where
       zero_more : (n : ℕ) → 0 + n ≡ n
       zero_more n = omega arith
 
-  row_accepted : (slots : List CSlot) (program step : ℕ) (plan new : Plan) (r : Result Conclusion Code) →
-      by_row slots program step plan r ≡ Ok new → AreShown certs 0 new.obligations →
-      then_by (or_rule_fault program (Some step) r) (λ x. taken certs program step plan (derived_of slots x)) ≡ Ok new
-  row_accepted slots program step plan new (Ok x) e h =
-      let same : grown plan (derived_of slots x) ≡ new = cc in
-      step_accepted program step plan (derived_of slots x)
-      (subst (λ (p : Plan). AreShown certs 0 p.obligations) (sym same) h) ∙ ap (λ p. Ok p) same
-  row_accepted slots program step plan new (Err code) e h = cc
+  row_accepted : (seen : Around) (program step : ℕ) (plan new : Plan) (r : Result Conclusion Code) →
+      by_row seen.slots program step plan r ≡ Ok new → AreShown (most_levels seen.version) certs 0 new.obligations →
+      then_by (or_rule_fault program (Some step) r) (λ x. taken (most_levels seen.version) certs program step plan
+      (derived_of seen.slots x)) ≡ Ok new
+  row_accepted seen program step plan new (Ok x) e h =
+      let same : grown plan (derived_of seen.slots x) ≡ new = cc in
+      step_accepted (most_levels seen.version) program step plan (derived_of seen.slots x)
+      (subst (λ (p : Plan). AreShown (most_levels seen.version) certs 0 p.obligations) (sym same) h)
+      ∙ ap (λ p. Ok p) same
+  row_accepted seen program step plan new (Err code) e h = cc
 
-  steps_accepted : (slots : List CSlot) (c : CProgram) (steps : List CStep) (plan new : Plan) →
-      steps_reach slots c steps plan ≡ Ok new → AreShown certs 0 new.obligations →
-      steps_verdict slots certs c steps plan ≡ Ok new
-  steps_accepted slots c [] plan new e h =
-      let same : plan ≡ new = cc (sym (reaches-none slots c plan) ∙ e) in
-      steps-none slots certs c plan ∙ ap (λ p. Ok p) same
-  steps_accepted slots c (s ∷ rest) plan new e h =
-      let parts = further_so (step_reach slots c s plan) (steps_reach slots c rest) new
-      (sym (reaches-more slots c s rest plan) ∙ e) in
+  steps_accepted : (seen : Around) (c : CProgram) (steps : List CStep) (plan new : Plan) →
+      steps_reach seen c steps plan ≡ Ok new → AreShown (most_levels seen.version) certs 0 new.obligations →
+      steps_verdict seen certs c steps plan ≡ Ok new
+  steps_accepted seen c [] plan new e h =
+      let same : plan ≡ new = cc (sym (reaches-none seen c plan) ∙ e) in
+      steps-none seen certs c plan ∙ ap (λ p. Ok p) same
+  steps_accepted seen c (s ∷ rest) plan new e h =
+      let parts = further_so (step_reach seen c s plan) (steps_reach seen c rest) new
+      (sym (reaches-more seen c s rest plan) ∙ e) in
       let grows : Extends parts.0 new =
-      subst (λ (p : Plan). Extends parts.0 p) (reached_is (steps_reach slots c rest parts.0) new parts.2)
-      (steps_extend slots c rest parts.0) in
-      steps-more slots certs c s rest plan
-      ∙ went (step_verdict slots certs c s plan) parts.0 (steps_verdict slots certs c rest)
-      (step-is slots certs c s plan
-      ∙ row_accepted slots c.name s.name plan parts.0 (rule_of slots (starts_in slots) c s plan.records)
-      (sym (reach-is slots c s plan) ∙ parts.1) (before_shown parts.0 new grows h))
-      ∙ steps_accepted slots c rest parts.0 new parts.2 h
+      subst (λ (p : Plan). Extends parts.0 p) (reached_is (steps_reach seen c rest parts.0) new parts.2)
+      (steps_extend seen c rest parts.0) in
+      steps-more seen certs c s rest plan
+      ∙ went (step_verdict seen certs c s plan) parts.0 (steps_verdict seen certs c rest)
+      (step-is seen certs c s plan
+      ∙ row_accepted seen c.name s.name plan parts.0 (rule_of seen c s plan.records)
+      (sym (reach-is seen c s plan) ∙ parts.1) (before_shown (most_levels seen.version) parts.0 new grows h))
+      ∙ steps_accepted seen c rest parts.0 new parts.2 h
 
   end_accepted : (c : CProgram) (plan new : Plan) → end_reach c plan ≡ Ok new → end_verdict c plan ≡ Ok new
   end_accepted c plan new e =
@@ -370,72 +376,74 @@ module _ (certs : List Cert) where
       ap (λ (b : Bool). or_rule_fault c.name None (needs b Code.DefinedMissing (Ok plan))) both.0
       ∙ ap (λ p. Ok p) both.1
 
-  proof_accepted : (slots : List CSlot) (found : Option CProgram) (proof : CProof) (plan new : Plan) →
-      proof_reach slots found proof plan ≡ Ok new → AreShown certs 0 new.obligations →
-      proof_verdict slots certs found proof plan ≡ Ok new
-  proof_accepted slots None proof plan new e h = cc
-  proof_accepted slots (Some c) proof plan new e h =
-      let parts = further_so (steps_reach slots c proof.steps plan) (end_reach c) new e in
+  proof_accepted : (seen : Around) (found : Option CProgram) (proof : CProof) (plan new : Plan) →
+      proof_reach seen found proof plan ≡ Ok new → AreShown (most_levels seen.version) certs 0 new.obligations →
+      proof_verdict seen certs found proof plan ≡ Ok new
+  proof_accepted seen None proof plan new e h = cc
+  proof_accepted seen (Some c) proof plan new e h =
+      let parts = further_so (steps_reach seen c proof.steps plan) (end_reach c) new e in
       let same = (end_same c parts.0 new (has_defined c.name parts.0.records) parts.2).1 in
-      went (steps_verdict slots certs c proof.steps plan) parts.0 (end_verdict c)
-      (steps_accepted slots c proof.steps plan parts.0 parts.1
-      (subst (λ (p : Plan). AreShown certs 0 p.obligations) (sym same) h))
+      went (steps_verdict seen certs c proof.steps plan) parts.0 (end_verdict c)
+      (steps_accepted seen c proof.steps plan parts.0 parts.1
+      (subst (λ (p : Plan). AreShown (most_levels seen.version) certs 0 p.obligations) (sym same) h))
       ∙ end_accepted c parts.0 new parts.2
 
-  proofs_accepted : (slots : List CSlot) (programs : List CProgram) (proofs : List CProof) (plan new : Plan) →
-      proofs_reach slots programs proofs plan ≡ Ok new → AreShown certs 0 new.obligations →
-      proofs_verdict slots certs programs proofs plan ≡ Ok new
-  proofs_accepted slots programs [] plan new e h =
-      let same : plan ≡ new = cc (sym (proofs_reach-none slots programs plan) ∙ e) in
-      proofs-none slots certs programs plan ∙ ap (λ p. Ok p) same
-  proofs_accepted slots programs (proof ∷ rest) plan new e h =
-      let found : Option CProgram = program_of programs proof.program in
-      let parts = further_so (proof_reach slots found proof plan) (proofs_reach slots programs rest) new
-      (sym (proofs_reach-more slots programs proof rest plan) ∙ e) in
+  proofs_accepted : (seen : Around) (proofs : List CProof) (plan new : Plan) →
+      proofs_reach seen proofs plan ≡ Ok new → AreShown (most_levels seen.version) certs 0 new.obligations →
+      proofs_verdict seen certs proofs plan ≡ Ok new
+  proofs_accepted seen [] plan new e h =
+      let same : plan ≡ new = cc (sym (proofs_reach-none seen plan) ∙ e) in
+      proofs-none seen certs plan ∙ ap (λ p. Ok p) same
+  proofs_accepted seen (proof ∷ rest) plan new e h =
+      let found : Option CProgram = program_of seen.programs proof.program in
+      let parts = further_so (proof_reach seen found proof plan) (proofs_reach seen rest) new
+      (sym (proofs_reach-more seen proof rest plan) ∙ e) in
       let grows : Extends parts.0 new =
-      subst (λ (p : Plan). Extends parts.0 p) (reached_is (proofs_reach slots programs rest parts.0) new parts.2)
-      (proofs_extend slots programs rest parts.0) in
-      proofs-more slots certs programs proof rest plan
-      ∙ went (proof_verdict slots certs found proof plan) parts.0 (proofs_verdict slots certs programs rest)
-      (proof_accepted slots found proof plan parts.0 parts.1 (before_shown parts.0 new grows h))
-      ∙ proofs_accepted slots programs rest parts.0 new parts.2 h
+      subst (λ (p : Plan). Extends parts.0 p) (reached_is (proofs_reach seen rest parts.0) new parts.2)
+      (proofs_extend seen rest parts.0) in
+      proofs-more seen certs proof rest plan
+      ∙ went (proof_verdict seen certs found proof plan) parts.0 (proofs_verdict seen certs rest)
+      (proof_accepted seen found proof plan parts.0 parts.1 (before_shown
+      (most_levels seen.version) parts.0 new grows h))
+      ∙ proofs_accepted seen rest parts.0 new parts.2 h
 
 -- a document is accepted with one certificate for each obligation
 pub accepted : (d : CDocument) (certs : List Cert) (plan : Plan) → reach_of d ≡ Ok plan →
-    AreShown certs 0 plan.obligations → length certs ≤ length plan.obligations → verdict_of d certs ≡ Ok plan
+    AreShown (most_levels d.version) certs 0 plan.obligations → length certs ≤ length plan.obligations →
+    verdict_of d certs ≡ Ok plan
 accepted d certs plan e h few =
-    verdict_is d certs plan (proofs_accepted certs d.slots d.programs d.proofs no_plan plan e h) few
+    verdict_is d certs plan (proofs_accepted certs (document_seen d) d.proofs no_plan plan e h) few
 
 -- what a call's answer says of a step
 
-pub reach_taken : (slots : List CSlot) (c : CProgram) (s : CStep) (plan : Plan) (d : Derived) →
-    RuleAnswers (Ok d) slots (rule_of slots (starts_in slots) c s plan.records) →
-    step_reach slots c s plan ≡ Ok (grown plan d)
-reach_taken slots c s plan d h =
-    let x = answered d slots (rule_of slots (starts_in slots) c s plan.records) h in
-    reach-is slots c s plan ∙ ap (λ r. by_row slots c.name s.name plan r) x.1
+pub reach_taken : (seen : Around) (c : CProgram) (s : CStep) (plan : Plan) (d : Derived) →
+    RuleAnswers (Ok d) seen.slots (rule_of seen c s plan.records) →
+    step_reach seen c s plan ≡ Ok (grown plan d)
+reach_taken seen c s plan d h =
+    let x = answered d seen.slots (rule_of seen c s plan.records) h in
+    reach-is seen c s plan ∙ ap (λ r. by_row seen.slots c.name s.name plan r) x.1
     ∙ ap (λ (y : Derived). Ok (grown plan y)) (sym x.2)
 
-pub reach_fails : (slots : List CSlot) (c : CProgram) (s : CStep) (plan : Plan) (code : Code) →
-    RuleAnswers (Err (RuleError.Fault code)) slots (rule_of slots (starts_in slots) c s plan.records) →
-    step_reach slots c s plan ≡
+pub reach_fails : (seen : Around) (c : CProgram) (s : CStep) (plan : Plan) (code : Code) →
+    RuleAnswers (Err (RuleError.Fault code)) seen.slots (rule_of seen c s plan.records) →
+    step_reach seen c s plan ≡
     Err (record { plan = plan; fault = rule_fault c.name (Some s.name) code })
-reach_fails slots c s plan code h =
-    reach-is slots c s plan
-    ∙ ap (λ r. by_row slots c.name s.name plan r)
-    (failed code slots (rule_of slots (starts_in slots) c s plan.records) h)
+reach_fails seen c s plan code h =
+    reach-is seen c s plan
+    ∙ ap (λ r. by_row seen.slots c.name s.name plan r)
+    (failed code seen.slots (rule_of seen c s plan.records) h)
 
 -- a proof's end
 
-pub proof_done : (slots : List CSlot) (c : CProgram) (proof : CProof) (first plan : Plan) →
-    steps_reach slots c proof.steps first ≡ Ok plan → has_defined c.name plan.records ≡ true →
-    proof_reach slots (Some c) proof first ≡ Ok plan
-proof_done slots c proof first plan e h =
-    reach_went (steps_reach slots c proof.steps first) plan (end_reach c) e ∙ ap (λ (b : Bool). ended b c plan) h
+pub proof_done : (seen : Around) (c : CProgram) (proof : CProof) (first plan : Plan) →
+    steps_reach seen c proof.steps first ≡ Ok plan → has_defined c.name plan.records ≡ true →
+    proof_reach seen (Some c) proof first ≡ Ok plan
+proof_done seen c proof first plan e h =
+    reach_went (steps_reach seen c proof.steps first) plan (end_reach c) e ∙ ap (λ (b : Bool). ended b c plan) h
 
-pub proof_undone : (slots : List CSlot) (c : CProgram) (proof : CProof) (first plan : Plan) →
-    steps_reach slots c proof.steps first ≡ Ok plan → has_defined c.name plan.records ≡ false →
-    proof_reach slots (Some c) proof first ≡
+pub proof_undone : (seen : Around) (c : CProgram) (proof : CProof) (first plan : Plan) →
+    steps_reach seen c proof.steps first ≡ Ok plan → has_defined c.name plan.records ≡ false →
+    proof_reach seen (Some c) proof first ≡
     Err (record { plan = plan; fault = rule_fault c.name None Code.DefinedMissing })
-proof_undone slots c proof first plan e h =
-    reach_went (steps_reach slots c proof.steps first) plan (end_reach c) e ∙ ap (λ (b : Bool). ended b c plan) h
+proof_undone seen c proof first plan e h =
+    reach_went (steps_reach seen c proof.steps first) plan (end_reach c) e ∙ ap (λ (b : Bool). ended b c plan) h

@@ -1,6 +1,7 @@
 -- A search for certificates, from one obligation to the next, and where it stops.
-use Rattle.std.proofs.Common.{◌≡◌, ℕ, zero, suc, ◌+◌, ◌≤◌, ◌<◌, ℤ, List, [], ◌∷◌, ◌++◌, map, length, slice_get, true}
-use Rattle.std.proofs.Common.{Some, Result, Ok, Err, refl, sym, ap, ◌∙◌, subst, append_assoc, arith, length-append}
+use Rattle.std.proofs.Common.{◌≡◌, ℕ, zero, suc, ◌+◌, ◌≤◌, ◌<◌, ℤ, List, [], ◌∷◌, ◌++◌, map, length, slice_get}
+use Rattle.std.proofs.Common.{Bool, true, false, cond, nat_eq, Some, Result, Ok, Err, refl, sym, ap, ◌∙◌, subst}
+use Rattle.std.proofs.Common.{append_assoc, arith, length-append}
 use Rattle.std.specs.Prelude.{All, sum}
 use Rattle.std.specs.List.{list_all}
 use Rattle.std.specs.Result.{IsErrAnd}
@@ -16,6 +17,7 @@ use Rattle.obligations.specs.Opening.{Valid}
 use Rattle.obligations.specs.Plain.{enough}
 use Rattle.certificate_check.specs.Trees.{is_whole}
 use Rattle.certificate_check.proofs.RefutationLaws.{sound}
+use Rattle.certificate_check.proofs.WholeLaws.{more-levels}
 use Rattle.fair_rounds.specs.declared.records.Record.{Record}
 use Rattle.linear_prover.specs.Chains.{is_plain_node}
 use Rattle.search_tree.specs.Searching.{Proof, Counterexample, Partial}
@@ -31,7 +33,7 @@ use Rattle.proof_script.specs.Proving.{BudgetIsShort}
 use Rattle.proof_script.specs.Proving.{IsStopped}
 use Rattle.proof_script.specs.Reaching.{Stop, Reach, reach_of, reached}
 use Rattle.proof_script.specs.Searches.{ShownAt, AreShown, HasCertificates, Searches, IsUnderWay, SearchGoes}
-use Rattle.proof_script.specs.Verdicts.{grown, no_plan}
+use Rattle.proof_script.specs.Verdicts.{grown, most_levels, no_plan}
 use Rattle.rules_steps.proofs.ItemLaws.{to_all}
 use Rattle.proof_script.proofs.ReachLaws.{Extends, accepted, shown_join}
 
@@ -65,20 +67,37 @@ got_next (z ∷ xs) x ys = got_next xs x ys
 
 -- certificates
 
-shown_kept : (certs more : List Cert) (n : ℕ) (os : List Obligation) → AreShown certs n os →
-    AreShown (certs ++ more) n os
+shown_kept : (certs more : List Cert) (n : ℕ) (os : List Obligation) → AreShown 1024 certs n os →
+    AreShown 1024 (certs ++ more) n os
 shown_kept certs more n [] h = tt
 shown_kept certs more n (o ∷ os) h = (
   (h.0.0, got_more certs more n h.0.0 h.0.1, h.0.2),
   shown_kept certs more (suc n) os h.1,
 )
 
-each_valid : (certs : List Cert) (n : ℕ) (os : List Obligation) → AreShown certs n os → Each Valid os
+each_valid : (certs : List Cert) (n : ℕ) (os : List Obligation) → AreShown 1024 certs n os → Each Valid os
 each_valid certs n [] h = tt
-each_valid certs n (o ∷ os) h = (sound o h.0.0.nodes h.0.2, each_valid certs (suc n) os h.1)
+each_valid certs n (o ∷ os) h = (sound 1024 o h.0.0.nodes h.0.2, each_valid certs (suc n) os h.1)
 
 pub all_valid : (os : List Obligation) (f : Finding) → HasCertificates os f → All Valid os
 all_valid os f h = to_all Valid os (each_valid f.certs 0 os h.shown)
+
+-- what is shown within some levels is shown within more
+more_shown : (few many : ℕ) → few ≤ many → (certs : List Cert) (n : ℕ) (os : List Obligation) →
+    AreShown few certs n os → AreShown many certs n os
+more_shown few many h certs n [] s = tt
+more_shown few many h certs n (o ∷ os) s = (
+  (s.0.0, s.0.1, more-levels few many o s.0.0.nodes h s.0.2),
+  more_shown few many h certs (suc n) os s.1,
+)
+
+-- the levels of version 1 are allowed in each version
+least_levels : (version : ℕ) → 1024 ≤ most_levels version
+least_levels version = by_version (nat_eq version 2)
+  where
+    by_version : (b : Bool) → 1024 ≤ cond b 4096 1024
+    by_version true = omega arith
+    by_version false = omega arith
 
 -- one obligation
 
@@ -88,7 +107,7 @@ pub found_one : (before : List Obligation) (o : Obligation) (cert : Cert) (old n
     new.budget ≡ old.budget → HasCertificates (before ++ o ∷ []) new × (new.budget ≡ old.budget)
 found_one before o cert old new h proof certs left budget =
     let had : length old.certs ≡ length before = h.count in
-    let is_one : ShownAt (old.certs ++ cert ∷ []) (length before) o =
+    let is_one : ShownAt 1024 (old.certs ++ cert ∷ []) (length before) o =
     (cert, subst (λ n. slice_get (old.certs ++ cert ∷ []) n ≡ Some cert) had (got_next old.certs cert []), proof.walked)
     in
     let long : length (old.certs ++ cert ∷ []) ≡ length old.certs + 1 = one_longer old.certs cert in
@@ -103,9 +122,10 @@ found_one before o cert old new h proof certs left budget =
         count = ap (λ (cs : List Cert). length cs) certs
             ∙ same_count (length (old.certs ++ cert ∷ [])) (length (before ++ o ∷ [])) (length old.certs)
             (length before) long longer had;
-        shown = subst (λ (cs : List Cert). AreShown cs 0 (before ++ o ∷ [])) (sym certs)
-            (shown_join (old.certs ++ cert ∷ []) 0 before (o ∷ []) (shown_kept old.certs (cert ∷ []) 0 before h.shown)
-            (subst (λ n. ShownAt (old.certs ++ cert ∷ []) n o) (none_more (length before)) is_one, tt));
+        shown = subst (λ (cs : List Cert). AreShown 1024 cs 0 (before ++ o ∷ [])) (sym certs)
+            (shown_join 1024 (old.certs ++ cert ∷ []) 0 before (o ∷ [])
+            (shown_kept old.certs (cert ∷ []) 0 before h.shown)
+            (subst (λ n. ShownAt 1024 (old.certs ++ cert ∷ []) n o) (none_more (length before)) is_one, tt));
         whole = subst (λ (cs : List Cert). All (λ (c : Cert). is_whole c.nodes 1 ≡ true) cs) (sym certs)
             (All-push (λ (c : Cert). is_whole c.nodes 1 ≡ true) old.certs cert h.whole proof.whole);
         plain = subst (λ (cs : List Cert). All (λ (c : Cert). list_all is_plain_node c.nodes ≡ true) cs) (sym certs)
@@ -153,14 +173,14 @@ pub refuted_one : (name : StepName) (before : List Obligation) (o : Obligation) 
     (values : List ℤ) → HasCertificates before old → Counterexample o values → number ≡ length old.certs + 1 →
     new.variables ≡ o.variables → new.values ≡ values →
     Searches (Err (Halt.Refuted name number)) name before (o ∷ []) old new
-refuted_one name before o old new number values h false e variables same = (
+refuted_one name before o old new number values h counters e variables same = (
   refl,
   is_next before old number h e,
   record {
     obligation = o;
     comes = comes_next before o old number h e;
     variables_are = variables;
-    fails = subst (λ (zs : List ℤ). Counterexample o zs) (sym same) false;
+    fails = subst (λ (zs : List ℤ). Counterexample o zs) (sym same) counters;
   },
 )
 
@@ -391,7 +411,9 @@ proved_by d budget plan f e h same =
     let count = h.found.count in
     let spent = h.found.spent in
     record {
-      verdict = accepted d f.certs plan e h.found.shown (omega (arith, count));
+      verdict = accepted d f.certs plan e
+          (more_shown 1024 (most_levels d.version) (least_levels d.version) f.certs 0 plan.obligations h.found.shown)
+          (omega (arith, count));
       within = few (units_of f.certs) f.left f.budget budget spent same;
       whole = h.found.whole;
       plain = h.found.plain;

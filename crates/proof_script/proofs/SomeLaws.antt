@@ -1,13 +1,12 @@
 -- A search always finds something: certificates, values at which an obligation is false, too small a budget, or a
 -- rule that fails.
-use Rattle.std.proofs.Common.{◌≡◌, ℕ, ◌+◌, ◌-◌, ◌≤◌, ◌<◌, ℤ, Bool, true, false, List, [], ◌∷◌, ◌++◌}
+use Rattle.std.proofs.Common.{◌≡◌, ℕ, ◌+◌, ◌-◌, ◌≤◌, Bool, true, false, List, [], ◌∷◌, ◌++◌}
 use Rattle.std.proofs.Common.{length, Option, Some, None, Result, Ok, Err, refl, sym, ap, ◌∙◌, subst, append_assoc}
 use Rattle.std.proofs.Common.{arith}
 use Rattle.std.specs.Prelude.{All}
 use Rattle.std.proofs.lemmas.List.Elements.{All-head, All-tail}
 use Rattle.case_tables.specs.declared.code_table.Code.{Code}
-use Rattle.core_terms.specs.Conditions.{IsCoreDocument, IsProgram, IsProof, IsSlot, IsStep}
-use Rattle.core_terms.specs.declared.programs.CSlot.{CSlot}
+use Rattle.core_terms.specs.Conditions.{IsProgram, IsProof, IsSlot, IsStep}
 use Rattle.core_terms.specs.declared.programs.CProgram.{CProgram}
 use Rattle.core_terms.specs.declared.documents.CStep.{CStep}
 use Rattle.core_terms.specs.declared.documents.CProof.{CProof}
@@ -18,11 +17,11 @@ use Rattle.obligations.specs.declared.branches.Obligation.{Obligation}
 use Rattle.obligations.specs.declared.certificates.Cert.{Cert}
 use Rattle.rules_table.proofs.EachLaws.{Each}
 use Rattle.rules_table.specs.Conclusion.{Conclusion}
-use Rattle.rules_table.specs.Walk.{has_defined, program_of, rule_of}
+use Rattle.rules_table.specs.Walk.{Around, has_defined, program_of, rule_of}
 use Rattle.safety_rules.specs.Answers.{derived_of}
 use Rattle.safety_rules.specs.declared.places.Derived.{Derived}
 use Rattle.rules_steps.proofs.GoalLaws.{IsStepRow, told_step}
-use Rattle.rules_steps.specs.Starts.{starts_in}
+use Rattle.rules_steps.specs.Starts.{document_seen}
 use Rattle.rules_steps.specs.Using.{BookFits}
 use Rattle.search_tree.specs.Ends.{Ending, proved, refuted, short, SearchEnds}
 use Rattle.search_tree.specs.Searching.{Proof}
@@ -35,7 +34,7 @@ use Rattle.proof_script.specs.declared.plans.StepFault.{StepFault}
 use Rattle.proof_script.specs.declared.refuting.StepName.{StepName}
 use Rattle.proof_script.specs.Laws.{IsAnswered, SomeFinding}
 use Rattle.proof_script.specs.Proving.{Finds}
-use Rattle.proof_script.specs.Reaching.{Reach, Stop, by_row, end_reach, further, proof_reach, proofs_reach, reach_of}
+use Rattle.proof_script.specs.Reaching.{Reach, by_row, end_reach, further, proof_reach, proofs_reach, reach_of}
 use Rattle.proof_script.specs.Reaching.{reached, step_reach, steps_reach}
 use Rattle.proof_script.specs.Searches.{HasCertificates, Searches, IsUnderWay, SearchGoes}
 use Rattle.proof_script.specs.Verdicts.{grown, no_plan, rule_fault}
@@ -172,33 +171,33 @@ module _ (ends : SearchEnds) where
     pub goes_on : Goes_on result
     pub follows : SearchGoes result old plan new reach
 
-  module _ (slots : List CSlot) (all : All IsSlot slots) where
-    step_row : (c : CProgram) (s : CStep) (plan : Plan) (old : Finding) → IsProgram slots c → IsStep slots s →
-        BookFits slots plan.records → IsUnderWay plan old → (r : Result Conclusion Code) →
-        rule_of slots (starts_in slots) c s plan.records ≡ r → Along old (step_reach slots c s plan)
+  module _ (seen : Around) (all : All IsSlot seen.slots) where
+    step_row : (c : CProgram) (s : CStep) (plan : Plan) (old : Finding) → IsProgram seen.slots c → IsStep seen.slots s →
+        BookFits seen.slots plan.records → IsUnderWay plan old → (r : Result Conclusion Code) →
+        rule_of seen c s plan.records ≡ r → Along old (step_reach seen c s plan)
     step_row c s plan old program good fits way (Err code) e =
         let fault : StepFault = rule_fault c.name (Some s.name) code in
-        let is : step_reach slots c s plan ≡ Err (record { plan = plan; fault = fault }) =
-        reach-is slots c s plan ∙ ap (λ (r : Result Conclusion Code). by_row slots c.name s.name plan r) e in
+        let is : step_reach seen c s plan ≡ Err (record { plan = plan; fault = fault }) =
+        reach-is seen c s plan ∙ ap (λ (r : Result Conclusion Code). by_row seen.slots c.name s.name plan r) e in
         record {
           result = Err (Halt.Step fault);
           plan = plan;
           new = old;
           goes_on = tt;
-          follows = stops_at plan old fault (step_reach slots c s plan) way is;
+          follows = stops_at plan old fault (step_reach seen c s plan) way is;
         }
     step_row c s plan old program good fits way (Ok x) e =
-        let d : Derived = derived_of slots x in
+        let d : Derived = derived_of seen.slots x in
         let name : StepName = record { program = c.name; step = s.name } in
-        let told : IsStepRow slots c s x = told_step slots c s plan.records all program good fits x e in
-        let is : step_reach slots c s plan ≡ Ok (grown plan d) =
-        reach-is slots c s plan ∙ ap (λ (r : Result Conclusion Code). by_row slots c.name s.name plan r) e in
+        let told : IsStepRow seen.slots c s x = told_step seen c s plan.records all program good fits x e in
+        let is : step_reach seen c s plan ≡ Ok (grown plan d) =
+        reach-is seen c s plan ∙ ap (λ (r : Result Conclusion Code). by_row seen.slots c.name s.name plan r) e in
         by_search d name told.program told.name is
         (each_end name plan.obligations d.obligations old told.obligations way.found)
       where
         by_result : (d : Derived) (name : StepName) → d.made.program ≡ name.program → d.made.name ≡ name.step →
-            step_reach slots c s plan ≡ Ok (grown plan d) → (new : Finding) (r : Result (Unit {0}) Halt) → Goes_on r →
-            Searches r name plan.obligations d.obligations old new → Along old (step_reach slots c s plan)
+            step_reach seen c s plan ≡ Ok (grown plan d) → (new : Finding) (r : Result (Unit {0}) Halt) → Goes_on r →
+            Searches r name plan.obligations d.obligations old new → Along old (step_reach seen c s plan)
         by_result d name program step is new (Ok done) g s' = record {
           result = Ok tt;
           plan = grown plan d;
@@ -217,8 +216,8 @@ module _ (ends : SearchEnds) where
         }
 
         by_search : (d : Derived) (name : StepName) → d.made.program ≡ name.program → d.made.name ≡ name.step →
-            step_reach slots c s plan ≡ Ok (grown plan d) → Among name plan.obligations d.obligations old →
-            Along old (step_reach slots c s plan)
+            step_reach seen c s plan ≡ Ok (grown plan d) → Among name plan.obligations d.obligations old →
+            Along old (step_reach seen c s plan)
         by_search d name program step is a = by_result d name program step is a.new a.result a.goes_on a.searches
 
     -- one part, and what follows it
@@ -263,26 +262,26 @@ module _ (ends : SearchEnds) where
               (λ stop e. is ∙ reach_stopped one stop f e) refl h;
         }
 
-    steps_end : (c : CProgram) (steps : List CStep) (plan : Plan) (old : Finding) → IsProgram slots c →
-        All (IsStep slots) steps → BookFits slots plan.records → IsUnderWay plan old →
-        Along old (steps_reach slots c steps plan)
+    steps_end : (c : CProgram) (steps : List CStep) (plan : Plan) (old : Finding) → IsProgram seen.slots c →
+        All (IsStep seen.slots) steps → BookFits seen.slots plan.records → IsUnderWay plan old →
+        Along old (steps_reach seen c steps plan)
     steps_end c [] plan old program good fits way = record {
       result = Ok tt;
       plan = plan;
       new = old;
       goes_on = tt;
-      follows = (reaches-none slots c plan, way, refl);
+      follows = (reaches-none seen c plan, way, refl);
     }
     steps_end c (s ∷ rest) plan old program good fits way =
-        let head : IsStep slots s = All-head (IsStep slots) s rest good in
-        joined plan old (step_reach slots c s plan) (steps_reach slots c (s ∷ rest) plan) (steps_reach slots c rest)
-        (reaches-more slots c s rest plan) (steps_extend slots c rest)
-        (step_row c s plan old program head fits way (rule_of slots (starts_in slots) c s plan.records) refl)
-        (λ p new e w. steps_end c rest p new program (All-tail (IsStep slots) s rest good)
-        (reach_fits slots c s plan p head fits e) w)
+        let head : IsStep seen.slots s = All-head (IsStep seen.slots) s rest good in
+        joined plan old (step_reach seen c s plan) (steps_reach seen c (s ∷ rest) plan) (steps_reach seen c rest)
+        (reaches-more seen c s rest plan) (steps_extend seen c rest)
+        (step_row c s plan old program head fits way (rule_of seen c s plan.records) refl)
+        (λ p new e w. steps_end c rest p new program (All-tail (IsStep seen.slots) s rest good)
+        (reach_fits seen c s plan p head fits e) w)
 
     proof_end : (c : CProgram) (proof : CProof) (first : Plan) (p : Plan) (new : Finding) →
-        steps_reach slots c proof.steps first ≡ Ok p → IsUnderWay p new → (b : Bool) →
+        steps_reach seen c proof.steps first ≡ Ok p → IsUnderWay p new → (b : Bool) →
         has_defined c.name p.records ≡ b → Along new (end_reach c p)
     proof_end c proof first p new e way true d = record {
       result = Ok tt;
@@ -290,8 +289,8 @@ module _ (ends : SearchEnds) where
       new = new;
       goes_on = tt;
       follows = (
-        sym (reach_went (steps_reach slots c proof.steps first) p (end_reach c) e)
-            ∙ proof_done slots c proof first p e d,
+        sym (reach_went (steps_reach seen c proof.steps first) p (end_reach c) e)
+            ∙ proof_done seen c proof first p e d,
         way,
         refl,
       );
@@ -302,13 +301,13 @@ module _ (ends : SearchEnds) where
       new = new;
       goes_on = tt;
       follows = stops_at p new (rule_fault c.name None Code.DefinedMissing) (end_reach c p) way
-          (sym (reach_went (steps_reach slots c proof.steps first) p (end_reach c) e)
-          ∙ proof_undone slots c proof first p e d);
+          (sym (reach_went (steps_reach seen c proof.steps first) p (end_reach c) e)
+          ∙ proof_undone seen c proof first p e d);
     }
 
     proof_ends : (named : Option CProgram) (proof : CProof) (plan : Plan) (old : Finding) →
-        ((c : CProgram) → named ≡ Some c → IsProgram slots c) → All (IsStep slots) proof.steps →
-        BookFits slots plan.records → IsUnderWay plan old → Along old (proof_reach slots named proof plan)
+        ((c : CProgram) → named ≡ Some c → IsProgram seen.slots c) → All (IsStep seen.slots) proof.steps →
+        BookFits seen.slots plan.records → IsUnderWay plan old → Along old (proof_reach seen named proof plan)
     proof_ends None proof plan old program good fits way = record {
       result = Ok tt;
       plan = plan;
@@ -317,29 +316,32 @@ module _ (ends : SearchEnds) where
       follows = (refl, way, refl);
     }
     proof_ends (Some c) proof plan old program good fits way =
-        joined plan old (steps_reach slots c proof.steps plan) (proof_reach slots (Some c) proof plan) (end_reach c)
+        joined plan old (steps_reach seen c proof.steps plan) (proof_reach seen (Some c) proof plan) (end_reach c)
         refl (end_extends c) (steps_end c proof.steps plan old (program c refl) good fits way)
         (λ p new e w. proof_end c proof plan p new e w (has_defined c.name p.records) refl)
 
-    proofs_end : (programs : List CProgram) (proofs : List CProof) (plan : Plan) (old : Finding) →
-        All (IsProgram slots) programs → All (IsProof slots programs) proofs → BookFits slots plan.records →
-        IsUnderWay plan old → Along old (proofs_reach slots programs proofs plan)
-    proofs_end programs [] plan old are good fits way = record {
+    proofs_end : (proofs : List CProof) (plan : Plan) (old : Finding) →
+        All (IsProgram seen.slots) seen.programs → All (IsProof seen.slots seen.programs) proofs →
+        BookFits seen.slots plan.records →
+        IsUnderWay plan old → Along old (proofs_reach seen proofs plan)
+    proofs_end [] plan old are good fits way = record {
       result = Ok tt;
       plan = plan;
       new = old;
       goes_on = tt;
-      follows = (proofs_reach-none slots programs plan, way, refl);
+      follows = (proofs_reach-none seen plan, way, refl);
     }
-    proofs_end programs (proof ∷ rest) plan old are good fits way =
-        let named : Option CProgram = program_of programs proof.program in
-        let steps : All (IsStep slots) proof.steps = (All-head (IsProof slots programs) proof rest good).steps in
-        joined plan old (proof_reach slots named proof plan) (proofs_reach slots programs (proof ∷ rest) plan)
-        (proofs_reach slots programs rest) (proofs_reach-more slots programs proof rest plan)
-        (proofs_extend slots programs rest)
-        (proof_ends named proof plan old (λ c e. named_program slots programs proof.program c are e) steps fits way)
-        (λ p new e w. proofs_end programs rest p new are (All-tail (IsProof slots programs) proof rest good)
-        (proof_reach_fits slots named proof plan p steps fits e).0 w)
+    proofs_end (proof ∷ rest) plan old are good fits way =
+        let named : Option CProgram = program_of seen.programs proof.program in
+        let steps : All (IsStep seen.slots) proof.steps =
+        (All-head (IsProof seen.slots seen.programs) proof rest good).steps in
+        joined plan old (proof_reach seen named proof plan) (proofs_reach seen (proof ∷ rest) plan)
+        (proofs_reach seen rest) (proofs_reach-more seen proof rest plan)
+        (proofs_extend seen rest)
+        (proof_ends named proof plan old (λ c e. named_program seen.slots seen.programs proof.program c are e) steps
+        fits way)
+        (λ p new e w. proofs_end rest p new are (All-tail (IsProof seen.slots seen.programs) proof rest good)
+        (proof_reach_fits seen named proof plan p steps fits e).0 w)
 
 -- the whole document
 
@@ -360,7 +362,7 @@ by_walk d budget new plan (Err Halt.Memory) g h = absurd g
 
 pub some_finding : SearchEnds → SomeFinding
 some_finding ends d budget good =
-    chosen (proofs_end ends d.slots good.slots d.programs d.proofs no_plan (at_first budget) good.programs good.proofs
+    chosen (proofs_end ends (document_seen d) good.slots d.proofs no_plan (at_first budget) good.programs good.proofs
     tt (begins budget no_plan (at_first budget) refl refl))
   where
     chosen : Along ends (at_first budget) (reach_of d) →

@@ -11,19 +11,20 @@ use Rattle.proof_script.specs.Giving.{AreWhole}
 use Rattle.proof_script.specs.Proving.{units_of, enough_for, ArePlain, IsFalse, IsOwner, BudgetIsShort, IsStopped}
 use Rattle.proof_script.specs.Reaching.{Reach, reached}
 
--- the certificate of this number, from 0, refutes the obligation
-abbrev pub ShownAt : List Cert → ℕ → Obligation → Type 0
-ShownAt certs number o = (c : Cert) × (slice_get certs number ≡ Some c) × (walk_from_root o c.nodes ≡ Ok [])
+-- the certificate of this number, from 0, refutes the obligation within so many levels
+abbrev pub ShownAt : ℕ → List Cert → ℕ → Obligation → Type 0
+ShownAt levels certs number o =
+    (c : Cert) × (slice_get certs number ≡ Some c) × (walk_from_root levels o c.nodes ≡ Ok [])
 
 -- each obligation, from this number on, is refuted by the certificate of its number
-abbrev pub AreShown : List Cert → ℕ → List Obligation → Type 0
-AreShown certs number [] = Unit {0}
-AreShown certs number (o ∷ os) = ShownAt certs number o × AreShown certs (suc number) os
+abbrev pub AreShown : ℕ → List Cert → ℕ → List Obligation → Type 0
+AreShown levels certs number [] = Unit {0}
+AreShown levels certs number (o ∷ os) = ShownAt levels certs number o × AreShown levels certs (suc number) os
 
--- one certificate for each of these obligations
+-- one certificate for each of these obligations, which both versions take
 pub record HasCertificates (os : List Obligation) (f : Finding) : Type 0 where
   pub count : length f.certs ≡ length os
-  pub shown : AreShown f.certs 0 os
+  pub shown : AreShown 1024 f.certs 0 os
   pub whole : AreWhole f.certs
   pub plain : ArePlain f.certs
   pub spent : units_of f.certs + f.left ≡ f.budget

@@ -1,9 +1,8 @@
 -- The verdict on a document's proofs: the plan of all steps, where each obligation is refuted by the certificate of
 -- its number, or the first failure.
-use Rattle.std.specs.Prelude.{ℕ, suc, ◌+◌, nat_lt, cond, List, [], ◌∷◌, ◌++◌, map, length, slice_get}
+use Rattle.std.specs.Prelude.{ℕ, suc, ◌+◌, nat_lt, nat_eq, cond, List, [], ◌∷◌, ◌++◌, map, length, slice_get}
 use Rattle.std.specs.Prelude.{Option, Some, None, Result, Ok, Err}
 use Rattle.case_tables.specs.declared.code_table.Code.{Code}
-use Rattle.core_terms.specs.declared.programs.CSlot.{CSlot}
 use Rattle.core_terms.specs.declared.programs.CProgram.{CProgram}
 use Rattle.core_terms.specs.declared.documents.CStep.{CStep}
 use Rattle.core_terms.specs.declared.documents.CProof.{CProof}
@@ -12,10 +11,10 @@ use Rattle.obligations.specs.declared.branches.Obligation.{Obligation}
 use Rattle.obligations.specs.declared.certificates.Cert.{Cert}
 use Rattle.certificate_check.specs.Refutation.{WalkResult, walk_from_root}
 use Rattle.rules_table.specs.Table.{needs}
-use Rattle.rules_table.specs.Walk.{has_defined, program_of, rule_of}
+use Rattle.rules_table.specs.Walk.{Around, has_defined, program_of, rule_of}
 use Rattle.safety_rules.specs.declared.places.Derived.{Derived}
 use Rattle.safety_rules.specs.Answers.{derived_of}
-use Rattle.rules_steps.specs.Starts.{starts_in}
+use Rattle.rules_steps.specs.Starts.{document_seen}
 use Rattle.proof_script.specs.declared.plans.Plan.{Plan}
 use Rattle.proof_script.specs.declared.plans.StepFault.{StepFault}
 
@@ -42,9 +41,13 @@ failing_node (Ok []) = None
 failing_node (Ok (p ∷ ps)) = Some Code.CertMissing
 failing_node (Err e) = Some e.0
 
-abbrev pub failing : Obligation → Option Cert → Option Code
-failing o None = Some Code.CertMissing
-failing o (Some cert) = failing_node (walk_from_root o cert.nodes)
+abbrev pub failing : ℕ → Obligation → Option Cert → Option Code
+failing levels o None = Some Code.CertMissing
+failing levels o (Some cert) = failing_node (walk_from_root levels o cert.nodes)
+
+-- how many levels a certificate of a document of this version may have
+abbrev pub most_levels : ℕ → ℕ
+most_levels version = cond (nat_eq version 2) 4096 1024
 
 -- the obligation with this number, from 0, is not refuted
 abbrev pub refutation_fault : ℕ → ℕ → ℕ → Code → StepFault
@@ -59,12 +62,12 @@ abbrev pub or_refutation_fault : ℕ → ℕ → ℕ → Option Code → Result 
 or_refutation_fault program step number None = Ok tt
 or_refutation_fault program step number (Some code) = Err (refutation_fault program step number code)
 
--- each obligation, from this number on, against the certificate of its number
-unfoldable pub refuted_by : List Cert → ℕ → ℕ → ℕ → List Obligation → Result (Unit {0}) StepFault
-refuted_by certs program step number [] = Ok tt
-refuted_by certs program step number (o ∷ os) =
-    then_by (or_refutation_fault program step number (failing o (slice_get certs number))) (λ done.
-    refuted_by certs program step (suc number) os)
+-- each obligation, from this number on, against the certificate of its number, of so many levels
+unfoldable pub refuted_by : ℕ → List Cert → ℕ → ℕ → ℕ → List Obligation → Result (Unit {0}) StepFault
+refuted_by levels certs program step number [] = Ok tt
+refuted_by levels certs program step number (o ∷ os) =
+    then_by (or_refutation_fault program step number (failing levels o (slice_get certs number))) (λ done.
+    refuted_by levels certs program step (suc number) os)
 
 -- a step's record and obligations, after those before
 abbrev pub grown : Plan → Derived → Plan
@@ -75,35 +78,35 @@ grown plan d = record {
 }
 
 -- the obligations of a step after its rule
-unfoldable pub taken : List Cert → ℕ → ℕ → Plan → Derived → Result Plan StepFault
-taken certs program step plan d =
-    then_by (refuted_by certs program step (length plan.obligations) d.obligations) (λ done. Ok (grown plan d))
+unfoldable pub taken : ℕ → List Cert → ℕ → ℕ → Plan → Derived → Result Plan StepFault
+taken levels certs program step plan d =
+    then_by (refuted_by levels certs program step (length plan.obligations) d.obligations) (λ done. Ok (grown plan d))
 
 -- a step: its rule, and then its obligations
-unfoldable pub step_verdict : List CSlot → List Cert → CProgram → CStep → Plan → Result Plan StepFault
-step_verdict slots certs c s plan =
-    then_by (or_rule_fault c.name (Some s.name) (rule_of slots (starts_in slots) c s plan.records)) (λ x.
-    taken certs c.name s.name plan (derived_of slots x))
+unfoldable pub step_verdict : Around → List Cert → CProgram → CStep → Plan → Result Plan StepFault
+step_verdict seen certs c s plan =
+    then_by (or_rule_fault c.name (Some s.name) (rule_of seen c s plan.records)) (λ x.
+    taken (most_levels seen.version) certs c.name s.name plan (derived_of seen.slots x))
 
-unfoldable pub steps_verdict : List CSlot → List Cert → CProgram → List CStep → Plan → Result Plan StepFault
-steps_verdict slots certs c [] plan = Ok plan
-steps_verdict slots certs c (s ∷ rest) plan =
-    then_by (step_verdict slots certs c s plan) (steps_verdict slots certs c rest)
+unfoldable pub steps_verdict : Around → List Cert → CProgram → List CStep → Plan → Result Plan StepFault
+steps_verdict seen certs c [] plan = Ok plan
+steps_verdict seen certs c (s ∷ rest) plan =
+    then_by (step_verdict seen certs c s plan) (steps_verdict seen certs c rest)
 
 -- a proof has a `defined` step
 abbrev pub end_verdict : CProgram → Plan → Result Plan StepFault
 end_verdict c plan =
     or_rule_fault c.name None (needs (has_defined c.name plan.records) Code.DefinedMissing (Ok plan))
 
-abbrev pub proof_verdict : List CSlot → List Cert → Option CProgram → CProof → Plan → Result Plan StepFault
-proof_verdict slots certs None proof plan = Ok plan
-proof_verdict slots certs (Some c) proof plan = then_by (steps_verdict slots certs c proof.steps plan) (end_verdict c)
+abbrev pub proof_verdict : Around → List Cert → Option CProgram → CProof → Plan → Result Plan StepFault
+proof_verdict seen certs None proof plan = Ok plan
+proof_verdict seen certs (Some c) proof plan = then_by (steps_verdict seen certs c proof.steps plan) (end_verdict c)
 
-unfoldable pub proofs_verdict : List CSlot → List Cert → List CProgram → List CProof → Plan → Result Plan StepFault
-proofs_verdict slots certs programs [] plan = Ok plan
-proofs_verdict slots certs programs (proof ∷ rest) plan =
-    then_by (proof_verdict slots certs (program_of programs proof.program) proof plan)
-    (proofs_verdict slots certs programs rest)
+unfoldable pub proofs_verdict : Around → List Cert → List CProof → Plan → Result Plan StepFault
+proofs_verdict seen certs [] plan = Ok plan
+proofs_verdict seen certs (proof ∷ rest) plan =
+    then_by (proof_verdict seen certs (program_of seen.programs proof.program) proof plan)
+    (proofs_verdict seen certs rest)
 
 -- more certificates than obligations, which are so many
 abbrev pub surplus_fault : ℕ → StepFault
@@ -124,4 +127,4 @@ no_plan = record { records = []; obligations = []; owner = [] }
 
 -- the whole document
 abbrev pub verdict_of : CDocument → List Cert → Result Plan StepFault
-verdict_of d certs = then_by (proofs_verdict d.slots certs d.programs d.proofs no_plan) (last_verdict certs)
+verdict_of d certs = then_by (proofs_verdict (document_seen d) certs d.proofs no_plan) (last_verdict certs)

@@ -1,39 +1,39 @@
 // The steps of proofs by their rules alone: their records, and what is left to be shown for them.
 ghost use Rattle.std.specs.Prelude.{◌+◌, ◌<◌, ◌^◌, All, length, map, sum, Some};
-ghost use Rattle.core_terms.specs.Conditions.{IsCoreDocument, IsProgram, IsSlot, IsStep};
+ghost use Rattle.core_terms.specs.Conditions.{IsCoreDocument, IsProgram, IsProof, IsStep};
 ghost use Rattle.core_terms.specs.declared.documents.CProof.{CProof};
 ghost use Rattle.rules_table.specs.Walk.{program_of, walk_of};
 ghost use Rattle.proof_script.specs.Planning.{Reaches, Walks};
 ghost use Rattle.proof_script.specs.Reaching.{proof_reach, proofs_reach, step_reach, steps_reach};
-ghost use Rattle.rules_steps.specs.Starts.{starts_in};
+ghost use Rattle.rules_steps.specs.Starts.{IsAround, document_seen, seen_of, starts_in};
 ghost use Rattle.rules_steps.specs.Using.{BookFits};
 
 use crate::adding::{add, new_plan};
 use crate::plans::{Plan, ScriptError};
-use crate::programs::find_program;
+use crate::programs::{around, find_program};
 use crate::walking::fault;
 use case_tables::Code;
-use core_terms::{CDocument, CProgram, CProof, CSlot, CStep};
-use rules_steps::{has_defined, step_rule};
+use core_terms::{CDocument, CProgram, CProof, CStep};
+use rules_steps::{Around, has_defined, step_rule};
 use safety_rules::RuleError;
 use std::alloc::Global;
 
 // One step, by its rule.
 fn plan_step(
     alloc: Global,
-    slots: &[CSlot],
+    around: &Around,
     program: &CProgram,
     step: &CStep,
     plan: &mut Plan,
 ) -> Result<(), ScriptError>
-    requires slots { All IsSlot slots.now }
-    requires program { IsProgram slots.now program.now }
-    requires step { IsStep slots.now step.now }
-    requires book { BookFits slots.now plan.old.records }
+    requires around { IsAround around.now }
+    requires program { IsProgram around.now.slots.now program.now }
+    requires step { IsStep around.now.slots.now step.now }
+    requires book { BookFits around.now.slots.now plan.old.records }
     requires room { length plan.old.records < 2 ^ 31 }
-    ensures { Reaches result plan.new (step_reach slots.now program.now step.now plan.old) }
+    ensures { Reaches result plan.new (step_reach (seen_of around.now) program.now step.now plan.old) }
 {
-    match step_rule(alloc, slots, program, step, plan.records.as_slice()) {
+    match step_rule(alloc, around, program, step, plan.records.as_slice()) {
         Ok(derived) => {
             add(alloc, derived, plan)?;
             Ok(())
@@ -46,20 +46,20 @@ fn plan_step(
 // The steps of a proof, in order.
 fn plan_steps(
     alloc: Global,
-    slots: &[CSlot],
+    around: &Around,
     program: &CProgram,
     steps: &[CStep],
     plan: &mut Plan,
 ) -> Result<(), ScriptError>
-    requires slots { All IsSlot slots.now }
-    requires program { IsProgram slots.now program.now }
-    requires steps { All (IsStep slots.now) steps.now }
-    requires book { BookFits slots.now plan.old.records }
+    requires around { IsAround around.now }
+    requires program { IsProgram around.now.slots.now program.now }
+    requires steps { All (IsStep around.now.slots.now) steps.now }
+    requires book { BookFits around.now.slots.now plan.old.records }
     requires room { length plan.old.records + length steps.now < 2 ^ 31 }
-    ensures { Reaches result plan.new (steps_reach slots.now program.now steps.now plan.old) }
+    ensures { Reaches result plan.new (steps_reach (seen_of around.now) program.now steps.now plan.old) }
 {
     for step in steps {
-        plan_step(alloc, slots, program, step, plan)?;
+        plan_step(alloc, around, program, step, plan)?;
     }
     Ok(())
 }
@@ -67,19 +67,19 @@ fn plan_steps(
 // The proof of a program: its steps, and that one of them is `defined`.
 fn plan_program(
     alloc: Global,
-    slots: &[CSlot],
+    around: &Around,
     program: &CProgram,
     proof: &CProof,
     plan: &mut Plan,
 ) -> Result<(), ScriptError>
-    requires slots { All IsSlot slots.now }
-    requires program { IsProgram slots.now program.now }
-    requires steps { All (IsStep slots.now) proof.now.steps }
-    requires book { BookFits slots.now plan.old.records }
+    requires around { IsAround around.now }
+    requires program { IsProgram around.now.slots.now program.now }
+    requires steps { All (IsStep around.now.slots.now) proof.now.steps }
+    requires book { BookFits around.now.slots.now plan.old.records }
     requires room { length plan.old.records + length proof.now.steps < 2 ^ 31 }
-    ensures { Reaches result plan.new (proof_reach slots.now (Some program.now) proof.now plan.old) }
+    ensures { Reaches result plan.new (proof_reach (seen_of around.now) (Some program.now) proof.now plan.old) }
 {
-    plan_steps(alloc, slots, program, proof.steps.as_slice(), plan)?;
+    plan_steps(alloc, around, program, proof.steps.as_slice(), plan)?;
     if has_defined(program.name, plan.records.as_slice()) {
         Ok(())
     } else {
@@ -90,22 +90,40 @@ fn plan_program(
 // One proof.
 fn plan_proof(
     alloc: Global,
-    doc: &CDocument,
+    around: &Around,
     proof: &CProof,
     plan: &mut Plan,
 ) -> Result<(), ScriptError>
-    requires slots { All IsSlot doc.now.slots }
-    requires programs { All (IsProgram doc.now.slots) doc.now.programs }
-    requires steps { All (IsStep doc.now.slots) proof.now.steps }
-    requires book { BookFits doc.now.slots plan.old.records }
+    requires around { IsAround around.now }
+    requires steps { All (IsStep around.now.slots.now) proof.now.steps }
+    requires book { BookFits around.now.slots.now plan.old.records }
     requires room { length plan.old.records + length proof.now.steps < 2 ^ 31 }
-    ensures { Reaches result plan.new (proof_reach doc.now.slots
-        (program_of doc.now.programs proof.now.program) proof.now plan.old) }
+    ensures { Reaches result plan.new (proof_reach (seen_of around.now)
+        (program_of around.now.programs.now proof.now.program) proof.now plan.old) }
 {
-    match find_program(proof.program, doc.programs.as_slice()) {
+    match find_program(proof.program, around.programs) {
         None => Ok(()),
-        Some(program) => plan_program(alloc, doc.slots.as_slice(), program, proof, plan),
+        Some(program) => plan_program(alloc, around, program, proof, plan),
     }
+}
+
+// Proofs, in order.
+fn plan_each(
+    alloc: Global,
+    around: &Around,
+    proofs: &[CProof],
+    plan: &mut Plan,
+) -> Result<(), ScriptError>
+    requires around { IsAround around.now }
+    requires proofs { All (IsProof around.now.slots.now around.now.programs.now) proofs.now }
+    requires book { BookFits around.now.slots.now plan.old.records }
+    requires room { length plan.old.records + sum (map (λ (p : CProof). length p.steps) proofs.now) < 2 ^ 31 }
+    ensures { Reaches result plan.new (proofs_reach (seen_of around.now) proofs.now plan.old) }
+{
+    for proof in proofs {
+        plan_proof(alloc, around, proof, plan)?;
+    }
+    Ok(())
 }
 
 // All proofs of a document, in order.
@@ -113,13 +131,10 @@ fn plan_proofs(alloc: Global, doc: &CDocument, plan: &mut Plan) -> Result<(), Sc
     requires document { IsCoreDocument doc.now }
     requires book { BookFits doc.now.slots plan.old.records }
     requires room { length plan.old.records + sum (map (λ (p : CProof). length p.steps) doc.now.proofs) < 2 ^ 31 }
-    ensures { Reaches result plan.new
-        (proofs_reach doc.now.slots doc.now.programs doc.now.proofs plan.old) }
+    ensures { Reaches result plan.new (proofs_reach (document_seen doc.now) doc.now.proofs plan.old) }
 {
-    for proof in doc.proofs.as_slice() {
-        plan_proof(alloc, doc, proof, plan)?;
-    }
-    Ok(())
+    let around = around(doc);
+    plan_each(alloc, &around, doc.proofs.as_slice(), plan)
 }
 
 /// The records of all steps of a document's proofs, in order, and what is left to be shown for them, by the

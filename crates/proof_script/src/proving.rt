@@ -1,6 +1,6 @@
 // The search for the certificates of a document.
 ghost use Rattle.std.specs.Prelude.{◌≡◌, ◌+◌, ◌<◌, ◌^◌, All, Err, Ok, [], length, map, sum, true, Some};
-ghost use Rattle.core_terms.specs.Conditions.{IsCoreDocument, IsProgram, IsSlot, IsStep};
+ghost use Rattle.core_terms.specs.Conditions.{IsCoreDocument, IsProgram, IsProof, IsStep};
 ghost use Rattle.core_terms.specs.declared.documents.CDocument.{CDocument};
 ghost use Rattle.core_terms.specs.declared.documents.CProof.{CProof};
 ghost use Rattle.obligations.specs.Obligations.{IsObligation};
@@ -10,17 +10,18 @@ ghost use Rattle.proof_script.specs.declared.plans.Plan.{Plan};
 ghost use Rattle.proof_script.specs.Proving.{Finds};
 ghost use Rattle.proof_script.specs.Reaching.{proof_reach, proofs_reach, reach_of, step_reach, steps_reach};
 ghost use Rattle.proof_script.specs.Searches.{SearchGoes, IsUnderWay};
+ghost use Rattle.rules_steps.specs.Starts.{IsAround, document_seen, seen_of};
 ghost use Rattle.rules_steps.specs.Using.{BookFits};
 ghost use Rattle.proof_script.specs.Verdicts.{grown, rule_fault};
 
 use crate::adding::{add, new_plan};
 use crate::finding::{Finding, Halt, find_all};
 use crate::plans::{Plan, Proof, ScriptError, StepFault};
-use crate::programs::find_program;
+use crate::programs::{around, find_program};
 use crate::refuting::StepName;
 use case_tables::Code;
-use core_terms::{CDocument, CProgram, CProof, CSlot, CStep};
-use rules_steps::{has_defined, step_rule};
+use core_terms::{CDocument, CProgram, CProof, CStep};
+use rules_steps::{Around, has_defined, step_rule};
 use safety_rules::{Derived, RuleError};
 use std::alloc::Global;
 use unity_base::{Held, Seq};
@@ -61,21 +62,22 @@ fn prove_derived(
 // One step: its rule, and then its obligations.
 fn prove_step(
     alloc: Global,
-    slots: &[CSlot],
+    around: &Around,
     program: &CProgram,
     step: &CStep,
     plan: &mut Plan,
     finding: &mut Finding,
 ) -> Result<(), Halt>
-    requires slots { All IsSlot slots.now }
-    requires program { IsProgram slots.now program.now }
-    requires step { IsStep slots.now step.now }
-    requires book { BookFits slots.now plan.old.records }
+    requires around { IsAround around.now }
+    requires program { IsProgram around.now.slots.now program.now }
+    requires step { IsStep around.now.slots.now step.now }
+    requires book { BookFits around.now.slots.now plan.old.records }
     requires room { length plan.old.records < 2 ^ 31 }
     requires under_way { IsUnderWay plan.old finding.old }
-    ensures { SearchGoes result finding.old plan.new finding.new (step_reach slots.now program.now step.now plan.old) }
+    ensures { SearchGoes result finding.old plan.new finding.new (step_reach
+        (seen_of around.now) program.now step.now plan.old) }
 {
-    match step_rule(alloc, slots, program, step, plan.records.as_slice()) {
+    match step_rule(alloc, around, program, step, plan.records.as_slice()) {
         Ok(derived) => {
             let name = StepName {
                 program: program.name,
@@ -91,23 +93,23 @@ fn prove_step(
 // The steps of a proof, in order.
 fn prove_steps(
     alloc: Global,
-    slots: &[CSlot],
+    around: &Around,
     program: &CProgram,
     steps: &[CStep],
     plan: &mut Plan,
     finding: &mut Finding,
 ) -> Result<(), Halt>
-    requires slots { All IsSlot slots.now }
-    requires program { IsProgram slots.now program.now }
-    requires steps { All (IsStep slots.now) steps.now }
-    requires book { BookFits slots.now plan.old.records }
+    requires around { IsAround around.now }
+    requires program { IsProgram around.now.slots.now program.now }
+    requires steps { All (IsStep around.now.slots.now) steps.now }
+    requires book { BookFits around.now.slots.now plan.old.records }
     requires room { length plan.old.records + length steps.now < 2 ^ 31 }
     requires under_way { IsUnderWay plan.old finding.old }
     ensures { SearchGoes result finding.old plan.new finding.new
-        (steps_reach slots.now program.now steps.now plan.old) }
+        (steps_reach (seen_of around.now) program.now steps.now plan.old) }
 {
     for step in steps {
-        prove_step(alloc, slots, program, step, plan, finding)?;
+        prove_step(alloc, around, program, step, plan, finding)?;
     }
     Ok(())
 }
@@ -115,22 +117,29 @@ fn prove_steps(
 // The proof of a program: its steps, and that one of them is `defined`.
 fn prove_program(
     alloc: Global,
-    slots: &[CSlot],
+    around: &Around,
     program: &CProgram,
     proof: &CProof,
     plan: &mut Plan,
     finding: &mut Finding,
 ) -> Result<(), Halt>
-    requires slots { All IsSlot slots.now }
-    requires program { IsProgram slots.now program.now }
-    requires steps { All (IsStep slots.now) proof.now.steps }
-    requires book { BookFits slots.now plan.old.records }
+    requires around { IsAround around.now }
+    requires program { IsProgram around.now.slots.now program.now }
+    requires steps { All (IsStep around.now.slots.now) proof.now.steps }
+    requires book { BookFits around.now.slots.now plan.old.records }
     requires room { length plan.old.records + length proof.now.steps < 2 ^ 31 }
     requires under_way { IsUnderWay plan.old finding.old }
     ensures { SearchGoes result finding.old plan.new finding.new
-        (proof_reach slots.now (Some program.now) proof.now plan.old) }
+        (proof_reach (seen_of around.now) (Some program.now) proof.now plan.old) }
 {
-    prove_steps(alloc, slots, program, proof.steps.as_slice(), plan, finding)?;
+    prove_steps(
+        alloc,
+        around,
+        program,
+        proof.steps.as_slice(),
+        plan,
+        finding,
+    )?;
     if has_defined(program.name, plan.records.as_slice()) {
         Ok(())
     } else {
@@ -141,24 +150,45 @@ fn prove_program(
 // One proof.
 fn prove_proof(
     alloc: Global,
-    doc: &CDocument,
+    around: &Around,
     proof: &CProof,
     plan: &mut Plan,
     finding: &mut Finding,
 ) -> Result<(), Halt>
-    requires slots { All IsSlot doc.now.slots }
-    requires programs { All (IsProgram doc.now.slots) doc.now.programs }
-    requires steps { All (IsStep doc.now.slots) proof.now.steps }
-    requires book { BookFits doc.now.slots plan.old.records }
+    requires around { IsAround around.now }
+    requires steps { All (IsStep around.now.slots.now) proof.now.steps }
+    requires book { BookFits around.now.slots.now plan.old.records }
     requires room { length plan.old.records + length proof.now.steps < 2 ^ 31 }
     requires under_way { IsUnderWay plan.old finding.old }
     ensures { SearchGoes result finding.old plan.new finding.new
-        (proof_reach doc.now.slots (program_of doc.now.programs proof.now.program) proof.now plan.old) }
+        (proof_reach (seen_of around.now) (program_of around.now.programs.now proof.now.program) proof.now plan.old) }
 {
-    match find_program(proof.program, doc.programs.as_slice()) {
+    match find_program(proof.program, around.programs) {
         None => Ok(()),
-        Some(program) => prove_program(alloc, doc.slots.as_slice(), program, proof, plan, finding),
+        Some(program) => prove_program(alloc, around, program, proof, plan, finding),
     }
+}
+
+// Proofs, in order.
+fn prove_each(
+    alloc: Global,
+    around: &Around,
+    proofs: &[CProof],
+    plan: &mut Plan,
+    finding: &mut Finding,
+) -> Result<(), Halt>
+    requires around { IsAround around.now }
+    requires proofs { All (IsProof around.now.slots.now around.now.programs.now) proofs.now }
+    requires book { BookFits around.now.slots.now plan.old.records }
+    requires room { length plan.old.records + sum (map (λ (p : CProof). length p.steps) proofs.now) < 2 ^ 31 }
+    requires under_way { IsUnderWay plan.old finding.old }
+    ensures { SearchGoes result finding.old plan.new finding.new
+        (proofs_reach (seen_of around.now) proofs.now plan.old) }
+{
+    for proof in proofs {
+        prove_proof(alloc, around, proof, plan, finding)?;
+    }
+    Ok(())
 }
 
 // All proofs of a document, in order.
@@ -173,12 +203,10 @@ fn prove_proofs(
     requires room { length plan.old.records + sum (map (λ (p : CProof). length p.steps) doc.now.proofs) < 2 ^ 31 }
     requires under_way { IsUnderWay plan.old finding.old }
     ensures { SearchGoes result finding.old plan.new finding.new
-        (proofs_reach doc.now.slots doc.now.programs doc.now.proofs plan.old) }
+        (proofs_reach (document_seen doc.now) doc.now.proofs plan.old) }
 {
-    for proof in doc.proofs.as_slice() {
-        prove_proof(alloc, doc, proof, plan, finding)?;
-    }
-    Ok(())
+    let around = around(doc);
+    prove_each(alloc, &around, doc.proofs.as_slice(), plan, finding)
 }
 
 // The search before the first step.

@@ -1,7 +1,7 @@
 // Obligations against certificates.
 ghost use Rattle.std.specs.Prelude.{◌≡◌, ◌<◌, ◌^◌, All, OnOk, length, slice_get};
 ghost use Rattle.proof_script.specs.Giving.{AreWhole, IsCheckable, Passes};
-ghost use Rattle.proof_script.specs.Verdicts.{failing, or_refutation_fault, refutation_fault, refuted_by};
+ghost use Rattle.proof_script.specs.Verdicts.{failing, most_levels, or_refutation_fault, refutation_fault, refuted_by};
 
 use crate::plans::{ScriptError, StepFault};
 use case_tables::Code;
@@ -36,22 +36,30 @@ fn refute(
     name: StepName,
     number: usize,
     obligation: &Obligation,
+    levels: u32,
 ) -> Result<(), ScriptError>
     requires whole { AreWhole certs.now }
     requires number { number < 2 ^ 63 }
     requires checkable { IsCheckable obligation.now }
     ensures passes { Passes result (or_refutation_fault name.program name.step number
-        (failing obligation.now (slice_get certs.now number))) }
+        (failing levels obligation.now (slice_get certs.now number))) }
     ensures there { OnOk result (number < length certs.now) }
 {
     match certs.get(number) {
         None => Err(fault(name, number, Code::CertMissing)),
-        Some(cert) => match check_cert(alloc, obligation, cert) {
+        Some(cert) => match check_cert(alloc, obligation, cert, levels) {
             Ok(()) => Ok(()),
             Err(CertError::Fault { code, .. }) => Err(fault(name, number, code)),
             Err(CertError::Memory) => Err(ScriptError::Memory),
         },
     }
+}
+
+/// How many levels a certificate of a document of this version may have.
+pub(crate) fn most_levels(version: u64) -> u32
+    ensures { result ≡ most_levels version }
+{
+    if version == 2 { 4096 } else { 1024 }
 }
 
 // The obligations of a step, the first of which has this number, from 0.
@@ -61,15 +69,16 @@ pub(crate) fn refute_all(
     name: StepName,
     first: usize,
     obligations: &[Obligation],
+    levels: u32,
 ) -> Result<(), ScriptError>
     requires whole { AreWhole certs.now }
     requires first { first < 2 ^ 63 }
     requires checkable { All IsCheckable obligations.now }
-    ensures { Passes result (refuted_by certs.now name.program name.step first obligations.now) }
+    ensures { Passes result (refuted_by levels certs.now name.program name.step first obligations.now) }
 {
     let mut number = first;
     for obligation in obligations {
-        refute(alloc, certs, name, number, obligation)?;
+        refute(alloc, certs, name, number, obligation, levels)?;
         number += 1;
     }
     Ok(())

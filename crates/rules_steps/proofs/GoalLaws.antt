@@ -38,12 +38,12 @@ use Rattle.rules_table.specs.Table.{Site, needs, go_on, goals_of, concluded, def
 use Rattle.rules_table.specs.Table.{invariant_forms, unless_form, unless_forms, equations, instances_of, names_some}
 use Rattle.rules_table.specs.Table.{meant_forms, helped_form, helper_forms, is_helper, ensures_of, is_unless}
 use Rattle.rules_table.specs.Table.{is_ensures}
-use Rattle.rules_table.specs.Table.{weaken_of, pair_of, shown_forms, union_defined_of, union_invariant_of}
+use Rattle.rules_table.specs.Table.{weaken_of, pair_kinds, pair_of, shown_forms, union_defined_of, union_invariant_of}
 use Rattle.rules_table.specs.Table.{union_unless_of, union_ensures_of}
 use Rattle.rules_table.specs.Terms.{all_ranges, derive_of, leads_record, referred, term_of}
 use Rattle.rules_table.specs.declared.led.Led.{Led}
-use Rattle.rules_table.specs.Walk.{again_of, applied, claims, is_kind, proof_of, same_again, step_site, suits, text_of}
-use Rattle.rules_table.specs.Walk.{used}
+use Rattle.rules_table.specs.Walk.{Around, again_of, applied, claims, is_kind, proof_of, same_again, step_site}
+use Rattle.rules_table.specs.Walk.{suits, text_of, used}
 use Rattle.rules_table.specs.Walk.{rule_of, part_record, first_part, second_part, serves_union, serves_after, united}
 use Rattle.rules_table.proofs.EachLaws.{Each, from_all, each_join}
 use Rattle.rules_table.proofs.RowEquations.{derive-is, defined-is, invariant-is, unless-is, ensures-is, weaken-is}
@@ -58,7 +58,6 @@ use Rattle.safety_rules.proofs.UsableLaws.{all_exist, fits_exist, usable_closed}
 use Rattle.safety_rules.proofs.NameLaws.{meant_exists, helped_exists}
 use Rattle.rules_steps.specs.Steps.{IsStepGiven}
 use Rattle.rules_steps.specs.Using.{BookFits, IsEntry}
-use Rattle.rules_steps.specs.Starts.{starts_in}
 use Rattle.rules_steps.proofs.SmallLaws.{IsSmall}
 use Rattle.rules_steps.proofs.ReferredLaws.{referred_is}
 use Rattle.rules_steps.proofs.GoodLaws.{part_is, seen_ranges, seen_term}
@@ -212,8 +211,7 @@ module _ (site : Site) (closed : All (FormFits site.slots []) site.using) (good 
   told_text starts s Kind.Unless h k =
       subst (λ r. GivesTold site r) (sym (unless-is site s.p s.q))
       (told_in site site.params ranges _ (unless_forms site s.p s.q) refl refl (unless_exist s.p s.q h k))
-  told_text starts s Kind.Ensures h k = λ (x : Conclusion) e. cc
-  told_text starts s Kind.Leadsto h k = λ (x : Conclusion) e. cc
+  told_text starts s _ h k = λ (x : Conclusion) e. cc
 
   told_ensures : (p q : CForm) (h : Helper) → FormFits slots params p → FormFits slots params q →
       HelperWellScoped (is_below (length params)) h → GivesTold site (ensures_of site p q h)
@@ -254,7 +252,7 @@ module _ (site : Site) (closed : All (FormFits site.slots []) site.using) (good 
       told_needs site _ Code.OtherProgram _ (told_needs site _ Code.WrongKind _
       (told_needs site _ Code.MiddleDiffers _
       (told_in site site.params ranges _ (shown_forms site a b) refl refl (both_shown a b first second))))
-  told_united starts Kind.Leadsto a b first second = λ (x : Conclusion) e. cc
+  told_united starts _ a b first second = λ (x : Conclusion) e. cc
 
   told_derive : (book : List Record) → BookFits slots book → (t : PTerm) →
       TermWellScoped slots (all_ranges site t) (is_below (length params)) t → GivesTold site (derive_of site t book)
@@ -280,36 +278,39 @@ module _ (site : Site) (closed : All (FormFits site.slots []) site.using) (good 
   told_proof s book fit t sees Kind.Leadsto = told_derive book fit t sees
   told_proof s book fit t sees _ = told_again s book (out-PTerm t)
 
-  told_applied : (starts : CProgram → Bool) (s : CStep) (book : List Record) → BookFits slots book →
+  told_applied : (seen : Around) (s : CStep) (book : List Record) → BookFits slots book →
       FormFits slots params s.p → FormFits slots params s.q → (rule : CRule) →
       RuleWellScoped slots (params ++ rule_ranges rule) (is_below (length params)) (length params) rule →
-      GivesTold site (applied starts site s book rule)
-  told_applied starts s book fit p q CRule.Text sees =
-      told_text starts s s.kind (fits_exist slots params s.p p) (fits_exist slots params s.q q)
-  told_applied starts s book fit p q (CRule.TextWith h) sees = told_ensures s.p s.q h p q sees
-  told_applied starts s book fit p q (CRule.WeakenStep r) sees = λ (x : Conclusion) e.
+      GivesTold site (applied seen site s book rule)
+  told_applied seen s book fit p q CRule.Text sees =
+      told_text seen.starts s s.kind (fits_exist slots params s.p p) (fits_exist slots params s.q q)
+  told_applied seen s book fit p q (CRule.TextWith h) sees = told_ensures s.p s.q h p q sees
+  told_applied seen s book fit p q (CRule.WeakenStep r) sees = λ (x : Conclusion) e.
       let one = went_on (referred site site.params book (is_kind s.kind) r) (λ (a : Record).
       weaken_of site a s.q) x e in
       let a = referred_is site site.params (is_kind s.kind) book r one.0 fit ranges one.1 in
       told_weaken one.0 s.q (fits_exist slots params one.0.q a.q) (fits_exist slots params s.q q) x one.2
-  told_applied starts s book fit p q (CRule.Pair which r t) sees = λ (x : Conclusion) e.
-      let one = went_on (referred site site.params book is_unless r) (λ (a : Record).
-      go_on (referred site site.params book (is_kind s.kind) t) (λ b. pair_of site which a b)) x e in
-      let two = went_on (referred site site.params book (is_kind s.kind) t)
+  told_applied seen s book fit p q (CRule.Pair which r t) sees = λ (x : Conclusion) e.
+      let kinds : Kind × Kind = pair_kinds which s.kind in
+      let one = went_on (referred site site.params book (is_kind kinds.0) r) (λ (a : Record).
+      go_on (referred site site.params book (is_kind kinds.1) t) (λ b. pair_of site which a b)) x e in
+      let two = went_on (referred site site.params book (is_kind kinds.1) t)
       (λ (b : Record). pair_of site which one.0 b) x one.2 in
       told_pair which one.0 two.0 x two.2
-  told_applied starts s book fit p q (CRule.Union r t) sees = λ (x : Conclusion) e.
+  told_applied seen s book fit p q (CRule.Union r t) sees = λ (x : Conclusion) e.
       let one = went_on (part_record site book (first_part site.program.parts) (serves_union s.kind) r)
       (λ (a : Record).
       go_on (part_record site book (second_part site.program.parts) (serves_after s.kind a.kind) t) (λ b.
-      united starts site s.kind a b)) x e in
+      united seen.starts site s.kind a b)) x e in
       let two = went_on (part_record site book (second_part site.program.parts) (serves_after s.kind one.0.kind) t)
-      (λ (b : Record). united starts site s.kind one.0 b) x one.2 in
+      (λ (b : Record). united seen.starts site s.kind one.0 b) x one.2 in
       let a = part_is site (serves_union s.kind) book (first_part site.program.parts) r one.0 fit ranges one.1 in
       let b = part_is site (serves_after s.kind one.0.kind) book (second_part site.program.parts) t two.0 fit ranges
       two.1 in
-      told_united starts s.kind one.0 two.0 a.under b.under x two.2
-  told_applied starts s book fit p q (CRule.Proof t) sees = told_proof s book fit t sees.0 s.kind
+      told_united seen.starts s.kind one.0 two.0 a.under b.under x two.2
+  told_applied seen s book fit p q (CRule.Superpose r) sees = λ (x : Conclusion) e. cc
+  told_applied seen s book fit p q (CRule.Complete r t u v) sees = λ (x : Conclusion) e. cc
+  told_applied seen s book fit p q (CRule.Proof t) sees = told_proof s book fit t sees.0 s.kind
 
 -- what is small and names what exists is an obligation
 module _ (slots : List CSlot) (params : List Range) (f : CForm) (names : NamesExist slots params f)
@@ -348,50 +349,53 @@ pub record IsStepRow (slots : List CSlot) (c : CProgram) (s : CStep) (x : Conclu
   pub name : x.made.name ≡ s.name
   pub obligations : Each IsObligation (obligations_of slots x.goals)
 
-module _ (slots : List CSlot) (c : CProgram) (s : CStep) (book : List Record) where
-  rule_row : rule_of slots (starts_in slots) c s book ≡
-      needs (may_stand slots c s book) Code.DefinedMissing (used_row slots c s book (used c book s.using))
+module _ (seen : Around) (c : CProgram) (s : CStep) (book : List Record) where
+  rule_row : rule_of seen c s book ≡
+      needs (may_stand seen c s book) Code.DefinedMissing (used_row seen c s book (used c book s.using))
   unfolding rule_of
   rule_row = refl
 
-  pub told_step : All IsSlot slots → IsProgram slots c → IsStep slots s → BookFits slots book → (x : Conclusion) →
-      rule_of slots (starts_in slots) c s book ≡ Ok x → IsStepRow slots c s x
+  pub told_step : All IsSlot seen.slots → IsProgram seen.slots c → IsStep seen.slots s → BookFits seen.slots book →
+      (x : Conclusion) →
+      rule_of seen c s book ≡ Ok x → IsStepRow seen.slots c s x
   told_step all program good fits x is =
-      let stands = met (may_stand slots c s book) Code.DefinedMissing
-      (used_row slots c s book (used c book s.using)) x (sym rule_row ∙ is) in
+      let stands = met (may_stand seen c s book) Code.DefinedMissing
+      (used_row seen c s book (used c book s.using)) x (sym rule_row ∙ is) in
       let u = went_on (used c book s.using)
-      (λ (using : List CForm). needs (suits s.rule s.kind) Code.WrongKind (applied_row slots c s book using)) x
+      (λ (using : List CForm). needs (suits seen.version s.rule s.kind) Code.WrongKind
+      (applied_row seen c s book using)) x
       stands.1 in
-      let suited = met (suits s.rule s.kind) Code.WrongKind (applied_row slots c s book u.0) x u.2 in
-      let site : Site = step_site slots c s u.0 in
-      let given = went_on (applied (starts_in slots) site s book s.rule)
+      let suited = met (suits seen.version s.rule s.kind) Code.WrongKind (applied_row seen c s book u.0) x u.2 in
+      let site : Site = step_site seen.slots c s u.0 in
+      let given = went_on (applied seen site s book s.rule)
       (λ (y : Conclusion). needs (claims s y) Code.ConclusionDiffers (Ok y)) x suited.1 in
       let y : Conclusion = given.0 in
       let claimed = met (claims s y) Code.ConclusionDiffers (Ok y) x given.2 in
       let same : y ≡ x = cc (claimed.1) in
       let told : Tells site y =
-      told_applied site (used_fit slots c book fits s.using u.0 u.1) program good.params (starts_in slots) s book fits
+      told_applied site (used_fit seen.slots c book fits s.using u.0 u.1) program good.params seen s book fits
       good.p good.q s.rule good.rule y given.1 in
-      let small = (good_step slots c s book good fits x is).0 in
-      subst (λ (z : Conclusion). IsStepRow slots c s z) same (record {
+      let small = (good_step seen c s book good fits x is).0 in
+      subst (λ (z : Conclusion). IsStepRow seen.slots c s z) same (record {
         program = told.program;
         name = told.name;
         obligations = obligations_are site all y.goals
-            (subst (λ (z : Conclusion). Each (IsSmall slots) z.goals) (sym same) small) told.goals;
+            (subst (λ (z : Conclusion). Each (IsSmall seen.slots) z.goals) (sym same) small) told.goals;
       })
 
 -- what a call gives for a step
-pub given_step : (slots : List CSlot) (c : CProgram) (s : CStep) (book : List Record) → All IsSlot slots →
-    IsProgram slots c → IsStep slots s → BookFits slots book → (answer : Result Derived RuleError) →
-    RuleAnswers answer slots (rule_of slots (starts_in slots) c s book) → IfOk answer (IsStepGiven slots c s)
-given_step slots c s book all program good fits (Err e) h = tt
-given_step slots c s book all program good fits (Ok d) h =
-    let x = answered d slots (rule_of slots (starts_in slots) c s book) h in
-    let told = told_step slots c s book all program good fits x.0 x.1 in
+pub given_step : (seen : Around) (c : CProgram) (s : CStep) (book : List Record) → All IsSlot seen.slots →
+    IsProgram seen.slots c → IsStep seen.slots s → BookFits seen.slots book → (answer : Result Derived RuleError) →
+    RuleAnswers answer seen.slots (rule_of seen c s book) → IfOk answer (IsStepGiven seen.slots c s)
+given_step seen c s book all program good fits (Err e) h = tt
+given_step seen c s book all program good fits (Ok d) h =
+    let x = answered d seen.slots (rule_of seen c s book) h in
+    let told = told_step seen c s book all program good fits x.0 x.1 in
     record {
       program = ap (λ (y : Derived). y.made.program) x.2 ∙ told.program;
       name = ap (λ (y : Derived). y.made.name) x.2 ∙ told.name;
-      entry = subst (λ (y : Derived). IsEntry slots y.made) (sym x.2) (good_step slots c s book good fits x.0 x.1).1;
+      entry = subst (λ (y : Derived). IsEntry seen.slots y.made) (sym x.2)
+          (good_step seen c s book good fits x.0 x.1).1;
       obligations = subst (λ (y : Derived). All IsObligation y.obligations) (sym x.2)
-          (to_all IsObligation (obligations_of slots x.0.goals) told.obligations);
+          (to_all IsObligation (obligations_of seen.slots x.0.goals) told.obligations);
     }

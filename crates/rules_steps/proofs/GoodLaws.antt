@@ -25,11 +25,11 @@ use Rattle.fair_rounds.specs.declared.records.Record.{Record}
 use Rattle.rules_table.specs.Conclusion.{Conclusion}
 use Rattle.rules_table.specs.Forms.{imply}
 use Rattle.rules_table.specs.Table.{Site, needs, go_on, with_each, record_of, concluded, defined_forms, invariant_forms}
-use Rattle.rules_table.specs.Table.{unless_forms, is_unless, is_ensures, weaken_of, pair_of}
+use Rattle.rules_table.specs.Table.{unless_forms, is_unless, is_ensures, weaken_of, pair_kinds, pair_of}
 use Rattle.rules_table.specs.Table.{instance_of}
 use Rattle.rules_table.specs.Terms.{all_ranges, derive_of, found, leads_record, referred, term_of}
 use Rattle.rules_table.specs.declared.led.Led.{Led}
-use Rattle.rules_table.specs.Walk.{again_of, is_kind, proof_of, same_again, suits, text_of, applied}
+use Rattle.rules_table.specs.Walk.{Around, again_of, is_kind, proof_of, same_again, suits, text_of, applied}
 use Rattle.rules_table.proofs.EachLaws.{Each, each_join, from_all}
 use Rattle.rules_table.proofs.RowEquations.{defined-is, invariant-is, unless-is, weaken-is}
 use Rattle.rules_table.proofs.SiteLaws.{went_on, concluded_is}
@@ -113,8 +113,7 @@ good_text starts site s Kind.Invariant using =
 good_text starts site s Kind.Unless using =
     subst (λ r. GivesGood site Kind.Unless r) (sym (unless-is site s.p s.q))
     (good_concluded site Kind.Unless s.p s.q [] None (unless_forms site s.p s.q) tt using tt)
-good_text starts site s Kind.Ensures using = λ (x : Conclusion) e. cc
-good_text starts site s Kind.Leadsto using = λ (x : Conclusion) e. cc
+good_text starts site s _ using = λ (x : Conclusion) e. cc
 
 good_ensures : (site : Site) (p q : CForm) (h : Helper) → Each (FormFits site.slots []) site.using →
     HelperFits site.params (Some h) → GivesGood site Kind.Ensures (ensures_of site p q h)
@@ -177,7 +176,7 @@ good_united starts site Kind.Ensures a b using first second h k =
     (good_concluded site Kind.Ensures a.p a.q (a.under ++ b.under) (first_helper a b) (shown_forms site a b)
     (first_helps site.params (is_ensures a.kind) a.helper b.helper h k) using
     (each_join (FormFits site.slots []) a.under b.under first second))))
-good_united starts site Kind.Leadsto a b using first second h k = λ (x : Conclusion) e. cc
+good_united starts site _ a b using first second h k = λ (x : Conclusion) e. cc
 
 -- references
 
@@ -267,41 +266,44 @@ good_proof site s book fit ranges using t sees _ same = good_again site s book f
 
 -- a step's row
 
-pub good_applied : (starts : CProgram → Bool) (site : Site) (s : CStep) (book : List Record) →
+pub good_applied : (seen : Around) (site : Site) (s : CStep) (book : List Record) →
     BookFits site.slots book → All IsRange site.params → Each (FormFits site.slots []) site.using → (rule : CRule) →
-    suits rule s.kind ≡ true →
+    suits seen.version rule s.kind ≡ true →
     RuleWellScoped site.slots (site.params ++ rule_ranges rule) (is_below (length site.params)) (length site.params)
     rule →
-    GivesGood site s.kind (applied starts site s book rule)
-good_applied starts site s book fit ranges using CRule.Text suited sees = good_text starts site s s.kind using
-good_applied starts site s book fit ranges using (CRule.WeakenStep r) suited sees = λ (x : Conclusion) e.
+    GivesGood site s.kind (applied seen site s book rule)
+good_applied seen site s book fit ranges using CRule.Text suited sees = good_text seen.starts site s s.kind using
+good_applied seen site s book fit ranges using (CRule.WeakenStep r) suited sees = λ (x : Conclusion) e.
     let one = went_on (referred site site.params book (is_kind s.kind) r) (λ (a : Record). weaken_of site a s.q) x e in
     let a = referred_is site site.params (is_kind s.kind) book r one.0 fit ranges one.1 in
     subst (λ (k : Kind). IsGood site k x) (same_kind s.kind one.0.kind a.kind)
     (good_weaken site one.0 s.q using a.under a.helper x one.2)
-good_applied starts site s book fit ranges using (CRule.Pair which r t) suited sees = λ (x : Conclusion) e.
-    let one = went_on (referred site site.params book is_unless r) (λ (a : Record).
-    go_on (referred site site.params book (is_kind s.kind) t) (λ b. pair_of site which a b)) x e in
-    let two = went_on (referred site site.params book (is_kind s.kind) t)
+good_applied seen site s book fit ranges using (CRule.Pair which r t) suited sees = λ (x : Conclusion) e.
+    let kinds : Kind × Kind = pair_kinds which s.kind in
+    let one = went_on (referred site site.params book (is_kind kinds.0) r) (λ (a : Record).
+    go_on (referred site site.params book (is_kind kinds.1) t) (λ b. pair_of site which a b)) x e in
+    let two = went_on (referred site site.params book (is_kind kinds.1) t)
     (λ (b : Record). pair_of site which one.0 b) x one.2 in
-    let a = referred_is site site.params is_unless book r one.0 fit ranges one.1 in
-    let b = referred_is site site.params (is_kind s.kind) book t two.0 fit ranges two.1 in
-    subst (λ (k : Kind). IsGood site k x) (pair_kind_is which r t two.0.kind s.kind b.kind suited)
+    let a = referred_is site site.params (is_kind kinds.0) book r one.0 fit ranges one.1 in
+    let b = referred_is site site.params (is_kind kinds.1) book t two.0 fit ranges two.1 in
+    subst (λ (k : Kind). IsGood site k x) (pair_kind_is seen.version which two.0.kind s.kind b.kind suited)
     (good_pair site which one.0 two.0 using a.under b.under b.helper x two.2)
-good_applied starts site s book fit ranges using (CRule.TextWith h) suited sees =
+good_applied seen site s book fit ranges using (CRule.TextWith h) suited sees =
     subst (λ (k : Kind). GivesGood site k (ensures_of site s.p s.q h)) (sym (ensures_is s.kind suited))
     (good_ensures site s.p s.q h using (helper_seen site.params (is_below (length site.params)) h ranges sees))
-good_applied starts site s book fit ranges using (CRule.Union r t) suited sees = λ (x : Conclusion) e.
+good_applied seen site s book fit ranges using (CRule.Union r t) suited sees = λ (x : Conclusion) e.
     let one = went_on (part_record site book (first_part site.program.parts) (serves_union s.kind) r) (λ (a : Record).
     go_on (part_record site book (second_part site.program.parts) (serves_after s.kind a.kind) t) (λ b.
-    united starts site s.kind a b)) x e in
+    united seen.starts site s.kind a b)) x e in
     let two = went_on (part_record site book (second_part site.program.parts) (serves_after s.kind one.0.kind) t)
-    (λ (b : Record). united starts site s.kind one.0 b) x one.2 in
+    (λ (b : Record). united seen.starts site s.kind one.0 b) x one.2 in
     let a = part_is site (serves_union s.kind) book (first_part site.program.parts) r one.0 fit ranges one.1 in
     let b = part_is site (serves_after s.kind one.0.kind) book (second_part site.program.parts) t two.0 fit ranges
     two.1 in
-    good_united starts site s.kind one.0 two.0 using a.under b.under a.helper b.helper x two.2
-good_applied starts site s book fit ranges using (CRule.Proof t) suited sees =
+    good_united seen.starts site s.kind one.0 two.0 using a.under b.under a.helper b.helper x two.2
+good_applied seen site s book fit ranges using (CRule.Superpose r) suited sees = λ (x : Conclusion) e. cc
+good_applied seen site s book fit ranges using (CRule.Complete r t u v) suited sees = λ (x : Conclusion) e. cc
+good_applied seen site s book fit ranges using (CRule.Proof t) suited sees =
     good_proof site s book fit ranges using t sees.0 s.kind refl
 
 -- the record of a step that claims it

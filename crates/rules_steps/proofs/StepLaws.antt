@@ -15,12 +15,11 @@ use Rattle.rules_table.specs.Conclusion.{Conclusion}
 use Rattle.rules_table.specs.Table.{Site, needs, go_on}
 use Rattle.rules_table.proofs.SiteLaws.{met, went_on}
 use Rattle.rules_table.specs.Walk.{is_first, has_defined, used, suits, applied, claims, step_site}
-use Rattle.rules_table.specs.Walk.{rule_of}
+use Rattle.rules_table.specs.Walk.{Around, rule_of}
 use Rattle.rules_table.proofs.EachLaws.{Each, from_all}
 use Rattle.safety_rules.specs.declared.places.Derived.{Derived}
 use Rattle.safety_rules.specs.declared.places.RuleError.{RuleError}
 use Rattle.safety_rules.specs.Answers.{derived_of, RuleAnswers}
-use Rattle.rules_steps.specs.Starts.{starts_in}
 use Rattle.rules_steps.specs.Using.{Uses, IsEntry, BookFits}
 use Rattle.rules_steps.proofs.SmallLaws.{IsSmall}
 use Rattle.rules_steps.proofs.GoodLaws.{IsGood, good_applied, entry_of}
@@ -29,19 +28,19 @@ use Rattle.rules_steps.proofs.UsingLaws.{used_fit}
 abbrev pub claim_row : CStep → Result Conclusion Code → Result Conclusion Code
 claim_row s row = go_on row (λ x. needs (claims s x) Code.ConclusionDiffers (Ok x))
 
-module _ (slots : List CSlot) (c : CProgram) (s : CStep) (book : List Record) where
-  abbrev pub starts : CProgram → Bool
-  starts = starts_in slots
+module _ (seen : Around) (c : CProgram) (s : CStep) (book : List Record) where
+  abbrev slots : List CSlot
+  slots = seen.slots
 
   abbrev pub row : Result Conclusion Code
-  row = rule_of slots starts c s book
+  row = rule_of seen c s book
 
   abbrev pub applied_row : List CForm → Result Conclusion Code
-  applied_row using = claim_row s (applied starts (step_site slots c s using) s book s.rule)
+  applied_row using = claim_row s (applied seen (step_site slots c s using) s book s.rule)
 
   -- once the invariants that are used are known
   abbrev pub used_row : Result (List CForm) Code → Result Conclusion Code
-  used_row r = go_on r (λ using. needs (suits s.rule s.kind) Code.WrongKind (applied_row using))
+  used_row r = go_on r (λ using. needs (suits seen.version s.rule s.kind) Code.WrongKind (applied_row using))
 
   abbrev pub may_stand : Bool
   may_stand = is_first s.kind || has_defined c.name book
@@ -69,13 +68,14 @@ module _ (slots : List CSlot) (c : CProgram) (s : CStep) (book : List Record) wh
   not_used stands RuleError.Memory is = tt
 
   pub not_this : may_stand ≡ true → (using : List CForm) → used c book s.using ≡ Ok using →
-      suits s.rule s.kind ≡ false → RuleAnswers (Err (RuleError.Fault Code.WrongKind)) slots row
+      suits seen.version s.rule s.kind ≡ false → RuleAnswers (Err (RuleError.Fault Code.WrongKind)) slots row
   not_this stands using is wrong =
       subst (λ r. RuleAnswers (Err (RuleError.Fault Code.WrongKind)) slots r)
       (sym (used_so stands (Ok using) is ∙ ap (λ (b : Bool). needs b Code.WrongKind (applied_row using)) wrong)) refl
 
   pub given_so : may_stand ≡ true → (using : List CForm) → used c book s.using ≡ Ok using →
-      suits s.rule s.kind ≡ true → (answer : Result Derived RuleError) → RuleAnswers answer slots (applied_row using) →
+      suits seen.version s.rule s.kind ≡ true → (answer : Result Derived RuleError) →
+      RuleAnswers answer slots (applied_row using) →
       RuleAnswers answer slots row
   given_so stands using is serves answer given =
       subst (λ r. RuleAnswers answer slots r)
@@ -87,10 +87,11 @@ module _ (slots : List CSlot) (c : CProgram) (s : CStep) (book : List Record) wh
   good_step good fits x is =
       let stands = met may_stand Code.DefinedMissing (used_row (used c book s.using)) x (sym rule-is ∙ is) in
       let u = went_on (used c book s.using)
-      (λ (using : List CForm). needs (suits s.rule s.kind) Code.WrongKind (applied_row using)) x stands.1 in
-      let suited = met (suits s.rule s.kind) Code.WrongKind (applied_row u.0) x u.2 in
+      (λ (using : List CForm). needs (suits seen.version s.rule s.kind) Code.WrongKind (applied_row using)) x stands.1
+      in
+      let suited = met (suits seen.version s.rule s.kind) Code.WrongKind (applied_row u.0) x u.2 in
       let site : Site = step_site slots c s u.0 in
-      let given = went_on (applied starts site s book s.rule)
+      let given = went_on (applied seen site s book s.rule)
       (λ (y : Conclusion). needs (claims s y) Code.ConclusionDiffers (Ok y)) x suited.1 in
       let y : Conclusion = given.0 in
       let claimed = met (claims s y) Code.ConclusionDiffers (Ok y) x given.2 in
@@ -98,7 +99,7 @@ module _ (slots : List CSlot) (c : CProgram) (s : CStep) (book : List Record) wh
       let using : Each (FormFits slots []) u.0 =
       from_all (FormFits slots []) u.0 (used_fit slots c book fits s.using u.0 u.1) in
       let made : IsGood site s.kind y =
-      good_applied starts site s book fits good.params using s.rule suited.0 good.rule y given.1 in
+      good_applied seen site s book fits good.params using s.rule suited.0 good.rule y given.1 in
       let p : y.made.p ≡ s.p =
       same_form_is y.made.p s.p (and_left (same_form y.made.p s.p) (same_form y.made.q s.q) claimed.0) in
       let q : y.made.q ≡ s.q =
@@ -115,5 +116,5 @@ answered d slots (Err code) h = absurd h
 
 pub failed : (code : Code) (slots : List CSlot) (r : Result Conclusion Code) →
     RuleAnswers (Err (RuleError.Fault code)) slots r → r ≡ Err code
-failed code slots (Ok x) h = absurd h
-failed code slots (Err first) h = ap (λ (k : Code). Err k) (sym h)
+failed code _ (Ok x) h = absurd h
+failed code _ (Err first) h = ap (λ (k : Code). Err k) (sym h)

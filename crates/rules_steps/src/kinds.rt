@@ -1,8 +1,6 @@
 // Kinds of steps, and which rules give them.
-ghost use Rattle.std.specs.Prelude.{◌≡◌, ◌||◌, not};
-ghost use Rattle.core_terms.specs.declared.documents.CRule.{CRule};
+ghost use Rattle.std.specs.Prelude.{◌≡◌, ◌||◌};
 ghost use Rattle.core_terms.specs.declared.documents.PTerm.{out-PTerm};
-ghost use Rattle.core_terms.specs.declared.documents.Ref.{Ref};
 ghost use Rattle.rules_table.specs.Table as table;
 ghost use Rattle.rules_table.specs.Walk as walk;
 
@@ -29,6 +27,30 @@ fn is_leadsto(kind: Kind) -> bool
     matches!(kind, Kind::Leadsto)
 }
 
+fn is_until(kind: Kind) -> bool
+    ensures { result ≡ walk.is_until kind }
+{
+    matches!(kind, Kind::Until)
+}
+
+fn is_detects(kind: Kind) -> bool
+    ensures { result ≡ walk.is_detects kind }
+{
+    matches!(kind, Kind::Detects)
+}
+
+fn is_constant(kind: Kind) -> bool
+    ensures { result ≡ walk.is_constant kind }
+{
+    matches!(kind, Kind::Constant)
+}
+
+fn is_fixed(kind: Kind) -> bool
+    ensures { result ≡ walk.is_fixed kind }
+{
+    matches!(kind, Kind::Fixed)
+}
+
 // Whether two kinds are the same.
 pub(crate) fn is_kind(kind: Kind, other: Kind) -> bool
     ensures { result ≡ walk.is_kind kind other }
@@ -39,6 +61,10 @@ pub(crate) fn is_kind(kind: Kind, other: Kind) -> bool
         Kind::Unless => is_unless(other),
         Kind::Ensures => is_ensures(other),
         Kind::Leadsto => is_leadsto(other),
+        Kind::Until => is_until(other),
+        Kind::Detects => is_detects(other),
+        Kind::Constant => is_constant(other),
+        Kind::Fixed => is_fixed(other),
     }
 }
 
@@ -69,18 +95,34 @@ pub(crate) fn may_stand(kind: Kind, program: u32, book: &[Record]) -> bool
 }
 
 fn has_end(kind: Kind) -> bool
-    ensures { result ≡ (table.is_unless kind || table.is_ensures kind) }
+    ensures { result ≡ walk.has_end kind }
 {
     is_unless(kind) || is_ensures(kind)
 }
 
-// Whether a pair rule may give this kind.
-fn suits_pair(which: RuleName, kind: Kind) -> bool
-    ensures { (r s : Ref) → result ≡ walk.suits (CRule.Pair which r s) kind }
+// Whether a pair rule may give this kind, in a document of this version.
+fn suits_pair(version: u64, which: RuleName, kind: Kind) -> bool
+    ensures { result ≡ walk.suits_pair version which kind }
 {
     match which {
         RuleName::Conj => has_end(kind),
-        _ => is_unless(kind),
+        RuleName::Simpleconj => is_unless(kind),
+        RuleName::Disj => is_unless(kind),
+        RuleName::Simpledisj => is_unless(kind),
+        RuleName::Cancel => is_unless(kind),
+        _ => false,
+    }
+}
+
+// The kinds of the two steps from which a pair rule gives a step of this kind.
+pub(crate) fn pair_kinds(which: RuleName, kind: Kind) -> (Kind, Kind)
+    ensures { result ≡ table.pair_kinds which kind }
+{
+    match which {
+        RuleName::Until => (Kind::Unless, Kind::Leadsto),
+        RuleName::Detects => (Kind::Invariant, Kind::Leadsto),
+        RuleName::Constant => (Kind::Unless, Kind::Unless),
+        _ => (Kind::Unless, kind),
     }
 }
 
@@ -94,16 +136,18 @@ fn suits_term(t: &PTerm, kind: Kind) -> bool
     }
 }
 
-// Whether a rule may give this kind.
-pub(crate) fn suits(rule: &CRule, kind: Kind) -> bool
-    ensures { result ≡ walk.suits rule.now kind }
+// Whether a rule may give this kind, in a document of this version.
+pub(crate) fn suits(version: u64, rule: &CRule, kind: Kind) -> bool
+    ensures { result ≡ walk.suits version rule.now kind }
 {
     match rule {
         CRule::Text => is_first(kind) || is_unless(kind),
         CRule::TextWith(_) => is_ensures(kind),
         CRule::WeakenStep(_) => has_end(kind),
-        CRule::Pair(which, _, _) => suits_pair(*which, kind),
-        CRule::Union(_, _) => !is_leadsto(kind),
+        CRule::Pair(which, _, _) => suits_pair(version, *which, kind),
+        CRule::Union(_, _) => is_first(kind) || has_end(kind),
+        CRule::Superpose(_) => false,
+        CRule::Complete(_, _, _, _) => false,
         CRule::Proof(t) => suits_term(t, kind),
     }
 }

@@ -1,6 +1,7 @@
 //! What a step of a proof gives by its rule, from the steps before it.
 #![tactic(auto)]
 
+mod around;
 mod kinds;
 mod references;
 mod ruling;
@@ -8,5 +9,6 @@ mod terms;
 mod unions;
 mod using;
 
+pub use around::Around;
 pub use kinds::has_defined;
 pub use ruling::step_rule;

@@ -1,7 +1,7 @@
 // What a step's rule gives.
-ghost use Rattle.std.specs.Prelude.{◌≡◌, ◌++◌, All, IfOk, List, Ok, Result, length};
+ghost use Rattle.std.specs.Prelude.{◌≡◌, ◌++◌, IfOk, List, Ok, Result, length};
 ghost use Rattle.core_terms.specs.declared.programs.CSlot.{CSlot};
-ghost use Rattle.core_terms.specs.Conditions.{FormFits, IsProgram, IsSlot, IsStep, RuleWellScoped, is_below};
+ghost use Rattle.core_terms.specs.Conditions.{FormFits, IsProgram, IsStep, RuleWellScoped, is_below};
 ghost use Rattle.core_terms.specs.Conditions.{rule_ranges};
 ghost use Rattle.core_terms.specs.declared.documents.CRule.{CRule};
 ghost use Rattle.core_terms.specs.Trees.{same_form};
@@ -15,15 +15,16 @@ ghost use Rattle.safety_rules.specs.Instances.{AnswersRecord};
 ghost use Rattle.rules_steps.specs.Rows.{pair_row, weaken_row};
 ghost use Rattle.rules_steps.specs.Steps.{IsStepGiven};
 ghost use Rattle.rules_steps.specs.Using.{BookFits};
-ghost use Rattle.rules_steps.specs.Starts.{starts_in};
+ghost use Rattle.rules_steps.specs.Starts.{IsAround, seen_of, seen_with, starts_in};
 
-use crate::kinds::{may_stand, suits};
+use crate::around::Around;
+use crate::kinds::{may_stand, pair_kinds, suits};
 use crate::references::referred;
 use crate::terms::by_term;
 use crate::unions::by_union;
 use crate::using::used;
 use case_tables::{Code, Kind, RuleName};
-use core_terms::{CProgram, CRule, CSlot, CStep, Ref};
+use core_terms::{CProgram, CRule, CStep, Ref};
 use executor::start_of;
 use fair_rounds::Record;
 use safety_rules::{
@@ -152,9 +153,10 @@ fn by_pair(
     requires book { BookFits pl.now.slots.now book.now }
     ensures { RuleAnswers result pl.now.slots.now (pair_row (site_of pl.now) kind book.now which r.now s.now) }
 {
-    match referred(alloc, pl, book, Kind::Unless, r) {
+    let (one, two) = pair_kinds(which, kind);
+    match referred(alloc, pl, book, one, r) {
         Ok(first) => {
-            let second = referred(alloc, pl, book, kind, s);
+            let second = referred(alloc, pl, book, two, s);
             with_second(alloc, pl, which, first, second)
         }
         Err(error) => Err(error),
@@ -164,6 +166,7 @@ fn by_pair(
 // By the step's rule.
 fn applied(
     alloc: Global,
+    around: &Around,
     pl: &Place,
     step: &CStep,
     book: &[Record],
@@ -174,7 +177,8 @@ fn applied(
     requires rule { RuleWellScoped pl.now.slots.now (pl.now.params.now ++ rule_ranges step.now.rule)
         (is_below (length pl.now.params.now)) (length pl.now.params.now) step.now.rule }
     requires book { BookFits pl.now.slots.now book.now }
-    ensures { RuleAnswers result pl.now.slots.now (walk.applied (starts_in pl.now.slots.now) (site_of pl.now) step.now
+    ensures { RuleAnswers result pl.now.slots.now
+        (walk.applied (seen_with around.now.version pl.now.slots.now around.now.programs.now) (site_of pl.now) step.now
         book.now step.now.rule) }
 {
     match &step.rule {
@@ -183,6 +187,8 @@ fn applied(
         CRule::WeakenStep(r) => by_weaken(alloc, pl, step, book, r),
         CRule::Pair(which, r, s) => by_pair(alloc, pl, step.kind, book, *which, r, s),
         CRule::Union(r, s) => by_union(alloc, pl, step.kind, book, r, s),
+        CRule::Superpose(_) => Err(RuleError::Fault(Code::WrongKind)),
+        CRule::Complete(_, _, _, _) => Err(RuleError::Fault(Code::WrongKind)),
         CRule::Proof(t) => by_term(alloc, pl, step, book, t),
     }
 }
@@ -197,34 +203,34 @@ fn applied(
 /// `Memory`, where memory was refused.
 pub fn step_rule(
     alloc: Global,
-    slots: &[CSlot],
+    around: &Around,
     program: &CProgram,
     step: &CStep,
     book: &[Record],
 ) -> Result<Held<Derived>, RuleError>
-    requires slots { All IsSlot slots.now }
-    requires program { IsProgram slots.now program.now }
-    requires step { IsStep slots.now step.now }
-    requires book { BookFits slots.now book.now }
-    ensures answer { RuleAnswers result slots.now
-        (walk.rule_of slots.now (starts_in slots.now) program.now step.now book.now) }
-    ensures fits { IfOk result (IsStepGiven slots.now program.now step.now) }
+    requires around { IsAround around.now }
+    requires program { IsProgram around.now.slots.now program.now }
+    requires step { IsStep around.now.slots.now step.now }
+    requires book { BookFits around.now.slots.now book.now }
+    ensures answer { RuleAnswers result around.now.slots.now
+        (walk.rule_of (seen_of around.now) program.now step.now book.now) }
+    ensures fits { IfOk result (IsStepGiven around.now.slots.now program.now step.now) }
 {
     if !may_stand(step.kind, program.name, book) {
         return Err(RuleError::Fault(Code::DefinedMissing));
     }
     let using = used(alloc, program, book, step.using.as_slice())?;
-    if !suits(&step.rule, step.kind) {
+    if !suits(around.version, &step.rule, step.kind) {
         return Err(RuleError::Fault(Code::WrongKind));
     }
     let pl = Place {
         program,
-        slots,
+        slots: around.slots,
         params: step.params.as_slice(),
         name: step.name,
         using: using.as_slice(),
     };
-    let answer = applied(alloc, &pl, step, book);
+    let answer = applied(alloc, around, &pl, step, book);
     let Place {
         program: _program,
         slots: _slots,

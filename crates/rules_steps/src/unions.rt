@@ -166,7 +166,7 @@ fn united(
         Kind::Invariant => held(alloc, union_invariant(alloc, pl, a, b)),
         Kind::Unless => held(alloc, union_unless(alloc, pl, a, b)),
         Kind::Ensures => held(alloc, union_ensures(alloc, pl, a, b)),
-        Kind::Leadsto => Err(RuleError::Fault(Code::WrongKind)),
+        _ => Err(RuleError::Fault(Code::WrongKind)),
     }
 }
 

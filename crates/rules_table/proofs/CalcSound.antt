@@ -29,7 +29,7 @@ use Rattle.meaning_laws.proofs.PairTheorems.{simple_conjunction, disjunction_rul
 use Rattle.meaning_laws.proofs.PairTheorems.{cancellation_rule}
 use Rattle.meaning_laws.proofs.StandingTheorems.{unless_narrows, ensures_narrows}
 use Rattle.meaning_laws.specs.PairRules.{conjunction_end, disjunction_end}
-use Rattle.meaning_laws.specs.Stands.{InvariantStands, UnlessStands, LeadsStands}
+use Rattle.meaning_laws.specs.Stands.{FixedStands, InvariantStands, UnlessStands, ConstantStands, LeadsStands}
 use Rattle.meaning_laws.specs.Tests.{both_hold, Implies, one_holds, fails_with}
 use Rattle.fair_rounds.specs.Records.{holding, core_system, are_in_ranges, meets, ints_eq, NamedAt, EnsuresNamed}
 use Rattle.fair_rounds.specs.Records.{KindStands}
@@ -48,7 +48,7 @@ use Rattle.rules_table.specs.Validity.{IsValid}
 use Rattle.meaning_states.proofs.StepTheorems.{and_left, and_right, both_true}
 use Rattle.meaning_states.specs.State.{State, is_state}
 use Rattle.meaning_documents.specs.Execution.{System}
-use Rattle.meaning_documents.specs.Properties.{Test}
+use Rattle.meaning_documents.specs.Properties.{Test, implied}
 
 pub or_cases : (a b : Bool) (C : Type 0) → IsTrue (a || b) → (IsTrue a → C) → (IsTrue b → C) → C
 or_cases true b C t f g = f refl
@@ -111,8 +111,6 @@ module _ (site : Site) (good : IsSite site) (a : Record) (r : CForm) (e : List �
 
   weaker_kind : (k : Kind) → IsTrue (is_unless k || is_ensures k) → KindStands k site.slots site.program a e →
       KindStands k site.slots site.program (record_of site k a.p r a.under a.helper) e
-  weaker_kind Kind.Defined t stands = cc
-  weaker_kind Kind.Invariant t stands = cc
   weaker_kind Kind.Unless t stands =
       unless_narrows (core_system site.slots site.program) (both_hold w v) w (holding e a.p) (holding e r) narrower
       (weaker_unless (core_system site.slots site.program) w v (holding e a.p) (holding e a.q) (holding e r)
@@ -125,7 +123,7 @@ module _ (site : Site) (good : IsSite site) (a : Record) (r : CForm) (e : List �
         stands.choice weaker_both stands.ensured);
     named = stands.named;
   }
-  weaker_kind Kind.Leadsto t stands = cc
+  weaker_kind _ t stands = cc
 
 pub weaken_sound : WeakenSound
 unfolding weaken_of
@@ -219,21 +217,13 @@ module _ (site : Site) (good : IsSite site) (a b : Record) (e : List ℤ) where
             one two.ensured);
         named = two.named;
       })
-  conj_kind Kind.Unless Kind.Defined t one two = cc
-  conj_kind Kind.Unless Kind.Invariant t one two = cc
-  conj_kind Kind.Unless Kind.Leadsto t one two = cc
-  conj_kind Kind.Defined l t one two = cc
-  conj_kind Kind.Invariant l t one two = cc
-  conj_kind Kind.Ensures l t one two = cc
-  conj_kind Kind.Leadsto l t one two = cc
+  conj_kind Kind.Unless _ t one two = cc
+  conj_kind _ l t one two = cc
 
   unless_kind : (k : Kind) → IsTrue (is_unless k) → (r : Record) → KindStands k site.slots site.program r e →
       UnlessStands x (meets site.slots r.under) (holding e r.p) (holding e r.q)
   unless_kind Kind.Unless t r stands = stands
-  unless_kind Kind.Defined t r stands = cc
-  unless_kind Kind.Invariant t r stands = cc
-  unless_kind Kind.Ensures t r stands = cc
-  unless_kind Kind.Leadsto t r stands = cc
+  unless_kind _ t r stands = cc
 
   abbrev One : Type 0
   One = UnlessStands x ua (holding e a.p) (holding e a.q)
@@ -444,6 +434,14 @@ module _ (site : Site) (a : Record) (args : List Arg) (e : List ℤ) where
   moved_kind Kind.Leadsto stands = like (λ p q. LeadsStands y u p q a.bound) (holding n a.p)
       (holding e (form_at args a.p)) (holding n a.q) (holding e (form_at args a.q)) (test_with e args a.p)
       (test_with e args a.q) stands
+  moved_kind Kind.Until stands = like (λ p q. UnlessStands y u p q × LeadsStands y u p q a.bound) (holding n a.p)
+      (holding e (form_at args a.p)) (holding n a.q) (holding e (form_at args a.q)) (test_with e args a.p)
+      (test_with e args a.q) stands
+  moved_kind Kind.Detects stands = like (λ p q. InvariantStands y u (implied p q) × LeadsStands y u q p a.bound)
+      (holding n a.p) (holding e (form_at args a.p)) (holding n a.q) (holding e (form_at args a.q))
+      (test_with e args a.p) (test_with e args a.q) stands
+  moved_kind Kind.Constant stands = subst (λ t. ConstantStands y u t) (test_with e args a.p) stands
+  moved_kind Kind.Fixed stands = subst (λ t. FixedStands y u t) (test_with e args a.p) stands
 
 -- an instance that met its conditions is the record with the arguments put in
 pub instance_is : (site : Site) (ranges : List Range) (a : Record) (args : List Arg) (r : Record) →

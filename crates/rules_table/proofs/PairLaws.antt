@@ -1,16 +1,14 @@
 -- What the pair rules give, for all of them together.
-use Rattle.std.proofs.Common.{◌≡◌, Bool, Option, None, Result, Err, IsTrue, sym}
+use Rattle.std.proofs.Common.{◌≡◌, ℕ, Bool, Option, None, Result, Err, IsTrue, sym}
 use Rattle.case_tables.specs.declared.kind_table.Kind.{Kind}
 use Rattle.case_tables.specs.declared.rule_table.RuleName.{RuleName}
 use Rattle.case_tables.specs.declared.code_table.Code.{Code}
 use Rattle.core_terms.specs.declared.trees.CForm.{CForm}
-use Rattle.core_terms.specs.declared.documents.CRule.{CRule}
 use Rattle.core_terms.specs.declared.documents.Helper.{Helper}
-use Rattle.core_terms.specs.declared.documents.Ref.{Ref}
 use Rattle.fair_rounds.specs.declared.records.Record.{Record}
 use Rattle.rules_table.specs.Conclusion.{Conclusion}
-use Rattle.rules_table.specs.Table.{Site, needs, paired, pair_of}
-use Rattle.rules_table.specs.Walk.{is_kind, suits}
+use Rattle.rules_table.specs.Table.{Site, needs, paired, pair_kinds, pair_of}
+use Rattle.rules_table.specs.Walk.{is_kind, suits_pair}
 use Rattle.rules_table.proofs.KindLaws.{unless_is, same_kind}
 
 -- only a conjunction keeps the kind and the helper of the second premise
@@ -38,8 +36,12 @@ of_pair P site a b RuleName.Cancel none need given =
     need _ Code.WrongKind _ (need _ Code.MiddleDiffers _ (given _ _))
 of_pair P site a b _ none need given = none Code.WrongKind
 
--- and the kind is the claimed one, where the rule suits it
-pub pair_kind_is : (which : RuleName) (r s : Ref) (k kind : Kind) → IsTrue (is_kind kind k) →
-    IsTrue (suits (CRule.Pair which r s) kind) → pair_kind which k ≡ kind
-pair_kind_is RuleName.Conj r s k kind same suited = same_kind kind k same
-pair_kind_is _ r s k kind same suited = sym (unless_is kind suited)
+-- and the kind is the claimed one, where the rule suits it and the second premise has its kind
+pub pair_kind_is : (version : ℕ) (which : RuleName) (k kind : Kind) → IsTrue (is_kind (pair_kinds which kind).1 k) →
+    IsTrue (suits_pair version which kind) → pair_kind which k ≡ kind
+pair_kind_is version RuleName.Conj k kind same suited = same_kind kind k same
+pair_kind_is version RuleName.Simpleconj k kind same suited = sym (unless_is kind suited)
+pair_kind_is version RuleName.Disj k kind same suited = sym (unless_is kind suited)
+pair_kind_is version RuleName.Simpledisj k kind same suited = sym (unless_is kind suited)
+pair_kind_is version RuleName.Cancel k kind same suited = sym (unless_is kind suited)
+pair_kind_is version _ k kind same suited = cc

@@ -33,8 +33,7 @@ use Rattle.core_terms.proofs.SameLaws.{same_form_is}
 use Rattle.core_terms.proofs.BoolLaws.{le_passes}
 use Rattle.fair_rounds.specs.declared.records.Record.{Record}
 use Rattle.fair_rounds.specs.Records.{core_system, holding, meets, are_in_ranges, KindStands, Stands, IsKept}
-use Rattle.meaning_laws.proofs.StandingTheorems.{defined_narrows, invariant_narrows, unless_narrows}
-use Rattle.meaning_laws.proofs.StandingTheorems.{ensures_narrows}
+use Rattle.meaning_laws.proofs.StandingTheorems.{unless_narrows, ensures_narrows}
 use Rattle.fair_rounds.proofs.RecordTheorems.{invariant_kept}
 use Rattle.rules_table.specs.declared.led.Led.{Led}
 use Rattle.rules_table.specs.Conclusion.{Conclusion}
@@ -43,16 +42,16 @@ use Rattle.rules_table.specs.Forms.{imply}
 use Rattle.rules_table.specs.Table.{Site, needs, go_on, under_with, goals_of, record_of, concluded, is_defined}
 use Rattle.rules_table.specs.Table.{is_invariant, is_unless, is_ensures, defined_forms, defined_of, invariant_forms}
 use Rattle.rules_table.specs.Table.{invariant_of, unless_forms, unless_of, is_helper, helper_forms, ensures_of}
-use Rattle.rules_table.specs.Table.{weaken_of, paired, pair_of, shown_forms, first_helper, ending, is_part_pair}
+use Rattle.rules_table.specs.Table.{weaken_of, paired, pair_kinds, pair_of, shown_forms, first_helper, ending, is_part_pair}
 use Rattle.rules_table.specs.Table.{union_defined_of, union_invariant_of, union_unless_of, union_ensures_of}
 use Rattle.rules_table.specs.Table.{instance_of}
 use Rattle.rules_table.specs.Terms.{known, found, referred, term_of, all_ranges, leads_record, derive_of}
 use Rattle.rules_table.specs.Sound.{NamesNoParameter, AreClosed, NamesBelow, AreFull, IsSite, IsPremise, BookStands}
 use Rattle.rules_table.specs.Sound.{IsUnionOf}
 use Rattle.rules_table.specs.Sound.{IsPartPremise, HoldThroughout}
-use Rattle.rules_table.specs.Walk.{is_leadsto, is_kind, is_empty, used, suits, text_of, same_again, again_of}
-use Rattle.rules_table.specs.Walk.{proof_of, part_record, first_part, second_part, serves_union, serves_after, united}
-use Rattle.rules_table.specs.Walk.{applied, claims, step_site, rule_of, has_defined, is_first}
+use Rattle.rules_table.specs.Walk.{Around, is_leadsto, has_end, suits_term, is_kind, is_empty, used, suits, text_of}
+use Rattle.rules_table.specs.Walk.{same_again, again_of, proof_of, part_record, first_part, second_part, serves_union}
+use Rattle.rules_table.specs.Walk.{serves_after, united, applied, claims, step_site, rule_of, has_defined, is_first}
 use Rattle.rules_table.proofs.NamedLaws.{form_shown}
 use Rattle.rules_table.proofs.EachLaws.{Each, from_all, found_in, each_at}
 use Rattle.rules_table.proofs.BoundNames.{FormSees, TermSees, numbered, term_well}
@@ -173,40 +172,45 @@ full_ranges : (rs : List Range) → Each IsRange rs → AreFull rs
 full_ranges [] each = tt
 full_ranges (r ∷ rs) each = (le_passes r.lo r.hi each.0.some, full_ranges rs each.1)
 
--- a premise under the step's own name stands as it did, where U holds too; a leadsto, with its bound, is no such
--- premise
-again_kind : (site : Site) → AreClosed site.using → (a : Record) (e : List ℤ) → (k : Kind) →
-    (IsTrue (is_leadsto k) → ⊥) → KindStands k site.slots site.program a e →
+-- a premise under the step's own name stands as it did, where U holds too
+again_kind : (site : Site) → AreClosed site.using → (a : Record) (e : List ℤ) → (k : Kind) → IsTrue (has_end k) →
+    KindStands k site.slots site.program a e →
     KindStands k site.slots site.program (record_of site k a.p a.q a.under a.helper) e
-again_kind site closed a e Kind.Defined other stands =
-    defined_narrows (core_system site.slots site.program) (meets site.slots a.under)
-    (meets site.slots (under_with site a.under)) (of_one site closed a.under) stands
-again_kind site closed a e Kind.Invariant other stands =
-    invariant_narrows (core_system site.slots site.program) (meets site.slots a.under)
-    (meets site.slots (under_with site a.under)) (holding e a.p) (of_one site closed a.under) stands
-again_kind site closed a e Kind.Unless other stands =
+again_kind site closed a e Kind.Unless ends stands =
     unless_narrows (core_system site.slots site.program) (meets site.slots a.under)
     (meets site.slots (under_with site a.under)) (holding e a.p) (holding e a.q) (of_one site closed a.under) stands
-again_kind site closed a e Kind.Ensures other stands = record {
+again_kind site closed a e Kind.Ensures ends stands = record {
   choice = stands.choice;
   ensured = ensures_narrows (core_system site.slots site.program) (meets site.slots a.under)
       (meets site.slots (under_with site a.under)) (holding e a.p) (holding e a.q) stands.choice
       (of_one site closed a.under) stands.ensured;
   named = stands.named;
 }
-again_kind site closed a e Kind.Leadsto other stands = absurd (other refl)
+again_kind site closed a e _ ends stands = cc
 
-again_stands : (site : Site) → IsSite site → (a : Record) → (IsTrue (is_leadsto a.kind) → ⊥) → IsPremise site a →
+again_stands : (site : Site) → IsSite site → (a : Record) → IsTrue (has_end a.kind) → IsPremise site a →
     (r : Record) → r ≡ record_of site a.kind a.p a.q a.under a.helper → Stands site.slots site.program r
-again_stands site good a other premise r is =
+again_stands site good a ends premise r is =
     subst (λ (m : Record). Stands site.slots site.program m) (sym is) (λ e inside.
-    again_kind site good.closed a e a.kind other
+    again_kind site good.closed a e a.kind ends
     (premise.stands e (subst (λ rs. IsTrue (are_in_ranges rs e)) (sym premise.params) inside)))
 
+-- a term that gives a step of another kind than leadsto
+not_leads : (t : PTerm-F PTerm) (k : Kind) → (IsTrue (is_leadsto k) → ⊥) → IsTrue (suits_term t k) →
+    IsTrue (has_end k)
+not_leads (PTerm-F.From r) Kind.Leadsto other suited = absurd (other refl)
+not_leads (PTerm-F.From r) _ other suited = suited
+not_leads _ k other suited = absurd (other suited)
+
 -- a program and one of its steps, where U is what its `using` gives
-module _ (slots : List CSlot) (programs : List CProgram) (c : CProgram)
-    (named : find (λ b. nat_eq b.name c.name) programs ≡ Some c) (starts : CProgram → Bool)
-    (book : List Record) (goods : Each (RecordGood slots programs) book) where
+module _ (seen : Around) (c : CProgram) (named : find (λ b. nat_eq b.name c.name) seen.programs ≡ Some c)
+    (book : List Record) (goods : Each (RecordGood seen.slots seen.programs) book) where
+  abbrev slots : List CSlot
+  slots = seen.slots
+
+  abbrev programs : List CProgram
+  programs = seen.programs
+
   program_named : (a : Record) → IsTrue (nat_eq a.program c.name) →
       find (λ b. nat_eq b.name a.program) programs ≡ Some c
   program_named a t = ap (λ n. find (λ b. nat_eq b.name n) programs) (eqb-true a.program c.name t) ∙ named
@@ -308,15 +312,15 @@ module _ (slots : List CSlot) (programs : List CProgram) (c : CProgram)
     none : Holding site []
     none = none_holding site
 
-    text_case : (k : Kind) → (y : Conclusion) → text_of starts site step k ≡ Ok y → AllValid slots y.goals →
+    text_case : (k : Kind) → (y : Conclusion) → text_of seen.starts site step k ≡ Ok y → AllValid slots y.goals →
         Settled site k y.made
     unfolding defined_of invariant_of unless_of
     text_case Kind.Defined y e valid =
-        settled_by site good holds Kind.Defined Top Top [] None 0 none (defined_of site (starts c)) step.params
+        settled_by site good holds Kind.Defined Top Top [] None 0 none (defined_of site (seen.starts c)) step.params
         (defined_forms site)
-        (need_gives (starts c) Code.NoStart _ step.params _ (defined_forms site) (end_gives slots step.params _
+        (need_gives (seen.starts c) Code.NoStart _ step.params _ (defined_forms site) (end_gives slots step.params _
         (defined_forms site))) y e
-        (defined_sound site good (starts c) y e valid)
+        (defined_sound site good (seen.starts c) y e valid)
     text_case Kind.Invariant y e valid =
         settled_by site good holds Kind.Invariant step.p Bottom [] None 0 none (invariant_of site step.p) step.params
         (invariant_forms site step.p) (end_gives slots step.params _ (invariant_forms site step.p)) y e
@@ -325,8 +329,7 @@ module _ (slots : List CSlot) (programs : List CProgram) (c : CProgram)
         settled_by site good holds Kind.Unless step.p step.q [] None 0 none (unless_of site step.p step.q) step.params
         (unless_forms site step.p step.q) (end_gives slots step.params _ (unless_forms site step.p step.q)) y e
         (unless_sound site good step.p step.q y e valid)
-    text_case Kind.Ensures y e valid = cc
-    text_case Kind.Leadsto y e valid = cc
+    text_case _ y e valid = cc
 
     ensures_case : (h : Helper) → (y : Conclusion) → ensures_of site step.p step.q h ≡ Ok y → AllValid slots y.goals →
         Settled site Kind.Ensures y.made
@@ -371,10 +374,10 @@ module _ (slots : List CSlot) (programs : List CProgram) (c : CProgram)
         (pair_sound site good which a b pa pb y e valid)
 
     -- `from R` for an unless or an ensures
-    again_case : (IsTrue (is_leadsto step.kind) → ⊥) → (y : Conclusion) → (t : PTerm-F PTerm) →
+    again_case : IsTrue (has_end step.kind) → (y : Conclusion) → (t : PTerm-F PTerm) →
         again_of site step book t ≡ Ok y → AllValid slots y.goals →
         Settled site step.kind y.made
-    again_case other y (PTerm-F.From r) e valid =
+    again_case ends y (PTerm-F.From r) e valid =
         let one = went_on (referred site step.params book (is_kind step.kind) r) (same_again site) y e in
         let a : Record = one.0 in
         let premise = referred_premise (is_kind step.kind) r a one.1 in
@@ -383,10 +386,9 @@ module _ (slots : List CSlot) (programs : List CProgram) (c : CProgram)
         let made = ap (λ (z : Conclusion). z.made) (gives y one.2) in
         subst (λ k. Settled site k y.made) (same_kind step.kind a.kind premise.0)
         (settled site good holds a.kind a.p a.q a.under a.helper 0 under y.made made
-        (again_stands site good a (λ t. other (subst (λ k. IsTrue (is_leadsto k))
-        (same_kind step.kind a.kind premise.0) t))
-        premise.1 y.made made))
-    again_case other y _ e valid = cc
+        (again_stands site good a
+        (subst (λ k. IsTrue (has_end k)) (sym (same_kind step.kind a.kind premise.0)) ends) premise.1 y.made made))
+    again_case ends y _ e valid = cc
 
     -- a proof term
     derive_case : (t : PTerm) → RuleWellScoped slots (step.params ++ bound_ranges t) (is_below (length step.params))
@@ -418,13 +420,14 @@ module _ (slots : List CSlot) (programs : List CProgram) (c : CProgram)
         (derive_sound site good book book_stands t well.well well.full y e few_p few_q valid)
 
     proof_case : (t : PTerm) → RuleWellScoped slots (step.params ++ bound_ranges t) (is_below (length step.params))
-        (length step.params) (CRule.Proof t) → (y : Conclusion) → (k : Kind) → step.kind ≡ k →
-        proof_of site step book k t ≡ Ok y → y.made.p ≡ step.p → y.made.q ≡ step.q → AllValid slots y.goals →
+        (length step.params) (CRule.Proof t) → IsTrue (suits_term (out-PTerm t) step.kind) → (y : Conclusion) →
+        (k : Kind) → step.kind ≡ k → proof_of site step book k t ≡ Ok y → y.made.p ≡ step.p → y.made.q ≡ step.q → AllValid slots y.goals →
         Settled site step.kind y.made
-    proof_case t sees y Kind.Leadsto same e p_is q_is valid =
+    proof_case t sees suited y Kind.Leadsto same e p_is q_is valid =
         subst (λ k. Settled site k y.made) (sym same) (derive_case t sees y e p_is q_is valid)
-    proof_case t sees y _ same e p_is q_is valid =
-        again_case (λ l. let also = leadsto_is step.kind l in cc) y (out-PTerm t) e valid
+    proof_case t sees suited y _ same e p_is q_is valid =
+        again_case (not_leads (out-PTerm t) step.kind (λ l. let also = leadsto_is step.kind l in cc) suited) y
+        (out-PTerm t) e valid
 
     -- the instance of a record of a part
     part_good : (part : ℕ) (f : CProgram) → find (λ b. nat_eq b.name part) programs ≡ Some f →
@@ -480,16 +483,16 @@ module _ (slots : List CSlot) (programs : List CProgram) (c : CProgram)
 
     united_case : (f g : CProgram) → IsUnionOf site f g → (a b : Record) → IsPartPremise site f a → IsPartPremise site g
         b →
-        AreClosed a.under → AreClosed b.under → (k : Kind) → (y : Conclusion) → united starts site k a b ≡ Ok y →
+        AreClosed a.under → AreClosed b.under → (k : Kind) → (y : Conclusion) → united seen.starts site k a b ≡ Ok y →
         AllValid slots y.goals → Settled site k y.made
     unfolding union_defined_of union_invariant_of union_unless_of union_ensures_of
     united_case f g parts a b pa pb ca cb Kind.Defined y e valid =
-        union_settled Kind.Defined Top Top None a b ca cb (union_defined_of site (starts c) a b)
+        union_settled Kind.Defined Top Top None a b ca cb (union_defined_of site (seen.starts c) a b)
         (need_gives (is_part_pair site a b) Code.OtherProgram _ step.params _ (shown_forms site a b)
         (need_gives (is_defined a.kind && is_defined b.kind) Code.WrongKind _ step.params _ (shown_forms site a b)
-        (need_gives (starts c) Code.NoStart _ step.params _ (shown_forms site a b)
+        (need_gives (seen.starts c) Code.NoStart _ step.params _ (shown_forms site a b)
         (end_gives slots step.params _ (shown_forms site a b))))) y e valid
-        (union_defined_sound site good f g parts (starts c) a b pa pb y e valid)
+        (union_defined_sound site good f g parts (seen.starts c) a b pa pb y e valid)
     united_case f g parts a b pa pb ca cb Kind.Invariant y e valid =
         union_settled Kind.Invariant a.p Bottom None a b ca cb (union_invariant_of site a b)
         (need_gives (is_part_pair site a b) Code.OtherProgram _ step.params _ (shown_forms site a b)
@@ -515,7 +518,7 @@ module _ (slots : List CSlot) (programs : List CProgram) (c : CProgram)
         (need_gives (same_form a.p b.p && same_form a.q b.q) Code.MiddleDiffers _ step.params _ (shown_forms site a b)
         (end_gives slots step.params _ (shown_forms site a b))))) y e valid
         (union_ensures_sound site good f g parts a b pa pb y e valid)
-    united_case f g parts a b pa pb ca cb Kind.Leadsto y e valid = cc
+    united_case f g parts a b pa pb ca cb _ y e valid = cc
 
     -- the parts of a union, as programs
     abbrev pub PartsAre : Option (ℕ × ℕ) → Type 0
@@ -527,10 +530,10 @@ module _ (slots : List CSlot) (programs : List CProgram) (c : CProgram)
     union_case : (o : Option (ℕ × ℕ)) → PartsAre o → (r s : Ref) → (y : Conclusion) →
         go_on (part_record site book (first_part o) (serves_union step.kind) r) (λ a.
         go_on (part_record site book (second_part o) (serves_after step.kind a.kind) s) (λ b.
-        united starts site step.kind a b)) ≡ Ok y → AllValid slots y.goals → Settled site step.kind y.made
+        united seen.starts site step.kind a b)) ≡ Ok y → AllValid slots y.goals → Settled site step.kind y.made
     union_case None are r s y e valid =
         let one = went_on (part_record site book None (serves_union step.kind) r) (λ a.
-        go_on (part_record site book None (serves_after step.kind a.kind) s) (λ b. united starts site step.kind a
+        go_on (part_record site book None (serves_after step.kind a.kind) s) (λ b. united seen.starts site step.kind a
         b)) y e in
         let two = went_on (found book r) (λ a. Err Code.OtherProgram) one.0 one.1 in
         let refused = two.2 in
@@ -538,10 +541,10 @@ module _ (slots : List CSlot) (programs : List CProgram) (c : CProgram)
     union_case (Some parts) are r s y e valid =
         let one = went_on (part_record site book (Some parts.0) (serves_union step.kind) r) (λ a.
         go_on (part_record site book (Some parts.1) (serves_after step.kind a.kind) s) (λ b.
-        united starts site step.kind a b)) y e in
+        united seen.starts site step.kind a b)) y e in
         let a : Record = one.0 in
         let two = went_on (part_record site book (Some parts.1) (serves_after step.kind a.kind) s) (λ b.
-        united starts site step.kind a b) y one.2 in
+        united seen.starts site step.kind a b) y one.2 in
         let b : Record = two.0 in
         let first = part_good parts.0 are.0 are.2 (serves_union step.kind) r a one.1 in
         let second = part_good parts.1 are.1 are.3 (serves_after step.kind a.kind) s b two.1 in
@@ -551,7 +554,7 @@ module _ (slots : List CSlot) (programs : List CProgram) (c : CProgram)
     pub applied_case : PartsAre c.parts → (rule : CRule) →
         RuleWellScoped slots (step.params ++ rule_ranges rule) (is_below (length step.params)) (length step.params)
         rule →
-        IsTrue (suits rule step.kind) → (y : Conclusion) → applied starts site step book rule ≡ Ok y →
+        IsTrue (suits seen.version rule step.kind) → (y : Conclusion) → applied seen site step book rule ≡ Ok y →
         y.made.p ≡ step.p → y.made.q ≡ step.q → AllValid slots y.goals → Settled site step.kind y.made
     applied_case parts CRule.Text sees suited y e p_is q_is valid = text_case step.kind y e valid
     applied_case parts (CRule.TextWith h) sees suited y e p_is q_is valid =
@@ -562,18 +565,21 @@ module _ (slots : List CSlot) (programs : List CProgram) (c : CProgram)
         subst (λ k. Settled site k y.made) (same_kind step.kind one.0.kind premise.0)
         (weaken_case one.0 premise.1 (referred_holding step.params (is_kind step.kind) r one.0 one.1) y one.2 valid)
     applied_case parts (CRule.Pair which r s) sees suited y e p_is q_is valid =
-        let one = went_on (referred site step.params book is_unless r) (λ a.
-        go_on (referred site step.params book (is_kind step.kind) s) (λ b. pair_of site which a b)) y e in
-        let two = went_on (referred site step.params book (is_kind step.kind) s) (λ b. pair_of site which one.0 b) y
+        let kinds : Kind × Kind = pair_kinds which step.kind in
+        let one = went_on (referred site step.params book (is_kind kinds.0) r) (λ a.
+        go_on (referred site step.params book (is_kind kinds.1) s) (λ b. pair_of site which a b)) y e in
+        let two = went_on (referred site step.params book (is_kind kinds.1) s) (λ b. pair_of site which one.0 b) y
         one.2 in
-        let first = referred_premise is_unless r one.0 one.1 in
-        let second = referred_premise (is_kind step.kind) s two.0 two.1 in
-        subst (λ k. Settled site k y.made) (pair_kind_is which r s two.0.kind step.kind second.0 suited)
-        (pair_case which one.0 two.0 first.1 second.1 (referred_holding step.params is_unless r one.0 one.1)
-        (referred_holding step.params (is_kind step.kind) s two.0 two.1) y two.2 valid)
+        let first = referred_premise (is_kind kinds.0) r one.0 one.1 in
+        let second = referred_premise (is_kind kinds.1) s two.0 two.1 in
+        subst (λ k. Settled site k y.made) (pair_kind_is seen.version which two.0.kind step.kind second.0 suited)
+        (pair_case which one.0 two.0 first.1 second.1 (referred_holding step.params (is_kind kinds.0) r one.0 one.1)
+        (referred_holding step.params (is_kind kinds.1) s two.0 two.1) y two.2 valid)
     applied_case parts (CRule.Union r s) sees suited y e p_is q_is valid = union_case c.parts parts r s y e valid
+    applied_case parts (CRule.Superpose r) sees suited y e p_is q_is valid = cc
+    applied_case parts (CRule.Complete r s t u) sees suited y e p_is q_is valid = cc
     applied_case parts (CRule.Proof t) sees suited y e p_is q_is valid =
-        proof_case t sees y step.kind refl e p_is q_is valid
+        proof_case t sees suited y step.kind refl e p_is q_is valid
 
 fits_as : (k l : Kind) (ps qs : List Range) (p q f g : CForm) → k ≡ l → ps ≡ qs → p ≡ f → q ≡ g → KindFits l qs f g →
     KindFits k ps p q
@@ -583,58 +589,58 @@ fits_as k l ps qs p q f g i j m n fits =
     (subst (λ a. KindFits l qs f a) (sym n) fits)))
 
 -- a step that got its record by the table, with all its conditions
-module _ (slots : List CSlot) (programs : List CProgram) (c : CProgram)
-    (named : find (λ b. nat_eq b.name c.name) programs ≡ Some c) (starts : CProgram → Bool)
-    (book : List Record) (goods : Each (RecordGood slots programs) book) (step : CStep) (fits : IsStep slots step)
-    (site_good : (using : List CForm) → AreClosed using → IsSite (step_site slots c step using))
-    (parts : (using : List CForm) (good : IsSite (step_site slots c step using))
-    (holds : HoldThroughout (step_site slots c step using) using) →
-    PartsAre slots programs c named starts book goods step fits using good holds c.parts) where
-  pub step_good : (x : Conclusion) → rule_of slots starts c step book ≡ Ok x → AllValid slots x.goals →
-      RecordGood slots programs x.made × (x.made.program ≡ c.name)
+module _ (seen : Around) (c : CProgram) (named : find (λ b. nat_eq b.name c.name) seen.programs ≡ Some c)
+    (book : List Record) (goods : Each (RecordGood seen.slots seen.programs) book) (step : CStep)
+    (fits : IsStep seen.slots step)
+    (site_good : (using : List CForm) → AreClosed using → IsSite (step_site seen.slots c step using))
+    (parts : (using : List CForm) (good : IsSite (step_site seen.slots c step using))
+    (holds : HoldThroughout (step_site seen.slots c step using) using) →
+    PartsAre seen c named book goods step fits using good holds c.parts) where
+  pub step_good : (x : Conclusion) → rule_of seen c step book ≡ Ok x → AllValid seen.slots x.goals →
+      RecordGood seen.slots seen.programs x.made × (x.made.program ≡ c.name)
   unfolding rule_of
   step_good x e valid =
       let named_kind = met (is_first step.kind || has_defined c.name book) Code.DefinedMissing
       (go_on (used c book step.using) (λ using.
-      needs (suits step.rule step.kind) Code.WrongKind
-      (go_on (applied starts (step_site slots c step using) step book step.rule) (λ y.
+      needs (suits seen.version step.rule step.kind) Code.WrongKind
+      (go_on (applied seen (step_site seen.slots c step using) step book step.rule) (λ y.
       needs (claims step y) Code.ConclusionDiffers (Ok y))))) x e in
       let u = went_on (used c book step.using) (λ using.
-      needs (suits step.rule step.kind) Code.WrongKind
-      (go_on (applied starts (step_site slots c step using) step book step.rule) (λ y.
+      needs (suits seen.version step.rule step.kind) Code.WrongKind
+      (go_on (applied seen (step_site seen.slots c step using) step book step.rule) (λ y.
       needs (claims step y) Code.ConclusionDiffers (Ok y)))) x named_kind.1 in
       let using : List CForm = u.0 in
-      let suited = met (suits step.rule step.kind) Code.WrongKind
-      (go_on (applied starts (step_site slots c step using) step book step.rule) (λ y.
+      let suited = met (suits seen.version step.rule step.kind) Code.WrongKind
+      (go_on (applied seen (step_site seen.slots c step using) step book step.rule) (λ y.
       needs (claims step y) Code.ConclusionDiffers (Ok y))) x u.2 in
-      let a = went_on (applied starts (step_site slots c step using) step book step.rule) (λ y.
+      let a = went_on (applied seen (step_site seen.slots c step using) step book step.rule) (λ y.
       needs (claims step y) Code.ConclusionDiffers (Ok y)) x suited.1 in
       let claimed = met (claims step a.0) Code.ConclusionDiffers (Ok a.0) x a.2 in
       let same : a.0 ≡ x = let given = claimed.1 in cc in
-      let e' : applied starts (step_site slots c step using) step book step.rule ≡ Ok x =
+      let e' : applied seen (step_site seen.slots c step using) step book step.rule ≡ Ok x =
       a.1 ∙ ap (λ y. Ok y) same in
       let claims_x : IsTrue (claims step x) = subst (λ y. IsTrue (claims step y)) same claimed.0 in
       let p_is = same_form_is x.made.p step.p
       (and_left (same_form x.made.p step.p) (same_form x.made.q step.q) claims_x) in
       let q_is = same_form_is x.made.q step.q
       (and_right (same_form x.made.p step.p) (same_form x.made.q step.q) claims_x) in
-      let holding_using = used_good slots programs c named starts book goods step.using using u.1
-      (step_site slots c step using) refl refl in
+      let holding_using = used_good seen c named book goods step.using using u.1
+      (step_site seen.slots c step using) refl refl in
       let good = site_good using holding_using.closed in
-      let s = applied_case slots programs c named starts book goods step fits using good holding_using.throughout
+      let s = applied_case seen c named book goods step fits using good holding_using.throughout
       (parts using good holding_using.throughout) step.rule fits.rule suited.0 x e' p_is q_is valid in (
         record {
           kept = λ b there.
               let one : Some c ≡ Some b =
-              sym named ∙ ap (λ n. find (λ d. nat_eq d.name n) programs) (sym s.program) ∙ there in
+              sym named ∙ ap (λ n. find (λ d. nat_eq d.name n) seen.programs) (sym s.program) ∙ there in
               let is : c ≡ b = cc in
-              subst (λ d. IsKept slots d x.made) is (record { stands = s.stands; under = s.under });
+              subst (λ d. IsKept seen.slots d x.made) is (record { stands = s.stands; under = s.under });
           closed = s.closed;
           fits = fits_as x.made.kind step.kind x.made.params step.params x.made.p x.made.q step.p step.q s.kind_is
               s.params
               p_is q_is fits.kind;
           names = subst (λ rs. NamesBelow (length rs) x.made.p) (sym s.params)
-              (subst (λ f. NamesBelow (length step.params) f) (sym p_is) (fitting slots step.params step.p fits.p));
+              (subst (λ f. NamesBelow (length step.params) f) (sym p_is) (fitting seen.slots step.params step.p fits.p));
         },
         s.program,
       )

@@ -177,9 +177,7 @@ module _ (site : Site) (good : IsSite site) (book : List Record) (stands : BookS
   from_kind v e a serves Kind.Leadsto t h =
       leads_narrows x (meets site.slots a.under) v (holding e a.p) (holding e a.q) a.bound
       (serves_implies site v a.under serves) h
-  from_kind v e a serves Kind.Defined t h = cc
-  from_kind v e a serves Kind.Invariant t h = cc
-  from_kind v e a serves Kind.Unless t h = cc
+  from_kind v e a serves _ t h = cc
 
   safe_kind : (v : Test) (e : List ℤ) (a : Record) → Serves site v a.under → (k : Kind) → IsTrue (is_unless k) →
       KindStands k site.slots site.program a e →
@@ -188,10 +186,7 @@ module _ (site : Site) (good : IsSite site) (book : List Record) (stands : BookS
       unless_kept x v (holding e a.p) (holding e a.q)
       (unless_narrows x (meets site.slots a.under) v (holding e a.p) (holding e a.q)
       (serves_implies site v a.under serves) h)
-  safe_kind v e a serves Kind.Defined t h = cc
-  safe_kind v e a serves Kind.Invariant t h = cc
-  safe_kind v e a serves Kind.Ensures t h = cc
-  safe_kind v e a serves Kind.Leadsto t h = cc
+  safe_kind v e a serves _ t h = cc
 
   abbrev TermStands : PTerm → Type 0
   TermStands t = IsTrue (is_well_bound ranges t) → Sound (term_of site ranges book t)

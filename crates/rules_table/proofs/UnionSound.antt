@@ -111,18 +111,12 @@ module _ (site : Site) (good : IsSite site) (f g : CProgram) (parts : IsUnionOf 
     part_unless : (k : Kind) → IsTrue (is_unless k) → (c : CProgram) (r : Record) → KindStands k site.slots c r e →
         UnlessStands (core_system site.slots c) (meets site.slots r.under) (holding e r.p) (holding e r.q)
     part_unless Kind.Unless t c r stands = stands
-    part_unless Kind.Defined t c r stands = cc
-    part_unless Kind.Invariant t c r stands = cc
-    part_unless Kind.Ensures t c r stands = cc
-    part_unless Kind.Leadsto t c r stands = cc
+    part_unless _ t c r stands = cc
 
     part_ensures : (k : Kind) → IsTrue (is_ensures k) → (c : CProgram) (r : Record) → KindStands k site.slots c r e →
         EnsuresNamed site.slots c (meets site.slots r.under) (holding e r.p) (holding e r.q) e r.helper
     part_ensures Kind.Ensures t c r stands = stands
-    part_ensures Kind.Defined t c r stands = cc
-    part_ensures Kind.Invariant t c r stands = cc
-    part_ensures Kind.Unless t c r stands = cc
-    part_ensures Kind.Leadsto t c r stands = cc
+    part_ensures _ t c r stands = cc
 
     joined_unless : UnlessStands xf u (holding e a.p) (holding e a.q) → UnlessStands xg v (holding e a.p)
         (holding e a.q) →
@@ -204,14 +198,8 @@ module _ (site : Site) (good : IsSite site) (f g : CProgram) (parts : IsUnionOf 
       (defined_narrows xd ud wd (of_both site good.closed a.under b.under)
       (union_defined (core_system site.slots f) (core_system site.slots g) (meets site.slots a.under)
       (meets site.slots b.under) one two))
-  joined_defined Kind.Defined Kind.Invariant t one two = cc
-  joined_defined Kind.Defined Kind.Unless t one two = cc
-  joined_defined Kind.Defined Kind.Ensures t one two = cc
-  joined_defined Kind.Defined Kind.Leadsto t one two = cc
-  joined_defined Kind.Invariant l t one two = cc
-  joined_defined Kind.Unless l t one two = cc
-  joined_defined Kind.Ensures l t one two = cc
-  joined_defined Kind.Leadsto l t one two = cc
+  joined_defined Kind.Defined _ t one two = cc
+  joined_defined _ l t one two = cc
 
   bottom_never : holding e Bottom ≡ never
   bottom_never = λ i s. value-Bottom s e i
@@ -240,17 +228,9 @@ module _ (site : Site) (good : IsSite site) (f g : CProgram) (parts : IsUnionOf 
       (holding e a.q) never refl (ap (holding e) end ∙ bottom_never) one)
       (subst (λ p. InvariantStands (core_system site.slots g) (meets site.slots b.under) (holding e p)) (sym same)
       two))
-  joined_invariant Kind.Invariant Kind.Defined t same end one two = cc
-  joined_invariant Kind.Invariant Kind.Invariant t same end one two = cc
-  joined_invariant Kind.Invariant Kind.Ensures t same end one two = cc
-  joined_invariant Kind.Invariant Kind.Leadsto t same end one two = cc
-  joined_invariant Kind.Unless Kind.Defined t same end one two = cc
-  joined_invariant Kind.Unless Kind.Unless t same end one two = cc
-  joined_invariant Kind.Unless Kind.Ensures t same end one two = cc
-  joined_invariant Kind.Unless Kind.Leadsto t same end one two = cc
-  joined_invariant Kind.Defined l t same end one two = cc
-  joined_invariant Kind.Ensures l t same end one two = cc
-  joined_invariant Kind.Leadsto l t same end one two = cc
+  joined_invariant Kind.Invariant _ t same end one two = cc
+  joined_invariant Kind.Unless _ t same end one two = cc
+  joined_invariant _ l t same end one two = cc
 
 -- a premise of a union at these numbers
 part_at : (site : Site) (c : CProgram) (a : Record) → IsPartPremise site c a → (e : List ℤ) →
@@ -355,17 +335,9 @@ module _ (site : Site) (good : IsSite site) (f g : CProgram) (parts : IsUnionOf 
         (cond (is_ensures k) a.helper b.helper)
     ensured_kind Kind.Ensures Kind.Unless t one two = ensured_first site good f g parts a b e one two
     ensured_kind Kind.Unless Kind.Ensures t one two = ensured_second one two
-    ensured_kind Kind.Ensures Kind.Ensures t one two = cc
-    ensured_kind Kind.Ensures Kind.Defined t one two = cc
-    ensured_kind Kind.Ensures Kind.Invariant t one two = cc
-    ensured_kind Kind.Ensures Kind.Leadsto t one two = cc
-    ensured_kind Kind.Unless Kind.Unless t one two = cc
-    ensured_kind Kind.Unless Kind.Defined t one two = cc
-    ensured_kind Kind.Unless Kind.Invariant t one two = cc
-    ensured_kind Kind.Unless Kind.Leadsto t one two = cc
-    ensured_kind Kind.Defined l t one two = cc
-    ensured_kind Kind.Invariant l t one two = cc
-    ensured_kind Kind.Leadsto l t one two = cc
+    ensured_kind Kind.Ensures _ t one two = cc
+    ensured_kind Kind.Unless _ t one two = cc
+    ensured_kind _ l t one two = cc
 
 -- a record's property, of equal formulas
 same_kind : (k : Kind) (slots : List CSlot) (c : CProgram) (b : Record) (p q : CForm) (e : List ℤ) → b.p ≡ p →

@@ -27,8 +27,8 @@ use Rattle.rules_table.specs.Conclusion.{Conclusion}
 use Rattle.rules_table.specs.Validity.{Goal, AllValid}
 use Rattle.rules_table.specs.Table.{needs, is_defined}
 use Rattle.rules_table.specs.Sound.{AreClosed, IsSite, HoldThroughout}
-use Rattle.rules_table.specs.Walk.{Plan, Failure, has_defined, or_failure, further, rule_of, planned, steps_of}
-use Rattle.rules_table.specs.Walk.{proof_end, program_of, proof_steps, proofs_of, walk_of, step_site}
+use Rattle.rules_table.specs.Walk.{Around, Plan, Failure, around_of, has_defined, or_failure, further, rule_of, planned}
+use Rattle.rules_table.specs.Walk.{steps_of, proof_end, program_of, proof_steps, proofs_of, walk_of, step_site}
 use Rattle.rules_table.specs.WalkLaws.{WalkSound}
 use Rattle.rules_table.proofs.EachLaws.{Each, from_all, each_join, each_map, each_at, found_in}
 use Rattle.rules_table.proofs.SiteLaws.{met}
@@ -75,15 +75,15 @@ not_grown a = ([], sym (nil_after a.goals))
     nil_after [] = refl
     nil_after (g ∷ gs) = ap (λ hs. g ∷ hs) (nil_after gs)
 
-steps_grow : (slots : List CSlot) (starts : CProgram → Bool) (c : CProgram) (steps : List CStep) (plan new : Plan) →
-    steps_of slots starts c steps plan ≡ Ok new → Grows plan new
-steps_grow slots starts c [] plan new e =
+steps_grow : (seen : Around) (c : CProgram) (steps : List CStep) (plan new : Plan) →
+    steps_of seen c steps plan ≡ Ok new → Grows plan new
+steps_grow seen c [] plan new e =
     let same : plan ≡ new = cc in subst (λ p. Grows plan p) same (not_grown plan)
-steps_grow slots starts c (s ∷ rest) plan new e =
-    let one = then_so (or_failure c.name (Some s.name) (rule_of slots starts c s plan.records)) (λ x.
-    steps_of slots starts c rest (planned plan x)) new e in
+steps_grow seen c (s ∷ rest) plan new e =
+    let one = then_so (or_failure c.name (Some s.name) (rule_of seen c s plan.records)) (λ x.
+    steps_of seen c rest (planned plan x)) new e in
     grown_on plan (planned plan one.0) new (one.0.goals, refl)
-    (steps_grow slots starts c rest (planned plan one.0) new one.2)
+    (steps_grow seen c rest (planned plan one.0) new one.2)
 
 -- a state of the document
 
@@ -137,6 +137,9 @@ contained_named programs apart n f in_front name is =
     ∙ named_found programs apart in_front.0 f (contained_at programs n f in_front.0 in_front.1 in_front.2)
 
 module _ (d : CDocument) (is : IsCoreDocument d) (starts : CProgram → Bool) where
+  abbrev seen : Around
+  seen = around_of d starts
+
   abbrev Good : Record → Type 0
   Good a = RecordGood d.slots d.programs a
 
@@ -162,7 +165,7 @@ module _ (d : CDocument) (is : IsCoreDocument d) (starts : CProgram → Bool) wh
         (using : List CForm) (good : IsSite (step_site d.slots c step using))
         (holds : HoldThroughout (step_site d.slots c step using) using) → (o : Option (ℕ × ℕ)) →
         UnionFits (take place d.programs) c o →
-        PartsAre d.slots d.programs c named_c starts book goods step fits using good holds o
+        PartsAre seen c named_c book goods step fits using good holds o
     parts_good book goods step fits using good holds None unions = tt
     parts_good book goods step fits using good holds (Some parts) unions = (
       unions.0,
@@ -186,22 +189,22 @@ module _ (d : CDocument) (is : IsCoreDocument d) (starts : CProgram → Bool) wh
         ∙ or_first (has_defined n book) (has_defined n more) t
 
     steps_good : (steps : List CStep) → Each (IsStep d.slots) steps → (plan new : Plan) →
-        steps_of d.slots starts c steps plan ≡ Ok new → AllValid d.slots new.goals → Each Good plan.records →
+        steps_of seen c steps plan ≡ Ok new → AllValid d.slots new.goals → Each Good plan.records →
         Each (Own plan.records) plan.records → Each Good new.records × Each (Own new.records) new.records
     steps_good [] fits plan new e valid goods own =
         let same : plan ≡ new = cc in
         subst (λ p. Each Good p.records × Each (Own p.records) p.records) same (goods, own)
     steps_good (s ∷ rest) fits plan new e valid goods own =
-        let one = then_so (or_failure c.name (Some s.name) (rule_of d.slots starts c s plan.records)) (λ x.
-        steps_of d.slots starts c rest (planned plan x)) new e in
+        let one = then_so (or_failure c.name (Some s.name) (rule_of seen c s plan.records)) (λ x.
+        steps_of seen c rest (planned plan x)) new e in
         let x : Conclusion = one.0 in
-        let grown = steps_grow d.slots starts c rest (planned plan x) new one.2 in
+        let grown = steps_grow seen c rest (planned plan x) new one.2 in
         let shown : AllValid d.slots (plan.goals ++ x.goals) =
         valid_front d.slots (plan.goals ++ x.goals) grown.0 (subst (λ gs. AllValid d.slots gs) grown.1 valid) in
-        let given = step_good d.slots d.programs c named_c starts plan.records goods s fits.0 (site_good s)
+        let given = step_good seen c named_c plan.records goods s fits.0 (site_good s)
         (λ using good holds. parts_good plan.records goods s fits.0 using good holds c.parts
         (is.unions place c there)) x
-        (passed c.name (Some s.name) (rule_of d.slots starts c s plan.records) x one.1)
+        (passed c.name (Some s.name) (rule_of seen c s plan.records) x one.1)
         (valid_back d.slots plan.goals x.goals shown) in
         let book : List Record = plan.records ++ x.made ∷ [] in
         steps_good rest fits.1 (planned plan x) new one.2 valid
@@ -221,12 +224,12 @@ module _ (d : CDocument) (is : IsCoreDocument d) (starts : CProgram → Bool) wh
   BookGood book = Each Good book × Each (Ended book) book
 
   proof_good : (proof : CProof) → IsProof d.slots d.programs proof → (o : Option CProgram) →
-      program_of d.programs proof.program ≡ o → (plan new : Plan) → proof_steps d.slots starts o proof plan ≡ Ok new →
+      program_of d.programs proof.program ≡ o → (plan new : Plan) → proof_steps seen o proof plan ≡ Ok new →
       AllValid d.slots new.goals → BookGood plan.records → BookGood new.records
   proof_good proof fits None found plan new e valid good =
       let same : plan ≡ new = cc in subst (λ p. BookGood p.records) same good
   proof_good proof fits (Some c) found plan new e valid good =
-      let one = then_so (steps_of d.slots starts c proof.steps plan) (proof_end c) new e in
+      let one = then_so (steps_of seen c proof.steps plan) (proof_end c) new e in
       let end = met (has_defined c.name one.0.records) Code.DefinedMissing (Ok one.0) new
       (passed c.name None (needs (has_defined c.name one.0.records) Code.DefinedMissing (Ok one.0)) new one.2) in
       let same : one.0 ≡ new = let given = end.1 in cc in
@@ -244,32 +247,32 @@ module _ (d : CDocument) (is : IsCoreDocument d) (starts : CProgram → Bool) wh
       )
 
   proof_grows : (proof : CProof) (o : Option CProgram) (plan new : Plan) →
-      proof_steps d.slots starts o proof plan ≡ Ok new → Grows plan new
+      proof_steps seen o proof plan ≡ Ok new → Grows plan new
   proof_grows proof None plan new e =
       let same : plan ≡ new = cc in subst (λ p. Grows plan p) same (not_grown plan)
   proof_grows proof (Some c) plan new e =
-      let one = then_so (steps_of d.slots starts c proof.steps plan) (proof_end c) new e in
+      let one = then_so (steps_of seen c proof.steps plan) (proof_end c) new e in
       let end = met (has_defined c.name one.0.records) Code.DefinedMissing (Ok one.0) new
       (passed c.name None (needs (has_defined c.name one.0.records) Code.DefinedMissing (Ok one.0)) new one.2) in
       let same : one.0 ≡ new = let given = end.1 in cc in
-      subst (λ p. Grows plan p) same (steps_grow d.slots starts c proof.steps plan one.0 one.1)
+      subst (λ p. Grows plan p) same (steps_grow seen c proof.steps plan one.0 one.1)
 
-  proofs_grow : (proofs : List CProof) (plan new : Plan) → proofs_of d starts proofs plan ≡ Ok new → Grows plan new
+  proofs_grow : (proofs : List CProof) (plan new : Plan) → proofs_of seen proofs plan ≡ Ok new → Grows plan new
   proofs_grow [] plan new e = let same : plan ≡ new = cc in subst (λ p. Grows plan p) same (not_grown plan)
   proofs_grow (proof ∷ rest) plan new e =
-      let one = then_so (proof_steps d.slots starts (program_of d.programs proof.program) proof plan)
-      (proofs_of d starts rest) new e in
+      let one = then_so (proof_steps seen (program_of d.programs proof.program) proof plan)
+      (proofs_of seen rest) new e in
       grown_on plan one.0 new (proof_grows proof (program_of d.programs proof.program) plan one.0 one.1)
       (proofs_grow rest one.0 new one.2)
 
   proofs_good : (proofs : List CProof) → Each (IsProof d.slots d.programs) proofs → (plan new : Plan) →
-      proofs_of d starts proofs plan ≡ Ok new → AllValid d.slots new.goals → BookGood plan.records →
+      proofs_of seen proofs plan ≡ Ok new → AllValid d.slots new.goals → BookGood plan.records →
       BookGood new.records
   proofs_good [] fits plan new e valid good =
       let same : plan ≡ new = cc in subst (λ p. BookGood p.records) same good
   proofs_good (proof ∷ rest) fits plan new e valid good =
-      let one = then_so (proof_steps d.slots starts (program_of d.programs proof.program) proof plan)
-      (proofs_of d starts rest) new e in
+      let one = then_so (proof_steps seen (program_of d.programs proof.program) proof plan)
+      (proofs_of seen rest) new e in
       let grown = proofs_grow rest one.0 new one.2 in
       let shown = valid_front d.slots one.0.goals grown.0 (subst (λ gs. AllValid d.slots gs) grown.1 valid) in
       proofs_good rest fits.1 one.0 new one.2 valid

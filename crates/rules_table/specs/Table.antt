@@ -177,6 +177,13 @@ weaken_of site a q =
 
 -- pair rules
 
+-- the kinds of the two steps from which a pair rule gives a step of this kind
+abbrev pub pair_kinds : RuleName → Kind → Kind × Kind
+pair_kinds RuleName.Until kind = (Kind.Unless, Kind.Leadsto)
+pair_kinds RuleName.Detects kind = (Kind.Invariant, Kind.Leadsto)
+pair_kinds RuleName.Constant kind = (Kind.Unless, Kind.Unless)
+pair_kinds _ kind = (Kind.Unless, kind)
+
 abbrev pub ends_of_both : CForm → CForm → CForm → CForm → CForm
 ends_of_both p q r s = or_form (or_form (and_form p s) (and_form r q)) (and_form q s)
 
@@ -204,6 +211,9 @@ pair_of site RuleName.Simpledisj a b =
 pair_of site RuleName.Cancel a b =
     needs (is_unless a.kind && is_unless b.kind) Code.WrongKind
     (needs (same_form a.q b.p) Code.MiddleDiffers (paired site Kind.Unless None (or_form a.p a.q) b.q a b))
+pair_of site RuleName.Until a b = Err Code.WrongKind
+pair_of site RuleName.Detects a b = Err Code.WrongKind
+pair_of site RuleName.Constant a b = Err Code.WrongKind
 pair_of site _ a b = Err Code.WrongKind
 
 -- `union R S`; each formula of a part's `under` has to follow from U

@@ -21,12 +21,38 @@ use Rattle.rules_table.specs.Validity.{Goal}
 use Rattle.rules_table.specs.Conclusion.{Conclusion}
 use Rattle.rules_table.specs.Table.{Site, needs, go_on, is_defined, is_invariant, is_unless, is_ensures, instance_of}
 use Rattle.rules_table.specs.Table.{record_of, concluded, defined_of, invariant_of, unless_of, ensures_of, weaken_of}
-use Rattle.rules_table.specs.Table.{pair_of, union_defined_of, union_invariant_of, union_unless_of, union_ensures_of}
+use Rattle.rules_table.specs.Table.{pair_kinds, pair_of, union_defined_of, union_invariant_of, union_unless_of, union_ensures_of}
 use Rattle.rules_table.specs.Terms.{found, referred, derive_of}
+
+-- what a step sees of its document; the test says whether the start state of a program meets its initially section
+pub record Around : Type 0 where
+  pub version : ℕ
+  pub slots : List CSlot
+  pub programs : List CProgram
+  pub starts : CProgram → Bool
+
+abbrev pub around_of : CDocument → (CProgram → Bool) → Around
+around_of d starts = record { version = d.version; slots = d.slots; programs = d.programs; starts = starts }
 
 abbrev pub is_leadsto : Kind → Bool
 is_leadsto Kind.Leadsto = true
 is_leadsto _ = false
+
+abbrev pub is_until : Kind → Bool
+is_until Kind.Until = true
+is_until _ = false
+
+abbrev pub is_detects : Kind → Bool
+is_detects Kind.Detects = true
+is_detects _ = false
+
+abbrev pub is_constant : Kind → Bool
+is_constant Kind.Constant = true
+is_constant _ = false
+
+abbrev pub is_fixed : Kind → Bool
+is_fixed Kind.Fixed = true
+is_fixed _ = false
 
 abbrev pub is_kind : Kind → Kind → Bool
 is_kind Kind.Defined k = is_defined k
@@ -34,6 +60,10 @@ is_kind Kind.Invariant k = is_invariant k
 is_kind Kind.Unless k = is_unless k
 is_kind Kind.Ensures k = is_ensures k
 is_kind Kind.Leadsto k = is_leadsto k
+is_kind Kind.Until k = is_until k
+is_kind Kind.Detects k = is_detects k
+is_kind Kind.Constant k = is_constant k
+is_kind Kind.Fixed k = is_fixed k
 
 -- a kind that may stand before the `defined` step
 abbrev pub is_first : Kind → Bool
@@ -56,20 +86,35 @@ used c book (r ∷ rest) =
     (needs (is_invariant a.kind && is_empty r.args) Code.NotInvariant
     (go_on (used c book rest) (λ fs. Ok (a.p ∷ fs)))))
 
--- the rule's word gives the claimed kind
+-- the rule's word gives the claimed kind, in a document of this version
+
+abbrev pub has_end : Kind → Bool
+has_end kind = is_unless kind || is_ensures kind
 
 abbrev pub suits_term : PTerm-F PTerm → Kind → Bool
-suits_term (PTerm-F.From r) kind = is_leadsto kind || (is_unless kind || is_ensures kind)
+suits_term (PTerm-F.From r) kind = is_leadsto kind || has_end kind
 suits_term _ kind = is_leadsto kind
 
-abbrev pub suits : CRule → Kind → Bool
-suits CRule.Text kind = is_first kind || is_unless kind
-suits (CRule.TextWith h) kind = is_ensures kind
-suits (CRule.WeakenStep r) kind = is_unless kind || is_ensures kind
-suits (CRule.Pair RuleName.Conj r s) kind = is_unless kind || is_ensures kind
-suits (CRule.Pair which r s) kind = is_unless kind
-suits (CRule.Union r s) kind = not (is_leadsto kind)
-suits (CRule.Proof t) kind = suits_term (out-PTerm t) kind
+abbrev pub suits_pair : ℕ → RuleName → Kind → Bool
+suits_pair version RuleName.Conj kind = has_end kind
+suits_pair version RuleName.Simpleconj kind = is_unless kind
+suits_pair version RuleName.Disj kind = is_unless kind
+suits_pair version RuleName.Simpledisj kind = is_unless kind
+suits_pair version RuleName.Cancel kind = is_unless kind
+suits_pair version RuleName.Until kind = false
+suits_pair version RuleName.Detects kind = false
+suits_pair version RuleName.Constant kind = false
+suits_pair version _ kind = false
+
+abbrev pub suits : ℕ → CRule → Kind → Bool
+suits version CRule.Text kind = is_first kind || is_unless kind
+suits version (CRule.TextWith h) kind = is_ensures kind
+suits version (CRule.WeakenStep r) kind = has_end kind
+suits version (CRule.Pair which r s) kind = suits_pair version which kind
+suits version (CRule.Union r s) kind = is_first kind || has_end kind
+suits version (CRule.Superpose r) kind = false
+suits version (CRule.Complete r s t u) kind = false
+suits version (CRule.Proof t) kind = suits_term (out-PTerm t) kind
 
 -- by the program's text; the test says whether the start state of a program meets its initially section
 abbrev pub text_of : (CProgram → Bool) → Site → CStep → Kind → Result Conclusion Code
@@ -124,22 +169,24 @@ united starts site Kind.Defined a b = union_defined_of site (starts site.program
 united starts site Kind.Invariant a b = union_invariant_of site a b
 united starts site Kind.Unless a b = union_unless_of site a b
 united starts site Kind.Ensures a b = union_ensures_of site a b
-united starts site Kind.Leadsto a b = Err Code.WrongKind
+united starts site _ a b = Err Code.WrongKind
 
 -- by the rule
-abbrev pub applied : (CProgram → Bool) → Site → CStep → List Record → CRule → Result Conclusion Code
-applied starts site step book CRule.Text = text_of starts site step step.kind
-applied starts site step book (CRule.TextWith h) = ensures_of site step.p step.q h
-applied starts site step book (CRule.WeakenStep r) =
+abbrev pub applied : Around → Site → CStep → List Record → CRule → Result Conclusion Code
+applied seen site step book CRule.Text = text_of seen.starts site step step.kind
+applied seen site step book (CRule.TextWith h) = ensures_of site step.p step.q h
+applied seen site step book (CRule.WeakenStep r) =
     go_on (referred site site.params book (is_kind step.kind) r) (λ a. weaken_of site a step.q)
-applied starts site step book (CRule.Pair which r s) =
-    go_on (referred site site.params book is_unless r) (λ a.
-    go_on (referred site site.params book (is_kind step.kind) s) (λ b. pair_of site which a b))
-applied starts site step book (CRule.Union r s) =
+applied seen site step book (CRule.Pair which r s) =
+    go_on (referred site site.params book (is_kind (pair_kinds which step.kind).0) r) (λ a.
+    go_on (referred site site.params book (is_kind (pair_kinds which step.kind).1) s) (λ b. pair_of site which a b))
+applied seen site step book (CRule.Union r s) =
     go_on (part_record site book (first_part site.program.parts) (serves_union step.kind) r) (λ a.
     go_on (part_record site book (second_part site.program.parts) (serves_after step.kind a.kind) s) (λ b.
-    united starts site step.kind a b))
-applied starts site step book (CRule.Proof t) = proof_of site step book step.kind t
+    united seen.starts site step.kind a b))
+applied seen site step book (CRule.Superpose r) = Err Code.WrongKind
+applied seen site step book (CRule.Complete r s t u) = Err Code.WrongKind
+applied seen site step book (CRule.Proof t) = proof_of site step book step.kind t
 
 -- the derived p and q are the claimed ones
 abbrev pub claims : CStep → Conclusion → Bool
@@ -151,12 +198,12 @@ step_site slots c step using =
     record { program = c; slots = slots; params = step.params; name = step.name; using = using }
 
 -- a step's row of the table, with all its conditions in order
-unfoldable pub rule_of : List CSlot → (CProgram → Bool) → CProgram → CStep → List Record → Result Conclusion Code
-rule_of slots starts c step book =
+unfoldable pub rule_of : Around → CProgram → CStep → List Record → Result Conclusion Code
+rule_of seen c step book =
     needs (is_first step.kind || has_defined c.name book) Code.DefinedMissing
     (go_on (used c book step.using) (λ using.
-    needs (suits step.rule step.kind) Code.WrongKind
-    (go_on (applied starts (step_site slots c step using) step book step.rule) (λ x.
+    needs (suits seen.version step.rule step.kind) Code.WrongKind
+    (go_on (applied seen (step_site seen.slots c step using) step book step.rule) (λ x.
     needs (claims step x) Code.ConclusionDiffers (Ok x)))))
 
 -- steps taken so far: their records, what is left to be shown, and of each of these the place of its record
@@ -186,11 +233,11 @@ abbrev pub further : {A B : Type 0} → Result A Failure → (A → Result B Fai
 further (Ok x) f = f x
 further (Err e) f = Err e
 
-abbrev pub steps_of : List CSlot → (CProgram → Bool) → CProgram → List CStep → Plan → Result Plan Failure
-steps_of slots starts c [] plan = Ok plan
-steps_of slots starts c (s ∷ rest) plan =
-    further (or_failure c.name (Some s.name) (rule_of slots starts c s plan.records)) (λ x.
-    steps_of slots starts c rest (planned plan x))
+abbrev pub steps_of : Around → CProgram → List CStep → Plan → Result Plan Failure
+steps_of seen c [] plan = Ok plan
+steps_of seen c (s ∷ rest) plan =
+    further (or_failure c.name (Some s.name) (rule_of seen c s plan.records)) (λ x.
+    steps_of seen c rest (planned plan x))
 
 -- a proof has a `defined` step
 abbrev pub proof_end : CProgram → Plan → Result Plan Failure
@@ -201,15 +248,15 @@ proof_end c plan =
 abbrev pub program_of : List CProgram → ℕ → Option CProgram
 program_of programs name = find (λ c. nat_eq c.name name) programs
 
-abbrev pub proof_steps : List CSlot → (CProgram → Bool) → Option CProgram → CProof → Plan → Result Plan Failure
-proof_steps slots starts None proof plan = Ok plan
-proof_steps slots starts (Some c) proof plan = further (steps_of slots starts c proof.steps plan) (proof_end c)
+abbrev pub proof_steps : Around → Option CProgram → CProof → Plan → Result Plan Failure
+proof_steps seen None proof plan = Ok plan
+proof_steps seen (Some c) proof plan = further (steps_of seen c proof.steps plan) (proof_end c)
 
-abbrev pub proofs_of : CDocument → (CProgram → Bool) → List CProof → Plan → Result Plan Failure
-proofs_of d starts [] plan = Ok plan
-proofs_of d starts (proof ∷ rest) plan =
-    further (proof_steps d.slots starts (program_of d.programs proof.program) proof plan) (proofs_of d starts rest)
+abbrev pub proofs_of : Around → List CProof → Plan → Result Plan Failure
+proofs_of seen [] plan = Ok plan
+proofs_of seen (proof ∷ rest) plan =
+    further (proof_steps seen (program_of seen.programs proof.program) proof plan) (proofs_of seen rest)
 
 -- all steps of all proofs, or the first failure
 abbrev pub walk_of : CDocument → (CProgram → Bool) → Result Plan Failure
-walk_of d starts = proofs_of d starts d.proofs (record { records = []; goals = []; owner = [] })
+walk_of d starts = proofs_of (around_of d starts) d.proofs (record { records = []; goals = []; owner = [] })

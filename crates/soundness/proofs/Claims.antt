@@ -1,5 +1,5 @@
 -- What the steps of an accepted document claim is true.
-use Rattle.std.proofs.Common.{◌≡◌, ℕ, ℤ, List, [], ◌∷◌, map, Bool, ◌&&◌, Option, Some, None, IsTrue}
+use Rattle.std.proofs.Common.{◌≡◌, ℕ, ℤ, List, [], ◌∷◌, map, Bool, not, ◌&&◌, ◌||◌, Option, Some, None, IsTrue}
 use Rattle.std.proofs.Common.{refl, sym, ap, ◌∙◌, subst, slice_get}
 use Rattle.case_tables.specs.declared.word_table.Word.{Word}
 use Rattle.unity_syntax.specs.declared.expression.Expr.{Expr}
@@ -14,11 +14,11 @@ use Rattle.meaning_documents.specs.Value.{range_ends}
 use Rattle.meaning_documents.specs.Setting.{slot_ranges, is_true_at}
 use Rattle.meaning_documents.specs.Programs.{Composed, document_setting}
 use Rattle.meaning_documents.specs.Execution.{System, system_of}
-use Rattle.meaning_documents.specs.Properties.{never}
+use Rattle.meaning_documents.specs.Properties.{never, implied}
 use Rattle.meaning_documents.specs.Claims.{parameters, are_arguments, argument_bindings, ClaimsOf}
 use Rattle.meaning_laws.specs.Alike.{StepEquivalent, SameAt}
 use Rattle.meaning_laws.proofs.AlikeTheorems.{alike_back, defined_alike, invariant_alike, unless_alike}
-use Rattle.meaning_laws.proofs.AlikeTheorems.{ensures_alike, leads_alike}
+use Rattle.meaning_laws.proofs.AlikeTheorems.{ensures_alike, leads_alike, fixed_alike, constant_alike}
 use Rattle.names_rules.specs.Declarations.{some_of}
 use Rattle.core_terms.specs.declared.trees.CForm.{CForm}
 use Rattle.core_terms.specs.declared.programs.CSlot.{CSlot}
@@ -71,6 +71,13 @@ module _ (d : Document) (x : System) (slots : List CSlot) (p : CProgram)
   same_at : (f g : CForm) (of : Expr) → f ≡ g → SameTruth d b zs g of → Same f of
   same_at f g of same says = λ state h. ap (λ k. form_value state zs k) same ∙ says state h
 
+  implied_same : (f g : Expr) → Same r.p f → Same r.q g → SameAt (slot_ranges (document_setting d).variables)
+      (implied (holding zs r.p) (holding zs r.q))
+      (implied (is_true_at (document_setting d) b f) (is_true_at (document_setting d) b g))
+  implied_same f g here there state h =
+      ap (λ v. not v || holding zs r.q state) (here state h)
+      ∙ ap (λ v. not (is_true_at (document_setting d) b f state) || v) (there state h)
+
   claim_true : (claim : Claim) → IsTrue (is_claim claim) → r.p ≡ claim_p s claim → r.q ≡ claim_q s claim →
       ClaimSays d b zs (claim_p s claim) (claim_q s claim) claim → KindHolds (claim_kind claim) slots p r zs →
       ClaimsOf (document_setting d) x b r.bound claim
@@ -84,6 +91,12 @@ module _ (d : Document) (x : System) (slots : List CSlot) (p : CProgram)
       (holding zs r.q) (is_true_at (document_setting d) b of) never
       (same_at r.p (claim_p s (Claim.Stable at of)) of p_is says)
       (λ state h. ap (λ k. form_value state zs k) q_is ∙ value-Bottom state zs) holds
+  claim_true (Claim.Constant at of) t p_is q_is says holds =
+      constant_alike (slot_ranges (document_setting d).variables) (core_system slots p) x alike (holding zs r.p)
+      (is_true_at (document_setting d) b of) (same_at r.p (claim_p s (Claim.Constant at of)) of p_is says) holds
+  claim_true (Claim.Fixed at of) t p_is q_is says holds =
+      fixed_alike (slot_ranges (document_setting d).variables) (core_system slots p) x alike (holding zs r.p)
+      (is_true_at (document_setting d) b of) (same_at r.p (claim_p s (Claim.Fixed at of)) of p_is says) holds
   claim_true (Claim.Between at f Word.Unless g) t p_is q_is says holds =
       unless_alike (slot_ranges (document_setting d).variables) (core_system slots p) x alike (holding zs r.p)
       (holding zs r.q) (is_true_at (document_setting d) b f) (is_true_at (document_setting d) b g)
@@ -99,6 +112,32 @@ module _ (d : Document) (x : System) (slots : List CSlot) (p : CProgram)
       (holding zs r.q) (is_true_at (document_setting d) b f) (is_true_at (document_setting d) b g) r.bound
       (same_at r.p (claim_p s (Claim.Between at f Word.Leadsto g)) f p_is says.0)
       (same_at r.q (claim_q s (Claim.Between at f Word.Leadsto g)) g q_is says.1) holds
+  claim_true (Claim.Between at f Word.Until g) t p_is q_is says holds =
+      let here = same_at r.p (claim_p s (Claim.Between at f Word.Until g)) f p_is says.0 in
+      let there = same_at r.q (claim_q s (Claim.Between at f Word.Until g)) g q_is says.1 in
+      record {
+        unless = unless_alike (slot_ranges (document_setting d).variables) (core_system slots p) x alike
+            (holding zs r.p) (holding zs r.q) (is_true_at (document_setting d) b f)
+            (is_true_at (document_setting d) b g)
+            here there holds.unless;
+        leads = leads_alike (slot_ranges (document_setting d).variables) (core_system slots p) x alike
+            (holding zs r.p) (holding zs r.q) (is_true_at (document_setting d) b f)
+            (is_true_at (document_setting d) b g)
+            r.bound here there holds.leads;
+      }
+  claim_true (Claim.Between at f Word.Detects g) t p_is q_is says holds =
+      let here = same_at r.p (claim_p s (Claim.Between at f Word.Detects g)) f p_is says.0 in
+      let there = same_at r.q (claim_q s (Claim.Between at f Word.Detects g)) g q_is says.1 in
+      record {
+        always = invariant_alike (slot_ranges (document_setting d).variables) (core_system slots p) x alike
+            (implied (holding zs r.p) (holding zs r.q))
+            (implied (is_true_at (document_setting d) b f) (is_true_at (document_setting d) b g))
+            (implied_same f g here there) holds.always;
+        leads = leads_alike (slot_ranges (document_setting d).variables) (core_system slots p) x alike
+            (holding zs r.q) (holding zs r.p) (is_true_at (document_setting d) b g)
+            (is_true_at (document_setting d) b f)
+            r.bound there here holds.leads;
+      }
   claim_true (Claim.Between at f _ g) t p_is q_is says holds = cc t
 
 module _ (d : Document) (starts : CProgram → Bool) (plan : Plan) (accepted : IsValidlyPlanned d starts plan)

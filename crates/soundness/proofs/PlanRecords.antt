@@ -18,8 +18,8 @@ use Rattle.core_terms.proofs.BoolLaws.{or_first}
 use Rattle.fair_rounds.specs.declared.records.Record.{Record}
 use Rattle.rules_table.specs.Conclusion.{Conclusion}
 use Rattle.rules_table.specs.Table.{needs, is_defined}
-use Rattle.rules_table.specs.Walk.{Plan, Failure, has_defined, or_failure, further, rule_of, planned, steps_of}
-use Rattle.rules_table.specs.Walk.{proof_end, program_of, proof_steps, proofs_of, walk_of}
+use Rattle.rules_table.specs.Walk.{Around, Plan, Failure, around_of, has_defined, or_failure, further, rule_of, planned}
+use Rattle.rules_table.specs.Walk.{steps_of, proof_end, program_of, proof_steps, proofs_of, walk_of}
 use Rattle.rules_table.proofs.EachLaws.{Each, from_all, each_join, each_at, found_in}
 use Rattle.rules_table.proofs.SiteLaws.{met}
 use Rattle.rules_table.proofs.EnsuresSound.{some_item}
@@ -65,11 +65,18 @@ some_found test [] h = cc
 some_found test (y ∷ xs) h = found_one test y xs (test y) refl (λ k. some_found test xs k) h
 
 -- what a walk adds to a plan
-module _ (programs : List CProgram) (starts : CProgram → Bool) where
+module _ (seen : Around) where
+  abbrev slots : List CSlot
+  slots = seen.slots
+
+  abbrev programs : List CProgram
+  programs = seen.programs
+
   -- a record of a `defined` step has no parameters, and its program passes the test of start states
   pub record DefinedWell (a : Record) : Type 0 where
     pub params : a.kind ≡ Kind.Defined → a.params ≡ []
-    pub may_start : a.kind ≡ Kind.Defined → (c : CProgram) → program_of programs a.program ≡ Some c → IsTrue (starts c)
+    pub may_start : a.kind ≡ Kind.Defined → (c : CProgram) → program_of programs a.program ≡ Some c →
+        IsTrue (seen.starts c)
 
   -- the records that were added are those of these steps
   pub record Adds (old new : Plan) (steps : List CoreStep) : Type 0 where
@@ -90,11 +97,11 @@ module _ (programs : List CProgram) (starts : CProgram → Bool) where
     well = each_join DefinedWell one.more two.more one.well two.well;
   }
 
-  one_added : (slots : List CSlot) (c : CProgram) → program_of programs c.name ≡ Some c → (s : CStep) →
-      IsStep slots s → (plan : Plan) (x : Conclusion) → rule_of slots starts c s plan.records ≡ Ok x →
+  one_added : (c : CProgram) → program_of programs c.name ≡ Some c → (s : CStep) →
+      IsStep slots s → (plan : Plan) (x : Conclusion) → rule_of seen c s plan.records ≡ Ok x →
       Adds plan (planned plan x) (of_program c.name s ∷ [])
-  one_added slots c found s fits plan x e =
-      let row = rule_gives slots starts c s plan.records x e in
+  one_added c found s fits plan x e =
+      let row = rule_gives seen c s plan.records x e in
       record {
         more = x.made ∷ [];
         joined = refl;
@@ -107,44 +114,44 @@ module _ (programs : List CProgram) (starts : CProgram → Bool) where
                 let one : Some c ≡ Some b =
                 sym found ∙ ap (λ n. program_of programs n) (sym row.recorded.program) ∙ there in
                 let same : c ≡ b = cc in
-                subst (λ d. IsTrue (starts d)) same (row.may_start (sym row.recorded.kind ∙ is));
+                subst (λ d. IsTrue (seen.starts d)) same (row.may_start (sym row.recorded.kind ∙ is));
           },
           tt,
         );
       }
 
-  steps_added : (slots : List CSlot) (c : CProgram) → program_of programs c.name ≡ Some c → (steps : List CStep) →
-      Each (IsStep slots) steps → (plan new : Plan) → steps_of slots starts c steps plan ≡ Ok new →
+  steps_added : (c : CProgram) → program_of programs c.name ≡ Some c → (steps : List CStep) →
+      Each (IsStep slots) steps → (plan new : Plan) → steps_of seen c steps plan ≡ Ok new →
       Adds plan new (map (of_program c.name) steps)
-  steps_added slots c found [] fits plan new e =
+  steps_added c found [] fits plan new e =
       let same : plan ≡ new = cc in subst (λ p. Adds plan p []) same (nothing_added plan)
-  steps_added slots c found (s ∷ rest) fits plan new e =
-      let one = then_so (or_failure c.name (Some s.name) (rule_of slots starts c s plan.records)) (λ x.
-      steps_of slots starts c rest (planned plan x)) new e in
+  steps_added c found (s ∷ rest) fits plan new e =
+      let one = then_so (or_failure c.name (Some s.name) (rule_of seen c s plan.records)) (λ x.
+      steps_of seen c rest (planned plan x)) new e in
       added_on plan (planned plan one.0) new (of_program c.name s ∷ []) (map (of_program c.name) rest)
-      (one_added slots c found s fits.0 plan one.0
-      (passed c.name (Some s.name) (rule_of slots starts c s plan.records) one.0 one.1))
-      (steps_added slots c found rest fits.1 (planned plan one.0) new one.2)
+      (one_added c found s fits.0 plan one.0
+      (passed c.name (Some s.name) (rule_of seen c s plan.records) one.0 one.1))
+      (steps_added c found rest fits.1 (planned plan one.0) new one.2)
 
   -- what a proof adds, and that its program has a `defined` step at its end
-  record Ended (slots : List CSlot) (proof : CProof) (plan new : Plan) : Type 0 where
+  record Ended (proof : CProof) (plan new : Plan) : Type 0 where
     adds : Adds plan new (map (of_program proof.program) proof.steps)
     ends : IsTrue (has_defined proof.program new.records)
 
-  proof_added : (slots : List CSlot) (proof : CProof) → IsProof slots programs proof → (plan new : Plan) →
-      proof_steps slots starts (program_of programs proof.program) proof plan ≡ Ok new → Ended slots proof plan new
-  proof_added slots proof fits plan new e =
+  proof_added : (proof : CProof) → IsProof slots programs proof → (plan new : Plan) →
+      proof_steps seen (program_of programs proof.program) proof plan ≡ Ok new → Ended proof plan new
+  proof_added proof fits plan new e =
       let found = some_found (λ (c : CProgram). nat_eq c.name proof.program) programs fits.program in
       let c : CProgram = found.0 in
       let named : c.name ≡ proof.program = eqb-true c.name proof.program
       (found_in (λ (b : CProgram). nat_eq b.name proof.program) programs c found.1).passes in
-      let e' : proof_steps slots starts (Some c) proof plan ≡ Ok new =
-      sym (ap (λ o. proof_steps slots starts o proof plan) found.1) ∙ e in
-      let one = then_so (steps_of slots starts c proof.steps plan) (proof_end c) new e' in
+      let e' : proof_steps seen (Some c) proof plan ≡ Ok new =
+      sym (ap (λ o. proof_steps seen o proof plan) found.1) ∙ e in
+      let one = then_so (steps_of seen c proof.steps plan) (proof_end c) new e' in
       let end = met (has_defined c.name one.0.records) Code.DefinedMissing (Ok one.0) new
       (passed c.name None (needs (has_defined c.name one.0.records) Code.DefinedMissing (Ok one.0)) new one.2) in
       let same : one.0 ≡ new = let given = end.1 in cc in
-      let all = steps_added slots c (ap (λ n. program_of programs n) named ∙ found.1) proof.steps
+      let all = steps_added c (ap (λ n. program_of programs n) named ∙ found.1) proof.steps
       (from_all (IsStep slots) proof.steps fits.steps) plan one.0 one.1 in
       record {
         adds = subst (λ n. Adds plan new (map (of_program n) proof.steps)) named
@@ -168,18 +175,15 @@ module _ (programs : List CProgram) (starts : CProgram → Bool) where
     adds : Adds plan new (core_steps proofs)
     ends : Each (HasDefined new) proofs
 
-  proofs_added : (d : CDocument) → d.programs ≡ programs → (proofs : List CProof) →
-      Each (IsProof d.slots programs) proofs → (plan new : Plan) → proofs_of d starts proofs plan ≡ Ok new →
-      Walked proofs plan new
-  proofs_added d its [] fits plan new e =
+  proofs_added : (proofs : List CProof) → Each (IsProof slots programs) proofs → (plan new : Plan) →
+      proofs_of seen proofs plan ≡ Ok new → Walked proofs plan new
+  proofs_added [] fits plan new e =
       let same : plan ≡ new = cc in
       subst (λ p. Walked [] plan p) same (record { adds = nothing_added plan; ends = tt })
-  proofs_added d its (proof ∷ rest) fits plan new e =
-      let one = then_so (proof_steps d.slots starts (program_of d.programs proof.program) proof plan)
-      (proofs_of d starts rest) new e in
-      let first = proof_added d.slots proof fits.0 plan one.0
-      (subst (λ ps. proof_steps d.slots starts (program_of ps proof.program) proof plan ≡ Ok one.0) its one.1) in
-      let further = proofs_added d its rest fits.1 one.0 new one.2 in
+  proofs_added (proof ∷ rest) fits plan new e =
+      let one = then_so (proof_steps seen (program_of programs proof.program) proof plan) (proofs_of seen rest) new e in
+      let first = proof_added proof fits.0 plan one.0 one.1 in
+      let further = proofs_added rest fits.1 one.0 new one.2 in
       record {
         adds = added_on plan one.0 new (map (of_program proof.program) proof.steps) (core_steps rest) first.adds
             further.adds;
@@ -190,9 +194,9 @@ module _ (programs : List CProgram) (starts : CProgram → Bool) where
       }
 
 walked : (d : CDocument) → IsCoreDocument d → (starts : CProgram → Bool) (plan : Plan) → walk_of d starts ≡ Ok plan →
-    Walked d.programs starts d.proofs (record { records = []; goals = []; owner = [] }) plan
+    Walked (around_of d starts) d.proofs (record { records = []; goals = []; owner = [] }) plan
 walked d is starts plan e =
-    proofs_added d.programs starts d refl d.proofs (from_all (IsProof d.slots d.programs) d.proofs is.proofs)
+    proofs_added (around_of d starts) d.proofs (from_all (IsProof d.slots d.programs) d.proofs is.proofs)
     (record { records = []; goals = []; owner = [] }) plan e
 
 pub plan_is_steps : PlanIsSteps
@@ -202,17 +206,17 @@ plan_is_steps d is starts plan e =
 
 -- each record of a `defined` step is such a one
 pub defined_well : (d : CDocument) → IsCoreDocument d → (starts : CProgram → Bool) (plan : Plan) →
-    walk_of d starts ≡ Ok plan → Each (DefinedWell d.programs starts) plan.records
+    walk_of d starts ≡ Ok plan → Each (DefinedWell (around_of d starts)) plan.records
 defined_well d is starts plan e =
     let adds = (walked d is starts plan e).adds in
-    subst (λ rs. Each (DefinedWell d.programs starts) rs) (sym adds.joined) adds.well
+    subst (λ rs. Each (DefinedWell (around_of d starts)) rs) (sym adds.joined) adds.well
 
 -- the program of a proof has the record of a `defined` step
 pub proof_defined : (d : CDocument) → IsCoreDocument d → (starts : CProgram → Bool) (plan : Plan) →
     walk_of d starts ≡ Ok plan → (place : ℕ) (proof : CProof) → slice_get d.proofs place ≡ Some proof →
     IsTrue (has_defined proof.program plan.records)
 proof_defined d is starts plan e place proof there =
-    each_at (HasDefined d.programs starts plan) d.proofs (walked d is starts plan e).ends place proof there
+    each_at (HasDefined (around_of d starts) plan) d.proofs (walked d is starts plan e).ends place proof there
 
 -- such a record, by its place
 pub record DefinedRecord (d : CDocument) (starts : CProgram → Bool) (plan : Plan) (c : CProgram) : Type 0 where
@@ -234,7 +238,7 @@ defined_record d is starts plan e place proof there c named =
     let its : a.program ≡ proof.program =
     eqb-true a.program proof.program (and_left (nat_eq a.program proof.program) (is_defined a.kind) first.3) in
     let kind = defined_is a.kind (and_right (nat_eq a.program proof.program) (is_defined a.kind) first.3) in
-    let well = each_at (DefinedWell d.programs starts) plan.records (defined_well d is starts plan e) first.0 a
+    let well = each_at (DefinedWell (around_of d starts)) plan.records (defined_well d is starts plan e) first.0 a
     first.2 in
     let own : c.name ≡ proof.program =
     eqb-true c.name proof.program (found_in (λ (b : CProgram). nat_eq b.name proof.program) d.programs c named).passes

@@ -25,11 +25,12 @@ use Rattle.rules_table.specs.Forms.{imply}
 use Rattle.rules_table.specs.Table.{Site, needs, go_on, record_of, concluded, is_defined, is_invariant, is_unless}
 use Rattle.rules_table.specs.Table.{is_ensures, defined_forms, defined_of, invariant_forms, invariant_of, unless_forms}
 use Rattle.rules_table.specs.Table.{unless_of, is_helper, helper_forms, ensures_of, weaken_of}
-use Rattle.rules_table.specs.Table.{pair_of, shown_forms, first_helper, ending, is_part_pair}
+use Rattle.rules_table.specs.Table.{pair_kinds, pair_of, shown_forms, first_helper, ending, is_part_pair}
 use Rattle.rules_table.specs.Table.{union_defined_of, union_invariant_of, union_unless_of, union_ensures_of}
 use Rattle.rules_table.specs.Table.{instance_of}
 use Rattle.rules_table.specs.Terms.{found, referred, term_of, all_ranges, leads_record, derive_of}
-use Rattle.rules_table.specs.Walk.{is_kind, is_first, has_defined, used, suits_term, suits, text_of}
+use Rattle.rules_table.specs.Walk.{Around, is_kind, is_first, has_defined, used, suits_term, suits_pair, suits}
+use Rattle.rules_table.specs.Walk.{text_of}
 use Rattle.rules_table.specs.Walk.{same_again, again_of, proof_of, part_record, first_part, second_part, serves_union}
 use Rattle.rules_table.specs.Walk.{serves_after, united, applied, claims, step_site, rule_of}
 use Rattle.rules_table.proofs.SiteLaws.{met, went_on, concluded_is}
@@ -39,8 +40,10 @@ use Rattle.rules_table.proofs.CalcSound.{instance_is}
 use Rattle.soundness.specs.PlanSteps.{of_program, IsRecordOf}
 
 -- a step of a program, at any place of a proof
-module _ (slots : List CSlot) (starts : CProgram → Bool) (c : CProgram) (step : CStep) (book : List Record)
-    (using : List CForm) where
+module _ (seen : Around) (c : CProgram) (step : CStep) (book : List Record) (using : List CForm) where
+  abbrev slots : List CSlot
+  slots = seen.slots
+
   abbrev site : Site
   site = step_site slots c step using
 
@@ -74,14 +77,14 @@ module _ (slots : List CSlot) (starts : CProgram → Bool) (c : CProgram) (step 
   made_gives kind p q more helper forms =
       end_gives kind step.params (record_of site kind p q more helper) forms (made_fits kind p q more helper)
 
-  text_gives : (k : Kind) → Gives k (text_of starts site step k)
+  text_gives : (k : Kind) → Gives k (text_of seen.starts site step k)
   unfolding defined_of invariant_of unless_of
   text_gives Kind.Defined =
-      need_gives Kind.Defined (starts c) Code.NoStart _ (made_gives Kind.Defined Top Top [] None (defined_forms site))
+      need_gives Kind.Defined (seen.starts c) Code.NoStart _ (made_gives Kind.Defined Top Top [] None
+      (defined_forms site))
   text_gives Kind.Invariant = made_gives Kind.Invariant step.p Bottom [] None (invariant_forms site step.p)
   text_gives Kind.Unless = made_gives Kind.Unless step.p step.q [] None (unless_forms site step.p step.q)
-  text_gives Kind.Ensures = λ y e. cc
-  text_gives Kind.Leadsto = λ y e. cc
+  text_gives _ = λ y e. cc
 
   ensures_gives : (h : Helper) → Gives Kind.Ensures (ensures_of site step.p step.q h)
   unfolding ensures_of
@@ -142,12 +145,12 @@ module _ (slots : List CSlot) (starts : CProgram → Bool) (c : CProgram) (step 
   proof_gives t Kind.Leadsto same = λ y e. subst (λ k. Fits k y.made) (sym same) (derive_gives t y e)
   proof_gives t _ same = again_gives (out-PTerm t)
 
-  united_gives : (a b : Record) (k : Kind) → Gives k (united starts site k a b)
+  united_gives : (a b : Record) (k : Kind) → Gives k (united seen.starts site k a b)
   unfolding union_defined_of union_invariant_of union_unless_of union_ensures_of
   united_gives a b Kind.Defined =
       need_gives Kind.Defined (is_part_pair site a b) Code.OtherProgram _
       (need_gives Kind.Defined (is_defined a.kind && is_defined b.kind) Code.WrongKind _
-      (need_gives Kind.Defined (starts c) Code.NoStart _
+      (need_gives Kind.Defined (seen.starts c) Code.NoStart _
       (made_gives Kind.Defined Top Top (a.under ++ b.under) None (shown_forms site a b))))
   united_gives a b Kind.Invariant =
       need_gives Kind.Invariant (is_part_pair site a b) Code.OtherProgram _
@@ -166,70 +169,76 @@ module _ (slots : List CSlot) (starts : CProgram → Bool) (c : CProgram) (step 
       ((is_ensures a.kind && is_unless b.kind) || (is_unless a.kind && is_ensures b.kind)) Code.WrongKind _
       (need_gives Kind.Ensures (same_form a.p b.p && same_form a.q b.q) Code.MiddleDiffers _
       (made_gives Kind.Ensures a.p a.q (a.under ++ b.under) (first_helper a b) (shown_forms site a b))))
-  united_gives a b Kind.Leadsto = λ y e. cc
+  united_gives a b _ = λ y e. cc
 
   -- the records of both parts of a union, and what they give
-  parts_give : (r s : Ref) (y : Conclusion) → applied starts site step book (CRule.Union r s) ≡ Ok y →
-      (a b : Record) × (united starts site step.kind a b ≡ Ok y)
+  parts_give : (r s : Ref) (y : Conclusion) → applied seen site step book (CRule.Union r s) ≡ Ok y →
+      (a b : Record) × (united seen.starts site step.kind a b ≡ Ok y)
   parts_give r s y e =
       let one = went_on (part_record site book (first_part c.parts) (serves_union step.kind) r) (λ a.
       go_on (part_record site book (second_part c.parts) (serves_after step.kind a.kind) s) (λ b.
-      united starts site step.kind a b)) y e in
+      united seen.starts site step.kind a b)) y e in
       let two = went_on (part_record site book (second_part c.parts) (serves_after step.kind one.0.kind) s) (λ b.
-      united starts site step.kind one.0 b) y one.2 in
+      united seen.starts site step.kind one.0 b) y one.2 in
       (one.0, two.0, two.2)
 
-  applied_gives : (rule : CRule) → IsTrue (suits rule step.kind) →
-      Gives step.kind (applied starts site step book rule)
+  applied_gives : (rule : CRule) → IsTrue (suits seen.version rule step.kind) →
+      Gives step.kind (applied seen site step book rule)
   applied_gives CRule.Text suited = text_gives step.kind
   applied_gives (CRule.TextWith h) suited = λ y e.
       subst (λ k. Fits k y.made) (sym (ensures_is step.kind suited)) (ensures_gives h y e)
   applied_gives (CRule.WeakenStep r) suited = referred_gives r (λ a. weaken_of site a step.q) weaken_gives
   applied_gives (CRule.Pair which r s) suited = λ y e.
-      let one = went_on (referred site step.params book is_unless r) (λ a.
-      go_on (referred site step.params book (is_kind step.kind) s) (λ b. pair_of site which a b)) y e in
-      let two = went_on (referred site step.params book (is_kind step.kind) s) (λ b. pair_of site which one.0 b) y
+      let kinds : Kind × Kind = pair_kinds which step.kind in
+      let one = went_on (referred site step.params book (is_kind kinds.0) r) (λ a.
+      go_on (referred site step.params book (is_kind kinds.1) s) (λ b. pair_of site which a b)) y e in
+      let two = went_on (referred site step.params book (is_kind kinds.1) s) (λ b. pair_of site which one.0 b) y
       one.2 in
       subst (λ k. Fits k y.made)
-      (pair_kind_is which r s two.0.kind step.kind (referred_serves (is_kind step.kind) s two.0 two.1) suited)
+      (pair_kind_is seen.version which two.0.kind step.kind (referred_serves (is_kind kinds.1) s two.0 two.1) suited)
       (pair_gives which one.0 two.0 y two.2)
   applied_gives (CRule.Union r s) suited = λ y e.
       let parts = parts_give r s y e in united_gives parts.0 parts.1 step.kind y parts.2
+  applied_gives (CRule.Superpose r) suited = λ y e. cc
+  applied_gives (CRule.Complete r s t u) suited = λ y e. cc
   applied_gives (CRule.Proof t) suited = proof_gives t step.kind refl
 
   -- a `defined` step asks that the program passes the test of start states
 
-  text_starts : (k : Kind) → k ≡ Kind.Defined → (y : Conclusion) → text_of starts site step k ≡ Ok y →
-      IsTrue (starts c)
+  text_starts : (k : Kind) → k ≡ Kind.Defined → (y : Conclusion) → text_of seen.starts site step k ≡ Ok y →
+      IsTrue (seen.starts c)
   unfolding defined_of
-  text_starts Kind.Defined same y e = (met (starts c) Code.NoStart _ y e).0
+  text_starts Kind.Defined same y e = (met (seen.starts c) Code.NoStart _ y e).0
   text_starts _ same y e = cc
 
   united_starts : (a b : Record) (k : Kind) → k ≡ Kind.Defined → (y : Conclusion) →
-      united starts site k a b ≡ Ok y → IsTrue (starts c)
+      united seen.starts site k a b ≡ Ok y → IsTrue (seen.starts c)
   unfolding union_defined_of
   united_starts a b Kind.Defined same y e =
       let one = met (is_part_pair site a b) Code.OtherProgram _ y e in
       let two = met (is_defined a.kind && is_defined b.kind) Code.WrongKind _ y one.1 in
-      (met (starts c) Code.NoStart _ y two.1).0
+      (met (seen.starts c) Code.NoStart _ y two.1).0
   united_starts a b _ same y e = cc
 
   no_term : (t : PTerm-F PTerm) → IsTrue (suits_term t Kind.Defined) → ⊥
   no_term (PTerm-F.From r) h = cc
   no_term _ h = cc
 
-  no_pair : (which : RuleName) (r s : Ref) → IsTrue (suits (CRule.Pair which r s) Kind.Defined) → ⊥
-  no_pair RuleName.Conj r s h = cc
-  no_pair _ r s h = cc
+  no_pair : (which : RuleName) → IsTrue (suits_pair seen.version which Kind.Defined) → ⊥
+  no_pair RuleName.Conj h = cc
+  no_pair _ h = cc
 
-  applied_starts : (rule : CRule) → step.kind ≡ Kind.Defined → IsTrue (suits rule Kind.Defined) → (y : Conclusion) →
-      applied starts site step book rule ≡ Ok y → IsTrue (starts c)
+  applied_starts : (rule : CRule) → step.kind ≡ Kind.Defined → IsTrue (suits seen.version rule Kind.Defined) →
+      (y : Conclusion) →
+      applied seen site step book rule ≡ Ok y → IsTrue (seen.starts c)
   applied_starts CRule.Text is suited y e = text_starts step.kind is y e
   applied_starts (CRule.TextWith h) is suited y e = cc
   applied_starts (CRule.WeakenStep r) is suited y e = cc
-  applied_starts (CRule.Pair which r s) is suited y e = absurd (no_pair which r s suited)
+  applied_starts (CRule.Pair which r s) is suited y e = absurd (no_pair which suited)
   applied_starts (CRule.Union r s) is suited y e =
       let parts = parts_give r s y e in united_starts parts.0 parts.1 step.kind is y parts.2
+  applied_starts (CRule.Superpose r) is suited y e = cc
+  applied_starts (CRule.Complete r s t u) is suited y e = cc
   applied_starts (CRule.Proof t) is suited y e = absurd (no_term (out-PTerm t) suited)
 
 -- what a step's row of the table says of its record
@@ -237,31 +246,31 @@ pub record RowGives (starts : CProgram → Bool) (c : CProgram) (step : CStep) (
   pub recorded : IsRecordOf (of_program c.name step) r
   pub may_start : step.kind ≡ Kind.Defined → IsTrue (starts c)
 
-pub rule_gives : (slots : List CSlot) (starts : CProgram → Bool) (c : CProgram) (step : CStep) (book : List Record)
-    (x : Conclusion) → rule_of slots starts c step book ≡ Ok x → RowGives starts c step x.made
+pub rule_gives : (seen : Around) (c : CProgram) (step : CStep) (book : List Record)
+    (x : Conclusion) → rule_of seen c step book ≡ Ok x → RowGives seen.starts c step x.made
 unfolding rule_of
-rule_gives slots starts c step book x e =
+rule_gives seen c step book x e =
     let first = met (is_first step.kind || has_defined c.name book) Code.DefinedMissing
     (go_on (used c book step.using) (λ using.
-    needs (suits step.rule step.kind) Code.WrongKind
-    (go_on (applied starts (step_site slots c step using) step book step.rule) (λ y.
+    needs (suits seen.version step.rule step.kind) Code.WrongKind
+    (go_on (applied seen (step_site seen.slots c step using) step book step.rule) (λ y.
     needs (claims step y) Code.ConclusionDiffers (Ok y))))) x e in
     let u = went_on (used c book step.using) (λ using.
-    needs (suits step.rule step.kind) Code.WrongKind
-    (go_on (applied starts (step_site slots c step using) step book step.rule) (λ y.
+    needs (suits seen.version step.rule step.kind) Code.WrongKind
+    (go_on (applied seen (step_site seen.slots c step using) step book step.rule) (λ y.
     needs (claims step y) Code.ConclusionDiffers (Ok y)))) x first.1 in
     let using : List CForm = u.0 in
-    let suited = met (suits step.rule step.kind) Code.WrongKind
-    (go_on (applied starts (step_site slots c step using) step book step.rule) (λ y.
+    let suited = met (suits seen.version step.rule step.kind) Code.WrongKind
+    (go_on (applied seen (step_site seen.slots c step using) step book step.rule) (λ y.
     needs (claims step y) Code.ConclusionDiffers (Ok y))) x u.2 in
-    let a = went_on (applied starts (step_site slots c step using) step book step.rule) (λ y.
+    let a = went_on (applied seen (step_site seen.slots c step using) step book step.rule) (λ y.
     needs (claims step y) Code.ConclusionDiffers (Ok y)) x suited.1 in
     let claimed = met (claims step a.0) Code.ConclusionDiffers (Ok a.0) x a.2 in
     let same : a.0 ≡ x = let given = claimed.1 in cc in
-    let e' : applied starts (step_site slots c step using) step book step.rule ≡ Ok x =
+    let e' : applied seen (step_site seen.slots c step using) step book step.rule ≡ Ok x =
     a.1 ∙ ap (λ y. Ok y) same in
     let claims_x : IsTrue (claims step x) = subst (λ y. IsTrue (claims step y)) same claimed.0 in
-    let fits = applied_gives slots starts c step book using step.rule suited.0 x e' in
+    let fits = applied_gives seen c step book using step.rule suited.0 x e' in
     record {
       recorded = record {
         name = fits.name;
@@ -273,6 +282,6 @@ rule_gives slots starts c step book x e =
             (and_right (same_form x.made.p step.p) (same_form x.made.q step.q) claims_x);
         params = fits.params;
       };
-      may_start = λ is. applied_starts slots starts c step book using step.rule is
-          (subst (λ k. IsTrue (suits step.rule k)) is suited.0) x e';
+      may_start = λ is. applied_starts seen c step book using step.rule is
+          (subst (λ k. IsTrue (suits seen.version step.rule k)) is suited.0) x e';
     }

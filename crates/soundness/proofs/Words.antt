@@ -93,25 +93,30 @@ either_part a b P x f g h = go h.made.0 h.made.1 h.made.2 h.made.3
 
 -- claims
 
-one_word : (w : Word) → IsTrue (has (map reserved (Word.Unless ∷ Word.Ensures ∷ Word.Leadsto ∷ [])) (reserved w)) →
-    IsTrue (is_between w)
+abbrev between_words : List Word
+between_words = Word.Unless ∷ Word.Ensures ∷ Word.Leadsto ∷ Word.Until ∷ Word.Detects ∷ []
+
+one_word : (w : Word) → IsTrue (has (map reserved between_words) (reserved w)) → IsTrue (is_between w)
 one_word Word.Unless h = refl
 one_word Word.Ensures h = refl
 one_word Word.Leadsto h = refl
+one_word Word.Until h = refl
+one_word Word.Detects h = refl
 one_word _ h = h
 
-between_word : (w : Word) → Has (one_of (map reserved (Word.Unless ∷ Word.Ensures ∷ Word.Leadsto ∷ [])))
-    (choice (reserved w)) → IsTrue (is_between w)
+between_word : (w : Word) → Has (one_of (map reserved between_words)) (choice (reserved w)) → IsTrue (is_between w)
 between_word w h =
     let m = h.made in
     let same : m.0.class ≡ reserved w = let e = m.2 in cc in
-    one_word w (subst (λ c. IsTrue (has (map reserved (Word.Unless ∷ Word.Ensures ∷ Word.Leadsto ∷ [])) c)) same m.1)
+    one_word w (subst (λ c. IsTrue (has (map reserved between_words) c)) same m.1)
 
 claim_written : (c : Claim) → Has claim_ (view_claim c) → IsTrue (is_claim c)
 unfolding claim_
 claim_written (Claim.Defined at) m = refl
 claim_written (Claim.Invariant at p) m = refl
 claim_written (Claim.Stable at p) m = refl
+claim_written (Claim.Constant at p) m = refl
+claim_written (Claim.Fixed at p) m = refl
 claim_written (Claim.Between at p which q) m =
     let x = view_claim (Claim.Between at p which q) in
     let P = IsTrue (is_between which) in
@@ -127,7 +132,15 @@ claim_written (Claim.Between at p which q) m =
     (λ h. let k : kind Kind.claim_stable ≡ kind Kind.claim_between =
     node_kind _ (kind Kind.claim_between) at _ _ h in
     absurd (omega (arith, k)))
-    (λ h. between_word which (first_part _ _ _ _ (second_part _ _ _ _ (node_part _ _ at _ _ h)))))) m
+    (either_part _ _ P x
+    (λ h. let k : kind Kind.claim_constant ≡ kind Kind.claim_between =
+    node_kind _ (kind Kind.claim_between) at _ _ h in
+    absurd (omega (arith, k)))
+    (either_part _ _ P x
+    (λ h. let k : kind Kind.claim_fixed ≡ kind Kind.claim_between =
+    node_kind _ (kind Kind.claim_between) at _ _ h in
+    absurd (omega (arith, k)))
+    (λ h. between_word which (first_part _ _ _ _ (second_part _ _ _ _ (node_part _ _ at _ _ h)))))))) m
 
 step_written : (s : Step) → Has step_ (view_step s) → IsTrue (is_claim s.claim)
 unfolding step_

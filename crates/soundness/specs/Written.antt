@@ -13,6 +13,8 @@ abbrev pub is_between : Word → Bool
 is_between Word.Unless = true
 is_between Word.Ensures = true
 is_between Word.Leadsto = true
+is_between Word.Until = true
+is_between Word.Detects = true
 is_between _ = false
 
 -- a claim of two predicates has one of these words between them

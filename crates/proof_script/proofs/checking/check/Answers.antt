@@ -1,5 +1,6 @@
 use Rattle.std.proofs.Common.{List, length, sym, ap, ◌∙◌, arith}
 use Rattle.obligations.specs.declared.branches.Obligation.{Obligation}
+use Rattle.rules_steps.specs.Starts.{document_seen}
 use Rattle.proof_script.specs.declared.plans.Plan.{Plan}
 use Rattle.proof_script.specs.Verdicts.{proofs_verdict}
 use Rattle.proof_script.proofs.LoopLaws.{verdict_is}
@@ -11,8 +12,7 @@ returns-clause-verdict c =
     let same = ap (λ (os : List Obligation). length os) c.as_slice-obligations.ensures in
     let few = c.if-obligations-certs.false in
     verdict_is c.args.doc.now c.args.certs.now c.take_proofs.new.plan
-    (ap (λ (p : Plan). proofs_verdict c.args.doc.now.slots c.args.certs.now c.args.doc.now.programs
-    c.args.doc.now.proofs p) (sym c.new_plan-plan.ensures)
+    (ap (λ (p : Plan). proofs_verdict (document_seen c.args.doc.now) c.args.certs.now c.args.doc.now.proofs p) (sym c.new_plan-plan.ensures)
     ∙ c.in_ok-take_proofs.ensures)
     (omega (arith, same, few))
 

@@ -8,6 +8,7 @@ use Rattle.proof_script.specs.Reaching.{proofs_reach}
 use Rattle.rules_steps.specs.Starts.{starts_in}
 use Rattle.proof_script.proofs.LoopLaws.{handed_on}
 use Rattle.proof_script.proofs.PlanLaws.{failure_walks, plan_walks}
+use Rattle.rules_steps.specs.Starts.{document_seen}
 use Rattle.proof_script.proofs.planning.walk.Goals as goal
 
 pub returns-in_err-plan_proofs : goal.returns-in_err-plan_proofs
@@ -18,12 +19,12 @@ returns-in_err-plan_proofs c =
     handed_on (λ r. Walks d.slots r (walk_of d (starts_in d.slots))) c.from_residual.result e
     c.from_residual.ensures.1
     (failure_walks d e plan
-    (subst (λ (p : Plan). Reaches {T = Unit {0}} (Err e) plan (proofs_reach d.slots d.programs d.proofs p))
+    (subst (λ (p : Plan). Reaches {T = Unit {0}} (Err e) plan (proofs_reach (document_seen d) d.proofs p))
     c.new_plan-plan.ensures c.in_err-plan_proofs.ensures))
 
 pub returns : goal.returns
 returns c =
     let d : CDocument = c.args.doc.now in
     plan_walks d c.plan_proofs.new.plan
-    (ap (λ (p : Plan). proofs_reach d.slots d.programs d.proofs p) (sym c.new_plan-plan.ensures)
+    (ap (λ (p : Plan). proofs_reach (document_seen d) d.proofs p) (sym c.new_plan-plan.ensures)
     ∙ c.in_ok-plan_proofs.ensures)

@@ -6,6 +6,7 @@ use Rattle.proof_script.specs.Proving.{Finds}
 use Rattle.proof_script.specs.Reaching.{Reach, proofs_reach}
 use Rattle.proof_script.specs.Searches.{SearchGoes}
 use Rattle.proof_script.proofs.SearchLaws.{begins, proved_by}
+use Rattle.rules_steps.specs.Starts.{document_seen}
 use Rattle.proof_script.proofs.proving.prove.Goals as goal
 
 pub prove_proofs-requires-clause-under_way : goal.prove_proofs-requires-clause-under_way
@@ -17,7 +18,7 @@ pub returns-in-Ok : goal.returns-in-Ok
 returns-in-Ok c =
     let d : CDocument = c.args.doc.now in
     proved_by d c.args.budget c.prove_proofs.new.plan c.prove_proofs.new.finding
-    (ap (λ (p : Plan). proofs_reach d.slots d.programs d.proofs p) (sym c.new_plan-plan.ensures) ∙ c.in-Ok.ensures.0)
+    (ap (λ (p : Plan). proofs_reach (document_seen d) d.proofs p) (sym c.new_plan-plan.ensures) ∙ c.in-Ok.ensures.0)
     c.in-Ok.ensures.1 (c.in-Ok.ensures.2 ∙ ap (λ (f : Finding). f.budget) c.new_finding-finding.ensures)
 
 pub returns-in-Err : goal.returns-in-Err
@@ -29,4 +30,4 @@ returns-in-Err c =
     subst (λ (n : ℕ). Finds d n c.halted.result) (ap (λ (f : Finding). f.budget) c.new_finding-finding.ensures)
     (c.halted.ensures d old plan
     (subst (λ (r : Reach). SearchGoes (Err c.in-Err.halt) old plan new r)
-    (ap (λ (p : Plan). proofs_reach d.slots d.programs d.proofs p) c.new_plan-plan.ensures) c.in-Err.ensures))
+    (ap (λ (p : Plan). proofs_reach (document_seen d) d.proofs p) c.new_plan-plan.ensures) c.in-Err.ensures))

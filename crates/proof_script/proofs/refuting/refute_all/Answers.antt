@@ -22,14 +22,15 @@ returns-in_err-refute c =
     let n : ℕ = c.loop-obligation.number in
     let i : ℕ = c.loop-obligation.obligation-index in
     let one : Result (Unit {0}) StepFault =
-    or_refutation_fault program step n (failing c.obligation-item.result (slice_get certs n)) in
-    let whole : Result (Unit {0}) StepFault = refuted_by certs program step c.args.first os in
+    or_refutation_fault program step n (failing c.args.levels c.obligation-item.result (slice_get certs n)) in
+    let whole : Result (Unit {0}) StepFault = refuted_by c.args.levels certs program step c.args.first os in
     handed_on (λ r. Passes r whole) c.from_residual.result
     c.in_err-refute.field-0.0 c.from_residual.ensures.1
     (fails_all (Unit {0}) (Unit {0}) c.in_err-refute.field-0.0 one whole
     (λ fault e. sym c.loop-obligation.invariant.same
-    ∙ refuted_at certs program step os i c.obligation-item.result n c.loop-obligation-test.true c.obligation-item.is
-    ∙ stopped one fault (λ (done : Unit {0}). refuted_by certs program step (suc n) (drop (i + 1) os)) e)
+    ∙ refuted_at c.args.levels certs program step os i c.obligation-item.result n c.loop-obligation-test.true
+    c.obligation-item.is
+    ∙ stopped one fault (λ (done : Unit {0}). refuted_by c.args.levels certs program step (suc n) (drop (i + 1) os)) e)
     c.in_err-refute.ensures.passes)
 
 pub loop-obligation-preserved : goal.loop-obligation-preserved
@@ -41,15 +42,15 @@ loop-obligation-preserved c =
     let n : ℕ = c.loop-obligation.number in
     let i : ℕ = c.loop-obligation.obligation-index in
     let one : Result (Unit {0}) StepFault =
-    or_refutation_fault program step n (failing c.obligation-item.result (slice_get certs n)) in
+    or_refutation_fault program step n (failing c.args.levels c.obligation-item.result (slice_get certs n)) in
     let there = c.in_ok-refute.ensures.there in
     record {
       small = omega (arith, there);
       same =
-          ap (λ (k : ℕ). refuted_by certs program step k (drop (i + 1) os)) (one_more n)
-          ∙ sym (refuted_at certs program step os i c.obligation-item.result n c.loop-obligation-test.true
+          ap (λ (k : ℕ). refuted_by c.args.levels certs program step k (drop (i + 1) os)) (one_more n)
+          ∙ sym (refuted_at c.args.levels certs program step os i c.obligation-item.result n c.loop-obligation-test.true
           c.obligation-item.is
-          ∙ went one tt (λ (done : Unit {0}). refuted_by certs program step (suc n) (drop (i + 1) os))
+          ∙ went one tt (λ (done : Unit {0}). refuted_by c.args.levels certs program step (suc n) (drop (i + 1) os))
           c.in_ok-refute.ensures.passes)
           ∙ c.loop-obligation.invariant.same;
     }
@@ -60,5 +61,5 @@ loop-obligation-preserved c =
 pub returns : goal.returns
 returns c =
     sym c.loop-obligation.invariant.same
-    ∙ refuted_end c.args.certs.now c.args.name.program c.args.name.step c.args.obligations.now
+    ∙ refuted_end c.args.levels c.args.certs.now c.args.name.program c.args.name.step c.args.obligations.now
     c.loop-obligation.obligation-index c.loop-obligation.number c.loop-obligation-test.false

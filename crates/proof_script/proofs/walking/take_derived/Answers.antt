@@ -18,11 +18,12 @@ returns-in_err-refute_all c =
     let d : Derived = c.args.derived in
     let before : List Obligation = c.as_slice-first.result.now in
     let os : List Obligation = c.as_slice-obligations.result.now in
-    let one : Result (Unit {0}) StepFault = refuted_by certs program step (length before) os in
-    handed_on (λ r. PlanGoes r plan (taken certs program step plan d)) c.from_residual.result
+    let one : Result (Unit {0}) StepFault = refuted_by c.args.levels certs program step (length before) os in
+    handed_on (λ r. PlanGoes r plan (taken c.args.levels certs program step plan d)) c.from_residual.result
     c.in_err-refute_all.field-0.0 c.from_residual.ensures.1
-    (fails_step (Unit {0}) (Unit {0}) c.in_err-refute_all.field-0.0 plan one (taken certs program step plan d)
-    (λ fault e. taken_from certs program step plan d before os c.as_slice-first.ensures
+    (fails_step (Unit {0}) (Unit {0}) c.in_err-refute_all.field-0.0 plan one
+    (taken c.args.levels certs program step plan d)
+    (λ fault e. taken_from c.args.levels certs program step plan d before os c.as_slice-first.ensures
     (c.as_slice-obligations.ensures ∙ ap (λ (y : Derived). y.obligations) c.get.ensures)
     ∙ stopped one fault (λ (done : Unit {0}). Ok (grown plan d)) e)
     c.in_err-refute_all.ensures)
@@ -36,8 +37,8 @@ returns c =
     let d : Derived = c.args.derived in
     let before : List Obligation = c.as_slice-first.result.now in
     let os : List Obligation = c.as_slice-obligations.result.now in
-    taken_from certs program step plan d before os c.as_slice-first.ensures
+    taken_from c.args.levels certs program step plan d before os c.as_slice-first.ensures
     (c.as_slice-obligations.ensures ∙ ap (λ (y : Derived). y.obligations) c.get.ensures)
-    ∙ went (refuted_by certs program step (length before) os) tt (λ (done : Unit {0}). Ok (grown plan d))
+    ∙ went (refuted_by c.args.levels certs program step (length before) os) tt (λ (done : Unit {0}). Ok (grown plan d))
     c.in_ok-refute_all.ensures
     ∙ ap (λ (p : Plan). Ok p) (sym c.in_ok-add.ensures)

@@ -1,6 +1,5 @@
-use Rattle.std.proofs.Common.{◌≡◌, List, Some, Result, Ok, Err, subst, sym}
+use Rattle.std.proofs.Common.{◌≡◌, ℕ, List, Some, Result, Ok, Err, subst, sym}
 use Rattle.std.proofs.lemmas.List.Elements.{All-weaker}
-use Rattle.core_terms.specs.declared.programs.CSlot.{CSlot}
 use Rattle.core_terms.specs.declared.programs.CProgram.{CProgram}
 use Rattle.core_terms.specs.declared.documents.CStep.{CStep}
 use Rattle.fair_rounds.specs.declared.records.Record.{Record}
@@ -12,10 +11,11 @@ use Rattle.proof_script.specs.declared.plans.ScriptError.{ScriptError}
 use Rattle.proof_script.specs.declared.plans.StepFault.{StepFault}
 use Rattle.obligations.specs.Obligations.{IsObligation}
 use Rattle.proof_script.specs.Giving.{PlanGoes, IsCheckable}
-use Rattle.rules_steps.specs.Starts.{starts_in}
-use Rattle.proof_script.specs.Verdicts.{rule_fault, step_verdict}
+use Rattle.proof_script.specs.Verdicts.{rule_fault, step_verdict, taken}
 use Rattle.proof_script.proofs.Checkable.{checkable}
 use Rattle.proof_script.proofs.RuleLaws.{step_taken, step_fails}
+use Rattle.rules_table.specs.Walk.{Around}
+use Rattle.rules_steps.specs.Starts.{seen_of}
 use Rattle.proof_script.proofs.walking.take_step.Goals as goal
 
 pub take_derived-requires-clause-checkable : goal.take_derived-requires-clause-checkable
@@ -24,26 +24,29 @@ take_derived-requires-clause-checkable c =
 
 pub returns-in-Ok : goal.returns-in-Ok
 returns-in-Ok c =
-    let slots : List CSlot = c.args.slots.now in
+    let seen : Around = seen_of c.args.around.now in
     let p : CProgram = c.args.program.now in
     let s : CStep = c.args.step.now in
     subst (λ (v : Result Plan StepFault). PlanGoes c.take_derived.result c.take_derived.new.plan v)
-    (sym (step_taken slots c.args.certs.now p s c.args.plan.now c.in-Ok.derived
-    (subst (λ (book : List Record). RuleAnswers (Ok c.in-Ok.derived) slots (rule_of slots (starts_in slots) p s book))
-    c.as_slice.ensures c.in-Ok.ensures.answer))) c.take_derived.ensures
+    (sym (step_taken seen c.args.certs.now p s c.args.plan.now c.in-Ok.derived
+    (subst (λ (book : List Record). RuleAnswers (Ok c.in-Ok.derived) seen.slots (rule_of seen p s book))
+    c.as_slice.ensures c.in-Ok.ensures.answer)))
+    (subst (λ (levels : ℕ). PlanGoes c.take_derived.result c.take_derived.new.plan
+    (taken levels c.args.certs.now p.name s.name c.args.plan.now c.in-Ok.derived)) c.most_levels.ensures
+    c.take_derived.ensures)
 
 pub returns-in-Err-Fault : goal.returns-in-Err-Fault
 returns-in-Err-Fault c =
-    let slots : List CSlot = c.args.slots.now in
+    let seen : Around = seen_of c.args.around.now in
     let p : CProgram = c.args.program.now in
     let s : CStep = c.args.step.now in
-    let verdict : Result Plan StepFault = step_verdict slots c.args.certs.now p s c.args.plan.now in
+    let verdict : Result Plan StepFault = step_verdict seen c.args.certs.now p s c.args.plan.now in
     let made : c.fault.result ≡ ScriptError.Step (rule_fault p.name (Some s.name) c.in-Err-Fault.code) =
     cc (c.fault.ensures, c.in-Err-Fault.code-is) in
     subst (λ (e : ScriptError). PlanGoes {T = Unit {0}} (Err e) c.args.plan.now verdict) (sym made)
-    (step_fails slots c.args.certs.now p s c.args.plan.now c.in-Err-Fault.code
-    (subst (λ (book : List Record). RuleAnswers (Err (RuleError.Fault c.in-Err-Fault.code)) slots
-    (rule_of slots (starts_in slots) p s book)) c.as_slice.ensures
-    (subst (λ (e : RuleError). RuleAnswers (Err e) slots
-    (rule_of slots (starts_in slots) p s c.as_slice.result.now)) c.in-Err-Fault.field-0-is
+    (step_fails seen c.args.certs.now p s c.args.plan.now c.in-Err-Fault.code
+    (subst (λ (book : List Record). RuleAnswers (Err (RuleError.Fault c.in-Err-Fault.code)) seen.slots
+    (rule_of seen p s book)) c.as_slice.ensures
+    (subst (λ (e : RuleError). RuleAnswers (Err e) seen.slots
+    (rule_of seen p s c.as_slice.result.now)) c.in-Err-Fault.field-0-is
     c.in-Err-Fault.ensures.answer)))

@@ -4,14 +4,15 @@ use Rattle.core_terms.specs.declared.documents.CProof.{CProof}
 use Rattle.proof_script.specs.Reaching.{proofs_reach}
 use Rattle.proof_script.specs.Searches.{IsUnderWay}
 use Rattle.rules_steps.specs.Using.{BookFits}
-use Rattle.proof_script.proofs.proving.prove_proofs.Given as goal
+use Rattle.rules_steps.specs.Starts.{seen_of}
+use Rattle.proof_script.proofs.proving.prove_each.Given as goal
 
 abbrev pub invariant-loop-proof : goal.invariant-loop-proof
 invariant-loop-proof l = record {
-  book : BookFits l.doc.slots l.plan.records;
-  room : length l.plan.records + sum (map (λ (p : CProof). length p.steps) (drop l.proof-index l.proof-items)) < 2 ^ 31;
+  book : BookFits l.around.slots.now l.plan.records;
+  room : length l.plan.records + sum (map (λ (p : CProof). length p.steps) (drop l.proof-index l.proofs)) < 2 ^ 31;
   under_way : IsUnderWay l.plan l.finding;
   budget : l.finding.budget ≡ l.initial.finding.budget;
-  same : proofs_reach l.doc.slots l.doc.programs (drop l.proof-index l.proof-items) l.plan
-      ≡ proofs_reach l.doc.slots l.doc.programs l.doc.proofs l.initial.plan;
+  same : proofs_reach (seen_of l.around) (drop l.proof-index l.proofs) l.plan
+      ≡ proofs_reach (seen_of l.around) l.proofs l.initial.plan;
 }
