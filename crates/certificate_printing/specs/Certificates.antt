@@ -5,7 +5,7 @@ use Rattle.std.specs.Fmt.{signed_decimal}
 use Rattle.obligations.specs.declared.certificates.Cert.{Cert}
 use Rattle.obligations.specs.declared.certificates.Node.{Node}
 
--- ` MULTIPLIER*FACT`
+-- ` MULTIPLIER*NUMBER`
 abbrev pub pair_text : ℤ × ℕ → List ℕ
 pair_text p = codes " " ++ (signed_decimal p.0 ++ (codes "*" ++ decimal p.1))
 
@@ -13,12 +13,18 @@ pair_text p = codes " " ++ (signed_decimal p.0 ++ (codes "*" ++ decimal p.1))
 abbrev pub round_text : ℤ → List ℕ
 round_text d = codes " round " ++ signed_decimal d
 
+-- ` share CONSTANT`
+abbrev pub share_text : ℤ → List ℕ
+share_text c = codes " share " ++ signed_decimal c
+
 -- a blank, and the node with single blanks
 abbrev pub node_text : Node → List ℕ
 node_text (Node.Case k) = codes " case " ++ decimal k
 node_text (Node.Split v k) = codes " split " ++ (decimal v ++ (codes " " ++ signed_decimal k))
 node_text (Node.Sum ps) = codes " sum" ++ flat_map pair_text ps
 node_text (Node.Round d ps) = round_text d ++ flat_map pair_text ps
+node_text (Node.Quot k) = codes " quot " ++ decimal k
+node_text (Node.Share c ps) = share_text c ++ flat_map pair_text ps
 
 -- the line of a certificate with its number
 abbrev pub certificate_line : ℕ → Cert → List ℕ

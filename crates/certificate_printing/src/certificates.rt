@@ -37,6 +37,14 @@ fn push_round(alloc: Global, divisor: i64, text: &mut Vec<u8>) -> Result<(), All
     text.extend_from_slice(part.as_bytes())
 }
 
+// ` share CONSTANT`.
+fn push_share(alloc: Global, constant: i64, text: &mut Vec<u8>) -> Result<(), AllocError>
+    ensures { OnOk result (text.new.items ≡ text.old.items ++ section.share_text constant) }
+{
+    let part = format!(in alloc; " share {constant}")?;
+    text.extend_from_slice(part.as_bytes())
+}
+
 // A blank, and the node.
 fn push_node(alloc: Global, node: &Node, text: &mut Vec<u8>) -> Result<(), AllocError>
     ensures { OnOk result (text.new.items ≡ text.old.items ++ section.node_text node.now) }
@@ -56,6 +64,14 @@ fn push_node(alloc: Global, node: &Node, text: &mut Vec<u8>) -> Result<(), Alloc
         }
         Node::Round(divisor, pairs) => {
             push_round(alloc, *divisor, text)?;
+            push_pairs(alloc, pairs.as_slice(), text)
+        }
+        Node::Quot(waiting) => {
+            let part = format!(in alloc; " quot {waiting}")?;
+            text.extend_from_slice(part.as_bytes())
+        }
+        Node::Share(constant, pairs) => {
+            push_share(alloc, *constant, text)?;
             push_pairs(alloc, pairs.as_slice(), text)
         }
     }

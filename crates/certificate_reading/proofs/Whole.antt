@@ -61,6 +61,8 @@ same_subtrees (WrittenNode.Case at number) = refl
 same_subtrees (WrittenNode.Split at variable minus bound) = refl
 same_subtrees (WrittenNode.Sum at pairs) = refl
 same_subtrees (WrittenNode.Round at minus divisor pairs) = refl
+same_subtrees (WrittenNode.Quot at number) = refl
+same_subtrees (WrittenNode.Share at minus constant pairs) = refl
 
 -- so there are as many trees
 same_trees : (ns : List WrittenNode) (n : ℕ) →

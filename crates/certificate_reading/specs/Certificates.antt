@@ -23,6 +23,8 @@ node_of (WrittenNode.Case at number) = Node.Case number
 node_of (WrittenNode.Split at variable minus bound) = Node.Split variable (number_of minus bound)
 node_of (WrittenNode.Sum at pairs) = Node.Sum (map pair_of pairs)
 node_of (WrittenNode.Round at minus divisor pairs) = Node.Round (number_of minus divisor) (map pair_of pairs)
+node_of (WrittenNode.Quot at number) = Node.Quot number
+node_of (WrittenNode.Share at minus constant pairs) = Node.Share (number_of minus constant) (map pair_of pairs)
 
 abbrev pub certificate_of : CertText → Cert
 certificate_of c = record { nodes = node_of c.first ∷ map node_of c.rest }

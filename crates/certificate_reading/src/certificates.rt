@@ -34,6 +34,7 @@ fn pairs_of(alloc: Global, pairs: &[Pair]) -> Result<Seq<(i64, u64)>, AllocError
     Ok(found)
 }
 
+// A node, with its numbers as integers.
 fn node_of(alloc: Global, node: &text::Node) -> Result<Node, AllocError>
     ensures { IfOk result (λ found. found ≡ written.node_of node.now) }
 {
@@ -57,6 +58,16 @@ fn node_of(alloc: Global, node: &text::Node) -> Result<Node, AllocError>
         } => {
             let pairs = pairs_of(alloc, pairs.as_slice())?;
             Ok(Node::Round(signed(*minus, *divisor), pairs))
+        }
+        text::Node::Quot { number, .. } => Ok(Node::Quot(*number)),
+        text::Node::Share {
+            minus,
+            constant,
+            pairs,
+            ..
+        } => {
+            let pairs = pairs_of(alloc, pairs.as_slice())?;
+            Ok(Node::Share(signed(*minus, *constant), pairs))
         }
     }
 }

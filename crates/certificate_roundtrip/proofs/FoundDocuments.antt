@@ -5,5 +5,5 @@ use Rattle.certificate_roundtrip.specs.DocumentLaws.{FoundIsRead}
 use Rattle.certificate_roundtrip.proofs.FoundByTokens.{found_by_tokens}
 
 pub found_is_read : FoundIsRead
-found_is_read bytes d certs is whole small few =
-    found_by_tokens front_is_read whole_is_read bytes d certs is whole (small_are_readable certs small few)
+found_is_read bytes d certs is whole of small few =
+    found_by_tokens front_is_read whole_is_read bytes d certs is whole (small_are_readable certs small few) of

@@ -1,10 +1,12 @@
 -- What a search found is written so that it can be read.
 use Rattle.std.proofs.Common.{ℕ, ◌≤◌, ◌+◌, ◌*◌, ◌^◌, length, arith}
 use Rattle.std.specs.Prelude.{All}
+use Rattle.unity_syntax.specs.Classes.{says_later}
 use Rattle.certificate_roundtrip.specs.Small.{IsSmallCertificate}
 use Rattle.proof_script.specs.Proving.{units_of}
 use Rattle.certificate_roundtrip.specs.Found.{text_with}
 use Rattle.certificate_roundtrip.proofs.FoundDocuments.{found_is_read}
+use Rattle.certificate_roundtrip.proofs.PlainLaws.{plain_are_nodes_of}
 use Rattle.certificate_roundtrip.specs.TextLaws.{ProvedIsRead}
 use Rattle.certificate_roundtrip.proofs.Sizes.{proved_are_few, text_is_short}
 use Rattle.certificate_roundtrip.proofs.SmallNumbers.{proved_are_small}
@@ -18,7 +20,8 @@ proved_is_read bytes d c budget plan certs is good proved within =
     let few : length certs ≤ 1000000 = in_all (length certs) (units_of certs) budget some spent within in
     let short = text_is_short bytes d certs proved.whole small few in
     record {
-      read = found_is_read bytes d certs is proved.whole small (wide (length certs) few);
+      read = found_is_read bytes d certs is proved.whole (plain_are_nodes_of (says_later is.tokens) certs proved.plain)
+          small (wide (length certs) few);
       size = so_long (length (text_with bytes d certs)) (length bytes) (units_of certs) budget short spent within;
     }
   where

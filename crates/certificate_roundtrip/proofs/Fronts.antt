@@ -1,5 +1,5 @@
 -- The tokens of a text's front, as the grammar sees them, whatever follows.
-use Rattle.std.proofs.Common.{◌≡◌, ℕ, zero, suc, ◌+◌, ◌-◌, ◌≤◌, ◌<◌, List, [], ◌∷◌, ◌++◌, length, take, drop}
+use Rattle.std.proofs.Common.{◌≡◌, ℕ, Bool, zero, suc, ◌+◌, ◌-◌, ◌≤◌, ◌<◌, List, [], ◌∷◌, ◌++◌, length, take, drop}
 use Rattle.std.proofs.Common.{refl, sym, ap, ◌∙◌, arith}
 use Rattle.std.proofs.lemmas.List.{take-append-le, take-append-drop}
 use Rattle.grammar_theory.specs.Ebnf.{Terminal}
@@ -9,27 +9,27 @@ use Rattle.unity_syntax.specs.Classes.{terminal, terminals, text_of, class_of, v
 use Rattle.unity_lexer.specs.Tokens.{AreInOrder}
 
 -- tokens whose terminals are two lists after one another
-pub record Cut (bytes : List ℕ) (tokens : List Token) (front after : List Terminal) : Type 0 where
+pub record Cut (later : Bool) (bytes : List ℕ) (tokens : List Token) (front after : List Terminal) : Type 0 where
   pub before : List Token
-  pub later : List Token
-  pub split : tokens ≡ before ++ later
-  pub front_is : terminals bytes before ≡ front
-  pub after_is : terminals bytes later ≡ after
+  pub rest : List Token
+  pub split : tokens ≡ before ++ rest
+  pub front_is : terminals later bytes before ≡ front
+  pub after_is : terminals later bytes rest ≡ after
 
-pub cut : (bytes : List ℕ) (tokens : List Token) (front after : List Terminal) →
-    terminals bytes tokens ≡ front ++ after → Cut bytes tokens front after
-cut bytes tokens [] after e =
-    record { before = []; later = tokens; split = refl; front_is = refl; after_is = e }
-cut bytes [] (x ∷ xs) after e = absurd cc
-cut bytes (t ∷ ts) (x ∷ xs) after e =
-    let rest : terminals bytes ts ≡ xs ++ after = cc in
-    let here : terminal bytes t ≡ x = cc in
-    let c = cut bytes ts xs after rest in
+pub cut : (later : Bool) (bytes : List ℕ) (tokens : List Token) (front after : List Terminal) →
+    terminals later bytes tokens ≡ front ++ after → Cut later bytes tokens front after
+cut later bytes tokens [] after e =
+    record { before = []; rest = tokens; split = refl; front_is = refl; after_is = e }
+cut later bytes [] (x ∷ xs) after e = absurd cc
+cut later bytes (t ∷ ts) (x ∷ xs) after e =
+    let others : terminals later bytes ts ≡ xs ++ after = cc in
+    let here : terminal later bytes t ≡ x = cc in
+    let c = cut later bytes ts xs after others in
     record {
       before = t ∷ c.before;
-      later = c.later;
+      rest = c.rest;
       split = ap (λ us. t ∷ us) c.split;
-      front_is = ap (λ u. u ∷ terminals bytes c.before) here ∙ ap (λ us. x ∷ us) c.front_is;
+      front_is = ap (λ u. u ∷ terminals later bytes c.before) here ∙ ap (λ us. x ∷ us) c.front_is;
       after_is = c.after_is;
     }
 
@@ -73,10 +73,12 @@ agree_take n bytes rest h s k small =
     ∙ ap (λ x. take k (drop s x)) (take-append-drop n bytes)
 
 -- then the tokens up to that place are seen alike
-same_terminal : (to : ℕ) (text bytes : List ℕ) → Agree to text bytes → (t : Token) → t.start < t.end → t.end ≤ to →
-    terminal text t ≡ terminal bytes t
-same_terminal to text bytes same t full within =
-    ap (λ w. record { class = class_of t.kind; place = t.start; value = value_of t.kind; text = w }) (by_kind t.kind)
+same_terminal : (later : Bool) (to : ℕ) (text bytes : List ℕ) → Agree to text bytes → (t : Token) → t.start < t.end →
+    t.end ≤ to →
+    terminal later text t ≡ terminal later bytes t
+same_terminal later to text bytes same t full within =
+    ap (λ w. record { class = class_of later t.kind; place = t.start; value = value_of t.kind; text = w }) (by_kind
+    t.kind)
   where
     sum_is : (a b : ℕ) → a < b → a + (b - a) ≡ b
     sum_is a b h = omega (arith, h)
@@ -90,9 +92,10 @@ same_terminal to text bytes same t full within =
     by_kind (TokenKind.Reserved w) = refl
     by_kind (TokenKind.Symbol s) = refl
 
-pub same_terminals : (to : ℕ) (text bytes : List ℕ) → Agree to text bytes → (from : ℕ) (ts : List Token) →
-    AreInOrder from to ts → terminals text ts ≡ terminals bytes ts
-same_terminals to text bytes same from [] h = refl
-same_terminals to text bytes same from (t ∷ ts) h =
-    ap (λ u. u ∷ terminals text ts) (same_terminal to text bytes same t h.1 (end_reached t.end to ts h.2))
-    ∙ ap (λ us. terminal bytes t ∷ us) (same_terminals to text bytes same t.end ts h.2)
+pub same_terminals : (later : Bool) (to : ℕ) (text bytes : List ℕ) → Agree to text bytes → (from : ℕ) (ts : List Token)
+    →
+    AreInOrder from to ts → terminals later text ts ≡ terminals later bytes ts
+same_terminals later to text bytes same from [] h = refl
+same_terminals later to text bytes same from (t ∷ ts) h =
+    ap (λ u. u ∷ terminals later text ts) (same_terminal later to text bytes same t h.1 (end_reached t.end to ts h.2))
+    ∙ ap (λ us. terminal later bytes t ∷ us) (same_terminals later to text bytes same t.end ts h.2)

@@ -124,50 +124,50 @@ says_pairs at (p ∷ ps) h =
     (says_pairs (end_of at (pair_pieces p)) ps c.1)
 
 -- the tokens of pieces as the grammar sees them
-abbrev pub seen : List ℕ → ℕ → List Piece → List Terminal
-seen bytes at ps = terminals bytes (tokens_from at ps)
+abbrev pub seen : Bool → List ℕ → ℕ → List Piece → List Terminal
+seen later bytes at ps = terminals later bytes (tokens_from at ps)
 
-pub seen_join : (bytes : List ℕ) (at : ℕ) (ps qs : List Piece) →
-    seen bytes at (ps ++ qs) ≡ seen bytes at ps ++ seen bytes (end_of at ps) qs
-seen_join bytes at [] qs = refl
-seen_join bytes at (p ∷ ps) qs = first p.token (seen_join bytes (at + length p.bytes) ps qs)
+pub seen_join : (later : Bool) (bytes : List ℕ) (at : ℕ) (ps qs : List Piece) →
+    seen later bytes at (ps ++ qs) ≡ seen later bytes at ps ++ seen later bytes (end_of at ps) qs
+seen_join later bytes at [] qs = refl
+seen_join later bytes at (p ∷ ps) qs = first p.token (seen_join later bytes (at + length p.bytes) ps qs)
   where
-    first : (k : Option TokenKind) → seen bytes (at + length p.bytes) (ps ++ qs)
-        ≡ seen bytes (at + length p.bytes) ps ++ seen bytes (end_of (at + length p.bytes) ps) qs →
-        terminals bytes (with_token at p.bytes k (tokens_from (at + length p.bytes) (ps ++ qs)))
-        ≡ terminals bytes (with_token at p.bytes k (tokens_from (at + length p.bytes) ps))
-        ++ seen bytes (end_of (at + length p.bytes) ps) qs
+    first : (k : Option TokenKind) → seen later bytes (at + length p.bytes) (ps ++ qs)
+        ≡ seen later bytes (at + length p.bytes) ps ++ seen later bytes (end_of (at + length p.bytes) ps) qs →
+        terminals later bytes (with_token at p.bytes k (tokens_from (at + length p.bytes) (ps ++ qs)))
+        ≡ terminals later bytes (with_token at p.bytes k (tokens_from (at + length p.bytes) ps))
+        ++ seen later bytes (end_of (at + length p.bytes) ps) qs
     first None h = h
     first (Some k) h =
-        ap (λ ts. terminal bytes (record { kind = k; start = at; end = at + length p.bytes }) ∷ ts) h
+        ap (λ ts. terminal later bytes (record { kind = k; start = at; end = at + length p.bytes }) ∷ ts) h
 
 -- a number with its sign, at the end of a node and before other pieces
 
-pub signed_derives : (bytes : List ℕ) (at : ℕ) (z : ℤ) →
+pub signed_derives : (later : Bool) (bytes : List ℕ) (at : ℕ) (z : ℤ) →
     Derives grammar (both minus_ number_) (pair (view_flag (minus_of z)) (view_number (amount z)))
-    (seen bytes at (signed z ++ []))
-signed_derives bytes at (pos n) = no_minus_then number_is
-signed_derives bytes at (negsuc n) = minus_then number_is
+    (seen later bytes at (signed z ++ []))
+signed_derives later bytes at (pos n) = no_minus_then number_is
+signed_derives later bytes at (negsuc n) = minus_then number_is
 
-pub signed_then : (bytes : List ℕ) (at : ℕ) (z : ℤ) (ps : List Piece) (a : Ebnf) (y : Tree) →
-    Derives grammar a y (seen bytes (end_of at (signed z)) ps) →
+pub signed_then : (later : Bool) (bytes : List ℕ) (at : ℕ) (z : ℤ) (ps : List Piece) (a : Ebnf) (y : Tree) →
+    Derives grammar a y (seen later bytes (end_of at (signed z)) ps) →
     Derives grammar (both minus_ (both number_ a)) (pair (view_flag (minus_of z)) (pair (view_number (amount z)) y))
-    (seen bytes at (signed z ++ ps))
-signed_then bytes at (pos n) ps a y d = no_minus_then (number_then d)
-signed_then bytes at (negsuc n) ps a y d = minus_then (number_then d)
+    (seen later bytes at (signed z ++ ps))
+signed_then later bytes at (pos n) ps a y d = no_minus_then (number_then d)
+signed_then later bytes at (negsuc n) ps a y d = minus_then (number_then d)
 
-pair_derives : (bytes : List ℕ) (at : ℕ) (p : ℤ × ℕ) →
-    Derives grammar multiple_ (view_pair (written_pair at p)) (seen bytes at (pair_pieces p))
+pair_derives : (later : Bool) (bytes : List ℕ) (at : ℕ) (p : ℤ × ℕ) →
+    Derives grammar multiple_ (view_pair (written_pair at p)) (seen later bytes at (pair_pieces p))
 unfolding all_productions
-pair_derives bytes at (pos m, i) =
+pair_derives later bytes at (pos m, i) =
     made_of Kind.pair (no_minus_then (number_then (fixed_then number_is))) refl
-pair_derives bytes at (negsuc m, i) =
+pair_derives later bytes at (negsuc m, i) =
     made_of Kind.pair (minus_then (number_then (fixed_then number_is))) refl
 
-pub pairs_derive : (bytes : List ℕ) (at : ℕ) (ps : List (ℤ × ℕ)) →
+pub pairs_derive : (later : Bool) (bytes : List ℕ) (at : ℕ) (ps : List (ℤ × ℕ)) →
     Derives grammar (many multiple_) (view_list view_pair (written_pairs at ps))
-    (seen bytes at (flat_map pair_pieces ps))
-pairs_derive bytes at [] = is_nil
-pairs_derive bytes at (p ∷ ps) =
-    is_more (pair_derives bytes at p) (pairs_derive bytes (end_of at (pair_pieces p)) ps)
-    (seen_join bytes at (pair_pieces p) (flat_map pair_pieces ps))
+    (seen later bytes at (flat_map pair_pieces ps))
+pairs_derive later bytes at [] = is_nil
+pairs_derive later bytes at (p ∷ ps) =
+    is_more (pair_derives later bytes at p) (pairs_derive later bytes (end_of at (pair_pieces p)) ps)
+    (seen_join later bytes at (pair_pieces p) (flat_map pair_pieces ps))

@@ -1,14 +1,19 @@
--- A plain certificate that refutes has small numbers.
+-- A plain certificate that refutes has small numbers, and only nodes that a text of each version has.
 use Rattle.std.proofs.Common.{◌≡◌, ℕ, ◌^◌, ℤ, Bool, true, ◌&&◌, List, [], ◌∷◌, refl, ap, ◌∙◌}
 use Rattle.std.specs.Int.RustNames.{unsigned_abs}
 use Rattle.std.specs.List.{list_all}
 use Rattle.std.proofs.lemmas.Bool.{and_parts}
+use Rattle.std.proofs.lemmas.List.Elements.{All-weaker}
+use Rattle.obligations.specs.declared.certificates.Cert.{Cert}
 use Rattle.obligations.specs.declared.certificates.Node.{Node}
 use Rattle.obligations.specs.Certificates.{node_index, node_number, node_pairs, map_or}
 use Rattle.linear_prover.specs.Chains.{is_plain_node, is_plain_number, is_plain_pair}
 use Rattle.certificate_check.specs.Indexes.{is_fact_within, is_index_within}
 use Rattle.certificate_check.proofs.IndexLaws.{indexes_are_small}
+use Rattle.proof_script.specs.Proving.{ArePlain}
+use Rattle.certificate_roundtrip.specs.Pieces.{is_node_of}
 use Rattle.certificate_roundtrip.specs.SectionLaws.{RefutingIsSmall}
+use Rattle.certificate_roundtrip.specs.DocumentLaws.{AreNodesOf}
 use Rattle.certificate_roundtrip.specs.Small.{is_small, is_small_node, is_small_pair}
 
 both : (a b : Bool) → a ≡ true → b ≡ true → (a && b) ≡ true
@@ -29,6 +34,8 @@ plain_parts : (n : Node) → is_plain_node n ≡ true →
 plain_parts (Node.Case j) h = (refl, refl)
 plain_parts (Node.Split v z) h = (h, refl)
 plain_parts (Node.Sum ps) h = (refl, h)
+plain_parts (Node.Quot k) h = absurd cc
+plain_parts (Node.Share c ps) h = absurd cc
 plain_parts (Node.Round d ps) h = and_parts (is_plain_number d) (list_all is_plain_pair ps) h
 
 small_node : (n : Node) → is_plain_node n ≡ true → is_index_within (2 ^ 62) n ≡ true → is_small_node n ≡ true
@@ -49,6 +56,28 @@ small_nodes (n ∷ ns) h k =
     both (is_small_node n) (list_all is_small_node ns) (small_node n plain.0 there.0)
     (small_nodes ns plain.1 there.1)
 
+-- a text of each version has its nodes
+plain_node_of : (later : Bool) (n : Node) → is_plain_node n ≡ true → is_node_of later n ≡ true
+plain_node_of later (Node.Case j) h = refl
+plain_node_of later (Node.Split v z) h = refl
+plain_node_of later (Node.Sum ps) h = refl
+plain_node_of later (Node.Round d ps) h = refl
+plain_node_of later (Node.Quot k) h = absurd cc
+plain_node_of later (Node.Share c ps) h = absurd cc
+
+plain_nodes_of : (later : Bool) (ns : List Node) → list_all is_plain_node ns ≡ true →
+    list_all (is_node_of later) ns ≡ true
+plain_nodes_of later [] h = refl
+plain_nodes_of later (n ∷ ns) h =
+    let plain = and_parts (is_plain_node n) (list_all is_plain_node ns) h in
+    both (is_node_of later n) (list_all (is_node_of later) ns) (plain_node_of later n plain.0)
+    (plain_nodes_of later ns plain.1)
+
+pub plain_are_nodes_of : (later : Bool) (certs : List Cert) → ArePlain certs → AreNodesOf later certs
+plain_are_nodes_of later certs plain =
+    All-weaker (λ (c : Cert). list_all is_plain_node c.nodes ≡ true)
+    (λ (c : Cert). list_all (is_node_of later) c.nodes ≡ true) (λ c h. plain_nodes_of later c.nodes h) certs plain
+
 pub refuting_is_small : RefutingIsSmall
-refuting_is_small o c is whole refutes plain =
-    small_nodes c.nodes plain (indexes_are_small o c.nodes is whole refutes)
+refuting_is_small levels o c few is whole refutes plain =
+    small_nodes c.nodes plain (indexes_are_small levels o c.nodes few is whole refutes)

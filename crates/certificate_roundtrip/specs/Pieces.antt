@@ -1,12 +1,13 @@
 -- The pieces of which the certificates section is written, and its tokens.
-use Rattle.std.specs.Prelude.{ℕ, suc, ◌+◌, ◌^◌, nat_le, ℤ, pos, negsuc, Bool, true, List, [], ◌∷◌, ◌++◌, length, codes}
-use Rattle.std.specs.Prelude.{decimal}
+use Rattle.std.specs.Prelude.{ℕ, suc, ◌+◌, ◌^◌, nat_le, ℤ, pos, negsuc, Bool, true, not, ◌&&◌, List, [], ◌∷◌, ◌++◌}
+use Rattle.std.specs.Prelude.{length, codes, decimal}
 use Rattle.std.specs.Prelude.{Option, Some, None}
 use Rattle.std.specs.List.{flat_map}
 use Rattle.case_tables.specs.declared.symbol_table.Symbol.{Symbol}
 use Rattle.case_tables.specs.declared.word_table.Word.{Word}
 use Rattle.unity_syntax.specs.declared.token.Token.{Token}
 use Rattle.unity_syntax.specs.declared.token.TokenKind.{TokenKind}
+use Rattle.unity_syntax.specs.Classes.{is_later}
 use Rattle.obligations.specs.declared.certificates.Cert.{Cert}
 use Rattle.obligations.specs.declared.certificates.Node.{Node}
 use Rattle.obligations.specs.Certificates.{node_index, node_number, node_pairs, map_or}
@@ -53,6 +54,12 @@ node_word (Node.Case k) = (codes "case", Word.Case)
 node_word (Node.Split v k) = (codes "split", Word.Split)
 node_word (Node.Sum ps) = (codes "sum", Word.Sum)
 node_word (Node.Round d ps) = (codes "round", Word.Round)
+node_word (Node.Quot k) = (codes "quot", Word.Quot)
+node_word (Node.Share c ps) = (codes "share", Word.Share)
+
+-- a node that a text has, where `later` says whether it is of version 2: only then it has `quot` and `share`
+abbrev pub is_node_of : Bool → Node → Bool
+is_node_of later n = not (is_later (node_word n).1 && not later)
 
 abbrev pub node_pieces : Node → List Piece
 node_pieces n = gap 32 ∷ word (node_word n).0 (node_word n).1 ∷ part_pieces n

@@ -17,8 +17,9 @@ use Rattle.certificate_roundtrip.specs.Small.{IsSmallCertificate}
 
 -- a whole and plain certificate that refutes the negation of an obligation has no number past 2^62
 abbrev pub RefutingIsSmall : Type 0
-RefutingIsSmall = (o : Obligation) (c : Cert) → IsObligation o → is_whole c.nodes 1 ≡ true →
-    walk_from_root o c.nodes ≡ Ok [] → list_all is_plain_node c.nodes ≡ true → IsSmallCertificate c
+RefutingIsSmall = (levels : ℕ) (o : Obligation) (c : Cert) → levels ≤ 4096 → IsObligation o →
+    is_whole c.nodes 1 ≡ true → walk_from_root levels o c.nodes ≡ Ok [] → list_all is_plain_node c.nodes ≡ true →
+    IsSmallCertificate c
 
 -- where no number is past 2^62, nor that of certificates, all can be read
 abbrev pub SmallAreReadable : Type 0

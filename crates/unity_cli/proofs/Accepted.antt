@@ -1,7 +1,7 @@
 -- What an accepted document claims is true, and its programs have executions.
 use Rattle.std.proofs.Common.{◌≡◌, ◌↔◌, ℕ, ◌≤◌, List, Ok, refl, sym, ap, subst, arith}
 use Rattle.unity_syntax.specs.declared.document.Document.{Document}
-use Rattle.unity_syntax.specs.Classes.{terminals}
+use Rattle.unity_syntax.specs.Classes.{terminals, says_later}
 use Rattle.core_terms.specs.Conditions.{IsCoreDocument}
 use Rattle.executor.specs.StartState.{start_state}
 use Rattle.expand_documents.specs.Cores.{core_document}
@@ -45,7 +45,8 @@ read_whole most bytes d r = are_whole_trees bytes d r.reading.is_document
 
 claims_written : (bytes : List ℕ) (d : Document) → IsAdmitted greatest_size bytes d → AreClaims d
 claims_written bytes d r =
-    claims_are_written d (terminals bytes r.reading.is_document.tokens) r.reading.is_document.parsed.0
+    claims_are_written d (terminals (says_later r.reading.is_document.tokens) bytes r.reading.is_document.tokens)
+    r.reading.is_document.parsed.0
 
 -- the verdict is a plan exactly where the document follows
 rules_followed : (bytes : List ℕ) (d : Document) → IsAdmitted greatest_size bytes d →
