@@ -454,6 +454,7 @@ expect 0 flip_array
 expect 0 swap
 expect 0 rounding
 expect 0 splitting
+expect 0 share
 expect 0 safety_calculus
 expect 0 union_proofs
 expect 0 past_the_end
@@ -586,6 +587,10 @@ done
 deep=$(printf ' round 1 1*1%.0s' {1..1024})
 expect_line 1 "rejected 58 CertTooDeep Count.safe obligation 1" check < \
     <(sed "s/^1: .*/1:$deep sum 1*1;/" examples/count.unity)
+expect_line 1 "rejected 53 BadSum Count.safe obligation 1" check < \
+    <(sed "s/^unity 1/unity 2/; s/^1: .*/1:$deep sum 1*1;/" examples/count.unity)
+expect_line 1 "rejected 58 CertTooDeep Count.safe obligation 1" check < \
+    <(sed "s/^unity 1/unity 2/; s/^1: .*/1:$deep$deep$deep$deep sum 1*1;/" examples/count.unity)
 for allocation in 1 2 3; do
     expect_refused "$allocation" keeps_the_list_where_insert_is_refused
 done

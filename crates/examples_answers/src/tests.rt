@@ -6,4 +6,5 @@ mod steps;
 mod tables;
 mod texts;
 mod traces;
+mod versions;
 mod words;

@@ -13,14 +13,17 @@ use Rattle.meaning_documents.specs.Setting.{is_true_at}
 use Rattle.meaning_documents.specs.Programs.{Composed, document_setting}
 use Rattle.meaning_documents.specs.Execution.{Act, System, IsExecution, act_step, chosen_step, system_of}
 use Rattle.meaning_documents.specs.Rounds.{rounds, IsShortest}
-use Rattle.meaning_documents.specs.Properties.{Test, Everywhere, IsAlwaysDefined, Unless, Helps, Ensures, LeadsTo}
+use Rattle.meaning_documents.specs.Properties.{Test, Everywhere, IsAlwaysDefined, Fixed, Unless, Constant, Helps}
+use Rattle.meaning_documents.specs.Properties.{Ensures, LeadsTo, Until, Detects}
 use Rattle.unity_syntax.specs.declared.proof.Step.{Step}
 use Rattle.meaning_documents.specs.Claims.{Claims, StepClaims, ClaimsOf, are_arguments, argument_bindings, parameters}
 use Rattle.examples_definitions.specs.SmallTrees.{word, number, equal, less}
 use Rattle.examples_definitions.specs.ClaimExamples.{count_proof, safe, jump, goal, overrun, overrunning, some_helps}
 use Rattle.examples_definitions.specs.ClaimExamples.{each_helps, counting, count, counter, CountsToTwo, BeginsAtNought}
 use Rattle.examples_definitions.specs.ClaimExamples.{CountIsDefined, FirstIsEnsured, JumpIsFalse, WithinTwo}
-use Rattle.examples_definitions.specs.ClaimExamples.{NotWithinOne}
+use Rattle.examples_definitions.specs.ClaimExamples.{NotWithinOne, early, steady, skip, late, HaltsAtTwo}
+use Rattle.examples_definitions.specs.ClaimExamples.{GoesOnFromOne, TwoIsNotSteady, WaitsForOne, SkipIsFalse}
+use Rattle.examples_definitions.specs.ClaimExamples.{TwoIsNotNought}
 use Rattle.examples_definitions.specs.ClaimExamples.{OverrunIsUndefined, choosing, either, chooser, NoneForAllStates}
 use Rattle.examples_definitions.specs.ClaimExamples.{OneForEachParameter, NoSuchProgram, ClaimExamples}
 use Rattle.meaning_documents.proofs.ValueLaws.{value_laws}
@@ -29,7 +32,7 @@ use Rattle.meaning_documents.proofs.InstanceLaws.{instance_laws}
 use Rattle.meaning_states.proofs.StepTheorems.{and_left, and_right}
 use Rattle.meaning_documents.proofs.ExecutionTheorems.{every_state_in_range, each_is_a_step, get_at}
 use Rattle.meaning_documents.proofs.RoundTheorems.{rounds_most}
-use Rattle.meaning_documents.proofs.PropertyTheorems.{next, get-drop, leads_is_follows}
+use Rattle.meaning_documents.proofs.PropertyTheorems.{next, get-drop, leads_is_follows, ensures_leads}
 
 one_state : (s t : State) → Some s ≡ Some t → s ≡ t
 one_state s t e = cc
@@ -209,6 +212,65 @@ no_jump_found c =
     let after = unless (pos 0 ∷ []) (0 ∷ 0 ∷ 0 ∷ []) ((pos 1 ∷ []) ∷ (pos 2 ∷ []) ∷ (pos 2 ∷ []) ∷ []) counts_found 0
     (pos 0 ∷ []) (pos 1 ∷ []) refl refl (simp value_laws refl) in
     let no = simp value_laws at after in
+    cc
+
+at_two : (s : State) → ThreeStates s → IsTrue (x_is 2 s) → s ≡ pos 2 ∷ []
+at_two s three t = elim three [
+  | inl w ↦ absurd (zero_not_two (subst (λ u. IsTrue (x_is 2 u)) w t))
+  | inr w ↦ elim w [
+    | inl v ↦ absurd (one_not_two (subst (λ u. IsTrue (x_is 2 u)) v t))
+    | inr v ↦ v
+  ]
+]
+
+fixed_at_two : Fixed counter (x_is 2)
+fixed_at_two first choices later run place s e h zero act f =
+    let two = at_two s (counter_states first choices later run place s e) h in
+    sym (act_of counter 0 act s f) ∙ (moves_from s (pos 2 ∷ []) (pos 2 ∷ []) two from-2 ∙ ap Some (sym two))
+fixed_at_two first choices later run place s e h (suc choice) act f = let none = only_one choice in cc
+
+halts_found : HaltsAtTwo
+halts_found = record { program = count; named = refl; claimed = λ zs t. fixed_at_two }
+
+not_early_found : GoesOnFromOne
+not_early_found c =
+    let fixed : Fixed counter (x_is 1) = of_counter early 0 c [] refl in
+    let back = fixed (pos 0 ∷ []) (0 ∷ 0 ∷ 0 ∷ []) ((pos 1 ∷ []) ∷ (pos 2 ∷ []) ∷ (pos 2 ∷ []) ∷ []) counts_found 1
+    (pos 1 ∷ []) refl one_is_one 0 first_act.0 first_act.1 in
+    let same : Some (pos 2 ∷ []) ≡ Some (pos 1 ∷ []) =
+    sym from-1 ∙ (act_of counter 0 first_act.0 (pos 1 ∷ []) first_act.1 ∙ back) in
+    cc
+
+not_steady_found : TwoIsNotSteady
+not_steady_found c =
+    let constant : Constant counter (x_is 2) = of_counter steady 0 c [] refl in
+    let same : x_is 2 (pos 1 ∷ []) ≡ x_is 2 (pos 2 ∷ []) =
+    constant (pos 0 ∷ []) (0 ∷ 0 ∷ 0 ∷ []) ((pos 1 ∷ []) ∷ (pos 2 ∷ []) ∷ (pos 2 ∷ []) ∷ []) counts_found 1
+    (pos 1 ∷ []) (pos 2 ∷ []) refl refl in
+    one_not_two (same ∙ two_is_two)
+
+waits_found : WaitsForOne
+waits_found = record {
+  program = count;
+  named = refl;
+  claimed = λ zs t.
+      record { unless = first_ensured.unless; leads = ensures_leads counter (x_is 0) (x_is 1) first_ensured };
+}
+
+no_skip_found : SkipIsFalse
+no_skip_found c =
+    let until : Until counter (x_is 0) (x_is 2) 2 = of_counter skip 2 c [] refl in
+    let after = until.unless (pos 0 ∷ []) (0 ∷ 0 ∷ 0 ∷ []) ((pos 1 ∷ []) ∷ (pos 2 ∷ []) ∷ (pos 2 ∷ []) ∷ [])
+    counts_found 0 (pos 0 ∷ []) (pos 1 ∷ []) refl refl (simp value_laws refl) in
+    let no = simp value_laws at after in
+    cc
+
+not_late_found : TwoIsNotNought
+not_late_found c =
+    let detects : Detects counter (x_is 2) (x_is 0) 2 = of_counter late 2 c [] refl in
+    let there = detects.always (pos 0 ∷ []) (0 ∷ 0 ∷ 0 ∷ []) ((pos 1 ∷ []) ∷ (pos 2 ∷ []) ∷ (pos 2 ∷ []) ∷ [])
+    counts_found 2 (pos 2 ∷ []) refl in
+    let no = simp value_laws at there in
     cc
 
 within_two : LeadsTo counter (x_is 0) (x_is 2) 2
@@ -464,6 +526,12 @@ claim_examples = record {
   no_jump = no_jump_found;
   within_two = within_two_found;
   not_within_one = not_within_one_found;
+  halts = halts_found;
+  not_early = not_early_found;
+  not_steady = not_steady_found;
+  waits = waits_found;
+  no_skip = no_skip_found;
+  not_late = not_late_found;
   undefined = undefined_found;
   none_for_all = none_for_all_found;
   one_for_each = one_for_each_found;

@@ -6,7 +6,8 @@ use Rattle.examples_definitions.specs.ProgramText.{program_example}
 use Rattle.examples_definitions.specs.ExpressionText.{expressions_example}
 use Rattle.examples_definitions.specs.ProofText.{proof_example}
 use Rattle.examples_definitions.specs.TermText.{term_example}
-use Rattle.examples_definitions.specs.RefusedTexts.{other_version, second_relation, second_arrow, not_not, and_or}
+use Rattle.examples_definitions.specs.VersionText.{second_version}
+use Rattle.examples_definitions.specs.RefusedTexts.{other_version, later_word, second_relation, second_arrow, not_not, and_or}
 use Rattle.examples_definitions.specs.RefusedTexts.{other_number, node_too_many, node_missing, early_end}
 use Rattle.examples_definitions.specs.RefusedTexts.{bracket_too_many}
 use Rattle.unity_syntax.proofs.Productions.{all_productions}
@@ -68,6 +69,14 @@ proof_read = simp (views) refl
 pub term_read : IsRead term_example
 unfolding all_productions
 term_read = simp (views) refl
+
+pub second_version_read : IsRead second_version
+unfolding all_productions
+second_version_read = simp (views) refl
+
+pub later_word_is_refused : IsRefusedText later_word
+unfolding all_productions
+later_word_is_refused = refl
 
 pub other_version_is_refused : IsRefusedText other_version
 unfolding all_productions

@@ -1,4 +1,5 @@
 pub mod ClaimTrials
+pub mod DivisionTrials
 pub mod ExamplesRead
 pub mod OperatorTrials
 pub mod ProgramTrials

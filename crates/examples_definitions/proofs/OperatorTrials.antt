@@ -3,7 +3,7 @@ use Rattle.std.proofs.Common.{refl}
 use Rattle.examples_definitions.specs.OperatorExamples.{OperatorExamples, Equals, Differs, IsBelow, IsAtMost, IsAbove}
 use Rattle.examples_definitions.specs.OperatorExamples.{IsAtLeast, TruthsCompare, Negations, Implications, Conjunctions}
 use Rattle.examples_definitions.specs.OperatorExamples.{Disjunctions, Products, IndicesBelowNought, RangeBelowNought}
-use Rattle.examples_definitions.specs.OperatorExamples.{EndsWithOffset}
+use Rattle.examples_definitions.specs.OperatorExamples.{EndsWithOffset, ProductsFromLeft, SignBeforeDivision}
 use Rattle.meaning_documents.proofs.ValueLaws.{value_laws}
 
 equals_found : Equals
@@ -42,6 +42,12 @@ disjunctions_found = simp value_laws refl
 products_found : Products
 products_found = simp value_laws refl
 
+from_left_found : ProductsFromLeft
+from_left_found = simp value_laws refl
+
+sign_found : SignBeforeDivision
+sign_found = simp value_laws refl
+
 indices_found : IndicesBelowNought
 indices_found = simp value_laws refl
 
@@ -65,6 +71,8 @@ operator_examples = record {
   conjunctions = conjunctions_found;
   disjunctions = disjunctions_found;
   products = products_found;
+  from_left = from_left_found;
+  sign = sign_found;
   indices = indices_found;
   below_nought = below_nought_found;
   offsets = offsets_found;

@@ -53,8 +53,31 @@ jump = step "jump" (between (equal (word "x") (number 0)) Word.Unless (equal (wo
 abbrev pub goal : Step
 goal = step "goal" (between (equal (word "x") (number 0)) Word.Leadsto (equal (word "x") (number 2)))
 
+-- `halt: fixed x = 2` and `early: fixed x = 1`
+abbrev pub halt : Step
+halt = step "halt" (Claim.Fixed 0 (equal (word "x") (number 2)))
+
+abbrev pub early : Step
+early = step "early" (Claim.Fixed 0 (equal (word "x") (number 1)))
+
+-- `steady: constant x = 2`
+abbrev pub steady : Step
+steady = step "steady" (Claim.Constant 0 (equal (word "x") (number 2)))
+
+-- `wait: x = 0 until x = 1` and `skip: x = 0 until x = 2`
+abbrev pub wait : Step
+wait = step "wait" (between (equal (word "x") (number 0)) Word.Until (equal (word "x") (number 1)))
+
+abbrev pub skip : Step
+skip = step "skip" (between (equal (word "x") (number 0)) Word.Until (equal (word "x") (number 2)))
+
+-- `late: x = 2 detects x = 0`
+abbrev pub late : Step
+late = step "late" (between (equal (word "x") (number 2)) Word.Detects (equal (word "x") (number 0)))
+
 abbrev pub count_proof : Proof
-count_proof = proof_of "Count" (safe ∷ first_step ∷ jump ∷ goal ∷ [])
+count_proof = proof_of "Count"
+    (safe ∷ first_step ∷ jump ∷ goal ∷ halt ∷ early ∷ steady ∷ wait ∷ skip ∷ late ∷ [])
 
 -- it counts up to 2, and stays there
 abbrev pub CountsToTwo : Type 0
@@ -81,6 +104,28 @@ WithinTwo = Claims counting count_proof goal 2
 
 abbrev pub NotWithinOne : Type 0
 NotWithinOne = Claims counting count_proof goal 1 → ⊥
+
+-- its step leads from 2 back to 2, and from 1 elsewhere
+abbrev pub HaltsAtTwo : Type 0
+HaltsAtTwo = Claims counting count_proof halt 0
+
+abbrev pub GoesOnFromOne : Type 0
+GoesOnFromOne = Claims counting count_proof early 0 → ⊥
+
+-- from 1 it comes to 2, where it was not
+abbrev pub TwoIsNotSteady : Type 0
+TwoIsNotSteady = Claims counting count_proof steady 0 → ⊥
+
+-- it stays at 0 until it is at 1, within one round, and not until it is at 2
+abbrev pub WaitsForOne : Type 0
+WaitsForOne = Claims counting count_proof wait 1
+
+abbrev pub SkipIsFalse : Type 0
+SkipIsFalse = Claims counting count_proof skip 2 → ⊥
+
+-- at 2 it is not at 0
+abbrev pub TwoIsNotNought : Type 0
+TwoIsNotNought = Claims counting count_proof late 2 → ⊥
 
 -- program Over
 -- declare x : 0..2
@@ -152,6 +197,12 @@ pub record ClaimExamples : Type 0 where
   pub no_jump : JumpIsFalse
   pub within_two : WithinTwo
   pub not_within_one : NotWithinOne
+  pub halts : HaltsAtTwo
+  pub not_early : GoesOnFromOne
+  pub not_steady : TwoIsNotSteady
+  pub waits : WaitsForOne
+  pub no_skip : SkipIsFalse
+  pub not_late : TwoIsNotNought
   pub undefined : OverrunIsUndefined
   pub none_for_all : NoneForAllStates
   pub one_for_each : OneForEachParameter

@@ -6,6 +6,7 @@ use Rattle.case_tables.specs.declared.symbol_table.Symbol.TheVariants.{Below as 
 use Rattle.unity_syntax.specs.declared.name.End.{End}
 use Rattle.unity_syntax.specs.declared.program.Program.{Program}
 use Rattle.unity_syntax.specs.declared.document.Part.{Part}
+use Rattle.unity_syntax.specs.declared.expression.Operator.{Operator}
 use Rattle.unity_syntax.specs.declared.expression.Expr.TheVariants as expr
 use Rattle.unity_syntax.specs.declared.statement.Component.TheVariants as component
 use Rattle.unity_syntax.specs.declared.statement.Item.TheVariants as item
@@ -99,7 +100,9 @@ expressions_example = record {
                     (expr.Sum 89 false
                     (expr.Word 89 (name 89 "x") None)
                     ((Symbol.Minus, (expr.Number 93 1)) ∷ []))))
-                    ((expr.Number 98 2) ∷ (expr.Word 102 (name 102 "x") None) ∷ [])),
+                    ((Operator.Times, (expr.Number 98 2))
+                    ∷ (Operator.Times, (expr.Word 102 (name 102 "x") None))
+                    ∷ [])),
               )
               ∷ (Symbol.Minus, (expr.Word 106 (name 106 "y") None))
               ∷ []));

@@ -1,5 +1,6 @@
 pub mod ClaimExamples
 pub mod CountText
+pub mod DivisionExamples
 pub mod ExpressionText
 pub mod OperatorExamples
 pub mod ProgramExamples
@@ -11,3 +12,4 @@ pub mod StepExamples
 pub mod TermText
 pub mod TextForms
 pub mod ValueExamples
+pub mod VersionText

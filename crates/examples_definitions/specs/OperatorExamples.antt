@@ -3,6 +3,7 @@ use Rattle.std.specs.Prelude.{◌≡◌, ℤ, pos, neg_ℤ, List, [], ◌∷◌,
 use Rattle.case_tables.specs.declared.symbol_table.Symbol.{Symbol}
 use Rattle.case_tables.specs.declared.symbol_table.Symbol.TheVariants.{Below as below}
 use Rattle.case_tables.specs.declared.word_table.Word.{Word}
+use Rattle.unity_syntax.specs.declared.expression.Operator.{Operator}
 use Rattle.unity_syntax.specs.declared.expression.Expr
 use Rattle.unity_syntax.specs.declared.expression.Expr.{Expr}
 use Rattle.meaning_states.specs.State.{State}
@@ -10,7 +11,7 @@ use Rattle.meaning_documents.specs.Value.{value}
 use Rattle.meaning_documents.specs.Setting.{Setting, setting_of, seen}
 use Rattle.examples_definitions.specs.SmallTrees.{word, element, number, sum_of, minus, equal, compare, and_of, or_of}
 use Rattle.examples_definitions.specs.SmallTrees.{range, range_below, range_beside, over, variable, truth_variable}
-use Rattle.examples_definitions.specs.SmallTrees.{array}
+use Rattle.examples_definitions.specs.SmallTrees.{array, operated, bracketed}
 use Rattle.examples_definitions.specs.SmallTrees.{target, one, plainly, set, statement, lone, free_program}
 
 -- program Scale
@@ -89,9 +90,32 @@ Disjunctions = values (or_of (Expr.Not 0 (word "done")) (equal (word "x") (numbe
 
 -- `x * y * 3` and `2 * (x + y)`
 abbrev pub Products : Type 0
-Products = values (Expr.Product 0 (word "x") (word "y" ∷ number 3 ∷ []) ∷
-    Expr.Product 0 (number 2) (Expr.Brackets 0 (sum_of (word "x") (word "y")) ∷ []) ∷ []) ≡
+Products = values
+    (Expr.Product 0 (word "x") ((Operator.Times, word "y") ∷ (Operator.Times, number 3) ∷ []) ∷
+    operated (number 2) Operator.Times (bracketed (sum_of (word "x") (word "y"))) ∷ []) ≡
     pos 24 ∷ pos 12 ∷ []
+
+-- a product is read from the left: `7 div 2 * x` is 3 * 2, `x * 7 div y` is 14 div 4 and `9 div y mod 2` is 2 mod 2;
+-- with brackets `7 div (2 * x)` is 7 div 4, `x * (7 div y)` is 2 * 1 and `9 div (y mod 3)` is 9 div 1
+abbrev pub ProductsFromLeft : Type 0
+ProductsFromLeft = values
+    (Expr.Product 0 (number 7) ((Operator.Div, number 2) ∷ (Operator.Times, word "x") ∷ []) ∷
+    Expr.Product 0 (word "x") ((Operator.Times, number 7) ∷ (Operator.Div, word "y") ∷ []) ∷
+    Expr.Product 0 (number 9) ((Operator.Div, word "y") ∷ (Operator.Mod, number 2) ∷ []) ∷
+    operated (number 7) Operator.Div (bracketed (operated (number 2) Operator.Times (word "x"))) ∷
+    operated (word "x") Operator.Times (bracketed (operated (number 7) Operator.Div (word "y"))) ∷
+    operated (number 9) Operator.Div (bracketed (operated (word "y") Operator.Mod (number 3))) ∷ []) ≡
+    pos 6 ∷ pos 3 ∷ pos 0 ∷ pos 1 ∷ pos 2 ∷ pos 9 ∷ []
+
+-- a sign belongs to the sum: `-7 div 2` is the negation of `7 div 2` and `-b[1] mod 3` that of `b[1] mod 3`; in brackets
+-- it belongs to the number, `(-7) div 2` and `(-7) mod 3`
+abbrev pub SignBeforeDivision : Type 0
+SignBeforeDivision = values
+    (minus (operated (number 7) Operator.Div (number 2)) ∷
+    minus (operated (element "b" (number 1)) Operator.Mod (number 3)) ∷
+    operated (bracketed (minus (number 7))) Operator.Div (number 2) ∷
+    operated (bracketed (minus (number 7))) Operator.Mod (number 3) ∷ []) ≡
+    neg_ℤ (pos 3) ∷ neg_ℤ (pos 1) ∷ neg_ℤ (pos 4) ∷ pos 2 ∷ []
 
 -- `b[-1]`, `b[0]` and `b[1]`, and outside `b[-2]` and `b[2]`
 abbrev pub IndicesBelowNought : Type 0
@@ -124,6 +148,8 @@ pub record OperatorExamples : Type 0 where
   pub conjunctions : Conjunctions
   pub disjunctions : Disjunctions
   pub products : Products
+  pub from_left : ProductsFromLeft
+  pub sign : SignBeforeDivision
   pub indices : IndicesBelowNought
   pub below_nought : RangeBelowNought
   pub offsets : EndsWithOffset

@@ -9,12 +9,25 @@ use Rattle.examples_definitions.specs.TextForms.{name_token, number_token, reser
 abbrev pub other_version : Refusal
 other_version = record {
   levels = 200;
-  text = codes "unity 2 program\n";
+  text = codes "unity 3 program\n";
   before =
       reserved_token Word.Unity 0 5 ∷ [];
   rest =
-      number_token 2 6 7 ∷ reserved_token Word.Program 8 15 ∷ [];
+      number_token 3 6 7 ∷ reserved_token Word.Program 8 15 ∷ [];
   fault = OtherVersion;
+}
+
+-- a word of version 2 in a text of version 1
+abbrev pub later_word : Refusal
+later_word = record {
+  levels = 200;
+  text = codes "unity 1 program F initially x div 2\n";
+  before =
+      reserved_token Word.Unity 0 5 ∷ number_token 1 6 7 ∷ reserved_token Word.Program 8 15 ∷ name_token 16 17
+      ∷ reserved_token Word.Initially 18 27 ∷ name_token 28 29 ∷ [];
+  rest =
+      reserved_token Word.Div 30 33 ∷ number_token 2 34 35 ∷ [];
+  fault = Unexpected;
 }
 
 -- a second relation in one comparison

@@ -7,6 +7,7 @@ use Rattle.case_tables.specs.declared.word_table.Word.{Word}
 use Rattle.unity_syntax.specs.declared.name.Name.{Name}
 use Rattle.unity_syntax.specs.declared.name.End.{End}
 use Rattle.unity_syntax.specs.declared.name.Range.{Range}
+use Rattle.unity_syntax.specs.declared.expression.Operator.{Operator}
 use Rattle.unity_syntax.specs.declared.expression.Expr
 use Rattle.unity_syntax.specs.declared.expression.Expr.{Expr}
 use Rattle.unity_syntax.specs.declared.declaration.Plain.{Plain}
@@ -55,6 +56,14 @@ difference e f = Expr.Sum 0 false e ((Symbol.Minus, f) ∷ [])
 -- `-e`
 abbrev pub minus : Expr → Expr
 minus e = Expr.Sum 0 true e []
+
+-- `e * f`, `e div f` or `e mod f`
+abbrev pub operated : Expr → Operator → Expr → Expr
+operated e operator f = Expr.Product 0 e ((operator, f) ∷ [])
+
+-- `(e)`
+abbrev pub bracketed : Expr → Expr
+bracketed e = Expr.Brackets 0 e
 
 -- `e = f`
 abbrev pub equal : Expr → Expr → Expr
@@ -230,7 +239,7 @@ step_for label text r claim =
       using = None;
     }
 
--- `p unless q`, or with `ensures` or `leadsto`
+-- `p unless q`, or with another word between them
 abbrev pub between : Expr → Word → Expr → Claim
 between p which q = Claim.Between 0 p which q
 

@@ -4,7 +4,7 @@ use Rattle.case_tables.specs.declared.word_table.Word.{Word}
 use Rattle.case_tables.specs.declared.symbol_table.Symbol.{Symbol}
 use Rattle.grammar_theory.specs.Reader.{Fault, read_whole}
 use Rattle.grammar_theory.specs.Ebnf.{Terminal}
-use Rattle.unity_syntax.specs.Classes.{terminals}
+use Rattle.unity_syntax.specs.Classes.{terminals, says_later}
 use Rattle.unity_syntax.specs.Grammar.{grammar, document_}
 use Rattle.unity_syntax.specs.View.{view}
 use Prim.Native.String.{String}
@@ -59,7 +59,7 @@ pub record Example : Type 0 where
 
 -- The tokens are read as the tree.
 abbrev pub IsRead : Example → Type 0
-IsRead e = read_whole grammar 200 document_ (terminals e.text e.tokens) ≡ Ok (view e.tree)
+IsRead e = read_whole grammar 200 document_ (terminals (says_later e.tokens) e.text e.tokens) ≡ Ok (view e.tree)
 
 -- A text whose tokens are refused from a place on, where so many brackets may be open at once.
 pub record Refusal : Type 0 where
@@ -71,5 +71,7 @@ pub record Refusal : Type 0 where
 
 -- The first tokens are those of a document's beginning, and the rest is refused.
 abbrev pub IsRefusedText : Refusal → Type 0
-IsRefusedText r = read_whole grammar r.levels document_ (terminals r.text (r.before ++ r.rest)) ≡
-    Err (r.fault (terminals r.text r.rest))
+IsRefusedText r =
+    let tokens = r.before ++ r.rest in
+    read_whole grammar r.levels document_ (terminals (says_later tokens) r.text tokens) ≡
+    Err (r.fault (terminals (says_later tokens) r.text r.rest))

@@ -6,8 +6,9 @@ ghost use Rattle.examples_definitions.specs.ProgramText.{program_example};
 ghost use Rattle.examples_definitions.specs.ExpressionText.{expressions_example};
 ghost use Rattle.examples_definitions.specs.ProofText.{proof_example};
 ghost use Rattle.examples_definitions.specs.TermText.{term_example};
-ghost use Rattle.examples_definitions.specs.RefusedTexts.{other_version, second_relation, second_arrow, not_not};
-ghost use Rattle.examples_definitions.specs.RefusedTexts.{and_or};
+ghost use Rattle.examples_definitions.specs.VersionText.{second_version};
+ghost use Rattle.examples_definitions.specs.RefusedTexts.{other_version, later_word, second_relation};
+ghost use Rattle.examples_definitions.specs.RefusedTexts.{second_arrow, not_not, and_or};
 ghost use Rattle.examples_definitions.specs.RefusedTexts.{other_number, node_too_many, node_missing};
 ghost use Rattle.examples_definitions.specs.RefusedTexts.{early_end, bracket_too_many};
 
@@ -20,6 +21,8 @@ pub fn grammar_examples()
     ensures expressions { IsRead expressions_example }
     ensures proof { IsRead proof_example }
     ensures term { IsRead term_example }
+    ensures second_version { IsRead second_version }
+    ensures later_word { IsRefusedText later_word }
     ensures other_version { IsRefusedText other_version }
     ensures second_relation { IsRefusedText second_relation }
     ensures second_arrow { IsRefusedText second_arrow }

@@ -53,7 +53,7 @@ const EDITS: &[(&str, &str, &str)] = &[
     ("x + 1 if", "y + 1 if", "bad 10 Unknown byte 78\n"),
     ("0..3", "0..1000000001", "bad 13 BadRange byte 39\n"),
     ("0..3", "3..0", "bad 13 BadRange byte 36\n"),
-    ("unity 1", "unity 2", "bad 19 Version byte 6\n"),
+    ("unity 1", "unity 3", "bad 19 Version byte 6\n"),
     // the proof
     (
         "x <= 3 by",

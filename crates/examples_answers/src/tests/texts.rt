@@ -56,7 +56,7 @@ certificates
 end";
 
 /// The answer for a text: `None` where it is a document, and else its fault.
-fn fault_of(alloc: Global, text: &str) -> Option<SyntaxFault> {
+pub fn fault_of(alloc: Global, text: &str) -> Option<SyntaxFault> {
     let bytes = text.as_bytes();
     match lex(alloc, bytes) {
         Ok(tokens) => parse(alloc, bytes, tokens.as_slice()).err(),
@@ -70,7 +70,8 @@ const REFUSED: &[(&str, &str, Code)] = &[
     ("unity", "", Code::Unexpected),
     ("", "program P assign i: x := 1 end", Code::Unexpected),
     ("unity ", "P", Code::Unexpected),
-    ("unity ", "2", Code::Version),
+    ("unity ", "3", Code::Version),
+    ("unity ", "0", Code::Version),
     ("unity 1 ", "unity 1", Code::Unexpected),
     (
         "unity 1 certificates end ",

@@ -1,5 +1,6 @@
 use Rattle.examples_definitions.proofs.ExamplesRead.{smallest_read, count_read, program_read, expressions_read}
-use Rattle.examples_definitions.proofs.ExamplesRead.{proof_read, term_read, other_version_is_refused}
+use Rattle.examples_definitions.proofs.ExamplesRead.{proof_read, term_read, second_version_read}
+use Rattle.examples_definitions.proofs.ExamplesRead.{other_version_is_refused, later_word_is_refused}
 use Rattle.examples_definitions.proofs.ExamplesRead.{second_relation_is_refused, second_arrow_is_refused}
 use Rattle.examples_definitions.proofs.ExamplesRead.{not_not_is_refused, and_or_is_refused, other_number_is_refused}
 use Rattle.examples_definitions.proofs.ExamplesRead.{node_too_many_is_refused, node_missing_is_refused}
@@ -23,6 +24,12 @@ returns-clause-proof c = proof_read
 
 pub returns-clause-term : goal.returns-clause-term
 returns-clause-term c = term_read
+
+pub returns-clause-second_version : goal.returns-clause-second_version
+returns-clause-second_version c = second_version_read
+
+pub returns-clause-later_word : goal.returns-clause-later_word
+returns-clause-later_word c = later_word_is_refused
 
 pub returns-clause-other_version : goal.returns-clause-other_version
 returns-clause-other_version c = other_version_is_refused
