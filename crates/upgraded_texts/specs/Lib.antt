@@ -1,0 +1,3 @@
+pub mod Upgraded
+pub mod TextLaws
+pub mod VerdictLaws
