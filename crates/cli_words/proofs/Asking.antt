@@ -5,7 +5,7 @@ use Rattle.std.proofs.Common.{None, option_map, refl, ap, ◌∙◌, subst, arit
 use Rattle.std.specs.Str.{bytes_eq}
 use Rattle.std.proofs.lemmas.Slice.Eq.{bytes_eq-Decides}
 use Rattle.cli_words.specs.Numbers.{number_in}
-use Rattle.cli_words.specs.Requests.{Request, check, prove, run, replay, demo, positive, several, one_word}
+use Rattle.cli_words.specs.Requests.{Request, check, prove, run, replay, demo, upgrade, positive, several, one_word}
 use Rattle.cli_words.specs.Requests.{two_words, three_words, request_of}
 use Rattle.cli_words.specs.Laws.{Asks, RequestsAreAsked}
 use Rattle.cli_words.proofs.Decimals.{numbers_are_decimal}
@@ -14,15 +14,21 @@ same_bytes : (a b : List ℕ) → bytes_eq a b ≡ true → a ≡ b
 same_bytes a b e = (bytes_eq-Decides a b).0 e
 
 one_asked : (word : List ℕ) (request : Request) → one_word word ≡ Some request → Asks (word ∷ []) request
-one_asked word request e = go (bytes_eq word (codes "check")) refl (bytes_eq word (codes "replay")) refl e
+one_asked word request e =
+    go (bytes_eq word (codes "check")) refl (bytes_eq word (codes "replay")) refl (bytes_eq word (codes "upgrade")) refl
+    e
   where
     go : (b : Bool) → bytes_eq word (codes "check") ≡ b → (c : Bool) → bytes_eq word (codes "replay") ≡ c →
-        cond b (Some check) (cond c (Some replay) None) ≡ Some request → Asks (word ∷ []) request
-    go true h c k some =
+        (d : Bool) → bytes_eq word (codes "upgrade") ≡ d →
+        cond b (Some check) (cond c (Some replay) (cond d (Some upgrade) None)) ≡ Some request →
+        Asks (word ∷ []) request
+    go true h c k d l some =
         let is : check ≡ request = cc in subst (Asks (word ∷ [])) is (ap (λ w. w ∷ []) (same_bytes word _ h))
-    go false h true k some =
+    go false h true k d l some =
         let is : replay ≡ request = cc in subst (Asks (word ∷ [])) is (ap (λ w. w ∷ []) (same_bytes word _ k))
-    go false h false k some = cc
+    go false h false k true l some =
+        let is : upgrade ≡ request = cc in subst (Asks (word ∷ [])) is (ap (λ w. w ∷ []) (same_bytes word _ l))
+    go false h false k false l some = cc
 
 prove_asked : (word budget : List ℕ) (found : Option ℕ) (request : Request) → word ≡ codes "prove" →
     number_in 1000000 budget ≡ found → option_map prove (positive found) ≡ Some request →
@@ -105,6 +111,7 @@ asking_words words (run program steps) h =
     ap request_of h.0
     ∙ ap (option_map (run program)) ((numbers_are_decimal 1000000 steps (decimal steps) (omega arith)).1 (refl, h.1))
 asking_words words replay h = ap request_of h
+asking_words words upgrade h = ap request_of h
 asking_words words (demo places) h =
     ap request_of h.0
     ∙ ap (λ n. option_map demo (several n))

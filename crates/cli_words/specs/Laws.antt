@@ -1,7 +1,7 @@
 -- What words are where they ask for something, as statements that functions name.
 use Rattle.std.specs.Prelude.{◌≡◌, ◌≤◌, ◌<◌, ◌^◌, ◌↔◌, ℕ, List, [], ◌∷◌, codes, decimal, Some}
 use Rattle.cli_words.specs.Numbers.{number_in}
-use Rattle.cli_words.specs.Requests.{Request, check, prove, run, replay, demo, request_of}
+use Rattle.cli_words.specs.Requests.{Request, check, prove, run, replay, demo, upgrade, request_of}
 
 abbrev pub NumbersAreDecimal : Type 0
 NumbersAreDecimal = (most n : ℕ) (word : List ℕ) → most < 2 ^ 64 →
@@ -14,6 +14,7 @@ Asks words (prove budget) = (words ≡ codes "prove" ∷ decimal budget ∷ []) 
 Asks words (run program steps) = (words ≡ codes "run" ∷ program ∷ decimal steps ∷ []) × (steps ≤ 1000000)
 Asks words replay = words ≡ codes "replay" ∷ []
 Asks words (demo places) = (words ≡ codes "demo" ∷ decimal places ∷ []) × (2 ≤ places) × (places ≤ 64)
+Asks words upgrade = words ≡ codes "upgrade" ∷ []
 
 abbrev pub RequestsAreAsked : Type 0
 RequestsAreAsked = (words : List (List ℕ)) (request : Request) → (request_of words ≡ Some request) ↔ Asks words request

@@ -12,6 +12,7 @@ pub data Request : Type 0 where
   run : (program : List ℕ) → (steps : ℕ) → Request
   replay : Request
   demo : (places : ℕ) → Request
+  upgrade : Request
 
 abbrev pub meant : Command → Request
 meant Command.Check = check
@@ -19,10 +20,13 @@ meant (Command.Prove budget) = prove budget
 meant (Command.Run program steps) = run program.now steps
 meant Command.Replay = replay
 meant (Command.Demo places) = demo places
+meant Command.Upgrade = upgrade
 
 abbrev pub one_word : List ℕ → Option Request
 one_word word =
-    cond (bytes_eq word (codes "check")) (Some check) (cond (bytes_eq word (codes "replay")) (Some replay) None)
+    cond (bytes_eq word (codes "check")) (Some check)
+    (cond (bytes_eq word (codes "replay")) (Some replay)
+    (cond (bytes_eq word (codes "upgrade")) (Some upgrade) None))
 
 -- a number that is not zero
 abbrev pub positive : Option ℕ → Option ℕ

@@ -28,6 +28,8 @@ pub enum Command<'a> {
     Replay,
     /// `demo N`: certificates for the proof of a ring of so many places. 2 to 64.
     Demo { places: u32 },
+    /// `upgrade`: the document in version 2 of the language, where `check` accepts it.
+    Upgrade,
 }
 
 /// The command that the words are, read by position. `None` where they are none.
@@ -52,6 +54,8 @@ fn read_one<'a>(word: &str) -> Option<Command<'a>>
         Some(Command::Check)
     } else if word == "replay" {
         Some(Command::Replay)
+    } else if word == "upgrade" {
+        Some(Command::Upgrade)
     } else {
         None
     }

@@ -1,5 +1,5 @@
 -- A digit of a piece of a text may be another digit.
-use Rattle.std.proofs.Common.{◌≡◌, ◌≢◌, ℕ, ◌+◌, ◌*◌, ◌<◌, ◌≤◌, Bool, true, false, not, ◌&&◌, ◌==◌, List, [], ◌∷◌, ◌++◌}
+use Rattle.std.proofs.Common.{◌≡◌, ◌≢◌, ℕ, ◌+◌, ◌*◌, ◌<◌, ◌≤◌, Bool, true, false, not, ◌==◌, List, [], ◌∷◌, ◌++◌}
 use Rattle.std.proofs.Common.{length, refl, sym, ap, ◌∙◌, subst, arith, append_assoc, length-append, ◌⊎◌, inl, inr}
 use Rattle.std.specs.List.{list_all}
 use Rattle.std.specs.Char.{is_ascii_digit, is_ascii_alphabetic, digit_value}
@@ -8,7 +8,7 @@ use Rattle.std.specs.Str.Parse.{digits_value, digits_value_after}
 use Rattle.std.proofs.lemmas.Bool.{leb-true, eq-eqb}
 use Rattle.std.proofs.lemmas.Str.{digit_value_digit}
 use Rattle.case_tables.specs.TableRows.{symbol_rows}
-use Rattle.unity_lexer.specs.Tokens.{is_word_byte, is_number, begins_with_spare_zero, IsPieceOfText, word, numeral}
+use Rattle.unity_lexer.specs.Tokens.{is_word_byte, is_number, IsPieceOfText, word, numeral}
 use Rattle.unity_lexer.specs.Tokens.{symbol, IsLongestRun, LineEnds, IsGap, blank, comment}
 use Rattle.unity_lexer.proofs.Longest.{and_left, and_right, both, not_both, row_passes}
 

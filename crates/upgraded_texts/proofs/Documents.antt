@@ -1,6 +1,6 @@
 -- The upgraded text of a document is the document in version 2.
-use Rattle.std.proofs.Common.{◌≡◌, ℕ, suc, ◌+◌, ◌-◌, ◌<◌, ◌≤◌, Bool, true, false, List, [], ◌∷◌, ◌++◌, length, take}
-use Rattle.std.proofs.Common.{drop, None, not, ◌⊎◌, inl, inr, if◌then◌else◌, refl, sym, ap, ◌∙◌, subst, arith, length-append}
+use Rattle.std.proofs.Common.{◌≡◌, ℕ, suc, ◌+◌, ◌<◌, Bool, true, false, List, [], ◌∷◌, ◌++◌, length, take}
+use Rattle.std.proofs.Common.{drop, not, ◌⊎◌, inl, inr, if◌then◌else◌, refl, sym, ap, ◌∙◌, subst, arith, length-append}
 use Rattle.std.specs.List.{list_all}
 use Rattle.std.proofs.lemmas.Bool.{and_parts}
 use Rattle.case_tables.specs.declared.word_table.Word.{Word}
@@ -24,9 +24,9 @@ use Rattle.expand_fits.proofs.Parsed.Version.{version_is}
 use Rattle.upgraded_texts.specs.Upgraded.{upgraded, upgraded_text}
 use Rattle.upgraded_texts.specs.TextLaws.{NumberIsInside, UpgradedIsAsLong, SecondComesBack, UpgradedIsRead}
 use Rattle.upgraded_texts.proofs.NoLater.{none_later}
-use Rattle.upgraded_texts.proofs.Renumbered.{AreDigits, Renumbers, renumbers, with_number, one_and_two, two_again}
+use Rattle.upgraded_texts.proofs.Renumbered.{AreDigits, renumbers, with_number, one_and_two, two_again}
 use Rattle.upgraded_texts.proofs.Terminals.{AgreeAfter, agree_after, terminals_kept}
-use Rattle.upgraded_texts.proofs.Versions.{Begins, begins}
+use Rattle.upgraded_texts.proofs.Versions.{begins}
 
 -- tokens that the grammar sees as these two and others
 record Opened (later : Bool) (bytes : List ℕ) (tokens : List Token) (word number : Terminal) (rest : List Terminal) :

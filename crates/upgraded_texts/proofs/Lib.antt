@@ -1,7 +1,8 @@
+pub mod Accepting
+pub mod Cores
 pub mod Digits
-pub mod Renumbered
-pub mod Versions
-pub mod Terminals
-pub mod NoLater
 pub mod Documents
-pub mod ProbeAll
+pub mod NoLater
+pub mod Renumbered
+pub mod Terminals
+pub mod Versions

@@ -1,10 +1,9 @@
 -- The tokens of a document, as the grammar sees them, are the same where a byte before them is another and the text is
 -- of version 2.
-use Rattle.std.proofs.Common.{◌≡◌, ℕ, zero, suc, ◌+◌, ◌-◌, ◌<◌, ◌≤◌, Bool, true, false, not, ◌&&◌, cond, List, [], ◌∷◌}
-use Rattle.std.proofs.Common.{◌++◌, length, take, drop, refl, sym, ap, ◌∙◌, arith}
+use Rattle.std.proofs.Common.{◌≡◌, ℕ, zero, suc, ◌-◌, ◌<◌, ◌≤◌, Bool, true, false, not, ◌&&◌, cond, List, [], ◌∷◌}
+use Rattle.std.proofs.Common.{◌++◌, length, take, drop, refl, ap, ◌∙◌, arith}
 use Rattle.std.specs.List.{list_all}
 use Rattle.std.proofs.lemmas.Bool.{and_parts}
-use Rattle.case_tables.specs.declared.word_table.Word.{Word}
 use Rattle.grammar_theory.specs.Ebnf.{Terminal, has}
 use Rattle.unity_syntax.specs.declared.token.Token.{Token}
 use Rattle.unity_syntax.specs.declared.token.TokenKind.{TokenKind}

@@ -6,7 +6,6 @@
 
 mod texts;
 mod verdicts;
-pub mod probes;
 
 pub use texts::text_laws;
 pub use verdicts::verdict_laws;
