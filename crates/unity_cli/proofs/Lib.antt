@@ -5,3 +5,4 @@ pub mod Told
 pub mod Searched
 pub mod SomeAnswers
 pub mod Shown
+pub mod Upgraded

@@ -1,5 +1,5 @@
 -- Words and bytes have at most one status and text.
-use Rattle.std.proofs.Common.{◌≡◌, ℕ, List, length, map, Bool, true, false, Option, Some, None, Result, Ok, Err}
+use Rattle.std.proofs.Common.{◌≡◌, ◌≤◌, ℕ, List, length, map, Bool, true, false, Option, Some, None, Result, Ok, Err}
 use Rattle.std.proofs.Common.{[], ◌∷◌, refl, sym, ap, ◌∙◌, subst, arith, cond, find, is_none, option_map, unwrap_or}
 use Rattle.case_tables.specs.declared.code_table.Code.{Code}
 use Rattle.unity_syntax.specs.declared.document.Document.{Document}
@@ -21,15 +21,17 @@ use Rattle.proof_script.specs.Verdicts.{verdict_of}
 use Rattle.certificate_reading.specs.Certificates.{certificates_of}
 use Rattle.cli_texts.specs.Refusals.{fault_text}
 use Rattle.cli_texts.specs.Verdicts.{accepted_text, rejected_text}
-use Rattle.cli_words.specs.Requests.{check, prove, run, replay, demo}
+use Rattle.upgraded_texts.specs.Upgraded.{upgraded_text}
+use Rattle.cli_words.specs.Requests.{check, prove, run, replay, demo, upgrade}
 use Rattle.unity_parser.proofs.Readings.{one_document}
 use Rattle.unity_cli.specs.declared.status.Status.{Status}
-use Rattle.unity_cli.specs.Admitted.{greatest_size, IsAdmitted, IsBad, too_long, no_reading}
+use Rattle.unity_cli.specs.Admitted.{greatest_size, greatest_bare_size, IsAdmitted, IsBad, too_long, no_reading}
 use Rattle.unity_cli.specs.Answer.Check.{IsAccepted, IsRejected}
 use Rattle.unity_cli.specs.Answer.Check.{Checked}
 use Rattle.unity_cli.specs.Answer.Run.{IsTrace, IsRun, HasNoStart, IsNotRun}
 use Rattle.unity_cli.specs.Answer.Run.{no_program, Ran}
 use Rattle.unity_cli.specs.Answer.Replay.{IsReplayed, HasNoReplay, IsNotReplayed, no_schedule, unknown, Replayed}
+use Rattle.unity_cli.specs.Answer.Upgrade.{IsUpgraded, Upgraded}
 use Rattle.unity_cli.specs.Answer.{Answer}
 use Rattle.unity_cli.specs.Answer.Run as runs
 use Rattle.unity_cli.specs.Answer.Replay as replays
@@ -42,18 +44,24 @@ read_once : (bytes : List ℕ) (d e : Document) → IsAdmitted greatest_size byt
     d ≡ e
 read_once bytes d e a b = one_document bytes d e a.reading.is_document b.reading.is_document
 
+pub not_bad : (most : ℕ) (bytes text : List ℕ) (d : Document) → IsAdmitted most bytes d → IsBad most bytes text → ⊥
+not_bad most bytes text d r (too_long h e) = let few = r.size in omega (arith, few, h)
+not_bad most bytes text d r (no_reading code at k f e) = no_first_fault bytes d code at r.reading f
+
 pub read_not_bad : (bytes text : List ℕ) (d : Document) → IsAdmitted greatest_size bytes d → IsBad greatest_size bytes
     text → ⊥
-read_not_bad bytes text d r (too_long h e) = let few = r.size in omega (arith, few, h)
-read_not_bad bytes text d r (no_reading code at k f e) = no_first_fault bytes d code at r.reading f
+read_not_bad bytes text d r bad = not_bad greatest_size bytes text d r bad
 
-one_bad : (bytes text more : List ℕ) → IsBad greatest_size bytes text → IsBad greatest_size bytes more → text ≡ more
-one_bad bytes text more (too_long h e) (too_long k f) = e ∙ sym f
-one_bad bytes text more (too_long h e) (no_reading code at l g f) = absurd (omega (arith, h, l))
-one_bad bytes text more (no_reading code at l g e) (too_long k f) = absurd (omega (arith, k, l))
-one_bad bytes text more (no_reading code at l g e) (no_reading other place m k f) =
+one_refused : (most : ℕ) (bytes text more : List ℕ) → IsBad most bytes text → IsBad most bytes more → text ≡ more
+one_refused most bytes text more (too_long h e) (too_long k f) = e ∙ sym f
+one_refused most bytes text more (too_long h e) (no_reading code at l g f) = absurd (omega (arith, h, l))
+one_refused most bytes text more (no_reading code at l g e) (too_long k f) = absurd (omega (arith, k, l))
+one_refused most bytes text more (no_reading code at l g e) (no_reading other place m k f) =
     let same = one_first_fault bytes code other at place g k in
     e ∙ ap (λ c. fault_text c at) same.0 ∙ ap (fault_text other) same.1 ∙ sym f
+
+one_bad : (bytes text more : List ℕ) → IsBad greatest_size bytes text → IsBad greatest_size bytes more → text ≡ more
+one_bad bytes text more a b = one_refused greatest_size bytes text more a b
 
 -- ---- check
 
@@ -415,6 +423,43 @@ one_replayed bytes Status.Undefined other text more a b = absurd b
 one_replayed bytes Status.BadDocument other text more a b = absurd b
 one_replayed bytes status other text more a b = absurd a
 
+-- ---- upgrade
+
+one_upgraded_text : (bytes text more : List ℕ) → IsUpgraded bytes text → IsUpgraded bytes more → text ≡ more
+one_upgraded_text bytes text more a b =
+    a.text_is
+    ∙ ap (upgraded_text bytes) (one_document bytes a.document b.document a.read.reading.is_document
+    b.read.reading.is_document)
+    ∙ sym b.text_is
+
+rejected_not_bad : (bytes text more : List ℕ) → length bytes ≤ greatest_bare_size → IsRejected bytes text →
+    IsBad greatest_bare_size bytes more → ⊥
+rejected_not_bad bytes text more few a b =
+    not_bad greatest_bare_size bytes more a.document (record { size = few; reading = a.read.reading }) b
+
+one_upgraded : (bytes : List ℕ) (status other : Status) (text more : List ℕ) → Upgraded bytes status text →
+    Upgraded bytes other more → (status ≡ other) × (text ≡ more)
+one_upgraded bytes Status.Done Status.Done text more a b = (refl, one_upgraded_text bytes text more a b)
+one_upgraded bytes Status.Done Status.Rejected text more a b =
+    absurd (accepted_not_rejected bytes a.verdict more a.accepted b.1)
+one_upgraded bytes Status.Done Status.BadDocument text more a b =
+    absurd (not_bad greatest_bare_size bytes more a.document a.read b)
+one_upgraded bytes Status.Rejected Status.Done text more a b =
+    absurd (accepted_not_rejected bytes b.verdict text b.accepted a.1)
+one_upgraded bytes Status.Rejected Status.Rejected text more a b = (refl, one_rejected bytes text more a.1 b.1)
+one_upgraded bytes Status.Rejected Status.BadDocument text more a b =
+    absurd (rejected_not_bad bytes text more a.0 a.1 b)
+one_upgraded bytes Status.BadDocument Status.Done text more a b =
+    absurd (not_bad greatest_bare_size bytes text b.document b.read a)
+one_upgraded bytes Status.BadDocument Status.Rejected text more a b =
+    absurd (rejected_not_bad bytes more text b.0 b.1 a)
+one_upgraded bytes Status.BadDocument Status.BadDocument text more a b =
+    (refl, one_refused greatest_bare_size bytes text more a b)
+one_upgraded bytes Status.Done other text more a b = absurd b
+one_upgraded bytes Status.Rejected other text more a b = absurd b
+one_upgraded bytes Status.BadDocument other text more a b = absurd b
+one_upgraded bytes status other text more a b = absurd a
+
 pub one_answer : OneAnswer
 one_answer None any bytes status other text more a b = (a.0 ∙ sym b.0, a.1 ∙ sym b.1)
 one_answer (Some check) any bytes status other text more a b = one_checked bytes status other text more a b
@@ -423,3 +468,4 @@ one_answer (Some (run program steps)) any bytes status other text more a b =
     one_ran bytes program steps status other text more a b
 one_answer (Some replay) any bytes status other text more a b = one_replayed bytes status other text more a b
 one_answer (Some (demo places)) any bytes status other text more a b = absurd any
+one_answer (Some upgrade) any bytes status other text more a b = one_upgraded bytes status other text more a b

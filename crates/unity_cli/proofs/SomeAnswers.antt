@@ -42,10 +42,12 @@ use Rattle.cli_ring.specs.Rings.{ring_bytes}
 use Rattle.certificate_reading.specs.Certificates.{certificates_of}
 use Rattle.cli_texts.specs.Refusals.{fault_text, refusal_text}
 use Rattle.cli_texts.specs.Verdicts.{accepted_text, rejected_text}
-use Rattle.cli_words.specs.Requests.{Request, check, prove, run, replay, demo, request_of}
+use Rattle.upgraded_texts.specs.Upgraded.{upgraded_text}
+use Rattle.cli_words.specs.Requests.{Request, check, prove, run, replay, demo, upgrade, request_of}
 use Rattle.cli_words.proofs.Asking.{requests_are_asked}
 use Rattle.unity_cli.specs.declared.status.Status.{Status}
 use Rattle.unity_cli.specs.Admitted.{greatest_size, greatest_bare_size, IsAdmitted, IsBad, too_long, no_reading}
+use Rattle.unity_cli.specs.Answer.Check.{Checked}
 use Rattle.unity_cli.specs.Answer.Prove.{Searched}
 use Rattle.unity_cli.specs.Answer.Demo.{ring_budget, ring_line}
 use Rattle.unity_cli.specs.Answer.Run.{IsTrace, no_program}
@@ -55,7 +57,9 @@ use Rattle.unity_cli.specs.Answer.Replay as replays
 use Rattle.unity_cli.specs.Laws.{HasAnswer, IsLimited, LimitedHaveAnswer, SomeAnswer}
 use Rattle.unity_cli.specs.WellFormed.{of_text, of_document, document_fault}
 use Rattle.unity_cli.proofs.Accepted.{read_core}
+use Rattle.unity_cli.proofs.OneAnswers.{read_not_bad}
 use Rattle.unity_cli.proofs.Searched.{found_of}
+use Rattle.unity_cli.proofs.Upgraded.{upgraded_of, wider}
 
 -- ---- readings
 
@@ -355,6 +359,28 @@ shown places bytes (status, text, h) = by_status status text h
     by_status Status.WriteFault text h = absurd h
     by_status Status.WantOfMemory text h = absurd h
 
+-- ---- upgrade
+
+upgrades : (bytes : List ℕ) → ReadOrBad greatest_bare_size bytes → HasAnswer (Some upgrade) bytes
+upgrades bytes (inr (text, bad)) = (Status.BadDocument, text, bad)
+upgrades bytes (inl (d, read)) = by_check (checked bytes (inl (d, wider bytes d read)))
+  where
+    by_status : (status : Status) (text : List ℕ) → Checked bytes status text → HasAnswer (Some upgrade) bytes
+    by_status Status.Done text h =
+        (Status.Done, upgraded_text bytes d, upgraded_of bytes (upgraded_text bytes d) text d read h refl)
+    by_status Status.Rejected text h = (Status.Rejected, text, (read.size, h))
+    by_status Status.BadDocument text h = absurd (read_not_bad bytes text d (wider bytes d read) h)
+    by_status Status.Refuted text h = absurd h
+    by_status Status.Budget text h = absurd h
+    by_status Status.Undefined text h = absurd h
+    by_status Status.BadWords text h = absurd h
+    by_status Status.ReadFault text h = absurd h
+    by_status Status.WriteFault text h = absurd h
+    by_status Status.WantOfMemory text h = absurd h
+
+    by_check : HasAnswer (Some check) bytes → HasAnswer (Some upgrade) bytes
+    by_check (status, text, h) = by_status status text h
+
 -- ---- all requests
 
 pub limited_have_answer : LimitedHaveAnswer
@@ -368,6 +394,7 @@ limited_have_answer (Some replay) limited bytes = replayed bytes (read_or_bad gr
 limited_have_answer (Some (demo places)) limited bytes =
     shown places bytes (searched (ring_bytes places) ring_budget (omega arith)
     (read_or_bad greatest_bare_size (ring_bytes places)))
+limited_have_answer (Some upgrade) limited bytes = upgrades bytes (read_or_bad greatest_bare_size bytes)
 
 -- words ask for no more
 words_are_limited : (words : List (List ℕ)) → IsLimited (request_of words)
@@ -380,6 +407,7 @@ words_are_limited words = by_request (request_of words) refl
     by_request (Some (run program steps)) e = tt
     by_request (Some replay) e = tt
     by_request (Some (demo places)) e = tt
+    by_request (Some upgrade) e = tt
 
 pub some_answer : SomeAnswer
 some_answer words bytes = limited_have_answer (request_of words) (words_are_limited words) bytes

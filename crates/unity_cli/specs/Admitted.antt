@@ -9,7 +9,7 @@ use Rattle.unity_cli.specs.WellFormed.{IsWellFormed, IsFirstFault}
 abbrev pub greatest_size : ℕ
 greatest_size = 67108864
 
--- the greatest number of bytes of a text to whose proofs certificates are to be found
+-- the greatest number of bytes of a text that is written again: with certificates that are to be found, or in version 2
 abbrev pub greatest_bare_size : ℕ
 greatest_bare_size = 8388608
 

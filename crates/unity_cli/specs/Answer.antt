@@ -4,10 +4,11 @@ pub mod Prove
 pub mod Run
 pub mod Replay
 pub mod Demo
+pub mod Upgrade
 use Rattle.std.specs.Prelude.{◌≡◌, ℕ, List, ◌∷◌, [], ◌++◌, codes, Bool, true, false, Option, Some, None}
 use Rattle.std.specs.Io.KnownBytes.{Appends}
 use Rattle.unity_base.specs.Streams.{Was, AppendsPart}
-use Rattle.cli_words.specs.Requests.{Request, check, prove, run, replay, demo}
+use Rattle.cli_words.specs.Requests.{Request, check, prove, run, replay, demo, upgrade}
 use Rattle.unity_cli.specs.declared.status.Status.{Status}
 use Rattle.unity_cli.specs.Admitted.{greatest_size, greatest_bare_size}
 use Rattle.unity_cli.specs.Answer.Check.{Checked}
@@ -15,10 +16,12 @@ use Rattle.unity_cli.specs.Answer.Prove.{Searched}
 use Rattle.unity_cli.specs.Answer.Run.{Ran}
 use Rattle.unity_cli.specs.Answer.Replay.{Replayed}
 use Rattle.unity_cli.specs.Answer.Demo.{Shown}
+use Rattle.unity_cli.specs.Answer.Upgrade.{Upgraded}
 
 -- the greatest number of bytes of a text for a request
 abbrev pub most_bytes : Option Request → ℕ
 most_bytes (Some (prove budget)) = greatest_bare_size
+most_bytes (Some upgrade) = greatest_bare_size
 most_bytes request = greatest_size
 
 -- the status and the text for a request, or for words that are none, and these bytes
@@ -29,6 +32,7 @@ Answer (Some (prove budget)) bytes status text = Searched bytes budget status te
 Answer (Some (run program steps)) bytes status text = Ran bytes program steps status text
 Answer (Some replay) bytes status text = Replayed bytes status text
 Answer (Some (demo places)) bytes status text = Shown places status text
+Answer (Some upgrade) bytes status text = Upgraded bytes status text
 
 -- whether a source is read: it is for all requests but that of a ring, and it is not for words that are none
 abbrev pub reads_source : Option Request → Bool

@@ -24,6 +24,7 @@ use Rattle.unity_cli.specs.Admitted.{greatest_size, greatest_bare_size}
 use Rattle.unity_cli.specs.Answer.Check.{Checked, IsAccepted}
 use Rattle.unity_cli.specs.Answer.{most_bytes, Answer}
 use Rattle.unity_cli.specs.Answer.Prove.{Searched}
+use Rattle.unity_cli.specs.Answer.Upgrade.{Upgraded}
 use Rattle.unity_cli.specs.Input.{AreKept, IsInput, IsAdmittedAs, IsText}
 
 -- the status and the text are what `check` answers
@@ -38,6 +39,10 @@ IsSearchedFor budget kept input a = (bytes : List ℕ) → IsInput greatest_bare
 -- of a document
 abbrev pub IsSearchedIn : ℕ → List ℕ → AdmittedDocument → Told → Type 0
 IsSearchedIn budget bytes r a = IsAdmittedAs greatest_bare_size bytes r → Searched bytes budget a.status a.text.items
+
+-- the status and the text are what `upgrade` answers
+abbrev pub IsUpgradedFor : Text → Told → Type 0
+IsUpgradedFor t a = (bytes : List ℕ) → IsText greatest_bare_size bytes t → Upgraded bytes a.status a.text.items
 
 -- a plan comes where certificates were found, and there alone: `check` writes it of the text with them
 abbrev pub ComesWith : List (List ℕ) → Told → Option Plan → Type 0

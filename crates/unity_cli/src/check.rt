@@ -34,8 +34,8 @@ pub fn judge(alloc: Global, input: Input) -> Result<Answer, AllocError>
     }
 }
 
-// What `check` answers for a document.
-fn judge_document(alloc: Global, reading: AdmittedDocument) -> Result<Answer, AllocError>
+/// What `check` answers for a document.
+pub fn judge_document(alloc: Global, reading: AdmittedDocument) -> Result<Answer, AllocError>
     requires { IsSomeAdmitted greatest_size reading }
     ensures { IfOk result (λ a. (bytes : List ℕ) → IsAdmittedAs greatest_size bytes reading →
         Checked bytes a.status a.text.items) }

@@ -13,6 +13,7 @@ use crate::prove::write_finding;
 use crate::replay::write_replay;
 use crate::run::write_run;
 use crate::status::Status;
+use crate::upgrade::write_upgrade;
 use cli_words::Command;
 use std::alloc::Global;
 use unity_base::Sink;
@@ -20,7 +21,8 @@ use unity_base::Sink;
 /// The greatest number of bytes of a text.
 const GREATEST_SIZE: usize = 67_108_864;
 
-/// The greatest number of bytes of a text to whose proofs certificates are to be found.
+/// The greatest number of bytes of a text that is written again: with certificates that are to be found, or in
+/// version 2.
 const GREATEST_BARE_SIZE: usize = 8_388_608;
 
 /// The greatest number of bytes that the command takes.
@@ -28,13 +30,13 @@ pub fn most_bytes(command: &Command) -> usize
     ensures { result ≡ answers.most_bytes (Some (meant command.now)) }
 {
     match command {
-        Command::Prove { .. } => GREATEST_BARE_SIZE,
+        Command::Prove { .. } | Command::Upgrade => GREATEST_BARE_SIZE,
         _ => GREATEST_SIZE,
     }
 }
 
-/// Writes what the command answers for what a source gave. Only a search needs the bytes themselves; the other
-/// commands let them go first.
+/// Writes what the command answers for what a source gave. A search and an upgrade need the bytes themselves; the
+/// other commands let them go first.
 pub fn write_command<K: Sink>(alloc: Global, command: &Command, text: Text, out: &mut K) -> Status
     requires text { IsSomeText (answers.most_bytes (Some (meant command.now))) text }
     requires limits { HasLimits command.now }
@@ -51,6 +53,7 @@ pub fn write_command<K: Sink>(alloc: Global, command: &Command, text: Text, out:
         }
         Command::Replay => write_replay(alloc, &input_of(text), out),
         Command::Demo { places } => write_demo(alloc, *places, out),
+        Command::Upgrade => write_upgrade(alloc, text, out),
     }
 }
 

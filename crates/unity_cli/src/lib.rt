@@ -13,6 +13,7 @@ mod run;
 mod status;
 mod stop;
 mod top;
+mod upgrade;
 
 pub use cli_ring::make_demo;
 pub use laws::one_answer;
