@@ -1,6 +1,6 @@
 -- What is accepted of a document is accepted of it in version 2.
-use Rattle.std.proofs.Common.{◌≡◌, ◌≤◌, ℕ, suc, Bool, true, false, cond, ◌||◌, nat_eq, List, [], ◌∷◌, length, slice_get, Option}
-use Rattle.std.proofs.Common.{Some, None, Result, Ok, Err, refl, sym, ap, ◌∙◌, arith}
+use Rattle.std.proofs.Common.{◌≡◌, ◌≤◌, ℕ, suc, Bool, true, false, cond, ◌||◌, nat_eq, List, [], ◌∷◌, length}
+use Rattle.std.proofs.Common.{slice_get, Option, Some, None, Result, Ok, Err, refl, sym, ap, ◌∙◌, arith}
 use Rattle.case_tables.specs.declared.code_table.Code.{Code}
 use Rattle.case_tables.specs.declared.kind_table.Kind.{Kind}
 use Rattle.case_tables.specs.declared.rule_table.RuleName.{RuleName}

@@ -87,7 +87,8 @@ piece_with front c d back is other (symbol s here) =
     absurd (no_symbol front c back is.digit
     (row_passes (λ row. list_all (λ x. not (is_ascii_digit x)) row.0) symbol_rows (front ++ c ∷ back, s) refl here))
 
-same_length : (front : List ℕ) (c d : ℕ) (back : List ℕ) → length (front ++ c ∷ back) ≡ length (front ++ d ∷ back)
+pub same_length : (front : List ℕ) (c d : ℕ) (back : List ℕ) →
+    length (front ++ c ∷ back) ≡ length (front ++ d ∷ back)
 same_length front c d back = length-append front (c ∷ back) ∙ sym (length-append front (d ∷ back))
 
 -- the longest run before the digit is longest before the other one

@@ -23,6 +23,7 @@ use Rattle.unity_parser.specs.Document.{IsDocument}
 use Rattle.expand_fits.proofs.Parsed.Version.{version_is}
 use Rattle.upgraded_texts.specs.Upgraded.{upgraded, upgraded_text}
 use Rattle.upgraded_texts.specs.TextLaws.{NumberIsInside, UpgradedIsAsLong, SecondComesBack, UpgradedIsRead}
+use Rattle.upgraded_texts.proofs.Digits.{same_length}
 use Rattle.upgraded_texts.proofs.NoLater.{none_later}
 use Rattle.upgraded_texts.proofs.Renumbered.{AreDigits, renumbers, with_number, one_and_two, two_again}
 use Rattle.upgraded_texts.proofs.Terminals.{AgreeAfter, agree_after, terminals_kept}
@@ -107,16 +108,14 @@ digits_of n h = elim h [
   | inr e ↦ subst (λ m. AreDigits m 2) (sym e) two_again
 ]
 
-same_length : (front : List ℕ) (c d : ℕ) (back : List ℕ) → length (front ++ c ∷ back) ≡ length (front ++ d ∷ back)
-same_length front c d back = length-append front (c ∷ back) ∙ sym (length-append front (d ∷ back))
-
 -- what stands behind the first two
 others_avoid : (word number : Terminal) (ts rest : List Terminal) → ts ≡ word ∷ number ∷ rest →
     AreNot (later_class ∷ []) ts → AreNot (later_class ∷ []) rest
 others_avoid word number ts rest e h =
     let all : List Terminal → Bool = λ us. list_all (λ (t : Terminal). not (has (later_class ∷ []) t.class)) us in
-    (and_parts (not (has (later_class ∷ []) number.class)) (all rest)
-    (and_parts (not (has (later_class ∷ []) word.class)) (all (number ∷ rest)) (subst (AreNot (later_class ∷ [])) e h)).1).1
+    let behind = and_parts (not (has (later_class ∷ []) word.class)) (all (number ∷ rest))
+    (subst (AreNot (later_class ∷ [])) e h) in
+    (and_parts (not (has (later_class ∷ []) number.class)) (all rest) behind.1).1
 
 changes : (bytes : List ℕ) (d : Document) → IsDocument bytes d → Changes bytes d
 changes bytes d is =

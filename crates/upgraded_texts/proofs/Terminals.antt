@@ -47,7 +47,8 @@ text_kept text bytes place start end agree past (TokenKind.Reserved w) = refl
 text_kept text bytes place start end agree past (TokenKind.Symbol s) = refl
 
 terminal_kept : (later : Bool) (text bytes : List ℕ) (place : ℕ) → AgreeAfter place text bytes → (t : Token) →
-    place < t.start → not (has (later_class ∷ []) (class_of later t.kind)) ≡ true → terminal true text t ≡ terminal later bytes t
+    place < t.start → not (has (later_class ∷ []) (class_of later t.kind)) ≡ true →
+    terminal true text t ≡ terminal later bytes t
 terminal_kept later text bytes place agree t past kept =
     ap (λ c. record { class = c; place = t.start; value = value_of t.kind; text = text_of text t.start t.end t.kind })
     (class_kept later t.kind kept)
