@@ -105,6 +105,13 @@ expect_ring() {
     compare "unity demo $1" 0 demo "$1" < /dev/null
 }
 
+# expect_upgraded DOCUMENT: of this document the text by `upgrade` is its own, with 2 for 1 in its first line.
+expect_upgraded() {
+    wanted=$text
+    sed '1s/1/2/' "examples/$1.unity" > "$text"
+    compare "unity upgrade of examples/$1.unity" 0 upgrade < "examples/$1.unity"
+}
+
 # status_of_trace TRACE: 5 where its last step is undefined, and else 0.
 status_of_trace() {
     if tail -n 1 "$1" | grep -q '^undefined '; then
@@ -516,6 +523,9 @@ expect_replay peterson
 expect_replay two_phase_commit
 expect_replay race
 expect_replay termination
+expect_upgraded count
+expect_upgraded share
+expect_line 1 "rejected 53 BadSum Count.top obligation 2" upgrade < examples/count_wrong_sum.unity
 expect_line 2 "bad 61 NoProgram" run None 3 < examples/count.unity
 expect_line 2 "bad 60 NoSchedule" replay < examples/count.unity
 expect_line 2 "bad 10 Unknown byte 50" run P 1 < examples/unknown_name.unity
@@ -531,6 +541,7 @@ expect_full 8 run Count 5
 expect_full 8 replay
 expect_full 8 prove 1000000
 expect_full 8 demo 2
+expect_full 8 upgrade
 expect_line 4 "budget Count.safe obligation 1 spent 1" prove 1 < examples/count.unity
 expect_line 6 "bad words" prove 0 < examples/count.unity
 expect_line 6 "bad words" prove 1000001 < examples/count.unity

@@ -6,5 +6,6 @@ mod steps;
 mod tables;
 mod texts;
 mod traces;
+mod upgrades;
 mod versions;
 mod words;

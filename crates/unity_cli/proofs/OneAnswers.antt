@@ -32,7 +32,6 @@ use Rattle.unity_cli.specs.Answer.Run.{IsTrace, IsRun, HasNoStart, IsNotRun}
 use Rattle.unity_cli.specs.Answer.Run.{no_program, Ran}
 use Rattle.unity_cli.specs.Answer.Replay.{IsReplayed, HasNoReplay, IsNotReplayed, no_schedule, unknown, Replayed}
 use Rattle.unity_cli.specs.Answer.Upgrade.{IsUpgraded, Upgraded}
-use Rattle.unity_cli.specs.Answer.{Answer}
 use Rattle.unity_cli.specs.Answer.Run as runs
 use Rattle.unity_cli.specs.Answer.Replay as replays
 use Rattle.unity_cli.specs.Laws.{OneAnswer}

@@ -1,6 +1,6 @@
 -- Words and bytes have some status and text.
-use Rattle.std.proofs.Common.{◌≡◌, ◌≤◌, ◌<◌, ◌⊎◌, inl, inr, ℕ, List, [], ◌∷◌, length, map, Bool, true, false, Option}
-use Rattle.std.proofs.Common.{Some, None, Result, Ok, Err, refl, sym, ap, ◌∙◌, subst, arith, cond, find, is_none}
+use Rattle.std.proofs.Common.{◌≡◌, ◌≤◌, ◌⊎◌, inl, inr, ℕ, List, [], ◌∷◌, length, map, Bool, true, false, Option}
+use Rattle.std.proofs.Common.{Some, None, Result, Ok, Err, refl, sym, ap, ◌∙◌, arith, cond, find, is_none}
 use Rattle.std.proofs.Common.{option_map, nat_lt, codes, ◌++◌}
 use Rattle.case_tables.specs.declared.code_table.Code.{Code}
 use Rattle.unity_syntax.specs.declared.document.Document.{Document}
@@ -11,10 +11,9 @@ use Rattle.unity_parser.specs.Document.{IsDocument, IsFault}
 use Rattle.meaning_documents.specs.Programs.{Composed, program_named, programs_of}
 use Rattle.names_rules.specs.Declarations.{some_of}
 use Rattle.names_rules.specs.Reading.{Fault, earlier}
-use Rattle.names_rules.specs.WellNamed.{IsWellNamed, name_fault}
+use Rattle.names_rules.specs.WellNamed.{name_fault}
 use Rattle.expand_documents.specs.Cores.{core_document}
 use Rattle.expand_documents.specs.Faults.{expansion_fault}
-use Rattle.core_terms.specs.Conditions.{IsCoreDocument}
 use Rattle.core_terms.specs.declared.programs.CProgram.{CProgram}
 use Rattle.expand_correct.specs.Preserved.Meaning.{IsCoreProgramOf}
 use Rattle.expand_correct.proofs.Preserved.Matching.{programs_match}
@@ -23,7 +22,7 @@ use Rattle.schedule_replay.specs.Schedules.{turns}
 use Rattle.run_traces.specs.Programs.{scheduled_program}
 use Rattle.run_traces.proofs.FindingLaws as core
 use Rattle.run_traces.specs.Traces.{all_defined}
-use Rattle.run_correct.specs.Answers.{IsReplay, IsUnknown}
+use Rattle.run_correct.specs.Answers.{IsReplay}
 use Rattle.run_correct.specs.Names.{place_of}
 use Rattle.run_correct.specs.Traces.{source_system, first_state, program_trace}
 use Rattle.run_correct.proofs.Finding.{HasSchedule, scheduled_source, no_schedule_source}
@@ -55,7 +54,7 @@ use Rattle.unity_cli.specs.Answer.Replay.{no_schedule, unknown}
 use Rattle.unity_cli.specs.Answer.Run as runs
 use Rattle.unity_cli.specs.Answer.Replay as replays
 use Rattle.unity_cli.specs.Laws.{HasAnswer, IsLimited, LimitedHaveAnswer, SomeAnswer}
-use Rattle.unity_cli.specs.WellFormed.{of_text, of_document, document_fault}
+use Rattle.unity_cli.specs.WellFormed.{of_text, of_document}
 use Rattle.unity_cli.proofs.Accepted.{read_core}
 use Rattle.unity_cli.proofs.OneAnswers.{read_not_bad}
 use Rattle.unity_cli.proofs.Searched.{found_of}
