@@ -9,6 +9,7 @@ ghost use Rattle.obligations.specs.LinearForms.{sum_of, fact_holds};
 ghost use Rattle.obligations.specs.Load.{need, is_light_branch};
 ghost use Rattle.obligations.specs.Obligations.{AreVariables, IsObligation};
 ghost use Rattle.obligations.specs.Opening.{at_most, at_least, first_branch};
+ghost use Rattle.obligations.specs.Quotients.{is_either};
 ghost use Rattle.obligations.specs.Settling.{settled, sides, added, without};
 ghost use Rattle.core_terms.specs.Values.{number_at};
 ghost use Rattle.linear_prover.specs.Chains.{Closes, is_plain_number};
@@ -25,8 +26,8 @@ use core_terms::CForm;
 use linear_prover::{eliminate, is_closing_sum, is_plain_chain};
 use obligations::{Branch, Fact, Node, Variable};
 use search_tree::{
-    Ended, Halves, Trail, add_above, add_at_most, cut_back, finish, put_node, settle_first,
-    settle_second, split_node,
+    Ended, Halves, Trail, add_above, add_at_most, cut_back, finish, is_either, put_node,
+    settle_first, settle_second, split_node,
 };
 use std::alloc::{AllocError, Global};
 use unity_base::Seq;
@@ -136,6 +137,7 @@ fn close(
 ) -> Result<Option<Ended>, AllocError>
     requires variables { AreVariables vs.now }
     requires rest { rest ≤ 960 }
+    requires flat { branch.now.added ≡ 0 }
     ensures { IfOk result (ClosedNow vs.now rest branch.now trail.old trail.new) }
 {
     match chain_of(alloc, vs, branch, watch)? {
@@ -279,6 +281,7 @@ fn guide_first(
     requires rest { rest ≤ 960 }
     requires form { (need form.now).yes ≤ 2 ^ 63 }
     requires light { is_light_branch (2 ^ 63) (settled vs.now (sides form.now).0 branch.old) ≡ true }
+    requires flat { branch.old.added ≡ 0 }
     ensures ends { IfOk result (Guides vs.now rest (settled vs.now (sides form.now).0 branch.old) trail.old trail.new) }
     ensures branch { IfOk result (λ e. IsClosed e → branch.new ≡ branch.old) }
 {
@@ -308,6 +311,7 @@ fn guide_second(
     requires rest { rest ≤ 960 }
     requires form { (need form.now).yes ≤ 2 ^ 63 }
     requires light { is_light_branch (2 ^ 63) (settled vs.now (sides form.now).1 branch.old) ≡ true }
+    requires flat { branch.old.added ≡ 0 }
     ensures ends { IfOk result (Guides vs.now rest (settled vs.now (sides form.now).1 branch.old) trail.old trail.new) }
     ensures branch { IfOk result (λ e. IsClosed e → branch.new ≡ branch.old) }
 {
@@ -346,7 +350,9 @@ fn guide_sides(
     requires place { place ≤ length branch.old.waiting }
     requires room { place < 2 ^ 62 }
     requires form { (need form.now).yes ≤ 2 ^ 63 }
+    requires either { is_either form.now ≡ true }
     requires light { is_light_branch (2 ^ 63) branch.old ≡ true }
+    requires flat { branch.old.added ≡ 0 }
     ensures ends { IfOk result (Guides vs.now (suc rest) (with_form branch.old place form.now) trail.old trail.new) }
     ensures branch { IfOk result (λ e. IsClosed e → branch.new ≡ branch.old) }
 {
@@ -363,7 +369,7 @@ fn guide_sides(
     }
 }
 
-/// Refutes a branch by the two sides of the waiting formula at a place.
+/// Refutes a branch by the two sides of the waiting formula at a place. Gives up where it is no `Or`.
 #[cycle(guided)]
 fn guide_case(
     alloc: Global,
@@ -377,6 +383,7 @@ fn guide_case(
     requires variables { AreVariables vs.now }
     requires rest { rest < 960 }
     requires light { is_light_branch (2 ^ 63) branch.old ≡ true }
+    requires flat { branch.old.added ≡ 0 }
     ensures ends { IfOk result (Guides vs.now (suc rest) branch.old trail.old trail.new) }
     ensures branch { IfOk result (λ e. IsClosed e → branch.new ≡ branch.old) }
 {
@@ -384,7 +391,11 @@ fn guide_case(
         return Ok(Ended::Stopped);
     }
     let form = branch.waiting.remove(place);
-    let ended = guide_sides(alloc, vs, rest, place, form.get(), watch, branch, trail)?;
+    let taken = form.get();
+    if !is_either(taken) {
+        return Ok(Ended::Stopped);
+    }
+    let ended = guide_sides(alloc, vs, rest, place, taken, watch, branch, trail)?;
     if branch.waiting.len() < place {
         return Ok(Ended::Stopped);
     }
@@ -407,6 +418,7 @@ fn guide_low(
     requires variables { AreVariables vs.now }
     requires rest { rest ≤ 960 }
     requires light { is_light_branch (2 ^ 63) branch.old ≡ true }
+    requires flat { branch.old.added ≡ 0 }
     ensures ends { IfOk result (Guides vs.now rest (added branch.old (at_most halves.place halves.at)) trail.old
         trail.new) }
     ensures branch { IfOk result (λ e. IsClosed e → branch.new ≡ branch.old) }
@@ -436,6 +448,7 @@ fn guide_high(
     requires variables { AreVariables vs.now }
     requires rest { rest ≤ 960 }
     requires light { is_light_branch (2 ^ 63) branch.old ≡ true }
+    requires flat { branch.old.added ≡ 0 }
     ensures ends { IfOk result (Guides vs.now rest (added branch.old (at_least halves.place (halves.at +ℤ pos 1)))
         trail.old trail.new) }
     ensures branch { IfOk result (λ e. IsClosed e → branch.new ≡ branch.old) }
@@ -466,6 +479,7 @@ fn guide_halves(
     requires place { halves.place < length vs.now }
     requires number { IsTrue (is_plain_number halves.at) }
     requires light { is_light_branch (2 ^ 63) branch.old ≡ true }
+    requires flat { branch.old.added ≡ 0 }
     ensures ends { IfOk result (Guides vs.now (suc rest) branch.old trail.old trail.new) }
     ensures branch { IfOk result (λ e. IsClosed e → branch.new ≡ branch.old) }
 {
@@ -495,6 +509,7 @@ fn guide_settled(
     requires variables { AreVariables vs.now }
     requires rest { rest < 960 }
     requires light { is_light_branch (2 ^ 63) branch.old ≡ true }
+    requires flat { branch.old.added ≡ 0 }
     ensures ends { IfOk result (Guides vs.now (suc rest) branch.old trail.old trail.new) }
     ensures branch { IfOk result (λ e. IsClosed e → branch.new ≡ branch.old) }
 {
@@ -532,6 +547,7 @@ fn guide_open(
     requires variables { AreVariables vs.now }
     requires rest { rest < 960 }
     requires light { is_light_branch (2 ^ 63) branch.old ≡ true }
+    requires flat { branch.old.added ≡ 0 }
     ensures ends { IfOk result (Guides vs.now (suc rest) branch.old trail.old trail.new) }
     ensures branch { IfOk result (λ e. IsClosed e → branch.new ≡ branch.old) }
 {
@@ -558,6 +574,7 @@ pub fn guide(
     requires variables { AreVariables vs.now }
     requires rest { rest ≤ 960 }
     requires light { is_light_branch (2 ^ 63) branch.old ≡ true }
+    requires flat { branch.old.added ≡ 0 }
     ensures ends { IfOk result (Guides vs.now rest branch.old trail.old trail.new) }
     ensures branch { IfOk result (λ e. IsClosed e → branch.new ≡ branch.old) }
 {

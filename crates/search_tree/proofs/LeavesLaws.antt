@@ -7,9 +7,11 @@ use Rattle.obligations.specs.declared.branches.Branch.{Branch}
 use Rattle.obligations.specs.declared.branches.Variable.{Variable}
 use Rattle.obligations.specs.declared.branches.Obligation.{Obligation}
 use Rattle.obligations.specs.Opening.{first_branch}
-use Rattle.obligations.specs.Plain.{ranges_of, first_cut, waiting_only, cut_leaves, open_leaves, plain_leaves}
+use Rattle.obligations.specs.Plain.{ranges_of, first_cut, waiting_only, cut_leaves, open_leaves, side_leaves}
+use Rattle.obligations.specs.Plain.{plain_leaves}
+use Rattle.obligations.specs.Quotients.{is_either}
 use Rattle.obligations.specs.Reach.{some_out_of_reach}
-use Rattle.search_tree.proofs.ReadyLaws.{leaves-some, unreached-leaves}
+use Rattle.search_tree.proofs.ReadyLaws.{leaves-some, unreached-leaves, either-leaves}
 use Rattle.search_tree.proofs.CycleLaws.{one-less}
 
 -- the leaves of two parts, of which no more are counted than are wanted
@@ -55,11 +57,12 @@ whole-leaf vs k rs b wanted h u w e = one-counted wanted (plain_leaves vs k rs b
 
 -- a branch's leaves are those of the sides of its first waiting formula
 pub opened-leaves : (vs : List Variable) (k : ℕ) (rs : List Range) (b c : Branch) (f : CForm) (wanted n : ℕ) → 1 ≤ k →
-    some_out_of_reach b.facts ≡ false → waiting_only c (f ∷ c.waiting) ≡ b →
-    n ≡ min wanted (open_leaves vs (plain_leaves vs (k - 1)) rs c (f ∷ c.waiting)) → n ≡ min wanted
-    (plain_leaves vs k rs b)
-opened-leaves vs k rs b c f wanted n h u w r =
-    r ∙ ap (min wanted) (ap (λ (o : Branch). open_leaves vs (plain_leaves vs (k - 1)) rs o o.waiting) w ∙ sym
+    some_out_of_reach b.facts ≡ false → b.added ≡ 0 → is_either f ≡ true → waiting_only c (f ∷ c.waiting) ≡ b →
+    n ≡ min wanted (side_leaves vs (plain_leaves vs (k - 1)) rs c f) → n ≡ min wanted (plain_leaves vs k rs b)
+opened-leaves vs k rs b c f wanted n h u flat either w r =
+    r ∙ ap (min wanted) (sym (either-leaves vs (k - 1) rs (waiting_only c (f ∷ c.waiting)) f c.waiting
+    (ap (λ (o : Branch). o.added) w ∙ flat) either) ∙ ap
+    (λ (o : Branch). open_leaves vs (plain_leaves vs (k - 1)) rs o o.waiting) w ∙ sym
     (unreached-leaves vs (k - 1) rs b u) ∙ ap (λ j. plain_leaves vs j rs b) (one-less k h))
 
 -- where nothing waits, they are those of the halves of the first range that can be split

@@ -4,6 +4,7 @@ pub mod TreeLaws
 pub mod ReadyLaws
 pub mod CycleLaws
 pub mod ShapeLaws
+pub mod QuotientShapes
 pub mod RootLaws
 pub mod CutLaws
 pub mod LeafLaws

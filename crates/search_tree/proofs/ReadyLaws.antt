@@ -19,7 +19,7 @@ use Rattle.obligations.specs.Settling.{settled, outcome, form_at, branch_holds}
 use Rattle.obligations.proofs.NeedLaws.{settled-light, refused-light, need-within}
 use Rattle.obligations.proofs.LightLaws.{first-side, second-side}
 use Rattle.obligations.specs.Shapes.{shapes, cases_of}
-use Rattle.search_tree.specs.Choices.{is_either}
+use Rattle.search_tree.specs.Choices.{can_wait}
 use Rattle.obligations.specs.Load.{is_narrow}
 use Rattle.search_tree.proofs.ShapeLaws.{settled-more, refused-more, side-shapes}
 use Rattle.obligations.specs.Load.{need, is_light}
@@ -32,7 +32,10 @@ use Rattle.obligations.proofs.SettlingLaws.{settled-holds}
 use Rattle.certificate_check.proofs.RefutationLaws.{side_in, holds-without, holds-added}
 use Rattle.obligations.specs.Reach.{is_exact, is_within, are_exact, some_out_of_reach}
 use Rattle.obligations.specs.Plain.{Cut, ranges_of, first_cut, with_high, with_low, waiting_only, cuts_of}
-use Rattle.obligations.specs.Plain.{plain_leaves, open_leaves, cut_leaves}
+use Rattle.obligations.specs.Plain.{plain_leaves, open_leaves, side_leaves, quot_leaves, cut_leaves}
+use Rattle.obligations.specs.declared.branches.Replaced.{Replaced}
+use Rattle.obligations.specs.Quotients.{is_either, without_quotient, with_quotient}
+use Rattle.obligations.specs.Scopes.{next_param, scope_of}
 use Rattle.search_tree.specs.Searching.{Ready, Met, Has, AreBounded, is_slender, levels_of}
 use Rattle.obligations.proofs.NumberLaws.{obligation-height, obligation-load, obligation-narrow, obligation-sound}
 use Rattle.obligations.specs.Obligations.{is_sound_range, IsObligation}
@@ -42,7 +45,7 @@ use Rattle.search_tree.proofs.CutLaws.{good-cut}
 use Rattle.search_tree.proofs.LeafLaws.{leaf-facts}
 use Rattle.search_tree.proofs.SlenderLaws.{settled-within, refused-within, first-narrow, second-narrow}
 use Rattle.search_tree.proofs.ExactLaws.{settled-exact, refused-exact, ranges-exact}
-use Rattle.search_tree.proofs.SearchLaws.{made-level}
+use Rattle.search_tree.proofs.SearchLaws.{flat-scope, made-level}
 
 le-is : (a b : ℕ) → nat_le a b ≡ true → a ≤ b
 le-is a b h = grind arith
@@ -86,7 +89,17 @@ cut-some go rs b (Some c) h = one-sum _ _ (h (with_high rs c.place c.at) (added 
 open-some : (vs : List Variable) (go : List Range → Branch → ℕ) (rs : List Range) (b : Branch) (ws : List CForm) →
     ((rs : List Range) (b : Branch) → 1 ≤ go rs b) → 1 ≤ open_leaves vs go rs b ws
 open-some vs go rs b [] h = cut-some go rs b (first_cut 0 rs) h
-open-some vs go rs b (f ∷ fs) h = one-sum _ _ (h rs (settled vs (sides f).0 (waiting_only b fs)))
+open-some vs go rs b (f ∷ fs) h = by_either (is_either f)
+  where
+    by_quotient : (o : Option Replaced) → 1 ≤ quot_leaves (scope_of vs b) go rs (waiting_only b fs) o
+    by_quotient None = omega arith
+    by_quotient (Some r) = h rs (with_quotient (scope_of vs b) r (waiting_only b fs))
+
+    by_either : (t : Bool) → 1 ≤ cond t (side_leaves (scope_of vs b) go rs (waiting_only b fs) f)
+        (quot_leaves (scope_of vs b) go rs (waiting_only b fs)
+        (without_quotient (next_param (scope_of vs b)) f))
+    by_either true = one-sum _ _ (h rs (settled (scope_of vs b) (sides f).0 (waiting_only b fs)))
+    by_either false = by_quotient (without_quotient (next_param (scope_of vs b)) f)
 
 either-some : (t : Bool) (n : ℕ) → 1 ≤ n → 1 ≤ cond t 1 n
 either-some true n h = omega arith
@@ -103,11 +116,24 @@ pub unreached-leaves : (vs : List Variable) (k : ℕ) (rs : List Range) (b : Bra
     → plain_leaves vs (suc k) rs b ≡ open_leaves vs (plain_leaves vs k) rs b b.waiting
 unreached-leaves vs k rs b e = ap (λ t. cond t 1 (open_leaves vs (plain_leaves vs k) rs b b.waiting)) e
 
+-- the leaves of a branch whose first waiting formula is an `Or`
+pub either-leaves : (vs : List Variable) (k : ℕ) (rs : List Range) (b : Branch) (f : CForm) (fs : List CForm) →
+    b.added ≡ 0 → is_either f ≡ true → open_leaves vs (plain_leaves vs k) rs b (f ∷ fs) ≡ side_leaves vs
+    (plain_leaves vs k) rs (waiting_only b fs) f
+either-leaves vs k rs b f fs flat either =
+    ap (λ t. cond t (side_leaves (scope_of vs b) (plain_leaves vs k) rs (waiting_only b fs) f)
+    (quot_leaves (scope_of vs b) (plain_leaves vs k) rs (waiting_only b fs)
+    (without_quotient (next_param (scope_of vs b)) f))) either
+    ∙ ap (λ ws. side_leaves ws (plain_leaves vs k) rs (waiting_only b fs) f) (flat-scope vs b flat)
+
 -- The branches of a waiting formula.
-pub case-opens : (vs : List Variable) (k : ℕ) (f : CForm) (b : Branch) → suc k ≤ 960 →
-    made vs (allowing (levels_of (suc k)) (waiting_only b (f ∷ b.waiting))) (Node.Case 1) ≡ opens
+pub case-opens : (vs : List Variable) (k : ℕ) (f : CForm) (b : Branch) → suc k ≤ 960 → b.added ≡ 0 → is_either f ≡
+    true → made vs (allowing (levels_of (suc k)) (waiting_only b (f ∷ b.waiting))) (Node.Case 1) ≡ opens
     (settled vs (sides f).0 b ∷ settled vs (sides f).1 b ∷ [])
-case-opens vs k f b h = made-level vs (levels_of (suc k)) (waiting_only b (f ∷ b.waiting)) (Node.Case 1) (omega arith)
+case-opens vs k f b h flat either =
+    made-level vs (levels_of (suc k)) (waiting_only b (f ∷ b.waiting)) (Node.Case 1) (omega arith) flat
+    ∙ ap (λ t. cond t (opens (settled vs (sides f).0 b ∷ settled vs (sides f).1 b ∷ [])) (fails Code.NothingToCase))
+    either
 
 or-left : (a b : Bool) → a ≡ true → (a || b) ≡ true
 or-left true b e = refl
@@ -217,20 +243,21 @@ bounded-low n (r ∷ rs) (suc i) k facts h =
 side-ready : (vs : List Variable) (k : ℕ) (rs : List Range) (f g : CForm) (b : Branch) → Ready vs (suc k) rs
     (waiting_only b (f ∷ b.waiting)) → ((need f).yes ≤ 2 ^ 63 → (need g).yes ≤ 2 ^ 63) →
     (is_narrow f ≡ true → is_narrow g ≡ true) →
-    (is_either f ≡ true → suc (shapes g).yes.cases ≤ (shapes f).yes.cases) → Ready vs k rs (settled vs g b)
+    suc (shapes g).yes.cases ≤ (shapes f).yes.cases → Ready vs k rs (settled vs g b)
 side-ready vs k rs f g b r light thin less =
-    let either = and_parts (is_either f) (list_all is_either b.waiting) r.choices in
+    let waits = and_parts (can_wait f) (list_all can_wait b.waiting) r.waits in
     let lights = and_parts (is_light (2 ^ 63) f) (list_all (is_light (2 ^ 63)) b.waiting) r.light in
     let narrows = and_parts (is_narrow f) (list_all is_narrow b.waiting) r.narrow in
     let lighter = light (ready-light vs (suc k) rs f b r) in
     let w = settled-within vs g b (thin narrows.0) lighter (record { slender = r.slender; narrow = narrows.1 }) in
     let more = settled-more vs g b in
-    let n = more.cases in let d = r.deep in let l = less either.0 in
+    let n = more.cases in let d = r.deep in
     record {
-      deep = omega (arith, n, d, l);
+      deep = omega (arith, n, d, less);
       light = settled-light vs (2 ^ 63) g b lighter lights.1;
       narrow = w.narrow;
-      choices = more.choices either.1;
+      waits = more.waits waits.1;
+      flat = r.flat;
       exact = settled-exact vs g b r.exact;
       slender = w.slender;
       long = r.long;
@@ -238,21 +265,20 @@ side-ready vs k rs f g b r light thin less =
       bounded = bounded-more 0 rs b.facts (outcome vs g).yes.facts r.bounded;
     }
 
-pub ready-first : (vs : List Variable) (k : ℕ) (rs : List Range) (f : CForm) (b : Branch) → Ready vs (suc k) rs
-    (waiting_only b (f ∷ b.waiting)) → Ready vs k rs (settled vs (sides f).0 b)
-ready-first vs k rs f b r = side-ready vs k rs f (sides f).0 b r (first-side f (2 ^ 63)) (first-narrow f)
-    (λ e. (side-shapes f e).first)
+pub ready-first : (vs : List Variable) (k : ℕ) (rs : List Range) (f : CForm) (b : Branch) → is_either f ≡ true →
+    Ready vs (suc k) rs (waiting_only b (f ∷ b.waiting)) → Ready vs k rs (settled vs (sides f).0 b)
+ready-first vs k rs f b e r = side-ready vs k rs f (sides f).0 b r (first-side f (2 ^ 63)) (first-narrow f)
+    (side-shapes f e).first
 
-pub ready-second : (vs : List Variable) (k : ℕ) (rs : List Range) (f : CForm) (b : Branch) → Ready vs (suc k) rs
-    (waiting_only b (f ∷ b.waiting)) → Ready vs k rs (settled vs (sides f).1 b)
-ready-second vs k rs f b r = side-ready vs k rs f (sides f).1 b r (second-side f (2 ^ 63)) (second-narrow f)
-    (λ e. (side-shapes f e).second)
+pub ready-second : (vs : List Variable) (k : ℕ) (rs : List Range) (f : CForm) (b : Branch) → is_either f ≡ true →
+    Ready vs (suc k) rs (waiting_only b (f ∷ b.waiting)) → Ready vs k rs (settled vs (sides f).1 b)
+ready-second vs k rs f b e r = side-ready vs k rs f (sides f).1 b r (second-side f (2 ^ 63)) (second-narrow f)
+    (side-shapes f e).second
 
-pub ready-deep : (vs : List Variable) (k : ℕ) (rs : List Range) (f : CForm) (b : Branch) → Ready vs k rs
-    (waiting_only b (f ∷ b.waiting)) → 1 ≤ k
-ready-deep vs k rs f b r =
-    let either = and_parts (is_either f) (list_all is_either b.waiting) r.choices in
-    let l = (side-shapes f either.0).first in let d = r.deep in omega (arith, l, d)
+pub ready-deep : (vs : List Variable) (k : ℕ) (rs : List Range) (f : CForm) (fs : List CForm) (b : Branch) →
+    is_either f ≡ true → Ready vs k rs (waiting_only b (f ∷ fs)) → 1 ≤ k
+ready-deep vs k rs f fs b e r =
+    let l = (side-shapes f e).first in let d = r.deep in omega (arith, l, d)
 
 -- what a cut is
 pub record CutIs (rs : List Range) (place : ℕ) (at : ℤ) : Type 0 where
@@ -324,7 +350,8 @@ cut-ready vs k rs qs b f r w less long sound exact slender bounded =
     record {
       deep = omega (arith, d, less, c);
       light = ap (list_all (is_light (2 ^ 63))) none;
-      choices = ap (list_all is_either) none;
+      waits = ap (list_all can_wait) none;
+      flat = r.flat;
       narrow = ap (list_all is_narrow) none;
       exact = all-last _ b.facts f r.exact exact;
       slender = all-last is_slender b.facts f r.slender slender;
@@ -477,7 +504,8 @@ ready-root o m =
     record {
       deep = omega (arith, c, h);
       light = refused-light o.variables (2 ^ 63) o.form (ranges_only o.variables) bound refl;
-      choices = more.choices refl;
+      waits = more.waits refl;
+      flat = refl;
       narrow = w.narrow;
       exact = refused-exact o.variables o.form (ranges_only o.variables) (ranges-exact o.variables);
       slender = w.slender;
@@ -491,11 +519,11 @@ lt-true : (a b : ℕ) → a < b → nat_lt a b ≡ true
 lt-true a b h = grind arith
 
 pub split-opens : (vs : List Variable) (k : ℕ) (b : Branch) (place : ℕ) (at : ℤ) → suc k ≤ 960 → place < length vs →
-    made vs (allowing (levels_of (suc k)) b) (Node.Split (place + 1) at) ≡ opens
+    b.added ≡ 0 → made vs (allowing (levels_of (suc k)) b) (Node.Split (place + 1) at) ≡ opens
     (added b (at_most place at) ∷ added b (at_least place (at +ℤ pos 1)) ∷ [])
-split-opens vs k b place at h i =
+split-opens vs k b place at h i flat =
     let one : place + 1 ≡ suc place = omega arith in
-    made-level vs (levels_of (suc k)) b (Node.Split (place + 1) at) (omega arith)
+    made-level vs (levels_of (suc k)) b (Node.Split (place + 1) at) (omega arith) flat
     ∙ ap (λ v. split_at vs b v at) one ∙ ap (λ t. cond t (opens
     (added b (at_most place at) ∷ added b (at_least place (at +ℤ pos 1)) ∷ [])) (fails Code.NoSuchVariable))
     (lt-true place (length vs) i)

@@ -1,5 +1,5 @@
 -- What the search of the first branch says of its obligation.
-use Rattle.std.proofs.Common.{◌≡◌, ℕ, suc, ◌+◌, ◌-◌, ◌≤◌, not, true, Option}
+use Rattle.std.proofs.Common.{◌≡◌, ℕ, suc, ◌+◌, ◌-◌, ◌*◌, ◌≤◌, mul-le-mul, le_refl, not, true, Option}
 use Rattle.std.proofs.Common.{Some, None, Ok, length, List, [], ◌∷◌, ◌++◌, arith, refl, sym}
 use Rattle.std.proofs.Common.{ap, subst, ◌∙◌}
 use Rattle.std.proofs.lemmas.Bool.{and_parts, not-true}
@@ -22,8 +22,8 @@ use Rattle.search_tree.specs.declared.plain_tree.Ended.{Ended}
 use Rattle.search_tree.specs.declared.plain_tree.Found.{Found}
 use Rattle.obligations.specs.Certificates.{arity, units}
 use Rattle.search_tree.specs.Left.{left_by, left}
-use Rattle.obligations.specs.Plain.{ranges_of, plain_leaves, enough, need_of}
-use Rattle.search_tree.specs.Searching.{Ready, Ends, IsOpen, IsUnfinished, root, SearchAnswers, found_of}
+use Rattle.obligations.specs.Plain.{ranges_of, quotients_in, leaf_units, plain_leaves, enough, need_of}
+use Rattle.search_tree.specs.Searching.{chain_units, Ready, Ends, IsOpen, IsUnfinished, root, SearchAnswers, found_of}
 use Rattle.obligations.proofs.NumberLaws.{obligation-variables, obligation-load}
 use Rattle.obligations.specs.Obligations.{IsObligation}
 use Rattle.search_tree.proofs.ReadyLaws.{ready-root}
@@ -80,11 +80,19 @@ unfinished vs ns ps (Some (q ∷ qs)) e h = subst IsUnfinished (sym (left-walk v
 abbrev all_leaves : Obligation → ℕ
 all_leaves o = plain_leaves o.variables 960 (ranges_of o.variables) (first_branch o)
 
+-- a chain's units are within those of a leaf
+chain-within : (n q : ℕ) → n + 256 ≤ leaf_units n q
+chain-within n q =
+    let h : 1 * (n + 256) ≤ (2 * q + 1) * (n + q + 256) = mul-le-mul (omega arith) (omega arith) in omega (arith, h)
+
+pub room-enough : (o : Obligation) → all_leaves o * chain_units o.variables ≤ enough o
+room-enough o = mul-le-mul (le_refl (all_leaves o)) (chain-within (length o.variables) (quotients_in o))
+
 root-answers : (o : Obligation) → enough o ≤ need_of o → (budget : ℕ) (old new : Trail) (e : Ended) → old.nodes ≡ [] →
     old.spare ≡ budget → Ends o.variables 960 (all_leaves o) (first_branch o) old new e → SearchAnswers o budget
     (found_of e new.nodes)
 root-answers o below budget old new Ended.Closed n s c =
-    let cost = c.cost in let spent = c.spent in let u = ap units n in
+    let cost = c.cost in let spent = c.spent in let u = ap units n in let room = room-enough o in
     record {
       whole = left-whole o.variables new.nodes (root o) (c.closes (root o) []
           (ap (left o.variables (Some (root o))) n));
@@ -92,14 +100,15 @@ root-answers o below budget old new Ended.Closed n s c =
           (c.closes (root o) [] (ap (left o.variables (Some (root o))) n));
       plain = c.plain (ap (list_all is_plain_node) n);
       within = omega (arith, spent, u, s);
-      cheap = omega (arith, cost, u);
-      needed = omega (arith, cost, u, below);
+      cheap = omega (arith, cost, u, room);
+      needed = omega (arith, cost, u, room, below);
     }
 root-answers o below budget old new Ended.Stopped n s c =
     let short = c.short in let last = c.last in let spent = c.spent in let u = ap units n in
+    let room = room-enough o in
     record {
-      small = omega (arith, short, s);
-      needs = omega (arith, short, s, below);
+      small = omega (arith, short, s, room);
+      needs = omega (arith, short, s, room, below);
       opened = unfinished o.variables new.nodes (root o) _ refl
           (c.opened (root o) [] (ap (left o.variables (Some (root o))) n));
       within = omega (arith, spent, u, s);

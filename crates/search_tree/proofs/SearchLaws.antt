@@ -1,7 +1,7 @@
 -- What the search keeps.
 use Rattle.std.proofs.Common.{◌≡◌, ℕ, zero, suc, ◌+◌, ◌-◌, ◌*◌, ◌≤◌, ◌<◌, ◌≤ℤ◌, ◌<ℤ◌, ℤ, nat_lt, slice_set, slice_get}
 use Rattle.std.proofs.Common.{slice_index_or, ◌&&◌, Ok, pos, negsuc, ◌+ℤ◌, ◌-ℤ◌, true, false, cond, Option, Some}
-use Rattle.std.proofs.Common.{None, List, [], ◌∷◌, ◌++◌, take, drop, length, arith, refl, sym, ap, subst, ◌∙◌}
+use Rattle.std.proofs.Common.{◌-◌, None, List, [], ◌∷◌, ◌++◌, take, drop, length, arith, refl, sym, ap, subst, ◌∙◌}
 use Rattle.std.proofs.Math.Nat.{mul-le-mul_right}
 use Rattle.std.proofs.lemmas.Int.{ints}
 use Rattle.std.specs.Int.RustNames.{int_le}
@@ -26,8 +26,9 @@ use Rattle.std.specs.List.{list_all}
 use Rattle.std.proofs.lemmas.List.Folds.{list_all-append}
 use Rattle.obligations.specs.Certificates.{units}
 use Rattle.search_tree.specs.Left.{left_by, left_after, left}
-use Rattle.obligations.specs.Plain.{first_cut, middle, with_high, with_low, leaf_units}
-use Rattle.search_tree.specs.Searching.{IsOpen, levels_of, Ends, Tried}
+use Rattle.obligations.specs.Plain.{first_cut, middle, with_high, with_low}
+use Rattle.obligations.specs.Scopes.{scope, scope_of}
+use Rattle.search_tree.specs.Searching.{chain_units, IsOpen, levels_of, Ends, Tried}
 
 take-whole : {A : Type 0} (xs ys : List A) (n : ℕ) → n ≡ length xs → take n (xs ++ ys) ≡ xs
 take-whole [] ys n e = ap (λ k. take k ys) e
@@ -36,12 +37,12 @@ take-whole (x ∷ xs) ys n e = ap (λ k. take k (x ∷ (xs ++ ys))) e ∙ ap (λ
 -- what settling adds is dropped again
 pub undone : (vs : List Variable) (f : CForm) (b c d e : Branch) (n m : ℕ) → c ≡ settled vs f b → d ≡ c → n ≡ length
     b.facts → m ≡ length b.waiting →
-    e ≡ record { facts = take n d.facts; waiting = take m d.waiting } → e ≡ b
+    e ≡ record { facts = take n d.facts; waiting = take m d.waiting; added = d.added } → e ≡ b
 undone vs f b c d e n m p q h k r =
-    r ∙ ap (λ (x : Branch). record { facts = take n x.facts; waiting = take m x.waiting }) (q ∙ p)
-    ∙ ap (λ x. record { facts = x; waiting = take m (b.waiting ++ (outcome vs f).yes.waiting) })
+    r ∙ ap (λ (x : Branch). record { facts = take n x.facts; waiting = take m x.waiting; added = x.added }) (q ∙ p)
+    ∙ ap (λ x. record { facts = x; waiting = take m (b.waiting ++ (outcome vs f).yes.waiting); added = b.added })
     (take-whole b.facts (outcome vs f).yes.facts n h)
-    ∙ ap (λ x. record { facts = b.facts; waiting = x }) (take-whole b.waiting (outcome vs f).yes.waiting m k)
+    ∙ ap (λ x. record { facts = b.facts; waiting = x; added = b.added }) (take-whole b.waiting (outcome vs f).yes.waiting m k)
 
 pub ruleset undo_laws = undone
 
@@ -114,10 +115,16 @@ low-is rs half new n r item k p q e i = p ∙ ap (λ z. slice_set z n item) q �
 
 pub ruleset half_laws = (set-high, set-low, past-high, past-low)
 
+-- where no quotient was taken, the variables are those of the obligation
+pub flat-scope : (vs : List Variable) (b : Branch) → b.added ≡ 0 → scope_of vs b ≡ vs
+flat-scope vs b e = ap (scope vs) e
+
 -- Levels.
-pub made-level : (vs : List Variable) (levels : ℕ) (b : Branch) (n : Node) → 0 < levels → made vs (allowing levels b)
-    n ≡ made_by vs b n
-made-level vs levels b n h = ap (λ t. cond t (made_by vs b n) (fails Code.CertTooDeep)) (some levels h)
+pub made-level : (vs : List Variable) (levels : ℕ) (b : Branch) (n : Node) → 0 < levels → b.added ≡ 0 →
+    made vs (allowing levels b) n ≡ made_by vs b n
+made-level vs levels b n h flat =
+    ap (λ t. cond t (made_by (scope_of vs b) b n) (fails Code.CertTooDeep)) (some levels h)
+    ∙ ap (λ ws. made_by ws b n) (flat-scope vs b flat)
   where
     some : (a : ℕ) → 0 < a → nat_lt 0 a ≡ true
     some a h = grind arith
@@ -133,54 +140,54 @@ same-total vs facts ps = ap (λ zs. sum_pairs facts (Ok (record { factors = zs; 
 
 -- a chain closes its branch
 pub chain-closes : (vs : List Variable) (ns : List Node) (levels : ℕ) (b : Branch) (ps : List OpenBranch) → Closes
-    (length vs) b.facts ns → length ns ≤ levels →
+    (length vs) b.facts ns → length ns ≤ levels → b.added ≡ 0 →
     left vs (Some (allowing levels b ∷ ps)) ns ≡ Some ps
-chain-closes vs [] levels b ps c h = absurd c
-chain-closes vs (Node.Case k ∷ ns) levels b ps c h = absurd c
-chain-closes vs (Node.Split v k ∷ ns) levels b ps c h = absurd c
-chain-closes vs (Node.Quot k ∷ ns) levels b ps c h = absurd c
-chain-closes vs (Node.Share z qs ∷ ns) levels b ps c h = absurd c
-chain-closes vs (Node.Sum qs ∷ []) levels b ps c h = ap (left_by levels ps)
-    (made-level vs levels b (Node.Sum qs) (omega arith) ∙ ap made_sum (same-total vs b.facts qs) ∙ c)
-chain-closes vs (Node.Sum qs ∷ n ∷ ns) levels b ps c h = absurd c
-chain-closes vs (Node.Round d qs ∷ ns) levels b ps c h =
+chain-closes vs [] levels b ps c h flat = absurd c
+chain-closes vs (Node.Case k ∷ ns) levels b ps c h flat = absurd c
+chain-closes vs (Node.Split v k ∷ ns) levels b ps c h flat = absurd c
+chain-closes vs (Node.Quot k ∷ ns) levels b ps c h flat = absurd c
+chain-closes vs (Node.Share z qs ∷ ns) levels b ps c h flat = absurd c
+chain-closes vs (Node.Sum qs ∷ []) levels b ps c h flat = ap (left_by levels ps)
+    (made-level vs levels b (Node.Sum qs) (omega arith) flat ∙ ap made_sum (same-total vs b.facts qs) ∙ c)
+chain-closes vs (Node.Sum qs ∷ n ∷ ns) levels b ps c h flat = absurd c
+chain-closes vs (Node.Round d qs ∷ ns) levels b ps c h flat =
     let l = c.0 in
     let m : made vs (allowing levels b) (Node.Round d qs) ≡ opens (added b (fact_of (divided d l)) ∷ []) =
-    made-level vs levels b (Node.Round d qs) (omega arith) ∙ ap (made_round b d) (same-total vs b.facts qs ∙ c.1)
+    made-level vs levels b (Node.Round d qs) (omega arith) flat ∙ ap (made_round b d) (same-total vs b.facts qs ∙ c.1)
     ∙ ap (λ t. cond t (opens (added b (fact_of (divided d l)) ∷ [])) (fails Code.NotDivisible)) c.2 in
     ap (λ x. left vs (left_by levels ps x) ns) m ∙ chain-closes vs ns (levels - 1) (added b (fact_of (divided d l))) ps
-    c.3 (omega arith)
+    c.3 (omega arith) flat
 
 -- a chain that was added, or not, ends a branch
 pub finished-ends : (vs : List Variable) (k leaves : ℕ) (b : Branch) (old new : Trail) (e : Ended) → k ≤ 960 → 1 ≤
-    leaves → Tried vs b.facts old new e → Ends vs k leaves b old new e
-finished-ends vs k leaves b old new Ended.Closed h one t =
+    leaves → b.added ≡ 0 → Tried vs b.facts old new e → Ends vs k leaves b old new e
+finished-ends vs k leaves b old new Ended.Closed h one flat t =
     let f = t.finished in let f1 = f.1 in
     let u : units new.nodes ≡ units old.nodes + units t.nodes = ap units f.0 ∙ units-append old.nodes t.nodes in
     let cheap = t.cheap in let short = t.short in
-    let more : 1 * leaf_units vs ≤ leaves * leaf_units vs = mul-le-mul_right (leaf_units vs) one in
+    let more : 1 * chain_units vs ≤ leaves * chain_units vs = mul-le-mul_right (chain_units vs) one in
     record {
       closes = λ first ps s. ap (left vs (Some first)) f.0 ∙ left-append vs (Some first) old.nodes t.nodes ∙ ap
           (λ r. left vs r t.nodes) s
-          ∙ chain-closes vs t.nodes (levels_of k) b ps t.closes (omega arith);
+          ∙ chain-closes vs t.nodes (levels_of k) b ps t.closes (omega arith) flat;
       plain = λ h. ap (list_all is_plain_node) f.0 ∙ list_all-append is_plain_node old.nodes t.nodes ∙ ap
           (λ b. b && list_all is_plain_node t.nodes) h ∙ t.plain;
       cost = omega (arith, u, cheap, more);
       spent = omega (arith, u, f1);
     }
-finished-ends vs k leaves b old new Ended.Stopped h one t =
+finished-ends vs k leaves b old new Ended.Stopped h one flat t =
     let f = t.finished in let f0 = f.0 in
     let cheap = t.cheap in
     let same = ap (λ (x : Trail). x.nodes) f.1 in
     let spare = ap (λ (x : Trail). x.spare) f.1 in
-    let more : 1 * leaf_units vs ≤ leaves * leaf_units vs = mul-le-mul_right (leaf_units vs) one in
+    let more : 1 * chain_units vs ≤ leaves * chain_units vs = mul-le-mul_right (chain_units vs) one in
     record {
       opened = λ first ps s. subst IsOpen (sym (ap (left vs (Some first)) same ∙ s)) tt;
       short = omega (arith, f0, cheap, more);
       last = omega (arith, f0, cheap, spare);
       spent = let u = ap units same in omega (arith, u, spare);
     }
-finished-ends vs k leaves b old new (Ended.Refuted values) h one t = absurd t.finished
+finished-ends vs k leaves b old new (Ended.Refuted values) h one flat t = absurd t.finished
 
 -- The middle of a range lies in it.
 half-below : (width : ℤ) → pos 0 ≤ℤ width → (pos 0 ≤ℤ int_div width (pos 2)) × (int_div width (pos 2) ≤ℤ width)

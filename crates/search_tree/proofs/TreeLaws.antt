@@ -1,7 +1,6 @@
 -- A node that opens two branches, and the searches of these.
-use Rattle.std.proofs.Common.{◌≡◌, ℕ, suc, ◌+◌, ◌-◌, ◌*◌, ◌&&◌, true, ◌≤◌, ◌<◌, ℤ, Some, List, [], ◌∷◌, ◌++◌, arith}
-use Rattle.std.proofs.Common.{sym}
-use Rattle.std.proofs.Common.{ap, subst, ◌∙◌}
+use Rattle.std.proofs.Common.{◌≡◌, ℕ, suc, ◌+◌, ◌*◌, ◌&&◌, true, ◌≤◌, ◌<◌, ℤ, Some, List, [], ◌∷◌, ◌++◌, arith, sym}
+use Rattle.std.proofs.Common.{◌-◌, ap, subst, ◌∙◌}
 use Rattle.std.proofs.Math.Nat.{mul-le-mul_right}
 use Rattle.obligations.specs.declared.branches.Branch.{Branch}
 use Rattle.obligations.specs.declared.branches.Variable.{Variable}
@@ -15,8 +14,7 @@ use Rattle.linear_prover.specs.Chains.{is_plain_node}
 use Rattle.std.specs.List.{list_all}
 use Rattle.std.proofs.lemmas.List.Folds.{list_all-append}
 use Rattle.search_tree.specs.Left.{left_by, left}
-use Rattle.obligations.specs.Plain.{leaf_units}
-use Rattle.search_tree.specs.Searching.{IsOpen, levels_of, Closed, BudgetEnded, Met, Ends}
+use Rattle.search_tree.specs.Searching.{chain_units, IsOpen, levels_of, Closed, BudgetEnded, Met, Ends}
 use Rattle.search_tree.proofs.SearchLaws.{units-append, left-append}
 
 -- there were no units for a node
@@ -26,7 +24,7 @@ pub node-stopped : (vs : List Variable) (k leaves : ℕ) (b : Branch) (old new :
 node-stopped vs k leaves b old new n one u h e =
     let same = ap (λ (x : Trail). x.nodes) e in
     let spare = ap (λ (x : Trail). x.spare) e in
-    let more : 1 * leaf_units vs ≤ leaves * leaf_units vs = mul-le-mul_right (leaf_units vs) one in
+    let more : 1 * chain_units vs ≤ leaves * chain_units vs = mul-le-mul_right (chain_units vs) one in
     record {
       opened = λ first ps s. subst IsOpen (sym (ap (left vs (Some first)) same ∙ s)) tt;
       short = omega (arith, u, h, more);
@@ -48,14 +46,14 @@ module _ (vs : List Variable) (k l m : ℕ) (b c d : Branch) (n : Node) (one : n
   node-cost : (x y : Trail) → y.nodes ≡ x.nodes ++ n ∷ [] → units y.nodes ≡ units x.nodes + 1
   node-cost x y e = let u = ap units e ∙ units-append x.nodes (n ∷ []) in omega (arith, u, one)
 
-  sum-leaves : (l + m) * leaf_units vs ≡ l * leaf_units vs + m * leaf_units vs
+  sum-leaves : (l + m) * chain_units vs ≡ l * chain_units vs + m * chain_units vs
   sum-leaves = omega arith
 
   pub first-stopped : (x y z : Trail) → y.nodes ≡ x.nodes ++ n ∷ [] → y.spare + node_units n ≡ x.spare → 1 ≤ m →
       BudgetEnded vs k l c y z → BudgetEnded vs (suc k) (l + m) b x z
   first-stopped x y z e s h t =
       let u = node-cost x y e in let w = sum-leaves in let t0 = t.short in let t1 = t.last in let t2 = t.spent in
-      let more : 1 * leaf_units vs ≤ m * leaf_units vs = mul-le-mul_right (leaf_units vs) h in
+      let more : 1 * chain_units vs ≤ m * chain_units vs = mul-le-mul_right (chain_units vs) h in
       record {
         opened = λ first ps g. t.opened first (allowing (levels_of k) d ∷ ps) (after-node x y e first ps g);
         short = omega (arith, s, one, w, t0, more);

@@ -1,5 +1,5 @@
 -- Chains that were tried.
-use Rattle.std.proofs.Common.{◌≡◌, ℕ, ◌+◌, ◌≤◌, ◌<◌, true, List, length, arith}
+use Rattle.std.proofs.Common.{◌≡◌, ◌+◌, ◌≤◌, ◌<◌, true, List, length, arith}
 use Rattle.std.specs.List.{list_all}
 use Rattle.obligations.specs.declared.branches.Fact.{Fact}
 use Rattle.obligations.specs.declared.branches.Variable.{Variable}

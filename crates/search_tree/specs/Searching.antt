@@ -1,8 +1,8 @@
 -- What a search starts from and how it ends.
-use Rattle.std.specs.Prelude.{◌≡◌, ℕ, suc, ◌+◌, ◌-◌, ◌*◌, ◌^◌, ◌≤◌, ◌<◌, ◌⊎◌, nat_le, ℤ, Bool, true, false, ◌&&◌}
-use Rattle.std.specs.Prelude.{Option, Some, None, Result, Ok, Err, List, [], ◌∷◌, ◌++◌, length}
+use Rattle.std.specs.Prelude.{◌≡◌, ℕ, suc, ◌+◌, ◌*◌, ◌^◌, ◌≤◌, ◌<◌, ◌⊎◌, nat_le, ℤ, Bool, true, false, ◌&&◌}
+use Rattle.std.specs.Prelude.{Option, Some, None, Ok, Err, List, [], ◌∷◌, ◌++◌, length}
 use Rattle.std.specs.List.{list_all}
-use Rattle.std.specs.Int.RustNames.{int_le, unsigned_abs}
+use Rattle.std.specs.Int.RustNames.{unsigned_abs}
 use Rattle.core_terms.specs.declared.trees.Range.{Range}
 use Rattle.obligations.specs.declared.branches.Variable.{Variable}
 use Rattle.obligations.specs.declared.branches.Branch.{Branch}
@@ -11,7 +11,7 @@ use Rattle.obligations.specs.declared.branches.Obligation.{Obligation}
 use Rattle.obligations.specs.declared.certificates.Node.{Node}
 use Rattle.certificate_check.specs.Refutation.{OpenBranch}
 use Rattle.obligations.specs.Settling.{branch_holds, form_at}
-use Rattle.obligations.specs.Load.{is_light_branch, form_load}
+use Rattle.obligations.specs.Load.{is_light_branch}
 use Rattle.obligations.specs.Obligations.{is_sound_range}
 use Rattle.obligations.specs.Opening.{in_ranges, first_branch}
 use Rattle.certificate_check.specs.Refutation.{allowing, walk_from_root, WalkResult}
@@ -25,9 +25,9 @@ use Rattle.obligations.specs.Certificates.{units}
 use Rattle.certificate_check.specs.Trees.{is_whole}
 use Rattle.search_tree.specs.Left.{left}
 use Rattle.obligations.specs.Shapes.{cases_of}
-use Rattle.search_tree.specs.Choices.{is_either}
-use Rattle.obligations.specs.Load.{is_narrow, width}
-use Rattle.obligations.specs.Plain.{cuts_of, leaf_units, enough, need_of, height_of, ranges_of}
+use Rattle.search_tree.specs.Choices.{can_wait}
+use Rattle.obligations.specs.Load.{is_narrow}
+use Rattle.obligations.specs.Plain.{cuts_of, enough, need_of}
 
 -- The facts that the ranges stand for are among the facts.
 abbrev pub Has : List Fact → Fact → Type 0
@@ -46,11 +46,16 @@ widths (f ∷ fs) = unsigned_abs f.1 + widths fs
 abbrev pub is_slender : Fact → Bool
 is_slender f = nat_le (widths f.factors) (2 ^ 62) && nat_le (unsigned_abs f.constant) (2 ^ 63)
 
--- what a branch of the plain tree meets, with this many levels left
+-- the units of a chain that closes a branch of so many variables are less than these
+abbrev pub chain_units : List Variable → ℕ
+chain_units vs = length vs + 256
+
+-- what a branch of the plain tree meets in which no quotient was taken, with this many levels left
 pub record Ready (vs : List Variable) (k : ℕ) (rs : List Range) (b : Branch) : Type 0 where
   pub deep : cases_of b.waiting + cuts_of rs ≤ k
   pub light : is_light_branch (2 ^ 63) b ≡ true
-  pub choices : list_all is_either b.waiting ≡ true
+  pub waits : list_all can_wait b.waiting ≡ true
+  pub flat : b.added ≡ 0
   pub narrow : list_all is_narrow b.waiting ≡ true
   pub exact : are_exact (length vs) b.facts ≡ true
   pub slender : list_all is_slender b.facts ≡ true
@@ -74,7 +79,7 @@ pub record Closed (vs : List Variable) (k leaves : ℕ) (b : Branch) (old new : 
       left
       vs (Some first) new.nodes ≡ Some ps
   pub plain : list_all is_plain_node old.nodes ≡ true → list_all is_plain_node new.nodes ≡ true
-  pub cost : units new.nodes + 1 ≤ units old.nodes + leaves * leaf_units vs
+  pub cost : units new.nodes + 1 ≤ units old.nodes + leaves * chain_units vs
   pub spent : units new.nodes + new.spare ≡ units old.nodes + old.spare
 
 -- The budget ended inside a branch: something is left, a leaf's units are not there any more, and the leaves' units
@@ -82,8 +87,8 @@ pub record Closed (vs : List Variable) (k leaves : ℕ) (b : Branch) (old new : 
 pub record BudgetEnded (vs : List Variable) (k leaves : ℕ) (b : Branch) (old new : Trail) : Type 0 where
   pub opened : (first ps : List OpenBranch) → left vs (Some first) old.nodes ≡ Some (allowing (levels_of k) b ∷ ps) →
       IsOpen (left vs (Some first) new.nodes)
-  pub short : old.spare + 1 < leaves * leaf_units vs
-  pub last : new.spare + 1 < leaf_units vs
+  pub short : old.spare + 1 < leaves * chain_units vs
+  pub last : new.spare + 1 < chain_units vs
   pub spent : units new.nodes + new.spare ≡ units old.nodes + old.spare
 
 -- The values make all of a branch hold.
@@ -107,7 +112,7 @@ pub record Tried (vs : List Variable) (facts : List Fact) (old new : Trail) (end
   pub nodes : List Node
   pub closes : Closes (length vs) facts nodes
   pub short : length nodes ≤ 64
-  pub cheap : units nodes < leaf_units vs
+  pub cheap : units nodes < chain_units vs
   pub plain : list_all is_plain_node nodes ≡ true
   pub finished : Finishes nodes old new ended
 

@@ -6,14 +6,15 @@ ghost use Rattle.obligations.specs.Load.{need};
 ghost use Rattle.obligations.specs.Obligations.{AreVariables, IsObligation};
 ghost use Rattle.obligations.specs.Opening.{at_most, at_least, first_branch};
 ghost use Rattle.obligations.specs.Plain.{ranges_of, first_cut, with_high, with_low, waiting_only, cut_leaves};
-ghost use Rattle.obligations.specs.Plain.{open_leaves, plain_leaves};
+ghost use Rattle.obligations.specs.Plain.{side_leaves, plain_leaves};
+ghost use Rattle.obligations.specs.Quotients.{is_either};
 ghost use Rattle.obligations.specs.Reach.{are_exact, some_out_of_reach};
 ghost use Rattle.obligations.specs.Settling.{settled, sides, added};
 ghost use Rattle.search_tree.specs.Searching.{Ready};
 
 use crate::plain_tree::{
-    Halves, add_above, add_at_most, count_of, cut_back, first_halves, high_half, low_half,
-    numbered, ranges_in, settle_first, settle_second,
+    Halves, add_above, add_at_most, count_of, cut_back, first_halves, high_half, is_either,
+    low_half, numbered, ranges_in, settle_first, settle_second,
 };
 use core_terms::{CForm, Range};
 use linear_prover::reach_chain;
@@ -102,9 +103,10 @@ fn leaves_of_sides(
 ) -> Result<u64, AllocError>
     requires variables { AreVariables vs.now }
     requires rest { rest < 960 }
+    requires either { is_either form.now ≡ true }
     requires ready { Ready vs.now (suc rest) ranges.now (waiting_only branch.old (form.now ∷ branch.old.waiting)) }
-    ensures leaves { IfOk result (λ n. n ≡ min wanted (open_leaves vs.now (plain_leaves vs.now rest) ranges.now
-        branch.old (form.now ∷ branch.old.waiting))) }
+    ensures leaves { IfOk result (λ n. n ≡ min wanted (side_leaves vs.now (plain_leaves vs.now rest) ranges.now
+        branch.old form.now)) }
     ensures branch { OnOk result (branch.new ≡ branch.old) }
 {
     let first = first_leaves(alloc, vs, rest, ranges, wanted, form, branch)?;
@@ -205,7 +207,7 @@ fn leaves_of_halves(
     Ok(low + high)
 }
 
-/// Counts the leaves of a branch without a fact out of reach.
+/// Counts the leaves of a branch without a fact out of reach. Where a quotient is to be taken next, memory is refused.
 #[cycle(leaves)]
 fn open_some_leaves(
     alloc: Global,
@@ -225,7 +227,11 @@ fn open_some_leaves(
 {
     if branch.waiting.len() > 0 {
         let form = branch.waiting.remove(0);
-        let leaves = leaves_of_sides(alloc, vs, rest - 1, ranges, wanted, form.get(), branch)?;
+        let first = form.get();
+        if !is_either(first) {
+            return Err(AllocError);
+        }
+        let leaves = leaves_of_sides(alloc, vs, rest - 1, ranges, wanted, first, branch)?;
         branch.waiting.insert(0, form)?;
         Ok(leaves)
     } else {

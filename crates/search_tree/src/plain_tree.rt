@@ -12,8 +12,9 @@ ghost use Rattle.obligations.specs.Reach.{are_exact, some_out_of_reach};
 ghost use Rattle.linear_prover.specs.Chains.{Closes, is_plain_node};
 ghost use Rattle.obligations.specs.Certificates.{node_units, units};
 ghost use Rattle.obligations.specs.Obligations.{AreVariables, IsObligation};
-ghost use Rattle.obligations.specs.Plain.{ranges_of, middle, first_cut, with_high, with_low, waiting_only, open_leaves};
-ghost use Rattle.obligations.specs.Plain.{cut_leaves, plain_leaves, leaf_units};
+ghost use Rattle.obligations.specs.Plain.{ranges_of, middle, first_cut, with_high, with_low, waiting_only};
+ghost use Rattle.obligations.specs.Plain.{cut_leaves, side_leaves, plain_leaves};
+ghost use Rattle.obligations.specs.Quotients.{is_either};
 ghost use Rattle.search_tree.specs.Searching.{Ready, Ends, IsClosed, SearchAnswers, Finishes, Tried, found_of};
 
 use core_terms::{CForm, Range};
@@ -155,6 +156,16 @@ pub fn settle_second(
     Ok(())
 }
 
+/// Whether a formula is an `Or`.
+pub fn is_either(form: &CForm) -> bool
+    ensures { result ≡ is_either form.now }
+{
+    match form {
+        CForm::Or(_, _) => true,
+        _ => false,
+    }
+}
+
 /// The two sides of a formula that waits.
 fn sides_of(form: &CForm) -> (&CForm, &CForm)
     ensures first { result.0.now ≡ (sides form.now).0 }
@@ -168,7 +179,11 @@ fn sides_of(form: &CForm) -> (&CForm, &CForm)
 
 /// Drops what was added to a branch.
 pub fn cut_back(branch: &mut Branch, facts: usize, waits: usize)
-    ensures { branch.new ≡ record { facts = take facts branch.old.facts; waiting = take waits branch.old.waiting } }
+    ensures { branch.new ≡ record {
+      facts = take facts branch.old.facts;
+      waiting = take waits branch.old.waiting;
+      added = branch.old.added;
+    } }
 {
     branch.facts.truncate(facts);
     branch.waiting.truncate(waits);
@@ -264,10 +279,10 @@ fn refute_sides(
 ) -> Result<Ended, AllocError>
     requires variables { AreVariables vs.now }
     requires rest { rest < 960 }
+    requires either { is_either form.now ≡ true }
     requires ready { Ready vs.now (suc rest) ranges.now (waiting_only branch.old (form.now ∷ branch.old.waiting)) }
-    ensures ends { IfOk result (λ e. Ends vs.now (suc rest) (open_leaves vs.now (plain_leaves vs.now rest) ranges.now
-        branch.old (form.now ∷ branch.old.waiting)) (waiting_only branch.old (form.now ∷ branch.old.waiting)) trail.old
-        trail.new e) }
+    ensures ends { IfOk result (λ e. Ends vs.now (suc rest) (side_leaves vs.now (plain_leaves vs.now rest) ranges.now
+        branch.old form.now) (waiting_only branch.old (form.now ∷ branch.old.waiting)) trail.old trail.new e) }
     ensures branch { IfOk result (λ e. IsClosed e → branch.new ≡ branch.old) }
 {
     if !put_node(trail, Node::Case(1))? {
@@ -642,7 +657,7 @@ fn try_close(
     }
 }
 
-/// Refutes a branch without a fact out of reach.
+/// Refutes a branch without a fact out of reach. Where a quotient is to be taken next, memory is refused.
 #[cycle(search)]
 fn refute_open(
     alloc: Global,
@@ -662,7 +677,11 @@ fn refute_open(
 {
     if branch.waiting.len() > 0 {
         let form = branch.waiting.remove(0);
-        let ended = refute_sides(alloc, vs, rest - 1, ranges, form.get(), branch, trail)?;
+        let first = form.get();
+        if !is_either(first) {
+            return Err(AllocError);
+        }
+        let ended = refute_sides(alloc, vs, rest - 1, ranges, first, branch, trail)?;
         branch.waiting.insert(0, form)?;
         Ok(ended)
     } else {

@@ -18,7 +18,7 @@ pub refute-returns-in-Some-clause-ends : goal.refute-returns-in-Some-clause-ends
 refute-returns-in-Some-clause-ends t c =
     finished-ends c.args.vs.now c.args.rest _ c.args.branch.now c.args.trail.now c.try_close.new.trail c.in-Some.ended
     (omega arith)
-    (leaves-some c.args.vs.now c.args.rest c.args.ranges.now c.args.branch.now)
+    (leaves-some c.args.vs.now c.args.rest c.args.ranges.now c.args.branch.now) c.requires.ready.flat
     (tried-some c.args.vs.now c.args.branch.now.facts c.args.branch.now.facts c.args.trail.now c.try_close.new.trail _
     c.in_ok-ended.field-0 c.in-Some.ended refl c.in_ok-ended.ensures c.in-Some.is)
 
@@ -27,7 +27,7 @@ refute_halves-returns-then-not-branch-clause-ends t c =
     let cut = cut-is c.args.vs.now (suc c.args.rest) c.args.ranges.now c.args.branch.now c.args.halves.place
     c.args.halves.at c.requires.ready c.requires.halves in
     halves-stopped c.args.vs.now c.args.rest c.args.ranges.now c.args.halves.place c.args.halves.at c.args.branch.now
-    cut.simple (omega arith) c.args.trail.now c.put_node.new.trail
+    cut.simple (omega arith) c.requires.ready.flat c.args.trail.now c.put_node.new.trail
     (stop-is c.args.trail.now c.put_node.new.trail c.split_node.result _ c.split_node.ensures
     (not-taken _ _ c.in_ok-put_node.ensures c.if-not-branch.true))
 
@@ -84,7 +84,7 @@ refute_halves-returns-in_ok-ended-in-Closed-clause-ends t c =
     let inside = cut.inside in
     let put = taken _ _ c.in_ok-put_node.ensures c.if-not-branch.false in
     halves-second c.args.vs.now c.args.rest c.args.ranges.now c.args.halves.place c.args.halves.at c.args.branch.now
-    cut.simple (omega arith) c.args.trail.now c.put_node.new.trail c.refute_low.new.trail c.refute_high.new.trail
+    cut.simple (omega arith) c.requires.ready.flat c.args.trail.now c.put_node.new.trail c.refute_low.new.trail c.refute_high.new.trail
     c.in_ok-refute_low.field-0 c.in_ok-ended-in-Closed.ended c.refute_low.new.branch (omega (arith, long, inside))
     (put-is c.args.trail.now c.put_node.new.trail c.split_node.result _ c.split_node.ensures put) c.in-Closed.is
     c.in_ok-refute_low.ensures.ends
@@ -98,7 +98,7 @@ refute_halves-returns-in-Stopped-clause-ends t c =
     let inside = cut.inside in
     let put = taken _ _ c.in_ok-put_node.ensures c.if-not-branch.false in
     halves-first c.args.vs.now c.args.rest c.args.ranges.now c.args.halves.place c.args.halves.at c.args.branch.now
-    cut.simple (omega arith) c.args.trail.now c.put_node.new.trail c.refute_low.new.trail
+    cut.simple (omega arith) c.requires.ready.flat c.args.trail.now c.put_node.new.trail c.refute_low.new.trail
     c.in_ok-refute_low.field-0 (omega (arith, long, inside))
     (put-is c.args.trail.now c.put_node.new.trail c.split_node.result _ c.split_node.ensures put) c.in-Stopped.is
     c.in_ok-refute_low.ensures.ends
@@ -108,28 +108,28 @@ refute_halves-returns-in-Refuted-clause-ends t c =
     let cut = cut-is c.args.vs.now (suc c.args.rest) c.args.ranges.now c.args.branch.now c.args.halves.place
     c.args.halves.at c.requires.ready c.requires.halves in
     halves-met c.args.vs.now c.args.rest c.args.ranges.now c.args.halves.place c.args.halves.at c.args.branch.now
-    cut.simple (omega arith) c.put_node.new.trail c.refute_low.new.trail
+    cut.simple (omega arith) c.requires.ready.flat c.put_node.new.trail c.refute_low.new.trail
     c.in_ok-refute_low.field-0 c.in-Refuted.values c.in-Refuted.is c.in_ok-refute_low.ensures.ends
 
 pub refute_open-refute_sides-requires : goal.refute_open-refute_sides-requires
 refute_open-refute_sides-requires t c =
-    let same = whole-again c.args.branch.now (record {
-      facts = c.args.branch.now.facts;
-      waiting =
-          c.remove-form.new.self;
-    }) c.get.result.now (c.remove-form.ensures.item ∙ ap Some (sym c.get.ensures))
-    c.remove-form.ensures.rest refl in
+    let same = whole-again c.args.branch.now c.remove-form.new.self c.get-first.result.now
+    (c.remove-form.ensures.item ∙ ap Some (sym c.get-first.ensures)) c.remove-form.ensures.rest in
     let ready = subst (Ready c.args.vs.now c.args.rest c.args.ranges.now) (sym same) c.requires.ready in
-    let one = ready-deep c.args.vs.now c.args.rest c.args.ranges.now c.get.result.now
-    (record { facts = c.args.branch.now.facts; waiting = c.remove-form.new.self }) ready in (
+    let either = sym c.is_either.ensures ∙ c.if-not-is_either.false in
+    let one = ready-deep c.args.vs.now c.args.rest c.args.ranges.now c.get-first.result.now c.remove-form.new.self
+    c.args.branch.now either ready in (
       search rules,
       (
         c.requires.variables,
         (
           omega (arith, one),
-          subst (λ k. Ready c.args.vs.now k c.args.ranges.now
-              (waiting_only (record { facts = c.args.branch.now.facts; waiting = c.remove-form.new.self })
-              (c.get.result.now ∷ c.remove-form.new.self))) (sym (one-less c.args.rest one)) ready,
+          (
+            either,
+            subst (λ k. Ready c.args.vs.now k c.args.ranges.now
+                (waiting_only c.args.branch.now (c.get-first.result.now ∷ c.remove-form.new.self)))
+                (sym (one-less c.args.rest one)) ready,
+          ),
         ),
       ),
     )
@@ -159,13 +159,15 @@ refute_open-refute_halves-requires t c =
 
 pub refute_open-returns-in_ok-insert-clause-ends : goal.refute_open-returns-in_ok-insert-clause-ends
 refute_open-returns-in_ok-insert-clause-ends t c =
-    let rest : Branch = record { facts = c.args.branch.now.facts; waiting = c.remove-form.new.self } in
-    let same = whole-again c.args.branch.now rest c.get.result.now
-    (c.remove-form.ensures.item ∙ ap Some (sym c.get.ensures)) c.remove-form.ensures.rest refl in
-    let one = ready-deep c.args.vs.now c.args.rest c.args.ranges.now c.get.result.now rest
-    (subst (Ready c.args.vs.now c.args.rest c.args.ranges.now) (sym same) c.requires.ready) in
-    opened-ends c.args.vs.now c.args.rest c.args.ranges.now c.args.branch.now rest c.get.result.now c.args.trail.now
-    c.refute_sides.new.trail c.in_ok-ended.ended one c.requires.reach same c.in_ok-ended.ensures.ends
+    let rest : Branch = waiting_only c.args.branch.now c.remove-form.new.self in
+    let same = whole-again c.args.branch.now c.remove-form.new.self c.get-first.result.now
+    (c.remove-form.ensures.item ∙ ap Some (sym c.get-first.ensures)) c.remove-form.ensures.rest in
+    let either = sym c.is_either.ensures ∙ c.if-not-is_either.false in
+    let one = ready-deep c.args.vs.now c.args.rest c.args.ranges.now c.get-first.result.now c.remove-form.new.self
+    c.args.branch.now either (subst (Ready c.args.vs.now c.args.rest c.args.ranges.now) (sym same) c.requires.ready) in
+    opened-ends c.args.vs.now c.args.rest c.args.ranges.now c.args.branch.now rest c.get-first.result.now
+    c.args.trail.now c.refute_sides.new.trail c.in_ok-ended.ended one c.requires.reach c.requires.ready.flat either same
+    c.in_ok-ended.ensures.ends
 
 pub refute_open-returns-in_ok-ended-in-Some-clause-ends : goal.refute_open-returns-in_ok-ended-in-Some-clause-ends
 refute_open-returns-in_ok-ended-in-Some-clause-ends t c =
@@ -186,6 +188,7 @@ refute_open-returns-in_ok-low_ends-in-None-clause-ends t c =
 pub refute_sides-returns-then-not-branch-clause-ends : goal.refute_sides-returns-then-not-branch-clause-ends
 refute_sides-returns-then-not-branch-clause-ends t c =
     sides-stopped c.args.vs.now c.args.rest c.args.ranges.now c.args.form.now c.args.branch.now (omega arith)
+    c.requires.ready.flat c.requires.either
     c.args.trail.now c.put_node.new.trail
     (not-taken _ _ c.in_ok-put_node.ensures c.if-not-branch.true)
 
@@ -199,7 +202,8 @@ refute_sides-refute_first-requires t c = (
       (
         ready-light c.args.vs.now (suc c.args.rest) c.args.ranges.now c.args.form.now c.args.branch.now
             c.requires.ready,
-        ready-first c.args.vs.now c.args.rest c.args.ranges.now c.args.form.now c.args.branch.now c.requires.ready,
+        ready-first c.args.vs.now c.args.rest c.args.ranges.now c.args.form.now c.args.branch.now c.requires.either
+            c.requires.ready,
       ),
     ),
   ),
@@ -220,7 +224,7 @@ refute_sides-refute_second-requires t c =
             subst (λ x. Ready c.args.vs.now c.args.rest c.args.ranges.now
                 (settled c.args.vs.now (sides c.args.form.now).1 x)) (sym same)
                 (ready-second c.args.vs.now c.args.rest c.args.ranges.now c.args.form.now c.args.branch.now
-                c.requires.ready),
+                c.requires.either c.requires.ready),
           ),
         ),
       ),
@@ -231,6 +235,7 @@ pub refute_sides-returns-in_ok-ended-in-Closed-clause-ends :
 refute_sides-returns-in_ok-ended-in-Closed-clause-ends t c =
     let put = taken _ _ c.in_ok-put_node.ensures c.if-not-branch.false in
     sides-second c.args.vs.now c.args.rest c.args.ranges.now c.args.form.now c.args.branch.now (omega arith)
+    c.requires.ready.flat c.requires.either
     c.args.trail.now c.put_node.new.trail c.refute_first.new.trail c.refute_second.new.trail
     c.in_ok-refute_first.field-0 c.in_ok-ended-in-Closed.ended c.refute_first.new.branch
     (record { nodes = put.0; spare = put.1 }) c.in-Closed.is c.in_ok-refute_first.ensures.ends
@@ -240,6 +245,7 @@ pub refute_sides-returns-in-Stopped-clause-ends : goal.refute_sides-returns-in-S
 refute_sides-returns-in-Stopped-clause-ends t c =
     let put = taken _ _ c.in_ok-put_node.ensures c.if-not-branch.false in
     sides-first c.args.vs.now c.args.rest c.args.ranges.now c.args.form.now c.args.branch.now (omega arith)
+    c.requires.ready.flat c.requires.either
     c.args.trail.now c.put_node.new.trail c.refute_first.new.trail
     c.in_ok-refute_first.field-0 (record { nodes = put.0; spare = put.1 }) c.in-Stopped.is
     c.in_ok-refute_first.ensures.ends
@@ -247,5 +253,6 @@ refute_sides-returns-in-Stopped-clause-ends t c =
 pub refute_sides-returns-in-Refuted-clause-ends : goal.refute_sides-returns-in-Refuted-clause-ends
 refute_sides-returns-in-Refuted-clause-ends t c =
     sides-met c.args.vs.now c.args.rest c.args.ranges.now c.args.form.now c.args.branch.now (omega arith)
+    c.requires.ready.flat c.requires.either
     c.put_node.new.trail c.refute_first.new.trail
     c.in_ok-refute_first.field-0 c.in-Refuted.values c.in-Refuted.is c.in_ok-refute_first.ensures.ends
