@@ -1,9 +1,8 @@
 -- What a node makes of a closed branch is closed.
-use Rattle.std.proofs.Common.{◌≡◌, ℕ, zero, suc, ◌≤◌, nat_lt, nat_le, ℤ, pos, ◌+ℤ◌, ◌*ℤ◌, Bool, true, false, cond, ◌&&◌}
+use Rattle.std.proofs.Common.{◌≡◌, ℕ, zero, suc, nat_lt, nat_le, ℤ, pos, ◌+ℤ◌, ◌*ℤ◌, Bool, true, false, cond, ◌&&◌}
 use Rattle.std.proofs.Common.{Option, Some, None, Result, Ok, Err, List, [], ◌∷◌, map, length, slice_get, arith, refl}
-use Rattle.std.proofs.Common.{sym, ap, ◌∙◌, subst, ◌||◌}
+use Rattle.std.proofs.Common.{ap, ◌∙◌, subst, ◌||◌}
 use Rattle.std.specs.Prelude.{remove}
-use Rattle.std.specs.List.{list_all}
 use Rattle.case_tables.specs.declared.code_table.Code.{Code}
 use Rattle.core_terms.specs.declared.trees.CTerm.{CTerm}
 use Rattle.core_terms.specs.declared.trees.CForm.{CForm, out-CForm, fold_out-CForm}
@@ -19,7 +18,7 @@ use Rattle.obligations.specs.LinearForms.{fact_of, line_of_const}
 use Rattle.obligations.specs.Opening.{at_most, at_least}
 use Rattle.obligations.specs.Quotients.{is_either}
 use Rattle.obligations.specs.Reach.{is_within}
-use Rattle.obligations.specs.Settling.{added, settled, sides, sides_in, without}
+use Rattle.obligations.specs.Settling.{added, sides, sides_in, without}
 use Rattle.obligations.specs.Variables.{has_step, part_has, term_has, form_has}
 use Rattle.obligations.proofs.ClosedLaws.{closed-joined, line-within, settled-closed}
 use Rattle.obligations.proofs.LineLaws.{length-zeros, length-add_at}
@@ -27,7 +26,7 @@ use Rattle.certificate_check.specs.Sums.{all_pairs, no_sum, divided, is_divisibl
 use Rattle.certificate_check.specs.Sums.{variable_step}
 use Rattle.certificate_check.specs.Refutation.{NodeEffect, fails, opens, made_case, made_sum, made_round, made_share}
 use Rattle.certificate_check.specs.Refutation.{made_by}
-use Rattle.certificate_check.proofs.RefutationLaws.{IsOld, opens-same, total-size}
+use Rattle.certificate_check.proofs.RefutationLaws.{IsOld, total-size}
 use Rattle.certificate_check.proofs.SumLaws.{pairs-keep, added-variable}
 
 module _ (us : List Variable) where
@@ -68,7 +67,7 @@ module _ (us : List Variable) where
   or_right true b e = refl
   or_right false b e = e
 
-  side-names : (f : CForm) (x : CForm-F CForm CTerm) → out-CForm f ≡ x → NamesOnly us f →
+  pub side-names : (f : CForm) (x : CForm-F CForm CTerm) → out-CForm f ≡ x → NamesOnly us f →
       NamesOnly us (sides_in f x).0 × NamesOnly us (sides_in f x).1
   side-names f CForm-F.Top e h = (h, h)
   side-names f CForm-F.Bottom e h = (h, h)

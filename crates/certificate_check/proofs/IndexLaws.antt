@@ -170,8 +170,8 @@ module _ (vs : List Variable) (limit : ℕ) where
   below v n h = grind arith
 
   split-two : (b p q : Branch) (v : ℕ) (k : ℤ) (g : Bool) (bs : List Branch) → nat_lt v (length vs) ≡ g →
-      total p + p.added ≡ total b + b.added + 1 → total q + q.added ≡ total b + b.added + 1 → length vs + total b ≤ limit →
-      cond g (opens (p ∷ q ∷ [])) (fails Code.NoSuchVariable) ≡ opens bs →
+      total p + p.added ≡ total b + b.added + 1 → total q + q.added ≡ total b + b.added + 1 →
+      length vs + total b ≤ limit → cond g (opens (p ∷ q ∷ [])) (fails Code.NoSuchVariable) ≡ opens bs →
       (is_index_within limit (Node.Split (suc v) k) ≡ true) × AreGrown b bs
   split-two b p q v k false bs e r t h m = absurd (cc)
   split-two b p q v k true bs e r t h m =
@@ -251,8 +251,9 @@ module _ (vs : List Variable) (limit : ℕ) where
   some-left levels h = grind arith
 
   -- what a node makes of a branch where so many levels are left
-  level-makes : (levels : ℕ) (b : Branch) (n : Node) (bs : List Branch) → (length vs + (total b + b.added)) + levels ≤ limit →
-      made vs (allowing levels b) n ≡ opens bs → (1 ≤ levels) × (is_index_within limit n ≡ true) × AreGrown b bs
+  level-makes : (levels : ℕ) (b : Branch) (n : Node) (bs : List Branch) →
+      (length vs + (total b + b.added)) + levels ≤ limit → made vs (allowing levels b) n ≡ opens bs →
+      (1 ≤ levels) × (is_index_within limit n ≡ true) × AreGrown b bs
   level-makes levels b n bs h m =
       let o = level-opens (nat_lt 0 levels) (made_by (scope_of vs b) b n) bs m in
       let l = scope-length vs b.added in

@@ -1,5 +1,6 @@
 pub mod ScopedLaws
 pub mod MachineLaws
+pub mod QuotLaws
 pub mod RefutationLaws
 pub mod ClosedLaws
 pub mod SoundLaws

@@ -97,7 +97,8 @@ second-base : (vs : List Variable) (t : Todo) (f : Frame) (b : Branch) → f.fac
     f.waits ≤ length b.waiting →
     base_of f (second_by vs t (base_of f b)) ≡ base_of f b
 second-base vs (Todo.Form place form) f b p q =
-    base-joined f (base_of f b) (outcome (scope_of vs (base_of f b)) (sides form).1).yes (omega (arith, length-take-le f.facts b.facts p))
+    base-joined f (base_of f b) (outcome (scope_of vs (base_of f b)) (sides form).1).yes
+    (omega (arith, length-take-le f.facts b.facts p))
     (omega (arith, length-take-le f.waits b.waiting q)) ∙ base-base f b p q
 second-base vs (Todo.Fact fact) f b p q =
     base-joined f (base_of f b) (record { facts = fact ∷ []; waiting = []; added = 0 })
@@ -255,15 +256,6 @@ case-goes vs us levels b now k place facts waits added frames more form ek taken
           (sym turn)
           (over-fits f (reverse frames) b (without b place) x low ef ew ea er full room fits)),
     )
-
--- a formula that is no `Or`
-pub case-stops : (us : List Variable) (levels : ℕ) (ps : List OpenBranch) (b : Branch) (k place : ℕ) (form : CForm) →
-    k ≡ suc place → slice_get b.waiting place ≡ Some form → is_either form ≡ false →
-    step_by levels ps (case_at us b k) ≡ Err Code.NothingToCase
-case-stops us levels ps b k place form ek taken is =
-    ap (λ z. step_by levels ps (case_at us b z)) ek ∙ ap (λ z. step_by levels ps (made_case us b place z)) taken
-    ∙ ap (λ z. step_by levels ps (cond z (opens (settled us (sides form).0 (without b place)
-    ∷ settled us (sides form).1 (without b place) ∷ [])) (fails Code.NothingToCase))) is
 
 -- a quotient taken is added to the branch that is left
 pub quotient-joins : (us : List Variable) (r : Replaced) (c : Branch) → with_quotient us r c
@@ -429,10 +421,12 @@ take-err vs m e n r some scoped h k =
 
 pub added-behind : (vs : List Variable) (fs : List Frame) (b new : Branch) (f : Fact) → new ≡ added b f →
     FramesFit fs b → behind vs fs new ≡ behind vs fs b
-added-behind vs fs b new f e h = ap (behind vs fs) e ∙ behind-joined vs fs b (record { facts = f ∷ []; waiting = []; added = 0 }) h
+added-behind vs fs b new f e h = ap (behind vs fs) e
+    ∙ behind-joined vs fs b (record { facts = f ∷ []; waiting = []; added = 0 }) h
 
 pub added-fits : (fs : List Frame) (b new : Branch) (f : Fact) → new ≡ added b f → FramesFit fs b → FramesFit fs new
-added-fits fs b new f e h = subst (FramesFit fs) (sym e) (fits-joined fs b (record { facts = f ∷ []; waiting = []; added = 0 }) h)
+added-fits fs b new f e h = subst (FramesFit fs) (sym e)
+    (fits-joined fs b (record { facts = f ∷ []; waiting = []; added = 0 }) h)
 
 pub ruleset round_laws = (added-behind, added-fits)
 
@@ -513,25 +507,3 @@ first-light o b h e =
     let n = need-within o.form in
     let no : (need o.form).no ≤ 2 ^ 63 = omega (arith, n, h) in
     ap (is_light_branch (2 ^ 63)) e ∙ refused-light o.variables (2 ^ 63) o.form (ranges_only o.variables) no refl
-
--- The variables of a branch stay where none is added.
-pub scoped-settled : (vs us all : List Variable) (f : CForm) (old new : Branch) → new ≡ settled us f old →
-    all ≡ scope_of vs old → all ≡ scope_of vs new
-scoped-settled vs us all f old new e h = h ∙ sym (ap (scope_of vs) e)
-
-pub scoped-added : (vs all : List Variable) (f : Fact) (old new : Branch) → new ≡ added old f →
-    all ≡ scope_of vs old → all ≡ scope_of vs new
-scoped-added vs all f old new e h = h ∙ sym (ap (scope_of vs) e)
-
-pub scoped-quotient : (vs us all : List Variable) (r : Replaced) (old new : Branch) → us ≡ scope_of vs old →
-    new ≡ with_quotient us r old → all ≡ with_next us → all ≡ scope_of vs new
-scoped-quotient vs us all r old new h e n = n ∙ ap with_next h ∙ sym (ap (scope_of vs) e)
-
-pub same-added : (us : List Variable) (f : CForm) (old new : Branch) → new ≡ settled us f old → new.added ≡ old.added
-same-added us f old new e = ap (λ (b : Branch). b.added) e
-
-pub one-added : (us : List Variable) (r : Replaced) (old new : Branch) → new ≡ with_quotient us r old →
-    new.added ≡ suc old.added
-one-added us r old new e = ap (λ (b : Branch). b.added) e
-
-pub ruleset scoped_laws = (scoped-settled, scoped-added, scoped-quotient, same-added, one-added)

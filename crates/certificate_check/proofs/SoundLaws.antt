@@ -15,7 +15,7 @@ use Rattle.obligations.specs.declared.branches.Variable.{Variable}
 use Rattle.obligations.specs.declared.certificates.Node.{Node}
 use Rattle.obligations.specs.Closed.{IsClosed}
 use Rattle.obligations.specs.Obligations.{IsObligation}
-use Rattle.obligations.specs.Opening.{first_branch, in_ranges, range_facts, ranges_only}
+use Rattle.obligations.specs.Opening.{first_branch, range_facts, ranges_only}
 use Rattle.obligations.specs.Quotients.{without_quotient, with_quotient}
 use Rattle.obligations.specs.Reach.{is_within}
 use Rattle.obligations.specs.Scopes.{next_param, with_next, scope_of}
@@ -28,7 +28,7 @@ use Rattle.obligations.proofs.TakenNames.{quotient-closed}
 use Rattle.certificate_check.specs.Refutation.{NodeEffect, fails, opens, made_quot, made_by, made, OpenBranch, pending}
 use Rattle.certificate_check.specs.Refutation.{after, walk, allowing, HoldsAt, NoneHolds, AreClosed, WalkKeeps, Sound}
 use Rattle.certificate_check.proofs.ClosedLaws.{AllStay, Stay, old-stays, closed-without, wait-get}
-use Rattle.certificate_check.proofs.RefutationLaws.{IsOld, made_by-sound, none_hold, holds-without, opens-same}
+use Rattle.certificate_check.proofs.RefutationLaws.{IsOld, made_by-sound, holds-without, opens-same}
 
 module _ (vs : List Variable) (values : List ℤ) (long : length values ≡ length vs) where
   abbrev Never : Branch → Type 0
@@ -190,7 +190,7 @@ ranges-within m n (v ∷ vs) h =
     below : (a b : ℕ) → a ≤ b → nat_le a b ≡ true
     below a b e = grind arith
 
-first-closed : (o : Obligation) → IsObligation o → IsClosed o.variables (first_branch o)
+pub first-closed : (o : Obligation) → IsObligation o → IsClosed o.variables (first_branch o)
 first-closed o is =
     refused-closed o.variables o.form (ranges_only o.variables) is.complete (record {
       facts = ranges-within (length o.variables) 0 o.variables (omega arith);

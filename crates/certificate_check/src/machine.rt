@@ -1,8 +1,8 @@
 //! The reading of a certificate's nodes. One branch is held, and for each open `case`, `split`, `share` and `quot` a
 //! frame that says how it goes on after the first subtree: the branch grows at the ends of its lists, and is cut
 //! back for the second one. A `quot` has no second one.
-ghost use Rattle.std.specs.Prelude.{◌≡◌, ◌≢◌, ◌≤◌, ◌<◌, ◌^◌, pos, ◌+ℤ◌, ◌∷◌, [], IfErr, IfOk, OnOk, MatchResult, true};
-ghost use Rattle.std.specs.Prelude.{false, Ok, length, reverse, ℕ};
+ghost use Rattle.std.specs.Prelude.{◌≡◌, ◌≢◌, ◌≤◌, ◌<◌, ◌^◌, pos, ◌+ℤ◌, ◌∷◌, [], IfErr, IfOk, OnOk, MatchResult};
+ghost use Rattle.std.specs.Prelude.{true, false, Ok, length, reverse, ℕ};
 ghost use Rattle.std.specs.Int.RustNames.{unsigned_abs};
 ghost use Rattle.obligations.specs.Settling.{settled, sides, added};
 ghost use Rattle.obligations.specs.Load.{need, is_light_branch};
@@ -78,7 +78,6 @@ fn cut(frame: &Frame, branch: &mut Branch)
 }
 
 /// Cuts the variables of a branch back to those that a frame had.
-#[tactic(auto, using(crate::proofs::ScopedLaws::cut_laws))]
 fn cut_variables(vs: &[Variable], added: u32, variables: &mut Seq<Variable>)
     requires few { length vs.now < 2 ^ 32 }
     requires scope { (n : ℕ) × (variables.old ≡ scope vs.now n) × (added ≤ n) }
@@ -289,7 +288,8 @@ fn open_case(alloc: Global, vs: &[Variable], machine: &mut Machine, k: u64) -> R
     requires levels { 0 < machine.old.levels }
     requires going { machine.old.done ≡ false }
     requires light { IsLightMachine machine.old }
-    ensures ok { OnOk result (Goes vs.now machine.old (case_at machine.old.variables machine.old.branch k) machine.new) }
+    ensures ok { OnOk result
+        (Goes vs.now machine.old (case_at machine.old.variables machine.old.branch k) machine.new) }
     ensures light { OnOk result (IsLightMachine machine.new) }
     ensures scoped { OnOk result (IsScoped vs.now machine.new) }
     ensures err { IfErr result (GoesErr vs.now machine.old (case_at machine.old.variables machine.old.branch k)) }
@@ -304,6 +304,7 @@ fn open_case(alloc: Global, vs: &[Variable], machine: &mut Machine, k: u64) -> R
     }
     let facts = machine.branch.facts.len();
     let waits = machine.branch.waiting.len();
+    let added = machine.branch.added;
     settle_first(
         alloc,
         machine.variables.as_slice(),
@@ -314,7 +315,7 @@ fn open_case(alloc: Global, vs: &[Variable], machine: &mut Machine, k: u64) -> R
         levels: machine.levels,
         facts,
         waits,
-        added: machine.branch.added,
+        added,
         todo: Todo::Form { place, form },
         first: true,
     })?;
@@ -330,7 +331,8 @@ fn open_quot(alloc: Global, vs: &[Variable], machine: &mut Machine, k: u64) -> R
     requires levels { 0 < machine.old.levels }
     requires going { machine.old.done ≡ false }
     requires light { IsLightMachine machine.old }
-    ensures ok { OnOk result (Goes vs.now machine.old (quot_at machine.old.variables machine.old.branch k) machine.new) }
+    ensures ok { OnOk result
+        (Goes vs.now machine.old (quot_at machine.old.variables machine.old.branch k) machine.new) }
     ensures light { OnOk result (IsLightMachine machine.new) }
     ensures scoped { OnOk result (IsScoped vs.now machine.new) }
     ensures err { IfErr result (GoesErr vs.now machine.old (quot_at machine.old.variables machine.old.branch k)) }
@@ -392,12 +394,13 @@ fn open_split(
     let place = (variable - 1) as u32;
     let facts = machine.branch.facts.len();
     let waits = machine.branch.waiting.len();
+    let added = machine.branch.added;
     add(&mut machine.branch, bound_above(alloc, place, k as i128)?)?;
     machine.frames.push(Frame {
         levels: machine.levels,
         facts,
         waits,
-        added: machine.branch.added,
+        added,
         todo: Todo::Fact(bound_below(alloc, place, k as i128 + 1)?),
         first: true,
     })?;
@@ -454,6 +457,7 @@ fn open_share(
     let line = statement(alloc, machine.variables.as_slice(), constant, pairs)?;
     let facts = machine.branch.facts.len();
     let waits = machine.branch.waiting.len();
+    let added = machine.branch.added;
     add(
         &mut machine.branch,
         fact_from(alloc, &below_0(alloc, &line)?)?,
@@ -462,7 +466,7 @@ fn open_share(
         levels: machine.levels,
         facts,
         waits,
-        added: machine.branch.added,
+        added,
         todo: Todo::Fact(fact_from(alloc, &line)?),
         first: true,
     })?;

@@ -245,8 +245,8 @@ halts_outside Refusal.TooLarge a i c left h = past_outside a i c left h
 divisor_great : (at : ℕ) (b : Formed) → is_past b ≡ true → IsGreat (divisor_count at b)
 divisor_great at b h = elim b.constant as (λ v. b.constant ≡ v →
     IsGreat (flawed_count (divisor_flaws (bad_divisor at b)) (cond v (index_count b.measure) (stray_count b.measure)))) [
-      | true ↦ λ e. flawed _ (index_count b.measure) (constant_past b h e)
-      | false ↦ λ e. flawed _ (stray_count b.measure) (stray_great b.measure (heavy_of_past b h))
+      | true ↦ λ e. flawed (divisor_flaws (bad_divisor at b)) (index_count b.measure) (constant_past b h e)
+      | false ↦ λ e. flawed (divisor_flaws (bad_divisor at b)) (stray_count b.measure) (stray_great b.measure (heavy_of_past b h))
     ] refl
   where
     flawed : (flaws : Flaws) (n : Count) → IsGreat n → IsGreat (flawed_count flaws n)

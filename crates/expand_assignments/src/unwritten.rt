@@ -1,6 +1,6 @@
 //! Values that are written nowhere: of such a value its quantifiers count, with their instances, and its divisors.
 
-ghost use Rattle.std.specs.Prelude.{◌≡◌, ◌∷◌, ◌≤◌, ◌^◌, ◌<◌, ◌+ℤ◌, pos, ℕ, List, map, fold};
+ghost use Rattle.std.specs.Prelude.{◌≡◌, ◌≤◌, ◌+◌, ◌^◌, ◌<◌, ◌+ℤ◌, pos, map, fold};
 ghost use Rattle.std.specs.Int.RustNames.{unsigned_abs};
 ghost use Rattle.case_tables.specs.declared.symbol_table.Symbol.{Symbol};
 ghost use Rattle.unity_syntax.specs.declared.expression.Expr.{Expr};

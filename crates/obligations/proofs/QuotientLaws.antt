@@ -42,7 +42,7 @@ module _ (size : ℤ → ℕ) (v : ℕ) where
     pub rest_own : (N q.rest).own ≤ (N t).own
     pub rest_most : (N q.rest).most ≤ (N t).most
 
-  abbrev Lighter : CTerm → Option Taken → Type 0
+  abbrev pub Lighter : CTerm → Option Taken → Type 0
   Lighter t None = Unit {0}
   Lighter t (Some q) = TakenIs t q
 

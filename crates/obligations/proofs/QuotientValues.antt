@@ -10,7 +10,7 @@ use Rattle.core_terms.specs.declared.trees.CTerm.TheVariants.{Param, Add, Sub, S
 use Rattle.core_terms.specs.Values.{number_at}
 use Rattle.meaning_states.specs.Division.{divisor, floored, rest_of}
 use Rattle.meaning_states.proofs.DivisionTheorems.{parts_make_the_number}
-use Rattle.core_terms.proofs.QuotientLaws.{rest_of_is}
+use Rattle.core_terms.proofs.QuotientLaws.{rest_of_is, floored_is}
 use Rattle.obligations.specs.declared.branches.Variable.{Variable}
 use Rattle.obligations.specs.declared.branches.Line.{Line}
 use Rattle.obligations.specs.declared.branches.Choice.{Choice}
@@ -224,13 +224,16 @@ module _ (vs : List Variable) (values : List ℤ) (long : length values ≡ leng
   fits : length values ≡ length (linear vs q.of).factors
   fits = long ∙ sym (linear-long vs q.of)
 
+  low-value : (z : ℤ) → fact_value (values ++ z ∷ []) (low_fact vs q) ≡ worth +ℤ neg_ℤ (divisor k) *ℤ z
+  low-value z =
+      with-value (linear vs q.of) (neg_ℤ q.divisor) z values fits ∙ ap (λ x. x +ℤ neg_ℤ q.divisor *ℤ z) line-worth
+      ∙ ap (λ d. worth +ℤ neg_ℤ d *ℤ z) by
+
   pub low-holds : (z : ℤ) → z ≡ int_div_euclid worth q.divisor →
       fact_holds (values ++ z ∷ []) (low_fact vs q) ≡ true
   low-holds z e =
       low-least worth k (fact_value (values ++ z ∷ []) (low_fact vs q))
-      (with-value (linear vs q.of) (neg_ℤ q.divisor) z values fits ∙ ap (λ x. x +ℤ neg_ℤ q.divisor *ℤ z) line-worth
-      ∙ ap (λ x. worth +ℤ neg_ℤ q.divisor *ℤ x) e
-      ∙ ap (λ d. worth +ℤ neg_ℤ d *ℤ int_div_euclid worth d) by)
+      (low-value z ∙ ap (λ x. worth +ℤ neg_ℤ (divisor k) *ℤ x) (e ∙ ap (int_div_euclid worth) by))
 
   negative-worth : line_value values (negated vs (linear vs q.of)) ≡ pos 0 +ℤ negsuc 0 *ℤ worth
   negative-worth =
@@ -242,15 +245,34 @@ module _ (vs : List Variable) (values : List ℤ) (long : length values ≡ leng
   raised-worth : (l : Line) (c : ℤ) → line_value values (raised l c) ≡ line_value values l +ℤ c
   raised-worth l c = omega (arith, ints)
 
-  pub high-holds : (z : ℤ) → z ≡ int_div_euclid worth q.divisor →
-      fact_holds (values ++ z ∷ []) (high_fact vs q) ≡ true
-  high-holds z e =
+  high-value : (z : ℤ) → fact_value (values ++ z ∷ []) (high_fact vs q) ≡
+      ((pos 0 +ℤ negsuc 0 *ℤ worth) +ℤ (divisor k -ℤ pos 1)) +ℤ divisor k *ℤ z
+  high-value z =
       let l : Line = negated vs (linear vs q.of) in
       let long-negated : length l.factors ≡ length vs =
       length-plus (negsuc 0) (zeros vs) (linear vs q.of).factors ∙ length-zeros vs in
-      high-least worth k (fact_value (values ++ z ∷ []) (high_fact vs q))
-      (with-value (raised l (q.divisor -ℤ pos 1)) q.divisor z values (long ∙ sym long-negated)
+      with-value (raised l (q.divisor -ℤ pos 1)) q.divisor z values (long ∙ sym long-negated)
       ∙ ap (λ x. x +ℤ q.divisor *ℤ z) (raised-worth l (q.divisor -ℤ pos 1))
       ∙ ap (λ x. (x +ℤ (q.divisor -ℤ pos 1)) +ℤ q.divisor *ℤ z) negative-worth
-      ∙ ap (λ x. ((pos 0 +ℤ negsuc 0 *ℤ worth) +ℤ (q.divisor -ℤ pos 1)) +ℤ q.divisor *ℤ x) e
-      ∙ ap (λ d. ((pos 0 +ℤ negsuc 0 *ℤ worth) +ℤ (d -ℤ pos 1)) +ℤ d *ℤ int_div_euclid worth d) by)
+      ∙ ap (λ d. ((pos 0 +ℤ negsuc 0 *ℤ worth) +ℤ (d -ℤ pos 1)) +ℤ d *ℤ z) by
+
+  pub high-holds : (z : ℤ) → z ≡ int_div_euclid worth q.divisor →
+      fact_holds (values ++ z ∷ []) (high_fact vs q) ≡ true
+  high-holds z e =
+      high-least worth k (fact_value (values ++ z ∷ []) (high_fact vs q))
+      (high-value z ∙ ap (λ x. ((pos 0 +ℤ negsuc 0 *ℤ worth) +ℤ (divisor k -ℤ pos 1)) +ℤ divisor k *ℤ x)
+      (e ∙ ap (int_div_euclid worth) by))
+
+  least-0 : (y : ℤ) → int_le (pos 0) y ≡ true → pos 0 ≤ℤ y
+  least-0 y h = grind (arith, ints)
+
+  -- where both hold, it is worth the quotient
+  pub only-quotient : (z : ℤ) → fact_holds (values ++ z ∷ []) (low_fact vs q) ≡ true →
+      fact_holds (values ++ z ∷ []) (high_fact vs q) ≡ true → z ≡ int_div_euclid worth q.divisor
+  only-quotient z p h =
+      let low = least-0 (fact_value (values ++ z ∷ []) (low_fact vs q)) p in
+      let high = least-0 (fact_value (values ++ z ∷ []) (high_fact vs q)) h in
+      let low-is = low-value z in let high-is = high-value z in
+      let n = neg-times (divisor k) z in
+      sym (floored_is worth k z (worth -ℤ divisor k *ℤ z) (omega (arith, ints)) (omega (arith, ints, low, low-is, n))
+      (omega (arith, ints, high, high-is))) ∙ ap (int_div_euclid worth) (sym by)

@@ -28,8 +28,8 @@ use Rattle.obligations.specs.Scopes.{next_param, next_variable, with_next}
 use Rattle.obligations.specs.Settling.{term_at_step, term_at, form_at, branch_holds, added, first_ite}
 use Rattle.obligations.specs.Settling.{has_quotient, first_taken}
 use Rattle.obligations.proofs.FrameLaws.{form-grows, term-grows, number-grows}
-use Rattle.obligations.proofs.QuotientValues.{last-number, low-holds, high-holds, taken-plain, taken-worth}
-use Rattle.obligations.proofs.QuotientValues.{Plain, Worth}
+use Rattle.obligations.proofs.QuotientValues.{last-number, low-holds, high-holds, only-quotient, taken-plain}
+use Rattle.obligations.proofs.QuotientValues.{taken-worth, Plain, Worth}
 use Rattle.obligations.proofs.ScopeLaws.{length-next}
 use Rattle.obligations.proofs.SettlingLaws.{settled-holds, holds-joined, value-Param, value-AtLeast, value-Zero}
 use Rattle.obligations.proofs.TakenNames.{place-next, replaced-named}
@@ -150,6 +150,34 @@ module _ (vs : List Variable) (values : List ℤ) (long : length values ≡ leng
       (high-holds vs values long r.taken named.by named.divides replaces.choice replaces.quotient z e))
       (form ∙ form-grows vs (next_variable vs) values z f long w.names ∙ q)
 
+  added-parts : (b : Branch) (f : Fact) → branch_holds us ws (added b f) ≡ true →
+      (branch_holds us ws b ≡ true) × (fact_holds ws f ≡ true)
+  added-parts b f p =
+      let x : Branch = record { facts = f ∷ []; waiting = []; added = 0 } in
+      let whole = and_parts (branch_holds us ws b) (branch_holds us ws x) (sym (holds-joined us ws b x) ∙ p) in
+      let facts = and_parts (fact_holds ws f && true) true whole.1 in
+      (whole.0, (and_parts (fact_holds ws f) true facts.0).0)
+
+  taken-back : (c : Branch) (f : CForm) (r : Replaced) → without_quotient (next_param vs) f ≡ Some r → Waits vs f →
+      IsClosed vs c → branch_holds us ws (with_quotient vs r c) ≡ true →
+      (branch_holds vs values c && form_at vs values f) ≡ true
+  taken-back c f r h w closed p =
+      let low = low_fact vs r.taken in let high = high_fact vs r.taken in
+      let named = replaced-named vs f r h in
+      let replaces = replaces-in f (out-CForm f) refl w.choice r h in
+      let of-same = term-grows vs (next_variable vs) values z r.taken.of long (named.of w.names) in
+      let new = value-Param us ws (next_param vs) ∙ ap (number_at ws) (place-next vs)
+      ∙ last-number values z (length vs) (sym long) in
+      let all = and_parts (branch_holds us ws (added (added (one_more c) low) high)) (form_at us ws r.form)
+      (sym (settled-holds us ws r.form (added (added (one_more c) low) high) long-next) ∙ p) in
+      let one = added-parts (added (one_more c) low) high all.0 in
+      let two = added-parts (one_more c) low one.0 in
+      let e = only-quotient vs values long r.taken named.by named.divides replaces.choice replaces.quotient z two.1
+      one.1 in
+      let form = replaces.same (new ∙ e ∙ ap (λ x. int_div_euclid x r.taken.divisor) (sym of-same)) in
+      true_and _ _ (sym (branch-same c closed) ∙ two.0)
+      (sym (form-grows vs (next_variable vs) values z f long w.names) ∙ sym form ∙ all.1)
+
 -- then it holds for the value of the quotient
 pub quotient-holds : (vs : List Variable) (values : List ℤ) → length values ≡ length vs → (c : Branch) (f : CForm)
     (r : Replaced) → without_quotient (next_param vs) f ≡ Some r → Waits vs f → IsClosed vs c →
@@ -158,3 +186,10 @@ pub quotient-holds : (vs : List Variable) (values : List ℤ) → length values 
 quotient-holds vs values long c f r h w closed p q =
     let z = int_div_euclid (term_at vs values r.taken.of) r.taken.divisor in
     (z, taken-holds vs values long z c f r h w closed p q refl)
+
+-- and only then
+pub quotient-back : (vs : List Variable) (values : List ℤ) → length values ≡ length vs → (c : Branch) (f : CForm)
+    (r : Replaced) → without_quotient (next_param vs) f ≡ Some r → Waits vs f → IsClosed vs c → (z : ℤ) →
+    branch_holds (with_next vs) (values ++ z ∷ []) (with_quotient vs r c) ≡ true →
+    (branch_holds vs values c && form_at vs values f) ≡ true
+quotient-back vs values long c f r h w closed z p = taken-back vs values long z c f r h w closed p

@@ -1,7 +1,6 @@
 -- How a guided search ends.
 use Rattle.std.specs.Prelude.{◌≡◌, ℕ, ◌+◌, ℤ, true, pos, Option, Some, None, Ok, List, [], ◌∷◌, insert}
 use Rattle.std.specs.List.{list_all}
-use Rattle.std.specs.Int.RustNames.{int_le}
 use Rattle.core_terms.specs.declared.trees.CForm.{CForm}
 use Rattle.obligations.specs.declared.branches.Branch.{Branch}
 use Rattle.obligations.specs.declared.branches.Obligation.{Obligation}
@@ -34,9 +33,6 @@ Guides vs k b old new (Ended.Refuted values) = Met vs b values
 abbrev pub ClosedNow : List Variable → ℕ → Branch → Trail → Trail → Option Ended → Type 0
 ClosedNow vs k b old new None = new ≡ old
 ClosedNow vs k b old new (Some e) = Guides vs k b old new e
-
-abbrev pub IsNotNegative : ℤ → Type 0
-IsNotNegative z = int_le (pos 0) z ≡ true
 
 -- a branch with a waiting formula put in at a place
 abbrev pub with_form : Branch → ℕ → CForm → Branch

@@ -14,7 +14,7 @@ ghost use Rattle.obligations.specs.Settling.{settled, sides, added, without};
 ghost use Rattle.core_terms.specs.Values.{number_at};
 ghost use Rattle.linear_prover.specs.Chains.{Closes, is_plain_number};
 ghost use Rattle.search_tree.specs.Searching.{IsClosed, Met};
-ghost use Rattle.proof_search.specs.Guided.{Guides, ClosedNow, IsNotNegative, with_form};
+ghost use Rattle.proof_search.specs.Guided.{Guides, ClosedNow, with_form};
 
 use crate::chances::Scene;
 use crate::look::best_place;
@@ -26,7 +26,7 @@ use core_terms::CForm;
 use linear_prover::{eliminate, is_closing_sum, is_plain_chain};
 use obligations::{Branch, Fact, Node, Variable};
 use search_tree::{
-    Ended, Halves, Trail, add_above, add_at_most, cut_back, finish, is_either, put_node,
+    Ended, Halves, Trail, add_above, add_at_most, are_met, cut_back, finish, is_either, put_node,
     settle_first, settle_second, split_node,
 };
 use std::alloc::{AllocError, Global};
@@ -152,75 +152,6 @@ fn close(
     }
 }
 
-/// The value at a place, and 0 where there is none.
-fn value_at(values: &[i64], place: u32) -> i128
-    ensures { result ≡ number_at values.now place }
-{
-    match values.get(place as usize) {
-        Some(z) => *z as i128,
-        None => 0,
-    }
-}
-
-/// A sum with one product more. `None` where a number is too great.
-fn with_product(factor: &(u32, i128), values: &[i64], sum: &i128) -> Option<i128>
-    ensures { IfSome result (λ z. z ≡ factor.now.1 *ℤ number_at values.now factor.now.0 +ℤ sum.now) }
-{
-    factor
-        .1
-        .checked_mul(value_at(values, factor.0))?
-        .checked_add(*sum)
-}
-
-/// The sum of factors times values. `None` where a number is too great.
-#[tactic(auto, using(crate::proofs::ValueLaws::sum_laws))]
-fn sum_at(factors: &[(u32, i128)], values: &[i64]) -> Option<i128>
-    ensures { IfSome result (λ z. z ≡ sum_of values.now factors.now) }
-{
-    let mut sum = 0;
-    let mut left = factors.len();
-    'factors: while left > 0 {
-        left -= 1;
-        match with_product(&factors[left], values, &sum) {
-            Some(next) => sum = next,
-            None => return None,
-        }
-    }
-    Some(sum)
-}
-
-/// Whether a fact is seen to hold at values.
-fn is_met(fact: &Fact, values: &[i64]) -> bool
-    ensures { result ≡ true → fact_holds values.now fact.now ≡ true }
-{
-    match sum_at(fact.factors.as_slice(), values) {
-        Some(sum) => is_at_least(&sum, &fact.constant),
-        None => false,
-    }
-}
-
-/// Whether a sum and a constant are seen to be at least 0 together.
-fn is_at_least(sum: &i128, constant: &i128) -> bool
-    ensures { result ≡ true → IsNotNegative (sum.now +ℤ constant.now) }
-{
-    match sum.checked_add(*constant) {
-        Some(value) => 0 <= value,
-        None => false,
-    }
-}
-
-/// Whether all facts are seen to hold at values.
-fn are_met(facts: &[Fact], values: &[i64]) -> bool
-    ensures { result ≡ true → list_all (fact_holds values.now) facts.now ≡ true }
-{
-    for fact in facts {
-        if !is_met(fact, values) {
-            return false;
-        }
-    }
-    true
-}
-
 /// Values at which a branch holds: the low limits, where all facts are seen to hold there and nothing
 /// waits.
 #[tactic(auto, using(crate::proofs::ValueLaws::met_laws))]
@@ -230,6 +161,7 @@ fn met_values(
     branch: &Branch,
     watch: &Watch,
 ) -> Result<Option<Seq<i64>>, AllocError>
+    requires { branch.now.added ≡ 0 }
     ensures { IfOk result (λ o. IfSome o (Met vs.now branch.now)) }
 {
     let values = low_values(alloc, watch)?;

@@ -34,6 +34,7 @@ use Rattle.obligations.proofs.LoadLaws.{sizes-zeros, norm-load, load-Const, load
 use Rattle.obligations.proofs.NeedLaws.{need-Const, need-Add, need-Sub, need-Scale, need-Ite, need-AtLeast, need-Zero}
 use Rattle.obligations.proofs.NeedLaws.{need-Not, need-And, need-Or, settled-narrow, refused-narrow, least-load}
 use Rattle.obligations.proofs.NeedLaws.{below-load, zero-load, need-Div, need-Mod}
+use Rattle.linear_prover.specs.Chains.{is_plain_factor}
 use Rattle.search_tree.specs.Searching.{widths, is_slender}
 
 le-is : (a b : ℕ) → nat_le a b ≡ true → a ≤ b
@@ -43,13 +44,13 @@ le-true : (a b : ℕ) → a ≤ b → nat_le a b ≡ true
 le-true a b h = grind arith
 
 -- The factors of a linear form.
-abs-plus : (a b : ℤ) → unsigned_abs (a +ℤ b) ≤ unsigned_abs a + unsigned_abs b
+pub abs-plus : (a b : ℤ) → unsigned_abs (a +ℤ b) ≤ unsigned_abs a + unsigned_abs b
 abs-plus (pos a) (pos b) = omega (arith, ints)
 abs-plus (pos a) (negsuc b) = grind (arith, ints)
 abs-plus (negsuc a) (pos b) = grind (arith, ints)
 abs-plus (negsuc a) (negsuc b) = omega (arith, ints)
 
-sizes-plus : (k : ℤ) (xs ys : List ℤ) → sizes (plus k xs ys) ≤ sizes xs + unsigned_abs k * sizes ys
+pub sizes-plus : (k : ℤ) (xs ys : List ℤ) → sizes (plus k xs ys) ≤ sizes xs + unsigned_abs k * sizes ys
 sizes-plus k [] ys = omega arith
 sizes-plus k (x ∷ xs) [] = omega arith
 sizes-plus k (x ∷ xs) (y ∷ ys) =
@@ -118,10 +119,10 @@ module _ (vs : List Variable) where
       subst M (sym (rolls-Ite c.0 a.0 b.0)) (from (Ite c.0 a.0 b.0) _ _ (linear-Ite vs c.0 a.0 b.0)
       (need-Ite no_size c.0 a.0 b.0) (let z = sizes-zeros vs in omega (arith, z)))
 
-  size-width : (t : CTerm) → sizes (linear vs t).factors ≤ (term_width t).own
+  pub size-width : (t : CTerm) → sizes (linear vs t).factors ≤ (term_width t).own
   size-width t = ind-CTerm (λ f. Unit {0}) M (λ x y e. tt) (λ x y e. subst (λ z. M (roll-CTerm z)) e (size_layer y)) t
 
-widths-sparse : (n : ℕ) (zs : List ℤ) → widths (sparse n zs) ≤ sizes zs
+pub widths-sparse : (n : ℕ) (zs : List ℤ) → widths (sparse n zs) ≤ sizes zs
 widths-sparse n [] = omega arith
 widths-sparse n (z ∷ zs) = by_test (int_eq z (pos 0)) (widths-sparse (suc n) zs)
   where
@@ -130,15 +131,28 @@ widths-sparse n (z ∷ zs) = by_test (int_eq z (pos 0)) (widths-sparse (suc n) z
     by_test true h = omega (arith, h)
     by_test false h = omega (arith, h)
 
+pub plain-sparse : (n : ℕ) (zs : List ℤ) → sizes zs ≤ 2 ^ 62 → list_all is_plain_factor (sparse n zs) ≡ true
+plain-sparse n [] h = refl
+plain-sparse n (z ∷ zs) h = by_test (int_eq z (pos 0)) (plain-sparse (suc n) zs (omega (arith, h)))
+  where
+    by_test : (t : Bool) → list_all is_plain_factor (sparse (suc n) zs) ≡ true →
+        list_all is_plain_factor (cond t (sparse (suc n) zs) ((n, z) ∷ sparse (suc n) zs)) ≡ true
+    by_test true e = e
+    by_test false e =
+        ap (λ b. b && list_all is_plain_factor (sparse (suc n) zs)) (le-true (unsigned_abs z) (2 ^ 62) (omega (arith, h)))
+        ∙ e
+
 line-slender : (l : Line) → sizes l.factors ≤ 2 ^ 62 → unsigned_abs l.constant ≤ 2 ^ 63 → is_slender (fact_of l) ≡
     true
 line-slender l p q =
     let w = widths-sparse 0 l.factors in
-    ap (λ t. t && nat_le (unsigned_abs l.constant) (2 ^ 63))
-    (le-true (widths (sparse 0 l.factors)) (2 ^ 62) (omega (arith, w, p)))
-    ∙ le-true (unsigned_abs l.constant) (2 ^ 63) q
+    ap (λ t. t && (nat_le (widths (sparse 0 l.factors)) (2 ^ 63) && nat_le (unsigned_abs l.constant) (2 ^ 64)))
+    (plain-sparse 0 l.factors p)
+    ∙ ap (λ t. t && nat_le (unsigned_abs l.constant) (2 ^ 64))
+    (le-true (widths (sparse 0 l.factors)) (2 ^ 63) (omega (arith, w, p)))
+    ∙ le-true (unsigned_abs l.constant) (2 ^ 64) (omega (arith, q))
 
-constant-norm : (l : Line) → unsigned_abs l.constant ≤ norm l
+pub constant-norm : (l : Line) → unsigned_abs l.constant ≤ norm l
 constant-norm l = omega arith
 
 module _ (vs : List Variable) where

@@ -23,7 +23,7 @@ use Rattle.expand_rules.specs.declared.cores.Flaws.{Flaws}
 use Rattle.expand_rules.specs.Measures.{no_flaws}
 use Rattle.expand_rules.specs.Forming.{Scope, formed, as_truth}
 use Rattle.expand_rules.specs.Assigning.{among, stated}
-use Rattle.expand_rules.specs.Lists.{items_fault}
+use Rattle.expand_rules.specs.Lists.{flaws_fault, items_fault}
 use Rattle.expand_rules.specs.Documents.{scope_of, within}
 use Rattle.expand_rules.specs.Programs.{InitiallyExact, StatementsExact}
 use Rattle.expand_correct.specs.Values.SightLaws.{SeeSame}

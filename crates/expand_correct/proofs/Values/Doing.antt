@@ -249,7 +249,7 @@ module _ (state : List ℤ) where
             i.measure c.measure v.measure)))
             (Wrote (slot_at first (Some r) (Some k)))
         array_by first r true q n0 =
-            let n : both_flaws i.measure.flaws (both_flaws c.measure.flaws v.measure.flaws) ≡ None =
+            let n : both_flaws i.measure.flaws (both_flaws c.measure.flaws v.measure.flaws) ≡ no_flaws =
             write_range (option_and_then (λ y. slot_at first (Some r) (Some y)) (number_of (term_of i.core))) n0 in
             let one = flaws_first i.measure.flaws (both_flaws c.measure.flaws v.measure.flaws) n in
             let two = flaws_second i.measure.flaws (both_flaws c.measure.flaws v.measure.flaws) n in
@@ -266,7 +266,7 @@ module _ (state : List ℤ) where
           where
             write_range : (slot : Option ℕ) → (write_to slot (form_of c.core) (term_of v.core)
                 (both_counts (index_count i.measure) (write_count c.measure v.measure))).count.flaws ≡ no_flaws →
-                both_flaws i.measure.flaws (both_flaws c.measure.flaws v.measure.flaws) ≡ None
+                both_flaws i.measure.flaws (both_flaws c.measure.flaws v.measure.flaws) ≡ no_flaws
             write_range None y = y
             write_range (Some m) y = y
         array_by first r false q n =

@@ -501,13 +501,13 @@ component_exact (Component-F.Quantified at name range of) n s g h =
     both_true (is_fixed_range s.bound range) _ (fixed_range n s g range
     (and_left (names.is_fixed n.bounds range) inner
     h))
-    (instances_exact (λ z. of.1.made (with_number s name.text z))
+    (instances_exact (λ z. of.1 (with_number s name.text z))
     (λ z. of.2 (with_bound n name.text (Meaning.Bound name.at)) (with_number s name.text z)
     (agrees_inside n s g name.text name.at z) (and_right (names.is_fixed n.bounds range) inner h))
     nothing refl (fit_values (numbers s.bound) range))
 
 rest_exact : (n : NameScope) (s : Scope) → Agrees n s → (e : Effect) → e.exact ≡ true → (ks : List Component) →
-    list_all (λ m. m n) (map (λ k. k.0) ks) ≡ true → (all_beside e (map (λ m. m.made s) (map (λ k. k.1) ks))).exact ≡ true
+    list_all (λ m. m n) (map (λ k. k.0) ks) ≡ true → (all_beside e (map (λ m. m s) (map (λ k. k.1) ks))).exact ≡ true
 rest_exact n s g e h [] i = h
 rest_exact n s g e h (k ∷ ks) i = rest_exact n s g (beside e (k.1 s))
     (both_true e.exact (k.1 s).exact h (k.2 n s g (and_left (k.0 n) (list_all (λ m. m n) (map (λ j. j.0) ks)) i))) ks

@@ -147,19 +147,13 @@ module _ (s p : List ℤ) where
   value-negation a = value-scaled_term s p (negsuc 0) (term_of a) ∙ ap (λ v. negsuc 0 *ℤ v) (value-term_of a)
       ∙ minus_one (core_value s p a)
 
-  pub value-multiple : (a b : Core) → is_known a ≡ true →
-      term_value s p (scaled_term (factor_of a) (term_of b)) ≡ core_value s p a *ℤ core_value s p b
-  value-multiple a b h = value-scaled_term s p (factor_of a) (term_of b)
-      ∙ two (λ x y. x *ℤ y) _ _ _ _ (factor_by s p (term_of a) (number_of (term_of a)) refl (known-term_of a ∙ h)
-      ∙ value-term_of a) (value-term_of b)
-
   pub factor-known : (a : Core) → is_known a ≡ true → factor_of a ≡ term_value s p (term_of a)
   factor-known a h = factor_by s p (term_of a) (number_of (term_of a)) refl (known-term_of a ∙ h)
 
-  pub value-divided : (op : ℤ → CTerm → CTerm) (by : ℤ → ℤ → ℤ)
-      (value_op : (k : ℤ) (t : CTerm) → term_value s p (op k t) ≡ by (term_value s p t) k) (k : ℤ) (a : Core) →
-      term_value s p (op k (term_of a)) ≡ by (core_value s p a) k
-  value-divided op by value_op k a = value_op k (term_of a) ∙ ap (λ v. by v k) (value-term_of a)
+  pub value-multiple : (a b : Core) → is_known a ≡ true →
+      term_value s p (scaled_term (factor_of a) (term_of b)) ≡ core_value s p a *ℤ core_value s p b
+  value-multiple a b h = value-scaled_term s p (factor_of a) (term_of b)
+      ∙ two (λ x y. x *ℤ y) _ _ _ _ (factor-known a h ∙ value-term_of a) (value-term_of b)
 
   pub value-at_least : (a : Core) →
       truth (form_value s p (at_least_form (term_of a))) ≡ truth (int_le (pos 0) (core_value s p a))

@@ -70,7 +70,7 @@ use Rattle.expand_correct.proofs.Values.Operations.{known-conjunction, known-dis
 use Rattle.expand_correct.proofs.Values.Operations.{known-as_truth}
 use Rattle.expand_correct.proofs.Values.Operations.{holds_truth, value-term_of, value-form_of, value-sum}
 use Rattle.expand_correct.proofs.Values.Operations.{value-difference}
-use Rattle.expand_correct.proofs.Values.Operations.{value-divided, factor-known, floored_steady, rest_steady, value-negation, value-multiple, value-at_least, value-zero}
+use Rattle.expand_correct.proofs.Values.Operations.{factor-known, floored_steady, rest_steady, value-negation, value-multiple, value-at_least, value-zero}
 use Rattle.expand_correct.proofs.Values.Operations.{value-denial}
 use Rattle.expand_correct.proofs.Values.Operations.{value-conjunction, value-disjunction}
 
@@ -422,7 +422,7 @@ module _ (state params : List ℤ) where
         (number_measure b.core b.measure).flaws ≡ no_flaws → V (as_number a).core ≡ x → V (as_number b).core ≡ y →
         V (divided op weight at a b).core ≡ by x y
     divided_worth a b x y h i c n v w =
-        value-divided op by value_op state params (divisor_of (as_number b)) a.core
+        value_op (divisor_of (as_number b)) (term_of a.core)
         ∙ two by _ _ _ _ v (ap (λ (k : Flaws). cond (is_some k.divisor) (pos 1) (divisor (factor_of b.core))) n)
         ∙ steady x (factor_of b.core) ∙ ap (by x) (factor-known state params b.core (i.known c) ∙ w)
 

@@ -1,7 +1,19 @@
-use Rattle.obligations.proofs.NumberLaws.{obligation-load}
+use Rattle.std.proofs.Common.{sym, subst}
+use Rattle.obligations.specs.Obligations.{AreOwn}
+use Rattle.obligations.proofs.NumberLaws.{obligation-load, obligation-variables, obligation-own}
 use Rattle.certificate_check.proofs.MachineLaws.{first-light}
 use Rattle.certificate_check.proofs.WholeLaws.{read-refuted, read-not, read-valid}
 use Rattle.certificate_check.proofs.machine.check_cert.Goals as goal
+
+pub open_branch-requires-clause-variables : goal.open_branch-requires-clause-variables
+open_branch-requires-clause-variables c = obligation-variables c.args.o.now c.requires.obligation
+
+pub open_branch-requires-clause-load : goal.open_branch-requires-clause-load
+open_branch-requires-clause-load c = obligation-load c.args.o.now c.requires.obligation
+
+pub read-requires-clause-own : goal.read-requires-clause-own
+read-requires-clause-own c =
+    subst AreOwn (sym c.as_slice.ensures) (obligation-own c.args.o.now c.requires.obligation)
 
 pub read-requires-clause-light : goal.read-requires-clause-light
 read-requires-clause-light c =

@@ -15,7 +15,8 @@ pub leaves_of_sides-first_leaves-requires : goal.leaves_of_sides-first_leaves-re
 leaves_of_sides-first_leaves-requires t c = (
   search rules,
   (
-    c.requires.variables,
+    c.requires.own,
+    c.requires.scope,
     (
       omega arith,
       (
@@ -32,14 +33,15 @@ pub leaves_of_sides-second_leaves-requires : goal.leaves_of_sides-second_leaves-
 leaves_of_sides-second_leaves-requires t c = (
   search rules,
   (
-    c.requires.variables,
+    c.requires.own,
+    c.requires.scope,
     (
       omega arith,
       (
         ready-light c.args.vs.now (suc c.args.rest) c.args.ranges.now c.args.form.now c.args.branch.now
             c.requires.ready,
         subst (λ x. Ready c.args.vs.now c.args.rest c.args.ranges.now
-            (settled c.args.vs.now (sides c.args.form.now).1 x)) (sym c.in_ok-first.ensures.branch)
+            (settled c.args.scope.now (sides c.args.form.now).1 x)) (sym c.in_ok-first.ensures.branch)
             (ready-second c.args.vs.now c.args.rest c.args.ranges.now c.args.form.now c.args.branch.now
             c.requires.either c.requires.ready),
       ),
@@ -53,7 +55,8 @@ leaves_of_halves-low_leaves-requires t c =
     c.args.halves.at c.requires.ready c.requires.halves in (
       search rules,
       (
-        c.requires.variables,
+        c.requires.own,
+        c.requires.scope,
         (
           omega arith,
           (
@@ -71,7 +74,8 @@ leaves_of_halves-high_leaves-requires t c =
     c.args.halves.at c.requires.ready c.requires.halves in (
       search rules,
       (
-        c.requires.variables,
+        c.requires.own,
+        c.requires.scope,
         (
           omega arith,
           (
@@ -99,7 +103,8 @@ open_some_leaves-leaves_of_sides-requires t c =
     c.args.branch.now either ready in (
       search rules,
       (
-        c.requires.variables,
+        c.requires.own,
+        c.requires.scope,
         (
           omega (arith, one),
           (
@@ -123,7 +128,8 @@ open_some_leaves-leaves_of_halves-requires t c =
     c.in-Some.halves.at c.requires.ready c.in-Some.ensures in (
       search rules,
       (
-        c.requires.variables,
+        c.requires.own,
+        c.requires.scope,
         (
           omega (arith, one),
           (
@@ -144,7 +150,7 @@ open_some_leaves-returns-in_ok-insert-clause-leaves t c =
     let one = ready-deep c.args.vs.now c.args.rest c.args.ranges.now c.get-first.result.now c.remove-form.new.self
     c.args.branch.now either (subst (Ready c.args.vs.now c.args.rest c.args.ranges.now) (sym same) c.requires.ready) in
     opened-leaves c.args.vs.now c.args.rest c.args.ranges.now c.args.branch.now rest c.get-first.result.now
-    c.args.wanted c.in_ok-leaves.leaves one c.requires.reach c.requires.ready.flat either same
+    c.args.wanted c.in_ok-leaves.leaves one c.requires.reach either same
     c.in_ok-leaves.ensures.leaves
 
 pub open_some_leaves-returns-in_ok-leaves-in-Some-clause-leaves :

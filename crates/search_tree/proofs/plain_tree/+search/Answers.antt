@@ -18,7 +18,7 @@ pub refute-returns-in-Some-clause-ends : goal.refute-returns-in-Some-clause-ends
 refute-returns-in-Some-clause-ends t c =
     finished-ends c.args.vs.now c.args.rest _ c.args.branch.now c.args.trail.now c.try_close.new.trail c.in-Some.ended
     (omega arith)
-    (leaves-some c.args.vs.now c.args.rest c.args.ranges.now c.args.branch.now) c.requires.ready.flat
+    (leaves-some c.args.vs.now c.args.rest c.args.ranges.now c.args.branch.now)
     (tried-some c.args.vs.now c.args.branch.now.facts c.args.branch.now.facts c.args.trail.now c.try_close.new.trail _
     c.in_ok-ended.field-0 c.in-Some.ended refl c.in_ok-ended.ensures c.in-Some.is)
 
@@ -27,7 +27,7 @@ refute_halves-returns-then-not-branch-clause-ends t c =
     let cut = cut-is c.args.vs.now (suc c.args.rest) c.args.ranges.now c.args.branch.now c.args.halves.place
     c.args.halves.at c.requires.ready c.requires.halves in
     halves-stopped c.args.vs.now c.args.rest c.args.ranges.now c.args.halves.place c.args.halves.at c.args.branch.now
-    cut.simple (omega arith) c.requires.ready.flat c.args.trail.now c.put_node.new.trail
+    cut.simple (omega arith) c.args.trail.now c.put_node.new.trail
     (stop-is c.args.trail.now c.put_node.new.trail c.split_node.result _ c.split_node.ensures
     (not-taken _ _ c.in_ok-put_node.ensures c.if-not-branch.true))
 
@@ -37,7 +37,8 @@ refute_halves-refute_low-requires t c =
     c.args.halves.at c.requires.ready c.requires.halves in (
       search rules,
       (
-        c.requires.variables,
+        c.requires.own,
+        c.requires.scope,
         (
           omega arith,
           (
@@ -57,7 +58,8 @@ refute_halves-refute_high-requires t c =
     c.in_ok-refute_low.ensures.branch in (
       search rules,
       (
-        c.requires.variables,
+        c.requires.own,
+        c.requires.scope,
         (
           omega arith,
           (
@@ -84,7 +86,7 @@ refute_halves-returns-in_ok-ended-in-Closed-clause-ends t c =
     let inside = cut.inside in
     let put = taken _ _ c.in_ok-put_node.ensures c.if-not-branch.false in
     halves-second c.args.vs.now c.args.rest c.args.ranges.now c.args.halves.place c.args.halves.at c.args.branch.now
-    cut.simple (omega arith) c.requires.ready.flat c.args.trail.now c.put_node.new.trail c.refute_low.new.trail c.refute_high.new.trail
+    cut.simple (omega arith) c.args.trail.now c.put_node.new.trail c.refute_low.new.trail c.refute_high.new.trail
     c.in_ok-refute_low.field-0 c.in_ok-ended-in-Closed.ended c.refute_low.new.branch (omega (arith, long, inside))
     (put-is c.args.trail.now c.put_node.new.trail c.split_node.result _ c.split_node.ensures put) c.in-Closed.is
     c.in_ok-refute_low.ensures.ends
@@ -98,7 +100,7 @@ refute_halves-returns-in-Stopped-clause-ends t c =
     let inside = cut.inside in
     let put = taken _ _ c.in_ok-put_node.ensures c.if-not-branch.false in
     halves-first c.args.vs.now c.args.rest c.args.ranges.now c.args.halves.place c.args.halves.at c.args.branch.now
-    cut.simple (omega arith) c.requires.ready.flat c.args.trail.now c.put_node.new.trail c.refute_low.new.trail
+    cut.simple (omega arith) c.args.trail.now c.put_node.new.trail c.refute_low.new.trail
     c.in_ok-refute_low.field-0 (omega (arith, long, inside))
     (put-is c.args.trail.now c.put_node.new.trail c.split_node.result _ c.split_node.ensures put) c.in-Stopped.is
     c.in_ok-refute_low.ensures.ends
@@ -108,7 +110,7 @@ refute_halves-returns-in-Refuted-clause-ends t c =
     let cut = cut-is c.args.vs.now (suc c.args.rest) c.args.ranges.now c.args.branch.now c.args.halves.place
     c.args.halves.at c.requires.ready c.requires.halves in
     halves-met c.args.vs.now c.args.rest c.args.ranges.now c.args.halves.place c.args.halves.at c.args.branch.now
-    cut.simple (omega arith) c.requires.ready.flat c.put_node.new.trail c.refute_low.new.trail
+    cut.simple (omega arith) c.put_node.new.trail c.refute_low.new.trail
     c.in_ok-refute_low.field-0 c.in-Refuted.values c.in-Refuted.is c.in_ok-refute_low.ensures.ends
 
 pub refute_open-refute_sides-requires : goal.refute_open-refute_sides-requires
@@ -121,7 +123,8 @@ refute_open-refute_sides-requires t c =
     c.args.branch.now either ready in (
       search rules,
       (
-        c.requires.variables,
+        c.requires.own,
+        c.requires.scope,
         (
           omega (arith, one),
           (
@@ -145,7 +148,8 @@ refute_open-refute_halves-requires t c =
     c.in-Some.halves.at c.requires.ready c.in-Some.ensures in (
       search rules,
       (
-        c.requires.variables,
+        c.requires.own,
+        c.requires.scope,
         (
           omega (arith, one),
           (
@@ -166,7 +170,7 @@ refute_open-returns-in_ok-insert-clause-ends t c =
     let one = ready-deep c.args.vs.now c.args.rest c.args.ranges.now c.get-first.result.now c.remove-form.new.self
     c.args.branch.now either (subst (Ready c.args.vs.now c.args.rest c.args.ranges.now) (sym same) c.requires.ready) in
     opened-ends c.args.vs.now c.args.rest c.args.ranges.now c.args.branch.now rest c.get-first.result.now
-    c.args.trail.now c.refute_sides.new.trail c.in_ok-ended.ended one c.requires.reach c.requires.ready.flat either same
+    c.args.trail.now c.refute_sides.new.trail c.in_ok-ended.ended one c.requires.reach either same
     c.in_ok-ended.ensures.ends
 
 pub refute_open-returns-in_ok-ended-in-Some-clause-ends : goal.refute_open-returns-in_ok-ended-in-Some-clause-ends
@@ -188,7 +192,7 @@ refute_open-returns-in_ok-low_ends-in-None-clause-ends t c =
 pub refute_sides-returns-then-not-branch-clause-ends : goal.refute_sides-returns-then-not-branch-clause-ends
 refute_sides-returns-then-not-branch-clause-ends t c =
     sides-stopped c.args.vs.now c.args.rest c.args.ranges.now c.args.form.now c.args.branch.now (omega arith)
-    c.requires.ready.flat c.requires.either
+    c.requires.either
     c.args.trail.now c.put_node.new.trail
     (not-taken _ _ c.in_ok-put_node.ensures c.if-not-branch.true)
 
@@ -196,7 +200,8 @@ pub refute_sides-refute_first-requires : goal.refute_sides-refute_first-requires
 refute_sides-refute_first-requires t c = (
   search rules,
   (
-    c.requires.variables,
+    c.requires.own,
+    c.requires.scope,
     (
       omega arith,
       (
@@ -215,14 +220,15 @@ refute_sides-refute_second-requires t c =
     c.in_ok-refute_first.ensures.branch in (
       search rules,
       (
-        c.requires.variables,
+        c.requires.own,
+        c.requires.scope,
         (
           omega arith,
           (
             ready-light c.args.vs.now (suc c.args.rest) c.args.ranges.now c.args.form.now c.args.branch.now
                 c.requires.ready,
             subst (λ x. Ready c.args.vs.now c.args.rest c.args.ranges.now
-                (settled c.args.vs.now (sides c.args.form.now).1 x)) (sym same)
+                (settled c.args.scope.now (sides c.args.form.now).1 x)) (sym same)
                 (ready-second c.args.vs.now c.args.rest c.args.ranges.now c.args.form.now c.args.branch.now
                 c.requires.either c.requires.ready),
           ),
@@ -235,7 +241,7 @@ pub refute_sides-returns-in_ok-ended-in-Closed-clause-ends :
 refute_sides-returns-in_ok-ended-in-Closed-clause-ends t c =
     let put = taken _ _ c.in_ok-put_node.ensures c.if-not-branch.false in
     sides-second c.args.vs.now c.args.rest c.args.ranges.now c.args.form.now c.args.branch.now (omega arith)
-    c.requires.ready.flat c.requires.either
+    c.requires.either
     c.args.trail.now c.put_node.new.trail c.refute_first.new.trail c.refute_second.new.trail
     c.in_ok-refute_first.field-0 c.in_ok-ended-in-Closed.ended c.refute_first.new.branch
     (record { nodes = put.0; spare = put.1 }) c.in-Closed.is c.in_ok-refute_first.ensures.ends
@@ -245,7 +251,7 @@ pub refute_sides-returns-in-Stopped-clause-ends : goal.refute_sides-returns-in-S
 refute_sides-returns-in-Stopped-clause-ends t c =
     let put = taken _ _ c.in_ok-put_node.ensures c.if-not-branch.false in
     sides-first c.args.vs.now c.args.rest c.args.ranges.now c.args.form.now c.args.branch.now (omega arith)
-    c.requires.ready.flat c.requires.either
+    c.requires.either
     c.args.trail.now c.put_node.new.trail c.refute_first.new.trail
     c.in_ok-refute_first.field-0 (record { nodes = put.0; spare = put.1 }) c.in-Stopped.is
     c.in_ok-refute_first.ensures.ends
@@ -253,6 +259,6 @@ refute_sides-returns-in-Stopped-clause-ends t c =
 pub refute_sides-returns-in-Refuted-clause-ends : goal.refute_sides-returns-in-Refuted-clause-ends
 refute_sides-returns-in-Refuted-clause-ends t c =
     sides-met c.args.vs.now c.args.rest c.args.ranges.now c.args.form.now c.args.branch.now (omega arith)
-    c.requires.ready.flat c.requires.either
+    c.requires.either
     c.put_node.new.trail c.refute_first.new.trail
     c.in_ok-refute_first.field-0 c.in-Refuted.values c.in-Refuted.is c.in_ok-refute_first.ensures.ends
