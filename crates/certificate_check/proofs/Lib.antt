@@ -1,9 +1,5 @@
-pub mod ScopedLaws
 pub mod MachineLaws
-pub mod QuotLaws
 pub mod RefutationLaws
-pub mod ClosedLaws
-pub mod SoundLaws
 pub mod SumLaws
 pub mod WholeLaws
 pub mod IndexLaws

@@ -2,14 +2,13 @@
 
 ghost use Rattle.std.specs.Prelude.{◌≡◌, ◌+◌, ◌*◌, ◌^◌, ◌<◌, ◌≤◌, ◌||◌, max, not, nat_le, Ok, Err};
 ghost use Rattle.std.specs.Int.RustNames.{unsigned_abs};
-ghost use Rattle.expand_rules.specs.Measures.{counted};
-ghost use Rattle.expand_rules.specs.Counts as parts;
+ghost use Rattle.expand_rules.specs.Measures.{counted, nearer};
 ghost use Rattle.expand_rules.specs.Assigning as spec;
 ghost use Rattle.expand_assignments.specs.Adding.{CountsPart, one_node};
 
 use core_terms::Range;
 use expand_expressions::Refusal;
-use expand_rules::{Count, Effect, Flaws, Measure};
+use expand_rules::{Count, Effect, Measure};
 
 // A size, counted up to one past its limit.
 fn counted(size: u64) -> u64
@@ -18,30 +17,41 @@ fn counted(size: u64) -> u64
     size.min(65_537)
 }
 
+/// The lesser of two places, where there is any.
+pub fn nearer(a: Option<u64>, b: Option<u64>) -> Option<u64>
+    ensures { result ≡ nearer a b }
+{
+    match (a, b) {
+        (None, _) => b,
+        (Some(x), None) => Some(x),
+        (Some(x), Some(y)) => Some(x.min(y)),
+    }
+}
+
 /// Both counts together.
 pub fn both_counts(a: Count, b: Count) -> Count
-    ensures { result ≡ parts.both_counts a b }
+    ensures { result ≡ spec.both_counts a b }
 {
     Count {
         size: counted(a.size.saturating_add(b.size)),
         most: a.most.max(b.most),
-        flaws: a.flaws.and(b.flaws),
+        bad_range: nearer(a.bad_range, b.bad_range),
     }
 }
 
 /// One node more.
 pub fn one_node_more(count: Count) -> Count
-    ensures { result ≡ parts.one_node_more count }
+    ensures { result ≡ spec.one_node_more count }
 {
     Count {
         size: counted(count.size.saturating_add(1)),
         most: count.most,
-        flaws: count.flaws,
+        bad_range: count.bad_range,
     }
 }
 
 fn whole(m: Measure) -> u64
-    ensures { result ≡ parts.whole m }
+    ensures { result ≡ spec.whole m }
 {
     m.size.max(m.quantified)
 }
@@ -53,29 +63,29 @@ pub fn write_count(c: Measure, v: Measure) -> Count
     Count {
         size: counted(whole(c).saturating_add(whole(v))),
         most: c.most.max(v.most),
-        flaws: c.flaws.and(v.flaws),
+        bad_range: nearer(c.bad_range, v.bad_range),
     }
 }
 
 /// An index that is no part of the core.
 pub fn index_count(i: Measure) -> Count
-    ensures { result ≡ parts.index_count i }
+    ensures { result ≡ spec.index_count i }
 {
     Count {
         size: counted(i.quantified),
         most: i.most,
-        flaws: i.flaws,
+        bad_range: i.bad_range,
     }
 }
 
 /// An index where there is no array, or a condition of which there is no write.
 pub fn stray_count(i: Measure) -> Count
-    ensures { result ≡ parts.stray_count i }
+    ensures { result ≡ spec.stray_count i }
 {
     Count {
         size: counted(whole(i)),
         most: i.most,
-        flaws: i.flaws,
+        bad_range: i.bad_range,
     }
 }
 
@@ -107,18 +117,7 @@ pub fn spread_count(count: u64, ends: Range, i: Measure, c: Measure, v: Measure)
     Count {
         size: spread_nodes(count.max(1), whole(i), whole(c), whole(v)),
         most: own.max(i.most.max(c.most.max(v.most))),
-        flaws: i.flaws.and(c.flaws.and(v.flaws)),
-    }
-}
-
-/// With what fails beside it.
-pub fn flawed_count(flaws: Flaws, count: Count) -> Count
-    ensures { result ≡ parts.flawed_count flaws count }
-{
-    Count {
-        size: count.size,
-        most: count.most,
-        flaws: flaws.and(count.flaws),
+        bad_range: nearer(i.bad_range, nearer(c.bad_range, v.bad_range)),
     }
 }
 
@@ -148,7 +147,7 @@ pub fn count_one(effect: &mut Effect) -> Result<(), Refusal>
     let one = Count {
         size: 1,
         most: 0,
-        flaws: Flaws::none(),
+        bad_range: None,
     };
     count_in(one, effect)
 }

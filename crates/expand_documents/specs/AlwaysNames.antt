@@ -28,7 +28,7 @@ with_definition s d = record s { always = insert_entry bytes_eq s.always d.name.
 abbrev pub with_definitions : Scope → List Def → Scope
 with_definitions s ds = fold with_definition s ds
 
--- a definition is too large at its name, or else an end of a range or a divisor in it is bad, at the first such place
+-- a definition is too large at its name, or else an end of a range in it is, at the nearest such end
 abbrev pub definition_fault : Scope → Def → Option Fault
 definition_fault s d = element_fault d.name.at (formed d.of s ∷ [])
 

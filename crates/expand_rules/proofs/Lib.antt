@@ -1,4 +1,3 @@
-pub mod FlawLaws
 pub mod Differences
 pub mod KnownParts
 pub mod Chains

@@ -1,5 +1,4 @@
 pub mod Measures
-pub mod Counts
 pub mod Forming
 pub mod Limits
 pub mod Assigning

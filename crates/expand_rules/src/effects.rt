@@ -1,4 +1,3 @@
-use crate::cores::Flaws;
 use core_terms::{CForm, CWrite};
 use unity_base::Seq;
 
@@ -10,7 +9,8 @@ pub struct Count {
     pub size: u64,
     /// The greatest weight of a part of it.
     pub most: u64,
-    pub flaws: Flaws,
+    /// The first byte at which an end of a range is too large, in any instance.
+    pub bad_range: Option<u64>,
 }
 
 /// What an assignment becomes.

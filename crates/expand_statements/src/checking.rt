@@ -7,38 +7,38 @@ ghost use Rattle.expand_rules.specs.Lists as lists;
 ghost use Rattle.expand_expressions.specs.Places.{IsReady};
 ghost use Rattle.expand_statements.specs.Chains.{bound_inside};
 ghost use Rattle.expand_statements.specs.Standing.{standing_in};
-ghost use Rattle.expand_statements.specs.Visiting.{GivesFault, scope_among};
+ghost use Rattle.expand_statements.specs.Visiting.{GivesBadRange, scope_among};
 
 use crate::chains::Chain;
 use crate::places::check_range;
-use crate::visiting::instance_flaws;
+use crate::visiting::instance_place;
 use case_tables::Code;
+use expand_assignments::nearer;
 use expand_counting::all_instances;
 use expand_expressions::{Known, Refusal};
-use expand_rules::Flaws;
 use names_rules::NameFault;
 use std::alloc::Global;
 use unity_base::Seq;
 use unity_syntax::{Assign, Item, Items, Name};
 
-// What fails in these instances.
+// The first place of an end that is too large, in these instances.
 #[tactic(auto, using(crate::proofs::FaultLaws::fault_next, crate::proofs::FaultLaws::fault_large))]
-fn all_flaws(
+fn first_place(
     alloc: Global,
     label: &Name,
     a: &Assign,
     names: &[&Name],
     list: &[Seq<i64>],
     known: &Known,
-) -> Result<Flaws, NameFault>
+) -> Result<Option<u64>, NameFault>
     requires { IsReady known.now }
-    ensures { GivesFault result (lists.statement_fault label.now (map (λ vs. effect_of a.now
+    ensures { GivesBadRange result (lists.statement_fault label.now (map (λ vs. effect_of a.now
         (among (scope_among known.now []) (bound_inside [] (map (λ n. n.now.text) names.now) vs))) list.now)) }
 {
-    let mut flaws = Flaws::none();
+    let mut place = None;
     for values in list {
-        match instance_flaws(alloc, names, values.as_slice(), a, known) {
-            Ok(found) => flaws = flaws.and(found),
+        match instance_place(alloc, names, values.as_slice(), a, known) {
+            Ok(found) => place = nearer(place, found),
             Err(Refusal::TooLarge) => {
                 return Err(NameFault::Fault {
                     code: Code::TooLarge,
@@ -48,7 +48,7 @@ fn all_flaws(
             Err(Refusal::Memory) => return Err(NameFault::Memory),
         }
     }
-    Ok(flaws)
+    Ok(place)
 }
 
 fn check_statement(
@@ -63,15 +63,20 @@ fn check_statement(
         (map (λ b. effect_of a.now (among (scope_among known.now []) b)) (standing_in chain.now))) }
 {
     let list = all_instances(alloc, chain.ranges.as_slice())?;
-    let flaws = all_flaws(
+    match first_place(
         alloc,
         label,
         a,
         chain.names.as_slice(),
         list.as_slice(),
         known,
-    )?;
-    flaws.check()
+    )? {
+        None => Ok(()),
+        Some(at) => Err(NameFault::Fault {
+            code: Code::BadRange,
+            at,
+        }),
+    }
 }
 
 #[cycle(check)]

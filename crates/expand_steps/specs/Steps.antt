@@ -185,6 +185,11 @@ outer_scope known = record {
   bound = [];
 }
 
+-- a step, unless an end of a range is too large
+abbrev pub GivesStep : Result CStep NameFault → CStep → Option ℕ → Type 0
+GivesStep result step None = result ≡ Ok step
+GivesStep result step (Some at) = result ≡ Err (NameFault.Fault Code.BadRange at)
+
 -- a call that gives this, or stops at the first fault
 abbrev pub Yields : {X : Type 0} → Result X NameFault → X → Option Fault → Type 0
 Yields (Ok x) core fault = (x ≡ core) × (fault ≡ None)

@@ -2,7 +2,6 @@
 #![tactic(auto)]
 
 mod bound;
-mod cited;
 mod derivation;
 mod disjunctions;
 mod gathering;

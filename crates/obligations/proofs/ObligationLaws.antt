@@ -25,7 +25,6 @@ use Rattle.obligations.specs.declared.branches.Variable.{Variable}
 use Rattle.obligations.specs.declared.branches.Obligation.{Obligation}
 use Rattle.obligations.specs.LinearForms.{is_named, place_of}
 use Rattle.obligations.specs.Plain.{height_of}
-use Rattle.obligations.specs.Scopes.{next_param}
 use Rattle.obligations.specs.Variables.{has_step, part_has, term_has, form_has, numbered, occurring, variables_of}
 use Rattle.obligations.specs.Variables.{obligation_of, slot_ranges}
 use Rattle.obligations.specs.Obligations.{variable_weight, weight_of, is_within_limits, is_range, IsObligation}
@@ -120,8 +119,6 @@ module _ (n : ℕ) where
       below_term (CTerm-F.Sub a.0 b.0) (either-below _ _ _ _ a.1.slot b.1.slot)
       (either-below _ _ _ _ a.1.param b.1.param)
   term_layer (CTerm-F.Scale k a) = below_term (CTerm-F.Scale k a.0) a.1.slot a.1.param
-  term_layer (CTerm-F.Div a k) = below_term (CTerm-F.Div a.0 k) a.1.slot a.1.param
-  term_layer (CTerm-F.Mod a k) = below_term (CTerm-F.Mod a.0 k) a.1.slot a.1.param
   term_layer (CTerm-F.Ite c a b) =
       below_term (CTerm-F.Ite c.0 a.0 b.0)
       (either-below _ _ _ _ c.1.slot (either-below _ _ _ _ a.1.slot b.1.slot))
@@ -228,10 +225,6 @@ module _ (slots params others numbers : ℕ → ℕ) where
       (b.1 (λ param n e. all param n (or_right (term_has param n a.0) _ e))))
   same_term_layer (CTerm-F.Scale k a) =
       rolled_term (CTerm-F.Scale k a.0) (λ all. ap (λ z. weigh_term slots params (CTerm-F.Scale k z)) (a.1 all))
-  same_term_layer (CTerm-F.Div a k) =
-      rolled_term (CTerm-F.Div a.0 k) (λ all. ap (λ z. weigh_term slots params (CTerm-F.Div z k)) (a.1 all))
-  same_term_layer (CTerm-F.Mod a k) =
-      rolled_term (CTerm-F.Mod a.0 k) (λ all. ap (λ z. weigh_term slots params (CTerm-F.Mod z k)) (a.1 all))
   same_term_layer (CTerm-F.Ite c a b) =
       rolled_term (CTerm-F.Ite c.0 a.0 b.0) (λ all.
       ap (λ z. weigh_term slots params (CTerm-F.Ite z (W a.0) (W b.0)))
@@ -475,8 +468,8 @@ module _ (f : CForm) (ss : List CSlot) (params : List Range) (in_slots : form_sl
 
   pub is-obligation : (o : Obligation) (b d : Bool) → o ≡ made → b ≡ small → b ≡ true →
       d ≡ nat_le (height_of o) 960 → d ≡ true → All (λ (s : CSlot). s.range.lo ≤ℤ s.range.hi) ss →
-      All (λ (r : Range). r.lo ≤ℤ r.hi) params → next_param o.variables ≤ 2 ^ 31 → IsObligation o
-  is-obligation o b d q e h g k all each few = subst IsObligation (sym q) (record {
+      All (λ (r : Range). r.lo ≤ℤ r.hi) params → IsObligation o
+  is-obligation o b d q e h g k all each = subst IsObligation (sym q) (record {
     limits =
         ap (λ z. z && (nat_le (form_nodes f) 65536 && nat_le (weight_of made) (2 ^ 62)))
         (sym (g ∙ ap (λ x. nat_le (height_of x) 960) q) ∙ k)
@@ -485,5 +478,4 @@ module _ (f : CForm) (ss : List CSlot) (params : List Range) (in_slots : form_sl
     occurring = variables-occur f (slot_ranges ss) params;
     complete = λ param n e. (found-variable f (slot_ranges ss) params slots-long in_params param n e).below;
     ranges = variables-ranges f (slot_ranges ss) params (slots-ranges ss all) (params-ranges params each);
-    numbered = subst (λ (x : Obligation). next_param x.variables ≤ 2 ^ 31) q few;
   })

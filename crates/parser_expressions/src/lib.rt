@@ -12,7 +12,6 @@ mod nodes;
 mod ranges;
 mod references;
 mod stop;
-mod texts;
 
 pub use cursor::Cursor;
 pub use expressions::{condition, index, pred};

@@ -1,10 +1,7 @@
 //! The reading of proofs: their terms, their steps, and proofs whole.
 #![tactic(auto)]
 
-mod claims;
 mod forms;
-mod params;
-mod rules;
 mod steps;
 mod term_parts;
 mod terms;

@@ -1,11 +1,9 @@
 -- What a verdict says of the walk along a document's steps, and of what they claim.
-use Rattle.std.specs.Prelude.{◌≡◌, ◌≤◌, ℕ, List, length, Result, Ok, Err, All}
+use Rattle.std.specs.Prelude.{◌≡◌, ◌≤◌, ℕ, List, length, Result, Ok, Err}
 use Rattle.core_terms.specs.declared.programs.CSlot.{CSlot}
 use Rattle.core_terms.specs.declared.documents.CDocument.{CDocument}
 use Rattle.core_terms.specs.Conditions.{IsCoreDocument}
-use Rattle.obligations.specs.declared.branches.Obligation.{Obligation}
 use Rattle.obligations.specs.declared.certificates.Cert.{Cert}
-use Rattle.obligations.specs.Plain.{quotients_in}
 use Rattle.rules_table.specs.Validity.{AllValid}
 use Rattle.rules_table.specs.Walk as walk
 use Rattle.rules_table.specs.Walk.{Failure, walk_of}
@@ -66,15 +64,7 @@ IsAnswered (Ok found) = Unit {0}
 IsAnswered (Err (ScriptError.Step fault)) = Unit {0}
 IsAnswered (Err ScriptError.Memory) = ⊥
 
--- no quotient can be taken in the obligation
-abbrev pub IsWithoutQuotient : Obligation → Type 0
-IsWithoutQuotient o = quotients_in o ≡ 0
-
--- nor in any that the steps leave, up to the first that fails
-abbrev pub HasNoQuotients : CDocument → Type 0
-HasNoQuotients d = All IsWithoutQuotient (reached (reach_of d)).obligations
-
--- whatever the budget, a search may answer something of each document that has no quotients
+-- whatever the budget, a search may answer something of each document
 abbrev pub SomeFinding : Type 0
-SomeFinding = (d : CDocument) (budget : ℕ) → IsCoreDocument d → HasNoQuotients d →
+SomeFinding = (d : CDocument) (budget : ℕ) → IsCoreDocument d →
     (finding : Result Proof ScriptError) × IsAnswered finding × Finds d budget finding

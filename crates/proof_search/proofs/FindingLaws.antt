@@ -1,7 +1,8 @@
 -- What the searches find.
-use Rattle.std.proofs.Common.{◌≡◌, ℕ, ℤ, not, ◌+◌, ◌-◌, ◌*◌, ◌≤◌, ◌<◌, ◌^◌, min, true, List, []}
+use Rattle.std.proofs.Common.{◌≡◌, ℕ, ℤ, not, suc, ◌+◌, ◌-◌, ◌*◌, ◌≤◌, ◌<◌, ◌^◌, min, true, Some, Ok, List, [], ◌∷◌}
 use Rattle.std.proofs.Common.{length, arith, refl, sym, ap, subst, ◌∙◌}
 use Rattle.std.proofs.Math.Nat.{mul-le-mul_right}
+use Rattle.std.specs.List.{list_all}
 use Rattle.obligations.specs.declared.branches.Branch.{Branch}
 use Rattle.obligations.specs.declared.branches.Obligation.{Obligation}
 use Rattle.obligations.specs.declared.branches.Variable.{Variable}
@@ -13,15 +14,17 @@ use Rattle.obligations.specs.Opening.{in_ranges, first_branch}
 use Rattle.obligations.specs.Settling.{form_at}
 use Rattle.obligations.proofs.OpeningLaws.{first-holds}
 use Rattle.std.proofs.lemmas.Bool.{and_parts, not-true}
-use Rattle.obligations.specs.Plain.{ranges_of, plain_leaves, enough}
+use Rattle.obligations.specs.Plain.{ranges_of, plain_leaves, leaf_units, enough, need_of}
 use Rattle.obligations.proofs.NumberLaws.{obligation-variables, obligation-load}
+use Rattle.linear_prover.specs.Chains.{is_plain_node}
 use Rattle.search_tree.specs.declared.plain_tree.Trail.{Trail}
 use Rattle.search_tree.specs.declared.plain_tree.Ended.{Ended}
 use Rattle.search_tree.specs.declared.plain_tree.Found.{Found}
-use Rattle.search_tree.specs.Searching.{chain_units, root, Proof, Counterexample, SearchAnswers, Met}
+use Rattle.search_tree.specs.Left.{left}
+use Rattle.search_tree.specs.Searching.{root, Proof, Counterexample, SearchAnswers, found_of, Met}
 use Rattle.search_tree.proofs.ReadyLaws.{leaves-some, ready-root}
 use Rattle.search_tree.proofs.EnoughLaws.{enough-below}
-use Rattle.search_tree.proofs.RootLaws.{left-walk, left-whole, room-enough}
+use Rattle.search_tree.proofs.RootLaws.{left-walk, left-whole}
 use Rattle.proof_search.specs.Guided.{Closing, Guides, IsWholeWalk, chosen_of}
 
 pub root-light : (o : Obligation) (b : Branch) → IsObligation o → b ≡ first_branch o → is_light_branch (2 ^ 63) b ≡
@@ -55,11 +58,10 @@ proof-of o budget nodes m f h k =
 pub leaf-enough : (o : Obligation) (total : ℕ) → total ≤ length o.variables + 256 → total ≤ enough o
 leaf-enough o total k =
     let some = leaves-some o.variables 960 (ranges_of o.variables) (first_branch o) in
-    let more : 1 * chain_units o.variables ≤ plain_leaves o.variables 960 (ranges_of o.variables) (first_branch o) *
-    chain_units o.variables =
-    mul-le-mul_right (chain_units o.variables) some in
-    let room = room-enough o in
-    omega (arith, k, more, room)
+    let more : 1 * leaf_units o.variables ≤ plain_leaves o.variables 960 (ranges_of o.variables) (first_branch o) *
+    leaf_units o.variables =
+    mul-le-mul_right (leaf_units o.variables) some in
+    omega (arith, k, more)
 
 -- so are those of the leaves that were counted
 pub leaves-enough : (o : Obligation) (total wanted leaves unit : ℕ) →
@@ -67,12 +69,11 @@ pub leaves-enough : (o : Obligation) (total wanted leaves unit : ℕ) →
     unit ≡ length o.variables + 256 → total ≤ leaves * unit → total ≤ enough o
 leaves-enough o total wanted leaves unit n e k =
     let h : leaves ≤ plain_leaves o.variables 960 (ranges_of o.variables) (first_branch o) = omega (arith, n) in
-    let same : leaves * unit ≡ leaves * chain_units o.variables = ap (λ n. leaves * n) e in
-    let more : leaves * chain_units o.variables ≤
-    plain_leaves o.variables 960 (ranges_of o.variables) (first_branch o) * chain_units o.variables =
-    mul-le-mul_right (chain_units o.variables) h in
-    let room = room-enough o in
-    omega (arith, k, same, more, room)
+    let same : leaves * unit ≡ leaves * leaf_units o.variables = ap (λ n. leaves * n) e in
+    let more : leaves * leaf_units o.variables ≤
+    plain_leaves o.variables 960 (ranges_of o.variables) (first_branch o) * leaf_units o.variables =
+    mul-le-mul_right (leaf_units o.variables) h in
+    omega (arith, k, same, more)
 
 pub ruleset enough_laws = (obligation-variables, leaf-enough, leaves-enough)
 

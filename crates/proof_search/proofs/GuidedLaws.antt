@@ -1,6 +1,6 @@
 -- What a guided search keeps.
-use Rattle.std.proofs.Common.{◌≡◌, ℕ, zero, suc, ◌+◌, ◌-◌, ◌≤◌, ◌<◌, ◌^◌, ◌&&◌, ◌||◌, ℤ, pos, ◌+ℤ◌, Bool}
-use Rattle.std.proofs.Common.{true, false, cond, IsTrue, rules, Some, List, [], ◌∷◌, ◌++◌, length, remove}
+use Rattle.std.proofs.Common.{◌≡◌, ℕ, zero, suc, ◌+◌, ◌-◌, ◌≤◌, ◌<◌, ◌^◌, ◌&&◌, ◌||◌, nat_le, ℤ, pos, ◌+ℤ◌, Bool}
+use Rattle.std.proofs.Common.{true, false, IsTrue, rules, Option, Some, None, List, [], ◌∷◌, ◌++◌, length, remove}
 use Rattle.std.proofs.Common.{insert, slice_get, arith, refl, sym, ap, subst, ◌∙◌}
 use Rattle.std.specs.List.{list_all}
 use Rattle.std.proofs.lemmas.List.Folds.{list_all-append}
@@ -17,10 +17,7 @@ use Rattle.obligations.specs.Settling.{settled, sides, added, without, form_at, 
 use Rattle.obligations.proofs.NeedLaws.{settled-light}
 use Rattle.obligations.proofs.SettlingLaws.{settled-holds}
 use Rattle.obligations.proofs.LightLaws.{first-side, second-side, remove-light}
-use Rattle.case_tables.specs.declared.code_table.Code.{Code}
-use Rattle.obligations.specs.Plain.{waiting_only}
-use Rattle.obligations.specs.Quotients.{is_either}
-use Rattle.certificate_check.specs.Refutation.{OpenBranch, fails, opens, made_case, made, allowing}
+use Rattle.certificate_check.specs.Refutation.{OpenBranch, opens, made_case, made, allowing}
 use Rattle.certificate_check.proofs.RefutationLaws.{side_in, holds-without}
 use Rattle.linear_prover.specs.Chains.{Closes, is_plain_node, is_plain_number}
 use Rattle.search_tree.specs.declared.plain_tree.Trail.{Trail}
@@ -30,26 +27,26 @@ use Rattle.search_tree.specs.Searching.{levels_of, Met, Finishes, IsClosed}
 use Rattle.search_tree.proofs.SearchLaws.{undone, units-append, left-append, made-level, chain-closes}
 use Rattle.search_tree.proofs.ReadyLaws.{added-met, split-opens}
 use Rattle.search_tree.proofs.CycleLaws.{kept, Put}
-use Rattle.proof_search.specs.Guided.{Closing, Guides, with_form}
+use Rattle.proof_search.specs.Guided.{Closing, Guides, ClosedNow, with_form}
 
 -- a chain that was added, or not, ends a branch
 pub chain-guides : (vs : List Variable) (k : ℕ) (b : Branch) (ns : List Node) (old new : Trail) (e : Ended) → k ≤ 960
-    → b.added ≡ 0 →
+    →
     Closes (length vs) b.facts ns → length ns ≤ 64 → list_all is_plain_node ns ≡ true → Finishes ns old new e → Guides
     vs k b old new e
-chain-guides vs k b ns old new Ended.Closed h flat c l p f =
+chain-guides vs k b ns old new Ended.Closed h c l p f =
     let u : units new.nodes ≡ units old.nodes + units ns = ap units f.0 ∙ units-append old.nodes ns in
     let s = f.1 in
     record {
       closes = λ first ps g. ap (left vs (Some first)) f.0 ∙ left-append vs (Some first) old.nodes ns ∙ ap
           (λ r. left vs r ns) g
-          ∙ chain-closes vs ns (levels_of k) b ps c (omega arith) flat;
+          ∙ chain-closes vs ns (levels_of k) b ps c (omega arith);
       plain = λ g. ap (list_all is_plain_node) f.0 ∙ list_all-append is_plain_node old.nodes ns ∙ ap
           (λ t. t && list_all is_plain_node ns) g ∙ p;
       spent = omega (arith, u, s);
     }
-chain-guides vs k b ns old new Ended.Stopped h flat c l p f = tt
-chain-guides vs k b ns old new (Ended.Refuted values) h flat c l p f = absurd f
+chain-guides vs k b ns old new Ended.Stopped h c l p f = tt
+chain-guides vs k b ns old new (Ended.Refuted values) h c l p f = absurd f
 
 pub ruleset chain_laws = chain-guides
 
@@ -110,17 +107,15 @@ insert-remove (y ∷ xs) zero x e = let s : y ≡ x = cc in first xs x ∙ ap (�
 insert-remove (y ∷ xs) (suc n) x e = ap (λ z. y ∷ z) (insert-remove xs n x e)
 
 module _ (vs : List Variable) (k place : ℕ) (f : CForm) (b : Branch) (inside : place ≤ length b.waiting)
-    (deep : suc k ≤ 960) (flat : b.added ≡ 0) (either : is_either f ≡ true) where
+    (deep : suc k ≤ 960) where
   out-again : without (with_form b place f) place ≡ b
-  out-again = ap (waiting_only b) (remove-insert b.waiting place f inside)
+  out-again = ap (λ ws. record { facts = b.facts; waiting = ws }) (remove-insert b.waiting place f inside)
 
   case-opens : made vs (allowing (levels_of (suc k)) (with_form b place f)) (Node.Case (suc place)) ≡ opens
       (settled vs (sides f).0 b ∷ settled vs (sides f).1 b ∷ [])
   case-opens =
-      made-level vs (levels_of (suc k)) (with_form b place f) (Node.Case (suc place)) (omega arith) flat
+      made-level vs (levels_of (suc k)) (with_form b place f) (Node.Case (suc place)) (omega arith)
       ∙ ap (made_case vs (with_form b place f) place) (get-insert b.waiting place f inside)
-      ∙ ap (λ t. cond t (opens (settled vs (sides f).0 (without (with_form b place f) place) ∷
-      settled vs (sides f).1 (without (with_form b place f) place) ∷ [])) (fails Code.NothingToCase)) either
       ∙ ap (λ c. opens (settled vs (sides f).0 c ∷ settled vs (sides f).1 c ∷ [])) out-again
 
   or-left : (a b : Bool) → a ≡ true → (a || b) ≡ true
@@ -167,7 +162,7 @@ module _ (vs : List Variable) (k place : ℕ) (f : CForm) (b : Branch) (inside :
   sides-met y z e values q r = first-met values (subst (Guides vs k (settled vs (sides f).0 b) y z) q r)
 
 module _ (vs : List Variable) (k place : ℕ) (at : ℤ) (b : Branch) (inside : place < length vs)
-    (simple : is_plain_number at ≡ true) (deep : suc k ≤ 960) (flat : b.added ≡ 0) where
+    (simple : is_plain_number at ≡ true) (deep : suc k ≤ 960) where
   pub halves-guided : (x y z w : Trail) (e d : Ended) (c : Branch) → Put x y (Node.Split (place + 1) at) → e ≡
       Ended.Closed →
       Guides vs k (added b (at_most place at)) y z e → (IsClosed e → c ≡ b) → Guides vs k
@@ -176,7 +171,7 @@ module _ (vs : List Variable) (k place : ℕ) (at : ℤ) (b : Branch) (inside : 
   halves-guided x y z w e d c put q r s u =
       both-guided vs k b (added b (at_most place at)) (added b (at_least place (at +ℤ pos 1)))
       (Node.Split (place + 1) at) refl simple deep
-      (split-opens vs k b place at deep inside flat) x y z w e d put q r (added-met vs b (at_least place (at +ℤ pos 1)))
+      (split-opens vs k b place at deep inside) x y z w e d put q r (added-met vs b (at_least place (at +ℤ pos 1)))
       (subst (λ o. Guides vs k (added o (at_least place (at +ℤ pos 1))) z w d) (kept e c b q s) u)
 
   pub halves-met : (y z : Trail) (e : Ended) (values : List ℤ) → e ≡ Ended.Refuted values →
@@ -219,8 +214,8 @@ pub removed-light : (b : Branch) (n : ℕ) → is_light_branch (2 ^ 63) b ≡ tr
 removed-light b n l = remove-light (is_light (2 ^ 63)) n b.waiting l
 
 pub taken-out : (b : Branch) (n : ℕ) (f : CForm) → slice_get b.waiting n ≡ Some f →
-    with_form (waiting_only b (remove b.waiting n)) n f ≡ b
-taken-out b n f e = ap (waiting_only b) (insert-remove b.waiting n f e)
+    with_form (record { facts = b.facts; waiting = remove b.waiting n }) n f ≡ b
+taken-out b n f e = ap (λ ws. record { facts = b.facts; waiting = ws }) (insert-remove b.waiting n f e)
 
 pub is-true : (b : Bool) → IsTrue b → b ≡ true
 is-true true h = refl
@@ -228,9 +223,10 @@ is-true false h = absurd (search (rules, h))
 
 -- the branch whose formula was put back
 pub put-back : (b c d : Branch) (n : ℕ) (f : CForm) (e : Ended) → slice_get b.waiting n ≡ Some f →
-    (IsClosed e → c ≡ waiting_only b (remove b.waiting n)) → d ≡ with_form c n f → IsClosed e → d ≡ b
+    (IsClosed e → c ≡ record { facts = b.facts; waiting = remove b.waiting n }) →
+    d ≡ record { facts = c.facts; waiting = insert c.waiting n f } → IsClosed e → d ≡ b
 put-back b c d n f e g k p i =
-    p ∙ ap (λ (x : Branch). with_form x n f) (k i) ∙ taken-out b n f g
+    p ∙ ap (λ (x : Branch). record { facts = x.facts; waiting = insert x.waiting n f }) (k i) ∙ taken-out b n f g
 
 pub room-left : {A : Type 0} (xs ys : List A) (n : ℕ) → n < length xs → ys ≡ remove xs n → n ≤ length ys
 room-left xs ys n h e = let k = one-less xs n h in let s = ap length e in omega (arith, h, k, s)
@@ -242,5 +238,5 @@ room-left xs ys n h e = let k = one-less xs n h in let s = ap length e in omega 
 
 pub left-light : (b : Branch) (ws : List CForm) (n : ℕ) → ws ≡ remove b.waiting n → is_light_branch (2 ^ 63) b ≡ true
     →
-    is_light_branch (2 ^ 63) (waiting_only b ws) ≡ true
+    is_light_branch (2 ^ 63) (record { facts = b.facts; waiting = ws }) ≡ true
 left-light b ws n e l = ap (list_all (is_light (2 ^ 63))) e ∙ removed-light b n l

@@ -1,28 +1,34 @@
 -- Facts at values.
-use Rattle.std.proofs.Common.{◌≡◌, ℤ, true, ◌&&◌, List, [], ◌∷◌, ◌++◌, length, refl, sym, ap, ◌∙◌}
+use Rattle.std.proofs.Common.{◌≡◌, ℕ, zero, suc, ◌+◌, ◌-◌, ◌≤◌, ◌<◌, ℤ, pos, ◌+ℤ◌, ◌*ℤ◌, Bool, true, ◌&&◌, List, []}
+use Rattle.std.proofs.Common.{◌∷◌, drop, length, get_or, arith, refl, sym, ap, subst, ◌∙◌}
+use Rattle.std.proofs.Math.Seq.{drop-cons}
 use Rattle.std.specs.List.{list_all}
+use Rattle.core_terms.specs.Values.{number_at}
 use Rattle.obligations.specs.declared.branches.Branch.{Branch}
 use Rattle.obligations.specs.declared.branches.Variable.{Variable}
-use Rattle.obligations.specs.LinearForms.{fact_holds}
-use Rattle.obligations.specs.Scopes.{scope_of}
-use Rattle.obligations.specs.Settling.{form_at, branch_holds}
+use Rattle.obligations.specs.LinearForms.{sum_of, fact_holds}
+use Rattle.obligations.specs.Settling.{form_at}
 use Rattle.search_tree.specs.Searching.{Met}
 
-append-none : (xs : List ℤ) → xs ++ [] ≡ xs
-append-none [] = refl
-append-none (x ∷ xs) = ap (λ z. x ∷ z) (append-none xs)
+pub sum-next : (values : List ℤ) (fs : List (ℕ × ℤ)) (left : ℕ) (d : ℕ × ℤ) (sum next : ℤ) → 0 < left → left ≤ length
+    fs →
+    sum ≡ sum_of values (drop left fs) → next ≡ (get_or fs (left - 1) d).1 *ℤ number_at values
+    (get_or fs (left - 1) d).0 +ℤ sum →
+    next ≡ sum_of values (drop (left - 1) fs)
+sum-next values fs left d sum next h k e n =
+    let one : suc (left - 1) ≡ left = omega arith in
+    let f : ℕ × ℤ = get_or fs (left - 1) d in
+    n ∙ ap (λ z. f.1 *ℤ number_at values f.0 +ℤ z) e ∙ ap (λ m. f.1 *ℤ number_at values f.0 +ℤ sum_of values
+    (drop m fs)) (sym one)
+    ∙ sym (ap (sum_of values) (drop-cons fs (left - 1) d (omega arith)))
 
-pub met-here : (vs : List Variable) (b : Branch) (values : List ℤ) → b.added ≡ 0 → b.waiting ≡ [] →
-    length values ≡ length vs → list_all (fact_holds values) b.facts ≡ true → Met vs b values
-met-here vs b values flat w l h = record {
+pub ruleset sum_laws = sum-next
+
+pub met-here : (vs : List Variable) (b : Branch) (values : List ℤ) → b.waiting ≡ [] → length values ≡ length vs →
+    list_all (fact_holds values) b.facts ≡ true → Met vs b values
+met-here vs b values w l h = record {
   long = l;
-  holds = (
-    [],
-    sym flat,
-    ap (λ z. branch_holds (scope_of vs b) z b) (append-none values)
-        ∙ ap (λ t. t && list_all (form_at (scope_of vs b) values) b.waiting) h
-        ∙ ap (list_all (form_at (scope_of vs b) values)) w,
-  );
+  holds = ap (λ t. t && list_all (form_at vs values) b.waiting) h ∙ ap (list_all (form_at vs values)) w;
 }
 
 pub ruleset met_laws = met-here

@@ -1,11 +1,13 @@
 -- How a guided search ends.
-use Rattle.std.specs.Prelude.{◌≡◌, ℕ, ◌+◌, ℤ, true, pos, Option, Some, None, Ok, List, [], ◌∷◌, insert}
+use Rattle.std.specs.Prelude.{◌≡◌, ℕ, ◌+◌, ◌≤◌, ℤ, true, pos, Option, Some, None, Ok, List, [], ◌∷◌, insert, length}
 use Rattle.std.specs.List.{list_all}
+use Rattle.std.specs.Int.RustNames.{int_le}
 use Rattle.core_terms.specs.declared.trees.CForm.{CForm}
 use Rattle.obligations.specs.declared.branches.Branch.{Branch}
 use Rattle.obligations.specs.declared.branches.Obligation.{Obligation}
 use Rattle.obligations.specs.declared.branches.Variable.{Variable}
 use Rattle.obligations.specs.Certificates.{units}
+use Rattle.obligations.specs.Opening.{first_branch}
 use Rattle.certificate_check.specs.Refutation.{OpenBranch, allowing, walk_from_root}
 use Rattle.certificate_check.specs.Trees.{is_whole}
 use Rattle.linear_prover.specs.Chains.{is_plain_node}
@@ -34,9 +36,12 @@ abbrev pub ClosedNow : List Variable → ℕ → Branch → Trail → Trail → 
 ClosedNow vs k b old new None = new ≡ old
 ClosedNow vs k b old new (Some e) = Guides vs k b old new e
 
+abbrev pub IsNotNegative : ℤ → Type 0
+IsNotNegative z = int_le (pos 0) z ≡ true
+
 -- a branch with a waiting formula put in at a place
 abbrev pub with_form : Branch → ℕ → CForm → Branch
-with_form b n f = record { facts = b.facts; waiting = insert b.waiting n f; added = b.added }
+with_form b n f = record { facts = b.facts; waiting = insert b.waiting n f }
 
 -- nodes that a walk takes to its end
 pub record IsWholeWalk (o : Obligation) (nodes : List Node) : Type 0 where

@@ -28,7 +28,6 @@ fn guide_branch(
 ) -> Result<Ended, AllocError>
     requires variables { AreVariables vs.now }
     requires light { is_light_branch (2 ^ 63) branch.old ≡ true }
-    requires flat { branch.old.added ≡ 0 }
     ensures { IfOk result (Guides vs.now 960 branch.old trail.old trail.new) }
 {
     let mut watch = new_watch(alloc, vs.len())?;

@@ -9,12 +9,11 @@ ghost use Rattle.obligations.specs.LinearForms.{sum_of, fact_holds};
 ghost use Rattle.obligations.specs.Load.{need, is_light_branch};
 ghost use Rattle.obligations.specs.Obligations.{AreVariables, IsObligation};
 ghost use Rattle.obligations.specs.Opening.{at_most, at_least, first_branch};
-ghost use Rattle.obligations.specs.Quotients.{is_either};
 ghost use Rattle.obligations.specs.Settling.{settled, sides, added, without};
 ghost use Rattle.core_terms.specs.Values.{number_at};
 ghost use Rattle.linear_prover.specs.Chains.{Closes, is_plain_number};
 ghost use Rattle.search_tree.specs.Searching.{IsClosed, Met};
-ghost use Rattle.proof_search.specs.Guided.{Guides, ClosedNow, with_form};
+ghost use Rattle.proof_search.specs.Guided.{Guides, ClosedNow, IsNotNegative, with_form};
 
 use crate::chances::Scene;
 use crate::look::best_place;
@@ -26,8 +25,8 @@ use core_terms::CForm;
 use linear_prover::{eliminate, is_closing_sum, is_plain_chain};
 use obligations::{Branch, Fact, Node, Variable};
 use search_tree::{
-    Ended, Halves, Trail, add_above, add_at_most, are_met, cut_back, finish, is_either, put_node,
-    settle_first, settle_second, split_node,
+    Ended, Halves, Trail, add_above, add_at_most, cut_back, finish, put_node, settle_first,
+    settle_second, split_node,
 };
 use std::alloc::{AllocError, Global};
 use unity_base::Seq;
@@ -137,7 +136,6 @@ fn close(
 ) -> Result<Option<Ended>, AllocError>
     requires variables { AreVariables vs.now }
     requires rest { rest ≤ 960 }
-    requires flat { branch.now.added ≡ 0 }
     ensures { IfOk result (ClosedNow vs.now rest branch.now trail.old trail.new) }
 {
     match chain_of(alloc, vs, branch, watch)? {
@@ -152,6 +150,75 @@ fn close(
     }
 }
 
+/// The value at a place, and 0 where there is none.
+fn value_at(values: &[i64], place: u32) -> i128
+    ensures { result ≡ number_at values.now place }
+{
+    match values.get(place as usize) {
+        Some(z) => *z as i128,
+        None => 0,
+    }
+}
+
+/// A sum with one product more. `None` where a number is too great.
+fn with_product(factor: &(u32, i128), values: &[i64], sum: &i128) -> Option<i128>
+    ensures { IfSome result (λ z. z ≡ factor.now.1 *ℤ number_at values.now factor.now.0 +ℤ sum.now) }
+{
+    factor
+        .1
+        .checked_mul(value_at(values, factor.0))?
+        .checked_add(*sum)
+}
+
+/// The sum of factors times values. `None` where a number is too great.
+#[tactic(auto, using(crate::proofs::ValueLaws::sum_laws))]
+fn sum_at(factors: &[(u32, i128)], values: &[i64]) -> Option<i128>
+    ensures { IfSome result (λ z. z ≡ sum_of values.now factors.now) }
+{
+    let mut sum = 0;
+    let mut left = factors.len();
+    'factors: while left > 0 {
+        left -= 1;
+        match with_product(&factors[left], values, &sum) {
+            Some(next) => sum = next,
+            None => return None,
+        }
+    }
+    Some(sum)
+}
+
+/// Whether a fact is seen to hold at values.
+fn is_met(fact: &Fact, values: &[i64]) -> bool
+    ensures { result ≡ true → fact_holds values.now fact.now ≡ true }
+{
+    match sum_at(fact.factors.as_slice(), values) {
+        Some(sum) => is_at_least(&sum, &fact.constant),
+        None => false,
+    }
+}
+
+/// Whether a sum and a constant are seen to be at least 0 together.
+fn is_at_least(sum: &i128, constant: &i128) -> bool
+    ensures { result ≡ true → IsNotNegative (sum.now +ℤ constant.now) }
+{
+    match sum.checked_add(*constant) {
+        Some(value) => 0 <= value,
+        None => false,
+    }
+}
+
+/// Whether all facts are seen to hold at values.
+fn are_met(facts: &[Fact], values: &[i64]) -> bool
+    ensures { result ≡ true → list_all (fact_holds values.now) facts.now ≡ true }
+{
+    for fact in facts {
+        if !is_met(fact, values) {
+            return false;
+        }
+    }
+    true
+}
+
 /// Values at which a branch holds: the low limits, where all facts are seen to hold there and nothing
 /// waits.
 #[tactic(auto, using(crate::proofs::ValueLaws::met_laws))]
@@ -161,7 +228,6 @@ fn met_values(
     branch: &Branch,
     watch: &Watch,
 ) -> Result<Option<Seq<i64>>, AllocError>
-    requires { branch.now.added ≡ 0 }
     ensures { IfOk result (λ o. IfSome o (Met vs.now branch.now)) }
 {
     let values = low_values(alloc, watch)?;
@@ -213,7 +279,6 @@ fn guide_first(
     requires rest { rest ≤ 960 }
     requires form { (need form.now).yes ≤ 2 ^ 63 }
     requires light { is_light_branch (2 ^ 63) (settled vs.now (sides form.now).0 branch.old) ≡ true }
-    requires flat { branch.old.added ≡ 0 }
     ensures ends { IfOk result (Guides vs.now rest (settled vs.now (sides form.now).0 branch.old) trail.old trail.new) }
     ensures branch { IfOk result (λ e. IsClosed e → branch.new ≡ branch.old) }
 {
@@ -243,7 +308,6 @@ fn guide_second(
     requires rest { rest ≤ 960 }
     requires form { (need form.now).yes ≤ 2 ^ 63 }
     requires light { is_light_branch (2 ^ 63) (settled vs.now (sides form.now).1 branch.old) ≡ true }
-    requires flat { branch.old.added ≡ 0 }
     ensures ends { IfOk result (Guides vs.now rest (settled vs.now (sides form.now).1 branch.old) trail.old trail.new) }
     ensures branch { IfOk result (λ e. IsClosed e → branch.new ≡ branch.old) }
 {
@@ -282,9 +346,7 @@ fn guide_sides(
     requires place { place ≤ length branch.old.waiting }
     requires room { place < 2 ^ 62 }
     requires form { (need form.now).yes ≤ 2 ^ 63 }
-    requires either { is_either form.now ≡ true }
     requires light { is_light_branch (2 ^ 63) branch.old ≡ true }
-    requires flat { branch.old.added ≡ 0 }
     ensures ends { IfOk result (Guides vs.now (suc rest) (with_form branch.old place form.now) trail.old trail.new) }
     ensures branch { IfOk result (λ e. IsClosed e → branch.new ≡ branch.old) }
 {
@@ -301,7 +363,7 @@ fn guide_sides(
     }
 }
 
-/// Refutes a branch by the two sides of the waiting formula at a place. Gives up where it is no `Or`.
+/// Refutes a branch by the two sides of the waiting formula at a place.
 #[cycle(guided)]
 fn guide_case(
     alloc: Global,
@@ -315,7 +377,6 @@ fn guide_case(
     requires variables { AreVariables vs.now }
     requires rest { rest < 960 }
     requires light { is_light_branch (2 ^ 63) branch.old ≡ true }
-    requires flat { branch.old.added ≡ 0 }
     ensures ends { IfOk result (Guides vs.now (suc rest) branch.old trail.old trail.new) }
     ensures branch { IfOk result (λ e. IsClosed e → branch.new ≡ branch.old) }
 {
@@ -323,11 +384,7 @@ fn guide_case(
         return Ok(Ended::Stopped);
     }
     let form = branch.waiting.remove(place);
-    let taken = form.get();
-    if !is_either(taken) {
-        return Ok(Ended::Stopped);
-    }
-    let ended = guide_sides(alloc, vs, rest, place, taken, watch, branch, trail)?;
+    let ended = guide_sides(alloc, vs, rest, place, form.get(), watch, branch, trail)?;
     if branch.waiting.len() < place {
         return Ok(Ended::Stopped);
     }
@@ -350,7 +407,6 @@ fn guide_low(
     requires variables { AreVariables vs.now }
     requires rest { rest ≤ 960 }
     requires light { is_light_branch (2 ^ 63) branch.old ≡ true }
-    requires flat { branch.old.added ≡ 0 }
     ensures ends { IfOk result (Guides vs.now rest (added branch.old (at_most halves.place halves.at)) trail.old
         trail.new) }
     ensures branch { IfOk result (λ e. IsClosed e → branch.new ≡ branch.old) }
@@ -380,7 +436,6 @@ fn guide_high(
     requires variables { AreVariables vs.now }
     requires rest { rest ≤ 960 }
     requires light { is_light_branch (2 ^ 63) branch.old ≡ true }
-    requires flat { branch.old.added ≡ 0 }
     ensures ends { IfOk result (Guides vs.now rest (added branch.old (at_least halves.place (halves.at +ℤ pos 1)))
         trail.old trail.new) }
     ensures branch { IfOk result (λ e. IsClosed e → branch.new ≡ branch.old) }
@@ -411,7 +466,6 @@ fn guide_halves(
     requires place { halves.place < length vs.now }
     requires number { IsTrue (is_plain_number halves.at) }
     requires light { is_light_branch (2 ^ 63) branch.old ≡ true }
-    requires flat { branch.old.added ≡ 0 }
     ensures ends { IfOk result (Guides vs.now (suc rest) branch.old trail.old trail.new) }
     ensures branch { IfOk result (λ e. IsClosed e → branch.new ≡ branch.old) }
 {
@@ -441,7 +495,6 @@ fn guide_settled(
     requires variables { AreVariables vs.now }
     requires rest { rest < 960 }
     requires light { is_light_branch (2 ^ 63) branch.old ≡ true }
-    requires flat { branch.old.added ≡ 0 }
     ensures ends { IfOk result (Guides vs.now (suc rest) branch.old trail.old trail.new) }
     ensures branch { IfOk result (λ e. IsClosed e → branch.new ≡ branch.old) }
 {
@@ -479,7 +532,6 @@ fn guide_open(
     requires variables { AreVariables vs.now }
     requires rest { rest < 960 }
     requires light { is_light_branch (2 ^ 63) branch.old ≡ true }
-    requires flat { branch.old.added ≡ 0 }
     ensures ends { IfOk result (Guides vs.now (suc rest) branch.old trail.old trail.new) }
     ensures branch { IfOk result (λ e. IsClosed e → branch.new ≡ branch.old) }
 {
@@ -506,7 +558,6 @@ pub fn guide(
     requires variables { AreVariables vs.now }
     requires rest { rest ≤ 960 }
     requires light { is_light_branch (2 ^ 63) branch.old ≡ true }
-    requires flat { branch.old.added ≡ 0 }
     ensures ends { IfOk result (Guides vs.now rest branch.old trail.old trail.new) }
     ensures branch { IfOk result (λ e. IsClosed e → branch.new ≡ branch.old) }
 {

@@ -16,8 +16,6 @@ fn has_choice(t: &CTerm) -> bool {
         CTerm::Add(a, b) => has_choice(a.get()) || has_choice(b.get()),
         CTerm::Sub(a, b) => has_choice(a.get()) || has_choice(b.get()),
         CTerm::Scale(_, a) => has_choice(a.get()),
-        CTerm::Div(a, _) => has_choice(a.get()),
-        CTerm::Mod(a, _) => has_choice(a.get()),
         CTerm::Ite(..) => true,
         _ => false,
     }

@@ -30,8 +30,6 @@ slot_counts = record {
   sum = λ a b. refl;
   difference = λ a b. refl;
   multiple = λ k a. refl;
-  quotient = λ k a. refl;
-  remainder = λ k a. refl;
   choice = λ c a b. refl;
 }
 
@@ -41,8 +39,6 @@ param_counts = record {
   sum = λ a b. refl;
   difference = λ a b. refl;
   multiple = λ k a. refl;
-  quotient = λ k a. refl;
-  remainder = λ k a. refl;
   choice = λ c a b. refl;
 }
 

@@ -1,6 +1,6 @@
 -- The steps of the search, as the code meets them.
 use Rattle.std.proofs.Common.{◌≡◌, ℕ, suc, ◌+◌, ◌-◌, ◌≤◌, ◌<◌, ℤ, pos, ◌+ℤ◌, Bool, true, false, Option, Some, None}
-use Rattle.std.proofs.Common.{List, [], ◌∷◌, ◌++◌, length, remove, slice_get, MatchBool, MatchOption, arith}
+use Rattle.std.proofs.Common.{List, [], ◌∷◌, ◌++◌, length, remove, insert, slice_get, MatchBool, MatchOption, arith}
 use Rattle.std.proofs.Common.{refl, sym, ap, subst, ◌∙◌}
 use Rattle.obligations.specs.declared.branches.Branch.{Branch}
 use Rattle.obligations.specs.declared.branches.Fact.{Fact}
@@ -16,21 +16,12 @@ use Rattle.search_tree.specs.declared.plain_tree.Ended.{Ended}
 use Rattle.obligations.specs.Reach.{some_out_of_reach}
 use Rattle.obligations.specs.Certificates.{node_units}
 use Rattle.obligations.specs.Plain.{first_cut, with_high, with_low, waiting_only, plain_leaves, open_leaves}
-use Rattle.obligations.specs.Plain.{cut_leaves, side_leaves, quot_leaves}
-use Rattle.obligations.specs.Quotients.{is_either, without_quotient, with_quotient, low_fact, high_fact, one_more}
-use Rattle.obligations.specs.Closed as names
-use Rattle.obligations.specs.Closed.{Waits}
-use Rattle.obligations.specs.Scopes.{next_param, scope_of, with_next}
-use Rattle.obligations.specs.Shapes.{shapes, quotients_of}
-use Rattle.obligations.specs.declared.branches.Replaced.{Replaced}
-use Rattle.search_tree.specs.Searching.{Met, Ends, BudgetEnded, TriedShortly, IsClosed, quotients_at}
+use Rattle.obligations.specs.Plain.{cut_leaves}
+use Rattle.search_tree.specs.Searching.{Met, Ends, BudgetEnded, Tried, IsClosed}
 use Rattle.linear_prover.specs.Chains.{is_plain_number}
-use Rattle.search_tree.proofs.TreeLaws.{node-stopped, first-stopped, second-ends, quot-ends}
-use Rattle.search_tree.proofs.MetLaws.{first-met, second-met, added-met, quot-met}
-use Rattle.search_tree.proofs.ShapeLaws.{More, settled-more, side-shapes, quotients-append}
-use Rattle.search_tree.proofs.QuotientShapes.{without-less}
-use Rattle.search_tree.proofs.ReadyLaws.{leaves-some, unreached-leaves, case-opens, split-opens, quot-opens}
-use Rattle.search_tree.proofs.ReadyLaws.{either-leaves, quotient-leaves}
+use Rattle.search_tree.proofs.TreeLaws.{node-stopped, first-stopped, second-ends}
+use Rattle.search_tree.proofs.ReadyLaws.{leaves-some, unreached-leaves, case-opens, first-met, second-met, added-met}
+use Rattle.search_tree.proofs.ReadyLaws.{split-opens}
 
 pub taken : {P : Type 0} (Q : Type 0) (b : Bool) → MatchBool b P Q → b ≡ true → P
 taken Q true m e = m
@@ -40,11 +31,11 @@ pub not-taken : {Q : Type 0} (P : Type 0) (b : Bool) → MatchBool b P Q → b �
 not-taken P true m e = cc
 not-taken P false m e = m
 
-pub tried-some : (count : ℕ) (facts gs : List Fact) (x y : Trail) (P : Type 0) (o : Option Ended) (e : Ended)
-    → gs ≡ facts → MatchOption o P (TriedShortly count gs x y) → o ≡ Some e → TriedShortly count facts x y e
-tried-some count facts gs x y P None e g m q = cc
-tried-some count facts gs x y P (Some d) e g m q = let s : d ≡ e = cc in subst (λ z. TriedShortly count z x y e) g
-    (subst (TriedShortly count gs x y) s m)
+pub tried-some : (vs : List Variable) (facts gs : List Fact) (x y : Trail) (P : Type 0) (o : Option Ended) (e : Ended)
+    → gs ≡ facts → MatchOption o P (Tried vs gs x y) → o ≡ Some e → Tried vs facts x y e
+tried-some vs facts gs x y P None e g m q = cc
+tried-some vs facts gs x y P (Some d) e g m q = let s : d ≡ e = cc in subst (λ z. Tried vs z x y e) g
+    (subst (Tried vs gs x y) s m)
 
 pub empty-list : {A : Type 0} (xs : List A) → length xs ≤ 0 → xs ≡ []
 empty-list [] h = refl
@@ -71,100 +62,45 @@ pub stop-is : (x z : Trail) (n m : Node) → n ≡ m → (x.spare < node_units n
     (z ≡ x)
 stop-is x z n m e p = (subst (λ w. x.spare < node_units w) e p.0, p.1)
 
-module _ (vs : List Variable) (k : ℕ) (rs : List Range) (f : CForm) (b : Branch) (deep : suc k ≤ 960)
-    (either : is_either f ≡ true) where
-  abbrev us : List Variable
-  us = scope_of vs b
-
-  abbrev whole : Branch
-  whole = waiting_only b (f ∷ b.waiting)
-
+module _ (vs : List Variable) (k : ℕ) (rs : List Range) (f : CForm) (b : Branch) (deep : suc k ≤ 960) where
   abbrev One : Branch → Branch
-  One z = settled us (sides f).0 z
+  One z = settled vs (sides f).0 z
 
   abbrev Two : Branch → Branch
-  Two z = settled us (sides f).1 z
+  Two z = settled vs (sides f).1 z
 
-  abbrev leaves : ℕ
-  leaves = side_leaves us (plain_leaves vs k) rs b f
-
-  one-fewer : quotients_at (One b) ≤ quotients_at whole
-  one-fewer =
-      let m = (settled-more us (sides f).0 b).quotients in let q = (side-shapes f either).quotients in
-      omega (arith, m, q)
-
-  two-fewer : quotients_at (Two b) ≤ quotients_at whole
-  two-fewer =
-      let m = (settled-more us (sides f).1 b).quotients in let q = (side-shapes f either).quotients in
-      omega (arith, m, q)
-
-  pub sides-stopped : (x z : Trail) → (x.spare < 1) × (z ≡ x) → BudgetEnded vs (suc k) leaves whole x z
+  pub sides-stopped : (x z : Trail) → (x.spare < 1) × (z ≡ x) → BudgetEnded vs (suc k)
+      (open_leaves vs (plain_leaves vs k) rs b (f ∷ b.waiting)) (waiting_only b (f ∷ b.waiting)) x z
   sides-stopped x z p =
       let l = leaves-some vs k rs (One b) in
-      node-stopped vs (suc k) leaves whole x z (Node.Case 1) (omega (arith, l)) refl p.0 p.1
+      node-stopped vs (suc k) (open_leaves vs (plain_leaves vs k) rs b (f ∷ b.waiting))
+      (waiting_only b (f ∷ b.waiting)) x z (Node.Case 1) (omega (arith, l)) refl p.0 p.1
 
   pub sides-first : (x y z : Trail) (e : Ended) → Put x y (Node.Case 1) → e ≡ Ended.Stopped → Ends vs k
-      (plain_leaves vs k rs (One b)) (One b) y z e → BudgetEnded vs (suc k) leaves whole x z
+      (plain_leaves vs k rs (One b)) (One b) y z e →
+      BudgetEnded vs (suc k) (open_leaves vs (plain_leaves vs k) rs b (f ∷ b.waiting)) (waiting_only b (f ∷ b.waiting))
+      x
+      z
   sides-first x y z e p q r =
-      first-stopped vs k (plain_leaves vs k rs (One b)) (plain_leaves vs k rs (Two b)) whole (One b) (Two b)
-      (Node.Case 1) refl refl deep one-fewer refl two-fewer refl (case-opens vs k f b either)
+      first-stopped vs k (plain_leaves vs k rs (One b)) (plain_leaves vs k rs (Two b))
+      (waiting_only b (f ∷ b.waiting)) (One b) (Two b) (Node.Case 1) refl refl deep (case-opens vs k f b deep)
       x y z p.nodes p.spare (leaves-some vs k rs (Two b)) (subst
       (Ends vs k (plain_leaves vs k rs (One b)) (One b) y z) q r)
 
   pub sides-met : (y z : Trail) (e : Ended) (values : List ℤ) → e ≡ Ended.Refuted values → Ends vs k
-      (plain_leaves vs k rs (One b)) (One b) y z e → Met vs whole values
+      (plain_leaves vs k rs (One b)) (One b) y z e → Met vs (waiting_only b (f ∷ b.waiting)) values
   sides-met y z e values q r = first-met vs f b values (subst (Ends vs k (plain_leaves vs k rs (One b)) (One b) y z) q
       r)
 
   pub sides-second : (x y z w : Trail) (e d : Ended) (c : Branch) → Put x y (Node.Case 1) → e ≡ Ended.Closed → Ends vs
       k (plain_leaves vs k rs (One b)) (One b) y z e → (IsClosed e → c ≡ b) →
-      Ends vs k (plain_leaves vs k rs (Two c)) (Two c) z w d → Ends vs (suc k) leaves whole x w d
+      Ends vs k (plain_leaves vs k rs (Two c)) (Two c) z w d → Ends vs (suc k)
+      (open_leaves vs (plain_leaves vs k) rs b (f ∷ b.waiting)) (waiting_only b (f ∷ b.waiting)) x w d
   sides-second x y z w e d c p q r s u =
-      second-ends vs k (plain_leaves vs k rs (One b)) (plain_leaves vs k rs (Two b)) whole
-      (One b) (Two b) (Node.Case 1) refl refl deep one-fewer refl two-fewer refl (case-opens vs k f b either)
+      second-ends vs k (plain_leaves vs k rs (One b)) (plain_leaves vs k rs (Two b)) (waiting_only b (f ∷ b.waiting))
+      (One b) (Two b) (Node.Case 1) refl refl deep (case-opens vs k f b deep)
       x y z w d p.nodes p.spare (second-met vs f b) (subst (Ends vs k (plain_leaves vs k rs (One b)) (One b) y z) q r)
       (subst (λ o. Ends vs k (plain_leaves vs k rs (Two o)) (Two o) z w d) (kept e c b q s) u)
-
--- a quotient of a waiting formula, of which this is left
-module _ (vs : List Variable) (k : ℕ) (rs : List Range) (f : CForm) (b : Branch) (r : Replaced) (deep : suc k ≤ 960)
-    (is : without_quotient (next_param (scope_of vs b)) f ≡ Some r) where
-  abbrev from : Branch
-  from = waiting_only b (f ∷ b.waiting)
-
-  abbrev next : Branch
-  next = with_quotient (scope_of vs b) r b
-
-  pub next-added : next.added ≡ suc b.added
-  next-added = refl
-
-  shape : More next (added (added (one_more b) (low_fact (scope_of vs b) r.taken)) (high_fact (scope_of vs b) r.taken))
-      (shapes r.form).yes
-  shape = settled-more (with_next (scope_of vs b)) r.form
-      (added (added (one_more b) (low_fact (scope_of vs b) r.taken)) (high_fact (scope_of vs b) r.taken))
-
-  quotients-same : quotients_of ((b.waiting ++ []) ++ []) ≡ quotients_of b.waiting
-  quotients-same =
-      let p = quotients-append (b.waiting ++ []) [] in let q = quotients-append b.waiting [] in omega (arith, p, q)
-
-  less : suc (quotients_of next.waiting) ≤ quotients_of from.waiting
-  less =
-      let m = shape.quotients in let s = quotients-same in
-      let l = (without-less (next_param (scope_of vs b)) f r is).quotients in
-      omega (arith, m, s, l)
-
-  pub quot-stopped : (x z : Trail) → (x.spare < 1) × (z ≡ x) →
-      BudgetEnded vs (suc k) (plain_leaves vs k rs next) from x z
-  quot-stopped x z p =
-      node-stopped vs (suc k) (plain_leaves vs k rs next) from x z (Node.Quot 1) (leaves-some vs k rs next) refl p.0 p.1
-
-  pub quot-went : (x y z : Trail) (e : Ended) → Put x y (Node.Quot 1) → Waits (scope_of vs b) f →
-      names.IsClosed (scope_of vs b) b → Ends vs k (plain_leaves vs k rs next) next y z e →
-      Ends vs (suc k) (plain_leaves vs k rs next) from x z e
-  quot-went x y z e p waits closed u =
-      let l = less in
-      quot-ends vs k (plain_leaves vs k rs next) from next (leaves-some vs k rs next) (omega (arith, l)) deep
-      (omega (arith, l)) next-added (quot-opens vs k f r b is) x y z e p.nodes p.spare
-      (λ values. quot-met vs f r b values is waits closed) u
 
 module _ (vs : List Variable) (k : ℕ) (rs : List Range) (place : ℕ) (at : ℤ) (b : Branch)
     (simple : is_plain_number at ≡ true) (deep : suc k ≤ 960) where
@@ -180,9 +116,6 @@ module _ (vs : List Variable) (k : ℕ) (rs : List Range) (place : ℕ) (at : �
   abbrev high : Branch → ℕ
   high z = plain_leaves vs k (with_low rs place (at +ℤ pos 1)) (High z)
 
-  added-fewer : (g : Fact) → quotients_at (added b g) ≤ quotients_at b
-  added-fewer g = let q = quotients-append b.waiting [] in omega (arith, q)
-
   pub halves-stopped : (x z : Trail) → (x.spare < 1) × (z ≡ x) → BudgetEnded vs (suc k) (low b + high b) b x z
   halves-stopped x z p =
       let l = leaves-some vs k (with_high rs place at) (Low b) in
@@ -192,8 +125,7 @@ module _ (vs : List Variable) (k : ℕ) (rs : List Range) (place : ℕ) (at : �
       Ended.Stopped → Ends vs k (low b) (Low b) y z e → BudgetEnded vs (suc k) (low b + high b) b x z
   halves-first x y z e i p q r =
       first-stopped vs k (low b) (high b) b (Low b) (High b) (Node.Split (place + 1) at) refl simple deep
-      (added-fewer (at_most place at)) refl (added-fewer (at_least place (at +ℤ pos 1))) refl
-      (split-opens vs k b place at i)
+      (split-opens vs k b place at deep i)
       x y z p.nodes p.spare (leaves-some vs k (with_low rs place (at +ℤ pos 1)) (High b))
       (subst (Ends vs k (low b) (Low b) y z) q r)
 
@@ -206,8 +138,7 @@ module _ (vs : List Variable) (k : ℕ) (rs : List Range) (place : ℕ) (at : �
       Ends vs k (high c) (High c) z w d → Ends vs (suc k) (low b + high b) b x w d
   halves-second x y z w e d c i p q r s u =
       second-ends vs k (low b) (high b) b (Low b) (High b) (Node.Split (place + 1) at) refl simple deep
-      (added-fewer (at_most place at)) refl (added-fewer (at_least place (at +ℤ pos 1))) refl
-      (split-opens vs k b place at i)
+      (split-opens vs k b place at deep i)
       x y z w d p.nodes p.spare (added-met vs b (at_least place (at +ℤ pos 1)))
       (subst (Ends vs k (low b) (Low b) y z) q r)
       (subst (λ o. Ends vs k (high o) (High o) z w d) (kept e c b q s) u)
@@ -217,31 +148,26 @@ first-out : {A : Type 0} (xs ys : List A) (x : A) → slice_get xs 0 ≡ Some x 
 first-out [] ys x e r = cc
 first-out (z ∷ xs) ys x e r = let s : z ≡ x = cc in ap (λ w. w ∷ xs) s ∙ ap (λ w. x ∷ w) (sym r)
 
-pub whole-again : (b : Branch) (ws : List CForm) (f : CForm) → slice_get b.waiting 0 ≡ Some f → ws ≡ remove b.waiting
-    0 → waiting_only b (f ∷ ws) ≡ b
-whole-again b ws f e r = ap (waiting_only b) (sym (first-out b.waiting ws f e r))
+pub whole-again : (b c : Branch) (f : CForm) → slice_get b.waiting 0 ≡ Some f → c.waiting ≡ remove b.waiting 0 →
+    c.facts ≡ b.facts → waiting_only c (f ∷ c.waiting) ≡ b
+whole-again b c f e r s = ap (λ x. record { facts = x; waiting = f ∷ c.waiting }) s ∙ ap
+    (λ x. record { facts = b.facts; waiting = x }) (sym (first-out b.waiting c.waiting f e r))
+
+insert-first : {A : Type 0} (xs : List A) (x : A) → insert xs 0 x ≡ x ∷ xs
+insert-first [] x = refl
+insert-first (y ∷ xs) x = refl
 
 pub one-less : (k : ℕ) → 1 ≤ k → suc (k - 1) ≡ k
 one-less k h = omega arith
 
-pub opened-ends : (vs : List Variable) (k : ℕ) (rs : List Range) (b : Branch) (f : CForm) (x z : Trail) (e : Ended) →
-    some_out_of_reach b.facts ≡ false → is_either f ≡ true →
-    Ends vs (suc k) (side_leaves (scope_of vs b) (plain_leaves vs k) rs b f) (waiting_only b (f ∷ b.waiting)) x z e →
-    Ends vs (suc k) (plain_leaves vs (suc k) rs (waiting_only b (f ∷ b.waiting))) (waiting_only b (f ∷ b.waiting)) x z e
-opened-ends vs k rs b f x z e u either r =
-    let whole : Branch = waiting_only b (f ∷ b.waiting) in
-    subst (λ n. Ends vs (suc k) n whole x z e)
-    (sym (unreached-leaves vs k rs whole u ∙ either-leaves vs k rs whole f b.waiting either)) r
-
-pub quotient-ends : (vs : List Variable) (k : ℕ) (rs : List Range) (b : Branch) (f : CForm) (x z : Trail) (e : Ended) →
-    some_out_of_reach b.facts ≡ false → is_either f ≡ false →
-    Ends vs (suc k) (quot_leaves (scope_of vs b) (plain_leaves vs k) rs b
-    (without_quotient (next_param (scope_of vs b)) f)) (waiting_only b (f ∷ b.waiting)) x z e →
-    Ends vs (suc k) (plain_leaves vs (suc k) rs (waiting_only b (f ∷ b.waiting))) (waiting_only b (f ∷ b.waiting)) x z e
-quotient-ends vs k rs b f x z e u either r =
-    let whole : Branch = waiting_only b (f ∷ b.waiting) in
-    subst (λ n. Ends vs (suc k) n whole x z e)
-    (sym (unreached-leaves vs k rs whole u ∙ quotient-leaves vs k rs whole f b.waiting either)) r
+pub opened-ends : (vs : List Variable) (k : ℕ) (rs : List Range) (b c : Branch) (f : CForm) (x z : Trail) (e : Ended)
+    → 1 ≤ k → some_out_of_reach b.facts ≡ false → waiting_only c (f ∷ c.waiting) ≡ b →
+    Ends vs (suc (k - 1)) (open_leaves vs (plain_leaves vs (k - 1)) rs c (f ∷ c.waiting))
+    (waiting_only c (f ∷ c.waiting)) x z e → Ends vs k (plain_leaves vs k rs b) b x z e
+opened-ends vs k rs b c f x z e h u w r =
+    subst (λ n. Ends vs n (plain_leaves vs n rs b) b x z e) (one-less k h)
+    (subst (λ n. Ends vs (suc (k - 1)) n b x z e) (sym (unreached-leaves vs (k - 1) rs b u))
+    (subst (λ o. Ends vs (suc (k - 1)) (open_leaves vs (plain_leaves vs (k - 1)) rs o o.waiting) o x z e) w r))
 
 pub halved-ends : (vs : List Variable) (k : ℕ) (rs : List Range) (b : Branch) (place : ℕ) (at : ℤ) (x z : Trail)
     (e : Ended) → 1 ≤ k → some_out_of_reach b.facts ≡ false → b.waiting ≡ [] →
@@ -253,3 +179,10 @@ halved-ends vs k rs b place at x z e h u w c r =
     (subst (λ n. Ends vs (suc (k - 1)) n b x z e)
     (sym (unreached-leaves vs (k - 1) rs b u ∙ ap (open_leaves vs (plain_leaves vs (k - 1)) rs b) w ∙ ap
     (cut_leaves (plain_leaves vs (k - 1)) rs b) c)) r)
+
+pub restored : (b c d e : Branch) (f : CForm) (ended : Ended) → slice_get b.waiting 0 ≡ Some f → c.waiting ≡ remove
+    b.waiting 0 → c.facts ≡ b.facts → d ≡ c → e.waiting ≡ insert d.waiting 0 f → e.facts ≡ d.facts → e ≡ b
+restored b c d e f ended p q r s t u =
+    ap (λ x. record { facts = x; waiting = e.waiting }) u ∙ ap (λ x. record { facts = d.facts; waiting = x })
+    (t ∙ insert-first d.waiting f)
+    ∙ ap (λ (o : Branch). waiting_only o (f ∷ o.waiting)) s ∙ whole-again b c f p q r

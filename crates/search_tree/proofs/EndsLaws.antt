@@ -1,11 +1,9 @@
--- Every branch that is ready, and asks for no quotient, is closed within its leaves' units, or there are values that
--- make all of it hold.
+-- Every branch that is ready is closed within its leaves' units, or there are values that make all of it hold.
 use Rattle.std.proofs.Common.{◌≡◌, ℕ, zero, suc, ◌+◌, ◌-◌, ◌*◌, ◌≤◌, ◌<◌, nat_le, ℤ, pos, ◌+ℤ◌, Bool, true, false, ◌||◌}
 use Rattle.std.proofs.Common.{Option, Some, None, List, [], ◌∷◌, ◌++◌, map, length, slice_get, arith, refl, sym, ap}
-use Rattle.std.proofs.Common.{subst, ◌∙◌}
+use Rattle.std.proofs.Common.{subst}
 use Rattle.std.proofs.Math.Nat.{mul-le-mul_right}
-use Rattle.std.specs.List.{list_all, list_any}
-use Rattle.std.proofs.lemmas.Bool.{and_parts}
+use Rattle.std.specs.List.{list_any}
 use Rattle.core_terms.specs.declared.trees.CForm.{CForm}
 use Rattle.core_terms.specs.declared.trees.Range.{Range}
 use Rattle.obligations.specs.declared.branches.Branch.{Branch}
@@ -14,30 +12,25 @@ use Rattle.obligations.specs.declared.branches.Obligation.{Obligation}
 use Rattle.obligations.specs.declared.branches.Variable.{Variable}
 use Rattle.obligations.specs.declared.certificates.Node.{Node}
 use Rattle.obligations.specs.Settling.{settled, sides, added}
-use Rattle.obligations.specs.Opening.{at_most, at_least, ranges_only, first_branch}
+use Rattle.obligations.specs.Opening.{at_most, at_least, first_branch}
 use Rattle.obligations.specs.Reach.{are_exact, bounds_refute, clash, is_out_of_reach, some_out_of_reach}
 use Rattle.obligations.specs.Certificates.{node_units, units}
 use Rattle.obligations.specs.Obligations.{IsObligation}
 use Rattle.obligations.specs.Plain.{Cut, ranges_of, first_cut, with_high, with_low, waiting_only, open_leaves}
-use Rattle.obligations.specs.Plain.{cut_leaves, side_leaves, plain_leaves, enough}
-use Rattle.obligations.specs.Quotients.{is_either}
-use Rattle.obligations.specs.Shapes.{quotients_of}
+use Rattle.obligations.specs.Plain.{cut_leaves, plain_leaves, leaf_units, enough}
 use Rattle.certificate_check.specs.Refutation.{opens, made, allowing}
 use Rattle.linear_prover.specs.Chains.{ClosesShortly, is_plain_node}
 use Rattle.linear_prover.specs.Tables.{IsAt}
 use Rattle.linear_prover.proofs.ChainLaws.{refuted-chain, clashed-chain}
 use Rattle.search_tree.specs.declared.plain_tree.Trail.{Trail}
 use Rattle.search_tree.specs.declared.plain_tree.Ended.{Ended}
-use Rattle.search_tree.specs.Searching.{chain_units, Ready, Closed, Met, levels_of}
-use Rattle.search_tree.specs.Choices.{can_wait}
+use Rattle.search_tree.specs.Searching.{Ready, Closed, Met, levels_of}
 use Rattle.search_tree.specs.Ends.{Ending, proved, refuted, short, SearchEnds}
 use Rattle.search_tree.proofs.SearchLaws.{finished-ends}
 use Rattle.search_tree.proofs.TreeLaws.{second-closed}
 use Rattle.search_tree.proofs.TryLaws.{tried-short}
-use Rattle.search_tree.proofs.RootLaws.{room-enough, search-answers}
-use Rattle.search_tree.proofs.ShapeLaws.{settled-more, refused-more, side-shapes, waits-either}
-use Rattle.search_tree.proofs.ReadyLaws.{leaves-some, unreached-leaves, either-leaves, case-opens, split-opens}
-use Rattle.search_tree.proofs.ReadyLaws.{first-met, second-met}
+use Rattle.search_tree.proofs.RootLaws.{search-answers}
+use Rattle.search_tree.proofs.ReadyLaws.{leaves-some, unreached-leaves, case-opens, split-opens, first-met, second-met}
 use Rattle.search_tree.proofs.ReadyLaws.{added-met, ready-first, ready-second, ready-deep, cut-is, ready-cut, ready-low}
 use Rattle.search_tree.proofs.ReadyLaws.{ready-high, leaf-met, ready-root}
 
@@ -85,23 +78,23 @@ data Outcome (vs : List Variable) (k leaves : ℕ) (b : Branch) (old : Trail) : 
   met : (values : List ℤ) → Met vs b values → Outcome vs k leaves b old
 
 abbrev Suffices : List Variable → ℕ → Trail → Type 0
-Suffices vs leaves x = leaves * chain_units vs ≤ x.spare + 1
+Suffices vs leaves x = leaves * leaf_units vs ≤ x.spare + 1
 
 -- a branch with these leaves ends, whatever was before
 abbrev Goes : List Variable → ℕ → ℕ → Branch → Type 0
 Goes vs k leaves b = (x : Trail) → Suffices vs leaves x → Outcome vs k leaves b x
 
 -- A chain.
-chain-goes : (vs : List Variable) (k leaves : ℕ) (b : Branch) → k ≤ 960 → 1 ≤ leaves → b.added ≡ 0 →
-    Chain (length vs) b.facts → Goes vs k leaves b
-chain-goes vs k leaves b h one flat c x s =
+chain-goes : (vs : List Variable) (k leaves : ℕ) (b : Branch) → k ≤ 960 → 1 ≤ leaves → Chain (length vs) b.facts →
+    Goes vs k leaves b
+chain-goes vs k leaves b h one c x s =
     let ns : List Node = c.0 in
     let few = c.1.short in
     let cheap = few.cheap in
-    let more : 1 * chain_units vs ≤ leaves * chain_units vs = mul-le-mul_right (chain_units vs) one in
+    let more : 1 * leaf_units vs ≤ leaves * leaf_units vs = mul-le-mul_right (leaf_units vs) one in
     let room : units ns ≤ x.spare = omega (arith, cheap, more, s) in
     let y : Trail = record { nodes = x.nodes ++ ns; spare = x.spare - units ns } in
-    closed y (finished-ends vs k leaves b x y Ended.Closed h one flat
+    closed y (finished-ends vs k leaves b x y Ended.Closed h one
     (tried-short vs b.facts ns x y Ended.Closed c.1 (refl, omega (arith, room))))
 
 -- A node that opens two branches.
@@ -111,10 +104,10 @@ module _ (vs : List Variable) (k l m : ℕ) (b c d : Branch) (n : Node) (one : n
     (some : 1 ≤ m)
     (up : (values : List ℤ) → Met vs c values → Met vs b values)
     (down : (values : List ℤ) → Met vs d values → Met vs b values) where
-  more : 1 * chain_units vs ≤ m * chain_units vs
-  more = mul-le-mul_right (chain_units vs) some
+  more : 1 * leaf_units vs ≤ m * leaf_units vs
+  more = mul-le-mul_right (leaf_units vs) some
 
-  sum-leaves : (l + m) * chain_units vs ≡ l * chain_units vs + m * chain_units vs
+  sum-leaves : (l + m) * leaf_units vs ≡ l * leaf_units vs + m * leaf_units vs
   sum-leaves = omega arith
 
   abbrev with_node : Trail → Trail
@@ -147,20 +140,17 @@ module _ (vs : List Variable) (k l m : ℕ) (b c d : Branch) (n : Node) (one : n
 
 -- Branches with so many levels left.
 abbrev AllGo : List Variable → ℕ → Type 0
-AllGo vs k = (rs : List Range) (b : Branch) → Ready vs k rs b → quotients_of b.waiting ≡ 0 → Goes vs k
-    (plain_leaves vs k rs b) b
+AllGo vs k = (rs : List Range) (b : Branch) → Ready vs k rs b → Goes vs k (plain_leaves vs k rs b) b
 
 sides-go : (vs : List Variable) (k : ℕ) (rs : List Range) (f : CForm) (b : Branch) → suc k ≤ 960 → AllGo vs k →
-    Ready vs (suc k) rs (waiting_only b (f ∷ b.waiting)) → is_either f ≡ true → quotients_of (f ∷ b.waiting) ≡ 0 →
-    Goes vs (suc k) (side_leaves vs (plain_leaves vs k) rs b f) (waiting_only b (f ∷ b.waiting))
-sides-go vs k rs f b deep go r either none =
-    let s = (side-shapes f either).quotients in
-    let one = (settled-more vs (sides f).0 b).quotients in let two = (settled-more vs (sides f).1 b).quotients in
+    Ready vs (suc k) rs (waiting_only b (f ∷ b.waiting)) →
+    Goes vs (suc k) (open_leaves vs (plain_leaves vs k) rs b (f ∷ b.waiting)) (waiting_only b (f ∷ b.waiting))
+sides-go vs k rs f b deep go r =
     both-go vs k (plain_leaves vs k rs (settled vs (sides f).0 b)) (plain_leaves vs k rs (settled vs (sides f).1 b))
     (waiting_only b (f ∷ b.waiting)) (settled vs (sides f).0 b) (settled vs (sides f).1 b) (Node.Case 1) refl refl deep
-    (case-opens vs k f b deep r.flat either) (leaves-some vs k rs (settled vs (sides f).1 b)) (first-met vs f b) (second-met vs f b)
-    (go rs (settled vs (sides f).0 b) (ready-first vs k rs f b either r) (omega (arith, none, s, one)))
-    (go rs (settled vs (sides f).1 b) (ready-second vs k rs f b either r) (omega (arith, none, s, two)))
+    (case-opens vs k f b deep) (leaves-some vs k rs (settled vs (sides f).1 b)) (first-met vs f b) (second-met vs f b)
+    (go rs (settled vs (sides f).0 b) (ready-first vs k rs f b r))
+    (go rs (settled vs (sides f).1 b) (ready-second vs k rs f b r))
 
 halves-go : (vs : List Variable) (k : ℕ) (rs : List Range) (b : Branch) (place : ℕ) (at : ℤ) → suc k ≤ 960 → AllGo vs k
     → Ready vs (suc k) rs b → b.waiting ≡ [] → first_cut 0 rs ≡ Some (record { place = place; at = at }) →
@@ -169,16 +159,15 @@ halves-go vs k rs b place at deep go r w e =
     let cut = cut-is vs (suc k) rs b place at r e in
     let long = r.long in
     let inside = cut.inside in
-    let none : quotients_of (b.waiting ++ []) ≡ 0 = ap (λ ws. quotients_of (ws ++ [])) w in
     both-go vs k (plain_leaves vs k (with_high rs place at) (added b (at_most place at)))
     (plain_leaves vs k (with_low rs place (at +ℤ pos 1)) (added b (at_least place (at +ℤ pos 1)))) b
     (added b (at_most place at)) (added b (at_least place (at +ℤ pos 1))) (Node.Split (place + 1) at) refl cut.simple
-    deep (split-opens vs k b place at deep (omega (arith, long, inside)) r.flat)
+    deep (split-opens vs k b place at deep (omega (arith, long, inside)))
     (leaves-some vs k (with_low rs place (at +ℤ pos 1)) (added b (at_least place (at +ℤ pos 1))))
     (added-met vs b (at_most place at)) (added-met vs b (at_least place (at +ℤ pos 1)))
-    (go (with_high rs place at) (added b (at_most place at)) (ready-low vs k rs b place at r w e) none)
+    (go (with_high rs place at) (added b (at_most place at)) (ready-low vs k rs b place at r w e))
     (go (with_low rs place (at +ℤ pos 1)) (added b (at_least place (at +ℤ pos 1)))
-    (ready-high vs k rs b place at r w e) none)
+    (ready-high vs k rs b place at r w e))
 
 -- the first waiting formula stands before the others
 whole : (b : Branch) (f : CForm) (fs : List CForm) → b.waiting ≡ f ∷ fs → waiting_only b (f ∷ fs) ≡ b
@@ -195,50 +184,41 @@ cut-goes : (vs : List Variable) (k : ℕ) (rs : List Range) (b : Branch) → suc
 cut-goes vs k rs b deep go r u w None e = leaf-goes vs (suc k) 1 rs b r u w e
 cut-goes vs k rs b deep go r u w (Some c) e = halves-go vs k rs b c.place c.at deep go r w e
 
-first-either : (vs : List Variable) (k : ℕ) (rs : List Range) (b : Branch) (f : CForm) (fs : List CForm) →
-    Ready vs k rs b → b.waiting ≡ f ∷ fs → quotients_of (f ∷ fs) ≡ 0 → is_either f ≡ true
-first-either vs k rs b f fs r w none =
-    waits-either f (and_parts (can_wait f) (list_all can_wait fs) (sym (ap (list_all can_wait) w) ∙ r.waits)).0
-    (omega (arith, none))
-
 open-goes : (vs : List Variable) (k : ℕ) (rs : List Range) (b : Branch) → suc k ≤ 960 → AllGo vs k → Ready vs (suc k)
-    rs b → some_out_of_reach b.facts ≡ false → (ws : List CForm) → b.waiting ≡ ws → quotients_of ws ≡ 0 →
+    rs b → some_out_of_reach b.facts ≡ false → (ws : List CForm) → b.waiting ≡ ws →
     Goes vs (suc k) (open_leaves vs (plain_leaves vs k) rs b ws) b
-open-goes vs k rs b deep go r u [] w none = cut-goes vs k rs b deep go r u w (first_cut 0 rs) refl
-open-goes vs k rs b deep go r u (f ∷ fs) w none =
+open-goes vs k rs b deep go r u [] w = cut-goes vs k rs b deep go r u w (first_cut 0 rs) refl
+open-goes vs k rs b deep go r u (f ∷ fs) w =
     let same = whole b f fs w in
-    let either = first-either vs (suc k) rs b f fs r w none in
     subst (Goes vs (suc k) (open_leaves vs (plain_leaves vs k) rs b (f ∷ fs))) same
-    (subst (λ n. Goes vs (suc k) n (waiting_only b (f ∷ fs))) (sym (either-leaves vs k rs b f fs r.flat either))
-    (sides-go vs k rs f (waiting_only b fs) deep go (subst (Ready vs (suc k) rs) (sym same) r) either none))
+    (sides-go vs k rs f (waiting_only b fs) deep go (subst (Ready vs (suc k) rs) (sym same) r))
 
 -- no level is left
 end-goes : (vs : List Variable) (leaves : ℕ) (rs : List Range) (b : Branch) → Ready vs 0 rs b → some_out_of_reach
-    b.facts ≡ false → (ws : List CForm) → b.waiting ≡ ws → quotients_of ws ≡ 0 → Goes vs 0 leaves b
-end-goes vs leaves rs b r u (f ∷ fs) w none =
-    let one = ready-deep vs 0 rs f fs b (first-either vs 0 rs b f fs r w none)
-    (subst (Ready vs 0 rs) (sym (whole b f fs w)) r) in
+    b.facts ≡ false → (ws : List CForm) → b.waiting ≡ ws → Goes vs 0 leaves b
+end-goes vs leaves rs b r u (f ∷ fs) w =
+    let one = ready-deep vs 0 rs f (waiting_only b fs) (subst (Ready vs 0 rs) (sym (whole b f fs w)) r) in
     absurd (omega (arith, one))
-end-goes vs leaves rs b r u [] w none = by_cut (first_cut 0 rs) refl
+end-goes vs leaves rs b r u [] w = by_cut (first_cut 0 rs) refl
   where
     by_cut : (o : Option Cut) → first_cut 0 rs ≡ o → Goes vs 0 leaves b
     by_cut None e = leaf-goes vs 0 leaves rs b r u w e
     by_cut (Some c) e = let one = ready-cut vs 0 rs b c.place c.at r e in absurd (omega (arith, one))
 
 all-go : (vs : List Variable) (k : ℕ) → k ≤ 960 → AllGo vs k
-all-go vs zero h rs b r none = by_reach (some_out_of_reach b.facts) refl
+all-go vs zero h rs b r = by_reach (some_out_of_reach b.facts) refl
   where
     by_reach : (t : Bool) → some_out_of_reach b.facts ≡ t → Goes vs 0 1 b
-    by_reach true e = chain-goes vs 0 1 b h (omega arith) r.flat (reach-chain (length vs) b.facts r.exact e)
-    by_reach false e = end-goes vs 1 rs b r e b.waiting refl none
-all-go vs (suc k) h rs b r none = by_reach (some_out_of_reach b.facts) refl (all-go vs k (omega (arith, h)))
+    by_reach true e = chain-goes vs 0 1 b h (omega arith) (reach-chain (length vs) b.facts r.exact e)
+    by_reach false e = end-goes vs 1 rs b r e b.waiting refl
+all-go vs (suc k) h rs b r = by_reach (some_out_of_reach b.facts) refl (all-go vs k (omega (arith, h)))
   where
     by_reach : (t : Bool) → some_out_of_reach b.facts ≡ t → AllGo vs k → Goes vs (suc k) (plain_leaves vs (suc k) rs b)
         b
     by_reach true e go = chain-goes vs (suc k) (plain_leaves vs (suc k) rs b) b h (leaves-some vs (suc k) rs b)
-        r.flat (reach-chain (length vs) b.facts r.exact e)
+        (reach-chain (length vs) b.facts r.exact e)
     by_reach false e go = subst (λ n. Goes vs (suc k) n b) (sym (unreached-leaves vs k rs b e))
-        (open-goes vs k rs b h go r e b.waiting refl none)
+        (open-goes vs k rs b h go r e b.waiting refl)
 
 -- The branch that an obligation starts from.
 abbrev all_leaves : Obligation → ℕ
@@ -257,12 +237,11 @@ root-ends o budget m (met values c) = refuted values
     (Ended.Refuted values) budget _ refl refl refl refl refl c refl)
 
 pub search-ends : SearchEnds
-search-ends o budget m none = by_budget (nat_le (enough o) budget) refl
+search-ends o budget m = by_budget (nat_le (enough o) budget) refl
   where
     by_budget : (t : Bool) → nat_le (enough o) budget ≡ t → Ending o budget
     by_budget true e =
-        let w = le-is (enough o) budget e in let room = room-enough o in
-        let q = (refused-more o.variables o.form (ranges_only o.variables)).quotients in
+        let w = le-is (enough o) budget e in
         root-ends o budget m (all-go o.variables 960 (omega arith) (ranges_of o.variables) (first_branch o)
-        (ready-root o m) (omega (arith, q, none)) (start budget) (omega (arith, w, room)))
+        (ready-root o m) (start budget) (omega (arith, w)))
     by_budget false e = short (gt-is (enough o) budget e)

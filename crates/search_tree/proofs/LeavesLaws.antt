@@ -7,12 +7,9 @@ use Rattle.obligations.specs.declared.branches.Branch.{Branch}
 use Rattle.obligations.specs.declared.branches.Variable.{Variable}
 use Rattle.obligations.specs.declared.branches.Obligation.{Obligation}
 use Rattle.obligations.specs.Opening.{first_branch}
-use Rattle.obligations.specs.Plain.{ranges_of, first_cut, waiting_only, cut_leaves, open_leaves, side_leaves}
-use Rattle.obligations.specs.Plain.{quot_leaves, plain_leaves}
-use Rattle.obligations.specs.Quotients.{is_either, without_quotient}
-use Rattle.obligations.specs.Scopes.{next_param, scope_of}
+use Rattle.obligations.specs.Plain.{ranges_of, first_cut, waiting_only, cut_leaves, open_leaves, plain_leaves}
 use Rattle.obligations.specs.Reach.{some_out_of_reach}
-use Rattle.search_tree.proofs.ReadyLaws.{leaves-some, unreached-leaves, either-leaves, quotient-leaves}
+use Rattle.search_tree.proofs.ReadyLaws.{leaves-some, unreached-leaves}
 use Rattle.search_tree.proofs.CycleLaws.{one-less}
 
 -- the leaves of two parts, of which no more are counted than are wanted
@@ -57,23 +54,13 @@ whole-leaf vs k rs b wanted h u w e = one-counted wanted (plain_leaves vs k rs b
         (cut_leaves (plain_leaves vs k) rs b) e
 
 -- a branch's leaves are those of the sides of its first waiting formula
-pub opened-leaves : (vs : List Variable) (k : ℕ) (rs : List Range) (b : Branch) (f : CForm) (wanted n : ℕ) →
-    some_out_of_reach b.facts ≡ false → is_either f ≡ true →
-    n ≡ min wanted (side_leaves (scope_of vs b) (plain_leaves vs k) rs b f) →
-    n ≡ min wanted (plain_leaves vs (suc k) rs (waiting_only b (f ∷ b.waiting)))
-opened-leaves vs k rs b f wanted n u either r =
-    let whole : Branch = waiting_only b (f ∷ b.waiting) in
-    r ∙ ap (min wanted) (sym (unreached-leaves vs k rs whole u ∙ either-leaves vs k rs whole f b.waiting either))
-
--- or those of the branch in which its quotient is taken
-pub quotient-counted : (vs : List Variable) (k : ℕ) (rs : List Range) (b : Branch) (f : CForm) (wanted n : ℕ) →
-    some_out_of_reach b.facts ≡ false → is_either f ≡ false →
-    n ≡ min wanted (quot_leaves (scope_of vs b) (plain_leaves vs k) rs b
-    (without_quotient (next_param (scope_of vs b)) f)) →
-    n ≡ min wanted (plain_leaves vs (suc k) rs (waiting_only b (f ∷ b.waiting)))
-quotient-counted vs k rs b f wanted n u either r =
-    let whole : Branch = waiting_only b (f ∷ b.waiting) in
-    r ∙ ap (min wanted) (sym (unreached-leaves vs k rs whole u ∙ quotient-leaves vs k rs whole f b.waiting either))
+pub opened-leaves : (vs : List Variable) (k : ℕ) (rs : List Range) (b c : Branch) (f : CForm) (wanted n : ℕ) → 1 ≤ k →
+    some_out_of_reach b.facts ≡ false → waiting_only c (f ∷ c.waiting) ≡ b →
+    n ≡ min wanted (open_leaves vs (plain_leaves vs (k - 1)) rs c (f ∷ c.waiting)) → n ≡ min wanted
+    (plain_leaves vs k rs b)
+opened-leaves vs k rs b c f wanted n h u w r =
+    r ∙ ap (min wanted) (ap (λ (o : Branch). open_leaves vs (plain_leaves vs (k - 1)) rs o o.waiting) w ∙ sym
+    (unreached-leaves vs (k - 1) rs b u) ∙ ap (λ j. plain_leaves vs j rs b) (one-less k h))
 
 -- where nothing waits, they are those of the halves of the first range that can be split
 pub halved-leaves : (vs : List Variable) (k : ℕ) (rs : List Range) (b : Branch) (place : ℕ) (at : ℤ) (wanted n : ℕ) → 1

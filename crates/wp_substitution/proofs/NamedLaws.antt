@@ -121,8 +121,6 @@ slots_counts = record {
   sum = λ a b. refl;
   difference = λ a b. refl;
   multiple = λ k a. refl;
-  quotient = λ k a. refl;
-  remainder = λ k a. refl;
   choice = λ c a b. refl;
 }
 
@@ -132,8 +130,6 @@ params_counts = record {
   sum = λ a b. refl;
   difference = λ a b. refl;
   multiple = λ k a. refl;
-  quotient = λ k a. refl;
-  remainder = λ k a. refl;
   choice = λ c a b. refl;
 }
 

@@ -1,18 +1,18 @@
-use Rattle.std.proofs.Common.{◌≡◌, true, suc, Some, sym, ap, subst}
+use Rattle.std.proofs.Common.{◌≡◌, true, suc, pos, ◌+ℤ◌, ◌∷◌, Some, length, remove, insert, sym, ap, subst, refl}
 use Rattle.std.proofs.Common.{arith, rules, ◌∙◌}
+use Rattle.obligations.specs.declared.branches.Branch.{Branch}
+use Rattle.obligations.specs.declared.certificates.Node.{Node}
 use Rattle.obligations.specs.Load.{is_light_branch}
 use Rattle.obligations.specs.Settling.{settled, sides}
 use Rattle.search_tree.proofs.CycleLaws.{taken, kept, put-is}
-use Rattle.obligations.specs.declared.branches.Branch.{Branch}
-use Rattle.obligations.specs.Plain.{waiting_only}
-use Rattle.proof_search.specs.Guided.{Guides, with_form}
+use Rattle.proof_search.specs.Guided.{Guides}
 use Rattle.proof_search.proofs.GuidedLaws.{is-true, first-light, second-light, form-light, room-left, left-light}
 use Rattle.proof_search.proofs.GuidedLaws.{taken-out, put-back, sides-guided, sides-met, halves-guided}
 use Rattle.proof_search.proofs.guided.+guided.Goals as goal
 
 pub guide_case-guide_sides-requires : goal.guide_case-guide_sides-requires
 guide_case-guide_sides-requires t c =
-    let item = c.remove-form.ensures.item ∙ ap Some (sym c.get-taken.ensures) in
+    let item = c.remove-form.ensures.item ∙ ap Some (sym c.get.ensures) in
     let len = c.len.ensures in
     let out = c.if-place-len.false in (
       search rules,
@@ -26,15 +26,9 @@ guide_case-guide_sides-requires t c =
             (
               omega arith,
               (
-                form-light c.args.branch.now c.args.place c.get-taken.result.now item c.requires.light,
-                (
-                  sym c.is_either.ensures ∙ c.if-not-is_either.false,
-                  (
-                    left-light c.args.branch.now c.remove-form.new.self c.args.place c.remove-form.ensures.rest
-                        c.requires.light,
-                    c.requires.flat,
-                  ),
-                ),
+                form-light c.args.branch.now c.args.place c.get.result.now item c.requires.light,
+                left-light c.args.branch.now c.remove-form.new.self c.args.place c.remove-form.ensures.rest
+                    c.requires.light,
               ),
             ),
           ),
@@ -44,24 +38,25 @@ guide_case-guide_sides-requires t c =
 
 pub guide_case-returns-clause-ends : goal.guide_case-returns-clause-ends
 guide_case-returns-clause-ends t c =
-    let item = c.remove-form.ensures.item ∙ ap Some (sym c.get-taken.ensures) in
+    let item = c.remove-form.ensures.item ∙ ap Some (sym c.get.ensures) in
     subst (λ b. Guides c.args.vs.now (suc c.args.rest) b c.args.trail.now c.guide_sides.new.trail c.in_ok-ended.ended)
-    (ap (λ ws. with_form (waiting_only c.args.branch.now ws) c.args.place c.get-taken.result.now)
+    (ap (λ ws. record { facts = c.args.branch.now.facts; waiting = insert ws c.args.place c.get.result.now })
     c.remove-form.ensures.rest
-    ∙ taken-out c.args.branch.now c.args.place c.get-taken.result.now item) c.in_ok-ended.ensures.ends
+    ∙ taken-out c.args.branch.now c.args.place c.get.result.now item) c.in_ok-ended.ensures.ends
 
 pub guide_case-returns-clause-branch : goal.guide_case-returns-clause-branch
 guide_case-returns-clause-branch t c =
     put-back c.args.branch.now c.guide_sides.new.branch _ c.args.place c.remove-form.result c.in_ok-ended.ended
     c.remove-form.ensures.item
-    (λ i. c.in_ok-ended.ensures.branch i ∙ ap (waiting_only c.args.branch.now) c.remove-form.ensures.rest)
-    (ap (waiting_only c.guide_sides.new.branch) c.in_ok-insert.ensures.ok)
+    (λ i. c.in_ok-ended.ensures.branch i ∙ ap (λ ws. record { facts = c.args.branch.now.facts; waiting = ws })
+    c.remove-form.ensures.rest)
+    (ap (λ ws. record { facts = c.guide_sides.new.branch.facts; waiting = ws }) c.in_ok-insert.ensures.ok)
 
 pub guide_halves-returns-in_ok-ended-in-Closed-clause-ends :
     goal.guide_halves-returns-in_ok-ended-in-Closed-clause-ends
 guide_halves-returns-in_ok-ended-in-Closed-clause-ends t c =
     halves-guided c.args.vs.now c.args.rest c.args.halves.place c.args.halves.at c.args.branch.now c.requires.place
-    (is-true _ c.requires.number) (omega arith) c.requires.flat
+    (is-true _ c.requires.number) (omega arith)
     c.args.trail.now c.put_node.new.trail c.guide_low.new.trail c.guide_high.new.trail c.in_ok-guide_low.field-0
     c.in_ok-ended-in-Closed.ended c.guide_low.new.branch
     (put-is c.args.trail.now c.put_node.new.trail c.split_node.result _ c.split_node.ensures
@@ -78,10 +73,8 @@ guide_sides-guide_first-requires t c = (
       omega arith,
       (
         c.requires.form,
-        (
-          first-light c.args.vs.now c.args.form.now c.args.branch.now c.requires.form c.requires.light,
-          c.requires.flat,
-        ),
+        first-light c.args.vs.now c.args.form.now c.args.branch.now c.requires.form
+            c.requires.light,
       ),
     ),
   ),
@@ -98,12 +91,9 @@ guide_sides-guide_second-requires t c =
           omega arith,
           (
             c.requires.form,
-            (
-              subst (λ b. is_light_branch 9223372036854775808 (settled c.args.vs.now (sides c.args.form.now).1 b) ≡
-                  true) (sym same)
-                  (second-light c.args.vs.now c.args.form.now c.args.branch.now c.requires.form c.requires.light),
-              ap (λ (b : Branch). b.added) same ∙ c.requires.flat,
-            ),
+            subst (λ b. is_light_branch 9223372036854775808 (settled c.args.vs.now (sides c.args.form.now).1 b) ≡
+                true) (sym same)
+                (second-light c.args.vs.now c.args.form.now c.args.branch.now c.requires.form c.requires.light),
           ),
         ),
       ),
@@ -112,7 +102,7 @@ guide_sides-guide_second-requires t c =
 pub guide_sides-returns-in_ok-ended-in-Closed-clause-ends : goal.guide_sides-returns-in_ok-ended-in-Closed-clause-ends
 guide_sides-returns-in_ok-ended-in-Closed-clause-ends t c =
     sides-guided c.args.vs.now c.args.rest c.args.place c.args.form.now c.args.branch.now c.requires.place
-    (omega arith) c.requires.flat c.requires.either
+    (omega arith)
     c.args.trail.now c.put_node.new.trail c.guide_first.new.trail c.guide_second.new.trail c.in_ok-guide_first.field-0
     c.in_ok-ended-in-Closed.ended c.guide_first.new.branch
     (put-is c.args.trail.now c.put_node.new.trail c.case_node.result _ c.case_node.ensures
@@ -123,5 +113,5 @@ guide_sides-returns-in_ok-ended-in-Closed-clause-ends t c =
 pub guide_sides-returns-in-Refuted-clause-ends : goal.guide_sides-returns-in-Refuted-clause-ends
 guide_sides-returns-in-Refuted-clause-ends t c =
     sides-met c.args.vs.now c.args.rest c.args.place c.args.form.now c.args.branch.now c.requires.place (omega arith)
-    c.requires.flat c.requires.either c.put_node.new.trail c.guide_first.new.trail c.in_ok-guide_first.field-0 c.in-Refuted.values c.in-Refuted.is
+    c.put_node.new.trail c.guide_first.new.trail c.in_ok-guide_first.field-0 c.in-Refuted.values c.in-Refuted.is
     c.in_ok-guide_first.ensures.ends

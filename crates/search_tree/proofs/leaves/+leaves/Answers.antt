@@ -1,8 +1,8 @@
-use Rattle.std.proofs.Common.{◌≡◌, true, Some, ◌∙◌, ap, suc, pos, ◌+ℤ◌, ◌∷◌, sym, subst, arith, rules}
+use Rattle.std.proofs.Common.{◌≡◌, true, Some, ◌∙◌, ap, suc, pos, ◌+ℤ◌, ◌∷◌, sym, subst, refl, arith, rules}
 use Rattle.obligations.specs.Opening.{at_least}
 use Rattle.obligations.specs.Settling.{settled, sides, added}
 use Rattle.obligations.specs.declared.branches.Branch.{Branch}
-use Rattle.obligations.specs.Plain.{with_low, waiting_only}
+use Rattle.obligations.specs.Plain.{with_low, waiting_only, plain_leaves}
 use Rattle.obligations.specs.Reach.{some_out_of_reach}
 use Rattle.search_tree.specs.Searching.{Ready}
 use Rattle.search_tree.proofs.ReadyLaws.{ready-light, ready-first, ready-second, ready-deep, ready-cut, ready-low}
@@ -15,15 +15,13 @@ pub leaves_of_sides-first_leaves-requires : goal.leaves_of_sides-first_leaves-re
 leaves_of_sides-first_leaves-requires t c = (
   search rules,
   (
-    c.requires.own,
-    c.requires.scope,
+    c.requires.variables,
     (
       omega arith,
       (
         ready-light c.args.vs.now (suc c.args.rest) c.args.ranges.now c.args.form.now c.args.branch.now
             c.requires.ready,
-        ready-first c.args.vs.now c.args.rest c.args.ranges.now c.args.form.now c.args.branch.now c.requires.either
-            c.requires.ready,
+        ready-first c.args.vs.now c.args.rest c.args.ranges.now c.args.form.now c.args.branch.now c.requires.ready,
       ),
     ),
   ),
@@ -33,17 +31,16 @@ pub leaves_of_sides-second_leaves-requires : goal.leaves_of_sides-second_leaves-
 leaves_of_sides-second_leaves-requires t c = (
   search rules,
   (
-    c.requires.own,
-    c.requires.scope,
+    c.requires.variables,
     (
       omega arith,
       (
         ready-light c.args.vs.now (suc c.args.rest) c.args.ranges.now c.args.form.now c.args.branch.now
             c.requires.ready,
         subst (λ x. Ready c.args.vs.now c.args.rest c.args.ranges.now
-            (settled c.args.scope.now (sides c.args.form.now).1 x)) (sym c.in_ok-first.ensures.branch)
+            (settled c.args.vs.now (sides c.args.form.now).1 x)) (sym c.in_ok-first.ensures.branch)
             (ready-second c.args.vs.now c.args.rest c.args.ranges.now c.args.form.now c.args.branch.now
-            c.requires.either c.requires.ready),
+            c.requires.ready),
       ),
     ),
   ),
@@ -55,8 +52,7 @@ leaves_of_halves-low_leaves-requires t c =
     c.args.halves.at c.requires.ready c.requires.halves in (
       search rules,
       (
-        c.requires.own,
-        c.requires.scope,
+        c.requires.variables,
         (
           omega arith,
           (
@@ -74,8 +70,7 @@ leaves_of_halves-high_leaves-requires t c =
     c.args.halves.at c.requires.ready c.requires.halves in (
       search rules,
       (
-        c.requires.own,
-        c.requires.scope,
+        c.requires.variables,
         (
           omega arith,
           (
@@ -95,24 +90,22 @@ leaves_of_halves-high_leaves-requires t c =
 
 pub open_some_leaves-leaves_of_sides-requires : goal.open_some_leaves-leaves_of_sides-requires
 open_some_leaves-leaves_of_sides-requires t c =
-    let same = whole-again c.args.branch.now c.remove-form.new.self c.get-first.result.now
-    (c.remove-form.ensures.item ∙ ap Some (sym c.get-first.ensures)) c.remove-form.ensures.rest in
+    let same = whole-again c.args.branch.now (record {
+      facts = c.args.branch.now.facts;
+      waiting = c.remove-form.new.self;
+    }) c.get.result.now (c.remove-form.ensures.item ∙ ap Some (sym c.get.ensures))
+    c.remove-form.ensures.rest refl in
     let ready = subst (Ready c.args.vs.now c.args.rest c.args.ranges.now) (sym same) c.requires.ready in
-    let either = sym c.is_either.ensures ∙ c.if-not-is_either.false in
-    let one = ready-deep c.args.vs.now c.args.rest c.args.ranges.now c.get-first.result.now c.remove-form.new.self
-    c.args.branch.now either ready in (
+    let one = ready-deep c.args.vs.now c.args.rest c.args.ranges.now c.get.result.now
+    (record { facts = c.args.branch.now.facts; waiting = c.remove-form.new.self }) ready in (
       search rules,
       (
-        c.requires.own,
-        c.requires.scope,
+        c.requires.variables,
         (
           omega (arith, one),
-          (
-            either,
-            subst (λ k. Ready c.args.vs.now k c.args.ranges.now
-                (waiting_only c.args.branch.now (c.get-first.result.now ∷ c.remove-form.new.self)))
-                (sym (one-less c.args.rest one)) ready,
-          ),
+          subst (λ k. Ready c.args.vs.now k c.args.ranges.now
+              (waiting_only (record { facts = c.args.branch.now.facts; waiting = c.remove-form.new.self })
+              (c.get.result.now ∷ c.remove-form.new.self))) (sym (one-less c.args.rest one)) ready,
         ),
       ),
     )
@@ -128,8 +121,7 @@ open_some_leaves-leaves_of_halves-requires t c =
     c.in-Some.halves.at c.requires.ready c.in-Some.ensures in (
       search rules,
       (
-        c.requires.own,
-        c.requires.scope,
+        c.requires.variables,
         (
           omega (arith, one),
           (
@@ -143,15 +135,13 @@ open_some_leaves-leaves_of_halves-requires t c =
 
 pub open_some_leaves-returns-in_ok-insert-clause-leaves : goal.open_some_leaves-returns-in_ok-insert-clause-leaves
 open_some_leaves-returns-in_ok-insert-clause-leaves t c =
-    let rest : Branch = waiting_only c.args.branch.now c.remove-form.new.self in
-    let same = whole-again c.args.branch.now c.remove-form.new.self c.get-first.result.now
-    (c.remove-form.ensures.item ∙ ap Some (sym c.get-first.ensures)) c.remove-form.ensures.rest in
-    let either = sym c.is_either.ensures ∙ c.if-not-is_either.false in
-    let one = ready-deep c.args.vs.now c.args.rest c.args.ranges.now c.get-first.result.now c.remove-form.new.self
-    c.args.branch.now either (subst (Ready c.args.vs.now c.args.rest c.args.ranges.now) (sym same) c.requires.ready) in
-    opened-leaves c.args.vs.now c.args.rest c.args.ranges.now c.args.branch.now rest c.get-first.result.now
-    c.args.wanted c.in_ok-leaves.leaves one c.requires.reach either same
-    c.in_ok-leaves.ensures.leaves
+    let rest : Branch = record { facts = c.args.branch.now.facts; waiting = c.remove-form.new.self } in
+    let same = whole-again c.args.branch.now rest c.get.result.now
+    (c.remove-form.ensures.item ∙ ap Some (sym c.get.ensures)) c.remove-form.ensures.rest refl in
+    let one = ready-deep c.args.vs.now c.args.rest c.args.ranges.now c.get.result.now rest
+    (subst (Ready c.args.vs.now c.args.rest c.args.ranges.now) (sym same) c.requires.ready) in
+    opened-leaves c.args.vs.now c.args.rest c.args.ranges.now c.args.branch.now rest c.get.result.now c.args.wanted
+    c.in_ok-leaves.leaves one c.requires.reach same c.in_ok-leaves.ensures.leaves
 
 pub open_some_leaves-returns-in_ok-leaves-in-Some-clause-leaves :
     goal.open_some_leaves-returns-in_ok-leaves-in-Some-clause-leaves

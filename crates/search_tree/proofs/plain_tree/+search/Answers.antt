@@ -37,8 +37,7 @@ refute_halves-refute_low-requires t c =
     c.args.halves.at c.requires.ready c.requires.halves in (
       search rules,
       (
-        c.requires.own,
-        c.requires.scope,
+        c.requires.variables,
         (
           omega arith,
           (
@@ -58,8 +57,7 @@ refute_halves-refute_high-requires t c =
     c.in_ok-refute_low.ensures.branch in (
       search rules,
       (
-        c.requires.own,
-        c.requires.scope,
+        c.requires.variables,
         (
           omega arith,
           (
@@ -115,24 +113,23 @@ refute_halves-returns-in-Refuted-clause-ends t c =
 
 pub refute_open-refute_sides-requires : goal.refute_open-refute_sides-requires
 refute_open-refute_sides-requires t c =
-    let same = whole-again c.args.branch.now c.remove-form.new.self c.get-first.result.now
-    (c.remove-form.ensures.item ∙ ap Some (sym c.get-first.ensures)) c.remove-form.ensures.rest in
+    let same = whole-again c.args.branch.now (record {
+      facts = c.args.branch.now.facts;
+      waiting =
+          c.remove-form.new.self;
+    }) c.get.result.now (c.remove-form.ensures.item ∙ ap Some (sym c.get.ensures))
+    c.remove-form.ensures.rest refl in
     let ready = subst (Ready c.args.vs.now c.args.rest c.args.ranges.now) (sym same) c.requires.ready in
-    let either = sym c.is_either.ensures ∙ c.if-not-is_either.false in
-    let one = ready-deep c.args.vs.now c.args.rest c.args.ranges.now c.get-first.result.now c.remove-form.new.self
-    c.args.branch.now either ready in (
+    let one = ready-deep c.args.vs.now c.args.rest c.args.ranges.now c.get.result.now
+    (record { facts = c.args.branch.now.facts; waiting = c.remove-form.new.self }) ready in (
       search rules,
       (
-        c.requires.own,
-        c.requires.scope,
+        c.requires.variables,
         (
           omega (arith, one),
-          (
-            either,
-            subst (λ k. Ready c.args.vs.now k c.args.ranges.now
-                (waiting_only c.args.branch.now (c.get-first.result.now ∷ c.remove-form.new.self)))
-                (sym (one-less c.args.rest one)) ready,
-          ),
+          subst (λ k. Ready c.args.vs.now k c.args.ranges.now
+              (waiting_only (record { facts = c.args.branch.now.facts; waiting = c.remove-form.new.self })
+              (c.get.result.now ∷ c.remove-form.new.self))) (sym (one-less c.args.rest one)) ready,
         ),
       ),
     )
@@ -148,8 +145,7 @@ refute_open-refute_halves-requires t c =
     c.in-Some.halves.at c.requires.ready c.in-Some.ensures in (
       search rules,
       (
-        c.requires.own,
-        c.requires.scope,
+        c.requires.variables,
         (
           omega (arith, one),
           (
@@ -163,15 +159,13 @@ refute_open-refute_halves-requires t c =
 
 pub refute_open-returns-in_ok-insert-clause-ends : goal.refute_open-returns-in_ok-insert-clause-ends
 refute_open-returns-in_ok-insert-clause-ends t c =
-    let rest : Branch = waiting_only c.args.branch.now c.remove-form.new.self in
-    let same = whole-again c.args.branch.now c.remove-form.new.self c.get-first.result.now
-    (c.remove-form.ensures.item ∙ ap Some (sym c.get-first.ensures)) c.remove-form.ensures.rest in
-    let either = sym c.is_either.ensures ∙ c.if-not-is_either.false in
-    let one = ready-deep c.args.vs.now c.args.rest c.args.ranges.now c.get-first.result.now c.remove-form.new.self
-    c.args.branch.now either (subst (Ready c.args.vs.now c.args.rest c.args.ranges.now) (sym same) c.requires.ready) in
-    opened-ends c.args.vs.now c.args.rest c.args.ranges.now c.args.branch.now rest c.get-first.result.now
-    c.args.trail.now c.refute_sides.new.trail c.in_ok-ended.ended one c.requires.reach either same
-    c.in_ok-ended.ensures.ends
+    let rest : Branch = record { facts = c.args.branch.now.facts; waiting = c.remove-form.new.self } in
+    let same = whole-again c.args.branch.now rest c.get.result.now
+    (c.remove-form.ensures.item ∙ ap Some (sym c.get.ensures)) c.remove-form.ensures.rest refl in
+    let one = ready-deep c.args.vs.now c.args.rest c.args.ranges.now c.get.result.now rest
+    (subst (Ready c.args.vs.now c.args.rest c.args.ranges.now) (sym same) c.requires.ready) in
+    opened-ends c.args.vs.now c.args.rest c.args.ranges.now c.args.branch.now rest c.get.result.now c.args.trail.now
+    c.refute_sides.new.trail c.in_ok-ended.ended one c.requires.reach same c.in_ok-ended.ensures.ends
 
 pub refute_open-returns-in_ok-ended-in-Some-clause-ends : goal.refute_open-returns-in_ok-ended-in-Some-clause-ends
 refute_open-returns-in_ok-ended-in-Some-clause-ends t c =
@@ -192,7 +186,6 @@ refute_open-returns-in_ok-low_ends-in-None-clause-ends t c =
 pub refute_sides-returns-then-not-branch-clause-ends : goal.refute_sides-returns-then-not-branch-clause-ends
 refute_sides-returns-then-not-branch-clause-ends t c =
     sides-stopped c.args.vs.now c.args.rest c.args.ranges.now c.args.form.now c.args.branch.now (omega arith)
-    c.requires.either
     c.args.trail.now c.put_node.new.trail
     (not-taken _ _ c.in_ok-put_node.ensures c.if-not-branch.true)
 
@@ -200,15 +193,13 @@ pub refute_sides-refute_first-requires : goal.refute_sides-refute_first-requires
 refute_sides-refute_first-requires t c = (
   search rules,
   (
-    c.requires.own,
-    c.requires.scope,
+    c.requires.variables,
     (
       omega arith,
       (
         ready-light c.args.vs.now (suc c.args.rest) c.args.ranges.now c.args.form.now c.args.branch.now
             c.requires.ready,
-        ready-first c.args.vs.now c.args.rest c.args.ranges.now c.args.form.now c.args.branch.now c.requires.either
-            c.requires.ready,
+        ready-first c.args.vs.now c.args.rest c.args.ranges.now c.args.form.now c.args.branch.now c.requires.ready,
       ),
     ),
   ),
@@ -220,17 +211,16 @@ refute_sides-refute_second-requires t c =
     c.in_ok-refute_first.ensures.branch in (
       search rules,
       (
-        c.requires.own,
-        c.requires.scope,
+        c.requires.variables,
         (
           omega arith,
           (
             ready-light c.args.vs.now (suc c.args.rest) c.args.ranges.now c.args.form.now c.args.branch.now
                 c.requires.ready,
             subst (λ x. Ready c.args.vs.now c.args.rest c.args.ranges.now
-                (settled c.args.scope.now (sides c.args.form.now).1 x)) (sym same)
+                (settled c.args.vs.now (sides c.args.form.now).1 x)) (sym same)
                 (ready-second c.args.vs.now c.args.rest c.args.ranges.now c.args.form.now c.args.branch.now
-                c.requires.either c.requires.ready),
+                c.requires.ready),
           ),
         ),
       ),
@@ -241,7 +231,6 @@ pub refute_sides-returns-in_ok-ended-in-Closed-clause-ends :
 refute_sides-returns-in_ok-ended-in-Closed-clause-ends t c =
     let put = taken _ _ c.in_ok-put_node.ensures c.if-not-branch.false in
     sides-second c.args.vs.now c.args.rest c.args.ranges.now c.args.form.now c.args.branch.now (omega arith)
-    c.requires.either
     c.args.trail.now c.put_node.new.trail c.refute_first.new.trail c.refute_second.new.trail
     c.in_ok-refute_first.field-0 c.in_ok-ended-in-Closed.ended c.refute_first.new.branch
     (record { nodes = put.0; spare = put.1 }) c.in-Closed.is c.in_ok-refute_first.ensures.ends
@@ -251,7 +240,6 @@ pub refute_sides-returns-in-Stopped-clause-ends : goal.refute_sides-returns-in-S
 refute_sides-returns-in-Stopped-clause-ends t c =
     let put = taken _ _ c.in_ok-put_node.ensures c.if-not-branch.false in
     sides-first c.args.vs.now c.args.rest c.args.ranges.now c.args.form.now c.args.branch.now (omega arith)
-    c.requires.either
     c.args.trail.now c.put_node.new.trail c.refute_first.new.trail
     c.in_ok-refute_first.field-0 (record { nodes = put.0; spare = put.1 }) c.in-Stopped.is
     c.in_ok-refute_first.ensures.ends
@@ -259,6 +247,5 @@ refute_sides-returns-in-Stopped-clause-ends t c =
 pub refute_sides-returns-in-Refuted-clause-ends : goal.refute_sides-returns-in-Refuted-clause-ends
 refute_sides-returns-in-Refuted-clause-ends t c =
     sides-met c.args.vs.now c.args.rest c.args.ranges.now c.args.form.now c.args.branch.now (omega arith)
-    c.requires.either
     c.put_node.new.trail c.refute_first.new.trail
     c.in_ok-refute_first.field-0 c.in-Refuted.values c.in-Refuted.is c.in_ok-refute_first.ensures.ends

@@ -1,3 +1,4 @@
+use Rattle.std.proofs.Common.{◌∙◌, sym}
 use Rattle.parser_expressions.proofs.WordClasses.{no_symbol}
 use Rattle.parser_expressions.proofs.cursor.Cursor.is_symbol.Goals as goal
 
