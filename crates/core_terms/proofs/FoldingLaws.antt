@@ -6,8 +6,9 @@ use Rattle.std.proofs.Math.Nat.{mul-le-mul_left}
 use Rattle.std.specs.Option.{option_map}
 use Rattle.std.specs.Int.RustNames.{int_le, unsigned_abs}
 use Rattle.meaning_states.specs.State.{int_eq}
+use Rattle.meaning_states.specs.Division.{divisor, floored, rest_of}
 use Rattle.core_terms.specs.declared.trees.CTerm.{CTerm}
-use Rattle.core_terms.specs.declared.trees.CTerm.TheVariants.{Const, Add, Sub, Scale, Ite}
+use Rattle.core_terms.specs.declared.trees.CTerm.TheVariants.{Const, Add, Sub, Scale, Div, Mod, Ite}
 use Rattle.core_terms.specs.declared.trees.CForm.{CForm}
 use Rattle.core_terms.specs.declared.trees.CForm.TheVariants.{AtLeast, Zero, Not, And, Or}
 use Rattle.core_terms.specs.declared.trees.CForm.TheOpen.{CTerm-F, CForm-F}
@@ -15,13 +16,14 @@ use Rattle.core_terms.specs.Values.{term_step, form_step, term_value, form_value
 use Rattle.core_terms.specs.Weights.{Weights, weigh_term, term_weights}
 use Rattle.core_terms.specs.Folding.{joined, chosen, number_step, truth_step, number_of, truth_of, is_small}
 use Rattle.core_terms.specs.Folding.{constant_or, truth_or, branch_or, folded_term, folded_form, sum_term}
-use Rattle.core_terms.specs.Folding.{difference_term, scaled_term, choice_term, at_least_form, zero_form, not_form}
-use Rattle.core_terms.specs.Folding.{and_form, or_form}
+use Rattle.core_terms.specs.Folding.{difference_term, scaled_term, quotient_term, remainder_term, choice_term}
+use Rattle.core_terms.specs.Folding.{at_least_form, zero_form, not_form, and_form, or_form}
 use Rattle.core_terms.proofs.TreeFolds.{Steps, FormWith, TermWith, form_of, term_of, form_layer, term_layer}
 use Rattle.core_terms.proofs.TreeFolds.{fold_form_at, fold_term_at, FormsHave, TermsHave, each_form, each_term}
 use Rattle.core_terms.proofs.HeavierLaws.{weight_steps}
-use Rattle.core_terms.proofs.PartLaws.{value_steps, value-Const, value-Add, value-Sub, value-Scale, value-Ite}
-use Rattle.core_terms.proofs.PartLaws.{value-Top}
+use Rattle.core_terms.proofs.QuotientLaws.{floored_within, rest_of_within}
+use Rattle.core_terms.proofs.PartLaws.{value_steps, value-Const, value-Add, value-Sub, value-Scale, value-Div}
+use Rattle.core_terms.proofs.PartLaws.{value-Mod, value-Ite, value-Top}
 use Rattle.core_terms.proofs.PartLaws.{value-Bottom, value-AtLeast, value-Zero, value-Not, value-And, value-Or}
 
 -- the steps of what is known
@@ -67,6 +69,17 @@ right_scaled k None v a h = tt
 right_scaled k (Some x) v a h =
     let within : unsigned_abs k * unsigned_abs x ≤ unsigned_abs k * a = mul-le-mul_left (unsigned_abs k) h.1 in
     (ap (λ z. k *ℤ z) h.0, omega (arith, unsigned_abs-mul k x, within))
+
+right_quotient : (k : ℤ) (m : Option ℤ) (v : ℤ) (a : ℕ) → Right m v a →
+    Right (option_map (λ x. floored x k) m) (floored v k) (max 1 a)
+right_quotient k None v a h = tt
+right_quotient k (Some x) v a h =
+    let within = floored_within x k in (ap (λ z. floored z k) h.0, omega (arith, within, h.1))
+
+right_remainder : (k : ℤ) (m : Option ℤ) (v : ℤ) (a : ℕ) → Right m v a →
+    Right (option_map (λ x. rest_of x k) m) (rest_of v k) (2 * a + unsigned_abs (divisor k))
+right_remainder k None v a h = tt
+right_remainder k (Some x) v a h = let within = rest_of_within x k in (ap (λ z. rest_of z k) h.0, omega (arith, within))
 
 right_chosen : (c : Option Bool) (m n : Option ℤ) (t : Bool) (v w : ℤ) (a b : ℕ) → True c t → Right m v a → Right n w b
     →
@@ -129,6 +142,8 @@ module _ (s p : List ℤ) (slots params : ℕ → ℕ) where
   term_keeps (CTerm-F.Add a b) = right_sum _ _ _ _ _ _ a.1 b.1
   term_keeps (CTerm-F.Sub a b) = right_difference _ _ _ _ _ _ a.1 b.1
   term_keeps (CTerm-F.Scale k a) = right_scaled k _ _ _ a.1
+  term_keeps (CTerm-F.Div a k) = right_quotient k _ _ _ a.1
+  term_keeps (CTerm-F.Mod a k) = right_remainder k _ _ _ a.1
   term_keeps (CTerm-F.Ite c a b) = right_chosen _ _ _ _ _ _ _ _ c.1 a.1 b.1
 
   form_node : FormsHave FormRight TermRight
@@ -180,6 +195,14 @@ value-difference_term s p a b = value-folded_term s p (Sub a b) ∙ value-Sub s 
 
 pub value-scaled_term : (s p : List ℤ) (k : ℤ) (a : CTerm) → term_value s p (scaled_term k a) ≡ k *ℤ term_value s p a
 value-scaled_term s p k a = value-folded_term s p (Scale k a) ∙ value-Scale s p k a
+
+pub value-quotient_term : (s p : List ℤ) (k : ℤ) (a : CTerm) → term_value s p (quotient_term k a) ≡ floored
+    (term_value s p a) k
+value-quotient_term s p k a = value-folded_term s p (Div a k) ∙ value-Div s p a k
+
+pub value-remainder_term : (s p : List ℤ) (k : ℤ) (a : CTerm) → term_value s p (remainder_term k a) ≡ rest_of
+    (term_value s p a) k
+value-remainder_term s p k a = value-folded_term s p (Mod a k) ∙ value-Mod s p a k
 
 branch_value : (s p : List ℤ) (c : CForm) (a b : CTerm) (m : Option Bool) → True m (form_value s p c) →
     term_value s p (branch_or m a b (Ite c a b)) ≡ cond (form_value s p c) (term_value s p a) (term_value s p b)

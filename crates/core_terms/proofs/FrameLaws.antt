@@ -67,6 +67,8 @@ module _ (s d e : List ℤ) where
   term_same (CTerm-F.Sub a b) h =
       λ i. term_step s d (CTerm-F.Sub (a.1 (first _ _ h) i) (b.1 (second (λ n. term_names_param n a.0) _ h) i))
   term_same (CTerm-F.Scale k a) h = ap (λ z. term_step s d (CTerm-F.Scale k z)) (a.1 h)
+  term_same (CTerm-F.Div a k) h = ap (λ z. term_step s d (CTerm-F.Div z k)) (a.1 h)
+  term_same (CTerm-F.Mod a k) h = ap (λ z. term_step s d (CTerm-F.Mod z k)) (a.1 h)
   term_same (CTerm-F.Ite c a b) h =
       let rest = second (λ n. names_param n c.0) _ h in
       λ i. term_step s d (CTerm-F.Ite (c.1 (first _ _ h) i) (a.1 (first _ _ rest) i)

@@ -2,6 +2,7 @@
 use Rattle.std.proofs.Common.{ℕ, ◌+◌, ◌*◌, ◌≤◌, max, arith}
 use Rattle.std.proofs.Math.Nat.{mul-le-mul_left, mul-le-mul_right}
 use Rattle.std.specs.Int.RustNames.{unsigned_abs}
+use Rattle.meaning_states.specs.Division.{divisor}
 use Rattle.core_terms.specs.declared.trees.CTerm.{CTerm}
 use Rattle.core_terms.specs.declared.trees.CForm.{CForm}
 use Rattle.core_terms.specs.declared.trees.CForm.TheOpen.{CTerm-F, CForm-F}
@@ -28,6 +29,10 @@ max_scaled k a b c d h j =
 multiple_scaled : (k m a b : ℕ) → a ≤ k * b → m * a ≤ k * (m * b)
 multiple_scaled k m a b h = let more : m * a ≤ m * (k * b) = mul-le-mul_left m h in omega (arith, more)
 
+-- what weighs the same on both sides
+same_scaled : (k a : ℕ) → 1 ≤ k → a ≤ k * a
+same_scaled k a one = let more : 1 * a ≤ k * a = mul-le-mul_right a one in omega (arith, more)
+
 module _ (k : ℕ) (slots params less fewer : ℕ → ℕ) (one : 1 ≤ k) (slot_is : (n : ℕ) → slots n ≤ k * less n)
     (param_is : (n : ℕ) → params n ≤ k * fewer n) where
   -- a term of this weight over parts of at most such a weight
@@ -50,9 +55,7 @@ module _ (k : ℕ) (slots params less fewer : ℕ → ℕ) (one : 1 ≤ k) (slot
   form_keeps (CForm-F.Or f g) = max_scaled k _ _ _ _ f.1 g.1
 
   term_keeps : TermsKeep (weight_steps slots params) (weight_steps less fewer) Within (Scaled k)
-  term_keeps (CTerm-F.Const c) =
-      let more : 1 * unsigned_abs c ≤ k * unsigned_abs c = mul-le-mul_right (unsigned_abs c) one in
-      leaf _ _ (omega (arith, more))
+  term_keeps (CTerm-F.Const c) = leaf _ _ (same_scaled k (unsigned_abs c) one)
   term_keeps (CTerm-F.Slot n) = leaf _ _ (slot_is n)
   term_keeps (CTerm-F.Param n) = leaf _ _ (param_is n)
   term_keeps (CTerm-F.Add a b) =
@@ -60,6 +63,12 @@ module _ (k : ℕ) (slots params less fewer : ℕ → ℕ) (one : 1 ≤ k) (slot
   term_keeps (CTerm-F.Sub a b) =
       whole _ _ _ _ (sum_scaled k _ _ _ _ a.1.0 b.1.0) (max_scaled k _ _ _ _ a.1.1 b.1.1)
   term_keeps (CTerm-F.Scale m a) = whole _ _ _ _ (multiple_scaled k (unsigned_abs m) _ _ a.1.0) a.1.1
+  term_keeps (CTerm-F.Div a m) =
+      whole _ _ _ _ (max_scaled k _ _ _ _ (same_scaled k 1 one) a.1.0)
+      (max_scaled k _ _ _ _ (same_scaled k (unsigned_abs (divisor m)) one) a.1.1)
+  term_keeps (CTerm-F.Mod a m) =
+      let part = same_scaled k (unsigned_abs (divisor m)) one in
+      whole _ _ _ _ (sum_scaled k _ _ _ _ (multiple_scaled k 2 _ _ a.1.0) part) (max_scaled k _ _ _ _ part a.1.1)
   term_keeps (CTerm-F.Ite c a b) =
       whole _ _ _ _ (max_scaled k _ _ _ _ a.1.0 b.1.0) (max_scaled k _ _ _ _ c.1 (max_scaled k _ _ _ _ a.1.1 b.1.1))
 

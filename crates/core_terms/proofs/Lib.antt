@@ -6,6 +6,7 @@ pub mod HeavierLaws
 pub mod KnownLaws
 pub mod LighterLaws
 pub mod PartLaws
+pub mod QuotientLaws
 pub mod ReplacingLaws
 pub mod SameLaws
 pub mod TreeFolds

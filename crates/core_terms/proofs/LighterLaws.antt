@@ -1,21 +1,22 @@
 -- A tree with its slots and parameters replaced weighs at most what it does where they weigh as the terms.
-use Rattle.std.proofs.Common.{◌≡◌, ℕ, ◌*◌, ◌≤◌, max, ℤ, Bool, true, false, Option, Some, None, sym, subst, arith}
+use Rattle.std.proofs.Common.{◌≡◌, ℕ, ◌*◌, ◌^◌, ◌≤◌, max, ℤ, Bool, true, false, Option, Some, None, sym, subst, arith}
 use Rattle.std.proofs.Math.Nat.{mul-le-mul_left}
 use Rattle.std.specs.Int.RustNames.{unsigned_abs}
 use Rattle.core_terms.specs.declared.trees.CTerm.{CTerm}
-use Rattle.core_terms.specs.declared.trees.CTerm.TheVariants.{Const, Add, Sub, Scale, Ite, rolls-Add, rolls-Sub}
-use Rattle.core_terms.specs.declared.trees.CTerm.TheVariants.{rolls-Scale, rolls-Ite}
+use Rattle.core_terms.specs.declared.trees.CTerm.TheVariants.{Const, Add, Sub, Scale, Div, Mod, Ite, rolls-Add}
+use Rattle.core_terms.specs.declared.trees.CTerm.TheVariants.{rolls-Sub, rolls-Scale, rolls-Div, rolls-Mod, rolls-Ite}
 use Rattle.core_terms.specs.declared.trees.CForm.{CForm}
 use Rattle.core_terms.specs.declared.trees.CForm.TheVariants.{AtLeast, Zero, Not, And, Or, rolls-AtLeast, rolls-Zero}
 use Rattle.core_terms.specs.declared.trees.CForm.TheVariants.{rolls-Not, rolls-And, rolls-Or}
 use Rattle.core_terms.specs.declared.trees.CForm.TheOpen.{CTerm-F, CForm-F}
 use Rattle.core_terms.specs.Weights.{Weights, weighing, term_weights, form_weight, sum_weights, multiple_weights}
-use Rattle.core_terms.specs.Weights.{choice_weights}
-use Rattle.core_terms.specs.Folding.{truth_of, branch_or, sum_term, difference_term, scaled_term, choice_term}
-use Rattle.core_terms.specs.Folding.{at_least_form, zero_form, not_form, and_form, or_form}
+use Rattle.core_terms.specs.Weights.{quotient_weights, remainder_weights, choice_weights, one_weight, plain_weights}
+use Rattle.core_terms.specs.Folding.{truth_of, branch_or, sum_term, difference_term, scaled_term, quotient_term}
+use Rattle.core_terms.specs.Folding.{remainder_term, choice_term, at_least_form, zero_form, not_form, and_form, or_form}
 use Rattle.core_terms.specs.Replacing.{term_with, form_with}
 use Rattle.core_terms.proofs.TreeFolds.{fold_form_is, fold_term_is, FormsKeep, TermsKeep, forms_related, terms_related}
 use Rattle.core_terms.proofs.HeavierLaws.{weight_steps}
+use Rattle.core_terms.proofs.QuotientLaws.{divisor_within}
 use Rattle.core_terms.proofs.ReplacingLaws.{replace_steps}
 use Rattle.core_terms.proofs.WeightLaws.{Lighter, own_within, folded_lighter, folded_form_lighter, weights-Const}
 use Rattle.core_terms.proofs.WeightLaws.{weight-Top, weight-Bottom}
@@ -35,6 +36,12 @@ module _ (slots params : ℕ → ℕ) where
 
   weights-Scale : (k : ℤ) (a : CTerm) → W (Scale k a) ≡ multiple_weights k (W a)
   weights-Scale k a = fold_term_is (weight_steps slots params) _ _ (rolls-Scale k a)
+
+  weights-Div : (k : ℤ) (a : CTerm) → W (Div a k) ≡ quotient_weights k (W a)
+  weights-Div k a = fold_term_is (weight_steps slots params) _ _ (rolls-Div a k)
+
+  weights-Mod : (k : ℤ) (a : CTerm) → W (Mod a k) ≡ remainder_weights k (W a)
+  weights-Mod k a = fold_term_is (weight_steps slots params) _ _ (rolls-Mod a k)
 
   weights-Ite : (c : CForm) (a b : CTerm) → W (Ite c a b) ≡ choice_weights (V c) (W a) (W b)
   weights-Ite c a b = fold_term_is (weight_steps slots params) _ _ (rolls-Ite c a b)
@@ -80,6 +87,20 @@ module _ (slots params : ℕ → ℕ) where
       let more : unsigned_abs k * (W a).own ≤ unsigned_abs k * v.own = mul-le-mul_left (unsigned_abs k) h.0 in
       (omega (arith, f.0, more), omega (arith, f.1, more, h.1))
 
+  quotient_lighter : (k : ℤ) (a : CTerm) (v : Weights) → Lighter (W a) v → Lighter (W (quotient_term k a))
+      (quotient_weights k v)
+  quotient_lighter k a v h =
+      let f = subst (λ x. Lighter (W (quotient_term k a)) x) (weights-Div k a) (folded_lighter slots params (Div a k))
+      in
+      (omega (arith, f.0, h.0), omega (arith, f.1, h.0, h.1))
+
+  remainder_lighter : (k : ℤ) (a : CTerm) (v : Weights) → Lighter (W a) v → Lighter (W (remainder_term k a))
+      (remainder_weights k v)
+  remainder_lighter k a v h =
+      let f = subst (λ x. Lighter (W (remainder_term k a)) x) (weights-Mod k a) (folded_lighter slots params (Mod a k))
+      in
+      (omega (arith, f.0, h.0), omega (arith, f.1, h.0, h.1))
+
   pub branch_lighter : (c : CForm) (a b : CTerm) (n : ℕ) (v w : Weights) (m : Option Bool) → V c ≤ n → Lighter (W a) v →
       Lighter (W b) w →
       Lighter (W (branch_or m a b (Ite c a b))) (choice_weights n v w)
@@ -107,6 +128,15 @@ module _ (slots params : ℕ → ℕ) where
 
   pub or_lighter : (f g : CForm) (m n : ℕ) → V f ≤ m → V g ≤ n → V (or_form f g) ≤ max m n
   or_lighter f g m n h k = omega (arith, folded_form_lighter slots params (Or f g), weight-Or f g, h, k)
+
+-- a quotient weighs little where its part and the divisor do
+pub quotient_little : (k : ℤ) (a : CTerm) → unsigned_abs k ≤ 2 ^ 63 → (plain_weights a).most ≤ 2 ^ 126 →
+    (plain_weights (Div a k)).most ≤ 2 ^ 126
+quotient_little k a h w =
+    let within = own_within one_weight one_weight a in
+    let divides = divisor_within k in
+    subst (λ (v : Weights). v.most ≤ 2 ^ 126) (sym (weights-Div one_weight one_weight k a))
+    (omega (arith, within, divides, h, w))
 
 module _ (slots params after numbers : ℕ → ℕ) (terms names : ℕ → CTerm)
     (slot_is : (n : ℕ) → (term_weights slots params (terms n)).most ≤ after n)
@@ -138,6 +168,8 @@ module _ (slots params after numbers : ℕ → ℕ) (terms names : ℕ → CTerm
   term_less (CTerm-F.Add a b) = sum_lighter slots params _ _ _ _ a.1 b.1
   term_less (CTerm-F.Sub a b) = difference_lighter slots params _ _ _ _ a.1 b.1
   term_less (CTerm-F.Scale k a) = multiple_lighter slots params k _ _ a.1
+  term_less (CTerm-F.Div a k) = quotient_lighter slots params k _ _ a.1
+  term_less (CTerm-F.Mod a k) = remainder_lighter slots params k _ _ a.1
   term_less (CTerm-F.Ite c a b) = choice_lighter slots params _ _ _ _ _ _ c.1 a.1 b.1
 
   pub form_lighter : (f : CForm) → form_weight slots params (form_with terms names f) ≤ form_weight after numbers f

@@ -2,10 +2,11 @@
 use Rattle.std.proofs.Common.{◌≡◌, ℕ, ℤ, pos, ◌+ℤ◌, ◌-ℤ◌, ◌*ℤ◌, List, Bool, true, false, cond, not, ◌&&◌, ◌||◌}
 use Rattle.std.specs.Int.RustNames.{int_le}
 use Rattle.meaning_states.specs.State.{int_eq}
+use Rattle.meaning_states.specs.Division.{floored, rest_of}
 use Rattle.core_terms.specs.declared.trees.CTerm.{CTerm}
-use Rattle.core_terms.specs.declared.trees.CTerm.TheVariants.{Const, Slot, Param, Add, Sub, Scale, Ite, rolls-Const}
-use Rattle.core_terms.specs.declared.trees.CTerm.TheVariants.{rolls-Slot, rolls-Param, rolls-Add, rolls-Sub}
-use Rattle.core_terms.specs.declared.trees.CTerm.TheVariants.{rolls-Scale, rolls-Ite}
+use Rattle.core_terms.specs.declared.trees.CTerm.TheVariants.{Const, Slot, Param, Add, Sub, Scale, Div, Mod, Ite}
+use Rattle.core_terms.specs.declared.trees.CTerm.TheVariants.{rolls-Const, rolls-Slot, rolls-Param, rolls-Add}
+use Rattle.core_terms.specs.declared.trees.CTerm.TheVariants.{rolls-Sub, rolls-Scale, rolls-Div, rolls-Mod, rolls-Ite}
 use Rattle.core_terms.specs.declared.trees.CForm.{CForm}
 use Rattle.core_terms.specs.declared.trees.CForm.TheVariants.{Top, Bottom, AtLeast, Zero, Not, And, Or, rolls-Top}
 use Rattle.core_terms.specs.declared.trees.CForm.TheVariants.{rolls-Bottom, rolls-AtLeast, rolls-Zero, rolls-Not}
@@ -34,6 +35,12 @@ value-Sub s p a b = fold_term_is (value_steps s p) _ _ (rolls-Sub a b)
 
 pub value-Scale : (s p : List ℤ) (k : ℤ) (a : CTerm) → term_value s p (Scale k a) ≡ k *ℤ term_value s p a
 value-Scale s p k a = fold_term_is (value_steps s p) _ _ (rolls-Scale k a)
+
+pub value-Div : (s p : List ℤ) (a : CTerm) (k : ℤ) → term_value s p (Div a k) ≡ floored (term_value s p a) k
+value-Div s p a k = fold_term_is (value_steps s p) _ _ (rolls-Div a k)
+
+pub value-Mod : (s p : List ℤ) (a : CTerm) (k : ℤ) → term_value s p (Mod a k) ≡ rest_of (term_value s p a) k
+value-Mod s p a k = fold_term_is (value_steps s p) _ _ (rolls-Mod a k)
 
 pub value-Ite : (s p : List ℤ) (c : CForm) (a b : CTerm) → term_value s p (Ite c a b) ≡ cond (form_value s p c)
     (term_value s p a) (term_value s p b)

@@ -6,6 +6,7 @@ use Rattle.std.proofs.lemmas.Int.{ints}
 use Rattle.std.proofs.Math.Nat.{mul-le-mul_left}
 use Rattle.std.specs.Int.RustNames.{int_le, unsigned_abs}
 use Rattle.meaning_states.specs.State.{int_eq}
+use Rattle.meaning_states.specs.Division.{floored, rest_of}
 use Rattle.core_terms.specs.declared.trees.CTerm.{CTerm}
 use Rattle.core_terms.specs.declared.trees.CTerm.TheVariants.{Const, Slot, Param, Scale, rolls-Scale}
 use Rattle.core_terms.specs.declared.trees.CForm.{CForm}
@@ -23,9 +24,9 @@ use Rattle.core_terms.proofs.WeightLaws.{own_within}
 use Rattle.core_terms.proofs.PartLaws.{value_steps, value-Const, value-Slot, value-Param, value-Add, value-Sub}
 use Rattle.core_terms.proofs.PartLaws.{value-Top}
 use Rattle.core_terms.proofs.PartLaws.{value-Bottom}
-use Rattle.core_terms.proofs.FoldingLaws.{value-sum_term, value-difference_term, value-scaled_term, value-choice_term}
-use Rattle.core_terms.proofs.FoldingLaws.{value-at_least_form, value-zero_form, value-not_form, value-and_form}
-use Rattle.core_terms.proofs.FoldingLaws.{value-or_form}
+use Rattle.core_terms.proofs.FoldingLaws.{value-sum_term, value-difference_term, value-scaled_term, value-quotient_term}
+use Rattle.core_terms.proofs.FoldingLaws.{value-remainder_term, value-choice_term, value-at_least_form, value-zero_form}
+use Rattle.core_terms.proofs.FoldingLaws.{value-not_form, value-and_form, value-or_form}
 
 -- the steps of putting terms for slots and parameters
 abbrev pub replace_steps : (ℕ → CTerm) → (ℕ → CTerm) → Steps CForm CTerm
@@ -56,6 +57,8 @@ module _ (s p t q : List ℤ) (slots params : ℕ → CTerm) (slot_is : (n : ℕ
   term_worth (CTerm-F.Add a b) = value-sum_term s p _ _ ∙ (λ i. a.1 i +ℤ b.1 i)
   term_worth (CTerm-F.Sub a b) = value-difference_term s p _ _ ∙ (λ i. a.1 i -ℤ b.1 i)
   term_worth (CTerm-F.Scale k a) = value-scaled_term s p k _ ∙ ap (λ z. k *ℤ z) a.1
+  term_worth (CTerm-F.Div a k) = value-quotient_term s p k _ ∙ ap (λ z. floored z k) a.1
+  term_worth (CTerm-F.Mod a k) = value-remainder_term s p k _ ∙ ap (λ z. rest_of z k) a.1
   term_worth (CTerm-F.Ite c a b) = value-choice_term s p _ _ _ ∙ (λ i. cond (c.1 i) (a.1 i) (b.1 i))
 
   pub form_replaced : (f : CForm) → form_value s p (form_with slots params f) ≡ form_value t q f

@@ -111,6 +111,14 @@ module _ where
       let number = ints_same k l (and_left (int_eq k l) (same_term a.0 b) t) in
       let part = a.1.0 b (and_right (int_eq k l) (same_term a.0 b) t) in
       λ i. CTerm-F.Scale (number i) (part i)
+  term_case (CTerm-F.Div a k) (CTerm-F.Div b l) t =
+      let number = ints_same k l (and_left (int_eq k l) (same_term a.0 b) t) in
+      let part = a.1.0 b (and_right (int_eq k l) (same_term a.0 b) t) in
+      λ i. CTerm-F.Div (part i) (number i)
+  term_case (CTerm-F.Mod a k) (CTerm-F.Mod b l) t =
+      let number = ints_same k l (and_left (int_eq k l) (same_term a.0 b) t) in
+      let part = a.1.0 b (and_right (int_eq k l) (same_term a.0 b) t) in
+      λ i. CTerm-F.Mod (part i) (number i)
   term_case (CTerm-F.Ite c a b) (CTerm-F.Ite d p q) t =
       let rest = and_right (same_form c.0 d) (same_term a.0 p && same_term b.0 q) t in
       let two = b.1.0 q (and_right (same_term a.0 p) (same_term b.0 q) rest) in
@@ -133,6 +141,8 @@ module _ where
   term_self (CTerm-F.Add a b) = both_true (same_term a.0 a.0) (same_term b.0 b.0) a.1.1 b.1.1
   term_self (CTerm-F.Sub a b) = both_true (same_term a.0 a.0) (same_term b.0 b.0) a.1.1 b.1.1
   term_self (CTerm-F.Scale k a) = both_true (int_eq k k) (same_term a.0 a.0) (int_self k) a.1.1
+  term_self (CTerm-F.Div a k) = both_true (int_eq k k) (same_term a.0 a.0) (int_self k) a.1.1
+  term_self (CTerm-F.Mod a k) = both_true (int_eq k k) (same_term a.0 a.0) (int_self k) a.1.1
   term_self (CTerm-F.Ite c a b) = both_true (same_form c.0 c.0) (same_term a.0 a.0 && same_term b.0 b.0) c.1.1
       (both_true (same_term a.0 a.0) (same_term b.0 b.0) a.1.1 b.1.1)
 

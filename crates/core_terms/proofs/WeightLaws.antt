@@ -22,6 +22,8 @@ layer_within slots params (CTerm-F.Param n) = omega arith
 layer_within slots params (CTerm-F.Add a b) = omega arith
 layer_within slots params (CTerm-F.Sub a b) = omega arith
 layer_within slots params (CTerm-F.Scale k a) = omega arith
+layer_within slots params (CTerm-F.Div a k) = omega arith
+layer_within slots params (CTerm-F.Mod a k) = omega arith
 layer_within slots params (CTerm-F.Ite c a b) = omega arith
 
 -- a term's own weight is among those of its parts

@@ -4,8 +4,9 @@ use Rattle.std.specs.Prelude.{None, nat_le}
 use Rattle.std.specs.Option.{option_map}
 use Rattle.std.specs.Int.RustNames.{int_le, unsigned_abs}
 use Rattle.meaning_states.specs.State.{int_eq}
+use Rattle.meaning_states.specs.Division.{floored, rest_of}
 use Rattle.core_terms.specs.declared.trees.CTerm.{CTerm, fold-CTerm}
-use Rattle.core_terms.specs.declared.trees.CTerm.TheVariants.{Const, Add, Sub, Scale, Ite}
+use Rattle.core_terms.specs.declared.trees.CTerm.TheVariants.{Const, Add, Sub, Scale, Div, Mod, Ite}
 use Rattle.core_terms.specs.declared.trees.CForm.{CForm, fold-CForm}
 use Rattle.core_terms.specs.declared.trees.CForm.TheVariants.{Top, Bottom, AtLeast, Zero, Not, And, Or}
 use Rattle.core_terms.specs.declared.trees.CForm.TheOpen.{CTerm-F, CForm-F}
@@ -29,6 +30,8 @@ number_step (CTerm-F.Param n) = None
 number_step (CTerm-F.Add a b) = joined (λ x y. x +ℤ y) a b
 number_step (CTerm-F.Sub a b) = joined (λ x y. x -ℤ y) a b
 number_step (CTerm-F.Scale k a) = option_map (λ x. k *ℤ x) a
+number_step (CTerm-F.Div a k) = option_map (λ x. floored x k) a
+number_step (CTerm-F.Mod a k) = option_map (λ x. rest_of x k) a
 number_step (CTerm-F.Ite c a b) = chosen c a b
 
 -- the truth of a formula, from that of its parts
@@ -82,6 +85,14 @@ difference_term a b = folded_term (Sub a b)
 -- a multiple, folded
 abbrev pub scaled_term : ℤ → CTerm → CTerm
 scaled_term k a = folded_term (Scale k a)
+
+-- a quotient, folded
+abbrev pub quotient_term : ℤ → CTerm → CTerm
+quotient_term k a = folded_term (Div a k)
+
+-- a remainder, folded
+abbrev pub remainder_term : ℤ → CTerm → CTerm
+remainder_term k a = folded_term (Mod a k)
 
 -- the branch where the condition is known, and else the whole choice
 abbrev pub branch_or : Option Bool → CTerm → CTerm → CTerm → CTerm

@@ -12,6 +12,8 @@ slots_step (CTerm-F.Param n) = 0
 slots_step (CTerm-F.Add a b) = max a b
 slots_step (CTerm-F.Sub a b) = max a b
 slots_step (CTerm-F.Scale k a) = a
+slots_step (CTerm-F.Div a k) = a
+slots_step (CTerm-F.Mod a k) = a
 slots_step (CTerm-F.Ite c a b) = max c (max a b)
 
 -- one more than the greatest number of a parameter, from those of the parts
@@ -22,6 +24,8 @@ params_step (CTerm-F.Param n) = n + 1
 params_step (CTerm-F.Add a b) = max a b
 params_step (CTerm-F.Sub a b) = max a b
 params_step (CTerm-F.Scale k a) = a
+params_step (CTerm-F.Div a k) = a
+params_step (CTerm-F.Mod a k) = a
 params_step (CTerm-F.Ite c a b) = max c (max a b)
 
 -- the greatest of a formula's parts
@@ -56,6 +60,8 @@ only_step slots params (CTerm-F.Param n) = params n
 only_step slots params (CTerm-F.Add a b) = a && b
 only_step slots params (CTerm-F.Sub a b) = a && b
 only_step slots params (CTerm-F.Scale k a) = a
+only_step slots params (CTerm-F.Div a k) = a
+only_step slots params (CTerm-F.Mod a k) = a
 only_step slots params (CTerm-F.Ite c a b) = c && (a && b)
 
 -- whether all of a formula's do
@@ -84,6 +90,8 @@ param_step n (CTerm-F.Param m) = nat_eq m n
 param_step n (CTerm-F.Add a b) = a || b
 param_step n (CTerm-F.Sub a b) = a || b
 param_step n (CTerm-F.Scale k a) = a
+param_step n (CTerm-F.Div a k) = a
+param_step n (CTerm-F.Mod a k) = a
 param_step n (CTerm-F.Ite c a b) = c || (a || b)
 
 -- whether one of a formula's parts does

@@ -11,8 +11,8 @@ use Rattle.core_terms.specs.declared.documents.Arg.{Arg}
 use Rattle.meaning_states.specs.State.{State}
 use Rattle.core_terms.specs.Values.{number_at, form_value}
 use Rattle.core_terms.specs.Weights.{Weights, one_weight, term_weights, form_weight}
-use Rattle.core_terms.specs.Folding.{sum_term, difference_term, scaled_term, choice_term, at_least_form, zero_form}
-use Rattle.core_terms.specs.Folding.{not_form, and_form, or_form}
+use Rattle.core_terms.specs.Folding.{sum_term, difference_term, scaled_term, quotient_term, remainder_term, choice_term}
+use Rattle.core_terms.specs.Folding.{at_least_form, zero_form, not_form, and_form, or_form}
 
 -- a term from its replaced parts, where these terms stand for the slots and for the parameters
 abbrev pub replace_term : (ℕ → CTerm) → (ℕ → CTerm) → CTerm-F CForm CTerm → CTerm
@@ -22,6 +22,8 @@ replace_term slots params (CTerm-F.Param n) = params n
 replace_term slots params (CTerm-F.Add a b) = sum_term a b
 replace_term slots params (CTerm-F.Sub a b) = difference_term a b
 replace_term slots params (CTerm-F.Scale k a) = scaled_term k a
+replace_term slots params (CTerm-F.Div a k) = quotient_term k a
+replace_term slots params (CTerm-F.Mod a k) = remainder_term k a
 replace_term slots params (CTerm-F.Ite c a b) = choice_term c a b
 
 -- a formula from its replaced parts

@@ -12,6 +12,8 @@ term_size (CTerm-F.Param n) = 1
 term_size (CTerm-F.Add a b) = 1 + a + b
 term_size (CTerm-F.Sub a b) = 1 + a + b
 term_size (CTerm-F.Scale k a) = 1 + a
+term_size (CTerm-F.Div a k) = 1 + a
+term_size (CTerm-F.Mod a k) = 1 + a
 term_size (CTerm-F.Ite c a b) = 1 + c + a + b
 
 -- a formula's nodes, from those of its parts

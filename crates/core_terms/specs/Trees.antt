@@ -13,6 +13,8 @@ same_terms (CTerm-F.Param m) (CTerm-F.Param n) = nat_eq m n
 same_terms (CTerm-F.Add a b) (CTerm-F.Add c d) = a c && b d
 same_terms (CTerm-F.Sub a b) (CTerm-F.Sub c d) = a c && b d
 same_terms (CTerm-F.Scale k a) (CTerm-F.Scale l b) = int_eq k l && a b
+same_terms (CTerm-F.Div a k) (CTerm-F.Div b l) = int_eq k l && a b
+same_terms (CTerm-F.Mod a k) (CTerm-F.Mod b l) = int_eq k l && a b
 same_terms (CTerm-F.Ite c a b) (CTerm-F.Ite d e f) = c d && (a e && b f)
 same_terms _ _ = false
 

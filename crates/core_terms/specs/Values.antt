@@ -3,6 +3,7 @@ use Rattle.std.specs.Prelude.{ℕ, slice_index_or, ℤ, pos, ◌+ℤ◌, ◌-ℤ
 use Rattle.std.specs.Prelude.{◌||◌}
 use Rattle.std.specs.Int.RustNames.{int_le}
 use Rattle.meaning_states.specs.State.{State, int_eq}
+use Rattle.meaning_states.specs.Division.{floored, rest_of}
 use Rattle.core_terms.specs.declared.trees.CTerm.{CTerm, fold-CTerm}
 use Rattle.core_terms.specs.declared.trees.CForm.TheOpen.{CTerm-F, CForm-F}
 use Rattle.core_terms.specs.declared.trees.CForm.{CForm, fold-CForm}
@@ -19,6 +20,8 @@ term_step state params (CTerm-F.Param n) = number_at params n
 term_step state params (CTerm-F.Add a b) = a +ℤ b
 term_step state params (CTerm-F.Sub a b) = a -ℤ b
 term_step state params (CTerm-F.Scale k a) = k *ℤ a
+term_step state params (CTerm-F.Div a k) = floored a k
+term_step state params (CTerm-F.Mod a k) = rest_of a k
 term_step state params (CTerm-F.Ite c a b) = cond c a b
 
 -- a formula's truth, from that of its parts

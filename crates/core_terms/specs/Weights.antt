@@ -2,6 +2,7 @@
 use Rattle.std.specs.Prelude.{ℕ, ◌+◌, ◌*◌, max, ℤ, List, Option, Some, None, slice_get}
 use Rattle.std.specs.Int.RustNames.{unsigned_abs}
 use Rattle.std.specs.Option.{option_map}
+use Rattle.meaning_states.specs.Division.{divisor}
 use Rattle.core_terms.specs.declared.programs.CSlot.{CSlot}
 use Rattle.core_terms.specs.declared.trees.Range.{Range}
 use Rattle.core_terms.specs.declared.trees.CTerm.{CTerm, fold-CTerm}
@@ -26,6 +27,14 @@ sum_weights a b = weighing (a.own + b.own) (max a.most b.most)
 abbrev pub multiple_weights : ℤ → Weights → Weights
 multiple_weights k a = weighing (unsigned_abs k * a.own) a.most
 
+-- the weights of a quotient; the divisor weighs as a part does
+abbrev pub quotient_weights : ℤ → Weights → Weights
+quotient_weights k a = weighing (max 1 a.own) (max (unsigned_abs (divisor k)) a.most)
+
+-- the weights of a remainder, which is the term less a multiple of the quotient
+abbrev pub remainder_weights : ℤ → Weights → Weights
+remainder_weights k a = weighing (2 * a.own + unsigned_abs (divisor k)) (max (unsigned_abs (divisor k)) a.most)
+
 -- the weights of a choice, whose condition weighs so much
 abbrev pub choice_weights : ℕ → Weights → Weights → Weights
 choice_weights c a b = weighing (max a.own b.own) (max c (max a.most b.most))
@@ -38,6 +47,8 @@ weigh_term slots params (CTerm-F.Param n) = weighing (params n) 0
 weigh_term slots params (CTerm-F.Add a b) = sum_weights a b
 weigh_term slots params (CTerm-F.Sub a b) = sum_weights a b
 weigh_term slots params (CTerm-F.Scale k a) = multiple_weights k a
+weigh_term slots params (CTerm-F.Div a k) = quotient_weights k a
+weigh_term slots params (CTerm-F.Mod a k) = remainder_weights k a
 weigh_term slots params (CTerm-F.Ite c a b) = choice_weights c a b
 
 -- a formula's weight is the greatest of its terms'

@@ -16,6 +16,8 @@ pub fn copy_term(_alloc: Global, t: &CTerm) -> Result<CTerm, AllocError>
         CTerm::Add(a, b) => Ok(CTerm::Add(a.share()?, b.share()?)),
         CTerm::Sub(a, b) => Ok(CTerm::Sub(a.share()?, b.share()?)),
         CTerm::Scale(k, a) => Ok(CTerm::Scale(*k, a.share()?)),
+        CTerm::Div(a, k) => Ok(CTerm::Div(a.share()?, *k)),
+        CTerm::Mod(a, k) => Ok(CTerm::Mod(a.share()?, *k)),
         CTerm::Ite(c, a, b) => Ok(CTerm::Ite(c.share()?, a.share()?, b.share()?)),
     }
 }

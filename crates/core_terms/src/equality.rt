@@ -34,6 +34,8 @@ pub fn same_term(t: &CTerm, u: &CTerm) -> bool
         (CTerm::Sub(a, b), CTerm::Sub(c, d)) => same_term(a.get(), c.get())
             && same_term(b.get(), d.get()),
         (CTerm::Scale(k, a), CTerm::Scale(l, b)) => *k == *l && same_term(a.get(), b.get()),
+        (CTerm::Div(a, k), CTerm::Div(b, l)) => *k == *l && same_term(a.get(), b.get()),
+        (CTerm::Mod(a, k), CTerm::Mod(b, l)) => *k == *l && same_term(a.get(), b.get()),
         (CTerm::Ite(c, a, b), CTerm::Ite(d, e, h)) => {
             same(c.get(), d.get()) && same_term(a.get(), e.get()) && same_term(b.get(), h.get())
         }

@@ -5,7 +5,7 @@ ghost use Rattle.core_terms.specs.Values.{number_at, term_value, form_value};
 ghost use Rattle.core_terms.specs.Weights.{term_weights, form_weight, number_weight};
 ghost use Rattle.core_terms.specs.Places.{term_slots, form_slots, term_params, form_params};
 
-use crate::folding::scaled;
+use crate::folding::{quotient, remainder, scaled};
 use crate::trees::{CForm, CTerm};
 
 /// The value of a term at a state and numbers of the parameters.
@@ -25,6 +25,8 @@ pub fn value(t: &CTerm, state: &[i64], params: &[i64]) -> i128
         CTerm::Add(a, b) => value(a.get(), state, params) + value(b.get(), state, params),
         CTerm::Sub(a, b) => value(a.get(), state, params) - value(b.get(), state, params),
         CTerm::Scale(k, a) => scaled(*k, value(a.get(), state, params)),
+        CTerm::Div(a, k) => quotient(value(a.get(), state, params), *k),
+        CTerm::Mod(a, k) => remainder(value(a.get(), state, params), *k),
         CTerm::Ite(c, a, b) => {
             if holds(c.get(), state, params) {
                 value(a.get(), state, params)

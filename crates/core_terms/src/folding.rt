@@ -2,7 +2,9 @@
 ghost use Rattle.std.specs.Prelude.{◌≡◌, ◌+◌, ◌*◌, ◌^◌, ◌≤◌, ◌+ℤ◌, ◌-ℤ◌, ◌*ℤ◌, IfOk, MatchOption, max};
 ghost use Rattle.std.specs.Option.{option_map};
 ghost use Rattle.std.specs.Int.RustNames.{unsigned_abs};
+ghost use Rattle.meaning_states.specs.Division.{divisor, floored, rest_of};
 ghost use Rattle.core_terms.specs.Weights.{plain_weights, plain_weight, sum_weights, multiple_weights, choice_weights};
+ghost use Rattle.core_terms.specs.Weights.{quotient_weights, remainder_weights};
 ghost use Rattle.core_terms.specs.Folding as fold;
 
 use crate::trees::{CForm, CTerm};
@@ -25,6 +27,8 @@ pub fn number_of(t: &CTerm) -> Option<i128>
         CTerm::Add(a, b) => known_sum(a, b),
         CTerm::Sub(a, b) => known_difference(a, b),
         CTerm::Scale(k, a) => known_multiple(*k, a),
+        CTerm::Div(a, k) => known_quotient(*k, a),
+        CTerm::Mod(a, k) => known_remainder(*k, a),
         CTerm::Ite(c, a, b) => known_choice(c, a, b),
     }
 }
@@ -61,6 +65,27 @@ fn known_multiple(k: i64, a: &Shared<CTerm>) -> Option<i128>
     ensures bound { MatchOption result (Unit {0}) (λ z. unsigned_abs z ≤ unsigned_abs k * (plain_weights a.now).own) }
 {
     Some(scaled(k, number_of(a.get())?))
+}
+
+#[cycle(known)]
+#[inline(never)]
+fn known_quotient(k: i64, a: &Shared<CTerm>) -> Option<i128>
+    requires { (quotient_weights k (plain_weights a.now)).most ≤ 2 ^ 126 }
+    ensures value { result ≡ option_map (λ x. floored x k) (fold.number_of a.now) }
+    ensures bound { MatchOption result (Unit {0}) (λ z. unsigned_abs z ≤ max 1 (plain_weights a.now).own) }
+{
+    Some(quotient(number_of(a.get())?, k))
+}
+
+#[cycle(known)]
+#[inline(never)]
+fn known_remainder(k: i64, a: &Shared<CTerm>) -> Option<i128>
+    requires { (remainder_weights k (plain_weights a.now)).most ≤ 2 ^ 126 }
+    ensures value { result ≡ option_map (λ x. rest_of x k) (fold.number_of a.now) }
+    ensures bound { MatchOption result (Unit {0}) (λ z. unsigned_abs z ≤
+        2 * (plain_weights a.now).own + unsigned_abs (divisor k)) }
+{
+    Some(remainder(number_of(a.get())?, k))
 }
 
 #[cycle(known)]
@@ -106,6 +131,22 @@ pub fn scaled(k: i64, number: i128) -> i128
     ensures bound { unsigned_abs result ≡ unsigned_abs k * unsigned_abs number }
 {
     k as i128 * number
+}
+
+/// A number divided by another, rounded down; by 1 where the other is less.
+pub fn quotient(number: i128, k: i64) -> i128
+    ensures value { result ≡ floored number k }
+    ensures bound { unsigned_abs result ≤ max 1 (unsigned_abs number) }
+{
+    number.div_euclid(i128::from(k.max(1)))
+}
+
+/// What that division leaves of the number.
+pub fn remainder(number: i128, k: i64) -> i128
+    ensures value { result ≡ rest_of number k }
+    ensures bound { unsigned_abs result ≤ 2 * unsigned_abs number + unsigned_abs (divisor k) }
+{
+    number.rem_euclid(i128::from(k.max(1)))
 }
 
 /// The term, or the constant of its value where it has no slot and no parameter and lies within plus or
@@ -198,6 +239,33 @@ pub fn scaled_term(alloc: Global, k: i64, a: CTerm) -> Result<CTerm, AllocError>
     ensures most { IfOk result (λ t. (plain_weights t).most ≤ 2 ^ 126) }
 {
     let whole = CTerm::Scale(k, Shared::new(alloc, a)?);
+    Ok(folded_term(whole))
+}
+
+/// A term divided by a number, rounded down, folded; the division is by 1 where the number is less.
+///
+/// An error says that memory was refused.
+pub fn quotient_term(alloc: Global, k: i64, a: CTerm) -> Result<CTerm, AllocError>
+    requires { (plain_weights a).most ≤ 2 ^ 126 }
+    ensures tree { IfOk result (λ t. t ≡ fold.quotient_term k a) }
+    ensures own { IfOk result (λ t. (plain_weights t).own ≤ max 1 (plain_weights a).own) }
+    ensures most { IfOk result (λ t. (plain_weights t).most ≤ 2 ^ 126) }
+{
+    let whole = CTerm::Div(Shared::new(alloc, a)?, k);
+    Ok(folded_term(whole))
+}
+
+/// What the division of a term by a number leaves, folded; the division is by 1 where the number is less.
+///
+/// An error says that memory was refused.
+pub fn remainder_term(alloc: Global, k: i64, a: CTerm) -> Result<CTerm, AllocError>
+    requires own { 2 * (plain_weights a).own + unsigned_abs (divisor k) ≤ 2 ^ 126 }
+    requires parts { (plain_weights a).most ≤ 2 ^ 126 }
+    ensures tree { IfOk result (λ t. t ≡ fold.remainder_term k a) }
+    ensures own { IfOk result (λ t. (plain_weights t).own ≤ 2 * (plain_weights a).own + unsigned_abs (divisor k)) }
+    ensures most { IfOk result (λ t. (plain_weights t).most ≤ 2 ^ 126) }
+{
+    let whole = CTerm::Mod(Shared::new(alloc, a)?, k);
     Ok(folded_term(whole))
 }
 

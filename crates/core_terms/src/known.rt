@@ -3,11 +3,13 @@ ghost use Rattle.std.specs.Prelude.{◌≡◌, ◌+◌, ◌*◌, ◌^◌, ◌≤
 ghost use Rattle.std.specs.Option.{option_map};
 ghost use Rattle.std.specs.Int.RustNames.{unsigned_abs};
 ghost use Rattle.meaning_states.specs.State.{int_eq};
+ghost use Rattle.meaning_states.specs.Division.{divisor, floored, rest_of};
 ghost use Rattle.core_terms.specs.Weights.{plain_weights, plain_weight, sum_weights, multiple_weights, choice_weights};
+ghost use Rattle.core_terms.specs.Weights.{quotient_weights, remainder_weights};
 ghost use Rattle.core_terms.specs.Folding as fold;
 
 use crate::copies::owned_term;
-use crate::folding::{form_by, scaled, term_by};
+use crate::folding::{form_by, quotient, remainder, scaled, term_by};
 use crate::trees::{CForm, CTerm};
 use std::alloc::{AllocError, Global};
 use unity_base::Shared;
@@ -119,6 +121,65 @@ fn scaled_number(k: i64, a: &CTerm, part: Option<i128>) -> Option<i128>
     ensures { result ≡ option_map (λ x. k *ℤ x) part }
 {
     Some(scaled(k, part?))
+}
+
+/// A term divided by a number, rounded down, folded; the division is by 1 where the number is less.
+/// `number` is the number of the term before the call and that of the result after it; there is none where
+/// a slot or a parameter is named.
+///
+/// An error says that memory was refused.
+#[inline(never)]
+pub fn quotient_known(
+    alloc: Global,
+    k: i64,
+    a: Shared<CTerm>,
+    number: &mut Option<i128>,
+) -> Result<Shared<CTerm>, AllocError>
+    requires { number.old ≡ fold.number_of a }
+    ensures tree { IfOk result (λ t. t ≡ fold.quotient_term k a) }
+    ensures number { IfOk result (λ t. number.new ≡ fold.number_of t) }
+    ensures own { IfOk result (λ t. (plain_weights t).own ≤ max 1 (plain_weights a).own) }
+    ensures most { IfOk result (λ t. (plain_weights t).most ≤ (quotient_weights k (plain_weights a)).most) }
+{
+    *number = quotient_number(k, *number);
+    placed_term(alloc, CTerm::Div(a, k), *number)
+}
+
+// The number of a quotient, from that of its part.
+fn quotient_number(k: i64, part: Option<i128>) -> Option<i128>
+    ensures { result ≡ option_map (λ x. floored x k) part }
+{
+    Some(quotient(part?, k))
+}
+
+/// What the division of a term by a number leaves, folded; the division is by 1 where the number is less.
+/// `number` is the number of the term before the call and that of the result after it; there is none where
+/// a slot or a parameter is named.
+///
+/// An error says that memory was refused.
+#[inline(never)]
+pub fn remainder_known(
+    alloc: Global,
+    k: i64,
+    a: Shared<CTerm>,
+    number: &mut Option<i128>,
+) -> Result<Shared<CTerm>, AllocError>
+    requires { number.old ≡ fold.number_of a }
+    ensures tree { IfOk result (λ t. t ≡ fold.remainder_term k a) }
+    ensures number { IfOk result (λ t. number.new ≡ fold.number_of t) }
+    ensures own { IfOk result (λ t. (plain_weights t).own ≤
+        2 * (plain_weights a).own + unsigned_abs (divisor k)) }
+    ensures most { IfOk result (λ t. (plain_weights t).most ≤ (remainder_weights k (plain_weights a)).most) }
+{
+    *number = remainder_number(k, *number);
+    placed_term(alloc, CTerm::Mod(a, k), *number)
+}
+
+// The number of a remainder, from that of its part.
+fn remainder_number(k: i64, part: Option<i128>) -> Option<i128>
+    ensures { result ≡ option_map (λ x. rest_of x k) part }
+{
+    Some(remainder(part?, k))
 }
 
 /// The first term where the formula holds and the second elsewhere: the branch alone where the truth

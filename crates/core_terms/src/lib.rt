@@ -21,13 +21,13 @@ pub use equality::{same, same_term};
 pub use evaluation::{holds, value};
 pub use folding::{
     and_form, at_least_form, choice_term, difference_term, folded_form, folded_term, not_form,
-    number_of, or_form, placed_choice, placed_form, placed_term, scaled_term, sum_term, truth_of,
-    zero_form,
+    number_of, or_form, placed_choice, placed_form, placed_term, quotient, quotient_term,
+    remainder, remainder_term, scaled_term, sum_term, truth_of, zero_form,
 };
 pub use joining::{copy_forms, copy_statement, join_programs};
 pub use known::{
-    and_known, at_least_known, choice_known, difference_known, not_known, or_known, scaled_known,
-    sum_known, zero_known,
+    and_known, at_least_known, choice_known, difference_known, not_known, or_known, quotient_known,
+    remainder_known, scaled_known, sum_known, zero_known,
 };
 pub use laws::{folding_laws, frame_laws, replacing_laws, same_is_equal};
 pub use measures::{size_of, size_of_term, size_within, term_within};

@@ -33,6 +33,8 @@ pub fn size_of_term(t: &CTerm) -> u64
         CTerm::Add(a, b) => plus(plus(1, size_of_term(a.get())), size_of_term(b.get())),
         CTerm::Sub(a, b) => plus(plus(1, size_of_term(a.get())), size_of_term(b.get())),
         CTerm::Scale(_, a) => plus(1, size_of_term(a.get())),
+        CTerm::Div(a, _) => plus(1, size_of_term(a.get())),
+        CTerm::Mod(a, _) => plus(1, size_of_term(a.get())),
         CTerm::Ite(c, a, b) => plus(
             plus(plus(1, size_of(c.get())), size_of_term(a.get())),
             size_of_term(b.get()),
@@ -93,6 +95,8 @@ pub fn term_within(t: &CTerm, most: u64) -> Option<u64>
             Some(first + term_within(b.get(), most - first)?)
         }
         CTerm::Scale(_, a) => Some(1 + term_within(a.get(), most - 1)?),
+        CTerm::Div(a, _) => Some(1 + term_within(a.get(), most - 1)?),
+        CTerm::Mod(a, _) => Some(1 + term_within(a.get(), most - 1)?),
         CTerm::Ite(c, a, b) => {
             let first = 1 + size_within(c.get(), most - 1)?;
             let second = first + term_within(a.get(), most - first)?;

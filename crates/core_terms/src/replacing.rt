@@ -176,6 +176,12 @@ fn put_term(
         CTerm::Scale(k, a) => {
             known::scaled_known(alloc, *k, put_term(alloc, a.get(), args, number)?, number)
         }
+        CTerm::Div(a, k) => {
+            known::quotient_known(alloc, *k, put_term(alloc, a.get(), args, number)?, number)
+        }
+        CTerm::Mod(a, k) => {
+            known::remainder_known(alloc, *k, put_term(alloc, a.get(), args, number)?, number)
+        }
         CTerm::Ite(c, a, b) => put_choice(alloc, c, a, b, args, number),
     }
 }

@@ -23,6 +23,10 @@ pub enum CTerm {
     Sub(Shared<CTerm>, Shared<CTerm>),
     /// So many times the term.
     Scale(i64, Shared<CTerm>),
+    /// The term divided by the number, rounded down; the division is by 1 where the number is less.
+    Div(Shared<CTerm>, i64),
+    /// What that division leaves of the term.
+    Mod(Shared<CTerm>, i64),
     /// The first term where the formula holds, and the second elsewhere.
     Ite(Shared<CForm>, Shared<CTerm>, Shared<CTerm>),
 }
@@ -69,6 +73,8 @@ impl Drop for CTerm {
                     a
                 }
                 CTerm::Scale(_, a) => a,
+                CTerm::Div(a, _) => a,
+                CTerm::Mod(a, _) => a,
                 CTerm::Ite(c, a, b) => {
                     if let Some(part) = c.into_inner() {
                         drop_form(part);

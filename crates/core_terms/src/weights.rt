@@ -1,6 +1,7 @@
 // How far from 0 the numbers of a formula can lie.
 ghost use Rattle.std.specs.Prelude.{◌≡◌, ◌+◌, ◌*◌, ◌^◌, ◌<◌, ◌≤◌, min, max, length};
 ghost use Rattle.std.specs.Int.RustNames.{unsigned_abs};
+ghost use Rattle.meaning_states.specs.Division as division;
 ghost use Rattle.core_terms.specs.Weights.{term_weights, form_weight, slot_weight, place_weight};
 ghost use Rattle.core_terms.specs.Places.{term_slots, form_slots, term_params, form_params};
 
@@ -63,6 +64,8 @@ fn weigh_term(t: &CTerm, slots: &[CSlot], params: &[Range]) -> (u64, u64)
             weigh_term(b.get(), slots, params),
         ),
         CTerm::Scale(k, a) => multiple(*k, weigh_term(a.get(), slots, params)),
+        CTerm::Div(a, k) => quotient(*k, weigh_term(a.get(), slots, params)),
+        CTerm::Mod(a, k) => remainder(*k, weigh_term(a.get(), slots, params)),
         CTerm::Ite(c, a, b) => choice(
             weigh_form(c.get(), slots, params),
             weigh_term(a.get(), slots, params),
@@ -94,6 +97,34 @@ fn multiple(k: i64, a: (u64, u64)) -> (u64, u64)
 {
     let own = k.unsigned_abs().saturating_mul(a.0).min(1 << 63);
     (own, own.max(a.1).min(1 << 63))
+}
+
+fn quotient(k: i64, a: (u64, u64)) -> (u64, u64)
+    ensures own { result.0 ≡ min (max 1 a.0) (2 ^ 63) }
+    ensures most { result.1 ≡ min (max (max 1 a.0) (max (unsigned_abs (division.divisor k)) a.1)) (2 ^ 63) }
+{
+    let own = a.0.max(1).min(1 << 63);
+    (own, own.max(divisor(k)).max(a.1).min(1 << 63))
+}
+
+fn remainder(k: i64, a: (u64, u64)) -> (u64, u64)
+    ensures own { result.0 ≡ min (2 * a.0 + unsigned_abs (division.divisor k)) (2 ^ 63) }
+    ensures most { result.1 ≡
+        min (max (2 * a.0 + unsigned_abs (division.divisor k)) (max (unsigned_abs (division.divisor k)) a.1)) (2 ^ 63) }
+{
+    let own = a
+        .0
+        .saturating_mul(2)
+        .saturating_add(divisor(k))
+        .min(1 << 63);
+    (own, own.max(divisor(k)).max(a.1).min(1 << 63))
+}
+
+// What is divided by, which is at least 1.
+fn divisor(k: i64) -> u64
+    ensures { result ≡ unsigned_abs (division.divisor k) }
+{
+    k.max(1).unsigned_abs()
 }
 
 fn choice(c: u64, a: (u64, u64), b: (u64, u64)) -> (u64, u64)

@@ -58,6 +58,8 @@ module _ (slots params others names : ℕ → ℕ) (h : (n : ℕ) → slots n �
     term_case (CTerm-F.Sub a b) = (omega (arith, a.1.0, b.1.0), omega (arith, a.1.0, b.1.0, a.1.1, b.1.1))
     term_case (CTerm-F.Scale z a) =
         let more = mul-le-mul_left (unsigned_abs z) a.1.0 in (more, omega (arith, more, a.1.1))
+    term_case (CTerm-F.Div a z) = (omega (arith, a.1.0), omega (arith, a.1.0, a.1.1))
+    term_case (CTerm-F.Mod a z) = (omega (arith, a.1.0), omega (arith, a.1.0, a.1.1))
     term_case (CTerm-F.Ite c a b) =
         (omega (arith, a.1.0, b.1.0), omega (arith, c.1, a.1.0, b.1.0, a.1.1, b.1.1))
 

@@ -3,6 +3,7 @@ use Rattle.std.proofs.Common.{◌≡◌, ℕ, ◌+◌, ◌≤◌, max, ℤ, pos,
 use Rattle.std.proofs.Common.{ap, ◌∙◌, subst, arith}
 use Rattle.std.specs.Int.RustNames.{int_le}
 use Rattle.meaning_states.specs.State.{int_eq}
+use Rattle.meaning_states.specs.Division.{floored, rest_of}
 use Rattle.core_terms.specs.declared.trees.CTerm.{CTerm, roll-CTerm, ind-CTerm, fold-roll-CTerm}
 use Rattle.core_terms.specs.declared.trees.CForm.{CForm, roll-CForm, ind-CForm, fold-roll-CForm}
 use Rattle.core_terms.specs.declared.trees.CForm.TheOpen.{CTerm-F, CForm-F}
@@ -81,6 +82,12 @@ module _ (s d e : List ℤ) where
   term_layer (CTerm-F.Scale k a) h =
       let x : CTerm-F CForm CTerm = CTerm-F.Scale k a.0 in
       from_term d x ∙ ap (λ z. k *ℤ z) (a.1 (none_term x h)) ∙ sym (from_term e x)
+  term_layer (CTerm-F.Div a k) h =
+      let x : CTerm-F CForm CTerm = CTerm-F.Div a.0 k in
+      from_term d x ∙ ap (λ z. floored z k) (a.1 (none_term x h)) ∙ sym (from_term e x)
+  term_layer (CTerm-F.Mod a k) h =
+      let x : CTerm-F CForm CTerm = CTerm-F.Mod a.0 k in
+      from_term d x ∙ ap (λ z. rest_of z k) (a.1 (none_term x h)) ∙ sym (from_term e x)
   term_layer (CTerm-F.Ite c a b) h =
       let x : CTerm-F CForm CTerm = CTerm-F.Ite c.0 a.0 b.0 in
       let n : max (form_params c.0) (max (term_params a.0) (term_params b.0)) ≤ 0 = none_term x h in

@@ -2,6 +2,7 @@
 use Rattle.std.proofs.Common.{ℕ, ◌+◌, ◌*◌, ◌≤◌, max, sym, subst, arith}
 use Rattle.std.proofs.Math.Nat.{mul-le-mul_left, mul-le-mul_right}
 use Rattle.std.specs.Int.RustNames.{unsigned_abs}
+use Rattle.meaning_states.specs.Division.{divisor}
 use Rattle.core_terms.specs.declared.trees.CTerm.{CTerm, roll-CTerm, ind-CTerm, fold-roll-CTerm}
 use Rattle.core_terms.specs.declared.trees.CForm.{CForm, roll-CForm, ind-CForm, fold-roll-CForm}
 use Rattle.core_terms.specs.declared.trees.CForm.TheOpen.{CTerm-F, CForm-F}
@@ -22,6 +23,10 @@ max_scaled k a b c d h j =
 
 multiple_scaled : (k m a b : ℕ) → a ≤ k * b → m * a ≤ k * (m * b)
 multiple_scaled k m a b h = let more : m * a ≤ m * (k * b) = mul-le-mul_left m h in omega (arith, more)
+
+-- what weighs the same on both sides
+same_scaled : (k a : ℕ) → 1 ≤ k → a ≤ k * a
+same_scaled k a one = let more : 1 * a ≤ k * a = mul-le-mul_right a one in omega (arith, more)
 
 module _ (k : ℕ) (slots params less fewer : ℕ → ℕ) (one : 1 ≤ k) (slot_is : (n : ℕ) → slots n ≤ k * less n)
     (param_is : (n : ℕ) → params n ≤ k * fewer n) where
@@ -80,9 +85,7 @@ module _ (k : ℕ) (slots params less fewer : ℕ → ℕ) (one : 1 ≤ k) (slot
 
   term_layer : (y : CTerm-F ScaledForm ScaledTerm) →
       TermScaled (roll-CTerm (map-CTerm ScaledForm ScaledTerm CForm CTerm (λ e. e.0) (λ e. e.0) y))
-  term_layer (CTerm-F.Const c) =
-      let more : 1 * unsigned_abs c ≤ k * unsigned_abs c = mul-le-mul_right (unsigned_abs c) one in
-      scaled_term (CTerm-F.Const c) (leaf _ _ (omega (arith, more)))
+  term_layer (CTerm-F.Const c) = scaled_term (CTerm-F.Const c) (leaf _ _ (same_scaled k (unsigned_abs c) one))
   term_layer (CTerm-F.Slot n) = scaled_term (CTerm-F.Slot n) (leaf _ _ (slot_is n))
   term_layer (CTerm-F.Param n) = scaled_term (CTerm-F.Param n) (leaf _ _ (param_is n))
   term_layer (CTerm-F.Add a b) =
@@ -93,6 +96,14 @@ module _ (k : ℕ) (slots params less fewer : ℕ → ℕ) (one : 1 ≤ k) (slot
       (whole _ _ _ _ (sum_scaled k _ _ _ _ a.1.0 b.1.0) (max_scaled k _ _ _ _ a.1.1 b.1.1))
   term_layer (CTerm-F.Scale m a) =
       scaled_term (CTerm-F.Scale m a.0) (whole _ _ _ _ (multiple_scaled k (unsigned_abs m) _ _ a.1.0) a.1.1)
+  term_layer (CTerm-F.Div a m) =
+      scaled_term (CTerm-F.Div a.0 m)
+      (whole _ _ _ _ (max_scaled k _ _ _ _ (same_scaled k 1 one) a.1.0)
+      (max_scaled k _ _ _ _ (same_scaled k (unsigned_abs (divisor m)) one) a.1.1))
+  term_layer (CTerm-F.Mod a m) =
+      let part = same_scaled k (unsigned_abs (divisor m)) one in
+      scaled_term (CTerm-F.Mod a.0 m)
+      (whole _ _ _ _ (sum_scaled k _ _ _ _ (multiple_scaled k 2 _ _ a.1.0) part) (max_scaled k _ _ _ _ part a.1.1))
   term_layer (CTerm-F.Ite c a b) =
       scaled_term (CTerm-F.Ite c.0 a.0 b.0)
       (whole _ _ _ _ (max_scaled k _ _ _ _ a.1.0 b.1.0) (max_scaled k _ _ _ _ c.1 (max_scaled k _ _ _ _ a.1.1 b.1.1)))

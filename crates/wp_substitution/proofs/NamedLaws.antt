@@ -121,6 +121,8 @@ slots_counts = record {
   sum = λ a b. refl;
   difference = λ a b. refl;
   multiple = λ k a. refl;
+  quotient = λ k a. refl;
+  remainder = λ k a. refl;
   choice = λ c a b. refl;
 }
 
@@ -130,6 +132,8 @@ params_counts = record {
   sum = λ a b. refl;
   difference = λ a b. refl;
   multiple = λ k a. refl;
+  quotient = λ k a. refl;
+  remainder = λ k a. refl;
   choice = λ c a b. refl;
 }
 

@@ -2,9 +2,9 @@
 use Rattle.std.proofs.Common.{◌≡◌, ℕ, ◌≤◌, max, ℤ, Bool, true, false, cond, Option, Some, None, sym, ap, ◌∙◌, subst}
 use Rattle.std.proofs.Common.{arith}
 use Rattle.core_terms.specs.declared.trees.CTerm.{CTerm, roll-CTerm, fold-CTerm, fold-roll-CTerm}
-use Rattle.core_terms.specs.declared.trees.CTerm.TheVariants.{Const, Slot, Param, Add, Sub, Scale, Ite, rolls-Const}
-use Rattle.core_terms.specs.declared.trees.CTerm.TheVariants.{rolls-Slot, rolls-Param, rolls-Add, rolls-Sub}
-use Rattle.core_terms.specs.declared.trees.CTerm.TheVariants.{rolls-Scale, rolls-Ite}
+use Rattle.core_terms.specs.declared.trees.CTerm.TheVariants.{Const, Slot, Param, Add, Sub, Scale, Div, Mod, Ite}
+use Rattle.core_terms.specs.declared.trees.CTerm.TheVariants.{rolls-Const, rolls-Slot, rolls-Param, rolls-Add}
+use Rattle.core_terms.specs.declared.trees.CTerm.TheVariants.{rolls-Sub, rolls-Scale, rolls-Div, rolls-Mod, rolls-Ite}
 use Rattle.core_terms.specs.declared.trees.CForm.{CForm, roll-CForm, ind-CForm, fold-CForm, fold-roll-CForm}
 use Rattle.core_terms.specs.declared.trees.CForm.TheVariants.{Top, Bottom, AtLeast, Zero, Not, And, Or, rolls-Top}
 use Rattle.core_terms.specs.declared.trees.CForm.TheVariants.{rolls-Bottom, rolls-AtLeast, rolls-Zero, rolls-Not}
@@ -13,8 +13,8 @@ use Rattle.core_terms.specs.declared.trees.CForm.TheOpen.{CTerm-F, CForm-F}
 use Rattle.core_terms.specs.declared.trees.CForm.TheFolds.{map-CForm, map-CTerm}
 use Rattle.core_terms.specs.Places.{greatest_part}
 use Rattle.core_terms.specs.Folding.{number_of, truth_of, is_small, constant_or, truth_or, branch_or, sum_term}
-use Rattle.core_terms.specs.Folding.{difference_term, scaled_term, choice_term, at_least_form, zero_form, not_form}
-use Rattle.core_terms.specs.Folding.{and_form, or_form}
+use Rattle.core_terms.specs.Folding.{difference_term, scaled_term, quotient_term, remainder_term, choice_term}
+use Rattle.core_terms.specs.Folding.{at_least_form, zero_form, not_form, and_form, or_form}
 use Rattle.core_terms.specs.Replacing.{replace_term, replace_form, term_with, form_with}
 
 -- what is counted of a term: nothing of a constant, and else the greatest of its parts
@@ -23,6 +23,8 @@ pub record Counts (step : CTerm-F ℕ ℕ → ℕ) : Type 0 where
   pub sum : (a b : ℕ) → step (CTerm-F.Add a b) ≡ max a b
   pub difference : (a b : ℕ) → step (CTerm-F.Sub a b) ≡ max a b
   pub multiple : (k : ℤ) (a : ℕ) → step (CTerm-F.Scale k a) ≡ a
+  pub quotient : (k : ℤ) (a : ℕ) → step (CTerm-F.Div a k) ≡ a
+  pub remainder : (k : ℤ) (a : ℕ) → step (CTerm-F.Mod a k) ≡ a
   pub choice : (c a b : ℕ) → step (CTerm-F.Ite c a b) ≡ max c (max a b)
 
 module _ (step : CTerm-F ℕ ℕ → ℕ) (counts : Counts step) where
@@ -55,6 +57,16 @@ module _ (step : CTerm-F ℕ ℕ → ℕ) (counts : Counts step) where
   count-Scale k a =
       ap T (sym (rolls-Scale k a)) ∙ fold-roll-CTerm ℕ ℕ greatest_part step (CTerm-F.Scale k a)
       ∙ counts.multiple k (T a)
+
+  count-Div : (k : ℤ) (a : CTerm) → T (Div a k) ≡ T a
+  count-Div k a =
+      ap T (sym (rolls-Div a k)) ∙ fold-roll-CTerm ℕ ℕ greatest_part step (CTerm-F.Div a k)
+      ∙ counts.quotient k (T a)
+
+  count-Mod : (k : ℤ) (a : CTerm) → T (Mod a k) ≡ T a
+  count-Mod k a =
+      ap T (sym (rolls-Mod a k)) ∙ fold-roll-CTerm ℕ ℕ greatest_part step (CTerm-F.Mod a k)
+      ∙ counts.remainder k (T a)
 
   count-Ite : (c : CForm) (a b : CTerm) → T (Ite c a b) ≡ max (F c) (max (T a) (T b))
   count-Ite c a b =
@@ -112,6 +124,12 @@ module _ (step : CTerm-F ℕ ℕ → ℕ) (counts : Counts step) where
 
     multiple_within : (k : ℤ) (a : CTerm) → T a ≤ limit → T (scaled_term k a) ≤ limit
     multiple_within k a h = omega (arith, constant_counts (Scale k a) (number_of (Scale k a)), count-Scale k a, h)
+
+    quotient_within : (k : ℤ) (a : CTerm) → T a ≤ limit → T (quotient_term k a) ≤ limit
+    quotient_within k a h = omega (arith, constant_counts (Div a k) (number_of (Div a k)), count-Div k a, h)
+
+    remainder_within : (k : ℤ) (a : CTerm) → T a ≤ limit → T (remainder_term k a) ≤ limit
+    remainder_within k a h = omega (arith, constant_counts (Mod a k) (number_of (Mod a k)), count-Mod k a, h)
 
     pub choice_within : (c : CForm) (a b : CTerm) → F c ≤ limit → T a ≤ limit → T b ≤ limit →
         T (choice_term c a b) ≤ limit
@@ -198,6 +216,12 @@ module _ (step : CTerm-F ℕ ℕ → ℕ) (counts : Counts step) where
       term_layer (CTerm-F.Scale k a) =
           rolled_term (CTerm-F.Scale k a.0)
           (λ h. multiple_within k _ (a.1 (omega (arith, h, counts.multiple k (T a.0)))))
+      term_layer (CTerm-F.Div a k) =
+          rolled_term (CTerm-F.Div a.0 k)
+          (λ h. quotient_within k _ (a.1 (omega (arith, h, counts.quotient k (T a.0)))))
+      term_layer (CTerm-F.Mod a k) =
+          rolled_term (CTerm-F.Mod a.0 k)
+          (λ h. remainder_within k _ (a.1 (omega (arith, h, counts.remainder k (T a.0)))))
       term_layer (CTerm-F.Ite c a b) =
           rolled_term (CTerm-F.Ite c.0 a.0 b.0)
           (λ h. let e = counts.choice (F c.0) (T a.0) (T b.0) in

@@ -11,7 +11,7 @@ ghost use Rattle.wp_substitution.specs.Chains.{after_weight};
 use crate::chains::Chain;
 use core_terms::{
     CForm, CTerm, and_known, at_least_known, choice_known, difference_known, not_known, or_known,
-    scaled_known, sum_known, zero_known,
+    quotient_known, remainder_known, scaled_known, sum_known, zero_known,
 };
 use std::alloc::{AllocError, Global};
 use std::collections::BTreeMap;
@@ -156,6 +156,22 @@ fn term_after(
         CTerm::Sub(a, b) => difference_after(alloc, a, b, chains, number),
         CTerm::Scale(k, a) => {
             scaled_known(
+                alloc,
+                *k,
+                term_after(alloc, a.get(), chains, number)?,
+                number,
+            )
+        }
+        CTerm::Div(a, k) => {
+            quotient_known(
+                alloc,
+                *k,
+                term_after(alloc, a.get(), chains, number)?,
+                number,
+            )
+        }
+        CTerm::Mod(a, k) => {
+            remainder_known(
                 alloc,
                 *k,
                 term_after(alloc, a.get(), chains, number)?,

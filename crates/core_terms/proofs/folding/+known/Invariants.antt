@@ -18,5 +18,11 @@ decreases-known_difference l = 2 * max (size-CTerm l.a.now) (size-CTerm l.b.now)
 abbrev pub decreases-known_multiple : goal.decreases-known_multiple
 decreases-known_multiple l = 2 * size-CTerm l.a.now + 1
 
+abbrev pub decreases-known_quotient : goal.decreases-known_quotient
+decreases-known_quotient l = 2 * size-CTerm l.a.now + 1
+
+abbrev pub decreases-known_remainder : goal.decreases-known_remainder
+decreases-known_remainder l = 2 * size-CTerm l.a.now + 1
+
 abbrev pub decreases-known_choice : goal.decreases-known_choice
 decreases-known_choice l = 2 * max (size-CForm l.c.now) (max (size-CTerm l.a.now) (size-CTerm l.b.now)) + 1
