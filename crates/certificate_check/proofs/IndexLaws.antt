@@ -1,9 +1,10 @@
 -- The indexes in a certificate that refutes are within the facts, waiting formulas and variables that there are.
 use Rattle.std.proofs.Common.{◌≡◌, ℕ, zero, suc, ◌+◌, ◌-◌, ◌≤◌, ◌^◌, ℤ, pos, ◌*ℤ◌, Bool, true, false, ◌&&◌, cond, List}
-use Rattle.std.proofs.Common.{[], ◌∷◌, ◌++◌, length, slice_get, nat_le, nat_lt, Option, Some, None, Result, Ok, Err, arith}
-use Rattle.std.proofs.Common.{refl, ap, ◌∙◌, subst}
+use Rattle.std.proofs.Common.{[], ◌∷◌, ◌++◌, length, slice_get, nat_le, nat_lt, Option, Some, None, Result, Ok, Err}
+use Rattle.std.proofs.Common.{arith, refl, ap, ◌∙◌, subst}
 use Rattle.std.specs.Prelude.{remove}
 use Rattle.std.specs.List.{list_all}
+use Rattle.std.specs.Option.{option_and_then}
 use Rattle.std.proofs.lemmas.List.Folds.{list_all-append}
 use Rattle.std.proofs.lemmas.Bool.{and_parts, le-leb}
 use Rattle.case_tables.specs.declared.code_table.Code.{Code}
@@ -13,24 +14,29 @@ use Rattle.obligations.specs.declared.branches.Branch.{Branch}
 use Rattle.obligations.specs.declared.branches.Fact.{Fact}
 use Rattle.obligations.specs.declared.branches.Line.{Line}
 use Rattle.obligations.specs.declared.branches.Obligation.{Obligation}
+use Rattle.obligations.specs.declared.branches.Replaced.{Replaced}
 use Rattle.obligations.specs.declared.branches.Variable.{Variable}
 use Rattle.obligations.specs.declared.certificates.Node.{Node}
 use Rattle.obligations.specs.LinearForms.{fact_of, line_of_const}
 use Rattle.obligations.specs.Obligations.{weight_of}
 use Rattle.obligations.specs.Opening.{first_branch, range_facts, ranges_only}
 use Rattle.obligations.specs.Plain.{height_of}
+use Rattle.obligations.specs.Quotients.{is_either, without_quotient, with_quotient, one_more, low_fact, high_fact}
+use Rattle.obligations.specs.Scopes.{next_param, with_next, scope_of}
 use Rattle.obligations.specs.Settling.{added, outcome, settled, sides, without}
 use Rattle.obligations.proofs.NumberLaws.{few-variables}
+use Rattle.obligations.proofs.ScopeLaws.{scope-length}
 use Rattle.obligations.proofs.LineLaws.{length-zeros, length-add_at}
 use Rattle.certificate_check.proofs.SumLaws.{pairs-pass, added-variable}
 use Rattle.certificate_check.specs.Refutation.{NodeEffect, fails, opens, made_case, made_sum, made_round, made_by, made}
-use Rattle.certificate_check.specs.Refutation.{allowing, made_share}
+use Rattle.certificate_check.specs.Refutation.{allowing, made_share, made_quot}
 use Rattle.certificate_check.specs.Sums.{add_pair, all_pairs, divided, is_divisible, is_false, no_sum, numbered}
 use Rattle.certificate_check.specs.Sums.{fact_step, variable_step, stated, below_0}
 use Rattle.certificate_check.specs.Trees.{CertTree, leaf, one_below, two_below, nodes_of, Refutes}
 use Rattle.certificate_check.proofs.WholeLaws.{walked-refutes}
 use Rattle.certificate_check.specs.Indexes.{IndexesAreSmall, is_fact_within, is_index_within}
-use Rattle.certificate_check.proofs.Rooms.{adds-fit, refused-room, room, sides-room, total, total-joined, waits}
+use Rattle.certificate_check.proofs.Rooms.{adds-fit, quotient-room, refused-room, room, sides-room, total}
+use Rattle.certificate_check.proofs.Rooms.{total-joined, waits}
 
 -- an item that is there
 
@@ -53,7 +59,10 @@ waits-remove (g ∷ fs) zero f e =
 waits-remove (g ∷ fs) (suc k) f e = let h = waits-remove fs k f e in omega (arith, h)
 
 total-added : (b : Branch) (f : Fact) → total (added b f) ≡ total b + 1
-total-added b f = let h = total-joined b (record { facts = f ∷ []; waiting = [] }) in omega (arith, h)
+total-added b f = let h = total-joined b (record { facts = f ∷ []; waiting = []; added = 0 }) in omega (arith, h)
+
+grown-added : (b : Branch) (f : Fact) → total (added b f) + (added b f).added ≡ total b + b.added + 1
+grown-added b f = let h = total-added b f in omega (arith, h)
 
 module _ (vs : List Variable) where
   side-total : (b : Branch) (k : ℕ) (f g : CForm) → slice_get b.waiting k ≡ Some f → (room g).yes ≤ (room f).yes →
@@ -98,10 +107,11 @@ level-opens : (g : Bool) (m : NodeEffect) (bs : List Branch) → cond g m (fails
 level-opens true m bs e = (refl, e)
 level-opens false m bs e = absurd (cc)
 
--- branches, each with no more room taken than one more than that of the branch from which they come
+-- branches, each with no more room taken and variables added than one more than those of the branch from which they
+-- come
 abbrev AreGrown : Branch → List Branch → Type 0
 AreGrown b [] = Unit {0}
-AreGrown b (c ∷ cs) = (total c ≤ total b + 1) × AreGrown b cs
+AreGrown b (c ∷ cs) = (total c + c.added ≤ total b + b.added + 1) × AreGrown b cs
 
 module _ (vs : List Variable) (limit : ℕ) where
   -- the indexes of a node that opens branches are there, and the branches are grown by at most one
@@ -112,11 +122,12 @@ module _ (vs : List Variable) (limit : ℕ) where
   alone : (k : ℕ) → k ≤ limit → (nat_le k limit && true) ≡ true
   alone k h = ap (λ z. z && true) (le-leb k limit h)
 
-  case-two : (b : Branch) (k : ℕ) (o : Option CForm) (bs : List Branch) → slice_get b.waiting k ≡ o →
-      length vs + total b ≤ limit → made_case vs b k o ≡ opens bs →
-      (is_index_within limit (Node.Case (suc k)) ≡ true) × AreGrown b bs
-  case-two b k None bs e h m = absurd (cc)
-  case-two b k (Some f) bs e h m =
+  case-either : (b : Branch) (k : ℕ) (f : CForm) (g : Bool) (bs : List Branch) → slice_get b.waiting k ≡ Some f →
+      length vs + total b ≤ limit →
+      cond g (opens (settled vs (sides f).0 (without b k) ∷ settled vs (sides f).1 (without b k) ∷ []))
+      (fails Code.NothingToCase) ≡ opens bs → (is_index_within limit (Node.Case (suc k)) ≡ true) × AreGrown b bs
+  case-either b k f false bs e h m = absurd (cc)
+  case-either b k f true bs e h m =
       let same : settled vs (sides f).0 (without b k) ∷ settled vs (sides f).1 (without b k) ∷ [] ≡ bs = cc in
       let s = sides-room f in
       let p = side-total vs b k f (sides f).0 e s.0 in let q = side-total vs b k f (sides f).1 e s.1 in
@@ -125,12 +136,42 @@ module _ (vs : List Variable) (limit : ℕ) where
         subst (AreGrown b) same (omega (arith, p), (omega (arith, q), tt)),
       )
 
+  case-two : (b : Branch) (k : ℕ) (o : Option CForm) (bs : List Branch) → slice_get b.waiting k ≡ o →
+      length vs + total b ≤ limit → made_case vs b k o ≡ opens bs →
+      (is_index_within limit (Node.Case (suc k)) ≡ true) × AreGrown b bs
+  case-two b k None bs e h m = absurd (cc)
+  case-two b k (Some f) bs e h m = case-either b k f (is_either f) bs e h m
+
+  quot-one : (b : Branch) (k : ℕ) (o : Option CForm) (bs : List Branch) → slice_get b.waiting k ≡ o →
+      length vs + total b ≤ limit → made_quot vs b k (option_and_then (without_quotient (next_param vs)) o) ≡ opens bs →
+      (is_index_within limit (Node.Quot (suc k)) ≡ true) × AreGrown b bs
+  quot-one b k None bs e h m = absurd (cc)
+  quot-one b k (Some f) bs e h m = taken (without_quotient (next_param vs) f) refl m
+    where
+      taken : (o : Option Replaced) → without_quotient (next_param vs) f ≡ o → made_quot vs b k o ≡ opens bs →
+          (is_index_within limit (Node.Quot (suc k)) ≡ true) × AreGrown b bs
+      taken None q d = absurd (cc)
+      taken (Some r) q d =
+          let same : with_quotient vs r (without b k) ∷ [] ≡ bs = cc in
+          let spare = quotient-room (next_param vs) f r q in
+          let c : Branch = one_more (without b k) in
+          let low = total-added c (low_fact vs r.taken) in
+          let high = total-added (added c (low_fact vs r.taken)) (high_fact vs r.taken) in
+          let j = total-joined (added (added c (low_fact vs r.taken)) (high_fact vs r.taken))
+          (outcome (with_next vs) r.form).yes in
+          let a = (adds-fit (with_next vs) r.form).0 in
+          let w = waits-remove b.waiting k f e in
+          let i = in_list b.waiting k f e in let l = waits-long b.waiting in (
+            alone (suc k) (omega (arith, i, l, h)),
+            subst (AreGrown b) same (omega (arith, spare, low, high, j, a, w), tt),
+          )
+
   below : (v n : ℕ) → nat_lt v n ≡ true → suc v ≤ n
   below v n h = grind arith
 
   split-two : (b p q : Branch) (v : ℕ) (k : ℤ) (g : Bool) (bs : List Branch) → nat_lt v (length vs) ≡ g →
-      total p ≡ total b + 1 → total q ≡ total b + 1 → length vs + total b ≤ limit →
-      cond g (opens (p ∷ q ∷ [])) (fails Code.NoSuchVariable) ≡ opens bs →
+      total p + p.added ≡ total b + b.added + 1 → total q + q.added ≡ total b + b.added + 1 →
+      length vs + total b ≤ limit → cond g (opens (p ∷ q ∷ [])) (fails Code.NoSuchVariable) ≡ opens bs →
       (is_index_within limit (Node.Split (suc v) k) ≡ true) × AreGrown b bs
   split-two b p q v k false bs e r t h m = absurd (cc)
   split-two b p q v k true bs e r t h m =
@@ -156,7 +197,7 @@ module _ (vs : List Variable) (limit : ℕ) where
   sum-makes b ps (Err c) bs e h m = absurd (cc)
   sum-makes b ps (Ok l) bs e h m = (all-facts b ps l e h, closed b (is_false l) bs m)
 
-  rounded : (b p : Branch) (g : Bool) (bs : List Branch) → total p ≡ total b + 1 →
+  rounded : (b p : Branch) (g : Bool) (bs : List Branch) → total p + p.added ≡ total b + b.added + 1 →
       cond g (opens (p ∷ [])) (fails Code.NotDivisible) ≡ opens bs → AreGrown b bs
   rounded b p false bs h m = absurd (cc)
   rounded b p true bs h m = let same : p ∷ [] ≡ bs = cc in subst (AreGrown b) same (omega (arith, h), tt)
@@ -167,7 +208,7 @@ module _ (vs : List Variable) (limit : ℕ) where
   round-makes b d ps (Err c) bs e h m = absurd (cc)
   round-makes b d ps (Ok l) bs e h m = (
     all-facts b ps l e h,
-    rounded b (added b (fact_of (divided d l))) (is_divisible d l) bs (total-added b (fact_of (divided d l))) m,
+    rounded b (added b (fact_of (divided d l))) (is_divisible d l) bs (grown-added b (fact_of (divided d l))) m,
   )
 
   share-makes : (b : Branch) (c : ℤ) (ps : List (ℤ × ℕ)) (r : Result Line Code) (bs : List Branch) →
@@ -187,12 +228,14 @@ module _ (vs : List Variable) (limit : ℕ) where
   node-makes b (Node.Case (suc k)) bs h m = case-two b k (slice_get b.waiting k) bs refl h m
   node-makes b (Node.Split zero k) bs h m = absurd (cc)
   node-makes b (Node.Split (suc v) k) bs h m =
-      split-two b _ _ v k (nat_lt v (length vs)) bs refl (total-added b _) (total-added b _) h m
+      split-two b _ _ v k (nat_lt v (length vs)) bs refl (grown-added b _) (grown-added b _) h m
   node-makes b (Node.Sum ps) bs h m = sum-makes b ps (all_pairs vs b.facts ps) bs refl h m
   node-makes b (Node.Round d ps) bs h m = round-makes b d ps (all_pairs vs b.facts ps) bs refl h m
-  node-makes b (Node.Quot k) bs h m = absurd (cc)
+  node-makes b (Node.Quot zero) bs h m = absurd (cc)
+  node-makes b (Node.Quot (suc k)) bs h m = quot-one b k (slice_get b.waiting k) bs refl h m
   node-makes b (Node.Share c ps) bs h m = share-makes b c ps (stated vs c ps) bs refl h m
 
+module _ (vs : List Variable) (limit : ℕ) where
   abbrev Small : List Node → Type 0
   Small ns = list_all (is_index_within limit) ns ≡ true
 
@@ -208,14 +251,16 @@ module _ (vs : List Variable) (limit : ℕ) where
   some-left levels h = grind arith
 
   -- what a node makes of a branch where so many levels are left
-  level-makes : (levels : ℕ) (b : Branch) (n : Node) (bs : List Branch) → (length vs + total b) + levels ≤ limit →
-      made vs (allowing levels b) n ≡ opens bs → (1 ≤ levels) × (is_index_within limit n ≡ true) × AreGrown b bs
+  level-makes : (levels : ℕ) (b : Branch) (n : Node) (bs : List Branch) →
+      (length vs + (total b + b.added)) + levels ≤ limit → made vs (allowing levels b) n ≡ opens bs →
+      (1 ≤ levels) × (is_index_within limit n ≡ true) × AreGrown b bs
   level-makes levels b n bs h m =
-      let o = level-opens (nat_lt 0 levels) (made_by vs b n) bs m in
-      let r = node-makes b n bs (omega (arith, h)) o.1 in
+      let o = level-opens (nat_lt 0 levels) (made_by (scope_of vs b) b n) bs m in
+      let l = scope-length vs b.added in
+      let r = node-makes (scope_of vs b) limit b n bs (omega (arith, h, l)) o.1 in
       (some-left levels o.0, r.0, r.1)
 
-  small-tree : (levels : ℕ) (b : Branch) (t : CertTree) → (length vs + total b) + levels ≤ limit →
+  small-tree : (levels : ℕ) (b : Branch) (t : CertTree) → (length vs + (total b + b.added)) + levels ≤ limit →
       Refutes vs levels b t → Small (nodes_of t)
   small-tree levels b (leaf n e) h r = small-cons n [] (level-makes levels b n [] h r).1 refl
   small-tree levels b (one_below n e t) h r =

@@ -1,5 +1,9 @@
+pub mod ScopedLaws
 pub mod MachineLaws
+pub mod QuotLaws
 pub mod RefutationLaws
+pub mod ClosedLaws
+pub mod SoundLaws
 pub mod SumLaws
 pub mod WholeLaws
 pub mod IndexLaws

@@ -2,9 +2,10 @@
 use Rattle.std.proofs.Common.{◌≡◌, ℕ, zero, suc, ◌-◌, ◌<◌, ◌≤◌, ◌^◌, Bool, true, false, ◌&&◌, cond, Some, Ok, List}
 use Rattle.std.proofs.Common.{nat_lt, ℤ, pos, ◌+ℤ◌, Result}
 use Rattle.std.proofs.Common.{[], ◌∷◌, ◌++◌, length, take, reverse, slice_get, length-append, arith, refl, sym, ap, ◌∙◌}
-use Rattle.std.proofs.Common.{subst}
+use Rattle.std.proofs.Common.{subst, None, Err, ◌+◌, OnOk, IfErr}
 use Rattle.std.specs.Prelude.{insert, remove}
 use Rattle.std.specs.List.{list_all}
+use Rattle.std.specs.Option.{option_and_then}
 use Rattle.std.proofs.lemmas.Bool.{and_parts}
 use Rattle.std.proofs.lemmas.List.{take-append-le, reverse-append, length-take-le}
 use Rattle.std.proofs.lemmas.List.Folds.{list_all-append}
@@ -14,54 +15,68 @@ use Rattle.obligations.specs.declared.branches.Fact.{Fact}
 use Rattle.obligations.specs.declared.branches.Branch.{Branch}
 use Rattle.obligations.specs.declared.branches.Variable.{Variable}
 use Rattle.obligations.specs.declared.branches.Obligation.{Obligation}
+use Rattle.obligations.specs.declared.branches.Replaced.{Replaced}
 use Rattle.obligations.specs.Load.{need, form_load, is_light, is_light_branch}
 use Rattle.case_tables.specs.declared.code_table.Code.{Code}
 use Rattle.obligations.specs.declared.branches.Line.{Line}
 use Rattle.obligations.specs.declared.certificates.Node.{Node}
 use Rattle.obligations.specs.LinearForms.{fact_of}
 use Rattle.obligations.specs.Opening.{ranges_only, first_branch, at_most, at_least}
+use Rattle.obligations.specs.Quotients.{is_either, without_quotient, with_quotient, low_fact, high_fact, one_more}
+use Rattle.obligations.specs.Scopes.{next_param, with_next, scope_of}
 use Rattle.obligations.specs.Settling.{joined, settled, sides, without, added, outcome}
 use Rattle.obligations.proofs.LightLaws.{remove-light}
+use Rattle.obligations.proofs.TableLaws.{joined-joined}
 use Rattle.obligations.proofs.NeedLaws.{settled-light, refused-light, need-within}
 use Rattle.certificate_check.specs.declared.machine.Todo.{Todo}
 use Rattle.certificate_check.specs.declared.machine.Frame.{Frame}
 use Rattle.certificate_check.specs.Refutation.{NodeEffect, fails, opens, made_case, case_at, split_at}
-use Rattle.certificate_check.specs.Refutation.{made_share, made_by, made, allowing}
+use Rattle.certificate_check.specs.Refutation.{made_share, made_by, made, made_quot, quot_at, allowing, OpenBranch}
 use Rattle.certificate_check.specs.Sums.{below_0}
 use Rattle.certificate_check.specs.Machines.{base_of, full_by, full_of, second_by, second_of, waiting_first, behind}
-use Rattle.certificate_check.specs.Machines.{place_fits, FramesFit, turned, step_by, is_light_todo, are_light}
+use Rattle.certificate_check.specs.Machines.{place_fits, FramesFit, turned, step_by, is_light_todo}
+use Rattle.certificate_check.specs.Machines.{are_light, Goes, GoesErr}
+use Rattle.certificate_check.specs.declared.machine.Machine.{Machine}
+use Rattle.certificate_check.specs.declared.errors.Stop.{Stop}
 
-branch-same : (a b : Branch) → a.facts ≡ b.facts → a.waiting ≡ b.waiting → a ≡ b
-branch-same a b p q = ap (λ x. record { facts = x; waiting = a.waiting }) p ∙ ap
-    (λ x. record { facts = b.facts; waiting = x }) q
+branch-same : (a b : Branch) → a.facts ≡ b.facts → a.waiting ≡ b.waiting → a.added ≡ b.added → a ≡ b
+branch-same a b p q r =
+    ap (λ x. record { facts = x; waiting = a.waiting; added = a.added }) p
+    ∙ ap (λ x. record { facts = b.facts; waiting = x; added = a.added }) q
+    ∙ ap (λ x. record { facts = b.facts; waiting = b.waiting; added = x }) r
 
 -- cutting back undoes what was added
 pub base-joined : (f : Frame) (b x : Branch) → f.facts ≤ length b.facts → f.waits ≤ length b.waiting → base_of f
     (joined b x) ≡ base_of f b
 base-joined f b x p q = branch-same _ _ (take-append-le f.facts b.facts x.facts p)
-    (take-append-le f.waits b.waiting x.waiting q)
+    (take-append-le f.waits b.waiting x.waiting q) refl
 
 pub behind-joined : (vs : List Variable) (fs : List Frame) (b x : Branch) → FramesFit fs b → behind vs fs (joined b x) ≡
     behind vs fs b
 behind-joined vs [] b x h = refl
 behind-joined vs (f ∷ fs) b x h =
     ap (λ y. waiting_first f.first (record { levels = f.levels - 1; branch = second_by vs f.todo y })
-    (behind vs fs (full_by f.todo y))) (base-joined f b x h.1 h.2)
+    (behind vs fs (full_by f.todo y))) (base-joined f b x h.0.facts h.0.waits)
 
 pub fits-joined : (fs : List Frame) (b x : Branch) → FramesFit fs b → FramesFit fs (joined b x)
 fits-joined [] b x h = tt
 fits-joined (f ∷ fs) b x h = (
-  h.0,
-  let l = length-append b.facts x.facts in let p = h.1 in omega (arith, l, p),
-  let l = length-append b.waiting x.waiting in let p = h.2 in omega (arith, l, p),
-  h.3,
-  subst (λ y. FramesFit fs (full_by f.todo y)) (sym (base-joined f b x h.1 h.2)) h.4,
+  record {
+    levels = h.0.levels;
+    facts = let l = length-append b.facts x.facts in let p = h.0.facts in omega (arith, l, p);
+    waits = let l = length-append b.waiting x.waiting in let p = h.0.waits in omega (arith, l, p);
+    place = h.0.place;
+    added = h.0.added;
+    room = h.0.room;
+  },
+  subst (λ y. FramesFit fs (full_by f.todo y)) (sym (base-joined f b x h.0.facts h.0.waits)) h.1,
 )
 
 -- a frame at the branch that it was made at
-pub base-whole : (f : Frame) (b : Branch) → f.facts ≡ length b.facts → f.waits ≡ length b.waiting → base_of f b ≡ b
-base-whole f b p q = branch-same _ _ (ap (λ n. take n b.facts) p ∙ take_all b.facts)
-    (ap (λ n. take n b.waiting) q ∙ take_all b.waiting)
+pub base-whole : (f : Frame) (b : Branch) → f.facts ≡ length b.facts → f.waits ≡ length b.waiting →
+    f.added ≡ b.added → base_of f b ≡ b
+base-whole f b p q r = branch-same _ _ (ap (λ n. take n b.facts) p ∙ take_all b.facts)
+    (ap (λ n. take n b.waiting) q ∙ take_all b.waiting) r
   where
     take_all : {A : Type 0} (xs : List A) → take (length xs) xs ≡ xs
     take_all [] = refl
@@ -76,34 +91,40 @@ insert-remove (y ∷ xs) (suc k) x e = ap (λ ys. y ∷ ys) (insert-remove xs k 
 pub base-base : (f : Frame) (b : Branch) → f.facts ≤ length b.facts → f.waits ≤ length b.waiting → base_of f
     (base_of f b) ≡ base_of f b
 base-base f b p q = base-whole f (base_of f b) (sym (length-take-le f.facts b.facts p))
-    (sym (length-take-le f.waits b.waiting q))
+    (sym (length-take-le f.waits b.waiting q)) refl
 
 second-base : (vs : List Variable) (t : Todo) (f : Frame) (b : Branch) → f.facts ≤ length b.facts →
     f.waits ≤ length b.waiting →
     base_of f (second_by vs t (base_of f b)) ≡ base_of f b
-second-base vs (Todo.Case place form) f b p q =
-    base-joined f (base_of f b) (outcome vs (sides form).1).yes (omega (arith, length-take-le f.facts b.facts p))
+second-base vs (Todo.Form place form) f b p q =
+    base-joined f (base_of f b) (outcome (scope_of vs (base_of f b)) (sides form).1).yes
+    (omega (arith, length-take-le f.facts b.facts p))
     (omega (arith, length-take-le f.waits b.waiting q)) ∙ base-base f b p q
 second-base vs (Todo.Fact fact) f b p q =
-    base-joined f (base_of f b) (record { facts = fact ∷ []; waiting = [] })
+    base-joined f (base_of f b) (record { facts = fact ∷ []; waiting = []; added = 0 })
     (omega (arith, length-take-le f.facts b.facts p)) (omega (arith, length-take-le f.waits b.waiting q))
     ∙ base-base f b p q
 
 second-long : (vs : List Variable) (t : Todo) (b : Branch) → (length b.facts ≤ length (second_by vs t b).facts) ×
     (length b.waiting ≤ length (second_by vs t b).waiting)
-second-long vs (Todo.Case place form) b =
-    let l = length-append b.facts (outcome vs (sides form).1).yes.facts in let k =
-    length-append b.waiting (outcome vs (sides form).1).yes.waiting in (omega (arith, l), omega (arith, k))
+second-long vs (Todo.Form place form) b =
+    let l = length-append b.facts (outcome (scope_of vs b) (sides form).1).yes.facts in let k =
+    length-append b.waiting (outcome (scope_of vs b) (sides form).1).yes.waiting in (omega (arith, l), omega (arith, k))
 second-long vs (Todo.Fact fact) b =
     let l = length-append b.facts (fact ∷ []) in let k =
     length-append b.waiting [] in (omega (arith, l), omega (arith, k))
+
+-- the second branch has as many added variables
+second-added : (vs : List Variable) (t : Todo) (b : Branch) → b.added ≤ (second_by vs t b).added
+second-added vs (Todo.Form place form) b = omega arith
+second-added vs (Todo.Fact fact) b = omega arith
 
 pub first-turns : (vs : List Variable) (f : Frame) (fs : List Frame) (b : Branch) → f.first ≡ true → FramesFit (f ∷ fs)
     b →
     allowing (f.levels - 1) (second_of vs f b) ∷ behind vs (turned f ∷ fs) (second_of vs f b) ≡ behind vs (f ∷ fs) b
 first-turns vs f fs b e h =
     ap (λ y. allowing (f.levels - 1) (second_of vs f b) ∷ behind vs fs (full_by f.todo y))
-    (second-base vs f.todo f b h.1 h.2)
+    (second-base vs f.todo f b h.0.facts h.0.waits)
     ∙ ap (λ z. waiting_first z (allowing (f.levels - 1) (second_of vs f b)) (behind vs fs (full_of f b))) (sym e)
 
 pub turned-fits : (vs : List Variable) (f : Frame) (fs : List Frame) (b : Branch) → FramesFit (f ∷ fs) b → FramesFit
@@ -111,14 +132,18 @@ pub turned-fits : (vs : List Variable) (f : Frame) (fs : List Frame) (b : Branch
 turned-fits vs f fs b h =
     let l = second-long vs f.todo (base_of f b) in
     let l0 = l.0 in let l1 = l.1 in
-    let p = length-take-le f.facts b.facts h.1 in
-    let q = length-take-le f.waits b.waiting h.2 in (
-      h.0,
-      omega (arith, l0, p),
-      omega (arith, l1, q),
-      h.3,
+    let p = length-take-le f.facts b.facts h.0.facts in
+    let q = length-take-le f.waits b.waiting h.0.waits in (
+      record {
+        levels = h.0.levels;
+        facts = omega (arith, l0, p);
+        waits = omega (arith, l1, q);
+        place = h.0.place;
+        added = second-added vs f.todo (base_of f b);
+        room = h.0.room;
+      },
       subst (λ y. FramesFit fs (full_by f.todo y))
-          (sym (second-base vs f.todo f b h.1 h.2)) h.4,
+          (sym (second-base vs f.todo f b h.0.facts h.0.waits)) h.1,
     )
 
 pub second-ends : (vs : List Variable) (f : Frame) (fs : List Frame) (b : Branch) → f.first ≡ false → behind vs fs
@@ -132,25 +157,29 @@ full-long f b p q h = subst (place_fits f.todo) (sym (length-take-le f.waits b.w
 
 -- a new frame over the branch that it was made at
 pub over : (vs : List Variable) (f : Frame) (fs : List Frame) (b c x : Branch) → f.facts ≡ length c.facts →
-    f.waits ≡ length c.waiting → full_by f.todo c ≡ b → f.first ≡ true →
+    f.waits ≡ length c.waiting → f.added ≡ c.added → full_by f.todo c ≡ b → f.first ≡ true →
     behind vs (f ∷ fs) (joined c x) ≡ allowing (f.levels - 1) (second_by vs f.todo c) ∷ behind vs fs b
-over vs f fs b c x p q e t =
-    let whole = base-joined f c x (omega (arith, p)) (omega (arith, q)) ∙ base-whole f c p q in
+over vs f fs b c x p q a e t =
+    let whole = base-joined f c x (omega (arith, p)) (omega (arith, q)) ∙ base-whole f c p q a in
     ap (λ y. waiting_first f.first (allowing (f.levels - 1) (second_by vs f.todo y))
     (behind vs fs (full_by f.todo y))) whole
     ∙ ap (λ z. waiting_first z (allowing (f.levels - 1) (second_by vs f.todo c)) (behind vs fs (full_by f.todo c))) t
     ∙ ap (λ y. allowing (f.levels - 1) (second_by vs f.todo c) ∷ behind vs fs y) e
 
 pub over-fits : (f : Frame) (fs : List Frame) (b c x : Branch) → 0 < f.levels → f.facts ≡ length c.facts →
-    f.waits ≡ length c.waiting → full_by f.todo c ≡ b → place_fits f.todo f.waits → FramesFit fs b →
-    FramesFit (f ∷ fs) (joined c x)
-over-fits f fs b c x l p q e t h =
-    let whole = base-joined f c x (omega (arith, p)) (omega (arith, q)) ∙ base-whole f c p q in
+    f.waits ≡ length c.waiting → f.added ≡ c.added → f.added + f.levels ≤ 4096 → full_by f.todo c ≡ b →
+    place_fits f.todo f.waits → FramesFit fs b → FramesFit (f ∷ fs) (joined c x)
+over-fits f fs b c x l p q a r e t h =
+    let whole = base-joined f c x (omega (arith, p)) (omega (arith, q)) ∙ base-whole f c p q a in
     let m = length-append c.facts x.facts in let k = length-append c.waiting x.waiting in (
-      l,
-      omega (arith, m, p),
-      omega (arith, k, q),
-      t,
+      record {
+        levels = l;
+        facts = omega (arith, m, p);
+        waits = omega (arith, k, q);
+        place = t;
+        added = omega (arith, a);
+        room = r;
+      },
       subst (λ y. FramesFit fs (full_by f.todo y)) (sym whole)
           (subst (FramesFit fs) (sym e) h),
     )
@@ -177,60 +206,167 @@ remove-length [] k h = omega arith
 remove-length (x ∷ xs) zero h = omega arith
 remove-length (x ∷ xs) (suc k) h = let ih = remove-length xs k (omega arith) in omega (arith, ih)
 
-abbrev pub case_frame : ℕ → ℕ → ℕ → ℕ → CForm → Frame
-case_frame levels facts waits place form =
-    record { levels = levels; facts = facts; waits = waits; todo = Todo.Case place form; first = true }
+-- a formula that was taken out, and is put back
+full-again : (b : Branch) (place : ℕ) (form : CForm) → slice_get b.waiting place ≡ Some form →
+    full_by (Todo.Form place form) (without b place) ≡ b
+full-again b place form taken =
+    ap (λ w. record { facts = b.facts; waiting = w; added = b.added }) (insert-remove b.waiting place form taken)
 
-pub case-goes : (vs : List Variable) (levels : ℕ) (b now : Branch) (k place facts waits : ℕ)
+abbrev pub form_frame : ℕ → ℕ → ℕ → ℕ → ℕ → CForm → Bool → Frame
+form_frame levels facts waits added place form first = record {
+  levels = levels;
+  facts = facts;
+  waits = waits;
+  added = added;
+  todo = Todo.Form place form;
+  first = first;
+}
+
+-- `us` are the branch's own variables
+pub case-goes : (vs us : List Variable) (levels : ℕ) (b now : Branch) (k place facts waits added : ℕ)
     (frames more : List Frame) (form : CForm) →
-    k ≡ suc place → slice_get b.waiting place ≡ Some form → place < length b.waiting → 0 < levels → FramesFit
-    (reverse frames) b →
-    facts ≡ length b.facts → waits ≡ length (remove b.waiting place) →
-    more ≡ frames ++ case_frame levels facts waits place form ∷ [] → now ≡ settled vs (sides form).0 (without b place) →
-    (step_by levels (behind vs (reverse frames) b) (case_at vs b k) ≡ Ok
+    k ≡ suc place → slice_get b.waiting place ≡ Some form → place < length b.waiting → is_either form ≡ true →
+    0 < levels → FramesFit (reverse frames) b →
+    facts ≡ length b.facts → waits ≡ length (remove b.waiting place) → added ≡ b.added → added + levels ≤ 4096 →
+    us ≡ scope_of vs b →
+    more ≡ frames ++ form_frame levels facts waits added place form true ∷ [] →
+    now ≡ settled us (sides form).0 (without b place) →
+    (step_by levels (behind vs (reverse frames) b) (case_at us b k) ≡ Ok
     (allowing (levels - 1) now ∷ behind vs (reverse more) now)) × FramesFit (reverse more) now
-case-goes vs levels b now k place facts waits frames more form ek taken inside low fits ef ew em en =
-    let full : full_by (Todo.Case place form) (without b place) ≡ b =
-    ap (λ w. record { facts = b.facts; waiting = w }) (insert-remove b.waiting place form taken) in
-    let f : Frame = case_frame levels facts waits place form in
+case-goes vs us levels b now k place facts waits added frames more form ek taken inside is low fits ef ew ea er es em
+    en =
+    let full = full-again b place form taken in
+    let f : Frame = form_frame levels facts waits added place form true in
     let turn : reverse more ≡ f ∷ reverse frames = ap reverse em ∙ reversed frames f in
-    let x : Branch = (outcome vs (sides form).0).yes in
-    let o = over vs f (reverse frames) b (without b place) x ef ew full refl in
+    let x : Branch = (outcome us (sides form).0).yes in
+    let o = over vs f (reverse frames) b (without b place) x ef ew ea full refl in
+    let two : List Branch = settled us (sides form).0 (without b place) ∷ settled us (sides form).1 (without b place)
+    ∷ [] in
     let room : place ≤ waits = (let r = remove-length b.waiting place inside in omega (arith, r, ew)) in (
-      ap (λ z. step_by levels (behind vs (reverse frames) b) (case_at vs b z)) ek
-          ∙ ap (λ z. step_by levels (behind vs (reverse frames) b) (made_case vs b place z)) taken
-          ∙ ap (λ z. Ok (allowing (levels - 1) (settled vs (sides form).0 (without b place)) ∷ z)) (sym o)
-          ∙ ap (λ z. Ok (allowing (levels - 1) (settled vs (sides form).0 (without b place)) ∷ behind vs z
-          (settled vs (sides form).0 (without b place)))) (sym turn)
+      ap (λ z. step_by levels (behind vs (reverse frames) b) (case_at us b z)) ek
+          ∙ ap (λ z. step_by levels (behind vs (reverse frames) b) (made_case us b place z)) taken
+          ∙ ap (λ z. step_by levels (behind vs (reverse frames) b) (cond z (opens two) (fails Code.NothingToCase))) is
+          ∙ ap (λ z. Ok (allowing (levels - 1) (settled us (sides form).0 (without b place))
+          ∷ allowing (levels - 1) (settled z (sides form).1 (without b place)) ∷ behind vs (reverse frames) b)) es
+          ∙ ap (λ z. Ok (allowing (levels - 1) (settled us (sides form).0 (without b place)) ∷ z)) (sym o)
+          ∙ ap (λ z. Ok (allowing (levels - 1) (settled us (sides form).0 (without b place)) ∷ behind vs z
+          (settled us (sides form).0 (without b place)))) (sym turn)
           ∙ ap (λ z. Ok (allowing (levels - 1) z ∷ behind vs (reverse more) z)) (sym en),
-      subst (FramesFit (reverse more)) (sym en) (subst (λ z. FramesFit z (settled vs (sides form).0 (without b place)))
+      subst (FramesFit (reverse more)) (sym en) (subst (λ z. FramesFit z (settled us (sides form).0 (without b place)))
           (sym turn)
-          (over-fits f (reverse frames) b (without b place) x low ef ew full room fits)),
+          (over-fits f (reverse frames) b (without b place) x low ef ew ea er full room fits)),
     )
 
-abbrev pub fact_frame : ℕ → ℕ → ℕ → Fact → Frame
-fact_frame levels facts waits fact =
-    record { levels = levels; facts = facts; waits = waits; todo = Todo.Fact fact; first = true }
+-- a quotient taken is added to the branch that is left
+pub quotient-joins : (us : List Variable) (r : Replaced) (c : Branch) → with_quotient us r c
+    ≡ joined (one_more c) (joined (record { facts = low_fact us r.taken ∷ []; waiting = []; added = 0 })
+    (joined (record { facts = high_fact us r.taken ∷ []; waiting = []; added = 0 })
+    (outcome (with_next us) r.form).yes))
+quotient-joins us r c =
+    let low : Branch = record { facts = low_fact us r.taken ∷ []; waiting = []; added = 0 } in
+    let high : Branch = record { facts = high_fact us r.taken ∷ []; waiting = []; added = 0 } in
+    let rest : Branch = (outcome (with_next us) r.form).yes in
+    joined-joined (joined (one_more c) low) high rest ∙ joined-joined (one_more c) low (joined high rest)
+
+-- with a variable more, the branch is cut back to the same
+base-grown : (f : Frame) (c x : Branch) → f.facts ≡ length c.facts → f.waits ≡ length c.waiting →
+    f.added ≡ c.added → base_of f (joined (one_more c) x) ≡ c
+base-grown f c x p q a =
+    base-joined f (one_more c) x (omega (arith, p)) (omega (arith, q)) ∙ base-whole f c p q a
+
+-- what `quot` makes where the formula has a quotient
+quot-makes : (us : List Variable) (b : Branch) (k place v : ℕ) (form : CForm) (r : Replaced) → k ≡ suc place →
+    slice_get b.waiting place ≡ Some form → v ≡ next_param us → without_quotient v form ≡ Some r →
+    quot_at us b k ≡ opens (with_quotient us r (without b place) ∷ [])
+quot-makes us b k place v form r ek taken ev er =
+    ap (quot_at us b) ek
+    ∙ ap (λ m. made_quot us b place (option_and_then (without_quotient (next_param us)) m)) taken
+    ∙ ap (λ n. made_quot us b place (without_quotient n form)) (sym ev) ∙ ap (made_quot us b place) er
+
+pub quot-goes : (vs us : List Variable) (levels : ℕ) (b now : Branch) (k place facts waits added v : ℕ)
+    (frames more : List Frame) (form : CForm) (r : Replaced) →
+    k ≡ suc place → slice_get b.waiting place ≡ Some form → place < length b.waiting → 0 < levels →
+    FramesFit (reverse frames) b →
+    facts ≡ length b.facts → waits ≡ length (remove b.waiting place) → added ≡ b.added → added + levels ≤ 4096 →
+    v ≡ next_param us → without_quotient v form ≡ Some r →
+    more ≡ frames ++ form_frame levels facts waits added place form false ∷ [] →
+    now ≡ with_quotient us r (without b place) →
+    (step_by levels (behind vs (reverse frames) b) (quot_at us b k) ≡ Ok
+    (allowing (levels - 1) now ∷ behind vs (reverse more) now)) × FramesFit (reverse more) now
+quot-goes vs us levels b now k place facts waits added v frames more form r ek taken inside low fits ef ew ea er ev eq
+    em en =
+    let c : Branch = without b place in
+    let full = full-again b place form taken in
+    let f : Frame = form_frame levels facts waits added place form false in
+    let turn : reverse more ≡ f ∷ reverse frames = ap reverse em ∙ reversed frames f in
+    let x : Branch = joined (record { facts = low_fact us r.taken ∷ []; waiting = []; added = 0 })
+    (joined (record { facts = high_fact us r.taken ∷ []; waiting = []; added = 0 })
+    (outcome (with_next us) r.form).yes) in
+    let all : now ≡ joined (one_more c) x = en ∙ quotient-joins us r c in
+    let base = base-grown f c x ef ew ea in
+    let back : behind vs (reverse more) now ≡ behind vs (reverse frames) b =
+    ap (λ z. behind vs z now) turn ∙ ap (behind vs (f ∷ reverse frames)) all
+    ∙ ap (λ y. behind vs (reverse frames) (full_by f.todo y)) base ∙ ap (behind vs (reverse frames)) full in
+    let room : place ≤ waits = (let l = remove-length b.waiting place inside in omega (arith, l, ew)) in
+    let m = length-append c.facts x.facts in let n = length-append c.waiting x.waiting in (
+      ap (step_by levels (behind vs (reverse frames) b)) (quot-makes us b k place v form r ek taken ev eq)
+          ∙ ap (λ z. Ok (allowing (levels - 1) z ∷ behind vs (reverse frames) b)) (sym en)
+          ∙ ap (λ z. Ok (allowing (levels - 1) now ∷ z)) (sym back),
+      subst (λ z. FramesFit z now) (sym turn) (subst (FramesFit (f ∷ reverse frames)) (sym all) (
+        record {
+          levels = low;
+          facts = omega (arith, m, ef);
+          waits = omega (arith, n, ew);
+          place = room;
+          added = omega (arith, ea);
+          room = er;
+        },
+        subst (λ y. FramesFit (reverse frames) (full_by f.todo y)) (sym base)
+            (subst (FramesFit (reverse frames)) (sym full) fits),
+      )),
+    )
+
+-- a formula without a quotient
+pub quot-stops : (us : List Variable) (levels : ℕ) (ps : List OpenBranch) (b : Branch) (k place v : ℕ)
+    (form : CForm) → k ≡ suc place → slice_get b.waiting place ≡ Some form → v ≡ next_param us →
+    without_quotient v form ≡ None → step_by levels ps (quot_at us b k) ≡ Err Code.NothingToQuot
+quot-stops us levels ps b k place v form ek taken ev er =
+    ap (λ z. step_by levels ps (quot_at us b z)) ek
+    ∙ ap (λ m. step_by levels ps (made_quot us b place (option_and_then (without_quotient (next_param us)) m))) taken
+    ∙ ap (λ n. step_by levels ps (made_quot us b place (without_quotient n form))) (sym ev)
+    ∙ ap (λ m. step_by levels ps (made_quot us b place m)) er
+
+abbrev pub fact_frame : ℕ → ℕ → ℕ → ℕ → Fact → Frame
+fact_frame levels facts waits added fact = record {
+  levels = levels;
+  facts = facts;
+  waits = waits;
+  added = added;
+  todo = Todo.Fact fact;
+  first = true;
+}
 
 -- a node that goes on with one fact, and then with another
-pub fact-goes : (vs : List Variable) (levels : ℕ) (b now : Branch) (facts waits : ℕ) (frames more : List Frame)
+pub fact-goes : (vs : List Variable) (levels : ℕ) (b now : Branch) (facts waits more_added : ℕ)
+    (frames more : List Frame)
     (g h : Fact) (effect : NodeEffect) (done : Bool) → 0 < levels → FramesFit (reverse frames) b →
-    facts ≡ length b.facts → waits ≡ length b.waiting → more ≡ frames ++ fact_frame levels facts waits h ∷ [] →
+    facts ≡ length b.facts → waits ≡ length b.waiting → more_added ≡ b.added → more_added + levels ≤ 4096 →
+    more ≡ frames ++ fact_frame levels facts waits more_added h ∷ [] →
     now ≡ added b g → effect ≡ opens (added b g ∷ added b h ∷ []) → done ≡ false →
     (step_by levels (behind vs (reverse frames) b) effect ≡ Ok
     (cond done [] (allowing (levels - 1) now ∷ behind vs (reverse more) now))) × FramesFit (reverse more) now
-fact-goes vs levels b now facts waits frames more g h effect done low fits ef ew em en ee ed =
-    let f : Frame = fact_frame levels facts waits h in
+fact-goes vs levels b now facts waits more_added frames more g h effect done low fits ef ew ea er em en ee ed =
+    let f : Frame = fact_frame levels facts waits more_added h in
     let turn : reverse more ≡ f ∷ reverse frames = ap reverse em ∙ reversed frames f in
-    let x : Branch = record { facts = g ∷ []; waiting = [] } in
-    let o = over vs f (reverse frames) b b x ef ew refl refl in (
+    let x : Branch = record { facts = g ∷ []; waiting = []; added = 0 } in
+    let o = over vs f (reverse frames) b b x ef ew ea refl refl in (
       ap (step_by levels (behind vs (reverse frames) b)) ee
           ∙ ap (λ z. Ok (allowing (levels - 1) (added b g) ∷ z)) (sym o)
           ∙ ap (λ z. Ok (allowing (levels - 1) (added b g) ∷ behind vs z (added b g))) (sym turn)
           ∙ ap (λ z. Ok (allowing (levels - 1) z ∷ behind vs (reverse more) z)) (sym en)
           ∙ ap (λ d. Ok (cond d [] (allowing (levels - 1) now ∷ behind vs (reverse more) now))) (sym ed),
       subst (FramesFit (reverse more)) (sym en) (subst (λ z. FramesFit z (added b g)) (sym turn)
-          (over-fits f (reverse frames) b b x low ef ew refl tt fits)),
+          (over-fits f (reverse frames) b b x low ef ew ea er refl tt fits)),
     )
 
 -- the two branches of a variable that is there
@@ -258,18 +394,39 @@ share-opens b r l m g h er em eg eh =
 
 -- what a node makes where a level is left
 pub made-allowed : (vs : List Variable) (levels : ℕ) (b : Branch) (n : Node) → 0 < levels →
-    made vs (allowing levels b) n ≡ made_by vs b n
-made-allowed vs levels b n h = ap (λ t. cond t (made_by vs b n) (fails Code.CertTooDeep)) (some levels h)
+    made vs (allowing levels b) n ≡ made_by (scope_of vs b) b n
+made-allowed vs levels b n h = ap (λ t. cond t (made_by (scope_of vs b) b n) (fails Code.CertTooDeep)) (some levels h)
   where
     some : (a : ℕ) → 0 < a → nat_lt 0 a ≡ true
     some a h = grind arith
 
+-- what the code of a node promises over the branch's own variables
+module _ (vs : List Variable) (m : Machine) (some : 0 < m.levels) (scoped : m.variables ≡ scope_of vs m.branch) where
+  node-makes : (e : NodeEffect) (n : Node) → e ≡ made_by m.variables m.branch n →
+      e ≡ made vs (allowing m.levels m.branch) n
+  node-makes e n h =
+      h ∙ ap (λ us. made_by us m.branch n) scoped ∙ sym (made-allowed vs m.levels m.branch n some)
+
+pub take-ok : {A E : Type 0} (vs : List Variable) (m new : Machine) (e : NodeEffect) (n : Node) (r : Result A E) →
+    0 < m.levels → m.variables ≡ scope_of vs m.branch → e ≡ made_by m.variables m.branch n →
+    OnOk r (Goes vs m e new) → OnOk r (Goes vs m (made vs (allowing m.levels m.branch) n) new)
+take-ok vs m new e n r some scoped h k =
+    subst (λ x. OnOk r (Goes vs m x new)) (node-makes vs m some scoped e n h) k
+
+pub take-err : {A : Type 0} (vs : List Variable) (m : Machine) (e : NodeEffect) (n : Node) (r : Result A Stop) →
+    0 < m.levels → m.variables ≡ scope_of vs m.branch → e ≡ made_by m.variables m.branch n →
+    IfErr r (GoesErr vs m e) → IfErr r (GoesErr vs m (made vs (allowing m.levels m.branch) n))
+take-err vs m e n r some scoped h k =
+    subst (λ x. IfErr r (GoesErr vs m x)) (node-makes vs m some scoped e n h) k
+
 pub added-behind : (vs : List Variable) (fs : List Frame) (b new : Branch) (f : Fact) → new ≡ added b f →
     FramesFit fs b → behind vs fs new ≡ behind vs fs b
-added-behind vs fs b new f e h = ap (behind vs fs) e ∙ behind-joined vs fs b (record { facts = f ∷ []; waiting = [] }) h
+added-behind vs fs b new f e h = ap (behind vs fs) e
+    ∙ behind-joined vs fs b (record { facts = f ∷ []; waiting = []; added = 0 }) h
 
 pub added-fits : (fs : List Frame) (b new : Branch) (f : Fact) → new ≡ added b f → FramesFit fs b → FramesFit fs new
-added-fits fs b new f e h = subst (FramesFit fs) (sym e) (fits-joined fs b (record { facts = f ∷ []; waiting = [] }) h)
+added-fits fs b new f e h = subst (FramesFit fs) (sym e)
+    (fits-joined fs b (record { facts = f ∷ []; waiting = []; added = 0 }) h)
 
 pub ruleset round_laws = (added-behind, added-fits)
 

@@ -25,11 +25,11 @@ use Rattle.obligations.specs.declared.certificates.Node.{Node}
 use Rattle.obligations.specs.LinearForms.{add_at, dot, line_value, sum_of, fact_value, fact_holds, fact_of}
 use Rattle.obligations.specs.Settling.{term_at_step, term_at, settled, form_at, branch_holds, sides_in, sides, without}
 use Rattle.obligations.specs.Settling.{added}
-use Rattle.obligations.specs.Opening.{first_branch, in_ranges, at_most, at_least}
+use Rattle.obligations.specs.Quotients.{is_either}
+use Rattle.obligations.specs.Opening.{at_most, at_least}
 use Rattle.obligations.proofs.RingLaws.{add-times, times-add, times-times}
 use Rattle.obligations.proofs.LineLaws.{int_eq-true, fact_of-value, dot-zeros, length-zeros, length-add_at, dot-add_at}
 use Rattle.obligations.proofs.SettlingLaws.{settled-holds}
-use Rattle.obligations.proofs.OpeningLaws.{ranges-long, first-holds}
 use Rattle.certificate_check.specs.Sums.{add_factors, with_constant, add_times, numbered, or_too_big, add_pair}
 use Rattle.certificate_check.specs.Sums.{sum_pairs, fact_step, no_sum, all_pairs, is_false, is_divisible, divided}
 use Rattle.certificate_check.specs.Sums.{stated, below_0}
@@ -37,8 +37,7 @@ use Rattle.certificate_check.specs.Refutation.{NodeEffect, fails, opens, made_ca
 use Rattle.certificate_check.specs.Refutation.{made_share}
 use Rattle.certificate_check.proofs.SumLaws.{pairs-keep}
 use Rattle.certificate_check.specs.Refutation.{OpenBranch}
-use Rattle.certificate_check.specs.Refutation.{made, pending, after, walk, allowing, go_on, WalkAppends, none_holds}
-use Rattle.certificate_check.specs.Refutation.{WalkKeeps, Sound}
+use Rattle.certificate_check.specs.Refutation.{made, pending, after, walk, allowing, go_on, WalkAppends}
 use Rattle.certificate_check.specs.Trees.{CertTree, leaf, one_below, two_below, nodes_of, Refutes}
 
 abbrev is_at_least_0 : ℤ → Bool
@@ -249,9 +248,18 @@ opens_of : NodeEffect → List Branch
 opens_of (fails c) = []
 opens_of (opens bs) = bs
 
-opens-same : {xs ys : List Branch} → opens xs ≡ opens ys → xs ≡ ys
+pub opens-same : {xs ys : List Branch} → opens xs ≡ opens ys → xs ≡ ys
 unfolding opens_of
 opens-same e = ap opens_of e
+
+-- all nodes but `quot`
+abbrev pub IsOld : Node → Type 0
+IsOld (Node.Case k) = Unit {0}
+IsOld (Node.Split v k) = Unit {0}
+IsOld (Node.Sum ps) = Unit {0}
+IsOld (Node.Round d ps) = Unit {0}
+IsOld (Node.Quot k) = ⊥
+IsOld (Node.Share c ps) = Unit {0}
 
 module _ (vs : List Variable) (values : List ℤ) (long : length values ≡ length vs) where
   abbrev B : Branch → Bool
@@ -392,72 +400,32 @@ module _ (vs : List Variable) (values : List ℤ) (long : length values ≡ leng
       (sym (ap (λ z. not z && (not (B (added b high)) && true)) (holds-added b low)
       ∙ ap (λ z. not (B b && fact_holds values low) && (not z && true)) (holds-added b high)) ∙ none)
 
-  made_by-sound : (b : Branch) (n : Node) (bs : List Branch) → made_by vs b n ≡ opens bs → none_hold bs ≡ true →
-      B b ≡ false
-  made_by-sound b (Node.Case zero) bs e h = absurd (cc)
-  made_by-sound b (Node.Case (suc k)) bs e h = taken (slice_get b.waiting k) refl e
+  -- all nodes but `quot`
+  pub made_by-sound : (b : Branch) (n : Node) (bs : List Branch) → IsOld n → made_by vs b n ≡ opens bs →
+      none_hold bs ≡ true → B b ≡ false
+  made_by-sound b (Node.Case zero) bs i e h = absurd (cc)
+  made_by-sound b (Node.Case (suc k)) bs i e h = taken (slice_get b.waiting k) refl e
     where
+      chosen : (f : CForm) (t : Bool) → slice_get b.waiting k ≡ Some f →
+          cond t (opens (settled vs (sides f).0 (without b k) ∷ settled vs (sides f).1 (without b k) ∷ []))
+          (fails Code.NothingToCase) ≡ opens bs → B b ≡ false
+      chosen f false q d = absurd (cc)
+      chosen f true q d = case-sound b k f q (ap none_hold (opens-same d) ∙ h)
+
       taken : (o : Option CForm) → slice_get b.waiting k ≡ o → made_case vs b k o ≡ opens bs → B b ≡ false
       taken None q d = absurd (cc)
-      taken (Some f) q d = case-sound b k f q (ap none_hold (opens-same d) ∙ h)
-  made_by-sound b (Node.Split zero k) bs e h = absurd (cc)
-  made_by-sound b (Node.Split (suc v) k) bs e h = parted (nat_lt v (length vs)) e
+      taken (Some f) q d = chosen f (is_either f) q d
+  made_by-sound b (Node.Split zero k) bs i e h = absurd (cc)
+  made_by-sound b (Node.Split (suc v) k) bs i e h = parted (nat_lt v (length vs)) e
     where
       parted : (t : Bool) → cond t (opens (added b (at_most v k) ∷ added b (at_least v (k +ℤ pos 1)) ∷ []))
           (fails Code.NoSuchVariable) ≡ opens bs → B b ≡ false
       parted false d = absurd (cc)
       parted true d = split-sound b v k (ap none_hold (opens-same d) ∙ h)
-  made_by-sound b (Node.Sum ps) bs e h = sum-sound b ps (all_pairs vs b.facts ps) refl bs e
-  made_by-sound b (Node.Round d ps) bs e h = round-sound b d ps (all_pairs vs b.facts ps) refl bs e h
-  made_by-sound b (Node.Quot k) bs e h = absurd (cc)
-  made_by-sound b (Node.Share c ps) bs e h = share-sound b (stated vs c ps) bs e h
-
-  made-sound : (p : OpenBranch) (n : Node) (bs : List Branch) → made vs p n ≡ opens bs → none_hold bs ≡ true →
-      B p.branch ≡ false
-  made-sound p n bs e h = leveled (nat_lt 0 p.levels) e
-    where
-      leveled : (t : Bool) → cond t (made_by vs p.branch n) (fails Code.CertTooDeep) ≡ opens bs → B p.branch ≡ false
-      leveled false d = absurd (cc)
-      leveled true d = made_by-sound p.branch n bs d h
-
-  none_of : (levels : ℕ) (bs : List Branch) (ps : List OpenBranch) →
-      none_holds vs values (pending levels bs ++ ps) ≡ true → (none_hold bs ≡ true) × (none_holds vs values ps ≡ true)
-  none_of levels [] ps h = (refl, h)
-  none_of levels (b ∷ bs) ps h =
-      let parts = and_parts (not (B b)) (none_holds vs values (pending levels bs ++ ps)) h in
-      let rest = none_of levels bs ps parts.1 in
-      (ap (λ z. z && none_hold bs) parts.0 ∙ rest.0, rest.1)
-
-  pub walk-keeps : (ns : List Node) (ps qs : List OpenBranch) (at : ℕ) → walk vs ns ps at ≡ Ok qs →
-      none_holds vs values qs ≡ true → none_holds vs values ps ≡ true
-  walk-keeps [] ps qs at e h = let same : ps ≡ qs = cc in ap (none_holds vs values) same ∙ h
-  walk-keeps (n ∷ ns) [] qs at e h = refl
-  walk-keeps (n ∷ ns) (p ∷ ps) qs at e h = opened (made vs p n) refl e (λ rs d. walk-keeps ns rs qs (suc at) d h)
-    where
-      opened : (m : NodeEffect) → made vs p n ≡ m → after (λ rs. walk vs ns rs (suc at)) p.levels ps at m ≡ Ok qs →
-          ((rs : List OpenBranch) → walk vs ns rs (suc at) ≡ Ok qs → none_holds vs values rs ≡ true) →
-          none_holds vs values (p ∷ ps) ≡ true
-      opened (fails c) q d ih = absurd (cc)
-      opened (opens bs) q d ih =
-          let parts = none_of (p.levels - 1) bs ps (ih (pending (p.levels - 1) bs ++ ps) d) in
-          ap (λ z. not z && none_holds vs values ps) (made-sound p n bs q parts.0) ∙ parts.1
-
-refutes-valid : (t f : Bool) → t ≡ true → (t && not f) ≡ false → f ≡ true
-refutes-valid true true e h = refl
-refutes-valid true false e h = cc
-refutes-valid false f e h = cc
-
-pub keeps : WalkKeeps
-keeps vs values long = walk-keeps vs values long
-
-pub sound : Sound
-sound levels o nodes e values inside =
-    let long = ranges-long o.variables values inside in
-    let none = walk-keeps o.variables values long nodes (allowing levels (first_branch o) ∷ []) [] 0 e refl in
-    let first = not-true (branch_holds o.variables values (first_branch o))
-    (and_parts (not (branch_holds o.variables values (first_branch o))) true none).0 in
-    refutes-valid (in_ranges o.variables values) (form_at o.variables values o.form) inside
-    (sym (first-holds o values long) ∙ first)
+  made_by-sound b (Node.Sum ps) bs i e h = sum-sound b ps (all_pairs vs b.facts ps) refl bs e
+  made_by-sound b (Node.Round d ps) bs i e h = round-sound b d ps (all_pairs vs b.facts ps) refl bs e h
+  made_by-sound b (Node.Quot k) bs i e h = absurd i
+  made_by-sound b (Node.Share c ps) bs i e h = share-sound b (stated vs c ps) bs e h
 
 -- A walk along the nodes of a tree.
 pub walk-tree : (vs : List Variable) (t : CertTree) (levels : ℕ) (b : Branch) (ns : List Node) (ps : List OpenBranch)

@@ -1,8 +1,10 @@
 -- How many facts and waiting formulas settling a formula adds at most.
 use Rattle.std.proofs.Common.{◌≡◌, ℕ, ◌+◌, ◌≤◌, max, ℤ, pos, negsuc, List, [], ◌∷◌, ◌++◌, length, Option, Some, None}
-use Rattle.std.proofs.Common.{arith, refl, ap, ◌∙◌, subst, length-append}
+use Rattle.std.proofs.Common.{Bool, true, false, cond, arith, refl, sym, ap, ◌∙◌, subst, length-append}
 use Rattle.core_terms.specs.declared.trees.CTerm.{CTerm, roll-CTerm, fold-CTerm, fold-roll-CTerm}
-use Rattle.core_terms.specs.declared.trees.CTerm.TheVariants.{Const, Add, Sub, Scale, Ite, rolls-Const, rolls-Add}
+use Rattle.core_terms.specs.declared.trees.CTerm.TheVariants.{Const, Param, Add, Sub, Scale, Ite, Div, Mod}
+use Rattle.core_terms.specs.declared.trees.CTerm.TheVariants.{rolls-Const, rolls-Param, rolls-Add, rolls-Div}
+use Rattle.core_terms.specs.declared.trees.CTerm.TheVariants.{rolls-Mod}
 use Rattle.core_terms.specs.declared.trees.CTerm.TheVariants.{rolls-Sub, rolls-Scale, rolls-Ite}
 use Rattle.core_terms.specs.declared.trees.CForm.{CForm, out-CForm, roll-CForm, ind-CForm, fold-CForm, fold-roll-CForm}
 use Rattle.core_terms.specs.declared.trees.CForm.{fold_out-CForm}
@@ -16,16 +18,23 @@ use Rattle.obligations.specs.declared.branches.Branch.{Branch}
 use Rattle.obligations.specs.declared.branches.Variable.{Variable}
 use Rattle.obligations.specs.declared.branches.Choice.{Choice}
 use Rattle.obligations.specs.Settling.{joined, one_waiting, first_ite, first_choice, choice_form, least_adds}
+use Rattle.obligations.specs.LinearForms.{linear, negated}
 use Rattle.obligations.specs.Settling.{zero_adds, unequal_adds, below_zero, outcome, sides, sides_in}
+use Rattle.obligations.specs.Settling.{has_quotient, one_fact, two_facts, first_taken, first_of, or_whole}
+use Rattle.obligations.specs.Quotients.{without_quotient, replaced, replaced_in}
+use Rattle.obligations.specs.declared.branches.Replaced.{Replaced}
+use Rattle.obligations.specs.declared.branches.Taken.{Taken}
 use Rattle.obligations.proofs.SettlingLaws.{term_fold, form_fold}
 use Rattle.obligations.proofs.SettledKeeps.{choice_keeps, settled_keeps}
+use Rattle.obligations.proofs.TakenLaws.{whole_quotient, whole_remainder, taken_keeps}
+use Rattle.meaning_states.specs.Division.{divisor}
 
 -- what settling a formula, and its negation, adds at most
 pub record Room : Type 0 where
   pub yes : ℕ
   pub no : ℕ
 
--- for a term, by the conditions in it
+-- for a term, by the conditions in it, and its quotients' facts
 abbrev pub term_room_step : CTerm-F Room ℕ → ℕ
 term_room_step (CTerm-F.Const c) = 0
 term_room_step (CTerm-F.Slot n) = 0
@@ -33,6 +42,8 @@ term_room_step (CTerm-F.Param n) = 0
 term_room_step (CTerm-F.Add a b) = a + b
 term_room_step (CTerm-F.Sub a b) = a + b
 term_room_step (CTerm-F.Scale k a) = a
+term_room_step (CTerm-F.Div a k) = 2 + a
+term_room_step (CTerm-F.Mod a k) = 2 + a
 term_room_step (CTerm-F.Ite c a b) = 1 + max (c.yes + a) (c.no + b)
 
 abbrev pub form_room_step : CForm-F Room ℕ → Room
@@ -63,6 +74,15 @@ room-Sub a b = term_fold form_room_step term_room_step (CTerm-F.Sub a b) (Sub a 
 
 room-Scale : (k : ℤ) (a : CTerm) → term_room (Scale k a) ≡ term_room a
 room-Scale k a = term_fold form_room_step term_room_step (CTerm-F.Scale k a) (Scale k a) (rolls-Scale k a)
+
+room-Param : (n : ℕ) → term_room (Param n) ≡ 0
+room-Param n = term_fold form_room_step term_room_step (CTerm-F.Param n) (Param n) (rolls-Param n)
+
+room-Div : (a : CTerm) (k : ℤ) → term_room (Div a k) ≡ 2 + term_room a
+room-Div a k = term_fold form_room_step term_room_step (CTerm-F.Div a k) (Div a k) (rolls-Div a k)
+
+room-Mod : (a : CTerm) (k : ℤ) → term_room (Mod a k) ≡ 2 + term_room a
+room-Mod a k = term_fold form_room_step term_room_step (CTerm-F.Mod a k) (Mod a k) (rolls-Mod a k)
 
 room-Ite : (c : CForm) (a b : CTerm) →
     term_room (Ite c a b) ≡ 1 + max ((room c).yes + term_room a) ((room c).no + term_room b)
@@ -149,6 +169,10 @@ term_layer (CTerm-F.Sub a b) = let p = a.1 in let q = b.1 in
 term_layer (CTerm-F.Scale k a) = let p = a.1 in
     term_is (CTerm-F.Scale k a.0) _ _ (rooms_of (CTerm-F.Scale k a.0)) (sizes_of (CTerm-F.Scale k a.0))
     (omega (arith, p))
+term_layer (CTerm-F.Div a k) = let p = a.1 in
+    term_is (CTerm-F.Div a.0 k) _ _ (rooms_of (CTerm-F.Div a.0 k)) (sizes_of (CTerm-F.Div a.0 k)) (omega (arith, p))
+term_layer (CTerm-F.Mod a k) = let p = a.1 in
+    term_is (CTerm-F.Mod a.0 k) _ _ (rooms_of (CTerm-F.Mod a.0 k)) (sizes_of (CTerm-F.Mod a.0 k)) (omega (arith, p))
 term_layer (CTerm-F.Ite c a b) = let p = a.1 in let q = b.1 in let u = c.1.yes in let v = c.1.no in
     term_is (CTerm-F.Ite c.0 a.0 b.0) _ _ (rooms_of (CTerm-F.Ite c.0 a.0 b.0)) (sizes_of (CTerm-F.Ite c.0 a.0 b.0))
     (omega (arith, p, q, u, v))
@@ -230,6 +254,22 @@ scale-roomy k a (Some d) p =
     let r = p.holds in let s = p.fails in
     record { holds = omega (arith, t, y, r); fails = omega (arith, t, z, s) }
 
+div-roomy : (a : CTerm) (k : ℤ) (m : Option Choice) → Roomy a m →
+    Roomy (Div a k) (first_choice (λ x. Div x k) (λ x. Div x k) m None)
+div-roomy a k None p = tt
+div-roomy a k (Some d) p =
+    let t = room-Div a k in let y = room-Div d.yes k in let z = room-Div d.no k in
+    let r = p.holds in let s = p.fails in
+    record { holds = omega (arith, t, y, r); fails = omega (arith, t, z, s) }
+
+mod-roomy : (a : CTerm) (k : ℤ) (m : Option Choice) → Roomy a m →
+    Roomy (Mod a k) (first_choice (λ x. Mod x k) (λ x. Mod x k) m None)
+mod-roomy a k None p = tt
+mod-roomy a k (Some d) p =
+    let t = room-Mod a k in let y = room-Mod d.yes k in let z = room-Mod d.no k in
+    let r = p.holds in let s = p.fails in
+    record { holds = omega (arith, t, y, r); fails = omega (arith, t, z, s) }
+
 ite-roomy : (f : CForm) (a b : CTerm) → ChoiceFits (Ite f a b) (record { when = f; yes = a; no = b })
 ite-roomy f a b = let t = room-Ite f a b in record { holds = omega (arith, t); fails = omega (arith, t) }
 
@@ -241,6 +281,8 @@ term-roomy = choice_keeps Roomy (record {
   of_add = pair-roomy Add room-Add;
   of_sub = pair-roomy Sub room-Sub;
   of_scale = scale-roomy;
+  of_div = div-roomy;
+  of_mod = mod-roomy;
   of_ite = ite-roomy;
 })
 
@@ -259,9 +301,17 @@ choice-within f c k p q =
     let n = ap (λ (x : Room). x.yes) (room-Not c.when) in
     one-total (choice_form f c) k (omega (arith, o, a, b, n, p, q))
 
+plain-total : (g : CForm) (a : Branch) (b : Bool) (k : ℕ) → max 1 (room g).yes ≤ k → total a ≤ k →
+    total (cond b (one_waiting g) a) ≤ k
+plain-total g a true k h l = one-total g k h
+plain-total g a false k h l = l
+
 module _ (vs : List Variable) where
   least-total : (t : CTerm) (m : Option Choice) → Roomy t m → total (least_adds vs t m) ≤ 1 + term_room t
-  least-total t None r = omega arith
+  least-total t None r =
+      let y = ap (λ (x : Room). x.yes) (room-AtLeast t) in
+      plain-total (AtLeast t) (one_fact (linear vs t)) (has_quotient t) (1 + term_room t) (omega (arith, y))
+      (omega arith)
   least-total t (Some c) r =
       let y = ap (λ (x : Room). x.yes) (room-AtLeast c.yes) in
       let z = ap (λ (x : Room). x.yes) (room-AtLeast c.no) in
@@ -269,7 +319,10 @@ module _ (vs : List Variable) where
       choice-within AtLeast c (1 + term_room t) (omega (arith, y, p)) (omega (arith, z, q))
 
   zero-total : (t : CTerm) (m : Option Choice) → Roomy t m → total (zero_adds vs t m) ≤ 2 + term_room t
-  zero-total t None r = omega arith
+  zero-total t None r =
+      let y = ap (λ (x : Room). x.yes) (room-Zero t) in
+      plain-total (Zero t) (two_facts (linear vs t) (negated vs (linear vs t))) (has_quotient t) (2 + term_room t)
+      (omega (arith, y)) (omega arith)
   zero-total t (Some c) r =
       let y = ap (λ (x : Room). x.yes) (room-Zero c.yes) in
       let z = ap (λ (x : Room). x.yes) (room-Zero c.no) in
@@ -363,3 +416,91 @@ side-room f (CForm-F.Or g k) e =
 
 pub sides-room : (f : CForm) → ((room (sides f).0).yes ≤ (room f).yes) × ((room (sides f).1).yes ≤ (room f).yes)
 sides-room f = side-room f (out-CForm f) refl
+
+room-out : (f : CForm) (x : CForm-F CForm CTerm) → out-CForm f ≡ x →
+    room f ≡ form_room_step (map-CForm CForm CTerm Room ℕ room term_room x)
+room-out f x e =
+    fold_out-CForm Room ℕ form_room_step term_room_step f
+    ∙ ap (λ y. form_room_step (map-CForm CForm CTerm Room ℕ room term_room y)) e
+
+-- a formula without its quotient needs as much less room as the quotient's facts take
+module _ (v : ℕ) where
+  abbrev Spares : CTerm → Option Taken → Type 0
+  Spares t None = Unit {0}
+  Spares t (Some q) = term_room q.rest + 2 ≤ term_room t
+
+  pair-spares : (node : CTerm → CTerm → CTerm) →
+      ((a b : CTerm) → term_room (node a b) ≡ term_room a + term_room b) →
+      (a b : CTerm) (m n : Option Taken) → Spares a m → Spares b n →
+      Spares (node a b) (first_of (λ x. node x b) (λ y. node a y) m n)
+  pair-spares node is a b None None p q = tt
+  pair-spares node is a b None (Some r) p q =
+      let t = is a b in let y = is a r.rest in omega (arith, t, y, q)
+  pair-spares node is a b (Some r) n p q =
+      let t = is a b in let y = is r.rest b in omega (arith, t, y, p)
+
+  scale-spares : (k : ℤ) (a : CTerm) (m : Option Taken) → Spares a m →
+      Spares (Scale k a) (first_of (λ x. Scale k x) (λ x. Scale k x) m None)
+  scale-spares k a None p = tt
+  scale-spares k a (Some r) p = let t = room-Scale k a in let y = room-Scale k r.rest in omega (arith, t, y, p)
+
+  div-spares : (a : CTerm) (k : ℤ) (m : Option Taken) → Spares a m →
+      Spares (Div a k) (or_whole (λ x. Div x k) m (whole_quotient v a k))
+  div-spares a k None p = let t = room-Div a k in let y = room-Param v in omega (arith, t, y)
+  div-spares a k (Some r) p = let t = room-Div a k in let y = room-Div r.rest k in omega (arith, t, y, p)
+
+  mod-spares : (a : CTerm) (k : ℤ) (m : Option Taken) → Spares a m →
+      Spares (Mod a k) (or_whole (λ x. Mod x k) m (whole_remainder v a k))
+  mod-spares a k None p =
+      let t = room-Mod a k in let y = room-Sub a (Scale (divisor k) (Param v)) in
+      let z = room-Scale (divisor k) (Param v) in let u = room-Param v in omega (arith, t, y, z, u)
+  mod-spares a k (Some r) p = let t = room-Mod a k in let y = room-Mod r.rest k in omega (arith, t, y, p)
+
+  term-spares : (t : CTerm) → Spares t (first_taken v t)
+  term-spares = taken_keeps v Spares (record {
+    of_const = λ c. tt;
+    of_slot = λ n. tt;
+    of_param = λ n. tt;
+    of_add = pair-spares Add room-Add;
+    of_sub = pair-spares Sub room-Sub;
+    of_scale = scale-spares;
+    of_div = div-spares;
+    of_mod = mod-spares;
+    of_ite = λ c a b. tt;
+  })
+
+  least-spares : (f : CForm) (t : CTerm) (o : Option Taken) (r : Replaced) → room f ≡ room (AtLeast t) →
+      Spares t o → replaced AtLeast o ≡ Some r → (room r.form).yes + 2 ≤ (room f).yes
+  least-spares f t None r e s h = absurd (cc)
+  least-spares f t (Some q) r e s h =
+      let same : record { taken = q; form = AtLeast q.rest } ≡ r = cc in
+      let x = ap (λ (y : Replaced). (room y.form).yes) same in
+      let y = ap (λ (z : Room). z.yes) (room-AtLeast q.rest) in
+      let z = ap (λ (z : Room). z.yes) (e ∙ room-AtLeast t) in
+      omega (arith, s, x, y, z)
+
+  zero-spares : (f : CForm) (t : CTerm) (o : Option Taken) (r : Replaced) → room f ≡ room (Zero t) →
+      Spares t o → replaced Zero o ≡ Some r → (room r.form).yes + 2 ≤ (room f).yes
+  zero-spares f t None r e s h = absurd (cc)
+  zero-spares f t (Some q) r e s h =
+      let same : record { taken = q; form = Zero q.rest } ≡ r = cc in
+      let x = ap (λ (y : Replaced). (room y.form).yes) same in
+      let y = ap (λ (z : Room). z.yes) (room-Zero q.rest) in
+      let z = ap (λ (z : Room). z.yes) (e ∙ room-Zero t) in
+      omega (arith, s, x, y, z)
+
+  form-spares : (f : CForm) (x : CForm-F CForm CTerm) (r : Replaced) → out-CForm f ≡ x →
+      replaced_in v x ≡ Some r → (room r.form).yes + 2 ≤ (room f).yes
+  form-spares f CForm-F.Top r e h = absurd (cc)
+  form-spares f CForm-F.Bottom r e h = absurd (cc)
+  form-spares f (CForm-F.AtLeast t) r e h =
+      least-spares f t (first_taken v t) r (room-out f (CForm-F.AtLeast t) e ∙ sym (room-AtLeast t)) (term-spares t) h
+  form-spares f (CForm-F.Zero t) r e h =
+      zero-spares f t (first_taken v t) r (room-out f (CForm-F.Zero t) e ∙ sym (room-Zero t)) (term-spares t) h
+  form-spares f (CForm-F.Not g) r e h = absurd (cc)
+  form-spares f (CForm-F.And g k) r e h = absurd (cc)
+  form-spares f (CForm-F.Or g k) r e h = absurd (cc)
+
+  pub quotient-room : (f : CForm) (r : Replaced) → without_quotient v f ≡ Some r →
+      (room r.form).yes + 2 ≤ (room f).yes
+  quotient-room f r h = form-spares f (out-CForm f) r refl h

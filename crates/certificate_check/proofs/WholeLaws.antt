@@ -2,6 +2,7 @@
 use Rattle.std.proofs.Common.{◌≡◌, ℕ, zero, suc, ◌+◌, ◌≤◌, ℤ, Bool, true, false, cond, Option, Some, None, Result, Ok}
 use Rattle.std.proofs.Common.{Err, List, [], ◌∷◌, ◌++◌, ◌-◌, length, drop, slice_get, nat_lt, length-append}
 use Rattle.std.proofs.Common.{append_assoc, arith, refl, sym, ap, ◌∙◌, subst, ◌≢◌, MatchResult, OnOk, IfErr}
+use Rattle.std.specs.Option.{option_and_then}
 use Rattle.std.proofs.lemmas.List.{drop_all}
 use Rattle.core_terms.specs.declared.trees.CForm.{CForm}
 use Rattle.case_tables.specs.declared.code_table.Code.{Code}
@@ -9,14 +10,18 @@ use Rattle.obligations.specs.declared.branches.Branch.{Branch}
 use Rattle.obligations.specs.declared.branches.Variable.{Variable}
 use Rattle.obligations.specs.declared.branches.Line.{Line}
 use Rattle.obligations.specs.declared.branches.Obligation.{Obligation}
+use Rattle.obligations.specs.declared.branches.Replaced.{Replaced}
 use Rattle.obligations.specs.declared.certificates.Node.{Node}
 use Rattle.obligations.specs.Certificates.{arity}
 use Rattle.obligations.specs.LinearForms.{fact_of}
 use Rattle.obligations.specs.Opening.{Valid, first_branch}
-use Rattle.obligations.specs.Settling.{added}
+use Rattle.obligations.specs.Obligations.{IsObligation}
+use Rattle.obligations.specs.Quotients.{is_either, without_quotient}
+use Rattle.obligations.specs.Scopes.{next_param, scope_of}
+use Rattle.obligations.specs.Settling.{added, settled, sides, without}
 use Rattle.certificate_check.specs.Sums.{is_false, all_pairs, is_divisible, divided, stated}
 use Rattle.certificate_check.specs.Refutation.{NodeEffect, fails, opens, made_case, made_sum, made_round, made_by}
-use Rattle.certificate_check.specs.Refutation.{made_share}
+use Rattle.certificate_check.specs.Refutation.{made_share, made_quot}
 use Rattle.certificate_check.specs.Refutation.{OpenBranch}
 use Rattle.certificate_check.specs.Refutation.{made, pending, after, walk, allowing, walk_from_root, MoreLevels}
 use Rattle.certificate_check.specs.Trees.{CertTree, leaf, one_below, two_below, nodes_of, Refutes, Refuted}
@@ -24,7 +29,8 @@ use Rattle.certificate_check.specs.Trees.{is_whole, WalkIsTree}
 use Rattle.certificate_check.specs.declared.errors.CertError.{CertError}
 use Rattle.certificate_check.specs.Refutation.{WalkResult}
 use Rattle.certificate_check.specs.Machines.{FailsReading}
-use Rattle.certificate_check.proofs.RefutationLaws.{walk-tree, sound}
+use Rattle.certificate_check.proofs.RefutationLaws.{walk-tree}
+use Rattle.certificate_check.proofs.SoundLaws.{sound}
 
 -- a failure, or as many branches
 abbrev Opened : ℕ → NodeEffect → Type 0
@@ -37,7 +43,13 @@ opened-if n false bs c e = tt
 
 opened-case : (vs : List Variable) (b : Branch) (k : ℕ) (o : Option CForm) → Opened 2 (made_case vs b k o)
 opened-case vs b k None = tt
-opened-case vs b k (Some f) = refl
+opened-case vs b k (Some f) =
+    opened-if 2 (is_either f) (settled vs (sides f).0 (without b k) ∷ settled vs (sides f).1 (without b k) ∷ [])
+    Code.NothingToCase refl
+
+opened-quot : (vs : List Variable) (b : Branch) (k : ℕ) (o : Option Replaced) → Opened 1 (made_quot vs b k o)
+opened-quot vs b k None = tt
+opened-quot vs b k (Some r) = refl
 
 opened-sum : (r : Result Line Code) → Opened 0 (made_sum r)
 opened-sum (Err c) = tt
@@ -58,7 +70,9 @@ opened-by vs b (Node.Split zero k) = tt
 opened-by vs b (Node.Split (suc v) k) = opened-if 2 (nat_lt v (length vs)) _ Code.NoSuchVariable refl
 opened-by vs b (Node.Sum ps) = opened-sum (all_pairs vs b.facts ps)
 opened-by vs b (Node.Round d ps) = opened-round b d (all_pairs vs b.facts ps)
-opened-by vs b (Node.Quot k) = tt
+opened-by vs b (Node.Quot zero) = tt
+opened-by vs b (Node.Quot (suc k)) =
+    opened-quot vs b k (option_and_then (without_quotient (next_param vs)) (slice_get b.waiting k))
 opened-by vs b (Node.Share c ps) = opened-share b (stated vs c ps)
 
 opened-made : (n : ℕ) (b : Bool) (m : NodeEffect) → Opened n m → Opened n (cond b m (fails Code.CertTooDeep))
@@ -66,7 +80,9 @@ opened-made n true m h = h
 opened-made n false m h = tt
 
 opened : (vs : List Variable) (p : OpenBranch) (n : Node) → Opened (arity n) (made vs p n)
-opened vs p n = opened-made (arity n) (nat_lt 0 p.levels) (made_by vs p.branch n) (opened-by vs p.branch n)
+opened vs p n =
+    opened-made (arity n) (nat_lt 0 p.levels) (made_by (scope_of vs p.branch) p.branch n)
+    (opened-by (scope_of vs p.branch) p.branch n)
 
 -- a node opens as many branches as it has subtrees
 pub opened-arity : (vs : List Variable) (p : OpenBranch) (n : Node) (bs : List Branch) → made vs p n ≡ opens bs →
@@ -279,10 +295,10 @@ made-more vs few many b n bs h e = allowed (nat_lt 0 few) refl e
     more : nat_lt 0 few ≡ true → nat_lt 0 many ≡ true
     more q = grind arith
 
-    allowed : (t : Bool) → nat_lt 0 few ≡ t → cond t (made_by vs b n) (fails Code.CertTooDeep) ≡ opens bs →
+    allowed : (t : Bool) → nat_lt 0 few ≡ t → cond t (made_by (scope_of vs b) b n) (fails Code.CertTooDeep) ≡ opens bs →
         made vs (allowing many b) n ≡ opens bs
     allowed false q d = absurd (cc)
-    allowed true q d = ap (λ t. cond t (made_by vs b n) (fails Code.CertTooDeep)) (more q) ∙ d
+    allowed true q d = ap (λ t. cond t (made_by (scope_of vs b) b n) (fails Code.CertTooDeep)) (more q) ∙ d
 
 -- the same branches, with more levels
 abbrev Deeper : List OpenBranch → List OpenBranch → Type 0
@@ -361,6 +377,6 @@ module _ (levels : ℕ) (o : Obligation) (nodes ns : List Node) (vs : List Varia
       λ n t. fails-once reading (code, node) h (from-root ∙ refutes-walked levels o nodes t)
   read-not (Err CertError.Memory) h = λ n t. n refl
 
-  pub read-valid : (r : Result (Unit {0}) CertError) → Read r → OnOk r (Valid o)
-  read-valid (Ok u) h = sound levels o nodes (sym from-root ∙ h)
-  read-valid (Err e) h = tt
+  pub read-valid : (r : Result (Unit {0}) CertError) → IsObligation o → Read r → OnOk r (Valid o)
+  read-valid (Ok u) is h = sound levels o nodes is (sym from-root ∙ h)
+  read-valid (Err e) is h = tt

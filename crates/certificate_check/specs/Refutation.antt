@@ -1,15 +1,20 @@
 -- When a certificate refutes a branch, and which node fails first where none does.
-use Rattle.std.specs.Prelude.{◌≡◌, ◌≤◌, nat_lt, ℕ, zero, suc, ◌+◌, ◌-◌, ℤ, pos, ◌+ℤ◌, Bool, true, cond, not, Option}
+use Rattle.std.specs.Prelude.{◌≡◌, ◌≤◌, nat_lt, ℕ, zero, suc, ◌+◌, ◌-◌, ℤ, pos, ◌+ℤ◌, true, cond, Option}
 use Rattle.std.specs.Prelude.{Some, None, Result, Ok, Err, List, [], ◌∷◌, ◌++◌, map, length, slice_get}
-use Rattle.std.specs.List.{list_all}
+use Rattle.std.specs.Option.{option_and_then}
 use Rattle.core_terms.specs.declared.trees.CForm.{CForm}
 use Rattle.case_tables.specs.declared.code_table.Code.{Code}
 use Rattle.obligations.specs.declared.branches.Branch.{Branch}
 use Rattle.obligations.specs.declared.branches.Line.{Line}
 use Rattle.obligations.specs.declared.branches.Variable.{Variable}
+use Rattle.obligations.specs.declared.branches.Replaced.{Replaced}
 use Rattle.obligations.specs.declared.branches.Obligation.{Obligation}
 use Rattle.obligations.specs.declared.certificates.Node.{Node}
 use Rattle.obligations.specs.LinearForms.{fact_of}
+use Rattle.obligations.specs.Obligations.{IsObligation}
+use Rattle.obligations.specs.Quotients.{is_either, without_quotient, with_quotient}
+use Rattle.obligations.specs.Scopes.{next_param, scope_of}
+use Rattle.obligations.specs.Closed.{IsClosed}
 use Rattle.obligations.specs.Opening.{Valid, first_branch, at_most, at_least}
 use Rattle.obligations.specs.Settling.{settled, sides, without, added, branch_holds}
 use Rattle.certificate_check.specs.Sums.{all_pairs, is_false, is_divisible, divided, stated, below_0}
@@ -21,12 +26,26 @@ pub data NodeEffect : Type 0 where
 
 abbrev pub made_case : List Variable → Branch → ℕ → Option CForm → NodeEffect
 made_case vs b k None = fails Code.NothingToCase
-made_case vs b k (Some f) = opens (settled vs (sides f).0 (without b k) ∷ settled vs (sides f).1 (without b k) ∷ [])
+made_case vs b k (Some f) =
+    cond (is_either f) (opens (settled vs (sides f).0 (without b k) ∷ settled vs (sides f).1 (without b k) ∷ []))
+    (fails Code.NothingToCase)
 
--- what `case` makes of a branch: its waiting formula of this number is taken out, and either side settled
+-- what `case` makes of a branch over its variables: its waiting formula of this number, an `Or`, is taken out, and
+-- either side settled
 abbrev pub case_at : List Variable → Branch → ℕ → NodeEffect
 case_at vs b zero = fails Code.NothingToCase
 case_at vs b (suc k) = made_case vs b k (slice_get b.waiting k)
+
+abbrev pub made_quot : List Variable → Branch → ℕ → Option Replaced → NodeEffect
+made_quot vs b k None = fails Code.NothingToQuot
+made_quot vs b k (Some r) = opens (with_quotient vs r (without b k) ∷ [])
+
+-- what `quot` makes: its waiting formula of this number is taken out, a variable is added for the formula's first
+-- quotient, and the formula settled with the variable in its place
+abbrev pub quot_at : List Variable → Branch → ℕ → NodeEffect
+quot_at vs b zero = fails Code.NothingToQuot
+quot_at vs b (suc k) =
+    made_quot vs b k (option_and_then (without_quotient (next_param vs)) (slice_get b.waiting k))
 
 -- what `split` makes: the variable is at most k, or above it
 abbrev pub split_at : List Variable → Branch → ℕ → ℤ → NodeEffect
@@ -55,7 +74,7 @@ made_by vs b (Node.Case k) = case_at vs b k
 made_by vs b (Node.Split v k) = split_at vs b v k
 made_by vs b (Node.Sum ps) = made_sum (all_pairs vs b.facts ps)
 made_by vs b (Node.Round d ps) = made_round b d (all_pairs vs b.facts ps)
-made_by vs b (Node.Quot k) = fails Code.NothingToQuot
+made_by vs b (Node.Quot k) = quot_at vs b k
 made_by vs b (Node.Share c ps) = made_share b (stated vs c ps)
 
 -- a branch, and how many levels of nodes may refute it
@@ -63,9 +82,10 @@ pub record OpenBranch : Type 0 where
   pub levels : ℕ
   pub branch : Branch
 
--- a node for which no level is left fails
+-- a node for which no level is left fails; another reads the branch over its variables, those of the obligation and
+-- the added ones
 abbrev pub made : List Variable → OpenBranch → Node → NodeEffect
-made vs p n = cond (nat_lt 0 p.levels) (made_by vs p.branch n) (fails Code.CertTooDeep)
+made vs p n = cond (nat_lt 0 p.levels) (made_by (scope_of vs p.branch) p.branch n) (fails Code.CertTooDeep)
 
 abbrev pub pending : ℕ → List Branch → List OpenBranch
 pending levels bs = map (λ b. record { levels = levels; branch = b }) bs
@@ -101,19 +121,31 @@ abbrev pub WalkAppends : Type 0
 WalkAppends = (vs : List Variable) (ns ms : List Node) (ps : List OpenBranch) (at : ℕ) →
     walk vs (ns ++ ms) ps at ≡ go_on (walk vs ns ps at) (λ qs. walk vs ms qs (at + length ns))
 
+-- a branch holds at these values of the obligation's variables and some values of the added ones
+abbrev pub HoldsAt : List Variable → List ℤ → Branch → Type 0
+HoldsAt vs values b =
+    (more : List ℤ) × (length more ≡ b.added) × (branch_holds (scope_of vs b) (values ++ more) b ≡ true)
+
 -- none of the branches holds at these values
-abbrev pub none_holds : List Variable → List ℤ → List OpenBranch → Bool
-none_holds vs values ps = list_all (λ p. not (branch_holds vs values p.branch)) ps
+abbrev pub NoneHolds : List Variable → List ℤ → List OpenBranch → Type 0
+NoneHolds vs values [] = Unit {0}
+NoneHolds vs values (p ∷ ps) = (HoldsAt vs values p.branch → ⊥) × NoneHolds vs values ps
+
+-- the branches name their own variables only
+abbrev pub AreClosed : List Variable → List OpenBranch → Type 0
+AreClosed vs [] = Unit {0}
+AreClosed vs (p ∷ ps) = IsClosed (scope_of vs p.branch) p.branch × AreClosed vs ps
 
 -- where none of the branches holds that a walk leaves, none of those held with which it began
 abbrev pub WalkKeeps : Type 0
 WalkKeeps = (vs : List Variable) (values : List ℤ) → length values ≡ length vs → (ns : List Node)
-    (ps qs : List OpenBranch) (at : ℕ) → walk vs ns ps at ≡ Ok qs → none_holds vs values qs ≡ true →
-    none_holds vs values ps ≡ true
+    (ps qs : List OpenBranch) (at : ℕ) → walk vs ns ps at ≡ Ok qs → AreClosed vs ps → NoneHolds vs values qs →
+    NoneHolds vs values ps
 
 -- an obligation of which a walk leaves no branch is valid
 abbrev pub Sound : Type 0
-Sound = (levels : ℕ) (o : Obligation) (nodes : List Node) → walk_from_root levels o nodes ≡ Ok [] → Valid o
+Sound = (levels : ℕ) (o : Obligation) (nodes : List Node) → IsObligation o → walk_from_root levels o nodes ≡ Ok [] →
+    Valid o
 
 -- what refutes within some levels does so within more
 abbrev pub MoreLevels : Type 0

@@ -1,24 +1,26 @@
-//! The reading of a certificate's nodes. One branch is held, and for each open `case`, `split` and `share` a frame
-//! that says how it goes on after the first subtree: the branch grows at the ends of its lists, and is cut
-//! back for the second one.
-ghost use Rattle.std.specs.Prelude.{◌≡◌, ◌≢◌, ◌≤◌, ◌<◌, ◌^◌, pos, ◌+ℤ◌, ◌∷◌, [], IfErr, IfOk, OnOk, MatchResult, true};
-ghost use Rattle.std.specs.Prelude.{false, Ok, length, reverse};
+//! The reading of a certificate's nodes. One branch is held, and for each open `case`, `split`, `share` and `quot` a
+//! frame that says how it goes on after the first subtree: the branch grows at the ends of its lists, and is cut
+//! back for the second one. A `quot` has no second one.
+ghost use Rattle.std.specs.Prelude.{◌≡◌, ◌≢◌, ◌≤◌, ◌<◌, ◌^◌, pos, ◌+ℤ◌, ◌∷◌, [], IfErr, IfOk, OnOk, MatchResult};
+ghost use Rattle.std.specs.Prelude.{true, false, Ok, length, reverse, ℕ};
 ghost use Rattle.std.specs.Int.RustNames.{unsigned_abs};
 ghost use Rattle.obligations.specs.Settling.{settled, sides, added};
-ghost use Rattle.obligations.specs.Load.{form_load, need, is_light_branch};
+ghost use Rattle.obligations.specs.Load.{need, is_light_branch};
 ghost use Rattle.obligations.specs.Opening.{Valid, first_branch, at_most, at_least};
-ghost use Rattle.obligations.specs.Obligations.{AreVariables};
+ghost use Rattle.obligations.specs.Obligations.{AreVariables, AreOwn, IsObligation};
+ghost use Rattle.obligations.specs.Scopes.{scope, scope_of};
 ghost use Rattle.std.specs.List.{list_all};
 ghost use Rattle.obligations.specs.Load.{is_small};
 ghost use Rattle.certificate_check.specs.Sums.{all_pairs, stated};
-ghost use Rattle.certificate_check.specs.Refutation.{allowing, case_at, split_at, made, made_sum, made_round};
+ghost use Rattle.certificate_check.specs.Refutation.{allowing, case_at, quot_at, split_at, made, made_sum};
+ghost use Rattle.certificate_check.specs.Refutation.{made_round};
 ghost use Rattle.certificate_check.specs.Refutation.{made_share, walk};
 ghost use Rattle.certificate_check.specs.Refutation.{walk_from_root};
 ghost use Rattle.certificate_check.specs.Trees.{is_whole, Refuted};
 ghost use Rattle.certificate_check.specs.Machines.{base_of, full_by, second_by, behind, place_fits, FramesFit};
 ghost use Rattle.certificate_check.specs.Machines.{pendings};
 ghost use Rattle.certificate_check.specs.Machines.{IsFit, rest_of, is_light_todo, are_light, IsLightMachine, Goes};
-ghost use Rattle.certificate_check.specs.Machines.{GoesErr};
+ghost use Rattle.certificate_check.specs.Machines.{GoesErr, IsScoped};
 ghost use Rattle.certificate_check.specs.Machines.{FailsSum, FailsReading};
 
 use crate::errors::{CertError, Stop};
@@ -26,8 +28,8 @@ use crate::sums::{add_pairs, add_variables, below_0, closes, copy_fact, divides,
 use case_tables::Code;
 use core_terms::CForm;
 use obligations::{
-    Branch, Cert, Fact, Line, Node, Obligation, Variable, fact_from, open_branch, settle_onto,
-    zero_line,
+    Branch, Cert, Fact, Line, Node, Obligation, Variable, add_quotient, fact_from, has_room,
+    is_either, next_param, open_branch, scope_of, settle_onto, without_quotient, zero_line,
 };
 use std::alloc::{AllocError, Global};
 use unity_base::{Seq, Shared};
@@ -36,28 +38,30 @@ use unity_base::{Seq, Shared};
 #[derive(Drop)]
 pub enum Todo {
     /// With the other side of the waiting formula that was taken from this place.
-    Case { place: usize, form: Shared<CForm> },
+    Form { place: usize, form: Shared<CForm> },
     /// With a fact.
     Fact(Fact),
 }
 
-/// A node of two subtrees that are being read, with how many levels it is allowed, the lengths of its branch's lists,
-/// and whether the first subtree is being read.
+/// A node whose subtrees are being read, with how many levels it is allowed, the lengths of its branch's lists, how
+/// many variables were added to it, and whether a second subtree follows.
 #[derive(Drop)]
 pub struct Frame {
     pub levels: u32,
     pub facts: usize,
     pub waits: usize,
+    pub added: u32,
     pub todo: Todo,
     pub first: bool,
 }
 
-/// The branch that the next node belongs to, how many levels are allowed there, and the frames around it, the
-/// innermost one last.
+/// The branch that the next node belongs to, its variables, how many levels are allowed there, and the frames around
+/// it, the innermost one last.
 #[derive(Drop)]
 pub struct Machine {
     pub levels: u32,
     pub branch: Branch,
+    pub variables: Seq<Variable>,
     pub frames: Seq<Frame>,
     pub done: bool,
 }
@@ -70,6 +74,16 @@ fn cut(frame: &Frame, branch: &mut Branch)
 {
     branch.facts.truncate(frame.facts);
     branch.waiting.truncate(frame.waits);
+    branch.added = frame.added;
+}
+
+/// Cuts the variables of a branch back to those that a frame had.
+fn cut_variables(vs: &[Variable], added: u32, variables: &mut Seq<Variable>)
+    requires few { length vs.now < 2 ^ 32 }
+    requires scope { (n : ℕ) × (variables.old ≡ scope vs.now n) × (added ≤ n) }
+    ensures { variables.new ≡ scope vs.now added }
+{
+    variables.truncate(vs.len() + added as usize);
 }
 
 /// Puts a formula back that was taken out.
@@ -82,7 +96,7 @@ fn put_back(todo: Todo, branch: &mut Branch) -> Result<(), AllocError>
     ensures light { OnOk result (is_light_branch (2 ^ 63) branch.new ≡ true) }
 {
     match todo {
-        Todo::Case { place, form } => branch.waiting.insert(place, form),
+        Todo::Form { place, form } => branch.waiting.insert(place, form),
         Todo::Fact(_) => Ok(()),
     }
 }
@@ -166,22 +180,24 @@ fn settle_second(
     Ok(())
 }
 
-/// Makes the branch of a frame's second subtree from the branch cut back.
+/// Makes the branch of a frame's second subtree from the branch cut back, over its variables.
 #[tactic(auto, using(crate::proofs::MachineLaws::added_laws))]
 fn go_second(
     alloc: Global,
+    own: &[Variable],
     vs: &[Variable],
     todo: &Todo,
     branch: &mut Branch,
 ) -> Result<(), AllocError>
     requires variables { AreVariables vs.now }
+    requires scope { vs.now ≡ scope_of own.now branch.old }
     requires taken { is_light_todo todo.now ≡ true }
     requires waiting { is_light_branch (2 ^ 63) branch.old ≡ true }
-    ensures branch { OnOk result (branch.new ≡ second_by vs.now todo.now branch.old) }
+    ensures branch { OnOk result (branch.new ≡ second_by own.now todo.now branch.old) }
     ensures light { OnOk result (is_light_branch (2 ^ 63) branch.new ≡ true) }
 {
     match todo {
-        Todo::Case { form, .. } => settle_second(alloc, vs, form.get(), branch),
+        Todo::Form { form, .. } => settle_second(alloc, vs, form.get(), branch),
         Todo::Fact(fact) => add(branch, copy_fact(alloc, fact)?),
     }
 }
@@ -194,7 +210,8 @@ fn resume(
     machine: &mut Machine,
     frame: Frame,
 ) -> Result<bool, AllocError>
-    requires variables { AreVariables vs.now }
+    requires own { AreOwn vs.now }
+    requires scoped { IsScoped vs.now machine.old }
     requires fits { FramesFit (frame ∷ reverse machine.old.frames) machine.old.branch }
     requires going { machine.old.done ≡ false }
     requires light { IsLightMachine machine.old }
@@ -207,15 +224,24 @@ fn resume(
         × FramesFit (reverse machine.new.frames) machine.new.branch × (machine.new.frames ≡ machine.old.frames)
         × (machine.new.done ≡ false) × (machine.new.levels ≡ machine.old.levels)) }
     ensures light { OnOk result (IsLightMachine machine.new) }
+    ensures scoped { OnOk result (IsScoped vs.now machine.new) }
 {
     cut(&frame, &mut machine.branch);
+    cut_variables(vs, frame.added, &mut machine.variables);
     if frame.first {
-        go_second(alloc, vs, &frame.todo, &mut machine.branch)?;
+        go_second(
+            alloc,
+            vs,
+            machine.variables.as_slice(),
+            &frame.todo,
+            &mut machine.branch,
+        )?;
         machine.levels = frame.levels - 1;
         machine.frames.push(Frame {
             levels: frame.levels,
             facts: frame.facts,
             waits: frame.waits,
+            added: frame.added,
             todo: frame.todo,
             first: false,
         })?;
@@ -229,13 +255,15 @@ fn resume(
 /// Leaves the subtrees that are read, up to the next that isn't.
 #[tactic(auto, using(crate::proofs::MachineLaws::back_laws))]
 fn go_back(alloc: Global, vs: &[Variable], machine: &mut Machine) -> Result<(), AllocError>
-    requires variables { AreVariables vs.now }
+    requires own { AreOwn vs.now }
+    requires scoped { IsScoped vs.now machine.old }
     requires fits { FramesFit (reverse machine.old.frames) machine.old.branch }
     requires going { machine.old.done ≡ false }
     requires light { IsLightMachine machine.old }
     ensures pending { OnOk result (pendings vs.now machine.new ≡ rest_of vs.now machine.old) }
     ensures fit { OnOk result (IsFit machine.new) }
     ensures light { OnOk result (IsLightMachine machine.new) }
+    ensures scoped { OnOk result (IsScoped vs.now machine.new) }
 {
     'frames: loop {
         match machine.frames.pop() {
@@ -254,29 +282,86 @@ fn go_back(alloc: Global, vs: &[Variable], machine: &mut Machine) -> Result<(), 
 
 /// Takes the waiting formula of this number out, and goes on with its first side settled.
 fn open_case(alloc: Global, vs: &[Variable], machine: &mut Machine, k: u64) -> Result<(), Stop>
-    requires variables { AreVariables vs.now }
+    requires own { AreOwn vs.now }
+    requires scoped { IsScoped vs.now machine.old }
     requires fits { IsFit machine.old }
     requires levels { 0 < machine.old.levels }
     requires going { machine.old.done ≡ false }
     requires light { IsLightMachine machine.old }
-    ensures ok { OnOk result (Goes vs.now machine.old (case_at vs.now machine.old.branch k) machine.new) }
+    ensures ok { OnOk result
+        (Goes vs.now machine.old (case_at machine.old.variables machine.old.branch k) machine.new) }
     ensures light { OnOk result (IsLightMachine machine.new) }
-    ensures err { IfErr result (GoesErr vs.now machine.old (case_at vs.now machine.old.branch k)) }
+    ensures scoped { OnOk result (IsScoped vs.now machine.new) }
+    ensures err { IfErr result (GoesErr vs.now machine.old (case_at machine.old.variables machine.old.branch k)) }
 {
     if k == 0 || k as usize > machine.branch.waiting.len() {
         return Err(Stop::Fault(Code::NothingToCase));
     }
     let place = k as usize - 1;
     let form = machine.branch.waiting.remove(place);
+    if !is_either(form.get()) {
+        return Err(Stop::Fault(Code::NothingToCase));
+    }
     let facts = machine.branch.facts.len();
     let waits = machine.branch.waiting.len();
-    settle_first(alloc, vs, form.get(), &mut machine.branch)?;
+    let added = machine.branch.added;
+    settle_first(
+        alloc,
+        machine.variables.as_slice(),
+        form.get(),
+        &mut machine.branch,
+    )?;
     machine.frames.push(Frame {
         levels: machine.levels,
         facts,
         waits,
-        todo: Todo::Case { place, form },
+        added,
+        todo: Todo::Form { place, form },
         first: true,
+    })?;
+    machine.levels -= 1;
+    Ok(())
+}
+
+/// Takes the waiting formula of this number out, and goes on with its first quotient taken.
+fn open_quot(alloc: Global, vs: &[Variable], machine: &mut Machine, k: u64) -> Result<(), Stop>
+    requires own { AreOwn vs.now }
+    requires scoped { IsScoped vs.now machine.old }
+    requires fits { IsFit machine.old }
+    requires levels { 0 < machine.old.levels }
+    requires going { machine.old.done ≡ false }
+    requires light { IsLightMachine machine.old }
+    ensures ok { OnOk result
+        (Goes vs.now machine.old (quot_at machine.old.variables machine.old.branch k) machine.new) }
+    ensures light { OnOk result (IsLightMachine machine.new) }
+    ensures scoped { OnOk result (IsScoped vs.now machine.new) }
+    ensures err { IfErr result (GoesErr vs.now machine.old (quot_at machine.old.variables machine.old.branch k)) }
+{
+    if k == 0 || k as usize > machine.branch.waiting.len() {
+        return Err(Stop::Fault(Code::NothingToQuot));
+    }
+    let place = k as usize - 1;
+    let form = machine.branch.waiting.remove(place);
+    let next = next_param(machine.variables.as_slice()) as u32;
+    let Some(replaced) = without_quotient(alloc, next, form.get())? else {
+        return Err(Stop::Fault(Code::NothingToQuot));
+    };
+    let facts = machine.branch.facts.len();
+    let waits = machine.branch.waiting.len();
+    let added = machine.branch.added;
+    add_quotient(
+        alloc,
+        &mut machine.variables,
+        &replaced,
+        &mut machine.branch,
+    )?;
+    machine.frames.push(Frame {
+        levels: machine.levels,
+        facts,
+        waits,
+        added,
+        todo: Todo::Form { place, form },
+        first: false,
     })?;
     machine.levels -= 1;
     Ok(())
@@ -290,26 +375,32 @@ fn open_split(
     variable: u64,
     k: i64,
 ) -> Result<(), Stop>
-    requires variables { AreVariables vs.now }
+    requires own { AreOwn vs.now }
+    requires scoped { IsScoped vs.now machine.old }
     requires fits { IsFit machine.old }
     requires levels { 0 < machine.old.levels }
     requires going { machine.old.done ≡ false }
     requires light { IsLightMachine machine.old }
-    ensures ok { OnOk result (Goes vs.now machine.old (split_at vs.now machine.old.branch variable k) machine.new) }
+    ensures ok { OnOk result
+        (Goes vs.now machine.old (split_at machine.old.variables machine.old.branch variable k) machine.new) }
     ensures light { OnOk result (IsLightMachine machine.new) }
-    ensures err { IfErr result (GoesErr vs.now machine.old (split_at vs.now machine.old.branch variable k)) }
+    ensures scoped { OnOk result (IsScoped vs.now machine.new) }
+    ensures err { IfErr result
+        (GoesErr vs.now machine.old (split_at machine.old.variables machine.old.branch variable k)) }
 {
-    if variable == 0 || variable as usize > vs.len() {
+    if variable == 0 || variable as usize > machine.variables.len() {
         return Err(Stop::Fault(Code::NoSuchVariable));
     }
     let place = (variable - 1) as u32;
     let facts = machine.branch.facts.len();
     let waits = machine.branch.waiting.len();
+    let added = machine.branch.added;
     add(&mut machine.branch, bound_above(alloc, place, k as i128)?)?;
     machine.frames.push(Frame {
         levels: machine.levels,
         facts,
         waits,
+        added,
         todo: Todo::Fact(bound_below(alloc, place, k as i128 + 1)?),
         first: true,
     })?;
@@ -348,20 +439,25 @@ fn open_share(
     constant: i64,
     pairs: &Seq<(i64, u64)>,
 ) -> Result<(), Stop>
-    requires variables { AreVariables vs.now }
+    requires own { AreOwn vs.now }
+    requires scoped { IsScoped vs.now machine.old }
     requires fits { IsFit machine.old }
     requires levels { 0 < machine.old.levels }
     requires going { machine.old.done ≡ false }
     requires light { IsLightMachine machine.old }
     ensures ok { OnOk result
-        (Goes vs.now machine.old (made_share machine.old.branch (stated vs.now constant pairs.now)) machine.new) }
+        (Goes vs.now machine.old (made_share machine.old.branch (stated machine.old.variables constant pairs.now))
+        machine.new) }
     ensures light { OnOk result (IsLightMachine machine.new) }
+    ensures scoped { OnOk result (IsScoped vs.now machine.new) }
     ensures err { IfErr result
-        (GoesErr vs.now machine.old (made_share machine.old.branch (stated vs.now constant pairs.now))) }
+        (GoesErr vs.now machine.old
+        (made_share machine.old.branch (stated machine.old.variables constant pairs.now))) }
 {
-    let line = statement(alloc, vs, constant, pairs)?;
+    let line = statement(alloc, machine.variables.as_slice(), constant, pairs)?;
     let facts = machine.branch.facts.len();
     let waits = machine.branch.waiting.len();
+    let added = machine.branch.added;
     add(
         &mut machine.branch,
         fact_from(alloc, &below_0(alloc, &line)?)?,
@@ -370,6 +466,7 @@ fn open_share(
         levels: machine.levels,
         facts,
         waits,
+        added,
         todo: Todo::Fact(fact_from(alloc, &line)?),
         first: true,
     })?;
@@ -403,17 +500,21 @@ fn close(
     machine: &mut Machine,
     pairs: &Seq<(i64, u64)>,
 ) -> Result<(), Stop>
-    requires variables { AreVariables vs.now }
+    requires own { AreOwn vs.now }
+    requires scoped { IsScoped vs.now machine.old }
     requires fits { IsFit machine.old }
     requires going { machine.old.done ≡ false }
     requires light { IsLightMachine machine.old }
     ensures ok { OnOk result
-        (Goes vs.now machine.old (made_sum (all_pairs vs.now machine.old.branch.facts pairs.now)) machine.new) }
+        (Goes vs.now machine.old (made_sum (all_pairs machine.old.variables machine.old.branch.facts pairs.now))
+        machine.new) }
     ensures light { OnOk result (IsLightMachine machine.new) }
+    ensures scoped { OnOk result (IsScoped vs.now machine.new) }
     ensures err { IfErr result
-        (GoesErr vs.now machine.old (made_sum (all_pairs vs.now machine.old.branch.facts pairs.now))) }
+        (GoesErr vs.now machine.old
+        (made_sum (all_pairs machine.old.variables machine.old.branch.facts pairs.now))) }
 {
-    let sum = total(alloc, vs, &machine.branch, pairs)?;
+    let sum = total(alloc, machine.variables.as_slice(), &machine.branch, pairs)?;
     if !closes(&sum) {
         return Err(Stop::Fault(Code::BadSum));
     }
@@ -430,18 +531,21 @@ fn round(
     d: &i64,
     pairs: &Seq<(i64, u64)>,
 ) -> Result<(), Stop>
-    requires variables { AreVariables vs.now }
+    requires own { AreOwn vs.now }
+    requires scoped { IsScoped vs.now machine.old }
     requires fits { IsFit machine.old }
     requires levels { 0 < machine.old.levels }
     requires going { machine.old.done ≡ false }
     requires light { IsLightMachine machine.old }
     ensures ok { OnOk result (Goes vs.now machine.old
-        (made_round machine.old.branch d.now (all_pairs vs.now machine.old.branch.facts pairs.now)) machine.new) }
+        (made_round machine.old.branch d.now (all_pairs machine.old.variables machine.old.branch.facts pairs.now))
+        machine.new) }
     ensures light { OnOk result (IsLightMachine machine.new) }
+    ensures scoped { OnOk result (IsScoped vs.now machine.new) }
     ensures err { IfErr result (GoesErr vs.now machine.old
-        (made_round machine.old.branch d.now (all_pairs vs.now machine.old.branch.facts pairs.now))) }
+        (made_round machine.old.branch d.now (all_pairs machine.old.variables machine.old.branch.facts pairs.now))) }
 {
-    let sum = total(alloc, vs, &machine.branch, pairs)?;
+    let sum = total(alloc, machine.variables.as_slice(), &machine.branch, pairs)?;
     if !divides(*d, &sum) {
         return Err(Stop::Fault(Code::NotDivisible));
     }
@@ -453,13 +557,15 @@ fn round(
 /// Reads one node.
 #[tactic(auto, using(crate::proofs::MachineLaws::trips))]
 fn take(alloc: Global, vs: &[Variable], machine: &mut Machine, node: &Node) -> Result<(), Stop>
-    requires variables { AreVariables vs.now }
+    requires own { AreOwn vs.now }
+    requires scoped { IsScoped vs.now machine.old }
     requires fits { IsFit machine.old }
     requires going { machine.old.done ≡ false }
     requires light { IsLightMachine machine.old }
     ensures ok { OnOk result (Goes vs.now machine.old
         (made vs.now (allowing machine.old.levels machine.old.branch) node.now) machine.new) }
     ensures light { OnOk result (IsLightMachine machine.new) }
+    ensures scoped { OnOk result (IsScoped vs.now machine.new) }
     ensures err { IfErr result (GoesErr vs.now machine.old
         (made vs.now (allowing machine.old.levels machine.old.branch) node.now)) }
 {
@@ -471,8 +577,7 @@ fn take(alloc: Global, vs: &[Variable], machine: &mut Machine, node: &Node) -> R
         Node::Split(variable, k) => open_split(alloc, vs, machine, *variable, *k),
         Node::Sum(pairs) => close(alloc, vs, machine, pairs),
         Node::Round(d, pairs) => round(alloc, vs, machine, d, pairs),
-        // No term of a form has a quotient.
-        Node::Quot(_) => Err(Stop::Fault(Code::NothingToQuot)),
+        Node::Quot(k) => open_quot(alloc, vs, machine, *k),
         Node::Share(constant, pairs) => open_share(alloc, vs, machine, *constant, pairs),
     }
 }
@@ -485,16 +590,23 @@ fn read(
     nodes: &[Node],
     levels: u32,
 ) -> Result<(), CertError>
-    requires variables { AreVariables vs.now }
+    requires own { AreOwn vs.now }
+    requires levels { levels ≤ 4096 }
+    requires added { first.added ≡ 0 }
     requires whole { is_whole nodes.now 1 ≡ true }
     requires light { is_light_branch (2 ^ 63) first ≡ true }
     ensures { MatchResult result
         (λ _. walk vs.now nodes.now (allowing levels first ∷ []) 0 ≡ Ok [])
         (FailsReading (walk vs.now nodes.now (allowing levels first ∷ []) 0)) }
 {
+    let variables = match scope_of(alloc, vs, 0) {
+        Ok(variables) => variables,
+        Err(_) => return Err(CertError::Memory),
+    };
     let mut machine = Machine {
         levels,
         branch: first,
+        variables,
         frames: Seq::new(alloc),
         done: false,
     };
@@ -518,11 +630,11 @@ fn read(
 
 /// Whether a certificate of at most so many levels refutes an obligation. Where it does, the
 /// obligation is valid. Else the error is `Fault` with the first node that fails, from 0, and how;
-/// or `Memory`, where memory was refused. No number that is met is past 2^126, since the form's
-/// load is limited.
+/// or `Memory`, where memory was refused, or where a parameter of the obligation has a number of 2^31
+/// or more. No number that is met is past 2^126, since the form's load is limited.
 pub fn check_cert(alloc: Global, o: &Obligation, c: &Cert, levels: u32) -> Result<(), CertError>
-    requires variables { AreVariables o.now.variables }
-    requires load { form_load o.now.form ≤ 2 ^ 62 }
+    requires obligation { IsObligation o.now }
+    requires levels { levels ≤ 4096 }
     requires whole { is_whole c.now.nodes 1 ≡ true }
 
     // It is taken exactly where a walk along its nodes leaves no branch, so where its tree refutes.
@@ -532,6 +644,9 @@ pub fn check_cert(alloc: Global, o: &Obligation, c: &Cert, levels: u32) -> Resul
     ensures fault { IfErr result (FailsReading (walk_from_root levels o.now c.now.nodes)) }
     ensures valid { OnOk result (Valid o.now) }
 {
+    if !has_room(o) {
+        return Err(CertError::Memory);
+    }
     match open_branch(alloc, o) {
         Ok(first) => read(
             alloc,

@@ -3,6 +3,14 @@ pub mod RingLaws
 pub mod LineLaws
 pub mod TreeLaws
 pub mod SettlingLaws
+pub mod ScopeLaws
+pub mod TakenLaws
+pub mod ClosedLaws
+pub mod TakenNames
+pub mod TakenHolds
+pub mod FrameLaws
+pub mod QuotientLaws
+pub mod QuotientValues
 pub mod LoadLaws
 pub mod LinearLaws
 pub mod TreeSizes

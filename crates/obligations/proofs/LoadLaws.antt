@@ -8,7 +8,8 @@ use Rattle.std.proofs.Math.Nat.{mul-add}
 use Rattle.std.specs.Int.RustNames.{unsigned_abs}
 use lib.IntN.{*ℤ_comm, *ℤ-zero}
 use Rattle.core_terms.specs.declared.trees.CTerm.{CTerm, roll-CTerm, ind-CTerm}
-use Rattle.core_terms.specs.declared.trees.CTerm.TheVariants.{Const, Slot, Param, Add, Sub, Scale, Ite, rolls-Const}
+use Rattle.core_terms.specs.declared.trees.CTerm.TheVariants.{Const, Slot, Param, Add, Sub, Scale, Ite, Div, Mod}
+use Rattle.core_terms.specs.declared.trees.CTerm.TheVariants.{rolls-Const, rolls-Div, rolls-Mod}
 use Rattle.core_terms.specs.declared.trees.CTerm.TheVariants.{rolls-Slot, rolls-Param, rolls-Add, rolls-Sub}
 use Rattle.core_terms.specs.declared.trees.CTerm.TheVariants.{rolls-Scale, rolls-Ite}
 use Rattle.core_terms.specs.declared.trees.CForm.{CForm}
@@ -21,7 +22,7 @@ use Rattle.obligations.specs.LinearForms.{linear}
 use Rattle.obligations.specs.Load.{sizes, norm, Load, term_load_step, form_load_step, term_load, is_small}
 use Rattle.obligations.proofs.RingLaws.{times-add, times-times}
 use Rattle.obligations.proofs.SettlingLaws.{term_fold, linear-long, linear-Const, linear-Slot, linear-Param, linear-Add}
-use Rattle.obligations.proofs.SettlingLaws.{linear-Sub, linear-Scale, linear-Ite}
+use Rattle.obligations.proofs.SettlingLaws.{linear-Sub, linear-Scale, linear-Ite, linear-Div, linear-Mod}
 use Rattle.obligations.proofs.LineLaws.{length-plus, length-zeros}
 
 ring : (k j x y z : ℤ) → x +ℤ k *ℤ (y +ℤ j *ℤ z) ≡ (x +ℤ k *ℤ y) +ℤ (k *ℤ j) *ℤ z
@@ -138,6 +139,10 @@ module _ (vs : List Variable) where
   abbrev AnyForm : Type 0
   AnyForm = (f : CForm) × Unit {0}
 
+  none-load : (t : CTerm) → linear vs t ≡ line_of_const vs (pos 0) → M t
+  none-load t e = let n : norm (linear vs t) ≡ norm (line_of_const vs (pos 0)) = ap norm e in
+      let z = sizes-zeros vs in omega (arith, n, z)
+
   from : (t : CTerm) (l : Line) (w : ℕ) → linear vs t ≡ l → W t ≡ w → norm l ≤ w → M t
   from t l w p q h = let n : norm (linear vs t) ≡ norm l = ap norm p in omega (arith, n, q, h)
 
@@ -167,6 +172,8 @@ module _ (vs : List Variable) where
   load_layer (CTerm-F.Ite c a b) =
       subst M (sym (rolls-Ite c.0 a.0 b.0)) (from (Ite c.0 a.0 b.0) _ _ (linear-Ite vs c.0 a.0 b.0)
       (load-Ite c.0 a.0 b.0) (let z = sizes-zeros vs in omega (arith, z)))
+  load_layer (CTerm-F.Div a k) = subst M (sym (rolls-Div a.0 k)) (none-load (Div a.0 k) (linear-Div vs a.0 k))
+  load_layer (CTerm-F.Mod a k) = subst M (sym (rolls-Mod a.0 k)) (none-load (Mod a.0 k) (linear-Mod vs a.0 k))
 
   -- a term's linear form is within its load
   pub norm-load : (t : CTerm) → norm (linear vs t) ≤ W t
@@ -236,6 +243,14 @@ add-Scale vs k j m sum new a l e q =
 pub add-Ite : (vs : List Variable) (k : ℤ) (sum : Line) (c : CForm) (a b : CTerm) →
     sum ≡ line_plus k sum (linear vs (Ite c a b))
 add-Ite vs k sum c a b = sym (plus-nothing vs k sum) ∙ ap (line_plus k sum) (sym (linear-Ite vs c a b))
+
+pub add-Div : (vs : List Variable) (k : ℤ) (sum : Line) (a : CTerm) (d : ℤ) →
+    sum ≡ line_plus k sum (linear vs (Div a d))
+add-Div vs k sum a d = sym (plus-nothing vs k sum) ∙ ap (line_plus k sum) (sym (linear-Div vs a d))
+
+pub add-Mod : (vs : List Variable) (k : ℤ) (sum : Line) (a : CTerm) (d : ℤ) →
+    sum ≡ line_plus k sum (linear vs (Mod a d))
+add-Mod vs k sum a d = sym (plus-nothing vs k sum) ∙ ap (line_plus k sum) (sym (linear-Mod vs a d))
 
 -- a term of load 0 has no factor, however great its own factor would be
 zero-plus : (k : ℤ) (xs ys : List ℤ) → sizes ys ≡ 0 → plus k xs ys ≡ xs

@@ -74,6 +74,10 @@ module _ (slots params : ℕ → ℕ) (some_slot : (n : ℕ) → 1 ≤ slots n) 
   term_layer (CTerm-F.Ite c a b) =
       rolled_term (CTerm-F.Ite c.0 a.0 b.0)
       (omega (arith, a.1.0, b.1.0), omega (arith, c.1, a.1.1, b.1.1), omega arith)
+  term_layer (CTerm-F.Div a k) =
+      rolled_term (CTerm-F.Div a.0 k) (omega (arith, a.1.0), omega (arith, a.1.0, a.1.1, a.1.2), omega arith)
+  term_layer (CTerm-F.Mod a k) =
+      rolled_term (CTerm-F.Mod a.0 k) (omega (arith, a.1.0), omega (arith, a.1.0, a.1.1, a.1.2), omega arith)
 
   pub load_below_weight : (f : CForm) → form_load f ≤ form_weight slots params f
   load_below_weight f =

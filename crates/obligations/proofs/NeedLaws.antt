@@ -1,23 +1,27 @@
 -- Settling meets no load past a formula's need, and raises none.
 use Rattle.std.proofs.Common.{◌≡◌, le_refl, mul-le-mul, ℕ, ◌+◌, ◌*◌, ◌^◌, ◌≤◌, max, ℤ, pos, negsuc, true, ◌&&◌}
-use Rattle.std.proofs.Common.{Option}
+use Rattle.std.proofs.Common.{Bool, false, cond, Option}
 use Rattle.std.proofs.Common.{Some, None, List, [], ◌∷◌, arith, refl, sym, ap, ◌∙◌, subst}
 use Rattle.std.specs.List.{list_all}
 use Rattle.std.proofs.lemmas.List.Folds.{list_all-append}
 use Rattle.std.specs.Int.RustNames.{unsigned_abs}
 use Rattle.core_terms.specs.declared.trees.CTerm.{CTerm, ind-CTerm, roll-CTerm, fold-roll-CTerm}
-use Rattle.core_terms.specs.declared.trees.CTerm.TheVariants.{Const, Add, Sub, Scale, Ite, rolls-Const, rolls-Add}
+use Rattle.core_terms.specs.declared.trees.CTerm.TheVariants.{Const, Param, Add, Sub, Scale, Ite, Div, Mod}
+use Rattle.core_terms.specs.declared.trees.CTerm.TheVariants.{rolls-Param, rolls-Const, rolls-Add, rolls-Div}
+use Rattle.core_terms.specs.declared.trees.CTerm.TheVariants.{rolls-Mod}
 use Rattle.core_terms.specs.declared.trees.CTerm.TheVariants.{rolls-Sub, rolls-Scale, rolls-Ite}
 use Rattle.core_terms.specs.declared.trees.CForm.{CForm, roll-CForm, ind-CForm, fold-roll-CForm}
 use Rattle.core_terms.specs.declared.trees.CForm.TheVariants.{AtLeast, Zero, Not, And, Or, rolls-AtLeast, rolls-Zero}
 use Rattle.core_terms.specs.declared.trees.CForm.TheVariants.{rolls-Not, rolls-And, rolls-Or}
 use Rattle.core_terms.specs.declared.trees.CForm.TheOpen.{CTerm-F, CForm-F}
 use Rattle.core_terms.specs.declared.trees.CForm.TheFolds.{map-CForm, map-CTerm}
+use Rattle.meaning_states.specs.Division.{divisor}
 use Rattle.obligations.specs.declared.branches.Branch.{Branch}
 use Rattle.obligations.specs.declared.branches.Variable.{Variable}
 use Rattle.obligations.specs.declared.branches.Choice.{Choice}
 use Rattle.obligations.specs.Settling.{joined, one_waiting, first_ite, first_choice, choice_form, least_adds}
-use Rattle.obligations.specs.Settling.{zero_adds}
+use Rattle.obligations.specs.LinearForms.{linear, negated}
+use Rattle.obligations.specs.Settling.{zero_adds, has_quotient, one_fact, two_facts}
 use Rattle.obligations.specs.Settling.{unequal_adds, below_zero, outcome, settled, refused}
 use Rattle.obligations.specs.Load.{Load, form_load_step, term_load_step, form_load, term_load, Need, form_need_step}
 use Rattle.obligations.specs.Load.{term_need_step, needs, term_needs, need, term_need, width, no_size, is_bounded}
@@ -57,6 +61,21 @@ module _ (size : ℤ → ℕ) where
       ≡ record { own = max (N a).own (N b).own; most = max (max (M c).yes (M c).no) (max (N a).most (N b).most) }
   need-Ite c a b =
       term_fold (form_need_step size) (term_need_step size) (CTerm-F.Ite c a b) (Ite c a b) (rolls-Ite c a b)
+
+  pub need-Param : (n : ℕ) → N (Param n) ≡ record { own = 1; most = 0 }
+  need-Param n = term_fold (form_need_step size) (term_need_step size) (CTerm-F.Param n) (Param n) (rolls-Param n)
+
+  pub need-Div : (a : CTerm) (k : ℤ) → N (Div a k) ≡ record {
+    own = max 1 (N a).own;
+    most = max (unsigned_abs (divisor k)) (max (N a).own (N a).most);
+  }
+  need-Div a k = term_fold (form_need_step size) (term_need_step size) (CTerm-F.Div a k) (Div a k) (rolls-Div a k)
+
+  pub need-Mod : (a : CTerm) (k : ℤ) → N (Mod a k) ≡ record {
+    own = 2 * (N a).own + unsigned_abs (divisor k);
+    most = max (unsigned_abs (divisor k)) (max (N a).own (N a).most);
+  }
+  need-Mod a k = term_fold (form_need_step size) (term_need_step size) (CTerm-F.Mod a k) (Mod a k) (rolls-Mod a k)
 
   pub need-AtLeast : (t : CTerm) → M (AtLeast t) ≡ record {
     yes = max (N t).own (N t).most;
@@ -154,6 +173,12 @@ module _ (size : ℤ → ℕ) where
         let v = c.1.no in
         bridge (CTerm-F.Ite c.0 a.0 b.0) _ _ (needs_of (CTerm-F.Ite c.0 a.0 b.0))
         (loads_of (CTerm-F.Ite c.0 a.0 b.0)) (omega (arith, p, q)) (omega (arith, r, s, u, v))
+    term_bridge (CTerm-F.Div a k) = let p = a.1.own in let r = a.1.most in
+        bridge (CTerm-F.Div a.0 k) _ _ (needs_of (CTerm-F.Div a.0 k)) (loads_of (CTerm-F.Div a.0 k))
+        (omega (arith, p)) (omega (arith, p, r))
+    term_bridge (CTerm-F.Mod a k) = let p = a.1.own in let r = a.1.most in
+        bridge (CTerm-F.Mod a.0 k) _ _ (needs_of (CTerm-F.Mod a.0 k)) (loads_of (CTerm-F.Mod a.0 k))
+        (omega (arith, p)) (omega (arith, p, r))
 
     form_bridge : (y : CForm-F LoadedForm LoadedTerm) →
         FormBridge (roll-CForm (map-CForm LoadedForm LoadedTerm CForm CTerm (λ e. e.0) (λ e. e.0) y))
@@ -299,6 +324,42 @@ module _ (size : ℤ → ℕ) where
         no_most = omega (arith, r5, t1, z1);
       }
 
+  div-light : (a : CTerm) (k : ℤ) (m : Option Choice) → Lighter a m →
+      Lighter (Div a k) (first_choice (λ x. Div x k) (λ x. Div x k) m None)
+  div-light a k None p = tt
+  div-light a k (Some d) p =
+      let t0 = ap (λ (x : Load). x.own) (need-Div a k) in let t1 = ap (λ (x : Load). x.most) (need-Div a k) in
+      let y0 = ap (λ (x : Load). x.own) (need-Div d.yes k) in let y1 = ap (λ (x : Load). x.most) (need-Div d.yes k) in
+      let z0 = ap (λ (x : Load). x.own) (need-Div d.no k) in let z1 = ap (λ (x : Load). x.most) (need-Div d.no k) in
+      let r0 = p.holds in let r1 = p.fails in let r2 = p.yes_own in
+      let r3 = p.yes_most in let r4 = p.no_own in let r5 = p.no_most in
+      record {
+        holds = omega (arith, r0, t1);
+        fails = omega (arith, r1, t1);
+        yes_own = omega (arith, r2, t0, y0);
+        yes_most = omega (arith, r2, r3, t1, y1);
+        no_own = omega (arith, r4, t0, z0);
+        no_most = omega (arith, r4, r5, t1, z1);
+      }
+
+  mod-light : (a : CTerm) (k : ℤ) (m : Option Choice) → Lighter a m →
+      Lighter (Mod a k) (first_choice (λ x. Mod x k) (λ x. Mod x k) m None)
+  mod-light a k None p = tt
+  mod-light a k (Some d) p =
+      let t0 = ap (λ (x : Load). x.own) (need-Mod a k) in let t1 = ap (λ (x : Load). x.most) (need-Mod a k) in
+      let y0 = ap (λ (x : Load). x.own) (need-Mod d.yes k) in let y1 = ap (λ (x : Load). x.most) (need-Mod d.yes k) in
+      let z0 = ap (λ (x : Load). x.own) (need-Mod d.no k) in let z1 = ap (λ (x : Load). x.most) (need-Mod d.no k) in
+      let r0 = p.holds in let r1 = p.fails in let r2 = p.yes_own in
+      let r3 = p.yes_most in let r4 = p.no_own in let r5 = p.no_most in
+      record {
+        holds = omega (arith, r0, t1);
+        fails = omega (arith, r1, t1);
+        yes_own = omega (arith, r2, t0, y0);
+        yes_most = omega (arith, r2, r3, t1, y1);
+        no_own = omega (arith, r4, t0, z0);
+        no_most = omega (arith, r4, r5, t1, z1);
+      }
+
   ite-light : (f : CForm) (a b : CTerm) → ChoiceIs (Ite f a b) (record { when = f; yes = a; no = b })
   ite-light f a b =
       let t0 = ap (λ (x : Load). x.own) (need-Ite f a b) in
@@ -320,6 +381,8 @@ module _ (size : ℤ → ℕ) where
     of_add = pair-light Add need-Add;
     of_sub = pair-light Sub need-Sub;
     of_scale = scale-light;
+    of_div = div-light;
+    of_mod = mod-light;
     of_ite = ite-light;
   })
 
@@ -361,9 +424,13 @@ module _ (size : ℤ → ℕ) where
     abbrev U : Branch → Type 0
     U b = list_all (is_bounded size bound) b.waiting ≡ true
 
+    waits-light : (f : CForm) (a : Branch) (b : Bool) → (M f).yes ≤ bound → U a → U (cond b (one_waiting f) a)
+    waits-light f a true h u = one-light f h
+    waits-light f a false h u = u
+
     least-light : (t : CTerm) → (N t).own ≤ bound → (N t).most ≤ bound → (m : Option Choice) → Lighter t m →
         U (least_adds vs t m)
-    least-light t p q None r = refl
+    least-light t p q None r = waits-light (AtLeast t) (one_fact (linear vs t)) (has_quotient t) (least-need t p q) refl
     least-light t p q (Some c) r =
         let r0 = r.holds in let r1 = r.fails in let r2 = r.yes_own in
         let r3 = r.yes_most in let r4 = r.no_own in let r5 = r.no_most in
@@ -373,7 +440,8 @@ module _ (size : ℤ → ℕ) where
 
     zero-light : (t : CTerm) → (N t).own ≤ bound → (N t).most ≤ bound → (m : Option Choice) → Lighter t m →
         U (zero_adds vs t m)
-    zero-light t p q None r = refl
+    zero-light t p q None r =
+        waits-light (Zero t) (two_facts (linear vs t) (negated vs (linear vs t))) (has_quotient t) (zero-need t p q) refl
     zero-light t p q (Some c) r =
         let r0 = r.holds in let r1 = r.fails in let r2 = r.yes_own in
         let r3 = r.yes_most in let r4 = r.no_own in let r5 = r.no_most in
@@ -511,6 +579,9 @@ own_layer (CTerm-F.Add a b) =
 own_layer (CTerm-F.Sub a b) =
     own-rolled (CTerm-F.Sub a.0 b.0) (ap (λ n. n + (term_need b.0).own) a.1 ∙ ap (λ n. (term_load a.0).own + n) b.1)
 own_layer (CTerm-F.Scale k a) = own-rolled (CTerm-F.Scale k a.0) (ap (λ n. unsigned_abs k * n) a.1)
+own_layer (CTerm-F.Div a k) = own-rolled (CTerm-F.Div a.0 k) (ap (λ n. max 1 n) a.1)
+own_layer (CTerm-F.Mod a k) =
+    own-rolled (CTerm-F.Mod a.0 k) (ap (λ n. 2 * n + unsigned_abs (divisor k)) a.1)
 own_layer (CTerm-F.Ite c a b) =
     own-rolled (CTerm-F.Ite c.0 a.0 b.0)
     (ap (λ n. max n (term_need b.0).own) a.1 ∙ ap (λ n. max (term_load a.0).own n) b.1)

@@ -20,8 +20,10 @@ use Rattle.obligations.specs.declared.branches.Variable.{Variable}
 use Rattle.obligations.specs.declared.branches.Obligation.{Obligation}
 use Rattle.obligations.specs.Load.{form_load, width}
 use Rattle.obligations.specs.Plain.{height_of, ranges_of}
+use Rattle.obligations.specs.Scopes.{next_param}
 use Rattle.obligations.specs.Variables.{has_step, part_has, term_has, form_has}
-use Rattle.obligations.specs.Obligations.{is_lower, is_before, are_in_order, AreVariables, variable_weight, weight_of}
+use Rattle.obligations.specs.Obligations.{is_lower, is_before, are_in_order, AreVariables, AreOwn, variable_weight}
+use Rattle.obligations.specs.Obligations.{weight_of}
 use Rattle.obligations.specs.Obligations.{is_sound_range, is_range, IsObligation, WeightSettles}
 use Rattle.obligations.proofs.LoadWeights.{load_below_weight}
 use Rattle.obligations.proofs.NeedLaws.{need-settles, width-within}
@@ -171,6 +173,8 @@ module _ (vs : List Variable) (order : are_in_order vs ≡ true) where
       rolled_term (CTerm-F.Sub a.0 b.0) (let h = a.1 in let k = b.1 in
       let e = count-either (in-term a.0) (in-term b.0) vs in omega (arith, h, k, e))
   term_layer (CTerm-F.Scale k a) = rolled_term (CTerm-F.Scale k a.0) (let h = a.1 in omega (arith, h))
+  term_layer (CTerm-F.Div a k) = rolled_term (CTerm-F.Div a.0 k) (let h = a.1 in omega (arith, h))
+  term_layer (CTerm-F.Mod a k) = rolled_term (CTerm-F.Mod a.0 k) (let h = a.1 in omega (arith, h))
   term_layer (CTerm-F.Ite c a b) =
       rolled_term (CTerm-F.Ite c.0 a.0 b.0) (let h = c.1 in let k = a.1 in let l = b.1 in
       let d = count-either (in-form c.0) (λ v. in-term a.0 v || in-term b.0 v) vs in
@@ -261,6 +265,10 @@ module _ (slots params : ℕ → ℕ) (param : Bool) (n : ℕ) where
   weighs_term_layer (CTerm-F.Sub a b) =
       weighed_term (CTerm-F.Sub a.0 b.0) (λ e. above _ _ (either-weighs _ _ _ _ a.1 b.1 e))
   weighs_term_layer (CTerm-F.Scale k a) = weighed_term (CTerm-F.Scale k a.0) (λ e. above _ _ (a.1 e))
+  weighs_term_layer (CTerm-F.Div a k) =
+      weighed_term (CTerm-F.Div a.0 k) (λ e. above _ _ (above _ _ (a.1 e)))
+  weighs_term_layer (CTerm-F.Mod a k) =
+      weighed_term (CTerm-F.Mod a.0 k) (λ e. above _ _ (above _ _ (a.1 e)))
   weighs_term_layer (CTerm-F.Ite c a b) =
       weighed_term (CTerm-F.Ite c.0 a.0 b.0)
       (λ e. above _ _ (either-weighs _ _ _ _ c.1 (either-weighs _ _ _ _ a.1 b.1) e))
@@ -299,6 +307,13 @@ module _ (o : Obligation) (is : IsObligation o) where
 
   pub obligation-variables : AreVariables o.variables
   obligation-variables = let few = obligation-count in record { count = omega (arith, few); order = is.order }
+
+  pub obligation-own : next_param o.variables ≤ 2 ^ 31 → AreOwn o.variables
+  obligation-own numbered = let few = obligation-count in record {
+    variables = obligation-variables;
+    few = omega (arith, few);
+    numbered = numbered;
+  }
 
   pub obligation-load : form_load o.form ≤ 2 ^ 62
   obligation-load =
@@ -348,7 +363,7 @@ module _ (o : Obligation) (is : IsObligation o) where
 
 -- a weight that suffices for settling
 pub weight-settles : WeightSettles
-weight-settles slots params s p f h =
+weight-settles slots params s p f =
     let light = load_below_weight slots params s p f in
     let n = need-settles f in
-    omega (arith, light, n, h)
+    omega (arith, light, n)

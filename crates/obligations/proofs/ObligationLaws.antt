@@ -119,6 +119,8 @@ module _ (n : ℕ) where
       below_term (CTerm-F.Sub a.0 b.0) (either-below _ _ _ _ a.1.slot b.1.slot)
       (either-below _ _ _ _ a.1.param b.1.param)
   term_layer (CTerm-F.Scale k a) = below_term (CTerm-F.Scale k a.0) a.1.slot a.1.param
+  term_layer (CTerm-F.Div a k) = below_term (CTerm-F.Div a.0 k) a.1.slot a.1.param
+  term_layer (CTerm-F.Mod a k) = below_term (CTerm-F.Mod a.0 k) a.1.slot a.1.param
   term_layer (CTerm-F.Ite c a b) =
       below_term (CTerm-F.Ite c.0 a.0 b.0)
       (either-below _ _ _ _ c.1.slot (either-below _ _ _ _ a.1.slot b.1.slot))
@@ -225,6 +227,10 @@ module _ (slots params others numbers : ℕ → ℕ) where
       (b.1 (λ param n e. all param n (or_right (term_has param n a.0) _ e))))
   same_term_layer (CTerm-F.Scale k a) =
       rolled_term (CTerm-F.Scale k a.0) (λ all. ap (λ z. weigh_term slots params (CTerm-F.Scale k z)) (a.1 all))
+  same_term_layer (CTerm-F.Div a k) =
+      rolled_term (CTerm-F.Div a.0 k) (λ all. ap (λ z. weigh_term slots params (CTerm-F.Div z k)) (a.1 all))
+  same_term_layer (CTerm-F.Mod a k) =
+      rolled_term (CTerm-F.Mod a.0 k) (λ all. ap (λ z. weigh_term slots params (CTerm-F.Mod z k)) (a.1 all))
   same_term_layer (CTerm-F.Ite c a b) =
       rolled_term (CTerm-F.Ite c.0 a.0 b.0) (λ all.
       ap (λ z. weigh_term slots params (CTerm-F.Ite z (W a.0) (W b.0)))

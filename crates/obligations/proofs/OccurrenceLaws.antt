@@ -3,7 +3,8 @@ use Rattle.std.proofs.Common.{◌≡◌, ℕ, zero, suc, nat_eq, ◌+◌, ◌<�
 use Rattle.std.proofs.Common.{Option, Some, None, List, [], ◌∷◌, ◌++◌, append_assoc, map, length, drop, take}
 use Rattle.std.proofs.Common.{slice_index_or, slice_set, ℤ, eq-eqb, refl, sym, ap, ◌∙◌, arith}
 use Rattle.core_terms.specs.declared.trees.CTerm.{CTerm, roll-CTerm}
-use Rattle.core_terms.specs.declared.trees.CTerm.TheVariants.{Const, Slot, Param, Add, Sub, Scale, Ite, rolls-Const}
+use Rattle.core_terms.specs.declared.trees.CTerm.TheVariants.{Const, Slot, Param, Add, Sub, Scale, Ite, Div, Mod}
+use Rattle.core_terms.specs.declared.trees.CTerm.TheVariants.{rolls-Const, rolls-Div, rolls-Mod}
 use Rattle.core_terms.specs.declared.trees.CTerm.TheVariants.{rolls-Slot, rolls-Param, rolls-Add, rolls-Sub}
 use Rattle.core_terms.specs.declared.trees.CTerm.TheVariants.{rolls-Scale, rolls-Ite}
 use Rattle.core_terms.specs.declared.trees.CForm.{CForm, roll-CForm}
@@ -182,6 +183,18 @@ module _ (param : Bool) where
   scale-marks t a p l ms new e f h =
       one-marks (T t) (T p) (λ n. ap (term_has param n) (e ∙ sym (ap (Scale l) f))
       ∙ term-is n (CTerm-F.Scale l p) (Scale l p) (rolls-Scale l p)) ms new h
+
+  pub div-marks : (t a p : CTerm) (l : ℤ) (ms new : List (Option ℕ)) → t ≡ Div a l → p ≡ a →
+      new ≡ marked (T p) 0 ms → new ≡ marked (T t) 0 ms
+  div-marks t a p l ms new e f h =
+      one-marks (T t) (T p) (λ n. ap (term_has param n) (e ∙ sym (ap (λ x. Div x l) f))
+      ∙ term-is n (CTerm-F.Div p l) (Div p l) (rolls-Div p l)) ms new h
+
+  pub mod-marks : (t a p : CTerm) (l : ℤ) (ms new : List (Option ℕ)) → t ≡ Mod a l → p ≡ a →
+      new ≡ marked (T p) 0 ms → new ≡ marked (T t) 0 ms
+  mod-marks t a p l ms new e f h =
+      one-marks (T t) (T p) (λ n. ap (term_has param n) (e ∙ sym (ap (λ x. Mod x l) f))
+      ∙ term-is n (CTerm-F.Mod p l) (Mod p l) (rolls-Mod p l)) ms new h
 
   pub ite-marks : (t a b p q : CTerm) (c d : CForm) (ms mid most new : List (Option ℕ)) → t ≡ Ite c a b → d ≡ c →
       p ≡ a → q ≡ b → mid ≡ marked (F d) 0 ms → most ≡ marked (T p) 0 mid → new ≡ marked (T q) 0 most →

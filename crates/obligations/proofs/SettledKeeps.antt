@@ -1,7 +1,8 @@
 -- What holds of each row of settling's table, and stays where additions are joined, holds of what settling adds.
 use Rattle.std.proofs.Common.{◌≡◌, ℕ, ℤ, List, Option, Some, None, sym, subst}
 use Rattle.core_terms.specs.declared.trees.CTerm.{CTerm, ind-CTerm, roll-CTerm}
-use Rattle.core_terms.specs.declared.trees.CTerm.TheVariants.{Const, Slot, Param, Add, Sub, Scale, Ite, rolls-Const}
+use Rattle.core_terms.specs.declared.trees.CTerm.TheVariants.{Const, Slot, Param, Add, Sub, Scale, Ite, Div, Mod}
+use Rattle.core_terms.specs.declared.trees.CTerm.TheVariants.{rolls-Const, rolls-Div, rolls-Mod}
 use Rattle.core_terms.specs.declared.trees.CTerm.TheVariants.{rolls-Slot, rolls-Param, rolls-Add, rolls-Sub}
 use Rattle.core_terms.specs.declared.trees.CTerm.TheVariants.{rolls-Scale, rolls-Ite}
 use Rattle.core_terms.specs.declared.trees.CForm.{CForm, roll-CForm, ind-CForm}
@@ -14,11 +15,11 @@ use Rattle.obligations.specs.declared.branches.Branch.{Branch}
 use Rattle.obligations.specs.declared.branches.Variable.{Variable}
 use Rattle.obligations.specs.declared.branches.Choice.{Choice}
 use Rattle.obligations.specs.Settling.{joined, nothing, false_fact, one_waiting, first_ite, first_choice, least_adds}
-use Rattle.obligations.specs.Settling.{zero_adds, unequal_adds, below_zero, outcome, settled, refused}
+use Rattle.obligations.specs.Settling.{zero_adds, unequal_adds, below_zero, outcome}
 use Rattle.obligations.proofs.TreeLaws.{ite-Const, ite-Slot, ite-Param, ite-Add, ite-Sub, ite-Scale, ite-Ite}
-use Rattle.obligations.proofs.TableLaws.{settled-Top, refused-Bottom, settled-Bottom, refused-Top, settled-AtLeast}
-use Rattle.obligations.proofs.TableLaws.{refused-AtLeast, settled-Zero, refused-Zero, settled-Not, refused-Not}
-use Rattle.obligations.proofs.TableLaws.{settled-And, refused-Or, settled-Or, refused-And}
+use Rattle.obligations.proofs.TreeLaws.{ite-Div, ite-Mod}
+use Rattle.obligations.proofs.TableLaws.{yes-Top, no-Top, yes-Bottom, no-Bottom, yes-AtLeast, no-AtLeast, yes-Zero}
+use Rattle.obligations.proofs.TableLaws.{no-Zero, yes-Not, no-Not, yes-And, no-And, yes-Or, no-Or}
 
 -- A relation between a term and a choice that holds of each term's first choice, by the term's head.
 pub record Choices (r : CTerm → Option Choice → Type 0) : Type 0 where
@@ -31,6 +32,10 @@ pub record Choices (r : CTerm → Option Choice → Type 0) : Type 0 where
       r (Sub a b) (first_choice (λ x. Sub x b) (λ y. Sub a y) m n)
   pub of_scale : (k : ℤ) (a : CTerm) (m : Option Choice) → r a m →
       r (Scale k a) (first_choice (λ x. Scale k x) (λ x. Scale k x) m None)
+  pub of_div : (a : CTerm) (k : ℤ) (m : Option Choice) → r a m →
+      r (Div a k) (first_choice (λ x. Div x k) (λ x. Div x k) m None)
+  pub of_mod : (a : CTerm) (k : ℤ) (m : Option Choice) → r a m →
+      r (Mod a k) (first_choice (λ x. Mod x k) (λ x. Mod x k) m None)
   pub of_ite : (c : CForm) (a b : CTerm) → r (Ite c a b) (Some (record { when = c; yes = a; no = b }))
 
 module _ (r : CTerm → Option Choice → Type 0) (heads : Choices r) where
@@ -59,6 +64,10 @@ module _ (r : CTerm → Option Choice → Type 0) (heads : Choices r) where
       (heads.of_sub a.0 b.0 (first_ite a.0) (first_ite b.0) a.1 b.1))
   term_layer (CTerm-F.Scale k a) =
       subst First (sym (rolls-Scale k a.0)) (at-head _ _ (ite-Scale k a.0) (heads.of_scale k a.0 (first_ite a.0) a.1))
+  term_layer (CTerm-F.Div a k) =
+      subst First (sym (rolls-Div a.0 k)) (at-head _ _ (ite-Div a.0 k) (heads.of_div a.0 k (first_ite a.0) a.1))
+  term_layer (CTerm-F.Mod a k) =
+      subst First (sym (rolls-Mod a.0 k)) (at-head _ _ (ite-Mod a.0 k) (heads.of_mod a.0 k (first_ite a.0) a.1))
   term_layer (CTerm-F.Ite f a b) =
       subst First (sym (rolls-Ite f.0 a.0 b.0)) (at-head _ _ (ite-Ite f.0 a.0 b.0) (heads.of_ite f.0 a.0 b.0))
 
@@ -85,7 +94,7 @@ module _ (vs : List Variable) (q : CForm → Branch → Branch → Type 0) (rows
   abbrev Adds : CForm → Type 0
   Adds f = q f (outcome vs f).yes (outcome vs f).no
 
-  by-row : (f : CForm) (a b : Branch) → settled vs f nothing ≡ a → refused vs f nothing ≡ b → q f a b → Adds f
+  by-row : (f : CForm) (a b : Branch) → (outcome vs f).yes ≡ a → (outcome vs f).no ≡ b → q f a b → Adds f
   by-row f a b d e h = subst (λ x. q f x (outcome vs f).no) (sym d) (subst (q f a) (sym e) h)
 
   abbrev KnownForm : Type 0
@@ -97,26 +106,26 @@ module _ (vs : List Variable) (q : CForm → Branch → Branch → Type 0) (rows
   form_layer : (y : CForm-F KnownForm AnyTerm) →
       Adds (roll-CForm (map-CForm KnownForm AnyTerm CForm CTerm (λ e. e.0) (λ e. e.0) y))
   form_layer CForm-F.Top =
-      subst Adds (sym rolls-Top) (by-row _ _ _ (settled-Top vs nothing) (refused-Top vs nothing) rows.of_top)
+      subst Adds (sym rolls-Top) (by-row _ _ _ (yes-Top vs) (no-Top vs) rows.of_top)
   form_layer CForm-F.Bottom =
-      subst Adds (sym rolls-Bottom) (by-row _ _ _ (settled-Bottom vs nothing) (refused-Bottom vs nothing)
+      subst Adds (sym rolls-Bottom) (by-row _ _ _ (yes-Bottom vs) (no-Bottom vs)
       rows.of_bottom)
   form_layer (CForm-F.AtLeast t) =
-      subst Adds (sym (rolls-AtLeast t.0)) (by-row _ _ _ (settled-AtLeast vs t.0 nothing)
-      (refused-AtLeast vs t.0 nothing) (rows.of_least t.0))
+      subst Adds (sym (rolls-AtLeast t.0)) (by-row _ _ _ (yes-AtLeast vs t.0)
+      (no-AtLeast vs t.0) (rows.of_least t.0))
   form_layer (CForm-F.Zero t) =
-      subst Adds (sym (rolls-Zero t.0)) (by-row _ _ _ (settled-Zero vs t.0 nothing) (refused-Zero vs t.0 nothing)
+      subst Adds (sym (rolls-Zero t.0)) (by-row _ _ _ (yes-Zero vs t.0) (no-Zero vs t.0)
       (rows.of_zero t.0))
   form_layer (CForm-F.Not f) =
-      subst Adds (sym (rolls-Not f.0)) (by-row _ _ _ (settled-Not vs f.0 nothing) (refused-Not vs f.0 nothing)
+      subst Adds (sym (rolls-Not f.0)) (by-row _ _ _ (yes-Not vs f.0) (no-Not vs f.0)
       (rows.of_not f.0 (outcome vs f.0).yes (outcome vs f.0).no f.1))
   form_layer (CForm-F.And f g) =
-      subst Adds (sym (rolls-And f.0 g.0)) (by-row _ _ _ (settled-And vs f.0 g.0 nothing)
-      (refused-And vs f.0 g.0 nothing) (rows.of_and f.0 g.0 (outcome vs f.0).yes (outcome vs f.0).no
+      subst Adds (sym (rolls-And f.0 g.0)) (by-row _ _ _ (yes-And vs f.0 g.0)
+      (no-And vs f.0 g.0) (rows.of_and f.0 g.0 (outcome vs f.0).yes (outcome vs f.0).no
       (outcome vs g.0).yes (outcome vs g.0).no f.1 g.1))
   form_layer (CForm-F.Or f g) =
-      subst Adds (sym (rolls-Or f.0 g.0)) (by-row _ _ _ (settled-Or vs f.0 g.0 nothing)
-      (refused-Or vs f.0 g.0 nothing) (rows.of_or f.0 g.0 (outcome vs f.0).yes (outcome vs f.0).no
+      subst Adds (sym (rolls-Or f.0 g.0)) (by-row _ _ _ (yes-Or vs f.0 g.0)
+      (no-Or vs f.0 g.0) (rows.of_or f.0 g.0 (outcome vs f.0).yes (outcome vs f.0).no
       (outcome vs g.0).yes (outcome vs g.0).no f.1 g.1))
 
   -- then it holds of each formula and what it and its negation add

@@ -1,7 +1,9 @@
 -- The shapes of terms and formulas, by their heads, and their leaves where these stop at a cap.
-use Rattle.std.proofs.Common.{◌≡◌, ℕ, ◌+◌, ◌*◌, min, ℤ, arith, sym, ap, ◌∙◌}
+use Rattle.std.proofs.Common.{◌≡◌, ℕ, ◌+◌, ◌*◌, ◌^◌, ◌≤◌, min, ℤ, inl, inr, arith, sym, ap, ◌∙◌, mul-le-mul}
+use Rattle.std.proofs.lemmas.Bool.{cases_lt}
 use Rattle.core_terms.specs.declared.trees.CTerm.{CTerm}
-use Rattle.core_terms.specs.declared.trees.CTerm.TheVariants.{Const, Slot, Param, Add, Sub, Scale, Ite, rolls-Const}
+use Rattle.core_terms.specs.declared.trees.CTerm.TheVariants.{Const, Slot, Param, Add, Sub, Scale, Ite, Div, Mod}
+use Rattle.core_terms.specs.declared.trees.CTerm.TheVariants.{rolls-Const, rolls-Div, rolls-Mod}
 use Rattle.core_terms.specs.declared.trees.CTerm.TheVariants.{rolls-Slot, rolls-Param, rolls-Add, rolls-Sub}
 use Rattle.core_terms.specs.declared.trees.CTerm.TheVariants.{rolls-Scale, rolls-Ite}
 use Rattle.core_terms.specs.declared.trees.CForm.{CForm}
@@ -9,7 +11,8 @@ use Rattle.core_terms.specs.declared.trees.CForm.TheVariants.{Top, Bottom, AtLea
 use Rattle.core_terms.specs.declared.trees.CForm.TheVariants.{rolls-Bottom, rolls-AtLeast, rolls-Zero, rolls-Not}
 use Rattle.core_terms.specs.declared.trees.CForm.TheVariants.{rolls-And, rolls-Or}
 use Rattle.core_terms.specs.declared.trees.CForm.TheOpen.{CTerm-F, CForm-F}
-use Rattle.obligations.specs.Shapes.{Shape, plain, both, either, apart, Shapes, term_shape_step, form_shape_step}
+use Rattle.obligations.specs.Plain.{leaf_units}
+use Rattle.obligations.specs.Shapes.{Shape, plain, both, either, apart, divided, Shapes, term_shape_step, form_shape_step}
 use Rattle.obligations.specs.Shapes.{term_shape, shapes}
 use Rattle.obligations.proofs.SettlingLaws.{term_fold, form_fold}
 use Rattle.obligations.proofs.FoldLaws.{product-capped}
@@ -40,6 +43,12 @@ shape-Scale k a = term_fold form_shape_step term_shape_step (CTerm-F.Scale k a) 
 
 pub shape-Ite : (c : CForm) (a b : CTerm) → T (Ite c a b) ≡ either (both (S c).yes (T a)) (both (S c).no (T b))
 shape-Ite c a b = term_fold form_shape_step term_shape_step (CTerm-F.Ite c a b) (Ite c a b) (rolls-Ite c a b)
+
+pub shape-Div : (a : CTerm) (k : ℤ) → T (Div a k) ≡ divided (T a)
+shape-Div a k = term_fold form_shape_step term_shape_step (CTerm-F.Div a k) (Div a k) (rolls-Div a k)
+
+pub shape-Mod : (a : CTerm) (k : ℤ) → T (Mod a k) ≡ divided (T a)
+shape-Mod a k = term_fold form_shape_step term_shape_step (CTerm-F.Mod a k) (Mod a k) (rolls-Mod a k)
 
 pub shape-Top : S Top ≡ record { yes = plain; no = plain }
 shape-Top = form_fold form_shape_step term_shape_step CForm-F.Top Top rolls-Top
@@ -107,3 +116,22 @@ choice-leaves stop t a b p q c d u v x y m n z e f g h i j k l r s all =
     (j ∙ ap (λ r. min (S r).no.leaves stop) f) (l ∙ ap (λ r. min (T r).leaves stop) h) s in
     let whole = ap (λ r. (T r).leaves) e ∙ ap (λ (r : Shape). r.leaves) (shape-Ite c a b) in
     omega (arith, first, second, all, whole)
+
+-- the units of a leaf, by a number of quotients that stops at 2^63
+pub units-capped : (n q p r : ℕ) → p ≡ min q (2 ^ 63) → r ≡ min ((2 * p + 1) * (n + p + 256)) (2 ^ 127) →
+    r ≡ min (leaf_units n q) (2 ^ 127)
+units-capped n q p r e h = elim (cases_lt q (2 ^ 63)) [
+  | inl under ↦ let s : p ≡ q = omega (arith, e, under) in
+      h ∙ ap (λ x. min ((2 * x + 1) * (n + x + 256)) (2 ^ 127)) s
+  | inr over ↦
+      let s : p ≡ 2 ^ 63 = omega (arith, e, over) in
+      let one : 2 ^ 64 ≤ 2 * p + 1 = omega (arith, s) in
+      let two : 2 ^ 63 ≤ n + p + 256 = omega (arith, s) in
+      let low = mul-le-mul one two in
+      let three : 2 ^ 64 ≤ 2 * q + 1 = omega (arith, over) in
+      let four : 2 ^ 63 ≤ n + q + 256 = omega (arith, over) in
+      let high = mul-le-mul three four in
+      omega (arith, low, high, h)
+]
+
+pub ruleset unit_laws = units-capped

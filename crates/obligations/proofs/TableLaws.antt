@@ -13,19 +13,21 @@ use Rattle.obligations.specs.declared.branches.Line.{Line}
 use Rattle.obligations.specs.LinearForms.{sparse, zeros}
 use Rattle.obligations.specs.Settling.{joined, nothing, one_fact, two_facts, one_waiting, first_ite, least_adds}
 use Rattle.obligations.specs.Settling.{zero_adds, unequal_adds, below_zero, Settled, outcome_step, outcome}
-use Rattle.obligations.specs.Settling.{term_tree_step, settled, refused}
+use Rattle.obligations.specs.Settling.{term_tree_step, false_fact, settled, refused}
 use Rattle.obligations.proofs.TreeLaws.{form_fold, R, term_tree-is, outcome-tree}
 
-branch-of : (a b : Branch) → a.facts ≡ b.facts → a.waiting ≡ b.waiting → a ≡ b
-branch-of a b p q =
-    ap (λ x. record { facts = x; waiting = a.waiting }) p ∙ ap (λ x. record { facts = b.facts; waiting = x }) q
+branch-of : (a b : Branch) → a.facts ≡ b.facts → a.waiting ≡ b.waiting → a.added ≡ b.added → a ≡ b
+branch-of a b p q r =
+    ap (λ x. record { facts = x; waiting = a.waiting; added = a.added }) p
+    ∙ ap (λ x. record { facts = b.facts; waiting = x; added = a.added }) q
+    ∙ ap (λ x. record { facts = b.facts; waiting = b.waiting; added = x }) r
 
 pub joined-joined : (a b c : Branch) → joined (joined a b) c ≡ joined a (joined b c)
 joined-joined a b c = branch-of _ _ (append_assoc a.facts b.facts c.facts)
-    (append_assoc a.waiting b.waiting c.waiting)
+    (append_assoc a.waiting b.waiting c.waiting) refl
 
 pub joined-nothing : (a : Branch) → joined a nothing ≡ a
-joined-nothing a = branch-of _ _ (append_nil a.facts) (append_nil a.waiting)
+joined-nothing a = branch-of _ _ (append_nil a.facts) (append_nil a.waiting) refl
   where
     append_nil : {A : Type 0} (xs : List A) → xs ++ [] ≡ xs
     append_nil [] = refl
@@ -48,15 +50,15 @@ module _ (vs : List Variable) where
   sparse-zeros n (v ∷ vs) = sparse-zeros (suc n) vs
 
   pub settled-Bottom : (b : Branch) → settled vs Bottom b ≡ joined b
-      (record { facts = record { factors = []; constant = negsuc 0 } ∷ []; waiting = [] })
+      (record { facts = record { factors = []; constant = negsuc 0 } ∷ []; waiting = []; added = 0 })
   settled-Bottom b = ap (λ (o : Settled). joined b o.yes) (outcome_at CForm-F.Bottom Bottom rolls-Bottom)
-      ∙ ap (λ x. joined b (record { facts = record { factors = x; constant = negsuc 0 } ∷ []; waiting = [] }))
+      ∙ ap (λ x. joined b (record { facts = record { factors = x; constant = negsuc 0 } ∷ []; waiting = []; added = 0 }))
       (sparse-zeros 0 vs)
 
   pub refused-Top : (b : Branch) → refused vs Top b ≡ joined b
-      (record { facts = record { factors = []; constant = negsuc 0 } ∷ []; waiting = [] })
+      (record { facts = record { factors = []; constant = negsuc 0 } ∷ []; waiting = []; added = 0 })
   refused-Top b = ap (λ (o : Settled). joined b o.no) (outcome_at CForm-F.Top Top rolls-Top)
-      ∙ ap (λ x. joined b (record { facts = record { factors = x; constant = negsuc 0 } ∷ []; waiting = [] }))
+      ∙ ap (λ x. joined b (record { facts = record { factors = x; constant = negsuc 0 } ∷ []; waiting = []; added = 0 }))
       (sparse-zeros 0 vs)
 
   pub settled-AtLeast : (t : CTerm) (b : Branch) → settled vs (AtLeast t) b ≡ joined b (least_adds vs t (first_ite t))
@@ -105,6 +107,70 @@ module _ (vs : List Variable) where
   refused-And f g b = ap (λ (o : Settled). joined b o.no) (outcome_at (CForm-F.And f g) (And f g) (rolls-And f g))
       ∙ ap (λ x. joined b (one_waiting (Or (Not x) (Not (outcome vs g).tree)))) (outcome-tree vs f)
       ∙ ap (λ x. joined b (one_waiting (Or (Not f) (Not x)))) (outcome-tree vs g)
+
+  -- What a formula and its negation add, by the formula's head.
+  pub yes-Top : (outcome vs Top).yes ≡ nothing
+  yes-Top = ap (λ (o : Settled). o.yes) (outcome_at CForm-F.Top Top rolls-Top)
+
+  pub no-Top : (outcome vs Top).no ≡ false_fact
+  no-Top =
+      ap (λ (o : Settled). o.no) (outcome_at CForm-F.Top Top rolls-Top)
+      ∙ ap (λ x. record { facts = record { factors = x; constant = negsuc 0 } ∷ []; waiting = []; added = 0 })
+      (sparse-zeros 0 vs)
+
+  pub yes-Bottom : (outcome vs Bottom).yes ≡ false_fact
+  yes-Bottom =
+      ap (λ (o : Settled). o.yes) (outcome_at CForm-F.Bottom Bottom rolls-Bottom)
+      ∙ ap (λ x. record { facts = record { factors = x; constant = negsuc 0 } ∷ []; waiting = []; added = 0 })
+      (sparse-zeros 0 vs)
+
+  pub no-Bottom : (outcome vs Bottom).no ≡ nothing
+  no-Bottom = ap (λ (o : Settled). o.no) (outcome_at CForm-F.Bottom Bottom rolls-Bottom)
+
+  pub yes-AtLeast : (t : CTerm) → (outcome vs (AtLeast t)).yes ≡ least_adds vs t (first_ite t)
+  yes-AtLeast t =
+      ap (λ (o : Settled). o.yes) (outcome_at (CForm-F.AtLeast t) (AtLeast t) (rolls-AtLeast t))
+      ∙ ap (λ x. least_adds vs x (first_ite x)) (term_tree-is vs t)
+
+  pub no-AtLeast : (t : CTerm) →
+      (outcome vs (AtLeast t)).no ≡ least_adds vs (below_zero t) (first_ite (below_zero t))
+  no-AtLeast t =
+      ap (λ (o : Settled). o.no) (outcome_at (CForm-F.AtLeast t) (AtLeast t) (rolls-AtLeast t))
+      ∙ ap (λ x. least_adds vs (below_zero x) (first_ite (below_zero x))) (term_tree-is vs t)
+
+  pub yes-Zero : (t : CTerm) → (outcome vs (Zero t)).yes ≡ zero_adds vs t (first_ite t)
+  yes-Zero t =
+      ap (λ (o : Settled). o.yes) (outcome_at (CForm-F.Zero t) (Zero t) (rolls-Zero t))
+      ∙ ap (λ x. zero_adds vs x (first_ite x)) (term_tree-is vs t)
+
+  pub no-Zero : (t : CTerm) → (outcome vs (Zero t)).no ≡ unequal_adds t (first_ite t)
+  no-Zero t =
+      ap (λ (o : Settled). o.no) (outcome_at (CForm-F.Zero t) (Zero t) (rolls-Zero t))
+      ∙ ap (λ x. unequal_adds x (first_ite x)) (term_tree-is vs t)
+
+  pub yes-Not : (f : CForm) → (outcome vs (Not f)).yes ≡ (outcome vs f).no
+  yes-Not f = ap (λ (o : Settled). o.yes) (outcome_at (CForm-F.Not f) (Not f) (rolls-Not f))
+
+  pub no-Not : (f : CForm) → (outcome vs (Not f)).no ≡ (outcome vs f).yes
+  no-Not f = ap (λ (o : Settled). o.no) (outcome_at (CForm-F.Not f) (Not f) (rolls-Not f))
+
+  pub yes-And : (f g : CForm) → (outcome vs (And f g)).yes ≡ joined (outcome vs f).yes (outcome vs g).yes
+  yes-And f g = ap (λ (o : Settled). o.yes) (outcome_at (CForm-F.And f g) (And f g) (rolls-And f g))
+
+  pub no-And : (f g : CForm) → (outcome vs (And f g)).no ≡ one_waiting (Or (Not f) (Not g))
+  no-And f g =
+      ap (λ (o : Settled). o.no) (outcome_at (CForm-F.And f g) (And f g) (rolls-And f g))
+      ∙ ap (λ x. one_waiting (Or (Not x) (Not (outcome vs g).tree))) (outcome-tree vs f)
+      ∙ ap (λ x. one_waiting (Or (Not f) (Not x))) (outcome-tree vs g)
+
+  pub yes-Or : (f g : CForm) → (outcome vs (Or f g)).yes ≡ one_waiting (Or f g)
+  yes-Or f g =
+      ap (λ (o : Settled). o.yes) (outcome_at (CForm-F.Or f g) (Or f g) (rolls-Or f g))
+      ∙ ap (λ x. one_waiting (Or x (outcome vs g).tree)) (outcome-tree vs f)
+      ∙ ap (λ x. one_waiting (Or f x)) (outcome-tree vs g)
+
+  pub no-Or : (f g : CForm) → (outcome vs (Or f g)).no ≡ joined (outcome vs f).no (outcome vs g).no
+  no-Or f g = ap (λ (o : Settled). o.no) (outcome_at (CForm-F.Or f g) (Or f g) (rolls-Or f g))
 
   -- the same, as the code meets them
   pub settles-Not : (f : CForm) (a b : Branch) → a ≡ refused vs f b → a ≡ settled vs (Not f) b

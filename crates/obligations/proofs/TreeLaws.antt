@@ -3,7 +3,8 @@
 use Rattle.std.proofs.Common.{◌≡◌, ℕ, ℤ, pos, negsuc, List, [], true, false, Option, Some, None, sym, ap, ◌∙◌, subst}
 use Rattle.std.proofs.Common.{length}
 use Rattle.core_terms.specs.declared.trees.CTerm.{CTerm, ind-CTerm, roll-CTerm, fold-CTerm, fold-roll-CTerm}
-use Rattle.core_terms.specs.declared.trees.CTerm.TheVariants.{Const, Slot, Param, Add, Sub, Scale, Ite, rolls-Const}
+use Rattle.core_terms.specs.declared.trees.CTerm.TheVariants.{Const, Slot, Param, Add, Sub, Scale, Ite, Div, Mod}
+use Rattle.core_terms.specs.declared.trees.CTerm.TheVariants.{rolls-Const, rolls-Div, rolls-Mod}
 use Rattle.core_terms.specs.declared.trees.CTerm.TheVariants.{rolls-Slot, rolls-Param, rolls-Add, rolls-Sub}
 use Rattle.core_terms.specs.declared.trees.CTerm.TheVariants.{rolls-Scale, rolls-Ite}
 use Rattle.core_terms.specs.declared.trees.CForm.{CForm, roll-CForm, ind-CForm, fold-CForm, fold-roll-CForm}
@@ -56,6 +57,12 @@ module _ (vs : List Variable) where
   pub linear-Ite : (c : CForm) (a b : CTerm) → linear vs (Ite c a b) ≡ line_of_const vs (pos 0)
   linear-Ite c a b = term_fold no_line (linear_step vs) (CTerm-F.Ite c a b) (Ite c a b) (rolls-Ite c a b)
 
+  pub linear-Div : (a : CTerm) (k : ℤ) → linear vs (Div a k) ≡ line_of_const vs (pos 0)
+  linear-Div a k = term_fold no_line (linear_step vs) (CTerm-F.Div a k) (Div a k) (rolls-Div a k)
+
+  pub linear-Mod : (a : CTerm) (k : ℤ) → linear vs (Mod a k) ≡ line_of_const vs (pos 0)
+  linear-Mod a k = term_fold no_line (linear_step vs) (CTerm-F.Mod a k) (Mod a k) (rolls-Mod a k)
+
   -- what stands in the fold of settling for a term: the term
   abbrev pub R : CTerm → CTerm
   R = fold-CTerm Settled CTerm (outcome_step vs) term_tree_step
@@ -99,6 +106,20 @@ parted-Ite : (c : CForm) (a b : CTerm) → parted
           (record { when = form_tree c; yes = (parted a).tree; no = (parted b).tree });
     }
 parted-Ite c a b = term_fold form_tree_step parted_step (CTerm-F.Ite c a b) (Ite c a b) (rolls-Ite c a b)
+
+parted-Div : (a : CTerm) (k : ℤ) → parted (Div a k) ≡ record {
+  tree = Div (parted a).tree k;
+  choice = first_choice
+      (λ x. Div x k) (λ y. Div y k) (parted a).choice None;
+}
+parted-Div a k = term_fold form_tree_step parted_step (CTerm-F.Div a k) (Div a k) (rolls-Div a k)
+
+parted-Mod : (a : CTerm) (k : ℤ) → parted (Mod a k) ≡ record {
+  tree = Mod (parted a).tree k;
+  choice = first_choice
+      (λ x. Mod x k) (λ y. Mod y k) (parted a).choice None;
+}
+parted-Mod a k = term_fold form_tree_step parted_step (CTerm-F.Mod a k) (Mod a k) (rolls-Mod a k)
 
 -- The trees that stand in the folds, and the length of linear forms.
 module _ (vs : List Variable) where
@@ -184,6 +205,24 @@ module _ (vs : List Variable) where
         ∙ ap (λ x. Ite x (R vs a) (R vs b)) s.tree ∙ ap (λ x. Ite c x (R vs b)) p.same ∙ ap (λ x. Ite c a x) q.same;
   }
 
+  div-tree : (a : CTerm) (k : ℤ) → TermTree a → TermTree (Div a k)
+  div-tree a k p = record {
+    size = ap (λ (l : Line). length l.factors) (linear-Div vs a k) ∙ length-zeros vs;
+    tree = ap (λ (x : Parted). x.tree) (parted-Div a k) ∙ ap (λ x. Div x k) p.tree;
+    same =
+        term_fold (outcome_step vs) term_tree_step (CTerm-F.Div a k) (Div a k) (rolls-Div a k)
+        ∙ ap (λ x. Div x k) p.same;
+  }
+
+  mod-tree : (a : CTerm) (k : ℤ) → TermTree a → TermTree (Mod a k)
+  mod-tree a k p = record {
+    size = ap (λ (l : Line). length l.factors) (linear-Mod vs a k) ∙ length-zeros vs;
+    tree = ap (λ (x : Parted). x.tree) (parted-Mod a k) ∙ ap (λ x. Mod x k) p.tree;
+    same =
+        term_fold (outcome_step vs) term_tree_step (CTerm-F.Mod a k) (Mod a k) (rolls-Mod a k)
+        ∙ ap (λ x. Mod x k) p.same;
+  }
+
   abbrev tree_of : (x : CForm-F CForm CTerm) (f : CForm) → roll-CForm x ≡ f →
       form_tree f ≡ form_tree_step (map-CForm CForm CTerm CForm Parted form_tree parted x)
   tree_of x f e = form_fold form_tree_step parted_step x f e
@@ -254,6 +293,8 @@ module _ (vs : List Variable) where
   term_layer (CTerm-F.Sub a b) = subst TermTree (sym (rolls-Sub a.0 b.0)) (sub-tree a.0 b.0 a.1 b.1)
   term_layer (CTerm-F.Scale k a) = subst TermTree (sym (rolls-Scale k a.0)) (scale-tree k a.0 a.1)
   term_layer (CTerm-F.Ite c a b) = subst TermTree (sym (rolls-Ite c.0 a.0 b.0)) (ite-tree c.0 a.0 b.0 c.1 a.1 b.1)
+  term_layer (CTerm-F.Div a k) = subst TermTree (sym (rolls-Div a.0 k)) (div-tree a.0 k a.1)
+  term_layer (CTerm-F.Mod a k) = subst TermTree (sym (rolls-Mod a.0 k)) (mod-tree a.0 k a.1)
 
   form_layer : (y : CForm-F SomeForm SomeTerm) →
       FormTree (roll-CForm (map-CForm SomeForm SomeTerm CForm CTerm (λ e. e.0) (λ e. e.0) y))
@@ -318,6 +359,12 @@ pub ite-Scale : (k : ℤ) (a : CTerm) → first_ite (Scale k a) ≡ first_choice
     (first_ite a) None
 ite-Scale k a = ap (λ (x : Parted). x.choice) (parted-Scale k a)
 
+pub ite-Div : (a : CTerm) (k : ℤ) → first_ite (Div a k) ≡ first_choice (λ x. Div x k) (λ x. Div x k) (first_ite a) None
+ite-Div a k = ap (λ (x : Parted). x.choice) (parted-Div a k)
+
+pub ite-Mod : (a : CTerm) (k : ℤ) → first_ite (Mod a k) ≡ first_choice (λ x. Mod x k) (λ x. Mod x k) (first_ite a) None
+ite-Mod a k = ap (λ (x : Parted). x.choice) (parted-Mod a k)
+
 pub ite-Ite : (c : CForm) (a b : CTerm) → first_ite (Ite c a b) ≡ Some (record { when = c; yes = a; no = b })
 ite-Ite c a b =
     ap (λ (x : Parted). x.choice) (parted-Ite c a b)
@@ -352,3 +399,13 @@ pub multiple-some : (k : ℤ) (a t : CTerm) (c : Choice) (o : Option Choice) →
     o ≡ Some (within (λ x. Scale k x) c) → o ≡ first_ite t
 multiple-some k a t c o e p q =
     q ∙ sym (ap first_ite e ∙ ite-Scale k a ∙ ap (λ m. first_choice (λ x. Scale k x) (λ x. Scale k x) m None) p)
+
+pub quotient-some : (a t : CTerm) (k : ℤ) (c : Choice) (o : Option Choice) → t ≡ Div a k → first_ite a ≡ Some c →
+    o ≡ Some (within (λ x. Div x k) c) → o ≡ first_ite t
+quotient-some a t k c o e p q =
+    q ∙ sym (ap first_ite e ∙ ite-Div a k ∙ ap (λ m. first_choice (λ x. Div x k) (λ x. Div x k) m None) p)
+
+pub remainder-some : (a t : CTerm) (k : ℤ) (c : Choice) (o : Option Choice) → t ≡ Mod a k → first_ite a ≡ Some c →
+    o ≡ Some (within (λ x. Mod x k) c) → o ≡ first_ite t
+remainder-some a t k c o e p q =
+    q ∙ sym (ap first_ite e ∙ ite-Mod a k ∙ ap (λ m. first_choice (λ x. Mod x k) (λ x. Mod x k) m None) p)

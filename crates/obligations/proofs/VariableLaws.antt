@@ -14,6 +14,7 @@ use Rattle.core_terms.specs.declared.trees.CForm.TheFolds.{map-CForm, map-CTerm}
 use Rattle.core_terms.specs.declared.trees.Range.{Range}
 use Rattle.obligations.specs.declared.branches.Variable.{Variable}
 use Rattle.obligations.specs.declared.branches.Obligation.{Obligation}
+use Rattle.meaning_states.specs.Division.{floored, rest_of}
 use Rattle.meaning_states.specs.State.{int_eq}
 use Rattle.core_terms.specs.Values.{number_at, term_step, form_step, term_value, form_value}
 use Rattle.obligations.specs.LinearForms.{is_named, place_of}
@@ -253,6 +254,8 @@ module _ (vs : List Variable) (values state numbers : List ℤ) where
       ∙ ap (λ z. term_value state numbers a.0 -ℤ z)
       (b.1 (λ param n e. all param n (or_right (term_has param n a.0) _ e))))
   term_layer (CTerm-F.Scale k a) = rolled_term (CTerm-F.Scale k a.0) (λ all. ap (λ z. k *ℤ z) (a.1 all))
+  term_layer (CTerm-F.Div a k) = rolled_term (CTerm-F.Div a.0 k) (λ all. ap (λ z. floored z k) (a.1 all))
+  term_layer (CTerm-F.Mod a k) = rolled_term (CTerm-F.Mod a.0 k) (λ all. ap (λ z. rest_of z k) (a.1 all))
   term_layer (CTerm-F.Ite c a b) =
       rolled_term (CTerm-F.Ite c.0 a.0 b.0) (λ all.
       ap (λ z. cond z (term_at vs values a.0) (term_at vs values b.0))

@@ -1,10 +1,13 @@
 pub mod Variables
 pub mod LinearForms
+pub mod Scopes
 pub mod Settling
+pub mod Quotients
 pub mod Load
 pub mod Opening
 pub mod Reach
 pub mod Shapes
 pub mod Plain
 pub mod Obligations
+pub mod Closed
 pub mod Certificates

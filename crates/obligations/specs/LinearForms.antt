@@ -51,7 +51,7 @@ line_plus k a b = record { factors = plus k a.factors b.factors; constant = a.co
 abbrev pub negated : List Variable → Line → Line
 negated vs l = line_plus (negsuc 0) (line_of_const vs (pos 0)) l
 
--- a term's linear form, from those of its parts; an `Ite` has none and counts as 0
+-- a term's linear form, from those of its parts; an `Ite` and a quotient have none and count as 0
 abbrev pub linear_step : List Variable → CTerm-F ⊤ Line → Line
 linear_step vs (CTerm-F.Const c) = line_of_const vs c
 linear_step vs (CTerm-F.Slot n) = line_of_place vs (place_of vs false n)
@@ -60,6 +60,8 @@ linear_step vs (CTerm-F.Add a b) = line_plus (pos 1) a b
 linear_step vs (CTerm-F.Sub a b) = line_plus (negsuc 0) a b
 linear_step vs (CTerm-F.Scale k a) = line_plus k (line_of_const vs (pos 0)) a
 linear_step vs (CTerm-F.Ite c a b) = line_of_const vs (pos 0)
+linear_step vs (CTerm-F.Div a k) = line_of_const vs (pos 0)
+linear_step vs (CTerm-F.Mod a k) = line_of_const vs (pos 0)
 
 abbrev pub no_line : CForm-F ⊤ Line → ⊤
 no_line x = tt

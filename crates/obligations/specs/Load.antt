@@ -5,6 +5,7 @@ use Rattle.std.specs.Int.RustNames.{unsigned_abs}
 use Rattle.core_terms.specs.declared.trees.CTerm.{CTerm, fold-CTerm}
 use Rattle.core_terms.specs.declared.trees.CForm.{CForm, fold-CForm}
 use Rattle.core_terms.specs.declared.trees.CForm.TheOpen.{CTerm-F, CForm-F}
+use Rattle.meaning_states.specs.Division.{divisor}
 use Rattle.obligations.specs.declared.branches.Line.{Line}
 use Rattle.obligations.specs.declared.branches.Branch.{Branch}
 
@@ -16,7 +17,8 @@ sizes (z ∷ zs) = unsigned_abs z + sizes zs
 abbrev pub norm : Line → ℕ
 norm l = sizes l.factors + unsigned_abs l.constant
 
--- a term's own load, and the greatest load of the conditions in it
+-- a term's own load, and the greatest load of the conditions in it, of what is divided in it, and of the numbers that
+-- it is divided by
 pub record Load : Type 0 where
   pub own : ℕ
   pub most : ℕ
@@ -29,6 +31,14 @@ term_load_step (CTerm-F.Add a b) = record { own = a.own + b.own; most = max a.mo
 term_load_step (CTerm-F.Sub a b) = record { own = a.own + b.own; most = max a.most b.most }
 term_load_step (CTerm-F.Scale k a) = record { own = unsigned_abs k * a.own; most = a.most }
 term_load_step (CTerm-F.Ite c a b) = record { own = max a.own b.own; most = max c (max a.most b.most) }
+term_load_step (CTerm-F.Div a k) = record {
+  own = max 1 a.own;
+  most = max (unsigned_abs (divisor k)) (max a.own a.most);
+}
+term_load_step (CTerm-F.Mod a k) = record {
+  own = 2 * a.own + unsigned_abs (divisor k);
+  most = max (unsigned_abs (divisor k)) (max a.own a.most);
+}
 
 abbrev pub form_load_step : CForm-F ℕ Load → ℕ
 form_load_step CForm-F.Top = 0
@@ -52,7 +62,8 @@ pub record Need : Type 0 where
   pub yes : ℕ
   pub no : ℕ
 
--- a term's loads, where a constant loads as this says, from the needs of its conditions
+-- a term's loads, where a constant loads as this says, from the needs of its conditions; a number that it divides
+-- by always loads
 abbrev pub term_need_step : (ℤ → ℕ) → CTerm-F Need Load → Load
 term_need_step size (CTerm-F.Const c) = record { own = size c; most = 0 }
 term_need_step size (CTerm-F.Slot n) = record { own = 1; most = 0 }
@@ -63,6 +74,14 @@ term_need_step size (CTerm-F.Scale k a) = record { own = unsigned_abs k * a.own;
 term_need_step size (CTerm-F.Ite c a b) = record {
   own = max a.own b.own;
   most = max (max c.yes c.no) (max a.most b.most);
+}
+term_need_step size (CTerm-F.Div a k) = record {
+  own = max 1 a.own;
+  most = max (unsigned_abs (divisor k)) (max a.own a.most);
+}
+term_need_step size (CTerm-F.Mod a k) = record {
+  own = 2 * a.own + unsigned_abs (divisor k);
+  most = max (unsigned_abs (divisor k)) (max a.own a.most);
 }
 
 -- the negation of `AtLeast`, and that of `Zero`, meet the term less 1

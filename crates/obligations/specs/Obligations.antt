@@ -12,6 +12,7 @@ use Rattle.core_terms.specs.declared.trees.CForm.{CForm}
 use Rattle.obligations.specs.declared.branches.Variable.{Variable}
 use Rattle.obligations.specs.declared.branches.Obligation.{Obligation}
 use Rattle.obligations.specs.LinearForms.{place_of}
+use Rattle.obligations.specs.Scopes.{next_param, scope, with_next}
 use Rattle.obligations.specs.Load.{form_load, need, width}
 use Rattle.obligations.specs.Plain.{height_of, ranges_of}
 use Rattle.obligations.specs.Variables.{form_has}
@@ -32,6 +33,18 @@ are_in_order (v ∷ vs) = list_all (is_before v) vs && are_in_order vs
 pub record AreVariables (vs : List Variable) : Type 0 where
   pub count : length vs < 2 ^ 32
   pub order : are_in_order vs ≡ true
+
+-- variables as those of an obligation are, to which 4,096 can be added
+pub record AreOwn (vs : List Variable) : Type 0 where
+  pub variables : AreVariables vs
+  pub few : length vs ≤ 2 ^ 31
+  pub numbered : next_param vs ≤ 2 ^ 31
+
+-- variables to which one more can be added
+pub record HasRoom (vs : List Variable) : Type 0 where
+  pub variables : AreVariables vs
+  pub longer : AreVariables (with_next vs)
+  pub numbered : next_param vs < 2 ^ 32
 
 -- a slot or a parameter weighs as its range does, and one that is no variable weighs 1
 abbrev pub variable_weight : List Variable → Bool → ℕ → ℕ
@@ -66,6 +79,17 @@ pub record IsObligation (o : Obligation) : Type 0 where
 abbrev pub HasVariables : Type 0
 HasVariables = (o : Obligation) → IsObligation o → AreVariables o.variables
 
+-- 4,096 variables can be added, where the numbers of its parameters are small enough
+abbrev pub HasOwn : Type 0
+HasOwn = (o : Obligation) → IsObligation o → next_param o.variables ≤ 2 ^ 31 → AreOwn o.variables
+
+-- a scope's variables are as those of an obligation
+abbrev pub ScopeVariables : Type 0
+ScopeVariables = (vs : List Variable) (n : ℕ) → AreOwn vs → n ≤ 4096 → AreVariables (scope vs n)
+
+abbrev pub ScopeRoom : Type 0
+ScopeRoom = (vs : List Variable) (n : ℕ) → AreOwn vs → n < 4096 → HasRoom (scope vs n)
+
 abbrev pub HasSmallLoad : Type 0
 HasSmallLoad = (o : Obligation) → IsObligation o → form_load o.form ≤ 2 ^ 62
 
@@ -75,7 +99,8 @@ HasSmallWidth = (o : Obligation) → IsObligation o → (width o.form).no ≤ 2 
 abbrev pub HasSoundRanges : Type 0
 HasSoundRanges = (o : Obligation) → IsObligation o → list_all is_sound_range (ranges_of o.variables) ≡ true
 
--- a formula can be settled where its terms weigh at most 2^62 + 1, with weights of slots and parameters of at least 1
+-- settling a formula meets no load of more than one above its weight, with weights of slots and parameters of at
+-- least 1
 abbrev pub WeightSettles : Type 0
 WeightSettles = (slots params : ℕ → ℕ) → ((n : ℕ) → 1 ≤ slots n) → ((n : ℕ) → 1 ≤ params n) → (f : CForm) →
-    form_weight slots params f ≤ 2 ^ 62 + 1 → (need f).yes ≤ 2 ^ 63
+    (need f).yes ≤ 1 + form_weight slots params f

@@ -31,7 +31,7 @@ range_facts n [] = []
 range_facts n (v ∷ vs) = at_least n v.range.lo ∷ at_most n v.range.hi ∷ range_facts (suc n) vs
 
 abbrev pub ranges_only : List Variable → Branch
-ranges_only vs = record { facts = range_facts 0 vs; waiting = [] }
+ranges_only vs = record { facts = range_facts 0 vs; waiting = []; added = 0 }
 
 -- the ranges' facts, and the form refused
 abbrev pub first_branch : Obligation → Branch

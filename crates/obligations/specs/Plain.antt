@@ -7,7 +7,10 @@ use Rattle.core_terms.specs.declared.trees.Range.{Range}
 use Rattle.obligations.specs.declared.branches.Variable.{Variable}
 use Rattle.obligations.specs.declared.branches.Branch.{Branch}
 use Rattle.obligations.specs.declared.branches.Obligation.{Obligation}
+use Rattle.obligations.specs.Scopes.{next_param, scope_of}
 use Rattle.obligations.specs.Settling.{settled, sides, added}
+use Rattle.obligations.specs.declared.branches.Replaced.{Replaced}
+use Rattle.obligations.specs.Quotients.{without_quotient, with_quotient, is_either}
 use Rattle.obligations.specs.Opening.{at_most, at_least, first_branch}
 use Rattle.obligations.specs.Reach.{some_out_of_reach}
 use Rattle.obligations.specs.Shapes.{shapes}
@@ -42,13 +45,20 @@ cuts_of (r ∷ rs) = halvings r + cuts_of rs
 abbrev pub height_of : Obligation → ℕ
 height_of o = (shapes o.form).no.cases + cuts_of (ranges_of o.variables)
 
--- the units that closing one leaf may take
-abbrev pub leaf_units : List Variable → ℕ
-leaf_units vs = length vs + 256
+-- how many quotients the form's negation can have taken on one path
+abbrev pub quotients_in : Obligation → ℕ
+quotients_in o = (shapes o.form).no.quotients
+
+-- the units that closing one leaf may take, with so many variables and quotients
+abbrev pub leaf_units : ℕ → ℕ → ℕ
+leaf_units n q = (2 * q + 1) * (n + q + 256)
+
+abbrev pub leaf_units_of : Obligation → ℕ
+leaf_units_of o = leaf_units (length o.variables) (quotients_in o)
 
 -- the leaves of the form's negation, each with all values, and each with the units of a leaf
 abbrev pub need_of : Obligation → ℕ
-need_of o = ((shapes o.form).no.leaves * volume (ranges_of o.variables)) * leaf_units o.variables
+need_of o = ((shapes o.form).no.leaves * volume (ranges_of o.variables)) * leaf_units_of o
 
 -- the low end and half of what is above it, rounded down
 abbrev pub middle : Range → ℤ
@@ -76,7 +86,7 @@ with_low (r ∷ rs) zero k = record { lo = k; hi = r.hi } ∷ rs
 with_low (r ∷ rs) (suc n) k = r ∷ with_low rs n k
 
 abbrev pub waiting_only : Branch → List CForm → Branch
-waiting_only b fs = record { facts = b.facts; waiting = fs }
+waiting_only b fs = record { facts = b.facts; waiting = fs; added = b.added }
 
 -- the leaves below a branch where nothing waits, from those below its halves
 abbrev pub cut_leaves : (List Range → Branch → ℕ) → List Range → Branch → Option Cut → ℕ
@@ -85,19 +95,29 @@ cut_leaves go rs b (Some c) =
     go (with_high rs c.place c.at) (added b (at_most c.place c.at))
     + go (with_low rs c.place (c.at +ℤ pos 1)) (added b (at_least c.place (c.at +ℤ pos 1)))
 
+-- the leaves below the two sides of a formula
+abbrev pub side_leaves : List Variable → (List Range → Branch → ℕ) → List Range → Branch → CForm → ℕ
+side_leaves vs go rs b f = go rs (settled vs (sides f).0 b) + go rs (settled vs (sides f).1 b)
+
+-- those below a formula with a quotient taken
+abbrev pub quot_leaves : List Variable → (List Range → Branch → ℕ) → List Range → Branch → Option Replaced → ℕ
+quot_leaves vs go rs b None = 1
+quot_leaves vs go rs b (Some r) = go rs (with_quotient vs r b)
+
 -- the leaves below a branch of which no fact is out of reach, from those below the branches that it opens
 abbrev pub open_leaves : List Variable → (List Range → Branch → ℕ) → List Range → Branch → List CForm → ℕ
 open_leaves vs go rs b [] = cut_leaves go rs b (first_cut 0 rs)
 open_leaves vs go rs b (f ∷ fs) =
-    go rs (settled vs (sides f).0 (waiting_only b fs)) + go rs (settled vs (sides f).1 (waiting_only b fs))
+    cond (is_either f) (side_leaves (scope_of vs b) go rs (waiting_only b fs) f)
+    (quot_leaves (scope_of vs b) go rs (waiting_only b fs) (without_quotient (next_param (scope_of vs b)) f))
 
 -- The leaves of the plain tree, of at most this many levels: a branch with a fact out of reach is a
--- leaf; another has the branches of its first waiting formula; else those of a split of the first
--- variable with more than one value; else it is a leaf.
+-- leaf; another has the branches of its first waiting formula, or the one where that has a quotient taken; else
+-- those of a split of the first variable of the obligation with more than one value; else it is a leaf.
 abbrev pub plain_leaves : List Variable → ℕ → List Range → Branch → ℕ
 plain_leaves vs zero rs b = 1
 plain_leaves vs (suc k) rs b = cond (some_out_of_reach b.facts) 1 (open_leaves vs (plain_leaves vs k) rs b b.waiting)
 
 -- the units that always suffice; the tree of an obligation has at most 960 levels below its root
 abbrev pub enough : Obligation → ℕ
-enough o = plain_leaves o.variables 960 (ranges_of o.variables) (first_branch o) * leaf_units o.variables
+enough o = plain_leaves o.variables 960 (ranges_of o.variables) (first_branch o) * leaf_units_of o

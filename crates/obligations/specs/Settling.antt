@@ -1,9 +1,9 @@
 -- Settling: what a formula, taken to hold, adds to a branch.
 use Rattle.std.specs.Prelude.{◌≡◌, ℤ, pos, negsuc, ◌+ℤ◌, ◌-ℤ◌, ◌*ℤ◌, Bool, false, true, cond, not, ◌&&◌, Option, Some}
-use Rattle.std.specs.Prelude.{None, List, [], ◌∷◌, ◌++◌, length, ℕ, remove}
+use Rattle.std.specs.Prelude.{None, List, [], ◌∷◌, ◌++◌, ◌||◌, length, ℕ, remove, ⊤}
 use Rattle.std.specs.List.{list_all}
 use Rattle.core_terms.specs.declared.trees.CTerm.{CTerm, fold-CTerm}
-use Rattle.core_terms.specs.declared.trees.CTerm.TheVariants.{Const, Slot, Param, Add, Sub, Scale, Ite}
+use Rattle.core_terms.specs.declared.trees.CTerm.TheVariants.{Const, Slot, Param, Add, Sub, Scale, Ite, Div, Mod}
 use Rattle.core_terms.specs.declared.trees.CForm.{CForm, out-CForm, fold-CForm}
 use Rattle.core_terms.specs.declared.trees.CForm.TheVariants.{Top, Bottom, AtLeast, Zero, Not, And, Or}
 use Rattle.core_terms.specs.declared.trees.CForm.TheOpen.{CTerm-F, CForm-F}
@@ -12,9 +12,12 @@ use Rattle.obligations.specs.declared.branches.Fact.{Fact}
 use Rattle.obligations.specs.declared.branches.Line.{Line}
 use Rattle.obligations.specs.declared.branches.Branch.{Branch}
 use Rattle.obligations.specs.declared.branches.Choice.{Choice}
+use Rattle.obligations.specs.declared.branches.Taken.{Taken}
 use Rattle.obligations.specs.declared.branches.Obligation.{Obligation}
+use Rattle.meaning_states.specs.Division.{divisor, floored, rest_of}
 use Rattle.core_terms.specs.Values.{number_at, form_step}
 use Rattle.obligations.specs.LinearForms.{place_of, line_of_const, negated, linear, fact_of, fact_holds}
+use Rattle.obligations.specs.Scopes.{scope_of}
 
 -- a term's value at values of the variables, from those of its parts; what is no variable is worth 0
 abbrev pub term_at_step : List Variable → List ℤ → CTerm-F Bool ℤ → ℤ
@@ -25,6 +28,8 @@ term_at_step vs values (CTerm-F.Add a b) = a +ℤ b
 term_at_step vs values (CTerm-F.Sub a b) = a -ℤ b
 term_at_step vs values (CTerm-F.Scale k a) = k *ℤ a
 term_at_step vs values (CTerm-F.Ite c a b) = cond c a b
+term_at_step vs values (CTerm-F.Div a k) = floored a k
+term_at_step vs values (CTerm-F.Mod a k) = rest_of a k
 
 -- a term's value at values of the variables
 abbrev pub term_at : List Variable → List ℤ → CTerm → ℤ
@@ -38,25 +43,25 @@ form_at vs values = fold-CForm Bool ℤ form_step (term_at_step vs values)
 abbrev pub branch_holds : List Variable → List ℤ → Branch → Bool
 branch_holds vs values b = list_all (fact_holds values) b.facts && list_all (form_at vs values) b.waiting
 
--- the facts and waiting formulas of one branch, and then those of another
+-- the facts and waiting formulas of one branch, and then those of another, which has no variables of its own
 abbrev pub joined : Branch → Branch → Branch
-joined a b = record { facts = a.facts ++ b.facts; waiting = a.waiting ++ b.waiting }
+joined a b = record { facts = a.facts ++ b.facts; waiting = a.waiting ++ b.waiting; added = a.added }
 
 abbrev pub nothing : Branch
-nothing = record { facts = []; waiting = [] }
+nothing = record { facts = []; waiting = []; added = 0 }
 
 abbrev pub one_fact : Line → Branch
-one_fact l = record { facts = fact_of l ∷ []; waiting = [] }
+one_fact l = record { facts = fact_of l ∷ []; waiting = []; added = 0 }
 
 abbrev pub two_facts : Line → Line → Branch
-two_facts l m = record { facts = fact_of l ∷ fact_of m ∷ []; waiting = [] }
+two_facts l m = record { facts = fact_of l ∷ fact_of m ∷ []; waiting = []; added = 0 }
 
 -- the fact that -1 is at least 0
 abbrev pub false_fact : Branch
-false_fact = record { facts = record { factors = []; constant = negsuc 0 } ∷ []; waiting = [] }
+false_fact = record { facts = record { factors = []; constant = negsuc 0 } ∷ []; waiting = []; added = 0 }
 
 abbrev pub one_waiting : CForm → Branch
-one_waiting f = record { facts = []; waiting = f ∷ [] }
+one_waiting f = record { facts = []; waiting = f ∷ []; added = 0 }
 
 -- a term, and its first `Ite`
 pub record Parted : Type 0 where
@@ -102,6 +107,14 @@ parted_step (CTerm-F.Ite c a b) = record {
   tree = Ite c a.tree b.tree;
   choice = Some (record { when = c; yes = a.tree; no = b.tree });
 }
+parted_step (CTerm-F.Div a k) = record {
+  tree = Div a.tree k;
+  choice = first_choice (λ x. Div x k) (λ y. Div y k) a.choice None;
+}
+parted_step (CTerm-F.Mod a k) = record {
+  tree = Mod a.tree k;
+  choice = first_choice (λ x. Mod x k) (λ y. Mod y k) a.choice None;
+}
 
 abbrev pub parted : CTerm → Parted
 parted = fold-CTerm CForm Parted form_tree_step parted_step
@@ -110,18 +123,102 @@ parted = fold-CTerm CForm Parted form_tree_step parted_step
 abbrev pub first_ite : CTerm → Option Choice
 first_ite t = (parted t).choice
 
+-- whether a term has a quotient outside of its `Ite`s, from whether its parts do
+abbrev pub quotient_step : CTerm-F ⊤ Bool → Bool
+quotient_step (CTerm-F.Const c) = false
+quotient_step (CTerm-F.Slot n) = false
+quotient_step (CTerm-F.Param n) = false
+quotient_step (CTerm-F.Add a b) = a || b
+quotient_step (CTerm-F.Sub a b) = a || b
+quotient_step (CTerm-F.Scale k a) = a
+quotient_step (CTerm-F.Ite c a b) = false
+quotient_step (CTerm-F.Div a k) = true
+quotient_step (CTerm-F.Mod a k) = true
+
+abbrev pub no_mark : CForm-F ⊤ Bool → ⊤
+no_mark x = tt
+
+abbrev pub has_quotient : CTerm → Bool
+has_quotient = fold-CTerm ⊤ Bool no_mark quotient_step
+
+-- a term, and its first quotient
+pub record Quoted : Type 0 where
+  pub tree : CTerm
+  pub taken : Option Taken
+
+-- a quotient within a greater term
+abbrev pub taken_within : (CTerm → CTerm) → Taken → Taken
+taken_within f q = record { of = q.of; divisor = q.divisor; rest = f q.rest }
+
+-- the first part's quotient, else the second's
+abbrev pub first_of : (CTerm → CTerm) → (CTerm → CTerm) → Option Taken → Option Taken → Option Taken
+first_of f g (Some q) r = Some (taken_within f q)
+first_of f g None (Some r) = Some (taken_within g r)
+first_of f g None None = None
+
+-- the quotient of the part, else the whole one
+abbrev pub or_whole : (CTerm → CTerm) → Option Taken → Taken → Option Taken
+or_whole f (Some q) whole = Some (taken_within f q)
+or_whole f None whole = Some whole
+
+abbrev pub quoted_form_step : CForm-F CForm Quoted → CForm
+quoted_form_step CForm-F.Top = Top
+quoted_form_step CForm-F.Bottom = Bottom
+quoted_form_step (CForm-F.AtLeast t) = AtLeast t.tree
+quoted_form_step (CForm-F.Zero t) = Zero t.tree
+quoted_form_step (CForm-F.Not f) = Not f
+quoted_form_step (CForm-F.And f g) = And f g
+quoted_form_step (CForm-F.Or f g) = Or f g
+
+-- a whole quotient becomes the parameter of this number, and what a division leaves becomes what is divided less the
+-- divisor times the parameter
+abbrev pub quoted_step : ℕ → CTerm-F CForm Quoted → Quoted
+quoted_step v (CTerm-F.Const c) = record { tree = Const c; taken = None }
+quoted_step v (CTerm-F.Slot n) = record { tree = Slot n; taken = None }
+quoted_step v (CTerm-F.Param n) = record { tree = Param n; taken = None }
+quoted_step v (CTerm-F.Add a b) = record {
+  tree = Add a.tree b.tree;
+  taken = first_of (λ x. Add x b.tree) (λ y. Add a.tree y) a.taken b.taken;
+}
+quoted_step v (CTerm-F.Sub a b) = record {
+  tree = Sub a.tree b.tree;
+  taken = first_of (λ x. Sub x b.tree) (λ y. Sub a.tree y) a.taken b.taken;
+}
+quoted_step v (CTerm-F.Scale k a) = record {
+  tree = Scale k a.tree;
+  taken = first_of (λ x. Scale k x) (λ y. Scale k y) a.taken None;
+}
+quoted_step v (CTerm-F.Ite c a b) = record { tree = Ite c a.tree b.tree; taken = None }
+quoted_step v (CTerm-F.Div a k) = record {
+  tree = Div a.tree k;
+  taken = or_whole (λ x. Div x k) a.taken (record { of = a.tree; divisor = divisor k; rest = Param v });
+}
+quoted_step v (CTerm-F.Mod a k) = record {
+  tree = Mod a.tree k;
+  taken = or_whole (λ x. Mod x k) a.taken
+      (record { of = a.tree; divisor = divisor k; rest = Sub a.tree (Scale (divisor k) (Param v)) });
+}
+
+abbrev pub quoted : ℕ → CTerm → Quoted
+quoted v = fold-CTerm CForm Quoted quoted_form_step (quoted_step v)
+
+-- a term's first quotient outside of its `Ite`s, operands before their operator
+abbrev pub first_taken : ℕ → CTerm → Option Taken
+first_taken v t = (quoted v t).taken
+
 -- the waiting formula that stands for a choice in a formula
 abbrev pub choice_form : (CTerm → CForm) → Choice → CForm
 choice_form f c = Or (And c.when (f c.yes)) (And (Not c.when) (f c.no))
 
--- what `AtLeast` of a term adds
+-- what `AtLeast` of a term adds: where it has a quotient, it waits
 abbrev pub least_adds : List Variable → CTerm → Option Choice → Branch
-least_adds vs t None = one_fact (linear vs t)
+least_adds vs t None = cond (has_quotient t) (one_waiting (AtLeast t)) (one_fact (linear vs t))
 least_adds vs t (Some c) = one_waiting (choice_form AtLeast c)
 
--- what `Zero` of a term adds
+-- what `Zero` of a term adds: where it has a quotient, it waits
 abbrev pub zero_adds : List Variable → CTerm → Option Choice → Branch
-zero_adds vs t None = two_facts (linear vs t) (negated vs (linear vs t))
+zero_adds vs t None =
+    cond (has_quotient t) (one_waiting (Zero t)) (two_facts (linear vs t) (negated vs (linear vs t)))
 zero_adds vs t (Some c) = one_waiting (choice_form Zero c)
 
 -- what `Not` of `Zero` of a term adds
@@ -147,6 +244,8 @@ term_tree_step (CTerm-F.Add a b) = Add a b
 term_tree_step (CTerm-F.Sub a b) = Sub a b
 term_tree_step (CTerm-F.Scale k a) = Scale k a
 term_tree_step (CTerm-F.Ite c a b) = Ite c.tree a b
+term_tree_step (CTerm-F.Div a k) = Div a k
+term_tree_step (CTerm-F.Mod a k) = Mod a k
 
 -- what a formula and its negation add, from what its parts do
 abbrev pub outcome_step : List Variable → CForm-F Settled CTerm → Settled
@@ -195,10 +294,11 @@ abbrev pub RefusedHolds : Type 0
 RefusedHolds = (vs : List Variable) (values : List ℤ) (f : CForm) (b : Branch) → length values ≡ length vs →
     branch_holds vs values (refused vs f b) ≡ (branch_holds vs values b && not (form_at vs values f))
 
--- a branch holds exactly where another one and a formula do
+-- a branch holds exactly where another one and a formula do, over the variables of that one
 abbrev pub HoldsWith : Obligation → Branch → CForm → Branch → Type 0
-HoldsWith o b f c = (values : List ℤ) → length values ≡ length o.variables →
-    branch_holds o.variables values c ≡ (branch_holds o.variables values b && form_at o.variables values f)
+HoldsWith o b f c = (values : List ℤ) → length values ≡ length (scope_of o.variables b) →
+    branch_holds (scope_of o.variables b) values c
+    ≡ (branch_holds (scope_of o.variables b) values b && form_at (scope_of o.variables b) values f)
 
 -- the two sides of a waiting form
 abbrev pub sides_in : CForm → CForm-F CForm CTerm → CForm × CForm
@@ -209,8 +309,8 @@ abbrev pub sides : CForm → CForm × CForm
 sides f = sides_in f (out-CForm f)
 
 abbrev pub added : Branch → Fact → Branch
-added b f = joined b (record { facts = f ∷ []; waiting = [] })
+added b f = joined b (record { facts = f ∷ []; waiting = []; added = 0 })
 
 -- a branch without the waiting formula at a place
 abbrev pub without : Branch → ℕ → Branch
-without b n = record { facts = b.facts; waiting = remove b.waiting n }
+without b n = record { facts = b.facts; waiting = remove b.waiting n; added = b.added }

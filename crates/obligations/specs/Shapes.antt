@@ -1,4 +1,5 @@
--- How many cases a formula can ask for on one path, and how many leaves they open.
+-- How many cases a formula can ask for on one path, how many leaves they open, and how many quotients are taken on
+-- one path.
 use Rattle.std.specs.Prelude.{ℕ, ◌+◌, ◌*◌, max, List, [], ◌∷◌}
 use Rattle.core_terms.specs.declared.trees.CTerm.{CTerm, fold-CTerm}
 use Rattle.core_terms.specs.declared.trees.CForm.{CForm, fold-CForm}
@@ -7,22 +8,35 @@ use Rattle.core_terms.specs.declared.trees.CForm.TheOpen.{CTerm-F, CForm-F}
 pub record Shape : Type 0 where
   pub cases : ℕ
   pub leaves : ℕ
+  pub quotients : ℕ
 
 -- no case, and one leaf
 abbrev pub plain : Shape
-plain = record { cases = 0; leaves = 1 }
+plain = record { cases = 0; leaves = 1; quotients = 0 }
 
--- one after the other: cases add, and leaves multiply
+-- one after the other: cases and quotients add, and leaves multiply
 abbrev pub both : Shape → Shape → Shape
-both a b = record { cases = a.cases + b.cases; leaves = a.leaves * b.leaves }
+both a b = record {
+  cases = a.cases + b.cases;
+  leaves = a.leaves * b.leaves;
+  quotients = a.quotients + b.quotients;
+}
 
 -- one case more, with either of two
 abbrev pub either : Shape → Shape → Shape
-either a b = record { cases = 1 + max a.cases b.cases; leaves = a.leaves + b.leaves }
+either a b = record {
+  cases = 1 + max a.cases b.cases;
+  leaves = a.leaves + b.leaves;
+  quotients = max a.quotients b.quotients;
+}
 
 -- the shape of what is not zero: above it, or below
 abbrev pub apart : Shape → Shape
-apart a = record { cases = 1 + a.cases; leaves = 2 * a.leaves }
+apart a = record { cases = 1 + a.cases; leaves = 2 * a.leaves; quotients = a.quotients }
+
+-- a quotient more: it is taken, and fixed from both sides
+abbrev pub divided : Shape → Shape
+divided a = record { cases = 3 + a.cases; leaves = a.leaves; quotients = 1 + a.quotients }
 
 -- the shapes of a formula and of its negation
 pub record Shapes : Type 0 where
@@ -37,6 +51,8 @@ term_shape_step (CTerm-F.Add a b) = both a b
 term_shape_step (CTerm-F.Sub a b) = both a b
 term_shape_step (CTerm-F.Scale k a) = a
 term_shape_step (CTerm-F.Ite c a b) = either (both c.yes a) (both c.no b)
+term_shape_step (CTerm-F.Div a k) = divided a
+term_shape_step (CTerm-F.Mod a k) = divided a
 
 abbrev pub form_shape_step : CForm-F Shapes Shape → Shapes
 form_shape_step CForm-F.Top = record { yes = plain; no = plain }
@@ -64,3 +80,8 @@ cases_of (f ∷ fs) = (shapes f).yes.cases + cases_of fs
 abbrev pub leaves_of : List CForm → ℕ
 leaves_of [] = 1
 leaves_of (f ∷ fs) = (shapes f).yes.leaves * leaves_of fs
+
+-- their quotients, together
+abbrev pub quotients_of : List CForm → ℕ
+quotients_of [] = 0
+quotients_of (f ∷ fs) = (shapes f).yes.quotients + quotients_of fs

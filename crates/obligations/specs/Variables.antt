@@ -22,6 +22,8 @@ has_step param n (CTerm-F.Add a b) = a || b
 has_step param n (CTerm-F.Sub a b) = a || b
 has_step param n (CTerm-F.Scale k a) = a
 has_step param n (CTerm-F.Ite c a b) = c || (a || b)
+has_step param n (CTerm-F.Div a k) = a
+has_step param n (CTerm-F.Mod a k) = a
 
 -- whether a formula has it, from whether its parts do
 abbrev pub part_has : CForm-F Bool Bool → Bool

@@ -41,6 +41,8 @@ pub struct Line {
 pub struct Branch {
     pub facts: Seq<Fact>,
     pub waiting: Seq<Shared<CForm>>,
+    /// How many variables it has after the obligation's: one for each quotient that was taken.
+    pub added: u32,
 }
 
 /// A term's first `Ite`: its condition, and the term with either part in the place of the `Ite`.
@@ -49,6 +51,21 @@ pub struct Choice {
     pub when: Shared<CForm>,
     pub yes: Shared<CTerm>,
     pub no: Shared<CTerm>,
+}
+
+/// A term's first quotient: what is divided, by what, and the term with a variable in the quotient's place.
+#[derive(Drop)]
+pub struct Taken {
+    pub of: Shared<CTerm>,
+    pub divisor: i64,
+    pub rest: Shared<CTerm>,
+}
+
+/// A formula's first quotient, and the formula with a variable in its place.
+#[derive(Drop)]
+pub struct Replaced {
+    pub taken: Taken,
+    pub form: CForm,
 }
 
 /// A one-variable fact that bounds its variable: the fact's place in a list, and its constant. Of two

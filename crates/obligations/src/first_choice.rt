@@ -1,7 +1,7 @@
 // A term's first `Ite`. Nodes have functions of their own, so that the frames are small, and a deep term is
 // gone through within an ordinary stack.
 ghost use Rattle.std.specs.Prelude.{◌≡◌, IfOk, Some};
-ghost use Rattle.core_terms.specs.declared.trees.CTerm.TheVariants.{Add, Sub, Scale};
+ghost use Rattle.core_terms.specs.declared.trees.CTerm.TheVariants.{Add, Sub, Scale, Div, Mod};
 ghost use Rattle.obligations.specs.Settling.{within, first_ite};
 
 use crate::branches::Choice;
@@ -102,6 +102,36 @@ fn in_multiple(
     Ok(Some(Held::new(alloc, Choice { when, yes, no })?))
 }
 
+/// A choice in what is divided.
+#[inline(never)]
+fn in_quotient(
+    alloc: Global,
+    choice: Held<Choice>,
+    k: &i64,
+) -> Result<Option<Held<Choice>>, AllocError>
+    ensures { IfOk result (λ o. o ≡ Some (within (λ x. Div x k.now) choice)) }
+{
+    let Choice { when, yes, no } = choice.into_inner();
+    let yes = Shared::new(alloc, CTerm::Div(yes, *k))?;
+    let no = Shared::new(alloc, CTerm::Div(no, *k))?;
+    Ok(Some(Held::new(alloc, Choice { when, yes, no })?))
+}
+
+/// A choice in what a remainder is left of.
+#[inline(never)]
+fn in_remainder(
+    alloc: Global,
+    choice: Held<Choice>,
+    k: &i64,
+) -> Result<Option<Held<Choice>>, AllocError>
+    ensures { IfOk result (λ o. o ≡ Some (within (λ x. Mod x k.now) choice)) }
+{
+    let Choice { when, yes, no } = choice.into_inner();
+    let yes = Shared::new(alloc, CTerm::Mod(yes, *k))?;
+    let no = Shared::new(alloc, CTerm::Mod(no, *k))?;
+    Ok(Some(Held::new(alloc, Choice { when, yes, no })?))
+}
+
 /// A term's first `Ite` in reading order, one before those inside it. `None` where it has none.
 #[cycle(choices)]
 pub fn find_choice(alloc: Global, t: &CTerm) -> Result<Option<Held<Choice>>, AllocError>
@@ -119,6 +149,8 @@ pub fn find_choice(alloc: Global, t: &CTerm) -> Result<Option<Held<Choice>>, All
             }
             Ok(None)
         }
+        CTerm::Div(a, k) => find_in_quotient(alloc, a, k),
+        CTerm::Mod(a, k) => find_in_remainder(alloc, a, k),
         CTerm::Ite(c, a, b) => choice_of(alloc, c, a, b),
     }
 }
@@ -155,6 +187,36 @@ fn find_in_difference(
     }
     if let Some(choice) = find_choice(alloc, b.get())? {
         return in_difference_second(alloc, a, choice);
+    }
+    Ok(None)
+}
+
+#[cycle(choices)]
+#[inline(never)]
+fn find_in_quotient(
+    alloc: Global,
+    a: &Shared<CTerm>,
+    k: &i64,
+) -> Result<Option<Held<Choice>>, AllocError>
+    ensures { IfOk result (λ o. o ≡ first_ite (Div a.now k.now)) }
+{
+    if let Some(choice) = find_choice(alloc, a.get())? {
+        return in_quotient(alloc, choice, k);
+    }
+    Ok(None)
+}
+
+#[cycle(choices)]
+#[inline(never)]
+fn find_in_remainder(
+    alloc: Global,
+    a: &Shared<CTerm>,
+    k: &i64,
+) -> Result<Option<Held<Choice>>, AllocError>
+    ensures { IfOk result (λ o. o ≡ first_ite (Mod a.now k.now)) }
+{
+    if let Some(choice) = find_choice(alloc, a.get())? {
+        return in_remainder(alloc, choice, k);
     }
     Ok(None)
 }

@@ -3,7 +3,7 @@ ghost use Rattle.obligations.specs.Settling.{SettledHolds, RefusedHolds};
 ghost use Rattle.obligations.specs.Opening.{FirstHolds};
 ghost use Rattle.obligations.specs.Variables.{ObligationMeans};
 ghost use Rattle.obligations.specs.Obligations.{HasVariables, HasSmallLoad, HasSmallWidth, HasSoundRanges};
-ghost use Rattle.obligations.specs.Obligations.{WeightSettles};
+ghost use Rattle.obligations.specs.Obligations.{WeightSettles, HasOwn, ScopeVariables, ScopeRoom};
 
 /// A branch with a formula settled holds exactly where the branch and the formula do; with its negation
 /// settled, where the branch does and the formula does not. An obligation's first branch holds exactly
@@ -18,6 +18,9 @@ pub fn settling_laws()
 /// what its validity says of states.
 pub fn obligation_laws()
     ensures variables { HasVariables }
+    ensures own { HasOwn }
+    ensures scope { ScopeVariables }
+    ensures room { ScopeRoom }
     ensures load { HasSmallLoad }
     ensures width { HasSmallWidth }
     ensures ranges { HasSoundRanges }

@@ -5,21 +5,26 @@
 mod branches;
 mod certificates;
 mod first_choice;
+mod first_quotient;
 mod laws;
 mod linear;
 mod making;
 mod occurrence;
 mod opening;
+mod quotients;
+mod scopes;
 mod settling;
 mod shapes;
 mod small;
 
-pub use branches::{Bound, Branch, Choice, Fact, Line, Obligation, Variable};
+pub use branches::{Bound, Branch, Choice, Fact, Line, Obligation, Replaced, Taken, Variable};
 pub use certificates::{Cert, Node, units};
 pub use laws::{obligation_laws, settling_laws};
 pub use linear::{fact_from, factor_at, zero_line};
 pub use making::{TooLargeError, make, with_variables};
 pub use opening::open_branch;
+pub use quotients::{add_quotient, is_either, without_quotient};
+pub use scopes::{has_room, next_param, scope_of};
 pub use settling::{refuse_onto, settle, settle_onto};
 pub use shapes::{height, need};
 pub use small::{small_product, small_sum};

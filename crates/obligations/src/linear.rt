@@ -203,6 +203,8 @@ fn add_term(vs: &[Variable], t: &CTerm, factor: &i128, sum: &mut Line)
                 add_term(vs, a.get(), &product, sum);
             }
         }
+        CTerm::Div(..) => {}
+        CTerm::Mod(..) => {}
         CTerm::Ite(..) => {}
     }
 }

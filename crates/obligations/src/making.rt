@@ -29,6 +29,7 @@ ghost use Rattle.obligations.specs.Obligations.{are_in_order, is_within_limits, 
 
 use crate::branches::Obligation;
 use crate::occurrence::add_occurring;
+use crate::scopes::next_param;
 use crate::shapes::capped_height;
 use core_terms::{CForm, CSlot, Range, size_within, weight_of};
 use std::alloc::{AllocError, Global};
@@ -39,7 +40,7 @@ use unity_base::Seq;
 pub enum TooLargeError {
     /// The height is more than 960, the size more than 65,536 nodes, or the weight more than 2^62.
     TooLarge,
-    /// Memory was refused.
+    /// Memory was refused, or a parameter that occurs has a number of 2^31 or more.
     Memory,
 }
 
@@ -110,7 +111,8 @@ fn is_low(o: &Obligation) -> bool
 /// The obligation that a formula holds: its variables are the slots and the parameters that occur in
 /// it, slots by number and then parameters by number, each with its range. Where it is valid, the
 /// formula is true at every state and all parameters in the ranges. The error is `TooLarge` exactly
-/// where height, size or weight are past their limits.
+/// where height, size or weight are past their limits, and `Memory` also where a parameter that occurs
+/// has a number of 2^31 or more.
 pub fn make(
     alloc: Global,
     form: CForm,
@@ -132,9 +134,12 @@ pub fn make(
     }
     let ranges = slot_ranges(alloc, slots)?;
     let obligation = with_variables(alloc, form, ranges.as_slice(), params)?;
-    if is_low(&obligation) {
+    if !is_low(&obligation) {
+        return Err(TooLargeError::TooLarge);
+    }
+    if next_param(obligation.variables.as_slice()) <= 1 << 31 {
         Ok(obligation)
     } else {
-        Err(TooLargeError::TooLarge)
+        Err(TooLargeError::Memory)
     }
 }

@@ -47,6 +47,8 @@ fn mark_term(t: &CTerm, param: bool, marks: &mut Seq<Option<u32>>)
             mark_term(b.get(), param, marks);
         }
         CTerm::Scale(_, a) => mark_term(a.get(), param, marks),
+        CTerm::Div(a, _) => mark_term(a.get(), param, marks),
+        CTerm::Mod(a, _) => mark_term(a.get(), param, marks),
         CTerm::Ite(c, a, b) => {
             mark_form(c.get(), param, marks);
             mark_term(a.get(), param, marks);

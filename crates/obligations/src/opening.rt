@@ -68,11 +68,13 @@ pub fn open_branch(alloc: Global, o: &Obligation) -> Result<Branch, AllocError>
     requires load { form_load o.now.form ≤ 2 ^ 62 }
     ensures branch { IfOk result (λ b. b ≡ first_branch o.now) }
     ensures holds { IfOk result (λ b. HoldsWhereFalse o.now b) }
+    ensures added { IfOk result (λ b. b.added ≡ 0) }
 {
     let vs = o.variables.as_slice();
     let mut branch = Branch {
         facts: ranges_of(alloc, vs)?,
         waiting: Seq::new(alloc),
+        added: 0,
     };
     refuse_onto(alloc, vs, &o.form, &mut branch)?;
     Ok(branch)

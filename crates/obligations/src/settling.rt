@@ -1,5 +1,5 @@
 //! Settling: a formula that is taken to hold, or to fail, is taken apart onto a branch.
-ghost use Rattle.std.specs.Prelude.{◌≡◌, ◌+◌, ◌^◌, ◌≤◌, ◌<◌, length, pos, negsuc, OnOk, IfOk, [], ◌∷◌};
+ghost use Rattle.std.specs.Prelude.{◌≡◌, ◌+◌, ◌^◌, ◌≤◌, ◌<◌, length, pos, negsuc, None, OnOk, IfOk, [], ◌∷◌};
 ghost use Rattle.core_terms.specs.declared.trees.CTerm.TheVariants.{Const, Sub};
 ghost use Rattle.core_terms.specs.declared.trees.CForm.TheVariants.{AtLeast, Zero, Not, And, Or};
 ghost use Rattle.obligations.specs.Settling.{settled, refused, joined, one_waiting, false_fact, one_fact, two_facts};
@@ -7,18 +7,21 @@ ghost use Rattle.obligations.specs.Settling.{first_ite, least_adds, zero_adds, u
 ghost use Rattle.obligations.specs.Settling.{HoldsWith};
 ghost use Rattle.obligations.specs.LinearForms.{linear, negated};
 ghost use Rattle.obligations.specs.Load.{need, term_load};
-ghost use Rattle.obligations.specs.Obligations.{AreVariables};
+ghost use Rattle.obligations.specs.Obligations.{AreVariables, AreOwn};
+ghost use Rattle.obligations.specs.Scopes.{scope_of};
 
 use crate::branches::{Branch, Choice, Fact, Obligation, Variable};
 use crate::first_choice::find_choice;
+use crate::first_quotient::has_quotient;
 use crate::linear::{fact_from, line_of, negative_of};
-use core_terms::{CForm, CTerm, held_term, owned_term};
+use crate::scopes::scope_of;
+use core_terms::{CForm, CTerm, copy_term, held_term, owned_term};
 use std::alloc::{AllocError, Global};
 use unity_base::{Held, Seq, Shared};
 
 /// Adds a fact.
 pub fn add_fact(fact: Fact, branch: &mut Branch) -> Result<(), AllocError>
-    ensures { OnOk result (branch.new ≡ joined branch.old (record { facts = fact ∷ []; waiting = [] })) }
+    ensures { OnOk result (branch.new ≡ joined branch.old (record { facts = fact ∷ []; waiting = []; added = 0 })) }
 {
     branch.facts.push(fact)?;
     Ok(())
@@ -145,6 +148,39 @@ fn add_negative(
     Ok(())
 }
 
+/// That a term is at least 0.
+fn least_of(alloc: Global, t: &CTerm) -> Result<Shared<CForm>, AllocError>
+    ensures { IfOk result (λ f. f ≡ AtLeast t.now) }
+{
+    Shared::new(alloc, CForm::AtLeast(copy_term(alloc, t)?))
+}
+
+/// That a term is 0.
+fn zero_of(alloc: Global, t: &CTerm) -> Result<Shared<CForm>, AllocError>
+    ensures { IfOk result (λ f. f ≡ Zero t.now) }
+{
+    Shared::new(alloc, CForm::Zero(copy_term(alloc, t)?))
+}
+
+/// Adds the fact of a term without an `Ite`, or that the term waits where it has a quotient.
+fn add_least_plain(
+    alloc: Global,
+    vs: &[Variable],
+    t: &CTerm,
+    branch: &mut Branch,
+) -> Result<(), AllocError>
+    requires variables { AreVariables vs.now }
+    requires load { (term_load t.now).own ≤ 2 ^ 126 }
+    ensures { OnOk result (branch.new ≡ joined branch.old (least_adds vs.now t.now None)) }
+{
+    if has_quotient(t) {
+        let form = least_of(alloc, t)?;
+        add_waiting(form, branch)
+    } else {
+        add_least(alloc, vs, t, branch)
+    }
+}
+
 /// Adds a term's fact, or the choice that it has to wait for.
 fn add_least_or(
     alloc: Global,
@@ -158,7 +194,7 @@ fn add_least_or(
     ensures { OnOk result (branch.new ≡ joined branch.old (least_adds vs.now t.now choice)) }
 {
     match choice {
-        None => add_least(alloc, vs, t, branch),
+        None => add_least_plain(alloc, vs, t, branch),
         Some(choice) => {
             let form = least_choice(alloc, choice)?;
             add_waiting(form, branch)
@@ -235,6 +271,25 @@ fn add_zero(
     Ok(())
 }
 
+/// Adds both facts of a term without an `Ite`, or that the term waits where it has a quotient.
+fn add_zero_plain(
+    alloc: Global,
+    vs: &[Variable],
+    t: &CTerm,
+    branch: &mut Branch,
+) -> Result<(), AllocError>
+    requires variables { AreVariables vs.now }
+    requires load { (term_load t.now).own ≤ 2 ^ 126 }
+    ensures { OnOk result (branch.new ≡ joined branch.old (zero_adds vs.now t.now None)) }
+{
+    if has_quotient(t) {
+        let form = zero_of(alloc, t)?;
+        add_waiting(form, branch)
+    } else {
+        add_zero(alloc, vs, t, branch)
+    }
+}
+
 /// Adds a term's two facts, or the choice that it has to wait for.
 fn add_zero_or(
     alloc: Global,
@@ -248,7 +303,7 @@ fn add_zero_or(
     ensures { OnOk result (branch.new ≡ joined branch.old (zero_adds vs.now t.now choice)) }
 {
     match choice {
-        None => add_zero(alloc, vs, t, branch),
+        None => add_zero_plain(alloc, vs, t, branch),
         Some(choice) => {
             let form = zero_choice(alloc, choice)?;
             add_waiting(form, branch)
@@ -348,13 +403,15 @@ fn wait_nots(
 /// A branch with a formula settled: the branch that holds exactly where the old one and the formula do.
 #[tactic(auto, using(crate::proofs::SettlingLaws::settled_laws))]
 pub fn settle(alloc: Global, o: &Obligation, b: Branch, todo: CForm) -> Result<Branch, AllocError>
-    requires variables { AreVariables o.now.variables }
-    requires light { (need todo).yes ≤ 2 ^ 63 }
-    ensures branch { IfOk result (λ c. c ≡ settled o.now.variables todo b) }
+    requires variables { AreOwn o.now.variables }
+    requires added { b.added ≤ 4096 }
+    requires light { (need todo).yes ≤ 2 ^ 66 }
+    ensures branch { IfOk result (λ c. c ≡ settled (scope_of o.now.variables b) todo b) }
     ensures holds { IfOk result (λ c. HoldsWith o.now b todo c) }
 {
+    let variables = scope_of(alloc, o.variables.as_slice(), b.added)?;
     let mut branch = b;
-    settle_onto(alloc, o.variables.as_slice(), &todo, &mut branch)?;
+    settle_onto(alloc, variables.as_slice(), &todo, &mut branch)?;
     Ok(branch)
 }
 
@@ -367,7 +424,7 @@ pub fn settle_onto(
     branch: &mut Branch,
 ) -> Result<(), AllocError>
     requires variables { AreVariables vs.now }
-    requires light { (need f.now).yes ≤ 2 ^ 63 }
+    requires light { (need f.now).yes ≤ 2 ^ 66 }
     ensures { OnOk result (branch.new ≡ settled vs.now f.now branch.old) }
 {
     match f {
@@ -393,7 +450,7 @@ pub fn refuse_onto(
     branch: &mut Branch,
 ) -> Result<(), AllocError>
     requires variables { AreVariables vs.now }
-    requires light { (need f.now).no ≤ 2 ^ 63 }
+    requires light { (need f.now).no ≤ 2 ^ 66 }
     ensures { OnOk result (branch.new ≡ refused vs.now f.now branch.old) }
 {
     match f {

@@ -1,9 +1,10 @@
 // How high an obligation's tree can be, and how many units a search for it can need.
-ghost use Rattle.std.specs.Prelude.{◌≡◌, ◌+◌, ◌*◌, ◌^◌, ◌≤◌, ◌<◌, min, max, length, MatchOption};
+ghost use Rattle.std.specs.Prelude.{◌≡◌, ℕ, ◌+◌, ◌*◌, ◌^◌, ◌≤◌, ◌<◌, min, max, length, MatchOption};
 ghost use Rattle.core_terms.specs.declared.trees.CTerm.TheVariants.{Ite};
 ghost use Rattle.core_terms.specs.declared.trees.CForm.TheVariants.{AtLeast, Zero, Not, And, Or};
 ghost use Rattle.obligations.specs.Shapes.{term_shape, shapes};
-ghost use Rattle.obligations.specs.Plain.{range_size, volume, halvings, cuts_of, ranges_of, height_of, need_of};
+ghost use Rattle.obligations.specs.Plain.{range_size, volume, halvings, cuts_of, ranges_of, height_of, leaf_units};
+ghost use Rattle.obligations.specs.Plain.{need_of};
 ghost use Rattle.obligations.specs.Obligations.{IsObligation};
 
 use crate::branches::{Obligation, Variable};
@@ -75,11 +76,79 @@ fn term_cases(t: &CTerm) -> u64
         CTerm::Add(a, b) => plus(term_cases(a.get()), term_cases(b.get())),
         CTerm::Sub(a, b) => plus(term_cases(a.get()), term_cases(b.get())),
         CTerm::Scale(_, a) => term_cases(a.get()),
+        CTerm::Div(a, _) => plus(3, term_cases(a.get())),
+        CTerm::Mod(a, _) => plus(3, term_cases(a.get())),
         CTerm::Ite(c, a, b) => {
             let when = form_cases(c.get());
             let yes = plus(when.0, term_cases(a.get()));
             let no = plus(when.1, term_cases(b.get()));
             plus(1, yes.max(no))
+        }
+    }
+}
+
+// The quotients of two formulas one after the other, and the greater number of two others.
+fn quotients_of_two(both: (u64, u64), either: (u64, u64)) -> (u64, u64)
+    ensures both { result.0 ≡ min (both.0 + both.1) (2 ^ 63) }
+    ensures either { result.1 ≡ max either.0 either.1 }
+{
+    (plus(both.0, both.1), either.0.max(either.1))
+}
+
+// The quotients of a formula and of its negation, or 2^63 where there are more.
+#[cycle(quotients)]
+fn form_quotients(f: &CForm) -> (u64, u64)
+    ensures yes { result.0 ≡ min (shapes f.now).yes.quotients (2 ^ 63) }
+    ensures no { result.1 ≡ min (shapes f.now).no.quotients (2 ^ 63) }
+{
+    match f {
+        CForm::Top => (0, 0),
+        CForm::Bottom => (0, 0),
+        CForm::AtLeast(t) => {
+            let quotients = term_quotients(t);
+            (quotients, quotients)
+        }
+        CForm::Zero(t) => {
+            let quotients = term_quotients(t);
+            (quotients, quotients)
+        }
+        CForm::Not(g) => {
+            let quotients = form_quotients(g.get());
+            (quotients.1, quotients.0)
+        }
+        CForm::And(g, h) => {
+            let first = form_quotients(g.get());
+            let second = form_quotients(h.get());
+            quotients_of_two((first.0, second.0), (first.1, second.1))
+        }
+        CForm::Or(g, h) => {
+            let first = form_quotients(g.get());
+            let second = form_quotients(h.get());
+            let quotients = quotients_of_two((first.1, second.1), (first.0, second.0));
+            (quotients.1, quotients.0)
+        }
+    }
+}
+
+// The quotients of a term, or 2^63 where there are more.
+#[cycle(quotients)]
+fn term_quotients(t: &CTerm) -> u64
+    ensures { result ≡ min (term_shape t.now).quotients (2 ^ 63) }
+{
+    match t {
+        CTerm::Const(_) => 0,
+        CTerm::Slot(_) => 0,
+        CTerm::Param(_) => 0,
+        CTerm::Add(a, b) => plus(term_quotients(a.get()), term_quotients(b.get())),
+        CTerm::Sub(a, b) => plus(term_quotients(a.get()), term_quotients(b.get())),
+        CTerm::Scale(_, a) => term_quotients(a.get()),
+        CTerm::Div(a, _) => plus(1, term_quotients(a.get())),
+        CTerm::Mod(a, _) => plus(1, term_quotients(a.get())),
+        CTerm::Ite(c, a, b) => {
+            let when = form_quotients(c.get());
+            let yes = plus(when.0, term_quotients(a.get()));
+            let no = plus(when.1, term_quotients(b.get()));
+            yes.max(no)
         }
     }
 }
@@ -234,6 +303,8 @@ fn term_leaves(t: &CTerm) -> u128
         CTerm::Add(a, b) => times(term_leaves(a.get()), term_leaves(b.get())),
         CTerm::Sub(a, b) => times(term_leaves(a.get()), term_leaves(b.get())),
         CTerm::Scale(_, a) => term_leaves(a.get()),
+        CTerm::Div(a, _) => term_leaves(a.get()),
+        CTerm::Mod(a, _) => term_leaves(a.get()),
         CTerm::Ite(c, a, b) => choice_leaves(c, a, b),
     }
 }
@@ -260,18 +331,28 @@ fn volume_of(vs: &[Variable]) -> u128
     total
 }
 
+// The units that closing one leaf may take, or 2^127 where there are more; of so many quotients, or of 2^63 or more.
+#[tactic(auto, using(crate::proofs::ShapeLaws::unit_laws))]
+fn capped_units(variables: usize, quotients: u64) -> u128
+    requires { quotients ≤ 2 ^ 63 }
+    ensures { (q : ℕ) → quotients ≡ min q (2 ^ 63) → result ≡ min (leaf_units variables q) (2 ^ 127) }
+{
+    let quotients = quotients as u128;
+    times(2 * quotients + 1, variables as u128 + quotients + 256)
+}
+
 // The need, or 2^127 where it is more.
 fn capped_need(o: &Obligation) -> u128
     ensures { result ≡ min (need_of o.now) (2 ^ 127) }
 {
     let vs = o.variables.as_slice();
     let leaves = times(form_leaves(&o.form).1, volume_of(vs));
-    times(leaves, vs.len() as u128 + 256)
+    times(leaves, capped_units(vs.len(), form_quotients(&o.form).1))
 }
 
 /// The units that always suffice for a search: the leaves of the form's negation, times the values of
-/// all variables together, times 256 more than there are variables. `None` exactly where that is 2^127
-/// or more.
+/// all variables together, times the units that closing one leaf may take. `None` exactly where that is
+/// 2^127 or more.
 pub fn need(o: &Obligation) -> Option<u128>
     ensures { MatchOption result (2 ^ 127 ≤ need_of o.now) (λ n. (n ≡ need_of o.now) × (n < 2 ^ 127)) }
 {

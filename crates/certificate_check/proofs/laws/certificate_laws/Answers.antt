@@ -1,4 +1,5 @@
-use Rattle.certificate_check.proofs.RefutationLaws.{walk-appends, keeps, sound}
+use Rattle.certificate_check.proofs.RefutationLaws.{walk-appends}
+use Rattle.certificate_check.proofs.SoundLaws.{keeps, sound}
 use Rattle.certificate_check.proofs.WholeLaws.{walk-is-tree, more-levels}
 use Rattle.certificate_check.proofs.laws.certificate_laws.Goals as goal
 

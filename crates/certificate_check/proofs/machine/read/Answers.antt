@@ -7,4 +7,5 @@ use Rattle.certificate_check.proofs.machine.read.Goals as goal
 pub returns : goal.returns
 returns c =
     read-ends c.args.vs.now c.args.nodes.now (allowing c.args.levels c.args.first)
-    (pendings c.args.vs.now c.loop-place.machine) c.loop-place.place (omega arith) c.loop-place.invariant.walked c.requires.whole
+    (pendings c.args.vs.now c.loop-place.machine) c.loop-place.place (omega arith) c.loop-place.invariant.walked
+    c.requires.whole

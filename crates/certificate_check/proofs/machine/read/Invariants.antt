@@ -1,6 +1,6 @@
 use Rattle.std.proofs.Common.{◌≡◌, ◌∷◌, [], drop}
 use Rattle.certificate_check.specs.Refutation.{walk, allowing}
-use Rattle.certificate_check.specs.Machines.{IsFit, IsLightMachine, pendings}
+use Rattle.certificate_check.specs.Machines.{IsFit, IsLightMachine, IsScoped, pendings}
 use Rattle.certificate_check.proofs.machine.read.Given as goal
 
 abbrev pub invariant-loop-place : goal.invariant-loop-place
@@ -9,4 +9,5 @@ invariant-loop-place l = record {
       ≡ walk l.vs l.nodes (allowing l.fn.levels l.fn.first ∷ []) 0;
   fit : IsFit l.machine;
   light : IsLightMachine l.machine;
+  scoped : IsScoped l.vs l.machine;
 }

@@ -10,3 +10,9 @@ decreases-find_in_sum l = 2 * max (size-CTerm l.a.now) (size-CTerm l.b.now) + 1
 
 abbrev pub decreases-find_in_difference : goal.decreases-find_in_difference
 decreases-find_in_difference l = 2 * max (size-CTerm l.a.now) (size-CTerm l.b.now) + 1
+
+abbrev pub decreases-find_in_quotient : goal.decreases-find_in_quotient
+decreases-find_in_quotient l = 2 * size-CTerm l.a.now + 1
+
+abbrev pub decreases-find_in_remainder : goal.decreases-find_in_remainder
+decreases-find_in_remainder l = 2 * size-CTerm l.a.now + 1

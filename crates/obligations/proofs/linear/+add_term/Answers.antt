@@ -4,7 +4,8 @@ use Rattle.core_terms.specs.declared.trees.CTerm.TheVariants.{Add, Sub, Scale}
 use Rattle.obligations.specs.LinearForms.{line_plus, linear}
 use Rattle.obligations.specs.Load.{norm, term_load}
 use Rattle.obligations.proofs.LineLaws.{length-add_at}
-use Rattle.obligations.proofs.LoadLaws.{add-Const, add-Slot, add-Param, add-Add, add-Sub, add-Scale, add-Ite}
+use Rattle.obligations.proofs.LoadLaws.{add-Const, add-Slot, add-Param, add-Add, add-Sub, add-Scale, add-Ite, add-Div}
+use Rattle.obligations.proofs.LoadLaws.{add-Mod}
 use Rattle.obligations.proofs.LoadLaws.{add-nothing, room-Add, room-Sub, room-Scale, trip-small}
 use Rattle.obligations.proofs.TreeSizes.{size-Add, size-Sub, size-Scale}
 use Rattle.obligations.proofs.linear.+add_term.Goals as goal
@@ -113,6 +114,16 @@ pub returns-in_default-clause-sum : goal.returns-in_default-clause-sum
 returns-in_default-clause-sum t c =
     add-nothing c.args.vs.now c.args.factor.now c.in-Scale.k c.in-Scale.a c.args.t.now c.args.sum.now c.in-Scale.is
     c.requires.size c.in_default.ensures.value c.requires.room
+
+pub returns-in-Div-clause-sum : goal.returns-in-Div-clause-sum
+returns-in-Div-clause-sum t c =
+    add-Div c.args.vs.now c.args.factor.now c.args.sum.now c.in-Div.field-0 c.in-Div.field-1
+    ∙ ap (λ u. line_plus c.args.factor.now c.args.sum.now (linear c.args.vs.now u)) (sym c.in-Div.is)
+
+pub returns-in-Mod-clause-sum : goal.returns-in-Mod-clause-sum
+returns-in-Mod-clause-sum t c =
+    add-Mod c.args.vs.now c.args.factor.now c.args.sum.now c.in-Mod.field-0 c.in-Mod.field-1
+    ∙ ap (λ u. line_plus c.args.factor.now c.args.sum.now (linear c.args.vs.now u)) (sym c.in-Mod.is)
 
 pub returns-in-Ite-clause-sum : goal.returns-in-Ite-clause-sum
 returns-in-Ite-clause-sum t c =

@@ -9,12 +9,12 @@ use Rattle.obligations.proofs.settling.+settle.Goals as goal
 
 pub settle_onto-settle_least-requires-clause-load : goal.settle_onto-settle_least-requires-clause-load
 settle_onto-settle_least-requires-clause-load t c =
-    let h = least-load c.in-AtLeast.t c.args.f.now (2 ^ 63) c.in-AtLeast.is c.requires.light in
+    let h = least-load c.in-AtLeast.t c.args.f.now (2 ^ 66) c.in-AtLeast.is c.requires.light in
     omega (arith, h)
 
 pub settle_onto-settle_zero-requires-clause-load : goal.settle_onto-settle_zero-requires-clause-load
 settle_onto-settle_zero-requires-clause-load t c =
-    let h = zero-load c.in-Zero.t c.args.f.now (2 ^ 63) c.in-Zero.is c.requires.light in
+    let h = zero-load c.in-Zero.t c.args.f.now (2 ^ 66) c.in-Zero.is c.requires.light in
     omega (arith, h)
 
 pub settle_onto-returns-in-Bottom : goal.settle_onto-returns-in-Bottom
@@ -57,7 +57,7 @@ settle_onto-returns-in-Or t c =
 
 pub refuse_onto-refuse_least-requires-clause-load : goal.refuse_onto-refuse_least-requires-clause-load
 refuse_onto-refuse_least-requires-clause-load t c =
-    let h = below-load c.in-AtLeast.t c.args.f.now (2 ^ 63) c.in-AtLeast.is c.requires.light in
+    let h = below-load c.in-AtLeast.t c.args.f.now (2 ^ 66) c.in-AtLeast.is c.requires.light in
     omega (arith, h)
 
 pub refuse_onto-returns-in-Top : goal.refuse_onto-returns-in-Top
