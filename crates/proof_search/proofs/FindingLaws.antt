@@ -1,35 +1,41 @@
 -- What the searches find.
-use Rattle.std.proofs.Common.{◌≡◌, ℕ, ℤ, not, suc, ◌+◌, ◌-◌, ◌*◌, ◌≤◌, ◌<◌, ◌^◌, min, true, Some, Ok, List, [], ◌∷◌}
-use Rattle.std.proofs.Common.{length, arith, refl, sym, ap, subst, ◌∙◌}
+use Rattle.std.proofs.Common.{◌≡◌, ℕ, ℤ, not, ◌+◌, ◌-◌, ◌*◌, ◌≤◌, ◌<◌, min, List, []}
+use Rattle.std.proofs.Common.{length, mul-le-mul, le_refl, arith, refl, sym, ap, subst, ◌∙◌}
 use Rattle.std.proofs.Math.Nat.{mul-le-mul_right}
-use Rattle.std.specs.List.{list_all}
 use Rattle.obligations.specs.declared.branches.Branch.{Branch}
 use Rattle.obligations.specs.declared.branches.Obligation.{Obligation}
 use Rattle.obligations.specs.declared.branches.Variable.{Variable}
 use Rattle.obligations.specs.declared.certificates.Node.{Node}
 use Rattle.obligations.specs.Certificates.{units}
-use Rattle.obligations.specs.Load.{is_light_branch}
 use Rattle.obligations.specs.Obligations.{IsObligation}
 use Rattle.obligations.specs.Opening.{in_ranges, first_branch}
 use Rattle.obligations.specs.Settling.{form_at}
 use Rattle.obligations.proofs.OpeningLaws.{first-holds}
 use Rattle.std.proofs.lemmas.Bool.{and_parts, not-true}
-use Rattle.obligations.specs.Plain.{ranges_of, plain_leaves, leaf_units, enough, need_of}
+use Rattle.obligations.specs.Plain.{ranges_of, plain_leaves, leaf_units_of, quotients_in, enough}
+use Rattle.obligations.specs.Scopes.{scope_of}
 use Rattle.obligations.proofs.NumberLaws.{obligation-variables, obligation-load}
-use Rattle.linear_prover.specs.Chains.{is_plain_node}
 use Rattle.search_tree.specs.declared.plain_tree.Trail.{Trail}
 use Rattle.search_tree.specs.declared.plain_tree.Ended.{Ended}
 use Rattle.search_tree.specs.declared.plain_tree.Found.{Found}
-use Rattle.search_tree.specs.Left.{left}
-use Rattle.search_tree.specs.Searching.{root, Proof, Counterexample, SearchAnswers, found_of, Met}
+use Rattle.search_tree.specs.Searching.{root, Proof, Counterexample, SearchAnswers, Met}
 use Rattle.search_tree.proofs.ReadyLaws.{leaves-some, ready-root}
 use Rattle.search_tree.proofs.EnoughLaws.{enough-below}
-use Rattle.search_tree.proofs.RootLaws.{left-walk, left-whole}
-use Rattle.proof_search.specs.Guided.{Closing, Guides, IsWholeWalk, chosen_of}
+use Rattle.search_tree.proofs.RootLaws.{left-walk, left-whole, no-quotients, root-met}
+use Rattle.proof_search.specs.Guided.{Guided, Closing, Guides, IsWholeWalk, chosen_of}
 
-pub root-light : (o : Obligation) (b : Branch) → IsObligation o → b ≡ first_branch o → is_light_branch (2 ^ 63) b ≡
-    true
-root-light o b m e = ap (is_light_branch (2 ^ 63)) e ∙ (ready-root o m).light
+-- the guided search may begin
+root-guided : (o : Obligation) → IsObligation o → Guided o.variables 960 (first_branch o)
+root-guided o m =
+    let r = ready-root o m in record { light = r.light; deep = omega arith; closed = r.closed }
+
+pub root-ready : (o : Obligation) (vs : List Variable) (b : Branch) → IsObligation o → vs ≡ o.variables →
+    b ≡ first_branch o → Guided vs 960 b
+root-ready o vs b m p q =
+    subst (λ z. Guided z 960 b) (sym p) (subst (Guided o.variables 960) (sym q) (root-guided o m))
+
+pub root-scope : (o : Obligation) (vs : List Variable) (b : Branch) → b ≡ first_branch o → vs ≡ scope_of vs b
+root-scope o vs b q = sym (ap (scope_of vs) q)
 
 pub root-guides : (o : Obligation) (vs : List Variable) (b : Branch) (x y : Trail) (e : Ended) → vs ≡ o.variables → b
     ≡ first_branch o →
@@ -37,7 +43,7 @@ pub root-guides : (o : Obligation) (vs : List Variable) (b : Branch) (x y : Trai
 root-guides o vs b x y e p q g =
     subst (λ c. Guides o.variables 960 c x y e) q (subst (λ z. Guides z 960 b x y e) p g)
 
-pub ruleset root_laws = (obligation-variables, obligation-load, root-light, root-guides)
+pub ruleset root_laws = (obligation-variables, obligation-load, root-ready, root-scope, root-guides)
 
 proof-of : (o : Obligation) (budget : ℕ) (nodes : List Node) → IsObligation o → IsWholeWalk o nodes → units nodes ≤
     budget
@@ -47,6 +53,7 @@ proof-of o budget nodes m f h k =
     record {
       whole = f.whole;
       walked = f.walked;
+      found = f.found;
       plain = f.plain;
       within = h;
       cheap = k;
@@ -54,26 +61,34 @@ proof-of o budget nodes m f h k =
           (arith, k, below);
     }
 
+abbrev all_leaves : Obligation → ℕ
+all_leaves o = plain_leaves o.variables 960 (ranges_of o.variables) (first_branch o)
+
+-- a leaf has no fewer units than a short chain
+some-units : (o : Obligation) → length o.variables + 256 ≤ leaf_units_of o
+some-units o =
+    let q : ℕ = quotients_in o in let n : ℕ = length o.variables in
+    let more : (2 * q) * 0 ≤ (2 * q) * (n + q + 256) = mul-le-mul (le_refl (2 * q)) (omega arith) in
+    let whole : leaf_units_of o ≡ (n + q + 256) + (2 * q) * (n + q + 256) = omega arith in
+    omega (arith, more, whole)
+
 -- a leaf's units are within enough
 pub leaf-enough : (o : Obligation) (total : ℕ) → total ≤ length o.variables + 256 → total ≤ enough o
 leaf-enough o total k =
     let some = leaves-some o.variables 960 (ranges_of o.variables) (first_branch o) in
-    let more : 1 * leaf_units o.variables ≤ plain_leaves o.variables 960 (ranges_of o.variables) (first_branch o) *
-    leaf_units o.variables =
-    mul-le-mul_right (leaf_units o.variables) some in
-    omega (arith, k, more)
+    let more : 1 * leaf_units_of o ≤ all_leaves o * leaf_units_of o = mul-le-mul_right (leaf_units_of o) some in
+    let units = some-units o in
+    omega (arith, k, more, units)
 
 -- so are those of the leaves that were counted
 pub leaves-enough : (o : Obligation) (total wanted leaves unit : ℕ) →
     leaves ≡ min wanted (plain_leaves o.variables 960 (ranges_of o.variables) (first_branch o)) →
     unit ≡ length o.variables + 256 → total ≤ leaves * unit → total ≤ enough o
 leaves-enough o total wanted leaves unit n e k =
-    let h : leaves ≤ plain_leaves o.variables 960 (ranges_of o.variables) (first_branch o) = omega (arith, n) in
-    let same : leaves * unit ≡ leaves * leaf_units o.variables = ap (λ n. leaves * n) e in
-    let more : leaves * leaf_units o.variables ≤
-    plain_leaves o.variables 960 (ranges_of o.variables) (first_branch o) * leaf_units o.variables =
-    mul-le-mul_right (leaf_units o.variables) h in
-    omega (arith, k, same, more)
+    let h : leaves ≤ all_leaves o = omega (arith, n) in
+    let units = some-units o in
+    let more : leaves * unit ≤ all_leaves o * leaf_units_of o = mul-le-mul h (omega (arith, e, units)) in
+    omega (arith, k, more)
 
 pub ruleset enough_laws = (obligation-variables, leaf-enough, leaves-enough)
 
@@ -92,6 +107,7 @@ chosen-answers o budget total nodes (Found.Proved c) m f t h z a =
     record {
       whole = a.whole;
       walked = a.walked;
+      found = a.found;
       plain = a.plain;
       within = omega (arith, w, h);
       cheap = a.cheap;
@@ -110,7 +126,8 @@ pub closed-found : (o : Obligation) (budget spare : ℕ) (nodes : List Node) →
 closed-found o budget spare nodes c = record {
   whole = left-whole o.variables nodes (root o) (c.closes (root o) [] refl);
   walked = left-walk o.variables nodes (root o) [] 0 (c.closes (root o) [] refl);
-  plain = c.plain refl;
+  found = c.found refl;
+  plain = λ none. c.plain (no-quotients o none) refl;
 }
 
 pub closed-units : (o : Obligation) (budget spare : ℕ) (nodes : List Node) →
@@ -123,7 +140,7 @@ pub met-answers : (o : Obligation) (values : List ℤ) → Met o.variables (firs
     values
 met-answers o values c =
     let parts = and_parts (in_ranges o.variables values) (not (form_at o.variables values o.form))
-    (sym (first-holds o values c.long) ∙ c.holds) in
+    (sym (first-holds o values c.long) ∙ root-met o values c) in
     record { inside = parts.0; fails = not-true (form_at o.variables values o.form) parts.1 }
 
 pub ruleset ended_laws = (closed-found, closed-units, met-answers)

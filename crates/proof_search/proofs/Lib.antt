@@ -1,3 +1,3 @@
+pub mod FormLaws
 pub mod GuidedLaws
-pub mod ValueLaws
 pub mod FindingLaws

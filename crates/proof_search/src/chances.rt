@@ -1,4 +1,6 @@
 //! Whether formulas that are not settled may still hold within the limits. It guides only.
+ghost use Rattle.std.specs.Prelude.{pos, ◌≤ℤ◌};
+
 use crate::lines::{add_factor, factors_of, rewind, turn};
 use crate::watch::{Watch, high_value, joint_top, line_top, low_value};
 use core_terms::{CForm, CTerm};
@@ -141,6 +143,34 @@ fn either_of(a: Span, b: Span) -> Span {
     }
 }
 
+/// An end of a span divided by a number and rounded down. An open end stays open.
+fn quotient_end(end: i64, by: i64) -> i64
+    requires { pos 1 ≤ℤ by }
+{
+    if end == i64::MIN || end == i64::MAX {
+        end
+    } else {
+        end.div_euclid(by)
+    }
+}
+
+/// The span of quotients by a number.
+fn quotient_of(span: Span, k: i64) -> Span {
+    let by = k.max(1);
+    Span {
+        low: quotient_end(span.low, by),
+        high: quotient_end(span.high, by),
+    }
+}
+
+/// The span of what a division by a number leaves.
+fn rest_below(k: i64) -> Span {
+    Span {
+        low: 0,
+        high: k.max(1) - 1,
+    }
+}
+
 /// The span of a term within the limits.
 #[cycle(chances)]
 fn span_of(scene: Scene, t: &CTerm, watch: &mut Watch) -> Span {
@@ -160,6 +190,8 @@ fn span_of(scene: Scene, t: &CTerm, watch: &mut Watch) -> Span {
             sum_of(first, multiple_of(-1, span_of(scene, b.get(), watch)))
         }
         CTerm::Scale(k, a) => multiple_of(*k, span_of(scene, a.get(), watch)),
+        CTerm::Div(a, k) => quotient_of(span_of(scene, a.get(), watch), *k),
+        CTerm::Mod(_, k) => rest_below(*k),
         CTerm::Ite(c, a, b) => {
             let when = chance_of(scene, c.get(), watch);
             if !when.fails {
@@ -192,7 +224,7 @@ fn add_variable(
 }
 
 /// Adds a multiple of a term to the line from a place on, and gives its constant. `None` where there is no
-/// room, or an `Ite` of which either part may be meant.
+/// room, or an `Ite` of which either part may be meant, or a quotient.
 #[cycle(chances)]
 fn add_term(scene: Scene, t: &CTerm, by: i64, start: usize, watch: &mut Watch) -> Option<i64> {
     if !goes_on(watch) {
@@ -213,6 +245,8 @@ fn add_term(scene: Scene, t: &CTerm, by: i64, start: usize, watch: &mut Watch) -
             Some(first.saturating_add(second))
         }
         CTerm::Scale(k, a) => add_term(scene, a.get(), by.saturating_mul(*k), start, watch),
+        CTerm::Div(..) => None,
+        CTerm::Mod(..) => None,
         CTerm::Ite(c, a, b) => {
             let when = chance_of(scene, c.get(), watch);
             if !when.fails {

@@ -2,7 +2,6 @@
 //! the plain tree allows.
 ghost use Rattle.std.specs.Prelude.{◌≡◌, ◌+◌, ◌-◌, ◌≤◌, ◌<◌, ◌^◌, [], length, true, false, IfOk};
 ghost use Rattle.obligations.specs.Certificates.{units};
-ghost use Rattle.obligations.specs.Load.{is_light_branch};
 ghost use Rattle.obligations.specs.Obligations.{AreVariables, IsObligation};
 ghost use Rattle.obligations.specs.Opening.{first_branch};
 ghost use Rattle.obligations.specs.Plain.{enough};
@@ -11,7 +10,7 @@ ghost use Rattle.proof_search.specs.Guided.{Guides, chosen_of, IsWholeWalk};
 
 use crate::guided::guide;
 use crate::watch::new_watch;
-use obligations::{Branch, Cert, Node, Obligation, Variable, open_branch};
+use obligations::{Cert, Node, Obligation, Variable, has_room, open_branch};
 use search_tree::{Ended, Found, Trail, count_leaves, search_tree};
 use std::alloc::{AllocError, Global};
 use unity_base::Seq;
@@ -19,29 +18,19 @@ use unity_base::Seq;
 /// The most units of a guided search: where it needs more, the plain tree is searched.
 const GUIDED: u64 = 131_072;
 
-/// Guides the search of a branch.
-fn guide_branch(
-    alloc: Global,
-    vs: &[Variable],
-    branch: &mut Branch,
-    trail: &mut Trail,
-) -> Result<Ended, AllocError>
-    requires variables { AreVariables vs.now }
-    requires light { is_light_branch (2 ^ 63) branch.old ≡ true }
-    ensures { IfOk result (Guides vs.now 960 branch.old trail.old trail.new) }
-{
-    let mut watch = new_watch(alloc, vs.len())?;
-    guide(alloc, vs, 960, &mut watch, branch, trail)
-}
-
-/// Guides the search of an obligation's first branch.
+/// Guides the search of an obligation's first branch. Gives up where too few variables can be added.
 #[tactic(auto, using(crate::proofs::FindingLaws::root_laws))]
 fn guide_root(alloc: Global, o: &Obligation, trail: &mut Trail) -> Result<Ended, AllocError>
     requires { IsObligation o.now }
     ensures { IfOk result (Guides o.now.variables 960 (first_branch o.now) trail.old trail.new) }
 {
+    if !has_room(o) {
+        return Ok(Ended::Stopped);
+    }
     let mut branch = open_branch(alloc, o)?;
-    guide_branch(alloc, o.variables.as_slice(), &mut branch, trail)
+    let vs = o.variables.as_slice();
+    let mut watch = new_watch(alloc, vs.len())?;
+    guide(alloc, vs, vs, 960, &mut watch, &mut branch, trail)
 }
 
 /// What a search of the plain tree found, and in place of an ended budget the certificate of these nodes.

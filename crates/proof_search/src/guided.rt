@@ -1,32 +1,33 @@
 //! The guided search: at each branch first a fact that the limits refute; then the waiting formula that
-//! is best taken apart; where nothing waits, values, an elimination, and the narrowest range's halves.
-ghost use Rattle.std.specs.Prelude.{◌≡◌, ◌+◌, ◌-◌, ◌*◌, ◌≤◌, ◌<◌, ◌^◌, ◌++◌, ◌∷◌, [], suc, zero, ℤ, pos, ◌+ℤ◌, ◌*ℤ◌};
-ghost use Rattle.std.specs.Prelude.{◌<ℤ◌, true, false, drop, remove, insert, length, slice_get, Some, IfOk, IfSome};
-ghost use Rattle.std.specs.Prelude.{IsTrue, OnOk, MatchOption};
-ghost use Rattle.std.specs.List.{list_all};
-ghost use Rattle.std.specs.Option.{option_copied};
-ghost use Rattle.obligations.specs.LinearForms.{sum_of, fact_holds};
-ghost use Rattle.obligations.specs.Load.{need, is_light_branch};
-ghost use Rattle.obligations.specs.Obligations.{AreVariables, IsObligation};
-ghost use Rattle.obligations.specs.Opening.{at_most, at_least, first_branch};
-ghost use Rattle.obligations.specs.Settling.{settled, sides, added, without};
-ghost use Rattle.core_terms.specs.Values.{number_at};
+//! is best taken apart, where it has quotients these first; where nothing waits, values, an elimination, and the
+//! narrowest range's halves.
+ghost use Rattle.std.specs.Prelude.{◌≡◌, ◌+◌, ◌≤◌, ◌<◌, ◌^◌, ◌∷◌, [], suc, pos, ◌+ℤ◌};
+ghost use Rattle.std.specs.Prelude.{true, length, IfOk, IfSome, IsTrue};
+ghost use Rattle.obligations.specs.Load.{need, term_load};
+ghost use Rattle.obligations.specs.Obligations.{AreOwn, AreVariables};
+ghost use Rattle.obligations.specs.Opening.{at_most, at_least};
+ghost use Rattle.obligations.specs.Quotients as quotients;
+ghost use Rattle.obligations.specs.Quotients.{is_either, with_quotient};
+ghost use Rattle.obligations.specs.Scopes as scopes;
+ghost use Rattle.obligations.specs.Settling.{settled, sides, added};
 ghost use Rattle.linear_prover.specs.Chains.{Closes, is_plain_number};
 ghost use Rattle.search_tree.specs.Searching.{IsClosed, Met};
-ghost use Rattle.proof_search.specs.Guided.{Guides, ClosedNow, IsNotNegative, with_form};
+ghost use Rattle.proof_search.specs.Guided.{Guided, Guides, ClosedNow, with_form};
 
 use crate::chances::Scene;
 use crate::look::best_place;
+use crate::rounds::{guessed_values, rounded_chain};
 use crate::watch::{
-    Middle, Watch, has_conflict, low_values, mark_of, narrowest, refuting_pairs, take_back,
-    take_facts,
+    Middle, Watch, has_conflict, mark_of, narrowest, refuting_pairs, take_back, take_facts, widen,
 };
 use core_terms::CForm;
-use linear_prover::{eliminate, is_closing_sum, is_plain_chain};
-use obligations::{Branch, Fact, Node, Variable};
+use linear_prover::{eliminate, is_closing, is_closing_sum, is_plain_chain};
+use obligations::{
+    Branch, Fact, Node, Replaced, Variable, add_quotient, next_param, scope_of, without_quotient,
+};
 use search_tree::{
-    Ended, Halves, Trail, add_above, add_at_most, cut_back, finish, put_node, settle_first,
-    settle_second, split_node,
+    Ended, Halves, Trail, add_above, add_at_most, are_met, cut_back, finish, is_either, put_node,
+    settle_first, settle_second, split_node,
 };
 use std::alloc::{AllocError, Global};
 use unity_base::Seq;
@@ -100,9 +101,64 @@ fn found_chain(
     }
 }
 
-/// A chain of a fact that the limits refute, or where nothing waits, that elimination finds.
+/// Nodes, where they are a chain that closes a branch.
+fn judged_chain(
+    alloc: Global,
+    vs: &[Variable],
+    facts: &[Fact],
+    nodes: Seq<Node>,
+) -> Result<Option<Seq<Node>>, AllocError>
+    requires { AreVariables vs.now }
+    ensures { IfOk result (λ o. IfSome o (Closes (length vs.now) facts.now)) }
+{
+    if is_closing(alloc, facts, count_of(vs), nodes.as_slice())? {
+        Ok(Some(nodes))
+    } else {
+        Ok(None)
+    }
+}
+
+/// A chain that begins with rounds, which limit the added variables.
+fn chain_after_rounds(
+    alloc: Global,
+    own: u32,
+    vs: &[Variable],
+    branch: &Branch,
+    watch: &mut Watch,
+) -> Result<Option<Seq<Node>>, AllocError>
+    requires { AreVariables vs.now }
+    ensures { IfOk result (λ o. IfSome o (Closes (length vs.now) branch.now.facts)) }
+{
+    if branch.added == 0 {
+        return Ok(None);
+    }
+    let facts = branch.facts.as_slice();
+    match rounded_chain(alloc, own, count_of(vs), branch, watch)? {
+        Some(nodes) => judged_chain(alloc, vs, facts, nodes),
+        None => Ok(None),
+    }
+}
+
+/// A chain that elimination finds, where nothing waits.
+fn settled_chain(
+    alloc: Global,
+    vs: &[Variable],
+    branch: &Branch,
+) -> Result<Option<Seq<Node>>, AllocError>
+    requires { AreVariables vs.now }
+    ensures { IfOk result (λ o. IfSome o (Closes (length vs.now) branch.now.facts)) }
+{
+    if branch.waiting.is_empty() {
+        found_chain(alloc, vs, branch.facts.as_slice())
+    } else {
+        Ok(None)
+    }
+}
+
+/// A chain of a fact that the limits refute; or where nothing waits, that elimination finds; or after rounds.
 fn chain_of(
     alloc: Global,
+    own: u32,
     vs: &[Variable],
     branch: &Branch,
     watch: &mut Watch,
@@ -111,17 +167,13 @@ fn chain_of(
     ensures { IfOk result (λ o. IfSome o (Closes (length vs.now) branch.now.facts)) }
 {
     let facts = branch.facts.as_slice();
-    match limit_chain(alloc, vs, facts, watch)? {
-        Some(chain) => Ok(Some(chain)),
-        None => {
-            if branch.waiting.is_empty() {
-                let chain = found_chain(alloc, vs, facts)?;
-                Ok(chain)
-            } else {
-                Ok(None)
-            }
-        }
+    if let Some(chain) = limit_chain(alloc, vs, facts, watch)? {
+        return Ok(Some(chain));
     }
+    if let Some(chain) = settled_chain(alloc, vs, branch)? {
+        return Ok(Some(chain));
+    }
+    chain_after_rounds(alloc, own, vs, branch, watch)
 }
 
 /// Closes a branch by a chain. `None` where there is none that may be used.
@@ -129,18 +181,21 @@ fn chain_of(
 fn close(
     alloc: Global,
     vs: &[Variable],
+    scope: &[Variable],
     rest: u32,
     branch: &Branch,
     watch: &mut Watch,
     trail: &mut Trail,
 ) -> Result<Option<Ended>, AllocError>
-    requires variables { AreVariables vs.now }
+    requires own { AreOwn vs.now }
+    requires scope { scope.now ≡ scopes.scope_of vs.now branch.now }
     requires rest { rest ≤ 960 }
+    requires guided { Guided vs.now rest branch.now }
     ensures { IfOk result (ClosedNow vs.now rest branch.now trail.old trail.new) }
 {
-    match chain_of(alloc, vs, branch, watch)? {
+    match chain_of(alloc, count_of(vs), scope, branch, watch)? {
         Some(chain) => {
-            if chain.len() <= 64 && is_plain_chain(chain.as_slice()) {
+            if chain.len() <= 64 + rest as usize && is_plain_chain(chain.as_slice()) {
                 Ok(Some(finish(trail, chain)?))
             } else {
                 Ok(None)
@@ -150,92 +205,38 @@ fn close(
     }
 }
 
-/// The value at a place, and 0 where there is none.
-fn value_at(values: &[i64], place: u32) -> i128
-    ensures { result ≡ number_at values.now place }
+/// The values of an obligation's own variables, where with those of the added ones all facts are seen to hold.
+#[tactic(auto, using(crate::proofs::GuidedLaws::met_laws))]
+fn own_values(vs: &[Variable], branch: &Branch, values: Seq<i64>) -> Option<Seq<i64>>
+    requires none { branch.now.waiting ≡ [] }
+    requires long { length values ≡ length vs.now + branch.now.added }
+    ensures { IfSome result (Met vs.now branch.now) }
 {
-    match values.get(place as usize) {
-        Some(z) => *z as i128,
-        None => 0,
+    let mut front = values;
+    if are_met(branch.facts.as_slice(), front.as_slice()) {
+        front.truncate(vs.len());
+        Some(front)
+    } else {
+        None
     }
 }
 
-/// A sum with one product more. `None` where a number is too great.
-fn with_product(factor: &(u32, i128), values: &[i64], sum: &i128) -> Option<i128>
-    ensures { IfSome result (λ z. z ≡ factor.now.1 *ℤ number_at values.now factor.now.0 +ℤ sum.now) }
-{
-    factor
-        .1
-        .checked_mul(value_at(values, factor.0))?
-        .checked_add(*sum)
-}
-
-/// The sum of factors times values. `None` where a number is too great.
-#[tactic(auto, using(crate::proofs::ValueLaws::sum_laws))]
-fn sum_at(factors: &[(u32, i128)], values: &[i64]) -> Option<i128>
-    ensures { IfSome result (λ z. z ≡ sum_of values.now factors.now) }
-{
-    let mut sum = 0;
-    let mut left = factors.len();
-    'factors: while left > 0 {
-        left -= 1;
-        match with_product(&factors[left], values, &sum) {
-            Some(next) => sum = next,
-            None => return None,
-        }
-    }
-    Some(sum)
-}
-
-/// Whether a fact is seen to hold at values.
-fn is_met(fact: &Fact, values: &[i64]) -> bool
-    ensures { result ≡ true → fact_holds values.now fact.now ≡ true }
-{
-    match sum_at(fact.factors.as_slice(), values) {
-        Some(sum) => is_at_least(&sum, &fact.constant),
-        None => false,
-    }
-}
-
-/// Whether a sum and a constant are seen to be at least 0 together.
-fn is_at_least(sum: &i128, constant: &i128) -> bool
-    ensures { result ≡ true → IsNotNegative (sum.now +ℤ constant.now) }
-{
-    match sum.checked_add(*constant) {
-        Some(value) => 0 <= value,
-        None => false,
-    }
-}
-
-/// Whether all facts are seen to hold at values.
-fn are_met(facts: &[Fact], values: &[i64]) -> bool
-    ensures { result ≡ true → list_all (fact_holds values.now) facts.now ≡ true }
-{
-    for fact in facts {
-        if !is_met(fact, values) {
-            return false;
-        }
-    }
-    true
-}
-
-/// Values at which a branch holds: the low limits, where all facts are seen to hold there and nothing
-/// waits.
-#[tactic(auto, using(crate::proofs::ValueLaws::met_laws))]
+/// Values at which a branch holds: the low limits, and the quotients there, where all facts are seen to hold with
+/// these and nothing waits.
 fn met_values(
     alloc: Global,
     vs: &[Variable],
     branch: &Branch,
     watch: &Watch,
 ) -> Result<Option<Seq<i64>>, AllocError>
+    requires { AreOwn vs.now }
     ensures { IfOk result (λ o. IfSome o (Met vs.now branch.now)) }
 {
-    let values = low_values(alloc, watch)?;
-    if branch.waiting.is_empty()
-        && values.len() == vs.len()
-        && are_met(branch.facts.as_slice(), values.as_slice())
-    {
-        Ok(Some(values))
+    let own = count_of(vs);
+    let count = own.saturating_add(branch.added);
+    let values = guessed_values(alloc, branch.facts.as_slice(), own, count, watch)?;
+    if branch.waiting.is_empty() && values.len() == vs.len() + branch.added as usize {
+        Ok(own_values(vs, branch, values))
     } else {
         Ok(None)
     }
@@ -269,24 +270,27 @@ fn best_halves(vs: &[Variable], facts: &[Fact], watch: &Watch) -> Option<Halves>
 fn guide_first(
     alloc: Global,
     vs: &[Variable],
+    scope: &[Variable],
     rest: u32,
     form: &CForm,
     watch: &mut Watch,
     branch: &mut Branch,
     trail: &mut Trail,
 ) -> Result<Ended, AllocError>
-    requires variables { AreVariables vs.now }
+    requires own { AreOwn vs.now }
+    requires scope { scope.now ≡ scopes.scope_of vs.now branch.old }
     requires rest { rest ≤ 960 }
     requires form { (need form.now).yes ≤ 2 ^ 63 }
-    requires light { is_light_branch (2 ^ 63) (settled vs.now (sides form.now).0 branch.old) ≡ true }
-    ensures ends { IfOk result (Guides vs.now rest (settled vs.now (sides form.now).0 branch.old) trail.old trail.new) }
+    requires guided { Guided vs.now rest (settled scope.now (sides form.now).0 branch.old) }
+    ensures ends { IfOk result (Guides vs.now rest (settled scope.now (sides form.now).0 branch.old) trail.old
+        trail.new) }
     ensures branch { IfOk result (λ e. IsClosed e → branch.new ≡ branch.old) }
 {
     let facts = branch.facts.len();
     let waits = branch.waiting.len();
     let mark = mark_of(watch);
-    settle_first(alloc, vs, form, branch)?;
-    let ended = guide(alloc, vs, rest, watch, branch, trail)?;
+    settle_first(alloc, scope, form, branch)?;
+    let ended = guide(alloc, vs, scope, rest, watch, branch, trail)?;
     cut_back(branch, facts, waits);
     take_back(mark, watch);
     Ok(ended)
@@ -298,24 +302,27 @@ fn guide_first(
 fn guide_second(
     alloc: Global,
     vs: &[Variable],
+    scope: &[Variable],
     rest: u32,
     form: &CForm,
     watch: &mut Watch,
     branch: &mut Branch,
     trail: &mut Trail,
 ) -> Result<Ended, AllocError>
-    requires variables { AreVariables vs.now }
+    requires own { AreOwn vs.now }
+    requires scope { scope.now ≡ scopes.scope_of vs.now branch.old }
     requires rest { rest ≤ 960 }
     requires form { (need form.now).yes ≤ 2 ^ 63 }
-    requires light { is_light_branch (2 ^ 63) (settled vs.now (sides form.now).1 branch.old) ≡ true }
-    ensures ends { IfOk result (Guides vs.now rest (settled vs.now (sides form.now).1 branch.old) trail.old trail.new) }
+    requires guided { Guided vs.now rest (settled scope.now (sides form.now).1 branch.old) }
+    ensures ends { IfOk result (Guides vs.now rest (settled scope.now (sides form.now).1 branch.old) trail.old
+        trail.new) }
     ensures branch { IfOk result (λ e. IsClosed e → branch.new ≡ branch.old) }
 {
     let facts = branch.facts.len();
     let waits = branch.waiting.len();
     let mark = mark_of(watch);
-    settle_second(alloc, vs, form, branch)?;
-    let ended = guide(alloc, vs, rest, watch, branch, trail)?;
+    settle_second(alloc, scope, form, branch)?;
+    let ended = guide(alloc, vs, scope, rest, watch, branch, trail)?;
     cut_back(branch, facts, waits);
     take_back(mark, watch);
     Ok(ended)
@@ -329,11 +336,20 @@ fn case_node(place: usize) -> Node
     Node::Case(place as u64 + 1)
 }
 
+/// The node that takes a quotient of the waiting formula at a place.
+fn quot_node(place: usize) -> Node
+    requires { place < 2 ^ 62 }
+    ensures { result ≡ Node.Quot (suc place) }
+{
+    Node::Quot(place as u64 + 1)
+}
+
 /// Refutes a branch by the two sides of a waiting formula, which was taken out of its place.
 #[cycle(guided)]
 fn guide_sides(
     alloc: Global,
     vs: &[Variable],
+    scope: &[Variable],
     rest: u32,
     place: usize,
     form: &CForm,
@@ -341,21 +357,22 @@ fn guide_sides(
     branch: &mut Branch,
     trail: &mut Trail,
 ) -> Result<Ended, AllocError>
-    requires variables { AreVariables vs.now }
+    requires own { AreOwn vs.now }
+    requires scope { scope.now ≡ scopes.scope_of vs.now branch.old }
     requires rest { rest < 960 }
     requires place { place ≤ length branch.old.waiting }
     requires room { place < 2 ^ 62 }
-    requires form { (need form.now).yes ≤ 2 ^ 63 }
-    requires light { is_light_branch (2 ^ 63) branch.old ≡ true }
+    requires either { is_either form.now ≡ true }
+    requires guided { Guided vs.now (suc rest) (with_form branch.old place form.now) }
     ensures ends { IfOk result (Guides vs.now (suc rest) (with_form branch.old place form.now) trail.old trail.new) }
     ensures branch { IfOk result (λ e. IsClosed e → branch.new ≡ branch.old) }
 {
     if !put_node(trail, case_node(place))? {
         return Ok(Ended::Stopped);
     }
-    match guide_first(alloc, vs, rest, form, watch, branch, trail)? {
+    match guide_first(alloc, vs, scope, rest, form, watch, branch, trail)? {
         Ended::Closed => {
-            let ended = guide_second(alloc, vs, rest, form, watch, branch, trail)?;
+            let ended = guide_second(alloc, vs, scope, rest, form, watch, branch, trail)?;
             Ok(ended)
         }
         Ended::Stopped => Ok(Ended::Stopped),
@@ -363,20 +380,124 @@ fn guide_sides(
     }
 }
 
-/// Refutes a branch by the two sides of the waiting formula at a place.
+/// Refutes a branch with one quotient more taken.
+#[cycle(guided)]
+#[tactic(auto, using(crate::proofs::GuidedLaws::undo_quotient_laws))]
+fn guide_without(
+    alloc: Global,
+    vs: &[Variable],
+    rest: u32,
+    replaced: &Replaced,
+    watch: &mut Watch,
+    branch: &mut Branch,
+    trail: &mut Trail,
+) -> Result<Ended, AllocError>
+    requires own { AreOwn vs.now }
+    requires rest { rest ≤ 960 }
+    requires added { branch.old.added < 960 }
+    requires load { (term_load replaced.now.taken.of).own ≤ 2 ^ 66 }
+    requires light { (need replaced.now.form).yes ≤ 2 ^ 66 }
+    requires guided { Guided vs.now rest
+        (with_quotient (scopes.scope_of vs.now branch.old) replaced.now branch.old) }
+    ensures ends { IfOk result (Guides vs.now rest
+        (with_quotient (scopes.scope_of vs.now branch.old) replaced.now branch.old) trail.old trail.new) }
+    ensures branch { IfOk result (λ e. IsClosed e → branch.new ≡ branch.old) }
+{
+    let facts = branch.facts.len();
+    let waits = branch.waiting.len();
+    let added = branch.added;
+    let mark = mark_of(watch);
+    let mut scope = scope_of(alloc, vs, added)?;
+    add_quotient(alloc, &mut scope, replaced, branch)?;
+    widen(watch)?;
+    let ended = guide(alloc, vs, scope.as_slice(), rest, watch, branch, trail)?;
+    cut_back(branch, facts, waits);
+    branch.added = added;
+    take_back(mark, watch);
+    Ok(ended)
+}
+
+/// Refutes a branch by taking a quotient of a waiting formula, which was taken out of its place. Gives up where it
+/// has none.
+#[cycle(guided)]
+fn guide_quot(
+    alloc: Global,
+    vs: &[Variable],
+    scope: &[Variable],
+    rest: u32,
+    place: usize,
+    form: &CForm,
+    watch: &mut Watch,
+    branch: &mut Branch,
+    trail: &mut Trail,
+) -> Result<Ended, AllocError>
+    requires own { AreOwn vs.now }
+    requires scope { scope.now ≡ scopes.scope_of vs.now branch.old }
+    requires rest { rest < 960 }
+    requires place { place ≤ length branch.old.waiting }
+    requires room { place < 2 ^ 62 }
+    requires guided { Guided vs.now (suc rest) (with_form branch.old place form.now) }
+    ensures ends { IfOk result (Guides vs.now (suc rest) (with_form branch.old place form.now) trail.old trail.new) }
+    ensures branch { IfOk result (λ e. IsClosed e → branch.new ≡ branch.old) }
+{
+    let next = next_param(scope) as u32;
+    let Some(replaced) = without_quotient(alloc, next, form)? else {
+        return Ok(Ended::Stopped);
+    };
+    if !put_node(trail, quot_node(place))? {
+        return Ok(Ended::Stopped);
+    }
+    let ended = guide_without(alloc, vs, rest, &replaced, watch, branch, trail)?;
+    Ok(ended)
+}
+
+/// Refutes a branch by a waiting formula, which was taken out of its place.
+#[cycle(guided)]
+fn guide_form(
+    alloc: Global,
+    vs: &[Variable],
+    scope: &[Variable],
+    rest: u32,
+    place: usize,
+    form: &CForm,
+    watch: &mut Watch,
+    branch: &mut Branch,
+    trail: &mut Trail,
+) -> Result<Ended, AllocError>
+    requires own { AreOwn vs.now }
+    requires scope { scope.now ≡ scopes.scope_of vs.now branch.old }
+    requires rest { rest < 960 }
+    requires place { place ≤ length branch.old.waiting }
+    requires room { place < 2 ^ 62 }
+    requires guided { Guided vs.now (suc rest) (with_form branch.old place form.now) }
+    ensures ends { IfOk result (Guides vs.now (suc rest) (with_form branch.old place form.now) trail.old trail.new) }
+    ensures branch { IfOk result (λ e. IsClosed e → branch.new ≡ branch.old) }
+{
+    if is_either(form) {
+        let ended = guide_sides(alloc, vs, scope, rest, place, form, watch, branch, trail)?;
+        Ok(ended)
+    } else {
+        let ended = guide_quot(alloc, vs, scope, rest, place, form, watch, branch, trail)?;
+        Ok(ended)
+    }
+}
+
+/// Refutes a branch by the waiting formula at a place.
 #[cycle(guided)]
 fn guide_case(
     alloc: Global,
     vs: &[Variable],
+    scope: &[Variable],
     rest: u32,
     place: usize,
     watch: &mut Watch,
     branch: &mut Branch,
     trail: &mut Trail,
 ) -> Result<Ended, AllocError>
-    requires variables { AreVariables vs.now }
+    requires own { AreOwn vs.now }
+    requires scope { scope.now ≡ scopes.scope_of vs.now branch.old }
     requires rest { rest < 960 }
-    requires light { is_light_branch (2 ^ 63) branch.old ≡ true }
+    requires guided { Guided vs.now (suc rest) branch.old }
     ensures ends { IfOk result (Guides vs.now (suc rest) branch.old trail.old trail.new) }
     ensures branch { IfOk result (λ e. IsClosed e → branch.new ≡ branch.old) }
 {
@@ -384,7 +505,8 @@ fn guide_case(
         return Ok(Ended::Stopped);
     }
     let form = branch.waiting.remove(place);
-    let ended = guide_sides(alloc, vs, rest, place, form.get(), watch, branch, trail)?;
+    let taken = form.get();
+    let ended = guide_form(alloc, vs, scope, rest, place, taken, watch, branch, trail)?;
     if branch.waiting.len() < place {
         return Ok(Ended::Stopped);
     }
@@ -398,15 +520,17 @@ fn guide_case(
 fn guide_low(
     alloc: Global,
     vs: &[Variable],
+    scope: &[Variable],
     rest: u32,
     halves: Halves,
     watch: &mut Watch,
     branch: &mut Branch,
     trail: &mut Trail,
 ) -> Result<Ended, AllocError>
-    requires variables { AreVariables vs.now }
+    requires own { AreOwn vs.now }
+    requires scope { scope.now ≡ scopes.scope_of vs.now branch.old }
     requires rest { rest ≤ 960 }
-    requires light { is_light_branch (2 ^ 63) branch.old ≡ true }
+    requires guided { Guided vs.now rest (added branch.old (at_most halves.place halves.at)) }
     ensures ends { IfOk result (Guides vs.now rest (added branch.old (at_most halves.place halves.at)) trail.old
         trail.new) }
     ensures branch { IfOk result (λ e. IsClosed e → branch.new ≡ branch.old) }
@@ -415,7 +539,7 @@ fn guide_low(
     let waits = branch.waiting.len();
     let mark = mark_of(watch);
     add_at_most(alloc, halves, branch)?;
-    let ended = guide(alloc, vs, rest, watch, branch, trail)?;
+    let ended = guide(alloc, vs, scope, rest, watch, branch, trail)?;
     cut_back(branch, facts, waits);
     take_back(mark, watch);
     Ok(ended)
@@ -427,15 +551,17 @@ fn guide_low(
 fn guide_high(
     alloc: Global,
     vs: &[Variable],
+    scope: &[Variable],
     rest: u32,
     halves: Halves,
     watch: &mut Watch,
     branch: &mut Branch,
     trail: &mut Trail,
 ) -> Result<Ended, AllocError>
-    requires variables { AreVariables vs.now }
+    requires own { AreOwn vs.now }
+    requires scope { scope.now ≡ scopes.scope_of vs.now branch.old }
     requires rest { rest ≤ 960 }
-    requires light { is_light_branch (2 ^ 63) branch.old ≡ true }
+    requires guided { Guided vs.now rest (added branch.old (at_least halves.place (halves.at +ℤ pos 1))) }
     ensures ends { IfOk result (Guides vs.now rest (added branch.old (at_least halves.place (halves.at +ℤ pos 1)))
         trail.old trail.new) }
     ensures branch { IfOk result (λ e. IsClosed e → branch.new ≡ branch.old) }
@@ -444,7 +570,7 @@ fn guide_high(
     let waits = branch.waiting.len();
     let mark = mark_of(watch);
     add_above(alloc, halves, branch)?;
-    let ended = guide(alloc, vs, rest, watch, branch, trail)?;
+    let ended = guide(alloc, vs, scope, rest, watch, branch, trail)?;
     cut_back(branch, facts, waits);
     take_back(mark, watch);
     Ok(ended)
@@ -455,26 +581,28 @@ fn guide_high(
 fn guide_halves(
     alloc: Global,
     vs: &[Variable],
+    scope: &[Variable],
     rest: u32,
     halves: Halves,
     watch: &mut Watch,
     branch: &mut Branch,
     trail: &mut Trail,
 ) -> Result<Ended, AllocError>
-    requires variables { AreVariables vs.now }
+    requires own { AreOwn vs.now }
+    requires scope { scope.now ≡ scopes.scope_of vs.now branch.old }
     requires rest { rest < 960 }
-    requires place { halves.place < length vs.now }
+    requires place { halves.place < length scope.now }
     requires number { IsTrue (is_plain_number halves.at) }
-    requires light { is_light_branch (2 ^ 63) branch.old ≡ true }
+    requires guided { Guided vs.now (suc rest) branch.old }
     ensures ends { IfOk result (Guides vs.now (suc rest) branch.old trail.old trail.new) }
     ensures branch { IfOk result (λ e. IsClosed e → branch.new ≡ branch.old) }
 {
     if !put_node(trail, split_node(halves))? {
         return Ok(Ended::Stopped);
     }
-    match guide_low(alloc, vs, rest, halves, watch, branch, trail)? {
+    match guide_low(alloc, vs, scope, rest, halves, watch, branch, trail)? {
         Ended::Closed => {
-            let ended = guide_high(alloc, vs, rest, halves, watch, branch, trail)?;
+            let ended = guide_high(alloc, vs, scope, rest, halves, watch, branch, trail)?;
             Ok(ended)
         }
         Ended::Stopped => Ok(Ended::Stopped),
@@ -487,22 +615,24 @@ fn guide_halves(
 fn guide_settled(
     alloc: Global,
     vs: &[Variable],
+    scope: &[Variable],
     rest: u32,
     watch: &mut Watch,
     branch: &mut Branch,
     trail: &mut Trail,
 ) -> Result<Ended, AllocError>
-    requires variables { AreVariables vs.now }
+    requires own { AreOwn vs.now }
+    requires scope { scope.now ≡ scopes.scope_of vs.now branch.old }
     requires rest { rest < 960 }
-    requires light { is_light_branch (2 ^ 63) branch.old ≡ true }
+    requires guided { Guided vs.now (suc rest) branch.old }
     ensures ends { IfOk result (Guides vs.now (suc rest) branch.old trail.old trail.new) }
     ensures branch { IfOk result (λ e. IsClosed e → branch.new ≡ branch.old) }
 {
     match met_values(alloc, vs, branch, watch)? {
         Some(values) => Ok(Ended::Refuted(values)),
-        None => match best_halves(vs, branch.facts.as_slice(), watch) {
+        None => match best_halves(scope, branch.facts.as_slice(), watch) {
             Some(halves) => {
-                let ended = guide_halves(alloc, vs, rest, halves, watch, branch, trail)?;
+                let ended = guide_halves(alloc, vs, scope, rest, halves, watch, branch, trail)?;
                 Ok(ended)
             }
             None => Ok(Ended::Stopped),
@@ -524,23 +654,25 @@ fn next_place(vs: &[Variable], branch: &Branch, watch: &mut Watch) -> usize {
 fn guide_open(
     alloc: Global,
     vs: &[Variable],
+    scope: &[Variable],
     rest: u32,
     watch: &mut Watch,
     branch: &mut Branch,
     trail: &mut Trail,
 ) -> Result<Ended, AllocError>
-    requires variables { AreVariables vs.now }
+    requires own { AreOwn vs.now }
+    requires scope { scope.now ≡ scopes.scope_of vs.now branch.old }
     requires rest { rest < 960 }
-    requires light { is_light_branch (2 ^ 63) branch.old ≡ true }
+    requires guided { Guided vs.now (suc rest) branch.old }
     ensures ends { IfOk result (Guides vs.now (suc rest) branch.old trail.old trail.new) }
     ensures branch { IfOk result (λ e. IsClosed e → branch.new ≡ branch.old) }
 {
     if branch.waiting.is_empty() {
-        let ended = guide_settled(alloc, vs, rest, watch, branch, trail)?;
+        let ended = guide_settled(alloc, vs, scope, rest, watch, branch, trail)?;
         Ok(ended)
     } else {
-        let place = next_place(vs, branch, watch);
-        let ended = guide_case(alloc, vs, rest, place, watch, branch, trail)?;
+        let place = next_place(scope, branch, watch);
+        let ended = guide_case(alloc, vs, scope, rest, place, watch, branch, trail)?;
         Ok(ended)
     }
 }
@@ -550,25 +682,27 @@ fn guide_open(
 pub fn guide(
     alloc: Global,
     vs: &[Variable],
+    scope: &[Variable],
     rest: u32,
     watch: &mut Watch,
     branch: &mut Branch,
     trail: &mut Trail,
 ) -> Result<Ended, AllocError>
-    requires variables { AreVariables vs.now }
+    requires own { AreOwn vs.now }
+    requires scope { scope.now ≡ scopes.scope_of vs.now branch.old }
     requires rest { rest ≤ 960 }
-    requires light { is_light_branch (2 ^ 63) branch.old ≡ true }
+    requires guided { Guided vs.now rest branch.old }
     ensures ends { IfOk result (Guides vs.now rest branch.old trail.old trail.new) }
     ensures branch { IfOk result (λ e. IsClosed e → branch.new ≡ branch.old) }
 {
     take_facts(branch.facts.as_slice(), watch)?;
-    match close(alloc, vs, rest, branch, watch, trail)? {
+    match close(alloc, vs, scope, rest, branch, watch, trail)? {
         Some(ended) => Ok(ended),
         None => {
             if rest == 0 {
                 return Ok(Ended::Stopped);
             }
-            let ended = guide_open(alloc, vs, rest - 1, watch, branch, trail)?;
+            let ended = guide_open(alloc, vs, scope, rest - 1, watch, branch, trail)?;
             Ok(ended)
         }
     }

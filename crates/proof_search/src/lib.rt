@@ -7,6 +7,7 @@ mod finding;
 mod guided;
 mod lines;
 mod look;
+mod rounds;
 mod watch;
 
 pub use finding::search;

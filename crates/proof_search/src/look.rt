@@ -16,6 +16,8 @@ fn has_choice(t: &CTerm) -> bool {
         CTerm::Add(a, b) => has_choice(a.get()) || has_choice(b.get()),
         CTerm::Sub(a, b) => has_choice(a.get()) || has_choice(b.get()),
         CTerm::Scale(_, a) => has_choice(a.get()),
+        CTerm::Div(a, _) => has_choice(a.get()),
+        CTerm::Mod(a, _) => has_choice(a.get()),
         CTerm::Ite(..) => true,
         _ => false,
     }
@@ -61,6 +63,15 @@ fn score_of(scene: Scene, a: &CForm, b: &CForm, watch: &mut Watch) -> usize {
     }
 }
 
+/// How good it is to take a quotient of a formula: nothing has to be tried for it either.
+fn score_of_quotient(scene: Scene, form: &CForm, watch: &mut Watch) -> usize {
+    if chance_of(scene, form, watch).holds {
+        usize::MAX - 2
+    } else {
+        usize::MAX
+    }
+}
+
 /// The score of a waiting formula.
 fn score_at(scene: Scene, branch: &Branch, place: usize, watch: &mut Watch) -> usize {
     match branch.waiting.get(place) {
@@ -69,7 +80,10 @@ fn score_at(scene: Scene, branch: &Branch, place: usize, watch: &mut Watch) -> u
                 watch.parts = PARTS;
                 score_of(scene, a.get(), b.get(), watch)
             }
-            _ => 0,
+            quotient => {
+                watch.parts = PARTS;
+                score_of_quotient(scene, quotient, watch)
+            }
         },
         None => 0,
     }

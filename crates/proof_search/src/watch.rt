@@ -44,6 +44,7 @@ pub struct Watch {
 /// A state to which a watch can be taken back.
 #[derive(Clone, Copy)]
 pub struct Mark {
+    variables: usize,
     changes: usize,
     coupled: usize,
     seen: usize,
@@ -73,9 +74,22 @@ pub fn new_watch(alloc: Global, count: usize) -> Result<Watch, AllocError> {
     })
 }
 
+/// Adds a variable.
+pub fn widen(watch: &mut Watch) -> Result<(), AllocError> {
+    watch.lows.push(Limit {
+        place: 0,
+        value: i64::MIN,
+    })?;
+    watch.highs.push(Limit {
+        place: 0,
+        value: i64::MAX,
+    })
+}
+
 /// The state of a watch.
 pub fn mark_of(watch: &Watch) -> Mark {
     Mark {
+        variables: watch.lows.len(),
         changes: watch.changes.len(),
         coupled: watch.coupled.len(),
         seen: watch.seen,
@@ -127,6 +141,8 @@ pub fn take_back(mark: Mark, watch: &mut Watch) {
             set_limit(change.variable, change.low, change.old, watch);
         }
     }
+    watch.lows.truncate(mark.variables);
+    watch.highs.truncate(mark.variables);
     watch.coupled.truncate(mark.coupled);
     watch.seen = mark.seen;
     watch.conflict = mark.conflict;
@@ -362,12 +378,12 @@ pub fn joint_top(facts: &[Fact], start: usize, own: i64, watch: &Watch) -> i64 {
 }
 
 /// The number of a place, from 1.
-fn number_of(place: usize) -> u64 {
+pub fn number_of(place: usize) -> u64 {
     (place as u64).saturating_add(1)
 }
 
 /// The pair that takes a factor away. `None` where the factor is past 2^62.
-fn pair_against(variable: u32, factor: i64, watch: &Watch) -> Option<(i64, u64)> {
+pub fn pair_against(variable: u32, factor: i64, watch: &Watch) -> Option<(i64, u64)> {
     let times = factor.unsigned_abs();
     if times <= 1 << 62 {
         let limit = limit_of(variable, factor < 0, watch);
@@ -430,13 +446,24 @@ pub fn has_conflict(watch: &Watch) -> bool {
     watch.conflict.is_some()
 }
 
-/// The low limits of all variables, 0 where there is none.
-pub fn low_values(alloc: Global, watch: &Watch) -> Result<Seq<i64>, AllocError> {
-    let mut values = Seq::new(alloc);
-    for limit in watch.lows.as_slice() {
-        values.push(limit.value)?;
+/// Takes in that a variable has this limit by the fact at a place, where that is tighter. Whether it is.
+pub fn limit_to(
+    variable: u32,
+    low: bool,
+    value: i64,
+    place: usize,
+    watch: &mut Watch,
+) -> Result<bool, AllocError> {
+    let changes = watch.changes.len();
+    tighten(variable, low, Limit { place, value }, watch)?;
+    Ok(changes < watch.changes.len())
+}
+
+/// Looks again whether the limits refute any of the facts that name more.
+pub fn look_again(facts: &[Fact], watch: &mut Watch) {
+    if watch.conflict.is_none() {
+        watch.conflict = first_refuted(facts, watch);
     }
-    Ok(values)
 }
 
 /// A variable that is to be split, and the middle of its limits.

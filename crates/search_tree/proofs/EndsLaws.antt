@@ -1,9 +1,11 @@
--- Every branch that is ready is closed within its leaves' units, or there are values that make all of it hold.
+-- Every branch that is ready, and asks for no quotient, is closed within its leaves' units, or there are values that
+-- make all of it hold.
 use Rattle.std.proofs.Common.{◌≡◌, ℕ, zero, suc, ◌+◌, ◌-◌, ◌*◌, ◌≤◌, ◌<◌, nat_le, ℤ, pos, ◌+ℤ◌, Bool, true, false, ◌||◌}
 use Rattle.std.proofs.Common.{Option, Some, None, List, [], ◌∷◌, ◌++◌, map, length, slice_get, arith, refl, sym, ap}
-use Rattle.std.proofs.Common.{subst}
+use Rattle.std.proofs.Common.{subst, ◌∙◌, mul-le-mul, le_refl}
 use Rattle.std.proofs.Math.Nat.{mul-le-mul_right}
-use Rattle.std.specs.List.{list_any}
+use Rattle.std.specs.List.{list_all, list_any}
+use Rattle.std.proofs.lemmas.Bool.{and_parts}
 use Rattle.core_terms.specs.declared.trees.CForm.{CForm}
 use Rattle.core_terms.specs.declared.trees.Range.{Range}
 use Rattle.obligations.specs.declared.branches.Branch.{Branch}
@@ -17,22 +19,28 @@ use Rattle.obligations.specs.Reach.{are_exact, bounds_refute, clash, is_out_of_r
 use Rattle.obligations.specs.Certificates.{node_units, units}
 use Rattle.obligations.specs.Obligations.{IsObligation}
 use Rattle.obligations.specs.Plain.{Cut, ranges_of, first_cut, with_high, with_low, waiting_only, open_leaves}
-use Rattle.obligations.specs.Plain.{cut_leaves, plain_leaves, leaf_units, enough}
+use Rattle.obligations.specs.Plain.{cut_leaves, side_leaves, plain_leaves, enough}
+use Rattle.obligations.specs.Quotients.{is_either}
+use Rattle.obligations.specs.Scopes.{scope_of}
+use Rattle.obligations.specs.Shapes.{quotients_of}
 use Rattle.certificate_check.specs.Refutation.{opens, made, allowing}
 use Rattle.linear_prover.specs.Chains.{ClosesShortly, is_plain_node}
 use Rattle.linear_prover.specs.Tables.{IsAt}
 use Rattle.linear_prover.proofs.ChainLaws.{refuted-chain, clashed-chain}
 use Rattle.search_tree.specs.declared.plain_tree.Trail.{Trail}
 use Rattle.search_tree.specs.declared.plain_tree.Ended.{Ended}
-use Rattle.search_tree.specs.Searching.{Ready, Closed, Met, levels_of}
+use Rattle.search_tree.specs.Searching.{chain_units, quotients_at, room_of, Ready, Closed, Met, levels_of}
+use Rattle.search_tree.specs.Choices.{can_wait}
 use Rattle.search_tree.specs.Ends.{Ending, proved, refuted, short, SearchEnds}
-use Rattle.search_tree.proofs.SearchLaws.{finished-ends}
+use Rattle.search_tree.proofs.SearchLaws.{finished-ends, short-room, room-two, room-less}
 use Rattle.search_tree.proofs.TreeLaws.{second-closed}
 use Rattle.search_tree.proofs.TryLaws.{tried-short}
-use Rattle.search_tree.proofs.RootLaws.{search-answers}
-use Rattle.search_tree.proofs.ReadyLaws.{leaves-some, unreached-leaves, case-opens, split-opens, first-met, second-met}
-use Rattle.search_tree.proofs.ReadyLaws.{added-met, ready-first, ready-second, ready-deep, cut-is, ready-cut, ready-low}
+use Rattle.search_tree.proofs.RootLaws.{room-enough, no-quotients, search-answers}
+use Rattle.search_tree.proofs.ShapeLaws.{settled-more, side-shapes, waits-either, quotients-append}
+use Rattle.search_tree.proofs.ReadyLaws.{leaves-some, unreached-leaves, either-leaves, case-opens, split-opens}
+use Rattle.search_tree.proofs.ReadyLaws.{ready-first, ready-second, ready-deep, cut-is, ready-cut, ready-low}
 use Rattle.search_tree.proofs.ReadyLaws.{ready-high, leaf-met, ready-root}
+use Rattle.search_tree.proofs.MetLaws.{first-met, second-met, added-met}
 
 le-is : (a b : ℕ) → nat_le a b ≡ true → a ≤ b
 le-is a b h = grind arith
@@ -77,60 +85,69 @@ data Outcome (vs : List Variable) (k leaves : ℕ) (b : Branch) (old : Trail) : 
   closed : (new : Trail) → Closed vs k leaves b old new → Outcome vs k leaves b old
   met : (values : List ℤ) → Met vs b values → Outcome vs k leaves b old
 
-abbrev Suffices : List Variable → ℕ → Trail → Type 0
-Suffices vs leaves x = leaves * leaf_units vs ≤ x.spare + 1
+abbrev Suffices : List Variable → ℕ → Branch → Trail → Type 0
+Suffices vs leaves b x = leaves * room_of vs b ≤ x.spare + 1
 
 -- a branch with these leaves ends, whatever was before
 abbrev Goes : List Variable → ℕ → ℕ → Branch → Type 0
-Goes vs k leaves b = (x : Trail) → Suffices vs leaves x → Outcome vs k leaves b x
+Goes vs k leaves b = (x : Trail) → Suffices vs leaves b x → Outcome vs k leaves b x
 
 -- A chain.
-chain-goes : (vs : List Variable) (k leaves : ℕ) (b : Branch) → k ≤ 960 → 1 ≤ leaves → Chain (length vs) b.facts →
+chain-goes : (vs : List Variable) (k leaves : ℕ) (b : Branch) → 1 ≤ leaves → Chain (length (scope_of vs b)) b.facts →
     Goes vs k leaves b
-chain-goes vs k leaves b h one c x s =
+chain-goes vs k leaves b one c x s =
     let ns : List Node = c.0 in
     let few = c.1.short in
     let cheap = few.cheap in
-    let more : 1 * leaf_units vs ≤ leaves * leaf_units vs = mul-le-mul_right (leaf_units vs) one in
-    let room : units ns ≤ x.spare = omega (arith, cheap, more, s) in
+    let fits = short-room vs b in
+    let more : 1 * room_of vs b ≤ leaves * room_of vs b = mul-le-mul_right (room_of vs b) one in
+    let room : units ns ≤ x.spare = omega (arith, cheap, fits, more, s) in
     let y : Trail = record { nodes = x.nodes ++ ns; spare = x.spare - units ns } in
-    closed y (finished-ends vs k leaves b x y Ended.Closed h one
-    (tried-short vs b.facts ns x y Ended.Closed c.1 (refl, omega (arith, room))))
+    closed y (finished-ends vs k leaves 64 (chain_units (length (scope_of vs b))) b x y Ended.Closed (omega arith) fits
+    one (tried-short (scope_of vs b) b.facts ns x y Ended.Closed c.1 (refl, omega (arith, room))))
 
 -- A node that opens two branches.
 module _ (vs : List Variable) (k l m : ℕ) (b c d : Branch) (n : Node) (one : node_units n ≡ 1)
-    (simple : is_plain_node n ≡ true) (deep : suc k ≤ 960)
+    (simple : is_plain_node n ≡ true) (deep : suc k ≤ 960) (fewer : quotients_at c ≤ quotients_at b)
+    (same : c.added ≡ b.added) (less : quotients_at d ≤ quotients_at b) (alike : d.added ≡ b.added)
     (opened : made vs (allowing (levels_of (suc k)) b) n ≡ opens (c ∷ d ∷ []))
     (some : 1 ≤ m)
     (up : (values : List ℤ) → Met vs c values → Met vs b values)
     (down : (values : List ℤ) → Met vs d values → Met vs b values) where
-  more : 1 * leaf_units vs ≤ m * leaf_units vs
-  more = mul-le-mul_right (leaf_units vs) some
+  more : 1 * room_of vs d ≤ m * room_of vs d
+  more = mul-le-mul_right (room_of vs d) some
 
-  sum-leaves : (l + m) * leaf_units vs ≡ l * leaf_units vs + m * leaf_units vs
-  sum-leaves = omega arith
+  two : 2 ≤ room_of vs d
+  two = room-two vs d
+
+  -- the rooms of both branches are within that of the first
+  rooms : l * room_of vs c + m * room_of vs d ≤ (l + m) * room_of vs b
+  rooms =
+      let p : l * room_of vs c ≤ l * room_of vs b = mul-le-mul (le_refl l) (room-less vs b c fewer same) in
+      let q : m * room_of vs d ≤ m * room_of vs b = mul-le-mul (le_refl m) (room-less vs b d less alike) in
+      omega (arith, p, q)
 
   abbrev with_node : Trail → Trail
   with_node x = record { nodes = x.nodes ++ n ∷ []; spare = x.spare - 1 }
 
-  spent-one : (x : Trail) → Suffices vs (l + m) x → (x.spare - 1) + node_units n ≡ x.spare
-  spent-one x s = let w = sum-leaves in let a = more in omega (arith, w, a, s, one)
+  spent-one : (x : Trail) → Suffices vs (l + m) b x → (x.spare - 1) + node_units n ≡ x.spare
+  spent-one x s = let w = rooms in let a = more in let t = two in omega (arith, w, a, t, s, one)
 
-  first-room : (x : Trail) → Suffices vs (l + m) x → Suffices vs l (with_node x)
-  first-room x s = let w = sum-leaves in let a = more in omega (arith, w, a, s)
+  first-room : (x : Trail) → Suffices vs (l + m) b x → Suffices vs l c (with_node x)
+  first-room x s = let w = rooms in let a = more in let t = two in omega (arith, w, a, t, s)
 
-  second-room : (x z : Trail) → Suffices vs (l + m) x → Closed vs k l c (with_node x) z → Suffices vs m z
+  second-room : (x z : Trail) → Suffices vs (l + m) b x → Closed vs k l c (with_node x) z → Suffices vs m d z
   second-room x z s p =
-      let w = sum-leaves in let a = more in let cost = p.cost in let spent = p.spent in
-      omega (arith, w, a, s, cost, spent)
+      let w = rooms in let a = more in let t = two in let cost = p.cost in let spent = p.spent in
+      omega (arith, w, a, t, s, cost, spent)
 
-  second-goes : (x z : Trail) → Suffices vs (l + m) x → Closed vs k l c (with_node x) z → Outcome vs k m d z →
+  second-goes : (x z : Trail) → Suffices vs (l + m) b x → Closed vs k l c (with_node x) z → Outcome vs k m d z →
       Outcome vs (suc k) (l + m) b x
-  second-goes x z s p (closed w q) = closed w (second-closed vs k l m b c d n one simple deep opened x (with_node x) z
-      w refl (spent-one x s) p q)
+  second-goes x z s p (closed w q) = closed w (second-closed vs k l m b c d n one simple deep fewer same less alike
+      opened x (with_node x) z w refl (spent-one x s) p q)
   second-goes x z s p (met values q) = met values (down values q)
 
-  first-goes : (x : Trail) → Suffices vs (l + m) x → Goes vs k m d → Outcome vs k l c (with_node x) →
+  first-goes : (x : Trail) → Suffices vs (l + m) b x → Goes vs k m d → Outcome vs k l c (with_node x) →
       Outcome vs (suc k) (l + m) b x
   first-goes x s go (closed z p) = second-goes x z s p (go z (second-room x z s p))
   first-goes x s go (met values q) = met values (up values q)
@@ -140,85 +157,110 @@ module _ (vs : List Variable) (k l m : ℕ) (b c d : Branch) (n : Node) (one : n
 
 -- Branches with so many levels left.
 abbrev AllGo : List Variable → ℕ → Type 0
-AllGo vs k = (rs : List Range) (b : Branch) → Ready vs k rs b → Goes vs k (plain_leaves vs k rs b) b
+AllGo vs k = (rs : List Range) (b : Branch) → Ready vs k rs b → quotients_at b ≡ 0 → Goes vs k
+    (plain_leaves vs k rs b) b
 
 sides-go : (vs : List Variable) (k : ℕ) (rs : List Range) (f : CForm) (b : Branch) → suc k ≤ 960 → AllGo vs k →
-    Ready vs (suc k) rs (waiting_only b (f ∷ b.waiting)) →
-    Goes vs (suc k) (open_leaves vs (plain_leaves vs k) rs b (f ∷ b.waiting)) (waiting_only b (f ∷ b.waiting))
-sides-go vs k rs f b deep go r =
-    both-go vs k (plain_leaves vs k rs (settled vs (sides f).0 b)) (plain_leaves vs k rs (settled vs (sides f).1 b))
-    (waiting_only b (f ∷ b.waiting)) (settled vs (sides f).0 b) (settled vs (sides f).1 b) (Node.Case 1) refl refl deep
-    (case-opens vs k f b deep) (leaves-some vs k rs (settled vs (sides f).1 b)) (first-met vs f b) (second-met vs f b)
-    (go rs (settled vs (sides f).0 b) (ready-first vs k rs f b r))
-    (go rs (settled vs (sides f).1 b) (ready-second vs k rs f b r))
+    Ready vs (suc k) rs (waiting_only b (f ∷ b.waiting)) → is_either f ≡ true →
+    quotients_at (waiting_only b (f ∷ b.waiting)) ≡ 0 →
+    Goes vs (suc k) (side_leaves (scope_of vs b) (plain_leaves vs k) rs b f) (waiting_only b (f ∷ b.waiting))
+sides-go vs k rs f b deep go r either none =
+    let us : List Variable = scope_of vs b in
+    let first : Branch = settled us (sides f).0 b in
+    let second : Branch = settled us (sides f).1 b in
+    let from : Branch = waiting_only b (f ∷ b.waiting) in
+    let s = (side-shapes f either).quotients in
+    let one = (settled-more us (sides f).0 b).quotients in let two = (settled-more us (sides f).1 b).quotients in
+    let fewer : quotients_at first ≤ quotients_at from = omega (arith, s, one) in
+    let less : quotients_at second ≤ quotients_at from = omega (arith, s, two) in
+    both-go vs k (plain_leaves vs k rs first) (plain_leaves vs k rs second) from first second (Node.Case 1) refl refl
+    deep fewer refl less refl (case-opens vs k f b either) (leaves-some vs k rs second) (first-met vs f b)
+    (second-met vs f b) (go rs first (ready-first vs k rs f b either r) (omega (arith, none, fewer)))
+    (go rs second (ready-second vs k rs f b either r) (omega (arith, none, less)))
 
 halves-go : (vs : List Variable) (k : ℕ) (rs : List Range) (b : Branch) (place : ℕ) (at : ℤ) → suc k ≤ 960 → AllGo vs k
-    → Ready vs (suc k) rs b → b.waiting ≡ [] → first_cut 0 rs ≡ Some (record { place = place; at = at }) →
+    → Ready vs (suc k) rs b → quotients_at b ≡ 0 → b.waiting ≡ [] →
+    first_cut 0 rs ≡ Some (record { place = place; at = at }) →
     Goes vs (suc k) (cut_leaves (plain_leaves vs k) rs b (Some (record { place = place; at = at }))) b
-halves-go vs k rs b place at deep go r w e =
+halves-go vs k rs b place at deep go r none w e =
     let cut = cut-is vs (suc k) rs b place at r e in
     let long = r.long in
     let inside = cut.inside in
-    both-go vs k (plain_leaves vs k (with_high rs place at) (added b (at_most place at)))
-    (plain_leaves vs k (with_low rs place (at +ℤ pos 1)) (added b (at_least place (at +ℤ pos 1)))) b
-    (added b (at_most place at)) (added b (at_least place (at +ℤ pos 1))) (Node.Split (place + 1) at) refl cut.simple
-    deep (split-opens vs k b place at deep (omega (arith, long, inside)))
-    (leaves-some vs k (with_low rs place (at +ℤ pos 1)) (added b (at_least place (at +ℤ pos 1))))
-    (added-met vs b (at_most place at)) (added-met vs b (at_least place (at +ℤ pos 1)))
-    (go (with_high rs place at) (added b (at_most place at)) (ready-low vs k rs b place at r w e))
-    (go (with_low rs place (at +ℤ pos 1)) (added b (at_least place (at +ℤ pos 1)))
-    (ready-high vs k rs b place at r w e))
+    let low : Branch = added b (at_most place at) in
+    let high : Branch = added b (at_least place (at +ℤ pos 1)) in
+    let q = quotients-append b.waiting [] in
+    let fewer : quotients_at low ≤ quotients_at b = omega (arith, q) in
+    let less : quotients_at high ≤ quotients_at b = omega (arith, q) in
+    both-go vs k (plain_leaves vs k (with_high rs place at) low)
+    (plain_leaves vs k (with_low rs place (at +ℤ pos 1)) high) b low high (Node.Split (place + 1) at) refl cut.simple
+    deep fewer refl less refl (split-opens vs k b place at (omega (arith, long, inside)))
+    (leaves-some vs k (with_low rs place (at +ℤ pos 1)) high) (added-met vs b (at_most place at))
+    (added-met vs b (at_least place (at +ℤ pos 1)))
+    (go (with_high rs place at) low (ready-low vs k rs b place at r w e) (omega (arith, none, fewer)))
+    (go (with_low rs place (at +ℤ pos 1)) high (ready-high vs k rs b place at r w e) (omega (arith, none, less)))
 
 -- the first waiting formula stands before the others
 whole : (b : Branch) (f : CForm) (fs : List CForm) → b.waiting ≡ f ∷ fs → waiting_only b (f ∷ fs) ≡ b
 whole b f fs e = ap (waiting_only b) (sym e)
 
-leaf-goes : (vs : List Variable) (k leaves : ℕ) (rs : List Range) (b : Branch) → Ready vs k rs b → some_out_of_reach
-    b.facts ≡ false → b.waiting ≡ [] → first_cut 0 rs ≡ None → Goes vs k leaves b
-leaf-goes vs k leaves rs b r u w e x s = met (map (λ (r : Range). r.lo) rs) (leaf-met vs k rs b r u w e)
+leaf-goes : (vs : List Variable) (k leaves : ℕ) (rs : List Range) (b : Branch) → Ready vs k rs b →
+    quotients_at b ≡ 0 → some_out_of_reach b.facts ≡ false → b.waiting ≡ [] → first_cut 0 rs ≡ None →
+    Goes vs k leaves b
+leaf-goes vs k leaves rs b r none u w e x s =
+    met (map (λ (r : Range). r.lo) rs) (leaf-met vs k rs b r (omega (arith, none)) u w e)
 
 -- no fact is out of reach, and a level is left
 cut-goes : (vs : List Variable) (k : ℕ) (rs : List Range) (b : Branch) → suc k ≤ 960 → AllGo vs k → Ready vs (suc k)
-    rs b → some_out_of_reach b.facts ≡ false → b.waiting ≡ [] → (o : Option Cut) → first_cut 0 rs ≡ o →
-    Goes vs (suc k) (cut_leaves (plain_leaves vs k) rs b o) b
-cut-goes vs k rs b deep go r u w None e = leaf-goes vs (suc k) 1 rs b r u w e
-cut-goes vs k rs b deep go r u w (Some c) e = halves-go vs k rs b c.place c.at deep go r w e
+    rs b → quotients_at b ≡ 0 → some_out_of_reach b.facts ≡ false → b.waiting ≡ [] → (o : Option Cut) →
+    first_cut 0 rs ≡ o → Goes vs (suc k) (cut_leaves (plain_leaves vs k) rs b o) b
+cut-goes vs k rs b deep go r none u w None e = leaf-goes vs (suc k) 1 rs b r none u w e
+cut-goes vs k rs b deep go r none u w (Some c) e = halves-go vs k rs b c.place c.at deep go r none w e
+
+first-either : (vs : List Variable) (k : ℕ) (rs : List Range) (b : Branch) (f : CForm) (fs : List CForm) →
+    Ready vs k rs b → b.waiting ≡ f ∷ fs → quotients_at b ≡ 0 → is_either f ≡ true
+first-either vs k rs b f fs r w none =
+    let q = ap quotients_of w in
+    waits-either f (and_parts (can_wait f) (list_all can_wait fs) (sym (ap (list_all can_wait) w) ∙ r.waits)).0
+    (omega (arith, none, q))
 
 open-goes : (vs : List Variable) (k : ℕ) (rs : List Range) (b : Branch) → suc k ≤ 960 → AllGo vs k → Ready vs (suc k)
-    rs b → some_out_of_reach b.facts ≡ false → (ws : List CForm) → b.waiting ≡ ws →
+    rs b → quotients_at b ≡ 0 → some_out_of_reach b.facts ≡ false → (ws : List CForm) → b.waiting ≡ ws →
     Goes vs (suc k) (open_leaves vs (plain_leaves vs k) rs b ws) b
-open-goes vs k rs b deep go r u [] w = cut-goes vs k rs b deep go r u w (first_cut 0 rs) refl
-open-goes vs k rs b deep go r u (f ∷ fs) w =
+open-goes vs k rs b deep go r none u [] w = cut-goes vs k rs b deep go r none u w (first_cut 0 rs) refl
+open-goes vs k rs b deep go r none u (f ∷ fs) w =
     let same = whole b f fs w in
+    let either = first-either vs (suc k) rs b f fs r w none in
     subst (Goes vs (suc k) (open_leaves vs (plain_leaves vs k) rs b (f ∷ fs))) same
-    (sides-go vs k rs f (waiting_only b fs) deep go (subst (Ready vs (suc k) rs) (sym same) r))
+    (subst (λ n. Goes vs (suc k) n (waiting_only b (f ∷ fs))) (sym (either-leaves vs k rs b f fs either))
+    (sides-go vs k rs f (waiting_only b fs) deep go (subst (Ready vs (suc k) rs) (sym same) r) either
+    (ap quotients_at same ∙ none)))
 
 -- no level is left
-end-goes : (vs : List Variable) (leaves : ℕ) (rs : List Range) (b : Branch) → Ready vs 0 rs b → some_out_of_reach
-    b.facts ≡ false → (ws : List CForm) → b.waiting ≡ ws → Goes vs 0 leaves b
-end-goes vs leaves rs b r u (f ∷ fs) w =
-    let one = ready-deep vs 0 rs f (waiting_only b fs) (subst (Ready vs 0 rs) (sym (whole b f fs w)) r) in
+end-goes : (vs : List Variable) (leaves : ℕ) (rs : List Range) (b : Branch) → Ready vs 0 rs b → quotients_at b ≡ 0 →
+    some_out_of_reach b.facts ≡ false → (ws : List CForm) → b.waiting ≡ ws → Goes vs 0 leaves b
+end-goes vs leaves rs b r none u (f ∷ fs) w =
+    let one = ready-deep vs 0 rs f fs b (subst (Ready vs 0 rs) (sym (whole b f fs w)) r) in
     absurd (omega (arith, one))
-end-goes vs leaves rs b r u [] w = by_cut (first_cut 0 rs) refl
+end-goes vs leaves rs b r none u [] w = by_cut (first_cut 0 rs) refl
   where
     by_cut : (o : Option Cut) → first_cut 0 rs ≡ o → Goes vs 0 leaves b
-    by_cut None e = leaf-goes vs 0 leaves rs b r u w e
+    by_cut None e = leaf-goes vs 0 leaves rs b r none u w e
     by_cut (Some c) e = let one = ready-cut vs 0 rs b c.place c.at r e in absurd (omega (arith, one))
 
 all-go : (vs : List Variable) (k : ℕ) → k ≤ 960 → AllGo vs k
-all-go vs zero h rs b r = by_reach (some_out_of_reach b.facts) refl
+all-go vs zero h rs b r none = by_reach (some_out_of_reach b.facts) refl
   where
     by_reach : (t : Bool) → some_out_of_reach b.facts ≡ t → Goes vs 0 1 b
-    by_reach true e = chain-goes vs 0 1 b h (omega arith) (reach-chain (length vs) b.facts r.exact e)
-    by_reach false e = end-goes vs 1 rs b r e b.waiting refl
-all-go vs (suc k) h rs b r = by_reach (some_out_of_reach b.facts) refl (all-go vs k (omega (arith, h)))
+    by_reach true e = chain-goes vs 0 1 b (omega arith) (reach-chain (length (scope_of vs b)) b.facts r.exact e)
+    by_reach false e = end-goes vs 1 rs b r none e b.waiting refl
+all-go vs (suc k) h rs b r none = by_reach (some_out_of_reach b.facts) refl (all-go vs k (omega (arith, h)))
   where
     by_reach : (t : Bool) → some_out_of_reach b.facts ≡ t → AllGo vs k → Goes vs (suc k) (plain_leaves vs (suc k) rs b)
         b
-    by_reach true e go = chain-goes vs (suc k) (plain_leaves vs (suc k) rs b) b h (leaves-some vs (suc k) rs b)
-        (reach-chain (length vs) b.facts r.exact e)
+    by_reach true e go = chain-goes vs (suc k) (plain_leaves vs (suc k) rs b) b (leaves-some vs (suc k) rs b)
+        (reach-chain (length (scope_of vs b)) b.facts r.exact e)
     by_reach false e go = subst (λ n. Goes vs (suc k) n b) (sym (unreached-leaves vs k rs b e))
-        (open-goes vs k rs b h go r e b.waiting refl)
+        (open-goes vs k rs b h go r none e b.waiting refl)
 
 -- The branch that an obligation starts from.
 abbrev all_leaves : Obligation → ℕ
@@ -237,11 +279,11 @@ root-ends o budget m (met values c) = refuted values
     (Ended.Refuted values) budget _ refl refl refl refl refl c refl)
 
 pub search-ends : SearchEnds
-search-ends o budget m = by_budget (nat_le (enough o) budget) refl
+search-ends o budget m none = by_budget (nat_le (enough o) budget) refl
   where
     by_budget : (t : Bool) → nat_le (enough o) budget ≡ t → Ending o budget
     by_budget true e =
-        let w = le-is (enough o) budget e in
+        let w = le-is (enough o) budget e in let room = room-enough o in
         root-ends o budget m (all-go o.variables 960 (omega arith) (ranges_of o.variables) (first_branch o)
-        (ready-root o m) (start budget) (omega (arith, w)))
+        (ready-root o m) (no-quotients o none) (start budget) (omega (arith, w, room)))
     by_budget false e = short (gt-is (enough o) budget e)

@@ -1,15 +1,11 @@
 -- What settling adds has rising places, no factor 0, and only places of variables.
 use Rattle.std.proofs.Common.{◌≡◌, ℕ, suc, ◌+◌, ◌≤◌, ◌<◌, nat_le, ℤ, pos, negsuc, Bool, true, false, cond, not, ◌&&◌}
-use Rattle.std.proofs.Common.{Option, Some, None, List, [], ◌∷◌, length, arith, refl, sym, ap, subst, ◌∙◌}
+use Rattle.std.proofs.Common.{Option, Some, None, List, [], ◌∷◌, length, arith, refl, ap, ◌∙◌}
 use Rattle.std.proofs.lemmas.List.Folds.{list_all-append}
 use Rattle.std.proofs.lemmas.Bool.{and_parts}
 use Rattle.core_terms.specs.declared.trees.CTerm.{CTerm}
-use Rattle.core_terms.specs.declared.trees.CForm.{CForm, roll-CForm, ind-CForm}
-use Rattle.core_terms.specs.declared.trees.CForm.TheVariants.{Top, Bottom, AtLeast, Zero, Not, And, Or, rolls-Top}
-use Rattle.core_terms.specs.declared.trees.CForm.TheVariants.{rolls-Bottom, rolls-AtLeast, rolls-Zero, rolls-Not}
-use Rattle.core_terms.specs.declared.trees.CForm.TheVariants.{rolls-And, rolls-Or}
-use Rattle.core_terms.specs.declared.trees.CForm.TheOpen.{CForm-F}
-use Rattle.core_terms.specs.declared.trees.CForm.TheFolds.{map-CForm}
+use Rattle.core_terms.specs.declared.trees.CForm.{CForm}
+use Rattle.core_terms.specs.declared.trees.CForm.TheVariants.{AtLeast, Zero}
 use Rattle.obligations.specs.declared.branches.Branch.{Branch}
 use Rattle.obligations.specs.declared.branches.Fact.{Fact}
 use Rattle.obligations.specs.declared.branches.Line.{Line}
@@ -18,13 +14,11 @@ use Rattle.obligations.specs.declared.branches.Choice.{Choice}
 use Rattle.meaning_states.specs.State.{int_eq}
 use Rattle.obligations.specs.LinearForms.{zeros, sparse, fact_of, linear, negated}
 use Rattle.obligations.specs.Opening.{at_most, range_facts}
-use Rattle.obligations.specs.Settling.{joined, one_waiting, first_ite, least_adds, zero_adds, unequal_adds}
-use Rattle.obligations.specs.Settling.{below_zero, settled, refused}
+use Rattle.obligations.specs.Settling.{joined, one_fact, two_facts, one_waiting, has_quotient, first_ite, least_adds}
+use Rattle.obligations.specs.Settling.{zero_adds, unequal_adds, below_zero, outcome, settled, refused}
+use Rattle.obligations.proofs.SettledKeeps.{Rows, settled_keeps}
 use Rattle.obligations.proofs.LineLaws.{length-zeros, length-plus}
 use Rattle.obligations.proofs.SettlingLaws.{linear-long}
-use Rattle.obligations.proofs.TableLaws.{settled-Top, refused-Bottom, settled-Bottom, refused-Top, settled-AtLeast}
-use Rattle.obligations.proofs.TableLaws.{refused-AtLeast, settled-Zero, refused-Zero, settled-Not, refused-Not}
-use Rattle.obligations.proofs.TableLaws.{settled-And, refused-Or, settled-Or, refused-And}
 use Rattle.obligations.specs.Reach.{is_exact, is_within, are_exact}
 
 le-true : (a b : ℕ) → a ≤ b → nat_le a b ≡ true
@@ -80,107 +74,56 @@ module _ (vs : List Variable) where
   negated-long : (l : Line) → length (negated vs l).factors ≡ length vs
   negated-long l = length-plus (negsuc 0) (zeros vs) l.factors ∙ length-zeros vs
 
+  waits-exact : (f : CForm) (a : Branch) (q : Bool) → E a.facts → E (cond q (one_waiting f) a).facts
+  waits-exact f a true h = refl
+  waits-exact f a false h = h
+
   least-exact : (t : CTerm) (m : Option Choice) → E (least_adds vs t m).facts
-  least-exact t None = one-exact (linear vs t) (linear-long vs t)
+  least-exact t None =
+      waits-exact (AtLeast t) (one_fact (linear vs t)) (has_quotient t) (one-exact (linear vs t) (linear-long vs t))
   least-exact t (Some c) = refl
 
   zero-exact : (t : CTerm) (m : Option Choice) → E (zero_adds vs t m).facts
-  zero-exact t None = ap (λ z. z && are_exact (length vs) (fact_of (negated vs (linear vs t)) ∷ []))
+  zero-exact t None =
+      waits-exact (Zero t) (two_facts (linear vs t) (negated vs (linear vs t))) (has_quotient t)
+      (ap (λ z. z && are_exact (length vs) (fact_of (negated vs (linear vs t)) ∷ []))
       (fact-exact (linear vs t) (linear-long vs t)) ∙ one-exact (negated vs (linear vs t))
-      (negated-long (linear vs t))
+      (negated-long (linear vs t)))
   zero-exact t (Some c) = refl
 
   unequal-exact : (t : CTerm) (m : Option Choice) → E (unequal_adds t m).facts
   unequal-exact t None = refl
   unequal-exact t (Some c) = refl
 
-  record P (f : CForm) : Type 0 where
-    yes : (b : Branch) → E b.facts → E (settled vs f b).facts
-    no : (b : Branch) → E b.facts → E (refused vs f b).facts
+  -- what a formula and its negation add
+  record Exact (f : CForm) (a b : Branch) : Type 0 where
+    yes : E a.facts
+    no : E b.facts
 
-  false-fact : Branch
-  false-fact = record { facts = record { factors = []; constant = negsuc 0 } ∷ []; waiting = [] }
-
-  abbrev F : Branch → Type 0
-  F b = E b.facts
-
-  top-P : P Top
-  top-P = record {
-    yes = λ b h. subst F (sym (settled-Top vs b)) h;
-    no = λ b h. subst F (sym (refused-Top vs b))
-        (joined-exact b (record { facts = record { factors = []; constant = negsuc 0 } ∷ []; waiting = [] }) h refl);
+  rows : Rows vs Exact
+  rows = record {
+    of_top = record { yes = refl; no = refl };
+    of_bottom = record { yes = refl; no = refl };
+    of_least = λ t. record {
+      yes = least-exact t (first_ite t);
+      no = least-exact (below_zero t) (first_ite (below_zero t));
+    };
+    of_zero = λ t. record { yes = zero-exact t (first_ite t); no = unequal-exact t (first_ite t) };
+    of_not = λ f a b p. record { yes = p.no; no = p.yes };
+    of_and = λ f g a b c d p q. record { yes = joined-exact a c p.yes q.yes; no = refl };
+    of_or = λ f g a b c d p q. record { yes = refl; no = joined-exact b d p.no q.no };
   }
 
-  bottom-P : P Bottom
-  bottom-P = record {
-    yes = λ b h. subst F (sym (settled-Bottom vs b))
-        (joined-exact b (record { facts = record { factors = []; constant = negsuc 0 } ∷ []; waiting = [] }) h refl);
-    no
-        = λ b h. subst F (sym (refused-Bottom vs b)) h;
-  }
-
-  least-P : (t : CTerm) → P (AtLeast t)
-  least-P t = record {
-    yes = λ b h. subst F (sym (settled-AtLeast vs t b)) (joined-exact b (least_adds vs t (first_ite t)) h
-        (least-exact t (first_ite t)));
-    no = λ b h. subst F (sym (refused-AtLeast vs t b)) (joined-exact b
-        (least_adds vs (below_zero t) (first_ite (below_zero t))) h
-        (least-exact (below_zero t) (first_ite (below_zero t))));
-  }
-
-  zero-P : (t : CTerm) → P (Zero t)
-  zero-P t = record {
-    yes = λ b h. subst F (sym (settled-Zero vs t b)) (joined-exact b (zero_adds vs t (first_ite t)) h
-        (zero-exact t (first_ite t)));
-    no = λ b h. subst F (sym (refused-Zero vs t b)) (joined-exact b (unequal_adds t (first_ite t)) h
-        (unequal-exact t (first_ite t)));
-  }
-
-  not-P : (f : CForm) → P f → P (Not f)
-  not-P f p = record {
-    yes = λ b h. subst F (sym (settled-Not vs f b)) (p.no b h);
-    no = λ b h. subst F
-        (sym (refused-Not vs f b)) (p.yes b h);
-  }
-
-  and-P : (f g : CForm) → P f → P g → P (And f g)
-  and-P f g p q = record {
-    yes = λ b h. subst F (sym (settled-And vs f g b)) (q.yes (settled vs f b) (p.yes b h));
-    no = λ b h. subst F (sym (refused-And vs f g b)) (joined-exact b (one_waiting (Or (Not f) (Not g))) h refl);
-  }
-
-  or-P : (f g : CForm) → P f → P g → P (Or f g)
-  or-P f g p q = record {
-    yes = λ b h. subst F (sym (settled-Or vs f g b)) (joined-exact b (one_waiting (Or f g)) h refl);
-    no = λ b h. subst F (sym (refused-Or vs f g b)) (q.no (refused vs f b) (p.no b h));
-  }
-
-  abbrev KnownForm : Type 0
-  KnownForm = (f : CForm) × P f
-
-  abbrev AnyTerm : Type 0
-  AnyTerm = (t : CTerm) × Unit {0}
-
-  known_layer : (y : CForm-F KnownForm AnyTerm) → P (roll-CForm
-      (map-CForm KnownForm AnyTerm CForm CTerm (λ e. e.0) (λ e. e.0) y))
-  known_layer CForm-F.Top = subst P (sym rolls-Top) top-P
-  known_layer CForm-F.Bottom = subst P (sym rolls-Bottom) bottom-P
-  known_layer (CForm-F.AtLeast t) = subst P (sym (rolls-AtLeast t.0)) (least-P t.0)
-  known_layer (CForm-F.Zero t) = subst P (sym (rolls-Zero t.0)) (zero-P t.0)
-  known_layer (CForm-F.Not f) = subst P (sym (rolls-Not f.0)) (not-P f.0 f.1)
-  known_layer (CForm-F.And f g) = subst P (sym (rolls-And f.0 g.0)) (and-P f.0 g.0 f.1 g.1)
-  known_layer (CForm-F.Or f g) = subst P (sym (rolls-Or f.0 g.0)) (or-P f.0 g.0 f.1 g.1)
-
-  form-P : (f : CForm) → P f
-  form-P f = ind-CForm P (λ t. Unit {0}) (λ x y e. subst (λ z. P (roll-CForm z)) e (known_layer y)) (λ x y e. tt) f
+  adds-exact : (f : CForm) → Exact f (outcome vs f).yes (outcome vs f).no
+  adds-exact = settled_keeps vs Exact rows
 
 pub settled-exact : (vs : List Variable) (f : CForm) (b : Branch) → are_exact (length vs) b.facts ≡ true → are_exact
     (length vs) (settled vs f b).facts ≡ true
-settled-exact vs f b h = (form-P vs f).yes b h
+settled-exact vs f b h = joined-exact vs b (outcome vs f).yes h (adds-exact vs f).yes
 
 pub refused-exact : (vs : List Variable) (f : CForm) (b : Branch) → are_exact (length vs) b.facts ≡ true → are_exact
     (length vs) (refused vs f b).facts ≡ true
-refused-exact vs f b h = (form-P vs f).no b h
+refused-exact vs f b h = joined-exact vs b (outcome vs f).no h (adds-exact vs f).no
 
 range-one : (n count : ℕ) (s c : ℤ) → not (int_eq s (pos 0)) ≡ true → n < count →
     (is_exact 0 ((n, s) ∷ []) && is_within count ((n, s) ∷ [])) ≡ true

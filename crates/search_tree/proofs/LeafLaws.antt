@@ -20,6 +20,7 @@ use Rattle.obligations.specs.Reach.{some_out_of_reach}
 use Rattle.obligations.specs.Plain.{first_cut, middle}
 use Rattle.search_tree.specs.Searching.{Has, AreBounded, widths, is_slender}
 use Rattle.obligations.specs.Obligations.{is_sound_range}
+use Rattle.linear_prover.specs.Chains.{is_plain_factor}
 use Rattle.linear_prover.proofs.SumLaws.{bound-is}
 
 le-is : (a b : ℕ) → nat_le a b ≡ true → a ≤ b
@@ -131,15 +132,20 @@ none-out (g ∷ facts) all (suc n) f u e = none-out facts all n f
     second true b h = cc
     second false b h = h
 
+-- what a slender fact's numbers are
+abbrev Slight : Fact → Type 0
+Slight f = (list_all is_plain_factor f.factors ≡ true) × (widths f.factors ≤ 2 ^ 63) × (unsigned_abs f.constant ≤ 2 ^ 64)
+
 slender-at : (facts : List Fact) (n : ℕ) (f : Fact) → list_all is_slender facts ≡ true → slice_get facts n ≡ Some f →
-    (widths f.factors ≤ 2 ^ 62) × (unsigned_abs f.constant ≤ 2 ^ 63)
+    Slight f
 slender-at [] n f s e = cc
 slender-at (g ∷ facts) zero f s e =
     let q : g ≡ f = cc in
     let a = and_parts (is_slender g) (list_all is_slender facts) s in
-    let b = and_parts (nat_le (widths g.factors) (2 ^ 62)) (nat_le (unsigned_abs g.constant) (2 ^ 63)) a.0 in
-    subst (λ z. (widths z.factors ≤ 2 ^ 62) × (unsigned_abs z.constant ≤ 2 ^ 63)) q
-    (le-is (widths g.factors) (2 ^ 62) b.0, le-is (unsigned_abs g.constant) (2 ^ 63) b.1)
+    let b = and_parts (list_all is_plain_factor g.factors)
+    (nat_le (widths g.factors) (2 ^ 63) && nat_le (unsigned_abs g.constant) (2 ^ 64)) a.0 in
+    let c = and_parts (nat_le (widths g.factors) (2 ^ 63)) (nat_le (unsigned_abs g.constant) (2 ^ 64)) b.1 in
+    subst Slight q (b.0, le-is (widths g.factors) (2 ^ 63) c.0, le-is (unsigned_abs g.constant) (2 ^ 64) c.1)
 slender-at (g ∷ facts) (suc n) f s e = slender-at facts n f (and_parts (is_slender g) (list_all is_slender facts) s).1
     e
 
@@ -160,8 +166,8 @@ fixed facts v z u s h k small =
     let high = reached facts 0 v (negsuc 0) z (at_most v z) k refl refl in
     let l = bound-is facts 0 v (pos 1) low.bound low.is in
     let g = bound-is facts 0 v (negsuc 0) high.bound high.is in
-    let ls = (slender-at facts l.place l.fact s l.there).1 in
-    let gs = (slender-at facts g.place g.fact s g.there).1 in
+    let ls = (slender-at facts l.place l.fact s l.there).2 in
+    let gs = (slender-at facts g.place g.fact s g.there).2 in
     let lc = l.constant in let gc = g.constant in
     let lc' = ap unsigned_abs lc in let gc' = ap unsigned_abs gc in
     let total : total_of facts l.fact.factors ≡ Some (record {
@@ -258,7 +264,7 @@ total-step facts fs values v (negsuc n) x r h =
     }
 
 pub total-is : (facts : List Fact) (fs : List (ℕ × ℤ)) (count : ℕ) (values : List ℤ) →
-    ((v : ℕ) → v < count → Fixed facts v (number_at values v)) → is_within count fs ≡ true → widths fs ≤ 2 ^ 62 →
+    ((v : ℕ) → v < count → Fixed facts v (number_at values v)) → is_within count fs ≡ true → list_all is_plain_factor fs ≡ true →
     TotalIs facts fs values
 total-is facts [] count values fix w h = record {
   total = record { value = pos 0; load = 0; light = true };
@@ -270,15 +276,16 @@ total-is facts [] count values fix w h = record {
 total-is facts (f ∷ fs) count values fix w h =
     let within = and_parts (nat_le (suc f.0) count) (is_within count fs) w in
     let inside = le-is (suc f.0) count within.0 in
+    let plain = and_parts (is_plain_factor f) (list_all is_plain_factor fs) h in
     total-step facts fs values f.0 f.1 (fix f.0 (omega (arith, inside)))
-    (total-is facts fs count values fix within.1 (omega (arith, h))) (omega (arith, h))
+    (total-is facts fs count values fix within.1 plain.1) (le-is (unsigned_abs f.1) (2 ^ 62) plain.0)
 
 -- a fact that is not refuted by fixed bounds holds
 fact-met : (facts : List Fact) (f : Fact) (values : List ℤ) → TotalIs facts f.factors values → widths f.factors ≤ 2 ^
-    62 → unsigned_abs f.constant ≤ 2 ^ 63 → bounds_refute facts f ≡ false → fact_holds values f ≡ true
+    63 → unsigned_abs f.constant ≤ 2 ^ 64 → bounds_refute facts f ≡ false → fact_holds values f ≡ true
 fact-met facts f values t w c safe =
     let load = t.load in
-    let most : widths f.factors * 2 ^ 62 ≤ 2 ^ 62 * 2 ^ 62 = mul-le-mul w (le_refl (2 ^ 62)) in
+    let most : widths f.factors * 2 ^ 62 ≤ 2 ^ 63 * 2 ^ 62 = mul-le-mul w (le_refl (2 ^ 62)) in
     let room : nat_le (unsigned_abs f.constant + t.total.load) (2 ^ 126) ≡ true = le-true _ (2 ^ 126)
     (omega (arith, load, most, c)) in
     let known : is_refuted_by f.constant (Some t.total) ≡ false = ap (is_refuted_by f.constant) (sym t.is) ∙ safe in
@@ -367,7 +374,7 @@ leaf-facts facts rs exact slender sound bounded reach e = all-from (fact_holds v
     let s = slender-at facts i f slender q in
     let x = and_parts (is_exact 0 f.factors) (is_within (length rs) f.factors)
     (all-there (λ (f : Fact). is_exact 0 f.factors && is_within (length rs) f.factors) facts i f exact q) in
-    fact-met facts f values (total-is facts f.factors (length rs) values fix x.1 s.0) s.0 s.1
+    fact-met facts f values (total-is facts f.factors (length rs) values fix x.1 s.0) s.1 s.2
     (none-out facts facts i f reach q))
   where
     values : List ℤ

@@ -2,9 +2,17 @@ pub mod SideLaws
 pub mod SearchLaws
 pub mod TreeLaws
 pub mod ReadyLaws
+pub mod MetLaws
 pub mod CycleLaws
+pub mod QuotLaws
+pub mod TakenReady
+pub mod QuotReady
+pub mod QuotFacts
+pub mod FixedLaws
 pub mod ShapeLaws
+pub mod QuotientShapes
 pub mod RootLaws
+pub mod ValueLaws
 pub mod CutLaws
 pub mod LeafLaws
 pub mod ExactLaws

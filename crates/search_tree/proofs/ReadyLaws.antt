@@ -1,6 +1,6 @@
 -- The branches that a search opens are ready for it.
 use Rattle.std.proofs.Common.{◌≡◌, ℕ, zero, suc, ◌+◌, ◌-◌, ◌≤◌, ◌<◌, ◌^◌, nat_le, ℤ, pos, negsuc, neg_ℤ, not, ◌+ℤ◌}
-use Rattle.std.proofs.Common.{◌<ℤ◌, ◌≤ℤ◌, Bool, true, false, cond, ◌&&◌, ◌||◌, inl, inr, Option, Some, None, List, []}
+use Rattle.std.proofs.Common.{◌<ℤ◌, ◌≤ℤ◌, Bool, true, false, cond, ◌&&◌, inl, inr, Option, Some, None, List, []}
 use Rattle.std.proofs.Common.{◌∷◌, ◌++◌, length, map, nat_lt, slice_get, arith, refl, sym, ap, subst, ◌∙◌}
 use Rattle.std.specs.List.{list_all}
 use Rattle.std.specs.Int.RustNames.{int_le, unsigned_abs}
@@ -19,23 +19,24 @@ use Rattle.obligations.specs.Settling.{settled, outcome, form_at, branch_holds}
 use Rattle.obligations.proofs.NeedLaws.{settled-light, refused-light, need-within}
 use Rattle.obligations.proofs.LightLaws.{first-side, second-side}
 use Rattle.obligations.specs.Shapes.{shapes, cases_of}
-use Rattle.search_tree.specs.Choices.{is_either}
+use Rattle.search_tree.specs.Choices.{can_wait}
 use Rattle.obligations.specs.Load.{is_narrow}
-use Rattle.search_tree.proofs.ShapeLaws.{settled-more, refused-more, side-shapes}
+use Rattle.search_tree.proofs.ShapeLaws.{settled-more, refused-more, side-shapes, waits-some}
 use Rattle.obligations.specs.Load.{need, is_light}
 use Rattle.obligations.specs.Opening.{range_facts, ranges_only, first_branch}
 use Rattle.obligations.specs.LinearForms.{fact_holds}
 use Rattle.obligations.specs.Settling.{sides, added}
 use Rattle.obligations.specs.Opening.{at_most, at_least}
-use Rattle.certificate_check.specs.Refutation.{split_at, fails, opens, made, allowing}
-use Rattle.obligations.proofs.SettlingLaws.{settled-holds}
-use Rattle.certificate_check.proofs.RefutationLaws.{side_in, holds-without, holds-added}
+use Rattle.certificate_check.specs.Refutation.{split_at, made_quot, fails, opens, made, allowing}
 use Rattle.obligations.specs.Reach.{is_exact, is_within, are_exact, some_out_of_reach}
 use Rattle.obligations.specs.Plain.{Cut, ranges_of, first_cut, with_high, with_low, waiting_only, cuts_of}
-use Rattle.obligations.specs.Plain.{plain_leaves, open_leaves, cut_leaves}
+use Rattle.obligations.specs.Plain.{plain_leaves, open_leaves, side_leaves, quot_leaves, cut_leaves}
+use Rattle.obligations.specs.declared.branches.Replaced.{Replaced}
+use Rattle.obligations.specs.Quotients.{is_either, without_quotient, with_quotient}
+use Rattle.obligations.specs.Scopes.{next_param, scope_of}
 use Rattle.search_tree.specs.Searching.{Ready, Met, Has, AreBounded, is_slender, levels_of}
 use Rattle.obligations.proofs.NumberLaws.{obligation-height, obligation-load, obligation-narrow, obligation-sound}
-use Rattle.obligations.specs.Obligations.{is_sound_range, IsObligation}
+use Rattle.obligations.specs.Obligations.{is_sound_range, IsObligation, AreOwn, AreVariables}
 use Rattle.meaning_states.specs.State.{int_eq}
 use Rattle.linear_prover.specs.Chains.{is_plain_number}
 use Rattle.search_tree.proofs.CutLaws.{good-cut}
@@ -43,6 +44,11 @@ use Rattle.search_tree.proofs.LeafLaws.{leaf-facts}
 use Rattle.search_tree.proofs.SlenderLaws.{settled-within, refused-within, first-narrow, second-narrow}
 use Rattle.search_tree.proofs.ExactLaws.{settled-exact, refused-exact, ranges-exact}
 use Rattle.search_tree.proofs.SearchLaws.{made-level}
+use Rattle.obligations.specs.Closed.{NamesOnly}
+use Rattle.obligations.proofs.ClosedLaws.{settled-closed}
+use Rattle.obligations.proofs.ScopeLaws.{scope-length, scope-done}
+use Rattle.certificate_check.proofs.ClosedLaws.{closed-added, side-names}
+use Rattle.certificate_check.proofs.SoundLaws.{first-closed}
 
 le-is : (a b : ℕ) → nat_le a b ≡ true → a ≤ b
 le-is a b h = grind arith
@@ -86,7 +92,17 @@ cut-some go rs b (Some c) h = one-sum _ _ (h (with_high rs c.place c.at) (added 
 open-some : (vs : List Variable) (go : List Range → Branch → ℕ) (rs : List Range) (b : Branch) (ws : List CForm) →
     ((rs : List Range) (b : Branch) → 1 ≤ go rs b) → 1 ≤ open_leaves vs go rs b ws
 open-some vs go rs b [] h = cut-some go rs b (first_cut 0 rs) h
-open-some vs go rs b (f ∷ fs) h = one-sum _ _ (h rs (settled vs (sides f).0 (waiting_only b fs)))
+open-some vs go rs b (f ∷ fs) h = by_either (is_either f)
+  where
+    by_quotient : (o : Option Replaced) → 1 ≤ quot_leaves (scope_of vs b) go rs (waiting_only b fs) o
+    by_quotient None = omega arith
+    by_quotient (Some r) = h rs (with_quotient (scope_of vs b) r (waiting_only b fs))
+
+    by_either : (t : Bool) → 1 ≤ cond t (side_leaves (scope_of vs b) go rs (waiting_only b fs) f)
+        (quot_leaves (scope_of vs b) go rs (waiting_only b fs)
+        (without_quotient (next_param (scope_of vs b)) f))
+    by_either true = one-sum _ _ (h rs (settled (scope_of vs b) (sides f).0 (waiting_only b fs)))
+    by_either false = by_quotient (without_quotient (next_param (scope_of vs b)) f)
 
 either-some : (t : Bool) (n : ℕ) → 1 ≤ n → 1 ≤ cond t 1 n
 either-some true n h = omega arith
@@ -103,52 +119,49 @@ pub unreached-leaves : (vs : List Variable) (k : ℕ) (rs : List Range) (b : Bra
     → plain_leaves vs (suc k) rs b ≡ open_leaves vs (plain_leaves vs k) rs b b.waiting
 unreached-leaves vs k rs b e = ap (λ t. cond t 1 (open_leaves vs (plain_leaves vs k) rs b b.waiting)) e
 
+-- a branch where nothing waits, no range is to be split and no fact is out of reach is a leaf
+pub leaf-count : (vs : List Variable) (k : ℕ) (rs : List Range) (b : Branch) → some_out_of_reach b.facts ≡ false →
+    b.waiting ≡ [] → first_cut 0 rs ≡ None → plain_leaves vs k rs b ≡ 1
+leaf-count vs zero rs b u w e = refl
+leaf-count vs (suc k) rs b u w e = unreached-leaves vs k rs b u ∙ ap (open_leaves vs (plain_leaves vs k) rs b) w
+    ∙ ap (cut_leaves (plain_leaves vs k) rs b) e
+
+-- the leaves of a branch whose first waiting formula is an `Or`
+pub either-leaves : (vs : List Variable) (k : ℕ) (rs : List Range) (b : Branch) (f : CForm) (fs : List CForm) →
+    is_either f ≡ true → open_leaves vs (plain_leaves vs k) rs b (f ∷ fs) ≡ side_leaves (scope_of vs b)
+    (plain_leaves vs k) rs (waiting_only b fs) f
+either-leaves vs k rs b f fs either =
+    ap (λ t. cond t (side_leaves (scope_of vs b) (plain_leaves vs k) rs (waiting_only b fs) f)
+    (quot_leaves (scope_of vs b) (plain_leaves vs k) rs (waiting_only b fs)
+    (without_quotient (next_param (scope_of vs b)) f))) either
+
+-- those of a branch of which a quotient is taken next
+pub quotient-leaves : (vs : List Variable) (k : ℕ) (rs : List Range) (b : Branch) (f : CForm) (fs : List CForm) →
+    is_either f ≡ false → open_leaves vs (plain_leaves vs k) rs b (f ∷ fs) ≡ quot_leaves (scope_of vs b)
+    (plain_leaves vs k) rs (waiting_only b fs) (without_quotient (next_param (scope_of vs b)) f)
+quotient-leaves vs k rs b f fs either =
+    ap (λ t. cond t (side_leaves (scope_of vs b) (plain_leaves vs k) rs (waiting_only b fs) f)
+    (quot_leaves (scope_of vs b) (plain_leaves vs k) rs (waiting_only b fs)
+    (without_quotient (next_param (scope_of vs b)) f))) either
+
 -- The branches of a waiting formula.
-pub case-opens : (vs : List Variable) (k : ℕ) (f : CForm) (b : Branch) → suc k ≤ 960 →
+pub case-opens : (vs : List Variable) (k : ℕ) (f : CForm) (b : Branch) → is_either f ≡ true →
     made vs (allowing (levels_of (suc k)) (waiting_only b (f ∷ b.waiting))) (Node.Case 1) ≡ opens
-    (settled vs (sides f).0 b ∷ settled vs (sides f).1 b ∷ [])
-case-opens vs k f b h = made-level vs (levels_of (suc k)) (waiting_only b (f ∷ b.waiting)) (Node.Case 1) (omega arith)
+    (settled (scope_of vs b) (sides f).0 b ∷ settled (scope_of vs b) (sides f).1 b ∷ [])
+case-opens vs k f b either =
+    made-level vs (levels_of (suc k)) (waiting_only b (f ∷ b.waiting)) (Node.Case 1) (omega arith)
+    ∙ ap (λ t. cond t
+    (opens (settled (scope_of vs b) (sides f).0 b ∷ settled (scope_of vs b) (sides f).1 b ∷ []))
+    (fails Code.NothingToCase)) either
 
-or-left : (a b : Bool) → a ≡ true → (a || b) ≡ true
-or-left true b e = refl
-or-left false b e = cc
-
-or-right : (a b : Bool) → b ≡ true → (a || b) ≡ true
-or-right true b e = refl
-or-right false b e = e
-
-side-met : (vs : List Variable) (f g : CForm) (b : Branch) (values : List ℤ) →
-    (length values ≡ length vs → form_at vs values g ≡ true → form_at vs values f ≡ true) → Met vs (settled vs g b)
-    values → Met vs (waiting_only b (f ∷ b.waiting)) values
-side-met vs f g b values up m =
-    let parts = and_parts (branch_holds vs values b) (form_at vs values g)
-    (sym (settled-holds vs values g b m.long) ∙ m.holds) in
-    record {
-      long = m.long;
-      holds = holds-without vs values m.long (waiting_only b (f ∷ b.waiting)) 0 f refl ∙ ap
-          (λ z. z && form_at vs values f) parts.0 ∙ up m.long parts.1;
-    }
-
-pub first-met : (vs : List Variable) (f : CForm) (b : Branch) (values : List ℤ) → Met vs (settled vs (sides f).0 b)
-    values → Met vs (waiting_only b (f ∷ b.waiting)) values
-first-met vs f b values = side-met vs f (sides f).0 b values
-    (λ long e. side_in vs values long f (out-CForm f) refl ∙ or-left (form_at vs values (sides f).0)
-    (form_at vs values (sides f).1) e)
-
-pub second-met : (vs : List Variable) (f : CForm) (b : Branch) (values : List ℤ) → Met vs (settled vs (sides f).1 b)
-    values → Met vs (waiting_only b (f ∷ b.waiting)) values
-second-met vs f b values = side-met vs f (sides f).1 b values
-    (λ long e. side_in vs values long f (out-CForm f) refl ∙ or-right (form_at vs values (sides f).0)
-    (form_at vs values (sides f).1) e)
-
-pub added-met : (vs : List Variable) (b : Branch) (f : _) (values : List ℤ) → Met vs (added b f) values → Met vs b
-    values
-added-met vs b f values m =
-    record {
-      long = m.long;
-      holds = (and_parts (branch_holds vs values b) (fact_holds values f)
-          (sym (holds-added vs values m.long b f) ∙ m.holds)).0;
-    }
+-- the branch that its quotient opens
+pub quot-opens : (vs : List Variable) (k : ℕ) (f : CForm) (r : Replaced) (b : Branch) →
+    without_quotient (next_param (scope_of vs b)) f ≡ Some r →
+    made vs (allowing (levels_of (suc k)) (waiting_only b (f ∷ b.waiting))) (Node.Quot 1) ≡ opens
+    (with_quotient (scope_of vs b) r b ∷ [])
+quot-opens vs k f r b is =
+    made-level vs (levels_of (suc k)) (waiting_only b (f ∷ b.waiting)) (Node.Quot 1) (omega arith)
+    ∙ ap (made_quot (scope_of vs b) (waiting_only b (f ∷ b.waiting)) 0) is
 
 -- a formula that waits in a ready branch is light
 pub ready-light : (vs : List Variable) (k : ℕ) (rs : List Range) (f : CForm) (b : Branch) → Ready vs k rs
@@ -217,42 +230,74 @@ bounded-low n (r ∷ rs) (suc i) k facts h =
 side-ready : (vs : List Variable) (k : ℕ) (rs : List Range) (f g : CForm) (b : Branch) → Ready vs (suc k) rs
     (waiting_only b (f ∷ b.waiting)) → ((need f).yes ≤ 2 ^ 63 → (need g).yes ≤ 2 ^ 63) →
     (is_narrow f ≡ true → is_narrow g ≡ true) →
-    (is_either f ≡ true → suc (shapes g).yes.cases ≤ (shapes f).yes.cases) → Ready vs k rs (settled vs g b)
-side-ready vs k rs f g b r light thin less =
-    let either = and_parts (is_either f) (list_all is_either b.waiting) r.choices in
+    (NamesOnly (scope_of vs b) f → NamesOnly (scope_of vs b) g) →
+    suc (shapes g).yes.cases ≤ (shapes f).yes.cases → Ready vs k rs (settled (scope_of vs b) g b)
+side-ready vs k rs f g b r light thin named less =
+    let us : List Variable = scope_of vs b in
+    let waiting = r.closed.waiting in
+    let waits = and_parts (can_wait f) (list_all can_wait b.waiting) r.waits in
     let lights = and_parts (is_light (2 ^ 63) f) (list_all (is_light (2 ^ 63)) b.waiting) r.light in
     let narrows = and_parts (is_narrow f) (list_all is_narrow b.waiting) r.narrow in
     let lighter = light (ready-light vs (suc k) rs f b r) in
-    let w = settled-within vs g b (thin narrows.0) lighter (record { slender = r.slender; narrow = narrows.1 }) in
-    let more = settled-more vs g b in
-    let n = more.cases in let d = r.deep in let l = less either.0 in
+    let w = settled-within us g b (thin narrows.0) lighter (record { slender = r.slender; narrow = narrows.1 }) in
+    let more = settled-more us g b in
+    let n = more.cases in let d = r.deep in
     record {
-      deep = omega (arith, n, d, l);
-      light = settled-light vs (2 ^ 63) g b lighter lights.1;
+      deep = omega (arith, n, d, less);
+      light = settled-light us (2 ^ 63) g b lighter lights.1;
       narrow = w.narrow;
-      choices = more.choices either.1;
-      exact = settled-exact vs g b r.exact;
+      waits = more.waits waits.1;
+      exact = settled-exact us g b r.exact;
       slender = w.slender;
       long = r.long;
       sound = r.sound;
-      bounded = bounded-more 0 rs b.facts (outcome vs g).yes.facts r.bounded;
+      bounded = bounded-more 0 rs b.facts (outcome us g).yes.facts r.bounded;
+      closed = settled-closed us g b (named waiting.0.names)
+          (record { facts = r.closed.facts; waiting = waiting.1 });
     }
 
-pub ready-first : (vs : List Variable) (k : ℕ) (rs : List Range) (f : CForm) (b : Branch) → Ready vs (suc k) rs
-    (waiting_only b (f ∷ b.waiting)) → Ready vs k rs (settled vs (sides f).0 b)
-ready-first vs k rs f b r = side-ready vs k rs f (sides f).0 b r (first-side f (2 ^ 63)) (first-narrow f)
-    (λ e. (side-shapes f e).first)
+pub ready-first : (vs : List Variable) (k : ℕ) (rs : List Range) (f : CForm) (b : Branch) → is_either f ≡ true →
+    Ready vs (suc k) rs (waiting_only b (f ∷ b.waiting)) → Ready vs k rs (settled (scope_of vs b) (sides f).0 b)
+ready-first vs k rs f b e r = side-ready vs k rs f (sides f).0 b r (first-side f (2 ^ 63)) (first-narrow f)
+    (λ n. (side-names (scope_of vs b) f (out-CForm f) refl n).0) (side-shapes f e).first
 
-pub ready-second : (vs : List Variable) (k : ℕ) (rs : List Range) (f : CForm) (b : Branch) → Ready vs (suc k) rs
-    (waiting_only b (f ∷ b.waiting)) → Ready vs k rs (settled vs (sides f).1 b)
-ready-second vs k rs f b r = side-ready vs k rs f (sides f).1 b r (second-side f (2 ^ 63)) (second-narrow f)
-    (λ e. (side-shapes f e).second)
+pub ready-second : (vs : List Variable) (k : ℕ) (rs : List Range) (f : CForm) (b : Branch) → is_either f ≡ true →
+    Ready vs (suc k) rs (waiting_only b (f ∷ b.waiting)) → Ready vs k rs (settled (scope_of vs b) (sides f).1 b)
+ready-second vs k rs f b e r = side-ready vs k rs f (sides f).1 b r (second-side f (2 ^ 63)) (second-narrow f)
+    (λ n. (side-names (scope_of vs b) f (out-CForm f) refl n).1) (side-shapes f e).second
 
-pub ready-deep : (vs : List Variable) (k : ℕ) (rs : List Range) (f : CForm) (b : Branch) → Ready vs k rs
-    (waiting_only b (f ∷ b.waiting)) → 1 ≤ k
-ready-deep vs k rs f b r =
-    let either = and_parts (is_either f) (list_all is_either b.waiting) r.choices in
-    let l = (side-shapes f either.0).first in let d = r.deep in omega (arith, l, d)
+-- while something waits, a level is left
+pub ready-deep : (vs : List Variable) (k : ℕ) (rs : List Range) (f : CForm) (fs : List CForm) (b : Branch) →
+    Ready vs k rs (waiting_only b (f ∷ fs)) → 1 ≤ k
+ready-deep vs k rs f fs b r =
+    let l = waits-some f (and_parts (can_wait f) (list_all can_wait fs) r.waits).0 in
+    let d = r.deep in omega (arith, l, d)
+
+pub ready-some : (vs : List Variable) (k : ℕ) (rs : List Range) (b : Branch) → Ready vs k rs b →
+    0 < length b.waiting → 1 ≤ k
+ready-some vs k rs b r h = by_list b.waiting refl
+  where
+    by_list : (ws : List CForm) → b.waiting ≡ ws → 1 ≤ k
+    by_list [] e = let l = ap (λ (x : List CForm). length x) e in absurd (omega (arith, h, l))
+    by_list (f ∷ fs) e = ready-deep vs k rs f fs b (subst (Ready vs k rs) (ap (waiting_only b) e) r)
+
+-- a ready branch has so few added variables that its variables are as those of an obligation
+pub ready-variables : (vs us : List Variable) (k : ℕ) (rs : List Range) (b : Branch) → AreOwn vs →
+    us ≡ scope_of vs b → k ≤ 960 → Ready vs k rs b → AreVariables us
+ready-variables vs us k rs b own e h r =
+    let d = r.deep in scope-done vs us b.added own (omega (arith, d, h)) e
+
+pub ready-exact : (vs us : List Variable) (k : ℕ) (rs : List Range) (b : Branch) → us ≡ scope_of vs b →
+    Ready vs k rs b → are_exact (length us) b.facts ≡ true
+ready-exact vs us k rs b e r = subst (λ (x : List Variable). are_exact (length x) b.facts ≡ true) (sym e) r.exact
+
+pub ready-few : (vs : List Variable) (k : ℕ) (rs : List Range) (b : Branch) → k ≤ 960 → Ready vs k rs b →
+    b.added ≤ 480
+ready-few vs k rs b h r = let d = r.deep in omega (arith, d, h)
+
+pub ready-ranges : (vs : List Variable) (k : ℕ) (rs : List Range) (b : Branch) → AreOwn vs → Ready vs k rs b →
+    length rs < 2 ^ 32
+ready-ranges vs k rs b own r = let l = r.long in let c = own.variables.count in omega (arith, l, c)
 
 -- what a cut is
 pub record CutIs (rs : List Range) (place : ℕ) (at : ℤ) : Type 0 where
@@ -308,15 +353,15 @@ sound-with-low (x ∷ rs) zero r k e s h = let q : x ≡ r = cc in ap
 sound-with-low (x ∷ rs) (suc n) r k e s h = let a = and_parts (is_sound_range x) (list_all is_sound_range rs) s in ap
     (λ z. z && list_all is_sound_range (with_low rs n k)) a.0 ∙ sound-with-low rs n r k e a.1 h
 
-all-last : {A : Type 0} (t : A → Bool) (xs : List A) (x : A) → list_all t xs ≡ true → t x ≡ true → list_all t
+pub all-last : {A : Type 0} (t : A → Bool) (xs : List A) (x : A) → list_all t xs ≡ true → t x ≡ true → list_all t
     (xs ++ x ∷ []) ≡ true
 all-last t xs x p q = list_all-append t xs (x ∷ []) ∙ ap (λ z. z && list_all t (x ∷ [])) p ∙ ap (λ z. z && true) q
 
 -- a branch without a waiting formula, with a fact more
 cut-ready : (vs : List Variable) (k : ℕ) (rs qs : List Range) (b : Branch) (f : Fact) → Ready vs (suc k) rs b →
     b.waiting ≡ [] → suc (cuts_of qs) ≤ cuts_of rs → length qs ≡ length rs → list_all is_sound_range qs ≡ true →
-    (is_exact 0 f.factors && is_within (length vs) f.factors) ≡ true → is_slender f ≡ true → AreBounded 0 qs
-    (b.facts ++ f ∷ []) → Ready vs k qs (added b f)
+    (is_exact 0 f.factors && is_within (length (scope_of vs b)) f.factors) ≡ true → is_slender f ≡ true →
+    AreBounded 0 qs (b.facts ++ f ∷ []) → Ready vs k qs (added b f)
 cut-ready vs k rs qs b f r w less long sound exact slender bounded =
     let d = r.deep in
     let none : b.waiting ++ [] ≡ [] = ap (λ z. z ++ []) w in
@@ -324,26 +369,34 @@ cut-ready vs k rs qs b f r w less long sound exact slender bounded =
     record {
       deep = omega (arith, d, less, c);
       light = ap (list_all (is_light (2 ^ 63))) none;
-      choices = ap (list_all is_either) none;
+      waits = ap (list_all can_wait) none;
       narrow = ap (list_all is_narrow) none;
       exact = all-last _ b.facts f r.exact exact;
       slender = all-last is_slender b.facts f r.slender slender;
       long = long ∙ r.long;
       sound = sound;
       bounded = bounded;
+      closed = closed-added (scope_of vs b) b f
+          (and_parts (is_exact 0 f.factors) (is_within (length (scope_of vs b)) f.factors) exact).1 r.closed;
     }
 
-one-exact : (vs : List Variable) (place : ℕ) (s k : ℤ) → not (int_eq s (pos 0)) ≡ true → place < length vs →
-    (is_exact 0 ((place, s) ∷ []) && is_within (length vs) ((place, s) ∷ [])) ≡ true
-one-exact vs place s k n h =
-    ap (λ t. ((t && not (int_eq s (pos 0))) && true) && (nat_le (suc place) (length vs) && true))
+pub one-exact : (count place : ℕ) (s : ℤ) → not (int_eq s (pos 0)) ≡ true → place < count →
+    (is_exact 0 ((place, s) ∷ []) && is_within count ((place, s) ∷ [])) ≡ true
+one-exact count place s n h =
+    ap (λ t. ((t && not (int_eq s (pos 0))) && true) && (nat_le (suc place) count && true))
     (le-true 0 place (omega arith))
-    ∙ ap (λ t. (t && true) && (nat_le (suc place) (length vs) && true)) n ∙ ap (λ t. t && true)
-    (le-true (suc place) (length vs) (omega (arith, h)))
+    ∙ ap (λ t. (t && true) && (nat_le (suc place) count && true)) n ∙ ap (λ t. t && true)
+    (le-true (suc place) count (omega (arith, h)))
 
-one-slender : (place : ℕ) (s k : ℤ) → nat_le (unsigned_abs s + 0) (2 ^ 62) ≡ true → unsigned_abs k ≤ 2 ^ 63 →
-    is_slender (record { factors = (place, s) ∷ []; constant = k }) ≡ true
-one-slender place s k n h = ap (λ t. t && nat_le (unsigned_abs k) (2 ^ 63)) n ∙ le-true (unsigned_abs k) (2 ^ 63) h
+-- an obligation's variable is one of the branch's
+scoped : (vs : List Variable) (b : Branch) (place : ℕ) → place < length vs → place < length (scope_of vs b)
+scoped vs b place h = let s = scope-length vs b.added in omega (arith, h, s)
+
+one-slender : (place : ℕ) (s k : ℤ) → nat_le (unsigned_abs s) (2 ^ 62) ≡ true → nat_le (unsigned_abs s + 0) (2 ^ 63) ≡
+    true → unsigned_abs k ≤ 2 ^ 63 → is_slender (record { factors = (place, s) ∷ []; constant = k }) ≡ true
+one-slender place s k n m h =
+    ap (λ t. (t && true) && (nat_le (unsigned_abs s + 0) (2 ^ 63) && nat_le (unsigned_abs k) (2 ^ 64))) n
+    ∙ ap (λ t. t && nat_le (unsigned_abs k) (2 ^ 64)) m ∙ le-true (unsigned_abs k) (2 ^ 64) (omega (arith, h))
 
 sound-range : (lo hi : ℤ) → lo ≤ℤ hi → unsigned_abs lo ≤ 2 ^ 62 → unsigned_abs hi ≤ 2 ^ 62 → is_sound_range
     (record { lo = lo; hi = hi }) ≡ true
@@ -385,8 +438,8 @@ ready-low vs k rs b place at r w e =
     let size = between g.range.lo at g.range.hi low high ends.0 ends.1 in
     cut-ready vs k rs (with_high rs place at) b (at_most place at) r w g.low (length-high rs place at)
     (sound-with-high rs place g.range at g.there r.sound (sound-range g.range.lo at low ends.0 size))
-    (one-exact vs place (negsuc 0) at refl (omega (arith, i, l)))
-    (one-slender place (negsuc 0) at refl (omega (arith, size)))
+    (one-exact (length (scope_of vs b)) place (negsuc 0) refl (scoped vs b place (omega (arith, i, l))))
+    (one-slender place (negsuc 0) at refl refl (omega (arith, size)))
     (subst (λ j. AreBounded 0 (with_high rs place at) (b.facts ++ at_most j at ∷ [])) (zero-plus place)
     (bounded-high 0 rs place at b.facts r.bounded))
   where
@@ -407,8 +460,8 @@ ready-high vs k rs b place at r w e =
     (length-low rs place (at +ℤ pos 1))
     (sound-with-low rs place g.range (at +ℤ pos 1) g.there r.sound
     (sound-range (at +ℤ pos 1) g.range.hi high size ends.1))
-    (one-exact vs place (pos 1) at refl (omega (arith, i, l)))
-    (one-slender place (pos 1) (neg_ℤ (at +ℤ pos 1)) refl
+    (one-exact (length (scope_of vs b)) place (pos 1) refl (scoped vs b place (omega (arith, i, l))))
+    (one-slender place (pos 1) (neg_ℤ (at +ℤ pos 1)) refl refl
     (let n = abs-neg (at +ℤ pos 1) in omega (arith, size, n)))
     (subst (λ j. AreBounded 0 (with_low rs place (at +ℤ pos 1)) (b.facts ++ at_least j (at +ℤ pos 1) ∷ []))
     (zero-plus place) (bounded-low 0 rs place (at +ℤ pos 1) b.facts r.bounded))
@@ -425,15 +478,29 @@ length-map : (rs : List Range) → length (map (λ (r : Range). r.lo) rs) ≡ le
 length-map [] = refl
 length-map (r ∷ rs) = ap suc (length-map rs)
 
-pub leaf-met : (vs : List Variable) (k : ℕ) (rs : List Range) (b : Branch) → Ready vs k rs b → some_out_of_reach
-    b.facts ≡ false → b.waiting ≡ [] → first_cut 0 rs ≡ None → Met vs b (map (λ (r : Range). r.lo) rs)
-leaf-met vs k rs b r u w e = record {
-  long = length-map rs ∙ r.long;
-  holds = ap (λ z. list_all (fact_holds (map (λ (r : Range). r.lo) rs)) b.facts && list_all
-      (form_at vs (map (λ (r : Range). r.lo) rs)) z) w
-      ∙ ap (λ z. z && true) (leaf-facts b.facts rs (ap (λ n. are_exact n b.facts) r.long ∙ r.exact) r.slender r.sound
-      r.bounded u e);
-}
+append-none : (xs : List ℤ) → xs ++ [] ≡ xs
+append-none [] = refl
+append-none (x ∷ xs) = ap (λ z. x ∷ z) (append-none xs)
+
+-- a leaf without added variables
+pub leaf-met : (vs : List Variable) (k : ℕ) (rs : List Range) (b : Branch) → Ready vs k rs b → b.added ≡ 0 →
+    some_out_of_reach b.facts ≡ false → b.waiting ≡ [] → first_cut 0 rs ≡ None →
+    Met vs b (map (λ (r : Range). r.lo) rs)
+leaf-met vs k rs b r flat u w e =
+    let values : List ℤ = map (λ (r : Range). r.lo) rs in
+    let l = r.long in let s = scope-length vs b.added in
+    let count : length rs ≡ length (scope_of vs b) = omega (arith, l, s, flat) in
+    let facts = leaf-facts b.facts rs (ap (λ n. are_exact n b.facts) count ∙ r.exact) r.slender r.sound r.bounded u e in
+    record {
+      long = length-map rs ∙ r.long;
+      holds = (
+        [],
+        sym flat,
+        ap (λ z. branch_holds (scope_of vs b) z b) (append-none values)
+            ∙ ap (λ z. list_all (fact_holds values) b.facts && list_all (form_at (scope_of vs b) values) z) w
+            ∙ ap (λ z. z && true) facts,
+      );
+    }
 
 bounded-same : (n : ℕ) (vs : List Variable) (facts : List Fact) →
     ((f : Fact) → Has (range_facts n vs) f → Has facts f) → AreBounded n (ranges_of vs) facts
@@ -453,9 +520,9 @@ ranges-slender n (v ∷ vs) h =
     let low = abs-neg v.range.lo in
     let e0 = ends.0 in let e1 = ends.1 in
     ap (λ z. z && (is_slender (at_most n v.range.hi) && list_all is_slender (range_facts (suc n) vs)))
-    (one-slender n (pos 1) (neg_ℤ v.range.lo) refl (omega (arith, low, e0)))
+    (one-slender n (pos 1) (neg_ℤ v.range.lo) refl refl (omega (arith, low, e0)))
     ∙ ap (λ z. z && list_all is_slender (range_facts (suc n) vs))
-    (one-slender n (negsuc 0) v.range.hi refl (omega (arith, e1))) ∙ ranges-slender (suc n) vs a.1
+    (one-slender n (negsuc 0) v.range.hi refl refl (omega (arith, e1))) ∙ ranges-slender (suc n) vs a.1
   where
     abs-neg : (z : ℤ) → unsigned_abs (neg_ℤ z) ≡ unsigned_abs z
     abs-neg (pos zero) = refl
@@ -477,7 +544,7 @@ ready-root o m =
     record {
       deep = omega (arith, c, h);
       light = refused-light o.variables (2 ^ 63) o.form (ranges_only o.variables) bound refl;
-      choices = more.choices refl;
+      waits = more.waits refl;
       narrow = w.narrow;
       exact = refused-exact o.variables o.form (ranges_only o.variables) (ranges-exact o.variables);
       slender = w.slender;
@@ -485,17 +552,18 @@ ready-root o m =
       sound = (obligation-sound o m);
       bounded = bounded-more 0 (ranges_of o.variables) (range_facts 0 o.variables)
           (outcome o.variables o.form).no.facts (bounded-same 0 o.variables (range_facts 0 o.variables) (λ f k. k));
+      closed = first-closed o m;
     }
 
 lt-true : (a b : ℕ) → a < b → nat_lt a b ≡ true
 lt-true a b h = grind arith
 
-pub split-opens : (vs : List Variable) (k : ℕ) (b : Branch) (place : ℕ) (at : ℤ) → suc k ≤ 960 → place < length vs →
+pub split-opens : (vs : List Variable) (k : ℕ) (b : Branch) (place : ℕ) (at : ℤ) → place < length vs →
     made vs (allowing (levels_of (suc k)) b) (Node.Split (place + 1) at) ≡ opens
     (added b (at_most place at) ∷ added b (at_least place (at +ℤ pos 1)) ∷ [])
-split-opens vs k b place at h i =
+split-opens vs k b place at i =
     let one : place + 1 ≡ suc place = omega arith in
     made-level vs (levels_of (suc k)) b (Node.Split (place + 1) at) (omega arith)
-    ∙ ap (λ v. split_at vs b v at) one ∙ ap (λ t. cond t (opens
+    ∙ ap (λ v. split_at (scope_of vs b) b v at) one ∙ ap (λ t. cond t (opens
     (added b (at_most place at) ∷ added b (at_least place (at +ℤ pos 1)) ∷ [])) (fails Code.NoSuchVariable))
-    (lt-true place (length vs) i)
+    (lt-true place (length (scope_of vs b)) (scoped vs b place i))

@@ -1,5 +1,5 @@
 -- What the search of the first branch says of its obligation.
-use Rattle.std.proofs.Common.{◌≡◌, ℕ, suc, ◌+◌, ◌-◌, ◌≤◌, not, true, Option}
+use Rattle.std.proofs.Common.{◌≡◌, ℕ, suc, ◌+◌, ◌-◌, ◌*◌, ◌≤◌, ℤ, mul-le-mul, le_refl, not, true, Option}
 use Rattle.std.proofs.Common.{Some, None, Ok, length, List, [], ◌∷◌, ◌++◌, arith, refl, sym}
 use Rattle.std.proofs.Common.{ap, subst, ◌∙◌}
 use Rattle.std.proofs.lemmas.Bool.{and_parts, not-true}
@@ -9,8 +9,8 @@ use Rattle.obligations.specs.declared.branches.Variable.{Variable}
 use Rattle.core_terms.specs.declared.trees.Range.{Range}
 use Rattle.obligations.specs.declared.certificates.Node.{Node}
 use Rattle.certificate_check.specs.Refutation.{OpenBranch}
-use Rattle.obligations.specs.Settling.{form_at}
-use Rattle.obligations.specs.Opening.{in_ranges, first_branch}
+use Rattle.obligations.specs.Settling.{form_at, branch_holds}
+use Rattle.obligations.specs.Opening.{in_ranges, first_branch, ranges_only}
 use Rattle.certificate_check.specs.Refutation.{NodeEffect, fails, opens, made, pending, after, walk}
 use Rattle.certificate_check.specs.Trees.{is_whole}
 use Rattle.certificate_check.proofs.WholeLaws.{opened-arity}
@@ -22,8 +22,11 @@ use Rattle.search_tree.specs.declared.plain_tree.Ended.{Ended}
 use Rattle.search_tree.specs.declared.plain_tree.Found.{Found}
 use Rattle.obligations.specs.Certificates.{arity, units}
 use Rattle.search_tree.specs.Left.{left_by, left}
-use Rattle.obligations.specs.Plain.{ranges_of, plain_leaves, enough, need_of}
-use Rattle.search_tree.specs.Searching.{Ready, Ends, IsOpen, IsUnfinished, root, SearchAnswers, found_of}
+use Rattle.obligations.specs.Plain.{ranges_of, quotients_in, leaf_units_of, plain_leaves, enough, need_of}
+use Rattle.search_tree.specs.Searching.{Ready, Ends, Met, IsOpen, IsUnfinished, root, SearchAnswers, found_of}
+use Rattle.search_tree.specs.Searching.{quotients_at, room_of, is_found_node}
+use Rattle.search_tree.proofs.SearchLaws.{units-less}
+use Rattle.search_tree.proofs.ShapeLaws.{refused-more}
 use Rattle.obligations.proofs.NumberLaws.{obligation-variables, obligation-load}
 use Rattle.obligations.specs.Obligations.{IsObligation}
 use Rattle.search_tree.proofs.ReadyLaws.{ready-root}
@@ -80,34 +83,64 @@ unfinished vs ns ps (Some (q ∷ qs)) e h = subst IsUnfinished (sym (left-walk v
 abbrev all_leaves : Obligation → ℕ
 all_leaves o = plain_leaves o.variables 960 (ranges_of o.variables) (first_branch o)
 
+-- a leaf of the first branch has no more room than each leaf of the obligation
+pub root-room : (o : Obligation) → room_of o.variables (first_branch o) ≤ leaf_units_of o
+root-room o =
+    let q = (refused-more o.variables o.form (ranges_only o.variables)).quotients in
+    let h = units-less (length o.variables) (quotients_at (first_branch o)) (quotients_in o) (omega (arith, q)) in
+    omega (arith, h)
+
+pub room-enough : (o : Obligation) → all_leaves o * room_of o.variables (first_branch o) ≤ enough o
+room-enough o = mul-le-mul (le_refl (all_leaves o)) (root-room o)
+
+pub no-quotients : (o : Obligation) → quotients_in o ≡ 0 → quotients_at (first_branch o) ≡ 0
+no-quotients o none =
+    let q = (refused-more o.variables o.form (ranges_only o.variables)).quotients in omega (arith, q, none)
+
+-- values that meet the first branch make the form false
+pub root-met : (o : Obligation) (values : List ℤ) → Met o.variables (first_branch o) values →
+    branch_holds o.variables values (first_branch o) ≡ true
+root-met o values m = by_more m.holds.0 m.holds.1 m.holds.2
+  where
+    append-none : (xs : List ℤ) → xs ++ [] ≡ xs
+    append-none [] = refl
+    append-none (x ∷ xs) = ap (λ z. x ∷ z) (append-none xs)
+
+    by_more : (more : List ℤ) → length more ≡ 0 → branch_holds o.variables (values ++ more) (first_branch o) ≡ true →
+        branch_holds o.variables values (first_branch o) ≡ true
+    by_more [] l h = ap (λ z. branch_holds o.variables z (first_branch o)) (sym (append-none values)) ∙ h
+    by_more (x ∷ more) l h = absurd (omega (arith, l))
+
 root-answers : (o : Obligation) → enough o ≤ need_of o → (budget : ℕ) (old new : Trail) (e : Ended) → old.nodes ≡ [] →
     old.spare ≡ budget → Ends o.variables 960 (all_leaves o) (first_branch o) old new e → SearchAnswers o budget
     (found_of e new.nodes)
 root-answers o below budget old new Ended.Closed n s c =
-    let cost = c.cost in let spent = c.spent in let u = ap units n in
+    let cost = c.cost in let spent = c.spent in let u = ap units n in let room = room-enough o in
     record {
       whole = left-whole o.variables new.nodes (root o) (c.closes (root o) []
           (ap (left o.variables (Some (root o))) n));
       walked = left-walk o.variables new.nodes (root o) [] 0
           (c.closes (root o) [] (ap (left o.variables (Some (root o))) n));
-      plain = c.plain (ap (list_all is_plain_node) n);
+      found = c.found (ap (list_all is_found_node) n);
+      plain = λ none. c.plain (no-quotients o none) (ap (list_all is_plain_node) n);
       within = omega (arith, spent, u, s);
-      cheap = omega (arith, cost, u);
-      needed = omega (arith, cost, u, below);
+      cheap = omega (arith, cost, u, room);
+      needed = omega (arith, cost, u, room, below);
     }
 root-answers o below budget old new Ended.Stopped n s c =
     let short = c.short in let last = c.last in let spent = c.spent in let u = ap units n in
+    let room = room-enough o in let most = root-room o in
     record {
-      small = omega (arith, short, s);
-      needs = omega (arith, short, s, below);
+      small = omega (arith, short, s, room);
+      needs = omega (arith, short, s, room, below);
       opened = unfinished o.variables new.nodes (root o) _ refl
           (c.opened (root o) [] (ap (left o.variables (Some (root o))) n));
       within = omega (arith, spent, u, s);
-      full = omega (arith, spent, u, s, last);
+      full = omega (arith, spent, u, s, last, most);
     }
 root-answers o below budget old new (Ended.Refuted values) n s c =
     let parts = and_parts (in_ranges o.variables values) (not (form_at o.variables values o.form))
-    (sym (first-holds o values c.long) ∙ c.holds) in
+    (sym (first-holds o values c.long) ∙ root-met o values c) in
     record { inside = parts.0; fails = not-true (form_at o.variables values o.form) parts.1 }
 
 pub search-answers : (o : Obligation) → IsObligation o → (vs : List Variable) (rs : List Range) (b : Branch)

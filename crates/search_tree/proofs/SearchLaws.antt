@@ -1,7 +1,9 @@
 -- What the search keeps.
 use Rattle.std.proofs.Common.{◌≡◌, ℕ, zero, suc, ◌+◌, ◌-◌, ◌*◌, ◌≤◌, ◌<◌, ◌≤ℤ◌, ◌<ℤ◌, ℤ, nat_lt, slice_set, slice_get}
 use Rattle.std.proofs.Common.{slice_index_or, ◌&&◌, Ok, pos, negsuc, ◌+ℤ◌, ◌-ℤ◌, true, false, cond, Option, Some}
-use Rattle.std.proofs.Common.{None, List, [], ◌∷◌, ◌++◌, take, drop, length, arith, refl, sym, ap, subst, ◌∙◌}
+use Rattle.std.proofs.Common.{◌-◌, None, List, [], ◌∷◌, ◌++◌, take, drop, length, arith, refl, sym, ap, subst, ◌∙◌}
+use Rattle.std.proofs.Common.{Bool, mul-le-mul, le_refl}
+use Rattle.std.proofs.lemmas.Bool.{and_parts}
 use Rattle.std.proofs.Math.Nat.{mul-le-mul_right}
 use Rattle.std.proofs.lemmas.Int.{ints}
 use Rattle.std.specs.Int.RustNames.{int_le}
@@ -27,21 +29,26 @@ use Rattle.std.proofs.lemmas.List.Folds.{list_all-append}
 use Rattle.obligations.specs.Certificates.{units}
 use Rattle.search_tree.specs.Left.{left_by, left_after, left}
 use Rattle.obligations.specs.Plain.{first_cut, middle, with_high, with_low, leaf_units}
-use Rattle.search_tree.specs.Searching.{IsOpen, levels_of, Ends, Tried}
+use Rattle.obligations.specs.Scopes.{scope_of}
+use Rattle.obligations.specs.Shapes.{quotients_of}
+use Rattle.obligations.proofs.ScopeLaws.{scope-length}
+use Rattle.search_tree.specs.Searching.{chain_units, quotients_at, room_of, IsOpen, levels_of, Ends, Tried}
+use Rattle.search_tree.specs.Searching.{TriedShortly}
+use Rattle.search_tree.specs.Searching.{is_found_node}
 
-take-whole : {A : Type 0} (xs ys : List A) (n : ℕ) → n ≡ length xs → take n (xs ++ ys) ≡ xs
+pub take-whole : {A : Type 0} (xs ys : List A) (n : ℕ) → n ≡ length xs → take n (xs ++ ys) ≡ xs
 take-whole [] ys n e = ap (λ k. take k ys) e
 take-whole (x ∷ xs) ys n e = ap (λ k. take k (x ∷ (xs ++ ys))) e ∙ ap (λ z. x ∷ z) (take-whole xs ys (length xs) refl)
 
 -- what settling adds is dropped again
 pub undone : (vs : List Variable) (f : CForm) (b c d e : Branch) (n m : ℕ) → c ≡ settled vs f b → d ≡ c → n ≡ length
     b.facts → m ≡ length b.waiting →
-    e ≡ record { facts = take n d.facts; waiting = take m d.waiting } → e ≡ b
+    e ≡ record { facts = take n d.facts; waiting = take m d.waiting; added = d.added } → e ≡ b
 undone vs f b c d e n m p q h k r =
-    r ∙ ap (λ (x : Branch). record { facts = take n x.facts; waiting = take m x.waiting }) (q ∙ p)
-    ∙ ap (λ x. record { facts = x; waiting = take m (b.waiting ++ (outcome vs f).yes.waiting) })
+    r ∙ ap (λ (x : Branch). record { facts = take n x.facts; waiting = take m x.waiting; added = x.added }) (q ∙ p)
+    ∙ ap (λ x. record { facts = x; waiting = take m (b.waiting ++ (outcome vs f).yes.waiting); added = b.added })
     (take-whole b.facts (outcome vs f).yes.facts n h)
-    ∙ ap (λ x. record { facts = b.facts; waiting = x }) (take-whole b.waiting (outcome vs f).yes.waiting m k)
+    ∙ ap (λ x. record { facts = b.facts; waiting = x; added = b.added }) (take-whole b.waiting (outcome vs f).yes.waiting m k)
 
 pub ruleset undo_laws = undone
 
@@ -115,9 +122,10 @@ low-is rs half new n r item k p q e i = p ∙ ap (λ z. slice_set z n item) q �
 pub ruleset half_laws = (set-high, set-low, past-high, past-low)
 
 -- Levels.
-pub made-level : (vs : List Variable) (levels : ℕ) (b : Branch) (n : Node) → 0 < levels → made vs (allowing levels b)
-    n ≡ made_by vs b n
-made-level vs levels b n h = ap (λ t. cond t (made_by vs b n) (fails Code.CertTooDeep)) (some levels h)
+pub made-level : (vs : List Variable) (levels : ℕ) (b : Branch) (n : Node) → 0 < levels →
+    made vs (allowing levels b) n ≡ made_by (scope_of vs b) b n
+made-level vs levels b n h =
+    ap (λ t. cond t (made_by (scope_of vs b) b n) (fails Code.CertTooDeep)) (some levels h)
   where
     some : (a : ℕ) → 0 < a → nat_lt 0 a ≡ true
     some a h = grind arith
@@ -133,7 +141,7 @@ same-total vs facts ps = ap (λ zs. sum_pairs facts (Ok (record { factors = zs; 
 
 -- a chain closes its branch
 pub chain-closes : (vs : List Variable) (ns : List Node) (levels : ℕ) (b : Branch) (ps : List OpenBranch) → Closes
-    (length vs) b.facts ns → length ns ≤ levels →
+    (length (scope_of vs b)) b.facts ns → length ns ≤ levels →
     left vs (Some (allowing levels b ∷ ps)) ns ≡ Some ps
 chain-closes vs [] levels b ps c h = absurd c
 chain-closes vs (Node.Case k ∷ ns) levels b ps c h = absurd c
@@ -141,46 +149,105 @@ chain-closes vs (Node.Split v k ∷ ns) levels b ps c h = absurd c
 chain-closes vs (Node.Quot k ∷ ns) levels b ps c h = absurd c
 chain-closes vs (Node.Share z qs ∷ ns) levels b ps c h = absurd c
 chain-closes vs (Node.Sum qs ∷ []) levels b ps c h = ap (left_by levels ps)
-    (made-level vs levels b (Node.Sum qs) (omega arith) ∙ ap made_sum (same-total vs b.facts qs) ∙ c)
+    (made-level vs levels b (Node.Sum qs) (omega arith) ∙ ap made_sum (same-total (scope_of vs b) b.facts qs) ∙ c)
 chain-closes vs (Node.Sum qs ∷ n ∷ ns) levels b ps c h = absurd c
 chain-closes vs (Node.Round d qs ∷ ns) levels b ps c h =
     let l = c.0 in
     let m : made vs (allowing levels b) (Node.Round d qs) ≡ opens (added b (fact_of (divided d l)) ∷ []) =
-    made-level vs levels b (Node.Round d qs) (omega arith) ∙ ap (made_round b d) (same-total vs b.facts qs ∙ c.1)
+    made-level vs levels b (Node.Round d qs) (omega arith)
+    ∙ ap (made_round b d) (same-total (scope_of vs b) b.facts qs ∙ c.1)
     ∙ ap (λ t. cond t (opens (added b (fact_of (divided d l)) ∷ [])) (fails Code.NotDivisible)) c.2 in
     ap (λ x. left vs (left_by levels ps x) ns) m ∙ chain-closes vs ns (levels - 1) (added b (fact_of (divided d l))) ps
     c.3 (omega arith)
 
+-- Rooms.
+pub units-less : (n p q : ℕ) → p ≤ q → leaf_units n p ≤ leaf_units n q
+units-less n p q h = mul-le-mul (omega (arith, h)) (omega (arith, h))
+
+pub chain-room : (n w r : ℕ) → chain_units (n + r) ≤ leaf_units n (w + r) - r
+chain-room n w r =
+    let q : ℕ = w + r in
+    let more : (2 * q) * 1 ≤ (2 * q) * (n + q + 256) = mul-le-mul (le_refl (2 * q)) (omega arith) in
+    let whole : leaf_units n q ≡ (n + q + 256) + (2 * q) * (n + q + 256) = omega arith in
+    omega (arith, more, whole)
+
+-- a chain at any branch is within a leaf's room
+pub short-room : (vs : List Variable) (b : Branch) → chain_units (length (scope_of vs b)) ≤ room_of vs b
+short-room vs b = subst (λ n. chain_units n ≤ room_of vs b) (sym (scope-length vs b.added))
+    (chain-room (length vs) (quotients_of b.waiting) b.added)
+
+pub room-two : (vs : List Variable) (b : Branch) → 2 ≤ room_of vs b
+room-two vs b = let h = short-room vs b in omega (arith, h)
+
+pub room-less : (vs : List Variable) (b c : Branch) → quotients_at c ≤ quotients_at b → c.added ≡ b.added →
+    room_of vs c ≤ room_of vs b
+room-less vs b c h e = let u = units-less (length vs) (quotients_at c) (quotients_at b) h in omega (arith, u, e)
+
+-- one unit less for a quotient that is taken
+pub room-quot : (vs : List Variable) (b c : Branch) → quotients_at c ≤ quotients_at b → c.added ≡ suc b.added →
+    suc (room_of vs c) ≤ room_of vs b
+room-quot vs b c h e =
+    let u = units-less (length vs) (quotients_at c) (quotients_at b) h in
+    let s = room-two vs b in
+    omega (arith, u, e, s)
+
+-- the prover's nodes are among those that a search can write
+pub plain-one : (n : Node) → is_plain_node n ≡ true → is_found_node n ≡ true
+plain-one (Node.Case k) h = refl
+plain-one (Node.Split v k) h = h
+plain-one (Node.Sum ps) h = h
+plain-one (Node.Round d ps) h = h
+plain-one (Node.Quot k) h = cc
+plain-one (Node.Share c ps) h = cc
+
+pub plain-found : (ns : List Node) → list_all is_plain_node ns ≡ true → list_all is_found_node ns ≡ true
+plain-found [] h = refl
+plain-found (n ∷ ns) h =
+    let a = and_parts (is_plain_node n) (list_all is_plain_node ns) h in
+    ap (λ t. t && list_all is_found_node ns) (plain-one n a.0) ∙ plain-found ns a.1
+
+pub all-more : (t : Node → Bool) (xs ys zs : List Node) → zs ≡ xs ++ ys → list_all t ys ≡ true → list_all t xs ≡ true →
+    list_all t zs ≡ true
+all-more t xs ys zs e h g = ap (list_all t) e ∙ list_all-append t xs ys ∙ ap (λ b. b && list_all t ys) g ∙ h
+
 -- a chain that was added, or not, ends a branch
-pub finished-ends : (vs : List Variable) (k leaves : ℕ) (b : Branch) (old new : Trail) (e : Ended) → k ≤ 960 → 1 ≤
-    leaves → Tried vs b.facts old new e → Ends vs k leaves b old new e
-finished-ends vs k leaves b old new Ended.Closed h one t =
+pub finished-ends : (vs : List Variable) (k leaves most room : ℕ) (b : Branch) (old new : Trail) (e : Ended) →
+    most ≤ levels_of k → room ≤ room_of vs b → 1 ≤ leaves →
+    Tried (length (scope_of vs b)) most room b.facts old new e → Ends vs k leaves b old new e
+finished-ends vs k leaves most room b old new Ended.Closed h fits one t =
     let f = t.finished in let f1 = f.1 in
     let u : units new.nodes ≡ units old.nodes + units t.nodes = ap units f.0 ∙ units-append old.nodes t.nodes in
     let cheap = t.cheap in let short = t.short in
-    let more : 1 * leaf_units vs ≤ leaves * leaf_units vs = mul-le-mul_right (leaf_units vs) one in
+    let more : 1 * room_of vs b ≤ leaves * room_of vs b = mul-le-mul_right (room_of vs b) one in
     record {
       closes = λ first ps s. ap (left vs (Some first)) f.0 ∙ left-append vs (Some first) old.nodes t.nodes ∙ ap
           (λ r. left vs r t.nodes) s
-          ∙ chain-closes vs t.nodes (levels_of k) b ps t.closes (omega arith);
-      plain = λ h. ap (list_all is_plain_node) f.0 ∙ list_all-append is_plain_node old.nodes t.nodes ∙ ap
-          (λ b. b && list_all is_plain_node t.nodes) h ∙ t.plain;
-      cost = omega (arith, u, cheap, more);
+          ∙ chain-closes vs t.nodes (levels_of k) b ps t.closes (omega (arith, short, h));
+      found = λ g. all-more is_found_node old.nodes t.nodes new.nodes f.0 (plain-found t.nodes t.plain) g;
+      plain = λ none g. all-more is_plain_node old.nodes t.nodes new.nodes f.0 t.plain g;
+      cost = omega (arith, u, cheap, more, fits);
       spent = omega (arith, u, f1);
     }
-finished-ends vs k leaves b old new Ended.Stopped h one t =
+finished-ends vs k leaves most room b old new Ended.Stopped h fits one t =
     let f = t.finished in let f0 = f.0 in
     let cheap = t.cheap in
     let same = ap (λ (x : Trail). x.nodes) f.1 in
     let spare = ap (λ (x : Trail). x.spare) f.1 in
-    let more : 1 * leaf_units vs ≤ leaves * leaf_units vs = mul-le-mul_right (leaf_units vs) one in
+    let more : 1 * room_of vs b ≤ leaves * room_of vs b = mul-le-mul_right (room_of vs b) one in
     record {
       opened = λ first ps s. subst IsOpen (sym (ap (left vs (Some first)) same ∙ s)) tt;
-      short = omega (arith, f0, cheap, more);
-      last = omega (arith, f0, cheap, spare);
+      short = omega (arith, f0, cheap, more, fits);
+      last = omega (arith, f0, cheap, spare, fits);
       spent = let u = ap units same in omega (arith, u, spare);
     }
-finished-ends vs k leaves b old new (Ended.Refuted values) h one t = absurd t.finished
+finished-ends vs k leaves most room b old new (Ended.Refuted values) h fits one t = absurd t.finished
+
+-- so it does by a chain as may stand at any branch
+pub shortly-ends : (vs us : List Variable) (k leaves : ℕ) (b : Branch) (old new : Trail) (e : Ended) →
+    us ≡ scope_of vs b → 1 ≤ leaves → TriedShortly (length us) b.facts old new e → Ends vs k leaves b old new e
+shortly-ends vs us k leaves b old new e scoped one t =
+    finished-ends vs k leaves 64 (chain_units (length (scope_of vs b))) b old new e (omega arith) (short-room vs b) one
+    (subst (λ (x : List Variable). TriedShortly (length x) b.facts old new e) scoped t)
 
 -- The middle of a range lies in it.
 half-below : (width : ℤ) → pos 0 ≤ℤ width → (pos 0 ≤ℤ int_div width (pos 2)) × (int_div width (pos 2) ≤ℤ width)

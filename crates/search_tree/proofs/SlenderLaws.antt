@@ -1,6 +1,6 @@
 -- What settling adds is slender, and stays narrow.
-use Rattle.std.proofs.Common.{◌≡◌, ℕ, zero, suc, ◌+◌, ◌*◌, ◌≤◌, ◌^◌, max, nat_le, ℤ, pos, negsuc, ◌+ℤ◌, ◌*ℤ◌, Bool}
-use Rattle.std.proofs.Common.{true, false, cond, ◌&&◌, Option, Some, None, List, [], ◌∷◌, ◌++◌, arith, refl, sym, ap}
+use Rattle.std.proofs.Common.{◌≡◌, ℕ, zero, suc, ◌+◌, ◌*◌, ◌≤◌, ◌^◌, nat_le, ℤ, pos, negsuc, ◌+ℤ◌, ◌*ℤ◌, Bool}
+use Rattle.std.proofs.Common.{true, false, cond, ◌&&◌, Option, Some, None, List, [], ◌∷◌, arith, refl, sym, ap}
 use Rattle.std.proofs.Common.{subst, ◌∙◌}
 use Rattle.std.proofs.Math.Nat.{mul-le-mul, le_refl, mul-add}
 use Rattle.std.specs.List.{list_all}
@@ -8,11 +8,12 @@ use Rattle.std.specs.Int.RustNames.{unsigned_abs}
 use Rattle.std.proofs.lemmas.Int.{ints, unsigned_abs-mul}
 use Rattle.std.proofs.lemmas.List.Folds.{list_all-append}
 use Rattle.core_terms.specs.declared.trees.CTerm.{CTerm, ind-CTerm, roll-CTerm}
-use Rattle.core_terms.specs.declared.trees.CTerm.TheVariants.{Const, Slot, Param, Add, Sub, Scale, Ite, rolls-Const}
+use Rattle.core_terms.specs.declared.trees.CTerm.TheVariants.{Const, Slot, Param, Add, Sub, Scale, Ite, Div, Mod}
+use Rattle.core_terms.specs.declared.trees.CTerm.TheVariants.{rolls-Const, rolls-Div, rolls-Mod}
 use Rattle.core_terms.specs.declared.trees.CTerm.TheVariants.{rolls-Slot, rolls-Param, rolls-Add, rolls-Sub}
 use Rattle.core_terms.specs.declared.trees.CTerm.TheVariants.{rolls-Scale, rolls-Ite}
 use Rattle.core_terms.specs.declared.trees.CForm.{CForm, out-CForm, fold_out-CForm}
-use Rattle.core_terms.specs.declared.trees.CForm.TheVariants.{Top, Bottom, AtLeast, Zero, Not, And, Or}
+use Rattle.core_terms.specs.declared.trees.CForm.TheVariants.{AtLeast, Zero}
 use Rattle.core_terms.specs.declared.trees.CForm.TheOpen.{CTerm-F, CForm-F}
 use Rattle.core_terms.specs.declared.trees.CForm.TheFolds.{map-CForm, map-CTerm}
 use Rattle.meaning_states.specs.State.{int_eq}
@@ -23,15 +24,17 @@ use Rattle.obligations.specs.declared.branches.Variable.{Variable}
 use Rattle.obligations.specs.LinearForms.{add_at, zeros, sparse, fact_of, place_of, plus, linear, negated}
 use Rattle.obligations.specs.Load.{sizes, norm, Load, Need, term_load, need, term_width, width, no_size}
 use Rattle.obligations.specs.Load.{form_need_step, term_need_step, is_narrow}
-use Rattle.obligations.specs.Settling.{sides, sides_in, joined, nothing, false_fact, one_waiting, first_ite}
+use Rattle.obligations.specs.Settling.{sides, sides_in, joined, first_ite, has_quotient, one_fact, two_facts}
+use Rattle.obligations.specs.Settling.{one_waiting}
 use Rattle.obligations.specs.Settling.{least_adds, zero_adds, unequal_adds, below_zero, outcome, settled, refused}
 use Rattle.obligations.proofs.SettledKeeps.{Rows, settled_keeps}
 use Rattle.obligations.proofs.SettlingLaws.{term_fold, linear-Const, linear-Slot, linear-Param, linear-Add}
-use Rattle.obligations.proofs.SettlingLaws.{linear-Sub, linear-Scale, linear-Ite}
+use Rattle.obligations.proofs.SettlingLaws.{linear-Sub, linear-Scale, linear-Ite, linear-Div, linear-Mod}
 use Rattle.obligations.proofs.LoadLaws.{sizes-zeros, norm-load, load-Const, load-Sub}
 use Rattle.obligations.proofs.NeedLaws.{need-Const, need-Add, need-Sub, need-Scale, need-Ite, need-AtLeast, need-Zero}
 use Rattle.obligations.proofs.NeedLaws.{need-Not, need-And, need-Or, settled-narrow, refused-narrow, least-load}
-use Rattle.obligations.proofs.NeedLaws.{below-load, zero-load}
+use Rattle.obligations.proofs.NeedLaws.{below-load, zero-load, need-Div, need-Mod}
+use Rattle.linear_prover.specs.Chains.{is_plain_factor}
 use Rattle.search_tree.specs.Searching.{widths, is_slender}
 
 le-is : (a b : ℕ) → nat_le a b ≡ true → a ≤ b
@@ -41,13 +44,13 @@ le-true : (a b : ℕ) → a ≤ b → nat_le a b ≡ true
 le-true a b h = grind arith
 
 -- The factors of a linear form.
-abs-plus : (a b : ℤ) → unsigned_abs (a +ℤ b) ≤ unsigned_abs a + unsigned_abs b
+pub abs-plus : (a b : ℤ) → unsigned_abs (a +ℤ b) ≤ unsigned_abs a + unsigned_abs b
 abs-plus (pos a) (pos b) = omega (arith, ints)
 abs-plus (pos a) (negsuc b) = grind (arith, ints)
 abs-plus (negsuc a) (pos b) = grind (arith, ints)
 abs-plus (negsuc a) (negsuc b) = omega (arith, ints)
 
-sizes-plus : (k : ℤ) (xs ys : List ℤ) → sizes (plus k xs ys) ≤ sizes xs + unsigned_abs k * sizes ys
+pub sizes-plus : (k : ℤ) (xs ys : List ℤ) → sizes (plus k xs ys) ≤ sizes xs + unsigned_abs k * sizes ys
 sizes-plus k [] ys = omega arith
 sizes-plus k (x ∷ xs) [] = omega arith
 sizes-plus k (x ∷ xs) (y ∷ ys) =
@@ -106,14 +109,20 @@ module _ (vs : List Variable) where
       (from (Scale k a.0) _ _ (linear-Scale vs k a.0) (need-Scale no_size k a.0)
       (let n = sizes-plus k (zeros vs) (linear vs a.0).factors in let z = sizes-zeros vs in let m = mul-le-mul
       (le_refl (unsigned_abs k)) a.1 in omega (arith, n, z, m)))
+  size_layer (CTerm-F.Div a k) = subst M (sym (rolls-Div a.0 k))
+      (from (Div a.0 k) _ _ (linear-Div vs a.0 k) (need-Div no_size a.0 k)
+      (let z = sizes-zeros vs in omega (arith, z)))
+  size_layer (CTerm-F.Mod a k) = subst M (sym (rolls-Mod a.0 k))
+      (from (Mod a.0 k) _ _ (linear-Mod vs a.0 k) (need-Mod no_size a.0 k)
+      (let z = sizes-zeros vs in omega (arith, z)))
   size_layer (CTerm-F.Ite c a b) =
       subst M (sym (rolls-Ite c.0 a.0 b.0)) (from (Ite c.0 a.0 b.0) _ _ (linear-Ite vs c.0 a.0 b.0)
       (need-Ite no_size c.0 a.0 b.0) (let z = sizes-zeros vs in omega (arith, z)))
 
-  size-width : (t : CTerm) → sizes (linear vs t).factors ≤ (term_width t).own
+  pub size-width : (t : CTerm) → sizes (linear vs t).factors ≤ (term_width t).own
   size-width t = ind-CTerm (λ f. Unit {0}) M (λ x y e. tt) (λ x y e. subst (λ z. M (roll-CTerm z)) e (size_layer y)) t
 
-widths-sparse : (n : ℕ) (zs : List ℤ) → widths (sparse n zs) ≤ sizes zs
+pub widths-sparse : (n : ℕ) (zs : List ℤ) → widths (sparse n zs) ≤ sizes zs
 widths-sparse n [] = omega arith
 widths-sparse n (z ∷ zs) = by_test (int_eq z (pos 0)) (widths-sparse (suc n) zs)
   where
@@ -122,15 +131,28 @@ widths-sparse n (z ∷ zs) = by_test (int_eq z (pos 0)) (widths-sparse (suc n) z
     by_test true h = omega (arith, h)
     by_test false h = omega (arith, h)
 
+pub plain-sparse : (n : ℕ) (zs : List ℤ) → sizes zs ≤ 2 ^ 62 → list_all is_plain_factor (sparse n zs) ≡ true
+plain-sparse n [] h = refl
+plain-sparse n (z ∷ zs) h = by_test (int_eq z (pos 0)) (plain-sparse (suc n) zs (omega (arith, h)))
+  where
+    by_test : (t : Bool) → list_all is_plain_factor (sparse (suc n) zs) ≡ true →
+        list_all is_plain_factor (cond t (sparse (suc n) zs) ((n, z) ∷ sparse (suc n) zs)) ≡ true
+    by_test true e = e
+    by_test false e =
+        ap (λ b. b && list_all is_plain_factor (sparse (suc n) zs)) (le-true (unsigned_abs z) (2 ^ 62) (omega (arith, h)))
+        ∙ e
+
 line-slender : (l : Line) → sizes l.factors ≤ 2 ^ 62 → unsigned_abs l.constant ≤ 2 ^ 63 → is_slender (fact_of l) ≡
     true
 line-slender l p q =
     let w = widths-sparse 0 l.factors in
-    ap (λ t. t && nat_le (unsigned_abs l.constant) (2 ^ 63))
-    (le-true (widths (sparse 0 l.factors)) (2 ^ 62) (omega (arith, w, p)))
-    ∙ le-true (unsigned_abs l.constant) (2 ^ 63) q
+    ap (λ t. t && (nat_le (widths (sparse 0 l.factors)) (2 ^ 63) && nat_le (unsigned_abs l.constant) (2 ^ 64)))
+    (plain-sparse 0 l.factors p)
+    ∙ ap (λ t. t && nat_le (unsigned_abs l.constant) (2 ^ 64))
+    (le-true (widths (sparse 0 l.factors)) (2 ^ 63) (omega (arith, w, p)))
+    ∙ le-true (unsigned_abs l.constant) (2 ^ 64) (omega (arith, q))
 
-constant-norm : (l : Line) → unsigned_abs l.constant ≤ norm l
+pub constant-norm : (l : Line) → unsigned_abs l.constant ≤ norm l
 constant-norm l = omega arith
 
 module _ (vs : List Variable) where
@@ -150,15 +172,23 @@ module _ (vs : List Variable) where
       (linear vs t).constant in
       line-slender (negated vs (linear vs t)) (omega (arith, m, z, s, p)) (omega (arith, a, u, n, c, q))
 
+  waits-slender : (f : CForm) (a : Branch) (q : Bool) → list_all is_slender a.facts ≡ true → list_all is_slender
+      (cond q (one_waiting f) a).facts ≡ true
+  waits-slender f a true h = refl
+  waits-slender f a false h = h
+
   least-slender : (t : CTerm) → (term_width t).own ≤ 2 ^ 62 → (term_load t).own ≤ 2 ^ 63 → (m : Option Choice) →
       list_all is_slender (least_adds vs t m).facts ≡ true
-  least-slender t p q None = ap (λ b. b && true) (term-slender t p q)
+  least-slender t p q None =
+      waits-slender (AtLeast t) (one_fact (linear vs t)) (has_quotient t) (ap (λ b. b && true) (term-slender t p q))
   least-slender t p q (Some c) = refl
 
   zero-slender : (t : CTerm) → (term_width t).own ≤ 2 ^ 62 → (term_load t).own ≤ 2 ^ 63 → (m : Option Choice) →
       list_all is_slender (zero_adds vs t m).facts ≡ true
-  zero-slender t p q None = ap (λ b. b && (is_slender (fact_of (negated vs (linear vs t))) && true))
-      (term-slender t p q) ∙ ap (λ b. b && true) (negated-slender t p q)
+  zero-slender t p q None =
+      waits-slender (Zero t) (two_facts (linear vs t) (negated vs (linear vs t))) (has_quotient t)
+      (ap (λ b. b && (is_slender (fact_of (negated vs (linear vs t))) && true)) (term-slender t p q) ∙ ap
+      (λ b. b && true) (negated-slender t p q))
   zero-slender t p q (Some c) = refl
 
   unequal-slender : (t : CTerm) (m : Option Choice) → list_all is_slender (unequal_adds t m).facts ≡ true

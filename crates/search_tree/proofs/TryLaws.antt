@@ -1,5 +1,5 @@
 -- Chains that were tried.
-use Rattle.std.proofs.Common.{◌≡◌, ℕ, ◌+◌, ◌≤◌, ◌<◌, true, List, length, arith}
+use Rattle.std.proofs.Common.{◌≡◌, ◌+◌, ◌≤◌, ◌<◌, true, List, length, arith}
 use Rattle.std.specs.List.{list_all}
 use Rattle.obligations.specs.declared.branches.Fact.{Fact}
 use Rattle.obligations.specs.declared.branches.Variable.{Variable}
@@ -8,10 +8,10 @@ use Rattle.obligations.specs.Certificates.{units}
 use Rattle.linear_prover.specs.Chains.{Closes, ClosesShortly, is_plain_node}
 use Rattle.search_tree.specs.declared.plain_tree.Trail.{Trail}
 use Rattle.search_tree.specs.declared.plain_tree.Ended.{Ended}
-use Rattle.search_tree.specs.Searching.{Finishes, Tried}
+use Rattle.search_tree.specs.Searching.{Finishes, TriedShortly}
 
 pub tried-short : (vs : List Variable) (facts : List Fact) (ns : List Node) (old new : Trail) (e : Ended) →
-    ClosesShortly (length vs) facts ns → Finishes ns old new e → Tried vs facts old new e
+    ClosesShortly (length vs) facts ns → Finishes ns old new e → TriedShortly (length vs) facts old new e
 tried-short vs facts ns old new e c f =
     let rounds = c.short.rounds in let cheap = c.short.cheap in
     record {
@@ -25,7 +25,7 @@ tried-short vs facts ns old new e c f =
 
 pub tried-found : (vs : List Variable) (facts : List Fact) (ns : List Node) (old new : Trail) (e : Ended) →
     Closes (length vs) facts ns → (length ns ≤ 64) × (units ns < length vs + 256) → list_all is_plain_node ns ≡ true →
-    Finishes ns old new e → Tried vs facts old new e
+    Finishes ns old new e → TriedShortly (length vs) facts old new e
 tried-found vs facts ns old new e c s p f =
     let cheap = s.1 in record {
       nodes = ns;

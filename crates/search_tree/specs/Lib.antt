@@ -1,5 +1,6 @@
 pub mod Left
 pub mod Choices
+pub mod Weighing
 pub mod Searching
 pub mod Ends
 pub mod Laws

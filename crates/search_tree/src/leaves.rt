@@ -2,22 +2,28 @@
 //! more units than `enough` without a search for another.
 ghost use Rattle.std.specs.Prelude.{◌≡◌, ◌+◌, ◌-◌, ◌*◌, ◌≤◌, ◌<◌, ◌^◌, ◌∷◌, [], suc, pos, ◌+ℤ◌, ◌-ℤ◌, ◌<ℤ◌, min};
 ghost use Rattle.std.specs.Prelude.{length, take, true, false, Some, IfOk, OnOk};
-ghost use Rattle.obligations.specs.Load.{need};
-ghost use Rattle.obligations.specs.Obligations.{AreVariables, IsObligation};
+ghost use Rattle.obligations.specs.Load.{need, term_load};
+ghost use Rattle.obligations.specs.Obligations.{AreOwn, AreVariables, IsObligation};
+ghost use Rattle.obligations.specs.Scopes as scopes;
 ghost use Rattle.obligations.specs.Opening.{at_most, at_least, first_branch};
 ghost use Rattle.obligations.specs.Plain.{ranges_of, first_cut, with_high, with_low, waiting_only, cut_leaves};
-ghost use Rattle.obligations.specs.Plain.{open_leaves, plain_leaves};
+ghost use Rattle.obligations.specs.Plain.{side_leaves, quot_leaves, plain_leaves};
+ghost use Rattle.obligations.specs.Quotients as quotients;
+ghost use Rattle.obligations.specs.Quotients.{is_either, with_quotient};
 ghost use Rattle.obligations.specs.Reach.{are_exact, some_out_of_reach};
 ghost use Rattle.obligations.specs.Settling.{settled, sides, added};
 ghost use Rattle.search_tree.specs.Searching.{Ready};
 
 use crate::plain_tree::{
-    Halves, add_above, add_at_most, count_of, cut_back, first_halves, high_half, low_half,
-    numbered, ranges_in, settle_first, settle_second,
+    Halves, add_above, add_at_most, count_of, cut_back, first_halves, high_half, is_either,
+    low_half, numbered, ranges_in, settle_first, settle_second,
 };
 use core_terms::{CForm, Range};
 use linear_prover::reach_chain;
-use obligations::{Branch, Fact, Obligation, Variable, open_branch};
+use obligations::{
+    Branch, Fact, Obligation, Replaced, Variable, add_quotient, has_room, next_param, open_branch,
+    scope_of, without_quotient,
+};
 use std::alloc::{AllocError, Global};
 
 /// Whether some fact is out of reach.
@@ -39,24 +45,26 @@ fn some_out_of_reach(alloc: Global, vs: &[Variable], facts: &[Fact]) -> Result<b
 fn first_leaves(
     alloc: Global,
     vs: &[Variable],
+    scope: &[Variable],
     rest: u32,
     ranges: &[Range],
     wanted: u64,
     form: &CForm,
     branch: &mut Branch,
 ) -> Result<u64, AllocError>
-    requires variables { AreVariables vs.now }
+    requires own { AreOwn vs.now }
+    requires scope { scope.now ≡ scopes.scope_of vs.now branch.old }
     requires rest { rest ≤ 960 }
     requires form { (need form.now).yes ≤ 2 ^ 63 }
-    requires ready { Ready vs.now rest ranges.now (settled vs.now (sides form.now).0 branch.old) }
+    requires ready { Ready vs.now rest ranges.now (settled scope.now (sides form.now).0 branch.old) }
     ensures leaves { IfOk result (λ n. n ≡ min wanted (plain_leaves vs.now rest ranges.now
-        (settled vs.now (sides form.now).0 branch.old))) }
+        (settled scope.now (sides form.now).0 branch.old))) }
     ensures branch { OnOk result (branch.new ≡ branch.old) }
 {
     let facts = branch.facts.len();
     let waits = branch.waiting.len();
-    settle_first(alloc, vs, form, branch)?;
-    let leaves = some_leaves(alloc, vs, rest, ranges, wanted, branch)?;
+    settle_first(alloc, scope, form, branch)?;
+    let leaves = some_leaves(alloc, vs, scope, rest, ranges, wanted, branch)?;
     cut_back(branch, facts, waits);
     Ok(leaves)
 }
@@ -67,24 +75,26 @@ fn first_leaves(
 fn second_leaves(
     alloc: Global,
     vs: &[Variable],
+    scope: &[Variable],
     rest: u32,
     ranges: &[Range],
     wanted: u64,
     form: &CForm,
     branch: &mut Branch,
 ) -> Result<u64, AllocError>
-    requires variables { AreVariables vs.now }
+    requires own { AreOwn vs.now }
+    requires scope { scope.now ≡ scopes.scope_of vs.now branch.old }
     requires rest { rest ≤ 960 }
     requires form { (need form.now).yes ≤ 2 ^ 63 }
-    requires ready { Ready vs.now rest ranges.now (settled vs.now (sides form.now).1 branch.old) }
+    requires ready { Ready vs.now rest ranges.now (settled scope.now (sides form.now).1 branch.old) }
     ensures leaves { IfOk result (λ n. n ≡ min wanted (plain_leaves vs.now rest ranges.now
-        (settled vs.now (sides form.now).1 branch.old))) }
+        (settled scope.now (sides form.now).1 branch.old))) }
     ensures branch { OnOk result (branch.new ≡ branch.old) }
 {
     let facts = branch.facts.len();
     let waits = branch.waiting.len();
-    settle_second(alloc, vs, form, branch)?;
-    let leaves = some_leaves(alloc, vs, rest, ranges, wanted, branch)?;
+    settle_second(alloc, scope, form, branch)?;
+    let leaves = some_leaves(alloc, vs, scope, rest, ranges, wanted, branch)?;
     cut_back(branch, facts, waits);
     Ok(leaves)
 }
@@ -94,25 +104,121 @@ fn second_leaves(
 fn leaves_of_sides(
     alloc: Global,
     vs: &[Variable],
+    scope: &[Variable],
     rest: u32,
     ranges: &[Range],
     wanted: u64,
     form: &CForm,
     branch: &mut Branch,
 ) -> Result<u64, AllocError>
-    requires variables { AreVariables vs.now }
+    requires own { AreOwn vs.now }
+    requires scope { scope.now ≡ scopes.scope_of vs.now branch.old }
     requires rest { rest < 960 }
+    requires either { is_either form.now ≡ true }
     requires ready { Ready vs.now (suc rest) ranges.now (waiting_only branch.old (form.now ∷ branch.old.waiting)) }
-    ensures leaves { IfOk result (λ n. n ≡ min wanted (open_leaves vs.now (plain_leaves vs.now rest) ranges.now
-        branch.old (form.now ∷ branch.old.waiting))) }
+    ensures leaves { IfOk result (λ n. n ≡ min wanted (side_leaves scope.now (plain_leaves vs.now rest) ranges.now
+        branch.old form.now)) }
     ensures branch { OnOk result (branch.new ≡ branch.old) }
 {
-    let first = first_leaves(alloc, vs, rest, ranges, wanted, form, branch)?;
+    let first = first_leaves(alloc, vs, scope, rest, ranges, wanted, form, branch)?;
     if first >= wanted {
         return Ok(first);
     }
-    let second = second_leaves(alloc, vs, rest, ranges, wanted - first, form, branch)?;
+    let second = second_leaves(alloc, vs, scope, rest, ranges, wanted - first, form, branch)?;
     Ok(first + second)
+}
+
+/// Counts leaves with one quotient more taken.
+#[cycle(leaves)]
+#[tactic(auto, using(crate::proofs::QuotLaws::undo_quotient_laws))]
+fn leaves_without(
+    alloc: Global,
+    vs: &[Variable],
+    rest: u32,
+    ranges: &[Range],
+    wanted: u64,
+    replaced: &Replaced,
+    branch: &mut Branch,
+) -> Result<u64, AllocError>
+    requires own { AreOwn vs.now }
+    requires rest { rest ≤ 960 }
+    requires added { branch.old.added < 960 }
+    requires load { (term_load replaced.now.taken.of).own ≤ 2 ^ 66 }
+    requires light { (need replaced.now.form).yes ≤ 2 ^ 66 }
+    requires ready { Ready vs.now rest ranges.now
+        (with_quotient (scopes.scope_of vs.now branch.old) replaced.now branch.old) }
+    ensures leaves { IfOk result (λ n. n ≡ min wanted (plain_leaves vs.now rest ranges.now
+        (with_quotient (scopes.scope_of vs.now branch.old) replaced.now branch.old))) }
+    ensures branch { OnOk result (branch.new ≡ branch.old) }
+{
+    let facts = branch.facts.len();
+    let waits = branch.waiting.len();
+    let added = branch.added;
+    let mut scope = scope_of(alloc, vs, added)?;
+    add_quotient(alloc, &mut scope, replaced, branch)?;
+    let leaves = some_leaves(alloc, vs, scope.as_slice(), rest, ranges, wanted, branch)?;
+    cut_back(branch, facts, waits);
+    branch.added = added;
+    Ok(leaves)
+}
+
+/// Counts the leaves of a branch's first waiting formula, which was taken out, with a quotient taken.
+#[cycle(leaves)]
+fn leaves_of_quot(
+    alloc: Global,
+    vs: &[Variable],
+    scope: &[Variable],
+    rest: u32,
+    ranges: &[Range],
+    wanted: u64,
+    form: &CForm,
+    branch: &mut Branch,
+) -> Result<u64, AllocError>
+    requires own { AreOwn vs.now }
+    requires scope { scope.now ≡ scopes.scope_of vs.now branch.old }
+    requires rest { rest < 960 }
+    requires either { is_either form.now ≡ false }
+    requires ready { Ready vs.now (suc rest) ranges.now (waiting_only branch.old (form.now ∷ branch.old.waiting)) }
+    ensures leaves { IfOk result (λ n. n ≡ min wanted (quot_leaves scope.now (plain_leaves vs.now rest) ranges.now
+        branch.old (quotients.without_quotient (scopes.next_param scope.now) form.now))) }
+    ensures branch { OnOk result (branch.new ≡ branch.old) }
+{
+    let next = next_param(scope) as u32;
+    let Some(replaced) = without_quotient(alloc, next, form)? else {
+        return Err(AllocError);
+    };
+    let leaves = leaves_without(alloc, vs, rest, ranges, wanted, &replaced, branch)?;
+    Ok(leaves)
+}
+
+/// Counts the leaves of a branch's first waiting formula, which was taken out.
+#[cycle(leaves)]
+fn leaves_of_form(
+    alloc: Global,
+    vs: &[Variable],
+    scope: &[Variable],
+    rest: u32,
+    ranges: &[Range],
+    wanted: u64,
+    form: &CForm,
+    branch: &mut Branch,
+) -> Result<u64, AllocError>
+    requires own { AreOwn vs.now }
+    requires scope { scope.now ≡ scopes.scope_of vs.now branch.old }
+    requires rest { rest < 960 }
+    requires ready { Ready vs.now (suc rest) ranges.now (waiting_only branch.old (form.now ∷ branch.old.waiting)) }
+    requires reach { some_out_of_reach branch.old.facts ≡ false }
+    ensures leaves { IfOk result (λ n. n ≡ min wanted (plain_leaves vs.now (suc rest) ranges.now
+        (waiting_only branch.old (form.now ∷ branch.old.waiting)))) }
+    ensures branch { OnOk result (branch.new ≡ branch.old) }
+{
+    if is_either(form) {
+        let leaves = leaves_of_sides(alloc, vs, scope, rest, ranges, wanted, form, branch)?;
+        Ok(leaves)
+    } else {
+        let leaves = leaves_of_quot(alloc, vs, scope, rest, ranges, wanted, form, branch)?;
+        Ok(leaves)
+    }
 }
 
 /// Counts leaves with a variable at most the middle of its range.
@@ -121,13 +227,15 @@ fn leaves_of_sides(
 fn low_leaves(
     alloc: Global,
     vs: &[Variable],
+    scope: &[Variable],
     rest: u32,
     ranges: &[Range],
     wanted: u64,
     halves: Halves,
     branch: &mut Branch,
 ) -> Result<u64, AllocError>
-    requires variables { AreVariables vs.now }
+    requires own { AreOwn vs.now }
+    requires scope { scope.now ≡ scopes.scope_of vs.now branch.old }
     requires rest { rest ≤ 960 }
     requires place { halves.place < length ranges.now }
     requires ready { Ready vs.now rest (with_high ranges.now halves.place halves.at)
@@ -140,7 +248,7 @@ fn low_leaves(
     let waits = branch.waiting.len();
     let half = low_half(alloc, ranges, halves)?;
     add_at_most(alloc, halves, branch)?;
-    let leaves = some_leaves(alloc, vs, rest, half.as_slice(), wanted, branch)?;
+    let leaves = some_leaves(alloc, vs, scope, rest, half.as_slice(), wanted, branch)?;
     cut_back(branch, facts, waits);
     Ok(leaves)
 }
@@ -151,13 +259,15 @@ fn low_leaves(
 fn high_leaves(
     alloc: Global,
     vs: &[Variable],
+    scope: &[Variable],
     rest: u32,
     ranges: &[Range],
     wanted: u64,
     halves: Halves,
     branch: &mut Branch,
 ) -> Result<u64, AllocError>
-    requires variables { AreVariables vs.now }
+    requires own { AreOwn vs.now }
+    requires scope { scope.now ≡ scopes.scope_of vs.now branch.old }
     requires rest { rest ≤ 960 }
     requires place { halves.place < length ranges.now }
     requires room { halves.at <ℤ pos (2 ^ 63 - 1) }
@@ -172,7 +282,7 @@ fn high_leaves(
     let waits = branch.waiting.len();
     let half = high_half(alloc, ranges, halves)?;
     add_above(alloc, halves, branch)?;
-    let leaves = some_leaves(alloc, vs, rest, half.as_slice(), wanted, branch)?;
+    let leaves = some_leaves(alloc, vs, scope, rest, half.as_slice(), wanted, branch)?;
     cut_back(branch, facts, waits);
     Ok(leaves)
 }
@@ -182,13 +292,15 @@ fn high_leaves(
 fn leaves_of_halves(
     alloc: Global,
     vs: &[Variable],
+    scope: &[Variable],
     rest: u32,
     ranges: &[Range],
     wanted: u64,
     halves: Halves,
     branch: &mut Branch,
 ) -> Result<u64, AllocError>
-    requires variables { AreVariables vs.now }
+    requires own { AreOwn vs.now }
+    requires scope { scope.now ≡ scopes.scope_of vs.now branch.old }
     requires rest { rest < 960 }
     requires ready { Ready vs.now (suc rest) ranges.now branch.old }
     requires halves { first_cut 0 ranges.now ≡ Some (record { place = halves.place; at = halves.at }) }
@@ -197,11 +309,11 @@ fn leaves_of_halves(
         (Some (record { place = halves.place; at = halves.at })))) }
     ensures branch { OnOk result (branch.new ≡ branch.old) }
 {
-    let low = low_leaves(alloc, vs, rest, ranges, wanted, halves, branch)?;
+    let low = low_leaves(alloc, vs, scope, rest, ranges, wanted, halves, branch)?;
     if low >= wanted {
         return Ok(low);
     }
-    let high = high_leaves(alloc, vs, rest, ranges, wanted - low, halves, branch)?;
+    let high = high_leaves(alloc, vs, scope, rest, ranges, wanted - low, halves, branch)?;
     Ok(low + high)
 }
 
@@ -210,12 +322,14 @@ fn leaves_of_halves(
 fn open_some_leaves(
     alloc: Global,
     vs: &[Variable],
+    scope: &[Variable],
     rest: u32,
     ranges: &[Range],
     wanted: u64,
     branch: &mut Branch,
 ) -> Result<u64, AllocError>
-    requires variables { AreVariables vs.now }
+    requires own { AreOwn vs.now }
+    requires scope { scope.now ≡ scopes.scope_of vs.now branch.old }
     requires rest { rest ≤ 960 }
     requires wanted { 1 ≤ wanted }
     requires ready { Ready vs.now rest ranges.now branch.old }
@@ -225,13 +339,23 @@ fn open_some_leaves(
 {
     if branch.waiting.len() > 0 {
         let form = branch.waiting.remove(0);
-        let leaves = leaves_of_sides(alloc, vs, rest - 1, ranges, wanted, form.get(), branch)?;
+        let first = form.get();
+        let leaves = leaves_of_form(alloc, vs, scope, rest - 1, ranges, wanted, first, branch)?;
         branch.waiting.insert(0, form)?;
         Ok(leaves)
     } else {
         match first_halves(ranges) {
             Some(halves) => {
-                let leaves = leaves_of_halves(alloc, vs, rest - 1, ranges, wanted, halves, branch)?;
+                let leaves = leaves_of_halves(
+                    alloc,
+                    vs,
+                    scope,
+                    rest - 1,
+                    ranges,
+                    wanted,
+                    halves,
+                    branch,
+                )?;
                 Ok(leaves)
             }
             None => Ok(1),
@@ -244,12 +368,14 @@ fn open_some_leaves(
 fn some_leaves(
     alloc: Global,
     vs: &[Variable],
+    scope: &[Variable],
     rest: u32,
     ranges: &[Range],
     wanted: u64,
     branch: &mut Branch,
 ) -> Result<u64, AllocError>
-    requires variables { AreVariables vs.now }
+    requires own { AreOwn vs.now }
+    requires scope { scope.now ≡ scopes.scope_of vs.now branch.old }
     requires rest { rest ≤ 960 }
     requires ready { Ready vs.now rest ranges.now branch.old }
     ensures leaves { IfOk result (λ n. n ≡ min wanted (plain_leaves vs.now rest ranges.now branch.old)) }
@@ -258,24 +384,28 @@ fn some_leaves(
     if wanted <= 1 {
         return Ok(wanted);
     }
-    if some_out_of_reach(alloc, vs, branch.facts.as_slice())? {
+    if some_out_of_reach(alloc, scope, branch.facts.as_slice())? {
         return Ok(1);
     }
-    let leaves = open_some_leaves(alloc, vs, rest, ranges, wanted, branch)?;
+    let leaves = open_some_leaves(alloc, vs, scope, rest, ranges, wanted, branch)?;
     Ok(leaves)
 }
 
 /// How many leaves an obligation's plain tree has, and the number that is wanted where it has more. The leaves
-/// that are not wanted are not visited.
+/// that are not wanted are not visited. An obligation with a parameter of a number of 2^31 or more is refused as
+/// for want of memory.
 #[tactic(auto, using(crate::proofs::RootLaws::obligation_laws))]
 pub fn count_leaves(alloc: Global, o: &Obligation, wanted: u64) -> Result<u64, AllocError>
     requires { IsObligation o.now }
     ensures { IfOk result (λ n. n ≡ min wanted (plain_leaves o.now.variables 960 (ranges_of o.now.variables)
         (first_branch o.now))) }
 {
+    if !has_room(o) {
+        return Err(AllocError);
+    }
     let mut branch = open_branch(alloc, o)?;
     let vs = o.variables.as_slice();
     let ranges = ranges_in(alloc, vs)?;
-    let leaves = some_leaves(alloc, vs, 960, ranges.as_slice(), wanted, &mut branch)?;
+    let leaves = some_leaves(alloc, vs, vs, 960, ranges.as_slice(), wanted, &mut branch)?;
     Ok(leaves)
 }

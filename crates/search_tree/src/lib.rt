@@ -3,13 +3,16 @@
 
 mod ends;
 mod laws;
+mod leaf;
 mod leaves;
 mod plain_tree;
+mod values;
 
 pub use ends::search_ends;
 pub use laws::enough_laws;
 pub use leaves::count_leaves;
 pub use plain_tree::{
-    Ended, Found, Halves, Trail, add_above, add_at_most, cut_back, finish, is_allowed, put_node,
-    search_tree, settle_first, settle_second, split_node,
+    Ended, Found, Halves, Trail, add_above, add_at_most, cut_back, finish, is_allowed, is_either,
+    put_node, search_tree, settle_first, settle_second, split_node,
 };
+pub use values::are_met;

@@ -5,20 +5,28 @@ ghost use Rattle.std.specs.Prelude.{IsTrue, ◌↔◌, length, true, max};
 ghost use Rattle.std.specs.List.{list_all};
 ghost use Rattle.std.specs.Option.{option_copied};
 ghost use Rattle.obligations.specs.Settling.{settled};
-ghost use Rattle.obligations.specs.Load.{need};
+ghost use Rattle.obligations.specs.Load.{need, term_load};
 ghost use Rattle.obligations.specs.Settling.{sides, added};
 ghost use Rattle.obligations.specs.Opening.{at_most, at_least};
 ghost use Rattle.obligations.specs.Reach.{are_exact, some_out_of_reach};
 ghost use Rattle.linear_prover.specs.Chains.{Closes, is_plain_node};
 ghost use Rattle.obligations.specs.Certificates.{node_units, units};
-ghost use Rattle.obligations.specs.Obligations.{AreVariables, IsObligation};
-ghost use Rattle.obligations.specs.Plain.{ranges_of, middle, first_cut, with_high, with_low, waiting_only, open_leaves};
-ghost use Rattle.obligations.specs.Plain.{cut_leaves, plain_leaves, leaf_units};
-ghost use Rattle.search_tree.specs.Searching.{Ready, Ends, IsClosed, SearchAnswers, Finishes, Tried, found_of};
+ghost use Rattle.obligations.specs.Obligations.{AreOwn, AreVariables, IsObligation};
+ghost use Rattle.obligations.specs.Scopes as scopes;
+ghost use Rattle.obligations.specs.Plain.{ranges_of, middle, first_cut, with_high, with_low, waiting_only};
+ghost use Rattle.obligations.specs.Plain.{cut_leaves, side_leaves, quot_leaves, plain_leaves};
+ghost use Rattle.obligations.specs.Quotients as quotients;
+ghost use Rattle.obligations.specs.Quotients.{is_either, with_quotient};
+ghost use Rattle.search_tree.specs.Searching.{Ready, Ends, IsClosed, SearchAnswers, Finishes, found_of};
+ghost use Rattle.search_tree.specs.Searching.{TriedShortly};
 
+use crate::leaf::refute_leaf;
 use core_terms::{CForm, Range};
 use linear_prover::{eliminate, is_plain_chain, reach_chain};
-use obligations::{Branch, Cert, Fact, Node, Obligation, Variable, open_branch, settle_onto};
+use obligations::{
+    Branch, Cert, Fact, Node, Obligation, Replaced, Variable, add_quotient, has_room, next_param,
+    open_branch, scope_of, settle_onto, without_quotient,
+};
 use std::alloc::{AllocError, Global};
 use unity_base::{Held, Seq};
 
@@ -84,7 +92,7 @@ pub fn put_node(trail: &mut Trail, node: Node) -> Result<bool, AllocError>
 }
 
 /// What is left of some units after nodes. `None` exactly where they are too few.
-fn after_nodes(nodes: &[Node], spare: u64) -> Option<u64>
+pub fn after_nodes(nodes: &[Node], spare: u64) -> Option<u64>
     ensures { MatchOption result (spare < units nodes.now) (λ rest. rest + units nodes.now ≡ spare) }
 {
     let mut rest = spare;
@@ -98,7 +106,7 @@ fn after_nodes(nodes: &[Node], spare: u64) -> Option<u64>
 }
 
 /// Adds nodes at the end.
-fn append_nodes(nodes: &mut Seq<Node>, mut more: Seq<Node>) -> Result<(), AllocError>
+pub fn append_nodes(nodes: &mut Seq<Node>, mut more: Seq<Node>) -> Result<(), AllocError>
     ensures { OnOk result (nodes.new ≡ nodes.old ++ more) }
 {
     while more.len() > 0 {
@@ -155,6 +163,16 @@ pub fn settle_second(
     Ok(())
 }
 
+/// Whether a formula is an `Or`.
+pub fn is_either(form: &CForm) -> bool
+    ensures { result ≡ is_either form.now }
+{
+    match form {
+        CForm::Or(_, _) => true,
+        _ => false,
+    }
+}
+
 /// The two sides of a formula that waits.
 fn sides_of(form: &CForm) -> (&CForm, &CForm)
     ensures first { result.0.now ≡ (sides form.now).0 }
@@ -168,7 +186,11 @@ fn sides_of(form: &CForm) -> (&CForm, &CForm)
 
 /// Drops what was added to a branch.
 pub fn cut_back(branch: &mut Branch, facts: usize, waits: usize)
-    ensures { branch.new ≡ record { facts = take facts branch.old.facts; waiting = take waits branch.old.waiting } }
+    ensures { branch.new ≡ record {
+      facts = take facts branch.old.facts;
+      waiting = take waits branch.old.waiting;
+      added = branch.old.added;
+    } }
 {
     branch.facts.truncate(facts);
     branch.waiting.truncate(waits);
@@ -199,25 +221,27 @@ pub fn finish(trail: &mut Trail, chain: Seq<Node>) -> Result<Ended, AllocError>
 fn refute_first(
     alloc: Global,
     vs: &[Variable],
+    scope: &[Variable],
     rest: u32,
     ranges: &[Range],
     form: &CForm,
     branch: &mut Branch,
     trail: &mut Trail,
 ) -> Result<Ended, AllocError>
-    requires variables { AreVariables vs.now }
+    requires own { AreOwn vs.now }
+    requires scope { scope.now ≡ scopes.scope_of vs.now branch.old }
     requires rest { rest ≤ 960 }
     requires form { (need form.now).yes ≤ 2 ^ 63 }
-    requires ready { Ready vs.now rest ranges.now (settled vs.now (sides form.now).0 branch.old) }
+    requires ready { Ready vs.now rest ranges.now (settled scope.now (sides form.now).0 branch.old) }
     ensures ends { IfOk result (λ e. Ends vs.now rest (plain_leaves vs.now rest ranges.now
-        (settled vs.now (sides form.now).0 branch.old)) (settled vs.now (sides form.now).0 branch.old) trail.old
+        (settled scope.now (sides form.now).0 branch.old)) (settled scope.now (sides form.now).0 branch.old) trail.old
         trail.new e) }
     ensures branch { IfOk result (λ e. IsClosed e → branch.new ≡ branch.old) }
 {
     let facts = branch.facts.len();
     let waits = branch.waiting.len();
-    settle_first(alloc, vs, form, branch)?;
-    let ended = refute(alloc, vs, rest, ranges, branch, trail)?;
+    settle_first(alloc, scope, form, branch)?;
+    let ended = refute(alloc, vs, scope, rest, ranges, branch, trail)?;
     cut_back(branch, facts, waits);
     Ok(ended)
 }
@@ -228,59 +252,131 @@ fn refute_first(
 fn refute_second(
     alloc: Global,
     vs: &[Variable],
+    scope: &[Variable],
     rest: u32,
     ranges: &[Range],
     form: &CForm,
     branch: &mut Branch,
     trail: &mut Trail,
 ) -> Result<Ended, AllocError>
-    requires variables { AreVariables vs.now }
+    requires own { AreOwn vs.now }
+    requires scope { scope.now ≡ scopes.scope_of vs.now branch.old }
     requires rest { rest ≤ 960 }
     requires form { (need form.now).yes ≤ 2 ^ 63 }
-    requires ready { Ready vs.now rest ranges.now (settled vs.now (sides form.now).1 branch.old) }
+    requires ready { Ready vs.now rest ranges.now (settled scope.now (sides form.now).1 branch.old) }
     ensures ends { IfOk result (λ e. Ends vs.now rest (plain_leaves vs.now rest ranges.now
-        (settled vs.now (sides form.now).1 branch.old)) (settled vs.now (sides form.now).1 branch.old) trail.old
+        (settled scope.now (sides form.now).1 branch.old)) (settled scope.now (sides form.now).1 branch.old) trail.old
         trail.new e) }
     ensures branch { IfOk result (λ e. IsClosed e → branch.new ≡ branch.old) }
 {
     let facts = branch.facts.len();
     let waits = branch.waiting.len();
-    settle_second(alloc, vs, form, branch)?;
-    let ended = refute(alloc, vs, rest, ranges, branch, trail)?;
+    settle_second(alloc, scope, form, branch)?;
+    let ended = refute(alloc, vs, scope, rest, ranges, branch, trail)?;
     cut_back(branch, facts, waits);
     Ok(ended)
 }
 
-/// Refutes a branch by the two sides of its first waiting formula, which was taken out.
+/// Refutes a branch by the two sides of its first waiting formula, an `Or`, which was taken out.
 #[cycle(search)]
 fn refute_sides(
     alloc: Global,
     vs: &[Variable],
+    scope: &[Variable],
     rest: u32,
     ranges: &[Range],
     form: &CForm,
     branch: &mut Branch,
     trail: &mut Trail,
 ) -> Result<Ended, AllocError>
-    requires variables { AreVariables vs.now }
+    requires own { AreOwn vs.now }
+    requires scope { scope.now ≡ scopes.scope_of vs.now branch.old }
     requires rest { rest < 960 }
+    requires either { is_either form.now ≡ true }
     requires ready { Ready vs.now (suc rest) ranges.now (waiting_only branch.old (form.now ∷ branch.old.waiting)) }
-    ensures ends { IfOk result (λ e. Ends vs.now (suc rest) (open_leaves vs.now (plain_leaves vs.now rest) ranges.now
-        branch.old (form.now ∷ branch.old.waiting)) (waiting_only branch.old (form.now ∷ branch.old.waiting)) trail.old
-        trail.new e) }
+    ensures ends { IfOk result (λ e. Ends vs.now (suc rest) (side_leaves scope.now (plain_leaves vs.now rest) ranges.now
+        branch.old form.now) (waiting_only branch.old (form.now ∷ branch.old.waiting)) trail.old trail.new e) }
     ensures branch { IfOk result (λ e. IsClosed e → branch.new ≡ branch.old) }
 {
     if !put_node(trail, Node::Case(1))? {
         return Ok(Ended::Stopped);
     }
-    match refute_first(alloc, vs, rest, ranges, form, branch, trail)? {
+    match refute_first(alloc, vs, scope, rest, ranges, form, branch, trail)? {
         Ended::Closed => {
-            let ended = refute_second(alloc, vs, rest, ranges, form, branch, trail)?;
+            let ended = refute_second(alloc, vs, scope, rest, ranges, form, branch, trail)?;
             Ok(ended)
         }
         Ended::Stopped => Ok(Ended::Stopped),
         Ended::Refuted(values) => Ok(Ended::Refuted(values)),
     }
+}
+
+/// Refutes a branch with one quotient more taken.
+#[cycle(search)]
+#[tactic(auto, using(crate::proofs::QuotLaws::undo_quotient_laws))]
+fn refute_without(
+    alloc: Global,
+    vs: &[Variable],
+    rest: u32,
+    ranges: &[Range],
+    replaced: &Replaced,
+    branch: &mut Branch,
+    trail: &mut Trail,
+) -> Result<Ended, AllocError>
+    requires own { AreOwn vs.now }
+    requires rest { rest ≤ 960 }
+    requires added { branch.old.added < 960 }
+    requires load { (term_load replaced.now.taken.of).own ≤ 2 ^ 66 }
+    requires light { (need replaced.now.form).yes ≤ 2 ^ 66 }
+    requires ready { Ready vs.now rest ranges.now
+        (with_quotient (scopes.scope_of vs.now branch.old) replaced.now branch.old) }
+    ensures ends { IfOk result (λ e. Ends vs.now rest
+        (plain_leaves vs.now rest ranges.now (with_quotient (scopes.scope_of vs.now branch.old) replaced.now branch.old))
+        (with_quotient (scopes.scope_of vs.now branch.old) replaced.now branch.old) trail.old trail.new e) }
+    ensures branch { IfOk result (λ e. IsClosed e → branch.new ≡ branch.old) }
+{
+    let facts = branch.facts.len();
+    let waits = branch.waiting.len();
+    let added = branch.added;
+    let mut scope = scope_of(alloc, vs, added)?;
+    add_quotient(alloc, &mut scope, replaced, branch)?;
+    let ended = refute(alloc, vs, scope.as_slice(), rest, ranges, branch, trail)?;
+    cut_back(branch, facts, waits);
+    branch.added = added;
+    Ok(ended)
+}
+
+/// Refutes a branch by taking a quotient of its first waiting formula, which was taken out.
+#[cycle(search)]
+fn refute_quot(
+    alloc: Global,
+    vs: &[Variable],
+    scope: &[Variable],
+    rest: u32,
+    ranges: &[Range],
+    form: &CForm,
+    branch: &mut Branch,
+    trail: &mut Trail,
+) -> Result<Ended, AllocError>
+    requires own { AreOwn vs.now }
+    requires scope { scope.now ≡ scopes.scope_of vs.now branch.old }
+    requires rest { rest < 960 }
+    requires either { is_either form.now ≡ false }
+    requires ready { Ready vs.now (suc rest) ranges.now (waiting_only branch.old (form.now ∷ branch.old.waiting)) }
+    ensures ends { IfOk result (λ e. Ends vs.now (suc rest) (quot_leaves scope.now (plain_leaves vs.now rest) ranges.now
+        branch.old (quotients.without_quotient (scopes.next_param scope.now) form.now))
+        (waiting_only branch.old (form.now ∷ branch.old.waiting)) trail.old trail.new e) }
+    ensures branch { IfOk result (λ e. IsClosed e → branch.new ≡ branch.old) }
+{
+    let next = next_param(scope) as u32;
+    let Some(replaced) = without_quotient(alloc, next, form)? else {
+        return Err(AllocError);
+    };
+    if !put_node(trail, Node::Quot(1))? {
+        return Ok(Ended::Stopped);
+    }
+    let ended = refute_without(alloc, vs, rest, ranges, &replaced, branch, trail)?;
+    Ok(ended)
 }
 
 /// A variable that still has more than one value, and the middle of its range.
@@ -446,13 +542,15 @@ pub fn add_above(alloc: Global, halves: Halves, branch: &mut Branch) -> Result<(
 fn refute_low(
     alloc: Global,
     vs: &[Variable],
+    scope: &[Variable],
     rest: u32,
     ranges: &[Range],
     halves: Halves,
     branch: &mut Branch,
     trail: &mut Trail,
 ) -> Result<Ended, AllocError>
-    requires variables { AreVariables vs.now }
+    requires own { AreOwn vs.now }
+    requires scope { scope.now ≡ scopes.scope_of vs.now branch.old }
     requires rest { rest ≤ 960 }
     requires place { halves.place < length ranges.now }
     requires ready { Ready vs.now rest (with_high ranges.now halves.place halves.at)
@@ -466,7 +564,7 @@ fn refute_low(
     let waits = branch.waiting.len();
     let half = low_half(alloc, ranges, halves)?;
     add_at_most(alloc, halves, branch)?;
-    let ended = refute(alloc, vs, rest, half.as_slice(), branch, trail)?;
+    let ended = refute(alloc, vs, scope, rest, half.as_slice(), branch, trail)?;
     cut_back(branch, facts, waits);
     Ok(ended)
 }
@@ -477,13 +575,15 @@ fn refute_low(
 fn refute_high(
     alloc: Global,
     vs: &[Variable],
+    scope: &[Variable],
     rest: u32,
     ranges: &[Range],
     halves: Halves,
     branch: &mut Branch,
     trail: &mut Trail,
 ) -> Result<Ended, AllocError>
-    requires variables { AreVariables vs.now }
+    requires own { AreOwn vs.now }
+    requires scope { scope.now ≡ scopes.scope_of vs.now branch.old }
     requires rest { rest ≤ 960 }
     requires place { halves.place < length ranges.now }
     requires room { halves.at <ℤ pos (2 ^ 63 - 1) }
@@ -499,7 +599,7 @@ fn refute_high(
     let waits = branch.waiting.len();
     let half = high_half(alloc, ranges, halves)?;
     add_above(alloc, halves, branch)?;
-    let ended = refute(alloc, vs, rest, half.as_slice(), branch, trail)?;
+    let ended = refute(alloc, vs, scope, rest, half.as_slice(), branch, trail)?;
     cut_back(branch, facts, waits);
     Ok(ended)
 }
@@ -509,13 +609,15 @@ fn refute_high(
 fn refute_halves(
     alloc: Global,
     vs: &[Variable],
+    scope: &[Variable],
     rest: u32,
     ranges: &[Range],
     halves: Halves,
     branch: &mut Branch,
     trail: &mut Trail,
 ) -> Result<Ended, AllocError>
-    requires variables { AreVariables vs.now }
+    requires own { AreOwn vs.now }
+    requires scope { scope.now ≡ scopes.scope_of vs.now branch.old }
     requires rest { rest < 960 }
     requires ready { Ready vs.now (suc rest) ranges.now branch.old }
     requires halves { first_cut 0 ranges.now ≡ Some (record { place = halves.place; at = halves.at }) }
@@ -527,9 +629,9 @@ fn refute_halves(
     if !put_node(trail, split_node(halves))? {
         return Ok(Ended::Stopped);
     }
-    match refute_low(alloc, vs, rest, ranges, halves, branch, trail)? {
+    match refute_low(alloc, vs, scope, rest, ranges, halves, branch, trail)? {
         Ended::Closed => {
-            let ended = refute_high(alloc, vs, rest, ranges, halves, branch, trail)?;
+            let ended = refute_high(alloc, vs, scope, rest, ranges, halves, branch, trail)?;
             Ok(ended)
         }
         Ended::Stopped => Ok(Ended::Stopped),
@@ -538,7 +640,7 @@ fn refute_halves(
 }
 
 /// The low ends of all ranges.
-fn low_ends(alloc: Global, ranges: &[Range]) -> Result<Seq<i64>, AllocError>
+pub fn low_ends(alloc: Global, ranges: &[Range]) -> Result<Seq<i64>, AllocError>
     ensures { IfOk result (λ values. values ≡ map (λ r. r.lo) ranges.now) }
 {
     let mut values = Seq::new(alloc);
@@ -579,7 +681,7 @@ fn try_reach(
     requires exact { are_exact (length vs.now) facts.now ≡ true }
     ensures { IfOk result (λ o. MatchOption o
         ((some_out_of_reach facts.now ≡ false) × (trail.new ≡ trail.old))
-        (Tried vs.now facts.now trail.old trail.new)) }
+        (TriedShortly (length vs.now) facts.now trail.old trail.new)) }
 {
     numbered(facts)?;
     match reach_chain(alloc, facts, count_of(vs))? {
@@ -599,7 +701,7 @@ fn try_eliminate(
     requires { AreVariables vs.now }
     ensures { IfOk result (λ o. MatchOption o
         (trail.new ≡ trail.old)
-        (Tried vs.now facts.now trail.old trail.new)) }
+        (TriedShortly (length vs.now) facts.now trail.old trail.new)) }
 {
     numbered(facts)?;
     match eliminate(alloc, facts, count_of(vs))? {
@@ -626,7 +728,7 @@ fn try_close(
     requires exact { are_exact (length vs.now) branch.now.facts ≡ true }
     ensures { IfOk result (λ o. MatchOption o
         ((some_out_of_reach branch.now.facts ≡ false) × (trail.new ≡ trail.old))
-        (Tried vs.now branch.now.facts trail.old trail.new)) }
+        (TriedShortly (length vs.now) branch.now.facts trail.old trail.new)) }
 {
     let facts = branch.facts.as_slice();
     match try_reach(alloc, vs, facts, trail)? {
@@ -642,17 +744,50 @@ fn try_close(
     }
 }
 
+/// Refutes a branch by its first waiting formula, which was taken out.
+#[cycle(search)]
+fn refute_form(
+    alloc: Global,
+    vs: &[Variable],
+    scope: &[Variable],
+    rest: u32,
+    ranges: &[Range],
+    form: &CForm,
+    branch: &mut Branch,
+    trail: &mut Trail,
+) -> Result<Ended, AllocError>
+    requires own { AreOwn vs.now }
+    requires scope { scope.now ≡ scopes.scope_of vs.now branch.old }
+    requires rest { rest < 960 }
+    requires ready { Ready vs.now (suc rest) ranges.now (waiting_only branch.old (form.now ∷ branch.old.waiting)) }
+    requires reach { some_out_of_reach branch.old.facts ≡ false }
+    ensures ends { IfOk result (λ e. Ends vs.now (suc rest)
+        (plain_leaves vs.now (suc rest) ranges.now (waiting_only branch.old (form.now ∷ branch.old.waiting)))
+        (waiting_only branch.old (form.now ∷ branch.old.waiting)) trail.old trail.new e) }
+    ensures branch { IfOk result (λ e. IsClosed e → branch.new ≡ branch.old) }
+{
+    if is_either(form) {
+        let ended = refute_sides(alloc, vs, scope, rest, ranges, form, branch, trail)?;
+        Ok(ended)
+    } else {
+        let ended = refute_quot(alloc, vs, scope, rest, ranges, form, branch, trail)?;
+        Ok(ended)
+    }
+}
+
 /// Refutes a branch without a fact out of reach.
 #[cycle(search)]
 fn refute_open(
     alloc: Global,
     vs: &[Variable],
+    scope: &[Variable],
     rest: u32,
     ranges: &[Range],
     branch: &mut Branch,
     trail: &mut Trail,
 ) -> Result<Ended, AllocError>
-    requires variables { AreVariables vs.now }
+    requires own { AreOwn vs.now }
+    requires scope { scope.now ≡ scopes.scope_of vs.now branch.old }
     requires rest { rest ≤ 960 }
     requires ready { Ready vs.now rest ranges.now branch.old }
     requires reach { some_out_of_reach branch.old.facts ≡ false }
@@ -662,16 +797,34 @@ fn refute_open(
 {
     if branch.waiting.len() > 0 {
         let form = branch.waiting.remove(0);
-        let ended = refute_sides(alloc, vs, rest - 1, ranges, form.get(), branch, trail)?;
+        let ended = refute_form(
+            alloc,
+            vs,
+            scope,
+            rest - 1,
+            ranges,
+            form.get(),
+            branch,
+            trail,
+        )?;
         branch.waiting.insert(0, form)?;
         Ok(ended)
     } else {
         match first_halves(ranges) {
             Some(halves) => {
-                let ended = refute_halves(alloc, vs, rest - 1, ranges, halves, branch, trail)?;
+                let ended = refute_halves(
+                    alloc,
+                    vs,
+                    scope,
+                    rest - 1,
+                    ranges,
+                    halves,
+                    branch,
+                    trail,
+                )?;
                 Ok(ended)
             }
-            None => Ok(Ended::Refuted(low_ends(alloc, ranges)?)),
+            None => refute_leaf(alloc, vs, scope, rest, ranges, branch, trail),
         }
     }
 }
@@ -681,22 +834,24 @@ fn refute_open(
 fn refute(
     alloc: Global,
     vs: &[Variable],
+    scope: &[Variable],
     rest: u32,
     ranges: &[Range],
     branch: &mut Branch,
     trail: &mut Trail,
 ) -> Result<Ended, AllocError>
-    requires variables { AreVariables vs.now }
+    requires own { AreOwn vs.now }
+    requires scope { scope.now ≡ scopes.scope_of vs.now branch.old }
     requires rest { rest ≤ 960 }
     requires ready { Ready vs.now rest ranges.now branch.old }
     ensures ends { IfOk result (λ e. Ends vs.now rest (plain_leaves vs.now rest ranges.now branch.old) branch.old
         trail.old trail.new e) }
     ensures branch { IfOk result (λ e. IsClosed e → branch.new ≡ branch.old) }
 {
-    match try_close(alloc, vs, branch, trail)? {
+    match try_close(alloc, scope, branch, trail)? {
         Some(ended) => Ok(ended),
         None => {
-            let ended = refute_open(alloc, vs, rest, ranges, branch, trail)?;
+            let ended = refute_open(alloc, vs, scope, rest, ranges, branch, trail)?;
             Ok(ended)
         }
     }
@@ -725,12 +880,16 @@ fn found_by(ended: Ended, nodes: Seq<Node>) -> Found
     }
 }
 
-/// A certificate of an obligation, values that make it false, or that the budget is too small.
+/// A certificate of an obligation, values that make it false, or that the budget is too small. An obligation with a
+/// parameter of a number of 2^31 or more is refused as for want of memory.
 #[tactic(auto, using(crate::proofs::RootLaws::obligation_laws))]
 pub fn search_tree(alloc: Global, o: &Obligation, budget: u64) -> Result<Found, AllocError>
     requires { IsObligation o.now }
     ensures { IfOk result (SearchAnswers o.now budget) }
 {
+    if !has_room(o) {
+        return Err(AllocError);
+    }
     let mut branch = open_branch(alloc, o)?;
     let vs = o.variables.as_slice();
     let ranges = ranges_in(alloc, vs)?;
@@ -738,6 +897,14 @@ pub fn search_tree(alloc: Global, o: &Obligation, budget: u64) -> Result<Found, 
         nodes: Seq::new(alloc),
         spare: budget,
     };
-    let ended = refute(alloc, vs, 960, ranges.as_slice(), &mut branch, &mut trail)?;
+    let ended = refute(
+        alloc,
+        vs,
+        vs,
+        960,
+        ranges.as_slice(),
+        &mut branch,
+        &mut trail,
+    )?;
     Ok(found_by(ended, trail.nodes))
 }

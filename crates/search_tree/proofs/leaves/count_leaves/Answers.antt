@@ -1,5 +1,7 @@
-use Rattle.std.proofs.Common.{◌∙◌, ap}
+use Rattle.std.proofs.Common.{◌∙◌, ap, sym, subst}
+use Rattle.obligations.specs.Obligations.{AreOwn}
 use Rattle.obligations.specs.Plain.{ranges_of}
+use Rattle.obligations.specs.Scopes.{scope_of}
 use Rattle.search_tree.proofs.RootLaws.{search-ready}
 use Rattle.search_tree.proofs.LeavesLaws.{root-leaves}
 use Rattle.search_tree.proofs.leaves.count_leaves.Goals as goal
@@ -9,6 +11,12 @@ some_leaves-requires-clause-ready c =
     search-ready c.args.o.now c.as_slice-vs.result.now c.as_slice.result.now c.in_ok-branch.branch c.requires
     c.as_slice-vs.ensures
     (c.as_slice.ensures ∙ c.in_ok-ranges.ensures ∙ ap ranges_of c.as_slice-vs.ensures) c.in_ok-branch.ensures.branch
+
+pub some_leaves-requires-clause-own : goal.some_leaves-requires-clause-own
+some_leaves-requires-clause-own c = subst AreOwn (sym c.as_slice-vs.ensures) c.if-not-has_room.ensures
+
+pub some_leaves-requires-clause-scope : goal.some_leaves-requires-clause-scope
+some_leaves-requires-clause-scope c = sym (ap (scope_of c.as_slice-vs.result.now) c.in_ok-branch.ensures.branch)
 
 pub returns : goal.returns
 returns c =

@@ -2,25 +2,34 @@ use Rattle.std.proofs.Common.{◌+◌, ◌*◌}
 use Rattle.search_tree.proofs.plain_tree.+search.Given as goal
 
 abbrev pub decreases-refute : goal.decreases-refute
-decreases-refute l = 4 * l.rest + 1
+decreases-refute l = 6 * l.rest + 1
 
 abbrev pub decreases-refute_open : goal.decreases-refute_open
-decreases-refute_open l = 4 * l.rest
+decreases-refute_open l = 6 * l.rest
+
+abbrev pub decreases-refute_form : goal.decreases-refute_form
+decreases-refute_form l = 6 * l.rest + 5
 
 abbrev pub decreases-refute_sides : goal.decreases-refute_sides
-decreases-refute_sides l = 4 * l.rest + 3
+decreases-refute_sides l = 6 * l.rest + 4
+
+abbrev pub decreases-refute_quot : goal.decreases-refute_quot
+decreases-refute_quot l = 6 * l.rest + 4
 
 abbrev pub decreases-refute_halves : goal.decreases-refute_halves
-decreases-refute_halves l = 4 * l.rest + 3
+decreases-refute_halves l = 6 * l.rest + 4
 
 abbrev pub decreases-refute_first : goal.decreases-refute_first
-decreases-refute_first l = 4 * l.rest + 2
+decreases-refute_first l = 6 * l.rest + 3
 
 abbrev pub decreases-refute_second : goal.decreases-refute_second
-decreases-refute_second l = 4 * l.rest + 2
+decreases-refute_second l = 6 * l.rest + 3
+
+abbrev pub decreases-refute_without : goal.decreases-refute_without
+decreases-refute_without l = 6 * l.rest + 3
 
 abbrev pub decreases-refute_low : goal.decreases-refute_low
-decreases-refute_low l = 4 * l.rest + 2
+decreases-refute_low l = 6 * l.rest + 3
 
 abbrev pub decreases-refute_high : goal.decreases-refute_high
-decreases-refute_high l = 4 * l.rest + 2
+decreases-refute_high l = 6 * l.rest + 3

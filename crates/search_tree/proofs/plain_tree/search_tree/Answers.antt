@@ -1,5 +1,7 @@
-use Rattle.std.proofs.Common.{◌∙◌, ap, refl}
+use Rattle.std.proofs.Common.{◌∙◌, ap, sym, subst, refl}
+use Rattle.obligations.specs.Obligations.{AreOwn}
 use Rattle.obligations.specs.Plain.{ranges_of}
+use Rattle.obligations.specs.Scopes.{scope_of}
 use Rattle.search_tree.proofs.RootLaws.{search-ready, search-answers}
 use Rattle.search_tree.proofs.plain_tree.search_tree.Goals as goal
 
@@ -8,6 +10,12 @@ refute-requires-clause-ready c =
     search-ready c.args.o.now c.as_slice-vs.result.now c.as_slice.result.now c.in_ok-branch.branch c.requires
     c.as_slice-vs.ensures
     (c.as_slice.ensures ∙ c.in_ok-ranges.ensures ∙ ap ranges_of c.as_slice-vs.ensures) c.in_ok-branch.ensures.branch
+
+pub refute-requires-clause-own : goal.refute-requires-clause-own
+refute-requires-clause-own c = subst AreOwn (sym c.as_slice-vs.ensures) c.if-not-has_room.ensures
+
+pub refute-requires-clause-scope : goal.refute-requires-clause-scope
+refute-requires-clause-scope c = sym (ap (scope_of c.as_slice-vs.result.now) c.in_ok-branch.ensures.branch)
 
 pub returns : goal.returns
 returns c =

@@ -1,6 +1,6 @@
 use Rattle.std.proofs.Common.{◌≡◌, ◌≤◌, drop, length}
 use Rattle.obligations.specs.LinearForms.{sum_of}
-use Rattle.proof_search.proofs.guided.sum_at.Given as goal
+use Rattle.search_tree.proofs.values.sum_at.Given as goal
 
 abbrev pub invariant-factors : goal.invariant-factors
 invariant-factors l = record {
