@@ -13,7 +13,7 @@ use Rattle.meaning_documents.specs.Value.{count_up}
 use Rattle.meaning_documents.specs.Names.{variable_named}
 use Rattle.expand_rules.specs.declared.cores.Formed.{Formed}
 use Rattle.expand_rules.specs.declared.effects.Effect.{Effect}
-use Rattle.expand_rules.specs.Forming.{Scope, as_number, formed, form_of, term_of}
+use Rattle.expand_rules.specs.Forming.{Scope, as_number, formed, form_of, term_of, unwritten_count}
 use Rattle.expand_rules.specs.Assigning.{beside, nothing, one_more, exactly, condition, write_to, write_count}
 use Rattle.expand_rules.specs.Assigning.{plain_slot, indexed_effect, index_formed, target_effect, paired_effect}
 use Rattle.expand_rules.specs.Assigning.{alternative_effect, is_large_effect}
@@ -25,7 +25,7 @@ use Rattle.expand_assignments.proofs.EffectLaws.{one_more_beside, fold_beside, a
 use Rattle.expand_assignments.proofs.EffectLaws.{large_fold, large_one_more}
 use Rattle.expand_assignments.proofs.PastLaws.{past_value, past_written, past_index, past_condition, great_beside}
 use Rattle.expand_rules.specs.declared.effects.Count.{Count}
-use Rattle.expand_rules.specs.Assigning.{is_outside, outside_effect, unwritten_count}
+use Rattle.expand_rules.specs.Assigning.{is_outside, outside_effect}
 use Rattle.expand_assignments.specs.Adding.{written_effect}
 
 -- where a part is too large
@@ -162,13 +162,13 @@ pub left_pairs : (s : Scope) (ts : List Target) (es : List Expr) (i : ℕ) (t : 
     i < length ts → i < length es → get_or ts i t ≡ t → get_or es i e ≡ e →
     paired_effect s (drop i ts) (drop i es) c ≡ beside
     (target_effect (variable_named t.name.text s.variables) (index_formed s t.index) c (as_number (formed e s))
-    (unwritten_count e s.bound)) (paired_effect s (drop (i + 1) ts) (drop (i + 1) es) c)
+    (unwritten_count e s)) (paired_effect s (drop (i + 1) ts) (drop (i + 1) es) c)
 left_pairs s ts es i t e c h k p q =
     let next : suc i ≡ i + 1 = omega arith in
     ap (λ xs. paired_effect s xs (drop i es) c) (drop-cons ts i t h ∙ ap (λ x. x ∷ drop (suc i) ts) p)
     ∙ ap (λ xs. paired_effect s (t ∷ drop (suc i) ts) xs c) (drop-cons es i e k ∙ ap (λ x. x ∷ drop (suc i) es) q)
     ∙ ap (λ j. beside (target_effect (variable_named t.name.text s.variables) (index_formed s t.index) c
-    (as_number (formed e s)) (unwritten_count e s.bound)) (paired_effect s (drop j ts) (drop j es) c)) next
+    (as_number (formed e s)) (unwritten_count e s)) (paired_effect s (drop j ts) (drop j es) c)) next
 
 none_left : {X : Type 0} (xs : List X) (i : ℕ) → length xs ≤ i → drop i xs ≡ []
 none_left [] zero h = refl
@@ -231,12 +231,12 @@ plain_done old mid new x x' c v v' left p r m n = marked v.exact old mid new (pl
 pub pairs_next : (s : Scope) (ts : List Target) (es : List Expr) (i : ℕ) (t : Target) (e : Expr) (c : Formed)
     (now new whole : Effect) → i < min (length ts) (length es) → get_or ts i t ≡ t → get_or es i e ≡ e →
     new ≡ beside now (target_effect (variable_named t.name.text s.variables) (index_formed s t.index) c
-    (as_number (formed e s)) (unwritten_count e s.bound)) →
+    (as_number (formed e s)) (unwritten_count e s)) →
     beside now (paired_effect s (drop i ts) (drop i es) c) ≡ whole →
     (beside new (paired_effect s (drop (i + 1) ts) (drop (i + 1) es) c) ≡ whole) × (new.count.size ≤ 65537)
 pairs_next s ts es i t e c now new whole h p q n w =
     let x = target_effect (variable_named t.name.text s.variables) (index_formed s t.index) c
-    (as_number (formed e s)) (unwritten_count e s.bound) in
+    (as_number (formed e s)) (unwritten_count e s) in
     let rest = paired_effect s (drop (i + 1) ts) (drop (i + 1) es) c in (
       ap (λ m. beside m rest) n ∙ beside_assoc now x rest
           ∙ ap (beside now) (sym (left_pairs s ts es i t e c (omega arith) (omega arith) p q)) ∙ w,

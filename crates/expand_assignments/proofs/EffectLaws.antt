@@ -1,6 +1,6 @@
 -- Effects beside one another, and which are too large.
-use Rattle.std.proofs.Common.{◌≡◌, ℕ, ◌+◌, ◌^◌, ◌<◌, ◌≤◌, min, max, ℤ, List, [], ◌∷◌, ◌++◌, fold, Bool, true, false}
-use Rattle.std.proofs.Common.{cond, not, ◌&&◌, ◌||◌, Option, Some, None, ◌⊎◌, inl, inr, nat_le, append_assoc}
+use Rattle.std.proofs.Common.{◌≡◌, ℕ, ◌+◌, ◌^◌, ◌<◌, ◌≤◌, max, ℤ, List, [], ◌∷◌, ◌++◌, fold, Bool, true, false}
+use Rattle.std.proofs.Common.{cond, not, ◌&&◌, ◌||◌, Option, Some, ◌⊎◌, inl, inr, nat_le, append_assoc}
 use Rattle.std.proofs.Common.{append-nil, refl, sym, ap, ◌∙◌, subst, arith}
 use Rattle.std.proofs.lemmas.Bool.{leb-false, lt-leb}
 use Rattle.std.proofs.Math.Bool.{and_assoc}
@@ -13,12 +13,14 @@ use Rattle.std.specs.Option.{option_and_then}
 use Rattle.expand_rules.specs.declared.cores.Formed.{Formed}
 use Rattle.expand_rules.specs.declared.effects.Count.{Count}
 use Rattle.expand_rules.specs.declared.effects.Effect.{Effect}
-use Rattle.expand_rules.specs.Measures.{counted, nearer}
+use Rattle.expand_rules.specs.declared.cores.Flaws.{Flaws}
+use Rattle.expand_rules.specs.Measures.{counted, no_flaws, both_flaws, range_flaws}
+use Rattle.expand_rules.specs.Counts.{no_count, both_counts, index_count, ranged_count}
 use Rattle.expand_assignments.specs.Adding.{with_count, one_node}
 use Rattle.expand_rules.specs.Forming.{term_of, form_of}
-use Rattle.expand_rules.specs.Assigning.{both_counts, index_count, write_count, spread_count, write_to, open_effect}
-use Rattle.expand_rules.specs.Assigning.{array_effect, no_count, one_more, nothing, beside, exactly}
-use Rattle.expand_rules.specs.Assigning.{is_large_effect}
+use Rattle.expand_rules.specs.Assigning.{write_count, spread_count, write_to, open_effect, array_effect, one_more}
+use Rattle.expand_rules.specs.Assigning.{nothing, beside, exactly, is_large_effect}
+use Rattle.expand_rules.proofs.FlawLaws.{flaws_none, flaws_assoc, flaws_swap}
 
 abbrev made : List CForm → List CWrite → Bool → Count → Effect
 made a v x m = record { outside = a; writes = v; exact = x; count = m }
@@ -28,35 +30,19 @@ same_effect : (a b : List CForm) (v w : List CWrite) (x y : Bool) (m n : Count) 
 same_effect a b v w x y m n p q r s =
     ap (λ k. made k v x m) p ∙ ap (λ k. made b k x m) q ∙ ap (λ k. made b w k m) r ∙ ap (made b w y) s
 
-abbrev count_made : ℕ → ℕ → Option ℕ → Count
-count_made size most bad = record { size = size; most = most; bad_range = bad }
+abbrev count_made : ℕ → ℕ → Flaws → Count
+count_made size most flaws = record { size = size; most = most; flaws = flaws }
 
-same_counts : (a b c d : ℕ) (x y : Option ℕ) → a ≡ b → c ≡ d → x ≡ y → count_made a c x ≡ count_made b d y
+same_counts : (a b c d : ℕ) (x y : Flaws) → a ≡ b → c ≡ d → x ≡ y → count_made a c x ≡ count_made b d y
 same_counts a b c d x y p q r =
     ap (λ k. count_made k c x) p ∙ ap (λ k. count_made b k x) q ∙ ap (count_made b d) r
-
-nearer_assoc : (a b c : Option ℕ) → nearer (nearer a b) c ≡ nearer a (nearer b c)
-nearer_assoc None b c = refl
-nearer_assoc (Some x) None c = refl
-nearer_assoc (Some x) (Some y) None = refl
-nearer_assoc (Some x) (Some y) (Some z) = let e : min (min x y) z ≡ min x (min y z) = omega arith in ap Some e
-
-nearer_swap : (a b c : Option ℕ) → nearer a (nearer b c) ≡ nearer b (nearer a c)
-nearer_swap None b c = refl
-nearer_swap (Some x) None c = refl
-nearer_swap (Some x) (Some y) None = let e : min x y ≡ min y x = omega arith in ap Some e
-nearer_swap (Some x) (Some y) (Some z) = let e : min x (min y z) ≡ min y (min x z) = omega arith in ap Some e
-
-nearer_none : (a : Option ℕ) → nearer a None ≡ a
-nearer_none None = refl
-nearer_none (Some x) = refl
 
 counts_assoc : (a b c : Count) → both_counts (both_counts a b) c ≡ both_counts a (both_counts b c)
 counts_assoc a b c = same_counts (counted (counted (a.size + b.size) + c.size))
     (counted (a.size + counted (b.size + c.size)))
     (max (max a.most b.most) c.most) (max a.most (max b.most c.most))
-    (nearer (nearer a.bad_range b.bad_range) c.bad_range) (nearer a.bad_range (nearer b.bad_range c.bad_range))
-    (omega arith) (omega arith) (nearer_assoc a.bad_range b.bad_range c.bad_range)
+    (both_flaws (both_flaws a.flaws b.flaws) c.flaws) (both_flaws a.flaws (both_flaws b.flaws c.flaws))
+    (omega arith) (omega arith) (sym (flaws_assoc a.flaws b.flaws c.flaws))
 
 pub beside_assoc : (a b c : Effect) → beside (beside a b) c ≡ beside a (beside b c)
 beside_assoc a b c = same_effect ((a.outside ++ b.outside) ++ c.outside) (a.outside ++ (b.outside ++ c.outside))
@@ -111,7 +97,7 @@ pub beside_nothing : (a : Effect) → a.count.size ≤ 65537 → beside a nothin
 beside_nothing a h = same_effect (a.outside ++ []) a.outside (a.writes ++ []) a.writes (a.exact && true) a.exact
     (both_counts a.count no_count) a.count (append-nil a.outside) (append-nil a.writes) (and_true a.exact)
     (same_counts (counted (a.count.size + 0)) a.count.size (max a.count.most 0) a.count.most
-    (nearer a.count.bad_range None) a.count.bad_range (omega arith) (omega arith) (nearer_none a.count.bad_range))
+    (both_flaws a.count.flaws no_flaws) a.count.flaws (omega arith) (omega arith) (flaws_none a.count.flaws))
   where
     and_true : (b : Bool) → (b && true) ≡ b
     and_true true = refl
@@ -131,8 +117,8 @@ one_more_beside a e = ap (made (a.outside ++ e.outside) (a.writes ++ e.writes) (
     (same_counts (counted (counted (a.count.size + e.count.size) + 1))
     (counted (a.count.size + counted (1 + e.count.size)))
     (max (max a.count.most e.count.most) 0) (max a.count.most e.count.most)
-    (nearer (nearer a.count.bad_range e.count.bad_range) None) (nearer a.count.bad_range e.count.bad_range)
-    (omega arith) (omega arith) (nearer_none (nearer a.count.bad_range e.count.bad_range)))
+    (both_flaws (both_flaws a.count.flaws e.count.flaws) no_flaws) (both_flaws a.count.flaws e.count.flaws)
+    (omega arith) (omega arith) (flaws_none (both_flaws a.count.flaws e.count.flaws)))
 
 and_swap : (a e b : Bool) → ((a && e) && b) ≡ (a && (b && e))
 and_swap true true true = refl
@@ -150,22 +136,22 @@ exactly_beside b a e = ap (λ x. made (a.outside ++ e.outside) (a.writes ++ e.wr
 abbrev pub ranged : Bool → Option ℕ → Effect → Effect
 ranged b place e = record e {
   exact = b && e.exact;
-  count = record e.count { bad_range = nearer place e.count.bad_range };
+  count = ranged_count place e.count;
 }
 
 pub ranged_beside : (b : Bool) (place : Option ℕ) (a e : Effect) → made (a.outside ++ e.outside)
     (a.writes ++ e.writes)
     ((a.exact && e.exact) && b) (count_made (counted (a.count.size + e.count.size)) (max a.count.most e.count.most)
-    (nearer place (nearer a.count.bad_range e.count.bad_range))) ≡ beside a (ranged b place e)
+    (both_flaws (range_flaws place) (both_flaws a.count.flaws e.count.flaws))) ≡ beside a (ranged b place e)
 ranged_beside b place a e = same_effect (a.outside ++ e.outside) (a.outside ++ e.outside) (a.writes ++ e.writes)
     (a.writes ++ e.writes) ((a.exact && e.exact) && b) (a.exact && (b && e.exact))
     (count_made (counted (a.count.size + e.count.size)) (max a.count.most e.count.most)
-    (nearer place (nearer a.count.bad_range e.count.bad_range)))
+    (both_flaws (range_flaws place) (both_flaws a.count.flaws e.count.flaws)))
     (count_made (counted (a.count.size + e.count.size)) (max a.count.most e.count.most)
-    (nearer a.count.bad_range (nearer place e.count.bad_range)))
+    (both_flaws a.count.flaws (both_flaws (range_flaws place) e.count.flaws)))
     refl refl (and_swap a.exact e.exact b)
     (ap (count_made (counted (a.count.size + e.count.size)) (max a.count.most e.count.most))
-    (nearer_swap place a.count.bad_range e.count.bad_range))
+    (flaws_swap (range_flaws place) a.count.flaws e.count.flaws))
 
 -- what is too large stays so
 

@@ -1,7 +1,7 @@
 -- Parts that are too large for whatever they are parts of make an assignment too large.
-use Rattle.std.proofs.Common.{◌≡◌, ℕ, zero, suc, ◌+◌, ◌*◌, ◌^◌, ◌<◌, ◌≤◌, max, ℤ, List, ◌∷◌, Bool, true, false, cond}
-use Rattle.std.proofs.Common.{not, ◌&&◌, ◌||◌, nat_le, Option, Some, None, ◌⊎◌, inl, inr, refl, sym, ◌∙◌, subst}
-use Rattle.std.proofs.Common.{arith}
+use Rattle.std.proofs.Common.{◌≡◌, ℕ, zero, suc, ◌+◌, ◌*◌, ◌^◌, ◌<◌, ◌≤◌, max, ℤ, List, [], ◌∷◌, Bool, true, false}
+use Rattle.std.proofs.Common.{cond, not, ◌&&◌, ◌||◌, nat_le, Option, Some, None, Err, ◌⊎◌, inl, inr, refl, sym, ◌∙◌}
+use Rattle.std.proofs.Common.{subst, arith}
 use Rattle.std.proofs.lemmas.Bool.{leb-false}
 use Rattle.std.specs.Option.{option_and_then}
 use Rattle.unity_syntax.specs.declared.expression.Expr.{Expr}
@@ -17,14 +17,19 @@ use Rattle.expand_rules.specs.declared.effects.Count.{Count}
 use Rattle.expand_rules.specs.declared.effects.Effect.{Effect}
 use Rattle.expand_rules.specs.Limits.{is_past}
 use Rattle.meaning_documents.specs.Names.{variable_named}
-use Rattle.expand_rules.specs.Forming.{Scope, term_of, form_of, as_number, formed}
-use Rattle.expand_rules.specs.Assigning.{both_counts, whole, write_count, index_count, stray_count, spread_nodes}
-use Rattle.expand_rules.specs.Assigning.{spread_count, write_to, open_effect, array_effect, element_effect}
+use Rattle.expand_rules.specs.Forming.{Scope, term_of, form_of, as_number, formed, unwritten_count, divisor_count}
+use Rattle.expand_rules.specs.Forming.{bad_divisor}
+use Rattle.expand_rules.specs.declared.cores.Flaws.{Flaws}
+use Rattle.expand_rules.specs.Measures.{divisor_flaws}
+use Rattle.expand_rules.specs.Counts.{both_counts, whole, index_count, stray_count, flawed_count}
+use Rattle.expand_rules.specs.Assigning.{write_count, spread_nodes, spread_count, write_to, open_effect}
+use Rattle.expand_rules.specs.Assigning.{array_effect, element_effect}
 use Rattle.expand_rules.specs.Assigning.{indexed_effect, plain_slot, target_effect, index_formed, paired_effect}
 use Rattle.expand_rules.specs.Assigning.{beside, is_large_effect, condition_count, is_beyond, is_outside}
-use Rattle.expand_rules.specs.Assigning.{outside_effect, unwritten_count}
-use Rattle.expand_assignments.specs.Adding.{written_effect}
-use Rattle.expand_assignments.proofs.EffectLaws.{shows}
+use Rattle.expand_rules.specs.Assigning.{outside_effect}
+use Rattle.expand_expressions.specs.declared.refusal.Refusal.{Refusal}
+use Rattle.expand_assignments.specs.Adding.{written_effect, Halts, TellsCount, is_large_count}
+use Rattle.expand_assignments.proofs.EffectLaws.{tells as effect_tells, shows}
 
 -- many nodes, or a great weight
 pub record IsHeavy (m : Measure) : Type 0 where
@@ -220,12 +225,41 @@ pub past_written : (a : Effect) (x : Option Variable) (i c v : Formed) → is_pa
 past_written a x i c v h =
     great_beside a (written_effect i x c v) (indexed_great x i c v (inr (heavy_of_past v h)))
 
--- a constant index that is too large, and what is left of a value
-pub past_outside : (a : Effect) (i c : Formed) (left : Count) → 65536 < left.size →
+-- what is left of a value
+pub great_tells : (n : Count) → is_large_count n ≡ true → IsGreat n
+great_tells n h =
+    record { great = (effect_tells (record { outside = []; writes = []; exact = true; count = n }) h).large }
+
+pub great_shows : (n : Count) → IsGreat n → is_large_count n ≡ true
+great_shows n g = shows (record { outside = []; writes = []; exact = true; count = n }) (record { large = g.great })
+
+past_outside : (a : Effect) (i c : Formed) (left : Count) → is_large_count left ≡ true →
     is_large_effect (beside a (outside_effect i c left)) ≡ true
 past_outside a i c left h = great_beside a (outside_effect i c left)
-    (great_second (both_counts (index_count i.measure) (condition_count c.measure)) left (record { great = inl h }))
+    (great_second (both_counts (index_count i.measure) (condition_count c.measure)) left (great_tells left h))
 
+pub halts_outside : (refusal : Refusal) (a : Effect) (i c : Formed) (left : Count) → TellsCount (Err refusal) left →
+    Halts refusal a (outside_effect i c left)
+halts_outside Refusal.Memory a i c left h = tt
+halts_outside Refusal.TooLarge a i c left h = past_outside a i c left h
+
+-- and of a divisor in it
+divisor_great : (at : ℕ) (b : Formed) → is_past b ≡ true → IsGreat (divisor_count at b)
+divisor_great at b h = elim b.constant as (λ v. b.constant ≡ v →
+    IsGreat (flawed_count (divisor_flaws (bad_divisor at b))
+    (cond v (index_count b.measure) (stray_count b.measure)))) [
+      | true ↦ λ e. flawed (divisor_flaws (bad_divisor at b)) (index_count b.measure) (constant_past b h e)
+      | false ↦ λ e. flawed (divisor_flaws (bad_divisor at b)) (stray_count b.measure)
+          (stray_great b.measure (heavy_of_past b h))
+    ] refl
+  where
+    flawed : (flaws : Flaws) (n : Count) → IsGreat n → IsGreat (flawed_count flaws n)
+    flawed flaws n g = record { great = g.great }
+
+pub divisor_past : (at : ℕ) (b : Formed) → is_past b ≡ true → is_large_count (divisor_count at b) ≡ true
+divisor_past at b h = great_shows (divisor_count at b) (divisor_great at b h)
+
+-- a constant index that is too large
 index_outside : (i c : Formed) (left : Count) → is_past i ≡ true → i.constant ≡ true →
     IsGreat (outside_effect i c left).count
 index_outside i c left h e = great_first (both_counts (index_count i.measure) (condition_count c.measure)) left
@@ -257,7 +291,7 @@ pub past_condition : (s : Scope) (t : Target) (ts : List Target) (e : Expr) (es 
     is_past c ≡ true → IsGreat (paired_effect s (t ∷ ts) (e ∷ es) c).count
 past_condition s t ts e es c h =
     let first = target_effect (variable_named t.name.text s.variables) (index_formed s t.index) c
-    (as_number (formed e s)) (unwritten_count e s.bound) in
+    (as_number (formed e s)) (unwritten_count e s) in
     great_first first.count (paired_effect s ts es c).count
     (target_great (variable_named t.name.text s.variables) (index_formed s t.index) c (as_number (formed e s))
-    (unwritten_count e s.bound) (heavy_of_past c h))
+    (unwritten_count e s) (heavy_of_past c h))

@@ -1,6 +1,6 @@
 -- What calls add to an effect.
-use Rattle.std.specs.Prelude.{◌≡◌, ◌<◌, Some, ℕ, ℤ, true, false, Result, Ok, Err, None, List, ◌∷◌, map, fold, ◌&&◌}
-use Rattle.std.specs.Prelude.{Bool, Option}
+use Rattle.std.specs.Prelude.{◌≡◌, ◌^◌, ℕ, ℤ, true, false, Result, Ok, Err, List, ◌∷◌, map, fold, ◌&&◌, ◌||◌, not}
+use Rattle.std.specs.Prelude.{Bool, Option, nat_le}
 use Rattle.core_terms.specs.declared.trees.CTerm.{CTerm}
 use Rattle.core_terms.specs.declared.trees.CTerm.TheVariants.{Const}
 use Rattle.core_terms.specs.declared.trees.CForm.{CForm}
@@ -8,8 +8,8 @@ use Rattle.core_terms.specs.declared.programs.CWrite.{CWrite}
 use Rattle.core_terms.specs.Folding.{difference_term, zero_form, and_form}
 use Rattle.expand_rules.specs.declared.effects.Count.{Count}
 use Rattle.expand_rules.specs.declared.effects.Effect.{Effect}
-use Rattle.expand_rules.specs.Assigning.{no_count, one_node_more, unwritten_count, exactly, indexed_effect}
-use Rattle.expand_rules.specs.Assigning.{both_counts, nothing, beside, one_more, alternative_effect}
+use Rattle.expand_rules.specs.Counts.{no_count, both_counts, one_node_more, ranged_count}
+use Rattle.expand_rules.specs.Assigning.{exactly, indexed_effect, nothing, beside, one_more, alternative_effect}
 use Rattle.expand_rules.specs.Assigning.{quantified_effect, effect_of, is_large_effect}
 use Rattle.unity_syntax.specs.declared.name.Name.{Name}
 use Rattle.unity_syntax.specs.declared.name.Range.{Range}
@@ -18,11 +18,10 @@ use Rattle.unity_syntax.specs.declared.statement.Alts.{Alts}
 use Rattle.unity_syntax.specs.declared.statement.Assign.{Assign}
 use Rattle.meaning_documents.specs.Writes.{alternatives}
 use Rattle.expand_rules.specs.declared.cores.Formed.{Formed}
-use Rattle.expand_rules.specs.declared.cores.Bound.{Bound}
 use Rattle.meaning_documents.specs.Names.{Variable}
 use Rattle.unity_syntax.specs.declared.expression.Expr.{Expr}
-use Rattle.expand_rules.specs.Measures.{nearer}
-use Rattle.expand_rules.specs.Forming.{Scope, with_number, numbers, fit_values}
+use Rattle.expand_rules.specs.Measures.{no_flaws}
+use Rattle.expand_rules.specs.Forming.{Scope, with_number, numbers, fit_values, unwritten_count}
 use Rattle.expand_rules.specs.Limits.{is_past}
 use Rattle.expand_expressions.specs.declared.refusal.Refusal.{Refusal}
 use Rattle.expand_expressions.specs.declared.operations.NumberCore.{NumberCore}
@@ -58,7 +57,7 @@ AddsAll (Err Refusal.TooLarge) old new es = is_large_effect (fold beside old es)
 
 -- one node of its own: an alternative, an instance of a component, or a quantifier
 abbrev pub one_node : Count
-one_node = record { size = 1; most = 0; bad_range = None }
+one_node = record { size = 1; most = 0; flaws = no_flaws }
 
 -- a call gives a number
 abbrev pub GivesNumber : Result NumberCore Refusal → Formed → Type 0
@@ -85,7 +84,7 @@ spread_write e number slot c v =
 abbrev pub with_range : Bool → Option ℕ → Effect → Effect
 with_range fixed place e = record e {
   exact = e.exact && fixed;
-  count = record e.count { bad_range = nearer place e.count.bad_range };
+  count = ranged_count place e.count;
 }
 
 -- what an assignment of alternatives to targets becomes
@@ -102,14 +101,19 @@ each_effect s name range of = quantified_effect s.bound range
 abbrev pub written_effect : Formed → Option Variable → Formed → Formed → Effect
 written_effect i x c v = exactly (v.exact && i.exact) (indexed_effect i x c v)
 
--- a call gives a count, or none where it is past the limit of nodes
-abbrev pub TellsCount : Option Count → Count → Type 0
-TellsCount (Some n) m = n ≡ m
-TellsCount None m = 65536 < m.size
+-- too much counts
+abbrev pub is_large_count : Count → Bool
+is_large_count n = not (nat_le n.most (2 ^ 62)) || not (nat_le n.size 65536)
+
+-- a call gives a count, or stops exactly where it is too large; want of memory says nothing
+abbrev pub TellsCount : Result Count Refusal → Count → Type 0
+TellsCount (Ok n) m = n ≡ m
+TellsCount (Err Refusal.Memory) m = Unit {0}
+TellsCount (Err Refusal.TooLarge) m = is_large_count m ≡ true
 
 -- what counts of an instance of a quantifier in a value that is written nowhere, and of all of them
-abbrev pub inside_count : List (List ℕ × Bound) → Name → Expr → ℤ → Count
-inside_count bs name of z = one_node_more (unwritten_count of ((name.text, Bound.Number z) ∷ bs))
+abbrev pub inside_count : Scope → Name → Expr → ℤ → Count
+inside_count s name of z = one_node_more (unwritten_count of (with_number s name.text z))
 
-abbrev pub instances_count : List (List ℕ × Bound) → Name → Expr → List ℤ → Count
-instances_count bs name of zs = fold both_counts no_count (map (inside_count bs name of) zs)
+abbrev pub instances_count : Scope → Name → Expr → List ℤ → Count
+instances_count s name of zs = fold both_counts no_count (map (inside_count s name of) zs)

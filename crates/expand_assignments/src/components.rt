@@ -4,19 +4,18 @@ ghost use Rattle.std.specs.Prelude.{◌≡◌, ◌∷◌, ◌≤◌, ◌^◌, �
 ghost use Rattle.std.specs.Int.RustNames.{unsigned_abs};
 ghost use Rattle.meaning_documents.specs.Value.{count_up};
 ghost use Rattle.expand_rules.specs.Forming.{numbers, with_number};
-ghost use Rattle.expand_rules.specs.Measures as measures;
 ghost use Rattle.expand_rules.specs.Assigning as spec;
 ghost use Rattle.expand_expressions.specs.Places.{IsReady, bound_names, scope};
 ghost use Rattle.expand_rules.specs.declared.cores.Bound.TheVariants.{Number};
 ghost use Rattle.expand_assignments.specs.Adding.{Adds, AddsAll, each_effect, set_effect, with_range};
 
 use crate::alternatives::all_alternatives;
-use crate::counts::{count_one, nearer};
+use crate::counts::{count_one, flawed_count};
 use crate::places::bound_at;
 use expand_expressions::{
     Env, Known, Numbers, Refusal, is_fixed_range, range_misfit, range_numbers, with_bound,
 };
-use expand_rules::{Bound, Effect};
+use expand_rules::{Bound, Effect, Flaws};
 use std::alloc::Global;
 use unity_base::Seq;
 use unity_syntax::{Alts, Assign, Component, Name, Range, Target};
@@ -39,11 +38,11 @@ fn set(
 }
 
 // Notes whether a range is fixed, and the place of an end that is too large.
-fn mark_range(fixed: bool, bad_range: Option<u64>, effect: &mut Effect)
-    ensures { effect.new ≡ with_range fixed bad_range effect.old }
+fn mark_range(fixed: bool, misfit: Option<u64>, effect: &mut Effect)
+    ensures { effect.new ≡ with_range fixed misfit effect.old }
 {
     effect.exact &= fixed;
-    effect.count.bad_range = nearer(bad_range, effect.count.bad_range);
+    effect.count = flawed_count(Flaws::of_range(misfit), effect.count);
 }
 
 #[cycle(assign)]

@@ -2,13 +2,14 @@
 
 ghost use Rattle.std.specs.Prelude.{◌≡◌, ◌+◌, ◌*◌, ◌^◌, ◌<◌, ◌≤◌, ◌||◌, max, not, nat_le, Ok, Err};
 ghost use Rattle.std.specs.Int.RustNames.{unsigned_abs};
-ghost use Rattle.expand_rules.specs.Measures.{counted, nearer};
+ghost use Rattle.expand_rules.specs.Measures.{counted};
+ghost use Rattle.expand_rules.specs.Counts as parts;
 ghost use Rattle.expand_rules.specs.Assigning as spec;
 ghost use Rattle.expand_assignments.specs.Adding.{CountsPart, one_node};
 
 use core_terms::Range;
 use expand_expressions::Refusal;
-use expand_rules::{Count, Effect, Measure};
+use expand_rules::{Count, Effect, Flaws, Measure};
 
 // A size, counted up to one past its limit.
 fn counted(size: u64) -> u64
@@ -17,41 +18,30 @@ fn counted(size: u64) -> u64
     size.min(65_537)
 }
 
-/// The lesser of two places, where there is any.
-pub fn nearer(a: Option<u64>, b: Option<u64>) -> Option<u64>
-    ensures { result ≡ nearer a b }
-{
-    match (a, b) {
-        (None, _) => b,
-        (Some(x), None) => Some(x),
-        (Some(x), Some(y)) => Some(x.min(y)),
-    }
-}
-
 /// Both counts together.
 pub fn both_counts(a: Count, b: Count) -> Count
-    ensures { result ≡ spec.both_counts a b }
+    ensures { result ≡ parts.both_counts a b }
 {
     Count {
         size: counted(a.size.saturating_add(b.size)),
         most: a.most.max(b.most),
-        bad_range: nearer(a.bad_range, b.bad_range),
+        flaws: a.flaws.and(b.flaws),
     }
 }
 
 /// One node more.
 pub fn one_node_more(count: Count) -> Count
-    ensures { result ≡ spec.one_node_more count }
+    ensures { result ≡ parts.one_node_more count }
 {
     Count {
         size: counted(count.size.saturating_add(1)),
         most: count.most,
-        bad_range: count.bad_range,
+        flaws: count.flaws,
     }
 }
 
 fn whole(m: Measure) -> u64
-    ensures { result ≡ spec.whole m }
+    ensures { result ≡ parts.whole m }
 {
     m.size.max(m.quantified)
 }
@@ -63,29 +53,29 @@ pub fn write_count(c: Measure, v: Measure) -> Count
     Count {
         size: counted(whole(c).saturating_add(whole(v))),
         most: c.most.max(v.most),
-        bad_range: nearer(c.bad_range, v.bad_range),
+        flaws: c.flaws.and(v.flaws),
     }
 }
 
 /// An index that is no part of the core.
 pub fn index_count(i: Measure) -> Count
-    ensures { result ≡ spec.index_count i }
+    ensures { result ≡ parts.index_count i }
 {
     Count {
         size: counted(i.quantified),
         most: i.most,
-        bad_range: i.bad_range,
+        flaws: i.flaws,
     }
 }
 
 /// An index where there is no array, or a condition of which there is no write.
 pub fn stray_count(i: Measure) -> Count
-    ensures { result ≡ spec.stray_count i }
+    ensures { result ≡ parts.stray_count i }
 {
     Count {
         size: counted(whole(i)),
         most: i.most,
-        bad_range: i.bad_range,
+        flaws: i.flaws,
     }
 }
 
@@ -117,7 +107,18 @@ pub fn spread_count(count: u64, ends: Range, i: Measure, c: Measure, v: Measure)
     Count {
         size: spread_nodes(count.max(1), whole(i), whole(c), whole(v)),
         most: own.max(i.most.max(c.most.max(v.most))),
-        bad_range: nearer(i.bad_range, nearer(c.bad_range, v.bad_range)),
+        flaws: i.flaws.and(c.flaws.and(v.flaws)),
+    }
+}
+
+/// With what fails beside it.
+pub fn flawed_count(flaws: Flaws, count: Count) -> Count
+    ensures { result ≡ parts.flawed_count flaws count }
+{
+    Count {
+        size: count.size,
+        most: count.most,
+        flaws: flaws.and(count.flaws),
     }
 }
 
@@ -128,7 +129,7 @@ pub fn is_large(count: &Count) -> bool
     count.most > 1 << 62 || count.size > 65_536
 }
 
-/// CountsPart a part. `TooLarge` exactly where the whole is too large.
+/// Counts a part. `TooLarge` exactly where the whole is too large.
 pub fn count_in(part: Count, effect: &mut Effect) -> Result<(), Refusal>
     ensures { CountsPart result effect.old effect.new part }
 {
@@ -140,14 +141,14 @@ pub fn count_in(part: Count, effect: &mut Effect) -> Result<(), Refusal>
     }
 }
 
-/// CountsPart one node more.
+/// Counts one node more.
 pub fn count_one(effect: &mut Effect) -> Result<(), Refusal>
     ensures { CountsPart result effect.old effect.new one_node }
 {
     let one = Count {
         size: 1,
         most: 0,
-        bad_range: None,
+        flaws: Flaws::none(),
     };
     count_in(one, effect)
 }

@@ -12,4 +12,4 @@ mod unwritten;
 mod writes;
 
 pub use components::effect_in;
-pub use counts::{is_large, nearer};
+pub use counts::is_large;

@@ -11,7 +11,7 @@ ghost use Rattle.expand_assignments.specs.Adding.{GivesNumber, GivesTruth};
 
 use core_terms::CForm;
 use expand_expressions::{Env, Known, NumberCore, Refusal, TruthCore, form, number, truth};
-use expand_rules::Measure;
+use expand_rules::{Flaws, Measure};
 use std::alloc::{AllocError, Global};
 use unity_base::Shared;
 use unity_syntax::Expr;
@@ -41,7 +41,7 @@ fn always(alloc: Global) -> Result<TruthCore, AllocError>
             quantified: 0,
             own: 0,
             most: 0,
-            bad_range: None,
+            flaws: Flaws::none(),
         },
     })
 }

@@ -4,9 +4,9 @@ ghost use Rattle.std.specs.Prelude.{◌≡◌, ◌∷◌, ◌≤◌, ◌+◌, �
 ghost use Rattle.std.specs.Option.{option_map};
 ghost use Rattle.meaning_documents.specs.Setting.{slots_for};
 ghost use Rattle.meaning_documents.specs.Names.{variable_named};
-ghost use Rattle.expand_rules.specs.Forming.{as_number, formed};
+ghost use Rattle.expand_rules.specs.Forming.{as_number, formed, unwritten_count};
 ghost use Rattle.expand_rules.specs.Assigning as spec;
-ghost use Rattle.expand_expressions.specs.Places.{IsReady, bound_names, ends_of, scope, variable_of};
+ghost use Rattle.expand_expressions.specs.Places.{IsReady, ends_of, scope, variable_of};
 ghost use Rattle.expand_expressions.specs.Sound.{IsSound, of_number, of_truth};
 ghost use Rattle.expand_assignments.specs.Adding.{Adds, written_effect};
 
@@ -33,7 +33,7 @@ fn plain_target(
     ensures { Adds result effect.old effect.new (spec.target_effect
         (variable_named name.now.text (scope known.now env.now).variables) None (of_truth c.now)
         (as_number (formed e.now (scope known.now env.now)))
-        (spec.unwritten_count e.now (bound_names env.now))) }
+        (unwritten_count e.now (scope known.now env.now))) }
 {
     let v = number_part(alloc, e, env, known)?;
     let exact = v.exact;
@@ -49,15 +49,15 @@ fn outside_target(
     e: &Expr,
     c: &TruthCore,
     env: &Env,
+    known: &Known,
     effect: &mut Effect,
 ) -> Result<(), Refusal>
+    requires { IsReady known.now }
     ensures { Adds result effect.old effect.new (spec.outside_effect (of_number i.now) (of_truth c.now)
-        (spec.unwritten_count e.now (bound_names env.now))) }
+        (unwritten_count e.now (scope known.now env.now))) }
 {
-    match unwritten(e, env) {
-        None => Err(Refusal::TooLarge),
-        Some(left) => write_outside(alloc, i, c, left, effect),
-    }
+    let left = unwritten(alloc, e, env, known)?;
+    write_outside(alloc, i, c, left, effect)
 }
 
 fn written_target(
@@ -102,12 +102,12 @@ fn indexed_target(
         (variable_named name.now.text (scope known.now env.now).variables)
         (Some (as_number (formed index.now (scope known.now env.now)))) (of_truth c.now)
         (as_number (formed e.now (scope known.now env.now)))
-        (spec.unwritten_count e.now (bound_names env.now))) }
+        (unwritten_count e.now (scope known.now env.now))) }
 {
     let i = number_part(alloc, index, env, known)?;
     let variable = find_variable(known.variables, name);
     if is_outside(&i, variable) {
-        outside_target(alloc, &i, e, c, env, effect)
+        outside_target(alloc, &i, e, c, env, known, effect)
     } else {
         written_target(alloc, variable, &i, e, c, env, known, effect)
     }
@@ -129,7 +129,7 @@ pub fn target(
         (variable_named t.now.name.text (scope known.now env.now).variables)
         (spec.index_formed (scope known.now env.now) t.now.index) (of_truth c.now)
         (as_number (formed e.now (scope known.now env.now)))
-        (spec.unwritten_count e.now (bound_names env.now))) }
+        (unwritten_count e.now (scope known.now env.now))) }
 {
     match &t.index {
         None => plain_target(alloc, &t.name, e, c, env, known, effect),

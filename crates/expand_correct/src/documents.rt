@@ -27,7 +27,7 @@ pub fn fault_laws()
 {}
 
 /// The statements and the initially sections of a well-named document without a fault become exact, and no end of a
-/// range in them is too large.
+/// range and no divisor in them is bad.
 pub fn exact_laws()
     ensures { ProgramsExact }
 {}

@@ -2,11 +2,10 @@
 use Rattle.std.specs.Prelude.{◌≡◌, ℕ, List, [], ◌∷◌, fold, Option, Some, None, Result, Ok, Err}
 use Rattle.std.specs.Map.{lookup}
 use Rattle.std.specs.Str.{bytes_eq}
-use Rattle.indexmap.specs.IndexMap.{IndexMap, insert_entry}
+use Rattle.indexmap.specs.IndexMap.{insert_entry}
 use Rattle.unity_syntax.specs.declared.declaration.Def.{Def}
-use Rattle.meaning_documents.specs.Names.{Bindings, Variable}
+use Rattle.meaning_documents.specs.Names.{Bindings}
 use Rattle.names_rules.specs.declared.named.NameFault.{NameFault}
-use Rattle.names_rules.specs.Scope.{entries}
 use Rattle.names_rules.specs.Reading.{Fault, earlier}
 use Rattle.names_rules.specs.Answers.{Stops}
 use Rattle.expand_rules.specs.declared.cores.Formed.{Formed}
@@ -28,7 +27,7 @@ with_definition s d = record s { always = insert_entry bytes_eq s.always d.name.
 abbrev pub with_definitions : Scope → List Def → Scope
 with_definitions s ds = fold with_definition s ds
 
--- a definition is too large at its name, or else an end of a range in it is, at the nearest such end
+-- a definition is too large at its name, or else an end of a range or a divisor in it is bad, at the first such place
 abbrev pub definition_fault : Scope → Def → Option Fault
 definition_fault s d = element_fault d.name.at (formed d.of s ∷ [])
 

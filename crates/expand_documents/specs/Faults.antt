@@ -1,10 +1,9 @@
--- The first fault of a document that is well named: what is too large in it, or an end of a range.
-use Rattle.std.specs.Prelude.{ℕ, ◌+◌, List, [], ◌∷◌, cond, nat_lt, length, take, drop, Option, Some, None, is_some}
+-- The first fault of a document that is well named: what is too large in it, or a bad end of a range or divisor.
+use Rattle.std.specs.Prelude.{ℕ, ◌+◌, List, [], ◌∷◌, cond, length, take, drop, Option, Some, None, is_some}
 use Rattle.case_tables.specs.declared.code_table.Code.{Code}
 use Rattle.unity_syntax.specs.declared.name.Name.{Name}
 use Rattle.unity_syntax.specs.declared.program.Initially.{Initially}
 use Rattle.unity_syntax.specs.declared.program.Program.{Program}
-use Rattle.unity_syntax.specs.declared.statement.Items.{Items}
 use Rattle.unity_syntax.specs.declared.document.Part.{Part}
 use Rattle.unity_syntax.specs.declared.document.Document.{Document}
 use Rattle.meaning_documents.specs.Setting.{definitions}
@@ -20,7 +19,7 @@ use Rattle.expand_statements.specs.Counts.{too_many, statements_fault}
 use Rattle.expand_steps.specs.Elements.{element_fault}
 use Rattle.expand_steps.specs.Steps.{proof_fault}
 use Rattle.expand_documents.specs.AlwaysNames.{definitions_fault, with_definitions}
-use Rattle.expand_documents.specs.Cores.{declared_scope, part_definitions, with_parts, document_scope, core_named}
+use Rattle.expand_documents.specs.Cores.{declared_scope, part_definitions, with_parts, core_named}
 use Rattle.expand_documents.specs.Cores.{core_program, with_core}
 
 -- headings: the number of a program's statements, and its always names

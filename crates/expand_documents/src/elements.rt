@@ -13,7 +13,7 @@ use std::alloc::Global;
 use unity_syntax::Expr;
 
 /// What an expression becomes. `Fault` exactly where it is too large, at `front`, or else an end of a range
-/// in it is, at the nearest such end.
+/// or a divisor in it is bad, at the first such place.
 pub fn element(
     alloc: Global,
     e: &Expr,
@@ -31,11 +31,6 @@ pub fn element(
             at: front,
         });
     }
-    if let Some(at) = f.measure.bad_range {
-        return Err(NameFault::Fault {
-            code: Code::BadRange,
-            at,
-        });
-    }
+    f.measure.flaws.check()?;
     Ok(f)
 }

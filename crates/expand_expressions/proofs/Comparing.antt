@@ -1,5 +1,5 @@
 -- Which equation two cores have.
-use Rattle.std.proofs.Common.{◌≡◌, Bool, true, false, ◌&&◌, refl}
+use Rattle.std.proofs.Common.{◌≡◌, true, false, ◌&&◌, refl}
 use Rattle.expand_rules.specs.declared.cores.Core.{Core}
 use Rattle.expand_rules.specs.declared.cores.Formed.{Formed}
 use Rattle.expand_rules.specs.Forming.{difference, is_zero, conjunction, implication, equation_by, equation}

@@ -1,6 +1,6 @@
 -- What is read of arrays, step by step.
-use Rattle.std.proofs.Common.{◌≡◌, ℕ, zero, suc, ◌+◌, ◌-◌, ◌<◌, ◌≤◌, ℤ, pos, negsuc, ◌+ℤ◌, ◌-ℤ◌, ◌≤ℤ◌, List, [], ◌∷◌}
-use Rattle.std.proofs.Common.{Bool, true, false, cond, Option, Some, None, option_map, refl, sym, ap, ◌∙◌, arith, max}
+use Rattle.std.proofs.Common.{◌≡◌, ℕ, suc, ◌+◌, ◌-◌, ◌<◌, ◌≤◌, ℤ, pos, negsuc, ◌+ℤ◌, ◌-ℤ◌, List, [], ◌∷◌}
+use Rattle.std.proofs.Common.{true, false, cond, Option, Some, None, option_map, refl, sym, ap, ◌∙◌, arith, max}
 use Rattle.std.proofs.lemmas.Int.{ints}
 use Rattle.std.specs.Map.{lookup}
 use Rattle.std.specs.Str.{bytes_eq}

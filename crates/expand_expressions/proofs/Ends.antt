@@ -1,6 +1,6 @@
 -- The numbers that names in range ends stand for.
-use Rattle.std.proofs.Common.{◌≡◌, ℕ, zero, suc, ℤ, pos, negsuc, ◌≤ℤ◌, ◌<ℤ◌, arith, List, [], ◌∷◌, Bool, true, false}
-use Rattle.std.proofs.Common.{cond, Option, Some, None, refl}
+use Rattle.std.proofs.Common.{◌≡◌, ℕ, ℤ, pos, negsuc, ◌≤ℤ◌, ◌<ℤ◌, arith, List, [], ◌∷◌, true, false}
+use Rattle.std.proofs.Common.{cond, Some, refl}
 use Rattle.std.specs.Map.{lookup}
 use Rattle.std.specs.Str.{bytes_eq}
 use Rattle.meaning_documents.specs.Names.{number_of, or_zero, natural}

@@ -1,7 +1,7 @@
 -- What stops a part stops the whole.
 use Rattle.std.proofs.Math.Seq.{drop-cons}
-use Rattle.std.proofs.Common.{◌≡◌, ℕ, zero, suc, ◌+◌, ◌<◌, ◌≤◌, ℤ, pos, ◌+ℤ◌, List, [], ◌∷◌, map, drop, length}
-use Rattle.std.proofs.Common.{get_or, Bool, true, false, Result, Ok, Err, refl, sym, ap, ◌∙◌, subst, arith}
+use Rattle.std.proofs.Common.{◌≡◌, ℕ, zero, suc, ◌+◌, ◌<◌, ℤ, pos, ◌+ℤ◌, List, [], ◌∷◌, map, drop, length}
+use Rattle.std.proofs.Common.{get_or, true, Err, refl, sym, ap, ◌∙◌, subst, arith}
 use Rattle.std.proofs.lemmas.Int.{ints}
 use Rattle.std.specs.Prelude.{fold}
 use Rattle.case_tables.specs.declared.symbol_table.Symbol.{Symbol}
@@ -10,10 +10,10 @@ use Rattle.unity_syntax.specs.declared.expression.Operator.{Operator}
 use Rattle.meaning_documents.specs.Value.{count_up}
 use Rattle.expand_rules.specs.declared.cores.Formed.{Formed}
 use Rattle.expand_rules.specs.Limits.{is_past, is_too_large}
-use Rattle.expand_rules.specs.Forming.{as_number, as_truth, sum, conjunction, disjunction, plus, gathered, factored}
+use Rattle.expand_rules.specs.Forming.{plus, gathered, factored}
 use Rattle.expand_rules.proofs.Growing.{fold_keeps, as_number_keeps, as_truth_keeps, sum_first, sum_second}
-use Rattle.expand_rules.proofs.Growing.{factored_first, factored_second, conjunction_first, conjunction_second}
-use Rattle.expand_rules.proofs.Growing.{disjunction_first, disjunction_second, plus_first, plus_second}
+use Rattle.expand_rules.proofs.Growing.{factored_first, conjunction_first, conjunction_second}
+use Rattle.expand_rules.proofs.Growing.{disjunction_first, disjunction_second, plus_first}
 use Rattle.expand_rules.proofs.Growing.{large_of_past, sum_large, conjunction_large}
 use Rattle.expand_rules.proofs.Growing.{disjunction_large}
 use Rattle.expand_expressions.specs.declared.refusal.Refusal.{Refusal}
@@ -87,7 +87,7 @@ marked_fold op k a bs h = fold_keeps op (λ x p i. k p.0 x p.1 i) a bs h
 pub plus_fold : (a : Formed) (bs : List (Symbol × Formed)) → is_past a ≡ true → is_past (fold plus a bs) ≡ true
 plus_fold a bs h = marked_fold plus plus_first a bs h
 
-pub factored_fold : (a : Formed) (bs : List (Operator × Formed)) → is_past a ≡ true →
+pub factored_fold : (a : Formed) (bs : List ((Operator × ℕ) × Formed)) → is_past a ≡ true →
     is_past (fold factored a bs) ≡ true
 factored_fold a bs h = marked_fold factored factored_first a bs h
 
@@ -210,30 +210,26 @@ module _ {X : Type 0} (f : X → Formed) (j : Joint) (whole : Formed) (items res
       (subst (λ a. is_past (joint_of j whole a) ≡ true) e p))
 
 module _ {S X : Type 0} (op : Formed → S × Formed → Formed) (first_keeps : MarkedFirst op)
-    (second_keeps : MarkedSecond op) (f : X → Formed) (whole : Formed) (items rest : List (S × X)) (i : ℕ)
+    (second_keeps : MarkedSecond op) (f : X → S × Formed) (whole : Formed) (items rest : List X) (i : ℕ)
     (begin : Formed) (initial : Formed)
     (within : i < length items) (first : initial ≡ begin) (same : items ≡ rest)
-    (leads : fold op whole (map (λ (p : S × X). (p.0, f p.1)) (drop i items)) ≡ fold op initial
-    (map (λ (p : S × X). (p.0, f p.1)) items)) where
-  abbrev marks : List (S × X) → List (S × Formed)
-  marks xs = map (λ (p : S × X). (p.0, f p.1)) xs
+    (leads : fold op whole (map f (drop i items)) ≡ fold op initial (map f items)) where
+  marked_is : fold op whole (map f (drop i items)) ≡ fold op begin (map f rest)
+  marked_is = leads ∙ ap (λ a. fold op a (map f items)) first ∙ ap (λ xs. fold op begin (map f xs)) same
 
-  marked_is : fold op whole (marks (drop i items)) ≡ fold op begin (marks rest)
-  marked_is = leads ∙ ap (λ a. fold op a (marks items)) first ∙ ap (λ xs. fold op begin (marks xs)) same
-
-  pub marked_next : (item : S × X) → item ≡ get_or items i item → is_past (f item.1) ≡ true → is_past
-      (fold op begin (marks rest)) ≡ true
+  pub marked_next : (item : X) → item ≡ get_or items i item → is_past (f item).1 ≡ true → is_past
+      (fold op begin (map f rest)) ≡ true
   marked_next item is p = subst (λ a. is_past a ≡ true)
-      (sym (ap (λ xs. fold op whole (marks xs)) (drop-cons items i item within ∙ ap (λ x. x ∷ drop (suc i) items)
+      (sym (ap (λ xs. fold op whole (map f xs)) (drop-cons items i item within ∙ ap (λ x. x ∷ drop (suc i) items)
       (sym is))) ∙ marked_is)
-      (marked_fold op first_keeps (op whole (item.0, f item.1)) (marks (drop (suc i) items))
-      (second_keeps item.0 whole (f item.1) p))
+      (marked_fold op first_keeps (op whole (f item)) (map f (drop (suc i) items))
+      (second_keeps (f item).0 whole (f item).1 p))
 
-  pub marked_joined : (item : S × X) (next : Formed) → item ≡ get_or items i item → next ≡ f item.1 → is_past
-      (op whole (item.0, next)) ≡ true →
-      is_past (fold op begin (marks rest)) ≡ true
+  pub marked_joined : (item : X) (next : Formed) → item ≡ get_or items i item → next ≡ (f item).1 → is_past
+      (op whole ((f item).0, next)) ≡ true →
+      is_past (fold op begin (map f rest)) ≡ true
   marked_joined item next is e p = subst (λ a. is_past a ≡ true)
-      (sym (ap (λ xs. fold op whole (marks xs)) (drop-cons items i item within ∙ ap (λ x. x ∷ drop (suc i) items)
+      (sym (ap (λ xs. fold op whole (map f xs)) (drop-cons items i item within ∙ ap (λ x. x ∷ drop (suc i) items)
       (sym is))) ∙ marked_is)
-      (marked_fold op first_keeps (op whole (item.0, f item.1)) (marks (drop (suc i) items))
-      (subst (λ a. is_past (op whole (item.0, a)) ≡ true) e p))
+      (marked_fold op first_keeps (op whole (f item)) (map f (drop (suc i) items))
+      (subst (λ a. is_past (op whole ((f item).0, a)) ≡ true) e p))

@@ -1,6 +1,5 @@
 -- What multiples weigh.
-use Rattle.std.proofs.Common.{◌≡◌, ℕ, ◌*◌, ◌^◌, ◌≤◌, ◌<◌, ◌+◌, ℤ, max, arith, true, not, Option, Some, None, sym, ap}
-use Rattle.std.proofs.Common.{◌∙◌}
+use Rattle.std.proofs.Common.{◌≡◌, ℕ, ◌*◌, ◌^◌, ◌≤◌, ◌+◌, ℤ, arith, Option, Some, None, sym, ap}
 use Rattle.std.proofs.Math.Nat.{mul-le-mul_left}
 use Rattle.std.specs.Int.RustNames.{unsigned_abs}
 use Rattle.core_terms.specs.declared.trees.CTerm.{CTerm}

@@ -1,5 +1,5 @@
 -- Variables of the code's table are those of its scope.
-use Rattle.std.proofs.Common.{◌≡◌, ℕ, ℤ, List, [], ◌∷◌, Bool, true, false, cond, Option, Some, None, option_map, refl}
+use Rattle.std.proofs.Common.{◌≡◌, ℕ, List, [], ◌∷◌, true, false, cond, Option, Some, None, option_map, refl}
 use Rattle.std.proofs.Common.{ap}
 use Rattle.std.specs.Map.{lookup}
 use Rattle.std.specs.Str.{bytes_eq}
@@ -7,9 +7,8 @@ use Rattle.core_terms.specs.declared.trees.CTerm.TheVariants.{Slot}
 use Rattle.core_terms.specs.declared.trees.Range.{Range}
 use Rattle.meaning_documents.specs.Names.{slot_at}
 use Rattle.meaning_documents.specs.Names.{variable_named}
-use Rattle.expand_rules.specs.declared.cores.Formed.{Formed}
 use Rattle.expand_rules.specs.Measures.{ends_weight}
-use Rattle.expand_rules.specs.Forming.{as_truth, varying, typed, variable_formed, element_of}
+use Rattle.expand_rules.specs.Forming.{varying, typed, variable_formed}
 use Rattle.expand_expressions.specs.declared.places.VariableSlots.{VariableSlots}
 use Rattle.expand_expressions.specs.Places.{ends_of, variable_of, variables_of, plain_slots, no_indices, slot_formed}
 

@@ -1,5 +1,5 @@
 -- What holds of a core and its measure, so that folding never meets a number that is too large.
-use Rattle.std.specs.Prelude.{◌≡◌, ℕ, ◌^◌, ◌<◌, ◌≤◌, Bool, true, false, Result, Ok, Err}
+use Rattle.std.specs.Prelude.{◌≡◌, ◌^◌, ◌<◌, ◌≤◌, Bool, true, false, Result, Ok, Err}
 use Rattle.core_terms.specs.Folding.{number_of, truth_of}
 use Rattle.core_terms.specs.Weights.{plain_weights, plain_weight}
 use Rattle.expand_rules.specs.declared.cores.Core.{Core}

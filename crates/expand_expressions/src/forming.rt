@@ -4,7 +4,6 @@ ghost use Rattle.std.specs.Prelude.{◌≡◌, ◌^◌, ◌≤◌, IfOk, map, fo
 ghost use Rattle.std.specs.Int.RustNames.{unsigned_abs};
 ghost use Rattle.case_tables.specs.declared.symbol_table.Symbol.{Symbol};
 ghost use Rattle.unity_syntax.specs.declared.expression.Expr.{Expr};
-ghost use Rattle.unity_syntax.specs.declared.expression.Operator.{Operator};
 ghost use Rattle.meaning_documents.specs.Value.{count_up};
 ghost use Rattle.expand_rules.specs.Forming as spec;
 ghost use Rattle.expand_rules.specs.Forming.{formed};
@@ -13,6 +12,7 @@ ghost use Rattle.expand_expressions.specs.Joints.{joint_of, begin_of};
 ghost use Rattle.expand_expressions.specs.Places.{IsReady, scope, bound_names};
 
 use crate::arrays::element;
+use crate::bytes::first_byte;
 use crate::comparisons::{bottom, top};
 use crate::joining::{
     Joint, begun, bound_at, compared, denied, factored, implied, joined, joint_of_word, literal,
@@ -169,14 +169,14 @@ fn multiplied(
     requires sound { IsSound first }
     requires light { first.measure.most ≤ 2 ^ 62 }
     ensures formed { GivesCore result (fold spec.factored first
-        (map (λ (p : Operator × Expr). (p.0, formed p.1 (scope known.now env.now))) rest.now)) }
+        (map (spec.factor_in (scope known.now env.now)) rest.now)) }
     ensures sound { IfOk result IsSound }
     ensures light { IfOk result (λ f. f.measure.most ≤ 2 ^ 62) }
 {
     let mut whole = first;
     for part in rest.as_slice() {
         let next = form(alloc, &part.1, env, known)?;
-        whole = factored(alloc, part.0, whole, next)?;
+        whole = factored(alloc, part.0, first_byte(&part.1), whole, next)?;
     }
     Ok(whole)
 }

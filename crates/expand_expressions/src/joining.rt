@@ -11,6 +11,7 @@ use crate::comparisons::{
 };
 use crate::operations::{conjunction, denial, difference, disjunction, negation, sum};
 use crate::products::{limited, product};
+use crate::quotients::{quotient, remainder};
 use crate::ranges::Numbers;
 use crate::refusal::Refusal;
 use case_tables::{Symbol, Word};
@@ -122,21 +123,26 @@ pub fn plus(alloc: Global, symbol: Symbol, a: Formed, b: Formed) -> Result<Forme
     }
 }
 
-/// An operator of a product and its right operand, after all that stands before them. No core is a quotient or a
-/// remainder: for these, `Memory`.
-pub fn factored(alloc: Global, op: Operator, a: Formed, b: Formed) -> Result<Formed, Refusal>
+/// An operator of a product and its right operand, which begins at this byte, after all that stands before them.
+pub fn factored(
+    alloc: Global,
+    op: Operator,
+    at: u64,
+    a: Formed,
+    b: Formed,
+) -> Result<Formed, Refusal>
     requires first { IsSound a }
     requires second { IsSound b }
     requires first_light { a.measure.most ≤ 2 ^ 62 }
     requires second_light { b.measure.most ≤ 2 ^ 62 }
-    ensures formed { GivesCore result (spec.factored a (op, b)) }
+    ensures formed { GivesCore result (spec.factored a ((op, at), b)) }
     ensures sound { IfOk result IsSound }
     ensures light { IfOk result (λ f. f.measure.most ≤ 2 ^ 62) }
 {
     match op {
         Operator::Times => product(alloc, a, b),
-        Operator::Div => Err(Refusal::Memory),
-        Operator::Mod => Err(Refusal::Memory),
+        Operator::Div => limited(quotient(alloc, at, a, b)?),
+        Operator::Mod => limited(remainder(alloc, at, a, b)?),
     }
 }
 

@@ -7,24 +7,13 @@ ghost use Rattle.meaning_documents.specs.Value as value;
 ghost use Rattle.meaning_documents.specs.Names as names;
 
 use core_terms::Range;
-use expand_rules::Measure;
+use expand_rules::{Flaws, Measure};
 
 // A size, counted up to one past its limit.
 fn counted(size: u64) -> u64
     ensures { result ≡ spec.counted size }
 {
     size.min(65_537)
-}
-
-/// The lesser of two places, where there is any.
-pub fn nearer(a: Option<u64>, b: Option<u64>) -> Option<u64>
-    ensures { result ≡ spec.nearer a b }
-{
-    match (a, b) {
-        (None, _) => b,
-        (Some(x), None) => Some(x),
-        (Some(x), Some(y)) => Some(x.min(y)),
-    }
 }
 
 /// One node of such a weight.
@@ -36,7 +25,7 @@ pub fn leaf(weight: u64) -> Measure
         quantified: 0,
         own: weight,
         most: weight,
-        bad_range: None,
+        flaws: Flaws::none(),
     }
 }
 
@@ -51,7 +40,7 @@ pub fn sum_measure(a: Measure, b: Measure) -> Measure
         quantified: counted(a.quantified.saturating_add(b.quantified)),
         own,
         most: own.max(a.most.max(b.most)),
-        bad_range: nearer(a.bad_range, b.bad_range),
+        flaws: a.flaws.and(b.flaws),
     }
 }
 
@@ -62,7 +51,7 @@ pub fn multiple_measure(k: u64, factor: Measure, a: Measure) -> Measure
     ensures quantified { result.quantified ≡ spec.counted (factor.quantified + a.quantified) }
     ensures own { result.own ≡ k * a.own }
     ensures most { result.most ≡ max (k * a.own) (max factor.most a.most) }
-    ensures bad_range { result.bad_range ≡ spec.nearer factor.bad_range a.bad_range }
+    ensures flaws { result.flaws ≡ spec.both_flaws factor.flaws a.flaws }
 {
     let own = k * a.own;
     Measure {
@@ -70,7 +59,21 @@ pub fn multiple_measure(k: u64, factor: Measure, a: Measure) -> Measure
         quantified: counted(factor.quantified.saturating_add(a.quantified)),
         own,
         most: own.max(factor.most.max(a.most)),
-        bad_range: nearer(factor.bad_range, a.bad_range),
+        flaws: factor.flaws.and(a.flaws),
+    }
+}
+
+/// A quotient or a remainder that lies so far from 0, by a divisor that counts too and that lies so far from 0,
+/// with what fails of the divisor itself.
+pub fn divided_measure(own: u64, k: u64, flaws: Flaws, a: Measure, b: Measure) -> Measure
+    ensures { result ≡ spec.divided_measure own k flaws a b }
+{
+    Measure {
+        size: counted(a.size.saturating_add(b.size).saturating_add(1)),
+        quantified: counted(a.quantified.saturating_add(b.quantified)),
+        own,
+        most: own.max(a.most.max(b.most.max(k))),
+        flaws: a.flaws.and(b.flaws.and(flaws)),
     }
 }
 
@@ -83,7 +86,7 @@ pub fn negation_measure(a: Measure) -> Measure
         quantified: a.quantified,
         own: a.own,
         most: a.most,
-        bad_range: a.bad_range,
+        flaws: a.flaws,
     }
 }
 
@@ -96,7 +99,7 @@ pub fn over_measure(a: Measure) -> Measure
         quantified: a.quantified,
         own: 0,
         most: a.most,
-        bad_range: a.bad_range,
+        flaws: a.flaws,
     }
 }
 
@@ -109,7 +112,7 @@ pub fn pair_measure(a: Measure, b: Measure) -> Measure
         quantified: counted(a.quantified.saturating_add(b.quantified)),
         own: 0,
         most: a.most.max(b.most),
-        bad_range: nearer(a.bad_range, b.bad_range),
+        flaws: a.flaws.and(b.flaws),
     }
 }
 
@@ -122,7 +125,7 @@ pub fn choice_measure(a: Measure) -> Measure
         quantified: a.quantified,
         own: 1,
         most: a.most.max(1),
-        bad_range: a.bad_range,
+        flaws: a.flaws,
     }
 }
 
@@ -135,7 +138,7 @@ pub fn quantifier_measure(fault: Option<u64>, a: Measure) -> Measure
         quantified: counted(a.size.max(a.quantified).saturating_add(1)),
         own: a.own,
         most: a.most,
-        bad_range: nearer(fault, a.bad_range),
+        flaws: Flaws::of_range(fault).and(a.flaws),
     }
 }
 
@@ -171,7 +174,7 @@ pub fn element_measure(
         quantified: index.quantified,
         own: weight,
         most: (index.own + farthest).max(index.most.max(weight)),
-        bad_range: index.bad_range,
+        flaws: index.flaws,
     }
 }
 

@@ -40,10 +40,11 @@ pub fn limited(a: Formed) -> Result<Formed, Refusal>
     }
 }
 
-// The factor of a product: a constant's number.
-fn factor(known: Option<i128>) -> i64
+/// The factor of a product: a constant's number.
+pub fn factor(known: Option<i128>) -> i64
     requires { MatchOption known (Unit {0}) (λ z. unsigned_abs z ≤ 2 ^ 62 + 1) }
-    ensures { result ≡ or_zero known }
+    ensures value { result ≡ or_zero known }
+    ensures bound { unsigned_abs result ≤ 2 ^ 62 + 1 }
 {
     match known {
         Some(number) => number as i64,

@@ -10,11 +10,11 @@ ghost use Rattle.expand_rules.specs.Measures as spec;
 ghost use Rattle.expand_rules.specs.Forming as forming;
 ghost use Rattle.expand_expressions.specs.Places.{bound_names, bound_number};
 
-use crate::measures::{nearer, range_size};
+use crate::measures::range_size;
 use crate::places::{Env, find_bound};
 use case_tables::Symbol;
 use core_terms::Range as Ends;
-use expand_rules::Bound;
+use expand_rules::{Bound, nearer};
 use unity_syntax::{End, Name, Range};
 
 /// So many numbers from the first on.

@@ -12,16 +12,20 @@ use Rattle.meaning_documents.specs.Names.{Variable}
 use Rattle.meaning_documents.specs.Value.{range_size}
 use Rattle.expand_rules.specs.declared.cores.Core.{Core}
 use Rattle.expand_rules.specs.declared.cores.Bound.{Bound}
+use Rattle.core_terms.specs.declared.trees.CTerm.{CTerm}
+use Rattle.core_terms.specs.Folding.{quotient_term, remainder_term}
+use Rattle.expand_rules.specs.declared.cores.Flaws.{Flaws}
 use Rattle.expand_rules.specs.declared.cores.Measure.{Measure}
 use Rattle.expand_rules.specs.declared.cores.Formed.{Formed}
 use Rattle.expand_rules.specs.Measures.{sum_measure, multiple_measure, negation_measure, over_measure, pair_measure}
-use Rattle.expand_rules.specs.Measures.{ends_weight, element_measure, quantifier_measure, quotient_measure}
+use Rattle.expand_rules.specs.Measures.{ends_weight, element_measure, quantifier_measure, divided_measure}
 use Rattle.expand_rules.specs.Measures.{range_misfit}
 use Rattle.expand_rules.specs.Forming.{as_number, as_truth, number_measure, truth_measure, number_constant}
 use Rattle.expand_rules.specs.Forming.{factor_of, sum, difference, negation, multiple, product, at_least_zero}
 use Rattle.expand_rules.specs.Forming.{is_zero, denial, conjunction, disjunction, implication, equation_by}
 use Rattle.expand_rules.specs.Forming.{equation, excess, never, comparison, signed, plus, typed, no_element}
-use Rattle.expand_rules.specs.Forming.{array_formed, element_by, element_of, numbers, quantified, quotient, factored}
+use Rattle.expand_rules.specs.Forming.{array_formed, element_by, element_of, numbers, quantified, divided, factored}
+use Rattle.expand_rules.specs.Forming.{quotient_weight, remainder_weight}
 use Rattle.expand_rules.specs.Limits.{is_past, is_too_large}
 
 abbrev pub IsPast : Formed → Type 0
@@ -158,12 +162,12 @@ pair_grows_second m n = record {
   size = λ e. omega (arith, e);
 }
 
-quotient_grows_first : (m n : Measure) → Grows m (quotient_measure m n)
-quotient_grows_first m n =
+divided_grows_first : (own k : ℕ) (flaws : Flaws) (m n : Measure) → Grows m (divided_measure own k flaws m n)
+divided_grows_first own k flaws m n =
     record { most = omega arith; quantified = λ e. omega (arith, e); size = λ e. omega (arith, e) }
 
-quotient_grows_second : (m n : Measure) → Grows n (quotient_measure m n)
-quotient_grows_second m n =
+divided_grows_second : (own k : ℕ) (flaws : Flaws) (m n : Measure) → Grows n (divided_measure own k flaws m n)
+divided_grows_second own k flaws m n =
     record { most = omega arith; quantified = λ e. omega (arith, e); size = λ e. omega (arith, e) }
 
 above : (x y z : ℕ) → y ≤ max x (max y z)
@@ -261,23 +265,24 @@ product_second : KeepsSecond product
 product_second a b = past_grows b (product a b) (product_grows_second a b a.constant) (and_false_right a.constant
     b.constant)
 
-quotient_first : KeepsFirst quotient
-quotient_first a b = past_grows a (quotient a b) (grows_on _ _ _ (number_grows a.core a.measure)
-    (quotient_grows_first (as_number a).measure (as_number b).measure)) (and_false_left a.constant b.constant)
+module _ (op : ℤ → CTerm → CTerm) (weight : ℕ → ℕ → ℕ) (at : ℕ) where
+  divided_first : KeepsFirst (divided op weight at)
+  divided_first a b = past_grows a (divided op weight at a b) (grows_on _ _ _ (number_grows a.core a.measure)
+      (divided_grows_first _ _ _ (as_number a).measure (as_number b).measure)) (and_false_left a.constant b.constant)
 
-quotient_second : KeepsSecond quotient
-quotient_second a b = past_grows b (quotient a b) (grows_on _ _ _ (number_grows b.core b.measure)
-    (quotient_grows_second (as_number a).measure (as_number b).measure)) (and_false_right a.constant b.constant)
+  divided_second : KeepsSecond (divided op weight at)
+  divided_second a b = past_grows b (divided op weight at a b) (grows_on _ _ _ (number_grows b.core b.measure)
+      (divided_grows_second _ _ _ (as_number a).measure (as_number b).measure)) (and_false_right a.constant b.constant)
 
-pub factored_first : (op : Operator) → KeepsFirst (λ a b. factored a (op, b))
-factored_first Operator.Times a b h = product_first a b h
-factored_first Operator.Div a b h = quotient_first a b h
-factored_first Operator.Mod a b h = quotient_first a b h
+pub factored_first : (op : Operator × ℕ) → KeepsFirst (λ a b. factored a (op, b))
+factored_first (Operator.Times, at) a b h = product_first a b h
+factored_first (Operator.Div, at) a b h = divided_first quotient_term quotient_weight at a b h
+factored_first (Operator.Mod, at) a b h = divided_first remainder_term remainder_weight at a b h
 
-pub factored_second : (op : Operator) → KeepsSecond (λ a b. factored a (op, b))
-factored_second Operator.Times a b h = product_second a b h
-factored_second Operator.Div a b h = quotient_second a b h
-factored_second Operator.Mod a b h = quotient_second a b h
+pub factored_second : (op : Operator × ℕ) → KeepsSecond (λ a b. factored a (op, b))
+factored_second (Operator.Times, at) a b h = product_second a b h
+factored_second (Operator.Div, at) a b h = divided_second quotient_term quotient_weight at a b h
+factored_second (Operator.Mod, at) a b h = divided_second remainder_term remainder_weight at a b h
 
 pub at_least_keeps : Keeps at_least_zero
 at_least_keeps a = past_grows a (at_least_zero a) (grows_on _ _ _ (number_grows a.core a.measure)

@@ -4,17 +4,18 @@ use Rattle.std.proofs.Common.{None, refl, sym, ap, ◌∙◌}
 use Rattle.std.specs.Option.{option_map, is_some}
 use Rattle.std.specs.Int.RustNames.{int_le}
 use Rattle.core_terms.specs.declared.trees.CTerm.{CTerm, fold-roll-CTerm}
-use Rattle.core_terms.specs.declared.trees.CTerm.TheVariants.{Const, Add, Sub, Scale, Ite, rolls-Const, rolls-Add}
-use Rattle.core_terms.specs.declared.trees.CTerm.TheVariants.{rolls-Sub, rolls-Scale, rolls-Ite}
+use Rattle.core_terms.specs.declared.trees.CTerm.TheVariants.{Const, Add, Sub, Scale, Div, Mod, Ite, rolls-Const, rolls-Add}
+use Rattle.core_terms.specs.declared.trees.CTerm.TheVariants.{rolls-Sub, rolls-Scale, rolls-Div, rolls-Mod, rolls-Ite}
 use Rattle.core_terms.specs.declared.trees.CForm.{CForm, fold-roll-CForm}
 use Rattle.core_terms.specs.declared.trees.CForm.TheVariants.{Top, Bottom, AtLeast, Zero, Not, And, Or, rolls-Top}
 use Rattle.core_terms.specs.declared.trees.CForm.TheVariants.{rolls-Bottom, rolls-AtLeast, rolls-Zero, rolls-Not}
 use Rattle.core_terms.specs.declared.trees.CForm.TheVariants.{rolls-And, rolls-Or}
 use Rattle.core_terms.specs.declared.trees.CForm.TheOpen.{CTerm-F, CForm-F}
+use Rattle.meaning_states.specs.Division.{floored, rest_of}
 use Rattle.meaning_states.specs.State.{int_eq}
 use Rattle.core_terms.specs.Folding.{joined, chosen, number_step, truth_step, number_of, truth_of, is_small}
 use Rattle.core_terms.specs.Folding.{constant_or, truth_or, branch_or, folded_term, folded_form, sum_term}
-use Rattle.core_terms.specs.Folding.{difference_term, scaled_term, choice_term, at_least_form, zero_form, not_form}
+use Rattle.core_terms.specs.Folding.{difference_term, scaled_term, quotient_term, remainder_term, choice_term, at_least_form, zero_form, not_form}
 use Rattle.core_terms.specs.Folding.{and_form, or_form}
 
 pub number-Const : (c : ℤ) → number_of (Const c) ≡ Some c
@@ -32,6 +33,14 @@ number-Sub a b = ap number_of (sym (rolls-Sub a b)) ∙ fold-roll-CTerm (Option 
 pub number-Scale : (k : ℤ) (a : CTerm) → number_of (Scale k a) ≡ option_map (λ x. k *ℤ x) (number_of a)
 number-Scale k a = ap number_of (sym (rolls-Scale k a)) ∙ fold-roll-CTerm (Option Bool) (Option ℤ) truth_step
     number_step (CTerm-F.Scale k a)
+
+pub number-Div : (k : ℤ) (a : CTerm) → number_of (Div a k) ≡ option_map (λ x. floored x k) (number_of a)
+number-Div k a = ap number_of (sym (rolls-Div a k)) ∙ fold-roll-CTerm (Option Bool) (Option ℤ) truth_step
+    number_step (CTerm-F.Div a k)
+
+pub number-Mod : (k : ℤ) (a : CTerm) → number_of (Mod a k) ≡ option_map (λ x. rest_of x k) (number_of a)
+number-Mod k a = ap number_of (sym (rolls-Mod a k)) ∙ fold-roll-CTerm (Option Bool) (Option ℤ) truth_step
+    number_step (CTerm-F.Mod a k)
 
 pub number-Ite : (c : CForm) (a b : CTerm) → number_of (Ite c a b) ≡ chosen (truth_of c) (number_of a) (number_of b)
 number-Ite c a b = ap number_of (sym (rolls-Ite c a b)) ∙ fold-roll-CTerm (Option Bool) (Option ℤ) truth_step
@@ -105,6 +114,12 @@ some-difference_term a b = ap is_some (number-folded_term (Sub a b) ∙ number-S
 
 pub some-scaled_term : (k : ℤ) (a : CTerm) → is_some (number_of (scaled_term k a)) ≡ is_some (number_of a)
 some-scaled_term k a = ap is_some (number-folded_term (Scale k a) ∙ number-Scale k a) ∙ some_mapped _ (number_of a)
+
+pub some-quotient_term : (k : ℤ) (a : CTerm) → is_some (number_of (quotient_term k a)) ≡ is_some (number_of a)
+some-quotient_term k a = ap is_some (number-folded_term (Div a k) ∙ number-Div k a) ∙ some_mapped _ (number_of a)
+
+pub some-remainder_term : (k : ℤ) (a : CTerm) → is_some (number_of (remainder_term k a)) ≡ is_some (number_of a)
+some-remainder_term k a = ap is_some (number-folded_term (Mod a k) ∙ number-Mod k a) ∙ some_mapped _ (number_of a)
 
 pub some-at_least_form : (t : CTerm) → is_some (truth_of (at_least_form t)) ≡ is_some (number_of t)
 some-at_least_form t = ap is_some (truth-folded_form (AtLeast t) ∙ truth-AtLeast t) ∙ some_mapped _ (number_of t)

@@ -1,3 +1,4 @@
+pub mod FlawLaws
 pub mod Differences
 pub mod KnownParts
 pub mod Chains

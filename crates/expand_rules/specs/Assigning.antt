@@ -4,10 +4,7 @@ use Rattle.std.specs.Prelude.{ℕ, zero, suc, ◌+◌, ◌*◌, ◌^◌, max, �
 use Rattle.std.specs.Prelude.{true, false, cond, not, ◌&&◌, ◌||◌, Option, Some, None, option_map, nat_le}
 use Rattle.std.specs.Int.RustNames.{unsigned_abs}
 use Rattle.std.specs.Option.{option_and_then, is_some}
-use Rattle.case_tables.specs.declared.symbol_table.Symbol.{Symbol}
-use Rattle.unity_syntax.specs.declared.expression.Expr.{Expr, fold-Expr}
-use Rattle.unity_syntax.specs.declared.expression.Expr.TheOpen.{Expr-F}
-use Rattle.unity_syntax.specs.declared.expression.Operator.{Operator}
+use Rattle.unity_syntax.specs.declared.expression.Expr.{Expr}
 use Rattle.unity_syntax.specs.declared.name.Range.{Range}
 use Rattle.unity_syntax.specs.declared.statement.Target.{Target}
 use Rattle.unity_syntax.specs.declared.statement.Component.{Component, fold-Component}
@@ -30,42 +27,21 @@ use Rattle.expand_rules.specs.declared.cores.Formed.{Formed}
 use Rattle.expand_rules.specs.declared.effects.Count.{Count}
 use Rattle.expand_rules.specs.declared.effects.Effect.{Effect}
 use Rattle.meaning_documents.specs.Names.{variable_named}
-use Rattle.expand_rules.specs.Measures.{counted, nearer, range_misfit}
+use Rattle.expand_rules.specs.Measures.{counted, both_flaws, range_misfit}
+use Rattle.expand_rules.specs.Counts.{no_count, both_counts, whole, index_count, stray_count, ranged_count}
 use Rattle.expand_rules.specs.Forming.{Scope, with_number, term_of, form_of, as_number, as_truth, truth_constant}
-use Rattle.expand_rules.specs.Forming.{numbers, is_fixed_range, fit_values, formed}
+use Rattle.expand_rules.specs.Forming.{numbers, is_fixed_range, fit_values, formed, unwritten_count}
 
 -- counts
-
-abbrev pub no_count : Count
-no_count = record { size = 0; most = 0; bad_range = None }
-
-abbrev pub both_counts : Count → Count → Count
-both_counts a b = record {
-  size = counted (a.size + b.size);
-  most = max a.most b.most;
-  bad_range = nearer a.bad_range b.bad_range;
-}
 
 -- so many nodes, with what is in these parts
 abbrev pub sized : ℕ → Measure → Measure → Count
 sized nodes a b =
-    record { size = counted nodes; most = max a.most b.most; bad_range = nearer a.bad_range b.bad_range }
-
--- the nodes of a part, and no fewer than its quantifiers count
-abbrev pub whole : Measure → ℕ
-whole m = max m.size m.quantified
+    record { size = counted nodes; most = max a.most b.most; flaws = both_flaws a.flaws b.flaws }
 
 -- a condition and a value
 abbrev pub write_count : Measure → Measure → Count
 write_count c v = sized (whole c + whole v) c v
-
--- an index that is no part of the core: its quantifiers count
-abbrev pub index_count : Measure → Count
-index_count i = record { size = counted i.quantified; most = i.most; bad_range = i.bad_range }
-
--- an index where there is no array
-abbrev pub stray_count : Measure → Count
-stray_count i = record { size = counted (whole i); most = i.most; bad_range = i.bad_range }
 
 -- an index that may be each of so many, from one to another: for each there is a write under a condition that has a
 -- part for the index, and one formula says that it is none of them; an array has at least one
@@ -76,48 +52,12 @@ abbrev pub spread_count : ℕ → ℤ × ℤ → Measure → Measure → Measure
 spread_count count ends i c v = record {
   size = counted (spread_nodes (max 1 count) (whole i) (whole c) (whole v));
   most = max (i.own + max (unsigned_abs ends.0) (unsigned_abs ends.1)) (max i.most (max c.most v.most));
-  bad_range = nearer i.bad_range (nearer c.bad_range v.bad_range);
+  flaws = both_flaws i.flaws (both_flaws c.flaws v.flaws);
 }
 
 -- a condition of which there is no write
 abbrev pub condition_count : Measure → Count
 condition_count c = stray_count c
-
--- one node more
-abbrev pub one_node_more : Count → Count
-one_node_more n = record n { size = counted (1 + n.size) }
-
--- instances together, as a quantifier over a range
-abbrev pub quantified_count : List (List ℕ × Bound) → Range → Count → Count
-quantified_count bs r n =
-    one_node_more (record n { bad_range = nearer (range_misfit (numbers bs) r) n.bad_range })
-
--- what is counted of a value that is written nowhere, among bound names: each quantifier in it, and each of their
--- instances, so that an end that is too large is found in whichever instance it comes; nothing else of it counts
-abbrev pub Counting : Type 0
-Counting = List (List ℕ × Bound) → Count
-
-abbrev pub unwritten_layer : Expr-F Counting → Counting
-unwritten_layer (Expr-F.Implies at left right) bs = both_counts (left bs) (right bs)
-unwritten_layer (Expr-F.And at first rest) bs = fold both_counts (first bs) (map (λ m. m bs) rest)
-unwritten_layer (Expr-F.Or at first rest) bs = fold both_counts (first bs) (map (λ m. m bs) rest)
-unwritten_layer (Expr-F.Not at of) bs = of bs
-unwritten_layer (Expr-F.Compare at left relation right) bs = both_counts (left bs) (right bs)
-unwritten_layer (Expr-F.Sum at minus first rest) bs =
-    fold both_counts (first bs) (map (λ (part : Symbol × Counting). part.1 bs) rest)
-unwritten_layer (Expr-F.Product at first rest) bs =
-    fold both_counts (first bs) (map (λ (part : Operator × Counting). part.1 bs) rest)
-unwritten_layer (Expr-F.Number at number) bs = no_count
-unwritten_layer (Expr-F.True at) bs = no_count
-unwritten_layer (Expr-F.False at) bs = no_count
-unwritten_layer (Expr-F.Word at name None) bs = no_count
-unwritten_layer (Expr-F.Word at name (Some index)) bs = index bs
-unwritten_layer (Expr-F.Brackets at of) bs = of bs
-unwritten_layer (Expr-F.Quantified at which name range of) bs = quantified_count bs range (fold both_counts no_count
-    (map (λ z. one_node_more (of ((name.text, Bound.Number z) ∷ bs))) (fit_values (numbers bs) range)))
-
-abbrev pub unwritten_count : Expr → Counting
-unwritten_count = fold-Expr Counting unwritten_layer
 
 -- one more for an alternative, a component or a quantifier
 abbrev pub one_more : Effect → Effect
@@ -237,7 +177,7 @@ paired_effect s [] es c = nothing
 paired_effect s (t ∷ ts) [] c = nothing
 paired_effect s (t ∷ ts) (e ∷ es) c = beside
     (target_effect (variable_named t.name.text s.variables) (index_formed s t.index) c (as_number (formed e s))
-    (unwritten_count e s.bound))
+    (unwritten_count e s))
     (paired_effect s ts es c)
 
 -- the condition of an alternative, which holds where there is none
@@ -257,7 +197,7 @@ all_beside e es = fold beside e es
 abbrev pub quantified_effect : List (List ℕ × Bound) → Range → Effect → Effect
 quantified_effect bs r e = one_more (record e {
   exact = is_fixed_range bs r && e.exact;
-  count = record e.count { bad_range = nearer (range_misfit (numbers bs) r) e.count.bad_range };
+  count = ranged_count (range_misfit (numbers bs) r) e.count;
 })
 
 -- what an assignment becomes, at each place where it may stand

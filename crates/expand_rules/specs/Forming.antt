@@ -1,9 +1,9 @@
 -- What expressions become: terms and formulas, folded, with always names put in place and quantifiers unfolded; and how
 -- large they are before folding.
-use Rattle.std.specs.Prelude.{ℕ, zero, suc, ℤ, pos, negsuc, ◌+ℤ◌, List, [], ◌∷◌, map, fold, max, Bool, true, false}
-use Rattle.std.specs.Prelude.{cond, ◌&&◌, ◌||◌, Option, Some, None, option_map}
-use Rattle.std.specs.Int.RustNames.{unsigned_abs}
-use Rattle.std.specs.Option.{option_or}
+use Rattle.std.specs.Prelude.{ℕ, zero, suc, ◌+◌, ◌*◌, ℤ, pos, negsuc, ◌+ℤ◌, List, [], ◌∷◌, map, fold, max, Bool, true}
+use Rattle.std.specs.Prelude.{false, cond, ◌&&◌, ◌||◌, Option, Some, None, option_map}
+use Rattle.std.specs.Int.RustNames.{int_le, unsigned_abs}
+use Rattle.std.specs.Option.{option_or, is_some}
 use Rattle.std.specs.Map.{lookup}
 use Rattle.std.specs.Str.{bytes_eq}
 use Rattle.case_tables.specs.declared.symbol_table.Symbol.{Symbol}
@@ -13,6 +13,7 @@ use Rattle.unity_syntax.specs.declared.name.Range.{Range}
 use Rattle.unity_syntax.specs.declared.expression.Expr.{Expr, fold-Expr}
 use Rattle.unity_syntax.specs.declared.expression.Expr.TheOpen.{Expr-F}
 use Rattle.unity_syntax.specs.declared.expression.Operator.{Operator}
+use Rattle.meaning_states.specs.Division.{divisor}
 use Rattle.meaning_documents.specs.Names.{Bindings, Variable, or_zero, slot_at}
 use Rattle.meaning_documents.specs.Value.{range_values, range_size}
 use Rattle.meaning_documents.specs.Names.{variable_named}
@@ -21,14 +22,19 @@ use Rattle.core_terms.specs.declared.trees.CTerm.TheVariants.{Const, Slot, Param
 use Rattle.core_terms.specs.declared.trees.CForm.{CForm}
 use Rattle.core_terms.specs.declared.trees.CForm.TheVariants.{Top, Bottom}
 use Rattle.core_terms.specs.Folding.{number_of, truth_of, sum_term, difference_term, scaled_term, choice_term}
+use Rattle.core_terms.specs.Folding.{quotient_term, remainder_term}
 use Rattle.core_terms.specs.Folding.{at_least_form, zero_form, not_form, and_form, or_form}
 use Rattle.expand_rules.specs.declared.cores.Core.{Core}
 use Rattle.expand_rules.specs.declared.cores.Bound.{Bound}
 use Rattle.expand_rules.specs.declared.cores.Measure.{Measure}
 use Rattle.expand_rules.specs.declared.cores.Formed.{Formed}
+use Rattle.expand_rules.specs.declared.effects.Count.{Count}
 use Rattle.expand_rules.specs.Measures.{ends_weight, leaf, sum_measure, multiple_measure, negation_measure}
 use Rattle.expand_rules.specs.Measures.{over_measure, pair_measure, choice_measure, element_measure}
-use Rattle.expand_rules.specs.Measures.{quantifier_measure, quotient_measure, is_fit_range, range_misfit}
+use Rattle.expand_rules.specs.Measures.{quantifier_measure, divided_measure, is_fit_range, range_misfit}
+use Rattle.expand_rules.specs.Measures.{divisor_flaws}
+use Rattle.expand_rules.specs.Counts.{no_count, both_counts, one_node_more, ranged_count, index_count, stray_count}
+use Rattle.expand_rules.specs.Counts.{flawed_count}
 
 -- where an expression stands: the document's variables and enumeration words, what always names have become, and what
 -- bound names and parameters stand for, the innermost first
@@ -157,17 +163,45 @@ product a b = record (cond a.constant (multiple a b) (multiple b a)) {
   exact = (a.constant || b.constant) && (a.exact && b.exact);
 }
 
--- a quotient or a remainder: a fault, and no number of it is used
-abbrev pub quotient : Formed → Formed → Formed
-quotient a b = record (both (λ x y. number_core (Const (pos 0))) quotient_measure (as_number a) (as_number b)) {
+-- a divisor: 1 where its number is less, and where a divisor in it is bad
+abbrev pub divisor_of : Formed → ℤ
+divisor_of b = cond (is_some b.measure.flaws.divisor) (pos 1) (divisor (factor_of b.core))
+
+-- the place of a divisor that is below 1; where a divisor in it is bad, that one alone is
+abbrev pub bad_divisor : ℕ → Formed → Option ℕ
+bad_divisor at b = cond (is_some b.measure.flaws.divisor || int_le (pos 1) (factor_of b.core)) None (Some at)
+
+-- a number divided by a constant one, which begins at this byte: what the operation makes, and how far from 0 that lies
+abbrev pub divided_by : (ℤ → CTerm → CTerm) → (ℕ → ℕ → ℕ) → ℕ → Formed → Formed → Formed
+divided_by op weight at a b = record {
+  core = number_core (op (divisor_of b) (term_of a.core));
+  constant = a.constant && b.constant;
   exact = b.constant && (a.exact && b.exact);
+  measure = divided_measure (weight (unsigned_abs (divisor_of b)) a.measure.own) (unsigned_abs (divisor_of b))
+      (divisor_flaws (bad_divisor at b)) a.measure b.measure;
 }
 
--- an operator of a product and its right operand, after all that stands before them
-abbrev pub factored : Formed → Operator × Formed → Formed
-factored a (Operator.Times, b) = product a b
-factored a (Operator.Div, b) = quotient a b
-factored a (Operator.Mod, b) = quotient a b
+abbrev pub divided : (ℤ → CTerm → CTerm) → (ℕ → ℕ → ℕ) → ℕ → Formed → Formed → Formed
+divided op weight at a b = divided_by op weight at (as_number a) (as_number b)
+
+-- how far from 0 a quotient and a remainder lie, by a divisor and a number that lie so far from 0
+abbrev pub quotient_weight : ℕ → ℕ → ℕ
+quotient_weight k own = max 1 own
+
+abbrev pub remainder_weight : ℕ → ℕ → ℕ
+remainder_weight k own = 2 * own + k
+
+abbrev pub quotient : ℕ → Formed → Formed → Formed
+quotient = divided quotient_term quotient_weight
+
+abbrev pub remainder : ℕ → Formed → Formed → Formed
+remainder = divided remainder_term remainder_weight
+
+-- an operator of a product and its right operand, with its first byte, after all that stands before them
+abbrev pub factored : Formed → (Operator × ℕ) × Formed → Formed
+factored a ((Operator.Times, at), b) = product a b
+factored a ((Operator.Div, at), b) = quotient at a b
+factored a ((Operator.Mod, at), b) = remainder at a b
 
 -- that a number is at least 0, and that it is 0
 abbrev pub at_least_zero : Formed → Formed
@@ -345,28 +379,116 @@ quantified bs r a = record a {
   measure = quantifier_measure (range_misfit (numbers bs) r) a.measure;
 }
 
--- what an expression becomes, at each place where it may stand
-abbrev pub Forming : Type 0
-Forming = Scope → Formed
+-- a value that is written nowhere
+
+-- a divisor in it, whose first byte this is, counts as a constant index does
+abbrev pub divisor_count : ℕ → Formed → Count
+divisor_count at b = flawed_count (divisor_flaws (bad_divisor at b))
+    (cond b.constant (index_count b.measure) (stray_count b.measure))
+
+-- so much of an operand counts
+abbrev pub operand_count : Operator → ℕ → Formed → Count → Count
+operand_count Operator.Times at b n = n
+operand_count _ at b n = divisor_count at (as_number b)
+
+-- instances together, as a quantifier over a range
+abbrev pub quantified_count : List (List ℕ × Bound) → Range → Count → Count
+quantified_count bs r n = one_node_more (ranged_count (range_misfit (numbers bs) r) n)
+
+-- expressions
+
+-- an expression: its first byte, what it becomes at each place where it may stand, and what counts of it there where it
+-- is written nowhere: each quantifier in it, and each of their instances, so that a fault is found in whichever instance
+-- it comes, and its divisors
+pub record Forming : Type 0 where
+  pub at : ℕ
+  pub made : Scope → Formed
+  pub unwritten : Scope → Count
+
+abbrev pub place_layer : Expr-F Forming → ℕ
+place_layer (Expr-F.Implies at left right) = at
+place_layer (Expr-F.And at first rest) = at
+place_layer (Expr-F.Or at first rest) = at
+place_layer (Expr-F.Not at of) = at
+place_layer (Expr-F.Compare at left relation right) = at
+place_layer (Expr-F.Sum at minus first rest) = at
+place_layer (Expr-F.Product at first rest) = at
+place_layer (Expr-F.Number at number) = at
+place_layer (Expr-F.True at) = at
+place_layer (Expr-F.False at) = at
+place_layer (Expr-F.Word at name index) = at
+place_layer (Expr-F.Brackets at of) = at
+place_layer (Expr-F.Quantified at which name range of) = at
+
+-- an operator with the first byte of its right operand, and what that becomes
+abbrev pub factor_at : Scope → Operator × Forming → (Operator × ℕ) × Formed
+factor_at s part = ((part.0, part.1.at), part.1.made s)
+
+-- what each kind of expression becomes, from its parts
+abbrev pub made_layer : Expr-F Forming → Scope → Formed
+made_layer (Expr-F.Implies at left right) s = implication (left.made s) (right.made s)
+made_layer (Expr-F.And at first rest) s = fold conjunction (as_truth (first.made s)) (map (λ m. m.made s) rest)
+made_layer (Expr-F.Or at first rest) s = fold disjunction (as_truth (first.made s)) (map (λ m. m.made s) rest)
+made_layer (Expr-F.Not at of) s = denial (of.made s)
+made_layer (Expr-F.Compare at left relation right) s = comparison relation (left.made s) (right.made s)
+made_layer (Expr-F.Sum at minus first rest) s =
+    fold plus (signed minus (first.made s)) (map (λ part. (part.0, part.1.made s)) rest)
+made_layer (Expr-F.Product at first rest) s = fold factored (first.made s) (map (factor_at s) rest)
+made_layer (Expr-F.Number at number) s = number_constant (pos number)
+made_layer (Expr-F.True at) s = truth_constant Top
+made_layer (Expr-F.False at) s = truth_constant Bottom
+made_layer (Expr-F.Word at name index) s = indexed_formed s name.text (option_map (λ m. m.made s) index)
+made_layer (Expr-F.Brackets at of) s = of.made s
+made_layer (Expr-F.Quantified at which name range of) s = quantified s.bound range
+    (gathered which (map (λ z. of.made (with_number s name.text z)) (fit_values (numbers s.bound) range)))
+
+abbrev pub operand_at : Scope → Operator × Forming → Count
+operand_at s part = operand_count part.0 part.1.at (part.1.made s) (part.1.unwritten s)
+
+-- what counts of each kind where it is written nowhere
+abbrev pub unwritten_layer : Expr-F Forming → Scope → Count
+unwritten_layer (Expr-F.Implies at left right) s = both_counts (left.unwritten s) (right.unwritten s)
+unwritten_layer (Expr-F.And at first rest) s = fold both_counts (first.unwritten s) (map (λ m. m.unwritten s) rest)
+unwritten_layer (Expr-F.Or at first rest) s = fold both_counts (first.unwritten s) (map (λ m. m.unwritten s) rest)
+unwritten_layer (Expr-F.Not at of) s = of.unwritten s
+unwritten_layer (Expr-F.Compare at left relation right) s = both_counts (left.unwritten s) (right.unwritten s)
+unwritten_layer (Expr-F.Sum at minus first rest) s =
+    fold both_counts (first.unwritten s) (map (λ (part : Symbol × Forming). part.1.unwritten s) rest)
+unwritten_layer (Expr-F.Product at first rest) s = fold both_counts (first.unwritten s) (map (operand_at s) rest)
+unwritten_layer (Expr-F.Number at number) s = no_count
+unwritten_layer (Expr-F.True at) s = no_count
+unwritten_layer (Expr-F.False at) s = no_count
+unwritten_layer (Expr-F.Word at name None) s = no_count
+unwritten_layer (Expr-F.Word at name (Some index)) s = index.unwritten s
+unwritten_layer (Expr-F.Brackets at of) s = of.unwritten s
+unwritten_layer (Expr-F.Quantified at which name range of) s = quantified_count s.bound range
+    (fold both_counts no_count (map (λ z. one_node_more (of.unwritten (with_number s name.text z)))
+    (fit_values (numbers s.bound) range)))
 
 -- each kind of expression, from its parts
 abbrev pub form_layer : Expr-F Forming → Forming
-form_layer (Expr-F.Implies at left right) s = implication (left s) (right s)
-form_layer (Expr-F.And at first rest) s = fold conjunction (as_truth (first s)) (map (λ m. m s) rest)
-form_layer (Expr-F.Or at first rest) s = fold disjunction (as_truth (first s)) (map (λ m. m s) rest)
-form_layer (Expr-F.Not at of) s = denial (of s)
-form_layer (Expr-F.Compare at left relation right) s = comparison relation (left s) (right s)
-form_layer (Expr-F.Sum at minus first rest) s =
-    fold plus (signed minus (first s)) (map (λ part. (part.0, part.1 s)) rest)
-form_layer (Expr-F.Product at first rest) s = fold factored (first s) (map (λ part. (part.0, part.1 s)) rest)
-form_layer (Expr-F.Number at number) s = number_constant (pos number)
-form_layer (Expr-F.True at) s = truth_constant Top
-form_layer (Expr-F.False at) s = truth_constant Bottom
-form_layer (Expr-F.Word at name index) s = indexed_formed s name.text (option_map (λ m. m s) index)
-form_layer (Expr-F.Brackets at of) s = of s
-form_layer (Expr-F.Quantified at which name range of) s = quantified s.bound range
-    (gathered which (map (λ z. of (with_number s name.text z)) (fit_values (numbers s.bound) range)))
+form_layer e =
+    record { at = place_layer e; made = λ s. made_layer e s; unwritten = λ s. unwritten_layer e s }
+
+abbrev pub forming : Expr → Forming
+forming = fold-Expr Forming form_layer
+
+-- the first byte of an expression
+abbrev pub first_byte : Expr → ℕ
+first_byte e = (forming e).at
 
 -- what an expression becomes
-abbrev pub formed : Expr → Forming
-formed = fold-Expr Forming form_layer
+abbrev pub formed : Expr → Scope → Formed
+formed e = (forming e).made
+
+-- what counts of it where it is written nowhere
+abbrev pub unwritten_count : Expr → Scope → Count
+unwritten_count e = (forming e).unwritten
+
+-- an operator of a product with the first byte of its right operand, and what that becomes
+abbrev pub factor_in : Scope → Operator × Expr → (Operator × ℕ) × Formed
+factor_in s p = ((p.0, first_byte p.1), formed p.1 s)
+
+-- so much of the operand counts where the product is written nowhere
+abbrev pub operand_in : Scope → Operator × Expr → Count
+operand_in s p = operand_count p.0 (first_byte p.1) (formed p.1 s) (unwritten_count p.1 s)

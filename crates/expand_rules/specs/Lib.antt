@@ -1,4 +1,5 @@
 pub mod Measures
+pub mod Counts
 pub mod Forming
 pub mod Limits
 pub mod Assigning

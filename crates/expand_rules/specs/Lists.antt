@@ -1,7 +1,8 @@
 -- Nested lists of statements: how many statements a program has, and the first fault of them. A fault counts in
 -- whichever instance it comes, so items are looked at in the order of the text, each in all the instances in which it
 -- stands.
-use Rattle.std.specs.Prelude.{ℕ, ◌+◌, List, [], ◌∷◌, map, Bool, cond, not, ◌&&◌, Option, Some, None, nat_lt, length}
+use Rattle.std.specs.Prelude.{ℕ, ◌+◌, List, [], ◌∷◌, map, Bool, cond, not, ◌&&◌, Option, Some, None, nat_le, nat_lt}
+use Rattle.std.specs.Prelude.{length}
 use Rattle.std.specs.Int.RustNames.{int_lt}
 use Rattle.std.specs.List.{flat_map, list_any}
 use Rattle.case_tables.specs.declared.code_table.Code.{Code}
@@ -15,7 +16,8 @@ use Rattle.meaning_documents.specs.Names.{Bindings}
 use Rattle.meaning_documents.specs.Value.{end_value}
 use Rattle.names_rules.specs.Reading.{Fault, earlier}
 use Rattle.expand_rules.specs.declared.effects.Effect.{Effect}
-use Rattle.expand_rules.specs.Measures.{nearer, is_fit, is_fit_range, place_of}
+use Rattle.expand_rules.specs.declared.cores.Flaws.{Flaws}
+use Rattle.expand_rules.specs.Measures.{nearer, no_flaws, both_flaws, is_fit, is_fit_range, place_of}
 use Rattle.expand_rules.specs.Forming.{Scope, fit_values}
 use Rattle.expand_rules.specs.Assigning.{effect_of, is_large_effect, among}
 
@@ -81,15 +83,26 @@ range_place r bs = nearer (empty_place r bs) (nearer (large_place r.low bs) (lar
 abbrev pub range_fault : Range → List Bindings → Option Fault
 range_fault r bs = fault_at Code.BadRange (range_place r bs)
 
--- the first place of an end that is too large, in instances of a statement
-abbrev pub first_bad_range : List Effect → Option ℕ
-first_bad_range [] = None
-first_bad_range (e ∷ es) = nearer e.count.bad_range (first_bad_range es)
+-- of two faults the one that stands first
+abbrev pub sooner : Option Fault → Option Fault → Option Fault
+sooner None g = g
+sooner (Some f) None = Some f
+sooner (Some f) (Some g) = cond (nat_le f.at g.at) (Some f) (Some g)
 
--- a statement fails at its label where an instance of it is too large, and else where an end is too large in one
+-- an end of a range that is too large, or a divisor below 1: what stands first
+abbrev pub flaws_fault : Flaws → Option Fault
+flaws_fault f = sooner (fault_at Code.BadRange f.range) (fault_at Code.BadDivisor f.divisor)
+
+-- what fails in instances of a statement
+abbrev pub all_flaws : List Effect → Flaws
+all_flaws [] = no_flaws
+all_flaws (e ∷ es) = both_flaws e.count.flaws (all_flaws es)
+
+-- a statement fails at its label where an instance of it is too large, and else where an end of a range or a divisor
+-- does in one
 abbrev pub statement_fault : Name → List Effect → Option Fault
 statement_fault label es = cond (list_any is_large_effect es) (Some (record { code = Code.TooLarge; at = label.at }))
-    (fault_at Code.BadRange (first_bad_range es))
+    (flaws_fault (all_flaws es))
 
 abbrev pub first_fault : List (Option Fault) → Option Fault
 first_fault [] = None

@@ -6,6 +6,7 @@ use Rattle.unity_syntax.specs.declared.name.End.{End}
 use Rattle.unity_syntax.specs.declared.name.Range.{Range}
 use Rattle.meaning_documents.specs.Names.{Bindings}
 use Rattle.meaning_documents.specs.Value.{end_value}
+use Rattle.expand_rules.specs.declared.cores.Flaws.{Flaws}
 use Rattle.expand_rules.specs.declared.cores.Measure.{Measure}
 
 -- sizes are counted up to one past their limit
@@ -18,13 +19,26 @@ nearer None b = b
 nearer (Some x) None = Some x
 nearer (Some x) (Some y) = Some (min x y)
 
+-- what fails in expansion: the first end of a range that is too large, and the first divisor below 1
+abbrev pub no_flaws : Flaws
+no_flaws = record { range = None; divisor = None }
+
+abbrev pub both_flaws : Flaws → Flaws → Flaws
+both_flaws a b = record { range = nearer a.range b.range; divisor = nearer a.divisor b.divisor }
+
+abbrev pub range_flaws : Option ℕ → Flaws
+range_flaws place = record { range = place; divisor = None }
+
+abbrev pub divisor_flaws : Option ℕ → Flaws
+divisor_flaws place = record { range = None; divisor = place }
+
 -- how far from 0 the numbers of a range can lie, and at least 1
 abbrev pub ends_weight : ℤ × ℤ → ℕ
 ends_weight r = max 1 (max (unsigned_abs r.0) (unsigned_abs r.1))
 
 -- one node: a number, a slot or a parameter of such a weight; a truth has none
 abbrev pub leaf : ℕ → Measure
-leaf weight = record { size = 1; quantified = 0; own = weight; most = weight; bad_range = None }
+leaf weight = record { size = 1; quantified = 0; own = weight; most = weight; flaws = no_flaws }
 
 -- a sum or a difference of two
 abbrev pub sum_measure : Measure → Measure → Measure
@@ -33,7 +47,7 @@ sum_measure a b = record {
   quantified = counted (a.quantified + b.quantified);
   own = a.own + b.own;
   most = max (a.own + b.own) (max a.most b.most);
-  bad_range = nearer a.bad_range b.bad_range;
+  flaws = both_flaws a.flaws b.flaws;
 }
 
 -- a number so many times; the factor counts too
@@ -43,12 +57,19 @@ multiple_measure k factor a = record {
   quantified = counted (factor.quantified + a.quantified);
   own = unsigned_abs k * a.own;
   most = max (unsigned_abs k * a.own) (max factor.most a.most);
-  bad_range = nearer factor.bad_range a.bad_range;
+  flaws = both_flaws factor.flaws a.flaws;
 }
 
--- a quotient or a remainder: no core is one, so that it counts as a fault at the first byte of the text
-abbrev pub quotient_measure : Measure → Measure → Measure
-quotient_measure a b = record (sum_measure a b) { bad_range = Some 0 }
+-- a quotient or a remainder that lies so far from 0, by a divisor that counts too and that lies so far from 0, with what
+-- fails of the divisor itself
+abbrev pub divided_measure : ℕ → ℕ → Flaws → Measure → Measure → Measure
+divided_measure own k flaws a b = record {
+  size = counted (1 + a.size + b.size);
+  quantified = counted (a.quantified + b.quantified);
+  own = own;
+  most = max own (max a.most (max b.most k));
+  flaws = both_flaws a.flaws (both_flaws b.flaws flaws);
+}
 
 -- a number taken from 0
 abbrev pub negation_measure : Measure → Measure
@@ -65,7 +86,7 @@ pair_measure a b = record {
   quantified = counted (a.quantified + b.quantified);
   own = 0;
   most = max a.most b.most;
-  bad_range = nearer a.bad_range b.bad_range;
+  flaws = both_flaws a.flaws b.flaws;
 }
 
 -- a truth as a number: the choice of 1 and 0
@@ -80,7 +101,7 @@ element_measure constant count ends weight index = record {
   quantified = index.quantified;
   own = weight;
   most = max (index.own + max (unsigned_abs ends.0) (unsigned_abs ends.1)) (max index.most weight);
-  bad_range = index.bad_range;
+  flaws = index.flaws;
 }
 
 -- a quantifier with its instances, and one more for itself; its instances count no less than the quantifiers in them
@@ -88,7 +109,7 @@ abbrev pub quantifier_measure : Option ℕ → Measure → Measure
 quantifier_measure fault a = record a {
   size = counted (1 + a.size);
   quantified = counted (1 + max a.size a.quantified);
-  bad_range = nearer fault a.bad_range;
+  flaws = both_flaws (range_flaws fault) a.flaws;
 }
 
 -- range ends go up to this, on both sides of 0

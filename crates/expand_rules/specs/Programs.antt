@@ -17,6 +17,7 @@ use Rattle.core_terms.specs.declared.programs.CSlot.{CSlot}
 use Rattle.core_terms.specs.declared.programs.CProgram.{CProgram}
 use Rattle.core_terms.specs.Values.{form_value}
 use Rattle.core_terms.specs.Steps.{slot_ranges as core_ranges, core_writes, core_step}
+use Rattle.expand_rules.specs.Measures.{no_flaws}
 use Rattle.expand_rules.specs.Forming.{Scope, form_of, as_truth, formed}
 use Rattle.expand_rules.specs.Assigning.{Stated, stated, statements}
 
@@ -45,16 +46,16 @@ plain_core number s name shown start initially items = record {
   statements = map (core_statement number) (statements s items);
 }
 
--- a section that is exact, and in which no range is bad
+-- a section that is exact, and in which no range and no divisor is bad
 abbrev pub InitiallyExact : Scope → Option Initially → Type 0
 InitiallyExact s None = ⊤
 InitiallyExact s (Some section) =
-    ((as_truth (formed section.of s)).exact ≡ true) × ((as_truth (formed section.of s)).measure.bad_range ≡ None)
+    ((as_truth (formed section.of s)).exact ≡ true) × ((as_truth (formed section.of s)).measure.flaws ≡ no_flaws)
 
--- statements that are exact, and in which no range is bad
+-- statements that are exact, and in which no range and no divisor is bad
 abbrev pub StatementsExact : Scope → Items → Type 0
 StatementsExact s items = (place : ℕ) (i : Instance) → slice_get (instances items) place ≡ Some i →
-    ((stated s i).effect.exact ≡ true) × ((stated s i).effect.count.bad_range ≡ None)
+    ((stated s i).effect.exact ≡ true) × ((stated s i).effect.count.flaws ≡ no_flaws)
 
 -- a core program starts and steps as the program does, at each state of the document
 pub record ExpandsTo (programs : List Program) (c : Composed) (p : CProgram) : Type 0 where

@@ -25,6 +25,15 @@ pub enum Bound {
     Param { number: u32, weight: u64 },
 }
 
+/// What fails in expansion, in any instance.
+#[derive(Clone, Copy)]
+pub struct Flaws {
+    /// The first byte at which an end of a range is too large.
+    pub range: Option<u64>,
+    /// The first byte of a divisor below 1.
+    pub divisor: Option<u64>,
+}
+
 /// How large an expression is before it is folded, with its quantifiers unfolded.
 #[derive(Clone, Copy)]
 pub struct Measure {
@@ -37,8 +46,7 @@ pub struct Measure {
     pub own: u64,
     /// The greatest such distance among it and its parts.
     pub most: u64,
-    /// The first byte at which an end of a range is too large, in any instance.
-    pub bad_range: Option<u64>,
+    pub flaws: Flaws,
 }
 
 /// What an expression becomes.
@@ -47,9 +55,9 @@ pub struct Formed {
     pub core: Core,
     /// Whether it names no variable and no parameter, also not through always names.
     pub constant: bool,
-    /// Whether the core is worth what the expression is: each product has at most one factor that is
-    /// not constant, and each word in a range end stands for one number. So it is where names have no
-    /// fault.
+    /// Whether the core is worth what the expression is, where nothing fails: each product has at most one
+    /// factor that is not constant, each divisor is constant, and each word in a range end stands for one
+    /// number. So it is where names have no fault.
     pub exact: bool,
     pub measure: Measure,
 }

@@ -1,3 +1,4 @@
+use crate::cores::Flaws;
 use core_terms::{CForm, CWrite};
 use unity_base::Seq;
 
@@ -9,8 +10,7 @@ pub struct Count {
     pub size: u64,
     /// The greatest weight of a part of it.
     pub most: u64,
-    /// The first byte at which an end of a range is too large, in any instance.
-    pub bad_range: Option<u64>,
+    pub flaws: Flaws,
 }
 
 /// What an assignment becomes.

@@ -4,6 +4,8 @@
 
 mod cores;
 mod effects;
+mod flaws;
 
-pub use cores::{Bound, Core, Formed, Measure};
+pub use cores::{Bound, Core, Flaws, Formed, Measure};
 pub use effects::{Count, Effect};
+pub use flaws::nearer;

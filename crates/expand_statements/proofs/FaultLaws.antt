@@ -1,5 +1,5 @@
 -- The fault of a statement, from one instance to the next, and faults in a row.
-use Rattle.std.proofs.Common.{◌≡◌, ℕ, zero, suc, ◌+◌, ◌<◌, ◌≤◌, min, ℤ, List, [], ◌∷◌, map, drop, get_or, length}
+use Rattle.std.proofs.Common.{◌≡◌, ℕ, zero, suc, ◌+◌, ◌<◌, ◌≤◌, ℤ, List, [], ◌∷◌, map, drop, get_or, length}
 use Rattle.std.proofs.Common.{true, false, cond, ◌||◌, Option, Some, None, Result, Ok, Err, refl, sym, ap, ◌∙◌}
 use Rattle.std.proofs.Common.{arith}
 use Rattle.std.proofs.Math.Seq.{drop-cons}
@@ -14,55 +14,47 @@ use Rattle.names_rules.specs.declared.named.NameFault.{NameFault}
 use Rattle.names_rules.specs.Reading.{Fault, earlier}
 use Rattle.names_rules.specs.Answers.{Demands}
 use Rattle.expand_rules.specs.declared.effects.Effect.{Effect}
-use Rattle.expand_rules.specs.Measures.{nearer}
+use Rattle.expand_rules.specs.declared.cores.Flaws.{Flaws}
+use Rattle.expand_rules.specs.Measures.{both_flaws}
 use Rattle.expand_rules.specs.Assigning.{is_large_effect}
-use Rattle.expand_rules.specs.Lists.{fault_at, first_bad_range, statement_fault}
+use Rattle.expand_rules.specs.Lists.{flaws_fault, all_flaws, statement_fault}
+use Rattle.expand_rules.proofs.FlawLaws.{flaws_assoc}
 
--- the fault of a statement of which some instances were seen already, with this place of a bad range
-abbrev pub fault_from : Name → Option ℕ → List Effect → Option Fault
-fault_from label place es = cond (list_any is_large_effect es) (Some (record { code = Code.TooLarge; at = label.at }))
-    (fault_at Code.BadRange (nearer place (first_bad_range es)))
+-- the fault of a statement of which some instances were seen already, in which this failed
+abbrev pub fault_from : Name → Flaws → List Effect → Option Fault
+fault_from label before es = cond (list_any is_large_effect es) (Some (record { code = Code.TooLarge; at = label.at }))
+    (flaws_fault (both_flaws before (all_flaws es)))
 
-nearer_assoc : (a b c : Option ℕ) → nearer (nearer a b) c ≡ nearer a (nearer b c)
-nearer_assoc None b c = refl
-nearer_assoc (Some x) None c = refl
-nearer_assoc (Some x) (Some y) None = refl
-nearer_assoc (Some x) (Some y) (Some z) = let e : min (min x y) z ≡ min x (min y z) = omega arith in ap Some e
-
-nearer_none : (a : Option ℕ) → nearer a None ≡ a
-nearer_none None = refl
-nearer_none (Some x) = refl
-
-from_next : (label : Name) (place : Option ℕ) (e : Effect) (es : List Effect) → is_large_effect e ≡ false →
-    fault_from label place (e ∷ es) ≡ fault_from label (nearer place e.count.bad_range) es
-from_next label place e es h =
+from_next : (label : Name) (before : Flaws) (e : Effect) (es : List Effect) → is_large_effect e ≡ false →
+    fault_from label before (e ∷ es) ≡ fault_from label (both_flaws before e.count.flaws) es
+from_next label before e es h =
     ap (λ b. cond (b || list_any is_large_effect es) (Some (record { code = Code.TooLarge; at = label.at }))
-    (fault_at Code.BadRange (nearer place (nearer e.count.bad_range (first_bad_range es))))) h
+    (flaws_fault (both_flaws before (both_flaws e.count.flaws (all_flaws es))))) h
     ∙ ap (λ p. cond (list_any is_large_effect es) (Some (record { code = Code.TooLarge; at = label.at }))
-    (fault_at Code.BadRange p)) (sym (nearer_assoc place e.count.bad_range (first_bad_range es)))
+    (flaws_fault p)) (flaws_assoc before e.count.flaws (all_flaws es))
 
 -- the fault of what is left of a list, from one item to the next
-pub fault_next : {X : Type 0} (f : X → Effect) (label : Name) (xs : List X) (i : ℕ) (d : X) (place found : Option ℕ)
-    (whole : Option Fault) → i < length xs → d ≡ get_or xs i d → whole ≡ fault_from label place (map f (drop i xs)) →
-    is_large_effect (f d) ≡ false → found ≡ (f d).count.bad_range →
-    whole ≡ fault_from label (nearer place found) (map f (drop (i + 1) xs))
-fault_next f label xs i d place found whole h e w l p =
+pub fault_next : {X : Type 0} (f : X → Effect) (label : Name) (xs : List X) (i : ℕ) (d : X) (before found : Flaws)
+    (whole : Option Fault) → i < length xs → d ≡ get_or xs i d → whole ≡ fault_from label before (map f (drop i xs)) →
+    is_large_effect (f d) ≡ false → found ≡ (f d).count.flaws →
+    whole ≡ fault_from label (both_flaws before found) (map f (drop (i + 1) xs))
+fault_next f label xs i d before found whole h e w l p =
     let next : suc i ≡ i + 1 = omega arith in
-    w ∙ ap (λ ys. fault_from label place (map f ys)) (drop-cons xs i d h)
-    ∙ ap (λ y. fault_from label place (f y ∷ map f (drop (suc i) xs))) (sym e)
-    ∙ from_next label place (f d) (map f (drop (suc i) xs)) l
-    ∙ ap (λ q. fault_from label (nearer place q) (map f (drop (suc i) xs))) (sym p)
-    ∙ ap (λ j. fault_from label (nearer place found) (map f (drop j xs))) next
+    w ∙ ap (λ ys. fault_from label before (map f ys)) (drop-cons xs i d h)
+    ∙ ap (λ y. fault_from label before (f y ∷ map f (drop (suc i) xs))) (sym e)
+    ∙ from_next label before (f d) (map f (drop (suc i) xs)) l
+    ∙ ap (λ q. fault_from label (both_flaws before q) (map f (drop (suc i) xs))) (sym p)
+    ∙ ap (λ j. fault_from label (both_flaws before found) (map f (drop j xs))) next
 
-pub fault_large : {X : Type 0} (f : X → Effect) (label : Name) (xs : List X) (i : ℕ) (d : X) (place : Option ℕ)
-    (whole : Option Fault) → i < length xs → d ≡ get_or xs i d → whole ≡ fault_from label place (map f (drop i xs)) →
+pub fault_large : {X : Type 0} (f : X → Effect) (label : Name) (xs : List X) (i : ℕ) (d : X) (before : Flaws)
+    (whole : Option Fault) → i < length xs → d ≡ get_or xs i d → whole ≡ fault_from label before (map f (drop i xs)) →
     is_large_effect (f d) ≡ true → whole ≡ Some (record { code = Code.TooLarge; at = label.at })
-fault_large f label xs i d place whole h e w l =
-    w ∙ ap (λ ys. fault_from label place (map f ys)) (drop-cons xs i d h)
-    ∙ ap (λ y. fault_from label place (f y ∷ map f (drop (suc i) xs))) (sym e)
+fault_large f label xs i d before whole h e w l =
+    w ∙ ap (λ ys. fault_from label before (map f ys)) (drop-cons xs i d h)
+    ∙ ap (λ y. fault_from label before (f y ∷ map f (drop (suc i) xs))) (sym e)
     ∙ ap (λ b. cond (b || list_any is_large_effect (map f (drop (suc i) xs)))
     (Some (record { code = Code.TooLarge; at = label.at }))
-    (fault_at Code.BadRange (nearer place (first_bad_range (f d ∷ map f (drop (suc i) xs)))))) l
+    (flaws_fault (both_flaws before (all_flaws (f d ∷ map f (drop (suc i) xs)))))) l
 
 none_left : {X : Type 0} (xs : List X) (i : ℕ) → length xs ≤ i → drop i xs ≡ []
 none_left [] zero h = refl

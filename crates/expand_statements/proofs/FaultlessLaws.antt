@@ -17,12 +17,13 @@ use Rattle.meaning_documents.specs.Instances.{Instance, Unfolding, item_layer, i
 use Rattle.meaning_documents.specs.Instances.{instances}
 use Rattle.names_rules.specs.Reading.{Fault, earlier}
 use Rattle.expand_rules.specs.declared.effects.Effect.{Effect}
-use Rattle.expand_rules.specs.Measures.{nearer, is_fit, place_of}
+use Rattle.expand_rules.specs.Measures.{nearer, no_flaws, is_fit, place_of}
 use Rattle.expand_rules.specs.Forming.{Scope, fit_values}
 use Rattle.expand_rules.specs.Assigning.{among, effect_of, is_large_effect, stated}
 use Rattle.expand_rules.specs.Lists.{Failing, fault_layer, faults_layer, item_fault, items_fault, inside}
 use Rattle.expand_rules.specs.Lists.{fault_at, place_where, empty_place, large_place, range_place, range_fault}
-use Rattle.expand_rules.specs.Lists.{first_bad_range, first_fault, statement_fault}
+use Rattle.expand_rules.specs.Lists.{flaws_fault, all_flaws, first_fault, statement_fault}
+use Rattle.expand_rules.proofs.FlawLaws.{nearer_first, nearer_second, flaws_first, flaws_second, flawless}
 use Rattle.expand_statements.specs.Building.{instance_of, fit_layer, fit_item, fit_items}
 use Rattle.expand_statements.specs.ItemLaws.{FitIsAll, FaultlessInstances}
 
@@ -68,16 +69,6 @@ second_none (Some x) g h = let e : Some x ≡ None = h in cc
 no_place : (code : Code) (place : Option ℕ) → fault_at code place ≡ None → place ≡ None
 no_place code None h = refl
 no_place code (Some at) h = cc
-
-nearer_first : (a b : Option ℕ) → nearer a b ≡ None → a ≡ None
-nearer_first None b h = refl
-nearer_first (Some x) None h = h
-nearer_first (Some x) (Some y) h = cc
-
-nearer_second : (a b : Option ℕ) → nearer a b ≡ None → b ≡ None
-nearer_second None b h = h
-nearer_second (Some x) None h = refl
-nearer_second (Some x) (Some y) h = cc
 
 nowhere : (b : Bool) (at : ℕ) → place_where b at ≡ None → b ≡ false
 nowhere false at h = refl
@@ -139,24 +130,24 @@ ranges_whole r bs h =
 -- effects
 
 abbrev IsGood : Effect → Type 0
-IsGood e = (is_large_effect e ≡ false) × (e.count.bad_range ≡ None)
+IsGood e = (is_large_effect e ≡ false) × (e.count.flaws ≡ no_flaws)
 
-all_good : (es : List Effect) → list_any is_large_effect es ≡ false → first_bad_range es ≡ None → Each IsGood es
+all_good : (es : List Effect) → list_any is_large_effect es ≡ false → all_flaws es ≡ no_flaws → Each IsGood es
 all_good [] l p = tt
 all_good (e ∷ es) l p =
     let large = list_any is_large_effect es in
-    let place = first_bad_range es in (
-      (or_first (is_large_effect e) large l, nearer_first e.count.bad_range place p),
-      all_good es (or_second (is_large_effect e) large l) (nearer_second e.count.bad_range place p),
+    let rest = all_flaws es in (
+      (or_first (is_large_effect e) large l, flaws_first e.count.flaws rest p),
+      all_good es (or_second (is_large_effect e) large l) (flaws_second e.count.flaws rest p),
     )
 
 effects_good : (label : Name) (es : List Effect) → statement_fault label es ≡ None → Each IsGood es
 effects_good label es h =
     let large = list_any is_large_effect es in
     let fault : Fault = record { code = Code.TooLarge; at = label.at } in
-    let place = fault_at Code.BadRange (first_bad_range es) in
+    let place = flaws_fault (all_flaws es) in
     all_good es (chosen_false large fault place h)
-    (no_place Code.BadRange (first_bad_range es) (chosen_none large fault place h))
+    (flawless (all_flaws es) (chosen_none large fault place h))
 
 -- instances
 

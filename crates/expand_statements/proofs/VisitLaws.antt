@@ -12,7 +12,7 @@ use Rattle.expand_assignments.proofs.EffectLaws.{tells, shows}
 use Rattle.expand_statements.specs.Chains.{BoundNames, bound_inside}
 use Rattle.expand_expressions.specs.declared.refusal.Refusal.{Refusal}
 use Rattle.expand_assignments.specs.Adding.{Halts}
-use Rattle.expand_statements.specs.Visiting.{bounds_inside, GivesPlace}
+use Rattle.expand_statements.specs.Visiting.{bounds_inside, GivesFlaws}
 use denote.Bor.{Bor}
 
 abbrev pub numbered : List ℕ × ℤ → List ℕ × Bound
@@ -67,19 +67,19 @@ same_large e = by (is_large_effect (beside nothing e)) (is_large_effect e) (larg
 
 -- the answers of an instance, by the effect that was put beside none
 
-pub place_halts : (r : Refusal) (old made e : Effect) → old ≡ nothing → made ≡ e → Halts r old made → GivesPlace
+pub flaws_halt : (r : Refusal) (old made e : Effect) → old ≡ nothing → made ≡ e → Halts r old made → GivesFlaws
     (Err r) e
-place_halts Refusal.Memory old made e o m h = tt
-place_halts Refusal.TooLarge old made e o m h =
+flaws_halt Refusal.Memory old made e o m h = tt
+flaws_halt Refusal.TooLarge old made e o m h =
     sym (same_large e) ∙ ap (λ x. is_large_effect (beside nothing x)) (sym m)
     ∙ ap (λ x. is_large_effect (beside x made)) (sym o) ∙ h
 
-pub place_large : (old new made e : Effect) (b : Bool) → old ≡ nothing → made ≡ e → new ≡ beside old made →
+pub flaws_large : (old new made e : Effect) (b : Bool) → old ≡ nothing → made ≡ e → new ≡ beside old made →
     b ≡ is_large_effect new → b ≡ is_large_effect e
-place_large old new made e b o m n h =
+flaws_large old new made e b o m n h =
     h ∙ ap is_large_effect (n ∙ ap (λ x. beside x made) o ∙ ap (beside nothing) m) ∙ same_large e
 
-pub place_found : (old new made e : Effect) → old ≡ nothing → made ≡ e → new ≡ beside old made →
-    new.count.bad_range ≡ e.count.bad_range
-place_found old new made e o m n =
-    ap (λ (x : Effect). x.count.bad_range) (n ∙ ap (λ x. beside x made) o ∙ ap (beside nothing) m)
+pub flaws_found : (old new made e : Effect) → old ≡ nothing → made ≡ e → new ≡ beside old made →
+    new.count.flaws ≡ e.count.flaws
+flaws_found old new made e o m n =
+    ap (λ (x : Effect). x.count.flaws) (n ∙ ap (λ x. beside x made) o ∙ ap (beside nothing) m)

@@ -7,38 +7,38 @@ ghost use Rattle.expand_rules.specs.Lists as lists;
 ghost use Rattle.expand_expressions.specs.Places.{IsReady};
 ghost use Rattle.expand_statements.specs.Chains.{bound_inside};
 ghost use Rattle.expand_statements.specs.Standing.{standing_in};
-ghost use Rattle.expand_statements.specs.Visiting.{GivesBadRange, scope_among};
+ghost use Rattle.expand_statements.specs.Visiting.{GivesFault, scope_among};
 
 use crate::chains::Chain;
 use crate::places::check_range;
-use crate::visiting::instance_place;
+use crate::visiting::instance_flaws;
 use case_tables::Code;
-use expand_assignments::nearer;
 use expand_counting::all_instances;
 use expand_expressions::{Known, Refusal};
+use expand_rules::Flaws;
 use names_rules::NameFault;
 use std::alloc::Global;
 use unity_base::Seq;
 use unity_syntax::{Assign, Item, Items, Name};
 
-// The first place of an end that is too large, in these instances.
+// What fails in these instances.
 #[tactic(auto, using(crate::proofs::FaultLaws::fault_next, crate::proofs::FaultLaws::fault_large))]
-fn first_place(
+fn all_flaws(
     alloc: Global,
     label: &Name,
     a: &Assign,
     names: &[&Name],
     list: &[Seq<i64>],
     known: &Known,
-) -> Result<Option<u64>, NameFault>
+) -> Result<Flaws, NameFault>
     requires { IsReady known.now }
-    ensures { GivesBadRange result (lists.statement_fault label.now (map (λ vs. effect_of a.now
+    ensures { GivesFault result (lists.statement_fault label.now (map (λ vs. effect_of a.now
         (among (scope_among known.now []) (bound_inside [] (map (λ n. n.now.text) names.now) vs))) list.now)) }
 {
-    let mut place = None;
+    let mut flaws = Flaws::none();
     for values in list {
-        match instance_place(alloc, names, values.as_slice(), a, known) {
-            Ok(found) => place = nearer(place, found),
+        match instance_flaws(alloc, names, values.as_slice(), a, known) {
+            Ok(found) => flaws = flaws.and(found),
             Err(Refusal::TooLarge) => {
                 return Err(NameFault::Fault {
                     code: Code::TooLarge,
@@ -48,7 +48,7 @@ fn first_place(
             Err(Refusal::Memory) => return Err(NameFault::Memory),
         }
     }
-    Ok(place)
+    Ok(flaws)
 }
 
 fn check_statement(
@@ -63,20 +63,15 @@ fn check_statement(
         (map (λ b. effect_of a.now (among (scope_among known.now []) b)) (standing_in chain.now))) }
 {
     let list = all_instances(alloc, chain.ranges.as_slice())?;
-    match first_place(
+    let flaws = all_flaws(
         alloc,
         label,
         a,
         chain.names.as_slice(),
         list.as_slice(),
         known,
-    )? {
-        None => Ok(()),
-        Some(at) => Err(NameFault::Fault {
-            code: Code::BadRange,
-            at,
-        }),
-    }
+    )?;
+    flaws.check()
 }
 
 #[cycle(check)]
@@ -149,9 +144,9 @@ fn check_further<'a>(
 
 /// The first fault of a program's statements, in the order of the text. It is `BadRange` at the range of a list that is
 /// empty in an instance, or at an end of it that is too large in one; `TooLarge` at the label of a statement that is
-/// too large in an instance; and `BadRange` at an end of a range inside a statement that is too large in one. `Memory`
-/// says that memory was refused. There is a turn for each instance of a statement, so it is first to be seen that they
-/// are not too many.
+/// too large in an instance; and, at what of these stands first in a statement, `BadRange` at an end of a range inside
+/// it that is too large in one, and `BadDivisor` at a divisor that is below 1 in one. `Memory` says that memory was
+/// refused. There is a turn for each instance of a statement, so it is first to be seen that they are not too many.
 pub fn check_items(alloc: Global, items: &Items, known: &Known) -> Result<(), NameFault>
     requires { IsReady known.now }
     ensures { Demands result (lists.items_fault (scope_among known.now []) items.now ([] ∷ [])) }

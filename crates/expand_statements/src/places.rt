@@ -3,13 +3,14 @@
 ghost use Rattle.std.specs.Prelude.{◌≡◌, IfOk};
 ghost use Rattle.case_tables.specs.declared.code_table.Code.{Code};
 ghost use Rattle.names_rules.specs.Answers.{Demands};
-ghost use Rattle.expand_rules.specs.Measures.{nearer, place_of};
+ghost use Rattle.expand_rules.specs.Measures.{place_of};
 ghost use Rattle.expand_rules.specs.Lists.{empty_place, fault_at, large_place, place_where, range_fault, range_place};
 ghost use Rattle.expand_statements.specs.Standing.{standing_in};
 
 use crate::chains::{Chain, nest_end, nest_range};
 use case_tables::Code;
 use expand_counting::{is_ever_empty, is_ever_large};
+use expand_rules::nearer;
 use names_rules::NameFault;
 use std::alloc::{AllocError, Global};
 use unity_syntax::{End, Range};
@@ -35,16 +36,6 @@ fn place_where(there: bool, at: u64) -> Option<u64>
     ensures { result ≡ place_where there at }
 {
     if there { Some(at) } else { None }
-}
-
-fn nearer(first: Option<u64>, second: Option<u64>) -> Option<u64>
-    ensures { result ≡ nearer first second }
-{
-    match (first, second) {
-        (Some(a), Some(b)) => Some(a.min(b)),
-        (Some(a), None) => Some(a),
-        (None, other) => other,
-    }
 }
 
 fn empty_place(alloc: Global, range: &Range, chain: &Chain) -> Result<Option<u64>, AllocError>

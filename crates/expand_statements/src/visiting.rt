@@ -6,11 +6,11 @@ ghost use Rattle.expand_rules.specs.Assigning.{among, effect_of};
 ghost use Rattle.expand_expressions.specs.Places.{IsReady, bound_names};
 ghost use Rattle.expand_assignments.specs.Adding.{Adds};
 ghost use Rattle.expand_statements.specs.Chains.{bound_inside};
-ghost use Rattle.expand_statements.specs.Visiting.{GivesPlace, bounds_inside, scope_among};
+ghost use Rattle.expand_statements.specs.Visiting.{GivesFlaws, bounds_inside, scope_among};
 
 use expand_assignments::{effect_in, is_large};
 use expand_expressions::{Env, Known, Refusal, outside, with_bound};
-use expand_rules::{Bound, Count, Effect};
+use expand_rules::{Bound, Count, Effect, Flaws};
 use std::alloc::Global;
 use unity_base::Seq;
 use unity_syntax::{Assign, Name};
@@ -26,7 +26,7 @@ pub fn nothing(alloc: Global) -> Effect
         count: Count {
             size: 0,
             most: 0,
-            bad_range: None,
+            flaws: Flaws::none(),
         },
     }
 }
@@ -62,17 +62,16 @@ fn effect_at(
     }
 }
 
-/// The place of an end of a range that is too large, in an instance of an assignment. `TooLarge` exactly where the
-/// instance is too large.
-pub fn instance_place(
+/// What fails in an instance of an assignment. `TooLarge` exactly where the instance is too large.
+pub fn instance_flaws(
     alloc: Global,
     names: &[&Name],
     values: &[i64],
     a: &Assign,
     known: &Known,
-) -> Result<Option<u64>, Refusal>
+) -> Result<Flaws, Refusal>
     requires { IsReady known.now }
-    ensures { GivesPlace result (effect_of a.now (among (scope_among known.now [])
+    ensures { GivesFlaws result (effect_of a.now (among (scope_among known.now [])
         (bound_inside [] (map (λ n. n.now.text) names.now) values.now))) }
 {
     let mut effect = nothing(alloc);
@@ -80,6 +79,6 @@ pub fn instance_place(
     if is_large(&effect.count) {
         Err(Refusal::TooLarge)
     } else {
-        Ok(effect.count.bad_range)
+        Ok(effect.count.flaws)
     }
 }

@@ -1,6 +1,6 @@
 -- What each kind of term becomes, one equation for each; and formulas one after the other.
-use Rattle.std.proofs.Common.{◌≡◌, ℕ, List, [], ◌∷◌, ◌++◌, Bool, true, false, Option, Some, None, Result, Ok, Err}
-use Rattle.std.proofs.Common.{refl, sym, ap, ◌∙◌, min, arith}
+use Rattle.std.proofs.Common.{◌≡◌, ℕ, List, [], ◌∷◌, ◌++◌, Bool, true, false, Result, Ok, Err}
+use Rattle.std.proofs.Common.{refl, sym, ap, ◌∙◌}
 use Rattle.std.specs.Prelude.{◌||◌}
 use Rattle.std.proofs.lemmas.List.Folds.{list_any-append}
 use Rattle.case_tables.specs.declared.word_table.Word.{Word}
@@ -11,9 +11,11 @@ use Rattle.unity_syntax.specs.declared.term.Term.TheVariants.{rolls-Pair}
 use Rattle.core_terms.specs.declared.documents.PTerm.{PTerm}
 use Rattle.names_rules.specs.declared.named.NameFault.{NameFault}
 use Rattle.expand_rules.specs.declared.cores.Formed.{Formed}
-use Rattle.expand_rules.specs.Measures.{nearer}
+use Rattle.expand_rules.specs.declared.cores.Flaws.{Flaws}
+use Rattle.expand_rules.specs.Measures.{both_flaws}
 use Rattle.expand_rules.specs.Limits.{is_too_large}
-use Rattle.expand_steps.specs.Elements.{nearest, some_too_large, StopsLarge, GivesOne}
+use Rattle.expand_rules.proofs.FlawLaws.{flaws_assoc}
+use Rattle.expand_steps.specs.Elements.{flaws_in, some_too_large, StopsLarge, GivesOne}
 use Rattle.expand_steps.specs.ProofTerms.{Place, Terming, Termed, Terms, term_layer, termed}
 
 pub termed-Pair : (at : ℕ) (which : Word) (first second : Term) (c : Place) (next : ℕ) →
@@ -23,32 +25,19 @@ termed-Pair at which first second c next =
     ap (λ x. termed x c next) (sym (rolls-Pair at which first second)) ∙
     ap (λ m. m c next) (fold-roll-Term Terming term_layer (Term-F.Pair at which first second))
 
-pub nearer-none : (a : Option ℕ) → nearer a None ≡ a
-nearer-none None = refl
-nearer-none (Some x) = refl
-
-min_assoc : (x y z : ℕ) → min x (min y z) ≡ min (min x y) z
-min_assoc x y z = omega arith
-
-pub nearer-assoc : (a b c : Option ℕ) → nearer a (nearer b c) ≡ nearer (nearer a b) c
-nearer-assoc None b c = refl
-nearer-assoc (Some x) None c = refl
-nearer-assoc (Some x) (Some y) None = refl
-nearer-assoc (Some x) (Some y) (Some z) = ap (λ n. Some n) (min_assoc x y z)
-
-pub nearest-append : (fs gs : List Formed) → nearest (fs ++ gs) ≡ nearer (nearest fs) (nearest gs)
-nearest-append [] gs = refl
-nearest-append (f ∷ fs) gs = ap (nearer f.measure.bad_range) (nearest-append fs gs)
-    ∙ nearer-assoc f.measure.bad_range (nearest fs) (nearest gs)
+pub flaws-append : (fs gs : List Formed) → flaws_in (fs ++ gs) ≡ both_flaws (flaws_in fs) (flaws_in gs)
+flaws-append [] gs = refl
+flaws-append (f ∷ fs) gs = ap (both_flaws f.measure.flaws) (flaws-append fs gs)
+    ∙ flaws_assoc f.measure.flaws (flaws_in fs) (flaws_in gs)
 
 pub large-append : (fs gs : List Formed) → some_too_large (fs ++ gs) ≡ (some_too_large fs || some_too_large gs)
 large-append fs gs = list_any-append is_too_large fs gs
 
 -- formulas, and further ones
-pub noted_both : (old middle new : Option ℕ) (fs gs : List Formed) → middle ≡ nearer old (nearest fs) →
-    new ≡ nearer middle (nearest gs) → new ≡ nearer old (nearest (fs ++ gs))
-noted_both old middle new fs gs m n = n ∙ ap (λ x. nearer x (nearest gs)) m
-    ∙ sym (nearer-assoc old (nearest fs) (nearest gs)) ∙ ap (nearer old) (sym (nearest-append fs gs))
+pub noted_both : (old middle new : Flaws) (fs gs : List Formed) → middle ≡ both_flaws old (flaws_in fs) →
+    new ≡ both_flaws middle (flaws_in gs) → new ≡ both_flaws old (flaws_in (fs ++ gs))
+noted_both old middle new fs gs m n = n ∙ ap (λ x. both_flaws x (flaws_in gs)) m
+    ∙ sym (flaws_assoc old (flaws_in fs) (flaws_in gs)) ∙ ap (both_flaws old) (sym (flaws-append fs gs))
 
 or_none : (a b : Bool) → a ≡ false → b ≡ false → (a || b) ≡ false
 or_none true b h k = h
@@ -79,8 +68,8 @@ stops_later (NameFault.Fault code at) front fs gs s =
     (s.0, s.1, large-append fs gs ∙ or_second (some_too_large fs) (some_too_large gs) s.2)
 
 -- a term whose formulas follow these
-pub terms_after : (r : Result PTerm NameFault) (next front : ℕ) (old middle new : Option ℕ) (fs : List Formed)
-    (t : Termed) → middle ≡ nearer old (nearest fs) → some_too_large fs ≡ false →
+pub terms_after : (r : Result PTerm NameFault) (next front : ℕ) (old middle new : Flaws) (fs : List Formed)
+    (t : Termed) → middle ≡ both_flaws old (flaws_in fs) → some_too_large fs ≡ false →
     Terms r next front middle new t → Terms r next front old new (record t { formulas = fs ++ t.formulas })
 terms_after (Ok core) next front old middle new fs t m h given = (
   record {
@@ -93,8 +82,8 @@ terms_after (Ok core) next front old middle new fs t m h given = (
 terms_after (Err e) next front old middle new fs t m h stops = stops_later e front fs t.formulas stops
 
 -- what is made after other formulas
-pub expands_after : {X : Type 0} (r : Result X NameFault) (core : X) (front : ℕ) (old middle new : Option ℕ)
-    (fs gs : List Formed) → middle ≡ nearer old (nearest fs) → some_too_large fs ≡ false →
+pub expands_after : {X : Type 0} (r : Result X NameFault) (core : X) (front : ℕ) (old middle new : Flaws)
+    (fs gs : List Formed) → middle ≡ both_flaws old (flaws_in fs) → some_too_large fs ≡ false →
     GivesOne r core front middle new gs → GivesOne r core front old new (fs ++ gs)
 expands_after (Ok x) core front old middle new fs gs m h given = record {
   same = given.same;

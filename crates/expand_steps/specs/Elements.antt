@@ -1,6 +1,6 @@
 -- What is expanded together, as the formulas of a step: its first fault, and what a call answers.
 use Rattle.std.specs.Prelude.{◌≡◌, ℕ, ◌^◌, ◌≤◌, nat_le, not, ◌||◌, List, [], ◌∷◌, Bool, true, false, cond, Option}
-use Rattle.std.specs.Prelude.{Some, None, Result, Ok, Err}
+use Rattle.std.specs.Prelude.{Some, Result, Ok, Err}
 use Rattle.std.specs.List.{list_any}
 use Rattle.case_tables.specs.declared.code_table.Code.{Code}
 use Rattle.core_terms.specs.declared.trees.CTerm.{CTerm}
@@ -10,7 +10,9 @@ use Rattle.names_rules.specs.declared.named.NameFault.{NameFault}
 use Rattle.names_rules.specs.Reading.{Fault}
 use Rattle.expand_rules.specs.declared.cores.Formed.{Formed}
 use Rattle.expand_rules.specs.Forming.{Scope, formed, as_truth, as_number, form_of, term_of}
-use Rattle.expand_rules.specs.Measures.{nearer}
+use Rattle.expand_rules.specs.declared.cores.Flaws.{Flaws}
+use Rattle.expand_rules.specs.Measures.{no_flaws, both_flaws}
+use Rattle.expand_rules.specs.Lists.{flaws_fault}
 use Rattle.expand_rules.specs.Limits.{is_past_by, is_past, is_too_large}
 use Rattle.expand_rules.specs.declared.cores.Measure.{Measure}
 use Rattle.expand_expressions.specs.declared.refusal.Refusal.{Refusal}
@@ -29,35 +31,31 @@ form_in s e = form_of (truth_in s e).core
 abbrev pub term_in : Scope → Expr → CTerm
 term_in s e = term_of (number_in s e).core
 
--- the nearest place at which an end of a range is too large
-abbrev pub nearest : List Formed → Option ℕ
-nearest [] = None
-nearest (f ∷ fs) = nearer f.measure.bad_range (nearest fs)
+-- what fails in them
+abbrev pub flaws_in : List Formed → Flaws
+flaws_in [] = no_flaws
+flaws_in (f ∷ fs) = both_flaws f.measure.flaws (flaws_in fs)
 
 abbrev pub some_too_large : List Formed → Bool
 some_too_large fs = list_any is_too_large fs
 
-abbrev pub bad_range : Option ℕ → Option Fault
-bad_range None = None
-bad_range (Some at) = Some (record { code = Code.BadRange; at = at })
-
--- where one is too large, that is the fault, at the front of all; else the nearest end that is too large
+-- where one is too large, that is the fault, at the front of all; else what stands first of what fails
 abbrev pub element_fault : ℕ → List Formed → Option Fault
 element_fault front fs =
-    cond (some_too_large fs) (Some (record { code = Code.TooLarge; at = front })) (bad_range (nearest fs))
+    cond (some_too_large fs) (Some (record { code = Code.TooLarge; at = front })) (flaws_fault (flaws_in fs))
 
 -- a call stops where something is too large; want of memory says nothing
 abbrev pub StopsLarge : NameFault → ℕ → Bool → Type 0
 StopsLarge NameFault.Memory front large = Unit {0}
 StopsLarge (NameFault.Fault code at) front large = (code ≡ Code.TooLarge) × (at ≡ front) × (large ≡ true)
 
--- a call that gives this, where nothing is too large, and notes the nearest end that is
-pub record Given {X : Type 0} (x core : X) (old new : Option ℕ) (fs : List Formed) : Type 0 where
+-- a call that gives this, where nothing is too large, and notes what fails
+pub record Given {X : Type 0} (x core : X) (old new : Flaws) (fs : List Formed) : Type 0 where
   pub same : x ≡ core
-  pub noted : new ≡ nearer old (nearest fs)
+  pub noted : new ≡ both_flaws old (flaws_in fs)
   pub fits : some_too_large fs ≡ false
 
-abbrev pub GivesOne : {X : Type 0} → Result X NameFault → X → ℕ → Option ℕ → Option ℕ → List Formed → Type 0
+abbrev pub GivesOne : {X : Type 0} → Result X NameFault → X → ℕ → Flaws → Flaws → List Formed → Type 0
 GivesOne (Ok x) core front old new fs = Given x core old new fs
 GivesOne (Err e) core front old new fs = StopsLarge e front (some_too_large fs)
 
@@ -76,7 +74,7 @@ abbrev pub Forms : Result Formed NameFault → Formed → ℕ → Type 0
 Forms (Ok f) g front = (f ≡ g) × IsSound f × (f.measure.most ≤ 2 ^ 62)
 Forms (Err e) g front = StopsLarge e front (is_past g)
 
--- a call that notes the nearest end that is too large
-abbrev pub NotesEnd : Result (Unit {0}) NameFault → Bool → Measure → ℕ → Option ℕ → Option ℕ → Type 0
-NotesEnd (Ok t) constant m front old new = (is_large constant m ≡ false) × (new ≡ nearer old m.bad_range)
-NotesEnd (Err e) constant m front old new = (e ≡ NameFault.Fault Code.TooLarge front) × (is_large constant m ≡ true)
+-- a call that notes what fails
+abbrev pub NotesFlaws : Result (Unit {0}) NameFault → Bool → Measure → ℕ → Flaws → Flaws → Type 0
+NotesFlaws (Ok t) constant m front old new = (is_large constant m ≡ false) × (new ≡ both_flaws old m.flaws)
+NotesFlaws (Err e) constant m front old new = (e ≡ NameFault.Fault Code.TooLarge front) × (is_large constant m ≡ true)

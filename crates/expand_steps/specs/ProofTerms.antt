@@ -1,5 +1,5 @@
 -- Proof terms in core form.
-use Rattle.std.specs.Prelude.{◌≡◌, ℕ, ◌+◌, ℤ, List, [], ◌∷◌, ◌++◌, Option, Result, Ok, Err}
+use Rattle.std.specs.Prelude.{◌≡◌, ℕ, ◌+◌, ℤ, List, [], ◌∷◌, ◌++◌, Result, Ok, Err}
 use Rattle.case_tables.specs.declared.word_table.Word.{Word}
 use Rattle.unity_syntax.specs.declared.name.Range.{Range as TextRange}
 use Rattle.unity_syntax.specs.declared.term.Ref.{Ref as TextRef}
@@ -17,6 +17,7 @@ use Rattle.names_rules.specs.Scope.{Bounds, Params, bounds, entries}
 use Rattle.expand_expressions.specs.declared.places.Env.{Env as BoundEnv}
 use Rattle.expand_expressions.specs.Places.{scope}
 use Rattle.expand_rules.specs.declared.cores.Bound.{Bound}
+use Rattle.expand_rules.specs.declared.cores.Flaws.{Flaws}
 use Rattle.expand_rules.specs.declared.cores.Formed.{Formed}
 use Rattle.expand_rules.specs.Forming.{Scope}
 use Rattle.expand_rules.specs.Measures.{ends_weight}
@@ -130,6 +131,6 @@ place here names env = record {
 }
 
 -- a call that gives a term, and leaves the number after those of the names that it binds
-abbrev pub Terms : Result PTerm NameFault → ℕ → ℕ → Option ℕ → Option ℕ → Termed → Type 0
+abbrev pub Terms : Result PTerm NameFault → ℕ → ℕ → Flaws → Flaws → Termed → Type 0
 Terms (Ok core) next front old new t = Given core t.core old new t.formulas × (next ≡ t.next)
 Terms (Err e) next front old new t = StopsLarge e front (some_too_large t.formulas)

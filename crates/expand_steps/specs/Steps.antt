@@ -1,5 +1,5 @@
 -- Steps and proofs in core form.
-use Rattle.std.specs.Prelude.{◌≡◌, ℕ, List, [], ◌∷◌, ◌++◌, map, fold, length, Option, Some, None, Result, Ok, Err}
+use Rattle.std.specs.Prelude.{◌≡◌, ℕ, List, [], ◌∷◌, ◌++◌, map, fold, length, Option, None, Result, Ok, Err}
 use Rattle.std.specs.Str.{bytes_eq}
 use Rattle.indexmap.specs.IndexMap.{insert_entry}
 use Rattle.unity_syntax.specs.declared.proof.Param.{Param}
@@ -12,7 +12,6 @@ use Rattle.core_terms.specs.declared.trees.CForm.TheVariants.{Top, Bottom}
 use Rattle.core_terms.specs.declared.documents.CRule.{CRule}
 use Rattle.core_terms.specs.declared.documents.CStep.{CStep}
 use Rattle.core_terms.specs.declared.documents.CProof.{CProof}
-use Rattle.case_tables.specs.declared.code_table.Code.{Code}
 use Rattle.case_tables.specs.declared.word_table.Word.{Word}
 use Rattle.unity_syntax.specs.declared.term.Ref.{Ref as TextRef}
 use Rattle.unity_syntax.specs.declared.term.Term.{Term}
@@ -184,11 +183,6 @@ outer_scope known = record {
   always = entries known.always.now;
   bound = [];
 }
-
--- a step, unless an end of a range is too large
-abbrev pub GivesStep : Result CStep NameFault → CStep → Option ℕ → Type 0
-GivesStep result step None = result ≡ Ok step
-GivesStep result step (Some at) = result ≡ Err (NameFault.Fault Code.BadRange at)
 
 -- a call that gives this, or stops at the first fault
 abbrev pub Yields : {X : Type 0} → Result X NameFault → X → Option Fault → Type 0

@@ -2,17 +2,16 @@
 
 ghost use Rattle.std.specs.Prelude.{◌≡◌, ◌∷◌, [], ◌^◌, ◌≤◌, IfOk};
 ghost use Rattle.expand_rules.specs.Forming.{as_number, as_truth, form_of, formed, term_of};
-ghost use Rattle.expand_rules.specs.Measures.{nearer};
 ghost use Rattle.expand_expressions.specs.Places.{IsReady, scope};
 ghost use Rattle.expand_expressions.specs.Sound.{IsSound, of_number, of_truth};
-ghost use Rattle.expand_steps.specs.Elements.{GivesOne, Forms, NotesEnd, form_in, is_large, number_in, refused};
+ghost use Rattle.expand_steps.specs.Elements.{GivesOne, Forms, NotesFlaws, form_in, is_large, number_in, refused};
 ghost use Rattle.expand_steps.specs.Elements.{term_in};
 ghost use Rattle.expand_steps.specs.Elements.{truth_in};
 
 use case_tables::Code;
 use core_terms::{CForm, CTerm, owned_form, owned_term};
 use expand_expressions::{Env, Known, NumberCore, Refusal, TruthCore, form, number, truth};
-use expand_rules::{Formed, Measure};
+use expand_rules::{Flaws, Formed, Measure};
 use names_rules::NameFault;
 use std::alloc::{AllocError, Global};
 use unity_syntax::Expr;
@@ -26,17 +25,6 @@ pub fn is_too_large(constant: bool, m: Measure) -> bool
         || m.quantified > 65_536
         || (!constant && m.size > 65_536)
         || m.size > 65_536
-}
-
-// The lesser of two places, where there is any.
-fn nearer(a: Option<u64>, b: Option<u64>) -> Option<u64>
-    ensures { result ≡ nearer a b }
-{
-    match (a, b) {
-        (None, b) => b,
-        (Some(x), None) => Some(x),
-        (Some(x), Some(y)) => Some(x.min(y)),
-    }
 }
 
 fn refused(refusal: Refusal, front: u64) -> NameFault
@@ -68,9 +56,9 @@ pub fn formed(
     }
 }
 
-// NotesEnd the nearest end of a range that is too large, of what has this measure.
-fn note(constant: bool, m: Measure, front: u64, bad: &mut Option<u64>) -> Result<(), NameFault>
-    ensures { NotesEnd result constant m front bad.old bad.new }
+// Notes what fails of what has this measure.
+fn note(constant: bool, m: Measure, front: u64, bad: &mut Flaws) -> Result<(), NameFault>
+    ensures { NotesFlaws result constant m front bad.old bad.new }
 {
     if is_too_large(constant, m) {
         return Err(NameFault::Fault {
@@ -78,16 +66,11 @@ fn note(constant: bool, m: Measure, front: u64, bad: &mut Option<u64>) -> Result
             at: front,
         });
     }
-    *bad = nearer(*bad, m.bad_range);
+    *bad = bad.and(m.flaws);
     Ok(())
 }
 
-fn settled_truth(
-    alloc: Global,
-    f: Formed,
-    front: u64,
-    bad: &mut Option<u64>,
-) -> Result<CForm, NameFault>
+fn settled_truth(alloc: Global, f: Formed, front: u64, bad: &mut Flaws) -> Result<CForm, NameFault>
     requires sound { IsSound f }
     requires light { f.measure.most ≤ 2 ^ 62 }
     ensures { GivesOne result (form_of (as_truth f).core) front bad.old bad.new (as_truth f ∷ []) }
@@ -110,12 +93,7 @@ fn form_of(alloc: Global, t: TruthCore) -> Result<CForm, AllocError>
     owned_form(alloc, form)
 }
 
-fn settled_number(
-    alloc: Global,
-    f: Formed,
-    front: u64,
-    bad: &mut Option<u64>,
-) -> Result<CTerm, NameFault>
+fn settled_number(alloc: Global, f: Formed, front: u64, bad: &mut Flaws) -> Result<CTerm, NameFault>
     requires { IsSound f }
     ensures { GivesOne result (term_of (as_number f).core) front bad.old bad.new (as_number f ∷ []) }
 {
@@ -138,14 +116,14 @@ fn term_of(alloc: Global, n: NumberCore) -> Result<CTerm, AllocError>
 }
 
 /// A formula in core form. `Fault` exactly where it is too large, at the front of what it is a part of.
-/// The nearest end of a range that is too large is noted.
+/// What fails is noted.
 pub fn formula(
     alloc: Global,
     e: &Expr,
     known: &Known,
     env: &Env,
     front: u64,
-    bad: &mut Option<u64>,
+    bad: &mut Flaws,
 ) -> Result<CForm, NameFault>
     requires { IsReady known.now }
     ensures { GivesOne result (form_in (scope known.now env.now) e.now) front bad.old bad.new
@@ -162,7 +140,7 @@ pub fn metric(
     known: &Known,
     env: &Env,
     front: u64,
-    bad: &mut Option<u64>,
+    bad: &mut Flaws,
 ) -> Result<CTerm, NameFault>
     requires { IsReady known.now }
     ensures { GivesOne result (term_in (scope known.now env.now) e.now) front bad.old bad.new

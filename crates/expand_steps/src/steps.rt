@@ -6,18 +6,20 @@ ghost use Rattle.names_rules.specs.Scope.{bounds, entries};
 ghost use Rattle.names_rules.specs.Declarations.{some_of};
 ghost use Rattle.expand_expressions.specs.Places.{IsReady, scope};
 ghost use Rattle.expand_declarations.specs.References.{core_ref, step_params};
+ghost use Rattle.expand_rules.specs.Lists.{flaws_fault};
 ghost use Rattle.expand_steps.specs.Elements.{GivesOne, element_fault, form_in, truth_in};
 ghost use Rattle.expand_steps.specs.ProofTerms.{place};
 ghost use Rattle.expand_steps.specs.Steps as spec;
 
 use crate::formulas::formula;
 use crate::terms::{Here, imply, param_bound, ref_in, term};
-use case_tables::{Code, Word};
+use case_tables::Word;
 use core_terms::{CForm, CProof, CRule, CStep};
 use expand_declarations::{
     WordTable, claim_kind, core_refs, pair_rule, param_names, param_ranges, step_params, text_rule,
 };
 use expand_expressions::{Env as BoundEnv, Known, ParamBounds, among_params};
+use expand_rules::Flaws;
 use indexmap::IndexMap;
 use names_rules::{Env, NameFault, ParamTable, outside};
 use std::alloc::{AllocError, Global};
@@ -87,7 +89,7 @@ fn invariant(
     of: &Expr,
     here: &Here,
     env: &BoundEnv,
-    bad: &mut Option<u64>,
+    bad: &mut Flaws,
 ) -> Result<(CForm, CForm), NameFault>
     requires { IsReady here.now.known.now }
     ensures { GivesOne result (form_in (scope here.now.known.now env.now) of.now, Bottom) here.now.front bad.old bad.new
@@ -102,7 +104,7 @@ fn claim(
     c: &Claim,
     here: &Here,
     env: &BoundEnv,
-    bad: &mut Option<u64>,
+    bad: &mut Flaws,
 ) -> Result<(CForm, CForm), NameFault>
     requires { IsReady here.now.known.now }
     ensures { GivesOne result (spec.claim_pair (scope here.now.known.now env.now) c.now) here.now.front bad.old bad.new
@@ -178,7 +180,7 @@ fn proof_term(
     here: &Here,
     names: &Env,
     env: &BoundEnv,
-    bad: &mut Option<u64>,
+    bad: &mut Flaws,
 ) -> Result<CRule, NameFault>
     requires { IsReady here.now.known.now }
     ensures { GivesOne result (CRule.Proof (spec.step_term here.now names.now env.now t.now).core) here.now.front
@@ -195,7 +197,7 @@ fn rule(
     here: &Here,
     names: &Env,
     env: &BoundEnv,
-    bad: &mut Option<u64>,
+    bad: &mut Flaws,
 ) -> Result<CRule, NameFault>
     requires { IsReady here.now.known.now }
     ensures { GivesOne result (spec.core_rule (place here.now names.now env.now) r.now) here.now.front
@@ -259,7 +261,7 @@ fn ruled_step(
     here: &Here,
     names: &Env,
     env: &BoundEnv,
-    bad: &mut Option<u64>,
+    bad: &mut Flaws,
 ) -> Result<CStep, NameFault>
     requires { IsReady here.now.known.now }
     ensures { GivesOne result (spec.step_with here.now names.now s.now pair
@@ -277,7 +279,7 @@ fn placed_step(
     here: &Here,
     names: &Env,
     env: &BoundEnv,
-    bad: &mut Option<u64>,
+    bad: &mut Flaws,
 ) -> Result<CStep, NameFault>
     requires { IsReady here.now.known.now }
     ensures { GivesOne result (spec.step_core (place here.now names.now env.now) s.now) here.now.front bad.old bad.new
@@ -287,17 +289,12 @@ fn placed_step(
     ruled_step(alloc, s, pair, here, names, env, bad)
 }
 
-// A step in which no end of a range is too large.
-fn settled(step: CStep, bad: Option<u64>) -> Result<CStep, NameFault>
-    ensures { spec.GivesStep result step bad }
+// A step in which nothing fails.
+fn settled(step: CStep, bad: Flaws) -> Result<CStep, NameFault>
+    ensures { spec.Yields result step (flaws_fault bad) }
 {
-    match bad {
-        None => Ok(step),
-        Some(at) => Err(NameFault::Fault {
-            code: Code::BadRange,
-            at,
-        }),
-    }
+    bad.check()?;
+    Ok(step)
 }
 
 fn among(
@@ -311,7 +308,7 @@ fn among(
     ensures { spec.Yields result (spec.step_core (place here.now names.now env.now) s.now)
         (element_fault here.now.front (spec.step_formulas (place here.now names.now env.now) s.now)) }
 {
-    let mut bad = None;
+    let mut bad = Flaws::none();
     let step = placed_step(alloc, s, here, names, env, &mut bad)?;
     settled(step, bad)
 }
@@ -342,7 +339,7 @@ fn step_in(
 }
 
 /// A step in core form, in a proof of the program `owner`. `Fault` exactly where one of its formulas is too
-/// large, at the name of the step, or else an end of a range in one is, at the nearest such end.
+/// large, at the name of the step, or else an end of a range or a divisor in one is bad, at the first such place.
 pub fn core_step(
     alloc: Global,
     s: &Step,

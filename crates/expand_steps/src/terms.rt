@@ -2,7 +2,7 @@
 
 ghost use Rattle.std.specs.Prelude.{◌≡◌, ◌∷◌, ◌+◌, [], IfOk, MatchResult};
 ghost use Rattle.names_rules.specs.Scope.{bounds, entries};
-ghost use Rattle.expand_expressions.specs.Places.{IsReady, scope, bound_names};
+ghost use Rattle.expand_expressions.specs.Places.{IsReady, scope};
 ghost use Rattle.expand_steps.specs.Elements.{GivesOne, form_in, number_in, term_in, truth_in};
 ghost use Rattle.expand_rules.specs.Measures.{ends_weight};
 ghost use Rattle.expand_declarations.specs.Numbers.{core_range};
@@ -15,7 +15,7 @@ use case_tables::Word;
 use core_terms::{CForm, CTerm, PTerm, Range, Ref};
 use expand_declarations::{WordTable, core_ref, fixed_range};
 use expand_expressions::{Env as BoundEnv, Known, with_bound};
-use expand_rules::Bound;
+use expand_rules::{Bound, Flaws};
 use names_rules::{Env, Meaning, NameFault, ParamTable, with_name};
 use std::alloc::{AllocError, Global};
 use unity_base::Held;
@@ -43,7 +43,7 @@ pub fn imply(
     q: &Expr,
     here: &Here,
     env: &BoundEnv,
-    bad: &mut Option<u64>,
+    bad: &mut Flaws,
 ) -> Result<(CForm, CForm), NameFault>
     requires { IsReady here.now.known.now }
     ensures { GivesOne result
@@ -114,7 +114,7 @@ fn imply_term(
     q: &Expr,
     here: &Here,
     env: &BoundEnv,
-    bad: &mut Option<u64>,
+    bad: &mut Flaws,
 ) -> Result<Held<PTerm>, NameFault>
     requires { IsReady here.now.known.now }
     ensures { GivesOne result
@@ -184,7 +184,7 @@ fn inductive_parts(
     q: &Expr,
     here: &Here,
     env: &BoundEnv,
-    bad: &mut Option<u64>,
+    bad: &mut Flaws,
 ) -> Result<Induction, NameFault>
     requires { IsReady here.now.known.now }
     ensures { GivesOne result (record {
@@ -224,7 +224,7 @@ fn induct_term(alloc: Global, shape: Induction, of: Held<PTerm>) -> Result<Held<
 }
 
 /// A term in core form, whose bound names are numbered from `next` on. `Fault` exactly where one of its
-/// formulas is too large, at the name of the step. The nearest end of a range that is too large is noted.
+/// formulas is too large, at the name of the step. What fails is noted.
 #[cycle(term)]
 pub fn term(
     alloc: Global,
@@ -233,7 +233,7 @@ pub fn term(
     names: &Env,
     env: &BoundEnv,
     next: &mut u32,
-    bad: &mut Option<u64>,
+    bad: &mut Flaws,
 ) -> Result<Held<PTerm>, NameFault>
     requires { IsReady here.now.known.now }
     ensures { spec.Terms result next.new here.now.front bad.old bad.new
@@ -294,7 +294,7 @@ fn second_term(
     names: &Env,
     env: &BoundEnv,
     next: &mut u32,
-    bad: &mut Option<u64>,
+    bad: &mut Flaws,
 ) -> Result<Held<PTerm>, NameFault>
     requires { IsReady here.now.known.now }
     ensures { spec.Terms result next.new here.now.front bad.old bad.new
@@ -314,7 +314,7 @@ fn weaken(
     names: &Env,
     env: &BoundEnv,
     next: &mut u32,
-    bad: &mut Option<u64>,
+    bad: &mut Flaws,
 ) -> Result<Held<PTerm>, NameFault>
     requires { IsReady here.now.known.now }
     ensures { spec.Terms result next.new here.now.front bad.old bad.new
@@ -335,7 +335,7 @@ fn weaken_by(
     names: &Env,
     env: &BoundEnv,
     next: &mut u32,
-    bad: &mut Option<u64>,
+    bad: &mut Flaws,
 ) -> Result<Held<PTerm>, NameFault>
     requires { IsReady here.now.known.now }
     ensures { spec.Terms result next.new here.now.front bad.old bad.new
@@ -359,7 +359,7 @@ fn induct(
     names: &Env,
     env: &BoundEnv,
     next: &mut u32,
-    bad: &mut Option<u64>,
+    bad: &mut Flaws,
 ) -> Result<Held<PTerm>, NameFault>
     requires { IsReady here.now.known.now }
     ensures { spec.Terms result next.new here.now.front bad.old bad.new
@@ -383,7 +383,7 @@ fn induct_by(
     names: &Env,
     env: &BoundEnv,
     next: &mut u32,
-    bad: &mut Option<u64>,
+    bad: &mut Flaws,
 ) -> Result<Held<PTerm>, NameFault>
     requires { IsReady here.now.known.now }
     ensures { spec.Terms result next.new here.now.front bad.old bad.new
@@ -417,7 +417,7 @@ fn inside(
     names: &Env,
     env: &BoundEnv,
     next: &mut u32,
-    bad: &mut Option<u64>,
+    bad: &mut Flaws,
 ) -> Result<Held<PTerm>, NameFault>
     requires { IsReady here.now.known.now }
     ensures { spec.Terms result next.new here.now.front bad.old bad.new

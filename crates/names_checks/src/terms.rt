@@ -6,7 +6,7 @@ ghost use Rattle.names_rules.specs.Scope.{bounds, entries, scope};
 ghost use Rattle.names_rules.specs.Reading.{beside, binding, filled};
 ghost use Rattle.names_rules.specs.Proofs.{boolean, number, term_part};
 ghost use Rattle.names_rules.specs.Answers.{Leaves, Notes};
-ghost use Rattle.names_checks.specs.Counts.{CountsOn};
+ghost use Rattle.names_checks.specs.Counts.{CountsOn, BindsInside};
 
 use crate::ranges::filled_range;
 use crate::refs::reference;
@@ -43,6 +43,23 @@ pub fn bind_param(
 {
     bind(name, Meaning::Param(number), known, env, table)?;
     filled_range(range, &outside(), table)
+}
+
+/// The bound names inside a term that binds one: it is the parameter of the next number.
+fn inside<'a>(
+    name: &'a Name,
+    range: &Range,
+    known: &Known,
+    env: &'a Env<'a>,
+    next: &mut u64,
+    table: &mut Table,
+) -> Result<Env<'a>, NameFault>
+    ensures { BindsInside result table.old table.new next.old next.new name.now (bounds env.now)
+        (beside (binding (scope known.now env.now) name.now (Meaning.Param next.old)) (filled [] range.now)) }
+{
+    let number = fresh(next)?;
+    bind_param(name, number, range, known, env, table)?;
+    Ok(with_name(name, Meaning::Param(number), env))
 }
 
 /// Two formulas.
@@ -92,12 +109,7 @@ pub fn term(
     match t {
         Term::Imply { at: _, p, q } => formulas(p, q, known, env, table),
         Term::From { at: _, of } => reference(of, programs, known, env, table),
-        Term::Pair {
-            at: _,
-            which: _,
-            first,
-            second,
-        } => {
+        Term::Pair { first, second, .. } => {
             term(first.get(), programs, known, env, next, table)?;
             term(second.get(), programs, known, env, next, table)
         }
@@ -107,9 +119,7 @@ pub fn term(
             range,
             of,
         } => {
-            let number = fresh(next)?;
-            bind_param(name, number, range, known, env, table)?;
-            let inner = with_name(&*name, Meaning::Param(number), &*env);
+            let inner = inside(&*name, range, known, &*env, next, table)?;
             term(of.get(), programs, known, &inner, next, table)
         }
         Term::Induct {
@@ -121,10 +131,8 @@ pub fn term(
             q,
             of,
         } => {
-            let number = fresh(next)?;
-            bind_param(name, number, range, known, env, table)?;
+            let inner = inside(&*name, range, known, &*env, next, table)?;
             measured(measure, p, q, known, env, table)?;
-            let inner = with_name(&*name, Meaning::Param(number), &*env);
             term(of.get(), programs, known, &inner, next, table)
         }
         Term::Psp { at: _, of, by } => {

@@ -1,8 +1,9 @@
-//! Laws of well-named documents, on which expansion stands.
+//! Laws of well-named documents, on which those of expansion stand.
 //!
 //! What names mean, and which documents are well named, is defined in `names_rules`. Here stands what
 //! this says of expressions and assignments, which a linear term can then say exactly; and that the words
-//! of such a document are those of what it means, as `meaning_documents` defines it.
+//! of such a document are those of what it means, as `meaning_documents` defines it: its variables with
+//! their slots, what each word stays in the rest of the document, and its always names.
 //!
 //! These functions do nothing: each states laws.
 #![tactic(auto)]
@@ -16,9 +17,10 @@ ghost use Rattle.names_laws.specs.StayingLaws.{StaysInDocuments, StaysInVariable
 ghost use Rattle.names_laws.specs.AssignmentLaws.{ExactAssignments};
 ghost use Rattle.names_laws.specs.AlwaysLaws.{DefinedIsAlways};
 
-/// An expression without a fault, among words of which no array is constant, is exact: each product has at
-/// most one factor that is not constant, and each word in a range end is a bound name. It names no
-/// variable and no parameter where its reading says that it is constant, and only there.
+/// An expression without a fault, among words of which no array is constant, is exact: each `*` has a
+/// constant on one of its two sides, each `div` and `mod` on the right one, and each word in a range end is
+/// a bound name. It names no variable and no parameter where its reading says that it is constant, and only
+/// there.
 pub fn attribute_laws()
     ensures exact { ExactWhereFaultless }
     ensures constant { ConstantAsRead }

@@ -54,8 +54,7 @@ fn document_with(
 }
 
 /// The core form of a well-named document. `Fault` exactly at the first fault of its expansion: what is too
-/// large in it, or an end of a range. An error `Memory` says that memory was refused; it comes too where a quotient or
-/// a remainder would have to be formed, since no core is one.
+/// large in it, an end of a range, or a divisor below 1. An error `Memory` says that memory was refused.
 ///
 /// The caller hands in what the words of the document mean, which it has from finding the document well named.
 /// It is not read: under a quantifier or an always name that is put in place one word means another thing in

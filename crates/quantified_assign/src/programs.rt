@@ -39,7 +39,7 @@ pub struct Sections<'p> {
     pub items: &'p Items,
 }
 
-// A formula that stands by itself, unless it is too large, or else an end of a range in it is.
+// A formula that stands by itself, unless it is too large, or else an end of a range or a divisor in it is bad.
 fn settled(alloc: Global, t: TruthCore, front: u64) -> Result<CForm, NameFault>
     requires { spec.IsSettled t }
     ensures { spec.SettlesForm result t front }
@@ -50,13 +50,8 @@ fn settled(alloc: Global, t: TruthCore, front: u64) -> Result<CForm, NameFault>
             at: front,
         });
     }
-    match t.measure.bad_range {
-        Some(at) => Err(NameFault::Fault {
-            code: Code::BadRange,
-            at,
-        }),
-        None => Ok(owned_form(alloc, t.form)?),
-    }
+    t.measure.flaws.check()?;
+    Ok(owned_form(alloc, t.form)?)
 }
 
 // The formula of a section.

@@ -3,7 +3,6 @@ use Rattle.std.proofs.Common.{◌≡◌, ℕ, suc, ◌+◌, ◌-◌, ◌<◌, �
 use Rattle.std.proofs.Common.{cond, Option, None, refl, ap, arith, All, get_or, unsigned_abs}
 use Rattle.std.specs.Prelude.{ℤ, pos, ⊤}
 use Rattle.std.specs.List.{flat_map}
-use Rattle.std.specs.Map.{lookup}
 use Rattle.std.specs.Str.{bytes_eq}
 use Rattle.std.proofs.lemmas.Int.{ints}
 use Rattle.std.proofs.lemmas.List.Elements.{All-nil, All-cons, All-head, All-tail, All-append, All-map, All-weaker}
@@ -19,24 +18,19 @@ use Rattle.meaning_documents.specs.Names.{Variable}
 use Rattle.meaning_documents.specs.Setting.{element_type, type_indices, plain_range, with_declaration, declarations}
 use Rattle.core_terms.specs.declared.programs.CSlot.{CSlot}
 use Rattle.core_terms.specs.Conditions.{IsRange, IsSlot, PrintFits, IsWord, PrintWords}
-use Rattle.case_tables.specs.declared.code_table.Code.{Code}
 use Rattle.names_rules.specs.Scope.{Table}
-use Rattle.names_rules.specs.Reading.{earlier, unless, filled}
-use Rattle.names_rules.specs.Part.{run}
-use Rattle.names_rules.specs.Declarations.{items_of, some_of, program_scope, plain_part, type_part, may_declare}
-use Rattle.names_rules.specs.Declarations.{agrees, variable_named, variable_part, always_part, with_named, declared}
-use Rattle.names_rules.specs.WellNamed.{Declared, IsWellNamed, nothing_declared, new_program, declarations_part}
-use Rattle.names_rules.specs.WellNamed.{program_body, program_part, part_of, schedule_reading}
-use Rattle.names_rules.proofs.Faults.{earlier_first, earlier_second}
+use Rattle.names_rules.specs.Reading.{filled}
+use Rattle.names_rules.specs.Declarations.{items_of, plain_part, type_part}
+use Rattle.names_rules.proofs.Faults.{earlier_second}
 use Rattle.expand_declarations.specs.Texts.{Texts, plain_texts, var_texts, program_texts, part_texts, proof_texts}
 use Rattle.expand_declarations.specs.Texts.{items_texts, schedule_texts, document_texts}
 use Rattle.expand_declarations.specs.WordNumbers.{document_words, with_texts, word_number}
 use Rattle.expand_declarations.specs.Numbers.{core_range}
 use Rattle.expand_declarations.specs.Slots.{part_declarations, declared_by, slot_at, index_values, slots_of, print_of}
-use Rattle.expand_declarations.specs.Slots.{is_known, new_slots, AreNearEnds, HasNearIndices}
+use Rattle.expand_declarations.specs.Slots.{is_known, new_slots}
 use Rattle.expand_declarations.specs.Shown.{is_slot_of, declared_names, places_from, shown_slots}
 use Rattle.expand_correct.specs.Declared.WordLaws.{is_among}
-use Rattle.expand_correct.specs.Declared.SlotLaws.{SlotsAreSound, IndicesAreNear, SlotsHaveWords, ShownExist, ShownRise}
+use Rattle.expand_correct.specs.Declared.SlotLaws.{SlotsAreSound, SlotsHaveWords, ShownExist, ShownRise}
 use Rattle.expand_correct.proofs.Declared.Lists.{Pairs, each_pair, IsPart, part_left, part_cons, part_trans}
 use Rattle.expand_declarations.proofs.NearIndices.{all_flat_map}
 use Rattle.expand_correct.proofs.Declared.Lists.{each_part, length_mapped}

@@ -1,5 +1,5 @@
 -- Formulas of claims in core form are true where those of the document are.
-use Rattle.std.proofs.Common.{◌≡◌, ℕ, zero, suc, ℤ, List, [], ◌∷◌, ◌++◌, true, Option, Some, None, refl, sym, ap}
+use Rattle.std.proofs.Common.{◌≡◌, ℕ, zero, suc, ℤ, List, [], ◌∷◌, ◌++◌, true, Some, None, refl, sym, ap}
 use Rattle.std.proofs.Common.{◌∙◌, subst, slice_get}
 use Rattle.unity_syntax.specs.declared.expression.Expr.{Expr}
 use Rattle.unity_syntax.specs.declared.proof.Claim.{Claim}
@@ -17,9 +17,10 @@ use Rattle.core_terms.specs.Values.{form_value}
 use Rattle.expand_declarations.specs.Texts.{Texts}
 use Rattle.expand_declarations.specs.WordNumbers.{document_words}
 use Rattle.expand_declarations.specs.Slots.{document_slots}
+use Rattle.expand_rules.specs.Measures.{no_flaws}
+use Rattle.expand_rules.proofs.FlawLaws.{flaws_first, flaws_second}
 use Rattle.expand_rules.specs.declared.cores.Bound.{Bound}
 use Rattle.expand_rules.specs.declared.cores.Formed.{Formed}
-use Rattle.expand_rules.specs.Measures.{nearer}
 use Rattle.expand_rules.specs.Forming.{Scope, formed, as_truth, form_of}
 use Rattle.expand_correct.specs.Values.Worth.{values_of}
 use Rattle.expand_rules.specs.Documents.{scope_of, within}
@@ -30,7 +31,7 @@ use Rattle.expand_correct.proofs.Values.SameSight.{formed_by_sight}
 use Rattle.expand_correct.specs.Exact.Parts.{EachItem}
 use Rattle.expand_correct.specs.Exact.Formulas.{IsExactFormula}
 use Rattle.expand_correct.proofs.Exact.Formulas.{formulas_seen}
-use Rattle.expand_steps.specs.Elements.{truth_in, form_in, nearest}
+use Rattle.expand_steps.specs.Elements.{truth_in, form_in, flaws_in}
 use Rattle.expand_steps.specs.Steps.{param_bounds, step_place, claim_p, claim_q, claim_formulas, rule_formulas}
 use Rattle.expand_steps.specs.Steps.{step_formulas, step_fault, steps_fault, proof_fault}
 use Rattle.expand_documents.specs.Cores.{document_scope}
@@ -38,17 +39,12 @@ use Rattle.expand_documents.specs.Faults.{body_fault, with_part, bodies_fault}
 use Rattle.expand_correct.specs.Preserved.Claims.{SameTruth, ClaimSays, ClaimsByBounds}
 use Rattle.expand_correct.proofs.Preserved.Sights.{sees_alike, sees_alike_among}
 use Rattle.expand_correct.proofs.Preserved.Faultless.{bodies_faultless}
-use Rattle.expand_correct.proofs.Preserved.ExactPrograms.{none_near, nearer_first}
+use Rattle.expand_correct.proofs.Preserved.ExactPrograms.{none_fails}
 
-pub nearer_second : (x y : Option ℕ) → nearer x y ≡ None → y ≡ None
-nearer_second None y h = h
-nearer_second (Some m) None h = refl
-nearer_second (Some m) (Some n) h = cc h
-
--- a formula that is exact, and in which no end of a range is too large
+-- a formula that is exact, and in which nothing fails
 pub formula_says : (d : Document) (bs : List (List ℕ × Bound)) (zs : List ℤ) (e : Expr) →
     (truth_in (within (document_scope d.parts) bs) e).exact ≡ true →
-    (truth_in (within (document_scope d.parts) bs) e).measure.bad_range ≡ None →
+    (truth_in (within (document_scope d.parts) bs) e).measure.flaws ≡ no_flaws →
     SameTruth d (values_of zs bs) zs (form_in (within (document_scope d.parts) bs) e) e
 formula_says d bs zs e x n state h =
     let s = within (document_scope d.parts) bs in
@@ -60,33 +56,33 @@ formula_says d bs zs e x n state h =
     ∙ value-form_of state zs (as_truth (formed e t)).core
     ∙ ap holds ((formed_as_truth state zs (formed e t) (value e u)
     (formed_law state zs e t u (sees_within state zs ps bs (are_bits ps state h)))).value
-    (sym (ap (λ f. (as_truth f).exact) same) ∙ x) (sym (ap (λ f. (as_truth f).measure.bad_range) same) ∙ n))
+    (sym (ap (λ f. (as_truth f).exact) same) ∙ x) (sym (ap (λ f. (as_truth f).measure.flaws) same) ∙ n))
     ∙ holds_truth (holds (value e u))
 
 claim_says : (d : Document) (bs : List (List ℕ × Bound)) (zs : List ℤ) (more : List Formed) (claim : Claim) →
     EachItem IsExactFormula (claim_formulas (within (document_scope d.parts) bs) claim ++ more) →
-    nearest (claim_formulas (within (document_scope d.parts) bs) claim ++ more) ≡ None →
+    flaws_in (claim_formulas (within (document_scope d.parts) bs) claim ++ more) ≡ no_flaws →
     ClaimSays d (values_of zs bs) zs (claim_p (within (document_scope d.parts) bs) claim)
     (claim_q (within (document_scope d.parts) bs) claim) claim
 claim_says d bs zs more (Claim.Defined at) x n = tt
 claim_says d bs zs more (Claim.Invariant at of) x n =
     let f = truth_in (within (document_scope d.parts) bs) of in
-    formula_says d bs zs of (x 0 f refl) (nearer_first f.measure.bad_range (nearest more) n)
+    formula_says d bs zs of (x 0 f refl) (flaws_first f.measure.flaws (flaws_in more) n)
 claim_says d bs zs more (Claim.Stable at of) x n =
     let f = truth_in (within (document_scope d.parts) bs) of in
-    formula_says d bs zs of (x 0 f refl) (nearer_first f.measure.bad_range (nearest more) n)
+    formula_says d bs zs of (x 0 f refl) (flaws_first f.measure.flaws (flaws_in more) n)
 claim_says d bs zs more (Claim.Constant at of) x n =
     let f = truth_in (within (document_scope d.parts) bs) of in
-    formula_says d bs zs of (x 0 f refl) (nearer_first f.measure.bad_range (nearest more) n)
+    formula_says d bs zs of (x 0 f refl) (flaws_first f.measure.flaws (flaws_in more) n)
 claim_says d bs zs more (Claim.Fixed at of) x n =
     let f = truth_in (within (document_scope d.parts) bs) of in
-    formula_says d bs zs of (x 0 f refl) (nearer_first f.measure.bad_range (nearest more) n)
+    formula_says d bs zs of (x 0 f refl) (flaws_first f.measure.flaws (flaws_in more) n)
 claim_says d bs zs more (Claim.Between at p which q) x n =
     let f = truth_in (within (document_scope d.parts) bs) p in
     let g = truth_in (within (document_scope d.parts) bs) q in (
-      formula_says d bs zs p (x 0 f refl) (nearer_first f.measure.bad_range (nearest (g ∷ more)) n),
-      formula_says d bs zs q (x 1 g refl) (nearer_first g.measure.bad_range (nearest more)
-          (nearer_second f.measure.bad_range (nearest (g ∷ more)) n)),
+      formula_says d bs zs p (x 0 f refl) (flaws_first f.measure.flaws (flaws_in (g ∷ more)) n),
+      formula_says d bs zs q (x 1 g refl) (flaws_first g.measure.flaws (flaws_in more)
+          (flaws_second f.measure.flaws (flaws_in (g ∷ more)) n)),
     )
 
 -- proofs and steps without a fault
@@ -126,4 +122,4 @@ claims_by_bounds d named fault place at proof e number step f zs =
     number step f in
     claim_says d (param_bounds (some_of step.params)) zs (rule_formulas c step.rule) step.claim
     (formulas_seen d named s (sees_alike d.parts) words proof.program.text place at proof e number step f)
-    (none_near step.name.at (step_formulas c step) fine)
+    (none_fails step.name.at (step_formulas c step) fine)

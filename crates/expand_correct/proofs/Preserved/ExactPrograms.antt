@@ -19,10 +19,11 @@ use Rattle.expand_declarations.specs.WordNumbers.{document_words}
 use Rattle.expand_declarations.specs.Slots.{document_slots}
 use Rattle.expand_rules.specs.declared.cores.Formed.{Formed}
 use Rattle.expand_rules.specs.declared.effects.Effect.{Effect}
-use Rattle.expand_rules.specs.Measures.{nearer}
+use Rattle.expand_rules.specs.declared.cores.Flaws.{Flaws}
+use Rattle.expand_rules.specs.Measures.{no_flaws}
 use Rattle.expand_rules.specs.Forming.{Scope, formed, as_truth}
 use Rattle.expand_rules.specs.Assigning.{among, stated}
-use Rattle.expand_rules.specs.Lists.{items_fault}
+use Rattle.expand_rules.specs.Lists.{flaws_fault, items_fault}
 use Rattle.expand_rules.specs.Documents.{scope_of, within}
 use Rattle.expand_rules.specs.Programs.{InitiallyExact, StatementsExact}
 use Rattle.expand_correct.specs.Values.SightLaws.{SeeSame}
@@ -31,7 +32,8 @@ use Rattle.expand_correct.specs.Exact.Parts.{EachItem}
 use Rattle.expand_correct.specs.Exact.ByNames.{ExactStatements, ExactSection, ExactInitially}
 use Rattle.expand_correct.proofs.Exact.Statements.{statements_seen, initially_seen}
 use Rattle.expand_statements.proofs.FaultlessLaws.{faultless_instances}
-use Rattle.expand_steps.specs.Elements.{nearest, some_too_large, bad_range, element_fault}
+use Rattle.expand_rules.proofs.FlawLaws.{flaws_first, flawless}
+use Rattle.expand_steps.specs.Elements.{flaws_in, some_too_large, element_fault}
 use Rattle.expand_documents.specs.Cores.{document_scope}
 use Rattle.expand_documents.specs.Faults.{initially_fault, program_fault, body_fault, with_part, bodies_fault}
 use Rattle.expand_correct.specs.Preserved.Exact.{ProgramExact, ProgramsExact}
@@ -40,23 +42,14 @@ use Rattle.expand_correct.proofs.Preserved.Faultless.{bodies_faultless}
 
 -- faults
 
--- no end of a range is too large in what has no fault
-none_large : (o : Option ℕ) → bad_range o ≡ None → o ≡ None
-none_large None h = refl
-none_large (Some n) h = cc h
+-- nothing fails in what has no fault
+past_large : (b : Bool) (f : Fault) (flaws : Flaws) → cond b (Some f) (flaws_fault flaws) ≡ None → flaws ≡ no_flaws
+past_large true f flaws h = cc h
+past_large false f flaws h = flawless flaws h
 
-past_large : (b : Bool) (f : Fault) (o : Option ℕ) → cond b (Some f) (bad_range o) ≡ None → o ≡ None
-past_large true f o h = cc h
-past_large false f o h = none_large o h
-
-pub none_near : (front : ℕ) (fs : List Formed) → element_fault front fs ≡ None → nearest fs ≡ None
-none_near front fs h =
-    past_large (some_too_large fs) (record { code = Code.TooLarge; at = front }) (nearest fs) h
-
-pub nearer_first : (x y : Option ℕ) → nearer x y ≡ None → x ≡ None
-nearer_first None y h = refl
-nearer_first (Some m) None h = h
-nearer_first (Some m) (Some n) h = cc h
+pub none_fails : (front : ℕ) (fs : List Formed) → element_fault front fs ≡ None → flaws_in fs ≡ no_flaws
+none_fails front fs h =
+    past_large (some_too_large fs) (record { code = Code.TooLarge; at = front }) (flaws_in fs) h
 
 -- what has no fault in a program
 abbrev IsFine : Scope → Program → Type 0
@@ -96,9 +89,9 @@ exact_section s t None h x f = tt
 exact_section s t (Some section) h x f =
     let same = formed_by_sight section.of s t h in (
       sym (ap (λ e. (as_truth e).exact) same) ∙ x,
-      sym (ap (λ e. (as_truth e).measure.bad_range) same)
-          ∙ nearer_first (as_truth (formed section.of s)).measure.bad_range None
-          (none_near section.at (as_truth (formed section.of s) ∷ []) f),
+      sym (ap (λ e. (as_truth e).measure.flaws) same)
+          ∙ flaws_first (as_truth (formed section.of s)).measure.flaws no_flaws
+          (none_fails section.at (as_truth (formed section.of s) ∷ []) f),
     )
 
 pub among_same : (s t : Scope) (b : Bindings) → SeeSame s t → SeeSame (among s b) (among t b)
@@ -114,7 +107,7 @@ exact_items : (s t : Scope) (items : Items) → SeeSame s t →
 exact_items s t items h x f place i e = let same = effect_same s t i h in
     let fine = faultless_instances s items f place i e in (
       sym (ap (λ (k : Effect). k.exact) same) ∙ x place i e,
-      sym (ap (λ (k : Effect). k.count.bad_range) same) ∙ fine.1,
+      sym (ap (λ (k : Effect). k.count.flaws) same) ∙ fine.1,
     )
 
 exact_program : (s t : Scope) (p : Program) → SeeSame s t → ExactInitially s p → ExactStatements s p →

@@ -1,5 +1,5 @@
 -- Formulas of proof terms in core form are worth what those of the document are.
-use Rattle.std.proofs.Common.{◌≡◌, ℕ, suc, ◌+◌, ℤ, List, [], ◌∷◌, ◌++◌, true, None, refl, sym, ap}
+use Rattle.std.proofs.Common.{◌≡◌, ℕ, suc, ◌+◌, ℤ, List, [], ◌∷◌, ◌++◌, true, refl, sym, ap}
 use Rattle.std.proofs.Common.{◌∙◌, subst, length}
 use Rattle.case_tables.specs.declared.word_table.Word.{Word}
 use Rattle.unity_syntax.specs.declared.expression.Expr.{Expr}
@@ -31,6 +31,8 @@ use Rattle.expand_declarations.specs.Texts.{Texts}
 use Rattle.expand_declarations.specs.WordNumbers.{document_words}
 use Rattle.expand_declarations.specs.Slots.{document_slots}
 use Rattle.expand_declarations.specs.References.{step_params}
+use Rattle.expand_rules.specs.Measures.{no_flaws}
+use Rattle.expand_rules.proofs.FlawLaws.{flaws_first, flaws_second}
 use Rattle.expand_rules.specs.declared.cores.Bound.{Bound}
 use Rattle.expand_rules.specs.declared.cores.Formed.{Formed}
 use Rattle.expand_rules.specs.Forming.{formed, as_number, term_of}
@@ -42,7 +44,7 @@ use Rattle.expand_correct.proofs.Values.SameSight.{formed_by_sight}
 use Rattle.expand_correct.specs.Exact.Parts.{EachItem}
 use Rattle.expand_correct.specs.Exact.Formulas.{IsExactFormula}
 use Rattle.expand_correct.proofs.Exact.Formulas.{formulas_seen}
-use Rattle.expand_steps.specs.Elements.{truth_in, number_in, form_in, term_in, nearest}
+use Rattle.expand_steps.specs.Elements.{truth_in, number_in, form_in, term_in, flaws_in}
 use Rattle.expand_steps.specs.ProofTerms.{Place, Terming, term_layer, termed, pair_term, param_bound}
 use Rattle.expand_steps.specs.Steps.{param_bounds, step_place, claim_formulas, rule_formulas, step_formulas, core_rule}
 use Rattle.expand_documents.specs.Cores.{document_scope}
@@ -51,23 +53,23 @@ use Rattle.expand_correct.specs.Preserved.Terms.{form_worth}
 use Rattle.expand_correct.specs.Preserved.Terms.{truth_worth, TermsSay}
 use Rattle.expand_correct.proofs.Preserved.Sights.{sees_alike, sees_alike_among}
 use Rattle.expand_correct.proofs.Preserved.Faultless.{bodies_faultless}
-use Rattle.expand_correct.proofs.Preserved.ExactPrograms.{none_near, nearer_first}
-use Rattle.expand_correct.proofs.Preserved.Claims.{nearer_second, formula_says, faultless_proof, faultless_step}
+use Rattle.expand_correct.proofs.Preserved.ExactPrograms.{none_fails}
+use Rattle.expand_correct.proofs.Preserved.Claims.{formula_says, faultless_proof, faultless_step}
 
--- formulas that are exact, and in which no end of a range is too large
+-- formulas that are exact, and in which nothing fails
 record Sound (f : Formed) : Type 0 where
   exact : f.exact ≡ true
-  near : f.measure.bad_range ≡ None
+  near : f.measure.flaws ≡ no_flaws
 
 abbrev AllSound : List Formed → Type 0
 AllSound [] = Unit {0}
 AllSound (f ∷ fs) = Sound f × AllSound fs
 
-all_sound : (fs : List Formed) → EachItem IsExactFormula fs → nearest fs ≡ None → AllSound fs
+all_sound : (fs : List Formed) → EachItem IsExactFormula fs → flaws_in fs ≡ no_flaws → AllSound fs
 all_sound [] x n = tt
 all_sound (f ∷ fs) x n = (
-  record { exact = x 0 f refl; near = nearer_first f.measure.bad_range (nearest fs) n },
-  all_sound fs (λ place g e. x (suc place) g e) (nearer_second f.measure.bad_range (nearest fs) n),
+  record { exact = x 0 f refl; near = flaws_first f.measure.flaws (flaws_in fs) n },
+  all_sound fs (λ place g e. x (suc place) g e) (flaws_second f.measure.flaws (flaws_in fs) n),
 )
 
 sound_first : (fs gs : List Formed) → AllSound (fs ++ gs) → AllSound fs
@@ -147,7 +149,7 @@ module _ (d : Document) (zs : List ℤ) (state : State)
       ∙ (formed_as_number state zs (formed e t) (value e u)
       (formed_law state zs e t u (sees_within state zs ps bs (are_bits ps state h)))).value
       (sym (ap (λ f. (as_number f).exact) same) ∙ sound.exact)
-      (sym (ap (λ f. (as_number f).measure.bad_range) same) ∙ sound.near)
+      (sym (ap (λ f. (as_number f).measure.flaws) same) ∙ sound.near)
 
   truth_says : (bs : List (List ℕ × Bound)) (e : Expr) →
       Sound (truth_in (within (document_scope d.parts) bs) e) →
@@ -229,7 +231,7 @@ terms_say d named fault place at proof e number step f at_rule of same =
     let sound = sound_second (claim_formulas c.scope step.claim) (rule_formulas c step.rule)
     (all_sound (step_formulas c step)
     (formulas_seen d named s (sees_alike d.parts) words owner place at proof e number step f)
-    (none_near step.name.at (step_formulas c step) fine)) in (
+    (none_fails step.name.at (step_formulas c step) fine)) in (
       (termed of c (length c.params)).core,
       ap (core_rule c) same,
       λ zs state h. (term_says d zs state h of words owner (param_bounds ps) [] (step_params ps)

@@ -20,7 +20,7 @@ use Rattle.meaning_documents.specs.Setting.{programs_among, definitions, setting
 use Rattle.names_rules.specs.declared.named.Sort.{Sort}
 use Rattle.names_rules.specs.declared.named.Meaning.{Meaning}
 use Rattle.names_rules.specs.declared.named.Named.{Named}
-use Rattle.names_rules.specs.Scope.{Scope as NameScope, Table, found, is_param, is_variable, is_value, is_visible}
+use Rattle.names_rules.specs.Scope.{Scope as NameScope, Table, is_param, is_variable, is_value, is_visible}
 use Rattle.names_rules.specs.Scope.{visible, bound_named}
 use Rattle.names_rules.specs.Reading.{earlier, unless, read}
 use Rattle.names_rules.specs.Part.{run, quiet}

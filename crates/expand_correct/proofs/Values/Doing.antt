@@ -26,21 +26,24 @@ use Rattle.core_terms.proofs.FoldingLaws.{value-and_form, value-not_form}
 use Rattle.core_terms.proofs.PartLaws.{value-Top}
 use Rattle.core_terms.proofs.KnownLaws.{number_is_value}
 use Rattle.meaning_documents.specs.Names.{variable_named}
+use Rattle.expand_rules.specs.declared.cores.Flaws.{Flaws}
 use Rattle.expand_rules.specs.declared.cores.Formed.{Formed}
 use Rattle.expand_rules.specs.declared.effects.Count.{Count}
 use Rattle.expand_rules.specs.declared.effects.Effect.{Effect}
-use Rattle.expand_rules.specs.Measures.{nearer, range_misfit}
+use Rattle.expand_rules.specs.Measures.{no_flaws, both_flaws, range_flaws, range_misfit}
 use Rattle.expand_rules.specs.Forming.{Scope, with_number, term_of, form_of, as_number, as_truth, numbers}
-use Rattle.expand_rules.specs.Forming.{is_fixed_range, fit_values, formed}
-use Rattle.expand_rules.specs.Assigning.{both_counts, write_count, index_count, stray_count, spread_count, one_more}
+use Rattle.expand_rules.specs.Forming.{is_fixed_range, fit_values, formed, unwritten_count}
+use Rattle.expand_rules.specs.Counts.{both_counts, index_count, stray_count}
+use Rattle.expand_rules.specs.Assigning.{write_count, spread_count, one_more}
 use Rattle.expand_rules.specs.Assigning.{nothing, beside, exactly, write_to, equations, any_of, open_effect}
 use Rattle.expand_rules.specs.Assigning.{stray_effect, element_effect, indexed_effect, plain_slot, target_effect}
-use Rattle.expand_rules.specs.Assigning.{is_beyond, is_outside, outside_effect, unwritten_count}
+use Rattle.expand_rules.specs.Assigning.{is_beyond, is_outside, outside_effect}
 use Rattle.expand_rules.specs.Assigning.{constant_slot as beyond}
 use Rattle.expand_rules.specs.Assigning.{index_formed, paired_effect, condition, alternative_effect, all_beside}
 use Rattle.expand_rules.specs.Assigning.{Effecting, component_layer, assign_layer, effect_of}
 use Rattle.expand_correct.proofs.Values.Operations.{known-term_of, value-term_of, value-form_of, holds_truth}
-use Rattle.expand_correct.proofs.Values.Values.{and_left, and_right, nearer_first, nearer_second, slot_by}
+use Rattle.expand_correct.proofs.Values.Values.{and_left, and_right, slot_by}
+use Rattle.expand_rules.proofs.FlawLaws.{flaws_first, flaws_second}
 use Rattle.expand_correct.proofs.Values.Values.{slot_of_variable}
 use Rattle.expand_correct.proofs.Values.Values.{IsFormed, Sees, formed_as_number, formed_as_truth, formed_law}
 use Rattle.expand_correct.proofs.Values.Values.{sees_inside}
@@ -57,9 +60,9 @@ module _ (state : List ℤ) where
     pub made : taken state [] e.writes ≡ inside ws
     pub left : leaves (outsides state [] e.outside) ≡ leaves ws
 
-  -- where it is exact and no range is bad
+  -- where it is exact and no range and no divisor is bad
   abbrev pub Acts : Effect → List Write → Type 0
-  Acts e ws = e.exact ≡ true → e.count.bad_range ≡ None → Does e ws
+  Acts e ws = e.exact ≡ true → e.count.flaws ≡ no_flaws → Does e ws
 
   taken_joined : (us ws : List CWrite) → taken state [] (us ++ ws) ≡ taken state [] us ++ taken state [] ws
   taken_joined [] ws = refl
@@ -93,8 +96,8 @@ module _ (state : List ℤ) where
 
   acts_beside : (e f : Effect) (us ws : List Write) → Acts e us → Acts f ws → Acts (beside e f) (us ++ ws)
   acts_beside e f us ws h k x n = does_beside e f us ws
-      (h (and_left e.exact f.exact x) (nearer_first e.count.bad_range f.count.bad_range n))
-      (k (and_right e.exact f.exact x) (nearer_second e.count.bad_range f.count.bad_range n))
+      (h (and_left e.exact f.exact x) (flaws_first e.count.flaws f.count.flaws n))
+      (k (and_right e.exact f.exact x) (flaws_second e.count.flaws f.count.flaws n))
 
   does_nothing : Does nothing []
   does_nothing = record { made = refl; left = refl }
@@ -212,24 +215,24 @@ module _ (state : List ℤ) where
   -- a condition that holds where t says so, and a value
   module _ (c v : Formed) (t : Bool) (z : ℤ) where
     abbrev Told : Type 0
-    Told = (c.measure.bad_range ≡ None → form_value state [] (form_of c.core) ≡ t) × IsFormed state [] v z
+    Told = (c.measure.flaws ≡ no_flaws → form_value state [] (form_of c.core) ≡ t) × IsFormed state [] v z
 
     abbrev Wrote : Option ℕ → List Write
     Wrote slot = cond t ((slot, z) ∷ []) []
 
-    valued : IsFormed state [] v z → v.exact ≡ true → v.measure.bad_range ≡ None → term_value state []
+    valued : IsFormed state [] v z → v.exact ≡ true → v.measure.flaws ≡ no_flaws → term_value state []
         (term_of v.core)
         ≡ z
     valued h x n = value-term_of state [] v.core ∙ h.value x n
 
-    stray_does : Told → v.exact ≡ true → (i : Formed) → (stray_effect i c v).count.bad_range ≡ None →
+    stray_does : Told → v.exact ≡ true → (i : Formed) → (stray_effect i c v).count.flaws ≡ no_flaws →
         Does (stray_effect i c v) (Wrote None)
     stray_does h x i n =
-        let two = nearer_second i.measure.bad_range (nearer c.measure.bad_range v.measure.bad_range) n in
+        let two = flaws_second i.measure.flaws (both_flaws c.measure.flaws v.measure.flaws) n in
         write_does None (form_of c.core) (term_of v.core) (both_counts (stray_count i.measure) (write_count c.measure
         v.measure)) t z
-        (h.0 (nearer_first c.measure.bad_range v.measure.bad_range two)) (valued h.1 x
-        (nearer_second c.measure.bad_range v.measure.bad_range two))
+        (h.0 (flaws_first c.measure.flaws v.measure.flaws two)) (valued h.1 x
+        (flaws_second c.measure.flaws v.measure.flaws two))
 
     module _ (h : Told) (x : v.exact ≡ true) (i : Formed) (k : ℤ) (f : IsFormed state [] i k) (e : i.exact ≡ true)
       where
@@ -238,7 +241,7 @@ module _ (state : List ℤ) where
             (form_of c.core) (term_of v.core)
             (both_counts (index_count i.measure) (write_count c.measure v.measure)))
             (open_effect (term_of i.core) r first (form_of c.core) (term_of v.core) (spread_count (range_size r) r
-            i.measure c.measure v.measure))).count.bad_range ≡ None →
+            i.measure c.measure v.measure))).count.flaws ≡ no_flaws →
             Does (cond b (write_to (option_and_then (λ y. slot_at first (Some r) (Some y)) (number_of (term_of i.core)))
             (form_of c.core) (term_of v.core)
             (both_counts (index_count i.measure) (write_count c.measure v.measure)))
@@ -246,10 +249,10 @@ module _ (state : List ℤ) where
             i.measure c.measure v.measure)))
             (Wrote (slot_at first (Some r) (Some k)))
         array_by first r true q n0 =
-            let n : nearer i.measure.bad_range (nearer c.measure.bad_range v.measure.bad_range) ≡ None =
+            let n : both_flaws i.measure.flaws (both_flaws c.measure.flaws v.measure.flaws) ≡ no_flaws =
             write_range (option_and_then (λ y. slot_at first (Some r) (Some y)) (number_of (term_of i.core))) n0 in
-            let one = nearer_first i.measure.bad_range (nearer c.measure.bad_range v.measure.bad_range) n in
-            let two = nearer_second i.measure.bad_range (nearer c.measure.bad_range v.measure.bad_range) n in
+            let one = flaws_first i.measure.flaws (both_flaws c.measure.flaws v.measure.flaws) n in
+            let two = flaws_second i.measure.flaws (both_flaws c.measure.flaws v.measure.flaws) n in
             subst (λ s. Does (write_to (option_and_then (λ y. slot_at first (Some r) (Some y))
             (number_of (term_of i.core))) (form_of c.core) (term_of v.core)
             (both_counts (index_count i.measure) (write_count c.measure v.measure))) (Wrote s))
@@ -258,29 +261,29 @@ module _ (state : List ℤ) where
             (write_does (option_and_then (λ y. slot_at first (Some r) (Some y)) (number_of (term_of i.core)))
             (form_of c.core) (term_of v.core)
             (both_counts (index_count i.measure) (write_count c.measure v.measure)) t z
-            (h.0 (nearer_first c.measure.bad_range v.measure.bad_range two)) (valued h.1 x
-            (nearer_second c.measure.bad_range v.measure.bad_range two)))
+            (h.0 (flaws_first c.measure.flaws v.measure.flaws two)) (valued h.1 x
+            (flaws_second c.measure.flaws v.measure.flaws two)))
           where
             write_range : (slot : Option ℕ) → (write_to slot (form_of c.core) (term_of v.core)
-                (both_counts (index_count i.measure) (write_count c.measure v.measure))).count.bad_range ≡ None →
-                nearer i.measure.bad_range (nearer c.measure.bad_range v.measure.bad_range) ≡ None
+                (both_counts (index_count i.measure) (write_count c.measure v.measure))).count.flaws ≡ no_flaws →
+                both_flaws i.measure.flaws (both_flaws c.measure.flaws v.measure.flaws) ≡ no_flaws
             write_range None y = y
             write_range (Some m) y = y
         array_by first r false q n =
-            let one = nearer_first i.measure.bad_range (nearer c.measure.bad_range v.measure.bad_range) n in
-            let two = nearer_second i.measure.bad_range (nearer c.measure.bad_range v.measure.bad_range) n in
+            let one = flaws_first i.measure.flaws (both_flaws c.measure.flaws v.measure.flaws) n in
+            let two = flaws_second i.measure.flaws (both_flaws c.measure.flaws v.measure.flaws) n in
             open_does (term_of i.core) k (value-term_of state [] i.core ∙ f.value e one) r first (form_of c.core)
             (term_of v.core)
             (spread_count (range_size r) r i.measure c.measure v.measure) t z
-            (h.0 (nearer_first c.measure.bad_range v.measure.bad_range two)) (valued h.1 x
-            (nearer_second c.measure.bad_range v.measure.bad_range two)) (lies r k)
+            (h.0 (flaws_first c.measure.flaws v.measure.flaws two)) (valued h.1 x
+            (flaws_second c.measure.flaws v.measure.flaws two)) (lies r k)
 
-        element_does : (first : ℕ) (m : Option (ℤ × ℤ)) → (element_effect i first m c v).count.bad_range ≡ None →
+        element_does : (first : ℕ) (m : Option (ℤ × ℤ)) → (element_effect i first m c v).count.flaws ≡ no_flaws →
             Does (element_effect i first m c v) (Wrote (slot_at first m (Some k)))
         element_does first None n = stray_does h x i n
         element_does first (Some r) n = array_by first r i.constant refl n
 
-        indexed_does : (y : Option Variable) → (indexed_effect i y c v).count.bad_range ≡ None →
+        indexed_does : (y : Option Variable) → (indexed_effect i y c v).count.flaws ≡ no_flaws →
             Does (indexed_effect i y c v) (Wrote (slot_by y (Some k)))
         indexed_does None n = stray_does h x i n
         indexed_does (Some y) n = element_does y.first y.indices n
@@ -290,8 +293,8 @@ module _ (state : List ℤ) where
     plain_is (Some y) = refl
 
     plain_range : (slot : Option ℕ) → (write_to slot (form_of c.core) (term_of v.core) (write_count c.measure
-        v.measure)).count.bad_range ≡ None →
-        nearer c.measure.bad_range v.measure.bad_range ≡ None
+        v.measure)).count.flaws ≡ no_flaws →
+        both_flaws c.measure.flaws v.measure.flaws ≡ no_flaws
     plain_range None y = y
     plain_range (Some m) y = y
 
@@ -307,7 +310,7 @@ module _ (state : List ℤ) where
 
     -- nothing is written where a constant index lies outside its array
     no_slot : (i : Formed) (y : Option Variable) (k : ℤ) → IsFormed state [] i k → i.exact ≡ true →
-        i.measure.bad_range ≡ None → is_outside i y ≡ true → slot_by y (Some k) ≡ None
+        i.measure.flaws ≡ no_flaws → is_outside i y ≡ true → slot_by y (Some k) ≡ None
     no_slot i None k f e n o = cc
     no_slot i (Some y) k f e n o = by y.indices o
       where
@@ -335,12 +338,12 @@ module _ (state : List ℤ) where
     outside_does : Told → (y : Option Variable) (i : Formed) (k : ℤ) (left : Count) → IsFormed state [] i k →
         is_outside i y ≡ true → Acts (outside_effect i c left) (Wrote (slot_by y (Some k)))
     outside_does h y i k left f o x n =
-        let two = nearer_first (nearer i.measure.bad_range c.measure.bad_range) left.bad_range n in
+        let two = flaws_first (both_flaws i.measure.flaws c.measure.flaws) left.flaws n in
         subst (λ s. Does (outside_effect i c left) (Wrote s))
-        (sym (no_slot i y k f x (nearer_first i.measure.bad_range c.measure.bad_range two) o))
+        (sym (no_slot i y k f x (flaws_first i.measure.flaws c.measure.flaws two) o))
         (record {
           made = none_made t;
-          left = out_left t (h.0 (nearer_second i.measure.bad_range c.measure.bad_range two));
+          left = out_left t (h.0 (flaws_second i.measure.flaws c.measure.flaws two));
         })
 
     pub target_acts : Told → (y : Option Variable) (i : Option Formed) (k : Option ℤ) → IndexIs i k → (left : Count) →
@@ -352,8 +355,8 @@ module _ (state : List ℤ) where
         let two = plain_range (plain_slot y) n in
         does_exactly v.exact e (Wrote (slot_by y None)) (subst (λ s. Does e (Wrote s)) (plain_is y)
         (write_does (plain_slot y) (form_of c.core) (term_of v.core) (write_count c.measure v.measure) t z
-        (h.0 (nearer_first c.measure.bad_range v.measure.bad_range two))
-        (valued h.1 (and_left v.exact e.exact x) (nearer_second c.measure.bad_range v.measure.bad_range two))))
+        (h.0 (flaws_first c.measure.flaws v.measure.flaws two))
+        (valued h.1 (and_left v.exact e.exact x) (flaws_second c.measure.flaws v.measure.flaws two))))
     target_acts h y (Some i) (Some k) j left x n =
         elim (is_outside i y) as (λ b. is_outside i y ≡ b → Acts (cond b (outside_effect i c left)
         (exactly (v.exact && i.exact) (indexed_effect i y c v))) (Wrote (slot_by y (Some k)))) [
@@ -385,7 +388,7 @@ module _ (state : List ℤ) where
     value_is : (e : Expr) → IsFormed state [] (as_number (formed e s)) (value e u)
     value_is e = formed_as_number state [] (formed e s) (value e u) (formed_law state [] e s u h)
 
-    paired_acts : (ts : List Target) (es : List Expr) (c : Formed) (t : Bool) → (c.measure.bad_range ≡ None →
+    paired_acts : (ts : List Target) (es : List Expr) (c : Formed) (t : Bool) → (c.measure.flaws ≡ no_flaws →
         form_value state [] (form_of c.core) ≡ t) →
         Acts (paired_effect s ts es c) (cond t (paired u ts es) [])
     paired_acts [] es c t q = λ x n. does_same nothing [] _ (sym (untaken t)) does_nothing
@@ -394,7 +397,7 @@ module _ (state : List ℤ) where
         let y = variable_named d.name.text s.variables in
         let k = index_value u d.index in
         let v = as_number (formed e s) in
-        let left = unwritten_count e s.bound in
+        let left = unwritten_count e s in
         let target = target_effect y (index_formed s d.index) c v left in
         acts_same (beside target (paired_effect s ts es c)) (cond t ((target_slot u d, value e u) ∷ []) [] ++ cond t
         (paired u ts es) []) (cond t (paired u (d ∷ ts) (e ∷ es)) [])
@@ -407,7 +410,7 @@ module _ (state : List ℤ) where
         d.index) left))
         (paired_acts ts es c t q))
 
-    condition_holds : (o : Option Expr) → (condition s o).exact ≡ true → (condition s o).measure.bad_range ≡ None →
+    condition_holds : (o : Option Expr) → (condition s o).exact ≡ true → (condition s o).measure.flaws ≡ no_flaws →
         form_value state [] (form_of (condition s o).core) ≡ is_taken u o
     condition_holds None x n = value-Top state []
     condition_holds (Some e) x n =
@@ -452,14 +455,14 @@ module _ (state : List ℤ) where
       let fit = fit_values (numbers s.bound) range in
       let all = all_beside nothing (map (λ z. of.0 (with_number s name.text z)) fit) in
       let same : fit ≡ range_values u.bindings range =
-      range_numbers state [] s.bound range (and_left (is_fixed_range s.bound range) all.exact x) (nearer_first
-      (range_misfit (numbers s.bound) range) all.count.bad_range n)
+      range_numbers state [] s.bound range (and_left (is_fixed_range s.bound range) all.exact x)
+      (ap (λ (k : Flaws). k.range) (flaws_first (range_flaws (range_misfit (numbers s.bound) range)) all.count.flaws n))
       ∙ sym (ap (λ b. range_values b range) h.bound) in
       let d = acts_each (λ z. of.0 (with_number s name.text z)) (λ z. of.1 (with_name u name.text z))
       (λ z. of.2 (with_number s name.text z) (with_name u name.text z) (sees_inside state [] s u name.text z h))
       nothing [] acts_nothing fit
-      (and_right (is_fixed_range s.bound range) all.exact x) (nearer_second (range_misfit (numbers s.bound) range)
-      all.count.bad_range n) in
+      (and_right (is_fixed_range s.bound range) all.exact x) (flaws_second
+      (range_flaws (range_misfit (numbers s.bound) range)) all.count.flaws n) in
       let e = does_same all (flat_map (λ z. of.1 (with_name u name.text z)) fit)
       (flat_map (λ z. of.1 (with_name u name.text z)) (range_values u.bindings range))
       (ap (λ zs. flat_map (λ z. of.1 (with_name u name.text z)) zs) same) d in
@@ -517,7 +520,7 @@ module _ (state : List ℤ) where
   -- the core step of an assignment is its step
   pub step_law : (ranges : Ranges) (a : Assign) (s : Scope) (u : Sight) → Sees state [] s u → (effect_of a s).exact ≡
       true →
-      (effect_of a s).count.bad_range ≡ None →
+      (effect_of a s).count.flaws ≡ no_flaws →
       step ranges (outside_writes state (effect_of a s).outside ++ inside_writes state (effect_of a s).writes) state ≡
       step ranges (writes a u) state
   step_law ranges a s u h x n =

@@ -31,19 +31,21 @@ use Rattle.names_laws.specs.AssignmentLaws.{Exactness, is_exact_or_none, has_exa
 use Rattle.names_laws.specs.AssignmentLaws.{is_exact_further, are_exact_alternatives, exact_component, exact_assign}
 use Rattle.expand_rules.specs.declared.cores.Core.{Core}
 use Rattle.expand_rules.specs.declared.cores.Bound.{Bound}
+use Rattle.core_terms.specs.Folding.{quotient_term, remainder_term}
 use Rattle.expand_rules.specs.declared.cores.Formed.{Formed}
 use Rattle.core_terms.specs.declared.trees.CTerm.{CTerm}
 use Rattle.core_terms.specs.declared.trees.CForm.{CForm}
 use Rattle.expand_rules.specs.declared.effects.Count.{Count}
 use Rattle.expand_rules.specs.declared.effects.Effect.{Effect}
-use Rattle.expand_rules.specs.Forming.{Scope, with_number, as_truth, as_number, sum, difference, product, quotient}
+use Rattle.expand_rules.specs.Forming.{Scope, with_number, as_truth, as_number, sum, difference, product, divided}
+use Rattle.expand_rules.specs.Forming.{quotient_weight, remainder_weight, factor_at, forming, unwritten_count}
 use Rattle.expand_rules.specs.Forming.{factored, implication, conjunction, disjunction, denial, equation_by, comparison}
 use Rattle.expand_rules.specs.Forming.{signed, plus, array_formed, element_by, element_of, formed_or_zero}
 use Rattle.expand_rules.specs.Forming.{bound_formed, variable_formed, word_formed, gathered_by, gathered}
 use Rattle.expand_rules.specs.Forming.{number_constant, is_number, is_fixed, is_fixed_range, numbers, fit_values}
 use Rattle.expand_rules.specs.Forming.{Forming, form_layer, formed}
 use Rattle.expand_rules.specs.Assigning.{nothing, beside, write_to, element_effect, indexed_effect, target_effect}
-use Rattle.expand_rules.specs.Assigning.{is_outside, unwritten_count}
+use Rattle.expand_rules.specs.Assigning.{is_outside}
 use Rattle.expand_rules.specs.Assigning.{index_formed, paired_effect, condition, alternative_effect, all_beside}
 use Rattle.expand_rules.specs.Assigning.{Effecting, component_layer, assign_layer}
 use Rattle.expand_correct.specs.Values.ExactLaws.{Agrees, ExpressionsExact, ExpressionsConstant, AssignmentsExact}
@@ -160,9 +162,9 @@ keeps_product a b x y h i = record {
       parts)));
 }
 
-keeps_quotient : (a b : Attributes) (x y : Formed) → Keeps a x → Keeps b y →
-    Keeps (names.operated Operator.Div a b) (quotient x y)
-keeps_quotient a b x y h i = record {
+keeps_divided : (op : ℤ → CTerm → CTerm) (weight : ℕ → ℕ → ℕ) (at : ℕ) (a b : Attributes) (x y : Formed) →
+    Keeps a x → Keeps b y → Keeps (names.operated Operator.Div a b) (divided op weight at x y)
+keeps_divided op weight at a b x y h i = record {
   constant = λ e. both_true x.constant y.constant (h.constant (and_left a.constant b.constant e))
       (i.constant (and_right a.constant b.constant e));
   exact = λ e.
@@ -172,42 +174,42 @@ keeps_quotient a b x y h i = record {
       parts)));
 }
 
-keeps_factored : (o : Operator) (a b : Attributes) (x y : Formed) → Keeps a x → Keeps b y →
-    Keeps (names.operated o a b) (factored x (o, y))
-keeps_factored Operator.Times a b x y h i = keeps_product a b x y h i
-keeps_factored Operator.Div a b x y h i = keeps_quotient a b x y h i
-keeps_factored Operator.Mod a b x y h i = record {
-  constant = (keeps_quotient a b x y h i).constant;
-  exact = (keeps_quotient a b x y h i).exact;
-}
+keeps_factored : (o : Operator) (at : ℕ) (a b : Attributes) (x y : Formed) → Keeps a x → Keeps b y →
+    Keeps (names.operated o a b) (factored x ((o, at), y))
+keeps_factored Operator.Times at a b x y h i = keeps_product a b x y h i
+keeps_factored Operator.Div at a b x y h i = keeps_divided quotient_term quotient_weight at a b x y h i
+keeps_factored Operator.Mod at a b x y h i =
+    let kept = keeps_divided remainder_term remainder_weight at a b x y h i in
+    record { constant = kept.constant; exact = kept.exact }
 
 signed_keeps : (minus : Bool) (a : Attributes) (x : Formed) → Keeps a x → Keeps a (signed minus x)
 signed_keeps true a x h = record { constant = h.constant; exact = h.exact }
 signed_keeps false a x h = record { constant = h.constant; exact = h.exact }
 
 abbrev pub Kept : Attributed → Forming → Type 0
-Kept f g = (n : NameScope) (s : Scope) → Agrees n s → Keeps (f n) (g s)
+Kept f g = (n : NameScope) (s : Scope) → Agrees n s → Keeps (f n) (g.made s)
 
 abbrev Part : Type 0
 Part = Related Kept
 
 keeps_all : (op : Formed → Formed → Formed) → IsPlain op → (n : NameScope) (s : Scope) → Agrees n s →
     (a : Attributes) (x : Formed) → Keeps a x → (ks : List Part) →
-    Keeps (names.all a (map (λ m. m n) (map (λ k. k.0) ks))) (fold op x (map (λ m. m s) (map (λ k. k.1) ks)))
+    Keeps (names.all a (map (λ m. m n) (map (λ k. k.0) ks))) (fold op x (map (λ m. m.made s) (map (λ k. k.1) ks)))
 keeps_all op p n s g a x h [] = h
 keeps_all op p n s g a x h (k ∷ ks) =
-    keeps_all op p n s g (names.both a (k.0 n)) (op x (k.1 s)) (keeps_both op p a (k.0 n) x (k.1 s) h (k.2 n s g)) ks
+    keeps_all op p n s g (names.both a (k.0 n)) (op x (k.1.made s))
+    (keeps_both op p a (k.0 n) x (k.1.made s) h (k.2 n s g)) ks
 
 keeps_factors : (n : NameScope) (s : Scope) → Agrees n s → (a : Attributes) (x : Formed) → Keeps a x →
     (ks : List (Operator × Part)) →
     Keeps (names.factors a (map (λ (m : Operator × Attributed). (m.0, m.1 n)) (map (λ (k : Operator × Part).
     (k.0, k.1.0)) ks)))
-    (fold factored x (map (λ (m : Operator × Forming). (m.0, m.1 s)) (map (λ (k : Operator × Part).
+    (fold factored x (map (factor_at s) (map (λ (k : Operator × Part).
     (k.0, k.1.1)) ks)))
 keeps_factors n s g a x h [] = h
 keeps_factors n s g a x h (k ∷ ks) =
-    keeps_factors n s g (names.operated k.0 a (k.1.0 n)) (factored x (k.0, k.1.1 s))
-    (keeps_factored k.0 a (k.1.0 n) x (k.1.1 s) h (k.1.2 n s g)) ks
+    keeps_factors n s g (names.operated k.0 a (k.1.0 n)) (factored x (factor_at s (k.0, k.1.1)))
+    (keeps_factored k.0 k.1.1.at a (k.1.0 n) x (k.1.1.made s) h (k.1.2 n s g)) ks
 
 abbrev parts_of : List (Symbol × Part) → List (Symbol × Forming)
 parts_of ks = map (λ (k : Symbol × Part). (k.0, k.1.1)) ks
@@ -218,11 +220,11 @@ told_of ks = map (λ (k : Symbol × Part). (k.0, k.1.0)) ks
 keeps_sum : (n : NameScope) (s : Scope) → Agrees n s → (a : Attributes) (x : Formed) → Keeps a x →
     (ks : List (Symbol × Part)) →
     Keeps (names.all a (map (λ (part : Symbol × Attributed). part.1 n) (told_of ks)))
-    (fold plus x (map (λ (part : Symbol × Forming). (part.0, part.1 s)) (parts_of ks)))
+    (fold plus x (map (λ (part : Symbol × Forming). (part.0, part.1.made s)) (parts_of ks)))
 keeps_sum n s g a x h [] = h
 keeps_sum n s g a x h (k ∷ ks) =
-    keeps_sum n s g (names.both a (k.1.0 n)) (plus x (k.0, k.1.1 s)) (keeps_both (λ v w. plus v (k.0, w))
-    (plus_plain k.0) a (k.1.0 n) x (k.1.1 s) h (k.1.2 n s g)) ks
+    keeps_sum n s g (names.both a (k.1.0 n)) (plus x (k.0, k.1.1.made s)) (keeps_both (λ v w. plus v (k.0, w))
+    (plus_plain k.0) a (k.1.0 n) x (k.1.1.made s) h (k.1.2 n s g)) ks
 
 -- instances
 
@@ -346,20 +348,20 @@ through_keeps : (a : Attributes) (x y : Formed) → y.constant ≡ x.constant �
 through_keeps a x y c e h = record { constant = λ i. c ∙ h.constant i; exact = λ i. e ∙ h.exact i }
 
 layer : ExpressionLayers Kept attribute_layer form_layer
-layer (Expr-F.Implies at l r) n s g = keeps_both implication implication_plain (l.0 n) (r.0 n) (l.1 s) (r.1 s)
+layer (Expr-F.Implies at l r) n s g = keeps_both implication implication_plain (l.0 n) (r.0 n) (l.1.made s) (r.1.made s)
     (l.2 n s g) (r.2 n s g)
 layer (Expr-F.And at x xs) n s g =
-    keeps_all conjunction conjunction_plain n s g (x.0 n) (as_truth (x.1 s)) (through_keeps (x.0 n) (x.1 s)
-    (as_truth (x.1 s)) refl refl (x.2 n s g)) xs
+    keeps_all conjunction conjunction_plain n s g (x.0 n) (as_truth (x.1.made s)) (through_keeps (x.0 n) (x.1.made s)
+    (as_truth (x.1.made s)) refl refl (x.2 n s g)) xs
 layer (Expr-F.Or at x xs) n s g =
-    keeps_all disjunction disjunction_plain n s g (x.0 n) (as_truth (x.1 s)) (through_keeps (x.0 n) (x.1 s)
-    (as_truth (x.1 s)) refl refl (x.2 n s g)) xs
-layer (Expr-F.Not at x) n s g = through_keeps (x.0 n) (x.1 s) (denial (x.1 s)) refl refl (x.2 n s g)
-layer (Expr-F.Compare at l r x) n s g = keeps_both (comparison r) (comparison_plain r) (l.0 n) (x.0 n) (l.1 s) (x.1 s)
-    (l.2 n s g) (x.2 n s g)
-layer (Expr-F.Sum at minus x xs) n s g = keeps_sum n s g (x.0 n) (signed minus (x.1 s)) (signed_keeps minus (x.0 n)
-    (x.1 s) (x.2 n s g)) xs
-layer (Expr-F.Product at x xs) n s g = keeps_factors n s g (x.0 n) (x.1 s) (x.2 n s g) xs
+    keeps_all disjunction disjunction_plain n s g (x.0 n) (as_truth (x.1.made s)) (through_keeps (x.0 n) (x.1.made s)
+    (as_truth (x.1.made s)) refl refl (x.2 n s g)) xs
+layer (Expr-F.Not at x) n s g = through_keeps (x.0 n) (x.1.made s) (denial (x.1.made s)) refl refl (x.2 n s g)
+layer (Expr-F.Compare at l r x) n s g = keeps_both (comparison r) (comparison_plain r) (l.0 n) (x.0 n)
+    (l.1.made s) (x.1.made s) (l.2 n s g) (x.2 n s g)
+layer (Expr-F.Sum at minus x xs) n s g = keeps_sum n s g (x.0 n) (signed minus (x.1.made s)) (signed_keeps minus (x.0 n)
+    (x.1.made s) (x.2 n s g)) xs
+layer (Expr-F.Product at x xs) n s g = keeps_factors n s g (x.0 n) (x.1.made s) (x.2 n s g) xs
 layer (Expr-F.Number at number) n s g = constantly_keeps (number_constant (pos number)) refl refl
 layer (Expr-F.True at) n s g = record { constant = λ h. refl; exact = λ h. refl }
 layer (Expr-F.False at) n s g = record { constant = λ h. refl; exact = λ h. refl }
@@ -369,11 +371,11 @@ layer (Expr-F.Word at name None) n s g = record {
 }
 layer (Expr-F.Word at name (Some x)) n s g = record {
   constant = λ h. cc h;
-  exact = λ h. element_exact (variable_named name.text s.variables) (as_number (x.1 s)) ∙ (x.2 n s g).exact h;
+  exact = λ h. element_exact (variable_named name.text s.variables) (as_number (x.1.made s)) ∙ (x.2 n s g).exact h;
 }
 layer (Expr-F.Brackets at x) n s g = x.2 n s g
 layer (Expr-F.Quantified at which name range of) n s g =
-    let inner = λ (z : ℤ). of.1 (with_number s name.text z) in
+    let inner = λ (z : ℤ). of.1.made (with_number s name.text z) in
     let all = keeps_gathered which (of.0 (with_bound n name.text (Meaning.Bound name.at))) inner
     (λ z. of.2 (with_bound n name.text (Meaning.Bound name.at)) (with_number s name.text z)
     (agrees_inside n s g name.text name.at z))
@@ -388,7 +390,7 @@ layer (Expr-F.Quantified at which name range of) n s g =
           (all.exact (and_right (names.is_fixed n.bounds range) told.exact h));
     }
 
-pub kept_law : (e : Expr) → Kept (attributes e) (formed e)
+pub kept_law : (e : Expr) → Kept (attributes e) (forming e)
 kept_law e = two_expressions Kept attribute_layer form_layer layer e
 
 pub expressions_exact : ExpressionsExact
@@ -422,12 +424,12 @@ module _ (n : NameScope) (s : Scope) (g : Agrees n s) where
 
   target_exact : (d : Target) (e : Expr) (c : Formed) → has_exact_index n d ≡ true → is_exact e n ≡ true →
       (target_effect (variable_named d.name.text s.variables) (index_formed s d.index) c
-      (as_number (formed e s)) (unwritten_count e s.bound)).exact ≡ true
+      (as_number (formed e s)) (unwritten_count e s)).exact ≡ true
   target_exact d e c h i = by d.index h
     where
       by : (o : Option Expr) → is_exact_or_none n o ≡ true →
           (target_effect (variable_named d.name.text s.variables) (index_formed s o) c (as_number (formed e s))
-          (unwritten_count e s.bound)).exact ≡ true
+          (unwritten_count e s)).exact ≡ true
       by None k = both_true _ _ (value_exact e i) (write_exact _ _ _ _)
       by (Some x) k = array_exact (is_outside (as_number (formed x s)) (variable_named d.name.text s.variables)) _ _
           (value_exact x k) (both_true _ _ (both_true _ _ (value_exact e i) (value_exact x k)) (indexed_exact

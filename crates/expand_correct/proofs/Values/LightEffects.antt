@@ -26,12 +26,14 @@ use Rattle.expand_rules.specs.declared.cores.Formed.{Formed}
 use Rattle.expand_rules.specs.declared.effects.Count.{Count}
 use Rattle.expand_rules.specs.declared.effects.Effect.{Effect}
 use Rattle.expand_rules.specs.Forming.{Scope, with_number, term_of, form_of, as_number, numbers, fit_values, formed}
-use Rattle.expand_rules.specs.Assigning.{both_counts, write_count, index_count, stray_count, spread_count, nothing}
+use Rattle.expand_rules.specs.Forming.{unwritten_count}
+use Rattle.expand_rules.specs.Counts.{both_counts, index_count, stray_count}
+use Rattle.expand_rules.specs.Assigning.{write_count, spread_count, nothing}
 use Rattle.expand_rules.specs.Assigning.{beside, write_to, equations, any_of, spread, open_effect, stray_effect}
 use Rattle.expand_rules.specs.Assigning.{element_effect, indexed_effect, plain_slot, target_effect, index_formed}
 use Rattle.expand_rules.specs.Assigning.{paired_effect, condition, alternative_effect, all_beside, Effecting}
 use Rattle.expand_rules.specs.Assigning.{component_layer, assign_layer, effect_of, exactly, is_outside}
-use Rattle.expand_rules.specs.Assigning.{outside_effect, unwritten_count}
+use Rattle.expand_rules.specs.Assigning.{outside_effect}
 use Rattle.expand_correct.specs.Values.WeightLaws.{ScopeWithin, WriteWithin, AssignmentsWithin}
 use Rattle.expand_correct.proofs.Values.Lightness.{difference_light, zero_light, not_light, and_light, or_light}
 use Rattle.expand_correct.proofs.Values.Lightness.{const_light}
@@ -219,8 +221,8 @@ module _ (slots params : ℕ → ℕ) where
     paired_light c h [] es = (tt, tt)
     paired_light c h (d ∷ ts) [] = (tt, tt)
     paired_light c h (d ∷ ts) (e ∷ es) = light_beside (target_effect (variable_named d.name.text s.variables)
-        (index_formed s d.index) c (as_number (formed e s)) (unwritten_count e s.bound)) (paired_effect s ts es c)
-        (target_light c h (variable_named d.name.text s.variables) d.index e (unwritten_count e s.bound))
+        (index_formed s d.index) c (as_number (formed e s)) (unwritten_count e s)) (paired_effect s ts es c)
+        (target_light c h (variable_named d.name.text s.variables) d.index e (unwritten_count e s))
         (paired_light c h ts es)
 
     alternative_light : (ts : List Target) (a : Alternative) → Light (alternative_effect s ts a)

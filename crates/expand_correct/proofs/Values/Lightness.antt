@@ -20,18 +20,21 @@ use Rattle.unity_syntax.specs.declared.name.Range.{Range}
 use Rattle.meaning_documents.specs.Names.{Variable, natural, slot_at}
 use Rattle.meaning_documents.specs.Value.{range_size}
 use Rattle.meaning_documents.specs.Names.{variable_named}
+use Rattle.meaning_states.specs.Division.{divisor}
 use Rattle.core_terms.specs.declared.trees.CTerm.{CTerm, fold-roll-CTerm}
-use Rattle.core_terms.specs.declared.trees.CTerm.TheVariants.{Const, Slot, Param, Add, Sub, Scale, Ite, rolls-Slot}
-use Rattle.core_terms.specs.declared.trees.CTerm.TheVariants.{rolls-Param, rolls-Add, rolls-Sub, rolls-Scale}
-use Rattle.core_terms.specs.declared.trees.CTerm.TheVariants.{rolls-Ite}
+use Rattle.core_terms.specs.declared.trees.CTerm.TheVariants.{Const, Slot, Param, Add, Sub, Scale, Div, Mod, Ite}
+use Rattle.core_terms.specs.declared.trees.CTerm.TheVariants.{rolls-Slot, rolls-Param, rolls-Add, rolls-Sub}
+use Rattle.core_terms.specs.declared.trees.CTerm.TheVariants.{rolls-Scale, rolls-Div, rolls-Mod, rolls-Ite}
 use Rattle.core_terms.specs.declared.trees.CForm.{CForm, fold-roll-CForm}
 use Rattle.core_terms.specs.declared.trees.CForm.TheVariants.{Top, Bottom, AtLeast, Zero, Not, And, Or, rolls-AtLeast}
 use Rattle.core_terms.specs.declared.trees.CForm.TheVariants.{rolls-Zero, rolls-Not, rolls-And, rolls-Or}
 use Rattle.core_terms.specs.declared.trees.CForm.TheOpen.{CTerm-F, CForm-F}
-use Rattle.core_terms.specs.Weights.{Weights, weighing, sum_weights, multiple_weights, choice_weights, weigh_term}
-use Rattle.core_terms.specs.Weights.{weigh_form, term_weights, form_weight}
+use Rattle.core_terms.specs.Weights.{Weights, weighing, sum_weights, multiple_weights, quotient_weights}
+use Rattle.core_terms.specs.Weights.{remainder_weights, choice_weights, weigh_term, weigh_form, term_weights}
+use Rattle.core_terms.specs.Weights.{form_weight}
 use Rattle.core_terms.specs.Folding.{truth_of, branch_or, folded_term, folded_form, sum_term, difference_term}
-use Rattle.core_terms.specs.Folding.{scaled_term, choice_term, at_least_form, zero_form, not_form, and_form, or_form}
+use Rattle.core_terms.specs.Folding.{scaled_term, quotient_term, remainder_term}
+use Rattle.core_terms.specs.Folding.{choice_term, at_least_form, zero_form, not_form, and_form, or_form}
 use Rattle.core_terms.proofs.WeightLaws.{own_within, weights-Const, weight-Top, weight-Bottom, folded_lighter}
 use Rattle.core_terms.proofs.WeightLaws.{folded_form_lighter}
 use Rattle.expand_rules.specs.declared.cores.Core.{Core}
@@ -41,13 +44,14 @@ use Rattle.expand_rules.specs.declared.cores.Formed.{Formed}
 use Rattle.expand_rules.specs.Measures.{ends_weight}
 use Rattle.expand_rules.specs.Forming.{Scope, with_number, term_of, form_of, factor_of, number_measure}
 use Rattle.expand_rules.specs.Forming.{truth_measure, as_number, as_truth, sum, difference, negation, multiple}
-use Rattle.expand_rules.specs.Forming.{product, quotient, factored, at_least_zero, is_zero}
+use Rattle.expand_rules.specs.Forming.{product, divisor_of, quotient, remainder, factored, at_least_zero, is_zero}
 use Rattle.expand_rules.specs.Forming.{denial, conjunction, disjunction}
 use Rattle.expand_rules.specs.Forming.{implication, equation_by, equation, excess, comparison, signed, plus}
 use Rattle.expand_rules.specs.Forming.{bound_formed, typed, variable_formed, formed_or_zero, word_formed, chain}
 use Rattle.expand_rules.specs.Forming.{no_element, array_formed, element_by, element_of, number_constant}
 use Rattle.expand_rules.specs.Forming.{truth_constant, varying, gathered_by, gathered, numbers, fit_values}
-use Rattle.expand_rules.specs.Forming.{quantified, Forming, form_layer, formed}
+use Rattle.expand_rules.specs.Forming.{quantified, Forming, factor_at, form_layer, formed}
+use Rattle.expand_rules.proofs.Differences.{divisor_of_steady}
 use Rattle.expand_correct.specs.Values.WeightLaws.{TermWithin, CoreWithin, SlotsWithin, ScopeWithin, ExpressionsWithin}
 
 module _ (slots params : ℕ → ℕ) where
@@ -76,6 +80,14 @@ module _ (slots params : ℕ → ℕ) where
   weights-Scale : (k : ℤ) (a : CTerm) → W (Scale k a) ≡ multiple_weights k (W a)
   weights-Scale k a = ap W (sym (rolls-Scale k a)) ∙ fold-roll-CTerm ℕ Weights weigh_form (weigh_term slots params)
       (CTerm-F.Scale k a)
+
+  weights-Div : (k : ℤ) (a : CTerm) → W (Div a k) ≡ quotient_weights k (W a)
+  weights-Div k a = ap W (sym (rolls-Div a k)) ∙ fold-roll-CTerm ℕ Weights weigh_form (weigh_term slots params)
+      (CTerm-F.Div a k)
+
+  weights-Mod : (k : ℤ) (a : CTerm) → W (Mod a k) ≡ remainder_weights k (W a)
+  weights-Mod k a = ap W (sym (rolls-Mod a k)) ∙ fold-roll-CTerm ℕ Weights weigh_form (weigh_term slots params)
+      (CTerm-F.Mod a k)
 
   weights-Ite : (c : CForm) (a b : CTerm) → W (Ite c a b) ≡ choice_weights (F c) (W a) (W b)
   weights-Ite c a b = ap W (sym (rolls-Ite c a b)) ∙ fold-roll-CTerm ℕ Weights weigh_form (weigh_term slots params)
@@ -118,6 +130,16 @@ module _ (slots params : ℕ → ℕ) where
   scaled_light : (k : ℤ) (a : CTerm) → ((W (scaled_term k a)).own ≤ unsigned_abs k * (W a).own)
       × ((W (scaled_term k a)).most ≤ max (unsigned_abs k * (W a).own) (W a).most)
   scaled_light k a = term_folded (Scale k a) _ (weights-Scale k a)
+
+  quotient_light : (k : ℤ) (a : CTerm) → ((W (quotient_term k a)).own ≤ max 1 (W a).own)
+      × ((W (quotient_term k a)).most ≤ max (max 1 (W a).own) (max (unsigned_abs (divisor k)) (W a).most))
+  quotient_light k a = term_folded (Div a k) _ (weights-Div k a)
+
+  remainder_light : (k : ℤ) (a : CTerm) →
+      ((W (remainder_term k a)).own ≤ 2 * (W a).own + unsigned_abs (divisor k))
+      × ((W (remainder_term k a)).most ≤
+      max (2 * (W a).own + unsigned_abs (divisor k)) (max (unsigned_abs (divisor k)) (W a).most))
+  remainder_light k a = term_folded (Mod a k) _ (weights-Mod k a)
 
   branch_light : (m : Option Bool) (c : CForm) (a b : CTerm) →
       ((W (branch_or m a b (Ite c a b))).own ≤ max (W a).own (W b).own) ×
@@ -227,13 +249,25 @@ module _ (slots params : ℕ → ℕ) where
   fits_product : (a b : Formed) → Fits a → Fits b → Fits (product a b)
   fits_product a b h i = product_by a.constant a b h i
 
-  fits_quotient : (a b : Formed) → Fits (quotient a b)
-  fits_quotient a b = let zero = const_light (pos 0) in (omega (arith, zero.0), omega (arith, zero.1))
+  fits_quotient : (at : ℕ) (a b : Formed) → Fits a → Fits (quotient at a b)
+  fits_quotient at a b h =
+      let x = as_term a.core a.measure h in
+      let l = quotient_light (divisor_of (as_number b)) (term_of a.core) in
+      let d = ap (λ k. unsigned_abs k) (divisor_of_steady (as_number b)) in
+      (omega (arith, l.0, x.0), omega (arith, l.1, x.0, x.1, d))
 
-  fits_factored : (a : Formed) (o : Operator) (b : Formed) → Fits a → Fits b → Fits (factored a (o, b))
-  fits_factored a Operator.Times b h i = fits_product a b h i
-  fits_factored a Operator.Div b h i = fits_quotient a b
-  fits_factored a Operator.Mod b h i = fits_quotient a b
+  fits_remainder : (at : ℕ) (a b : Formed) → Fits a → Fits (remainder at a b)
+  fits_remainder at a b h =
+      let x = as_term a.core a.measure h in
+      let l = remainder_light (divisor_of (as_number b)) (term_of a.core) in
+      let d = ap (λ k. unsigned_abs k) (divisor_of_steady (as_number b)) in
+      (omega (arith, l.0, x.0, d), omega (arith, l.1, x.0, x.1, d))
+
+  fits_factored : (a : Formed) (o : Operator) (at : ℕ) (b : Formed) → Fits a → Fits b →
+      Fits (factored a ((o, at), b))
+  fits_factored a Operator.Times at b h i = fits_product a b h i
+  fits_factored a Operator.Div at b h i = fits_quotient at a b h
+  fits_factored a Operator.Mod at b h i = fits_remainder at a b h
 
   fits_at_least : (a : Formed) → Fits a → Fits (at_least_zero a)
   fits_at_least a h = let x = as_term a.core a.measure h in let l = at_least_light (term_of a.core) in
@@ -434,7 +468,7 @@ module _ (slots params : ℕ → ℕ) where
   -- each kind of expression
 
   abbrev pub FitsIn : Forming → Forming → Type 0
-  FitsIn f g = (s : Scope) → ScopeWithin slots params s → Fits (f s)
+  FitsIn f g = (s : Scope) → ScopeWithin slots params s → Fits (f.made s)
 
   abbrev Part : Type 0
   Part = Related FitsIn
@@ -445,22 +479,24 @@ module _ (slots params : ℕ → ℕ) where
   fold_fits : (op : Formed → Formed → Formed) → KeepsFit op → (s : Scope) → ScopeWithin slots params s → (a : Formed)
       →
       Fits a → (xs : List Part) →
-      Fits (fold op a (map (λ m. m s) (map (λ k. k.0) xs)))
+      Fits (fold op a (map (λ m. m.made s) (map (λ k. k.0) xs)))
   fold_fits op k s g a h [] = h
-  fold_fits op k s g a h (x ∷ xs) = fold_fits op k s g (op a (x.0 s)) (k a (x.0 s) h (x.2 s g)) xs
+  fold_fits op k s g a h (x ∷ xs) = fold_fits op k s g (op a (x.0.made s)) (k a (x.0.made s) h (x.2 s g)) xs
 
   sums_fit : (s : Scope) → ScopeWithin slots params s → (a : Formed) → Fits a → (xs : List (Symbol × Part)) →
-      Fits (fold plus a (map (λ (part : Symbol × Forming). (part.0, part.1 s)) (map (λ (k : Symbol × Part).
+      Fits (fold plus a (map (λ (part : Symbol × Forming). (part.0, part.1.made s)) (map (λ (k : Symbol × Part).
       (k.0, k.1.0)) xs)))
   sums_fit s g a h [] = h
-  sums_fit s g a h (x ∷ xs) = sums_fit s g (plus a (x.0, x.1.0 s)) (fits_plus a x.0 (x.1.0 s) h (x.1.2 s g)) xs
+  sums_fit s g a h (x ∷ xs) =
+      sums_fit s g (plus a (x.0, x.1.0.made s)) (fits_plus a x.0 (x.1.0.made s) h (x.1.2 s g)) xs
 
   factors_fit : (s : Scope) → ScopeWithin slots params s → (a : Formed) → Fits a → (xs : List (Operator × Part)) →
-      Fits (fold factored a (map (λ (part : Operator × Forming). (part.0, part.1 s)) (map (λ (k : Operator × Part).
+      Fits (fold factored a (map (factor_at s) (map (λ (k : Operator × Part).
       (k.0, k.1.0)) xs)))
   factors_fit s g a h [] = h
   factors_fit s g a h (x ∷ xs) =
-      factors_fit s g (factored a (x.0, x.1.0 s)) (fits_factored a x.0 (x.1.0 s) h (x.1.2 s g)) xs
+      factors_fit s g (factored a (factor_at s (x.0, x.1.0)))
+      (fits_factored a x.0 x.1.0.at (x.1.0.made s) h (x.1.2 s g)) xs
 
   joined_fits : (op : Formed → Formed → Formed) → KeepsFit op → (f : ℤ → Formed) → ((z : ℤ) → Fits (f z)) →
       (a : Formed) → Fits a → (zs : List ℤ) →
@@ -506,27 +542,28 @@ module _ (slots params : ℕ → ℕ) where
       go (Core.Truth f known) h = h
 
   layer : ExpressionLayers FitsIn form_layer form_layer
-  layer (Expr-F.Implies at l r) s g = fits_implication (l.0 s) (r.0 s) (l.2 s g) (r.2 s g)
-  layer (Expr-F.And at x xs) s g = fold_fits conjunction fits_conjunction s g (as_truth (x.0 s)) (fits_truth (x.0 s)
-      (x.2 s g)) xs
-  layer (Expr-F.Or at x xs) s g = fold_fits disjunction fits_disjunction s g (as_truth (x.0 s)) (fits_truth (x.0 s)
-      (x.2 s g)) xs
-  layer (Expr-F.Not at x) s g = fits_denial (x.0 s) (x.2 s g)
-  layer (Expr-F.Compare at l r x) s g = fits_comparison r (l.0 s) (x.0 s) (l.2 s g) (x.2 s g)
-  layer (Expr-F.Sum at minus x xs) s g = sums_fit s g (signed minus (x.0 s)) (fits_signed minus (x.0 s) (x.2 s g)) xs
-  layer (Expr-F.Product at x xs) s g = factors_fit s g (x.0 s) (x.2 s g) xs
+  layer (Expr-F.Implies at l r) s g = fits_implication (l.0.made s) (r.0.made s) (l.2 s g) (r.2 s g)
+  layer (Expr-F.And at x xs) s g = fold_fits conjunction fits_conjunction s g (as_truth (x.0.made s))
+      (fits_truth (x.0.made s) (x.2 s g)) xs
+  layer (Expr-F.Or at x xs) s g = fold_fits disjunction fits_disjunction s g (as_truth (x.0.made s))
+      (fits_truth (x.0.made s) (x.2 s g)) xs
+  layer (Expr-F.Not at x) s g = fits_denial (x.0.made s) (x.2 s g)
+  layer (Expr-F.Compare at l r x) s g = fits_comparison r (l.0.made s) (x.0.made s) (l.2 s g) (x.2 s g)
+  layer (Expr-F.Sum at minus x xs) s g = sums_fit s g (signed minus (x.0.made s))
+      (fits_signed minus (x.0.made s) (x.2 s g)) xs
+  layer (Expr-F.Product at x xs) s g = factors_fit s g (x.0.made s) (x.2 s g) xs
   layer (Expr-F.Number at number) s g = fits_constant (pos number)
   layer (Expr-F.True at) s g = fits_top
   layer (Expr-F.False at) s g = fits_bottom
   layer (Expr-F.Word at name None) s g = word_fits s g name.text
   layer (Expr-F.Word at name (Some x)) s g =
-      element_fits (variable_named name.text s.variables) (x.0 s) (fits_number (x.0 s) (x.2 s g))
+      element_fits (variable_named name.text s.variables) (x.0.made s) (fits_number (x.0.made s) (x.2 s g))
       (λ v e. g.variables name.text v e)
   layer (Expr-F.Brackets at x) s g = x.2 s g
   layer (Expr-F.Quantified at which name range of) s g =
-      same_core s.bound range (gathered which (map (λ z. of.0 (with_number s name.text z))
+      same_core s.bound range (gathered which (map (λ z. of.0.made (with_number s name.text z))
       (fit_values (numbers s.bound) range)))
-      (gathered_fits which (λ z. of.0 (with_number s name.text z)) (λ z. of.2 (with_number s name.text z)
+      (gathered_fits which (λ z. of.0.made (with_number s name.text z)) (λ z. of.2 (with_number s name.text z)
       (inside_fits s name.text z g)) (fit_values (numbers s.bound) range))
 
   pub fits_law : (e : Expr) (s : Scope) → ScopeWithin slots params s → Fits (formed e s)

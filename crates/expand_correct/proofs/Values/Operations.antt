@@ -8,6 +8,8 @@ use Rattle.std.specs.Prelude.{neg_ℤ}
 use Rattle.meaning_states.specs.State.{int_eq}
 use Rattle.meaning_documents.specs.Names.{or_zero}
 use Rattle.meaning_documents.specs.Value.{truth, holds}
+use Rattle.std.specs.Int.{int_div_euclid, int_rem_euclid}
+use Rattle.meaning_states.specs.Division.{divisor, floored, rest_of}
 use Rattle.core_terms.specs.declared.trees.CTerm.{CTerm}
 use Rattle.core_terms.specs.declared.trees.CTerm.TheVariants.{Const}
 use Rattle.core_terms.specs.Values.{term_value, form_value}
@@ -23,7 +25,7 @@ use Rattle.expand_rules.specs.Forming.{number_core, truth_core, term_of, form_of
 use Rattle.expand_rules.specs.Forming.{difference_core, negated_core, multiple_core, at_least_core, zero_core}
 use Rattle.expand_rules.specs.Forming.{not_core, and_core, or_core}
 use Rattle.expand_correct.specs.Values.Worth.{core_value}
-use Rattle.expand_rules.proofs.Differences.{least_tests}
+use Rattle.expand_rules.proofs.Differences.{least_tests, divisor_steady}
 use Rattle.expand_rules.proofs.KnownParts.{number-Const, some-sum_term, some-difference_term, some-scaled_term}
 use Rattle.expand_rules.proofs.KnownParts.{some-at_least_form, some-zero_form, some-not_form, some-and_form}
 use Rattle.expand_rules.proofs.KnownParts.{some-or_form, some-choice_term}
@@ -101,6 +103,13 @@ pub holds_truth : (b : Bool) → holds (truth b) ≡ b
 holds_truth true = refl
 holds_truth false = refl
 
+-- dividing by a divisor
+pub floored_steady : (z k : ℤ) → floored z (divisor k) ≡ floored z k
+floored_steady z k = ap (int_div_euclid z) (divisor_steady k)
+
+pub rest_steady : (z k : ℤ) → rest_of z (divisor k) ≡ rest_of z k
+rest_steady z k = ap (int_rem_euclid z) (divisor_steady k)
+
 -- the factor of a known core is what it is worth
 factor_by : (s p : List ℤ) (t : CTerm) (m : Option ℤ) → number_of t ≡ m → is_some m ≡ true → or_zero m ≡
     term_value s p t
@@ -138,11 +147,13 @@ module _ (s p : List ℤ) where
   value-negation a = value-scaled_term s p (negsuc 0) (term_of a) ∙ ap (λ v. negsuc 0 *ℤ v) (value-term_of a)
       ∙ minus_one (core_value s p a)
 
+  pub factor-known : (a : Core) → is_known a ≡ true → factor_of a ≡ term_value s p (term_of a)
+  factor-known a h = factor_by s p (term_of a) (number_of (term_of a)) refl (known-term_of a ∙ h)
+
   pub value-multiple : (a b : Core) → is_known a ≡ true →
       term_value s p (scaled_term (factor_of a) (term_of b)) ≡ core_value s p a *ℤ core_value s p b
   value-multiple a b h = value-scaled_term s p (factor_of a) (term_of b)
-      ∙ two (λ x y. x *ℤ y) _ _ _ _ (factor_by s p (term_of a) (number_of (term_of a)) refl (known-term_of a ∙ h)
-      ∙ value-term_of a) (value-term_of b)
+      ∙ two (λ x y. x *ℤ y) _ _ _ _ (factor-known a h ∙ value-term_of a) (value-term_of b)
 
   pub value-at_least : (a : Core) →
       truth (form_value s p (at_least_form (term_of a))) ≡ truth (int_le (pos 0) (core_value s p a))

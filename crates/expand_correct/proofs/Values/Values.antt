@@ -1,4 +1,5 @@
--- An expression's core is worth what the expression is, where names have no fault and no range is bad.
+-- An expression's core is worth what the expression is, where names have no fault and no range and no divisor
+-- is bad.
 use Rattle.std.proofs.Common.{◌≡◌, ℕ, ℤ, pos, neg_ℤ, ◌+ℤ◌, ◌-ℤ◌, ◌*ℤ◌, List, [], ◌∷◌, map, Bool, true, false, cond}
 use Rattle.std.proofs.Common.{not, ◌&&◌, ◌||◌, Option, Some, None, option_map, refl, sym, ap, ◌∙◌, subst, arith, inl}
 use Rattle.std.proofs.Common.{inr, ◌⊎◌, max}
@@ -24,35 +25,44 @@ use Rattle.meaning_states.specs.State.{State, int_eq}
 use Rattle.meaning_documents.specs.Names.{Bindings, Variable, Sight, with_name, number_of as number_named, or_else}
 use Rattle.meaning_documents.specs.Names.{or_zero, slot_at, slot_named, slot_number, word_value, element_value}
 use Rattle.meaning_documents.specs.Value as source
-use Rattle.meaning_documents.specs.Value.{Meaning, truth, holds, end_value, range_ends, range_size, range_values}
+use Rattle.meaning_documents.specs.Value.{Meaning, truth, holds, end_value, range_size, range_values}
 use Rattle.meaning_documents.specs.Value.{count_up, total, value_layer, value}
 use Rattle.core_terms.specs.declared.trees.CTerm.{CTerm}
 use Rattle.core_terms.specs.declared.trees.CTerm.TheVariants.{Const, Slot, Param}
 use Rattle.core_terms.specs.declared.trees.CForm.{CForm}
 use Rattle.core_terms.specs.declared.trees.CForm.TheVariants.{Top, Bottom}
+use Rattle.meaning_states.specs.Division.{divisor, floored, rest_of}
+use Rattle.core_terms.specs.Folding.{number_of, quotient_term, remainder_term}
 use Rattle.core_terms.specs.Values.{number_at, term_value, form_value}
+use Rattle.core_terms.proofs.FoldingLaws.{value-quotient_term, value-remainder_term}
 use Rattle.core_terms.proofs.PartLaws.{value-Const, value-Slot, value-Param, value-Top, value-Bottom}
 use Rattle.meaning_documents.specs.Names.{variable_named}
 use Rattle.expand_rules.specs.declared.cores.Core.{Core}
 use Rattle.expand_rules.specs.declared.cores.Bound.{Bound}
+use Rattle.expand_rules.specs.declared.cores.Flaws.{Flaws}
 use Rattle.expand_rules.specs.declared.cores.Measure.{Measure}
 use Rattle.expand_rules.specs.declared.cores.Formed.{Formed}
-use Rattle.expand_rules.specs.Measures.{nearer, ends_weight, sum_measure, multiple_measure, negation_measure}
+use Rattle.expand_rules.specs.Measures.{no_flaws, both_flaws, range_flaws, divisor_flaws, ends_weight, sum_measure}
+use Rattle.expand_rules.specs.Measures.{multiple_measure, negation_measure}
 use Rattle.expand_rules.specs.Measures.{over_measure, pair_measure, is_fit, place_of, misfit, range_misfit}
 use Rattle.expand_rules.specs.Forming.{Scope, with_number, number_core, truth_core, term_of, constantly, varying}
 use Rattle.expand_rules.specs.Forming.{number_constant, truth_constant, number_measure, as_number, truth_measure}
 use Rattle.expand_rules.specs.Forming.{as_truth, through, both, sum_core, difference_core, negated_core}
 use Rattle.expand_rules.specs.Forming.{at_least_core, zero_core, not_core, and_core, or_core, sum, difference}
-use Rattle.expand_rules.specs.Forming.{negation, factor_of, multiple, product, quotient, factored, at_least_zero}
+use Rattle.expand_rules.specs.Forming.{negation, factor_of, multiple, product, divided, factored, at_least_zero}
+use Rattle.expand_rules.specs.Forming.{divisor_of, bad_divisor, quotient_weight, remainder_weight}
 use Rattle.expand_rules.specs.Forming.{is_zero, denial}
 use Rattle.expand_rules.specs.Forming.{conjunction, disjunction, implication, equation_by, equation, excess}
 use Rattle.expand_rules.specs.Forming.{comparison, signed, plus, bound_formed, typed, variable_formed}
 use Rattle.expand_rules.specs.Forming.{formed_or_zero, word_formed, no_element, array_formed, element_by}
 use Rattle.expand_rules.specs.Forming.{element_of, gathered_by, gathered, numbers, is_number, is_fixed}
-use Rattle.expand_rules.specs.Forming.{is_fixed_range, fit_values, quantified, Forming, form_layer, formed}
+use Rattle.expand_rules.specs.Forming.{is_fixed_range, fit_values, quantified, Forming, factor_at, form_layer}
+use Rattle.expand_rules.specs.Forming.{forming}
 use Rattle.expand_correct.specs.Values.Worth.{core_value, bound_value, values_of}
 use Rattle.expand_rules.proofs.Differences.{zero_tests, least_tests, below_tests}
-use Rattle.expand_rules.proofs.KnownParts.{number-Const, truth-Top, truth-Bottom}
+use Rattle.expand_rules.proofs.FlawLaws.{nearer_first, nearer_second, flaws_first, flaws_second}
+use Rattle.expand_rules.proofs.KnownParts.{some-quotient_term, some-remainder_term, number-Const, truth-Top}
+use Rattle.expand_rules.proofs.KnownParts.{truth-Bottom}
 use Rattle.expand_rules.proofs.Chains.{value-chain}
 use Rattle.expand_correct.proofs.Values.Operations.{two, is_known, KeepsKnown, KeepBothKnown, known-sum}
 use Rattle.expand_correct.proofs.Values.Operations.{known-difference}
@@ -61,7 +71,7 @@ use Rattle.expand_correct.proofs.Values.Operations.{known-denial}
 use Rattle.expand_correct.proofs.Values.Operations.{known-conjunction, known-disjunction, known-as_number}
 use Rattle.expand_correct.proofs.Values.Operations.{known-as_truth}
 use Rattle.expand_correct.proofs.Values.Operations.{holds_truth, value-term_of, value-form_of, value-sum}
-use Rattle.expand_correct.proofs.Values.Operations.{value-difference}
+use Rattle.expand_correct.proofs.Values.Operations.{value-difference, factor-known, floored_steady, rest_steady}
 use Rattle.expand_correct.proofs.Values.Operations.{value-negation, value-multiple, value-at_least, value-zero}
 use Rattle.expand_correct.proofs.Values.Operations.{value-denial}
 use Rattle.expand_correct.proofs.Values.Operations.{value-conjunction, value-disjunction}
@@ -74,16 +84,6 @@ pub and_right : (a b : Bool) → (a && b) ≡ true → b ≡ true
 and_right true b h = h
 and_right false b h = cc h
 
-pub nearer_first : (a b : Option ℕ) → nearer a b ≡ None → a ≡ None
-nearer_first None b h = refl
-nearer_first (Some x) None h = cc h
-nearer_first (Some x) (Some y) h = cc h
-
-pub nearer_second : (a b : Option ℕ) → nearer a b ≡ None → b ≡ None
-nearer_second None b h = h
-nearer_second (Some x) None h = cc h
-nearer_second (Some x) (Some y) h = cc h
-
 -- a number that a truth can have
 abbrev pub IsBit : ℤ → Type 0
 IsBit z = z ≡ truth (holds z)
@@ -92,12 +92,12 @@ bit_of : (z : ℤ) → (z ≡ pos 0) ⊎ (z ≡ pos 1) → IsBit z
 bit_of z (inl e) = e ∙ sym (ap (λ v. truth (holds v)) e)
 bit_of z (inr e) = e ∙ sym (ap (λ v. truth (holds v)) e)
 
--- a bad range of a part is one of the whole
+-- what fails of a part fails of the whole
 abbrev Shows : (Measure → Measure) → Type 0
-Shows count = (m : Measure) → (count m).bad_range ≡ None → m.bad_range ≡ None
+Shows count = (m : Measure) → (count m).flaws ≡ no_flaws → m.flaws ≡ no_flaws
 
 abbrev ShowsBoth : (Measure → Measure → Measure) → Type 0
-ShowsBoth count = (m n : Measure) → (count m n).bad_range ≡ None → (m.bad_range ≡ None) × (n.bad_range ≡ None)
+ShowsBoth count = (m n : Measure) → (count m n).flaws ≡ no_flaws → (m.flaws ≡ no_flaws) × (n.flaws ≡ no_flaws)
 
 not_above : (y x : ℤ) → not (int_le x y) ≡ int_lt y x
 not_above y x = elim (int_le x y) as (λ v. int_le x y ≡ v → not v ≡ int_lt y x) [
@@ -137,7 +137,7 @@ module _ (state params : List ℤ) where
   -- what an expression becomes is what it is worth
   pub record IsFormed (a : Formed) (z : ℤ) : Type 0 where
     pub known : a.constant ≡ true → is_known a.core ≡ true
-    pub value : a.exact ≡ true → a.measure.bad_range ≡ None → core_value state params a.core ≡ z
+    pub value : a.exact ≡ true → a.measure.flaws ≡ no_flaws → core_value state params a.core ≡ z
 
   abbrev pub AllSeen : List (List ℕ × Formed) → Bindings → Type 0
   AllSeen [] [] = Unit {0}
@@ -160,7 +160,7 @@ module _ (state params : List ℤ) where
     pub bits : AreBits s.variables
 
   abbrev pub IsWorth : Forming → Meaning → Type 0
-  IsWorth f m = (s : Scope) (t : Sight) → Sees s t → IsFormed (f s) (m t)
+  IsWorth f m = (s : Scope) (t : Sight) → Sees s t → IsFormed (f.made s) (m t)
 
   abbrev V : Core → ℤ
   V c = core_value state params c
@@ -209,7 +209,7 @@ module _ (state params : List ℤ) where
   number_shows (Core.Truth f known) m h = h
 
   truth_shows : (c : Core) → Shows (truth_measure c)
-  truth_shows (Core.Number t known) m h = nearer_first m.bad_range None h
+  truth_shows (Core.Number t known) m h = flaws_first m.flaws no_flaws h
   truth_shows (Core.Truth f known) m h = h
 
   pub formed_as_number : (a : Formed) (x : ℤ) → IsFormed a x → IsFormed (as_number a) x
@@ -226,13 +226,13 @@ module _ (state params : List ℤ) where
   }
 
   sum_shows : ShowsBoth sum_measure
-  sum_shows m n h = (nearer_first m.bad_range n.bad_range h, nearer_second m.bad_range n.bad_range h)
+  sum_shows m n h = (flaws_first m.flaws n.flaws h, flaws_second m.flaws n.flaws h)
 
   multiple_shows : (k : ℤ) → ShowsBoth (multiple_measure k)
-  multiple_shows k m n h = (nearer_first m.bad_range n.bad_range h, nearer_second m.bad_range n.bad_range h)
+  multiple_shows k m n h = (flaws_first m.flaws n.flaws h, flaws_second m.flaws n.flaws h)
 
   pair_shows : ShowsBoth pair_measure
-  pair_shows m n h = (nearer_first m.bad_range n.bad_range h, nearer_second m.bad_range n.bad_range h)
+  pair_shows m n h = (flaws_first m.flaws n.flaws h, flaws_second m.flaws n.flaws h)
 
   formed_sum : (a b : Formed) (x y : ℤ) → IsFormed a x → IsFormed b y → IsFormed (sum a b) (x +ℤ y)
   formed_sum a b x y h i = formed_both sum_core sum_measure (as_number a) (as_number b) x y (x +ℤ y) known-sum
@@ -383,7 +383,7 @@ module _ (state params : List ℤ) where
 
   multiple_worth : (k a : Formed) (x y : ℤ) → IsFormed k x → IsFormed a y → k.constant ≡ true → k.exact ≡ true →
       a.exact ≡ true →
-      (multiple k a).measure.bad_range ≡ None → V (multiple k a).core ≡ x *ℤ y
+      (multiple k a).measure.flaws ≡ no_flaws → V (multiple k a).core ≡ x *ℤ y
   multiple_worth k a x y h i c e f n =
       let parts = multiple_shows (factor_of k.core) (as_number k).measure (as_number a).measure n in
       value-multiple state params (as_number k).core (as_number a).core (known-as_number k.core (h.known c))
@@ -392,7 +392,7 @@ module _ (state params : List ℤ) where
 
   product_worth : (a b : Formed) (x y : ℤ) → IsFormed a x → IsFormed b y → (c : Bool) → a.constant ≡ c →
       (c || b.constant) ≡ true →
-      a.exact ≡ true → b.exact ≡ true → (cond c (multiple a b) (multiple b a)).measure.bad_range ≡ None →
+      a.exact ≡ true → b.exact ≡ true → (cond c (multiple a b) (multiple b a)).measure.flaws ≡ no_flaws →
       V (cond c (multiple a b) (multiple b a)).core ≡ x *ℤ y
   product_worth a b x y h i true c d e f n = multiple_worth a b x y h i c e f n
   product_worth a b x y h i false c d e f n = multiple_worth b a y x i h d f e n ∙ *ℤ_comm y x
@@ -415,15 +415,44 @@ module _ (state params : List ℤ) where
         (and_left a.exact b.exact parts) (and_right a.exact b.exact parts) n;
   }
 
-  -- a quotient is a fault, so that nothing is asked of its value
-  formed_quotient : (a b : Formed) (z : ℤ) → IsFormed (quotient a b) z
-  formed_quotient a b z = record { known = λ e. ap is_some (number-Const (pos 0)); value = λ e n. cc n }
+  -- a quotient and a remainder, by any way to divide that takes 1 for each divisor below it
+  module _ (op : ℤ → CTerm → CTerm) (weight : ℕ → ℕ → ℕ) (by : ℤ → ℤ → ℤ)
+      (known_op : (k : ℤ) (t : CTerm) → is_some (number_of (op k t)) ≡ is_some (number_of t))
+      (value_op : (k : ℤ) (t : CTerm) → term_value state params (op k t) ≡ by (term_value state params t) k)
+      (steady : (z k : ℤ) → by z (divisor k) ≡ by z k) (at : ℕ) where
+    divided_worth : (a b : Formed) (x y : ℤ) → IsFormed a x → IsFormed b y → b.constant ≡ true →
+        (number_measure b.core b.measure).flaws ≡ no_flaws → V (as_number a).core ≡ x → V (as_number b).core ≡ y →
+        V (divided op weight at a b).core ≡ by x y
+    divided_worth a b x y h i c n v w =
+        value_op (divisor_of (as_number b)) (term_of a.core)
+        ∙ two by _ _ _ _ v (ap (λ (k : Flaws). cond (is_some k.divisor) (pos 1) (divisor (factor_of b.core))) n)
+        ∙ steady x (factor_of b.core) ∙ ap (by x) (factor-known state params b.core (i.known c) ∙ w)
 
-  formed_factored : (a : Formed) (o : Operator) (b : Formed) (x y : ℤ) → IsFormed a x → IsFormed b y →
-      IsFormed (factored a (o, b)) (source.operated x o y)
-  formed_factored a Operator.Times b x y h i = formed_product a b x y h i
-  formed_factored a Operator.Div b x y h i = formed_quotient a b (source.operated x Operator.Div y)
-  formed_factored a Operator.Mod b x y h i = formed_quotient a b (source.operated x Operator.Mod y)
+    formed_divided : (a b : Formed) (x y : ℤ) → IsFormed a x → IsFormed b y →
+        IsFormed (divided op weight at a b) (by x y)
+    formed_divided a b x y h i = record {
+      known = λ e. known_op (divisor_of (as_number b)) (term_of a.core)
+          ∙ known-as_number a.core (h.known (and_left a.constant b.constant e));
+      value = λ e n.
+          let parts = and_right b.constant (a.exact && b.exact) e in
+          let first = number_measure a.core a.measure in
+          let second = number_measure b.core b.measure in
+          let bad = divisor_flaws (bad_divisor at (as_number b)) in
+          let of_second = flaws_first second.flaws bad
+          (flaws_second first.flaws (both_flaws second.flaws bad) n) in
+          divided_worth a b x y h i (and_left b.constant (a.exact && b.exact) e) of_second
+          ((formed_as_number a x h).value (and_left a.exact b.exact parts)
+          (flaws_first first.flaws (both_flaws second.flaws bad) n))
+          ((formed_as_number b y i).value (and_right a.exact b.exact parts) of_second);
+    }
+
+  formed_factored : (a : Formed) (o : Operator) (at : ℕ) (b : Formed) (x y : ℤ) → IsFormed a x → IsFormed b y →
+      IsFormed (factored a ((o, at), b)) (source.operated x o y)
+  formed_factored a Operator.Times at b x y h i = formed_product a b x y h i
+  formed_factored a Operator.Div at b x y h i = formed_divided quotient_term quotient_weight floored some-quotient_term
+      (value-quotient_term state params) floored_steady at a b x y h i
+  formed_factored a Operator.Mod at b x y h i = formed_divided remainder_term remainder_weight rest_of
+      some-remainder_term (value-remainder_term state params) rest_steady at a b x y h i
 
   -- words
 
@@ -697,7 +726,7 @@ module _ (state params : List ℤ) where
   Part = Related IsWorth
 
   instances_formed : (s : Scope) (t : Sight) (name : List ℕ) (of : Part) (zs : List ℤ) → Sees s t →
-      AllFormed (map (λ z. of.0 (with_number s name z)) zs) (map (λ z. of.1 (with_name t name z)) zs)
+      AllFormed (map (λ z. of.0.made (with_number s name z)) zs) (map (λ z. of.1 (with_name t name z)) zs)
   instances_formed s t name of [] h = tt
   instances_formed s t name of (z ∷ zs) h =
       (of.2 (with_number s name z) (with_name t name z) (sees_inside s t name z h), instances_formed s t name of zs h)
@@ -707,37 +736,38 @@ module _ (state params : List ℤ) where
       IsFormed (quantified bs r a) y
   formed_quantified bs r a x y f h = record {
     known = h.known;
-    value = λ e n. h.value (and_right (is_fixed_range bs r) a.exact e) (nearer_second (range_misfit (numbers bs) r)
-        a.measure.bad_range n)
-        ∙ f (and_left (is_fixed_range bs r) a.exact e) (nearer_first (range_misfit (numbers bs) r) a.measure.bad_range
-        n);
+    value = λ e n.
+        let misfit = range_misfit (numbers bs) r in
+        h.value (and_right (is_fixed_range bs r) a.exact e) (flaws_second (range_flaws misfit) a.measure.flaws n)
+        ∙ f (and_left (is_fixed_range bs r) a.exact e) (ap (λ (k : Flaws). k.range)
+        (flaws_first (range_flaws misfit) a.measure.flaws n));
   }
 
   -- each kind of expression
 
-  parts_formed : (s : Scope) (t : Sight) (xs : List Part) → Sees s t → AllFormed (map (λ m. m s) (map (λ k. k.0) xs))
-      (map (λ m. m t) (map (λ k. k.1) xs))
+  parts_formed : (s : Scope) (t : Sight) (xs : List Part) → Sees s t →
+      AllFormed (map (λ m. m.made s) (map (λ k. k.0) xs)) (map (λ m. m t) (map (λ k. k.1) xs))
   parts_formed s t [] h = tt
   parts_formed s t (x ∷ xs) h = (x.2 s t h, parts_formed s t xs h)
 
   formed_added : (s : Scope) (t : Sight) (a : Formed) (z : ℤ) (xs : List (Symbol × Part)) → Sees s t → IsFormed a z →
-      IsFormed (fold plus a (map (λ (part : Symbol × Forming). (part.0, part.1 s)) (map (λ (k : Symbol × Part).
+      IsFormed (fold plus a (map (λ (part : Symbol × Forming). (part.0, part.1.made s)) (map (λ (k : Symbol × Part).
       (k.0, k.1.0)) xs)))
       (source.added t z (map (λ (k : Symbol × Part). (k.0, k.1.1)) xs))
   formed_added s t a z [] h k = k
   formed_added s t a z (x ∷ xs) h k =
-      formed_added s t (plus a (x.0, x.1.0 s)) (source.plus z x.0 (x.1.1 t)) xs h (formed_plus a x.0 (x.1.0 s) z
-      (x.1.1 t) k (x.1.2 s t h))
+      formed_added s t (plus a (x.0, x.1.0.made s)) (source.plus z x.0 (x.1.1 t)) xs h
+      (formed_plus a x.0 (x.1.0.made s) z (x.1.1 t) k (x.1.2 s t h))
 
   formed_multiplied : (s : Scope) (t : Sight) (a : Formed) (z : ℤ) (xs : List (Operator × Part)) → Sees s t →
       IsFormed a z →
-      IsFormed (fold factored a (map (λ (part : Operator × Forming). (part.0, part.1 s)) (map (λ (k : Operator × Part).
+      IsFormed (fold factored a (map (factor_at s) (map (λ (k : Operator × Part).
       (k.0, k.1.0)) xs)))
       (source.multiplied t z (map (λ (k : Operator × Part). (k.0, k.1.1)) xs))
   formed_multiplied s t a z [] h k = k
   formed_multiplied s t a z (x ∷ xs) h k =
-      formed_multiplied s t (factored a (x.0, x.1.0 s)) (source.operated z x.0 (x.1.1 t)) xs h
-      (formed_factored a x.0 (x.1.0 s) z (x.1.1 t) k (x.1.2 s t h))
+      formed_multiplied s t (factored a (factor_at s (x.0, x.1.0))) (source.operated z x.0 (x.1.1 t)) xs h
+      (formed_factored a x.0 x.1.0.at (x.1.0.made s) z (x.1.1 t) k (x.1.2 s t h))
 
   all_parts : (t : Sight) (xs : List Meaning) → list_all holds (map (λ m. m t) xs) ≡ list_all (λ m. holds (m t)) xs
   all_parts t [] = refl
@@ -748,26 +778,29 @@ module _ (state params : List ℤ) where
   any_parts t (x ∷ xs) = ap (λ v. holds (x t) || v) (any_parts t xs)
 
   layer : ExpressionLayers IsWorth form_layer value_layer
-  layer (Expr-F.Implies at l r) s t h = formed_implication (l.0 s) (r.0 s) (l.1 t) (r.1 t) (l.2 s t h) (r.2 s t h)
+  layer (Expr-F.Implies at l r) s t h =
+      formed_implication (l.0.made s) (r.0.made s) (l.1 t) (r.1 t) (l.2 s t h) (r.2 s t h)
   layer (Expr-F.And at x xs) s t h =
       formed_same _ _ _ (all_follow (holds (x.1 t)) (map (λ m. m t) (map (λ k. k.1) xs))
       ∙ ap (λ v. truth (holds (x.1 t) && v)) (all_parts t (map (λ k. k.1) xs)))
       (formed_joined conjunction (λ x y. truth (holds x && holds y)) _ _ _ _ formed_conjunction (formed_as_truth
-      (x.0 s) (x.1 t) (x.2 s t h)) (parts_formed s t xs h))
+      (x.0.made s) (x.1 t) (x.2 s t h)) (parts_formed s t xs h))
   layer (Expr-F.Or at x xs) s t h =
       formed_same _ _ _ (any_follows (holds (x.1 t)) (map (λ m. m t) (map (λ k. k.1) xs))
       ∙ ap (λ v. truth (holds (x.1 t) || v)) (any_parts t (map (λ k. k.1) xs)))
       (formed_joined disjunction (λ x y. truth (holds x || holds y)) _ _ _ _ formed_disjunction (formed_as_truth
-      (x.0 s) (x.1 t) (x.2 s t h)) (parts_formed s t xs h))
-  layer (Expr-F.Not at x) s t h = formed_denial (x.0 s) (x.1 t) (x.2 s t h)
-  layer (Expr-F.Compare at l r x) s t h = formed_comparison r (l.0 s) (x.0 s) (l.1 t) (x.1 t) (l.2 s t h) (x.2 s t h)
-  layer (Expr-F.Sum at minus x xs) s t h = formed_added s t _ _ xs h (formed_signed minus (x.0 s) (x.1 t) (x.2 s t h))
-  layer (Expr-F.Product at x xs) s t h = formed_multiplied s t (x.0 s) (x.1 t) xs h (x.2 s t h)
+      (x.0.made s) (x.1 t) (x.2 s t h)) (parts_formed s t xs h))
+  layer (Expr-F.Not at x) s t h = formed_denial (x.0.made s) (x.1 t) (x.2 s t h)
+  layer (Expr-F.Compare at l r x) s t h =
+      formed_comparison r (l.0.made s) (x.0.made s) (l.1 t) (x.1 t) (l.2 s t h) (x.2 s t h)
+  layer (Expr-F.Sum at minus x xs) s t h =
+      formed_added s t _ _ xs h (formed_signed minus (x.0.made s) (x.1 t) (x.2 s t h))
+  layer (Expr-F.Product at x xs) s t h = formed_multiplied s t (x.0.made s) (x.1 t) xs h (x.2 s t h)
   layer (Expr-F.Number at n) s t h = formed_number (pos n)
   layer (Expr-F.True at) s t h = formed_top
   layer (Expr-F.False at) s t h = formed_bottom
   layer (Expr-F.Word at name None) s t h = formed_word s t name.text h
-  layer (Expr-F.Word at name (Some x)) s t h = formed_element s t name.text (x.0 s) (x.1 t) h (x.2 s t h)
+  layer (Expr-F.Word at name (Some x)) s t h = formed_element s t name.text (x.0.made s) (x.1 t) h (x.2 s t h)
   layer (Expr-F.Brackets at x) s t h = x.2 s t h
   layer (Expr-F.Quantified at which name range of) s t h =
       formed_quantified s.bound range _ _ _
@@ -775,5 +808,5 @@ module _ (state params : List ℤ) where
       (range_numbers s.bound range e n ∙ sym (ap (λ b. range_values b range) h.bound)))
       (formed_gathered which _ _ (instances_formed s t name.text of (fit_values (numbers s.bound) range) h))
 
-  pub formed_law : (e : Expr) → IsWorth (formed e) (value e)
+  pub formed_law : (e : Expr) → IsWorth (forming e) (value e)
   formed_law e = two_expressions IsWorth form_layer value_layer layer e

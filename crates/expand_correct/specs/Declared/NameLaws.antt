@@ -1,7 +1,5 @@
 -- Names of programs and steps in well-named documents, and the ranges of parameters.
-use Rattle.std.specs.Prelude.{◌≡◌, List, [], ◌∷◌, All}
-use Rattle.unity_syntax.specs.declared.proof.Proof.{Proof}
-use Rattle.unity_syntax.specs.declared.document.Part.{Part}
+use Rattle.std.specs.Prelude.{◌≡◌, All}
 use Rattle.unity_syntax.specs.declared.document.Document.{Document}
 use Rattle.meaning_documents.specs.Setting.{programs_among}
 use Rattle.meaning_documents.specs.Programs.{name_of}

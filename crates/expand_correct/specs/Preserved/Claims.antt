@@ -1,10 +1,9 @@
 -- The claims of proofs in core form say what they say in the document.
-use Rattle.std.specs.Prelude.{◌≡◌, ℕ, ℤ, List, true, IsTrue, None, Some, slice_get, ⊤}
+use Rattle.std.specs.Prelude.{◌≡◌, ℤ, List, true, IsTrue, None, ⊤}
 use Rattle.unity_syntax.specs.declared.expression.Expr.{Expr}
 use Rattle.unity_syntax.specs.declared.proof.Claim.{Claim}
 use Rattle.unity_syntax.specs.declared.proof.Step.{Step}
 use Rattle.unity_syntax.specs.declared.proof.Proof.{Proof}
-use Rattle.unity_syntax.specs.declared.document.Part.{Part}
 use Rattle.unity_syntax.specs.declared.document.Document.{Document}
 use Rattle.meaning_states.specs.State.{State, is_state}
 use Rattle.meaning_documents.specs.Names.{Bindings}

@@ -1,4 +1,4 @@
--- The programs of a document without a fault become exact, and no end of a range in them is too large.
+-- The programs of a document without a fault become exact, and no end of a range and no divisor in them is bad.
 use Rattle.std.specs.Prelude.{◌≡◌, [], None, ⊤}
 use Rattle.unity_syntax.specs.declared.program.Program.{Program}
 use Rattle.unity_syntax.specs.declared.document.Document.{Document}

@@ -1,5 +1,5 @@
 -- Where the expressions of a well-named document stand, names and expansion agree.
-use Rattle.std.specs.Prelude.{◌≡◌, ℕ, ℤ, List, true, false, Some, None}
+use Rattle.std.specs.Prelude.{◌≡◌, ℕ, ℤ, List, false, Some, None}
 use Rattle.std.specs.Map.{lookup}
 use Rattle.std.specs.Str.{bytes_eq}
 use Rattle.unity_syntax.specs.declared.document.Part.{Part as DocumentPart}

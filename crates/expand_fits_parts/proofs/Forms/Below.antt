@@ -82,6 +82,8 @@ module _ (m n : ℕ) where
   term_layer (CTerm-F.Sub a b) = rolled_term (CTerm-F.Sub a.0 b.0) (λ p. both_low _ _ _ _
       (a.1 (and_first (T a.0) (T b.0) p)) (b.1 (and_second (T a.0) (T b.0) p)))
   term_layer (CTerm-F.Scale k a) = rolled_term (CTerm-F.Scale k a.0) a.1
+  term_layer (CTerm-F.Div a k) = rolled_term (CTerm-F.Div a.0 k) a.1
+  term_layer (CTerm-F.Mod a k) = rolled_term (CTerm-F.Mod a.0 k) a.1
   term_layer (CTerm-F.Ite c a b) = rolled_term (CTerm-F.Ite c.0 a.0 b.0) (λ p.
       let rest = and_second (F c.0) (T a.0 && T b.0) p in
       both_low _ _ _ _ (c.1 (and_first (F c.0) (T a.0 && T b.0) p))

@@ -38,6 +38,7 @@ use Rattle.expand_declarations.specs.Slots.{most_slots, part_declarations, decla
 use Rattle.expand_declarations.specs.Slots.{past_part}
 use Rattle.expand_declarations.specs.Shown.{shown_slots}
 use Rattle.expand_declarations.specs.Start.{start_values}
+use Rattle.expand_rules.specs.Lists.{flaws_fault}
 use Rattle.expand_rules.specs.declared.cores.Formed.{Formed}
 use Rattle.expand_rules.specs.Forming.{Scope, formed, as_truth}
 use Rattle.expand_rules.specs.Assigning.{Stated, stated}
@@ -45,7 +46,7 @@ use Rattle.expand_rules.specs.Lists.{items_fault}
 use Rattle.expand_rules.specs.Limits.{is_too_large}
 use Rattle.expand_rules.specs.Programs.{initial_form, core_statement, plain_core}
 use Rattle.expand_correct.proofs.Values.Lightness.{expressions_within, fits_truth}
-use Rattle.expand_steps.specs.Elements.{nearest, some_too_large, bad_range, element_fault}
+use Rattle.expand_steps.specs.Elements.{flaws_in, some_too_large, element_fault}
 use Rattle.expand_documents.specs.AlwaysNames.{with_definition, with_definitions}
 use Rattle.expand_documents.specs.Cores.{declared_scope, part_definitions, with_parts, document_scope, core_named}
 use Rattle.expand_documents.specs.Cores.{core_union, core_program, with_core, with_cores}
@@ -160,7 +161,7 @@ all_small (f ∷ fs) h = (
 pub small_elements : (front : ℕ) (fs : List Formed) → element_fault front fs ≡ None → Smalls fs
 small_elements front fs h = all_small fs (by (some_too_large fs) h)
   where
-    by : (b : Bool) → cond b (Some (record { code = Code.TooLarge; at = front })) (bad_range (nearest fs)) ≡ None →
+    by : (b : Bool) → cond b (Some (record { code = Code.TooLarge; at = front })) (flaws_fault (flaws_in fs)) ≡ None →
         b ≡ false
     by true f = cc f
     by false f = refl

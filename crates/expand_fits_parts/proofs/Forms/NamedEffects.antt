@@ -27,12 +27,14 @@ use Rattle.expand_rules.specs.declared.cores.Formed.{Formed}
 use Rattle.expand_rules.specs.declared.effects.Count.{Count}
 use Rattle.expand_rules.specs.declared.effects.Effect.{Effect}
 use Rattle.expand_rules.specs.Forming.{Scope, with_number, term_of, form_of, as_number, numbers, fit_values, formed}
+use Rattle.expand_rules.specs.Forming.{unwritten_count}
 use Rattle.expand_rules.specs.Assigning.{nothing, beside, write_to, equations, any_of, spread, open_effect}
 use Rattle.expand_rules.specs.Assigning.{array_effect, stray_effect, element_effect, indexed_effect, plain_slot}
 use Rattle.expand_rules.specs.Assigning.{target_effect, index_formed, paired_effect, condition, alternative_effect}
 use Rattle.expand_rules.specs.Assigning.{all_beside, Effecting, component_layer, assign_layer, effect_of}
-use Rattle.expand_rules.specs.Assigning.{both_counts, index_count, write_count, spread_count, exactly, is_outside}
-use Rattle.expand_rules.specs.Assigning.{outside_effect, unwritten_count}
+use Rattle.expand_rules.specs.Counts.{both_counts, index_count}
+use Rattle.expand_rules.specs.Assigning.{write_count, spread_count, exactly, is_outside}
+use Rattle.expand_rules.specs.Assigning.{outside_effect}
 use Rattle.expand_fits_parts.specs.Forms.Naming.{WordTest, or_word, Wording, words_pass, words_pass_or_none}
 use Rattle.expand_fits_parts.specs.Forms.Naming.{target_words}
 use Rattle.expand_fits_parts.specs.Forms.Naming.{alternative_words, component_words, assign_words, SlotsPass, Sees}
@@ -215,11 +217,11 @@ module _ (slots params : ℕ → Bool) where
         let words = words_pass e alone whole in
         let others = list_all (λ x. words_pass x alone whole) es in
         fine_beside (target_effect (variable_named d.name.text s.variables) (index_formed s d.index) c
-        (as_number (formed e s)) (unwritten_count e s.bound)) (paired_effect s ts es c)
+        (as_number (formed e s)) (unwritten_count e s)) (paired_effect s ts es c)
         (target_fine c h (variable_named d.name.text s.variables)
         (λ y f. g.variables d.name.text y (and_first (whole d.name.text) (words_pass_or_none d.index alone whole) here)
         f) d.index (and_second (whole d.name.text) (words_pass_or_none d.index alone whole) here) e
-        (and_first words others q) (unwritten_count e s.bound))
+        (and_first words others q) (unwritten_count e s))
         (paired_fine c h ts es more (and_second words others q))
 
     alternative_fine : (ts : List Target) → list_all (target_words alone whole) ts ≡ true → (x : Alternative) →

@@ -18,9 +18,9 @@ use Rattle.meaning_documents.specs.Value.{range_size}
 use Rattle.meaning_documents.specs.Names.{variable_named}
 use Rattle.names_laws.proofs.AttributeTheorems.{and_both, and_first, and_second}
 use Rattle.core_terms.specs.declared.trees.CTerm.{CTerm, fold-roll-CTerm}
-use Rattle.core_terms.specs.declared.trees.CTerm.TheVariants.{Const, Slot, Param, Add, Sub, Scale, Ite, rolls-Const}
-use Rattle.core_terms.specs.declared.trees.CTerm.TheVariants.{rolls-Slot, rolls-Param, rolls-Add, rolls-Sub}
-use Rattle.core_terms.specs.declared.trees.CTerm.TheVariants.{rolls-Scale, rolls-Ite}
+use Rattle.core_terms.specs.declared.trees.CTerm.TheVariants.{Const, Slot, Param, Add, Sub, Scale, Div, Mod, Ite}
+use Rattle.core_terms.specs.declared.trees.CTerm.TheVariants.{rolls-Const, rolls-Slot, rolls-Param, rolls-Add}
+use Rattle.core_terms.specs.declared.trees.CTerm.TheVariants.{rolls-Sub, rolls-Scale, rolls-Div, rolls-Mod, rolls-Ite}
 use Rattle.core_terms.specs.declared.trees.CForm.{CForm, fold-roll-CForm}
 use Rattle.core_terms.specs.declared.trees.CForm.TheVariants.{Top, Bottom, AtLeast, Zero, Not, And, Or, rolls-Top}
 use Rattle.core_terms.specs.declared.trees.CForm.TheVariants.{rolls-Bottom, rolls-AtLeast, rolls-Zero, rolls-Not}
@@ -29,18 +29,18 @@ use Rattle.core_terms.specs.declared.trees.CForm.TheOpen.{CTerm-F, CForm-F}
 use Rattle.core_terms.specs.Places.{only_step, all_parts, term_names_only, form_names_only}
 use Rattle.core_terms.specs.Folding.{number_of, truth_of, is_small, constant_or, truth_or, branch_or, folded_term}
 use Rattle.core_terms.specs.Folding.{folded_form, sum_term, difference_term, scaled_term, choice_term, at_least_form}
-use Rattle.core_terms.specs.Folding.{zero_form, not_form, and_form, or_form}
+use Rattle.core_terms.specs.Folding.{zero_form, not_form, and_form, or_form, quotient_term, remainder_term}
 use Rattle.expand_rules.specs.declared.cores.Core.{Core}
 use Rattle.expand_rules.specs.declared.cores.Bound.{Bound}
 use Rattle.expand_rules.specs.declared.cores.Formed.{Formed}
 use Rattle.expand_rules.specs.Forming.{Scope, with_number, term_of, form_of, factor_of, as_number, as_truth, sum}
 use Rattle.expand_rules.specs.Forming.{difference, negation, multiple, product, factored, at_least_zero, is_zero}
-use Rattle.expand_rules.specs.Forming.{denial}
+use Rattle.expand_rules.specs.Forming.{denial, divisor_of, factor_at, forming}
 use Rattle.expand_rules.specs.Forming.{conjunction, disjunction, implication, equation_by, equation, excess}
 use Rattle.expand_rules.specs.Forming.{comparison, signed, plus, chain, array_formed}
 use Rattle.expand_rules.specs.Forming.{bound_formed, variable_formed, formed_or_zero}
 use Rattle.expand_rules.specs.Forming.{element_by, element_of, number_constant, truth_constant, gathered_by, gathered}
-use Rattle.expand_rules.specs.Forming.{numbers, fit_values, Forming, form_layer, formed}
+use Rattle.expand_rules.specs.Forming.{numbers, fit_values, Forming, form_layer}
 use Rattle.expand_fits_parts.specs.Forms.Naming.{WordTest, or_word, Wording, words_layer, words_pass, SlotsPass}
 use Rattle.expand_fits_parts.specs.Forms.Naming.{core_names_only}
 use Rattle.expand_fits_parts.specs.Forms.Naming.{Sees}
@@ -80,6 +80,14 @@ module _ (slots params : ℕ → Bool) where
   names-Scale : (k : ℤ) (a : CTerm) → T (Scale k a) ≡ T a
   names-Scale k a = ap T (sym (rolls-Scale k a)) ∙ fold-roll-CTerm Bool Bool all_parts (only_step slots params)
       (CTerm-F.Scale k a)
+
+  names-Div : (k : ℤ) (a : CTerm) → T (Div a k) ≡ T a
+  names-Div k a = ap T (sym (rolls-Div a k)) ∙ fold-roll-CTerm Bool Bool all_parts (only_step slots params)
+      (CTerm-F.Div a k)
+
+  names-Mod : (k : ℤ) (a : CTerm) → T (Mod a k) ≡ T a
+  names-Mod k a = ap T (sym (rolls-Mod a k)) ∙ fold-roll-CTerm Bool Bool all_parts (only_step slots params)
+      (CTerm-F.Mod a k)
 
   names-Ite : (c : CForm) (a b : CTerm) → T (Ite c a b) ≡ (F c && (T a && T b))
   names-Ite c a b = ap T (sym (rolls-Ite c a b)) ∙ fold-roll-CTerm Bool Bool all_parts (only_step slots params)
@@ -141,6 +149,12 @@ module _ (slots params : ℕ → Bool) where
 
   scaled_names : (k : ℤ) (a : CTerm) → T a ≡ true → T (scaled_term k a) ≡ true
   scaled_names k a h = term_folded (Scale k a) (names-Scale k a ∙ h)
+
+  quotient_names : (k : ℤ) (a : CTerm) → T a ≡ true → T (quotient_term k a) ≡ true
+  quotient_names k a h = term_folded (Div a k) (names-Div k a ∙ h)
+
+  remainder_names : (k : ℤ) (a : CTerm) → T a ≡ true → T (remainder_term k a) ≡ true
+  remainder_names k a h = term_folded (Mod a k) (names-Mod k a ∙ h)
 
   branch_names : (m : Option Bool) (c : CForm) (a b : CTerm) → F c ≡ true → T a ≡ true → T b ≡ true →
       T (branch_or m a b (Ite c a b)) ≡ true
@@ -206,10 +220,13 @@ module _ (slots params : ℕ → Bool) where
       by true = fine_multiple a b i
       by false = fine_multiple b a h
 
-  fine_factored : (a : Formed) (o : Operator) (b : Formed) → Fine a → Fine b → Fine (factored a (o, b))
-  fine_factored a Operator.Times b h i = fine_product a b h i
-  fine_factored a Operator.Div b h i = names-Const (pos 0)
-  fine_factored a Operator.Mod b h i = names-Const (pos 0)
+  fine_factored : (a : Formed) (o : Operator) (at : ℕ) (b : Formed) → Fine a → Fine b →
+      Fine (factored a ((o, at), b))
+  fine_factored a Operator.Times at b h i = fine_product a b h i
+  fine_factored a Operator.Div at b h i = quotient_names (divisor_of (as_number b)) (term_of a.core)
+      (as_term a.core h)
+  fine_factored a Operator.Mod at b h i = remainder_names (divisor_of (as_number b)) (term_of a.core)
+      (as_term a.core h)
 
   fine_at_least : (a : Formed) → Fine a → Fine (at_least_zero a)
   fine_at_least a h = at_least_names (term_of a.core) (as_term a.core h)
@@ -300,7 +317,8 @@ module _ (slots params : ℕ → Bool) where
   -- each kind of expression
 
   abbrev pub Names : Wording → Forming → Type 0
-  Names p f = (alone whole : WordTest) (s : Scope) → p alone whole ≡ true → Sees slots params alone whole s → Fine (f s)
+  Names p f = (alone whole : WordTest) (s : Scope) → p alone whole ≡ true → Sees slots params alone whole s →
+      Fine (f.made s)
 
   abbrev Part : Type 0
   Part = Related Names
@@ -310,17 +328,18 @@ module _ (slots params : ℕ → Bool) where
 
   module _ (alone whole : WordTest) (s : Scope) (g : Sees slots params alone whole s) where
     fold_fine : (op : Formed → Formed → Formed) → KeepsFine op → (a : Formed) → Fine a → (xs : List Part) →
-        list_all (λ m. m alone whole) (map (λ k. k.0) xs) ≡ true → Fine (fold op a (map (λ m. m s) (map (λ k. k.1) xs)))
+        list_all (λ m. m alone whole) (map (λ k. k.0) xs) ≡ true →
+        Fine (fold op a (map (λ m. m.made s) (map (λ k. k.1) xs)))
     fold_fine op k a h [] p = h
     fold_fine op k a h (x ∷ xs) p =
         let here = and_first (x.0 alone whole) (list_all (λ m. m alone whole) (map (λ k. k.0) xs)) p in
         let rest = and_second (x.0 alone whole) (list_all (λ m. m alone whole) (map (λ k. k.0) xs)) p in
-        fold_fine op k (op a (x.1 s)) (k a (x.1 s) h (x.2 alone whole s here g)) xs rest
+        fold_fine op k (op a (x.1.made s)) (k a (x.1.made s) h (x.2 alone whole s here g)) xs rest
 
     sums_fine : (a : Formed) → Fine a → (xs : List (Symbol × Part)) →
         list_all (λ (part : Symbol × Wording). part.1 alone whole) (map (λ (k : Symbol × Part). (k.0, k.1.0)) xs) ≡ true
         →
-        Fine (fold plus a (map (λ (part : Symbol × Forming). (part.0, part.1 s)) (map (λ (k : Symbol × Part).
+        Fine (fold plus a (map (λ (part : Symbol × Forming). (part.0, part.1.made s)) (map (λ (k : Symbol × Part).
         (k.0, k.1.1)) xs)))
     sums_fine a h [] p = h
     sums_fine a h (x ∷ xs) p =
@@ -328,12 +347,12 @@ module _ (slots params : ℕ → Bool) where
         (k.0, k.1.0)) xs) in
         let here = and_first (x.1.0 alone whole) more p in
         let rest = and_second (x.1.0 alone whole) more p in
-        sums_fine (plus a (x.0, x.1.1 s)) (fine_plus a x.0 (x.1.1 s) h (x.1.2 alone whole s here g)) xs rest
+        sums_fine (plus a (x.0, x.1.1.made s)) (fine_plus a x.0 (x.1.1.made s) h (x.1.2 alone whole s here g)) xs rest
 
     factors_fine : (a : Formed) → Fine a → (xs : List (Operator × Part)) →
         list_all (λ (part : Operator × Wording). part.1 alone whole) (map (λ (k : Operator × Part). (k.0, k.1.0)) xs)
         ≡ true →
-        Fine (fold factored a (map (λ (part : Operator × Forming). (part.0, part.1 s)) (map (λ (k : Operator × Part).
+        Fine (fold factored a (map (factor_at s) (map (λ (k : Operator × Part).
         (k.0, k.1.1)) xs)))
     factors_fine a h [] p = h
     factors_fine a h (x ∷ xs) p =
@@ -341,7 +360,8 @@ module _ (slots params : ℕ → Bool) where
         (k.0, k.1.0)) xs) in
         let here = and_first (x.1.0 alone whole) more p in
         let rest = and_second (x.1.0 alone whole) more p in
-        factors_fine (factored a (x.0, x.1.1 s)) (fine_factored a x.0 (x.1.1 s) h (x.1.2 alone whole s here g)) xs rest
+        factors_fine (factored a (factor_at s (x.0, x.1.1)))
+        (fine_factored a x.0 x.1.1.at (x.1.1.made s) h (x.1.2 alone whole s here g)) xs rest
 
   joined_fine : (op : Formed → Formed → Formed) → KeepsFine op → (f : ℤ → Formed) → ((z : ℤ) → Fine (f z)) →
       (a : Formed) → Fine a → (zs : List ℤ) → Fine (fold op a (map f zs))
@@ -378,42 +398,42 @@ module _ (slots params : ℕ → Bool) where
   }
 
   layer : ExpressionLayers Names words_layer form_layer
-  layer (Expr-F.Implies at l r) a w s p g = fine_implication (l.1 s) (r.1 s)
+  layer (Expr-F.Implies at l r) a w s p g = fine_implication (l.1.made s) (r.1.made s)
       (l.2 a w s (and_first (l.0 a w) (r.0 a w) p) g) (r.2 a w s (and_second (l.0 a w) (r.0 a w) p) g)
   layer (Expr-F.And at x xs) a w s p g =
       let more = list_all (λ m. m a w) (map (λ k. k.0) xs) in
-      fold_fine a w s g conjunction fine_conjunction (as_truth (x.1 s))
-      (fine_truth (x.1 s) (x.2 a w s (and_first (x.0 a w) more p) g)) xs (and_second (x.0 a w) more p)
+      fold_fine a w s g conjunction fine_conjunction (as_truth (x.1.made s))
+      (fine_truth (x.1.made s) (x.2 a w s (and_first (x.0 a w) more p) g)) xs (and_second (x.0 a w) more p)
   layer (Expr-F.Or at x xs) a w s p g =
       let more = list_all (λ m. m a w) (map (λ k. k.0) xs) in
-      fold_fine a w s g disjunction fine_disjunction (as_truth (x.1 s))
-      (fine_truth (x.1 s) (x.2 a w s (and_first (x.0 a w) more p) g)) xs (and_second (x.0 a w) more p)
-  layer (Expr-F.Not at x) a w s p g = fine_denial (x.1 s) (x.2 a w s p g)
-  layer (Expr-F.Compare at l r x) a w s p g = fine_comparison r (l.1 s) (x.1 s)
+      fold_fine a w s g disjunction fine_disjunction (as_truth (x.1.made s))
+      (fine_truth (x.1.made s) (x.2 a w s (and_first (x.0 a w) more p) g)) xs (and_second (x.0 a w) more p)
+  layer (Expr-F.Not at x) a w s p g = fine_denial (x.1.made s) (x.2 a w s p g)
+  layer (Expr-F.Compare at l r x) a w s p g = fine_comparison r (l.1.made s) (x.1.made s)
       (l.2 a w s (and_first (l.0 a w) (x.0 a w) p) g) (x.2 a w s (and_second (l.0 a w) (x.0 a w) p) g)
   layer (Expr-F.Sum at minus x xs) a w s p g =
       let more = list_all (λ (part : Symbol × Wording). part.1 a w) (map (λ (k : Symbol × Part). (k.0, k.1.0)) xs) in
-      sums_fine a w s g (signed minus (x.1 s)) (fine_signed minus (x.1 s) (x.2 a w s (and_first (x.0 a w) more p) g)) xs
-      (and_second (x.0 a w) more p)
+      sums_fine a w s g (signed minus (x.1.made s))
+      (fine_signed minus (x.1.made s) (x.2 a w s (and_first (x.0 a w) more p) g)) xs (and_second (x.0 a w) more p)
   layer (Expr-F.Product at x xs) a w s p g =
       let more = list_all (λ (part : Operator × Wording). part.1 a w) (map (λ (k : Operator × Part).
       (k.0, k.1.0)) xs) in
-      factors_fine a w s g (x.1 s) (x.2 a w s (and_first (x.0 a w) more p) g) xs (and_second (x.0 a w) more p)
+      factors_fine a w s g (x.1.made s) (x.2 a w s (and_first (x.0 a w) more p) g) xs (and_second (x.0 a w) more p)
   layer (Expr-F.Number at number) a w s p g = fine_constant (pos number)
   layer (Expr-F.True at) a w s p g = fine_top
   layer (Expr-F.False at) a w s p g = fine_bottom
   layer (Expr-F.Word at name None) a w s p g = g.words name.text p
   layer (Expr-F.Word at name (Some x)) a w s p g =
-      element_fine (variable_named name.text s.variables) (as_number (x.1 s))
-      (fine_number (x.1 s) (x.2 a w s (and_second (w name.text) (x.0 a w) p) g))
+      element_fine (variable_named name.text s.variables) (as_number (x.1.made s))
+      (fine_number (x.1.made s) (x.2 a w s (and_second (w name.text) (x.0 a w) p) g))
       (λ v e. g.variables name.text v (and_first (w name.text) (x.0 a w) p) e)
   layer (Expr-F.Brackets at x) a w s p g = x.2 a w s p g
   layer (Expr-F.Quantified at which name range of) a w s p g =
-      gathered_fine which (λ z. of.1 (with_number s name.text z))
+      gathered_fine which (λ z. of.1.made (with_number s name.text z))
       (λ z. of.2 (or_word a name.text) w (with_number s name.text z) p (inside_sees a w s name.text z g))
       (fit_values (numbers s.bound) range)
 
-  pub names_law : (e : Expr) → Names (words_pass e) (formed e)
+  pub names_law : (e : Expr) → Names (words_pass e) (forming e)
   names_law e = two_expressions Names words_layer form_layer layer e
 
 pub expressions_name : ExpressionsName

@@ -68,6 +68,8 @@ module _ (slots params more others : ℕ → Bool) (slot_wider : (n : ℕ) → s
   term_layer (CTerm-F.Add a b) = rolled_term (CTerm-F.Add a.0 b.0) (both_wider (T a.0) (T b.0) (U a.0) (U b.0) a.1 b.1)
   term_layer (CTerm-F.Sub a b) = rolled_term (CTerm-F.Sub a.0 b.0) (both_wider (T a.0) (T b.0) (U a.0) (U b.0) a.1 b.1)
   term_layer (CTerm-F.Scale k a) = rolled_term (CTerm-F.Scale k a.0) a.1
+  term_layer (CTerm-F.Div a k) = rolled_term (CTerm-F.Div a.0 k) a.1
+  term_layer (CTerm-F.Mod a k) = rolled_term (CTerm-F.Mod a.0 k) a.1
   term_layer (CTerm-F.Ite c a b) = rolled_term (CTerm-F.Ite c.0 a.0 b.0)
       (both_wider (F c.0) (T a.0 && T b.0) (G c.0) (U a.0 && U b.0) c.1
       (both_wider (T a.0) (T b.0) (U a.0) (U b.0) a.1 b.1))

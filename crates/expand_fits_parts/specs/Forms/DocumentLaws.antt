@@ -6,6 +6,7 @@ use Rattle.meaning_documents.specs.Instances.{Instance, instances}
 use Rattle.core_terms.specs.declared.trees.Range.{Range}
 use Rattle.expand_declarations.specs.WordNumbers.{document_words}
 use Rattle.expand_declarations.specs.Slots.{document_slots}
+use Rattle.expand_rules.specs.Measures.{no_flaws}
 use Rattle.expand_rules.specs.Forming.{Scope}
 use Rattle.expand_rules.specs.Lists.{items_fault}
 use Rattle.expand_rules.specs.Assigning.{stated, is_large_effect}
@@ -15,11 +16,12 @@ use Rattle.expand_documents.specs.Cores.{declared_scope}
 use Rattle.expand_fits_parts.specs.Forms.Fitting.{ScopeFits}
 use Rattle.expand_fits_parts.specs.Forms.Programs.{ProgramFits}
 
--- where items have no fault, no instance of a statement among them is too large, and no range in one is bad
+-- where items have no fault, no instance of a statement among them is too large, and no range and no divisor in one is
+-- bad
 abbrev pub FaultlessInstances : Type 0
 FaultlessInstances = (s : Scope) (items : Items) → items_fault s items ([] ∷ []) ≡ None → (place : ℕ) (i : Instance) →
     slice_get (instances items) place ≡ Some i →
-    (is_large_effect (stated s i).effect ≡ false) × ((stated s i).effect.count.bad_range ≡ None)
+    (is_large_effect (stated s i).effect ≡ false) × ((stated s i).effect.count.flaws ≡ no_flaws)
 
 -- the parts of a document without a fault have none: neither their bodies, where all its always names stand,
 abbrev pub BodiesFaultless : Type 0

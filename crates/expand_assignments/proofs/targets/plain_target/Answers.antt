@@ -2,8 +2,7 @@ use Rattle.std.proofs.Common.{option_map, ap, ◌∙◌}
 use Rattle.std.proofs.lemmas.Result.{err_from_is_err_and}
 use Rattle.meaning_documents.specs.Names.{variable_named}
 use Rattle.names_rules.specs.Scope.{entries}
-use Rattle.expand_rules.specs.Forming.{as_number, formed}
-use Rattle.expand_rules.specs.Assigning.{unwritten_count}
+use Rattle.expand_rules.specs.Forming.{as_number, formed, unwritten_count}
 use Rattle.expand_expressions.specs.Places.{scope, variable_of}
 use Rattle.expand_expressions.specs.Sound.{of_number, of_truth}
 use Rattle.expand_assignments.proofs.PartLaws.{variable_found}
@@ -16,7 +15,7 @@ returns-in_err-v c =
     let p = err_from_is_err_and c.from_residual.result c.from_residual.ensures.1 in
     rw (p.1, p.2) (halts_value c.in_err-v.field-0.0 c.args.effect.now
     (variable_named c.args.name.now.text s.variables)
-    (of_truth c.args.c.now) (as_number (formed c.args.e.now s)) (unwritten_count c.args.e.now s.bound)
+    (of_truth c.args.c.now) (as_number (formed c.args.e.now s)) (unwritten_count c.args.e.now s)
     c.in_err-v.ensures)
 
 pub returns-in_err-write_plain : goal.returns-in_err-write_plain
@@ -27,7 +26,7 @@ returns-in_err-write_plain c =
     c.from_residual-in_err-write_plain.ensures.1 in
     rw (p.1, p.2) (plain_halts c.in_err-write_plain.field-0.0 c.args.effect.now (variable_named name s.variables)
     (option_map (variable_of name) c.find_variable.result) (of_truth c.args.c.now) (as_number (formed c.args.e.now s))
-    (of_number c.in_ok-v.v) (unwritten_count c.args.e.now s.bound)
+    (of_number c.in_ok-v.v) (unwritten_count c.args.e.now s)
     (ap (option_map (variable_of name)) c.find_variable.ensures ∙ variable_found name
     (entries c.args.known.now.variables.now))
     c.in_ok-v.ensures.0 (c.in_err-write_plain.ensures name))
@@ -38,7 +37,7 @@ returns c =
     let name = c.args.name.now.text in
     plain_done c.args.effect.now c.write_plain.new.effect c.mark.new.effect (variable_named name s.variables)
     (option_map (variable_of name) c.find_variable.result) (of_truth c.args.c.now) (as_number (formed c.args.e.now s))
-    (of_number c.in_ok-v.v) (unwritten_count c.args.e.now s.bound)
+    (of_number c.in_ok-v.v) (unwritten_count c.args.e.now s)
     (ap (option_map (variable_of name)) c.find_variable.ensures ∙ variable_found name
     (entries c.args.known.now.variables.now))
     c.in_ok-v.ensures.0 (c.in_ok-write_plain.ensures name) c.mark.ensures

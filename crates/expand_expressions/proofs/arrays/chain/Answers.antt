@@ -1,6 +1,6 @@
-use Rattle.std.proofs.Common.{◌≡◌, ◌+◌, ◌-◌, ◌≤◌, ◌+ℤ◌, pos, max, ap, sym, ◌∙◌, arith}
+use Rattle.std.proofs.Common.{◌≡◌, ◌+◌, ◌-◌, ◌+ℤ◌, pos, ap, sym, ◌∙◌, arith}
 use Rattle.core_terms.specs.declared.trees.CTerm.TheVariants.{Const, Slot}
-use Rattle.core_terms.specs.Folding.{number_of, choice_term, zero_form, difference_term}
+use Rattle.core_terms.specs.Folding.{choice_term, zero_form, difference_term}
 use Rattle.expand_rules.specs.Forming.{chain}
 use Rattle.expand_expressions.proofs.Elements.{chain_more}
 use Rattle.expand_expressions.proofs.arrays.chain.Goals as goal

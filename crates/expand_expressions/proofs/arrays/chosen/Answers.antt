@@ -1,4 +1,4 @@
-use Rattle.std.proofs.Common.{◌≡◌, ap, sym, ◌∙◌, Some, option_map}
+use Rattle.std.proofs.Common.{ap, sym, ◌∙◌, Some, option_map}
 use Rattle.std.proofs.lemmas.Result.{IfOk-weaker}
 use Rattle.meaning_documents.specs.Names.{slot_at}
 use Rattle.expand_expressions.specs.Places.{ends_of}

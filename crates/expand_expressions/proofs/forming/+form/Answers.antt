@@ -1,22 +1,19 @@
-use Rattle.std.proofs.Common.{◌≡◌, ℕ, ◌<◌, ℤ, pos, ◌+ℤ◌, List, [], ◌∷◌, map, drop, Bool, true, ◌&&◌, Some, None, Err}
+use Rattle.std.proofs.Common.{◌≡◌, ℕ, ℤ, pos, ◌+ℤ◌, List, ◌∷◌, map, drop, ◌&&◌, Err}
 use Rattle.std.proofs.Common.{sym, ap, ◌∙◌, subst, arith, refl}
 use Rattle.std.proofs.lemmas.Result.{err_from_is_err_and}
 use Rattle.std.specs.Prelude.{fold}
 use Rattle.case_tables.specs.declared.symbol_table.Symbol.{Symbol}
 use Rattle.unity_syntax.specs.declared.expression.Expr.{Expr}
-use Rattle.unity_syntax.specs.declared.expression.Operator.{Operator}
 use Rattle.meaning_documents.specs.Value.{count_up}
 use Rattle.meaning_documents.specs.Names.{variable_named}
 use Rattle.expand_rules.specs.declared.cores.Bound.{Bound}
-use Rattle.expand_rules.specs.declared.cores.Formed.{Formed}
-use Rattle.expand_rules.specs.Limits.{is_past, is_too_large}
 use Rattle.expand_rules.specs.Measures.{quantifier_measure, range_misfit}
-use Rattle.expand_rules.specs.Forming.{Scope, with_number, as_truth, conjunction, disjunction, factored, plus}
+use Rattle.expand_rules.specs.Forming.{with_number, conjunction, disjunction, factored, factor_in, plus}
 use Rattle.expand_rules.specs.Forming.{signed, denial, comparison, gathered, numbers, fit_values, quantified}
 use Rattle.expand_rules.specs.Forming.{formed}
 use Rattle.expand_rules.proofs.Equations.{formed-And, formed-Or, formed-Not, formed-Compare, formed-Sum}
 use Rattle.expand_rules.proofs.Equations.{formed-Product, formed-Element, formed-Quantified}
-use Rattle.expand_rules.proofs.Growing.{as_truth_keeps, denial_keeps, comparison_first, comparison_second}
+use Rattle.expand_rules.proofs.Growing.{denial_keeps, comparison_first, comparison_second}
 use Rattle.expand_rules.proofs.Growing.{signed_keeps, element_keeps, quantified_keeps, factored_first, factored_second}
 use Rattle.expand_rules.proofs.Growing.{plus_first, plus_second, large_of_size}
 use Rattle.expand_expressions.specs.declared.joining.Joint.{Joint}
@@ -75,7 +72,7 @@ form-returns-in_err-first-in-Product-clause-formed t c =
     let f = λ (x : Expr). formed x s in
     let p = err_from_is_err_and c.from_residual-in_err-first-in-Product.result
     c.from_residual-in_err-first-in-Product.ensures.1 in
-    let parts = map (λ (q : Operator × Expr). (q.0, formed q.1 s)) c.in-Product.rest in
+    let parts = map (factor_in s) c.in-Product.rest in
     rw (p.1, p.2, c.in-Product.is, formed-Product)
     (passes_at c.in_err-first-in-Product.field-0.0 f c.get-in-Product.result.now c.in-Product.first
     (fold factored (f c.in-Product.first) parts)
@@ -88,7 +85,7 @@ form-returns-in_ok-first-in-Product-clause-formed t c =
     let f = λ (x : Expr). formed x s in
     rw (c.in-Product.is, formed-Product)
     (subst (λ a. GivesCore c.multiplied.result (fold factored a
-    (map (λ (q : Operator × Expr). (q.0, formed q.1 s)) c.in-Product.rest)))
+    (map (factor_in s) c.in-Product.rest)))
     (c.in_ok-first-in-Product.ensures.formed ∙ ap f c.get-in-Product.ensures) c.multiplied.ensures.formed)
 
 pub form-returns-in_err-first-in-Sum-clause-formed : goal.form-returns-in_err-first-in-Sum-clause-formed
@@ -221,7 +218,7 @@ added-returns-in_err-next-clause-formed t c =
     let parts = map (λ (q : Symbol × Expr). (q.0, formed q.1 s)) c.args.rest.now in
     let p = err_from_is_err_and c.from_residual-in_err-next.result c.from_residual-in_err-next.ensures.1 in
     rw (p.1, p.2) (passes c.in_err-next.field-0.0 (f c.part-item.result.1) (fold plus begin parts)
-    (marked_next plus plus_first plus_second f c.loop-part.whole c.as_slice-part-items.result.now
+    (marked_next plus plus_first plus_second (λ (q : Symbol × Expr). (q.0, formed q.1 s)) c.loop-part.whole c.as_slice-part-items.result.now
     c.args.rest.now c.loop-part.part-index begin
     c.in_ok-whole.whole c.loop-part-test.true c.in_ok-whole.ensures.formed c.as_slice-part-items.ensures
     c.loop-part.invariant.0 c.part-item.result c.part-item.is) c.in_err-next.ensures.formed)
@@ -235,7 +232,7 @@ added-returns-in_err-whole-2-clause-formed t c =
     let p = err_from_is_err_and c.from_residual-in_err-whole-2.result c.from_residual-in_err-whole-2.ensures.1 in
     rw (p.1, p.2) (passes c.in_err-whole-2.field-0.0 (plus c.loop-part.whole
     (c.part-item.result.0, c.in_ok-next.next)) (fold plus begin parts)
-    (marked_joined plus plus_first plus_second f c.loop-part.whole c.as_slice-part-items.result.now
+    (marked_joined plus plus_first plus_second (λ (q : Symbol × Expr). (q.0, formed q.1 s)) c.loop-part.whole c.as_slice-part-items.result.now
     c.args.rest.now c.loop-part.part-index begin
     c.in_ok-whole.whole c.loop-part-test.true c.in_ok-whole.ensures.formed c.as_slice-part-items.ensures
     c.loop-part.invariant.0 c.part-item.result c.in_ok-next.next c.part-item.is c.in_ok-next.ensures.formed)
@@ -245,10 +242,10 @@ pub multiplied-returns-in_err-next-clause-formed : goal.multiplied-returns-in_er
 multiplied-returns-in_err-next-clause-formed t c =
     let s = scope c.args.known.now c.args.env.now in
     let f = λ (x : Expr). formed x s in
-    let parts = map (λ (q : Operator × Expr). (q.0, formed q.1 s)) c.args.rest.now in
+    let parts = map (factor_in s) c.args.rest.now in
     let p = err_from_is_err_and c.from_residual.result c.from_residual.ensures.1 in
     rw (p.1, p.2) (passes c.in_err-next.field-0.0 (f c.part-item.result.1) (fold factored c.args.first parts)
-    (marked_next factored factored_first factored_second f c.loop-part.whole c.as_slice-part-items.result.now
+    (marked_next factored factored_first factored_second (factor_in s) c.loop-part.whole c.as_slice-part-items.result.now
     c.args.rest.now c.loop-part.part-index c.args.first c.args.first c.loop-part-test.true refl
     c.as_slice-part-items.ensures c.loop-part.invariant.0 c.part-item.result c.part-item.is)
     c.in_err-next.ensures.formed)
@@ -256,15 +253,15 @@ multiplied-returns-in_err-next-clause-formed t c =
 pub multiplied-returns-in_err-whole-clause-formed : goal.multiplied-returns-in_err-whole-clause-formed
 multiplied-returns-in_err-whole-clause-formed t c =
     let s = scope c.args.known.now c.args.env.now in
-    let f = λ (x : Expr). formed x s in
-    let parts = map (λ (q : Operator × Expr). (q.0, formed q.1 s)) c.args.rest.now in
+    let parts = map (factor_in s) c.args.rest.now in
+    let mark = (factor_in s c.part-item.result).0 in
     let p = err_from_is_err_and c.from_residual-in_err-whole.result c.from_residual-in_err-whole.ensures.1 in
-    rw (p.1, p.2) (passes c.in_err-whole.field-0.0 (factored c.loop-part.whole
-    (c.part-item.result.0, c.in_ok-next.next)) (fold factored c.args.first parts)
-    (marked_joined factored factored_first factored_second f c.loop-part.whole c.as_slice-part-items.result.now
+    rw (p.1, p.2) (passes c.in_err-whole.field-0.0 (factored c.loop-part.whole (mark, c.in_ok-next.next)) (fold factored c.args.first parts)
+    (marked_joined factored factored_first factored_second (factor_in s) c.loop-part.whole c.as_slice-part-items.result.now
     c.args.rest.now c.loop-part.part-index c.args.first c.args.first c.loop-part-test.true refl
     c.as_slice-part-items.ensures c.loop-part.invariant.0 c.part-item.result c.in_ok-next.next c.part-item.is
-    c.in_ok-next.ensures.formed) c.in_err-whole.ensures.formed)
+    c.in_ok-next.ensures.formed) (subst (λ n. GivesCore (Err c.in_err-whole.field-0.0) (factored c.loop-part.whole
+    ((c.part-item.result.0, n), c.in_ok-next.next))) c.first_byte.ensures c.in_err-whole.ensures.formed))
 
 pub quantified-returns-in_err-whole-clause-formed : goal.quantified-returns-in_err-whole-clause-formed
 quantified-returns-in_err-whole-clause-formed t c =

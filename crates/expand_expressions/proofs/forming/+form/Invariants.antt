@@ -2,9 +2,8 @@ use Rattle.std.proofs.Common.{◌≡◌, ◌^◌, ◌≤◌, map, drop}
 use Rattle.std.specs.Prelude.{fold}
 use Rattle.case_tables.specs.declared.symbol_table.Symbol.{Symbol}
 use Rattle.unity_syntax.specs.declared.expression.Expr.{Expr}
-use Rattle.unity_syntax.specs.declared.expression.Operator.{Operator}
 use Rattle.meaning_documents.specs.Value.{count_up}
-use Rattle.expand_rules.specs.Forming.{formed, factored, plus, gathered, with_number}
+use Rattle.expand_rules.specs.Forming.{formed, factored, factor_in, plus, gathered, with_number}
 use Rattle.expand_expressions.specs.Sound.{IsSound}
 use Rattle.expand_expressions.specs.Joints.{joint_of}
 use Rattle.expand_expressions.specs.Places.{scope}
@@ -25,9 +24,8 @@ invariant-added-loop-part l =
 
 abbrev pub invariant-multiplied-loop-part : goal.invariant-multiplied-loop-part
 invariant-multiplied-loop-part l =
-    (fold factored l.whole (map (λ (p : Operator × Expr). (p.0, formed p.1 (scope l.known l.env)))
-    (drop l.part-index l.part-items))
-    ≡ fold factored l.fn.first (map (λ (p : Operator × Expr). (p.0, formed p.1 (scope l.known l.env))) l.part-items))
+    (fold factored l.whole (map (factor_in (scope l.known l.env)) (drop l.part-index l.part-items))
+    ≡ fold factored l.fn.first (map (factor_in (scope l.known l.env)) l.part-items))
     × IsSound l.whole × (l.whole.measure.most ≤ 2 ^ 62)
 
 abbrev pub invariant-instances-loop-k : goal.invariant-instances-loop-k

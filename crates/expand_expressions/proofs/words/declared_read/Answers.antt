@@ -1,14 +1,12 @@
-use Rattle.std.proofs.Common.{◌≡◌, ◌∙◌, ap, sym, Option, Some, None, option_map}
+use Rattle.std.proofs.Common.{◌≡◌, ◌∙◌, ap, sym, option_map}
 use Rattle.std.proofs.lemmas.Result.{IfOk-weaker}
 use Rattle.std.specs.Option.{option_or}
 use Rattle.std.specs.Map.{lookup}
 use Rattle.std.specs.Str.{bytes_eq}
 use Rattle.names_rules.specs.Scope.{entries}
 use Rattle.meaning_documents.specs.Names.{variable_named}
-use Rattle.expand_rules.specs.declared.cores.Formed.{Formed}
 use Rattle.expand_rules.specs.Forming.{formed_or_zero, variable_formed, number_constant}
-use Rattle.expand_expressions.specs.declared.places.VariableSlots.{VariableSlots}
-use Rattle.expand_expressions.specs.Places.{slot_formed, plain_slots, variables_of, declared_word}
+use Rattle.expand_expressions.specs.Places.{slot_formed, plain_slots, variables_of}
 use Rattle.expand_expressions.proofs.Variables.{variable_is}
 use Rattle.expand_expressions.proofs.words.declared_read.Goals as goal
 

@@ -1,11 +1,12 @@
 use Rattle.std.proofs.Common.{ℕ, [], ◌∷◌, Ok, sym, subst, ap, ◌∙◌}
 use Rattle.unity_syntax.specs.declared.term.Term.{Term}
+use Rattle.core_terms.specs.declared.trees.CForm.{CForm}
 use Rattle.core_terms.specs.declared.documents.PTerm.{PTerm}
 use Rattle.expand_expressions.specs.Places.{scope}
 use Rattle.expand_steps.specs.declared.terms.Induction.{Induction}
 use Rattle.expand_steps.specs.Elements.{form_in, number_in, term_in, truth_in}
 use Rattle.expand_steps.specs.ProofTerms.{Termed, Terms, place, with_bound_name, fixed_ends, inducted_by}
-use Rattle.expand_steps.specs.ProofTerms.{second_paired, termed}
+use Rattle.expand_steps.specs.ProofTerms.{second_paired, termed, weakened_by}
 use Rattle.expand_declarations.specs.Numbers.{core_range}
 use Rattle.expand_steps.proofs.TermLaws.{termed-Pair, terms_after}
 use Rattle.expand_steps.proofs.terms.+term.Goals as goal
@@ -53,3 +54,16 @@ term-returns-in_ok-first-in-Pair t c =
     (subst (λ (core : PTerm).
     Terms result next front middle new (second_paired which core (termed second here c.term.new.next)))
     given.0.same c.second_term.ensures)))
+
+pub weaken-returns : goal.weaken-returns
+weaken-returns t c =
+    let s = scope c.args.here.now.known.now c.args.env.now in
+    let front = c.args.here.now.front in let result = c.weaken_by.result in let next = c.weaken_by.new.next in
+    let middle = c.imply.new.bad in let new = c.weaken_by.new.bad in
+    let here = place c.args.here.now c.args.names.now c.args.env.now in
+    let given = c.in_ok-p.ensures in
+    let of : Termed = termed c.args.of.now here c.args.next.now in
+    terms_after result next front c.args.bad.now middle new (truth_in s c.args.p.now ∷ truth_in s c.args.q.now ∷ [])
+    (weakened_by (form_in s c.args.p.now) (form_in s c.args.q.now) of) given.noted given.fits
+    (subst (λ (f : CForm × CForm). Terms result next front middle new (weakened_by f.0 f.1 of)) given.same
+    c.weaken_by.ensures)
