@@ -1,5 +1,5 @@
 -- The names of codes and kinds, as texts have them.
-use Rattle.std.specs.Prelude.{ℕ, List, [], ◌∷◌, ◌++◌, codes, decimal, unwrap_or}
+use Rattle.std.specs.Prelude.{ℕ, List, [], ◌++◌, codes, decimal, unwrap_or}
 use Rattle.case_tables.specs.declared.kind_table.Kind.{Kind}
 use Rattle.case_tables.specs.declared.code_table.Code.{Code}
 use Rattle.case_tables.specs.contracts.kind_table.KindPartialEq.TheImpl.{ghosts as kind_ghosts}

@@ -1,7 +1,9 @@
 -- What calls give, from what the calls of their parts give.
 use Rattle.std.proofs.Common.{◌≡◌, Bool, true, false, Result, Ok, Err, refl, sym, subst}
 use Rattle.case_tables.specs.declared.code_table.Code.{Code}
+use Rattle.fair_rounds.specs.declared.records.Record.{Record}
 use Rattle.rules_table.specs.Table.{needs, go_on}
+use Rattle.safety_rules.specs.Instances.{AnswersRecord}
 use Rattle.safety_rules.specs.declared.places.RuleError.{RuleError}
 use Rattle.leadsto_rules.specs.Leading.{TermGives}
 
@@ -22,6 +24,12 @@ pub part_given : {A B : Type 0} (x : A) (row : Result A Code) (f : A → Result 
     TermGives (Ok x) row → TermGives answer (f x) → TermGives answer (go_on row f)
 part_given x (Ok y) f answer given rest = subst (λ z. TermGives answer (f z)) given rest
 part_given x (Err code) f answer given rest = absurd given
+
+-- a reference names a record
+pub record_given : {B : Type 0} (a : Record) (row : Result Record Code) (f : Record → Result B Code)
+    (answer : Result B RuleError) → AnswersRecord (Ok a) row → TermGives answer (f a) → TermGives answer (go_on row f)
+record_given a (Ok b) f answer given rest = subst (λ z. TermGives answer (f z)) given rest
+record_given a (Err code) f answer given rest = absurd given
 
 -- a condition is met
 pub need_met : {A : Type 0} (b : Bool) (code : Code) (rest : Result A Code) (answer : Result A RuleError) →

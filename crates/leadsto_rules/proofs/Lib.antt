@@ -2,6 +2,7 @@ pub mod PartLaws
 pub mod AnyLaws
 pub mod ArgLaws
 pub mod DeriveLaws
+pub mod DivideLaws
 pub mod GivesLaws
 pub mod InductionLaws
 pub mod NodeLaws

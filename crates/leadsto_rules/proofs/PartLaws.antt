@@ -1,15 +1,18 @@
 -- What a tree is worth from a number on, from what its parts are worth.
 use Rattle.std.proofs.Common.{◌≡◌, ℕ, ◌≤◌, ℤ, pos, ◌+ℤ◌, ◌-ℤ◌, ◌*ℤ◌, List, Bool, true, false, cond, not}
-use Rattle.std.proofs.Common.{◌&&◌, ◌||◌, Option, Some, None, sym, ap, ◌∙◌, arith, refl, slice_get}
+use Rattle.std.proofs.Common.{◌&&◌, ◌||◌, Option, Some, sym, ap, ◌∙◌, arith, refl, slice_get}
 use Rattle.std.specs.Bool.{OnTrue}
-use Rattle.std.specs.Option.{option_map, IfSome}
+use Rattle.std.specs.Option.{option_map}
 use Rattle.std.specs.Int.RustNames.{int_le}
 use Rattle.std.proofs.lemmas.Int.{ints}
 use Rattle.meaning_states.specs.State.{int_eq}
+use Rattle.meaning_states.specs.Division.{divisor, floored, rest_of}
+use Rattle.meaning_states.proofs.DivisionTheorems.{parts_make_the_number}
 use Rattle.core_terms.specs.declared.documents.Arg.{Arg}
 use Rattle.core_terms.specs.declared.trees.CTerm.{CTerm, fold-roll-CTerm}
-use Rattle.core_terms.specs.declared.trees.CTerm.TheVariants.{Const, Slot, Param, Add, Sub, Scale, Ite, rolls-Const}
-use Rattle.core_terms.specs.declared.trees.CTerm.TheVariants.{rolls-Param, rolls-Add, rolls-Sub, rolls-Scale, rolls-Ite}
+use Rattle.core_terms.specs.declared.trees.CTerm.TheVariants.{Const, Slot, Param, Add, Sub, Scale, Div, Mod, Ite}
+use Rattle.core_terms.specs.declared.trees.CTerm.TheVariants.{rolls-Const, rolls-Param, rolls-Add, rolls-Sub}
+use Rattle.core_terms.specs.declared.trees.CTerm.TheVariants.{rolls-Scale, rolls-Div, rolls-Mod, rolls-Ite}
 use Rattle.core_terms.specs.declared.trees.CForm.{CForm, fold-roll-CForm}
 use Rattle.core_terms.specs.declared.trees.CForm.TheVariants.{Top, Bottom, AtLeast, Zero, Not, And, Or, rolls-Top}
 use Rattle.core_terms.specs.declared.trees.CForm.TheVariants.{rolls-Bottom, rolls-AtLeast, rolls-Zero, rolls-Not}
@@ -43,6 +46,16 @@ number-Scale : (k : ℤ) (a : CTerm) → number_of (Scale k a) ≡ option_map (�
 number-Scale k a =
     ap number_of (sym (rolls-Scale k a)) ∙ fold-roll-CTerm (Option Bool) (Option ℤ) truth_step number_step
     (CTerm-F.Scale k a)
+
+number-Div : (a : CTerm) (k : ℤ) → number_of (Div a k) ≡ option_map (λ x. floored x k) (number_of a)
+number-Div a k =
+    ap number_of (sym (rolls-Div a k)) ∙ fold-roll-CTerm (Option Bool) (Option ℤ) truth_step number_step
+    (CTerm-F.Div a k)
+
+number-Mod : (a : CTerm) (k : ℤ) → number_of (Mod a k) ≡ option_map (λ x. rest_of x k) (number_of a)
+number-Mod a k =
+    ap number_of (sym (rolls-Mod a k)) ∙ fold-roll-CTerm (Option Bool) (Option ℤ) truth_step number_step
+    (CTerm-F.Mod a k)
 
 pub truth-Top : truth_of Top ≡ Some true
 truth-Top = ap truth_of (sym rolls-Top) ∙ fold-roll-CForm (Option Bool) (Option ℤ) truth_step number_step CForm-F.Top
@@ -114,6 +127,18 @@ module _ (args : List Arg) where
       ap N (sym (rolls-Scale k a)) ∙ ap number_of (fold-roll-CTerm CForm CTerm replace_form T (CTerm-F.Scale k a))
       ∙ known_folded_term (Scale k u) ∙ number-Scale k u
 
+  at-Div : (a : CTerm) (k : ℤ) → N (Div a k) ≡ option_map (λ x. floored x k) (N a)
+  at-Div a k =
+      let u : CTerm = term_at args a in
+      ap N (sym (rolls-Div a k)) ∙ ap number_of (fold-roll-CTerm CForm CTerm replace_form T (CTerm-F.Div a k))
+      ∙ known_folded_term (Div u k) ∙ number-Div u k
+
+  at-Mod : (a : CTerm) (k : ℤ) → N (Mod a k) ≡ option_map (λ x. rest_of x k) (N a)
+  at-Mod a k =
+      let u : CTerm = term_at args a in
+      ap N (sym (rolls-Mod a k)) ∙ ap number_of (fold-roll-CTerm CForm CTerm replace_form T (CTerm-F.Mod a k))
+      ∙ known_folded_term (Mod u k) ∙ number-Mod u k
+
   at-Ite : (c : CForm) (a b : CTerm) (h : Bool) → B c ≡ Some h → N (Ite c a b) ≡ cond h (N a) (N b)
   at-Ite c a b h e =
       let f : CForm = form_at args c in
@@ -164,6 +189,13 @@ module _ (args : List Arg) where
       let v : CForm = form_at args g in
       ap B (sym (rolls-Or f g)) ∙ ap truth_of (fold-roll-CForm CForm CTerm replace_form T (CForm-F.Or f g))
       ∙ known_folded_form (Or u v) ∙ truth-Or u v
+
+-- a remainder, from the quotient
+rest_is : (z k q : ℤ) → floored z k ≡ q → rest_of z k ≡ z -ℤ divisor k *ℤ q
+rest_is z k q is =
+    let parts = parts_make_the_number z k in
+    let same : divisor k *ℤ floored z k ≡ divisor k *ℤ q = ap (λ x. divisor k *ℤ x) is in
+    omega (arith, ints, parts, same)
 
 both_some : {A : Type 0} (op : A → A → A) (m n : Option A) (x y : A) → m ≡ Some x → n ≡ Some y →
     joined op m n ≡ Some (op x y)
@@ -227,6 +259,29 @@ module _ (args : ℤ → List Arg) (z : ℤ) where
       at-Scale y c a ∙ ap (option_map (λ x. c *ℤ x)) (part k h)
       ∙ ap (λ (x : ℤ). Some x) (times-add c l.value (l.slope *ℤ pos k)
       ∙ ap (λ x. c *ℤ l.value +ℤ x) (sym (times-times c l.slope (pos k))) ∙ ap (λ x. line_at x k) (sym is))
+
+  pub on-Div : (m n : ℕ) (a : CTerm) (c : ℤ) (l w : Line) → IsLineOn args z m a l → n ≤ m →
+      ((k : ℕ) → k ≤ n → floored (line_at l k) c ≡ line_at w k) → IsLineOn args z n (Div a c) w
+  on-Div m n a c l w part within same k h =
+      at-Div (args (z +ℤ pos k)) a c ∙ ap (option_map (λ x. floored x c)) (part k (omega (arith, h, within)))
+      ∙ ap (λ (x : ℤ). Some x) (same k h)
+
+  pub on-Mod : (m n : ℕ) (a : CTerm) (c : ℤ) (l q w : Line) → IsLineOn args z m a l → n ≤ m →
+      ((k : ℕ) → k ≤ n → floored (line_at l k) c ≡ line_at q k) →
+      w ≡ difference_line l (multiple_line (divisor c) q) → IsLineOn args z n (Mod a c) w
+  on-Mod m n a c l q w part within same is k h =
+      at-Mod (args (z +ℤ pos k)) a c ∙ ap (option_map (λ x. rest_of x c)) (part k (omega (arith, h, within)))
+      ∙ ap (λ (x : ℤ). Some x) (rest_is (line_at l k) c (line_at q k) (same k h)
+      ∙ less l.value q.value l.slope q.slope (pos k) (divisor c) ∙ ap (λ x. line_at x k) (sym is))
+    where
+      less : (v w a b k d : ℤ) → (v +ℤ a *ℤ k) -ℤ d *ℤ (w +ℤ b *ℤ k) ≡ (v -ℤ d *ℤ w) +ℤ (a -ℤ d *ℤ b) *ℤ k
+      less v w a b k d =
+          let apart = times-add d w (b *ℤ k) in
+          let turned = times-times d b k in
+          let whole : (a -ℤ d *ℤ b) +ℤ d *ℤ b ≡ a = omega (arith, ints) in
+          let t = add-times (a -ℤ d *ℤ b) (d *ℤ b) k in
+          let same : ((a -ℤ d *ℤ b) +ℤ d *ℤ b) *ℤ k ≡ a *ℤ k = ap (λ x. x *ℤ k) whole in
+          omega (arith, ints, apart, turned, t, same)
 
   pub on-Ite : (n : ℕ) (c : CForm) (a b : CTerm) (s : Bool) (l : Line) → IsTruthOn args z n c s →
       IsLineOn args z n (cond s a b) l → IsLineOn args z n (Ite c a b) l

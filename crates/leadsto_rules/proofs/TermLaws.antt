@@ -11,7 +11,6 @@ use Rattle.rules_table.specs.Table.{Site, needs, go_on, is_unless}
 use Rattle.rules_table.specs.Terms.{Ask, term_of, node, referred, leads_on, leads_either, leads_safely}
 use Rattle.rules_table.specs.declared.led.Led.{Led}
 use Rattle.rules_table.proofs.RowEquations.{term-Trans, term-Either, term-Psp}
-use Rattle.safety_rules.specs.Instances.{AnswersRecord}
 use Rattle.safety_rules.specs.declared.places.RuleError.{RuleError}
 use Rattle.leadsto_rules.specs.Leading.{TermGives}
 use Rattle.leadsto_rules.proofs.GivesLaws.{gives_same, part_given}
@@ -47,13 +46,12 @@ module _ (site : Site) (ranges : List Range) (book : List Record) where
       (term-Either site ranges book t u)
       (part_given first (asked t) (λ a. go_on (asked u) (then_either a)) answer one (whole (asked u) two))
 
-  pub psp_given : (t : PTerm) (r : Ref) (first : Led) (second : Result Record RuleError)
-      (answer : Result Led RuleError) →
-      TermGives (Ok first) (asked t) → AnswersRecord second (referred site ranges book is_unless r) →
-      ((row : Result Record Code) → AnswersRecord second row → TermGives answer (go_on row (then_safely first))) →
+  pub psp_given : (t : PTerm) (r : Ref) (first : Led) (answer : Result Led RuleError) →
+      TermGives (Ok first) (asked t) →
+      TermGives answer (go_on (referred site ranges book is_unless r) (then_safely first)) →
       TermGives answer (asked (Psp t r))
-  psp_given t r first second answer one two whole =
+  psp_given t r first answer one whole =
       let row : Result Record Code = referred site ranges book is_unless r in
       gives_same answer (asked (Psp t r)) (go_on (asked t) (λ a. go_on row (then_safely a)))
       (term-Psp site ranges book t r)
-      (part_given first (asked t) (λ a. go_on row (then_safely a)) answer one (whole row two))
+      (part_given first (asked t) (λ a. go_on row (then_safely a)) answer one whole)

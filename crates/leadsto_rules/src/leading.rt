@@ -6,10 +6,10 @@ ghost use Rattle.safety_rules.specs.Answers.{site_of, IsPlace};
 ghost use Rattle.safety_rules.specs.Instances.{RecordFits};
 ghost use Rattle.leadsto_rules.specs.Leading.{TermGives, LedFits, IsTermIn};
 
+use crate::cited::{led_from, led_safely};
 use crate::inductions::{Induction, led_down};
-use crate::parts::{led_by, led_either, led_from, led_on, led_safely, led_weaker};
+use crate::parts::{led_by, led_either, led_on, led_weaker};
 use crate::ranging::led_any;
-use crate::references::{Purpose, referred};
 use core_terms::{PTerm, Range};
 use fair_rounds::Record;
 use rules_table::Led;
@@ -33,10 +33,7 @@ pub(crate) fn lead(
 {
     match t {
         PTerm::Imply(p, q) => led_by(alloc, pl, ranges, p, q),
-        PTerm::From(r) => {
-            let a = referred(alloc, pl, ranges, book, Purpose::Lead, r);
-            led_from(alloc, pl, ranges, a)
-        }
+        PTerm::From(r) => led_from(alloc, pl, ranges, book, r),
         PTerm::Trans(t, u) => {
             let first = lead(alloc, pl, ranges, book, t.get())?;
             let second = lead(alloc, pl, ranges, book, u.get());
@@ -49,8 +46,7 @@ pub(crate) fn lead(
         }
         PTerm::Psp(t, r) => {
             let part = lead(alloc, pl, ranges, book, t.get())?;
-            let a = referred(alloc, pl, ranges, book, Purpose::Safe, r);
-            led_safely(alloc, pl, ranges, part, a)
+            led_safely(alloc, pl, ranges, book, part, r)
         }
         PTerm::Weaken(p, q, t) => {
             let part = lead(alloc, pl, ranges, book, t.get())?;

@@ -2,6 +2,7 @@
 #![tactic(auto)]
 
 mod bound;
+mod cited;
 mod derivation;
 mod disjunctions;
 mod gathering;

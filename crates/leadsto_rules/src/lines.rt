@@ -1,9 +1,12 @@
 // Numbers that change by the same from each number to the next, and how long they stay at or above 0.
-ghost use Rattle.std.specs.Prelude.{◌≡◌, ℕ, ◌≤◌, min, true, pos, ◌+ℤ◌, ◌*ℤ◌, ◌≤ℤ◌};
+ghost use Rattle.std.specs.Prelude.{◌≡◌, ℕ, ◌≤◌, min, true, pos, ◌+ℤ◌, ◌*ℤ◌, ◌≤ℤ◌, ◌<ℤ◌};
+ghost use Rattle.meaning_states.specs.Division.{divisor, floored};
 ghost use Rattle.std.specs.Bool.{OnTrue};
 ghost use Rattle.std.specs.Int.RustNames.{int_le};
 ghost use Rattle.meaning_states.specs.State.{int_eq};
 ghost use Rattle.leadsto_rules.specs.Lines.{line_at, sum_line, difference_line, multiple_line};
+
+use core_terms::{quotient, remainder};
 
 /// A parameter, a number that is put for it, and how many further numbers follow.
 #[derive(Clone, Copy)]
@@ -93,6 +96,43 @@ pub(crate) fn multiply(k: i64, line: &mut Line) -> bool
     }
 }
 
+// Divides a line, rounded down, and says for how many of these steps the quotient is a line.
+#[inline(never)]
+pub(crate) fn divide(k: i64, line: &mut Line, reach: u64) -> u64
+    ensures within { result ≤ reach }
+    ensures quotient { (n : ℕ) → n ≤ result → floored (line_at line.old n) k ≡ line_at line.new n }
+{
+    let value = quotient(line.value, k);
+    let rest = remainder(line.value, k);
+    let slope = line.slope;
+    if remainder(slope, k) == 0 {
+        *line = Line {
+            value,
+            slope: quotient(slope, k),
+        };
+        reach
+    } else {
+        *line = Line { value, slope: 0 };
+        steps_inside(rest, divisor_of(k), slope, reach)
+    }
+}
+
+// Makes of a line what a division by a number leaves of it, where the quotient is the other line. False where a
+// number is too great.
+#[inline(never)]
+pub(crate) fn take_rest(k: i64, line: &mut Line, mut quotient: Line) -> bool
+    ensures { OnTrue result (line.new ≡ difference_line line.old (multiple_line (divisor k) quotient)) }
+{
+    multiply(divisor_of(k), &mut quotient) && subtract(line, &quotient)
+}
+
+// What is divided by, which is at least 1.
+fn divisor_of(k: i64) -> i64
+    ensures { result ≡ divisor k }
+{
+    k.max(1)
+}
+
 // So many steps, but no more than there are.
 fn at_most(steps: u128, reach: u64) -> u64
     ensures { result ≡ min steps reach }
@@ -126,6 +166,19 @@ fn steps_below(distance: u128, slope: i128, reach: u64) -> u64
     } else {
         at_most(distance / slope.unsigned_abs(), reach)
     }
+}
+
+// For how many steps a line from a number at or above 0 and below an end stays there.
+fn steps_inside(number: i128, end: i64, slope: i128, reach: u64) -> u64
+    requires low { pos 0 ≤ℤ number }
+    requires high { number <ℤ end }
+    ensures within { result ≤ reach }
+    ensures low { (k : ℕ) → k ≤ result → pos 0 ≤ℤ (number +ℤ slope *ℤ pos k) }
+    ensures high { (k : ℕ) → k ≤ result → (number +ℤ slope *ℤ pos k) <ℤ end }
+{
+    let room = i128::from(end) - 1 - number;
+    let below = steps_below(room.unsigned_abs(), slope, reach);
+    steps_above(number.unsigned_abs(), slope, below)
 }
 
 // Whether a line is at least 0, and for how many of these steps.

@@ -32,6 +32,8 @@ fn term_names(t: &CTerm, number: u32) -> bool
         CTerm::Add(a, b) => term_names(a.get(), number) || term_names(b.get(), number),
         CTerm::Sub(a, b) => term_names(a.get(), number) || term_names(b.get(), number),
         CTerm::Scale(_, a) => term_names(a.get(), number),
+        CTerm::Div(a, _) => term_names(a.get(), number),
+        CTerm::Mod(a, _) => term_names(a.get(), number),
         CTerm::Ite(c, a, b) => {
             names(c.get(), number) || (term_names(a.get(), number) || term_names(b.get(), number))
         }

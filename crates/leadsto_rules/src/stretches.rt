@@ -4,10 +4,12 @@ ghost use Rattle.std.specs.Prelude.{◌≡◌, ℕ, ◌≤◌, ℤ, List, IfSome
 ghost use Rattle.std.specs.Bool.{OnTrue};
 ghost use Rattle.core_terms.specs.declared.documents.Arg.{Arg};
 ghost use Rattle.core_terms.specs.declared.trees.CForm.TheVariants.{AtLeast, Zero, And, Or};
-ghost use Rattle.core_terms.specs.declared.trees.CTerm.TheVariants.{Param, Add, Sub, Ite};
+ghost use Rattle.core_terms.specs.declared.trees.CTerm.TheVariants.{Param, Add, Sub, Div, Mod, Ite};
 ghost use Rattle.leadsto_rules.specs.Stretches.{PutsNumber, IsLineOn, IsTruthOn};
 
-use crate::lines::{Line, Start, Stretch, add, at_least, known_line, multiply, subtract, zero};
+use crate::lines::{
+    Line, Start, Stretch, add, at_least, divide, known_line, multiply, subtract, take_rest, zero,
+};
 use core_terms::{CForm, CTerm};
 use unity_base::Shared;
 
@@ -113,6 +115,8 @@ fn line_from(t: &CTerm, start: &Start, reach: &mut u64, line: &mut Line) -> bool
         CTerm::Add(a, b) => sum_from(a, b, start, reach, line),
         CTerm::Sub(a, b) => difference_from(a, b, start, reach, line),
         CTerm::Scale(k, a) => line_from(a.get(), start, reach, line) && multiply(*k, line),
+        CTerm::Div(a, k) => quotient_from(a, *k, start, reach, line),
+        CTerm::Mod(a, k) => remainder_from(a, *k, start, reach, line),
         CTerm::Ite(c, a, b) => choice_from(c, a, b, start, reach, line),
     }
 }
@@ -170,6 +174,43 @@ fn difference_from(
         return false;
     }
     subtract(line, &second)
+}
+
+// The line of a quotient, up to where it leaves the line.
+#[cycle(stretches)]
+#[inline(never)]
+fn quotient_from(a: &Shared<CTerm>, k: i64, start: &Start, reach: &mut u64, line: &mut Line) -> bool
+    ensures line { (args : ℤ → List Arg) → PutsNumber start.now.name args →
+        OnTrue result (IsLineOn args start.now.number reach.new (Div a.now k) line.new) }
+    ensures reach { reach.new ≤ reach.old }
+{
+    if !line_from(a.get(), start, reach, line) {
+        return false;
+    }
+    *reach = divide(k, line, *reach);
+    true
+}
+
+// The line of a remainder, up to where it leaves the line.
+#[cycle(stretches)]
+#[inline(never)]
+fn remainder_from(
+    a: &Shared<CTerm>,
+    k: i64,
+    start: &Start,
+    reach: &mut u64,
+    line: &mut Line,
+) -> bool
+    ensures line { (args : ℤ → List Arg) → PutsNumber start.now.name args →
+        OnTrue result (IsLineOn args start.now.number reach.new (Mod a.now k) line.new) }
+    ensures reach { reach.new ≤ reach.old }
+{
+    if !line_from(a.get(), start, reach, line) {
+        return false;
+    }
+    let mut quotient = *line;
+    *reach = divide(k, &mut quotient, *reach);
+    take_rest(k, line, quotient)
 }
 
 // The line of the branch, for as long as it is the same.

@@ -1,9 +1,9 @@
 pub mod BookLaws
 pub mod BudgetLaws
-pub mod Checkable
 pub mod Equations
 pub mod FollowLaws
 pub mod LoopLaws
+pub mod MadeLaws
 pub mod PlanLaws
 pub mod ReachLaws
 pub mod RuleLaws

@@ -35,6 +35,14 @@ use Rattle.proof_script.specs.Verdicts.{surplus_fault, last_verdict, no_plan, ve
 use Rattle.proof_script.proofs.Equations.{refuted-none, refuted-more, taken-is, step-is, steps-none, steps-more}
 use Rattle.proof_script.proofs.Equations.{proofs-none, proofs-more, then_so}
 
+-- no version allows more levels
+pub most_are_few : (version : ℕ) → most_levels version ≤ 4096
+most_are_few version = by_version (nat_eq version 2)
+  where
+    by_version : (b : Bool) → cond b 4096 1024 ≤ 4096
+    by_version true = omega arith
+    by_version false = omega arith
+
 -- an error that is handed on
 pub handed_on : {T : Type 0} (P : Result T ScriptError → Type 0) (r : Result T ScriptError) (e : ScriptError) →
     IsErrAnd r (λ x. x ≡ e) → P (Err e) → P r

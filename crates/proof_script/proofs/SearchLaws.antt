@@ -13,22 +13,24 @@ use Rattle.obligations.specs.declared.branches.Variable.{Variable}
 use Rattle.obligations.specs.declared.branches.Obligation.{Obligation}
 use Rattle.obligations.specs.declared.certificates.Cert.{Cert}
 use Rattle.obligations.specs.Certificates.{units}
+use Rattle.obligations.specs.Obligations.{IsObligation}
 use Rattle.obligations.specs.Opening.{Valid}
 use Rattle.obligations.specs.Plain.{enough}
 use Rattle.certificate_check.specs.Trees.{is_whole}
-use Rattle.certificate_check.proofs.RefutationLaws.{sound}
+use Rattle.certificate_check.proofs.SoundLaws.{sound}
 use Rattle.certificate_check.proofs.WholeLaws.{more-levels}
 use Rattle.fair_rounds.specs.declared.records.Record.{Record}
 use Rattle.linear_prover.specs.Chains.{is_plain_node}
-use Rattle.search_tree.specs.Searching.{Proof, Counterexample, Partial}
-use Rattle.rules_table.proofs.EachLaws.{Each}
+use Rattle.search_tree.specs.Searching.{Proof, Counterexample, Partial, is_found_node}
+use Rattle.rules_table.proofs.EachLaws.{Each, each_parts, from_all}
 use Rattle.safety_rules.specs.declared.places.Derived.{Derived}
 use Rattle.proof_script.specs.declared.plans.Plan.{Plan}
 use Rattle.proof_script.specs.declared.plans.StepFault.{StepFault}
 use Rattle.proof_script.specs.declared.refuting.StepName.{StepName}
 use Rattle.proof_script.specs.declared.finding.Finding.{Finding}
 use Rattle.proof_script.specs.declared.finding.Halt.{Halt}
-use Rattle.proof_script.specs.Proving.{units_of, enough_for, ComesAtNumber, IsFalse, IsOwner, ProvedWithin}
+use Rattle.proof_script.specs.Proving.{units_of, enough_for, IsWithoutQuotient, ComesAtNumber, IsFalse, IsOwner}
+use Rattle.proof_script.specs.Proving.{ProvedWithin}
 use Rattle.proof_script.specs.Proving.{BudgetIsShort}
 use Rattle.proof_script.specs.Proving.{IsStopped}
 use Rattle.proof_script.specs.Reaching.{Stop, Reach, reach_of, reached}
@@ -75,12 +77,14 @@ shown_kept certs more n (o ∷ os) h = (
   shown_kept certs more (suc n) os h.1,
 )
 
-each_valid : (certs : List Cert) (n : ℕ) (os : List Obligation) → AreShown 1024 certs n os → Each Valid os
-each_valid certs n [] h = tt
-each_valid certs n (o ∷ os) h = (sound 1024 o h.0.0.nodes h.0.2, each_valid certs (suc n) os h.1)
+each_valid : (certs : List Cert) (n : ℕ) (os : List Obligation) → Each IsObligation os → AreShown 1024 certs n os →
+    Each Valid os
+each_valid certs n [] are h = tt
+each_valid certs n (o ∷ os) are h =
+    (sound 1024 o h.0.0.nodes are.0 h.0.2, each_valid certs (suc n) os are.1 h.1)
 
 pub all_valid : (os : List Obligation) (f : Finding) → HasCertificates os f → All Valid os
-all_valid os f h = to_all Valid os (each_valid f.certs 0 os h.shown)
+all_valid os f h = to_all Valid os (each_valid f.certs 0 os (from_all IsObligation os h.makeable) h.shown)
 
 -- what is shown within some levels is shown within more
 more_shown : (few many : ℕ) → few ≤ many → (certs : List Cert) (n : ℕ) (os : List Obligation) →
@@ -101,11 +105,18 @@ least_levels version = by_version (nat_eq version 2)
 
 -- one obligation
 
+without_last : (before : List Obligation) (o : Obligation) → All IsWithoutQuotient (before ++ o ∷ []) →
+    All IsWithoutQuotient before × IsWithoutQuotient o
+without_last before o none =
+    let parts = each_parts IsWithoutQuotient before (o ∷ [])
+    (from_all IsWithoutQuotient (before ++ o ∷ []) none) in
+    (to_all IsWithoutQuotient before parts.0, parts.1.0)
+
 pub found_one : (before : List Obligation) (o : Obligation) (cert : Cert) (old new : Finding) →
-    HasCertificates before old →
+    HasCertificates before old → IsObligation o →
     Proof o old.left cert.nodes → new.certs ≡ old.certs ++ cert ∷ [] → new.left + units cert.nodes ≡ old.left →
     new.budget ≡ old.budget → HasCertificates (before ++ o ∷ []) new × (new.budget ≡ old.budget)
-found_one before o cert old new h proof certs left budget =
+found_one before o cert old new h is proof certs left budget =
     let had : length old.certs ≡ length before = h.count in
     let is_one : ShownAt 1024 (old.certs ++ cert ∷ []) (length before) o =
     (cert, subst (λ n. slice_get (old.certs ++ cert ∷ []) n ≡ Some cert) had (got_next old.certs cert []), proof.walked)
@@ -119,6 +130,7 @@ found_one before o cert old new h proof certs left budget =
     let cheap = h.cheap in
     let more : units cert.nodes ≤ enough o = proof.cheap in (
       record {
+        makeable = All-push IsObligation before o h.makeable is;
         count = ap (λ (cs : List Cert). length cs) certs
             ∙ same_count (length (old.certs ++ cert ∷ [])) (length (before ++ o ∷ [])) (length old.certs)
             (length before) long longer had;
@@ -128,8 +140,13 @@ found_one before o cert old new h proof certs left budget =
             (subst (λ n. ShownAt 1024 (old.certs ++ cert ∷ []) n o) (none_more (length before)) is_one, tt));
         whole = subst (λ (cs : List Cert). All (λ (c : Cert). is_whole c.nodes 1 ≡ true) cs) (sym certs)
             (All-push (λ (c : Cert). is_whole c.nodes 1 ≡ true) old.certs cert h.whole proof.whole);
-        plain = subst (λ (cs : List Cert). All (λ (c : Cert). list_all is_plain_node c.nodes ≡ true) cs) (sym certs)
-            (All-push (λ (c : Cert). list_all is_plain_node c.nodes ≡ true) old.certs cert h.plain proof.plain);
+        found = subst (λ (cs : List Cert). All (λ (c : Cert). list_all is_found_node c.nodes ≡ true) cs) (sym certs)
+            (All-push (λ (c : Cert). list_all is_found_node c.nodes ≡ true) old.certs cert h.found proof.found);
+        plain = λ none.
+            let parts = without_last before o none in
+            subst (λ (cs : List Cert). All (λ (c : Cert). list_all is_plain_node c.nodes ≡ true) cs) (sym certs)
+            (All-push (λ (c : Cert). list_all is_plain_node c.nodes ≡ true) old.certs cert (h.plain parts.0)
+            (proof.plain parts.1));
         spent = ap (λ (cs : List Cert). units_of cs + new.left) certs
             ∙ spent_is (units_of (old.certs ++ cert ∷ [])) (units_of old.certs) (units cert.nodes) new.left old.left
             old.budget new.budget all left spent budget;
@@ -389,10 +406,12 @@ pub begins : (budget : ℕ) (plan : Plan) (f : Finding) → plan ≡ no_plan →
 begins budget plan f e h =
     subst (λ p. IsUnderWay p f) (sym e) (subst (λ x. IsUnderWay no_plan x) (sym h) (record {
       found = record {
+        makeable = All-nil IsObligation;
         count = refl;
         shown = tt;
         whole = All-nil (λ (c : Cert). is_whole c.nodes 1 ≡ true);
-        plain = All-nil (λ (c : Cert). list_all is_plain_node c.nodes ≡ true);
+        found = All-nil (λ (c : Cert). list_all is_found_node c.nodes ≡ true);
+        plain = λ none. All-nil (λ (c : Cert). list_all is_plain_node c.nodes ≡ true);
         spent = none_spent budget;
         cheap = none_needed;
       };
@@ -416,7 +435,8 @@ proved_by d budget plan f e h same =
           (omega (arith, count));
       within = few (units_of f.certs) f.left f.budget budget spent same;
       whole = h.found.whole;
-      plain = h.found.plain;
+      found = h.found.found;
+      plain = λ none. h.found.plain (subst (λ r. All IsWithoutQuotient (reached r).obligations) e none);
     }
   where
     few : (all left had budget : ℕ) → all + left ≡ had → had ≡ budget → all ≤ budget

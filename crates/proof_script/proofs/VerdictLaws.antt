@@ -11,8 +11,9 @@ use Rattle.core_terms.specs.declared.documents.CProof.{CProof}
 use Rattle.core_terms.specs.declared.documents.CDocument.{CDocument}
 use Rattle.obligations.specs.declared.branches.Obligation.{Obligation}
 use Rattle.obligations.specs.declared.certificates.Cert.{Cert}
+use Rattle.obligations.specs.Obligations.{IsObligation}
 use Rattle.certificate_check.specs.Refutation.{WalkResult, walk_from_root}
-use Rattle.certificate_check.proofs.RefutationLaws.{sound}
+use Rattle.certificate_check.proofs.SoundLaws.{sound}
 use Rattle.rules_table.specs.Conclusion.{Conclusion}
 use Rattle.rules_table.specs.Validity.{Goal, goal_obligation, AllValid}
 use Rattle.rules_table.specs.Table.{needs}
@@ -20,6 +21,7 @@ use Rattle.rules_table.specs.Walk as walk
 use Rattle.rules_table.specs.Walk.{Around, Failure, has_defined, or_failure, further, rule_of, planned, steps_of}
 use Rattle.rules_table.specs.Walk.{proof_end}
 use Rattle.rules_table.specs.Walk.{program_of, proof_steps, proofs_of}
+use Rattle.rules_table.proofs.EachLaws.{Each}
 use Rattle.rules_table.proofs.GoalLaws.{goal_shown}
 use Rattle.rules_table.proofs.SiteLaws.{met}
 use Rattle.rules_table.proofs.WalkTheorems.{walk_sound}
@@ -33,6 +35,7 @@ use Rattle.proof_script.specs.Verdicts.{most_levels, refuted_by, grown, taken, s
 use Rattle.proof_script.specs.Verdicts.{proof_verdict, proofs_verdict, surplus_fault, last_verdict, no_plan, verdict_of}
 use Rattle.proof_script.proofs.Equations.{refuted-more, taken-is, step-is, steps-none, steps-more}
 use Rattle.proof_script.proofs.LoopLaws.{rule_passed}
+use Rattle.proof_script.proofs.MadeLaws.{accepted_makes}
 use Rattle.proof_script.proofs.Equations.{proofs-none, proofs-more, then_so}
 use Rattle.proof_script.proofs.ReachLaws.{shown_join}
 
@@ -78,12 +81,13 @@ all_shown levels certs program step number (o ∷ os) done less e =
 
 -- and so they are valid
 shown_valid : (levels : ℕ) (slots : List CSlot) (certs : List Cert) (number : ℕ) (goals : List Goal) →
-    AreShown levels certs number (obligations_of slots goals) → AllValid slots goals
-shown_valid levels slots certs number [] h = tt
-shown_valid levels slots certs number (g ∷ goals) h =
+    Each IsObligation (obligations_of slots goals) → AreShown levels certs number (obligations_of slots goals) →
+    AllValid slots goals
+shown_valid levels slots certs number [] are h = tt
+shown_valid levels slots certs number (g ∷ goals) are h =
     let o : Obligation = goal_obligation slots g.params g.form in (
-      goal_shown slots g.params g.form (sound levels o h.0.0.nodes h.0.2),
-      shown_valid levels slots certs (suc number) goals h.1,
+      goal_shown slots g.params g.form (sound levels o h.0.0.nodes are.0 h.0.2),
+      shown_valid levels slots certs (suc number) goals are.1 h.1,
     )
 
 -- the plans of verdict and walk
@@ -283,18 +287,20 @@ accepted_shown d certs plan e =
     }
 
 pub accepted_valid : AcceptedIsValid
-accepted_valid d certs plan e =
+accepted_valid d certs plan good e =
     let s = accepted_shown d certs plan e in
+    let are : Each IsObligation (obligations_of d.slots s.steps.goals) =
+    subst (λ (p : Plan). Each IsObligation p.obligations) s.planned (accepted_makes d certs plan good e) in
     record {
       steps = s.steps;
       walked = s.walked;
       planned = s.planned;
-      valid = shown_valid (most_levels d.version) d.slots certs 0 s.steps.goals s.shown;
+      valid = shown_valid (most_levels d.version) d.slots certs 0 s.steps.goals are s.shown;
       certified = s.certified;
     }
 
 pub accepted_holds : AcceptedHolds
 accepted_holds d certs plan good e place a c there named =
-    let f = accepted_valid d certs plan e in
+    let f = accepted_valid d certs plan good e in
     walk_sound d good (starts_in d.slots) f.steps f.walked f.valid place a c
     (ap (λ (p : Plan). slice_get p.records place) (sym f.planned) ∙ there) named

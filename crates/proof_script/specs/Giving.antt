@@ -1,11 +1,8 @@
 -- What a call's answer says of a verdict; want of memory says nothing.
-use Rattle.std.specs.Prelude.{◌≡◌, ◌≤◌, ◌^◌, List, true, Some, Result, Ok, Err, All, slice_get, ℕ}
+use Rattle.std.specs.Prelude.{◌≡◌, List, true, Some, Result, Ok, Err, All, slice_get, ℕ}
 use Rattle.core_terms.specs.declared.programs.CProgram.{CProgram}
 use Rattle.core_terms.specs.declared.documents.CDocument.{CDocument}
-use Rattle.obligations.specs.declared.branches.Obligation.{Obligation}
 use Rattle.obligations.specs.declared.certificates.Cert.{Cert}
-use Rattle.obligations.specs.Load.{form_load}
-use Rattle.obligations.specs.Obligations.{AreVariables}
 use Rattle.certificate_check.specs.Trees.{is_whole}
 use Rattle.fair_rounds.specs.declared.records.Record.{Record}
 use Rattle.fair_rounds.specs.Records.{Holds}
@@ -35,11 +32,6 @@ Passes (Err ScriptError.Memory) verdict = Unit {0}
 -- each certificate is one whole tree
 abbrev pub AreWhole : List Cert → Type 0
 AreWhole certs = All (λ (c : Cert). is_whole c.nodes 1 ≡ true) certs
-
--- an obligation that certificates can be checked against
-pub record IsCheckable (o : Obligation) : Type 0 where
-  pub variables : AreVariables o.variables
-  pub load : form_load o.form ≤ 2 ^ 62
 
 -- the property of each record holds in all executions of its program
 abbrev pub PlanHolds : CDocument → Plan → Type 0

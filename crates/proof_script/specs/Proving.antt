@@ -8,10 +8,10 @@ use Rattle.obligations.specs.declared.branches.Obligation.{Obligation}
 use Rattle.obligations.specs.declared.certificates.Cert.{Cert}
 use Rattle.obligations.specs.Certificates.{units}
 use Rattle.obligations.specs.Opening.{Valid}
-use Rattle.obligations.specs.Plain.{enough}
+use Rattle.obligations.specs.Plain.{enough, quotients_in}
 use Rattle.fair_rounds.specs.declared.records.Record.{Record}
 use Rattle.linear_prover.specs.Chains.{is_plain_node}
-use Rattle.search_tree.specs.Searching.{Counterexample}
+use Rattle.search_tree.specs.Searching.{Counterexample, is_found_node}
 use Rattle.proof_script.specs.declared.plans.Plan.{Plan}
 use Rattle.proof_script.specs.declared.plans.StepFault.{StepFault}
 use Rattle.proof_script.specs.declared.plans.ScriptError.{ScriptError}
@@ -28,16 +28,29 @@ units_of certs = sum (map (λ (c : Cert). units c.nodes) certs)
 abbrev pub enough_for : List Obligation → ℕ
 enough_for os = sum (map enough os)
 
--- no number in them is outside plus or minus 2^62
+-- they have only nodes that a search can write, and no number in these is outside plus or minus 2^62
+abbrev pub AreFound : List Cert → Type 0
+AreFound certs = All (λ (c : Cert). list_all is_found_node c.nodes ≡ true) certs
+
+-- they have only nodes that version 1 has, and no number in these is outside
 abbrev pub ArePlain : List Cert → Type 0
 ArePlain certs = All (λ (c : Cert). list_all is_plain_node c.nodes ≡ true) certs
+
+-- no quotient can be taken in the obligation
+abbrev pub IsWithoutQuotient : Obligation → Type 0
+IsWithoutQuotient o = quotients_in o ≡ 0
+
+-- nor in any that the steps leave, up to the first that fails
+abbrev pub HasNoQuotients : CDocument → Type 0
+HasNoQuotients d = All IsWithoutQuotient (reached (reach_of d)).obligations
 
 -- the document is accepted with these certificates, which have at most so many units together
 pub record ProvedWithin (d : CDocument) (budget : ℕ) (plan : Plan) (certs : List Cert) : Type 0 where
   pub verdict : verdict_of d certs ≡ Ok plan
   pub within : units_of certs ≤ budget
   pub whole : AreWhole certs
-  pub plain : ArePlain certs
+  pub found : AreFound certs
+  pub plain : HasNoQuotients d → ArePlain certs
 
 -- the first failure of a rule or a proof's end; all obligations of the steps before it are valid
 pub record IsStopped (r : Reach) (fault : StepFault) : Type 0 where

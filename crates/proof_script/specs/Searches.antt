@@ -1,14 +1,17 @@
 -- How far a search for certificates has come.
 use Rattle.std.specs.Prelude.{◌≡◌, ℕ, suc, ◌+◌, ◌≤◌, ◌<◌, List, [], ◌∷◌, ◌++◌, length, slice_get, Some, Result, Ok, Err}
+use Rattle.std.specs.Prelude.{All}
 use Rattle.obligations.specs.declared.branches.Obligation.{Obligation}
 use Rattle.obligations.specs.declared.certificates.Cert.{Cert}
+use Rattle.obligations.specs.Obligations.{IsObligation}
 use Rattle.certificate_check.specs.Refutation.{walk_from_root}
 use Rattle.proof_script.specs.declared.plans.Plan.{Plan}
 use Rattle.proof_script.specs.declared.refuting.StepName.{StepName}
 use Rattle.proof_script.specs.declared.finding.Finding.{Finding}
 use Rattle.proof_script.specs.declared.finding.Halt.{Halt}
 use Rattle.proof_script.specs.Giving.{AreWhole}
-use Rattle.proof_script.specs.Proving.{units_of, enough_for, ArePlain, IsFalse, IsOwner, BudgetIsShort, IsStopped}
+use Rattle.proof_script.specs.Proving.{units_of, enough_for, AreFound, ArePlain, IsWithoutQuotient, IsFalse, IsOwner}
+use Rattle.proof_script.specs.Proving.{BudgetIsShort, IsStopped}
 use Rattle.proof_script.specs.Reaching.{Reach, reached}
 
 -- the certificate of this number, from 0, refutes the obligation within so many levels
@@ -23,10 +26,12 @@ AreShown levels certs number (o ∷ os) = ShownAt levels certs number o × AreSh
 
 -- one certificate for each of these obligations, which both versions take
 pub record HasCertificates (os : List Obligation) (f : Finding) : Type 0 where
+  pub makeable : All IsObligation os
   pub count : length f.certs ≡ length os
   pub shown : AreShown 1024 f.certs 0 os
   pub whole : AreWhole f.certs
-  pub plain : ArePlain f.certs
+  pub found : AreFound f.certs
+  pub plain : All IsWithoutQuotient os → ArePlain f.certs
   pub spent : units_of f.certs + f.left ≡ f.budget
   pub cheap : units_of f.certs ≤ enough_for os
 

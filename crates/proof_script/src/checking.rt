@@ -1,5 +1,5 @@
 // A whole document against its certificates.
-ghost use Rattle.std.specs.Prelude.{◌≡◌, ◌<◌, ◌^◌, true, IfOk};
+ghost use Rattle.std.specs.Prelude.{◌≡◌, ◌<◌, ◌^◌, IfOk};
 ghost use Rattle.core_terms.specs.Conditions.{IsCoreDocument};
 ghost use Rattle.proof_script.specs.Giving.{AreWhole, VerdictAnswers, PlanHolds};
 ghost use Rattle.proof_script.specs.Verdicts.{surplus_fault, verdict_of};
@@ -31,7 +31,7 @@ fn surplus(obligations: usize) -> ScriptError
 ///
 /// The steps are taken in order, each step's rule first and then its obligations in order. The error is the
 /// first failure: a code from 30 to 42 for the first condition of a step's rule that fails, 36 with no step
-/// for a proof without a `defined` step, 50 for an obligation without a certificate, 52 to 58 for the first
+/// for a proof without a `defined` step, 50 for an obligation without a certificate, 52 to 59 for the first
 /// node of a certificate that fails, and 51 at the end for the first certificate past the last obligation;
 /// or `Memory`, where memory was refused.
 pub fn check(alloc: Global, doc: &CDocument, certs: &[Cert]) -> Result<Plan, ScriptError>

@@ -1,6 +1,7 @@
 // Obligations against certificates.
-ghost use Rattle.std.specs.Prelude.{◌≡◌, ◌<◌, ◌^◌, All, OnOk, length, slice_get};
-ghost use Rattle.proof_script.specs.Giving.{AreWhole, IsCheckable, Passes};
+ghost use Rattle.std.specs.Prelude.{◌≡◌, ◌<◌, ◌≤◌, ◌^◌, All, OnOk, length, slice_get};
+ghost use Rattle.obligations.specs.Obligations.{IsObligation};
+ghost use Rattle.proof_script.specs.Giving.{AreWhole, Passes};
 ghost use Rattle.proof_script.specs.Verdicts.{failing, most_levels, or_refutation_fault, refutation_fault, refuted_by};
 
 use crate::plans::{ScriptError, StepFault};
@@ -40,7 +41,8 @@ fn refute(
 ) -> Result<(), ScriptError>
     requires whole { AreWhole certs.now }
     requires number { number < 2 ^ 63 }
-    requires checkable { IsCheckable obligation.now }
+    requires obligation { IsObligation obligation.now }
+    requires levels { levels ≤ 4096 }
     ensures passes { Passes result (or_refutation_fault name.program name.step number
         (failing levels obligation.now (slice_get certs.now number))) }
     ensures there { OnOk result (number < length certs.now) }
@@ -73,7 +75,8 @@ pub(crate) fn refute_all(
 ) -> Result<(), ScriptError>
     requires whole { AreWhole certs.now }
     requires first { first < 2 ^ 63 }
-    requires checkable { All IsCheckable obligations.now }
+    requires obligations { All IsObligation obligations.now }
+    requires levels { levels ≤ 4096 }
     ensures { Passes result (refuted_by levels certs.now name.program name.step first obligations.now) }
 {
     let mut number = first;

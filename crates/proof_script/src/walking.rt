@@ -1,9 +1,10 @@
 // The steps of proofs, one after the other.
-ghost use Rattle.std.specs.Prelude.{◌≡◌, ◌+◌, ◌<◌, ◌^◌, All, length, map, sum, true, Some};
+ghost use Rattle.std.specs.Prelude.{◌≡◌, ◌+◌, ◌<◌, ◌≤◌, ◌^◌, All, length, map, sum, Some};
 ghost use Rattle.core_terms.specs.Conditions.{IsCoreDocument, IsProgram, IsProof, IsStep};
 ghost use Rattle.core_terms.specs.declared.documents.CProof.{CProof};
+ghost use Rattle.obligations.specs.Obligations.{IsObligation};
 ghost use Rattle.rules_table.specs.Walk.{program_of};
-ghost use Rattle.proof_script.specs.Giving.{AreWhole, PlanGoes, IsCheckable};
+ghost use Rattle.proof_script.specs.Giving.{AreWhole, PlanGoes};
 ghost use Rattle.rules_steps.specs.Starts.{IsAround, document_seen, seen_of};
 ghost use Rattle.rules_steps.specs.Using.{BookFits};
 ghost use Rattle.proof_script.specs.Verdicts.{proof_verdict, proofs_verdict, rule_fault, step_verdict, steps_verdict};
@@ -43,7 +44,8 @@ fn take_derived(
     plan: &mut Plan,
 ) -> Result<(), ScriptError>
     requires whole { AreWhole certs.now }
-    requires checkable { All IsCheckable derived.obligations }
+    requires obligations { All IsObligation derived.obligations }
+    requires levels { levels ≤ 4096 }
     requires room { length plan.old.records < 2 ^ 31 }
     ensures { PlanGoes result plan.new (taken levels certs.now name.program name.step plan.old derived) }
 {

@@ -86,6 +86,8 @@ module _ (n : ℕ) (v : ℕ → Bool) where
   term_layer (CTerm-F.Add a b) = two _ _ _ _ _ _ a.1 b.1
   term_layer (CTerm-F.Sub a b) = two _ _ _ _ _ _ a.1 b.1
   term_layer (CTerm-F.Scale k a) = a.1
+  term_layer (CTerm-F.Div a k) = a.1
+  term_layer (CTerm-F.Mod a k) = a.1
   term_layer (CTerm-F.Ite c a b) = two _ _ _ _ _ _ c.1 (two _ _ _ _ _ _ a.1 b.1)
 
   pub form_shown : (f : CForm) → FormShown f

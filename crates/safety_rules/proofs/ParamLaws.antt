@@ -2,12 +2,14 @@
 use Rattle.std.proofs.Common.{◌≡◌, ℕ, ◌+◌, ◌≤◌, max, ℤ, true, false, cond, Option, Some, None, sym, ap, ◌∙◌, subst}
 use Rattle.std.proofs.Common.{arith}
 use Rattle.core_terms.specs.declared.trees.CTerm.{CTerm, roll-CTerm, fold-roll-CTerm}
-use Rattle.core_terms.specs.declared.trees.CTerm.TheVariants.{Const, Add, Scale, rolls-Add, rolls-Scale}
+use Rattle.core_terms.specs.declared.trees.CTerm.TheVariants.{Const, Add, Scale, Div, Mod, rolls-Add, rolls-Scale}
+use Rattle.core_terms.specs.declared.trees.CTerm.TheVariants.{rolls-Div, rolls-Mod}
 use Rattle.core_terms.specs.declared.trees.CForm.{CForm, roll-CForm, ind-CForm, fold-roll-CForm}
 use Rattle.core_terms.specs.declared.trees.CForm.TheOpen.{CTerm-F, CForm-F}
 use Rattle.core_terms.specs.declared.trees.CForm.TheFolds.{map-CForm, map-CTerm}
 use Rattle.core_terms.specs.Places.{greatest_part, params_step, term_params, form_params}
-use Rattle.core_terms.specs.Folding.{number_of, is_small, constant_or, sum_term, scaled_term}
+use Rattle.core_terms.specs.Folding.{number_of, is_small, constant_or, sum_term, scaled_term, quotient_term}
+use Rattle.core_terms.specs.Folding.{remainder_term}
 use Rattle.core_terms.specs.Replacing.{replace_term, replace_form, term_with, form_with}
 use Rattle.wp_substitution.proofs.PlaceLaws.{difference_within, constant_within, choice_within, at_least_within}
 use Rattle.wp_substitution.proofs.PlaceLaws.{zero_within, not_within, and_within, or_within, top_within}
@@ -28,6 +30,14 @@ count-Scale : (k : ℤ) (a : CTerm) → term_params (Scale k a) ≡ term_params 
 count-Scale k a = ap term_params (sym (rolls-Scale k a))
     ∙ fold-roll-CTerm ℕ ℕ greatest_part params_step (CTerm-F.Scale k a)
 
+count-Div : (k : ℤ) (a : CTerm) → term_params (Div a k) ≡ term_params a
+count-Div k a = ap term_params (sym (rolls-Div a k))
+    ∙ fold-roll-CTerm ℕ ℕ greatest_part params_step (CTerm-F.Div a k)
+
+count-Mod : (k : ℤ) (a : CTerm) → term_params (Mod a k) ≡ term_params a
+count-Mod k a = ap term_params (sym (rolls-Mod a k))
+    ∙ fold-roll-CTerm ℕ ℕ greatest_part params_step (CTerm-F.Mod a k)
+
 sum_kept : (limit : ℕ) (a b : CTerm) → term_params a ≤ limit → term_params b ≤ limit →
     term_params (sum_term a b) ≤ limit
 sum_kept limit a b h k =
@@ -36,6 +46,14 @@ sum_kept limit a b h k =
 scaled_kept : (limit : ℕ) (k : ℤ) (a : CTerm) → term_params a ≤ limit → term_params (scaled_term k a) ≤ limit
 scaled_kept limit k a h =
     let less = folded_less (Scale k a) (number_of (Scale k a)) in let is = count-Scale k a in omega (arith, less, is, h)
+
+quotient_kept : (limit : ℕ) (k : ℤ) (a : CTerm) → term_params a ≤ limit → term_params (quotient_term k a) ≤ limit
+quotient_kept limit k a h =
+    let less = folded_less (Div a k) (number_of (Div a k)) in let is = count-Div k a in omega (arith, less, is, h)
+
+remainder_kept : (limit : ℕ) (k : ℤ) (a : CTerm) → term_params a ≤ limit → term_params (remainder_term k a) ≤ limit
+remainder_kept limit k a h =
+    let less = folded_less (Mod a k) (number_of (Mod a k)) in let is = count-Mod k a in omega (arith, less, is, h)
 
 module _ (before after : ℕ) (slots names : ℕ → CTerm) (slot_is : (n : ℕ) → term_params (slots n) ≤ after)
     (name_is : (n : ℕ) → n + 1 ≤ before → term_params (names n) ≤ after) where
@@ -97,6 +115,10 @@ module _ (before after : ℕ) (slots names : ℕ → CTerm) (slot_is : (n : ℕ)
       (λ h. difference_within params_step param_counts after _ _ (a.1 (omega (arith, h))) (b.1 (omega (arith, h))))
   term_layer (CTerm-F.Scale k a) =
       rolled_term (CTerm-F.Scale k a.0) (λ h. scaled_kept after k _ (a.1 h))
+  term_layer (CTerm-F.Div a k) =
+      rolled_term (CTerm-F.Div a.0 k) (λ h. quotient_kept after k _ (a.1 h))
+  term_layer (CTerm-F.Mod a k) =
+      rolled_term (CTerm-F.Mod a.0 k) (λ h. remainder_kept after k _ (a.1 h))
   term_layer (CTerm-F.Ite c a b) =
       rolled_term (CTerm-F.Ite c.0 a.0 b.0)
       (λ h. choice_within params_step param_counts after _ _ _ (c.1 (omega (arith, h))) (a.1 (omega (arith, h)))

@@ -30,6 +30,8 @@ slot_counts = record {
   sum = λ a b. refl;
   difference = λ a b. refl;
   multiple = λ k a. refl;
+  quotient = λ k a. refl;
+  remainder = λ k a. refl;
   choice = λ c a b. refl;
 }
 
@@ -39,6 +41,8 @@ param_counts = record {
   sum = λ a b. refl;
   difference = λ a b. refl;
   multiple = λ k a. refl;
+  quotient = λ k a. refl;
+  remainder = λ k a. refl;
   choice = λ c a b. refl;
 }
 

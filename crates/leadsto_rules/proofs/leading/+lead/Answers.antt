@@ -196,10 +196,9 @@ returns-in_ok-part-in-Psp-clause-answer t c =
     let ranges : List Range = c.args.ranges.now in
     let book : List Record = c.args.book.now in
     subst (λ x. TermGives c.led_safely.result (term_of site ranges book x)) (sym c.in-Psp.is)
-    (psp_given site ranges book c.in-Psp.t c.in-Psp.r c.in_ok-part-in-Psp.part c.referred-a-in-Psp.result
-    c.led_safely.result
+    (psp_given site ranges book c.in-Psp.t c.in-Psp.r c.in_ok-part-in-Psp.part c.led_safely.result
     (subst (λ x. TermGives (Ok c.in_ok-part-in-Psp.part) (term_of site ranges book x)) c.get-in-Psp.ensures
-    c.in_ok-part-in-Psp.ensures.answer) c.referred-a-in-Psp.ensures.answer c.led_safely.ensures.answer)
+    c.in_ok-part-in-Psp.ensures.answer) c.led_safely.ensures.answer)
 
 pub lead-requires-in-Induct : goal.lead-requires-in-Induct
 lead-requires-in-Induct t c =

@@ -1,12 +1,12 @@
-use Rattle.std.proofs.Common.{ℤ, List, true, false, cond, not, refl, ap, sym, subst, ◌∙◌, rules, w64, FitsSigned}
+use Rattle.std.proofs.Common.{ℤ, true, false, not, refl, ap, sym, subst, ◌∙◌, rules, w64, FitsSigned}
 use Rattle.std.proofs.lemmas.Int.{to_z-of_z}
-use Rattle.core_terms.specs.declared.documents.Arg.{Arg}
-use Rattle.core_terms.specs.declared.trees.CForm.TheVariants.{And, Or, AtLeast, Zero}
-use Rattle.core_terms.specs.declared.trees.CTerm.TheVariants.{Add, Sub, Scale, Ite}
-use Rattle.leadsto_rules.specs.Lines.{sum_line, difference_line, multiple_line}
+use Rattle.core_terms.specs.declared.trees.CTerm.TheVariants.{Div, Mod}
+use Rattle.std.specs.Bool.{OnTrue}
+use Rattle.meaning_states.specs.Division.{divisor, floored}
+use Rattle.leadsto_rules.specs.Lines.{line_at, difference_line, multiple_line}
 use Rattle.leadsto_rules.specs.Stretches.{IsLineOn, IsTruthOn}
-use Rattle.leadsto_rules.proofs.PartLaws.{on-Add, on-Sub, on-Scale, on-Ite, on-AtLeast, on-Zero, on-Not, on-And}
-use Rattle.leadsto_rules.proofs.PartLaws.{on-Or, fewer_numbers, shorter_line, on_true_weaker, on_true_given}
+use Rattle.leadsto_rules.proofs.PartLaws.{on-Add, on-Sub, on-Scale, on-Div, on-Mod, on-Ite, on-AtLeast, on-Zero}
+use Rattle.leadsto_rules.proofs.PartLaws.{on-Not, on-And, on-Or, fewer_numbers, shorter_line, on_true_weaker}
 use Rattle.leadsto_rules.proofs.stretches.+stretches.Goals as goal
 
 pub truth_from-returns-in_ok-truth_from-in-Not-clause-truth :
@@ -63,6 +63,51 @@ line_from-returns-then-line_from-clause-line t c args puts =
     (λ e. subst (λ u. IsLineOn args z n u c.multiply.new.line) (sym c.in-Scale.is)
     (on-Scale args z n c.in-Scale.k c.in-Scale.a l c.multiply.new.line part
     (e ∙ ap (λ k. multiple_line k l) (to_z-of_z w64 c.in-Scale.k fits)))) c.multiply.ensures
+
+pub line_from-returns-in-Div-clause-line : goal.line_from-returns-in-Div-clause-line
+line_from-returns-in-Div-clause-line t c args puts =
+    let z : ℤ = c.args.start.now.number in
+    let n = c.quotient_from.new.reach in
+    let l = c.quotient_from.new.line in
+    let fits : FitsSigned w64 c.in-Div.k = search rules in
+    subst (λ u. OnTrue c.quotient_from.result (IsLineOn args z n u l)) (sym c.in-Div.is)
+    (subst (λ k. OnTrue c.quotient_from.result (IsLineOn args z n (Div c.in-Div.a k) l))
+    (to_z-of_z w64 c.in-Div.k fits) (c.quotient_from.ensures.line args puts))
+
+pub line_from-returns-in-Mod-clause-line : goal.line_from-returns-in-Mod-clause-line
+line_from-returns-in-Mod-clause-line t c args puts =
+    let z : ℤ = c.args.start.now.number in
+    let n = c.remainder_from.new.reach in
+    let l = c.remainder_from.new.line in
+    let fits : FitsSigned w64 c.in-Mod.k = search rules in
+    subst (λ u. OnTrue c.remainder_from.result (IsLineOn args z n u l)) (sym c.in-Mod.is)
+    (subst (λ k. OnTrue c.remainder_from.result (IsLineOn args z n (Mod c.in-Mod.a k) l))
+    (to_z-of_z w64 c.in-Mod.k fits) (c.remainder_from.ensures.line args puts))
+
+pub quotient_from-returns-clause-line : goal.quotient_from-returns-clause-line
+quotient_from-returns-clause-line t c args puts =
+    let z : ℤ = c.args.start.now.number in
+    let m = c.line_from.new.reach in
+    let l = c.line_from.new.line in
+    let fits : FitsSigned w64 c.args.k = search rules in
+    on-Div args z m c.divide.result c.args.a.now c.args.k l c.divide.new.line
+    (subst (λ a. IsLineOn args z m a l) c.get.ensures (c.if-not-line_from.ensures.line args puts))
+    c.divide.ensures.within
+    (λ k h. ap (λ d. floored (line_at l k) d) (sym (to_z-of_z w64 c.args.k fits)) ∙ c.divide.ensures.quotient k h)
+
+pub remainder_from-returns-clause-line : goal.remainder_from-returns-clause-line
+remainder_from-returns-clause-line t c args puts =
+    let z : ℤ = c.args.start.now.number in
+    let m = c.line_from.new.reach in
+    let l = c.line_from.new.line in
+    let q = c.divide.new.line in
+    let fits : FitsSigned w64 c.args.k = search rules in
+    let part = subst (λ a. IsLineOn args z m a l) c.get.ensures (c.if-not-line_from.ensures.line args puts) in
+    on_true_weaker _ _ c.take_rest.result
+    (λ e. on-Mod args z m c.divide.result c.args.a.now c.args.k l q c.take_rest.new.line part c.divide.ensures.within
+    (λ k h. ap (λ d. floored (line_at l k) d) (sym (to_z-of_z w64 c.args.k fits)) ∙ c.divide.ensures.quotient k h)
+    (e ∙ ap (λ d. difference_line l (multiple_line (divisor d) q)) (to_z-of_z w64 c.args.k fits)))
+    c.take_rest.ensures
 
 pub choice_from-returns-in-Some-true-clause-line : goal.choice_from-returns-in-Some-true-clause-line
 choice_from-returns-in-Some-true-clause-line t c args puts =

@@ -27,5 +27,11 @@ decreases-sum_from l = 2 * max (size-CTerm l.a.now) (size-CTerm l.b.now) + 1
 abbrev pub decreases-difference_from : goal.decreases-difference_from
 decreases-difference_from l = 2 * max (size-CTerm l.a.now) (size-CTerm l.b.now) + 1
 
+abbrev pub decreases-quotient_from : goal.decreases-quotient_from
+decreases-quotient_from l = 2 * size-CTerm l.a.now + 1
+
+abbrev pub decreases-remainder_from : goal.decreases-remainder_from
+decreases-remainder_from l = 2 * size-CTerm l.a.now + 1
+
 abbrev pub decreases-choice_from : goal.decreases-choice_from
 decreases-choice_from l = 2 * max (size-CForm l.c.now) (max (size-CTerm l.a.now) (size-CTerm l.b.now)) + 1

@@ -12,7 +12,8 @@ returns-clause-verdict c =
     let same = ap (λ (os : List Obligation). length os) c.as_slice-obligations.ensures in
     let few = c.if-obligations-certs.false in
     verdict_is c.args.doc.now c.args.certs.now c.take_proofs.new.plan
-    (ap (λ (p : Plan). proofs_verdict (document_seen c.args.doc.now) c.args.certs.now c.args.doc.now.proofs p) (sym c.new_plan-plan.ensures)
+    (ap (λ (p : Plan). proofs_verdict (document_seen c.args.doc.now) c.args.certs.now c.args.doc.now.proofs p)
+    (sym c.new_plan-plan.ensures)
     ∙ c.in_ok-take_proofs.ensures)
     (omega (arith, same, few))
 

@@ -11,7 +11,7 @@ pub returns-in-Ok-Proved : goal.returns-in-Ok-Proved
 returns-in-Ok-Proved c before h =
     let o : Obligation = c.args.obligation.now in
     let old : Finding = c.args.finding.now in
-    found_one before o c.in-Ok-Proved.cert old c.keep.new.finding h
+    found_one before o c.in-Ok-Proved.cert old c.keep.new.finding h c.requires
     (subst (λ (x : Found). SearchAnswers o old.left x) c.in-Ok-Proved.field-0-is c.in-Ok-Proved.ensures)
     c.in_ok-keep-in-Ok-Proved.ensures.certs c.in_ok-keep-in-Ok-Proved.ensures.left
     c.in_ok-keep-in-Ok-Proved.ensures.budget

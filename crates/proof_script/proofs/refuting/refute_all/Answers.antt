@@ -2,16 +2,17 @@ use Rattle.std.proofs.Common.{◌≡◌, ℕ, suc, ◌+◌, List, drop, slice_ge
 use Rattle.std.proofs.Common.{arith}
 use Rattle.obligations.specs.declared.branches.Obligation.{Obligation}
 use Rattle.obligations.specs.declared.certificates.Cert.{Cert}
+use Rattle.obligations.specs.Obligations.{IsObligation}
 use Rattle.proof_script.specs.declared.plans.StepFault.{StepFault}
-use Rattle.proof_script.specs.Giving.{IsCheckable, Passes}
+use Rattle.proof_script.specs.Giving.{Passes}
 use Rattle.proof_script.specs.Verdicts.{or_refutation_fault, failing, refuted_by}
 use Rattle.proof_script.proofs.LoopLaws.{handed_on, went, stopped, refuted_at, refuted_end, item_has, fails_all}
 use Rattle.proof_script.proofs.refuting.refute_all.Goals as goal
 
-pub refute-requires-clause-checkable : goal.refute-requires-clause-checkable
-refute-requires-clause-checkable c =
-    item_has IsCheckable c.args.obligations.now c.loop-obligation.obligation-index c.obligation-item.result
-    c.loop-obligation-test.true c.obligation-item.is c.requires.checkable
+pub refute-requires-clause-obligation : goal.refute-requires-clause-obligation
+refute-requires-clause-obligation c =
+    item_has IsObligation c.args.obligations.now c.loop-obligation.obligation-index c.obligation-item.result
+    c.loop-obligation-test.true c.obligation-item.is c.requires.obligations
 
 pub returns-in_err-refute : goal.returns-in_err-refute
 returns-in_err-refute c =

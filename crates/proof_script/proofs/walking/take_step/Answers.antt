@@ -1,5 +1,4 @@
-use Rattle.std.proofs.Common.{◌≡◌, ℕ, List, Some, Result, Ok, Err, subst, sym}
-use Rattle.std.proofs.lemmas.List.Elements.{All-weaker}
+use Rattle.std.proofs.Common.{◌≡◌, ◌≤◌, ℕ, List, Some, Result, Ok, Err, subst, sym}
 use Rattle.core_terms.specs.declared.programs.CProgram.{CProgram}
 use Rattle.core_terms.specs.declared.documents.CStep.{CStep}
 use Rattle.fair_rounds.specs.declared.records.Record.{Record}
@@ -9,18 +8,17 @@ use Rattle.safety_rules.specs.Answers.{RuleAnswers}
 use Rattle.proof_script.specs.declared.plans.Plan.{Plan}
 use Rattle.proof_script.specs.declared.plans.ScriptError.{ScriptError}
 use Rattle.proof_script.specs.declared.plans.StepFault.{StepFault}
-use Rattle.obligations.specs.Obligations.{IsObligation}
-use Rattle.proof_script.specs.Giving.{PlanGoes, IsCheckable}
+use Rattle.proof_script.specs.Giving.{PlanGoes}
 use Rattle.proof_script.specs.Verdicts.{rule_fault, step_verdict, taken}
-use Rattle.proof_script.proofs.Checkable.{checkable}
+use Rattle.proof_script.proofs.LoopLaws.{most_are_few}
 use Rattle.proof_script.proofs.RuleLaws.{step_taken, step_fails}
 use Rattle.rules_table.specs.Walk.{Around}
 use Rattle.rules_steps.specs.Starts.{seen_of}
 use Rattle.proof_script.proofs.walking.take_step.Goals as goal
 
-pub take_derived-requires-clause-checkable : goal.take_derived-requires-clause-checkable
-take_derived-requires-clause-checkable c =
-    All-weaker IsObligation IsCheckable checkable c.in-Ok.derived.obligations c.in-Ok.ensures.fits.obligations
+pub take_derived-requires-clause-levels : goal.take_derived-requires-clause-levels
+take_derived-requires-clause-levels c =
+    subst (λ (n : ℕ). n ≤ 4096) (sym c.most_levels.ensures) (most_are_few c.args.around.now.version)
 
 pub returns-in-Ok : goal.returns-in-Ok
 returns-in-Ok c =

@@ -8,7 +8,7 @@ use Rattle.safety_rules.specs.Answers.{site_of}
 use Rattle.safety_rules.specs.Usable.{NamesExist}
 use Rattle.wp_substitution.proofs.LightLaws.{form_light}
 use Rattle.leadsto_rules.proofs.NodeLaws.{node_gives, foldable, both_hold_exist, kept_exists}
-use Rattle.leadsto_rules.proofs.parts.kept_safe.Goals as goal
+use Rattle.leadsto_rules.proofs.cited.kept_safe.Goals as goal
 
 pub both_of-requires-clause-p : goal.both_of-requires-clause-p
 both_of-requires-clause-p c =

@@ -2,7 +2,7 @@ use Rattle.std.proofs.Common.{◌++◌, List, refl, ap, ◌∙◌}
 use Rattle.core_terms.specs.declared.programs.CSlot.{CSlot}
 use Rattle.core_terms.specs.declared.trees.Range.{Range}
 use Rattle.leadsto_rules.proofs.NodeLaws.{claim_fits, both_closed}
-use Rattle.leadsto_rules.proofs.parts.beside.Goals as goal
+use Rattle.leadsto_rules.proofs.cited.beside.Goals as goal
 
 pub node-requires : goal.node-requires
 node-requires c =
