@@ -1,4 +1,4 @@
--- Plain certificates with which a document is accepted have small numbers.
+-- Certificates that a search can write, with which a document is accepted, have small numbers.
 use Rattle.std.proofs.Common.{◌≡◌, ℕ, zero, suc, ◌+◌, ◌≤◌, ◌<◌, nat_lt, nat_eq, List, [], ◌∷◌, ◌++◌, length, slice_get}
 use Rattle.std.proofs.Common.{Bool, true, false, cond, Option, Some, None, Ok, Err, refl, sym, ap, ◌∙◌, subst}
 use Rattle.std.proofs.Common.{length-append, arith}
@@ -15,7 +15,7 @@ use Rattle.obligations.specs.declared.certificates.Cert.{Cert}
 use Rattle.obligations.specs.Obligations.{IsObligation}
 use Rattle.certificate_check.specs.Refutation.{walk_from_root}
 use Rattle.certificate_check.specs.Trees.{is_whole}
-use Rattle.linear_prover.specs.Chains.{is_plain_node}
+use Rattle.search_tree.specs.Searching.{is_found_node}
 use Rattle.certificate_roundtrip.specs.Small.{IsSmallCertificate}
 use Rattle.certificate_roundtrip.proofs.PlainLaws.{refuting_is_small}
 use Rattle.rules_table.specs.Conclusion.{Conclusion}
@@ -31,7 +31,7 @@ use Rattle.rules_steps.proofs.GoalLaws.{IsStepRow, told_step}
 use Rattle.rules_steps.proofs.ItemLaws.{to_all}
 use Rattle.proof_script.specs.declared.plans.Plan.{Plan}
 use Rattle.proof_script.specs.Giving.{AreWhole}
-use Rattle.proof_script.specs.Proving.{ArePlain}
+use Rattle.proof_script.specs.Proving.{AreFound}
 use Rattle.proof_script.specs.Reaching.{by_row}
 use Rattle.proof_script.specs.Verdicts.{end_verdict, failing, failing_node, grown, last_verdict, no_plan}
 use Rattle.proof_script.specs.Verdicts.{or_refutation_fault, or_rule_fault, proof_verdict, proofs_verdict, refuted_by}
@@ -59,7 +59,7 @@ each_small [] h = tt
 each_small (c ∷ cs) h = (h 0 c refl, each_small cs (λ k d e. h (suc k) d e))
 
 module _ (seen : Around) (certs : List Cert) (all : All IsSlot seen.slots) (whole : AreWhole certs)
-    (plain : ArePlain certs) where
+    (found : AreFound certs) where
   -- the most levels of a certificate
   abbrev levels : ℕ
   levels = most_levels seen.version
@@ -75,13 +75,13 @@ module _ (seen : Around) (certs : List Cert) (all : All IsSlot seen.slots) (whol
       let one_tree : is_whole c.nodes 1 ≡ true =
       each_at (λ (x : Cert). is_whole x.nodes 1 ≡ true) certs
       (from_all (λ (x : Cert). is_whole x.nodes 1 ≡ true) certs whole) number c there in
-      let one_plain : list_all is_plain_node c.nodes ≡ true =
-      each_at (λ (x : Cert). list_all is_plain_node x.nodes ≡ true) certs
-      (from_all (λ (x : Cert). list_all is_plain_node x.nodes ≡ true) certs plain) number c there in
+      let one_found : list_all is_found_node c.nodes ≡ true =
+      each_at (λ (x : Cert). list_all is_found_node x.nodes ≡ true) certs
+      (from_all (λ (x : Cert). list_all is_found_node x.nodes ≡ true) certs found) number c there in
       let none : failing_node (walk_from_root levels o c.nodes) ≡ None =
       sym (ap (failing levels o) there) ∙ passes in
       refuting_is_small levels o c few is one_tree (unfailing (walk_from_root levels o c.nodes) none)
-      one_plain
+      one_found
     where
       few_at : (b : Bool) → cond b 4096 1024 ≤ 4096
       few_at true = omega arith
@@ -185,13 +185,13 @@ module _ (seen : Around) (certs : List Cert) (all : All IsSlot seen.slots) (whol
   last_so plan last false e h = grind arith
 
 pub proved_are_small : ProvedAreSmall
-proved_are_small d certs plan good whole plain e =
+proved_are_small d certs plan good whole found e =
     let parts = then_so (proofs_verdict (document_seen d) certs d.proofs no_plan) (last_verdict certs) plan e in
-    let first : IsFine (document_seen d) certs good.slots whole plain no_plan =
+    let first : IsFine (document_seen d) certs good.slots whole found no_plan =
     record { fits = tt; small = λ k c h there. absurd (omega (arith, h)) } in
-    let fine = proofs_fine (document_seen d) certs good.slots whole plain d.proofs no_plan parts.0 good.programs
+    let fine = proofs_fine (document_seen d) certs good.slots whole found d.proofs no_plan parts.0 good.programs
     good.proofs first parts.1 in
-    let few = last_so (document_seen d) certs good.slots whole plain parts.0 plan
+    let few = last_so (document_seen d) certs good.slots whole found parts.0 plan
     (nat_lt (length parts.0.obligations) (length certs)) refl parts.2 in
     to_all IsSmallCertificate certs (each_small certs (λ k c there.
     let here = below certs k c there in fine.small k c (omega (arith, here, few)) there))

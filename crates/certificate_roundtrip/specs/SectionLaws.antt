@@ -7,7 +7,7 @@ use Rattle.obligations.specs.declared.certificates.Cert.{Cert}
 use Rattle.obligations.specs.Obligations.{IsObligation}
 use Rattle.certificate_check.specs.Refutation.{walk_from_root}
 use Rattle.certificate_check.specs.Trees.{is_whole}
-use Rattle.linear_prover.specs.Chains.{is_plain_node}
+use Rattle.search_tree.specs.Searching.{is_found_node}
 use Rattle.unity_syntax.specs.declared.token.Token.{Token}
 use Rattle.unity_syntax.specs.declared.token.TokenKind.{TokenKind}
 use Rattle.unity_lexer.specs.Tokens.{IsTokens}
@@ -15,10 +15,10 @@ use Rattle.certificate_printing.specs.Certificates.{certificates_text}
 use Rattle.certificate_roundtrip.specs.Pieces.{is_readable, section_pieces, tokens_from}
 use Rattle.certificate_roundtrip.specs.Small.{IsSmallCertificate}
 
--- a whole and plain certificate that refutes the negation of an obligation has no number past 2^62
+-- a whole certificate that refutes the negation of an obligation, and that a search can write, has no number past 2^62
 abbrev pub RefutingIsSmall : Type 0
 RefutingIsSmall = (levels : ℕ) (o : Obligation) (c : Cert) → levels ≤ 4096 → IsObligation o →
-    is_whole c.nodes 1 ≡ true → walk_from_root levels o c.nodes ≡ Ok [] → list_all is_plain_node c.nodes ≡ true →
+    is_whole c.nodes 1 ≡ true → walk_from_root levels o c.nodes ≡ Ok [] → list_all is_found_node c.nodes ≡ true →
     IsSmallCertificate c
 
 -- where no number is past 2^62, nor that of certificates, all can be read

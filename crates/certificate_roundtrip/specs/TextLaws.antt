@@ -1,14 +1,15 @@
 -- Certificates with which a document is accepted, and the text with them.
-use Rattle.std.specs.Prelude.{◌≡◌, ℕ, ◌+◌, ◌*◌, ◌≤◌, List, length, All, Ok}
+use Rattle.std.specs.Prelude.{◌≡◌, ℕ, ◌+◌, ◌*◌, ◌≤◌, false, List, length, All, Ok}
 use Rattle.core_terms.specs.declared.documents.CDocument.{CDocument}
 use Rattle.core_terms.specs.Conditions.{IsCoreDocument}
 use Rattle.unity_syntax.specs.declared.document.Document.{Document}
+use Rattle.unity_syntax.specs.Classes.{says_later}
 use Rattle.unity_parser.specs.Document.{IsDocument}
 use Rattle.obligations.specs.declared.certificates.Cert.{Cert}
 use Rattle.certificate_roundtrip.specs.Small.{IsSmallCertificate}
 use Rattle.proof_script.specs.declared.plans.Plan.{Plan}
 use Rattle.proof_script.specs.Giving.{AreWhole}
-use Rattle.proof_script.specs.Proving.{units_of, ArePlain, ProvedWithin}
+use Rattle.proof_script.specs.Proving.{units_of, AreFound, HasNoQuotients, ProvedWithin}
 use Rattle.proof_script.specs.Verdicts.{verdict_of}
 use Rattle.certificate_roundtrip.specs.Found.{text_with}
 use Rattle.certificate_roundtrip.specs.DocumentLaws.{IsWith}
@@ -17,10 +18,10 @@ use Rattle.certificate_roundtrip.specs.DocumentLaws.{IsWith}
 abbrev pub most_units : ℕ
 most_units = 1000000
 
--- plain certificates with which a document is accepted have no number past 2^62
+-- certificates that a search can write, with which a document is accepted, have no number past 2^62
 abbrev pub ProvedAreSmall : Type 0
 ProvedAreSmall = (d : CDocument) (certs : List Cert) (plan : Plan) → IsCoreDocument d → AreWhole certs →
-    ArePlain certs → verdict_of d certs ≡ Ok plan → All IsSmallCertificate certs
+    AreFound certs → verdict_of d certs ≡ Ok plan → All IsSmallCertificate certs
 
 -- each certificate has a unit
 abbrev pub ProvedAreFew : Type 0
@@ -36,8 +37,9 @@ pub record IsFoundText (bytes : List ℕ) (d : Document) (certs : List Cert) : T
   pub read : IsWith d certs (text_with bytes d certs)
   pub size : length (text_with bytes d certs) ≤ length bytes + 57000018
 
--- what a search finds of some document within these units can be written after each document
+-- what a search finds of some document within these units can be written after each document whose text says that it
+-- is of version 2; and where no step of the first leaves an obligation with a quotient, after each document
 abbrev pub ProvedIsRead : Type 0
 ProvedIsRead = (bytes : List ℕ) (d : Document) (c : CDocument) (budget : ℕ) (plan : Plan) (certs : List Cert) →
-    IsDocument bytes d → IsCoreDocument c → ProvedWithin c budget plan certs → budget ≤ most_units →
-    IsFoundText bytes d certs
+    (is : IsDocument bytes d) → (says_later is.tokens ≡ false → HasNoQuotients c) → IsCoreDocument c →
+    ProvedWithin c budget plan certs → budget ≤ most_units → IsFoundText bytes d certs

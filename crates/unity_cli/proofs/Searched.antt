@@ -16,6 +16,7 @@ use Rattle.certificate_printing.specs.Certificates.{certificates_text}
 use Rattle.certificate_roundtrip.specs.Found.{front, text_with}
 use Rattle.certificate_roundtrip.specs.TextLaws.{IsFoundText}
 use Rattle.certificate_roundtrip.proofs.FoundTexts.{proved_is_read}
+use Rattle.plain_quotients.proofs.OnlyTimesLaws.{earlier_leave_none}
 use Rattle.unity_cli.specs.declared.prove.Found.{Found}
 use Rattle.unity_cli.specs.declared.input.Input.{Input}
 use Rattle.unity_cli.specs.declared.input.AdmittedDocument.{AdmittedDocument}
@@ -77,6 +78,7 @@ found_accepted : (bytes : List ℕ) (budget : ℕ) (d : Document) (plan : Plan) 
 found_accepted bytes budget d plan certs read few proved =
     with_accepted bytes d plan certs read proved.verdict
     (proved_is_read bytes d (core_document d) budget plan certs read.reading.is_document
+    (earlier_leave_none bytes d read.reading.is_document)
     (read_core greatest_bare_size (omega arith) bytes d read) proved few)
 
 -- the text with certificates that were found

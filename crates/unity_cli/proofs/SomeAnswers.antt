@@ -1,4 +1,4 @@
--- Words and bytes have some status and text.
+-- Words and bytes have some status and text, where no obligation that is searched has a quotient, as in version 1.
 use Rattle.std.proofs.Common.{◌≡◌, ◌≤◌, ◌⊎◌, inl, inr, ℕ, List, [], ◌∷◌, length, map, Bool, true, false, Option}
 use Rattle.std.proofs.Common.{Some, None, Result, Ok, Err, refl, sym, ap, ◌∙◌, arith, cond, find, is_none}
 use Rattle.std.proofs.Common.{option_map, nat_lt, codes, ◌++◌}
@@ -6,6 +6,7 @@ use Rattle.case_tables.specs.declared.code_table.Code.{Code}
 use Rattle.unity_syntax.specs.declared.document.Document.{Document}
 use Rattle.unity_syntax.specs.declared.document.Schedule.{Schedule}
 use Rattle.unity_syntax.specs.declared.term.Inst.{Inst}
+use Rattle.unity_syntax.specs.Classes.{says_later, terminals}
 use Rattle.unity_parser.proofs.Readings.{some_reading}
 use Rattle.unity_parser.specs.Document.{IsDocument, IsFault}
 use Rattle.meaning_documents.specs.Programs.{Composed, program_named, programs_of}
@@ -14,6 +15,7 @@ use Rattle.names_rules.specs.Reading.{Fault, earlier}
 use Rattle.names_rules.specs.WellNamed.{name_fault}
 use Rattle.expand_documents.specs.Cores.{core_document}
 use Rattle.expand_documents.specs.Faults.{expansion_fault}
+use Rattle.expand_fits.proofs.Parsed.Version.{version_is}
 use Rattle.core_terms.specs.declared.programs.CProgram.{CProgram}
 use Rattle.expand_correct.specs.Preserved.Meaning.{IsCoreProgramOf}
 use Rattle.expand_correct.proofs.Preserved.Matching.{programs_match}
@@ -31,9 +33,10 @@ use Rattle.proof_script.specs.declared.plans.StepFault.{StepFault}
 use Rattle.proof_script.specs.declared.plans.Proof.{Proof}
 use Rattle.proof_script.specs.declared.plans.ScriptError.{ScriptError}
 use Rattle.proof_script.specs.Laws.{IsAnswered}
-use Rattle.proof_script.specs.Proving.{Finds}
+use Rattle.proof_script.specs.Proving.{Finds, HasNoQuotients}
 use Rattle.proof_script.specs.Verdicts.{verdict_of}
 use Rattle.proof_script.proofs.SomeLaws.{some_finding}
+use Rattle.plain_quotients.proofs.OnlyTimesLaws.{first_leave_none}
 use Rattle.search_tree.proofs.EndsLaws.{search-ends}
 use Rattle.certificate_printing.specs.Findings.{budget_text, refuted_text}
 use Rattle.certificate_roundtrip.specs.Found.{text_with}
@@ -53,7 +56,7 @@ use Rattle.unity_cli.specs.Answer.Run.{IsTrace, no_program}
 use Rattle.unity_cli.specs.Answer.Replay.{no_schedule, unknown}
 use Rattle.unity_cli.specs.Answer.Run as runs
 use Rattle.unity_cli.specs.Answer.Replay as replays
-use Rattle.unity_cli.specs.Laws.{HasAnswer, IsLimited, LimitedHaveAnswer, SomeAnswer}
+use Rattle.unity_cli.specs.Laws.{AreWithoutQuotients, HasAnswer, IsLimited, LimitedHaveAnswer, SomeAnswer}
 use Rattle.unity_cli.specs.WellFormed.{of_text, of_document}
 use Rattle.unity_cli.proofs.Accepted.{read_core}
 use Rattle.unity_cli.proofs.OneAnswers.{read_not_bad}
@@ -279,12 +282,23 @@ replayed bytes (inl (d, read)) = by_program (scheduled_program (core_document d)
 
 -- ---- prove
 
-searched : (bytes : List ℕ) (budget : ℕ) → budget ≤ 1000000 → ReadOrBad greatest_bare_size bytes →
-    HasAnswer (Some (prove budget)) bytes
-searched bytes budget few (inr (text, bad)) = (Status.BadDocument, text, bad)
-searched bytes budget few (inl (d, read)) =
+-- a document of version 1 has no quotients
+without_quotients : (bytes : List ℕ) (d : Document) → IsAdmitted greatest_bare_size bytes d →
+    AreWithoutQuotients bytes → HasNoQuotients (core_document d)
+without_quotients bytes d read without =
+    let tokens = read.reading.is_document.tokens in
+    by_version (version_is d (terminals (says_later tokens) bytes tokens) read.reading.is_document.parsed.0)
+  where
+    by_version : (d.number ≡ 1) ⊎ (d.number ≡ 2) → HasNoQuotients (core_document d)
+    by_version (inl one) = first_leave_none bytes d read.reading.is_document one
+    by_version (inr two) = without d read two
+
+searched : (bytes : List ℕ) (budget : ℕ) → budget ≤ 1000000 → AreWithoutQuotients bytes →
+    ReadOrBad greatest_bare_size bytes → HasAnswer (Some (prove budget)) bytes
+searched bytes budget few without (inr (text, bad)) = (Status.BadDocument, text, bad)
+searched bytes budget few without (inl (d, read)) =
     by_some (some_finding search-ends (core_document d) budget
-    (read_core greatest_bare_size (omega arith) bytes d read))
+    (read_core greatest_bare_size (omega arith) bytes d read) (without_quotients bytes d read without))
   where
     by_finding : (finding : Result Proof ScriptError) → IsAnswered finding → Finds (core_document d) budget finding →
         HasAnswer (Some (prove budget)) bytes
@@ -383,17 +397,17 @@ upgrades bytes (inl (d, read)) = by_check (checked bytes (inl (d, wider bytes d 
 -- ---- all requests
 
 pub limited_have_answer : LimitedHaveAnswer
-limited_have_answer None limited bytes = (Status.BadWords, codes "bad words" ++ 10 ∷ [], (refl, refl))
-limited_have_answer (Some check) limited bytes = checked bytes (read_or_bad greatest_size bytes)
-limited_have_answer (Some (prove budget)) limited bytes =
-    searched bytes budget limited (read_or_bad greatest_bare_size bytes)
-limited_have_answer (Some (run program steps)) limited bytes =
+limited_have_answer None limited bytes without = (Status.BadWords, codes "bad words" ++ 10 ∷ [], (refl, refl))
+limited_have_answer (Some check) limited bytes without = checked bytes (read_or_bad greatest_size bytes)
+limited_have_answer (Some (prove budget)) limited bytes without =
+    searched bytes budget limited without (read_or_bad greatest_bare_size bytes)
+limited_have_answer (Some (run program steps)) limited bytes without =
     ran bytes program steps (read_or_bad greatest_size bytes)
-limited_have_answer (Some replay) limited bytes = replayed bytes (read_or_bad greatest_size bytes)
-limited_have_answer (Some (demo places)) limited bytes =
-    shown places bytes (searched (ring_bytes places) ring_budget (omega arith)
+limited_have_answer (Some replay) limited bytes without = replayed bytes (read_or_bad greatest_size bytes)
+limited_have_answer (Some (demo places)) limited bytes without =
+    shown places bytes (searched (ring_bytes places) ring_budget (omega arith) without
     (read_or_bad greatest_bare_size (ring_bytes places)))
-limited_have_answer (Some upgrade) limited bytes = upgrades bytes (read_or_bad greatest_bare_size bytes)
+limited_have_answer (Some upgrade) limited bytes without = upgrades bytes (read_or_bad greatest_bare_size bytes)
 
 -- words ask for no more
 words_are_limited : (words : List (List ℕ)) → IsLimited (request_of words)
@@ -409,4 +423,4 @@ words_are_limited words = by_request (request_of words) refl
     by_request (Some upgrade) e = tt
 
 pub some_answer : SomeAnswer
-some_answer words bytes = limited_have_answer (request_of words) (words_are_limited words) bytes
+some_answer words bytes without = limited_have_answer (request_of words) (words_are_limited words) bytes without

@@ -1,6 +1,7 @@
 // The command `prove`: certificates for the proofs of a document.
-ghost use Rattle.std.specs.Prelude.{◌≡◌, ◌≤◌, ◌++◌, ◌∷◌, List, ℕ, IfOk};
+ghost use Rattle.std.specs.Prelude.{◌≡◌, ◌≤◌, ◌++◌, ◌∷◌, List, ℕ, IfOk, Ok};
 ghost use Rattle.unity_base.specs.Streams.{IsTold};
+ghost use Rattle.proof_script.specs.Proving.{Finds};
 ghost use Rattle.certificate_printing.specs.Certificates.{certificates_text};
 ghost use Rattle.certificate_roundtrip.specs.Found.{front};
 ghost use Rattle.unity_cli.specs.Admitted.{greatest_bare_size};
@@ -27,6 +28,17 @@ pub struct Found {
     pub answer: Answer,
     /// Where that is a document with certificates, the plan for which `check` accepts it; else none.
     pub plan: Option<Plan>,
+}
+
+impl Found {
+    fn new(status: Status, text: Vec<u8>, plan: Option<Plan>) -> Found
+        ensures { result ≡ record { answer = record { status = status; text = text }; plan = plan } }
+    {
+        Found {
+            answer: Answer { status, text },
+            plan,
+        }
+    }
 }
 
 /// What `prove BUDGET` answers for the input, with its bytes where it is a document.
@@ -61,63 +73,69 @@ fn find_for(
     ensures answer { IfOk result (λ f. IsSearchedIn budget bytes.now reading.now f.answer) }
     ensures plan { IfOk result (HasPlan reading.now.core.words) }
 {
-    let words = reading.core.words.as_slice();
     match prove(alloc, &reading.core, budget) {
-        Ok(Proof::Proved { plan, certs }) => {
-            let front = front_of(bytes, &reading.document);
-            let text = text_with(alloc, front, certs.as_slice())?;
+        Ok(proof) => answered(alloc, budget, bytes, reading, proof),
+        Err(ScriptError::Step(fault)) => {
+            let words = reading.core.words.as_slice();
             Ok(Found {
                 answer: Answer {
-                    status: Status::Done,
-                    text,
+                    status: Status::Rejected,
+                    text: rejected(alloc, words, &fault)?,
                 },
-                plan: Some(plan),
+                plan: None,
             })
-        },
-        Ok(
-            Proof::Refuted {
-                program,
-                step,
-                obligation,
-                variables,
-                values,
-            },
-        ) => Ok(Found {
-            answer: Answer {
-                status: Status::Refuted,
-                text: refuted_text(
-                    alloc,
-                    &reading.core,
-                    program,
-                    step,
-                    obligation,
-                    variables.as_slice(),
-                    values.as_slice(),
-                )?,
-            },
-            plan: None,
-        }),
-        Ok(
-            Proof::Budget {
-                program,
-                step,
-                obligation,
-            },
-        ) => Ok(Found {
-            answer: Answer {
-                status: Status::Budget,
-                text: budget_text(alloc, words, program, step, obligation, budget)?,
-            },
-            plan: None,
-        }),
-        Err(ScriptError::Step(fault)) => Ok(Found {
-            answer: Answer {
-                status: Status::Rejected,
-                text: rejected(alloc, words, &fault)?,
-            },
-            plan: None,
-        }),
+        }
         Err(ScriptError::Memory) => Err(AllocError),
+    }
+}
+
+// What `prove` answers for a document in whose proofs every rule applies.
+fn answered(
+    alloc: Global,
+    budget: u64,
+    bytes: &[u8],
+    reading: &AdmittedDocument,
+    proof: Proof,
+) -> Result<Found, AllocError>
+    requires reading { IsAdmittedAs greatest_bare_size bytes.now reading.now }
+    requires budget { budget ≤ 1000000 }
+    requires proof { Finds reading.now.core budget (Ok proof) }
+    ensures answer { IfOk result (λ f. IsSearchedIn budget bytes.now reading.now f.answer) }
+    ensures plan { IfOk result (HasPlan reading.now.core.words) }
+{
+    match proof {
+        Proof::Proved { plan, certs } => {
+            let front = front_of(bytes, &reading.document);
+            let text = text_with(alloc, front, certs.as_slice())?;
+            Ok(Found::new(Status::Done, text, Some(plan)))
+        }
+        Proof::Refuted {
+            program,
+            step,
+            obligation,
+            variables,
+            values,
+        } => {
+            let text = refuted_text(
+                alloc,
+                &reading.core,
+                program,
+                step,
+                obligation,
+                variables.as_slice(),
+                values.as_slice(),
+            )?;
+            Ok(Found::new(Status::Refuted, text, None))
+        }
+        Proof::Budget {
+            program,
+            step,
+            obligation,
+        } => {
+            let words = reading.core.words.as_slice();
+            let text = budget_text(alloc, words, program, step, obligation, budget)?;
+            Ok(Found::new(Status::Budget, text, None))
+        }
     }
 }
 

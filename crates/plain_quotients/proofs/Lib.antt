@@ -1,0 +1,13 @@
+pub mod FormLaws
+pub mod StatementLaws
+pub mod TermLaws
+pub mod RuleLaws
+pub mod WalkLaws
+pub mod ExpressionLaws
+pub mod AssignmentLaws
+pub mod DocumentLaws
+pub mod Choices
+pub mod ChoicesKept
+pub mod TreeLaws
+pub mod VersionLaws
+pub mod OnlyTimesLaws
