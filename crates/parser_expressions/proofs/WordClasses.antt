@@ -1,5 +1,5 @@
 -- Two reserved words are the same where their classes are, and only a symbol has the class of a symbol.
-use Rattle.std.proofs.Common.{◌≡◌, ◌≢◌, ◌+◌, ◌<◌, ◌∙◌, ℕ, Bool, true, false, not, cond, eqb, ◌||◌, ◌&&◌}
+use Rattle.std.proofs.Common.{◌≡◌, ◌≢◌, ◌+◌, ◌<◌, ℕ, Bool, true, false, not, cond, eqb, ◌||◌, ◌&&◌}
 use Rattle.std.proofs.Common.{refl, sym, ap, arith, eqb-true, eq-eqb}
 use Rattle.case_tables.specs.declared.word_table.Word.{Word}
 use Rattle.case_tables.specs.declared.symbol_table.Symbol.{Symbol}

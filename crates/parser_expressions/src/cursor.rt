@@ -1,6 +1,6 @@
 //! Tokens that are still to be read, and the reading of one of them.
 
-ghost use Rattle.std.specs.Prelude.{◌≡◌, IfOk, slice_range, not, ◌||◌, [], ◌∷◌, map, true, false, MatchOption, Ok};
+ghost use Rattle.std.specs.Prelude.{◌≡◌, not, ◌||◌, [], ◌∷◌, map, true, false, MatchOption, Ok};
 ghost use Rattle.case_tables.specs.declared.word_table.Word.{Word};
 ghost use Rattle.case_tables.specs.declared.symbol_table.Symbol.{Symbol};
 ghost use Rattle.grammar_theory.specs.Ebnf.{choice, has, place_of, one_of};
@@ -14,9 +14,9 @@ ghost use Rattle.unity_syntax.specs.View.{view_name, view_number, view_flag};
 ghost use Rattle.parser_expressions.specs.Gives.{Skips, Reads, remaining};
 
 use crate::stop::{Parsed, Stop};
+use crate::texts::{between, copied};
 use case_tables::{Symbol, Word};
-use std::alloc::{AllocError, Global};
-use unity_base::Seq;
+use std::alloc::Global;
 use unity_syntax::{Name, Operator, Token, TokenKind};
 
 /// The tokens that are left of a text, the text's bytes, and whether the text is of version 2: in
@@ -384,24 +384,4 @@ impl<'a> Cursor<'a> {
             _ => Err(Stop::Unexpected(self)),
         }
     }
-}
-
-/// The bytes from one place up to another, as far as there are any.
-fn between(bytes: &[u8], start: usize, end: usize) -> &[u8]
-    ensures { result.now ≡ slice_range bytes.now start end }
-{
-    let from = start.min(bytes.len());
-    let to = end.min(bytes.len()).max(from);
-    &bytes[from..to]
-}
-
-/// A list of the bytes.
-fn copied(alloc: Global, bytes: &[u8]) -> Result<Seq<u8>, AllocError>
-    ensures { IfOk result (λ text. text ≡ bytes.now) }
-{
-    let mut text = Seq::new(alloc);
-    for byte in bytes {
-        text.push(*byte)?;
-    }
-    Ok(text)
 }

@@ -12,6 +12,7 @@ mod nodes;
 mod ranges;
 mod references;
 mod stop;
+mod texts;
 
 pub use cursor::Cursor;
 pub use expressions::{condition, index, pred};

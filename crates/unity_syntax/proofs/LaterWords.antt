@@ -1,16 +1,14 @@
 -- No token of a document is of the class of the words that a text of version 1 may not have.
-use Rattle.std.proofs.Common.{◌≡◌, ℕ, zero, suc, Bool, true, false, not, ◌&&◌, ◌||◌, eqb, cond, List, [], ◌∷◌, refl}
-use Rattle.std.proofs.Common.{map}
-use Rattle.std.proofs.Common.{All}
+use Rattle.std.proofs.Common.{◌≡◌, ℕ, Bool, true, false, not, ◌&&◌, cond, List, [], ◌∷◌, refl}
 use Rattle.std.specs.List.{list_all, AllByRecursion}
 use Rattle.std.proofs.lemmas.Bool.{and_parts}
 use Rattle.std.proofs.lemmas.List.Elements.{All-from_recursion}
-use Rattle.grammar_theory.specs.Ebnf.{Terminal, Tree, Ebnf, has, Derives}
+use Rattle.grammar_theory.specs.Ebnf.{Terminal, Ebnf, has}
 use Rattle.case_tables.specs.declared.word_table.Word.{Word}
 use Rattle.unity_syntax.specs.declared.token.Token.{Token}
 use Rattle.unity_syntax.specs.declared.token.TokenKind.{TokenKind}
-use Rattle.unity_syntax.specs.Classes.{reserved, is_later, later_class, class_of, is_later_token, terminal, terminals}
-use Rattle.unity_syntax.specs.Grammar.{grammar, bodies, at_number, pred_, document_}
+use Rattle.unity_syntax.specs.Classes.{reserved, is_later, later_class, class_of, is_later_token, terminals}
+use Rattle.unity_syntax.specs.Grammar.{grammar, bodies, pred_, document_}
 use Rattle.unity_syntax.specs.ReadingLaws.{NoLaterWord}
 use Rattle.unity_syntax.proofs.Avoids.{avoids, AreNot, are_not}
 use Rattle.unity_syntax.proofs.LookAhead.{Each, each_number}

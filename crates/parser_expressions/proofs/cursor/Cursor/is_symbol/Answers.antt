@@ -1,4 +1,3 @@
-use Rattle.std.proofs.Common.{◌∙◌, sym}
 use Rattle.parser_expressions.proofs.WordClasses.{no_symbol}
 use Rattle.parser_expressions.proofs.cursor.Cursor.is_symbol.Goals as goal
 

@@ -4,7 +4,7 @@ use Rattle.unity_syntax.specs.View.{view_param}
 use Rattle.parser_expressions.specs.Gives.{remaining}
 use Rattle.parser_expressions.proofs.Repetition.{goes_on, ends, fails, shorter}
 use Rattle.parser_proofs.proofs.ItemForms.{is_param}
-use Rattle.parser_proofs.proofs.steps.more_params.Goals as goal
+use Rattle.parser_proofs.proofs.params.more_params.Goals as goal
 
 pub items-smaller : goal.items-smaller
 items-smaller c = shorter is_param c.args.depth (remaining c.items.rest) (view_param c.in_ok-item.item)

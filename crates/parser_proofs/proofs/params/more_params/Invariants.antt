@@ -5,7 +5,7 @@ use Rattle.unity_syntax.specs.Grammar.{past, param_}
 use Rattle.unity_syntax.specs.View.{view_param}
 use Rattle.parser_expressions.specs.Gives.{remaining}
 use Rattle.parser_expressions.proofs.Repetition.{Items}
-use Rattle.parser_proofs.proofs.steps.more_params.Given as goal
+use Rattle.parser_proofs.proofs.params.more_params.Given as goal
 
 abbrev pub invariant-items : goal.invariant-items
 invariant-items l = Items view_param (past (symbol Symbol.Comma) param_) l.depth (remaining l.fn.text) l.found

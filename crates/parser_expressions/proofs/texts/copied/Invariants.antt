@@ -1,5 +1,5 @@
 use Rattle.std.proofs.Common.{◌≡◌, take}
-use Rattle.parser_expressions.proofs.cursor.copied.Given as goal
+use Rattle.parser_expressions.proofs.texts.copied.Given as goal
 
 abbrev pub invariant-loop-byte : goal.invariant-loop-byte
 invariant-loop-byte l = l.text ≡ take l.byte-index l.bytes
