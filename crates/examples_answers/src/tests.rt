@@ -2,6 +2,7 @@
 mod certificates;
 mod edits;
 mod names;
+mod quotients;
 mod steps;
 mod tables;
 mod texts;

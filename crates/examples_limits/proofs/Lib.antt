@@ -1,4 +1,5 @@
 pub mod ChainLaws
 pub mod CountLaws
 pub mod OpenLaws
+pub mod RangeLaws
 pub mod SwapLaws

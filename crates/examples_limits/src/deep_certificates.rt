@@ -1,13 +1,13 @@
 // Certificates of the greatest depth, which the check takes within an ordinary stack, and chains that are found to
 // close facts, which it takes as well.
-ghost use Rattle.std.specs.Prelude.{◌≡◌, ◌≤◌, ◌^◌, ℕ, suc, true, IfOk, OnOk};
-ghost use Rattle.obligations.specs.Load.{form_load};
-ghost use Rattle.obligations.specs.Obligations.{AreVariables};
+ghost use Rattle.std.specs.Prelude.{◌≡◌, ℕ, suc, true, IfOk, OnOk};
+ghost use Rattle.obligations.specs.Obligations.{IsObligation};
 ghost use Rattle.certificate_check.specs.Trees.{is_whole};
 ghost use Rattle.examples_limits.specs.Open.{Wants};
 
-use core_terms::{CForm, CTerm, Range};
-use obligations::{Cert, Node, Obligation, Variable};
+use crate::preconditions::digit;
+use core_terms::{CForm, CTerm};
+use obligations::{Cert, Node, Obligation, TooLargeError, make};
 use std::alloc::{AllocError, Global};
 use unity_base::Seq;
 
@@ -18,20 +18,12 @@ mod tests;
 pub use chains::{Row, chain_of, facts_of, row_of, unmet};
 
 /// That a variable of the numbers 0 to 9 is at least 0.
-pub fn at_least_zero(alloc: Global) -> Result<Obligation, AllocError>
-    ensures variables { IfOk result (λ o. AreVariables o.variables) }
-    ensures load { IfOk result (λ o. form_load o.form ≤ 2 ^ 62) }
+pub fn at_least_zero(alloc: Global) -> Result<Obligation, TooLargeError>
+    ensures { IfOk result IsObligation }
 {
-    let mut variables = Seq::new(alloc);
-    variables.push(Variable {
-        param: false,
-        number: 0,
-        range: Range { lo: 0, hi: 9 },
-    })?;
-    Ok(Obligation {
-        form: CForm::AtLeast(CTerm::Slot(0)),
-        variables,
-    })
+    let slots = [digit()];
+    let least = CForm::AtLeast(CTerm::Slot(0));
+    make(alloc, least, slots.as_slice(), [].as_slice())
 }
 
 /// Adds a sum of the variable's lower bound and the negation.

@@ -25,6 +25,8 @@ pub enum TermAround {
     Sub,
     Branch,
     Condition,
+    Quotient,
+    Remainder,
 }
 
 /// One more level around a formula.
@@ -58,6 +60,12 @@ pub fn term_around(alloc: Global, which: TermAround, t: CTerm) -> Result<CTerm, 
         TermAround::Condition => {
             let second = Shared::new(alloc, CTerm::Const(0))?;
             Ok(CTerm::Ite(Shared::new(alloc, CForm::Zero(t))?, zero, second))
+        }
+        TermAround::Quotient => Ok(CTerm::Div(Shared::new(alloc, t)?, 1)),
+        TermAround::Remainder => {
+            // The weight of a remainder is twice that of its term and more, so the term is a multiple by 0.
+            let none = CTerm::Scale(0, Shared::new(alloc, t)?);
+            Ok(CTerm::Mod(Shared::new(alloc, none)?, 1))
         }
     }
 }

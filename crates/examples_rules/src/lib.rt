@@ -3,6 +3,8 @@
 #![tactic(auto)]
 
 #[cfg(test)]
+mod certificate_tests;
+#[cfg(test)]
 mod plan_tests;
 mod plans;
 #[cfg(test)]

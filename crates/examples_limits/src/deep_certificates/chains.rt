@@ -1,14 +1,14 @@
 //! Facts over three variables, the chains that are found to close them, and the obligations that these refute.
-ghost use Rattle.std.specs.Prelude.{◌≡◌, ◌≤◌, ◌^◌, true, false, IfOk, IfSome, OnOk};
+ghost use Rattle.std.specs.Prelude.{◌≡◌, ◌<◌, ◌≤◌, ◌≤ℤ◌, true, IfOk, IfSome, OnOk};
 ghost use Rattle.std.specs.List.{list_all};
-ghost use Rattle.obligations.specs.Load.{term_load, form_load};
-ghost use Rattle.obligations.specs.Obligations.{AreVariables};
+ghost use Rattle.core_terms.specs.Places.{term_slots, term_params, form_slots, form_params};
+ghost use Rattle.obligations.specs.Obligations.{IsObligation};
 ghost use Rattle.certificate_check.specs.Trees.{is_whole};
 ghost use Rattle.linear_prover.specs.Exact.{is_fact};
 
-use core_terms::{CForm, CTerm, Range};
+use core_terms::{CForm, CSlot, CTerm, Print, Range};
 use linear_prover::close;
-use obligations::{Cert, Fact, Obligation, Variable};
+use obligations::{Cert, Fact, Obligation, TooLargeError, make};
 use std::alloc::{AllocError, Global};
 use unity_base::{Seq, Shared};
 
@@ -18,11 +18,11 @@ pub struct Row {
     pub x: i32,
     pub y: i32,
     pub z: i32,
-    pub constant: i32,
+    pub constant: i64,
 }
 
 /// The row of these numbers.
-pub fn row_of(x: i32, y: i32, z: i32, constant: i32) -> Row {
+pub fn row_of(x: i32, y: i32, z: i32, constant: i64) -> Row {
     Row { x, y, z, constant }
 }
 
@@ -52,7 +52,8 @@ fn add_facts(alloc: Global, rows: &[Row], facts: &mut Seq<Fact>) -> Result<(), A
 }
 
 /// That x, y and z are from 0 to this number.
-fn range_rows(greatest: i32) -> [Row; 6] {
+fn range_rows(greatest: u32) -> [Row; 6] {
+    let greatest = greatest as i64;
     [
         row_of(1, 0, 0, 0),
         row_of(-1, 0, 0, greatest),
@@ -64,7 +65,7 @@ fn range_rows(greatest: i32) -> [Row; 6] {
 }
 
 /// The facts of three ranges from 0, and then those of rows.
-pub fn facts_of(alloc: Global, greatest: i32, rows: &[Row]) -> Result<Seq<Fact>, AllocError>
+pub fn facts_of(alloc: Global, greatest: u32, rows: &[Row]) -> Result<Seq<Fact>, AllocError>
     ensures { IfOk result (λ fs. list_all (is_fact 3) fs ≡ true) }
 {
     let mut facts = Seq::new(alloc);
@@ -88,21 +89,22 @@ pub fn chain_of(alloc: Global, facts: &[Fact]) -> Result<Option<Cert>, AllocErro
 
 /// A multiple of a variable.
 fn multiple(alloc: Global, times: i32, slot: u32) -> Result<CTerm, AllocError>
-    ensures own { IfOk result (λ t. (term_load t).own ≤ 2 ^ 31) }
-    ensures most { IfOk result (λ t. (term_load t).most ≡ 0) }
+    requires { slot < 3 }
+    ensures slots { IfOk result (λ t. term_slots t ≤ 3) }
+    ensures params { IfOk result (λ t. term_params t ≤ 0) }
 {
     Ok(CTerm::Scale(times as i64, Shared::new(alloc, CTerm::Slot(slot))?))
 }
 
 /// The sum of which a row says that it is at least 0.
 fn sum_of(alloc: Global, row: &Row) -> Result<CTerm, AllocError>
-    ensures own { IfOk result (λ t. (term_load t).own ≤ 2 ^ 33) }
-    ensures most { IfOk result (λ t. (term_load t).most ≡ 0) }
+    ensures slots { IfOk result (λ t. term_slots t ≤ 3) }
+    ensures params { IfOk result (λ t. term_params t ≤ 0) }
 {
     let x = Shared::new(alloc, multiple(alloc, row.x, 0)?)?;
     let y = Shared::new(alloc, multiple(alloc, row.y, 1)?)?;
     let z = Shared::new(alloc, multiple(alloc, row.z, 2)?)?;
-    let constant = Shared::new(alloc, CTerm::Const(row.constant as i64))?;
+    let constant = Shared::new(alloc, CTerm::Const(row.constant))?;
     let last = Shared::new(alloc, CTerm::Add(z, constant))?;
     let more = Shared::new(alloc, CTerm::Add(y, last))?;
     Ok(CTerm::Add(x, more))
@@ -110,8 +112,10 @@ fn sum_of(alloc: Global, row: &Row) -> Result<CTerm, AllocError>
 
 /// That a row is not met, or a formula holds.
 fn or_unmet(alloc: Global, row: &Row, form: CForm) -> Result<CForm, AllocError>
-    requires { form_load form ≤ 2 ^ 62 }
-    ensures { IfOk result (λ f. form_load f ≤ 2 ^ 62) }
+    requires slots { form_slots form ≤ 3 }
+    requires params { form_params form ≤ 0 }
+    ensures slots { IfOk result (λ f. form_slots f ≤ 3) }
+    ensures params { IfOk result (λ f. form_params f ≤ 0) }
 {
     let met = Shared::new(alloc, CForm::AtLeast(sum_of(alloc, row)?))?;
     let unmet = Shared::new(alloc, CForm::Not(met))?;
@@ -120,7 +124,8 @@ fn or_unmet(alloc: Global, row: &Row, form: CForm) -> Result<CForm, AllocError>
 
 /// That some row is not met.
 fn some_unmet(alloc: Global, rows: &[Row]) -> Result<CForm, AllocError>
-    ensures { IfOk result (λ f. form_load f ≤ 2 ^ 62) }
+    ensures slots { IfOk result (λ f. form_slots f ≤ 3) }
+    ensures params { IfOk result (λ f. form_params f ≤ 0) }
 {
     let mut form = CForm::Bottom;
     let mut left = rows.len();
@@ -131,32 +136,31 @@ fn some_unmet(alloc: Global, rows: &[Row]) -> Result<CForm, AllocError>
     Ok(form)
 }
 
-/// That some row is not met, at all x, y and z from 0 to the greatest number. The facts of its first branch are
-/// those of the ranges and of the rows.
-pub fn unmet(alloc: Global, greatest: i32, rows: &[Row]) -> Result<Obligation, AllocError>
-    ensures variables { IfOk result (λ o. AreVariables o.variables) }
-    ensures load { IfOk result (λ o. form_load o.form ≤ 2 ^ 62) }
+/// A slot of the numbers from 0 to the greatest.
+fn slot_to(name: u32, greatest: u32) -> CSlot
+    ensures { result.range.lo ≤ℤ result.range.hi }
 {
-    let range = Range {
-        lo: 0,
-        hi: greatest as i64,
-    };
-    let mut variables = Seq::new(alloc);
-    variables.push(slot(0, range))?;
-    variables.push(slot(1, range))?;
-    variables.push(slot(2, range))?;
-    Ok(Obligation {
-        form: some_unmet(alloc, rows)?,
-        variables,
-    })
+    CSlot {
+        name,
+        index: None,
+        range: Range {
+            lo: 0,
+            hi: greatest as i64,
+        },
+        print: Print::Number,
+    }
 }
 
-fn slot(number: u32, range: Range) -> Variable
-    ensures { result ≡ record { param = false; number = number; range = range } }
+/// That some row is not met, at all x, y and z from 0 to the greatest number. The facts of its first branch are
+/// those of the ranges and of the rows.
+pub fn unmet(alloc: Global, greatest: u32, rows: &[Row]) -> Result<Obligation, TooLargeError>
+    ensures { IfOk result IsObligation }
 {
-    Variable {
-        param: false,
-        number,
-        range,
-    }
+    let slots = [
+        slot_to(0, greatest),
+        slot_to(1, greatest),
+        slot_to(2, greatest),
+    ];
+    let form = some_unmet(alloc, rows)?;
+    make(alloc, form, slots.as_slice(), [].as_slice())
 }

@@ -1,11 +1,15 @@
 // Trees of as many levels as are allowed and of one more: a call that took too much stack would end the test; that
 // it answers rightly is proved. And facts for which a chain is found, or none is.
+ghost use Rattle.std.specs.Prelude.{◌≤◌};
+
 use super::*;
 use case_tables::Code;
 use certificate_check::{CertError, check_cert};
 use std::test::Fail;
 
-fn checked(alloc: Global, levels: u32, allowed: u32) -> Result<(), CertError> {
+fn checked(alloc: Global, levels: u32, allowed: u32) -> Result<(), CertError>
+    requires { allowed ≤ 4096 }
+{
     let o = at_least_zero(alloc).map_err(|_| CertError::Memory)?;
     let c = deep_cert(alloc, levels).map_err(|_| CertError::Memory)?;
     check_cert(alloc, &o, &c, allowed)
@@ -32,7 +36,7 @@ fn refuses_a_deeper_tree(rt: HostRuntime) -> Result<(), Fail> {
 
 // How many nodes the chain has that is found where x, y and z are from 0 to the greatest number and the rows hold,
 // and that the check takes. `None` where no chain is found.
-fn closing(alloc: Global, greatest: i32, rows: &[Row]) -> Result<Option<usize>, CertError> {
+fn closing(alloc: Global, greatest: u32, rows: &[Row]) -> Result<Option<usize>, CertError> {
     let facts = facts_of(alloc, greatest, rows).map_err(|_| CertError::Memory)?;
     match chain_of(alloc, facts.as_slice()).map_err(|_| CertError::Memory)? {
         Some(cert) => {

@@ -8,7 +8,8 @@ use super::*;
 use crate::deep_trees::{Around, deep_form, deep_term};
 use core_terms::{CForm, CSlot, Print, Range, copy_form};
 use obligations::{
-    Cert, Node, TooLargeError, height, make, need, open_branch, settle, units, with_variables,
+    Cert, Node, TooLargeError, has_room, height, make, need, next_param, open_branch, settle,
+    units, with_variables,
 };
 use std::test::Fail;
 use unity_base::{Seq, Shared};
@@ -45,6 +46,9 @@ fn is_settled(alloc: Global, f: &CForm) -> Result<bool, AllocError>
 {
     let slots = [Range { lo: 0, hi: 1 }];
     let o = with_variables(alloc, copy_form(alloc, f)?, slots.as_slice(), [].as_slice())?;
+    if next_param(o.variables.as_slice()) > 1 << 31 {
+        return Err(AllocError);
+    }
     let branch = open_branch(alloc, &o)?;
     let branch = settle(alloc, &o, branch, copy_form(alloc, f)?)?;
     let some = need(&o).is_some();
@@ -67,6 +71,9 @@ fn numbers_of(alloc: Global, f: CForm) -> Result<(u64, u128, usize, usize), Allo
     let slots = [bit(0)];
     match make(alloc, f, slots.as_slice(), [].as_slice()) {
         Ok(o) => {
+            if !has_room(&o) {
+                return Err(AllocError);
+            }
             let branch = open_branch(alloc, &o)?;
             let first = branch.facts.len();
             let branch = settle(alloc, &o, branch, todo)?;
@@ -183,6 +190,8 @@ fn takes_deep_terms(rt: HostRuntime) -> Result<(), Fail> {
         (TermAround::Sub, 2),
         (TermAround::Branch, 3),
         (TermAround::Condition, 4),
+        (TermAround::Quotient, 2),
+        (TermAround::Remainder, 4),
     ] {
         let t = deep_term(rt.alloc(), which, (NODES - 2) / part, CTerm::Slot(0))?;
         assert!(rt; goes_through(rt.alloc(), CForm::Zero(t))?);
@@ -196,6 +205,8 @@ fn takes_deep_choices(rt: HostRuntime) -> Result<(), Fail> {
         (TermAround::Scale, 1),
         (TermAround::Add, 2),
         (TermAround::Sub, 2),
+        (TermAround::Quotient, 2),
+        (TermAround::Remainder, 4),
     ] {
         let t = deep_term(rt.alloc(), which, (NODES - 5) / part, choice(rt.alloc())?)?;
         assert!(rt; goes_through(rt.alloc(), CForm::Zero(t))?);

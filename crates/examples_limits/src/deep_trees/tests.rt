@@ -79,6 +79,8 @@ fn takes_deep_terms(rt: HostRuntime) -> Result<(), Fail> {
         (TermAround::Sub, 2),
         (TermAround::Branch, 3),
         (TermAround::Condition, 4),
+        (TermAround::Quotient, 1),
+        (TermAround::Remainder, 2),
     ] {
         let levels = (NODES - 2) / part;
         let f = CForm::Zero(deep_term(rt.alloc(), which, levels, CTerm::Slot(0))?);
@@ -100,6 +102,8 @@ fn puts_arguments_into_deep_terms(rt: HostRuntime) -> Result<(), Fail> {
         (TermAround::Sub, 2),
         (TermAround::Branch, 3),
         (TermAround::Condition, 4),
+        (TermAround::Quotient, 1),
+        (TermAround::Remainder, 2),
     ] {
         let levels = (NODES - 2) / part;
         let f = CForm::Zero(deep_term(rt.alloc(), which, levels, CTerm::Slot(0))?);
@@ -135,6 +139,8 @@ fn weighs_deep_trees(rt: HostRuntime) -> Result<(), Fail> {
         (TermAround::Sub, 2),
         (TermAround::Branch, 3),
         (TermAround::Condition, 4),
+        (TermAround::Quotient, 1),
+        (TermAround::Remainder, 2),
     ] {
         let f = CForm::Zero(deep_term(rt.alloc(), which, (NODES - 2) / part, CTerm::Slot(0))?);
         assert!(rt; weighs_little(rt.alloc(), &f)?);

@@ -72,6 +72,8 @@ fn goes_down_deep_formulas(rt: HostRuntime) -> Result<(), Fail> {
         (TermAround::Sub, 2),
         (TermAround::Branch, 3),
         (TermAround::Condition, 4),
+        (TermAround::Quotient, 1),
+        (TermAround::Remainder, 2),
     ] {
         let q = CForm::Zero(deep_term(rt.alloc(), which, (NODES - 2) / part, CTerm::Slot(0))?);
         assert!(rt; goes_down(rt.alloc(), &s, &q, slots.as_slice())? > 1);
