@@ -9,7 +9,9 @@ import subprocess
 TOP = os.path.dirname(os.path.dirname(os.path.abspath(__file__)))
 TOKEN = re.compile(r"[A-Za-z][A-Za-z0-9_]*|[0-9]+|:=|::|\.\.|\[\]|<\|\||<\[\]|\|>|\|\||<=|>=|=>|/=|[^\sA-Za-z0-9]")
 RELATIONS = ("=", "/=", "<", "<=", ">", ">=")
-KINDS = ("unless", "ensures", "leadsto")
+OPERATORS = ("*", "div", "mod")
+REFERENCES = {"conj": 2, "simpleconj": 2, "disj": 2, "simpledisj": 2, "cancel": 2, "union": 2, "until": 2, "detects": 2,
+              "constant": 2, "superpose": 1, "complete": 4}
 
 
 def unity(words, text):
@@ -112,9 +114,11 @@ class Reader:
         return Node("sum", start, 0, *parts, name=signs).closed(self)
 
     def product(self):
-        start = self.place()
-        parts = self.several(self.atom, "*")
-        return Node("prod", start, 0, *parts).closed(self) if len(parts) > 1 else parts[0]
+        start, parts, operators = self.place(), [self.atom()], []
+        while self.now() in OPERATORS:
+            operators.append(self.take())
+            parts.append(self.atom())
+        return Node("prod", start, 0, *parts, name=tuple(operators)).closed(self) if operators else parts[0]
 
     def atom(self):
         start = self.place()
@@ -176,7 +180,7 @@ class Document(Reader):
         super().__init__(text)
         self.programs, self.proofs, self.schedule, self.certificates = {}, [], None, None
         self.take("unity")
-        self.take()
+        self.version = self.take()
         while self.now() in ("program", "proof"):
             if self.now() == "program":
                 self.read_program()
@@ -295,7 +299,7 @@ class Document(Reader):
             self.take(")")
         self.take(":")
         made = Record(name=name, program=proof.name, params=params, start=start, p=None, q=None, using=[])
-        if self.now() in ("defined", "invariant", "stable"):
+        if self.now() in ("defined", "invariant", "stable", "constant", "fixed"):
             made.kind = self.take()
             made.p = self.pred() if made.kind != "defined" else None
         else:
@@ -316,9 +320,9 @@ class Document(Reader):
         if word == "weaken" and self.now(1) != "(":
             self.take()
             return Record(word="weaken step", refs=[self.reference()])
-        if word in ("conj", "simpleconj", "disj", "simpledisj", "cancel", "union"):
+        if word in REFERENCES:
             self.take()
-            return Record(word=word, refs=[self.reference(), self.reference()])
+            return Record(word=word, refs=[self.reference() for _ in range(REFERENCES[word])])
         return Record(word="term", term=self.term())
 
     def reference(self):

@@ -22,6 +22,10 @@ def declared(plan, more):
     return "\n".join(["declare"] + lines + (["always"] + defs if defs else [])) + "\n"
 
 
+def heading(plan):
+    return "unity %s\nprogram Probe\n" % plan.document.version
+
+
 def start_of(values):
     return "start " + ", ".join("%s = %s" % each for each in values.items()) + "\n" if values else ""
 
@@ -38,7 +42,7 @@ def look(plan, program, values, questions, instance=None):
     asked = ["%s%d" % (name, at) for at in range(len(questions))]
     more = [(it, WIDE if numeric else "boolean") for it, (_, numeric) in zip(asked, questions)]
     gives = ", ".join(asked) + " := " + ", ".join(str(it) for it, _ in questions) if asked else "%s := 0" % name
-    text = "unity 1\nprogram Probe\n" + declared(plan, more + [(name, "0..0")]) + start_of(values)
+    text = heading(plan) + declared(plan, more + [(name, "0..0")]) + start_of(values)
     text += "assign\n  %s_look: %s\n  [] " % (name, gives) + "\n  [] ".join(bodies(plan, program)) + "\nend\n"
     choices = [name + "_look"] + ([instance, name + "_look"] if instance else [])
     text += "schedule Probe : " + ", ".join(choices) + " end\n"
@@ -72,7 +76,7 @@ def excluded(plan, values, formulas):
              for name, value in values.items()]
     here = " and ".join(facts + [it.bare() for it in formulas]) or "true"
     name = unused(plan.document.text)
-    text = "unity 1\nprogram Probe\n" + declared(plan, [(name, "0..0")])
+    text = heading(plan) + declared(plan, [(name, "0..0")])
     text += "assign %s_look: %s := 0 end\nproof Probe\n  %s_safe: defined by text;\n" % (name, name, name)
     text += "  %s_never: %s leadsto false by imply(%s, false);\nend\n" % (name, here, here)
     told, status = unity(["prove", 100000], text)

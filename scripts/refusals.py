@@ -100,7 +100,8 @@ def elsewhere(text, at):
 def reserved():
     """The reserved words, as docs/LANGUAGE.md lists them."""
     with open(os.path.join(TOP, "docs", "LANGUAGE.md"), encoding="utf-8") as page:
-        return re.search(r"Reserved words\*\* are\s*`([^`]*)`", page.read()).group(1).split()
+        lists = re.search(r"Reserved words\*\* are\s*`([^`]*)`\s*and, of version 2, `([^`]*)`", page.read())
+        return (lists.group(1) + " " + lists.group(2)).split()
 
 
 def explain_rejected(plan, step, code, word, number, rest):
@@ -202,7 +203,7 @@ def no_start(plan, step):
 
 def started(document, program, parts):
     """The start state of a program with these parts of its initially section."""
-    lines = ["unity 1", "program Start", "declare"]
+    lines = ["unity " + document.version, "program Start", "declare"]
     lines += ["  %s : %s" % (it.name, it.text) for it in document.variables.values()]
     lines += ["always"] + ["  %s = %s" % (name, document.words(node.start, node.end))
                            for name, node in document.defs.items()] if document.defs else []

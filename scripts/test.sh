@@ -462,6 +462,7 @@ expect 0 swap
 expect 0 rounding
 expect 0 splitting
 expect 0 share
+expect 0 last_bit
 expect 0 safety_calculus
 expect 0 union_proofs
 expect 0 past_the_end
@@ -479,6 +480,7 @@ expect_proof count count.expected
 expect_proof swap swap.expected
 expect_proof rounding rounding.expected
 expect_proof splitting splitting.expected
+expect_proof last_bit last_bit.expected
 expect_proof safety_calculus safety_calculus.expected
 expect_proof union_proofs union_proofs.expected
 for name in peterson readers_writers two_phase_commit barrier ring_of_four ring_of_three union_of_two; do
@@ -496,6 +498,10 @@ done
 for name in bakery chang_roberts k_state go_back_n msi dining; do
     expect_cause "causes/$name"
 done
+# what divides by constants
+expect 1 gcd
+expect_proof gcd gcd.accepted
+expect_counted gcd gcd.accepted
 # the programs of the book of Chandy and Misra
 for name in meeting_time sort odd_even reachability shortest_path termination binomial garbage; do
     expect 1 "$name"
@@ -518,6 +524,7 @@ expect_run barrier
 expect_run race
 expect_run sort
 expect_run odd_even
+expect_run gcd
 expect_replay past_the_end
 expect_replay peterson
 expect_replay two_phase_commit
@@ -525,6 +532,7 @@ expect_replay race
 expect_replay termination
 expect_upgraded count
 expect_upgraded share
+expect_upgraded last_bit
 expect_line 1 "rejected 53 BadSum Count.top obligation 2" upgrade < examples/count_wrong_sum.unity
 expect_line 2 "bad 61 NoProgram" run None 3 < examples/count.unity
 expect_line 2 "bad 60 NoSchedule" replay < examples/count.unity
