@@ -498,12 +498,10 @@ done
 for name in bakery chang_roberts k_state go_back_n msi dining; do
     expect_cause "causes/$name"
 done
-# what counts modulo something
-for name in clock ring_buffer gcd; do
-    expect 1 "$name"
-    expect_proof "$name" "$name.accepted"
-    expect_counted "$name" "$name.accepted"
-done
+# what divides by constants
+expect 1 gcd
+expect_proof gcd gcd.accepted
+expect_counted gcd gcd.accepted
 # the programs of the book of Chandy and Misra
 for name in meeting_time sort odd_even reachability shortest_path termination binomial garbage; do
     expect 1 "$name"
@@ -526,8 +524,6 @@ expect_run barrier
 expect_run race
 expect_run sort
 expect_run odd_even
-expect_run clock
-expect_run ring_buffer
 expect_run gcd
 expect_replay past_the_end
 expect_replay peterson

@@ -1,2 +1,3 @@
+pub mod FormLaws
+pub mod GuidedLaws
 pub mod FindingLaws
-pub mod PlainWalks

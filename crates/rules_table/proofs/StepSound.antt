@@ -42,8 +42,7 @@ use Rattle.rules_table.specs.Forms.{imply}
 use Rattle.rules_table.specs.Table.{Site, needs, go_on, under_with, goals_of, record_of, concluded, is_defined}
 use Rattle.rules_table.specs.Table.{is_invariant, is_unless, is_ensures, defined_forms, defined_of, invariant_forms}
 use Rattle.rules_table.specs.Table.{invariant_of, unless_forms, unless_of, is_helper, helper_forms, ensures_of}
-use Rattle.rules_table.specs.Table.{weaken_of, paired, pair_kinds, pair_of, shown_forms, first_helper, ending}
-use Rattle.rules_table.specs.Table.{is_part_pair}
+use Rattle.rules_table.specs.Table.{weaken_of, paired, pair_kinds, pair_of, shown_forms, first_helper, ending, is_part_pair}
 use Rattle.rules_table.specs.Table.{union_defined_of, union_invariant_of, union_unless_of, union_ensures_of}
 use Rattle.rules_table.specs.Table.{instance_of}
 use Rattle.rules_table.specs.Terms.{known, found, referred, term_of, all_ranges, leads_record, derive_of}

@@ -1,6 +1,5 @@
 -- Leaves whose added variables are fixed by rounds.
-use Rattle.std.proofs.Common.{◌≡◌, ℕ, zero, suc, ◌+◌, ◌-◌, ◌*◌, ◌≤◌, ◌<◌, ℤ, pos, negsuc, true, not, ◌&&◌, List, []}
-use Rattle.std.proofs.Common.{◌∷◌}
+use Rattle.std.proofs.Common.{◌≡◌, ℕ, zero, suc, ◌+◌, ◌-◌, ◌*◌, ◌≤◌, ◌<◌, ℤ, pos, negsuc, true, not, ◌&&◌, List, [], ◌∷◌}
 use Rattle.std.proofs.Common.{Bool, ◌++◌, ◌^◌, take, drop, length, map, arith, refl, sym, ap, subst, ◌∙◌}
 use Rattle.std.proofs.Common.{le_refl, false, None}
 use Rattle.std.specs.List.{list_all}

@@ -1,7 +1,6 @@
 -- A branch with a quotient taken is ready for the search.
 use Rattle.std.proofs.Common.{◌≡◌, ℕ, suc, ◌+◌, ◌≤◌, ◌^◌, max, nat_le, ℤ, pos}
-use Rattle.std.proofs.Common.{Bool, true, false, cond, not, ◌&&◌, Option, Some, None, List, [], ◌∷◌, ◌++◌, length}
-use Rattle.std.proofs.Common.{arith}
+use Rattle.std.proofs.Common.{Bool, true, false, cond, not, ◌&&◌, Option, Some, None, List, [], ◌∷◌, ◌++◌, length, arith}
 use Rattle.std.proofs.Common.{refl, ap, subst, ◌∙◌}
 use Rattle.std.specs.List.{list_all}
 use Rattle.std.specs.Int.RustNames.{unsigned_abs}

@@ -1,4 +1,0 @@
-use Rattle.conflict_search.proofs.lists.common_divisor.Given as goal
-
-abbrev pub decreases-steps : goal.decreases-steps
-decreases-steps l = l.other

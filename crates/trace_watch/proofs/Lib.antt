@@ -1,5 +1,0 @@
-pub mod TraceLaws
-pub mod CaseLaws
-pub mod TryLaws
-pub mod LookLaws
-pub mod TracingLaws

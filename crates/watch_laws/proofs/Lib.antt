@@ -1,4 +1,0 @@
-pub mod Readings
-pub mod Alike
-pub mod Unviolated
-pub mod Accepted
