@@ -7,7 +7,8 @@ use Rattle.examples_definitions.specs.ExpressionText.{expressions_example}
 use Rattle.examples_definitions.specs.ProofText.{proof_example}
 use Rattle.examples_definitions.specs.TermText.{term_example}
 use Rattle.examples_definitions.specs.VersionText.{second_version}
-use Rattle.examples_definitions.specs.RefusedTexts.{other_version, later_word, second_relation, second_arrow, not_not, and_or}
+use Rattle.examples_definitions.specs.RefusedTexts.{other_version, later_word, second_relation, second_arrow, not_not}
+use Rattle.examples_definitions.specs.RefusedTexts.{and_or}
 use Rattle.examples_definitions.specs.RefusedTexts.{other_number, node_too_many, node_missing, early_end}
 use Rattle.examples_definitions.specs.RefusedTexts.{bracket_too_many}
 use Rattle.unity_syntax.proofs.Productions.{all_productions}

@@ -107,8 +107,8 @@ ProductsFromLeft = values
     operated (number 9) Operator.Div (bracketed (operated (word "y") Operator.Mod (number 3))) ∷ []) ≡
     pos 6 ∷ pos 3 ∷ pos 0 ∷ pos 1 ∷ pos 2 ∷ pos 9 ∷ []
 
--- a sign belongs to the sum: `-7 div 2` is the negation of `7 div 2` and `-b[1] mod 3` that of `b[1] mod 3`; in brackets
--- it belongs to the number, `(-7) div 2` and `(-7) mod 3`
+-- a sign belongs to the sum: `-7 div 2` is the negation of `7 div 2` and `-b[1] mod 3` that of `b[1] mod 3`; in
+-- brackets it belongs to the number, `(-7) div 2` and `(-7) mod 3`
 abbrev pub SignBeforeDivision : Type 0
 SignBeforeDivision = values
     (minus (operated (number 7) Operator.Div (number 2)) ∷

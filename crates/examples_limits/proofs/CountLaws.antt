@@ -145,7 +145,8 @@ above-closed = refl
 leaf : (k : ℕ) (facts : List Fact) (b : Branch) → b ≡ record { facts = facts; waiting = []; added = 0 } →
     some_out_of_reach facts ≡ true → plain_leaves vs (suc k) rs b ≡ 1
 leaf k facts b e h = ap (plain_leaves vs (suc k) rs) e
-    ∙ ap (λ t. cond t 1 (open_leaves vs (plain_leaves vs k) rs (record { facts = facts; waiting = []; added = 0 }) [])) h
+    ∙ ap
+    (λ t. cond t 1 (open_leaves vs (plain_leaves vs k) rs (record { facts = facts; waiting = []; added = 0 }) [])) h
 
 two-leaves : (k : ℕ) → plain_leaves vs (suc (suc k)) rs opened ≡ 2
 two-leaves k =
@@ -156,7 +157,8 @@ two-leaves k =
     + plain_leaves vs (suc k) rs (settled vs s.1 (waiting_only opened []))) sides-are in
     let one = leaf k below (settled vs (Not is_low) (waiting_only opened [])) below-is below-closed in
     let two = leaf k above (settled vs (Not is_high) (waiting_only opened [])) above-is above-closed in
-    taken ∙ either ∙ halves ∙ ap (λ n. n + plain_leaves vs (suc k) rs (settled vs (Not is_high) (waiting_only opened []))) one
+    taken ∙ either ∙ halves
+    ∙ ap (λ n. n + plain_leaves vs (suc k) rs (settled vs (Not is_high) (waiting_only opened []))) one
     ∙ ap (λ n. 1 + n) two
 
 pub has-numbers : HasNumbers

@@ -4,7 +4,8 @@ use Rattle.std.proofs.Common.{None, refl, sym, ap, ◌∙◌}
 use Rattle.std.specs.Option.{option_map, is_some}
 use Rattle.std.specs.Int.RustNames.{int_le}
 use Rattle.core_terms.specs.declared.trees.CTerm.{CTerm, fold-roll-CTerm}
-use Rattle.core_terms.specs.declared.trees.CTerm.TheVariants.{Const, Add, Sub, Scale, Div, Mod, Ite, rolls-Const, rolls-Add}
+use Rattle.core_terms.specs.declared.trees.CTerm.TheVariants.{Const, Add, Sub, Scale, Div, Mod, Ite, rolls-Const}
+use Rattle.core_terms.specs.declared.trees.CTerm.TheVariants.{rolls-Add}
 use Rattle.core_terms.specs.declared.trees.CTerm.TheVariants.{rolls-Sub, rolls-Scale, rolls-Div, rolls-Mod, rolls-Ite}
 use Rattle.core_terms.specs.declared.trees.CForm.{CForm, fold-roll-CForm}
 use Rattle.core_terms.specs.declared.trees.CForm.TheVariants.{Top, Bottom, AtLeast, Zero, Not, And, Or, rolls-Top}
@@ -15,7 +16,8 @@ use Rattle.meaning_states.specs.Division.{floored, rest_of}
 use Rattle.meaning_states.specs.State.{int_eq}
 use Rattle.core_terms.specs.Folding.{joined, chosen, number_step, truth_step, number_of, truth_of, is_small}
 use Rattle.core_terms.specs.Folding.{constant_or, truth_or, branch_or, folded_term, folded_form, sum_term}
-use Rattle.core_terms.specs.Folding.{difference_term, scaled_term, quotient_term, remainder_term, choice_term, at_least_form, zero_form, not_form}
+use Rattle.core_terms.specs.Folding.{difference_term, scaled_term, quotient_term, remainder_term, choice_term}
+use Rattle.core_terms.specs.Folding.{at_least_form, zero_form, not_form}
 use Rattle.core_terms.specs.Folding.{and_form, or_form}
 
 pub number-Const : (c : ℤ) → number_of (Const c) ≡ Some c

@@ -398,8 +398,8 @@ quantified_count bs r n = one_node_more (ranged_count (range_misfit (numbers bs)
 -- expressions
 
 -- an expression: its first byte, what it becomes at each place where it may stand, and what counts of it there where it
--- is written nowhere: each quantifier in it, and each of their instances, so that a fault is found in whichever instance
--- it comes, and its divisors
+-- is written nowhere: each quantifier in it, and each of their instances, so that a fault is found in whichever
+-- instance it comes, and its divisors
 pub record Forming : Type 0 where
   pub at : ℕ
   pub made : Scope → Formed

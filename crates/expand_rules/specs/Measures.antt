@@ -60,8 +60,8 @@ multiple_measure k factor a = record {
   flaws = both_flaws factor.flaws a.flaws;
 }
 
--- a quotient or a remainder that lies so far from 0, by a divisor that counts too and that lies so far from 0, with what
--- fails of the divisor itself
+-- a quotient or a remainder that lies so far from 0, by a divisor that counts too and that lies so far from 0, with
+-- what fails of the divisor itself
 abbrev pub divided_measure : ℕ → ℕ → Flaws → Measure → Measure → Measure
 divided_measure own k flaws a b = record {
   size = counted (1 + a.size + b.size);

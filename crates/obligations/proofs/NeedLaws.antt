@@ -441,7 +441,8 @@ module _ (size : ℤ → ℕ) where
     zero-light : (t : CTerm) → (N t).own ≤ bound → (N t).most ≤ bound → (m : Option Choice) → Lighter t m →
         U (zero_adds vs t m)
     zero-light t p q None r =
-        waits-light (Zero t) (two_facts (linear vs t) (negated vs (linear vs t))) (has_quotient t) (zero-need t p q) refl
+        waits-light (Zero t) (two_facts (linear vs t) (negated vs (linear vs t))) (has_quotient t) (zero-need t p q)
+        refl
     zero-light t p q (Some c) r =
         let r0 = r.holds in let r1 = r.fails in let r2 = r.yes_own in
         let r3 = r.yes_most in let r4 = r.no_own in let r5 = r.no_most in

@@ -12,7 +12,8 @@ use Rattle.core_terms.specs.declared.trees.CForm.TheVariants.{rolls-Bottom, roll
 use Rattle.core_terms.specs.declared.trees.CForm.TheVariants.{rolls-And, rolls-Or}
 use Rattle.core_terms.specs.declared.trees.CForm.TheOpen.{CTerm-F, CForm-F}
 use Rattle.obligations.specs.Plain.{leaf_units}
-use Rattle.obligations.specs.Shapes.{Shape, plain, both, either, apart, divided, Shapes, term_shape_step, form_shape_step}
+use Rattle.obligations.specs.Shapes.{Shape, plain, both, either, apart, divided, Shapes, term_shape_step}
+use Rattle.obligations.specs.Shapes.{form_shape_step}
 use Rattle.obligations.specs.Shapes.{term_shape, shapes}
 use Rattle.obligations.proofs.SettlingLaws.{term_fold, form_fold}
 use Rattle.obligations.proofs.FoldLaws.{product-capped}

@@ -52,13 +52,15 @@ module _ (vs : List Variable) where
   pub settled-Bottom : (b : Branch) → settled vs Bottom b ≡ joined b
       (record { facts = record { factors = []; constant = negsuc 0 } ∷ []; waiting = []; added = 0 })
   settled-Bottom b = ap (λ (o : Settled). joined b o.yes) (outcome_at CForm-F.Bottom Bottom rolls-Bottom)
-      ∙ ap (λ x. joined b (record { facts = record { factors = x; constant = negsuc 0 } ∷ []; waiting = []; added = 0 }))
+      ∙ ap
+      (λ x. joined b (record { facts = record { factors = x; constant = negsuc 0 } ∷ []; waiting = []; added = 0 }))
       (sparse-zeros 0 vs)
 
   pub refused-Top : (b : Branch) → refused vs Top b ≡ joined b
       (record { facts = record { factors = []; constant = negsuc 0 } ∷ []; waiting = []; added = 0 })
   refused-Top b = ap (λ (o : Settled). joined b o.no) (outcome_at CForm-F.Top Top rolls-Top)
-      ∙ ap (λ x. joined b (record { facts = record { factors = x; constant = negsuc 0 } ∷ []; waiting = []; added = 0 }))
+      ∙ ap
+      (λ x. joined b (record { facts = record { factors = x; constant = negsuc 0 } ∷ []; waiting = []; added = 0 }))
       (sparse-zeros 0 vs)
 
   pub settled-AtLeast : (t : CTerm) (b : Branch) → settled vs (AtLeast t) b ≡ joined b (least_adds vs t (first_ite t))

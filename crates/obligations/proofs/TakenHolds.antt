@@ -1,6 +1,7 @@
 -- Where a branch and a formula hold, the branch with the formula's quotient taken holds, for some value of the new
 -- variable.
-use Rattle.std.proofs.Common.{◌≡◌, ℕ, suc, ◌+◌, ◌≤◌, nat_le, ℤ, pos, ◌+ℤ◌, ◌*ℤ◌, Bool, true, false, ◌&&◌, Option, Some, None}
+use Rattle.std.proofs.Common.{◌≡◌, ℕ, suc, ◌+◌, ◌≤◌, nat_le, ℤ, pos, ◌+ℤ◌, ◌*ℤ◌, Bool, true, false, ◌&&◌, Option, Some}
+use Rattle.std.proofs.Common.{None}
 use Rattle.std.proofs.Common.{List, [], ◌∷◌, ◌++◌, length, arith, refl, sym, ap, ◌∙◌, subst}
 use Rattle.std.specs.List.{list_all}
 use Rattle.std.specs.Int.{int_div_euclid}
@@ -95,7 +96,8 @@ module _ (vs : List Variable) (values : List ℤ) (long : length values ≡ leng
     same : term_at us ws (Param (next_param vs)) ≡ int_div_euclid (term_at us ws r.taken.of) r.taken.divisor →
         form_at us ws r.form ≡ form_at us ws f
 
-  module _ (node : CTerm → CForm) (op : ℤ → Bool) (is : (t : CTerm) → form_at us ws (node t) ≡ op (term_at us ws t)) where
+  module _ (node : CTerm → CForm) (op : ℤ → Bool)
+      (is : (t : CTerm) → form_at us ws (node t) ≡ op (term_at us ws t)) where
     node-replaces : (f : CForm) (t : CTerm) → form_at us ws f ≡ op (term_at us ws t) → first_ite t ≡ None →
         (o : Option Taken) → first_taken (next_param vs) t ≡ o → (r : Replaced) → replaced node o ≡ Some r →
         Replaces f r

@@ -1,5 +1,5 @@
 //! The variables of a branch: those of an obligation, and a parameter for each quotient that was taken.
-ghost use Rattle.std.specs.Prelude.{◌≡◌, ◌<◌, ◌≤◌, ◌^◌, IfOk, OnOk};
+ghost use Rattle.std.specs.Prelude.{◌≡◌, ◌<◌, ◌≤◌, ◌^◌, IfOk};
 ghost use Rattle.std.specs.Bool.{OnTrue};
 ghost use Rattle.obligations.specs.Scopes as scopes;
 ghost use Rattle.obligations.specs.Obligations.{AreOwn, AreVariables, IsObligation};

@@ -1,5 +1,5 @@
 -- Programs and proofs of parts.
-use Rattle.std.proofs.Common.{◌≡◌, ℕ, ◌+◌, ◌≤◌, ◌^◌, List, [], ◌∷◌, ◌++◌, Bool, true, false, cond, max, Option, Some}
+use Rattle.std.proofs.Common.{◌≡◌, ℕ, ◌≤◌, ◌^◌, List, [], ◌∷◌, ◌++◌, Bool, true, false, cond, max, Option, Some}
 use Rattle.std.proofs.Common.{None, refl, sym, ap, ◌∙◌, subst, arith, All, append_assoc, Result, Ok, Err}
 use Rattle.std.specs.Prelude.{nat_eq}
 use Rattle.std.proofs.lemmas.List.{append-nil}
@@ -23,7 +23,7 @@ use Rattle.expand_rules.specs.Forming.{Scope}
 use Rattle.expand_steps.specs.Steps.{Lists, core_proof, proof_fault}
 use Rattle.expand_documents.specs.Cores.{core_named, core_program, with_core, with_cores, core_proofs}
 use Rattle.expand_documents.specs.Faults.{body_fault, bodies_fault, program_fault, with_part}
-use Rattle.quantified_assign.specs.Bodies.{HasLightForm, StartsAreLight, HasLight, MadeProgram, IsUnited, MadeUnion}
+use Rattle.quantified_assign.specs.Bodies.{HasLightForm, StartsAreLight, HasLight, MadeProgram, MadeUnion}
 use Rattle.quantified_assign.specs.Bodies.{AddedProgram, AddsProgram, Bodied, AddsBodies}
 
 -- weights

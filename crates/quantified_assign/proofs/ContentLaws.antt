@@ -1,8 +1,7 @@
 -- What parts hold.
-use Rattle.std.proofs.Common.{◌≡◌, ℕ, List, [], ◌∷◌, ◌++◌, take, Option, Some, None, refl, sym, ap, ◌∙◌, subst}
+use Rattle.std.proofs.Common.{◌≡◌, List, [], take, Option, None, sym, ap, ◌∙◌, subst}
 use Rattle.std.proofs.Common.{Result, Ok, Err}
 use Rattle.std.proofs.lemmas.List.Elements.{All-nil}
-use Rattle.std.specs.Map.{lookup}
 use Rattle.core_terms.specs.declared.programs.CSlot.{CSlot}
 use Rattle.core_terms.specs.declared.programs.CProgram.{CProgram}
 use Rattle.core_terms.specs.declared.documents.CProof.{CProof}
@@ -13,12 +12,11 @@ use Rattle.names_rules.specs.Answers.{Stops}
 use Rattle.names_rules.proofs.Steps.{stops_first, stops_later}
 use Rattle.expand_declarations.specs.Texts.{Texts}
 use Rattle.expand_rules.specs.Forming.{Scope}
-use Rattle.expand_rules.specs.declared.cores.Formed.{Formed}
 use Rattle.expand_documents.specs.AlwaysNames.{AreSound}
-use Rattle.expand_documents.specs.Cores.{with_parts, with_cores, core_proofs}
+use Rattle.expand_documents.specs.Cores.{with_parts}
 use Rattle.expand_documents.specs.Faults.{bodies_fault, headings_fault, headed}
 use Rattle.quantified_assign.specs.declared.headings.Stop.{Stop}
-use Rattle.quantified_assign.specs.Bodies.{HasLightForm, StartsAreLight, Bodied, AddsBodies}
+use Rattle.quantified_assign.specs.Bodies.{HasLightForm, StartsAreLight, AddsBodies}
 use Rattle.quantified_assign.specs.Headings.{IsStop}
 use Rattle.quantified_assign.specs.Expanding.{scope_fault, MakesBodies}
 use Rattle.quantified_assign.proofs.HeadingLaws.{fine_headed, headed_fine}

@@ -1,9 +1,8 @@
 -- Headings one after the other.
 use Rattle.std.proofs.Common.{◌≡◌, ℕ, suc, ◌+◌, ◌<◌, List, [], ◌∷◌, ◌++◌, length, take, Option, Some, None, cond, refl}
-use Rattle.std.proofs.Common.{sym, ap, ◌∙◌, subst, arith, Result, Ok, Err}
+use Rattle.std.proofs.Common.{sym, ap, ◌∙◌, arith, Result, Ok, Err}
 use Rattle.std.specs.Prelude.{is_some}
 use Rattle.std.specs.List.{flat_map}
-use Rattle.std.specs.Map.{lookup}
 use Rattle.case_tables.specs.declared.code_table.Code.{Code}
 use Rattle.unity_syntax.specs.declared.declaration.Def.{Def}
 use Rattle.unity_syntax.specs.declared.program.Program.{Program}
@@ -12,15 +11,14 @@ use Rattle.meaning_documents.specs.Setting.{definitions}
 use Rattle.names_rules.specs.declared.named.NameFault.{NameFault}
 use Rattle.names_rules.specs.Reading.{Fault, earlier}
 use Rattle.names_rules.specs.Answers.{Stops}
-use Rattle.names_rules.proofs.Steps.{stops_first, stops_later}
+use Rattle.names_rules.proofs.Steps.{stops_later}
 use Rattle.names_rules.proofs.Faults.{earlier_first, earlier_second}
 use Rattle.expand_rules.specs.Forming.{Scope}
 use Rattle.expand_documents.specs.AlwaysNames.{Always, AreSound, Defines, with_definition, with_definitions}
 use Rattle.expand_documents.specs.AlwaysNames.{definitions_fault}
 use Rattle.expand_documents.specs.Cores.{part_definitions, with_parts}
 use Rattle.expand_documents.specs.Faults.{count_fault, heading_fault, headings_fault, headed}
-use Rattle.quantified_assign.specs.declared.headings.Stop.{Stop}
-use Rattle.quantified_assign.specs.Headings.{program_heading, AddsProgram, AddedHeading, AddsHeading, AddedHeadings}
+use Rattle.quantified_assign.specs.Headings.{AddsProgram, AddedHeading, AddsHeading, AddedHeadings}
 use Rattle.quantified_assign.specs.Headings.{IsStop}
 
 -- the same place, with other always names

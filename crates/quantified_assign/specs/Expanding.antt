@@ -1,5 +1,5 @@
 -- What the calls answer that expand parts and whole documents.
-use Rattle.std.specs.Prelude.{◌≡◌, List, [], ◌∷◌, Option, Some, None, option_map, Result, Ok, Err}
+use Rattle.std.specs.Prelude.{◌≡◌, List, [], Option, None, option_map, Result, Ok, Err}
 use Rattle.unity_syntax.specs.declared.name.Name.{Name}
 use Rattle.unity_syntax.specs.declared.program.Program.{Program}
 use Rattle.unity_syntax.specs.declared.document.Part.{Part}

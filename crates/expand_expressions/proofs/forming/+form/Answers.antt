@@ -218,8 +218,8 @@ added-returns-in_err-next-clause-formed t c =
     let parts = map (λ (q : Symbol × Expr). (q.0, formed q.1 s)) c.args.rest.now in
     let p = err_from_is_err_and c.from_residual-in_err-next.result c.from_residual-in_err-next.ensures.1 in
     rw (p.1, p.2) (passes c.in_err-next.field-0.0 (f c.part-item.result.1) (fold plus begin parts)
-    (marked_next plus plus_first plus_second (λ (q : Symbol × Expr). (q.0, formed q.1 s)) c.loop-part.whole c.as_slice-part-items.result.now
-    c.args.rest.now c.loop-part.part-index begin
+    (marked_next plus plus_first plus_second (λ (q : Symbol × Expr). (q.0, formed q.1 s)) c.loop-part.whole
+    c.as_slice-part-items.result.now c.args.rest.now c.loop-part.part-index begin
     c.in_ok-whole.whole c.loop-part-test.true c.in_ok-whole.ensures.formed c.as_slice-part-items.ensures
     c.loop-part.invariant.0 c.part-item.result c.part-item.is) c.in_err-next.ensures.formed)
 
@@ -232,8 +232,8 @@ added-returns-in_err-whole-2-clause-formed t c =
     let p = err_from_is_err_and c.from_residual-in_err-whole-2.result c.from_residual-in_err-whole-2.ensures.1 in
     rw (p.1, p.2) (passes c.in_err-whole-2.field-0.0 (plus c.loop-part.whole
     (c.part-item.result.0, c.in_ok-next.next)) (fold plus begin parts)
-    (marked_joined plus plus_first plus_second (λ (q : Symbol × Expr). (q.0, formed q.1 s)) c.loop-part.whole c.as_slice-part-items.result.now
-    c.args.rest.now c.loop-part.part-index begin
+    (marked_joined plus plus_first plus_second (λ (q : Symbol × Expr). (q.0, formed q.1 s)) c.loop-part.whole
+    c.as_slice-part-items.result.now c.args.rest.now c.loop-part.part-index begin
     c.in_ok-whole.whole c.loop-part-test.true c.in_ok-whole.ensures.formed c.as_slice-part-items.ensures
     c.loop-part.invariant.0 c.part-item.result c.in_ok-next.next c.part-item.is c.in_ok-next.ensures.formed)
     c.in_err-whole-2.ensures.formed)
@@ -245,8 +245,9 @@ multiplied-returns-in_err-next-clause-formed t c =
     let parts = map (factor_in s) c.args.rest.now in
     let p = err_from_is_err_and c.from_residual.result c.from_residual.ensures.1 in
     rw (p.1, p.2) (passes c.in_err-next.field-0.0 (f c.part-item.result.1) (fold factored c.args.first parts)
-    (marked_next factored factored_first factored_second (factor_in s) c.loop-part.whole c.as_slice-part-items.result.now
-    c.args.rest.now c.loop-part.part-index c.args.first c.args.first c.loop-part-test.true refl
+    (marked_next factored factored_first factored_second (factor_in s) c.loop-part.whole
+    c.as_slice-part-items.result.now c.args.rest.now c.loop-part.part-index c.args.first c.args.first
+    c.loop-part-test.true refl
     c.as_slice-part-items.ensures c.loop-part.invariant.0 c.part-item.result c.part-item.is)
     c.in_err-next.ensures.formed)
 
@@ -256,9 +257,11 @@ multiplied-returns-in_err-whole-clause-formed t c =
     let parts = map (factor_in s) c.args.rest.now in
     let mark = (factor_in s c.part-item.result).0 in
     let p = err_from_is_err_and c.from_residual-in_err-whole.result c.from_residual-in_err-whole.ensures.1 in
-    rw (p.1, p.2) (passes c.in_err-whole.field-0.0 (factored c.loop-part.whole (mark, c.in_ok-next.next)) (fold factored c.args.first parts)
-    (marked_joined factored factored_first factored_second (factor_in s) c.loop-part.whole c.as_slice-part-items.result.now
-    c.args.rest.now c.loop-part.part-index c.args.first c.args.first c.loop-part-test.true refl
+    rw (p.1, p.2) (passes c.in_err-whole.field-0.0 (factored c.loop-part.whole (mark, c.in_ok-next.next))
+    (fold factored c.args.first parts)
+    (marked_joined factored factored_first factored_second (factor_in s) c.loop-part.whole
+    c.as_slice-part-items.result.now c.args.rest.now c.loop-part.part-index c.args.first c.args.first
+    c.loop-part-test.true refl
     c.as_slice-part-items.ensures c.loop-part.invariant.0 c.part-item.result c.in_ok-next.next c.part-item.is
     c.in_ok-next.ensures.formed) (subst (λ n. GivesCore (Err c.in_err-whole.field-0.0) (factored c.loop-part.whole
     ((c.part-item.result.0, n), c.in_ok-next.next))) c.first_byte.ensures c.in_err-whole.ensures.formed))

@@ -1,4 +1,4 @@
-use Rattle.std.proofs.Common.{[], subst, ap, None, Option}
+use Rattle.std.proofs.Common.{[], subst, ap, Option}
 use Rattle.names_rules.specs.Scope.{entries, seen_entries}
 use Rattle.expand_rules.specs.Forming.{Scope}
 use Rattle.expand_documents.specs.AlwaysNames.{Always, definition_scope}
