@@ -3,3 +3,4 @@ pub mod WeightLaws
 pub mod StateLaws
 pub mod PreparingLaws
 pub mod StartStateLaws
+pub mod TryingLaws

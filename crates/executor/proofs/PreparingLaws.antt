@@ -349,7 +349,7 @@ addable_now ranges next marked n r y z e narrow agree =
     ∙ ap (λ x. not (get_or marked n false) || int_eq x (number_at next n)) (sym inside.1) ∙ agree)
 
 -- one of the conditions of writes outside holds
-outside_fails : (ranges : Ranges) (state : State) (forms : List CForm) (ws : List Write) →
+pub outside_fails : (ranges : Ranges) (state : State) (forms : List CForm) (ws : List Write) →
     list_any (form_value state []) forms ≡ true → list_all (is_inside ranges) (outside_writes state forms ++ ws) ≡
     false
 outside_fails ranges state [] ws h = cc
@@ -364,7 +364,7 @@ outside_fails ranges state (f ∷ forms) ws h =
     go false t rest = rest t
 
 -- none of them does
-none_outside : (state : State) (forms : List CForm) → list_any (form_value state []) forms ≡ false →
+pub none_outside : (state : State) (forms : List CForm) → list_any (form_value state []) forms ≡ false →
     outside_writes state forms ≡ []
 none_outside state [] h = refl
 none_outside state (f ∷ forms) h = go (form_value state [] f) h (λ t. none_outside state forms t)

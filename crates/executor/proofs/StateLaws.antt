@@ -30,14 +30,14 @@ state_length (s ∷ slots) (z ∷ zs) h =
     (is_state (slot_ranges slots) zs) h) in
     omega (arith, rest)
 
-within : (lo hi z : ℤ) → IsTrue (in_range (Some (lo, hi)) z) → unsigned_abs z ≤ max (unsigned_abs lo)
+pub within : (lo hi z : ℤ) → IsTrue (in_range (Some (lo, hi)) z) → unsigned_abs z ≤ max (unsigned_abs lo)
     (unsigned_abs hi)
 within lo hi z inside =
     let low = le-true lo z (and_left (int_le lo z) (int_le z hi) inside) in
     let high = le-true z hi (and_right (int_le lo z) (int_le z hi) inside) in
     omega (arith, ints)
 
-number_light : (slots : List CSlot) (state : State) → IsTrue (is_state (slot_ranges slots) state) → (n : ℕ) →
+pub number_light : (slots : List CSlot) (state : State) → IsTrue (is_state (slot_ranges slots) state) → (n : ℕ) →
     number_weight state n ≤ slot_weight slots n
 number_light [] [] h n = le_refl 1
 number_light [] (z ∷ zs) h n = cc

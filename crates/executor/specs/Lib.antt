@@ -3,3 +3,4 @@ pub mod Placing
 pub mod Fitting
 pub mod Preparing
 pub mod Running
+pub mod Trying

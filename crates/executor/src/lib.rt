@@ -4,6 +4,8 @@
 mod preparing;
 mod runner;
 mod start;
+mod trying;
 
 pub use runner::{Runner, StartError, Stepped};
 pub use start::start_of;
+pub use trying::{can_step, would_step};

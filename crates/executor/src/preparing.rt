@@ -47,7 +47,7 @@ pub fn make_step(
 }
 
 // Whether a statement writes outside an array.
-fn writes_outside(slots: &[CSlot], state: &[i64], outside: &[CForm]) -> bool
+pub(crate) fn writes_outside(slots: &[CSlot], state: &[i64], outside: &[CForm]) -> bool
     requires state { IsTrue (is_state (slot_ranges slots.now) state.now) }
     requires fits { FormsRun slots.now outside.now }
     ensures { result ≡ list_any (form_value state.now []) outside.now }
@@ -154,7 +154,7 @@ fn agrees(next: &[i64], marked: &[bool], place: usize, number: i64) -> bool
 }
 
 // The number, where it lies in the range.
-fn narrowed(range: Range, number: i128) -> Option<i64>
+pub(crate) fn narrowed(range: Range, number: i128) -> Option<i64>
     ensures { result ≡ cond (in_range (Some (range.lo, range.hi)) number) (Some number) None }
 {
     let narrow = i64::try_from(number).ok()?;

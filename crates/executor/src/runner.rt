@@ -126,7 +126,7 @@ impl<'a> Runner<'a> {
 }
 
 // The statement of this number.
-fn chosen(p: &CProgram, choice: u32) -> &CStmt
+pub(crate) fn chosen(p: &CProgram, choice: u32) -> &CStmt
     requires { choice < length p.now.statements }
     ensures { slice_get p.now.statements choice ≡ Some result.now }
 {

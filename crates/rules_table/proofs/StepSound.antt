@@ -42,7 +42,8 @@ use Rattle.rules_table.specs.Forms.{imply}
 use Rattle.rules_table.specs.Table.{Site, needs, go_on, under_with, goals_of, record_of, concluded, is_defined}
 use Rattle.rules_table.specs.Table.{is_invariant, is_unless, is_ensures, defined_forms, defined_of, invariant_forms}
 use Rattle.rules_table.specs.Table.{invariant_of, unless_forms, unless_of, is_helper, helper_forms, ensures_of}
-use Rattle.rules_table.specs.Table.{weaken_of, paired, pair_kinds, pair_of, shown_forms, first_helper, ending, is_part_pair}
+use Rattle.rules_table.specs.Table.{weaken_of, paired, pair_kinds, pair_of, shown_forms, first_helper, ending}
+use Rattle.rules_table.specs.Table.{is_part_pair}
 use Rattle.rules_table.specs.Table.{union_defined_of, union_invariant_of, union_unless_of, union_ensures_of}
 use Rattle.rules_table.specs.Table.{instance_of}
 use Rattle.rules_table.specs.Terms.{known, found, referred, term_of, all_ranges, leads_record, derive_of}
@@ -421,7 +422,8 @@ module _ (seen : Around) (c : CProgram) (named : find (λ b. nat_eq b.name c.nam
 
     proof_case : (t : PTerm) → RuleWellScoped slots (step.params ++ bound_ranges t) (is_below (length step.params))
         (length step.params) (CRule.Proof t) → IsTrue (suits_term (out-PTerm t) step.kind) → (y : Conclusion) →
-        (k : Kind) → step.kind ≡ k → proof_of site step book k t ≡ Ok y → y.made.p ≡ step.p → y.made.q ≡ step.q → AllValid slots y.goals →
+        (k : Kind) → step.kind ≡ k → proof_of site step book k t ≡ Ok y → y.made.p ≡ step.p → y.made.q ≡ step.q →
+        AllValid slots y.goals →
         Settled site step.kind y.made
     proof_case t sees suited y Kind.Leadsto same e p_is q_is valid =
         subst (λ k. Settled site k y.made) (sym same) (derive_case t sees y e p_is q_is valid)
@@ -640,7 +642,8 @@ module _ (seen : Around) (c : CProgram) (named : find (λ b. nat_eq b.name c.nam
               s.params
               p_is q_is fits.kind;
           names = subst (λ rs. NamesBelow (length rs) x.made.p) (sym s.params)
-              (subst (λ f. NamesBelow (length step.params) f) (sym p_is) (fitting seen.slots step.params step.p fits.p));
+              (subst (λ f. NamesBelow (length step.params) f) (sym p_is)
+              (fitting seen.slots step.params step.p fits.p));
         },
         s.program,
       )

@@ -21,7 +21,8 @@ use Rattle.core_terms.specs.Steps.{slot_ranges}
 use Rattle.core_terms.specs.Conditions.{EachPair, IsSlot, IsStep, IsProof, IsProgram, UnionFits, IsCoreDocument}
 use Rattle.core_terms.proofs.BoolLaws.{le_passes, or_first}
 use Rattle.fair_rounds.specs.declared.records.Record.{Record}
-use Rattle.fair_rounds.specs.Records.{Holds}
+use Rattle.meaning_documents.specs.Properties.{IsAlwaysDefined}
+use Rattle.fair_rounds.specs.Records.{core_system, Holds, IsKept}
 use Rattle.fair_rounds.proofs.RecordTheorems.{defined_kept, kept_holds}
 use Rattle.rules_table.specs.Conclusion.{Conclusion}
 use Rattle.rules_table.specs.Validity.{Goal, AllValid}
@@ -278,10 +279,11 @@ module _ (d : CDocument) (is : IsCoreDocument d) (starts : CProgram → Bool) wh
       proofs_good rest fits.1 one.0 new one.2 valid
       (proof_good proof fits.0 (program_of d.programs proof.program) refl plan one.0 one.1 shown good)
 
-  pub records_hold : (plan : Plan) → walk_of d starts ≡ Ok plan → AllValid d.slots plan.goals → (place : ℕ)
+  -- each record of the plan is kept, and no step of its program is undefined
+  pub records_kept : (plan : Plan) → walk_of d starts ≡ Ok plan → AllValid d.slots plan.goals → (place : ℕ)
       (a : Record) (c : CProgram) → slice_get plan.records place ≡ Some a → program_of d.programs a.program ≡ Some c →
-      Holds d.slots c a
-  records_hold plan e valid place a c there named =
+      IsKept d.slots c a × IsAlwaysDefined (core_system d.slots c)
+  records_kept plan e valid place a c there named =
       let good = proofs_good d.proofs (from_all (IsProof d.slots d.programs) d.proofs is.proofs)
       (record { records = []; goals = []; owner = [] }) plan e valid (tt, tt) in
       let ended = each_at (Ended plan.records) plan.records good.1 place a there in
@@ -293,7 +295,13 @@ module _ (d : CDocument) (is : IsCoreDocument d) (starts : CProgram → Bool) wh
       let kept = known.kept c (ap (λ n. program_of d.programs n) same ∙ named) in
       let always = defined_kept d.slots c b [] kind
       (no_params b.params (defined_params b.kind b.params b.p b.q kind known.fits)) kept in
-      kept_holds d.slots c a always ((each_at Good plan.records good.0 place a there).kept c named)
+      ((each_at Good plan.records good.0 place a there).kept c named, always)
+
+  pub records_hold : (plan : Plan) → walk_of d starts ≡ Ok plan → AllValid d.slots plan.goals → (place : ℕ)
+      (a : Record) (c : CProgram) → slice_get plan.records place ≡ Some a → program_of d.programs a.program ≡ Some c →
+      Holds d.slots c a
+  records_hold plan e valid place a c there named =
+      let all = records_kept plan e valid place a c there named in kept_holds d.slots c a all.1 all.0
 
 pub walk_sound : WalkSound
 walk_sound d is starts plan e valid place a c there named =

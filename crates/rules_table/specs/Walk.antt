@@ -21,7 +21,8 @@ use Rattle.rules_table.specs.Validity.{Goal}
 use Rattle.rules_table.specs.Conclusion.{Conclusion}
 use Rattle.rules_table.specs.Table.{Site, needs, go_on, is_defined, is_invariant, is_unless, is_ensures, instance_of}
 use Rattle.rules_table.specs.Table.{record_of, concluded, defined_of, invariant_of, unless_of, ensures_of, weaken_of}
-use Rattle.rules_table.specs.Table.{pair_kinds, pair_of, union_defined_of, union_invariant_of, union_unless_of, union_ensures_of}
+use Rattle.rules_table.specs.Table.{pair_kinds, pair_of, union_defined_of, union_invariant_of, union_unless_of}
+use Rattle.rules_table.specs.Table.{union_ensures_of}
 use Rattle.rules_table.specs.Terms.{found, referred, derive_of}
 
 -- what a step sees of its document; the test says whether the start state of a program meets its initially section

@@ -84,7 +84,7 @@ schedule_same d s core there e = some_same (core_schedule (document_words d) s) 
     (sym (ap (option_map (core_schedule (document_words d))) there) ∙ e)
 
 -- the instances at these places are those that the document's schedule names
-named_same : (d : Document) (p : CProgram) (choices : List ℕ) → IsWellNamed d → (h : HasSchedule d p) →
+pub named_same : (d : Document) (p : CProgram) (choices : List ℕ) → IsWellNamed d → (h : HasSchedule d p) →
     scheduled_program (core_document d) ≡ Some p → IsSchedule (core_document d) choices →
     map Some choices ≡ map (place_of h.program) (some_of h.schedule.choices)
 named_same d p choices named h found i =
@@ -115,7 +115,7 @@ unknown_by d p at named h found i =
     }
 
 -- a document whose schedule names an instance that isn't there
-unknown_source : (d : Document) (at : ℕ) → IsWellNamed d → expansion_fault d ≡ None → IsCoreDocument (core_document d) →
+pub unknown_source : (d : Document) (at : ℕ) → IsWellNamed d → expansion_fault d ≡ None → IsCoreDocument (core_document d) →
     IsCoreUnknown (core_document d) at → IsUnknown d at
 unknown_source d at named fault whole i = by (scheduled_program (core_document d)) refl
   where
