@@ -1,0 +1,17 @@
+//! The limits of variables and of sums on a path of a search by conflicts, each with its reason: what follows from
+//! them, what contradicts them, and the trees that close a branch by a conflict's reasons.
+#![tactic(auto)]
+
+mod corners;
+mod limits;
+mod partners;
+mod propagation;
+mod queue;
+mod reasons;
+mod trees;
+
+pub use limits::{Conflict, Event, Limit, Limits, LimitsMark, Reach, Reason, Weighted, no_limits};
+pub use partners::has_partner;
+pub use propagation::propagate;
+pub use reasons::{Pair, Round, Source, chain_round};
+pub use trees::{LeafRound, Step, Tree, Trees, no_trees};

@@ -1,0 +1,26 @@
+use Rattle.std.proofs.Common.{◌+◌, ◌*◌}
+use Rattle.conflict_search.proofs.looks.+looking.Given as goal
+
+abbrev pub decreases-look_into : goal.decreases-look_into
+decreases-look_into l = 12 * l.depth
+
+abbrev pub decreases-look_anew : goal.decreases-look_anew
+decreases-look_anew l = 12 * l.depth + 11
+
+abbrev pub decreases-look_at_choice : goal.decreases-look_at_choice
+decreases-look_at_choice l = 12 * l.depth + 10
+
+abbrev pub decreases-look_at_either : goal.decreases-look_at_either
+decreases-look_at_either l = 12 * l.depth + 9
+
+abbrev pub decreases-look_at_both : goal.decreases-look_at_both
+decreases-look_at_both l = 12 * l.depth + 9
+
+abbrev pub decreases-look_at_condition : goal.decreases-look_at_condition
+decreases-look_at_condition l = 12 * l.depth + 9
+
+abbrev pub decreases-term_ends : goal.decreases-term_ends
+decreases-term_ends l = 12 * l.depth + 6
+
+abbrev pub decreases-part_ends : goal.decreases-part_ends
+decreases-part_ends l = 12 * l.depth + 5

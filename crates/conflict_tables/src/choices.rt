@@ -1,0 +1,241 @@
+//! What formulas that wait become: the two sides of one, and a quotient taken.
+use crate::compiling::{relate, sum_of};
+use crate::lists::{append, minus, times};
+use crate::stop::Stop;
+use crate::sums::{Multiple, Sum, no_sum};
+use crate::table::{Form, Opened, Part, Relation, Table};
+
+/// How deep quotients may stand within quotients.
+const DEPTH: u32 = 64;
+
+/// What a first quotient is of, and its divisor.
+#[derive(Clone, Copy)]
+struct Taken {
+    of: usize,
+    divisor: i64,
+}
+
+/// Adds a sum that is kept, so many times.
+fn add_kept(table: &Table, number: usize, by: i64, sum: &mut Sum) -> Result<(), Stop> {
+    let term = table.term(number)?;
+    sum.add_number(times(term.constant, by)?)?;
+    sum.add_factors(table.term_factors(term), by)?;
+    sum.add_parts(table.term_parts(term), by)
+}
+
+/// The part at a place of a sum that is kept, with its multiplier.
+fn multiple_at(table: &Table, number: usize, place: usize) -> Result<Multiple, Stop> {
+    let term = table.term(number)?;
+    match table.term_parts(term).get(place) {
+        Some(multiple) => Ok(*multiple),
+        None => Err(Stop::Odd),
+    }
+}
+
+/// A sum with the linear part of one that is kept.
+fn linear_part(table: &Table, number: usize) -> Result<Sum, Stop> {
+    let term = table.term(number)?;
+    let mut sum = no_sum(table.alloc);
+    sum.constant = term.constant;
+    append(&mut sum.factors, table.term_factors(term))?;
+    Ok(sum)
+}
+
+/// How many parts a sum that is kept has.
+fn count_parts(table: &Table, number: usize) -> Result<usize, Stop> {
+    let term = table.term(number)?;
+    Ok(table.term_parts(term).len())
+}
+
+/// A sum whose first `Ite` is replaced by its first part or its second, and the condition of that.
+#[cycle(choosing)]
+fn chosen(
+    depth: u32,
+    table: &mut Table,
+    number: usize,
+    first: bool,
+) -> Result<(Sum, Option<usize>), Stop> {
+    let mut sum = linear_part(table, number)?;
+    let mut condition = None;
+    for place in 0..count_parts(table, number)? {
+        let multiple = multiple_at(table, number, place)?;
+        if condition.is_some() {
+            sum.add_part(multiple.part, multiple.times)?;
+        } else {
+            condition = add_chosen(depth, table, multiple, first, &mut sum)?;
+        }
+    }
+    Ok((sum, condition))
+}
+
+/// Adds a multiple of a part, whose first `Ite` is replaced, where it has one.
+#[cycle(choosing)]
+fn add_chosen(
+    depth: u32,
+    table: &mut Table,
+    multiple: Multiple,
+    side: bool,
+    sum: &mut Sum,
+) -> Result<Option<usize>, Stop> {
+    match table.part(multiple.part)? {
+        Part::Choice {
+            yes,
+            no,
+            first,
+            second,
+        } => {
+            let kept = if side { first } else { second };
+            add_kept(table, kept, multiple.times, sum)?;
+            Ok(Some(if side { yes } else { no }))
+        }
+        Part::Quotient { of, divisor, rest } => {
+            if depth == 0 {
+                return Err(Stop::Odd);
+            }
+            let (inner, condition) = chosen(depth - 1, table, of, side)?;
+            let part = if condition.is_some() {
+                let of = table.number_term(&inner)?;
+                table.number_part(Part::Quotient { of, divisor, rest })?
+            } else {
+                multiple.part
+            };
+            sum.add_part(part, multiple.times)?;
+            Ok(condition)
+        }
+    }
+}
+
+/// One side of a relation of a sum with an `Ite`: the condition, and the relation with that part.
+fn choice_side(
+    table: &mut Table,
+    relation: Relation,
+    term: usize,
+    first: bool,
+) -> Result<usize, Stop> {
+    let (mut sum, condition) = chosen(DEPTH, table, term, first)?;
+    let when = condition.ok_or(Stop::Odd)?;
+    let related = relate(table, relation, &mut sum)?;
+    table.number_form(Form::Both(when, related))
+}
+
+/// The numbers of the two sides of a formula that waits and has two. `Odd` where it is none, a number has more than
+/// 64 bits, or quotients stand too deep.
+pub fn sides_of(table: &mut Table, form: usize) -> Result<(usize, usize), Stop> {
+    match table.form(form)? {
+        Form::Either(a, b) => Ok((a, b)),
+        Form::Choice(relation, term) => match table.known_sides(form) {
+            Some(sides) => Ok(sides),
+            None => {
+                let first = choice_side(table, relation, term, true)?;
+                let second = choice_side(table, relation, term, false)?;
+                table.keep_sides(form, (first, second));
+                Ok((first, second))
+            }
+        },
+        _ => Err(Stop::Odd),
+    }
+}
+
+/// A sum without an `Ite` whose first quotient, operands before their operator, is replaced by a variable.
+#[cycle(taking)]
+fn replaced(
+    depth: u32,
+    table: &mut Table,
+    number: usize,
+    variable: usize,
+) -> Result<(Sum, Option<Taken>), Stop> {
+    let mut sum = linear_part(table, number)?;
+    let mut taken = None;
+    for place in 0..count_parts(table, number)? {
+        let multiple = multiple_at(table, number, place)?;
+        if taken.is_some() {
+            sum.add_part(multiple.part, multiple.times)?;
+        } else {
+            taken = add_replaced(depth, table, multiple, variable, &mut sum)?;
+        }
+    }
+    Ok((sum, taken))
+}
+
+/// Adds a multiple of a quotient, in which the first is replaced by a variable.
+#[cycle(taking)]
+fn add_replaced(
+    depth: u32,
+    table: &mut Table,
+    multiple: Multiple,
+    variable: usize,
+    sum: &mut Sum,
+) -> Result<Option<Taken>, Stop> {
+    let Part::Quotient { of, divisor, rest } = table.part(multiple.part)? else {
+        return Err(Stop::Odd);
+    };
+    if !table.term(of)?.has_quotient {
+        add_variable(table, of, divisor, rest, multiple.times, variable, sum)?;
+        return Ok(Some(Taken { of, divisor }));
+    }
+    if depth == 0 {
+        return Err(Stop::Odd);
+    }
+    let (inner, taken) = replaced(depth - 1, table, of, variable)?;
+    let of = table.number_term(&inner)?;
+    let part = table.number_part(Part::Quotient { of, divisor, rest })?;
+    sum.add_part(part, multiple.times)?;
+    Ok(taken)
+}
+
+/// Adds a multiple of the variable of a quotient, or of what is divided less the divisor times the variable.
+fn add_variable(
+    table: &Table,
+    of: usize,
+    divisor: i64,
+    rest: bool,
+    by: i64,
+    variable: usize,
+    sum: &mut Sum,
+) -> Result<(), Stop> {
+    if rest {
+        add_kept(table, of, by, sum)?;
+        sum.add_factor(variable, minus(times(divisor, by)?)?)
+    } else {
+        sum.add_factor(variable, by)
+    }
+}
+
+/// The two facts that fix the variable of a quotient.
+fn fixing_facts(table: &mut Table, taken: Taken, variable: usize) -> Result<(usize, usize), Stop> {
+    let mut sum = sum_of(table, taken.of)?;
+    sum.add_factor(variable, minus(taken.divisor)?)?;
+    let low = table.number_fact(&sum)?;
+    sum.negate()?;
+    sum.add_number(taken.divisor)?;
+    sum.add_number(-1)?;
+    let high = table.number_fact(&sum)?;
+    Ok((low, high))
+}
+
+/// What a formula with a quotient and no `Ite` becomes with this variable for its first quotient. `Odd` where it is
+/// none, a number has more than 64 bits, or quotients stand too deep.
+pub fn opened_by(table: &mut Table, form: usize, variable: usize) -> Result<Opened, Stop> {
+    if let Some(opened) = table.known_opened(form) {
+        if opened.variable == variable {
+            return Ok(opened);
+        }
+    }
+    let Form::Quotient(relation, term) = table.form(form)? else {
+        return Err(Stop::Odd);
+    };
+    let (mut sum, taken) = replaced(DEPTH, table, term, variable)?;
+    let taken = taken.ok_or(Stop::Odd)?;
+    let (low, high) = fixing_facts(table, taken, variable)?;
+    let rest = relate(table, relation, &mut sum)?;
+    let opened = Opened {
+        of: taken.of,
+        divisor: taken.divisor,
+        variable,
+        low,
+        high,
+        rest,
+    };
+    table.keep_opened(form, opened);
+    Ok(opened)
+}
