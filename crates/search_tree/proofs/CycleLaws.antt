@@ -164,7 +164,7 @@ module _ (vs us : List Variable) (k : ℕ) (rs : List Range) (f : CForm) (b : Br
   quotients-same =
       let p = quotients-append (b.waiting ++ []) [] in let q = quotients-append b.waiting [] in omega (arith, p, q)
 
-  less : suc (quotients_of next.waiting) ≤ quotients_of from.waiting
+  pub less : suc (quotients_of next.waiting) ≤ quotients_of from.waiting
   less =
       let m = shape.quotients in let s = quotients-same in
       let l = (without-less (next_param (scope_of vs b)) f r is).quotients in

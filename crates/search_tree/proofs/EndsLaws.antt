@@ -1,16 +1,17 @@
--- Every branch that is ready, and asks for no quotient, is closed within its leaves' units, or there are values that
--- make all of it hold.
+-- Every branch that is ready is closed within its leaves' units, or there are values that make all of it hold.
 use Rattle.std.proofs.Common.{◌≡◌, ℕ, zero, suc, ◌+◌, ◌-◌, ◌*◌, ◌≤◌, ◌<◌, nat_le, ℤ, pos, ◌+ℤ◌, Bool, true, false, ◌||◌}
-use Rattle.std.proofs.Common.{Option, Some, None, List, [], ◌∷◌, ◌++◌, map, length, slice_get, arith, refl, sym, ap}
+use Rattle.std.proofs.Common.{Option, Some, None, List, [], ◌∷◌, ◌++◌, length, slice_get, take, arith, refl, sym}
+use Rattle.std.proofs.Common.{ap}
 use Rattle.std.proofs.Common.{subst, ◌∙◌, mul-le-mul, le_refl}
 use Rattle.std.proofs.Math.Nat.{mul-le-mul_right}
 use Rattle.std.specs.List.{list_all, list_any}
 use Rattle.std.proofs.lemmas.Bool.{and_parts}
-use Rattle.core_terms.specs.declared.trees.CForm.{CForm}
+use Rattle.core_terms.specs.declared.trees.CForm.{CForm, out-CForm}
 use Rattle.core_terms.specs.declared.trees.Range.{Range}
 use Rattle.obligations.specs.declared.branches.Branch.{Branch}
 use Rattle.obligations.specs.declared.branches.Fact.{Fact}
 use Rattle.obligations.specs.declared.branches.Obligation.{Obligation}
+use Rattle.obligations.specs.declared.branches.Replaced.{Replaced}
 use Rattle.obligations.specs.declared.branches.Variable.{Variable}
 use Rattle.obligations.specs.declared.certificates.Node.{Node}
 use Rattle.obligations.specs.Settling.{settled, sides, added}
@@ -19,28 +20,35 @@ use Rattle.obligations.specs.Reach.{are_exact, bounds_refute, clash, is_out_of_r
 use Rattle.obligations.specs.Certificates.{node_units, units}
 use Rattle.obligations.specs.Obligations.{IsObligation}
 use Rattle.obligations.specs.Plain.{Cut, ranges_of, first_cut, with_high, with_low, waiting_only, open_leaves}
-use Rattle.obligations.specs.Plain.{cut_leaves, side_leaves, plain_leaves, enough}
-use Rattle.obligations.specs.Quotients.{is_either}
-use Rattle.obligations.specs.Scopes.{scope_of}
+use Rattle.obligations.specs.Plain.{cut_leaves, side_leaves, quot_leaves, plain_leaves, leaf_units, enough}
+use Rattle.obligations.specs.Quotients.{is_either, without_quotient}
+use Rattle.obligations.specs.Quotients.{with_quotient}
+use Rattle.obligations.specs.Scopes.{next_param, scope_of}
 use Rattle.obligations.specs.Shapes.{quotients_of}
+use Rattle.obligations.proofs.ScopeLaws.{scope-length}
 use Rattle.certificate_check.specs.Refutation.{opens, made, allowing}
-use Rattle.linear_prover.specs.Chains.{ClosesShortly, is_plain_node}
+use Rattle.linear_prover.specs.Chains.{Closes, ClosesShortly, is_plain_node}
 use Rattle.linear_prover.specs.Tables.{IsAt}
 use Rattle.linear_prover.proofs.ChainLaws.{refuted-chain, clashed-chain}
 use Rattle.search_tree.specs.declared.plain_tree.Trail.{Trail}
 use Rattle.search_tree.specs.declared.plain_tree.Ended.{Ended}
-use Rattle.search_tree.specs.Searching.{chain_units, quotients_at, room_of, Ready, Closed, Met, levels_of}
+use Rattle.search_tree.specs.Searching.{chain_units, quotients_at, room_of, Ready, Closed, Met, Ends, levels_of}
 use Rattle.search_tree.specs.Choices.{can_wait}
 use Rattle.search_tree.specs.Ends.{Ending, proved, refuted, short, SearchEnds}
 use Rattle.search_tree.proofs.SearchLaws.{finished-ends, short-room, room-two, room-less}
-use Rattle.search_tree.proofs.TreeLaws.{second-closed}
+use Rattle.search_tree.proofs.TreeLaws.{second-closed, quot-room}
 use Rattle.search_tree.proofs.TryLaws.{tried-short}
-use Rattle.search_tree.proofs.RootLaws.{room-enough, no-quotients, search-answers}
-use Rattle.search_tree.proofs.ShapeLaws.{settled-more, side-shapes, waits-either, quotients-append}
+use Rattle.search_tree.proofs.WaitLaws.{first-quotient}
+use Rattle.search_tree.proofs.RootLaws.{room-enough, search-answers}
+use Rattle.search_tree.proofs.ShapeLaws.{settled-more, side-shapes, quotients-append}
 use Rattle.search_tree.proofs.ReadyLaws.{leaves-some, unreached-leaves, either-leaves, case-opens, split-opens}
 use Rattle.search_tree.proofs.ReadyLaws.{ready-first, ready-second, ready-deep, cut-is, ready-cut, ready-low}
-use Rattle.search_tree.proofs.ReadyLaws.{ready-high, leaf-met, ready-root}
+use Rattle.search_tree.proofs.ReadyLaws.{ready-high, ready-root, quotient-leaves, quot-opens}
 use Rattle.search_tree.proofs.MetLaws.{first-met, second-met, added-met}
+use Rattle.search_tree.proofs.CycleLaws.{Put, less, quot-went}
+use Rattle.search_tree.proofs.FixedLaws.{fixed-met}
+use Rattle.search_tree.proofs.PointLaws.{LeafChain, LeafEnds, closes_leaf, meets_leaf, leaf-outcome}
+use Rattle.search_tree.proofs.QuotFacts.{quotient-ready}
 
 le-is : (a b : ℕ) → nat_le a b ≡ true → a ≤ b
 le-is a b h = grind arith
@@ -157,14 +165,14 @@ module _ (vs : List Variable) (k l m : ℕ) (b c d : Branch) (n : Node) (one : n
 
 -- Branches with so many levels left.
 abbrev AllGo : List Variable → ℕ → Type 0
-AllGo vs k = (rs : List Range) (b : Branch) → Ready vs k rs b → quotients_at b ≡ 0 → Goes vs k
+AllGo vs k = (rs : List Range) (b : Branch) → Ready vs k rs b → Goes vs k
     (plain_leaves vs k rs b) b
 
 sides-go : (vs : List Variable) (k : ℕ) (rs : List Range) (f : CForm) (b : Branch) → suc k ≤ 960 → AllGo vs k →
-    Ready vs (suc k) rs (waiting_only b (f ∷ b.waiting)) → is_either f ≡ true →
-    quotients_at (waiting_only b (f ∷ b.waiting)) ≡ 0 →
+    Ready vs (suc k) rs (waiting_only b (f ∷ b.waiting)) →
+    is_either f ≡ true →
     Goes vs (suc k) (side_leaves (scope_of vs b) (plain_leaves vs k) rs b f) (waiting_only b (f ∷ b.waiting))
-sides-go vs k rs f b deep go r either none =
+sides-go vs k rs f b deep go r either =
     let us : List Variable = scope_of vs b in
     let first : Branch = settled us (sides f).0 b in
     let second : Branch = settled us (sides f).1 b in
@@ -175,14 +183,14 @@ sides-go vs k rs f b deep go r either none =
     let less : quotients_at second ≤ quotients_at from = omega (arith, s, two) in
     both-go vs k (plain_leaves vs k rs first) (plain_leaves vs k rs second) from first second (Node.Case 1) refl refl
     deep fewer refl less refl (case-opens vs k f b either) (leaves-some vs k rs second) (first-met vs f b)
-    (second-met vs f b) (go rs first (ready-first vs k rs f b either r) (omega (arith, none, fewer)))
-    (go rs second (ready-second vs k rs f b either r) (omega (arith, none, less)))
+    (second-met vs f b)
+    (go rs first (ready-first vs k rs f b either r)) (go rs second (ready-second vs k rs f b either r))
 
 halves-go : (vs : List Variable) (k : ℕ) (rs : List Range) (b : Branch) (place : ℕ) (at : ℤ) → suc k ≤ 960 → AllGo vs k
-    → Ready vs (suc k) rs b → quotients_at b ≡ 0 → b.waiting ≡ [] →
+    → Ready vs (suc k) rs b → b.waiting ≡ [] →
     first_cut 0 rs ≡ Some (record { place = place; at = at }) →
     Goes vs (suc k) (cut_leaves (plain_leaves vs k) rs b (Some (record { place = place; at = at }))) b
-halves-go vs k rs b place at deep go r none w e =
+halves-go vs k rs b place at deep go r w e =
     let cut = cut-is vs (suc k) rs b place at r e in
     let long = r.long in
     let inside = cut.inside in
@@ -196,71 +204,166 @@ halves-go vs k rs b place at deep go r none w e =
     deep fewer refl less refl (split-opens vs k b place at (omega (arith, long, inside)))
     (leaves-some vs k (with_low rs place (at +ℤ pos 1)) high) (added-met vs b (at_most place at))
     (added-met vs b (at_least place (at +ℤ pos 1)))
-    (go (with_high rs place at) low (ready-low vs k rs b place at r w e) (omega (arith, none, fewer)))
-    (go (with_low rs place (at +ℤ pos 1)) high (ready-high vs k rs b place at r w e) (omega (arith, none, less)))
+    (go (with_high rs place at) low (ready-low vs k rs b place at r w e))
+    (go (with_low rs place (at +ℤ pos 1)) high (ready-high vs k rs b place at r w e))
+
+-- A quotient that is taken.
+module _ (vs : List Variable) (k : ℕ) (rs : List Range) (f : CForm) (r : Replaced) (b : Branch) (deep : suc k ≤ 960)
+    (is : without_quotient (next_param (scope_of vs b)) f ≡ Some r) (go : AllGo vs k)
+    (ready : Ready vs (suc k) rs (waiting_only b (f ∷ b.waiting))) where
+  abbrev from : Branch
+  from = waiting_only b (f ∷ b.waiting)
+
+  abbrev next : Branch
+  next = with_quotient (scope_of vs b) r b
+
+  abbrev below : ℕ
+  below = quot_leaves (scope_of vs b) (plain_leaves vs k) rs b (without_quotient (next_param (scope_of vs b)) f)
+
+  same-leaves : below ≡ plain_leaves vs k rs next
+  same-leaves = ap (quot_leaves (scope_of vs b) (plain_leaves vs k) rs b) is
+
+  abbrev with_quot : Trail → Trail
+  with_quot x = record { nodes = x.nodes ++ Node.Quot 1 ∷ []; spare = x.spare - 1 }
+
+  taken-room : plain_leaves vs k rs next * room_of vs next + 1 ≤ plain_leaves vs k rs next * room_of vs from
+  taken-room =
+      let l = less vs (scope_of vs b) k rs f b r refl deep is in
+      quot-room vs k (plain_leaves vs k rs next) from next (leaves-some vs k rs next) (omega (arith, l)) deep
+      (omega (arith, l)) refl (quot-opens vs k f r b is)
+
+  some-room : 2 ≤ plain_leaves vs k rs next * room_of vs next
+  some-room =
+      let more = mul-le-mul_right (room_of vs next) (leaves-some vs k rs next) in
+      let two = room-two vs next in omega (arith, more, two)
+
+  outcome-on : (x : Trail) → Suffices vs below from x → Outcome vs k (plain_leaves vs k rs next) next (with_quot x) →
+      Outcome vs (suc k) below from x
+  outcome-on x s o = by_outcome o
+    where
+      put : Put x (with_quot x) (Node.Quot 1)
+      put =
+          let t = taken-room in let l = same-leaves in let n = ap (λ m. m * room_of vs from) l in let y = some-room in
+          record { nodes = refl; spare = omega (arith, t, n, y, s) }
+
+      went : (z : Trail) (e : Ended) → Ends vs k (plain_leaves vs k rs next) next (with_quot x) z e →
+          Ends vs (suc k) below from x z e
+      went z e u =
+          quot-went vs (scope_of vs b) k rs f b r refl deep is x (with_quot x) z e put ready.closed.waiting.0
+          (record { facts = ready.closed.facts; waiting = ready.closed.waiting.1 }) u
+
+      by_outcome : Outcome vs k (plain_leaves vs k rs next) next (with_quot x) → Outcome vs (suc k) below from x
+      by_outcome (closed z c) = closed z (went z Ended.Closed c)
+      by_outcome (met values c) = met values (went x (Ended.Refuted values) c)
+
+  quot-goes : Goes vs (suc k) below from
+  quot-goes x s =
+      let t = taken-room in let l = same-leaves in let n = ap (λ m. m * room_of vs from) l in let y = some-room in
+      outcome-on x s (go rs next (quotient-ready vs k rs f r b is ready) (with_quot x) (omega (arith, t, n, y, s)))
 
 -- the first waiting formula stands before the others
 whole : (b : Branch) (f : CForm) (fs : List CForm) → b.waiting ≡ f ∷ fs → waiting_only b (f ∷ fs) ≡ b
 whole b f fs e = ap (waiting_only b) (sym e)
 
+-- A leaf.
+pub leaf-room : (vs : List Variable) (b : Branch) (n : ℕ) → b.waiting ≡ [] →
+    n ≤ (2 * b.added) * ((length vs + b.added) + 2) + ((length vs + b.added) + 7) → n < room_of vs b
+leaf-room vs b n w h =
+    let taken = ap quotients_of w in
+    let all : quotients_of b.waiting + b.added ≡ b.added = omega (arith, taken) in
+    let room : room_of vs b ≡ leaf_units (length vs) b.added - b.added =
+    ap (λ m. leaf_units (length vs) m - b.added) all in
+    let spread : leaf_units (length vs) b.added ≡ (2 * b.added) * ((length vs + b.added) + 2) + (2 * b.added) * 254
+    + ((length vs + b.added) + 256) = omega arith in
+    omega (arith, h, room, spread)
+
 leaf-goes : (vs : List Variable) (k leaves : ℕ) (rs : List Range) (b : Branch) → Ready vs k rs b →
-    quotients_at b ≡ 0 → some_out_of_reach b.facts ≡ false → b.waiting ≡ [] → first_cut 0 rs ≡ None →
-    Goes vs k leaves b
-leaf-goes vs k leaves rs b r none u w e x s =
-    met (map (λ (r : Range). r.lo) rs) (leaf-met vs k rs b r (omega (arith, none)) u w e)
+    1 ≤ leaves → b.waiting ≡ [] → first_cut 0 rs ≡ None → Goes vs k leaves b
+leaf-goes vs k leaves rs b r one w e y s =
+    by_ending (leaf-outcome vs rs b.added r.fixes.weights r.fixes.weighed.limits b.facts r.long r.bounded r.sound e
+    r.fixes.weighed.ranges (ap (λ n. are_exact n b.facts) (sym (scope-length vs b.added)) ∙ r.exact) r.slender
+    (reach-chain (length vs + b.added)) r.fixes.taken)
+  where
+    closing : (ns : List Node) → LeafChain (length vs + b.added) b.facts (2 * b.added) ns → Outcome vs k leaves b y
+    closing ns c =
+        let short = c.short in let cheap = c.cheap in let deep = r.deep in
+        let fits = leaf-room vs b (units ns) w cheap in
+        let more : 1 * room_of vs b ≤ leaves * room_of vs b = mul-le-mul_right (room_of vs b) one in
+        let new : Trail = record { nodes = y.nodes ++ ns; spare = y.spare - units ns } in
+        closed new (finished-ends vs k leaves (64 + 2 * b.added) (room_of vs b) b y new Ended.Closed
+        (omega (arith, deep)) (le_refl (room_of vs b)) one (record {
+          nodes = ns;
+          closes = subst (λ n. Closes n b.facts ns) (sym (scope-length vs b.added)) c.closes;
+          short = omega (arith, short);
+          cheap = fits;
+          plain = c.plain;
+          finished = (refl, omega (arith, fits, more, s));
+        }))
+
+    by_ending : LeafEnds (length vs + b.added) b.facts (2 * b.added) → Outcome vs k leaves b y
+    by_ending (closes_leaf ns c) = closing ns c
+    by_ending (meets_leaf values long holds) =
+        met (take (length vs) values) (fixed-met vs b values (take (length vs) values) refl long w holds)
 
 -- no fact is out of reach, and a level is left
 cut-goes : (vs : List Variable) (k : ℕ) (rs : List Range) (b : Branch) → suc k ≤ 960 → AllGo vs k → Ready vs (suc k)
-    rs b → quotients_at b ≡ 0 → some_out_of_reach b.facts ≡ false → b.waiting ≡ [] → (o : Option Cut) →
+    rs b → b.waiting ≡ [] → (o : Option Cut) →
     first_cut 0 rs ≡ o → Goes vs (suc k) (cut_leaves (plain_leaves vs k) rs b o) b
-cut-goes vs k rs b deep go r none u w None e = leaf-goes vs (suc k) 1 rs b r none u w e
-cut-goes vs k rs b deep go r none u w (Some c) e = halves-go vs k rs b c.place c.at deep go r none w e
+cut-goes vs k rs b deep go r w None e = leaf-goes vs (suc k) 1 rs b r (le_refl 1) w e
+cut-goes vs k rs b deep go r w (Some c) e = halves-go vs k rs b c.place c.at deep go r w e
 
-first-either : (vs : List Variable) (k : ℕ) (rs : List Range) (b : Branch) (f : CForm) (fs : List CForm) →
-    Ready vs k rs b → b.waiting ≡ f ∷ fs → quotients_at b ≡ 0 → is_either f ≡ true
-first-either vs k rs b f fs r w none =
-    let q = ap quotients_of w in
-    waits-either f (and_parts (can_wait f) (list_all can_wait fs) (sym (ap (list_all can_wait) w) ∙ r.waits)).0
-    (omega (arith, none, q))
+first-waits : (vs : List Variable) (k : ℕ) (rs : List Range) (b : Branch) (f : CForm) (fs : List CForm) →
+    Ready vs k rs b → b.waiting ≡ f ∷ fs → can_wait f ≡ true
+first-waits vs k rs b f fs r w =
+    (and_parts (can_wait f) (list_all can_wait fs) (sym (ap (list_all can_wait) w) ∙ r.waits)).0
 
 open-goes : (vs : List Variable) (k : ℕ) (rs : List Range) (b : Branch) → suc k ≤ 960 → AllGo vs k → Ready vs (suc k)
-    rs b → quotients_at b ≡ 0 → some_out_of_reach b.facts ≡ false → (ws : List CForm) → b.waiting ≡ ws →
+    rs b → (ws : List CForm) → b.waiting ≡ ws →
     Goes vs (suc k) (open_leaves vs (plain_leaves vs k) rs b ws) b
-open-goes vs k rs b deep go r none u [] w = cut-goes vs k rs b deep go r none u w (first_cut 0 rs) refl
-open-goes vs k rs b deep go r none u (f ∷ fs) w =
-    let same = whole b f fs w in
-    let either = first-either vs (suc k) rs b f fs r w none in
-    subst (Goes vs (suc k) (open_leaves vs (plain_leaves vs k) rs b (f ∷ fs))) same
-    (subst (λ n. Goes vs (suc k) n (waiting_only b (f ∷ fs))) (sym (either-leaves vs k rs b f fs either))
-    (sides-go vs k rs f (waiting_only b fs) deep go (subst (Ready vs (suc k) rs) (sym same) r) either
-    (ap quotients_at same ∙ none)))
+open-goes vs k rs b deep go r [] w = cut-goes vs k rs b deep go r w (first_cut 0 rs) refl
+open-goes vs k rs b deep go r (f ∷ fs) w = by_either (is_either f) refl
+  where
+    same : waiting_only b (f ∷ fs) ≡ b
+    same = whole b f fs w
+
+    by_either : (t : Bool) → is_either f ≡ t → Goes vs (suc k) (open_leaves vs (plain_leaves vs k) rs b (f ∷ fs)) b
+    by_either true either =
+        subst (Goes vs (suc k) (open_leaves vs (plain_leaves vs k) rs b (f ∷ fs))) same
+        (subst (λ n. Goes vs (suc k) n (waiting_only b (f ∷ fs))) (sym (either-leaves vs k rs b f fs either))
+        (sides-go vs k rs f (waiting_only b fs) deep go (subst (Ready vs (suc k) rs) (sym same) r) either))
+    by_either false either =
+        let q = first-quotient (next_param (scope_of vs b)) (out-CForm f) (first-waits vs (suc k) rs b f fs r w)
+        either in
+        subst (Goes vs (suc k) (open_leaves vs (plain_leaves vs k) rs b (f ∷ fs))) same
+        (subst (λ n. Goes vs (suc k) n (waiting_only b (f ∷ fs))) (sym (quotient-leaves vs k rs b f fs either))
+        (quot-goes vs k rs f q.0 (waiting_only b fs) deep q.1 go (subst (Ready vs (suc k) rs) (sym same) r)))
 
 -- no level is left
-end-goes : (vs : List Variable) (leaves : ℕ) (rs : List Range) (b : Branch) → Ready vs 0 rs b → quotients_at b ≡ 0 →
-    some_out_of_reach b.facts ≡ false → (ws : List CForm) → b.waiting ≡ ws → Goes vs 0 leaves b
-end-goes vs leaves rs b r none u (f ∷ fs) w =
+end-goes : (vs : List Variable) (leaves : ℕ) (rs : List Range) (b : Branch) → Ready vs 0 rs b →
+    1 ≤ leaves → (ws : List CForm) → b.waiting ≡ ws → Goes vs 0 leaves b
+end-goes vs leaves rs b r one (f ∷ fs) w =
     let one = ready-deep vs 0 rs f fs b (subst (Ready vs 0 rs) (sym (whole b f fs w)) r) in
     absurd (omega (arith, one))
-end-goes vs leaves rs b r none u [] w = by_cut (first_cut 0 rs) refl
+end-goes vs leaves rs b r one [] w = by_cut (first_cut 0 rs) refl
   where
     by_cut : (o : Option Cut) → first_cut 0 rs ≡ o → Goes vs 0 leaves b
-    by_cut None e = leaf-goes vs 0 leaves rs b r none u w e
+    by_cut None e = leaf-goes vs 0 leaves rs b r one w e
     by_cut (Some c) e = let one = ready-cut vs 0 rs b c.place c.at r e in absurd (omega (arith, one))
 
 all-go : (vs : List Variable) (k : ℕ) → k ≤ 960 → AllGo vs k
-all-go vs zero h rs b r none = by_reach (some_out_of_reach b.facts) refl
+all-go vs zero h rs b r = by_reach (some_out_of_reach b.facts) refl
   where
     by_reach : (t : Bool) → some_out_of_reach b.facts ≡ t → Goes vs 0 1 b
     by_reach true e = chain-goes vs 0 1 b (omega arith) (reach-chain (length (scope_of vs b)) b.facts r.exact e)
-    by_reach false e = end-goes vs 1 rs b r none e b.waiting refl
-all-go vs (suc k) h rs b r none = by_reach (some_out_of_reach b.facts) refl (all-go vs k (omega (arith, h)))
+    by_reach false e = end-goes vs 1 rs b r (le_refl 1) b.waiting refl
+all-go vs (suc k) h rs b r = by_reach (some_out_of_reach b.facts) refl (all-go vs k (omega (arith, h)))
   where
     by_reach : (t : Bool) → some_out_of_reach b.facts ≡ t → AllGo vs k → Goes vs (suc k) (plain_leaves vs (suc k) rs b)
         b
     by_reach true e go = chain-goes vs (suc k) (plain_leaves vs (suc k) rs b) b (leaves-some vs (suc k) rs b)
         (reach-chain (length (scope_of vs b)) b.facts r.exact e)
     by_reach false e go = subst (λ n. Goes vs (suc k) n b) (sym (unreached-leaves vs k rs b e))
-        (open-goes vs k rs b h go r none e b.waiting refl)
+        (open-goes vs k rs b h go r b.waiting refl)
 
 -- The branch that an obligation starts from.
 abbrev all_leaves : Obligation → ℕ
@@ -279,11 +382,11 @@ root-ends o budget m (met values c) = refuted values
     (Ended.Refuted values) budget _ refl refl refl refl refl c refl)
 
 pub search-ends : SearchEnds
-search-ends o budget m none = by_budget (nat_le (enough o) budget) refl
+search-ends o budget m = by_budget (nat_le (enough o) budget) refl
   where
     by_budget : (t : Bool) → nat_le (enough o) budget ≡ t → Ending o budget
     by_budget true e =
         let w = le-is (enough o) budget e in let room = room-enough o in
         root-ends o budget m (all-go o.variables 960 (omega arith) (ranges_of o.variables) (first_branch o)
-        (ready-root o m) (no-quotients o none) (start budget) (omega (arith, w, room)))
+        (ready-root o m) (start budget) (omega (arith, w, room)))
     by_budget false e = short (gt-is (enough o) budget e)

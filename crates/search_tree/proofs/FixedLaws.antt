@@ -1,72 +1,24 @@
 -- Leaves whose added variables are fixed by rounds.
-use Rattle.std.proofs.Common.{◌≡◌, ℕ, zero, suc, ◌+◌, ◌-◌, ◌*◌, ◌≤◌, ◌<◌, ℤ, pos, negsuc, true, not, ◌&&◌, List, [], ◌∷◌}
-use Rattle.std.proofs.Common.{Bool, ◌++◌, ◌^◌, take, drop, length, map, arith, refl, sym, ap, subst, ◌∙◌}
+use Rattle.std.proofs.Common.{◌≡◌, ℕ, zero, suc, ◌+◌, ◌*◌, ◌≤◌, ◌<◌, ℤ, true, ◌&&◌, List, []}
+use Rattle.std.proofs.Common.{◌∷◌}
+use Rattle.std.proofs.Common.{◌++◌, ◌^◌, take, drop, length, map, arith, refl, sym, ap, subst, ◌∙◌}
 use Rattle.std.proofs.Common.{le_refl, false, None}
 use Rattle.std.specs.List.{list_all}
-use Rattle.std.proofs.lemmas.List.Folds.{list_all-append}
 use Rattle.core_terms.specs.declared.trees.Range.{Range}
-use Rattle.meaning_states.specs.State.{int_eq}
 use Rattle.obligations.specs.declared.branches.Branch.{Branch}
-use Rattle.obligations.specs.declared.branches.Fact.{Fact}
 use Rattle.obligations.specs.declared.branches.Variable.{Variable}
-use Rattle.obligations.specs.declared.certificates.Node.{Node}
-use Rattle.obligations.specs.Certificates.{units}
 use Rattle.obligations.specs.LinearForms.{fact_holds}
 use Rattle.obligations.specs.Obligations.{AreOwn}
-use Rattle.obligations.specs.Plain.{first_cut, leaf_units}
-use Rattle.obligations.specs.Reach.{is_exact, is_within, are_exact, some_out_of_reach}
+use Rattle.obligations.specs.Plain.{first_cut}
+use Rattle.obligations.specs.Reach.{some_out_of_reach}
 use Rattle.obligations.specs.Scopes.{scope_of}
 use Rattle.obligations.specs.Settling.{form_at}
-use Rattle.obligations.specs.Shapes.{quotients_of}
-use Rattle.obligations.proofs.ScopeLaws.{scope-length, scope-done}
-use Rattle.linear_prover.specs.Chains.{Closes, is_plain_node}
+use Rattle.obligations.proofs.ScopeLaws.{scope-done}
 use Rattle.search_tree.specs.declared.plain_tree.Trail.{Trail}
 use Rattle.search_tree.specs.declared.plain_tree.Ended.{Ended}
-use Rattle.search_tree.specs.Searching.{Finishes, Tried, Met, Ready, Ends, EndsLeaf, room_of}
-use Rattle.search_tree.proofs.ReadyLaws.{one-exact, leaf-met, ready-few, ready-exact}
+use Rattle.search_tree.specs.Searching.{Tried, Met, Ready, Ends, EndsLeaf, room_of}
+use Rattle.search_tree.proofs.ReadyLaws.{leaf-met, ready-few, ready-exact}
 use Rattle.search_tree.proofs.SearchLaws.{finished-ends}
-
--- a bound more
-bound-added : (count v : ℕ) (s c : ℤ) (old new : List Fact) → not (int_eq s (pos 0)) ≡ true →
-    new ≡ old ++ record { factors = (v, s) ∷ []; constant = c } ∷ [] → v < count → are_exact count old ≡ true →
-    are_exact count new ≡ true
-bound-added count v s c old new n e h x =
-    let exact : Fact → Bool = λ (f : Fact). is_exact 0 f.factors && is_within count f.factors in
-    ap (list_all exact) e ∙ list_all-append exact old (record { factors = (v, s) ∷ []; constant = c } ∷ [])
-    ∙ ap (λ t. t && (exact (record { factors = (v, s) ∷ []; constant = c }) && true)) x
-    ∙ ap (λ t. t && true) (one-exact count v s n h)
-
-pub most-added : (count v : ℕ) (c : ℤ) (old new : List Fact) →
-    new ≡ old ++ record { factors = (v, negsuc 0) ∷ []; constant = c } ∷ [] → v < count → are_exact count old ≡ true →
-    are_exact count new ≡ true
-most-added count v c old new e h x = bound-added count v (negsuc 0) c old new refl e h x
-
-pub least-added : (count v : ℕ) (c : ℤ) (old new : List Fact) →
-    new ≡ old ++ record { factors = (v, pos 1) ∷ []; constant = c } ∷ [] → v < count → are_exact count old ≡ true →
-    are_exact count new ≡ true
-least-added count v c old new e h x = bound-added count v (pos 1) c old new refl e h x
-
-pub ruleset exact_laws = (most-added, least-added)
-
-pub leaf-tried : (vs : List Variable) (b : Branch) (count : ℕ) (ns : List Node) (old new : Trail) (e : Ended) →
-    Closes count b.facts ns →
-    (length ns ≤ 64 + 2 * b.added) × ((units ns + b.added < leaf_units (length vs) b.added) ×
-    (list_all is_plain_node ns ≡ true)) → b.waiting ≡ [] → Finishes ns old new e →
-    Tried count (64 + 2 * b.added) (room_of vs b) b.facts old new e
-leaf-tried vs b count ns old new e c s none f =
-    let taken = ap quotients_of none in
-    let all : quotients_of b.waiting + b.added ≡ b.added = omega (arith, taken) in
-    let room : room_of vs b ≡ leaf_units (length vs) b.added - b.added =
-    ap (λ n. leaf_units (length vs) n - b.added) all in
-    let cheap = s.1.0 in
-    record {
-      nodes = ns;
-      closes = c;
-      short = s.0;
-      cheap = omega (arith, cheap, room);
-      plain = s.1.1;
-      finished = f;
-    }
 
 -- a chain that was tried at a leaf ends it
 pub tried-leaf : (vs us : List Variable) (b : Branch) (old new : Trail) (e : Ended) → us ≡ scope_of vs b →
@@ -97,23 +49,9 @@ pub low-met : (vs : List Variable) (k : ℕ) (rs : List Range) (b : Branch) (val
     values ≡ map (λ (r : Range). r.lo) rs → Met vs b values
 low-met vs k rs b values r flat u w e q = subst (Met vs b) (sym q) (leaf-met vs k rs b r flat u w e)
 
--- the obligation's variables are some of the branch's
-pub ranges-within : (vs us : List Variable) (rs : List Range) (b : Branch) → us ≡ scope_of vs b →
-    length rs ≡ length vs → length rs ≤ length us
-ranges-within vs us rs b scoped l =
-    let s = ap (λ (x : List Variable). length x) scoped in let t = scope-length vs b.added in
-    omega (arith, s, t, l)
-
 pub scope-count : (vs us : List Variable) (b : Branch) → AreOwn vs → b.added ≤ 480 → us ≡ scope_of vs b →
     length us < 2 ^ 32
 scope-count vs us b own few scoped = (scope-done vs us b.added own (omega (arith, few)) scoped).count
-
-pub own-count : (vs : List Variable) → AreOwn vs → length vs < 2 ^ 32
-own-count vs own = own.variables.count
-
-pub ruleset tried_laws = (leaf-tried, scope-count, own-count)
-
-pub ruleset fixed_laws = (tried-leaf, ranges-within, scope-count)
 
 pub ruleset leaf_laws = (leaf-ends, low-met, ready-few, ready-exact)
 
@@ -147,5 +85,3 @@ fixed-met vs b values front q e w h = subst (Met vs b) (sym q) (record {
         ∙ ap (list_all (form_at (scope_of vs b) values)) w,
   );
 })
-
-pub ruleset met_laws = fixed-met

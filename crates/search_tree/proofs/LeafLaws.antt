@@ -133,10 +133,12 @@ none-out (g ∷ facts) all (suc n) f u e = none-out facts all n f
     second false b h = h
 
 -- what a slender fact's numbers are
-abbrev Slight : Fact → Type 0
-Slight f = (list_all is_plain_factor f.factors ≡ true) × (widths f.factors ≤ 2 ^ 63) × (unsigned_abs f.constant ≤ 2 ^ 64)
+abbrev pub Slight : Fact → Type 0
+Slight f =
+    (list_all is_plain_factor f.factors ≡ true) × (widths f.factors ≤ 2 ^ 63) × (unsigned_abs f.constant ≤ 2 ^ 64)
 
-slender-at : (facts : List Fact) (n : ℕ) (f : Fact) → list_all is_slender facts ≡ true → slice_get facts n ≡ Some f →
+pub slender-at : (facts : List Fact) (n : ℕ) (f : Fact) → list_all is_slender facts ≡ true →
+    slice_get facts n ≡ Some f →
     Slight f
 slender-at [] n f s e = cc
 slender-at (g ∷ facts) zero f s e =
@@ -264,7 +266,8 @@ total-step facts fs values v (negsuc n) x r h =
     }
 
 pub total-is : (facts : List Fact) (fs : List (ℕ × ℤ)) (count : ℕ) (values : List ℤ) →
-    ((v : ℕ) → v < count → Fixed facts v (number_at values v)) → is_within count fs ≡ true → list_all is_plain_factor fs ≡ true →
+    ((v : ℕ) → v < count → Fixed facts v (number_at values v)) → is_within count fs ≡ true →
+    list_all is_plain_factor fs ≡ true →
     TotalIs facts fs values
 total-is facts [] count values fix w h = record {
   total = record { value = pos 0; load = 0; light = true };
@@ -308,7 +311,7 @@ all-from : {A : Type 0} (t : A → Bool) (xs : List A) → ((i : ℕ) (x : A) �
 all-from t [] h = refl
 all-from t (x ∷ xs) h = ap (λ z. z && list_all t xs) (h 0 x refl) ∙ all-from t xs (λ i y e. h (suc i) y e)
 
-all-there : {A : Type 0} (t : A → Bool) (xs : List A) (n : ℕ) (x : A) → list_all t xs ≡ true → slice_get xs n ≡ Some x
+pub all-there : {A : Type 0} (t : A → Bool) (xs : List A) (n : ℕ) (x : A) → list_all t xs ≡ true → slice_get xs n ≡ Some x
     → t x ≡ true
 all-there t [] n x a e = cc
 all-there t (y ∷ ys) zero x a e = let s : y ≡ x = cc in ap t (sym s) ∙ (and_parts (t y) (list_all t ys) a).0
@@ -327,6 +330,15 @@ closed-cut : (r : Range) (rs : List Range) (m : ℕ) → r.lo ≤ℤ r.hi → (t
     (first_cut (suc m) rs ≡ None)
 closed-cut r rs m l true q d = (let a = int-le-is r.hi r.lo q in omega (arith, ints, a, l), d)
 closed-cut r rs m l false q d = cc
+
+-- a range of one value, where none is to be split
+pub one-value : (r : Range) (rs : List Range) (m : ℕ) → list_all is_sound_range (r ∷ rs) ≡ true →
+    first_cut m (r ∷ rs) ≡ None → (r.hi ≡ r.lo) × (first_cut (suc m) rs ≡ None)
+one-value r rs m s e =
+    let sounds = and_parts (is_sound_range r) (list_all is_sound_range rs) s in
+    let ends = and_parts (int_le r.lo r.hi) (nat_le (unsigned_abs r.lo) (2 ^ 62) && nat_le (unsigned_abs r.hi)
+    (2 ^ 62)) sounds.0 in
+    closed-cut r rs m (int-le-is r.lo r.hi ends.0) (int_le r.hi r.lo) refl e
 
 single-at : (facts : List Fact) (r : Range) (rs : List Range) (n v : ℕ) → Has facts (at_least n r.lo) → Has facts
     (at_most n r.hi) → r.hi ≡ r.lo → unsigned_abs r.lo ≤ 2 ^ 62 → v < suc (length rs) →
@@ -365,7 +377,20 @@ single facts (r ∷ rs) n m v b s e h =
     single-at facts r rs n v b.0 b.1 done.0 (le-is (unsigned_abs r.lo) (2 ^ 62) sizes.0) h
     (λ w k. single facts rs (suc n) (suc m) w b.2 sounds.1 done.1 k)
 
--- with every variable fixed and no fact out of reach, all facts hold at the ranges' ends
+-- with every range of one value and no fact out of reach, both bounds of each variable are its value
+pub ends-fixed : (facts : List Fact) (rs : List Range) → list_all is_slender facts ≡ true →
+    list_all is_sound_range rs ≡ true → AreBounded 0 rs facts → some_out_of_reach facts ≡ false →
+    first_cut 0 rs ≡ None → (v : ℕ) → v < length rs → Fixed facts v (number_at (map (λ (r : Range). r.lo) rs) v)
+ends-fixed facts rs slender sound bounded reach e v h =
+    let k = single facts rs 0 0 v bounded sound e h in
+    subst (Fixed facts v) (sym k.is)
+    (fixed facts v k.value reach slender (subst (λ j. Has facts (at_least j k.value)) (zero-plus v) k.low)
+    (subst (λ j. Has facts (at_most j k.value)) (zero-plus v) k.high) k.small)
+  where
+    zero-plus : (n : ℕ) → 0 + n ≡ n
+    zero-plus n = omega arith
+
+-- then all facts hold at the ranges' ends
 pub leaf-facts : (facts : List Fact) (rs : List Range) → are_exact (length rs) facts ≡ true → list_all is_slender
     facts ≡ true → list_all is_sound_range rs ≡ true → AreBounded 0 rs facts → some_out_of_reach facts ≡ false →
     first_cut 0 rs ≡ None →
@@ -374,18 +399,9 @@ leaf-facts facts rs exact slender sound bounded reach e = all-from (fact_holds v
     let s = slender-at facts i f slender q in
     let x = and_parts (is_exact 0 f.factors) (is_within (length rs) f.factors)
     (all-there (λ (f : Fact). is_exact 0 f.factors && is_within (length rs) f.factors) facts i f exact q) in
-    fact-met facts f values (total-is facts f.factors (length rs) values fix x.1 s.0) s.1 s.2
+    fact-met facts f values (total-is facts f.factors (length rs) values
+    (ends-fixed facts rs slender sound bounded reach e) x.1 s.0) s.1 s.2
     (none-out facts facts i f reach q))
   where
     values : List ℤ
     values = map (λ (r : Range). r.lo) rs
-
-    zero-plus : (n : ℕ) → 0 + n ≡ n
-    zero-plus n = omega arith
-
-    fix : (v : ℕ) → v < length rs → Fixed facts v (number_at values v)
-    fix v h =
-        let k = single facts rs 0 0 v bounded sound e h in
-        subst (Fixed facts v) (sym k.is)
-        (fixed facts v k.value reach slender (subst (λ j. Has facts (at_least j k.value)) (zero-plus v) k.low)
-        (subst (λ j. Has facts (at_most j k.value)) (zero-plus v) k.high) k.small)

@@ -75,7 +75,8 @@ quotient-counted vs us k rs b f wanted n scoped u either r =
 -- as the code meets it: its first waiting formula was taken out
 pub counted-back : (vs : List Variable) (k : ℕ) (rs : List Range) (b : Branch) (ws : List CForm) (f : CForm)
     (wanted n : ℕ) → 1 ≤ k → waiting_only b (f ∷ ws) ≡ b →
-    n ≡ min wanted (plain_leaves vs (suc (k - 1)) rs (waiting_only b (f ∷ ws))) → n ≡ min wanted (plain_leaves vs k rs b)
+    n ≡ min wanted (plain_leaves vs (suc (k - 1)) rs (waiting_only b (f ∷ ws))) →
+    n ≡ min wanted (plain_leaves vs k rs b)
 counted-back vs k rs b ws f wanted n one same r =
     subst (λ m. n ≡ min wanted (plain_leaves vs m rs b)) (one-less k one)
     (subst (λ y. n ≡ min wanted (plain_leaves vs (suc (k - 1)) rs y)) same r)

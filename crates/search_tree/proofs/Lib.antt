@@ -9,6 +9,14 @@ pub mod TakenReady
 pub mod QuotReady
 pub mod QuotFacts
 pub mod FixedLaws
+pub mod DividendLaws
+pub mod WaitLaws
+pub mod BoundLaws
+pub mod LineWeights
+pub mod RoundLaws
+pub mod PointLaws
+pub mod FixesLaws
+pub mod FixingLaws
 pub mod ShapeLaws
 pub mod QuotientShapes
 pub mod RootLaws

@@ -20,6 +20,7 @@ use Rattle.obligations.proofs.NeedLaws.{settled-light}
 use Rattle.obligations.proofs.TakenNames.{quotient-closed}
 use Rattle.search_tree.specs.Choices.{can_wait}
 use Rattle.search_tree.specs.Searching.{Ready, is_slender}
+use Rattle.search_tree.proofs.FixesLaws.{fixes-quot}
 use Rattle.search_tree.proofs.ReadyLaws.{bounded-more}
 use Rattle.search_tree.proofs.ShapeLaws.{settled-more, cases-append}
 use Rattle.search_tree.proofs.QuotientShapes.{without-less}
@@ -99,4 +100,5 @@ module _ (vs : List Variable) (k : ℕ) (rs : List Range) (f : CForm) (r : Repla
             (bounded-more 0 rs (b.facts ++ low ∷ []) (high ∷ []) (bounded-more 0 rs b.facts (low ∷ []) ready.bounded));
         closed = quotient-closed us b f r is waiting.0.names
             (record { facts = ready.closed.facts; waiting = waiting.1 });
+        fixes = fixes-quot vs rs f r b is ready.long ready.closed.facts ready.fixes;
       }

@@ -169,7 +169,8 @@ module _ (v : ℕ) where
   div-known a k p = record {
     tree = tree_at (CTerm-F.Div a k) (Div a k) (rolls-Div a k) ∙ ap (λ x. Div x k) p.tree;
     less = subst (Leaves (Div a k)) (sym (taken_at (CTerm-F.Div a k) (Div a k) (rolls-Div a k) ∙ ap
-        (λ x. or_whole (λ x. Div x k) (first_taken v a) (record { of = x; divisor = divisor k; rest = Param v })) p.tree))
+        (λ x. or_whole (λ x. Div x k) (first_taken v a) (record { of = x; divisor = divisor k; rest = Param v }))
+        p.tree))
         (divided-less (λ x. Div x k) (λ x. shape-Div x k) a (first_taken v a)
         (record { of = a; divisor = divisor k; rest = Param v }) p.less (whole-less a));
   }

@@ -34,12 +34,15 @@ use Rattle.obligations.specs.Plain.{plain_leaves, open_leaves, side_leaves, quot
 use Rattle.obligations.specs.declared.branches.Replaced.{Replaced}
 use Rattle.obligations.specs.Quotients.{is_either, without_quotient, with_quotient}
 use Rattle.obligations.specs.Scopes.{next_param, scope_of}
-use Rattle.search_tree.specs.Searching.{Ready, Met, Has, AreBounded, is_slender, levels_of}
+use Rattle.search_tree.specs.Searching.{Ready, Fixes, Met, Has, AreBounded, is_slender, levels_of}
 use Rattle.obligations.proofs.NumberLaws.{obligation-height, obligation-load, obligation-narrow, obligation-sound}
 use Rattle.obligations.specs.Obligations.{is_sound_range, IsObligation, AreOwn, AreVariables}
 use Rattle.meaning_states.specs.State.{int_eq}
 use Rattle.linear_prover.specs.Chains.{is_plain_number}
 use Rattle.search_tree.proofs.CutLaws.{good-cut}
+use Rattle.search_tree.proofs.DividendLaws.{first-small, second-small}
+use Rattle.search_tree.proofs.FixesLaws.{fixes-side, fixes-low, fixes-high, root-fixes}
+use Rattle.search_tree.specs.Weighing.{form_dividends}
 use Rattle.search_tree.proofs.LeafLaws.{leaf-facts}
 use Rattle.search_tree.proofs.SlenderLaws.{settled-within, refused-within, first-narrow, second-narrow}
 use Rattle.search_tree.proofs.ExactLaws.{settled-exact, refused-exact, ranges-exact}
@@ -231,8 +234,9 @@ side-ready : (vs : List Variable) (k : ℕ) (rs : List Range) (f g : CForm) (b :
     (waiting_only b (f ∷ b.waiting)) → ((need f).yes ≤ 2 ^ 63 → (need g).yes ≤ 2 ^ 63) →
     (is_narrow f ≡ true → is_narrow g ≡ true) →
     (NamesOnly (scope_of vs b) f → NamesOnly (scope_of vs b) g) →
+    ((weight : Bool → ℕ → ℕ) → form_dividends weight g ≤ form_dividends weight f) →
     suc (shapes g).yes.cases ≤ (shapes f).yes.cases → Ready vs k rs (settled (scope_of vs b) g b)
-side-ready vs k rs f g b r light thin named less =
+side-ready vs k rs f g b r light thin named small less =
     let us : List Variable = scope_of vs b in
     let waiting = r.closed.waiting in
     let waits = and_parts (can_wait f) (list_all can_wait b.waiting) r.waits in
@@ -254,17 +258,18 @@ side-ready vs k rs f g b r light thin named less =
       bounded = bounded-more 0 rs b.facts (outcome us g).yes.facts r.bounded;
       closed = settled-closed us g b (named waiting.0.names)
           (record { facts = r.closed.facts; waiting = waiting.1 });
+      fixes = fixes-side vs rs f g b small r.fixes;
     }
 
 pub ready-first : (vs : List Variable) (k : ℕ) (rs : List Range) (f : CForm) (b : Branch) → is_either f ≡ true →
     Ready vs (suc k) rs (waiting_only b (f ∷ b.waiting)) → Ready vs k rs (settled (scope_of vs b) (sides f).0 b)
 ready-first vs k rs f b e r = side-ready vs k rs f (sides f).0 b r (first-side f (2 ^ 63)) (first-narrow f)
-    (λ n. (side-names (scope_of vs b) f (out-CForm f) refl n).0) (side-shapes f e).first
+    (λ n. (side-names (scope_of vs b) f (out-CForm f) refl n).0) (λ weight. first-small weight f) (side-shapes f e).first
 
 pub ready-second : (vs : List Variable) (k : ℕ) (rs : List Range) (f : CForm) (b : Branch) → is_either f ≡ true →
     Ready vs (suc k) rs (waiting_only b (f ∷ b.waiting)) → Ready vs k rs (settled (scope_of vs b) (sides f).1 b)
 ready-second vs k rs f b e r = side-ready vs k rs f (sides f).1 b r (second-side f (2 ^ 63)) (second-narrow f)
-    (λ n. (side-names (scope_of vs b) f (out-CForm f) refl n).1) (side-shapes f e).second
+    (λ n. (side-names (scope_of vs b) f (out-CForm f) refl n).1) (λ weight. second-small weight f) (side-shapes f e).second
 
 -- while something waits, a level is left
 pub ready-deep : (vs : List Variable) (k : ℕ) (rs : List Range) (f : CForm) (fs : List CForm) (b : Branch) →
@@ -361,8 +366,8 @@ all-last t xs x p q = list_all-append t xs (x ∷ []) ∙ ap (λ z. z && list_al
 cut-ready : (vs : List Variable) (k : ℕ) (rs qs : List Range) (b : Branch) (f : Fact) → Ready vs (suc k) rs b →
     b.waiting ≡ [] → suc (cuts_of qs) ≤ cuts_of rs → length qs ≡ length rs → list_all is_sound_range qs ≡ true →
     (is_exact 0 f.factors && is_within (length (scope_of vs b)) f.factors) ≡ true → is_slender f ≡ true →
-    AreBounded 0 qs (b.facts ++ f ∷ []) → Ready vs k qs (added b f)
-cut-ready vs k rs qs b f r w less long sound exact slender bounded =
+    AreBounded 0 qs (b.facts ++ f ∷ []) → Fixes vs qs (added b f) → Ready vs k qs (added b f)
+cut-ready vs k rs qs b f r w less long sound exact slender bounded fixes =
     let d = r.deep in
     let none : b.waiting ++ [] ≡ [] = ap (λ z. z ++ []) w in
     let c : cases_of (b.waiting ++ []) ≡ 0 = ap cases_of none in
@@ -378,6 +383,7 @@ cut-ready vs k rs qs b f r w less long sound exact slender bounded =
       bounded = bounded;
       closed = closed-added (scope_of vs b) b f
           (and_parts (is_exact 0 f.factors) (is_within (length (scope_of vs b)) f.factors) exact).1 r.closed;
+      fixes = fixes;
     }
 
 pub one-exact : (count place : ℕ) (s : ℤ) → not (int_eq s (pos 0)) ≡ true → place < count →
@@ -441,7 +447,7 @@ ready-low vs k rs b place at r w e =
     (one-exact (length (scope_of vs b)) place (negsuc 0) refl (scoped vs b place (omega (arith, i, l))))
     (one-slender place (negsuc 0) at refl refl (omega (arith, size)))
     (subst (λ j. AreBounded 0 (with_high rs place at) (b.facts ++ at_most j at ∷ [])) (zero-plus place)
-    (bounded-high 0 rs place at b.facts r.bounded))
+    (bounded-high 0 rs place at b.facts r.bounded)) (fixes-low vs rs b place at r.sound w e r.fixes)
   where
     zero-plus : (n : ℕ) → 0 + n ≡ n
     zero-plus n = omega arith
@@ -465,6 +471,7 @@ ready-high vs k rs b place at r w e =
     (let n = abs-neg (at +ℤ pos 1) in omega (arith, size, n)))
     (subst (λ j. AreBounded 0 (with_low rs place (at +ℤ pos 1)) (b.facts ++ at_least j (at +ℤ pos 1) ∷ []))
     (zero-plus place) (bounded-low 0 rs place (at +ℤ pos 1) b.facts r.bounded))
+    (fixes-high vs rs b place at r.sound w e r.fixes)
   where
     zero-plus : (n : ℕ) → 0 + n ≡ n
     zero-plus n = omega arith
@@ -553,6 +560,7 @@ ready-root o m =
       bounded = bounded-more 0 (ranges_of o.variables) (range_facts 0 o.variables)
           (outcome o.variables o.form).no.facts (bounded-same 0 o.variables (range_facts 0 o.variables) (λ f k. k));
       closed = first-closed o m;
+      fixes = root-fixes o m;
     }
 
 lt-true : (a b : ℕ) → a < b → nat_lt a b ≡ true

@@ -48,7 +48,8 @@ undone vs f b c d e n m p q h k r =
     r ∙ ap (λ (x : Branch). record { facts = take n x.facts; waiting = take m x.waiting; added = x.added }) (q ∙ p)
     ∙ ap (λ x. record { facts = x; waiting = take m (b.waiting ++ (outcome vs f).yes.waiting); added = b.added })
     (take-whole b.facts (outcome vs f).yes.facts n h)
-    ∙ ap (λ x. record { facts = b.facts; waiting = x; added = b.added }) (take-whole b.waiting (outcome vs f).yes.waiting m k)
+    ∙ ap (λ x. record { facts = b.facts; waiting = x; added = b.added })
+    (take-whole b.waiting (outcome vs f).yes.waiting m k)
 
 pub ruleset undo_laws = undone
 

@@ -316,11 +316,13 @@ one-adds f s w e =
     }
 
 or-waits : (f g : CForm) → can_wait (Or f g) ≡ true
-or-waits f g = ap (λ z. can_wait_in (out-CForm z)) (sym (rolls-Or f g)) ∙ ap can_wait_in (out-roll-CForm (CForm-F.Or f g))
+or-waits f g =
+    ap (λ z. can_wait_in (out-CForm z)) (sym (rolls-Or f g)) ∙ ap can_wait_in (out-roll-CForm (CForm-F.Or f g))
 
 least-waits : (t : CTerm) → Q t ≡ true → can_wait (AtLeast t) ≡ true
 least-waits t h =
-    ap (λ z. can_wait_in (out-CForm z)) (sym (rolls-AtLeast t)) ∙ ap can_wait_in (out-roll-CForm (CForm-F.AtLeast t)) ∙ h
+    ap (λ z. can_wait_in (out-CForm z)) (sym (rolls-AtLeast t))
+    ∙ ap can_wait_in (out-roll-CForm (CForm-F.AtLeast t)) ∙ h
 
 zero-waits : (t : CTerm) → Q t ≡ true → can_wait (Zero t) ≡ true
 zero-waits t h =
@@ -496,24 +498,6 @@ side-shapes_in f (CForm-F.Or g k) e h =
 
 pub side-shapes : (f : CForm) → is_either f ≡ true → SideShapes f (sides f).0 (sides f).1
 side-shapes f h = side-shapes_in f (out-CForm f) refl h
-
--- what waits and asks for no quotient is an `Or`
-either_in : (f : CForm) (x : CForm-F CForm CTerm) → out-CForm f ≡ x → can_wait_in x ≡ true →
-    (shapes f).yes.quotients ≡ 0 → is_either_in x ≡ true
-either_in f CForm-F.Top e h n = h
-either_in f CForm-F.Bottom e h n = h
-either_in f (CForm-F.AtLeast t) e h n =
-    let q = ap (λ (x : Shapes). x.yes.quotients) (shapes-out f (CForm-F.AtLeast t) e) in
-    let a = (asks-quotient t h).quotients in absurd (omega (arith, q, a, n))
-either_in f (CForm-F.Zero t) e h n =
-    let q = ap (λ (x : Shapes). x.yes.quotients) (shapes-out f (CForm-F.Zero t) e) in
-    let a = (asks-quotient t h).quotients in absurd (omega (arith, q, a, n))
-either_in f (CForm-F.Not g) e h n = h
-either_in f (CForm-F.And g k) e h n = h
-either_in f (CForm-F.Or g k) e h n = refl
-
-pub waits-either : (f : CForm) → can_wait f ≡ true → (shapes f).yes.quotients ≡ 0 → is_either f ≡ true
-waits-either f h n = either_in f (out-CForm f) refl h n
 
 -- what waits asks for a case
 some_in : (f : CForm) (x : CForm-F CForm CTerm) → out-CForm f ≡ x → can_wait_in x ≡ true → 1 ≤ (shapes f).yes.cases

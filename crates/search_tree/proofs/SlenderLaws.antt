@@ -139,7 +139,8 @@ plain-sparse n (z ∷ zs) h = by_test (int_eq z (pos 0)) (plain-sparse (suc n) z
         list_all is_plain_factor (cond t (sparse (suc n) zs) ((n, z) ∷ sparse (suc n) zs)) ≡ true
     by_test true e = e
     by_test false e =
-        ap (λ b. b && list_all is_plain_factor (sparse (suc n) zs)) (le-true (unsigned_abs z) (2 ^ 62) (omega (arith, h)))
+        ap (λ b. b && list_all is_plain_factor (sparse (suc n) zs))
+        (le-true (unsigned_abs z) (2 ^ 62) (omega (arith, h)))
         ∙ e
 
 line-slender : (l : Line) → sizes l.factors ≤ 2 ^ 62 → unsigned_abs l.constant ≤ 2 ^ 63 → is_slender (fact_of l) ≡

@@ -1,6 +1,7 @@
 -- A branch with a quotient taken is ready for the search.
 use Rattle.std.proofs.Common.{◌≡◌, ℕ, suc, ◌+◌, ◌≤◌, ◌^◌, max, nat_le, ℤ, pos}
-use Rattle.std.proofs.Common.{Bool, true, false, cond, not, ◌&&◌, Option, Some, None, List, [], ◌∷◌, ◌++◌, length, arith}
+use Rattle.std.proofs.Common.{Bool, true, false, cond, not, ◌&&◌, Option, Some, None, List, [], ◌∷◌, ◌++◌, length}
+use Rattle.std.proofs.Common.{arith}
 use Rattle.std.proofs.Common.{refl, ap, subst, ◌∙◌}
 use Rattle.std.specs.List.{list_all}
 use Rattle.std.specs.Int.RustNames.{unsigned_abs}
@@ -73,7 +74,7 @@ module _ (size : ℤ → ℕ) (v : ℕ) where
   without-lighter f r h = lighter-in f (out-CForm f) r refl h
 
 -- A quotient's facts.
-widths-append : (fs gs : List (ℕ × ℤ)) → widths (fs ++ gs) ≡ widths fs + widths gs
+pub widths-append : (fs gs : List (ℕ × ℤ)) → widths (fs ++ gs) ≡ widths fs + widths gs
 widths-append [] gs = omega arith
 widths-append (f ∷ fs) gs = let ih = widths-append fs gs in omega (arith, ih)
 

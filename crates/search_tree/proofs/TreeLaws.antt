@@ -122,7 +122,7 @@ module _ (vs : List Variable) (k l : ℕ) (b c : Branch) (some : 1 ≤ l) (any :
   quot-cost x y e = let u = ap units e ∙ units-append x.nodes (Node.Quot 1 ∷ []) in omega (arith, u)
 
   -- the node's unit is what the leaves have less
-  quot-room : l * room_of vs c + 1 ≤ l * room_of vs b
+  pub quot-room : l * room_of vs c + 1 ≤ l * room_of vs b
   quot-room =
       let p : l * suc (room_of vs c) ≤ l * room_of vs b = mul-le-mul (le_refl l) (room-quot vs b c fewer more) in
       omega (arith, p, some)

@@ -16,5 +16,3 @@ sum-next values fs left d sum next h k e n =
     n ∙ ap (λ z. f.1 *ℤ number_at values f.0 +ℤ z) e ∙ ap (λ m. f.1 *ℤ number_at values f.0 +ℤ sum_of values
     (drop m fs)) (sym one)
     ∙ sym (ap (sum_of values) (drop-cons fs (left - 1) d (omega arith)))
-
-pub ruleset sum_laws = sum-next

@@ -3,7 +3,7 @@ use Rattle.std.specs.Prelude.{◌≡◌, ℕ, zero, suc, ◌+◌, ◌-◌, ◌*�
 use Rattle.std.specs.Prelude.{Bool, true, false, ◌&&◌, Option, Some, None, Ok, Err, List, [], ◌∷◌, ◌++◌, length, take}
 use Rattle.std.specs.Prelude.{slice_get}
 use Rattle.std.specs.List.{list_all}
-use Rattle.std.specs.Int.RustNames.{int_le, unsigned_abs}
+use Rattle.std.specs.Int.RustNames.{unsigned_abs}
 use Rattle.core_terms.specs.declared.trees.Range.{Range}
 use Rattle.obligations.specs.declared.branches.Variable.{Variable}
 use Rattle.obligations.specs.declared.branches.Branch.{Branch}
@@ -85,6 +85,12 @@ abbrev pub AreTaken : List ℕ → List Variable → ℕ → List Fact → Type 
 AreTaken ws vs zero facts = Unit {0}
 AreTaken ws vs (suc n) facts = AreTaken ws vs n facts × IsTaken ws (scope vs n) facts
 
+-- what each added variable of a branch stands for, and weights with which all values are small
+pub record Fixes (vs : List Variable) (rs : List Range) (b : Branch) : Type 0 where
+  pub weights : List ℕ
+  pub weighed : AreWeights vs rs b weights
+  pub taken : AreTaken weights vs b.added b.facts
+
 -- what a branch of the plain tree meets, with this many levels left: for each quotient that was taken two are kept
 pub record Ready (vs : List Variable) (k : ℕ) (rs : List Range) (b : Branch) : Type 0 where
   pub deep : cases_of b.waiting + cuts_of rs + 2 * b.added ≤ k
@@ -97,13 +103,7 @@ pub record Ready (vs : List Variable) (k : ℕ) (rs : List Range) (b : Branch) :
   pub sound : list_all is_sound_range rs ≡ true
   pub bounded : AreBounded 0 rs b.facts
   pub closed : names.IsClosed (scope_of vs b) b
-
--- what an added variable of a branch stands for, and weights with which all values are small: of use where some answer
--- is to be shown to exist
-pub record Fixes (vs : List Variable) (rs : List Range) (b : Branch) : Type 0 where
-  pub weights : List ℕ
-  pub weighed : AreWeights vs rs b weights
-  pub taken : AreTaken weights vs b.added b.facts
+  pub fixes : Fixes vs rs b
 
 -- some branch is left
 abbrev pub IsOpen : Option (List OpenBranch) → Type 0
@@ -178,9 +178,6 @@ abbrev pub EndsLeaf : List Variable → Branch → Trail → Trail → Ended →
 EndsLeaf vs b old new (Ended.Refuted values) = Met vs b values
 EndsLeaf vs b old new ended =
     Tried (length (scope_of vs b)) (64 + 2 * b.added) (room_of vs b) b.facts old new ended
-
-abbrev pub IsNotNegative : ℤ → Type 0
-IsNotNegative z = int_le (pos 0) z ≡ true
 
 abbrev pub found_of : Ended → List Node → Found
 found_of Ended.Closed nodes = Found.Proved (record { nodes = nodes })

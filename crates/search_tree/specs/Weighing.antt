@@ -1,5 +1,6 @@
 -- How far from 0 the values of what is divided can lie.
-use Rattle.std.specs.Prelude.{◌≡◌, ℕ, zero, suc, ◌+◌, ◌*◌, ◌^◌, max, nat_le, ℤ, Bool, true, false, ◌&&◌, List, [], ◌∷◌}
+use Rattle.std.specs.Prelude.{◌≡◌, ℕ, zero, suc, ◌+◌, ◌*◌, ◌^◌, ◌<◌, max, nat_le, ℤ, Bool, true, false, ◌&&◌, List}
+use Rattle.std.specs.Prelude.{[], ◌∷◌}
 use Rattle.std.specs.Prelude.{length}
 use Rattle.std.specs.List.{list_all}
 use Rattle.std.specs.Int.RustNames.{unsigned_abs}
@@ -56,9 +57,10 @@ weight_in [] n = 1
 weight_in (w ∷ ws) zero = w
 weight_in (w ∷ ws) (suc n) = weight_in ws n
 
--- the weight of a slot (false) or a parameter (true), where the variables have these
-abbrev pub weight_of : List Variable → List ℕ → Bool → ℕ → ℕ
-weight_of vs ws param n = weight_in ws (place_of vs param n)
+-- a weight of slots (false) and of parameters (true) gives the variables these weights
+abbrev pub Weighs : List Variable → List ℕ → (Bool → ℕ → ℕ) → Type 0
+Weighs vs ws weight =
+    (param : Bool) (n : ℕ) → place_of vs param n < length vs → weight param n ≡ weight_in ws (place_of vs param n)
 
 -- the weights of a linear form's variables, each as often as its factor says; the first has this place
 abbrev pub factors_weight : List ℕ → ℕ → List ℤ → ℕ
@@ -84,9 +86,11 @@ are_dividends_small weight f = nat_le (form_dividends weight f) (2 ^ 62)
 abbrev pub is_weight : ℕ → Bool
 is_weight w = nat_le 1 w && nat_le w (2 ^ 62)
 
--- weights of a branch's variables: those of an obligation with these ranges, and the added ones
+-- Weights of a branch's variables: those of an obligation with these ranges, and the added ones. With them nothing
+-- that is divided in a waiting formula weighs more than 2^62.
 pub record AreWeights (vs : List Variable) (rs : List Range) (b : Branch) (ws : List ℕ) : Type 0 where
   pub long : length ws ≡ length (scope_of vs b)
   pub limits : list_all is_weight ws ≡ true
   pub ranges : are_ranges_within ws 0 rs ≡ true
-  pub waiting : list_all (are_dividends_small (weight_of (scope_of vs b) ws)) b.waiting ≡ true
+  pub waiting : (weight : Bool → ℕ → ℕ) → Weighs (scope_of vs b) ws weight →
+      list_all (are_dividends_small weight) b.waiting ≡ true

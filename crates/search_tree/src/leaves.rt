@@ -185,7 +185,7 @@ fn leaves_of_quot(
 {
     let next = next_param(scope) as u32;
     let Some(replaced) = without_quotient(alloc, next, form)? else {
-        return Err(AllocError);
+        unreachable!()
     };
     let leaves = leaves_without(alloc, vs, rest, ranges, wanted, &replaced, branch)?;
     Ok(leaves)

@@ -2,11 +2,11 @@
 #![tactic(auto)]
 
 mod ends;
+mod fixing;
 mod laws;
 mod leaf;
 mod leaves;
 mod plain_tree;
-mod values;
 
 pub use ends::search_ends;
 pub use laws::enough_laws;
@@ -15,4 +15,3 @@ pub use plain_tree::{
     Ended, Found, Halves, Trail, add_above, add_at_most, cut_back, finish, is_allowed, is_either,
     put_node, search_tree, settle_first, settle_second, split_node,
 };
-pub use values::are_met;

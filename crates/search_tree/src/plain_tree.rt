@@ -331,7 +331,8 @@ fn refute_without(
     requires ready { Ready vs.now rest ranges.now
         (with_quotient (scopes.scope_of vs.now branch.old) replaced.now branch.old) }
     ensures ends { IfOk result (λ e. Ends vs.now rest
-        (plain_leaves vs.now rest ranges.now (with_quotient (scopes.scope_of vs.now branch.old) replaced.now branch.old))
+        (plain_leaves vs.now rest ranges.now
+        (with_quotient (scopes.scope_of vs.now branch.old) replaced.now branch.old))
         (with_quotient (scopes.scope_of vs.now branch.old) replaced.now branch.old) trail.old trail.new e) }
     ensures branch { IfOk result (λ e. IsClosed e → branch.new ≡ branch.old) }
 {
@@ -370,7 +371,7 @@ fn refute_quot(
 {
     let next = next_param(scope) as u32;
     let Some(replaced) = without_quotient(alloc, next, form)? else {
-        return Err(AllocError);
+        unreachable!()
     };
     if !put_node(trail, Node::Quot(1))? {
         return Ok(Ended::Stopped);

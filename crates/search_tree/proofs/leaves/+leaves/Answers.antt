@@ -13,6 +13,7 @@ use Rattle.search_tree.proofs.QuotLaws.{quotient-branch, quotient-scope, undone-
 use Rattle.search_tree.proofs.CycleLaws.{whole-again, empty-list, one-less, replaced-is, quot-counted}
 use Rattle.search_tree.proofs.LeavesLaws.{few-counted, reached-leaf, whole-leaf, opened-leaves, halved-leaves}
 use Rattle.search_tree.proofs.LeavesLaws.{quotient-counted, counted-back}
+use Rattle.search_tree.proofs.WaitLaws.{quotient-found}
 use Rattle.search_tree.proofs.leaves.+leaves.Goals as goal
 
 pub leaves_of_halves-low_leaves-requires : goal.leaves_of_halves-low_leaves-requires
@@ -208,6 +209,11 @@ some_leaves-some_out_of_reach-requires-clause-exact t c =
 pub open_some_leaves-overflow_sub-rest : goal.open_some_leaves-overflow_sub-rest
 open_some_leaves-overflow_sub-rest t c =
     ready-some c.args.vs.now c.args.rest c.args.ranges.now c.args.branch.now c.requires.ready (omega arith)
+
+pub leaves_of_quot-unreachable-requires : goal.leaves_of_quot-unreachable-requires
+leaves_of_quot-unreachable-requires t c =
+    quotient-found c.args.vs.now (suc c.args.rest) c.args.ranges.now c.args.form.now c.args.branch.now _ _
+    c.requires.ready c.requires.either c.in_ok-replaced.ensures c.in_default.is
 
 pub leaves_of_quot-overflow_cast-next : goal.leaves_of_quot-overflow_cast-next
 leaves_of_quot-overflow_cast-next t c =

@@ -16,6 +16,7 @@ use Rattle.search_tree.proofs.CycleLaws.{tried-some, empty-list, taken, not-take
 use Rattle.search_tree.proofs.CycleLaws.{sides-stopped, sides-first, sides-met, sides-second, halves-stopped}
 use Rattle.search_tree.proofs.CycleLaws.{halves-first, halves-met, halves-second, whole-again, one-less, opened-ends}
 use Rattle.search_tree.proofs.CycleLaws.{halved-ends, quotient-ends, put-back, replaced-is, quot-stopped, quot-went}
+use Rattle.search_tree.proofs.WaitLaws.{quotient-found}
 use Rattle.search_tree.proofs.plain_tree.+search.Goals as goal
 
 pub refute_halves-returns-then-not-branch-clause-ends : goal.refute_halves-returns-then-not-branch-clause-ends
@@ -336,6 +337,11 @@ refute_open-returns-in-None-clause-ends t c =
     c.refute_leaf.new.trail e))
     (sym (leaf-count c.args.vs.now c.args.rest c.args.ranges.now c.args.branch.now c.requires.reach
     (empty-list c.args.branch.now.waiting (omega arith)) c.in-None.ensures)) c.refute_leaf.ensures
+
+pub refute_quot-unreachable-requires : goal.refute_quot-unreachable-requires
+refute_quot-unreachable-requires t c =
+    quotient-found c.args.vs.now (suc c.args.rest) c.args.ranges.now c.args.form.now c.args.branch.now _ _
+    c.requires.ready c.requires.either c.in_ok-replaced.ensures c.in_default.is
 
 pub refute_quot-overflow_cast-next : goal.refute_quot-overflow_cast-next
 refute_quot-overflow_cast-next t c =
