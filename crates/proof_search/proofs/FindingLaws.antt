@@ -1,49 +1,23 @@
 -- What the searches find.
-use Rattle.std.proofs.Common.{◌≡◌, ℕ, ℤ, not, ◌+◌, ◌-◌, ◌*◌, ◌≤◌, ◌<◌, min, List, []}
-use Rattle.std.proofs.Common.{length, mul-le-mul, le_refl, arith, refl, sym, ap, subst, ◌∙◌}
+use Rattle.std.proofs.Common.{◌≡◌, ℕ, ◌+◌, ◌-◌, ◌*◌, ◌≤◌, ◌<◌, min, true, Ok, List, []}
+use Rattle.std.proofs.Common.{length, mul-le-mul, le_refl, arith}
 use Rattle.std.proofs.Math.Nat.{mul-le-mul_right}
-use Rattle.obligations.specs.declared.branches.Branch.{Branch}
+use Rattle.std.specs.List.{list_all}
 use Rattle.obligations.specs.declared.branches.Obligation.{Obligation}
-use Rattle.obligations.specs.declared.branches.Variable.{Variable}
 use Rattle.obligations.specs.declared.certificates.Node.{Node}
 use Rattle.obligations.specs.Certificates.{units}
 use Rattle.obligations.specs.Obligations.{IsObligation}
-use Rattle.obligations.specs.Opening.{in_ranges, first_branch}
-use Rattle.obligations.specs.Settling.{form_at}
-use Rattle.obligations.proofs.OpeningLaws.{first-holds}
-use Rattle.std.proofs.lemmas.Bool.{and_parts, not-true}
+use Rattle.obligations.specs.Opening.{first_branch}
 use Rattle.obligations.specs.Plain.{ranges_of, plain_leaves, leaf_units_of, quotients_in, enough}
-use Rattle.obligations.specs.Scopes.{scope_of}
-use Rattle.obligations.proofs.NumberLaws.{obligation-variables, obligation-load}
-use Rattle.search_tree.specs.declared.plain_tree.Trail.{Trail}
-use Rattle.search_tree.specs.declared.plain_tree.Ended.{Ended}
+use Rattle.obligations.proofs.NumberLaws.{obligation-variables}
+use Rattle.certificate_check.specs.Refutation.{walk_from_root}
+use Rattle.certificate_check.specs.Trees.{is_whole}
 use Rattle.search_tree.specs.declared.plain_tree.Found.{Found}
-use Rattle.search_tree.specs.Searching.{root, Proof, Counterexample, SearchAnswers, Met}
-use Rattle.search_tree.proofs.ReadyLaws.{leaves-some, ready-root}
+use Rattle.search_tree.specs.Searching.{Proof, SearchAnswers, is_found_node}
+use Rattle.search_tree.proofs.ReadyLaws.{leaves-some}
 use Rattle.search_tree.proofs.EnoughLaws.{enough-below}
-use Rattle.search_tree.proofs.RootLaws.{left-walk, left-whole, no-quotients, root-met}
-use Rattle.proof_search.specs.Guided.{Guided, Closing, Guides, IsWholeWalk, chosen_of}
-
--- the guided search may begin
-root-guided : (o : Obligation) → IsObligation o → Guided o.variables 960 (first_branch o)
-root-guided o m =
-    let r = ready-root o m in record { light = r.light; deep = omega arith; closed = r.closed }
-
-pub root-ready : (o : Obligation) (vs : List Variable) (b : Branch) → IsObligation o → vs ≡ o.variables →
-    b ≡ first_branch o → Guided vs 960 b
-root-ready o vs b m p q =
-    subst (λ z. Guided z 960 b) (sym p) (subst (Guided o.variables 960) (sym q) (root-guided o m))
-
-pub root-scope : (o : Obligation) (vs : List Variable) (b : Branch) → b ≡ first_branch o → vs ≡ scope_of vs b
-root-scope o vs b q = sym (ap (scope_of vs) q)
-
-pub root-guides : (o : Obligation) (vs : List Variable) (b : Branch) (x y : Trail) (e : Ended) → vs ≡ o.variables → b
-    ≡ first_branch o →
-    Guides vs 960 b x y e → Guides o.variables 960 (first_branch o) x y e
-root-guides o vs b x y e p q g =
-    subst (λ c. Guides o.variables 960 c x y e) q (subst (λ z. Guides z 960 b x y e) p g)
-
-pub ruleset root_laws = (obligation-variables, obligation-load, root-ready, root-scope, root-guides)
+use Rattle.proof_search.specs.Judging.{IsWholeWalk, chosen_of}
+use Rattle.proof_search.proofs.PlainWalks.{plain-walked}
 
 proof-of : (o : Obligation) (budget : ℕ) (nodes : List Node) → IsObligation o → IsWholeWalk o nodes → units nodes ≤
     budget
@@ -119,28 +93,10 @@ chosen-answers o budget total nodes (Found.Budget c) m f t h z a =
 
 pub ruleset found_laws = (obligation-variables, enough-found, chosen-answers)
 
--- what a closed root says
-pub closed-found : (o : Obligation) (budget spare : ℕ) (nodes : List Node) →
-    Closing o.variables 960 (first_branch o) (record { nodes = []; spare = budget })
-    (record { nodes = nodes; spare = spare }) → IsWholeWalk o nodes
-closed-found o budget spare nodes c = record {
-  whole = left-whole o.variables nodes (root o) (c.closes (root o) [] refl);
-  walked = left-walk o.variables nodes (root o) [] 0 (c.closes (root o) [] refl);
-  found = c.found refl;
-  plain = λ none. c.plain (no-quotients o none) refl;
-}
+-- what the checker takes
+pub walked-whole : (o : Obligation) (nodes : List Node) → is_whole nodes 1 ≡ true →
+    list_all is_found_node nodes ≡ true → walk_from_root 1024 o nodes ≡ Ok [] → IsWholeWalk o nodes
+walked-whole o nodes w f e =
+    record { whole = w; walked = e; found = f; plain = plain-walked o nodes w e f }
 
-pub closed-units : (o : Obligation) (budget spare : ℕ) (nodes : List Node) →
-    Closing o.variables 960 (first_branch o) (record { nodes = []; spare = budget })
-    (record { nodes = nodes; spare = spare }) →
-    (spare ≤ budget) × (budget - spare ≡ units nodes)
-closed-units o budget spare nodes c = let s = c.spent in (omega (arith, s), omega (arith, s))
-
-pub met-answers : (o : Obligation) (values : List ℤ) → Met o.variables (first_branch o) values → Counterexample o
-    values
-met-answers o values c =
-    let parts = and_parts (in_ranges o.variables values) (not (form_at o.variables values o.form))
-    (sym (first-holds o values c.long) ∙ root-met o values c) in
-    record { inside = parts.0; fails = not-true (form_at o.variables values o.form) parts.1 }
-
-pub ruleset ended_laws = (closed-found, closed-units, met-answers)
+pub ruleset judged_laws = walked-whole

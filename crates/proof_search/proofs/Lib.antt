@@ -1,3 +1,2 @@
-pub mod FormLaws
-pub mod GuidedLaws
 pub mod FindingLaws
+pub mod PlainWalks

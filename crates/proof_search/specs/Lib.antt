@@ -1,1 +1,1 @@
-pub mod Guided
+pub mod Judging

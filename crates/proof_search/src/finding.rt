@@ -1,37 +1,23 @@
-//! The search. A certificate that the guided search found is handed out only where it is no larger than
-//! the plain tree allows.
-ghost use Rattle.std.specs.Prelude.{◌≡◌, ◌+◌, ◌-◌, ◌≤◌, ◌<◌, ◌^◌, [], length, true, false, IfOk};
+//! The search. A certificate that is proposed is handed out only where the checker takes it, and where it is no larger
+//! than the plain tree allows.
+ghost use Rattle.std.specs.Prelude.{◌≡◌, ℕ, ◌+◌, ◌-◌, ◌≤◌, ◌<◌, ◌^◌, length, true, false, IfOk, IfSome};
 ghost use Rattle.obligations.specs.Certificates.{units};
 ghost use Rattle.obligations.specs.Obligations.{AreVariables, IsObligation};
-ghost use Rattle.obligations.specs.Opening.{first_branch};
 ghost use Rattle.obligations.specs.Plain.{enough};
 ghost use Rattle.search_tree.specs.Searching.{SearchAnswers};
-ghost use Rattle.proof_search.specs.Guided.{Guides, chosen_of, IsWholeWalk};
+ghost use Rattle.proof_search.specs.Judging.{chosen_of, IsWholeWalk};
 
-use crate::guided::guide;
-use crate::watch::new_watch;
-use obligations::{Cert, Node, Obligation, Variable, has_room, open_branch};
-use search_tree::{Ended, Found, Trail, count_leaves, search_tree};
+use crate::nodes::{are_found, is_tree};
+use crate::values::{are_inside, form_at};
+use certificate_check::{CertError, check_cert};
+use conflict_search::{Proposal, propose};
+use obligations::{Cert, Node, Obligation, Variable, units};
+use search_tree::{Found, count_leaves, search_tree};
 use std::alloc::{AllocError, Global};
 use unity_base::Seq;
 
-/// The most units of a guided search: where it needs more, the plain tree is searched.
-const GUIDED: u64 = 131_072;
-
-/// Guides the search of an obligation's first branch. Gives up where too few variables can be added.
-#[tactic(auto, using(crate::proofs::FindingLaws::root_laws))]
-fn guide_root(alloc: Global, o: &Obligation, trail: &mut Trail) -> Result<Ended, AllocError>
-    requires { IsObligation o.now }
-    ensures { IfOk result (Guides o.now.variables 960 (first_branch o.now) trail.old trail.new) }
-{
-    if !has_room(o) {
-        return Ok(Ended::Stopped);
-    }
-    let mut branch = open_branch(alloc, o)?;
-    let vs = o.variables.as_slice();
-    let mut watch = new_watch(alloc, vs.len())?;
-    guide(alloc, vs, vs, 960, &mut watch, &mut branch, trail)
-}
+/// How many looks a proposal may take.
+const LOOKS: u32 = 2_000_000;
 
 /// What a search of the plain tree found, and in place of an ended budget the certificate of these nodes.
 fn chosen(found: Found, nodes: Seq<Node>) -> Found
@@ -90,26 +76,58 @@ fn allowed(
     Ok(chosen(found, nodes))
 }
 
-/// What the guided search found, or the search along the plain tree.
-#[tactic(auto, using(crate::proofs::FindingLaws::ended_laws))]
-fn found_by(
+/// A certificate of nodes that were proposed, or a smaller one. `None` where they don't refute the obligation within
+/// the budget.
+#[tactic(auto, using(crate::proofs::FindingLaws::judged_laws))]
+fn judged(
     alloc: Global,
     o: &Obligation,
     budget: u64,
-    limit: u64,
-    ended: Ended,
-    trail: Trail,
-) -> Result<Found, AllocError>
-    requires obligation { IsObligation o.now }
-    requires limit { limit ≤ budget }
-    requires end { Guides o.now.variables 960 (first_branch o.now) (record { nodes = []; spare = limit }) trail ended }
-    ensures { IfOk result (SearchAnswers o.now budget) }
+    nodes: Seq<Node>,
+) -> Result<Option<Found>, AllocError>
+    requires { IsObligation o.now }
+    ensures { IfOk result (λ found. IfSome found (SearchAnswers o.now budget)) }
 {
-    let Trail { nodes, spare } = trail;
-    match ended {
-        Ended::Closed => allowed(alloc, o, budget, limit - spare, nodes),
-        Ended::Refuted(values) => Ok(Found::Refuted { values }),
-        Ended::Stopped => search_tree(alloc, o, budget),
+    let cert = Cert { nodes };
+    let total = units(&cert);
+    if total > budget || total == u64::MAX {
+        return Ok(None);
+    }
+    let nodes = cert.nodes.as_slice();
+    if !is_tree(nodes) || !are_found(nodes) {
+        return Ok(None);
+    }
+    match check_cert(alloc, o, &cert, 1024) {
+        Ok(()) => {
+            let Cert { nodes } = cert;
+            let found = allowed(alloc, o, budget, total, nodes)?;
+            Ok(Some(found))
+        }
+        Err(CertError::Memory) => Err(AllocError),
+        Err(CertError::Fault { .. }) => Ok(None),
+    }
+}
+
+/// Values that were proposed, where they make the obligation's form false.
+fn tried(o: &Obligation, values: Seq<i64>) -> Option<Found>
+    ensures { (budget : ℕ) → IfSome result (SearchAnswers o.now budget) }
+{
+    let vs = o.variables.as_slice();
+    match form_at(vs, values.as_slice(), &o.form) {
+        Some(false) if are_inside(vs, values.as_slice()) => Some(Found::Refuted { values }),
+        _ => None,
+    }
+}
+
+/// What was proposed, where it is right.
+fn proposed(alloc: Global, o: &Obligation, budget: u64) -> Result<Option<Found>, AllocError>
+    requires { IsObligation o.now }
+    ensures { IfOk result (λ found. IfSome found (SearchAnswers o.now budget)) }
+{
+    match propose(alloc, o, LOOKS)? {
+        Some(Proposal::Nodes(nodes)) => judged(alloc, o, budget, nodes),
+        Some(Proposal::Values(values)) => Ok(tried(o, values)),
+        None => Ok(None),
     }
 }
 
@@ -120,11 +138,8 @@ pub fn search(alloc: Global, o: &Obligation, budget: u64) -> Result<Found, Alloc
     requires { IsObligation o.now }
     ensures { IfOk result (SearchAnswers o.now budget) }
 {
-    let limit = budget.min(GUIDED);
-    let mut trail = Trail {
-        nodes: Seq::new(alloc),
-        spare: limit,
-    };
-    let ended = guide_root(alloc, o, &mut trail)?;
-    found_by(alloc, o, budget, limit, ended, trail)
+    match proposed(alloc, o, budget)? {
+        Some(found) => Ok(found),
+        None => search_tree(alloc, o, budget),
+    }
 }
