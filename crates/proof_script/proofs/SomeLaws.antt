@@ -1,5 +1,5 @@
--- Where no obligation has a quotient, a search always finds something: certificates, values at which an obligation is
--- false, too small a budget, or a rule that fails.
+-- A search always finds something: certificates, values at which an obligation is false, too small a budget, or a rule
+-- that fails.
 use Rattle.std.proofs.Common.{◌≡◌, ℕ, ◌+◌, ◌-◌, ◌≤◌, Bool, true, false, List, [], ◌∷◌, ◌++◌}
 use Rattle.std.proofs.Common.{length, Option, Some, None, Result, Ok, Err, refl, sym, ap, ◌∙◌, subst, append_assoc}
 use Rattle.std.proofs.Common.{arith}
@@ -15,7 +15,7 @@ use Rattle.obligations.specs.Certificates.{units}
 use Rattle.obligations.specs.Obligations.{IsObligation}
 use Rattle.obligations.specs.declared.branches.Obligation.{Obligation}
 use Rattle.obligations.specs.declared.certificates.Cert.{Cert}
-use Rattle.rules_table.proofs.EachLaws.{Each, each_parts, from_all}
+use Rattle.rules_table.proofs.EachLaws.{Each}
 use Rattle.rules_table.specs.Conclusion.{Conclusion}
 use Rattle.rules_table.specs.Walk.{Around, has_defined, program_of, rule_of}
 use Rattle.safety_rules.specs.Answers.{derived_of}
@@ -24,7 +24,6 @@ use Rattle.rules_steps.proofs.GoalLaws.{IsStepRow, told_step}
 use Rattle.rules_steps.specs.Starts.{document_seen}
 use Rattle.rules_steps.specs.Using.{BookFits}
 use Rattle.search_tree.specs.Ends.{Ending, proved, refuted, short, SearchEnds}
-use Rattle.search_tree.specs.Searching.{Proof}
 use Rattle.proof_script.specs.declared.finding.Finding.{Finding}
 use Rattle.proof_script.specs.declared.finding.Halt.{Halt}
 use Rattle.proof_script.specs.declared.plans.Plan.{Plan}
@@ -33,7 +32,7 @@ use Rattle.proof_script.specs.declared.plans.ScriptError.{ScriptError}
 use Rattle.proof_script.specs.declared.plans.StepFault.{StepFault}
 use Rattle.proof_script.specs.declared.refuting.StepName.{StepName}
 use Rattle.proof_script.specs.Laws.{IsAnswered, SomeFinding}
-use Rattle.proof_script.specs.Proving.{Finds, IsWithoutQuotient}
+use Rattle.proof_script.specs.Proving.{Finds}
 use Rattle.proof_script.specs.Reaching.{Reach, by_row, end_reach, further, proof_reach, proofs_reach, reach_of}
 use Rattle.proof_script.specs.Reaching.{reached, step_reach, steps_reach}
 use Rattle.proof_script.specs.Searches.{HasCertificates, Searches, IsUnderWay, SearchGoes}
@@ -53,19 +52,6 @@ Goes_on (Err (Halt.Step fault)) = Unit {0}
 Goes_on (Err (Halt.Refuted name number)) = Unit {0}
 Goes_on (Err (Halt.Short name number)) = Unit {0}
 Goes_on (Err Halt.Memory) = ⊥
-
--- no obligation has a quotient
-abbrev Without : List Obligation → Type 0
-Without = Each IsWithoutQuotient
-
--- none of those that are reached has
-abbrev ReachesWithout : Reach → Type 0
-ReachesWithout r = Without (reached r).obligations
-
-without_part : (p q : Plan) → Extends p q → Without q.obligations → Without p.obligations
-without_part p q more without =
-    (each_parts IsWithoutQuotient p.obligations more.obligations.0
-    (subst (λ os. Without os) more.obligations.1 without)).0
 
 record Among (name : StepName) (before os : List Obligation) (old : Finding) : Type 0 where
   pub result : Result (Unit {0}) Halt
@@ -163,17 +149,17 @@ module _ (ends : SearchEnds) where
             (subst (λ (xs : List Obligation). Searches (Err halt) name xs (o ∷ []) old new) (no_more before) s);
       }
 
-  each_end : (name : StepName) (before os : List Obligation) (old : Finding) → Each IsObligation os → Without os →
+  each_end : (name : StepName) (before os : List Obligation) (old : Finding) → Each IsObligation os →
       HasCertificates before old → Among name before os old
-  each_end name before [] old are without h = record {
+  each_end name before [] old are h = record {
     result = Ok tt;
     new = old;
     goes_on = tt;
     searches = (subst (λ (xs : List Obligation). HasCertificates xs old) (no_more before) h, refl);
   }
-  each_end name before (o ∷ os) old are without h =
-      then_each name before os o old (by_end name before o old h are.0 (ends o old.left are.0 without.0))
-      (λ new f. each_end name (before ++ o ∷ []) os new are.1 without.1 f)
+  each_end name before (o ∷ os) old are h =
+      then_each name before os o old (by_end name before o old h are.0 (ends o old.left are.0))
+      (λ new f. each_end name (before ++ o ∷ []) os new are.1 f)
 
   -- steps
 
@@ -186,9 +172,9 @@ module _ (ends : SearchEnds) where
 
   module _ (seen : Around) (all : All IsSlot seen.slots) where
     step_row : (c : CProgram) (s : CStep) (plan : Plan) (old : Finding) → IsProgram seen.slots c → IsStep seen.slots s →
-        BookFits seen.slots plan.records → IsUnderWay plan old → ReachesWithout (step_reach seen c s plan) →
-        (r : Result Conclusion Code) → rule_of seen c s plan.records ≡ r → Along old (step_reach seen c s plan)
-    step_row c s plan old program good fits way without (Err code) e =
+        BookFits seen.slots plan.records → IsUnderWay plan old → (r : Result Conclusion Code) →
+        rule_of seen c s plan.records ≡ r → Along old (step_reach seen c s plan)
+    step_row c s plan old program good fits way (Err code) e =
         let fault : StepFault = rule_fault c.name (Some s.name) code in
         let is : step_reach seen c s plan ≡ Err (record { plan = plan; fault = fault }) =
         reach-is seen c s plan ∙ ap (λ (r : Result Conclusion Code). by_row seen.slots c.name s.name plan r) e in
@@ -199,16 +185,14 @@ module _ (ends : SearchEnds) where
           goes_on = tt;
           follows = stops_at plan old fault (step_reach seen c s plan) way is;
         }
-    step_row c s plan old program good fits way without (Ok x) e =
+    step_row c s plan old program good fits way (Ok x) e =
         let d : Derived = derived_of seen.slots x in
         let name : StepName = record { program = c.name; step = s.name } in
         let told : IsStepRow seen.slots c s x = told_step seen c s plan.records all program good fits x e in
         let is : step_reach seen c s plan ≡ Ok (grown plan d) =
         reach-is seen c s plan ∙ ap (λ (r : Result Conclusion Code). by_row seen.slots c.name s.name plan r) e in
-        let all : Without (plan.obligations ++ d.obligations) = subst ReachesWithout is without in
         by_search d name told.program told.name is
-        (each_end name plan.obligations d.obligations old told.obligations
-        (each_parts IsWithoutQuotient plan.obligations d.obligations all).1 way.found)
+        (each_end name plan.obligations d.obligations old told.obligations way.found)
       where
         by_result : (d : Derived) (name : StepName) → d.made.program ≡ name.program → d.made.name ≡ name.step →
             step_reach seen c s plan ≡ Ok (grown plan d) → (new : Finding) (r : Result (Unit {0}) Halt) → Goes_on r →
@@ -237,16 +221,10 @@ module _ (ends : SearchEnds) where
 
     -- one part, and what follows it
     joined : (plan : Plan) (old : Finding) (one whole : Reach) (f : Plan → Reach) → whole ≡ further one f →
-        ((q : Plan) → Extends q (reached (f q))) → ReachesWithout whole → (ReachesWithout one → Along old one) →
-        ((p : Plan) (new : Finding) → one ≡ Ok p → ReachesWithout (f p) → IsUnderWay p new → Along new (f p)) →
-        Along old whole
-    joined plan old one whole f is extends without first next = by_along (first without_one)
+        ((q : Plan) → Extends q (reached (f q))) → Along old one →
+        ((p : Plan) (new : Finding) → one ≡ Ok p → IsUnderWay p new → Along new (f p)) → Along old whole
+    joined plan old one whole f is extends first next = by_along first
       where
-        without_one : ReachesWithout one
-        without_one =
-            without_part (reached one) (reached (further one f)) (on_extends one f extends)
-            (subst ReachesWithout is without)
-
         carried : (p : Plan) (mid : Finding) → one ≡ Ok p → mid.budget ≡ old.budget → (new : Finding) (q : Plan)
             (r : Result (Unit {0}) Halt) → Goes_on r → SearchGoes r mid q new (f p) → Along old whole
         carried p mid e budget new q (Ok done) g h = record {
@@ -269,12 +247,9 @@ module _ (ends : SearchEnds) where
             Along old whole
         then_next p mid e budget a = carried p mid e budget a.new a.plan a.result a.goes_on a.follows
 
-        without_next : (p : Plan) → one ≡ Ok p → ReachesWithout (f p)
-        without_next p e = subst ReachesWithout (is ∙ reach_went one p f e) without
-
         by_first : (new : Finding) (q : Plan) (r : Result (Unit {0}) Halt) → Goes_on r → SearchGoes r old q new one →
             Along old whole
-        by_first new q (Ok done) g h = then_next q new h.0 h.2 (next q new h.0 (without_next q h.0) h.1)
+        by_first new q (Ok done) g h = then_next q new h.0 h.2 (next q new h.0 h.1)
         by_first new q (Err halt) g h = record {
           result = Err halt;
           plan = q;
@@ -290,21 +265,21 @@ module _ (ends : SearchEnds) where
 
     steps_end : (c : CProgram) (steps : List CStep) (plan : Plan) (old : Finding) → IsProgram seen.slots c →
         All (IsStep seen.slots) steps → BookFits seen.slots plan.records → IsUnderWay plan old →
-        ReachesWithout (steps_reach seen c steps plan) → Along old (steps_reach seen c steps plan)
-    steps_end c [] plan old program good fits way without = record {
+        Along old (steps_reach seen c steps plan)
+    steps_end c [] plan old program good fits way = record {
       result = Ok tt;
       plan = plan;
       new = old;
       goes_on = tt;
       follows = (reaches-none seen c plan, way, refl);
     }
-    steps_end c (s ∷ rest) plan old program good fits way without =
+    steps_end c (s ∷ rest) plan old program good fits way =
         let head : IsStep seen.slots s = All-head (IsStep seen.slots) s rest good in
         joined plan old (step_reach seen c s plan) (steps_reach seen c (s ∷ rest) plan) (steps_reach seen c rest)
-        (reaches-more seen c s rest plan) (steps_extend seen c rest) without
-        (λ first. step_row c s plan old program head fits way first (rule_of seen c s plan.records) refl)
-        (λ p new e more w. steps_end c rest p new program (All-tail (IsStep seen.slots) s rest good)
-        (reach_fits seen c s plan p head fits e) w more)
+        (reaches-more seen c s rest plan) (steps_extend seen c rest)
+        (step_row c s plan old program head fits way (rule_of seen c s plan.records) refl)
+        (λ p new e w. steps_end c rest p new program (All-tail (IsStep seen.slots) s rest good)
+        (reach_fits seen c s plan p head fits e) w)
 
     proof_end : (c : CProgram) (proof : CProof) (first : Plan) (p : Plan) (new : Finding) →
         steps_reach seen c proof.steps first ≡ Ok p → IsUnderWay p new → (b : Bool) →
@@ -333,42 +308,40 @@ module _ (ends : SearchEnds) where
 
     proof_ends : (named : Option CProgram) (proof : CProof) (plan : Plan) (old : Finding) →
         ((c : CProgram) → named ≡ Some c → IsProgram seen.slots c) → All (IsStep seen.slots) proof.steps →
-        BookFits seen.slots plan.records → IsUnderWay plan old → ReachesWithout (proof_reach seen named proof plan) →
-        Along old (proof_reach seen named proof plan)
-    proof_ends None proof plan old program good fits way without = record {
+        BookFits seen.slots plan.records → IsUnderWay plan old → Along old (proof_reach seen named proof plan)
+    proof_ends None proof plan old program good fits way = record {
       result = Ok tt;
       plan = plan;
       new = old;
       goes_on = tt;
       follows = (refl, way, refl);
     }
-    proof_ends (Some c) proof plan old program good fits way without =
+    proof_ends (Some c) proof plan old program good fits way =
         joined plan old (steps_reach seen c proof.steps plan) (proof_reach seen (Some c) proof plan) (end_reach c)
-        refl (end_extends c) without (steps_end c proof.steps plan old (program c refl) good fits way)
-        (λ p new e more w. proof_end c proof plan p new e w (has_defined c.name p.records) refl)
+        refl (end_extends c) (steps_end c proof.steps plan old (program c refl) good fits way)
+        (λ p new e w. proof_end c proof plan p new e w (has_defined c.name p.records) refl)
 
     proofs_end : (proofs : List CProof) (plan : Plan) (old : Finding) →
         All (IsProgram seen.slots) seen.programs → All (IsProof seen.slots seen.programs) proofs →
-        BookFits seen.slots plan.records → IsUnderWay plan old → ReachesWithout (proofs_reach seen proofs plan) →
-        Along old (proofs_reach seen proofs plan)
-    proofs_end [] plan old are good fits way without = record {
+        BookFits seen.slots plan.records → IsUnderWay plan old → Along old (proofs_reach seen proofs plan)
+    proofs_end [] plan old are good fits way = record {
       result = Ok tt;
       plan = plan;
       new = old;
       goes_on = tt;
       follows = (proofs_reach-none seen plan, way, refl);
     }
-    proofs_end (proof ∷ rest) plan old are good fits way without =
+    proofs_end (proof ∷ rest) plan old are good fits way =
         let named : Option CProgram = program_of seen.programs proof.program in
         let steps : All (IsStep seen.slots) proof.steps =
         (All-head (IsProof seen.slots seen.programs) proof rest good).steps in
         joined plan old (proof_reach seen named proof plan) (proofs_reach seen (proof ∷ rest) plan)
         (proofs_reach seen rest) (proofs_reach-more seen proof rest plan)
-        (proofs_extend seen rest) without
+        (proofs_extend seen rest)
         (proof_ends named proof plan old (λ c e. named_program seen.slots seen.programs proof.program c are e) steps
         fits way)
-        (λ p new e more w. proofs_end rest p new are (All-tail (IsProof seen.slots seen.programs) proof rest good)
-        (proof_reach_fits seen named proof plan p steps fits e).0 w more)
+        (λ p new e w. proofs_end rest p new are (All-tail (IsProof seen.slots seen.programs) proof rest good)
+        (proof_reach_fits seen named proof plan p steps fits e).0 w)
 
 -- the whole document
 
@@ -388,10 +361,9 @@ by_walk d budget new plan (Err (Halt.Short name number)) g h =
 by_walk d budget new plan (Err Halt.Memory) g h = absurd g
 
 pub some_finding : SearchEnds → SomeFinding
-some_finding ends d budget good without =
+some_finding ends d budget good =
     chosen (proofs_end ends (document_seen d) good.slots d.proofs no_plan (at_first budget) good.programs good.proofs
-    tt (begins budget no_plan (at_first budget) refl refl)
-    (from_all IsWithoutQuotient (reached (reach_of d)).obligations without))
+    tt (begins budget no_plan (at_first budget) refl refl))
   where
     chosen : Along ends (at_first budget) (reach_of d) →
         (finding : Result found.Proof ScriptError) × IsAnswered finding × Finds d budget finding

@@ -12,7 +12,7 @@ use Rattle.proof_script.specs.declared.plans.Plan.{Plan}
 use Rattle.proof_script.specs.declared.plans.Proof.{Proof}
 use Rattle.proof_script.specs.declared.plans.ScriptError.{ScriptError}
 use Rattle.proof_script.specs.Giving.{PlanHolds}
-use Rattle.proof_script.specs.Proving.{enough_for, Finds, HasNoQuotients}
+use Rattle.proof_script.specs.Proving.{enough_for, Finds}
 use Rattle.proof_script.specs.Reaching.{Reach, reach_of, reached}
 use Rattle.rules_steps.specs.Starts.{starts_in}
 use Rattle.proof_script.specs.Verdicts.{rule_fault, verdict_of}
@@ -64,7 +64,7 @@ IsAnswered (Ok found) = Unit {0}
 IsAnswered (Err (ScriptError.Step fault)) = Unit {0}
 IsAnswered (Err ScriptError.Memory) = ⊥
 
--- whatever the budget, a search may answer something of each document that has no quotients
+-- whatever the budget, a search may answer something of each document
 abbrev pub SomeFinding : Type 0
-SomeFinding = (d : CDocument) (budget : ℕ) → IsCoreDocument d → HasNoQuotients d →
+SomeFinding = (d : CDocument) (budget : ℕ) → IsCoreDocument d →
     (finding : Result Proof ScriptError) × IsAnswered finding × Finds d budget finding

@@ -13,7 +13,7 @@ pub fn verdict_laws()
 
 /// How far steps go by their rules is what the walk along them says; no search ends for want of units where
 /// the budget is at least what always suffices for all obligations; and whatever the budget, there is
-/// something for a search to find of each document that leaves no obligation with a quotient.
+/// something for a search to find of each document.
 pub fn search_laws()
     ensures walk { ReachIsWalk }
     ensures enough { EnoughSuffices }
