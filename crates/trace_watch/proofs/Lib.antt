@@ -1,0 +1,5 @@
+pub mod TraceLaws
+pub mod CaseLaws
+pub mod TryLaws
+pub mod LookLaws
+pub mod TracingLaws

@@ -1,0 +1,72 @@
+use Rattle.std.proofs.Common.{◌≡◌, ◌+◌, ◌<◌, ◌≤◌, ◌∙◌, Some, ap, arith, length, map, slice_get, slice_set, get_or}
+use Rattle.std.proofs.Common.{subst, sym}
+use Rattle.std.specs.Prelude.{option_to_list}
+use Rattle.trace_watch.specs.Cases.{environments, reading_of}
+use Rattle.trace_watch.specs.Places.{system_at, instances_at, state_at}
+use Rattle.trace_watch.proofs.CaseLaws.{count_is, environments_in}
+use Rattle.trace_watch.proofs.LookLaws.{Looked, get_map, looked_one, looked_all, map_length, there}
+use Rattle.trace_watch.proofs.looking.look_cases.Goals as goal
+
+pub look_case-is_violated-requires-clause-values : goal.look_case-is_violated-requires-clause-values
+look_case-is_violated-requires-clause-values c =
+    environments_in c.args.record.now.params c.loop-number.number c.case_values.new.into
+    (ap (λ ps. slice_get (environments ps) c.loop-number.number) (sym c.as_slice.ensures) ∙ c.case_values.ensures)
+
+pub loop-number-preserved : goal.loop-number-preserved
+loop-number-preserved c =
+    let here = c.args.here.now in
+    let envs = environments c.args.record.now.params in
+    let reading = reading_of here.program.now c.args.record.now in
+    let inside : c.loop-number.number < length c.loop-number.cases =
+    omega (arith, c.loop-number.auto.cases, c.loop-number-test.true) in
+    let values : slice_get (environments c.args.record.now.params) c.loop-number.number
+    ≡ Some c.case_values.new.into =
+    ap (λ ps. slice_get (environments ps) c.loop-number.number) (sym c.as_slice.ensures) ∙ c.case_values.ensures in
+    subst (λ o. Looked (instances_at here) (system_at here) (state_at here) (option_to_list c.args.choice)
+    (map reading envs) c.args.cases.now
+    (slice_set c.loop-number.cases c.loop-number.number c.look_case-is_violated.new.case) o (c.loop-number.number + 1))
+    (sym c.or_number-first.ensures)
+    (looked_one (instances_at here) (system_at here) (state_at here) (option_to_list c.args.choice)
+    (map reading envs) c.args.cases.now c.loop-number.cases c.loop-number.first c.loop-number.number
+    (get_or c.loop-number.cases c.loop-number.number c.index-cases-number.result)
+    c.look_case-is_violated.new.case (reading c.case_values.new.into)
+    c.look_case-is_violated.result
+    (there c.loop-number.cases c.loop-number.number c.index-cases-number.result inside)
+    (get_map reading envs c.loop-number.number c.case_values.new.into values)
+    c.look_case-is_violated.ensures.stands c.look_case-is_violated.ensures.violated c.loop-number.invariant)
+
+pub returns-clause-stands : goal.returns-clause-stands
+returns-clause-stands c = λ states choices size h.
+    let here = c.args.here.now in
+    let envs = environments c.args.record.now.params in
+    let reading = reading_of here.program.now c.args.record.now in
+    let enough : length (map (reading_of c.args.here.now.program.now c.args.record.now)
+    (environments c.args.record.now.params)) ≤ c.loop-number.number =
+    omega (
+      arith,
+      map_length reading envs,
+      count_is c.args.record.now.params,
+      c.requires.count,
+      c.loop-number-test.false,
+    ) in
+    (looked_all (instances_at here) (system_at here) (state_at here) (option_to_list c.args.choice)
+    (map reading envs) c.args.cases.now c.loop-number.cases c.loop-number.first c.loop-number.number
+    c.loop-number.invariant enough states choices (size, h)).0
+
+pub returns-clause-violated : goal.returns-clause-violated
+returns-clause-violated c = λ states choices size h.
+    let here = c.args.here.now in
+    let envs = environments c.args.record.now.params in
+    let reading = reading_of here.program.now c.args.record.now in
+    let enough : length (map (reading_of c.args.here.now.program.now c.args.record.now)
+    (environments c.args.record.now.params)) ≤ c.loop-number.number =
+    omega (
+      arith,
+      map_length reading envs,
+      count_is c.args.record.now.params,
+      c.requires.count,
+      c.loop-number-test.false,
+    ) in
+    (looked_all (instances_at here) (system_at here) (state_at here) (option_to_list c.args.choice)
+    (map reading envs) c.args.cases.now c.loop-number.cases c.loop-number.first c.loop-number.number
+    c.loop-number.invariant enough states choices (size, h)).1

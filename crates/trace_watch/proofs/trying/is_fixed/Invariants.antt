@@ -1,0 +1,12 @@
+use Rattle.std.proofs.Common.{◌≡◌, drop}
+use Rattle.std.specs.List.{list_all}
+use Rattle.core_terms.specs.Steps.{core_step}
+use Rattle.trace_watch.specs.Readings.{is_fixed, leads_to}
+use Rattle.trace_watch.specs.Places.{system_at, state_at}
+use Rattle.trace_watch.proofs.trying.is_fixed.Given as goal
+
+abbrev pub invariant-loop-choice : goal.invariant-loop-choice
+invariant-loop-choice l =
+    list_all (λ s. leads_to (core_step l.here.slots.now s l.here.state.now) l.here.state.now)
+    (drop l.choice l.here.program.now.statements)
+    ≡ is_fixed (system_at l.here) (state_at l.here)

@@ -1,0 +1,237 @@
+// All cases looked at, at one place.
+ghost use Rattle.std.specs.Prelude.{◌≡◌, ◌<◌, ◌++◌, ◌∷◌, [], ℕ, List, All, IfSome, IsTrue, option_to_list, length, map};
+ghost use Rattle.std.specs.Prelude.{not, ◌&&◌, cond, Some, None};
+ghost use Rattle.std.specs.List.{position_from};
+ghost use Rattle.std.specs.Option.{option_or};
+ghost use Rattle.meaning_states.specs.State.{State};
+ghost use Rattle.fair_rounds.specs.Records.{are_in_ranges, holding};
+ghost use Rattle.trace_watch.specs.Readings.{is_violated};
+ghost use Rattle.trace_watch.specs.Cases.{case_count, environments, reading_of};
+ghost use Rattle.trace_watch.specs.Violations.{first_case, violation};
+ghost use Rattle.trace_watch.specs.Places.{system_at, instances_at, state_at, RecordFits};
+ghost use Rattle.trace_watch.specs.Waiting.{CaseStands, CasesStand, verdict};
+ghost use Rattle.trace_watch.specs.Readings as readings;
+ghost use Rattle.trace_watch.specs.Stepping.{StepFits, StepStands, watched_as};
+
+use crate::case::{Case, Findings, Seen};
+use crate::numbers::case_values;
+use crate::place::Place;
+use crate::step::Step;
+use crate::trying::{is_fixed, is_helped, is_stuck};
+use crate::violations::Violation;
+use case_tables::Kind;
+use core_terms::holds;
+use fair_rounds::Record;
+
+// One place more for a case, and whether it is violated there.
+fn look_case(
+    here: &Place,
+    record: &Record,
+    values: &[i64],
+    choice: Option<u32>,
+    trial: &mut [i64],
+    case: &mut Case,
+) -> bool
+    requires fits { RecordFits here.now.slots.now record.now }
+    requires values { IsTrue (are_in_ranges record.now.params values.now) }
+    requires choice { IfSome choice (λ c. c < instances_at here.now) }
+    requires trial { length trial.old ≡ length (state_at here.now) }
+    ensures stands { (states : List State) (choices : List ℕ) →
+        length (choices ++ option_to_list choice) ≡ length states →
+        CaseStands (instances_at here.now) case.old (reading_of here.now.program.now record.now values.now) states
+        choices →
+        CaseStands (instances_at here.now) case.new (reading_of here.now.program.now record.now values.now)
+        (states ++ state_at here.now ∷ []) (choices ++ option_to_list choice) }
+    ensures violated { (states : List State) (choices : List ℕ) →
+        length (choices ++ option_to_list choice) ≡ length states →
+        CaseStands (instances_at here.now) case.old (reading_of here.now.program.now record.now values.now) states
+        choices →
+        result ≡ is_violated (system_at here.now) (reading_of here.now.program.now record.now values.now)
+        (states ++ state_at here.now ∷ []) (choices ++ option_to_list choice) }
+{
+    let p = holds(&record.p, here.state, values);
+    let q = holds(&record.q, here.state, values);
+    let now = Seen { p, q };
+    let found = case.find(record.kind, record.bound, now, choice);
+    fails(here, record, values, case.helper, found, trial)
+}
+
+// Whether a case is violated, by what was found of it.
+fn fails(
+    here: &Place,
+    record: &Record,
+    values: &[i64],
+    helper: Option<u32>,
+    found: Findings,
+    trial: &mut [i64],
+) -> bool
+    requires fits { RecordFits here.now.slots.now record.now }
+    requires values { IsTrue (are_in_ranges record.now.params values.now) }
+    requires trial { length trial.old ≡ length (state_at here.now) }
+    ensures { result ≡ verdict record.now.kind (system_at here.now) (holding values.now record.now.q) helper
+        (state_at here.now) found }
+{
+    match record.kind {
+        Kind::Defined => is_stuck(here),
+        Kind::Invariant => !found.now.p,
+        Kind::Unless => found.is_lost,
+        Kind::Ensures => found.is_lost
+            || fails_to_help(here, record, values, helper, found.now, trial),
+        Kind::Leadsto => found.is_overdue,
+        Kind::Until => found.is_lost || found.is_overdue,
+        Kind::Detects => found.now.p && !found.now.q || found.is_overdue,
+        Kind::Constant => found.is_changed,
+        Kind::Fixed => found.now.p && !is_fixed(here, trial),
+    }
+}
+
+// Whether p holds and not q, and the instance that is to help does not.
+fn fails_to_help(
+    here: &Place,
+    record: &Record,
+    values: &[i64],
+    helper: Option<u32>,
+    now: Seen,
+    trial: &mut [i64],
+) -> bool
+    requires fits { RecordFits here.now.slots.now record.now }
+    requires values { IsTrue (are_in_ranges record.now.params values.now) }
+    requires trial { length trial.old ≡ length (state_at here.now) }
+    ensures { result ≡ ((now.p && not now.q)
+        && not (readings.is_helped (system_at here.now) (holding values.now record.now.q) helper (state_at here.now))) }
+{
+    if now.p && !now.q {
+        !is_helped(here, record, values, helper, trial)
+    } else {
+        false
+    }
+}
+
+// One place more for each case of a record, and the number of the first that is violated there.
+fn look_cases(
+    here: &Place,
+    record: &Record,
+    values: &mut [i64],
+    choice: Option<u32>,
+    trial: &mut [i64],
+    cases: &mut [Case],
+) -> Option<u64>
+    requires fits { RecordFits here.now.slots.now record.now }
+    requires room { length values.old ≡ length record.now.params }
+    requires count { length cases.old ≡ case_count record.now.params }
+    requires choice { IfSome choice (λ c. c < instances_at here.now) }
+    requires trial { length trial.old ≡ length (state_at here.now) }
+    ensures stands { (states : List State) (choices : List ℕ) →
+        length (choices ++ option_to_list choice) ≡ length states →
+        CasesStand (instances_at here.now) cases.old
+        (map (reading_of here.now.program.now record.now) (environments record.now.params)) states choices →
+        CasesStand (instances_at here.now) cases.new
+        (map (reading_of here.now.program.now record.now) (environments record.now.params))
+        (states ++ state_at here.now ∷ []) (choices ++ option_to_list choice) }
+    ensures violated { (states : List State) (choices : List ℕ) →
+        length (choices ++ option_to_list choice) ≡ length states →
+        CasesStand (instances_at here.now) cases.old
+        (map (reading_of here.now.program.now record.now) (environments record.now.params)) states choices →
+        result ≡ position_from (λ r. is_violated (system_at here.now) r
+        (states ++ state_at here.now ∷ []) (choices ++ option_to_list choice)) 0
+        (map (reading_of here.now.program.now record.now) (environments record.now.params)) }
+{
+    let mut first = None;
+    for number in 0..cases.len() {
+        case_values(record.params.as_slice(), number as u64, values);
+        let is_violated = look_case(here, record, values, choice, trial, &mut cases[number]);
+        first = or_number(first, is_violated, number as u64);
+    }
+    first
+}
+
+// The number that there is, or else this one where it is violated.
+fn or_number(first: Option<u64>, is_violated: bool, number: u64) -> Option<u64>
+    ensures { result ≡ option_or first (cond is_violated (Some number) None) }
+{
+    match first {
+        Some(earlier) => Some(earlier),
+        None => { if is_violated { Some(number) } else { None } }
+    }
+}
+
+// One place more for a step, and its first case that is violated there.
+fn look_step(
+    here: &Place,
+    choice: Option<u32>,
+    trial: &mut [i64],
+    step: &mut Step,
+) -> Option<Violation>
+    requires fits { StepFits here.now.slots.now step.old }
+    requires choice { IfSome choice (λ c. c < instances_at here.now) }
+    requires trial { length trial.old ≡ length (state_at here.now) }
+    ensures fits { StepFits here.now.slots.now step.new }
+    ensures watched { (watched_as here.now.program.now step.new) ≡ (watched_as here.now.program.now step.old) }
+    ensures stands { (states : List State) (choices : List ℕ) →
+        length (choices ++ option_to_list choice) ≡ length states →
+        StepStands here.now.program.now states choices step.old →
+        StepStands here.now.program.now (states ++ state_at here.now ∷ []) (choices ++ option_to_list choice) step.new }
+    ensures violated { (states : List State) (choices : List ℕ) →
+        length (choices ++ option_to_list choice) ≡ length states →
+        StepStands here.now.program.now states choices step.old →
+        result ≡ first_case (λ r. is_violated (system_at here.now) r
+        (states ++ state_at here.now ∷ []) (choices ++ option_to_list choice))
+        (watched_as here.now.program.now step.old) }
+{
+    match look_cases(
+        here,
+        step.record,
+        &mut step.values,
+        choice,
+        trial,
+        &mut step.cases,
+    ) {
+        Some(case) => Some(Violation {
+            step: step.place,
+            case,
+        }),
+        None => None,
+    }
+}
+
+// The first of two violations that there is.
+fn or_violation(first: Option<Violation>, other: Option<Violation>) -> Option<Violation>
+    ensures { result ≡ option_or first other }
+{
+    match first {
+        Some(earlier) => Some(earlier),
+        None => other,
+    }
+}
+
+// One place more for each step, and the first violation there.
+pub(crate) fn look(
+    here: &Place,
+    choice: Option<u32>,
+    trial: &mut [i64],
+    steps: &mut [Step],
+) -> Option<Violation>
+    requires fits { All (StepFits here.now.slots.now) steps.old }
+    requires choice { IfSome choice (λ c. c < instances_at here.now) }
+    requires trial { length trial.old ≡ length (state_at here.now) }
+    ensures fits { All (StepFits here.now.slots.now) steps.new }
+    ensures watched { map (watched_as here.now.program.now) steps.new
+        ≡ map (watched_as here.now.program.now) steps.old }
+    ensures stands { (states : List State) (choices : List ℕ) →
+        length (choices ++ option_to_list choice) ≡ length states →
+        All (StepStands here.now.program.now states choices) steps.old →
+        All (StepStands here.now.program.now (states ++ state_at here.now ∷ []) (choices ++ option_to_list choice))
+        steps.new }
+    ensures violated { (states : List State) (choices : List ℕ) →
+        length (choices ++ option_to_list choice) ≡ length states →
+        All (StepStands here.now.program.now states choices) steps.old →
+        result ≡ violation (system_at here.now) (map (watched_as here.now.program.now) steps.old)
+        (states ++ state_at here.now ∷ []) (choices ++ option_to_list choice) }
+{
+    let mut first = None;
+    for place in 0..steps.len() {
+        let found = look_step(here, choice, trial, &mut steps[place]);
+        first = or_violation(first, found);
+    }
+    first
+}

@@ -1,0 +1,4 @@
+pub mod Readings
+pub mod Alike
+pub mod Unviolated
+pub mod Accepted
