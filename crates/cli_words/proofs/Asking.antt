@@ -5,8 +5,8 @@ use Rattle.std.proofs.Common.{None, option_map, refl, ap, ◌∙◌, subst, arit
 use Rattle.std.specs.Str.{bytes_eq}
 use Rattle.std.proofs.lemmas.Slice.Eq.{bytes_eq-Decides}
 use Rattle.cli_words.specs.Numbers.{number_in}
-use Rattle.cli_words.specs.Requests.{Request, check, prove, run, replay, demo, upgrade, positive, several, one_word}
-use Rattle.cli_words.specs.Requests.{two_words, three_words, request_of}
+use Rattle.cli_words.specs.Requests.{Request, check, prove, run, replay, demo, upgrade, watch, positive, several}
+use Rattle.cli_words.specs.Requests.{one_word, two_words, three_words, request_of}
 use Rattle.cli_words.specs.Laws.{Asks, RequestsAreAsked}
 use Rattle.cli_words.proofs.Decimals.{numbers_are_decimal}
 
@@ -16,19 +16,21 @@ same_bytes a b e = (bytes_eq-Decides a b).0 e
 one_asked : (word : List ℕ) (request : Request) → one_word word ≡ Some request → Asks (word ∷ []) request
 one_asked word request e =
     go (bytes_eq word (codes "check")) refl (bytes_eq word (codes "replay")) refl (bytes_eq word (codes "upgrade")) refl
-    e
+    (bytes_eq word (codes "watch")) refl e
   where
     go : (b : Bool) → bytes_eq word (codes "check") ≡ b → (c : Bool) → bytes_eq word (codes "replay") ≡ c →
-        (d : Bool) → bytes_eq word (codes "upgrade") ≡ d →
-        cond b (Some check) (cond c (Some replay) (cond d (Some upgrade) None)) ≡ Some request →
+        (d : Bool) → bytes_eq word (codes "upgrade") ≡ d → (w : Bool) → bytes_eq word (codes "watch") ≡ w →
+        cond b (Some check) (cond c (Some replay) (cond d (Some upgrade) (cond w (Some watch) None))) ≡ Some request →
         Asks (word ∷ []) request
-    go true h c k d l some =
-        let is : check ≡ request = cc in subst (Asks (word ∷ [])) is (ap (λ w. w ∷ []) (same_bytes word _ h))
-    go false h true k d l some =
+    go true h c k d l w m some =
+        let is : check ≡ request = cc in subst (Asks (word ∷ [])) is (ap (λ t. t ∷ []) (same_bytes word _ h))
+    go false h true k d l w m some =
         let is : replay ≡ request = cc in subst (Asks (word ∷ [])) is (ap (λ w. w ∷ []) (same_bytes word _ k))
-    go false h false k true l some =
+    go false h false k true l w m some =
         let is : upgrade ≡ request = cc in subst (Asks (word ∷ [])) is (ap (λ w. w ∷ []) (same_bytes word _ l))
-    go false h false k false l some = cc
+    go false h false k false l true m some =
+        let is : watch ≡ request = cc in subst (Asks (word ∷ [])) is (ap (λ w. w ∷ []) (same_bytes word _ m))
+    go false h false k false l false m some = cc
 
 prove_asked : (word budget : List ℕ) (found : Option ℕ) (request : Request) → word ≡ codes "prove" →
     number_in 1000000 budget ≡ found → option_map prove (positive found) ≡ Some request →
@@ -112,6 +114,7 @@ asking_words words (run program steps) h =
     ∙ ap (option_map (run program)) ((numbers_are_decimal 1000000 steps (decimal steps) (omega arith)).1 (refl, h.1))
 asking_words words replay h = ap request_of h
 asking_words words upgrade h = ap request_of h
+asking_words words watch h = ap request_of h
 asking_words words (demo places) h =
     ap request_of h.0
     ∙ ap (λ n. option_map demo (several n))

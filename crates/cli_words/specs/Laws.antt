@@ -1,7 +1,7 @@
 -- What words are where they ask for something, as statements that functions name.
 use Rattle.std.specs.Prelude.{◌≡◌, ◌≤◌, ◌<◌, ◌^◌, ◌↔◌, ℕ, List, [], ◌∷◌, codes, decimal, Some}
 use Rattle.cli_words.specs.Numbers.{number_in}
-use Rattle.cli_words.specs.Requests.{Request, check, prove, run, replay, demo, upgrade, request_of}
+use Rattle.cli_words.specs.Requests.{Request, check, prove, run, replay, demo, upgrade, watch, request_of}
 
 abbrev pub NumbersAreDecimal : Type 0
 NumbersAreDecimal = (most n : ℕ) (word : List ℕ) → most < 2 ^ 64 →
@@ -15,6 +15,7 @@ Asks words (run program steps) = (words ≡ codes "run" ∷ program ∷ decimal 
 Asks words replay = words ≡ codes "replay" ∷ []
 Asks words (demo places) = (words ≡ codes "demo" ∷ decimal places ∷ []) × (2 ≤ places) × (places ≤ 64)
 Asks words upgrade = words ≡ codes "upgrade" ∷ []
+Asks words watch = words ≡ codes "watch" ∷ []
 
 abbrev pub RequestsAreAsked : Type 0
 RequestsAreAsked = (words : List (List ℕ)) (request : Request) → (request_of words ≡ Some request) ↔ Asks words request

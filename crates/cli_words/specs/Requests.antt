@@ -13,6 +13,7 @@ pub data Request : Type 0 where
   replay : Request
   demo : (places : ℕ) → Request
   upgrade : Request
+  watch : Request
 
 abbrev pub meant : Command → Request
 meant Command.Check = check
@@ -21,12 +22,14 @@ meant (Command.Run program steps) = run program.now steps
 meant Command.Replay = replay
 meant (Command.Demo places) = demo places
 meant Command.Upgrade = upgrade
+meant Command.Watch = watch
 
 abbrev pub one_word : List ℕ → Option Request
 one_word word =
     cond (bytes_eq word (codes "check")) (Some check)
     (cond (bytes_eq word (codes "replay")) (Some replay)
-    (cond (bytes_eq word (codes "upgrade")) (Some upgrade) None))
+    (cond (bytes_eq word (codes "upgrade")) (Some upgrade)
+    (cond (bytes_eq word (codes "watch")) (Some watch) None)))
 
 -- a number that is not zero
 abbrev pub positive : Option ℕ → Option ℕ

@@ -30,6 +30,8 @@ pub enum Command<'a> {
     Demo { places: u32 },
     /// `upgrade`: the document in version 2 of the language, where `check` accepts it.
     Upgrade,
+    /// `watch`: the steps that the document's schedule names, read for what the proof of its program claims.
+    Watch,
 }
 
 /// The command that the words are, read by position. `None` where they are none.
@@ -56,6 +58,8 @@ fn read_one<'a>(word: &str) -> Option<Command<'a>>
         Some(Command::Replay)
     } else if word == "upgrade" {
         Some(Command::Upgrade)
+    } else if word == "watch" {
+        Some(Command::Watch)
     } else {
         None
     }

@@ -70,13 +70,13 @@ followed_accepts bytes f =
       record { document = f.document; read = f.read; plan = verdict.0; verdict = verdict.1; text_is = refl },
     )
 
-valid_by : (bytes text : List ℕ) (a : IsAccepted bytes text) →
+pub valid_by : (bytes text : List ℕ) (a : IsAccepted bytes text) →
     IsValidPlan (core_document a.document) (certificates_of a.document) a.plan
 valid_by bytes text a =
     accepted_valid (core_document a.document) (certificates_of a.document) a.plan
     (read_core greatest_size (omega arith) bytes a.document a.read) a.verdict
 
-proved_by : (bytes text : List ℕ) (a : IsAccepted bytes text) →
+pub proved_by : (bytes text : List ℕ) (a : IsAccepted bytes text) →
     IsProvedBy a.document (starts_in (core_document a.document).slots) (valid_by bytes text a).steps
 proved_by bytes text a = record {
   named = a.read.reading.named;

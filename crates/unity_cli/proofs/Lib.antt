@@ -6,3 +6,4 @@ pub mod Searched
 pub mod SomeAnswers
 pub mod Shown
 pub mod Upgraded
+pub mod Watched

@@ -19,10 +19,16 @@ use Rattle.proof_script.specs.declared.plans.Plan.{Plan}
 use Rattle.proof_script.specs.declared.plans.StepFault.{StepFault}
 use Rattle.proof_script.specs.Verdicts.{verdict_of}
 use Rattle.certificate_reading.specs.Certificates.{certificates_of}
-use Rattle.cli_texts.specs.Refusals.{fault_text}
+use Rattle.cli_texts.specs.Refusals.{fault_text, refusal_text}
 use Rattle.cli_texts.specs.Verdicts.{accepted_text, rejected_text}
 use Rattle.upgraded_texts.specs.Upgraded.{upgraded_text}
-use Rattle.cli_words.specs.Requests.{check, prove, run, replay, demo, upgrade}
+use Rattle.cli_words.specs.Requests.{check, prove, run, replay, demo, upgrade, watch}
+use Rattle.trace_watch.specs.declared.tracing.Ending.{Ending}
+use Rattle.watch_schedules.specs.declared.error.WatchStop.{WatchStop}
+use Rattle.watch_correct.specs.Watched.{IsWatched, Stops}
+use Rattle.watch_correct.specs.Laws.{IsCause}
+use Rattle.watch_correct.proofs.Finding.{one_watched}
+use Rattle.watch_correct.proofs.Stops.{no_stop, one_stop}
 use Rattle.unity_parser.proofs.Readings.{one_document}
 use Rattle.unity_cli.specs.declared.status.Status.{Status}
 use Rattle.unity_cli.specs.Admitted.{greatest_size, greatest_bare_size, IsAdmitted, IsBad, too_long, no_reading}
@@ -34,6 +40,8 @@ use Rattle.unity_cli.specs.Answer.Replay.{IsReplayed, HasNoReplay, IsNotReplayed
 use Rattle.unity_cli.specs.Answer.Upgrade.{IsUpgraded, Upgraded}
 use Rattle.unity_cli.specs.Answer.Run as runs
 use Rattle.unity_cli.specs.Answer.Replay as replays
+use Rattle.unity_cli.specs.Answer.Watch.{ending_status, IsNotWatched, Watched}
+use Rattle.unity_cli.specs.Answer.Watch as watches
 use Rattle.unity_cli.specs.Laws.{OneAnswer}
 use Rattle.unity_cli.proofs.FirstFaults.{no_first_fault, one_first_fault}
 
@@ -459,6 +467,70 @@ one_upgraded bytes Status.Rejected other text more a b = absurd b
 one_upgraded bytes Status.BadDocument other text more a b = absurd b
 one_upgraded bytes status other text more a b = absurd a
 
+-- ---- watch
+
+-- what is answered where a schedule is not watched
+abbrev stopped_status : WatchStop → Status
+stopped_status (WatchStop.Step fault) = Status.Rejected
+stopped_status stop = Status.BadDocument
+
+abbrev stopped_text : List (List ℕ) → WatchStop → List ℕ
+stopped_text words WatchStop.NoSchedule = refusal_text Code.NoSchedule
+stopped_text words (WatchStop.NoSuchStatement at) = fault_text Code.NoSuchStatement at
+stopped_text words WatchStop.NotInitial = refusal_text Code.NoStart
+stopped_text words WatchStop.NoProof = refusal_text Code.NoProof
+stopped_text words (WatchStop.Step fault) = rejected_text words fault
+stopped_text words WatchStop.TooManyCases = refusal_text Code.TooManyCases
+stopped_text words WatchStop.Memory = []
+
+-- an answer of `watch`: the bytes have no reading, or a document is not watched, or its trace ends
+data Said (bytes : List ℕ) (status : Status) (text : List ℕ) : Type 0 where
+  unread : IsBad greatest_size bytes text → status ≡ Status.BadDocument → Said bytes status text
+  stopped : (d : Document) (stop : WatchStop) → IsAdmitted greatest_size bytes d → IsCause stop → Stops d stop →
+      status ≡ stopped_status stop → text ≡ stopped_text (core_document d).words stop → Said bytes status text
+  ended : (d : Document) (ending : Ending) → IsAdmitted greatest_size bytes d → IsWatched d ending text →
+      status ≡ ending_status ending → Said bytes status text
+
+refusal_said : (bytes text : List ℕ) → IsNotWatched bytes text → Said bytes Status.BadDocument text
+refusal_said bytes text (watches.IsNotWatched.bad b) = unread b refl
+refusal_said bytes text (watches.IsNotWatched.no_schedule d r h e) = stopped d WatchStop.NoSchedule r tt h refl e
+refusal_said bytes text (watches.IsNotWatched.unknown d at r h e) =
+    stopped d (WatchStop.NoSuchStatement at) r tt h refl e
+refusal_said bytes text (watches.IsNotWatched.no_start d r h e) = stopped d WatchStop.NotInitial r tt h refl e
+refusal_said bytes text (watches.IsNotWatched.no_proof d r h e) = stopped d WatchStop.NoProof r tt h refl e
+refusal_said bytes text (watches.IsNotWatched.many_cases d r h e) = stopped d WatchStop.TooManyCases r tt h refl e
+
+said : (bytes : List ℕ) (status : Status) (text : List ℕ) → Watched bytes status text → Said bytes status text
+said bytes Status.Done text a = ended a.document Ending.Unviolated a.read a.watched refl
+said bytes Status.Violated text a = ended a.document (Ending.Violated a.place a.violation) a.read a.watched refl
+said bytes Status.Rejected text a = stopped a.document (WatchStop.Step a.fault) a.read tt a.unplanned refl a.text_is
+said bytes Status.BadDocument text a = refusal_said bytes text a
+said bytes status text a = absurd a
+
+one_said : (bytes : List ℕ) (status other : Status) (text more : List ℕ) → Said bytes status text →
+    Said bytes other more → (status ≡ other) × (text ≡ more)
+one_said bytes status other text more (unread a e) (unread b f) = (e ∙ sym f, one_bad bytes text more a b)
+one_said bytes status other text more (unread a e) (stopped d stop r one h s t) =
+    absurd (read_not_bad bytes text d r a)
+one_said bytes status other text more (unread a e) (ended d ending r w s) = absurd (read_not_bad bytes text d r a)
+one_said bytes status other text more (stopped d stop r one h s t) (unread b f) =
+    absurd (read_not_bad bytes more d r b)
+one_said bytes status other text more (ended d ending r w s) (unread b f) = absurd (read_not_bad bytes more d r b)
+one_said bytes status other text more (stopped d a r one h s t) (stopped e b q two k u v) =
+    let same = read_once bytes d e r q in
+    let stops = one_stop e a b one two (subst (λ x. Stops x a) same h) k in (
+      s ∙ ap stopped_status stops ∙ sym u,
+      t ∙ ap (λ x. stopped_text (core_document x).words a) same ∙ ap (stopped_text (core_document e).words) stops
+          ∙ sym v,
+    )
+one_said bytes status other text more (stopped d stop r one h s t) (ended e ending q w u) =
+    absurd (no_stop e stop one (subst (λ x. Stops x stop) (read_once bytes d e r q) h) ending more w)
+one_said bytes status other text more (ended d ending r w s) (stopped e stop q one h u v) =
+    absurd (no_stop d stop one (subst (λ x. Stops x stop) (read_once bytes e d q r) h) ending text w)
+one_said bytes status other text more (ended d a r w s) (ended e b q z u) =
+    let same = one_watched e a b text more (subst (λ x. IsWatched x a text) (read_once bytes d e r q) w) z in
+    (s ∙ ap ending_status same.0 ∙ sym u, same.1)
+
 pub one_answer : OneAnswer
 one_answer None any bytes status other text more a b = (a.0 ∙ sym b.0, a.1 ∙ sym b.1)
 one_answer (Some check) any bytes status other text more a b = one_checked bytes status other text more a b
@@ -468,3 +540,5 @@ one_answer (Some (run program steps)) any bytes status other text more a b =
 one_answer (Some replay) any bytes status other text more a b = one_replayed bytes status other text more a b
 one_answer (Some (demo places)) any bytes status other text more a b = absurd any
 one_answer (Some upgrade) any bytes status other text more a b = one_upgraded bytes status other text more a b
+one_answer (Some watch) any bytes status other text more a b =
+    one_said bytes status other text more (said bytes status text a) (said bytes other more b)

@@ -7,7 +7,7 @@ use Rattle.cli_texts.specs.Verdicts.{accepted_text}
 use Rattle.cli_ring.specs.Rings.{ring_bytes}
 use Rattle.cli_ring.proofs.Lengths.{rings_have_lengths}
 use Rattle.cli_words.specs.declared.words.Command.{Command}
-use Rattle.cli_words.specs.Requests.{Request, check, demo, meant}
+use Rattle.cli_words.specs.Requests.{Request, check, demo, meant, watch}
 use Rattle.unity_cli.specs.declared.output.Answer.{Answer as Told}
 use Rattle.unity_cli.specs.declared.input.Input.{Input}
 use Rattle.unity_cli.specs.declared.status.Status.{Status}
@@ -53,6 +53,7 @@ shown_has_text places Status.BadWords text h = tt
 shown_has_text places Status.ReadFault text h = h
 shown_has_text places Status.WriteFault text h = h
 shown_has_text places Status.WantOfMemory text h = h
+shown_has_text places Status.Violated text h = tt
 
 -- where no certificates were found the answer is that of the search
 pub shown_bare : (places : ℕ) (status : Status) (text : List ℕ) →
@@ -67,6 +68,7 @@ shown_bare places Status.BadWords text h other = h
 shown_bare places Status.ReadFault text h other = h
 shown_bare places Status.WriteFault text h other = h
 shown_bare places Status.WantOfMemory text h other = h
+shown_bare places Status.Violated text h other = h
 
 -- what comes with no plan is no text with certificates
 pub shown_alone : (places : ℕ) (words : List (List ℕ)) (a : Told) (plan : Option Plan) →
@@ -133,6 +135,10 @@ pub ring_is_no_check : (asked : Option Request) (places : ℕ) → asked ≡ Som
 ring_is_no_check asked places e f =
     let never : ◌≡◌ {A = Option Request} (Some (demo places)) (Some check) = sym e ∙ f in cc
 
+pub ring_is_no_watch : (asked : Option Request) (places : ℕ) → asked ≡ Some (demo places) → asked ≡ Some watch → ⊥
+ring_is_no_watch asked places e f =
+    let never : ◌≡◌ {A = Option Request} (Some (demo places)) (Some watch) = sym e ∙ f in cc
+
 pub ring_reads_nothing : (asked : Option Request) (places : ℕ) → asked ≡ Some (demo places) →
     reads_source asked ≡ true → ⊥
 ring_reads_nothing asked places e f =
@@ -149,4 +155,6 @@ others_read asked (Command.Run program steps) e other f =
 others_read asked Command.Replay e other f = let never : ◌≡◌ {A = Bool} true false = sym (ap reads_source e) ∙ f in cc
 others_read asked (Command.Demo places) e other f = other places refl
 others_read asked Command.Upgrade e other f =
+    let never : ◌≡◌ {A = Bool} true false = sym (ap reads_source e) ∙ f in cc
+others_read asked Command.Watch e other f =
     let never : ◌≡◌ {A = Bool} true false = sym (ap reads_source e) ∙ f in cc

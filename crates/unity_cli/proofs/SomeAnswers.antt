@@ -1,4 +1,4 @@
--- Words and bytes have some status and text, where no obligation that is searched has a quotient, as in version 1.
+-- Words and bytes have some status and text.
 use Rattle.std.proofs.Common.{◌≡◌, ◌≤◌, ◌⊎◌, inl, inr, ℕ, List, [], ◌∷◌, length, map, Bool, true, false, Option}
 use Rattle.std.proofs.Common.{Some, None, Result, Ok, Err, refl, sym, ap, ◌∙◌, arith, cond, find, is_none}
 use Rattle.std.proofs.Common.{option_map, nat_lt, codes, ◌++◌}
@@ -6,7 +6,6 @@ use Rattle.case_tables.specs.declared.code_table.Code.{Code}
 use Rattle.unity_syntax.specs.declared.document.Document.{Document}
 use Rattle.unity_syntax.specs.declared.document.Schedule.{Schedule}
 use Rattle.unity_syntax.specs.declared.term.Inst.{Inst}
-use Rattle.unity_syntax.specs.Classes.{says_later, terminals}
 use Rattle.unity_parser.proofs.Readings.{some_reading}
 use Rattle.unity_parser.specs.Document.{IsDocument, IsFault}
 use Rattle.meaning_documents.specs.Programs.{Composed, program_named, programs_of}
@@ -15,7 +14,6 @@ use Rattle.names_rules.specs.Reading.{Fault, earlier}
 use Rattle.names_rules.specs.WellNamed.{name_fault}
 use Rattle.expand_documents.specs.Cores.{core_document}
 use Rattle.expand_documents.specs.Faults.{expansion_fault}
-use Rattle.expand_fits.proofs.Parsed.Version.{version_is}
 use Rattle.core_terms.specs.declared.programs.CProgram.{CProgram}
 use Rattle.expand_correct.specs.Preserved.Meaning.{IsCoreProgramOf}
 use Rattle.expand_correct.proofs.Preserved.Matching.{programs_match}
@@ -33,10 +31,9 @@ use Rattle.proof_script.specs.declared.plans.StepFault.{StepFault}
 use Rattle.proof_script.specs.declared.plans.Proof.{Proof}
 use Rattle.proof_script.specs.declared.plans.ScriptError.{ScriptError}
 use Rattle.proof_script.specs.Laws.{IsAnswered}
-use Rattle.proof_script.specs.Proving.{Finds, HasNoQuotients}
+use Rattle.proof_script.specs.Proving.{Finds}
 use Rattle.proof_script.specs.Verdicts.{verdict_of}
 use Rattle.proof_script.proofs.SomeLaws.{some_finding}
-use Rattle.plain_quotients.proofs.OnlyTimesLaws.{first_leave_none}
 use Rattle.search_tree.proofs.EndsLaws.{search-ends}
 use Rattle.certificate_printing.specs.Findings.{budget_text, refuted_text}
 use Rattle.certificate_roundtrip.specs.Found.{text_with}
@@ -45,8 +42,12 @@ use Rattle.certificate_reading.specs.Certificates.{certificates_of}
 use Rattle.cli_texts.specs.Refusals.{fault_text, refusal_text}
 use Rattle.cli_texts.specs.Verdicts.{accepted_text, rejected_text}
 use Rattle.upgraded_texts.specs.Upgraded.{upgraded_text}
-use Rattle.cli_words.specs.Requests.{Request, check, prove, run, replay, demo, upgrade, request_of}
+use Rattle.cli_words.specs.Requests.{Request, check, prove, run, replay, demo, upgrade, watch, request_of}
 use Rattle.cli_words.proofs.Asking.{requests_are_asked}
+use Rattle.trace_watch.specs.declared.tracing.Ending.{Ending}
+use Rattle.watch_correct.specs.Watched.{HasManyCases, HasNoPlan, HasNoProof, Replay, Started}
+use Rattle.watch_correct.specs.Laws.{HasCore, HasEnding}
+use Rattle.watch_correct.proofs.Finding.{some_watched}
 use Rattle.unity_cli.specs.declared.status.Status.{Status}
 use Rattle.unity_cli.specs.Admitted.{greatest_size, greatest_bare_size, IsAdmitted, IsBad, too_long, no_reading}
 use Rattle.unity_cli.specs.Answer.Check.{Checked}
@@ -56,7 +57,8 @@ use Rattle.unity_cli.specs.Answer.Run.{IsTrace, no_program}
 use Rattle.unity_cli.specs.Answer.Replay.{no_schedule, unknown}
 use Rattle.unity_cli.specs.Answer.Run as runs
 use Rattle.unity_cli.specs.Answer.Replay as replays
-use Rattle.unity_cli.specs.Laws.{AreWithoutQuotients, HasAnswer, IsLimited, LimitedHaveAnswer, SomeAnswer}
+use Rattle.unity_cli.specs.Answer.Watch as watching
+use Rattle.unity_cli.specs.Laws.{HasAnswer, IsLimited, LimitedHaveAnswer, SomeAnswer}
 use Rattle.unity_cli.specs.WellFormed.{of_text, of_document}
 use Rattle.unity_cli.proofs.Accepted.{read_core}
 use Rattle.unity_cli.proofs.OneAnswers.{read_not_bad}
@@ -282,23 +284,12 @@ replayed bytes (inl (d, read)) = by_program (scheduled_program (core_document d)
 
 -- ---- prove
 
--- a document of version 1 has no quotients
-without_quotients : (bytes : List ℕ) (d : Document) → IsAdmitted greatest_bare_size bytes d →
-    AreWithoutQuotients bytes → HasNoQuotients (core_document d)
-without_quotients bytes d read without =
-    let tokens = read.reading.is_document.tokens in
-    by_version (version_is d (terminals (says_later tokens) bytes tokens) read.reading.is_document.parsed.0)
-  where
-    by_version : (d.number ≡ 1) ⊎ (d.number ≡ 2) → HasNoQuotients (core_document d)
-    by_version (inl one) = first_leave_none bytes d read.reading.is_document one
-    by_version (inr two) = without d read two
-
-searched : (bytes : List ℕ) (budget : ℕ) → budget ≤ 1000000 → AreWithoutQuotients bytes →
+searched : (bytes : List ℕ) (budget : ℕ) → budget ≤ 1000000 →
     ReadOrBad greatest_bare_size bytes → HasAnswer (Some (prove budget)) bytes
-searched bytes budget few without (inr (text, bad)) = (Status.BadDocument, text, bad)
-searched bytes budget few without (inl (d, read)) =
+searched bytes budget few (inr (text, bad)) = (Status.BadDocument, text, bad)
+searched bytes budget few (inl (d, read)) =
     by_some (some_finding search-ends (core_document d) budget
-    (read_core greatest_bare_size (omega arith) bytes d read) (without_quotients bytes d read without))
+    (read_core greatest_bare_size (omega arith) bytes d read))
   where
     by_finding : (finding : Result Proof ScriptError) → IsAnswered finding → Finds (core_document d) budget finding →
         HasAnswer (Some (prove budget)) bytes
@@ -371,6 +362,7 @@ shown places bytes (status, text, h) = by_status status text h
     by_status Status.ReadFault text h = absurd h
     by_status Status.WriteFault text h = absurd h
     by_status Status.WantOfMemory text h = absurd h
+    by_status Status.Violated text h = absurd h
 
 -- ---- upgrade
 
@@ -390,24 +382,131 @@ upgrades bytes (inl (d, read)) = by_check (checked bytes (inl (d, wider bytes d 
     by_status Status.ReadFault text h = absurd h
     by_status Status.WriteFault text h = absurd h
     by_status Status.WantOfMemory text h = absurd h
+    by_status Status.Violated text h = absurd h
 
     by_check : HasAnswer (Some check) bytes → HasAnswer (Some upgrade) bytes
     by_check (status, text, h) = by_status status text h
 
+-- ---- watch
+
+core_of : (bytes : List ℕ) (d : Document) → IsAdmitted greatest_size bytes d → HasCore d
+core_of bytes d read = record {
+  named = read.reading.named;
+  faultless = read.reading.expands;
+  core = read_core greatest_size (omega arith) bytes d read;
+}
+
+ended_so : (bytes : List ℕ) (d : Document) → IsAdmitted greatest_size bytes d → HasEnding d →
+    HasAnswer (Some watch) bytes
+ended_so bytes d read (Ending.Violated place v, text, w) = (
+  Status.Violated,
+  text,
+  record {
+    document = d;
+    read = read;
+    place = place;
+    violation = v;
+    watched = w;
+  },
+)
+ended_so bytes d read (Ending.Unviolated, text, w) =
+    (Status.Done, text, record { document = d; read = read; watched = w })
+
+started_so : (bytes : List ℕ) (d : Document) → IsAdmitted greatest_size bytes d → Started d →
+    HasAnswer (Some watch) bytes
+started_so bytes d read started = by (some_watched d (core_of bytes d read) started)
+  where
+    by : HasNoProof d ⊎ ((fault : StepFault) × HasNoPlan d fault) ⊎ HasManyCases d ⊎ HasEnding d →
+        HasAnswer (Some watch) bytes
+    by (inl h) = (Status.BadDocument, refusal_text Code.NoProof, watching.IsNotWatched.no_proof d read h refl)
+    by (inr (inl (fault, h))) = (
+      Status.Rejected,
+      rejected_text (core_document d).words fault,
+      record {
+        document = d;
+        read = read;
+        fault = fault;
+        unplanned = h;
+        text_is = refl;
+      },
+    )
+    by (inr (inr (inl h))) =
+        (Status.BadDocument, refusal_text Code.TooManyCases, watching.IsNotWatched.many_cases d read h refl)
+    by (inr (inr (inr h))) = ended_so bytes d read h
+
+watched_by : (bytes : List ℕ) (d : Document) → IsAdmitted greatest_size bytes d → Replay d →
+    HasAnswer (Some watch) bytes
+watched_by bytes d read r = by_start ((source_system d r.program).initial (first_state d r.core)) refl
+  where
+    by_start : (b : Bool) → (source_system d r.program).initial (first_state d r.core) ≡ b →
+        HasAnswer (Some watch) bytes
+    by_start true e = started_so bytes d read (record { replay = r; initial = e })
+    by_start false e = (
+      Status.BadDocument,
+      refusal_text Code.NoStart,
+      watching.IsNotWatched.no_start d read (record { replay = r; not_initial = e }) refl,
+    )
+
+watched_schedule : (bytes : List ℕ) (d : Document) → IsAdmitted greatest_size bytes d → (p : CProgram) →
+    HasSchedule d p → HasAnswer (Some watch) bytes
+watched_schedule bytes d read p h =
+    by_choice (find (λ i. is_none (place_of h.program i)) (some_of h.schedule.choices)) refl
+  where
+    by_all : (xs : List ℕ) × (map Some xs ≡ map (place_of h.program) (some_of h.schedule.choices)) →
+        HasAnswer (Some watch) bytes
+    by_all (xs, named) = watched_by bytes d read (record {
+      schedule = h.schedule;
+      program = h.program;
+      core = p;
+      choices = xs;
+      replay_is = record { there = h.there; core = h.core; named = named };
+    })
+
+    by_choice : (o : Option Inst) →
+        find (λ i. is_none (place_of h.program i)) (some_of h.schedule.choices) ≡ o → HasAnswer (Some watch) bytes
+    by_choice None e = by_all (all_named h.program (some_of h.schedule.choices) e)
+    by_choice (Some i) e = (
+      Status.BadDocument,
+      fault_text Code.NoSuchStatement i.at,
+      watching.IsNotWatched.unknown d i.at read (record {
+        schedule = h.schedule;
+        there = h.there;
+        program = h.program;
+        source = h.core.source;
+        first = ap (option_map (λ (j : Inst). j.at)) e;
+      }) refl,
+    )
+
+watches : (bytes : List ℕ) → ReadOrBad greatest_size bytes → HasAnswer (Some watch) bytes
+watches bytes (inr (text, bad)) = (Status.BadDocument, text, watching.IsNotWatched.bad bad)
+watches bytes (inl (d, read)) = by_program (scheduled_program (core_document d)) refl
+  where
+    by_program : (o : Option CProgram) → scheduled_program (core_document d) ≡ o → HasAnswer (Some watch) bytes
+    by_program None e = (
+      Status.BadDocument,
+      refusal_text Code.NoSchedule,
+      watching.IsNotWatched.no_schedule d read
+          (no_schedule_source d (core.no_schedule (core_document d)
+          (read_core greatest_size (omega arith) bytes d read) e)) refl,
+    )
+    by_program (Some p) e =
+        watched_schedule bytes d read p (scheduled_source d read.reading.named read.reading.expands p e)
+
 -- ---- all requests
 
 pub limited_have_answer : LimitedHaveAnswer
-limited_have_answer None limited bytes without = (Status.BadWords, codes "bad words" ++ 10 ∷ [], (refl, refl))
-limited_have_answer (Some check) limited bytes without = checked bytes (read_or_bad greatest_size bytes)
-limited_have_answer (Some (prove budget)) limited bytes without =
-    searched bytes budget limited without (read_or_bad greatest_bare_size bytes)
-limited_have_answer (Some (run program steps)) limited bytes without =
+limited_have_answer None limited bytes = (Status.BadWords, codes "bad words" ++ 10 ∷ [], (refl, refl))
+limited_have_answer (Some check) limited bytes = checked bytes (read_or_bad greatest_size bytes)
+limited_have_answer (Some (prove budget)) limited bytes =
+    searched bytes budget limited (read_or_bad greatest_bare_size bytes)
+limited_have_answer (Some (run program steps)) limited bytes =
     ran bytes program steps (read_or_bad greatest_size bytes)
-limited_have_answer (Some replay) limited bytes without = replayed bytes (read_or_bad greatest_size bytes)
-limited_have_answer (Some (demo places)) limited bytes without =
-    shown places bytes (searched (ring_bytes places) ring_budget (omega arith) without
+limited_have_answer (Some replay) limited bytes = replayed bytes (read_or_bad greatest_size bytes)
+limited_have_answer (Some (demo places)) limited bytes =
+    shown places bytes (searched (ring_bytes places) ring_budget (omega arith)
     (read_or_bad greatest_bare_size (ring_bytes places)))
-limited_have_answer (Some upgrade) limited bytes without = upgrades bytes (read_or_bad greatest_bare_size bytes)
+limited_have_answer (Some upgrade) limited bytes = upgrades bytes (read_or_bad greatest_bare_size bytes)
+limited_have_answer (Some watch) limited bytes = watches bytes (read_or_bad greatest_size bytes)
 
 -- words ask for no more
 words_are_limited : (words : List (List ℕ)) → IsLimited (request_of words)
@@ -421,6 +520,7 @@ words_are_limited words = by_request (request_of words) refl
     by_request (Some replay) e = tt
     by_request (Some (demo places)) e = tt
     by_request (Some upgrade) e = tt
+    by_request (Some watch) e = tt
 
 pub some_answer : SomeAnswer
-some_answer words bytes without = limited_have_answer (request_of words) (words_are_limited words) bytes without
+some_answer words bytes = limited_have_answer (request_of words) (words_are_limited words) bytes

@@ -411,6 +411,7 @@ searched_has_text bytes budget Status.BadWords text h = tt
 searched_has_text bytes budget Status.ReadFault text h = h
 searched_has_text bytes budget Status.WriteFault text h = h
 searched_has_text bytes budget Status.WantOfMemory text h = h
+searched_has_text bytes budget Status.Violated text h = tt
 
 pub checked_has_text : (bytes : List ℕ) (status : Status) (text : List ℕ) → Checked bytes status text → HasText status
 checked_has_text bytes Status.Done text h = tt
@@ -423,6 +424,7 @@ checked_has_text bytes Status.BadWords text h = tt
 checked_has_text bytes Status.ReadFault text h = h
 checked_has_text bytes Status.WriteFault text h = h
 checked_has_text bytes Status.WantOfMemory text h = h
+checked_has_text bytes Status.Violated text h = tt
 
 pub answer_told : (request : Request) (bytes : List ℕ) (old new : Option (List ℕ)) (meant status : Status)
     (text : List ℕ) → Answer (Some request) bytes meant text → (HasText status → Appends old new text) → (HasText

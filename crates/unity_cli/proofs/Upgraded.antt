@@ -80,6 +80,7 @@ checked_upgraded bytes Status.BadWords text d read h other = h
 checked_upgraded bytes Status.ReadFault text d read h other = h
 checked_upgraded bytes Status.WriteFault text d read h other = h
 checked_upgraded bytes Status.WantOfMemory text d read h other = h
+checked_upgraded bytes Status.Violated text d read h other = h
 
 -- each answer has its whole text
 
@@ -94,6 +95,7 @@ upgraded_has_text bytes Status.BadWords text h = tt
 upgraded_has_text bytes Status.ReadFault text h = h
 upgraded_has_text bytes Status.WriteFault text h = h
 upgraded_has_text bytes Status.WantOfMemory text h = h
+upgraded_has_text bytes Status.Violated text h = tt
 
 pub bad_upgraded : (bytes : List ℕ) (status : Status) (text meant : List ℕ) → status ≡ Status.BadDocument →
     text ≡ meant → Upgraded bytes Status.BadDocument meant → Upgraded bytes status text

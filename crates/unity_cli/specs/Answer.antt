@@ -5,10 +5,11 @@ pub mod Run
 pub mod Replay
 pub mod Demo
 pub mod Upgrade
+pub mod Watch
 use Rattle.std.specs.Prelude.{◌≡◌, ℕ, List, ◌∷◌, [], ◌++◌, codes, Bool, true, false, Option, Some, None}
 use Rattle.std.specs.Io.KnownBytes.{Appends}
 use Rattle.unity_base.specs.Streams.{Was, AppendsPart}
-use Rattle.cli_words.specs.Requests.{Request, check, prove, run, replay, demo, upgrade}
+use Rattle.cli_words.specs.Requests.{Request, check, prove, run, replay, demo, upgrade, watch}
 use Rattle.unity_cli.specs.declared.status.Status.{Status}
 use Rattle.unity_cli.specs.Admitted.{greatest_size, greatest_bare_size}
 use Rattle.unity_cli.specs.Answer.Check.{Checked}
@@ -17,6 +18,7 @@ use Rattle.unity_cli.specs.Answer.Run.{Ran}
 use Rattle.unity_cli.specs.Answer.Replay.{Replayed}
 use Rattle.unity_cli.specs.Answer.Demo.{Shown}
 use Rattle.unity_cli.specs.Answer.Upgrade.{Upgraded}
+use Rattle.unity_cli.specs.Answer.Watch.{Watched}
 
 -- the greatest number of bytes of a text for a request
 abbrev pub most_bytes : Option Request → ℕ
@@ -33,6 +35,7 @@ Answer (Some (run program steps)) bytes status text = Ran bytes program steps st
 Answer (Some replay) bytes status text = Replayed bytes status text
 Answer (Some (demo places)) bytes status text = Shown places status text
 Answer (Some upgrade) bytes status text = Upgraded bytes status text
+Answer (Some watch) bytes status text = Watched bytes status text
 
 -- whether a source is read: it is for all requests but that of a ring, and it is not for words that are none
 abbrev pub reads_source : Option Request → Bool

@@ -25,6 +25,8 @@ use Rattle.unity_cli.specs.Answer.Check.{Checked, IsAccepted}
 use Rattle.unity_cli.specs.Answer.{most_bytes, Answer}
 use Rattle.unity_cli.specs.Answer.Prove.{Searched}
 use Rattle.unity_cli.specs.Answer.Upgrade.{Upgraded}
+use Rattle.unity_cli.specs.Answer.Watch.{Watched}
+use Rattle.watch_schedules.specs.declared.error.WatchStop.{WatchStop}
 use Rattle.unity_cli.specs.Input.{AreKept, IsInput, IsAdmittedAs, IsText}
 
 -- the status and the text are what `check` answers
@@ -43,6 +45,29 @@ IsSearchedIn budget bytes r a = IsAdmittedAs greatest_bare_size bytes r → Sear
 -- the status and the text are what `upgrade` answers
 abbrev pub IsUpgradedFor : Text → Told → Type 0
 IsUpgradedFor t a = (bytes : List ℕ) → IsText greatest_bare_size bytes t → Upgraded bytes a.status a.text.items
+
+-- the status and the text are what `watch` answers
+abbrev pub IsWatchedFor : Input → Told → Type 0
+IsWatchedFor input a = (bytes : List ℕ) → IsInput greatest_size bytes input → Watched bytes a.status a.text.items
+
+-- of a document
+abbrev pub IsWatchedIn : AdmittedDocument → Told → Type 0
+IsWatchedIn r a = (bytes : List ℕ) → IsAdmittedAs greatest_size bytes r → Watched bytes a.status a.text.items
+
+-- the status and the text of a refusal
+abbrev pub IsBadWith : List ℕ → Told → Type 0
+IsBadWith text a = (a.status ≡ Status.BadDocument) × (a.text.items ≡ text)
+
+-- the status and the text for the cause for which a schedule is not watched
+abbrev pub IsStoppedFor : List (List ℕ) → WatchStop → Told → Type 0
+IsStoppedFor words WatchStop.NoSchedule a = IsBadWith (refusal_text Code.NoSchedule) a
+IsStoppedFor words (WatchStop.NoSuchStatement at) a = IsBadWith (fault_text Code.NoSuchStatement at) a
+IsStoppedFor words WatchStop.NotInitial a = IsBadWith (refusal_text Code.NoStart) a
+IsStoppedFor words WatchStop.NoProof a = IsBadWith (refusal_text Code.NoProof) a
+IsStoppedFor words (WatchStop.Step fault) a =
+    (a.status ≡ Status.Rejected) × (a.text.items ≡ rejected_text words fault)
+IsStoppedFor words WatchStop.TooManyCases a = IsBadWith (refusal_text Code.TooManyCases) a
+IsStoppedFor words WatchStop.Memory a = ⊥
 
 -- a plan comes where certificates were found, and there alone: `check` writes it of the text with them
 abbrev pub ComesWith : List (List ℕ) → Told → Option Plan → Type 0

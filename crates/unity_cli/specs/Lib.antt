@@ -8,4 +8,5 @@ pub mod Answering
 pub mod Truth
 pub mod Starts
 pub mod Following
+pub mod Watching
 pub mod Laws

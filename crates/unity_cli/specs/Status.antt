@@ -13,6 +13,7 @@ status_number Status.BadWords = 6
 status_number Status.ReadFault = 7
 status_number Status.WriteFault = 8
 status_number Status.WantOfMemory = 9
+status_number Status.Violated = 10
 
 -- the status comes with its whole text
 abbrev pub HasText : Status → Type 0

@@ -14,6 +14,7 @@ use crate::replay::write_replay;
 use crate::run::write_run;
 use crate::status::Status;
 use crate::upgrade::write_upgrade;
+use crate::watch::write_watch;
 use cli_words::Command;
 use std::alloc::Global;
 use unity_base::Sink;
@@ -54,6 +55,7 @@ pub fn write_command<K: Sink>(alloc: Global, command: &Command, text: Text, out:
         Command::Replay => write_replay(alloc, &input_of(text), out),
         Command::Demo { places } => write_demo(alloc, *places, out),
         Command::Upgrade => write_upgrade(alloc, text, out),
+        Command::Watch => write_watch(alloc, &input_of(text), out),
     }
 }
 

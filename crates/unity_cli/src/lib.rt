@@ -14,6 +14,7 @@ mod status;
 mod stop;
 mod top;
 mod upgrade;
+mod watch;
 
 pub use cli_ring::make_demo;
 pub use laws::one_answer;

@@ -7,9 +7,10 @@ pub enum Status {
     /// `check`: each step follows its rule, and each certificate refutes its obligation's negation.
     /// `run`, `replay`: each step was defined.
     /// `prove`: certificates were found for all obligations.
+    /// `watch`: nothing is violated on the trace.
     Done = 0,
     /// `check`: a step does not follow its rule, or a certificate is missing, one too many, or fails.
-    /// `prove`: a step does not follow its rule, or a proof has no `defined` step.
+    /// `prove`, `watch`: a step does not follow its rule, or a proof has no `defined` step.
     Rejected = 1,
     /// The bytes are no document, or none that the command can use.
     BadDocument = 2,
@@ -27,6 +28,8 @@ pub enum Status {
     WriteFault = 8,
     /// Memory was refused.
     WantOfMemory = 9,
+    /// `watch`: a step of the proof is violated at a place of the trace.
+    Violated = 10,
 }
 
 impl Status {

@@ -5,7 +5,8 @@ use Rattle.unity_cli.specs.Answer.{most_bytes}
 use Rattle.unity_cli.specs.Input.{IsTextOf}
 use Rattle.unity_cli.proofs.Told.{bad_words, told_whole, told_part, done_claims, done_runs, done_starts, done_tells}
 use Rattle.unity_cli.proofs.Told.{text_follows}
-use Rattle.unity_cli.proofs.Shown.{shown_whole, shown_part, ring_is_no_check, others_read}
+use Rattle.unity_cli.proofs.Watched.{done_kept, done_unviolated, done_violated}
+use Rattle.unity_cli.proofs.Shown.{shown_whole, shown_part, ring_is_no_check, ring_is_no_watch, others_read}
 use Rattle.cli_words.specs.Requests.{meant, asked}
 use Rattle.unity_cli.proofs.top.unity.Goals as goal
 
@@ -159,3 +160,50 @@ returns-in-Ok-read_input-clause-end g c = λ some read memory.
     (c.most_bytes.ensures
     ∙ ap most_bytes (sym (sym c.read_words.ensures.asked ∙ ap (option_map meant) c.in-Some.is)))
     c.in-Ok-read_input.ensures.end
+
+pub returns-in-Demo-clause-violated : goal.returns-in-Demo-clause-violated
+returns-in-Demo-clause-violated g c = λ done is_watch. absurd (ring_is_no_watch (asked c.args.words.now)
+    c.in-Demo.places
+    (sym c.read_words.ensures.asked ∙ ap (option_map meant) c.in-Some.is ∙ ap (λ x. Some (meant x)) c.in-Demo.is)
+    is_watch)
+
+pub returns-in-Ok-read_input-clause-violated : goal.returns-in-Ok-read_input-clause-violated
+returns-in-Ok-read_input-clause-violated g c =
+    done_violated (asked c.args.words.now) (meant c.in-Some.command) (g.S.Source.left c.args.src.now)
+    c.in-Ok-read_input.text
+    (g.K.Sink.written c.args.out.now) (g.K.Sink.written c.write_command.new.out) c.write_command.result
+    (sym c.read_words.ensures.asked ∙ ap (option_map meant) c.in-Some.is)
+    (subst (λ m. IsTextOf m (g.S.Source.left c.args.src.now) c.in-Ok-read_input.text)
+    c.most_bytes.ensures c.in-Ok-read_input.ensures.input)
+    c.write_command.ensures.told
+
+pub returns-in-Demo-clause-unviolated : goal.returns-in-Demo-clause-unviolated
+returns-in-Demo-clause-unviolated g c = λ done is_watch. absurd (ring_is_no_watch (asked c.args.words.now)
+    c.in-Demo.places
+    (sym c.read_words.ensures.asked ∙ ap (option_map meant) c.in-Some.is ∙ ap (λ x. Some (meant x)) c.in-Demo.is)
+    is_watch)
+
+pub returns-in-Ok-read_input-clause-unviolated : goal.returns-in-Ok-read_input-clause-unviolated
+returns-in-Ok-read_input-clause-unviolated g c =
+    done_unviolated (asked c.args.words.now) (meant c.in-Some.command) (g.S.Source.left c.args.src.now)
+    c.in-Ok-read_input.text
+    (g.K.Sink.written c.args.out.now) (g.K.Sink.written c.write_command.new.out) c.write_command.result
+    (sym c.read_words.ensures.asked ∙ ap (option_map meant) c.in-Some.is)
+    (subst (λ m. IsTextOf m (g.S.Source.left c.args.src.now) c.in-Ok-read_input.text)
+    c.most_bytes.ensures c.in-Ok-read_input.ensures.input)
+    c.write_command.ensures.told
+
+pub returns-in-Demo-clause-kept : goal.returns-in-Demo-clause-kept
+returns-in-Demo-clause-kept g c = λ done is_watch. absurd (ring_is_no_watch (asked c.args.words.now) c.in-Demo.places
+    (sym c.read_words.ensures.asked ∙ ap (option_map meant) c.in-Some.is ∙ ap (λ x. Some (meant x)) c.in-Demo.is)
+    is_watch)
+
+pub returns-in-Ok-read_input-clause-kept : goal.returns-in-Ok-read_input-clause-kept
+returns-in-Ok-read_input-clause-kept g c =
+    done_kept (asked c.args.words.now) (meant c.in-Some.command) (g.S.Source.left c.args.src.now)
+    c.in-Ok-read_input.text
+    (g.K.Sink.written c.args.out.now) (g.K.Sink.written c.write_command.new.out) c.write_command.result
+    (sym c.read_words.ensures.asked ∙ ap (option_map meant) c.in-Some.is)
+    (subst (λ m. IsTextOf m (g.S.Source.left c.args.src.now) c.in-Ok-read_input.text)
+    c.most_bytes.ensures c.in-Ok-read_input.ensures.input)
+    c.write_command.ensures.told

@@ -1,0 +1,4 @@
+pub mod Endings
+pub mod Sources
+pub mod Finding
+pub mod Stops

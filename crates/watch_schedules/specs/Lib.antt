@@ -1,0 +1,3 @@
+pub mod Stops
+pub mod Schedules
+pub mod Telling
