@@ -9,4 +9,5 @@ mod texts;
 mod traces;
 mod upgrades;
 mod versions;
+mod watches;
 mod words;

@@ -1,4 +1,5 @@
 // Searches for certificates.
+mod costs;
 mod programs;
 
 use examples_answers::{ACCEPTED, COUNT, Row, Status, answer, edited, make_demo, wrong_answers};

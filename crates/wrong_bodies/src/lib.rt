@@ -8,6 +8,7 @@ mod rules;
 mod runs;
 mod script;
 mod searches;
+mod watching;
 
 pub use changes::{
     changed_record, first_part, goal_at, rounds_of, with_bound, with_either_goal, with_end,
@@ -18,3 +19,4 @@ pub use rules::{derive, ensures_rule, invariant_rule, pair_rule, union_unless, w
 pub use runs::step;
 pub use script::{check, prove};
 pub use searches::{close, search, search_tree};
+pub use watching::{case_values, watch_choices, watch_first, watch_step};

@@ -4,12 +4,14 @@ ghost use Rattle.std.specs.Io.KnownBytes.{IsAtEnd};
 ghost use Rattle.unity_base.specs.Streams.{IsTold, IsLongerThan, LeavesRest};
 ghost use Rattle.unity_syntax.specs.declared.document.Document.{Document};
 ghost use Rattle.unity_parser.specs.Document.{IsDocument};
-ghost use Rattle.cli_words.specs.Requests.{asked, check};
+ghost use Rattle.cli_words.specs.Requests.{asked, check, watch};
 ghost use Rattle.unity_cli.specs.Status.{HasText};
 ghost use Rattle.unity_cli.specs.Answer.{most_bytes, reads_source, Tells, TellsPart};
 ghost use Rattle.unity_cli.specs.Truth.{ClaimsAreTrue, ProgramsRun, WritesWhatIsTrue};
 ghost use Rattle.unity_cli.specs.Starts.{ProgramsStart};
 ghost use Rattle.unity_cli.specs.Following.{FollowsTheRules};
+ghost use Rattle.unity_cli.specs.Watching.{WritesEnding, WritesFirstViolation};
+ghost use Rattle.trace_watch.specs.declared.tracing.Ending.{Ending};
 
 use std::alloc::Global;
 use unity_base::{Sink, Source};
@@ -44,6 +46,18 @@ pub fn unity<S: Source, K: Sink>(
         S.left src.old ≡ Some bytes → IsDocument bytes d → ProgramsRun d }
     ensures starts { result ≡ Status.Done → asked words.now ≡ Some check → (bytes : List ℕ) (d : Document) →
         S.left src.old ≡ Some bytes → IsDocument bytes d → ProgramsStart d }
+
+    // The trace of a document's schedule is told to violate a step exactly at its first violation of what the
+    // document's own proof claims, by its own steps: at the least place, there of the first step, and of this in the
+    // first case. Where the document is accepted there is none.
+    ensures violated { result ≡ Status.Violated → asked words.now ≡ Some watch → (bytes : List ℕ) (d : Document) →
+        S.left src.old ≡ Some bytes → IsDocument bytes d →
+        WritesFirstViolation d (K.written out.old) (K.written out.new) }
+    ensures unviolated { result ≡ Status.Done → asked words.now ≡ Some watch → (bytes : List ℕ) (d : Document) →
+        S.left src.old ≡ Some bytes → IsDocument bytes d →
+        WritesEnding d Ending.Unviolated (K.written out.old) (K.written out.new) }
+    ensures kept { result ≡ Status.Violated → asked words.now ≡ Some watch → (bytes : List ℕ) →
+        S.left src.old ≡ Some bytes → FollowsTheRules bytes → ⊥ }
 
     // For words that are no command, and for a ring, the source is not read.
     ensures untouched { reads_source (asked words.now) ≡ false → src.new ≡ src.old }
