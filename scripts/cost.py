@@ -9,7 +9,7 @@ from plan import Plan, closure
 def units_of(text):
     """The units of each certificate: a node is one, and so is a pair."""
     section = text[text.rindex("\ncertificates\n"):]
-    return [len(re.findall(r"\b(?:case|split|sum|round)\b|\*", line)) for line in section.split("\n") if ":" in line]
+    return [len(re.findall(r"\b(?:case|split|quot|sum|round)\b|\*", line)) for line in section.split("\n") if ":" in line]
 
 
 class Costs:

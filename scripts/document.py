@@ -179,6 +179,7 @@ class Document(Reader):
     def __init__(self, text):
         super().__init__(text)
         self.programs, self.proofs, self.schedule, self.certificates = {}, [], None, None
+        self.scheduled = None
         self.take("unity")
         self.version = self.take()
         while self.now() in ("program", "proof"):
@@ -188,8 +189,7 @@ class Document(Reader):
                 self.read_proof()
         if self.now() == "schedule":
             self.schedule = self.place()
-            while not self.has("end"):
-                self.take()
+            self.scheduled = self.read_schedule()
         if self.now() == "certificates":
             self.certificates = self.place()
         self.defs = {name: node for it in self.programs.values() for name, node in it.always}
@@ -362,6 +362,18 @@ class Document(Reader):
         elif made.word == "psp":
             self.take(",")
             made.ref = self.reference()
+
+    # the schedule
+
+    def read_schedule(self):
+        """The program of a schedule, its choices as texts, and where it ends."""
+        self.take("schedule")
+        program = self.take()
+        self.take(":")
+        choices = [] if self.now() == "end" else self.several(self.reference)
+        self.take("end")
+        return Record(program=program, end=self.last(),
+                      choices=["".join(self.words(it.start, it.end).split()) for it in choices])
 
     # what stands where
 

@@ -25,9 +25,9 @@ install -m 644 docs/unity.1 "$prefix/share/man/man1/unity.1"
 install -m 644 editors/* "$share/editors/"
 install -m 644 docs/TUTORIAL.md docs/WRITING.md docs/LANGUAGE.md docs/LOGIC.md docs/CERTIFICATES.md docs/TERMS.md \
     "$share/docs/"
-install -m 644 scripts/places.sh scripts/unity.sh scripts/{document,formulas,plan,probe,sides,refusals,why,cost}.py \
-    "$share/scripts/"
-for script in check prove why cost check_all trace_svg; do
+install -m 644 scripts/places.sh scripts/unity.sh "$share/scripts/"
+install -m 644 scripts/{document,formulas,plan,probe,sides,refusals,why,cost,schedules}.py "$share/scripts/"
+for script in check prove why cost check_all watch try shrink trace_svg; do
     install -m 644 "scripts/$script.sh" "$share/scripts/"
     command=$prefix/bin/unity-${script//_/-}
     printf '#!/bin/sh\nexec bash "$(dirname "$0")/../share/unity/scripts/%s.sh" "$@"\n' "$script" > "$command"

@@ -10,6 +10,14 @@ if [ ! -x "$built" ]; then
     built=
 fi
 
+# need_built: ends the script where the program is not built.
+need_built() {
+    if [ -z "$built" ]; then
+        echo "the program is not built: bash scripts/build.sh" >&2
+        exit 1
+    fi
+}
+
 # run_unity ANSWER NOTES FILE WORD..: what `unity` says by these words of the file goes to ANSWER. The built
 # program is taken where it is there; else the sources are compiled as they are, in about a minute and with no
 # proof, and what that says goes to NOTES. The status is that of `unity`.
@@ -98,7 +106,7 @@ show_byte() {
 # show_step ANSWER NAME FILE: the line of the step that the answer names, where it names one.
 show_step() {
     local named
-    named=$(sed -n '1s/^\(rejected [0-9][0-9]* [A-Za-z]*\|refuted\|budget\) \([^ ]*\).*$/\2/p' "$1")
+    named=$(sed -n '1s/^\(rejected [0-9][0-9]* [A-Za-z]*\|refuted\|budget\|violated\) \([^ ]*\).*$/\2/p' "$1")
     if [ -n "$named" ]; then
         LC_ALL=C awk -v named="$named" -v name="$2" '
             BEGIN { split(named, part, "."); program = part[1]; step = part[2] }

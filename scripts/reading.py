@@ -335,7 +335,8 @@ TOP = "unity"
 PARTS = [
     [(TOP, "safe")],
     [(TOP, "bounds"), (TOP, "runs")],
-    [(TOP, "answer"), (TOP, "follows"), (TOP, "starts"), ("one_answer", None)],
+    [(TOP, "answer"), (TOP, "follows"), (TOP, "starts"), (TOP, "violated"), (TOP, "unviolated"), (TOP, "kept"),
+     ("one_answer", None)],
 ]
 PAGE = "docs/READING.md"
 ROW = re.compile(r"^\| \[([^\]]*)\]\(\.\./([^)]*)\) \| (\d+) \|(.*)\|$")

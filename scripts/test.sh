@@ -137,6 +137,16 @@ expect_replay() {
     compare "$wanted" "$(status_of_trace "$wanted")" replay < "examples/$1.unity"
 }
 
+# expect_watch DOCUMENT: of this document the text by `watch` is DOCUMENT.watch.
+expect_watch() {
+    wanted=examples/$1.watch
+    local status=0
+    if head -n 1 "$wanted" | grep -q '^violated '; then
+        status=10
+    fi
+    compare "$wanted" "$status" watch < "examples/$1.unity"
+}
+
 # expect_line STATUS LINE WORD..: by these words and the input here this line is said, or nothing where
 # LINE is empty.
 expect_line() {
@@ -218,6 +228,59 @@ expect_step() {
         holds=0
     fi
     count_one "$holds" "the line of the step in examples/$1.unity"
+}
+
+# expect_violated DOCUMENT LINE: of this document the script that watches prints DOCUMENT.watch and the trace up to the
+# place, and names the line of the step.
+expect_violated() {
+    local status=0 place holds=1
+    bash scripts/watch.sh "examples/$1.unity" > "$answer" 2> "$proved" || status=$?
+    place=$(sed -n '1s/.* place //p' "examples/$1.watch")
+    { cat "examples/$1.watch"; head -n "$((place + 2))" "examples/$1.replay"; } > "$text"
+    if [ "$status" = 10 ] && cmp -s "$answer" "$text" && [ "$(head -n 1 "$proved")" = "examples/$1.unity:$2" ]; then
+        holds=0
+    fi
+    count_one "$holds" "the violation in examples/$1.unity"
+}
+
+# expect_tried DOCUMENT PROGRAM: of a hundred random schedules of this document one has a step violated, and shortened
+# it is the document's own.
+expect_tried() {
+    local status=0 holds=1
+    bash scripts/try.sh "examples/$1.unity" "$2" 100 1 > "$proved" 2> "$text" || status=$?
+    if [ "$status" = 10 ] && [ "$(tail -n 1 "$text")" = "schedule 1 of 100" ]; then
+        status=0
+        bash scripts/shrink.sh "$proved" > "$answer" 2> "$text" || status=$?
+        if [ "$status" = 10 ] && cmp -s "$answer" "examples/$1.unity"; then
+            holds=0
+        fi
+    fi
+    count_one "$holds" "a schedule of examples/$1.unity that was found"
+}
+
+# expect_broken DOCUMENT: on one of ten random schedules of the proof's program a step of this document is violated.
+expect_broken() {
+    local program holds=1 status=0
+    program=$(sed -n 's/^proof \([A-Za-z0-9_]*\).*/\1/p' "examples/$1.unity" | head -n 1)
+    bash scripts/try.sh "examples/$1.unity" "$program" 10 1 > "$proved" 2> "$text" || status=$?
+    if [ "$status" = 10 ]; then
+        crates/unity/out/unity watch < "$proved" > "$answer" || true
+        if [ "$(head -n 1 "$answer")" = "$(head -n 1 "$text")" ]; then
+            holds=0
+        fi
+    fi
+    count_one "$holds" "a random schedule of examples/$1.unity"
+}
+
+# expect_note STATUS LINE SCRIPT WORD..: this script prints nothing, and last says this line, and exits so.
+expect_note() {
+    local wanted=$1 line=$2 status=0 holds=1
+    shift 2
+    bash scripts/"$@" > "$answer" 2> "$text" || status=$?
+    if [ "$status" = "$wanted" ] && [ ! -s "$answer" ] && [ "$(tail -n 1 "$text")" = "$line" ]; then
+        holds=0
+    fi
+    count_one "$holds" "$*"
 }
 
 # expect_page PAGE: each command of this page prints what the page says.
@@ -389,11 +452,15 @@ expect_installed() {
     {
         "$room/here/bin/unity" check < examples/count.unity
         "$room/here/bin/unity-why" examples/pick.unity || true
+        "$room/here/bin/unity-watch" examples/race.unity || true
+        "$room/here/bin/unity-try" examples/lost_update_mended.unity Tally 1 1
         "$room/here/bin/unity-check-all" examples/causes 2 || true
     } > "$answer" 2>&1
     {
         cat examples/count.expected
         bash scripts/why.sh examples/pick.unity || true
+        bash scripts/watch.sh examples/race.unity || true
+        bash scripts/try.sh examples/lost_update_mended.unity Tally 1 1
         bash scripts/check_all.sh examples/causes || true
     } > "$text" 2>&1
     if cmp -s "$answer" "$text" && [ "$(tail -n 1 "$text")" = "0 of 6 accepted" ]; then
@@ -412,13 +479,25 @@ expect_row() {
     count_one "$holds" "the row of $1 in docs/WRITING.md"
 }
 
-# expect_picture DOCUMENT TRACE: the picture of this trace of the document, run or replay, is DOCUMENT.svg.
+# expect_picture PICTURE TEXT..: the picture of these texts, a trace, or the answer of `watch` and a trace, is
+# PICTURE.svg.
 expect_picture() {
-    local holds=1
-    if bash scripts/trace_svg.sh < "examples/$1.$2" | cmp -s - "examples/$1.svg"; then
+    local picture=examples/$1.svg holds=1
+    shift
+    if (cd examples && cat "$@") | bash scripts/trace_svg.sh | cmp -s - "$picture"; then
         holds=0
     fi
-    count_one "$holds" "examples/$1.svg"
+    count_one "$holds" "$picture"
+}
+
+# expect_no_picture LINE..: a text of these lines is no trace.
+expect_no_picture() {
+    local holds=1 status=0
+    printf '%s\n' "$@" | bash scripts/trace_svg.sh > "$answer" 2> "$text" || status=$?
+    if [ "$status" = 1 ] && [ ! -s "$answer" ]; then
+        holds=0
+    fi
+    count_one "$holds" "no picture of: $*"
 }
 
 # expect_refused N TEST: this test of unity_base passes where its Nth allocation is refused.
@@ -473,6 +552,8 @@ expect 1 two_phase_commit
 expect 1 barrier
 expect 1 race
 expect 1 pick
+expect 1 lost_update
+expect 1 lost_update_mended
 for name in bakery chang_roberts k_state go_back_n msi dining; do
     expect 1 "$name"
 done
@@ -486,22 +567,26 @@ expect_proof union_proofs union_proofs.expected
 for name in peterson readers_writers two_phase_commit barrier ring_of_four ring_of_three union_of_two; do
     expect_proof "$name" "$name.accepted"
 done
-for name in k_state chang_roberts bakery msi; do
+expect_proof lost_update_mended lost_update_mended.accepted
+for name in k_state chang_roberts bakery msi go_back_n dining; do
     expect_proof "$name" "$name.accepted"
 done
 for name in safety_calculus union_proofs; do
     expect_counted "$name" "$name.expected"
 done
-for name in peterson barrier ring_of_four union_of_two bakery chang_roberts k_state go_back_n msi dining; do
+for name in peterson barrier ring_of_four union_of_two bakery chang_roberts k_state go_back_n msi dining \
+    lost_update_mended; do
     expect_counted "$name" "$name.accepted"
 done
 for name in bakery chang_roberts k_state go_back_n msi dining; do
     expect_cause "causes/$name"
 done
-# what divides by constants
-expect 1 gcd
-expect_proof gcd gcd.accepted
-expect_counted gcd gcd.accepted
+# what counts modulo something
+for name in clock ring_buffer gcd; do
+    expect 1 "$name"
+    expect_proof "$name" "$name.accepted"
+    expect_counted "$name" "$name.accepted"
+done
 # the programs of the book of Chandy and Misra
 for name in meeting_time sort odd_even reachability shortest_path termination binomial garbage; do
     expect 1 "$name"
@@ -511,6 +596,7 @@ done
 expect_claim 13000 +
 expect_refuted pick
 expect_refuted race
+expect_refuted lost_update
 expect_ring 2
 expect_ring 16
 expect_run count
@@ -524,18 +610,29 @@ expect_run barrier
 expect_run race
 expect_run sort
 expect_run odd_even
+expect_run clock
+expect_run ring_buffer
 expect_run gcd
+expect_run lost_update
 expect_replay past_the_end
 expect_replay peterson
 expect_replay two_phase_commit
 expect_replay race
 expect_replay termination
+expect_replay lost_update
+expect_replay lost_update_mended
+for name in peterson two_phase_commit race termination lost_update lost_update_mended; do
+    expect_watch "$name"
+done
 expect_upgraded count
 expect_upgraded share
 expect_upgraded last_bit
 expect_line 1 "rejected 53 BadSum Count.top obligation 2" upgrade < examples/count_wrong_sum.unity
 expect_line 2 "bad 61 NoProgram" run None 3 < examples/count.unity
 expect_line 2 "bad 60 NoSchedule" replay < examples/count.unity
+expect_line 2 "bad 60 NoSchedule" watch < examples/count.unity
+expect_line 2 "bad 63 NoProof" watch < examples/past_the_end.unity
+expect_line 6 "bad words" watch 1 < examples/count.unity
 expect_line 2 "bad 10 Unknown byte 50" run P 1 < examples/unknown_name.unity
 expect_line 6 "bad words" run Count 05 < examples/count.unity
 expect_line 6 "bad words" run Count 1000001 < examples/count.unity
@@ -544,9 +641,11 @@ expect_line 6 "bad words" demo 1
 expect_line 6 "bad words" demo 65
 expect_line 7 "" check < .
 expect_line 7 "" run Count 5 < .
+expect_line 7 "" watch < .
 expect_full 8 check
 expect_full 8 run Count 5
 expect_full 8 replay
+expect_full 8 watch
 expect_full 8 prove 1000000
 expect_full 8 demo 2
 expect_full 8 upgrade
@@ -578,6 +677,17 @@ expect_place comparison_of_three 12 25
 expect_place empty_range 6 27
 expect_step pick 13
 expect_step race 28
+expect_violated race 28
+expect_violated lost_update 27
+expect_tried lost_update Tally
+for name in bakery chang_roberts k_state go_back_n msi dining; do
+    expect_broken "causes/$name"
+done
+expect_note 0 "none of 5 schedules is violated" try.sh examples/lost_update_mended.unity Tally 5 1
+expect_note 2 "bad 63 NoProof" try.sh examples/past_the_end.unity Over 5 1
+expect_note 64 "examples/count.unity has no program None, but Count" try.sh examples/count.unity None 5 1
+expect_note 64 "usage: bash scripts/try.sh FILE PROGRAM COUNT SEED > DOCUMENT" try.sh examples/count.unity Count 5
+expect_note 2 "bad 60 NoSchedule" shrink.sh examples/count.unity
 expect_bound "256 lists, 494 states" examples/union_of_two.unity Both 'v["x"] == 0' 'v["x"] == 1' 1 inc flip
 expect_bound "no state with Q: list 1, state 0" examples/union_of_two.unity Both 'v["x"] == 0' 'v["x"] == 1' 0 inc flip
 expect_bound "6561 lists, 3096 states" examples/ring_of_three.unity Ring 1 'v["at"] == 0' 2 'pass[1]' 'pass[2]' wrap
@@ -595,7 +705,10 @@ expect_units 25
 expect_none_left
 expect_installed
 expect_page docs/TUTORIAL.md
-expect_picture race replay
+expect_picture race race.replay
+expect_picture lost_update.watch lost_update.watch lost_update.replay
+expect_no_picture "violated P.s place 1" "1 s x=0" "replay P" "0 x=0"
+expect_no_picture "replay P" "0 x=0"
 for document in examples/mistakes/*.unity; do
     expect_mistake "$(basename "$document" .unity)"
     expect_why "$(basename "$document" .unity)"

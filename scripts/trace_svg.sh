@@ -3,8 +3,10 @@
 #
 # TRACE is what `unity run` or `unity replay` prints. The picture, in SVG, is a table with a line for each
 # state: its number, the statement that led to it and the values, those that changed in bold on a coloured
-# ground. Below stands the last line of the trace, the rounds or the step that is undefined. Anything that
-# is no trace is refused, with status 1.
+# ground. Below stands the last line of the trace, the rounds or the step that is undefined. Where the answer of
+# `unity watch` stands before the trace, as `scripts/watch.sh` prints them, and names a step that is violated, the
+# line of that place has a ground of its own, and below stands the step with its parameters; such a trace may end at
+# that place. Anything that is no trace is refused, with status 1.
 set -eu
 if [ $# != 0 ]; then
     echo "usage: bash scripts/trace_svg.sh < TRACE > PICTURE" >&2
@@ -19,7 +21,10 @@ LC_ALL=C awk '
     function cell(x, y, class, text) {
         printf "<text x=\"%d\" y=\"%d\"%s>%s</text>\n", x, y, class == "" ? "" : " class=\"" class "\"", plain(text)
     }
-    NR == 1 {
+    NR == 1 && /^violated [A-Za-z0-9_.]+ place [0-9]+$/ { fault = $0; place = $4; next }
+    title == "" && fault != "" && /^[A-Za-z][A-Za-z0-9_]* = -?[0-9]+$/ { fault = fault ", " $0; next }
+    title == "" && fault != "" && $1 == place { next }
+    title == "" {
         if (!/^(run|replay) [A-Za-z][A-Za-z0-9_]*$/) fail("no trace begins so")
         title = $0
         next
@@ -44,7 +49,8 @@ LC_ALL=C awk '
     }
     END {
         if (failed) exit 1
-        if (!ended) fail("the trace has no end")
+        if (!ended && fault == "") fail("the trace has no end")
+        if (fault != "" && states <= place) fail("the trace ends before the place")
         head[1] = "state"
         head[2] = "statement"
         left = 10
@@ -56,11 +62,13 @@ LC_ALL=C awk '
         width = left + 2
         if (length(title) * 8 + 30 > width) width = length(title) * 8 + 30
         if (length(last) * 8 + 30 > width) width = length(last) * 8 + 30
-        height = states * 20 + 96
+        if (length(fault) * 8 + 30 > width) width = length(fault) * 8 + 30
+        height = states * 20 + 76 + (ended ? 20 : 0) + (fault != "" ? 20 : 0)
         printf "<svg xmlns=\"http://www.w3.org/2000/svg\" width=\"%d\" height=\"%d\" viewBox=\"0 0 %d %d\">\n",
             width, height, width, height
         print "<title>" plain(title) "</title>"
         print "<style>text { font: 13px monospace; fill: #202020 } .head, .new { font-weight: bold }"
+        if (fault != "") print ".fault { fill: #ffd6d6 }"
         print ".bad { font-weight: bold; fill: #a00000 } .mark { fill: #ffe08a } line { stroke: #b0b0b0 }</style>"
         printf "<rect width=\"%d\" height=\"%d\" fill=\"#ffffff\"/>\n", width, height
         cell(10, 24, "head", title)
@@ -68,15 +76,20 @@ LC_ALL=C awk '
         printf "<line x1=\"10\" y1=\"60\" x2=\"%d\" y2=\"60\"/>\n", left - 6
         for (state = 0; state < states; state++) {
             y = 78 + state * 20
+            violated = fault != "" && state == place
+            if (violated)
+                printf "<rect class=\"fault\" x=\"4\" y=\"%d\" width=\"%d\" height=\"18\"/>\n", y - 14, left - 8
             for (column = 1; column <= columns; column++) {
                 changed = state && column > 2 && value[state, column] != value[state - 1, column]
                 if (changed)
                     printf "<rect class=\"mark\" x=\"%d\" y=\"%d\" width=\"%d\" height=\"18\"/>\n",
                         x[column] - 4, y - 14, wide[column] * 8 + 8
-                cell(x[column], y, changed ? "new" : "", value[state, column])
+                cell(x[column], y, changed ? "new" : violated && column < 3 ? "bad" : "", value[state, column])
             }
         }
-        cell(10, height - 10, last ~ /^undefined/ ? "bad" : "", last)
+        foot = states * 20 + 86
+        if (ended) cell(10, foot, last ~ /^undefined/ ? "bad" : "", last)
+        if (fault != "") cell(10, ended ? foot + 20 : foot, "bad", fault)
         print "</svg>"
     }
 '

@@ -12,9 +12,13 @@ import subprocess
 import tempfile
 
 # What a command asks of `unity`, where it asks on a document.
-ASKED = [(re.compile(r"unity (check|replay|run \w+ \d+|prove \d+) < ([\w.]+\.unity)$"), None),
-         (re.compile(r'bash "\$top/scripts/(check)\.sh" ([\w.]+\.unity)$'), ["check"]),
+ASKED = [(re.compile(r"unity (check|replay|watch|run \w+ \d+|prove \d+) < ([\w.]+\.unity)$"), None),
+         (re.compile(r'bash "\$top/scripts/(check|watch)\.sh" ([\w.]+\.unity)$'), None),
          (re.compile(r'bash "\$top/scripts/(prove|why)\.sh" ([\w.]+\.unity)'), ["prove", "1000000"])]
+# What is asked on a document that a command changes on the way, with the command, what is asked, its name and the rest.
+PIPED = re.compile(r"(sed [^|]* ([\w.]+\.unity)) \| unity (check|watch)( \| .*)?$")
+# A document that only the built program makes of another one: the same with another schedule.
+RESCHEDULED = re.compile(r'bash "\$top/scripts/(?:try|shrink)\.sh" ([\w.]+\.unity)(?: .*)? > ([\w.]+\.unity)$')
 # Nothing of what the commands run is wanted but the files that they write by sed and cat.
 SILENT = "unity() { :; }; bash() { :; }; make() { :; }; top=$PWD; cd lesson\n"
 
@@ -42,12 +46,19 @@ def table(lines):
     return "<table>%s</table>" % "".join(made)
 
 
+def wanted_of(command, printed):
+    """What the page shows for a command that prints this: of `watch.sh` without the line of the step."""
+    if "/watch.sh" in command:
+        return re.sub(r"^[\w.]+:\d+\n.*\n", "", printed, flags=re.M)
+    return printed if command.startswith("unity") else None
+
+
 class Lessons:
     """`chapters` have a title and HTML each, whose buttons name one of the `tries`; these name one of the `texts`."""
 
     def __init__(self, page):
         self.chapters, self.tries, self.texts = [], [], []
-        self.files, self.commands = {}, []
+        self.files, self.commands, self.rescheduled = {}, [], {}
         with tempfile.TemporaryDirectory() as self.folder:
             os.makedirs(os.path.join(self.folder, "lesson"))
             for part in re.split(r"^## ", page, flags=re.M)[1:]:
@@ -101,20 +112,25 @@ class Lessons:
         buttons = ""
         for name in self.run(command):
             buttons += " " + self.button(name, [], None, "put %s into the editor" % name)
+        self.reschedule(command, printed)
         for pattern, words in ASKED:
             asked = pattern.match(command)
             if asked and asked.group(2) in self.files:
                 words = words or asked.group(1).split()
-                wanted = printed if command.startswith("unity") else None
-                buttons = self.button(asked.group(2), words, wanted, "do this here")
+                buttons = self.button(asked.group(2), words, wanted_of(command, printed), "do this here")
+        piped = PIPED.match(command)
+        if piped and piped.group(2) in self.files:
+            text, wanted = self.shell(piped.group(1)), None if piped.group(4) else printed
+            buttons = self.button(piped.group(2), [piped.group(3)], wanted, "do this here", text)
         line = '<p class="order"><code>$ %s</code>%s</p>' % (html.escape(command, quote=False), buttons)
         return line + ("<pre>%s</pre>" % html.escape(printed.rstrip("\n"), quote=False) if printed else "")
 
-    def button(self, name, words, wanted, label):
-        """A button that puts the file as it stands into the editor, and asks by these words, if there are any."""
-        if self.files[name] not in self.texts:
-            self.texts.append(self.files[name])
-        made = {"file": name, "source": self.texts.index(self.files[name]), "words": words}
+    def button(self, name, words, wanted, label, text=None):
+        """A button that puts the file as it stands, or this text, into the editor, and asks by these words, if any."""
+        text = text or self.files[name]
+        if text not in self.texts:
+            self.texts.append(text)
+        made = {"file": name, "source": self.texts.index(text), "words": words}
         if wanted is not None:
             made["wanted"] = wanted
         self.tries.append(made)
@@ -125,14 +141,32 @@ class Lessons:
             file.write(text)
         self.files[name] = text
 
-    def run(self, command):
-        """Carries out all commands so far that set a variable, and then this one; the documents that it changed."""
+    def shell(self, command):
+        """Carries out all commands so far that set a variable, and then this one; what it prints."""
         script = SILENT + "\n".join(self.commands) + "\n" + command + "\n"
+        how = {"cwd": self.folder, "stdin": subprocess.DEVNULL, "stdout": subprocess.PIPE,
+               "stderr": subprocess.DEVNULL, "env": {"HOME": self.folder, "PATH": os.environ["PATH"]}}
+        return subprocess.run(["bash", "-c", script], check=False, encoding="utf-8", **how).stdout
+
+    def reschedule(self, command, printed):
+        """A document of `shrink.sh` is known where the page shows its trace, which has the choices of its schedule."""
+        made = RESCHEDULED.match(command)
+        if made:
+            self.rescheduled[made.group(2)] = self.rescheduled.get(made.group(1), made.group(1))
+        watched = re.match(r'bash "\$top/scripts/watch\.sh" ([\w.]+)$', command)
+        trace = re.search(r"^replay (\w+)\n0.*\n((?:\d+ .*\n)*)", printed, re.M)
+        base = watched and self.rescheduled.get(watched.group(1))
+        if trace and base in self.files:
+            choices = ", ".join(line.split(" ")[1] for line in trace.group(2).splitlines())
+            schedule = "schedule %s :\n  %s\nend" % (trace.group(1), choices)
+            text = re.sub(r"^schedule \w+ :[^#]*?\bend\b", schedule, self.files[base], flags=re.M)
+            self.write(watched.group(1), text)
+
+    def run(self, command):
+        """Carries out this command; the documents that it changed."""
+        self.shell(command)
         if re.match(r"\w+=", command):
             self.commands.append(command)
-        how = {"cwd": self.folder, "stdin": subprocess.DEVNULL, "stdout": subprocess.DEVNULL,
-               "stderr": subprocess.DEVNULL, "env": {"HOME": self.folder, "PATH": os.environ["PATH"]}}
-        subprocess.run(["bash", "-c", script], check=False, **how)
         changed = []
         for name in sorted(os.listdir(os.path.join(self.folder, "lesson"))):
             with open(os.path.join(self.folder, "lesson", name), encoding="utf-8") as file:

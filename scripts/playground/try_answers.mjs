@@ -1,7 +1,7 @@
 // Compares the page's module with the native program: node try_answers.mjs PAGE UNITY
 //
-// The module and the code that calls it are taken out of the page. Each document of examples/ is checked, proved, run
-// and replayed, and of what was proved the check as well; each text and status must be that of UNITY.
+// The module and the code that calls it are taken out of the page. Each document of examples/ is checked, proved,
+// replayed, watched and run, and of what was proved the check as well; each text and status must be that of UNITY.
 import { readFileSync, readdirSync } from 'node:fs';
 import { spawnSync } from 'node:child_process';
 
@@ -43,10 +43,11 @@ for (const folder of ['examples', 'examples/mistakes', 'examples/causes']) {
     const proved = compare(name, ['prove', LONG.includes(name) ? '20000' : '1000000'], source);
     if (proved.status === 0) compare(`${name}, proved,`, ['check'], proved.text);
     compare(name, ['replay'], source);
+    compare(name, ['watch'], source);
     for (const it of source.matchAll(/^program (\w+)/gm)) compare(name, ['run', it[1], '50'], source);
   }
 }
-const others = [['demo', '64'], ['nothing'], ['prove', '0'], ['run', 'X', '-1'], ['täglich']];
+const others = [['demo', '64'], ['nothing'], ['prove', '0'], ['run', 'X', '-1'], ['täglich'], ['watch', '1']];
 for (const words of others) compare('', words, '');
 
 // The time of a search, where the engine has compiled the module, and that of the native program with its start.

@@ -83,6 +83,21 @@ class Try:
             self.compare(name + " replay", self.ask("get('replay').click()"), replay)
         if drawn:
             self.holds(name + " picture", self.browser.value("traceSvg(whole)") == drawn)
+        self.watched(name, text_of(name + ".watch"), replay)
+
+    def watched(self, name, watch, replay):
+        """Where a step is violated, the trace stands below up to the place, and the step has its line."""
+        if not watch:
+            return
+        violated = re.match(r"violated \S+ place (\d+)\n", watch)
+        up_to = replay.splitlines(True)[:int(violated[1]) + 2] if violated else []
+        told = self.ask("get('watch').click()")
+        self.compare(name + " watch", told, watch + "".join(up_to))
+        self.holds(name + " watch, its place", told["place"].startswith("line ") == bool(violated), told["place"])
+        self.holds(name + " watch, its picture", ('class="fault"' in told["picture"]) == bool(violated))
+        drawn = text_of(name + ".watch.svg")
+        if drawn:
+            self.holds(name + " watch, drawn", self.browser.value("traceSvg(%s)" % json.dumps(watch + replay)) == drawn)
 
     def proof(self, name):
         refuted, accepted = text_of(name + ".refuted"), text_of(name + ".accepted")
@@ -156,6 +171,14 @@ class Try:
         told = self.ask("get('check').click()")
         self.holds("a trap", "started anew" in told["status"] and "unreachable" in told["status"], told["status"])
         self.compare("check after a trap", self.ask("get('check').click()"), text_of("count.expected"))
+        # (and where it is the replay for a violation that traps, the violation is told without it)
+        self.write(text_of("race.unity"))
+        told = self.ask("const post = worker.postMessage.bind(worker); worker.postMessage = it =>"
+                        " it.words[0] === 'replay' ? worker.onmessage({ data: { trap: 'unreachable' } }) : post(it);"
+                        " get('watch').click()")
+        self.compare("a trap after a watch", told, text_of("race.watch"))
+        self.holds("no picture after it", not told["picture"] and told["place"].startswith("line "), told["place"])
+        self.compare("replay after it", self.ask("get('replay').click()"), text_of("race.replay"))
 
     def long(self):
         """A document and an answer of megabytes."""
@@ -182,7 +205,7 @@ class Try:
             seen.append(self.browser.value("document.activeElement.id"))
             self.browser.press_tab()
         wanted = ["chapter", "open", "save", "link", "theme", "check", "prove", "budget", "run", "program", "steps",
-                  "replay", "text", "answer"]
+                  "replay", "watch", "text", "answer"]
         self.holds("Tab comes to everything", [it for it in seen if it in wanted][:len(wanted)] == wanted, seen)
 
     def screens(self):
@@ -259,7 +282,8 @@ class Try:
         self.browser.resize(1280, 760)
         shots = [("check", "write(data.documents.count, 'count')", "get('check').click()"),
                  ("refuted", "write(data.documents.race, 'race')", "get('prove').click()"),
-                 ("trace", "write(data.documents.race, 'race')", "get('replay').click()")]
+                 ("trace", "write(data.documents.race, 'race')", "get('replay').click()"),
+                 ("violated", "write(data.documents.race, 'race')", "get('watch').click()")]
         for name, before, click in shots:
             self.browser.value(before)
             self.ask(click)

@@ -4,7 +4,8 @@ import { execFileSync } from 'node:child_process';
 
 const top = new URL('../..', import.meta.url).pathname, read = file => readFileSync(file, 'utf8');
 const code = read(`${top}/playground/src/places.js`);
-const { placeOf, traceSvg } = new Function(`'use strict'; ${code} return { placeOf, traceSvg };`)();
+const parts = '{ placeOf, traceSvg, withTrace, isTrace }';
+const { placeOf, traceSvg, withTrace, isTrace } = new Function(`'use strict'; ${code} return ${parts};`)();
 const shell = (script, ...words) => execFileSync('bash', ['-c', script, 'bash', ...words]).toString();
 let tried = 0, failed = 0;
 
@@ -16,18 +17,35 @@ function compare(what, here, there) {
   }
 }
 
+const draw = text => shell('printf %s "$2" | bash "$1/scripts/trace_svg.sh"', top, text);
+
+// A violation is drawn with the trace up to its place, and with the whole of it.
+function drawViolation(name, answer, trace) {
+  const told = withTrace(answer, trace);
+  compare(`${name}, its trace`, isTrace(told) ? traceSvg(told) : '', draw(told));
+  compare(`${name}, all of the trace`, traceSvg(answer + trace), draw(answer + trace));
+}
+
 if (!read(process.argv[2]).includes(code.trim())) throw new Error('the page has another places.js');
 for (const folder of [`${top}/examples`, `${top}/examples/mistakes`]) {
   for (const name of readdirSync(folder)) {
     const file = `${folder}/${name}`, document = file.replace(/\.\w+$/, '.unity');
     if (/\.(run|replay)$/.test(name)) {
       compare(name, traceSvg(read(file)), shell('bash "$1/scripts/trace_svg.sh" < "$2"', top, file));
-    } else if (/\.(expected|refuted)$/.test(name) && existsSync(document)) {
+    } else if (/\.(expected|refuted|watch)$/.test(name) && existsSync(document)) {
       const script = '. "$1/scripts/places.sh"; { show_byte "$2" F "$3"; show_step "$2" F "$3"; } 2>&1';
       const told = shell(`top=$1; ${script}`, top, file, document);
       compare(name, `${placeOf(read(document), read(file))?.line ?? ''}`, /^F:(\d+)/.exec(told)?.[1] ?? '');
+      const replay = file.replace(/\.watch$/, '.replay');
+      if (replay !== file && /^violated /.test(read(file))) drawViolation(name, read(file), read(replay));
     }
   }
 }
+// (a step with parameters, a program without variables, a violation at the start, and one before an undefined step)
+const none = 'replay P\n0\n1 skip\n2 skip\nrounds 2\n', wide = 'replay Q\n0 x=0\n1 grow x=1\nundefined 2 grow\n';
+drawViolation('no variables', 'violated P.step place 1\nj = -1\nlong_name = 12\n1 skip\n', none);
+drawViolation('the start', 'violated P.step place 0\n0\n', none);
+drawViolation('an undefined step', 'violated Q.safe place 1\n1 grow x=1\n', wide);
+compare('a place without a trace', withTrace('violated P.step place 0\n0\n', ''), 'violated P.step place 0\n0\n');
 console.log(`places and pictures: ${tried - failed} passed, ${failed} failed`);
 process.exit(failed ? 1 : 0);
