@@ -88,7 +88,7 @@ units() {
     awk 'inside && /^end/ { exit }
         inside {
             line = $0
-            here = gsub(/case|split|sum|round/, "", line) + gsub(/\*/, "", line)
+            here = gsub(/case|split|quot|sum|round/, "", line) + gsub(/\*/, "", line)
             count++; all += here; if (here > most) most = here
         }
         /^certificates$/ { inside = 1 }
@@ -115,6 +115,10 @@ for size in 2 3 4 5; do pigeons "$size" | search "$((size + 1)) pigeons"; done
 chain 10 | search "chain of 10"
 for name in count swap rounding splitting safety_calculus union_proofs; do
     search "$name" < "$top/examples/$name.unity"
+done
+# (what is proved whole has a file of what `check` says then)
+for file in "$top"/examples/*.accepted; do
+    search "$(basename "$file" .accepted)" < "${file%.accepted}.unity"
 done
 if [ -n "$folder" ]; then
     for file in "$folder"/*.smt2; do
