@@ -1,10 +1,11 @@
-// ---- The page: an editor, four requests, what the program answers, examples and lessons.
+// ---- The page: an editor, five requests, what the program answers, examples and lessons.
 
 const get = id => document.getElementById(id);
 const data = JSON.parse(get('data').textContent);
 const text = get('text'), paint = get('paint'), gutter = get('gutter');
 // A longer trace is shown as text alone, of a longer answer its beginning, and a longer document without colours.
 const MOST_DRAWN = 500, MOST_SHOWN = 200000, MOST_COLOURED = 100000;
+const VIOLATED = 10;
 let marked = 0, name = 'document', worker, waiting, whole = '';
 
 // ---- The editor: a plain text field, above a copy of its text that has the colours.
@@ -80,7 +81,7 @@ function start() {
   worker = new Worker(URL.createObjectURL(code));
   worker.onmessage = ({ data: told }) => {
     if (told.ready === false) say(`This browser does not run the program: ${told.fault}`, false);
-    else if (!told.ready) show(told);
+    else if (!told.ready) receive(told);
   };
   worker.postMessage({ module: get('module').textContent.trim() });
 }
@@ -100,6 +101,20 @@ function ask(...words) {
   worker.postMessage(waiting);
 }
 
+// Where `watch` finds a violation, the trace is asked for as well, which stands below the answer up to the place.
+function receive(told) {
+  const { source, violated } = waiting;
+  if (told.status === VIOLATED) {
+    waiting.violated = told;
+    worker.postMessage({ words: ['replay'], source });
+  } else if (violated) {
+    if (told.trap !== undefined) restart();
+    show({ ...violated, text: withTrace(violated.text, told.text) });
+  } else {
+    show(told);
+  }
+}
+
 function restart() {
   worker.terminate();
   start();
@@ -113,12 +128,13 @@ function stop() {
 
 // What an exit means, in words; `words` were asked.
 function inWords(words, status, answer) {
-  const done = { check: 'accepted', prove: 'proved: a certificate for each obligation', run: 'each step is defined' };
+  const done = { check: 'accepted', prove: 'proved: a certificate for each obligation', run: 'each step is defined',
+    watch: 'no step of the proof is violated on this schedule' };
   if (status === 0 && /^accepted 0 steps/.test(answer)) return 'accepted; it has no proof, so it claims nothing';
   if (status === 0) return done[words[0]] ?? done.run;
   return ['', 'rejected', 'refused', 'refuted: a claim is false at these values', 'not decided within this budget',
     'a step is undefined', 'these are no words of the program', 'a read failed', 'the answer does not fit',
-    'memory was refused'][status];
+    'memory was refused', 'a step of the proof is violated on this schedule'][status];
 }
 
 // What the answer usually means, and what to do.
@@ -133,6 +149,14 @@ function meaning(status, answer) {
   if (status === 4) {
     return 'The obligation was not decided. A greater budget may decide it, or the claim can be split into several'
       + ' steps.';
+  }
+  if (status === VIOLATED) {
+    return 'This run breaks what the step claims, so no certificates will do: mend the program or the claim. Of a'
+      + ' “leadsto” the bound alone may be too small, of an “ensures” the statement after “with” the wrong one.';
+  }
+  if (/^watched /.test(answer)) {
+    return 'That is a test and no proof: it says nothing of other schedules, nor of a deadline that was not over at the'
+      + ' last state.';
   }
   return '';
 }
@@ -307,6 +331,7 @@ get('check').onclick = () => ask('check');
 get('prove').onclick = () => ask('prove', get('budget').value);
 get('run').onclick = () => ask('run', get('program').value, get('steps').value);
 get('replay').onclick = () => ask('replay');
+get('watch').onclick = () => ask('watch');
 get('stop').onclick = stop;
 get('take').onclick = () => write(whole, name);
 get('keep').onclick = () => save(whole, 'answer.txt');

@@ -26,39 +26,58 @@ function placeOf(source, answer) {
   const first = answer.split('\n', 1)[0];
   const byte = /^bad \d+ \w+ byte (\d+)$/.exec(first);
   if (byte) return placeOfByte(source, Number(byte[1]));
-  const step = /^(?:rejected \d+ \w+|refuted|budget) (\w+)(?:\.(\w+))?/.exec(first);
+  const step = /^(?:rejected \d+ \w+|refuted|budget|violated) (\w+)(?:\.(\w+))?/.exec(first);
   return step && placeOfStep(source, step[1], step[2]);
 }
 
-const isTrace = answer => /^(run|replay) \w+\n/.test(answer);
+// What `watch` tells of a violation: its place, its own lines, and all of these but the state as one line.
+function violationOf(answer) {
+  const told = /^(violated [\w.]+ place (\d+)\n(?:\w+ = -?\d+\n)*)\2(?: .*)?\n/.exec(answer);
+  return told && { place: Number(told[2]), lines: told[0], fault: told[1].trimEnd().replace(/\n/g, ', ') };
+}
 
-// The states of a trace, as rows of a number, a statement and the values; and the heads of the columns.
+// This answer of `watch`, and below it the trace up to the place that is violated, as scripts/watch.sh prints them.
+function withTrace(answer, trace) {
+  const violation = violationOf(answer);
+  return violation && trace ? answer + trace.split('\n', violation.place + 2).join('\n') + '\n' : answer;
+}
+
+const isTrace = text => /^(run|replay) \w+\n/.test(text.slice(violationOf(text)?.lines.length ?? 0));
+
+// The states of a trace, as rows of a number, a statement and the values; the heads of the columns; and the last line,
+// where the trace has an end.
 function tableOf(trace) {
   const lines = trace.replace(/\n$/, '').split('\n'), rows = [], head = ['state', 'statement'];
-  for (const line of lines.slice(1, -1)) {
+  const last = /^(rounds|undefined) /.test(lines.at(-1)) ? lines.pop() : '';
+  for (const line of lines.slice(1)) {
     const words = line.split(' '), first = rows.length ? 2 : 1;
     const cells = words.slice(first).map(it => [it.slice(0, it.indexOf('=')), it.slice(it.indexOf('=') + 1)]);
     cells.forEach(([name], k) => { head[k + 2] = name; });
     rows.push([words[0], rows.length ? words[1] : '', ...cells.map(it => it[1])]);
   }
-  return { title: lines[0], head, rows, last: lines[lines.length - 1] };
+  return { title: lines[0], head, rows, last };
 }
 
 const escaped = text => text.replace(/&/g, '&amp;').replace(/</g, '&lt;').replace(/>/g, '&gt;');
 
-// The picture of a trace, byte by byte the one that scripts/trace_svg.sh draws.
-function traceSvg(trace) {
-  const { title, head, rows, last } = tableOf(trace);
+// The picture of a trace, byte by byte the one that scripts/trace_svg.sh draws; before the trace the answer of `watch`
+// may stand.
+function traceSvg(text) {
+  const { place = -1, lines = '', fault = '' } = violationOf(text) ?? {};
+  const { title, head, rows, last } = tableOf(text.slice(lines.length));
   const wide = head.map((name, k) => Math.max(name.length, ...rows.map(it => it[k].length)));
   const x = [];
   let left = 10;
   wide.forEach((n, k) => { x[k] = left; left += n * 8 + 16; });
-  const width = Math.max(left + 2, title.length * 8 + 30, last.length * 8 + 30), height = rows.length * 20 + 96;
+  const feet = [last, fault].filter(Boolean), foot = rows.length * 20 + 86;
+  const width = Math.max(left + 2, ...[title, ...feet].map(it => it.length * 8 + 30));
+  const height = foot - 10 + feet.length * 20;
   const cell = (at, y, kind, text) => `<text x="${at}" y="${y}"${kind && ` class="${kind}"`}>${escaped(text)}</text>`;
   const out = [
     `<svg xmlns="http://www.w3.org/2000/svg" width="${width}" height="${height}" viewBox="0 0 ${width} ${height}">`,
     `<title>${escaped(title)}</title>`,
     '<style>text { font: 13px monospace; fill: #202020 } .head, .new { font-weight: bold }',
+    ...(fault ? ['.fault { fill: #ffd6d6 }'] : []),
     '.bad { font-weight: bold; fill: #a00000 } .mark { fill: #ffe08a } line { stroke: #b0b0b0 }</style>',
     `<rect width="${width}" height="${height}" fill="#ffffff"/>`,
     cell(10, 24, 'head', title),
@@ -66,14 +85,16 @@ function traceSvg(trace) {
     `<line x1="10" y1="60" x2="${left - 6}" y2="60"/>`,
   ];
   rows.forEach((state, n) => {
-    const y = 78 + n * 20;
+    const y = 78 + n * 20, violated = n === place;
+    if (violated) out.push(`<rect class="fault" x="4" y="${y - 14}" width="${left - 8}" height="18"/>`);
     state.forEach((value, k) => {
       const changed = n > 0 && k > 1 && value !== rows[n - 1][k];
       const mark = `<rect class="mark" x="${x[k] - 4}" y="${y - 14}" width="${wide[k] * 8 + 8}" height="18"/>`;
       if (changed) out.push(mark);
-      out.push(cell(x[k], y, changed ? 'new' : '', value));
+      out.push(cell(x[k], y, changed ? 'new' : violated && k < 2 ? 'bad' : '', value));
     });
   });
-  out.push(cell(10, height - 10, /^undefined/.test(last) ? 'bad' : '', last), '</svg>');
+  feet.forEach((line, k) => out.push(cell(10, foot + k * 20, /^(undefined|violated) /.test(line) ? 'bad' : '', line)));
+  out.push('</svg>');
   return out.join('\n') + '\n';
 }
