@@ -1,6 +1,7 @@
 // Documents with their answers.
 mod certificates;
 mod edits;
+mod fixed;
 mod names;
 mod quotients;
 mod steps;

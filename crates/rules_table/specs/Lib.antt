@@ -1,5 +1,6 @@
 pub mod Conclusion
 pub mod Forms
+pub mod Further
 pub mod Limits
 pub mod Numbers
 pub mod Sound

@@ -4,6 +4,7 @@
 mod check;
 mod commands;
 mod demo;
+mod fixed;
 mod input;
 mod laws;
 mod output;
