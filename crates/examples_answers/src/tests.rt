@@ -1,7 +1,6 @@
 // Documents with their answers.
 mod certificates;
 mod edits;
-mod fixed;
 mod names;
 mod quotients;
 mod steps;

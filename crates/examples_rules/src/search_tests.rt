@@ -1,6 +1,5 @@
 // Searches for certificates.
 mod costs;
-mod points;
 mod programs;
 
 use examples_answers::{ACCEPTED, COUNT, Row, Status, answer, edited, make_demo, wrong_answers};

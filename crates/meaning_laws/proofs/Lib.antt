@@ -1,5 +1,4 @@
 pub mod AlikeTheorems
-pub mod CompletionTheorems
 pub mod ExampleTrials
 pub mod KeptTheorems
 pub mod NumberTests

@@ -29,7 +29,6 @@ use Rattle.obligations.specs.Obligations.{IsObligation}
 use Rattle.obligations.specs.Plain.{height_of}
 use Rattle.obligations.proofs.ObligationLaws.{is-obligation, refused-for-size, refused-for-height}
 use Rattle.wp_substitution.specs.Preconditions.{all_of, defined_form, wp_form}
-use Rattle.fixed_points.specs.FixedForms.{fixed_part}
 use Rattle.fair_rounds.specs.declared.records.Record.{Record}
 use Rattle.rules_table.specs.Conclusion.{Conclusion}
 use Rattle.rules_table.specs.Forms.{any_of, imply}
@@ -38,9 +37,8 @@ use Rattle.rules_table.specs.Validity.{Goal, goal_obligation}
 use Rattle.rules_table.specs.Table.{Site, needs, go_on, goals_of, concluded, defined_forms, kept_form}
 use Rattle.rules_table.specs.Table.{invariant_forms, unless_form, unless_forms, equations, instances_of, names_some}
 use Rattle.rules_table.specs.Table.{meant_forms, helped_form, helper_forms, is_helper, ensures_of, is_unless}
-use Rattle.rules_table.specs.Table.{is_ensures, fixed_forms}
-use Rattle.rules_table.specs.Further.{complete_of, pair_by}
-use Rattle.rules_table.specs.Table.{weaken_of, pair_kinds, shown_forms, union_defined_of, union_invariant_of}
+use Rattle.rules_table.specs.Table.{is_ensures}
+use Rattle.rules_table.specs.Table.{weaken_of, pair_kinds, pair_of, shown_forms, union_defined_of, union_invariant_of}
 use Rattle.rules_table.specs.Table.{union_unless_of, union_ensures_of}
 use Rattle.rules_table.specs.Terms.{all_ranges, derive_of, leads_record, referred, term_of}
 use Rattle.rules_table.specs.declared.led.Led.{Led}
@@ -48,16 +46,15 @@ use Rattle.rules_table.specs.Walk.{Around, again_of, applied, claims, is_kind, p
 use Rattle.rules_table.specs.Walk.{suits, text_of, used}
 use Rattle.rules_table.specs.Walk.{rule_of, part_record, first_part, second_part, serves_union, serves_after, united}
 use Rattle.rules_table.proofs.EachLaws.{Each, from_all, each_join}
-use Rattle.rules_table.proofs.RowEquations.{derive-is, defined-is, invariant-is, unless-is, fixed-is, ensures-is}
-use Rattle.rules_table.proofs.RowEquations.{weaken-is}
+use Rattle.rules_table.proofs.RowEquations.{derive-is, defined-is, invariant-is, unless-is, ensures-is, weaken-is}
 use Rattle.rules_table.proofs.SiteLaws.{met, went_on, concluded_is}
-use Rattle.rules_table.proofs.PairLaws.{of_pair_by, four_given}
+use Rattle.rules_table.proofs.PairLaws.{of_pair}
 use Rattle.safety_rules.specs.declared.places.Derived.{Derived}
 use Rattle.safety_rules.specs.declared.places.RuleError.{RuleError}
 use Rattle.safety_rules.specs.Answers.{RuleAnswers, obligations_of}
 use Rattle.safety_rules.specs.Usable.{NamesExist}
 use Rattle.safety_rules.proofs.UsableLaws.{exist_not, exist_or, exist_imply, exist_wp, exist_defined, all_usable}
-use Rattle.safety_rules.proofs.UsableLaws.{exist_part, all_exist, fits_exist, usable_closed}
+use Rattle.safety_rules.proofs.UsableLaws.{all_exist, fits_exist, usable_closed}
 use Rattle.safety_rules.proofs.NameLaws.{meant_exists, helped_exists}
 use Rattle.rules_steps.specs.Steps.{IsStepGiven}
 use Rattle.rules_steps.specs.Using.{BookFits, IsEntry}
@@ -157,13 +154,6 @@ module _ (site : Site) (closed : All (FormFits site.slots []) site.using) (good 
       (All-cons Exist (not_form q) [] (exist_not slots params q k) (All-nil Exist))) (exist_or slots params p q h k))
       site.program.statements statements
 
-  fixed_exist : (p : CForm) → Exist p → Each Exist (fixed_forms site p)
-  fixed_exist p h = each_form (λ s. imply (site.using ++ (p ∷ [])) (fixed_part slots s)) (λ s fits.
-      exist_imply slots params (site.using ++ (p ∷ [])) (fixed_part slots s)
-      (All-append Exist site.using (p ∷ []) here (All-cons Exist p [] h (All-nil Exist)))
-      (exist_part slots params s fits))
-      site.program.statements statements
-
   chosen_first : (b : Bool) (s : CStmt) (ss : List CStmt) → StatementFits slots s → Each (StatementFits slots) ss →
       Each (StatementFits slots) (cond b (s ∷ ss) ss)
   chosen_first true s ss one rest = (one, rest)
@@ -221,9 +211,6 @@ module _ (site : Site) (closed : All (FormFits site.slots []) site.using) (good 
   told_text starts s Kind.Unless h k =
       subst (λ r. GivesTold site r) (sym (unless-is site s.p s.q))
       (told_in site site.params ranges _ (unless_forms site s.p s.q) refl refl (unless_exist s.p s.q h k))
-  told_text starts s Kind.Fixed h k =
-      subst (λ r. GivesTold site r) (sym (fixed-is site s.p))
-      (told_in site site.params ranges _ (fixed_forms site s.p) refl refl (fixed_exist s.p h))
   told_text starts s _ h k = λ (x : Conclusion) e. cc
 
   told_ensures : (p q : CForm) (h : Helper) → FormFits slots params p → FormFits slots params q →
@@ -242,16 +229,10 @@ module _ (site : Site) (closed : All (FormFits site.slots []) site.using) (good 
       (told_needs site (is_unless a.kind || is_ensures a.kind) Code.WrongKind _
       (told_in site site.params ranges _ (imply (site.using ++ (a.q ∷ [])) q ∷ []) refl refl (weaker_exist a.q q h k)))
 
-  told_pair : (claimed : Kind) (which : RuleName) (a b : Record) → GivesTold site (pair_by site claimed which a b)
-  told_pair claimed which a b =
-      of_pair_by (GivesTold site) site a b claimed which (λ code. λ (x : Conclusion) e. cc) (told_needs site)
-      (λ p q bound. told_in site site.params ranges _ [] refl refl tt)
-
-  told_complete : (a b c d : Record) → GivesTold site (complete_of site a b c d)
-  unfolding complete_of
-  told_complete a b c d =
-      told_needs site _ Code.WrongKind _ (told_needs site _ Code.MiddleDiffers _
-      (told_needs site _ Code.BoundTooLarge _ (told_in site site.params ranges _ [] refl refl tt)))
+  told_pair : (which : RuleName) (a b : Record) → GivesTold site (pair_of site which a b)
+  told_pair which a b =
+      of_pair (GivesTold site) site a b which (λ code. λ (x : Conclusion) e. cc) (told_needs site)
+      (λ p q. told_in site site.params ranges _ [] refl refl tt)
 
   told_united : (starts : CProgram → Bool) (kind : Kind) (a b : Record) → Each (FormFits slots []) a.under →
       Each (FormFits slots []) b.under → GivesTold site (united starts site kind a b)
@@ -312,10 +293,10 @@ module _ (site : Site) (closed : All (FormFits site.slots []) site.using) (good 
   told_applied seen s book fit p q (CRule.Pair which r t) sees = λ (x : Conclusion) e.
       let kinds : Kind × Kind = pair_kinds which s.kind in
       let one = went_on (referred site site.params book (is_kind kinds.0) r) (λ (a : Record).
-      go_on (referred site site.params book (is_kind kinds.1) t) (λ b. pair_by site s.kind which a b)) x e in
+      go_on (referred site site.params book (is_kind kinds.1) t) (λ b. pair_of site which a b)) x e in
       let two = went_on (referred site site.params book (is_kind kinds.1) t)
-      (λ (b : Record). pair_by site s.kind which one.0 b) x one.2 in
-      told_pair s.kind which one.0 two.0 x two.2
+      (λ (b : Record). pair_of site which one.0 b) x one.2 in
+      told_pair which one.0 two.0 x two.2
   told_applied seen s book fit p q (CRule.Union r t) sees = λ (x : Conclusion) e.
       let one = went_on (part_record site book (first_part site.program.parts) (serves_union s.kind) r)
       (λ (a : Record).
@@ -328,8 +309,7 @@ module _ (site : Site) (closed : All (FormFits site.slots []) site.using) (good 
       two.1 in
       told_united seen.starts s.kind one.0 two.0 a.under b.under x two.2
   told_applied seen s book fit p q (CRule.Superpose r) sees = λ (x : Conclusion) e. cc
-  told_applied seen s book fit p q (CRule.Complete r t u v) sees = λ (x : Conclusion) e.
-      let row = four_given site book r t u v x e in told_complete row.a row.b row.c row.d x row.gives
+  told_applied seen s book fit p q (CRule.Complete r t u v) sees = λ (x : Conclusion) e. cc
   told_applied seen s book fit p q (CRule.Proof t) sees = told_proof s book fit t sees.0 s.kind
 
 -- what is small and names what exists is an obligation

@@ -1,7 +1,6 @@
 // Kinds of steps, and which rules give them.
 ghost use Rattle.std.specs.Prelude.{◌≡◌, ◌||◌};
 ghost use Rattle.core_terms.specs.declared.documents.PTerm.{out-PTerm};
-ghost use Rattle.rules_table.specs.Further as further;
 ghost use Rattle.rules_table.specs.Table as table;
 ghost use Rattle.rules_table.specs.Walk as walk;
 
@@ -23,7 +22,7 @@ pub(crate) fn is_invariant(kind: Kind) -> bool
 }
 
 fn is_leadsto(kind: Kind) -> bool
-    ensures { result ≡ further.is_leadsto kind }
+    ensures { result ≡ walk.is_leadsto kind }
 {
     matches!(kind, Kind::Leadsto)
 }
@@ -110,10 +109,7 @@ fn suits_pair(version: u64, which: RuleName, kind: Kind) -> bool
         RuleName::Simpleconj => is_unless(kind),
         RuleName::Disj => is_unless(kind),
         RuleName::Simpledisj => is_unless(kind),
-        RuleName::Cancel => is_unless(kind) || (is_leadsto(kind) && version == 2),
-        RuleName::Until => is_until(kind),
-        RuleName::Detects => is_detects(kind),
-        RuleName::Constant => is_constant(kind),
+        RuleName::Cancel => is_unless(kind),
         _ => false,
     }
 }
@@ -123,7 +119,6 @@ pub(crate) fn pair_kinds(which: RuleName, kind: Kind) -> (Kind, Kind)
     ensures { result ≡ table.pair_kinds which kind }
 {
     match which {
-        RuleName::Cancel => (kind, kind),
         RuleName::Until => (Kind::Unless, Kind::Leadsto),
         RuleName::Detects => (Kind::Invariant, Kind::Leadsto),
         RuleName::Constant => (Kind::Unless, Kind::Unless),
@@ -146,13 +141,13 @@ pub(crate) fn suits(version: u64, rule: &CRule, kind: Kind) -> bool
     ensures { result ≡ walk.suits version rule.now kind }
 {
     match rule {
-        CRule::Text => is_first(kind) || is_unless(kind) || is_fixed(kind),
+        CRule::Text => is_first(kind) || is_unless(kind),
         CRule::TextWith(_) => is_ensures(kind),
         CRule::WeakenStep(_) => has_end(kind),
         CRule::Pair(which, _, _) => suits_pair(version, *which, kind),
         CRule::Union(_, _) => is_first(kind) || has_end(kind),
         CRule::Superpose(_) => false,
-        CRule::Complete(_, _, _, _) => is_leadsto(kind),
+        CRule::Complete(_, _, _, _) => false,
         CRule::Proof(t) => suits_term(t, kind),
     }
 }

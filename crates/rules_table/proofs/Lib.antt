@@ -4,7 +4,6 @@ pub mod DeriveSound
 pub mod EachLaws
 pub mod EnsuresSound
 pub mod FormLaws
-pub mod FurtherSound
 pub mod GoalLaws
 pub mod KindLaws
 pub mod NamedLaws

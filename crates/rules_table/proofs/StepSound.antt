@@ -1,7 +1,7 @@
 -- The record that a step gets is kept: it stands, and what it stands under holds throughout.
 use Rattle.std.proofs.Common.{◌≡◌, ℕ, nat_eq, ◌<◌, ℤ, List, [], ◌∷◌, ◌++◌, Bool, true, false, ◌&&◌, ◌||◌, Option}
 use Rattle.std.proofs.Common.{Some, None, Result, Ok, Err, IsTrue, refl, sym, ap, ◌∙◌, subst, length, append-nil}
-use Rattle.std.proofs.Common.{arith, max}
+use Rattle.std.proofs.Common.{arith}
 use Rattle.std.specs.Prelude.{IsSome, ⊤}
 use Rattle.std.specs.List.{list_all, find}
 use Rattle.std.proofs.lemmas.Bool.{eqb-true, ltb-true}
@@ -22,7 +22,6 @@ use Rattle.core_terms.specs.declared.documents.PTerm.{PTerm, out-PTerm}
 use Rattle.core_terms.specs.declared.documents.PTerm.TheOpen.{PTerm-F}
 use Rattle.core_terms.specs.declared.documents.CRule.{CRule}
 use Rattle.core_terms.specs.declared.documents.CStep.{CStep}
-use Rattle.core_terms.specs.Folding.{and_form, or_form}
 use Rattle.core_terms.specs.Trees.{same_form}
 use Rattle.core_terms.specs.Places.{names_param}
 use Rattle.core_terms.specs.Values.{form_value}
@@ -43,16 +42,15 @@ use Rattle.rules_table.specs.Forms.{imply}
 use Rattle.rules_table.specs.Table.{Site, needs, go_on, under_with, goals_of, record_of, concluded, is_defined}
 use Rattle.rules_table.specs.Table.{is_invariant, is_unless, is_ensures, defined_forms, defined_of, invariant_forms}
 use Rattle.rules_table.specs.Table.{invariant_of, unless_forms, unless_of, is_helper, helper_forms, ensures_of}
-use Rattle.rules_table.specs.Table.{weaken_of, pair_kinds, shown_forms, first_helper, ending}
-use Rattle.rules_table.specs.Table.{is_part_pair, fixed_forms, fixed_of}
+use Rattle.rules_table.specs.Table.{weaken_of, paired, pair_kinds, pair_of, shown_forms, first_helper, ending}
+use Rattle.rules_table.specs.Table.{is_part_pair}
 use Rattle.rules_table.specs.Table.{union_defined_of, union_invariant_of, union_unless_of, union_ensures_of}
 use Rattle.rules_table.specs.Table.{instance_of}
 use Rattle.rules_table.specs.Terms.{known, found, referred, term_of, all_ranges, leads_record, derive_of}
 use Rattle.rules_table.specs.Sound.{NamesNoParameter, AreClosed, NamesBelow, AreFull, IsSite, IsPremise, BookStands}
 use Rattle.rules_table.specs.Sound.{IsUnionOf}
 use Rattle.rules_table.specs.Sound.{IsPartPremise, HoldThroughout}
-use Rattle.rules_table.specs.Further.{is_leadsto, record_within, complete_of, pair_by}
-use Rattle.rules_table.specs.Walk.{Around, has_end, suits_term, is_kind, is_empty, used, suits, text_of}
+use Rattle.rules_table.specs.Walk.{Around, is_leadsto, has_end, suits_term, is_kind, is_empty, used, suits, text_of}
 use Rattle.rules_table.specs.Walk.{same_again, again_of, proof_of, part_record, first_part, second_part, serves_union}
 use Rattle.rules_table.specs.Walk.{serves_after, united, applied, claims, step_site, rule_of, has_defined, is_first}
 use Rattle.rules_table.proofs.NamedLaws.{form_shown}
@@ -60,12 +58,10 @@ use Rattle.rules_table.proofs.EachLaws.{Each, from_all, found_in, each_at}
 use Rattle.rules_table.proofs.BoundNames.{FormSees, TermSees, numbered, term_well}
 use Rattle.rules_table.proofs.SiteLaws.{met, went_on, concluded_is}
 use Rattle.rules_table.proofs.KindLaws.{invariant_is, ensures_is, leadsto_is, same_kind}
-use Rattle.rules_table.proofs.PairLaws.{given_kind, given_helper, of_two, of_pair_by, given_kind_is}
-use Rattle.rules_table.proofs.PairLaws.{four_given}
-use Rattle.rules_table.proofs.TextSound.{defined_sound, invariant_sound, unless_sound, fixed_sound}
+use Rattle.rules_table.proofs.PairLaws.{pair_kind, pair_helper, of_pair, pair_kind_is}
+use Rattle.rules_table.proofs.TextSound.{defined_sound, invariant_sound, unless_sound}
 use Rattle.rules_table.proofs.EnsuresSound.{ensures_sound}
-use Rattle.rules_table.proofs.CalcSound.{of_one, weaken_sound, instance_sound, instance_is}
-use Rattle.rules_table.proofs.FurtherSound.{complete_sound, pair_by_sound}
+use Rattle.rules_table.proofs.CalcSound.{of_one, weaken_sound, pair_sound, instance_sound, instance_is}
 use Rattle.rules_table.proofs.DeriveSound.{derive_sound, lows, lows_in}
 use Rattle.rules_table.proofs.UnionSound.{union_defined_sound, union_invariant_sound, union_unless_sound}
 use Rattle.rules_table.proofs.UnionSound.{union_ensures_sound, under_holds, union_shows}
@@ -319,7 +315,7 @@ module _ (seen : Around) (c : CProgram) (named : find (λ b. nat_eq b.name c.nam
 
     text_case : (k : Kind) → (y : Conclusion) → text_of seen.starts site step k ≡ Ok y → AllValid slots y.goals →
         Settled site k y.made
-    unfolding defined_of invariant_of unless_of fixed_of
+    unfolding defined_of invariant_of unless_of
     text_case Kind.Defined y e valid =
         settled_by site good holds Kind.Defined Top Top [] None 0 none (defined_of site (seen.starts c)) step.params
         (defined_forms site)
@@ -334,10 +330,6 @@ module _ (seen : Around) (c : CProgram) (named : find (λ b. nat_eq b.name c.nam
         settled_by site good holds Kind.Unless step.p step.q [] None 0 none (unless_of site step.p step.q) step.params
         (unless_forms site step.p step.q) (end_gives slots step.params _ (unless_forms site step.p step.q)) y e
         (unless_sound site good step.p step.q y e valid)
-    text_case Kind.Fixed y e valid =
-        settled_by site good holds Kind.Fixed step.p Bottom [] None 0 none (fixed_of site step.p) step.params
-        (fixed_forms site step.p) (end_gives slots step.params _ (fixed_forms site step.p)) y e
-        (fixed_sound site good step.p y e valid)
     text_case _ y e valid = cc
 
     ensures_case : (h : Helper) → (y : Conclusion) → ensures_of site step.p step.q h ≡ Ok y → AllValid slots y.goals →
@@ -370,35 +362,17 @@ module _ (seen : Around) (c : CProgram) (named : find (λ b. nat_eq b.name c.nam
         Keeps kind (needs asked code rest)
     need_keeps kind asked code rest keeps x e stands = keeps x (met asked code rest x e).1 stands
 
-    pair_case : (k : Kind) (which : RuleName) (a b : Record) → IsPremise site a → IsPremise site b →
-        Holding site a.under → Holding site b.under → (y : Conclusion) → pair_by site k which a b ≡ Ok y →
-        AllValid slots y.goals → Settled site (given_kind k which b.kind) y.made
-    pair_case k which a b pa pb ua ub y e valid =
-        let kind : Kind = given_kind k which b.kind in
-        let helper : Option Helper = given_helper k which b.helper in
-        of_pair_by (Keeps kind) site a b k which (λ code. λ (x : Conclusion) f stands. cc) (need_keeps kind)
-        (λ p q bound. settled_by site good holds kind p q (a.under ++ b.under) helper bound
-        (both_holding site a.under b.under ua ub)
-        (concluded slots step.params (of_two site kind helper p q bound a b) []) step.params []
+    pair_case : (which : RuleName) (a b : Record) → IsPremise site a → IsPremise site b → Holding site a.under →
+        Holding site b.under → (y : Conclusion) → pair_of site which a b ≡ Ok y → AllValid slots y.goals →
+        Settled site (pair_kind which b.kind) y.made
+    pair_case which a b pa pb ua ub y e valid =
+        let kind : Kind = pair_kind which b.kind in
+        let helper : Option Helper = pair_helper which b.helper in
+        of_pair (Keeps kind) site a b which (λ code. λ (x : Conclusion) f stands. cc) (need_keeps kind)
+        (λ p q. settled_by site good holds kind p q (a.under ++ b.under) helper 0
+        (both_holding site a.under b.under ua ub) (paired site kind helper p q a b) step.params []
         (end_gives slots step.params _ [])) y e
-        (pair_by_sound k which site good a b pa pb y e valid)
-
-    complete_case : (a b d f : Record) → IsPremise site a → IsPremise site b → IsPremise site d → IsPremise site f →
-        Holding site a.under → Holding site b.under → Holding site d.under → Holding site f.under →
-        (y : Conclusion) → complete_of site a b d f ≡ Ok y → AllValid slots y.goals → Settled site Kind.Leadsto y.made
-    unfolding complete_of
-    complete_case a b d f pa pb pd pf ua ub ud uf y e valid =
-        let more : List CForm = (a.under ++ b.under) ++ (d.under ++ f.under) in
-        let p : CForm = and_form a.p d.p in
-        let q : CForm = or_form (and_form b.p f.p) b.q in
-        need_keeps Kind.Leadsto _ Code.WrongKind _ (need_keeps Kind.Leadsto _ Code.MiddleDiffers _
-        (need_keeps Kind.Leadsto _ Code.BoundTooLarge _
-        (settled_by site good holds Kind.Leadsto p q more None (max a.bound d.bound)
-        (both_holding site (a.under ++ b.under) (d.under ++ f.under) (both_holding site a.under b.under ua ub)
-        (both_holding site d.under f.under ud uf))
-        (concluded slots step.params (record_within site Kind.Leadsto p q more (max a.bound d.bound)) []) step.params
-        [] (end_gives slots step.params _ [])))) y e
-        (complete_sound site good a b d f pa pb pd pf y e valid)
+        (pair_sound site good which a b pa pb y e valid)
 
     -- `from R` for an unless or an ensures
     again_case : IsTrue (has_end step.kind) → (y : Conclusion) → (t : PTerm-F PTerm) →
@@ -595,27 +569,17 @@ module _ (seen : Around) (c : CProgram) (named : find (λ b. nat_eq b.name c.nam
     applied_case parts (CRule.Pair which r s) sees suited y e p_is q_is valid =
         let kinds : Kind × Kind = pair_kinds which step.kind in
         let one = went_on (referred site step.params book (is_kind kinds.0) r) (λ a.
-        go_on (referred site step.params book (is_kind kinds.1) s) (λ b. pair_by site step.kind which a b)) y e in
-        let two = went_on (referred site step.params book (is_kind kinds.1) s)
-        (λ b. pair_by site step.kind which one.0 b) y one.2 in
+        go_on (referred site step.params book (is_kind kinds.1) s) (λ b. pair_of site which a b)) y e in
+        let two = went_on (referred site step.params book (is_kind kinds.1) s) (λ b. pair_of site which one.0 b) y
+        one.2 in
         let first = referred_premise (is_kind kinds.0) r one.0 one.1 in
         let second = referred_premise (is_kind kinds.1) s two.0 two.1 in
-        subst (λ k. Settled site k y.made) (given_kind_is seen.version which two.0.kind step.kind second.0 suited)
-        (pair_case step.kind which one.0 two.0 first.1 second.1
-        (referred_holding step.params (is_kind kinds.0) r one.0 one.1)
+        subst (λ k. Settled site k y.made) (pair_kind_is seen.version which two.0.kind step.kind second.0 suited)
+        (pair_case which one.0 two.0 first.1 second.1 (referred_holding step.params (is_kind kinds.0) r one.0 one.1)
         (referred_holding step.params (is_kind kinds.1) s two.0 two.1) y two.2 valid)
     applied_case parts (CRule.Union r s) sees suited y e p_is q_is valid = union_case c.parts parts r s y e valid
     applied_case parts (CRule.Superpose r) sees suited y e p_is q_is valid = cc
-    applied_case parts (CRule.Complete r s t u) sees suited y e p_is q_is valid =
-        let leads : Kind → Bool = is_kind Kind.Leadsto in
-        let ends : Kind → Bool = is_kind Kind.Unless in
-        let row = four_given site book r s t u y e in
-        subst (λ k. Settled site k y.made) (sym (leadsto_is step.kind suited))
-        (complete_case row.a row.b row.c row.d (referred_premise leads r row.a row.first).1
-        (referred_premise ends s row.b row.second).1 (referred_premise leads t row.c row.third).1
-        (referred_premise ends u row.d row.fourth).1 (referred_holding step.params leads r row.a row.first)
-        (referred_holding step.params ends s row.b row.second) (referred_holding step.params leads t row.c row.third)
-        (referred_holding step.params ends u row.d row.fourth) y row.gives valid)
+    applied_case parts (CRule.Complete r s t u) sees suited y e p_is q_is valid = cc
     applied_case parts (CRule.Proof t) sees suited y e p_is q_is valid =
         proof_case t sees suited y step.kind refl e p_is q_is valid
 

@@ -1,6 +1,5 @@
 pub mod Conclusion
 pub mod Forms
-pub mod Further
 pub mod Limits
 pub mod Numbers
 pub mod Sound

@@ -4,5 +4,5 @@
 mod laws;
 mod led;
 
-pub use laws::{further_sound, goals_shown, rules_sound, terms_sound, unions_sound, walk_sound};
+pub use laws::{goals_shown, rules_sound, terms_sound, unions_sound, walk_sound};
 pub use led::Led;

@@ -4,7 +4,6 @@
 mod check;
 mod commands;
 mod demo;
-mod fixed;
 mod input;
 mod laws;
 mod output;

@@ -3,7 +3,6 @@
 #![tactic(auto)]
 
 mod changes;
-mod fixing;
 mod program;
 mod rules;
 mod runs;
@@ -15,7 +14,6 @@ pub use changes::{
     changed_record, first_part, goal_at, rounds_of, with_bound, with_either_goal, with_end,
     with_first_goals, with_goals_of, without_first_goal,
 };
-pub use fixing::{fixed_rule, is_fixed, is_fixed_or_stuck, run_to_fixed};
 pub use program::unity;
 pub use rules::{derive, ensures_rule, invariant_rule, pair_rule, union_unless, weaken_rule};
 pub use runs::step;

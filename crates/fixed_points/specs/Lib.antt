@@ -1,4 +1,0 @@
-pub mod FixedPoints
-pub mod FixedForms
-pub mod Laws
-pub mod Joining

@@ -1,3 +1,0 @@
-pub mod Traces
-pub mod Answers
-pub mod Cores
