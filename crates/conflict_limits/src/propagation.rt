@@ -124,8 +124,8 @@ fn follow_way(table: &Table, limits: &mut Limits, way: usize) -> Result<(), Stop
     Ok(())
 }
 
-/// Follows all limits to their end, to a conflict, or so far that the lines looked at are too many. `Odd` where no looks
-/// are left.
+/// Follows all limits to their end, to a conflict, or so far that the lines looked at are too many. `Odd` where no
+/// looks are left.
 pub fn propagate(table: &Table, limits: &mut Limits) -> Result<(), Stop> {
     for _ in 0..LINES {
         if limits.conflict.is_some() {

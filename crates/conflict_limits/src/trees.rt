@@ -153,8 +153,8 @@ impl Trees {
         Ok(number)
     }
 
-    /// The number of a new leaf that closes a branch by a conflict of its limits. `Odd` where there is none, or a number
-    /// has more than 64 bits.
+    /// The number of a new leaf that closes a branch by a conflict of its limits. `Odd` where there is none, or a
+    /// number has more than 64 bits.
     pub fn add_leaf(&mut self, alloc: Global, limits: &Limits) -> Result<usize, Stop> {
         let mut rounds = Seq::new(alloc);
         let mut pairs = Seq::new(alloc);
@@ -219,8 +219,8 @@ impl Trees {
         Ok(())
     }
 
-    /// The number of a new node with two trees below it, and the place of the item that it takes apart. `Odd` where there
-    /// are no such trees.
+    /// The number of a new node with two trees below it, and the place of the item that it takes apart. `Odd` where
+    /// there are no such trees.
     pub fn add_two(
         &mut self,
         alloc: Global,

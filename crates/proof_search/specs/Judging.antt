@@ -7,7 +7,7 @@ use Rattle.obligations.specs.Plain.{quotients_in}
 use Rattle.certificate_check.specs.Refutation.{walk_from_root}
 use Rattle.certificate_check.specs.Trees.{is_whole}
 use Rattle.linear_prover.specs.Chains.{is_plain_node}
-use Rattle.search_tree.specs.declared.plain_tree.Found.{Found}
+use Rattle.search_tree.specs.declared.searching.Found.{Found}
 use Rattle.search_tree.specs.Searching.{is_found_node}
 
 -- nodes that a walk takes to its end

@@ -115,8 +115,8 @@ unknown_by d p at named h found i =
     }
 
 -- a document whose schedule names an instance that isn't there
-pub unknown_source : (d : Document) (at : ℕ) → IsWellNamed d → expansion_fault d ≡ None → IsCoreDocument (core_document d) →
-    IsCoreUnknown (core_document d) at → IsUnknown d at
+pub unknown_source : (d : Document) (at : ℕ) → IsWellNamed d → expansion_fault d ≡ None →
+    IsCoreDocument (core_document d) → IsCoreUnknown (core_document d) at → IsUnknown d at
 unknown_source d at named fault whole i = by (scheduled_program (core_document d)) refl
   where
     by : (o : Option CProgram) → scheduled_program (core_document d) ≡ o → IsUnknown d at

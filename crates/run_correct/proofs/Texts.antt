@@ -43,7 +43,7 @@ use Rattle.run_correct.proofs.Written.{all_written}
 use Rattle.run_correct.proofs.Names.{all_names_match, chosen_alike}
 
 module _ (d : Document) (name : List ℕ) (c : Composed) (p : CProgram) (h : NamesMatch d name c p) where
-  heading_same : (heading : Heading) → core_heading_line (core_document d) p heading ≡ heading_line name heading
+  pub heading_same : (heading : Heading) → core_heading_line (core_document d) p heading ≡ heading_line name heading
   heading_same Heading.Run = ap (λ text. codes "run " ++ text ++ codes "\n") h.name_is
   heading_same Heading.Replay = ap (λ text. codes "replay " ++ text ++ codes "\n") h.name_is
 
@@ -52,7 +52,7 @@ module _ (d : Document) (name : List ℕ) (c : Composed) (p : CProgram) (h : Nam
   shown_same state = shown_text_same d (all_written d) state p.shown
       ∙ ap (λ ns. flat_map (slot_text d state) ns) h.shown
 
-  first_same : (state : State) → core_state_line (core_document d) p 0 None state ≡ state_line d name c 0 None state
+  pub first_same : (state : State) → core_state_line (core_document d) p 0 None state ≡ state_line d name c 0 None state
   first_same state = ap (λ text. decimal 0 ++ [] ++ text ++ codes "\n") (shown_same state)
 
   line_same : (number choice : ℕ) (o : Option State) →
@@ -64,7 +64,7 @@ module _ (d : Document) (name : List ℕ) (c : Composed) (p : CProgram) (h : Nam
       two (λ (chosen shown : List ℕ). decimal number ++ (codes " " ++ chosen) ++ shown ++ codes "\n") _ _ _ _
       (chosen_alike d name c p h choice) (shown_same next)
 
-  lines_same : (last : List ℕ) (n : ℕ) (state : State) (choices : List ℕ) →
+  pub lines_same : (last : List ℕ) (n : ℕ) (state : State) (choices : List ℕ) →
       core_steps_text (core_document d) p (source_system d c) last n state choices
       ≡ steps_text d name c last n state choices
   lines_same last n state [] = refl
@@ -98,14 +98,14 @@ module _ (d : Document) (name : List ℕ) (c : Composed) (p : CProgram) (h : Nam
       choices) count ∙ lines_same last 0 start choices)
 
 -- the start state is a state of the document
-start_state_is : (d : Document) (name : List ℕ) (c : Composed) (p : CProgram) → IsCoreDocument (core_document d) →
+pub start_state_is : (d : Document) (name : List ℕ) (c : Composed) (p : CProgram) → IsCoreDocument (core_document d) →
     IsCoreProgramOf d name c p → IsTrue (is_state (core_ranges (core_document d).slots) (first_state d p))
 start_state_is d name c p whole h =
     let there = found_in (λ q. nat_eq q.name (word_number (document_words d) name)) (core_document d).programs p
     h.found in
     start_is_state (core_document d).slots p whole.slots (program_in (core_document d) p whole there)
 
-and_is : (a b : Bool) → IsTrue a → (a && b) ≡ b
+pub and_is : (a b : Bool) → IsTrue a → (a && b) ≡ b
 and_is true b t = refl
 and_is false b t = cc
 

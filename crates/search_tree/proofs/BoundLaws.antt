@@ -120,7 +120,8 @@ long-next old new p i e l = ap (λ (ps : List Point). length ps) e ∙ last old 
     last [] = refl
     last (q ∷ ps) = let ih = last ps in omega (arith, ih)
 
-take-get : {A : Type 0} (xs : List A) (i : ℕ) (d : A) → i < length xs → take (i + 1) xs ≡ take i xs ++ get_or xs i d ∷ []
+take-get : {A : Type 0} (xs : List A) (i : ℕ) (d : A) → i < length xs →
+    take (i + 1) xs ≡ take i xs ++ get_or xs i d ∷ []
 take-get [] i d h = absurd (omega arith)
 take-get (x ∷ xs) zero d h = let one : 0 + 1 ≡ 1 = omega arith in ap (λ k. take k (x ∷ xs)) one
 take-get (x ∷ xs) (suc i) d h =
@@ -334,8 +335,8 @@ read-divisor points f d r e =
 pub read-quotient : (points : List Point) (f : Fact) (d w : ℤ) → IsReadable points f →
     d ≡ pos (last_size f.factors) → w ≡ worth_at points f → unsigned_abs (int_div_euclid w d) ≤ 2 ^ 62
 read-quotient points f d w r e q =
-    subst (λ z. unsigned_abs z ≤ 2 ^ 62) (sym (ap (λ z. int_div_euclid z d) q ∙ ap (int_div_euclid (worth_at points f)) e))
-    r.small
+    subst (λ z. unsigned_abs z ≤ 2 ^ 62)
+    (sym (ap (λ z. int_div_euclid z d) q ∙ ap (int_div_euclid (worth_at points f)) e)) r.small
 
 pub quotient-is : (points : List Point) (f : Fact) (d w : ℤ) →
     d ≡ pos (last_size f.factors) → w ≡ worth_at points f → int_div_euclid w d ≡ quotient_at points f

@@ -11,8 +11,8 @@ use Rattle.obligations.specs.declared.certificates.Node.{Node}
 use Rattle.obligations.specs.Settling.{settled}
 use Rattle.obligations.specs.Settling.{sides, added}
 use Rattle.obligations.specs.Opening.{at_most, at_least}
-use Rattle.search_tree.specs.declared.plain_tree.Trail.{Trail}
-use Rattle.search_tree.specs.declared.plain_tree.Ended.{Ended}
+use Rattle.search_tree.specs.declared.trail.Trail.{Trail}
+use Rattle.search_tree.specs.declared.trail.Ended.{Ended}
 use Rattle.obligations.specs.Reach.{some_out_of_reach}
 use Rattle.obligations.specs.Certificates.{node_units}
 use Rattle.obligations.specs.Plain.{first_cut, with_high, with_low, waiting_only, plain_leaves, open_leaves}

@@ -30,8 +30,8 @@ use Rattle.certificate_check.specs.Refutation.{opens, made, allowing}
 use Rattle.linear_prover.specs.Chains.{Closes, ClosesShortly, is_plain_node}
 use Rattle.linear_prover.specs.Tables.{IsAt}
 use Rattle.linear_prover.proofs.ChainLaws.{refuted-chain, clashed-chain}
-use Rattle.search_tree.specs.declared.plain_tree.Trail.{Trail}
-use Rattle.search_tree.specs.declared.plain_tree.Ended.{Ended}
+use Rattle.search_tree.specs.declared.trail.Trail.{Trail}
+use Rattle.search_tree.specs.declared.trail.Ended.{Ended}
 use Rattle.search_tree.specs.Searching.{chain_units, quotients_at, room_of, Ready, Closed, Met, Ends, levels_of}
 use Rattle.search_tree.specs.Choices.{can_wait}
 use Rattle.search_tree.specs.Ends.{Ending, proved, refuted, short, SearchEnds}

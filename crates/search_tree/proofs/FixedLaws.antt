@@ -14,8 +14,8 @@ use Rattle.obligations.specs.Reach.{some_out_of_reach}
 use Rattle.obligations.specs.Scopes.{scope_of}
 use Rattle.obligations.specs.Settling.{form_at}
 use Rattle.obligations.proofs.ScopeLaws.{scope-done}
-use Rattle.search_tree.specs.declared.plain_tree.Trail.{Trail}
-use Rattle.search_tree.specs.declared.plain_tree.Ended.{Ended}
+use Rattle.search_tree.specs.declared.trail.Trail.{Trail}
+use Rattle.search_tree.specs.declared.trail.Ended.{Ended}
 use Rattle.search_tree.specs.Searching.{Tried, Met, Ready, Ends, EndsLeaf, room_of}
 use Rattle.search_tree.proofs.ReadyLaws.{leaf-met, ready-few, ready-exact}
 use Rattle.search_tree.proofs.SearchLaws.{finished-ends}

@@ -23,8 +23,8 @@ use Rattle.obligations.proofs.ScopeLaws.{scope-length}
 use Rattle.linear_prover.specs.Chains.{Closes, ClosesShortly}
 use Rattle.search_tree.specs.declared.fixing.Point.{Point}
 use Rattle.search_tree.specs.declared.fixing.Fixing.{Fixing}
-use Rattle.search_tree.specs.declared.plain_tree.Trail.{Trail}
-use Rattle.search_tree.specs.declared.plain_tree.Ended.{Ended}
+use Rattle.search_tree.specs.declared.trail.Trail.{Trail}
+use Rattle.search_tree.specs.declared.trail.Ended.{Ended}
 use Rattle.search_tree.specs.Points.{values_in, pair_at, ArePoints, ends_in, IsFirst, front, last_size, quotient_at}
 use Rattle.search_tree.specs.Points.{round_at, IsReadable, with_value, fixed_by, Chained, Pointed, IsFixing}
 use Rattle.search_tree.specs.Searching.{AreBounded, is_slender, IsTaken, AreTaken, Ready, Finishes, EndsLeaf}

@@ -311,8 +311,8 @@ all-from : {A : Type 0} (t : A → Bool) (xs : List A) → ((i : ℕ) (x : A) �
 all-from t [] h = refl
 all-from t (x ∷ xs) h = ap (λ z. z && list_all t xs) (h 0 x refl) ∙ all-from t xs (λ i y e. h (suc i) y e)
 
-pub all-there : {A : Type 0} (t : A → Bool) (xs : List A) (n : ℕ) (x : A) → list_all t xs ≡ true → slice_get xs n ≡ Some x
-    → t x ≡ true
+pub all-there : {A : Type 0} (t : A → Bool) (xs : List A) (n : ℕ) (x : A) → list_all t xs ≡ true →
+    slice_get xs n ≡ Some x → t x ≡ true
 all-there t [] n x a e = cc
 all-there t (y ∷ ys) zero x a e = let s : y ≡ x = cc in ap t (sym s) ∙ (and_parts (t y) (list_all t ys) a).0
 all-there t (y ∷ ys) (suc n) x a e = all-there t ys n x (and_parts (t y) (list_all t ys) a).1 e

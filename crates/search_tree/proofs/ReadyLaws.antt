@@ -264,12 +264,14 @@ side-ready vs k rs f g b r light thin named small less =
 pub ready-first : (vs : List Variable) (k : ℕ) (rs : List Range) (f : CForm) (b : Branch) → is_either f ≡ true →
     Ready vs (suc k) rs (waiting_only b (f ∷ b.waiting)) → Ready vs k rs (settled (scope_of vs b) (sides f).0 b)
 ready-first vs k rs f b e r = side-ready vs k rs f (sides f).0 b r (first-side f (2 ^ 63)) (first-narrow f)
-    (λ n. (side-names (scope_of vs b) f (out-CForm f) refl n).0) (λ weight. first-small weight f) (side-shapes f e).first
+    (λ n. (side-names (scope_of vs b) f (out-CForm f) refl n).0) (λ weight. first-small weight f)
+    (side-shapes f e).first
 
 pub ready-second : (vs : List Variable) (k : ℕ) (rs : List Range) (f : CForm) (b : Branch) → is_either f ≡ true →
     Ready vs (suc k) rs (waiting_only b (f ∷ b.waiting)) → Ready vs k rs (settled (scope_of vs b) (sides f).1 b)
 ready-second vs k rs f b e r = side-ready vs k rs f (sides f).1 b r (second-side f (2 ^ 63)) (second-narrow f)
-    (λ n. (side-names (scope_of vs b) f (out-CForm f) refl n).1) (λ weight. second-small weight f) (side-shapes f e).second
+    (λ n. (side-names (scope_of vs b) f (out-CForm f) refl n).1) (λ weight. second-small weight f)
+    (side-shapes f e).second
 
 -- while something waits, a level is left
 pub ready-deep : (vs : List Variable) (k : ℕ) (rs : List Range) (f : CForm) (fs : List CForm) (b : Branch) →

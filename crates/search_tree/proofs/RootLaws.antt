@@ -17,9 +17,9 @@ use Rattle.certificate_check.proofs.WholeLaws.{opened-arity}
 use Rattle.linear_prover.specs.Chains.{is_plain_node}
 use Rattle.std.specs.List.{list_all}
 use Rattle.obligations.proofs.OpeningLaws.{first-holds}
-use Rattle.search_tree.specs.declared.plain_tree.Trail.{Trail}
-use Rattle.search_tree.specs.declared.plain_tree.Ended.{Ended}
-use Rattle.search_tree.specs.declared.plain_tree.Found.{Found}
+use Rattle.search_tree.specs.declared.trail.Trail.{Trail}
+use Rattle.search_tree.specs.declared.trail.Ended.{Ended}
+use Rattle.search_tree.specs.declared.searching.Found.{Found}
 use Rattle.obligations.specs.Certificates.{arity, units}
 use Rattle.search_tree.specs.Left.{left_by, left}
 use Rattle.obligations.specs.Plain.{ranges_of, quotients_in, leaf_units_of, plain_leaves, enough, need_of}

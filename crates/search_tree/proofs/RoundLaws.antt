@@ -186,7 +186,8 @@ module _ (facts : List Fact) (points : List Point) (are : ArePoints facts 0 poin
       let nothing : pos m *ℤ pos 0 ≡ pos 0 = *ℤ-zero (pos m) in
       let c = unsigned_abs-mul (pos m) g.fact.constant in
       let size = g.size in let bounded = tame f.0 in
-      let most : m * unsigned_abs g.fact.constant ≤ m * 2 ^ 62 = mul-le-mul (le_refl m) (omega (arith, size, bounded)) in
+      let most : m * unsigned_abs g.fact.constant ≤ m * 2 ^ 62 =
+      mul-le-mul (le_refl m) (omega (arith, size, bounded)) in
       let room = b.room in
       let spread : widths (f ∷ fs) * 2 ^ 62 ≡ m * 2 ^ 62 + widths fs * 2 ^ 62 = omega arith in
       let sum = abs-plus l.constant (pos m *ℤ g.fact.constant) in

@@ -21,8 +21,8 @@ use Rattle.obligations.specs.Settling.{settled, outcome}
 use Rattle.certificate_check.specs.Sums.{sum_pairs, all_pairs, divided}
 use Rattle.obligations.specs.Settling.{added}
 use Rattle.certificate_check.specs.Refutation.{fails, opens, made_by, made_sum, made_round, made, allowing}
-use Rattle.search_tree.specs.declared.plain_tree.Trail.{Trail}
-use Rattle.search_tree.specs.declared.plain_tree.Ended.{Ended}
+use Rattle.search_tree.specs.declared.trail.Trail.{Trail}
+use Rattle.search_tree.specs.declared.trail.Ended.{Ended}
 use Rattle.linear_prover.specs.Chains.{nulls, total_pairs, Closes, is_plain_node}
 use Rattle.std.specs.List.{list_all}
 use Rattle.std.proofs.lemmas.List.Folds.{list_all-append}

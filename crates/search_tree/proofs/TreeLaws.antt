@@ -7,8 +7,8 @@ use Rattle.obligations.specs.declared.branches.Variable.{Variable}
 use Rattle.obligations.specs.declared.certificates.Node.{Node}
 use Rattle.certificate_check.specs.Refutation.{OpenBranch}
 use Rattle.certificate_check.specs.Refutation.{opens, made, allowing}
-use Rattle.search_tree.specs.declared.plain_tree.Trail.{Trail}
-use Rattle.search_tree.specs.declared.plain_tree.Ended.{Ended}
+use Rattle.search_tree.specs.declared.trail.Trail.{Trail}
+use Rattle.search_tree.specs.declared.trail.Ended.{Ended}
 use Rattle.obligations.specs.Certificates.{node_units, units}
 use Rattle.linear_prover.specs.Chains.{is_plain_node}
 use Rattle.search_tree.specs.Left.{left_by, left}

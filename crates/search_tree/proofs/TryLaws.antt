@@ -6,8 +6,8 @@ use Rattle.obligations.specs.declared.branches.Variable.{Variable}
 use Rattle.obligations.specs.declared.certificates.Node.{Node}
 use Rattle.obligations.specs.Certificates.{units}
 use Rattle.linear_prover.specs.Chains.{Closes, ClosesShortly, is_plain_node}
-use Rattle.search_tree.specs.declared.plain_tree.Trail.{Trail}
-use Rattle.search_tree.specs.declared.plain_tree.Ended.{Ended}
+use Rattle.search_tree.specs.declared.trail.Trail.{Trail}
+use Rattle.search_tree.specs.declared.trail.Ended.{Ended}
 use Rattle.search_tree.specs.Searching.{Finishes, TriedShortly}
 
 pub tried-short : (vs : List Variable) (facts : List Fact) (ns : List Node) (old new : Trail) (e : Ended) →

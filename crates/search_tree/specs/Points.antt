@@ -1,6 +1,6 @@
 -- Variables that have one value each, as facts say.
-use Rattle.std.specs.Prelude.{◌≡◌, ℕ, suc, ◌+◌, ◌-◌, ◌*◌, ◌^◌, ◌≤◌, ◌<◌, nat_eq, ℤ, pos, negsuc, ◌+ℤ◌, Bool, true, false}
-use Rattle.std.specs.Prelude.{Option, Some, None, List, [], ◌∷◌, ◌++◌, length, map, take, slice_get}
+use Rattle.std.specs.Prelude.{◌≡◌, ℕ, suc, ◌+◌, ◌-◌, ◌*◌, ◌^◌, ◌≤◌, ◌<◌, nat_eq, ℤ, pos, negsuc, ◌+ℤ◌, Bool, true}
+use Rattle.std.specs.Prelude.{false, Option, Some, None, List, [], ◌∷◌, ◌++◌, length, map, take, slice_get}
 use Rattle.std.specs.List.{list_all}
 use Rattle.std.specs.Int.{int_div_euclid}
 use Rattle.std.specs.Int.RustNames.{unsigned_abs}

@@ -22,9 +22,9 @@ use Rattle.obligations.specs.Obligations.{is_sound_range}
 use Rattle.obligations.specs.Opening.{in_ranges, first_branch}
 use Rattle.certificate_check.specs.Refutation.{allowing, walk_from_root, WalkResult}
 use Rattle.obligations.specs.Opening.{at_most, at_least}
-use Rattle.search_tree.specs.declared.plain_tree.Trail.{Trail}
-use Rattle.search_tree.specs.declared.plain_tree.Ended.{Ended}
-use Rattle.search_tree.specs.declared.plain_tree.Found.{Found}
+use Rattle.search_tree.specs.declared.trail.Trail.{Trail}
+use Rattle.search_tree.specs.declared.trail.Ended.{Ended}
+use Rattle.search_tree.specs.declared.searching.Found.{Found}
 use Rattle.obligations.specs.Reach.{are_exact, is_within}
 use Rattle.linear_prover.specs.Chains.{Closes, is_plain_node, is_plain_number, is_plain_factor, is_plain_pair}
 use Rattle.obligations.specs.Certificates.{units}

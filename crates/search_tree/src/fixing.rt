@@ -1,6 +1,6 @@
 //! The values of the variables of a leaf, and the facts that say them.
-ghost use Rattle.std.specs.Prelude.{◌≡◌, ℕ, ◌+◌, ◌-◌, ◌*◌, ◌≤◌, ◌<◌, ◌^◌, ◌∷◌, [], ◌++◌, false, true, None, Some, length};
-ghost use Rattle.std.specs.Prelude.{map, ◌*ℤ◌, ◌+ℤ◌, ◌≤ℤ◌, pos, IfOk, OnOk, IsTrue};
+ghost use Rattle.std.specs.Prelude.{◌≡◌, ℕ, ◌+◌, ◌-◌, ◌*◌, ◌≤◌, ◌<◌, ◌^◌, ◌∷◌, [], ◌++◌, false, true, None, Some};
+ghost use Rattle.std.specs.Prelude.{length, map, ◌*ℤ◌, ◌+ℤ◌, ◌≤ℤ◌, pos, IfOk, OnOk, IsTrue};
 ghost use Rattle.std.specs.List.{list_all};
 ghost use Rattle.std.specs.Int.{int_div_euclid};
 ghost use Rattle.std.specs.Int.RustNames.{unsigned_abs};
@@ -16,7 +16,7 @@ ghost use Rattle.search_tree.specs.Points.{values_in, pair_at, IsPoint, ArePoint
 ghost use Rattle.search_tree.specs.Points.{worth_at, quotient_at, round_at, IsReadable, fixed_by, IsFixing};
 ghost use Rattle.search_tree.specs.Searching.{Has, AreBounded, widths, Ready};
 
-use crate::plain_tree::numbered;
+use crate::closing::numbered;
 use certificate_check::copy_fact;
 use core_terms::Range;
 use obligations::{Branch, Fact, Node, Variable};

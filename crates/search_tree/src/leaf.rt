@@ -8,8 +8,10 @@ ghost use Rattle.obligations.specs.Scopes as scopes;
 ghost use Rattle.search_tree.specs.Points.{values_in, IsFixing};
 ghost use Rattle.search_tree.specs.Searching.{Ready, Ends, EndsLeaf, Finishes};
 
+use crate::closing::{count_of, numbered};
 use crate::fixing::{Fixing, Point, fixing_of};
-use crate::plain_tree::{Ended, Trail, append_nodes, count_of, finish, low_ends, numbered};
+use crate::halves::low_ends;
+use crate::trail::{Ended, Trail, append_nodes, finish};
 use core_terms::Range;
 use linear_prover::reach_chain;
 use obligations::{Branch, Node, Variable};

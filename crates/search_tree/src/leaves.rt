@@ -14,10 +14,9 @@ ghost use Rattle.obligations.specs.Reach.{are_exact, some_out_of_reach};
 ghost use Rattle.obligations.specs.Settling.{settled, sides, added};
 ghost use Rattle.search_tree.specs.Searching.{Ready};
 
-use crate::plain_tree::{
-    Halves, add_above, add_at_most, count_of, cut_back, first_halves, high_half, is_either,
-    low_half, numbered, ranges_in, settle_first, settle_second,
-};
+use crate::closing::{count_of, numbered};
+use crate::halves::{Halves, add_above, add_at_most, first_halves, high_half, low_half, ranges_in};
+use crate::sides::{cut_back, is_either, settle_first, settle_second};
 use core_terms::{CForm, Range};
 use linear_prover::reach_chain;
 use obligations::{

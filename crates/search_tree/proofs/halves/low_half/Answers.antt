@@ -1,6 +1,6 @@
 use Rattle.std.proofs.Common.{sym}
 use Rattle.search_tree.proofs.SearchLaws.{high-is}
-use Rattle.search_tree.proofs.plain_tree.low_half.Goals as goal
+use Rattle.search_tree.proofs.halves.low_half.Goals as goal
 
 pub returns-in-Some : goal.returns-in-Some
 returns-in-Some c =

@@ -3,7 +3,7 @@ use Rattle.obligations.specs.Obligations.{AreOwn}
 use Rattle.obligations.specs.Plain.{ranges_of}
 use Rattle.obligations.specs.Scopes.{scope_of}
 use Rattle.search_tree.proofs.RootLaws.{search-ready, search-answers}
-use Rattle.search_tree.proofs.plain_tree.search_tree.Goals as goal
+use Rattle.search_tree.proofs.searching.search_tree.Goals as goal
 
 pub refute-requires-clause-ready : goal.refute-requires-clause-ready
 refute-requires-clause-ready c =

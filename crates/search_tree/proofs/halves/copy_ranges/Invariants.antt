@@ -1,5 +1,5 @@
 use Rattle.std.proofs.Common.{◌≡◌, take}
-use Rattle.search_tree.proofs.plain_tree.copy_ranges.Given as goal
+use Rattle.search_tree.proofs.halves.copy_ranges.Given as goal
 
 abbrev pub invariant-loop-range : goal.invariant-loop-range
 invariant-loop-range l = l.copy ≡ take l.range-index l.ranges

@@ -1,6 +1,6 @@
 use Rattle.std.proofs.Common.{sym, pos, ◌+ℤ◌}
 use Rattle.search_tree.proofs.SearchLaws.{low-is}
-use Rattle.search_tree.proofs.plain_tree.high_half.Goals as goal
+use Rattle.search_tree.proofs.halves.high_half.Goals as goal
 
 pub returns-in-Some : goal.returns-in-Some
 returns-in-Some c =

@@ -1,5 +1,5 @@
 use Rattle.std.proofs.Common.{◌≡◌, ◌++◌, length}
-use Rattle.search_tree.proofs.plain_tree.append_nodes.Given as goal
+use Rattle.search_tree.proofs.trail.append_nodes.Given as goal
 
 abbrev pub invariant-loop-nodes : goal.invariant-loop-nodes
 invariant-loop-nodes l = l.nodes ++ l.more ≡ l.fn.nodes ++ l.fn.more
