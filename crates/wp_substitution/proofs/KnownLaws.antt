@@ -2,9 +2,11 @@
 use Rattle.std.proofs.Common.{◌≡◌, ℕ, ◌≤◌, ◌^◌, ℤ, Bool, true, false, Option, Some, None, refl, sym, ap, ◌∙◌, arith}
 use Rattle.std.specs.Prelude.{MatchOption}
 use Rattle.std.specs.Int.RustNames.{unsigned_abs}
-use Rattle.core_terms.specs.declared.trees.CForm.{CForm}
-use Rattle.core_terms.specs.declared.trees.CForm.TheVariants.{Top, Not, And, Or}
-use Rattle.core_terms.specs.Folding.{truth_of, truth_or, folded_form, not_form, and_form, or_form}
+use Rattle.core_terms.specs.declared.trees.CForm.{CForm, fold-roll-CForm}
+use Rattle.core_terms.specs.declared.trees.CForm.TheOpen.{CForm-F}
+use Rattle.core_terms.specs.declared.trees.CForm.TheVariants.{Top, Bottom, Not, And, Or, rolls-Bottom}
+use Rattle.core_terms.specs.Folding.{truth_of, truth_or, truth_step, number_step, folded_form, not_form, and_form}
+use Rattle.core_terms.specs.Folding.{or_form}
 use Rattle.core_terms.proofs.KnownLaws.{known_folded_form}
 use Rattle.wp_substitution.specs.Joined.{IsFolded}
 use Rattle.wp_substitution.proofs.JoinedLaws.{truth-Top}
@@ -40,3 +42,11 @@ pub top_folded : IsFolded Top
 top_folded = ap (λ m. truth_or m Top) truth-Top
 
 pub ruleset top_laws = (top_folded, truth-Top)
+
+pub truth-Bottom : truth_of Bottom ≡ Some false
+truth-Bottom = ap truth_of (sym rolls-Bottom) ∙ fold-roll-CForm _ _ truth_step number_step CForm-F.Bottom
+
+pub bottom_folded : IsFolded Bottom
+bottom_folded = ap (λ m. truth_or m Bottom) truth-Bottom
+
+pub ruleset bottom_laws = (bottom_folded, truth-Bottom)

@@ -1,4 +1,5 @@
 pub mod AfterLaws
+pub mod AgreeLaws
 pub mod ClosedLaws
 pub mod ExactLaws
 pub mod HeavierLaws

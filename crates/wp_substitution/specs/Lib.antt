@@ -3,3 +3,4 @@ pub mod Exact
 pub mod Oversized
 pub mod Joined
 pub mod Chains
+pub mod Agreeing

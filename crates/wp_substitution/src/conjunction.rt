@@ -1,7 +1,9 @@
 // Formulas joined by `and` from the left, one after the other.
-ghost use Rattle.std.specs.Prelude.{◌≡◌, ◌^◌, ◌≤◌, IfOk, OnOk, Some, None};
+ghost use Rattle.std.specs.Prelude.{◌≡◌, ◌^◌, ◌≤◌, ◌&&◌, IfOk, OnOk, Some, None};
+ghost use Rattle.std.specs.Option.{is_some};
 ghost use Rattle.std.specs.Bool.{OnTrue};
 ghost use Rattle.core_terms.specs.declared.trees.CForm.{CForm};
+ghost use Rattle.core_terms.specs.declared.trees.CForm.TheVariants.{Bottom};
 ghost use Rattle.core_terms.specs.Weights.{plain_weight};
 ghost use Rattle.core_terms.specs.Folding.{truth_of};
 ghost use Rattle.wp_substitution.specs.Joined.{joined_with, or_top, IsFolded, ConjunctionKnown};
@@ -68,6 +70,24 @@ impl Conjunction {
             },
             None => false,
         }
+    }
+
+    /// Whether there is a formula, and the truth of the whole is known.
+    pub fn is_settled(&self) -> bool
+        ensures { result ≡ (is_some self.now.whole && is_some self.now.truth) }
+    {
+        self.whole.is_some() && self.truth.is_some()
+    }
+
+    /// Whatever it was, it is `Bottom` now.
+    #[tactic(auto, using(crate::proofs::KnownLaws::bottom_laws))]
+    pub fn fail(&mut self, alloc: Global) -> Result<(), AllocError>
+        ensures whole { OnOk result (self.new.whole ≡ Some Bottom) }
+        ensures known { OnOk result (ConjunctionKnown self.new) }
+    {
+        self.whole = Some(Shared::new(alloc, CForm::Bottom)?);
+        self.truth = Some(false);
+        Ok(())
     }
 
     /// The whole; `Top` of no formula.

@@ -1,81 +1,87 @@
 // Statements whose formulas are too large, found without making the formulas.
-ghost use Rattle.std.specs.Prelude.{◌≡◌, ◌≤◌, ◌+◌, min, IfOk, All, List, map};
+ghost use Rattle.std.specs.Prelude.{◌≡◌, ◌+◌, ℕ, nat_eq, min, cond, IfOk, OnOk, All, List};
 ghost use Rattle.std.specs.Bool.{OnTrue};
+ghost use Rattle.std.specs.List.{list_any};
 ghost use Rattle.core_terms.specs.declared.programs.CSlot.{CSlot};
-ghost use Rattle.wp_substitution.specs.Preconditions.{pair_forms, defined_form};
-ghost use Rattle.wp_substitution.specs.Joined.{IsLightWrite, IsSmallKnown, known_write};
-ghost use Rattle.wp_substitution.specs.Oversized.{IsOversized, open_count, open_pair, open_with};
-ghost use Rattle.wp_substitution.specs.Oversized.{has_many_open};
+ghost use Rattle.core_terms.specs.Conditions.{WriteFits};
+ghost use Rattle.wp_substitution.specs.Preconditions.{defined_form};
+ghost use Rattle.wp_substitution.specs.Joined.{IsLightWrite};
+ghost use Rattle.wp_substitution.specs.Oversized.{IsOversized, is_open, pair_count, has_many_pairs, count_at};
 
-use crate::known::{Known, known_pair, known_writes};
-use core_terms::{CStmt, CWrite};
+use core_terms::{CStmt, CWrite, number_of, truth_of};
 use std::alloc::{AllocError, Global};
+use std::collections::BTreeMap;
 
-/// Whether the statement makes more than 65,537 pairs of writes to one slot of which it is not plain whether they
-/// agree, so that the formula of where it is defined has more than 65,536 nodes. The formula is not made.
+/// Whether some write is open, and the statement makes more than 65,536 pairs of writes to one slot, so that the
+/// formula of where it is defined has more than 65,536 nodes. The formula is not made.
 ///
-/// Of two writes it is plain where both conditions and both values name no slot and no parameter. An error says
-/// that memory was refused.
+/// A write is open where its condition or its value names a slot or a parameter. An error says that memory was
+/// refused.
 pub fn is_oversized(alloc: Global, s: &CStmt) -> Result<bool, AllocError>
     requires { All IsLightWrite s.now.writes }
-    ensures pairs { IfOk result (λ many. many ≡ has_many_open s.now) }
-    ensures large { IfOk result (λ many. OnTrue many ((slots : List CSlot) → IsOversized (defined_form slots s.now))) }
+    ensures pairs { IfOk result (λ many. many ≡ has_many_pairs s.now) }
+    ensures large { IfOk result (λ many. OnTrue many ((slots : List CSlot) → All (WriteFits slots) s.now.writes →
+        IsOversized (defined_form slots s.now))) }
 {
     let writes = s.writes.as_slice();
-    let knowns = known_writes(alloc, writes)?;
-    Ok(open_pairs(writes, knowns.as_slice()) > 65_537)
+    if !any_open(writes) {
+        return Ok(false);
+    }
+    Ok(count_pairs(alloc, writes)? > 65_536)
 }
 
-// How many pairs of writes to one slot there are of which it is not plain whether they agree; 65,538 where
-// there are more.
-fn open_pairs(writes: &[CWrite], knowns: &[Known]) -> u32
-    requires known { knowns.now ≡ map known_write writes.now }
-    requires small { All IsSmallKnown knowns.now }
-    ensures { result ≡ min (open_count (pair_forms writes.now)) 65538 }
+/// Whether the condition or the value of some write names a slot or a parameter.
+pub(crate) fn any_open(writes: &[CWrite]) -> bool
+    requires { All IsLightWrite writes.now }
+    ensures { result ≡ list_any is_open writes.now }
 {
-    let mut count = 0;
-    for (place, w) in writes.iter().enumerate() {
-        let later = place + 1;
-        count = add_open_pairs(w, knowns[place], &writes[later..], &knowns[later..], count);
-        if count > 65_537 {
-            return count;
+    for w in writes {
+        if is_open(w) {
+            return true;
         }
     }
-    count
+    false
 }
 
-// The count, and the pairs of one write with later ones; 65,538 where that is more.
-fn add_open_pairs(w: &CWrite, known: Known, later: &[CWrite], knowns: &[Known], count: u32) -> u32
-    requires count { count ≤ 65537 }
-    requires first { known ≡ known_write w.now }
-    requires small { IsSmallKnown known }
-    requires others { knowns.now ≡ map known_write later.now }
-    requires all_small { All IsSmallKnown knowns.now }
-    ensures { result ≡ min (count + open_with w.now later.now) 65538 }
+fn is_open(w: &CWrite) -> bool
+    requires { IsLightWrite w.now }
+    ensures { result ≡ is_open w.now }
 {
-    let mut total = count;
-    for (place, v) in later.iter().enumerate() {
-        total += open_pair(w, v, known, knowns[place]);
-        if total > 65_537 {
-            return total;
-        }
-    }
-    total
+    truth_of(&w.when).is_none() || number_of(&w.value).is_none()
 }
 
-// 1 where two writes are to one slot, and it is not plain whether they agree.
-fn open_pair(v: &CWrite, w: &CWrite, first: Known, second: Known) -> u32
-    requires first { first ≡ known_write v.now }
-    requires second { second ≡ known_write w.now }
-    requires small { IsSmallKnown first }
-    requires small_second { IsSmallKnown second }
-    ensures { result ≡ open_pair v.now w.now }
+// How many pairs of writes to one slot there are; 65,537 where there are more.
+fn count_pairs(alloc: Global, writes: &[CWrite]) -> Result<u64, AllocError>
+    ensures { IfOk result (λ pairs. pairs ≡ min (pair_count writes.now) 65537) }
 {
-    if v.slot != w.slot {
-        return 0;
+    let mut counts = BTreeMap::new(alloc);
+    let mut pairs = 0;
+    let mut left = writes.len();
+    while left > 0 {
+        left -= 1;
+        let others = count_one(&mut counts, writes[left].slot)?;
+        pairs = capped(pairs, others);
     }
-    match known_pair(first, second) {
-        Some(_) => 0,
-        None => 1,
-    }
+    Ok(pairs)
+}
+
+// One write more to a slot, and how many there were; 65,537 where there were more.
+fn count_one(counts: &mut BTreeMap<u32, u64>, slot: u32) -> Result<u64, AllocError>
+    ensures before { IfOk result (λ others. others ≡ count_at counts.old slot) }
+    ensures counts { OnOk result ((n : ℕ) → count_at counts.new n ≡
+        cond (nat_eq slot n) (min (count_at counts.old slot + 1) 65537) (count_at counts.old n)) }
+{
+    let others = match counts.get(&slot) {
+        Some(others) => *others,
+        None => 0,
+    };
+    counts.insert(slot, capped(others, 1))?;
+    Ok(others)
+}
+
+// The sum of two counts; 65,537 where it is more.
+fn capped(a: u64, b: u64) -> u64
+    ensures { result ≡ min (a + b) 65537 }
+{
+    a.saturating_add(b).min(65_537)
 }

@@ -1,5 +1,7 @@
 // The formula of where a statement is defined.
-ghost use Rattle.std.specs.Prelude.{◌≡◌, ◌^◌, ◌≤◌, IfOk, OnOk, Some, All, map, slice_get};
+ghost use Rattle.std.specs.Prelude.{◌≡◌, ◌^◌, ◌≤◌, ◌&&◌, true, false, IfOk, OnOk, Some, All, map, slice_get};
+ghost use Rattle.std.specs.List.{list_any};
+ghost use Rattle.std.specs.Option.{is_some};
 ghost use Rattle.core_terms.specs.declared.trees.CTerm.TheVariants.{Const};
 ghost use Rattle.core_terms.specs.Weights.{plain_weights, plain_weight};
 ghost use Rattle.core_terms.specs.Conditions.{StatementFits};
@@ -9,9 +11,12 @@ ghost use Rattle.wp_substitution.specs.Preconditions.{defined_form};
 ghost use Rattle.wp_substitution.specs.Joined.{joined_with, joined_all, ConjunctionKnown, IsLight, IsLightWrite};
 ghost use Rattle.wp_substitution.specs.Joined.{known_write};
 ghost use Rattle.wp_substitution.specs.Joined.{IsSmallKnown};
+ghost use Rattle.wp_substitution.specs.Oversized.{is_open};
 ghost use Rattle.wp_substitution.specs.Exact.{HoldsWhereDefined};
 
+use crate::agreeing::agree;
 use crate::conjunction::Conjunction;
+use crate::counting::any_open;
 use crate::known::{Known, known_pair, known_writes};
 use core_terms::{
     CForm, CSlot, CStmt, CTerm, CWrite, Range, and_known, at_least_known, difference_known,
@@ -100,6 +105,9 @@ fn add_pairs(alloc: Global, all: &mut Conjunction, writes: &[CWrite]) -> Result<
     ensures whole { OnOk result (all.new.whole ≡ joined_all all.old.whole (pair_forms writes.now)) }
     ensures known { OnOk result (ConjunctionKnown all.new) }
 {
+    if all.is_settled() && !any_open(writes) {
+        return add_closed(alloc, all, writes);
+    }
     let knowns = known_writes(alloc, writes)?;
     let knowns = knowns.as_slice();
     for (place, w) in writes.iter().enumerate() {
@@ -112,6 +120,21 @@ fn add_pairs(alloc: Global, all: &mut Conjunction, writes: &[CWrite]) -> Result<
             &writes[later..],
             &knowns[later..],
         )?;
+    }
+    Ok(())
+}
+
+// The same where nothing hangs on the state: the whole stays as it is, or fails.
+fn add_closed(alloc: Global, all: &mut Conjunction, writes: &[CWrite]) -> Result<(), AllocError>
+    requires known { ConjunctionKnown all.old }
+    requires light { All IsLightWrite writes.now }
+    requires settled { (is_some all.old.whole && is_some all.old.truth) ≡ true }
+    requires closed { list_any is_open writes.now ≡ false }
+    ensures whole { OnOk result (all.new.whole ≡ joined_all all.old.whole (pair_forms writes.now)) }
+    ensures known { OnOk result (ConjunctionKnown all.new) }
+{
+    if !agree(alloc, writes)? {
+        all.fail(alloc)?;
     }
     Ok(())
 }

@@ -1,6 +1,7 @@
 //! Where a statement is defined, and its weakest preconditions.
 #![tactic(auto)]
 
+mod agreeing;
 mod chains;
 mod conjunction;
 mod counting;
