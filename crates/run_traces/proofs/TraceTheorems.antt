@@ -33,12 +33,12 @@ module _ (d : CDocument) (p : CProgram) (x y : System) (u : Test)
     (u next))
     (agree : (choice : ℕ) (state : State) → IsTrue (u state) → chosen_step x choice state
     ≡ chosen_step y choice state) where
-  abbrev Same : List ℕ → ℕ → State → List ℕ → Type 0
+  abbrev pub Same : List ℕ → ℕ → State → List ℕ → Type 0
   Same last n state choices =
       (steps_text d p x last n state choices ≡ steps_text d p y last n state choices)
       × (all_defined x state choices ≡ all_defined y state choices)
 
-  steps_same : (last : List ℕ) (n : ℕ) (state : State) (choices : List ℕ) → IsTrue (u state) → Same last n state
+  pub steps_same : (last : List ℕ) (n : ℕ) (state : State) (choices : List ℕ) → IsTrue (u state) → Same last n state
       choices
   steps_same last n state [] h = (refl, refl)
   steps_same last n state (choice ∷ choices) h =

@@ -13,7 +13,7 @@ mod traces;
 pub use choices::Choices;
 pub use commands::{replay_schedule, run_program};
 pub use error::RunError;
-pub use finding::scheduled_program;
+pub use finding::{program_called, scheduled_program};
 pub use laws::trace_laws;
 pub use trace_error::TraceError;
 pub use traces::write_trace;

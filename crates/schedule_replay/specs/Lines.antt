@@ -73,6 +73,10 @@ undefined_line d p number choice =
 abbrev pub rounds_line : ℕ → List ℕ
 rounds_line rounds = codes "rounds " ++ decimal rounds ++ codes "\n"
 
+-- the line of a fixed point: after how many steps it was reached
+abbrev pub fixed_line : ℕ → List ℕ
+fixed_line number = codes "fixed " ++ decimal number ++ codes "\n"
+
 -- the first line: the command and the program's name
 abbrev pub heading_line : CDocument → CProgram → Heading → List ℕ
 heading_line d p Heading.Run = codes "run " ++ word_text d.words p.name ++ codes "\n"

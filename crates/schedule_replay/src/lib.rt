@@ -9,6 +9,6 @@ mod replay;
 mod schedule;
 
 pub use heading::Heading;
-pub use lines::{write_heading, write_line, write_rounds, write_undefined};
+pub use lines::{write_fixed, write_heading, write_line, write_rounds, write_undefined};
 pub use replay::read_schedule;
 pub use schedule::{ScheduleError, round_robin};

@@ -118,3 +118,20 @@ pub fn write_rounds<K: Sink>(rounds: u64, out: &mut K) -> Result<(), Failed>
     text.put(out, b"\n");
     text.finish(out)
 }
+
+/// Writes the line of a fixed point: `fixed` and the number of the state.
+///
+/// `Failed` as for `write_line`.
+pub fn write_fixed<K: Sink>(number: u64, out: &mut K) -> Result<(), Failed>
+    ensures whole { OnOk result (Appends (K.written out.old) (K.written out.new)
+        (line.fixed_line number)) }
+    ensures part { OnErr result (AppendsPart (K.written out.old) (K.written out.new)
+        (line.fixed_line number)) }
+    ensures cause { HasCause (K.faults out.old) (K.faults out.new) result }
+{
+    let mut text = Buffer::new();
+    text.put(out, b"fixed ");
+    put_number(&mut text, out, number);
+    text.put(out, b"\n");
+    text.finish(out)
+}

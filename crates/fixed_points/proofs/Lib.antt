@@ -1,0 +1,7 @@
+pub mod JoiningLaws
+pub mod WriteLaws
+pub mod PointLaws
+pub mod FormLaws
+pub mod TellingLaws
+pub mod NamedLaws
+pub mod LargeLaws

@@ -1,0 +1,4 @@
+pub mod FixedPoints
+pub mod FixedForms
+pub mod Laws
+pub mod Joining
