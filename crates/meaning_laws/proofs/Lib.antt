@@ -1,4 +1,5 @@
 pub mod AlikeTheorems
+pub mod CompletionTheorems
 pub mod ExampleTrials
 pub mod KeptTheorems
 pub mod NumberTests

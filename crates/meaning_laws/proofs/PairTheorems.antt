@@ -1,12 +1,12 @@
 -- The rules by which `unless` and `ensures` combine: each is a fact about truths before and after a step.
-use Rattle.std.proofs.Common.{Bool, not, ◌&&◌, ◌||◌, IsTrue, arith}
+use Rattle.std.proofs.Common.{◌≡◌, Bool, true, false, not, ◌&&◌, ◌||◌, IsTrue, refl, arith}
 use Rattle.meaning_states.specs.State.{State}
-use Rattle.meaning_documents.specs.Properties.{Test}
+use Rattle.meaning_documents.specs.Properties.{Test, never}
 use Rattle.meaning_documents.specs.Execution.{System}
-use Rattle.meaning_laws.specs.Tests.{both_hold, one_holds, Implies}
-use Rattle.meaning_laws.specs.Stands.{EachDefinedStep, StepUnless}
+use Rattle.meaning_laws.specs.Tests.{both_hold, one_holds, fails, Implies}
+use Rattle.meaning_laws.specs.Stands.{EachDefinedStep, StepUnless, StepSame}
 use Rattle.meaning_laws.specs.PairRules.{conjunction_end, disjunction_end, ConjunctionRule, ConjunctionEnsured}
-use Rattle.meaning_laws.specs.PairRules.{SimpleConjunction, Disjunction, SimpleDisjunction, Cancellation}
+use Rattle.meaning_laws.specs.PairRules.{SimpleConjunction, Disjunction, SimpleDisjunction, Cancellation, Constancy}
 use Rattle.meaning_laws.specs.PairRules.{WeakerUnless, WeakerEnsures}
 use Rattle.meaning_states.proofs.StepTheorems.{and_left, and_right, both_true}
 
@@ -76,6 +76,18 @@ pub cancellation_rule : Cancellation
 cancellation_rule x u v p q r =
     joined x u v (StepUnless p q) (StepUnless q r) (StepUnless (one_holds p q) r) (λ now next.
     cancellation_truths (p now) (q now) (r now) (p next) (q next) (r next))
+
+constancy_truths : (p p' : Bool) → (IsTrue (p && not false) → IsTrue (p' || false)) →
+    (IsTrue (not p && not false) → IsTrue (not p' || false)) → p ≡ p'
+constancy_truths true true f g = refl
+constancy_truths true false f g = let kept = f refl in cc
+constancy_truths false true f g = let kept = g refl in cc
+constancy_truths false false f g = refl
+
+pub constancy_rule : Constancy
+constancy_rule x u v p =
+    joined x u v (StepUnless p never) (StepUnless (fails p) never) (StepSame p)
+    (λ now next. constancy_truths (p now) (p next))
 
 pub conjunction_ensured : ConjunctionEnsured
 conjunction_ensured x u v p q r s choice one other = record {

@@ -94,7 +94,7 @@ leads_weaker x p q strong weak bound implies implied leads first choices later r
 module _ (x : System) (q r b : Test) (safe : Unless x r b) (first : State) (choices : List ℕ) (later : List State)
     (run : IsExecution x first choices later) where
   -- r is kept up to the place where q holds, j places on, or b comes before
-  kept_up : (j i at : ℕ) (s t : State) → at ≡ i + j → slice_get (first ∷ later) i ≡ Some s → IsTrue (r s) →
+  pub kept_up : (j i at : ℕ) (s t : State) → at ≡ i + j → slice_get (first ∷ later) i ≡ Some s → IsTrue (r s) →
       slice_get (first ∷ later) at ≡ Some t → IsTrue (q t) → (v : Bool) → b s ≡ v →
       HoldsLater (one_holds (both_hold q r) b) (first ∷ later) i
   kept_up j i at s t sum here h there g true e =

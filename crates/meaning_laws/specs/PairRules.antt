@@ -2,9 +2,9 @@
 -- own holds, and the conclusion where both tests do.
 use Rattle.std.specs.Prelude.{ℕ}
 use Rattle.meaning_documents.specs.Execution.{System}
-use Rattle.meaning_documents.specs.Properties.{Test}
-use Rattle.meaning_laws.specs.Tests.{both_hold, one_holds, fails_with, Implies}
-use Rattle.meaning_laws.specs.Stands.{UnlessStands, EnsuresStands}
+use Rattle.meaning_documents.specs.Properties.{Test, never}
+use Rattle.meaning_laws.specs.Tests.{both_hold, one_holds, fails_with, fails, Implies}
+use Rattle.meaning_laws.specs.Stands.{UnlessStands, ConstantStands, EnsuresStands}
 
 -- conjunction: what either ends on, while the other still holds or ends too
 abbrev pub conjunction_end : Test → Test → Test → Test → Test
@@ -54,3 +54,8 @@ WeakerUnless = (x : System) (u v p q r : Test) → Implies (both_hold u q) r →
 abbrev pub WeakerEnsures : Type 0
 WeakerEnsures = (x : System) (u v p q r : Test) (choice : ℕ) → Implies (both_hold u q) r →
     EnsuresStands x v p q choice → EnsuresStands x (both_hold u v) p r choice
+
+-- constancy: both p and its contrary are stable
+abbrev pub Constancy : Type 0
+Constancy = (x : System) (u v p : Test) → UnlessStands x u p never → UnlessStands x v (fails p) never →
+    ConstantStands x (both_hold u v) p

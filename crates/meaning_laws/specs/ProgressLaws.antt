@@ -57,3 +57,15 @@ LeadsByInduction = (x : System) (measure : State → ℤ) (range : ℤ × ℤ) (
     ((m : ℤ) → IsTrue (in_range (Some range) m) →
     LeadsTo x (at_measure measure p m) (one_holds (below_measure measure p m) q) bound) →
     LeadsTo x p q (range_size range * bound)
+
+-- completion: p leads to q and p' to q', and each of these is kept until r comes; so both come to hold, or r does. The
+-- greater bound serves
+abbrev pub Completion : Type 0
+Completion = (x : System) (p q p' q' r : Test) (bound more : ℕ) →
+    LeadsTo x p (one_holds q r) bound → Unless x q r → LeadsTo x p' (one_holds q' r) more → Unless x q' r →
+    LeadsTo x (both_hold p p') (one_holds (both_hold q q') r) (max bound more)
+
+-- cancellation: p leads to q or b, and b on to r; the bounds add
+abbrev pub LeadsCancellation : Type 0
+LeadsCancellation = (x : System) (p q b r : Test) (bound more : ℕ) →
+    LeadsTo x p (one_holds q b) bound → LeadsTo x b r more → LeadsTo x p (one_holds q r) (bound + more)

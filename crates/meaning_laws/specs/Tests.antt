@@ -11,6 +11,10 @@ both_hold p q state = p state && q state
 abbrev pub one_holds : Test → Test → Test
 one_holds p q state = p state || q state
 
+-- the test does not hold
+abbrev pub fails : Test → Test
+fails p state = not (p state)
+
 -- the first does not hold and the second does
 abbrev pub fails_with : Test → Test → Test
 fails_with p q state = not (p state) && q state

@@ -14,12 +14,12 @@ ghost use Rattle.meaning_laws.specs.KeptLaws.{LeadsNarrows};
 ghost use Rattle.meaning_laws.specs.StandingLaws.{InvariantBoth, DefinedHolds, FixedHolds, InvariantHolds};
 ghost use Rattle.meaning_laws.specs.StandingLaws.{UnlessHolds, ConstantHolds, EnsuresHolds, LeadsHolds};
 ghost use Rattle.meaning_laws.specs.PairRules.{ConjunctionRule, ConjunctionEnsured, SimpleConjunction, Disjunction};
-ghost use Rattle.meaning_laws.specs.PairRules.{SimpleDisjunction, Cancellation, WeakerUnless, WeakerEnsures};
+ghost use Rattle.meaning_laws.specs.PairRules.{SimpleDisjunction, Cancellation, Constancy, WeakerUnless, WeakerEnsures};
 ghost use Rattle.meaning_laws.specs.UnionRules.{UnionIsTogether, UnionDefined, UnionUnless, UnionInvariant};
 ghost use Rattle.meaning_laws.specs.UnionRules.{UnionInvariantSecond, UnionEnsures, UnionEnsuresSecond};
 ghost use Rattle.meaning_laws.specs.RoundSums.{RoundsAreLeft, LaterHaveFewer, RoundsOfJoined, MarksSuffice};
 ghost use Rattle.meaning_laws.specs.ProgressLaws.{Transitivity, EitherLeads, AnyLeads, ProgressWithSafety, LeadsWeaker};
-ghost use Rattle.meaning_laws.specs.ProgressLaws.{LeadsByInduction};
+ghost use Rattle.meaning_laws.specs.ProgressLaws.{LeadsByInduction, Completion, LeadsCancellation};
 ghost use Rattle.meaning_laws.specs.AlikeLaws.{SourceAlike, AlikeBack, KeptAlike, RunsAlike, DefinedAlike};
 ghost use Rattle.meaning_laws.specs.AlikeLaws.{FixedAlike, InvariantAlike, UnlessAlike, ConstantAlike};
 ghost use Rattle.meaning_laws.specs.AlikeLaws.{EnsuresAlike, LeadsAlike};
@@ -58,7 +58,7 @@ pub fn standing_laws()
 {}
 
 /// The rules by which two `unless` of one system, or an `unless` and an `ensures`, combine:
-/// conjunction, disjunction, their simple forms, cancellation, and a weaker end.
+/// conjunction, disjunction, their simple forms, cancellation, constancy, and a weaker end.
 pub fn pair_rules()
     ensures conjunction { ConjunctionRule }
     ensures conjunction_ensured { ConjunctionEnsured }
@@ -66,6 +66,7 @@ pub fn pair_rules()
     ensures disjunction { Disjunction }
     ensures simple_disjunction { SimpleDisjunction }
     ensures cancellation { Cancellation }
+    ensures constancy { Constancy }
     ensures weaker_unless { WeakerUnless }
     ensures weaker_ensures { WeakerEnsures }
 {}
@@ -90,8 +91,8 @@ pub fn round_sums()
     ensures marks { MarksSuffice }
 {}
 
-/// One leads-to follows from others: bounds of steps on the way add, of cases the greatest serves, and
-/// a measure that falls within a bound takes it once for each of its values.
+/// One leads-to follows from others: bounds of steps on the way add, of cases and of ends that are kept
+/// the greatest serves, and a measure that falls within a bound takes it once for each of its values.
 pub fn progress_laws()
     ensures trans { Transitivity }
     ensures either { EitherLeads }
@@ -99,6 +100,8 @@ pub fn progress_laws()
     ensures psp { ProgressWithSafety }
     ensures weaken { LeadsWeaker }
     ensures induct { LeadsByInduction }
+    ensures complete { Completion }
+    ensures cancel { LeadsCancellation }
 {}
 
 /// Two systems that start and step alike at the states of a document have the same executions, and so

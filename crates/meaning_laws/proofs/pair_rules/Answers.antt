@@ -1,6 +1,6 @@
 use Rattle.meaning_laws.proofs.PairTheorems.{conjunction_rule, conjunction_ensured, simple_conjunction}
 use Rattle.meaning_laws.proofs.PairTheorems.{disjunction_rule, simple_disjunction, cancellation_rule, weaker_unless}
-use Rattle.meaning_laws.proofs.PairTheorems.{weaker_ensures}
+use Rattle.meaning_laws.proofs.PairTheorems.{weaker_ensures, constancy_rule}
 use Rattle.meaning_laws.proofs.pair_rules.Goals as goal
 
 pub returns-clause-conjunction : goal.returns-clause-conjunction
@@ -20,6 +20,9 @@ returns-clause-simple_disjunction c = simple_disjunction
 
 pub returns-clause-cancellation : goal.returns-clause-cancellation
 returns-clause-cancellation c = cancellation_rule
+
+pub returns-clause-constancy : goal.returns-clause-constancy
+returns-clause-constancy c = constancy_rule
 
 pub returns-clause-weaker_unless : goal.returns-clause-weaker_unless
 returns-clause-weaker_unless c = weaker_unless

@@ -1,0 +1,4 @@
+pub mod LayerTheorems
+pub mod ResetTheorems
+pub mod RoundsBelow
+pub mod WritingTheorems
