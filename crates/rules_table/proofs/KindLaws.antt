@@ -2,7 +2,8 @@
 use Rattle.std.proofs.Common.{◌≡◌, IsTrue, refl}
 use Rattle.case_tables.specs.declared.kind_table.Kind.{Kind}
 use Rattle.rules_table.specs.Table.{is_defined, is_invariant, is_unless, is_ensures}
-use Rattle.rules_table.specs.Walk.{is_leadsto, is_until, is_detects, is_constant, is_fixed, is_kind}
+use Rattle.rules_table.specs.Further.{is_leadsto}
+use Rattle.rules_table.specs.Walk.{is_until, is_detects, is_constant, is_fixed, is_kind}
 
 pub defined_is : (k : Kind) → IsTrue (is_defined k) → k ≡ Kind.Defined
 defined_is Kind.Defined t = refl

@@ -1,6 +1,6 @@
 -- A parameter that is named is below the count of a formula's parameters, and passes a test that all named ones pass.
 use Rattle.std.proofs.Common.{◌≡◌, ℕ, nat_eq, ◌+◌, ◌<◌, max, Bool, true, false, ◌&&◌, ◌||◌, IsTrue, refl, sym, ◌∙◌}
-use Rattle.std.proofs.Common.{subst, arith}
+use Rattle.std.proofs.Common.{subst, arith, List, [], length}
 use Rattle.std.proofs.lemmas.Bool.{eqb-true}
 use Rattle.meaning_states.proofs.StepTheorems.{and_left, and_right}
 use Rattle.core_terms.specs.declared.trees.CTerm.{CTerm, roll-CTerm, ind-CTerm, fold-roll-CTerm}
@@ -10,7 +10,10 @@ use Rattle.core_terms.specs.declared.trees.CForm.TheFolds.{map-CForm, map-CTerm}
 use Rattle.core_terms.specs.Places.{params_step, greatest_part, term_params, form_params, only_step, all_parts}
 use Rattle.core_terms.specs.Places.{term_names_only, form_names_only, param_step, some_part, names_param}
 use Rattle.core_terms.specs.Places.{term_names_param}
-use Rattle.core_terms.specs.Conditions.{any_place}
+use Rattle.core_terms.specs.Conditions.{any_place, FormFits}
+use Rattle.core_terms.specs.declared.programs.CSlot.{CSlot}
+use Rattle.core_terms.specs.declared.trees.Range.{Range}
+use Rattle.rules_table.specs.Sound.{NamesNoParameter, NamesBelow}
 
 module _ (n : ℕ) (v : ℕ → Bool) where
   -- of whether n is named, one more than the greatest parameter, and whether all pass the test
@@ -99,3 +102,20 @@ module _ (n : ℕ) (v : ℕ → Bool) where
   term_shown t =
       ind-CTerm FormShown TermShown (λ x y e. subst (λ z. FormShown (roll-CForm z)) e (rolled _ (form_layer y)))
       (λ x y e. subst (λ z. TermShown (roll-CTerm z)) e (rolled_term _ (term_layer y))) t
+
+-- a formula that names none of 0 parameters names none
+pub below_none : (f : CForm) → NamesBelow 0 f → NamesNoParameter f
+below_none f few n = go (names_param n f) (few n)
+  where
+    go : (b : Bool) → (IsTrue b → n < 0) → b ≡ false
+    go true h = let less = h refl in absurd (omega arith)
+    go false h = refl
+
+-- a formula that fits names none but its own parameters
+pub fitting : (slots : List CSlot) (params : List Range) (f : CForm) → FormFits slots params f →
+    NamesBelow (length params) f
+fitting slots params f fits n t =
+    let less = (form_shown n any_place f t).0 in let few = fits.params_exist in omega arith
+
+pub closed_form : (slots : List CSlot) (f : CForm) → FormFits slots [] f → NamesNoParameter f
+closed_form slots f fits = below_none f (fitting slots [] f fits)

@@ -1,13 +1,15 @@
 -- Each row of the table as one equation, for calls that give what it gives.
-use Rattle.std.proofs.Common.{◌≡◌, ℕ, Bool, not, ◌&&◌, ◌||◌, List, [], ◌∷◌, ◌++◌, Some, None, Ok, refl, sym, ap, ◌∙◌}
+use Rattle.std.proofs.Common.{◌≡◌, ℕ, ◌+◌, max, nat_eq, Bool, not, ◌&&◌, ◌||◌, List, [], ◌∷◌, ◌++◌, Some, None, Ok, refl}
+use Rattle.std.proofs.Common.{sym, ap, ◌∙◌}
 use Rattle.std.specs.List.{list_all, list_any}
 use Rattle.case_tables.specs.declared.kind_table.Kind.{Kind}
 use Rattle.case_tables.specs.declared.rule_table.RuleName.{RuleName}
 use Rattle.case_tables.specs.declared.code_table.Code.{Code}
 use Rattle.core_terms.specs.declared.trees.Range.{Range}
-use Rattle.core_terms.specs.declared.trees.CForm.{CForm}
+use Rattle.core_terms.specs.declared.trees.CForm.{CForm, out-CForm}
 use Rattle.core_terms.specs.declared.trees.CForm.TheVariants.{Top, Bottom}
 use Rattle.core_terms.specs.declared.trees.CTerm.{CTerm}
+use Rattle.core_terms.specs.declared.programs.CProgram.{CProgram}
 use Rattle.core_terms.specs.declared.programs.CSlot.{CSlot}
 use Rattle.core_terms.specs.declared.documents.Arg.{Arg}
 use Rattle.core_terms.specs.declared.documents.Helper.{Helper}
@@ -19,16 +21,21 @@ use Rattle.core_terms.specs.declared.documents.PTerm.TheVariants.{Weaken, rolls-
 use Rattle.core_terms.specs.declared.documents.PTerm.TheVariants.{rolls-Either, rolls-Exists, rolls-Induct, rolls-Psp}
 use Rattle.core_terms.specs.declared.documents.PTerm.TheVariants.{rolls-Weaken}
 use Rattle.core_terms.specs.Replacing.{form_at}
-use Rattle.core_terms.specs.Folding.{and_form, or_form}
+use Rattle.core_terms.specs.Folding.{and_form, or_form, not_form}
 use Rattle.core_terms.specs.Trees.{same_form}
 use Rattle.core_terms.specs.Places.{names_param}
 use Rattle.fair_rounds.specs.declared.records.Record.{Record}
 use Rattle.rules_table.specs.Forms.{imply}
 use Rattle.rules_table.specs.Limits.{fits, is_provable}
 use Rattle.rules_table.specs.Table.{Site, needs, go_on, goals_of, record_of, concluded, defined_forms, defined_of}
-use Rattle.rules_table.specs.Table.{invariant_forms, invariant_of, unless_forms, unless_of, is_helper, helper_forms}
-use Rattle.rules_table.specs.Table.{ensures_of, is_unless, is_ensures, weaken_of, paired, ends_of_both}
+use Rattle.rules_table.specs.Table.{invariant_forms, invariant_of, unless_forms, unless_of, fixed_forms, fixed_of}
+use Rattle.rules_table.specs.Table.{is_helper, helper_forms, ensures_of, is_unless, is_ensures, weaken_of, paired}
+use Rattle.rules_table.specs.Table.{ends_of_both}
 use Rattle.rules_table.specs.Table.{ends_of_either, pair_of, is_slot, are_arguments, record_with, instance_of}
+use Rattle.rules_table.specs.Table.{is_invariant}
+use Rattle.rules_table.specs.Further.{is_leadsto, derived, complete_of, ends_on, first_side, lead_cancel_of, until_of}
+use Rattle.rules_table.specs.Further.{detects_of, constant_of}
+use Rattle.rules_table.specs.Layers.{is_carried, is_layer, names_old, record_over, starts_below, superpose_of}
 use Rattle.rules_table.specs.Terms.{Ask, referred, leads, node, leads_from, leads_by, leads_on, leads_either}
 use Rattle.rules_table.specs.Terms.{leads_any, at_measure, below_measure, leads_down, leads_safely, leads_weaker}
 use Rattle.rules_table.specs.Terms.{term_step, term_of, all_ranges, leads_record, derive_of}
@@ -55,6 +62,11 @@ pub unless-is : (site : Site) (p q : CForm) → unless_of site p q ≡
     concluded site.slots site.params (record_of site Kind.Unless p q [] None) (unless_forms site p q)
 unfolding unless_of
 unless-is site p q = refl
+
+pub fixed-is : (site : Site) (p : CForm) → fixed_of site p ≡
+    concluded site.slots site.params (record_of site Kind.Fixed p Bottom [] None) (fixed_forms site p)
+unfolding fixed_of
+fixed-is site p = refl
 
 pub ensures-is : (site : Site) (p q : CForm) (h : Helper) → ensures_of site p q h ≡
     needs (is_helper site h) Code.NoSuchStatement
@@ -99,6 +111,48 @@ pub cancel-is : (site : Site) (a b : Record) → pair_of site RuleName.Cancel a 
     (needs (same_form a.q b.p) Code.MiddleDiffers (paired site Kind.Unless None (or_form a.p a.q) b.q a b))
 unfolding pair_of
 cancel-is site a b = refl
+
+pub complete-is : (site : Site) (a b c d : Record) → complete_of site a b c d ≡
+    derived site ((is_leadsto a.kind && is_unless b.kind) && (is_leadsto c.kind && is_unless d.kind))
+    (same_form b.q d.q && (same_form a.q (or_form b.p b.q) && same_form c.q (or_form d.p d.q))) Kind.Leadsto
+    (and_form a.p c.p) (or_form (and_form b.p d.p) b.q) ((a.under ++ b.under) ++ (c.under ++ d.under))
+    (max a.bound c.bound)
+unfolding complete_of
+complete-is site a b c d = refl
+
+pub lead_cancel-is : (site : Site) (a b : Record) → lead_cancel_of site a b ≡
+    derived site (is_leadsto a.kind && is_leadsto b.kind) (ends_on (out-CForm a.q) b.p) Kind.Leadsto a.p
+    (or_form (first_side (out-CForm a.q)) b.q) (a.under ++ b.under) (a.bound + b.bound)
+unfolding lead_cancel_of
+lead_cancel-is site a b = refl
+
+pub until-is : (site : Site) (a b : Record) → until_of site a b ≡
+    derived site (is_unless a.kind && is_leadsto b.kind) (same_form a.p b.p && same_form a.q b.q) Kind.Until a.p a.q
+    (a.under ++ b.under) b.bound
+unfolding until_of
+until-is site a b = refl
+
+pub detects-is : (site : Site) (a b : Record) → detects_of site a b ≡
+    derived site (is_invariant a.kind && is_leadsto b.kind) (same_form a.p (or_form (not_form b.q) b.p)) Kind.Detects
+    b.q b.p (a.under ++ b.under) b.bound
+unfolding detects_of
+detects-is site a b = refl
+
+pub constant-is : (site : Site) (a b : Record) → constant_of site a b ≡
+    derived site (is_unless a.kind && is_unless b.kind)
+    (same_form b.p (not_form a.p) && (same_form a.q Bottom && same_form b.q Bottom)) Kind.Constant a.p Bottom
+    (a.under ++ b.under) 0
+unfolding constant_of
+constant-is site a b = refl
+
+pub superpose-is : (site : Site) (f : CProgram) (a : Record) → superpose_of site f a ≡
+    needs (not (nat_eq a.program site.program.name)) Code.OtherProgram
+    (needs (is_carried a.kind) Code.WrongKind
+    (needs (is_layer site.program f) Code.NotALayer
+    (needs (names_old site.program f a) Code.NamesNewVariable
+    (concluded site.slots site.params (record_over site f a) (starts_below site f ∷ [])))))
+unfolding superpose_of
+superpose-is site f a = refl
 
 pub instance-is : (site : Site) (ranges : List Range) (a : Record) (args : List Arg) → instance_of site ranges a args
     ≡

@@ -1,7 +1,7 @@
 -- The record that a step gets is kept: it stands, and what it stands under holds throughout.
-use Rattle.std.proofs.Common.{◌≡◌, ℕ, nat_eq, ◌<◌, ℤ, List, [], ◌∷◌, ◌++◌, Bool, true, false, ◌&&◌, ◌||◌, Option}
-use Rattle.std.proofs.Common.{Some, None, Result, Ok, Err, IsTrue, refl, sym, ap, ◌∙◌, subst, length, append-nil}
-use Rattle.std.proofs.Common.{arith}
+use Rattle.std.proofs.Common.{◌≡◌, ℕ, nat_eq, ℤ, List, [], ◌∷◌, ◌++◌, Bool, not, ◌&&◌, ◌||◌}
+use Rattle.std.proofs.Common.{Option, Some, None, Result, Ok, Err, IsTrue, refl, sym, ap, ◌∙◌, subst, length}
+use Rattle.std.proofs.Common.{append-nil, max}
 use Rattle.std.specs.Prelude.{IsSome, ⊤}
 use Rattle.std.specs.List.{list_all, find}
 use Rattle.std.proofs.lemmas.Bool.{eqb-true, ltb-true}
@@ -22,11 +22,11 @@ use Rattle.core_terms.specs.declared.documents.PTerm.{PTerm, out-PTerm}
 use Rattle.core_terms.specs.declared.documents.PTerm.TheOpen.{PTerm-F}
 use Rattle.core_terms.specs.declared.documents.CRule.{CRule}
 use Rattle.core_terms.specs.declared.documents.CStep.{CStep}
+use Rattle.core_terms.specs.Folding.{and_form, or_form}
 use Rattle.core_terms.specs.Trees.{same_form}
-use Rattle.core_terms.specs.Places.{names_param}
 use Rattle.core_terms.specs.Values.{form_value}
 use Rattle.core_terms.specs.Steps.{slot_ranges}
-use Rattle.core_terms.specs.Conditions.{IsRange, FormFits, KindFits, IsStep, RuleWellScoped, parts_of, any_place}
+use Rattle.core_terms.specs.Conditions.{IsRange, IsProgram, KindFits, IsStep, RuleWellScoped, parts_of}
 use Rattle.core_terms.specs.Conditions.{is_below}
 use Rattle.core_terms.specs.Conditions.{bound_ranges, rule_ranges}
 use Rattle.core_terms.proofs.SameLaws.{same_form_is}
@@ -42,29 +42,38 @@ use Rattle.rules_table.specs.Forms.{imply}
 use Rattle.rules_table.specs.Table.{Site, needs, go_on, under_with, goals_of, record_of, concluded, is_defined}
 use Rattle.rules_table.specs.Table.{is_invariant, is_unless, is_ensures, defined_forms, defined_of, invariant_forms}
 use Rattle.rules_table.specs.Table.{invariant_of, unless_forms, unless_of, is_helper, helper_forms, ensures_of}
-use Rattle.rules_table.specs.Table.{weaken_of, paired, pair_kinds, pair_of, shown_forms, first_helper, ending}
-use Rattle.rules_table.specs.Table.{is_part_pair}
+use Rattle.rules_table.specs.Table.{weaken_of, pair_kinds, shown_forms, first_helper, ending}
+use Rattle.rules_table.specs.Table.{is_part_pair, fixed_forms, fixed_of}
 use Rattle.rules_table.specs.Table.{union_defined_of, union_invariant_of, union_unless_of, union_ensures_of}
 use Rattle.rules_table.specs.Table.{instance_of}
 use Rattle.rules_table.specs.Terms.{known, found, referred, term_of, all_ranges, leads_record, derive_of}
 use Rattle.rules_table.specs.Sound.{NamesNoParameter, AreClosed, NamesBelow, AreFull, IsSite, IsPremise, BookStands}
 use Rattle.rules_table.specs.Sound.{IsUnionOf}
 use Rattle.rules_table.specs.Sound.{IsPartPremise, HoldThroughout}
-use Rattle.rules_table.specs.Walk.{Around, is_leadsto, has_end, suits_term, is_kind, is_empty, used, suits, text_of}
+use Rattle.rules_table.specs.Further.{is_leadsto, record_within, complete_of, pair_by}
+use Rattle.rules_table.specs.Walk.{Around, has_end, suits_term, is_kind, is_empty, used, suits, text_of}
 use Rattle.rules_table.specs.Walk.{same_again, again_of, proof_of, part_record, first_part, second_part, serves_union}
-use Rattle.rules_table.specs.Walk.{serves_after, united, applied, claims, step_site, rule_of, has_defined, is_first}
-use Rattle.rules_table.proofs.NamedLaws.{form_shown}
+use Rattle.rules_table.specs.Walk.{serves_after, united, program_of, superposed, applied}
+use Rattle.rules_table.specs.Walk.{claims, step_site, rule_of, has_defined, is_first}
+use Rattle.rules_table.specs.Layers.{is_layer, names_old, helper_over, is_carried, starts_below, record_over}
+use Rattle.rules_table.specs.Layers.{superpose_of}
+use Rattle.rules_table.proofs.NamedLaws.{below_none, fitting}
 use Rattle.rules_table.proofs.EachLaws.{Each, from_all, found_in, each_at}
 use Rattle.rules_table.proofs.BoundNames.{FormSees, TermSees, numbered, term_well}
-use Rattle.rules_table.proofs.SiteLaws.{met, went_on, concluded_is}
+use Rattle.rules_table.specs.WalkLaws.{StandsOver}
+use Rattle.rules_table.proofs.SiteLaws.{met, went_on, concluded_is, closed_all}
 use Rattle.rules_table.proofs.KindLaws.{invariant_is, ensures_is, leadsto_is, same_kind}
-use Rattle.rules_table.proofs.PairLaws.{pair_kind, pair_helper, of_pair, pair_kind_is}
-use Rattle.rules_table.proofs.TextSound.{defined_sound, invariant_sound, unless_sound}
+use Rattle.rules_table.proofs.PairLaws.{given_kind, given_helper, of_two, of_pair_by, given_kind_is}
+use Rattle.rules_table.proofs.PairLaws.{four_given}
+use Rattle.rules_table.proofs.TextSound.{defined_sound, invariant_sound, unless_sound, fixed_sound}
 use Rattle.rules_table.proofs.EnsuresSound.{ensures_sound}
-use Rattle.rules_table.proofs.CalcSound.{of_one, weaken_sound, pair_sound, instance_sound, instance_is}
+use Rattle.rules_table.proofs.CalcSound.{of_one, weaken_sound, instance_sound, instance_is}
+use Rattle.rules_table.proofs.FurtherSound.{complete_sound, pair_by_sound}
 use Rattle.rules_table.proofs.DeriveSound.{derive_sound, lows, lows_in}
 use Rattle.rules_table.proofs.UnionSound.{union_defined_sound, union_invariant_sound, union_unless_sound}
 use Rattle.rules_table.proofs.UnionSound.{union_ensures_sound, under_holds, union_shows}
+use Rattle.rules_table.proofs.LayerLaws.{OfOther, row_met, other_given, layer_given}
+use Rattle.rules_table.proofs.LayerSound.{superpose_sound, superpose_begins, superpose_shows}
 use Rattle.rules_table.proofs.UnderLaws.{Holding, none_holding, both_holding, both_closed, each_closed, term_under}
 
 -- an answer, where there is one, is this record with these formulas
@@ -137,13 +146,6 @@ found_good P book each r a e =
     let at = found_in test book a (known_is (find test book) a e) in
     each_at P book each at.place a at.there
 
-below_none : (f : CForm) → NamesBelow 0 f → NamesNoParameter f
-below_none f few n = go (names_param n f) (few n)
-  where
-    go : (b : Bool) → (IsTrue b → n < 0) → b ≡ false
-    go true h = let less = h refl in absurd (omega arith)
-    go false h = refl
-
 invariant_params : (k : Kind) (params : List Range) (p q : CForm) → k ≡ Kind.Invariant → KindFits k params p q →
     params ≡ []
 invariant_params Kind.Invariant params p q e fits = fits.0
@@ -156,14 +158,6 @@ defined_params _ params p q e fits = cc
 
 pub no_params : (params : List Range) → params ≡ [] → IsTrue (are_in_ranges params [])
 no_params params e = subst (λ rs. IsTrue (are_in_ranges rs [])) (sym e) refl
-
-fitting : (slots : List CSlot) (params : List Range) (f : CForm) → FormFits slots params f →
-    NamesBelow (length params) f
-fitting slots params f fits n t =
-    let less = (form_shown n any_place f t).0 in let few = fits.params_exist in omega arith
-
-pub closed_form : (slots : List CSlot) (f : CForm) → FormFits slots [] f → NamesNoParameter f
-closed_form slots f fits = below_none f (fitting slots [] f fits)
 
 is_some_of : (o : Option ℕ) → IsSome o → (n : ℕ) × (o ≡ Some n)
 is_some_of None t = cc
@@ -315,7 +309,7 @@ module _ (seen : Around) (c : CProgram) (named : find (λ b. nat_eq b.name c.nam
 
     text_case : (k : Kind) → (y : Conclusion) → text_of seen.starts site step k ≡ Ok y → AllValid slots y.goals →
         Settled site k y.made
-    unfolding defined_of invariant_of unless_of
+    unfolding defined_of invariant_of unless_of fixed_of
     text_case Kind.Defined y e valid =
         settled_by site good holds Kind.Defined Top Top [] None 0 none (defined_of site (seen.starts c)) step.params
         (defined_forms site)
@@ -330,6 +324,10 @@ module _ (seen : Around) (c : CProgram) (named : find (λ b. nat_eq b.name c.nam
         settled_by site good holds Kind.Unless step.p step.q [] None 0 none (unless_of site step.p step.q) step.params
         (unless_forms site step.p step.q) (end_gives slots step.params _ (unless_forms site step.p step.q)) y e
         (unless_sound site good step.p step.q y e valid)
+    text_case Kind.Fixed y e valid =
+        settled_by site good holds Kind.Fixed step.p Bottom [] None 0 none (fixed_of site step.p) step.params
+        (fixed_forms site step.p) (end_gives slots step.params _ (fixed_forms site step.p)) y e
+        (fixed_sound site good step.p y e valid)
     text_case _ y e valid = cc
 
     ensures_case : (h : Helper) → (y : Conclusion) → ensures_of site step.p step.q h ≡ Ok y → AllValid slots y.goals →
@@ -362,17 +360,35 @@ module _ (seen : Around) (c : CProgram) (named : find (λ b. nat_eq b.name c.nam
         Keeps kind (needs asked code rest)
     need_keeps kind asked code rest keeps x e stands = keeps x (met asked code rest x e).1 stands
 
-    pair_case : (which : RuleName) (a b : Record) → IsPremise site a → IsPremise site b → Holding site a.under →
-        Holding site b.under → (y : Conclusion) → pair_of site which a b ≡ Ok y → AllValid slots y.goals →
-        Settled site (pair_kind which b.kind) y.made
-    pair_case which a b pa pb ua ub y e valid =
-        let kind : Kind = pair_kind which b.kind in
-        let helper : Option Helper = pair_helper which b.helper in
-        of_pair (Keeps kind) site a b which (λ code. λ (x : Conclusion) f stands. cc) (need_keeps kind)
-        (λ p q. settled_by site good holds kind p q (a.under ++ b.under) helper 0
-        (both_holding site a.under b.under ua ub) (paired site kind helper p q a b) step.params []
+    pair_case : (k : Kind) (which : RuleName) (a b : Record) → IsPremise site a → IsPremise site b →
+        Holding site a.under → Holding site b.under → (y : Conclusion) → pair_by site k which a b ≡ Ok y →
+        AllValid slots y.goals → Settled site (given_kind k which b.kind) y.made
+    pair_case k which a b pa pb ua ub y e valid =
+        let kind : Kind = given_kind k which b.kind in
+        let helper : Option Helper = given_helper k which b.helper in
+        of_pair_by (Keeps kind) site a b k which (λ code. λ (x : Conclusion) f stands. cc) (need_keeps kind)
+        (λ p q bound. settled_by site good holds kind p q (a.under ++ b.under) helper bound
+        (both_holding site a.under b.under ua ub)
+        (concluded slots step.params (of_two site kind helper p q bound a b) []) step.params []
         (end_gives slots step.params _ [])) y e
-        (pair_sound site good which a b pa pb y e valid)
+        (pair_by_sound k which site good a b pa pb y e valid)
+
+    complete_case : (a b d f : Record) → IsPremise site a → IsPremise site b → IsPremise site d → IsPremise site f →
+        Holding site a.under → Holding site b.under → Holding site d.under → Holding site f.under →
+        (y : Conclusion) → complete_of site a b d f ≡ Ok y → AllValid slots y.goals → Settled site Kind.Leadsto y.made
+    unfolding complete_of
+    complete_case a b d f pa pb pd pf ua ub ud uf y e valid =
+        let more : List CForm = (a.under ++ b.under) ++ (d.under ++ f.under) in
+        let p : CForm = and_form a.p d.p in
+        let q : CForm = or_form (and_form b.p f.p) b.q in
+        need_keeps Kind.Leadsto _ Code.WrongKind _ (need_keeps Kind.Leadsto _ Code.MiddleDiffers _
+        (need_keeps Kind.Leadsto _ Code.BoundTooLarge _
+        (settled_by site good holds Kind.Leadsto p q more None (max a.bound d.bound)
+        (both_holding site (a.under ++ b.under) (d.under ++ f.under) (both_holding site a.under b.under ua ub)
+        (both_holding site d.under f.under ud uf))
+        (concluded slots step.params (record_within site Kind.Leadsto p q more (max a.bound d.bound)) []) step.params
+        [] (end_gives slots step.params _ [])))) y e
+        (complete_sound site good a b d f pa pb pd pf y e valid)
 
     -- `from R` for an unless or an ensures
     again_case : IsTrue (has_end step.kind) → (y : Conclusion) → (t : PTerm-F PTerm) →
@@ -552,35 +568,101 @@ module _ (seen : Around) (c : CProgram) (named : find (λ b. nat_eq b.name c.nam
         let second = part_good parts.1 are.1 are.3 (serves_after step.kind a.kind) s b two.1 in
         united_case are.0 are.1 are.4 a b first.1 second.1 first.2 second.2 step.kind y two.2 valid
 
+    -- the instance of a record of another program
+    other_good : (f : CProgram) → (serves : Kind → Bool) (r : Ref) (b : Record) → OfOther site book serves r b →
+        program_of programs b.program ≡ Some f →
+        IsPartPremise site f b × AreClosed b.under × IsInvariant (core_system slots f) (meets slots b.under)
+    unfolding instance_of
+    other_good f serves r b other there =
+        let a : Record = other.a in
+        let is = instance_is site step.params a r.args b other.gives in
+        let params : b.params ≡ step.params = sym (ap (λ (m : Record). m.params) is.1) in
+        let known = found_good (RecordGood slots programs) book goods r a other.there in
+        let kept = known.kept f (ap (λ (m : Record). find (λ d. nat_eq d.name m.program) programs) is.1 ∙ there) in (
+          record {
+            params = params;
+            stands = λ n inside.
+                instance_sound (record site { program = f }) step.params a r.args b kept.stands other.gives n
+                (subst (λ rs. IsTrue (are_in_ranges rs n)) params inside);
+          },
+          subst (λ (m : Record). AreClosed m.under) is.1 known.closed,
+          subst (λ (m : Record). IsInvariant (core_system slots f) (meets slots m.under)) is.1 kept.under,
+        )
+
+    -- what the layer's record gives is kept
+    superpose_settled : IsProgram slots c → (f : CProgram) → IsProgram slots f → (a : Record) → IsPartPremise site f a →
+        AreClosed a.under → IsInvariant (core_system slots f) (meets slots a.under) → (y : Conclusion) →
+        superpose_of site f a ≡ Ok y → AllValid slots y.goals → Settled site a.kind y.made
+    unfolding superpose_of
+    superpose_settled layer f under a premise closed always y e valid =
+        let forms : List CForm = starts_below site f ∷ [] in
+        let made : Record = record_over site f a in
+        settled_by site good holds a.kind a.p a.q a.under (helper_over c f a.helper) a.bound
+        (record {
+          closed = closed;
+          throughout = superpose_shows site good layer f under (lows step.params) (lows_in step.params full) a y e valid
+              holds always;
+        })
+        (superpose_of site f a) step.params forms
+        (need_gives (not (nat_eq a.program c.name)) Code.OtherProgram _ step.params made forms
+        (need_gives (is_carried a.kind) Code.WrongKind _ step.params made forms
+        (need_gives (is_layer c f) Code.NotALayer _ step.params made forms
+        (need_gives (names_old c f a) Code.NamesNewVariable _ step.params made forms
+        (end_gives slots step.params made forms))))) y e
+        (superpose_sound site good layer f under a premise y e valid)
+
+    superpose_case : Each (IsProgram slots) programs → (r : Ref) → (y : Conclusion) →
+        superposed seen site step book r ≡ Ok y → AllValid slots y.goals → Settled site step.kind y.made
+    superpose_case all r y e valid =
+        let row = layer_given seen site step book r y e in
+        let other = other_given site book (is_kind step.kind) r row.a row.referred in
+        let given = other_good row.f (is_kind step.kind) r row.a other row.program in
+        let below = found_in (λ b. nat_eq b.name row.a.program) programs row.f row.program in
+        let mine = found_in (λ b. nat_eq b.name c.name) programs c named in
+        subst (λ k. Settled site k y.made) (same_kind step.kind row.a.kind other.serving)
+        (superpose_settled (each_at (IsProgram slots) programs all mine.place c mine.there) row.f
+        (each_at (IsProgram slots) programs all below.place row.f below.there) row.a given.0 given.1 given.2 y row.gives
+        valid)
+
     -- a step's rule, where the derived p and q are the step's
-    pub applied_case : PartsAre c.parts → (rule : CRule) →
+    pub applied_case : Each (IsProgram slots) programs → PartsAre c.parts → (rule : CRule) →
         RuleWellScoped slots (step.params ++ rule_ranges rule) (is_below (length step.params)) (length step.params)
         rule →
         IsTrue (suits seen.version rule step.kind) → (y : Conclusion) → applied seen site step book rule ≡ Ok y →
         y.made.p ≡ step.p → y.made.q ≡ step.q → AllValid slots y.goals → Settled site step.kind y.made
-    applied_case parts CRule.Text sees suited y e p_is q_is valid = text_case step.kind y e valid
-    applied_case parts (CRule.TextWith h) sees suited y e p_is q_is valid =
+    applied_case all parts CRule.Text sees suited y e p_is q_is valid = text_case step.kind y e valid
+    applied_case all parts (CRule.TextWith h) sees suited y e p_is q_is valid =
         subst (λ k. Settled site k y.made) (sym (ensures_is step.kind suited)) (ensures_case h y e valid)
-    applied_case parts (CRule.WeakenStep r) sees suited y e p_is q_is valid =
+    applied_case all parts (CRule.WeakenStep r) sees suited y e p_is q_is valid =
         let one = went_on (referred site step.params book (is_kind step.kind) r) (λ a. weaken_of site a step.q) y e in
         let premise = referred_premise (is_kind step.kind) r one.0 one.1 in
         subst (λ k. Settled site k y.made) (same_kind step.kind one.0.kind premise.0)
         (weaken_case one.0 premise.1 (referred_holding step.params (is_kind step.kind) r one.0 one.1) y one.2 valid)
-    applied_case parts (CRule.Pair which r s) sees suited y e p_is q_is valid =
+    applied_case all parts (CRule.Pair which r s) sees suited y e p_is q_is valid =
         let kinds : Kind × Kind = pair_kinds which step.kind in
         let one = went_on (referred site step.params book (is_kind kinds.0) r) (λ a.
-        go_on (referred site step.params book (is_kind kinds.1) s) (λ b. pair_of site which a b)) y e in
-        let two = went_on (referred site step.params book (is_kind kinds.1) s) (λ b. pair_of site which one.0 b) y
-        one.2 in
+        go_on (referred site step.params book (is_kind kinds.1) s) (λ b. pair_by site step.kind which a b)) y e in
+        let two = went_on (referred site step.params book (is_kind kinds.1) s)
+        (λ b. pair_by site step.kind which one.0 b) y one.2 in
         let first = referred_premise (is_kind kinds.0) r one.0 one.1 in
         let second = referred_premise (is_kind kinds.1) s two.0 two.1 in
-        subst (λ k. Settled site k y.made) (pair_kind_is seen.version which two.0.kind step.kind second.0 suited)
-        (pair_case which one.0 two.0 first.1 second.1 (referred_holding step.params (is_kind kinds.0) r one.0 one.1)
+        subst (λ k. Settled site k y.made) (given_kind_is seen.version which two.0.kind step.kind second.0 suited)
+        (pair_case step.kind which one.0 two.0 first.1 second.1
+        (referred_holding step.params (is_kind kinds.0) r one.0 one.1)
         (referred_holding step.params (is_kind kinds.1) s two.0 two.1) y two.2 valid)
-    applied_case parts (CRule.Union r s) sees suited y e p_is q_is valid = union_case c.parts parts r s y e valid
-    applied_case parts (CRule.Superpose r) sees suited y e p_is q_is valid = cc
-    applied_case parts (CRule.Complete r s t u) sees suited y e p_is q_is valid = cc
-    applied_case parts (CRule.Proof t) sees suited y e p_is q_is valid =
+    applied_case all parts (CRule.Union r s) sees suited y e p_is q_is valid = union_case c.parts parts r s y e valid
+    applied_case all parts (CRule.Superpose r) sees suited y e p_is q_is valid = superpose_case all r y e valid
+    applied_case all parts (CRule.Complete r s t u) sees suited y e p_is q_is valid =
+        let leads : Kind → Bool = is_kind Kind.Leadsto in
+        let ends : Kind → Bool = is_kind Kind.Unless in
+        let row = four_given site book r s t u y e in
+        subst (λ k. Settled site k y.made) (sym (leadsto_is step.kind suited))
+        (complete_case row.a row.b row.c row.d (referred_premise leads r row.a row.first).1
+        (referred_premise ends s row.b row.second).1 (referred_premise leads t row.c row.third).1
+        (referred_premise ends u row.d row.fourth).1 (referred_holding step.params leads r row.a row.first)
+        (referred_holding step.params ends s row.b row.second) (referred_holding step.params leads t row.c row.third)
+        (referred_holding step.params ends u row.d row.fourth) y row.gives valid)
+    applied_case all parts (CRule.Proof t) sees suited y e p_is q_is valid =
         proof_case t sees suited y step.kind refl e p_is q_is valid
 
 fits_as : (k l : Kind) (ps qs : List Range) (p q f g : CForm) → k ≡ l → ps ≡ qs → p ≡ f → q ≡ g → KindFits l qs f g →
@@ -593,15 +675,23 @@ fits_as k l ps qs p q f g i j m n fits =
 -- a step that got its record by the table, with all its conditions
 module _ (seen : Around) (c : CProgram) (named : find (λ b. nat_eq b.name c.name) seen.programs ≡ Some c)
     (book : List Record) (goods : Each (RecordGood seen.slots seen.programs) book) (step : CStep)
-    (fits : IsStep seen.slots step)
+    (fits : IsStep seen.slots step) (all : Each (IsProgram seen.slots) seen.programs)
     (site_good : (using : List CForm) → AreClosed using → IsSite (step_site seen.slots c step using))
     (parts : (using : List CForm) (good : IsSite (step_site seen.slots c step using))
     (holds : HoldThroughout (step_site seen.slots c step using) using) →
     PartsAre seen c named book goods step fits using good holds c.parts) where
-  pub step_good : (x : Conclusion) → rule_of seen c step book ≡ Ok x → AllValid seen.slots x.goals →
-      RecordGood seen.slots seen.programs x.made × (x.made.program ≡ c.name)
+  -- what the step's conditions say
+  record Ruled (x : Conclusion) : Type 0 where
+    using : List CForm
+    holding : Holding (step_site seen.slots c step using) using
+    suited : IsTrue (suits seen.version step.rule step.kind)
+    applies : applied seen (step_site seen.slots c step using) step book step.rule ≡ Ok x
+    p_is : x.made.p ≡ step.p
+    q_is : x.made.q ≡ step.q
+
+  ruled : (x : Conclusion) → rule_of seen c step book ≡ Ok x → Ruled x
   unfolding rule_of
-  step_good x e valid =
+  ruled x e =
       let named_kind = met (is_first step.kind || has_defined c.name book) Code.DefinedMissing
       (go_on (used c book step.using) (λ using.
       needs (suits seen.version step.rule step.kind) Code.WrongKind
@@ -619,18 +709,25 @@ module _ (seen : Around) (c : CProgram) (named : find (λ b. nat_eq b.name c.nam
       needs (claims step y) Code.ConclusionDiffers (Ok y)) x suited.1 in
       let claimed = met (claims step a.0) Code.ConclusionDiffers (Ok a.0) x a.2 in
       let same : a.0 ≡ x = let given = claimed.1 in cc in
-      let e' : applied seen (step_site seen.slots c step using) step book step.rule ≡ Ok x =
-      a.1 ∙ ap (λ y. Ok y) same in
       let claims_x : IsTrue (claims step x) = subst (λ y. IsTrue (claims step y)) same claimed.0 in
-      let p_is = same_form_is x.made.p step.p
-      (and_left (same_form x.made.p step.p) (same_form x.made.q step.q) claims_x) in
-      let q_is = same_form_is x.made.q step.q
-      (and_right (same_form x.made.p step.p) (same_form x.made.q step.q) claims_x) in
-      let holding_using = used_good seen c named book goods step.using using u.1
-      (step_site seen.slots c step using) refl refl in
-      let good = site_good using holding_using.closed in
-      let s = applied_case seen c named book goods step fits using good holding_using.throughout
-      (parts using good holding_using.throughout) step.rule fits.rule suited.0 x e' p_is q_is valid in (
+      record {
+        using = using;
+        holding = used_good seen c named book goods step.using using u.1 (step_site seen.slots c step using) refl refl;
+        suited = suited.0;
+        applies = a.1 ∙ ap (λ y. Ok y) same;
+        p_is = same_form_is x.made.p step.p
+            (and_left (same_form x.made.p step.p) (same_form x.made.q step.q) claims_x);
+        q_is = same_form_is x.made.q step.q
+            (and_right (same_form x.made.p step.p) (same_form x.made.q step.q) claims_x);
+      }
+
+  pub step_good : (x : Conclusion) → rule_of seen c step book ≡ Ok x → AllValid seen.slots x.goals →
+      RecordGood seen.slots seen.programs x.made × (x.made.program ≡ c.name)
+  step_good x e valid =
+      let u = ruled x e in
+      let good = site_good u.using u.holding.closed in
+      let s = applied_case seen c named book goods step fits u.using good u.holding.throughout all
+      (parts u.using good u.holding.throughout) step.rule fits.rule u.suited x u.applies u.p_is u.q_is valid in (
         record {
           kept = λ b there.
               let one : Some c ≡ Some b =
@@ -640,10 +737,41 @@ module _ (seen : Around) (c : CProgram) (named : find (λ b. nat_eq b.name c.nam
           closed = s.closed;
           fits = fits_as x.made.kind step.kind x.made.params step.params x.made.p x.made.q step.p step.q s.kind_is
               s.params
-              p_is q_is fits.kind;
+              u.p_is u.q_is fits.kind;
           names = subst (λ rs. NamesBelow (length rs) x.made.p) (sym s.params)
-              (subst (λ f. NamesBelow (length step.params) f) (sym p_is)
+              (subst (λ f. NamesBelow (length step.params) f) (sym u.p_is)
               (fitting seen.slots step.params step.p fits.p));
         },
         s.program,
       )
+
+  -- the program of a step by `superpose` is a layer over the one that the step refers to
+  pub step_stands_over : (x : Conclusion) → rule_of seen c step book ≡ Ok x → AllValid seen.slots x.goals →
+      (r : Ref) → step.rule ≡ CRule.Superpose r → StandsOver seen.slots seen.programs c r
+  step_stands_over x e valid r is =
+      let u = ruled x e in
+      let site : Site = step_site seen.slots c step u.using in
+      let good = site_good u.using u.holding.closed in
+      let full = full_ranges step.params (from_all IsRange step.params fits.params) in
+      let row = layer_given seen site step book r x
+      (subst (λ rule. applied seen site step book rule ≡ Ok x) is u.applies) in
+      let other = other_given site book (is_kind step.kind) r row.a row.referred in
+      let same = instance_is site step.params other.a r.args row.a other.gives in
+      let test : Record → Bool = λ b. nat_eq b.program r.program && nat_eq b.name r.step in
+      let at = found_in test book other.a (known_is (find test book) other.a other.there) in
+      let program = eqb-true other.a.program r.program
+      (and_left (nat_eq other.a.program r.program) (nat_eq other.a.name r.step) at.passes) in
+      let below = found_in (λ b. nat_eq b.name row.a.program) seen.programs row.f row.program in
+      let mine = found_in (λ b. nat_eq b.name c.name) seen.programs c named in
+      record {
+        below = row.f;
+        named = ap (λ n. program_of seen.programs n) (sym program)
+            ∙ ap (λ (m : Record). program_of seen.programs m.program) same.1 ∙ row.program;
+        layer = (row_met site row.f row.a x row.gives).layer;
+        begins = λ s start.
+            superpose_begins site good (each_at (IsProgram seen.slots) seen.programs all mine.place c mine.there) row.f
+            (each_at (IsProgram seen.slots) seen.programs all below.place row.f below.there) (lows step.params)
+            (lows_in step.params full) row.a x row.gives valid s start
+            (closed_all s (lows step.params) u.using u.holding.closed
+            (u.holding.throughout s [] [] (record { starts = start; steps = tt }) 0 s refl));
+      }

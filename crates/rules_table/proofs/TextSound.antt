@@ -5,6 +5,7 @@ use Rattle.std.specs.List.{list_all}
 use Rattle.case_tables.specs.declared.kind_table.Kind.{Kind}
 use Rattle.core_terms.proofs.FoldingLaws.{value-or_form, value-not_form}
 use Rattle.core_terms.specs.Folding.{or_form, not_form}
+use Rattle.core_terms.specs.Conditions.{StatementFits}
 use Rattle.core_terms.specs.Steps.{slot_ranges, core_step}
 use Rattle.core_terms.specs.Values.{form_value}
 use Rattle.core_terms.specs.declared.programs.CSlot.{CSlot}
@@ -14,6 +15,7 @@ use Rattle.core_terms.specs.declared.trees.CForm.TheVariants.{Top, Bottom}
 use Rattle.meaning_laws.specs.Stands.{UnlessStands, EachDefinedStep}
 use Rattle.fair_rounds.specs.Records.{holding, core_system, are_in_ranges, meets, Stands}
 use Rattle.fair_rounds.specs.declared.records.Record.{Record}
+use Rattle.rules_table.proofs.EachLaws.{from_all, each_at}
 use Rattle.rules_table.proofs.FormLaws.{imply_gives, all_join}
 use Rattle.rules_table.proofs.SiteLaws.{defined_exact, met, concluded_is, AreValid, are_valid, valid_at}
 use Rattle.rules_table.proofs.SiteLaws.{chosen_statement, meets_means, kept_after, closed_value}
@@ -21,9 +23,13 @@ use Rattle.rules_table.specs.Conclusion.{Conclusion}
 use Rattle.wp_substitution.specs.Exact.{next_passes}
 use Rattle.rules_table.specs.Forms.{imply}
 use Rattle.wp_substitution.specs.Preconditions.{defined_form}
-use Rattle.rules_table.specs.Sound.{IsSite, StandsWhereValid, UnlessSound, InvariantSound, DefinedSound}
-use Rattle.rules_table.specs.Table.{unless_of, invariant_of, defined_of, Site, under_with, record_of, concluded}
-use Rattle.rules_table.specs.Table.{kept_form, unless_forms, invariant_forms, defined_forms}
+use Rattle.fixed_points.specs.FixedForms.{fixed_part}
+use Rattle.fixed_points.proofs.WriteLaws.{led_back}
+use Rattle.fixed_points.proofs.FormLaws.{part_exact}
+use Rattle.rules_table.specs.Sound.{IsSite, StandsWhereValid, UnlessSound, InvariantSound, DefinedSound, FixedSound}
+use Rattle.rules_table.specs.Table.{unless_of, invariant_of, defined_of, fixed_of, Site, under_with, record_of}
+use Rattle.rules_table.specs.Table.{concluded}
+use Rattle.rules_table.specs.Table.{kept_form, unless_forms, invariant_forms, defined_forms, fixed_forms}
 use Rattle.rules_table.specs.Validity.{AllValid}
 use Rattle.meaning_states.proofs.StepTheorems.{and_left, and_right, both_true}
 use Rattle.meaning_states.specs.State.{is_state}
@@ -117,3 +123,21 @@ defined_sound site good starts d e valid =
     let fails : IsTrue (next_passes (λ t. true) None) = subst (λ o. IsTrue (next_passes (λ t. true) o))
     (ap (λ (f : Act). f state) i.2 ∙ none) passes in
     cc) d asked.1 valid
+
+pub fixed_sound : FixedSound
+unfolding fixed_of
+fixed_sound site good p =
+    given site (record_of site Kind.Fixed p Bottom [] None) (fixed_forms site p)
+    (λ valid e inside state meet holds choice act there.
+    let i = act_of site.slots site.program.statements choice act there in
+    let here = meets_means site good.closed [] state meet in
+    let fits = each_at (StatementFits site.slots) site.program.statements
+    (from_all (StatementFits site.slots) site.program.statements good.statements) choice i.0 i.1 in
+    let shown = imply_gives state e (site.using ++ (p ∷ [])) (fixed_part site.slots i.0)
+    (valid_at site.slots site.params
+    (λ (s : CStmt). imply (site.using ++ (p ∷ [])) (fixed_part site.slots s)) site.program.statements valid choice
+    i.0 i.1 state e here.state inside)
+    (all_join (λ f. form_value state e f) site.using (p ∷ []) (here.using e)
+    (both_true (form_value state e p) true holds refl)) in
+    ap (λ (f : Act). f state) (sym i.2)
+    ∙ led_back (core_step site.slots i.0 state) state (sym (part_exact site.slots i.0 fits state e here.state) ∙ shown))

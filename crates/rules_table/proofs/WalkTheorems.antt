@@ -15,6 +15,8 @@ use Rattle.core_terms.specs.declared.trees.CForm.{CForm}
 use Rattle.core_terms.specs.declared.programs.CSlot.{CSlot}
 use Rattle.core_terms.specs.declared.programs.CProgram.{CProgram}
 use Rattle.core_terms.specs.declared.documents.CStep.{CStep}
+use Rattle.core_terms.specs.declared.documents.Ref.{Ref}
+use Rattle.core_terms.specs.declared.documents.CRule.{CRule}
 use Rattle.core_terms.specs.declared.documents.CProof.{CProof}
 use Rattle.core_terms.specs.declared.documents.CDocument.{CDocument}
 use Rattle.core_terms.specs.Steps.{slot_ranges}
@@ -30,12 +32,13 @@ use Rattle.rules_table.specs.Table.{needs, is_defined}
 use Rattle.rules_table.specs.Sound.{AreClosed, IsSite, HoldThroughout}
 use Rattle.rules_table.specs.Walk.{Around, Plan, Failure, around_of, has_defined, or_failure, further, rule_of, planned}
 use Rattle.rules_table.specs.Walk.{steps_of, proof_end, program_of, proof_steps, proofs_of, walk_of, step_site}
-use Rattle.rules_table.specs.WalkLaws.{WalkSound}
+use Rattle.rules_table.specs.WalkLaws.{WalkSound, StandsOver, LayersStand}
 use Rattle.rules_table.proofs.EachLaws.{Each, from_all, each_join, each_map, each_at, found_in}
 use Rattle.rules_table.proofs.SiteLaws.{met}
 use Rattle.rules_table.proofs.EnsuresSound.{some_item}
 use Rattle.rules_table.proofs.KindLaws.{defined_is}
-use Rattle.rules_table.proofs.StepSound.{RecordGood, PartsAre, step_good, closed_form, defined_params}
+use Rattle.rules_table.proofs.StepSound.{RecordGood, PartsAre, step_good, step_stands_over, defined_params}
+use Rattle.rules_table.proofs.NamedLaws.{closed_form}
 use Rattle.rules_table.proofs.StepSound.{no_params}
 
 -- answers
@@ -144,6 +147,10 @@ module _ (d : CDocument) (is : IsCoreDocument d) (starts : CProgram → Bool) wh
   abbrev Good : Record → Type 0
   Good a = RecordGood d.slots d.programs a
 
+  -- where a step is by `superpose`, its program is a layer over the one that it refers to
+  abbrev Over : CProgram → CStep → Type 0
+  Over c s = (r : Ref) → s.rule ≡ CRule.Superpose r → StandsOver d.slots d.programs c r
+
   -- a program of the document
   module _ (c : CProgram) (place : ℕ) (there : slice_get d.programs place ≡ Some c) where
     program_is : IsProgram d.slots c
@@ -179,6 +186,13 @@ module _ (d : CDocument) (is : IsCoreDocument d) (starts : CProgram → Bool) wh
       },
     )
 
+    parts_at : (book : List Record) (goods : Each Good book) (step : CStep) (fits : IsStep d.slots step)
+        (using : List CForm) (good : IsSite (step_site d.slots c step using))
+        (holds : HoldThroughout (step_site d.slots c step using) using) →
+        PartsAre seen c named_c book goods step fits using good holds c.parts
+    parts_at book goods step fits using good holds =
+        parts_good book goods step fits using good holds c.parts (is.unions place c there)
+
     -- a record's program has a `defined` step, or is this one
     abbrev Own : List Record → Record → Type 0
     Own book a = IsTrue (has_defined a.program book) ⊎ (a.program ≡ c.name)
@@ -191,10 +205,12 @@ module _ (d : CDocument) (is : IsCoreDocument d) (starts : CProgram → Bool) wh
 
     steps_good : (steps : List CStep) → Each (IsStep d.slots) steps → (plan new : Plan) →
         steps_of seen c steps plan ≡ Ok new → AllValid d.slots new.goals → Each Good plan.records →
-        Each (Own plan.records) plan.records → Each Good new.records × Each (Own new.records) new.records
+        Each (Own plan.records) plan.records →
+        Each Good new.records × Each (Own new.records) new.records × Each (Over c) steps
     steps_good [] fits plan new e valid goods own =
         let same : plan ≡ new = cc in
-        subst (λ p. Each Good p.records × Each (Own p.records) p.records) same (goods, own)
+        let both = subst (λ p. Each Good p.records × Each (Own p.records) p.records) same (goods, own) in
+        (both.0, both.1, tt)
     steps_good (s ∷ rest) fits plan new e valid goods own =
         let one = then_so (or_failure c.name (Some s.name) (rule_of seen c s plan.records)) (λ x.
         steps_of seen c rest (planned plan x)) new e in
@@ -202,20 +218,23 @@ module _ (d : CDocument) (is : IsCoreDocument d) (starts : CProgram → Bool) wh
         let grown = steps_grow seen c rest (planned plan x) new one.2 in
         let shown : AllValid d.slots (plan.goals ++ x.goals) =
         valid_front d.slots (plan.goals ++ x.goals) grown.0 (subst (λ gs. AllValid d.slots gs) grown.1 valid) in
-        let given = step_good seen c named_c plan.records goods s fits.0 (site_good s)
-        (λ using good holds. parts_good plan.records goods s fits.0 using good holds c.parts
-        (is.unions place c there)) x
-        (passed c.name (Some s.name) (rule_of seen c s plan.records) x one.1)
-        (valid_back d.slots plan.goals x.goals shown) in
+        let programs = from_all (IsProgram d.slots) d.programs is.programs in
+        let made = passed c.name (Some s.name) (rule_of seen c s plan.records) x one.1 in
+        let left = valid_back d.slots plan.goals x.goals shown in
+        let given = step_good seen c named_c plan.records goods s fits.0 programs (site_good s)
+        (parts_at plan.records goods s fits.0) x made left in
+        let over = step_stands_over seen c named_c plan.records goods s fits.0 programs (site_good s)
+        (parts_at plan.records goods s fits.0) x made left in
         let book : List Record = plan.records ++ x.made ∷ [] in
-        steps_good rest fits.1 (planned plan x) new one.2 valid
+        let more = steps_good rest fits.1 (planned plan x) new one.2 valid
         (each_join Good plan.records (x.made ∷ []) goods (given.0, tt))
         (each_join (Own book) plan.records (x.made ∷ [])
         (each_map (Own plan.records) (Own book) plan.records (λ a o. elim o [
           | inl t ↦ inl (more_defined a.program plan.records (x.made ∷ []) t)
           | inr p ↦ inr p
         ]) own)
-        (inr given.1, tt))
+        (inr given.1, tt)) in
+        (more.0, more.1, (over, more.2))
 
   -- each record's program has a `defined` step
   abbrev Ended : List Record → Record → Type 0
@@ -226,9 +245,10 @@ module _ (d : CDocument) (is : IsCoreDocument d) (starts : CProgram → Bool) wh
 
   proof_good : (proof : CProof) → IsProof d.slots d.programs proof → (o : Option CProgram) →
       program_of d.programs proof.program ≡ o → (plan new : Plan) → proof_steps seen o proof plan ≡ Ok new →
-      AllValid d.slots new.goals → BookGood plan.records → BookGood new.records
+      AllValid d.slots new.goals → BookGood plan.records →
+      BookGood new.records × ((c : CProgram) → o ≡ Some c → Each (Over c) proof.steps)
   proof_good proof fits None found plan new e valid good =
-      let same : plan ≡ new = cc in subst (λ p. BookGood p.records) same good
+      let same : plan ≡ new = cc in (subst (λ p. BookGood p.records) same good, λ c f. cc)
   proof_good proof fits (Some c) found plan new e valid good =
       let one = then_so (steps_of seen c proof.steps plan) (proof_end c) new e in
       let end = met (has_defined c.name one.0.records) Code.DefinedMissing (Ok one.0) new
@@ -239,12 +259,12 @@ module _ (d : CDocument) (is : IsCoreDocument d) (starts : CProgram → Bool) wh
       one.0
       one.1 (subst (λ p. AllValid d.slots p.goals) (sym same) valid) good.0
       (each_map (Ended plan.records) (Own c at.place at.there plan.records) plan.records (λ a t. inl t) good.1) in
-      subst (λ p. BookGood p.records) same (
-        all.0,
-        each_map (Own c at.place at.there one.0.records) (Ended one.0.records) one.0.records (λ a o. elim o [
-          | inl t ↦ t
-          | inr p ↦ subst (λ n. IsTrue (has_defined n one.0.records)) (sym p) end.0
-        ]) all.1,
+      let ended = each_map (Own c at.place at.there one.0.records) (Ended one.0.records) one.0.records (λ a o. elim o [
+        | inl t ↦ t
+        | inr p ↦ subst (λ n. IsTrue (has_defined n one.0.records)) (sym p) end.0
+      ]) all.1 in (
+        subst (λ p. BookGood p.records) same (all.0, ended),
+        λ b f. let its : c ≡ b = cc in subst (λ z. Each (Over z) proof.steps) its all.2,
       )
 
   proof_grows : (proof : CProof) (o : Option CProgram) (plan new : Plan) →
@@ -266,26 +286,34 @@ module _ (d : CDocument) (is : IsCoreDocument d) (starts : CProgram → Bool) wh
       grown_on plan one.0 new (proof_grows proof (program_of d.programs proof.program) plan one.0 one.1)
       (proofs_grow rest one.0 new one.2)
 
+  abbrev ProofOver : CProof → Type 0
+  ProofOver proof = (c : CProgram) → program_of d.programs proof.program ≡ Some c → Each (Over c) proof.steps
+
   proofs_good : (proofs : List CProof) → Each (IsProof d.slots d.programs) proofs → (plan new : Plan) →
       proofs_of seen proofs plan ≡ Ok new → AllValid d.slots new.goals → BookGood plan.records →
-      BookGood new.records
+      BookGood new.records × Each ProofOver proofs
   proofs_good [] fits plan new e valid good =
-      let same : plan ≡ new = cc in subst (λ p. BookGood p.records) same good
+      let same : plan ≡ new = cc in (subst (λ p. BookGood p.records) same good, tt)
   proofs_good (proof ∷ rest) fits plan new e valid good =
       let one = then_so (proof_steps seen (program_of d.programs proof.program) proof plan)
       (proofs_of seen rest) new e in
       let grown = proofs_grow rest one.0 new one.2 in
       let shown = valid_front d.slots one.0.goals grown.0 (subst (λ gs. AllValid d.slots gs) grown.1 valid) in
-      proofs_good rest fits.1 one.0 new one.2 valid
-      (proof_good proof fits.0 (program_of d.programs proof.program) refl plan one.0 one.1 shown good)
+      let first = proof_good proof fits.0 (program_of d.programs proof.program) refl plan one.0 one.1 shown good in
+      let more = proofs_good rest fits.1 one.0 new one.2 valid first.0 in
+      (more.0, (first.1, more.1))
+
+  all_good : (plan : Plan) → walk_of d starts ≡ Ok plan → AllValid d.slots plan.goals →
+      BookGood plan.records × Each ProofOver d.proofs
+  all_good plan e valid = proofs_good d.proofs (from_all (IsProof d.slots d.programs) d.proofs is.proofs)
+      (record { records = []; goals = []; owner = [] }) plan e valid (tt, tt)
 
   -- each record of the plan is kept, and no step of its program is undefined
   pub records_kept : (plan : Plan) → walk_of d starts ≡ Ok plan → AllValid d.slots plan.goals → (place : ℕ)
       (a : Record) (c : CProgram) → slice_get plan.records place ≡ Some a → program_of d.programs a.program ≡ Some c →
       IsKept d.slots c a × IsAlwaysDefined (core_system d.slots c)
   records_kept plan e valid place a c there named =
-      let good = proofs_good d.proofs (from_all (IsProof d.slots d.programs) d.proofs is.proofs)
-      (record { records = []; goals = []; owner = [] }) plan e valid (tt, tt) in
+      let good = (all_good plan e valid).0 in
       let ended = each_at (Ended plan.records) plan.records good.1 place a there in
       let first = some_item (λ b. nat_eq b.program a.program && is_defined b.kind) plan.records ended in
       let b : Record = first.1 in
@@ -306,3 +334,9 @@ module _ (d : CDocument) (is : IsCoreDocument d) (starts : CProgram → Bool) wh
 pub walk_sound : WalkSound
 walk_sound d is starts plan e valid place a c there named =
     records_hold d is starts plan e valid place a c there named
+
+pub layers_stand : LayersStand
+layers_stand d is starts plan e valid at n proof c s r there named stands rule =
+    let good = all_good d is starts plan e valid in
+    let its = each_at (ProofOver d is starts) d.proofs good.1 at proof there in
+    each_at (Over d is starts c) proof.steps (its c named) n s stands r rule

@@ -1,5 +1,8 @@
 pub mod Conclusion
 pub mod Forms
+pub mod Further
+pub mod LayerLaws
+pub mod Layers
 pub mod Limits
 pub mod Numbers
 pub mod Sound

@@ -19,9 +19,10 @@ use Rattle.meaning_laws.specs.Stands.{LeadsStands}
 use Rattle.fair_rounds.specs.Records.{holding, core_system, are_in_ranges, meets, KindStands, Stands}
 use Rattle.fair_rounds.specs.declared.records.Record.{Record}
 use Rattle.rules_table.specs.Conclusion.{Conclusion}
-use Rattle.rules_table.specs.Table.{Site, under_with, goals_of, defined_of, invariant_of, unless_of, ensures_of}
-use Rattle.rules_table.specs.Table.{weaken_of, pair_of, instance_of, union_defined_of, union_invariant_of}
+use Rattle.rules_table.specs.Table.{Site, under_with, goals_of, defined_of, invariant_of, unless_of, fixed_of}
+use Rattle.rules_table.specs.Table.{ensures_of, weaken_of, pair_of, instance_of, union_defined_of, union_invariant_of}
 use Rattle.rules_table.specs.Table.{union_unless_of, union_ensures_of, shown_forms}
+use Rattle.rules_table.specs.Further.{complete_of, lead_cancel_of, until_of, detects_of, constant_of}
 use Rattle.rules_table.specs.Terms.{found, term_of, derive_of, all_ranges, is_well_bound}
 use Rattle.rules_table.specs.Validity.{AllValid}
 use Rattle.rules_table.specs.declared.led.Led.{Led}
@@ -58,6 +59,10 @@ InvariantSound = (site : Site) → IsSite site → (p : CForm) → StandsWhereVa
 abbrev pub UnlessSound : Type 0
 UnlessSound = (site : Site) → IsSite site → (p q : CForm) → StandsWhereValid site (unless_of site p q)
 
+-- `fixed p`: each state of U with p is a fixed point
+abbrev pub FixedSound : Type 0
+FixedSound = (site : Site) → IsSite site → (p : CForm) → StandsWhereValid site (fixed_of site p)
+
 abbrev pub EnsuresSound : Type 0
 EnsuresSound = (site : Site) → IsSite site → (p q : CForm) (h : Helper) → StandsWhereValid site
     (ensures_of site p q h)
@@ -74,6 +79,29 @@ WeakenSound = (site : Site) → IsSite site → (a : Record) (q : CForm) → IsP
 abbrev pub PairSound : Type 0
 PairSound = (site : Site) → IsSite site → (which : RuleName) (a b : Record) → IsPremise site a → IsPremise site b →
     StandsWhereValid site (pair_of site which a b)
+
+-- the further rules: completion, within the greater of two bounds
+abbrev pub CompleteSound : Type 0
+CompleteSound = (site : Site) → IsSite site → (a b c d : Record) → IsPremise site a → IsPremise site b →
+    IsPremise site c → IsPremise site d → StandsWhereValid site (complete_of site a b c d)
+
+-- a rule from two records
+abbrev pub IsSoundOfTwo : (Site → Record → Record → Result Conclusion Code) → Type 0
+IsSoundOfTwo rule = (site : Site) → IsSite site → (a b : Record) → IsPremise site a → IsPremise site b →
+    StandsWhereValid site (rule site a b)
+
+-- cancellation for a leads-to, within the sum of two bounds
+abbrev pub LeadCancelSound : Type 0
+LeadCancelSound = IsSoundOfTwo lead_cancel_of
+
+abbrev pub UntilSound : Type 0
+UntilSound = IsSoundOfTwo until_of
+
+abbrev pub DetectsSound : Type 0
+DetectsSound = IsSoundOfTwo detects_of
+
+abbrev pub ConstantSound : Type 0
+ConstantSound = IsSoundOfTwo constant_of
 
 -- an instance, at numbers of the parameters and of the names that are bound where it stands
 abbrev pub InstanceSound : Type 0

@@ -23,6 +23,7 @@ use Rattle.rules_table.specs.Conclusion.{Conclusion}
 use Rattle.rules_table.specs.Forms.{any_of, imply}
 use Rattle.rules_table.specs.Limits.{fits, is_provable}
 use Rattle.wp_substitution.specs.Preconditions.{all_of, defined_form, wp_form}
+use Rattle.fixed_points.specs.FixedForms.{fixed_part}
 use Rattle.rules_table.specs.Validity.{Goal}
 use Rattle.meaning_states.specs.State.{int_eq}
 
@@ -97,6 +98,10 @@ unless_forms site p q = map (unless_form site p q) site.program.statements
 abbrev pub unless_record : Site → CForm → CForm → Record
 unless_record site p q = record_of site Kind.Unless p q [] None
 
+-- where U and p hold, the step of each statement leads back
+abbrev pub fixed_forms : Site → CForm → List CForm
+fixed_forms site p = map (λ s. imply (site.using ++ (p ∷ [])) (fixed_part site.slots s)) site.program.statements
+
 unfoldable pub defined_of : Site → Bool → Result Conclusion Code
 defined_of site starts = needs starts Code.NoStart (concluded site.slots site.params
     (record_of site Kind.Defined Top Top [] None) (defined_forms site))
@@ -107,6 +112,9 @@ invariant_of site p = concluded site.slots site.params (record_of site Kind.Inva
 
 unfoldable pub unless_of : Site → CForm → CForm → Result Conclusion Code
 unless_of site p q = concluded site.slots site.params (record_of site Kind.Unless p q [] None) (unless_forms site p q)
+
+unfoldable pub fixed_of : Site → CForm → Result Conclusion Code
+fixed_of site p = concluded site.slots site.params (record_of site Kind.Fixed p Bottom [] None) (fixed_forms site p)
 
 -- `text with h`
 
@@ -179,6 +187,7 @@ weaken_of site a q =
 
 -- the kinds of the two steps from which a pair rule gives a step of this kind
 abbrev pub pair_kinds : RuleName → Kind → Kind × Kind
+pair_kinds RuleName.Cancel kind = (kind, kind)
 pair_kinds RuleName.Until kind = (Kind.Unless, Kind.Leadsto)
 pair_kinds RuleName.Detects kind = (Kind.Invariant, Kind.Leadsto)
 pair_kinds RuleName.Constant kind = (Kind.Unless, Kind.Unless)
@@ -211,9 +220,6 @@ pair_of site RuleName.Simpledisj a b =
 pair_of site RuleName.Cancel a b =
     needs (is_unless a.kind && is_unless b.kind) Code.WrongKind
     (needs (same_form a.q b.p) Code.MiddleDiffers (paired site Kind.Unless None (or_form a.p a.q) b.q a b))
-pair_of site RuleName.Until a b = Err Code.WrongKind
-pair_of site RuleName.Detects a b = Err Code.WrongKind
-pair_of site RuleName.Constant a b = Err Code.WrongKind
 pair_of site _ a b = Err Code.WrongKind
 
 -- `union R S`; each formula of a part's `under` has to follow from U

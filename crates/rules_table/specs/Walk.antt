@@ -20,9 +20,11 @@ use Rattle.fair_rounds.specs.declared.records.Record.{Record}
 use Rattle.rules_table.specs.Validity.{Goal}
 use Rattle.rules_table.specs.Conclusion.{Conclusion}
 use Rattle.rules_table.specs.Table.{Site, needs, go_on, is_defined, is_invariant, is_unless, is_ensures, instance_of}
-use Rattle.rules_table.specs.Table.{record_of, concluded, defined_of, invariant_of, unless_of, ensures_of, weaken_of}
-use Rattle.rules_table.specs.Table.{pair_kinds, pair_of, union_defined_of, union_invariant_of, union_unless_of}
+use Rattle.rules_table.specs.Table.{record_of, concluded, defined_of, invariant_of, unless_of, fixed_of, ensures_of}
+use Rattle.rules_table.specs.Table.{weaken_of, pair_kinds, union_defined_of, union_invariant_of, union_unless_of}
 use Rattle.rules_table.specs.Table.{union_ensures_of}
+use Rattle.rules_table.specs.Further.{is_leadsto, complete_of, pair_by}
+use Rattle.rules_table.specs.Layers.{is_carried, superpose_of}
 use Rattle.rules_table.specs.Terms.{found, referred, derive_of}
 
 -- what a step sees of its document; the test says whether the start state of a program meets its initially section
@@ -34,10 +36,6 @@ pub record Around : Type 0 where
 
 abbrev pub around_of : CDocument → (CProgram → Bool) → Around
 around_of d starts = record { version = d.version; slots = d.slots; programs = d.programs; starts = starts }
-
-abbrev pub is_leadsto : Kind → Bool
-is_leadsto Kind.Leadsto = true
-is_leadsto _ = false
 
 abbrev pub is_until : Kind → Bool
 is_until Kind.Until = true
@@ -101,20 +99,20 @@ suits_pair version RuleName.Conj kind = has_end kind
 suits_pair version RuleName.Simpleconj kind = is_unless kind
 suits_pair version RuleName.Disj kind = is_unless kind
 suits_pair version RuleName.Simpledisj kind = is_unless kind
-suits_pair version RuleName.Cancel kind = is_unless kind
-suits_pair version RuleName.Until kind = false
-suits_pair version RuleName.Detects kind = false
-suits_pair version RuleName.Constant kind = false
+suits_pair version RuleName.Cancel kind = is_unless kind || (is_leadsto kind && nat_eq version 2)
+suits_pair version RuleName.Until kind = is_until kind
+suits_pair version RuleName.Detects kind = is_detects kind
+suits_pair version RuleName.Constant kind = is_constant kind
 suits_pair version _ kind = false
 
 abbrev pub suits : ℕ → CRule → Kind → Bool
-suits version CRule.Text kind = is_first kind || is_unless kind
+suits version CRule.Text kind = (is_first kind || is_unless kind) || is_fixed kind
 suits version (CRule.TextWith h) kind = is_ensures kind
 suits version (CRule.WeakenStep r) kind = has_end kind
 suits version (CRule.Pair which r s) kind = suits_pair version which kind
 suits version (CRule.Union r s) kind = is_first kind || has_end kind
-suits version (CRule.Superpose r) kind = false
-suits version (CRule.Complete r s t u) kind = false
+suits version (CRule.Superpose r) kind = is_carried kind
+suits version (CRule.Complete r s t u) kind = is_leadsto kind
 suits version (CRule.Proof t) kind = suits_term (out-PTerm t) kind
 
 -- by the program's text; the test says whether the start state of a program meets its initially section
@@ -122,6 +120,7 @@ abbrev pub text_of : (CProgram → Bool) → Site → CStep → Kind → Result 
 text_of starts site step Kind.Defined = defined_of site (starts site.program)
 text_of starts site step Kind.Invariant = invariant_of site step.p
 text_of starts site step Kind.Unless = unless_of site step.p step.q
+text_of starts site step Kind.Fixed = fixed_of site step.p
 text_of starts site step _ = Err Code.WrongKind
 
 -- `from R` for an unless or an ensures: R's instance under the step's name
@@ -172,6 +171,28 @@ united starts site Kind.Unless a b = union_unless_of site a b
 united starts site Kind.Ensures a b = union_ensures_of site a b
 united starts site _ a b = Err Code.WrongKind
 
+-- the program of a name
+abbrev pub program_of : List CProgram → ℕ → Option CProgram
+program_of programs name = find (λ c. nat_eq c.name name) programs
+
+-- the instance of a record of another program
+abbrev pub other_record : Site → List Record → (Kind → Bool) → Ref → Result Record Code
+other_record site book serves r =
+    go_on (found book r) (λ a.
+    needs (not (nat_eq a.program site.program.name)) Code.OtherProgram
+    (needs (serves a.kind) Code.WrongKind (instance_of site site.params a r.args)))
+
+-- each program with a proof stands in the document
+abbrev pub some_program : Option CProgram → Result CProgram Code
+some_program None = Err Code.NoSuchStep
+some_program (Some f) = Ok f
+
+-- `superpose R`: from a record of the program below, over which the site's is a layer
+abbrev pub superposed : Around → Site → CStep → List Record → Ref → Result Conclusion Code
+superposed seen site step book r =
+    go_on (other_record site book (is_kind step.kind) r) (λ a.
+    go_on (some_program (program_of seen.programs a.program)) (λ f. superpose_of site f a))
+
 -- by the rule
 abbrev pub applied : Around → Site → CStep → List Record → CRule → Result Conclusion Code
 applied seen site step book CRule.Text = text_of seen.starts site step step.kind
@@ -180,13 +201,18 @@ applied seen site step book (CRule.WeakenStep r) =
     go_on (referred site site.params book (is_kind step.kind) r) (λ a. weaken_of site a step.q)
 applied seen site step book (CRule.Pair which r s) =
     go_on (referred site site.params book (is_kind (pair_kinds which step.kind).0) r) (λ a.
-    go_on (referred site site.params book (is_kind (pair_kinds which step.kind).1) s) (λ b. pair_of site which a b))
+    go_on (referred site site.params book (is_kind (pair_kinds which step.kind).1) s) (λ b.
+    pair_by site step.kind which a b))
 applied seen site step book (CRule.Union r s) =
     go_on (part_record site book (first_part site.program.parts) (serves_union step.kind) r) (λ a.
     go_on (part_record site book (second_part site.program.parts) (serves_after step.kind a.kind) s) (λ b.
     united seen.starts site step.kind a b))
-applied seen site step book (CRule.Superpose r) = Err Code.WrongKind
-applied seen site step book (CRule.Complete r s t u) = Err Code.WrongKind
+applied seen site step book (CRule.Superpose r) = superposed seen site step book r
+applied seen site step book (CRule.Complete r s t u) =
+    go_on (referred site site.params book (is_kind Kind.Leadsto) r) (λ a.
+    go_on (referred site site.params book (is_kind Kind.Unless) s) (λ b.
+    go_on (referred site site.params book (is_kind Kind.Leadsto) t) (λ c.
+    go_on (referred site site.params book (is_kind Kind.Unless) u) (λ d. complete_of site a b c d))))
 applied seen site step book (CRule.Proof t) = proof_of site step book step.kind t
 
 -- the derived p and q are the claimed ones
@@ -244,10 +270,6 @@ steps_of seen c (s ∷ rest) plan =
 abbrev pub proof_end : CProgram → Plan → Result Plan Failure
 proof_end c plan =
     or_failure c.name None (needs (has_defined c.name plan.records) Code.DefinedMissing (Ok plan))
-
--- the program of a name
-abbrev pub program_of : List CProgram → ℕ → Option CProgram
-program_of programs name = find (λ c. nat_eq c.name name) programs
 
 abbrev pub proof_steps : Around → Option CProgram → CProof → Plan → Result Plan Failure
 proof_steps seen None proof plan = Ok plan

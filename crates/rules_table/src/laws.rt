@@ -1,10 +1,12 @@
 // The laws of rules. The functions do nothing: they state them.
 ghost use Rattle.rules_table.specs.Validity.{GoalShown};
-ghost use Rattle.rules_table.specs.WalkLaws.{WalkSound};
-ghost use Rattle.rules_table.specs.Sound.{DefinedSound, InvariantSound, UnlessSound, EnsuresSound, WeakenSound};
-ghost use Rattle.rules_table.specs.Sound.{PairSound, InstanceSound, TermSound, DeriveSound, UnionDefinedSound};
-ghost use Rattle.rules_table.specs.Sound.{UnionInvariantSound, UnionUnlessSound, UnionEnsuresSound, UnderHolds};
-ghost use Rattle.rules_table.specs.Sound.{UnionShows};
+ghost use Rattle.rules_table.specs.WalkLaws.{WalkSound, LayersStand};
+ghost use Rattle.rules_table.specs.Sound.{DefinedSound, InvariantSound, UnlessSound, FixedSound, EnsuresSound};
+ghost use Rattle.rules_table.specs.Sound.{WeakenSound, PairSound, InstanceSound, TermSound, DeriveSound};
+ghost use Rattle.rules_table.specs.Sound.{CompleteSound, LeadCancelSound, UntilSound, DetectsSound, ConstantSound};
+ghost use Rattle.rules_table.specs.Sound.{UnionDefinedSound, UnionInvariantSound, UnionUnlessSound, UnionEnsuresSound};
+ghost use Rattle.rules_table.specs.Sound.{UnderHolds, UnionShows};
+ghost use Rattle.rules_table.specs.LayerLaws.{LayerIsOver, SuperposeSound, SuperposeBegins, SuperposeShows};
 
 /// A formula whose obligation is valid holds at every state and all numbers of its parameters in their
 /// ranges.
@@ -17,11 +19,22 @@ pub fn rules_sound()
     ensures always_defined { DefinedSound }
     ensures invariant { InvariantSound }
     ensures unless { UnlessSound }
+    ensures fixed { FixedSound }
     ensures ensured { EnsuresSound }
     ensures weaken { WeakenSound }
     ensures pair { PairSound }
     ensures instance { InstanceSound }
     ensures under { UnderHolds }
+{}
+
+/// So does what the further rules give: completion within the greater of two bounds, cancellation for a leads-to
+/// within the sum.
+pub fn further_sound()
+    ensures complete { CompleteSound }
+    ensures cancel { LeadCancelSound }
+    ensures until { UntilSound }
+    ensures detects { DetectsSound }
+    ensures constant { ConstantSound }
 {}
 
 /// So does what a proof term gives, for each of its nodes, and the record that is derived from it.
@@ -37,6 +50,18 @@ pub fn unions_sound()
     ensures unless { UnionUnlessSound }
     ensures ensured { UnionEnsuresSound }
     ensures shows { UnionShows }
+{}
+
+/// A program that is a layer over another does what that does, where the layer's own slots are put back; so
+/// what stands of that program stands of the layer. In a document whose steps give a plan, where all that is left
+/// to be shown is valid, the program of each step by `superpose` is a layer, and may begin only where the program
+/// under it may.
+pub fn layers_sound()
+    ensures over { LayerIsOver }
+    ensures stands { SuperposeSound }
+    ensures begins { SuperposeBegins }
+    ensures shows { SuperposeShows }
+    ensures walked { LayersStand }
 {}
 
 /// Where the steps of a whole document give a plan, and all that is left to be shown is valid, the

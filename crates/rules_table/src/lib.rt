@@ -4,5 +4,7 @@
 mod laws;
 mod led;
 
-pub use laws::{goals_shown, rules_sound, terms_sound, unions_sound, walk_sound};
+pub use laws::{
+    further_sound, goals_shown, layers_sound, rules_sound, terms_sound, unions_sound, walk_sound,
+};
 pub use led::Led;

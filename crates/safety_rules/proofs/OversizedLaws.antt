@@ -15,6 +15,8 @@ use Rattle.obligations.specs.Plain.{height_of}
 use Rattle.wp_substitution.specs.Preconditions.{all_of, defined_form, wp_form}
 use Rattle.wp_substitution.specs.Oversized.{IsOversized}
 use Rattle.wp_substitution.proofs.OversizedLaws.{or_second_large, wp_large}
+use Rattle.fixed_points.specs.FixedForms.{fixed_part}
+use Rattle.fixed_points.proofs.LargeLaws.{part_large}
 use Rattle.rules_table.specs.Forms.{imply}
 use Rattle.rules_table.specs.Limits.{is_provable}
 use Rattle.rules_table.specs.Validity.{goal_obligation}
@@ -53,3 +55,8 @@ module _ (slots : List CSlot) (params : List Range) (T : Type 0) (old new : List
       Added {T = T} (Err (RuleError.Fault Code.FormulaTooLarge)) old new slots params
       (imply premises (wp_form slots s q) ∷ [])
   kept_refused premises q s large = refused _ (implied_large premises (wp_form slots s q) (wp_large slots s q large))
+
+  pub fixed_refused : (premises : List CForm) (s : CStmt) → IsOversized (defined_form slots s) →
+      Added {T = T} (Err (RuleError.Fault Code.FormulaTooLarge)) old new slots params
+      (imply premises (fixed_part slots s) ∷ [])
+  fixed_refused premises s large = refused _ (implied_large premises (fixed_part slots s) (part_large slots s large))

@@ -14,7 +14,7 @@ use Rattle.rules_table.specs.Validity.{Goal, goal_obligation, AllValid}
 use Rattle.rules_table.specs.Sound.{AreClosed, IsSite, IsPremise}
 use Rattle.rules_table.proofs.EachLaws.{from_all}
 use Rattle.rules_table.proofs.GoalLaws.{goal_shown}
-use Rattle.rules_table.proofs.StepSound.{closed_form}
+use Rattle.rules_table.proofs.NamedLaws.{closed_form}
 use Rattle.rules_table.proofs.WalkTheorems.{lows_state}
 use Rattle.safety_rules.specs.declared.places.Place.{Place}
 use Rattle.safety_rules.specs.declared.places.Derived.{Derived}

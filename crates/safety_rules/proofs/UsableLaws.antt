@@ -19,6 +19,8 @@ use Rattle.wp_substitution.specs.Joined.{IsLight, joined_all}
 use Rattle.wp_substitution.proofs.PlaceLaws.{Counts, not_within, and_within, or_within}
 use Rattle.wp_substitution.proofs.NamedLaws.{defined_below, defined_params, wp_slots, wp_params}
 use Rattle.wp_substitution.proofs.LightLaws.{form_light}
+use Rattle.fixed_points.specs.FixedForms.{fixed_part}
+use Rattle.fixed_points.proofs.NamedLaws.{part_slots, part_params}
 use Rattle.rules_table.specs.Forms.{imply}
 use Rattle.rules_table.specs.Table.{ends_of_both, ends_of_either}
 use Rattle.safety_rules.specs.Premises.{implied_by}
@@ -95,6 +97,12 @@ module _ (slots : List CSlot) (params : List Range) where
     params_exist = let none = defined_params slots s fits in omega (arith, none);
   }
 
+  pub exist_part : (s : CStmt) → StatementFits slots s → Exist (fixed_part slots s)
+  exist_part s fits = record {
+    slots_exist = part_slots slots s fits;
+    params_exist = let none = part_params slots s fits in omega (arith, none);
+  }
+
   pub usable : (f : CForm) → FormFits slots params f → IsUsable slots params f
   usable f fits = record {
     names = record { slots_exist = fits.slots_exist; params_exist = fits.params_exist };
@@ -139,7 +147,7 @@ weight-And f g =
     ap plain_weight (sym (rolls-And f g))
     ∙ fold-roll-CForm ℕ Weights weigh_form (weigh_term one_weight one_weight) (CForm-F.And f g)
 
-weight-Or : (f g : CForm) → plain_weight (Or f g) ≡ max (plain_weight f) (plain_weight g)
+pub weight-Or : (f g : CForm) → plain_weight (Or f g) ≡ max (plain_weight f) (plain_weight g)
 weight-Or f g =
     ap plain_weight (sym (rolls-Or f g))
     ∙ fold-roll-CForm ℕ Weights weigh_form (weigh_term one_weight one_weight) (CForm-F.Or f g)

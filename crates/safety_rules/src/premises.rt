@@ -108,8 +108,10 @@ pub(crate) fn imply(
     }
 }
 
-// That one of two formulas holds.
-pub(crate) fn either(alloc: Global, p: &CForm, q: &CForm) -> Result<Shared<CForm>, AllocError>
+/// That one of two formulas holds.
+///
+/// An error says that memory was refused.
+pub fn either(alloc: Global, p: &CForm, q: &CForm) -> Result<Shared<CForm>, AllocError>
     requires { max (plain_weight p.now) (plain_weight q.now) ≤ 2 ^ 62 }
     ensures tree { IfOk result (λ f. f ≡ fold.or_form p.now q.now) }
     ensures light { IfOk result (λ f. plain_weight f ≤ 2 ^ 62) }
@@ -122,8 +124,10 @@ pub(crate) fn either(alloc: Global, p: &CForm, q: &CForm) -> Result<Shared<CForm
     )
 }
 
-// That two formulas hold.
-pub(crate) fn both(alloc: Global, p: &CForm, q: &CForm) -> Result<Shared<CForm>, AllocError>
+/// That two formulas hold.
+///
+/// An error says that memory was refused.
+pub fn both(alloc: Global, p: &CForm, q: &CForm) -> Result<Shared<CForm>, AllocError>
     requires { max (plain_weight p.now) (plain_weight q.now) ≤ 2 ^ 62 }
     ensures tree { IfOk result (λ f. f ≡ fold.and_form p.now q.now) }
     ensures light { IfOk result (λ f. plain_weight f ≤ 2 ^ 62) }

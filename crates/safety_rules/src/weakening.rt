@@ -53,8 +53,10 @@ fn follows(alloc: Global, pl: &Place, q: &CForm, r: &CForm) -> Result<CForm, All
     imply(alloc, whole, r)
 }
 
-// The obligation that r follows from q.
-fn add_follows(
+/// The obligation that r follows from q, where U holds.
+///
+/// The fault is 42: the obligation is too large.
+pub fn add_follows(
     alloc: Global,
     pl: &Place,
     q: &CForm,

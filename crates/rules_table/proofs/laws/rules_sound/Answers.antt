@@ -1,4 +1,4 @@
-use Rattle.rules_table.proofs.TextSound.{defined_sound, invariant_sound, unless_sound}
+use Rattle.rules_table.proofs.TextSound.{defined_sound, invariant_sound, unless_sound, fixed_sound}
 use Rattle.rules_table.proofs.EnsuresSound.{ensures_sound}
 use Rattle.rules_table.proofs.CalcSound.{weaken_sound, pair_sound, instance_sound}
 use Rattle.rules_table.proofs.UnionSound.{under_holds}
@@ -12,6 +12,9 @@ returns-clause-invariant c = invariant_sound
 
 pub returns-clause-unless : goal.returns-clause-unless
 returns-clause-unless c = unless_sound
+
+pub returns-clause-fixed : goal.returns-clause-fixed
+returns-clause-fixed c = fixed_sound
 
 pub returns-clause-ensured : goal.returns-clause-ensured
 returns-clause-ensured c = ensures_sound

@@ -8,7 +8,7 @@ use Rattle.core_terms.specs.declared.trees.Range.{Range}
 use Rattle.core_terms.specs.declared.trees.CForm.{CForm}
 use Rattle.core_terms.specs.declared.programs.CSlot.{CSlot}
 use Rattle.core_terms.specs.declared.programs.CStmt.{CStmt}
-use Rattle.core_terms.specs.Conditions.{StatementFits}
+use Rattle.core_terms.specs.Conditions.{StatementFits, WriteFits}
 use Rattle.wp_substitution.specs.Preconditions.{defined_form}
 use Rattle.wp_substitution.specs.Oversized.{IsOversized}
 use Rattle.wp_substitution.proofs.LightLaws.{writes_light}
@@ -44,16 +44,20 @@ returns-then-branch c =
     let params : List Range = c.args.pl.now.params.now in
     let make : CStmt → CForm =
     λ s. imply c.args.pl.now.using.now (defined_form slots s) in
-    let large : (slots : List CSlot) → IsOversized (defined_form slots c.s-item.result) =
-    OnTrue_at {P = (slots : List CSlot) → IsOversized (defined_form slots c.s-item.result)} c.if-branch.true
-    c.in_ok-is_oversized.ensures.large in
+    let fits : StatementFits slots c.s-item.result =
+    item_fits slots c.as_slice-s-items.result.now c.args.pl.now.program.now.statements c.loop-s.s-index c.s-item.result
+    c.s-item.is c.loop-s-test.true c.as_slice-s-items.ensures c.requires.program.statements in
+    let large : IsOversized (defined_form slots c.s-item.result) =
+    OnTrue_at {P = (slots : List CSlot) → All (WriteFits slots) c.s-item.result.writes →
+    IsOversized (defined_form slots c.s-item.result)} c.if-branch.true c.in_ok-is_oversized.ensures.large slots
+    fits.writes in
     subst (λ ss. Added {T = Unit {0}} (Err (RuleError.Fault Code.FormulaTooLarge)) c.args.goals.now c.loop-s.goals
     slots params (map make ss)) c.as_slice-s-items.ensures
     (loop_fails slots params (Unit {0}) (Unit {0}) (RuleError.Fault Code.FormulaTooLarge) make
     c.as_slice-s-items.result.now c.loop-s.s-index c.s-item.result (make c.s-item.result) c.args.goals.now
     c.loop-s.goals c.loop-s.goals c.loop-s-test.true c.s-item.is refl
     (defined_refused slots params (Unit {0}) c.loop-s.goals c.loop-s.goals c.args.pl.now.using.now c.s-item.result
-    (large slots)))
+    large))
 
 pub where_defined-requires-clause-statement : goal.where_defined-requires-clause-statement
 where_defined-requires-clause-statement c =
