@@ -1,0 +1,95 @@
+// What is concluded within a bound.
+ghost use Rattle.std.specs.Prelude.{◌≡◌, ◌≤◌, ◌^◌, ◌++◌, nat_le, cond, List, None, Option, Result, Some};
+ghost use Rattle.case_tables.specs.declared.code_table.Code.{Code as TheCode};
+ghost use Rattle.core_terms.specs.declared.programs.CSlot.{CSlot};
+ghost use Rattle.rules_table.specs.Conclusion.{Conclusion};
+ghost use Rattle.rules_table.specs.Further as further;
+ghost use Rattle.safety_rules.specs.Answers.{site_of, RuleAnswers};
+ghost use Rattle.safety_rules.specs.Usable.{NamesExist};
+ghost use Rattle.derived_rules.specs.Bounds.{bounded_row};
+
+use case_tables::{Code, Kind};
+use core_terms::CForm;
+use fair_rounds::Record;
+use safety_rules::{Claim, Derived, Place, RuleError, conclude};
+use std::alloc::Global;
+use unity_base::{Seq, Shared};
+
+// The rounds, where they are at most 2^63.
+fn bounded(rounds: u128) -> Option<u64>
+    ensures { result ≡ cond (nat_le rounds (2 ^ 63)) (Some rounds) None }
+{
+    if rounds <= 1 << 63 {
+        Some(rounds as u64)
+    } else {
+        None
+    }
+}
+
+/// What is derived, with this bound.
+pub fn lengthened(answer: Result<Derived, RuleError>, bound: u64) -> Result<Derived, RuleError>
+    ensures { (slots : List CSlot) (row : Result Conclusion TheCode) → RuleAnswers answer slots row →
+        RuleAnswers result slots (bounded_row bound row) }
+{
+    match answer {
+        Ok(derived) => {
+            let Derived { made, obligations } = derived;
+            let Record {
+                name,
+                program,
+                kind,
+                p,
+                q,
+                under,
+                params,
+                bound: _none,
+                helper,
+            } = made;
+            Ok(Derived {
+                made: Record {
+                    name,
+                    program,
+                    kind,
+                    p,
+                    q,
+                    under,
+                    params,
+                    bound,
+                    helper,
+                },
+                obligations,
+            })
+        }
+        Err(error) => Err(error),
+    }
+}
+
+// The record of a kind, from p to q within so many rounds, under what the premises stand under.
+pub(crate) fn within(
+    alloc: Global,
+    pl: &Place,
+    kind: Kind,
+    p: Shared<CForm>,
+    q: Shared<CForm>,
+    first: &[CForm],
+    second: &[CForm],
+    rounds: u128,
+) -> Result<Derived, RuleError>
+    requires p { NamesExist pl.now.slots.now pl.now.params.now p }
+    requires q { NamesExist pl.now.slots.now pl.now.params.now q }
+    ensures { RuleAnswers result pl.now.slots.now
+        (further.concluded_within (site_of pl.now) kind p q (first.now ++ second.now) rounds) }
+{
+    let Some(bound) = bounded(rounds) else {
+        return Err(RuleError::Fault(Code::BoundTooLarge));
+    };
+    let claim = Claim {
+        kind,
+        p,
+        q,
+        first,
+        second,
+        helper: None,
+    };
+    lengthened(conclude(alloc, pl, claim, Seq::new(alloc)), bound)
+}
