@@ -1,0 +1,6 @@
+pub mod LabelLaws
+pub mod NameLaws
+pub mod PlaceLaws
+pub mod RowLaws
+pub mod TableLaws
+pub mod TermLaws
