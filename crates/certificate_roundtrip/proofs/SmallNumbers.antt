@@ -58,8 +58,8 @@ each_small : (certs : List Cert) → ((k : ℕ) (c : Cert) → slice_get certs k
 each_small [] h = tt
 each_small (c ∷ cs) h = (h 0 c refl, each_small cs (λ k d e. h (suc k) d e))
 
-module _ (seen : Around) (certs : List Cert) (all : All IsSlot seen.slots) (whole : AreWhole certs)
-    (found : AreFound certs) where
+module _ (seen : Around) (certs : List Cert) (all : All IsSlot seen.slots)
+    (programs : All (IsProgram seen.slots) seen.programs) (whole : AreWhole certs) (found : AreFound certs) where
   -- the most levels of a certificate
   abbrev levels : ℕ
   levels = most_levels seen.version
@@ -127,7 +127,8 @@ module _ (seen : Around) (certs : List Cert) (all : All IsSlot seen.slots) (whol
       let d : Derived = derived_of seen.slots x in
       let is : rule_of seen c s plan.records ≡ Ok x =
       rule_passed c.name (Some s.name) (rule_of seen c s plan.records) x ruled.1 in
-      let told : IsStepRow seen.slots c s x = told_step seen c s plan.records all program good fine.fits x is in
+      let told : IsStepRow seen.slots c s x = told_step seen c s plan.records all programs program good
+      fine.fits x is in
       let parts = then_so (refuted_by levels certs c.name s.name (length plan.obligations) d.obligations)
       (λ (done : Unit {0}). Ok (grown plan d)) new (sym (taken-is levels certs c.name s.name plan d) ∙ ruled.2) in
       let made : grown plan d ≡ new = cc (parts.2) in
@@ -164,19 +165,19 @@ module _ (seen : Around) (certs : List Cert) (all : All IsSlot seen.slots) (whol
       let same : mid ≡ new = cc (passed.1) in
       subst IsFine same (steps_fine c proof.steps plan mid (program c refl) good fine parts.1)
 
-  proofs_fine : (proofs : List CProof) (plan new : Plan) → All (IsProgram seen.slots) seen.programs →
+  proofs_fine : (proofs : List CProof) (plan new : Plan) →
       All (IsProof seen.slots seen.programs) proofs → IsFine plan → proofs_verdict seen certs proofs plan ≡ Ok new →
       IsFine new
-  proofs_fine [] plan new are good fine e =
+  proofs_fine [] plan new good fine e =
       let same : plan ≡ new = cc (sym (proofs-none seen certs plan) ∙ e) in subst IsFine same fine
-  proofs_fine (proof ∷ rest) plan new are good fine e =
+  proofs_fine (proof ∷ rest) plan new good fine e =
       let named : Option CProgram = program_of seen.programs proof.program in
       let parts = then_so (proof_verdict seen certs named proof plan) (proofs_verdict seen certs rest) new
       (sym (proofs-more seen certs proof rest plan) ∙ e) in
       let first = proof_fine named proof plan parts.0
-      (λ c e. named_program seen.slots seen.programs proof.program c are e)
+      (λ c e. named_program seen.slots seen.programs proof.program c programs e)
       (All-head (IsProof seen.slots seen.programs) proof rest good).steps fine parts.1 in
-      proofs_fine rest parts.0 new are (All-tail (IsProof seen.slots seen.programs) proof rest good) first parts.2
+      proofs_fine rest parts.0 new (All-tail (IsProof seen.slots seen.programs) proof rest good) first parts.2
 
   last_so : (plan last : Plan) (b : Bool) → nat_lt (length plan.obligations) (length certs) ≡ b →
       cond b (Err (surplus_fault (length plan.obligations))) (Ok plan) ≡ Ok last →
@@ -187,11 +188,11 @@ module _ (seen : Around) (certs : List Cert) (all : All IsSlot seen.slots) (whol
 pub proved_are_small : ProvedAreSmall
 proved_are_small d certs plan good whole found e =
     let parts = then_so (proofs_verdict (document_seen d) certs d.proofs no_plan) (last_verdict certs) plan e in
-    let first : IsFine (document_seen d) certs good.slots whole found no_plan =
+    let first : IsFine (document_seen d) certs good.slots good.programs whole found no_plan =
     record { fits = tt; small = λ k c h there. absurd (omega (arith, h)) } in
-    let fine = proofs_fine (document_seen d) certs good.slots whole found d.proofs no_plan parts.0 good.programs
+    let fine = proofs_fine (document_seen d) certs good.slots good.programs whole found d.proofs no_plan parts.0
     good.proofs first parts.1 in
-    let few = last_so (document_seen d) certs good.slots whole found parts.0 plan
+    let few = last_so (document_seen d) certs good.slots good.programs whole found parts.0 plan
     (nat_lt (length parts.0.obligations) (length certs)) refl parts.2 in
     to_all IsSmallCertificate certs (each_small certs (λ k c there.
     let here = below certs k c there in fine.small k c (omega (arith, here, few)) there))

@@ -1,10 +1,10 @@
 -- Folding and replacing bring in no quotient.
 use Rattle.std.proofs.Common.{◌≡◌, ℕ, zero, suc, ◌+◌, max, ℤ, pos, negsuc, Bool, true, false, cond, Option, Some, None}
-use Rattle.std.proofs.Common.{List, refl, sym, ap, subst, arith, slice_get}
+use Rattle.std.proofs.Common.{List, refl, sym, ap, ◌∙◌, subst, arith, slice_get}
 use Rattle.core_terms.specs.declared.trees.CTerm.{CTerm, roll-CTerm, fold-roll-CTerm}
 use Rattle.core_terms.specs.declared.trees.CTerm.TheVariants.{Const, Slot, Param, Add, Sub, Scale, Ite}
 use Rattle.core_terms.specs.declared.trees.CForm.{CForm, roll-CForm, ind-CForm, fold-roll-CForm}
-use Rattle.core_terms.specs.declared.trees.CForm.TheVariants.{Top, Bottom, AtLeast, Zero, Not, And, Or}
+use Rattle.core_terms.specs.declared.trees.CForm.TheVariants.{Top, Bottom, AtLeast, Zero, Not, And, Or, rolls-Or}
 use Rattle.core_terms.specs.declared.trees.CForm.TheOpen.{CTerm-F, CForm-F}
 use Rattle.core_terms.specs.declared.trees.CForm.TheFolds.{map-CForm, map-CTerm}
 use Rattle.core_terms.specs.declared.documents.Arg.{Arg}
@@ -17,6 +17,7 @@ use Rattle.obligations.specs.Shapes.{Shape, Shapes, both, shapes, term_shape, fo
 use Rattle.obligations.proofs.ShapeLaws.{shape-Const, shape-Slot, shape-Param, shape-Add, shape-Sub, shape-Scale}
 use Rattle.obligations.proofs.ShapeLaws.{shape-Ite, shape-Top, shape-Bottom, shape-AtLeast, shape-Zero, shape-Not}
 use Rattle.obligations.proofs.ShapeLaws.{shape-And, shape-Or}
+use Rattle.rules_table.specs.Further.{first_side}
 use Rattle.plain_quotients.specs.Plain.{ArePlain, FormIsPlain, TermIsPlain}
 
 abbrev S : CForm → Shapes
@@ -236,3 +237,13 @@ arg_plain (Some Arg.Slot) = const_plain (pos 0)
 
 pub at_plain : (args : List Arg) (f : CForm) → FormIsPlain f → FormIsPlain (form_at args f)
 at_plain args f h = form_kept (λ n. Slot n) (arg_at args) slot_plain (λ n. arg_plain (slice_get args n)) f h
+
+-- a side of an alternative without quotients
+pub first_side_plain : (y : CForm-F CForm CTerm) → FormIsPlain (roll-CForm y) → FormIsPlain (first_side y)
+first_side_plain (CForm-F.Or f g) h =
+    let at = subst ArePlain (ap shapes (rolls-Or f g) ∙ shape-Or f g) h in
+    record {
+      yes = (greatest_parts (S f).yes.quotients (S g).yes.quotients at.yes).0;
+      no = (sum_parts (S f).no.quotients (S g).no.quotients at.no).0;
+    }
+first_side_plain _ h = bottom_plain

@@ -3,7 +3,7 @@ use Rattle.std.proofs.Common.{ℕ, nat_eq, Bool, true, false, cond, Option, Some
 use Rattle.std.proofs.Common.{slice_get}
 use Rattle.std.specs.List.{filter}
 use Rattle.core_terms.specs.declared.trees.CTerm.{CTerm}
-use Rattle.core_terms.specs.declared.trees.CTerm.TheVariants.{Const, Param}
+use Rattle.core_terms.specs.declared.trees.CTerm.TheVariants.{Const, Slot, Param}
 use Rattle.core_terms.specs.declared.trees.CForm.{CForm}
 use Rattle.core_terms.specs.declared.programs.CSlot.{CSlot}
 use Rattle.core_terms.specs.declared.programs.CWrite.{CWrite}
@@ -12,6 +12,7 @@ use Rattle.core_terms.specs.Folding.{and_form, or_form, not_form, at_least_form,
 use Rattle.core_terms.specs.Folding.{choice_term, zero_form}
 use Rattle.wp_substitution.specs.Preconditions.{and_all, all_of, inside_form, write_form, pair_form, writes_to}
 use Rattle.wp_substitution.specs.Preconditions.{pair_forms, needs, defined_form, slot_after, form_after, wp_form}
+use Rattle.fixed_points.specs.FixedForms.{same_value, fixed_part}
 use Rattle.rules_table.specs.Forms.{or_any, any_of, imply}
 use Rattle.rules_table.proofs.EachLaws.{Each, each_join, from_all}
 use Rattle.plain_quotients.specs.Plain.{FormIsPlain, TermIsPlain, WriteIsPlain, StatementIsPlain}
@@ -78,6 +79,12 @@ pair_plain v w h k =
     (not_kept (and_form v.when w.when) (and_kept v.when w.when h.condition k.condition))
     (zero_kept (difference_term v.value w.value) (difference_kept v.value w.value h.value k.value))
 
+same_plain : (w : CWrite) → WriteIsPlain w → FormIsPlain (same_value w)
+same_plain w h =
+    or_kept (not_form w.when) (zero_form (difference_term w.value (Slot w.slot))) (not_kept w.when h.condition)
+    (zero_kept (difference_term w.value (Slot w.slot))
+    (difference_kept w.value (Slot w.slot) h.value (slot_plain w.slot)))
+
 pairs_plain : (ws : List CWrite) → Each WriteIsPlain ws → Each FormIsPlain (pair_forms ws)
 pairs_plain [] h = tt
 pairs_plain (w ∷ ws) h =
@@ -114,3 +121,8 @@ module _ (slots : List CSlot) (s : CStmt) (plain : StatementIsPlain s) where
   wp_plain q h =
       and_kept (defined_form slots s) (form_after s.writes q) defined_plain
       (form_kept (slot_after s.writes) (λ n. Param n) (λ n. after_plain s.writes n writes_plain) param_plain q h)
+
+  pub fixed_plain : FormIsPlain (fixed_part slots s)
+  fixed_plain =
+      and_kept (defined_form slots s) (all_of (map same_value s.writes)) defined_plain
+      (all_plain (map same_value s.writes) (each_mapped WriteIsPlain same_value same_plain s.writes writes_plain))

@@ -57,7 +57,7 @@ used_plain c book all (r ∷ rest) fs e =
 -- a step's row
 
 module _ (seen : Around) (c : CProgram) (s : CStep) (book : List Record) (program : ProgramIsPlain c)
-    (plain : StepIsPlain s) (all : Each RecordIsPlain book) where
+    (plain : StepIsPlain s) (all : Each RecordIsPlain book) (programs : Each ProgramIsPlain seen.programs) where
   abbrev claimed : Conclusion → Result Conclusion Code
   claimed x = needs (claims s x) Code.ConclusionDiffers (Ok x)
 
@@ -83,7 +83,8 @@ module _ (seen : Around) (c : CProgram) (s : CStep) (book : List Record) (progra
       let last = met (claims s y) Code.ConclusionDiffers (Ok y) x one.2 in
       let same : y ≡ x = cc (last.1) in
       subst ConclusionIsPlain same
-      (plain_applied site (used_plain c book all s.using u.0 u.1) program book all seen s plain.p plain.q s.rule
+      (plain_applied site (used_plain c book all s.using u.0 u.1) program book all seen programs s plain.p plain.q
+      s.rule
       plain.rule y one.1)
 
 -- plans
@@ -116,16 +117,16 @@ further_plain : (r : Reach) (f : Plan → Reach) → ReachIsPlain r → ((p : Pl
 further_plain (Ok p) f h k = k p h
 further_plain (Err stop) f h k = h
 
-steps_plain : (seen : Around) (c : CProgram) → ProgramIsPlain c → (steps : List CStep) → Each StepIsPlain steps →
-    (plan : Plan) → PlanIsPlain plan → ReachIsPlain (steps_reach seen c steps plan)
-steps_plain seen c program [] all plan h = subst ReachIsPlain (sym (reaches-none seen c plan)) h
-steps_plain seen c program (s ∷ rest) all plan h =
+steps_plain : (seen : Around) → Each ProgramIsPlain seen.programs → (c : CProgram) → ProgramIsPlain c →
+    (steps : List CStep) → Each StepIsPlain steps → (plan : Plan) → PlanIsPlain plan → ReachIsPlain (steps_reach seen c steps plan)
+steps_plain seen programs c program [] all plan h = subst ReachIsPlain (sym (reaches-none seen c plan)) h
+steps_plain seen programs c program (s ∷ rest) all plan h =
     subst ReachIsPlain (sym (reaches-more seen c s rest plan))
     (further_plain (step_reach seen c s plan) (steps_reach seen c rest)
     (subst ReachIsPlain (sym (reach-is seen c s plan))
     (by_row_plain seen.slots c.name s.name plan (rule_of seen c s plan.records) h
-    (row_plain seen c s plan.records program all.0 h.records)))
-    (steps_plain seen c program rest all.1))
+    (row_plain seen c s plan.records program all.0 h.records programs)))
+    (steps_plain seen programs c program rest all.1))
 
 end_plain : (c : CProgram) (plan : Plan) → PlanIsPlain plan → ReachIsPlain (end_reach c plan)
 end_plain c plan h = chosen (has_defined c.name plan.records)
@@ -134,13 +135,14 @@ end_plain c plan h = chosen (has_defined c.name plan.records)
     chosen true = h
     chosen false = h
 
-proof_plain : (seen : Around) (named : Option CProgram) → ((c : CProgram) → named ≡ Some c → ProgramIsPlain c) →
+proof_plain : (seen : Around) → Each ProgramIsPlain seen.programs → (named : Option CProgram) →
+    ((c : CProgram) → named ≡ Some c → ProgramIsPlain c) →
     (proof : CProof) → Each StepIsPlain proof.steps → (plan : Plan) → PlanIsPlain plan →
     ReachIsPlain (proof_reach seen named proof plan)
-proof_plain seen None program proof all plan h = h
-proof_plain seen (Some c) program proof all plan h =
+proof_plain seen programs None program proof all plan h = h
+proof_plain seen programs (Some c) program proof all plan h =
     further_plain (steps_reach seen c proof.steps plan) (end_reach c)
-    (steps_plain seen c (program c refl) proof.steps all plan h) (end_plain c)
+    (steps_plain seen programs c (program c refl) proof.steps all plan h) (end_plain c)
 
 abbrev ProofIsPlain : CProof → Type 0
 ProofIsPlain p = All StepIsPlain p.steps
@@ -157,8 +159,8 @@ proofs_plain seen programs [] all plan h = subst ReachIsPlain (sym (proofs_reach
 proofs_plain seen programs (proof ∷ rest) all plan h =
     subst ReachIsPlain (sym (proofs_reach-more seen proof rest plan))
     (further_plain (proof_reach seen (program_of seen.programs proof.program) proof plan) (proofs_reach seen rest)
-    (proof_plain seen (program_of seen.programs proof.program) (named_plain seen.programs proof.program programs) proof
-    (from_all StepIsPlain proof.steps all.0) plan h)
+    (proof_plain seen programs (program_of seen.programs proof.program)
+    (named_plain seen.programs proof.program programs) proof (from_all StepIsPlain proof.steps all.0) plan h)
     (proofs_plain seen programs rest all.1))
 
 pub plain_leave_none : PlainLeaveNone

@@ -26,7 +26,8 @@ use Rattle.proof_script.proofs.Equations.{taken-is, step-is, steps-none, steps-m
 use Rattle.proof_script.proofs.LoopLaws.{end_keeps, named_program, rule_passed}
 use Rattle.proof_script.proofs.BookLaws.{step_fits}
 
-module _ (seen : Around) (certs : List Cert) (all : All IsSlot seen.slots) where
+module _ (seen : Around) (certs : List Cert) (all : All IsSlot seen.slots)
+    (programs : All (IsProgram seen.slots) seen.programs) where
   -- what was taken so far
   record IsMade (plan : Plan) : Type 0 where
     fits : BookFits seen.slots plan.records
@@ -47,7 +48,7 @@ module _ (seen : Around) (certs : List Cert) (all : All IsSlot seen.slots) where
       (λ (done : Unit {0}). Ok (grown plan d)) new (sym (taken-is
       (most_levels seen.version) certs c.name s.name plan d) ∙ parts.2) in
       let same : grown plan d ≡ new = cc (shown.2) in
-      let told = told_step seen c s plan.records all program good made.fits x ruled in
+      let told = told_step seen c s plan.records all programs program good made.fits x ruled in
       record {
         fits = step_fits seen certs c s plan new good made.fits e;
         makeable = subst (λ (p : Plan). Each IsObligation p.obligations) same
@@ -73,19 +74,19 @@ module _ (seen : Around) (certs : List Cert) (all : All IsSlot seen.slots) where
       subst IsMade (end_keeps c parts.0 new (has_defined c.name parts.0.records) parts.2)
       (steps_make c proof.steps plan parts.0 (program c refl) good made parts.1)
 
-  proofs_make : (proofs : List CProof) (plan new : Plan) → All (IsProgram seen.slots) seen.programs →
+  proofs_make : (proofs : List CProof) (plan new : Plan) →
       All (IsProof seen.slots seen.programs) proofs → IsMade plan → proofs_verdict seen certs proofs plan ≡ Ok new →
       IsMade new
-  proofs_make [] plan new are good made e =
+  proofs_make [] plan new good made e =
       let same : plan ≡ new = cc (sym (proofs-none seen certs plan) ∙ e) in subst IsMade same made
-  proofs_make (proof ∷ rest) plan new are good made e =
+  proofs_make (proof ∷ rest) plan new good made e =
       let named : Option CProgram = program_of seen.programs proof.program in
       let parts = then_so (proof_verdict seen certs named proof plan) (proofs_verdict seen certs rest) new
       (sym (proofs-more seen certs proof rest plan) ∙ e) in
       let first = proof_makes named proof plan parts.0
-      (λ c e. named_program seen.slots seen.programs proof.program c are e)
+      (λ c e. named_program seen.slots seen.programs proof.program c programs e)
       (All-head (IsProof seen.slots seen.programs) proof rest good).steps made parts.1 in
-      proofs_make rest parts.0 new are (All-tail (IsProof seen.slots seen.programs) proof rest good) first parts.2
+      proofs_make rest parts.0 new (All-tail (IsProof seen.slots seen.programs) proof rest good) first parts.2
 
 last_so : (certs : List Cert) (plan last : Plan) (b : Bool) → nat_lt (length plan.obligations) (length certs) ≡ b →
     cond b (Err (surplus_fault (length plan.obligations))) (Ok plan) ≡ Ok last → plan ≡ last
@@ -96,7 +97,7 @@ pub accepted_makes : (d : CDocument) (certs : List Cert) (plan : Plan) → IsCor
     verdict_of d certs ≡ Ok plan → Each IsObligation plan.obligations
 accepted_makes d certs plan good e =
     let parts = then_so (proofs_verdict (document_seen d) certs d.proofs no_plan) (last_verdict certs) plan e in
-    let made = proofs_make (document_seen d) certs good.slots d.proofs no_plan parts.0 good.programs good.proofs
+    let made = proofs_make (document_seen d) certs good.slots good.programs d.proofs no_plan parts.0 good.proofs
     (record { fits = tt; makeable = tt }) parts.1 in
     subst (λ (p : Plan). Each IsObligation p.obligations)
     (last_so certs parts.0 plan (nat_lt (length parts.0.obligations) (length certs)) refl parts.2) made.makeable

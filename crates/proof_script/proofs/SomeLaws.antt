@@ -170,7 +170,7 @@ module _ (ends : SearchEnds) where
     pub goes_on : Goes_on result
     pub follows : SearchGoes result old plan new reach
 
-  module _ (seen : Around) (all : All IsSlot seen.slots) where
+  module _ (seen : Around) (all : All IsSlot seen.slots) (programs : All (IsProgram seen.slots) seen.programs) where
     step_row : (c : CProgram) (s : CStep) (plan : Plan) (old : Finding) → IsProgram seen.slots c → IsStep seen.slots s →
         BookFits seen.slots plan.records → IsUnderWay plan old → (r : Result Conclusion Code) →
         rule_of seen c s plan.records ≡ r → Along old (step_reach seen c s plan)
@@ -188,7 +188,8 @@ module _ (ends : SearchEnds) where
     step_row c s plan old program good fits way (Ok x) e =
         let d : Derived = derived_of seen.slots x in
         let name : StepName = record { program = c.name; step = s.name } in
-        let told : IsStepRow seen.slots c s x = told_step seen c s plan.records all program good fits x e in
+        let told : IsStepRow seen.slots c s x = told_step seen c s plan.records all programs program good fits x
+        e in
         let is : step_reach seen c s plan ≡ Ok (grown plan d) =
         reach-is seen c s plan ∙ ap (λ (r : Result Conclusion Code). by_row seen.slots c.name s.name plan r) e in
         by_search d name told.program told.name is
@@ -321,26 +322,25 @@ module _ (ends : SearchEnds) where
         refl (end_extends c) (steps_end c proof.steps plan old (program c refl) good fits way)
         (λ p new e w. proof_end c proof plan p new e w (has_defined c.name p.records) refl)
 
-    proofs_end : (proofs : List CProof) (plan : Plan) (old : Finding) →
-        All (IsProgram seen.slots) seen.programs → All (IsProof seen.slots seen.programs) proofs →
+    proofs_end : (proofs : List CProof) (plan : Plan) (old : Finding) → All (IsProof seen.slots seen.programs) proofs →
         BookFits seen.slots plan.records → IsUnderWay plan old → Along old (proofs_reach seen proofs plan)
-    proofs_end [] plan old are good fits way = record {
+    proofs_end [] plan old good fits way = record {
       result = Ok tt;
       plan = plan;
       new = old;
       goes_on = tt;
       follows = (proofs_reach-none seen plan, way, refl);
     }
-    proofs_end (proof ∷ rest) plan old are good fits way =
+    proofs_end (proof ∷ rest) plan old good fits way =
         let named : Option CProgram = program_of seen.programs proof.program in
         let steps : All (IsStep seen.slots) proof.steps =
         (All-head (IsProof seen.slots seen.programs) proof rest good).steps in
         joined plan old (proof_reach seen named proof plan) (proofs_reach seen (proof ∷ rest) plan)
         (proofs_reach seen rest) (proofs_reach-more seen proof rest plan)
         (proofs_extend seen rest)
-        (proof_ends named proof plan old (λ c e. named_program seen.slots seen.programs proof.program c are e) steps
+        (proof_ends named proof plan old (λ c e. named_program seen.slots seen.programs proof.program c programs e) steps
         fits way)
-        (λ p new e w. proofs_end rest p new are (All-tail (IsProof seen.slots seen.programs) proof rest good)
+        (λ p new e w. proofs_end rest p new (All-tail (IsProof seen.slots seen.programs) proof rest good)
         (proof_reach_fits seen named proof plan p steps fits e).0 w)
 
 -- the whole document
@@ -362,7 +362,7 @@ by_walk d budget new plan (Err Halt.Memory) g h = absurd g
 
 pub some_finding : SearchEnds → SomeFinding
 some_finding ends d budget good =
-    chosen (proofs_end ends (document_seen d) good.slots d.proofs no_plan (at_first budget) good.programs good.proofs
+    chosen (proofs_end ends (document_seen d) good.slots good.programs d.proofs no_plan (at_first budget) good.proofs
     tt (begins budget no_plan (at_first budget) refl refl))
   where
     chosen : Along ends (at_first budget) (reach_of d) →

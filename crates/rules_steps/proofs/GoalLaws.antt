@@ -1,6 +1,6 @@
 -- What rules leave to be shown can be searched for, and their records have the step's name.
 use Rattle.std.proofs.Common.{◌≡◌, ◌≤ℤ◌, nat_le, ◌^◌, Bool, true, false, cond, ◌&&◌, ◌||◌, List, [], ◌∷◌, ◌++◌, map}
-use Rattle.std.proofs.Common.{length}
+use Rattle.std.proofs.Common.{length, nat_eq}
 use Rattle.std.proofs.Common.{Result, Ok, Err, refl, sym, ap, ◌∙◌, subst}
 use Rattle.std.specs.Prelude.{All, IfOk}
 use Rattle.std.specs.List.{filter}
@@ -29,6 +29,7 @@ use Rattle.obligations.specs.Obligations.{IsObligation}
 use Rattle.obligations.specs.Plain.{height_of}
 use Rattle.obligations.proofs.ObligationLaws.{is-obligation, refused-for-size, refused-for-height}
 use Rattle.wp_substitution.specs.Preconditions.{all_of, defined_form, wp_form}
+use Rattle.fixed_points.specs.FixedForms.{fixed_part}
 use Rattle.fair_rounds.specs.declared.records.Record.{Record}
 use Rattle.rules_table.specs.Conclusion.{Conclusion}
 use Rattle.rules_table.specs.Forms.{any_of, imply}
@@ -37,24 +38,28 @@ use Rattle.rules_table.specs.Validity.{Goal, goal_obligation}
 use Rattle.rules_table.specs.Table.{Site, needs, go_on, goals_of, concluded, defined_forms, kept_form}
 use Rattle.rules_table.specs.Table.{invariant_forms, unless_form, unless_forms, equations, instances_of, names_some}
 use Rattle.rules_table.specs.Table.{meant_forms, helped_form, helper_forms, is_helper, ensures_of, is_unless}
-use Rattle.rules_table.specs.Table.{is_ensures}
-use Rattle.rules_table.specs.Table.{weaken_of, pair_kinds, pair_of, shown_forms, union_defined_of, union_invariant_of}
+use Rattle.rules_table.specs.Table.{is_ensures, fixed_forms}
+use Rattle.rules_table.specs.Further.{complete_of, pair_by}
+use Rattle.rules_table.specs.Table.{weaken_of, pair_kinds, shown_forms, union_defined_of, union_invariant_of}
 use Rattle.rules_table.specs.Table.{union_unless_of, union_ensures_of}
+use Rattle.rules_table.specs.Layers.{starts_below, record_over, superpose_of}
 use Rattle.rules_table.specs.Terms.{all_ranges, derive_of, leads_record, referred, term_of}
 use Rattle.rules_table.specs.declared.led.Led.{Led}
 use Rattle.rules_table.specs.Walk.{Around, again_of, applied, claims, is_kind, proof_of, same_again, step_site}
 use Rattle.rules_table.specs.Walk.{suits, text_of, used}
 use Rattle.rules_table.specs.Walk.{rule_of, part_record, first_part, second_part, serves_union, serves_after, united}
-use Rattle.rules_table.proofs.EachLaws.{Each, from_all, each_join}
-use Rattle.rules_table.proofs.RowEquations.{derive-is, defined-is, invariant-is, unless-is, ensures-is, weaken-is}
+use Rattle.rules_table.proofs.EachLaws.{Each, from_all, each_join, each_at, found_in}
+use Rattle.rules_table.proofs.LayerLaws.{row_met, layer_given}
+use Rattle.rules_table.proofs.RowEquations.{derive-is, defined-is, invariant-is, unless-is, fixed-is, ensures-is}
+use Rattle.rules_table.proofs.RowEquations.{weaken-is}
 use Rattle.rules_table.proofs.SiteLaws.{met, went_on, concluded_is}
-use Rattle.rules_table.proofs.PairLaws.{of_pair}
+use Rattle.rules_table.proofs.PairLaws.{of_pair_by, four_given}
 use Rattle.safety_rules.specs.declared.places.Derived.{Derived}
 use Rattle.safety_rules.specs.declared.places.RuleError.{RuleError}
 use Rattle.safety_rules.specs.Answers.{RuleAnswers, obligations_of}
 use Rattle.safety_rules.specs.Usable.{NamesExist}
 use Rattle.safety_rules.proofs.UsableLaws.{exist_not, exist_or, exist_imply, exist_wp, exist_defined, all_usable}
-use Rattle.safety_rules.proofs.UsableLaws.{all_exist, fits_exist, usable_closed}
+use Rattle.safety_rules.proofs.UsableLaws.{exist_part, all_exist, fits_exist, usable_closed}
 use Rattle.safety_rules.proofs.NameLaws.{meant_exists, helped_exists}
 use Rattle.rules_steps.specs.Steps.{IsStepGiven}
 use Rattle.rules_steps.specs.Using.{BookFits, IsEntry}
@@ -154,6 +159,13 @@ module _ (site : Site) (closed : All (FormFits site.slots []) site.using) (good 
       (All-cons Exist (not_form q) [] (exist_not slots params q k) (All-nil Exist))) (exist_or slots params p q h k))
       site.program.statements statements
 
+  fixed_exist : (p : CForm) → Exist p → Each Exist (fixed_forms site p)
+  fixed_exist p h = each_form (λ s. imply (site.using ++ (p ∷ [])) (fixed_part slots s)) (λ s fits.
+      exist_imply slots params (site.using ++ (p ∷ [])) (fixed_part slots s)
+      (All-append Exist site.using (p ∷ []) here (All-cons Exist p [] h (All-nil Exist)))
+      (exist_part slots params s fits))
+      site.program.statements statements
+
   chosen_first : (b : Bool) (s : CStmt) (ss : List CStmt) → StatementFits slots s → Each (StatementFits slots) ss →
       Each (StatementFits slots) (cond b (s ∷ ss) ss)
   chosen_first true s ss one rest = (one, rest)
@@ -211,6 +223,9 @@ module _ (site : Site) (closed : All (FormFits site.slots []) site.using) (good 
   told_text starts s Kind.Unless h k =
       subst (λ r. GivesTold site r) (sym (unless-is site s.p s.q))
       (told_in site site.params ranges _ (unless_forms site s.p s.q) refl refl (unless_exist s.p s.q h k))
+  told_text starts s Kind.Fixed h k =
+      subst (λ r. GivesTold site r) (sym (fixed-is site s.p))
+      (told_in site site.params ranges _ (fixed_forms site s.p) refl refl (fixed_exist s.p h))
   told_text starts s _ h k = λ (x : Conclusion) e. cc
 
   told_ensures : (p q : CForm) (h : Helper) → FormFits slots params p → FormFits slots params q →
@@ -229,10 +244,26 @@ module _ (site : Site) (closed : All (FormFits site.slots []) site.using) (good 
       (told_needs site (is_unless a.kind || is_ensures a.kind) Code.WrongKind _
       (told_in site site.params ranges _ (imply (site.using ++ (a.q ∷ [])) q ∷ []) refl refl (weaker_exist a.q q h k)))
 
-  told_pair : (which : RuleName) (a b : Record) → GivesTold site (pair_of site which a b)
-  told_pair which a b =
-      of_pair (GivesTold site) site a b which (λ code. λ (x : Conclusion) e. cc) (told_needs site)
-      (λ p q. told_in site site.params ranges _ [] refl refl tt)
+  told_pair : (claimed : Kind) (which : RuleName) (a b : Record) → GivesTold site (pair_by site claimed which a b)
+  told_pair claimed which a b =
+      of_pair_by (GivesTold site) site a b claimed which (λ code. λ (x : Conclusion) e. cc) (told_needs site)
+      (λ p q bound. told_in site site.params ranges _ [] refl refl tt)
+
+  told_complete : (a b c d : Record) → GivesTold site (complete_of site a b c d)
+  unfolding complete_of
+  told_complete a b c d =
+      told_needs site _ Code.WrongKind _ (told_needs site _ Code.MiddleDiffers _
+      (told_needs site _ Code.BoundTooLarge _ (told_in site site.params ranges _ [] refl refl tt)))
+
+  told_superpose : (f : CProgram) (a : Record) → IsProgram slots f → GivesTold site (superpose_of site f a)
+  told_superpose f a below x e =
+      told_in site site.params ranges (record_over site f a) (starts_below site f ∷ []) refl refl (
+        exist_imply slots params (site.using ++ (site.program.initially ∷ [])) f.initially
+            (All-append Exist site.using (site.program.initially ∷ []) here
+            (All-cons Exist site.program.initially [] initially_exists (All-nil Exist)))
+            (usable_closed slots params f.initially below.initially).names,
+        tt,
+      ) x (row_met site f a x e).gives
 
   told_united : (starts : CProgram → Bool) (kind : Kind) (a b : Record) → Each (FormFits slots []) a.under →
       Each (FormFits slots []) b.under → GivesTold site (united starts site kind a b)
@@ -278,26 +309,26 @@ module _ (site : Site) (closed : All (FormFits site.slots []) site.using) (good 
   told_proof s book fit t sees Kind.Leadsto = told_derive book fit t sees
   told_proof s book fit t sees _ = told_again s book (out-PTerm t)
 
-  told_applied : (seen : Around) (s : CStep) (book : List Record) → BookFits slots book →
+  told_applied : (seen : Around) → All (IsProgram slots) seen.programs → (s : CStep) (book : List Record) → BookFits slots book →
       FormFits slots params s.p → FormFits slots params s.q → (rule : CRule) →
       RuleWellScoped slots (params ++ rule_ranges rule) (is_below (length params)) (length params) rule →
       GivesTold site (applied seen site s book rule)
-  told_applied seen s book fit p q CRule.Text sees =
+  told_applied seen programs s book fit p q CRule.Text sees =
       told_text seen.starts s s.kind (fits_exist slots params s.p p) (fits_exist slots params s.q q)
-  told_applied seen s book fit p q (CRule.TextWith h) sees = told_ensures s.p s.q h p q sees
-  told_applied seen s book fit p q (CRule.WeakenStep r) sees = λ (x : Conclusion) e.
+  told_applied seen programs s book fit p q (CRule.TextWith h) sees = told_ensures s.p s.q h p q sees
+  told_applied seen programs s book fit p q (CRule.WeakenStep r) sees = λ (x : Conclusion) e.
       let one = went_on (referred site site.params book (is_kind s.kind) r) (λ (a : Record).
       weaken_of site a s.q) x e in
       let a = referred_is site site.params (is_kind s.kind) book r one.0 fit ranges one.1 in
       told_weaken one.0 s.q (fits_exist slots params one.0.q a.q) (fits_exist slots params s.q q) x one.2
-  told_applied seen s book fit p q (CRule.Pair which r t) sees = λ (x : Conclusion) e.
+  told_applied seen programs s book fit p q (CRule.Pair which r t) sees = λ (x : Conclusion) e.
       let kinds : Kind × Kind = pair_kinds which s.kind in
       let one = went_on (referred site site.params book (is_kind kinds.0) r) (λ (a : Record).
-      go_on (referred site site.params book (is_kind kinds.1) t) (λ b. pair_of site which a b)) x e in
+      go_on (referred site site.params book (is_kind kinds.1) t) (λ b. pair_by site s.kind which a b)) x e in
       let two = went_on (referred site site.params book (is_kind kinds.1) t)
-      (λ (b : Record). pair_of site which one.0 b) x one.2 in
-      told_pair which one.0 two.0 x two.2
-  told_applied seen s book fit p q (CRule.Union r t) sees = λ (x : Conclusion) e.
+      (λ (b : Record). pair_by site s.kind which one.0 b) x one.2 in
+      told_pair s.kind which one.0 two.0 x two.2
+  told_applied seen programs s book fit p q (CRule.Union r t) sees = λ (x : Conclusion) e.
       let one = went_on (part_record site book (first_part site.program.parts) (serves_union s.kind) r)
       (λ (a : Record).
       go_on (part_record site book (second_part site.program.parts) (serves_after s.kind a.kind) t) (λ b.
@@ -308,9 +339,15 @@ module _ (site : Site) (closed : All (FormFits site.slots []) site.using) (good 
       let b = part_is site (serves_after s.kind one.0.kind) book (second_part site.program.parts) t two.0 fit ranges
       two.1 in
       told_united seen.starts s.kind one.0 two.0 a.under b.under x two.2
-  told_applied seen s book fit p q (CRule.Superpose r) sees = λ (x : Conclusion) e. cc
-  told_applied seen s book fit p q (CRule.Complete r t u v) sees = λ (x : Conclusion) e. cc
-  told_applied seen s book fit p q (CRule.Proof t) sees = told_proof s book fit t sees.0 s.kind
+  told_applied seen programs s book fit p q (CRule.Superpose r) sees = λ (x : Conclusion) e.
+      let row = layer_given seen site s book r x e in
+      let at = found_in (λ (c : CProgram). nat_eq c.name row.a.program) seen.programs row.f row.program in
+      told_superpose row.f row.a
+      (each_at (IsProgram slots) seen.programs (from_all (IsProgram slots) seen.programs programs) at.place row.f
+      at.there) x row.gives
+  told_applied seen programs s book fit p q (CRule.Complete r t u v) sees = λ (x : Conclusion) e.
+      let row = four_given site book r t u v x e in told_complete row.a row.b row.c row.d x row.gives
+  told_applied seen programs s book fit p q (CRule.Proof t) sees = told_proof s book fit t sees.0 s.kind
 
 -- what is small and names what exists is an obligation
 module _ (slots : List CSlot) (params : List Range) (f : CForm) (names : NamesExist slots params f)
@@ -355,10 +392,10 @@ module _ (seen : Around) (c : CProgram) (s : CStep) (book : List Record) where
   unfolding rule_of
   rule_row = refl
 
-  pub told_step : All IsSlot seen.slots → IsProgram seen.slots c → IsStep seen.slots s → BookFits seen.slots book →
+  pub told_step : All IsSlot seen.slots → All (IsProgram seen.slots) seen.programs → IsProgram seen.slots c → IsStep seen.slots s → BookFits seen.slots book →
       (x : Conclusion) →
       rule_of seen c s book ≡ Ok x → IsStepRow seen.slots c s x
-  told_step all program good fits x is =
+  told_step all programs program good fits x is =
       let stands = met (may_stand seen c s book) Code.DefinedMissing
       (used_row seen c s book (used c book s.using)) x (sym rule_row ∙ is) in
       let u = went_on (used c book s.using)
@@ -373,8 +410,8 @@ module _ (seen : Around) (c : CProgram) (s : CStep) (book : List Record) where
       let claimed = met (claims s y) Code.ConclusionDiffers (Ok y) x given.2 in
       let same : y ≡ x = cc (claimed.1) in
       let told : Tells site y =
-      told_applied site (used_fit seen.slots c book fits s.using u.0 u.1) program good.params seen s book fits
-      good.p good.q s.rule good.rule y given.1 in
+      told_applied site (used_fit seen.slots c book fits s.using u.0 u.1) program good.params seen programs s book
+      fits good.p good.q s.rule good.rule y given.1 in
       let small = (good_step seen c s book good fits x is).0 in
       subst (λ (z : Conclusion). IsStepRow seen.slots c s z) same (record {
         program = told.program;
@@ -385,12 +422,12 @@ module _ (seen : Around) (c : CProgram) (s : CStep) (book : List Record) where
 
 -- what a call gives for a step
 pub given_step : (seen : Around) (c : CProgram) (s : CStep) (book : List Record) → All IsSlot seen.slots →
-    IsProgram seen.slots c → IsStep seen.slots s → BookFits seen.slots book → (answer : Result Derived RuleError) →
+    All (IsProgram seen.slots) seen.programs → IsProgram seen.slots c → IsStep seen.slots s → BookFits seen.slots book → (answer : Result Derived RuleError) →
     RuleAnswers answer seen.slots (rule_of seen c s book) → IfOk answer (IsStepGiven seen.slots c s)
-given_step seen c s book all program good fits (Err e) h = tt
-given_step seen c s book all program good fits (Ok d) h =
+given_step seen c s book all programs program good fits (Err e) h = tt
+given_step seen c s book all programs program good fits (Ok d) h =
     let x = answered d seen.slots (rule_of seen c s book) h in
-    let told = told_step seen c s book all program good fits x.0 x.1 in
+    let told = told_step seen c s book all programs program good fits x.0 x.1 in
     record {
       program = ap (λ (y : Derived). y.made.program) x.2 ∙ told.program;
       name = ap (λ (y : Derived). y.made.name) x.2 ∙ told.name;

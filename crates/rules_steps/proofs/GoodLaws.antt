@@ -1,5 +1,5 @@
 -- What rules give is small, and their records fit.
-use Rattle.std.proofs.Common.{◌≡◌, ℕ, nat_eq, Bool, true, false, cond, ◌&&◌}
+use Rattle.std.proofs.Common.{◌≡◌, ℕ, max, nat_eq, Bool, true, false, cond, ◌&&◌}
 use Rattle.std.proofs.Common.{◌||◌, List, [], ◌∷◌, ◌++◌, length, Option, Some, None, Result, Ok, refl, sym}
 use Rattle.std.proofs.Common.{ap, ◌∙◌, subst}
 use Rattle.std.specs.Prelude.{All}
@@ -20,21 +20,25 @@ use Rattle.core_terms.specs.declared.documents.PTerm.TheOpen.{PTerm-F}
 use Rattle.core_terms.specs.declared.documents.CRule.{CRule}
 use Rattle.core_terms.specs.declared.documents.CStep.{CStep}
 use Rattle.core_terms.specs.Conditions.{FormFits, IsRange, IsStep, KindFits}
+use Rattle.core_terms.specs.Folding.{and_form, or_form}
 use Rattle.core_terms.specs.Trees.{same_form}
 use Rattle.fair_rounds.specs.declared.records.Record.{Record}
 use Rattle.rules_table.specs.Conclusion.{Conclusion}
 use Rattle.rules_table.specs.Forms.{imply}
 use Rattle.rules_table.specs.Table.{Site, needs, go_on, with_each, record_of, concluded, defined_forms, invariant_forms}
-use Rattle.rules_table.specs.Table.{unless_forms, is_unless, is_ensures, weaken_of, pair_kinds, pair_of}
-use Rattle.rules_table.specs.Table.{instance_of}
+use Rattle.rules_table.specs.Table.{unless_forms, is_unless, is_ensures, weaken_of, pair_kinds}
+use Rattle.rules_table.specs.Further.{complete_of, pair_by}
+use Rattle.rules_table.specs.Layers.{helper_over, starts_below, superpose_of}
+use Rattle.rules_table.specs.Table.{instance_of, fixed_forms}
 use Rattle.rules_table.specs.Terms.{all_ranges, derive_of, found, leads_record, referred, term_of}
 use Rattle.rules_table.specs.declared.led.Led.{Led}
 use Rattle.rules_table.specs.Walk.{Around, again_of, is_kind, proof_of, same_again, suits, text_of, applied}
 use Rattle.rules_table.proofs.EachLaws.{Each, each_join, from_all}
-use Rattle.rules_table.proofs.RowEquations.{defined-is, invariant-is, unless-is, weaken-is}
+use Rattle.rules_table.proofs.RowEquations.{defined-is, invariant-is, unless-is, fixed-is, weaken-is}
 use Rattle.rules_table.proofs.SiteLaws.{went_on, concluded_is}
-use Rattle.rules_table.proofs.KindLaws.{ensures_is, same_kind}
-use Rattle.rules_table.proofs.PairLaws.{pair_kind, pair_helper, of_pair, pair_kind_is}
+use Rattle.rules_table.proofs.KindLaws.{ensures_is, leadsto_is, same_kind}
+use Rattle.rules_table.proofs.LayerLaws.{row_met, layer_given}
+use Rattle.rules_table.proofs.PairLaws.{pair_helper, given_kind, given_helper, of_pair_by, given_kind_is, four_given}
 use Rattle.safety_rules.specs.declared.places.Place.{Place}
 use Rattle.safety_rules.specs.Answers.{site_of, IsPremiseAt}
 use Rattle.safety_rules.specs.Instances.{HelperFits}
@@ -42,7 +46,7 @@ use Rattle.rules_steps.specs.Using.{IsEntry, BookFits}
 use Rattle.rules_steps.proofs.SmallLaws.{IsSmall, small_concluded}
 use Rattle.rules_steps.proofs.ItemLaws.{to_all}
 use Rattle.rules_steps.proofs.LedLaws.{bound_are_ranges, term_fits}
-use Rattle.rules_steps.proofs.ReferredLaws.{IsReferred, instance_row_is, referred_is}
+use Rattle.rules_steps.proofs.ReferredLaws.{IsReferred, instance_row_is, referred_is, other_is}
 use Rattle.leadsto_rules.specs.Leading.{IsTermIn}
 use Rattle.rules_steps.proofs.UsingLaws.{found_entry, known_so}
 use Rattle.core_terms.specs.Conditions.{TermWellScoped, RuleWellScoped, bound_ranges, is_below, rule_ranges}
@@ -82,12 +86,13 @@ good_needs : (site : Site) (kind : Kind) (b : Bool) (code : Code) (rest : Result
 good_needs site kind true code rest h = h
 good_needs site kind false code rest h = λ (x : Conclusion) e. cc
 
-good_concluded : (site : Site) (kind : Kind) (p q : CForm) (more : List CForm) (helper : Option Helper)
+good_within : (site : Site) (kind : Kind) (p q : CForm) (more : List CForm) (helper : Option Helper) (bound : ℕ)
     (forms : List CForm) → HelperFits site.params helper → Each (FormFits site.slots []) site.using →
     Each (FormFits site.slots []) more →
-    GivesGood site kind (concluded site.slots site.params (record_of site kind p q more helper) forms)
-good_concluded site kind p q more helper forms plain using each x e =
-    let made : Record = record_of site kind p q more helper in
+    GivesGood site kind (concluded site.slots site.params
+    (record (record_of site kind p q more helper) { bound = bound }) forms)
+good_within site kind p q more helper bound forms plain using each x e =
+    let made : Record = record (record_of site kind p q more helper) { bound = bound } in
     let is = concluded_is site.slots site.params made forms x e in
     record {
       small = small_concluded site.slots site.params made forms x e;
@@ -98,6 +103,12 @@ good_concluded site kind p q more helper forms plain using each x e =
       helper = subst (λ (y : Conclusion). HelperFits site.params y.made.helper) (sym is) plain;
       kind_is = ap (λ (y : Conclusion). y.made.kind) is;
     }
+
+good_concluded : (site : Site) (kind : Kind) (p q : CForm) (more : List CForm) (helper : Option Helper)
+    (forms : List CForm) → HelperFits site.params helper → Each (FormFits site.slots []) site.using →
+    Each (FormFits site.slots []) more →
+    GivesGood site kind (concluded site.slots site.params (record_of site kind p q more helper) forms)
+good_concluded site kind p q more helper forms = good_within site kind p q more helper 0 forms
 
 -- rows
 
@@ -113,6 +124,9 @@ good_text starts site s Kind.Invariant using =
 good_text starts site s Kind.Unless using =
     subst (λ r. GivesGood site Kind.Unless r) (sym (unless-is site s.p s.q))
     (good_concluded site Kind.Unless s.p s.q [] None (unless_forms site s.p s.q) tt using tt)
+good_text starts site s Kind.Fixed using =
+    subst (λ r. GivesGood site Kind.Fixed r) (sym (fixed-is site s.p))
+    (good_concluded site Kind.Fixed s.p Bottom [] None (fixed_forms site s.p) tt using tt)
 good_text starts site s _ using = λ (x : Conclusion) e. cc
 
 good_ensures : (site : Site) (p q : CForm) (h : Helper) → Each (FormFits site.slots []) site.using →
@@ -135,15 +149,56 @@ helper_kept : (params : List Range) (which : RuleName) (helper : Option Helper) 
 helper_kept params RuleName.Conj helper h = h
 helper_kept params _ helper h = tt
 
-good_pair : (site : Site) (which : RuleName) (a b : Record) → Each (FormFits site.slots []) site.using →
-    Each (FormFits site.slots []) a.under → Each (FormFits site.slots []) b.under → HelperFits site.params b.helper →
-    GivesGood site (pair_kind which b.kind) (pair_of site which a b)
-good_pair site which a b using first second plain =
-    let kind : Kind = pair_kind which b.kind in
-    of_pair (GivesGood site kind) site a b which (λ code. λ (x : Conclusion) e. cc) (good_needs site kind)
-    (λ p q. good_concluded site kind p q (a.under ++ b.under) (pair_helper which b.helper) []
-    (helper_kept site.params which b.helper plain) using
+helper_given : (params : List Range) (claimed : Kind) (which : RuleName) (helper : Option Helper) →
+    HelperFits params helper → HelperFits params (given_helper claimed which helper)
+helper_given params Kind.Leadsto which helper h = tt
+helper_given params Kind.Until which helper h = tt
+helper_given params Kind.Detects which helper h = tt
+helper_given params Kind.Constant which helper h = tt
+helper_given params Kind.Defined which helper h = helper_kept params which helper h
+helper_given params Kind.Invariant which helper h = helper_kept params which helper h
+helper_given params Kind.Unless which helper h = helper_kept params which helper h
+helper_given params Kind.Ensures which helper h = helper_kept params which helper h
+helper_given params Kind.Fixed which helper h = helper_kept params which helper h
+
+good_pair : (site : Site) (claimed : Kind) (which : RuleName) (a b : Record) →
+    Each (FormFits site.slots []) site.using → Each (FormFits site.slots []) a.under →
+    Each (FormFits site.slots []) b.under → HelperFits site.params b.helper →
+    GivesGood site (given_kind claimed which b.kind) (pair_by site claimed which a b)
+good_pair site claimed which a b using first second plain =
+    let kind : Kind = given_kind claimed which b.kind in
+    of_pair_by (GivesGood site kind) site a b claimed which (λ code. λ (x : Conclusion) e. cc) (good_needs site kind)
+    (λ p q bound. good_within site kind p q (a.under ++ b.under) (given_helper claimed which b.helper) bound []
+    (helper_given site.params claimed which b.helper plain) using
     (each_join (FormFits site.slots []) a.under b.under first second))
+
+good_complete : (site : Site) (a b c d : Record) → Each (FormFits site.slots []) site.using →
+    Each (FormFits site.slots []) a.under → Each (FormFits site.slots []) b.under →
+    Each (FormFits site.slots []) c.under → Each (FormFits site.slots []) d.under →
+    GivesGood site Kind.Leadsto (complete_of site a b c d)
+unfolding complete_of
+good_complete site a b c d using first second third fourth =
+    let more : List CForm = (a.under ++ b.under) ++ (c.under ++ d.under) in
+    good_needs site Kind.Leadsto _ Code.WrongKind _ (good_needs site Kind.Leadsto _ Code.MiddleDiffers _
+    (good_needs site Kind.Leadsto _ Code.BoundTooLarge _
+    (good_within site Kind.Leadsto (and_form a.p c.p) (or_form (and_form b.p d.p) b.q) more None
+    (max a.bound c.bound) [] tt using
+    (each_join (FormFits site.slots []) (a.under ++ b.under) (c.under ++ d.under)
+    (each_join (FormFits site.slots []) a.under b.under first second)
+    (each_join (FormFits site.slots []) c.under d.under third fourth)))))
+
+-- the layer's instance has the indices of the one below
+helper_above : (params : List Range) (h f : CProgram) (helper : Option Helper) → HelperFits params helper →
+    HelperFits params (helper_over h f helper)
+helper_above params h f None fits = fits
+helper_above params h f (Some x) fits = fits
+
+good_superpose : (site : Site) (f : CProgram) (a : Record) → Each (FormFits site.slots []) site.using →
+    Each (FormFits site.slots []) a.under → HelperFits site.params a.helper →
+    GivesGood site a.kind (superpose_of site f a)
+good_superpose site f a using under plain x e =
+    good_within site a.kind a.p a.q a.under (helper_over site.program f a.helper) a.bound (starts_below site f ∷ [])
+    (helper_above site.params site.program f a.helper plain) using under x (row_met site f a x e).gives
 
 first_helps : (params : List Range) (b : Bool) (one two : Option Helper) → HelperFits params one →
     HelperFits params two → HelperFits params (cond b one two)
@@ -194,7 +249,7 @@ part_is site serves book None r a fit ranges e = absurd (never_given (found book
 part_is site serves book (Some part) r a fit ranges e =
     let there = went_on (found book r) (λ (b : Record). needs (nat_eq b.program part) Code.OtherProgram (
     needs (serves b.kind) Code.WrongKind (instance_of site site.params b r.args))) a e in
-    instance_row_is site site.params part serves there.0 a r.args
+    instance_row_is site site.params (nat_eq there.0.program part) serves there.0 a r.args
     (found_entry site.slots book r.program r.step there.0 fit
     (known_so (find (λ (d : Record). nat_eq d.program r.program && nat_eq d.name r.step) book) there.0 there.1))
     ranges there.2
@@ -281,13 +336,13 @@ good_applied seen site s book fit ranges using (CRule.WeakenStep r) suited sees 
 good_applied seen site s book fit ranges using (CRule.Pair which r t) suited sees = λ (x : Conclusion) e.
     let kinds : Kind × Kind = pair_kinds which s.kind in
     let one = went_on (referred site site.params book (is_kind kinds.0) r) (λ (a : Record).
-    go_on (referred site site.params book (is_kind kinds.1) t) (λ b. pair_of site which a b)) x e in
+    go_on (referred site site.params book (is_kind kinds.1) t) (λ b. pair_by site s.kind which a b)) x e in
     let two = went_on (referred site site.params book (is_kind kinds.1) t)
-    (λ (b : Record). pair_of site which one.0 b) x one.2 in
+    (λ (b : Record). pair_by site s.kind which one.0 b) x one.2 in
     let a = referred_is site site.params (is_kind kinds.0) book r one.0 fit ranges one.1 in
     let b = referred_is site site.params (is_kind kinds.1) book t two.0 fit ranges two.1 in
-    subst (λ (k : Kind). IsGood site k x) (pair_kind_is seen.version which two.0.kind s.kind b.kind suited)
-    (good_pair site which one.0 two.0 using a.under b.under b.helper x two.2)
+    subst (λ (k : Kind). IsGood site k x) (given_kind_is seen.version which two.0.kind s.kind b.kind suited)
+    (good_pair site s.kind which one.0 two.0 using a.under b.under b.helper x two.2)
 good_applied seen site s book fit ranges using (CRule.TextWith h) suited sees =
     subst (λ (k : Kind). GivesGood site k (ensures_of site s.p s.q h)) (sym (ensures_is s.kind suited))
     (good_ensures site s.p s.q h using (helper_seen site.params (is_below (length site.params)) h ranges sees))
@@ -301,8 +356,21 @@ good_applied seen site s book fit ranges using (CRule.Union r t) suited sees = �
     let b = part_is site (serves_after s.kind one.0.kind) book (second_part site.program.parts) t two.0 fit ranges
     two.1 in
     good_united seen.starts site s.kind one.0 two.0 using a.under b.under a.helper b.helper x two.2
-good_applied seen site s book fit ranges using (CRule.Superpose r) suited sees = λ (x : Conclusion) e. cc
-good_applied seen site s book fit ranges using (CRule.Complete r t u v) suited sees = λ (x : Conclusion) e. cc
+good_applied seen site s book fit ranges using (CRule.Superpose r) suited sees = λ (x : Conclusion) e.
+    let row = layer_given seen site s book r x e in
+    let a = other_is site (is_kind s.kind) book r row.a fit ranges row.referred in
+    subst (λ (k : Kind). IsGood site k x) (same_kind s.kind row.a.kind a.kind)
+    (good_superpose site row.f row.a using a.under a.helper x row.gives)
+good_applied seen site s book fit ranges using (CRule.Complete r t u v) suited sees = λ (x : Conclusion) e.
+    let leads : Kind → Bool = is_kind Kind.Leadsto in
+    let ends : Kind → Bool = is_kind Kind.Unless in
+    let row = four_given site book r t u v x e in
+    let a = referred_is site site.params leads book r row.a fit ranges row.first in
+    let b = referred_is site site.params ends book t row.b fit ranges row.second in
+    let c = referred_is site site.params leads book u row.c fit ranges row.third in
+    let d = referred_is site site.params ends book v row.d fit ranges row.fourth in
+    subst (λ (k : Kind). IsGood site k x) (sym (leadsto_is s.kind suited))
+    (good_complete site row.a row.b row.c row.d using a.under b.under c.under d.under x row.gives)
 good_applied seen site s book fit ranges using (CRule.Proof t) suited sees =
     good_proof site s book fit ranges using t sees.0 s.kind refl
 

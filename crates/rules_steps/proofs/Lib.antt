@@ -1,3 +1,4 @@
+pub mod AnswerLaws
 pub mod GoalLaws
 pub mod GoodLaws
 pub mod HelperLaws

@@ -19,7 +19,10 @@ use Rattle.fair_rounds.specs.declared.records.Record.{Record}
 use Rattle.rules_table.specs.Limits.{fits}
 use Rattle.rules_table.specs.Table.{Site, needs, is_slot, are_arguments, record_with, instance_of}
 use Rattle.rules_table.specs.Terms.{found, referred}
+use Rattle.rules_table.specs.Walk.{other_record}
+use Rattle.rules_table.proofs.CalcSound.{instance_is as instance_made}
 use Rattle.rules_table.proofs.EachLaws.{Each, from_all}
+use Rattle.rules_table.proofs.LayerLaws.{other_given}
 use Rattle.rules_table.proofs.RowEquations.{instance-is}
 use Rattle.rules_table.proofs.SiteLaws.{met, went_on}
 use Rattle.safety_rules.specs.Instances.{CanPut, HelperFits}
@@ -76,14 +79,13 @@ instance_is site ranges serves b a args entry all served e =
       kind = served;
     })
 
-pub instance_row_is : (site : Site) (ranges : List Range) (program : ℕ) (serves : Kind → Bool) (b a : Record) (args :
-    List Arg) →
-    IsEntry site.slots b → All IsRange ranges → needs (nat_eq b.program program) Code.OtherProgram
+pub instance_row_is : (site : Site) (ranges : List Range) (mine : Bool) (serves : Kind → Bool) (b a : Record)
+    (args : List Arg) → IsEntry site.slots b → All IsRange ranges → needs mine Code.OtherProgram
     (needs (serves b.kind) Code.WrongKind (instance_of site ranges b args)) ≡ Ok a → IsReferred site ranges serves a
-instance_row_is site ranges program serves b a args entry all e =
-    let mine = met (nat_eq b.program program) Code.OtherProgram
+instance_row_is site ranges mine serves b a args entry all e =
+    let one = met mine Code.OtherProgram
     (needs (serves b.kind) Code.WrongKind (instance_of site ranges b args)) a e in
-    let served = met (serves b.kind) Code.WrongKind (instance_of site ranges b args) a mine.1 in
+    let served = met (serves b.kind) Code.WrongKind (instance_of site ranges b args) a one.1 in
     instance_is site ranges serves b a args entry all served.0 served.1
 
 pub referred_is : (site : Site) (ranges : List Range) (serves : Kind → Bool) (book : List Record) (r : Ref) (a :
@@ -94,7 +96,20 @@ referred_is site ranges serves book r a fit all e =
     let there = went_on (found book r) (λ (b : Record).
     needs (nat_eq b.program site.program.name) Code.OtherProgram (
     needs (serves b.kind) Code.WrongKind (instance_of site ranges b r.args))) a e in
-    instance_row_is site ranges site.program.name serves there.0 a r.args
+    instance_row_is site ranges (nat_eq there.0.program site.program.name) serves there.0 a r.args
     (found_entry site.slots book r.program r.step there.0 fit
     (known_so (find (λ (d : Record). nat_eq d.program r.program && nat_eq d.name r.step) book) there.0 there.1))
     all there.2
+
+-- the record of another program that a reference names
+pub other_is : (site : Site) (serves : Kind → Bool) (book : List Record) (r : Ref) (a : Record) →
+    BookFits site.slots book → All IsRange site.params → other_record site book serves r ≡ Ok a →
+    IsReferred site site.params serves a
+other_is site serves book r a fit all e =
+    let other = other_given site book serves r a e in
+    let b : Record = other.a in
+    let is = instance_made site site.params b r.args a other.gives in
+    instance_is site site.params serves b a r.args
+    (found_entry site.slots book r.program r.step b fit
+    (known_so (find (λ (d : Record). nat_eq d.program r.program && nat_eq d.name r.step) book) b other.there))
+    all (subst (λ (m : Record). serves m.kind ≡ true) (sym is.1) other.serving) other.gives

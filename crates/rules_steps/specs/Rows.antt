@@ -10,7 +10,8 @@ use Rattle.core_terms.specs.declared.documents.Ref.{Ref}
 use Rattle.core_terms.specs.declared.documents.CStep.{CStep}
 use Rattle.fair_rounds.specs.declared.records.Record.{Record}
 use Rattle.rules_table.specs.Conclusion.{Conclusion}
-use Rattle.rules_table.specs.Table.{Site, go_on, pair_kinds, pair_of, weaken_of}
+use Rattle.rules_table.specs.Table.{Site, go_on, pair_kinds, weaken_of}
+use Rattle.rules_table.specs.Further.{complete_of, pair_by}
 use Rattle.rules_table.specs.Terms.{referred}
 use Rattle.rules_table.specs.Walk.{first_part, second_part, is_kind, part_record, same_again, serves_union}
 use Rattle.rules_table.specs.Walk.{serves_after, united}
@@ -24,7 +25,16 @@ weaken_row site step book r =
 abbrev pub pair_row : Site → Kind → List Record → RuleName → Ref → Ref → Result Conclusion Code
 pair_row site kind book which r s =
     go_on (referred site site.params book (is_kind (pair_kinds which kind).0) r) (λ a.
-    go_on (referred site site.params book (is_kind (pair_kinds which kind).1) s) (λ b. pair_of site which a b))
+    go_on (referred site site.params book (is_kind (pair_kinds which kind).1) s) (λ b.
+    pair_by site kind which a b))
+
+-- `complete` with four steps
+abbrev pub complete_row : Site → List Record → Ref → Ref → Ref → Ref → Result Conclusion Code
+complete_row site book r s t u =
+    go_on (referred site site.params book (is_kind Kind.Leadsto) r) (λ a.
+    go_on (referred site site.params book (is_kind Kind.Unless) s) (λ b.
+    go_on (referred site site.params book (is_kind Kind.Leadsto) t) (λ c.
+    go_on (referred site site.params book (is_kind Kind.Unless) u) (λ d. complete_of site a b c d))))
 
 -- `from R` for an unless or an ensures
 abbrev pub again_row : Site → Kind → List Record → Ref → Result Conclusion Code

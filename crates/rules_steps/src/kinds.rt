@@ -1,6 +1,7 @@
 // Kinds of steps, and which rules give them.
 ghost use Rattle.std.specs.Prelude.{◌≡◌, ◌||◌};
 ghost use Rattle.core_terms.specs.declared.documents.PTerm.{out-PTerm};
+ghost use Rattle.rules_table.specs.Further as further;
 ghost use Rattle.rules_table.specs.Table as table;
 ghost use Rattle.rules_table.specs.Walk as walk;
 
@@ -8,6 +9,7 @@ use case_tables::{Kind, RuleName};
 use core_terms::{CRule, PTerm};
 use fair_rounds::Record;
 use safety_rules::{is_ensures, is_unless};
+use superposition::is_carried;
 
 pub(crate) fn is_defined(kind: Kind) -> bool
     ensures { result ≡ table.is_defined kind }
@@ -22,7 +24,7 @@ pub(crate) fn is_invariant(kind: Kind) -> bool
 }
 
 fn is_leadsto(kind: Kind) -> bool
-    ensures { result ≡ walk.is_leadsto kind }
+    ensures { result ≡ further.is_leadsto kind }
 {
     matches!(kind, Kind::Leadsto)
 }
@@ -109,7 +111,10 @@ fn suits_pair(version: u64, which: RuleName, kind: Kind) -> bool
         RuleName::Simpleconj => is_unless(kind),
         RuleName::Disj => is_unless(kind),
         RuleName::Simpledisj => is_unless(kind),
-        RuleName::Cancel => is_unless(kind),
+        RuleName::Cancel => is_unless(kind) || (is_leadsto(kind) && version == 2),
+        RuleName::Until => is_until(kind),
+        RuleName::Detects => is_detects(kind),
+        RuleName::Constant => is_constant(kind),
         _ => false,
     }
 }
@@ -119,6 +124,7 @@ pub(crate) fn pair_kinds(which: RuleName, kind: Kind) -> (Kind, Kind)
     ensures { result ≡ table.pair_kinds which kind }
 {
     match which {
+        RuleName::Cancel => (kind, kind),
         RuleName::Until => (Kind::Unless, Kind::Leadsto),
         RuleName::Detects => (Kind::Invariant, Kind::Leadsto),
         RuleName::Constant => (Kind::Unless, Kind::Unless),
@@ -141,13 +147,13 @@ pub(crate) fn suits(version: u64, rule: &CRule, kind: Kind) -> bool
     ensures { result ≡ walk.suits version rule.now kind }
 {
     match rule {
-        CRule::Text => is_first(kind) || is_unless(kind),
+        CRule::Text => is_first(kind) || is_unless(kind) || is_fixed(kind),
         CRule::TextWith(_) => is_ensures(kind),
         CRule::WeakenStep(_) => has_end(kind),
         CRule::Pair(which, _, _) => suits_pair(version, *which, kind),
         CRule::Union(_, _) => is_first(kind) || has_end(kind),
-        CRule::Superpose(_) => false,
-        CRule::Complete(_, _, _, _) => false,
+        CRule::Superpose(_) => is_carried(kind),
+        CRule::Complete(_, _, _, _) => is_leadsto(kind),
         CRule::Proof(t) => suits_term(t, kind),
     }
 }

@@ -3,6 +3,7 @@
 
 mod around;
 mod kinds;
+mod layers;
 mod references;
 mod ruling;
 mod terms;

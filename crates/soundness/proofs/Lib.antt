@@ -5,3 +5,4 @@ pub mod Sources
 pub mod Claims
 pub mod Starts
 pub mod Lines
+pub mod LayerRuns

@@ -25,18 +25,22 @@ use Rattle.rules_table.specs.Forms.{imply}
 use Rattle.rules_table.specs.Table.{Site, needs, go_on, record_of, concluded, is_defined, is_invariant, is_unless}
 use Rattle.rules_table.specs.Table.{is_ensures, defined_forms, defined_of, invariant_forms, invariant_of, unless_forms}
 use Rattle.rules_table.specs.Table.{unless_of, is_helper, helper_forms, ensures_of, weaken_of}
-use Rattle.rules_table.specs.Table.{pair_kinds, pair_of, shown_forms, first_helper, ending, is_part_pair}
+use Rattle.rules_table.specs.Further.{complete_of, pair_by}
+use Rattle.rules_table.specs.Table.{pair_kinds, shown_forms, first_helper, ending, is_part_pair}
 use Rattle.rules_table.specs.Table.{union_defined_of, union_invariant_of, union_unless_of, union_ensures_of}
-use Rattle.rules_table.specs.Table.{instance_of}
+use Rattle.rules_table.specs.Table.{instance_of, fixed_forms, fixed_of}
+use Rattle.rules_table.specs.Layers.{starts_below, record_over, superpose_of}
 use Rattle.rules_table.specs.Terms.{found, referred, term_of, all_ranges, leads_record, derive_of}
-use Rattle.rules_table.specs.Walk.{Around, is_kind, is_first, has_defined, used, suits_term, suits_pair, suits}
+use Rattle.rules_table.specs.Walk.{Around, is_kind, is_first, has_defined, used, suits_term, suits}
 use Rattle.rules_table.specs.Walk.{text_of}
 use Rattle.rules_table.specs.Walk.{same_again, again_of, proof_of, part_record, first_part, second_part, serves_union}
 use Rattle.rules_table.specs.Walk.{serves_after, united, applied, claims, step_site, rule_of}
 use Rattle.rules_table.proofs.SiteLaws.{met, went_on, concluded_is}
-use Rattle.rules_table.proofs.KindLaws.{ensures_is, same_kind}
-use Rattle.rules_table.proofs.PairLaws.{pair_kind, pair_helper, of_pair, pair_kind_is}
+use Rattle.rules_table.proofs.KindLaws.{ensures_is, leadsto_is, same_kind}
+use Rattle.rules_table.proofs.PairLaws.{given_kind, given_helper, of_two, of_pair_by, given_kind_is, four_given}
+use Rattle.rules_table.proofs.PairLaws.{no_defined}
 use Rattle.rules_table.proofs.CalcSound.{instance_is}
+use Rattle.rules_table.proofs.LayerLaws.{row_met, other_given, layer_given}
 use Rattle.soundness.specs.PlanSteps.{of_program, IsRecordOf}
 
 -- a step of a program, at any place of a proof
@@ -78,12 +82,13 @@ module _ (seen : Around) (c : CProgram) (step : CStep) (book : List Record) (usi
       end_gives kind step.params (record_of site kind p q more helper) forms (made_fits kind p q more helper)
 
   text_gives : (k : Kind) → Gives k (text_of seen.starts site step k)
-  unfolding defined_of invariant_of unless_of
+  unfolding defined_of invariant_of unless_of fixed_of
   text_gives Kind.Defined =
       need_gives Kind.Defined (seen.starts c) Code.NoStart _ (made_gives Kind.Defined Top Top [] None
       (defined_forms site))
   text_gives Kind.Invariant = made_gives Kind.Invariant step.p Bottom [] None (invariant_forms site step.p)
   text_gives Kind.Unless = made_gives Kind.Unless step.p step.q [] None (unless_forms site step.p step.q)
+  text_gives Kind.Fixed = made_gives Kind.Fixed step.p Bottom [] None (fixed_forms site step.p)
   text_gives _ = λ y e. cc
 
   ensures_gives : (h : Helper) → Gives Kind.Ensures (ensures_of site step.p step.q h)
@@ -99,11 +104,21 @@ module _ (seen : Around) (c : CProgram) (step : CStep) (book : List Record) (usi
       need_gives a.kind (is_unless a.kind || is_ensures a.kind) Code.WrongKind _
       (made_gives a.kind a.p step.q a.under a.helper (imply (using ++ (a.q ∷ [])) step.q ∷ []))
 
-  pair_gives : (which : RuleName) (a b : Record) → Gives (pair_kind which b.kind) (pair_of site which a b)
-  pair_gives which a b =
-      let kind : Kind = pair_kind which b.kind in
-      of_pair (Gives kind) site a b which (λ code y e. cc) (need_gives kind)
-      (λ p q. made_gives kind p q (a.under ++ b.under) (pair_helper which b.helper) [])
+  pair_gives : (claimed : Kind) (which : RuleName) (a b : Record) →
+      Gives (given_kind claimed which b.kind) (pair_by site claimed which a b)
+  pair_gives claimed which a b =
+      let kind : Kind = given_kind claimed which b.kind in
+      let helper : Option Helper = given_helper claimed which b.helper in
+      of_pair_by (Gives kind) site a b claimed which (λ code y e. cc) (need_gives kind)
+      (λ p q bound. end_gives kind step.params (of_two site kind helper p q bound a b) []
+      (record { name = refl; program = refl; kind_is = refl; params = refl }))
+
+  complete_gives : (a b d f : Record) → Gives Kind.Leadsto (complete_of site a b d f)
+  unfolding complete_of
+  complete_gives a b d f =
+      need_gives Kind.Leadsto _ Code.WrongKind _ (need_gives Kind.Leadsto _ Code.MiddleDiffers _
+      (need_gives Kind.Leadsto _ Code.BoundTooLarge _ (end_gives Kind.Leadsto step.params _ []
+      (record { name = refl; program = refl; kind_is = refl; params = refl }))))
 
   -- a reference gives a record of a kind that serves
   referred_serves : (serves : Kind → Bool) (r : Ref) (b : Record) →
@@ -117,6 +132,11 @@ module _ (seen : Around) (c : CProgram) (step : CStep) (book : List Record) (usi
       let three = met (serves a.kind) Code.WrongKind (instance_of site step.params a r.args) b two.1 in
       let is = instance_is site step.params a r.args b three.1 in
       subst (λ (m : Record). IsTrue (serves m.kind)) is.1 three.0
+
+  superpose_gives : (f : CProgram) (a : Record) → Gives a.kind (superpose_of site f a)
+  superpose_gives f a y e =
+      end_gives a.kind step.params (record_over site f a) (starts_below site f ∷ [])
+      (record { name = refl; program = refl; kind_is = refl; params = refl }) y (row_met site f a y e).gives
 
   -- a record of the claimed kind, by which the kind of an answer is told
   referred_gives : (r : Ref) (f : Record → Result Conclusion Code) → ((a : Record) → Gives a.kind (f a)) →
@@ -191,16 +211,23 @@ module _ (seen : Around) (c : CProgram) (step : CStep) (book : List Record) (usi
   applied_gives (CRule.Pair which r s) suited = λ y e.
       let kinds : Kind × Kind = pair_kinds which step.kind in
       let one = went_on (referred site step.params book (is_kind kinds.0) r) (λ a.
-      go_on (referred site step.params book (is_kind kinds.1) s) (λ b. pair_of site which a b)) y e in
-      let two = went_on (referred site step.params book (is_kind kinds.1) s) (λ b. pair_of site which one.0 b) y
-      one.2 in
+      go_on (referred site step.params book (is_kind kinds.1) s) (λ b. pair_by site step.kind which a b)) y e in
+      let two = went_on (referred site step.params book (is_kind kinds.1) s)
+      (λ b. pair_by site step.kind which one.0 b) y one.2 in
       subst (λ k. Fits k y.made)
-      (pair_kind_is seen.version which two.0.kind step.kind (referred_serves (is_kind kinds.1) s two.0 two.1) suited)
-      (pair_gives which one.0 two.0 y two.2)
+      (given_kind_is seen.version which two.0.kind step.kind (referred_serves (is_kind kinds.1) s two.0 two.1) suited)
+      (pair_gives step.kind which one.0 two.0 y two.2)
   applied_gives (CRule.Union r s) suited = λ y e.
       let parts = parts_give r s y e in united_gives parts.0 parts.1 step.kind y parts.2
-  applied_gives (CRule.Superpose r) suited = λ y e. cc
-  applied_gives (CRule.Complete r s t u) suited = λ y e. cc
+  applied_gives (CRule.Superpose r) suited = λ y e.
+      let row = layer_given seen site step book r y e in
+      let other = other_given site book (is_kind step.kind) r row.a row.referred in
+      subst (λ k. Fits k y.made) (same_kind step.kind row.a.kind other.serving)
+      (superpose_gives row.f row.a y row.gives)
+  applied_gives (CRule.Complete r s t u) suited = λ y e.
+      let row = four_given site book r s t u y e in
+      subst (λ k. Fits k y.made) (sym (leadsto_is step.kind suited))
+      (complete_gives row.a row.b row.c row.d y row.gives)
   applied_gives (CRule.Proof t) suited = proof_gives t step.kind refl
 
   -- a `defined` step asks that the program passes the test of start states
@@ -224,17 +251,13 @@ module _ (seen : Around) (c : CProgram) (step : CStep) (book : List Record) (usi
   no_term (PTerm-F.From r) h = cc
   no_term _ h = cc
 
-  no_pair : (which : RuleName) → IsTrue (suits_pair seen.version which Kind.Defined) → ⊥
-  no_pair RuleName.Conj h = cc
-  no_pair _ h = cc
-
   applied_starts : (rule : CRule) → step.kind ≡ Kind.Defined → IsTrue (suits seen.version rule Kind.Defined) →
       (y : Conclusion) →
       applied seen site step book rule ≡ Ok y → IsTrue (seen.starts c)
   applied_starts CRule.Text is suited y e = text_starts step.kind is y e
   applied_starts (CRule.TextWith h) is suited y e = cc
   applied_starts (CRule.WeakenStep r) is suited y e = cc
-  applied_starts (CRule.Pair which r s) is suited y e = absurd (no_pair which suited)
+  applied_starts (CRule.Pair which r s) is suited y e = absurd (no_defined seen.version which suited)
   applied_starts (CRule.Union r s) is suited y e =
       let parts = parts_give r s y e in united_starts parts.0 parts.1 step.kind is y parts.2
   applied_starts (CRule.Superpose r) is suited y e = cc

@@ -3,3 +3,4 @@ pub mod PlanSteps
 pub mod Properties
 pub mod Executions
 pub mod Told
+pub mod Layers

@@ -4,11 +4,13 @@
 #![tactic(auto)]
 
 mod plans;
+mod projections;
 mod properties;
 mod texts;
 mod told;
 
 pub use plans::plan_laws;
+pub use projections::{projection_laws, superposed_laws};
 pub use properties::{claim_laws, execution_laws};
 pub use texts::text_laws;
 pub use told::told_laws;

@@ -1,5 +1,5 @@
 -- What is accepted of a document is accepted of it in version 2.
-use Rattle.std.proofs.Common.{◌≡◌, ◌≤◌, ℕ, suc, Bool, true, false, cond, ◌||◌, nat_eq, List, [], ◌∷◌, length}
+use Rattle.std.proofs.Common.{◌≡◌, ◌≤◌, ℕ, suc, Bool, true, false, cond, ◌&&◌, ◌||◌, nat_eq, List, [], ◌∷◌, length}
 use Rattle.std.proofs.Common.{slice_get, Option, Some, None, Result, Ok, Err, refl, sym, ap, ◌∙◌, arith}
 use Rattle.case_tables.specs.declared.code_table.Code.{Code}
 use Rattle.case_tables.specs.declared.kind_table.Kind.{Kind}
@@ -15,7 +15,8 @@ use Rattle.certificate_check.specs.Refutation.{WalkResult, walk_from_root}
 use Rattle.certificate_check.proofs.WholeLaws.{more-levels}
 use Rattle.fair_rounds.specs.declared.records.Record.{Record}
 use Rattle.rules_table.specs.Conclusion.{Conclusion}
-use Rattle.rules_table.specs.Table.{Site, needs, go_on}
+use Rattle.rules_table.specs.Table.{Site, needs, go_on, is_unless}
+use Rattle.rules_table.specs.Further.{is_leadsto}
 use Rattle.rules_table.specs.Walk.{Around, is_first, has_defined, program_of, used, suits, applied, claims, step_site}
 use Rattle.rules_table.specs.Walk.{rule_of}
 use Rattle.safety_rules.specs.declared.places.Derived.{Derived}
@@ -32,6 +33,11 @@ use Rattle.upgraded_texts.specs.VerdictLaws.{UpgradedIsAccepted}
 
 -- rules: what a version allows, version 2 does
 
+or_kept : (a b c : Bool) → (a || (b && c)) ≡ true → (a || (b && true)) ≡ true
+or_kept true b c h = refl
+or_kept false true c h = refl
+or_kept false false c h = h
+
 suits_pair_two : (version : ℕ) (which : RuleName) (r s : Ref) (kind : Kind) →
     suits version (CRule.Pair which r s) kind ≡ true → suits 2 (CRule.Pair which r s) kind ≡ true
 suits_pair_two version RuleName.Text r s kind h = h
@@ -40,7 +46,7 @@ suits_pair_two version RuleName.Conj r s kind h = h
 suits_pair_two version RuleName.Simpleconj r s kind h = h
 suits_pair_two version RuleName.Disj r s kind h = h
 suits_pair_two version RuleName.Simpledisj r s kind h = h
-suits_pair_two version RuleName.Cancel r s kind h = h
+suits_pair_two version RuleName.Cancel r s kind h = or_kept (is_unless kind) (is_leadsto kind) (nat_eq version 2) h
 suits_pair_two version RuleName.Union r s kind h = h
 suits_pair_two version RuleName.Imply r s kind h = h
 suits_pair_two version RuleName.From r s kind h = h

@@ -25,6 +25,6 @@ returns-in-Some-clause-premise c =
     (needs (nat_eq b.program site.program.name) Code.OtherProgram
     (needs (is_kind c.args.serves b.kind) Code.WrongKind (instance_of site site.params b args)))
     (λ a e. premise_is c.args.pl.now (is_kind c.args.serves) a
-    (instance_row_is site site.params site.program.name (is_kind c.args.serves) b a args
+    (instance_row_is site site.params (nat_eq b.program site.program.name) (is_kind c.args.serves) b a args
     (found_entry c.args.pl.now.slots.now c.args.book.now c.args.r.now.program c.args.r.now.step b
     c.requires.book (sym c.in-Some.ensures)) c.requires.place.params e)) c.instance_for.ensures

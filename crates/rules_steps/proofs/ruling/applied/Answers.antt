@@ -25,3 +25,10 @@ returns-in-Union c =
     (walk.applied (seen_with c.args.around.now.version c.args.pl.now.slots.now c.args.around.now.programs.now)
     (site_of c.args.pl.now) c.args.step.now c.args.book.now rule))
     (sym c.in-Union.is) c.by_union.ensures
+
+pub returns-in-Complete : goal.returns-in-Complete
+returns-in-Complete c =
+    subst (λ (rule : CRule). RuleAnswers c.by_complete.result c.args.pl.now.slots.now
+    (walk.applied (seen_with c.args.around.now.version c.args.pl.now.slots.now c.args.around.now.programs.now)
+    (site_of c.args.pl.now) c.args.step.now c.args.book.now rule))
+    (sym c.in-Complete.is) c.by_complete.ensures

@@ -97,4 +97,5 @@ returns-clause-answer c =
 pub returns-clause-fits : goal.returns-clause-fits
 returns-clause-fits c =
     given_step (seen_of c.args.around.now) c.args.program.now c.args.step.now c.args.book.now c.requires.around.slots
-    c.requires.program c.requires.step c.requires.book c.claimed.result (returns-clause-answer c)
+    c.requires.around.programs c.requires.program c.requires.step c.requires.book c.claimed.result
+    (returns-clause-answer c)

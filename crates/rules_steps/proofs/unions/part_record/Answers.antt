@@ -26,6 +26,6 @@ returns-in-Some-part-clause-premise c =
     (needs (nat_eq b.program part) Code.OtherProgram
     (needs (serves_claim c.args.claimed c.args.first b.kind) Code.WrongKind (instance_of site site.params b args)))
     (λ a e. premise_is c.args.pl.now (serves_claim c.args.claimed c.args.first) a
-    (instance_row_is site site.params part (serves_claim c.args.claimed c.args.first) b a args
+    (instance_row_is site site.params (nat_eq b.program part) (serves_claim c.args.claimed c.args.first) b a args
     (found_entry c.args.pl.now.slots.now c.args.book.now c.args.r.now.program c.args.r.now.step b
     c.requires.book (sym c.in-Some.ensures)) c.requires.place.params e)) c.part_instance.ensures
