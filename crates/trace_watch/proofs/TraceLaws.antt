@@ -13,7 +13,8 @@ use Rattle.meaning_documents.specs.Properties.{Test, but_not, implied}
 use Rattle.meaning_documents.specs.Rounds.{rounds}
 use Rattle.meaning_laws.proofs.RoundSumTheorems.{later_have_fewer}
 use Rattle.trace_watch.specs.Readings.{Reading, passes, at_last, last_two, last_step, related, unless_fails}
-use Rattle.trace_watch.specs.Readings.{constant_fails, leads_fails, is_stuck, is_fixed, is_helped, fails}
+use Rattle.fixed_points.specs.FixedPoints.{is_fixed}
+use Rattle.trace_watch.specs.Readings.{constant_fails, leads_fails, is_stuck, is_helped, fails}
 use Rattle.trace_watch.specs.Waiting.{waiting, is_overdue, waiting_more, seen_at, leads_from, leads_on_to, loses}
 use Rattle.trace_watch.specs.Waiting.{changes, findings, verdict, turned}
 use Rattle.trace_watch.specs.declared.case.Seen.{Seen}

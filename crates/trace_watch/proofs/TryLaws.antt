@@ -3,7 +3,7 @@ use Rattle.std.proofs.Common.{◌≡◌, ℕ, zero, suc, ◌+◌, ◌<◌, ◌�
 use Rattle.std.proofs.Common.{true, false, not, ◌&&◌, ◌||◌, Option, Some, None, option_and_then, refl, ◌≤◌, sym, ap}
 use Rattle.std.proofs.Common.{◌∙◌}
 use Rattle.std.proofs.Common.{arith, cond, IsTrue, ◌^◌, le_refl}
-use Rattle.std.specs.List.{list_any, list_all, position_from}
+use Rattle.std.specs.List.{list_any, position_from}
 use Rattle.std.specs.Option.{is_some, is_none}
 use Rattle.meaning_states.specs.State.{State, int_eq, in_range, is_state}
 use Rattle.meaning_states.proofs.StepTheorems.{and_left, and_right, step_keeps_ranges}
@@ -22,7 +22,7 @@ use Rattle.fair_rounds.specs.Records.{are_in_ranges, core_system, ints_eq}
 use Rattle.executor.specs.Running as runner
 use Rattle.executor.proofs.StateLaws.{number_light, state_length, within}
 use Rattle.executor.proofs.WeightLaws.{form_less}
-use Rattle.trace_watch.specs.Readings.{leads_to, is_stuck, is_fixed, is_helped, passes}
+use Rattle.trace_watch.specs.Readings.{is_stuck, is_helped, passes}
 
 -- the next item of a list
 
@@ -31,12 +31,6 @@ next_any : {X : Type 0} (t : X → Bool) (xs : List X) (n : ℕ) (x : X) → sli
 next_any t [] n x e = cc
 next_any t (y ∷ xs) zero x e = let same : y ≡ x = cc in ap (λ z. t z || list_any t xs) same
 next_any t (y ∷ xs) (suc n) x e = next_any t xs n x e
-
-next_all : {X : Type 0} (t : X → Bool) (xs : List X) (n : ℕ) (x : X) → slice_get xs n ≡ Some x →
-    list_all t (drop n xs) ≡ (t x && list_all t (drop (suc n) xs))
-next_all t [] n x e = cc
-next_all t (y ∷ xs) zero x e = let same : y ≡ x = cc in ap (λ z. t z && list_all t xs) same
-next_all t (y ∷ xs) (suc n) x e = next_all t xs n x e
 
 pub next_position : {X : Type 0} (t : X → Bool) (xs : List X) (i n : ℕ) (x : X) → slice_get xs n ≡ Some x →
     position_from t i (drop n xs) ≡ cond (t x) (Some i) (position_from t (i + 1) (drop (n + 1) xs))
@@ -67,15 +61,6 @@ stuck_map slots p state = go p.statements
     go [] = refl
     go (s ∷ ss) = ap (λ b. is_none (core_step slots s state) || b) (go ss)
 
-pub fixed_map : (slots : List CSlot) (p : CProgram) (state : State) →
-    list_all (λ s. leads_to (core_step slots s state) state) p.statements ≡ is_fixed (core_system slots p) state
-fixed_map slots p state = go p.statements
-  where
-    go : (ss : List CStmt) → list_all (λ s. leads_to (core_step slots s state) state) ss
-        ≡ list_all (λ act. leads_to (act state) state) (map (core_step slots) ss)
-    go [] = refl
-    go (s ∷ ss) = ap (λ b. leads_to (core_step slots s state) state && b) (go ss)
-
 pub next_stuck : (slots : List CSlot) (p : CProgram) (state : State) (choice : ℕ) (b : Bool) →
     choice < length p.statements → b ≡ is_some (runner.chosen_step slots p choice state) →
     list_any (λ s. is_none (core_step slots s state)) (drop choice p.statements)
@@ -88,20 +73,6 @@ next_stuck slots p state choice b h test =
     next_any (λ s. is_none (core_step slots s state)) p.statements choice found.0 found.1
     ∙ ap (λ a. not a || list_any (λ s. is_none (core_step slots s state)) (drop (suc choice) p.statements)) (sym its)
     ∙ ap (λ n. not b || list_any (λ s. is_none (core_step slots s state)) (drop n p.statements)) one
-
-pub next_fixed : (slots : List CSlot) (p : CProgram) (state : State) (choice : ℕ) (b : Bool) →
-    choice < length p.statements → b ≡ leads_to (runner.chosen_step slots p choice state) state →
-    list_all (λ s. leads_to (core_step slots s state) state) (drop choice p.statements)
-    ≡ (b && list_all (λ s. leads_to (core_step slots s state) state) (drop (choice + 1) p.statements))
-next_fixed slots p state choice b h test =
-    let found = item_at p.statements choice h in
-    let its : b ≡ leads_to (core_step slots found.0 state) state =
-    test ∙ ap (λ (o : Option CStmt). leads_to (option_and_then (λ s. core_step slots s state) o) state) found.1 in
-    let one : suc choice ≡ choice + 1 = omega arith in
-    next_all (λ s. leads_to (core_step slots s state) state) p.statements choice found.0 found.1
-    ∙ ap (λ a. a && list_all (λ s. leads_to (core_step slots s state) state) (drop (suc choice) p.statements))
-    (sym its)
-    ∙ ap (λ n. b && list_all (λ s. leads_to (core_step slots s state) state) (drop n p.statements)) one
 
 -- a chosen step is that of the system
 pub core_chosen : (slots : List CSlot) (p : CProgram) (choice : ℕ) (state : State) →

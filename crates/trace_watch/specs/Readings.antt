@@ -3,14 +3,14 @@
 use Rattle.std.specs.Prelude.{ℕ, nat_le, List, [], ◌∷◌, Bool, false, not, ◌&&◌, ◌||◌, Option, Some, None, length}
 use Rattle.std.specs.Prelude.{drop, option_and_then}
 use Rattle.std.specs.Option.{is_none, option_or}
-use Rattle.std.specs.List.{list_any, list_all, last_or}
+use Rattle.std.specs.List.{list_any, last_or}
 use Rattle.std.specs.Bool.{beq}
 use Rattle.case_tables.specs.declared.kind_table.Kind.{Kind}
 use Rattle.meaning_states.specs.State.{State}
 use Rattle.meaning_documents.specs.Execution.{System, chosen_step}
 use Rattle.meaning_documents.specs.Properties.{Test, but_not, implied}
 use Rattle.meaning_documents.specs.Rounds.{rounds}
-use Rattle.fair_rounds.specs.Records.{ints_eq}
+use Rattle.fixed_points.specs.FixedPoints.{is_fixed}
 
 -- a property as it is read: its tests, the rounds within which it leads to something, and the place of the instance
 -- that is to help
@@ -67,15 +67,6 @@ leads_fails k p q bound (state ∷ later) choices =
 -- the step of some instance is undefined
 abbrev pub is_stuck : System → Test
 is_stuck x state = list_any (λ act. is_none (act state)) x.steps
-
--- the step leads to this state
-abbrev pub leads_to : Option State → State → Bool
-leads_to None state = false
-leads_to (Some next) state = ints_eq next state
-
--- the step of each instance is defined and leads back
-abbrev pub is_fixed : System → Test
-is_fixed x state = list_all (λ act. leads_to (act state) state) x.steps
 
 -- there is an instance that is to help, and its step is defined and gives a state with q
 abbrev pub is_helped : System → Test → Option ℕ → Test

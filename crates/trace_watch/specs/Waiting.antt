@@ -13,7 +13,8 @@ use Rattle.fair_rounds.specs.Counts as counts
 use Rattle.trace_watch.specs.declared.case.Seen.{Seen}
 use Rattle.trace_watch.specs.declared.case.Findings.{Findings}
 use Rattle.trace_watch.specs.declared.case.Case.{Case}
-use Rattle.trace_watch.specs.Readings.{Reading, is_stuck, is_helped, is_fixed}
+use Rattle.fixed_points.specs.FixedPoints.{is_fixed}
+use Rattle.trace_watch.specs.Readings.{Reading, is_stuck, is_helped}
 
 -- the choices since the earliest place with p from which on no state has q; none where there is no such place
 abbrev pub waiting : Test → Test → List State → List ℕ → Option (List ℕ)

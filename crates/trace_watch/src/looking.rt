@@ -17,129 +17,130 @@ use crate::case::{Case, Findings, Seen};
 use crate::numbers::case_values;
 use crate::place::Place;
 use crate::step::Step;
-use crate::trying::{is_fixed, is_helped, is_stuck};
+use crate::trying::{is_helped, is_stuck};
 use crate::violations::Violation;
 use case_tables::Kind;
 use core_terms::holds;
 use fair_rounds::Record;
+use fixed_points::is_fixed;
 
 // One place more for a case, and whether it is violated there.
 fn look_case(
     here: &Place,
-    record: &Record,
+    claim: &Record,
     values: &[i64],
     choice: Option<u32>,
     trial: &mut [i64],
     case: &mut Case,
 ) -> bool
-    requires fits { RecordFits here.now.slots.now record.now }
-    requires values { IsTrue (are_in_ranges record.now.params values.now) }
+    requires fits { RecordFits here.now.slots.now claim.now }
+    requires values { IsTrue (are_in_ranges claim.now.params values.now) }
     requires choice { IfSome choice (λ c. c < instances_at here.now) }
     requires trial { length trial.old ≡ length (state_at here.now) }
     ensures stands { (states : List State) (choices : List ℕ) →
         length (choices ++ option_to_list choice) ≡ length states →
-        CaseStands (instances_at here.now) case.old (reading_of here.now.program.now record.now values.now) states
+        CaseStands (instances_at here.now) case.old (reading_of here.now.program.now claim.now values.now) states
         choices →
-        CaseStands (instances_at here.now) case.new (reading_of here.now.program.now record.now values.now)
+        CaseStands (instances_at here.now) case.new (reading_of here.now.program.now claim.now values.now)
         (states ++ state_at here.now ∷ []) (choices ++ option_to_list choice) }
     ensures violated { (states : List State) (choices : List ℕ) →
         length (choices ++ option_to_list choice) ≡ length states →
-        CaseStands (instances_at here.now) case.old (reading_of here.now.program.now record.now values.now) states
+        CaseStands (instances_at here.now) case.old (reading_of here.now.program.now claim.now values.now) states
         choices →
-        result ≡ is_violated (system_at here.now) (reading_of here.now.program.now record.now values.now)
+        result ≡ is_violated (system_at here.now) (reading_of here.now.program.now claim.now values.now)
         (states ++ state_at here.now ∷ []) (choices ++ option_to_list choice) }
 {
-    let p = holds(&record.p, here.state, values);
-    let q = holds(&record.q, here.state, values);
+    let p = holds(&claim.p, here.state, values);
+    let q = holds(&claim.q, here.state, values);
     let now = Seen { p, q };
-    let found = case.find(record.kind, record.bound, now, choice);
-    fails(here, record, values, case.helper, found, trial)
+    let found = case.find(claim.kind, claim.bound, now, choice);
+    fails(here, claim, values, case.helper, found, trial)
 }
 
 // Whether a case is violated, by what was found of it.
 fn fails(
     here: &Place,
-    record: &Record,
+    claim: &Record,
     values: &[i64],
     helper: Option<u32>,
     found: Findings,
     trial: &mut [i64],
 ) -> bool
-    requires fits { RecordFits here.now.slots.now record.now }
-    requires values { IsTrue (are_in_ranges record.now.params values.now) }
+    requires fits { RecordFits here.now.slots.now claim.now }
+    requires values { IsTrue (are_in_ranges claim.now.params values.now) }
     requires trial { length trial.old ≡ length (state_at here.now) }
-    ensures { result ≡ verdict record.now.kind (system_at here.now) (holding values.now record.now.q) helper
+    ensures { result ≡ verdict claim.now.kind (system_at here.now) (holding values.now claim.now.q) helper
         (state_at here.now) found }
 {
-    match record.kind {
+    match claim.kind {
         Kind::Defined => is_stuck(here),
         Kind::Invariant => !found.now.p,
         Kind::Unless => found.is_lost,
         Kind::Ensures => found.is_lost
-            || fails_to_help(here, record, values, helper, found.now, trial),
+            || fails_to_help(here, claim, values, helper, found.now, trial),
         Kind::Leadsto => found.is_overdue,
         Kind::Until => found.is_lost || found.is_overdue,
         Kind::Detects => found.now.p && !found.now.q || found.is_overdue,
         Kind::Constant => found.is_changed,
-        Kind::Fixed => found.now.p && !is_fixed(here, trial),
+        Kind::Fixed => found.now.p && !is_fixed(here.program, here.slots, here.state),
     }
 }
 
 // Whether p holds and not q, and the instance that is to help does not.
 fn fails_to_help(
     here: &Place,
-    record: &Record,
+    claim: &Record,
     values: &[i64],
     helper: Option<u32>,
     now: Seen,
     trial: &mut [i64],
 ) -> bool
-    requires fits { RecordFits here.now.slots.now record.now }
-    requires values { IsTrue (are_in_ranges record.now.params values.now) }
+    requires fits { RecordFits here.now.slots.now claim.now }
+    requires values { IsTrue (are_in_ranges claim.now.params values.now) }
     requires trial { length trial.old ≡ length (state_at here.now) }
     ensures { result ≡ ((now.p && not now.q)
-        && not (readings.is_helped (system_at here.now) (holding values.now record.now.q) helper (state_at here.now))) }
+        && not (readings.is_helped (system_at here.now) (holding values.now claim.now.q) helper (state_at here.now))) }
 {
     if now.p && !now.q {
-        !is_helped(here, record, values, helper, trial)
+        !is_helped(here, claim, values, helper, trial)
     } else {
         false
     }
 }
 
-// One place more for each case of a record, and the number of the first that is violated there.
+// One place more for each case of a claim, and the number of the first that is violated there.
 fn look_cases(
     here: &Place,
-    record: &Record,
+    claim: &Record,
     values: &mut [i64],
     choice: Option<u32>,
     trial: &mut [i64],
     cases: &mut [Case],
 ) -> Option<u64>
-    requires fits { RecordFits here.now.slots.now record.now }
-    requires room { length values.old ≡ length record.now.params }
-    requires count { length cases.old ≡ case_count record.now.params }
+    requires fits { RecordFits here.now.slots.now claim.now }
+    requires room { length values.old ≡ length claim.now.params }
+    requires count { length cases.old ≡ case_count claim.now.params }
     requires choice { IfSome choice (λ c. c < instances_at here.now) }
     requires trial { length trial.old ≡ length (state_at here.now) }
     ensures stands { (states : List State) (choices : List ℕ) →
         length (choices ++ option_to_list choice) ≡ length states →
         CasesStand (instances_at here.now) cases.old
-        (map (reading_of here.now.program.now record.now) (environments record.now.params)) states choices →
+        (map (reading_of here.now.program.now claim.now) (environments claim.now.params)) states choices →
         CasesStand (instances_at here.now) cases.new
-        (map (reading_of here.now.program.now record.now) (environments record.now.params))
+        (map (reading_of here.now.program.now claim.now) (environments claim.now.params))
         (states ++ state_at here.now ∷ []) (choices ++ option_to_list choice) }
     ensures violated { (states : List State) (choices : List ℕ) →
         length (choices ++ option_to_list choice) ≡ length states →
         CasesStand (instances_at here.now) cases.old
-        (map (reading_of here.now.program.now record.now) (environments record.now.params)) states choices →
+        (map (reading_of here.now.program.now claim.now) (environments claim.now.params)) states choices →
         result ≡ position_from (λ r. is_violated (system_at here.now) r
         (states ++ state_at here.now ∷ []) (choices ++ option_to_list choice)) 0
-        (map (reading_of here.now.program.now record.now) (environments record.now.params)) }
+        (map (reading_of here.now.program.now claim.now) (environments claim.now.params)) }
 {
     let mut first = None;
     for number in 0..cases.len() {
-        case_values(record.params.as_slice(), number as u64, values);
-        let is_violated = look_case(here, record, values, choice, trial, &mut cases[number]);
+        case_values(claim.params.as_slice(), number as u64, values);
+        let is_violated = look_case(here, claim, values, choice, trial, &mut cases[number]);
         first = or_number(first, is_violated, number as u64);
     }
     first

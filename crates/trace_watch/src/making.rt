@@ -36,28 +36,28 @@ pub(crate) fn steps_of<'a>(
     Ok(steps)
 }
 
-// Adds the step of a record, if it is one of the program's.
+// Adds the step of a claim, if it is one of the program's.
 fn add_step<'a>(
     alloc: Global,
     p: &'a CProgram,
     slots: &'a [CSlot],
     place: u32,
-    record: &'a Record,
+    claim: &'a Record,
     steps: &mut Vec<Step<'a>>,
 ) -> Result<(), AllocError>
     requires program { IsProgram slots.now p.now }
-    requires fits { RecordFits slots.now record.now }
-    requires few { cases.own_cases p.now record.now ≤ 4096 }
+    requires fits { RecordFits slots.now claim.now }
+    requires few { cases.own_cases p.now claim.now ≤ 4096 }
     ensures fits { All (StepFits slots.now) steps.old.items → OnOk result (All (StepFits slots.now) steps.new.items) }
     ensures watched { OnOk result (map (watched_as p.now) steps.new.items
-        ≡ map (watched_as p.now) steps.old.items ++ cases.watched_one p.now place record.now) }
+        ≡ map (watched_as p.now) steps.old.items ++ cases.watched_one p.now place claim.now) }
     ensures stands { All (StepStands p.now [] []) steps.old.items →
         OnOk result (All (StepStands p.now [] []) steps.new.items) }
 {
-    if record.program != p.name {
+    if claim.program != p.name {
         return Ok(());
     }
-    let step = step_of(alloc, p, slots, place, record)?;
+    let step = step_of(alloc, p, slots, place, claim)?;
     steps.push(step)?;
     Ok(())
 }
@@ -68,20 +68,20 @@ fn step_of<'a>(
     p: &'a CProgram,
     slots: &'a [CSlot],
     place: u32,
-    record: &'a Record,
+    claim: &'a Record,
 ) -> Result<Step<'a>, AllocError>
     requires program { IsProgram slots.now p.now }
-    requires fits { RecordFits slots.now record.now }
-    requires few { cases.case_count record.now.params ≤ 4096 }
+    requires fits { RecordFits slots.now claim.now }
+    requires few { cases.case_count claim.now.params ≤ 4096 }
     ensures fits { IfOk result (λ step. StepFits slots.now step) }
-    ensures watched { IfOk result (λ step. watched_as p.now step ≡ cases.watched_step p.now place record.now) }
+    ensures watched { IfOk result (λ step. watched_as p.now step ≡ cases.watched_step p.now place claim.now) }
     ensures stands { IfOk result (λ step. StepStands p.now [] [] step) }
 {
-    let mut values = vec![in alloc; 0; record.params.len()]?;
-    let cases = cases_of(alloc, p, record, &mut values)?;
+    let mut values = vec![in alloc; 0; claim.params.len()]?;
+    let cases = cases_of(alloc, p, claim, &mut values)?;
     Ok(Step {
         place,
-        record,
+        record: claim,
         values,
         cases,
     })
@@ -91,21 +91,21 @@ fn step_of<'a>(
 fn cases_of(
     alloc: Global,
     p: &CProgram,
-    record: &Record,
+    claim: &Record,
     values: &mut [i64],
 ) -> Result<Vec<Case>, AllocError>
     requires some { 1 ≤ length p.now.statements }
     requires instances { length p.now.statements ≤ 4096 }
-    requires room { length values.old ≡ length record.now.params }
-    requires few { cases.case_count record.now.params ≤ 4096 }
-    ensures count { IfOk result (λ made. length made.items ≡ cases.case_count record.now.params) }
+    requires room { length values.old ≡ length claim.now.params }
+    requires few { cases.case_count claim.now.params ≤ 4096 }
+    ensures count { IfOk result (λ made. length made.items ≡ cases.case_count claim.now.params) }
     ensures stands { IfOk result (λ made. CasesStand (length p.now.statements) made.items
-        (map (cases.reading_of p.now record.now) (cases.environments record.now.params)) [] []) }
+        (map (cases.reading_of p.now claim.now) (cases.environments claim.now.params)) [] []) }
 {
     let mut made = Vec::new(alloc);
-    for number in 0..case_count(record.params.as_slice()) {
-        case_values(record.params.as_slice(), number, values);
-        let helper = helper_place(p, &record.helper, values);
+    for number in 0..case_count(claim.params.as_slice()) {
+        case_values(claim.params.as_slice(), number, values);
+        let helper = helper_place(p, &claim.helper, values);
         made.push(Case::new(p.statements.len() as u32, helper))?;
     }
     Ok(made)

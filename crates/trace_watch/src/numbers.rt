@@ -73,12 +73,12 @@ pub(crate) fn total_cases(p: &CProgram, records: &[Record]) -> u64
     total
 }
 
-// How many cases a record has, if it is one of the program's.
-fn own_cases(p: &CProgram, record: &Record) -> u64
-    ensures { result ≡ min (cases.own_cases p.now record.now) 4097 }
+// How many cases a claim has, if it is one of the program's.
+fn own_cases(p: &CProgram, claim: &Record) -> u64
+    ensures { result ≡ min (cases.own_cases p.now claim.now) 4097 }
 {
-    if record.program == p.name {
-        case_count(record.params.as_slice())
+    if claim.program == p.name {
+        case_count(claim.params.as_slice())
     } else {
         0
     }

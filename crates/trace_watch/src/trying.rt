@@ -1,7 +1,7 @@
 // What instances would do at a place.
 ghost use Rattle.std.specs.Prelude.{◌≡◌, ◌<◌, length, IsTrue};
 ghost use Rattle.executor.specs.Running.{chosen_step};
-ghost use Rattle.fair_rounds.specs.Records.{holding, are_in_ranges, ints_eq};
+ghost use Rattle.fair_rounds.specs.Records.{holding, are_in_ranges};
 ghost use Rattle.trace_watch.specs.Readings as readings;
 ghost use Rattle.trace_watch.specs.Places.{system_at, instances_at, state_at, RecordFits};
 
@@ -22,58 +22,18 @@ pub(crate) fn is_stuck(here: &Place) -> bool
     false
 }
 
-// Whether the step of each instance is defined and leads back.
-pub(crate) fn is_fixed(here: &Place, trial: &mut [i64]) -> bool
-    requires { length trial.old ≡ length (state_at here.now) }
-    ensures { result ≡ readings.is_fixed (system_at here.now) (state_at here.now) }
-{
-    for choice in 0..here.program.statements.len() {
-        if !leads_back(here, choice as u32, trial) {
-            return false;
-        }
-    }
-    true
-}
-
-// Whether the step of an instance is defined and leads back.
-fn leads_back(here: &Place, choice: u32, trial: &mut [i64]) -> bool
-    requires choice { choice < instances_at here.now }
-    requires trial { length trial.old ≡ length (state_at here.now) }
-    ensures { result ≡ readings.leads_to
-        (chosen_step here.now.slots.now here.now.program.now choice (state_at here.now)) (state_at here.now) }
-{
-    match would_step(here.program, here.slots, here.state, choice, trial) {
-        Stepped::Done => is_same(trial, here.state),
-        Stepped::Undefined => false,
-    }
-}
-
-fn is_same(one: &[i64], other: &[i64]) -> bool
-    ensures { result ≡ ints_eq one.now other.now }
-{
-    if one.len() != other.len() {
-        return false;
-    }
-    for place in 0..one.len() {
-        if one[place] != other[place] {
-            return false;
-        }
-    }
-    true
-}
-
-// Whether there is an instance that is to help, and its step is defined and gives a state with a record's q.
+// Whether there is an instance that is to help, and its step is defined and gives a state with a claim's q.
 pub(crate) fn is_helped(
     here: &Place,
-    record: &Record,
+    claim: &Record,
     values: &[i64],
     helper: Option<u32>,
     trial: &mut [i64],
 ) -> bool
-    requires fits { RecordFits here.now.slots.now record.now }
-    requires values { IsTrue (are_in_ranges record.now.params values.now) }
+    requires fits { RecordFits here.now.slots.now claim.now }
+    requires values { IsTrue (are_in_ranges claim.now.params values.now) }
     requires trial { length trial.old ≡ length (state_at here.now) }
-    ensures { result ≡ readings.is_helped (system_at here.now) (holding values.now record.now.q) helper
+    ensures { result ≡ readings.is_helped (system_at here.now) (holding values.now claim.now.q) helper
         (state_at here.now) }
 {
     let choice = match helper {
@@ -83,20 +43,20 @@ pub(crate) fn is_helped(
     if choice as usize >= here.program.statements.len() {
         return false;
     }
-    gives(here, record, values, choice, trial)
+    gives(here, claim, values, choice, trial)
 }
 
-// Whether the step of an instance is defined and gives a state with a record's q.
-fn gives(here: &Place, record: &Record, values: &[i64], choice: u32, trial: &mut [i64]) -> bool
+// Whether the step of an instance is defined and gives a state with a claim's q.
+fn gives(here: &Place, claim: &Record, values: &[i64], choice: u32, trial: &mut [i64]) -> bool
     requires choice { choice < instances_at here.now }
-    requires fits { RecordFits here.now.slots.now record.now }
-    requires values { IsTrue (are_in_ranges record.now.params values.now) }
+    requires fits { RecordFits here.now.slots.now claim.now }
+    requires values { IsTrue (are_in_ranges claim.now.params values.now) }
     requires trial { length trial.old ≡ length (state_at here.now) }
-    ensures { result ≡ readings.passes (holding values.now record.now.q)
+    ensures { result ≡ readings.passes (holding values.now claim.now.q)
         (chosen_step here.now.slots.now here.now.program.now choice (state_at here.now)) }
 {
     match would_step(here.program, here.slots, here.state, choice, trial) {
-        Stepped::Done => holds(&record.q, trial, values),
+        Stepped::Done => holds(&claim.q, trial, values),
         Stepped::Undefined => false,
     }
 }

@@ -19,7 +19,7 @@ pub enum WatchError {
     /// The steps have more than 4,096 cases in all: refusal 62.
     #[error("the steps have too many cases")]
     TooManyCases,
-    /// Memory was refused.
+    /// Memory was refused, or there are 2^31 records or more.
     #[error("memory was refused")]
     Memory,
 }

@@ -1,5 +1,5 @@
 // A trace that is watched.
-ghost use Rattle.std.specs.Prelude.{◌≡◌, ◌<◌, ◌≤◌, ◌^◌, length, All, IfOk, IsTrue};
+ghost use Rattle.std.specs.Prelude.{◌≡◌, ◌<◌, ◌≤◌, length, All, IfOk, IsTrue};
 ghost use Rattle.meaning_states.specs.State.{is_state};
 ghost use Rattle.core_terms.specs.Steps.{slot_ranges};
 ghost use Rattle.executor.specs.Fitting.{StatementsRun};
@@ -15,6 +15,9 @@ use crate::violations::{Violation, WatchError};
 use core_terms::{CProgram, CSlot};
 use fair_rounds::Record;
 use std::alloc::Global;
+
+// No watch has so many records, or more.
+const RECORDS_END: usize = 1 << 31;
 
 /// A trace of a program, watched for the first violation of the steps of its proof. For which traces it stands is said
 /// by `StandsFor`. All memory is taken by `new`.
@@ -44,7 +47,8 @@ impl<'a> Watch<'a> {
     /// Watches a program from a start state, at place 0 of a trace. The records are those of a plan, in order; those of
     /// other programs are passed over.
     ///
-    /// `TooManyCases` comes exactly where the program's steps have more than 4,096 cases in all.
+    /// `TooManyCases` comes exactly where the program's steps have more than 4,096 cases in all. Of 2^31 records or
+    /// more there is no watch: `Memory` comes, as where memory was refused.
     pub fn new(
         alloc: Global,
         p: &'a CProgram,
@@ -53,7 +57,6 @@ impl<'a> Watch<'a> {
         start: &[i64],
     ) -> Result<Watch<'a>, WatchError>
         requires program { IsProgram slots.now p.now }
-        requires plan { length records.now < 2 ^ 31 }
         requires start { IsTrue (is_state (slot_ranges slots.now) start.now) }
         requires fits { All (RecordFits slots.now) records.now }
         ensures program { IfOk result (λ w. program_of w ≡ p.now) }
@@ -64,6 +67,9 @@ impl<'a> Watch<'a> {
     {
         if total_cases(p, records) > MOST_CASES {
             return Err(WatchError::TooManyCases);
+        }
+        if records.len() >= RECORDS_END {
+            return Err(WatchError::Memory);
         }
         let mut steps = steps_of(alloc, p, slots, records)?;
         let mut trial = Vec::from_slice(alloc, start)?;

@@ -12,7 +12,8 @@ use Rattle.meaning_documents.specs.Properties.{Test, but_not, implied}
 use Rattle.meaning_documents.specs.Rounds.{rounds}
 use Rattle.meaning_laws.specs.Alike.{StepEquivalent, SameAt}
 use Rattle.trace_watch.specs.Readings.{passes, at_last, last_two, related, at_last_step, unless_fails}
-use Rattle.trace_watch.specs.Readings.{leads_fails, leads_to, is_stuck, is_fixed, is_helped, fails}
+use Rattle.fixed_points.specs.FixedPoints.{leads_to, is_fixed}
+use Rattle.trace_watch.specs.Readings.{leads_fails, is_stuck, is_helped, fails}
 use Rattle.trace_watch.proofs.TraceLaws.{made_of}
 
 module _ (ranges : Ranges) where

@@ -19,7 +19,8 @@ use Rattle.core_terms.proofs.BoolLaws.{le_passes}
 use Rattle.fair_rounds.specs.Records.{ints_eq}
 use Rattle.std.specs.Int.RustNames.{int_le}
 use Rattle.trace_watch.specs.Readings.{passes, at_last, last_two, related, at_last_step, unless_fails}
-use Rattle.trace_watch.specs.Readings.{Reading, leads_fails, leads_to, is_stuck, is_fixed, is_helped, fails}
+use Rattle.fixed_points.specs.FixedPoints.{leads_to, is_fixed}
+use Rattle.trace_watch.specs.Readings.{Reading, leads_fails, is_stuck, is_helped, fails}
 
 -- what a reading says of all executions; the instance of an ensures is the one that is to help
 abbrev pub ReadingHolds : Kind → System → Reading → Type 0

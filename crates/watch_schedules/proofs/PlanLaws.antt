@@ -1,8 +1,7 @@
 -- What the steps of a plan are for a watch: they fit, one of them is `defined`, and a violated one is among them.
-use Rattle.std.proofs.Common.{◌≡◌, ◌<◌, ◌+◌, ◌^◌, ℕ, zero, suc, nat_eq, List, [], ◌∷◌, ◌++◌, map, length, sum, Bool}
+use Rattle.std.proofs.Common.{◌≡◌, ◌<◌, ◌+◌, ℕ, zero, suc, nat_eq, List, [], ◌∷◌, ◌++◌, map, length, Bool}
 use Rattle.std.proofs.Common.{true, false, cond, Option, Some, None, refl, sym, ap, ◌∙◌, subst, slice_get, arith}
-use Rattle.std.proofs.Common.{option_and_then, find, length-append}
-use Rattle.std.proofs.lemmas.Grind.{common_steps}
+use Rattle.std.proofs.Common.{option_and_then, find}
 use Rattle.std.specs.Prelude.{All}
 use Rattle.std.specs.List.{position_from}
 use Rattle.std.specs.Option.{option_map, option_or}
@@ -81,31 +80,6 @@ records_fit d is plan planned =
     each_fits d.slots (core_steps d.proofs) plan.records
     (all_fit d.slots d.programs d.proofs (from_all (IsProof d.slots d.programs) d.proofs is.proofs))
     (plan_is_steps d is (starts_in d.slots) plan planned)
-
--- ---- and are no more than the steps
-
-same_count : (ss : List CoreStep) (rs : List Record) → Pairwise IsRecordOf ss rs → length rs ≡ length ss
-same_count [] [] pairs = refl
-same_count [] (r ∷ rs) pairs = absurd pairs
-same_count (s ∷ ss) [] pairs = absurd pairs
-same_count (s ∷ ss) (r ∷ rs) pairs = ap suc (same_count ss rs pairs.1)
-
-sum_first : (n : ℕ) (ns : List ℕ) → sum (n ∷ ns) ≡ n + sum ns
-sum_first n ns = grind (arith, common_steps)
-
-steps_count : (proofs : List CProof) → length (core_steps proofs) ≡ sum (map (λ (p : CProof). length p.steps) proofs)
-steps_count [] = refl
-steps_count (p ∷ proofs) =
-    length-append (map (of_program p.program) p.steps) (core_steps proofs)
-    ∙ ap (λ n. n + length (core_steps proofs)) (length-map p.steps (of_program p.program))
-    ∙ ap (λ n. length p.steps + n) (steps_count proofs)
-    ∙ sym (sum_first (length p.steps) (map (λ (q : CProof). length q.steps) proofs))
-
-pub few_records : (d : CDocument) → IsCoreDocument d → (plan : Plan) → IsPlan d plan → length plan.records < 2 ^ 31
-few_records d is plan planned =
-    subst (λ n. n < 2 ^ 31)
-    (sym (same_count (core_steps d.proofs) plan.records (plan_is_steps d is (starts_in d.slots) plan planned)
-    ∙ steps_count d.proofs)) is.few_steps
 
 -- ---- one of them is `defined`
 

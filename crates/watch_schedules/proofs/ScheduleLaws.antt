@@ -59,8 +59,9 @@ book_stopped d p choices h initial proved stop none = absurd none
 
 -- too many cases
 pub watch_stopped : (d : CDocument) (p : CProgram) (choices : List ℕ) (records : List Record) →
-    IsScheduled d p choices → starts d p ≡ true → is_proved d p ≡ true → IsBookOf d records → (e : WatchError) (stop : WatchStop) →
-    stop ≡ watch_stop e → (e ≡ WatchError.TooManyCases → 4096 < total_cases p records) → Finds d (Err stop)
+    IsScheduled d p choices → starts d p ≡ true → is_proved d p ≡ true → IsBookOf d records →
+    (e : WatchError) (stop : WatchStop) → stop ≡ watch_stop e →
+    (e ≡ WatchError.TooManyCases → 4096 < total_cases p records) → Finds d (Err stop)
 watch_stopped d p choices records h initial proved book WatchError.TooManyCases stop same many =
     subst (λ s. Finds d (Err s)) (sym same) (
       p,

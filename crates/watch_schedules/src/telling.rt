@@ -33,12 +33,12 @@ fn word(words: &[Seq<u8>], number: u32) -> &[u8]
 }
 
 // `PROGRAM.STEP`.
-fn push_name(words: &[Seq<u8>], record: &Record, text: &mut Vec<u8>) -> Result<(), AllocError>
-    ensures { OnOk result (text.new.items ≡ text.old.items ++ told.name_text words.now record.now) }
+fn push_name(words: &[Seq<u8>], claim: &Record, text: &mut Vec<u8>) -> Result<(), AllocError>
+    ensures { OnOk result (text.new.items ≡ text.old.items ++ told.name_text words.now claim.now) }
 {
-    text.extend_from_slice(word(words, record.program))?;
+    text.extend_from_slice(word(words, claim.program))?;
     text.extend_from_slice(b".")?;
-    text.extend_from_slice(word(words, record.name))
+    text.extend_from_slice(word(words, claim.name))
 }
 
 // ` KIND`, and its bound too where it leads to something.
@@ -60,18 +60,18 @@ fn push_own(
     alloc: Global,
     words: &[Seq<u8>],
     program: u32,
-    record: &Record,
+    claim: &Record,
     text: &mut Vec<u8>,
 ) -> Result<(), AllocError>
-    ensures { OnOk result (text.new.items ≡ text.old.items ++ told.own_line words.now program record.now) }
+    ensures { OnOk result (text.new.items ≡ text.old.items ++ told.own_line words.now program claim.now) }
 {
-    if record.program != program {
+    if claim.program != program {
         return Ok(());
     }
-    text.extend_from_slice(word(words, record.program))?;
+    text.extend_from_slice(word(words, claim.program))?;
     text.extend_from_slice(b".")?;
-    text.extend_from_slice(word(words, record.name))?;
-    push_kind(alloc, record.kind, record.bound, text)
+    text.extend_from_slice(word(words, claim.name))?;
+    push_kind(alloc, claim.kind, claim.bound, text)
 }
 
 // The lines of the program's steps.
@@ -221,22 +221,22 @@ fn choice_to(choices: &[u32], place: u64) -> Option<u32>
 fn case_text(
     alloc: Global,
     doc: &CDocument,
-    record: &Record,
+    claim: &Record,
     case: u64,
     place: u64,
 ) -> Result<Vec<u8>, AllocError>
-    requires { case < case_count record.now.params }
-    ensures { IfOk result (λ text. text.items ≡ told.case_text doc.now record.now case place) }
+    requires { case < case_count claim.now.params }
+    ensures { IfOk result (λ text. text.items ≡ told.case_text doc.now claim.now case place) }
 {
     let words = doc.words.as_slice();
-    let mut values = vec![in alloc; 0; record.params.len()]?;
-    case_values(record.params.as_slice(), case, &mut values);
+    let mut values = vec![in alloc; 0; claim.params.len()]?;
+    case_values(claim.params.as_slice(), case, &mut values);
     let mut text = Vec::new(alloc);
     text.extend_from_slice(b"violated ")?;
-    push_name(words, record, &mut text)?;
+    push_name(words, claim, &mut text)?;
     let rest = format!(in alloc; " place {place}\n")?;
     text.extend_from_slice(rest.as_bytes())?;
-    let names = names_of(doc, record.program, record.name);
+    let names = names_of(doc, claim.program, claim.name);
     push_params(alloc, words, names, &values, &mut text)?;
     Ok(text)
 }

@@ -9,17 +9,17 @@ use Rattle.trace_watch.proofs.looking.look_cases.Goals as goal
 
 pub look_case-is_violated-requires-clause-values : goal.look_case-is_violated-requires-clause-values
 look_case-is_violated-requires-clause-values c =
-    environments_in c.args.record.now.params c.loop-number.number c.case_values.new.into
+    environments_in c.args.claim.now.params c.loop-number.number c.case_values.new.into
     (ap (λ ps. slice_get (environments ps) c.loop-number.number) (sym c.as_slice.ensures) ∙ c.case_values.ensures)
 
 pub loop-number-preserved : goal.loop-number-preserved
 loop-number-preserved c =
     let here = c.args.here.now in
-    let envs = environments c.args.record.now.params in
-    let reading = reading_of here.program.now c.args.record.now in
+    let envs = environments c.args.claim.now.params in
+    let reading = reading_of here.program.now c.args.claim.now in
     let inside : c.loop-number.number < length c.loop-number.cases =
     omega (arith, c.loop-number.auto.cases, c.loop-number-test.true) in
-    let values : slice_get (environments c.args.record.now.params) c.loop-number.number
+    let values : slice_get (environments c.args.claim.now.params) c.loop-number.number
     ≡ Some c.case_values.new.into =
     ap (λ ps. slice_get (environments ps) c.loop-number.number) (sym c.as_slice.ensures) ∙ c.case_values.ensures in
     subst (λ o. Looked (instances_at here) (system_at here) (state_at here) (option_to_list c.args.choice)
@@ -38,14 +38,14 @@ loop-number-preserved c =
 pub returns-clause-stands : goal.returns-clause-stands
 returns-clause-stands c = λ states choices size h.
     let here = c.args.here.now in
-    let envs = environments c.args.record.now.params in
-    let reading = reading_of here.program.now c.args.record.now in
-    let enough : length (map (reading_of c.args.here.now.program.now c.args.record.now)
-    (environments c.args.record.now.params)) ≤ c.loop-number.number =
+    let envs = environments c.args.claim.now.params in
+    let reading = reading_of here.program.now c.args.claim.now in
+    let enough : length (map (reading_of c.args.here.now.program.now c.args.claim.now)
+    (environments c.args.claim.now.params)) ≤ c.loop-number.number =
     omega (
       arith,
       map_length reading envs,
-      count_is c.args.record.now.params,
+      count_is c.args.claim.now.params,
       c.requires.count,
       c.loop-number-test.false,
     ) in
@@ -56,14 +56,14 @@ returns-clause-stands c = λ states choices size h.
 pub returns-clause-violated : goal.returns-clause-violated
 returns-clause-violated c = λ states choices size h.
     let here = c.args.here.now in
-    let envs = environments c.args.record.now.params in
-    let reading = reading_of here.program.now c.args.record.now in
-    let enough : length (map (reading_of c.args.here.now.program.now c.args.record.now)
-    (environments c.args.record.now.params)) ≤ c.loop-number.number =
+    let envs = environments c.args.claim.now.params in
+    let reading = reading_of here.program.now c.args.claim.now in
+    let enough : length (map (reading_of c.args.here.now.program.now c.args.claim.now)
+    (environments c.args.claim.now.params)) ≤ c.loop-number.number =
     omega (
       arith,
       map_length reading envs,
-      count_is c.args.record.now.params,
+      count_is c.args.claim.now.params,
       c.requires.count,
       c.loop-number-test.false,
     ) in

@@ -8,4 +8,4 @@ use Rattle.trace_watch.proofs.looking.look_cases.Given as goal
 abbrev pub invariant-loop-number : goal.invariant-loop-number
 invariant-loop-number l =
     Looked (instances_at l.here) (system_at l.here) (state_at l.here) (option_to_list l.choice)
-    (map (reading_of l.here.program.now l.record) (environments l.record.params)) l.fn.cases l.cases l.first l.number
+    (map (reading_of l.here.program.now l.claim) (environments l.claim.params)) l.fn.cases l.cases l.first l.number

@@ -7,10 +7,10 @@ use Rattle.trace_watch.proofs.making.cases_of.Goals as goal
 
 pub loop-number-preserved : goal.loop-number-preserved
 loop-number-preserved c =
-    let envs = environments c.args.record.now.params in
-    let reading = reading_of c.args.p.now c.args.record.now in
+    let envs = environments c.args.claim.now.params in
+    let reading = reading_of c.args.p.now c.args.claim.now in
     let k = length c.args.p.now.statements in
-    let values : slice_get (environments c.args.record.now.params) c.loop-number.number
+    let values : slice_get (environments c.args.claim.now.params) c.loop-number.number
     ≡ Some c.case_values.new.into =
     ap (λ ps. slice_get (environments ps) c.loop-number.number) (sym c.as_slice-in-loop-number.ensures)
     ∙ c.case_values.ensures in (

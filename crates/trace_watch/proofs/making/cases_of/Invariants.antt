@@ -7,4 +7,4 @@ abbrev pub invariant-loop-number : goal.invariant-loop-number
 invariant-loop-number l =
     (length l.made.items ≡ l.number)
     × CasesStand (length l.p.statements) l.made.items
-    (map (reading_of l.p l.record) (environments l.record.params)) [] []
+    (map (reading_of l.p l.claim) (environments l.claim.params)) [] []

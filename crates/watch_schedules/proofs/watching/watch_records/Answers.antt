@@ -1,4 +1,4 @@
-use Rattle.std.proofs.Common.{◌<◌, ◌^◌, List, All, Err, length, sym, ap, ◌∙◌, subst}
+use Rattle.std.proofs.Common.{◌<◌, List, All, Err, sym, ap, ◌∙◌, subst}
 use Rattle.std.proofs.lemmas.Result.{err_from_is_err_and}
 use Rattle.core_terms.specs.declared.programs.CSlot.{CSlot}
 use Rattle.core_terms.specs.declared.programs.CProgram.{CProgram}
@@ -13,7 +13,7 @@ use Rattle.trace_watch.specs.Places.{RecordFits}
 use Rattle.trace_watch.specs.Tracing.{WatchesDefined}
 use Rattle.trace_watch.specs.Watching as watching
 use Rattle.watch_schedules.specs.Schedules.{Finds}
-use Rattle.watch_schedules.proofs.PlanLaws.{defined_watched, few_records, records_fit}
+use Rattle.watch_schedules.proofs.PlanLaws.{defined_watched, records_fit}
 use Rattle.watch_schedules.proofs.ScheduleLaws.{few_cases, moved_ends, scheduled_is, watch_stopped}
 use Rattle.watch_schedules.proofs.watching.watch_records.Goals as goal
 
@@ -21,12 +21,6 @@ pub new-requires-clause-program : goal.new-requires-clause-program
 new-requires-clause-program c =
     subst (λ (slots : List CSlot). IsProgram slots c.args.program.now) (sym c.as_slice-slots.ensures)
     (scheduled_is c.args.doc.now c.args.program.now c.requires.document c.requires.scheduled.program)
-
-pub new-requires-clause-plan : goal.new-requires-clause-plan
-new-requires-clause-plan c =
-    let book = c.requires.records in
-    subst (λ (rs : List Record). length rs < 2 ^ 31) (sym (c.as_slice.ensures ∙ book.2))
-    (few_records c.args.doc.now c.requires.document book.0 book.1)
 
 pub new-requires-clause-fits : goal.new-requires-clause-fits
 new-requires-clause-fits c =
