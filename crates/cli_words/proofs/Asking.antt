@@ -5,8 +5,8 @@ use Rattle.std.proofs.Common.{None, option_map, refl, ap, ◌∙◌, subst, arit
 use Rattle.std.specs.Str.{bytes_eq}
 use Rattle.std.proofs.lemmas.Slice.Eq.{bytes_eq-Decides}
 use Rattle.cli_words.specs.Numbers.{number_in}
-use Rattle.cli_words.specs.Requests.{Request, check, prove, run, replay, demo, upgrade, watch, positive, several}
-use Rattle.cli_words.specs.Requests.{one_word, two_words, three_words, request_of}
+use Rattle.cli_words.specs.Requests.{Request, check, prove, run, fixed, replay, demo, upgrade, watch, positive}
+use Rattle.cli_words.specs.Requests.{several, one_word, two_words, three_words, request_of}
 use Rattle.cli_words.specs.Laws.{Asks, RequestsAreAsked}
 use Rattle.cli_words.proofs.Decimals.{numbers_are_decimal}
 
@@ -76,15 +76,29 @@ run_asked word program steps (Some n) request e f some =
     subst (Asks (word ∷ program ∷ steps ∷ [])) is
     (ap (λ w. w ∷ program ∷ steps ∷ []) e ∙ ap (λ t. codes "run" ∷ program ∷ t ∷ []) number.0, number.1)
 
+fixed_asked : (word program steps : List ℕ) (found : Option ℕ) (request : Request) → word ≡ codes "fixed" →
+    number_in 1000000 steps ≡ found → option_map (fixed program) found ≡ Some request →
+    Asks (word ∷ program ∷ steps ∷ []) request
+fixed_asked word program steps None request e f some = cc
+fixed_asked word program steps (Some n) request e f some =
+    let number = (numbers_are_decimal 1000000 n steps (omega arith)).0 f in
+    let is : fixed program n ≡ request = cc in
+    subst (Asks (word ∷ program ∷ steps ∷ [])) is
+    (ap (λ w. w ∷ program ∷ steps ∷ []) e ∙ ap (λ t. codes "fixed" ∷ program ∷ t ∷ []) number.0, number.1)
+
 three_asked : (word program steps : List ℕ) (request : Request) → three_words word program steps ≡ Some request →
     Asks (word ∷ program ∷ steps ∷ []) request
-three_asked word program steps request e = go (bytes_eq word (codes "run")) refl e
+three_asked word program steps request e =
+    go (bytes_eq word (codes "run")) refl (bytes_eq word (codes "fixed")) refl e
   where
-    go : (b : Bool) → bytes_eq word (codes "run") ≡ b →
-        cond b (option_map (run program) (number_in 1000000 steps)) None ≡ Some request →
+    go : (b : Bool) → bytes_eq word (codes "run") ≡ b → (c : Bool) → bytes_eq word (codes "fixed") ≡ c →
+        cond b (option_map (run program) (number_in 1000000 steps))
+        (cond c (option_map (fixed program) (number_in 1000000 steps)) None) ≡ Some request →
         Asks (word ∷ program ∷ steps ∷ []) request
-    go true h some = run_asked word program steps (number_in 1000000 steps) request (same_bytes word _ h) refl some
-    go false h some = cc
+    go true h c k some = run_asked word program steps (number_in 1000000 steps) request (same_bytes word _ h) refl some
+    go false h true k some =
+        fixed_asked word program steps (number_in 1000000 steps) request (same_bytes word _ k) refl some
+    go false h false k some = cc
 
 words_asked : (words : List (List ℕ)) (request : Request) → request_of words ≡ Some request → Asks words request
 words_asked [] request e = cc
@@ -112,6 +126,9 @@ asking_words words (prove budget) h =
 asking_words words (run program steps) h =
     ap request_of h.0
     ∙ ap (option_map (run program)) ((numbers_are_decimal 1000000 steps (decimal steps) (omega arith)).1 (refl, h.1))
+asking_words words (fixed program steps) h =
+    ap request_of h.0
+    ∙ ap (option_map (fixed program)) ((numbers_are_decimal 1000000 steps (decimal steps) (omega arith)).1 (refl, h.1))
 asking_words words replay h = ap request_of h
 asking_words words upgrade h = ap request_of h
 asking_words words watch h = ap request_of h

@@ -10,6 +10,7 @@ pub data Request : Type 0 where
   check : Request
   prove : (budget : ℕ) → Request
   run : (program : List ℕ) → (steps : ℕ) → Request
+  fixed : (program : List ℕ) → (steps : ℕ) → Request
   replay : Request
   demo : (places : ℕ) → Request
   upgrade : Request
@@ -19,6 +20,7 @@ abbrev pub meant : Command → Request
 meant Command.Check = check
 meant (Command.Prove budget) = prove budget
 meant (Command.Run program steps) = run program.now steps
+meant (Command.Fixed program steps) = fixed program.now steps
 meant Command.Replay = replay
 meant (Command.Demo places) = demo places
 meant Command.Upgrade = upgrade
@@ -51,7 +53,8 @@ two_words word number =
 
 abbrev pub three_words : List ℕ → List ℕ → List ℕ → Option Request
 three_words word program steps =
-    cond (bytes_eq word (codes "run")) (option_map (run program) (number_in 1000000 steps)) None
+    cond (bytes_eq word (codes "run")) (option_map (run program) (number_in 1000000 steps))
+    (cond (bytes_eq word (codes "fixed")) (option_map (fixed program) (number_in 1000000 steps)) None)
 
 -- what words ask for, by position
 abbrev pub request_of : List (List ℕ) → Option Request

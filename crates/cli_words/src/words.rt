@@ -1,6 +1,6 @@
 // What words ask for.
 ghost use Rattle.std.specs.Prelude.{◌≡◌, option_map, IfSome};
-ghost use Rattle.cli_words.specs.Requests.{asked, meant, HasLimits, demo, prove};
+ghost use Rattle.cli_words.specs.Requests.{asked, meant, HasLimits, demo, prove, run, fixed};
 ghost use Rattle.cli_words.specs.Requests.{one_word, positive, several, two_words, three_words};
 ghost use Rattle.cli_words.specs.Numbers as numbers;
 
@@ -24,6 +24,8 @@ pub enum Command<'a> {
     Prove { budget: u64 },
     /// `run PROGRAM STEPS`: so many steps of a program, each of its instances in turn. 0 to 1,000,000.
     Run { program: &'a str, steps: u64 },
+    /// `fixed PROGRAM STEPS`: a run of so many steps that stops at the first fixed point. 0 to 1,000,000.
+    Fixed { program: &'a str, steps: u64 },
     /// `replay`: the steps that the document's schedule names.
     Replay,
     /// `demo N`: certificates for the proof of a ring of so many places. 2 to 64.
@@ -128,11 +130,33 @@ fn read_three<'a>(word: &str, program: &'a str, steps: &str) -> Option<Command<'
     ensures asked { option_map meant result ≡ three_words word.now program.now steps.now }
     ensures limits { IfSome result HasLimits }
 {
-    if word != "run" {
-        return None;
+    if word == "run" {
+        read_run(program, steps)
+    } else if word == "fixed" {
+        read_fixed(program, steps)
+    } else {
+        None
     }
+}
+
+// A run of so many steps.
+fn read_run<'a>(program: &'a str, steps: &str) -> Option<Command<'a>>
+    ensures asked { option_map meant result ≡ option_map (run program.now) (numbers.number_in 1000000 steps.now) }
+    ensures limits { IfSome result HasLimits }
+{
     match number_in(MOST_STEPS, steps) {
         Some(steps) => Some(Command::Run { program, steps }),
+        None => None,
+    }
+}
+
+// A run of so many steps that stops at a fixed point.
+fn read_fixed<'a>(program: &'a str, steps: &str) -> Option<Command<'a>>
+    ensures asked { option_map meant result ≡ option_map (fixed program.now) (numbers.number_in 1000000 steps.now) }
+    ensures limits { IfSome result HasLimits }
+{
+    match number_in(MOST_STEPS, steps) {
+        Some(steps) => Some(Command::Fixed { program, steps }),
         None => None,
     }
 }

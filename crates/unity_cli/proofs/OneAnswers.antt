@@ -22,7 +22,7 @@ use Rattle.certificate_reading.specs.Certificates.{certificates_of}
 use Rattle.cli_texts.specs.Refusals.{fault_text, refusal_text}
 use Rattle.cli_texts.specs.Verdicts.{accepted_text, rejected_text}
 use Rattle.upgraded_texts.specs.Upgraded.{upgraded_text}
-use Rattle.cli_words.specs.Requests.{check, prove, run, replay, demo, upgrade, watch}
+use Rattle.cli_words.specs.Requests.{check, prove, run, fixed, replay, demo, upgrade, watch}
 use Rattle.trace_watch.specs.declared.tracing.Ending.{Ending}
 use Rattle.watch_schedules.specs.declared.error.WatchStop.{WatchStop}
 use Rattle.watch_correct.specs.Watched.{IsWatched, Stops}
@@ -36,6 +36,7 @@ use Rattle.unity_cli.specs.Answer.Check.{IsAccepted, IsRejected}
 use Rattle.unity_cli.specs.Answer.Check.{Checked}
 use Rattle.unity_cli.specs.Answer.Run.{IsTrace, IsRun, HasNoStart, IsNotRun}
 use Rattle.unity_cli.specs.Answer.Run.{no_program, Ran}
+use Rattle.unity_cli.specs.Answer.Fixed.{IsFixedTrace, IsFixedRun, RanToFixed}
 use Rattle.unity_cli.specs.Answer.Replay.{IsReplayed, HasNoReplay, IsNotReplayed, no_schedule, unknown, Replayed}
 use Rattle.unity_cli.specs.Answer.Upgrade.{IsUpgraded, Upgraded}
 use Rattle.unity_cli.specs.Answer.Run as runs
@@ -234,6 +235,83 @@ one_ran bytes name steps Status.Done other text more a b = absurd b
 one_ran bytes name steps Status.Undefined other text more a b = absurd b
 one_ran bytes name steps Status.BadDocument other text more a b = absurd b
 one_ran bytes name steps status other text more a b = absurd a
+
+-- ---- fixed
+
+one_fixed_trace : (d : Document) (name : List ℕ) (c : Composed) (p : CProgram) (choices : List ℕ)
+    (defined also : Bool) (text more : List ℕ) → IsFixedTrace d name c p choices defined text →
+    IsFixedTrace d name c p choices also more → (defined ≡ also) × (text ≡ more)
+one_fixed_trace d name c p choices defined also text more a b =
+    (sym a.defined_is ∙ b.defined_is, a.text_is ∙ sym b.text_is)
+
+fixed_begins : (d : Document) (name : List ℕ) (c : Composed) (p : CProgram) (choices : List ℕ)
+    (defined : Bool) (text : List ℕ) → IsFixedTrace d name c p choices defined text →
+    (source_system d c).initial (first_state d p) ≡ false → ⊥
+fixed_begins d name c p choices defined text a none =
+    let never : ◌≡◌ {A = Bool} true false = sym a.initial ∙ none in
+    cc
+
+one_fixed_run : (d : Document) (name : List ℕ) (steps : ℕ) (defined also : Bool) (text more : List ℕ) →
+    IsFixedRun d name steps defined text → IsFixedRun d name steps also more → (defined ≡ also) × (text ≡ more)
+one_fixed_run d name steps defined also text more a b =
+    one_fixed_trace d name b.program b.core (turns (length b.program.instances) steps) defined also text more
+    (moved (λ c p. IsFixedTrace d name c p (turns (length c.instances) steps) defined text)
+    a.program b.program a.core b.core
+    (one_program d name a.program b.program a.core b.core a.is_core b.is_core) a.trace)
+    b.trace
+
+fixed_started : (d : Document) (name : List ℕ) (steps : ℕ) (defined : Bool) (text : List ℕ) →
+    IsFixedRun d name steps defined text → HasNoStart d name → ⊥
+fixed_started d name steps defined text a b =
+    fixed_begins d name b.program b.core (turns (length b.program.instances) steps) defined text
+    (moved (λ c p. IsFixedTrace d name c p (turns (length c.instances) steps) defined text)
+    a.program b.program a.core b.core
+    (one_program d name a.program b.program a.core b.core a.is_core b.is_core) a.trace)
+    b.not_initial
+
+fixed_not_refused : (bytes name : List ℕ) (steps : ℕ) (d : Document) (defined : Bool) (text more : List ℕ) →
+    IsAdmitted greatest_size bytes d → IsFixedRun d name steps defined text → IsNotRun bytes name more → ⊥
+fixed_not_refused bytes name steps d defined text more r a (runs.IsNotRun.bad b) = read_not_bad bytes more d r b
+fixed_not_refused bytes name steps d defined text more r a (no_program e s none f) =
+    named_program e name a.program a.core
+    (subst (λ x. IsCoreProgramOf x name a.program a.core) (read_once bytes d e r s) a.is_core)
+    none
+fixed_not_refused bytes name steps d defined text more r a (runs.IsNotRun.no_start e s none f) =
+    fixed_started e name steps defined text
+    (subst (λ x. IsFixedRun x name steps defined text) (read_once bytes d e r s) a) none
+
+both_fixed : (bytes name : List ℕ) (steps : ℕ) (d e : Document) (defined also : Bool) (text more : List ℕ) →
+    IsAdmitted greatest_size bytes d → IsFixedRun d name steps defined text → IsAdmitted greatest_size bytes e →
+    IsFixedRun e name steps also more →
+    (defined ≡ also) × (text ≡ more)
+both_fixed bytes name steps d e defined also text more r a s b =
+    one_fixed_run e name steps defined also text more
+    (subst (λ x. IsFixedRun x name steps defined text) (read_once bytes d e r s) a) b
+
+one_fixed : (bytes name : List ℕ) (steps : ℕ) (status other : Status) (text more : List ℕ) →
+    RanToFixed bytes name steps status text → RanToFixed bytes name steps other more → (status ≡ other) × (text ≡ more)
+one_fixed bytes name steps Status.Done Status.Done text more a b =
+    (refl, (both_fixed bytes name steps a.0 b.0 true true text more a.1 a.2 b.1 b.2).1)
+one_fixed bytes name steps Status.Done Status.Undefined text more a b =
+    let never = (both_fixed bytes name steps a.0 b.0 true false text more a.1 a.2 b.1 b.2).0 in cc
+one_fixed bytes name steps Status.Done Status.BadDocument text more a b =
+    absurd (fixed_not_refused bytes name steps a.0 true text more a.1 a.2 b)
+one_fixed bytes name steps Status.Undefined Status.Done text more a b =
+    let never = (both_fixed bytes name steps a.0 b.0 false true text more a.1 a.2 b.1 b.2).0 in cc
+one_fixed bytes name steps Status.Undefined Status.Undefined text more a b =
+    (refl, (both_fixed bytes name steps a.0 b.0 false false text more a.1 a.2 b.1 b.2).1)
+one_fixed bytes name steps Status.Undefined Status.BadDocument text more a b =
+    absurd (fixed_not_refused bytes name steps a.0 false text more a.1 a.2 b)
+one_fixed bytes name steps Status.BadDocument Status.Done text more a b =
+    absurd (fixed_not_refused bytes name steps b.0 true more text b.1 b.2 a)
+one_fixed bytes name steps Status.BadDocument Status.Undefined text more a b =
+    absurd (fixed_not_refused bytes name steps b.0 false more text b.1 b.2 a)
+one_fixed bytes name steps Status.BadDocument Status.BadDocument text more a b =
+    (refl, one_refusal bytes name text more a b)
+one_fixed bytes name steps Status.Done other text more a b = absurd b
+one_fixed bytes name steps Status.Undefined other text more a b = absurd b
+one_fixed bytes name steps Status.BadDocument other text more a b = absurd b
+one_fixed bytes name steps status other text more a b = absurd a
 
 -- ---- replay
 
@@ -537,6 +615,8 @@ one_answer (Some check) any bytes status other text more a b = one_checked bytes
 one_answer (Some (prove budget)) any bytes status other text more a b = absurd any
 one_answer (Some (run program steps)) any bytes status other text more a b =
     one_ran bytes program steps status other text more a b
+one_answer (Some (fixed program steps)) any bytes status other text more a b =
+    one_fixed bytes program steps status other text more a b
 one_answer (Some replay) any bytes status other text more a b = one_replayed bytes status other text more a b
 one_answer (Some (demo places)) any bytes status other text more a b = absurd any
 one_answer (Some upgrade) any bytes status other text more a b = one_upgraded bytes status other text more a b

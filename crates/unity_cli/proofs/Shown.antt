@@ -152,6 +152,8 @@ others_read asked (Command.Prove budget) e other f =
     let never : ◌≡◌ {A = Bool} true false = sym (ap reads_source e) ∙ f in cc
 others_read asked (Command.Run program steps) e other f =
     let never : ◌≡◌ {A = Bool} true false = sym (ap reads_source e) ∙ f in cc
+others_read asked (Command.Fixed program steps) e other f =
+    let never : ◌≡◌ {A = Bool} true false = sym (ap reads_source e) ∙ f in cc
 others_read asked Command.Replay e other f = let never : ◌≡◌ {A = Bool} true false = sym (ap reads_source e) ∙ f in cc
 others_read asked (Command.Demo places) e other f = other places refl
 others_read asked Command.Upgrade e other f =

@@ -22,6 +22,8 @@ use Rattle.schedule_replay.specs.Schedules.{turns}
 use Rattle.run_traces.specs.Programs.{scheduled_program}
 use Rattle.run_traces.proofs.FindingLaws as core
 use Rattle.run_traces.specs.Traces.{all_defined}
+use Rattle.fixed_runs.specs.Traces.{fixed_defined}
+use Rattle.fixed_correct.specs.Traces.{fixed_trace}
 use Rattle.run_correct.specs.Answers.{IsReplay}
 use Rattle.run_correct.specs.Names.{place_of}
 use Rattle.run_correct.specs.Traces.{source_system, first_state, program_trace}
@@ -42,7 +44,8 @@ use Rattle.certificate_reading.specs.Certificates.{certificates_of}
 use Rattle.cli_texts.specs.Refusals.{fault_text, refusal_text}
 use Rattle.cli_texts.specs.Verdicts.{accepted_text, rejected_text}
 use Rattle.upgraded_texts.specs.Upgraded.{upgraded_text}
-use Rattle.cli_words.specs.Requests.{Request, check, prove, run, replay, demo, upgrade, watch, request_of}
+use Rattle.cli_words.specs.Requests.{Request, check, prove, run, fixed, replay, demo, upgrade, watch}
+use Rattle.cli_words.specs.Requests.{request_of}
 use Rattle.cli_words.proofs.Asking.{requests_are_asked}
 use Rattle.trace_watch.specs.declared.tracing.Ending.{Ending}
 use Rattle.watch_correct.specs.Watched.{HasManyCases, HasNoPlan, HasNoProof, Replay, Started}
@@ -54,6 +57,7 @@ use Rattle.unity_cli.specs.Answer.Check.{Checked}
 use Rattle.unity_cli.specs.Answer.Prove.{Searched}
 use Rattle.unity_cli.specs.Answer.Demo.{ring_budget, ring_line}
 use Rattle.unity_cli.specs.Answer.Run.{IsTrace, no_program}
+use Rattle.unity_cli.specs.Answer.Fixed.{IsFixedTrace}
 use Rattle.unity_cli.specs.Answer.Replay.{no_schedule, unknown}
 use Rattle.unity_cli.specs.Answer.Run as runs
 use Rattle.unity_cli.specs.Answer.Replay as replays
@@ -188,6 +192,64 @@ ran bytes name steps (inl (d, read)) = by_name (program_named name (programs_of 
 
     by_name : (o : Option Composed) → program_named name (programs_of d) ≡ o →
         HasAnswer (Some (run name steps)) bytes
+    by_name None e = (Status.BadDocument, refusal_text Code.NoProgram, no_program d read e refl)
+    by_name (Some c) e = by_core c (programs_match d read.reading.named read.reading.expands name c e)
+
+-- ---- fixed
+
+abbrev FixedTraced : Document → List ℕ → Composed → CProgram → List ℕ → Type 0
+FixedTraced d name c p choices = (defined : Bool) × (text : List ℕ) × IsFixedTrace d name c p choices defined text
+
+fixed_traced : (d : Document) (name : List ℕ) (c : Composed) (p : CProgram) (choices : List ℕ) →
+    (source_system d c).initial (first_state d p) ≡ true → FixedTraced d name c p choices
+fixed_traced d name c p choices initial = (
+  fixed_defined (source_system d c) (first_state d p) choices,
+  fixed_trace d name c (first_state d p) choices,
+  record { initial = initial; defined_is = refl; text_is = refl },
+)
+
+fixed_core : (bytes name : List ℕ) (steps : ℕ) (d : Document) → IsAdmitted greatest_size bytes d → (c : Composed)
+    (p : CProgram) → IsCoreProgramOf d name c p → HasAnswer (Some (fixed name steps)) bytes
+fixed_core bytes name steps d read c p is =
+    by_start ((source_system d c).initial (first_state d p)) refl
+  where
+    by_trace : FixedTraced d name c p (turns (length c.instances) steps) →
+        HasAnswer (Some (fixed name steps)) bytes
+    by_trace (true, text, t) = (
+      Status.Done,
+      text,
+      (d, read, record { program = c; core = p; is_core = is; trace = t }),
+    )
+    by_trace (false, text, t) = (
+      Status.Undefined,
+      text,
+      (d, read, record { program = c; core = p; is_core = is; trace = t }),
+    )
+
+    by_start : (b : Bool) → (source_system d c).initial (first_state d p) ≡ b →
+        HasAnswer (Some (fixed name steps)) bytes
+    by_start true e = by_trace (fixed_traced d name c p (turns (length c.instances) steps) e)
+    by_start false e = (
+      Status.BadDocument,
+      refusal_text Code.NoStart,
+      runs.IsNotRun.no_start d read (record {
+        program = c;
+        core = p;
+        is_core = is;
+        not_initial = e;
+      }) refl,
+    )
+
+ran_fixed : (bytes name : List ℕ) (steps : ℕ) → ReadOrBad greatest_size bytes →
+    HasAnswer (Some (fixed name steps)) bytes
+ran_fixed bytes name steps (inr (text, bad)) = (Status.BadDocument, text, runs.IsNotRun.bad bad)
+ran_fixed bytes name steps (inl (d, read)) = by_name (program_named name (programs_of d)) refl
+  where
+    by_core : (c : Composed) → (p : CProgram) × IsCoreProgramOf d name c p → HasAnswer (Some (fixed name steps)) bytes
+    by_core c (p, is) = fixed_core bytes name steps d read c p is
+
+    by_name : (o : Option Composed) → program_named name (programs_of d) ≡ o →
+        HasAnswer (Some (fixed name steps)) bytes
     by_name None e = (Status.BadDocument, refusal_text Code.NoProgram, no_program d read e refl)
     by_name (Some c) e = by_core c (programs_match d read.reading.named read.reading.expands name c e)
 
@@ -501,6 +563,8 @@ limited_have_answer (Some (prove budget)) limited bytes =
     searched bytes budget limited (read_or_bad greatest_bare_size bytes)
 limited_have_answer (Some (run program steps)) limited bytes =
     ran bytes program steps (read_or_bad greatest_size bytes)
+limited_have_answer (Some (fixed program steps)) limited bytes =
+    ran_fixed bytes program steps (read_or_bad greatest_size bytes)
 limited_have_answer (Some replay) limited bytes = replayed bytes (read_or_bad greatest_size bytes)
 limited_have_answer (Some (demo places)) limited bytes =
     shown places bytes (searched (ring_bytes places) ring_budget (omega arith)
@@ -517,6 +581,7 @@ words_are_limited words = by_request (request_of words) refl
     by_request (Some check) e = tt
     by_request (Some (prove budget)) e = ((requests_are_asked words (prove budget)).0 e).2
     by_request (Some (run program steps)) e = tt
+    by_request (Some (fixed program steps)) e = tt
     by_request (Some replay) e = tt
     by_request (Some (demo places)) e = tt
     by_request (Some upgrade) e = tt

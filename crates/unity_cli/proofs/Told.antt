@@ -25,10 +25,15 @@ use Rattle.run_traces.specs.Answers.{CoreRuns, CoreReplays}
 use Rattle.run_correct.specs.Traces.{source_system, first_state, program_trace}
 use Rattle.run_correct.specs.Answers.{Runs, Replays}
 use Rattle.run_correct.proofs.Runs.{runs_say}
+use Rattle.fixed_runs.specs.Traces.{fixed_defined}
+use Rattle.fixed_runs.specs.Answers.{CoreFixedRuns}
+use Rattle.fixed_correct.specs.Traces.{fixed_trace}
+use Rattle.fixed_correct.specs.Answers.{FixedRuns}
+use Rattle.fixed_correct.proofs.Runs.{fixed_runs_say}
 use Rattle.run_correct.proofs.Replays.{replays_say}
 use Rattle.proof_script.specs.Giving.{AreWhole}
 use Rattle.certificate_reading.specs.Certificates.{certificates_of}
-use Rattle.cli_words.specs.Requests.{Request, check, run, replay}
+use Rattle.cli_words.specs.Requests.{Request, check, run, fixed, replay}
 use Rattle.unity_cli.specs.declared.status.Status.{Status}
 use Rattle.unity_cli.specs.declared.output.Answer.{Answer as Answered}
 use Rattle.unity_cli.specs.declared.stop.Stop.{Stop}
@@ -39,6 +44,7 @@ use Rattle.unity_cli.specs.Status.{HasText}
 use Rattle.unity_cli.specs.Stop.{stop_status}
 use Rattle.unity_cli.specs.Admitted.{greatest_size, IsAdmitted, IsBad}
 use Rattle.unity_cli.specs.Answer.Run.{IsRun, Ran}
+use Rattle.unity_cli.specs.Answer.Fixed.{IsFixedRun, RanToFixed}
 use Rattle.unity_cli.specs.Answer.{most_bytes}
 use Rattle.unity_cli.specs.Answer.Replay.{IsReplayed}
 use Rattle.unity_cli.specs.Answer.Check.{Checked, IsAccepted}
@@ -258,6 +264,90 @@ run_answered r name steps old mid new ended status h e bytes is =
     run_told bytes name steps r.document is.read old mid new ended status
     (runs_say r.document name steps old mid ended is.read.reading.named is.read.reading.expands
     (read_core greatest_size (omega arith) bytes r.document is.read) (subst (λ c. CoreRuns c name steps old mid
+    ended) is.core_is h)) e
+
+-- ---- fixed
+
+abbrev fixed_run_trace : Document → List ℕ → ℕ → Composed → CProgram → List ℕ
+fixed_run_trace d name steps c p = fixed_trace d name c (first_state d p) (run_choices c steps)
+
+fixed_so : (bytes name : List ℕ) (steps : ℕ) (d : Document) (defined : Bool) (text : List ℕ) → IsAdmitted greatest_size
+    bytes d →
+    IsFixedRun d name steps defined text → RanToFixed bytes name steps (status_for defined) text
+unfolding status_for
+fixed_so bytes name steps d true text r t = (d, r, t)
+fixed_so bytes name steps d false text r t = (d, r, t)
+
+fixed_told : (bytes name : List ℕ) (steps : ℕ) (d : Document) → IsAdmitted greatest_size bytes d → (old mid new : Option
+    (List ℕ))
+    (ended : Result Stepped RunError) (status : Status) → FixedRuns d name steps old mid ended →
+    EndsAs ended mid new status → Telling (fixed name steps) bytes old new status
+fixed_told bytes name steps d r old mid new (Ok Stepped.Done) status h e =
+    let t : IsFixedRun d name steps true (fixed_run_trace d name steps h.0 h.1) =
+    record {
+      program = h.0;
+      core = h.1;
+      is_core = h.2;
+      trace = record {
+        initial = h.3.initial;
+        defined_is = done_defined _ h.3.ending_is;
+        text_is = refl;
+      };
+    } in
+    exact_told (fixed name steps) bytes old new status Status.Done (fixed_run_trace d name steps h.0 h.1) (d, r, t) e.0
+    (subst (λ n. Appends old n (fixed_run_trace d name steps h.0 h.1)) (sym e.1) h.3.whole) (λ w. cc)
+fixed_told bytes name steps d r old mid new (Ok Stepped.Undefined) status h e =
+    let t : IsFixedRun d name steps false (fixed_run_trace d name steps h.0 h.1) =
+    record {
+      program = h.0;
+      core = h.1;
+      is_core = h.2;
+      trace = record {
+        initial = h.3.initial;
+        defined_is = undefined_not _ h.3.ending_is;
+        text_is = refl;
+      };
+    } in
+    exact_told (fixed name steps) bytes old new status Status.Undefined (fixed_run_trace d name steps h.0 h.1)
+    (d, r, t) e.0
+    (subst (λ n. Appends old n (fixed_run_trace d name steps h.0 h.1)) (sym e.1) h.3.whole) (λ w. cc)
+fixed_told bytes name steps d r old mid new (Err RunError.NoProgram) status h e =
+    bad_told (fixed name steps) bytes old mid new status (refusal_text Code.NoProgram)
+    (runs.IsNotRun.no_program d r h.0 refl) h.1 e
+fixed_told bytes name steps d r old mid new (Err RunError.NoSchedule) status h e = absurd h
+fixed_told bytes name steps d r old mid new (Err (RunError.NoSuchStatement at)) status h e = absurd h
+fixed_told bytes name steps d r old mid new (Err RunError.NotInitial) status h e =
+    bad_told (fixed name steps) bytes old mid new status (refusal_text Code.NoStart)
+    (runs.IsNotRun.no_start d r (record {
+      program = h.0;
+      core = h.1;
+      is_core = h.2;
+      not_initial = h.3.0;
+    }) refl) h.3.1 e
+fixed_told bytes name steps d r old mid new (Err RunError.Failed) status h e =
+    let defined = fixed_defined (source_system d h.0) (first_state d h.1) (run_choices h.0 steps) in
+    part_told (fixed name steps) bytes old mid new status (status_for defined) (fixed_run_trace d name steps h.0 h.1)
+    (fixed_so bytes name steps d defined (fixed_run_trace d name steps h.0 h.1) r
+    (record {
+      program = h.0;
+      core = h.1;
+      is_core = h.2;
+      trace = record {
+        initial = h.3.0;
+        defined_is = refl;
+        text_is = refl;
+      };
+    })) h.3.1 e.1 e.0
+fixed_told bytes name steps d r old mid new (Err RunError.Memory) status h e =
+    none_told (fixed name steps) bytes old new status e.0
+
+pub fixed_answered : (r : AdmittedDocument) (name : List ℕ) (steps : ℕ) (old mid new : Option (List ℕ))
+    (ended : Result Stepped RunError) (status : Status) → CoreFixedRuns r.core name steps old mid ended →
+    EndsAs ended mid new status → TellsAdmitted (fixed name steps) r old new status
+fixed_answered r name steps old mid new ended status h e bytes is =
+    fixed_told bytes name steps r.document is.read old mid new ended status
+    (fixed_runs_say r.document name steps old mid ended is.read.reading.named is.read.reading.expands
+    (read_core greatest_size (omega arith) bytes r.document is.read) (subst (λ c. CoreFixedRuns c name steps old mid
     ended) is.core_is h)) e
 
 -- ---- replay

@@ -2,6 +2,7 @@
 pub mod Check
 pub mod Prove
 pub mod Run
+pub mod Fixed
 pub mod Replay
 pub mod Demo
 pub mod Upgrade
@@ -9,12 +10,13 @@ pub mod Watch
 use Rattle.std.specs.Prelude.{◌≡◌, ℕ, List, ◌∷◌, [], ◌++◌, codes, Bool, true, false, Option, Some, None}
 use Rattle.std.specs.Io.KnownBytes.{Appends}
 use Rattle.unity_base.specs.Streams.{Was, AppendsPart}
-use Rattle.cli_words.specs.Requests.{Request, check, prove, run, replay, demo, upgrade, watch}
+use Rattle.cli_words.specs.Requests.{Request, check, prove, run, fixed, replay, demo, upgrade, watch}
 use Rattle.unity_cli.specs.declared.status.Status.{Status}
 use Rattle.unity_cli.specs.Admitted.{greatest_size, greatest_bare_size}
 use Rattle.unity_cli.specs.Answer.Check.{Checked}
 use Rattle.unity_cli.specs.Answer.Prove.{Searched}
 use Rattle.unity_cli.specs.Answer.Run.{Ran}
+use Rattle.unity_cli.specs.Answer.Fixed.{RanToFixed}
 use Rattle.unity_cli.specs.Answer.Replay.{Replayed}
 use Rattle.unity_cli.specs.Answer.Demo.{Shown}
 use Rattle.unity_cli.specs.Answer.Upgrade.{Upgraded}
@@ -32,6 +34,7 @@ Answer None bytes status text = (status ≡ Status.BadWords) × (text ≡ codes 
 Answer (Some check) bytes status text = Checked bytes status text
 Answer (Some (prove budget)) bytes status text = Searched bytes budget status text
 Answer (Some (run program steps)) bytes status text = Ran bytes program steps status text
+Answer (Some (fixed program steps)) bytes status text = RanToFixed bytes program steps status text
 Answer (Some replay) bytes status text = Replayed bytes status text
 Answer (Some (demo places)) bytes status text = Shown places status text
 Answer (Some upgrade) bytes status text = Upgraded bytes status text

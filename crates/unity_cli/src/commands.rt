@@ -8,6 +8,7 @@ ghost use Rattle.unity_cli.specs.Input.{IsSomeText};
 
 use crate::check::write_verdict;
 use crate::demo::write_demo;
+use crate::fixed::write_fixed;
 use crate::input::{Input, Text};
 use crate::prove::write_finding;
 use crate::replay::write_replay;
@@ -51,6 +52,9 @@ pub fn write_command<K: Sink>(alloc: Global, command: &Command, text: Text, out:
         Command::Prove { budget } => write_finding(alloc, *budget, &text.bytes, &text.input, out),
         Command::Run { program, steps } => {
             write_run(alloc, program, *steps, &input_of(text), out)
+        }
+        Command::Fixed { program, steps } => {
+            write_fixed(alloc, program, *steps, &input_of(text), out)
         }
         Command::Replay => write_replay(alloc, &input_of(text), out),
         Command::Demo { places } => write_demo(alloc, *places, out),

@@ -4,6 +4,7 @@
 mod check;
 mod commands;
 mod demo;
+mod fixed;
 mod input;
 mod laws;
 mod output;
@@ -17,6 +18,6 @@ mod upgrade;
 mod watch;
 
 pub use cli_ring::make_demo;
-pub use laws::one_answer;
+pub use laws::{layers_project, one_answer};
 pub use status::Status;
 pub use top::unity;

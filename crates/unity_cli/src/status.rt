@@ -5,7 +5,7 @@ ghost use Rattle.unity_cli.specs.Status.{status_number};
 #[derive(Clone, Copy, Debug, PartialEq, Eq)]
 pub enum Status {
     /// `check`: each step follows its rule, and each certificate refutes its obligation's negation.
-    /// `run`, `replay`: each step was defined.
+    /// `run`, `fixed`, `replay`: each step was defined.
     /// `prove`: certificates were found for all obligations.
     /// `watch`: nothing is violated on the trace.
     Done = 0,
@@ -18,7 +18,7 @@ pub enum Status {
     Refuted = 3,
     /// `prove`: the budget does not suffice.
     Budget = 4,
-    /// `run`, `replay`: the next step is undefined at the last state that was written.
+    /// `run`, `fixed`, `replay`: the next step is undefined at the last state that was written.
     Undefined = 5,
     /// The words name no command.
     BadWords = 6,
