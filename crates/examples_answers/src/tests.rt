@@ -1,6 +1,8 @@
 // Documents with their answers.
 mod certificates;
 mod edits;
+mod fixed;
+mod further;
 mod names;
 mod quotients;
 mod steps;

@@ -1,6 +1,8 @@
 // Documents whose last proof goes on with further steps: how the first condition of a rule that fails is told, and
 // what is accepted where none does.
+mod further;
 mod helpers;
+mod layers;
 mod order;
 mod pairs;
 mod starts;

@@ -1,5 +1,7 @@
 // Searches for certificates.
 mod costs;
+mod further;
+mod points;
 mod programs;
 
 use examples_answers::{ACCEPTED, COUNT, Row, Status, answer, edited, make_demo, wrong_answers};

@@ -1,5 +1,6 @@
 -- What wrong bodies change of an answer.
 use Rattle.std.specs.Prelude.{ℕ, List, [], ◌∷◌, Option, Some, None, Result, Ok, Err, slice_get, slice_set}
+use Rattle.case_tables.specs.declared.kind_table.Kind.{Kind}
 use Rattle.core_terms.specs.declared.trees.CForm.{CForm, out-CForm}
 use Rattle.core_terms.specs.declared.trees.CForm.TheOpen.{CForm-F}
 use Rattle.core_terms.specs.declared.trees.CForm.TheVariants.{Or}
@@ -30,6 +31,14 @@ part_in _ whole = whole
 -- with this end
 abbrev pub with_end : CForm → Derived → Derived
 with_end q d = record { made = record d.made { q = q }; obligations = d.obligations }
+
+-- of this kind
+abbrev pub with_kind : Kind → Derived → Derived
+with_kind kind d = record { made = record d.made { kind = kind }; obligations = d.obligations }
+
+-- its two sides in each other's place
+abbrev pub turned : Derived → Derived
+turned d = record { made = record d.made { p = d.made.q; q = d.made.p }; obligations = d.obligations }
 
 -- with a change of what is left to be shown
 abbrev pub with_goals : (List Obligation → List Obligation) → Derived → Derived

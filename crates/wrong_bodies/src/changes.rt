@@ -2,7 +2,7 @@
 ghost use Rattle.std.specs.Prelude.{◌≡◌, IfOk, OnOk, Ok, [], slice_get, take};
 ghost use Rattle.core_terms.specs.declared.trees.CForm.{out-CForm};
 ghost use Rattle.wrong_bodies.specs.Changes.{changed, either, either_at, goals_of, less_first, part_in, rounds_of};
-ghost use Rattle.wrong_bodies.specs.Changes.{with_bound, with_goals, with_end};
+ghost use Rattle.wrong_bodies.specs.Changes.{turned, with_bound, with_goals, with_end, with_kind};
 
 use case_tables::Kind;
 use core_terms::{CForm, Range, copy_form, copy_forms, held_form};
@@ -80,6 +80,24 @@ pub fn with_end(answer: Result<Derived, RuleError>, q: CForm) -> Result<Derived,
 {
     let mut derived = answer?;
     derived.made.q = q;
+    Ok(derived)
+}
+
+/// An answer of this kind.
+pub fn with_kind(answer: Result<Derived, RuleError>, kind: Kind) -> Result<Derived, RuleError>
+    ensures { result ≡ changed (with_kind kind) answer }
+{
+    let mut derived = answer?;
+    derived.made.kind = kind;
+    Ok(derived)
+}
+
+/// An answer whose two sides have changed places.
+pub fn turned(answer: Result<Derived, RuleError>) -> Result<Derived, RuleError>
+    ensures { result ≡ changed turned answer }
+{
+    let mut derived = answer?;
+    std::mem::swap(&mut derived.made.p, &mut derived.made.q);
     Ok(derived)
 }
 

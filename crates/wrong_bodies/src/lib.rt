@@ -3,6 +3,9 @@
 #![tactic(auto)]
 
 mod changes;
+mod fixing;
+mod further;
+mod layers;
 mod program;
 mod rules;
 mod runs;
@@ -11,9 +14,12 @@ mod searches;
 mod watching;
 
 pub use changes::{
-    changed_record, first_part, goal_at, rounds_of, with_bound, with_either_goal, with_end,
-    with_first_goals, with_goals_of, without_first_goal,
+    changed_record, first_part, goal_at, rounds_of, turned, with_bound, with_either_goal, with_end,
+    with_first_goals, with_goals_of, with_kind, without_first_goal,
 };
+pub use fixing::{fixed_rule, is_fixed, is_fixed_or_stuck, run_to_fixed};
+pub use further::{complete_rule, constant_rule, detects_rule, lead_cancel_rule};
+pub use layers::{adds_label_again, adds_write_below, have_other_guard, or_taken, superpose_rule};
 pub use program::unity;
 pub use rules::{derive, ensures_rule, invariant_rule, pair_rule, union_unless, weaken_rule};
 pub use runs::step;

@@ -360,6 +360,40 @@ Job.one ensures
 Job.soon leadsto 1
 ",
     ),
+    // a leads-to by the further rules: by the greater bound in place of the sum the last one would be violated
+    (
+        "watch",
+        "unity 2
+# By the maximum the last bound would be 1, and `b, a` is a round.
+program Two
+declare
+  x : 0..2
+initially
+  x = 0
+assign
+     a: x := 1 if x = 0
+  [] b: x := 2 if x = 1
+end
+proof Two
+  safe: defined by text;
+  ea: x = 0 ensures x = 1 by text with a;
+  eb: x = 1 ensures x = 2 by text with b;
+  la: x = 0 leadsto x = 2 or x = 1 by weaken(x = 0, x = 2 or x = 1, from ea);
+  lb: x = 1 leadsto x = 2 by from eb;
+  both: x = 0 leadsto x = 2 or x = 2 by cancel la lb;
+end
+schedule Two : b, a, a, b end
+",
+        Status::Done,
+        "watched Two 5 states 2 rounds
+Two.safe defined
+Two.ea ensures
+Two.eb ensures
+Two.la leadsto 1
+Two.lb leadsto 1
+Two.both leadsto 2
+",
+    ),
 ];
 
 #[test]

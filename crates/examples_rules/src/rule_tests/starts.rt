@@ -214,3 +214,167 @@ H.safe defined
 H.low invariant
 ",
 };
+
+/// Steps of each kind that a further rule takes, in a program where each step gives x = 1.
+pub const LED_AND_KEPT: Start = Start {
+    document: "unity 2 program P declare x : 0..3 initially x = 0 assign go: x := 1 end
+program Q declare y : 0..3 assign up: y := 1 end
+proof Q safe: defined by text; end
+proof P safe: defined by text; low: invariant x = 1 => x <= 1 by text;
+a: true ensures x >= 1 or x = 1 by text with go; la: true leadsto x >= 1 or x = 1 by from a;
+c(m : 0..3): x = m ensures x = 1 by text with go; lc(m : 0..3): x = m leadsto x = 1 by from c[m];
+k(m : 0..3): x = m unless x = 1 by text; ua: x >= 1 unless x = 1 by text; ub: x <= 2 unless x = 1 by text;
+b: x = 1 ensures x <= 2 or x = 1 by text with go; le: x = 1 leadsto x <= 2 or x = 1 by from b;
+lb: x = 3 leadsto x <= 2 or x = 1 by trans(from c[3], from b);
+o: x <= 1 ensures x = 1 by text with go; lo: x <= 1 leadsto x = 1 by from o;
+n: not x >= 0 unless x = 1 by text; s: stable x >= 0 by text; t: stable not x >= 0 by text;
+",
+    certificates: "1: sum 1*1;
+2: sum 1*1;
+3: sum 1*5 1*4;
+4: sum 1*3;
+5: sum 1*4;
+6: sum 1*4;
+7: case 2 sum 1*7 sum 1*7;
+8: sum 1*7;
+9: case 2 sum 1*7 sum 1*7;
+10: sum 1*4;
+11: sum 1*4;
+12: sum 1*5 1*4;
+13: sum 1*5 1*4;
+14: sum 1*4;
+15: sum 1*4;
+16: sum 1*3 1*1;
+17: sum 1*4;
+18: sum 1*3 1*1;
+",
+    lines: "Q.safe defined
+P.safe defined
+P.low invariant
+P.a ensures
+P.la leadsto 1
+P.c ensures
+P.lc leadsto 1
+P.k unless
+P.ua unless
+P.ub unless
+P.b ensures
+P.le leadsto 1
+P.lb leadsto 2
+P.o ensures
+P.lo leadsto 1
+P.n unless
+P.s unless
+P.t unless
+",
+};
+
+/// Bounds up to 2^63, and formulas of more than half of the nodes that a conclusion may have.
+pub const FAR_AND_LARGE: Start = Start {
+    document: "unity 2 program P declare x : 0..3
+always n1 = x + x n2 = n1 + n1 n3 = n2 + n2 n4 = n3 + n3 n5 = n4 + n4 n6 = n5 + n5 n7 = n6 + n6
+n8 = n7 + n7 n9 = n8 + n8 n10 = n9 + n9 n11 = n10 + n10 n12 = n11 + n11 n13 = n12 + n12 n14 = n13 + n13
+assign go: x := 1 end
+proof P safe: defined by text; e: true ensures true by text with go; one: true leadsto true by from e;
+s(m : 0..536870911): true and x = m ensures (true and x < m) or true by text with go;
+g: true leadsto true by induct(m : 0..536870911, x, true, true, from s[m]);
+h: true leadsto true by
+induct(m : 0..536870911, x, true, true, weaken(true and x = m, (true and x < m) or true, from g));
+k: true leadsto true by
+induct(m : 0..31, x, true, true, weaken(true and x = m, (true and x < m) or true, from h));
+w: true leadsto x >= 0 or true by weaken(true, x >= 0 or true, from k); now: true leadsto true by imply(true, true);
+large: true leadsto n14 >= 0 or true by weaken(true, n14 >= 0 or true, from one);
+ln: true leadsto n14 >= 0 by imply(true, n14 >= 0);
+le: true leadsto n14 >= 0 or false by imply(true, n14 >= 0 or false);
+st: stable n14 >= 0 by text;
+",
+    certificates: "1: sum 1*1;
+2: sum 1*1;
+3: sum 1*1;
+4: sum 1*7;
+5: sum 1*7;
+6: sum 1*3;
+7: sum 1*7;
+8: sum 1*5;
+9: sum 1*3;
+10: sum 1*7;
+11: sum 1*5;
+12: sum 1*3;
+13: sum 1*1;
+14: sum 1*3 1*1;
+15: sum 1*1;
+16: sum 1*1;
+17: round 16384 1*3 sum 1*5 1*1;
+18: round 16384 1*3 sum 1*4 1*1;
+19: round 16384 1*3 sum 1*4 1*1;
+20: sum 1*4;
+",
+    lines: "P.safe defined
+P.e ensures
+P.one leadsto 1
+P.s ensures
+P.g leadsto 536870912
+P.h leadsto 288230376151711744
+P.k leadsto 9223372036854775808
+P.w leadsto 9223372036854775808
+P.now leadsto 0
+P.large leadsto 1
+P.ln leadsto 0
+P.le leadsto 0
+P.st unless
+",
+};
+
+/// A program, one that has no proof, and a layer over the first, whose proof goes on.
+pub const LAYERED: Start = Start {
+    document: "unity 2 program F declare x : 0..3 initially x = 0 assign go: x := 1 if x = 0 [] up: x := 3 if x = 1 end
+program N declare x : 0..3 assign other: x := 1 end
+program H declare x : 0..3 n : 0..9 initially x = 0 and n = 0
+assign first: x := 1 if x = 0 || n := 1 if x = 0 [] second: x := 3 if x = 1 [] clear: n := 0 end
+proof F safe: defined by text; low: invariant x <= 3 by text; u: x = 1 unless x = 3 by text;
+w: x = 1 unless x >= 2 by text using low; e: x = 0 ensures x = 1 by text with go;
+o(m : 1..1): x = m ensures x = 3 by text with up; l: x = 0 leadsto x = 3 by trans(from e, from o[1]);
+f: fixed x = 3 by text; end
+proof H safe: defined by text; own: x = 1 unless x = 3 by text; q: invariant n <= 1 by text;
+",
+    certificates: "1: sum 1*5;
+2: sum 1*5;
+3: sum 1*5 1*2;
+4: case 1 sum 1*6 case 1 sum 1*6 sum 1*4 1*2;
+5: case 1 sum 1*6 case 1 sum 1*6 sum 1*4 1*2;
+6: case 2 sum 1*6 1*3 case 2 sum 1*6 1*3 case 4 sum 1*5 1*4 sum 1*5 1*3;
+7: case 2 sum 1*7 case 3 case 3 sum 1*7 sum 1*7 case 3 sum 1*5 1*4 sum 1*5 1*3;
+8: case 1 sum 1*8 1*4 case 2 sum 1*8 1*4 case 4 sum 1*7 1*5 sum 1*7 1*4;
+9: case 1 sum 1*9 case 3 sum 1*9 case 3 sum 1*8 1*5 sum 1*8 1*4;
+10: case 2 sum 1*7 case 3 case 3 sum 1*7 sum 1*7 case 3 sum 1*5 1*4 sum 1*5 1*1;
+11: case 2 sum 1*5 1*4 case 2 sum 1*5 1*4 case 4 sum 1*5 1*4 sum 1*5 1*1;
+12: case 2 sum 1*7 case 2 case 2 sum 1*7 sum 1*7 case 2 sum 1*5 1*4 sum 1*5 1*1;
+13: case 2 sum 1*8 1*5 1*3 case 2 sum 1*8 1*5 1*3 case 4 sum 1*7 1*6 sum 1*7 1*5;
+14: case 2 sum 1*9 case 3 case 3 sum 1*9 sum 1*9 case 3 sum 1*7 1*6 1*4 sum 1*7 1*5 1*3;
+15: case 2 sum 1*9 case 2 case 2 sum 1*9 sum 1*9 case 2 sum 1*7 1*6 1*4 sum 1*7 1*5 1*3;
+16: case 1 sum 1*6 1*3 sum 1*6 1*3;
+17: case 1 sum 1*6 1*3 sum 1*6 1*3;
+18: case 1 sum 1*5 sum 1*5;
+19: sum 1*5;
+20: sum 1*1;
+21: case 2 case 2 sum 1*6 1*3 sum 1*6 1*3 case 2 sum 1*6 1*3 case 4 sum 1*5 1*4 sum 1*5 1*3;
+22: case 2 sum 1*7 case 3 case 3 sum 1*7 sum 1*7 case 3 sum 1*5 1*4 sum 1*5 1*3;
+23: case 2 sum 1*5 case 2 sum 1*5 1*4 sum 1*5 1*3;
+24: sum 1*9 1*8;
+25: case 1 case 1 sum 1*8 sum 1*8 case 1 sum 1*8 sum 1*6 1*5;
+26: case 1 sum 1*8 sum 1*6 1*5;
+27: sum 1*4;
+",
+    lines: "F.safe defined
+F.low invariant
+F.u unless
+F.w unless
+F.e ensures
+F.o ensures
+F.l leadsto 2
+F.f fixed
+H.safe defined
+H.own unless
+H.q invariant
+",
+};
