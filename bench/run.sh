@@ -1,10 +1,12 @@
 #!/bin/bash
-# How many steps `unity run` takes in a second, with the text of each written to a file, and how much memory.
+# How many steps `unity run` and `unity fixed` take in a second, with the text of each written to a file, and how much
+# memory.
 #
 # The programs are a ring of 64 places with one token, for 1,000,000 steps, and a program of 4,096 statements over
-# 1,000 variables, for 10,000 and 100,000 steps: the memory is not to grow with the steps. It runs the built program
-# (`bash scripts/test.sh` builds it), or the one that is named. Run it with nothing else at work. The text of the
-# second program takes 900 MB of disk, in the folder that TMPDIR names.
+# 1,000 variables, for 10,000 and 100,000 steps: the memory is not to grow with the steps. Neither comes to a fixed
+# point, so `fixed` looks for one at each state. It runs the built program (`bash scripts/test.sh` builds it), or the
+# one that is named. Run it with nothing else at work. The text of the second program takes 900 MB of disk, in the
+# folder that TMPDIR names.
 set -eu
 top=$(cd "$(dirname "$0")/.." && pwd)
 program=${1:-$top/crates/unity/out/unity}
@@ -35,22 +37,24 @@ assign
 end
 END
 
-# steps_of PROGRAM STEPS: runs so many steps of a program three times, and prints the best speed.
+# steps_of WORD PROGRAM STEPS: by this word runs so many steps of a program three times, and prints the best speed.
 steps_of() {
     local least= used
     for run in 1 2 3; do
-        env time -f "%e %M" -o "$work/used" "$program" run "$1" "$2" < "$work/$1" > "$work/answer" || true
+        env time -f "%e %M" -o "$work/used" "$program" "$1" "$2" "$3" < "$work/$2" > "$work/answer" || true
         used=$(tail -n 1 "$work/used")
         if [ -z "$least" ] || awk -v a="$used" -v b="$least" 'BEGIN { exit !(a + 0 < b + 0) }'; then least=$used; fi
     done
-    echo "$least" | awk -v name="$1" -v steps="$2" -v size="$(wc -c < "$work/answer")" '{
+    echo "$least" | awk -v name="$1 $2" -v steps="$3" -v size="$(wc -c < "$work/answer")" '{
         if ($1 == 0) $1 = 0.01
         printf "%s: %d steps in %.2f s, %.0f steps/s, %.1f MB/s of text, %d KB of memory\n", \
             name, steps, $1, steps / $1, size / 1e6 / $1, $2 }'
     tail -n 1 "$work/answer" | cut -c1-100
 }
 
-steps_of Ring 1000
-steps_of Ring 1000000
-steps_of Wide 10000
-steps_of Wide 100000
+steps_of run Ring 1000
+steps_of run Ring 1000000
+steps_of run Wide 10000
+steps_of run Wide 100000
+steps_of fixed Ring 1000000
+steps_of fixed Wide 10000

@@ -103,6 +103,8 @@ def key(formula):
         return key(inner) if inner.node else ("word", node.name)
     if node.kind in ("and", "or"):
         return chain(node.kind, [one(part) for part in node.parts])
+    if node.kind == "not":
+        return "not", one(node.parts[0])
     if node.kind == "imp":
         return "or", ("not", one(node.parts[0])), one(node.parts[1])
     if node.kind == "cmp":

@@ -26,7 +26,7 @@ install -m 644 editors/* "$share/editors/"
 install -m 644 docs/TUTORIAL.md docs/WRITING.md docs/LANGUAGE.md docs/LOGIC.md docs/CERTIFICATES.md docs/TERMS.md \
     "$share/docs/"
 install -m 644 scripts/places.sh scripts/unity.sh "$share/scripts/"
-install -m 644 scripts/{document,formulas,plan,probe,sides,refusals,why,cost,schedules}.py "$share/scripts/"
+install -m 644 scripts/{document,formulas,plan,layers,probe,sides,refusals,why,cost,schedules}.py "$share/scripts/"
 for script in check prove why cost check_all watch try shrink trace_svg; do
     install -m 644 "scripts/$script.sh" "$share/scripts/"
     command=$prefix/bin/unity-${script//_/-}

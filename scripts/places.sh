@@ -18,6 +18,18 @@ need_built() {
     fi
 }
 
+# limit_memory: the program that runs next gets no more memory than UNITY_MEMORY says, in MB: 4096 where it says
+# nothing. Where that is not enough `unity` exits with status 9, and what it wrote up to there is right. A number of MB
+# that is greater than what the system grants changes nothing.
+limit_memory() {
+    local most=${UNITY_MEMORY:-4096}
+    if ! [[ "$most" =~ ^[1-9][0-9]{0,8}$ ]]; then
+        echo "UNITY_MEMORY is a number of MB, and no $most" >&2
+        exit 64
+    fi
+    ulimit -Sv "$((most * 1024))" 2> /dev/null || true
+}
+
 # run_unity ANSWER NOTES FILE WORD..: what `unity` says by these words of the file goes to ANSWER. The built
 # program is taken where it is there; else the sources are compiled as they are, in about a minute and with no
 # proof, and what that says goes to NOTES. The status is that of `unity`.
@@ -25,7 +37,7 @@ run_unity() {
     local answer=$1 notes=$2 file=$3 status=0
     shift 3
     if [ -n "$built" ]; then
-        "$built" "$@" < "$file" > "$answer" || status=$?
+        (limit_memory && exec "$built" "$@") < "$file" > "$answer" || status=$?
     else
         (cd "$top/crates/unity" && rt try -- "$@") < "$file" > "$answer" 2> "$notes" || status=$?
         if ! grep -q '^run=ended' "$notes"; then
@@ -47,7 +59,7 @@ run_on_each() {
         cat "$file" > "$work/files/$number"
         if [ -n "$built" ]; then
             status=0
-            "$built" "$word" < "$file" > "$work/answers/$number" || status=$?
+            (limit_memory && exec "$built" "$word") < "$file" > "$work/answers/$number" || status=$?
             echo "$status" > "$work/statuses/$number"
         fi
     done

@@ -30,16 +30,21 @@ class Plan:
         return self.known[program]
 
     def under(self, step):
-        """The invariants that a step rests on: those that `using` names, and those of the steps it is made from."""
-        found = [(ref.word, key(self.formula(inv.p))) for ref in step.using for inv in [self.step_of(step, ref)] if inv]
+        """The names of the invariants that a step rests on, each formula once, and the formulas to compare."""
+        each = []
+        for inv in self.invariants_under(step):
+            one = key(self.formula(inv.p))
+            if one not in [other for _, other in each]:
+                each.append((inv.name, one))
+        return each
+
+    def invariants_under(self, step):
+        """The invariants that `using` names in a step, and then in those that it is made from."""
+        found = [inv for ref in step.using for inv in [self.step_of(step, ref)] if inv]
         for ref in refs_of(step.rule):
             if self.step_of(step, ref):
-                found += self.under(self.step_of(step, ref))
-        each = []
-        for name, one in found:
-            if one not in [other for _, other in each]:
-                each.append((name, one))
-        return each
+                found += self.invariants_under(self.step_of(step, ref))
+        return found
 
     def step_of(self, step, ref):
         return self.document.find(ref.program or step.program, ref.word)
@@ -53,6 +58,10 @@ class Plan:
             parts = [self.step_of(step, ref) for ref in rule.refs]
             shown = [name for part in parts if part for name, _ in self.under(part)]
             return [Record(kind="shown", says="%s, which a part was proved under" % name, inst=None) for name in shown]
+        if rule.word == "superpose":
+            below = rule.refs[0].program
+            says = "%s begins where %s may" % (step.program, below)
+            return [Record(kind="begins", says=says, inst=None, below=below)]
         if rule.word == "weaken step":
             inner = self.step_of(step, rule.refs[0])
             return [self.implied("its right side", self.formula(inner.q), self.formula(step.q))]
@@ -65,6 +74,8 @@ class Plan:
         if step.kind == "invariant":
             each = [Record(kind="kept", says="%s keeps it" % name, inst=name) for name in names]
             return [Record(kind="start", says="it holds at the start", inst=None)] + each
+        if step.kind == "fixed":
+            return [Record(kind="rests", says="%s leaves such a state as it is" % name, inst=name) for name in names]
         goes = "%s keeps it" if step.kind == "stable" else "after %s the left or the right side holds"
         each = [Record(kind="goes", says=goes % name, inst=name) for name in names]
         return each + (self.by_helper(step, names) if step.kind == "ensures" else [])
@@ -107,6 +118,12 @@ class Plan:
                 preds[0], self.document.words(ends[0][0], ends[1][1]), preds[2])
             found.append(Record(kind="measure", says=inside, inst=None, measure=preds[0], ends=ends))
         return found
+
+
+def programs_in(document, name):
+    """The plain programs of which a program is made."""
+    parts = document.programs[name].parts
+    return [document.programs[name]] if not parts else [it for part in parts for it in programs_in(document, part)]
 
 
 def idle_items(document, program):

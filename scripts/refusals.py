@@ -5,7 +5,8 @@ import re
 
 from document import TOP, tokens_of, unity
 from formulas import pieces
-from plan import refs_of
+from layers import new_variables, why_none
+from plan import programs_in, refs_of
 from sides import Sides
 
 # what stands at the place of a code, and just before it: the mistakes that come from other languages
@@ -145,6 +146,8 @@ def other_program(plan, step):
     for ref, found in each_ref(plan, step):
         if found and found.program != step.program:
             print("%s is a step of %s, and %s one of %s" % (named(ref), found.program, step.name, step.program))
+        elif found and step.rule.word == "superpose":
+            print("%s is a step of %s itself" % (named(ref), step.program))
 
 
 def article(kind):
@@ -180,11 +183,6 @@ def defined_missing(plan, step):
             print("the proof of %s has no `defined` step" % proof.name)
         elif step in proof.steps and proof.steps.index(step) < proof.steps.index(found[0]):
             print("%s stands below, at line %d" % (found[0].name, plan.document.line(found[0].start)))
-
-
-def programs_in(document, name):
-    parts = document.programs[name].parts
-    return [document.programs[name]] if not parts else [it for part in parts for it in programs_in(document, part)]
 
 
 def no_start(plan, step):
@@ -238,9 +236,36 @@ def no_such_statement(plan, step):
                                                      ", ".join(plan.instances(step.program)[:20])))
 
 
+def not_a_layer(plan, step):
+    for line in why_none(plan, step.program, step.rule.refs[0].program):
+        print(line)
+
+
+def names_new_variable(plan, step):
+    """The new variables that are named by a side of the step below, or by what it was proved under."""
+    ref = step.rule.refs[0]
+    new = new_variables(plan, step.program, ref.program)
+    named = words_in([it for it in (step.p, step.q) if it] +
+                     [inv.p for inv in plan.invariants_under(plan.step_of(step, ref))], plan.document.defs)
+    print("%s has these, and %s has not: %s" % (step.program, ref.program, ", ".join(new)))
+    print("%s speaks of %s" % ("%s.%s" % (ref.program, ref.word), ", ".join(it for it in new if it in named)))
+
+
+def words_in(nodes, defs):
+    """The names in formulas, and in the always names that they use."""
+    found = set()
+    for node in nodes:
+        if node.kind in ("word", "index"):
+            found.add(node.name)
+            found |= words_in([defs[node.name]], defs) if node.name in defs else set()
+        found |= words_in(node.parts, defs)
+    return found
+
+
 DETAILS = {
     "30": no_such_step, "31": other_program, "32": wrong_kind, "35": not_invariant, "36": defined_missing,
     "33": lambda plan, step: two_formulas(Sides(plan, step).middles()),
     "34": lambda plan, step: two_formulas(Sides(plan, step).claims()),
-    "37": no_start, "38": param_escapes, "39": bad_argument, "41": no_such_statement,
+    "37": no_start, "38": param_escapes, "39": bad_argument, "41": no_such_statement, "43": names_new_variable,
+    "44": not_a_layer,
 }

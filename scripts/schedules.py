@@ -22,7 +22,7 @@ class Scheduled:
             self.before, self.after = text[:plan.document.schedule], text[plan.document.scheduled.end:]
         else:
             at = plan.document.certificates or len(text)
-            self.before, self.after = text[:at].rstrip("\n") + "\n", text[at:] or "\n"
+            self.before, self.after = text[:at].rstrip("\n") + "\n", "\n" + text[at:]
 
     def text(self, choices):
         lines = textwrap.fill(", ".join(choices), 100, initial_indent="  ", subsequent_indent="  ",

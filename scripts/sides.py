@@ -1,5 +1,5 @@
 """The sides that a rule gives, in the words of the source, and which formulas it wants to be the same. See why.sh."""
-from formulas import key, read
+from formulas import Formula, key, read
 
 
 class Sides:
@@ -62,6 +62,12 @@ class Sides:
         sides = [self.of_ref(ref) for ref in rule.refs]
         if rule.word == "weaken step":
             return sides[0][0], str(self.plan.formula(self.step.q))
+        if rule.word == "superpose":
+            return sides[0]
+        if rule.word in FURTHER:
+            return FURTHER[rule.word](self, *sides)
+        if rule.word == "cancel" and self.step.kind == "leadsto":
+            return self.of_lead_cancel(*sides)
         (p, q), (r, s) = [[bare(it) for it in each] for each in sides]
         if rule.word == "union":
             self.same(("the first part's left side is", "the second's is"), sides[0][0], sides[1][0])
@@ -76,6 +82,48 @@ class Sides:
         ends = "(%s and %s) or (%s and %s) or (%s and %s)"
         lead = (p, s, r, q, q, s) if joint == "and" else ("(not %s)" % p, s, "(not %s)" % r, q, q, s)
         return "%s %s %s" % (p, joint, r), ends % lead
+
+    def of_complete(self, first, keeps, second, keeps_too):
+        ends = keeps[1]
+        for which, lead, keep in (("first", first, keeps), ("second", second, keeps_too)):
+            wanted = "%s or %s" % (bare(keep[0]), bare(ends))
+            self.same(("`complete` wants its %s leads-to to end with" % which, "it ends with"), wanted, lead[1])
+        self.same(("the first unless ends with", "the second ends with"), ends, keeps_too[1])
+        both = "%s and %s" % (bare(keeps[0]), bare(keeps_too[0]))
+        return "%s and %s" % (bare(first[0]), bare(second[0])), "(%s) or %s" % (both, bare(ends))
+
+    def of_lead_cancel(self, first, second):
+        stays, goes_on = self.halves(first[1])
+        self.same(("`cancel` wants its first step to end on `or` and", "it ends on"), second[0], goes_on)
+        return first[0], "%s or %s" % (stays, bare(second[1]))
+
+    def halves(self, text):
+        """What stands before the last `or` of a formula, and after it; of one without, nothing, and the whole."""
+        formula = read(text, self.defs)
+        while formula.node.kind == "word" and formula.node.name in self.defs:
+            formula = Formula(self.plan.document.text, self.defs[formula.node.name], {}, self.defs)
+        if formula.node.kind != "or":
+            return "false", text
+        *before, last = [formula.part(part) for part in formula.node.parts]
+        kept = [it.bare() for it in before]
+        return kept[0] if len(kept) == 1 else "(%s)" % " or ".join(kept), str(last)
+
+    def of_until(self, keeps, leads):
+        self.same(("the unless begins with", "the leads-to begins with"), keeps[0], leads[0])
+        self.same(("the unless ends with", "the leads-to ends with"), keeps[1], leads[1])
+        return keeps
+
+    def of_detects(self, always, leads):
+        shape = "%s => %s" % (bare(leads[1]), bare(leads[0]))
+        self.same(("`detects` wants the invariant", "the invariant is"), shape, always[0])
+        return leads[1], leads[0]
+
+    def of_constant(self, keeps, other):
+        contrary = "not %s" % bare(keeps[0])
+        self.same(("`constant` wants its second step to begin with", "it begins with"), contrary, other[0])
+        for which, end in (("first", keeps[1]), ("second", other[1])):
+            self.same(("`constant` wants its %s step to end with" % which, "it ends with"), "false", end)
+        return keeps[0], "false"
 
     def differs(self, left, right):
         return key(read(left, self.defs)) != key(read(right, self.defs))
@@ -95,6 +143,11 @@ class Sides:
         pairs = [(("the rule gives the %s side" % side, "the step claims"), one, other)
                  for side, one, other in zip(("left", "right"), given, claimed)]
         return [pair for pair in pairs if self.differs(pair[1], pair[2])] or pairs
+
+
+# what the rules of version 2 that have no obligation give
+FURTHER = {"complete": Sides.of_complete, "until": Sides.of_until, "detects": Sides.of_detects,
+           "constant": Sides.of_constant}
 
 
 def bare(text):

@@ -131,6 +131,13 @@ expect_run() {
     compare "$wanted" "$(status_of_trace "$wanted")" run "$program" "$steps" < "examples/$1.unity"
 }
 
+# expect_fixed DOCUMENT: of this document the text by `fixed`, with 1,000 steps, is DOCUMENT.fixed, whose first line
+# names the program.
+expect_fixed() {
+    wanted=examples/$1.fixed
+    compare "$wanted" 0 fixed "$(sed -n '1s/^run //p' "$wanted")" 1000 < "examples/$1.unity"
+}
+
 # expect_replay DOCUMENT: of this document the text by `replay` is DOCUMENT.replay.
 expect_replay() {
     wanted=examples/$1.replay
@@ -283,6 +290,29 @@ expect_note() {
     count_one "$holds" "$*"
 }
 
+# expect_alike SECONDS SEED: of documents that were changed at random, so many seconds long, two ways of one question
+# say the same.
+expect_alike() {
+    local holds=1
+    if bash scripts/fuzz.sh "$1" "$2" > "$answer" 2> "$text"; then
+        holds=0
+    else
+        cat "$text" "$answer"
+    fi
+    count_one "$holds" "documents that were changed at random"
+}
+
+# expect_limit MB STATUS: with so many MB of memory for the program a document of 64 MB of blanks ends so, and where
+# that is 9, with nothing written.
+expect_limit() {
+    local status=0 holds=1
+    head -c 67108864 /dev/zero | tr '\0' ' ' | UNITY_MEMORY=$1 bash scripts/unity.sh check > "$answer" || status=$?
+    if [ "$status" = "$2" ] && { [ "$status" != 9 ] || [ ! -s "$answer" ]; }; then
+        holds=0
+    fi
+    count_one "$holds" "$1 MB of memory"
+}
+
 # expect_page PAGE: each command of this page prints what the page says.
 expect_page() {
     local holds name
@@ -389,6 +419,27 @@ using_stable|up is a stable
 no_defined|the proof of Count has no `defined` step
 start_not_found|the start state is x=0 y=0: there x + y = 3 does not hold
 variable_as_argument|x is a variable, in step[x]
+until_from_ensures|waits claims an until, by `until`
+until_from_ensures|takes is an ensures
+fixed_from_leadsto|halts claims a fixed, by `from`
+or_false_left_out|`complete` wants its first leads-to to end with  (x = 3) or false
+or_false_left_out|it ends with                                     x = 3
+detects_otherwise|`detects` wants the invariant  lamp => held
+detects_otherwise|the invariant is               held or not lamp
+own_step_carried|goal is a step of Loud itself
+defined_carried|safe claims a defined, by `superpose`
+statement_left_out|Count has 2 statements, and Loud 1
+list_as_statements|at the place of rest[0] of Rest stands rest0 of Noted, with other indices
+stronger_guard|the other     x := x + 1 if x < 3 and n < 9
+guard_in_other_words|the one does  x := x + 1 if x < 3
+guard_in_other_words|the other     x := x + 1 if x <= 2
+another_order|at the place of inc of Count stands clear of Loud
+another_order|the other     nothing
+own_array_first|a target of Logged that may lie outside its array stands before those of Walk
+one_list_as_two|first[0] and second[1] of Noted stand at the places of rest[0] and rest[1] of Rest
+list_goes_on|drop_too[2] of Noted is added, with the label that stands at the place of drop[1] of Locks
+writes_below|clear of Loud is added, and writes x of Count
+new_variable|Count.quiet speaks of n
 argument_outside|s takes m : 0..2, and r says s[3]
 helper_misspelt|step is none of Count's statements: inc
 certificate_missing|obligation 3, of Count.top: inc keeps it
@@ -581,6 +632,18 @@ done
 for name in bakery chang_roberts k_state go_back_n msi dining; do
     expect_cause "causes/$name"
 done
+# claims and rules of version 2 that put steps together
+for name in lamp completion; do
+    expect 1 "$name"
+    expect_proof "$name" "$name.accepted"
+    expect_counted "$name" "$name.accepted"
+done
+# layers over programs
+for name in layers detector meter messages; do
+    expect 1 "$name"
+    expect_proof "$name" "$name.accepted"
+    expect_counted "$name" "$name.accepted"
+done
 # what counts modulo something
 for name in clock ring_buffer gcd; do
     expect 1 "$name"
@@ -597,6 +660,8 @@ expect_claim 13000 +
 expect_refuted pick
 expect_refuted race
 expect_refuted lost_update
+expect 1 other_start
+expect_refuted other_start
 expect_ring 2
 expect_ring 16
 expect_run count
@@ -614,6 +679,10 @@ expect_run clock
 expect_run ring_buffer
 expect_run gcd
 expect_run lost_update
+expect_run meter
+for name in count sort odd_even shortest_path gcd; do
+    expect_fixed "$name"
+done
 expect_replay past_the_end
 expect_replay peterson
 expect_replay two_phase_commit
@@ -621,7 +690,10 @@ expect_replay race
 expect_replay termination
 expect_replay lost_update
 expect_replay lost_update_mended
-for name in peterson two_phase_commit race termination lost_update lost_update_mended; do
+expect_replay lamp
+expect_replay layers
+expect_replay detector
+for name in peterson two_phase_commit race termination lost_update lost_update_mended lamp layers detector; do
     expect_watch "$name"
 done
 expect_upgraded count
@@ -629,6 +701,7 @@ expect_upgraded share
 expect_upgraded last_bit
 expect_line 1 "rejected 53 BadSum Count.top obligation 2" upgrade < examples/count_wrong_sum.unity
 expect_line 2 "bad 61 NoProgram" run None 3 < examples/count.unity
+expect_line 2 "bad 61 NoProgram" fixed None 3 < examples/count.unity
 expect_line 2 "bad 60 NoSchedule" replay < examples/count.unity
 expect_line 2 "bad 60 NoSchedule" watch < examples/count.unity
 expect_line 2 "bad 63 NoProof" watch < examples/past_the_end.unity
@@ -636,14 +709,18 @@ expect_line 6 "bad words" watch 1 < examples/count.unity
 expect_line 2 "bad 10 Unknown byte 50" run P 1 < examples/unknown_name.unity
 expect_line 6 "bad words" run Count 05 < examples/count.unity
 expect_line 6 "bad words" run Count 1000001 < examples/count.unity
+expect_line 6 "bad words" fixed Count 05 < examples/count.unity
+expect_line 6 "bad words" fixed Count < examples/count.unity
 expect_line 6 "bad words" < examples/count.unity
 expect_line 6 "bad words" demo 1
 expect_line 6 "bad words" demo 65
 expect_line 7 "" check < .
 expect_line 7 "" run Count 5 < .
+expect_line 7 "" fixed Count 5 < .
 expect_line 7 "" watch < .
 expect_full 8 check
 expect_full 8 run Count 5
+expect_full 8 fixed Count 5
 expect_full 8 replay
 expect_full 8 watch
 expect_full 8 prove 1000000
@@ -652,6 +729,8 @@ expect_full 8 upgrade
 expect_line 4 "budget Count.safe obligation 1 spent 1" prove 1 < examples/count.unity
 expect_line 6 "bad words" prove 0 < examples/count.unity
 expect_line 6 "bad words" prove 1000001 < examples/count.unity
+expect_limit 48 9
+expect_limit 4096 2
 expect_blanks 67108864 "bad 3 Unexpected byte 67108864"
 expect_blanks 67108865 "bad 5 TooLong"
 expect_program 1 "rejected 50 CertMissing P.safe obligation 1" \
@@ -684,6 +763,8 @@ for name in bakery chang_roberts k_state go_back_n msi dining; do
     expect_broken "causes/$name"
 done
 expect_note 0 "none of 5 schedules is violated" try.sh examples/lost_update_mended.unity Tally 5 1
+expect_note 0 "none of 5 schedules is violated" try.sh examples/splitting.unity Half 5 1
+expect_note 1 "  go: x = 0 leadsto x > 0 by from e;" try.sh examples/mistakes/other_words.unity Count 5 1
 expect_note 2 "bad 63 NoProof" try.sh examples/past_the_end.unity Over 5 1
 expect_note 64 "examples/count.unity has no program None, but Count" try.sh examples/count.unity None 5 1
 expect_note 64 "usage: bash scripts/try.sh FILE PROGRAM COUNT SEED > DOCUMENT" try.sh examples/count.unity Count 5
@@ -701,14 +782,19 @@ holds=0
 bash scripts/map.sh --check || holds=1
 count_one "$holds" "the tables of rooms and crates"
 expect_matchers
+expect_alike 20 1
 expect_units 25
 expect_none_left
 expect_installed
 expect_page docs/TUTORIAL.md
 expect_picture race race.replay
 expect_picture lost_update.watch lost_update.watch lost_update.replay
+expect_picture sort.fixed sort.fixed
 expect_no_picture "violated P.s place 1" "1 s x=0" "replay P" "0 x=0"
 expect_no_picture "replay P" "0 x=0"
+expect_no_picture "run P" "0 x=0" "fixed 0"
+expect_no_picture "run P" "0 x=0" "fixed 1" "rounds 0"
+expect_no_picture "run P" "0 x=0" "fixed 0" "1 s x=0" "rounds 1"
 for document in examples/mistakes/*.unity; do
     expect_mistake "$(basename "$document" .unity)"
     expect_why "$(basename "$document" .unity)"

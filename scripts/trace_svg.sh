@@ -1,9 +1,10 @@
 #!/bin/bash
 # Draws a trace: bash scripts/trace_svg.sh < TRACE > PICTURE
 #
-# TRACE is what `unity run` or `unity replay` prints. The picture, in SVG, is a table with a line for each
-# state: its number, the statement that led to it and the values, those that changed in bold on a coloured
-# ground. Below stands the last line of the trace, the rounds or the step that is undefined. Where the answer of
+# TRACE is what `unity run`, `unity fixed` or `unity replay` prints. The picture, in SVG, is a table with a line for
+# each state: its number, the statement that led to it and the values, those that changed in bold on a coloured
+# ground. Below stands the last line of the trace, the rounds or the step that is undefined. Where the trace ends at a
+# fixed point, its line has a ground of its own, and below stands the line `fixed I`. Where the answer of
 # `unity watch` stands before the trace, as `scripts/watch.sh` prints them, and names a step that is violated, the
 # line of that place has a ground of its own, and below stands the step with its parameters; such a trace may end at
 # that place. Anything that is no trace is refused, with status 1.
@@ -30,7 +31,9 @@ LC_ALL=C awk '
         next
     }
     ended { fail("the trace has ended before") }
+    rest != "" && !/^rounds / { fail("the trace has come to rest before") }
     /^(rounds|undefined) / { last = $0; ended = 1; next }
+    /^fixed [0-9]+$/ && states && $2 == states - 1 { rest = $0; next }
     !/^[0-9]+( |$)/ { fail("this is no state") }
     {
         first = states ? 3 : 2
@@ -63,11 +66,12 @@ LC_ALL=C awk '
         if (length(title) * 8 + 30 > width) width = length(title) * 8 + 30
         if (length(last) * 8 + 30 > width) width = length(last) * 8 + 30
         if (length(fault) * 8 + 30 > width) width = length(fault) * 8 + 30
-        height = states * 20 + 76 + (ended ? 20 : 0) + (fault != "" ? 20 : 0)
+        height = states * 20 + 76 + (rest != "" ? 20 : 0) + (ended ? 20 : 0) + (fault != "" ? 20 : 0)
         printf "<svg xmlns=\"http://www.w3.org/2000/svg\" width=\"%d\" height=\"%d\" viewBox=\"0 0 %d %d\">\n",
             width, height, width, height
         print "<title>" plain(title) "</title>"
         print "<style>text { font: 13px monospace; fill: #202020 } .head, .new { font-weight: bold }"
+        if (rest != "") print ".rest { fill: #d9f2d9 }"
         if (fault != "") print ".fault { fill: #ffd6d6 }"
         print ".bad { font-weight: bold; fill: #a00000 } .mark { fill: #ffe08a } line { stroke: #b0b0b0 }</style>"
         printf "<rect width=\"%d\" height=\"%d\" fill=\"#ffffff\"/>\n", width, height
@@ -77,6 +81,9 @@ LC_ALL=C awk '
         for (state = 0; state < states; state++) {
             y = 78 + state * 20
             violated = fault != "" && state == place
+            fixed = rest != "" && state == states - 1
+            if (fixed)
+                printf "<rect class=\"rest\" x=\"4\" y=\"%d\" width=\"%d\" height=\"18\"/>\n", y - 14, left - 8
             if (violated)
                 printf "<rect class=\"fault\" x=\"4\" y=\"%d\" width=\"%d\" height=\"18\"/>\n", y - 14, left - 8
             for (column = 1; column <= columns; column++) {
@@ -84,12 +91,14 @@ LC_ALL=C awk '
                 if (changed)
                     printf "<rect class=\"mark\" x=\"%d\" y=\"%d\" width=\"%d\" height=\"18\"/>\n",
                         x[column] - 4, y - 14, wide[column] * 8 + 8
-                cell(x[column], y, changed ? "new" : violated && column < 3 ? "bad" : "", value[state, column])
+                name = violated ? "bad" : fixed ? "head" : ""
+                cell(x[column], y, changed ? "new" : column < 3 ? name : "", value[state, column])
             }
         }
         foot = states * 20 + 86
-        if (ended) cell(10, foot, last ~ /^undefined/ ? "bad" : "", last)
-        if (fault != "") cell(10, ended ? foot + 20 : foot, "bad", fault)
+        if (rest != "") { cell(10, foot, "head", rest); foot += 20 }
+        if (ended) { cell(10, foot, last ~ /^undefined/ ? "bad" : "", last); foot += 20 }
+        if (fault != "") cell(10, foot, "bad", fault)
         print "</svg>"
     }
 '

@@ -8,8 +8,8 @@
 #
 # The schedules are fair: each has eight parts more than the greatest bound of the proof's steps, and in a part every
 # instance comes once, and some of them, at random, more often, in random order. After 50,000 choices no more parts
-# follow. The same SEED, a number, gives the same schedules. First the start state alone is watched. It wants the built
-# program.
+# follow. The same SEED, a number, gives the same schedules. First the start state alone is watched. Where a step does
+# not follow its rule, it shows the line of that step on standard error. It wants the built program.
 set -eu
 if [ $# != 4 ] || [ ! -r "$1" ] || ! [[ "$3" =~ ^[0-9]+$ && "$4" =~ ^[0-9]+$ ]]; then
     echo "usage: bash scripts/try.sh FILE PROGRAM COUNT SEED > DOCUMENT" >&2
@@ -29,4 +29,10 @@ if [ "$status" -gt 1 ]; then
     show_byte "$work/answer" "$1" "$work/document"
     exit "$status"
 fi
-python3 -B "$top/scripts/schedules.py" try "$work/document" "$1" "$2" "$3" "$4"
+status=0
+python3 -B "$top/scripts/schedules.py" try "$work/document" "$1" "$2" "$3" "$4" 2> "$work/said" || status=$?
+cat "$work/said" >&2
+if [ "$status" = 1 ]; then
+    show_step "$work/said" "$1" "$work/document"
+fi
+exit "$status"

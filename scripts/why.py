@@ -4,7 +4,7 @@ import sys
 
 from document import unity
 from formulas import choices, pieces, value_of
-from plan import Plan, closure
+from plan import Plan, closure, programs_in
 from probe import excluded, look, made_writes
 from refusals import explain_bad, explain_rejected, usual
 from sides import Sides
@@ -63,6 +63,8 @@ class Refutation:
             return [self.below(it) for it in broken]
         if self.obligation.kind == "shown":
             return [usual("breaks what a part of a union was proved under")]
+        if self.obligation.kind == "begins":
+            return [usual("of a `superpose` begins the layer, and not the program below")]
         if self.obligation.kind == "measure":
             return [usual("of an `induct` has the measure outside the range")]
         whole = excluded(self.plan, self.values, [self.formula(it.p) for it in invariants])
@@ -109,6 +111,11 @@ class Refutation:
             say("%s is %d, outside %s" % (measure, told, "..".join(str(value_of(it, {})) for it in here.ends)))
         elif here.kind == "meant":
             say("at these numbers no statement has these indices")
+        elif here.kind == "begins":
+            say("an initial state of %s, and this of %s does not hold there:" % (self.step.program, here.below))
+            for one in programs_in(self.plan.document, here.below):
+                if one.initially:
+                    self.show_false(self.formula(one.initially))
         elif here.kind == "shown":
             name = here.says.split(",")[0]
             found = [it for it in self.plan.document.steps() if it.name == name and it.kind == "invariant"]

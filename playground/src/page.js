@@ -1,4 +1,4 @@
-// ---- The page: an editor, five requests, what the program answers, examples and lessons.
+// ---- The page: an editor, six requests, what the program answers, examples and lessons.
 
 const get = id => document.getElementById(id);
 const data = JSON.parse(get('data').textContent);
@@ -58,7 +58,7 @@ function write(source, called = 'document') {
   programs();
 }
 
-// The names of the programs, for `run`: they stand before the certificates, which are long.
+// The names of the programs, for `run` and `fixed`: they stand before the certificates, which are long.
 function programs() {
   const source = text.value.slice(0, MOST_COLOURED).replace(/#.*/g, '');
   const names = [...source.matchAll(/(?:^|\s)program\s+(\w+)/g)].map(it => it[1]);
@@ -131,10 +131,17 @@ function inWords(words, status, answer) {
   const done = { check: 'accepted', prove: 'proved: a certificate for each obligation', run: 'each step is defined',
     watch: 'no step of the proof is violated on this schedule' };
   if (status === 0 && /^accepted 0 steps/.test(answer)) return 'accepted; it has no proof, so it claims nothing';
+  if (status === 0 && words[0] === 'fixed') return restInWords(answer);
   if (status === 0) return done[words[0]] ?? done.run;
   return ['', 'rejected', 'refused', 'refuted: a claim is false at these values', 'not decided within this budget',
     'a step is undefined', 'these are no words of the program', 'a read failed', 'the answer does not fit',
     'memory was refused', 'a step of the proof is violated on this schedule'][status];
+}
+
+// What a run up to a fixed point came to.
+function restInWords(answer) {
+  const fixed = /^fixed (\d+)$/m.exec(answer.slice(-100));
+  return fixed ? `nothing changes any more from state ${fixed[1]} on` : 'no fixed point within so many steps';
 }
 
 // What the answer usually means, and what to do.
@@ -312,7 +319,7 @@ function showLesson(number) {
 function carryOut({ file, source, words }) {
   if (waiting) return;
   write(data.texts[source], file.replace(/\.unity$/, ''));
-  if (words[0] === 'run') get('program').value = words[1], get('steps').value = words[2];
+  if (words.length === 3) get('program').value = words[1], get('steps').value = words[2];
   if (words.length) ask(...words);
   else text.focus();
 }
@@ -329,7 +336,7 @@ text.addEventListener('input', () => { marked = 0; repaint(); programs(); });
 text.addEventListener('scroll', follow);
 get('check').onclick = () => ask('check');
 get('prove').onclick = () => ask('prove', get('budget').value);
-get('run').onclick = () => ask('run', get('program').value, get('steps').value);
+for (const it of ['run', 'fixed']) get(it).onclick = () => ask(it, get('program').value, get('steps').value);
 get('replay').onclick = () => ask('replay');
 get('watch').onclick = () => ask('watch');
 get('stop').onclick = stop;

@@ -44,18 +44,19 @@ function withTrace(answer, trace) {
 
 const isTrace = text => /^(run|replay) \w+\n/.test(text.slice(violationOf(text)?.lines.length ?? 0));
 
-// The states of a trace, as rows of a number, a statement and the values; the heads of the columns; and the last line,
-// where the trace has an end.
+// The states of a trace, as rows of a number, a statement and the values; the heads of the columns; the line of its
+// fixed point, where it has one; and the last line, where the trace has an end.
 function tableOf(trace) {
   const lines = trace.replace(/\n$/, '').split('\n'), rows = [], head = ['state', 'statement'];
   const last = /^(rounds|undefined) /.test(lines.at(-1)) ? lines.pop() : '';
+  const rest = /^fixed \d+$/.test(lines.at(-1)) ? lines.pop() : '';
   for (const line of lines.slice(1)) {
     const words = line.split(' '), first = rows.length ? 2 : 1;
     const cells = words.slice(first).map(it => [it.slice(0, it.indexOf('=')), it.slice(it.indexOf('=') + 1)]);
     cells.forEach(([name], k) => { head[k + 2] = name; });
     rows.push([words[0], rows.length ? words[1] : '', ...cells.map(it => it[1])]);
   }
-  return { title: lines[0], head, rows, last };
+  return { title: lines[0], head, rows, rest, last };
 }
 
 const escaped = text => text.replace(/&/g, '&amp;').replace(/</g, '&lt;').replace(/>/g, '&gt;');
@@ -64,12 +65,12 @@ const escaped = text => text.replace(/&/g, '&amp;').replace(/</g, '&lt;').replac
 // may stand.
 function traceSvg(text) {
   const { place = -1, lines = '', fault = '' } = violationOf(text) ?? {};
-  const { title, head, rows, last } = tableOf(text.slice(lines.length));
+  const { title, head, rows, rest, last } = tableOf(text.slice(lines.length));
   const wide = head.map((name, k) => Math.max(name.length, ...rows.map(it => it[k].length)));
   const x = [];
   let left = 10;
   wide.forEach((n, k) => { x[k] = left; left += n * 8 + 16; });
-  const feet = [last, fault].filter(Boolean), foot = rows.length * 20 + 86;
+  const feet = [rest, last, fault].filter(Boolean), foot = rows.length * 20 + 86;
   const width = Math.max(left + 2, ...[title, ...feet].map(it => it.length * 8 + 30));
   const height = foot - 10 + feet.length * 20;
   const cell = (at, y, kind, text) => `<text x="${at}" y="${y}"${kind && ` class="${kind}"`}>${escaped(text)}</text>`;
@@ -77,6 +78,7 @@ function traceSvg(text) {
     `<svg xmlns="http://www.w3.org/2000/svg" width="${width}" height="${height}" viewBox="0 0 ${width} ${height}">`,
     `<title>${escaped(title)}</title>`,
     '<style>text { font: 13px monospace; fill: #202020 } .head, .new { font-weight: bold }',
+    ...(rest ? ['.rest { fill: #d9f2d9 }'] : []),
     ...(fault ? ['.fault { fill: #ffd6d6 }'] : []),
     '.bad { font-weight: bold; fill: #a00000 } .mark { fill: #ffe08a } line { stroke: #b0b0b0 }</style>',
     `<rect width="${width}" height="${height}" fill="#ffffff"/>`,
@@ -85,16 +87,20 @@ function traceSvg(text) {
     `<line x1="10" y1="60" x2="${left - 6}" y2="60"/>`,
   ];
   rows.forEach((state, n) => {
-    const y = 78 + n * 20, violated = n === place;
-    if (violated) out.push(`<rect class="fault" x="4" y="${y - 14}" width="${left - 8}" height="18"/>`);
+    const y = 78 + n * 20, violated = n === place, fixed = rest && n === rows.length - 1;
+    const ground = kind => out.push(`<rect class="${kind}" x="4" y="${y - 14}" width="${left - 8}" height="18"/>`);
+    if (fixed) ground('rest');
+    if (violated) ground('fault');
+    const name = violated ? 'bad' : fixed ? 'head' : '';
     state.forEach((value, k) => {
       const changed = n > 0 && k > 1 && value !== rows[n - 1][k];
       const mark = `<rect class="mark" x="${x[k] - 4}" y="${y - 14}" width="${wide[k] * 8 + 8}" height="18"/>`;
       if (changed) out.push(mark);
-      out.push(cell(x[k], y, changed ? 'new' : violated && k < 2 ? 'bad' : '', value));
+      out.push(cell(x[k], y, changed ? 'new' : k < 2 ? name : '', value));
     });
   });
-  feet.forEach((line, k) => out.push(cell(10, foot + k * 20, /^(undefined|violated) /.test(line) ? 'bad' : '', line)));
+  const kindOf = line => (/^(undefined|violated) /.test(line) ? 'bad' : line === rest ? 'head' : '');
+  feet.forEach((line, k) => out.push(cell(10, foot + k * 20, kindOf(line), line)));
   out.push('</svg>');
   return out.join('\n') + '\n';
 }

@@ -1,7 +1,8 @@
 // Compares the page's module with the native program: node try_answers.mjs PAGE UNITY
 //
 // The module and the code that calls it are taken out of the page. Each document of examples/ is checked, proved,
-// replayed, watched and run, and of what was proved the check as well; each text and status must be that of UNITY.
+// replayed, watched, run and run up to a fixed point, and of what was proved the check as well; each text and status
+// must be that of UNITY.
 import { readFileSync, readdirSync } from 'node:fs';
 import { spawnSync } from 'node:child_process';
 
@@ -44,10 +45,12 @@ for (const folder of ['examples', 'examples/mistakes', 'examples/causes']) {
     if (proved.status === 0) compare(`${name}, proved,`, ['check'], proved.text);
     compare(name, ['replay'], source);
     compare(name, ['watch'], source);
-    for (const it of source.matchAll(/^program (\w+)/gm)) compare(name, ['run', it[1], '50'], source);
+    for (const it of source.matchAll(/^program (\w+)/gm)) {
+      for (const word of ['run', 'fixed']) compare(name, [word, it[1], '50'], source);
+    }
   }
 }
-const others = [['demo', '64'], ['nothing'], ['prove', '0'], ['run', 'X', '-1'], ['täglich'], ['watch', '1']];
+const others = [['demo', '64'], ['nothing'], ['prove', '0'], ['run', 'X', '-1'], ['fixed', 'X', '01'], ['täglich'], ['watch', '1']];
 for (const words of others) compare('', words, '');
 
 // The time of a search, where the engine has compiled the module, and that of the native program with its start.

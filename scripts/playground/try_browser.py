@@ -79,11 +79,26 @@ class Try:
             steps = re.findall(r"^(?:undefined )?(\d+) ", run, re.M)[-1]
             chosen = "get('program').value = '%s'; get('steps').value = %s; get('run').click()" % (program, steps)
             self.compare(name + " run", self.ask(chosen), run)
+        self.rest(name, text_of(name + ".fixed"))
         if replay:
             self.compare(name + " replay", self.ask("get('replay').click()"), replay)
         if drawn:
             self.holds(name + " picture", self.browser.value("traceSvg(whole)") == drawn)
         self.watched(name, text_of(name + ".watch"), replay)
+
+    def rest(self, name, fixed):
+        """A run up to a fixed point says which state it is, and its picture marks that."""
+        if not fixed:
+            return
+        program, last = re.match(r"run (\w+)", fixed)[1], re.search(r"^fixed (\d+)$", fixed, re.M)[1]
+        chosen = "get('program').value = '%s'; get('steps').value = 1000; get('fixed').click()" % program
+        told = self.ask(chosen)
+        self.compare(name + " fixed", told, fixed)
+        self.holds(name + " fixed, in words", "from state %s on" % last in told["status"], told["status"])
+        self.holds(name + " fixed, its picture", 'class="rest"' in told["picture"])
+        drawn = text_of(name + ".fixed.svg")
+        if drawn:
+            self.holds(name + " fixed, drawn", self.browser.value("traceSvg(whole)") == drawn)
 
     def watched(self, name, watch, replay):
         """Where a step is violated, the trace stands below up to the place, and the step has its line."""
@@ -204,8 +219,8 @@ class Try:
         for _ in range(30):
             seen.append(self.browser.value("document.activeElement.id"))
             self.browser.press_tab()
-        wanted = ["chapter", "open", "save", "link", "theme", "check", "prove", "budget", "run", "program", "steps",
-                  "replay", "watch", "text", "answer"]
+        wanted = ["chapter", "open", "save", "link", "theme", "check", "prove", "budget", "run", "fixed",
+                  "program", "steps", "replay", "watch", "text", "answer"]
         self.holds("Tab comes to everything", [it for it in seen if it in wanted][:len(wanted)] == wanted, seen)
 
     def screens(self):

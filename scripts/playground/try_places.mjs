@@ -30,7 +30,7 @@ if (!read(process.argv[2]).includes(code.trim())) throw new Error('the page has 
 for (const folder of [`${top}/examples`, `${top}/examples/mistakes`]) {
   for (const name of readdirSync(folder)) {
     const file = `${folder}/${name}`, document = file.replace(/\.\w+$/, '.unity');
-    if (/\.(run|replay)$/.test(name)) {
+    if (/\.(run|fixed|replay)$/.test(name)) {
       compare(name, traceSvg(read(file)), shell('bash "$1/scripts/trace_svg.sh" < "$2"', top, file));
     } else if (/\.(expected|refuted|watch)$/.test(name) && existsSync(document)) {
       const script = '. "$1/scripts/places.sh"; { show_byte "$2" F "$3"; show_step "$2" F "$3"; } 2>&1';
@@ -41,6 +41,7 @@ for (const folder of [`${top}/examples`, `${top}/examples/mistakes`]) {
     }
   }
 }
+compare('no variables, at rest', traceSvg('run P\n0\nfixed 0\nrounds 0\n'), draw('run P\n0\nfixed 0\nrounds 0\n'));
 // (a step with parameters, a program without variables, a violation at the start, and one before an undefined step)
 const none = 'replay P\n0\n1 skip\n2 skip\nrounds 2\n', wide = 'replay Q\n0 x=0\n1 grow x=1\nundefined 2 grow\n';
 drawViolation('no variables', 'violated P.step place 1\nj = -1\nlong_name = 12\n1 skip\n', none);
