@@ -1,14 +1,17 @@
 // What holds of a program, of a layer over it.
-ghost use Rattle.core_terms.specs.Conditions.{IsProgram};
+ghost use Rattle.std.specs.Prelude.{◌≡◌, nat_eq};
+ghost use Rattle.std.specs.List.{list_any};
+ghost use Rattle.core_terms.specs.Conditions.{IsProgram, is_shown};
 ghost use Rattle.fair_rounds.specs.Records.{Stands};
 ghost use Rattle.rules_table.specs.Layers as layer;
 ghost use Rattle.safety_rules.specs.Answers.{RuleAnswers, IsPlace, IsPremiseAt, site_of};
 ghost use Rattle.safety_rules.specs.Sound.{StandsWhereShown};
+ghost use Rattle.wrong_bodies.specs.Layers as wrong;
 
 use case_tables::Code;
-use core_terms::{CProgram, CStmt, CWrite, same, same_term};
+use core_terms::{CProgram, CStmt, CWrite};
 use fair_rounds::Record;
-use safety_rules::{Derived, Place, RuleError};
+use safety_rules::{Derived, Place, RuleError, is_same};
 use std::alloc::Global;
 
 /// The call `superpose_rule` of `superposition`, with its clauses.
@@ -27,103 +30,152 @@ pub fn superpose_rule(
     superposition::superpose_rule(alloc, pl, f, a)
 }
 
-/// An answer; where it is this code and the test says so, what the record gives as one of the program itself, which is
-/// a layer over itself.
+/// In place of a fault another answer, where the test says so.
 pub fn or_taken(
-    alloc: Global,
-    pl: &Place,
-    a: &Record,
     answer: Result<Derived, RuleError>,
-    code: Code,
+    taken: Result<Derived, RuleError>,
     test: bool,
 ) -> Result<Derived, RuleError>
-    requires place { IsPlace pl.now }
-    requires record { IsPremiseAt pl.now a.now }
+    ensures { result ≡ wrong.or_taken answer taken test }
 {
     match answer {
-        Err(RuleError::Fault(first)) => {
-            if test && first == code {
-                superposition::superpose_rule(alloc, pl, pl.program, a)
+        Err(RuleError::Fault(code)) => {
+            if test {
+                taken
             } else {
-                Err(RuleError::Fault(first))
+                Err(RuleError::Fault(code))
             }
         }
         answer => answer,
     }
 }
 
-fn differ_in_guard(v: &CWrite, w: &CWrite) -> bool {
-    v.slot == w.slot && same_term(&v.value, &w.value) && !same(&v.when, &w.when)
+/// Whether an answer says that a record names a new variable.
+pub fn is_new_name(answer: &Result<Derived, RuleError>) -> bool
+    ensures { result ≡ wrong.is_new_name answer.now }
+{
+    matches!(answer, Err(RuleError::Fault(Code::NamesNewVariable)))
 }
 
-fn has_other_guard(s: &CStmt, t: &CStmt) -> bool {
+fn differ_in_guard(v: &CWrite, w: &CWrite) -> bool
+    ensures { result ≡ wrong.differ_in_guard v.now w.now }
+{
+    v.slot == w.slot && !is_same(&v.when, &w.when)
+}
+
+fn differs_from_one(v: &CWrite, writes: &[CWrite]) -> bool
+    ensures { result ≡ list_any (wrong.differ_in_guard v.now) writes.now }
+{
+    for w in writes {
+        if differ_in_guard(v, w) {
+            return true;
+        }
+    }
+    false
+}
+
+fn has_other_guard(s: &CStmt, t: &CStmt) -> bool
+    ensures { result ≡ wrong.has_other_guard s.now t.now }
+{
     for v in s.writes.as_slice() {
-        for w in t.writes.as_slice() {
-            if differ_in_guard(v, w) {
-                return true;
-            }
-        }
-    }
-    false
-}
-
-/// Whether an instance writes the same value to the same slot as the one at its place in the other program, under
-/// another condition.
-pub fn have_other_guard(f: &CProgram, h: &CProgram) -> bool {
-    for (place, s) in f.statements.as_slice().iter().enumerate() {
-        if let Some(t) = h.statements.get(place) {
-            if has_other_guard(s, t) {
-                return true;
-            }
-        }
-    }
-    false
-}
-
-fn is_shown(f: &CProgram, slot: u32) -> bool {
-    for shown in f.shown.as_slice() {
-        if *shown == slot {
+        if differs_from_one(v, t.writes.as_slice()) {
             return true;
         }
     }
     false
 }
 
-fn writes_below(f: &CProgram, t: &CStmt) -> bool {
+/// Whether instances at one place write a slot under two conditions.
+pub fn have_other_guard(f: &CProgram, h: &CProgram) -> bool
+    ensures { result ≡ wrong.have_other_guard f.now.statements h.now.statements }
+{
+    let fs = f.statements.as_slice();
+    let hs = h.statements.as_slice();
+    for (place, s) in fs.iter().enumerate() {
+        if place >= hs.len() {
+            return false;
+        }
+        if has_other_guard(s, &hs[place]) {
+            return true;
+        }
+    }
+    false
+}
+
+fn has_slot(shown: &[u32], slot: u32) -> bool
+    ensures { result ≡ is_shown shown.now slot }
+{
+    for one in shown {
+        if *one == slot {
+            return true;
+        }
+    }
+    false
+}
+
+fn writes_below(shown: &[u32], t: &CStmt) -> bool
+    ensures { result ≡ list_any (λ w. is_shown shown.now w.slot) t.now.writes }
+{
     for w in t.writes.as_slice() {
-        if is_shown(f, w.slot) {
+        if has_slot(shown, w.slot) {
             return true;
         }
     }
     false
 }
 
-/// Whether an instance past those of the other program writes a slot that the other shows.
-pub fn adds_write_below(f: &CProgram, h: &CProgram) -> bool {
-    for (place, t) in h.statements.as_slice().iter().enumerate() {
-        if place >= f.statements.len() && writes_below(f, t) {
+fn some_write_below(shown: &[u32], added: &[CStmt]) -> bool
+    ensures { result ≡ list_any (λ t. list_any (λ w. is_shown shown.now w.slot) t.writes) added.now }
+{
+    for t in added {
+        if writes_below(shown, t) {
             return true;
         }
     }
     false
 }
 
-fn has_label(statements: &[CStmt], count: usize, label: u32) -> bool {
-    for (place, s) in statements.iter().enumerate() {
-        if place < count && s.label == label {
-            return true;
-        }
-    }
-    false
-}
-
-/// Whether an instance past those of the other program has the label of one before.
-pub fn adds_label_again(f: &CProgram, h: &CProgram) -> bool {
+/// Whether an instance past those of the program below writes a slot that is shown there.
+pub fn adds_write_below(f: &CProgram, h: &CProgram) -> bool
+    ensures { result ≡ wrong.adds_write_below f.now h.now }
+{
     let count = f.statements.len();
-    for (place, t) in h.statements.as_slice().iter().enumerate() {
-        if place >= count && has_label(h.statements.as_slice(), count, t.label) {
+    if h.statements.len() < count {
+        return false;
+    }
+    some_write_below(f.shown.as_slice(), &h.statements.as_slice()[count..])
+}
+
+fn has_label(standing: &[CStmt], label: u32) -> bool
+    ensures { result ≡ list_any (λ s. nat_eq s.label label) standing.now }
+{
+    for s in standing {
+        if s.label == label {
             return true;
         }
     }
     false
+}
+
+fn some_label_again(standing: &[CStmt], added: &[CStmt]) -> bool
+    ensures { result ≡ list_any (λ t. list_any (λ s. nat_eq s.label t.label) standing.now) added.now }
+{
+    for t in added {
+        if has_label(standing, t.label) {
+            return true;
+        }
+    }
+    false
+}
+
+/// Whether an instance past those of the program below has the label of one before.
+pub fn adds_label_again(f: &CProgram, h: &CProgram) -> bool
+    ensures { result ≡ wrong.adds_label_again f.now h.now }
+{
+    let count = f.statements.len();
+    if h.statements.len() < count {
+        return false;
+    }
+    let all = h.statements.as_slice();
+    some_label_again(&all[..count], &all[count..])
 }

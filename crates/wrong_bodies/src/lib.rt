@@ -19,7 +19,9 @@ pub use changes::{
 };
 pub use fixing::{fixed_rule, is_fixed, is_fixed_or_stuck, run_to_fixed};
 pub use further::{complete_rule, constant_rule, detects_rule, lead_cancel_rule};
-pub use layers::{adds_label_again, adds_write_below, have_other_guard, or_taken, superpose_rule};
+pub use layers::{
+    adds_label_again, adds_write_below, have_other_guard, is_new_name, or_taken, superpose_rule,
+};
 pub use program::unity;
 pub use rules::{derive, ensures_rule, invariant_rule, pair_rule, union_unless, weaken_rule};
 pub use runs::step;
