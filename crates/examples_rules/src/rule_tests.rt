@@ -9,6 +9,7 @@ mod starts;
 mod terms;
 mod unions;
 mod weakening;
+mod whole_layers;
 
 use examples_answers::{answer, status_of};
 use std::alloc::{AllocError, Global};
