@@ -1,6 +1,5 @@
 //! What follows from limits of lines that are sums of two others.
-use crate::events::Event;
-use crate::limits::Limits;
+use crate::limits::{Event, Limits};
 use conflict_tables::{Stop, Table, Triangle, line_of, way_of};
 
 /// Limits one way of a line by those of the two lines of which it is the sum.

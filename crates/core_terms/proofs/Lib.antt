@@ -1,6 +1,5 @@
 pub mod BoolLaws
 pub mod CapLaws
-pub mod ClosedLaws
 pub mod FoldingLaws
 pub mod FrameLaws
 pub mod HeavierLaws

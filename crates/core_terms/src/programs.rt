@@ -1,6 +1,6 @@
 // Statements, slots and programs.
 use crate::trees::{CForm, CTerm, Range};
-use unity_base::{Seq, Shared};
+use unity_base::Seq;
 
 /// One write of a statement: where the formula holds, the slot gets the term's value.
 #[derive(Drop)]
@@ -56,6 +56,5 @@ pub struct CProgram {
     pub initially: CForm,
     /// The slots that the start section names, each with its value.
     pub start: Seq<(u32, i64)>,
-    /// The instances, in order. A union shares those of its parts.
-    pub statements: Seq<Shared<CStmt>>,
+    pub statements: Seq<CStmt>,
 }

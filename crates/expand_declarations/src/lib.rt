@@ -2,7 +2,6 @@
 //! parameters, references and schedules.
 #![tactic(auto)]
 
-mod elements;
 mod enumerations;
 mod laws;
 mod layout;

@@ -1,4 +1,5 @@
 -- The start values of programs.
+pub mod Merged
 pub mod ShownStarts
 pub mod StartSlots
 pub mod StartTables

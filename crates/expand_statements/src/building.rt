@@ -21,7 +21,7 @@ use expand_declarations::WordTable;
 use expand_expressions::{Env, Known, Numbers, outside, range_numbers, with_bound};
 use expand_rules::{Bound, Effect};
 use std::alloc::{AllocError, Global};
-use unity_base::{Seq, Shared};
+use unity_base::Seq;
 use unity_syntax::{Assign, Item, Items, Name};
 
 fn copied(alloc: Global, numbers: &[i64]) -> Result<Seq<i64>, AllocError>
@@ -66,7 +66,7 @@ fn push_statement(
     indices: &[i64],
     known: &Known,
     words: &WordTable,
-    list: &mut Seq<Shared<CStmt>>,
+    list: &mut Seq<CStmt>,
 ) -> Result<(), AllocError>
     requires ready { IsReady known.now }
     requires numbered { AreNumberBindings (bound_names env.now) indices.now }
@@ -80,13 +80,12 @@ fn push_statement(
         exact: _,
         count: _,
     } = effect_of(alloc, a, env, known)?;
-    let statement = CStmt {
+    list.push(CStmt {
         label: words.number(label),
         indices,
         outside,
         writes,
-    };
-    list.push(Shared::new(alloc, statement)?)
+    })
 }
 
 fn number_at(numbers: &Numbers, i: u64) -> i64
@@ -105,7 +104,7 @@ fn push_item(
     indices: &[i64],
     known: &Known,
     words: &WordTable,
-    list: &mut Seq<Shared<CStmt>>,
+    list: &mut Seq<CStmt>,
 ) -> Result<(), AllocError>
     requires ready { IsReady known.now }
     requires numbered { AreNumberBindings (bound_names env.now) indices.now }
@@ -150,7 +149,7 @@ fn push_numbers(
     indices: &[i64],
     known: &Known,
     words: &WordTable,
-    list: &mut Seq<Shared<CStmt>>,
+    list: &mut Seq<CStmt>,
 ) -> Result<(), AllocError>
     requires ready { IsReady known.now }
     requires numbered { AreNumberBindings (bound_names env.now) indices.now }
@@ -177,7 +176,7 @@ fn push_number(
     indices: &[i64],
     known: &Known,
     words: &WordTable,
-    list: &mut Seq<Shared<CStmt>>,
+    list: &mut Seq<CStmt>,
 ) -> Result<(), AllocError>
     requires ready { IsReady known.now }
     requires numbered { AreNumberBindings (bound_names env.now) indices.now }
@@ -205,7 +204,7 @@ fn push_all(
     indices: &[i64],
     known: &Known,
     words: &WordTable,
-    list: &mut Seq<Shared<CStmt>>,
+    list: &mut Seq<CStmt>,
 ) -> Result<(), AllocError>
     requires ready { IsReady known.now }
     requires numbered { AreNumberBindings (bound_names env.now) indices.now }
@@ -224,7 +223,7 @@ fn push_further(
     indices: &[i64],
     known: &Known,
     words: &WordTable,
-    list: &mut Seq<Shared<CStmt>>,
+    list: &mut Seq<CStmt>,
 ) -> Result<(), AllocError>
     requires ready { IsReady known.now }
     requires numbered { AreNumberBindings (bound_names env.now) indices.now }
@@ -244,7 +243,7 @@ pub fn push_statements(
     items: &Items,
     known: &Known,
     words: &WordTable,
-    list: &mut Seq<Shared<CStmt>>,
+    list: &mut Seq<CStmt>,
 ) -> Result<(), AllocError>
     requires ready { IsReady known.now }
     requires faultless { items_fault (scope_among known.now []) items.now ([] ∷ []) ≡ None }

@@ -2,9 +2,7 @@
 #![tactic(auto)]
 
 mod formulas;
-mod step_rules;
 mod steps;
-mod term_forms;
 mod terms;
 
 pub use formulas::{formed, formula, is_too_large, metric};

@@ -11,6 +11,7 @@ pub mod LayerLaws
 pub mod LayerOver
 pub mod LayerSound
 pub mod NamedLaws
+pub mod NamedValues
 pub mod NumberLaws
 pub mod PairLaws
 pub mod RowEquations

@@ -7,7 +7,6 @@ ghost use Rattle.safety_rules.specs.Helpers.{agrees, may_mean, has_place};
 
 use crate::places::Place;
 use core_terms::{Arg, CStmt, Helper};
-use unity_base::Shared;
 
 // Whether an index of the statement that helps may be this number.
 fn agrees(arg: Arg, index: i64) -> bool
@@ -62,11 +61,11 @@ pub(crate) fn names_some(args: &[Arg]) -> bool
 }
 
 // Whether some statement has the label and as many indices.
-fn some_place(h: &Helper, statements: &[Shared<CStmt>]) -> bool
+fn some_place(h: &Helper, statements: &[CStmt]) -> bool
     ensures { result ≡ list_any (has_place h.now) statements.now }
 {
     for s in statements {
-        if has_place(h, s.get()) {
+        if has_place(h, s) {
             return true;
         }
     }
@@ -74,11 +73,11 @@ fn some_place(h: &Helper, statements: &[Shared<CStmt>]) -> bool
 }
 
 // Whether some statement may be meant.
-fn some_meant(h: &Helper, statements: &[Shared<CStmt>]) -> bool
+fn some_meant(h: &Helper, statements: &[CStmt]) -> bool
     ensures { result ≡ list_any (may_mean h.now) statements.now }
 {
     for s in statements {
-        if may_mean(h, s.get()) {
+        if may_mean(h, s) {
             return true;
         }
     }

@@ -5,4 +5,3 @@ pub mod Points
 pub mod Searching
 pub mod Ends
 pub mod Laws
-pub mod Sides

@@ -1,2 +1,0 @@
-pub mod ScopedLaws
-pub mod MachineLaws

@@ -1,4 +1,0 @@
-pub mod Checkers
-pub mod Events
-pub mod Laws
-pub mod Readings
