@@ -1,0 +1,6 @@
+pub mod SignLaws
+pub mod Forms
+pub mod Back
+pub mod Along
+pub mod Finish
+pub mod SectionLaws

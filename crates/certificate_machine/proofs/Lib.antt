@@ -1,0 +1,2 @@
+pub mod ScopedLaws
+pub mod MachineLaws

@@ -1,0 +1,4 @@
+pub mod Checkers
+pub mod Events
+pub mod Laws
+pub mod Readings

@@ -1,0 +1,10 @@
+//! Whether a certificate refutes an obligation, told event by event.
+#![tactic(auto)]
+
+mod checker;
+mod laws;
+mod reading;
+
+pub use checker::Checker;
+pub use laws::event_laws;
+pub use reading::{Open, Reading, take_node, take_pair};
