@@ -1,5 +1,6 @@
 pub mod BoolLaws
 pub mod CapLaws
+pub mod ClosedLaws
 pub mod FoldingLaws
 pub mod FrameLaws
 pub mod HeavierLaws

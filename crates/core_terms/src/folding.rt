@@ -1,6 +1,6 @@
 // Trees without slot and parameter are replaced by what they are worth.
 ghost use Rattle.std.specs.Prelude.{◌≡◌, ◌+◌, ◌*◌, ◌^◌, ◌≤◌, ◌+ℤ◌, ◌-ℤ◌, ◌*ℤ◌, IfOk, MatchOption, max};
-ghost use Rattle.std.specs.Option.{option_map};
+ghost use Rattle.std.specs.Option.{is_some, option_map};
 ghost use Rattle.std.specs.Int.RustNames.{unsigned_abs};
 ghost use Rattle.meaning_states.specs.Division.{divisor, floored, rest_of};
 ghost use Rattle.core_terms.specs.Weights.{plain_weights, plain_weight, sum_weights, multiple_weights, choice_weights};
@@ -12,10 +12,65 @@ use std::alloc::{AllocError, Global};
 use unity_base::Shared;
 
 /// The value of a term that has no slot and no parameter; `None` where one is named.
-// The last part is looked at first, since it mostly tells that there is none. Nodes have functions of
-// their own, so that the frames are small.
-#[cycle(known)]
+// Most terms name one, and that is told within a small part of the stack.
+#[tactic(auto, using(crate::proofs::ClosedLaws::none_left))]
 pub fn number_of(t: &CTerm) -> Option<i128>
+    requires { (plain_weights t.now).most ≤ 2 ^ 126 }
+    ensures value { result ≡ fold.number_of t.now }
+    ensures bound { MatchOption result (Unit {0}) (λ z. unsigned_abs z ≤ (plain_weights t.now).own) }
+{
+    if has_number(t) { found_number(t) } else { None }
+}
+
+/// The truth of a formula that has no slot and no parameter; `None` where one is named.
+#[tactic(auto, using(crate::proofs::ClosedLaws::none_left))]
+pub fn truth_of(f: &CForm) -> Option<bool>
+    requires { plain_weight f.now ≤ 2 ^ 126 }
+    ensures { result ≡ fold.truth_of f.now }
+{
+    if has_truth(f) { found_truth(f) } else { None }
+}
+
+// Whether a term has no slot and no parameter, and so a number. The last part is looked at first, since it mostly
+// tells that there is none; the first part is then gone down without a frame.
+#[cycle(closed)]
+#[tactic(auto, using(crate::proofs::ClosedLaws::there))]
+fn has_number(t: &CTerm) -> bool
+    ensures { result ≡ is_some (fold.number_of t.now) }
+{
+    match t {
+        CTerm::Const(_) => true,
+        CTerm::Slot(_) => false,
+        CTerm::Param(_) => false,
+        CTerm::Add(a, b) => has_number(b.get()) && has_number(a.get()),
+        CTerm::Sub(a, b) => has_number(b.get()) && has_number(a.get()),
+        CTerm::Scale(_, a) => has_number(a.get()),
+        CTerm::Div(a, _) => has_number(a.get()),
+        CTerm::Mod(a, _) => has_number(a.get()),
+        CTerm::Ite(c, a, b) => has_number(b.get()) && has_number(a.get()) && has_truth(c.get()),
+    }
+}
+
+// Whether a formula has no slot and no parameter, and so a truth.
+#[cycle(closed)]
+#[tactic(auto, using(crate::proofs::ClosedLaws::there))]
+fn has_truth(f: &CForm) -> bool
+    ensures { result ≡ is_some (fold.truth_of f.now) }
+{
+    match f {
+        CForm::Top => true,
+        CForm::Bottom => true,
+        CForm::AtLeast(t) => has_number(t),
+        CForm::Zero(t) => has_number(t),
+        CForm::Not(g) => has_truth(g.get()),
+        CForm::And(g, h) => has_truth(h.get()) && has_truth(g.get()),
+        CForm::Or(g, h) => has_truth(h.get()) && has_truth(g.get()),
+    }
+}
+
+// The value of a term. Nodes have functions of their own, so that the frames are small.
+#[cycle(known)]
+fn found_number(t: &CTerm) -> Option<i128>
     requires { (plain_weights t.now).most ≤ 2 ^ 126 }
     ensures value { result ≡ fold.number_of t.now }
     ensures bound { MatchOption result (Unit {0}) (λ z. unsigned_abs z ≤ (plain_weights t.now).own) }
@@ -41,8 +96,8 @@ fn known_sum(a: &Shared<CTerm>, b: &Shared<CTerm>) -> Option<i128>
     ensures bound { MatchOption result (Unit {0}) (λ z. unsigned_abs z ≤
         (plain_weights a.now).own + (plain_weights b.now).own) }
 {
-    let second = number_of(b.get())?;
-    Some(number_of(a.get())? + second)
+    let second = found_number(b.get())?;
+    Some(found_number(a.get())? + second)
 }
 
 #[cycle(known)]
@@ -53,8 +108,8 @@ fn known_difference(a: &Shared<CTerm>, b: &Shared<CTerm>) -> Option<i128>
     ensures bound { MatchOption result (Unit {0}) (λ z. unsigned_abs z ≤
         (plain_weights a.now).own + (plain_weights b.now).own) }
 {
-    let second = number_of(b.get())?;
-    Some(number_of(a.get())? - second)
+    let second = found_number(b.get())?;
+    Some(found_number(a.get())? - second)
 }
 
 #[cycle(known)]
@@ -64,7 +119,7 @@ fn known_multiple(k: i64, a: &Shared<CTerm>) -> Option<i128>
     ensures value { result ≡ option_map (λ x. k *ℤ x) (fold.number_of a.now) }
     ensures bound { MatchOption result (Unit {0}) (λ z. unsigned_abs z ≤ unsigned_abs k * (plain_weights a.now).own) }
 {
-    Some(scaled(k, number_of(a.get())?))
+    Some(scaled(k, found_number(a.get())?))
 }
 
 #[cycle(known)]
@@ -74,7 +129,7 @@ fn known_quotient(k: i64, a: &Shared<CTerm>) -> Option<i128>
     ensures value { result ≡ option_map (λ x. floored x k) (fold.number_of a.now) }
     ensures bound { MatchOption result (Unit {0}) (λ z. unsigned_abs z ≤ max 1 (plain_weights a.now).own) }
 {
-    Some(quotient(number_of(a.get())?, k))
+    Some(quotient(found_number(a.get())?, k))
 }
 
 #[cycle(known)]
@@ -85,7 +140,7 @@ fn known_remainder(k: i64, a: &Shared<CTerm>) -> Option<i128>
     ensures bound { MatchOption result (Unit {0}) (λ z. unsigned_abs z ≤
         2 * (plain_weights a.now).own + unsigned_abs (divisor k)) }
 {
-    Some(remainder(number_of(a.get())?, k))
+    Some(remainder(found_number(a.get())?, k))
 }
 
 #[cycle(known)]
@@ -96,30 +151,29 @@ fn known_choice(c: &Shared<CForm>, a: &Shared<CTerm>, b: &Shared<CTerm>) -> Opti
     ensures bound { MatchOption result (Unit {0}) (λ z. unsigned_abs z ≤
         max (plain_weights a.now).own (plain_weights b.now).own) }
 {
-    let second = number_of(b.get())?;
-    let first = number_of(a.get())?;
-    Some(if truth_of(c.get())? { first } else { second })
+    let second = found_number(b.get())?;
+    let first = found_number(a.get())?;
+    Some(if found_truth(c.get())? { first } else { second })
 }
 
-/// The truth of a formula that has no slot and no parameter; `None` where one is named.
 #[cycle(known)]
-pub fn truth_of(f: &CForm) -> Option<bool>
+fn found_truth(f: &CForm) -> Option<bool>
     requires { plain_weight f.now ≤ 2 ^ 126 }
     ensures { result ≡ fold.truth_of f.now }
 {
     match f {
         CForm::Top => Some(true),
         CForm::Bottom => Some(false),
-        CForm::AtLeast(t) => Some(number_of(t)? >= 0),
-        CForm::Zero(t) => Some(number_of(t)? == 0),
-        CForm::Not(g) => Some(!truth_of(g.get())?),
+        CForm::AtLeast(t) => Some(found_number(t)? >= 0),
+        CForm::Zero(t) => Some(found_number(t)? == 0),
+        CForm::Not(g) => Some(!found_truth(g.get())?),
         CForm::And(g, h) => {
-            let second = truth_of(h.get())?;
-            Some(truth_of(g.get())? && second)
+            let second = found_truth(h.get())?;
+            Some(found_truth(g.get())? && second)
         }
         CForm::Or(g, h) => {
-            let second = truth_of(h.get())?;
-            Some(truth_of(g.get())? || second)
+            let second = found_truth(h.get())?;
+            Some(found_truth(g.get())? || second)
         }
     }
 }

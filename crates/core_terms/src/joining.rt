@@ -6,12 +6,12 @@ ghost use Rattle.core_terms.specs.Weights.{plain_weight};
 ghost use Rattle.core_terms.specs.Folding as fold;
 ghost use Rattle.core_terms.specs.Unions as union_of;
 
-use crate::copies::{copy_form, copy_term};
+use crate::copies::copy_form;
 use crate::folding::and_form;
-use crate::programs::{CProgram, CStmt, CWrite};
+use crate::programs::{CProgram, CStmt};
 use crate::trees::CForm;
 use std::alloc::{AllocError, Global};
-use unity_base::Seq;
+use unity_base::{Seq, Shared};
 
 /// The union of two programs under a name: the first program's statements followed by the second's, both
 /// initial conditions, and the start values of the first, then of the second for slots that the first
@@ -120,9 +120,9 @@ fn gives(start: &[(u32, i64)], slot: u32) -> bool
 
 fn joined_statements(
     alloc: Global,
-    first: &[CStmt],
-    second: &[CStmt],
-) -> Result<Seq<CStmt>, AllocError>
+    first: &[Shared<CStmt>],
+    second: &[Shared<CStmt>],
+) -> Result<Seq<Shared<CStmt>>, AllocError>
     ensures { IfOk result (λ all. all ≡ first.now ++ second.now) }
 {
     let mut all = Seq::new(alloc);
@@ -131,40 +131,17 @@ fn joined_statements(
     Ok(all)
 }
 
-fn add_statements(alloc: Global, all: &mut Seq<CStmt>, from: &[CStmt]) -> Result<(), AllocError>
+fn add_statements(
+    alloc: Global,
+    all: &mut Seq<Shared<CStmt>>,
+    from: &[Shared<CStmt>],
+) -> Result<(), AllocError>
     ensures { OnOk result (all.new ≡ all.old ++ from.now) }
 {
     for statement in from {
-        all.push(copy_statement(alloc, statement)?)?;
+        all.push(statement.share()?)?;
     }
     Ok(())
-}
-
-/// An equal statement.
-///
-/// An error says that memory was refused.
-pub fn copy_statement(alloc: Global, statement: &CStmt) -> Result<CStmt, AllocError>
-    ensures { IfOk result (λ copy. copy ≡ statement.now) }
-{
-    let indices = copy_indices(alloc, statement.indices.as_slice())?;
-    let outside = copy_forms(alloc, statement.outside.as_slice())?;
-    let writes = copy_writes(alloc, statement.writes.as_slice())?;
-    Ok(CStmt {
-        label: statement.label,
-        indices,
-        outside,
-        writes,
-    })
-}
-
-fn copy_indices(alloc: Global, indices: &[i64]) -> Result<Seq<i64>, AllocError>
-    ensures { IfOk result (λ copy. copy ≡ indices.now) }
-{
-    let mut copy = Seq::new(alloc);
-    for index in indices {
-        copy.push(*index)?;
-    }
-    Ok(copy)
 }
 
 /// Equal formulas, in order.
@@ -178,26 +155,4 @@ pub fn copy_forms(alloc: Global, forms: &[CForm]) -> Result<Seq<CForm>, AllocErr
         copy.push(copy_form(alloc, form)?)?;
     }
     Ok(copy)
-}
-
-fn copy_writes(alloc: Global, writes: &[CWrite]) -> Result<Seq<CWrite>, AllocError>
-    ensures { IfOk result (λ copy. copy ≡ writes.now) }
-{
-    let mut copy = Seq::new(alloc);
-    for write in writes {
-        copy.push(copy_write(alloc, write)?)?;
-    }
-    Ok(copy)
-}
-
-fn copy_write(alloc: Global, write: &CWrite) -> Result<CWrite, AllocError>
-    ensures { IfOk result (λ copy. copy ≡ write.now) }
-{
-    let when = copy_form(alloc, &write.when)?;
-    let value = copy_term(alloc, &write.value)?;
-    Ok(CWrite {
-        slot: write.slot,
-        when,
-        value,
-    })
 }

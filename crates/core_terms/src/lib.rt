@@ -24,7 +24,7 @@ pub use folding::{
     number_of, or_form, placed_choice, placed_form, placed_term, quotient, quotient_term,
     remainder, remainder_term, scaled_term, sum_term, truth_of, zero_form,
 };
-pub use joining::{copy_forms, copy_statement, join_programs};
+pub use joining::{copy_forms, join_programs};
 pub use known::{
     and_known, at_least_known, choice_known, difference_known, not_known, or_known, quotient_known,
     remainder_known, scaled_known, sum_known, zero_known,

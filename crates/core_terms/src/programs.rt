@@ -1,6 +1,6 @@
 // Statements, slots and programs.
 use crate::trees::{CForm, CTerm, Range};
-use unity_base::Seq;
+use unity_base::{Seq, Shared};
 
 /// One write of a statement: where the formula holds, the slot gets the term's value.
 #[derive(Drop)]
@@ -56,5 +56,6 @@ pub struct CProgram {
     pub initially: CForm,
     /// The slots that the start section names, each with its value.
     pub start: Seq<(u32, i64)>,
-    pub statements: Seq<CStmt>,
+    /// The instances, in order. A union shares those of its parts.
+    pub statements: Seq<Shared<CStmt>>,
 }

@@ -1,7 +1,7 @@
 // A formula with its parameters replaced. A replaced part stands in a place of its own, and what is known
-// of it is handed back beside it, so that no part is looked down again. Nodes of several parts have
-// functions of their own: so the frames are small.
-ghost use Rattle.std.specs.Prelude.{◌≡◌, ◌+◌, ◌*◌, ◌^◌, ◌<◌, ◌≤◌, IfOk, length, slice_get, Some, None, All, max};
+// of it is handed back beside it, so that no part is looked down again. Leaves and nodes of several parts
+// have functions of their own: so the frames are small.
+ghost use Rattle.std.specs.Prelude.{◌≡◌, ◌+◌, ◌*◌, ◌^◌, ◌<◌, ◌≤◌, IfOk, length, slice_get, Some, None, All, cond, max};
 ghost use Rattle.std.specs.Int.RustNames.{unsigned_abs};
 ghost use Rattle.core_terms.specs.Weights.{plain_weights, plain_weight, sum_weights, multiple_weights, choice_weights};
 ghost use Rattle.core_terms.specs.Places.{form_params, term_params};
@@ -48,20 +48,27 @@ fn put_form(
     ensures weight { IfOk result (λ g. plain_weight g ≤ put_weight f.now) }
 {
     match f {
-        CForm::Top => {
-            *truth = Some(true);
-            Shared::new(alloc, CForm::Top)
-        }
-        CForm::Bottom => {
-            *truth = Some(false);
-            Shared::new(alloc, CForm::Bottom)
-        }
+        CForm::Top => put_truth(alloc, true, truth),
+        CForm::Bottom => put_truth(alloc, false, truth),
         CForm::AtLeast(t) => put_at_least(alloc, t, args, truth),
         CForm::Zero(t) => put_zero(alloc, t, args, truth),
         CForm::Not(g) => known::not_known(alloc, put_form(alloc, g.get(), args, truth)?, truth),
         CForm::And(g, h) => put_and(alloc, g, h, args, truth),
         CForm::Or(g, h) => put_or(alloc, g, h, args, truth),
     }
+}
+
+#[inline(never)]
+fn put_truth(
+    alloc: Global,
+    holds: bool,
+    truth: &mut Option<bool>,
+) -> Result<Shared<CForm>, AllocError>
+    ensures tree { IfOk result (λ f. f ≡ cond holds CForm.Top CForm.Bottom) }
+    ensures truth { IfOk result (λ f. truth.new ≡ fold.truth_of f) }
+{
+    *truth = Some(holds);
+    Shared::new(alloc, if holds { CForm::Top } else { CForm::Bottom })
 }
 
 #[cycle(replacing)]
@@ -166,10 +173,7 @@ fn put_term(
 {
     match t {
         CTerm::Const(c) => put_const(alloc, *c, number),
-        CTerm::Slot(n) => {
-            *number = None;
-            Shared::new(alloc, CTerm::Slot(*n))
-        }
+        CTerm::Slot(n) => put_slot(alloc, *n, number),
         CTerm::Param(n) => put_arg(alloc, args, *n, number),
         CTerm::Add(a, b) => put_sum(alloc, a, b, args, number),
         CTerm::Sub(a, b) => put_difference(alloc, a, b, args, number),
@@ -193,6 +197,19 @@ fn put_const(alloc: Global, c: i64, number: &mut Option<i128>) -> Result<Shared<
 {
     *number = Some(c as i128);
     Shared::new(alloc, CTerm::Const(c))
+}
+
+#[inline(never)]
+fn put_slot(
+    alloc: Global,
+    slot: u32,
+    number: &mut Option<i128>,
+) -> Result<Shared<CTerm>, AllocError>
+    ensures tree { IfOk result (λ u. u ≡ CTerm.Slot slot) }
+    ensures number { IfOk result (λ u. number.new ≡ fold.number_of u) }
+{
+    *number = None;
+    Shared::new(alloc, CTerm::Slot(slot))
 }
 
 #[cycle(replacing)]

@@ -1,4 +1,9 @@
 // Ranges, terms and formulas.
+ghost use Rattle.std.specs.Prelude.{◌≡◌, ◌≤◌, IfErr, IfOk, max};
+ghost use Rattle.core_terms.specs.declared.trees.CTerm.{size-CTerm};
+ghost use Rattle.core_terms.specs.declared.trees.CForm.{size-CForm};
+
+use crate::measures::{size_within, term_within};
 use unity_base::Shared;
 
 /// The whole numbers from `lo` to `hi`, both ends included.
@@ -50,7 +55,10 @@ pub enum CForm {
     Or(Shared<CForm>, Shared<CForm>),
 }
 
-// A drop goes down the first parts in a loop and calls itself for the others. It stops at a part that has
+// Parts of so many nodes are dropped first, since no deep stack is needed for them.
+const FEW: u64 = 8;
+
+// A drop goes down the larger part of a node in a loop and calls itself for the others. It stops at a part that has
 // another owner.
 impl Drop for CTerm {
     #[cycle(drops)]
@@ -61,28 +69,50 @@ impl Drop for CTerm {
                 CTerm::Slot(_) => return,
                 CTerm::Param(_) => return,
                 CTerm::Add(a, b) => {
-                    if let Some(part) = b.into_inner() {
+                    let (next, other) = larger_first(a, b);
+                    if let Some(part) = other.into_inner() {
                         drop_term(part);
                     }
-                    a
+                    next
                 }
                 CTerm::Sub(a, b) => {
-                    if let Some(part) = b.into_inner() {
+                    let (next, other) = larger_first(a, b);
+                    if let Some(part) = other.into_inner() {
                         drop_term(part);
                     }
-                    a
+                    next
                 }
                 CTerm::Scale(_, a) => a,
                 CTerm::Div(a, _) => a,
                 CTerm::Mod(a, _) => a,
                 CTerm::Ite(c, a, b) => {
-                    if let Some(part) = c.into_inner() {
-                        drop_form(part);
-                    }
-                    if let Some(part) = b.into_inner() {
+                    let (next, other) = larger_first(a, b);
+                    if let Some(part) = other.into_inner() {
                         drop_term(part);
                     }
-                    a
+                    if !has_few(next.get()) {
+                        if let Some(part) = c.into_inner() {
+                            drop_form(part);
+                        }
+                        next
+                    } else {
+                        if let Some(part) = next.into_inner() {
+                            drop_term(part);
+                        }
+                        let Some(f) = c.into_inner() else {
+                            return;
+                        };
+                        match f.compared() {
+                            Ok(t) => {
+                                self = t;
+                                continue;
+                            }
+                            Err(f) => {
+                                drop_form(f);
+                                return;
+                            }
+                        }
+                    }
                 }
             };
             match next.into_inner() {
@@ -99,6 +129,49 @@ fn drop_term(_t: CTerm) {}
 #[cycle(drops)]
 fn drop_form(_f: CForm) {}
 
+impl CForm {
+    // The term that a formula holds against 0; the formula itself, where it holds none.
+    fn compared(self) -> Result<CTerm, CForm>
+        ensures term { IfOk result (λ t. size-CTerm t ≤ size-CForm self) }
+        ensures other { IfErr result (λ f. f ≡ self) }
+    {
+        match self {
+            CForm::AtLeast(t) => Ok(t),
+            CForm::Zero(t) => Ok(t),
+            f => Err(f),
+        }
+    }
+}
+
+// Whether a term has few nodes.
+fn has_few(t: &CTerm) -> bool {
+    term_within(t, FEW).is_some()
+}
+
+// Two terms, of which the second has few nodes, if one of them has.
+fn larger_first(a: Shared<CTerm>, b: Shared<CTerm>) -> (Shared<CTerm>, Shared<CTerm>)
+    ensures first { size-CTerm result.0 ≤ max (size-CTerm a) (size-CTerm b) }
+    ensures second { size-CTerm result.1 ≤ max (size-CTerm a) (size-CTerm b) }
+{
+    if !has_few(b.get()) && has_few(a.get()) {
+        (b, a)
+    } else {
+        (a, b)
+    }
+}
+
+// Two formulas, of which the second has few nodes, if one of them has.
+fn larger_form_first(g: Shared<CForm>, h: Shared<CForm>) -> (Shared<CForm>, Shared<CForm>)
+    ensures first { size-CForm result.0 ≤ max (size-CForm g) (size-CForm h) }
+    ensures second { size-CForm result.1 ≤ max (size-CForm g) (size-CForm h) }
+{
+    if size_within(h.get(), FEW).is_none() && size_within(g.get(), FEW).is_some() {
+        (h, g)
+    } else {
+        (g, h)
+    }
+}
+
 impl Drop for CForm {
     #[cycle(drops)]
     fn drop(mut self) {
@@ -110,16 +183,18 @@ impl Drop for CForm {
                 CForm::Zero(_t) => return,
                 CForm::Not(g) => g,
                 CForm::And(g, h) => {
-                    if let Some(part) = h.into_inner() {
+                    let (next, other) = larger_form_first(g, h);
+                    if let Some(part) = other.into_inner() {
                         drop_form(part);
                     }
-                    g
+                    next
                 }
                 CForm::Or(g, h) => {
-                    if let Some(part) = h.into_inner() {
+                    let (next, other) = larger_form_first(g, h);
+                    if let Some(part) = other.into_inner() {
                         drop_form(part);
                     }
-                    g
+                    next
                 }
             };
             match next.into_inner() {

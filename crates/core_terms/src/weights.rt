@@ -1,12 +1,15 @@
-// How far from 0 the numbers of a formula can lie.
+// How far from 0 the numbers of a formula can lie. Nodes of several parts have functions of their own, so that the
+// frames are small.
 ghost use Rattle.std.specs.Prelude.{◌≡◌, ◌+◌, ◌*◌, ◌^◌, ◌<◌, ◌≤◌, min, max, length};
 ghost use Rattle.std.specs.Int.RustNames.{unsigned_abs};
 ghost use Rattle.meaning_states.specs.Division as division;
-ghost use Rattle.core_terms.specs.Weights.{term_weights, form_weight, slot_weight, place_weight};
+ghost use Rattle.core_terms.specs.Weights.{sum_weights, choice_weights, term_weights, form_weight};
+ghost use Rattle.core_terms.specs.Weights.{slot_weight, place_weight};
 ghost use Rattle.core_terms.specs.Places.{term_slots, form_slots, term_params, form_params};
 
 use crate::programs::CSlot;
 use crate::trees::{CForm, CTerm, Range};
+use unity_base::Shared;
 
 /// The greatest weight of a term in the formula, or 2^63 where it is more. A slot and a parameter weigh
 /// as the range does that is given for them.
@@ -55,23 +58,58 @@ fn weigh_term(t: &CTerm, slots: &[CSlot], params: &[Range]) -> (u64, u64)
         CTerm::Const(c) => leaf(c.unsigned_abs()),
         CTerm::Slot(n) => leaf(weight_of_slot(slots, *n)),
         CTerm::Param(n) => leaf(weight_of_param(params, *n)),
-        CTerm::Add(a, b) => sum(
-            weigh_term(a.get(), slots, params),
-            weigh_term(b.get(), slots, params),
-        ),
-        CTerm::Sub(a, b) => sum(
-            weigh_term(a.get(), slots, params),
-            weigh_term(b.get(), slots, params),
-        ),
+        CTerm::Add(a, b) => weigh_two(a, b, slots, params),
+        CTerm::Sub(a, b) => weigh_two(a, b, slots, params),
         CTerm::Scale(k, a) => multiple(*k, weigh_term(a.get(), slots, params)),
         CTerm::Div(a, k) => quotient(*k, weigh_term(a.get(), slots, params)),
         CTerm::Mod(a, k) => remainder(*k, weigh_term(a.get(), slots, params)),
-        CTerm::Ite(c, a, b) => choice(
-            weigh_form(c.get(), slots, params),
-            weigh_term(a.get(), slots, params),
-            weigh_term(b.get(), slots, params),
-        ),
+        CTerm::Ite(c, a, b) => weigh_choice(c, a, b, slots, params),
     }
+}
+
+// The weights of a sum, and of a difference.
+#[cycle(weights)]
+#[inline(never)]
+fn weigh_two(a: &Shared<CTerm>, b: &Shared<CTerm>, slots: &[CSlot], params: &[Range]) -> (u64, u64)
+    requires slots { max (term_slots a.now) (term_slots b.now) ≤ length slots.now }
+    requires params { max (term_params a.now) (term_params b.now) ≤ length params.now }
+    ensures own { result.0 ≡ min (sum_weights (term_weights (slot_weight slots.now) (place_weight params.now) a.now)
+        (term_weights (slot_weight slots.now) (place_weight params.now) b.now)).own (2 ^ 63) }
+    ensures most { result.1 ≡ min (sum_weights (term_weights (slot_weight slots.now) (place_weight params.now) a.now)
+        (term_weights (slot_weight slots.now) (place_weight params.now) b.now)).most (2 ^ 63) }
+{
+    sum(
+        weigh_term(a.get(), slots, params),
+        weigh_term(b.get(), slots, params),
+    )
+}
+
+// The weights of a choice.
+#[cycle(weights)]
+#[inline(never)]
+fn weigh_choice(
+    c: &Shared<CForm>,
+    a: &Shared<CTerm>,
+    b: &Shared<CTerm>,
+    slots: &[CSlot],
+    params: &[Range],
+) -> (u64, u64)
+    requires slots { max (form_slots c.now) (max (term_slots a.now) (term_slots b.now)) ≤ length slots.now }
+    requires params { max (form_params c.now) (max (term_params a.now) (term_params b.now)) ≤ length params.now }
+    ensures own { result.0 ≡ min
+        (choice_weights (form_weight (slot_weight slots.now) (place_weight params.now) c.now)
+        (term_weights (slot_weight slots.now) (place_weight params.now) a.now)
+        (term_weights (slot_weight slots.now) (place_weight params.now) b.now)).own (2 ^ 63) }
+    ensures most { result.1 ≡ min
+        (choice_weights (form_weight (slot_weight slots.now) (place_weight params.now) c.now)
+        (term_weights (slot_weight slots.now) (place_weight params.now) a.now)
+        (term_weights (slot_weight slots.now) (place_weight params.now) b.now)).most (2 ^ 63) }
+{
+    choice(
+        weigh_form(c.get(), slots, params),
+        weigh_term(a.get(), slots, params),
+        weigh_term(b.get(), slots, params),
+    )
 }
 
 // The weights of a term that has no parts.

@@ -8,23 +8,10 @@ use Rattle.meaning_states.specs.State.{State, Ranges}
 use Rattle.meaning_documents.specs.Execution.{System, Steps, act_step}
 use Rattle.meaning_documents.specs.Rounds.{rounds}
 use Rattle.meaning_documents.specs.Properties.{Test}
+use Rattle.meaning_documents.proofs.PropertyTheorems.{get-take, take-get}
 use Rattle.meaning_documents.proofs.RoundTheorems.{shortest_exists}
 use Rattle.examples_bounds.specs.Bounded.{LeadsFrom, LeadsEverywhere}
 use Rattle.examples_bounds.specs.Walking.{Leads, LeadsOn}
-
-get-take : {X : Type 0} (n place : ℕ) (xs : List X) (x : X) → slice_get (take n xs) place ≡ Some x →
-    (slice_get xs place ≡ Some x) × (place < n)
-get-take zero place xs x e = cc
-get-take (suc n) place [] x e = cc
-get-take (suc n) zero (y ∷ xs) x e = (e, omega arith)
-get-take (suc n) (suc place) (y ∷ xs) x e = let rest = get-take n place xs x e in (rest.0, omega (arith, rest.1))
-
-take-get : {X : Type 0} (n place : ℕ) (xs : List X) (x : X) → place < n → slice_get xs place ≡ Some x →
-    slice_get (take n xs) place ≡ Some x
-take-get zero place xs x h e = absurd (omega arith)
-take-get (suc n) place [] x h e = cc
-take-get (suc n) zero (y ∷ xs) x h e = e
-take-get (suc n) (suc place) (y ∷ xs) x h e = let inner : place < n = omega arith in take-get n place xs x inner e
 
 take_few : (n most : ℕ) (cs : List ℕ) → length cs ≤ most → length (take n cs) ≤ most
 take_few zero most cs h = omega arith

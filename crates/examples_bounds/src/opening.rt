@@ -4,9 +4,9 @@ ghost use Rattle.core_terms.specs.Conditions.{IsProgram, FormFits, is_shown, any
 ghost use Rattle.core_terms.specs.Places.{form_names_only};
 ghost use Rattle.core_terms.specs.declared.trees.CForm.TheVariants.{Top};
 
-use core_terms::{CForm, CProgram, CSlot, CStmt, copy_statement};
+use core_terms::{CForm, CProgram, CSlot, CStmt};
 use std::alloc::{AllocError, Global};
-use unity_base::Seq;
+use unity_base::{Seq, Shared};
 
 // What each state meets.
 fn any_state(slots: &[CSlot]) -> CForm
@@ -42,12 +42,15 @@ pub(crate) fn open_program(
     })
 }
 
-fn copied_statements(alloc: Global, statements: &[CStmt]) -> Result<Seq<CStmt>, AllocError>
+fn copied_statements(
+    alloc: Global,
+    statements: &[Shared<CStmt>],
+) -> Result<Seq<Shared<CStmt>>, AllocError>
     ensures { IfOk result (λ copy. copy ≡ statements.now) }
 {
     let mut copy = Seq::new(alloc);
     for statement in statements {
-        copy.push(copy_statement(alloc, statement)?)?;
+        copy.push(statement.share()?)?;
     }
     Ok(copy)
 }

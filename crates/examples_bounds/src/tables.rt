@@ -126,7 +126,7 @@ fn statements_of(
     slots: &[CSlot],
     shown: &[u32],
     rows: &[&[Move]],
-) -> Result<Seq<CStmt>, AllocError>
+) -> Result<Seq<Shared<CStmt>>, AllocError>
     requires light { SlotsAreLight slots.now }
     requires shown { (n : ℕ) → n < length slots.now → IsTrue (is_shown shown.now n) }
     requires few { length rows.now ≤ 4096 }
@@ -138,7 +138,7 @@ fn statements_of(
     let mut statements = Seq::new(alloc);
     for label in 0..rows.len() {
         let statement = statement_of(alloc, slots, shown, label as u32, rows[label])?;
-        statements.push(statement)?;
+        statements.push(Shared::new(alloc, statement)?)?;
     }
     Ok(statements)
 }

@@ -148,6 +148,13 @@ fn takes_no_turn_without_an_instance(rt: HostRuntime) -> Result<(), Fail> {
         assert!(rt; turns_are_few(alloc, &falling[..depth], few)?);
         assert!(rt; turns_are_few(alloc, &rising[..depth], few)?);
     }
+    Ok(())
+}
+
+#[test]
+fn takes_no_turn_where_the_last_range_is_empty(rt: HostRuntime) -> Result<(), Fail> {
+    let alloc = rt.alloc();
+    let wide = range(constant(1), constant(MOST));
 
     // Steps of so much leave one instance more than there are ranges, and the last number ties the first.
     let step = 499_999_999;

@@ -130,5 +130,5 @@ pub(crate) fn chosen(p: &CProgram, choice: u32) -> &CStmt
     requires { choice < length p.now.statements }
     ensures { slice_get p.now.statements choice ≡ Some result.now }
 {
-    &p.statements.as_slice()[choice as usize]
+    p.statements.as_slice()[choice as usize].get()
 }

@@ -21,7 +21,7 @@ use expand_declarations::WordTable;
 use expand_expressions::{Env, Known, Numbers, outside, range_numbers, with_bound};
 use expand_rules::{Bound, Effect};
 use std::alloc::{AllocError, Global};
-use unity_base::Seq;
+use unity_base::{Seq, Shared};
 use unity_syntax::{Assign, Item, Items, Name};
 
 fn copied(alloc: Global, numbers: &[i64]) -> Result<Seq<i64>, AllocError>
@@ -66,7 +66,7 @@ fn push_statement(
     indices: &[i64],
     known: &Known,
     words: &WordTable,
-    list: &mut Seq<CStmt>,
+    list: &mut Seq<Shared<CStmt>>,
 ) -> Result<(), AllocError>
     requires ready { IsReady known.now }
     requires numbered { AreNumberBindings (bound_names env.now) indices.now }
@@ -80,12 +80,13 @@ fn push_statement(
         exact: _,
         count: _,
     } = effect_of(alloc, a, env, known)?;
-    list.push(CStmt {
+    let statement = CStmt {
         label: words.number(label),
         indices,
         outside,
         writes,
-    })
+    };
+    list.push(Shared::new(alloc, statement)?)
 }
 
 fn number_at(numbers: &Numbers, i: u64) -> i64
@@ -104,7 +105,7 @@ fn push_item(
     indices: &[i64],
     known: &Known,
     words: &WordTable,
-    list: &mut Seq<CStmt>,
+    list: &mut Seq<Shared<CStmt>>,
 ) -> Result<(), AllocError>
     requires ready { IsReady known.now }
     requires numbered { AreNumberBindings (bound_names env.now) indices.now }
@@ -149,7 +150,7 @@ fn push_numbers(
     indices: &[i64],
     known: &Known,
     words: &WordTable,
-    list: &mut Seq<CStmt>,
+    list: &mut Seq<Shared<CStmt>>,
 ) -> Result<(), AllocError>
     requires ready { IsReady known.now }
     requires numbered { AreNumberBindings (bound_names env.now) indices.now }
@@ -176,7 +177,7 @@ fn push_number(
     indices: &[i64],
     known: &Known,
     words: &WordTable,
-    list: &mut Seq<CStmt>,
+    list: &mut Seq<Shared<CStmt>>,
 ) -> Result<(), AllocError>
     requires ready { IsReady known.now }
     requires numbered { AreNumberBindings (bound_names env.now) indices.now }
@@ -204,7 +205,7 @@ fn push_all(
     indices: &[i64],
     known: &Known,
     words: &WordTable,
-    list: &mut Seq<CStmt>,
+    list: &mut Seq<Shared<CStmt>>,
 ) -> Result<(), AllocError>
     requires ready { IsReady known.now }
     requires numbered { AreNumberBindings (bound_names env.now) indices.now }
@@ -223,7 +224,7 @@ fn push_further(
     indices: &[i64],
     known: &Known,
     words: &WordTable,
-    list: &mut Seq<CStmt>,
+    list: &mut Seq<Shared<CStmt>>,
 ) -> Result<(), AllocError>
     requires ready { IsReady known.now }
     requires numbered { AreNumberBindings (bound_names env.now) indices.now }
@@ -243,7 +244,7 @@ pub fn push_statements(
     items: &Items,
     known: &Known,
     words: &WordTable,
-    list: &mut Seq<CStmt>,
+    list: &mut Seq<Shared<CStmt>>,
 ) -> Result<(), AllocError>
     requires ready { IsReady known.now }
     requires faultless { items_fault (scope_among known.now []) items.now ([] ∷ []) ≡ None }

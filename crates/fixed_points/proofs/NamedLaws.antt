@@ -1,6 +1,6 @@
 -- A statement's part of the formula of fixed points names no slot and no parameter that the statement does not name.
-use Rattle.std.proofs.Common.{ℕ, ◌≤◌, List, [], ◌∷◌, map, length, All, arith, refl}
-use Rattle.std.proofs.lemmas.List.Elements.{All-head, All-tail, All-map, All-weaker}
+use Rattle.std.proofs.Common.{ℕ, ◌≤◌, List, [], ◌∷◌, map, length, All, arith}
+use Rattle.std.proofs.lemmas.List.Elements.{All-map, All-weaker}
 use Rattle.core_terms.specs.declared.trees.CTerm.{CTerm, fold-CTerm}
 use Rattle.core_terms.specs.declared.trees.CTerm.TheVariants.{Slot}
 use Rattle.core_terms.specs.declared.trees.CForm.{CForm, fold-CForm}
@@ -11,11 +11,10 @@ use Rattle.core_terms.specs.declared.programs.CStmt.{CStmt}
 use Rattle.core_terms.specs.Places.{greatest_part, slots_step, params_step, form_slots, form_params, term_slots}
 use Rattle.core_terms.specs.Places.{term_params}
 use Rattle.core_terms.specs.Conditions.{FormFits, WriteFits, StatementFits}
-use Rattle.core_terms.specs.Folding.{and_form}
-use Rattle.wp_substitution.specs.Preconditions.{and_all, all_of, defined_form}
+use Rattle.wp_substitution.specs.Preconditions.{all_of, defined_form}
 use Rattle.wp_substitution.proofs.PlaceLaws.{Counts, count-Slot, difference_within, zero_within, not_within, and_within}
-use Rattle.wp_substitution.proofs.PlaceLaws.{or_within, top_within}
-use Rattle.wp_substitution.proofs.NamedLaws.{defined_below}
+use Rattle.wp_substitution.proofs.PlaceLaws.{or_within}
+use Rattle.wp_substitution.proofs.NamedLaws.{all_of_below, defined_below, slots_counts, params_counts}
 use Rattle.fixed_points.specs.FixedForms.{same_value, fixed_part}
 
 module _ (step : CTerm-F ℕ ℕ → ℕ) (counts : Counts step) (limit : ℕ) where
@@ -28,16 +27,6 @@ module _ (step : CTerm-F ℕ ℕ → ℕ) (counts : Counts step) (limit : ℕ) w
   abbrev WriteBelow : CWrite → Type 0
   WriteBelow w = FormBelow w.when × TermBelow w.value
 
-  and_all_below : (f : CForm) (fs : List CForm) → FormBelow f → All FormBelow fs → FormBelow (and_all f fs)
-  and_all_below f [] h k = h
-  and_all_below f (g ∷ gs) h k =
-      and_all_below (and_form f g) gs (and_within step counts limit f g h (All-head FormBelow g gs k))
-      (All-tail FormBelow g gs k)
-
-  all_of_below : (fs : List CForm) → All FormBelow fs → FormBelow (all_of fs)
-  all_of_below [] h = top_within step counts limit
-  all_of_below (f ∷ fs) h = and_all_below f fs (All-head FormBelow f fs h) (All-tail FormBelow f fs h)
-
   same_below : (w : CWrite) → WriteBelow w × TermBelow (Slot w.slot) → FormBelow (same_value w)
   same_below w h =
       or_within step counts limit _ _ (not_within step counts limit w.when h.0.0)
@@ -49,32 +38,10 @@ module _ (step : CTerm-F ℕ ℕ → ℕ) (counts : Counts step) (limit : ℕ) w
       and_within step counts limit (defined_form slots s) (all_of (map same_value s.writes))
       (defined_below step counts limit slots s h
       (All-weaker (λ w. WriteBelow w × TermBelow (Slot w.slot)) WriteBelow (λ w b. b.0) s.writes k))
-      (all_of_below (map same_value s.writes)
+      (all_of_below step counts limit (map same_value s.writes)
       (All-map FormBelow same_value s.writes
       (All-weaker (λ w. WriteBelow w × TermBelow (Slot w.slot)) (λ w. FormBelow (same_value w)) same_below
       s.writes k)))
-
-slots_counts : Counts slots_step
-slots_counts = record {
-  constant = λ c. refl;
-  sum = λ a b. refl;
-  difference = λ a b. refl;
-  multiple = λ k a. refl;
-  quotient = λ k a. refl;
-  remainder = λ k a. refl;
-  choice = λ c a b. refl;
-}
-
-params_counts : Counts params_step
-params_counts = record {
-  constant = λ c. refl;
-  sum = λ a b. refl;
-  difference = λ a b. refl;
-  multiple = λ k a. refl;
-  quotient = λ k a. refl;
-  remainder = λ k a. refl;
-  choice = λ c a b. refl;
-}
 
 pub part_slots : (slots : List CSlot) (s : CStmt) → StatementFits slots s →
     form_slots (fixed_part slots s) ≤ length slots

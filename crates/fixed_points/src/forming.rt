@@ -39,7 +39,7 @@ pub fn fixed_form(alloc: Global, p: &CProgram, slots: &[CSlot]) -> Result<CForm,
 fn add_parts(
     alloc: Global,
     all: &mut Joined,
-    statements: &[CStmt],
+    statements: &[Shared<CStmt>],
     slots: &[CSlot],
 ) -> Result<(), AllocError>
     requires known { JoinedKnown all.old }
@@ -49,7 +49,7 @@ fn add_parts(
     ensures known { OnOk result (JoinedKnown all.new) }
 {
     for s in statements {
-        let part = fixed_part(alloc, s, slots)?;
+        let part = fixed_part(alloc, s.get(), slots)?;
         let truth = truth_of(part.get());
         all.add(alloc, part, truth)?;
     }

@@ -11,6 +11,7 @@ ghost use Rattle.fixed_points.specs.FixedPoints as fixed;
 ghost use Rattle.fixed_points.specs.Joining.{leaves};
 
 use core_terms::{CForm, CProgram, CSlot, CStmt, CWrite, holds, value};
+use unity_base::Shared;
 
 /// Whether a state is a fixed point of the program: the step of each statement is defined and leads back. It takes no
 /// memory.
@@ -39,7 +40,7 @@ pub fn changing(p: &CProgram, slots: &[CSlot], state: &[i64], from: usize) -> Op
 }
 
 // The place of the first of these statements whose step is undefined or leads elsewhere.
-fn changing_among(slots: &[CSlot], state: &[i64], statements: &[CStmt]) -> Option<usize>
+fn changing_among(slots: &[CSlot], state: &[i64], statements: &[Shared<CStmt>]) -> Option<usize>
     requires state { IsTrue (is_state (slot_ranges slots.now) state.now) }
     requires fits { StatementsRun slots.now statements.now }
     ensures none { is_none result ≡
@@ -47,7 +48,7 @@ fn changing_among(slots: &[CSlot], state: &[i64], statements: &[CStmt]) -> Optio
     ensures place { MatchOption result (Unit {0}) (λ place. place < length statements.now) }
 {
     for place in 0..statements.len() {
-        if !leads_back(slots, state, &statements[place]) {
+        if !leads_back(slots, state, statements[place].get()) {
             return Some(place);
         }
     }

@@ -16,9 +16,10 @@ use Rattle.core_terms.specs.declared.programs.CProgram.{CProgram}
 use Rattle.core_terms.specs.declared.documents.CDocument.{CDocument}
 use Rattle.core_terms.specs.Steps.{slot_ranges, core_step, core_writes}
 use Rattle.executor.specs.Running as runner
+use Rattle.fair_rounds.specs.Records.{core_system}
 use Rattle.schedule_replay.specs.Lines.{rounds_line, fixed_line}
 use Rattle.fixed_points.specs.FixedPoints.{is_fixed}
-use Rattle.run_traces.proofs.TraceLaws.{drop_next, take_next}
+use Rattle.run_traces.proofs.TraceLaws.{drop_next, take_next, drop_past}
 use Rattle.run_traces.specs.Traces.{step_line, following, steps_text, and_then_all, all_defined}
 use Rattle.fixed_runs.specs.Traces.{fixed_after, up_to, fixed_lines, fixed_choices, fixed_defined}
 use Rattle.fixed_runs.specs.Cores.{lines_from, rest_text}
@@ -128,6 +129,22 @@ module _ (d : CDocument) (p : CProgram) (x : System) where
       ∙ ap (λ made. step_line d p (n + 1) c (chosen_step x c state)
       ++ following (λ next. rest_text d p x (n + 1) next made (drop (n + 1) cs)) (chosen_step x c state))
       (take_next cs n c there)
+
+-- what is left where the trace ends: at a fixed point, and after the last choice
+pub fixed_end : (d : CDocument) (p : CProgram) (cs : List ℕ) (n number : ℕ) (state : State) →
+    is_fixed (core_system d.slots p) state ≡ true → number ≡ rounds (take n cs) (length p.statements) →
+    rest_text d p (core_system d.slots p) n state (take n cs) (drop n cs) ≡ fixed_line n ++ rounds_line number
+fixed_end d p cs n number state e f =
+    rest_fixed d p (core_system d.slots p) n state (take n cs) (drop n cs) e
+    ∙ ap (λ r. fixed_line n ++ rounds_line r) (sym f)
+
+pub last_end : (d : CDocument) (p : CProgram) (cs : List ℕ) (n number : ℕ) (state : State) →
+    is_fixed (core_system d.slots p) state ≡ false → length cs ≤ n →
+    number ≡ rounds (take n cs) (length p.statements) →
+    rest_text d p (core_system d.slots p) n state (take n cs) (drop n cs) ≡ rounds_line number
+last_end d p cs n number state e past f =
+    rest_ended d p (core_system d.slots p) n state (take n cs) (drop n cs) e (drop_past cs n past)
+    ∙ ap rounds_line (sym f)
 
 -- whether the steps that are to come are defined
 

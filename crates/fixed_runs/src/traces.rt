@@ -1,15 +1,14 @@
 // The trace of a program up to its first fixed point.
-ghost use Rattle.std.specs.Prelude.{◌≡◌, ◌<◌, ◌≤◌, ◌++◌, length, IfOk, IfSome, OnOk, OnErr, IsTrue};
+ghost use Rattle.std.specs.Prelude.{◌≡◌, ◌++◌, length, IfOk, OnOk, OnErr, IsTrue};
 ghost use Rattle.std.specs.Io.KnownBytes.{Appends};
 ghost use Rattle.unity_base.specs.Streams.{AppendsPart, HasCause};
 ghost use Rattle.meaning_states.specs.State.{is_state};
 ghost use Rattle.core_terms.specs.Conditions.{IsProgram};
 ghost use Rattle.core_terms.specs.Steps.{slot_ranges};
-ghost use Rattle.executor.specs.Running.{program_of, slots_of, state_of, chosen_step};
+ghost use Rattle.executor.specs.Running.{program_of, slots_of, state_of};
 ghost use Rattle.fair_rounds.specs.Records.{core_system};
 ghost use Rattle.schedule_replay.specs.Schedules.{turns};
 ghost use Rattle.schedule_replay.specs.Lines.{fixed_line, rounds_line};
-ghost use Rattle.run_traces.specs.Traces.{step_line, stepped};
 ghost use Rattle.fixed_points.specs.FixedPoints.{is_fixed};
 ghost use Rattle.fixed_runs.specs.Cores.{core_fixed_steps, core_fixed_text, core_fixed_ending};
 
@@ -17,10 +16,8 @@ use core_terms::{CDocument, CProgram};
 use executor::{Runner, Stepped};
 use fair_rounds::RoundCount;
 use fixed_points::changing;
-use run_traces::Choices;
-use schedule_replay::{
-    Heading, write_fixed, write_heading, write_line, write_rounds, write_undefined,
-};
+use run_traces::{Choices, instances, write_step};
+use schedule_replay::{Heading, write_fixed, write_heading, write_line, write_rounds};
 use unity_base::{Failed, Sink};
 
 /// Writes the trace of a program from the runner's state, by so many choices, each instance in turn, up to the first
@@ -99,14 +96,6 @@ fn write_steps<K: Sink>(
     }
 }
 
-// How many instances there are.
-fn instances(p: &CProgram) -> u32
-    requires { length p.now.statements ≤ 4096 }
-    ensures { result ≡ length p.now.statements }
-{
-    p.statements.len() as u32
-}
-
 // Whether the runner's state is a fixed point. The test begins at a statement, round about, and then at the one that
 // was seen to change the state: in a run it is mostly the first that is looked at.
 fn is_at_rest(doc: &CDocument, p: &CProgram, runner: &Runner, from: &mut usize) -> bool
@@ -134,39 +123,4 @@ fn write_end<K: Sink>(number: u64, rounds: u64, out: &mut K) -> Result<(), Faile
     write_fixed(number, out)?;
     write_rounds(rounds, out)?;
     Ok(())
-}
-
-// Makes a step and writes its line.
-fn write_step<K: Sink>(
-    doc: &CDocument,
-    p: &CProgram,
-    number: u64,
-    choice: u32,
-    runner: &mut Runner,
-    out: &mut K,
-) -> Result<Stepped, Failed>
-    requires program { program_of runner.old ≡ p.now }
-    requires slots { slots_of runner.old ≡ doc.now.slots }
-    requires choice { choice < length p.now.statements }
-    ensures whole { OnOk result (Appends (K.written out.old) (K.written out.new)
-        (step_line doc.now p.now number choice (chosen_step doc.now.slots p.now choice (state_of runner.old)))) }
-    ensures stepped { IfOk result (λ s. s ≡ stepped (chosen_step doc.now.slots p.now choice (state_of runner.old))) }
-    ensures part { OnErr result (AppendsPart (K.written out.old) (K.written out.new)
-        (step_line doc.now p.now number choice (chosen_step doc.now.slots p.now choice (state_of runner.old)))) }
-    ensures cause { HasCause (K.faults out.old) (K.faults out.new) result }
-    ensures state { IfSome (chosen_step doc.now.slots p.now choice (state_of runner.old))
-        (λ next. state_of runner.new ≡ next) }
-    ensures program { program_of runner.new ≡ p.now }
-    ensures slots { slots_of runner.new ≡ doc.now.slots }
-{
-    match runner.step(choice) {
-        Stepped::Done => {
-            write_line(doc, p, number, Some(choice), runner.state(), out)?;
-            Ok(Stepped::Done)
-        }
-        Stepped::Undefined => {
-            write_undefined(doc, p, number, choice, out)?;
-            Ok(Stepped::Undefined)
-        }
-    }
 }

@@ -1,10 +1,11 @@
 // A term's first `Ite`. Nodes have functions of their own, so that the frames are small, and a deep term is
 // gone through within an ordinary stack.
 ghost use Rattle.std.specs.Prelude.{◌≡◌, IfOk, Some};
-ghost use Rattle.core_terms.specs.declared.trees.CTerm.TheVariants.{Add, Sub, Scale, Div, Mod};
-ghost use Rattle.obligations.specs.Settling.{within, first_ite};
+ghost use Rattle.core_terms.specs.declared.trees.CTerm.TheVariants.{Scale, Div, Mod};
+ghost use Rattle.obligations.specs.Settling.{within, first_ite, pair_term};
 
 use crate::branches::Choice;
+use crate::pairing::{Pairing, pair_term};
 use core_terms::{CForm, CTerm};
 use std::alloc::{AllocError, Global};
 use unity_base::{Held, Shared};
@@ -27,63 +28,35 @@ fn choice_of(
     Ok(Some(Held::new(alloc, choice)?))
 }
 
-/// A choice in the first part of a sum.
+/// A choice in the first part of a sum or a difference.
 #[inline(never)]
-fn in_sum_first(
+fn in_first(
     alloc: Global,
+    which: Pairing,
     choice: Held<Choice>,
     b: &Shared<CTerm>,
 ) -> Result<Option<Held<Choice>>, AllocError>
-    ensures { IfOk result (λ o. o ≡ Some (within (λ x. Add x b.now) choice)) }
+    ensures { IfOk result (λ o. o ≡ Some (within (λ x. pair_term which x b.now) choice)) }
 {
     let Choice { when, yes, no } = choice.into_inner();
-    let yes = Shared::new(alloc, CTerm::Add(yes, b.share()?))?;
-    let no = Shared::new(alloc, CTerm::Add(no, b.share()?))?;
+    let yes = Shared::new(alloc, pair_term(which, yes, b.share()?))?;
+    let no = Shared::new(alloc, pair_term(which, no, b.share()?))?;
     Ok(Some(Held::new(alloc, Choice { when, yes, no })?))
 }
 
-/// A choice in the second part of a sum.
+/// A choice in the second part of a sum or a difference.
 #[inline(never)]
-fn in_sum_second(
+fn in_second(
     alloc: Global,
+    which: Pairing,
     a: &Shared<CTerm>,
     choice: Held<Choice>,
 ) -> Result<Option<Held<Choice>>, AllocError>
-    ensures { IfOk result (λ o. o ≡ Some (within (λ x. Add a.now x) choice)) }
+    ensures { IfOk result (λ o. o ≡ Some (within (λ x. pair_term which a.now x) choice)) }
 {
     let Choice { when, yes, no } = choice.into_inner();
-    let yes = Shared::new(alloc, CTerm::Add(a.share()?, yes))?;
-    let no = Shared::new(alloc, CTerm::Add(a.share()?, no))?;
-    Ok(Some(Held::new(alloc, Choice { when, yes, no })?))
-}
-
-/// A choice in the first part of a difference.
-#[inline(never)]
-fn in_difference_first(
-    alloc: Global,
-    choice: Held<Choice>,
-    b: &Shared<CTerm>,
-) -> Result<Option<Held<Choice>>, AllocError>
-    ensures { IfOk result (λ o. o ≡ Some (within (λ x. Sub x b.now) choice)) }
-{
-    let Choice { when, yes, no } = choice.into_inner();
-    let yes = Shared::new(alloc, CTerm::Sub(yes, b.share()?))?;
-    let no = Shared::new(alloc, CTerm::Sub(no, b.share()?))?;
-    Ok(Some(Held::new(alloc, Choice { when, yes, no })?))
-}
-
-/// A choice in the second part of a difference.
-#[inline(never)]
-fn in_difference_second(
-    alloc: Global,
-    a: &Shared<CTerm>,
-    choice: Held<Choice>,
-) -> Result<Option<Held<Choice>>, AllocError>
-    ensures { IfOk result (λ o. o ≡ Some (within (λ x. Sub a.now x) choice)) }
-{
-    let Choice { when, yes, no } = choice.into_inner();
-    let yes = Shared::new(alloc, CTerm::Sub(a.share()?, yes))?;
-    let no = Shared::new(alloc, CTerm::Sub(a.share()?, no))?;
+    let yes = Shared::new(alloc, pair_term(which, a.share()?, yes))?;
+    let no = Shared::new(alloc, pair_term(which, a.share()?, no))?;
     Ok(Some(Held::new(alloc, Choice { when, yes, no })?))
 }
 
@@ -141,8 +114,8 @@ pub fn find_choice(alloc: Global, t: &CTerm) -> Result<Option<Held<Choice>>, All
         CTerm::Const(_) => Ok(None),
         CTerm::Slot(_) => Ok(None),
         CTerm::Param(_) => Ok(None),
-        CTerm::Add(a, b) => find_in_sum(alloc, a, b),
-        CTerm::Sub(a, b) => find_in_difference(alloc, a, b),
+        CTerm::Add(a, b) => find_in_pair(alloc, Pairing::Sum, a, b),
+        CTerm::Sub(a, b) => find_in_pair(alloc, Pairing::Difference, a, b),
         CTerm::Scale(k, a) => {
             if let Some(choice) = find_choice(alloc, a.get())? {
                 return in_multiple(alloc, k, choice);
@@ -157,36 +130,19 @@ pub fn find_choice(alloc: Global, t: &CTerm) -> Result<Option<Held<Choice>>, All
 
 #[cycle(choices)]
 #[inline(never)]
-fn find_in_sum(
+fn find_in_pair(
     alloc: Global,
+    which: Pairing,
     a: &Shared<CTerm>,
     b: &Shared<CTerm>,
 ) -> Result<Option<Held<Choice>>, AllocError>
-    ensures { IfOk result (λ o. o ≡ first_ite (Add a.now b.now)) }
+    ensures { IfOk result (λ o. o ≡ first_ite (pair_term which a.now b.now)) }
 {
     if let Some(choice) = find_choice(alloc, a.get())? {
-        return in_sum_first(alloc, choice, b);
+        return in_first(alloc, which, choice, b);
     }
     if let Some(choice) = find_choice(alloc, b.get())? {
-        return in_sum_second(alloc, a, choice);
-    }
-    Ok(None)
-}
-
-#[cycle(choices)]
-#[inline(never)]
-fn find_in_difference(
-    alloc: Global,
-    a: &Shared<CTerm>,
-    b: &Shared<CTerm>,
-) -> Result<Option<Held<Choice>>, AllocError>
-    ensures { IfOk result (λ o. o ≡ first_ite (Sub a.now b.now)) }
-{
-    if let Some(choice) = find_choice(alloc, a.get())? {
-        return in_difference_first(alloc, choice, b);
-    }
-    if let Some(choice) = find_choice(alloc, b.get())? {
-        return in_difference_second(alloc, a, choice);
+        return in_second(alloc, which, a, choice);
     }
     Ok(None)
 }

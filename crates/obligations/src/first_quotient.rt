@@ -1,11 +1,12 @@
 // A term's first quotient. Nodes have functions of their own, so that the frames are small, and a deep term is
 // gone through within an ordinary stack.
 ghost use Rattle.std.specs.Prelude.{◌≡◌, IfOk, Some};
-ghost use Rattle.core_terms.specs.declared.trees.CTerm.TheVariants.{Param, Add, Sub, Scale, Div, Mod};
+ghost use Rattle.core_terms.specs.declared.trees.CTerm.TheVariants.{Param, Sub, Scale, Div, Mod};
 ghost use Rattle.meaning_states.specs.Division as division;
-ghost use Rattle.obligations.specs.Settling.{has_quotient, taken_within, first_taken};
+ghost use Rattle.obligations.specs.Settling.{has_quotient, taken_within, first_taken, pair_term};
 
 use crate::branches::Taken;
+use crate::pairing::{Pairing, pair_term};
 use core_terms::{CForm, CTerm};
 use std::alloc::{AllocError, Global};
 use unity_base::{Held, Shared};
@@ -40,59 +41,33 @@ fn with_rest(
     Ok(Some(Held::new(alloc, Taken { of, divisor, rest })?))
 }
 
-/// A quotient in the first part of a sum.
+/// A quotient in the first part of a sum or a difference.
 #[inline(never)]
-fn in_sum_first(
+fn in_first(
     alloc: Global,
+    which: Pairing,
     taken: Held<Taken>,
     b: &Shared<CTerm>,
 ) -> Result<Option<Held<Taken>>, AllocError>
-    ensures { IfOk result (λ o. o ≡ Some (taken_within (λ x. Add x b.now) taken)) }
+    ensures { IfOk result (λ o. o ≡ Some (taken_within (λ x. pair_term which x b.now) taken)) }
 {
     let Taken { of, divisor, rest } = taken.into_inner();
-    let whole = CTerm::Add(rest, b.share()?);
+    let whole = pair_term(which, rest, b.share()?);
     with_rest(alloc, of, divisor, whole)
 }
 
-/// A quotient in the second part of a sum.
+/// A quotient in the second part of a sum or a difference.
 #[inline(never)]
-fn in_sum_second(
+fn in_second(
     alloc: Global,
+    which: Pairing,
     a: &Shared<CTerm>,
     taken: Held<Taken>,
 ) -> Result<Option<Held<Taken>>, AllocError>
-    ensures { IfOk result (λ o. o ≡ Some (taken_within (λ x. Add a.now x) taken)) }
+    ensures { IfOk result (λ o. o ≡ Some (taken_within (λ x. pair_term which a.now x) taken)) }
 {
     let Taken { of, divisor, rest } = taken.into_inner();
-    let whole = CTerm::Add(a.share()?, rest);
-    with_rest(alloc, of, divisor, whole)
-}
-
-/// A quotient in the first part of a difference.
-#[inline(never)]
-fn in_difference_first(
-    alloc: Global,
-    taken: Held<Taken>,
-    b: &Shared<CTerm>,
-) -> Result<Option<Held<Taken>>, AllocError>
-    ensures { IfOk result (λ o. o ≡ Some (taken_within (λ x. Sub x b.now) taken)) }
-{
-    let Taken { of, divisor, rest } = taken.into_inner();
-    let whole = CTerm::Sub(rest, b.share()?);
-    with_rest(alloc, of, divisor, whole)
-}
-
-/// A quotient in the second part of a difference.
-#[inline(never)]
-fn in_difference_second(
-    alloc: Global,
-    a: &Shared<CTerm>,
-    taken: Held<Taken>,
-) -> Result<Option<Held<Taken>>, AllocError>
-    ensures { IfOk result (λ o. o ≡ Some (taken_within (λ x. Sub a.now x) taken)) }
-{
-    let Taken { of, divisor, rest } = taken.into_inner();
-    let whole = CTerm::Sub(a.share()?, rest);
+    let whole = pair_term(which, a.share()?, rest);
     with_rest(alloc, of, divisor, whole)
 }
 
@@ -187,8 +162,8 @@ pub fn find_quotient(alloc: Global, v: u32, t: &CTerm) -> Result<Option<Held<Tak
         CTerm::Const(_) => Ok(None),
         CTerm::Slot(_) => Ok(None),
         CTerm::Param(_) => Ok(None),
-        CTerm::Add(a, b) => find_in_sum(alloc, v, a, b),
-        CTerm::Sub(a, b) => find_in_difference(alloc, v, a, b),
+        CTerm::Add(a, b) => find_in_pair(alloc, v, Pairing::Sum, a, b),
+        CTerm::Sub(a, b) => find_in_pair(alloc, v, Pairing::Difference, a, b),
         CTerm::Scale(k, a) => find_in_multiple(alloc, v, k, a),
         CTerm::Div(a, k) => find_in_quotient(alloc, v, a, k),
         CTerm::Mod(a, k) => find_in_remainder(alloc, v, a, k),
@@ -198,38 +173,20 @@ pub fn find_quotient(alloc: Global, v: u32, t: &CTerm) -> Result<Option<Held<Tak
 
 #[cycle(quotients)]
 #[inline(never)]
-fn find_in_sum(
+fn find_in_pair(
     alloc: Global,
     v: u32,
+    which: Pairing,
     a: &Shared<CTerm>,
     b: &Shared<CTerm>,
 ) -> Result<Option<Held<Taken>>, AllocError>
-    ensures { IfOk result (λ o. o ≡ first_taken v (Add a.now b.now)) }
+    ensures { IfOk result (λ o. o ≡ first_taken v (pair_term which a.now b.now)) }
 {
     if let Some(taken) = find_quotient(alloc, v, a.get())? {
-        return in_sum_first(alloc, taken, b);
+        return in_first(alloc, which, taken, b);
     }
     if let Some(taken) = find_quotient(alloc, v, b.get())? {
-        return in_sum_second(alloc, a, taken);
-    }
-    Ok(None)
-}
-
-#[cycle(quotients)]
-#[inline(never)]
-fn find_in_difference(
-    alloc: Global,
-    v: u32,
-    a: &Shared<CTerm>,
-    b: &Shared<CTerm>,
-) -> Result<Option<Held<Taken>>, AllocError>
-    ensures { IfOk result (λ o. o ≡ first_taken v (Sub a.now b.now)) }
-{
-    if let Some(taken) = find_quotient(alloc, v, a.get())? {
-        return in_difference_first(alloc, taken, b);
-    }
-    if let Some(taken) = find_quotient(alloc, v, b.get())? {
-        return in_difference_second(alloc, a, taken);
+        return in_second(alloc, which, a, taken);
     }
     Ok(None)
 }

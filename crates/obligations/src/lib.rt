@@ -11,11 +11,13 @@ mod linear;
 mod making;
 mod occurrence;
 mod opening;
+mod pairing;
 mod quotients;
 mod scopes;
 mod settling;
 mod shapes;
 mod small;
+mod waiting;
 
 pub use branches::{Bound, Branch, Choice, Fact, Line, Obligation, Replaced, Taken, Variable};
 pub use certificates::{Cert, Node, units};

@@ -1,9 +1,8 @@
 //! Settling: a formula that is taken to hold, or to fail, is taken apart onto a branch.
-ghost use Rattle.std.specs.Prelude.{◌≡◌, ◌+◌, ◌^◌, ◌≤◌, ◌<◌, length, pos, negsuc, None, OnOk, IfOk, [], ◌∷◌};
-ghost use Rattle.core_terms.specs.declared.trees.CTerm.TheVariants.{Const, Sub};
+ghost use Rattle.std.specs.Prelude.{◌≡◌, ◌+◌, ◌^◌, ◌≤◌, None, OnOk, IfOk, [], ◌∷◌};
 ghost use Rattle.core_terms.specs.declared.trees.CForm.TheVariants.{AtLeast, Zero, Not, And, Or};
 ghost use Rattle.obligations.specs.Settling.{settled, refused, joined, one_waiting, false_fact, one_fact, two_facts};
-ghost use Rattle.obligations.specs.Settling.{first_ite, least_adds, zero_adds, unequal_adds, below_zero, choice_form};
+ghost use Rattle.obligations.specs.Settling.{first_ite, sense_facts, sense_adds, least_adds, unequal_adds, below_zero};
 ghost use Rattle.obligations.specs.Settling.{HoldsWith};
 ghost use Rattle.obligations.specs.LinearForms.{linear, negated};
 ghost use Rattle.obligations.specs.Load.{need, term_load};
@@ -15,7 +14,8 @@ use crate::first_choice::find_choice;
 use crate::first_quotient::has_quotient;
 use crate::linear::{fact_from, line_of, negative_of};
 use crate::scopes::scope_of;
-use core_terms::{CForm, CTerm, copy_term, held_term, owned_term};
+use crate::waiting::{Sense, apart, below, form_of, negation_of, sense_choice, unequal_choice};
+use core_terms::{CForm, CTerm, copy_term};
 use std::alloc::{AllocError, Global};
 use unity_base::{Held, Seq, Shared};
 
@@ -46,74 +46,6 @@ fn add_false(alloc: Global, branch: &mut Branch) -> Result<(), AllocError>
     };
     add_fact(fact, branch)?;
     Ok(())
-}
-
-/// That a formula does not hold.
-fn negation_of(alloc: Global, f: &Shared<CForm>) -> Result<Shared<CForm>, AllocError>
-    ensures { IfOk result (λ g. g ≡ Not f.now) }
-{
-    Shared::new(alloc, CForm::Not(f.share()?))
-}
-
-/// The negation of a condition with a formula.
-fn otherwise(
-    alloc: Global,
-    when: &Shared<CForm>,
-    no: Shared<CForm>,
-) -> Result<Shared<CForm>, AllocError>
-    ensures { IfOk result (λ f. f ≡ And (Not when.now) no) }
-{
-    let not = negation_of(alloc, when)?;
-    Shared::new(alloc, CForm::And(not, no))
-}
-
-/// The condition with one formula, or its negation with the other.
-fn choose(
-    alloc: Global,
-    when: Shared<CForm>,
-    yes: Shared<CForm>,
-    no: Shared<CForm>,
-) -> Result<Shared<CForm>, AllocError>
-    ensures { IfOk result (λ f. f ≡ Or (And when yes) (And (Not when) no)) }
-{
-    let second = otherwise(alloc, &when, no)?;
-    let first = Shared::new(alloc, CForm::And(when, yes))?;
-    Shared::new(alloc, CForm::Or(first, second))
-}
-
-fn least_choice(alloc: Global, choice: Held<Choice>) -> Result<Shared<CForm>, AllocError>
-    ensures { IfOk result (λ f. f ≡ choice_form AtLeast choice) }
-{
-    let Choice { when, yes, no } = choice.into_inner();
-    let yes = Shared::new(alloc, CForm::AtLeast(owned_term(alloc, yes)?))?;
-    let no = Shared::new(alloc, CForm::AtLeast(owned_term(alloc, no)?))?;
-    choose(alloc, when, yes, no)
-}
-
-fn zero_choice(alloc: Global, choice: Held<Choice>) -> Result<Shared<CForm>, AllocError>
-    ensures { IfOk result (λ f. f ≡ choice_form Zero choice) }
-{
-    let Choice { when, yes, no } = choice.into_inner();
-    let yes = Shared::new(alloc, CForm::Zero(owned_term(alloc, yes)?))?;
-    let no = Shared::new(alloc, CForm::Zero(owned_term(alloc, no)?))?;
-    choose(alloc, when, yes, no)
-}
-
-/// That a term is not 0.
-fn unequal(alloc: Global, t: Shared<CTerm>) -> Result<Shared<CForm>, AllocError>
-    ensures { IfOk result (λ f. f ≡ Not (Zero t)) }
-{
-    let zero = Shared::new(alloc, CForm::Zero(owned_term(alloc, t)?))?;
-    Shared::new(alloc, CForm::Not(zero))
-}
-
-fn unequal_choice(alloc: Global, choice: Held<Choice>) -> Result<Shared<CForm>, AllocError>
-    ensures { IfOk result (λ f. f ≡ choice_form (λ x. Not (Zero x)) choice) }
-{
-    let Choice { when, yes, no } = choice.into_inner();
-    let yes = unequal(alloc, yes)?;
-    let no = unequal(alloc, no)?;
-    choose(alloc, when, yes, no)
 }
 
 /// Adds the fact of a term without an `Ite`.
@@ -148,111 +80,6 @@ fn add_negative(
     Ok(())
 }
 
-/// That a term is at least 0.
-fn least_of(alloc: Global, t: &CTerm) -> Result<Shared<CForm>, AllocError>
-    ensures { IfOk result (λ f. f ≡ AtLeast t.now) }
-{
-    Shared::new(alloc, CForm::AtLeast(copy_term(alloc, t)?))
-}
-
-/// That a term is 0.
-fn zero_of(alloc: Global, t: &CTerm) -> Result<Shared<CForm>, AllocError>
-    ensures { IfOk result (λ f. f ≡ Zero t.now) }
-{
-    Shared::new(alloc, CForm::Zero(copy_term(alloc, t)?))
-}
-
-/// Adds the fact of a term without an `Ite`, or that the term waits where it has a quotient.
-fn add_least_plain(
-    alloc: Global,
-    vs: &[Variable],
-    t: &CTerm,
-    branch: &mut Branch,
-) -> Result<(), AllocError>
-    requires variables { AreVariables vs.now }
-    requires load { (term_load t.now).own ≤ 2 ^ 126 }
-    ensures { OnOk result (branch.new ≡ joined branch.old (least_adds vs.now t.now None)) }
-{
-    if has_quotient(t) {
-        let form = least_of(alloc, t)?;
-        add_waiting(form, branch)
-    } else {
-        add_least(alloc, vs, t, branch)
-    }
-}
-
-/// Adds a term's fact, or the choice that it has to wait for.
-fn add_least_or(
-    alloc: Global,
-    vs: &[Variable],
-    t: &CTerm,
-    choice: Option<Held<Choice>>,
-    branch: &mut Branch,
-) -> Result<(), AllocError>
-    requires variables { AreVariables vs.now }
-    requires load { (term_load t.now).own ≤ 2 ^ 126 }
-    ensures { OnOk result (branch.new ≡ joined branch.old (least_adds vs.now t.now choice)) }
-{
-    match choice {
-        None => add_least_plain(alloc, vs, t, branch),
-        Some(choice) => {
-            let form = least_choice(alloc, choice)?;
-            add_waiting(form, branch)
-        }
-    }
-}
-
-/// Settles that a term is at least 0.
-#[inline(never)]
-fn settle_least(
-    alloc: Global,
-    vs: &[Variable],
-    t: &CTerm,
-    branch: &mut Branch,
-) -> Result<(), AllocError>
-    requires variables { AreVariables vs.now }
-    requires load { (term_load t.now).own ≤ 2 ^ 126 }
-    ensures { OnOk result (branch.new ≡ joined branch.old (least_adds vs.now t.now (first_ite t.now))) }
-{
-    let choice = find_choice(alloc, t)?;
-    add_least_or(alloc, vs, t, choice, branch)
-}
-
-/// -1 minus a term.
-fn below(alloc: Global, t: &CTerm) -> Result<Shared<CTerm>, AllocError>
-    ensures { IfOk result (λ u. u ≡ below_zero t.now) }
-{
-    let minus_one = Shared::new(alloc, CTerm::Const(-1))?;
-    let copy = held_term(alloc, t)?;
-    Shared::new(alloc, CTerm::Sub(minus_one, copy))
-}
-
-/// A term minus 1.
-fn above(alloc: Global, t: &CTerm) -> Result<Shared<CTerm>, AllocError>
-    ensures { IfOk result (λ u. u ≡ Sub t.now (Const (pos 1))) }
-{
-    let copy = held_term(alloc, t)?;
-    let one = Shared::new(alloc, CTerm::Const(1))?;
-    Shared::new(alloc, CTerm::Sub(copy, one))
-}
-
-/// Settles that a term is below 0.
-#[inline(never)]
-fn refuse_least(
-    alloc: Global,
-    vs: &[Variable],
-    t: &CTerm,
-    branch: &mut Branch,
-) -> Result<(), AllocError>
-    requires variables { AreVariables vs.now }
-    requires load { 1 + (term_load t.now).own ≤ 2 ^ 126 }
-    ensures { OnOk result
-        (branch.new ≡ joined branch.old (least_adds vs.now (below_zero t.now) (first_ite (below_zero t.now)))) }
-{
-    let below = below(alloc, t)?;
-    settle_least(alloc, vs, below.get(), branch)
-}
-
 /// Adds both facts of a term that is 0, where the term has no `Ite`.
 #[tactic(auto, using(crate::proofs::TableLaws::two_laws))]
 fn add_zero(
@@ -271,71 +98,98 @@ fn add_zero(
     Ok(())
 }
 
-/// Adds both facts of a term without an `Ite`, or that the term waits where it has a quotient.
-fn add_zero_plain(
+/// Adds the facts of a term without an `Ite`.
+fn add_facts(
     alloc: Global,
     vs: &[Variable],
     t: &CTerm,
+    sense: Sense,
     branch: &mut Branch,
 ) -> Result<(), AllocError>
     requires variables { AreVariables vs.now }
     requires load { (term_load t.now).own ≤ 2 ^ 126 }
-    ensures { OnOk result (branch.new ≡ joined branch.old (zero_adds vs.now t.now None)) }
+    ensures { OnOk result (branch.new ≡ joined branch.old (sense_facts sense vs.now t.now)) }
 {
-    if has_quotient(t) {
-        let form = zero_of(alloc, t)?;
-        add_waiting(form, branch)
-    } else {
-        add_zero(alloc, vs, t, branch)
+    match sense {
+        Sense::AtLeast => add_least(alloc, vs, t, branch),
+        Sense::Zero => add_zero(alloc, vs, t, branch),
     }
 }
 
-/// Adds a term's two facts, or the choice that it has to wait for.
-fn add_zero_or(
+/// Adds the facts of a term without an `Ite`, or that the term waits where it has a quotient.
+fn add_plain(
     alloc: Global,
     vs: &[Variable],
     t: &CTerm,
+    sense: Sense,
+    branch: &mut Branch,
+) -> Result<(), AllocError>
+    requires variables { AreVariables vs.now }
+    requires load { (term_load t.now).own ≤ 2 ^ 126 }
+    ensures { OnOk result (branch.new ≡ joined branch.old (sense_adds sense vs.now t.now None)) }
+{
+    if has_quotient(t) {
+        let form = form_of(alloc, sense, copy_term(alloc, t)?)?;
+        add_waiting(form, branch)
+    } else {
+        add_facts(alloc, vs, t, sense, branch)
+    }
+}
+
+/// Adds a term's facts, or the choice that it has to wait for.
+fn add_or(
+    alloc: Global,
+    vs: &[Variable],
+    t: &CTerm,
+    sense: Sense,
     choice: Option<Held<Choice>>,
     branch: &mut Branch,
 ) -> Result<(), AllocError>
     requires variables { AreVariables vs.now }
     requires load { (term_load t.now).own ≤ 2 ^ 126 }
-    ensures { OnOk result (branch.new ≡ joined branch.old (zero_adds vs.now t.now choice)) }
+    ensures { OnOk result (branch.new ≡ joined branch.old (sense_adds sense vs.now t.now choice)) }
 {
     match choice {
-        None => add_zero_plain(alloc, vs, t, branch),
+        None => add_plain(alloc, vs, t, sense, branch),
         Some(choice) => {
-            let form = zero_choice(alloc, choice)?;
+            let form = sense_choice(alloc, sense, choice)?;
             add_waiting(form, branch)
         }
     }
 }
 
-/// Settles that a term is 0.
+/// Settles that a term is at least 0, or that it is 0.
 #[inline(never)]
-fn settle_zero(
+fn settle_term(
+    alloc: Global,
+    vs: &[Variable],
+    t: &CTerm,
+    sense: Sense,
+    branch: &mut Branch,
+) -> Result<(), AllocError>
+    requires variables { AreVariables vs.now }
+    requires load { (term_load t.now).own ≤ 2 ^ 126 }
+    ensures { OnOk result (branch.new ≡ joined branch.old (sense_adds sense vs.now t.now (first_ite t.now))) }
+{
+    let choice = find_choice(alloc, t)?;
+    add_or(alloc, vs, t, sense, choice, branch)
+}
+
+/// Settles that a term is below 0.
+#[inline(never)]
+fn refuse_least(
     alloc: Global,
     vs: &[Variable],
     t: &CTerm,
     branch: &mut Branch,
 ) -> Result<(), AllocError>
     requires variables { AreVariables vs.now }
-    requires load { (term_load t.now).own ≤ 2 ^ 126 }
-    ensures { OnOk result (branch.new ≡ joined branch.old (zero_adds vs.now t.now (first_ite t.now))) }
+    requires load { 1 + (term_load t.now).own ≤ 2 ^ 126 }
+    ensures { OnOk result
+        (branch.new ≡ joined branch.old (least_adds vs.now (below_zero t.now) (first_ite (below_zero t.now)))) }
 {
-    let choice = find_choice(alloc, t)?;
-    add_zero_or(alloc, vs, t, choice, branch)
-}
-
-/// That a term is above 0 or below it.
-fn apart(alloc: Global, t: &CTerm) -> Result<Shared<CForm>, AllocError>
-    ensures { IfOk result (λ f. f ≡ Or (AtLeast (Sub t.now (Const (pos 1)))) (AtLeast (Sub (Const (negsuc 0)) t.now))) }
-{
-    let above = above(alloc, t)?;
-    let above = Shared::new(alloc, CForm::AtLeast(owned_term(alloc, above)?))?;
     let below = below(alloc, t)?;
-    let below = Shared::new(alloc, CForm::AtLeast(owned_term(alloc, below)?))?;
-    Shared::new(alloc, CForm::Or(above, below))
+    settle_term(alloc, vs, below.get(), Sense::AtLeast, branch)
 }
 
 /// Adds that a term is above 0 or below it, or the choice that it has to wait for.
@@ -430,8 +284,8 @@ pub fn settle_onto(
     match f {
         CForm::Top => Ok(()),
         CForm::Bottom => add_false(alloc, branch),
-        CForm::AtLeast(t) => settle_least(alloc, vs, t, branch),
-        CForm::Zero(t) => settle_zero(alloc, vs, t, branch),
+        CForm::AtLeast(t) => settle_term(alloc, vs, t, Sense::AtLeast, branch),
+        CForm::Zero(t) => settle_term(alloc, vs, t, Sense::Zero, branch),
         CForm::Not(g) => refuse_onto(alloc, vs, g.get(), branch),
         CForm::And(g, h) => {
             settle_onto(alloc, vs, g.get(), branch)?;

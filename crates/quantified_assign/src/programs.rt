@@ -18,7 +18,7 @@ use expand_statements::{check_items, push_statements};
 use expand_steps::{formed, is_too_large};
 use names_rules::NameFault;
 use std::alloc::{AllocError, Global};
-use unity_base::Seq;
+use unity_base::{Seq, Shared};
 use unity_syntax::{Init, Initially, Items, Name, Var};
 
 /// What the bodies of parts are made with: the words of the document, what it declares, and its slots.
@@ -81,7 +81,11 @@ fn initial_form(
     }
 }
 
-fn statements_of(alloc: Global, items: &Items, making: &Making) -> Result<Seq<CStmt>, AllocError>
+fn statements_of(
+    alloc: Global,
+    items: &Items,
+    making: &Making,
+) -> Result<Seq<Shared<CStmt>>, AllocError>
     requires ready { spec.IsPrepared making.now }
     requires faultless { items_fault (outer_scope making.now.known.now) items.now ([] ∷ []) ≡ None }
     ensures { IfOk result (λ list. list ≡ map (core_statement (word_number making.now.words.now))

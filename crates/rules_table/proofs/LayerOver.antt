@@ -21,6 +21,7 @@ use Rattle.core_terms.specs.Places.{form_names_only, term_names_only}
 use Rattle.core_terms.specs.Steps.{slot_ranges, outside_writes, inside_writes, core_writes, core_step}
 use Rattle.core_terms.specs.Conditions.{IsProgram, NamesShown, is_shown, any_place}
 use Rattle.core_terms.specs.Trees.{same_form, same_term}
+use Rattle.core_terms.proofs.FrameLaws.{named_form, named_term}
 use Rattle.core_terms.proofs.SameLaws.{same_form_is}
 use Rattle.layer_laws.specs.Layers.{IsOver}
 use Rattle.layer_laws.specs.Resets.{reset, old_writes}
@@ -32,7 +33,6 @@ use Rattle.rules_table.specs.Layers.{same_pattern, is_beside, is_layer, is_new}
 use Rattle.rules_table.specs.LayerLaws.{LayerIsOver}
 use Rattle.rules_table.proofs.EachLaws.{Each, from_all, each_at}
 use Rattle.rules_table.proofs.FormLaws.{all_join}
-use Rattle.rules_table.proofs.NamedValues.{named_form, named_term}
 use Rattle.rules_table.proofs.SameTerms.{same_term_is}
 
 -- items of lists

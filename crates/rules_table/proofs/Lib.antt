@@ -11,7 +11,6 @@ pub mod LayerLaws
 pub mod LayerOver
 pub mod LayerSound
 pub mod NamedLaws
-pub mod NamedValues
 pub mod NumberLaws
 pub mod PairLaws
 pub mod RowEquations

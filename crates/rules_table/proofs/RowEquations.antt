@@ -1,5 +1,6 @@
 -- Each row of the table as one equation, for calls that give what it gives.
-use Rattle.std.proofs.Common.{◌≡◌, ℕ, ◌+◌, max, nat_eq, Bool, not, ◌&&◌, ◌||◌, List, [], ◌∷◌, ◌++◌, Some, None, Ok, refl}
+use Rattle.std.proofs.Common.{◌≡◌, ℕ, ◌+◌, max, nat_eq, Bool, not, ◌&&◌, ◌||◌, List, [], ◌∷◌, ◌++◌}
+use Rattle.std.proofs.Common.{Some, None, Ok, refl}
 use Rattle.std.proofs.Common.{sym, ap, ◌∙◌}
 use Rattle.std.specs.List.{list_all, list_any}
 use Rattle.case_tables.specs.declared.kind_table.Kind.{Kind}

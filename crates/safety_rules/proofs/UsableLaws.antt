@@ -1,8 +1,9 @@
 -- Formulas that are made of usable ones are usable.
 use Rattle.std.proofs.Common.{◌≡◌, ℕ, ◌≤◌, ◌^◌, max, List, [], ◌∷◌, ◌++◌, length, Some, None, refl, sym, ap, ◌∙◌}
-use Rattle.std.proofs.Common.{subst, arith}
+use Rattle.std.proofs.Common.{◌<◌, slice_index_or, subst, arith}
 use Rattle.std.specs.Prelude.{All}
 use Rattle.std.proofs.lemmas.List.Elements.{All-nil, All-cons, All-head, All-tail, All-append, All-push, All-weaker}
+use Rattle.std.proofs.lemmas.List.Elements.{All-get_or}
 use Rattle.core_terms.specs.declared.trees.Range.{Range}
 use Rattle.core_terms.specs.declared.trees.CForm.{CForm, fold-roll-CForm}
 use Rattle.core_terms.specs.declared.trees.CForm.TheVariants.{Not, And, Or, rolls-Not, rolls-And, rolls-Or}
@@ -220,3 +221,40 @@ exist_other_ends slots params p q r s hp hq hr hs =
     (exist_or slots params (and_form (not_form p) s) (and_form (not_form r) q)
     (exist_and slots params (not_form p) s (exist_not slots params p hp) hs)
     (exist_and slots params (not_form r) q (exist_not slots params r hr) hq)) (exist_and slots params q s hq hs)
+
+-- a statement of a list whose statements all fit
+pub item_fits : (slots : List CSlot) (items all : List CStmt) (i : ℕ) (s : CStmt) → s ≡ slice_index_or items i s →
+    i < length items → items ≡ all → All (StatementFits slots) all → StatementFits slots s
+item_fits slots items all i s item less same fits =
+    subst (λ t. StatementFits slots t) (sym item)
+    (All-get_or (StatementFits slots) items i s less (subst (λ ss. All (StatementFits slots) ss) (sym same) fits))
+
+-- what a call made of fitting formulas
+module _ (slots : List CSlot) (params : List Range) where
+  made_exist : (f g : CForm) → f ≡ g → NamesExist slots params g → NamesExist slots params f
+  made_exist f g e h = subst (λ x. NamesExist slots params x) (sym e) h
+
+  pub fits_itself : (f g : CForm) → FormFits slots params g → f ≡ g → NamesExist slots params f
+  fits_itself f g u e = made_exist f g e (fits_exist slots params g u)
+
+  pub fits_or : (f p q : CForm) → FormFits slots params p → FormFits slots params q → f ≡ or_form p q →
+      NamesExist slots params f
+  fits_or f p q u v e = made_exist f (or_form p q) e
+      (exist_or slots params p q (fits_exist slots params p u) (fits_exist slots params q v))
+
+  pub fits_and : (f p q : CForm) → FormFits slots params p → FormFits slots params q → f ≡ and_form p q →
+      NamesExist slots params f
+  fits_and f p q u v e = made_exist f (and_form p q) e
+      (exist_and slots params p q (fits_exist slots params p u) (fits_exist slots params q v))
+
+  pub fits_ends : (f p q r s : CForm) → FormFits slots params p → FormFits slots params q →
+      FormFits slots params r → FormFits slots params s → f ≡ ends_of_both p q r s → NamesExist slots params f
+  fits_ends f p q r s hp hq hr hs e = made_exist f (ends_of_both p q r s) e
+      (exist_ends slots params p q r s (fits_exist slots params p hp) (fits_exist slots params q hq)
+      (fits_exist slots params r hr) (fits_exist slots params s hs))
+
+  pub fits_other_ends : (f p q r s : CForm) → FormFits slots params p → FormFits slots params q →
+      FormFits slots params r → FormFits slots params s → f ≡ ends_of_either p q r s → NamesExist slots params f
+  fits_other_ends f p q r s hp hq hr hs e = made_exist f (ends_of_either p q r s) e
+      (exist_other_ends slots params p q r s (fits_exist slots params p hp) (fits_exist slots params q hq)
+      (fits_exist slots params r hr) (fits_exist slots params s hs))

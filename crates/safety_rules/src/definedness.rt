@@ -40,10 +40,10 @@ fn add_defined(alloc: Global, pl: &Place, goals: &mut Seq<Obligation>) -> Result
         (table.defined_forms (site_of pl.now)) }
 {
     for s in pl.program.statements.as_slice() {
-        if is_oversized(alloc, s)? {
+        if is_oversized(alloc, s.get())? {
             return Err(RuleError::Fault(Code::FormulaTooLarge));
         }
-        let form = where_defined(alloc, pl, s)?;
+        let form = where_defined(alloc, pl, s.get())?;
         add_goal(alloc, pl, goals, form)?;
     }
     Ok(())

@@ -53,10 +53,10 @@ fn add_fixed(
         pl.now.program.now.statements) }
 {
     for s in pl.program.statements.as_slice() {
-        if is_oversized(alloc, s)? {
+        if is_oversized(alloc, s.get())? {
             return Err(RuleError::Fault(Code::FormulaTooLarge));
         }
-        let form = where_fixed(alloc, pl, premises, s)?;
+        let form = where_fixed(alloc, pl, premises, s.get())?;
         add_goal(alloc, pl, goals, form)?;
     }
     Ok(())

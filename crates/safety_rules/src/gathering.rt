@@ -105,8 +105,8 @@ pub(crate) fn any_held(alloc: Global, forms: &[CForm]) -> Result<Shared<CForm>, 
     }
 }
 
-// Where all formulas of a list hold, q does.
-pub(crate) fn implied(
+/// Where all formulas of a list hold, q does.
+pub fn implied(
     alloc: Global,
     premises: &[CForm],
     q: Shared<CForm>,

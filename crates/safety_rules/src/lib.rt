@@ -22,6 +22,7 @@ pub use concluding::{add_goal, conclude};
 pub use definedness::defined_rule;
 pub use ensuring::ensures_rule;
 pub use fixing::fixed_rule;
+pub use gathering::implied;
 pub use instancing::{instance, instance_in};
 pub use pairs::pair_rule;
 pub use places::{Derived, Place, RuleError};

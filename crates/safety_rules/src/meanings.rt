@@ -38,8 +38,8 @@ fn meanings(alloc: Global, pl: &Place, h: &Helper) -> Result<Seq<CForm>, AllocEr
 {
     let mut all = Seq::new(alloc);
     for s in pl.program.statements.as_slice() {
-        if may_mean(h, s) {
-            let form = is_meant(alloc, h, s)?;
+        if may_mean(h, s.get()) {
+            let form = is_meant(alloc, h, s.get())?;
             all.push(owned_form(alloc, form)?)?;
         }
     }

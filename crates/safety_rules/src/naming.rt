@@ -7,6 +7,7 @@ ghost use Rattle.safety_rules.specs.Helpers.{agrees, may_mean, has_place};
 
 use crate::places::Place;
 use core_terms::{Arg, CStmt, Helper};
+use unity_base::Shared;
 
 // Whether an index of the statement that helps may be this number.
 fn agrees(arg: Arg, index: i64) -> bool
@@ -61,11 +62,11 @@ pub(crate) fn names_some(args: &[Arg]) -> bool
 }
 
 // Whether some statement has the label and as many indices.
-fn some_place(h: &Helper, statements: &[CStmt]) -> bool
+fn some_place(h: &Helper, statements: &[Shared<CStmt>]) -> bool
     ensures { result ≡ list_any (has_place h.now) statements.now }
 {
     for s in statements {
-        if has_place(h, s) {
+        if has_place(h, s.get()) {
             return true;
         }
     }
@@ -73,11 +74,11 @@ fn some_place(h: &Helper, statements: &[CStmt]) -> bool
 }
 
 // Whether some statement may be meant.
-fn some_meant(h: &Helper, statements: &[CStmt]) -> bool
+fn some_meant(h: &Helper, statements: &[Shared<CStmt>]) -> bool
     ensures { result ≡ list_any (may_mean h.now) statements.now }
 {
     for s in statements {
-        if may_mean(h, s) {
+        if may_mean(h, s.get()) {
             return true;
         }
     }

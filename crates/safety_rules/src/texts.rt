@@ -71,10 +71,10 @@ fn add_kept(
         pl.now.program.now.statements) }
 {
     for s in pl.program.statements.as_slice() {
-        if is_oversized(alloc, s)? {
+        if is_oversized(alloc, s.get())? {
             return Err(RuleError::Fault(Code::FormulaTooLarge));
         }
-        let form = kept(alloc, pl, premises, q, s)?;
+        let form = kept(alloc, pl, premises, q, s.get())?;
         add_goal(alloc, pl, goals, form)?;
     }
     Ok(())

@@ -95,7 +95,7 @@ pub fn put_chosen<K: Sink>(
         (line.chosen_text doc.now p.now choice) }
 {
     match p.statements.get(choice as usize) {
-        Some(statement) => put_instance(text, out, doc.words.as_slice(), statement),
+        Some(statement) => put_instance(text, out, doc.words.as_slice(), statement.get()),
         None => {}
     }
 }

@@ -8,7 +8,7 @@ use case_tables::Code;
 use core_terms::{CDocument, CStmt, Choice};
 use std::alloc::{AllocError, Global};
 use std::cmp::Ordering;
-use unity_base::Seq;
+use unity_base::{Seq, Shared};
 
 /// The places of the instances that the document's schedule names, in order.
 pub fn read_schedule(alloc: Global, doc: &CDocument) -> Result<Seq<u32>, ScheduleError>
@@ -28,7 +28,7 @@ pub fn read_schedule(alloc: Global, doc: &CDocument) -> Result<Seq<u32>, Schedul
 }
 
 // The instances of the program of this name.
-fn statements_of(doc: &CDocument, name: u32) -> &[CStmt]
+fn statements_of(doc: &CDocument, name: u32) -> &[Shared<CStmt>]
     requires { IsCoreDocument doc.now }
     ensures statements { result.now ≡ named.statements_of doc.now name }
     ensures few { length result.now ≤ 4096 }
@@ -45,7 +45,7 @@ fn statements_of(doc: &CDocument, name: u32) -> &[CStmt]
 // The places of the instances that choices name.
 fn places_of(
     alloc: Global,
-    statements: &[CStmt],
+    statements: &[Shared<CStmt>],
     choices: &[Choice],
 ) -> Result<Seq<u32>, ScheduleError>
     requires few { length statements.now ≤ 4096 }
@@ -71,7 +71,7 @@ fn places_of(
 }
 
 // The place of the instance that a choice names. The order says where to look first.
-fn place_of(statements: &[CStmt], order: &[u32], choice: &Choice) -> Option<u32>
+fn place_of(statements: &[Shared<CStmt>], order: &[u32], choice: &Choice) -> Option<u32>
     requires few { length statements.now ≤ 4096 }
     requires apart { EachPair AreApart statements.now }
     ensures { result ≡ named.place_of statements.now choice.now }
@@ -83,7 +83,7 @@ fn place_of(statements: &[CStmt], order: &[u32], choice: &Choice) -> Option<u32>
 }
 
 // A place at which the instance stands that a choice names, where the order leads to one.
-fn guess(statements: &[CStmt], order: &[u32], choice: &Choice) -> Option<u32>
+fn guess(statements: &[Shared<CStmt>], order: &[u32], choice: &Choice) -> Option<u32>
     requires few { length statements.now ≤ 4096 }
     requires apart { EachPair AreApart statements.now }
     ensures { IfSome result (λ place. named.place_of statements.now choice.now ≡ Some place) }
@@ -95,7 +95,7 @@ fn guess(statements: &[CStmt], order: &[u32], choice: &Choice) -> Option<u32>
     });
     let place = *order.get(found.ok()?)?;
     let index = place as usize;
-    if index < statements.len() && is_named(choice, &statements[index]) {
+    if index < statements.len() && is_named(choice, statements[index].get()) {
         Some(place)
     } else {
         None
@@ -103,12 +103,12 @@ fn guess(statements: &[CStmt], order: &[u32], choice: &Choice) -> Option<u32>
 }
 
 // The place of the first instance that a choice names.
-fn first_place(statements: &[CStmt], choice: &Choice) -> Option<u32>
+fn first_place(statements: &[Shared<CStmt>], choice: &Choice) -> Option<u32>
     requires { length statements.now ≤ 4096 }
     ensures { result ≡ named.place_of statements.now choice.now }
 {
     for place in 0..statements.len() {
-        if is_named(choice, &statements[place]) {
+        if is_named(choice, statements[place].get()) {
             return Some(place as u32);
         }
     }
@@ -122,7 +122,7 @@ fn is_named(choice: &Choice, statement: &CStmt) -> bool
 }
 
 // The places of all statements, in the order of their labels and indices.
-fn order_of(alloc: Global, statements: &[CStmt]) -> Result<Vec<u32>, AllocError>
+fn order_of(alloc: Global, statements: &[Shared<CStmt>]) -> Result<Vec<u32>, AllocError>
     requires { length statements.now ≤ 4096 }
 {
     let mut order = Vec::new(alloc);
@@ -138,9 +138,9 @@ fn order_of(alloc: Global, statements: &[CStmt]) -> Result<Vec<u32>, AllocError>
 }
 
 // The label and the indices of the statement at a place.
-fn key(statements: &[CStmt], place: u32) -> (u32, &[i64]) {
+fn key(statements: &[Shared<CStmt>], place: u32) -> (u32, &[i64]) {
     match statements.get(place as usize) {
-        Some(statement) => (statement.label, statement.indices.as_slice()),
+        Some(statement) => (statement.get().label, statement.get().indices.as_slice()),
         None => (0, &[]),
     }
 }

@@ -225,8 +225,10 @@ module _ (pairs : List (ℕ × ℕ)) (label other : ℕ) (over below : List (Opt
   pub noted_known : Some other ≡ partner_in over label → Some label ≡ partner_in below other →
       Notes (pairs ++ (label, other) ∷ []) over below
   noted_known one two = record {
-    over_is = λ n. notes.over_is n ∙ sym (first_known lower upper pairs (label, other) n (sym (notes.over_is label) ∙ sym one));
-    below_is = λ n. notes.below_is n ∙ sym (first_known upper lower pairs (label, other) n (sym (notes.below_is other) ∙ sym two));
+    over_is = λ n. notes.over_is n
+        ∙ sym (first_known lower upper pairs (label, other) n (sym (notes.over_is label) ∙ sym one));
+    below_is = λ n. notes.below_is n
+        ∙ sym (first_known upper lower pairs (label, other) n (sym (notes.below_is other) ∙ sym two));
   }
 
   -- what the tables say is what the pattern of one pair more is

@@ -9,6 +9,7 @@ ghost use Rattle.rules_table.specs.Layers as layer;
 use crate::shown::Shown;
 use core_terms::{CForm, CStmt, CTerm, CWrite, same_term};
 use safety_rules::is_same;
+use unity_base::Shared;
 
 // Whether two terms are equal trees.
 fn is_same_term(t: &CTerm, u: &CTerm) -> bool
@@ -69,12 +70,12 @@ fn extends(below: &Shown, s: &CStmt, t: &CStmt) -> bool
 }
 
 // Whether each of these instances does so, at the same place.
-pub(crate) fn all_extend(below: &Shown, fs: &[CStmt], hs: &[CStmt]) -> bool
+pub(crate) fn all_extend(below: &Shown, fs: &[Shared<CStmt>], hs: &[Shared<CStmt>]) -> bool
     requires { length fs.now ≡ length hs.now }
     ensures { result ≡ layer.all_two (layer.extends below.now.slots.now) fs.now hs.now }
 {
     for (place, s) in fs.iter().enumerate() {
-        if !extends(below, s, &hs[place]) {
+        if !extends(below, s.get(), hs[place].get()) {
             return false;
         }
     }

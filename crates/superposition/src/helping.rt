@@ -5,17 +5,18 @@ ghost use Rattle.rules_table.specs.Layers as layer;
 use core_terms::{CProgram, CStmt, Helper};
 use safety_rules::copied_helper;
 use std::alloc::{AllocError, Global};
+use unity_base::Shared;
 
 // The label of the layer's instance at the first place that has this label below; the label itself where none has.
-fn label_over(fs: &[CStmt], hs: &[CStmt], label: u32) -> u32
+fn label_over(fs: &[Shared<CStmt>], hs: &[Shared<CStmt>], label: u32) -> u32
     ensures { result ≡ layer.label_over fs.now hs.now label }
 {
     for (place, s) in fs.iter().enumerate() {
         if place >= hs.len() {
             return label;
         }
-        if s.label == label {
-            return hs[place].label;
+        if s.get().label == label {
+            return hs[place].get().label;
         }
     }
     label

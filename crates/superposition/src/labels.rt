@@ -7,7 +7,7 @@ ghost use Rattle.rules_table.specs.Layers as layer;
 
 use core_terms::CStmt;
 use std::alloc::{AllocError, Global};
-use unity_base::Seq;
+use unity_base::{Seq, Shared};
 
 /// The label that stands with each of some labels, by its number.
 #[derive(Drop)]
@@ -90,8 +90,8 @@ impl Pairs {
 // The labels of the layer's instances, each with the one below it, where two stand together wherever one does.
 pub(crate) fn pattern(
     alloc: Global,
-    fs: &[CStmt],
-    hs: &[CStmt],
+    fs: &[Shared<CStmt>],
+    hs: &[Shared<CStmt>],
 ) -> Result<Option<Partners>, AllocError>
     requires { length fs.now ≡ length hs.now }
     ensures { IfOk result (IsPattern fs.now hs.now) }
@@ -101,7 +101,7 @@ pub(crate) fn pattern(
         below: Partners::new(alloc),
     };
     for (place, s) in fs.iter().enumerate() {
-        if !pairs.agree(s.label, hs[place].label)? {
+        if !pairs.agree(s.get().label, hs[place].get().label)? {
             return Ok(None);
         }
     }

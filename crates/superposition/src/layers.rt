@@ -9,6 +9,7 @@ use crate::labels::{Partners, pattern};
 use crate::shown::Shown;
 use core_terms::{CProgram, CStmt};
 use std::alloc::{AllocError, Global};
+use unity_base::Shared;
 
 // Whether an added instance has a label of its own, and writes no slot that is shown below.
 fn is_beside(below: &Shown, taken: &Partners, t: &CStmt) -> bool
@@ -19,12 +20,12 @@ fn is_beside(below: &Shown, taken: &Partners, t: &CStmt) -> bool
 }
 
 // Whether all added instances do.
-fn all_beside(below: &Shown, taken: &Partners, added: &[CStmt]) -> bool
+fn all_beside(below: &Shown, taken: &Partners, added: &[Shared<CStmt>]) -> bool
     ensures { (labels : List ℕ) → TellsTaken taken.now.by_label labels →
         result ≡ list_all (layer.is_beside below.now.slots.now labels) added.now }
 {
     for t in added {
-        if !is_beside(below, taken, t) {
+        if !is_beside(below, taken, t.get()) {
             return false;
         }
     }

@@ -7,6 +7,7 @@ ghost use Rattle.std.specs.List.{position_from};
 ghost use Rattle.trace_watch.specs.Cases as cases;
 
 use core_terms::{Arg, CProgram, CStmt, Helper};
+use unity_base::Shared;
 
 // The place of the instance that a helper names, for these numbers of the parameters.
 pub(crate) fn helper_place(p: &CProgram, helper: &Option<Helper>, values: &[i64]) -> Option<u32>
@@ -19,12 +20,12 @@ pub(crate) fn helper_place(p: &CProgram, helper: &Option<Helper>, values: &[i64]
     }
 }
 
-fn place_named(statements: &[CStmt], helper: &Helper, values: &[i64]) -> Option<u32>
+fn place_named(statements: &[Shared<CStmt>], helper: &Helper, values: &[i64]) -> Option<u32>
     requires { length statements.now ≤ 4096 }
     ensures { result ≡ position_from (records.is_named helper.now values.now) 0 statements.now }
 {
     for place in 0..statements.len() {
-        if is_named(helper, values, &statements[place]) {
+        if is_named(helper, values, statements[place].get()) {
             return Some(place as u32);
         }
     }

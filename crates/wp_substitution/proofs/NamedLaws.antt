@@ -45,7 +45,7 @@ module _ (step : CTerm-F ℕ ℕ → ℕ) (counts : Counts step) (limit : ℕ) w
       and_all_below (and_form f g) gs (and_within step counts limit f g h (All-head FormBelow g gs k))
       (All-tail FormBelow g gs k)
 
-  all_of_below : (fs : List CForm) → All FormBelow fs → FormBelow (all_of fs)
+  pub all_of_below : (fs : List CForm) → All FormBelow fs → FormBelow (all_of fs)
   all_of_below [] h = top_within step counts limit
   all_of_below (f ∷ fs) h = and_all_below f fs (All-head FormBelow f fs h) (All-tail FormBelow f fs h)
 
@@ -115,7 +115,7 @@ module _ (step : CTerm-F ℕ ℕ → ℕ) (counts : Counts step) (limit : ℕ) w
       and_within step counts limit (defined_form slots s) (form_after s.writes q) (defined_below slots s h k)
       (after_below s.writes q k g)
 
-slots_counts : Counts slots_step
+pub slots_counts : Counts slots_step
 slots_counts = record {
   constant = λ c. refl;
   sum = λ a b. refl;
@@ -126,7 +126,7 @@ slots_counts = record {
   choice = λ c a b. refl;
 }
 
-params_counts : Counts params_step
+pub params_counts : Counts params_step
 params_counts = record {
   constant = λ c. refl;
   sum = λ a b. refl;

@@ -1,7 +1,7 @@
 // A formula with its slots replaced by what the table says of them, all at once. A replaced part stands in a place
-// of its own, and what is known of it is handed back beside it, so that no part is looked down again. Nodes of
-// several parts have functions of their own: so the frames are small.
-ghost use Rattle.std.specs.Prelude.{◌≡◌, ◌+◌, ◌*◌, ◌^◌, ◌≤◌, IfOk, max};
+// of its own, and what is known of it is handed back beside it, so that no part is looked down again. Leaves
+// and nodes of several parts have functions of their own: so the frames are small.
+ghost use Rattle.std.specs.Prelude.{◌≡◌, ◌+◌, ◌*◌, ◌^◌, ◌≤◌, IfOk, cond, max};
 ghost use Rattle.std.specs.Int.RustNames.{unsigned_abs};
 ghost use Rattle.core_terms.specs.Weights.{plain_weights, plain_weight, sum_weights, multiple_weights, choice_weights};
 ghost use Rattle.core_terms.specs.Folding as fold;
@@ -34,20 +34,27 @@ pub fn form_after(
     ensures weight { IfOk result (λ g. plain_weight g ≤ after_weight f.now) }
 {
     match f {
-        CForm::Top => {
-            *truth = Some(true);
-            Shared::new(alloc, CForm::Top)
-        }
-        CForm::Bottom => {
-            *truth = Some(false);
-            Shared::new(alloc, CForm::Bottom)
-        }
+        CForm::Top => truth_after(alloc, true, truth),
+        CForm::Bottom => truth_after(alloc, false, truth),
         CForm::AtLeast(t) => at_least_after(alloc, t, chains, truth),
         CForm::Zero(t) => zero_after(alloc, t, chains, truth),
         CForm::Not(g) => not_known(alloc, form_after(alloc, g.get(), chains, truth)?, truth),
         CForm::And(g, h) => and_after(alloc, g, h, chains, truth),
         CForm::Or(g, h) => or_after(alloc, g, h, chains, truth),
     }
+}
+
+#[inline(never)]
+fn truth_after(
+    alloc: Global,
+    holds: bool,
+    truth: &mut Option<bool>,
+) -> Result<Shared<CForm>, AllocError>
+    ensures tree { IfOk result (λ f. f ≡ cond holds CForm.Top CForm.Bottom) }
+    ensures truth { IfOk result (λ f. truth.new ≡ fold.truth_of f) }
+{
+    *truth = Some(holds);
+    Shared::new(alloc, if holds { CForm::Top } else { CForm::Bottom })
 }
 
 #[cycle(after)]
@@ -148,10 +155,7 @@ fn term_after(
     match t {
         CTerm::Const(c) => const_after(alloc, *c, number),
         CTerm::Slot(n) => chain_of(alloc, chains, *n, number),
-        CTerm::Param(n) => {
-            *number = None;
-            Shared::new(alloc, CTerm::Param(*n))
-        }
+        CTerm::Param(n) => param_after(alloc, *n, number),
         CTerm::Add(a, b) => sum_after(alloc, a, b, chains, number),
         CTerm::Sub(a, b) => difference_after(alloc, a, b, chains, number),
         CTerm::Scale(k, a) => {
@@ -193,6 +197,19 @@ fn const_after(
 {
     *number = Some(c as i128);
     Shared::new(alloc, CTerm::Const(c))
+}
+
+#[inline(never)]
+fn param_after(
+    alloc: Global,
+    param: u32,
+    number: &mut Option<i128>,
+) -> Result<Shared<CTerm>, AllocError>
+    ensures tree { IfOk result (λ u. u ≡ CTerm.Param param) }
+    ensures number { IfOk result (λ u. number.new ≡ fold.number_of u) }
+{
+    *number = None;
+    Shared::new(alloc, CTerm::Param(param))
 }
 
 #[cycle(after)]

@@ -13,6 +13,7 @@ use core_terms::{CProgram, CStmt, CWrite};
 use fair_rounds::Record;
 use safety_rules::{Derived, Place, RuleError, is_same};
 use std::alloc::Global;
+use unity_base::Shared;
 
 /// The call `superpose_rule` of `superposition`, with its clauses.
 pub fn superpose_rule(
@@ -95,7 +96,7 @@ pub fn have_other_guard(f: &CProgram, h: &CProgram) -> bool
         if place >= hs.len() {
             return false;
         }
-        if has_other_guard(s, &hs[place]) {
+        if has_other_guard(s.get(), hs[place].get()) {
             return true;
         }
     }
@@ -124,11 +125,11 @@ fn writes_below(shown: &[u32], t: &CStmt) -> bool
     false
 }
 
-fn some_write_below(shown: &[u32], added: &[CStmt]) -> bool
+fn some_write_below(shown: &[u32], added: &[Shared<CStmt>]) -> bool
     ensures { result ≡ list_any (λ t. list_any (λ w. is_shown shown.now w.slot) t.writes) added.now }
 {
     for t in added {
-        if writes_below(shown, t) {
+        if writes_below(shown, t.get()) {
             return true;
         }
     }
@@ -146,22 +147,22 @@ pub fn adds_write_below(f: &CProgram, h: &CProgram) -> bool
     some_write_below(f.shown.as_slice(), &h.statements.as_slice()[count..])
 }
 
-fn has_label(standing: &[CStmt], label: u32) -> bool
+fn has_label(standing: &[Shared<CStmt>], label: u32) -> bool
     ensures { result ≡ list_any (λ s. nat_eq s.label label) standing.now }
 {
     for s in standing {
-        if s.label == label {
+        if s.get().label == label {
             return true;
         }
     }
     false
 }
 
-fn some_label_again(standing: &[CStmt], added: &[CStmt]) -> bool
+fn some_label_again(standing: &[Shared<CStmt>], added: &[Shared<CStmt>]) -> bool
     ensures { result ≡ list_any (λ t. list_any (λ s. nat_eq s.label t.label) standing.now) added.now }
 {
     for t in added {
-        if has_label(standing, t.label) {
+        if has_label(standing, t.get().label) {
             return true;
         }
     }

@@ -3,11 +3,11 @@ use Rattle.core_terms.specs.declared.trees.CForm.{size-CForm}
 use Rattle.core_terms.specs.declared.trees.CTerm.{size-CTerm}
 use Rattle.core_terms.proofs.folding.+known.Given as goal
 
-abbrev pub decreases-truth_of : goal.decreases-truth_of
-decreases-truth_of l = 2 * size-CForm l.f.now
+abbrev pub decreases-found_truth : goal.decreases-found_truth
+decreases-found_truth l = 2 * size-CForm l.f.now
 
-abbrev pub decreases-number_of : goal.decreases-number_of
-decreases-number_of l = 2 * size-CTerm l.t.now
+abbrev pub decreases-found_number : goal.decreases-found_number
+decreases-found_number l = 2 * size-CTerm l.t.now
 
 abbrev pub decreases-known_sum : goal.decreases-known_sum
 decreases-known_sum l = 2 * max (size-CTerm l.a.now) (size-CTerm l.b.now) + 1

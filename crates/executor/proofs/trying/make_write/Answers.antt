@@ -18,12 +18,10 @@ pub holds-requires-clause-weight : goal.holds-requires-clause-weight
 holds-requires-clause-weight c = (form_runs c.args.slots.now c.args.state.now _ c.requires.state c.requires.fits.1).2
 
 pub value-requires-clause-slots : goal.value-requires-clause-slots
-value-requires-clause-slots c =
-    (term_runs c.args.slots.now c.args.state.now _ c.requires.state c.requires.fits.2).0
+value-requires-clause-slots c = (term_runs c.args.slots.now c.args.state.now _ c.requires.state c.requires.fits.2).0
 
 pub value-requires-clause-weight : goal.value-requires-clause-weight
-value-requires-clause-weight c =
-    (term_runs c.args.slots.now c.args.state.now _ c.requires.state c.requires.fits.2).2
+value-requires-clause-weight c = (term_runs c.args.slots.now c.args.state.now _ c.requires.state c.requires.fits.2).2
 
 pub bounds-into-place : goal.bounds-into-place
 bounds-into-place c =

@@ -1,11 +1,6 @@
-use Rattle.std.proofs.Common.{◌≡◌, ◌+◌, ◌<◌, ◌++◌, [], length, take, drop, slice_get, refl, sym, ap, ◌∙◌, subst}
-use Rattle.std.proofs.Common.{append-nil, arith}
-use Rattle.std.specs.Prelude.{IfSome}
-use Rattle.std.specs.Io.KnownBytes.{Appends}
-use Rattle.unity_base.specs.Streams.{AppendsPart}
+use Rattle.std.proofs.Common.{◌≡◌, ◌+◌, ◌<◌, ◌++◌, [], length, take, drop, refl, sym, ap, ◌∙◌, subst, arith}
 use Rattle.std.proofs.lemmas.Option.{slice_get_within}
 use Rattle.meaning_states.specs.State.{State}
-use Rattle.meaning_documents.specs.Execution.{chosen_step}
 use Rattle.fair_rounds.specs.Counts.{StandsFor}
 use Rattle.fair_rounds.specs.Records.{core_system}
 use Rattle.executor.specs.Running.{state_of}
@@ -13,13 +8,15 @@ use Rattle.schedule_replay.specs.Lines.{rounds_line, fixed_line}
 use Rattle.schedule_replay.specs.Schedules.{turns}
 use Rattle.schedule_replay.proofs.BufferLaws.{on_err}
 use Rattle.run_traces.specs.declared.choices.Choices.{Choices}
-use Rattle.run_traces.specs.Traces.{stepped, step_line, following, and_then_all, ending}
-use Rattle.run_traces.proofs.Writing.{begin, more, cut, finished, rest_is}
-use Rattle.run_traces.proofs.TraceLaws.{among, core_chosen, take_next, no_next, some_next, past_end, drop_past}
+use Rattle.run_traces.specs.Traces.{following, and_then_all, ending}
+use Rattle.run_traces.proofs.Writing.{begin, rest_is}
+use Rattle.run_traces.proofs.TraceLaws.{among, core_chosen, take_next, past_end, drop_past}
+use Rattle.run_traces.proofs.TraceSteps.{there, none_follows, one_follows, step_written, step_ended, step_cut}
+use Rattle.run_traces.proofs.TraceSteps.{end_written, end_cut}
 use Rattle.fixed_runs.specs.Traces.{fixed_defined}
 use Rattle.fixed_runs.specs.Cores.{rest_text, core_fixed_steps}
-use Rattle.fixed_runs.proofs.RestLaws.{rest_begin, rest_fixed, rest_ended, rest_step, defined_fixed, defined_ended}
-use Rattle.fixed_runs.proofs.RestLaws.{defined_step, rounds_made, chosen_keeps}
+use Rattle.fixed_runs.proofs.RestLaws.{rest_begin, rest_step, defined_fixed, defined_ended, defined_step, chosen_keeps}
+use Rattle.fixed_runs.proofs.RestLaws.{fixed_end, last_end, rounds_made}
 use Rattle.fixed_runs.proofs.traces.write_steps.Goals as goal
 
 pub steps-init : goal.steps-init
@@ -45,188 +42,102 @@ steps-init g c =
 
 pub write_step-requires-clause-choice : goal.write_step-requires-clause-choice
 write_step-requires-clause-choice g c =
-    let d = c.args.doc.now in
-    let p = c.args.p.now in
-    let k = length p.statements in
-    let x = core_system d.slots p in
-    let cs = turns k c.args.steps in
-    let n = c.steps.number in
-    let state = state_of c.steps.runner in
-    let there = sym (c.in-Some.ensures.choice ∙ ap (λ j. slice_get (turns j c.args.steps) n) c.instances-k.ensures) in
-    among k (Choices.Turns c.args.steps) n c.in-Some.choice c.requires.is_program.some tt there
+    among _ (Choices.Turns c.args.steps) c.steps.number _ c.requires.is_program.some tt
+    (there (Choices.Turns c.args.steps) _ _ _ _ c.in-Some.ensures.choice c.instances-k.ensures)
 
 pub returns-then-is_at_rest-clause-whole : goal.returns-then-is_at_rest-clause-whole
 returns-then-is_at_rest-clause-whole g c =
-    let d = c.args.doc.now in
     let p = c.args.p.now in
-    let k = length p.statements in
-    let x = core_system d.slots p in
-    let cs = turns k c.args.steps in
+    let cs = turns (length p.statements) c.args.steps in
     let n = c.steps.number in
-    let state = state_of c.steps.runner in
-    let old = g.K.Sink.written c.args.out.now in
-    let mid = g.K.Sink.written c.steps.out in
-    let text = core_fixed_steps d p (state_of c.args.runner.now) cs in
-    let number = rounds_made cs k n c.steps.count.instances c.rounds.result (omega arith)
+    let number = rounds_made cs (length p.statements) n c.steps.count.instances c.rounds.result (omega arith)
     c.steps.invariant.instances (c.rounds.ensures (take n cs) c.steps.invariant.stands) in
-    let new = g.K.Sink.written c.write_end.new.out in
-    let line = fixed_line n ++ rounds_line c.rounds.result in
-    let writing = rest_is old mid text _ (line ++ [])
-    (rest_fixed d p x n state (take n cs) (drop n cs) (sym c.if-is_at_rest.ensures)
-    ∙ ap (λ r. fixed_line n ++ rounds_line r) (sym number) ∙ sym (append-nil line))
-    c.steps.invariant.writing in
-    finished old new text (more old mid new text line [] writing c.in_ok-write_end.ensures.whole)
+    end_written _ _ _ _ _ _ c.steps.invariant.writing (fixed_end c.args.doc.now p cs n c.rounds.result
+    (state_of c.steps.runner) (sym c.if-is_at_rest.ensures) number) c.in_ok-write_end.ensures.whole
 
 pub returns-then-is_at_rest-clause-ending : goal.returns-then-is_at_rest-clause-ending
 returns-then-is_at_rest-clause-ending g c =
-    let d = c.args.doc.now in
     let p = c.args.p.now in
-    let k = length p.statements in
-    let x = core_system d.slots p in
-    let cs = turns k c.args.steps in
-    let n = c.steps.number in
-    let state = state_of c.steps.runner in
-    sym (ap ending (c.steps.invariant.defined ∙ defined_fixed x state (drop n cs) (sym c.if-is_at_rest.ensures)))
+    sym (ap ending (c.steps.invariant.defined ∙ defined_fixed (core_system c.args.doc.now.slots p)
+    (state_of c.steps.runner) (drop c.steps.number (turns (length p.statements) c.args.steps))
+    (sym c.if-is_at_rest.ensures)))
 
 pub returns-in_err-write_end-clause-part : goal.returns-in_err-write_end-clause-part
 returns-in_err-write_end-clause-part g c =
-    let d = c.args.doc.now in
     let p = c.args.p.now in
-    let k = length p.statements in
-    let x = core_system d.slots p in
-    let cs = turns k c.args.steps in
+    let cs = turns (length p.statements) c.args.steps in
     let n = c.steps.number in
-    let state = state_of c.steps.runner in
-    let old = g.K.Sink.written c.args.out.now in
-    let mid = g.K.Sink.written c.steps.out in
-    let text = core_fixed_steps d p (state_of c.args.runner.now) cs in
-    let number = rounds_made cs k n c.steps.count.instances c.rounds.result (omega arith)
+    let number = rounds_made cs (length p.statements) n c.steps.count.instances c.rounds.result (omega arith)
     c.steps.invariant.instances (c.rounds.ensures (take n cs) c.steps.invariant.stands) in
-    let new = g.K.Sink.written c.write_end.new.out in
-    let line = fixed_line n ++ rounds_line c.rounds.result in
-    let writing = rest_is old mid text _ (line ++ [])
-    (rest_fixed d p x n state (take n cs) (drop n cs) (sym c.if-is_at_rest.ensures)
-    ∙ ap (λ r. fixed_line n ++ rounds_line r) (sym number) ∙ sym (append-nil line))
-    c.steps.invariant.writing in
-    on_err c.from_residual.result _ (cut old mid new text line [] writing c.in_err-write_end.ensures.part)
+    on_err c.from_residual.result _ (end_cut _ _ _ _ _ _ c.steps.invariant.writing (fixed_end c.args.doc.now p cs n
+    c.rounds.result (state_of c.steps.runner) (sym c.if-is_at_rest.ensures) number) c.in_err-write_end.ensures.part)
 
 pub returns-in-Undefined-clause-whole : goal.returns-in-Undefined-clause-whole
 returns-in-Undefined-clause-whole g c =
     let d = c.args.doc.now in
     let p = c.args.p.now in
-    let k = length p.statements in
-    let x = core_system d.slots p in
-    let cs = turns k c.args.steps in
     let n = c.steps.number in
     let state = state_of c.steps.runner in
-    let old = g.K.Sink.written c.args.out.now in
-    let mid = g.K.Sink.written c.steps.out in
-    let text = core_fixed_steps d p (state_of c.args.runner.now) cs in
-    let there = sym (c.in-Some.ensures.choice ∙ ap (λ j. slice_get (turns j c.args.steps) n) c.instances-k.ensures) in
-    let o = chosen_step x c.in-Some.choice state in
-    let piece = step_line d p (n + 1) c.in-Some.choice o in
-    let later = λ (next : State). rest_text d p x (n + 1) next (take (n + 1) cs) (drop (n + 1) cs) in
-    let new = g.K.Sink.written c.write_step.new.out in
-    let writing = rest_is old mid text _ (piece ++ following later o)
-    (rest_step d p x n c.in-Some.choice state cs there (sym c.if-is_at_rest.ensures))
-    c.steps.invariant.writing in
-    let none = no_next o c.in_ok-write_step-in-Some.field-0 (c.in_ok-write_step-in-Some.ensures.stepped
-    ∙ ap stepped (core_chosen d.slots p c.in-Some.choice state)) c.in-Undefined.is in
-    finished old new text (rest_is old new text (following later o) [] (ap (following later) none)
-    (more old mid new text piece (following later o) writing
-    (subst (λ r. Appends mid new (step_line d p (n + 1) c.in-Some.choice r))
-    (core_chosen d.slots p c.in-Some.choice state)
-    c.in_ok-write_step-in-Some.ensures.whole)))
+    let at = there (Choices.Turns c.args.steps) _ _ _ _ c.in-Some.ensures.choice c.instances-k.ensures in
+    step_ended d p n c.in-Some.choice state _ _ _ _ _ _ c.steps.invariant.writing (rest_step d p
+    (core_system d.slots p) n c.in-Some.choice state (turns (length p.statements) c.args.steps) at
+    (sym c.if-is_at_rest.ensures))
+    c.in_ok-write_step-in-Some.ensures.whole _ c.in_ok-write_step-in-Some.ensures.stepped c.in-Undefined.is
 
 pub returns-in-Undefined-clause-ending : goal.returns-in-Undefined-clause-ending
 returns-in-Undefined-clause-ending g c =
     let d = c.args.doc.now in
     let p = c.args.p.now in
-    let k = length p.statements in
     let x = core_system d.slots p in
-    let cs = turns k c.args.steps in
+    let cs = turns (length p.statements) c.args.steps in
     let n = c.steps.number in
-    let state = state_of c.steps.runner in
-    let there = sym (c.in-Some.ensures.choice ∙ ap (λ j. slice_get (turns j c.args.steps) n) c.instances-k.ensures) in
-    let none = no_next (chosen_step x c.in-Some.choice state) c.in_ok-write_step-in-Some.field-0
-    (c.in_ok-write_step-in-Some.ensures.stepped
-    ∙ ap stepped (core_chosen d.slots p c.in-Some.choice state)) c.in-Undefined.is in
-    let later = λ (next : State). fixed_defined x next (drop (n + 1) cs) in
+    let at = there (Choices.Turns c.args.steps) _ _ _ _ c.in-Some.ensures.choice c.instances-k.ensures in
     sym (ap ending (c.steps.invariant.defined
-    ∙ defined_step x n c.in-Some.choice state cs there (sym c.if-is_at_rest.ensures)
-    ∙ ap (and_then_all later) none))
+    ∙ defined_step x n c.in-Some.choice (state_of c.steps.runner) cs at (sym c.if-is_at_rest.ensures)
+    ∙ ap (and_then_all (λ (next : State). fixed_defined x next (drop (n + 1) cs))) (none_follows d p n
+    c.in-Some.choice (state_of c.steps.runner) _ c.in_ok-write_step-in-Some.ensures.stepped c.in-Undefined.is)))
 
 pub add-requires : goal.add-requires
 add-requires g c =
-    let d = c.args.doc.now in
-    let p = c.args.p.now in
-    let k = length p.statements in
-    let x = core_system d.slots p in
-    let cs = turns k c.args.steps in
-    let n = c.steps.number in
-    let state = state_of c.steps.runner in
-    let there = sym (c.in-Some.ensures.choice ∙ ap (λ j. slice_get (turns j c.args.steps) n) c.instances-k.ensures) in
-    let less = among k (Choices.Turns c.args.steps) n c.in-Some.choice c.requires.is_program.some tt there in
-    subst (λ i. c.in-Some.choice < i) (sym c.steps.invariant.instances) less
+    subst (λ i. c.in-Some.choice < i) (sym c.steps.invariant.instances)
+    (among _ (Choices.Turns c.args.steps) c.steps.number _ c.requires.is_program.some tt
+    (there (Choices.Turns c.args.steps) _ _ _ _ c.in-Some.ensures.choice c.instances-k.ensures))
 
 pub steps-smaller : goal.steps-smaller
 steps-smaller g c =
-    let d = c.args.doc.now in
-    let p = c.args.p.now in
-    let k = length p.statements in
-    let x = core_system d.slots p in
-    let cs = turns k c.args.steps in
-    let n = c.steps.number in
-    let state = state_of c.steps.runner in
-    let there = sym (c.in-Some.ensures.choice ∙ ap (λ j. slice_get (turns j c.args.steps) n) c.instances-k.ensures) in
-    let within = slice_get_within cs n c.in-Some.choice there in
+    let within = slice_get_within _ c.steps.number _
+    (there (Choices.Turns c.args.steps) _ _ _ _ c.in-Some.ensures.choice c.instances-k.ensures) in
     omega (arith, within)
 
 pub steps-preserved : goal.steps-preserved
 steps-preserved g c =
     let d = c.args.doc.now in
     let p = c.args.p.now in
-    let k = length p.statements in
     let x = core_system d.slots p in
-    let cs = turns k c.args.steps in
+    let cs = turns (length p.statements) c.args.steps in
     let n = c.steps.number in
+    let i = c.in-Some.choice in
     let state = state_of c.steps.runner in
-    let old = g.K.Sink.written c.args.out.now in
-    let mid = g.K.Sink.written c.steps.out in
-    let text = core_fixed_steps d p (state_of c.args.runner.now) cs in
-    let there = sym (c.in-Some.ensures.choice ∙ ap (λ j. slice_get (turns j c.args.steps) n) c.instances-k.ensures) in
-    let o = chosen_step x c.in-Some.choice state in
-    let piece = step_line d p (n + 1) c.in-Some.choice o in
-    let later = λ (next : State). rest_text d p x (n + 1) next (take (n + 1) cs) (drop (n + 1) cs) in
-    let new = g.K.Sink.written c.write_step.new.out in
-    let writing = rest_is old mid text _ (piece ++ following later o)
-    (rest_step d p x n c.in-Some.choice state cs there (sym c.if-is_at_rest.ensures))
-    c.steps.invariant.writing in
-    let found = some_next o c.in_ok-write_step-in-Some.field-0 (state_of c.write_step.new.runner)
-    (c.in_ok-write_step-in-Some.ensures.stepped
-    ∙ ap stepped (core_chosen d.slots p c.in-Some.choice state)) c.in-Done.is
-    (subst (λ r. IfSome r (λ next. state_of c.write_step.new.runner ≡ next))
-    (core_chosen d.slots p c.in-Some.choice state)
-    c.write_step.ensures.state) in
-    let within = slice_get_within cs n c.in-Some.choice there in
-    let all = λ (next : State). fixed_defined x next (drop (n + 1) cs) in
+    let next = state_of c.write_step.new.runner in
+    let at = there (Choices.Turns c.args.steps) _ _ _ _ c.in-Some.ensures.choice c.instances-k.ensures in
+    let moves = sym c.if-is_at_rest.ensures in
+    let later = λ (s : State). rest_text d p x (n + 1) s (take (n + 1) cs) (drop (n + 1) cs) in
+    let found = one_follows d p n i state _ next c.in_ok-write_step-in-Some.ensures.stepped c.in-Done.is
+    c.write_step.ensures.state in
+    let within = slice_get_within cs n i at in
     record {
-      writing = rest_is old new text (following later o) (later (state_of c.write_step.new.runner))
-          (ap (following later) found)
-          (more old mid new text piece (following later o) writing
-          (subst (λ r. Appends mid new (step_line d p (n + 1) c.in-Some.choice r))
-          (core_chosen d.slots p c.in-Some.choice state)
-          c.in_ok-write_step-in-Some.ensures.whole));
-      defined = c.steps.invariant.defined
-          ∙ defined_step x n c.in-Some.choice state cs there (sym c.if-is_at_rest.ensures)
-          ∙ ap (and_then_all all) found;
-      inside = chosen_keeps d.slots p c.in-Some.choice state (state_of c.write_step.new.runner)
-          c.steps.invariant.inside (core_chosen d.slots p c.in-Some.choice state ∙ found);
+      writing = rest_is _ _ _ _ (later next) (ap (following later) found)
+          (step_written d p n i state later _ _ _ _ _ c.steps.invariant.writing
+          (rest_step d p x n i state cs at moves) c.in_ok-write_step-in-Some.ensures.whole);
+      defined = c.steps.invariant.defined ∙ defined_step x n i state cs at moves
+          ∙ ap (and_then_all (λ (s : State). fixed_defined x s (drop (n + 1) cs))) found;
+      inside = chosen_keeps d.slots p i state next c.steps.invariant.inside
+          (core_chosen d.slots p i state ∙ found);
       same = c.in_ok-write_step-in-Some.ensures.cause.same refl ∙ c.steps.invariant.same;
       program = c.write_step.ensures.program;
       slots = c.write_step.ensures.slots;
       instances = c.add.ensures.instances ∙ c.steps.invariant.instances;
-      stands = subst (StandsFor c.add.new.self) (take_next cs n c.in-Some.choice there)
+      stands = subst (StandsFor c.add.new.self) (take_next cs n i at)
           (c.add.ensures.longer (take n cs) c.steps.invariant.stands);
       within = omega (arith, within);
     }
@@ -235,87 +146,44 @@ pub returns-in_err-write_step-in-Some-clause-part : goal.returns-in_err-write_st
 returns-in_err-write_step-in-Some-clause-part g c =
     let d = c.args.doc.now in
     let p = c.args.p.now in
-    let k = length p.statements in
-    let x = core_system d.slots p in
-    let cs = turns k c.args.steps in
     let n = c.steps.number in
     let state = state_of c.steps.runner in
-    let old = g.K.Sink.written c.args.out.now in
-    let mid = g.K.Sink.written c.steps.out in
-    let text = core_fixed_steps d p (state_of c.args.runner.now) cs in
-    let there = sym (c.in-Some.ensures.choice ∙ ap (λ j. slice_get (turns j c.args.steps) n) c.instances-k.ensures) in
-    let o = chosen_step x c.in-Some.choice state in
-    let piece = step_line d p (n + 1) c.in-Some.choice o in
-    let later = λ (next : State). rest_text d p x (n + 1) next (take (n + 1) cs) (drop (n + 1) cs) in
-    let new = g.K.Sink.written c.write_step.new.out in
-    let writing = rest_is old mid text _ (piece ++ following later o)
-    (rest_step d p x n c.in-Some.choice state cs there (sym c.if-is_at_rest.ensures))
-    c.steps.invariant.writing in
-    on_err c.from_residual-in_err-write_step-in-Some.result _
-    (cut old mid new text piece (following later o) writing
-    (subst (λ r. AppendsPart mid new (step_line d p (n + 1) c.in-Some.choice r))
-    (core_chosen d.slots p c.in-Some.choice state)
-    c.in_err-write_step-in-Some.ensures.part))
+    let at = there (Choices.Turns c.args.steps) _ _ _ _ c.in-Some.ensures.choice c.instances-k.ensures in
+    on_err c.from_residual-in_err-write_step-in-Some.result _ (step_cut d p n c.in-Some.choice state _ _ _ _ _ _
+    c.steps.invariant.writing (rest_step d p (core_system d.slots p) n c.in-Some.choice state
+    (turns (length p.statements) c.args.steps) at (sym c.if-is_at_rest.ensures))
+    c.in_err-write_step-in-Some.ensures.part)
 
 pub returns-in-None-clause-whole : goal.returns-in-None-clause-whole
 returns-in-None-clause-whole g c =
-    let d = c.args.doc.now in
     let p = c.args.p.now in
-    let k = length p.statements in
-    let x = core_system d.slots p in
-    let cs = turns k c.args.steps in
+    let cs = turns (length p.statements) c.args.steps in
     let n = c.steps.number in
-    let state = state_of c.steps.runner in
-    let old = g.K.Sink.written c.args.out.now in
-    let mid = g.K.Sink.written c.steps.out in
-    let text = core_fixed_steps d p (state_of c.args.runner.now) cs in
-    let ended = sym (c.in-None.ensures.choice ∙ ap (λ j. slice_get (turns j c.args.steps) n) c.instances-k.ensures) in
-    let past = past_end cs n ended in
-    let number = rounds_made cs k n c.steps.count.instances c.rounds-in-None.result (omega arith)
+    let past = past_end cs n
+    (there (Choices.Turns c.args.steps) _ _ _ _ c.in-None.ensures.choice c.instances-k.ensures) in
+    let number = rounds_made cs (length p.statements) n c.steps.count.instances c.rounds-in-None.result (omega arith)
     c.steps.invariant.instances (c.rounds-in-None.ensures (take n cs) c.steps.invariant.stands) in
-    let new = g.K.Sink.written c.write_rounds.new.out in
-    let line = rounds_line c.rounds-in-None.result in
-    let writing = rest_is old mid text _ (line ++ [])
-    (rest_ended d p x n state (take n cs) (drop n cs) (sym c.if-is_at_rest.ensures) (drop_past cs n past)
-    ∙ ap rounds_line (sym number) ∙ sym (append-nil line))
-    c.steps.invariant.writing in
-    finished old new text (more old mid new text line [] writing c.in_ok-write_rounds-in-None.ensures.whole)
+    end_written _ _ _ _ _ _ c.steps.invariant.writing (last_end c.args.doc.now p cs n c.rounds-in-None.result
+    (state_of c.steps.runner) (sym c.if-is_at_rest.ensures) past number) c.in_ok-write_rounds-in-None.ensures.whole
 
 pub returns-in-None-clause-ending : goal.returns-in-None-clause-ending
 returns-in-None-clause-ending g c =
-    let d = c.args.doc.now in
-    let p = c.args.p.now in
-    let k = length p.statements in
-    let x = core_system d.slots p in
-    let cs = turns k c.args.steps in
     let n = c.steps.number in
-    let state = state_of c.steps.runner in
-    let ended = sym (c.in-None.ensures.choice ∙ ap (λ j. slice_get (turns j c.args.steps) n) c.instances-k.ensures) in
-    let past = past_end cs n ended in
+    let cs = turns (length c.args.p.now.statements) c.args.steps in
+    let ended = there (Choices.Turns c.args.steps) _ _ _ _ c.in-None.ensures.choice c.instances-k.ensures in
     sym (ap ending (c.steps.invariant.defined
-    ∙ defined_ended x state (drop n cs) (sym c.if-is_at_rest.ensures) (drop_past cs n past)))
+    ∙ defined_ended (core_system c.args.doc.now.slots c.args.p.now) (state_of c.steps.runner) (drop n cs)
+    (sym c.if-is_at_rest.ensures) (drop_past cs n (past_end cs n ended))))
 
 pub returns-in_err-write_rounds-in-None-clause-part : goal.returns-in_err-write_rounds-in-None-clause-part
 returns-in_err-write_rounds-in-None-clause-part g c =
-    let d = c.args.doc.now in
     let p = c.args.p.now in
-    let k = length p.statements in
-    let x = core_system d.slots p in
-    let cs = turns k c.args.steps in
+    let cs = turns (length p.statements) c.args.steps in
     let n = c.steps.number in
-    let state = state_of c.steps.runner in
-    let old = g.K.Sink.written c.args.out.now in
-    let mid = g.K.Sink.written c.steps.out in
-    let text = core_fixed_steps d p (state_of c.args.runner.now) cs in
-    let ended = sym (c.in-None.ensures.choice ∙ ap (λ j. slice_get (turns j c.args.steps) n) c.instances-k.ensures) in
-    let past = past_end cs n ended in
-    let number = rounds_made cs k n c.steps.count.instances c.rounds-in-None.result (omega arith)
+    let past = past_end cs n
+    (there (Choices.Turns c.args.steps) _ _ _ _ c.in-None.ensures.choice c.instances-k.ensures) in
+    let number = rounds_made cs (length p.statements) n c.steps.count.instances c.rounds-in-None.result (omega arith)
     c.steps.invariant.instances (c.rounds-in-None.ensures (take n cs) c.steps.invariant.stands) in
-    let new = g.K.Sink.written c.write_rounds.new.out in
-    let line = rounds_line c.rounds-in-None.result in
-    let writing = rest_is old mid text _ (line ++ [])
-    (rest_ended d p x n state (take n cs) (drop n cs) (sym c.if-is_at_rest.ensures) (drop_past cs n past)
-    ∙ ap rounds_line (sym number) ∙ sym (append-nil line))
-    c.steps.invariant.writing in
-    on_err c.from_residual-in_err-write_rounds-in-None.result _
-    (cut old mid new text line [] writing c.in_err-write_rounds-in-None.ensures.part)
+    on_err c.from_residual-in_err-write_rounds-in-None.result _ (end_cut _ _ _ _ _ _ c.steps.invariant.writing
+    (last_end c.args.doc.now p cs n c.rounds-in-None.result (state_of c.steps.runner) (sym c.if-is_at_rest.ensures)
+    past number) c.in_err-write_rounds-in-None.ensures.part)

@@ -27,8 +27,7 @@ pub returns-in_err-write_line-clause-part : goal.returns-in_err-write_line-claus
 returns-in_err-write_line-clause-part g c =
     let d = c.args.doc.now in
     let p = c.args.p.now in
-    let k = length p.statements in
-    let cs = turns k c.args.steps in
+    let cs = turns (length p.statements) c.args.steps in
     let start = state_of c.args.runner.now in
     let first = heading_line d p Heading.Run in
     let second = state_line d p 0 None start in
@@ -45,8 +44,7 @@ pub returns-clause-part : goal.returns-clause-part
 returns-clause-part g c =
     let d = c.args.doc.now in
     let p = c.args.p.now in
-    let k = length p.statements in
-    let cs = turns k c.args.steps in
+    let cs = turns (length p.statements) c.args.steps in
     let start = state_of c.args.runner.now in
     let first = heading_line d p Heading.Run in
     let second = state_line d p 0 None start in

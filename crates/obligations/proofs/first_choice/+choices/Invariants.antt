@@ -5,11 +5,8 @@ use Rattle.obligations.proofs.first_choice.+choices.Given as goal
 abbrev pub decreases-find_choice : goal.decreases-find_choice
 decreases-find_choice l = 2 * size-CTerm l.t.now
 
-abbrev pub decreases-find_in_sum : goal.decreases-find_in_sum
-decreases-find_in_sum l = 2 * max (size-CTerm l.a.now) (size-CTerm l.b.now) + 1
-
-abbrev pub decreases-find_in_difference : goal.decreases-find_in_difference
-decreases-find_in_difference l = 2 * max (size-CTerm l.a.now) (size-CTerm l.b.now) + 1
+abbrev pub decreases-find_in_pair : goal.decreases-find_in_pair
+decreases-find_in_pair l = 2 * max (size-CTerm l.a.now) (size-CTerm l.b.now) + 1
 
 abbrev pub decreases-find_in_quotient : goal.decreases-find_in_quotient
 decreases-find_in_quotient l = 2 * size-CTerm l.a.now + 1

@@ -7,13 +7,13 @@ use Rattle.obligations.proofs.TableLaws.{settled-Bottom, refused-Top, settled-At
 use Rattle.obligations.proofs.TableLaws.{refused-Zero, settles-And, refuses-Or, settled-Or, refused-And}
 use Rattle.obligations.proofs.settling.+settle.Goals as goal
 
-pub settle_onto-settle_least-requires-clause-load : goal.settle_onto-settle_least-requires-clause-load
-settle_onto-settle_least-requires-clause-load t c =
+pub settle_onto-settle_term-requires-clause-load : goal.settle_onto-settle_term-requires-clause-load
+settle_onto-settle_term-requires-clause-load t c =
     let h = least-load c.in-AtLeast.t c.args.f.now (2 ^ 66) c.in-AtLeast.is c.requires.light in
     omega (arith, h)
 
-pub settle_onto-settle_zero-requires-clause-load : goal.settle_onto-settle_zero-requires-clause-load
-settle_onto-settle_zero-requires-clause-load t c =
+pub settle_onto-settle_term-requires-in-Zero-clause-load : goal.settle_onto-settle_term-requires-in-Zero-clause-load
+settle_onto-settle_term-requires-in-Zero-clause-load t c =
     let h = zero-load c.in-Zero.t c.args.f.now (2 ^ 66) c.in-Zero.is c.requires.light in
     omega (arith, h)
 
@@ -26,17 +26,17 @@ settle_onto-returns-in-Bottom t c =
 
 pub settle_onto-returns-in-AtLeast : goal.settle_onto-returns-in-AtLeast
 settle_onto-returns-in-AtLeast t c =
-    on_ok_weaker c.settle_least.result
+    on_ok_weaker c.settle_term.result
     (λ e. e ∙ sym (settled-AtLeast c.args.vs.now c.in-AtLeast.t c.args.branch.now)
     ∙ ap (λ f. settled c.args.vs.now f c.args.branch.now) (sym c.in-AtLeast.is))
-    c.settle_least.ensures
+    c.settle_term.ensures
 
 pub settle_onto-returns-in-Zero : goal.settle_onto-returns-in-Zero
 settle_onto-returns-in-Zero t c =
-    on_ok_weaker c.settle_zero.result
+    on_ok_weaker c.settle_term-in-Zero.result
     (λ e. e ∙ sym (settled-Zero c.args.vs.now c.in-Zero.t c.args.branch.now)
     ∙ ap (λ f. settled c.args.vs.now f c.args.branch.now) (sym c.in-Zero.is))
-    c.settle_zero.ensures
+    c.settle_term-in-Zero.ensures
 
 pub settle_onto-returns-in_ok-settle_onto-in-And : goal.settle_onto-returns-in_ok-settle_onto-in-And
 settle_onto-returns-in_ok-settle_onto-in-And t c =

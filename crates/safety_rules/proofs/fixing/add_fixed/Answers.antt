@@ -1,14 +1,13 @@
-use Rattle.std.proofs.Common.{◌≡◌, ℕ, ◌<◌, length, slice_index_or, List, map, Ok, Err, refl, sym, subst}
+use Rattle.std.proofs.Common.{List, map, Ok, Err, refl, sym, subst}
 use Rattle.std.specs.Prelude.{All}
 use Rattle.std.proofs.lemmas.Bool.{OnTrue_at}
 use Rattle.std.proofs.lemmas.List.{take_all}
 use Rattle.case_tables.specs.declared.code_table.Code.{Code}
-use Rattle.std.proofs.lemmas.List.Elements.{All-get_or}
 use Rattle.core_terms.specs.declared.trees.Range.{Range}
 use Rattle.core_terms.specs.declared.trees.CForm.{CForm}
 use Rattle.core_terms.specs.declared.programs.CSlot.{CSlot}
 use Rattle.core_terms.specs.declared.programs.CStmt.{CStmt}
-use Rattle.core_terms.specs.Conditions.{StatementFits, WriteFits}
+use Rattle.core_terms.specs.Conditions.{WriteFits}
 use Rattle.wp_substitution.specs.Preconditions.{defined_form}
 use Rattle.wp_substitution.specs.Oversized.{IsOversized}
 use Rattle.wp_substitution.proofs.LightLaws.{writes_light}
@@ -17,27 +16,19 @@ use Rattle.rules_table.specs.Forms.{imply}
 use Rattle.safety_rules.specs.declared.places.RuleError.{RuleError}
 use Rattle.safety_rules.specs.Usable.{NamesExist}
 use Rattle.safety_rules.specs.Goals.{Added}
-use Rattle.safety_rules.proofs.UsableLaws.{all_usable, all_exist, exist_imply, exist_part}
+use Rattle.safety_rules.proofs.UsableLaws.{item_fits, all_usable, all_exist, exist_imply, exist_part}
 use Rattle.safety_rules.proofs.AnswerLaws.{none_yet, one_more, loop_fails, all_added}
 use Rattle.safety_rules.proofs.ErrorLaws.{handed_on}
 use Rattle.safety_rules.proofs.OversizedLaws.{fixed_refused}
 use Rattle.safety_rules.proofs.fixing.add_fixed.Goals as goal
-
-item_fits : (slots : List CSlot) (items all : List CStmt) (i : ℕ) (s : CStmt) → s ≡ slice_index_or items i s →
-    i < length items → items ≡ all → All (StatementFits slots) all → StatementFits slots s
-item_fits slots items all i s item less same fits =
-    subst (λ t. StatementFits slots t) (sym item)
-    (All-get_or (StatementFits slots) items i s less (subst (λ ss. All (StatementFits slots) ss) (sym same) fits))
 
 pub loop-s-init : goal.loop-s-init
 loop-s-init c = none_yet c.args.pl.now.slots.now c.args.pl.now.params.now _ c.args.goals.now
 
 pub is_oversized-requires : goal.is_oversized-requires
 is_oversized-requires c =
-    writes_light c.args.pl.now.slots.now c.s-item.result
-    (item_fits c.args.pl.now.slots.now c.as_slice-s-items.result.now c.args.pl.now.program.now.statements
-    c.loop-s.s-index c.s-item.result c.s-item.is c.loop-s-test.true c.as_slice-s-items.ensures
-    c.requires.place.program.statements)
+    writes_light c.args.pl.now.slots.now c.s-item.result (item_fits _ _ _ c.loop-s.s-index _ c.s-item.is
+    c.loop-s-test.true c.as_slice-s-items.ensures c.requires.place.program.statements)
 
 pub returns-then-branch : goal.returns-then-branch
 returns-then-branch c =
@@ -45,11 +36,9 @@ returns-then-branch c =
     let params : List Range = c.args.pl.now.params.now in
     let make : CStmt → CForm =
     λ s. imply c.args.premises.now (fixed_part slots s) in
-    let fits : StatementFits slots c.s-item.result =
-    item_fits slots c.as_slice-s-items.result.now c.args.pl.now.program.now.statements c.loop-s.s-index c.s-item.result
-    c.s-item.is c.loop-s-test.true c.as_slice-s-items.ensures c.requires.place.program.statements in
-    let large : IsOversized (defined_form slots c.s-item.result) =
-    OnTrue_at {P = (slots : List CSlot) → All (WriteFits slots) c.s-item.result.writes →
+    let fits = item_fits slots _ _ c.loop-s.s-index c.s-item.result c.s-item.is c.loop-s-test.true
+    c.as_slice-s-items.ensures c.requires.place.program.statements in
+    let large = OnTrue_at {P = (slots : List CSlot) → All (WriteFits slots) c.s-item.result.writes →
     IsOversized (defined_form slots c.s-item.result)} c.if-branch.true c.in_ok-is_oversized.ensures.large slots
     fits.writes in
     subst (λ ss. Added {T = Unit {0}} (Err (RuleError.Fault Code.FormulaTooLarge)) c.args.goals.now c.loop-s.goals
@@ -62,18 +51,15 @@ returns-then-branch c =
 
 pub where_fixed-requires-clause-statement : goal.where_fixed-requires-clause-statement
 where_fixed-requires-clause-statement c =
-    item_fits c.args.pl.now.slots.now c.as_slice-s-items.result.now c.args.pl.now.program.now.statements
-    c.loop-s.s-index
-    c.s-item.result c.s-item.is c.loop-s-test.true c.as_slice-s-items.ensures c.requires.place.program.statements
+    item_fits _ _ _ c.loop-s.s-index _ c.s-item.is c.loop-s-test.true c.as_slice-s-items.ensures
+    c.requires.place.program.statements
 
 pub add_goal-requires-clause-names : goal.add_goal-requires-clause-names
 add_goal-requires-clause-names c =
     let slots : List CSlot = c.args.pl.now.slots.now in
     let params : List Range = c.args.pl.now.params.now in
-    let fits : StatementFits slots c.s-item.result =
-    item_fits c.args.pl.now.slots.now c.as_slice-s-items.result.now c.args.pl.now.program.now.statements
-    c.loop-s.s-index
-    c.s-item.result c.s-item.is c.loop-s-test.true c.as_slice-s-items.ensures c.requires.place.program.statements in
+    let fits = item_fits slots _ _ c.loop-s.s-index c.s-item.result c.s-item.is c.loop-s-test.true
+    c.as_slice-s-items.ensures c.requires.place.program.statements in
     subst (λ f. NamesExist slots params f) (sym c.in_ok-form.ensures)
     (exist_imply slots params c.args.premises.now _ (all_exist slots params c.args.premises.now c.requires.premises)
     (exist_part slots params c.s-item.result fits))
@@ -85,16 +71,12 @@ returns-in_err-add_goal c =
     let make : CStmt → CForm =
     λ s. imply c.args.premises.now (fixed_part slots s) in
     handed_on (λ r. Added r c.args.goals.now c.add_goal.new.goals slots params
-    (map make c.args.pl.now.program.now.statements))
-    c.from_residual-in_err-add_goal.result c.in_err-add_goal.field-0.0 c.from_residual-in_err-add_goal.ensures.1
-    (subst (λ ss. Added {T = Unit {0}}
+    (map make c.args.pl.now.program.now.statements)) c.from_residual-in_err-add_goal.result
+    c.in_err-add_goal.field-0.0 c.from_residual-in_err-add_goal.ensures.1 (subst (λ ss. Added {T = Unit {0}}
     (Err c.in_err-add_goal.field-0.0) c.args.goals.now c.add_goal.new.goals slots params (map make ss))
-    c.as_slice-s-items.ensures
-    (loop_fails slots params (Unit {0})
-    (Unit {0}) c.in_err-add_goal.field-0.0 make c.as_slice-s-items.result.now c.loop-s.s-index
-    c.s-item.result c.in_ok-form.form c.args.goals.now c.loop-s.goals c.add_goal.new.goals c.loop-s-test.true
-    c.s-item.is
-    c.in_ok-form.ensures c.in_err-add_goal.ensures))
+    c.as_slice-s-items.ensures (loop_fails slots params (Unit {0}) (Unit {0}) c.in_err-add_goal.field-0.0 make
+    c.as_slice-s-items.result.now c.loop-s.s-index c.s-item.result c.in_ok-form.form c.args.goals.now c.loop-s.goals
+    c.add_goal.new.goals c.loop-s-test.true c.s-item.is c.in_ok-form.ensures c.in_err-add_goal.ensures))
 
 pub loop-s-preserved : goal.loop-s-preserved
 loop-s-preserved c =

@@ -1,64 +1,36 @@
-use Rattle.std.proofs.Common.{◌&&◌, List, sym, subst, ◌∙◌}
+use Rattle.std.proofs.Common.{◌&&◌, sym, ◌∙◌}
 use Rattle.case_tables.specs.declared.code_table.Code.{Code}
-use Rattle.core_terms.specs.declared.trees.Range.{Range}
-use Rattle.core_terms.specs.declared.programs.CSlot.{CSlot}
 use Rattle.core_terms.specs.Folding.{or_form}
 use Rattle.fair_rounds.specs.declared.records.Record.{Record}
 use Rattle.rules_table.specs.Table.{Site, is_unless, ends_of_either}
 use Rattle.rules_table.proofs.RowEquations.{disj-is}
 use Rattle.safety_rules.specs.Answers.{site_of}
-use Rattle.safety_rules.specs.Usable.{NamesExist}
-use Rattle.safety_rules.proofs.UsableLaws.{exist_or, fits_max, fits_exist, exist_other_ends}
+use Rattle.safety_rules.proofs.UsableLaws.{fits_max, fits_or, fits_other_ends}
 use Rattle.safety_rules.proofs.AnswerLaws.{needs_met, needs_not, refused, given_by, same_pair}
 use Rattle.safety_rules.proofs.pairs.disj.Goals as goal
 
 pub returns-then-not-are_unless : goal.returns-then-not-are_unless
 returns-then-not-are_unless c =
-    let site : Site = site_of c.args.pl.now in
-    refused site.slots Code.WrongKind _
-    (disj-is site c.args.a.now c.args.b.now
+    refused (site_of c.args.pl.now).slots Code.WrongKind _
+    (disj-is (site_of c.args.pl.now) c.args.a.now c.args.b.now
     ∙ needs_not (is_unless c.args.a.now.kind && is_unless c.args.b.now.kind) Code.WrongKind _
     (sym c.are_unless.ensures ∙ c.if-not-are_unless.true))
 
 pub either-requires : goal.either-requires
-either-requires c =
-    fits_max c.args.pl.now.slots.now c.args.pl.now.params.now c.args.a.now.p c.args.b.now.p c.requires.a.p
-    c.requires.b.p
+either-requires c = fits_max _ _ _ _ c.requires.a.p c.requires.b.p
 
 pub ends_of_either-requires-clause-a : goal.ends_of_either-requires-clause-a
-ends_of_either-requires-clause-a c =
-    fits_max c.args.pl.now.slots.now c.args.pl.now.params.now c.args.a.now.p c.args.a.now.q c.requires.a.p
-    c.requires.a.q
+ends_of_either-requires-clause-a c = fits_max _ _ _ _ c.requires.a.p c.requires.a.q
 
 pub ends_of_either-requires-clause-b : goal.ends_of_either-requires-clause-b
-ends_of_either-requires-clause-b c =
-    fits_max c.args.pl.now.slots.now c.args.pl.now.params.now c.args.b.now.p c.args.b.now.q c.requires.b.p
-    c.requires.b.q
+ends_of_either-requires-clause-b c = fits_max _ _ _ _ c.requires.b.p c.requires.b.q
 
 pub paired-requires-clause-p : goal.paired-requires-clause-p
-paired-requires-clause-p c =
-    let slots : List CSlot = c.args.pl.now.slots.now in
-    let params : List Range = c.args.pl.now.params.now in
-    let a : Record = c.args.a.now in
-    let b : Record = c.args.b.now in
-    let ap' = fits_exist slots params a.p c.requires.a.p in
-    let aq = fits_exist slots params a.q c.requires.a.q in
-    let bp = fits_exist slots params b.p c.requires.b.p in
-    let bq = fits_exist slots params b.q c.requires.b.q in
-    subst (λ f. NamesExist slots params f) (sym c.in_ok-p.ensures.tree) (exist_or slots params a.p b.p ap' bp)
+paired-requires-clause-p c = fits_or _ _ _ _ _ c.requires.a.p c.requires.b.p c.in_ok-p.ensures.tree
 
 pub paired-requires-clause-q : goal.paired-requires-clause-q
-paired-requires-clause-q c =
-    let slots : List CSlot = c.args.pl.now.slots.now in
-    let params : List Range = c.args.pl.now.params.now in
-    let a : Record = c.args.a.now in
-    let b : Record = c.args.b.now in
-    let ap' = fits_exist slots params a.p c.requires.a.p in
-    let aq = fits_exist slots params a.q c.requires.a.q in
-    let bp = fits_exist slots params b.p c.requires.b.p in
-    let bq = fits_exist slots params b.q c.requires.b.q in
-    subst (λ f. NamesExist slots params f) (sym c.in_ok-q.ensures)
-    (exist_other_ends slots params a.p a.q b.p b.q ap' aq bp bq)
+paired-requires-clause-q c = fits_other_ends _ _ _ _ _ _ _ c.requires.a.p c.requires.a.q c.requires.b.p c.requires.b.q
+    c.in_ok-q.ensures
 
 pub returns : goal.returns
 returns c =
