@@ -253,8 +253,8 @@ fn find_proof(program: u32, proofs: &[CProof]) -> Option<&CProof>
     None
 }
 
-// The names of a step's parameters.
-fn names_of(doc: &CDocument, program: u32, step: u32) -> &[u32]
+/// The names of a step's parameters.
+pub fn names_of(doc: &CDocument, program: u32, step: u32) -> &[u32]
     ensures { result.now ≡ finding.names_of doc.now program step }
 {
     match find_proof(program, doc.proofs.as_slice()) {

@@ -5,4 +5,4 @@ mod certificates;
 mod findings;
 
 pub use certificates::push_certificates;
-pub use findings::{budget_text, refuted_text};
+pub use findings::{budget_text, names_of, refuted_text};

@@ -1,5 +1,6 @@
 //! What follows from limits of lines that are sums of two others.
-use crate::limits::{Event, Limits};
+use crate::events::Event;
+use crate::limits::Limits;
 use conflict_tables::{Stop, Table, Triangle, line_of, way_of};
 
 /// Limits one way of a line by those of the two lines of which it is the sum.

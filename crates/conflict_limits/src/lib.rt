@@ -3,6 +3,7 @@
 #![tactic(auto)]
 
 mod corners;
+mod events;
 mod limits;
 mod partners;
 mod propagation;
@@ -10,7 +11,8 @@ mod queue;
 mod reasons;
 mod trees;
 
-pub use limits::{Conflict, Event, Limit, Limits, LimitsMark, Reach, Reason, Weighted, no_limits};
+pub use events::{Conflict, Event, Limit, Reach, Reason, Weighted};
+pub use limits::{Limits, LimitsMark, no_limits};
 pub use partners::has_partner;
 pub use propagation::propagate;
 pub use reasons::{Pair, Round, Source, chain_round};

@@ -1,5 +1,6 @@
 //! Two lines whose limits contradict those of their variables together.
-use crate::limits::{Limit, Limits, bound_above};
+use crate::events::{Limit, bound_above};
+use crate::limits::Limits;
 use conflict_tables::{Factor, Stop, Table, is_against, line_of, no_sum, way_of};
 use std::alloc::Global;
 

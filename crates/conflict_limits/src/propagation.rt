@@ -1,6 +1,7 @@
 //! What follows from limits: those of a line and of all its variables but one limit that one.
 use crate::corners::follow_triangles;
-use crate::limits::{Bounding, Event, Limit, Limits, Reach, bound_above};
+use crate::events::{Bounding, Event, Limit, Reach, bound_above};
+use crate::limits::Limits;
 use conflict_tables::{Factor, Stop, Table, is_against, line_of, opposite, way_of};
 
 /// How many lines are looked at in one go, so that what goes on and on ends.

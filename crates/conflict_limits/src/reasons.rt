@@ -1,6 +1,7 @@
 //! A conflict taken apart: the multiples of items that add up to something false, after rounds where limits were
 //! rounded.
-use crate::limits::{Event, Limits, Reason, Weighted};
+use crate::events::{Event, Reason, Weighted};
+use crate::limits::Limits;
 use conflict_tables::{Stop, at, common_divisor, plus, put, repeated, times};
 use std::alloc::{AllocError, Global};
 use unity_base::Seq;

@@ -1,6 +1,7 @@
 //! Refutations that were found: trees whose nodes name facts and waiting formulas by their places among the items of
 //! the path, so that a node that is dropped changes no name.
-use crate::limits::{Conflict, Limits};
+use crate::events::Conflict;
+use crate::limits::Limits;
 use crate::reasons::{Pair, Round, Source, explained};
 use conflict_tables::{Opened, Span, Stop, append, at, items_in};
 use std::alloc::{AllocError, Global};

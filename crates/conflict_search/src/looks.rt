@@ -200,40 +200,27 @@ fn look_at_condition(
     }
 }
 
-/// Whether both of two formulas hold.
+/// Whether both of two formulas hold, or one of them: a first that is `ending` tells it alone.
 #[cycle(looking)]
-fn look_at_both(
+fn look_at_two(
     depth: u32,
     table: &mut Table,
     limits: &mut Limits,
     looks: &mut Looks,
     a: usize,
     b: usize,
+    ending: Truth,
 ) -> Result<Truth, Stop> {
     let first = look_into(depth, table, limits, looks, a)?;
-    if first == Truth::False {
+    if first == ending {
         return Ok(first);
     }
     let second = look_into(depth, table, limits, looks, b)?;
-    Ok(both(first, second))
-}
-
-/// Whether one of two formulas holds.
-#[cycle(looking)]
-fn look_at_either(
-    depth: u32,
-    table: &mut Table,
-    limits: &mut Limits,
-    looks: &mut Looks,
-    a: usize,
-    b: usize,
-) -> Result<Truth, Stop> {
-    let first = look_into(depth, table, limits, looks, a)?;
-    if first == Truth::True {
-        return Ok(first);
+    if ending == Truth::False {
+        Ok(both(first, second))
+    } else {
+        Ok(either(first, second))
     }
-    let second = look_into(depth, table, limits, looks, b)?;
-    Ok(either(first, second))
 }
 
 /// Whether a relation of a sum with an `Ite` holds: by the ends of the sum, else by its two sides.
@@ -254,7 +241,7 @@ fn look_at_choice(
     let (a, b) = sides_of(table, form)?;
     limits.grow(table)?;
     looks.grow(table.count_forms())?;
-    look_at_either(depth, table, limits, looks, a, b)
+    look_at_two(depth, table, limits, looks, a, b, Truth::True)
 }
 
 /// Whether a formula holds, looked at anew.
@@ -280,8 +267,8 @@ fn look_anew(
             let one = look_at_fact(table, limits, first)?;
             Ok(both(one, look_at_fact(table, limits, second)?))
         }
-        Form::Both(a, b) => look_at_both(depth, table, limits, looks, a, b),
-        Form::Either(a, b) => look_at_either(depth, table, limits, looks, a, b),
+        Form::Both(a, b) => look_at_two(depth, table, limits, looks, a, b, Truth::False),
+        Form::Either(a, b) => look_at_two(depth, table, limits, looks, a, b, Truth::True),
         Form::Choice(relation, term) => {
             look_at_choice(depth, table, limits, looks, number, relation, term)
         }

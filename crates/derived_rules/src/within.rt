@@ -10,7 +10,6 @@ ghost use Rattle.derived_rules.specs.Bounds.{bounded_row};
 
 use case_tables::{Code, Kind};
 use core_terms::CForm;
-use fair_rounds::Record;
 use safety_rules::{Claim, Derived, Place, RuleError, conclude};
 use std::alloc::Global;
 use unity_base::{Seq, Shared};
@@ -33,32 +32,9 @@ pub fn lengthened(answer: Result<Derived, RuleError>, bound: u64) -> Result<Deri
 {
     match answer {
         Ok(derived) => {
-            let Derived { made, obligations } = derived;
-            let Record {
-                name,
-                program,
-                kind,
-                p,
-                q,
-                under,
-                params,
-                bound: _none,
-                helper,
-            } = made;
-            Ok(Derived {
-                made: Record {
-                    name,
-                    program,
-                    kind,
-                    p,
-                    q,
-                    under,
-                    params,
-                    bound,
-                    helper,
-                },
-                obligations,
-            })
+            let mut derived = derived;
+            derived.made.bound = bound;
+            Ok(derived)
         }
         Err(error) => Err(error),
     }

@@ -9,7 +9,7 @@ use Rattle.unity_syntax.specs.declared.document.Part.{Part}
 use Rattle.unity_syntax.specs.declared.expression.Expr.TheVariants as expr
 use Rattle.unity_syntax.specs.declared.term.Term.TheVariants as term
 use Rattle.examples_definitions.specs.TextForms.{name_token, number_token, reserved_token, symbol_token, name, range}
-use Rattle.examples_definitions.specs.TextForms.{Example}
+use Rattle.examples_definitions.specs.TextForms.{step_of, step_in, step_between, Example}
 
 -- each production of claims and rules
 abbrev pub proof_example : Example
@@ -109,7 +109,7 @@ proof_example = record {
                 params = None;
                 claim = (Claim.Invariant 48 (expr.Word 58 (name 58 "x") None));
                 rule = (Rule.Text 63 None);
-                using = (Some ((record { at = 74; name = (name 74 "safe"); step = None; args = None }), []));
+                using = (Some ((step_of 74 "safe"), []));
               })
               ∷ (record {
                 at = 82;
@@ -130,25 +130,18 @@ proof_example = record {
                 claim = (Claim.Stable 108 (expr.Word 115 (name 115 "x") None));
                 rule = (Rule.Text 120 None);
                 using = (Some (
-                  (record { at = 131; name = (name 131 "low"); step = None; args = None }),
-                  ((record { at = 136; name = (name 136 "safe"); step = None; args = None }) ∷ []),
+                  (step_of 131 "low"),
+                  ((step_of 136 "safe") ∷ []),
                 ));
               })
-              ∷ (record {
-                at = 144;
-                name = (name 144 "up");
-                params = None;
-                claim = (Claim.Between 148 (expr.Word 148 (name 148 "x") None) Word.Unless
-                    (expr.Word 157 (name 157 "y") None));
-                rule = (Rule.Weaken 162
-                    (record {
-                      at = 169;
-                      name = (name 169 "keep");
-                      step = None;
-                      args = (Some ((End.Number 174 false 1), ((End.Number 177 false 0) ∷ [])));
-                    }));
-                using = None;
-              })
+              ∷ (step_between 144 "up" 148 "x" Word.Unless 157 "y"
+                  (Rule.Weaken 162
+                  (record {
+                    at = 169;
+                    name = (name 169 "keep");
+                    step = None;
+                    args = (Some ((End.Number 174 false 1), ((End.Number 177 false 0) ∷ [])));
+                  })))
               ∷ (record {
                 at = 183;
                 name = (name 183 "next");
@@ -171,88 +164,27 @@ proof_example = record {
                     })));
                 using = None;
               })
-              ∷ (record {
-                at = 237;
-                name = (name 237 "last");
-                params = None;
-                claim = (Claim.Between 243 (expr.Word 243 (name 243 "x") None) Word.Leadsto
-                    (expr.Word 253 (name 253 "y") None));
-                rule = (Rule.Term 258
-                    (term.From 258
-                    (record {
-                      at = 263;
-                      name = (name 263 "F");
-                      step = (Some (name 265 "next"));
-                      args = (Some ((End.Word 270 (name 270 "m") (Some (Symbol.Plus, 1))), []));
-                    })));
-                using = None;
-              })
-              ∷ (record {
-                at = 280;
-                name = (name 280 "one");
-                params = None;
-                claim = (Claim.Between 285 (expr.Word 285 (name 285 "x") None) Word.Unless
-                    (expr.Word 294 (name 294 "y") None));
-                rule = (Rule.Pair 299 Word.Conj
-                    (record { at = 304; name = (name 304 "up"); step = None; args = None })
-                    (record { at = 307; name = (name 307 "up"); step = None; args = None }));
-                using = None;
-              })
-              ∷ (record {
-                at = 313;
-                name = (name 313 "two");
-                params = None;
-                claim = (Claim.Between 318 (expr.Word 318 (name 318 "x") None) Word.Unless
-                    (expr.Word 327 (name 327 "y") None));
-                rule = (Rule.Pair 332 Word.Simpleconj
-                    (record { at = 343; name = (name 343 "up"); step = None; args = None })
-                    (record { at = 346; name = (name 346 "F"); step = (Some (name 348 "low")); args = None }));
-                using = None;
-              })
-              ∷ (record {
-                at = 355;
-                name = (name 355 "three");
-                params = None;
-                claim = (Claim.Between 362 (expr.Word 362 (name 362 "x") None) Word.Unless
-                    (expr.Word 371 (name 371 "y") None));
-                rule = (Rule.Pair 376 Word.Disj
-                    (record { at = 381; name = (name 381 "up"); step = None; args = None })
-                    (record { at = 384; name = (name 384 "up"); step = None; args = None }));
-                using = None;
-              })
-              ∷ (record {
-                at = 390;
-                name = (name 390 "four");
-                params = None;
-                claim = (Claim.Between 396 (expr.Word 396 (name 396 "x") None) Word.Unless
-                    (expr.Word 405 (name 405 "y") None));
-                rule = (Rule.Pair 410 Word.Simpledisj
-                    (record { at = 421; name = (name 421 "up"); step = None; args = None })
-                    (record { at = 424; name = (name 424 "up"); step = None; args = None }));
-                using = None;
-              })
-              ∷ (record {
-                at = 430;
-                name = (name 430 "five");
-                params = None;
-                claim = (Claim.Between 436 (expr.Word 436 (name 436 "x") None) Word.Unless
-                    (expr.Word 445 (name 445 "y") None));
-                rule = (Rule.Pair 450 Word.Cancel
-                    (record { at = 457; name = (name 457 "up"); step = None; args = None })
-                    (record { at = 460; name = (name 460 "up"); step = None; args = None }));
-                using = None;
-              })
-              ∷ (record {
-                at = 466;
-                name = (name 466 "six");
-                params = None;
-                claim = (Claim.Between 471 (expr.Word 471 (name 471 "x") None) Word.Unless
-                    (expr.Word 480 (name 480 "y") None));
-                rule = (Rule.Pair 485 Word.Union
-                    (record { at = 491; name = (name 491 "F"); step = (Some (name 493 "up")); args = None })
-                    (record { at = 496; name = (name 496 "H"); step = (Some (name 498 "up")); args = None }));
-                using = None;
-              })
+              ∷ (step_between 237 "last" 243 "x" Word.Leadsto 253 "y"
+                  (Rule.Term 258
+                  (term.From 258
+                  (record {
+                    at = 263;
+                    name = (name 263 "F");
+                    step = (Some (name 265 "next"));
+                    args = (Some ((End.Word 270 (name 270 "m") (Some (Symbol.Plus, 1))), []));
+                  }))))
+              ∷ (step_between 280 "one" 285 "x" Word.Unless 294 "y"
+                  (Rule.Pair 299 Word.Conj (step_of 304 "up") (step_of 307 "up")))
+              ∷ (step_between 313 "two" 318 "x" Word.Unless 327 "y"
+                  (Rule.Pair 332 Word.Simpleconj (step_of 343 "up") (step_in 346 "F" 348 "low")))
+              ∷ (step_between 355 "three" 362 "x" Word.Unless 371 "y"
+                  (Rule.Pair 376 Word.Disj (step_of 381 "up") (step_of 384 "up")))
+              ∷ (step_between 390 "four" 396 "x" Word.Unless 405 "y"
+                  (Rule.Pair 410 Word.Simpledisj (step_of 421 "up") (step_of 424 "up")))
+              ∷ (step_between 430 "five" 436 "x" Word.Unless 445 "y"
+                  (Rule.Pair 450 Word.Cancel (step_of 457 "up") (step_of 460 "up")))
+              ∷ (step_between 466 "six" 471 "x" Word.Unless 480 "y"
+                  (Rule.Pair 485 Word.Union (step_in 491 "F" 493 "up") (step_in 496 "H" 498 "up")))
               ∷ []);
         })
         ∷ [];

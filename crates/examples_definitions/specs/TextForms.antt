@@ -1,5 +1,5 @@
 -- Texts of the language with what the grammar reads them as: the forms in which the examples are written.
-use Rattle.std.specs.Prelude.{◌≡◌, ℕ, List, ◌++◌, Ok, Err, codes}
+use Rattle.std.specs.Prelude.{◌≡◌, ℕ, List, ◌++◌, Some, None, Ok, Err, codes}
 use Rattle.case_tables.specs.declared.word_table.Word.{Word}
 use Rattle.case_tables.specs.declared.symbol_table.Symbol.{Symbol}
 use Rattle.grammar_theory.specs.Reader.{Fault, read_whole}
@@ -13,7 +13,12 @@ use Rattle.unity_syntax.specs.declared.token.Token.{Token}
 use Rattle.unity_syntax.specs.declared.name.Name.{Name}
 use Rattle.unity_syntax.specs.declared.name.End.{End}
 use Rattle.unity_syntax.specs.declared.name.Range.{Range}
+use Rattle.unity_syntax.specs.declared.expression.Expr
 use Rattle.unity_syntax.specs.declared.statement.Component.{Component}
+use Rattle.unity_syntax.specs.declared.term.Ref.{Ref}
+use Rattle.unity_syntax.specs.declared.proof.Claim.{Claim}
+use Rattle.unity_syntax.specs.declared.proof.Rule.{Rule}
+use Rattle.unity_syntax.specs.declared.proof.Step.{Step}
 use Rattle.unity_syntax.specs.declared.document.Document.{Document}
 use Rattle.unity_syntax.specs.declared.statement.Assign.{Assign, roll-Assign}
 use Rattle.unity_syntax.specs.declared.statement.Item.{Item}
@@ -50,6 +55,25 @@ assign at first rest = roll-Assign (record { at = at; first = first; rest = rest
 -- a list of statements
 abbrev pub items : ℕ → Item → List Item → Items
 items at first rest = roll-Items (record { at = at; first = first; rest = rest })
+
+-- a reference to a step of the same proof, and to one of another program's
+abbrev pub step_of : ℕ → String → Ref
+step_of at text = record { at = at; name = name at text; step = None; args = None }
+
+abbrev pub step_in : ℕ → String → ℕ → String → Ref
+step_in at program place text =
+    record { at = at; name = name at program; step = Some (name place text); args = None }
+
+-- a step `text: p word q by rule;` of two words
+abbrev pub step_between : ℕ → String → ℕ → String → Word → ℕ → String → Rule → Step
+step_between at text first p word second q rule = record {
+  at = at;
+  name = name at text;
+  params = None;
+  claim = Claim.Between first (Expr.Word first (name first p) None) word (Expr.Word second (name second q) None);
+  rule = rule;
+  using = None;
+}
 
 -- A text, its tokens and its tree.
 pub record Example : Type 0 where

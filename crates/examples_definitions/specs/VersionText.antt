@@ -12,7 +12,7 @@ use Rattle.unity_syntax.specs.declared.expression.Expr.TheVariants as expr
 use Rattle.unity_syntax.specs.declared.statement.Component.TheVariants as component
 use Rattle.unity_syntax.specs.declared.statement.Item.TheVariants as item
 use Rattle.examples_definitions.specs.TextForms.{name_token, number_token, reserved_token, symbol_token, name, assign}
-use Rattle.examples_definitions.specs.TextForms.{items, Example}
+use Rattle.examples_definitions.specs.TextForms.{items, step_of, step_in, step_between, Example}
 
 -- each production that version 2 adds
 abbrev pub second_version : Example
@@ -108,8 +108,8 @@ second_version = record {
             params = None;
             claim = (Claim.Constant 86 (expr.Word 95 (name 95 "x") None));
             rule = (Rule.Pair 100 Word.Constant
-                (record { at = 109; name = (name 109 "b"); step = None; args = None })
-                (record { at = 111; name = (name 111 "F"); step = (Some (name 113 "c")); args = None }));
+                (step_of 109 "b")
+                (step_in 111 "F" 113 "c"));
             using = None;
           })
               ∷ (record {
@@ -118,44 +118,15 @@ second_version = record {
                 params = None;
                 claim = (Claim.Fixed 121 (expr.Word 127 (name 127 "x") None));
                 rule = (Rule.Superpose 132
-                    (record { at = 142; name = (name 142 "G"); step = (Some (name 144 "d")); args = None }));
+                    (step_in 142 "G" 144 "d"));
                 using = None;
               })
-              ∷ (record {
-                at = 149;
-                name = (name 149 "c");
-                params = None;
-                claim = (Claim.Between 152 (expr.Word 152 (name 152 "x") None) Word.Until
-                    (expr.Word 160 (name 160 "y") None));
-                rule = (Rule.Pair 165 Word.Until
-                    (record { at = 171; name = (name 171 "a"); step = None; args = None })
-                    (record { at = 173; name = (name 173 "b"); step = None; args = None }));
-                using = None;
-              })
-              ∷ (record {
-                at = 178;
-                name = (name 178 "d");
-                params = None;
-                claim = (Claim.Between 181 (expr.Word 181 (name 181 "x") None) Word.Detects
-                    (expr.Word 191 (name 191 "y") None));
-                rule = (Rule.Pair 196 Word.Detects
-                    (record { at = 204; name = (name 204 "a"); step = None; args = None })
-                    (record { at = 206; name = (name 206 "b"); step = None; args = None }));
-                using = None;
-              })
-              ∷ (record {
-                at = 211;
-                name = (name 211 "f");
-                params = None;
-                claim = (Claim.Between 214 (expr.Word 214 (name 214 "x") None) Word.Leadsto
-                    (expr.Word 224 (name 224 "y") None));
-                rule = (Rule.Complete 229
-                    (record { at = 238; name = (name 238 "a"); step = None; args = None })
-                    (record { at = 240; name = (name 240 "F"); step = (Some (name 242 "b")); args = None })
-                    (record { at = 244; name = (name 244 "c"); step = None; args = None })
-                    (record { at = 246; name = (name 246 "d"); step = None; args = None }));
-                using = None;
-              })
+              ∷ (step_between 149 "c" 152 "x" Word.Until 160 "y"
+                  (Rule.Pair 165 Word.Until (step_of 171 "a") (step_of 173 "b")))
+              ∷ (step_between 178 "d" 181 "x" Word.Detects 191 "y"
+                  (Rule.Pair 196 Word.Detects (step_of 204 "a") (step_of 206 "b")))
+              ∷ (step_between 211 "f" 214 "x" Word.Leadsto 224 "y"
+                  (Rule.Complete 229 (step_of 238 "a") (step_in 240 "F" 242 "b") (step_of 244 "c") (step_of 246 "d")))
               ∷ []);
         })
         ∷ [];

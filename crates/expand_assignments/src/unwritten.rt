@@ -115,48 +115,32 @@ pub fn unwritten(alloc: Global, e: &Expr, env: &Env, known: &Known) -> Result<Co
     ensures { TellsCount result (spec.unwritten_count e.now (scope known.now env.now)) }
 {
     match e {
-        Expr::Implies { left, right, .. } => {
-            joined(
-                unwritten(alloc, left.get(), env, known),
-                unwritten(alloc, right.get(), env, known),
-            )
+        Expr::Implies { left, right, .. } => joined(
+            unwritten(alloc, left.get(), env, known),
+            unwritten(alloc, right.get(), env, known),
+        ),
+        Expr::And { first, rest, .. } => {
+            let first = unwritten(alloc, first.get(), env, known);
+            parts(alloc, first, rest, env, known)
         }
-        Expr::And { first, rest, .. } => parts(
-            alloc,
-            unwritten(alloc, first.get(), env, known),
-            rest,
-            env,
-            known,
-        ),
-        Expr::Or { first, rest, .. } => parts(
-            alloc,
-            unwritten(alloc, first.get(), env, known),
-            rest,
-            env,
-            known,
-        ),
+        Expr::Or { first, rest, .. } => {
+            let first = unwritten(alloc, first.get(), env, known);
+            parts(alloc, first, rest, env, known)
+        }
         Expr::Not { of, .. } => unwritten(alloc, of.get(), env, known),
         Expr::Compare { left, right, .. } => joined(
             unwritten(alloc, left.get(), env, known),
             unwritten(alloc, right.get(), env, known),
         ),
-        Expr::Sum { first, rest, .. } => terms(
-            alloc,
-            unwritten(alloc, first.get(), env, known),
-            rest,
-            env,
-            known,
-        ),
-        Expr::Product { first, rest, .. } => factors(
-            alloc,
-            unwritten(alloc, first.get(), env, known),
-            rest,
-            env,
-            known,
-        ),
-        Expr::Number { .. } => nothing(),
-        Expr::True { .. } => nothing(),
-        Expr::False { .. } => nothing(),
+        Expr::Sum { first, rest, .. } => {
+            let first = unwritten(alloc, first.get(), env, known);
+            terms(alloc, first, rest, env, known)
+        }
+        Expr::Product { first, rest, .. } => {
+            let first = unwritten(alloc, first.get(), env, known);
+            factors(alloc, first, rest, env, known)
+        }
+        Expr::Number { .. } | Expr::True { .. } | Expr::False { .. } => nothing(),
         Expr::Word { index, .. } => match index {
             None => nothing(),
             Some(index) => unwritten(alloc, index.get(), env, known),

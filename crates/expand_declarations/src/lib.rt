@@ -2,6 +2,7 @@
 //! parameters, references and schedules.
 #![tactic(auto)]
 
+mod elements;
 mod enumerations;
 mod laws;
 mod layout;

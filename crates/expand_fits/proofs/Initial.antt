@@ -1,5 +1,4 @@
 -- The start values of programs.
-pub mod Merged
 pub mod ShownStarts
 pub mod StartSlots
 pub mod StartTables

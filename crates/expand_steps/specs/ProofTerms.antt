@@ -26,7 +26,7 @@ use Rattle.expand_declarations.specs.Numbers.{core_range}
 use Rattle.expand_declarations.specs.References.{core_ref}
 use Rattle.expand_steps.specs.Elements.{truth_in, number_in, form_in, term_in, some_too_large, StopsLarge, Given}
 use Rattle.expand_steps.specs.declared.terms.Here.{Here}
-use Rattle.expand_steps.specs.declared.terms.Induction.{Induction}
+use Rattle.expand_steps.specs.declared.term_forms.Induction.{Induction}
 use Rattle.core_terms.specs.declared.trees.CForm.{CForm}
 use Rattle.unity_syntax.specs.declared.expression.Expr.{Expr}
 

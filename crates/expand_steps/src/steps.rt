@@ -1,22 +1,19 @@
 //! Steps and proofs.
-
 ghost use Rattle.std.specs.Prelude.{◌≡◌, [], ◌∷◌, map, fold, IfOk, OnOk};
-ghost use Rattle.core_terms.specs.declared.trees.CForm.TheVariants.{Bottom};
 ghost use Rattle.names_rules.specs.Scope.{bounds, entries};
 ghost use Rattle.names_rules.specs.Declarations.{some_of};
-ghost use Rattle.expand_expressions.specs.Places.{IsReady, scope};
-ghost use Rattle.expand_declarations.specs.References.{core_ref, step_params};
+ghost use Rattle.expand_expressions.specs.Places.{IsReady};
+ghost use Rattle.expand_declarations.specs.References.{step_params};
 ghost use Rattle.expand_rules.specs.Lists.{flaws_fault};
-ghost use Rattle.expand_steps.specs.Elements.{GivesOne, element_fault, form_in, truth_in};
+ghost use Rattle.expand_steps.specs.Elements.{GivesOne, element_fault};
 ghost use Rattle.expand_steps.specs.ProofTerms.{place};
 ghost use Rattle.expand_steps.specs.Steps as spec;
 
-use crate::formulas::formula;
-use crate::terms::{Here, imply, param_bound, ref_in, term};
-use case_tables::Word;
+use crate::step_rules::{claim, rule};
+use crate::terms::{Here, param_bound};
 use core_terms::{CForm, CProof, CRule, CStep};
 use expand_declarations::{
-    WordTable, claim_kind, core_refs, pair_rule, param_names, param_ranges, step_params, text_rule,
+    WordTable, claim_kind, core_refs, param_names, param_ranges, step_params,
 };
 use expand_expressions::{Env as BoundEnv, Known, ParamBounds, among_params};
 use expand_rules::Flaws;
@@ -24,7 +21,7 @@ use indexmap::IndexMap;
 use names_rules::{Env, NameFault, ParamTable, outside};
 use std::alloc::{AllocError, Global};
 use unity_base::Seq;
-use unity_syntax::{Claim, Expr, Name, Param, Proof, Ref as TextRef, Rule, Step, Term};
+use unity_syntax::{Name, Param, Proof, Step};
 
 // What the parameters of a step stand for.
 
@@ -38,7 +35,7 @@ fn add_bound<'a>(p: &'a Param, bounds: &mut ParamBounds<'a>) -> Result<(), Alloc
 }
 
 // Fails where the number is not below 2^32: so many parameters are more than any memory holds.
-fn small(number: usize) -> Result<u32, AllocError>
+pub fn small(number: usize) -> Result<u32, AllocError>
     ensures { IfOk result (λ n. n ≡ number) }
 {
     if number > u32::MAX as usize {
@@ -80,150 +77,6 @@ fn param_bounds<'a>(
     let mut bounds = IndexMap::new(alloc);
     add_all_bounds(list, &mut bounds)?;
     Ok(bounds)
-}
-
-// What a step claims.
-
-fn invariant(
-    alloc: Global,
-    of: &Expr,
-    here: &Here,
-    env: &BoundEnv,
-    bad: &mut Flaws,
-) -> Result<(CForm, CForm), NameFault>
-    requires { IsReady here.now.known.now }
-    ensures { GivesOne result (form_in (scope here.now.known.now env.now) of.now, Bottom) here.now.front bad.old bad.new
-        (truth_in (scope here.now.known.now env.now) of.now ∷ []) }
-{
-    let p = formula(alloc, of, here.known, env, here.front, bad)?;
-    Ok((p, CForm::Bottom))
-}
-
-fn claim(
-    alloc: Global,
-    c: &Claim,
-    here: &Here,
-    env: &BoundEnv,
-    bad: &mut Flaws,
-) -> Result<(CForm, CForm), NameFault>
-    requires { IsReady here.now.known.now }
-    ensures { GivesOne result (spec.claim_pair (scope here.now.known.now env.now) c.now) here.now.front bad.old bad.new
-        (spec.claim_formulas (scope here.now.known.now env.now) c.now) }
-{
-    match c {
-        Claim::Defined { at: _ } => Ok((CForm::Top, CForm::Top)),
-        Claim::Invariant { at: _, of } => invariant(alloc, of, here, env, bad),
-        Claim::Stable { at: _, of } => invariant(alloc, of, here, env, bad),
-        Claim::Constant { at: _, of } => invariant(alloc, of, here, env, bad),
-        Claim::Fixed { at: _, of } => invariant(alloc, of, here, env, bad),
-        Claim::Between {
-            at: _,
-            p,
-            which: _,
-            q,
-        } => imply(alloc, p, q, here, env, bad),
-    }
-}
-
-// How a step is justified.
-
-fn premise(alloc: Global, r: &TextRef, here: &Here, names: &Env) -> Result<CRule, AllocError>
-    ensures { IfOk result (λ rule. rule ≡ CRule.WeakenStep (core_ref here.now.words.now here.now.owner.now.text
-        (bounds names.now) (entries here.now.params.now) r.now)) }
-{
-    Ok(CRule::WeakenStep(ref_in(alloc, r, here, names)?))
-}
-
-fn premises(
-    alloc: Global,
-    which: Word,
-    first: &TextRef,
-    second: &TextRef,
-    here: &Here,
-    names: &Env,
-) -> Result<CRule, AllocError>
-    ensures { IfOk result (λ rule. rule ≡ spec.two_premises here.now names.now which first.now second.now) }
-{
-    let first = ref_in(alloc, first, here, names)?;
-    let second = ref_in(alloc, second, here, names)?;
-    Ok(pair_rule(which, first, second))
-}
-
-fn layer(alloc: Global, r: &TextRef, here: &Here, names: &Env) -> Result<CRule, AllocError>
-    ensures { IfOk result (λ rule. rule ≡ spec.one_below here.now names.now r.now) }
-{
-    Ok(CRule::Superpose(ref_in(alloc, r, here, names)?))
-}
-
-fn completion(
-    alloc: Global,
-    first: &TextRef,
-    second: &TextRef,
-    third: &TextRef,
-    fourth: &TextRef,
-    here: &Here,
-    names: &Env,
-) -> Result<CRule, AllocError>
-    ensures { IfOk result (λ rule. rule ≡
-        spec.four_premises here.now names.now first.now second.now third.now fourth.now) }
-{
-    let first = ref_in(alloc, first, here, names)?;
-    let second = ref_in(alloc, second, here, names)?;
-    let third = ref_in(alloc, third, here, names)?;
-    let fourth = ref_in(alloc, fourth, here, names)?;
-    Ok(CRule::Complete(first, second, third, fourth))
-}
-
-fn proof_term(
-    alloc: Global,
-    t: &Term,
-    here: &Here,
-    names: &Env,
-    env: &BoundEnv,
-    bad: &mut Flaws,
-) -> Result<CRule, NameFault>
-    requires { IsReady here.now.known.now }
-    ensures { GivesOne result (CRule.Proof (spec.step_term here.now names.now env.now t.now).core) here.now.front
-        bad.old bad.new (spec.step_term here.now names.now env.now t.now).formulas }
-{
-    let mut next = small(here.params.len())?;
-    let core = term(alloc, t, here, names, env, &mut next, bad)?;
-    Ok(CRule::Proof(core.into_inner()))
-}
-
-fn rule(
-    alloc: Global,
-    r: &Rule,
-    here: &Here,
-    names: &Env,
-    env: &BoundEnv,
-    bad: &mut Flaws,
-) -> Result<CRule, NameFault>
-    requires { IsReady here.now.known.now }
-    ensures { GivesOne result (spec.core_rule (place here.now names.now env.now) r.now) here.now.front
-        bad.old bad.new (spec.rule_formulas (place here.now names.now env.now) r.now) }
-{
-    match r {
-        Rule::Text { at: _, with } => {
-            Ok(text_rule(alloc, with, here.words, here.params, names)?)
-        }
-        Rule::Weaken { at: _, of } => Ok(premise(alloc, of, here, names)?),
-        Rule::Pair {
-            at: _,
-            which,
-            first,
-            second,
-        } => Ok(premises(alloc, *which, first, second, here, names)?),
-        Rule::Superpose { at: _, of } => Ok(layer(alloc, of, here, names)?),
-        Rule::Complete {
-            at: _,
-            first,
-            second,
-            third,
-            fourth,
-        } => Ok(completion(alloc, first, second, third, fourth, here, names)?),
-        Rule::Term { at: _, of } => proof_term(alloc, of, here, names, env, bad),
-    }
 }
 
 // A step, from what it claims and how it is justified.

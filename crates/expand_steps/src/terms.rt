@@ -1,18 +1,20 @@
 //! Proof terms.
-
 ghost use Rattle.std.specs.Prelude.{◌≡◌, ◌∷◌, ◌+◌, [], IfOk, MatchResult};
+ghost use Rattle.unity_syntax.specs.declared.term.Term.TheVariants.{Psp};
 ghost use Rattle.names_rules.specs.Scope.{bounds, entries};
 ghost use Rattle.expand_expressions.specs.Places.{IsReady, scope};
-ghost use Rattle.expand_steps.specs.Elements.{GivesOne, form_in, number_in, term_in, truth_in};
+ghost use Rattle.expand_steps.specs.Elements.{GivesOne, form_in, truth_in};
 ghost use Rattle.expand_rules.specs.Measures.{ends_weight};
-ghost use Rattle.expand_declarations.specs.Numbers.{core_range};
 ghost use Rattle.expand_declarations.specs.References.{core_ref};
 ghost use Rattle.expand_steps.specs.ProofTerms as spec;
-ghost use Rattle.core_terms.specs.declared.documents.PTerm.TheVariants as core;
 
-use crate::formulas::{formula, metric};
+use crate::formulas::formula;
+use crate::term_forms::{
+    Induction, exists_term, from_term, imply_term, induct_term, inductive_parts, pair_term,
+    psp_term,
+};
 use case_tables::Word;
-use core_terms::{CForm, CTerm, PTerm, Range, Ref};
+use core_terms::{CForm, PTerm, Range, Ref};
 use expand_declarations::{WordTable, core_ref, fixed_range};
 use expand_expressions::{Env as BoundEnv, Known, with_bound};
 use expand_rules::{Bound, Flaws};
@@ -94,135 +96,6 @@ pub fn ref_in(alloc: Global, r: &TextRef, here: &Here, names: &Env) -> Result<Re
     core_ref(alloc, r, here.owner, here.words, here.params, names)
 }
 
-fn pair_term(
-    alloc: Global,
-    which: Word,
-    first: Held<PTerm>,
-    second: Held<PTerm>,
-) -> Result<Held<PTerm>, AllocError>
-    ensures { IfOk result (λ t. t ≡ spec.pair_term which first second) }
-{
-    match which {
-        Word::Either => Held::new(alloc, PTerm::Either(first, second)),
-        _ => Held::new(alloc, PTerm::Trans(first, second)),
-    }
-}
-
-fn imply_term(
-    alloc: Global,
-    p: &Expr,
-    q: &Expr,
-    here: &Here,
-    env: &BoundEnv,
-    bad: &mut Flaws,
-) -> Result<Held<PTerm>, NameFault>
-    requires { IsReady here.now.known.now }
-    ensures { GivesOne result
-        (core.Imply (form_in (scope here.now.known.now env.now) p.now)
-        (form_in (scope here.now.known.now env.now) q.now))
-        here.now.front bad.old bad.new
-        (truth_in (scope here.now.known.now env.now) p.now ∷ truth_in (scope here.now.known.now env.now) q.now ∷ []) }
-{
-    let (first, second) = imply(alloc, p, q, here, env, bad)?;
-    Ok(Held::new(alloc, PTerm::Imply(first, second))?)
-}
-
-fn from_term(
-    alloc: Global,
-    r: &TextRef,
-    here: &Here,
-    names: &Env,
-) -> Result<Held<PTerm>, AllocError>
-    ensures { IfOk result (λ t. t ≡ core.From (core_ref here.now.words.now here.now.owner.now.text (bounds names.now)
-        (entries here.now.params.now) r.now)) }
-{
-    Held::new(alloc, PTerm::From(ref_in(alloc, r, here, names)?))
-}
-
-fn exists_term(
-    alloc: Global,
-    number: u32,
-    range: &TextRange,
-    of: Held<PTerm>,
-) -> Result<Held<PTerm>, AllocError>
-    ensures { IfOk result (λ t. t ≡ core.Exists number (core_range (spec.fixed_ends range.now)) of) }
-{
-    let ends = fixed_range(range)?;
-    Held::new(alloc, PTerm::Exists(number, ends, of))
-}
-
-fn psp_term(
-    alloc: Global,
-    of: Held<PTerm>,
-    by: &TextRef,
-    here: &Here,
-    names: &Env,
-) -> Result<Held<PTerm>, AllocError>
-    ensures { IfOk result (λ t. t ≡ core.Psp of (core_ref here.now.words.now here.now.owner.now.text (bounds names.now)
-        (entries here.now.params.now) by.now)) }
-{
-    let by = ref_in(alloc, by, here, names)?;
-    Held::new(alloc, PTerm::Psp(of, by))
-}
-
-// What stands in an induction before its part.
-#[derive(Drop)]
-struct Induction {
-    number: u32,
-    range: Range,
-    measure: CTerm,
-    p: CForm,
-    q: CForm,
-}
-
-fn inductive_parts(
-    alloc: Global,
-    number: u32,
-    range: &TextRange,
-    measure: &Expr,
-    p: &Expr,
-    q: &Expr,
-    here: &Here,
-    env: &BoundEnv,
-    bad: &mut Flaws,
-) -> Result<Induction, NameFault>
-    requires { IsReady here.now.known.now }
-    ensures { GivesOne result (record {
-      number = number;
-      range = core_range (spec.fixed_ends range.now);
-      measure = term_in (scope here.now.known.now env.now) measure.now;
-      p = form_in (scope here.now.known.now env.now) p.now;
-      q = form_in (scope here.now.known.now env.now) q.now;
-    }) here.now.front bad.old bad.new
-        (number_in (scope here.now.known.now env.now) measure.now ∷ truth_in (scope here.now.known.now env.now) p.now
-        ∷ truth_in (scope here.now.known.now env.now) q.now ∷ []) }
-{
-    let range = fixed_range(range)?;
-    let measure = metric(alloc, measure, here.known, env, here.front, bad)?;
-    let (p, q) = imply(alloc, p, q, here, env, bad)?;
-    Ok(Induction {
-        number,
-        range,
-        measure,
-        p,
-        q,
-    })
-}
-
-fn induct_term(alloc: Global, shape: Induction, of: Held<PTerm>) -> Result<Held<PTerm>, AllocError>
-    ensures { IfOk result (λ t. t ≡
-        core.Induct shape.number shape.range shape.measure shape.p shape.q of) }
-{
-    let Induction {
-        number,
-        range,
-        measure,
-        p,
-        q,
-    } = shape;
-    Held::new(alloc, PTerm::Induct(number, range, measure, p, q, of))
-}
-
 /// A term in core form, whose bound names are numbered from `next` on. `Fault` exactly where one of its
 /// formulas is too large, at the name of the step. What fails is noted.
 #[cycle(term)]
@@ -275,10 +148,7 @@ pub fn term(
                 alloc, of, number, name, range, measure, p, q, here, names, env, next, bad,
             )
         }
-        Term::Psp { at: _, of, by } => {
-            let of = term(alloc, of.get(), here, names, env, next, bad)?;
-            Ok(psp_term(alloc, of, by, here, names)?)
-        }
+        Term::Psp { at, of, by } => psp(alloc, *at, of, by, here, names, env, next, bad),
         Term::Weaken { at: _, p, q, of } => { weaken(alloc, of, p, q, here, names, env, next, bad) }
     }
 }
@@ -302,6 +172,27 @@ fn second_term(
 {
     let second = term(alloc, of.get(), here, names, env, next, bad)?;
     Ok(pair_term(alloc, which, first, second)?)
+}
+
+// A term over another one, with the unless of a step.
+#[cycle(term)]
+fn psp(
+    alloc: Global,
+    at: u64,
+    of: &Held<Term>,
+    by: &TextRef,
+    here: &Here,
+    names: &Env,
+    env: &BoundEnv,
+    next: &mut u32,
+    bad: &mut Flaws,
+) -> Result<Held<PTerm>, NameFault>
+    requires { IsReady here.now.known.now }
+    ensures { spec.Terms result next.new here.now.front bad.old bad.new
+        (spec.termed (Psp at of.now by.now) (spec.place here.now names.now env.now) next.old) }
+{
+    let of = term(alloc, of.get(), here, names, env, next, bad)?;
+    Ok(psp_term(alloc, of, by, here, names)?)
 }
 
 #[cycle(term)]

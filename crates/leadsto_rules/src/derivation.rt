@@ -77,32 +77,10 @@ fn narrowed(
 {
     match answer {
         Ok(derived) => {
-            let Derived { made, obligations } = derived;
-            let Record {
-                name,
-                program,
-                kind,
-                p,
-                q,
-                under,
-                params: _wide,
-                bound: _none,
-                helper,
-            } = made;
-            Ok(Derived {
-                made: Record {
-                    name,
-                    program,
-                    kind,
-                    p,
-                    q,
-                    under,
-                    params,
-                    bound,
-                    helper,
-                },
-                obligations,
-            })
+            let mut derived = derived;
+            derived.made.params = params;
+            derived.made.bound = bound;
+            Ok(derived)
         }
         Err(error) => Err(error),
     }

@@ -14,7 +14,6 @@ ghost use Rattle.meaning_documents.specs.Value.{range_size};
 ghost use Rattle.leadsto_rules.specs.Inductions.{IsLightInduction, InductionFits};
 ghost use Rattle.leadsto_rules.specs.Leading.{TermGives, LedFits};
 
-use crate::gathering::implied;
 use crate::nodes::{Claim, node};
 use crate::parts::{both, either};
 use case_tables::Code;
@@ -23,7 +22,7 @@ use core_terms::{
     owned_form, owned_term, zero_form,
 };
 use rules_table::Led;
-use safety_rules::{Place, RuleError, is_same, using_and};
+use safety_rules::{Place, RuleError, implied, is_same, using_and};
 use std::alloc::{AllocError, Global};
 use unity_base::Shared;
 

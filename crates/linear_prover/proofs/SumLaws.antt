@@ -24,7 +24,7 @@ use Rattle.obligations.specs.Reach.{total_of, is_refuted_by, bounds_refute, pair
 use Rattle.linear_prover.specs.Exact.{factor_in, is_once}
 use Rattle.linear_prover.specs.Chains.{nulls, null_line, total_pairs}
 
-eq-is : (a b : ℕ) → nat_eq a b ≡ true → a ≡ b
+pub eq-is : (a b : ℕ) → nat_eq a b ≡ true → a ≡ b
 eq-is a b h = grind arith
 
 eq-refl : (a : ℕ) → nat_eq a a ≡ true
@@ -33,22 +33,22 @@ eq-refl a = grind arith
 eq-not : (a b : ℕ) → (a ≡ b → ⊥) → nat_eq a b ≡ false
 eq-not a b h = grind arith
 
-not-eq : (a b : ℕ) → nat_eq a b ≡ false → a ≡ b → ⊥
+pub not-eq : (a b : ℕ) → nat_eq a b ≡ false → a ≡ b → ⊥
 not-eq a b h = grind arith
 
-le-is : (a b : ℕ) → nat_le a b ≡ true → a ≤ b
+pub le-is : (a b : ℕ) → nat_le a b ≡ true → a ≤ b
 le-is a b h = grind arith
 
-gt-is : (a b : ℕ) → nat_le a b ≡ false → b < a
+pub gt-is : (a b : ℕ) → nat_le a b ≡ false → b < a
 gt-is a b h = grind arith
 
-le-true : (a b : ℕ) → a ≤ b → nat_le a b ≡ true
+pub le-true : (a b : ℕ) → a ≤ b → nat_le a b ≡ true
 le-true a b h = grind arith
 
-int-eq-is : (a b : ℤ) → int_eq a b ≡ true → a ≡ b
+pub int-eq-is : (a b : ℤ) → int_eq a b ≡ true → a ≡ b
 int-eq-is a b h = grind (arith, ints)
 
-int-eq-refl : (a : ℤ) → int_eq a a ≡ true
+pub int-eq-refl : (a : ℤ) → int_eq a a ≡ true
 int-eq-refl a = grind (arith, ints)
 
 pub abs-plus : (a b : ℤ) → unsigned_abs (a +ℤ b) ≤ unsigned_abs a + unsigned_abs b
@@ -310,18 +310,18 @@ bound-is (f ∷ facts) n v side b e = by_test (is_bound_of v side f.factors) ref
     by_test true q None p s ih = own q (cc)
     by_test true q (Some c) p s ih = chosen (int_le f.constant c.constant) c q p (cc) ih
 
-abs-side : (a : ℤ) → pos (unsigned_abs a) *ℤ side_for a +ℤ a ≡ pos 0
+pub abs-side : (a : ℤ) → pos (unsigned_abs a) *ℤ side_for a +ℤ a ≡ pos 0
 abs-side (pos n) = omega (arith, ints)
 abs-side (negsuc n) = omega (arith, ints)
 
-abs-times : (a : ℤ) → unsigned_abs (pos (unsigned_abs a) *ℤ side_for a) ≡ unsigned_abs a
+pub abs-times : (a : ℤ) → unsigned_abs (pos (unsigned_abs a) *ℤ side_for a) ≡ unsigned_abs a
 abs-times a = unsigned_abs-mul (pos (unsigned_abs a)) (side_for a) ∙ by_side a
   where
     by_side : (a : ℤ) → unsigned_abs a * unsigned_abs (side_for a) ≡ unsigned_abs a
     by_side (pos n) = omega arith
     by_side (negsuc n) = omega arith
 
-side-exact : (v : ℕ) (a : ℤ) → is_exact 0 ((v, side_for a) ∷ []) ≡ true
+pub side-exact : (v : ℕ) (a : ℤ) → is_exact 0 ((v, side_for a) ∷ []) ≡ true
 side-exact v (pos n) = ap (λ t. (t && true) && true) (le-true 0 v (omega arith))
 side-exact v (negsuc n) = ap (λ t. (t && true) && true) (le-true 0 v (omega arith))
 

@@ -15,14 +15,14 @@ use Rattle.meaning_documents.proofs.ExecutionTheorems.{prefix_is_execution}
 use Rattle.meaning_documents.proofs.RoundTheorems.{no_rounds, shortest_exists}
 
 -- what stands in the first of a list stands there in the list
-get-take : {X : Type 0} (n place : ℕ) (xs : List X) (x : X) → slice_get (take n xs) place ≡ Some x →
+pub get-take : {X : Type 0} (n place : ℕ) (xs : List X) (x : X) → slice_get (take n xs) place ≡ Some x →
     (slice_get xs place ≡ Some x) × (place < n)
 get-take zero place xs x e = cc
 get-take (suc n) place [] x e = cc
 get-take (suc n) zero (y ∷ xs) x e = (e, omega arith)
 get-take (suc n) (suc place) (y ∷ xs) x e = let rest = get-take n place xs x e in (rest.0, omega (arith, rest.1))
 
-take-get : {X : Type 0} (n place : ℕ) (xs : List X) (x : X) → place < n → slice_get xs place ≡ Some x →
+pub take-get : {X : Type 0} (n place : ℕ) (xs : List X) (x : X) → place < n → slice_get xs place ≡ Some x →
     slice_get (take n xs) place ≡ Some x
 take-get zero place xs x h e = absurd (omega arith)
 take-get (suc n) place [] x h e = cc

@@ -59,7 +59,7 @@ constant_holds x u p always stands first choices later run place now next e d =
     stands step.0 now next (always first choices later run place now e)
     (always first choices later run (suc place) next d) step.2
 
-some_step : (o : Option State) → o ≢ None → (t : State) × (o ≡ Some t)
+pub some_step : (o : Option State) → o ≢ None → (t : State) × (o ≡ Some t)
 some_step None h = absurd (h refl)
 some_step (Some t) h = (t, refl)
 
@@ -74,7 +74,7 @@ last_of_prefix x s (c ∷ cs) [] f (suc place) now e = absurd f
 last_of_prefix x s (c ∷ cs) (t ∷ ts) f (suc place) now e = last_of_prefix x t cs ts f.1 place now e
 
 -- what holds in every execution holds after one more choice too
-after_choice : (x : System) (u : Test) → IsInvariant x u → (first : State) (choices : List ℕ) (later : List State) →
+pub after_choice : (x : System) (u : Test) → IsInvariant x u → (first : State) (choices : List ℕ) (later : List State) →
     IsExecution x first choices later → (place : ℕ) (now next : State) (choice : ℕ) →
     slice_get (first ∷ later) place ≡ Some now → chosen_step x choice now ≡ Some next → IsTrue (u next)
 after_choice x u always first choices later run place now next choice e f =

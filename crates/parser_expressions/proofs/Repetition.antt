@@ -20,8 +20,9 @@ pub record IsItem (a : Ebnf) (classes : List ℕ) : Type 0 where
   pub takes : empties a ≡ false
 
 -- The items so far, at the rest.
-abbrev pub Items : {X : Type 0} → (X → Tree) → Ebnf → ℕ → List Terminal → List X → List Terminal → Type 0
-Items view a n start found rest = Reading grammar n (many a) start (map view found) (many a) rest
+pub record Items {X : Type 0} (view : X → Tree) (a : Ebnf) (n : ℕ) (start : List Terminal) (found : List X)
+    (rest : List Terminal) : Type 0 where
+  pub reading : Reading grammar n (many a) start (map view found) (many a) rest
 
 map_last : {X : Type 0} (view : X → Tree) (xs : List X) (x : X) → map view (xs ++ x ∷ []) ≡ map view xs ++ view x ∷ []
 map_last view [] x = refl
@@ -31,19 +32,22 @@ begins_item : (a : Ebnf) (classes : List ℕ) (is : IsItem a classes) (rest : Li
     rest ≡ v → begins (first a) rest ≡ v
 begins_item a classes is rest v b = ap (λ cs. begins cs rest) is.begins_with ∙ b
 
-module _ {X : Type 0} (view : X → Tree) {a : Ebnf} {classes : List ℕ} (is : IsItem a classes) (n : ℕ)
-    (start : List Terminal) (found : List X) (rest : List Terminal) (inv : Items view a n start found rest) where
+module _ {X : Type 0} {view : X → Tree} {a : Ebnf} {classes : List ℕ} (is : IsItem a classes) {n : ℕ}
+    {start : List Terminal} {found : List X} {rest : List Terminal} (inv : Items view a n start found rest) where
   -- one item more
   pub goes_on : begins classes rest ≡ true → (x : X) (later : List Terminal) → read grammar n a rest ≡ Ok
       (view x, later) → (next : List X) → next ≡ found ++ x ∷ [] → Items view a n start next later
   goes_on b x later e next q =
-      subst (λ xs. Reading grammar n (many a) start xs (many a) later) (sym (ap (map view) q ∙ map_last view found x))
-      (many_step grammar grammar_is n (many a) start (map view found) rest a is.good_many inv
-      (begins_item a classes is rest true b) (view x) later e)
+      record {
+        reading = subst (λ xs. Reading grammar n (many a) start xs (many a) later)
+            (sym (ap (map view) q ∙ map_last view found x))
+            (many_step grammar grammar_is n (many a) start (map view found) rest a is.good_many inv.reading
+            (begins_item a classes is rest true b) (view x) later e);
+      }
 
   -- no item more
   pub ends : begins classes rest ≡ false → read grammar n (many a) start ≡ Ok (view_list view found, rest)
-  ends b = many_end grammar grammar_is n (many a) start (map view found) rest a is.good_many inv
+  ends b = many_end grammar grammar_is n (many a) start (map view found) rest a is.good_many inv.reading
       (begins_item a classes is rest false b)
 
   -- a fault in an item
@@ -51,11 +55,11 @@ module _ {X : Type 0} (view : X → Tree) {a : Ebnf} {classes : List ℕ} (is : 
       (read grammar n (many a) start)
   fails b Stop.Memory h = tt
   fails b (Stop.Unexpected at) h = many_fault grammar grammar_is n (many a) start (map view found) rest a is.good_many
-      inv (begins_item a classes is rest true b) (Unexpected (remaining at)) h
+      inv.reading (begins_item a classes is rest true b) (Unexpected (remaining at)) h
   fails b (Stop.OtherVersion at) h = many_fault grammar grammar_is n (many a) start (map view found) rest a is.good_many
-      inv (begins_item a classes is rest true b) (OtherVersion (remaining at)) h
-  fails b (Stop.TooDeep at) h = many_fault grammar grammar_is n (many a) start (map view found) rest a is.good_many inv
-      (begins_item a classes is rest true b) (TooDeep (remaining at)) h
+      inv.reading (begins_item a classes is rest true b) (OtherVersion (remaining at)) h
+  fails b (Stop.TooDeep at) h = many_fault grammar grammar_is n (many a) start (map view found) rest a is.good_many
+      inv.reading (begins_item a classes is rest true b) (TooDeep (remaining at)) h
 
 -- an item takes a token
 pub shorter : {a : Ebnf} {classes : List ℕ} → IsItem a classes → (n : ℕ) (rest : List Terminal) (x : Tree)

@@ -118,7 +118,8 @@ further_plain (Ok p) f h k = k p h
 further_plain (Err stop) f h k = h
 
 steps_plain : (seen : Around) → Each ProgramIsPlain seen.programs → (c : CProgram) → ProgramIsPlain c →
-    (steps : List CStep) → Each StepIsPlain steps → (plan : Plan) → PlanIsPlain plan → ReachIsPlain (steps_reach seen c steps plan)
+    (steps : List CStep) → Each StepIsPlain steps → (plan : Plan) → PlanIsPlain plan →
+    ReachIsPlain (steps_reach seen c steps plan)
 steps_plain seen programs c program [] all plan h = subst ReachIsPlain (sym (reaches-none seen c plan)) h
 steps_plain seen programs c program (s ∷ rest) all plan h =
     subst ReachIsPlain (sym (reaches-more seen c s rest plan))

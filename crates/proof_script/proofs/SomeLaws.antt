@@ -338,7 +338,8 @@ module _ (ends : SearchEnds) where
         joined plan old (proof_reach seen named proof plan) (proofs_reach seen (proof ∷ rest) plan)
         (proofs_reach seen rest) (proofs_reach-more seen proof rest plan)
         (proofs_extend seen rest)
-        (proof_ends named proof plan old (λ c e. named_program seen.slots seen.programs proof.program c programs e) steps
+        (proof_ends named proof plan old
+        (λ c e. named_program seen.slots seen.programs proof.program c programs e) steps
         fits way)
         (λ p new e w. proofs_end rest p new (All-tail (IsProof seen.slots seen.programs) proof rest good)
         (proof_reach_fits seen named proof plan p steps fits e).0 w)

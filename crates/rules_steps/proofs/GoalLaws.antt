@@ -309,7 +309,8 @@ module _ (site : Site) (closed : All (FormFits site.slots []) site.using) (good 
   told_proof s book fit t sees Kind.Leadsto = told_derive book fit t sees
   told_proof s book fit t sees _ = told_again s book (out-PTerm t)
 
-  told_applied : (seen : Around) → All (IsProgram slots) seen.programs → (s : CStep) (book : List Record) → BookFits slots book →
+  told_applied : (seen : Around) → All (IsProgram slots) seen.programs → (s : CStep) (book : List Record) →
+      BookFits slots book →
       FormFits slots params s.p → FormFits slots params s.q → (rule : CRule) →
       RuleWellScoped slots (params ++ rule_ranges rule) (is_below (length params)) (length params) rule →
       GivesTold site (applied seen site s book rule)
@@ -392,7 +393,8 @@ module _ (seen : Around) (c : CProgram) (s : CStep) (book : List Record) where
   unfolding rule_of
   rule_row = refl
 
-  pub told_step : All IsSlot seen.slots → All (IsProgram seen.slots) seen.programs → IsProgram seen.slots c → IsStep seen.slots s → BookFits seen.slots book →
+  pub told_step : All IsSlot seen.slots → All (IsProgram seen.slots) seen.programs → IsProgram seen.slots c →
+      IsStep seen.slots s → BookFits seen.slots book →
       (x : Conclusion) →
       rule_of seen c s book ≡ Ok x → IsStepRow seen.slots c s x
   told_step all programs program good fits x is =
@@ -422,7 +424,8 @@ module _ (seen : Around) (c : CProgram) (s : CStep) (book : List Record) where
 
 -- what a call gives for a step
 pub given_step : (seen : Around) (c : CProgram) (s : CStep) (book : List Record) → All IsSlot seen.slots →
-    All (IsProgram seen.slots) seen.programs → IsProgram seen.slots c → IsStep seen.slots s → BookFits seen.slots book → (answer : Result Derived RuleError) →
+    All (IsProgram seen.slots) seen.programs → IsProgram seen.slots c → IsStep seen.slots s →
+    BookFits seen.slots book → (answer : Result Derived RuleError) →
     RuleAnswers answer seen.slots (rule_of seen c s book) → IfOk answer (IsStepGiven seen.slots c s)
 given_step seen c s book all programs program good fits (Err e) h = tt
 given_step seen c s book all programs program good fits (Ok d) h =

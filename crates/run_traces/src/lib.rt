@@ -16,4 +16,4 @@ pub use error::RunError;
 pub use finding::{program_called, scheduled_program};
 pub use laws::trace_laws;
 pub use trace_error::TraceError;
-pub use traces::write_trace;
+pub use traces::{instances, write_step, write_trace};

@@ -84,16 +84,16 @@ fn write_steps<K: Sink>(
     }
 }
 
-// How many instances there are.
-fn instances(p: &CProgram) -> u32
+/// How many instances there are.
+pub fn instances(p: &CProgram) -> u32
     requires { length p.now.statements ≤ 4096 }
     ensures { result ≡ length p.now.statements }
 {
     p.statements.len() as u32
 }
 
-// Makes a step and writes its line.
-fn write_step<K: Sink>(
+/// Makes a step and writes its line.
+pub fn write_step<K: Sink>(
     doc: &CDocument,
     p: &CProgram,
     number: u64,

@@ -12,7 +12,7 @@ use Rattle.obligations.specs.Obligations.{is_sound_range}
 use Rattle.obligations.specs.Opening.{at_least, at_most}
 use Rattle.obligations.specs.Plain.{first_cut}
 use Rattle.obligations.specs.Reach.{is_within}
-use Rattle.search_tree.specs.declared.fixing.Point.{Point}
+use Rattle.search_tree.specs.declared.points.Point.{Point}
 use Rattle.search_tree.specs.Points.{values_in, pair_at, IsPoint, ArePoints, ends_in, IsFirst, front, last_size}
 use Rattle.search_tree.specs.Points.{worth_at, quotient_at, IsReadable}
 use Rattle.search_tree.specs.Searching.{Has, AreBounded, widths, is_slender}

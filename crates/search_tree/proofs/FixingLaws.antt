@@ -21,7 +21,7 @@ use Rattle.obligations.specs.Reach.{is_within, are_exact, some_out_of_reach}
 use Rattle.obligations.specs.Scopes.{scope, scope_of}
 use Rattle.obligations.proofs.ScopeLaws.{scope-length}
 use Rattle.linear_prover.specs.Chains.{Closes, ClosesShortly}
-use Rattle.search_tree.specs.declared.fixing.Point.{Point}
+use Rattle.search_tree.specs.declared.points.Point.{Point}
 use Rattle.search_tree.specs.declared.fixing.Fixing.{Fixing}
 use Rattle.search_tree.specs.declared.trail.Trail.{Trail}
 use Rattle.search_tree.specs.declared.trail.Ended.{Ended}

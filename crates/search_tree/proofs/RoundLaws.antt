@@ -26,30 +26,11 @@ use Rattle.linear_prover.specs.Exact.{factor_in}
 use Rattle.linear_prover.proofs.DivisionLaws.{no-rest, part-none, number-map}
 use Rattle.linear_prover.proofs.SumLaws.{abs-plus, small-is, number-past, nulls-at, length-nulls, factor-before}
 use Rattle.linear_prover.proofs.SumLaws.{factor-here, factor-else, next-pair}
-use Rattle.search_tree.specs.declared.fixing.Point.{Point}
+use Rattle.search_tree.specs.declared.points.Point.{Point}
 use Rattle.search_tree.specs.Points.{values_in, bound_number, pair_at, IsPoint, ArePoints}
 use Rattle.search_tree.specs.Searching.{widths}
-
-eq-is : (a b : ℕ) → nat_eq a b ≡ true → a ≡ b
-eq-is a b h = grind arith
-
-not-eq : (a b : ℕ) → nat_eq a b ≡ false → a ≡ b → ⊥
-not-eq a b h = grind arith
-
-le-is : (a b : ℕ) → nat_le a b ≡ true → a ≤ b
-le-is a b h = grind arith
-
-gt-is : (a b : ℕ) → nat_le a b ≡ false → b < a
-gt-is a b h = grind arith
-
-le-true : (a b : ℕ) → a ≤ b → nat_le a b ≡ true
-le-true a b h = grind arith
-
-int-eq-is : (a b : ℤ) → int_eq a b ≡ true → a ≡ b
-int-eq-is a b h = grind (arith, ints)
-
-int-eq-refl : (a : ℤ) → int_eq a a ≡ true
-int-eq-refl a = grind (arith, ints)
+use Rattle.linear_prover.proofs.SumLaws.{eq-is, not-eq, le-is, gt-is, int-eq-refl, abs-side}
+use Rattle.linear_prover.proofs.SumLaws.{abs-times, side-exact}
 
 small-zero : (z : ℤ) → z ≡ pos 0 → is_small z ≡ true
 small-zero z e = small-is z (let h : unsigned_abs z ≡ 0 = ap unsigned_abs e in omega (arith, h))
@@ -63,21 +44,6 @@ split a b = split_by (nat_eq a b) refl
     split_by : (t : Bool) → nat_eq a b ≡ t → Split a b
     split_by true e = inl (eq-is a b e)
     split_by false e = inr (not-eq a b e)
-
-abs-side : (a : ℤ) → pos (unsigned_abs a) *ℤ side_for a +ℤ a ≡ pos 0
-abs-side (pos n) = omega (arith, ints)
-abs-side (negsuc n) = omega (arith, ints)
-
-abs-times : (a : ℤ) → unsigned_abs (pos (unsigned_abs a) *ℤ side_for a) ≡ unsigned_abs a
-abs-times a = unsigned_abs-mul (pos (unsigned_abs a)) (side_for a) ∙ by_side a
-  where
-    by_side : (a : ℤ) → unsigned_abs a * unsigned_abs (side_for a) ≡ unsigned_abs a
-    by_side (pos n) = omega arith
-    by_side (negsuc n) = omega arith
-
-side-exact : (v : ℕ) (a : ℤ) → is_exact 0 ((v, side_for a) ∷ []) ≡ true
-side-exact v (pos n) = ap (λ t. (t && true) && true) (le-true 0 v (omega arith))
-side-exact v (negsuc n) = ap (λ t. (t && true) && true) (le-true 0 v (omega arith))
 
 neg-times : (n : ℕ) (z : ℤ) → pos (suc n) *ℤ neg_ℤ z ≡ negsuc n *ℤ z
 neg-times n (pos zero) = omega (arith, ints)

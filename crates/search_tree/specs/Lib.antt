@@ -5,3 +5,4 @@ pub mod Points
 pub mod Searching
 pub mod Ends
 pub mod Laws
+pub mod Sides

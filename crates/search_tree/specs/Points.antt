@@ -15,7 +15,7 @@ use Rattle.obligations.specs.Opening.{at_least, at_most}
 use Rattle.obligations.specs.Reach.{is_within, are_exact}
 use Rattle.certificate_check.specs.Sums.{numbered}
 use Rattle.linear_prover.specs.Chains.{Closes, is_plain_node}
-use Rattle.search_tree.specs.declared.fixing.Point.{Point}
+use Rattle.search_tree.specs.declared.points.Point.{Point}
 use Rattle.search_tree.specs.declared.fixing.Fixing.{Fixing}
 use Rattle.search_tree.specs.Searching.{is_slender, AreTaken}
 use Rattle.search_tree.specs.Weighing.{weight_in, is_weight}

@@ -30,6 +30,19 @@ pub fn numbered(facts: &[Fact]) -> Result<(), AllocError>
     }
 }
 
+/// Whether some fact is out of reach.
+pub fn some_out_of_reach(alloc: Global, vs: &[Variable], facts: &[Fact]) -> Result<bool, AllocError>
+    requires variables { AreVariables vs.now }
+    requires exact { are_exact (length vs.now) facts.now ≡ true }
+    ensures { IfOk result (λ b. b ≡ some_out_of_reach facts.now) }
+{
+    numbered(facts)?;
+    match reach_chain(alloc, facts, count_of(vs))? {
+        Some(_) => Ok(true),
+        None => Ok(false),
+    }
+}
+
 /// Closes a branch by a fact that is out of reach, where there is one.
 #[tactic(auto, using(crate::proofs::TryLaws::reach_laws))]
 fn try_reach(

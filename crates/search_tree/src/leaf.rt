@@ -9,8 +9,9 @@ ghost use Rattle.search_tree.specs.Points.{values_in, IsFixing};
 ghost use Rattle.search_tree.specs.Searching.{Ready, Ends, EndsLeaf, Finishes};
 
 use crate::closing::{count_of, numbered};
-use crate::fixing::{Fixing, Point, fixing_of};
+use crate::fixing::{Fixing, fixing_of};
 use crate::halves::low_ends;
+use crate::points::Point;
 use crate::trail::{Ended, Trail, append_nodes, finish};
 use core_terms::Range;
 use linear_prover::reach_chain;

@@ -3,45 +3,32 @@
 ghost use Rattle.std.specs.Prelude.{◌≡◌, ◌+◌, ◌-◌, ◌*◌, ◌≤◌, ◌<◌, ◌^◌, ◌∷◌, [], suc, pos, ◌+ℤ◌, ◌-ℤ◌, ◌<ℤ◌, min};
 ghost use Rattle.std.specs.Prelude.{length, take, true, false, Some, IfOk, OnOk};
 ghost use Rattle.obligations.specs.Load.{need, term_load};
-ghost use Rattle.obligations.specs.Obligations.{AreOwn, AreVariables, IsObligation};
+ghost use Rattle.obligations.specs.Obligations.{AreOwn, IsObligation};
 ghost use Rattle.obligations.specs.Scopes as scopes;
 ghost use Rattle.obligations.specs.Opening.{at_most, at_least, first_branch};
 ghost use Rattle.obligations.specs.Plain.{ranges_of, first_cut, with_high, with_low, waiting_only, cut_leaves};
 ghost use Rattle.obligations.specs.Plain.{side_leaves, quot_leaves, plain_leaves};
 ghost use Rattle.obligations.specs.Quotients as quotients;
 ghost use Rattle.obligations.specs.Quotients.{is_either, with_quotient};
-ghost use Rattle.obligations.specs.Reach.{are_exact, some_out_of_reach};
-ghost use Rattle.obligations.specs.Settling.{settled, sides, added};
+ghost use Rattle.obligations.specs.Reach.{some_out_of_reach};
+ghost use Rattle.obligations.specs.Settling.{settled, added};
 ghost use Rattle.search_tree.specs.Searching.{Ready};
+ghost use Rattle.search_tree.specs.Sides.{side_of};
 
-use crate::closing::{count_of, numbered};
+use crate::closing::some_out_of_reach;
 use crate::halves::{Halves, add_above, add_at_most, first_halves, high_half, low_half, ranges_in};
-use crate::sides::{cut_back, is_either, settle_first, settle_second};
+use crate::sides::{Side, cut_back, is_either, settle_side};
 use core_terms::{CForm, Range};
-use linear_prover::reach_chain;
 use obligations::{
-    Branch, Fact, Obligation, Replaced, Variable, add_quotient, has_room, next_param, open_branch,
+    Branch, Obligation, Replaced, Variable, add_quotient, has_room, next_param, open_branch,
     scope_of, without_quotient,
 };
 use std::alloc::{AllocError, Global};
 
-/// Whether some fact is out of reach.
-fn some_out_of_reach(alloc: Global, vs: &[Variable], facts: &[Fact]) -> Result<bool, AllocError>
-    requires variables { AreVariables vs.now }
-    requires exact { are_exact (length vs.now) facts.now ≡ true }
-    ensures { IfOk result (λ b. b ≡ some_out_of_reach facts.now) }
-{
-    numbered(facts)?;
-    match reach_chain(alloc, facts, count_of(vs))? {
-        Some(_) => Ok(true),
-        None => Ok(false),
-    }
-}
-
-/// Counts leaves with the first side of a formula.
+/// Counts leaves with a side of a formula.
 #[cycle(leaves)]
 #[tactic(auto, using(crate::proofs::SearchLaws::undo_laws))]
-fn first_leaves(
+fn leaves_of_side(
     alloc: Global,
     vs: &[Variable],
     scope: &[Variable],
@@ -49,50 +36,21 @@ fn first_leaves(
     ranges: &[Range],
     wanted: u64,
     form: &CForm,
+    side: Side,
     branch: &mut Branch,
 ) -> Result<u64, AllocError>
     requires own { AreOwn vs.now }
     requires scope { scope.now ≡ scopes.scope_of vs.now branch.old }
     requires rest { rest ≤ 960 }
     requires form { (need form.now).yes ≤ 2 ^ 63 }
-    requires ready { Ready vs.now rest ranges.now (settled scope.now (sides form.now).0 branch.old) }
+    requires ready { Ready vs.now rest ranges.now (settled scope.now (side_of side form.now) branch.old) }
     ensures leaves { IfOk result (λ n. n ≡ min wanted (plain_leaves vs.now rest ranges.now
-        (settled scope.now (sides form.now).0 branch.old))) }
+        (settled scope.now (side_of side form.now) branch.old))) }
     ensures branch { OnOk result (branch.new ≡ branch.old) }
 {
     let facts = branch.facts.len();
     let waits = branch.waiting.len();
-    settle_first(alloc, scope, form, branch)?;
-    let leaves = some_leaves(alloc, vs, scope, rest, ranges, wanted, branch)?;
-    cut_back(branch, facts, waits);
-    Ok(leaves)
-}
-
-/// Counts leaves with the second side of a formula.
-#[cycle(leaves)]
-#[tactic(auto, using(crate::proofs::SearchLaws::undo_laws))]
-fn second_leaves(
-    alloc: Global,
-    vs: &[Variable],
-    scope: &[Variable],
-    rest: u32,
-    ranges: &[Range],
-    wanted: u64,
-    form: &CForm,
-    branch: &mut Branch,
-) -> Result<u64, AllocError>
-    requires own { AreOwn vs.now }
-    requires scope { scope.now ≡ scopes.scope_of vs.now branch.old }
-    requires rest { rest ≤ 960 }
-    requires form { (need form.now).yes ≤ 2 ^ 63 }
-    requires ready { Ready vs.now rest ranges.now (settled scope.now (sides form.now).1 branch.old) }
-    ensures leaves { IfOk result (λ n. n ≡ min wanted (plain_leaves vs.now rest ranges.now
-        (settled scope.now (sides form.now).1 branch.old))) }
-    ensures branch { OnOk result (branch.new ≡ branch.old) }
-{
-    let facts = branch.facts.len();
-    let waits = branch.waiting.len();
-    settle_second(alloc, scope, form, branch)?;
+    settle_side(alloc, scope, form, side, branch)?;
     let leaves = some_leaves(alloc, vs, scope, rest, ranges, wanted, branch)?;
     cut_back(branch, facts, waits);
     Ok(leaves)
@@ -119,11 +77,31 @@ fn leaves_of_sides(
         branch.old form.now)) }
     ensures branch { OnOk result (branch.new ≡ branch.old) }
 {
-    let first = first_leaves(alloc, vs, scope, rest, ranges, wanted, form, branch)?;
+    let first = leaves_of_side(
+        alloc,
+        vs,
+        scope,
+        rest,
+        ranges,
+        wanted,
+        form,
+        Side::First,
+        branch,
+    )?;
     if first >= wanted {
         return Ok(first);
     }
-    let second = second_leaves(alloc, vs, scope, rest, ranges, wanted - first, form, branch)?;
+    let second = leaves_of_side(
+        alloc,
+        vs,
+        scope,
+        rest,
+        ranges,
+        wanted - first,
+        form,
+        Side::Second,
+        branch,
+    )?;
     Ok(first + second)
 }
 

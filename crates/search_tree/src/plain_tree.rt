@@ -1,10 +1,8 @@
 //! The search along the plain tree: cases in order, and then the halves of the ranges in order.
 ghost use Rattle.std.specs.Prelude.{◌≡◌, ◌-◌, ◌≤◌, ◌<◌, ◌^◌, ◌∷◌, [], suc, pos};
-ghost use Rattle.std.specs.Prelude.{◌<ℤ◌, false, ◌+ℤ◌, IfOk};
-ghost use Rattle.std.specs.Prelude.{length, true};
-ghost use Rattle.obligations.specs.Settling.{settled};
+ghost use Rattle.std.specs.Prelude.{◌<ℤ◌, false, ◌+ℤ◌, IfOk, length, true};
 ghost use Rattle.obligations.specs.Load.{need, term_load};
-ghost use Rattle.obligations.specs.Settling.{sides, added};
+ghost use Rattle.obligations.specs.Settling.{settled, added};
 ghost use Rattle.obligations.specs.Opening.{at_most, at_least};
 ghost use Rattle.obligations.specs.Reach.{some_out_of_reach};
 ghost use Rattle.obligations.specs.Obligations.{AreOwn};
@@ -14,13 +12,14 @@ ghost use Rattle.obligations.specs.Plain.{cut_leaves, side_leaves, quot_leaves, 
 ghost use Rattle.obligations.specs.Quotients as quotients;
 ghost use Rattle.obligations.specs.Quotients.{is_either, with_quotient};
 ghost use Rattle.search_tree.specs.Searching.{Ready, Ends, IsClosed};
+ghost use Rattle.search_tree.specs.Sides.{side_of};
 
 use crate::closing::try_close;
 use crate::halves::{
     Halves, add_above, add_at_most, first_halves, high_half, low_half, split_node,
 };
 use crate::leaf::refute_leaf;
-use crate::sides::{cut_back, is_either, settle_first, settle_second};
+use crate::sides::{Side, cut_back, is_either, settle_side};
 use crate::trail::{Ended, Trail, put_node};
 use core_terms::{CForm, Range};
 use obligations::{
@@ -28,16 +27,17 @@ use obligations::{
 };
 use std::alloc::{AllocError, Global};
 
-/// Refutes a branch with the first side of a formula.
+/// Refutes a branch with a side of a formula.
 #[cycle(search)]
 #[tactic(auto, using(crate::proofs::SearchLaws::undo_laws))]
-fn refute_first(
+fn refute_side(
     alloc: Global,
     vs: &[Variable],
     scope: &[Variable],
     rest: u32,
     ranges: &[Range],
     form: &CForm,
+    side: Side,
     branch: &mut Branch,
     trail: &mut Trail,
 ) -> Result<Ended, AllocError>
@@ -45,46 +45,15 @@ fn refute_first(
     requires scope { scope.now ≡ scopes.scope_of vs.now branch.old }
     requires rest { rest ≤ 960 }
     requires form { (need form.now).yes ≤ 2 ^ 63 }
-    requires ready { Ready vs.now rest ranges.now (settled scope.now (sides form.now).0 branch.old) }
+    requires ready { Ready vs.now rest ranges.now (settled scope.now (side_of side form.now) branch.old) }
     ensures ends { IfOk result (λ e. Ends vs.now rest (plain_leaves vs.now rest ranges.now
-        (settled scope.now (sides form.now).0 branch.old)) (settled scope.now (sides form.now).0 branch.old) trail.old
-        trail.new e) }
+        (settled scope.now (side_of side form.now) branch.old))
+        (settled scope.now (side_of side form.now) branch.old) trail.old trail.new e) }
     ensures branch { IfOk result (λ e. IsClosed e → branch.new ≡ branch.old) }
 {
     let facts = branch.facts.len();
     let waits = branch.waiting.len();
-    settle_first(alloc, scope, form, branch)?;
-    let ended = refute(alloc, vs, scope, rest, ranges, branch, trail)?;
-    cut_back(branch, facts, waits);
-    Ok(ended)
-}
-
-/// Refutes a branch with the second side of a formula.
-#[cycle(search)]
-#[tactic(auto, using(crate::proofs::SearchLaws::undo_laws))]
-fn refute_second(
-    alloc: Global,
-    vs: &[Variable],
-    scope: &[Variable],
-    rest: u32,
-    ranges: &[Range],
-    form: &CForm,
-    branch: &mut Branch,
-    trail: &mut Trail,
-) -> Result<Ended, AllocError>
-    requires own { AreOwn vs.now }
-    requires scope { scope.now ≡ scopes.scope_of vs.now branch.old }
-    requires rest { rest ≤ 960 }
-    requires form { (need form.now).yes ≤ 2 ^ 63 }
-    requires ready { Ready vs.now rest ranges.now (settled scope.now (sides form.now).1 branch.old) }
-    ensures ends { IfOk result (λ e. Ends vs.now rest (plain_leaves vs.now rest ranges.now
-        (settled scope.now (sides form.now).1 branch.old)) (settled scope.now (sides form.now).1 branch.old) trail.old
-        trail.new e) }
-    ensures branch { IfOk result (λ e. IsClosed e → branch.new ≡ branch.old) }
-{
-    let facts = branch.facts.len();
-    let waits = branch.waiting.len();
-    settle_second(alloc, scope, form, branch)?;
+    settle_side(alloc, scope, form, side, branch)?;
     let ended = refute(alloc, vs, scope, rest, ranges, branch, trail)?;
     cut_back(branch, facts, waits);
     Ok(ended)
@@ -114,9 +83,29 @@ fn refute_sides(
     if !put_node(trail, Node::Case(1))? {
         return Ok(Ended::Stopped);
     }
-    match refute_first(alloc, vs, scope, rest, ranges, form, branch, trail)? {
+    match refute_side(
+        alloc,
+        vs,
+        scope,
+        rest,
+        ranges,
+        form,
+        Side::First,
+        branch,
+        trail,
+    )? {
         Ended::Closed => {
-            let ended = refute_second(alloc, vs, scope, rest, ranges, form, branch, trail)?;
+            let ended = refute_side(
+                alloc,
+                vs,
+                scope,
+                rest,
+                ranges,
+                form,
+                Side::Second,
+                branch,
+                trail,
+            )?;
             Ok(ended)
         }
         Ended::Stopped => Ok(Ended::Stopped),

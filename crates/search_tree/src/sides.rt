@@ -7,40 +7,33 @@ ghost use Rattle.obligations.specs.Load.{need};
 ghost use Rattle.obligations.specs.Settling.{sides, added};
 ghost use Rattle.obligations.specs.Obligations.{AreVariables};
 ghost use Rattle.obligations.specs.Quotients.{is_either};
+ghost use Rattle.search_tree.specs.Sides.{side_of};
 
 use core_terms::CForm;
 use obligations::{Branch, Variable, settle_onto};
 use std::alloc::{AllocError, Global};
 
-/// Settles the first side of a formula.
-#[tactic(auto, using(crate::proofs::SideLaws::side_laws))]
-pub fn settle_first(
-    alloc: Global,
-    vs: &[Variable],
-    form: &CForm,
-    branch: &mut Branch,
-) -> Result<(), AllocError>
-    requires variables { AreVariables vs.now }
-    requires light { (need form.now).yes ≤ 2 ^ 63 }
-    ensures { OnOk result (branch.new ≡ settled vs.now (sides form.now).0 branch.old) }
-{
-    settle_onto(alloc, vs, sides_of(form).0, branch)?;
-    Ok(())
+/// One of the two sides of a formula that waits.
+#[derive(Clone, Copy)]
+pub enum Side {
+    First,
+    Second,
 }
 
-/// Settles the second side of a formula.
-#[tactic(auto, using(crate::proofs::SideLaws::side_laws))]
-pub fn settle_second(
+/// Settles a side of a formula.
+#[tactic(auto, using(crate::proofs::SideLaws::side_light))]
+pub fn settle_side(
     alloc: Global,
     vs: &[Variable],
     form: &CForm,
+    side: Side,
     branch: &mut Branch,
 ) -> Result<(), AllocError>
     requires variables { AreVariables vs.now }
     requires light { (need form.now).yes ≤ 2 ^ 63 }
-    ensures { OnOk result (branch.new ≡ settled vs.now (sides form.now).1 branch.old) }
+    ensures { OnOk result (branch.new ≡ settled vs.now (side_of side form.now) branch.old) }
 {
-    settle_onto(alloc, vs, sides_of(form).1, branch)?;
+    settle_onto(alloc, vs, side_of(form, side), branch)?;
     Ok(())
 }
 
@@ -51,6 +44,17 @@ pub fn is_either(form: &CForm) -> bool
     match form {
         CForm::Or(_, _) => true,
         _ => false,
+    }
+}
+
+/// A side of a formula that waits.
+fn side_of(form: &CForm, side: Side) -> &CForm
+    ensures { result.now ≡ side_of side form.now }
+{
+    let (first, second) = sides_of(form);
+    match side {
+        Side::First => first,
+        Side::Second => second,
     }
 }
 

@@ -1,10 +1,9 @@
 -- Words and bytes have at most one status and text.
 use Rattle.std.proofs.Common.{◌≡◌, ◌≤◌, ℕ, List, length, map, Bool, true, false, Option, Some, None, Result, Ok, Err}
-use Rattle.std.proofs.Common.{[], ◌∷◌, refl, sym, ap, ◌∙◌, subst, arith, cond, find, is_none, option_map, unwrap_or}
+use Rattle.std.proofs.Common.{[], ◌∷◌, refl, sym, ap, ◌∙◌, subst, arith, option_map, unwrap_or}
 use Rattle.case_tables.specs.declared.code_table.Code.{Code}
 use Rattle.unity_syntax.specs.declared.document.Document.{Document}
 use Rattle.unity_syntax.specs.declared.document.Schedule.{Schedule}
-use Rattle.unity_syntax.specs.declared.term.Inst.{Inst}
 use Rattle.names_rules.specs.Declarations.{some_of}
 use Rattle.run_correct.specs.Names.{place_of}
 use Rattle.meaning_documents.specs.Programs.{Composed, program_named, programs_of}
@@ -28,7 +27,7 @@ use Rattle.watch_schedules.specs.declared.error.WatchStop.{WatchStop}
 use Rattle.watch_correct.specs.Watched.{IsWatched, Stops}
 use Rattle.watch_correct.specs.Laws.{IsCause}
 use Rattle.watch_correct.proofs.Finding.{one_watched}
-use Rattle.watch_correct.proofs.Stops.{no_stop, one_stop}
+use Rattle.watch_correct.proofs.Stops.{no_stop, one_stop, has_schedule, none_missing, one_unknown}
 use Rattle.unity_parser.proofs.Readings.{one_document}
 use Rattle.unity_cli.specs.declared.status.Status.{Status}
 use Rattle.unity_cli.specs.Admitted.{greatest_size, greatest_bare_size, IsAdmitted, IsBad, too_long, no_reading}
@@ -372,28 +371,6 @@ replay_started d defined text a b =
     (one_replay_of d a.schedule b.schedule a.program b.program a.core b.core a.choices b.choices a.replay_is
     b.replay_is) a.trace) b.not_initial
 
--- a schedule all of whose choices name instances has none that names none
-
-none_missing : (c : Composed) (xs : List ℕ) (choices : List Inst) → map Some xs ≡ map (place_of c) choices →
-    find (λ i. is_none (place_of c i)) choices ≡ None
-none_missing c xs [] e = refl
-none_missing c [] (i ∷ rest) e = cc
-none_missing c (x ∷ xs) (i ∷ rest) e =
-    let first : Some x ≡ place_of c i = ap head_of e in
-    let others : map Some xs ≡ map (place_of c) rest = ap tail_of e in
-    ap (λ o. find_step o rest) (sym first) ∙ none_missing c xs rest others
-  where
-    head_of : List (Option ℕ) → Option ℕ
-    head_of [] = None
-    head_of (o ∷ os) = o
-
-    tail_of : List (Option ℕ) → List (Option ℕ)
-    tail_of [] = []
-    tail_of (o ∷ os) = os
-
-    find_step : Option ℕ → List Inst → Option Inst
-    find_step o more = cond (is_none o) (Some i) (find (λ j. is_none (place_of c j)) more)
-
 replay_knows : (d : Document) (at : ℕ) (s : Schedule) (c : Composed) (p : CProgram) (xs : List ℕ) →
     IsReplay d s c p xs → IsUnknown d at → ⊥
 replay_knows d at s c p xs a u =
@@ -407,11 +384,6 @@ replay_knows d at s c p xs a u =
     let never : ◌≡◌ {A = Option ℕ} None (Some at) = sym (ap (option_map (λ i. i.at)) none) ∙ u.first in
     cc
 
-has_schedule : (d : Document) (s : Schedule) → d.schedule ≡ Some s → d.schedule ≡ None → ⊥
-has_schedule d s a none =
-    let never : ◌≡◌ {A = Option Schedule} (Some s) None = sym a ∙ none in
-    cc
-
 replay_not_refused : (bytes : List ℕ) (d : Document) (defined : Bool) (text more : List ℕ) → IsAdmitted greatest_size
     bytes d →
     IsReplayed d defined text → IsNotReplayed bytes more → ⊥
@@ -423,20 +395,6 @@ replay_not_refused bytes d defined text more r a (unknown e at s u f) =
     (subst (λ x. IsUnknown x at) (read_once bytes e d s r) u)
 replay_not_refused bytes d defined text more r a (replays.IsNotReplayed.no_start e s none f) =
     replay_started d defined text a (subst HasNoReplay (read_once bytes e d s r) none)
-
-one_unknown : (d : Document) (at other : ℕ) → IsUnknown d at → IsUnknown d other → at ≡ other
-one_unknown d at other a b =
-    let schedules = same_schedule d a.schedule b.schedule a.there b.there in
-    let sources : ◌≡◌ {A = Option Composed} (Some a.program) (Some b.program) =
-    sym a.source ∙ ap (λ x. program_named x.program.text (programs_of d)) schedules ∙ b.source in
-    let programs : a.program ≡ b.program = cc in
-    let places : ◌≡◌ {A = Option ℕ} (Some at) (Some other) =
-    sym a.first ∙ ap (λ x. first_unknown a.program x) schedules ∙ ap (λ x. first_unknown x b.schedule) programs
-    ∙ b.first in
-    cc
-  where
-    first_unknown : Composed → Schedule → Option ℕ
-    first_unknown c s = option_map (λ i. i.at) (find (λ i. is_none (place_of c i)) (some_of s.choices))
 
 one_unreplayed : (bytes text more : List ℕ) → IsNotReplayed bytes text → IsNotReplayed bytes more → text ≡ more
 one_unreplayed bytes text more (replays.IsNotReplayed.bad a) (replays.IsNotReplayed.bad b) =

@@ -43,6 +43,31 @@ fn texts_have_their_tokens(rt: HostRuntime) -> Result<(), Fail> {
         reserved(Word::Program, 8, 15),
         name(16, 17),
     ];
+    let words = [
+        name(0, 5),
+        reserved(Word::Of, 6, 8),
+        name(9, 13),
+        number(12, 14, 16),
+        name(16, 18),
+    ];
+    let after_comment = [name(0, 1), name(12, 13)];
+    let greatest = [number(4611686018427387904, 0, 19), number(0, 20, 21)];
+    let cases: [(&[u8], &[Token]); 6] = [
+        (b"", &[]),
+        (b" \t\r\n# 01 $", &[]),
+        (b"unity 1\nprogram P", &program),
+        (b"offer of of_2 12ab", &words),
+        (b"a# \r b <| $\nc", &after_comment),
+        (b"4611686018427387904 0", &greatest),
+    ];
+    for (text, expected) in cases {
+        assert_eq!(rt; lex(rt.alloc(), text)?.as_slice(), expected);
+    }
+    Ok(())
+}
+
+#[test]
+fn symbols_have_their_tokens(rt: HostRuntime) -> Result<(), Fail> {
     let colons = [
         symbol(Symbol::Assign, 0, 2),
         symbol(Symbol::DoubleColon, 2, 4),
@@ -58,25 +83,7 @@ fn texts_have_their_tokens(rt: HostRuntime) -> Result<(), Fail> {
         symbol(Symbol::OpenBracket, 9, 10),
         symbol(Symbol::CloseQuantified, 10, 12),
     ];
-    let words = [
-        name(0, 5),
-        reserved(Word::Of, 6, 8),
-        name(9, 13),
-        number(12, 14, 16),
-        name(16, 18),
-    ];
-    let after_comment = [name(0, 1), name(12, 13)];
-    let greatest = [number(4611686018427387904, 0, 19), number(0, 20, 21)];
-    let cases: [(&[u8], &[Token]); 8] = [
-        (b"", &[]),
-        (b" \t\r\n# 01 $", &[]),
-        (b"unity 1\nprogram P", &program),
-        (b":=:::...", &colons),
-        (b"<[]<||<=<[|>", &brackets),
-        (b"offer of of_2 12ab", &words),
-        (b"a# \r b <| $\nc", &after_comment),
-        (b"4611686018427387904 0", &greatest),
-    ];
+    let cases: [(&[u8], &[Token]); 2] = [(b":=:::...", &colons), (b"<[]<||<=<[|>", &brackets)];
     for (text, expected) in cases {
         assert_eq!(rt; lex(rt.alloc(), text)?.as_slice(), expected);
     }

@@ -20,28 +20,28 @@ use Rattle.unity_syntax.proofs.Productions.{all_productions}
 
 -- from a tree and tokens of a form to those of its parts
 
-record Named (G : Grammar) (action : ℕ → Tree → Tree) (a : Ebnf) (y : Tree) (ts : List Terminal) : Type 0 where
-  place : ℕ
-  tree : Tree
-  derives : Derives G a tree ts
-  at : place ≡ place_of ts
-  is : action place tree ≡ y
+pub record Named (G : Grammar) (action : ℕ → Tree → Tree) (a : Ebnf) (y : Tree) (ts : List Terminal) : Type 0 where
+  pub place : ℕ
+  pub tree : Tree
+  pub derives : Derives G a tree ts
+  pub at : place ≡ place_of ts
+  pub is : action place tree ≡ y
 
-of_named : {G : Grammar} {action : ℕ → Tree → Tree} {a : Ebnf} {y : Tree} {ts : List Terminal} →
+pub of_named : {G : Grammar} {action : ℕ → Tree → Tree} {a : Ebnf} {y : Tree} {ts : List Terminal} →
     Derives G (named action a) y ts → Named G action a y ts
 of_named (is_named {place = p} {x = x} d q) = record { place = p; tree = x; derives = d; at = q; is = refl }
 
-record Joined (G : Grammar) (a b : Ebnf) (z : Tree) (ts : List Terminal) : Type 0 where
-  one : Tree
-  other : Tree
-  front : List Terminal
-  more : List Terminal
-  earlier : Derives G a one front
-  later : Derives G b other more
-  split : ts ≡ front ++ more
-  is : pair one other ≡ z
+pub record Joined (G : Grammar) (a b : Ebnf) (z : Tree) (ts : List Terminal) : Type 0 where
+  pub one : Tree
+  pub other : Tree
+  pub front : List Terminal
+  pub more : List Terminal
+  pub earlier : Derives G a one front
+  pub later : Derives G b other more
+  pub split : ts ≡ front ++ more
+  pub is : pair one other ≡ z
 
-of_both : {G : Grammar} {a b : Ebnf} {z : Tree} {ts : List Terminal} → Derives G (both a b) z ts → Joined G a b z ts
+pub of_both : {G : Grammar} {a b : Ebnf} {z : Tree} {ts : List Terminal} → Derives G (both a b) z ts → Joined G a b z ts
 of_both (is_both {x = x} {y = y} {us = us} {vs = vs} d1 d2 q) = record {
   one = x;
   other = y;

@@ -2,7 +2,7 @@
 use Rattle.std.proofs.Common.{◌≡◌, ℕ, List, [], ◌∷◌, ◌++◌, refl, sym, ap, ◌∙◌, subst}
 use Rattle.std.specs.Prelude.{IsTrue}
 use Rattle.case_tables.specs.declared.word_table.Word.{Word}
-use Rattle.grammar_theory.specs.Ebnf.{Terminal, Tree, numeral, pair, node, Ebnf, token, version, both, named, Grammar}
+use Rattle.grammar_theory.specs.Ebnf.{Terminal, Tree, numeral, pair, node, token, version, Grammar}
 use Rattle.grammar_theory.specs.Ebnf.{has, place_of, Derives, is_token, is_version, is_both, is_named}
 use Rattle.grammar_theory.proofs.Classes.{has_one}
 use Rattle.unity_syntax.specs.declared.document.Document.{Document}
@@ -12,41 +12,9 @@ use Rattle.unity_syntax.specs.Grammar.{grammar, document_, second}
 use Rattle.unity_syntax.specs.View.{view}
 use Rattle.unity_syntax.proofs.Productions.{all_productions}
 use Rattle.upgraded_texts.specs.Upgraded.{upgraded}
+use Rattle.unity_parser.proofs.Parts.{of_named, of_both}
 
 -- from a tree and tokens of a form to those of its parts
-
-record Named (G : Grammar) (action : ℕ → Tree → Tree) (a : Ebnf) (y : Tree) (ts : List Terminal) : Type 0 where
-  place : ℕ
-  tree : Tree
-  derives : Derives G a tree ts
-  at : place ≡ place_of ts
-  is : action place tree ≡ y
-
-of_named : {G : Grammar} {action : ℕ → Tree → Tree} {a : Ebnf} {y : Tree} {ts : List Terminal} →
-    Derives G (named action a) y ts → Named G action a y ts
-of_named (is_named {place = p} {x = x} d q) = record { place = p; tree = x; derives = d; at = q; is = refl }
-
-record Joined (G : Grammar) (a b : Ebnf) (z : Tree) (ts : List Terminal) : Type 0 where
-  one : Tree
-  other : Tree
-  front : List Terminal
-  more : List Terminal
-  earlier : Derives G a one front
-  later : Derives G b other more
-  split : ts ≡ front ++ more
-  is : pair one other ≡ z
-
-of_both : {G : Grammar} {a b : Ebnf} {z : Tree} {ts : List Terminal} → Derives G (both a b) z ts → Joined G a b z ts
-of_both (is_both {x = x} {y = y} {us = us} {vs = vs} d1 d2 q) = record {
-  one = x;
-  other = y;
-  front = us;
-  more = vs;
-  earlier = d1;
-  later = d2;
-  split = q;
-  is = refl;
-}
 
 record Versioned (c : ℕ) (z : Tree) (ts : List Terminal) : Type 0 where
   number : Terminal

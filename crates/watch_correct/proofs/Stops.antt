@@ -26,7 +26,7 @@ use Rattle.watch_correct.proofs.Finding.{moved_plan, one_replay, replay_in}
 
 -- ---- what excludes what
 
-has_schedule : (d : Document) (s : Schedule) → d.schedule ≡ Some s → d.schedule ≡ None → ⊥
+pub has_schedule : (d : Document) (s : Schedule) → d.schedule ≡ Some s → d.schedule ≡ None → ⊥
 has_schedule d s a none =
     let never : ◌≡◌ {A = Option Schedule} (Some s) None = sym a ∙ none in
     cc
@@ -37,7 +37,7 @@ same_schedule d s t a b =
     cc
 
 -- a schedule all of whose choices name instances has none that names none
-none_missing : (c : Composed) (xs : List ℕ) (choices : List Inst) → map Some xs ≡ map (place_of c) choices →
+pub none_missing : (c : Composed) (xs : List ℕ) (choices : List Inst) → map Some xs ≡ map (place_of c) choices →
     find (λ i. is_none (place_of c i)) choices ≡ None
 none_missing c xs [] e = refl
 none_missing c [] (i ∷ rest) e = cc
@@ -97,7 +97,7 @@ many_no_ending d ending text a b =
 
 -- ---- one of each
 
-one_unknown : (d : Document) (at other : ℕ) → IsUnknown d at → IsUnknown d other → at ≡ other
+pub one_unknown : (d : Document) (at other : ℕ) → IsUnknown d at → IsUnknown d other → at ≡ other
 one_unknown d at other a b =
     let schedules = same_schedule d a.schedule b.schedule a.there b.there in
     let sources : ◌≡◌ {A = Option Composed} (Some a.program) (Some b.program) =

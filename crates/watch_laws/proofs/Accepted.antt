@@ -1,5 +1,5 @@
 -- Where a document is accepted, nothing is violated in any execution.
-use Rattle.std.proofs.Common.{◌≡◌, ℕ, zero, suc, ◌+◌, ◌<◌, nat_eq, ℤ, List, [], ◌∷◌, ◌++◌, map, length, slice_get}
+use Rattle.std.proofs.Common.{◌≡◌, ℕ, zero, suc, ◌+◌, ◌<◌, nat_eq, ℤ, List, [], ◌∷◌, ◌++◌, map, slice_get}
 use Rattle.std.proofs.Common.{take}
 use Rattle.std.proofs.Common.{Bool, true, false, cond, IsTrue, Option, Some, None, refl, sym, ap, ◌∙◌, subst}
 use Rattle.std.proofs.Common.{arith}
@@ -10,13 +10,13 @@ use Rattle.std.proofs.lemmas.Bool.{eqb-true}
 use Rattle.case_tables.specs.declared.kind_table.Kind.{Kind}
 use Rattle.meaning_states.specs.State.{State, int_eq}
 use Rattle.meaning_states.proofs.StepTheorems.{and_left, and_right, same_number}
-use Rattle.meaning_documents.specs.Execution.{System, Steps, IsExecution, act_step, chosen_step, system_of}
+use Rattle.meaning_documents.specs.Execution.{System, IsExecution, act_step, chosen_step, system_of}
 use Rattle.meaning_documents.specs.Setting.{slot_ranges}
 use Rattle.meaning_documents.specs.Programs.{document_setting}
 use Rattle.meaning_documents.specs.Properties.{Test, but_not, Everywhere, IsAlwaysDefined, IsInvariant}
-use Rattle.meaning_documents.proofs.ExecutionTheorems.{prefix_is_execution, extended, get_at, every_state_in_range}
+use Rattle.meaning_documents.proofs.ExecutionTheorems.{prefix_is_execution, get_at, every_state_in_range}
 use Rattle.meaning_laws.specs.Stands.{EnsuresStands}
-use Rattle.meaning_laws.proofs.StandingTheorems.{unless_holds}
+use Rattle.meaning_laws.proofs.StandingTheorems.{unless_holds, some_step, after_choice}
 use Rattle.meaning_laws.proofs.AlikeTheorems.{runs_alike}
 use Rattle.core_terms.specs.declared.programs.CSlot.{CSlot}
 use Rattle.core_terms.specs.declared.programs.CStmt.{CStmt}
@@ -87,30 +87,6 @@ first_named h e (t ∷ ts) i (suc place) s apart at named =
     go false one = refl
 
 -- what the named instance does
-
-some_step : (o : Option State) → o ≢ None → (t : State) × (o ≡ Some t)
-some_step None h = absurd (h refl)
-some_step (Some t) h = (t, refl)
-
-last_of_prefix : (x : System) (s : State) (cs : List ℕ) (ts : List State) → Steps x s cs ts →
-    (place : ℕ) (now : State) →
-    slice_get (s ∷ ts) place ≡ Some now → slice_get (s ∷ take place ts) (length (take place cs)) ≡ Some now
-last_of_prefix x s cs ts f zero now e = e
-last_of_prefix x s [] [] f (suc place) now e = cc
-last_of_prefix x s [] (t ∷ ts) f (suc place) now e = absurd f
-last_of_prefix x s (c ∷ cs) [] f (suc place) now e = absurd f
-last_of_prefix x s (c ∷ cs) (t ∷ ts) f (suc place) now e = last_of_prefix x t cs ts f.1 place now e
-
-after_choice : (x : System) (u : Test) → IsInvariant x u → (first : State) (choices : List ℕ) (later : List State) →
-    IsExecution x first choices later → (place : ℕ) (now next : State) (choice : ℕ) →
-    slice_get (first ∷ later) place ≡ Some now → chosen_step x choice now ≡ Some next → IsTrue (u next)
-after_choice x u always first choices later run place now next choice e f =
-    let cut = prefix_is_execution x first choices later run place in
-    let last = last_of_prefix x first choices later run.steps place now e in
-    let further = extended x first (take place choices) (take place later) cut.steps choice now next last f in
-    always first (take place choices ++ (choice ∷ [])) (take place later ++ (next ∷ []))
-    (record { starts = run.starts; steps = further.0 })
-    (length (take place choices ++ (choice ∷ []))) next further.1
 
 helps_always : (x : System) (u p q : Test) (choice : ℕ) (helper : Option ℕ) → helper ≡ Some choice →
     IsInvariant x u → IsAlwaysDefined x → EnsuresStands x u p q choice →

@@ -1,9 +1,8 @@
 // What is told of a schedule that was watched.
-ghost use Rattle.std.specs.Prelude.{◌≡◌, ◌<◌, ◌≤◌, ◌++◌, All, IfOk, OnOk, length, slice_get, find, nat_eq, unwrap_or};
+ghost use Rattle.std.specs.Prelude.{◌≡◌, ◌<◌, ◌≤◌, ◌++◌, All, IfOk, OnOk, length, slice_get, unwrap_or};
 ghost use Rattle.std.specs.Prelude.{[]};
 ghost use Rattle.std.specs.Fmt.{signed_decimal};
 ghost use Rattle.std.specs.List.{flat_map};
-ghost use Rattle.std.specs.Option.{option_copied};
 ghost use Rattle.schedule_replay.specs.Lines as line;
 ghost use Rattle.cli_texts.specs.Verdicts as verdict;
 ghost use Rattle.certificate_printing.specs.Findings as finding;
@@ -15,7 +14,8 @@ ghost use Rattle.watch_schedules.specs.Telling as told;
 use crate::text_sink::TextSink;
 use crate::watching::WatchedSchedule;
 use case_tables::Kind;
-use core_terms::{CDocument, CProgram, CProof, CStep};
+use certificate_printing::names_of;
+use core_terms::{CDocument, CProgram};
 use fair_rounds::{Record, rounds};
 use schedule_replay::write_line;
 use std::alloc::{AllocError, Global};
@@ -168,43 +168,6 @@ fn push_params(
         push_at(alloc, words, names, values, place, text)?;
     }
     Ok(())
-}
-
-// The step of this name.
-fn find_step(name: u32, steps: &[CStep]) -> Option<&CStep>
-    ensures { option_copied result ≡ find (λ s. nat_eq s.name name) steps.now }
-{
-    for step in steps {
-        if step.name == name {
-            return Some(step);
-        }
-    }
-    None
-}
-
-// The proof of the program of this name.
-fn find_proof(program: u32, proofs: &[CProof]) -> Option<&CProof>
-    ensures { option_copied result ≡ find (λ p. nat_eq p.program program) proofs.now }
-{
-    for proof in proofs {
-        if proof.program == program {
-            return Some(proof);
-        }
-    }
-    None
-}
-
-// The names of a step's parameters.
-fn names_of(doc: &CDocument, program: u32, step: u32) -> &[u32]
-    ensures { result.now ≡ finding.names_of doc.now program step }
-{
-    match find_proof(program, doc.proofs.as_slice()) {
-        Some(proof) => match find_step(step, proof.steps.as_slice()) {
-            Some(found) => found.param_names.as_slice(),
-            None => &[],
-        },
-        None => &[],
-    }
 }
 
 // The choice that led to a place.

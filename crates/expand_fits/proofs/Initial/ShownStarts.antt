@@ -56,28 +56,8 @@ use Rattle.expand_fits_parts.proofs.Conditions.Programs.{Makes, all_cores, union
 use Rattle.expand_fits.proofs.Initial.StartSlots.{Follow, follow_all}
 use Rattle.expand_fits.proofs.Initial.Starts.{InitFine, all_fine, located, start_at, same_variables}
 use Rattle.expand_fits.specs.StartConditions.{StartsShown}
-use Rattle.expand_fits.proofs.Initial.Merged.{shown_first, shown_second}
-
--- each entry is a word of an enumeration, or was declared by one of these programs
-abbrev Told : List ℕ → List ℕ → Named → Type 0
-Told before word n = (is_value n.meaning || list_any (nat_eq n.program) before) ≡ true
-
-told_value : (before : List ℕ) (p : ℕ) (n : Named) → list_any (nat_eq p) before ≡ false → n.program ≡ p →
-    (is_value n.meaning || list_any (nat_eq n.program) before) ≡ true → is_value n.meaning ≡ true
-told_value before p n clear e h = by (is_value n.meaning)
-    (subst (λ q. (is_value n.meaning || list_any (nat_eq q) before) ≡ true) e h)
-  where
-    by : (b : Bool) → (b || list_any (nat_eq p) before) ≡ true → b ≡ true
-    by true k = refl
-    by false k = cc (clear, k)
-
-told_more : (a b c : Bool) → (a || b) ≡ true → (a || (c || b)) ≡ true
-told_more true b c h = refl
-told_more false b c h = or_second c b h
-
-no_value : (b : Bool) → b ≡ true → b ≡ false → ⊥
-no_value true h k = cc k
-no_value false h k = cc h
+use Rattle.expand_fits_parts.proofs.Forms.Unions.{shown_first, shown_second}
+use Rattle.expand_fits_parts.proofs.Forms.ShownPrograms.{Told, told_value, told_more, no_value}
 
 clear_of : (b : Bool) → not b ≡ true → b ≡ false
 clear_of true h = cc h

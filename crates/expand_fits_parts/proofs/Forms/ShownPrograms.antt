@@ -70,10 +70,10 @@ use Rattle.expand_fits_parts.proofs.Forms.Placed.{slots_shown}
 use Rattle.expand_fits_parts.proofs.Forms.Bodies.{PlainHas, cores_have, declared-among}
 
 -- each entry is a word of an enumeration, or was declared by one of these programs
-abbrev Told : List ℕ → List ℕ → Named → Type 0
+abbrev pub Told : List ℕ → List ℕ → Named → Type 0
 Told before word n = (is_value n.meaning || list_any (nat_eq n.program) before) ≡ true
 
-told_value : (before : List ℕ) (p : ℕ) (n : Named) → list_any (nat_eq p) before ≡ false → n.program ≡ p →
+pub told_value : (before : List ℕ) (p : ℕ) (n : Named) → list_any (nat_eq p) before ≡ false → n.program ≡ p →
     (is_value n.meaning || list_any (nat_eq n.program) before) ≡ true → is_value n.meaning ≡ true
 told_value before p n clear e h = by (is_value n.meaning)
     (subst (λ q. (is_value n.meaning || list_any (nat_eq q) before) ≡ true) e h)
@@ -82,11 +82,11 @@ told_value before p n clear e h = by (is_value n.meaning)
     by true k = refl
     by false k = cc (clear, k)
 
-told_more : (a b c : Bool) → (a || b) ≡ true → (a || (c || b)) ≡ true
+pub told_more : (a b c : Bool) → (a || b) ≡ true → (a || (c || b)) ≡ true
 told_more true b c h = refl
 told_more false b c h = or_second c b h
 
-no_value : (b : Bool) → b ≡ true → b ≡ false → ⊥
+pub no_value : (b : Bool) → b ≡ true → b ≡ false → ⊥
 no_value true h k = cc k
 no_value false h k = cc h
 

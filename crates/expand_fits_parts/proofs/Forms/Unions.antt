@@ -100,11 +100,11 @@ with_old slots n m h = by (nat_lt m n) (nat_lt n m) refl refl
         let same : n ≡ m = omega (arith, a, b) in
         subst (λ k. is_shown (with_slot slots n) k ≡ true) same (with_new slots n)
 
-shown_first : (slots more : List ℕ) (m : ℕ) → is_shown slots m ≡ true → is_shown (merged slots more) m ≡ true
+pub shown_first : (slots more : List ℕ) (m : ℕ) → is_shown slots m ≡ true → is_shown (merged slots more) m ≡ true
 shown_first slots [] m h = h
 shown_first slots (n ∷ more) m h = shown_first (with_slot slots n) more m (with_old slots n m h)
 
-shown_second : (slots more : List ℕ) (m : ℕ) → is_shown more m ≡ true → is_shown (merged slots more) m ≡ true
+pub shown_second : (slots more : List ℕ) (m : ℕ) → is_shown more m ≡ true → is_shown (merged slots more) m ≡ true
 shown_second slots [] m h = cc h
 shown_second slots (n ∷ more) m h = by (nat_eq n m) (eqb-true n m) h (shown_second (with_slot slots n) more m)
   where

@@ -10,11 +10,8 @@ decreases-look_anew l = 12 * l.depth + 11
 abbrev pub decreases-look_at_choice : goal.decreases-look_at_choice
 decreases-look_at_choice l = 12 * l.depth + 10
 
-abbrev pub decreases-look_at_either : goal.decreases-look_at_either
-decreases-look_at_either l = 12 * l.depth + 9
-
-abbrev pub decreases-look_at_both : goal.decreases-look_at_both
-decreases-look_at_both l = 12 * l.depth + 9
+abbrev pub decreases-look_at_two : goal.decreases-look_at_two
+decreases-look_at_two l = 12 * l.depth + 9
 
 abbrev pub decreases-look_at_condition : goal.decreases-look_at_condition
 decreases-look_at_condition l = 12 * l.depth + 9

@@ -141,26 +141,28 @@ pub unwritten-returns-in-And : goal.unwritten-returns-in-And
 unwritten-returns-in-And t c =
     let f = λ (x : Expr). unwritten_count x (scope c.args.known.now c.args.env.now) in
     rw (c.in-And.is, unwritten-And) (c.parts.ensures (f c.in-And.first)
-    (subst (λ (x : Expr). TellsCount c.unwritten-in-And.result (f x)) c.get-in-And.ensures c.unwritten-in-And.ensures))
+    (subst (λ (x : Expr). TellsCount c.unwritten-first.result (f x)) c.get-in-And.ensures c.unwritten-first.ensures))
 
 pub unwritten-returns-in-Or : goal.unwritten-returns-in-Or
 unwritten-returns-in-Or t c =
     let f = λ (x : Expr). unwritten_count x (scope c.args.known.now c.args.env.now) in
     rw (c.in-Or.is, unwritten-Or) (c.parts-in-Or.ensures (f c.in-Or.first)
-    (subst (λ (x : Expr). TellsCount c.unwritten-in-Or.result (f x)) c.get-in-Or.ensures c.unwritten-in-Or.ensures))
+    (subst (λ (x : Expr). TellsCount c.unwritten-first-in-Or.result (f x)) c.get-in-Or.ensures
+    c.unwritten-first-in-Or.ensures))
 
 pub unwritten-returns-in-Sum : goal.unwritten-returns-in-Sum
 unwritten-returns-in-Sum t c =
     let f = λ (x : Expr). unwritten_count x (scope c.args.known.now c.args.env.now) in
     rw (c.in-Sum.is, unwritten-Sum) (c.terms.ensures (f c.in-Sum.first)
-    (subst (λ (x : Expr). TellsCount c.unwritten-in-Sum.result (f x)) c.get-in-Sum.ensures c.unwritten-in-Sum.ensures))
+    (subst (λ (x : Expr). TellsCount c.unwritten-first-in-Sum.result (f x)) c.get-in-Sum.ensures
+    c.unwritten-first-in-Sum.ensures))
 
 pub unwritten-returns-in-Product : goal.unwritten-returns-in-Product
 unwritten-returns-in-Product t c =
     let f = λ (x : Expr). unwritten_count x (scope c.args.known.now c.args.env.now) in
     rw (c.in-Product.is, unwritten-Product) (c.factors.ensures (f c.in-Product.first)
-    (subst (λ (x : Expr). TellsCount c.unwritten-in-Product.result (f x)) c.get-in-Product.ensures
-    c.unwritten-in-Product.ensures))
+    (subst (λ (x : Expr). TellsCount c.unwritten-first-in-Product.result (f x)) c.get-in-Product.ensures
+    c.unwritten-first-in-Product.ensures))
 
 pub unwritten-returns-in-Quantified : goal.unwritten-returns-in-Quantified
 unwritten-returns-in-Quantified t c =

@@ -3,7 +3,7 @@ use Rattle.unity_syntax.specs.declared.term.Term.{Term}
 use Rattle.core_terms.specs.declared.trees.CForm.{CForm}
 use Rattle.core_terms.specs.declared.documents.PTerm.{PTerm}
 use Rattle.expand_expressions.specs.Places.{scope}
-use Rattle.expand_steps.specs.declared.terms.Induction.{Induction}
+use Rattle.expand_steps.specs.declared.term_forms.Induction.{Induction}
 use Rattle.expand_steps.specs.Elements.{form_in, number_in, term_in, truth_in}
 use Rattle.expand_steps.specs.ProofTerms.{Termed, Terms, place, with_bound_name, fixed_ends, inducted_by}
 use Rattle.expand_steps.specs.ProofTerms.{second_paired, termed, weakened_by}

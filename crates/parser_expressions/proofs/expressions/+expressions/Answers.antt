@@ -8,7 +8,7 @@ use Rattle.unity_syntax.specs.Classes.{reserved, symbol}
 use Rattle.unity_syntax.specs.Kinds.{Kind, kind}
 use Rattle.unity_syntax.specs.Grammar.{grammar, over_range, pred_, quantified_}
 use Rattle.std.proofs.lemmas.Result.{err_from_is_err_and}
-use Rattle.unity_syntax.specs.View.{view_signed, view_factor, view_expr}
+use Rattle.unity_syntax.specs.View.{view_expr}
 use Rattle.parser_expressions.specs.Gives.{remaining}
 use Rattle.parser_expressions.proofs.Repetition.{goes_on, ends, fails, shorter}
 use Rattle.parser_expressions.proofs.Failing.{through, second_fails, both_read}
@@ -18,65 +18,53 @@ use Rattle.parser_expressions.proofs.JoinedReading.{gives_ands, gives_ors}
 use Rattle.parser_expressions.proofs.expressions.+expressions.Goals as goal
 
 pub more_units-items-smaller : goal.more_units-items-smaller
-more_units-items-smaller t c = shorter (is_joined c.args.by) c.args.depth (remaining c.items.rest)
-    (view_expr c.in_ok-item.item) (remaining c.in_ok-item.later) c.in_ok-item.ensures
+more_units-items-smaller t c = shorter (is_joined c.args.by) c.args.depth _ _ _ c.in_ok-item.ensures
 
 pub more_units-items-preserved : goal.more_units-items-preserved
-more_units-items-preserved t c = goes_on view_expr (is_joined c.args.by) c.args.depth (remaining c.args.text)
-    c.items.found (remaining c.items.rest) c.items.invariant (sym c.goes_on.ensures ∙ c.items-test.true)
-    c.in_ok-item.item (remaining c.in_ok-item.later) c.in_ok-item.ensures _
+more_units-items-preserved t c = goes_on (is_joined c.args.by) c.items.invariant
+    (sym c.goes_on.ensures ∙ c.items-test.true) c.in_ok-item.item _ c.in_ok-item.ensures _
     (c.in_ok-push.ensures.ok ∙ ap (λ (x : Expr). c.items.found ++ x ∷ []) c.into_inner.ensures)
 
 pub more_units-returns : goal.more_units-returns
-more_units-returns t c = ends view_expr (is_joined c.args.by) c.args.depth (remaining c.args.text) c.items.found
-    (remaining c.items.rest) c.items.invariant (sym c.goes_on.ensures ∙ c.items-test.false)
+more_units-returns t c = ends (is_joined c.args.by) c.items.invariant (sym c.goes_on.ensures ∙ c.items-test.false)
 
 pub more_units-returns-in_err-item : goal.more_units-returns-in_err-item
 more_units-returns-in_err-item t c = let p = err_from_is_err_and c.from_residual.result c.from_residual.ensures.1 in rw
     (p.1, p.2)
-    (fails view_expr (is_joined c.args.by) c.args.depth (remaining c.args.text) c.items.found (remaining c.items.rest)
-    c.items.invariant (sym c.goes_on.ensures ∙ c.items-test.true) _ c.in_err-item.ensures)
+    (fails (is_joined c.args.by) c.items.invariant (sym c.goes_on.ensures ∙ c.items-test.true) _ c.in_err-item.ensures)
 
 pub more_products-items-smaller : goal.more_products-items-smaller
-more_products-items-smaller t c = shorter is_summand c.args.depth (remaining c.items.rest)
-    (view_signed view_expr c.in_ok-item.item) (remaining c.in_ok-item.later) c.in_ok-item.ensures
+more_products-items-smaller t c = shorter is_summand c.args.depth _ _ _ c.in_ok-item.ensures
 
 pub more_products-items-preserved : goal.more_products-items-preserved
-more_products-items-preserved t c = goes_on (view_signed view_expr) is_summand c.args.depth (remaining c.args.text)
-    c.items.found (remaining c.items.rest) c.items.invariant (sym c.begins_sign.ensures ∙ c.items-test.true)
-    c.in_ok-item.item (remaining c.in_ok-item.later) c.in_ok-item.ensures _
+more_products-items-preserved t c = goes_on is_summand c.items.invariant
+    (sym c.begins_sign.ensures ∙ c.items-test.true) c.in_ok-item.item _ c.in_ok-item.ensures _
     (c.in_ok-push.ensures.ok ∙ ap (λ (x : Expr). c.items.found ++ (c.in_ok-item.item.0, x) ∷ []) c.into_inner.ensures)
 
 pub more_products-returns : goal.more_products-returns
-more_products-returns t c = ends (view_signed view_expr) is_summand c.args.depth (remaining c.args.text) c.items.found
-    (remaining c.items.rest) c.items.invariant (sym c.begins_sign.ensures ∙ c.items-test.false)
+more_products-returns t c = ends is_summand c.items.invariant (sym c.begins_sign.ensures ∙ c.items-test.false)
 
 pub more_products-returns-in_err-item : goal.more_products-returns-in_err-item
 more_products-returns-in_err-item t c = let p = err_from_is_err_and c.from_residual.result c.from_residual.ensures.1 in
     rw (p.1, p.2)
-    (fails (view_signed view_expr) is_summand c.args.depth (remaining c.args.text) c.items.found
-    (remaining c.items.rest) c.items.invariant (sym c.begins_sign.ensures ∙ c.items-test.true) _
+    (fails is_summand c.items.invariant (sym c.begins_sign.ensures ∙ c.items-test.true) _
     c.in_err-item.ensures)
 
 pub more_factors-items-smaller : goal.more_factors-items-smaller
-more_factors-items-smaller t c = shorter is_factor c.args.depth (remaining c.items.rest)
-    (view_factor view_expr c.in_ok-item.item) (remaining c.in_ok-item.later) c.in_ok-item.ensures
+more_factors-items-smaller t c = shorter is_factor c.args.depth _ _ _ c.in_ok-item.ensures
 
 pub more_factors-items-preserved : goal.more_factors-items-preserved
-more_factors-items-preserved t c = goes_on (view_factor view_expr) is_factor c.args.depth (remaining c.args.text)
-    c.items.found (remaining c.items.rest) c.items.invariant (sym c.begins_operator.ensures ∙ c.items-test.true)
-    c.in_ok-item.item (remaining c.in_ok-item.later) c.in_ok-item.ensures _
+more_factors-items-preserved t c = goes_on is_factor c.items.invariant
+    (sym c.begins_operator.ensures ∙ c.items-test.true) c.in_ok-item.item _ c.in_ok-item.ensures _
     (c.in_ok-push.ensures.ok ∙ ap (λ (x : Expr). c.items.found ++ (c.in_ok-item.item.0, x) ∷ []) c.into_inner.ensures)
 
 pub more_factors-returns : goal.more_factors-returns
-more_factors-returns t c = ends (view_factor view_expr) is_factor c.args.depth (remaining c.args.text) c.items.found
-    (remaining c.items.rest) c.items.invariant (sym c.begins_operator.ensures ∙ c.items-test.false)
+more_factors-returns t c = ends is_factor c.items.invariant (sym c.begins_operator.ensures ∙ c.items-test.false)
 
 pub more_factors-returns-in_err-item : goal.more_factors-returns-in_err-item
 more_factors-returns-in_err-item t c = let p = err_from_is_err_and c.from_residual.result c.from_residual.ensures.1 in
     rw (p.1, p.2)
-    (fails (view_factor view_expr) is_factor c.args.depth (remaining c.args.text) c.items.found
-    (remaining c.items.rest) c.items.invariant (sym c.begins_operator.ensures ∙ c.items-test.true) _
+    (fails is_factor c.items.invariant (sym c.begins_operator.ensures ∙ c.items-test.true) _
     c.in_err-item.ensures)
 
 pub joined-returns-then-begins_reserved : goal.joined-returns-then-begins_reserved

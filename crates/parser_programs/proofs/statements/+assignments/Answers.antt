@@ -16,24 +16,20 @@ use Rattle.parser_programs.proofs.ItemForms.{is_component}
 use Rattle.parser_programs.proofs.statements.+assignments.Goals as goal
 
 pub more_components-items-smaller : goal.more_components-items-smaller
-more_components-items-smaller t c = shorter is_component c.args.depth (remaining c.items.rest)
-    (view_component c.in_ok-item.item) (remaining c.in_ok-item.later) c.in_ok-item.ensures
+more_components-items-smaller t c = shorter is_component c.args.depth _ _ _ c.in_ok-item.ensures
 
 pub more_components-items-preserved : goal.more_components-items-preserved
-more_components-items-preserved t c = goes_on view_component is_component c.args.depth (remaining c.args.text)
-    c.items.found (remaining c.items.rest) c.items.invariant (sym c.begins_symbol.ensures ∙ c.items-test.true)
-    c.in_ok-item.item (remaining c.in_ok-item.later) c.in_ok-item.ensures _
+more_components-items-preserved t c = goes_on is_component c.items.invariant
+    (sym c.begins_symbol.ensures ∙ c.items-test.true) c.in_ok-item.item _ c.in_ok-item.ensures _
     (c.in_ok-push.ensures.ok ∙ ap (λ (x : Component). c.items.found ++ x ∷ []) c.into_inner.ensures)
 
 pub more_components-returns : goal.more_components-returns
-more_components-returns t c = ends view_component is_component c.args.depth (remaining c.args.text) c.items.found
-    (remaining c.items.rest) c.items.invariant (sym c.begins_symbol.ensures ∙ c.items-test.false)
+more_components-returns t c = ends is_component c.items.invariant (sym c.begins_symbol.ensures ∙ c.items-test.false)
 
 pub more_components-returns-in_err-item : goal.more_components-returns-in_err-item
 more_components-returns-in_err-item t c =
     let p = err_from_is_err_and c.from_residual.result c.from_residual.ensures.1 in rw (p.1, p.2)
-    (fails view_component is_component c.args.depth (remaining c.args.text) c.items.found (remaining c.items.rest)
-    c.items.invariant (sym c.begins_symbol.ensures ∙ c.items-test.true) _ c.in_err-item.ensures)
+    (fails is_component c.items.invariant (sym c.begins_symbol.ensures ∙ c.items-test.true) _ c.in_err-item.ensures)
 
 pub assign-returns-in_err-rest : goal.assign-returns-in_err-rest
 unfolding assign_

@@ -16,24 +16,20 @@ use Rattle.parser_programs.proofs.ItemForms.{is_item}
 use Rattle.parser_programs.proofs.statements.+items.Goals as goal
 
 pub more_items-items-smaller : goal.more_items-items-smaller
-more_items-items-smaller t c = shorter is_item c.args.depth (remaining c.items.rest) (view_item c.in_ok-item.item)
-    (remaining c.in_ok-item.later) c.in_ok-item.ensures
+more_items-items-smaller t c = shorter is_item c.args.depth _ _ _ c.in_ok-item.ensures
 
 pub more_items-items-preserved : goal.more_items-items-preserved
-more_items-items-preserved t c = goes_on view_item is_item c.args.depth (remaining c.args.text) c.items.found
-    (remaining c.items.rest) c.items.invariant (sym c.begins_symbol.ensures ∙ c.items-test.true) c.in_ok-item.item
-    (remaining c.in_ok-item.later) c.in_ok-item.ensures _ (c.in_ok-push.ensures.ok ∙ ap
+more_items-items-preserved t c = goes_on is_item c.items.invariant (sym c.begins_symbol.ensures ∙ c.items-test.true)
+    c.in_ok-item.item _ c.in_ok-item.ensures _ (c.in_ok-push.ensures.ok ∙ ap
     (λ (x : Item). c.items.found ++ x ∷ []) c.into_inner.ensures)
 
 pub more_items-returns : goal.more_items-returns
-more_items-returns t c = ends view_item is_item c.args.depth (remaining c.args.text) c.items.found
-    (remaining c.items.rest) c.items.invariant (sym c.begins_symbol.ensures ∙ c.items-test.false)
+more_items-returns t c = ends is_item c.items.invariant (sym c.begins_symbol.ensures ∙ c.items-test.false)
 
 pub more_items-returns-in_err-item : goal.more_items-returns-in_err-item
 more_items-returns-in_err-item t c = let p = err_from_is_err_and c.from_residual.result c.from_residual.ensures.1 in rw
     (p.1, p.2)
-    (fails view_item is_item c.args.depth (remaining c.args.text) c.items.found (remaining c.items.rest)
-    c.items.invariant (sym c.begins_symbol.ensures ∙ c.items-test.true) _ c.in_err-item.ensures)
+    (fails is_item c.items.invariant (sym c.begins_symbol.ensures ∙ c.items-test.true) _ c.in_err-item.ensures)
 
 pub items-returns-in_err-rest : goal.items-returns-in_err-rest
 unfolding items_

@@ -1,25 +1,19 @@
 use Rattle.std.proofs.Common.{sym, ◌∙◌}
 use Rattle.std.proofs.lemmas.Result.{err_from_is_err_and}
-use Rattle.unity_syntax.specs.View.{view_choice}
-use Rattle.parser_expressions.specs.Gives.{remaining}
 use Rattle.parser_expressions.proofs.Repetition.{goes_on, ends, fails, shorter}
 use Rattle.parser_programs.proofs.ItemForms.{is_choice}
 use Rattle.parser_programs.proofs.statements.more_choices.Goals as goal
 
 pub items-smaller : goal.items-smaller
-items-smaller c = shorter is_choice c.args.depth (remaining c.items.rest) (view_choice c.in_ok-item.item)
-    (remaining c.in_ok-item.later) c.in_ok-item.ensures
+items-smaller c = shorter is_choice c.args.depth _ _ _ c.in_ok-item.ensures
 
 pub items-preserved : goal.items-preserved
-items-preserved c = goes_on view_choice is_choice c.args.depth (remaining c.args.text) c.items.found
-    (remaining c.items.rest) c.items.invariant (sym c.begins_symbol.ensures ∙ c.items-test.true) c.in_ok-item.item
-    (remaining c.in_ok-item.later) c.in_ok-item.ensures _ c.in_ok-push.ensures.ok
+items-preserved c = goes_on is_choice c.items.invariant (sym c.begins_symbol.ensures ∙ c.items-test.true)
+    c.in_ok-item.item _ c.in_ok-item.ensures _ c.in_ok-push.ensures.ok
 
 pub returns : goal.returns
-returns c = ends view_choice is_choice c.args.depth (remaining c.args.text) c.items.found (remaining c.items.rest)
-    c.items.invariant (sym c.begins_symbol.ensures ∙ c.items-test.false)
+returns c = ends is_choice c.items.invariant (sym c.begins_symbol.ensures ∙ c.items-test.false)
 
 pub returns-in_err-item : goal.returns-in_err-item
 returns-in_err-item c = let p = err_from_is_err_and c.from_residual.result c.from_residual.ensures.1 in rw (p.1, p.2)
-    (fails view_choice is_choice c.args.depth (remaining c.args.text) c.items.found (remaining c.items.rest)
-    c.items.invariant (sym c.begins_symbol.ensures ∙ c.items-test.true) _ c.in_err-item.ensures)
+    (fails is_choice c.items.invariant (sym c.begins_symbol.ensures ∙ c.items-test.true) _ c.in_err-item.ensures)

@@ -15,12 +15,11 @@ pub returns-in_err-write_line-clause-part : goal.returns-in_err-write_line-claus
 returns-in_err-write_line-clause-part g c =
     let d = c.args.doc.now in
     let p = c.args.p.now in
-    let k = length p.statements in
-    let cs = choices_of k c.args.choices.now in
+    let cs = choices_of (length p.statements) c.args.choices.now in
     let start = state_of c.args.runner.now in
     let first = heading_line d p c.args.heading in
     let second = state_line d p 0 None start in
-    let rest = steps_text d p (core_system d.slots p) (rounds_line (rounds cs k)) 0 start cs in
+    let rest = steps_text d p (core_system d.slots p) (rounds_line (rounds cs (length p.statements))) 0 start cs in
     let old = g.K.Sink.written c.args.out.now in
     let new = g.K.Sink.written c.write_line.new.out in
     on_err c.from_residual-in_err-write_line.result _
@@ -33,12 +32,11 @@ pub returns-clause-part : goal.returns-clause-part
 returns-clause-part g c =
     let d = c.args.doc.now in
     let p = c.args.p.now in
-    let k = length p.statements in
-    let cs = choices_of k c.args.choices.now in
+    let cs = choices_of (length p.statements) c.args.choices.now in
     let start = state_of c.args.runner.now in
     let first = heading_line d p c.args.heading in
     let second = state_line d p 0 None start in
-    let rest = steps_text d p (core_system d.slots p) (rounds_line (rounds cs k)) 0 start cs in
+    let rest = steps_text d p (core_system d.slots p) (rounds_line (rounds cs (length p.statements))) 0 start cs in
     let old = g.K.Sink.written c.args.out.now in
     let mid = g.K.Sink.written c.write_line.new.out in
     let line = subst (λ s. Appends (g.K.Sink.written c.write_heading.new.out) mid

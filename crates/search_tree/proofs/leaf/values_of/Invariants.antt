@@ -1,5 +1,5 @@
 use Rattle.std.proofs.Common.{◌≡◌, take, map}
-use Rattle.search_tree.specs.declared.fixing.Point.{Point}
+use Rattle.search_tree.specs.declared.points.Point.{Point}
 use Rattle.search_tree.proofs.leaf.values_of.Given as goal
 
 abbrev pub invariant-loop-point : goal.invariant-loop-point

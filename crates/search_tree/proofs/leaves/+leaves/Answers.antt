@@ -10,6 +10,7 @@ use Rattle.search_tree.proofs.ReadyLaws.{ready-light, ready-first, ready-second,
 use Rattle.search_tree.proofs.ReadyLaws.{ready-high, cut-is, ready-variables, ready-exact, ready-some}
 use Rattle.search_tree.proofs.QuotFacts.{quotient-load, quotient-light, quotient-ready, number-room}
 use Rattle.search_tree.proofs.QuotLaws.{quotient-branch, quotient-scope, undone-quotient}
+use Rattle.search_tree.specs.Sides.{side_of}
 use Rattle.search_tree.proofs.CycleLaws.{whole-again, empty-list, one-less, replaced-is, quot-counted}
 use Rattle.search_tree.proofs.LeavesLaws.{few-counted, reached-leaf, whole-leaf, opened-leaves, halved-leaves}
 use Rattle.search_tree.proofs.LeavesLaws.{quotient-counted, counted-back}
@@ -114,8 +115,8 @@ some_leaves-returns-then-branch-clause-leaves t c =
     (subst (λ fs. some_out_of_reach fs ≡ true) c.as_slice.ensures
     (sym c.in_ok-some_out_of_reach.ensures ∙ c.if-branch.true))
 
-pub leaves_of_sides-first_leaves-requires : goal.leaves_of_sides-first_leaves-requires
-leaves_of_sides-first_leaves-requires t c = (
+pub leaves_of_sides-leaves_of_side-requires : goal.leaves_of_sides-leaves_of_side-requires
+leaves_of_sides-leaves_of_side-requires t c = (
   search rules,
   (
     c.requires.own,
@@ -136,8 +137,8 @@ leaves_of_sides-first_leaves-requires t c = (
   ),
 )
 
-pub leaves_of_sides-second_leaves-requires : goal.leaves_of_sides-second_leaves-requires
-leaves_of_sides-second_leaves-requires t c = (
+pub leaves_of_sides-leaves_of_side-requires-2 : goal.leaves_of_sides-leaves_of_side-requires-2
+leaves_of_sides-leaves_of_side-requires-2 t c = (
   search rules,
   (
     c.requires.own,
@@ -330,14 +331,8 @@ leaves_without-returns-clause-branch t c =
     c.in_ok-add_quotient.ensures.branch c.in_ok-leaves.ensures.branch c.len-facts.ensures c.len-waits.ensures
     refl c.cut_back.ensures
 
-pub first_leaves-settle_first-requires-clause-variables : goal.first_leaves-settle_first-requires-clause-variables
-first_leaves-settle_first-requires-clause-variables t c =
+pub leaves_of_side-settle_side-requires-clause-variables : goal.leaves_of_side-settle_side-requires-clause-variables
+leaves_of_side-settle_side-requires-clause-variables t c =
     ready-variables c.args.vs.now c.args.scope.now c.args.rest c.args.ranges.now
-    (settled c.args.scope.now (sides c.args.form.now).0 c.args.branch.now) c.requires.own c.requires.scope
-    (omega arith) c.requires.ready
-
-pub second_leaves-settle_second-requires-clause-variables : goal.second_leaves-settle_second-requires-clause-variables
-second_leaves-settle_second-requires-clause-variables t c =
-    ready-variables c.args.vs.now c.args.scope.now c.args.rest c.args.ranges.now
-    (settled c.args.scope.now (sides c.args.form.now).1 c.args.branch.now) c.requires.own c.requires.scope
+    (settled c.args.scope.now (side_of c.args.side c.args.form.now) c.args.branch.now) c.requires.own c.requires.scope
     (omega arith) c.requires.ready

@@ -19,11 +19,8 @@ decreases-leaves_of_quot l = 6 * l.rest + 4
 abbrev pub decreases-leaves_of_halves : goal.decreases-leaves_of_halves
 decreases-leaves_of_halves l = 6 * l.rest + 4
 
-abbrev pub decreases-first_leaves : goal.decreases-first_leaves
-decreases-first_leaves l = 6 * l.rest + 3
-
-abbrev pub decreases-second_leaves : goal.decreases-second_leaves
-decreases-second_leaves l = 6 * l.rest + 3
+abbrev pub decreases-leaves_of_side : goal.decreases-leaves_of_side
+decreases-leaves_of_side l = 6 * l.rest + 3
 
 abbrev pub decreases-leaves_without : goal.decreases-leaves_without
 decreases-leaves_without l = 6 * l.rest + 3

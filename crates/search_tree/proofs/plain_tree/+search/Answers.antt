@@ -12,6 +12,7 @@ use Rattle.search_tree.proofs.ReadyLaws.{ready-low, ready-high, cut-is, ready-va
 use Rattle.search_tree.proofs.ReadyLaws.{leaf-count}
 use Rattle.search_tree.proofs.QuotFacts.{quotient-load, quotient-light, quotient-ready, number-room}
 use Rattle.search_tree.proofs.QuotLaws.{quotient-branch, quotient-scope, undone-quotient}
+use Rattle.search_tree.specs.Sides.{side_of}
 use Rattle.search_tree.proofs.CycleLaws.{tried-some, empty-list, taken, not-taken, kept, put-is, stop-is}
 use Rattle.search_tree.proofs.CycleLaws.{sides-stopped, sides-first, sides-met, sides-second, halves-stopped}
 use Rattle.search_tree.proofs.CycleLaws.{halves-first, halves-met, halves-second, whole-again, one-less, opened-ends}
@@ -157,8 +158,8 @@ refute_sides-returns-then-not-branch-clause-ends t c =
     c.args.trail.now c.put_node.new.trail
     (not-taken _ _ c.in_ok-put_node.ensures c.if-not-branch.true)
 
-pub refute_sides-refute_first-requires : goal.refute_sides-refute_first-requires
-refute_sides-refute_first-requires t c = (
+pub refute_sides-refute_side-requires : goal.refute_sides-refute_side-requires
+refute_sides-refute_side-requires t c = (
   search rules,
   (
     c.requires.own,
@@ -179,10 +180,10 @@ refute_sides-refute_first-requires t c = (
   ),
 )
 
-pub refute_sides-refute_second-requires : goal.refute_sides-refute_second-requires
-refute_sides-refute_second-requires t c =
-    let same = kept c.in_ok-refute_first.field-0 c.refute_first.new.branch c.args.branch.now c.in-Closed.is
-    c.in_ok-refute_first.ensures.branch in (
+pub refute_sides-refute_side-requires-in-Closed : goal.refute_sides-refute_side-requires-in-Closed
+refute_sides-refute_side-requires-in-Closed t c =
+    let same = kept c.in_ok-refute_side.field-0 c.refute_side.new.branch c.args.branch.now c.in-Closed.is
+    c.in_ok-refute_side.ensures.branch in (
       search rules,
       (
         c.requires.own,
@@ -212,10 +213,10 @@ refute_sides-returns-in_ok-ended-in-Closed-clause-ends t c =
     sides-second c.args.vs.now c.args.scope.now c.args.rest c.args.ranges.now c.args.form.now c.args.branch.now
     c.requires.scope (omega arith)
     c.requires.either
-    c.args.trail.now c.put_node.new.trail c.refute_first.new.trail c.refute_second.new.trail
-    c.in_ok-refute_first.field-0 c.in_ok-ended-in-Closed.ended c.refute_first.new.branch
-    (record { nodes = put.0; spare = put.1 }) c.in-Closed.is c.in_ok-refute_first.ensures.ends
-    c.in_ok-refute_first.ensures.branch c.in_ok-ended-in-Closed.ensures.ends
+    c.args.trail.now c.put_node.new.trail c.refute_side.new.trail c.refute_side-in-Closed.new.trail
+    c.in_ok-refute_side.field-0 c.in_ok-ended-in-Closed.ended c.refute_side.new.branch
+    (record { nodes = put.0; spare = put.1 }) c.in-Closed.is c.in_ok-refute_side.ensures.ends
+    c.in_ok-refute_side.ensures.branch c.in_ok-ended-in-Closed.ensures.ends
 
 pub refute_sides-returns-in-Stopped-clause-ends : goal.refute_sides-returns-in-Stopped-clause-ends
 refute_sides-returns-in-Stopped-clause-ends t c =
@@ -223,17 +224,17 @@ refute_sides-returns-in-Stopped-clause-ends t c =
     sides-first c.args.vs.now c.args.scope.now c.args.rest c.args.ranges.now c.args.form.now c.args.branch.now
     c.requires.scope (omega arith)
     c.requires.either
-    c.args.trail.now c.put_node.new.trail c.refute_first.new.trail
-    c.in_ok-refute_first.field-0 (record { nodes = put.0; spare = put.1 }) c.in-Stopped.is
-    c.in_ok-refute_first.ensures.ends
+    c.args.trail.now c.put_node.new.trail c.refute_side.new.trail
+    c.in_ok-refute_side.field-0 (record { nodes = put.0; spare = put.1 }) c.in-Stopped.is
+    c.in_ok-refute_side.ensures.ends
 
 pub refute_sides-returns-in-Refuted-clause-ends : goal.refute_sides-returns-in-Refuted-clause-ends
 refute_sides-returns-in-Refuted-clause-ends t c =
     sides-met c.args.vs.now c.args.scope.now c.args.rest c.args.ranges.now c.args.form.now c.args.branch.now
     c.requires.scope (omega arith)
     c.requires.either
-    c.put_node.new.trail c.refute_first.new.trail
-    c.in_ok-refute_first.field-0 c.in-Refuted.values c.in-Refuted.is c.in_ok-refute_first.ensures.ends
+    c.put_node.new.trail c.refute_side.new.trail
+    c.in_ok-refute_side.field-0 c.in-Refuted.values c.in-Refuted.is c.in_ok-refute_side.ensures.ends
 
 pub refute-try_close-requires-clause-variables : goal.refute-try_close-requires-clause-variables
 refute-try_close-requires-clause-variables t c =
@@ -432,14 +433,8 @@ refute_without-returns-clause-branch t c = λ closed.
     c.in_ok-add_quotient.ensures.branch (c.in_ok-ended.ensures.branch closed) c.len-facts.ensures c.len-waits.ensures
     refl c.cut_back.ensures
 
-pub refute_first-settle_first-requires-clause-variables : goal.refute_first-settle_first-requires-clause-variables
-refute_first-settle_first-requires-clause-variables t c =
+pub refute_side-settle_side-requires-clause-variables : goal.refute_side-settle_side-requires-clause-variables
+refute_side-settle_side-requires-clause-variables t c =
     ready-variables c.args.vs.now c.args.scope.now c.args.rest c.args.ranges.now
-    (settled c.args.scope.now (sides c.args.form.now).0 c.args.branch.now) c.requires.own c.requires.scope
-    (omega arith) c.requires.ready
-
-pub refute_second-settle_second-requires-clause-variables : goal.refute_second-settle_second-requires-clause-variables
-refute_second-settle_second-requires-clause-variables t c =
-    ready-variables c.args.vs.now c.args.scope.now c.args.rest c.args.ranges.now
-    (settled c.args.scope.now (sides c.args.form.now).1 c.args.branch.now) c.requires.own c.requires.scope
+    (settled c.args.scope.now (side_of c.args.side c.args.form.now) c.args.branch.now) c.requires.own c.requires.scope
     (omega arith) c.requires.ready

@@ -19,11 +19,8 @@ decreases-refute_quot l = 6 * l.rest + 4
 abbrev pub decreases-refute_halves : goal.decreases-refute_halves
 decreases-refute_halves l = 6 * l.rest + 4
 
-abbrev pub decreases-refute_first : goal.decreases-refute_first
-decreases-refute_first l = 6 * l.rest + 3
-
-abbrev pub decreases-refute_second : goal.decreases-refute_second
-decreases-refute_second l = 6 * l.rest + 3
+abbrev pub decreases-refute_side : goal.decreases-refute_side
+decreases-refute_side l = 6 * l.rest + 3
 
 abbrev pub decreases-refute_without : goal.decreases-refute_without
 decreases-refute_without l = 6 * l.rest + 3

@@ -2,7 +2,7 @@ use Rattle.std.proofs.Common.{◌≡◌, ◌≤◌, ◌^◌, drop, length}
 use Rattle.std.specs.Int.RustNames.{unsigned_abs}
 use Rattle.obligations.specs.LinearForms.{sum_of}
 use Rattle.search_tree.specs.Points.{values_in}
-use Rattle.search_tree.proofs.fixing.sum_of_points.Given as goal
+use Rattle.search_tree.proofs.points.sum_of_points.Given as goal
 
 abbrev pub invariant-factors : goal.invariant-factors
 invariant-factors l = record {

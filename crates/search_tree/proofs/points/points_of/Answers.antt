@@ -1,6 +1,6 @@
 use Rattle.std.proofs.Common.{arith}
 use Rattle.search_tree.proofs.BoundLaws.{points-next, values-next, long-next}
-use Rattle.search_tree.proofs.fixing.points_of.Goals as goal
+use Rattle.search_tree.proofs.points.points_of.Goals as goal
 
 pub values-preserved : goal.values-preserved
 values-preserved c =

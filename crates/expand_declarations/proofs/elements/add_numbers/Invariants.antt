@@ -1,6 +1,6 @@
 use Rattle.std.proofs.Common.{◌≡◌, ◌++◌, map, take}
 use Rattle.expand_declarations.specs.WordNumbers.{word_number}
-use Rattle.expand_declarations.proofs.layout.add_numbers.Given as goal
+use Rattle.expand_declarations.proofs.elements.add_numbers.Given as goal
 
 abbrev pub invariant-loop-name : goal.invariant-loop-name
 invariant-loop-name l =

@@ -5,11 +5,11 @@ use Rattle.core_terms.specs.declared.trees.CForm.{CForm}
 use Rattle.expand_rules.specs.declared.cores.Formed.{Formed}
 use Rattle.expand_expressions.specs.Places.{scope}
 use Rattle.expand_declarations.specs.Numbers.{core_range}
-use Rattle.expand_steps.specs.declared.terms.Induction.{Induction}
+use Rattle.expand_steps.specs.declared.term_forms.Induction.{Induction}
 use Rattle.expand_steps.specs.Elements.{form_in, number_in, term_in, truth_in}
 use Rattle.expand_steps.specs.ProofTerms.{fixed_ends}
 use Rattle.expand_steps.proofs.TermLaws.{noted_both, fits_both}
-use Rattle.expand_steps.proofs.terms.inductive_parts.Goals as goal
+use Rattle.expand_steps.proofs.term_forms.inductive_parts.Goals as goal
 
 abbrev parts : ℕ → Range → CTerm → CForm × CForm → Induction
 parts number range measure both =

@@ -1,6 +1,6 @@
 use Rattle.std.proofs.Common.{◌≡◌, ◌-◌, ◌≤◌, length, map, take}
 use Rattle.search_tree.specs.Points.{values_in, ArePoints}
-use Rattle.search_tree.proofs.fixing.points_of.Given as goal
+use Rattle.search_tree.proofs.points.points_of.Given as goal
 
 abbrev pub invariant-values : goal.invariant-values
 invariant-values l = record {

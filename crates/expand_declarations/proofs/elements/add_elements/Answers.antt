@@ -1,7 +1,7 @@
 use Rattle.std.proofs.Common.{ap, sym, ◌∙◌, ◌+◌, ◌-◌, [], ◌∷◌, ◌++◌, pos, ◌+ℤ◌, Some, append_assoc}
 use Rattle.expand_declarations.specs.Slots.{slot_at, element_slots}
 use Rattle.expand_declarations.proofs.LayoutLaws.{element_slots-step}
-use Rattle.expand_declarations.proofs.layout.add_elements.Goals as goal
+use Rattle.expand_declarations.proofs.elements.add_elements.Goals as goal
 
 pub loop-k-preserved : goal.loop-k-preserved
 loop-k-preserved c = let words = c.args.words.now in let v = c.args.v.now in let low = c.args.range.lo in

@@ -3,7 +3,7 @@ use Rattle.std.specs.Int.RustNames.{unsigned_abs}
 use Rattle.std.proofs.lemmas.Int.{to_z-of_z}
 use Rattle.search_tree.specs.Points.{values_in}
 use Rattle.search_tree.proofs.BoundLaws.{total-small, same-sum, sum-more}
-use Rattle.search_tree.proofs.fixing.sum_of_points.Goals as goal
+use Rattle.search_tree.proofs.points.sum_of_points.Goals as goal
 
 pub factors-preserved : goal.factors-preserved
 factors-preserved c =

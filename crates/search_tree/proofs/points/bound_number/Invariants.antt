@@ -1,6 +1,6 @@
 use Rattle.std.proofs.Common.{◌-◌, ◌∷◌, [], drop, length}
 use Rattle.search_tree.specs.Searching.{Has}
-use Rattle.search_tree.proofs.fixing.bound_number.Given as goal
+use Rattle.search_tree.proofs.points.bound_number.Given as goal
 
 abbrev pub invariant-facts : goal.invariant-facts
 invariant-facts l =
