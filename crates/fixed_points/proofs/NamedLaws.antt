@@ -1,5 +1,5 @@
 -- A statement's part of the formula of fixed points names no slot and no parameter that the statement does not name.
-use Rattle.std.proofs.Common.{ℕ, ◌≤◌, List, [], ◌∷◌, map, length, All, arith}
+use Rattle.std.proofs.Common.{ℕ, ◌≤◌, List, [], map, length, All, arith}
 use Rattle.std.proofs.lemmas.List.Elements.{All-map, All-weaker}
 use Rattle.core_terms.specs.declared.trees.CTerm.{CTerm, fold-CTerm}
 use Rattle.core_terms.specs.declared.trees.CTerm.TheVariants.{Slot}
