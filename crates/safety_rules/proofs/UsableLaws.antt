@@ -229,6 +229,11 @@ item_fits slots items all i s item less same fits =
     subst (λ t. StatementFits slots t) (sym item)
     (All-get_or (StatementFits slots) items i s less (subst (λ ss. All (StatementFits slots) ss) (sym same) fits))
 
+-- what is read of a shared item is the item
+pub read_is : {X : Type 0} (items : List X) (i : ℕ) (item s : X) → s ≡ item → item ≡ slice_index_or items i item →
+    s ≡ slice_index_or items i s
+read_is items i item s same is = subst (λ t. t ≡ slice_index_or items i t) (sym same) is
+
 -- what a call made of fitting formulas
 module _ (slots : List CSlot) (params : List Range) where
   made_exist : (f g : CForm) → f ≡ g → NamesExist slots params g → NamesExist slots params f

@@ -40,10 +40,11 @@ fn add_defined(alloc: Global, pl: &Place, goals: &mut Seq<Obligation>) -> Result
         (table.defined_forms (site_of pl.now)) }
 {
     for s in pl.program.statements.as_slice() {
-        if is_oversized(alloc, s.get())? {
+        let statement = s.get();
+        if is_oversized(alloc, statement)? {
             return Err(RuleError::Fault(Code::FormulaTooLarge));
         }
-        let form = where_defined(alloc, pl, s.get())?;
+        let form = where_defined(alloc, pl, statement)?;
         add_goal(alloc, pl, goals, form)?;
     }
     Ok(())

@@ -54,8 +54,9 @@ fn add_helped(
         (map (table.helped_form (site_of pl.now) p.now q.now h.now) (table.instances_of (site_of pl.now) h.now)) }
 {
     for s in pl.program.statements.as_slice() {
-        if may_mean(h, s.get()) {
-            let form = helped(alloc, pl, p, q, h, s.get())?;
+        let statement = s.get();
+        if may_mean(h, statement) {
+            let form = helped(alloc, pl, p, q, h, statement)?;
             add_goal(alloc, pl, goals, owned_form(alloc, form)?)?;
         }
     }

@@ -53,10 +53,11 @@ fn add_fixed(
         pl.now.program.now.statements) }
 {
     for s in pl.program.statements.as_slice() {
-        if is_oversized(alloc, s.get())? {
+        let statement = s.get();
+        if is_oversized(alloc, statement)? {
             return Err(RuleError::Fault(Code::FormulaTooLarge));
         }
-        let form = where_fixed(alloc, pl, premises, s.get())?;
+        let form = where_fixed(alloc, pl, premises, statement)?;
         add_goal(alloc, pl, goals, form)?;
     }
     Ok(())

@@ -38,8 +38,9 @@ fn meanings(alloc: Global, pl: &Place, h: &Helper) -> Result<Seq<CForm>, AllocEr
 {
     let mut all = Seq::new(alloc);
     for s in pl.program.statements.as_slice() {
-        if may_mean(h, s.get()) {
-            let form = is_meant(alloc, h, s.get())?;
+        let statement = s.get();
+        if may_mean(h, statement) {
+            let form = is_meant(alloc, h, statement)?;
             all.push(owned_form(alloc, form)?)?;
         }
     }

@@ -71,10 +71,11 @@ fn add_kept(
         pl.now.program.now.statements) }
 {
     for s in pl.program.statements.as_slice() {
-        if is_oversized(alloc, s.get())? {
+        let statement = s.get();
+        if is_oversized(alloc, statement)? {
             return Err(RuleError::Fault(Code::FormulaTooLarge));
         }
-        let form = kept(alloc, pl, premises, q, s.get())?;
+        let form = kept(alloc, pl, premises, q, statement)?;
         add_goal(alloc, pl, goals, form)?;
     }
     Ok(())

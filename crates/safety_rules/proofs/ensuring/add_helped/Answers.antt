@@ -1,18 +1,15 @@
-use Rattle.std.proofs.Common.{◌≡◌, ℕ, ◌+◌, ◌<◌, length, slice_index_or, List, map, filter, take, Ok, Err, sym, subst}
-use Rattle.std.proofs.Common.{◌∙◌}
-use Rattle.std.specs.Prelude.{All}
+use Rattle.std.proofs.Common.{◌+◌, List, map, filter, take, Ok, Err, sym, subst, ◌∙◌}
 use Rattle.std.proofs.lemmas.List.{take_all}
-use Rattle.std.proofs.lemmas.List.Elements.{All-get_or}
 use Rattle.core_terms.specs.declared.trees.Range.{Range}
 use Rattle.core_terms.specs.declared.trees.CForm.{CForm}
 use Rattle.core_terms.specs.declared.programs.CSlot.{CSlot}
 use Rattle.core_terms.specs.declared.programs.CStmt.{CStmt}
-use Rattle.core_terms.specs.Conditions.{StatementFits}
 use Rattle.obligations.specs.declared.branches.Obligation.{Obligation}
 use Rattle.rules_table.specs.Table.{Site, helped_form}
 use Rattle.safety_rules.specs.Answers.{site_of}
 use Rattle.safety_rules.specs.Usable.{NamesExist}
 use Rattle.safety_rules.specs.Goals.{Added}
+use Rattle.safety_rules.proofs.UsableLaws.{item_fits, read_is}
 use Rattle.safety_rules.proofs.AnswerLaws.{AddedFor, none_yet}
 use Rattle.safety_rules.proofs.ErrorLaws.{handed_on}
 use Rattle.safety_rules.specs.Helpers.{may_mean}
@@ -23,20 +20,14 @@ use Rattle.safety_rules.proofs.ensuring.add_helped.Goals as goal
 use Rattle.safety_rules.proofs.ensuring.add_helped.Goals.{then-may_mean+in_ok-form+in_ok-owned_form+in_ok-add_goal}
 use Rattle.safety_rules.proofs.ensuring.add_helped.Goals.{else-may_mean}
 
-item_fits : (slots : List CSlot) (items all : List CStmt) (i : ℕ) (s : CStmt) → s ≡ slice_index_or items i s →
-    i < length items → items ≡ all → All (StatementFits slots) all → StatementFits slots s
-item_fits slots items all i s item less same fits =
-    subst (λ t. StatementFits slots t) (sym item)
-    (All-get_or (StatementFits slots) items i s less (subst (λ ss. All (StatementFits slots) ss) (sym same) fits))
-
 pub loop-s-init : goal.loop-s-init
 loop-s-init c = none_yet c.args.pl.now.slots.now c.args.pl.now.params.now _ c.args.goals.now
 
 pub helped-requires-clause-statement : goal.helped-requires-clause-statement
 helped-requires-clause-statement c =
-    item_fits c.args.pl.now.slots.now c.as_slice-s-items.result.now c.args.pl.now.program.now.statements
-    c.loop-s.s-index
-    c.s-item.result c.s-item.is c.loop-s-test.true c.as_slice-s-items.ensures c.requires.place.program.statements
+    item_fits _ _ _ c.loop-s.s-index _ (read_is c.as_slice-s-items.result.now c.loop-s.s-index _ _
+    c.get-statement.ensures c.s-item.is) c.loop-s-test.true c.as_slice-s-items.ensures
+    c.requires.place.program.statements
 
 pub helped-requires-clause-helper : goal.helped-requires-clause-helper
 helped-requires-clause-helper c = c.requires.helper.args.numbers
@@ -46,12 +37,11 @@ add_goal-requires-clause-names c =
     let slots : List CSlot = c.args.pl.now.slots.now in
     let params : List Range = c.args.pl.now.params.now in
     let using : List CForm = c.args.pl.now.using.now in
-    let fits : StatementFits slots c.s-item.result =
-    item_fits c.args.pl.now.slots.now c.as_slice-s-items.result.now c.args.pl.now.program.now.statements
-    c.loop-s.s-index
-    c.s-item.result c.s-item.is c.loop-s-test.true c.as_slice-s-items.ensures c.requires.place.program.statements in
+    let fits = item_fits slots _ _ c.loop-s.s-index _ (read_is c.as_slice-s-items.result.now c.loop-s.s-index _ _
+    c.get-statement.ensures c.s-item.is) c.loop-s-test.true c.as_slice-s-items.ensures
+    c.requires.place.program.statements in
     subst (λ f. NamesExist slots params f) (sym (c.in_ok-owned_form.ensures ∙ c.in_ok-form.ensures))
-    (helped_exists slots params using c.args.p.now c.args.q.now c.args.h.now.args c.s-item.result
+    (helped_exists slots params using c.args.p.now c.args.q.now c.args.h.now.args c.get-statement.result.now
     c.requires.place.using c.requires.p c.requires.q c.requires.helper.args.names fits)
 
 pub returns-in_err-add_goal : goal.returns-in_err-add_goal
@@ -68,8 +58,10 @@ returns-in_err-add_goal c =
     c.as_slice-s-items.ensures
     (filter_fails site.slots site.params (Unit {0})
     (Unit {0}) c.in_err-add_goal.field-0.0 make test c.as_slice-s-items.result.now c.loop-s.s-index
-    c.s-item.result c.in_ok-owned_form.field-0 c.may_mean.result c.args.goals.now c.loop-s.goals c.add_goal.new.goals
-    c.loop-s-test.true c.s-item.is c.may_mean.ensures c.if-may_mean.true
+    c.get-statement.result.now c.in_ok-owned_form.field-0 c.may_mean.result c.args.goals.now c.loop-s.goals
+    c.add_goal.new.goals
+    c.loop-s-test.true (read_is c.as_slice-s-items.result.now c.loop-s.s-index _ _ c.get-statement.ensures c.s-item.is)
+    c.may_mean.ensures c.if-may_mean.true
     (c.in_ok-owned_form.ensures ∙ c.in_ok-form.ensures) c.in_err-add_goal.ensures))
 
 pub loop-s-preserved : goal.loop-s-preserved
@@ -84,9 +76,11 @@ loop-s-preserved c =
           subst (λ (os : List Obligation). AddedFor site.slots site.params make (filter test (take (i + 1) items))
           c.args.goals.now os) (sym w.goals-is)
           (one_after site.slots site.params w.in_ok-add_goal.field-0 make (filter test (take i items))
-          (filter test (take (i + 1) items)) c.s-item.result w.in_ok-owned_form.field-0 c.args.goals.now c.loop-s.goals
+          (filter test (take (i + 1) items)) c.get-statement.result.now w.in_ok-owned_form.field-0 c.args.goals.now
+          c.loop-s.goals
           w.add_goal.new.goals
-          (filter_takes test items i c.s-item.result c.may_mean.result c.loop-s-test.true c.s-item.is
+          (filter_takes test items i c.get-statement.result.now c.may_mean.result c.loop-s-test.true (read_is
+          c.as_slice-s-items.result.now c.loop-s.s-index _ _ c.get-statement.ensures c.s-item.is)
           c.may_mean.ensures w.if-may_mean.true)
           (w.in_ok-owned_form.ensures ∙ w.in_ok-form.ensures) c.loop-s.invariant w.in_ok-add_goal.ensures)
       | else-may_mean w ↦
@@ -94,7 +88,8 @@ loop-s-preserved c =
           c.args.goals.now os) (sym w.goals-is)
           (still_added site.slots site.params make (filter test (take i items)) (filter test (take (i + 1) items))
           c.args.goals.now c.loop-s.goals
-          (filter_drops test items i c.s-item.result c.may_mean.result c.loop-s-test.true c.s-item.is
+          (filter_drops test items i c.get-statement.result.now c.may_mean.result c.loop-s-test.true (read_is
+          c.as_slice-s-items.result.now c.loop-s.s-index _ _ c.get-statement.ensures c.s-item.is)
           c.may_mean.ensures w.if-may_mean.false) c.loop-s.invariant)
     ]
 
