@@ -1,4 +1,4 @@
-use Rattle.std.proofs.Common.{◌≡◌, ◌+◌, ◌++◌, ◌∷◌, [], List, length, subst, sym, ◌∙◌, arith, length-append}
+use Rattle.std.proofs.Common.{◌≡◌, ◌+◌, ◌++◌, ◌∷◌, [], List, length, subst, sym, ap, ◌∙◌, arith, length-append}
 use Rattle.std.specs.Prelude.{All}
 use Rattle.std.proofs.lemmas.List.Elements.{All-push}
 use Rattle.core_terms.specs.declared.programs.CStmt.{CStmt}
@@ -11,7 +11,7 @@ pub loop-label-preserved : goal.loop-label-preserved
 loop-label-preserved c =
     let ss = c.loop-label.statements in
     let one : CStmt = c.in_ok-statement.statement in
-    let same = sym c.in_ok-push.ensures.ok in
+    let same = sym (c.in_ok-push.ensures.ok ∙ ap (λ (s : CStmt). ss ++ s ∷ []) c.in_ok-new.ensures) in
     let long : length (ss ++ one ∷ []) ≡ length ss + 1 = length-append ss (one ∷ []) in
     let sum : length (ss ++ one ∷ []) ≡ c.loop-label.label + 1 = omega (arith, long, c.loop-label.invariant.count) in
     record {
