@@ -1,6 +1,6 @@
 -- What is to come of a trace that stops at the first fixed point, one step at a time.
 use Rattle.std.proofs.Common.{◌≡◌, ℕ, zero, suc, ◌+◌, ◌^◌, ◌<◌, ◌≤◌, ◌-◌, min, List, [], ◌∷◌, ◌++◌, length, take, drop}
-use Rattle.std.proofs.Common.{cond, Bool}
+use Rattle.std.proofs.Common.{cond}
 use Rattle.std.proofs.Common.{true, false, Option, Some, None, IsTrue, refl, sym, ap, ◌∙◌, arith, append_assoc}
 use Rattle.std.proofs.Common.{append-nil}
 use Rattle.std.proofs.Common.{option_and_then}
