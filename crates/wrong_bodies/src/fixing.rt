@@ -1,5 +1,5 @@
 // Fixed points: whether a state is one, what asks that states are, and the run that stops at the first.
-ghost use Rattle.std.specs.Prelude.{◌≡◌, IsErr, IsErrOf, IsTrue};
+ghost use Rattle.std.specs.Prelude.{◌≡◌, ◌≤◌, length, IsErr, IsErrOf, IsTrue};
 ghost use Rattle.unity_base.specs.Streams.{IsTold};
 ghost use Rattle.meaning_states.specs.State.{is_state};
 ghost use Rattle.core_terms.specs.Conditions.{FormFits, IsCoreDocument};
@@ -11,6 +11,8 @@ ghost use Rattle.fixed_runs.specs.Answers.{CoreFixedRuns};
 ghost use Rattle.rules_table.specs.Table as table;
 ghost use Rattle.safety_rules.specs.Answers.{RuleAnswers, IsPlace, site_of};
 ghost use Rattle.safety_rules.specs.Sound.{StandsWhereShown};
+ghost use Rattle.trace_watch.specs.Readings as readings;
+ghost use Rattle.wrong_bodies.specs.Fixing as wrong;
 
 use core_terms::{CDocument, CForm, CProgram, CSlot};
 use executor::{Stepped, can_step};
@@ -54,17 +56,28 @@ pub fn run_to_fixed<K: Sink>(
     fixed_runs::run_to_fixed(alloc, doc, program, steps, out)
 }
 
-/// Whether a state is a fixed point, or the step of some statement is undefined there.
+/// Whether a state is a fixed point, or the step of some statement is undefined there. Of a program of more than 4,096
+/// statements the steps are not looked at.
 pub fn is_fixed_or_stuck(p: &CProgram, slots: &[CSlot], state: &[i64]) -> bool
     requires fits { StatementsRun slots.now p.now.statements }
     requires state { IsTrue (is_state (slot_ranges slots.now) state.now) }
+    ensures { result ≡ wrong.is_fixed_or_stuck slots.now p.now state.now }
 {
-    for place in 0..p.statements.len() {
-        if let Ok(choice) = u32::try_from(place) {
-            if !can_step(p, slots, state, choice) {
-                return true;
-            }
+    (p.statements.len() <= 4096 && is_stuck(p, slots, state))
+        || fixed_points::changing(p, slots, state, 0).is_none()
+}
+
+// Whether the step of some statement is undefined.
+fn is_stuck(p: &CProgram, slots: &[CSlot], state: &[i64]) -> bool
+    requires fits { StatementsRun slots.now p.now.statements }
+    requires state { IsTrue (is_state (slot_ranges slots.now) state.now) }
+    requires few { length p.now.statements ≤ 4096 }
+    ensures { result ≡ readings.is_stuck (core_system slots.now p.now) state.now }
+{
+    for choice in 0..p.statements.len() {
+        if !can_step(p, slots, state, choice as u32) {
+            return true;
         }
     }
-    fixed_points::changing(p, slots, state, 0).is_none()
+    false
 }
