@@ -1,10 +1,2 @@
-pub mod ScopedLaws
-pub mod MachineLaws
-pub mod QuotLaws
-pub mod RefutationLaws
-pub mod ClosedLaws
-pub mod SoundLaws
-pub mod SumLaws
-pub mod WholeLaws
-pub mod IndexLaws
-pub mod Rooms
+mod LoopLaws
+mod AnswerLaws

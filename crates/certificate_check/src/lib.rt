@@ -2,14 +2,7 @@
 //! obligation's negation opens.
 #![tactic(auto)]
 
-mod errors;
-mod indexes;
-mod laws;
-mod machine;
-mod sums;
+mod checking;
 
-pub use errors::CertError;
-pub use indexes::index_laws;
-pub use laws::certificate_laws;
-pub use machine::check_cert;
-pub use sums::{add_pairs, closes, copy_fact, divides, rounded};
+pub use checking::check_cert;
+pub use event_checker::{CertError, Checker};

@@ -1,2 +1,3 @@
 pub mod ScopedLaws
 pub mod MachineLaws
+pub mod QuotLaws

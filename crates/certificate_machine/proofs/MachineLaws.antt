@@ -2,7 +2,7 @@
 use Rattle.std.proofs.Common.{◌≡◌, ℕ, zero, suc, ◌-◌, ◌<◌, ◌≤◌, ◌^◌, Bool, true, false, ◌&&◌, cond, Some, Ok, List}
 use Rattle.std.proofs.Common.{nat_lt, ℤ, pos, ◌+ℤ◌, Result}
 use Rattle.std.proofs.Common.{[], ◌∷◌, ◌++◌, length, take, reverse, slice_get, length-append, arith, refl, sym, ap, ◌∙◌}
-use Rattle.std.proofs.Common.{subst, None, Err, ◌+◌, OnOk, IfErr}
+use Rattle.std.proofs.Common.{subst, None, Err, ◌+◌}
 use Rattle.std.specs.Prelude.{insert, remove}
 use Rattle.std.specs.List.{list_all}
 use Rattle.std.specs.Option.{option_and_then}
@@ -28,16 +28,14 @@ use Rattle.obligations.specs.Settling.{joined, settled, sides, without, added, o
 use Rattle.obligations.proofs.LightLaws.{remove-light}
 use Rattle.obligations.proofs.TableLaws.{joined-joined}
 use Rattle.obligations.proofs.NeedLaws.{settled-light, refused-light, need-within}
-use Rattle.certificate_machine.specs.declared.machine.Todo.{Todo}
-use Rattle.certificate_machine.specs.declared.machine.Frame.{Frame}
-use Rattle.certificate_check.specs.Refutation.{NodeEffect, fails, opens, made_case, case_at, split_at}
-use Rattle.certificate_check.specs.Refutation.{made_share, made_by, made, made_quot, quot_at, allowing, OpenBranch}
-use Rattle.certificate_check.specs.Sums.{below_0}
+use Rattle.certificate_machine.specs.declared.frames.Todo.{Todo}
+use Rattle.certificate_machine.specs.declared.frames.Frame.{Frame}
+use Rattle.certificate_rules.specs.Refutation.{NodeEffect, fails, opens, made_case, case_at, split_at}
+use Rattle.certificate_rules.specs.Refutation.{made_share, made_by, made, made_quot, quot_at, allowing, OpenBranch}
+use Rattle.certificate_rules.specs.Sums.{below_0}
 use Rattle.certificate_machine.specs.Machines.{base_of, full_by, full_of, second_by, second_of, waiting_first, behind}
 use Rattle.certificate_machine.specs.Machines.{place_fits, FramesFit, turned, step_by, is_light_todo}
-use Rattle.certificate_machine.specs.Machines.{are_light, Goes, GoesErr}
-use Rattle.certificate_machine.specs.declared.machine.Machine.{Machine}
-use Rattle.certificate_machine.specs.declared.errors.Stop.{Stop}
+use Rattle.certificate_machine.specs.Machines.{are_light}
 
 branch-same : (a b : Branch) → a.facts ≡ b.facts → a.waiting ≡ b.waiting → a.added ≡ b.added → a ≡ b
 branch-same a b p q r =
@@ -399,25 +397,6 @@ made-allowed vs levels b n h = ap (λ t. cond t (made_by (scope_of vs b) b n) (f
   where
     some : (a : ℕ) → 0 < a → nat_lt 0 a ≡ true
     some a h = grind arith
-
--- what the code of a node promises over the branch's own variables
-module _ (vs : List Variable) (m : Machine) (some : 0 < m.levels) (scoped : m.variables ≡ scope_of vs m.branch) where
-  node-makes : (e : NodeEffect) (n : Node) → e ≡ made_by m.variables m.branch n →
-      e ≡ made vs (allowing m.levels m.branch) n
-  node-makes e n h =
-      h ∙ ap (λ us. made_by us m.branch n) scoped ∙ sym (made-allowed vs m.levels m.branch n some)
-
-pub take-ok : {A E : Type 0} (vs : List Variable) (m new : Machine) (e : NodeEffect) (n : Node) (r : Result A E) →
-    0 < m.levels → m.variables ≡ scope_of vs m.branch → e ≡ made_by m.variables m.branch n →
-    OnOk r (Goes vs m e new) → OnOk r (Goes vs m (made vs (allowing m.levels m.branch) n) new)
-take-ok vs m new e n r some scoped h k =
-    subst (λ x. OnOk r (Goes vs m x new)) (node-makes vs m some scoped e n h) k
-
-pub take-err : {A : Type 0} (vs : List Variable) (m : Machine) (e : NodeEffect) (n : Node) (r : Result A Stop) →
-    0 < m.levels → m.variables ≡ scope_of vs m.branch → e ≡ made_by m.variables m.branch n →
-    IfErr r (GoesErr vs m e) → IfErr r (GoesErr vs m (made vs (allowing m.levels m.branch) n))
-take-err vs m e n r some scoped h k =
-    subst (λ x. IfErr r (GoesErr vs m x)) (node-makes vs m some scoped e n h) k
 
 pub added-behind : (vs : List Variable) (fs : List Frame) (b new : Branch) (f : Fact) → new ≡ added b f →
     FramesFit fs b → behind vs fs new ≡ behind vs fs b

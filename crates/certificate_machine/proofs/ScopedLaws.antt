@@ -9,9 +9,9 @@ use Rattle.obligations.specs.declared.branches.Variable.{Variable}
 use Rattle.obligations.specs.Obligations.{AreVariables, AreOwn, HasRoom}
 use Rattle.obligations.specs.Scopes.{next_variable, scope}
 use Rattle.obligations.proofs.ScopeLaws.{scope-length, scope-done, scope-room}
-use Rattle.certificate_machine.specs.declared.machine.Machine.{Machine}
+use Rattle.certificate_machine.specs.declared.frames.Machine.{Machine}
 use Rattle.certificate_machine.specs.Machines.{IsScoped}
-use Rattle.certificate_check.specs.Sums.{below_0}
+use Rattle.certificate_rules.specs.Sums.{below_0}
 
 take_all : {A : Type 0} (xs : List A) (n : ℕ) → n ≡ length xs → take n xs ≡ xs
 take_all [] zero e = refl

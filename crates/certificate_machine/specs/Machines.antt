@@ -8,11 +8,11 @@ use Rattle.obligations.specs.declared.branches.Variable.{Variable}
 use Rattle.obligations.specs.Load.{is_light, is_light_branch}
 use Rattle.obligations.specs.Scopes.{scope_of}
 use Rattle.obligations.specs.Settling.{settled, sides, added}
-use Rattle.certificate_machine.specs.declared.machine.Todo.{Todo}
-use Rattle.certificate_machine.specs.declared.machine.Frame.{Frame}
-use Rattle.certificate_machine.specs.declared.machine.Machine.{Machine}
+use Rattle.certificate_machine.specs.declared.frames.Todo.{Todo}
+use Rattle.certificate_machine.specs.declared.frames.Frame.{Frame}
+use Rattle.certificate_machine.specs.declared.frames.Machine.{Machine}
 use Rattle.certificate_machine.specs.declared.errors.Stop.{Stop}
-use Rattle.certificate_check.specs.Refutation.{NodeEffect, fails, opens, OpenBranch, allowing, pending}
+use Rattle.certificate_rules.specs.Refutation.{NodeEffect, fails, opens, OpenBranch, allowing, pending}
 
 -- a branch cut back to a frame's lengths
 abbrev pub base_of : Frame → Branch → Branch

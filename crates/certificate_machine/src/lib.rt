@@ -2,11 +2,10 @@
 #![tactic(auto)]
 
 mod errors;
-mod machine;
-mod sums;
+mod facts;
+mod frames;
+mod nodes;
 
 pub use errors::Stop;
-pub use machine::{
-    Frame, Machine, Todo, close, open_case, open_quot, open_share, open_split, round,
-};
-pub use sums::add_variable;
+pub use frames::{Frame, Machine, Todo};
+pub use nodes::{close, open_case, open_quot, open_share, open_split, round};

@@ -12,7 +12,7 @@ use Rattle.unity_syntax.specs.Classes.{number_class}
 use Rattle.unity_syntax.specs.View.{view, view_list, view_node, view_certificate, view_certificates, view_option}
 use Rattle.unity_syntax.proofs.Productions.{all_productions}
 use Rattle.obligations.specs.Certificates.{arity}
-use Rattle.certificate_check.specs.Trees.{is_whole}
+use Rattle.certificate_rules.specs.Trees.{is_whole}
 use Rattle.certificate_reading.specs.Certificates.{node_of, certificate_of, section_of}
 use Rattle.certificate_reading.specs.Laws.{IsWholeTree, AreWholeTrees}
 use Rattle.certificate_reading.proofs.Counted.{holds_trees, after_number, EachItem, counted, Each, each_any}

@@ -10,8 +10,8 @@ use Rattle.obligations.specs.declared.certificates.Node.{Node}
 use Rattle.obligations.specs.Certificates.{node_index, node_number, node_pairs, map_or}
 use Rattle.linear_prover.specs.Chains.{is_plain_node, is_plain_number, is_plain_pair}
 use Rattle.search_tree.specs.Searching.{is_found_node}
-use Rattle.certificate_check.specs.Indexes.{is_fact_within, is_index_within}
-use Rattle.certificate_check.proofs.IndexLaws.{indexes_are_small}
+use Rattle.certificate_rules.specs.Indexes.{is_fact_within, is_index_within}
+use Rattle.certificate_rules.proofs.IndexLaws.{indexes_are_small}
 use Rattle.proof_script.specs.Proving.{AreFound, ArePlain}
 use Rattle.certificate_roundtrip.specs.Pieces.{is_node_of}
 use Rattle.certificate_roundtrip.specs.SectionLaws.{RefutingIsSmall}

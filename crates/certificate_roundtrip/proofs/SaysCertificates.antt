@@ -6,7 +6,7 @@ use Rattle.case_tables.specs.declared.symbol_table.Symbol.{Symbol}
 use Rattle.unity_syntax.proofs.BackParts.{both_same}
 use Rattle.obligations.specs.declared.certificates.Node.{Node}
 use Rattle.obligations.specs.declared.certificates.Cert.{Cert}
-use Rattle.certificate_check.specs.Trees.{is_whole}
+use Rattle.certificate_rules.specs.Trees.{is_whole}
 use Rattle.certificate_reading.specs.Certificates.{node_of, certificate_of}
 use Rattle.certificate_reading.specs.Laws.{IsWholeTree}
 use Rattle.certificate_roundtrip.specs.Pieces.{Piece, gap, sign, node_pieces, line_pieces, lines_pieces}

@@ -15,7 +15,7 @@ use Rattle.unity_syntax.proofs.Productions.{all_productions}
 use Rattle.obligations.specs.declared.certificates.Node.{Node}
 use Rattle.obligations.specs.declared.certificates.Cert.{Cert}
 use Rattle.obligations.specs.Certificates.{arity}
-use Rattle.certificate_check.specs.Trees.{is_whole}
+use Rattle.certificate_rules.specs.Trees.{is_whole}
 use Rattle.certificate_reading.specs.Laws.{IsWholeTree}
 use Rattle.certificate_roundtrip.specs.Pieces.{Piece, gap, word, sign, node_pieces, line_pieces, lines_pieces}
 use Rattle.certificate_roundtrip.specs.Pieces.{section_pieces, is_node_of}

@@ -13,7 +13,7 @@ use Rattle.unity_syntax.specs.declared.certificate.Certificates.{Certificates}
 use Rattle.obligations.specs.declared.certificates.Cert.{Cert}
 use Rattle.obligations.specs.declared.certificates.Node.{Node}
 use Rattle.obligations.specs.Certificates.{node_index, node_number, node_pairs, map_or, node_units, units}
-use Rattle.certificate_check.specs.Trees.{is_whole}
+use Rattle.certificate_rules.specs.Trees.{is_whole}
 use Rattle.certificate_printing.specs.Certificates.{pair_text, node_text, certificate_line}
 use Rattle.certificate_printing.specs.Certificates.{certificate_lines}
 use Rattle.certificate_printing.specs.Certificates.{certificates_text}

@@ -13,8 +13,8 @@ use Rattle.core_terms.specs.Conditions.{IsProgram, IsProof, IsSlot, IsStep}
 use Rattle.obligations.specs.declared.branches.Obligation.{Obligation}
 use Rattle.obligations.specs.declared.certificates.Cert.{Cert}
 use Rattle.obligations.specs.Obligations.{IsObligation}
-use Rattle.certificate_check.specs.Refutation.{walk_from_root}
-use Rattle.certificate_check.specs.Trees.{is_whole}
+use Rattle.certificate_rules.specs.Refutation.{walk_from_root}
+use Rattle.certificate_rules.specs.Trees.{is_whole}
 use Rattle.search_tree.specs.Searching.{is_found_node}
 use Rattle.certificate_roundtrip.specs.Small.{IsSmallCertificate}
 use Rattle.certificate_roundtrip.proofs.PlainLaws.{refuting_is_small}

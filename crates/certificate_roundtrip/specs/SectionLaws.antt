@@ -5,8 +5,8 @@ use Rattle.case_tables.specs.declared.word_table.Word.{Word}
 use Rattle.obligations.specs.declared.branches.Obligation.{Obligation}
 use Rattle.obligations.specs.declared.certificates.Cert.{Cert}
 use Rattle.obligations.specs.Obligations.{IsObligation}
-use Rattle.certificate_check.specs.Refutation.{walk_from_root}
-use Rattle.certificate_check.specs.Trees.{is_whole}
+use Rattle.certificate_rules.specs.Refutation.{walk_from_root}
+use Rattle.certificate_rules.specs.Trees.{is_whole}
 use Rattle.search_tree.specs.Searching.{is_found_node}
 use Rattle.unity_syntax.specs.declared.token.Token.{Token}
 use Rattle.unity_syntax.specs.declared.token.TokenKind.{TokenKind}

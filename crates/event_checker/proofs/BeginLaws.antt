@@ -8,10 +8,10 @@ use Rattle.obligations.specs.declared.branches.Variable.{Variable}
 use Rattle.obligations.specs.declared.certificates.Node.{Node}
 use Rattle.obligations.specs.Certificates.{arity}
 use Rattle.obligations.specs.Load.{is_small}
-use Rattle.obligations.specs.LinearForms.{line_of_const, zeros}
-use Rattle.certificate_check.specs.Refutation.{OpenBranch, made_by}
+use Rattle.obligations.specs.LinearForms.{line_of_const}
+use Rattle.certificate_rules.specs.Refutation.{OpenBranch, made_by}
 use Rattle.certificate_machine.specs.declared.errors.Stop.{Stop}
-use Rattle.certificate_machine.specs.declared.machine.Machine.{Machine}
+use Rattle.certificate_machine.specs.declared.frames.Machine.{Machine}
 use Rattle.certificate_machine.specs.Machines.{Goes, GoesErr, IsLightMachine, IsScoped}
 use Rattle.event_checker.specs.declared.reading.Open.{Open}
 use Rattle.event_checker.specs.declared.reading.Reading.{Reading}
@@ -141,8 +141,3 @@ stop-passes vs root r ns e mid new (Stop.Fault code) begin f count q s o =
     passed-failed vs root new ns e code r.node (q ∙ ap (λ k. Open.Failed code k) count)
     (over-stopped vs root r ns e code begin f s o)
 stop-passes vs root r ns e mid new Stop.Memory begin f count q s o = absurd q
-
--- a line of zeros is small
-pub small-zeros : {A : Type 0} (xs : List A) → list_all is_small (zeros xs) ≡ true
-small-zeros [] = refl
-small-zeros (x ∷ xs) = small-zeros xs

@@ -1,5 +1,5 @@
 -- What a checker answers.
-use Rattle.std.proofs.Common.{◌≡◌, ◌≢◌, ℕ, ℤ, suc, ◌+◌, ◌<◌, ◌≤◌, Bool, true, false, cond, Result, Ok, Err, IfErr}
+use Rattle.std.proofs.Common.{◌≡◌, ◌≢◌, ℕ, ℤ, suc, ◌+◌, ◌<◌, ◌≤◌, Bool, true, false, cond, Result, Ok, Err, IfErr, OnOk}
 use Rattle.std.proofs.Common.{MatchResult, List, [], ◌∷◌, ◌++◌, length, refl, sym, ap, ◌∙◌, subst, arith, reverse}
 use Rattle.case_tables.specs.declared.code_table.Code.{Code}
 use Rattle.unity_base.specs.declared.events.CertEvent.{CertEvent}
@@ -9,25 +9,25 @@ use Rattle.obligations.specs.declared.branches.Obligation.{Obligation}
 use Rattle.obligations.specs.declared.branches.Variable.{Variable}
 use Rattle.obligations.specs.declared.certificates.Node.{Node}
 use Rattle.obligations.specs.Obligations.{IsObligation}
-use Rattle.obligations.specs.Opening.{first_branch}
+use Rattle.obligations.specs.Opening.{Valid, first_branch}
 use Rattle.obligations.specs.Scopes.{scope}
 use Rattle.obligations.proofs.NumberLaws.{obligation-load}
-use Rattle.certificate_check.specs.declared.errors.CertError.{CertError}
-use Rattle.certificate_check.specs.Sums.{is_false}
-use Rattle.certificate_check.specs.Refutation.{OpenBranch, fails, opens, allowing, made, made_sum, walk}
-use Rattle.certificate_check.specs.Refutation.{walk_from_root, after}
-use Rattle.certificate_check.specs.Trees.{is_whole, Refuted}
-use Rattle.certificate_check.specs.Machines.{FailsReading}
-use Rattle.certificate_check.proofs.WholeLaws.{whole-walks, read-refuted, read-not, read-valid}
-use Rattle.certificate_machine.specs.declared.machine.Machine.{Machine}
-use Rattle.certificate_machine.specs.declared.machine.Frame.{Frame}
+use Rattle.certificate_rules.specs.Sums.{is_false}
+use Rattle.certificate_rules.specs.Refutation.{OpenBranch, fails, opens, allowing, made, made_sum, walk}
+use Rattle.certificate_rules.specs.Refutation.{walk_from_root, after}
+use Rattle.certificate_rules.specs.Trees.{is_whole, Refuted}
+use Rattle.certificate_rules.proofs.SoundLaws.{sound}
+use Rattle.certificate_rules.proofs.WholeLaws.{whole-walks, walked-refutes, refutes-walked}
+use Rattle.certificate_machine.specs.declared.frames.Machine.{Machine}
+use Rattle.certificate_machine.specs.declared.frames.Frame.{Frame}
 use Rattle.certificate_machine.specs.Machines.{rest_of, behind, FramesFit, are_light}
 use Rattle.certificate_machine.proofs.MachineLaws.{first-light}
+use Rattle.event_checker.specs.declared.errors.CertError.{CertError}
 use Rattle.event_checker.specs.declared.reading.Open.{Open}
 use Rattle.event_checker.specs.declared.reading.Reading.{Reading}
 use Rattle.event_checker.specs.Events.{events_of, is_node_event, is_pair, paired, with_event, nodes_from}
 use Rattle.event_checker.specs.Readings.{At, Stands}
-use Rattle.event_checker.specs.Checkers.{Judges, sum_verdict, verdict_at}
+use Rattle.event_checker.specs.Checkers.{FailsReading, Judges, sum_verdict, verdict_at}
 use Rattle.event_checker.proofs.NodeLaws.{from-append, events-tell-nodes}
 use Rattle.event_checker.proofs.WalkLaws.{made-is, pendings-at, walk-at, fails-at, rest-whole}
 use Rattle.event_checker.proofs.PairLaws.{reading_of}
@@ -143,10 +143,24 @@ module _ (levels : ℕ) (o : Obligation) (nodes : List Node) (whole : is_whole n
   never-at r (Open.Failed code at) = λ q. cc
   never-at r Open.Closed = tt
 
-  not-refuted : (r : Result (Unit {0}) CertError) → IfErr r (λ e. e ≢ CertError.Memory) →
-      IfErr r (λ e. e ≢ CertError.Memory → Refuted levels o nodes → ⊥) → IfErr r (λ e. Refuted levels o nodes → ⊥)
-  not-refuted (Ok u) never not = tt
-  not-refuted (Err e) never not = not never
+  fails-once : (code : Code) (node : ℕ) → walk_from_root levels o nodes ≡ Err (code, node) →
+      walk_from_root levels o nodes ≡ Ok [] → ⊥
+  fails-once code node p q = cc
+
+  refuted : (r : Result (Unit {0}) CertError) → Walked levels o nodes r → OnOk r (Refuted levels o nodes)
+  refuted (Ok u) w = walked-refutes levels o nodes whole w
+  refuted (Err e) w = tt
+
+  not-refuted : (r : Result (Unit {0}) CertError) → IfErr r (λ e. e ≢ CertError.Memory) → Walked levels o nodes r →
+      IfErr r (λ e. Refuted levels o nodes → ⊥)
+  not-refuted (Ok u) never w = tt
+  not-refuted (Err (CertError.Fault code node)) never w =
+      λ t. fails-once code node w (refutes-walked levels o nodes t)
+  not-refuted (Err CertError.Memory) never w = absurd (never refl)
+
+  valid : IsObligation o → (r : Result (Unit {0}) CertError) → Walked levels o nodes r → OnOk r (Valid o)
+  valid is (Ok u) w = sound levels o nodes is w
+  valid is (Err e) w = tt
 
   pub judged : IsObligation o → (r : Reading) (v : Result (Unit {0}) CertError) → v ≡ verdict_at r.state r →
       Stands vs root r nodes → Judges levels o nodes v
@@ -156,10 +170,9 @@ module _ (levels : ℕ) (o : Obligation) (nodes : List Node) (whole : is_whole n
       let never : IfErr v (λ e. e ≢ CertError.Memory) =
       subst (λ v. IfErr v (λ e. e ≢ CertError.Memory)) (sym e) (never-at r r.state) in record {
         walked = walked;
-        refuted = read-refuted levels o nodes nodes vs (first_branch o) refl refl refl v whole walked;
-        not_refuted = not-refuted v never
-            (read-not levels o nodes nodes vs (first_branch o) refl refl refl v walked);
-        valid = read-valid levels o nodes nodes vs (first_branch o) refl refl refl v is walked;
+        refuted = refuted v walked;
+        not_refuted = not-refuted v never walked;
+        valid = valid is v walked;
         never = never;
       }
 

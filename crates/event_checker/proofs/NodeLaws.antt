@@ -69,19 +69,6 @@ share-pairs c ps [] = ap (λ xs. Node.Share c xs) (sym (append-nil ps))
 share-pairs c ps (q ∷ qs) =
     share-pairs c (ps ++ q ∷ []) qs ∙ ap (λ xs. Node.Share c xs) (append_assoc ps (q ∷ []) qs)
 
--- others
-pub case-pairs : (k : ℕ) (qs : List (ℤ × ℕ)) → with_pairs (Node.Case k) qs ≡ Node.Case k
-case-pairs k [] = refl
-case-pairs k (q ∷ qs) = case-pairs k qs
-
-pub split-pairs : (v : ℕ) (k : ℤ) (qs : List (ℤ × ℕ)) → with_pairs (Node.Split v k) qs ≡ Node.Split v k
-split-pairs v k [] = refl
-split-pairs v k (q ∷ qs) = split-pairs v k qs
-
-pub quot-pairs : (k : ℕ) (qs : List (ℤ × ℕ)) → with_pairs (Node.Quot k) qs ≡ Node.Quot k
-quot-pairs k [] = refl
-quot-pairs k (q ∷ qs) = quot-pairs k qs
-
 -- the node that an event begins
 abbrev pub begun : CertEvent → Node
 begun (CertEvent.Case k) = Node.Case k

@@ -1,23 +1,19 @@
 -- What a pair makes of a reading.
-use Rattle.std.proofs.Common.{◌≡◌, ℕ, zero, suc, ◌<◌, ℤ, pos, ◌+ℤ◌, ◌*ℤ◌, true, ◌&&◌, Result, Ok, Err}
+use Rattle.std.proofs.Common.{◌≡◌, ℕ, ◌<◌, ℤ, pos, ◌*ℤ◌, Result, Ok, Err}
 use Rattle.std.proofs.Common.{List, [], ◌∷◌, ◌++◌, refl, sym, ap, ◌∙◌, subst, append-nil}
-use Rattle.std.specs.List.{list_all}
-use Rattle.std.proofs.lemmas.Bool.{and_parts}
 use Rattle.case_tables.specs.declared.code_table.Code.{Code}
-use Rattle.core_terms.specs.Values.{number_at}
 use Rattle.unity_base.specs.declared.events.CertEvent.{CertEvent}
 use Rattle.obligations.specs.declared.branches.Line.{Line}
 use Rattle.obligations.specs.declared.branches.Variable.{Variable}
 use Rattle.obligations.specs.declared.certificates.Node.{Node}
-use Rattle.obligations.specs.Load.{is_small}
-use Rattle.obligations.specs.LinearForms.{add_at, line_of_const}
+use Rattle.obligations.specs.LinearForms.{line_of_const}
 use Rattle.obligations.proofs.LineLaws.{length-add_at}
-use Rattle.certificate_check.specs.Sums.{each_pair, then_by, fact_step, variable_step, all_pairs, no_sum, stated}
-use Rattle.certificate_check.specs.Refutation.{OpenBranch, fails, made_by, made_sum, made_round}
-use Rattle.certificate_check.specs.Refutation.{made_share, walk}
-use Rattle.certificate_check.proofs.SumLaws.{added-variable, pairs-stop}
-use Rattle.certificate_check.proofs.RefutationLaws.{total-size}
-use Rattle.certificate_machine.specs.declared.machine.Machine.{Machine}
+use Rattle.certificate_rules.specs.Sums.{each_pair, then_by, fact_step, variable_step, all_pairs, no_sum, stated}
+use Rattle.certificate_rules.specs.Refutation.{OpenBranch, fails, made_by, made_sum, made_round}
+use Rattle.certificate_rules.specs.Refutation.{made_share, walk}
+use Rattle.certificate_rules.proofs.SumLaws.{added-variable, pairs-stop, small-put}
+use Rattle.certificate_rules.proofs.RefutationLaws.{total-size}
+use Rattle.certificate_machine.specs.declared.frames.Machine.{Machine}
 use Rattle.event_checker.specs.declared.reading.Open.{Open}
 use Rattle.event_checker.specs.declared.reading.Reading.{Reading}
 use Rattle.event_checker.specs.Events.{paired, with_pair, nodes_from}
@@ -29,15 +25,6 @@ abbrev pub reading_of : Machine → Open → Line → ℕ → Reading
 reading_of m st l node = record { machine = m; state = st; line = l; node = node }
 
 -- The numbers of a statement.
-
-small-put : (xs : List ℤ) (n : ℕ) (z : ℤ) → list_all is_small xs ≡ true → is_small (number_at xs n +ℤ z) ≡ true →
-    list_all is_small (add_at xs n z) ≡ true
-small-put [] n z h k = refl
-small-put (x ∷ xs) zero z h k =
-    ap (λ b. b && list_all is_small xs) k ∙ (and_parts (is_small x) (list_all is_small xs) h).1
-small-put (x ∷ xs) (suc n) z h k =
-    let p = and_parts (is_small x) (list_all is_small xs) h in
-    ap (λ b. b && list_all is_small (add_at xs n z)) p.0 ∙ small-put xs n z p.1 k
 
 statement-keeps : (m : Machine) (p : ℤ × ℕ) (l k : Line) → IsStatement m l → variable_step p l ≡ Ok k → IsStatement m k
 statement-keeps m p l k s e =

@@ -10,11 +10,11 @@ use Rattle.obligations.specs.declared.branches.Variable.{Variable}
 use Rattle.obligations.specs.declared.certificates.Node.{Node}
 use Rattle.obligations.specs.Certificates.{arity}
 use Rattle.obligations.specs.Scopes.{scope_of}
-use Rattle.certificate_check.specs.Sums.{all_pairs, stated}
-use Rattle.certificate_check.specs.Refutation.{OpenBranch, fails, allowing, made, made_by, made_sum, made_round}
-use Rattle.certificate_check.specs.Refutation.{made_share, walk}
+use Rattle.certificate_rules.specs.Sums.{all_pairs, stated}
+use Rattle.certificate_rules.specs.Refutation.{OpenBranch, fails, allowing, made, made_by, made_sum, made_round}
+use Rattle.certificate_rules.specs.Refutation.{made_share, walk}
 use Rattle.certificate_machine.specs.declared.errors.Stop.{Stop}
-use Rattle.certificate_machine.specs.declared.machine.Machine.{Machine}
+use Rattle.certificate_machine.specs.declared.frames.Machine.{Machine}
 use Rattle.certificate_machine.specs.Machines.{Goes, GoesErr, IsLightMachine, IsScoped, pendings, behind}
 use Rattle.event_checker.specs.declared.reading.Open.{Open}
 use Rattle.event_checker.specs.declared.reading.Reading.{Reading}

@@ -8,14 +8,14 @@ use Rattle.obligations.specs.declared.branches.Variable.{Variable}
 use Rattle.obligations.specs.declared.certificates.Node.{Node}
 use Rattle.obligations.specs.Certificates.{arity}
 use Rattle.obligations.specs.Scopes.{scope_of}
-use Rattle.certificate_check.specs.Sums.{PairStep, each_pair, then_by}
-use Rattle.certificate_check.specs.Refutation.{NodeEffect, fails, opens, OpenBranch, after, allowing, go_on}
-use Rattle.certificate_check.specs.Refutation.{made, made_by, pending, walk}
-use Rattle.certificate_check.specs.Trees.{is_whole}
-use Rattle.certificate_check.proofs.RefutationLaws.{walk-appends}
-use Rattle.certificate_check.proofs.WholeLaws.{opened-arity}
+use Rattle.certificate_rules.specs.Sums.{PairStep, each_pair, then_by}
+use Rattle.certificate_rules.specs.Refutation.{NodeEffect, fails, opens, OpenBranch, after, allowing, go_on}
+use Rattle.certificate_rules.specs.Refutation.{made, made_by, pending, walk}
+use Rattle.certificate_rules.specs.Trees.{is_whole}
+use Rattle.certificate_rules.proofs.RefutationLaws.{walk-appends}
+use Rattle.certificate_rules.proofs.WholeLaws.{opened-arity}
 use Rattle.certificate_machine.specs.declared.errors.Stop.{Stop}
-use Rattle.certificate_machine.specs.declared.machine.Machine.{Machine}
+use Rattle.certificate_machine.specs.declared.frames.Machine.{Machine}
 use Rattle.certificate_machine.specs.Machines.{Goes, GoesErr, pendings, rest_of, step_by, behind}
 use Rattle.certificate_machine.proofs.MachineLaws.{made-allowed}
 use Rattle.event_checker.specs.Readings.{At}

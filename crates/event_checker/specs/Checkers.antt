@@ -6,11 +6,10 @@ use Rattle.obligations.specs.declared.branches.Obligation.{Obligation}
 use Rattle.obligations.specs.declared.certificates.Node.{Node}
 use Rattle.obligations.specs.Obligations.{AreOwn}
 use Rattle.obligations.specs.Opening.{Valid, first_branch}
-use Rattle.certificate_check.specs.declared.errors.CertError.{CertError}
-use Rattle.certificate_check.specs.Sums.{is_false}
-use Rattle.certificate_check.specs.Refutation.{allowing, walk_from_root}
-use Rattle.certificate_check.specs.Trees.{Refuted}
-use Rattle.certificate_check.specs.Machines.{FailsReading}
+use Rattle.certificate_rules.specs.Sums.{is_false}
+use Rattle.certificate_rules.specs.Refutation.{WalkResult, allowing, walk_from_root}
+use Rattle.certificate_rules.specs.Trees.{Refuted}
+use Rattle.event_checker.specs.declared.errors.CertError.{CertError}
 use Rattle.event_checker.specs.declared.reading.Open.{Open}
 use Rattle.event_checker.specs.declared.reading.Reading.{Reading}
 use Rattle.event_checker.specs.declared.checker.Checker.{Checker}
@@ -32,6 +31,11 @@ pub record IsReady (c : Checker) : Type 0 where
   pub events : List CertEvent
   pub own : AreOwn c.obligation.variables
   pub stands : StandsFor levels c c.obligation events
+
+-- the error is the first node that fails and its code, or that memory was refused
+abbrev pub FailsReading : WalkResult → CertError → Type 0
+FailsReading r (CertError.Fault code node) = r ≡ Err (code, node)
+FailsReading r CertError.Memory = Unit {0}
 
 -- the answer for the nodes of a whole tree
 pub record Judges (levels : ℕ) (o : Obligation) (nodes : List Node) (r : Result (Unit {0}) CertError) : Type 0 where

@@ -3,18 +3,24 @@ use Rattle.std.specs.Prelude.{ℕ, ℤ, Bool, true, false, List, [], ◌∷◌, 
 use Rattle.std.specs.List.{flat_map}
 use Rattle.unity_base.specs.declared.events.CertEvent.{CertEvent}
 use Rattle.obligations.specs.declared.certificates.Node.{Node}
+use Rattle.obligations.specs.Certificates.{node_pairs}
 
--- what a node tells
+-- what a pair tells
 abbrev pub pair_event : ℤ × ℕ → CertEvent
 pair_event p = CertEvent.Pair p.0 p.1
 
+-- the event that begins a node
+abbrev pub beginning : Node → CertEvent
+beginning (Node.Case k) = CertEvent.Case k
+beginning (Node.Split v k) = CertEvent.Split v k
+beginning (Node.Sum ps) = CertEvent.Sum
+beginning (Node.Round d ps) = CertEvent.Round d
+beginning (Node.Quot k) = CertEvent.Quot k
+beginning (Node.Share c ps) = CertEvent.Share c
+
+-- what a node tells: that it begins, and its pairs
 abbrev pub node_events : Node → List CertEvent
-node_events (Node.Case k) = CertEvent.Case k ∷ []
-node_events (Node.Split v k) = CertEvent.Split v k ∷ []
-node_events (Node.Sum ps) = CertEvent.Sum ∷ map pair_event ps
-node_events (Node.Round d ps) = CertEvent.Round d ∷ map pair_event ps
-node_events (Node.Quot k) = CertEvent.Quot k ∷ []
-node_events (Node.Share c ps) = CertEvent.Share c ∷ map pair_event ps
+node_events n = beginning n ∷ map pair_event (node_pairs n)
 
 -- what nodes tell, one after the other
 abbrev pub events_of : List Node → List CertEvent

@@ -9,10 +9,10 @@ use Rattle.obligations.specs.declared.branches.Line.{Line}
 use Rattle.obligations.specs.declared.branches.Variable.{Variable}
 use Rattle.obligations.specs.declared.certificates.Node.{Node}
 use Rattle.obligations.specs.Load.{is_small}
-use Rattle.certificate_check.specs.Sums.{fact_step, variable_step, all_pairs, stated}
-use Rattle.certificate_check.specs.Refutation.{OpenBranch, walk, made_sum, made_round, made_share}
+use Rattle.certificate_rules.specs.Sums.{fact_step, variable_step, all_pairs, stated}
+use Rattle.certificate_rules.specs.Refutation.{OpenBranch, walk, made_sum, made_round, made_share}
 use Rattle.certificate_machine.specs.declared.errors.Stop.{Stop}
-use Rattle.certificate_machine.specs.declared.machine.Machine.{Machine}
+use Rattle.certificate_machine.specs.declared.frames.Machine.{Machine}
 use Rattle.certificate_machine.specs.Machines.{Goes, GoesErr, IsFit, IsLightMachine, IsScoped, pendings}
 use Rattle.event_checker.specs.declared.reading.Open.{Open}
 use Rattle.event_checker.specs.declared.reading.Reading.{Reading}

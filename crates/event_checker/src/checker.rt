@@ -4,17 +4,15 @@ ghost use Rattle.unity_base.specs.declared.events.CertEvent.{CertEvent};
 ghost use Rattle.obligations.specs.declared.certificates.Node.{Node};
 ghost use Rattle.obligations.specs.declared.branches.Obligation.{Obligation};
 ghost use Rattle.obligations.specs.Obligations.{IsObligation};
-ghost use Rattle.certificate_check.specs.Trees.{is_whole};
-ghost use Rattle.event_checker.specs.Checkers.{HasVerdict};
+ghost use Rattle.certificate_rules.specs.Trees.{is_whole};
 ghost use Rattle.event_checker.specs.Events.{is_node_event};
 
-use crate::reading::{Open, Reading, take_node, take_pair};
-use case_tables::Code;
-use certificate_check::{CertError, closes};
-use certificate_machine::Machine;
-use obligations::{Obligation, has_room, open_branch, scope_of, zero_line};
+use crate::ends::{open_reading, verdict};
+use crate::errors::CertError;
+use crate::reading::{Reading, take_node, take_pair};
+use obligations::Obligation;
 use std::alloc::{AllocError, Global};
-use unity_base::{CertEvent, Seq};
+use unity_base::CertEvent;
 
 /// A certificate of an obligation that is being checked, event by event. After a first node that fails nothing more is
 /// looked at.
@@ -38,26 +36,6 @@ fn begins_node(e: CertEvent) -> bool
     }
 }
 
-/// What the nodes that were read come to, where they are a whole tree.
-fn verdict(reading: &Reading) -> Result<(), CertError>
-    ensures { HasVerdict reading.now result }
-{
-    match reading.state {
-        Open::Failed { code, node } => Err(CertError::Fault { code, node }),
-        Open::Sum => {
-            if closes(&reading.line) {
-                Ok(())
-            } else {
-                Err(CertError::Fault {
-                    code: Code::BadSum,
-                    node: reading.node,
-                })
-            }
-        }
-        _ => Ok(()),
-    }
-}
-
 impl Checker {
     ghost use Rattle.event_checker.specs.Checkers.{IsReady, Judges, StandsFor, checker_obligation};
     ghost use Rattle.event_checker.specs.Events.{events_of, is_pair};
@@ -70,25 +48,7 @@ impl Checker {
         ensures stands { IfOk result (λ c. StandsFor levels c o []) }
         ensures ready { IfOk result IsReady }
     {
-        if !has_room(&o) {
-            return Err(AllocError);
-        }
-        let branch = open_branch(alloc, &o)?;
-        let variables = scope_of(alloc, o.variables.as_slice(), 0)?;
-        let line = zero_line(alloc, o.variables.as_slice())?;
-        let machine = Machine {
-            levels,
-            branch,
-            variables,
-            frames: Seq::new(alloc),
-            done: false,
-        };
-        let reading = Reading {
-            machine,
-            state: Open::Nothing,
-            line,
-            node: 0,
-        };
+        let reading = open_reading(alloc, &o, levels)?;
         Ok(Checker {
             obligation: o,
             reading,

@@ -5,7 +5,7 @@ ghost use Rattle.obligations.specs.declared.certificates.Node.{Node};
 ghost use Rattle.obligations.specs.Obligations.{AreOwn};
 ghost use Rattle.obligations.specs.Load.{is_small};
 ghost use Rattle.obligations.specs.LinearForms.{line_of_const};
-ghost use Rattle.certificate_check.specs.Refutation.{OpenBranch};
+ghost use Rattle.certificate_rules.specs.Refutation.{OpenBranch};
 ghost use Rattle.certificate_machine.specs.Machines.{IsFit, IsLightMachine, IsScoped};
 ghost use Rattle.event_checker.specs.Events.{is_node_event, paired, with_event};
 ghost use Rattle.event_checker.specs.Readings.{pair_makes, has_pairs, next_node, after, is_over, CanFinish, Finishes};
@@ -13,10 +13,10 @@ ghost use Rattle.event_checker.specs.Readings.{FinishFails};
 ghost use Rattle.event_checker.specs.Readings.{IsStopped, IsOpened, At, IsAt, Stands, IsReady, Passed};
 
 use case_tables::Code;
-use certificate_check::add_pairs;
 use certificate_machine::{
-    Machine, Stop, add_variable, close, open_case, open_quot, open_share, open_split, round,
+    Machine, Stop, close, open_case, open_quot, open_share, open_split, round,
 };
+use certificate_rules::{add_pairs, add_variable};
 use obligations::{Fact, Line, Variable, zero_line};
 use std::alloc::{AllocError, Global};
 use unity_base::CertEvent;

@@ -2,9 +2,9 @@
 use Rattle.std.proofs.Common.{◌≡◌, ℕ, true, List, [], ◌∷◌, ◌++◌, refl}
 use Rattle.obligations.specs.declared.branches.Fact.{Fact}
 use Rattle.obligations.specs.declared.certificates.Node.{Node}
-use Rattle.certificate_check.specs.Sums.{divided}
+use Rattle.certificate_rules.specs.Sums.{divided}
 use Rattle.obligations.specs.LinearForms.{fact_of}
-use Rattle.certificate_check.specs.Trees.{is_whole}
+use Rattle.certificate_rules.specs.Trees.{is_whole}
 use Rattle.linear_prover.specs.Chains.{Closes}
 
 pub closes_whole : (count : ℕ) (facts : List Fact) (ns : List Node) → Closes count facts ns → is_whole ns 1 ≡ true

@@ -2,7 +2,7 @@
 use Rattle.std.proofs.Common.{◌≡◌, ◌≤◌, ℕ, zero, suc, ◌+◌, true, List, [], ◌∙◌, arith, ap, subst}
 use Rattle.std.proofs.lemmas.List.{append-nil}
 use Rattle.obligations.specs.declared.certificates.Node.{Node}
-use Rattle.certificate_check.specs.Trees.{is_whole}
+use Rattle.certificate_rules.specs.Trees.{is_whole}
 use Rattle.examples_limits.specs.Open.{Wants}
 
 pub one_more : (a b : List Node) (n : ℕ) → 1 ≤ n → ((k : ℕ) → Wants a (suc k) → Wants b (suc (suc k))) → Wants a n →

@@ -2,7 +2,7 @@
 // close facts, which it takes as well.
 ghost use Rattle.std.specs.Prelude.{◌≡◌, ℕ, suc, true, IfOk, OnOk};
 ghost use Rattle.obligations.specs.Obligations.{IsObligation};
-ghost use Rattle.certificate_check.specs.Trees.{is_whole};
+ghost use Rattle.certificate_rules.specs.Trees.{is_whole};
 ghost use Rattle.examples_limits.specs.Open.{Wants};
 
 use crate::preconditions::digit;

@@ -2,7 +2,7 @@
 ghost use Rattle.std.specs.Prelude.{◌≡◌, ◌≤◌, ◌≤ℤ◌, true, IfOk};
 ghost use Rattle.core_terms.specs.Places.{form_slots, form_params};
 ghost use Rattle.obligations.specs.Obligations.{IsObligation};
-ghost use Rattle.certificate_check.specs.Trees.{is_whole};
+ghost use Rattle.certificate_rules.specs.Trees.{is_whole};
 
 use case_tables::Code;
 use certificate_check::{CertError, check_cert};

@@ -16,8 +16,8 @@ use Rattle.core_terms.specs.Values.{number_at}
 use Rattle.meaning_states.specs.State.{int_eq}
 use Rattle.obligations.specs.LinearForms.{sparse, fact_of}
 use Rattle.obligations.specs.Load.{is_small}
-use Rattle.certificate_check.specs.Sums.{then_by, fact_step, add_pair, is_divisible, divided}
-use Rattle.certificate_check.specs.Refutation.{opens, fails, made_sum}
+use Rattle.certificate_rules.specs.Sums.{then_by, fact_step, add_pair, is_divisible, divided}
+use Rattle.certificate_rules.specs.Refutation.{opens, fails, made_sum}
 use Rattle.obligations.specs.Reach.{is_exact, are_opposite, divisor_of, is_moderate, is_moderate_fact, is_some_factor}
 use Rattle.obligations.specs.Reach.{clash}
 use Rattle.linear_prover.specs.Exact.{factor_in}

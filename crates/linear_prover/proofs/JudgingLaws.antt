@@ -4,8 +4,8 @@ use Rattle.std.proofs.Common.{get_or, arith, refl, sym, ap, subst, ◌∙◌}
 use Rattle.std.proofs.Math.Seq.{drop-cons}
 use Rattle.obligations.specs.declared.branches.Fact.{Fact}
 use Rattle.obligations.specs.declared.certificates.Node.{Node}
-use Rattle.certificate_check.specs.Sums.{is_divisible}
-use Rattle.certificate_check.specs.Refutation.{opens, made_sum}
+use Rattle.certificate_rules.specs.Sums.{is_divisible}
+use Rattle.certificate_rules.specs.Refutation.{opens, made_sum}
 use Rattle.linear_prover.specs.Chains.{nulls, total_pairs, Closes, IsRoundStep, AddsRound}
 
 pub nulls_more : (n : ℕ) → nulls (n + 1) ≡ nulls n ++ pos 0 ∷ []

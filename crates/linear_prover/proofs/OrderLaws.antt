@@ -21,9 +21,9 @@ use Rattle.obligations.specs.LinearForms.{add_at, sparse, fact_of}
 use Rattle.obligations.specs.Load.{is_small}
 use Rattle.obligations.specs.Reach.{is_exact, is_within, are_exact}
 use Rattle.obligations.proofs.LineLaws.{length-add_at}
-use Rattle.certificate_check.specs.Refutation.{NodeEffect, fails, opens, made_sum}
-use Rattle.certificate_check.specs.Sums.{add_factors, with_constant, add_times, numbered, or_too_big, add_pair}
-use Rattle.certificate_check.specs.Sums.{then_by, sum_pairs, is_divisible, divided}
+use Rattle.certificate_rules.specs.Refutation.{NodeEffect, fails, opens, made_sum}
+use Rattle.certificate_rules.specs.Sums.{add_factors, with_constant, add_times, numbered, or_too_big, add_pair}
+use Rattle.certificate_rules.specs.Sums.{then_by, sum_pairs, is_divisible, divided}
 use Rattle.linear_prover.specs.Chains.{nulls, null_line, total_pairs, Closes}
 use Rattle.linear_prover.specs.Exact.{factor_in, is_once, is_fact, factors_from, in_order}
 use Rattle.linear_prover.proofs.SumLaws.{length-nulls, nulls-at, small-is, factor-here, factor-else, add-there}

@@ -15,8 +15,8 @@ use Rattle.core_terms.specs.Values.{number_at}
 use Rattle.meaning_states.specs.State.{int_eq}
 use Rattle.obligations.specs.LinearForms.{add_at}
 use Rattle.obligations.specs.Load.{is_small}
-use Rattle.certificate_check.specs.Sums.{add_factors, with_constant, add_times, or_too_big, add_pair, sum_pairs}
-use Rattle.certificate_check.specs.Refutation.{fails, opens, made_sum}
+use Rattle.certificate_rules.specs.Sums.{add_factors, with_constant, add_times, or_too_big, add_pair, sum_pairs}
+use Rattle.certificate_rules.specs.Refutation.{fails, opens, made_sum}
 use Rattle.obligations.proofs.LineLaws.{length-add_at}
 use Rattle.obligations.specs.declared.branches.Bound.{Bound}
 use Rattle.obligations.specs.Reach.{is_exact, is_within, is_bound_of, tighter, tightest, side_for, Total, total_with}

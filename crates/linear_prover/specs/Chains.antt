@@ -9,8 +9,8 @@ use Rattle.obligations.specs.declared.certificates.Node.{Node}
 use Rattle.case_tables.specs.declared.code_table.Code.{Code}
 use Rattle.obligations.specs.Certificates.{units}
 use Rattle.obligations.specs.LinearForms.{fact_of}
-use Rattle.certificate_check.specs.Sums.{sum_pairs, is_divisible, divided}
-use Rattle.certificate_check.specs.Refutation.{opens, made_sum}
+use Rattle.certificate_rules.specs.Sums.{sum_pairs, is_divisible, divided}
+use Rattle.certificate_rules.specs.Refutation.{opens, made_sum}
 
 -- as many zeros
 abbrev pub nulls : ℕ → List ℤ

@@ -9,7 +9,7 @@ ghost use Rattle.linear_prover.specs.Exact.{factors_from, in_order, is_fact};
 use crate::elimination::eliminate;
 use crate::judging::no_sum;
 use crate::reach::reach_chain;
-use certificate_check::rounded;
+use certificate_rules::rounded;
 use obligations::{Fact, Line, Node};
 use std::alloc::{AllocError, Global};
 use unity_base::Seq;

@@ -5,12 +5,12 @@ ghost use Rattle.std.specs.List.{list_all};
 ghost use Rattle.std.specs.Int.{int_div_euclid, int_rem_euclid};
 ghost use Rattle.meaning_states.specs.State.{int_eq};
 ghost use Rattle.obligations.specs.LinearForms.{fact_of};
-ghost use Rattle.certificate_check.specs.Sums.{is_divisible, divided};
-ghost use Rattle.certificate_check.specs.Refutation.{made_sum, opens};
+ghost use Rattle.certificate_rules.specs.Sums.{is_divisible, divided};
+ghost use Rattle.certificate_rules.specs.Refutation.{made_sum, opens};
 ghost use Rattle.linear_prover.specs.Chains.{nulls, null_line, total_pairs, Closes, IsTotal, IsRoundStep, AddsRound};
 ghost use Rattle.linear_prover.specs.Chains.{is_plain_number, is_plain_pair, is_plain_node};
 
-use certificate_check::{add_pairs, closes, copy_fact, divides, rounded};
+use certificate_rules::{add_pairs, closes, copy_fact, divides, rounded};
 use obligations::{Fact, Line, Node};
 use std::alloc::{AllocError, Global};
 use unity_base::Seq;

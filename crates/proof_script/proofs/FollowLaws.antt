@@ -16,9 +16,9 @@ use Rattle.core_terms.specs.declared.documents.CDocument.{CDocument}
 use Rattle.core_terms.specs.Conditions.{IsCoreDocument, IsProof}
 use Rattle.obligations.specs.declared.branches.Obligation.{Obligation}
 use Rattle.obligations.specs.declared.certificates.Cert.{Cert}
-use Rattle.certificate_check.specs.Refutation.{walk_from_root}
-use Rattle.certificate_check.specs.Trees.{is_whole}
-use Rattle.certificate_check.proofs.WholeLaws.{walked-refutes, refutes-walked}
+use Rattle.certificate_rules.specs.Refutation.{walk_from_root}
+use Rattle.certificate_rules.specs.Trees.{is_whole}
+use Rattle.certificate_rules.proofs.WholeLaws.{walked-refutes, refutes-walked}
 use Rattle.fair_rounds.specs.declared.records.Record.{Record}
 use Rattle.rules_table.specs.Conclusion.{Conclusion}
 use Rattle.rules_table.specs.Validity.{Goal, goal_obligation}

@@ -16,9 +16,9 @@ use Rattle.obligations.specs.Certificates.{units}
 use Rattle.obligations.specs.Obligations.{IsObligation}
 use Rattle.obligations.specs.Opening.{Valid}
 use Rattle.obligations.specs.Plain.{enough}
-use Rattle.certificate_check.specs.Trees.{is_whole}
-use Rattle.certificate_check.proofs.SoundLaws.{sound}
-use Rattle.certificate_check.proofs.WholeLaws.{more-levels}
+use Rattle.certificate_rules.specs.Trees.{is_whole}
+use Rattle.certificate_rules.proofs.SoundLaws.{sound}
+use Rattle.certificate_rules.proofs.WholeLaws.{more-levels}
 use Rattle.fair_rounds.specs.declared.records.Record.{Record}
 use Rattle.linear_prover.specs.Chains.{is_plain_node}
 use Rattle.search_tree.specs.Searching.{Proof, Counterexample, Partial, is_found_node}

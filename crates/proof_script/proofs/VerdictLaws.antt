@@ -12,8 +12,8 @@ use Rattle.core_terms.specs.declared.documents.CDocument.{CDocument}
 use Rattle.obligations.specs.declared.branches.Obligation.{Obligation}
 use Rattle.obligations.specs.declared.certificates.Cert.{Cert}
 use Rattle.obligations.specs.Obligations.{IsObligation}
-use Rattle.certificate_check.specs.Refutation.{WalkResult, walk_from_root}
-use Rattle.certificate_check.proofs.SoundLaws.{sound}
+use Rattle.certificate_rules.specs.Refutation.{WalkResult, walk_from_root}
+use Rattle.certificate_rules.proofs.SoundLaws.{sound}
 use Rattle.rules_table.specs.Conclusion.{Conclusion}
 use Rattle.rules_table.specs.Validity.{Goal, goal_obligation, AllValid}
 use Rattle.rules_table.specs.Table.{needs}

@@ -9,7 +9,7 @@ use Rattle.core_terms.specs.declared.documents.CProof.{CProof}
 use Rattle.core_terms.specs.declared.documents.CDocument.{CDocument}
 use Rattle.core_terms.specs.Conditions.{IsCoreDocument}
 use Rattle.obligations.specs.declared.certificates.Cert.{Cert}
-use Rattle.certificate_check.specs.Trees.{Refuted}
+use Rattle.certificate_rules.specs.Trees.{Refuted}
 use Rattle.fair_rounds.specs.declared.records.Record.{Record}
 use Rattle.rules_table.specs.Validity.{Goal, goal_obligation}
 use Rattle.rules_table.specs.Conclusion.{Conclusion}

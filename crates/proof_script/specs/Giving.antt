@@ -3,7 +3,7 @@ use Rattle.std.specs.Prelude.{◌≡◌, List, true, Some, Result, Ok, Err, All,
 use Rattle.core_terms.specs.declared.programs.CProgram.{CProgram}
 use Rattle.core_terms.specs.declared.documents.CDocument.{CDocument}
 use Rattle.obligations.specs.declared.certificates.Cert.{Cert}
-use Rattle.certificate_check.specs.Trees.{is_whole}
+use Rattle.certificate_rules.specs.Trees.{is_whole}
 use Rattle.fair_rounds.specs.declared.records.Record.{Record}
 use Rattle.fair_rounds.specs.Records.{Holds}
 use Rattle.rules_table.specs.Walk.{program_of}

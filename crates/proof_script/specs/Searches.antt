@@ -4,7 +4,7 @@ use Rattle.std.specs.Prelude.{All}
 use Rattle.obligations.specs.declared.branches.Obligation.{Obligation}
 use Rattle.obligations.specs.declared.certificates.Cert.{Cert}
 use Rattle.obligations.specs.Obligations.{IsObligation}
-use Rattle.certificate_check.specs.Refutation.{walk_from_root}
+use Rattle.certificate_rules.specs.Refutation.{walk_from_root}
 use Rattle.proof_script.specs.declared.plans.Plan.{Plan}
 use Rattle.proof_script.specs.declared.refuting.StepName.{StepName}
 use Rattle.proof_script.specs.declared.finding.Finding.{Finding}

@@ -9,7 +9,7 @@ use Rattle.core_terms.specs.declared.documents.CProof.{CProof}
 use Rattle.core_terms.specs.declared.documents.CDocument.{CDocument}
 use Rattle.obligations.specs.declared.branches.Obligation.{Obligation}
 use Rattle.obligations.specs.declared.certificates.Cert.{Cert}
-use Rattle.certificate_check.specs.Refutation.{WalkResult, walk_from_root}
+use Rattle.certificate_rules.specs.Refutation.{WalkResult, walk_from_root}
 use Rattle.rules_table.specs.Table.{needs}
 use Rattle.rules_table.specs.Walk.{Around, has_defined, program_of, rule_of}
 use Rattle.safety_rules.specs.declared.places.Derived.{Derived}

@@ -10,8 +10,8 @@ use Rattle.obligations.specs.Obligations.{IsObligation}
 use Rattle.obligations.specs.Opening.{first_branch}
 use Rattle.obligations.specs.Plain.{ranges_of, plain_leaves, leaf_units_of, quotients_in, enough}
 use Rattle.obligations.proofs.NumberLaws.{obligation-variables}
-use Rattle.certificate_check.specs.Refutation.{walk_from_root}
-use Rattle.certificate_check.specs.Trees.{is_whole}
+use Rattle.certificate_rules.specs.Refutation.{walk_from_root}
+use Rattle.certificate_rules.specs.Trees.{is_whole}
 use Rattle.search_tree.specs.declared.searching.Found.{Found}
 use Rattle.search_tree.specs.Searching.{Proof, SearchAnswers, is_found_node}
 use Rattle.search_tree.proofs.ReadyLaws.{leaves-some}

@@ -23,12 +23,12 @@ use Rattle.obligations.specs.Quotients.{is_either, without_quotient}
 use Rattle.obligations.specs.Scopes.{next_param, scope_of}
 use Rattle.obligations.specs.Settling.{settled, sides, added, without}
 use Rattle.obligations.specs.Shapes.{shapes, quotients_of}
-use Rattle.certificate_check.specs.Sums.{all_pairs, is_false, is_divisible, divided, stated, below_0}
-use Rattle.certificate_check.specs.Refutation.{NodeEffect, fails, opens, OpenBranch, made_case, made_quot, made_sum}
-use Rattle.certificate_check.specs.Refutation.{made_round, made_share, made_by, made, pending, after, walk}
-use Rattle.certificate_check.specs.Refutation.{walk_from_root}
-use Rattle.certificate_check.specs.Trees.{is_whole}
-use Rattle.certificate_check.proofs.WholeLaws.{opened-arity}
+use Rattle.certificate_rules.specs.Sums.{all_pairs, is_false, is_divisible, divided, stated, below_0}
+use Rattle.certificate_rules.specs.Refutation.{NodeEffect, fails, opens, OpenBranch, made_case, made_quot, made_sum}
+use Rattle.certificate_rules.specs.Refutation.{made_round, made_share, made_by, made, pending, after, walk}
+use Rattle.certificate_rules.specs.Refutation.{walk_from_root}
+use Rattle.certificate_rules.specs.Trees.{is_whole}
+use Rattle.certificate_rules.proofs.WholeLaws.{opened-arity}
 use Rattle.linear_prover.specs.Chains.{is_plain_node}
 use Rattle.search_tree.specs.Searching.{is_found_node}
 use Rattle.search_tree.proofs.QuotientShapes.{without-less}

@@ -4,8 +4,8 @@ use Rattle.std.specs.List.{list_all}
 use Rattle.obligations.specs.declared.branches.Obligation.{Obligation}
 use Rattle.obligations.specs.declared.certificates.Node.{Node}
 use Rattle.obligations.specs.Plain.{quotients_in}
-use Rattle.certificate_check.specs.Refutation.{walk_from_root}
-use Rattle.certificate_check.specs.Trees.{is_whole}
+use Rattle.certificate_rules.specs.Refutation.{walk_from_root}
+use Rattle.certificate_rules.specs.Trees.{is_whole}
 use Rattle.linear_prover.specs.Chains.{is_plain_node}
 use Rattle.search_tree.specs.declared.searching.Found.{Found}
 use Rattle.search_tree.specs.Searching.{is_found_node}

@@ -2,7 +2,7 @@
 ghost use Rattle.std.specs.Prelude.{◌≡◌, ◌^◌, true};
 ghost use Rattle.std.specs.List.{list_all};
 ghost use Rattle.obligations.specs.Certificates.{arity};
-ghost use Rattle.certificate_check.specs.Trees.{is_whole};
+ghost use Rattle.certificate_rules.specs.Trees.{is_whole};
 ghost use Rattle.linear_prover.specs.Chains.{is_plain_number, is_plain_pair};
 ghost use Rattle.search_tree.specs.Searching.{is_found_node};
 

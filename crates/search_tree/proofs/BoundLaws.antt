@@ -6,7 +6,7 @@ use Rattle.std.proofs.lemmas.Bool.{and_parts}
 use Rattle.core_terms.specs.declared.trees.Range.{Range}
 use Rattle.std.proofs.Common.{List, [], ◌∷◌, length, drop, get_or, slice_get, arith, refl, sym, ap, subst, ◌∙◌}
 use Rattle.obligations.specs.declared.branches.Fact.{Fact}
-use Rattle.certificate_check.specs.Sums.{numbered}
+use Rattle.certificate_rules.specs.Sums.{numbered}
 use Rattle.linear_prover.specs.Chains.{is_plain_number, is_plain_factor}
 use Rattle.obligations.specs.Obligations.{is_sound_range}
 use Rattle.obligations.specs.Opening.{at_least, at_most}

@@ -24,7 +24,7 @@ use Rattle.obligations.specs.Scopes.{next_param, scope_of, with_next}
 use Rattle.obligations.specs.Shapes.{shapes, quotients_of}
 use Rattle.obligations.specs.declared.branches.Replaced.{Replaced}
 use Rattle.search_tree.specs.Searching.{Met, Ends, BudgetEnded, TriedShortly, IsClosed, quotients_at, levels_of}
-use Rattle.certificate_check.specs.Refutation.{opens, made, allowing}
+use Rattle.certificate_rules.specs.Refutation.{opens, made, allowing}
 use Rattle.linear_prover.specs.Chains.{is_plain_number}
 use Rattle.search_tree.proofs.TreeLaws.{node-stopped, first-stopped, second-ends, quot-ends}
 use Rattle.search_tree.proofs.MetLaws.{first-met, second-met, added-met, quot-met}

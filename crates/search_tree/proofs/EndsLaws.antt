@@ -26,7 +26,7 @@ use Rattle.obligations.specs.Quotients.{with_quotient}
 use Rattle.obligations.specs.Scopes.{next_param, scope_of}
 use Rattle.obligations.specs.Shapes.{quotients_of}
 use Rattle.obligations.proofs.ScopeLaws.{scope-length}
-use Rattle.certificate_check.specs.Refutation.{opens, made, allowing}
+use Rattle.certificate_rules.specs.Refutation.{opens, made, allowing}
 use Rattle.linear_prover.specs.Chains.{Closes, ClosesShortly, is_plain_node}
 use Rattle.linear_prover.specs.Tables.{IsAt}
 use Rattle.linear_prover.proofs.ChainLaws.{refuted-chain, clashed-chain}

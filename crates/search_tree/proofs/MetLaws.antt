@@ -17,7 +17,7 @@ use Rattle.obligations.specs.Settling.{settled, sides, added, form_at, branch_ho
 use Rattle.obligations.proofs.ScopeLaws.{scope-length}
 use Rattle.obligations.proofs.SettlingLaws.{settled-holds}
 use Rattle.obligations.proofs.TakenHolds.{quotient-back}
-use Rattle.certificate_check.proofs.RefutationLaws.{side_in, holds-without, holds-added}
+use Rattle.certificate_rules.proofs.RefutationLaws.{side_in, holds-without, holds-added}
 use Rattle.search_tree.specs.Searching.{Met}
 
 or-left : (a b : Bool) → a ≡ true → (a || b) ≡ true

@@ -35,7 +35,7 @@ use Rattle.obligations.proofs.RingLaws.{times-add}
 use Rattle.obligations.proofs.ScopeLaws.{scope-length}
 use Rattle.linear_prover.specs.Chains.{Closes, ClosesShortly, is_plain_factor, is_plain_pair, is_plain_node}
 use Rattle.linear_prover.proofs.ChainLaws.{exact-at}
-use Rattle.certificate_check.specs.Sums.{numbered}
+use Rattle.certificate_rules.specs.Sums.{numbered}
 use Rattle.search_tree.specs.declared.points.Point.{Point}
 use Rattle.search_tree.specs.Points.{values_in, pair_at, IsPoint, ArePoints, Chained, Pointed}
 use Rattle.search_tree.specs.Searching.{Has, AreBounded, widths, is_slender, IsTaken, AreTaken}

@@ -27,7 +27,7 @@ use Rattle.obligations.specs.Opening.{range_facts, ranges_only, first_branch}
 use Rattle.obligations.specs.LinearForms.{fact_holds}
 use Rattle.obligations.specs.Settling.{sides, added}
 use Rattle.obligations.specs.Opening.{at_most, at_least}
-use Rattle.certificate_check.specs.Refutation.{split_at, made_quot, fails, opens, made, allowing}
+use Rattle.certificate_rules.specs.Refutation.{split_at, made_quot, fails, opens, made, allowing}
 use Rattle.obligations.specs.Reach.{is_exact, is_within, are_exact, some_out_of_reach}
 use Rattle.obligations.specs.Plain.{Cut, ranges_of, first_cut, with_high, with_low, waiting_only, cuts_of}
 use Rattle.obligations.specs.Plain.{plain_leaves, open_leaves, side_leaves, quot_leaves, cut_leaves}
@@ -50,8 +50,8 @@ use Rattle.search_tree.proofs.SearchLaws.{made-level}
 use Rattle.obligations.specs.Closed.{NamesOnly}
 use Rattle.obligations.proofs.ClosedLaws.{settled-closed}
 use Rattle.obligations.proofs.ScopeLaws.{scope-length, scope-done}
-use Rattle.certificate_check.proofs.ClosedLaws.{closed-added, side-names}
-use Rattle.certificate_check.proofs.SoundLaws.{first-closed}
+use Rattle.certificate_rules.proofs.ClosedLaws.{closed-added, side-names}
+use Rattle.certificate_rules.proofs.SoundLaws.{first-closed}
 
 le-is : (a b : ℕ) → nat_le a b ≡ true → a ≤ b
 le-is a b h = grind arith

@@ -8,12 +8,12 @@ use Rattle.obligations.specs.declared.branches.Obligation.{Obligation}
 use Rattle.obligations.specs.declared.branches.Variable.{Variable}
 use Rattle.core_terms.specs.declared.trees.Range.{Range}
 use Rattle.obligations.specs.declared.certificates.Node.{Node}
-use Rattle.certificate_check.specs.Refutation.{OpenBranch}
+use Rattle.certificate_rules.specs.Refutation.{OpenBranch}
 use Rattle.obligations.specs.Settling.{form_at, branch_holds}
 use Rattle.obligations.specs.Opening.{in_ranges, first_branch, ranges_only}
-use Rattle.certificate_check.specs.Refutation.{NodeEffect, fails, opens, made, pending, after, walk}
-use Rattle.certificate_check.specs.Trees.{is_whole}
-use Rattle.certificate_check.proofs.WholeLaws.{opened-arity}
+use Rattle.certificate_rules.specs.Refutation.{NodeEffect, fails, opens, made, pending, after, walk}
+use Rattle.certificate_rules.specs.Trees.{is_whole}
+use Rattle.certificate_rules.proofs.WholeLaws.{opened-arity}
 use Rattle.linear_prover.specs.Chains.{is_plain_node}
 use Rattle.std.specs.List.{list_all}
 use Rattle.obligations.proofs.OpeningLaws.{first-holds}

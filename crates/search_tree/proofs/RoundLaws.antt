@@ -20,7 +20,7 @@ use Rattle.obligations.specs.LinearForms.{sparse, fact_of, sum_of}
 use Rattle.obligations.specs.Opening.{at_least, at_most}
 use Rattle.obligations.specs.Load.{is_small}
 use Rattle.obligations.specs.Reach.{is_exact, is_within, side_for}
-use Rattle.certificate_check.specs.Sums.{numbered, add_pair, sum_pairs, divided}
+use Rattle.certificate_rules.specs.Sums.{numbered, add_pair, sum_pairs, divided}
 use Rattle.linear_prover.specs.Chains.{null_line, total_pairs, Closes, is_plain_factor}
 use Rattle.linear_prover.specs.Exact.{factor_in}
 use Rattle.linear_prover.proofs.DivisionLaws.{no-rest, part-none, number-map}

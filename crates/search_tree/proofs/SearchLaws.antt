@@ -14,13 +14,13 @@ use Rattle.obligations.specs.declared.branches.Branch.{Branch}
 use Rattle.obligations.specs.declared.branches.Variable.{Variable}
 use Rattle.core_terms.specs.declared.trees.CForm.{CForm}
 use Rattle.obligations.specs.declared.certificates.Node.{Node}
-use Rattle.certificate_check.specs.Refutation.{OpenBranch}
+use Rattle.certificate_rules.specs.Refutation.{OpenBranch}
 use Rattle.obligations.specs.declared.branches.Fact.{Fact}
 use Rattle.obligations.specs.LinearForms.{zeros, fact_of}
 use Rattle.obligations.specs.Settling.{settled, outcome}
-use Rattle.certificate_check.specs.Sums.{sum_pairs, all_pairs, divided}
+use Rattle.certificate_rules.specs.Sums.{sum_pairs, all_pairs, divided}
 use Rattle.obligations.specs.Settling.{added}
-use Rattle.certificate_check.specs.Refutation.{fails, opens, made_by, made_sum, made_round, made, allowing}
+use Rattle.certificate_rules.specs.Refutation.{fails, opens, made_by, made_sum, made_round, made, allowing}
 use Rattle.search_tree.specs.declared.trail.Trail.{Trail}
 use Rattle.search_tree.specs.declared.trail.Ended.{Ended}
 use Rattle.linear_prover.specs.Chains.{nulls, total_pairs, Closes, is_plain_node}

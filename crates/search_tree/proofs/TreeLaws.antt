@@ -5,8 +5,8 @@ use Rattle.std.proofs.Math.Nat.{mul-le-mul_right}
 use Rattle.obligations.specs.declared.branches.Branch.{Branch}
 use Rattle.obligations.specs.declared.branches.Variable.{Variable}
 use Rattle.obligations.specs.declared.certificates.Node.{Node}
-use Rattle.certificate_check.specs.Refutation.{OpenBranch}
-use Rattle.certificate_check.specs.Refutation.{opens, made, allowing}
+use Rattle.certificate_rules.specs.Refutation.{OpenBranch}
+use Rattle.certificate_rules.specs.Refutation.{opens, made, allowing}
 use Rattle.search_tree.specs.declared.trail.Trail.{Trail}
 use Rattle.search_tree.specs.declared.trail.Ended.{Ended}
 use Rattle.obligations.specs.Certificates.{node_units, units}

@@ -2,7 +2,7 @@
 use Rattle.std.specs.Prelude.{ℕ, ◌-◌, Option, Some, None, List, [], ◌∷◌, ◌++◌}
 use Rattle.obligations.specs.declared.branches.Variable.{Variable}
 use Rattle.obligations.specs.declared.certificates.Node.{Node}
-use Rattle.certificate_check.specs.Refutation.{NodeEffect, fails, opens, OpenBranch, made, pending}
+use Rattle.certificate_rules.specs.Refutation.{NodeEffect, fails, opens, OpenBranch, made, pending}
 
 -- the branches that a node leaves to be refuted, where it is taken
 abbrev pub left_by : ℕ → List OpenBranch → NodeEffect → Option (List OpenBranch)

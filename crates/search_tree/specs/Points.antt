@@ -13,7 +13,7 @@ use Rattle.obligations.specs.Certificates.{units}
 use Rattle.obligations.specs.LinearForms.{sum_of}
 use Rattle.obligations.specs.Opening.{at_least, at_most}
 use Rattle.obligations.specs.Reach.{is_within, are_exact}
-use Rattle.certificate_check.specs.Sums.{numbered}
+use Rattle.certificate_rules.specs.Sums.{numbered}
 use Rattle.linear_prover.specs.Chains.{Closes, is_plain_node}
 use Rattle.search_tree.specs.declared.points.Point.{Point}
 use Rattle.search_tree.specs.declared.fixing.Fixing.{Fixing}

@@ -11,7 +11,7 @@ use Rattle.obligations.specs.declared.branches.Fact.{Fact}
 use Rattle.obligations.specs.declared.branches.Line.{Line}
 use Rattle.obligations.specs.declared.branches.Obligation.{Obligation}
 use Rattle.obligations.specs.declared.certificates.Node.{Node}
-use Rattle.certificate_check.specs.Refutation.{OpenBranch, HoldsAt}
+use Rattle.certificate_rules.specs.Refutation.{OpenBranch, HoldsAt}
 use Rattle.obligations.specs.Closed as names
 use Rattle.obligations.specs.LinearForms.{negated}
 use Rattle.obligations.specs.Quotients.{fact_with, raised}
@@ -20,7 +20,7 @@ use Rattle.obligations.specs.Settling.{form_at}
 use Rattle.obligations.specs.Load.{is_light_branch}
 use Rattle.obligations.specs.Obligations.{is_sound_range}
 use Rattle.obligations.specs.Opening.{in_ranges, first_branch}
-use Rattle.certificate_check.specs.Refutation.{allowing, walk_from_root, WalkResult}
+use Rattle.certificate_rules.specs.Refutation.{allowing, walk_from_root, WalkResult}
 use Rattle.obligations.specs.Opening.{at_most, at_least}
 use Rattle.search_tree.specs.declared.trail.Trail.{Trail}
 use Rattle.search_tree.specs.declared.trail.Ended.{Ended}
@@ -28,7 +28,7 @@ use Rattle.search_tree.specs.declared.searching.Found.{Found}
 use Rattle.obligations.specs.Reach.{are_exact, is_within}
 use Rattle.linear_prover.specs.Chains.{Closes, is_plain_node, is_plain_number, is_plain_factor, is_plain_pair}
 use Rattle.obligations.specs.Certificates.{units}
-use Rattle.certificate_check.specs.Trees.{is_whole}
+use Rattle.certificate_rules.specs.Trees.{is_whole}
 use Rattle.search_tree.specs.Left.{left}
 use Rattle.obligations.specs.Shapes.{cases_of, quotients_of}
 use Rattle.search_tree.specs.Choices.{can_wait}

@@ -8,7 +8,7 @@ ghost use Rattle.obligations.specs.Obligations.{AreOwn};
 ghost use Rattle.obligations.specs.Opening.{at_least, at_most};
 ghost use Rattle.obligations.specs.Plain.{first_cut};
 ghost use Rattle.obligations.specs.Reach.{is_within};
-ghost use Rattle.certificate_check.specs.Sums.{numbered};
+ghost use Rattle.certificate_rules.specs.Sums.{numbered};
 ghost use Rattle.linear_prover.specs.Chains.{is_plain_number, is_plain_factor};
 ghost use Rattle.search_tree.specs.Points.{pair_at, ends_in, IsFirst, front, last_size};
 ghost use Rattle.search_tree.specs.Points.{worth_at, quotient_at, round_at, IsReadable, fixed_by, IsFixing};
@@ -16,7 +16,7 @@ ghost use Rattle.search_tree.specs.Searching.{Ready};
 
 use crate::closing::numbered;
 use crate::points::{Point, pair_of, points_of, sum_of_points};
-use certificate_check::copy_fact;
+use certificate_rules::copy_fact;
 use core_terms::Range;
 use obligations::{Branch, Fact, Node, Variable};
 use std::alloc::{AllocError, Global};

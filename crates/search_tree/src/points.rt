@@ -9,7 +9,7 @@ ghost use Rattle.obligations.specs.Obligations.{is_sound_range};
 ghost use Rattle.obligations.specs.Opening.{at_least, at_most};
 ghost use Rattle.obligations.specs.Plain.{first_cut};
 ghost use Rattle.obligations.specs.Reach.{is_within};
-ghost use Rattle.certificate_check.specs.Sums.{numbered};
+ghost use Rattle.certificate_rules.specs.Sums.{numbered};
 ghost use Rattle.linear_prover.specs.Chains.{is_plain_number};
 ghost use Rattle.search_tree.specs.Points.{values_in, pair_at, IsPoint, ArePoints};
 ghost use Rattle.search_tree.specs.Searching.{Has, AreBounded, widths};

@@ -11,8 +11,8 @@ use Rattle.core_terms.specs.declared.documents.CStep.{CStep}
 use Rattle.core_terms.specs.declared.documents.CProof.{CProof}
 use Rattle.obligations.specs.declared.branches.Obligation.{Obligation}
 use Rattle.obligations.specs.declared.certificates.Cert.{Cert}
-use Rattle.certificate_check.specs.Refutation.{WalkResult, walk_from_root}
-use Rattle.certificate_check.proofs.WholeLaws.{more-levels}
+use Rattle.certificate_rules.specs.Refutation.{WalkResult, walk_from_root}
+use Rattle.certificate_rules.proofs.WholeLaws.{more-levels}
 use Rattle.fair_rounds.specs.declared.records.Record.{Record}
 use Rattle.rules_table.specs.Conclusion.{Conclusion}
 use Rattle.rules_table.specs.Table.{Site, needs, go_on, is_unless}

@@ -3,7 +3,7 @@ ghost use Rattle.std.specs.Prelude.{◌≡◌, ◌<◌, ◌≤◌, ◌≤ℤ◌,
 ghost use Rattle.std.specs.List.{list_all};
 ghost use Rattle.core_terms.specs.Places.{term_slots, term_params, form_slots, form_params};
 ghost use Rattle.obligations.specs.Obligations.{IsObligation};
-ghost use Rattle.certificate_check.specs.Trees.{is_whole};
+ghost use Rattle.certificate_rules.specs.Trees.{is_whole};
 ghost use Rattle.linear_prover.specs.Exact.{is_fact};
 
 use core_terms::{CForm, CSlot, CTerm, Print, Range};

@@ -3,7 +3,7 @@ use Rattle.std.proofs.lemmas.Int.{to_z-of_z}
 use Rattle.case_tables.specs.declared.code_table.Code.{Code}
 use Rattle.obligations.specs.declared.certificates.Node.{Node}
 use Rattle.obligations.specs.LinearForms.{line_of_const}
-use Rattle.certificate_check.specs.Refutation.{split_at}
+use Rattle.certificate_rules.specs.Refutation.{split_at}
 use Rattle.certificate_machine.specs.Machines.{Goes, GoesErr}
 use Rattle.event_checker.specs.declared.reading.Open.{Open}
 use Rattle.event_checker.specs.Events.{with_event}

@@ -1,6 +1,6 @@
 use Rattle.std.proofs.Common.{◌≡◌, Ok, OnOk, IfErr, to_z, of_z, w64, sym, subst, arith}
 use Rattle.std.proofs.lemmas.Int.{to_z-of_z}
-use Rattle.certificate_check.specs.Refutation.{made_round}
+use Rattle.certificate_rules.specs.Refutation.{made_round}
 use Rattle.certificate_machine.specs.Machines.{Goes, GoesErr}
 use Rattle.event_checker.specs.Readings.{Finishes, FinishFails}
 use Rattle.event_checker.proofs.reading.finish_open.Goals as goal

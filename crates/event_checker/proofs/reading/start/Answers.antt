@@ -2,7 +2,7 @@ use Rattle.std.proofs.Common.{ap, ◌∙◌}
 use Rattle.std.specs.List.{list_all}
 use Rattle.obligations.specs.Load.{is_small}
 use Rattle.obligations.specs.declared.branches.Line.{Line}
-use Rattle.event_checker.proofs.BeginLaws.{small-zeros}
+use Rattle.certificate_rules.proofs.SumLaws.{small-zeros}
 use Rattle.event_checker.proofs.reading.start.Goals as goal
 
 pub returns-clause-factors : goal.returns-clause-factors

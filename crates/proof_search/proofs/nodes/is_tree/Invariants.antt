@@ -1,5 +1,5 @@
 use Rattle.std.proofs.Common.{◌≡◌, drop}
-use Rattle.certificate_check.specs.Trees.{is_whole}
+use Rattle.certificate_rules.specs.Trees.{is_whole}
 use Rattle.proof_search.proofs.nodes.is_tree.Given as goal
 
 abbrev pub invariant-loop-node : goal.invariant-loop-node

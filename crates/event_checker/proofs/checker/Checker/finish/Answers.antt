@@ -1,5 +1,5 @@
 use Rattle.std.proofs.Common.{◌∷◌, []}
-use Rattle.certificate_check.specs.Refutation.{allowing}
+use Rattle.certificate_rules.specs.Refutation.{allowing}
 use Rattle.obligations.specs.Opening.{first_branch}
 use Rattle.event_checker.proofs.CheckerLaws.{judged, told-nodes}
 use Rattle.event_checker.proofs.checker.Checker.finish.Goals as goal

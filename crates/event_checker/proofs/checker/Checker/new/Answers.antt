@@ -1,33 +1,13 @@
-use Rattle.std.proofs.Common.{List, [], refl, ap, ◌∙◌}
-use Rattle.obligations.specs.declared.branches.Variable.{Variable}
-use Rattle.obligations.specs.Scopes.{scope}
-use Rattle.obligations.proofs.NumberLaws.{obligation-load}
-use Rattle.event_checker.proofs.CheckerLaws.{new-stands}
+use Rattle.std.proofs.Common.{[], refl}
 use Rattle.event_checker.proofs.checker.Checker.new.Goals as goal
 
-pub open_branch-requires-clause-load : goal.open_branch-requires-clause-load
-open_branch-requires-clause-load c = obligation-load c.args.o c.requires.obligation
-
 pub returns-clause-stands : goal.returns-clause-stands
-returns-clause-stands c = record {
-  obligation = refl;
-  reading =
-      new-stands c.args.levels c.args.o c.in_ok-branch.branch c.in_ok-variables.variables c.new.result c.in_ok-line.line
-      c.requires.obligation c.requires.levels c.in_ok-branch.ensures.branch c.in_ok-branch.ensures.added
-      (c.in_ok-variables.ensures.scope ∙ ap (λ (vs : List Variable). scope vs 0) c.as_slice.ensures) c.new.ensures;
-}
+returns-clause-stands c = record { obligation = refl; reading = c.in_ok-reading.ensures.stands }
 
 pub returns-clause-ready : goal.returns-clause-ready
 returns-clause-ready c = record {
   levels = c.args.levels;
   events = [];
-  own = c.if-not-has_room.ensures;
-  stands = record {
-    obligation = refl;
-    reading =
-        new-stands c.args.levels c.args.o c.in_ok-branch.branch c.in_ok-variables.variables c.new.result
-        c.in_ok-line.line c.requires.obligation c.requires.levels c.in_ok-branch.ensures.branch
-        c.in_ok-branch.ensures.added
-        (c.in_ok-variables.ensures.scope ∙ ap (λ (vs : List Variable). scope vs 0) c.as_slice.ensures) c.new.ensures;
-  };
+  own = c.in_ok-reading.ensures.own;
+  stands = record { obligation = refl; reading = c.in_ok-reading.ensures.stands };
 }

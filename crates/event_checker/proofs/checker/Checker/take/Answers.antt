@@ -2,7 +2,7 @@ use Rattle.std.proofs.Common.{◌≡◌, ◌∷◌, [], ◌++◌, to_z, of_z, w6
 use Rattle.std.proofs.lemmas.Int.{to_z-of_z}
 use Rattle.obligations.specs.declared.branches.Obligation.{Obligation}
 use Rattle.obligations.specs.Opening.{first_branch}
-use Rattle.certificate_check.specs.Refutation.{allowing}
+use Rattle.certificate_rules.specs.Refutation.{allowing}
 use Rattle.event_checker.specs.Events.{paired, nodes_from}
 use Rattle.event_checker.specs.Readings.{Stands}
 use Rattle.event_checker.proofs.BeginLaws.{on-ok}

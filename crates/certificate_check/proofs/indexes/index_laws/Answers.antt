@@ -1,5 +1,0 @@
-use Rattle.certificate_check.proofs.IndexLaws.{indexes_are_small}
-use Rattle.certificate_check.proofs.indexes.index_laws.Goals as goal
-
-pub returns : goal.returns
-returns c = indexes_are_small

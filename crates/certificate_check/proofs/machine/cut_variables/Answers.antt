@@ -1,8 +1,0 @@
-use Rattle.std.proofs.Common.{arith}
-use Rattle.certificate_check.proofs.ScopedLaws.{cut-back}
-use Rattle.certificate_check.proofs.machine.cut_variables.Goals as goal
-
-pub returns : goal.returns
-returns c =
-    cut-back c.args.vs.now c.args.variables.now _ c.requires.scope.0 c.args.added _ c.requires.scope.1
-    c.requires.scope.2 (grind arith) c.truncate.ensures

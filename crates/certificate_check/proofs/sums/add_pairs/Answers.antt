@@ -1,5 +1,0 @@
-use Rattle.certificate_check.proofs.SumLaws.{pairs-stopped}
-use Rattle.certificate_check.proofs.sums.add_pairs.Goals as goal
-
-pub returns-in-Err : goal.returns-in-Err
-returns-in-Err c = pairs-stopped _ _ _ _ _ _ _ c.loop-pair-test.true c.in-Err.ensures c.loop-pair.invariant

@@ -1,5 +1,0 @@
-pub mod Sums
-pub mod Refutation
-pub mod Trees
-pub mod Machines
-pub mod Indexes

@@ -1,5 +1,0 @@
-use Rattle.std.proofs.Common.{◌≡◌, neg_ℤ, map, take}
-use Rattle.certificate_machine.proofs.sums.negatives.Given as goal
-
-abbrev pub invariant-loop-z : goal.invariant-loop-z
-invariant-loop-z l = l.turned ≡ map neg_ℤ (take l.z-index l.zs)

@@ -1,0 +1,187 @@
+//! The branch that a certificate's next node belongs to. One branch is held, and for each open `case`, `split`, `share`
+//! and `quot` a frame that says how it goes on after the first subtree: the branch grows at the ends of its lists, and
+//! is cut back for the second one. A `quot` has no second one.
+ghost use Rattle.std.specs.Prelude.{◌≡◌, ◌≤◌, ◌<◌, ◌^◌, ◌∷◌, IfOk, OnOk};
+ghost use Rattle.std.specs.Prelude.{true, false, Ok, length, reverse, ℕ};
+ghost use Rattle.obligations.specs.Settling.{added};
+ghost use Rattle.obligations.specs.Load.{is_light_branch};
+ghost use Rattle.obligations.specs.Obligations.{AreVariables, AreOwn};
+ghost use Rattle.obligations.specs.Scopes.{scope, scope_of};
+ghost use Rattle.certificate_machine.specs.Machines.{base_of, full_by, second_by, behind, place_fits, FramesFit};
+ghost use Rattle.certificate_machine.specs.Machines.{pendings};
+ghost use Rattle.certificate_machine.specs.Machines.{IsFit, rest_of, is_light_todo, IsLightMachine};
+ghost use Rattle.certificate_machine.specs.Machines.{IsScoped};
+
+use crate::facts::{add, settle_second};
+use certificate_rules::copy_fact;
+use core_terms::CForm;
+use obligations::{Branch, Fact, Variable};
+use std::alloc::{AllocError, Global};
+use unity_base::{Seq, Shared};
+
+/// How a branch goes on after its first subtree.
+#[derive(Drop)]
+pub enum Todo {
+    /// With the other side of the waiting formula that was taken from this place.
+    Form { place: usize, form: Shared<CForm> },
+    /// With a fact.
+    Fact(Fact),
+}
+
+/// A node whose subtrees are being read, with how many levels it is allowed, the lengths of its branch's lists, how
+/// many variables were added to it, and whether a second subtree follows.
+#[derive(Drop)]
+pub struct Frame {
+    pub levels: u32,
+    pub facts: usize,
+    pub waits: usize,
+    pub added: u32,
+    pub todo: Todo,
+    pub first: bool,
+}
+
+/// The branch that the next node belongs to, its variables, how many levels are allowed there, and the frames around
+/// it, the innermost one last.
+#[derive(Drop)]
+pub struct Machine {
+    pub levels: u32,
+    pub branch: Branch,
+    pub variables: Seq<Variable>,
+    pub frames: Seq<Frame>,
+    pub done: bool,
+}
+
+/// Cuts a branch back to the lengths of a frame.
+#[tactic(auto, using(crate::proofs::MachineLaws::cut_laws))]
+fn cut(frame: &Frame, branch: &mut Branch)
+    ensures branch { branch.new ≡ base_of frame.now branch.old }
+    ensures light { is_light_branch (2 ^ 63) branch.old ≡ true → is_light_branch (2 ^ 63) branch.new ≡ true }
+{
+    branch.facts.truncate(frame.facts);
+    branch.waiting.truncate(frame.waits);
+    branch.added = frame.added;
+}
+
+/// Cuts the variables of a branch back to those that a frame had.
+fn cut_variables(vs: &[Variable], added: u32, variables: &mut Seq<Variable>)
+    requires few { length vs.now < 2 ^ 32 }
+    requires scope { (n : ℕ) × (variables.old ≡ scope vs.now n) × (added ≤ n) }
+    ensures { variables.new ≡ scope vs.now added }
+{
+    variables.truncate(vs.len() + added as usize);
+}
+
+/// Puts a formula back that was taken out.
+#[tactic(auto, using(crate::proofs::MachineLaws::insert_laws))]
+fn put_back(todo: Todo, branch: &mut Branch) -> Result<(), AllocError>
+    requires place { place_fits todo (length branch.old.waiting) }
+    requires taken { is_light_todo todo ≡ true }
+    requires waiting { is_light_branch (2 ^ 63) branch.old ≡ true }
+    ensures branch { OnOk result (branch.new ≡ full_by todo branch.old) }
+    ensures light { OnOk result (is_light_branch (2 ^ 63) branch.new ≡ true) }
+{
+    match todo {
+        Todo::Form { place, form } => branch.waiting.insert(place, form),
+        Todo::Fact(_) => Ok(()),
+    }
+}
+
+/// Makes the branch of a frame's second subtree from the branch cut back, over its variables.
+#[tactic(auto, using(crate::proofs::MachineLaws::added_laws))]
+fn go_second(
+    alloc: Global,
+    own: &[Variable],
+    vs: &[Variable],
+    todo: &Todo,
+    branch: &mut Branch,
+) -> Result<(), AllocError>
+    requires variables { AreVariables vs.now }
+    requires scope { vs.now ≡ scope_of own.now branch.old }
+    requires taken { is_light_todo todo.now ≡ true }
+    requires waiting { is_light_branch (2 ^ 63) branch.old ≡ true }
+    ensures branch { OnOk result (branch.new ≡ second_by own.now todo.now branch.old) }
+    ensures light { OnOk result (is_light_branch (2 ^ 63) branch.new ≡ true) }
+{
+    match todo {
+        Todo::Form { form, .. } => settle_second(alloc, vs, form.get(), branch),
+        Todo::Fact(fact) => add(branch, copy_fact(alloc, fact)?),
+    }
+}
+
+/// Goes on with a frame's second subtree, or puts its branch back where both are read.
+#[tactic(auto, using(crate::proofs::MachineLaws::frame_laws))]
+fn resume(
+    alloc: Global,
+    vs: &[Variable],
+    machine: &mut Machine,
+    frame: Frame,
+) -> Result<bool, AllocError>
+    requires own { AreOwn vs.now }
+    requires scoped { IsScoped vs.now machine.old }
+    requires fits { FramesFit (frame ∷ reverse machine.old.frames) machine.old.branch }
+    requires going { machine.old.done ≡ false }
+    requires light { IsLightMachine machine.old }
+    requires taken { is_light_todo frame.todo ≡ true }
+    ensures second { IfOk result (λ on. on ≡ true →
+        (pendings vs.now machine.new ≡ behind vs.now (frame ∷ reverse machine.old.frames) machine.old.branch)
+        × IsFit machine.new) }
+    ensures back { IfOk result (λ on. on ≡ false →
+        (rest_of vs.now machine.new ≡ behind vs.now (frame ∷ reverse machine.old.frames) machine.old.branch)
+        × FramesFit (reverse machine.new.frames) machine.new.branch × (machine.new.frames ≡ machine.old.frames)
+        × (machine.new.done ≡ false) × (machine.new.levels ≡ machine.old.levels)) }
+    ensures light { OnOk result (IsLightMachine machine.new) }
+    ensures scoped { OnOk result (IsScoped vs.now machine.new) }
+{
+    cut(&frame, &mut machine.branch);
+    cut_variables(vs, frame.added, &mut machine.variables);
+    if frame.first {
+        go_second(
+            alloc,
+            vs,
+            machine.variables.as_slice(),
+            &frame.todo,
+            &mut machine.branch,
+        )?;
+        machine.levels = frame.levels - 1;
+        machine.frames.push(Frame {
+            levels: frame.levels,
+            facts: frame.facts,
+            waits: frame.waits,
+            added: frame.added,
+            todo: frame.todo,
+            first: false,
+        })?;
+        Ok(true)
+    } else {
+        put_back(frame.todo, &mut machine.branch)?;
+        Ok(false)
+    }
+}
+
+/// Leaves the subtrees that are read, up to the next that isn't.
+#[tactic(auto, using(crate::proofs::MachineLaws::back_laws))]
+pub fn go_back(alloc: Global, vs: &[Variable], machine: &mut Machine) -> Result<(), AllocError>
+    requires own { AreOwn vs.now }
+    requires scoped { IsScoped vs.now machine.old }
+    requires fits { FramesFit (reverse machine.old.frames) machine.old.branch }
+    requires going { machine.old.done ≡ false }
+    requires light { IsLightMachine machine.old }
+    ensures pending { OnOk result (pendings vs.now machine.new ≡ rest_of vs.now machine.old) }
+    ensures fit { OnOk result (IsFit machine.new) }
+    ensures light { OnOk result (IsLightMachine machine.new) }
+    ensures scoped { OnOk result (IsScoped vs.now machine.new) }
+{
+    'frames: loop {
+        match machine.frames.pop() {
+            None => {
+                machine.done = true;
+                return Ok(());
+            }
+            Some(frame) => {
+                if resume(alloc, vs, machine, frame)? {
+                    return Ok(());
+                }
+            }
+        }
+    }
+}

@@ -1,0 +1,4 @@
+pub mod Sums
+pub mod Refutation
+pub mod Trees
+pub mod Indexes
