@@ -1,8 +1,9 @@
 #!/bin/bash
 # Runs the gate: every proof, every edit that must be refused, every test, and the program as two
 # compilers build it. Then it runs the built program on the example documents, the script that shows
-# where a text goes wrong, and a test and a run whose allocations are refused in turn, and compares the
-# pages and files that scripts write with what they would write. With --built it does all but the first.
+# where a text goes wrong, questions whose memory, reads and writes are refused call by call, and a test and
+# a run whose allocations are refused in turn, and compares the pages and files that scripts write with what
+# they would write. With --built it does all but the first.
 set -eu
 cd "$(dirname "$0")/.."
 if [ "${1:-}" != --built ]; then
@@ -561,6 +562,17 @@ expect_refused() {
     count_one "$holds" "$2, allocation $1"
 }
 
+# expect_ends EACH: where memory, reads and writes are refused call by call, each EACH-th call for memory, no answer of
+# the built program is wrong.
+expect_ends() {
+    local holds=1
+    if bash scripts/ends.sh "$1" > "$answer" 2> "$text"; then
+        holds=0
+    fi
+    cat "$text" "$answer"
+    count_one "$holds" "ends that fail"
+}
+
 # expect_no_memory N: five steps of the counter, where the Nth allocation is refused, end in status 9 with
 # nothing written, or else in the whole trace.
 expect_no_memory() {
@@ -783,6 +795,7 @@ bash scripts/map.sh --check || holds=1
 count_one "$holds" "the tables of rooms and crates"
 expect_matchers
 expect_alike 20 1
+expect_ends 8
 expect_units 25
 expect_none_left
 expect_installed
