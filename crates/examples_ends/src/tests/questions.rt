@@ -1,0 +1,349 @@
+// Words and documents with their answers: each command, and for it a document of each kind.
+use examples_answers::{ACCEPTED, COUNT, Row, Status};
+
+/// The counter with a wrong number in its second certificate.
+const WRONG_SUM: &str = "unity 1
+program Count
+declare
+  x : 0..3
+initially
+  x = 0
+assign
+  inc: x := x + 1 if x < 3
+end
+proof Count
+  safe: defined by text;
+  top: invariant x <= 3 by text;
+end
+certificates
+1: case 1 sum 1*1 1*4 sum 1*3 1*4;
+2: sum 1*2 0*5;
+3: case 1 case 1 sum 1*1 1*5 sum 1*4 1*5 case 1 sum 1*4 1*5 sum 1*2 1*5;
+end
+";
+
+/// The counter with an initially section that no state meets.
+const NO_START: &str = "unity 1
+program Count
+declare
+  x : 0..3
+initially
+  x = 0 and x = 1
+assign
+  inc: x := x + 1 if x < 3
+end
+proof Count
+  safe: defined by text;
+end
+";
+
+/// A text that is no document.
+const BAD: &str = "unity 1
+program P
+declare
+  x : 0..3
+assign
+  s: x := x + y
+end
+";
+
+/// A token on a ring of four.
+pub const RING: &str = "unity 1
+program Ring
+declare
+  at : 0..3
+initially
+  at = 3
+assign
+  <[] i : 1..3 :: pass: at := i - 1 if at = i |>
+  [] wrap: at := 3 if at = 0
+end
+proof Ring
+  safe: defined by text;
+  step(m : 1..3): true and at = m ensures (true and at < m) or at = 0 by text with pass[m];
+  goal: true leadsto at = 0 by induct(m : 1..3, at, true, at = 0, from step[m]);
+  home: at = 0 ensures at = 3 by text with wrap;
+  again: true leadsto at = 3 by trans(from goal, from home);
+end
+";
+
+/// A statement that gives a variable two values.
+pub const PICK: &str = "unity 1
+program Pick
+declare
+  x : 0..3
+  b : boolean
+  c : boolean
+assign
+  set: x := 1 if b ~ 2 if c
+end
+proof Pick
+  safe: defined by text;
+end
+";
+
+/// A schedule whose second step is undefined.
+const OVER: &str = "unity 1
+program Over
+declare x : 0..1
+assign up: x := x + 1 end
+schedule Over : up, up end
+";
+
+/// A schedule with a name that no statement has.
+const DOWN: &str = "unity 1
+program Over
+declare x : 0..1
+assign up: x := x + 1 end
+schedule Over : up, down end
+";
+
+/// The counter with progress and a schedule.
+const WATCHED: &str = "unity 1
+program Count
+declare
+  x : 0..3
+initially
+  x = 0
+assign
+  inc: x := x + 1 if x < 3
+end
+proof Count
+  safe: defined by text;
+  step(m : 1..3): true and 3 - x = m ensures (true and 3 - x < m) or x = 3 by text with inc;
+  goal: true leadsto x = 3 by induct(m : 1..3, 3 - x, true, x = 3, from step[m]);
+end
+schedule Count : inc, inc, inc end
+";
+
+/// Two machines that look at a lock and then take it.
+const RACE: &str = "unity 1
+program Race
+declare
+  pc   : array 0..1 of 0..2
+  lock : boolean
+assign
+     <[] i : 0..1 :: look: pc[i] := 1 if pc[i] = 0 and not lock |>
+  [] <[] i : 0..1 :: take: pc[i] := 2 if pc[i] = 1 || lock := true if pc[i] = 1 |>
+  [] <[] i : 0..1 :: drop: pc[i] := 0 if pc[i] = 2 || lock := false if pc[i] = 2 |>
+end
+proof Race
+  safe: defined by text;
+  mutex: invariant not (pc[0] = 2 and pc[1] = 2) by text;
+end
+schedule Race : look[0], take[0], drop[0], look[0], look[1], take[0], take[1], drop[0] end
+";
+
+/// Documents that are read for their proofs. Where `prove` finds certificates, the text is what `check` says of what it
+/// writes.
+pub const JUDGED: &[Row] = &[
+    ("check", COUNT, Status::Done, ACCEPTED),
+    (
+        "check",
+        WRONG_SUM,
+        Status::Rejected,
+        "rejected 53 BadSum Count.top obligation 2\n",
+    ),
+    (
+        "check",
+        NO_START,
+        Status::Rejected,
+        "rejected 37 NoStart Count.safe\n",
+    ),
+    (
+        "check",
+        BAD,
+        Status::BadDocument,
+        "bad 10 Unknown byte 58\n",
+    ),
+    ("prove 1000000", COUNT, Status::Done, ACCEPTED),
+    (
+        "prove 1000000",
+        RING,
+        Status::Done,
+        "accepted 5 steps 18 obligations
+Ring.safe defined
+Ring.step ensures
+Ring.goal leadsto 3
+Ring.home ensures
+Ring.again leadsto 4
+",
+    ),
+    (
+        "prove 1000000",
+        PICK,
+        Status::Refuted,
+        "refuted Pick.safe obligation 1\nb = true\nc = true\n",
+    ),
+    (
+        "prove 1",
+        COUNT,
+        Status::Budget,
+        "budget Count.safe obligation 1 spent 1\n",
+    ),
+    (
+        "prove 1000000",
+        NO_START,
+        Status::Rejected,
+        "rejected 37 NoStart Count.safe\n",
+    ),
+    (
+        "prove 1000000",
+        BAD,
+        Status::BadDocument,
+        "bad 10 Unknown byte 58\n",
+    ),
+    (
+        "upgrade",
+        COUNT,
+        Status::Done,
+        "unity 2
+program Count
+declare
+  x : 0..3
+initially
+  x = 0
+assign
+  inc: x := x + 1 if x < 3
+end
+proof Count
+  safe: defined by text;
+  top: invariant x <= 3 by text;
+end
+certificates
+1: case 1 sum 1*1 1*4 sum 1*3 1*4;
+2: sum 1*2 1*5;
+3: case 1 case 1 sum 1*1 1*5 sum 1*4 1*5 case 1 sum 1*4 1*5 sum 1*2 1*5;
+end
+",
+    ),
+    (
+        "upgrade",
+        WRONG_SUM,
+        Status::Rejected,
+        "rejected 53 BadSum Count.top obligation 2\n",
+    ),
+    (
+        "upgrade",
+        BAD,
+        Status::BadDocument,
+        "bad 10 Unknown byte 58\n",
+    ),
+];
+
+/// Documents whose programs are run.
+pub const TRACED: &[Row] = &[
+    (
+        "run Count 5",
+        COUNT,
+        Status::Done,
+        "run Count
+0 x=0
+1 inc x=1
+2 inc x=2
+3 inc x=3
+4 inc x=3
+5 inc x=3
+rounds 5
+",
+    ),
+    (
+        "run Over 2",
+        OVER,
+        Status::Undefined,
+        "run Over\n0 x=0\n1 up x=1\nundefined 2 up\n",
+    ),
+    (
+        "run None 3",
+        COUNT,
+        Status::BadDocument,
+        "bad 61 NoProgram\n",
+    ),
+    (
+        "run Count 0",
+        NO_START,
+        Status::BadDocument,
+        "bad 37 NoStart\n",
+    ),
+    (
+        "run P 1",
+        BAD,
+        Status::BadDocument,
+        "bad 10 Unknown byte 58\n",
+    ),
+    (
+        "fixed Count 5",
+        COUNT,
+        Status::Done,
+        "run Count\n0 x=0\n1 inc x=1\n2 inc x=2\n3 inc x=3\nfixed 3\nrounds 3\n",
+    ),
+    (
+        "fixed Over 9",
+        OVER,
+        Status::Undefined,
+        "run Over\n0 x=0\n1 up x=1\nundefined 2 up\n",
+    ),
+    (
+        "fixed None 3",
+        COUNT,
+        Status::BadDocument,
+        "bad 61 NoProgram\n",
+    ),
+    (
+        "replay",
+        WATCHED,
+        Status::Done,
+        "replay Count\n0 x=0\n1 inc x=1\n2 inc x=2\n3 inc x=3\nrounds 3\n",
+    ),
+    (
+        "replay",
+        OVER,
+        Status::Undefined,
+        "replay Over\n0 x=0\n1 up x=1\nundefined 2 up\n",
+    ),
+    (
+        "replay",
+        DOWN,
+        Status::BadDocument,
+        "bad 41 NoSuchStatement byte 84\n",
+    ),
+    ("replay", COUNT, Status::BadDocument, "bad 60 NoSchedule\n"),
+    (
+        "watch",
+        WATCHED,
+        Status::Done,
+        "watched Count 4 states 3 rounds
+Count.safe defined
+Count.step ensures
+Count.goal leadsto 3
+",
+    ),
+    (
+        "watch",
+        RACE,
+        Status::Violated,
+        "violated Race.mutex place 7\n7 take[1] pc[0]=2 pc[1]=2 lock=true\n",
+    ),
+    ("watch", OVER, Status::BadDocument, "bad 63 NoProof\n"),
+    ("watch", COUNT, Status::BadDocument, "bad 60 NoSchedule\n"),
+];
+
+/// Words for which no document is read.
+pub const UNREAD: &[Row] = &[
+    (
+        "demo 2",
+        COUNT,
+        Status::Done,
+        "ring 2 bytes 472
+accepted 5 steps 10 obligations
+Ring.safe defined
+Ring.step ensures
+Ring.goal leadsto 1
+Ring.home ensures
+Ring.again leadsto 2
+",
+    ),
+    ("demo 1", COUNT, Status::BadWords, "bad words\n"),
+    ("check now", COUNT, Status::BadWords, "bad words\n"),
+    ("", COUNT, Status::BadWords, "bad words\n"),
+];
