@@ -1,5 +1,5 @@
 -- What tells some programs that are no layers, and answers that are taken in place of others.
-use Rattle.std.specs.Prelude.{nat_eq, Bool, true, false, not, ◌&&◌, ◌||◌, List, [], ◌∷◌, Result, Ok, Err}
+use Rattle.std.specs.Prelude.{nat_eq, Bool, true, false, not, ◌&&◌, ◌||◌, List, ◌∷◌, Result, Err}
 use Rattle.std.specs.List.{list_any}
 use Rattle.case_tables.specs.declared.code_table.Code.{Code}
 use Rattle.core_terms.specs.Conditions.{is_shown}
