@@ -1,5 +1,5 @@
 -- Steps by their rules alone, from one to the next, and that they are the walk along the table of rules.
-use Rattle.std.proofs.Common.{◌≡◌, Result, Ok, Err, sym, ap, ◌∙◌, refl, List}
+use Rattle.std.proofs.Common.{◌≡◌, Some, Result, Ok, Err, sym, ap, ◌∙◌, refl, List}
 use Rattle.core_terms.specs.declared.documents.CDocument.{CDocument}
 use Rattle.core_terms.specs.declared.programs.CSlot.{CSlot}
 use Rattle.rules_table.specs.Walk as walk
@@ -9,18 +9,17 @@ use Rattle.proof_script.specs.declared.plans.Plan.{Plan}
 use Rattle.proof_script.specs.declared.plans.StepFault.{StepFault}
 use Rattle.proof_script.specs.declared.plans.ScriptError.{ScriptError}
 use Rattle.proof_script.specs.Laws.{ReachAgrees}
-use Rattle.proof_script.specs.Planning.{FailsWith, Reaches, IsPlanOf, IsFailureOf, Walks}
+use Rattle.proof_script.specs.Planning.{reach_from, Reaches, IsPlanOf, IsFailureOf, Walks}
 use Rattle.proof_script.specs.Reaching.{Reach, Stop, reach_of}
 use Rattle.proof_script.specs.Verdicts.{rule_fault}
 use Rattle.proof_script.proofs.WalkLaws.{reach_is_walk}
 
 -- a failure of a part is that of the whole
-pub misses_whole : (T U : Type 0) (e : ScriptError) (new other : Plan) (one whole : Reach) →
+pub misses_whole : (T U : Type 0) (e : ScriptError) (new : Plan) (one whole : Reach) →
     ((stop : Stop) → one ≡ Err stop → whole ≡ Err stop) → Reaches {T = T} (Err e) new one →
-    Reaches {T = U} (Err e) other whole
-misses_whole T U (ScriptError.Step fault) new other one whole h g =
-    (g.0, h (record { plan = g.0; fault = fault }) g.1)
-misses_whole T U ScriptError.Memory new other one whole h g = tt
+    Reaches {T = U} (Err e) new whole
+misses_whole T U (ScriptError.Step fault) new one whole h g = h (record { plan = new; fault = fault }) g
+misses_whole T U ScriptError.Memory new one whole h g = tt
 
 -- what agrees with the walk
 
@@ -29,14 +28,14 @@ same_plan : (slots : List CSlot) (plan : Plan) (walked : Result walk.Plan Failur
 same_plan slots plan (Ok w) r h e = (w, refl, cc (h, e))
 same_plan slots plan (Err failure) r h e = cc (h.1, e)
 
-same_failure : (slots : List CSlot) (fault : StepFault) (walked : Result walk.Plan Failure) (r : Reach) →
-    ReachAgrees slots walked r → FailsWith r fault → IsFailureOf fault walked
-same_failure slots fault (Ok w) r h e = cc (h, e.1)
-same_failure slots fault (Err failure) r h e =
-    let first : Stop = record { plan = e.0; fault = fault } in
+same_failure : (slots : List CSlot) (plan : Plan) (fault : StepFault) (walked : Result walk.Plan Failure) (r : Reach) →
+    ReachAgrees slots walked r → r ≡ reach_from plan (Some fault) → IsFailureOf fault walked
+same_failure slots plan fault (Ok w) r h e = cc (h, e)
+same_failure slots plan fault (Err failure) r h e =
+    let first : Stop = record { plan = plan; fault = fault } in
     let second : Stop =
     record { plan = h.0; fault = rule_fault failure.program failure.step failure.code } in
-    (failure, refl, same_stops first second e.1 h.1)
+    (failure, refl, same_stops first second e h.1)
   where
     same_stops : (first second : Stop) → r ≡ Err first → r ≡ Err second → first.fault ≡ second.fault
     same_stops first second a b =
@@ -52,5 +51,5 @@ pub failure_walks : (d : CDocument) (e : ScriptError) (plan : Plan) →
     Reaches {T = Unit {0}} (Err e) plan (reach_of d) →
     Walks d.slots (Err e) (walk_of d (starts_in d.slots))
 failure_walks d (ScriptError.Step fault) plan h =
-    same_failure d.slots fault (walk_of d (starts_in d.slots)) (reach_of d) (reach_is_walk d) h
+    same_failure d.slots plan fault (walk_of d (starts_in d.slots)) (reach_of d) (reach_is_walk d) h
 failure_walks d ScriptError.Memory plan h = tt

@@ -1,5 +1,5 @@
 -- What calls that take steps by their rules alone answer; want of memory says nothing.
-use Rattle.std.specs.Prelude.{◌≡◌, List, Result, Ok, Err}
+use Rattle.std.specs.Prelude.{◌≡◌, List, Option, Some, None, Result, Ok, Err}
 use Rattle.core_terms.specs.declared.programs.CSlot.{CSlot}
 use Rattle.rules_table.specs.Walk as walk
 use Rattle.rules_table.specs.Walk.{Failure}
@@ -10,14 +10,15 @@ use Rattle.proof_script.specs.Laws.{plan_of}
 use Rattle.proof_script.specs.Reaching.{Reach}
 use Rattle.proof_script.specs.Verdicts.{rule_fault}
 
--- the steps go as far as this failure
-abbrev pub FailsWith : Reach → StepFault → Type 0
-FailsWith r fault = (plan : Plan) × (r ≡ Err (record { plan = plan; fault = fault }))
+-- what the steps leave, and how the first fails that fails
+abbrev pub reach_from : Plan → Option StepFault → Reach
+reach_from plan None = Ok plan
+reach_from plan (Some fault) = Err (record { plan = plan; fault = fault })
 
--- a call that changes the plan: what the steps leave, or the first failure
+-- a call that changes the plan: what the steps leave, and the first failure
 abbrev pub Reaches : {T : Type 0} → Result T ScriptError → Plan → Reach → Type 0
-Reaches (Ok done) new r = r ≡ Ok new
-Reaches (Err (ScriptError.Step fault)) new r = FailsWith r fault
+Reaches (Ok done) new r = r ≡ reach_from new None
+Reaches (Err (ScriptError.Step fault)) new r = r ≡ reach_from new (Some fault)
 Reaches (Err ScriptError.Memory) new r = Unit {0}
 
 -- the walk along the table of rules gives this plan, with what is left to be shown as obligations

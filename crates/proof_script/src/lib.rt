@@ -14,6 +14,7 @@ mod walking;
 
 pub use checking::check;
 pub use laws::{search_laws, verdict_laws};
-pub use planning::walk;
+pub use planning::{Planned, plan_by_rules, walk};
 pub use plans::{Plan, Proof, ScriptError, StepFault};
 pub use proving::prove;
+pub use refuting::most_levels;

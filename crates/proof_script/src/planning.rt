@@ -1,22 +1,22 @@
 // The steps of proofs by their rules alone: their records, and what is left to be shown for them.
-ghost use Rattle.std.specs.Prelude.{◌+◌, ◌<◌, ◌^◌, All, length, map, sum, Some};
+ghost use Rattle.std.specs.Prelude.{◌+◌, ◌≡◌, ◌<◌, ◌^◌, All, IfOk, length, map, sum, Some};
 ghost use Rattle.core_terms.specs.Conditions.{IsCoreDocument, IsProgram, IsProof, IsStep};
 ghost use Rattle.core_terms.specs.declared.documents.CProof.{CProof};
 ghost use Rattle.rules_table.specs.Walk.{program_of, walk_of};
-ghost use Rattle.proof_script.specs.Planning.{Reaches, Walks};
-ghost use Rattle.proof_script.specs.Reaching.{proof_reach, proofs_reach, step_reach, steps_reach};
+ghost use Rattle.proof_script.specs.Planning.{Reaches, Walks, reach_from};
+ghost use Rattle.proof_script.specs.Reaching.{proof_reach, proofs_reach, reach_of, step_reach, steps_reach};
 ghost use Rattle.rules_steps.specs.Starts.{IsAround, document_seen, seen_of, starts_in};
 ghost use Rattle.rules_steps.specs.Using.{BookFits};
 
 use crate::adding::{add, new_plan};
-use crate::plans::{Plan, ScriptError};
+use crate::plans::{Plan, ScriptError, StepFault};
 use crate::programs::{around, find_program};
 use crate::walking::fault;
 use case_tables::Code;
 use core_terms::{CDocument, CProgram, CProof, CStep};
 use rules_steps::{Around, has_defined, step_rule};
 use safety_rules::RuleError;
-use std::alloc::Global;
+use std::alloc::{AllocError, Global};
 
 // One step, by its rule.
 fn plan_step(
@@ -135,6 +135,36 @@ fn plan_proofs(alloc: Global, doc: &CDocument, plan: &mut Plan) -> Result<(), Sc
 {
     let around = around(doc);
     plan_each(alloc, &around, doc.proofs.as_slice(), plan)
+}
+
+/// What the steps of a document leave by their rules alone: all of them, or those before the first that fails.
+#[derive(Drop)]
+pub struct Planned {
+    pub plan: Plan,
+    /// How the first step fails that fails by its rule, or a proof without a `defined` step.
+    pub stopped: Option<StepFault>,
+}
+
+/// The records of the steps of a document's proofs, in order, and what is left to be shown for them, as far as the
+/// rules go, and the first failure of a rule. Nothing is searched for, and no certificate is read.
+///
+/// The error is that memory was refused.
+pub fn plan_by_rules(alloc: Global, doc: &CDocument) -> Result<Planned, AllocError>
+    requires document { IsCoreDocument doc.now }
+    ensures { IfOk result (λ planned. reach_of doc.now ≡ reach_from planned.plan planned.stopped) }
+{
+    let mut plan = new_plan(alloc);
+    match plan_proofs(alloc, doc, &mut plan) {
+        Ok(()) => Ok(Planned {
+            plan,
+            stopped: None,
+        }),
+        Err(ScriptError::Step(fault)) => Ok(Planned {
+            plan,
+            stopped: Some(fault),
+        }),
+        Err(ScriptError::Memory) => Err(AllocError),
+    }
 }
 
 /// The records of all steps of a document's proofs, in order, and what is left to be shown for them, by the

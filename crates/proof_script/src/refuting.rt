@@ -58,7 +58,7 @@ fn refute(
 }
 
 /// How many levels a certificate of a document of this version may have.
-pub(crate) fn most_levels(version: u64) -> u32
+pub fn most_levels(version: u64) -> u32
     ensures { result ≡ most_levels version }
 {
     if version == 2 { 4096 } else { 1024 }

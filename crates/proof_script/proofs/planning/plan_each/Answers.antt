@@ -47,7 +47,7 @@ returns-in_err-plan_proof c =
     proof_reach seen (program_of seen.programs c.proof-item.result.program) c.proof-item.result c.loop-proof.plan in
     let whole : Reach = proofs_reach seen c.args.proofs.now c.args.plan.now in
     handed_on (λ r. Reaches r plan whole) c.from_residual.result e c.from_residual.ensures.1
-    (misses_whole (Unit {0}) (Unit {0}) e plan plan one whole
+    (misses_whole (Unit {0}) (Unit {0}) e plan one whole
     (λ stop h. sym c.loop-proof.invariant.same
     ∙ reach_proofs_at seen proofs i c.proof-item.result c.loop-proof.plan c.loop-proof-test.true
     c.proof-item.is

@@ -26,7 +26,7 @@ returns-in_err-plan_steps c =
     let one : Reach = steps_reach seen p proof.steps first in
     let whole : Reach = proof_reach seen (Some p) proof first in
     handed_on (λ r. Reaches r plan whole) c.from_residual.result e c.from_residual.ensures.1
-    (misses_whole (Unit {0}) (Unit {0}) e plan plan one whole (λ stop h. reach_stopped one stop (end_reach p) h)
+    (misses_whole (Unit {0}) (Unit {0}) e plan one whole (λ stop h. reach_stopped one stop (end_reach p) h)
     (subst (λ (ss : List CStep). Reaches {T = Unit {0}} (Err e) plan (steps_reach seen p ss first))
     c.as_slice.ensures c.in_err-plan_steps.ensures))
 
@@ -49,11 +49,9 @@ returns-else-has_defined c =
     let proof : CProof = c.args.proof.now in
     let plan : Plan = c.plan_steps.new.plan in
     let whole : Reach = proof_reach seen (Some p) proof c.args.plan.now in
-    subst (λ (e : ScriptError). Reaches {T = Unit {0}} (Err e) plan whole) (sym c.fault.ensures) (
-      plan,
-      proof_undone seen p proof c.args.plan.now plan
-          (subst (λ (ss : List CStep). steps_reach seen p ss c.args.plan.now ≡ Ok plan) c.as_slice.ensures
-          c.in_ok-plan_steps.ensures)
-          (ap (λ (book : List Record). has_defined p.name book) (sym c.as_slice-2.ensures) ∙ sym c.has_defined.ensures
-          ∙ c.if-has_defined.false),
-    )
+    subst (λ (e : ScriptError). Reaches {T = Unit {0}} (Err e) plan whole) (sym c.fault.ensures)
+    (proof_undone seen p proof c.args.plan.now plan
+    (subst (λ (ss : List CStep). steps_reach seen p ss c.args.plan.now ≡ Ok plan) c.as_slice.ensures
+    c.in_ok-plan_steps.ensures)
+    (ap (λ (book : List Record). has_defined p.name book) (sym c.as_slice-2.ensures) ∙ sym c.has_defined.ensures
+    ∙ c.if-has_defined.false))

@@ -33,12 +33,10 @@ returns-in-Err-Fault c =
     let plan : Plan = c.args.plan.now in
     let made : c.fault.result ≡ ScriptError.Step (rule_fault p.name (Some s.name) c.in-Err-Fault.code) =
     cc (c.fault.ensures, c.in-Err-Fault.code-is) in
-    subst (λ (e : ScriptError). Reaches {T = Unit {0}} (Err e) plan (step_reach seen p s plan)) (sym made) (
-      plan,
-      reach_fails seen p s plan c.in-Err-Fault.code
-          (subst (λ (book : List Record). RuleAnswers (Err (RuleError.Fault c.in-Err-Fault.code)) seen.slots
-          (rule_of seen p s book)) c.as_slice.ensures
-          (subst (λ (e : RuleError). RuleAnswers (Err e) seen.slots
-          (rule_of seen p s c.as_slice.result.now)) c.in-Err-Fault.field-0-is
-          c.in-Err-Fault.ensures.answer)),
-    )
+    subst (λ (e : ScriptError). Reaches {T = Unit {0}} (Err e) plan (step_reach seen p s plan)) (sym made)
+    (reach_fails seen p s plan c.in-Err-Fault.code
+    (subst (λ (book : List Record). RuleAnswers (Err (RuleError.Fault c.in-Err-Fault.code)) seen.slots
+    (rule_of seen p s book)) c.as_slice.ensures
+    (subst (λ (e : RuleError). RuleAnswers (Err e) seen.slots
+    (rule_of seen p s c.as_slice.result.now)) c.in-Err-Fault.field-0-is
+    c.in-Err-Fault.ensures.answer)))

@@ -38,7 +38,7 @@ returns-in_err-plan_step c =
     let one : Reach = step_reach seen p c.step-item.result c.loop-step.plan in
     let whole : Reach = steps_reach seen p c.args.steps.now c.args.plan.now in
     handed_on (λ r. Reaches r plan whole) c.from_residual.result e c.from_residual.ensures.1
-    (misses_whole (Unit {0}) (Unit {0}) e plan plan one whole
+    (misses_whole (Unit {0}) (Unit {0}) e plan one whole
     (λ stop h. sym c.loop-step.invariant.same
     ∙ reach_steps_at seen p c.args.steps.now i c.step-item.result c.loop-step.plan c.loop-step-test.true
     c.step-item.is
