@@ -1,7 +1,15 @@
 pub mod Begins
+pub mod Coming
+pub mod Decided
+pub mod FrontSteps
+pub mod LongPieces
+pub mod LongRuns
 pub mod Longest
 pub mod Names
 pub mod OneAnswer
 pub mod Reading
+pub mod ScanSteps
+pub mod Scanning
 pub mod SomeAnswer
 pub mod SymbolTable
+pub mod Taking

@@ -4,6 +4,7 @@ ghost use Rattle.std.specs.Prelude.{◌≡◌, ◌<◌, ℕ, List, Result, lengt
 ghost use Rattle.case_tables.specs.declared.code_table.Code.{Code};
 ghost use Rattle.unity_syntax.specs.declared.token.Token.{Token};
 ghost use Rattle.unity_lexer.specs.Tokens.{IsTokens, FirstBad, IsReading, AreInOrder, IsSpelledIn};
+ghost use Rattle.unity_lexer.specs.Windows.{Decided};
 
 /// Each text has a list of tokens or a first fault.
 pub fn some_reading()
@@ -26,4 +27,9 @@ pub fn places_in_text()
     ensures order { (text : List ℕ) → (tokens : List Token) → IsTokens text tokens → AreInOrder 0 (length text) tokens }
     ensures spelled { (text : List ℕ) → (tokens : List Token) → IsTokens text tokens → All (IsSpelledIn text) tokens }
     ensures fault { (text : List ℕ) → (code : Code) → (place : ℕ) → FirstBad text code place → place < length text }
+{}
+
+/// What a text begins with is what each longer text begins with, where two more bytes stand after it.
+pub fn decided_pieces()
+    ensures { Decided }
 {}

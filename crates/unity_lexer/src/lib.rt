@@ -1,14 +1,20 @@
 //! Reads a text into its tokens.
 #![tactic(auto)]
 
+mod ahead;
+mod front;
 mod laws;
 mod piece;
 mod reserved;
 mod runs;
+mod scan;
+mod stretches;
 mod symbols;
 #[cfg(test)]
 mod tests;
 mod tokens;
 
-pub use laws::{one_reading, places_in_text, some_reading};
+pub use front::{Front, FrontError, read_front};
+pub use laws::{decided_pieces, one_reading, places_in_text, some_reading};
+pub use scan::{Scan, next_token};
 pub use tokens::{TokenPart, lex, lex_part};
