@@ -23,7 +23,8 @@ use Rattle.run_traces.specs.Traces.{all_defined, ending}
 use Rattle.run_traces.specs.declared.error.RunError.{RunError}
 use Rattle.run_traces.specs.Answers.{CoreRuns, CoreReplays}
 use Rattle.run_correct.specs.Traces.{source_system, first_state, program_trace}
-use Rattle.run_correct.specs.Answers.{Runs, Replays}
+use Rattle.expand_correct.specs.Preserved.Meaning.{IsCoreProgramOf}
+use Rattle.run_correct.specs.Answers.{Runs, Replays, IsReplay}
 use Rattle.run_correct.proofs.Runs.{runs_say}
 use Rattle.fixed_runs.specs.Traces.{fixed_defined}
 use Rattle.fixed_runs.specs.Answers.{CoreFixedRuns}
@@ -179,6 +180,21 @@ status_for : Bool → Status
 status_for true = Status.Done
 status_for false = Status.Undefined
 
+-- the trace was written whole, and the command ended as its steps do
+trace_told : (request : Request) (bytes : List ℕ) (defined : Bool) (text : List ℕ) →
+    Answer (Some request) bytes (status_for defined) text → (old mid new : Option (List ℕ)) (end : Stepped)
+    (status : Status) → end ≡ ending defined → Appends old mid text → EndsAs (Ok end) mid new status →
+    Telling request bytes old new status
+unfolding status_for
+trace_told request bytes defined text answer old mid new Stepped.Done status is whole e =
+    exact_told request bytes old new status Status.Done text
+    (subst (λ b. Answer (Some request) bytes (status_for b) text) (done_defined defined is) answer) e.0
+    (subst (λ n. Appends old n text) (sym e.1) whole) (λ w. cc)
+trace_told request bytes defined text answer old mid new Stepped.Undefined status is whole e =
+    exact_told request bytes old new status Status.Undefined text
+    (subst (λ b. Answer (Some request) bytes (status_for b) text) (undefined_not defined is) answer) e.0
+    (subst (λ n. Appends old n text) (sym e.1) whole) (λ w. cc)
+
 abbrev run_choices : Composed → ℕ → List ℕ
 run_choices c steps = turns (length c.instances) steps
 
@@ -195,38 +211,24 @@ unfolding status_for
 ran_so bytes name steps d true text r t = (d, r, t)
 ran_so bytes name steps d false text r t = (d, r, t)
 
+run_from : (d : Document) (name : List ℕ) (steps : ℕ) (c : Composed) (p : CProgram) → IsCoreProgramOf d name c p →
+    (source_system d c).initial (first_state d p) ≡ true →
+    IsRun d name steps (all_defined (source_system d c) (first_state d p) (run_choices c steps))
+    (run_trace d name steps c p)
+run_from d name steps c p is_core initial = record {
+  program = c;
+  core = p;
+  is_core = is_core;
+  trace = record { initial = initial; defined_is = refl; text_is = refl };
+}
+
 run_told : (bytes name : List ℕ) (steps : ℕ) (d : Document) → IsAdmitted greatest_size bytes d → (old mid new : Option
     (List ℕ))
     (ended : Result Stepped RunError) (status : Status) → Runs d name steps old mid ended →
     EndsAs ended mid new status → Telling (run name steps) bytes old new status
-run_told bytes name steps d r old mid new (Ok Stepped.Done) status h e =
-    let t : IsRun d name steps true (run_trace d name steps h.0 h.1) =
-    record {
-      program = h.0;
-      core = h.1;
-      is_core = h.2;
-      trace = record {
-        initial = h.3.initial;
-        defined_is = done_defined _ h.3.ending_is;
-        text_is = refl;
-      };
-    } in
-    exact_told (run name steps) bytes old new status Status.Done (run_trace d name steps h.0 h.1) (d, r, t) e.0
-    (subst (λ n. Appends old n (run_trace d name steps h.0 h.1)) (sym e.1) h.3.whole) (λ w. cc)
-run_told bytes name steps d r old mid new (Ok Stepped.Undefined) status h e =
-    let t : IsRun d name steps false (run_trace d name steps h.0 h.1) =
-    record {
-      program = h.0;
-      core = h.1;
-      is_core = h.2;
-      trace = record {
-        initial = h.3.initial;
-        defined_is = undefined_not _ h.3.ending_is;
-        text_is = refl;
-      };
-    } in
-    exact_told (run name steps) bytes old new status Status.Undefined (run_trace d name steps h.0 h.1) (d, r, t) e.0
-    (subst (λ n. Appends old n (run_trace d name steps h.0 h.1)) (sym e.1) h.3.whole) (λ w. cc)
+run_told bytes name steps d r old mid new (Ok end) status h e =
+    trace_told (run name steps) bytes _ _ (ran_so bytes name steps d _ _ r
+    (run_from d name steps h.0 h.1 h.2 h.3.initial)) old mid new end status h.3.ending_is h.3.whole e
 run_told bytes name steps d r old mid new (Err RunError.NoProgram) status h e =
     bad_told (run name steps) bytes old mid new status (refusal_text Code.NoProgram)
     (runs.IsNotRun.no_program d r h.0 refl) h.1 e
@@ -241,19 +243,8 @@ run_told bytes name steps d r old mid new (Err RunError.NotInitial) status h e =
       not_initial = h.3.0;
     }) refl) h.3.1 e
 run_told bytes name steps d r old mid new (Err RunError.Failed) status h e =
-    let defined = all_defined (source_system d h.0) (first_state d h.1) (run_choices h.0 steps) in
-    part_told (run name steps) bytes old mid new status (status_for defined) (run_trace d name steps h.0 h.1)
-    (ran_so bytes name steps d defined (run_trace d name steps h.0 h.1) r
-    (record {
-      program = h.0;
-      core = h.1;
-      is_core = h.2;
-      trace = record {
-        initial = h.3.0;
-        defined_is = refl;
-        text_is = refl;
-      };
-    })) h.3.1 e.1 e.0
+    part_told (run name steps) bytes old mid new status _ _ (ran_so bytes name steps d _ _ r
+    (run_from d name steps h.0 h.1 h.2 h.3.0)) h.3.1 e.1 e.0
 run_told bytes name steps d r old mid new (Err RunError.Memory) status h e =
     none_told (run name steps) bytes old new status e.0
 
@@ -278,39 +269,24 @@ unfolding status_for
 fixed_so bytes name steps d true text r t = (d, r, t)
 fixed_so bytes name steps d false text r t = (d, r, t)
 
+fixed_from : (d : Document) (name : List ℕ) (steps : ℕ) (c : Composed) (p : CProgram) → IsCoreProgramOf d name c p →
+    (source_system d c).initial (first_state d p) ≡ true →
+    IsFixedRun d name steps (fixed_defined (source_system d c) (first_state d p) (run_choices c steps))
+    (fixed_run_trace d name steps c p)
+fixed_from d name steps c p is_core initial = record {
+  program = c;
+  core = p;
+  is_core = is_core;
+  trace = record { initial = initial; defined_is = refl; text_is = refl };
+}
+
 fixed_told : (bytes name : List ℕ) (steps : ℕ) (d : Document) → IsAdmitted greatest_size bytes d → (old mid new : Option
     (List ℕ))
     (ended : Result Stepped RunError) (status : Status) → FixedRuns d name steps old mid ended →
     EndsAs ended mid new status → Telling (fixed name steps) bytes old new status
-fixed_told bytes name steps d r old mid new (Ok Stepped.Done) status h e =
-    let t : IsFixedRun d name steps true (fixed_run_trace d name steps h.0 h.1) =
-    record {
-      program = h.0;
-      core = h.1;
-      is_core = h.2;
-      trace = record {
-        initial = h.3.initial;
-        defined_is = done_defined _ h.3.ending_is;
-        text_is = refl;
-      };
-    } in
-    exact_told (fixed name steps) bytes old new status Status.Done (fixed_run_trace d name steps h.0 h.1) (d, r, t) e.0
-    (subst (λ n. Appends old n (fixed_run_trace d name steps h.0 h.1)) (sym e.1) h.3.whole) (λ w. cc)
-fixed_told bytes name steps d r old mid new (Ok Stepped.Undefined) status h e =
-    let t : IsFixedRun d name steps false (fixed_run_trace d name steps h.0 h.1) =
-    record {
-      program = h.0;
-      core = h.1;
-      is_core = h.2;
-      trace = record {
-        initial = h.3.initial;
-        defined_is = undefined_not _ h.3.ending_is;
-        text_is = refl;
-      };
-    } in
-    exact_told (fixed name steps) bytes old new status Status.Undefined (fixed_run_trace d name steps h.0 h.1)
-    (d, r, t) e.0
-    (subst (λ n. Appends old n (fixed_run_trace d name steps h.0 h.1)) (sym e.1) h.3.whole) (λ w. cc)
+fixed_told bytes name steps d r old mid new (Ok end) status h e =
+    trace_told (fixed name steps) bytes _ _ (fixed_so bytes name steps d _ _ r
+    (fixed_from d name steps h.0 h.1 h.2 h.3.initial)) old mid new end status h.3.ending_is h.3.whole e
 fixed_told bytes name steps d r old mid new (Err RunError.NoProgram) status h e =
     bad_told (fixed name steps) bytes old mid new status (refusal_text Code.NoProgram)
     (runs.IsNotRun.no_program d r h.0 refl) h.1 e
@@ -325,19 +301,8 @@ fixed_told bytes name steps d r old mid new (Err RunError.NotInitial) status h e
       not_initial = h.3.0;
     }) refl) h.3.1 e
 fixed_told bytes name steps d r old mid new (Err RunError.Failed) status h e =
-    let defined = fixed_defined (source_system d h.0) (first_state d h.1) (run_choices h.0 steps) in
-    part_told (fixed name steps) bytes old mid new status (status_for defined) (fixed_run_trace d name steps h.0 h.1)
-    (fixed_so bytes name steps d defined (fixed_run_trace d name steps h.0 h.1) r
-    (record {
-      program = h.0;
-      core = h.1;
-      is_core = h.2;
-      trace = record {
-        initial = h.3.0;
-        defined_is = refl;
-        text_is = refl;
-      };
-    })) h.3.1 e.1 e.0
+    part_told (fixed name steps) bytes old mid new status _ _ (fixed_so bytes name steps d _ _ r
+    (fixed_from d name steps h.0 h.1 h.2 h.3.0)) h.3.1 e.1 e.0
 fixed_told bytes name steps d r old mid new (Err RunError.Memory) status h e =
     none_told (fixed name steps) bytes old new status e.0
 
@@ -358,41 +323,24 @@ unfolding status_for
 replayed_so bytes d true text r t = (d, r, t)
 replayed_so bytes d false text r t = (d, r, t)
 
+replay_from : (d : Document) (s : Schedule) (c : Composed) (p : CProgram) (choices : List ℕ) →
+    IsReplay d s c p choices → (source_system d c).initial (first_state d p) ≡ true →
+    IsReplayed d (all_defined (source_system d c) (first_state d p) choices) (replay_trace d s c p choices)
+replay_from d s c p choices replay_is initial = record {
+  schedule = s;
+  program = c;
+  core = p;
+  choices = choices;
+  replay_is = replay_is;
+  trace = record { initial = initial; defined_is = refl; text_is = refl };
+}
+
 replay_told : (bytes : List ℕ) (d : Document) → IsAdmitted greatest_size bytes d → (old mid new : Option (List ℕ))
     (ended : Result Stepped RunError) (status : Status) → Replays d old mid ended → EndsAs ended mid new status →
     Telling replay bytes old new status
-replay_told bytes d r old mid new (Ok Stepped.Done) status h e =
-    let t : IsReplayed d true (replay_trace d h.0 h.1 h.2 h.3) =
-    record {
-      schedule = h.0;
-      program = h.1;
-      core = h.2;
-      choices = h.3;
-      replay_is = h.4;
-      trace = record {
-        initial = h.5.initial;
-        defined_is = done_defined _ h.5.ending_is;
-        text_is = refl;
-      };
-    } in
-    exact_told replay bytes old new status Status.Done (replay_trace d h.0 h.1 h.2 h.3) (d, r, t) e.0
-    (subst (λ n. Appends old n (replay_trace d h.0 h.1 h.2 h.3)) (sym e.1) h.5.whole) (λ w. cc)
-replay_told bytes d r old mid new (Ok Stepped.Undefined) status h e =
-    let t : IsReplayed d false (replay_trace d h.0 h.1 h.2 h.3) =
-    record {
-      schedule = h.0;
-      program = h.1;
-      core = h.2;
-      choices = h.3;
-      replay_is = h.4;
-      trace = record {
-        initial = h.5.initial;
-        defined_is = undefined_not _ h.5.ending_is;
-        text_is = refl;
-      };
-    } in
-    exact_told replay bytes old new status Status.Undefined (replay_trace d h.0 h.1 h.2 h.3) (d, r, t) e.0
-    (subst (λ n. Appends old n (replay_trace d h.0 h.1 h.2 h.3)) (sym e.1) h.5.whole) (λ w. cc)
+replay_told bytes d r old mid new (Ok end) status h e =
+    trace_told replay bytes _ _ (replayed_so bytes d _ _ r (replay_from d h.0 h.1 h.2 h.3 h.4 h.5.initial)) old mid new
+    end status h.5.ending_is h.5.whole e
 replay_told bytes d r old mid new (Err RunError.NoProgram) status h e = absurd h
 replay_told bytes d r old mid new (Err RunError.NoSchedule) status h e =
     bad_told replay bytes old mid new status (refusal_text Code.NoSchedule)
@@ -411,21 +359,8 @@ replay_told bytes d r old mid new (Err RunError.NotInitial) status h e =
       not_initial = h.5.0;
     }) refl) h.5.1 e
 replay_told bytes d r old mid new (Err RunError.Failed) status h e =
-    let defined = all_defined (source_system d h.1) (first_state d h.2) h.3 in
-    part_told replay bytes old mid new status (status_for defined) (replay_trace d h.0 h.1 h.2 h.3)
-    (replayed_so bytes d defined (replay_trace d h.0 h.1 h.2 h.3) r
-    (record {
-      schedule = h.0;
-      program = h.1;
-      core = h.2;
-      choices = h.3;
-      replay_is = h.4;
-      trace = record {
-        initial = h.5.0;
-        defined_is = refl;
-        text_is = refl;
-      };
-    })) h.5.1 e.1 e.0
+    part_told replay bytes old mid new status _ _ (replayed_so bytes d _ _ r
+    (replay_from d h.0 h.1 h.2 h.3 h.4 h.5.0)) h.5.1 e.1 e.0
 replay_told bytes d r old mid new (Err RunError.Memory) status h e = none_told replay bytes old new status e.0
 
 pub replay_answered : (r : AdmittedDocument) (old mid new : Option (List ℕ)) (ended : Result Stepped RunError)
