@@ -1,7 +1,9 @@
 pub mod CertificateLoops
-pub mod NodeForms
+pub mod FrontFaults
+pub mod FrontNames
 pub mod ItemForms
 pub mod NoBrackets
+pub mod NodeForms
 pub mod Parsed
 pub mod Parts
 pub mod Readings

@@ -3,10 +3,12 @@
 
 mod certificate;
 mod documents;
+mod fronts;
 mod reading;
 mod schedules;
 mod sections;
 mod texts;
 
+pub use fronts::{front_laws, parse_front};
 pub use reading::parse;
 pub use texts::{one_reading, read_document};
