@@ -1,0 +1,10 @@
+mod BeginLaws
+mod CheckLaws
+mod FinishLaws
+mod MoveLaws
+mod PlannedLaws
+mod ReadyLaws
+mod ShownLaws
+mod StandLaws
+mod TellLaws
+mod ToldLaws
