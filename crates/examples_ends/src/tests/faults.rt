@@ -1,5 +1,5 @@
 // Ends that fail: nothing is written, or a front part of the right text.
-use crate::tests::questions::{JUDGED, TRACED, UNREAD};
+use crate::tests::questions::{JUDGED, SEARCHED, TRACED, UNREAD};
 use crate::{Ends, answer_in_pieces, answer_in_singles};
 use examples_answers::{Row, Status, answer};
 use std::alloc::{AllocError, Global};
@@ -85,7 +85,7 @@ fn verdict(alloc: Global, text: &str) -> Result<(Status, String), AllocError> {
 #[test]
 fn questions_have_their_answers(rt: HostRuntime) -> Result<(), Fail> {
     let alloc = rt.alloc();
-    for rows in [JUDGED, TRACED, UNREAD] {
+    for rows in [JUDGED, SEARCHED, TRACED, UNREAD] {
         for row in rows {
             let (line, document, status, text) = row;
             let (got, written) = answered(alloc, false, row, AMPLE)?;
@@ -110,7 +110,7 @@ fn questions_have_their_answers(rt: HostRuntime) -> Result<(), Fail> {
 #[test]
 fn each_read_fails(rt: HostRuntime) -> Result<(), Fail> {
     let alloc = rt.alloc();
-    for rows in [JUDGED, TRACED] {
+    for rows in [JUDGED, SEARCHED, TRACED] {
         for row in rows {
             let (line, document, status, _) = row;
             let right = right_text(alloc, row)?;
@@ -146,12 +146,11 @@ fn no_read_fails(rt: HostRuntime) -> Result<(), Fail> {
     Ok(())
 }
 
-/// A write that fails ends the command, with a front part of the right text written. A sink that takes one byte in a
-/// call is called once for each byte.
+/// A write that fails ends the command, with a front part of the right text written.
 #[test]
 fn each_write_fails(rt: HostRuntime) -> Result<(), Fail> {
     let alloc = rt.alloc();
-    for rows in [JUDGED, TRACED, UNREAD] {
+    for rows in [JUDGED, SEARCHED, TRACED, UNREAD] {
         for row in rows {
             let (line, document, status, _) = row;
             let right = right_text(alloc, row)?;
@@ -161,6 +160,19 @@ fn each_write_fails(rt: HostRuntime) -> Result<(), Fail> {
             let (got, written) = answered(alloc, false, row, Ends { write, ..AMPLE })?;
             assert_eq!(rt; got, *status, "{line} {writes}\n{document}");
             assert_eq!(rt; written, right, "{line} {writes}\n{document}");
+        }
+    }
+    Ok(())
+}
+
+/// A sink that takes one byte in a call is called once for each byte.
+#[test]
+fn each_byte_fails(rt: HostRuntime) -> Result<(), Fail> {
+    let alloc = rt.alloc();
+    for rows in [JUDGED, TRACED, UNREAD] {
+        for row in rows {
+            let (line, document, _, _) = row;
+            let right = right_text(alloc, row)?;
             let bytes = failed_writes(alloc, true, row, right.as_str())?;
             assert_eq!(rt; bytes, right.len() as u64, "{line}\n{document}");
         }
@@ -181,6 +193,34 @@ fn sinks_of_small_room(rt: HostRuntime) -> Result<(), Fail> {
             let (got, written) = answered(alloc, false, row, Ends { room, ..AMPLE })?;
             assert_eq!(rt; got, *status, "{line}\n{document}");
             assert_eq!(rt; written, right, "{line}\n{document}");
+        }
+    }
+    Ok(())
+}
+
+/// Of a long text as much is written as there is room for, where a write takes one byte.
+#[test]
+fn long_texts_in_small_room(rt: HostRuntime) -> Result<(), Fail> {
+    let alloc = rt.alloc();
+    for row in SEARCHED {
+        let right = right_text(alloc, row)?;
+        for room in [
+            0,
+            1,
+            471,
+            472,
+            473,
+            484,
+            1000,
+            right.len().saturating_sub(1),
+        ] {
+            let (got, written) = answered(alloc, true, row, Ends { room, ..AMPLE })?;
+            assert_eq!(rt; got, Status::WriteFault, "{room}");
+            assert_eq!(rt;
+                Some(written.as_str()),
+                right.as_str().get(..room),
+                "{room}"
+            );
         }
     }
     Ok(())

@@ -48,7 +48,7 @@ end
 ";
 
 /// A token on a ring of four.
-pub const RING: &str = "unity 1
+const RING: &str = "unity 1
 program Ring
 declare
   at : 0..3
@@ -68,7 +68,7 @@ end
 ";
 
 /// A statement that gives a variable two values.
-pub const PICK: &str = "unity 1
+const PICK: &str = "unity 1
 program Pick
 declare
   x : 0..3
@@ -159,18 +159,6 @@ pub const JUDGED: &[Row] = &[
     ("prove 1000000", COUNT, Status::Done, ACCEPTED),
     (
         "prove 1000000",
-        RING,
-        Status::Done,
-        "accepted 5 steps 18 obligations
-Ring.safe defined
-Ring.step ensures
-Ring.goal leadsto 3
-Ring.home ensures
-Ring.again leadsto 4
-",
-    ),
-    (
-        "prove 1000000",
         PICK,
         Status::Refuted,
         "refuted Pick.safe obligation 1\nb = true\nc = true\n",
@@ -230,6 +218,20 @@ end
         "bad 10 Unknown byte 58\n",
     ),
 ];
+
+/// A document for which `prove` writes a long text.
+pub const SEARCHED: &[Row] = &[(
+    "prove 1000000",
+    RING,
+    Status::Done,
+    "accepted 5 steps 18 obligations
+Ring.safe defined
+Ring.step ensures
+Ring.goal leadsto 3
+Ring.home ensures
+Ring.again leadsto 4
+",
+)];
 
 /// Documents whose programs are run.
 pub const TRACED: &[Row] = &[
