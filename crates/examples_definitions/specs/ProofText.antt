@@ -135,13 +135,13 @@ proof_example = record {
                 ));
               })
               ∷ (step_between 144 "up" 148 "x" Word.Unless 157 "y"
-                  (Rule.Weaken 162
-                  (record {
-                    at = 169;
-                    name = (name 169 "keep");
-                    step = None;
-                    args = (Some ((End.Number 174 false 1), ((End.Number 177 false 0) ∷ [])));
-                  })))
+              (Rule.Weaken 162
+              (record {
+                at = 169;
+                name = (name 169 "keep");
+                step = None;
+                args = (Some ((End.Number 174 false 1), ((End.Number 177 false 0) ∷ [])));
+              })))
               ∷ (record {
                 at = 183;
                 name = (name 183 "next");
@@ -165,26 +165,26 @@ proof_example = record {
                 using = None;
               })
               ∷ (step_between 237 "last" 243 "x" Word.Leadsto 253 "y"
-                  (Rule.Term 258
-                  (term.From 258
-                  (record {
-                    at = 263;
-                    name = (name 263 "F");
-                    step = (Some (name 265 "next"));
-                    args = (Some ((End.Word 270 (name 270 "m") (Some (Symbol.Plus, 1))), []));
-                  }))))
+              (Rule.Term 258
+              (term.From 258
+              (record {
+                at = 263;
+                name = (name 263 "F");
+                step = (Some (name 265 "next"));
+                args = (Some ((End.Word 270 (name 270 "m") (Some (Symbol.Plus, 1))), []));
+              }))))
               ∷ (step_between 280 "one" 285 "x" Word.Unless 294 "y"
-                  (Rule.Pair 299 Word.Conj (step_of 304 "up") (step_of 307 "up")))
+              (Rule.Pair 299 Word.Conj (step_of 304 "up") (step_of 307 "up")))
               ∷ (step_between 313 "two" 318 "x" Word.Unless 327 "y"
-                  (Rule.Pair 332 Word.Simpleconj (step_of 343 "up") (step_in 346 "F" 348 "low")))
+              (Rule.Pair 332 Word.Simpleconj (step_of 343 "up") (step_in 346 "F" 348 "low")))
               ∷ (step_between 355 "three" 362 "x" Word.Unless 371 "y"
-                  (Rule.Pair 376 Word.Disj (step_of 381 "up") (step_of 384 "up")))
+              (Rule.Pair 376 Word.Disj (step_of 381 "up") (step_of 384 "up")))
               ∷ (step_between 390 "four" 396 "x" Word.Unless 405 "y"
-                  (Rule.Pair 410 Word.Simpledisj (step_of 421 "up") (step_of 424 "up")))
+              (Rule.Pair 410 Word.Simpledisj (step_of 421 "up") (step_of 424 "up")))
               ∷ (step_between 430 "five" 436 "x" Word.Unless 445 "y"
-                  (Rule.Pair 450 Word.Cancel (step_of 457 "up") (step_of 460 "up")))
+              (Rule.Pair 450 Word.Cancel (step_of 457 "up") (step_of 460 "up")))
               ∷ (step_between 466 "six" 471 "x" Word.Unless 480 "y"
-                  (Rule.Pair 485 Word.Union (step_in 491 "F" 493 "up") (step_in 496 "H" 498 "up")))
+              (Rule.Pair 485 Word.Union (step_in 491 "F" 493 "up") (step_in 496 "H" 498 "up")))
               ∷ []);
         })
         ∷ [];

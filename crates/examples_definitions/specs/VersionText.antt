@@ -122,11 +122,11 @@ second_version = record {
                 using = None;
               })
               ∷ (step_between 149 "c" 152 "x" Word.Until 160 "y"
-                  (Rule.Pair 165 Word.Until (step_of 171 "a") (step_of 173 "b")))
+              (Rule.Pair 165 Word.Until (step_of 171 "a") (step_of 173 "b")))
               ∷ (step_between 178 "d" 181 "x" Word.Detects 191 "y"
-                  (Rule.Pair 196 Word.Detects (step_of 204 "a") (step_of 206 "b")))
+              (Rule.Pair 196 Word.Detects (step_of 204 "a") (step_of 206 "b")))
               ∷ (step_between 211 "f" 214 "x" Word.Leadsto 224 "y"
-                  (Rule.Complete 229 (step_of 238 "a") (step_in 240 "F" 242 "b") (step_of 244 "c") (step_of 246 "d")))
+              (Rule.Complete 229 (step_of 238 "a") (step_in 240 "F" 242 "b") (step_of 244 "c") (step_of 246 "d")))
               ∷ []);
         })
         ∷ [];
