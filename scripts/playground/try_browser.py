@@ -174,7 +174,7 @@ class Try:
 
     def stopping(self):
         self.write(text_of("dining.unity"))
-        told = self.ask("get('prove').click(); setTimeout(() => get('stop').click(), 500)")
+        told = self.ask("get('prove').click(); setTimeout(() => get('stop').click(), 100)")
         self.holds("stop", told["status"].startswith("Stopped"), told["status"])
         self.write(text_of("count.unity"))
         self.compare("check after a stop", self.ask("get('check').click()"), text_of("count.expected"))
