@@ -24,8 +24,8 @@ refusing=$(mktemp --suffix=.so)
 trap 'rm -f "$refusing"' EXIT
 compiler=cc
 if ! command -v cc > /dev/null; then
-    compiler="$(dirname "$(readlink -f "$(command -v rt)")")/../toolchain/bin/clang"
-    compiler+=" --target=x86_64-unknown-linux-gnu -nostdlib"
+    kit="$(dirname "$(readlink -f "$(command -v rt)")")/../toolchain/bin"
+    compiler="$kit/clang --ld-path=$kit/ld.lld --target=x86_64-unknown-linux-gnu -nostdlib"
 fi
 $compiler -shared -fPIC -O1 -o "$refusing" "$top/scripts/refuse.c"
 cd "$top"
