@@ -18,7 +18,7 @@ use std::alloc::{AllocError, Global};
 use unity_base::CertEvent;
 
 /// The event that begins a node.
-pub fn beginning(node: &Node) -> CertEvent
+fn beginning(node: &Node) -> CertEvent
     ensures { result ≡ beginning node.now }
 {
     match node {

@@ -1,4 +1,3 @@
 pub mod ScopedLaws
 pub mod MachineLaws
 pub mod QuotLaws
-pub mod SpanLaws

@@ -1,3 +1,1 @@
 pub mod Machines
-pub mod Spans
-pub mod Sums

@@ -9,8 +9,9 @@ ghost use Rattle.event_checker.specs.Readings.{Stands};
 use crate::errors::CertError;
 use crate::reading::{Open, Reading};
 use case_tables::Code;
-use certificate_machine::{Machine, Running};
-use obligations::{Obligation, has_room, open_branch, scope_of};
+use certificate_machine::Machine;
+use certificate_rules::closes;
+use obligations::{Obligation, has_room, open_branch, scope_of, zero_line};
 use std::alloc::{AllocError, Global};
 use unity_base::Seq;
 
@@ -27,7 +28,7 @@ pub fn open_reading(alloc: Global, o: &Obligation, levels: u32) -> Result<Readin
     }
     let branch = open_branch(alloc, o)?;
     let variables = scope_of(alloc, o.variables.as_slice(), 0)?;
-    let sum = Running::new(alloc, o.variables.as_slice())?;
+    let line = zero_line(alloc, o.variables.as_slice())?;
     let machine = Machine {
         levels,
         branch,
@@ -38,7 +39,7 @@ pub fn open_reading(alloc: Global, o: &Obligation, levels: u32) -> Result<Readin
     Ok(Reading {
         machine,
         state: Open::Nothing,
-        sum,
+        line,
         node: 0,
     })
 }
@@ -50,7 +51,7 @@ pub fn verdict(reading: &Reading) -> Result<(), CertError>
     match reading.state {
         Open::Failed { code, node } => Err(CertError::Fault { code, node }),
         Open::Sum => {
-            if reading.sum.closes() {
+            if closes(&reading.line) {
                 Ok(())
             } else {
                 Err(CertError::Fault {

@@ -1,4 +1,3 @@
-pub mod Bits
 pub mod Operations
 pub mod SameSteps
 pub mod Values

@@ -1,4 +1,3 @@
 pub mod Sound
 pub mod Places
 pub mod Joints
-pub mod Senses

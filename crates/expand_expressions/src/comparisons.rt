@@ -7,9 +7,11 @@ ghost use Rattle.core_terms.specs.declared.trees.CForm.TheVariants.{Top, Bottom}
 ghost use Rattle.expand_expressions.specs.Sound.{IsSound, is_truth_core};
 
 use crate::measures::{leaf, pair_measure};
-use crate::operations::{denial, joined, number, paired, sensed, truth};
+use crate::operations::{
+    at_least_zero, conjunction, denial, difference, disjunction, is_zero, number, truth,
+};
 use case_tables::Symbol;
-use core_terms::{CForm, CTerm, Joining, Pairing, Sense};
+use core_terms::{CForm, CTerm};
 use expand_rules::{Core, Formed};
 use std::alloc::{AllocError, Global};
 use unity_base::Shared;
@@ -136,7 +138,7 @@ pub fn implication(alloc: Global, a: Formed, b: Formed) -> Result<Formed, AllocE
     ensures most { IfOk result (λ f. f.measure.most ≤ max a.measure.most b.measure.most + 2) }
 {
     let denied = denial(alloc, a)?;
-    joined(alloc, Joining::Either, denied, b)
+    disjunction(alloc, denied, b)
 }
 
 fn is_truth(a: &Formed) -> bool
@@ -162,7 +164,7 @@ fn same_truths(alloc: Global, a: Formed, b: Formed) -> Result<Formed, AllocError
     let b_again = copied(alloc, &b)?;
     let there = implication(alloc, a, b)?;
     let back = implication(alloc, b_again, a_again)?;
-    joined(alloc, Joining::Both, there, back)
+    conjunction(alloc, there, back)
 }
 
 // That two numbers are equal.
@@ -175,8 +177,8 @@ fn same_numbers(alloc: Global, a: Formed, b: Formed) -> Result<Formed, AllocErro
     ensures sound { IfOk result IsSound }
     ensures most { IfOk result (λ f. f.measure.most ≤ 2 ^ 63 + 3) }
 {
-    let less = paired(alloc, Pairing::Difference, a, b)?;
-    sensed(alloc, Sense::Zero, less)
+    let less = difference(alloc, a, b)?;
+    is_zero(alloc, less)
 }
 
 /// That two are equal.
@@ -206,8 +208,8 @@ fn at_least(alloc: Global, a: Formed, b: Formed) -> Result<Formed, AllocError>
     ensures formed { IfOk result (λ f. f ≡ spec.at_least_zero (spec.difference a b)) }
     ensures sound { IfOk result IsSound }
 {
-    let less = paired(alloc, Pairing::Difference, a, b)?;
-    sensed(alloc, Sense::AtLeast, less)
+    let less = difference(alloc, a, b)?;
+    at_least_zero(alloc, less)
 }
 
 // That a number is greater than another.
@@ -219,7 +221,7 @@ fn excess(alloc: Global, a: Formed, b: Formed) -> Result<Formed, AllocError>
     ensures formed { IfOk result (λ f. f ≡ spec.excess a b) }
     ensures sound { IfOk result IsSound }
 {
-    let less = paired(alloc, Pairing::Difference, a, b)?;
+    let less = difference(alloc, a, b)?;
     let one = number_constant(alloc, 1)?;
     at_least(alloc, less, one)
 }

@@ -3,4 +3,5 @@ pub mod ShownStarts
 pub mod StartSlots
 pub mod StartTables
 pub mod StartValues
+pub mod StartWords
 pub mod Starts

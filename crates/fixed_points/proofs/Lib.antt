@@ -1,4 +1,4 @@
-pub mod SlotLaws
+pub mod JoiningLaws
 pub mod WriteLaws
 pub mod PointLaws
 pub mod FormLaws

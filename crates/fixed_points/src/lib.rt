@@ -2,6 +2,7 @@
 #![tactic(auto)]
 
 mod forming;
+mod joining;
 mod laws;
 mod telling;
 

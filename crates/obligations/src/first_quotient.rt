@@ -3,12 +3,11 @@
 ghost use Rattle.std.specs.Prelude.{◌≡◌, IfOk, Some};
 ghost use Rattle.core_terms.specs.declared.trees.CTerm.TheVariants.{Param, Sub, Scale, Div, Mod};
 ghost use Rattle.meaning_states.specs.Division as division;
-ghost use Rattle.obligations.specs.Settling.{has_quotient, taken_within, first_taken};
-ghost use Rattle.core_terms.specs.Senses.{pair_node};
+ghost use Rattle.obligations.specs.Settling.{has_quotient, taken_within, first_taken, pair_term};
 
 use crate::branches::Taken;
-use crate::pairing::pair_term;
-use core_terms::{CForm, CTerm, Pairing};
+use crate::pairing::{Pairing, pair_term};
+use core_terms::{CForm, CTerm};
 use std::alloc::{AllocError, Global};
 use unity_base::{Held, Shared};
 
@@ -50,7 +49,7 @@ fn in_first(
     taken: Held<Taken>,
     b: &Shared<CTerm>,
 ) -> Result<Option<Held<Taken>>, AllocError>
-    ensures { IfOk result (λ o. o ≡ Some (taken_within (λ x. pair_node which x b.now) taken)) }
+    ensures { IfOk result (λ o. o ≡ Some (taken_within (λ x. pair_term which x b.now) taken)) }
 {
     let Taken { of, divisor, rest } = taken.into_inner();
     let whole = pair_term(which, rest, b.share()?);
@@ -65,7 +64,7 @@ fn in_second(
     a: &Shared<CTerm>,
     taken: Held<Taken>,
 ) -> Result<Option<Held<Taken>>, AllocError>
-    ensures { IfOk result (λ o. o ≡ Some (taken_within (λ x. pair_node which a.now x) taken)) }
+    ensures { IfOk result (λ o. o ≡ Some (taken_within (λ x. pair_term which a.now x) taken)) }
 {
     let Taken { of, divisor, rest } = taken.into_inner();
     let whole = pair_term(which, a.share()?, rest);
@@ -181,7 +180,7 @@ fn find_in_pair(
     a: &Shared<CTerm>,
     b: &Shared<CTerm>,
 ) -> Result<Option<Held<Taken>>, AllocError>
-    ensures { IfOk result (λ o. o ≡ first_taken v (pair_node which a.now b.now)) }
+    ensures { IfOk result (λ o. o ≡ first_taken v (pair_term which a.now b.now)) }
 {
     if let Some(taken) = find_quotient(alloc, v, a.get())? {
         return in_first(alloc, which, taken, b);

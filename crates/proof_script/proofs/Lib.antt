@@ -1,4 +1,13 @@
+pub mod BookLaws
 pub mod BudgetLaws
+pub mod Equations
+pub mod FollowLaws
+pub mod LoopLaws
+pub mod MadeLaws
+pub mod PlanLaws
+pub mod ReachLaws
+pub mod RuleLaws
 pub mod SearchLaws
 pub mod SomeLaws
-pub mod TellingLaws
+pub mod VerdictLaws
+pub mod WalkLaws

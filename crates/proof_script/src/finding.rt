@@ -5,6 +5,8 @@ ghost use Rattle.obligations.specs.Obligations.{IsObligation};
 ghost use Rattle.obligations.specs.declared.branches.Obligation.{Obligation};
 ghost use Rattle.proof_script.specs.Searches.{HasCertificates, Searches};
 
+use crate::plans::StepFault;
+use crate::refuting::StepName;
 use obligations::{Cert, Obligation, Variable, units};
 use proof_search::{Found, search};
 use std::alloc::{AllocError, Global};
@@ -24,10 +26,12 @@ pub(crate) struct Finding {
 /// Why a search stops.
 #[derive(Clone, Copy)]
 pub(crate) enum Halt {
-    /// The obligation at this place, from 0, is not valid.
-    Refuted(usize),
-    /// The budget ended at the obligation at this place, from 0.
-    Short(usize),
+    /// A rule fails, or a proof has no `defined` step.
+    Step(StepFault),
+    /// The obligation of this number, from 1, is not valid.
+    Refuted(StepName, u64),
+    /// The budget ended at the obligation of this number, from 1.
+    Short(StepName, u64),
     /// Memory was refused.
     Memory,
 }
@@ -65,12 +69,17 @@ fn keep(cert: Cert, finding: &mut Finding) -> Result<(), AllocError>
 }
 
 // One obligation.
-fn find(alloc: Global, obligation: &Obligation, finding: &mut Finding) -> Result<(), Halt>
+fn find(
+    alloc: Global,
+    name: StepName,
+    obligation: &Obligation,
+    finding: &mut Finding,
+) -> Result<(), Halt>
     requires { IsObligation obligation.now }
     ensures { (before : List Obligation) → HasCertificates before finding.old →
-        Searches result before (obligation.now ∷ []) finding.old finding.new }
+        Searches result name before (obligation.now ∷ []) finding.old finding.new }
 {
-    let place = finding.certs.as_slice().len();
+    let number = finding.certs.as_slice().len() as u64 + 1;
     match search(alloc, obligation, finding.left) {
         Ok(Found::Proved(cert)) => {
             keep(cert, finding)?;
@@ -79,25 +88,26 @@ fn find(alloc: Global, obligation: &Obligation, finding: &mut Finding) -> Result
         Ok(Found::Refuted { values }) => {
             finding.values = values;
             finding.variables = variables_of(alloc, obligation)?;
-            Err(Halt::Refuted(place))
+            Err(Halt::Refuted(name, number))
         }
-        Ok(Found::Budget { .. }) => Err(Halt::Short(place)),
+        Ok(Found::Budget { .. }) => Err(Halt::Short(name, number)),
         Err(_) => Err(Halt::Memory),
     }
 }
 
-// Obligations, in order.
+// The obligations of a step, in order.
 pub(crate) fn find_all(
     alloc: Global,
+    name: StepName,
     obligations: &[Obligation],
     finding: &mut Finding,
 ) -> Result<(), Halt>
     requires { All IsObligation obligations.now }
     ensures { (before : List Obligation) → HasCertificates before finding.old →
-        Searches result before obligations.now finding.old finding.new }
+        Searches result name before obligations.now finding.old finding.new }
 {
     for obligation in obligations {
-        find(alloc, obligation, finding)?;
+        find(alloc, name, obligation, finding)?;
     }
     Ok(())
 }

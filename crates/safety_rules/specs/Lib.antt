@@ -1,7 +1,6 @@
 pub mod Answers
 pub mod Errors
 pub mod Foldable
-pub mod Pairs
 pub mod Goals
 pub mod Helpers
 pub mod Instances

@@ -1,3 +1,4 @@
+pub mod FirstFaults
 pub mod Accepted
 pub mod OneAnswers
 pub mod Told
@@ -6,4 +7,3 @@ pub mod SomeAnswers
 pub mod Shown
 pub mod Upgraded
 pub mod Watched
-pub mod Streamed

@@ -1,3 +1,4 @@
+pub mod WellFormed
 pub mod Admitted
 pub mod Status
 pub mod Stop

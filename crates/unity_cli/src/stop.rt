@@ -1,10 +1,9 @@
 // Why a call has no answer.
 ghost use Rattle.std.specs.Prelude.{◌≡◌};
-ghost use Rattle.unity_cli.specs.Stop.{source_stop, stop_status};
+ghost use Rattle.unity_cli.specs.Stop.{stop_status};
 
 use crate::status::Status;
 use std::alloc::AllocError;
-use streamed_documents::SourceStop;
 use unity_base::Failed;
 
 /// Why there is no answer.
@@ -44,15 +43,5 @@ impl From<Failed> for Stop {
 
     fn from(_: Failed) -> Self {
         Stop::WriteFault
-    }
-}
-
-/// Why nothing was found of a source.
-pub fn source_stop(stop: SourceStop) -> Stop
-    ensures { result ≡ source_stop stop }
-{
-    match stop {
-        SourceStop::Failed => Stop::ReadFault,
-        SourceStop::Memory => Stop::Memory,
     }
 }

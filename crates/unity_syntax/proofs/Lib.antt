@@ -11,8 +11,7 @@ pub mod EachTree
 pub mod Every
 pub mod ExpressionFolds
 pub mod ItemFolds
-pub mod LaterWords
-pub mod LeavesKept
+mod LaterWords
 pub mod LookAhead
 pub mod Made
 pub mod Productions

@@ -1,0 +1,18 @@
+use Rattle.std.proofs.Common.{◌≡◌, ◌+◌, ◌<◌, ◌^◌, drop, length, map}
+use Rattle.std.specs.Prelude.{sum}
+use Rattle.core_terms.specs.declared.documents.CProof.{CProof}
+use Rattle.proof_script.specs.Reaching.{proofs_reach}
+use Rattle.proof_script.specs.Searches.{IsUnderWay}
+use Rattle.rules_steps.specs.Using.{BookFits}
+use Rattle.rules_steps.specs.Starts.{seen_of}
+use Rattle.proof_script.proofs.proving.prove_each.Given as goal
+
+abbrev pub invariant-loop-proof : goal.invariant-loop-proof
+invariant-loop-proof l = record {
+  book : BookFits l.around.slots.now l.plan.records;
+  room : length l.plan.records + sum (map (λ (p : CProof). length p.steps) (drop l.proof-index l.proofs)) < 2 ^ 31;
+  under_way : IsUnderWay l.plan l.finding;
+  budget : l.finding.budget ≡ l.initial.finding.budget;
+  same : proofs_reach (seen_of l.around) (drop l.proof-index l.proofs) l.plan
+      ≡ proofs_reach (seen_of l.around) l.proofs l.initial.plan;
+}

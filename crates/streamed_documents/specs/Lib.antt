@@ -1,5 +1,0 @@
-pub mod WellFormed
-pub mod Found
-pub mod Fronts
-pub mod Hearing
-pub mod Rests
