@@ -18,7 +18,7 @@ use std::alloc::{AllocError, Global};
 use unity_base::CertEvent;
 
 /// The event that begins a node.
-fn beginning(node: &Node) -> CertEvent
+pub fn beginning(node: &Node) -> CertEvent
     ensures { result ≡ beginning node.now }
 {
     match node {

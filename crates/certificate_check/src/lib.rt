@@ -4,5 +4,5 @@
 
 mod checking;
 
-pub use checking::check_cert;
+pub use checking::{beginning, check_cert};
 pub use event_checker::{CertError, Checker};

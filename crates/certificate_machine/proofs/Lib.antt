@@ -1,3 +1,4 @@
 pub mod ScopedLaws
 pub mod MachineLaws
 pub mod QuotLaws
+pub mod SpanLaws

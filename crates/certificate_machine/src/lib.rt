@@ -5,7 +5,9 @@ mod errors;
 mod facts;
 mod frames;
 mod nodes;
+mod running;
 
 pub use errors::Stop;
 pub use frames::{Frame, Machine, Todo};
 pub use nodes::{close, open_case, open_quot, open_share, open_split, round};
+pub use running::Running;

@@ -10,12 +10,14 @@ ghost use Rattle.certificate_rules.specs.Refutation.{made_round};
 ghost use Rattle.certificate_rules.specs.Refutation.{made_share};
 ghost use Rattle.certificate_machine.specs.Machines.{IsFit, IsLightMachine, Goes};
 ghost use Rattle.certificate_machine.specs.Machines.{GoesErr, IsScoped};
+ghost use Rattle.certificate_machine.specs.Sums.{sum_line};
 
 use crate::errors::Stop;
 use crate::facts::{add, bound_above, bound_below, settle_first};
 use crate::frames::{Frame, Machine, Todo, go_back};
+use crate::running::Running;
 use case_tables::Code;
-use certificate_rules::{below_0, closes, divides, rounded};
+use certificate_rules::below_0;
 use obligations::{
     Line, Variable, add_quotient, fact_from, is_either, next_param, without_quotient,
 };
@@ -191,21 +193,25 @@ pub fn open_share(
 }
 
 /// Closes the branch by a sum, and goes back.
-pub fn close(alloc: Global, vs: &[Variable], machine: &mut Machine, sum: &Line) -> Result<(), Stop>
+pub fn close(
+    alloc: Global,
+    vs: &[Variable],
+    machine: &mut Machine,
+    sum: &Running,
+) -> Result<(), Stop>
     requires own { AreOwn vs.now }
     requires scoped { IsScoped vs.now machine.old }
     requires fits { IsFit machine.old }
     requires going { machine.old.done ≡ false }
     requires light { IsLightMachine machine.old }
     ensures ok { OnOk result
-        (Goes vs.now machine.old (made_sum (Ok sum.now)) machine.new) }
+        (Goes vs.now machine.old (made_sum (Ok (sum_line sum.now))) machine.new) }
     ensures light { OnOk result (IsLightMachine machine.new) }
     ensures scoped { OnOk result (IsScoped vs.now machine.new) }
     ensures err { IfErr result
-        (GoesErr vs.now machine.old
-        (made_sum (Ok sum.now))) }
+        (GoesErr vs.now machine.old (made_sum (Ok (sum_line sum.now)))) }
 {
-    if !closes(sum) {
+    if !sum.closes() {
         return Err(Stop::Fault(Code::BadSum));
     }
     go_back(alloc, vs, machine)?;
@@ -219,7 +225,7 @@ pub fn round(
     vs: &[Variable],
     machine: &mut Machine,
     d: i64,
-    sum: &Line,
+    sum: &Running,
 ) -> Result<(), Stop>
     requires own { AreOwn vs.now }
     requires scoped { IsScoped vs.now machine.old }
@@ -227,19 +233,18 @@ pub fn round(
     requires levels { 0 < machine.old.levels }
     requires going { machine.old.done ≡ false }
     requires light { IsLightMachine machine.old }
-    requires size { length sum.now.factors ≡ length machine.old.variables }
-    ensures ok { OnOk result (Goes vs.now machine.old
-        (made_round machine.old.branch d (Ok sum.now))
-        machine.new) }
+    requires size { length (sum_line sum.now).factors ≡ length machine.old.variables }
+    ensures ok { OnOk result
+        (Goes vs.now machine.old (made_round machine.old.branch d (Ok (sum_line sum.now))) machine.new) }
     ensures light { OnOk result (IsLightMachine machine.new) }
     ensures scoped { OnOk result (IsScoped vs.now machine.new) }
-    ensures err { IfErr result (GoesErr vs.now machine.old
-        (made_round machine.old.branch d (Ok sum.now))) }
+    ensures err { IfErr result
+        (GoesErr vs.now machine.old (made_round machine.old.branch d (Ok (sum_line sum.now)))) }
 {
-    if !divides(d, sum) {
+    if !sum.is_divided(d) {
         return Err(Stop::Fault(Code::NotDivisible));
     }
-    add(&mut machine.branch, rounded(alloc, d, sum)?)?;
+    add(&mut machine.branch, sum.rounded(alloc, d)?)?;
     machine.levels -= 1;
     Ok(())
 }

@@ -29,18 +29,18 @@ use Rattle.rules_steps.specs.Starts.{document_seen}
 use Rattle.rules_steps.specs.Using.{BookFits}
 use Rattle.rules_steps.proofs.GoalLaws.{IsStepRow, told_step}
 use Rattle.rules_steps.proofs.ItemLaws.{to_all}
-use Rattle.proof_script.specs.declared.plans.Plan.{Plan}
-use Rattle.proof_script.specs.Giving.{AreWhole}
+use Rattle.proof_plans.specs.declared.plans.Plan.{Plan}
+use Rattle.proof_plans.specs.Giving.{AreWhole}
 use Rattle.proof_script.specs.Proving.{AreFound}
-use Rattle.proof_script.specs.Reaching.{by_row}
-use Rattle.proof_script.specs.Verdicts.{end_verdict, failing, failing_node, grown, last_verdict, no_plan}
-use Rattle.proof_script.specs.Verdicts.{or_refutation_fault, or_rule_fault, proof_verdict, proofs_verdict, refuted_by}
-use Rattle.proof_script.specs.Verdicts.{most_levels, step_verdict, steps_verdict, surplus_fault, taken}
-use Rattle.proof_script.proofs.Equations.{proofs-more, proofs-none, refuted-more, step-is, steps-more, steps-none}
-use Rattle.proof_script.proofs.Equations.{taken-is, then_so}
-use Rattle.proof_script.proofs.LoopLaws.{named_program, rule_passed}
-use Rattle.proof_script.proofs.ReachLaws.{reach-is, reach_fits}
-use Rattle.proof_script.proofs.VerdictLaws.{unfailing}
+use Rattle.proof_plans.specs.Reaching.{by_row}
+use Rattle.proof_plans.specs.Verdicts.{end_verdict, failing, failing_node, grown, last_verdict, no_plan}
+use Rattle.proof_plans.specs.Verdicts.{or_refutation_fault, or_rule_fault, proof_verdict, proofs_verdict, refuted_by}
+use Rattle.proof_plans.specs.Verdicts.{most_levels, step_verdict, steps_verdict, surplus_fault, taken}
+use Rattle.proof_plans.proofs.Equations.{proofs-more, proofs-none, refuted-more, step-is, steps-more, steps-none}
+use Rattle.proof_plans.proofs.Equations.{taken-is, then_so}
+use Rattle.proof_plans.proofs.LoopLaws.{named_program, rule_passed}
+use Rattle.proof_plans.proofs.ReachLaws.{reach-is, reach_fits}
+use Rattle.proof_plans.proofs.VerdictLaws.{unfailing}
 use Rattle.certificate_roundtrip.specs.TextLaws.{ProvedAreSmall}
 
 no_fault : (program step number : ℕ) (code : Option Code) (done : Unit {0}) →

@@ -1,8 +1,12 @@
 -- Sums of factors, as the code makes them.
 use Rattle.std.proofs.Common.{◌≡◌, ℕ, zero, suc, ◌+◌, ◌-◌, ◌<◌, ◌≤◌, ℤ, pos, ◌+ℤ◌, ◌*ℤ◌, map, ◌++◌, append_assoc}
 use Rattle.std.proofs.Common.{Bool, true, false, ◌&&◌, cond, Some, None, Result, Ok, Err, List, [], ◌∷◌, drop, length}
-use Rattle.std.proofs.Common.{slice_index_or, nat_lt, arith, refl, sym, ap, subst, ◌∙◌}
+use Rattle.std.proofs.Common.{slice_index_or, nat_lt, nat_le, FitsSigned, ◌^◌, arith, refl, sym, ap, subst, ◌∙◌}
+use mir.Syntax.{w64, w128}
+use native.Mathlib.Nat.{mul-le-mul}
 use Rattle.std.specs.List.{list_all}
+use Rattle.std.specs.Int.RustNames.{unsigned_abs}
+use Rattle.std.proofs.lemmas.Int.{unsigned_abs-mul, fits_signed_mul}
 use Rattle.std.proofs.lemmas.Bool.{and_parts}
 use Rattle.core_terms.specs.Values.{number_at}
 use Rattle.obligations.specs.Load.{is_small}
@@ -181,18 +185,36 @@ part-next d (x ∷ xs) (suc i) n e h =
     ++ sparse (suc n) (map (λ z. int_div_euclid z d) (drop m (x ∷ xs)))) (sym k)
 
 -- the next factor, divided
-pub parts-more : (d : ℤ) (xs : List ℤ) (i : ℕ) (e : ℤ) (old new all : List (ℕ × ℤ)) → i < length xs →
-    new ≡ old ++ sparse i (int_div_euclid (slice_index_or xs i e) d ∷ []) →
-    old ++ sparse i (map (λ z. int_div_euclid z d) (drop i xs)) ≡ all →
-    new ++ sparse (i + 1) (map (λ z. int_div_euclid z d) (drop (i + 1) xs)) ≡ all
-parts-more d xs i e old new all h n k =
+pub parts-more : (d : ℤ) (xs : List ℤ) (n i : ℕ) (e : ℤ) (old new all : List (ℕ × ℤ)) → i < length xs →
+    new ≡ old ++ sparse (n + i) (int_div_euclid (slice_index_or xs i e) d ∷ []) →
+    old ++ sparse (n + i) (map (λ z. int_div_euclid z d) (drop i xs)) ≡ all →
+    new ++ sparse (n + (i + 1)) (map (λ z. int_div_euclid z d) (drop (i + 1) xs)) ≡ all
+parts-more d xs n i e old new all h p k =
     let f : ℤ → ℤ = λ z. int_div_euclid z d in
-    let one : i + 1 ≡ suc i = omega arith in
-    let head = sparse i (f (slice_index_or xs i e) ∷ []) in
+    let one : n + (i + 1) ≡ suc (n + i) = omega arith in
+    let head = sparse (n + i) (f (slice_index_or xs i e) ∷ []) in
     let rest = map f (drop (i + 1) xs) in
-    ap (λ x. x ++ sparse (i + 1) rest) n
-    ∙ append_assoc old head (sparse (i + 1) rest)
+    ap (λ x. x ++ sparse (n + (i + 1)) rest) p
+    ∙ append_assoc old head (sparse (n + (i + 1)) rest)
     ∙ ap (λ m. old ++ (head ++ sparse m rest)) one
-    ∙ ap (λ x. old ++ x) (sym (part-next d xs i i e h)) ∙ k
+    ∙ ap (λ x. old ++ x) (sym (part-next d xs i (n + i) e h)) ∙ k
 
 pub ruleset part_laws = parts-more
+
+-- The product of two numbers of 64 bits.
+
+narrow : (z : ℤ) → FitsSigned w64 z → unsigned_abs z ≤ 2 ^ 63
+narrow z h = grind arith
+
+pub product-small : (m z : ℤ) → FitsSigned w64 m → FitsSigned w64 z → is_small (m *ℤ z) ≡ true
+product-small m z h k =
+    within (unsigned_abs (m *ℤ z))
+    (let a = unsigned_abs-mul m z in let b = mul-le-mul (narrow m h) (narrow z k) in omega (arith, a, b))
+  where
+    within : (n : ℕ) → n ≤ 2 ^ 126 → nat_le n (2 ^ 126) ≡ true
+    within n h = grind arith
+
+pub product-fits : (m z : ℤ) → FitsSigned w64 m → FitsSigned w64 z → FitsSigned w128 (m *ℤ z)
+product-fits m z h k = fits_signed_mul w128 m z (2 ^ 63) (2 ^ 63) (narrow m h) (narrow z k) (omega arith)
+
+pub ruleset product_laws = (product-small, product-fits)

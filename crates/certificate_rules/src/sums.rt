@@ -1,5 +1,6 @@
 //! Sums of multiples of facts.
-ghost use Rattle.std.specs.Prelude.{◌≡◌, ℤ, pos, ◌+ℤ◌, ◌≤ℤ◌, ◌<◌, ◌^◌, MatchResult, MatchBool, OnOk};
+ghost use Rattle.std.specs.Prelude.{◌≡◌, ℤ, pos, ◌+ℤ◌, ◌*ℤ◌, ◌≤ℤ◌, ◌<◌, ◌+◌, ◌^◌};
+ghost use Rattle.std.specs.Prelude.{MatchOption, MatchResult, MatchBool, OnOk};
 ghost use Rattle.std.specs.Prelude.{IfOk, neg_ℤ, Some, None, Ok, Err, true, false, map};
 ghost use Rattle.std.specs.Prelude.{length};
 ghost use Rattle.std.specs.Prelude.{[], ◌∷◌, ◌++◌};
@@ -9,7 +10,7 @@ ghost use Rattle.meaning_states.specs.State.{int_eq};
 ghost use Rattle.core_terms.specs.Values.{number_at};
 ghost use Rattle.std.specs.Int.{int_rem_euclid, int_div_euclid};
 ghost use Rattle.certificate_rules.specs.Sums.{add_factors, add_times, numbered, add_pair, sum_pairs, is_false};
-ghost use Rattle.certificate_rules.specs.Sums.{is_divisible, divided, add_variable, below_0};
+ghost use Rattle.certificate_rules.specs.Sums.{is_divisible, divided, below_0};
 ghost use Rattle.obligations.specs.Load.{is_small};
 ghost use Rattle.obligations.specs.LinearForms.{add_at, fact_of, sparse};
 
@@ -28,13 +29,33 @@ fn add_factor(sum: &mut Seq<i128>, place: usize, by: i128, total: i128)
     }
 }
 
-/// Adds m times a factor at a place, unless the product or the sum is too big.
-fn add_multiple(m: i64, place: usize, factor: i128, sum: &mut Seq<i128>) -> bool
-    ensures { MatchBool result
+/// The product of two numbers of 64 bits, which is never past 2^126.
+#[tactic(auto, using(crate::proofs::SumLaws::product_laws))]
+fn narrow_product(m: i64, z: i64) -> i128
+    ensures value { result ≡ m *ℤ z }
+    ensures small { is_small (m *ℤ z) ≡ true }
+{
+    m as i128 * z as i128
+}
+
+/// A product. `None` exactly where it is past 2^126.
+pub fn product(m: i64, z: i128) -> Option<i128>
+    ensures { MatchOption result (is_small (m *ℤ z) ≡ false) (λ x. (x ≡ m *ℤ z) × (is_small (m *ℤ z) ≡ true)) }
+{
+    match i64::try_from(z) {
+        Ok(narrow) => Some(narrow_product(m, narrow)),
+        Err(_) => small_product(m, z),
+    }
+}
+
+/// Adds m times a factor at a place, unless the product or the sum is too big; then nothing is added.
+pub fn add_multiple(m: i64, place: usize, factor: i128, sum: &mut Seq<i128>) -> bool
+    ensures added { MatchBool result
         (add_factors m ((place, factor) ∷ []) sum.old ≡ Some sum.new)
         (add_factors m ((place, factor) ∷ []) sum.old ≡ None) }
+    ensures kept { result ≡ false → sum.new ≡ sum.old }
 {
-    let Some(by) = small_product(m, factor) else {
+    let Some(by) = product(m, factor) else {
         return false;
     };
     let Some(total) = small_sum(factor_at(sum, place), by) else {
@@ -71,7 +92,7 @@ fn add_all(m: i64, factors: &[(u32, i128)], sum: &mut Seq<i128>) -> bool
 fn add_fact(m: i64, fact: &Fact, sum: &mut Line) -> bool
     ensures { MatchBool result (add_times m fact.now sum.old ≡ Some sum.new) (add_times m fact.now sum.old ≡ None) }
 {
-    let Some(by) = small_product(m, fact.constant) else {
+    let Some(by) = product(m, fact.constant) else {
         return false;
     };
     let Some(total) = small_sum(sum.constant, by) else {
@@ -130,23 +151,6 @@ pub fn add_pairs(facts: &[Fact], pairs: &[(i64, u64)], sum: &mut Line) -> Result
     Ok(())
 }
 
-/// Adds the multiple of a variable that a pair names.
-#[tactic(auto, using(crate::proofs::SumLaws::variable_laws))]
-pub fn add_variable(pair: &(i64, u64), line: &mut Line) -> Result<(), Code>
-    ensures { MatchResult result
-        (λ _. add_variable pair.now.0 pair.now.1 line.old ≡ Ok line.new)
-        (λ code. add_variable pair.now.0 pair.now.1 line.old ≡ Err code) }
-{
-    if pair.1 == 0 || pair.1 as usize > line.factors.len() {
-        return Err(Code::NoSuchVariable);
-    }
-    if add_multiple(pair.0, pair.1 as usize - 1, 1, &mut line.factors) {
-        Ok(())
-    } else {
-        Err(Code::TooBig)
-    }
-}
-
 /// The same factors once more.
 fn copy_factors(alloc: Global, factors: &[(u32, i128)]) -> Result<Seq<(u32, i128)>, AllocError>
     ensures { IfOk result (λ copy. copy ≡ factors.now) }
@@ -202,7 +206,7 @@ pub fn below_0(alloc: Global, line: &Line) -> Result<Line, AllocError>
 }
 
 /// Whether all factors are 0.
-fn all_zero(factors: &[i128]) -> bool
+pub fn all_zero(factors: &[i128]) -> bool
     ensures { result ≡ list_all (λ z. int_eq z (pos 0)) factors.now }
 {
     factors.iter().all(|z| *z == 0)
@@ -222,11 +226,34 @@ pub fn divides(d: i64, sum: &Line) -> bool
     1 <= d && all_divided(d, sum.factors.as_slice())
 }
 
-fn all_divided(d: i64, factors: &[i128]) -> bool
+/// Whether a number of at least 1 divides another.
+fn is_divided(d: i64, z: &i128) -> bool
+    requires { pos 1 ≤ℤ d }
+    ensures { result ≡ int_eq (int_rem_euclid z.now d) (pos 0) }
+{
+    match i64::try_from(*z) {
+        Ok(narrow) => narrow.rem_euclid(d) == 0,
+        Err(_) => z.rem_euclid(d as i128) == 0,
+    }
+}
+
+/// Whether a number of at least 1 divides all factors.
+pub fn all_divided(d: i64, factors: &[i128]) -> bool
     requires { pos 1 ≤ℤ d }
     ensures { result ≡ list_all (λ z. int_eq (int_rem_euclid z d) (pos 0)) factors.now }
 {
-    factors.iter().all(|z| z.rem_euclid(d as i128) == 0)
+    factors.iter().all(|z| is_divided(d, z))
+}
+
+/// A number divided by one of at least 1, and rounded down.
+pub fn quotient(d: i64, z: i128) -> i128
+    requires { pos 1 ≤ℤ d }
+    ensures { result ≡ int_div_euclid z d }
+{
+    match i64::try_from(z) {
+        Ok(narrow) => narrow.div_euclid(d) as i128,
+        Err(_) => z.div_euclid(d as i128),
+    }
 }
 
 /// Adds a divided factor, where it is not 0.
@@ -234,7 +261,7 @@ fn put_part(d: i64, place: u32, z: i128, factors: &mut Seq<(u32, i128)>) -> Resu
     requires { pos 1 ≤ℤ d }
     ensures { OnOk result (factors.new ≡ factors.old ++ sparse place (int_div_euclid z d ∷ [])) }
 {
-    let part = z.div_euclid(d as i128);
+    let part = quotient(d, z);
     if part == 0 {
         Ok(())
     } else {
@@ -242,16 +269,21 @@ fn put_part(d: i64, place: u32, z: i128, factors: &mut Seq<(u32, i128)>) -> Resu
     }
 }
 
-/// The factors divided, each with its place, where it is not 0.
+/// The factors divided and rounded down, each with its place from `first` on, where it is not 0.
 #[tactic(auto, using(crate::proofs::SumLaws::part_laws))]
-fn parts(alloc: Global, d: i64, zs: &[i128]) -> Result<Seq<(u32, i128)>, AllocError>
+pub fn parts(
+    alloc: Global,
+    d: i64,
+    first: usize,
+    zs: &[i128],
+) -> Result<Seq<(u32, i128)>, AllocError>
     requires divisor { pos 1 ≤ℤ d }
-    requires count { length zs.now < 2 ^ 32 }
-    ensures { IfOk result (λ f. f ≡ sparse 0 (map (λ z. int_div_euclid z d) zs.now)) }
+    requires count { first + length zs.now < 2 ^ 32 }
+    ensures { IfOk result (λ f. f ≡ sparse first (map (λ z. int_div_euclid z d) zs.now)) }
 {
     let mut factors = Seq::new(alloc);
     for (place, z) in zs.iter().enumerate() {
-        put_part(d, place as u32, *z, &mut factors)?;
+        put_part(d, (first + place) as u32, *z, &mut factors)?;
     }
     Ok(factors)
 }
@@ -263,7 +295,7 @@ pub fn rounded(alloc: Global, d: i64, sum: &Line) -> Result<Fact, AllocError>
     ensures { IfOk result (λ f. f ≡ fact_of (divided d sum.now)) }
 {
     Ok(Fact {
-        factors: parts(alloc, d, sum.factors.as_slice())?,
-        constant: sum.constant.div_euclid(d as i128),
+        factors: parts(alloc, d, 0, sum.factors.as_slice())?,
+        constant: quotient(d, sum.constant),
     })
 }

@@ -4,8 +4,8 @@ use Rattle.std.specs.List.{flat_map}
 use Rattle.case_tables.specs.declared.kind_table.Kind.{Kind}
 use Rattle.fair_rounds.specs.declared.records.Record.{Record}
 use Rattle.schedule_replay.specs.Lines.{word_text}
-use Rattle.proof_script.specs.declared.plans.Plan.{Plan}
-use Rattle.proof_script.specs.declared.plans.StepFault.{StepFault}
+use Rattle.proof_plans.specs.declared.plans.Plan.{Plan}
+use Rattle.proof_plans.specs.declared.plans.StepFault.{StepFault}
 use Rattle.cli_texts.specs.Names.{kind_name, code_text}
 
 -- ` KIND BOUND`, at a line's end

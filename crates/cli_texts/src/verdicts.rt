@@ -6,7 +6,7 @@ ghost use Rattle.cli_texts.specs.Verdicts as verdict;
 
 use case_tables::{Kind, number};
 use fair_rounds::Record;
-use proof_script::{Plan, StepFault};
+use proof_plans::{Plan, StepFault};
 use std::alloc::{AllocError, Global};
 use unity_base::Seq;
 

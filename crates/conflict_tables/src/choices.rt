@@ -15,6 +15,23 @@ struct Taken {
     divisor: i64,
 }
 
+/// What is put in the place of the first node of a kind in a sum.
+#[derive(Clone, Copy)]
+enum Replacement {
+    /// Of the first `Ite` its first part, or else its second.
+    Part { first: bool },
+    /// Of the first quotient, operands before their operator, a variable.
+    Variable(usize),
+}
+
+/// The node that was replaced.
+#[derive(Clone, Copy)]
+enum Replaced {
+    /// An `Ite`; its part is meant where a formula holds.
+    Choice { when: usize },
+    Quotient(Taken),
+}
+
 /// Adds a sum that is kept, so many times.
 fn add_kept(table: &Table, number: usize, by: i64, sum: &mut Sum) -> Result<(), Stop> {
     let term = table.term(number)?;
@@ -47,36 +64,51 @@ fn count_parts(table: &Table, number: usize) -> Result<usize, Stop> {
     Ok(table.term_parts(term).len())
 }
 
-/// A sum whose first `Ite` is replaced by its first part or its second, and the condition of that.
-#[cycle(choosing)]
-fn chosen(
+/// A sum in which the first node of a kind is replaced, and that node where there is one.
+#[cycle(replacing)]
+fn replace_first(
     depth: u32,
     table: &mut Table,
     number: usize,
-    first: bool,
-) -> Result<(Sum, Option<usize>), Stop> {
+    by: Replacement,
+) -> Result<(Sum, Option<Replaced>), Stop> {
     let mut sum = linear_part(table, number)?;
-    let mut condition = None;
+    let mut node = None;
     for place in 0..count_parts(table, number)? {
         let multiple = multiple_at(table, number, place)?;
-        if condition.is_some() {
+        if node.is_some() {
             sum.add_part(multiple.part, multiple.times)?;
         } else {
-            condition = add_chosen(depth, table, multiple, first, &mut sum)?;
+            node = add_replaced(depth, table, multiple, by, &mut sum)?;
         }
     }
-    Ok((sum, condition))
+    Ok((sum, node))
+}
+
+/// Adds a multiple of a part in which the first node of a kind is replaced, where it has one.
+#[cycle(replacing)]
+fn add_replaced(
+    depth: u32,
+    table: &mut Table,
+    multiple: Multiple,
+    by: Replacement,
+    sum: &mut Sum,
+) -> Result<Option<Replaced>, Stop> {
+    match by {
+        Replacement::Part { first } => add_chosen(depth, table, multiple, first, sum),
+        Replacement::Variable(variable) => add_opened(depth, table, multiple, variable, sum),
+    }
 }
 
 /// Adds a multiple of a part, whose first `Ite` is replaced, where it has one.
-#[cycle(choosing)]
+#[cycle(replacing)]
 fn add_chosen(
     depth: u32,
     table: &mut Table,
     multiple: Multiple,
-    side: bool,
+    first_part: bool,
     sum: &mut Sum,
-) -> Result<Option<usize>, Stop> {
+) -> Result<Option<Replaced>, Stop> {
     match table.part(multiple.part)? {
         Part::Choice {
             yes,
@@ -84,23 +116,25 @@ fn add_chosen(
             first,
             second,
         } => {
-            let kept = if side { first } else { second };
+            let kept = if first_part { first } else { second };
             add_kept(table, kept, multiple.times, sum)?;
-            Ok(Some(if side { yes } else { no }))
+            let when = if first_part { yes } else { no };
+            Ok(Some(Replaced::Choice { when }))
         }
         Part::Quotient { of, divisor, rest } => {
             if depth == 0 {
                 return Err(Stop::Odd);
             }
-            let (inner, condition) = chosen(depth - 1, table, of, side)?;
-            let part = if condition.is_some() {
+            let by = Replacement::Part { first: first_part };
+            let (inner, node) = replace_first(depth - 1, table, of, by)?;
+            let part = if node.is_some() {
                 let of = table.number_term(&inner)?;
                 table.number_part(Part::Quotient { of, divisor, rest })?
             } else {
                 multiple.part
             };
             sum.add_part(part, multiple.times)?;
-            Ok(condition)
+            Ok(node)
         }
     }
 }
@@ -112,8 +146,10 @@ fn choice_side(
     term: usize,
     first: bool,
 ) -> Result<usize, Stop> {
-    let (mut sum, condition) = chosen(DEPTH, table, term, first)?;
-    let when = condition.ok_or(Stop::Odd)?;
+    let (mut sum, node) = replace_first(DEPTH, table, term, Replacement::Part { first })?;
+    let Some(Replaced::Choice { when }) = node else {
+        return Err(Stop::Odd);
+    };
     let related = relate(table, relation, &mut sum)?;
     table.number_form(Form::Both(when, related))
 }
@@ -136,51 +172,30 @@ pub fn sides_of(table: &mut Table, form: usize) -> Result<(usize, usize), Stop> 
     }
 }
 
-/// A sum without an `Ite` whose first quotient, operands before their operator, is replaced by a variable.
-#[cycle(taking)]
-fn replaced(
-    depth: u32,
-    table: &mut Table,
-    number: usize,
-    variable: usize,
-) -> Result<(Sum, Option<Taken>), Stop> {
-    let mut sum = linear_part(table, number)?;
-    let mut taken = None;
-    for place in 0..count_parts(table, number)? {
-        let multiple = multiple_at(table, number, place)?;
-        if taken.is_some() {
-            sum.add_part(multiple.part, multiple.times)?;
-        } else {
-            taken = add_replaced(depth, table, multiple, variable, &mut sum)?;
-        }
-    }
-    Ok((sum, taken))
-}
-
 /// Adds a multiple of a quotient, in which the first is replaced by a variable.
-#[cycle(taking)]
-fn add_replaced(
+#[cycle(replacing)]
+fn add_opened(
     depth: u32,
     table: &mut Table,
     multiple: Multiple,
     variable: usize,
     sum: &mut Sum,
-) -> Result<Option<Taken>, Stop> {
+) -> Result<Option<Replaced>, Stop> {
     let Part::Quotient { of, divisor, rest } = table.part(multiple.part)? else {
         return Err(Stop::Odd);
     };
     if !table.term(of)?.has_quotient {
         add_variable(table, of, divisor, rest, multiple.times, variable, sum)?;
-        return Ok(Some(Taken { of, divisor }));
+        return Ok(Some(Replaced::Quotient(Taken { of, divisor })));
     }
     if depth == 0 {
         return Err(Stop::Odd);
     }
-    let (inner, taken) = replaced(depth - 1, table, of, variable)?;
+    let (inner, node) = replace_first(depth - 1, table, of, Replacement::Variable(variable))?;
     let of = table.number_term(&inner)?;
     let part = table.number_part(Part::Quotient { of, divisor, rest })?;
     sum.add_part(part, multiple.times)?;
-    Ok(taken)
+    Ok(node)
 }
 
 /// Adds a multiple of the variable of a quotient, or of what is divided less the divisor times the variable.
@@ -224,8 +239,10 @@ pub fn opened_by(table: &mut Table, form: usize, variable: usize) -> Result<Open
     let Form::Quotient(relation, term) = table.form(form)? else {
         return Err(Stop::Odd);
     };
-    let (mut sum, taken) = replaced(DEPTH, table, term, variable)?;
-    let taken = taken.ok_or(Stop::Odd)?;
+    let (mut sum, node) = replace_first(DEPTH, table, term, Replacement::Variable(variable))?;
+    let Some(Replaced::Quotient(taken)) = node else {
+        return Err(Stop::Odd);
+    };
     let (low, high) = fixing_facts(table, taken, variable)?;
     let rest = relate(table, relation, &mut sum)?;
     let opened = Opened {

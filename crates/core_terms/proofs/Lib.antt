@@ -4,9 +4,15 @@ pub mod ClosedLaws
 pub mod FoldingLaws
 pub mod FrameLaws
 pub mod HeavierLaws
+pub mod IntTests
 pub mod KnownLaws
 pub mod LighterLaws
+mod MarkLaws
+mod MergeLaws
+mod NodeLaws
 pub mod PartLaws
+mod PlaceLaws
+pub mod PoolLaws
 pub mod QuotientLaws
 pub mod ReplacingLaws
 pub mod SameLaws

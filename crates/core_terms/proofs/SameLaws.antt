@@ -12,7 +12,7 @@ use Rattle.core_terms.specs.declared.trees.CTerm.{CTerm, out-CTerm, out-roll-CTe
 use Rattle.core_terms.specs.declared.trees.CForm.{CForm, out-CForm, out-roll-CForm, roll-out-CForm, roll-CForm}
 use Rattle.core_terms.specs.declared.trees.CForm.TheOpen.{CTerm-F, CForm-F}
 use Rattle.core_terms.proofs.TreeFolds.{Steps, FormWith, TermWith, form_of, term_of, form_layer, term_layer}
-use Rattle.core_terms.proofs.TreeFolds.{fold_form_at, fold_term_at, FormsHave, TermsHave, each_form}
+use Rattle.core_terms.proofs.TreeFolds.{fold_form_at, fold_term_at, FormsHave, TermsHave, each_form, each_term}
 use Rattle.core_terms.specs.Trees.{same_forms, same_terms, same_form, same_term}
 
 ints_same : (a b : ℤ) → IsTrue (int_eq a b) → a ≡ b
@@ -163,11 +163,20 @@ module _ where
   form_is : (f : CForm) → FormIs f
   form_is f = each_form FormIs TermIs form_node term_node f
 
+  term_is : (t : CTerm) → TermIs t
+  term_is t = each_term FormIs TermIs form_node term_node t
+
 pub same_form_is : (f g : CForm) → IsTrue (same_form f g) → f ≡ g
 same_form_is f g t = (form_is f).0 g t
 
 pub same_form_self : (f : CForm) → IsTrue (same_form f f)
 same_form_self f = (form_is f).1
+
+pub same_term_is : (t u : CTerm) → IsTrue (same_term t u) → t ≡ u
+same_term_is t u h = (term_is t).0 u h
+
+pub same_term_self : (t : CTerm) → IsTrue (same_term t t)
+same_term_self t = (term_is t).1
 
 -- a test that passes exactly at equal trees is the test of equal trees
 pub same_is : (b : Bool) (f g : CForm) → IsTrue b ↔ (f ≡ g) → b ≡ same_form f g

@@ -3,9 +3,12 @@ pub mod Sizes
 pub mod Weights
 pub mod Places
 pub mod Folding
+pub mod Senses
 pub mod Replacing
 pub mod Steps
 pub mod Trees
 pub mod Unions
+pub mod Pools
+pub mod Marks
 pub mod Laws
 pub mod Conditions

@@ -1,5 +1,6 @@
 -- The union of two programs.
-use Rattle.std.specs.Prelude.{ℕ, nat_eq, nat_lt, ℤ, List, [], ◌∷◌, ◌++◌, filter, Bool, not, Some}
+use Rattle.std.specs.Prelude.{ℕ, ◌+◌, nat_eq, nat_le, nat_lt, ℤ, List, [], ◌∷◌, ◌++◌, filter, Bool, true, ◌&&◌, not}
+use Rattle.std.specs.Prelude.{Some}
 use Rattle.std.specs.List.{list_any}
 use Rattle.core_terms.specs.declared.programs.CProgram.{CProgram}
 use Rattle.core_terms.specs.Folding.{and_form}
@@ -12,6 +13,11 @@ with_slot slots n = filter (λ x. nat_lt x n) slots ++ n ∷ filter (λ x. nat_l
 abbrev pub merged : List ℕ → List ℕ → List ℕ
 merged slots [] = slots
 merged slots (n ∷ rest) = merged (with_slot slots n) rest
+
+-- whether slots rise, from this number on
+abbrev pub is_rising : ℕ → List ℕ → Bool
+is_rising least [] = true
+is_rising least (n ∷ rest) = nat_le least n && is_rising (n + 1) rest
 
 -- whether a start section gives the slot a value
 abbrev pub gives : List (ℕ × ℤ) → ℕ → Bool

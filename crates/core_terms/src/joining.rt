@@ -1,13 +1,12 @@
 // The union of two programs.
-ghost use Rattle.std.specs.Prelude.{◌≡◌, ◌+◌, ◌^◌, ◌≤◌, ◌++◌, ◌&&◌, max, length, filter, nat_lt, not, IfOk, OnOk, ℤ};
-ghost use Rattle.std.specs.Prelude.{List};
-ghost use Rattle.core_terms.specs.Values.{form_value};
+ghost use Rattle.std.specs.Prelude.{◌≡◌, ◌+◌, ◌^◌, ◌≤◌, ◌++◌, max, length, IfOk, OnOk};
 ghost use Rattle.core_terms.specs.Weights.{plain_weight};
 ghost use Rattle.core_terms.specs.Folding as fold;
 ghost use Rattle.core_terms.specs.Unions as union_of;
 
 use crate::copies::copy_form;
 use crate::folding::and_form;
+use crate::merging::{joined_start, merged_slots};
 use crate::programs::{CProgram, CStmt};
 use crate::trees::CForm;
 use std::alloc::{AllocError, Global};
@@ -50,72 +49,6 @@ fn joined_initially(alloc: Global, f: &CForm, g: &CForm) -> Result<CForm, AllocE
     let first = copy_form(alloc, f)?;
     let second = copy_form(alloc, g)?;
     and_form(alloc, first, second)
-}
-
-// The slots of two rising lists, each once, in slot order.
-fn merged_slots(alloc: Global, first: &[u32], second: &[u32]) -> Result<Seq<u32>, AllocError>
-    ensures { IfOk result (λ slots. slots ≡ union_of.merged first.now second.now) }
-{
-    let mut slots = Seq::new(alloc);
-    for slot in first {
-        slots.push(*slot)?;
-    }
-    'more: for slot in second {
-        slots = with_slot(alloc, slots.as_slice(), *slot)?;
-    }
-    Ok(slots)
-}
-
-fn with_slot(alloc: Global, slots: &[u32], slot: u32) -> Result<Seq<u32>, AllocError>
-    ensures { IfOk result (λ more. more ≡ union_of.with_slot slots.now slot) }
-{
-    let mut more = Seq::new(alloc);
-    for lower in slots {
-        if *lower < slot {
-            more.push(*lower)?;
-        }
-    }
-    more.push(slot)?;
-    add_higher(&mut more, slots, slot)?;
-    Ok(more)
-}
-
-fn add_higher(more: &mut Seq<u32>, slots: &[u32], slot: u32) -> Result<(), AllocError>
-    ensures { OnOk result (more.new ≡ more.old ++ filter (λ x. nat_lt slot x) slots.now) }
-{
-    for higher in slots {
-        if slot < *higher {
-            more.push(*higher)?;
-        }
-    }
-    Ok(())
-}
-
-// The start values of the first, and of the second for slots that the first gives none.
-fn joined_start(
-    alloc: Global,
-    first: &[(u32, i64)],
-    second: &[(u32, i64)],
-) -> Result<Seq<(u32, i64)>, AllocError>
-    ensures { IfOk result (λ start. start ≡ union_of.joined_start first.now second.now) }
-{
-    let mut start = Seq::new(alloc);
-    for entry in first {
-        start.push(*entry)?;
-    }
-    'more: for entry in second {
-        if !gives(first, entry.0) {
-            start.push(*entry)?;
-        }
-    }
-    Ok(start)
-}
-
-// Whether a start section gives the slot a value.
-fn gives(start: &[(u32, i64)], slot: u32) -> bool
-    ensures { result ≡ union_of.gives start.now slot }
-{
-    start.iter().any(|entry| entry.0 == slot)
 }
 
 fn joined_statements(

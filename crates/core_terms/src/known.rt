@@ -1,12 +1,13 @@
 // Folding where what is known of the parts is handed along, so that no call looks down a part.
-ghost use Rattle.std.specs.Prelude.{◌≡◌, ◌+◌, ◌*◌, ◌^◌, ◌≤◌, ◌+ℤ◌, ◌-ℤ◌, ◌*ℤ◌, IfOk, MatchOption, max, pos};
+ghost use Rattle.std.specs.Prelude.{◌≡◌, ◌+◌, ◌*◌, ◌^◌, ◌≤◌, ◌+ℤ◌, ◌-ℤ◌, ◌*ℤ◌, ◌&&◌, ◌||◌, IfOk, MatchOption, max};
+ghost use Rattle.std.specs.Prelude.{None, cond};
 ghost use Rattle.std.specs.Option.{option_map};
 ghost use Rattle.std.specs.Int.RustNames.{unsigned_abs};
-ghost use Rattle.meaning_states.specs.State.{int_eq};
 ghost use Rattle.meaning_states.specs.Division.{divisor, floored, rest_of};
 ghost use Rattle.core_terms.specs.Weights.{plain_weights, plain_weight, sum_weights, multiple_weights, choice_weights};
 ghost use Rattle.core_terms.specs.Weights.{quotient_weights, remainder_weights};
 ghost use Rattle.core_terms.specs.Folding as fold;
+ghost use Rattle.core_terms.specs.Senses.{paired_term, sense_form, joined_form};
 
 use crate::copies::owned_term;
 use crate::folding::{form_by, quotient, remainder, scaled, term_by};
@@ -14,14 +15,70 @@ use crate::trees::{CForm, CTerm};
 use std::alloc::{AllocError, Global};
 use unity_base::Shared;
 
-/// The sum of two terms, folded. `first` is the number of the first term, and `number` that of the
-/// second before the call and that of the result after it; there is none where a slot or a parameter is named.
+/// A sum or a difference.
+#[derive(Clone, Copy)]
+pub enum Pairing {
+    Sum,
+    Difference,
+}
+
+/// Of a term, that it is at least 0, or that it is 0.
+#[derive(Clone, Copy)]
+pub enum Sense {
+    AtLeast,
+    Zero,
+}
+
+/// Of two formulas, that both hold, or that either does.
+#[derive(Clone, Copy)]
+pub enum Joining {
+    Both,
+    Either,
+}
+
+/// A constant, and its number.
+///
+/// An error says that memory was refused.
+#[inline(never)]
+pub fn constant_known(
+    alloc: Global,
+    c: i64,
+    number: &mut Option<i128>,
+) -> Result<Shared<CTerm>, AllocError>
+    ensures tree { IfOk result (λ t. t ≡ CTerm.Const c) }
+    ensures number { IfOk result (λ t. number.new ≡ fold.number_of t) }
+{
+    *number = Some(c as i128);
+    Shared::new(alloc, CTerm::Const(c))
+}
+
+/// A slot or a parameter, which has no number.
+///
+/// An error says that memory was refused.
+#[inline(never)]
+pub fn variable_known(
+    alloc: Global,
+    t: CTerm,
+    number: &mut Option<i128>,
+) -> Result<Shared<CTerm>, AllocError>
+    requires { fold.number_of t ≡ None }
+    ensures tree { IfOk result (λ u. u ≡ t) }
+    ensures number { IfOk result (λ u. number.new ≡ fold.number_of u) }
+{
+    *number = None;
+    Shared::new(alloc, t)
+}
+
+/// The sum or the difference of two terms, folded. `first` is the number of the first term, and `number`
+/// that of the second before the call and that of the result after it; there is none where a slot or a
+/// parameter is named.
 ///
 /// An error says that memory was refused.
 #[inline(never)]
 #[tactic(auto, using(crate::proofs::KnownLaws::number_bound))]
-pub fn sum_known(
+pub fn paired_known(
     alloc: Global,
+    which: Pairing,
     a: Shared<CTerm>,
     first: Option<i128>,
     b: Shared<CTerm>,
@@ -30,13 +87,21 @@ pub fn sum_known(
     requires first { first ≡ fold.number_of a }
     requires second { number.old ≡ fold.number_of b }
     requires weight { (sum_weights (plain_weights a) (plain_weights b)).most ≤ 2 ^ 126 }
-    ensures tree { IfOk result (λ t. t ≡ fold.sum_term a b) }
+    ensures tree { IfOk result (λ t. t ≡ paired_term which a b) }
     ensures number { IfOk result (λ t. number.new ≡ fold.number_of t) }
     ensures own { IfOk result (λ t. (plain_weights t).own ≤ (plain_weights a).own + (plain_weights b).own) }
     ensures most { IfOk result (λ t. (plain_weights t).most ≤ (sum_weights (plain_weights a) (plain_weights b)).most) }
 {
-    *number = sum_number(a.get(), first, b.get(), *number);
-    placed_term(alloc, CTerm::Add(a, b), *number)
+    match which {
+        Pairing::Sum => {
+            *number = sum_number(a.get(), first, b.get(), *number);
+            placed_term(alloc, CTerm::Add(a, b), *number)
+        }
+        Pairing::Difference => {
+            *number = difference_number(a.get(), first, b.get(), *number);
+            placed_term(alloc, CTerm::Sub(a, b), *number)
+        }
+    }
 }
 
 // The number of a sum, from those of its parts.
@@ -48,31 +113,6 @@ fn sum_number(a: &CTerm, first: Option<i128>, b: &CTerm, second: Option<i128>) -
 {
     let second = second?;
     Some(first? + second)
-}
-
-/// The difference of two terms, folded. `first` is the number of the first term, and `number` that of the
-/// second before the call and that of the result after it; there is none where a slot or a parameter is named.
-///
-/// An error says that memory was refused.
-#[inline(never)]
-#[tactic(auto, using(crate::proofs::KnownLaws::number_bound))]
-pub fn difference_known(
-    alloc: Global,
-    a: Shared<CTerm>,
-    first: Option<i128>,
-    b: Shared<CTerm>,
-    number: &mut Option<i128>,
-) -> Result<Shared<CTerm>, AllocError>
-    requires first { first ≡ fold.number_of a }
-    requires second { number.old ≡ fold.number_of b }
-    requires weight { (sum_weights (plain_weights a) (plain_weights b)).most ≤ 2 ^ 126 }
-    ensures tree { IfOk result (λ t. t ≡ fold.difference_term a b) }
-    ensures number { IfOk result (λ t. number.new ≡ fold.number_of t) }
-    ensures own { IfOk result (λ t. (plain_weights t).own ≤ (plain_weights a).own + (plain_weights b).own) }
-    ensures most { IfOk result (λ t. (plain_weights t).most ≤ (sum_weights (plain_weights a) (plain_weights b)).most) }
-{
-    *number = difference_number(a.get(), first, b.get(), *number);
-    placed_term(alloc, CTerm::Sub(a, b), *number)
 }
 
 // The number of a difference, from those of its parts.
@@ -219,50 +259,51 @@ pub fn choice_known(
     }
 }
 
-/// That a term is at least 0, folded, and the truth of that. `number` is the number of the term.
+/// The formula that always holds, or the one that never does, and the truth of it.
 ///
 /// An error says that memory was refused.
 #[inline(never)]
-#[tactic(auto, using(crate::proofs::WeightLaws::weight_folded_form))]
-pub fn at_least_known(
+pub fn truth_known(
     alloc: Global,
-    t: Shared<CTerm>,
-    number: Option<i128>,
+    holds: bool,
     truth: &mut Option<bool>,
 ) -> Result<Shared<CForm>, AllocError>
-    requires { number ≡ fold.number_of t }
-    ensures tree { IfOk result (λ f. f ≡ fold.at_least_form t) }
+    ensures tree { IfOk result (λ f. f ≡ cond holds CForm.Top CForm.Bottom) }
     ensures truth { IfOk result (λ f. truth.new ≡ fold.truth_of f) }
-    ensures weight { IfOk result (λ f. plain_weight f ≤ (plain_weights t).most) }
 {
-    *truth = number.map(|z| z >= 0);
-    Shared::new(
-        alloc,
-        form_by(CForm::AtLeast(owned_term(alloc, t)?), *truth),
-    )
+    *truth = Some(holds);
+    Shared::new(alloc, if holds { CForm::Top } else { CForm::Bottom })
 }
 
-/// That a term is 0, folded, and the truth of that. `number` is the number of the term.
+/// That a term is at least 0, or that it is 0, folded, and the truth of that. `number` is the number of
+/// the term.
 ///
 /// An error says that memory was refused.
 #[inline(never)]
 #[tactic(auto, using(crate::proofs::WeightLaws::weight_folded_form))]
-pub fn zero_known(
+pub fn sense_known(
     alloc: Global,
+    sense: Sense,
     t: Shared<CTerm>,
     number: Option<i128>,
     truth: &mut Option<bool>,
 ) -> Result<Shared<CForm>, AllocError>
     requires { number ≡ fold.number_of t }
-    ensures tree { IfOk result (λ f. f ≡ fold.zero_form t) }
+    ensures tree { IfOk result (λ f. f ≡ sense_form sense t) }
     ensures truth { IfOk result (λ f. truth.new ≡ fold.truth_of f) }
     ensures weight { IfOk result (λ f. plain_weight f ≤ (plain_weights t).most) }
 {
-    *truth = match number {
-        Some(z) => Some(z == 0),
-        None => None,
-    };
-    Shared::new(alloc, form_by(CForm::Zero(owned_term(alloc, t)?), *truth))
+    let t = owned_term(alloc, t)?;
+    match sense {
+        Sense::AtLeast => {
+            *truth = number.map(|z| z >= 0);
+            Shared::new(alloc, form_by(CForm::AtLeast(t), *truth))
+        }
+        Sense::Zero => {
+            *truth = number.map(|z| z == 0);
+            Shared::new(alloc, form_by(CForm::Zero(t), *truth))
+        }
+    }
 }
 
 /// That a formula does not hold, folded. `truth` is that of the formula before the call and that of the
@@ -285,14 +326,15 @@ pub fn not_known(
     Shared::new(alloc, form_by(CForm::Not(f), *truth))
 }
 
-/// That two formulas hold, folded. `first` is the truth of the first formula, and `truth` that of the
-/// second before the call and that of the result after it.
+/// That two formulas hold, or that one of them does, folded. `first` is the truth of the first formula, and
+/// `truth` that of the second before the call and that of the result after it.
 ///
 /// An error says that memory was refused.
 #[inline(never)]
 #[tactic(auto, using(crate::proofs::WeightLaws::weight_folded_form))]
-pub fn and_known(
+pub fn joined_known(
     alloc: Global,
+    joining: Joining,
     f: Shared<CForm>,
     first: Option<bool>,
     g: Shared<CForm>,
@@ -300,41 +342,40 @@ pub fn and_known(
 ) -> Result<Shared<CForm>, AllocError>
     requires first { first ≡ fold.truth_of f }
     requires second { truth.old ≡ fold.truth_of g }
-    ensures tree { IfOk result (λ h. h ≡ fold.and_form f g) }
+    ensures tree { IfOk result (λ h. h ≡ joined_form joining f g) }
     ensures truth { IfOk result (λ h. truth.new ≡ fold.truth_of h) }
     ensures weight { IfOk result (λ h. plain_weight h ≤ max (plain_weight f) (plain_weight g)) }
 {
-    *truth = match (first, *truth) {
-        (Some(x), Some(y)) => Some(x && y),
-        _ => None,
-    };
-    Shared::new(alloc, form_by(CForm::And(f, g), *truth))
+    match joining {
+        Joining::Both => {
+            *truth = both_true(first, *truth);
+            Shared::new(alloc, form_by(CForm::And(f, g), *truth))
+        }
+        Joining::Either => {
+            *truth = either_true(first, *truth);
+            Shared::new(alloc, form_by(CForm::Or(f, g), *truth))
+        }
+    }
 }
 
-/// That one of two formulas holds, folded. `first` is the truth of the first formula, and `truth` that of the
-/// second before the call and that of the result after it.
-///
-/// An error says that memory was refused.
-#[inline(never)]
-#[tactic(auto, using(crate::proofs::WeightLaws::weight_folded_form))]
-pub fn or_known(
-    alloc: Global,
-    f: Shared<CForm>,
-    first: Option<bool>,
-    g: Shared<CForm>,
-    truth: &mut Option<bool>,
-) -> Result<Shared<CForm>, AllocError>
-    requires first { first ≡ fold.truth_of f }
-    requires second { truth.old ≡ fold.truth_of g }
-    ensures tree { IfOk result (λ h. h ≡ fold.or_form f g) }
-    ensures truth { IfOk result (λ h. truth.new ≡ fold.truth_of h) }
-    ensures weight { IfOk result (λ h. plain_weight h ≤ max (plain_weight f) (plain_weight g)) }
+// Whether both of two formulas hold, where both truths are known.
+fn both_true(first: Option<bool>, second: Option<bool>) -> Option<bool>
+    ensures { result ≡ fold.joined (λ x y. x && y) first second }
 {
-    *truth = match (first, *truth) {
+    match (first, second) {
+        (Some(x), Some(y)) => Some(x && y),
+        _ => None,
+    }
+}
+
+// Whether one of two formulas holds, where both truths are known.
+fn either_true(first: Option<bool>, second: Option<bool>) -> Option<bool>
+    ensures { result ≡ fold.joined (λ x y. x || y) first second }
+{
+    match (first, second) {
         (Some(x), Some(y)) => Some(x || y),
         _ => None,
-    };
-    Shared::new(alloc, form_by(CForm::Or(f, g), *truth))
+    }
 }
 
 // A term, folded, in a place of its own.

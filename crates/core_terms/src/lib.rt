@@ -1,17 +1,26 @@
 //! The core form on which rules work: terms, formulas, programs, proofs and documents.
 #![tactic(auto)]
 
+mod building;
 mod copies;
 mod documents;
+mod entries;
 mod equality;
 mod evaluation;
 mod folding;
+mod interning;
 mod joining;
 mod known;
 mod laws;
+mod marks;
 mod measures;
+mod merging;
+mod nodes;
+mod placing;
+mod pool;
 mod programs;
 mod replacing;
+mod tables;
 mod trees;
 mod weights;
 
@@ -26,11 +35,14 @@ pub use folding::{
 };
 pub use joining::{copy_forms, join_programs};
 pub use known::{
-    and_known, at_least_known, choice_known, difference_known, not_known, or_known, quotient_known,
-    remainder_known, scaled_known, sum_known, zero_known,
+    Joining, Pairing, Sense, choice_known, constant_known, joined_known, not_known, paired_known,
+    quotient_known, remainder_known, scaled_known, sense_known, truth_known, variable_known,
 };
 pub use laws::{folding_laws, frame_laws, replacing_laws, same_is_equal};
+pub use marks::Mark;
 pub use measures::{size_of, size_of_term, size_within, term_within};
+pub use nodes::{FormId, TermId};
+pub use pool::Pool;
 pub use programs::{CProgram, CSlot, CStmt, CWrite, Print};
 pub use replacing::with_params;
 pub use trees::{CForm, CTerm, Range};

@@ -43,7 +43,7 @@ pub fn size_of_term(t: &CTerm) -> u64
 }
 
 // The sum, or 2^63 where it is more.
-fn plus(a: u64, b: u64) -> u64
+pub(crate) fn plus(a: u64, b: u64) -> u64
     ensures { result ≡ min (a + b) (2 ^ 63) }
 {
     a.saturating_add(b).min(1 << 63)

@@ -1,17 +1,18 @@
 // A formula with its parameters replaced. A replaced part stands in a place of its own, and what is known
 // of it is handed back beside it, so that no part is looked down again. Leaves and nodes of several parts
 // have functions of their own: so the frames are small.
-ghost use Rattle.std.specs.Prelude.{◌≡◌, ◌+◌, ◌*◌, ◌^◌, ◌<◌, ◌≤◌, IfOk, length, slice_get, Some, None, All, cond, max};
+ghost use Rattle.std.specs.Prelude.{◌≡◌, ◌+◌, ◌*◌, ◌^◌, ◌<◌, ◌≤◌, IfOk, length, slice_get, Some, None, All, max};
 ghost use Rattle.std.specs.Int.RustNames.{unsigned_abs};
 ghost use Rattle.core_terms.specs.Weights.{plain_weights, plain_weight, sum_weights, multiple_weights, choice_weights};
 ghost use Rattle.core_terms.specs.Places.{form_params, term_params};
 ghost use Rattle.core_terms.specs.Folding as fold;
+ghost use Rattle.core_terms.specs.Senses.{paired_term, sense_form, joined_form};
 ghost use Rattle.core_terms.specs.Replacing.{IsSmallArg, shifted, arg_term, form_at, term_at, choice_at, MeansAt};
 ghost use Rattle.core_terms.specs.Replacing.{put_weights, put_weight};
 
 use crate::copies::owned_form;
 use crate::documents::Arg;
-use crate::known;
+use crate::known::{self, Joining, Pairing, Sense};
 use crate::trees::{CForm, CTerm};
 use std::alloc::{AllocError, Global};
 use unity_base::Shared;
@@ -48,33 +49,21 @@ fn put_form(
     ensures weight { IfOk result (λ g. plain_weight g ≤ put_weight f.now) }
 {
     match f {
-        CForm::Top => put_truth(alloc, true, truth),
-        CForm::Bottom => put_truth(alloc, false, truth),
-        CForm::AtLeast(t) => put_at_least(alloc, t, args, truth),
-        CForm::Zero(t) => put_zero(alloc, t, args, truth),
+        CForm::Top => known::truth_known(alloc, true, truth),
+        CForm::Bottom => known::truth_known(alloc, false, truth),
+        CForm::AtLeast(t) => put_sense(alloc, Sense::AtLeast, t, args, truth),
+        CForm::Zero(t) => put_sense(alloc, Sense::Zero, t, args, truth),
         CForm::Not(g) => known::not_known(alloc, put_form(alloc, g.get(), args, truth)?, truth),
-        CForm::And(g, h) => put_and(alloc, g, h, args, truth),
-        CForm::Or(g, h) => put_or(alloc, g, h, args, truth),
+        CForm::And(g, h) => put_joined(alloc, Joining::Both, g, h, args, truth),
+        CForm::Or(g, h) => put_joined(alloc, Joining::Either, g, h, args, truth),
     }
 }
 
-#[inline(never)]
-fn put_truth(
-    alloc: Global,
-    holds: bool,
-    truth: &mut Option<bool>,
-) -> Result<Shared<CForm>, AllocError>
-    ensures tree { IfOk result (λ f. f ≡ cond holds CForm.Top CForm.Bottom) }
-    ensures truth { IfOk result (λ f. truth.new ≡ fold.truth_of f) }
-{
-    *truth = Some(holds);
-    Shared::new(alloc, if holds { CForm::Top } else { CForm::Bottom })
-}
-
 #[cycle(replacing)]
 #[inline(never)]
-fn put_at_least(
+fn put_sense(
     alloc: Global,
+    sense: Sense,
     t: &CTerm,
     args: &[Arg],
     truth: &mut Option<bool>,
@@ -82,39 +71,20 @@ fn put_at_least(
     requires params { term_params t.now ≤ length args.now }
     requires small { All IsSmallArg args.now }
     requires weight { (put_weights t.now).most ≤ 2 ^ 126 }
-    ensures tree { IfOk result (λ f. f ≡ fold.at_least_form (term_at args.now t.now)) }
+    ensures tree { IfOk result (λ f. f ≡ sense_form sense (term_at args.now t.now)) }
     ensures truth { IfOk result (λ f. truth.new ≡ fold.truth_of f) }
     ensures weight { IfOk result (λ f. plain_weight f ≤ (put_weights t.now).most) }
 {
     let mut number = None;
     let part = put_term(alloc, t, args, &mut number)?;
-    known::at_least_known(alloc, part, number, truth)
+    known::sense_known(alloc, sense, part, number, truth)
 }
 
 #[cycle(replacing)]
 #[inline(never)]
-fn put_zero(
+fn put_joined(
     alloc: Global,
-    t: &CTerm,
-    args: &[Arg],
-    truth: &mut Option<bool>,
-) -> Result<Shared<CForm>, AllocError>
-    requires params { term_params t.now ≤ length args.now }
-    requires small { All IsSmallArg args.now }
-    requires weight { (put_weights t.now).most ≤ 2 ^ 126 }
-    ensures tree { IfOk result (λ f. f ≡ fold.zero_form (term_at args.now t.now)) }
-    ensures truth { IfOk result (λ f. truth.new ≡ fold.truth_of f) }
-    ensures weight { IfOk result (λ f. plain_weight f ≤ (put_weights t.now).most) }
-{
-    let mut number = None;
-    let part = put_term(alloc, t, args, &mut number)?;
-    known::zero_known(alloc, part, number, truth)
-}
-
-#[cycle(replacing)]
-#[inline(never)]
-fn put_and(
-    alloc: Global,
+    joining: Joining,
     g: &Shared<CForm>,
     h: &Shared<CForm>,
     args: &[Arg],
@@ -123,36 +93,14 @@ fn put_and(
     requires params { max (form_params g.now) (form_params h.now) ≤ length args.now }
     requires small { All IsSmallArg args.now }
     requires weight { max (put_weight g.now) (put_weight h.now) ≤ 2 ^ 126 }
-    ensures tree { IfOk result (λ both. both ≡ fold.and_form (form_at args.now g.now) (form_at args.now h.now)) }
-    ensures truth { IfOk result (λ both. truth.new ≡ fold.truth_of both) }
-    ensures weight { IfOk result (λ both. plain_weight both ≤ max (put_weight g.now) (put_weight h.now)) }
+    ensures tree { IfOk result (λ f. f ≡ joined_form joining (form_at args.now g.now) (form_at args.now h.now)) }
+    ensures truth { IfOk result (λ f. truth.new ≡ fold.truth_of f) }
+    ensures weight { IfOk result (λ f. plain_weight f ≤ max (put_weight g.now) (put_weight h.now)) }
 {
     let mut first_truth = None;
     let first = put_form(alloc, g.get(), args, &mut first_truth)?;
     let second = put_form(alloc, h.get(), args, truth)?;
-    known::and_known(alloc, first, first_truth, second, truth)
-}
-
-#[cycle(replacing)]
-#[inline(never)]
-fn put_or(
-    alloc: Global,
-    g: &Shared<CForm>,
-    h: &Shared<CForm>,
-    args: &[Arg],
-    truth: &mut Option<bool>,
-) -> Result<Shared<CForm>, AllocError>
-    requires params { max (form_params g.now) (form_params h.now) ≤ length args.now }
-    requires small { All IsSmallArg args.now }
-    requires weight { max (put_weight g.now) (put_weight h.now) ≤ 2 ^ 126 }
-    ensures tree { IfOk result (λ either. either ≡ fold.or_form (form_at args.now g.now) (form_at args.now h.now)) }
-    ensures truth { IfOk result (λ either. truth.new ≡ fold.truth_of either) }
-    ensures weight { IfOk result (λ either. plain_weight either ≤ max (put_weight g.now) (put_weight h.now)) }
-{
-    let mut first_truth = None;
-    let first = put_form(alloc, g.get(), args, &mut first_truth)?;
-    let second = put_form(alloc, h.get(), args, truth)?;
-    known::or_known(alloc, first, first_truth, second, truth)
+    known::joined_known(alloc, joining, first, first_truth, second, truth)
 }
 
 // The term with its parameters replaced; `number` is then that of the result.
@@ -172,11 +120,11 @@ fn put_term(
     ensures most { IfOk result (λ u. (plain_weights u).most ≤ (put_weights t.now).most) }
 {
     match t {
-        CTerm::Const(c) => put_const(alloc, *c, number),
-        CTerm::Slot(n) => put_slot(alloc, *n, number),
+        CTerm::Const(c) => known::constant_known(alloc, *c, number),
+        CTerm::Slot(n) => known::variable_known(alloc, CTerm::Slot(*n), number),
         CTerm::Param(n) => put_arg(alloc, args, *n, number),
-        CTerm::Add(a, b) => put_sum(alloc, a, b, args, number),
-        CTerm::Sub(a, b) => put_difference(alloc, a, b, args, number),
+        CTerm::Add(a, b) => put_pair(alloc, Pairing::Sum, a, b, args, number),
+        CTerm::Sub(a, b) => put_pair(alloc, Pairing::Difference, a, b, args, number),
         CTerm::Scale(k, a) => {
             known::scaled_known(alloc, *k, put_term(alloc, a.get(), args, number)?, number)
         }
@@ -190,32 +138,11 @@ fn put_term(
     }
 }
 
-#[inline(never)]
-fn put_const(alloc: Global, c: i64, number: &mut Option<i128>) -> Result<Shared<CTerm>, AllocError>
-    ensures tree { IfOk result (λ u. u ≡ CTerm.Const c) }
-    ensures number { IfOk result (λ u. number.new ≡ fold.number_of u) }
-{
-    *number = Some(c as i128);
-    Shared::new(alloc, CTerm::Const(c))
-}
-
-#[inline(never)]
-fn put_slot(
-    alloc: Global,
-    slot: u32,
-    number: &mut Option<i128>,
-) -> Result<Shared<CTerm>, AllocError>
-    ensures tree { IfOk result (λ u. u ≡ CTerm.Slot slot) }
-    ensures number { IfOk result (λ u. number.new ≡ fold.number_of u) }
-{
-    *number = None;
-    Shared::new(alloc, CTerm::Slot(slot))
-}
-
 #[cycle(replacing)]
 #[inline(never)]
-fn put_sum(
+fn put_pair(
     alloc: Global,
+    which: Pairing,
     a: &Shared<CTerm>,
     b: &Shared<CTerm>,
     args: &[Arg],
@@ -224,7 +151,7 @@ fn put_sum(
     requires params { max (term_params a.now) (term_params b.now) ≤ length args.now }
     requires small { All IsSmallArg args.now }
     requires weight { (sum_weights (put_weights a.now) (put_weights b.now)).most ≤ 2 ^ 126 }
-    ensures tree { IfOk result (λ u. u ≡ fold.sum_term (term_at args.now a.now) (term_at args.now b.now)) }
+    ensures tree { IfOk result (λ u. u ≡ paired_term which (term_at args.now a.now) (term_at args.now b.now)) }
     ensures number { IfOk result (λ u. number.new ≡ fold.number_of u) }
     ensures own { IfOk result (λ u. (plain_weights u).own ≤ (put_weights a.now).own + (put_weights b.now).own) }
     ensures most { IfOk result (λ u. (plain_weights u).most ≤
@@ -233,31 +160,7 @@ fn put_sum(
     let mut first_number = None;
     let first = put_term(alloc, a.get(), args, &mut first_number)?;
     let second = put_term(alloc, b.get(), args, number)?;
-    known::sum_known(alloc, first, first_number, second, number)
-}
-
-#[cycle(replacing)]
-#[inline(never)]
-fn put_difference(
-    alloc: Global,
-    a: &Shared<CTerm>,
-    b: &Shared<CTerm>,
-    args: &[Arg],
-    number: &mut Option<i128>,
-) -> Result<Shared<CTerm>, AllocError>
-    requires params { max (term_params a.now) (term_params b.now) ≤ length args.now }
-    requires small { All IsSmallArg args.now }
-    requires weight { (sum_weights (put_weights a.now) (put_weights b.now)).most ≤ 2 ^ 126 }
-    ensures tree { IfOk result (λ u. u ≡ fold.difference_term (term_at args.now a.now) (term_at args.now b.now)) }
-    ensures number { IfOk result (λ u. number.new ≡ fold.number_of u) }
-    ensures own { IfOk result (λ u. (plain_weights u).own ≤ (put_weights a.now).own + (put_weights b.now).own) }
-    ensures most { IfOk result (λ u. (plain_weights u).most ≤
-        (sum_weights (put_weights a.now) (put_weights b.now)).most) }
-{
-    let mut first_number = None;
-    let first = put_term(alloc, a.get(), args, &mut first_number)?;
-    let second = put_term(alloc, b.get(), args, number)?;
-    known::difference_known(alloc, first, first_number, second, number)
+    known::paired_known(alloc, which, first, first_number, second, number)
 }
 
 #[cycle(replacing)]
@@ -304,12 +207,12 @@ fn put_arg(
     ensures most { IfOk result (λ u. (plain_weights u).most ≤ 2 ^ 63) }
 {
     match arg_in(args, place) {
-        Arg::Number(k) => put_const(alloc, k, number),
+        Arg::Number(k) => known::constant_known(alloc, k, number),
         Arg::Param { number: n, add } => {
             *number = None;
             shifted_param(alloc, n, add)
         }
-        Arg::Slot => put_const(alloc, 0, number),
+        Arg::Slot => known::constant_known(alloc, 0, number),
     }
 }
 

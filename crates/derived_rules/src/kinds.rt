@@ -5,18 +5,12 @@ ghost use Rattle.rules_table.specs.Table as table;
 
 use case_tables::Kind;
 use fair_rounds::Record;
-use safety_rules::is_unless;
+use safety_rules::{is_invariant, is_unless};
 
 fn is_leadsto(kind: Kind) -> bool
     ensures { result ≡ further.is_leadsto kind }
 {
     matches!(kind, Kind::Leadsto)
-}
-
-fn is_invariant(kind: Kind) -> bool
-    ensures { result ≡ table.is_invariant kind }
-{
-    matches!(kind, Kind::Invariant)
 }
 
 // Whether the first leads to something, and the second is an unless.

@@ -13,6 +13,7 @@ use Rattle.certificate_rules.specs.Refutation.{OpenBranch, made_by}
 use Rattle.certificate_machine.specs.declared.errors.Stop.{Stop}
 use Rattle.certificate_machine.specs.declared.frames.Machine.{Machine}
 use Rattle.certificate_machine.specs.Machines.{Goes, GoesErr, IsLightMachine, IsScoped}
+use Rattle.certificate_machine.specs.Sums.{sum_line}
 use Rattle.event_checker.specs.declared.reading.Open.{Open}
 use Rattle.event_checker.specs.declared.reading.Reading.{Reading}
 use Rattle.event_checker.specs.Events.{with_pair, is_node_event, with_event}
@@ -48,10 +49,10 @@ read-alone vs m node n (Err Stop.Memory) mid new alone below some state count go
 
 -- what the beginning of a node with pairs leaves
 pub record Started (m : Machine) (node : ℕ) (new : Reading) (st : Open) (k : ℤ) : Type 0 where
-  pub line : new.line ≡ line_of_const m.variables k
-  pub size : length new.line.factors ≡ length m.variables
-  pub factors : list_all is_small new.line.factors ≡ true
-  pub constant : is_small new.line.constant ≡ true
+  pub line : sum_line new.sum ≡ line_of_const m.variables k
+  pub size : length (sum_line new.sum).factors ≡ length m.variables
+  pub factors : list_all is_small (sum_line new.sum).factors ≡ true
+  pub constant : is_small (sum_line new.sum).constant ≡ true
   pub state : new.state ≡ st
   pub machine : new.machine ≡ m
   pub count : new.node ≡ node
@@ -86,8 +87,10 @@ module _ (vs : List Variable) (m : Machine) (node : ℕ) (new : Reading) (some :
 
 -- the clauses of the code's call together
 pub started : {E : Type 0} (r : Result (Unit {0}) E) (m : Machine) (node : ℕ) (new : Reading) (st : Open) (k : ℤ) →
-    OnOk r (new.line ≡ line_of_const m.variables k) → OnOk r (length new.line.factors ≡ length m.variables) →
-    OnOk r (list_all is_small new.line.factors ≡ true) → OnOk r (is_small new.line.constant ≡ true) →
+    OnOk r (sum_line new.sum ≡ line_of_const m.variables k) →
+    OnOk r (length (sum_line new.sum).factors ≡ length m.variables) →
+    OnOk r (list_all is_small (sum_line new.sum).factors ≡ true) →
+    OnOk r (is_small (sum_line new.sum).constant ≡ true) →
     OnOk r (new.state ≡ st) → OnOk r (new.machine ≡ m) → OnOk r (new.node ≡ node) → OnOk r (Started m node new st k)
 started (Ok u) m node new st k l s f c t a n =
     record { line = l; size = s; factors = f; constant = c; state = t; machine = a; count = n }
@@ -113,8 +116,8 @@ counted (Ok u) old new m n s = record { machine = m; count = n; state = s }
 counted (Err e) old new m n s = tt
 
 pub over-passes : (vs : List Variable) (root : List OpenBranch) (r : Reading) (ns : List Node) (e : CertEvent)
-    (m : Machine) (new : Reading) → is_node_event e ≡ true → Finishes vs r.state r.line r.machine m →
-    IsLightMachine m → IsScoped vs m → Counted (reading_of m r.state r.line r.node) new → Stands vs root r ns →
+    (m : Machine) (new : Reading) → is_node_event e ≡ true → Finishes vs r.state (sum_line r.sum) r.machine m →
+    IsLightMachine m → IsScoped vs m → Counted (reading_of m r.state r.sum r.node) new → Stands vs root r ns →
     is_over r.state ≡ false → Passed vs root new ns e
 over-passes vs root r ns e m new begin f light scoped k s o = by_done m.done refl
   where
@@ -135,7 +138,8 @@ passed-failed vs root r ns e code node is f = subst (λ st. PassedAt st vs root 
 
 -- or it failed
 pub stop-passes : (vs : List Variable) (root : List OpenBranch) (r : Reading) (ns : List Node) (e : CertEvent)
-    (mid new : Reading) (stop : Stop) → is_node_event e ≡ true → FinishFails vs r.state r.line r.machine stop →
+    (mid new : Reading) (stop : Stop) → is_node_event e ≡ true →
+    FinishFails vs r.state (sum_line r.sum) r.machine stop →
     mid.node ≡ r.node → IsStopped stop mid new → Stands vs root r ns → is_over r.state ≡ false → Passed vs root new ns e
 stop-passes vs root r ns e mid new (Stop.Fault code) begin f count q s o =
     passed-failed vs root new ns e code r.node (q ∙ ap (λ k. Open.Failed code k) count)

@@ -22,6 +22,8 @@ use Rattle.certificate_machine.specs.declared.frames.Machine.{Machine}
 use Rattle.certificate_machine.specs.declared.frames.Frame.{Frame}
 use Rattle.certificate_machine.specs.Machines.{rest_of, behind, FramesFit, are_light}
 use Rattle.certificate_machine.proofs.MachineLaws.{first-light}
+use Rattle.certificate_machine.specs.declared.running.Running.{Running}
+use Rattle.certificate_machine.specs.Sums.{sum_line}
 use Rattle.event_checker.specs.declared.errors.CertError.{CertError}
 use Rattle.event_checker.specs.declared.reading.Open.{Open}
 use Rattle.event_checker.specs.declared.reading.Reading.{Reading}
@@ -111,29 +113,30 @@ module _ (levels : ℕ) (o : Obligation) (nodes : List Node) (whole : is_whole n
       ∙ fails-at vs root m node done at n [] Code.BadSum
       (makes ∙ ap (λ b. cond b (opens []) (fails Code.BadSum)) f)
 
-  walked-at : (m : Machine) (l : Line) (node : ℕ) (st : Open) → Stands vs root (reading_of m st l node) nodes →
-      Walked levels o nodes (verdict_at st (reading_of m st l node))
-  walked-at m l node Open.Nothing g =
+  walked-at : (m : Machine) (u : Running) (node : ℕ) (st : Open) → Stands vs root (reading_of m st u node) nodes →
+      Walked levels o nodes (verdict_at st (reading_of m st u node))
+  walked-at m u node Open.Nothing g =
       let left = none-left m node g.done g.at [] (g.split ∙ ap (λ xs. g.done ++ xs) g.state.0) in
       absurd (no-tree (suc (length (rest_of vs m))) (omega arith) left)
-  walked-at m l node Open.Sum g =
+  walked-at m u node Open.Sum g =
       let s = g.state in
-      sum-walked m l node g.done (Node.Sum s.0) g.at (g.split ∙ ap (λ xs. g.done ++ xs) s.1)
-      (sym (made-is vs m (Node.Sum s.0) s.3.levels g.at.scoped.variables) ∙ ap made_sum s.2) (is_false l) refl
-  walked-at m l node (Open.Round d) g =
+      sum-walked m (sum_line u) node g.done (Node.Sum s.0) g.at (g.split ∙ ap (λ xs. g.done ++ xs) s.1)
+      (sym (made-is vs m (Node.Sum s.0) s.3.levels g.at.scoped.variables) ∙ ap made_sum s.2)
+      (is_false (sum_line u)) refl
+  walked-at m u node (Open.Round d) g =
       let s = g.state in
       let left = none-left m node g.done g.at (Node.Round d s.0 ∷ []) (g.split ∙ ap (λ xs. g.done ++ xs) s.1) in
       absurd (no-tree (1 + length (rest_of vs m)) (omega arith) left)
-  walked-at m l node Open.Share g =
+  walked-at m u node Open.Share g =
       let s = g.state in
       let left = none-left m node g.done g.at (Node.Share s.0 s.1 ∷ []) (g.split ∙ ap (λ xs. g.done ++ xs) s.2) in
       absurd (no-tree (2 + length (rest_of vs m)) (omega arith) left)
-  walked-at m l node (Open.Failed code at) f = f []
-  walked-at m l node Open.Closed f = f []
+  walked-at m u node (Open.Failed code at) f = f []
+  walked-at m u node Open.Closed f = f []
 
   never-at : (r : Reading) (st : Open) → IfErr (verdict_at st r) (λ e. e ≢ CertError.Memory)
   never-at r Open.Nothing = tt
-  never-at r Open.Sum = by_sum (is_false r.line)
+  never-at r Open.Sum = by_sum (is_false (sum_line r.sum))
     where
       by_sum : (b : Bool) → IfErr (sum_verdict b r.node) (λ e. e ≢ CertError.Memory)
       by_sum true = tt
@@ -166,7 +169,7 @@ module _ (levels : ℕ) (o : Obligation) (nodes : List Node) (whole : is_whole n
       Stands vs root r nodes → Judges levels o nodes v
   judged is r v e s =
       let walked : Walked levels o nodes v =
-      subst (Walked levels o nodes) (sym e) (walked-at r.machine r.line r.node r.state s) in
+      subst (Walked levels o nodes) (sym e) (walked-at r.machine r.sum r.node r.state s) in
       let never : IfErr v (λ e. e ≢ CertError.Memory) =
       subst (λ v. IfErr v (λ e. e ≢ CertError.Memory)) (sym e) (never-at r r.state) in record {
         walked = walked;
@@ -187,10 +190,10 @@ module _ (levels : ℕ) (o : Obligation) (b : Branch) (us : List Variable) (fram
   abbrev begun : Machine
   begun = record { levels = levels; branch = b; variables = us; frames = frames; done = false }
 
-  pub new-stands : (l : Line) → IsObligation o → levels ≤ 4096 → b ≡ first_branch o → b.added ≡ 0 →
+  pub new-stands : (u : Running) → IsObligation o → levels ≤ 4096 → b ≡ first_branch o → b.added ≡ 0 →
       us ≡ scope o.variables 0 → frames ≡ [] →
-      Stands o.variables (allowing levels (first_branch o) ∷ []) (reading_of begun Open.Nothing l 0) []
-  new-stands l is few first none scoped empty = record {
+      Stands o.variables (allowing levels (first_branch o) ∷ []) (reading_of begun Open.Nothing u 0) []
+  new-stands u is few first none scoped empty = record {
     done = [];
     last = [];
     split = refl;

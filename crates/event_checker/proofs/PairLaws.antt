@@ -14,6 +14,8 @@ use Rattle.certificate_rules.specs.Refutation.{made_share, walk}
 use Rattle.certificate_rules.proofs.SumLaws.{added-variable, pairs-stop, small-put}
 use Rattle.certificate_rules.proofs.RefutationLaws.{total-size}
 use Rattle.certificate_machine.specs.declared.frames.Machine.{Machine}
+use Rattle.certificate_machine.specs.declared.running.Running.{Running}
+use Rattle.certificate_machine.specs.Sums.{sum_line}
 use Rattle.event_checker.specs.declared.reading.Open.{Open}
 use Rattle.event_checker.specs.declared.reading.Reading.{Reading}
 use Rattle.event_checker.specs.Events.{paired, with_pair, nodes_from}
@@ -21,8 +23,8 @@ use Rattle.event_checker.specs.Readings.{pair_makes, IsStatement, At, Fails, Sta
 use Rattle.event_checker.proofs.NodeLaws.{paired-behind, with_pairs, grown, sum-pairs, round-pairs, share-pairs}
 use Rattle.event_checker.proofs.WalkLaws.{made-is, fails-at, each-append, each-further}
 
-abbrev pub reading_of : Machine → Open → Line → ℕ → Reading
-reading_of m st l node = record { machine = m; state = st; line = l; node = node }
+abbrev pub reading_of : Machine → Open → Running → ℕ → Reading
+reading_of m st u node = record { machine = m; state = st; sum = u; node = node }
 
 -- The numbers of a statement.
 
@@ -66,13 +68,19 @@ stated-stopped m k ps qs code e =
 
 -- A pair that is taken.
 
-module _ (vs : List Variable) (root : List OpenBranch) (m : Machine) (l k : Line) (node : ℕ) (ns : List Node)
+module _ (vs : List Variable) (root : List OpenBranch) (m : Machine) (u v : Running) (node : ℕ) (ns : List Node)
     (p : ℤ × ℕ) where
+  abbrev l : Line
+  l = sum_line u
+
+  abbrev k : Line
+  k = sum_line v
+
   split-paired : (done : List Node) (n : Node) → ns ≡ done ++ n ∷ [] → paired ns p ≡ done ++ with_pair n p ∷ []
   split-paired done n e = ap (λ xs. paired xs p) e ∙ paired-behind done n [] p
 
-  pair-goes-at : (st : Open) → pair_makes st m.branch.facts p l ≡ Ok k → Stands vs root (reading_of m st l node) ns →
-      Stands vs root (reading_of m st k node) (paired ns p)
+  pair-goes-at : (st : Open) → pair_makes st m.branch.facts p l ≡ Ok k → Stands vs root (reading_of m st u node) ns →
+      Stands vs root (reading_of m st v node) (paired ns p)
   pair-goes-at Open.Nothing e g =
       let all : ns ≡ g.done = g.split ∙ ap (λ xs. g.done ++ xs) g.state.0 ∙ append-nil g.done in record {
         done = g.done;
@@ -138,7 +146,7 @@ module _ (vs : List Variable) (root : List OpenBranch) (m : Machine) (l k : Line
       (sym (made-is vs m (with_pairs (with_pair n p) g.pairs) some at.scoped.variables) ∙ stops g.pairs)
 
   pair-fails-at : (st : Open) (code : Code) → pair_makes st m.branch.facts p l ≡ Err code →
-      Stands vs root (reading_of m st l node) ns → Fails vs root code node (paired ns p)
+      Stands vs root (reading_of m st u node) ns → Fails vs root code node (paired ns p)
   pair-fails-at Open.Nothing code e g = cc
   pair-fails-at Open.Sum code e g =
       let s = g.state in
@@ -161,12 +169,12 @@ module _ (vs : List Variable) (root : List OpenBranch) (m : Machine) (l k : Line
   pair-fails-at (Open.Failed c at) code e g = cc
   pair-fails-at Open.Closed code e g = cc
 
-pub pair-goes : (vs : List Variable) (root : List OpenBranch) (r : Reading) (k : Line) (ns : List Node) (p : ℤ × ℕ) →
-    pair_makes r.state r.machine.branch.facts p r.line ≡ Ok k → Stands vs root r ns →
-    Stands vs root (reading_of r.machine r.state k r.node) (paired ns p)
-pair-goes vs root r k ns p e s = pair-goes-at vs root r.machine r.line k r.node ns p r.state e s
+pub pair-goes : (vs : List Variable) (root : List OpenBranch) (r : Reading) (v : Running) (ns : List Node) (p : ℤ × ℕ) →
+    pair_makes r.state r.machine.branch.facts p (sum_line r.sum) ≡ Ok (sum_line v) → Stands vs root r ns →
+    Stands vs root (reading_of r.machine r.state v r.node) (paired ns p)
+pair-goes vs root r v ns p e s = pair-goes-at vs root r.machine r.sum v r.node ns p r.state e s
 
 pub pair-fails : (vs : List Variable) (root : List OpenBranch) (r : Reading) (ns : List Node) (p : ℤ × ℕ)
-    (code : Code) → pair_makes r.state r.machine.branch.facts p r.line ≡ Err code → Stands vs root r ns →
+    (code : Code) → pair_makes r.state r.machine.branch.facts p (sum_line r.sum) ≡ Err code → Stands vs root r ns →
     Fails vs root code r.node (paired ns p)
-pair-fails vs root r ns p code e s = pair-fails-at vs root r.machine r.line r.line r.node ns p r.state code e s
+pair-fails vs root r ns p code e s = pair-fails-at vs root r.machine r.sum r.sum r.node ns p r.state code e s

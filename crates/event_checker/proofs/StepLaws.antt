@@ -16,6 +16,8 @@ use Rattle.certificate_rules.specs.Refutation.{made_share, walk}
 use Rattle.certificate_machine.specs.declared.errors.Stop.{Stop}
 use Rattle.certificate_machine.specs.declared.frames.Machine.{Machine}
 use Rattle.certificate_machine.specs.Machines.{Goes, GoesErr, IsLightMachine, IsScoped, pendings, behind}
+use Rattle.certificate_machine.specs.declared.running.Running.{Running}
+use Rattle.certificate_machine.specs.Sums.{sum_line}
 use Rattle.event_checker.specs.declared.reading.Open.{Open}
 use Rattle.event_checker.specs.declared.reading.Reading.{Reading}
 use Rattle.event_checker.specs.Events.{with_pair, is_node_event, with_event}
@@ -114,14 +116,17 @@ share-is : (m : Machine) (k : ℤ) (ps : List (ℤ × ℕ)) (l : Line) → state
     made_share m.branch (Ok l) ≡ made_by m.variables m.branch (Node.Share k ps)
 share-is m k ps l e = ap (made_share m.branch) (sym e)
 
-module _ (vs : List Variable) (root : List OpenBranch) (m : Machine) (l : Line) (node : ℕ) (ns : List Node)
+module _ (vs : List Variable) (root : List OpenBranch) (m : Machine) (u : Running) (node : ℕ) (ns : List Node)
     (e : CertEvent) (begin : is_node_event e ≡ true) where
+  abbrev l : Line
+  l = sum_line u
+
   whole : (done last : List Node) (n : Node) → ns ≡ done ++ last → last ≡ n ∷ [] → ns ≡ done ++ n ∷ []
   whole done last n split is = split ∙ ap (λ xs. done ++ xs) is
 
   -- it failed
   stopped-at : (st : Open) (code : Code) → FinishFails vs st l m (Stop.Fault code) →
-      Stands vs root (reading_of m st l node) ns → is_over st ≡ false → Fails vs root code node (with_event ns e)
+      Stands vs root (reading_of m st u node) ns → is_over st ≡ false → Fails vs root code node (with_event ns e)
   stopped-at Open.Nothing code h g o = absurd h
   stopped-at Open.Sum code h g o =
       let s = g.state in
@@ -143,7 +148,7 @@ module _ (vs : List Variable) (root : List OpenBranch) (m : Machine) (l : Line) 
 
   -- no branch is left
   closes-at : (st : Open) (new : Machine) → Finishes vs st l m new → new.done ≡ true →
-      Stands vs root (reading_of m st l node) ns → is_over st ≡ false → Closes vs root (with_event ns e)
+      Stands vs root (reading_of m st u node) ns → is_over st ≡ false → Closes vs root (with_event ns e)
   closes-at Open.Nothing new f closed g o =
       let same = ap (λ (m : Machine). m.done) f in let going = g.at.going in absurd (cc)
   closes-at Open.Sum new f closed g o =
@@ -166,7 +171,7 @@ module _ (vs : List Variable) (root : List OpenBranch) (m : Machine) (l : Line) 
 
   -- branches are left
   goes-over : (st : Open) (new : Machine) → Finishes vs st l m new → IsLightMachine new → IsScoped vs new →
-      new.done ≡ false → Stands vs root (reading_of m st l node) ns → is_over st ≡ false →
+      new.done ≡ false → Stands vs root (reading_of m st u node) ns → is_over st ≡ false →
       At vs root new (next_node st node) ns
   goes-over Open.Nothing new f light scoped going g o =
       subst (At vs root new node) (sym (g.split ∙ ap (λ xs. g.done ++ xs) g.state.0 ∙ append-nil g.done))
@@ -190,39 +195,39 @@ module _ (vs : List Variable) (root : List OpenBranch) (m : Machine) (l : Line) 
   goes-over Open.Closed new f light scoped going g o = cc
 
 pub over-stopped : (vs : List Variable) (root : List OpenBranch) (r : Reading) (ns : List Node) (e : CertEvent)
-    (code : Code) → is_node_event e ≡ true → FinishFails vs r.state r.line r.machine (Stop.Fault code) →
+    (code : Code) → is_node_event e ≡ true → FinishFails vs r.state (sum_line r.sum) r.machine (Stop.Fault code) →
     Stands vs root r ns → is_over r.state ≡ false → Fails vs root code r.node (with_event ns e)
 over-stopped vs root r ns e code begin f s o =
-    stopped-at vs root r.machine r.line r.node ns e begin r.state code f s o
+    stopped-at vs root r.machine r.sum r.node ns e begin r.state code f s o
 
 pub over-closed : (vs : List Variable) (root : List OpenBranch) (r : Reading) (ns : List Node) (e : CertEvent)
-    (new : Machine) → is_node_event e ≡ true → Finishes vs r.state r.line r.machine new → new.done ≡ true →
+    (new : Machine) → is_node_event e ≡ true → Finishes vs r.state (sum_line r.sum) r.machine new → new.done ≡ true →
     Stands vs root r ns → is_over r.state ≡ false → Closes vs root (with_event ns e)
 over-closed vs root r ns e new begin f closed s o =
-    closes-at vs root r.machine r.line r.node ns e begin r.state new f closed s o
+    closes-at vs root r.machine r.sum r.node ns e begin r.state new f closed s o
 
 pub over-goes : (vs : List Variable) (root : List OpenBranch) (r : Reading) (ns : List Node) (e : CertEvent)
-    (new : Machine) → is_node_event e ≡ true → Finishes vs r.state r.line r.machine new → IsLightMachine new →
+    (new : Machine) → is_node_event e ≡ true → Finishes vs r.state (sum_line r.sum) r.machine new → IsLightMachine new →
     IsScoped vs new → new.done ≡ false → Stands vs root r ns → is_over r.state ≡ false →
     At vs root new (next_node r.state r.node) ns
 over-goes vs root r ns e new begin f light scoped going s o =
-    goes-over vs root r.machine r.line r.node ns e begin r.state new f light scoped going s o
+    goes-over vs root r.machine r.sum r.node ns e begin r.state new f light scoped going s o
 
 -- What a reading that goes on holds.
 
-at-state : (vs : List Variable) (root : List OpenBranch) (m : Machine) (l : Line) (node : ℕ) (ns : List Node)
-    (st : Open) → is_over st ≡ false → Stands vs root (reading_of m st l node) ns →
-    Going vs root (reading_of m st l node) ns
-at-state vs root m l node ns Open.Nothing o s = s
-at-state vs root m l node ns Open.Sum o s = s
-at-state vs root m l node ns (Open.Round d) o s = s
-at-state vs root m l node ns Open.Share o s = s
-at-state vs root m l node ns (Open.Failed c at) o s = cc
-at-state vs root m l node ns Open.Closed o s = cc
+at-state : (vs : List Variable) (root : List OpenBranch) (m : Machine) (u : Running) (node : ℕ) (ns : List Node)
+    (st : Open) → is_over st ≡ false → Stands vs root (reading_of m st u node) ns →
+    Going vs root (reading_of m st u node) ns
+at-state vs root m u node ns Open.Nothing o s = s
+at-state vs root m u node ns Open.Sum o s = s
+at-state vs root m u node ns (Open.Round d) o s = s
+at-state vs root m u node ns Open.Share o s = s
+at-state vs root m u node ns (Open.Failed c at) o s = cc
+at-state vs root m u node ns Open.Closed o s = cc
 
 pub going-on : (vs : List Variable) (root : List OpenBranch) (r : Reading) (ns : List Node) → is_over r.state ≡ false →
     Stands vs root r ns → Going vs root r ns
-going-on vs root r ns o s = at-state vs root r.machine r.line r.node ns r.state o s
+going-on vs root r ns o s = at-state vs root r.machine r.sum r.node ns r.state o s
 
 can-finish : (m : Machine) (l : Line) (done last : List Node) (st : Open) → IsOpen st m l done last → CanFinish st m l
 can-finish m l done last Open.Nothing s = tt
@@ -233,23 +238,23 @@ can-finish m l done last (Open.Failed c at) s = tt
 can-finish m l done last Open.Closed s = tt
 
 pub finishes : (vs : List Variable) (root : List OpenBranch) (r : Reading) (ns : List Node) → Going vs root r ns →
-    CanFinish r.state r.machine r.line
-finishes vs root r ns g = can-finish r.machine r.line g.done g.last r.state g.state
+    CanFinish r.state r.machine (sum_line r.sum)
+finishes vs root r ns g = can-finish r.machine (sum_line r.sum) g.done g.last r.state g.state
 
 -- what is over stays so
-over-at : (vs : List Variable) (root : List OpenBranch) (m : Machine) (l : Line) (node : ℕ) (ns : List Node)
-    (e : CertEvent) (st : Open) → is_over st ≡ true → Stands vs root (reading_of m st l node) ns →
-    Passed vs root (reading_of m st l node) ns e
-over-at vs root m l node ns e Open.Nothing o s = cc
-over-at vs root m l node ns e Open.Sum o s = cc
-over-at vs root m l node ns e (Open.Round d) o s = cc
-over-at vs root m l node ns e Open.Share o s = cc
-over-at vs root m l node ns e (Open.Failed c at) o s = λ es. s (e ∷ es)
-over-at vs root m l node ns e Open.Closed o s = λ es. s (e ∷ es)
+over-at : (vs : List Variable) (root : List OpenBranch) (m : Machine) (u : Running) (node : ℕ) (ns : List Node)
+    (e : CertEvent) (st : Open) → is_over st ≡ true → Stands vs root (reading_of m st u node) ns →
+    Passed vs root (reading_of m st u node) ns e
+over-at vs root m u node ns e Open.Nothing o s = cc
+over-at vs root m u node ns e Open.Sum o s = cc
+over-at vs root m u node ns e (Open.Round d) o s = cc
+over-at vs root m u node ns e Open.Share o s = cc
+over-at vs root m u node ns e (Open.Failed c at) o s = λ es. s (e ∷ es)
+over-at vs root m u node ns e Open.Closed o s = λ es. s (e ∷ es)
 
 pub over-stays : (vs : List Variable) (root : List OpenBranch) (r : Reading) (ns : List Node) (e : CertEvent) →
     is_over r.state ≡ true → Stands vs root r ns → Passed vs root r ns e
-over-stays vs root r ns e o s = over-at vs root r.machine r.line r.node ns e r.state o s
+over-stays vs root r ns e o s = over-at vs root r.machine r.sum r.node ns e r.state o s
 
 -- Another node begins.
 
@@ -298,21 +303,21 @@ module _ (vs : List Variable) (root : List OpenBranch) (m : Machine) (node : ℕ
           split = sym (append-nil (ns ++ n ∷ []));
           at = done-at vs root m node ns at n new.machine new.node goes count light scoped
               (goes-on vs m n new.machine goes below);
-          state = subst (λ st. IsOpen st new.machine new.line (ns ++ n ∷ []) []) (sym st)
+          state = subst (λ st. IsOpen st new.machine (sum_line new.sum) (ns ++ n ∷ []) []) (sym st)
               (refl, λ p. paired-behind ns n [] p ∙ ap (λ x. ns ++ x ∷ []) (alone p));
         })
 
   -- a node with pairs
   pub begun-stands : (n : Node) (new : Reading) (st : Open) → new.machine ≡ m → new.node ≡ node → new.state ≡ st →
-      IsOpen st m new.line ns (n ∷ []) → is_over st ≡ false → Stands vs root new (ns ++ n ∷ [])
+      IsOpen st m (sum_line new.sum) ns (n ∷ []) → is_over st ≡ false → Stands vs root new (ns ++ n ∷ [])
   begun-stands n new st machine count is state over =
       subst (λ st. StandsAt st vs root new (ns ++ n ∷ [])) (sym is) (by_state st over (record {
         done = ns;
         last = n ∷ [];
         split = refl;
         at = subst (λ k. At vs root new.machine k ns) (sym count) (subst (λ m. At vs root m node ns) (sym machine) at);
-        state = subst (λ st. IsOpen st new.machine new.line ns (n ∷ [])) (sym is)
-            (subst (λ m. IsOpen st m new.line ns (n ∷ [])) (sym machine) state);
+        state = subst (λ st. IsOpen st new.machine (sum_line new.sum) ns (n ∷ [])) (sym is)
+            (subst (λ m. IsOpen st m (sum_line new.sum) ns (n ∷ [])) (sym machine) state);
       }))
     where
       by_state : (st : Open) → is_over st ≡ false → Going vs root new (ns ++ n ∷ []) →
@@ -327,13 +332,13 @@ module _ (vs : List Variable) (root : List OpenBranch) (m : Machine) (node : ℕ
 -- a reading that does not go on stands as it did
 pub passed-over : (vs : List Variable) (root : List OpenBranch) (r : Reading) (ns : List Node) (e : CertEvent) →
     r.state ≢ Open.Nothing → Passed vs root r ns e → Stands vs root r (with_event ns e)
-passed-over vs root r ns e some p = by_state r.machine r.line r.node r.state some p
+passed-over vs root r ns e some p = by_state r.machine r.sum r.node r.state some p
   where
-    by_state : (m : Machine) (l : Line) (node : ℕ) (st : Open) → st ≢ Open.Nothing →
-        Passed vs root (reading_of m st l node) ns e → Stands vs root (reading_of m st l node) (with_event ns e)
-    by_state m l node Open.Nothing h p = absurd (h refl)
-    by_state m l node Open.Sum h p = absurd p
-    by_state m l node (Open.Round d) h p = absurd p
-    by_state m l node Open.Share h p = absurd p
-    by_state m l node (Open.Failed c at) h p = p
-    by_state m l node Open.Closed h p = p
+    by_state : (m : Machine) (u : Running) (node : ℕ) (st : Open) → st ≢ Open.Nothing →
+        Passed vs root (reading_of m st u node) ns e → Stands vs root (reading_of m st u node) (with_event ns e)
+    by_state m u node Open.Nothing h p = absurd (h refl)
+    by_state m u node Open.Sum h p = absurd p
+    by_state m u node (Open.Round d) h p = absurd p
+    by_state m u node Open.Share h p = absurd p
+    by_state m u node (Open.Failed c at) h p = p
+    by_state m u node Open.Closed h p = p

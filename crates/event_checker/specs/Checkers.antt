@@ -9,6 +9,7 @@ use Rattle.obligations.specs.Opening.{Valid, first_branch}
 use Rattle.certificate_rules.specs.Sums.{is_false}
 use Rattle.certificate_rules.specs.Refutation.{WalkResult, allowing, walk_from_root}
 use Rattle.certificate_rules.specs.Trees.{Refuted}
+use Rattle.certificate_machine.specs.Sums.{sum_line}
 use Rattle.event_checker.specs.declared.errors.CertError.{CertError}
 use Rattle.event_checker.specs.declared.reading.Open.{Open}
 use Rattle.event_checker.specs.declared.reading.Reading.{Reading}
@@ -51,7 +52,7 @@ sum_verdict false node = Err (CertError.Fault Code.BadSum node)
 
 abbrev pub verdict_at : Open → Reading → Result (Unit {0}) CertError
 verdict_at (Open.Failed code node) r = Err (CertError.Fault code node)
-verdict_at Open.Sum r = sum_verdict (is_false r.line) r.node
+verdict_at Open.Sum r = sum_verdict (is_false (sum_line r.sum)) r.node
 verdict_at state r = Ok tt
 
 -- what the nodes that were read come to

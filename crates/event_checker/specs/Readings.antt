@@ -13,6 +13,7 @@ use Rattle.certificate_rules.specs.Sums.{fact_step, variable_step, all_pairs, st
 use Rattle.certificate_rules.specs.Refutation.{OpenBranch, walk, made_sum, made_round, made_share}
 use Rattle.certificate_machine.specs.declared.errors.Stop.{Stop}
 use Rattle.certificate_machine.specs.declared.frames.Machine.{Machine}
+use Rattle.certificate_machine.specs.Sums.{sum_line}
 use Rattle.certificate_machine.specs.Machines.{Goes, GoesErr, IsFit, IsLightMachine, IsScoped, pendings}
 use Rattle.event_checker.specs.declared.reading.Open.{Open}
 use Rattle.event_checker.specs.declared.reading.Reading.{Reading}
@@ -115,7 +116,7 @@ pub record Going (vs : List Variable) (root : List OpenBranch) (r : Reading) (ns
   pub last : List Node
   pub split : ns ≡ done ++ last
   pub at : At vs root r.machine r.node done
-  pub state : IsOpen r.state r.machine r.line done last
+  pub state : IsOpen r.state r.machine (sum_line r.sum) done last
 
 -- whatever follows, a walk along the nodes ends so
 abbrev pub Fails : List Variable → List OpenBranch → Code → ℕ → List Node → Type 0

@@ -9,9 +9,8 @@ ghost use Rattle.event_checker.specs.Readings.{Stands};
 use crate::errors::CertError;
 use crate::reading::{Open, Reading};
 use case_tables::Code;
-use certificate_machine::Machine;
-use certificate_rules::closes;
-use obligations::{Obligation, has_room, open_branch, scope_of, zero_line};
+use certificate_machine::{Machine, Running};
+use obligations::{Obligation, has_room, open_branch, scope_of};
 use std::alloc::{AllocError, Global};
 use unity_base::Seq;
 
@@ -28,7 +27,7 @@ pub fn open_reading(alloc: Global, o: &Obligation, levels: u32) -> Result<Readin
     }
     let branch = open_branch(alloc, o)?;
     let variables = scope_of(alloc, o.variables.as_slice(), 0)?;
-    let line = zero_line(alloc, o.variables.as_slice())?;
+    let sum = Running::new(alloc, o.variables.as_slice())?;
     let machine = Machine {
         levels,
         branch,
@@ -39,7 +38,7 @@ pub fn open_reading(alloc: Global, o: &Obligation, levels: u32) -> Result<Readin
     Ok(Reading {
         machine,
         state: Open::Nothing,
-        line,
+        sum,
         node: 0,
     })
 }
@@ -51,7 +50,7 @@ pub fn verdict(reading: &Reading) -> Result<(), CertError>
     match reading.state {
         Open::Failed { code, node } => Err(CertError::Fault { code, node }),
         Open::Sum => {
-            if closes(&reading.line) {
+            if reading.sum.closes() {
                 Ok(())
             } else {
                 Err(CertError::Fault {

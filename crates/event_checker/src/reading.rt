@@ -6,6 +6,7 @@ ghost use Rattle.obligations.specs.Obligations.{AreOwn};
 ghost use Rattle.obligations.specs.Load.{is_small};
 ghost use Rattle.obligations.specs.LinearForms.{line_of_const};
 ghost use Rattle.certificate_rules.specs.Refutation.{OpenBranch};
+ghost use Rattle.certificate_machine.specs.Sums.{sum_line};
 ghost use Rattle.certificate_machine.specs.Machines.{IsFit, IsLightMachine, IsScoped};
 ghost use Rattle.event_checker.specs.Events.{is_node_event, paired, with_event};
 ghost use Rattle.event_checker.specs.Readings.{pair_makes, has_pairs, next_node, after, is_over, CanFinish, Finishes};
@@ -14,10 +15,9 @@ ghost use Rattle.event_checker.specs.Readings.{IsStopped, IsOpened, At, IsAt, St
 
 use case_tables::Code;
 use certificate_machine::{
-    Machine, Stop, close, open_case, open_quot, open_share, open_split, round,
+    Machine, Running, Stop, close, open_case, open_quot, open_share, open_split, round,
 };
-use certificate_rules::{add_pairs, add_variable};
-use obligations::{Fact, Line, Variable, zero_line};
+use obligations::{Fact, Variable};
 use std::alloc::{AllocError, Global};
 use unity_base::CertEvent;
 
@@ -44,20 +44,20 @@ pub enum Open {
 pub struct Reading {
     pub machine: Machine,
     pub state: Open,
-    pub line: Line,
+    pub sum: Running,
     pub node: u64,
 }
 
 /// Adds a pair to the sum of the node that is open.
-fn add_pair(state: Open, facts: &[Fact], pair: (i64, u64), line: &mut Line) -> Result<(), Code>
+fn add_pair(state: Open, facts: &[Fact], pair: (i64, u64), sum: &mut Running) -> Result<(), Code>
     ensures { MatchResult result
-        (λ _. pair_makes state facts.now pair line.old ≡ Ok line.new)
-        (λ code. pair_makes state facts.now pair line.old ≡ Err code) }
+        (λ _. pair_makes state facts.now pair (sum_line sum.old) ≡ Ok (sum_line sum.new))
+        (λ code. pair_makes state facts.now pair (sum_line sum.old) ≡ Err code) }
 {
     match state {
-        Open::Sum => add_pairs(facts, &[pair], line),
-        Open::Round(_) => add_pairs(facts, &[pair], line),
-        Open::Share => add_variable(&pair, line),
+        Open::Sum => sum.add_pair(facts, pair),
+        Open::Round(_) => sum.add_pair(facts, pair),
+        Open::Share => sum.add_variable(pair),
         _ => Ok(()),
     }
 }
@@ -79,7 +79,7 @@ pub fn take_pair(reading: &mut Reading, pair: (i64, u64))
         reading.state,
         reading.machine.branch.facts.as_slice(),
         pair,
-        &mut reading.line,
+        &mut reading.sum,
     );
     match added {
         Ok(()) => (),
@@ -93,23 +93,23 @@ fn finish_open(
     vs: &[Variable],
     machine: &mut Machine,
     state: Open,
-    line: &Line,
+    sum: &Running,
 ) -> Result<(), Stop>
     requires own { AreOwn vs.now }
     requires scoped { IsScoped vs.now machine.old }
     requires fits { IsFit machine.old }
     requires going { machine.old.done ≡ false }
     requires light { IsLightMachine machine.old }
-    requires finishes { CanFinish state machine.old line.now }
-    ensures ok { OnOk result (Finishes vs.now state line.now machine.old machine.new) }
+    requires finishes { CanFinish state machine.old (sum_line sum.now) }
+    ensures ok { OnOk result (Finishes vs.now state (sum_line sum.now) machine.old machine.new) }
     ensures light { OnOk result (IsLightMachine machine.new) }
     ensures scoped { OnOk result (IsScoped vs.now machine.new) }
-    ensures err { IfErr result (FinishFails vs.now state line.now machine.old) }
+    ensures err { IfErr result (FinishFails vs.now state (sum_line sum.now) machine.old) }
 {
     match state {
-        Open::Sum => close(alloc, vs, machine, line),
-        Open::Round(d) => round(alloc, vs, machine, d, line),
-        Open::Share => open_share(alloc, vs, machine, line),
+        Open::Sum => close(alloc, vs, machine, sum),
+        Open::Round(d) => round(alloc, vs, machine, d, sum),
+        Open::Share => open_share(alloc, vs, machine, sum.line()),
         _ => Ok(()),
     }
 }
@@ -180,13 +180,7 @@ fn step_over(alloc: Global, vs: &[Variable], reading: &mut Reading) -> Result<()
     if is_over(reading.state) {
         return Ok(());
     }
-    let finished = finish_open(
-        alloc,
-        vs,
-        &mut reading.machine,
-        reading.state,
-        &reading.line,
-    );
+    let finished = finish_open(alloc, vs, &mut reading.machine, reading.state, &reading.sum);
     match finished {
         Ok(()) => count(reading),
         Err(stop) => stopped(reading, stop),
@@ -208,18 +202,18 @@ fn opened(reading: &mut Reading, read: Result<(), Stop>) -> Result<(), AllocErro
 
 /// Begins a node with pairs, whose sum begins with this number.
 #[tactic(auto, using(certificate_machine::proofs::MachineLaws::trips))]
-fn start(alloc: Global, reading: &mut Reading, state: Open, constant: i64) -> Result<(), AllocError>
-    ensures line { OnOk result (reading.new.line ≡ line_of_const reading.old.machine.variables constant) }
-    ensures size { OnOk result (length reading.new.line.factors ≡ length reading.old.machine.variables) }
-    ensures factors { OnOk result (list_all is_small reading.new.line.factors ≡ true) }
-    ensures constant { OnOk result (is_small reading.new.line.constant ≡ true) }
+fn start(reading: &mut Reading, state: Open, constant: i64) -> Result<(), AllocError>
+    ensures line { OnOk result (sum_line reading.new.sum ≡ line_of_const reading.old.machine.variables constant) }
+    ensures size { OnOk result (length (sum_line reading.new.sum).factors ≡ length reading.old.machine.variables) }
+    ensures factors { OnOk result (list_all is_small (sum_line reading.new.sum).factors ≡ true) }
+    ensures constant { OnOk result (is_small (sum_line reading.new.sum).constant ≡ true) }
     ensures state { OnOk result (reading.new.state ≡ state) }
     ensures machine { OnOk result (reading.new.machine ≡ reading.old.machine) }
     ensures node { OnOk result (reading.new.node ≡ reading.old.node) }
 {
-    let mut line = zero_line(alloc, reading.machine.variables.as_slice())?;
-    line.constant = constant as i128;
-    reading.line = line;
+    reading
+        .sum
+        .restart(reading.machine.variables.as_slice(), constant)?;
     reading.state = state;
     Ok(())
 }
@@ -254,9 +248,9 @@ fn begin(
             let read = open_quot(alloc, vs, &mut reading.machine, k);
             opened(reading, read)
         }
-        CertEvent::Sum => start(alloc, reading, Open::Sum, 0),
-        CertEvent::Round(d) => start(alloc, reading, Open::Round(d), 0),
-        CertEvent::Share(constant) => start(alloc, reading, Open::Share, constant),
+        CertEvent::Sum => start(reading, Open::Sum, 0),
+        CertEvent::Round(d) => start(reading, Open::Round(d), 0),
+        CertEvent::Share(constant) => start(reading, Open::Share, constant),
         _ => Ok(()),
     }
 }

@@ -1,17 +1,17 @@
 -- A judge that was told nothing.
-use Rattle.std.proofs.Common.{◌≡◌, ℕ, false, List, [], ◌∷◌, length, drop, Option, Some}
+use Rattle.std.proofs.Common.{◌≡◌, ℕ, false, List, [], ◌∷◌, length, drop}
 use Rattle.std.proofs.Common.{None, refl, sym, ap, ◌∙◌, subst, arith}
 use Rattle.std.proofs.Math.Nat.{min-zero}
 use Rattle.std.proofs.lemmas.Bool.{le-ltb}
 use Rattle.core_terms.specs.declared.documents.CDocument.{CDocument}
 use Rattle.obligations.specs.declared.branches.Obligation.{Obligation}
 use Rattle.obligations.specs.declared.certificates.Cert.{Cert}
-use Rattle.proof_script.specs.declared.plans.Plan.{Plan}
-use Rattle.proof_script.specs.declared.plans.StepFault.{StepFault}
-use Rattle.proof_script.specs.Planning.{reach_from}
-use Rattle.proof_script.specs.Reaching.{reach_of, reached}
-use Rattle.proof_script.specs.Verdicts.{most_levels}
+use Rattle.proof_plans.specs.declared.plans.Plan.{Plan}
+use Rattle.proof_plans.specs.Planning.{reach_from}
+use Rattle.proof_plans.specs.Reaching.{reach_of, reached}
+use Rattle.proof_plans.specs.Verdicts.{most_levels}
 use Rattle.reached_verdicts.specs.ByReach.{refuted_named}
+use Rattle.proof_plans.proofs.PlanLaws.{reached_from}
 use Rattle.event_judge.specs.declared.judge.Judge.{Judge}
 use Rattle.event_judge.specs.Told.{nothing_told}
 use Rattle.event_judge.specs.Judges.{IsPlanned, names_in, shown_by, shown_from, IsAt, Judging}
@@ -19,10 +19,6 @@ use Rattle.event_judge.specs.Judges.{IsPlanned, names_in, shown_by, shown_from, 
 from-first : {X : Type 0} (xs : List X) → drop 0 xs ≡ xs
 from-first [] = refl
 from-first (x ∷ xs) = refl
-
-reached-from : (plan : Plan) (s : Option StepFault) → reached (reach_from plan s) ≡ plan
-reached-from plan None = refl
-reached-from plan (Some fault) = refl
 
 shown-whole : (d : CDocument) (certs : List Cert) (plan : Plan) → shown_by d certs plan ≡ shown_from d certs 0 plan
 shown-whole d certs plan =
@@ -38,7 +34,7 @@ begins d j planned reach levels judged surplus none =
     let n = length j.plan.obligations in record {
       plan = j.plan;
       reach = reach;
-      planned = subst (IsPlanned (names_in d)) (ap reached reach ∙ reached-from j.plan j.stopped) planned;
+      planned = subst (IsPlanned (names_in d)) (ap reached reach ∙ reached_from j.plan j.stopped) planned;
       levels = levels;
       records = refl;
       owner = refl;

@@ -8,13 +8,14 @@ use Rattle.obligations.specs.declared.branches.Obligation.{Obligation}
 use Rattle.obligations.specs.declared.certificates.Cert.{Cert}
 use Rattle.event_checker.specs.declared.checker.Checker.{Checker}
 use Rattle.fair_rounds.specs.declared.records.Record.{Record}
-use Rattle.proof_script.specs.declared.plans.Plan.{Plan}
-use Rattle.proof_script.specs.declared.plans.StepFault.{StepFault}
-use Rattle.proof_script.specs.Giving.{AreWhole}
-use Rattle.proof_script.specs.Planning.{reach_from}
-use Rattle.proof_script.specs.Reaching.{Reach, reach_of, reached}
-use Rattle.proof_script.specs.Verdicts.{then_by, most_levels, refutation_fault, surplus_fault, verdict_of}
+use Rattle.proof_plans.specs.declared.plans.Plan.{Plan}
+use Rattle.proof_plans.specs.declared.plans.StepFault.{StepFault}
+use Rattle.proof_plans.specs.Giving.{AreWhole}
+use Rattle.proof_plans.specs.Planning.{reach_from}
+use Rattle.proof_plans.specs.Reaching.{Reach, reach_of, reached}
+use Rattle.proof_plans.specs.Verdicts.{then_by, most_levels, refutation_fault, surplus_fault, verdict_of}
 use Rattle.reached_verdicts.specs.ByReach.{VerdictByReach, ended, verdict_from}
+use Rattle.proof_plans.proofs.PlanLaws.{reached_from}
 use Rattle.event_judge.specs.declared.judge.Judge.{Judge}
 use Rattle.event_judge.specs.Told.{Told}
 use Rattle.event_judge.specs.Judges.{shown_by, names_in, IsLeftBy, IsAt, Judging, Failed, StandsAt, Stands}
@@ -54,10 +55,6 @@ module _ (law : VerdictByReach) (d : CDocument) (j : Judge) (certs : List Cert) 
   obligations-are plan None w = w.obligations
   obligations-are plan (Some c) k = let no = k.told in absurd (cc)
 
-  stopped-plan : (plan : Plan) (s : Option StepFault) → reached (reach_from plan s) ≡ plan
-  stopped-plan plan None = refl
-  stopped-plan plan (Some fault) = refl
-
   pub finish-missing : (fault : StepFault) → j.failed ≡ None → j.judged < length j.plan.obligations →
       ((made : Record) → IsLeftBy j.plan j.judged made →
       fault ≡ refutation_fault made.program made.name j.judged Code.CertMissing) → Stands d j all →
@@ -83,7 +80,7 @@ module _ (law : VerdictByReach) (d : CDocument) (j : Judge) (certs : List Cert) 
       ∙ ap (λ (f : StepFault). Err f) (sym (named n.made left))) in
       verdict-is (reach_from g.plan j.stopped) g.reach
       ∙ ap (λ p. then_by (shown_by d certs p) (λ done. ended certs (reach_from g.plan j.stopped)))
-      (stopped-plan g.plan j.stopped)
+      (reached_from g.plan j.stopped)
       ∙ ap (λ r. then_by r (λ done. ended certs (reach_from g.plan j.stopped))) shown
 
   -- every obligation is refuted

@@ -1,10 +1,10 @@
-mod BeginLaws
-mod CheckLaws
-mod FinishLaws
-mod MoveLaws
-mod PlannedLaws
-mod ReadyLaws
-mod ShownLaws
-mod StandLaws
-mod TellLaws
-mod ToldLaws
+pub mod BeginLaws
+pub mod CheckLaws
+pub mod FinishLaws
+pub mod MoveLaws
+pub mod PlannedLaws
+pub mod ReadyLaws
+pub mod ShownLaws
+pub mod StandLaws
+pub mod TellLaws
+pub mod ToldLaws

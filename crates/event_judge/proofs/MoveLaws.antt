@@ -18,11 +18,11 @@ use Rattle.event_checker.specs.Checkers as checkers
 use Rattle.event_checker.specs.Events.{nodes_from}
 use Rattle.fair_rounds.specs.declared.records.Record.{Record}
 use Rattle.rules_table.proofs.EachLaws.{each_at, from_all}
-use Rattle.proof_script.specs.declared.plans.Plan.{Plan}
-use Rattle.proof_script.specs.declared.plans.StepFault.{StepFault}
-use Rattle.proof_script.specs.Planning.{reach_from}
-use Rattle.proof_script.specs.Reaching.{reached}
-use Rattle.proof_script.specs.Verdicts.{refutation_fault}
+use Rattle.proof_plans.specs.declared.plans.Plan.{Plan}
+use Rattle.proof_plans.specs.declared.plans.StepFault.{StepFault}
+use Rattle.proof_plans.specs.Reaching.{reached}
+use Rattle.proof_plans.specs.Verdicts.{refutation_fault}
+use Rattle.proof_plans.proofs.PlanLaws.{reached_from}
 use Rattle.event_judge.specs.declared.judge.Judge.{Judge}
 use Rattle.event_judge.specs.Told.{Told, told_at, told_more, begun, is_inner, part_count}
 use Rattle.event_judge.specs.Judges.{shown_by, shown_from, IsShownBefore, Checks, Waits, IsAt, Judging}
@@ -155,10 +155,6 @@ module _ (d : CDocument) (j : Judge) where
             };
           })
 
-reached-from : (plan : Plan) (s : Option StepFault) → reached (reach_from plan s) ≡ plan
-reached-from plan None = refl
-reached-from plan (Some fault) = refl
-
 -- The certificate that is being checked ends.
 
 module _ (d : CDocument) (j : Judge) (c : Checker) (t : Told) (none : j.checker ≡ None) (back : Obligation)
@@ -268,7 +264,7 @@ module _ (d : CDocument) (j : Judge) (c : Checker) (t : Told) (none : j.checker 
             fails = λ whole more.
                 let joined = append_assoc t.certs (it ∷ []) more in
                 let walked = walks k.obligation k.events (made-at g k) k.stands (whole-last t.certs it whole) in
-                ap (shown_by d ((t.certs ++ it ∷ []) ++ more)) (ap reached g.reach ∙ reached-from g.plan j.stopped)
+                ap (shown_by d ((t.certs ++ it ∷ []) ++ more)) (ap reached g.reach ∙ reached_from g.plan j.stopped)
                 ∙ ap (λ (cs : List Cert). shown_by d cs g.plan) joined
                 ∙ g.shown (whole-front t.certs (it ∷ []) whole) (it ∷ more)
                 ∙ shown-failing d g.plan (t.certs ++ it ∷ more) j.judged k.obligation it code node k.next n

@@ -25,15 +25,15 @@ use Rattle.rules_steps.specs.Starts.{document_seen}
 use Rattle.rules_steps.specs.Using.{BookFits}
 use Rattle.rules_steps.proofs.GoalLaws.{told_step}
 use Rattle.rules_steps.proofs.ItemLaws.{to_all}
-use Rattle.proof_script.specs.declared.plans.Plan.{Plan}
-use Rattle.proof_script.specs.Reaching.{Reach, Stop, further, by_row, steps_reach, end_reach, proof_reach}
-use Rattle.proof_script.specs.Reaching.{proofs_reach, reach_of, reached}
-use Rattle.proof_script.specs.Verdicts.{grown, no_plan, rule_fault}
-use Rattle.proof_script.proofs.LoopLaws.{named_program}
-use Rattle.proof_script.proofs.ReachLaws.{reach-is, reaches-none, reaches-more, proofs_reach-none, proofs_reach-more}
-use Rattle.proof_script.proofs.ReachLaws.{reach_fits}
+use Rattle.proof_plans.specs.declared.plans.Plan.{Plan}
+use Rattle.proof_plans.specs.Reaching.{Reach, Stop, further, by_row, steps_reach, end_reach, proof_reach}
+use Rattle.proof_plans.specs.Reaching.{proofs_reach, reach_of, reached}
+use Rattle.proof_plans.specs.Verdicts.{grown, no_plan, rule_fault}
+use Rattle.proof_plans.proofs.LoopLaws.{named_program}
+use Rattle.proof_plans.proofs.ReachLaws.{reach-is, reaches-none, reaches-more, proofs_reach-none, proofs_reach-more}
+use Rattle.proof_plans.proofs.ReachLaws.{reach_fits}
 use Rattle.reached_verdicts.specs.ByReach.{Name, name_at, names_of, proof_names}
-use Rattle.event_judge.specs.Judges.{IsPlanned, names_in}
+use Rattle.event_judge.specs.Judges.{IsOwned, IsPlanned, names_in}
 use Rattle.event_judge.proofs.StandLaws.{got-at}
 
 -- The names of records.
@@ -249,3 +249,10 @@ planned d good =
                 ∙ name-there plan.records ahead.later w.0 r.0 r.1;
           };
     }
+
+pub makeable_of : (d : CDocument) → IsCoreDocument d → All IsObligation (reached (reach_of d)).obligations
+makeable_of d good = (planned d good).makeable
+
+pub owned_of : (d : CDocument) → IsCoreDocument d → (place : ℕ) → place < length (reached (reach_of d)).obligations →
+    IsOwned (reached (reach_of d)) place
+owned_of d good place h = let n = (planned d good).named place h in (n.made, n.left)

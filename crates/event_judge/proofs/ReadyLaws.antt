@@ -8,9 +8,9 @@ use Rattle.obligations.specs.declared.branches.Obligation.{Obligation}
 use Rattle.obligations.specs.Obligations.{IsObligation}
 use Rattle.event_checker.specs.declared.checker.Checker.{Checker}
 use Rattle.fair_rounds.specs.declared.records.Record.{Record}
-use Rattle.proof_script.specs.declared.plans.Plan.{Plan}
-use Rattle.proof_script.specs.declared.plans.StepFault.{StepFault}
-use Rattle.proof_script.specs.Verdicts.{most_levels}
+use Rattle.proof_plans.specs.declared.plans.Plan.{Plan}
+use Rattle.proof_plans.specs.declared.plans.StepFault.{StepFault}
+use Rattle.proof_plans.specs.Verdicts.{most_levels}
 use Rattle.event_judge.specs.declared.judge.Judge.{Judge}
 use Rattle.event_judge.specs.Told.{Told}
 use Rattle.event_judge.specs.Judges.{IsOwned, IsAt, Judging, StandsAt, IsReady, checked_by, Checks}

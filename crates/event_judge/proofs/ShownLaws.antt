@@ -9,10 +9,10 @@ use Rattle.obligations.specs.declared.branches.Obligation.{Obligation}
 use Rattle.obligations.specs.declared.certificates.Cert.{Cert}
 use Rattle.certificate_rules.specs.Trees.{is_whole}
 use Rattle.certificate_rules.specs.Refutation.{walk_from_root}
-use Rattle.proof_script.specs.declared.plans.Plan.{Plan}
-use Rattle.proof_script.specs.Giving.{AreWhole}
-use Rattle.proof_script.specs.Verdicts.{then_by, failing, failing_node, or_refutation_fault, refutation_fault}
-use Rattle.proof_script.specs.Verdicts.{most_levels}
+use Rattle.proof_plans.specs.declared.plans.Plan.{Plan}
+use Rattle.proof_plans.specs.Giving.{AreWhole}
+use Rattle.proof_plans.specs.Verdicts.{then_by, failing, failing_node, or_refutation_fault, refutation_fault}
+use Rattle.proof_plans.specs.Verdicts.{most_levels}
 use Rattle.reached_verdicts.specs.ByReach.{refuted_named}
 use Rattle.event_judge.specs.Judges.{IsNamed, names_in, shown_from}
 

@@ -9,9 +9,9 @@ use Rattle.core_terms.specs.declared.documents.CDocument.{CDocument}
 use Rattle.obligations.specs.declared.certificates.Cert.{Cert}
 use Rattle.event_checker.specs.declared.checker.Checker.{Checker}
 use Rattle.event_checker.specs.Events.{nodes_from}
-use Rattle.proof_script.specs.declared.plans.Plan.{Plan}
-use Rattle.proof_script.specs.declared.plans.StepFault.{StepFault}
-use Rattle.proof_script.specs.Reaching.{reach_of, reached}
+use Rattle.proof_plans.specs.declared.plans.Plan.{Plan}
+use Rattle.proof_plans.specs.declared.plans.StepFault.{StepFault}
+use Rattle.proof_plans.specs.Reaching.{reach_of, reached}
 use Rattle.event_judge.specs.declared.judge.Judge.{Judge}
 use Rattle.event_judge.specs.Told.{Told, told_at, told_by, told_more, begun, is_inner, part_count}
 use Rattle.event_judge.specs.Judges.{shown_by, shown_from, IsShownBefore, FailsWith, Checks, Waits, IsAt, Judging}

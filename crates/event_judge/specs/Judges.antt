@@ -9,12 +9,12 @@ use Rattle.obligations.specs.Obligations.{IsObligation}
 use Rattle.event_checker.specs.declared.checker.Checker.{Checker}
 use Rattle.event_checker.specs.Checkers as checkers
 use Rattle.fair_rounds.specs.declared.records.Record.{Record}
-use Rattle.proof_script.specs.declared.plans.Plan.{Plan}
-use Rattle.proof_script.specs.declared.plans.StepFault.{StepFault}
-use Rattle.proof_script.specs.Giving.{AreWhole}
-use Rattle.proof_script.specs.Planning.{reach_from}
-use Rattle.proof_script.specs.Reaching.{reach_of, reached}
-use Rattle.proof_script.specs.Verdicts.{most_levels}
+use Rattle.proof_plans.specs.declared.plans.Plan.{Plan}
+use Rattle.proof_plans.specs.declared.plans.StepFault.{StepFault}
+use Rattle.proof_plans.specs.Giving.{AreWhole}
+use Rattle.proof_plans.specs.Planning.{reach_from}
+use Rattle.proof_plans.specs.Reaching.{reach_of, reached}
+use Rattle.proof_plans.specs.Verdicts.{most_levels}
 use Rattle.reached_verdicts.specs.ByReach.{Name, names_of, name_at, refuted_named, plan_refuted}
 use Rattle.event_judge.specs.declared.judge.Judge.{Judge}
 use Rattle.event_judge.specs.Told.{Told, told_by, begun}

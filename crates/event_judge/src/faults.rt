@@ -1,11 +1,11 @@
 // How certificates fail against the obligations of a plan.
 ghost use Rattle.std.specs.Prelude.{◌≡◌, ◌<◌, ◌^◌};
 ghost use Rattle.fair_rounds.specs.declared.records.Record.{Record};
-ghost use Rattle.proof_script.specs.Verdicts.{refutation_fault, surplus_fault};
+ghost use Rattle.proof_plans.specs.Verdicts.{refutation_fault, surplus_fault};
 ghost use Rattle.event_judge.specs.Judges.{IsLeftBy, IsOwned};
 
 use case_tables::Code;
-use proof_script::{Plan, StepFault};
+use proof_plans::{Plan, StepFault};
 
 /// The obligation of this number, from 0, fails.
 pub(crate) fn refutation_fault(plan: &Plan, number: usize, code: Code) -> StepFault

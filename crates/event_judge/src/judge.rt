@@ -13,7 +13,7 @@ use case_tables::Code;
 use core_terms::{CDocument, CForm};
 use event_checker::{CertError, Checker};
 use obligations::Obligation;
-use proof_script::{Plan, Planned, ScriptError, StepFault, most_levels, plan_by_rules};
+use proof_plans::{Plan, Planned, ScriptError, StepFault, most_levels, plan_by_rules};
 use std::alloc::{AllocError, Global};
 use unity_base::{CertEvent, Seq};
 
@@ -74,8 +74,8 @@ fn next(number: usize) -> Result<usize, AllocError>
 
 impl Judge {
     ghost use Rattle.event_checker.specs.Events.{is_pair};
-    ghost use Rattle.proof_script.specs.Giving.{AreWhole, PlanHolds, VerdictAnswers};
-    ghost use Rattle.proof_script.specs.Verdicts.{verdict_of};
+    ghost use Rattle.proof_plans.specs.Giving.{AreWhole, PlanHolds, VerdictAnswers};
+    ghost use Rattle.proof_plans.specs.Verdicts.{verdict_of};
     ghost use Rattle.event_judge.specs.Judges.{IsReady, Stands, StandsFor, checked_by};
     ghost use Rattle.event_judge.specs.Told.{Told, certs_events, is_inner, told_more};
     ghost use Rattle.unity_base.specs.declared.events.CertEvent.{CertEvent};

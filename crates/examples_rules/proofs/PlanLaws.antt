@@ -14,10 +14,10 @@ use Rattle.core_terms.specs.Conditions.{IsCoreDocument}
 use Rattle.expand_documents.specs.Cores.{core_document}
 use Rattle.expand_documents.specs.Faults.{expansion_fault}
 use Rattle.expand_fits.proofs.Parsed.Reading.{read_cores}
-use Rattle.proof_script.specs.declared.plans.Plan.{Plan}
-use Rattle.proof_script.specs.declared.plans.StepFault.{StepFault}
-use Rattle.proof_script.specs.declared.plans.ScriptError.{ScriptError}
-use Rattle.proof_script.specs.Planning.{Walks}
+use Rattle.proof_plans.specs.declared.plans.Plan.{Plan}
+use Rattle.proof_plans.specs.declared.plans.StepFault.{StepFault}
+use Rattle.proof_plans.specs.declared.plans.ScriptError.{ScriptError}
+use Rattle.proof_plans.specs.Planning.{Walks}
 use Rattle.examples_rules.specs.declared.plans.NoPlan.{NoPlan}
 use Rattle.examples_rules.specs.Plans.{HasFault, HasCore, steps_of, PlansText}
 

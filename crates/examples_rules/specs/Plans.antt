@@ -10,8 +10,8 @@ use Rattle.expand_documents.specs.Faults.{expansion_fault}
 use Rattle.rules_table.specs.Walk as walk
 use Rattle.rules_table.specs.Walk.{Failure, walk_of}
 use Rattle.rules_steps.specs.Starts.{starts_in}
-use Rattle.proof_script.specs.declared.plans.Plan.{Plan}
-use Rattle.proof_script.specs.Planning.{IsPlanOf, IsFailureOf}
+use Rattle.proof_plans.specs.declared.plans.Plan.{Plan}
+use Rattle.proof_plans.specs.Planning.{IsPlanOf, IsFailureOf}
 use Rattle.examples_rules.specs.declared.plans.NoPlan.{NoPlan}
 
 -- a document of which a fault is told is not well named, or its expansion has a fault; want of memory says nothing

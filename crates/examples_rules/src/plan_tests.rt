@@ -1,7 +1,7 @@
 // Plans of documents, with their records and the owners of their obligations worked out by hand.
 use crate::{NoPlan, plan_of};
 use case_tables::{Code, Kind};
-use proof_script::Plan;
+use proof_plans::Plan;
 use std::process::Abort;
 use std::test::Fail;
 

@@ -9,7 +9,7 @@ ghost use Rattle.examples_rules.specs.Plans.{HasFault, PlansText};
 
 use core_terms::CDocument;
 use names_rules::NameFault;
-use proof_script::{Plan, ScriptError, StepFault, walk};
+use proof_plans::{Plan, ScriptError, StepFault, walk};
 use quantified_assign::expand;
 use ranges_types::{Names, check_names};
 use std::alloc::Global;

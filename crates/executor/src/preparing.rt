@@ -46,8 +46,8 @@ pub fn make_step(
     }
 }
 
-// Whether a statement writes outside an array.
-pub(crate) fn writes_outside(slots: &[CSlot], state: &[i64], outside: &[CForm]) -> bool
+/// Whether a statement writes outside an array.
+pub fn writes_outside(slots: &[CSlot], state: &[i64], outside: &[CForm]) -> bool
     requires state { IsTrue (is_state (slot_ranges slots.now) state.now) }
     requires fits { FormsRun slots.now outside.now }
     ensures { result ≡ list_any (form_value state.now []) outside.now }

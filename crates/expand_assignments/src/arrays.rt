@@ -10,8 +10,8 @@ ghost use Rattle.expand_assignments.specs.Adding.{slot_ends, spread_write};
 
 use crate::places::ArraySlots;
 use core_terms::{
-    CForm, CTerm, CWrite, and_known, copy_term, difference_known, not_known, or_known, owned_form,
-    zero_known,
+    CForm, CTerm, CWrite, Joining, Pairing, Sense, copy_term, joined_known, not_known, owned_form,
+    paired_known, sense_known,
 };
 use expand_expressions::{NumberCore, TruthCore};
 use std::alloc::{AllocError, Global};
@@ -32,8 +32,15 @@ fn equation(
     let mut known = Some(number as i128);
     let constant = Shared::new(alloc, CTerm::Const(number))?;
     let copy = index.term.share()?;
-    let less = difference_known(alloc, copy, index.known, constant, &mut known)?;
-    zero_known(alloc, less, known, truth)
+    let less = paired_known(
+        alloc,
+        Pairing::Difference,
+        copy,
+        index.known,
+        constant,
+        &mut known,
+    )?;
+    sense_known(alloc, Sense::Zero, less, known, truth)
 }
 
 // The condition, and that the index is this number.
@@ -51,7 +58,7 @@ fn guarded(
     let mut truth = None;
     let same = equation(alloc, index, number, &mut truth)?;
     let condition = c.form.share()?;
-    and_known(alloc, condition, c.known, same, &mut truth)
+    joined_known(alloc, Joining::Both, condition, c.known, same, &mut truth)
 }
 
 // The write of one slot, where the index is that slot's.
@@ -120,7 +127,7 @@ fn or_equal(
 {
     let known = *truth;
     let same = equation(alloc, index, slots.index_at(place), truth)?;
-    or_known(alloc, first, known, same, truth)
+    joined_known(alloc, Joining::Either, first, known, same, truth)
 }
 
 // That the index is one of the array's, of which there is at least one.
@@ -181,5 +188,5 @@ pub fn outside(
     let any = any_equal(alloc, index, slots, &mut truth)?;
     let none = not_known(alloc, any, &mut truth)?;
     let condition = c.form.share()?;
-    and_known(alloc, condition, c.known, none, &mut truth)
+    joined_known(alloc, Joining::Both, condition, c.known, none, &mut truth)
 }

@@ -1,3 +1,4 @@
+pub mod Bits
 pub mod Operations
 pub mod SameSteps
 pub mod Values

@@ -1,3 +1,4 @@
 pub mod Sound
 pub mod Places
 pub mod Joints
+pub mod Senses

@@ -23,7 +23,7 @@ use crate::places::{Env, Known, VariableSlots, find_variable};
 use crate::products::{is_past_by, limited};
 use crate::refusal::Refusal;
 use crate::words::typed;
-use core_terms::{CTerm, Range, choice_known, difference_known, zero_known};
+use core_terms::{CTerm, Pairing, Range, Sense, choice_known, paired_known, sense_known};
 use expand_rules::{Core, Formed};
 use std::alloc::{AllocError, Global};
 use unity_base::Shared;
@@ -81,9 +81,16 @@ fn link(
     let copy = index.term.share()?;
     let constant = index_term(alloc, place)?;
     let mut known = Some(i128::from(place.at));
-    let less = difference_known(alloc, copy, index.known, constant, &mut known)?;
+    let less = paired_known(
+        alloc,
+        Pairing::Difference,
+        copy,
+        index.known,
+        constant,
+        &mut known,
+    )?;
     let mut truth = None;
-    let same = zero_known(alloc, less, known, &mut truth)?;
+    let same = sense_known(alloc, Sense::Zero, less, known, &mut truth)?;
     let read = Shared::new(alloc, CTerm::Slot(place.slot))?;
     choice_known(alloc, same, truth, read, None, rest, number)
 }
@@ -178,8 +185,8 @@ fn slot_read(
     }
 }
 
-// What is read at an index: one slot or 0 where the index is known, and else a choice for each index.
-#[tactic(auto, using(crate::proofs::Multiples::known_small))]
+// What is read at an index: one slot or 0 where the index is known, and else a choice for each index; of no index, 0.
+#[tactic(auto, using(crate::proofs::Multiples::known_small, crate::proofs::Elements::size_last))]
 fn chosen(
     alloc: Global,
     index: &NumberCore,
@@ -198,32 +205,9 @@ fn chosen(
         max (index.now.measure.own + max (unsigned_abs ends.lo) (unsigned_abs ends.hi))
         (max index.now.measure.most 1)) }
 {
-    match known_slot(first, ends, narrow(index.known)) {
-        Some(slot) => slot_read(alloc, slot, number),
-        None => open_choice(alloc, index, first, ends, number),
+    if let Some(slot) = known_slot(first, ends, narrow(index.known)) {
+        return slot_read(alloc, slot, number);
     }
-}
-
-// A choice for each index; of no index, 0.
-#[tactic(auto, using(crate::proofs::Elements::size_last))]
-fn open_choice(
-    alloc: Global,
-    index: &NumberCore,
-    first: u32,
-    ends: Range,
-    number: &mut Option<i128>,
-) -> Result<Shared<CTerm>, AllocError>
-    requires sound { IsSound (of_number index.now) }
-    requires light { index.now.measure.most ≤ 2 ^ 62 + 1 }
-    requires near { IsNear ends }
-    requires slots { first + range_size (ends_of ends) ≤ 2 ^ 32 }
-    ensures tree { IfOk result (λ t. t ≡ spec.chain index.now.term ends.lo first (range_size (ends_of ends))) }
-    ensures known { IfOk result (λ t. number.new ≡ number_of t) }
-    ensures own { IfOk result (λ t. (plain_weights t).own ≤ 1) }
-    ensures most { IfOk result (λ t. (plain_weights t).most ≤
-        max (index.now.measure.own + max (unsigned_abs ends.lo) (unsigned_abs ends.hi))
-        (max index.now.measure.most 1)) }
-{
     let count = range_size(ends);
     if count == 0 {
         slot_read(alloc, None, number)

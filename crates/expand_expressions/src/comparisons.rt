@@ -7,11 +7,9 @@ ghost use Rattle.core_terms.specs.declared.trees.CForm.TheVariants.{Top, Bottom}
 ghost use Rattle.expand_expressions.specs.Sound.{IsSound, is_truth_core};
 
 use crate::measures::{leaf, pair_measure};
-use crate::operations::{
-    at_least_zero, conjunction, denial, difference, disjunction, is_zero, number, truth,
-};
+use crate::operations::{denial, joined, number, paired, sensed, truth};
 use case_tables::Symbol;
-use core_terms::{CForm, CTerm};
+use core_terms::{CForm, CTerm, Joining, Pairing, Sense};
 use expand_rules::{Core, Formed};
 use std::alloc::{AllocError, Global};
 use unity_base::Shared;
@@ -138,7 +136,7 @@ pub fn implication(alloc: Global, a: Formed, b: Formed) -> Result<Formed, AllocE
     ensures most { IfOk result (λ f. f.measure.most ≤ max a.measure.most b.measure.most + 2) }
 {
     let denied = denial(alloc, a)?;
-    disjunction(alloc, denied, b)
+    joined(alloc, Joining::Either, denied, b)
 }
 
 fn is_truth(a: &Formed) -> bool
@@ -164,7 +162,7 @@ fn same_truths(alloc: Global, a: Formed, b: Formed) -> Result<Formed, AllocError
     let b_again = copied(alloc, &b)?;
     let there = implication(alloc, a, b)?;
     let back = implication(alloc, b_again, a_again)?;
-    conjunction(alloc, there, back)
+    joined(alloc, Joining::Both, there, back)
 }
 
 // That two numbers are equal.
@@ -177,8 +175,8 @@ fn same_numbers(alloc: Global, a: Formed, b: Formed) -> Result<Formed, AllocErro
     ensures sound { IfOk result IsSound }
     ensures most { IfOk result (λ f. f.measure.most ≤ 2 ^ 63 + 3) }
 {
-    let less = difference(alloc, a, b)?;
-    is_zero(alloc, less)
+    let less = paired(alloc, Pairing::Difference, a, b)?;
+    sensed(alloc, Sense::Zero, less)
 }
 
 /// That two are equal.
@@ -208,8 +206,8 @@ fn at_least(alloc: Global, a: Formed, b: Formed) -> Result<Formed, AllocError>
     ensures formed { IfOk result (λ f. f ≡ spec.at_least_zero (spec.difference a b)) }
     ensures sound { IfOk result IsSound }
 {
-    let less = difference(alloc, a, b)?;
-    at_least_zero(alloc, less)
+    let less = paired(alloc, Pairing::Difference, a, b)?;
+    sensed(alloc, Sense::AtLeast, less)
 }
 
 // That a number is greater than another.
@@ -221,7 +219,7 @@ fn excess(alloc: Global, a: Formed, b: Formed) -> Result<Formed, AllocError>
     ensures formed { IfOk result (λ f. f ≡ spec.excess a b) }
     ensures sound { IfOk result IsSound }
 {
-    let less = difference(alloc, a, b)?;
+    let less = paired(alloc, Pairing::Difference, a, b)?;
     let one = number_constant(alloc, 1)?;
     at_least(alloc, less, one)
 }

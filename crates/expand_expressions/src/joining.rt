@@ -9,12 +9,13 @@ ghost use Rattle.expand_expressions.specs.Joints.{joint_of, begin_of, word_joint
 use crate::comparisons::{
     as_number, as_truth, bottom, comparison, implication, number_constant, top,
 };
-use crate::operations::{conjunction, denial, difference, disjunction, negation, sum};
+use crate::operations::{self, denial, negation, paired};
 use crate::products::{limited, product};
 use crate::quotients::{quotient, remainder};
 use crate::ranges::Numbers;
 use crate::refusal::Refusal;
 use case_tables::{Symbol, Word};
+use core_terms::{Joining, Pairing};
 use expand_rules::{Bound, Formed};
 use std::alloc::{AllocError, Global};
 use unity_syntax::Operator;
@@ -38,9 +39,9 @@ pub fn joined(alloc: Global, joint: Joint, a: Formed, b: Formed) -> Result<Forme
     ensures light { IfOk result (λ f. f.measure.most ≤ 2 ^ 62) }
 {
     match joint {
-        Joint::And => limited(conjunction(alloc, a, b)?),
-        Joint::Or => limited(disjunction(alloc, a, b)?),
-        Joint::Sum => limited(sum(alloc, a, b)?),
+        Joint::And => limited(operations::joined(alloc, Joining::Both, a, b)?),
+        Joint::Or => limited(operations::joined(alloc, Joining::Either, a, b)?),
+        Joint::Sum => limited(paired(alloc, Pairing::Sum, a, b)?),
     }
 }
 
@@ -118,8 +119,8 @@ pub fn plus(alloc: Global, symbol: Symbol, a: Formed, b: Formed) -> Result<Forme
     ensures light { IfOk result (λ f. f.measure.most ≤ 2 ^ 62) }
 {
     match symbol {
-        Symbol::Minus => limited(difference(alloc, a, b)?),
-        _ => limited(sum(alloc, a, b)?),
+        Symbol::Minus => limited(paired(alloc, Pairing::Difference, a, b)?),
+        _ => limited(paired(alloc, Pairing::Sum, a, b)?),
     }
 }
 

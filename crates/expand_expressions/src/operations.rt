@@ -5,14 +5,15 @@ ghost use Rattle.std.specs.Prelude.{◌≡◌, ◌+◌, ◌*◌, ◌^◌, ◌<�
 ghost use Rattle.core_terms.specs.Folding.{number_of, truth_of};
 ghost use Rattle.core_terms.specs.Weights.{plain_weights, plain_weight};
 ghost use Rattle.expand_rules.specs.Forming as spec;
+ghost use Rattle.expand_expressions.specs.Senses as senses;
 ghost use Rattle.expand_expressions.specs.Sound.{FitsMeasure, IsSound, of_number, of_truth};
 
 use crate::measures::{
     choice_measure, leaf, negation_measure, over_measure, pair_measure, sum_measure,
 };
 use core_terms::{
-    CForm, CTerm, and_known, at_least_known, choice_known, difference_known, not_known, or_known,
-    scaled_known, sum_known, zero_known,
+    CForm, CTerm, Joining, Pairing, Sense, choice_known, joined_known, not_known, paired_known,
+    scaled_known, sense_known,
 };
 use expand_rules::{Core, Formed, Measure};
 use std::alloc::{AllocError, Global};
@@ -144,16 +145,16 @@ fn holding(
 {
     let one = Shared::new(alloc, CTerm::Const(1))?;
     let mut known = Some(1);
-    let less = difference_known(alloc, term, number, one, &mut known)?;
-    at_least_known(alloc, less, known, truth)
+    let less = paired_known(alloc, Pairing::Difference, term, number, one, &mut known)?;
+    sense_known(alloc, Sense::AtLeast, less, known, truth)
 }
 
-/// The sum of two numbers.
-pub fn sum(alloc: Global, a: Formed, b: Formed) -> Result<Formed, AllocError>
+/// The sum or the difference of two numbers.
+pub fn paired(alloc: Global, which: Pairing, a: Formed, b: Formed) -> Result<Formed, AllocError>
     requires first { IsSound a }
     requires second { IsSound b }
     requires room { a.measure.most + b.measure.most < 2 ^ 64 - 2 }
-    ensures formed { IfOk result (λ f. f ≡ spec.sum a b) }
+    ensures formed { IfOk result (λ f. f ≡ senses.paired which a b) }
     ensures sound { IfOk result IsSound }
     ensures most { IfOk result (λ f. f.measure.most ≤ a.measure.most + b.measure.most + 2) }
 {
@@ -161,29 +162,7 @@ pub fn sum(alloc: Global, a: Formed, b: Formed) -> Result<Formed, AllocError>
     let b = number(alloc, b)?;
     let measure = sum_measure(a.measure, b.measure);
     let mut known = b.known;
-    let term = sum_known(alloc, a.term, a.known, b.term, &mut known)?;
-    Ok(Formed {
-        core: Core::Number { term, known },
-        constant: a.constant & b.constant,
-        exact: a.exact & b.exact,
-        measure,
-    })
-}
-
-/// The difference of two numbers.
-pub fn difference(alloc: Global, a: Formed, b: Formed) -> Result<Formed, AllocError>
-    requires first { IsSound a }
-    requires second { IsSound b }
-    requires room { a.measure.most + b.measure.most < 2 ^ 64 - 2 }
-    ensures formed { IfOk result (λ f. f ≡ spec.difference a b) }
-    ensures sound { IfOk result IsSound }
-    ensures most { IfOk result (λ f. f.measure.most ≤ a.measure.most + b.measure.most + 2) }
-{
-    let a = number(alloc, a)?;
-    let b = number(alloc, b)?;
-    let measure = sum_measure(a.measure, b.measure);
-    let mut known = b.known;
-    let term = difference_known(alloc, a.term, a.known, b.term, &mut known)?;
+    let term = paired_known(alloc, which, a.term, a.known, b.term, &mut known)?;
     Ok(Formed {
         core: Core::Number { term, known },
         constant: a.constant & b.constant,
@@ -211,36 +190,17 @@ pub fn negation(alloc: Global, a: Formed) -> Result<Formed, AllocError>
     })
 }
 
-/// That a number is at least 0.
-pub fn at_least_zero(alloc: Global, a: Formed) -> Result<Formed, AllocError>
+/// That a number is at least 0, or that it is 0.
+pub fn sensed(alloc: Global, sense: Sense, a: Formed) -> Result<Formed, AllocError>
     requires sound { IsSound a }
     requires room { a.measure.most < 2 ^ 64 - 2 }
-    ensures formed { IfOk result (λ f. f ≡ spec.at_least_zero a) }
+    ensures formed { IfOk result (λ f. f ≡ senses.sensed sense a) }
     ensures sound { IfOk result IsSound }
     ensures most { IfOk result (λ f. f.measure.most ≤ a.measure.most + 1) }
 {
     let a = number(alloc, a)?;
     let mut known = None;
-    let form = at_least_known(alloc, a.term, a.known, &mut known)?;
-    Ok(Formed {
-        core: Core::Truth { form, known },
-        constant: a.constant,
-        exact: a.exact,
-        measure: over_measure(a.measure),
-    })
-}
-
-/// That a number is 0.
-pub fn is_zero(alloc: Global, a: Formed) -> Result<Formed, AllocError>
-    requires sound { IsSound a }
-    requires room { a.measure.most < 2 ^ 64 - 2 }
-    ensures formed { IfOk result (λ f. f ≡ spec.is_zero a) }
-    ensures sound { IfOk result IsSound }
-    ensures most { IfOk result (λ f. f.measure.most ≤ a.measure.most + 1) }
-{
-    let a = number(alloc, a)?;
-    let mut known = None;
-    let form = zero_known(alloc, a.term, a.known, &mut known)?;
+    let form = sense_known(alloc, sense, a.term, a.known, &mut known)?;
     Ok(Formed {
         core: Core::Truth { form, known },
         constant: a.constant,
@@ -268,13 +228,13 @@ pub fn denial(alloc: Global, a: Formed) -> Result<Formed, AllocError>
     })
 }
 
-/// That two truths hold.
-pub fn conjunction(alloc: Global, a: Formed, b: Formed) -> Result<Formed, AllocError>
+/// That two truths hold, or that one of them does.
+pub fn joined(alloc: Global, joining: Joining, a: Formed, b: Formed) -> Result<Formed, AllocError>
     requires first { IsSound a }
     requires second { IsSound b }
     requires first_room { a.measure.most < 2 ^ 64 - 2 }
     requires second_room { b.measure.most < 2 ^ 64 - 2 }
-    ensures formed { IfOk result (λ f. f ≡ spec.conjunction a b) }
+    ensures formed { IfOk result (λ f. f ≡ senses.joined joining a b) }
     ensures sound { IfOk result IsSound }
     ensures most { IfOk result (λ f. f.measure.most ≤ max a.measure.most b.measure.most + 1) }
 {
@@ -282,30 +242,7 @@ pub fn conjunction(alloc: Global, a: Formed, b: Formed) -> Result<Formed, AllocE
     let b = truth(alloc, b)?;
     let measure = pair_measure(a.measure, b.measure);
     let mut known = b.known;
-    let form = and_known(alloc, a.form, a.known, b.form, &mut known)?;
-    Ok(Formed {
-        core: Core::Truth { form, known },
-        constant: a.constant & b.constant,
-        exact: a.exact & b.exact,
-        measure,
-    })
-}
-
-/// That one of two truths holds.
-pub fn disjunction(alloc: Global, a: Formed, b: Formed) -> Result<Formed, AllocError>
-    requires first { IsSound a }
-    requires second { IsSound b }
-    requires first_room { a.measure.most < 2 ^ 64 - 2 }
-    requires second_room { b.measure.most < 2 ^ 64 - 2 }
-    ensures formed { IfOk result (λ f. f ≡ spec.disjunction a b) }
-    ensures sound { IfOk result IsSound }
-    ensures most { IfOk result (λ f. f.measure.most ≤ max a.measure.most b.measure.most + 1) }
-{
-    let a = truth(alloc, a)?;
-    let b = truth(alloc, b)?;
-    let measure = pair_measure(a.measure, b.measure);
-    let mut known = b.known;
-    let form = or_known(alloc, a.form, a.known, b.form, &mut known)?;
+    let form = joined_known(alloc, joining, a.form, a.known, b.form, &mut known)?;
     Ok(Formed {
         core: Core::Truth { form, known },
         constant: a.constant & b.constant,

@@ -3,5 +3,4 @@ pub mod ShownStarts
 pub mod StartSlots
 pub mod StartTables
 pub mod StartValues
-pub mod StartWords
 pub mod Starts

@@ -1,7 +1,6 @@
 -- What a document has that was read from a text.
 pub mod Counts
 pub mod Literals
-pub mod NumbersKept
 pub mod Numerals
 pub mod Places
 pub mod Reading

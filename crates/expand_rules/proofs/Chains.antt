@@ -12,7 +12,7 @@ use Rattle.core_terms.specs.Values.{number_at, term_value}
 use Rattle.meaning_states.specs.State.{int_eq}
 use Rattle.core_terms.specs.Folding.{difference_term, zero_form}
 use Rattle.core_terms.proofs.PartLaws.{value-Const, value-Slot}
-use Rattle.expand_rules.proofs.Differences.{zero_tests, le_yes, le_no}
+use Rattle.core_terms.proofs.IntTests.{zero_tests, le_yes, le_no}
 use Rattle.core_terms.proofs.FoldingLaws.{value-difference_term, value-zero_form, value-choice_term}
 use Rattle.expand_rules.specs.Forming.{chain}
 

@@ -13,7 +13,7 @@ use Rattle.core_terms.specs.declared.trees.CTerm.TheVariants.{Const, Slot, Sub, 
 use Rattle.core_terms.specs.declared.trees.CForm.TheVariants.{Zero}
 use Rattle.core_terms.specs.Folding.{number_of, truth_of, joined, branch_or, difference_term, zero_form}
 use Rattle.expand_rules.specs.Forming.{slot_term, chain}
-use Rattle.expand_rules.proofs.Differences.{zero_tests}
+use Rattle.core_terms.proofs.IntTests.{zero_tests}
 use Rattle.expand_rules.proofs.KnownParts.{number-Const, number-Sub, number-folded_term, truth-Zero}
 use Rattle.expand_rules.proofs.KnownParts.{truth-folded_form}
 use Rattle.expand_rules.proofs.Chains.{eq_yes, eq_below, eq_above, natural_of, size_of, size_none}

@@ -23,7 +23,7 @@ use Rattle.core_terms.proofs.FoldingLaws.{value-difference_term, value-zero_form
 use Rattle.core_terms.proofs.FoldingLaws.{value-or_form}
 use Rattle.wp_substitution.specs.Preconditions.{all_of, defined_form}
 use Rattle.wp_substitution.specs.Exact.{next_passes}
-use Rattle.wp_substitution.proofs.IntTests.{zero_tests}
+use Rattle.core_terms.proofs.IntTests.{zero_tests}
 use Rattle.wp_substitution.proofs.ClosedLaws.{form_closed, term_closed}
 use Rattle.wp_substitution.proofs.NeedLaws.{value-all_of}
 use Rattle.wp_substitution.proofs.ExactLaws.{definedness}
@@ -32,7 +32,7 @@ use Rattle.fair_rounds.specs.Records.{core_system}
 use Rattle.fixed_points.specs.FixedPoints.{leads_to}
 use Rattle.fixed_points.specs.FixedForms.{same_value, fixed_part, fixed_form, HoldsWhereLedBack, HoldsWhereFixed}
 use Rattle.fixed_points.specs.FixedForms.{StaysTrue}
-use Rattle.fixed_points.specs.Joining.{is_number, changes_nothing, leaves}
+use Rattle.fixed_points.specs.Leaving.{is_number, changes_nothing, leaves}
 use Rattle.fixed_points.proofs.WriteLaws.{same_truth, back_by_writes}
 use Rattle.fixed_points.proofs.PointLaws.{fixed_map, tells_fixed_points, fixed_points_stay}
 

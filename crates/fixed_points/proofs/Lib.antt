@@ -1,4 +1,4 @@
-pub mod JoiningLaws
+pub mod SlotLaws
 pub mod WriteLaws
 pub mod PointLaws
 pub mod FormLaws

@@ -14,7 +14,7 @@ use Rattle.core_terms.specs.Conditions.{FormFits, WriteFits, StatementFits}
 use Rattle.wp_substitution.specs.Preconditions.{all_of, defined_form}
 use Rattle.wp_substitution.proofs.PlaceLaws.{Counts, count-Slot, difference_within, zero_within, not_within, and_within}
 use Rattle.wp_substitution.proofs.PlaceLaws.{or_within}
-use Rattle.wp_substitution.proofs.NamedLaws.{all_of_below, defined_below, slots_counts, params_counts}
+use Rattle.wp_substitution.proofs.NamedLaws.{all_of_below, defined_below, slot_counts, param_counts}
 use Rattle.fixed_points.specs.FixedForms.{same_value, fixed_part}
 
 module _ (step : CTerm-F ℕ ℕ → ℕ) (counts : Counts step) (limit : ℕ) where
@@ -47,22 +47,22 @@ pub part_slots : (slots : List CSlot) (s : CStmt) → StatementFits slots s →
     form_slots (fixed_part slots s) ≤ length slots
 part_slots slots s h =
     let limit = length slots in
-    part_below slots_step slots_counts limit slots s
+    part_below slots_step slot_counts limit slots s
     (All-weaker (FormFits slots []) (λ f. form_slots f ≤ limit) (λ f g. g.slots_exist) s.outside h.outside)
     (All-weaker (WriteFits slots)
     (λ w. ((form_slots w.when ≤ limit) × (term_slots w.value ≤ limit)) × (term_slots (Slot w.slot) ≤ limit))
     (λ w g. let own = g.target in (
       (g.condition.slots_exist, g.value.slots_exist),
-      omega (arith, own, count-Slot slots_step slots_counts w.slot),
+      omega (arith, own, count-Slot slots_step slot_counts w.slot),
     )) s.writes h.writes)
 
 pub part_params : (slots : List CSlot) (s : CStmt) → StatementFits slots s → form_params (fixed_part slots s) ≤ 0
 part_params slots s h =
-    part_below params_step params_counts 0 slots s
+    part_below params_step param_counts 0 slots s
     (All-weaker (FormFits slots []) (λ f. form_params f ≤ 0) (λ f g. g.params_exist) s.outside h.outside)
     (All-weaker (WriteFits slots)
     (λ w. ((form_params w.when ≤ 0) × (term_params w.value ≤ 0)) × (term_params (Slot w.slot) ≤ 0))
     (λ w g. (
       (g.condition.params_exist, g.value.params_exist),
-      omega (arith, count-Slot params_step params_counts w.slot),
+      omega (arith, count-Slot params_step param_counts w.slot),
     )) s.writes h.writes)

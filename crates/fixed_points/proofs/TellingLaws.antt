@@ -17,7 +17,7 @@ use Rattle.executor.specs.Fitting.{StatementRuns, WritesRun}
 use Rattle.executor.proofs.StateLaws.{state_length}
 use Rattle.fair_rounds.specs.Records.{core_system}
 use Rattle.fixed_points.specs.FixedPoints.{leads_to, is_fixed}
-use Rattle.fixed_points.specs.Joining.{leaves}
+use Rattle.fixed_points.specs.Leaving.{leaves}
 use Rattle.fixed_points.proofs.FormLaws.{leaves_back}
 use Rattle.fixed_points.proofs.PointLaws.{fixed_map}
 

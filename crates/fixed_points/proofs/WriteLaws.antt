@@ -13,7 +13,7 @@ use Rattle.meaning_states.proofs.StepTheorems.{written_has_value}
 use Rattle.core_terms.proofs.BoolLaws.{le_passes}
 use Rattle.fair_rounds.specs.Records.{ints_eq}
 use Rattle.fixed_points.specs.FixedPoints.{leads_to}
-use Rattle.fixed_points.specs.Joining.{is_number, changes_nothing}
+use Rattle.fixed_points.specs.Leaving.{is_number, changes_nothing}
 
 pub same_truth : (a b : Bool) → (IsTrue a → IsTrue b) → (IsTrue b → IsTrue a) → a ≡ b
 same_truth true true f g = refl

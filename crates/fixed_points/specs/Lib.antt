@@ -1,4 +1,4 @@
 pub mod FixedPoints
 pub mod FixedForms
 pub mod Laws
-pub mod Joining
+pub mod Leaving

@@ -5,20 +5,18 @@ ghost use Rattle.core_terms.specs.Weights.{plain_weights, plain_weight};
 ghost use Rattle.core_terms.specs.Conditions.{StatementFits};
 ghost use Rattle.core_terms.specs.Folding as fold;
 ghost use Rattle.core_terms.specs.Places.{form_slots, form_params};
-ghost use Rattle.wp_substitution.specs.Joined.{joined_all, IsLightWrite};
+ghost use Rattle.wp_substitution.specs.Joined.{joined_all, ConjunctionKnown, IsLightWrite};
 ghost use Rattle.wp_substitution.specs.Preconditions.{all_of};
 ghost use Rattle.fixed_points.specs.FixedForms as form_of;
 ghost use Rattle.fixed_points.specs.FixedForms.{HoldsWhereLedBack, HoldsWhereFixed, StaysTrue};
-ghost use Rattle.fixed_points.specs.Joining.{JoinedKnown};
 
-use crate::joining::Joined;
 use core_terms::{
-    CForm, CProgram, CSlot, CStmt, CTerm, CWrite, and_known, difference_known, held_form,
-    held_term, not_known, number_of, or_known, owned_form, truth_of, zero_known,
+    CForm, CProgram, CSlot, CStmt, CTerm, CWrite, Joining, Pairing, Sense, held_form, held_term,
+    joined_known, not_known, number_of, owned_form, paired_known, sense_known, truth_of,
 };
 use std::alloc::{AllocError, Global};
 use unity_base::Shared;
-use wp_substitution::defined;
+use wp_substitution::{Conjunction, defined};
 
 /// The formula that is true at a state exactly where it is a fixed point of the program: each statement is defined
 /// there, and each write that is made leaves its slot as it is. It is folded (this profile).
@@ -30,23 +28,24 @@ pub fn fixed_form(alloc: Global, p: &CProgram, slots: &[CSlot]) -> Result<CForm,
     ensures meaning { IfOk result (HoldsWhereFixed slots.now p.now) }
     ensures stable { IfOk result (StaysTrue slots.now p.now) }
 {
-    let mut all = Joined::new();
+    let mut all = Conjunction::new();
     add_parts(alloc, &mut all, p.statements.as_slice(), slots)?;
     Ok(owned_form(alloc, all.into_form(alloc)?)?)
 }
 
 // That the steps of all statements lead back.
+#[tactic(auto, using(wp_substitution::proofs::KnownLaws::folded_laws))]
 fn add_parts(
     alloc: Global,
-    all: &mut Joined,
+    all: &mut Conjunction,
     statements: &[Shared<CStmt>],
     slots: &[CSlot],
 ) -> Result<(), AllocError>
-    requires known { JoinedKnown all.old }
+    requires known { ConjunctionKnown all.old }
     requires fits { All (StatementFits slots.now) statements.now }
     ensures whole { OnOk result (all.new.whole ≡
         joined_all all.old.whole (map (form_of.fixed_part slots.now) statements.now)) }
-    ensures known { OnOk result (JoinedKnown all.new) }
+    ensures known { OnOk result (ConjunctionKnown all.new) }
 {
     for s in statements {
         let part = fixed_part(alloc, s.get(), slots)?;
@@ -71,7 +70,7 @@ pub fn fixed_part(alloc: Global, s: &CStmt, slots: &[CSlot]) -> Result<Shared<CF
     let known = truth_of(first.get());
     let mut truth = None;
     let same = all_same(alloc, s.writes.as_slice(), &mut truth)?;
-    and_known(alloc, first, known, same, &mut truth)
+    joined_known(alloc, Joining::Both, first, known, same, &mut truth)
 }
 
 // That each write, where it is made, leaves its slot as it is; `truth` is then that of the result.
@@ -85,17 +84,18 @@ fn all_same(
     ensures truth { IfOk result (λ f. truth.new ≡ fold.truth_of f) }
     ensures weight { IfOk result (λ f. plain_weight f ≤ 2 ^ 65) }
 {
-    let mut all = Joined::new();
+    let mut all = Conjunction::new();
     add_same(alloc, &mut all, writes)?;
     *truth = all.truth;
     all.into_form(alloc)
 }
 
-fn add_same(alloc: Global, all: &mut Joined, writes: &[CWrite]) -> Result<(), AllocError>
-    requires known { JoinedKnown all.old }
+#[tactic(auto, using(wp_substitution::proofs::KnownLaws::folded_laws))]
+fn add_same(alloc: Global, all: &mut Conjunction, writes: &[CWrite]) -> Result<(), AllocError>
+    requires known { ConjunctionKnown all.old }
     requires light { All IsLightWrite writes.now }
     ensures whole { OnOk result (all.new.whole ≡ joined_all all.old.whole (map form_of.same_value writes.now)) }
-    ensures known { OnOk result (JoinedKnown all.new) }
+    ensures known { OnOk result (ConjunctionKnown all.new) }
 {
     for w in writes {
         let mut truth = None;
@@ -120,11 +120,11 @@ fn same_value(
     let when = held_form(alloc, &w.when)?;
     let idle = not_known(alloc, when, &mut first)?;
     let equal = equal(alloc, &w.value, w.slot, truth)?;
-    or_known(alloc, idle, first, equal, truth)
+    joined_known(alloc, Joining::Either, idle, first, equal, truth)
 }
 
 // That a value is what the slot has.
-#[tactic(auto, using(crate::proofs::JoiningLaws::slot_laws))]
+#[tactic(auto, using(crate::proofs::SlotLaws::slot_laws))]
 fn equal(
     alloc: Global,
     value: &CTerm,
@@ -141,6 +141,13 @@ fn equal(
     let known = number_of(value);
     let first = held_term(alloc, value)?;
     let second = Shared::new(alloc, CTerm::Slot(slot))?;
-    let apart = difference_known(alloc, first, known, second, &mut number)?;
-    zero_known(alloc, apart, number, truth)
+    let apart = paired_known(
+        alloc,
+        Pairing::Difference,
+        first,
+        known,
+        second,
+        &mut number,
+    )?;
+    sense_known(alloc, Sense::Zero, apart, number, truth)
 }

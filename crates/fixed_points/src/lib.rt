@@ -2,7 +2,6 @@
 #![tactic(auto)]
 
 mod forming;
-mod joining;
 mod laws;
 mod telling;
 

@@ -1,16 +1,16 @@
 // Whether a state is a fixed point.
-ghost use Rattle.std.specs.Prelude.{◌≡◌, ◌<◌, length, IsTrue, List, All, MatchOption, not, ◌&&◌, []};
-ghost use Rattle.std.specs.List.{list_all, list_any};
+ghost use Rattle.std.specs.Prelude.{◌≡◌, ◌<◌, length, IsTrue, MatchOption, ◌&&◌, []};
+ghost use Rattle.std.specs.List.{list_all};
 ghost use Rattle.std.specs.Option.{is_none};
 ghost use Rattle.meaning_states.specs.State.{is_state};
-ghost use Rattle.core_terms.specs.Values.{form_value};
 ghost use Rattle.core_terms.specs.Steps.{slot_ranges, core_step};
-ghost use Rattle.executor.specs.Fitting.{FormsRun, StatementRuns, StatementsRun, WriteRuns, WritesRun};
+ghost use Rattle.executor.specs.Fitting.{StatementRuns, StatementsRun, WriteRuns, WritesRun};
 ghost use Rattle.fair_rounds.specs.Records.{core_system};
 ghost use Rattle.fixed_points.specs.FixedPoints as fixed;
-ghost use Rattle.fixed_points.specs.Joining.{leaves};
+ghost use Rattle.fixed_points.specs.Leaving.{leaves};
 
-use core_terms::{CForm, CProgram, CSlot, CStmt, CWrite, holds, value};
+use core_terms::{CProgram, CSlot, CStmt, CWrite, holds, value};
+use executor::writes_outside;
 use unity_base::Shared;
 
 /// Whether a state is a fixed point of the program: the step of each statement is defined and leads back. It takes no
@@ -63,20 +63,6 @@ fn leads_back(slots: &[CSlot], state: &[i64], statement: &CStmt) -> bool
 {
     !writes_outside(slots, state, statement.outside.as_slice())
         && leaves_all(slots, state, statement.writes.as_slice())
-}
-
-// Whether a statement writes outside an array.
-fn writes_outside(slots: &[CSlot], state: &[i64], outside: &[CForm]) -> bool
-    requires state { IsTrue (is_state (slot_ranges slots.now) state.now) }
-    requires fits { FormsRun slots.now outside.now }
-    ensures { result ≡ list_any (form_value state.now []) outside.now }
-{
-    for form in outside {
-        if holds(form, state, &[]) {
-            return true;
-        }
-    }
-    false
 }
 
 // Whether each write, where it is made, leaves its slot as it is.

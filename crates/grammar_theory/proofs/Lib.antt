@@ -2,6 +2,7 @@ pub mod Classes
 pub mod Complete
 pub mod Inside
 pub mod Lawful
+pub mod Leaves
 pub mod Levels
 pub mod Loops
 pub mod OneAnswer

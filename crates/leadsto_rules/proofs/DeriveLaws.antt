@@ -1,15 +1,13 @@
 -- The record that a term derives, from what is concluded where its bound names are parameters too.
-use Rattle.std.proofs.Common.{◌≡◌, ℕ, zero, suc, ◌<◌, ℤ, List, [], ◌∷◌, ◌++◌, map, length, Bool, true, false, ◌&&◌}
+use Rattle.std.proofs.Common.{◌≡◌, ℕ, ℤ, List, [], ◌∷◌, ◌++◌, map, length, Bool, true, false, ◌&&◌}
 use Rattle.std.proofs.Common.{Option, Some, None, Ok, IsTrue, refl, sym, ap, ◌∙◌, subst, append-nil, arith}
 use Rattle.std.specs.Prelude.{All}
-use Rattle.std.specs.Int.RustNames.{int_le}
 use Rattle.std.specs.Option.{IsSome}
 use Rattle.std.specs.List.{list_all}
 use Rattle.std.proofs.lemmas.Bool.{ltb-true}
 use Rattle.std.proofs.lemmas.List.Elements.{All-append}
 use Rattle.case_tables.specs.declared.code_table.Code.{Code}
 use Rattle.core_terms.specs.Conditions.{IsRange, NumbersBoundNames, TermWellScoped, bound_ranges, is_below, parts_of}
-use Rattle.core_terms.specs.Values.{number_at}
 use Rattle.core_terms.specs.declared.documents.PTerm.{PTerm}
 use Rattle.core_terms.specs.declared.programs.CSlot.{CSlot}
 use Rattle.core_terms.specs.declared.trees.CForm.{CForm}
@@ -17,7 +15,7 @@ use Rattle.core_terms.specs.declared.trees.Range.{Range}
 use Rattle.fair_rounds.specs.Records.{holding, are_in_ranges, Stands}
 use Rattle.fair_rounds.specs.declared.records.Record.{Record}
 use Rattle.rules_table.proofs.BoundNames.{FormSees, TermSees, numbered, term_well}
-use Rattle.rules_table.proofs.DeriveSound.{lows, lows_in}
+use Rattle.rules_table.proofs.DeriveSound.{lows, lows_in, both_in, in_front}
 use Rattle.rules_table.proofs.EachLaws.{from_all}
 use Rattle.rules_table.proofs.NumberLaws.{same_length}
 use Rattle.rules_table.proofs.RowEquations.{concluded-is, derive-is}
@@ -30,7 +28,6 @@ use Rattle.rules_table.specs.Table.{Site, needs, goals_of, concluded}
 use Rattle.rules_table.specs.Terms.{is_well_bound, term_of, derive_of, all_ranges, leads_record}
 use Rattle.rules_table.specs.Validity.{AllValid}
 use Rattle.rules_table.specs.declared.led.Led.{Led}
-use Rattle.meaning_states.proofs.StepTheorems.{and_left, and_right, both_true}
 use Rattle.meaning_documents.specs.Execution.{System}
 use Rattle.meaning_documents.specs.Properties.{Test, LeadsTo}
 use Rattle.leadsto_rules.proofs.RangeLaws.{parts_ranges}
@@ -94,21 +91,6 @@ sees_parts slots params t sees =
     (is_below (length params), record { forms = sees.forms; terms = sees.terms; ranges_are = sees.ranges_are })
 
 -- that what a term gives stands
-
-both_in : (rs more : List Range) (e d : List ℤ) → IsTrue (are_in_ranges rs e) → IsTrue (are_in_ranges more d) →
-    IsTrue (are_in_ranges (rs ++ more) (e ++ d))
-both_in [] more [] d h k = k
-both_in [] more (z ∷ e) d h k = cc
-both_in (r ∷ rs) more [] d h k = cc
-both_in (r ∷ rs) more (z ∷ e) d h k =
-    both_true (int_le r.lo z && int_le z r.hi) (are_in_ranges (rs ++ more) (e ++ d))
-    (and_left (int_le r.lo z && int_le z r.hi) (are_in_ranges rs e) h)
-    (both_in rs more e d (and_right (int_le r.lo z && int_le z r.hi) (are_in_ranges rs e) h) k)
-
-in_front : (e d : List ℤ) (n : ℕ) → n < length e → number_at (e ++ d) n ≡ number_at e n
-in_front [] d n h = absurd (omega arith)
-in_front (z ∷ e) d zero h = refl
-in_front (z ∷ e) d (suc n) h = let inner : n < length e = omega arith in in_front e d n inner
 
 -- what depends on the step's parameters alone is worth the same, whatever the bound names are
 same_test : (params : List Range) (e d : List ℤ) (f : CForm) → IsTrue (are_in_ranges params e) →

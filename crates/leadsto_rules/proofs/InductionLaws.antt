@@ -18,7 +18,7 @@ use Rattle.core_terms.specs.declared.trees.CTerm.{CTerm}
 use Rattle.core_terms.specs.declared.trees.CTerm.TheVariants.{Const}
 use Rattle.core_terms.specs.declared.trees.Range.{Range}
 use Rattle.core_terms.proofs.WeightLaws.{own_within}
-use Rattle.wp_substitution.proofs.HeavierLaws.{term_scaled}
+use Rattle.core_terms.proofs.HeavierLaws.{term_scaled}
 use Rattle.wp_substitution.proofs.LightLaws.{form_light}
 use Rattle.wp_substitution.proofs.PlaceLaws.{difference_within, constant_within, at_least_within}
 use Rattle.safety_rules.specs.Foldable.{IsFoldable}
@@ -26,7 +26,8 @@ use Rattle.safety_rules.proofs.JoinLaws.{all_foldable}
 use Rattle.rules_table.specs.Forms.{imply}
 use Rattle.rules_table.specs.Terms.{measure_lies}
 use Rattle.safety_rules.specs.Usable.{NamesExist}
-use Rattle.safety_rules.proofs.UsableLaws.{slot_counts, param_counts, usable, all_usable}
+use Rattle.safety_rules.proofs.UsableLaws.{usable, all_usable}
+use Rattle.wp_substitution.proofs.NamedLaws.{slot_counts, param_counts}
 use Rattle.safety_rules.proofs.UsableLaws.{both_usable, light_not, all_exist, exist_imply, exist_and}
 use Rattle.leadsto_rules.specs.Inductions.{IsLightInduction, InductionFits}
 use Rattle.leadsto_rules.specs.declared.inductions.Induction.{Induction}
@@ -70,7 +71,8 @@ module _ (slots : List CSlot) (ranges : List Range) where
         (difference_within params_step param_counts (length ranges) t u pt pu);
   }
 
-  lies_exist : (t : CTerm) (range : Range) → TermFits slots ranges t → NamesExist slots ranges (measure_lies t range)
+  pub lies_exist : (t : CTerm) (range : Range) → TermFits slots ranges t →
+      NamesExist slots ranges (measure_lies t range)
   lies_exist t range fits =
       exist_and slots ranges (at_least_form (difference_term t (Const range.lo)))
       (at_least_form (difference_term (Const range.hi) t))

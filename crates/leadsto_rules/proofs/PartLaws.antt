@@ -21,7 +21,12 @@ use Rattle.core_terms.specs.declared.trees.CForm.TheOpen.{CTerm-F, CForm-F}
 use Rattle.core_terms.specs.Folding.{joined, number_step, truth_step, number_of, truth_of, branch_or}
 use Rattle.core_terms.specs.Replacing.{arg_term, arg_at, replace_term, replace_form, term_at, form_at}
 use Rattle.core_terms.proofs.KnownLaws.{known_folded_term, known_folded_form}
-use Rattle.leadsto_rules.specs.Lines.{line_at, sum_line, difference_line, multiple_line}
+use Rattle.leadsto_rules.specs.Lines.{line_at, sum_line, difference_line, multiple_line, pair_line, holds_at}
+use Rattle.leadsto_rules.specs.Lines.{joined_truth}
+use Rattle.core_terms.specs.declared.known.Pairing.{Pairing}
+use Rattle.core_terms.specs.declared.known.Sense.{Sense}
+use Rattle.core_terms.specs.declared.known.Joining.{Joining}
+use Rattle.core_terms.specs.Senses.{pair_node, sense_node, joined_node}
 use Rattle.leadsto_rules.specs.Stretches.{PutsNumber, IsLineOn, IsTruthOn}
 use Rattle.leadsto_rules.specs.declared.lines.Line.{Line}
 use Rattle.obligations.proofs.RingLaws.{add-times, times-add, times-times}
@@ -226,7 +231,7 @@ module _ (args : ℤ → List Arg) (z : ℤ) where
       one : (c : ℤ) (k : ℕ) → c +ℤ pos 1 *ℤ pos k ≡ c +ℤ pos k
       one c k = omega (arith, ints)
 
-  pub on-Add : (n : ℕ) (a b : CTerm) (l m w : Line) → IsLineOn args z n a l → IsLineOn args z n b m →
+  on-Add : (n : ℕ) (a b : CTerm) (l m w : Line) → IsLineOn args z n a l → IsLineOn args z n b m →
       w ≡ sum_line l m → IsLineOn args z n (Add a b) w
   on-Add n a b l m w first second is k h =
       let y : List Arg = args (z +ℤ pos k) in
@@ -237,7 +242,7 @@ module _ (args : ℤ → List Arg) (z : ℤ) where
       more : (v w a b k : ℤ) → (v +ℤ a *ℤ k) +ℤ (w +ℤ b *ℤ k) ≡ (v +ℤ w) +ℤ (a +ℤ b) *ℤ k
       more v w a b k = let t = add-times a b k in omega (arith, ints, t)
 
-  pub on-Sub : (n : ℕ) (a b : CTerm) (l m w : Line) → IsLineOn args z n a l → IsLineOn args z n b m →
+  on-Sub : (n : ℕ) (a b : CTerm) (l m w : Line) → IsLineOn args z n a l → IsLineOn args z n b m →
       w ≡ difference_line l m → IsLineOn args z n (Sub a b) w
   on-Sub n a b l m w first second is k h =
       let y : List Arg = args (z +ℤ pos k) in
@@ -251,6 +256,11 @@ module _ (args : ℤ → List Arg) (z : ℤ) where
           let t = add-times (a -ℤ b) b k in
           let same : ((a -ℤ b) +ℤ b) *ℤ k ≡ a *ℤ k = ap (λ x. x *ℤ k) whole in
           omega (arith, ints, t, same)
+
+  pub on-pair : (which : Pairing) (n : ℕ) (a b : CTerm) (l m w : Line) → IsLineOn args z n a l → IsLineOn args z n b m →
+      w ≡ pair_line which l m → IsLineOn args z n (pair_node which a b) w
+  on-pair Pairing.Sum = on-Add
+  on-pair Pairing.Difference = on-Sub
 
   pub on-Scale : (n : ℕ) (c : ℤ) (a : CTerm) (l w : Line) → IsLineOn args z n a l → w ≡ multiple_line c l →
       IsLineOn args z n (Scale c a) w
@@ -299,34 +309,44 @@ module _ (args : ℤ → List Arg) (z : ℤ) where
   pub on-Bottom : (n : ℕ) → IsTruthOn args z n Bottom false
   on-Bottom n k h = at-Bottom (args (z +ℤ pos k))
 
-  pub on-AtLeast : (m n : ℕ) (t : CTerm) (l : Line) (b : Bool) → IsLineOn args z m t l → n ≤ m →
+  on-AtLeast : (m n : ℕ) (t : CTerm) (l : Line) (b : Bool) → IsLineOn args z m t l → n ≤ m →
       ((k : ℕ) → k ≤ n → int_le (pos 0) (line_at l k) ≡ b) → IsTruthOn args z n (AtLeast t) b
   on-AtLeast m n t l b part within same k h =
       at-AtLeast (args (z +ℤ pos k)) t ∙ ap (option_map (λ x. int_le (pos 0) x)) (part k (omega (arith, h, within)))
       ∙ ap (λ (x : Bool). Some x) (same k h)
 
-  pub on-Zero : (m n : ℕ) (t : CTerm) (l : Line) (b : Bool) → IsLineOn args z m t l → n ≤ m →
+  on-Zero : (m n : ℕ) (t : CTerm) (l : Line) (b : Bool) → IsLineOn args z m t l → n ≤ m →
       ((k : ℕ) → k ≤ n → int_eq (line_at l k) (pos 0) ≡ b) → IsTruthOn args z n (Zero t) b
   on-Zero m n t l b part within same k h =
       at-Zero (args (z +ℤ pos k)) t ∙ ap (option_map (λ x. int_eq x (pos 0))) (part k (omega (arith, h, within)))
       ∙ ap (λ (x : Bool). Some x) (same k h)
 
+  pub on-sense : (sense : Sense) (m n : ℕ) (t : CTerm) (l : Line) (b : Bool) → IsLineOn args z m t l → n ≤ m →
+      ((k : ℕ) → k ≤ n → holds_at sense (line_at l k) ≡ b) → IsTruthOn args z n (sense_node sense t) b
+  on-sense Sense.AtLeast = on-AtLeast
+  on-sense Sense.Zero = on-Zero
+
   pub on-Not : (n : ℕ) (f : CForm) (b : Bool) → IsTruthOn args z n f b → IsTruthOn args z n (Not f) (not b)
   on-Not n f b part k h = at-Not (args (z +ℤ pos k)) f ∙ ap (option_map not) (part k h)
 
-  pub on-And : (n : ℕ) (f g : CForm) (a b w : Bool) → IsTruthOn args z n f a → IsTruthOn args z n g b →
+  on-And : (n : ℕ) (f g : CForm) (a b w : Bool) → IsTruthOn args z n f a → IsTruthOn args z n g b →
       w ≡ (a && b) → IsTruthOn args z n (And f g) w
   on-And n f g a b w first second is k h =
       let y : List Arg = args (z +ℤ pos k) in
       at-And y f g ∙ both_some (λ x y. x && y) (B y f) (B y g) a b (first k h) (second k h)
       ∙ ap (λ (x : Bool). Some x) (sym is)
 
-  pub on-Or : (n : ℕ) (f g : CForm) (a b w : Bool) → IsTruthOn args z n f a → IsTruthOn args z n g b →
+  on-Or : (n : ℕ) (f g : CForm) (a b w : Bool) → IsTruthOn args z n f a → IsTruthOn args z n g b →
       w ≡ (a || b) → IsTruthOn args z n (Or f g) w
   on-Or n f g a b w first second is k h =
       let y : List Arg = args (z +ℤ pos k) in
       at-Or y f g ∙ both_some (λ x y. x || y) (B y f) (B y g) a b (first k h) (second k h)
       ∙ ap (λ (x : Bool). Some x) (sym is)
+
+  pub on-joined : (joining : Joining) (n : ℕ) (f g : CForm) (a b w : Bool) → IsTruthOn args z n f a →
+      IsTruthOn args z n g b → w ≡ joined_truth joining a b → IsTruthOn args z n (joined_node joining f g) w
+  on-joined Joining.Both = on-And
+  on-joined Joining.Either = on-Or
 
 -- what is known where a test passes
 pub on_true_weaker : (P Q : Type 0) (b : Bool) → (P → Q) → OnTrue b P → OnTrue b Q

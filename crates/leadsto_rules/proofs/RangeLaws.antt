@@ -1,7 +1,7 @@
 -- The ranges of the names that a term binds, and what the formulas at their numbers name.
 use Rattle.std.proofs.Common.{◌≡◌, ℕ, zero, suc, ◌≤◌, ℤ, pos, ◌+ℤ◌, Bool, List, ◌∷◌, ◌++◌, map, length}
 use Rattle.std.proofs.Common.{sym, ap, ◌∙◌, subst, append-nil, arith, refl}
-use Rattle.core_terms.specs.Conditions.{FormFits, Parts, parts_step, parts_of, also, ranges_step, bound_ranges}
+use Rattle.core_terms.specs.Conditions.{Parts, parts_step, parts_of, also, ranges_step, bound_ranges}
 use Rattle.core_terms.specs.Folding.{or_form}
 use Rattle.core_terms.specs.Places.{slots_step, params_step, term_slots, term_params}
 use Rattle.core_terms.specs.Replacing.{arg_term, arg_at}
@@ -16,7 +16,8 @@ use Rattle.rules_table.specs.Forms.{or_any, any_of}
 use Rattle.rules_table.specs.Numbers.{count_up, args_from, form_for}
 use Rattle.safety_rules.specs.Usable.{NamesExist}
 use Rattle.safety_rules.proofs.ParamLaws.{params_kept}
-use Rattle.safety_rules.proofs.UsableLaws.{slot_counts, param_counts, exist_or}
+use Rattle.safety_rules.proofs.UsableLaws.{exist_or}
+use Rattle.wp_substitution.proofs.NamedLaws.{slot_counts, param_counts}
 use Rattle.wp_substitution.proofs.PlaceLaws.{count-Slot, count-Param, constant_within, bottom_within, form_within}
 use Rattle.leadsto_rules.proofs.ArgLaws.{each_argument}
 
@@ -54,21 +55,21 @@ parts_ranges t = ind-PTerm Same (λ z y e. subst (λ k. Same (roll-PTerm k)) e (
 
 module _ (slots : List CSlot) (ranges : List Range) where
   -- the formula at a number names what exists
-  pub instance_exists : (m : ℕ) (z : ℤ) (f : CForm) → FormFits slots ranges f →
+  pub instance_exists : (m : ℕ) (z : ℤ) (f : CForm) → NamesExist slots ranges f →
       NamesExist slots ranges (form_for ranges m z f)
-  instance_exists m z f fits = record {
+  instance_exists m z f h = record {
     slots_exist = form_within slots_step slot_counts (length slots) (λ n. Slot n) (arg_at (args_from 0 m z ranges))
         (λ n h. let is = count-Slot slots_step slot_counts n in omega (arith, is, h))
         (λ n h. each_argument (λ o. term_slots (arg_term o) ≤ length slots) m z
         (constant_within slots_step slot_counts (length slots) (pos 0))
         (constant_within slots_step slot_counts (length slots) z) ranges n
-        (λ k less. let is = count-Param slots_step slot_counts k in omega (arith, is))) f fits.slots_exist;
+        (λ k less. let is = count-Param slots_step slot_counts k in omega (arith, is))) f h.slots_exist;
     params_exist = params_kept (length ranges) (length ranges) (λ n. Slot n) (arg_at (args_from 0 m z ranges))
         (λ n. let is = count-Slot params_step param_counts n in omega (arith, is))
         (λ n h. each_argument (λ o. term_params (arg_term o) ≤ length ranges) m z
         (constant_within params_step param_counts (length ranges) (pos 0))
         (constant_within params_step param_counts (length ranges) z) ranges n
-        (λ k less. let is = count-Param params_step param_counts k in omega (arith, is, less))) f fits.params_exist;
+        (λ k less. let is = count-Param params_step param_counts k in omega (arith, is, less))) f h.params_exist;
   }
 
   or_exists : (f : ℤ → CForm) → ((z : ℤ) → NamesExist slots ranges (f z)) → (w : CForm) → NamesExist slots ranges w →

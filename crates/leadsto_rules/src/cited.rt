@@ -14,10 +14,10 @@ ghost use Rattle.leadsto_rules.specs.References.{FitsIn};
 
 use crate::joining::both_lists;
 use crate::nodes::{Claim, node};
-use crate::parts::{both, either};
+use crate::parts::joined;
 use crate::references::{Purpose, referred};
 use case_tables::Kind;
-use core_terms::{CForm, Range, Ref, copy_forms, held_form};
+use core_terms::{CForm, Joining, Range, Ref, copy_forms, held_form};
 use fair_rounds::Record;
 use rules_table::Led;
 use safety_rules::{Place, RuleError};
@@ -77,7 +77,7 @@ fn both_of(alloc: Global, p: &CForm, q: &CForm) -> Result<Shared<CForm>, AllocEr
 {
     let first = held_form(alloc, p)?;
     let second = held_form(alloc, q)?;
-    both(alloc, first, second)
+    joined(alloc, Joining::Both, first, second)
 }
 
 // That q and the record's p hold, or its q does.
@@ -88,8 +88,8 @@ fn kept_or_ended(alloc: Global, q: &CForm, a: &Record) -> Result<Shared<CForm>, 
     ensures { IfOk result (λ f. f ≡ fold.or_form (fold.and_form q.now a.now.p) a.now.q) }
 {
     let first = held_form(alloc, q)?;
-    let kept = both(alloc, first, held_form(alloc, &a.p)?)?;
-    either(alloc, kept, held_form(alloc, &a.q)?)
+    let kept = joined(alloc, Joining::Both, first, held_form(alloc, &a.p)?)?;
+    joined(alloc, Joining::Either, kept, held_form(alloc, &a.q)?)
 }
 
 // From p to q in the rounds of a leads-to, beside a record.

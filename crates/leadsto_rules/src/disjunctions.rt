@@ -17,7 +17,7 @@ use crate::inductions::count_of;
 use crate::lines::{Start, Stretch};
 use crate::stretches::truth_on;
 use case_tables::Code;
-use core_terms::{Arg, CForm, Range, or_known, size_of, truth_of, with_params};
+use core_terms::{Arg, CForm, Joining, Range, joined_known, size_of, truth_of, with_params};
 use safety_rules::RuleError;
 use std::alloc::{AllocError, Global};
 use unity_base::{Seq, Shared};
@@ -125,7 +125,7 @@ fn joined(alloc: Global, d: Disjunction, g: Shared<CForm>) -> Result<Disjunction
     } = d;
     let more = size_of(g.get());
     let mut truth = truth_of(g.get());
-    let whole = or_known(alloc, whole, first, g, &mut truth)?;
+    let whole = joined_known(alloc, Joining::Either, whole, first, g, &mut truth)?;
     Ok(Disjunction {
         whole,
         truth,

@@ -15,11 +15,11 @@ ghost use Rattle.leadsto_rules.specs.Inductions.{IsLightInduction, InductionFits
 ghost use Rattle.leadsto_rules.specs.Leading.{TermGives, LedFits};
 
 use crate::nodes::{Claim, node};
-use crate::parts::{both, either};
+use crate::parts::joined;
 use case_tables::Code;
 use core_terms::{
-    CForm, CTerm, Range, at_least_form, copy_form, difference_term, held_form, held_term, not_form,
-    owned_form, owned_term, zero_form,
+    CForm, CTerm, Joining, Range, at_least_form, copy_form, difference_term, held_form, held_term,
+    not_form, owned_form, owned_term, zero_form,
 };
 use rules_table::Led;
 use safety_rules::{Place, RuleError, implied, is_same, using_and};
@@ -56,7 +56,7 @@ fn at_measure(alloc: Global, i: &Induction) -> Result<Shared<CForm>, AllocError>
     ensures { IfOk result (λ f. f ≡ terms.at_measure i.now.measure.now i.now.name i.now.p.now) }
 {
     let at = at_number(alloc, i)?;
-    both(alloc, held_form(alloc, i.p)?, at)
+    joined(alloc, Joining::Both, held_form(alloc, i.p)?, at)
 }
 
 // That the measure is below the name's number.
@@ -84,8 +84,8 @@ fn below_measure(alloc: Global, i: &Induction) -> Result<Shared<CForm>, AllocErr
     ensures { IfOk result (λ f. f ≡ terms.below_measure i.now.measure.now i.now.name i.now.p.now i.now.q.now) }
 {
     let below = below_number(alloc, i)?;
-    let kept = both(alloc, held_form(alloc, i.p)?, below)?;
-    either(alloc, kept, held_form(alloc, i.q)?)
+    let kept = joined(alloc, Joining::Both, held_form(alloc, i.p)?, below)?;
+    joined(alloc, Joining::Either, kept, held_form(alloc, i.q)?)
 }
 
 // That a number is at most the measure.
@@ -129,7 +129,7 @@ fn lies(alloc: Global, pl: &Place, i: &Induction) -> Result<Shared<CForm>, Alloc
     premises.push(not_form(alloc, copy_form(alloc, i.q)?)?)?;
     let low = above_low(alloc, i)?;
     let high = below_high(alloc, i)?;
-    let within = both(alloc, low, high)?;
+    let within = joined(alloc, Joining::Both, low, high)?;
     implied(alloc, premises.as_slice(), within)
 }
 

@@ -4,9 +4,9 @@ ghost use Rattle.meaning_states.specs.Division.{divisor, floored};
 ghost use Rattle.std.specs.Bool.{OnTrue};
 ghost use Rattle.std.specs.Int.RustNames.{int_le};
 ghost use Rattle.meaning_states.specs.State.{int_eq};
-ghost use Rattle.leadsto_rules.specs.Lines.{line_at, sum_line, difference_line, multiple_line};
+ghost use Rattle.leadsto_rules.specs.Lines.{line_at, sum_line, difference_line, multiple_line, pair_line, holds_at};
 
-use core_terms::{quotient, remainder};
+use core_terms::{Pairing, Sense, quotient, remainder};
 
 /// A parameter, a number that is put for it, and how many further numbers follow.
 #[derive(Clone, Copy)]
@@ -46,7 +46,7 @@ pub(crate) fn known_line(line: &mut Line, value: i64, slope: i128) -> bool
 
 // Adds a line. False where a number is too great.
 #[inline(never)]
-pub(crate) fn add(line: &mut Line, other: &Line) -> bool
+fn add(line: &mut Line, other: &Line) -> bool
     ensures { OnTrue result (line.new ≡ sum_line line.old other.now) }
 {
     match (
@@ -63,7 +63,7 @@ pub(crate) fn add(line: &mut Line, other: &Line) -> bool
 
 // Subtracts a line. False where a number is too great.
 #[inline(never)]
-pub(crate) fn subtract(line: &mut Line, other: &Line) -> bool
+fn subtract(line: &mut Line, other: &Line) -> bool
     ensures { OnTrue result (line.new ≡ difference_line line.old other.now) }
 {
     match (
@@ -75,6 +75,16 @@ pub(crate) fn subtract(line: &mut Line, other: &Line) -> bool
             true
         }
         _ => false,
+    }
+}
+
+// Adds a line, or subtracts it. False where a number is too great.
+pub(crate) fn pair(which: Pairing, line: &mut Line, other: &Line) -> bool
+    ensures { OnTrue result (line.new ≡ pair_line which line.old other.now) }
+{
+    match which {
+        Pairing::Sum => add(line, other),
+        Pairing::Difference => subtract(line, other),
     }
 }
 
@@ -182,7 +192,7 @@ fn steps_inside(number: i128, end: i64, slope: i128, reach: u64) -> u64
 }
 
 // Whether a line is at least 0, and for how many of these steps.
-pub(crate) fn at_least(l: Line, reach: u64) -> Stretch
+fn at_least(l: Line, reach: u64) -> Stretch
     ensures within { result.reach ≤ reach }
     ensures truth { (k : ℕ) → k ≤ result.reach → int_le (pos 0) (line_at l k) ≡ result.holds }
 {
@@ -211,8 +221,19 @@ fn level(l: Line, reach: u64) -> Stretch
     }
 }
 
+// Whether a line is at least 0, or is 0, and for how many of these steps.
+pub(crate) fn stretch_of(sense: Sense, l: Line, reach: u64) -> Stretch
+    ensures within { result.reach ≤ reach }
+    ensures truth { (k : ℕ) → k ≤ result.reach → holds_at sense (line_at l k) ≡ result.holds }
+{
+    match sense {
+        Sense::AtLeast => at_least(l, reach),
+        Sense::Zero => zero(l, reach),
+    }
+}
+
 // Whether a line is 0, and for how many of these steps.
-pub(crate) fn zero(l: Line, reach: u64) -> Stretch
+fn zero(l: Line, reach: u64) -> Stretch
     ensures within { result.reach ≤ reach }
     ensures truth { (k : ℕ) → k ≤ result.reach → int_eq (line_at l k) (pos 0) ≡ result.holds }
 {

@@ -3,6 +3,7 @@ ghost use Rattle.std.specs.Prelude.{◌≡◌, ◌≤◌, max, IfOk, Result};
 ghost use Rattle.case_tables.specs.declared.code_table.Code.{Code as TheCode};
 ghost use Rattle.core_terms.specs.Conditions.{FormFits};
 ghost use Rattle.core_terms.specs.Folding as fold;
+ghost use Rattle.core_terms.specs.Senses.{joined_form};
 ghost use Rattle.core_terms.specs.Trees.{same_form};
 ghost use Rattle.core_terms.specs.Weights.{plain_weight};
 ghost use Rattle.safety_rules.specs.Foldable.{IsFoldable};
@@ -16,44 +17,30 @@ use crate::gathering::follows;
 use crate::joining::both_lists;
 use crate::nodes::{Claim, node};
 use case_tables::Code;
-use core_terms::{CForm, Range, and_form, held_form, or_form, owned_form};
+use core_terms::{CForm, Joining, Range, and_form, held_form, or_form, owned_form};
 use rules_table::Led;
 use safety_rules::{Place, RuleError, is_same};
 use std::alloc::{AllocError, Global};
 use unity_base::{Seq, Shared};
 
-// That one of two formulas holds.
-pub(crate) fn either(
+// That two formulas hold, or that one of them does.
+pub(crate) fn joined(
     alloc: Global,
+    joining: Joining,
     p: Shared<CForm>,
     q: Shared<CForm>,
 ) -> Result<Shared<CForm>, AllocError>
     requires p { IsFoldable p }
     requires q { IsFoldable q }
-    ensures tree { IfOk result (λ f. f ≡ fold.or_form p q) }
+    ensures tree { IfOk result (λ f. f ≡ joined_form joining p q) }
     ensures weight { IfOk result (λ f. plain_weight f ≤ max (plain_weight p) (plain_weight q)) }
 {
-    Shared::new(
-        alloc,
-        or_form(alloc, owned_form(alloc, p)?, owned_form(alloc, q)?)?,
-    )
-}
-
-// That both formulas hold.
-pub(crate) fn both(
-    alloc: Global,
-    p: Shared<CForm>,
-    q: Shared<CForm>,
-) -> Result<Shared<CForm>, AllocError>
-    requires p { IsFoldable p }
-    requires q { IsFoldable q }
-    ensures tree { IfOk result (λ f. f ≡ fold.and_form p q) }
-    ensures weight { IfOk result (λ f. plain_weight f ≤ max (plain_weight p) (plain_weight q)) }
-{
-    Shared::new(
-        alloc,
-        and_form(alloc, owned_form(alloc, p)?, owned_form(alloc, q)?)?,
-    )
+    let p = owned_form(alloc, p)?;
+    let q = owned_form(alloc, q)?;
+    match joining {
+        Joining::Both => Shared::new(alloc, and_form(alloc, p, q)?),
+        Joining::Either => Shared::new(alloc, or_form(alloc, p, q)?),
+    }
 }
 
 // That one of two formulas holds, from copies.
@@ -64,7 +51,7 @@ fn either_of(alloc: Global, p: &CForm, q: &CForm) -> Result<Shared<CForm>, Alloc
 {
     let first = held_form(alloc, p)?;
     let second = held_form(alloc, q)?;
-    either(alloc, first, second)
+    joined(alloc, Joining::Either, first, second)
 }
 
 // `imply p q`: within no round.

@@ -3,14 +3,15 @@
 ghost use Rattle.std.specs.Prelude.{◌≡◌, ℕ, ◌≤◌, ℤ, List, IfSome};
 ghost use Rattle.std.specs.Bool.{OnTrue};
 ghost use Rattle.core_terms.specs.declared.documents.Arg.{Arg};
-ghost use Rattle.core_terms.specs.declared.trees.CForm.TheVariants.{AtLeast, Zero, And, Or};
-ghost use Rattle.core_terms.specs.declared.trees.CTerm.TheVariants.{Param, Add, Sub, Div, Mod, Ite};
+ghost use Rattle.core_terms.specs.declared.trees.CTerm.TheVariants.{Param, Div, Mod, Ite};
+ghost use Rattle.core_terms.specs.Senses.{pair_node, sense_node, joined_node};
+ghost use Rattle.leadsto_rules.specs.Lines.{joined_truth};
 ghost use Rattle.leadsto_rules.specs.Stretches.{PutsNumber, IsLineOn, IsTruthOn};
 
 use crate::lines::{
-    Line, Start, Stretch, add, at_least, divide, known_line, multiply, subtract, take_rest, zero,
+    Line, Start, Stretch, divide, known_line, multiply, pair, stretch_of, take_rest,
 };
-use core_terms::{CForm, CTerm};
+use core_terms::{CForm, CTerm, Joining, Pairing, Sense};
 use unity_base::Shared;
 
 /// Whether the formula holds where the number is put for the parameter, and for how many of the further numbers it
@@ -35,24 +36,24 @@ fn truth_from(f: &CForm, start: &Start, reach: &mut u64) -> Option<bool>
     match f {
         CForm::Top => Some(true),
         CForm::Bottom => Some(false),
-        CForm::AtLeast(t) => at_least_from(t, start, reach),
-        CForm::Zero(t) => zero_from(t, start, reach),
+        CForm::AtLeast(t) => sense_from(Sense::AtLeast, t, start, reach),
+        CForm::Zero(t) => sense_from(Sense::Zero, t, start, reach),
         CForm::Not(g) => Some(!truth_from(g.get(), start, reach)?),
-        CForm::And(g, h) => both_from(g, h, start, reach),
-        CForm::Or(g, h) => either_from(g, h, start, reach),
+        CForm::And(g, h) => joined_from(Joining::Both, g, h, start, reach),
+        CForm::Or(g, h) => joined_from(Joining::Either, g, h, start, reach),
     }
 }
 
 #[cycle(stretches)]
 #[inline(never)]
-fn at_least_from(t: &CTerm, start: &Start, reach: &mut u64) -> Option<bool>
+fn sense_from(sense: Sense, t: &CTerm, start: &Start, reach: &mut u64) -> Option<bool>
     ensures truth { (args : ℤ → List Arg) → PutsNumber start.now.name args →
-        IfSome result (IsTruthOn args start.now.number reach.new (AtLeast t.now)) }
+        IfSome result (IsTruthOn args start.now.number reach.new (sense_node sense t.now)) }
     ensures reach { reach.new ≤ reach.old }
 {
     let mut line = Line { value: 0, slope: 0 };
     if line_from(t, start, reach, &mut line) {
-        let stretch = at_least(line, *reach);
+        let stretch = stretch_of(sense, line, *reach);
         *reach = stretch.reach;
         Some(stretch.holds)
     } else {
@@ -62,43 +63,30 @@ fn at_least_from(t: &CTerm, start: &Start, reach: &mut u64) -> Option<bool>
 
 #[cycle(stretches)]
 #[inline(never)]
-fn zero_from(t: &CTerm, start: &Start, reach: &mut u64) -> Option<bool>
+fn joined_from(
+    joining: Joining,
+    g: &Shared<CForm>,
+    h: &Shared<CForm>,
+    start: &Start,
+    reach: &mut u64,
+) -> Option<bool>
     ensures truth { (args : ℤ → List Arg) → PutsNumber start.now.name args →
-        IfSome result (IsTruthOn args start.now.number reach.new (Zero t.now)) }
+        IfSome result (IsTruthOn args start.now.number reach.new (joined_node joining g.now h.now)) }
     ensures reach { reach.new ≤ reach.old }
 {
-    let mut line = Line { value: 0, slope: 0 };
-    if line_from(t, start, reach, &mut line) {
-        let stretch = zero(line, *reach);
-        *reach = stretch.reach;
-        Some(stretch.holds)
-    } else {
-        None
+    let second = truth_from(h.get(), start, reach)?;
+    let first = truth_from(g.get(), start, reach)?;
+    Some(joined_truth(joining, first, second))
+}
+
+// Whether two truths hold, or one of them does.
+fn joined_truth(joining: Joining, first: bool, second: bool) -> bool
+    ensures { result ≡ joined_truth joining first second }
+{
+    match joining {
+        Joining::Both => first & second,
+        Joining::Either => first | second,
     }
-}
-
-#[cycle(stretches)]
-#[inline(never)]
-fn both_from(g: &Shared<CForm>, h: &Shared<CForm>, start: &Start, reach: &mut u64) -> Option<bool>
-    ensures truth { (args : ℤ → List Arg) → PutsNumber start.now.name args →
-        IfSome result (IsTruthOn args start.now.number reach.new (And g.now h.now)) }
-    ensures reach { reach.new ≤ reach.old }
-{
-    let second = truth_from(h.get(), start, reach)?;
-    let first = truth_from(g.get(), start, reach)?;
-    Some(first & second)
-}
-
-#[cycle(stretches)]
-#[inline(never)]
-fn either_from(g: &Shared<CForm>, h: &Shared<CForm>, start: &Start, reach: &mut u64) -> Option<bool>
-    ensures truth { (args : ℤ → List Arg) → PutsNumber start.now.name args →
-        IfSome result (IsTruthOn args start.now.number reach.new (Or g.now h.now)) }
-    ensures reach { reach.new ≤ reach.old }
-{
-    let second = truth_from(h.get(), start, reach)?;
-    let first = truth_from(g.get(), start, reach)?;
-    Some(first | second)
 }
 
 // Whether the line of the term is known, for so many numbers; they become fewer where another line begins.
@@ -112,8 +100,8 @@ fn line_from(t: &CTerm, start: &Start, reach: &mut u64, line: &mut Line) -> bool
         CTerm::Const(c) => known_line(line, *c, 0),
         CTerm::Slot(_) => false,
         CTerm::Param(n) => param_line(*n, start, line),
-        CTerm::Add(a, b) => sum_from(a, b, start, reach, line),
-        CTerm::Sub(a, b) => difference_from(a, b, start, reach, line),
+        CTerm::Add(a, b) => pair_from(Pairing::Sum, a, b, start, reach, line),
+        CTerm::Sub(a, b) => pair_from(Pairing::Difference, a, b, start, reach, line),
         CTerm::Scale(k, a) => line_from(a.get(), start, reach, line) && multiply(*k, line),
         CTerm::Div(a, k) => quotient_from(a, *k, start, reach, line),
         CTerm::Mod(a, k) => remainder_from(a, *k, start, reach, line),
@@ -132,7 +120,8 @@ fn param_line(name: u32, start: &Start, line: &mut Line) -> bool
 
 #[cycle(stretches)]
 #[inline(never)]
-fn sum_from(
+fn pair_from(
+    which: Pairing,
     a: &Shared<CTerm>,
     b: &Shared<CTerm>,
     start: &Start,
@@ -140,7 +129,7 @@ fn sum_from(
     line: &mut Line,
 ) -> bool
     ensures line { (args : ℤ → List Arg) → PutsNumber start.now.name args →
-        OnTrue result (IsLineOn args start.now.number reach.new (Add a.now b.now) line.new) }
+        OnTrue result (IsLineOn args start.now.number reach.new (pair_node which a.now b.now) line.new) }
     ensures reach { reach.new ≤ reach.old }
 {
     let mut second = Line { value: 0, slope: 0 };
@@ -150,30 +139,7 @@ fn sum_from(
     if !line_from(a.get(), start, reach, line) {
         return false;
     }
-    add(line, &second)
-}
-
-#[cycle(stretches)]
-#[inline(never)]
-fn difference_from(
-    a: &Shared<CTerm>,
-    b: &Shared<CTerm>,
-    start: &Start,
-    reach: &mut u64,
-    line: &mut Line,
-) -> bool
-    ensures line { (args : ℤ → List Arg) → PutsNumber start.now.name args →
-        OnTrue result (IsLineOn args start.now.number reach.new (Sub a.now b.now) line.new) }
-    ensures reach { reach.new ≤ reach.old }
-{
-    let mut second = Line { value: 0, slope: 0 };
-    if !line_from(b.get(), start, reach, &mut second) {
-        return false;
-    }
-    if !line_from(a.get(), start, reach, line) {
-        return false;
-    }
-    subtract(line, &second)
+    pair(which, line, &second)
 }
 
 // The line of a quotient, up to where it leaves the line.

@@ -163,14 +163,14 @@ pub fn is_closing(
 }
 
 /// Whether a number is within plus or minus 2^62.
-fn is_plain_number(number: &i64) -> bool
+pub fn is_plain_number(number: &i64) -> bool
     ensures { result ≡ is_plain_number number.now }
 {
     number.unsigned_abs() <= 1 << 62
 }
 
-/// Whether all multipliers are.
-fn are_plain_pairs(pairs: &[(i64, u64)]) -> bool
+/// Whether all multipliers of a sum are within plus or minus 2^62.
+pub fn are_plain_pairs(pairs: &[(i64, u64)]) -> bool
     ensures { result ≡ list_all is_plain_pair pairs.now }
 {
     pairs.iter().all(|pair| is_plain_number(&pair.0))

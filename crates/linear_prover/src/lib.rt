@@ -12,5 +12,5 @@ mod reach;
 
 pub use closing::close;
 pub use elimination::eliminate;
-pub use judging::{is_closing, is_closing_sum, is_plain_chain};
+pub use judging::{are_plain_pairs, is_closing, is_closing_sum, is_plain_chain, is_plain_number};
 pub use reach::reach_chain;

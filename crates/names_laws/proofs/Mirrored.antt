@@ -89,7 +89,7 @@ with_last (u ∷ vs) w v name e = by (bytes_eq name u.name) e (with_last vs w v 
     by false f known = known f
 
 -- a declaration finds the variable of its name where there is one
-any_none : (vs : List Variable) (name : List ℕ) → variable_named name vs ≡ None →
+pub any_none : (vs : List Variable) (name : List ℕ) → variable_named name vs ≡ None →
     list_any (λ known. bytes_eq known.name name) vs ≡ false
 any_none [] name e = refl
 any_none (u ∷ vs) name e = by (bytes_eq u.name name) (bytes_eq name u.name) e
@@ -103,7 +103,7 @@ any_none (u ∷ vs) name e = by (bytes_eq u.name name) (bytes_eq name u.name) e
     by true true f g known = cc f
     by true false f g known = let h : false ≡ true = g refl in cc h
 
-any_some : (vs : List Variable) (name : List ℕ) (v : Variable) → variable_named name vs ≡ Some v →
+pub any_some : (vs : List Variable) (name : List ℕ) (v : Variable) → variable_named name vs ≡ Some v →
     list_any (λ known. bytes_eq known.name name) vs ≡ true
 any_some [] name v e = cc e
 any_some (u ∷ vs) name v e = by (bytes_eq u.name name) (bytes_eq name u.name) e

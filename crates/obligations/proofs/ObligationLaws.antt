@@ -19,8 +19,9 @@ use Rattle.core_terms.specs.declared.programs.CSlot.{CSlot}
 use Rattle.core_terms.specs.Sizes.{form_nodes}
 use Rattle.core_terms.specs.Places.{slots_step, params_step, greatest_part, term_slots, form_slots, term_params}
 use Rattle.core_terms.specs.Places.{form_params}
-use Rattle.core_terms.specs.Weights.{Weights, weigh_term, weigh_form, term_weights, form_weight, range_weight}
+use Rattle.core_terms.specs.Weights.{Weights, weigh_term, weigh_form, form_weight, range_weight}
 use Rattle.core_terms.specs.Weights.{place_weight, slot_weight}
+use Rattle.core_terms.proofs.TreeFolds.{Steps}
 use Rattle.obligations.specs.declared.branches.Variable.{Variable}
 use Rattle.obligations.specs.declared.branches.Obligation.{Obligation}
 use Rattle.obligations.specs.LinearForms.{is_named, place_of}
@@ -28,6 +29,7 @@ use Rattle.obligations.specs.Plain.{height_of}
 use Rattle.obligations.specs.Variables.{has_step, part_has, term_has, form_has, numbered, occurring, variables_of}
 use Rattle.obligations.specs.Variables.{obligation_of, slot_ranges}
 use Rattle.obligations.specs.Obligations.{variable_weight, weight_of, is_within_limits, is_range, IsObligation}
+use Rattle.obligations.proofs.FrameLaws.{or_right, is_here, form_same}
 use Rattle.obligations.proofs.VariableLaws.{is-variable}
 use Rattle.obligations.proofs.OrderLaws.{filter-all, filter-passes, variables-order}
 
@@ -35,10 +37,6 @@ use Rattle.obligations.proofs.OrderLaws.{filter-all, filter-passes, variables-or
 or_cases : (a b : Bool) → (a || b) ≡ true → (a ≡ true) ⊎ (b ≡ true)
 or_cases true b e = inl refl
 or_cases false b e = inr e
-
-or_right : (a b : Bool) → b ≡ true → (a || b) ≡ true
-or_right true b e = refl
-or_right false b e = e
 
 -- What occurs has a place below the greatest.
 module _ (n : ℕ) where
@@ -136,114 +134,27 @@ module _ (slots params others numbers : ℕ → ℕ) where
   abbrev Same : Bool → ℕ → Type 0
   Same param n = cond param params slots n ≡ cond param numbers others n
 
-  abbrev FormSame : CForm → Type 0
-  FormSame f =
-      ((param : Bool) (n : ℕ) → form_has param n f ≡ true → Same param n) →
+  abbrev weight_steps : (ℕ → ℕ) → (ℕ → ℕ) → Steps ℕ Weights
+  weight_steps on_slots on_params = record { form = weigh_form; term = weigh_term on_slots on_params }
+
+  weights_agree : (x : CTerm-F ℕ Weights) → ((param : Bool) (n : ℕ) → is_here param n x ≡ true → Same param n) →
+      weigh_term slots params x ≡ weigh_term others numbers x
+  weights_agree (CTerm-F.Const c) all = refl
+  weights_agree (CTerm-F.Slot n) all =
+      ap (λ m. weigh_term (λ k. m) params (CTerm-F.Slot n)) (all false n (eq-eqb n n refl))
+  weights_agree (CTerm-F.Param n) all =
+      ap (λ m. weigh_term slots (λ k. m) (CTerm-F.Param n)) (all true n (eq-eqb n n refl))
+  weights_agree (CTerm-F.Add a b) all = refl
+  weights_agree (CTerm-F.Sub a b) all = refl
+  weights_agree (CTerm-F.Scale k a) all = refl
+  weights_agree (CTerm-F.Div a k) all = refl
+  weights_agree (CTerm-F.Mod a k) all = refl
+  weights_agree (CTerm-F.Ite c a b) all = refl
+
+  weight-same : (f : CForm) → ((param : Bool) (n : ℕ) → form_has param n f ≡ true → Same param n) →
       form_weight slots params f ≡ form_weight others numbers f
-
-  abbrev TermSame : CTerm → Type 0
-  TermSame t =
-      ((param : Bool) (n : ℕ) → term_has param n t ≡ true → Same param n) →
-      term_weights slots params t ≡ term_weights others numbers t
-
-  abbrev SameForm : Type 0
-  SameForm = (f : CForm) × FormSame f
-
-  abbrev SameTerm : Type 0
-  SameTerm = (t : CTerm) × TermSame t
-
-  rolled_form : (x : CForm-F CForm CTerm) →
-      (((param : Bool) (n : ℕ) → part_has (map-CForm CForm CTerm Bool Bool (form_has param n) (term_has param n) x)
-      ≡ true → Same param n) →
-      weigh_form (map-CForm CForm CTerm ℕ Weights (form_weight slots params) (term_weights slots params) x)
-      ≡ weigh_form (map-CForm CForm CTerm ℕ Weights (form_weight others numbers) (term_weights others numbers) x)) →
-      FormSame (roll-CForm x)
-  rolled_form x h all =
-      fold-roll-CForm ℕ Weights weigh_form (weigh_term slots params) x
-      ∙ h (λ param n e. all param n (fold-roll-CForm Bool Bool part_has (has_step param n) x ∙ e))
-      ∙ sym (fold-roll-CForm ℕ Weights weigh_form (weigh_term others numbers) x)
-
-  rolled_term : (x : CTerm-F CForm CTerm) →
-      (((param : Bool) (n : ℕ) → has_step param n (map-CTerm CForm CTerm Bool Bool (form_has param n)
-      (term_has param n)
-      x) ≡ true → Same param n) →
-      weigh_term slots params (map-CTerm CForm CTerm ℕ Weights (form_weight slots params) (term_weights slots params)
-      x)
-      ≡ weigh_term others numbers
-      (map-CTerm CForm CTerm ℕ Weights (form_weight others numbers) (term_weights others numbers) x)) →
-      TermSame (roll-CTerm x)
-  rolled_term x h all =
-      fold-roll-CTerm ℕ Weights weigh_form (weigh_term slots params) x
-      ∙ h (λ param n e. all param n (fold-roll-CTerm Bool Bool part_has (has_step param n) x ∙ e))
-      ∙ sym (fold-roll-CTerm ℕ Weights weigh_form (weigh_term others numbers) x)
-
-  abbrev W : CTerm → Weights
-  W = term_weights slots params
-
-  abbrev V : CTerm → Weights
-  V = term_weights others numbers
-
-  same_form_layer : (y : CForm-F SameForm SameTerm) →
-      FormSame (roll-CForm (map-CForm SameForm SameTerm CForm CTerm (λ e. e.0) (λ e. e.0) y))
-  same_form_layer CForm-F.Top = rolled_form CForm-F.Top (λ all. refl)
-  same_form_layer CForm-F.Bottom = rolled_form CForm-F.Bottom (λ all. refl)
-  same_form_layer (CForm-F.AtLeast t) =
-      rolled_form (CForm-F.AtLeast t.0) (λ all. ap (λ (w : Weights). w.most) (t.1 all))
-  same_form_layer (CForm-F.Zero t) = rolled_form (CForm-F.Zero t.0) (λ all. ap (λ (w : Weights). w.most) (t.1 all))
-  same_form_layer (CForm-F.Not f) = rolled_form (CForm-F.Not f.0) (λ all. f.1 all)
-  same_form_layer (CForm-F.And f g) =
-      rolled_form (CForm-F.And f.0 g.0) (λ all.
-      ap (λ z. max z (form_weight slots params g.0))
-      (f.1 (λ param n e. all param n (ap (λ z. z || form_has param n g.0) e)))
-      ∙ ap (λ z. max (form_weight others numbers f.0) z)
-      (g.1 (λ param n e. all param n (or_right (form_has param n f.0) _ e))))
-  same_form_layer (CForm-F.Or f g) =
-      rolled_form (CForm-F.Or f.0 g.0) (λ all.
-      ap (λ z. max z (form_weight slots params g.0))
-      (f.1 (λ param n e. all param n (ap (λ z. z || form_has param n g.0) e)))
-      ∙ ap (λ z. max (form_weight others numbers f.0) z)
-      (g.1 (λ param n e. all param n (or_right (form_has param n f.0) _ e))))
-
-  same_term_layer : (y : CTerm-F SameForm SameTerm) →
-      TermSame (roll-CTerm (map-CTerm SameForm SameTerm CForm CTerm (λ e. e.0) (λ e. e.0) y))
-  same_term_layer (CTerm-F.Const c) = rolled_term (CTerm-F.Const c) (λ all. refl)
-  same_term_layer (CTerm-F.Slot n) =
-      rolled_term (CTerm-F.Slot n) (λ all. ap (λ m. weigh_term (λ k. m) params (CTerm-F.Slot n))
-      (all false n (eq-eqb n n refl)))
-  same_term_layer (CTerm-F.Param n) =
-      rolled_term (CTerm-F.Param n) (λ all. ap (λ m. weigh_term slots (λ k. m) (CTerm-F.Param n))
-      (all true n (eq-eqb n n refl)))
-  same_term_layer (CTerm-F.Add a b) =
-      rolled_term (CTerm-F.Add a.0 b.0) (λ all.
-      ap (λ z. weigh_term slots params (CTerm-F.Add z (W b.0)))
-      (a.1 (λ param n e. all param n (ap (λ z. z || term_has param n b.0) e)))
-      ∙ ap (λ z. weigh_term slots params (CTerm-F.Add (V a.0) z))
-      (b.1 (λ param n e. all param n (or_right (term_has param n a.0) _ e))))
-  same_term_layer (CTerm-F.Sub a b) =
-      rolled_term (CTerm-F.Sub a.0 b.0) (λ all.
-      ap (λ z. weigh_term slots params (CTerm-F.Sub z (W b.0)))
-      (a.1 (λ param n e. all param n (ap (λ z. z || term_has param n b.0) e)))
-      ∙ ap (λ z. weigh_term slots params (CTerm-F.Sub (V a.0) z))
-      (b.1 (λ param n e. all param n (or_right (term_has param n a.0) _ e))))
-  same_term_layer (CTerm-F.Scale k a) =
-      rolled_term (CTerm-F.Scale k a.0) (λ all. ap (λ z. weigh_term slots params (CTerm-F.Scale k z)) (a.1 all))
-  same_term_layer (CTerm-F.Div a k) =
-      rolled_term (CTerm-F.Div a.0 k) (λ all. ap (λ z. weigh_term slots params (CTerm-F.Div z k)) (a.1 all))
-  same_term_layer (CTerm-F.Mod a k) =
-      rolled_term (CTerm-F.Mod a.0 k) (λ all. ap (λ z. weigh_term slots params (CTerm-F.Mod z k)) (a.1 all))
-  same_term_layer (CTerm-F.Ite c a b) =
-      rolled_term (CTerm-F.Ite c.0 a.0 b.0) (λ all.
-      ap (λ z. weigh_term slots params (CTerm-F.Ite z (W a.0) (W b.0)))
-      (c.1 (λ param n e. all param n (ap (λ z. z || (term_has param n a.0 || term_has param n b.0)) e)))
-      ∙ ap (λ z. weigh_term slots params (CTerm-F.Ite (form_weight others numbers c.0) z (W b.0)))
-      (a.1 (λ param n e. all param n (or_right (form_has param n c.0) _ (ap (λ z. z || term_has param n b.0) e))))
-      ∙ ap (λ z. weigh_term slots params (CTerm-F.Ite (form_weight others numbers c.0) (V a.0) z))
-      (b.1 (λ param n e. all param n (or_right (form_has param n c.0) _ (or_right (term_has param n a.0) _ e)))))
-
-  weight-same : (f : CForm) → FormSame f
-  weight-same f =
-      ind-CForm FormSame TermSame (λ x y e. subst (λ z. FormSame (roll-CForm z)) e (same_form_layer y))
-      (λ x y e. subst (λ z. TermSame (roll-CTerm z)) e (same_term_layer y)) f
+  weight-same f all =
+      form_same (weight_steps slots params) (weight_steps others numbers) Same (λ x. refl) weights_agree f all
 
 -- Look-ups.
 abbrev AllAre : (Variable → Type 0) → List Variable → Type 0

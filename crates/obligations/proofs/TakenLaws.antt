@@ -15,8 +15,8 @@ use Rattle.obligations.specs.declared.branches.Taken.{Taken}
 use Rattle.obligations.specs.Settling.{Quoted, quoted_form_step, quoted_step, quoted, first_taken, first_of, or_whole}
 use Rattle.obligations.specs.Settling.{taken_within}
 use Rattle.obligations.proofs.TreeLaws.{term_fold, form_fold}
-use Rattle.obligations.specs.declared.pairing.Pairing.{Pairing}
-use Rattle.obligations.specs.Settling.{pair_term}
+use Rattle.core_terms.specs.declared.known.Pairing.{Pairing}
+use Rattle.core_terms.specs.Senses.{pair_node}
 
 abbrev pub whole_quotient : ℕ → CTerm → ℤ → Taken
 whole_quotient v a k = record { of = a; divisor = divisor k; rest = Param v }
@@ -208,17 +208,17 @@ module _ (v : ℕ) where
         ind-CTerm (λ f. Unit {0}) First (λ x y e. tt) (λ x y e. subst (λ z. First (roll-CTerm z)) e (term_layer y)) t
 
 -- the same, as the code meets them
-pub taken-pair : (v : ℕ) (which : Pairing) (a b : CTerm) → first_taken v (pair_term which a b)
-    ≡ first_of (λ x. pair_term which x b) (λ y. pair_term which a y) (first_taken v a) (first_taken v b)
+pub taken-pair : (v : ℕ) (which : Pairing) (a b : CTerm) → first_taken v (pair_node which a b)
+    ≡ first_of (λ x. pair_node which x b) (λ y. pair_node which a y) (first_taken v a) (first_taken v b)
 taken-pair v Pairing.Sum a b = taken-Add v a b
 taken-pair v Pairing.Difference a b = taken-Sub v a b
 
 pub taken-none : (v : ℕ) (which : Pairing) (a b : CTerm) → first_taken v a ≡ None → first_taken v b ≡ None →
-    None ≡ first_taken v (pair_term which a b)
+    None ≡ first_taken v (pair_node which a b)
 taken-none v which a b p r =
     sym (taken-pair v which a b
-    ∙ ap (λ m. first_of (λ x. pair_term which x b) (λ y. pair_term which a y) m (first_taken v b)) p
-    ∙ ap (λ m. first_of (λ x. pair_term which x b) (λ y. pair_term which a y) None m) r)
+    ∙ ap (λ m. first_of (λ x. pair_node which x b) (λ y. pair_node which a y) m (first_taken v b)) p
+    ∙ ap (λ m. first_of (λ x. pair_node which x b) (λ y. pair_node which a y) None m) r)
 
 pub taken-first : (v : ℕ) (node : CTerm → CTerm → CTerm) → ((a b : CTerm) → first_taken v (node a b)
     ≡ first_of (λ x. node x b) (λ y. node a y) (first_taken v a) (first_taken v b)) → (a b : CTerm) (q : Taken)

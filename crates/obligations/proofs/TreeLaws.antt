@@ -21,8 +21,8 @@ use Rattle.obligations.specs.LinearForms.{linear_step, linear}
 use Rattle.obligations.specs.Settling.{within, first_choice, Parted, form_tree_step, parted_step, parted, first_ite}
 use Rattle.obligations.specs.Settling.{Settled, term_tree_step, outcome_step, outcome}
 use Rattle.obligations.proofs.LineLaws.{length-zeros, length-add_at, length-plus}
-use Rattle.obligations.specs.declared.pairing.Pairing.{Pairing}
-use Rattle.obligations.specs.Settling.{pair_term}
+use Rattle.core_terms.specs.declared.known.Pairing.{Pairing}
+use Rattle.core_terms.specs.Senses.{pair_node}
 
 -- The folds, form by form.
 pub term_fold : {A B : Type 0} (f : CForm-F A B → A) (t : CTerm-F A B → B) (x : CTerm-F CForm CTerm) (u : CTerm) →
@@ -375,30 +375,30 @@ ite-Ite c a b =
     ∙ ap (λ u. Some (record { when = c; yes = a; no = u })) (parted-tree b)
 
 -- the same, as the code meets them
-pub ite-pair : (which : Pairing) (a b : CTerm) → first_ite (pair_term which a b)
-    ≡ first_choice (λ x. pair_term which x b) (λ y. pair_term which a y) (first_ite a) (first_ite b)
+pub ite-pair : (which : Pairing) (a b : CTerm) → first_ite (pair_node which a b)
+    ≡ first_choice (λ x. pair_node which x b) (λ y. pair_node which a y) (first_ite a) (first_ite b)
 ite-pair Pairing.Sum a b = ite-Add a b
 ite-pair Pairing.Difference a b = ite-Sub a b
 
 pub pair-first : (which : Pairing) (a b : CTerm) (c : Choice) (o : Option Choice) → first_ite a ≡ Some c →
-    o ≡ Some (within (λ x. pair_term which x b) c) → o ≡ first_ite (pair_term which a b)
+    o ≡ Some (within (λ x. pair_node which x b) c) → o ≡ first_ite (pair_node which a b)
 pair-first which a b c o p q =
     q ∙ sym (ite-pair which a b
-    ∙ ap (λ m. first_choice (λ x. pair_term which x b) (λ y. pair_term which a y) m (first_ite b)) p)
+    ∙ ap (λ m. first_choice (λ x. pair_node which x b) (λ y. pair_node which a y) m (first_ite b)) p)
 
 pub pair-second : (which : Pairing) (a b : CTerm) (c : Choice) (o : Option Choice) → first_ite a ≡ None →
-    first_ite b ≡ Some c → o ≡ Some (within (λ x. pair_term which a x) c) → o ≡ first_ite (pair_term which a b)
+    first_ite b ≡ Some c → o ≡ Some (within (λ x. pair_node which a x) c) → o ≡ first_ite (pair_node which a b)
 pair-second which a b c o p r q =
     q ∙ sym (ite-pair which a b
-    ∙ ap (λ m. first_choice (λ x. pair_term which x b) (λ y. pair_term which a y) m (first_ite b)) p
-    ∙ ap (λ m. first_choice (λ x. pair_term which x b) (λ y. pair_term which a y) None m) r)
+    ∙ ap (λ m. first_choice (λ x. pair_node which x b) (λ y. pair_node which a y) m (first_ite b)) p
+    ∙ ap (λ m. first_choice (λ x. pair_node which x b) (λ y. pair_node which a y) None m) r)
 
 pub pair-none : (which : Pairing) (a b : CTerm) → first_ite a ≡ None → first_ite b ≡ None →
-    None ≡ first_ite (pair_term which a b)
+    None ≡ first_ite (pair_node which a b)
 pair-none which a b p r =
     sym (ite-pair which a b
-    ∙ ap (λ m. first_choice (λ x. pair_term which x b) (λ y. pair_term which a y) m (first_ite b)) p
-    ∙ ap (λ m. first_choice (λ x. pair_term which x b) (λ y. pair_term which a y) None m) r)
+    ∙ ap (λ m. first_choice (λ x. pair_node which x b) (λ y. pair_node which a y) m (first_ite b)) p
+    ∙ ap (λ m. first_choice (λ x. pair_node which x b) (λ y. pair_node which a y) None m) r)
 
 pub multiple-some : (k : ℤ) (a t : CTerm) (c : Choice) (o : Option Choice) → t ≡ Scale k a → first_ite a ≡ Some c →
     o ≡ Some (within (λ x. Scale k x) c) → o ≡ first_ite t

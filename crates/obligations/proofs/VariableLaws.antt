@@ -1,5 +1,5 @@
 -- The variables of an obligation, as the code makes them, and what its validity says.
-use Rattle.std.proofs.Common.{◌≡◌, ℕ, zero, suc, nat_eq, ◌+◌, ◌<◌, ◌≤◌, ℤ, pos, ◌+ℤ◌, ◌-ℤ◌, ◌*ℤ◌, List, [], ◌∷◌, ◌++◌}
+use Rattle.std.proofs.Common.{◌≡◌, ℕ, zero, suc, nat_eq, ◌+◌, ◌<◌, ◌≤◌, ℤ, pos, List, [], ◌∷◌, ◌++◌}
 use Rattle.std.proofs.Common.{Bool, true, false, cond, not, ◌&&◌, ◌||◌, ◌⊎◌, inl, inr, refl, sym, ap, ◌∙◌, subst}
 use Rattle.std.proofs.Common.{length, map, eq-eqb, arith}
 use Rattle.std.proofs.lemmas.List.{length-append}
@@ -7,21 +7,19 @@ use Rattle.std.specs.List.{list_any}
 use Rattle.std.specs.Int.RustNames.{int_le}
 use Rattle.std.proofs.lemmas.Bool.{eqb-true}
 use Rattle.std.proofs.lemmas.List.Folds.{list_any-append}
-use Rattle.core_terms.specs.declared.trees.CTerm.{CTerm, roll-CTerm, fold-roll-CTerm}
-use Rattle.core_terms.specs.declared.trees.CForm.{CForm, roll-CForm, ind-CForm, fold-roll-CForm}
-use Rattle.core_terms.specs.declared.trees.CForm.TheOpen.{CTerm-F, CForm-F}
-use Rattle.core_terms.specs.declared.trees.CForm.TheFolds.{map-CForm, map-CTerm}
+use Rattle.core_terms.specs.declared.trees.CForm.{CForm}
+use Rattle.core_terms.specs.declared.trees.CForm.TheOpen.{CTerm-F}
 use Rattle.core_terms.specs.declared.trees.Range.{Range}
 use Rattle.obligations.specs.declared.branches.Variable.{Variable}
 use Rattle.obligations.specs.declared.branches.Obligation.{Obligation}
-use Rattle.meaning_states.specs.Division.{floored, rest_of}
-use Rattle.meaning_states.specs.State.{int_eq}
-use Rattle.core_terms.specs.Values.{number_at, term_step, form_step, term_value, form_value}
+use Rattle.core_terms.specs.Values.{number_at, term_step, form_value}
+use Rattle.core_terms.proofs.PartLaws.{value_steps}
 use Rattle.obligations.specs.LinearForms.{is_named, place_of}
-use Rattle.obligations.specs.Settling.{term_at_step, term_at, form_at}
+use Rattle.obligations.specs.Settling.{term_at_step, form_at}
 use Rattle.obligations.specs.Opening.{in_ranges, Valid}
-use Rattle.obligations.specs.Variables.{has_step, part_has, term_has, form_has, numbered, occurring, variables_of}
+use Rattle.obligations.specs.Variables.{form_has, numbered, occurring, variables_of}
 use Rattle.obligations.specs.Variables.{obligation_of, are_in_ranges, IsTrueInRanges, ObligationMeans}
+use Rattle.obligations.proofs.FrameLaws.{or_right, is_here, form_same, value_steps_at}
 
 abbrev pub variable : Bool → ℕ → Range → Variable
 variable param n r = record { param = param; number = n; range = r }
@@ -62,10 +60,6 @@ variables-length f slots params =
     )
 
 -- Laws of truth values, by cases.
-or_right : (a b : Bool) → b ≡ true → (a || b) ≡ true
-or_right true b e = refl
-or_right false b e = e
-
 and_first : (a b : Bool) → (a && b) ≡ true → a ≡ true
 and_first true b e = refl
 and_first false b e = e
@@ -182,93 +176,22 @@ module _ (vs : List Variable) (values state numbers : List ℤ) where
   abbrev Found : Bool → ℕ → Type 0
   Found param n = number_at values (place_of vs param n) ≡ number_at (cond param numbers state) n
 
-  abbrev FormSame : CForm → Type 0
-  FormSame f =
-      ((param : Bool) (n : ℕ) → form_has param n f ≡ true → Found param n) →
+  values_agree : (x : CTerm-F Bool ℤ) → ((param : Bool) (n : ℕ) → is_here param n x ≡ true → Found param n) →
+      term_at_step vs values x ≡ term_step state numbers x
+  values_agree (CTerm-F.Const c) all = refl
+  values_agree (CTerm-F.Slot n) all = all false n (eq-eqb n n refl)
+  values_agree (CTerm-F.Param n) all = all true n (eq-eqb n n refl)
+  values_agree (CTerm-F.Add a b) all = refl
+  values_agree (CTerm-F.Sub a b) all = refl
+  values_agree (CTerm-F.Scale k a) all = refl
+  values_agree (CTerm-F.Div a k) all = refl
+  values_agree (CTerm-F.Mod a k) all = refl
+  values_agree (CTerm-F.Ite c a b) all = refl
+
+  truth_same : (f : CForm) → ((param : Bool) (n : ℕ) → form_has param n f ≡ true → Found param n) →
       form_at vs values f ≡ form_value state numbers f
-
-  abbrev TermSame : CTerm → Type 0
-  TermSame t =
-      ((param : Bool) (n : ℕ) → term_has param n t ≡ true → Found param n) →
-      term_at vs values t ≡ term_value state numbers t
-
-  abbrev SameForm : Type 0
-  SameForm = (f : CForm) × FormSame f
-
-  abbrev SameTerm : Type 0
-  SameTerm = (t : CTerm) × TermSame t
-
-  rolled_form : (x : CForm-F CForm CTerm) →
-      (((param : Bool) (n : ℕ) → part_has (map-CForm CForm CTerm Bool Bool (form_has param n) (term_has param n) x)
-      ≡ true → Found param n) →
-      form_step (map-CForm CForm CTerm Bool ℤ (form_at vs values) (term_at vs values) x) ≡ form_step
-      (map-CForm CForm CTerm Bool ℤ (form_value state numbers) (term_value state numbers) x)) →
-      FormSame (roll-CForm x)
-  rolled_form x h all =
-      fold-roll-CForm Bool ℤ form_step (term_at_step vs values) x
-      ∙ h (λ param n e. all param n (fold-roll-CForm Bool Bool part_has (has_step param n) x ∙ e))
-      ∙ sym (fold-roll-CForm Bool ℤ form_step (term_step state numbers) x)
-
-  rolled_term : (x : CTerm-F CForm CTerm) →
-      (((param : Bool) (n : ℕ) → has_step param n (map-CTerm CForm CTerm Bool Bool (form_has param n) (term_has param n)
-      x) ≡ true → Found param n) →
-      term_at_step vs values (map-CTerm CForm CTerm Bool ℤ (form_at vs values) (term_at vs values) x) ≡ term_step state
-      numbers (map-CTerm CForm CTerm Bool ℤ (form_value state numbers) (term_value state numbers) x)) →
-      TermSame (roll-CTerm x)
-  rolled_term x h all =
-      fold-roll-CTerm Bool ℤ form_step (term_at_step vs values) x
-      ∙ h (λ param n e. all param n (fold-roll-CTerm Bool Bool part_has (has_step param n) x ∙ e))
-      ∙ sym (fold-roll-CTerm Bool ℤ form_step (term_step state numbers) x)
-
-  form_layer : (y : CForm-F SameForm SameTerm) →
-      FormSame (roll-CForm (map-CForm SameForm SameTerm CForm CTerm (λ e. e.0) (λ e. e.0) y))
-  form_layer CForm-F.Top = rolled_form CForm-F.Top (λ all. refl)
-  form_layer CForm-F.Bottom = rolled_form CForm-F.Bottom (λ all. refl)
-  form_layer (CForm-F.AtLeast t) = rolled_form (CForm-F.AtLeast t.0) (λ all. ap (λ z. int_le (pos 0) z) (t.1 all))
-  form_layer (CForm-F.Zero t) = rolled_form (CForm-F.Zero t.0) (λ all. ap (λ z. int_eq z (pos 0)) (t.1 all))
-  form_layer (CForm-F.Not f) = rolled_form (CForm-F.Not f.0) (λ all. ap not (f.1 all))
-  form_layer (CForm-F.And f g) =
-      rolled_form (CForm-F.And f.0 g.0) (λ all.
-      ap (λ z. z && form_at vs values g.0) (f.1 (λ param n e. all param n (ap (λ z. z || form_has param n g.0) e)))
-      ∙ ap (λ z. form_value state numbers f.0 && z)
-      (g.1 (λ param n e. all param n (or_right (form_has param n f.0) _ e))))
-  form_layer (CForm-F.Or f g) =
-      rolled_form (CForm-F.Or f.0 g.0) (λ all.
-      ap (λ z. z || form_at vs values g.0) (f.1 (λ param n e. all param n (ap (λ z. z || form_has param n g.0) e)))
-      ∙ ap (λ z. form_value state numbers f.0 || z)
-      (g.1 (λ param n e. all param n (or_right (form_has param n f.0) _ e))))
-
-  term_layer : (y : CTerm-F SameForm SameTerm) →
-      TermSame (roll-CTerm (map-CTerm SameForm SameTerm CForm CTerm (λ e. e.0) (λ e. e.0) y))
-  term_layer (CTerm-F.Const c) = rolled_term (CTerm-F.Const c) (λ all. refl)
-  term_layer (CTerm-F.Slot n) = rolled_term (CTerm-F.Slot n) (λ all. all false n (eq-eqb n n refl))
-  term_layer (CTerm-F.Param n) = rolled_term (CTerm-F.Param n) (λ all. all true n (eq-eqb n n refl))
-  term_layer (CTerm-F.Add a b) =
-      rolled_term (CTerm-F.Add a.0 b.0) (λ all.
-      ap (λ z. z +ℤ term_at vs values b.0) (a.1 (λ param n e. all param n (ap (λ z. z || term_has param n b.0) e)))
-      ∙ ap (λ z. term_value state numbers a.0 +ℤ z)
-      (b.1 (λ param n e. all param n (or_right (term_has param n a.0) _ e))))
-  term_layer (CTerm-F.Sub a b) =
-      rolled_term (CTerm-F.Sub a.0 b.0) (λ all.
-      ap (λ z. z -ℤ term_at vs values b.0) (a.1 (λ param n e. all param n (ap (λ z. z || term_has param n b.0) e)))
-      ∙ ap (λ z. term_value state numbers a.0 -ℤ z)
-      (b.1 (λ param n e. all param n (or_right (term_has param n a.0) _ e))))
-  term_layer (CTerm-F.Scale k a) = rolled_term (CTerm-F.Scale k a.0) (λ all. ap (λ z. k *ℤ z) (a.1 all))
-  term_layer (CTerm-F.Div a k) = rolled_term (CTerm-F.Div a.0 k) (λ all. ap (λ z. floored z k) (a.1 all))
-  term_layer (CTerm-F.Mod a k) = rolled_term (CTerm-F.Mod a.0 k) (λ all. ap (λ z. rest_of z k) (a.1 all))
-  term_layer (CTerm-F.Ite c a b) =
-      rolled_term (CTerm-F.Ite c.0 a.0 b.0) (λ all.
-      ap (λ z. cond z (term_at vs values a.0) (term_at vs values b.0))
-      (c.1 (λ param n e. all param n (ap (λ z. z || (term_has param n a.0 || term_has param n b.0)) e)))
-      ∙ ap (λ z. cond (form_value state numbers c.0) z (term_at vs values b.0))
-      (a.1 (λ param n e. all param n (or_right (form_has param n c.0) _ (ap (λ z. z || term_has param n b.0) e))))
-      ∙ ap (λ z. cond (form_value state numbers c.0) (term_value state numbers a.0) z)
-      (b.1 (λ param n e. all param n (or_right (form_has param n c.0) _ (or_right (term_has param n a.0) _ e)))))
-
-  form_same : (f : CForm) → FormSame f
-  form_same f =
-      ind-CForm FormSame TermSame (λ x y e. subst (λ z. FormSame (roll-CForm z)) e (form_layer y))
-      (λ x y e. subst (λ z. TermSame (roll-CTerm z)) e (term_layer y)) f
+  truth_same f all =
+      form_same (value_steps_at vs values) (value_steps state numbers) Found (λ x. refl) values_agree f all
 
 -- The law.
 module _ (f : CForm) (slots params : List Range) (state numbers : List ℤ) (in_slots : are_in_ranges slots state ≡ true)
@@ -305,7 +228,7 @@ module _ (f : CForm) (slots params : List Range) (state numbers : List ℤ) (in_
       let within : in_ranges (first ++ second) (values_of state numbers (first ++ second)) ≡ true =
       in_ranges-append state numbers first second (occurring-in-ranges state numbers f false slots state 0 in_slots
       (start state)) (occurring-in-ranges state numbers f true params numbers 0 in_params (start numbers)) in
-      sym (form_same (first ++ second) (values_of state numbers (first ++ second)) state numbers f
+      sym (truth_same (first ++ second) (values_of state numbers (first ++ second)) state numbers f
       (λ param n e. found state numbers (first ++ second) param n (absent param n (any-variable param n e))))
       ∙ valid (values_of state numbers (first ++ second)) within
 

@@ -14,8 +14,8 @@ use Rattle.obligations.specs.declared.branches.Branch.{Branch}
 use Rattle.obligations.specs.declared.branches.Choice.{Choice}
 use Rattle.obligations.specs.declared.branches.Taken.{Taken}
 use Rattle.obligations.specs.declared.branches.Obligation.{Obligation}
-use Rattle.obligations.specs.declared.pairing.Pairing.{Pairing}
-use Rattle.obligations.specs.declared.waiting.Sense.{Sense}
+use Rattle.core_terms.specs.declared.known.Sense.{Sense}
+use Rattle.core_terms.specs.Senses.{sense_node}
 use Rattle.meaning_states.specs.Division.{divisor, floored, rest_of}
 use Rattle.core_terms.specs.Values.{number_at, form_step}
 use Rattle.obligations.specs.LinearForms.{place_of, line_of_const, negated, linear, fact_of, fact_holds}
@@ -73,11 +73,6 @@ pub record Parted : Type 0 where
 -- a choice within a greater term
 abbrev pub within : (CTerm → CTerm) → Choice → Choice
 within f c = record { when = c.when; yes = f c.yes; no = f c.no }
-
--- a sum or a difference
-abbrev pub pair_term : Pairing → CTerm → CTerm → CTerm
-pair_term Pairing.Sum a b = Add a b
-pair_term Pairing.Difference a b = Sub a b
 
 -- the first part's choice, else the second's
 abbrev pub first_choice : (CTerm → CTerm) → (CTerm → CTerm) → Option Choice → Option Choice → Option Choice
@@ -217,20 +212,15 @@ first_taken v t = (quoted v t).taken
 abbrev pub choice_form : (CTerm → CForm) → Choice → CForm
 choice_form f c = Or (And c.when (f c.yes)) (And (Not c.when) (f c.no))
 
--- of a term, that it is at least 0, or that it is 0
-abbrev pub sense_form : Sense → CTerm → CForm
-sense_form Sense.AtLeast t = AtLeast t
-sense_form Sense.Zero t = Zero t
-
--- the facts that say so of a term with neither `Ite` nor quotient
+-- the facts that say of a term with neither `Ite` nor quotient that it is at least 0, or that it is 0
 abbrev pub sense_facts : Sense → List Variable → CTerm → Branch
 sense_facts Sense.AtLeast vs t = one_fact (linear vs t)
 sense_facts Sense.Zero vs t = two_facts (linear vs t) (negated vs (linear vs t))
 
 -- what it adds: where the term has a quotient, it waits
 abbrev pub sense_adds : Sense → List Variable → CTerm → Option Choice → Branch
-sense_adds sense vs t None = cond (has_quotient t) (one_waiting (sense_form sense t)) (sense_facts sense vs t)
-sense_adds sense vs t (Some c) = one_waiting (choice_form (sense_form sense) c)
+sense_adds sense vs t None = cond (has_quotient t) (one_waiting (sense_node sense t)) (sense_facts sense vs t)
+sense_adds sense vs t (Some c) = one_waiting (choice_form (sense_node sense) c)
 
 -- what `AtLeast` of a term adds: where it has a quotient, it waits
 abbrev pub least_adds : List Variable → CTerm → Option Choice → Branch

@@ -2,11 +2,12 @@
 // gone through within an ordinary stack.
 ghost use Rattle.std.specs.Prelude.{◌≡◌, IfOk, Some};
 ghost use Rattle.core_terms.specs.declared.trees.CTerm.TheVariants.{Scale, Div, Mod};
-ghost use Rattle.obligations.specs.Settling.{within, first_ite, pair_term};
+ghost use Rattle.obligations.specs.Settling.{within, first_ite};
+ghost use Rattle.core_terms.specs.Senses.{pair_node};
 
 use crate::branches::Choice;
-use crate::pairing::{Pairing, pair_term};
-use core_terms::{CForm, CTerm};
+use crate::pairing::pair_term;
+use core_terms::{CForm, CTerm, Pairing};
 use std::alloc::{AllocError, Global};
 use unity_base::{Held, Shared};
 
@@ -36,7 +37,7 @@ fn in_first(
     choice: Held<Choice>,
     b: &Shared<CTerm>,
 ) -> Result<Option<Held<Choice>>, AllocError>
-    ensures { IfOk result (λ o. o ≡ Some (within (λ x. pair_term which x b.now) choice)) }
+    ensures { IfOk result (λ o. o ≡ Some (within (λ x. pair_node which x b.now) choice)) }
 {
     let Choice { when, yes, no } = choice.into_inner();
     let yes = Shared::new(alloc, pair_term(which, yes, b.share()?))?;
@@ -52,7 +53,7 @@ fn in_second(
     a: &Shared<CTerm>,
     choice: Held<Choice>,
 ) -> Result<Option<Held<Choice>>, AllocError>
-    ensures { IfOk result (λ o. o ≡ Some (within (λ x. pair_term which a.now x) choice)) }
+    ensures { IfOk result (λ o. o ≡ Some (within (λ x. pair_node which a.now x) choice)) }
 {
     let Choice { when, yes, no } = choice.into_inner();
     let yes = Shared::new(alloc, pair_term(which, a.share()?, yes))?;
@@ -136,7 +137,7 @@ fn find_in_pair(
     a: &Shared<CTerm>,
     b: &Shared<CTerm>,
 ) -> Result<Option<Held<Choice>>, AllocError>
-    ensures { IfOk result (λ o. o ≡ first_ite (pair_term which a.now b.now)) }
+    ensures { IfOk result (λ o. o ≡ first_ite (pair_node which a.now b.now)) }
 {
     if let Some(choice) = find_choice(alloc, a.get())? {
         return in_first(alloc, which, choice, b);

@@ -3,11 +3,12 @@
 ghost use Rattle.std.specs.Prelude.{◌≡◌, IfOk, Some};
 ghost use Rattle.core_terms.specs.declared.trees.CTerm.TheVariants.{Param, Sub, Scale, Div, Mod};
 ghost use Rattle.meaning_states.specs.Division as division;
-ghost use Rattle.obligations.specs.Settling.{has_quotient, taken_within, first_taken, pair_term};
+ghost use Rattle.obligations.specs.Settling.{has_quotient, taken_within, first_taken};
+ghost use Rattle.core_terms.specs.Senses.{pair_node};
 
 use crate::branches::Taken;
-use crate::pairing::{Pairing, pair_term};
-use core_terms::{CForm, CTerm};
+use crate::pairing::pair_term;
+use core_terms::{CForm, CTerm, Pairing};
 use std::alloc::{AllocError, Global};
 use unity_base::{Held, Shared};
 
@@ -49,7 +50,7 @@ fn in_first(
     taken: Held<Taken>,
     b: &Shared<CTerm>,
 ) -> Result<Option<Held<Taken>>, AllocError>
-    ensures { IfOk result (λ o. o ≡ Some (taken_within (λ x. pair_term which x b.now) taken)) }
+    ensures { IfOk result (λ o. o ≡ Some (taken_within (λ x. pair_node which x b.now) taken)) }
 {
     let Taken { of, divisor, rest } = taken.into_inner();
     let whole = pair_term(which, rest, b.share()?);
@@ -64,7 +65,7 @@ fn in_second(
     a: &Shared<CTerm>,
     taken: Held<Taken>,
 ) -> Result<Option<Held<Taken>>, AllocError>
-    ensures { IfOk result (λ o. o ≡ Some (taken_within (λ x. pair_term which a.now x) taken)) }
+    ensures { IfOk result (λ o. o ≡ Some (taken_within (λ x. pair_node which a.now x) taken)) }
 {
     let Taken { of, divisor, rest } = taken.into_inner();
     let whole = pair_term(which, a.share()?, rest);
@@ -180,7 +181,7 @@ fn find_in_pair(
     a: &Shared<CTerm>,
     b: &Shared<CTerm>,
 ) -> Result<Option<Held<Taken>>, AllocError>
-    ensures { IfOk result (λ o. o ≡ first_taken v (pair_term which a.now b.now)) }
+    ensures { IfOk result (λ o. o ≡ first_taken v (pair_node which a.now b.now)) }
 {
     if let Some(taken) = find_quotient(alloc, v, a.get())? {
         return in_first(alloc, which, taken, b);

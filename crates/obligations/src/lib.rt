@@ -23,7 +23,7 @@ pub use branches::{Bound, Branch, Choice, Fact, Line, Obligation, Replaced, Take
 pub use certificates::{Cert, Node, units};
 pub use laws::{obligation_laws, settling_laws};
 pub use linear::{fact_from, factor_at, zero_line};
-pub use making::{TooLargeError, make, with_variables};
+pub use making::{TooLargeError, make, make_in, with_variables};
 pub use opening::open_branch;
 pub use quotients::{add_quotient, is_either, without_quotient};
 pub use scopes::{has_room, next_param, scope_of};

@@ -2,6 +2,7 @@
 ghost use Rattle.std.specs.Prelude.{
   ◌≡◌,
   ◌+◌,
+  ◌<◌,
   ◌^◌,
   ◌≤◌,
   ◌≤ℤ◌,
@@ -16,11 +17,14 @@ ghost use Rattle.std.specs.Prelude.{
   All,
   IfOk,
   IfErr,
+  Some,
+  slice_get,
 };
 ghost use Rattle.core_terms.specs.Sizes.{form_nodes};
 ghost use Rattle.core_terms.specs.Weights.{form_weight, slot_weight, place_weight};
 ghost use Rattle.core_terms.specs.Places.{form_slots, form_params};
 ghost use Rattle.core_terms.specs.declared.programs.CSlot.{CSlot};
+ghost use Rattle.core_terms.specs.declared.trees.CForm.{CForm};
 ghost use Rattle.core_terms.specs.declared.trees.Range.{Range};
 ghost use Rattle.obligations.specs.Opening.{Valid};
 ghost use Rattle.obligations.specs.Plain.{height_of};
@@ -31,7 +35,7 @@ use crate::branches::Obligation;
 use crate::occurrence::add_occurring;
 use crate::scopes::next_param;
 use crate::shapes::capped_height;
-use core_terms::{CForm, CSlot, Range, size_within, weight_of};
+use core_terms::{CForm, CSlot, FormId, Pool, Range, size_within, weight_of};
 use std::alloc::{AllocError, Global};
 use unity_base::Seq;
 
@@ -142,4 +146,33 @@ pub fn make(
     } else {
         Err(TooLargeError::Memory)
     }
+}
+
+/// The obligation that a formula of a pool holds, as `make` gives it. Of a formula of more than 65,536 nodes no more
+/// than its size is looked at.
+pub fn make_in(
+    alloc: Global,
+    pool: &Pool,
+    id: FormId,
+    slots: &[CSlot],
+    params: &[Range],
+) -> Result<Obligation, TooLargeError>
+    requires id { id.place < length pool.now.forms }
+    requires slots { (f : CForm) → slice_get pool.now.forms id.place ≡ Some f → form_slots f ≤ length slots.now }
+    requires params { (f : CForm) → slice_get pool.now.forms id.place ≡ Some f → form_params f ≤ length params.now }
+    requires slot_ranges { All (λ (s : CSlot). s.range.lo ≤ℤ s.range.hi) slots.now }
+    requires param_ranges { All (λ (r : Range). r.lo ≤ℤ r.hi) params.now }
+    ensures obligation { (f : CForm) → slice_get pool.now.forms id.place ≡ Some f →
+        IfOk result (λ o. o ≡ obligation_of f (slot_ranges slots.now) params.now) }
+    ensures makeable { IfOk result IsObligation }
+    ensures meaning { (f : CForm) → slice_get pool.now.forms id.place ≡ Some f →
+        IfOk result (λ o. Valid o → IsTrueInRanges f (slot_ranges slots.now) params.now) }
+    ensures too_large { (f : CForm) → slice_get pool.now.forms id.place ≡ Some f →
+        IfErr result (λ e. e ≡ TooLargeError.TooLarge →
+        is_within_limits (obligation_of f (slot_ranges slots.now) params.now) ≡ false) }
+{
+    if pool.form_size(id) > 65_536 {
+        return Err(TooLargeError::TooLarge);
+    }
+    make(alloc, pool.form(id)?, slots, params)
 }

@@ -14,8 +14,8 @@ use crate::first_choice::find_choice;
 use crate::first_quotient::has_quotient;
 use crate::linear::{fact_from, line_of, negative_of};
 use crate::scopes::scope_of;
-use crate::waiting::{Sense, apart, below, form_of, negation_of, sense_choice, unequal_choice};
-use core_terms::{CForm, CTerm, copy_term};
+use crate::waiting::{apart, below, form_of, negation_of, sense_choice, unequal_choice};
+use core_terms::{CForm, CTerm, Sense, copy_term};
 use std::alloc::{AllocError, Global};
 use unity_base::{Held, Seq, Shared};
 

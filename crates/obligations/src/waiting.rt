@@ -2,10 +2,11 @@
 ghost use Rattle.std.specs.Prelude.{◌≡◌, pos, negsuc, IfOk};
 ghost use Rattle.core_terms.specs.declared.trees.CTerm.TheVariants.{Const, Sub};
 ghost use Rattle.core_terms.specs.declared.trees.CForm.TheVariants.{AtLeast, Zero, Not, And, Or};
-ghost use Rattle.obligations.specs.Settling.{below_zero, sense_form, choice_form};
+ghost use Rattle.core_terms.specs.Senses.{sense_node};
+ghost use Rattle.obligations.specs.Settling.{below_zero, choice_form};
 
 use crate::branches::Choice;
-use core_terms::{CForm, CTerm, held_term, owned_term};
+use core_terms::{CForm, CTerm, Sense, held_term, owned_term};
 use std::alloc::{AllocError, Global};
 use unity_base::{Held, Shared};
 
@@ -42,16 +43,9 @@ fn choose(
     Shared::new(alloc, CForm::Or(first, second))
 }
 
-/// Of a term, that it is at least 0, or that it is 0.
-#[derive(Clone, Copy)]
-pub enum Sense {
-    AtLeast,
-    Zero,
-}
-
-/// The formula that says so.
+/// That a term is at least 0, or that it is 0, in a place of its own.
 pub fn form_of(alloc: Global, sense: Sense, t: CTerm) -> Result<Shared<CForm>, AllocError>
-    ensures { IfOk result (λ f. f ≡ sense_form sense t) }
+    ensures { IfOk result (λ f. f ≡ sense_node sense t) }
 {
     let form = match sense {
         Sense::AtLeast => CForm::AtLeast(t),
@@ -66,7 +60,7 @@ pub fn sense_choice(
     sense: Sense,
     choice: Held<Choice>,
 ) -> Result<Shared<CForm>, AllocError>
-    ensures { IfOk result (λ f. f ≡ choice_form (sense_form sense) choice) }
+    ensures { IfOk result (λ f. f ≡ choice_form (sense_node sense) choice) }
 {
     let Choice { when, yes, no } = choice.into_inner();
     let yes = form_of(alloc, sense, owned_term(alloc, yes)?)?;

@@ -7,7 +7,6 @@ pub mod ExpressionLaws
 pub mod AssignmentLaws
 pub mod DocumentLaws
 pub mod Choices
-pub mod ChoicesKept
 pub mod TreeLaws
 pub mod VersionLaws
 pub mod OnlyTimesLaws

@@ -8,11 +8,9 @@ use Rattle.case_tables.specs.declared.word_table.Word.TheVariants.{Unity}
 use Rattle.unity_syntax.specs.declared.token.Token.{Token}
 use Rattle.unity_syntax.specs.declared.token.TokenKind.{TokenKind}
 use Rattle.unity_syntax.specs.Classes.{class_of, class_of_reserved, says_later, symbol, terminals}
-use Rattle.unity_syntax.specs.Grammar.{grammar}
 use Rattle.upgraded_texts.proofs.Versions.{Begins, begins}
 use Rattle.plain_quotients.specs.Laws.{EarlierHasOnlyTimes, FirstHasOnlyTimes}
 use Rattle.plain_quotients.proofs.Choices.{IsNot, NoClass, choices_none}
-use Rattle.plain_quotients.proofs.ChoicesKept.{bodies_keep, document_keeps}
 use Rattle.plain_quotients.proofs.TreeLaws.{divisions, document_only}
 
 -- no token of such a text is of the class of one of the two words
@@ -49,7 +47,7 @@ first_says later bytes (t ∷ u ∷ rest) e = ap (λ n. n == 2) e
 
 pub earlier_has_only_times : EarlierHasOnlyTimes
 earlier_has_only_times bytes d is first =
-    document_only d (choices_none divisions grammar (bodies_keep divisions) is.parsed.0 (document_keeps divisions)
+    document_only d (choices_none divisions is.parsed.0
     (subst (λ b. NoClass divisions (terminals b bytes is.tokens)) (sym first) (none_is bytes is.tokens)))
 
 pub first_has_only_times : FirstHasOnlyTimes

@@ -6,7 +6,7 @@ use Rattle.obligations.specs.declared.branches.Obligation.{Obligation}
 use Rattle.obligations.specs.Plain.{enough}
 use Rattle.proof_script.specs.Laws.{EnoughSuffices}
 use Rattle.proof_script.specs.Proving.{enough_for}
-use Rattle.proof_script.specs.Reaching.{reach_of, reached}
+use Rattle.proof_plans.specs.Reaching.{reach_of, reached}
 
 sum_first : (n : ℕ) (ns : List ℕ) → sum (n ∷ ns) ≡ n + sum ns
 sum_first n ns = grind (arith, common_steps)

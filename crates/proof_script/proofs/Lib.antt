@@ -1,13 +1,4 @@
-pub mod BookLaws
 pub mod BudgetLaws
-pub mod Equations
-pub mod FollowLaws
-pub mod LoopLaws
-pub mod MadeLaws
-pub mod PlanLaws
-pub mod ReachLaws
-pub mod RuleLaws
 pub mod SearchLaws
 pub mod SomeLaws
-pub mod VerdictLaws
-pub mod WalkLaws
+pub mod TellingLaws

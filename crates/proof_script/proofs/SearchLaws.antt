@@ -5,7 +5,6 @@ use Rattle.std.proofs.Common.{append_assoc, arith, length-append}
 use Rattle.std.specs.Prelude.{All, sum}
 use Rattle.std.specs.List.{list_all}
 use Rattle.std.specs.Result.{IsErrAnd}
-use Rattle.std.proofs.lemmas.List.{length-map}
 use Rattle.std.proofs.lemmas.List.Elements.{All-nil, All-push}
 use Rattle.std.proofs.lemmas.Grind.{common_steps}
 use Rattle.core_terms.specs.declared.documents.CDocument.{CDocument}
@@ -19,25 +18,26 @@ use Rattle.obligations.specs.Plain.{enough}
 use Rattle.certificate_rules.specs.Trees.{is_whole}
 use Rattle.certificate_rules.proofs.SoundLaws.{sound}
 use Rattle.certificate_rules.proofs.WholeLaws.{more-levels}
-use Rattle.fair_rounds.specs.declared.records.Record.{Record}
 use Rattle.linear_prover.specs.Chains.{is_plain_node}
 use Rattle.search_tree.specs.Searching.{Proof, Counterexample, Partial, is_found_node}
 use Rattle.rules_table.proofs.EachLaws.{Each, each_parts, from_all}
-use Rattle.safety_rules.specs.declared.places.Derived.{Derived}
-use Rattle.proof_script.specs.declared.plans.Plan.{Plan}
-use Rattle.proof_script.specs.declared.plans.StepFault.{StepFault}
-use Rattle.proof_script.specs.declared.refuting.StepName.{StepName}
+use Rattle.proof_plans.specs.declared.plans.Plan.{Plan}
+use Rattle.proof_plans.specs.declared.plans.StepFault.{StepFault}
 use Rattle.proof_script.specs.declared.finding.Finding.{Finding}
 use Rattle.proof_script.specs.declared.finding.Halt.{Halt}
 use Rattle.proof_script.specs.Proving.{units_of, enough_for, IsWithoutQuotient, ComesAtNumber, IsFalse, IsOwner}
-use Rattle.proof_script.specs.Proving.{ProvedWithin}
+use Rattle.proof_script.specs.declared.plans.Proof as found
+use Rattle.proof_script.specs.Proving.{Finds, ProvedWithin}
 use Rattle.proof_script.specs.Proving.{BudgetIsShort}
 use Rattle.proof_script.specs.Proving.{IsStopped}
-use Rattle.proof_script.specs.Reaching.{Stop, Reach, reach_of, reached}
-use Rattle.proof_script.specs.Searches.{ShownAt, AreShown, HasCertificates, Searches, IsUnderWay, SearchGoes}
-use Rattle.proof_script.specs.Verdicts.{grown, most_levels, no_plan}
+use Rattle.event_judge.specs.Judges.{IsOwned}
+use Rattle.proof_plans.specs.Planning.{reach_from}
+use Rattle.proof_plans.specs.Reaching.{Reach, reach_of, reached}
+use Rattle.proof_plans.specs.Shown.{ShownAt, AreShown}
+use Rattle.proof_script.specs.Searches.{HasCertificates, Searches}
+use Rattle.proof_plans.specs.Verdicts.{most_levels}
 use Rattle.rules_steps.proofs.ItemLaws.{to_all}
-use Rattle.proof_script.proofs.ReachLaws.{Extends, accepted, shown_join}
+use Rattle.proof_plans.proofs.ReachLaws.{accepted, shown_join}
 
 -- lists
 
@@ -171,59 +171,45 @@ found_one before o cert old new h is proof certs left budget =
         one ≤ last → all ≤ needs
     cheap_is all before one needs first last e g h k = omega (arith, e, g, h, k)
 
-abbrev comes_next : (before : List Obligation) (o : Obligation) (old : Finding) (number : ℕ) →
-    HasCertificates before old →
-    number ≡ length old.certs + 1 → ComesAtNumber (before ++ o ∷ []) number o
-comes_next before o old number h e = record {
+abbrev comes_next : (before : List Obligation) (o : Obligation) (old : Finding) (place : ℕ) →
+    HasCertificates before old → place ≡ length old.certs → ComesAtNumber (before ++ o ∷ []) (place + 1) o
+comes_next before o old place h e = record {
   front = before;
   rest = [];
   parts = refl;
-  numbered = e ∙ ap (λ n. n + 1) h.count;
+  numbered = ap (λ n. n + 1) (e ∙ h.count);
   valid = all_valid before old h;
 }
 
-is_next : (before : List Obligation) (old : Finding) (number : ℕ) → HasCertificates before old →
-    number ≡ length old.certs + 1 → length before < number
-is_next before old number h e = let count = h.count in omega (arith, count, e)
+pub refuted_one : (before : List Obligation) (o : Obligation) (old new : Finding) (place : ℕ) (values : List ℤ) →
+    HasCertificates before old → Counterexample o values → place ≡ length old.certs → new.variables ≡ o.variables →
+    new.values ≡ values → Searches (Err (Halt.Refuted place)) before (o ∷ []) old new
+refuted_one before o old new place values h counters e variables same = record {
+  obligation = o;
+  comes = comes_next before o old place h e;
+  variables_are = variables;
+  fails = subst (λ (zs : List ℤ). Counterexample o zs) (sym same) counters;
+}
 
-pub refuted_one : (name : StepName) (before : List Obligation) (o : Obligation) (old new : Finding) (number : ℕ)
-    (values : List ℤ) → HasCertificates before old → Counterexample o values → number ≡ length old.certs + 1 →
-    new.variables ≡ o.variables → new.values ≡ values →
-    Searches (Err (Halt.Refuted name number)) name before (o ∷ []) old new
-refuted_one name before o old new number values h counters e variables same = (
-  refl,
-  is_next before old number h e,
-  record {
-    obligation = o;
-    comes = comes_next before o old number h e;
-    variables_are = variables;
-    fails = subst (λ (zs : List ℤ). Counterexample o zs) (sym same) counters;
-  },
-)
-
-pub short_by : (name : StepName) (before : List Obligation) (o : Obligation) (old new : Finding) (number : ℕ) →
-    HasCertificates before old → old.left < enough o → number ≡ length old.certs + 1 →
-    Searches (Err (Halt.Short name number)) name before (o ∷ []) old new
-short_by name before o old new number h small e =
+pub short_by : (before : List Obligation) (o : Obligation) (old new : Finding) (place : ℕ) →
+    HasCertificates before old → old.left < enough o → place ≡ length old.certs →
+    Searches (Err (Halt.Short place)) before (o ∷ []) old new
+short_by before o old new place h small e =
     let spent = h.spent in
-    let cheap = h.cheap in (
-      refl,
-      is_next before old number h e,
-      record {
-        obligation = o;
-        comes = comes_next before o old number h e;
-        short = less (units_of old.certs) old.left old.budget (enough_for before) (enough o) spent cheap small;
-      },
-    )
+    let cheap = h.cheap in record {
+      obligation = o;
+      comes = comes_next before o old place h e;
+      short = less (units_of old.certs) old.left old.budget (enough_for before) (enough o) spent cheap small;
+    }
   where
     less : (spent left budget first last : ℕ) → spent + left ≡ budget → spent ≤ first → left < last →
         budget < first + last
     less spent left budget first last e g h = omega (arith, e, g, h)
 
-pub short_one : (name : StepName) (before : List Obligation) (o : Obligation) (old new : Finding) (number : ℕ)
-    (cert : Cert) → HasCertificates before old → Partial o old.left cert.nodes → number ≡ length old.certs + 1 →
-    Searches (Err (Halt.Short name number)) name before (o ∷ []) old new
-short_one name before o old new number cert h part e = short_by name before o old new number h part.small e
+pub short_one : (before : List Obligation) (o : Obligation) (old new : Finding) (place : ℕ) (cert : Cert) →
+    HasCertificates before old → Partial o old.left cert.nodes → place ≡ length old.certs →
+    Searches (Err (Halt.Short place)) before (o ∷ []) old new
+short_one before o old new place cert h part e = short_by before o old new place h part.small e
 
 -- where a search stops among some obligations, it stops there among more
 
@@ -254,28 +240,10 @@ short_more os all more number budget e h = record {
   short = h.short;
 }
 
-owner_more : (p q : Plan) (number program step : ℕ) → Extends p q → IsOwner p number program step →
-    IsOwner q number program step
-owner_more p q number program step e h = record {
-  place = h.place;
-  at = h.at;
-  made = h.made;
-  numbered = h.numbered;
-  owner = subst (λ (ns : List ℕ). slice_get ns h.place ≡ Some h.at) (sym e.owner.1)
-      (got_more p.owner e.owner.0 h.place h.at h.owner);
-  there = subst (λ (rs : List Record). slice_get rs h.at ≡ Some h.made) (sym e.records.1)
-      (got_more p.records e.records.0 h.at h.made h.there);
-  program_is = h.program_is;
-  step_is = h.step_is;
-}
-
 pub halted_on : {T : Type 0} (P : Result T Halt → Type 0) (r : Result T Halt) (e : Halt) →
     IsErrAnd r (λ x. x ≡ e) → P (Err e) → P r
 halted_on P (Err x) e h p = subst (λ y. P (Err y)) (sym h) p
 halted_on P (Ok x) e h p = absurd h
-
-later : (before taken : List Obligation) (number : ℕ) → length (before ++ taken) < number → length before < number
-later before taken number h = let long = length-append before taken in omega (arith, long, h)
 
 whole : (before taken os all more : List Obligation) → all ≡ taken ++ (os ++ more) →
     before ++ all ≡ ((before ++ taken) ++ os) ++ more
@@ -285,138 +253,32 @@ whole before taken os all more e =
     ∙ sym (append_assoc (before ++ taken) os more)
 
 -- `taken` were taken before those in which it stops, and `more` come after these
-pub search_more : (e : Halt) (name : StepName) (before taken os all more : List Obligation) (first old new : Finding) →
-    all ≡ taken ++ (os ++ more) → old.budget ≡ first.budget → Searches (Err e) name (before ++ taken) os old new →
-    Searches (Err e) name before all first new
-search_more (Halt.Step fault) name before taken os all more first old new e b h = h
-search_more (Halt.Refuted step number) name before taken os all more first old new e b h = (
-  h.0,
-  later before taken number h.1,
-  false_more ((before ++ taken) ++ os) (before ++ all) more number new.variables new.values
-      (whole before taken os all more e) h.2,
-)
-search_more (Halt.Short step number) name before taken os all more first old new e b h = (
-  h.0,
-  later before taken number h.1,
-  subst (λ (n : ℕ). BudgetIsShort (before ++ all) number n) b
-      (short_more ((before ++ taken) ++ os) (before ++ all) more number old.budget
-      (whole before taken os all more e) h.2),
-)
-search_more Halt.Memory name before taken os all more first old new e b h = tt
-
--- a halt in a part is one of the whole
-pub halts_whole : (e : Halt) (first old new : Finding) (p q : Plan) (one whole : Reach) →
-    Extends (reached one) (reached whole) → ((stop : Stop) → one ≡ Err stop → whole ≡ Err stop) →
-    old.budget ≡ first.budget → SearchGoes (Err e) old p new one → SearchGoes (Err e) first q new whole
-halts_whole (Halt.Step fault) first old new p q one whole more stops b h = record {
-  plan = h.plan;
-  stops = stops (record { plan = h.plan; fault = fault }) h.stops;
-  valid = h.valid;
-}
-halts_whole (Halt.Refuted step number) first old new p q one whole more stops b h = (
-  false_more (reached one).obligations (reached whole).obligations more.obligations.0 number new.variables new.values
-      more.obligations.1 h.0,
-  owner_more (reached one) (reached whole) number step.program step.step more h.1,
-)
-halts_whole (Halt.Short step number) first old new p q one whole more stops b h = (
-  subst (λ (n : ℕ). BudgetIsShort (reached whole).obligations number n) b
-      (short_more (reached one).obligations (reached whole).obligations more.obligations.0 number old.budget
-      more.obligations.1 h.0),
-  owner_more (reached one) (reached whole) number step.program step.step more h.1,
-)
-halts_whole Halt.Memory first old new p q one whole more stops b h = tt
-
--- a step's obligations
-
-got_place : {X : Type 0} (xs : List X) (n k : ℕ) → k < length xs → slice_get (map (λ (x : X). n) xs) k ≡ Some n
-got_place [] n k h = absurd (omega arith)
-got_place (x ∷ xs) n zero h = refl
-got_place (x ∷ xs) n (suc k) h = got_place xs n k (omega (arith, h))
-
-got_owner : {X : Type 0} (ns : List ℕ) (xs : List X) (n k : ℕ) → length ns ≤ k → k < length ns + length xs →
-    slice_get (ns ++ map (λ (x : X). n) xs) k ≡ Some n
-got_owner [] xs n k h l = got_place xs n k (omega (arith, l))
-got_owner (m ∷ ns) xs n zero h l = absurd (omega arith)
-got_owner (m ∷ ns) xs n (suc k) h l = got_owner ns xs n k (omega (arith, h)) (omega (arith, l))
-
-owned_by : (plan : Plan) (d : Derived) (name : StepName) (number : ℕ) (o : Obligation) →
-    length plan.owner ≡ length plan.obligations → d.made.program ≡ name.program → d.made.name ≡ name.step →
-    length plan.obligations < number → ComesAtNumber (plan.obligations ++ d.obligations) number o →
-    IsOwner (grown plan d) number name.program name.step
-owned_by plan d name number o owned program step after h =
-    let all = length-append plan.obligations d.obligations in
-    let parts = ap (λ (xs : List Obligation). length xs) h.parts in
-    let long = length-append h.front (o ∷ h.rest) in
-    let numbered = h.numbered in
-    record {
-      place = length h.front;
-      at = length plan.records;
-      made = d.made;
-      numbered = numbered;
-      owner = got_owner plan.owner d.obligations (length plan.records) (length h.front)
-          (omega (arith, owned, after, numbered)) (omega (arith, owned, all, parts, long));
-      there = got_next plan.records d.made [];
-      program_is = program;
-      step_is = step;
-    }
-
-pub step_halts : (e : Halt) (plan p : Plan) (d : Derived) (name : StepName) (old new : Finding) →
-    length plan.owner ≡ length plan.obligations → d.made.program ≡ name.program → d.made.name ≡ name.step →
-    Searches (Err e) name plan.obligations d.obligations old new → SearchGoes (Err e) old p new (Ok (grown plan d))
-step_halts (Halt.Step fault) plan p d name old new owned program step h = absurd h
-step_halts (Halt.Refuted called number) plan p d name old new owned program step h =
-    let of : IsOwner (grown plan d) number name.program name.step =
-    owned_by plan d name number h.2.obligation owned program step h.1 h.2.comes in
-    (h.2, subst (λ (n : StepName). IsOwner (grown plan d) number n.program n.step) (sym h.0) of)
-step_halts (Halt.Short called number) plan p d name old new owned program step h =
-    let of : IsOwner (grown plan d) number name.program name.step =
-    owned_by plan d name number h.2.obligation owned program step h.1 h.2.comes in
-    (h.2, subst (λ (n : StepName). IsOwner (grown plan d) number n.program n.step) (sym h.0) of)
-step_halts Halt.Memory plan p d name old new owned program step h = tt
-
-pub step_done : (plan p : Plan) (d : Derived) (old new : Finding) → p ≡ grown plan d →
-    length plan.owner ≡ length plan.obligations → HasCertificates (plan.obligations ++ d.obligations) new →
-    new.budget ≡ old.budget → SearchGoes (Ok tt) old p new (Ok (grown plan d))
-step_done plan p d old new e owned found budget =
-    let owners = length-append plan.owner (map (λ (o : Obligation). length plan.records) d.obligations) in
-    let mapped : length (map (λ (o : Obligation). length plan.records) d.obligations) ≡ length d.obligations =
-    length-map d.obligations (λ (o : Obligation). length plan.records) in
-    let all = length-append plan.obligations d.obligations in (
-      ap (λ x. Ok x) (sym e),
-      subst (λ (x : Plan). IsUnderWay x new) (sym e) (record {
-        found = found;
-        owned = omega (arith, owners, mapped, all, owned);
-      }),
-      budget,
-    )
-
--- a rule that fails
-pub stops_at : (plan : Plan) (f : Finding) (fault : StepFault) (r : Reach) → IsUnderWay plan f →
-    r ≡ Err (record { plan = plan; fault = fault }) → IsStopped r fault
-stops_at plan f fault r h e = record {
-  plan = plan;
-  stops = e;
-  valid = all_valid plan.obligations f h.found;
-}
+pub search_more : (e : Halt) (before taken os all more : List Obligation) (first old new : Finding) →
+    all ≡ taken ++ (os ++ more) → old.budget ≡ first.budget → Searches (Err e) (before ++ taken) os old new →
+    Searches (Err e) before all first new
+search_more (Halt.Refuted place) before taken os all more first old new e b h =
+    false_more ((before ++ taken) ++ os) (before ++ all) more (place + 1) new.variables new.values
+    (whole before taken os all more e) h
+search_more (Halt.Short place) before taken os all more first old new e b h =
+    subst (λ (n : ℕ). BudgetIsShort (before ++ all) (place + 1) n) b
+    (short_more ((before ++ taken) ++ os) (before ++ all) more (place + 1) old.budget
+    (whole before taken os all more e) h)
+search_more Halt.Memory before taken os all more first old new e b h = tt
 
 -- a search at its begin, and at its end
 
-pub begins : (budget : ℕ) (plan : Plan) (f : Finding) → plan ≡ no_plan →
-    f ≡ record { budget = budget; left = budget; certs = []; variables = []; values = [] } → IsUnderWay plan f
-begins budget plan f e h =
-    subst (λ p. IsUnderWay p f) (sym e) (subst (λ x. IsUnderWay no_plan x) (sym h) (record {
-      found = record {
-        makeable = All-nil IsObligation;
-        count = refl;
-        shown = tt;
-        whole = All-nil (λ (c : Cert). is_whole c.nodes 1 ≡ true);
-        found = All-nil (λ (c : Cert). list_all is_found_node c.nodes ≡ true);
-        plain = λ none. All-nil (λ (c : Cert). list_all is_plain_node c.nodes ≡ true);
-        spent = none_spent budget;
-        cheap = none_needed;
-      };
-      owned = refl;
-    }))
+pub begins : (budget : ℕ) (f : Finding) →
+    f ≡ record { budget = budget; left = budget; certs = []; variables = []; values = [] } → HasCertificates [] f
+begins budget f e = subst (λ x. HasCertificates [] x) (sym e) (record {
+  makeable = All-nil IsObligation;
+  count = refl;
+  shown = tt;
+  whole = All-nil (λ (c : Cert). is_whole c.nodes 1 ≡ true);
+  found = All-nil (λ (c : Cert). list_all is_found_node c.nodes ≡ true);
+  plain = λ none. All-nil (λ (c : Cert). list_all is_plain_node c.nodes ≡ true);
+  spent = none_spent budget;
+  cheap = none_needed;
+})
   where
     none_spent : (n : ℕ) → sum [] + n ≡ n
     none_spent n = grind (arith, common_steps)
@@ -425,19 +287,74 @@ begins budget plan f e h =
     none_needed = omega arith
 
 pub proved_by : (d : CDocument) (budget : ℕ) (plan : Plan) (f : Finding) → reach_of d ≡ Ok plan →
-    IsUnderWay plan f → f.budget ≡ budget → ProvedWithin d budget plan f.certs
+    HasCertificates plan.obligations f → f.budget ≡ budget → ProvedWithin d budget plan f.certs
 proved_by d budget plan f e h same =
-    let count = h.found.count in
-    let spent = h.found.spent in
+    let count = h.count in
+    let spent = h.spent in
     record {
       verdict = accepted d f.certs plan e
-          (more_shown 1024 (most_levels d.version) (least_levels d.version) f.certs 0 plan.obligations h.found.shown)
+          (more_shown 1024 (most_levels d.version) (least_levels d.version) f.certs 0 plan.obligations h.shown)
           (omega (arith, count));
       within = few (units_of f.certs) f.left f.budget budget spent same;
-      whole = h.found.whole;
-      found = h.found.found;
-      plain = λ none. h.found.plain (subst (λ r. All IsWithoutQuotient (reached r).obligations) e none);
+      whole = h.whole;
+      found = h.found;
+      plain = λ none. h.plain (subst (λ r. All IsWithoutQuotient (reached r).obligations) e none);
     }
   where
     few : (all left had budget : ℕ) → all + left ≡ had → had ≡ budget → all ≤ budget
     few all left had budget e h = omega (arith, e, h)
+
+pub stopped_by : (r : Reach) (plan : Plan) (f : Finding) (fault : StepFault) → r ≡ reach_from plan (Some fault) →
+    HasCertificates plan.obligations f → IsStopped r fault
+stopped_by r plan f fault e h = record {
+  plan = plan;
+  stops = e;
+  valid = all_valid plan.obligations f h;
+}
+
+-- where it stops
+
+come_within : (os : List Obligation) (place : ℕ) (o : Obligation) → ComesAtNumber os (place + 1) o → place < length os
+come_within os place o h =
+    let parts = ap (λ (xs : List Obligation). length xs) h.parts in
+    let long = length-append h.front (o ∷ h.rest) in
+    let numbered = h.numbered in omega (arith, parts, long, numbered)
+
+-- an obligation is false at its place, or the budget is short there
+pub false_within : (os : List Obligation) (place : ℕ) (variables : List Variable) (values : List ℤ) →
+    IsFalse os (place + 1) variables values → place < length os
+false_within os place variables values h = come_within os place h.obligation h.comes
+
+pub short_within : (os : List Obligation) (place budget : ℕ) → BudgetIsShort os (place + 1) budget → place < length os
+short_within os place budget h = come_within os place h.obligation h.comes
+
+-- the step that leaves it
+pub owner_is : (plan : Plan) (place program step : ℕ) (owned : IsOwned plan place) → program ≡ owned.0.program →
+    step ≡ owned.0.name → IsOwner plan (place + 1) program step
+owner_is plan place program step owned e h = record {
+  place = place;
+  at = owned.1.place;
+  made = owned.0;
+  numbered = refl;
+  owner = owned.1.owner;
+  there = owned.1.record_is;
+  program_is = sym e;
+  step_is = sym h;
+}
+
+pub finds_false : (d : CDocument) (budget : ℕ) (plan : Plan) (place program step number : ℕ)
+    (variables : List Variable) (values : List ℤ) → reached (reach_of d) ≡ plan → number ≡ place + 1 →
+    IsFalse plan.obligations (place + 1) variables values → IsOwner plan (place + 1) program step →
+    Finds d budget (Ok (found.Proof.Refuted program step number variables values))
+finds_false d budget plan place program step number variables values same e h o =
+    subst (λ (n : ℕ). Finds d budget (Ok (found.Proof.Refuted program step n variables values))) (sym e)
+    (subst (λ (p : Plan). IsFalse p.obligations (place + 1) variables values × IsOwner p (place + 1) program step)
+    (sym same) (h, o))
+
+pub finds_short : (d : CDocument) (budget : ℕ) (plan : Plan) (place program step number : ℕ) →
+    reached (reach_of d) ≡ plan → number ≡ place + 1 → BudgetIsShort plan.obligations (place + 1) budget →
+    IsOwner plan (place + 1) program step → Finds d budget (Ok (found.Proof.Budget program step number))
+finds_short d budget plan place program step number same e h o =
+    subst (λ (n : ℕ). Finds d budget (Ok (found.Proof.Budget program step n))) (sym e)
+    (subst (λ (p : Plan). BudgetIsShort p.obligations (place + 1) budget × IsOwner p (place + 1) program step)
+    (sym same) (h, o))

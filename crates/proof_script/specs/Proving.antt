@@ -12,13 +12,13 @@ use Rattle.obligations.specs.Plain.{enough, quotients_in}
 use Rattle.fair_rounds.specs.declared.records.Record.{Record}
 use Rattle.linear_prover.specs.Chains.{is_plain_node}
 use Rattle.search_tree.specs.Searching.{Counterexample, is_found_node}
-use Rattle.proof_script.specs.declared.plans.Plan.{Plan}
-use Rattle.proof_script.specs.declared.plans.StepFault.{StepFault}
-use Rattle.proof_script.specs.declared.plans.ScriptError.{ScriptError}
+use Rattle.proof_plans.specs.declared.plans.Plan.{Plan}
+use Rattle.proof_plans.specs.declared.plans.StepFault.{StepFault}
+use Rattle.proof_plans.specs.declared.plans.ScriptError.{ScriptError}
 use Rattle.proof_script.specs.declared.plans.Proof.{Proof}
-use Rattle.proof_script.specs.Giving.{AreWhole}
-use Rattle.proof_script.specs.Reaching.{Reach, reach_of, reached}
-use Rattle.proof_script.specs.Verdicts.{verdict_of}
+use Rattle.proof_plans.specs.Giving.{AreWhole}
+use Rattle.proof_plans.specs.Reaching.{Reach, reach_of, reached}
+use Rattle.proof_plans.specs.Verdicts.{verdict_of}
 
 -- the units of all certificates together
 abbrev pub units_of : List Cert → ℕ

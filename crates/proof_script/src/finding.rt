@@ -5,8 +5,6 @@ ghost use Rattle.obligations.specs.Obligations.{IsObligation};
 ghost use Rattle.obligations.specs.declared.branches.Obligation.{Obligation};
 ghost use Rattle.proof_script.specs.Searches.{HasCertificates, Searches};
 
-use crate::plans::StepFault;
-use crate::refuting::StepName;
 use obligations::{Cert, Obligation, Variable, units};
 use proof_search::{Found, search};
 use std::alloc::{AllocError, Global};
@@ -26,12 +24,10 @@ pub(crate) struct Finding {
 /// Why a search stops.
 #[derive(Clone, Copy)]
 pub(crate) enum Halt {
-    /// A rule fails, or a proof has no `defined` step.
-    Step(StepFault),
-    /// The obligation of this number, from 1, is not valid.
-    Refuted(StepName, u64),
-    /// The budget ended at the obligation of this number, from 1.
-    Short(StepName, u64),
+    /// The obligation at this place, from 0, is not valid.
+    Refuted(usize),
+    /// The budget ended at the obligation at this place, from 0.
+    Short(usize),
     /// Memory was refused.
     Memory,
 }
@@ -69,17 +65,12 @@ fn keep(cert: Cert, finding: &mut Finding) -> Result<(), AllocError>
 }
 
 // One obligation.
-fn find(
-    alloc: Global,
-    name: StepName,
-    obligation: &Obligation,
-    finding: &mut Finding,
-) -> Result<(), Halt>
+fn find(alloc: Global, obligation: &Obligation, finding: &mut Finding) -> Result<(), Halt>
     requires { IsObligation obligation.now }
     ensures { (before : List Obligation) → HasCertificates before finding.old →
-        Searches result name before (obligation.now ∷ []) finding.old finding.new }
+        Searches result before (obligation.now ∷ []) finding.old finding.new }
 {
-    let number = finding.certs.as_slice().len() as u64 + 1;
+    let place = finding.certs.as_slice().len();
     match search(alloc, obligation, finding.left) {
         Ok(Found::Proved(cert)) => {
             keep(cert, finding)?;
@@ -88,26 +79,25 @@ fn find(
         Ok(Found::Refuted { values }) => {
             finding.values = values;
             finding.variables = variables_of(alloc, obligation)?;
-            Err(Halt::Refuted(name, number))
+            Err(Halt::Refuted(place))
         }
-        Ok(Found::Budget { .. }) => Err(Halt::Short(name, number)),
+        Ok(Found::Budget { .. }) => Err(Halt::Short(place)),
         Err(_) => Err(Halt::Memory),
     }
 }
 
-// The obligations of a step, in order.
+// Obligations, in order.
 pub(crate) fn find_all(
     alloc: Global,
-    name: StepName,
     obligations: &[Obligation],
     finding: &mut Finding,
 ) -> Result<(), Halt>
     requires { All IsObligation obligations.now }
     ensures { (before : List Obligation) → HasCertificates before finding.old →
-        Searches result name before obligations.now finding.old finding.new }
+        Searches result before obligations.now finding.old finding.new }
 {
     for obligation in obligations {
-        find(alloc, name, obligation, finding)?;
+        find(alloc, obligation, finding)?;
     }
     Ok(())
 }

@@ -1,20 +1,16 @@
 //! The check of a document's proofs against its certificates, and the search for certificates.
 #![tactic(auto)]
 
-mod adding;
 mod checking;
 mod finding;
 mod laws;
-mod planning;
 mod plans;
-mod programs;
 mod proving;
-mod refuting;
-mod walking;
+mod telling;
 
 pub use checking::check;
-pub use laws::{search_laws, verdict_laws};
-pub use planning::{Planned, plan_by_rules, walk};
-pub use plans::{Plan, Proof, ScriptError, StepFault};
+pub use event_judge::Judge;
+pub use laws::search_laws;
+pub use plans::Proof;
+pub use proof_plans::{Plan, ScriptError, StepFault, walk};
 pub use proving::prove;
-pub use refuting::most_levels;

@@ -1,11 +1,11 @@
 //! What is asked of nodes before they are judged: that they are one tree, and that their numbers are limited.
-ghost use Rattle.std.specs.Prelude.{◌≡◌, ◌^◌, true};
+ghost use Rattle.std.specs.Prelude.{◌≡◌, true};
 ghost use Rattle.std.specs.List.{list_all};
 ghost use Rattle.obligations.specs.Certificates.{arity};
 ghost use Rattle.certificate_rules.specs.Trees.{is_whole};
-ghost use Rattle.linear_prover.specs.Chains.{is_plain_number, is_plain_pair};
 ghost use Rattle.search_tree.specs.Searching.{is_found_node};
 
+use linear_prover::{are_plain_pairs, is_plain_number};
 use obligations::Node;
 
 /// How many subtrees a node has.
@@ -37,20 +37,6 @@ pub fn is_tree(nodes: &[Node]) -> bool
         }
     }
     open == 0
-}
-
-/// Whether a number is within plus or minus 2^62.
-fn is_plain_number(number: &i64) -> bool
-    ensures { result ≡ is_plain_number number.now }
-{
-    number.unsigned_abs() <= 1 << 62
-}
-
-/// Whether all multipliers are.
-fn are_plain_pairs(pairs: &[(i64, u64)]) -> bool
-    ensures { result ≡ list_all is_plain_pair pairs.now }
-{
-    pairs.iter().all(|pair| is_plain_number(&pair.0))
 }
 
 /// Whether a node is one that a search can write.

@@ -15,16 +15,16 @@ use Rattle.rules_table.specs.Walk.{Around, has_defined, program_of, rule_of}
 use Rattle.safety_rules.specs.declared.places.Derived.{Derived}
 use Rattle.safety_rules.specs.Answers.{derived_of}
 use Rattle.rules_steps.specs.Starts.{document_seen}
-use Rattle.proof_script.specs.declared.plans.Plan.{Plan}
-use Rattle.proof_script.specs.declared.plans.StepFault.{StepFault}
-use Rattle.proof_script.specs.Reaching.{Reach, further, by_row, steps_reach, end_reach, proof_reach}
-use Rattle.proof_script.specs.Reaching.{proofs_reach, reach_of, reached}
-use Rattle.proof_script.specs.Verdicts.{then_by, or_rule_fault, rule_fault, or_refutation_fault, failing, most_levels}
-use Rattle.proof_script.specs.Verdicts.{refuted_by, grown, taken, steps_verdict, end_verdict}
-use Rattle.proof_script.specs.Verdicts.{proof_verdict, proofs_verdict, last_verdict, no_plan}
-use Rattle.proof_script.proofs.Equations.{refuted-none, refuted-more, taken-is, step-is, steps-none, steps-more}
-use Rattle.proof_script.proofs.Equations.{proofs-none, proofs-more}
-use Rattle.proof_script.proofs.ReachLaws.{reach-is, reaches-none, reaches-more, proofs_reach-none, proofs_reach-more}
+use Rattle.proof_plans.specs.declared.plans.Plan.{Plan}
+use Rattle.proof_plans.specs.declared.plans.StepFault.{StepFault}
+use Rattle.proof_plans.specs.Reaching.{Reach, further, by_row, steps_reach, end_reach, proof_reach}
+use Rattle.proof_plans.specs.Reaching.{proofs_reach, reach_of, reached}
+use Rattle.proof_plans.specs.Verdicts.{then_by, or_rule_fault, rule_fault, or_refutation_fault, failing, most_levels}
+use Rattle.proof_plans.specs.Verdicts.{refuted_by, grown, taken, steps_verdict, end_verdict}
+use Rattle.proof_plans.specs.Verdicts.{proof_verdict, proofs_verdict, last_verdict, no_plan}
+use Rattle.proof_plans.proofs.Equations.{refuted-none, refuted-more, taken-is, step-is, steps-none, steps-more}
+use Rattle.proof_plans.proofs.Equations.{proofs-none, proofs-more}
+use Rattle.proof_plans.proofs.ReachLaws.{reach-is, reaches-none, reaches-more, proofs_reach-none, proofs_reach-more}
 use Rattle.reached_verdicts.specs.ByReach.{Name, proof_names, names_of, name_at, refuted_named, plan_refuted, ended}
 use Rattle.reached_verdicts.specs.ByReach.{VerdictByReach}
 

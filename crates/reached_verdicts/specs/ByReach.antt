@@ -8,10 +8,10 @@ use Rattle.core_terms.specs.declared.documents.CDocument.{CDocument}
 use Rattle.obligations.specs.declared.branches.Obligation.{Obligation}
 use Rattle.obligations.specs.declared.certificates.Cert.{Cert}
 use Rattle.rules_table.specs.Walk.{program_of}
-use Rattle.proof_script.specs.declared.plans.Plan.{Plan}
-use Rattle.proof_script.specs.declared.plans.StepFault.{StepFault}
-use Rattle.proof_script.specs.Reaching.{Reach, reach_of, reached}
-use Rattle.proof_script.specs.Verdicts.{then_by, failing, or_refutation_fault, most_levels, last_verdict, verdict_of}
+use Rattle.proof_plans.specs.declared.plans.Plan.{Plan}
+use Rattle.proof_plans.specs.declared.plans.StepFault.{StepFault}
+use Rattle.proof_plans.specs.Reaching.{Reach, reach_of, reached}
+use Rattle.proof_plans.specs.Verdicts.{then_by, failing, or_refutation_fault, most_levels, last_verdict, verdict_of}
 
 -- the words of a program and of one of its steps
 abbrev pub Name : Type 0

@@ -1,16 +1,13 @@
 -- What a proof term gives fits where the term stands.
-use Rattle.std.proofs.Common.{◌≡◌, ℕ, zero, suc, nat_eq, ◌+◌, ◌≤◌, ℤ, pos, Bool, true, false, cond, not, ◌&&◌, List, []}
-use Rattle.std.proofs.Common.{◌∷◌, ◌++◌, map, Option, Some, None, Ok, refl, sym, ◌∙◌, subst, length}
-use Rattle.std.proofs.Common.{slice_get, arith}
+use Rattle.std.proofs.Common.{◌≡◌, ℕ, ◌+◌, ℤ, Bool, not, ◌&&◌, List, []}
+use Rattle.std.proofs.Common.{◌∷◌, ◌++◌, map, Ok, refl, sym, ◌∙◌, subst, length}
 use Rattle.std.specs.Prelude.{All, nat_le, ◌^◌}
 use Rattle.std.proofs.lemmas.List.Elements.{All-nil, All-cons, All-head, All-tail}
 use Rattle.case_tables.specs.declared.code_table.Code.{Code}
 use Rattle.core_terms.specs.declared.trees.Range.{Range}
 use Rattle.core_terms.specs.declared.trees.CForm.{CForm}
 use Rattle.core_terms.specs.declared.trees.CTerm.{CTerm}
-use Rattle.core_terms.specs.declared.trees.CTerm.TheVariants.{Slot, Const}
 use Rattle.core_terms.specs.declared.programs.CSlot.{CSlot}
-use Rattle.core_terms.specs.declared.documents.Arg.{Arg}
 use Rattle.core_terms.specs.declared.documents.Ref.{Ref}
 use Rattle.core_terms.specs.declared.documents.PTerm.{PTerm, roll-PTerm, ind-PTerm}
 use Rattle.core_terms.specs.declared.documents.PTerm.TheOpen.{PTerm-F}
@@ -20,19 +17,17 @@ use Rattle.core_terms.specs.declared.documents.PTerm.TheVariants.{Weaken, rolls-
 use Rattle.core_terms.specs.declared.documents.PTerm.TheVariants.{rolls-Either, rolls-Exists, rolls-Induct, rolls-Psp}
 use Rattle.core_terms.specs.declared.documents.PTerm.TheVariants.{rolls-Weaken}
 use Rattle.core_terms.specs.declared.documents.PTerm.{fold-roll-PTerm}
-use Rattle.core_terms.specs.Conditions.{FormFits, TermFits, IsRange, Parts, also, bound_ranges, parts_of, parts_step}
+use Rattle.core_terms.specs.Conditions.{FormFits, IsRange, Parts, also, bound_ranges, parts_of, parts_step}
 use Rattle.core_terms.specs.Conditions.{ranges_step}
-use Rattle.core_terms.specs.Folding.{or_form, not_form, at_least_form, difference_term}
-use Rattle.core_terms.specs.Places.{slots_step, params_step, term_slots, term_params, names_param}
-use Rattle.core_terms.specs.Replacing.{arg_term, arg_at}
+use Rattle.core_terms.specs.Folding.{or_form, not_form}
+use Rattle.core_terms.specs.Places.{slots_step, params_step, names_param}
 use Rattle.core_terms.specs.Trees.{same_form}
 use Rattle.meaning_states.proofs.StepTheorems.{and_left, and_right}
-use Rattle.wp_substitution.proofs.PlaceLaws.{count-Slot, constant_within, form_within, bottom_within, at_least_within}
-use Rattle.wp_substitution.proofs.PlaceLaws.{difference_within}
+use Rattle.wp_substitution.proofs.PlaceLaws.{bottom_within}
 use Rattle.fair_rounds.specs.declared.records.Record.{Record}
 use Rattle.rules_table.specs.Forms.{any_of, imply, or_any}
 use Rattle.rules_table.specs.Limits.{fits}
-use Rattle.rules_table.specs.Numbers.{args_from, form_for, numbers_of}
+use Rattle.rules_table.specs.Numbers.{form_for, numbers_of}
 use Rattle.rules_table.specs.Table.{Site, needs, go_on, is_unless}
 use Rattle.rules_table.specs.Terms.{at_measure, below_measure, leads, leads_any, leads_by, leads_down, leads_either}
 use Rattle.rules_table.specs.Terms.{leads_from, leads_on, leads_safely, leads_weaker, measure_lies, node, referred}
@@ -43,11 +38,12 @@ use Rattle.rules_table.proofs.RowEquations.{term-Psp, term-Weaken}
 use Rattle.rules_table.proofs.EachLaws.{Each, each_join, each_parts, from_all}
 use Rattle.rules_table.proofs.SiteLaws.{met, went_on}
 use Rattle.safety_rules.specs.Usable.{NamesExist}
-use Rattle.safety_rules.proofs.InstanceLaws.{shifted_within}
-use Rattle.safety_rules.proofs.ParamLaws.{params_kept}
-use Rattle.safety_rules.proofs.UsableLaws.{slot_counts, param_counts, exist_and, exist_imply, exist_or, fits_exist}
+use Rattle.safety_rules.proofs.UsableLaws.{exist_imply, exist_or, fits_exist}
+use Rattle.wp_substitution.proofs.NamedLaws.{slot_counts, param_counts}
 use Rattle.safety_rules.proofs.UsableLaws.{all_exist, both_usable, light_not, usable}
 use Rattle.leadsto_rules.specs.Leading.{IsTermIn, LedFits}
+use Rattle.leadsto_rules.proofs.InductionLaws.{lies_exist}
+use Rattle.leadsto_rules.proofs.RangeLaws.{instance_exists}
 use Rattle.leadsto_rules.proofs.NodeLaws.{follows_exist, one_exists, two_exist, both_closed, both_exist, either_exists}
 use Rattle.leadsto_rules.proofs.NodeLaws.{both_hold_exist, kept_exists}
 use Rattle.leadsto_rules.proofs.ReferredLaws.{form_fits}
@@ -99,43 +95,15 @@ bound_are_ranges t v all =
 
 -- a formula at a number
 
-arg_names : (limit : ℕ) (o : Option Arg) → term_slots (arg_term o) ≤ limit
-arg_names limit None = constant_within slots_step slot_counts limit (pos 0)
-arg_names limit (Some (Arg.Number k)) = constant_within slots_step slot_counts limit k
-arg_names limit (Some (Arg.Param n add)) = shifted_within slots_step slot_counts limit n add (omega arith)
-arg_names limit (Some Arg.Slot) = constant_within slots_step slot_counts limit (pos 0)
-
-args_named : (i m : ℕ) (z : ℤ) (rs : List Range) (n limit : ℕ) → i + length rs ≤ limit →
-    term_params (arg_term (slice_get (args_from i m z rs) n)) ≤ limit
-args_named i m z [] n limit h = constant_within params_step param_counts limit (pos 0)
-args_named i m z (r ∷ rs) zero limit h = chosen (nat_eq i m)
-  where
-    chosen : (b : Bool) → term_params (arg_term (Some (cond b (Arg.Number z) (Arg.Param i (pos 0))))) ≤ limit
-    chosen true = constant_within params_step param_counts limit z
-    chosen false = shifted_within params_step param_counts limit i (pos 0) (omega (arith, h))
-args_named i m z (r ∷ rs) (suc n) limit h = args_named (suc i) m z rs n limit (omega (arith, h))
-
 module _ (slots : List CSlot) (ranges : List Range) where
   abbrev Exist : CForm → Type 0
   Exist f = NamesExist slots ranges f
 
-  at_number : (m : ℕ) (z : ℤ) (f : CForm) → Exist f → Exist (form_for ranges m z f)
-  at_number m z f h =
-      let args : List Arg = args_from 0 m z ranges in
-      record {
-        slots_exist = form_within slots_step slot_counts (length slots) (λ n. Slot n) (arg_at args)
-            (λ n h. let is = count-Slot slots_step slot_counts n in omega (arith, is, h))
-            (λ n h. arg_names (length slots) (slice_get args n)) f h.slots_exist;
-        params_exist = params_kept (length ranges) (length ranges) (λ n. Slot n) (arg_at args)
-            (λ n. let is = count-Slot params_step param_counts n in omega (arith, is))
-            (λ n h. args_named 0 m z ranges n (length ranges) (omega arith)) f h.params_exist;
-      }
-
   at_numbers : (m : ℕ) (f : CForm) (zs : List ℤ) → Exist f → All Exist (map (λ z. form_for ranges m z f) zs)
   at_numbers m f [] h = All-nil Exist
   at_numbers m f (z ∷ zs) h =
-      All-cons Exist (form_for ranges m z f) (map (λ z. form_for ranges m z f) zs) (at_number m z f h)
-      (at_numbers m f zs h)
+      All-cons Exist (form_for ranges m z f) (map (λ z. form_for ranges m z f) zs)
+      (instance_exists slots ranges m z f h) (at_numbers m f zs h)
 
   or_exists : (f : CForm) (fs : List CForm) → Exist f → All Exist fs → Exist (or_any f fs)
   or_exists f [] h k = h
@@ -148,27 +116,6 @@ module _ (slots : List CSlot) (ranges : List Range) where
     params_exist = bottom_within params_step param_counts (length ranges);
   }
   some_exists (f ∷ fs) h = or_exists f fs (All-head Exist f fs h) (All-tail Exist f fs h)
-
-  -- that a measure lies in a range
-
-  above_exists : (t u : CTerm) → term_slots t ≤ length slots → term_params t ≤ length ranges →
-      term_slots u ≤ length slots → term_params u ≤ length ranges → Exist (at_least_form (difference_term t u))
-  above_exists t u st pt su pu = record {
-    slots_exist = at_least_within slots_step slot_counts (length slots) (difference_term t u)
-        (difference_within slots_step slot_counts (length slots) t u st su);
-    params_exist = at_least_within params_step param_counts (length ranges) (difference_term t u)
-        (difference_within params_step param_counts (length ranges) t u pt pu);
-  }
-
-  lies_exist : (t : CTerm) (range : Range) → TermFits slots ranges t → Exist (measure_lies t range)
-  lies_exist t range fits =
-      exist_and slots ranges (at_least_form (difference_term t (Const range.lo)))
-      (at_least_form (difference_term (Const range.hi) t))
-      (above_exists t (Const range.lo) fits.slots_exist fits.params_exist
-      (constant_within slots_step slot_counts (length slots) range.lo)
-      (constant_within params_step param_counts (length ranges) range.lo))
-      (above_exists (Const range.hi) t (constant_within slots_step slot_counts (length slots) range.hi)
-      (constant_within params_step param_counts (length ranges) range.hi) fits.slots_exist fits.params_exist)
 
 -- what a term gives
 

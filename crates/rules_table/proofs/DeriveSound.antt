@@ -33,7 +33,7 @@ lows_in (r ∷ rs) full =
     (both_true (int_le r.lo r.lo) (int_le r.lo r.hi) (le_passes r.lo r.lo (omega (arith, ints))) full.0)
     (lows_in rs full.1)
 
-both_in : (rs more : List Range) (e d : List ℤ) → IsTrue (are_in_ranges rs e) → IsTrue (are_in_ranges more d) →
+pub both_in : (rs more : List Range) (e d : List ℤ) → IsTrue (are_in_ranges rs e) → IsTrue (are_in_ranges more d) →
     IsTrue (are_in_ranges (rs ++ more) (e ++ d))
 both_in [] more [] d h k = k
 both_in [] more (z ∷ e) d h k = cc
@@ -43,7 +43,7 @@ both_in (r ∷ rs) more (z ∷ e) d h k =
     (and_left (int_le r.lo z && int_le z r.hi) (are_in_ranges rs e) h)
     (both_in rs more e d (and_right (int_le r.lo z && int_le z r.hi) (are_in_ranges rs e) h) k)
 
-in_front : (e d : List ℤ) (n : ℕ) → n < length e → number_at (e ++ d) n ≡ number_at e n
+pub in_front : (e d : List ℤ) (n : ℕ) → n < length e → number_at (e ++ d) n ≡ number_at e n
 in_front [] d n h = absurd (omega arith)
 in_front (z ∷ e) d zero h = refl
 in_front (z ∷ e) d (suc n) h = let inner : n < length e = omega arith in in_front e d n inner

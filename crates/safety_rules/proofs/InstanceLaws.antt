@@ -27,7 +27,7 @@ use Rattle.rules_table.specs.Table.{is_argument, are_arguments, lies_in}
 use Rattle.safety_rules.specs.declared.places.RuleError.{RuleError}
 use Rattle.safety_rules.specs.Instances.{IsSmallIndex, SumFits, IndexFits, HelperFits, CanPut, CanMove}
 use Rattle.safety_rules.specs.Instances.{MayPut, AllMayPut, AnswersRecord}
-use Rattle.safety_rules.proofs.UsableLaws.{slot_counts, param_counts}
+use Rattle.wp_substitution.proofs.NamedLaws.{slot_counts, param_counts}
 use Rattle.safety_rules.proofs.ParamLaws.{params_kept}
 use Rattle.safety_rules.proofs.ArgumentLaws.{same_count}
 

@@ -8,27 +8,31 @@ use Rattle.core_terms.specs.declared.trees.Range.{Range}
 use Rattle.core_terms.specs.declared.programs.CSlot.{CSlot}
 use Rattle.core_terms.specs.declared.trees.CForm.{CForm}
 use Rattle.core_terms.specs.Folding.{and_form, or_form, not_form}
-use Rattle.rules_table.specs.Forms.{or_any, any_of, imply}
-use Rattle.wp_substitution.specs.Joined.{joined_all, or_top}
-use Rattle.wp_substitution.specs.Preconditions.{and_all, all_of}
+use Rattle.core_terms.specs.declared.known.Joining.{Joining}
+use Rattle.core_terms.specs.Weights.{one_weight}
+use Rattle.core_terms.proofs.WeightLaws.{weight-Top, weight-Bottom}
+use Rattle.rules_table.specs.Forms.{imply}
+use Rattle.wp_substitution.specs.Preconditions.{all_of}
 use Rattle.safety_rules.specs.Usable.{IsUsable}
-use Rattle.safety_rules.specs.Foldable.{IsFoldable, either_all, or_bottom}
+use Rattle.safety_rules.specs.Foldable.{IsFoldable, gathered, gathered_all, gathered_none, gathered_or}
 
-after_first : (f : CForm) (fs : List CForm) → joined_all (Some f) fs ≡ Some (and_all f fs)
-after_first f [] = refl
-after_first f (g ∷ fs) = after_first (and_form f g) fs
+after_first : (joining : Joining) (f : CForm) (fs : List CForm) →
+    gathered_all joining (Some f) fs ≡ Some (gathered joining (f ∷ fs))
+after_first Joining.Both f [] = refl
+after_first Joining.Both f (g ∷ fs) = after_first Joining.Both (and_form f g) fs
+after_first Joining.Either f [] = refl
+after_first Joining.Either f (g ∷ fs) = after_first Joining.Either (or_form f g) fs
 
-pub all_joined : (fs : List CForm) → or_top (joined_all None fs) ≡ all_of fs
-all_joined [] = refl
-all_joined (f ∷ fs) = ap or_top (after_first f fs)
+whole_list : (joining : Joining) (fs : List CForm) → gathered_or joining (gathered_all joining None fs) ≡
+    gathered joining fs
+whole_list Joining.Both [] = refl
+whole_list Joining.Both (f ∷ fs) = ap (gathered_or Joining.Both) (after_first Joining.Both f fs)
+whole_list Joining.Either [] = refl
+whole_list Joining.Either (f ∷ fs) = ap (gathered_or Joining.Either) (after_first Joining.Either f fs)
 
-or_first : (f : CForm) (fs : List CForm) → either_all (Some f) fs ≡ Some (or_any f fs)
-or_first f [] = refl
-or_first f (g ∷ fs) = or_first (or_form f g) fs
-
-pub any_joined : (fs : List CForm) → or_bottom (either_all None fs) ≡ any_of fs
-any_joined [] = refl
-any_joined (f ∷ fs) = ap or_bottom (or_first f fs)
+pub none_foldable : (joining : Joining) → IsFoldable (gathered_none joining)
+none_foldable Joining.Both = let w = weight-Top one_weight one_weight in omega (arith, w)
+none_foldable Joining.Either = let w = weight-Bottom one_weight one_weight in omega (arith, w)
 
 pub some_imply : (fs : List CForm) (q : CForm) → 0 < length fs → or_form (not_form (all_of fs)) q ≡ imply fs q
 some_imply [] q some = absurd (omega (arith, some))
@@ -41,15 +45,12 @@ none_left (x ∷ xs) zero past = absurd (omega arith)
 none_left (x ∷ xs) (suc i) past = let inner : length xs ≤ i = omega arith in none_left xs i inner
 
 -- where all of a list were taken
-pub held_all : (whole : Option CForm) (forms : List CForm) (i : ℕ) → length forms ≤ i →
-    joined_all whole (drop i forms) ≡ joined_all None forms → or_top whole ≡ all_of forms
-held_all whole forms i past is =
-    ap or_top (sym (ap (joined_all whole) (none_left forms i past)) ∙ is) ∙ all_joined forms
-
-pub held_any : (whole : Option CForm) (forms : List CForm) (i : ℕ) → length forms ≤ i →
-    either_all whole (drop i forms) ≡ either_all None forms → or_bottom whole ≡ any_of forms
-held_any whole forms i past is =
-    ap or_bottom (sym (ap (either_all whole) (none_left forms i past)) ∙ is) ∙ any_joined forms
+pub gathered_whole : (joining : Joining) (whole : Option CForm) (forms : List CForm) (i : ℕ) → length forms ≤ i →
+    gathered_all joining whole (drop i forms) ≡ gathered_all joining None forms →
+    gathered_or joining whole ≡ gathered joining forms
+gathered_whole joining whole forms i past is =
+    ap (gathered_or joining) (sym (ap (gathered_all joining whole) (none_left forms i past)) ∙ is)
+    ∙ whole_list joining forms
 
 -- U and two formulas more
 pub premises_are : (using first all : List CForm) (p n f : CForm) → first ≡ using ++ p ∷ [] → n ≡ f →

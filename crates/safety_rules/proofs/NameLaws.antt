@@ -21,7 +21,8 @@ use Rattle.rules_table.specs.Forms.{or_any, any_of, imply}
 use Rattle.rules_table.specs.Table.{equations}
 use Rattle.safety_rules.specs.Usable.{NamesExist}
 use Rattle.safety_rules.proofs.InstanceLaws.{shifted_within}
-use Rattle.safety_rules.proofs.UsableLaws.{slot_counts, param_counts, exist_not, exist_and, exist_or, exist_imply}
+use Rattle.safety_rules.proofs.UsableLaws.{exist_not, exist_and, exist_or, exist_imply}
+use Rattle.wp_substitution.proofs.NamedLaws.{slot_counts, param_counts}
 use Rattle.safety_rules.proofs.UsableLaws.{exist_wp, all_usable, all_exist, fits_exist}
 
 module _ (slots : List CSlot) (params : List Range) where

@@ -14,7 +14,7 @@ use Rattle.core_terms.specs.Replacing.{replace_term, replace_form, term_with, fo
 use Rattle.wp_substitution.proofs.PlaceLaws.{difference_within, constant_within, choice_within, at_least_within}
 use Rattle.wp_substitution.proofs.PlaceLaws.{zero_within, not_within, and_within, or_within, top_within}
 use Rattle.wp_substitution.proofs.PlaceLaws.{bottom_within}
-use Rattle.safety_rules.proofs.UsableLaws.{param_counts}
+use Rattle.wp_substitution.proofs.NamedLaws.{param_counts}
 
 folded_less : (t : CTerm) (m : Option ℤ) → term_params (constant_or m t) ≤ term_params t
 folded_less t None = omega arith

@@ -10,7 +10,7 @@ use Rattle.core_terms.specs.declared.programs.CSlot.{CSlot}
 use Rattle.core_terms.specs.Steps.{slot_ranges}
 use Rattle.core_terms.specs.Weights.{form_weight, number_weight, place_weight, slot_weight}
 use Rattle.core_terms.specs.Conditions.{FormFits}
-use Rattle.wp_substitution.proofs.HeavierLaws.{form_scaled}
+use Rattle.core_terms.proofs.HeavierLaws.{form_scaled}
 
 within : (lo hi z : ℤ) → IsTrue (in_range (Some (lo, hi)) z) → unsigned_abs z ≤ max (unsigned_abs lo)
     (unsigned_abs hi)

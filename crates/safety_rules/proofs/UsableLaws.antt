@@ -17,8 +17,9 @@ use Rattle.core_terms.specs.Folding.{and_form, or_form, not_form}
 use Rattle.core_terms.specs.Weights.{Weights, weigh_form, weigh_term, one_weight, plain_weight}
 use Rattle.wp_substitution.specs.Preconditions.{and_all, defined_form, wp_form}
 use Rattle.wp_substitution.specs.Joined.{IsLight, joined_all}
-use Rattle.wp_substitution.proofs.PlaceLaws.{Counts, not_within, and_within, or_within}
-use Rattle.wp_substitution.proofs.NamedLaws.{defined_below, defined_params, wp_slots, wp_params}
+use Rattle.wp_substitution.proofs.PlaceLaws.{not_within, and_within, or_within}
+use Rattle.wp_substitution.proofs.NamedLaws.{slot_counts, param_counts, defined_below, defined_params, wp_slots}
+use Rattle.wp_substitution.proofs.NamedLaws.{wp_params}
 use Rattle.wp_substitution.proofs.LightLaws.{form_light}
 use Rattle.fixed_points.specs.FixedForms.{fixed_part}
 use Rattle.fixed_points.proofs.NamedLaws.{part_slots, part_params}
@@ -26,28 +27,6 @@ use Rattle.rules_table.specs.Forms.{imply}
 use Rattle.rules_table.specs.Table.{ends_of_both, ends_of_either}
 use Rattle.safety_rules.specs.Premises.{implied_by}
 use Rattle.safety_rules.specs.Usable.{NamesExist, IsUsable}
-
-pub slot_counts : Counts slots_step
-slot_counts = record {
-  constant = λ c. refl;
-  sum = λ a b. refl;
-  difference = λ a b. refl;
-  multiple = λ k a. refl;
-  quotient = λ k a. refl;
-  remainder = λ k a. refl;
-  choice = λ c a b. refl;
-}
-
-pub param_counts : Counts params_step
-param_counts = record {
-  constant = λ c. refl;
-  sum = λ a b. refl;
-  difference = λ a b. refl;
-  multiple = λ k a. refl;
-  quotient = λ k a. refl;
-  remainder = λ k a. refl;
-  choice = λ c a b. refl;
-}
 
 module _ (slots : List CSlot) (params : List Range) where
   abbrev Exist : CForm → Type 0

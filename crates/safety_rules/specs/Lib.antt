@@ -1,6 +1,7 @@
 pub mod Answers
 pub mod Errors
 pub mod Foldable
+pub mod Pairs
 pub mod Goals
 pub mod Helpers
 pub mod Instances

@@ -1,107 +1,96 @@
 // Formulas of lists: that all hold, that one holds, and what follows where all do.
 ghost use Rattle.std.specs.Prelude.{◌≡◌, ◌<◌, All, IfOk, OnOk, Some, length};
-ghost use Rattle.core_terms.specs.Folding as fold;
+ghost use Rattle.core_terms.specs.Senses.{joined_form};
 ghost use Rattle.rules_table.specs.Forms as formula;
-ghost use Rattle.wp_substitution.specs.Joined.{joined_with};
-ghost use Rattle.wp_substitution.specs.Preconditions.{all_of};
-ghost use Rattle.safety_rules.specs.Foldable.{IsFoldable, AreFoldable, either_with};
+ghost use Rattle.safety_rules.specs.Foldable.{IsFoldable, AreFoldable, gathered, gathered_with, gathered_none};
 
-use core_terms::{CForm, and_form, held_form, not_form, or_form, owned_form};
+use core_terms::{CForm, Joining, and_form, held_form, not_form, or_form, owned_form};
 use std::alloc::{AllocError, Global};
 use unity_base::Shared;
 
-// A formula after those that hold too.
+// A formula joined to those before it.
 fn join(
     alloc: Global,
+    joining: Joining,
     whole: Option<Shared<CForm>>,
     f: Shared<CForm>,
 ) -> Result<Shared<CForm>, AllocError>
     requires whole { AreFoldable whole }
     requires formula { IsFoldable f }
-    ensures tree { IfOk result (λ g. g ≡ joined_with whole f) }
+    ensures tree { IfOk result (λ g. g ≡ gathered_with joining whole f) }
     ensures foldable { IfOk result IsFoldable }
 {
     match whole {
-        Some(g) => Shared::new(
-            alloc,
-            and_form(alloc, owned_form(alloc, g)?, owned_form(alloc, f)?)?,
-        ),
+        Some(g) => {
+            let first = owned_form(alloc, g)?;
+            let second = owned_form(alloc, f)?;
+            join_two(alloc, joining, first, second)
+        }
         None => Ok(f),
     }
 }
 
-fn add_join(alloc: Global, whole: &mut Option<Shared<CForm>>, f: &CForm) -> Result<(), AllocError>
-    requires whole { AreFoldable whole.old }
-    requires formula { IsFoldable f.now }
-    ensures whole { OnOk result (whole.new ≡ Some (joined_with whole.old f.now)) }
-    ensures foldable { OnOk result (AreFoldable whole.new) }
-{
-    let more = held_form(alloc, f)?;
-    let joined = join(alloc, whole.take(), more)?;
-    *whole = Some(joined);
-    Ok(())
-}
-
-// That all formulas of a list hold.
-pub(crate) fn all_held(alloc: Global, forms: &[CForm]) -> Result<Shared<CForm>, AllocError>
-    requires { All IsFoldable forms.now }
-    ensures tree { IfOk result (λ f. f ≡ all_of forms.now) }
-    ensures foldable { IfOk result IsFoldable }
-{
-    let mut whole = None;
-    for f in forms {
-        add_join(alloc, &mut whole, f)?;
-    }
-    match whole {
-        Some(f) => Ok(f),
-        None => Shared::new(alloc, CForm::Top),
-    }
-}
-
-// A formula or one of the others.
-fn part(
+fn join_two(
     alloc: Global,
-    whole: Option<Shared<CForm>>,
-    f: Shared<CForm>,
+    joining: Joining,
+    first: CForm,
+    second: CForm,
 ) -> Result<Shared<CForm>, AllocError>
-    requires whole { AreFoldable whole }
-    requires formula { IsFoldable f }
-    ensures tree { IfOk result (λ g. g ≡ either_with whole f) }
+    requires first { IsFoldable first }
+    requires second { IsFoldable second }
+    ensures tree { IfOk result (λ g. g ≡ joined_form joining first second) }
     ensures foldable { IfOk result IsFoldable }
 {
-    match whole {
-        Some(g) => Shared::new(
-            alloc,
-            or_form(alloc, owned_form(alloc, g)?, owned_form(alloc, f)?)?,
-        ),
-        None => Ok(f),
+    match joining {
+        Joining::Both => Shared::new(alloc, and_form(alloc, first, second)?),
+        Joining::Either => Shared::new(alloc, or_form(alloc, first, second)?),
     }
 }
 
-fn add_part(alloc: Global, whole: &mut Option<Shared<CForm>>, f: &CForm) -> Result<(), AllocError>
+fn add(
+    alloc: Global,
+    joining: Joining,
+    whole: &mut Option<Shared<CForm>>,
+    f: &CForm,
+) -> Result<(), AllocError>
     requires whole { AreFoldable whole.old }
     requires formula { IsFoldable f.now }
-    ensures whole { OnOk result (whole.new ≡ Some (either_with whole.old f.now)) }
+    ensures whole { OnOk result (whole.new ≡ Some (gathered_with joining whole.old f.now)) }
     ensures foldable { OnOk result (AreFoldable whole.new) }
 {
     let more = held_form(alloc, f)?;
-    let joined = part(alloc, whole.take(), more)?;
+    let joined = join(alloc, joining, whole.take(), more)?;
     *whole = Some(joined);
     Ok(())
 }
 
-// That one of the formulas of a list holds.
-pub(crate) fn any_held(alloc: Global, forms: &[CForm]) -> Result<Shared<CForm>, AllocError>
+// What no formulas make, joined.
+fn none(joining: Joining) -> CForm
+    ensures { result ≡ gathered_none joining }
+{
+    match joining {
+        Joining::Both => CForm::Top,
+        Joining::Either => CForm::Bottom,
+    }
+}
+
+// That all formulas of a list hold, or that one of them does.
+pub(crate) fn gathered(
+    alloc: Global,
+    joining: Joining,
+    forms: &[CForm],
+) -> Result<Shared<CForm>, AllocError>
     requires { All IsFoldable forms.now }
-    ensures { IfOk result (λ f. f ≡ formula.any_of forms.now) }
+    ensures tree { IfOk result (λ f. f ≡ gathered joining forms.now) }
+    ensures foldable { IfOk result IsFoldable }
 {
     let mut whole = None;
     for f in forms {
-        add_part(alloc, &mut whole, f)?;
+        add(alloc, joining, &mut whole, f)?;
     }
     match whole {
         Some(f) => Ok(f),
-        None => Shared::new(alloc, CForm::Bottom),
+        None => Shared::new(alloc, none(joining)),
     }
 }
 
@@ -116,7 +105,7 @@ pub fn implied(
     requires formula { IsFoldable q }
     ensures { IfOk result (λ f. f ≡ formula.imply premises.now q) }
 {
-    let whole = all_held(alloc, premises)?;
+    let whole = gathered(alloc, Joining::Both, premises)?;
     let other = Shared::new(alloc, not_form(alloc, owned_form(alloc, whole)?)?)?;
     Shared::new(
         alloc,

@@ -9,11 +9,11 @@ ghost use Rattle.wp_substitution.specs.Preconditions.{all_of};
 ghost use Rattle.safety_rules.specs.Foldable.{IsFoldable};
 
 use crate::equations::add_equations;
-use crate::gathering::{all_held, any_held, implied};
+use crate::gathering::{gathered, implied};
 use crate::naming::may_mean;
 use crate::places::Place;
 use crate::texts::{after, using_and};
-use core_terms::{CForm, CStmt, Helper, copy_form, not_form, owned_form};
+use core_terms::{CForm, CStmt, Helper, Joining, copy_form, not_form, owned_form};
 use std::alloc::{AllocError, Global};
 use unity_base::{Seq, Shared};
 use wp_substitution::wp;
@@ -26,7 +26,7 @@ fn is_meant(alloc: Global, h: &Helper, s: &CStmt) -> Result<Shared<CForm>, Alloc
 {
     let mut all = Seq::new(alloc);
     add_equations(alloc, &mut all, h.args.as_slice(), s.indices.as_slice())?;
-    all_held(alloc, all.as_slice())
+    gathered(alloc, Joining::Both, all.as_slice())
 }
 
 // For each statement that may be meant, that it is.
@@ -54,7 +54,7 @@ pub(crate) fn one_meant(alloc: Global, pl: &Place, h: &Helper) -> Result<Shared<
         (map (λ s. all_of (table.equations h.now.args s.indices)) (table.instances_of (site_of pl.now) h.now))) }
 {
     let all = meanings(alloc, pl, h)?;
-    any_held(alloc, all.as_slice())
+    gathered(alloc, Joining::Either, all.as_slice())
 }
 
 // U, p, that q does not hold, and that the statement is meant.

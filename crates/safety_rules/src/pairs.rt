@@ -4,21 +4,23 @@ ghost use Rattle.core_terms.specs.Weights.{plain_weight};
 ghost use Rattle.core_terms.specs.Folding as fold;
 ghost use Rattle.rules_table.specs.Table as table;
 ghost use Rattle.safety_rules.specs.Answers.{site_of, IsPlace, IsPremiseAt, RuleAnswers};
+ghost use Rattle.safety_rules.specs.Pairs.{simple_rule};
 ghost use Rattle.safety_rules.specs.Sound.{StandsAt, StandsWhereShown};
 ghost use Rattle.safety_rules.specs.Usable.{NamesExist};
 
 use crate::concluding::conclude;
 use crate::places::{Derived, Place, RuleError};
-use crate::premises::{both, either, one_of_three, second_alone};
+use crate::premises::{both, either, joined_two, one_of_three, second_alone};
 use crate::recording::{Claim, copied_helper, is_same};
 use crate::weakening::{is_ensures, is_unless};
 use case_tables::{Code, Kind, RuleName};
-use core_terms::{CForm, held_form};
+use core_terms::{CForm, Joining, held_form};
 use fair_rounds::Record;
 use std::alloc::{AllocError, Global};
 use unity_base::{Seq, Shared};
 
-fn are_unless(a: &Record, b: &Record) -> bool
+/// Whether both records are an unless.
+pub fn are_unless(a: &Record, b: &Record) -> bool
     ensures { result ≡ (table.is_unless a.now.kind && table.is_unless b.now.kind) }
 {
     is_unless(a.kind) && is_unless(b.kind)
@@ -100,17 +102,23 @@ fn conj(alloc: Global, pl: &Place, a: &Record, b: &Record) -> Result<Derived, Ru
     conclude(alloc, pl, claim, Seq::new(alloc))
 }
 
-// Simple conjunction.
-fn simple_conj(alloc: Global, pl: &Place, a: &Record, b: &Record) -> Result<Derived, RuleError>
+// Simple conjunction, or simple disjunction.
+fn simple(
+    alloc: Global,
+    pl: &Place,
+    joining: Joining,
+    a: &Record,
+    b: &Record,
+) -> Result<Derived, RuleError>
     requires place { IsPlace pl.now }
     requires a { IsPremiseAt pl.now a.now }
     requires b { IsPremiseAt pl.now b.now }
-    ensures { RuleAnswers result pl.now.slots.now (table.pair_of (site_of pl.now) RuleName.Simpleconj a.now b.now) }
+    ensures { RuleAnswers result pl.now.slots.now (table.pair_of (site_of pl.now) (simple_rule joining) a.now b.now) }
 {
     if !are_unless(a, b) {
         return Err(RuleError::Fault(Code::WrongKind));
     }
-    let p = both(alloc, &a.p, &b.p)?;
+    let p = joined_two(alloc, joining, &a.p, &b.p)?;
     let q = either(alloc, &a.q, &b.q)?;
     paired(alloc, pl, a, b, p, q)
 }
@@ -127,21 +135,6 @@ fn disj(alloc: Global, pl: &Place, a: &Record, b: &Record) -> Result<Derived, Ru
     }
     let p = either(alloc, &a.p, &b.p)?;
     let q = ends_of_either(alloc, a, b)?;
-    paired(alloc, pl, a, b, p, q)
-}
-
-// Simple disjunction.
-fn simple_disj(alloc: Global, pl: &Place, a: &Record, b: &Record) -> Result<Derived, RuleError>
-    requires place { IsPlace pl.now }
-    requires a { IsPremiseAt pl.now a.now }
-    requires b { IsPremiseAt pl.now b.now }
-    ensures { RuleAnswers result pl.now.slots.now (table.pair_of (site_of pl.now) RuleName.Simpledisj a.now b.now) }
-{
-    if !are_unless(a, b) {
-        return Err(RuleError::Fault(Code::WrongKind));
-    }
-    let p = either(alloc, &a.p, &b.p)?;
-    let q = either(alloc, &a.q, &b.q)?;
     paired(alloc, pl, a, b, p, q)
 }
 
@@ -183,9 +176,9 @@ pub fn pair_rule(
 {
     match which {
         RuleName::Conj => conj(alloc, pl, a, b),
-        RuleName::Simpleconj => simple_conj(alloc, pl, a, b),
+        RuleName::Simpleconj => simple(alloc, pl, Joining::Both, a, b),
         RuleName::Disj => disj(alloc, pl, a, b),
-        RuleName::Simpledisj => simple_disj(alloc, pl, a, b),
+        RuleName::Simpledisj => simple(alloc, pl, Joining::Either, a, b),
         RuleName::Cancel => cancel(alloc, pl, a, b),
         _ => Err(RuleError::Fault(Code::WrongKind)),
     }

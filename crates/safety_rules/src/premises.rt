@@ -2,10 +2,11 @@
 ghost use Rattle.std.specs.Prelude.{◌≡◌, ◌^◌, ◌≤◌, IfOk, OnOk, Some, None, All, max};
 ghost use Rattle.core_terms.specs.Weights.{plain_weight};
 ghost use Rattle.core_terms.specs.Folding as fold;
+ghost use Rattle.core_terms.specs.Senses.{joined_form};
 ghost use Rattle.wp_substitution.specs.Joined.{joined_with, joined_all, IsLight};
 ghost use Rattle.safety_rules.specs.Premises.{implied_by, PremisesAreLight};
 
-use core_terms::{CForm, and_form, copy_form, held_form, not_form, or_form, owned_form};
+use core_terms::{CForm, Joining, and_form, copy_form, held_form, not_form, or_form, owned_form};
 use std::alloc::{AllocError, Global};
 use unity_base::Shared;
 
@@ -138,6 +139,22 @@ pub fn both(alloc: Global, p: &CForm, q: &CForm) -> Result<Shared<CForm>, AllocE
         alloc,
         and_form(alloc, owned_form(alloc, first)?, owned_form(alloc, second)?)?,
     )
+}
+
+// That two formulas hold, or that one of them does.
+pub(crate) fn joined_two(
+    alloc: Global,
+    joining: Joining,
+    p: &CForm,
+    q: &CForm,
+) -> Result<Shared<CForm>, AllocError>
+    requires { max (plain_weight p.now) (plain_weight q.now) ≤ 2 ^ 62 }
+    ensures { IfOk result (λ f. f ≡ joined_form joining p.now q.now) }
+{
+    match joining {
+        Joining::Both => both(alloc, p, q),
+        Joining::Either => either(alloc, p, q),
+    }
 }
 
 // That the first formula does not hold, and the second does.

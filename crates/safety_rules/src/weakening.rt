@@ -34,6 +34,13 @@ pub fn is_ensures(kind: Kind) -> bool
     matches!(kind, Kind::Ensures)
 }
 
+/// Whether a record of this kind is an invariant.
+pub fn is_invariant(kind: Kind) -> bool
+    ensures { result ≡ table.is_invariant kind }
+{
+    matches!(kind, Kind::Invariant)
+}
+
 fn has_end(kind: Kind) -> bool
     ensures { result ≡ (table.is_unless kind || table.is_ensures kind) }
 {

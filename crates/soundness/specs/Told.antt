@@ -6,7 +6,7 @@ use Rattle.core_terms.specs.declared.programs.CProgram.{CProgram}
 use Rattle.meaning_documents.specs.Steps.{claim_kind, Pairwise, ProofStep, document_steps}
 use Rattle.expand_documents.specs.Cores.{core_document}
 use Rattle.rules_table.specs.Walk as walk
-use Rattle.proof_script.specs.declared.plans.Plan.{Plan}
+use Rattle.proof_plans.specs.declared.plans.Plan.{Plan}
 use Rattle.cli_texts.specs.Verdicts.{kind_text, accepted_text}
 use Rattle.soundness.specs.Properties.{IsValidlyPlanned}
 use Rattle.soundness.specs.Written.{AreClaims}

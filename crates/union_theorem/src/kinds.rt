@@ -8,7 +8,7 @@ ghost use Rattle.safety_rules.specs.Answers.{site_of};
 use case_tables::Kind;
 use core_terms::{CForm, Helper};
 use fair_rounds::Record;
-use safety_rules::{Place, is_ensures, is_same, is_unless};
+use safety_rules::{Place, is_ensures, is_invariant, is_same, is_unless};
 
 // Whether these are records of the two parts of the program, the first part's first.
 pub(crate) fn is_part_pair(pl: &Place, a: &Record, b: &Record) -> bool
@@ -26,22 +26,10 @@ fn is_defined(kind: Kind) -> bool
     matches!(kind, Kind::Defined)
 }
 
-fn is_invariant(kind: Kind) -> bool
-    ensures { result ≡ table.is_invariant kind }
-{
-    matches!(kind, Kind::Invariant)
-}
-
 pub(crate) fn are_defined(a: &Record, b: &Record) -> bool
     ensures { result ≡ (table.is_defined a.now.kind && table.is_defined b.now.kind) }
 {
     is_defined(a.kind) && is_defined(b.kind)
-}
-
-pub(crate) fn are_unless(a: &Record, b: &Record) -> bool
-    ensures { result ≡ (table.is_unless a.now.kind && table.is_unless b.now.kind) }
-{
-    is_unless(a.kind) && is_unless(b.kind)
 }
 
 // Whether one is an ensures and the other an unless.

@@ -5,14 +5,12 @@ ghost use Rattle.rules_table.specs.Table as table;
 ghost use Rattle.safety_rules.specs.Answers.{site_of, IsPlace, IsPremiseAt, RuleAnswers};
 ghost use Rattle.safety_rules.specs.Sound.{StandsWhereShown};
 
-use crate::kinds::{
-    are_alike, are_stable, are_unless, first_helper, is_ensured, is_kept, is_part_pair,
-};
+use crate::kinds::{are_alike, are_stable, first_helper, is_ensured, is_kept, is_part_pair};
 use crate::shown::united;
 use case_tables::{Code, Kind};
 use core_terms::CForm;
 use fair_rounds::Record;
-use safety_rules::{Derived, Place, RuleError};
+use safety_rules::{Derived, Place, RuleError, are_unless};
 use std::alloc::Global;
 
 /// `p unless q` of a union, from `p unless q` of each part (chapter 7 of the book). Each formula of the

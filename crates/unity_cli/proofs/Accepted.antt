@@ -8,14 +8,14 @@ use Rattle.expand_documents.specs.Cores.{core_document}
 use Rattle.expand_fits.proofs.Parsed.Reading.{read_cores}
 use Rattle.unity_parser.specs.Document.{IsDocument}
 use Rattle.unity_parser.proofs.Readings.{one_document}
-use Rattle.proof_script.specs.Giving.{AreWhole}
-use Rattle.proof_script.specs.declared.plans.Plan.{Plan}
-use Rattle.proof_script.specs.Following.{Follows}
-use Rattle.proof_script.specs.Laws.{IsValidPlan}
-use Rattle.proof_script.specs.Verdicts.{verdict_of}
+use Rattle.proof_plans.specs.Giving.{AreWhole}
+use Rattle.proof_plans.specs.declared.plans.Plan.{Plan}
+use Rattle.proof_plans.specs.Following.{Follows}
+use Rattle.proof_plans.specs.Laws.{IsValidPlan}
+use Rattle.proof_plans.specs.Verdicts.{verdict_of}
 use Rattle.rules_steps.specs.Starts.{starts_in}
-use Rattle.proof_script.proofs.FollowLaws.{accepted_follows}
-use Rattle.proof_script.proofs.VerdictLaws.{accepted_valid}
+use Rattle.proof_plans.proofs.FollowLaws.{accepted_follows}
+use Rattle.proof_plans.proofs.VerdictLaws.{accepted_valid}
 use Rattle.soundness.specs.Properties.{IsValidlyPlanned as IsProvedBy}
 use Rattle.soundness.specs.Written.{AreClaims}
 use Rattle.soundness.proofs.Words.{claims_are_written}

@@ -1,4 +1,3 @@
-pub mod FirstFaults
 pub mod Accepted
 pub mod OneAnswers
 pub mod Told
@@ -7,3 +6,4 @@ pub mod SomeAnswers
 pub mod Shown
 pub mod Upgraded
 pub mod Watched
+pub mod Streamed

@@ -14,9 +14,9 @@ use Rattle.schedule_replay.specs.declared.heading.Heading.{Heading}
 use Rattle.schedule_replay.specs.Schedules.{turns}
 use Rattle.run_correct.specs.Traces.{source_system, first_state}
 use Rattle.run_correct.specs.Answers.{IsReplay, IsUnknown}
-use Rattle.proof_script.specs.declared.plans.Plan.{Plan}
-use Rattle.proof_script.specs.declared.plans.StepFault.{StepFault}
-use Rattle.proof_script.specs.Verdicts.{verdict_of}
+use Rattle.proof_plans.specs.declared.plans.Plan.{Plan}
+use Rattle.proof_plans.specs.declared.plans.StepFault.{StepFault}
+use Rattle.proof_plans.specs.Verdicts.{verdict_of}
 use Rattle.certificate_reading.specs.Certificates.{certificates_of}
 use Rattle.cli_texts.specs.Refusals.{fault_text, refusal_text}
 use Rattle.cli_texts.specs.Verdicts.{accepted_text, rejected_text}
@@ -43,7 +43,7 @@ use Rattle.unity_cli.specs.Answer.Replay as replays
 use Rattle.unity_cli.specs.Answer.Watch.{ending_status, IsNotWatched, Watched}
 use Rattle.unity_cli.specs.Answer.Watch as watches
 use Rattle.unity_cli.specs.Laws.{OneAnswer}
-use Rattle.unity_cli.proofs.FirstFaults.{no_first_fault, one_first_fault}
+use Rattle.streamed_documents.proofs.FirstFaults.{no_first_fault, one_first_fault}
 
 -- ---- readings
 

@@ -2,7 +2,7 @@
 use Rattle.std.proofs.Common.{◌≡◌, ◌≤◌, ◌-◌, ℕ, List, ◌++◌, length, Bool, true, false, Option, Some, None, refl, sym}
 use Rattle.std.proofs.Common.{ap, ◌∙◌, subst, arith}
 use Rattle.std.proofs.lemmas.Fmt.{length-decimal-le_succ}
-use Rattle.proof_script.specs.declared.plans.Plan.{Plan}
+use Rattle.proof_plans.specs.declared.plans.Plan.{Plan}
 use Rattle.cli_texts.specs.Verdicts.{accepted_text}
 use Rattle.cli_ring.specs.Rings.{ring_bytes}
 use Rattle.cli_ring.proofs.Lengths.{rings_have_lengths}

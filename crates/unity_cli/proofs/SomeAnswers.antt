@@ -28,13 +28,13 @@ use Rattle.run_correct.specs.Answers.{IsReplay}
 use Rattle.run_correct.specs.Names.{place_of}
 use Rattle.run_correct.specs.Traces.{source_system, first_state, program_trace}
 use Rattle.run_correct.proofs.Finding.{HasSchedule, scheduled_source, no_schedule_source}
-use Rattle.proof_script.specs.declared.plans.Plan.{Plan}
-use Rattle.proof_script.specs.declared.plans.StepFault.{StepFault}
+use Rattle.proof_plans.specs.declared.plans.Plan.{Plan}
+use Rattle.proof_plans.specs.declared.plans.StepFault.{StepFault}
 use Rattle.proof_script.specs.declared.plans.Proof.{Proof}
-use Rattle.proof_script.specs.declared.plans.ScriptError.{ScriptError}
+use Rattle.proof_plans.specs.declared.plans.ScriptError.{ScriptError}
 use Rattle.proof_script.specs.Laws.{IsAnswered}
 use Rattle.proof_script.specs.Proving.{Finds}
-use Rattle.proof_script.specs.Verdicts.{verdict_of}
+use Rattle.proof_plans.specs.Verdicts.{verdict_of}
 use Rattle.proof_script.proofs.SomeLaws.{some_finding}
 use Rattle.search_tree.proofs.EndsLaws.{search-ends}
 use Rattle.certificate_printing.specs.Findings.{budget_text, refuted_text}
@@ -63,7 +63,7 @@ use Rattle.unity_cli.specs.Answer.Run as runs
 use Rattle.unity_cli.specs.Answer.Replay as replays
 use Rattle.unity_cli.specs.Answer.Watch as watching
 use Rattle.unity_cli.specs.Laws.{HasAnswer, IsLimited, LimitedHaveAnswer, SomeAnswer}
-use Rattle.unity_cli.specs.WellFormed.{of_text, of_document}
+use Rattle.streamed_documents.specs.WellFormed.{of_text, of_document}
 use Rattle.unity_cli.proofs.Accepted.{read_core}
 use Rattle.unity_cli.proofs.OneAnswers.{read_not_bad}
 use Rattle.unity_cli.proofs.Searched.{found_of}

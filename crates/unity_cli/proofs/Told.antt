@@ -32,7 +32,7 @@ use Rattle.fixed_correct.specs.Traces.{fixed_trace}
 use Rattle.fixed_correct.specs.Answers.{FixedRuns}
 use Rattle.fixed_correct.proofs.Runs.{fixed_runs_say}
 use Rattle.run_correct.proofs.Replays.{replays_say}
-use Rattle.proof_script.specs.Giving.{AreWhole}
+use Rattle.proof_plans.specs.Giving.{AreWhole}
 use Rattle.certificate_reading.specs.Certificates.{certificates_of}
 use Rattle.cli_words.specs.Requests.{Request, check, run, fixed, replay}
 use Rattle.unity_cli.specs.declared.status.Status.{Status}
@@ -561,7 +561,7 @@ done_starts asked request left t old new status e i tells done is_check bytes d 
     accepted_starts i.bytes a.0 d a.1 (subst (λ b. IsDocument b d) (left_bytes left i.bytes bytes i.were was) r)
 
 -- what `check` answers is that it accepts exactly where the proofs follow
-checked_follows : (bytes : List ℕ) (status : Status) (text : List ℕ) → Checked bytes status text →
+pub checked_follows : (bytes : List ℕ) (status : Status) (text : List ℕ) → Checked bytes status text →
     (status ≡ Status.Done) ↔ FollowsTheRules bytes
 checked_follows bytes status text c = (
   λ done. accepted_follow bytes text (subst (λ s. Checked bytes s text) done c),

@@ -4,7 +4,7 @@ use Rattle.unity_syntax.specs.declared.document.Document.{Document}
 use Rattle.unity_parser.proofs.Readings.{one_document}
 use Rattle.expand_documents.specs.Cores.{core_document}
 use Rattle.certificate_reading.specs.Certificates.{certificates_of}
-use Rattle.proof_script.specs.Verdicts.{verdict_of}
+use Rattle.proof_plans.specs.Verdicts.{verdict_of}
 use Rattle.upgraded_texts.specs.Upgraded.{upgraded, upgraded_text}
 use Rattle.upgraded_texts.proofs.Documents.{upgraded_is_as_long, upgraded_is_read}
 use Rattle.upgraded_texts.proofs.Cores.{upgraded_core, upgraded_expands, upgraded_is_named}

@@ -3,7 +3,7 @@ use Rattle.std.specs.Prelude.{◌≡◌, ◌<◌, ◌≤◌, ℕ, List, length}
 use Rattle.case_tables.specs.declared.code_table.Code.{Code}
 use Rattle.unity_syntax.specs.declared.document.Document.{Document}
 use Rattle.cli_texts.specs.Refusals.{fault_text, refusal_text}
-use Rattle.unity_cli.specs.WellFormed.{IsWellFormed, IsFirstFault}
+use Rattle.streamed_documents.specs.WellFormed.{IsWellFormed, IsFirstFault}
 
 -- the greatest number of bytes of a text
 abbrev pub greatest_size : ℕ

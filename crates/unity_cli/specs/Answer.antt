@@ -46,6 +46,11 @@ reads_source None = false
 reads_source (Some (demo places)) = false
 reads_source request = true
 
+-- `check` reads a source token by token: what is said of its answer is said of a source that tells its bytes
+abbrev pub IsSaidOf : Option Request → Option (List ℕ) → Type 0
+IsSaidOf (Some check) left = (bytes : List ℕ) × (left ≡ Some bytes)
+IsSaidOf request left = Unit {0}
+
 -- the status and the text are an answer for the bytes that were left
 pub record IsAnswer (request : Option Request) (left : Option (List ℕ)) (status : Status) (text : List ℕ) : Type 0 where
   pub bytes : List ℕ

@@ -7,9 +7,9 @@ use Rattle.executor.specs.declared.runner.Stepped.{Stepped}
 use Rattle.run_traces.specs.declared.error.RunError.{RunError}
 use Rattle.core_terms.specs.declared.documents.CDocument.{CDocument}
 use Rattle.obligations.specs.declared.certificates.Cert.{Cert}
-use Rattle.proof_script.specs.declared.plans.Plan.{Plan}
-use Rattle.proof_script.specs.declared.plans.StepFault.{StepFault}
-use Rattle.proof_script.specs.Verdicts.{verdict_of}
+use Rattle.proof_plans.specs.declared.plans.Plan.{Plan}
+use Rattle.proof_plans.specs.declared.plans.StepFault.{StepFault}
+use Rattle.proof_plans.specs.Verdicts.{verdict_of}
 use Rattle.cli_texts.specs.Refusals.{fault_text, refusal_text}
 use Rattle.cli_texts.specs.Verdicts.{accepted_text, rejected_text}
 use Rattle.cli_words.specs.Requests.{Request}

@@ -2,7 +2,7 @@
 use Rattle.std.specs.Prelude.{ℕ, List}
 use Rattle.unity_syntax.specs.declared.document.Document.{Document}
 use Rattle.expand_documents.specs.Cores.{core_document}
-use Rattle.proof_script.specs.Following.{Follows}
+use Rattle.proof_plans.specs.Following.{Follows}
 use Rattle.certificate_reading.specs.Certificates.{certificates_of}
 use Rattle.unity_cli.specs.Admitted.{greatest_size, IsAdmitted}
 

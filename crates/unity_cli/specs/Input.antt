@@ -5,7 +5,7 @@ use Rattle.expand_documents.specs.Cores.{core_document}
 use Rattle.unity_cli.specs.declared.input.Input.{Input}
 use Rattle.unity_cli.specs.declared.input.AdmittedDocument.{AdmittedDocument}
 use Rattle.unity_cli.specs.declared.input.Text.{Text}
-use Rattle.unity_cli.specs.WellFormed.{IsFirstFault}
+use Rattle.streamed_documents.specs.WellFormed.{IsFirstFault}
 use Rattle.unity_cli.specs.Admitted.{IsAdmitted}
 
 -- the bytes are this document, with its core form

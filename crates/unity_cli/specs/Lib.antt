@@ -1,4 +1,3 @@
-pub mod WellFormed
 pub mod Admitted
 pub mod Status
 pub mod Stop

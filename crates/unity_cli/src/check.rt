@@ -1,17 +1,23 @@
-// The command `check`: the verdict on the proofs of a document.
-ghost use Rattle.std.specs.Prelude.{◌≡◌, List, ℕ, IfOk};
-ghost use Rattle.unity_base.specs.Streams.{IsTold};
+// The command `check`: the verdict on the proofs of a document. The certificates of a source are judged as they are
+// read; those of a document that is held whole, as it is for an upgrade, are written for the check.
+ghost use Rattle.std.specs.Prelude.{◌≡◌, ◌≢◌, ◌⊎◌, List, ℕ, Some, IfOk};
+ghost use Rattle.std.specs.Io.KnownBytes.{IsAtEnd};
+ghost use Rattle.unity_base.specs.Streams.{IsTold, IsLongerThan, LeavesRest};
+ghost use Rattle.streamed_documents.specs.Found.{IsFound, IsJudged};
 ghost use Rattle.core_terms.specs.Conditions.{IsCoreDocument};
-ghost use Rattle.proof_script.specs.Giving.{AreWhole};
+ghost use Rattle.proof_plans.specs.Giving.{AreWhole};
 ghost use Rattle.unity_cli.specs.Admitted.{greatest_size};
-ghost use Rattle.unity_cli.specs.Answer.Check.{Checked};
+ghost use Rattle.unity_cli.specs.Answer.Check.{Checked, IsCheckText, WritesCheckText, WritesCheckPart};
 ghost use Rattle.unity_cli.specs.Input.{IsInput, IsAdmittedAs, IsSomeInput, IsSomeAdmitted};
 ghost use Rattle.cli_words.specs.Requests as requests;
-ghost use Rattle.unity_cli.specs.Answering.{IsCheckedFor, IsVerdictOn, TellsInput};
+ghost use Rattle.unity_cli.specs.Answering.{IsCheckedFor, IsVerdictOn, Telling, TellsInput};
+ghost use Rattle.unity_cli.specs.Status.{HasText};
 
+use crate::commands::GREATEST_SIZE;
 use crate::input::{AdmittedDocument, Input};
 use crate::output::{Answer, write_answer};
 use crate::status::Status;
+use crate::stop::source_stop;
 use case_tables::Code;
 use certificate_reading::certificates_from;
 use cli_texts::{accepted, document_fault, input_refusal, rejected};
@@ -19,7 +25,8 @@ use core_terms::CDocument;
 use obligations::Cert;
 use proof_script::{ScriptError, check};
 use std::alloc::{AllocError, Global};
-use unity_base::Sink;
+use streamed_documents::{Finding, Flaw, JudgedDocument, judge_source};
+use unity_base::{Sink, Source};
 
 /// What `check` answers for the input, which it takes apart: the certificates of its document are let go as they are
 /// written for the check, so that the two forms of them do not stand beside each other.
@@ -76,5 +83,75 @@ pub fn write_verdict<K: Sink>(alloc: Global, input: Input, out: &mut K) -> Statu
     match judge(alloc, input) {
         Ok(answer) => write_answer(&answer, out),
         Err(_) => Status::WantOfMemory,
+    }
+}
+
+// What `check` answers for a document that was judged.
+fn judged_answer(alloc: Global, judged: &JudgedDocument) -> Result<Answer, AllocError>
+    ensures checked { IfOk result (λ a. (bytes : List ℕ) → IsJudged greatest_size bytes judged.now →
+        Checked bytes a.status a.text.items) }
+    ensures text { IfOk result (λ a. IsCheckText a.status a.text.items) }
+{
+    let words = judged.core.words.as_slice();
+    match &judged.verdict {
+        Ok(plan) => Ok(Answer {
+            status: Status::Done,
+            text: accepted(alloc, words, plan)?,
+        }),
+        Err(fault) => Ok(Answer {
+            status: Status::Rejected,
+            text: rejected(alloc, words, fault)?,
+        }),
+    }
+}
+
+// What `check` answers for what a source was found to give.
+fn found_answer(alloc: Global, found: &Finding) -> Result<Answer, AllocError>
+    ensures checked { IfOk result (λ a. (bytes : List ℕ) → IsFound greatest_size bytes found.now →
+        Checked bytes a.status a.text.items) }
+    ensures text { IfOk result (λ a. IsCheckText a.status a.text.items) }
+{
+    match found {
+        Finding::Refused(Flaw::TooLong) => Ok(Answer::bad(input_refusal(alloc, Code::TooLong)?)),
+        Finding::Refused(Flaw::Fault { code, at }) => {
+            Ok(Answer::bad(document_fault(alloc, *code, *at)?))
+        }
+        Finding::Judged(judged) => judged_answer(alloc, judged.get()),
+    }
+}
+
+/// Writes what `check` answers for what a source was found to give.
+fn write_found<K: Sink>(alloc: Global, found: &Finding, out: &mut K) -> Status
+    ensures told { (bytes : List ℕ) → IsFound greatest_size bytes found.now →
+        Telling requests.check bytes (K.written out.old) (K.written out.new) result }
+    ensures form { HasText result → WritesCheckText result (K.written out.old) (K.written out.new) }
+    ensures part { result ≡ Status.WriteFault → WritesCheckPart (K.written out.old) (K.written out.new) }
+    ensures nothing { result ≡ Status.WantOfMemory → out.new ≡ out.old }
+    ensures never { result ≡ Status.ReadFault → ⊥ }
+    ensures cause { IsTold (K.faults out.old) (K.faults out.new) (result ≡ Status.WriteFault) }
+{
+    match found_answer(alloc, found) {
+        Ok(answer) => write_answer(&answer, out),
+        Err(_) => Status::WantOfMemory,
+    }
+}
+
+/// Reads the source to its end, or past the greatest number of bytes, and writes what `check` answers for what it gave.
+/// Its certificates are not held.
+pub fn check_source<S: Source, K: Sink>(alloc: Global, src: &mut S, out: &mut K) -> Status
+    ensures told { (bytes : List ℕ) → S.left src.old ≡ Some bytes →
+        Telling requests.check bytes (K.written out.old) (K.written out.new) result }
+    ensures form { HasText result → WritesCheckText result (K.written out.old) (K.written out.new) }
+    ensures part { result ≡ Status.WriteFault → WritesCheckPart (K.written out.old) (K.written out.new) }
+    ensures nothing { (result ≡ Status.ReadFault) ⊎ (result ≡ Status.WantOfMemory) → out.new ≡ out.old }
+    ensures end { result ≢ Status.ReadFault → result ≢ Status.WantOfMemory →
+        IsAtEnd (S.left src.new) ⊎ IsLongerThan greatest_size (S.left src.old) }
+    ensures rest { LeavesRest (S.left src.old) (S.left src.new) }
+    ensures source { IsTold (S.faults src.old) (S.faults src.new) (result ≡ Status.ReadFault) }
+    ensures sink { IsTold (K.faults out.old) (K.faults out.new) (result ≡ Status.WriteFault) }
+{
+    match judge_source(alloc, src, GREATEST_SIZE) {
+        Ok(found) => write_found(alloc, &found, out),
+        Err(stop) => source_stop(stop).status(),
     }
 }

@@ -21,7 +21,7 @@ use std::alloc::Global;
 use unity_base::Sink;
 
 /// The greatest number of bytes of a text.
-const GREATEST_SIZE: usize = 67_108_864;
+pub const GREATEST_SIZE: usize = 67_108_864;
 
 /// The greatest number of bytes of a text that is written again: with certificates that are to be found, or in
 /// version 2.

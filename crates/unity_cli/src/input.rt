@@ -1,23 +1,16 @@
 // What a source gives: a document without a fault with its core form, or why there is none.
-ghost use Rattle.std.specs.Prelude.{◌≡◌, ◌≤◌, ◌⊎◌, ℕ, None, IfOk, IfErr, OnOk, IsErrOf, length};
+ghost use Rattle.std.specs.Prelude.{◌≤◌, ◌⊎◌, ℕ, IfOk, OnOk, IsErrOf, length};
 ghost use Rattle.std.specs.Io.KnownBytes.{IsAtEnd};
 ghost use Rattle.unity_base.specs.Streams.{IsTold, IsLongerThan, LeavesRest};
 ghost use Rattle.unity_parser.specs.Document.{IsDocument};
-ghost use Rattle.names_rules.specs.WellNamed.{IsWellNamed};
-ghost use Rattle.names_rules.specs.Answers.{Stops};
-ghost use Rattle.names_rules.specs.declared.named.NameFault.{NameFault};
-ghost use Rattle.expand_documents.specs.Cores.{core_document};
-ghost use Rattle.expand_documents.specs.Faults.{expansion_fault};
 ghost use Rattle.unity_cli.specs.Input.{IsInput, IsTextOf};
-ghost use Rattle.unity_cli.specs.WellFormed.{document_fault};
 
 use crate::stop::Stop;
 use case_tables::Code;
 use core_terms::CDocument;
 use names_rules::NameFault;
-use quantified_assign::expand;
-use ranges_types::{Names, check_names};
 use std::alloc::{AllocError, Global};
+use streamed_documents::core_of;
 use unity_base::{Held, ReadError, Source, read_all};
 use unity_parser::read_document;
 use unity_syntax::{Document, SyntaxFault};
@@ -39,44 +32,6 @@ pub enum Input {
     Fault { code: Code, at: u64 },
     /// They are this document.
     Document(Held<AdmittedDocument>),
-}
-
-/// The core form of a well-named document, or the first fault of its expansion.
-fn expanded(alloc: Global, document: &Document, names: &Names) -> Result<Held<CDocument>, NameFault>
-    requires { IsWellNamed document.now }
-    ensures core { IfOk result (λ core. core ≡ core_document document.now) }
-    ensures expands { OnOk result (expansion_fault document.now ≡ None) }
-    ensures fault { IfErr result (λ fault. Stops fault (expansion_fault document.now)) }
-{
-    match expand(alloc, document, names) {
-        Ok(core) => hold(alloc, core),
-        Err(fault) => Err(fault),
-    }
-}
-
-// The value in a box.
-fn hold(alloc: Global, core: CDocument) -> Result<Held<CDocument>, NameFault>
-    ensures core { IfOk result (λ held. held ≡ core) }
-    ensures fault { IfErr result (λ fault. fault ≡ NameFault.Memory) }
-{
-    match Held::new(alloc, core) {
-        Ok(held) => Ok(held),
-        Err(_) => Err(NameFault::Memory),
-    }
-}
-
-/// The core form of a document, or the first fault of its names, or else of its expansion.
-#[tactic(auto, using(crate::proofs::FirstFaults::stops_first, crate::proofs::FirstFaults::stops_second))]
-fn core_of(alloc: Global, document: &Document) -> Result<Held<CDocument>, NameFault>
-    ensures core { IfOk result (λ core. core ≡ core_document document.now) }
-    ensures named { OnOk result (IsWellNamed document.now) }
-    ensures expands { OnOk result (expansion_fault document.now ≡ None) }
-    ensures fault { IfErr result (λ fault. Stops fault (document_fault document.now)) }
-{
-    match check_names(alloc, document) {
-        Ok(names) => expanded(alloc, document, &names),
-        Err(fault) => Err(fault),
-    }
 }
 
 // What the bytes of a document are.

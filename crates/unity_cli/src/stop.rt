@@ -1,9 +1,10 @@
 // Why a call has no answer.
 ghost use Rattle.std.specs.Prelude.{◌≡◌};
-ghost use Rattle.unity_cli.specs.Stop.{stop_status};
+ghost use Rattle.unity_cli.specs.Stop.{source_stop, stop_status};
 
 use crate::status::Status;
 use std::alloc::AllocError;
+use streamed_documents::SourceStop;
 use unity_base::Failed;
 
 /// Why there is no answer.
@@ -43,5 +44,15 @@ impl From<Failed> for Stop {
 
     fn from(_: Failed) -> Self {
         Stop::WriteFault
+    }
+}
+
+/// Why nothing was found of a source.
+pub fn source_stop(stop: SourceStop) -> Stop
+    ensures { result ≡ source_stop stop }
+{
+    match stop {
+        SourceStop::Failed => Stop::ReadFault,
+        SourceStop::Memory => Stop::Memory,
     }
 }

@@ -13,7 +13,7 @@ use Rattle.unity_lexer.specs.declared.ahead.Next.TheVariants as next
 use Rattle.unity_lexer.specs.Pieces.{BeginsWith}
 use Rattle.unity_lexer.specs.Windows.{piece_size, IsDecided, Comes, IsAhead, IsHeld}
 use Rattle.unity_lexer.proofs.Decided.{decided}
-use Rattle.unity_lexer.proofs.LongPieces.{long_word, long_gap}
+use Rattle.unity_lexer.proofs.LongPieces.{long_word, long_gap, value_small}
 use Rattle.unity_lexer.proofs.Taking.{known, shown, all_shown}
 
 -- ---- a piece that fills the window
@@ -42,7 +42,8 @@ word_ahead limit at text more k n begins open_piece full =
 pub piece_held : (w : Window) (left : Option (List ℕ)) (p : Piece) → BeginsWith (window_bytes w) p
     → IsHeld w left (next.Piece p)
 piece_held w left (pieces.Gap n) begins = begins.0
-piece_held w left (pieces.Token k n) begins = begins.0
+piece_held w left (pieces.Token k n) begins =
+    ((value_small (take n (window_bytes w)) k begins.2, begins.0.0), begins.0.1)
 piece_held w left (pieces.Fault c) begins = tt
 
 pub long_ahead : (w : Window) (left : Option (List ℕ)) → w.limit < w.at + length (held w) → IsAhead w left next.TooLong

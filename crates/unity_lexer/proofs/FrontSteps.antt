@@ -1,5 +1,5 @@
 -- What is kept of a front, piece by piece, and what it is found to be.
-use Rattle.std.proofs.Common.{◌≡◌, ℕ, ◌+◌, ◌<◌, ◌≤◌, List, [], ◌∷◌, ◌++◌, length, take, drop, Option, Some, sym}
+use Rattle.std.proofs.Common.{◌≡◌, ℕ, ◌+◌, ◌^◌, ◌<◌, ◌≤◌, List, [], ◌∷◌, ◌++◌, length, take, drop, Option, Some, sym}
 use Rattle.std.proofs.Common.{ap, ◌∙◌, subst, arith, ◌↔◌, Bool, true, false, ◌⊎◌, inl, inr, Result, Ok, Err}
 use Rattle.std.specs.Prelude.{All}
 use Rattle.std.proofs.lemmas.List.{take_at, drop_at}
@@ -18,9 +18,10 @@ use Rattle.unity_lexer.specs.declared.ahead.Next.TheVariants as next
 use Rattle.unity_lexer.specs.declared.front.Front.{Front}
 use Rattle.unity_lexer.specs.declared.front.FrontError.{FrontError}
 use Rattle.unity_lexer.specs.declared.front.FrontError.TheVariants as error
-use Rattle.unity_lexer.specs.Tokens.{Tokenizes, FirstBad}
+use Rattle.unity_syntax.specs.Classes.{value_of}
+use Rattle.unity_lexer.specs.Tokens.{Tokenizes, FirstBad, AreInOrder}
 use Rattle.unity_lexer.specs.Windows.{IsAhead, HasTaken, HasGiven, IsStop}
-use Rattle.unity_lexer.specs.Scans.{section_kind, IsNoSection, IsCut, IsWhole, IsFrontError}
+use Rattle.unity_lexer.specs.Scans.{section_kind, IsNoSection, IsCut, IsWhole, IsFrontError, IsSmall}
 use Rattle.unity_lexer.proofs.ScanSteps.{Reading, start_reading, token_reading, too_long}
 use Rattle.unity_lexer.proofs.SomeAnswer.{reads_place}
 use Rattle.unity_lexer.proofs.Taking.{consumed_told, taken_none, taken_read, taken_then, taken_front, shown_fits}
@@ -181,3 +182,46 @@ still {A} before now x told =
   where
     no_fault : ◌≡◌ {A = Result A FrontError} (Ok x) (Err error.Failed) → ⊥
     no_fault e = cc
+
+-- ---- tokens in order, with numbers that are not too large
+
+pub start_order : (at : ℕ) (ts : List Token) → ts ≡ [] → AreInOrder at at ts
+start_order at ts none = subst (λ xs. AreInOrder at at xs) (sym none) (omega arith)
+
+pub start_small : (ts : List Token) → ts ≡ [] → All IsSmall ts
+start_small ts none = λ k d l. absurd (omega (arith, l, ap length none))
+
+pub order_later : (ts : List Token) (from to now : ℕ) → AreInOrder from to ts → to ≤ now → AreInOrder from now ts
+order_later [] from to now h l = omega arith
+order_later (t ∷ ts) from to now h l = (h.0, h.1, order_later ts t.end to now h.2 l)
+
+order_pushed : (ts : List Token) (t : Token) (from to now : ℕ) → AreInOrder from to ts → to ≤ t.start
+    → t.start < t.end → t.end ≤ now → AreInOrder from now (ts ++ t ∷ [])
+order_pushed [] t from to now h a b d = let first : from ≤ to = h in (omega (arith, first, a), b, d)
+order_pushed (x ∷ xs) t from to now h a b d = (h.0, h.1, order_pushed xs t x.end to now h.2 a b d)
+
+-- one more token, of so many bytes
+pub order_token : (ts now : List Token) (t : Token) (k : TokenKind) (from to at size end : ℕ) → AreInOrder from to ts
+    → to ≤ at → 0 < size → at + size ≤ end → t ≡ record { kind = k; start = at; end = at + size }
+    → now ≡ ts ++ t ∷ [] → AreInOrder from end now
+order_token ts now t k from to at size end h a b d is e =
+    let start : t.start ≡ at = ap (λ (t : Token). t.start) is in
+    let stop : t.end ≡ at + size = ap (λ (t : Token). t.end) is in
+    subst (λ xs. AreInOrder from end xs) (sym e)
+    (order_pushed ts t from to end h (omega (arith, start, a)) (omega (arith, start, stop, b))
+    (omega (arith, stop, d)))
+
+pub order_word : (ts now : List Token) (t : Token) (from to at end : ℕ) → AreInOrder from to ts → to ≤ at → at < end
+    → t ≡ record { kind = kind.Word; start = at; end = end } → now ≡ ts ++ t ∷ [] → AreInOrder from end now
+order_word ts now t from to at end h a b is e =
+    let start : t.start ≡ at = ap (λ (t : Token). t.start) is in
+    let stop : t.end ≡ end = ap (λ (t : Token). t.end) is in
+    subst (λ xs. AreInOrder from end xs) (sym e)
+    (order_pushed ts t from to end h (omega (arith, start, a)) (omega (arith, start, stop, b))
+    (omega (arith, stop)))
+
+pub small_pushed : (ts now : List Token) (t : Token) (k : TokenKind) → All IsSmall ts → t.kind ≡ k → value_of k ≤ 2 ^ 62
+    → now ≡ ts ++ t ∷ [] → All IsSmall now
+small_pushed ts now t k all is small e =
+    subst (λ xs. All IsSmall xs) (sym e)
+    (All-push IsSmall ts t all (subst (λ k. value_of k ≤ 2 ^ 62) (sym is) small))

@@ -1,6 +1,8 @@
 -- Pieces that fill a window: comments and words longer than each reserved one.
 use Rattle.std.proofs.Common.{◌≡◌, ℕ, zero, suc, ◌+◌, ◌*◌, ◌^◌, ◌<◌, ◌≤◌, true, not, nat_le, List, []}
-use Rattle.std.proofs.Common.{◌∷◌, length, get_or, take, refl, sym, ap, ◌∙◌, arith, add-one}
+use Rattle.std.proofs.Common.{◌∷◌, length, get_or, take, refl, sym, subst, ap, ◌∙◌, arith, add-one}
+use Rattle.std.proofs.lemmas.Bool.{leb-true}
+use Rattle.unity_syntax.specs.Classes.{value_of}
 use Rattle.std.specs.Prelude.{Contains}
 use Rattle.std.specs.Char.{is_ascii_digit, digit_value}
 use Rattle.std.specs.Str.Parse.{digits_value}
@@ -64,6 +66,14 @@ word_of w r here =
     grind (arith, common_steps)
 
 -- what is spelled so long is a name
+pub value_small : (w : List ℕ) (k : TokenKind) → Spells w k → value_of k ≤ 2 ^ 62
+value_small w kind.Word spells = omega arith
+value_small w (kind.Number n) spells =
+    let small = leb-true (digits_value 10 w) (2 ^ 62) (and_left _ _ (and_right (is_numeral w) _ spells.0)) in
+    subst (λ v. v ≤ 2 ^ 62) (sym spells.1) small
+value_small w (kind.Reserved r) spells = omega arith
+value_small w (kind.Symbol s) spells = omega arith
+
 pub long_word : (w : List ℕ) (k : TokenKind) → Spells w k → 64 ≤ length w → is_word w ≡ true
 long_word w kind.Word spells l = spells.0
 long_word w (kind.Number n) spells l = absurd (number_short w spells.0 l)

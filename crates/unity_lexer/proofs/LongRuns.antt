@@ -68,13 +68,6 @@ module _ (u v x : Window) (a c : Option (List ℕ)) (some : 0 < length (window_b
     appended = f ∙ ap (λ xs. xs ++ h.dropped) e ∙ append_assoc kept (take 1 (held u)) h.dropped;
   }
 
-pub word_taken : (u x : Window) (a c : Option (List ℕ)) → HasRun run.Word u x a c → Halts run.Word x c
-    → x.at + length (held x) ≤ x.limit → IsAhead u a next.Word → (bytes : List ℕ) → coming u a ≡ Some bytes
-    → PassesWord u.at bytes x.at (coming x c)
-word_taken u x a c h halts inside ahead = λ bytes e.
-    let front = ahead bytes e in
-    long_run u x a c bytes front.0 front.1 h halts inside e front.2 front.3 front.4
-
 -- the first byte of a word goes on with it
 first_passes : (xs more front rest : List ℕ) → 0 < length xs → front ++ rest ≡ xs ++ more → is_word front ≡ true
     → list_all is_word_byte (take 1 xs) ≡ true
@@ -87,6 +80,12 @@ first_passes (x ∷ xs) more (b ∷ bs) rest some e made =
 -- a long word, of which the first byte was dropped before the rest of the run
 module _ (u v x : Window) (a c : Option (List ℕ)) (some : 0 < length (window_bytes u)) (d : HasDropped u v 1)
     (h : HasRun run.Word v x a c) where
+  pub word_passed : HasPassed u x a c
+  word_passed = passed_then u v x a a c (dropped_passed u v a 1 (omega arith) d) (run_passed run.Word v x a c h)
+
+  pub word_rises : u.at < x.at
+  word_rises = let one = d.at in let more = h.taken.at in omega arith
+
   word_all : (bytes : List ℕ) → coming u a ≡ Some bytes → Comes u.limit u.at bytes next.Word → HasRun run.Word u x a c
   word_all bytes e front =
       let told = known (held u) a bytes e in

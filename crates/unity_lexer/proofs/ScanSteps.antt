@@ -14,7 +14,7 @@ use Rattle.unity_lexer.specs.declared.scan.Scan.{Scan}
 use Rattle.unity_lexer.specs.declared.scan.Scan.TheVariants as scan
 use Rattle.unity_lexer.specs.Tokens.{Tokenizes, nothing, gap, token}
 use Rattle.unity_lexer.specs.Windows.{IsAhead, IsHeld, PassesGap, PassesWord}
-use Rattle.unity_lexer.specs.Scans.{ReadsTo, IsScan}
+use Rattle.unity_lexer.specs.Scans.{ReadsTo, IsScan, TokenRises}
 use Rattle.unity_lexer.proofs.Reading.{token_at}
 use Rattle.unity_lexer.proofs.Scanning.{held_gap, reads_start, reads_more, reads_pass, reads_word, reads_held}
 use Rattle.unity_lexer.proofs.SomeAnswer.{reads_place}
@@ -177,6 +177,15 @@ pub result_then : {E : Type 0} (u w x : Window) (a c d : Option (List ℕ)) (res
     → w.limit ≡ u.limit → IfOk result (λ found. Scanning w c x d found) → IfOk result (λ found. Scanning u a x d found)
 result_then u w x a c d (Ok found) r same h = scan_then u w x a c d found r same h
 result_then u w x a c d (Err e) r same h = tt
+
+-- what a call found rises from before the gaps on
+pub rises_then : {E : Type 0} (from at now : ℕ) (result : Result Scan E) → from ≤ at → IfOk result (TokenRises at now)
+    → IfOk result (TokenRises from now)
+rises_then from at now (Ok (scan.Token t)) h r = omega arith
+rises_then from at now (Ok scan.End) h r = tt
+rises_then from at now (Ok (scan.Fault code place)) h r = tt
+rises_then from at now (Ok scan.TooLong) h r = tt
+rises_then from at now (Err e) h r = tt
 
 -- ---- as the code has what comes
 

@@ -1,9 +1,11 @@
 -- What is read from a window: one token, or all before the first word `certificates`.
-use Rattle.std.specs.Prelude.{◌≡◌, ℕ, ◌+◌, ◌<◌, ◌≤◌, List, [], ◌∷◌, ◌++◌, length, take, drop, Option, Some, None, All}
+use Rattle.std.specs.Prelude.{◌≡◌, ℕ, ◌+◌, ◌^◌, ◌<◌, ◌≤◌, List, [], ◌∷◌, ◌++◌, length, take, drop, Option, Some}
+use Rattle.std.specs.Prelude.{None, All}
 use Rattle.case_tables.specs.declared.word_table.Word.TheVariants.{Certificates}
 use Rattle.unity_syntax.specs.declared.token.Token.{Token}
 use Rattle.unity_syntax.specs.declared.token.TokenKind.{TokenKind}
 use Rattle.unity_syntax.specs.declared.token.TokenKind.TheVariants as kind
+use Rattle.unity_syntax.specs.Classes.{value_of}
 use Rattle.unity_lexer.specs.declared.scan.Scan.{Scan}
 use Rattle.unity_lexer.specs.declared.scan.Scan.TheVariants as scan
 use Rattle.unity_lexer.specs.declared.front.Front.{Front}
@@ -24,6 +26,15 @@ IsScan limit at bytes now left scan.End = Tokenizes at bytes [] now [] × (left 
 IsScan limit at bytes now left (scan.Fault code place) =
     (read : ReadsTo at bytes [] now left) × IsFaulty read.rest code × (place ≡ now)
 IsScan limit at bytes now left scan.TooLong = limit < at + length bytes
+
+-- a token that was read has a byte
+abbrev pub TokenRises : ℕ → ℕ → Scan → Type 0
+TokenRises at now (scan.Token t) = at < now
+TokenRises at now found = Unit {0}
+
+-- a number that is read is not too large
+abbrev pub IsSmall : Token → Type 0
+IsSmall t = value_of t.kind ≤ 2 ^ 62
 
 -- the word with which a section of certificates begins
 abbrev pub section_kind : TokenKind

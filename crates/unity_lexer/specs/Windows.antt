@@ -1,5 +1,5 @@
 -- What a window is found to begin with, and what is taken from it, beside a source that has these bytes left.
-use Rattle.std.specs.Prelude.{◌≡◌, ℕ, ◌+◌, ◌<◌, ◌≤◌, Bool, false, not, ◌==◌, List, [], ◌∷◌, ◌++◌, length}
+use Rattle.std.specs.Prelude.{◌≡◌, ℕ, ◌+◌, ◌^◌, ◌<◌, ◌≤◌, Bool, false, not, ◌==◌, List, [], ◌∷◌, ◌++◌, length}
 use Rattle.std.specs.Prelude.{Option, Some, IsTrue}
 use Rattle.std.specs.List.{list_all}
 use Rattle.std.specs.Io.KnownBytes.{Consumes, IsAtEnd}
@@ -13,7 +13,9 @@ use Rattle.unity_lexer.specs.declared.stretches.Run.{Run}
 use Rattle.unity_lexer.specs.declared.stretches.Run.TheVariants as run
 use Rattle.unity_lexer.specs.declared.front.FrontError.{FrontError}
 use Rattle.unity_lexer.specs.declared.front.FrontError.TheVariants as error
+use Rattle.unity_syntax.specs.declared.token.TokenKind.{TokenKind}
 use Rattle.unity_syntax.specs.declared.token.TokenKind.TheVariants as kind
+use Rattle.unity_syntax.specs.Classes.{value_of}
 use Rattle.unity_lexer.specs.Tokens.{is_word, is_word_byte, IsGap, IsLongestRun, Spells}
 use Rattle.unity_lexer.specs.Pieces.{BeginsWith}
 
@@ -43,10 +45,14 @@ Comes limit at bytes next.TooLong = limit < at + length bytes
 abbrev pub IsAhead : Window → Option (List ℕ) → Next → Type 0
 IsAhead w left n = (bytes : List ℕ) → coming w left ≡ Some bytes → Comes (window_limit w) (window_at w) bytes n
 
+-- a token has a byte, and a number is read that is not too large
+abbrev pub IsSizedToken : TokenKind → ℕ → Type 0
+IsSizedToken kind size = (value_of kind ≤ 2 ^ 62) × (0 < size)
+
 -- what is held of it
 abbrev pub IsHeld : Window → Option (List ℕ) → Next → Type 0
 IsHeld w left (next.Piece (pieces.Gap size)) = (0 < size) × (size ≤ length (window_bytes w))
-IsHeld w left (next.Piece (pieces.Token kind size)) = (0 < size) × (size ≤ length (window_bytes w))
+IsHeld w left (next.Piece (pieces.Token kind size)) = IsSizedToken kind size × (size ≤ length (window_bytes w))
 IsHeld w left (next.Piece (pieces.Fault code)) = Unit {0}
 IsHeld w left next.Comment = 0 < length (window_bytes w)
 IsHeld w left next.Word = 0 < length (window_bytes w)

@@ -2,14 +2,15 @@
 
 ghost use Rattle.std.specs.Prelude.{◌≡◌, ℕ, ◌+◌, ◌<◌, ◌≤◌, ◌++◌, List, Some, length, IfOk, IfErr, OnOk, IsErrOf};
 ghost use Rattle.std.specs.Prelude.{IsTrue};
-ghost use Rattle.std.specs.Prelude.{◌↔◌, [], ◌∷◌, None, OnErr, take};
+ghost use Rattle.std.specs.Prelude.{◌↔◌, [], ◌∷◌, None, OnErr, take, All};
 ghost use Rattle.std.specs.Io.KnownBytes.{IsAtEnd};
 ghost use Rattle.unity_base.specs.Streams.{IsTold};
 ghost use Rattle.unity_base.specs.Window.{held, coming, window_at, window_limit, window_bytes, HasDropped};
 ghost use Rattle.unity_base.specs.Window.{HasPassed};
 ghost use Rattle.unity_lexer.specs.Windows.{IsAhead, IsStop, HasGiven, PassesGap, PassesWord};
 ghost use Rattle.unity_syntax.specs.declared.token.TokenKind.TheVariants as kind;
-ghost use Rattle.unity_lexer.specs.Scans.{section_kind, IsFront, IsFrontError};
+ghost use Rattle.unity_lexer.specs.Tokens.{AreInOrder};
+ghost use Rattle.unity_lexer.specs.Scans.{section_kind, IsFront, IsFrontError, IsNoSection, IsSmall};
 
 use crate::ahead::{Next, next_piece};
 use crate::piece::Piece;
@@ -152,7 +153,8 @@ fn is_section(kind: TokenKind) -> bool
 /// Reads all before the first word `certificates` and drops that word, or reads to the end of the input where there is
 /// no such word. What stands behind the word is still to come, and is not looked at.
 ///
-/// The tokens are those of `lex`. A front is refused at its first bytes that are read as no token, as by `lex`, or
+/// The tokens are those of `lex`. They stand in order and no number among them is above 2^62, also where the source
+/// does not tell its bytes. A front is refused at its first bytes that are read as no token, as by `lex`, or
 /// where the input passes the limit of the window before the front ends.
 pub fn read_front<S: Source>(
     alloc: Global,
@@ -162,6 +164,9 @@ pub fn read_front<S: Source>(
     ensures front { IfOk result (λ f. window_at w.old ≡ 0 →
         (bytes : List ℕ) → coming w.old (S.left src.old) ≡ Some bytes →
         IsFront (window_limit w.old) bytes f (coming w.new (S.left src.new))) }
+    ensures places { IfOk result (λ f. AreInOrder (window_at w.old) (window_at w.new) f.tokens) }
+    ensures numbers { IfOk result (λ f. All IsSmall f.tokens) }
+    ensures none { IfOk result (λ f. All IsNoSection f.tokens) }
     ensures end { IfOk result (λ f. f.cut ≡ None → (held w.new ≡ []) × IsAtEnd (S.left src.new)) }
     ensures error { IfErr result (λ e. window_at w.old ≡ 0 →
         (bytes : List ℕ) → coming w.old (S.left src.old) ≡ Some bytes →

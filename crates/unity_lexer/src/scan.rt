@@ -6,7 +6,7 @@ ghost use Rattle.unity_base.specs.Streams.{HasCause};
 ghost use Rattle.unity_base.specs.Window.{held, coming, window_at, window_limit, window_bytes, HasDropped, HasPassed};
 ghost use Rattle.unity_base.specs.Window.{PassesLimit};
 ghost use Rattle.unity_lexer.specs.Windows.{IsAhead, PassesGap};
-ghost use Rattle.unity_lexer.specs.Scans.{IsScan};
+ghost use Rattle.unity_lexer.specs.Scans.{IsScan, TokenRises};
 
 use crate::ahead::{Next, next_piece};
 use crate::piece::Piece;
@@ -51,14 +51,17 @@ fn skip_comment<S: Source>(w: &mut Window, src: &mut S) -> Result<bool, Failed>
 
 /// Reads a word that is longer than each reserved one.
 fn long_word<S: Source>(w: &mut Window, src: &mut S) -> Result<Scan, Failed>
-    requires { IsAhead w.old (S.left src.old) Next.Word }
+    requires ahead { IsAhead w.old (S.left src.old) Next.Word }
+    requires some { 0 < length (window_bytes w.old) }
     ensures scan { IfOk result (λ scan. (bytes : List ℕ) → coming w.old (S.left src.old) ≡ Some bytes →
         IsScan (window_limit w.old) (window_at w.old) bytes (window_at w.new) (coming w.new (S.left src.new)) scan) }
     ensures no_end { IfOk result (λ scan. ¬ (scan ≡ Scan.End)) }
+    ensures rises { IfOk result (TokenRises (window_at w.old) (window_at w.new)) }
     ensures passed { HasPassed w.old w.new (S.left src.old) (S.left src.new) }
     ensures cause { HasCause (S.faults src.old) (S.faults src.new) result }
 {
     let start = w.at();
+    w.advance();
     skip_run(Run::Word, w, src)?;
     if w.is_past_limit() {
         return Ok(Scan::TooLong);
@@ -85,11 +88,12 @@ fn held_token(w: &mut Window, kind: TokenKind, size: usize) -> Token
 
 /// Reads the next token, passing the blanks and comments before it. It takes no memory.
 ///
-/// Tokens are read as `lex` reads them: the tokens of successive calls are those of the whole input. `Failed` comes
-/// only where the source's count of faults rose.
+/// Tokens are read as `lex` reads them: the tokens of successive calls are those of the whole input. A token has a
+/// byte, also where the source does not tell its bytes. `Failed` comes only where the source's count of faults rose.
 pub fn next_token<S: Source>(w: &mut Window, src: &mut S) -> Result<Scan, Failed>
     ensures scan { IfOk result (λ scan. (bytes : List ℕ) → coming w.old (S.left src.old) ≡ Some bytes →
         IsScan (window_limit w.old) (window_at w.old) bytes (window_at w.new) (coming w.new (S.left src.new)) scan) }
+    ensures rises { IfOk result (TokenRises (window_at w.old) (window_at w.new)) }
     ensures end { IfOk result (λ scan. scan ≡ Scan.End → (held w.new ≡ []) × IsAtEnd (S.left src.new)) }
     ensures passed { HasPassed w.old w.new (S.left src.old) (S.left src.new) }
     ensures cause { HasCause (S.faults src.old) (S.faults src.new) result }

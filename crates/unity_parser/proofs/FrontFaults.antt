@@ -1,8 +1,8 @@
 -- A fault stays where it is, whatever follows the next token that opens no bracket.
 use Rattle.std.proofs.Common.{◌≡◌, ℕ, zero, suc, ◌≤◌, Bool, true, false, if◌then◌else◌, List, []}
 use Rattle.std.proofs.Common.{◌∷◌}
-use Rattle.std.proofs.Common.{◌++◌, Option, Some, refl, sym, ap, ◌∙◌, subst, arith}
-use Rattle.std.proofs.lemmas.List.{append_cancel_right}
+use Rattle.std.proofs.Common.{◌++◌, Option, Some, None, refl, sym, ap, ◌∙◌, subst, arith}
+use Rattle.std.proofs.lemmas.List.{append-nil, append_cancel_right}
 use Rattle.grammar_theory.specs.Ebnf.{Terminal, Ebnf, Grammar, of_any_version, has}
 use Rattle.grammar_theory.specs.Reader.{Unexpected, OtherVersion, TooDeep, count}
 use Rattle.grammar_theory.specs.Answers.{Allowed, FirstBadAt, overfull, deeper, NoneBefore}
@@ -67,6 +67,18 @@ none_before_any g levels before rest other none = go (counted g before levels)
         let past : count (b ∷ (later ++ rest)) ≤ count rest = none (b ∷ (later ++ rest)) (h rest) in
         absurd (omega (arith, past, count_more later rest))
     go (leaves left h) = λ at e. overfull_inside g other left at (sym (h other) ∙ e)
+
+-- where a front has no bracket too many, none stands before the rest
+pub none_before : (g : Grammar) (levels : ℕ) (front rest : List Terminal) → overfull g levels front ≡ None
+    → NoneBefore g levels (front ++ rest) rest
+none_before g levels front rest none = go (counted g front levels)
+  where
+    go : Counted g levels front → NoneBefore g levels (front ++ rest) rest
+    go (too_many b later h) = absurd (differ (sym none ∙ ap (overfull g levels) (sym (append-nil front)) ∙ h []))
+      where
+        differ : {xs : List Terminal} → ◌≡◌ {A = Option (List Terminal)} None (Some xs) → ⊥
+        differ e = cc
+    go (leaves left h) = λ at e. overfull_inside g rest left at (sym (h rest) ∙ e)
 
 -- ---- the next token
 

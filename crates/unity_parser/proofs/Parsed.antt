@@ -1,7 +1,7 @@
 -- From what the reader does to what the answer means.
 use Rattle.std.proofs.Common.{◌≡◌, ℕ, suc, ◌≤◌, Bool, List, [], ◌∷◌, length, Result, Ok, Err, subst, sym, ap, ◌∙◌}
 use Rattle.std.proofs.Common.{refl, arith}
-use Rattle.grammar_theory.specs.Ebnf.{Tree}
+use Rattle.grammar_theory.specs.Ebnf.{Tree, Derives}
 use Rattle.grammar_theory.specs.Reader.{Fault, Unexpected, OtherVersion, TooDeep, read_whole}
 use Rattle.grammar_theory.specs.Words.{Word, words, spelled, IsSublist, is_done, is_left_out, is_kept}
 use Rattle.grammar_theory.proofs.Theorems.{exact}
@@ -84,8 +84,12 @@ rise_in later bytes (w ∷ ws) (v ∷ vs) (is_kept h) from to (t ∷ ts) e r =
     place_of_first [] = 0
     place_of_first (w ∷ ws) = w.0
 
+pub words_within : (later : Bool) (bytes : List ℕ) (tokens : List Token) (x : Tree) (to : ℕ) →
+    Derives grammar document_ x (terminals later bytes tokens) → AreInOrder 0 to tokens → WordsRise 0 to (words x)
+words_within later bytes tokens x to derives r =
+    rise_in later bytes (words x) (spelled (terminals later bytes tokens))
+    (words_kept grammar bodies_keep derives document_keeps) 0 to tokens refl r
+
 pub words_stand : (bytes : List ℕ) (tokens : List Token) (d : Document) → IsDocumentOf bytes tokens d → AreInOrder 0
     (length bytes) tokens → WordsRise 0 (length bytes) (words (view d))
-words_stand bytes tokens d is r = rise_in (says_later tokens) bytes (words (view d))
-    (spelled (terminals (says_later tokens) bytes tokens))
-    (words_kept grammar bodies_keep is.0 document_keeps) 0 (length bytes) tokens refl r
+words_stand bytes tokens d is r = words_within (says_later tokens) bytes tokens (view d) (length bytes) is.0 r

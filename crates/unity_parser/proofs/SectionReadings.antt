@@ -35,7 +35,7 @@ reads_then nothing later = later
 reads_then (gap piece after cut is_gap reads) later = gap piece after cut is_gap (reads_then reads later)
 reads_then (token run after k long spells reads) later = token run after k long spells (reads_then reads later)
 
-terminals_join : (later : Bool) (bytes : List ℕ) (ts us : List Token) → terminals later bytes (ts ++ us) ≡
+pub terminals_join : (later : Bool) (bytes : List ℕ) (ts us : List Token) → terminals later bytes (ts ++ us) ≡
     terminals later bytes ts ++ terminals later bytes us
 terminals_join later bytes ts us = map-append (terminal later bytes) ts us
 

@@ -10,5 +10,5 @@ mod sections;
 mod texts;
 
 pub use fronts::{front_laws, parse_front};
-pub use reading::parse;
+pub use reading::{parse, says_later};
 pub use texts::{one_reading, read_document};

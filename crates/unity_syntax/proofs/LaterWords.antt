@@ -3,7 +3,7 @@ use Rattle.std.proofs.Common.{◌≡◌, ℕ, Bool, true, false, not, ◌&&◌, 
 use Rattle.std.specs.List.{list_all, AllByRecursion}
 use Rattle.std.proofs.lemmas.Bool.{and_parts}
 use Rattle.std.proofs.lemmas.List.Elements.{All-from_recursion}
-use Rattle.grammar_theory.specs.Ebnf.{Terminal, Ebnf, has}
+use Rattle.grammar_theory.specs.Ebnf.{Terminal, Tree, Ebnf, Derives, has}
 use Rattle.case_tables.specs.declared.word_table.Word.{Word}
 use Rattle.unity_syntax.specs.declared.token.Token.{Token}
 use Rattle.unity_syntax.specs.declared.token.TokenKind.{TokenKind}
@@ -59,7 +59,10 @@ none_later bytes (t ∷ ts) h =
     (list_all (λ (t : Terminal). not (has (later_class ∷ []) t.class)) (terminals false bytes ts)) h in
     (not_later t.kind p.0, none_later bytes ts p.1)
 
+pub none_of_class : (x : Tree) (ts : List Terminal) → Derives grammar document_ x ts → AreNot (later_class ∷ []) ts
+none_of_class x ts d = are_not true (later_class ∷ []) bodies_avoid d document_avoids
+
 pub no_later_words : NoLaterWord
 no_later_words x bytes tokens d =
     All-from_recursion (λ (t : Token). is_later_token t.kind ≡ false) tokens
-    (none_later bytes tokens (are_not true (later_class ∷ []) bodies_avoid d document_avoids))
+    (none_later bytes tokens (none_of_class x (terminals false bytes tokens) d))

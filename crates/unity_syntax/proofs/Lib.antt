@@ -11,7 +11,8 @@ pub mod EachTree
 pub mod Every
 pub mod ExpressionFolds
 pub mod ItemFolds
-mod LaterWords
+pub mod LaterWords
+pub mod LeavesKept
 pub mod LookAhead
 pub mod Made
 pub mod Productions

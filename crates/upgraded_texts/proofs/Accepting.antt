@@ -22,13 +22,13 @@ use Rattle.rules_table.specs.Walk.{rule_of}
 use Rattle.safety_rules.specs.declared.places.Derived.{Derived}
 use Rattle.safety_rules.specs.Answers.{derived_of}
 use Rattle.rules_steps.specs.Starts.{document_seen}
-use Rattle.proof_script.specs.declared.plans.Plan.{Plan}
-use Rattle.proof_script.specs.declared.plans.StepFault.{StepFault}
-use Rattle.proof_script.specs.Verdicts.{then_by, or_rule_fault, failing_node, failing, most_levels, or_refutation_fault}
-use Rattle.proof_script.specs.Verdicts.{refuted_by, taken, step_verdict, steps_verdict, end_verdict, proof_verdict}
-use Rattle.proof_script.specs.Verdicts.{proofs_verdict, last_verdict, no_plan}
-use Rattle.proof_script.proofs.Equations.{refuted-none, refuted-more, taken-is, step-is, steps-none, steps-more}
-use Rattle.proof_script.proofs.Equations.{proofs-none, proofs-more, then_so}
+use Rattle.proof_plans.specs.declared.plans.Plan.{Plan}
+use Rattle.proof_plans.specs.declared.plans.StepFault.{StepFault}
+use Rattle.proof_plans.specs.Verdicts.{then_by, or_rule_fault, failing_node, failing, most_levels, or_refutation_fault}
+use Rattle.proof_plans.specs.Verdicts.{refuted_by, taken, step_verdict, steps_verdict, end_verdict, proof_verdict}
+use Rattle.proof_plans.specs.Verdicts.{proofs_verdict, last_verdict, no_plan}
+use Rattle.proof_plans.proofs.Equations.{refuted-none, refuted-more, taken-is, step-is, steps-none, steps-more}
+use Rattle.proof_plans.proofs.Equations.{proofs-none, proofs-more, then_so}
 use Rattle.upgraded_texts.specs.VerdictLaws.{UpgradedIsAccepted}
 
 -- rules: what a version allows, version 2 does

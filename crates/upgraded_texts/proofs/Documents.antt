@@ -24,7 +24,7 @@ use Rattle.expand_fits.proofs.Parsed.Version.{version_is}
 use Rattle.upgraded_texts.specs.Upgraded.{upgraded, upgraded_text}
 use Rattle.upgraded_texts.specs.TextLaws.{NumberIsInside, UpgradedIsAsLong, SecondComesBack, UpgradedIsRead}
 use Rattle.upgraded_texts.proofs.Digits.{same_length}
-use Rattle.upgraded_texts.proofs.NoLater.{none_later}
+use Rattle.unity_syntax.proofs.LaterWords.{none_of_class}
 use Rattle.upgraded_texts.proofs.Renumbered.{AreDigits, renumbers, with_number, one_and_two, two_again}
 use Rattle.upgraded_texts.proofs.Terminals.{AgreeAfter, agree_after, terminals_kept}
 use Rattle.upgraded_texts.proofs.Versions.{begins}
@@ -142,7 +142,7 @@ changes bytes d is =
     terminals_kept later text bytes (length r.front) o.second.end (length bytes) agree
     (past o.second.start o.second.end (length r.front) r.place order.2.1) o.others order.2.2
     (subst (AreNot (later_class ∷ [])) (sym o.others_are)
-    (others_avoid b.word b.number ts b.rest b.split (none_later (view d) ts is.parsed.0))) ∙ o.others_are in
+    (others_avoid b.word b.number ts b.rest b.split (none_of_class (view d) ts is.parsed.0))) ∙ o.others_are in
     let seen : terminals true text new ≡ b.word ∷ u ∷ b.rest =
     ap (λ x. x ∷ u ∷ terminals true text o.others) (word_kept later text bytes o.first word ∙ o.first_is)
     ∙ ap (λ xs. b.word ∷ u ∷ xs) rest in

@@ -2,7 +2,6 @@ pub mod Accepting
 pub mod Cores
 pub mod Digits
 pub mod Documents
-pub mod NoLater
 pub mod Renumbered
 pub mod Terminals
 pub mod Versions

@@ -6,8 +6,8 @@ use Rattle.expand_documents.specs.Cores.{core_document}
 use Rattle.expand_documents.specs.Faults.{expansion_fault}
 use Rattle.core_terms.specs.declared.documents.CDocument.{CDocument}
 use Rattle.obligations.specs.declared.certificates.Cert.{Cert}
-use Rattle.proof_script.specs.declared.plans.Plan.{Plan}
-use Rattle.proof_script.specs.Verdicts.{verdict_of}
+use Rattle.proof_plans.specs.declared.plans.Plan.{Plan}
+use Rattle.proof_plans.specs.Verdicts.{verdict_of}
 use Rattle.upgraded_texts.specs.Upgraded.{upgraded}
 
 -- its names have no fault where the document's have none,

@@ -15,8 +15,8 @@ use Rattle.core_terms.specs.Steps.{core_step}
 use Rattle.fair_rounds.specs.Records.{core_system}
 use Rattle.rules_table.specs.Walk.{Failure, Plan, walk_of}
 use Rattle.rules_steps.specs.Starts.{starts_in}
-use Rattle.proof_script.specs.declared.plans.StepFault.{StepFault}
-use Rattle.proof_script.specs.Verdicts.{rule_fault}
+use Rattle.proof_plans.specs.declared.plans.StepFault.{StepFault}
+use Rattle.proof_plans.specs.Verdicts.{rule_fault}
 use Rattle.schedule_replay.specs.declared.heading.Heading.{Heading}
 use Rattle.expand_declarations.specs.References.{core_schedule}
 use Rattle.expand_declarations.specs.WordNumbers.{document_words}

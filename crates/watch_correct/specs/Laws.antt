@@ -4,7 +4,7 @@ use Rattle.unity_syntax.specs.declared.document.Document.{Document}
 use Rattle.names_rules.specs.WellNamed.{IsWellNamed}
 use Rattle.core_terms.specs.Conditions.{IsCoreDocument}
 use Rattle.rules_table.specs.Walk.{Plan}
-use Rattle.proof_script.specs.declared.plans.StepFault.{StepFault}
+use Rattle.proof_plans.specs.declared.plans.StepFault.{StepFault}
 use Rattle.rules_steps.specs.Starts.{starts_in}
 use Rattle.expand_documents.specs.Cores.{core_document}
 use Rattle.expand_documents.specs.Faults.{expansion_fault}

@@ -7,8 +7,8 @@ use Rattle.meaning_documents.specs.Programs.{Composed}
 use Rattle.core_terms.specs.declared.programs.CProgram.{CProgram}
 use Rattle.rules_table.specs.Walk.{Plan, walk_of}
 use Rattle.rules_steps.specs.Starts.{starts_in}
-use Rattle.proof_script.specs.declared.plans.StepFault.{StepFault}
-use Rattle.proof_script.specs.Planning.{IsFailureOf}
+use Rattle.proof_plans.specs.declared.plans.StepFault.{StepFault}
+use Rattle.proof_plans.specs.Planning.{IsFailureOf}
 use Rattle.expand_documents.specs.Cores.{core_document}
 use Rattle.run_correct.specs.Traces.{source_system, first_state}
 use Rattle.run_correct.specs.Answers.{IsReplay, IsUnknown}

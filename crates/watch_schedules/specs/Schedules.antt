@@ -12,7 +12,7 @@ use Rattle.schedule_replay.specs.Schedules.{IsSchedule, IsUnknownChoice}
 use Rattle.run_traces.specs.Programs.{scheduled_program}
 use Rattle.rules_table.specs.Walk.{Plan, walk_of}
 use Rattle.rules_steps.specs.Starts.{starts_in}
-use Rattle.proof_script.specs.Planning.{IsFailureOf}
+use Rattle.proof_plans.specs.Planning.{IsFailureOf}
 use Rattle.trace_watch.specs.Cases.{watched, total_cases}
 use Rattle.trace_watch.specs.Tracing.{EndsAs}
 use Rattle.watch_schedules.specs.declared.error.WatchStop.{WatchStop}

@@ -1,7 +1,7 @@
 -- Why a schedule is not watched, where a call that is made says so.
 use Rattle.executor.specs.declared.runner.StartError.{StartError}
 use Rattle.schedule_replay.specs.declared.schedule.ScheduleError.{ScheduleError}
-use Rattle.proof_script.specs.declared.plans.ScriptError.{ScriptError}
+use Rattle.proof_plans.specs.declared.plans.ScriptError.{ScriptError}
 use Rattle.trace_watch.specs.declared.violations.WatchError.{WatchError}
 use Rattle.watch_schedules.specs.declared.error.WatchStop.{WatchStop}
 

@@ -2,7 +2,7 @@
 ghost use Rattle.std.specs.Prelude.{◌≡◌};
 
 use executor::StartError;
-use proof_script::{ScriptError, StepFault};
+use proof_plans::{ScriptError, StepFault};
 use schedule_replay::ScheduleError;
 use std::alloc::AllocError;
 use trace_watch::WatchError;

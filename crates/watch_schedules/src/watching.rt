@@ -12,7 +12,7 @@ use crate::error::WatchStop;
 use core_terms::{CDocument, CProgram};
 use executor::{Runner, start_of};
 use fair_rounds::Record;
-use proof_script::{Plan, walk};
+use proof_plans::{Plan, walk};
 use run_traces::scheduled_program;
 use schedule_replay::read_schedule;
 use std::alloc::Global;

@@ -15,7 +15,7 @@ use Rattle.wp_substitution.specs.Oversized.{is_open}
 use Rattle.wp_substitution.specs.Agreeing.{made_number, number_given, first_number, number_at, first_given, are_one}
 use Rattle.wp_substitution.specs.Agreeing.{agrees, agree}
 use Rattle.meaning_states.proofs.StepTheorems.{same_number}
-use Rattle.wp_substitution.proofs.IntTests.{zero_tests}
+use Rattle.core_terms.proofs.IntTests.{zero_tests}
 use Rattle.wp_substitution.proofs.JoinedLaws.{joined-append, rest_of}
 use Rattle.wp_substitution.proofs.KnownLaws.{truth-Bottom, bottom_folded}
 use Rattle.wp_substitution.proofs.PairLaws.{pair_truth, truth-And}

@@ -2,8 +2,6 @@ pub mod AfterLaws
 pub mod AgreeLaws
 pub mod ClosedLaws
 pub mod ExactLaws
-pub mod HeavierLaws
-pub mod IntTests
 pub mod JoinedLaws
 pub mod KnownLaws
 pub mod LightLaws

@@ -19,7 +19,7 @@ use Rattle.core_terms.proofs.WeightLaws.{own_within}
 use Rattle.core_terms.proofs.ReplacingLaws.{weights-Scale}
 use Rattle.wp_substitution.specs.Joined.{IsLight, IsLightWrite}
 use Rattle.wp_substitution.specs.Chains.{chain_weight, after_weights, after_weight}
-use Rattle.wp_substitution.proofs.HeavierLaws.{form_scaled, term_scaled}
+use Rattle.core_terms.proofs.HeavierLaws.{form_scaled, term_scaled}
 
 range_least : (r : Option Range) → 1 ≤ range_weight r
 range_least None = omega arith

@@ -115,8 +115,8 @@ module _ (step : CTerm-F ℕ ℕ → ℕ) (counts : Counts step) (limit : ℕ) w
       and_within step counts limit (defined_form slots s) (form_after s.writes q) (defined_below slots s h k)
       (after_below s.writes q k g)
 
-pub slots_counts : Counts slots_step
-slots_counts = record {
+pub slot_counts : Counts slots_step
+slot_counts = record {
   constant = λ c. refl;
   sum = λ a b. refl;
   difference = λ a b. refl;
@@ -126,8 +126,8 @@ slots_counts = record {
   choice = λ c a b. refl;
 }
 
-pub params_counts : Counts params_step
-params_counts = record {
+pub param_counts : Counts params_step
+param_counts = record {
   constant = λ c. refl;
   sum = λ a b. refl;
   difference = λ a b. refl;
@@ -141,7 +141,7 @@ pub wp_slots : (slots : List CSlot) (s : CStmt) (q : CForm) → StatementFits sl
     form_slots (wp_form slots s q) ≤ length slots
 wp_slots slots s q h k =
     let limit = length slots in
-    wp_below slots_step slots_counts limit slots s q
+    wp_below slots_step slot_counts limit slots s q
     (All-weaker (FormFits slots []) (λ f. form_slots f ≤ limit) (λ f g. g.slots_exist) s.outside h.outside)
     (All-weaker (WriteFits slots) (λ w. (form_slots w.when ≤ limit) × (term_slots w.value ≤ limit))
     (λ w g. (g.condition.slots_exist, g.value.slots_exist)) s.writes h.writes) k
@@ -163,17 +163,17 @@ pub wp_params : (slots : List CSlot) (s : CStmt) (q : CForm) → StatementFits s
     form_params (wp_form slots s q) ≤ form_params q
 wp_params slots s q h =
     let limit = form_params q in
-    wp_below params_step params_counts limit slots s q (outside_params slots s limit h)
+    wp_below params_step param_counts limit slots s q (outside_params slots s limit h)
     (writes_params slots s limit h)
     (omega arith)
 
 -- what a statement needs names no parameter, nor does what a slot holds after it
 pub defined_params : (slots : List CSlot) (s : CStmt) → StatementFits slots s → form_params (defined_form slots s) ≤ 0
 defined_params slots s h =
-    defined_below params_step params_counts 0 slots s (outside_params slots s 0 h) (writes_params slots s 0 h)
+    defined_below params_step param_counts 0 slots s (outside_params slots s 0 h) (writes_params slots s 0 h)
 
 pub slot_params : (slots : List CSlot) (s : CStmt) (n : ℕ) → StatementFits slots s →
     term_params (slot_after s.writes n) ≤ 0
 slot_params slots s n h =
-    slot_below params_step params_counts 0 s.writes n (writes_params slots s 0 h)
-    (let e = count-Slot params_step params_counts n in omega (arith, e))
+    slot_below params_step param_counts 0 s.writes n (writes_params slots s 0 h)
+    (let e = count-Slot params_step param_counts n in omega (arith, e))

@@ -21,7 +21,7 @@ use Rattle.core_terms.proofs.FoldingLaws.{value-difference_term, value-at_least_
 use Rattle.core_terms.proofs.FoldingLaws.{value-and_form, value-or_form}
 use Rattle.wp_substitution.specs.Preconditions.{and_all, all_of, inside_form, write_form, pair_form, writes_to}
 use Rattle.wp_substitution.specs.Preconditions.{pair_forms, needs, defined_form}
-use Rattle.wp_substitution.proofs.IntTests.{least_tests, zero_tests}
+use Rattle.core_terms.proofs.IntTests.{least_tests, zero_tests}
 
 regroup : (a b c : Bool) → ((a && b) && c) ≡ (a && (b && c))
 regroup true b c = refl

@@ -8,7 +8,7 @@ ghost use Rattle.core_terms.specs.Weights.{plain_weight};
 ghost use Rattle.core_terms.specs.Folding.{truth_of};
 ghost use Rattle.wp_substitution.specs.Joined.{joined_with, or_top, IsFolded, ConjunctionKnown};
 
-use core_terms::{CForm, and_known};
+use core_terms::{CForm, Joining, joined_known};
 use std::alloc::{AllocError, Global};
 use unity_base::Shared;
 
@@ -122,7 +122,7 @@ fn join(
     ensures weight { IfOk result (λ g. plain_weight g ≤ 2 ^ 65) }
 {
     match whole {
-        Some(g) => and_known(alloc, g, first, f, truth),
+        Some(g) => joined_known(alloc, Joining::Both, g, first, f, truth),
         None => Ok(f),
     }
 }

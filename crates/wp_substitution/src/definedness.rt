@@ -19,8 +19,8 @@ use crate::conjunction::Conjunction;
 use crate::counting::any_open;
 use crate::known::{Known, known_pair, known_writes};
 use core_terms::{
-    CForm, CSlot, CStmt, CTerm, CWrite, Range, and_known, at_least_known, difference_known,
-    held_form, held_term, not_known, number_of, or_known, owned_form, truth_of, zero_known,
+    CForm, CSlot, CStmt, CTerm, CWrite, Joining, Pairing, Range, Sense, held_form, held_term,
+    joined_known, not_known, number_of, owned_form, paired_known, sense_known, truth_of,
 };
 use std::alloc::{AllocError, Global};
 use unity_base::Shared;
@@ -219,7 +219,7 @@ fn write_need(
     let mut first = None;
     let idle = idle(alloc, &w.when, &mut first)?;
     let inside = inside(alloc, &w.value, slots, w.slot, truth)?;
-    or_known(alloc, idle, first, inside, truth)
+    joined_known(alloc, Joining::Either, idle, first, inside, truth)
 }
 
 // The value lies in the range of the slot, if there is one.
@@ -262,7 +262,7 @@ fn within(
     let mut first = None;
     let above = at_least(alloc, value, range.lo, &mut first)?;
     let below = at_most(alloc, value, range.hi, truth)?;
-    and_known(alloc, above, first, below, truth)
+    joined_known(alloc, Joining::Both, above, first, below, truth)
 }
 
 // A value is at least a number.
@@ -282,8 +282,8 @@ fn at_least(
     let first = number_of(value);
     let value = held_term(alloc, value)?;
     let low = Shared::new(alloc, CTerm::Const(low))?;
-    let above = difference_known(alloc, value, first, low, &mut number)?;
-    at_least_known(alloc, above, number, truth)
+    let above = paired_known(alloc, Pairing::Difference, value, first, low, &mut number)?;
+    sense_known(alloc, Sense::AtLeast, above, number, truth)
 }
 
 // A value is at most a number.
@@ -302,8 +302,15 @@ fn at_most(
     let mut number = number_of(value);
     let value = held_term(alloc, value)?;
     let first = Shared::new(alloc, CTerm::Const(high))?;
-    let below = difference_known(alloc, first, Some(high as i128), value, &mut number)?;
-    at_least_known(alloc, below, number, truth)
+    let below = paired_known(
+        alloc,
+        Pairing::Difference,
+        first,
+        Some(high as i128),
+        value,
+        &mut number,
+    )?;
+    sense_known(alloc, Sense::AtLeast, below, number, truth)
 }
 
 // Where both writes are made, their values are equal.
@@ -322,7 +329,7 @@ fn pair_need(
     let mut first = None;
     let apart = not_both(alloc, &v.when, &w.when, &mut first)?;
     let equal = equal(alloc, &v.value, &w.value, truth)?;
-    or_known(alloc, apart, first, equal, truth)
+    joined_known(alloc, Joining::Either, apart, first, equal, truth)
 }
 
 fn not_both(
@@ -341,7 +348,7 @@ fn not_both(
     let known = truth_of(f);
     let first = held_form(alloc, f)?;
     let second = held_form(alloc, g)?;
-    let both = and_known(alloc, first, known, second, truth)?;
+    let both = joined_known(alloc, Joining::Both, first, known, second, truth)?;
     not_known(alloc, both, truth)
 }
 
@@ -363,6 +370,13 @@ fn equal(
     let known = number_of(a);
     let first = held_term(alloc, a)?;
     let second = held_term(alloc, b)?;
-    let apart = difference_known(alloc, first, known, second, &mut number)?;
-    zero_known(alloc, apart, number, truth)
+    let apart = paired_known(
+        alloc,
+        Pairing::Difference,
+        first,
+        known,
+        second,
+        &mut number,
+    )?;
+    sense_known(alloc, Sense::Zero, apart, number, truth)
 }

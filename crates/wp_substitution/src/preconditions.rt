@@ -11,7 +11,7 @@ ghost use Rattle.wp_substitution.specs.Exact.{HoldsBefore};
 use crate::chains::chains;
 use crate::definedness::held_defined;
 use crate::substitution;
-use core_terms::{CForm, CSlot, CStmt, CWrite, and_known, owned_form};
+use core_terms::{CForm, CSlot, CStmt, CWrite, Joining, joined_known, owned_form};
 use std::alloc::{AllocError, Global};
 use unity_base::Shared;
 
@@ -34,7 +34,10 @@ pub fn wp(alloc: Global, s: &CStmt, q: &CForm, slots: &[CSlot]) -> Result<CForm,
     let mut truth = None;
     let defined = held_defined(alloc, s, slots, &mut first)?;
     let after = held_after(alloc, s.writes.as_slice(), q, &mut truth)?;
-    Ok(owned_form(alloc, and_known(alloc, defined, first, after, &mut truth)?)?)
+    Ok(owned_form(
+        alloc,
+        joined_known(alloc, Joining::Both, defined, first, after, &mut truth)?,
+    )?)
 }
 
 // The formula with all written slots replaced.

@@ -1,17 +1,19 @@
 // A formula with its slots replaced by what the table says of them, all at once. A replaced part stands in a place
 // of its own, and what is known of it is handed back beside it, so that no part is looked down again. Leaves
 // and nodes of several parts have functions of their own: so the frames are small.
-ghost use Rattle.std.specs.Prelude.{◌≡◌, ◌+◌, ◌*◌, ◌^◌, ◌≤◌, IfOk, cond, max};
+ghost use Rattle.std.specs.Prelude.{◌≡◌, ◌+◌, ◌*◌, ◌^◌, ◌≤◌, IfOk, max};
 ghost use Rattle.std.specs.Int.RustNames.{unsigned_abs};
 ghost use Rattle.core_terms.specs.Weights.{plain_weights, plain_weight, sum_weights, multiple_weights, choice_weights};
 ghost use Rattle.core_terms.specs.Folding as fold;
+ghost use Rattle.core_terms.specs.Senses.{paired_term, sense_form, joined_form};
 ghost use Rattle.wp_substitution.specs.Chains.{chain_at, AreChains, form_by, term_by, choice_by, after_weights};
 ghost use Rattle.wp_substitution.specs.Chains.{after_weight};
 
 use crate::chains::Chain;
 use core_terms::{
-    CForm, CTerm, and_known, at_least_known, choice_known, difference_known, not_known, or_known,
-    quotient_known, remainder_known, scaled_known, sum_known, zero_known,
+    CForm, CTerm, Joining, Pairing, Sense, choice_known, constant_known, joined_known, not_known,
+    paired_known, quotient_known, remainder_known, scaled_known, sense_known, truth_known,
+    variable_known,
 };
 use std::alloc::{AllocError, Global};
 use std::collections::BTreeMap;
@@ -34,71 +36,41 @@ pub fn form_after(
     ensures weight { IfOk result (λ g. plain_weight g ≤ after_weight f.now) }
 {
     match f {
-        CForm::Top => truth_after(alloc, true, truth),
-        CForm::Bottom => truth_after(alloc, false, truth),
-        CForm::AtLeast(t) => at_least_after(alloc, t, chains, truth),
-        CForm::Zero(t) => zero_after(alloc, t, chains, truth),
+        CForm::Top => truth_known(alloc, true, truth),
+        CForm::Bottom => truth_known(alloc, false, truth),
+        CForm::AtLeast(t) => sense_after(alloc, Sense::AtLeast, t, chains, truth),
+        CForm::Zero(t) => sense_after(alloc, Sense::Zero, t, chains, truth),
         CForm::Not(g) => not_known(alloc, form_after(alloc, g.get(), chains, truth)?, truth),
-        CForm::And(g, h) => and_after(alloc, g, h, chains, truth),
-        CForm::Or(g, h) => or_after(alloc, g, h, chains, truth),
+        CForm::And(g, h) => joined_after(alloc, Joining::Both, g, h, chains, truth),
+        CForm::Or(g, h) => joined_after(alloc, Joining::Either, g, h, chains, truth),
     }
 }
 
-#[inline(never)]
-fn truth_after(
-    alloc: Global,
-    holds: bool,
-    truth: &mut Option<bool>,
-) -> Result<Shared<CForm>, AllocError>
-    ensures tree { IfOk result (λ f. f ≡ cond holds CForm.Top CForm.Bottom) }
-    ensures truth { IfOk result (λ f. truth.new ≡ fold.truth_of f) }
-{
-    *truth = Some(holds);
-    Shared::new(alloc, if holds { CForm::Top } else { CForm::Bottom })
-}
-
 #[cycle(after)]
 #[inline(never)]
-fn at_least_after(
+fn sense_after(
     alloc: Global,
+    sense: Sense,
     t: &CTerm,
     chains: &BTreeMap<u32, Chain>,
     truth: &mut Option<bool>,
 ) -> Result<Shared<CForm>, AllocError>
     requires known { AreChains chains.now }
     requires weight { (after_weights t.now).most ≤ 2 ^ 126 }
-    ensures tree { IfOk result (λ f. f ≡ fold.at_least_form (term_by chains.now t.now)) }
+    ensures tree { IfOk result (λ f. f ≡ sense_form sense (term_by chains.now t.now)) }
     ensures truth { IfOk result (λ f. truth.new ≡ fold.truth_of f) }
     ensures weight { IfOk result (λ f. plain_weight f ≤ (after_weights t.now).most) }
 {
     let mut number = None;
     let part = term_after(alloc, t, chains, &mut number)?;
-    at_least_known(alloc, part, number, truth)
+    sense_known(alloc, sense, part, number, truth)
 }
 
 #[cycle(after)]
 #[inline(never)]
-fn zero_after(
+fn joined_after(
     alloc: Global,
-    t: &CTerm,
-    chains: &BTreeMap<u32, Chain>,
-    truth: &mut Option<bool>,
-) -> Result<Shared<CForm>, AllocError>
-    requires known { AreChains chains.now }
-    requires weight { (after_weights t.now).most ≤ 2 ^ 126 }
-    ensures tree { IfOk result (λ f. f ≡ fold.zero_form (term_by chains.now t.now)) }
-    ensures truth { IfOk result (λ f. truth.new ≡ fold.truth_of f) }
-    ensures weight { IfOk result (λ f. plain_weight f ≤ (after_weights t.now).most) }
-{
-    let mut number = None;
-    let part = term_after(alloc, t, chains, &mut number)?;
-    zero_known(alloc, part, number, truth)
-}
-
-#[cycle(after)]
-#[inline(never)]
-fn and_after(
-    alloc: Global,
+    joining: Joining,
     g: &Shared<CForm>,
     h: &Shared<CForm>,
     chains: &BTreeMap<u32, Chain>,
@@ -106,35 +78,14 @@ fn and_after(
 ) -> Result<Shared<CForm>, AllocError>
     requires known { AreChains chains.now }
     requires weight { max (after_weight g.now) (after_weight h.now) ≤ 2 ^ 126 }
-    ensures tree { IfOk result (λ both. both ≡ fold.and_form (form_by chains.now g.now) (form_by chains.now h.now)) }
-    ensures truth { IfOk result (λ both. truth.new ≡ fold.truth_of both) }
-    ensures weight { IfOk result (λ both. plain_weight both ≤ max (after_weight g.now) (after_weight h.now)) }
+    ensures tree { IfOk result (λ f. f ≡ joined_form joining (form_by chains.now g.now) (form_by chains.now h.now)) }
+    ensures truth { IfOk result (λ f. truth.new ≡ fold.truth_of f) }
+    ensures weight { IfOk result (λ f. plain_weight f ≤ max (after_weight g.now) (after_weight h.now)) }
 {
     let mut first_truth = None;
     let first = form_after(alloc, g.get(), chains, &mut first_truth)?;
     let second = form_after(alloc, h.get(), chains, truth)?;
-    and_known(alloc, first, first_truth, second, truth)
-}
-
-#[cycle(after)]
-#[inline(never)]
-fn or_after(
-    alloc: Global,
-    g: &Shared<CForm>,
-    h: &Shared<CForm>,
-    chains: &BTreeMap<u32, Chain>,
-    truth: &mut Option<bool>,
-) -> Result<Shared<CForm>, AllocError>
-    requires known { AreChains chains.now }
-    requires weight { max (after_weight g.now) (after_weight h.now) ≤ 2 ^ 126 }
-    ensures tree { IfOk result (λ either. either ≡ fold.or_form (form_by chains.now g.now) (form_by chains.now h.now)) }
-    ensures truth { IfOk result (λ either. truth.new ≡ fold.truth_of either) }
-    ensures weight { IfOk result (λ either. plain_weight either ≤ max (after_weight g.now) (after_weight h.now)) }
-{
-    let mut first_truth = None;
-    let first = form_after(alloc, g.get(), chains, &mut first_truth)?;
-    let second = form_after(alloc, h.get(), chains, truth)?;
-    or_known(alloc, first, first_truth, second, truth)
+    joined_known(alloc, joining, first, first_truth, second, truth)
 }
 
 // The term with its slots replaced; `number` is then that of the result.
@@ -153,11 +104,11 @@ fn term_after(
     ensures most { IfOk result (λ u. (plain_weights u).most ≤ (after_weights t.now).most) }
 {
     match t {
-        CTerm::Const(c) => const_after(alloc, *c, number),
+        CTerm::Const(c) => constant_known(alloc, *c, number),
         CTerm::Slot(n) => chain_of(alloc, chains, *n, number),
-        CTerm::Param(n) => param_after(alloc, *n, number),
-        CTerm::Add(a, b) => sum_after(alloc, a, b, chains, number),
-        CTerm::Sub(a, b) => difference_after(alloc, a, b, chains, number),
+        CTerm::Param(n) => variable_known(alloc, CTerm::Param(*n), number),
+        CTerm::Add(a, b) => pair_after(alloc, Pairing::Sum, a, b, chains, number),
+        CTerm::Sub(a, b) => pair_after(alloc, Pairing::Difference, a, b, chains, number),
         CTerm::Scale(k, a) => {
             scaled_known(
                 alloc,
@@ -186,36 +137,11 @@ fn term_after(
     }
 }
 
-#[inline(never)]
-fn const_after(
-    alloc: Global,
-    c: i64,
-    number: &mut Option<i128>,
-) -> Result<Shared<CTerm>, AllocError>
-    ensures tree { IfOk result (λ u. u ≡ CTerm.Const c) }
-    ensures number { IfOk result (λ u. number.new ≡ fold.number_of u) }
-{
-    *number = Some(c as i128);
-    Shared::new(alloc, CTerm::Const(c))
-}
-
-#[inline(never)]
-fn param_after(
-    alloc: Global,
-    param: u32,
-    number: &mut Option<i128>,
-) -> Result<Shared<CTerm>, AllocError>
-    ensures tree { IfOk result (λ u. u ≡ CTerm.Param param) }
-    ensures number { IfOk result (λ u. number.new ≡ fold.number_of u) }
-{
-    *number = None;
-    Shared::new(alloc, CTerm::Param(param))
-}
-
 #[cycle(after)]
 #[inline(never)]
-fn sum_after(
+fn pair_after(
     alloc: Global,
+    which: Pairing,
     a: &Shared<CTerm>,
     b: &Shared<CTerm>,
     chains: &BTreeMap<u32, Chain>,
@@ -223,7 +149,7 @@ fn sum_after(
 ) -> Result<Shared<CTerm>, AllocError>
     requires known { AreChains chains.now }
     requires weight { (sum_weights (after_weights a.now) (after_weights b.now)).most ≤ 2 ^ 126 }
-    ensures tree { IfOk result (λ u. u ≡ fold.sum_term (term_by chains.now a.now) (term_by chains.now b.now)) }
+    ensures tree { IfOk result (λ u. u ≡ paired_term which (term_by chains.now a.now) (term_by chains.now b.now)) }
     ensures number { IfOk result (λ u. number.new ≡ fold.number_of u) }
     ensures own { IfOk result (λ u. (plain_weights u).own ≤ (after_weights a.now).own + (after_weights b.now).own) }
     ensures most { IfOk result (λ u. (plain_weights u).most ≤
@@ -232,30 +158,7 @@ fn sum_after(
     let mut first_number = None;
     let first = term_after(alloc, a.get(), chains, &mut first_number)?;
     let second = term_after(alloc, b.get(), chains, number)?;
-    sum_known(alloc, first, first_number, second, number)
-}
-
-#[cycle(after)]
-#[inline(never)]
-fn difference_after(
-    alloc: Global,
-    a: &Shared<CTerm>,
-    b: &Shared<CTerm>,
-    chains: &BTreeMap<u32, Chain>,
-    number: &mut Option<i128>,
-) -> Result<Shared<CTerm>, AllocError>
-    requires known { AreChains chains.now }
-    requires weight { (sum_weights (after_weights a.now) (after_weights b.now)).most ≤ 2 ^ 126 }
-    ensures tree { IfOk result (λ u. u ≡ fold.difference_term (term_by chains.now a.now) (term_by chains.now b.now)) }
-    ensures number { IfOk result (λ u. number.new ≡ fold.number_of u) }
-    ensures own { IfOk result (λ u. (plain_weights u).own ≤ (after_weights a.now).own + (after_weights b.now).own) }
-    ensures most { IfOk result (λ u. (plain_weights u).most ≤
-        (sum_weights (after_weights a.now) (after_weights b.now)).most) }
-{
-    let mut first_number = None;
-    let first = term_after(alloc, a.get(), chains, &mut first_number)?;
-    let second = term_after(alloc, b.get(), chains, number)?;
-    difference_known(alloc, first, first_number, second, number)
+    paired_known(alloc, which, first, first_number, second, number)
 }
 
 #[cycle(after)]
@@ -304,9 +207,6 @@ fn chain_of(
             *number = chain.number;
             chain.term.share()
         }
-        None => {
-            *number = None;
-            Shared::new(alloc, CTerm::Slot(slot))
-        }
+        None => variable_known(alloc, CTerm::Slot(slot), number),
     }
 }

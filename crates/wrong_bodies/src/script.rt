@@ -1,9 +1,9 @@
 // What judges a whole document, and what finds its certificates.
 ghost use Rattle.std.specs.Prelude.{IfOk};
 ghost use Rattle.core_terms.specs.Conditions.{IsCoreDocument};
-ghost use Rattle.proof_script.specs.Giving.{AreWhole, VerdictAnswers, PlanHolds};
+ghost use Rattle.proof_plans.specs.Giving.{AreWhole, VerdictAnswers, PlanHolds};
 ghost use Rattle.proof_script.specs.Proving.{Finds};
-ghost use Rattle.proof_script.specs.Verdicts.{verdict_of};
+ghost use Rattle.proof_plans.specs.Verdicts.{verdict_of};
 
 use core_terms::CDocument;
 use obligations::Cert;

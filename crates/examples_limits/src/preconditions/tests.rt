@@ -8,10 +8,10 @@ ghost use Rattle.examples_limits.specs.Swap.{two_slots};
 
 use super::*;
 use crate::deep_trees::{Around, TermAround, deep_form, deep_term};
-use core_terms::{same, size_of};
+use core_terms::{Pool, same, size_of};
 use std::test::Fail;
 use unity_base::Shared;
-use wp_substitution::{defined, wp};
+use wp_substitution::{WpError, defined, wp, wp_in};
 
 const NODES: u32 = 65536;
 
@@ -46,6 +46,41 @@ fn swaps_the_slots(rt: HostRuntime) -> Result<(), Fail> {
     let q = sum_is_three(rt.alloc(), 0, 1)?;
     let f = wp(rt.alloc(), &s, &q, slots.as_slice())?;
     assert!(rt; ends_with(&f, &sum_is_three(rt.alloc(), 1, 0)?));
+    Ok(())
+}
+
+// The size of the precondition of a formula of a pool, or none where it is above the limit.
+fn size_in_pool(
+    alloc: Global,
+    s: &CStmt,
+    q: &CForm,
+    slots: &[CSlot],
+    limit: u64,
+) -> Result<Option<u64>, AllocError>
+    requires slots { slots.now ≡ two_slots }
+    requires statement { StatementFits two_slots s.now }
+    requires formula_slots { form_slots q.now ≤ 2 }
+    requires weight { plain_weight q.now ≤ 2 ^ 62 }
+{
+    let mut pool = Pool::new(alloc);
+    let id = pool.put_form(q)?;
+    match wp_in(alloc, &mut pool, s, id, slots, limit) {
+        Ok(before) => Ok(Some(pool.form_size(before))),
+        Err(WpError::TooLarge) => Ok(None),
+        Err(WpError::Memory) => Err(AllocError),
+    }
+}
+
+#[test]
+fn swaps_in_a_pool(rt: HostRuntime) -> Result<(), Fail> {
+    let s = swap(rt.alloc())?;
+    let slots = two_slots(rt.alloc())?;
+    let q = sum_is_three(rt.alloc(), 0, 1)?;
+    let size = size_of(&wp(rt.alloc(), &s, &q, slots.as_slice())?);
+    let within = size_in_pool(rt.alloc(), &s, &q, slots.as_slice(), size)?;
+    assert!(rt; within == Some(size));
+    let without = size_in_pool(rt.alloc(), &s, &q, slots.as_slice(), size - 1)?;
+    assert!(rt; without.is_none());
     Ok(())
 }
 

@@ -1,11 +1,11 @@
 -- A document's scope is what is seen at its states.
-use Rattle.std.proofs.Common.{◌≡◌, ℕ, ℤ, pos, List, [], ◌∷◌, true, Option, Some, None, refl, sym, ap, ◌∙◌, inl, inr}
+use Rattle.std.proofs.Common.{◌≡◌, ℕ, ℤ, pos, List, [], ◌∷◌, true, Option, Some, None, refl, ap, ◌∙◌}
 use Rattle.std.proofs.Common.{◌⊎◌, slice_index_or}
 use Rattle.unity_syntax.specs.declared.declaration.Def.{Def}
 use Rattle.unity_syntax.specs.declared.program.Program.{Program}
 use Rattle.meaning_states.specs.State.{State, is_state}
 use Rattle.meaning_documents.specs.Names.{Sight, or_zero, slot_at, slot_named, slot_number}
-use Rattle.meaning_documents.specs.Value.{value, truth, holds}
+use Rattle.meaning_documents.specs.Value.{value}
 use Rattle.meaning_documents.specs.Setting.{setting_of, slot_ranges, with_always, seen_plainly, seen}
 use Rattle.meaning_documents.specs.Setting.{variables_of}
 use Rattle.names_laws.proofs.Slots.{truth_slots_are_bits}
@@ -14,11 +14,8 @@ use Rattle.expand_rules.specs.Forming.{Scope, formed}
 use Rattle.expand_correct.specs.Values.Worth.{values_of}
 use Rattle.expand_rules.specs.Documents.{with_formed, plain_scope, scope_of, within}
 use Rattle.expand_correct.specs.Values.ValueLaws.{CoreHasValue}
-use Rattle.expand_correct.proofs.Values.Values.{IsBit, slot_by, slot_of_variable, AreBits, Sees, formed_law}
-
-bit_of : (z : ℤ) → (z ≡ pos 0) ⊎ (z ≡ pos 1) → IsBit z
-bit_of z (inl e) = e ∙ sym (ap (λ v. truth (holds v)) e)
-bit_of z (inr e) = e ∙ sym (ap (λ v. truth (holds v)) e)
+use Rattle.expand_correct.proofs.Values.Bits.{IsBit, bit_of, slot_by, slot_of_variable}
+use Rattle.expand_correct.proofs.Values.Values.{AreBits, Sees, formed_law}
 
 slot_bit : (state : State) (m n : Option ℕ) → m ≡ n →
     ((slot : ℕ) → m ≡ Some slot → (slice_index_or state slot (pos 0) ≡ pos 0) ⊎ (slice_index_or state slot (pos 0) ≡

@@ -42,9 +42,9 @@ use Rattle.expand_rules.specs.Assigning.{constant_slot as beyond}
 use Rattle.expand_rules.specs.Assigning.{index_formed, paired_effect, condition, alternative_effect, all_beside}
 use Rattle.expand_rules.specs.Assigning.{Effecting, component_layer, assign_layer, effect_of}
 use Rattle.expand_correct.proofs.Values.Operations.{known-term_of, value-term_of, value-form_of, holds_truth}
-use Rattle.expand_correct.proofs.Values.Values.{and_left, and_right, slot_by}
+use Rattle.core_terms.proofs.BoolLaws.{and_left, and_right}
 use Rattle.expand_rules.proofs.FlawLaws.{flaws_first, flaws_second}
-use Rattle.expand_correct.proofs.Values.Values.{slot_of_variable}
+use Rattle.expand_correct.proofs.Values.Bits.{slot_by, slot_of_variable}
 use Rattle.expand_correct.proofs.Values.Values.{IsFormed, Sees, formed_as_number, formed_as_truth, formed_law}
 use Rattle.expand_correct.proofs.Values.Values.{sees_inside}
 use Rattle.expand_correct.proofs.Values.Values.{range_numbers}

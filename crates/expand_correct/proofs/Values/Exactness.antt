@@ -49,7 +49,7 @@ use Rattle.expand_rules.specs.Assigning.{is_outside}
 use Rattle.expand_rules.specs.Assigning.{index_formed, paired_effect, condition, alternative_effect, all_beside}
 use Rattle.expand_rules.specs.Assigning.{Effecting, component_layer, assign_layer}
 use Rattle.expand_correct.specs.Values.ExactLaws.{Agrees, ExpressionsExact, ExpressionsConstant, AssignmentsExact}
-use Rattle.expand_correct.proofs.Values.Values.{and_left, and_right}
+use Rattle.core_terms.proofs.BoolLaws.{and_left, and_right}
 
 -- what is told of an expression by its names holds of what it becomes
 pub record Keeps (a : Attributes) (x : Formed) : Type 0 where

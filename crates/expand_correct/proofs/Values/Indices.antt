@@ -16,7 +16,7 @@ use Rattle.core_terms.specs.Values.{term_value, form_value}
 use Rattle.meaning_states.specs.State.{int_eq}
 use Rattle.core_terms.specs.Folding.{difference_term, zero_form, or_form}
 use Rattle.core_terms.proofs.PartLaws.{value-Const, value-Bottom}
-use Rattle.expand_rules.proofs.Differences.{zero_tests}
+use Rattle.core_terms.proofs.IntTests.{zero_tests}
 use Rattle.core_terms.proofs.FoldingLaws.{value-difference_term, value-zero_form, value-and_form, value-or_form}
 use Rattle.expand_rules.specs.Assigning.{equations, any_of, spread}
 use Rattle.std.specs.Prelude.{fold}

@@ -25,7 +25,8 @@ use Rattle.expand_rules.specs.Forming.{number_core, truth_core, term_of, form_of
 use Rattle.expand_rules.specs.Forming.{difference_core, negated_core, multiple_core, at_least_core, zero_core}
 use Rattle.expand_rules.specs.Forming.{not_core, and_core, or_core}
 use Rattle.expand_correct.specs.Values.Worth.{core_value}
-use Rattle.expand_rules.proofs.Differences.{least_tests, divisor_steady}
+use Rattle.core_terms.proofs.IntTests.{least_tests}
+use Rattle.expand_rules.proofs.Differences.{divisor_steady}
 use Rattle.expand_rules.proofs.KnownParts.{number-Const, some-sum_term, some-difference_term, some-scaled_term}
 use Rattle.expand_rules.proofs.KnownParts.{some-at_least_form, some-zero_form, some-not_form, some-and_form}
 use Rattle.expand_rules.proofs.KnownParts.{some-or_form, some-choice_term}

@@ -1,11 +1,10 @@
 -- An expression's core is worth what the expression is, where names have no fault and no range and no divisor
 -- is bad.
 use Rattle.std.proofs.Common.{◌≡◌, ℕ, ℤ, pos, neg_ℤ, ◌+ℤ◌, ◌-ℤ◌, ◌*ℤ◌, List, [], ◌∷◌, map, Bool, true, false, cond}
-use Rattle.std.proofs.Common.{not, ◌&&◌, ◌||◌, Option, Some, None, option_map, refl, sym, ap, ◌∙◌, subst, arith, inl}
-use Rattle.std.proofs.Common.{inr, ◌⊎◌, max}
+use Rattle.std.proofs.Common.{not, ◌&&◌, ◌||◌, Option, Some, None, option_map, refl, sym, ap, ◌∙◌, subst, arith}
+use Rattle.std.proofs.Common.{max}
 use Rattle.std.proofs.lemmas.Int.{ints}
 use Rattle.std.proofs.Math.IntN.{*ℤ_comm}
-use borrow.Author.Differences.{le-true, le-false, true_is_lt, false_is_lt}
 use Rattle.std.specs.Prelude.{fold}
 use Rattle.std.specs.Option.{is_some, option_or}
 use Rattle.std.specs.List.{list_all, list_any}
@@ -59,11 +58,13 @@ use Rattle.expand_rules.specs.Forming.{element_of, gathered_by, gathered, number
 use Rattle.expand_rules.specs.Forming.{is_fixed_range, fit_values, quantified, Forming, factor_at, form_layer}
 use Rattle.expand_rules.specs.Forming.{forming}
 use Rattle.expand_correct.specs.Values.Worth.{core_value, bound_value, values_of}
-use Rattle.expand_rules.proofs.Differences.{zero_tests, least_tests, below_tests}
+use Rattle.core_terms.proofs.IntTests.{zero_tests, least_tests}
 use Rattle.expand_rules.proofs.FlawLaws.{nearer_first, nearer_second, flaws_first, flaws_second}
 use Rattle.expand_rules.proofs.KnownParts.{some-quotient_term, some-remainder_term, number-Const, truth-Top}
 use Rattle.expand_rules.proofs.KnownParts.{truth-Bottom}
 use Rattle.expand_rules.proofs.Chains.{value-chain}
+use Rattle.core_terms.proofs.BoolLaws.{and_left, and_right}
+use Rattle.expand_correct.proofs.Values.Bits.{IsBit, above_tests, same_truths, slot_by, slot_of_variable}
 use Rattle.expand_correct.proofs.Values.Operations.{two, is_known, KeepsKnown, KeepBothKnown, known-sum}
 use Rattle.expand_correct.proofs.Values.Operations.{known-difference}
 use Rattle.expand_correct.proofs.Values.Operations.{known-negation, known-multiple, known-at_least, known-zero}
@@ -76,62 +77,12 @@ use Rattle.expand_correct.proofs.Values.Operations.{value-negation, value-multip
 use Rattle.expand_correct.proofs.Values.Operations.{value-denial}
 use Rattle.expand_correct.proofs.Values.Operations.{value-conjunction, value-disjunction}
 
-pub and_left : (a b : Bool) → (a && b) ≡ true → a ≡ true
-and_left true b h = refl
-and_left false b h = cc
-
-pub and_right : (a b : Bool) → (a && b) ≡ true → b ≡ true
-and_right true b h = h
-and_right false b h = cc h
-
--- a number that a truth can have
-abbrev pub IsBit : ℤ → Type 0
-IsBit z = z ≡ truth (holds z)
-
-bit_of : (z : ℤ) → (z ≡ pos 0) ⊎ (z ≡ pos 1) → IsBit z
-bit_of z (inl e) = e ∙ sym (ap (λ v. truth (holds v)) e)
-bit_of z (inr e) = e ∙ sym (ap (λ v. truth (holds v)) e)
-
 -- what fails of a part fails of the whole
 abbrev Shows : (Measure → Measure) → Type 0
 Shows count = (m : Measure) → (count m).flaws ≡ no_flaws → m.flaws ≡ no_flaws
 
 abbrev ShowsBoth : (Measure → Measure → Measure) → Type 0
 ShowsBoth count = (m n : Measure) → (count m n).flaws ≡ no_flaws → (m.flaws ≡ no_flaws) × (n.flaws ≡ no_flaws)
-
-not_above : (y x : ℤ) → not (int_le x y) ≡ int_lt y x
-not_above y x = elim (int_le x y) as (λ v. int_le x y ≡ v → not v ≡ int_lt y x) [
-  | true ↦ λ e. false_is_lt y x (le-true x y e)
-  | false ↦ λ e. true_is_lt y x (le-false x y e)
-] refl
-
-above_tests : (x y : ℤ) → int_le (pos 0) ((x -ℤ y) -ℤ pos 1) ≡ int_lt y x
-above_tests x y = below_tests y x ∙ not_above y x
-
--- two truths are equal where each implies the other
-same_truths : (a b : Bool) →
-    truth (holds (truth (not (holds (truth a)) || holds (truth b))) && holds (truth (not (holds (truth b)) || holds
-    (truth a))))
-    ≡ truth (int_eq (truth a) (truth b))
-same_truths true true = refl
-same_truths true false = refl
-same_truths false true = refl
-same_truths false false = refl
-
--- the slot of a variable at an index
-abbrev pub slot_by : Option Variable → Option ℤ → Option ℕ
-slot_by None index = None
-slot_by (Some v) index = slot_at v.first v.indices index
-
-pub slot_of_variable : (name : List ℕ) (index : Option ℤ) (vs : List Variable) →
-    slot_named name index vs ≡ slot_by (variable_named name vs) index
-slot_of_variable name index [] = refl
-slot_of_variable name index (x ∷ xs) =
-    elim (bytes_eq name x.name) as (λ b. cond b (slot_at x.first x.indices index) (slot_named name index xs) ≡
-    slot_by (cond b (Some x) (variable_named name xs)) index) [
-      | true ↦ refl
-      | false ↦ slot_of_variable name index xs
-    ]
 
 module _ (state params : List ℤ) where
   -- what an expression becomes is what it is worth

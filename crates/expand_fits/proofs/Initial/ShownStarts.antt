@@ -6,21 +6,19 @@ use Rattle.std.specs.Prelude.{filter, IsTrue}
 use Rattle.std.specs.List.{flat_map, list_any}
 use Rattle.std.specs.Map.{lookup}
 use Rattle.std.specs.Str.{bytes_eq}
-use Rattle.std.proofs.lemmas.Bool.{eqb-true, eq-eqb}
+use Rattle.std.proofs.lemmas.Bool.{eqb-true}
 use Rattle.std.proofs.lemmas.List.Elements.{All-nil, All-cons, All-append, All-map, All-weaker, All-filter}
 use Rattle.unity_syntax.specs.declared.declaration.Var.{Var}
-use Rattle.unity_syntax.specs.declared.declaration.Def.{Def}
 use Rattle.unity_syntax.specs.declared.declaration.Init.{Init}
 use Rattle.unity_syntax.specs.declared.program.Program.{Program}
 use Rattle.unity_syntax.specs.declared.document.Part.{Part as DocumentPart}
 use Rattle.meaning_documents.specs.Names.{Variable}
 use Rattle.meaning_documents.specs.Setting.{programs_among, slots_for, with_declarations}
 use Rattle.names_rules.specs.declared.named.Named.{Named}
-use Rattle.names_rules.specs.declared.named.Sort.{Sort}
 use Rattle.names_rules.specs.Scope.{Table, is_variable, is_value, is_visible, visible}
 use Rattle.names_rules.specs.Reading.{earlier}
 use Rattle.names_rules.specs.Part.{run}
-use Rattle.names_rules.specs.Declarations.{items_of, some_of, program_scope, value_named, variable_part, always_part}
+use Rattle.names_rules.specs.Declarations.{items_of, some_of, program_scope, variable_part, always_part}
 use Rattle.names_rules.specs.Declarations.{initially_reading}
 use Rattle.names_rules.specs.Statements.{items_part}
 use Rattle.names_rules.specs.WellNamed.{Declared, nothing_declared, new_program, start_reading, program_body, part_of}
@@ -29,7 +27,6 @@ use Rattle.names_laws.specs.VariableLaws.{Mirrors}
 use Rattle.names_laws.specs.StayingLaws.{StaysIn}
 use Rattle.names_laws.proofs.AttributeTheorems.{and_first, and_second}
 use Rattle.names_rules.proofs.Faults.{earlier_first, earlier_second}
-use Rattle.names_laws.proofs.Inserts.{bytes_same}
 use Rattle.names_laws.proofs.Mirrored.{mirrored_by_documents}
 use Rattle.names_laws.proofs.Staying.{stays_in_documents}
 use Rattle.core_terms.specs.declared.programs.CSlot.{CSlot}
@@ -48,8 +45,7 @@ use Rattle.expand_documents.specs.Cores.{declared_scope, part_definitions, docum
 use Rattle.expand_fits_parts.specs.Forms.Naming.{SlotsPass}
 use Rattle.expand_fits_parts.specs.Forms.Placing.{declares}
 use Rattle.expand_fits_parts.specs.Forms.ShowingLaws.{names_apart}
-use Rattle.expand_fits_parts.proofs.Forms.ReadWords.{or_first, or_second}
-use Rattle.expand_fits_parts.proofs.Forms.Declaring.{Variables, hold_variables, Definitions, hold_definitions}
+use Rattle.expand_fits_parts.proofs.Forms.Declaring.{hold_variables, hold_definitions}
 use Rattle.expand_fits_parts.proofs.Forms.Showing.{Owned, variable_no_value}
 use Rattle.expand_fits_parts.proofs.Forms.Placed.{slots_shown}
 use Rattle.expand_fits_parts.proofs.Conditions.Programs.{Makes, all_cores, union_makes}
@@ -57,45 +53,9 @@ use Rattle.expand_fits.proofs.Initial.StartSlots.{Follow, follow_all}
 use Rattle.expand_fits.proofs.Initial.Starts.{InitFine, all_fine, located, start_at, same_variables}
 use Rattle.expand_fits.specs.StartConditions.{StartsShown}
 use Rattle.expand_fits_parts.proofs.Forms.Unions.{shown_first, shown_second}
-use Rattle.expand_fits_parts.proofs.Forms.ShownPrograms.{Told, told_value, told_more, no_value}
-
-clear_of : (b : Bool) → not b ≡ true → b ≡ false
-clear_of true h = cc h
-clear_of false h = refl
-
-owned_value : (p : ℕ) (own : List Var) (word : List ℕ) (sort : Sort) (number : ℕ) →
-    Owned p own word (value_named sort number)
-owned_value p own word sort number h = cc h
-
-own_variables : (p : ℕ) (own ds : List Var) → ((w : List ℕ) → declares ds w ≡ true → declares own w ≡ true) →
-    Variables (Owned p own) (owned_value p own) p ds
-own_variables p own [] f = tt
-own_variables p own (v ∷ ds) f = (
-  λ m e kind h o. f v.name.text (or_first (bytes_eq v.name.text v.name.text) (declares ds v.name.text)
-      (bytes_same v.name.text v.name.text refl)),
-  own_variables p own ds (λ w h. f w (or_second (bytes_eq w v.name.text) (declares ds w) h)),
-)
-
-own_definitions : (p : ℕ) (own : List Var) (ds : List Def) → Definitions (Owned p own) (owned_value p own) p ds
-own_definitions p own [] = tt
-own_definitions p own (d ∷ ds) = (λ at r h. cc h, own_definitions p own ds)
-
-told_variables : (p : ℕ) (before : List ℕ) (ds : List Var) →
-    Variables (Told (p ∷ before)) (λ w sort number. refl) p ds
-told_variables p before [] = tt
-told_variables p before (v ∷ ds) = (
-  λ m e kind. or_second (is_value m.meaning) (nat_eq m.program p || list_any (nat_eq m.program) before)
-      (or_first (nat_eq m.program p) (list_any (nat_eq m.program) before) (eq-eqb m.program p e)),
-  told_variables p before ds,
-)
-
-told_definitions : (p : ℕ) (before : List ℕ) (ds : List Def) →
-    Definitions (Told (p ∷ before)) (λ w sort number. refl) p ds
-told_definitions p before [] = tt
-told_definitions p before (d ∷ ds) = (
-  λ at r. or_first (nat_eq p p) (list_any (nat_eq p) before) (eq-eqb p p refl),
-  told_definitions p before ds,
-)
+use Rattle.expand_fits_parts.proofs.Forms.ShownPrograms.{Told, told_value, told_more, no_value, owned_value, clear_of}
+use Rattle.expand_fits_parts.proofs.Forms.ShownPrograms.{own_variables, own_definitions, told_variables}
+use Rattle.expand_fits_parts.proofs.Forms.ShownPrograms.{told_definitions}
 
 -- a start section in the table of its program, whose variables are these
 record ShownSection (final : Table) (own : List Var) (inits : List Init) : Type 0 where

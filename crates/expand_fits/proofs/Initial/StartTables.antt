@@ -1,9 +1,9 @@
 -- What a table of words says of start values: the range of each variable, and the number of each word of an
 -- enumeration.
 use Rattle.std.proofs.Common.{◌≡◌, ℕ, suc, ◌+◌, ◌≤◌, ℤ, pos, List, [], ◌∷◌, ◌++◌, length, Bool, true, false, cond, not}
-use Rattle.std.proofs.Common.{◌&&◌, ◌||◌, Option, Some, None, is_some, ◌⊎◌, inl, inr, refl, sym, ap, ◌∙◌}
+use Rattle.std.proofs.Common.{◌&&◌, Option, Some, None, is_some, ◌⊎◌, inl, inr, refl, sym, ap, ◌∙◌}
 use Rattle.std.proofs.Common.{subst, append_assoc, arith, nat_eq, All}
-use Rattle.std.specs.List.{flat_map, list_any}
+use Rattle.std.specs.List.{flat_map}
 use Rattle.std.specs.Map.{lookup}
 use Rattle.std.specs.Str.{bytes_eq}
 use Rattle.std.proofs.lemmas.Bool.{eqb-true}
@@ -46,7 +46,7 @@ use Rattle.names_laws.specs.VariableLaws.{span_ends, Mirrors}
 use Rattle.names_laws.proofs.AttributeTheorems.{and_first, and_second}
 use Rattle.names_rules.proofs.Faults.{earlier_first, earlier_second, unless_none}
 use Rattle.names_laws.proofs.Inserts.{same_bytes, bytes_same, chosen, taken, added, found_added, still_found}
-use Rattle.names_laws.proofs.Mirrored.{not_some, mirrored_by_variables, mirrored_by_definitions}
+use Rattle.names_laws.proofs.Mirrored.{any_none, any_some, not_some, mirrored_by_variables, mirrored_by_definitions}
 use Rattle.expand_declarations.specs.Slots.{declared_by}
 use Rattle.expand_declarations.specs.Start.{enumeration_words, var_words}
 use Rattle.expand_declarations.proofs.LayoutLaws.{with_declarations-append}
@@ -136,33 +136,6 @@ named_more name (u ∷ vs) w v e = by (bytes_eq name u.name) (named_more name vs
         (cond b (Some u) (variable_named name vs) ≡ Some v) ⊎ ((name ≡ w.name) × (v ≡ w))
     by true rest f = inl f
     by false rest f = rest f
-
-any_none : (vs : List Variable) (name : List ℕ) → variable_named name vs ≡ None →
-    list_any (λ known. bytes_eq known.name name) vs ≡ false
-any_none [] name e = refl
-any_none (u ∷ vs) name e = by (bytes_eq u.name name) (bytes_eq name u.name) e
-    (λ h. bytes_same name u.name (sym (same_bytes u.name name h))) (any_none vs name)
-  where
-    by : (a b : Bool) → cond b (Some u) (variable_named name vs) ≡ None → (a ≡ true → b ≡ true) →
-        (variable_named name vs ≡ None → list_any (λ known. bytes_eq known.name name) vs ≡ false) →
-        (a || list_any (λ known. bytes_eq known.name name) vs) ≡ false
-    by false true f g known = cc f
-    by false false f g known = known f
-    by true true f g known = cc f
-    by true false f g known = let h : false ≡ true = g refl in cc h
-
-any_some : (vs : List Variable) (name : List ℕ) (v : Variable) → variable_named name vs ≡ Some v →
-    list_any (λ known. bytes_eq known.name name) vs ≡ true
-any_some [] name v e = cc e
-any_some (u ∷ vs) name v e = by (bytes_eq u.name name) (bytes_eq name u.name) e
-    (λ h. bytes_same u.name name (sym (same_bytes name u.name h))) (any_some vs name v)
-  where
-    by : (a b : Bool) → cond b (Some u) (variable_named name vs) ≡ Some v → (b ≡ true → a ≡ true) →
-        (variable_named name vs ≡ Some v → list_any (λ known. bytes_eq known.name name) vs ≡ true) →
-        (a || list_any (λ known. bytes_eq known.name name) vs) ≡ true
-    by true b f g known = refl
-    by false true f g known = let h : false ≡ true = g refl in cc h
-    by false false f g known = known f
 
 -- ranges
 

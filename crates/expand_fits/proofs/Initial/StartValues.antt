@@ -57,7 +57,7 @@ use Rattle.expand_fits_parts.proofs.Conditions.Lists.{Pairs, pairs_of}
 use Rattle.expand_fits_parts.proofs.Conditions.Programs.{Makes, all_cores, union_makes}
 use Rattle.expand_fits.proofs.Initial.StartTables.{RangeOf, EnumerationOf, KnownVar, Tells, told_documents}
 use Rattle.expand_fits.proofs.Initial.StartSlots.{Follow, follow_all, at_most}
-use Rattle.expand_fits.proofs.Initial.StartWords.{first_found}
+use Rattle.expand_correct.proofs.Preserved.Sights.{first_found}
 use Rattle.expand_fits.proofs.Initial.Starts.{InitFine, HasSection, visible_there, some_same, located, slot_found}
 use Rattle.expand_fits.proofs.Initial.Starts.{start_at, same_variables, same_words, sections_are}
 

@@ -102,16 +102,47 @@ variable_no_always (Meaning.Program at) h k = cc h
 abbrev NoAlways : ℕ → List ℕ → Named → Type 0
 NoAlways p word n = is_always n.meaning ≡ true → n.program ≡ p → ⊥
 
-owned_value : (p : ℕ) (own : List Var) (word : List ℕ) (sort : Sort) (number : ℕ) →
+pub owned_value : (p : ℕ) (own : List Var) (word : List ℕ) (sort : Sort) (number : ℕ) →
     Owned p own word (value_named sort number)
 owned_value p own word sort number h = cc h
 
 never_value : (p : ℕ) (word : List ℕ) (sort : Sort) (number : ℕ) → NoAlways p word (value_named sort number)
 never_value p word sort number h = cc h
 
-clear_of : (b : Bool) → not b ≡ true → b ≡ false
+pub clear_of : (b : Bool) → not b ≡ true → b ≡ false
 clear_of true h = cc h
 clear_of false h = refl
+
+pub own_variables : (p : ℕ) (own ds : List Var) → ((w : List ℕ) → declares ds w ≡ true → declares own w ≡ true) →
+    Variables (Owned p own) (owned_value p own) p ds
+own_variables p own [] f = tt
+own_variables p own (v ∷ ds) f = (
+  λ m e kind h o. f v.name.text (or_first (bytes_eq v.name.text v.name.text) (declares ds v.name.text)
+      (bytes_same v.name.text v.name.text refl)),
+  own_variables p own ds (λ w h. f w (or_second (bytes_eq w v.name.text) (declares ds w) h)),
+)
+
+pub own_definitions : (p : ℕ) (own : List Var) (ds : List Def) →
+    Definitions (Owned p own) (owned_value p own) p ds
+own_definitions p own [] = tt
+own_definitions p own (d ∷ ds) = (λ at r h. cc h, own_definitions p own ds)
+
+pub told_variables : (p : ℕ) (before : List ℕ) (ds : List Var) →
+    Variables (Told (p ∷ before)) (λ w sort number. refl) p ds
+told_variables p before [] = tt
+told_variables p before (v ∷ ds) = (
+  λ m e kind. or_second (is_value m.meaning) (nat_eq m.program p || list_any (nat_eq m.program) before)
+      (or_first (nat_eq m.program p) (list_any (nat_eq m.program) before) (eq-eqb m.program p e)),
+  told_variables p before ds,
+)
+
+pub told_definitions : (p : ℕ) (before : List ℕ) (ds : List Def) →
+    Definitions (Told (p ∷ before)) (λ w sort number. refl) p ds
+told_definitions p before [] = tt
+told_definitions p before (d ∷ ds) = (
+  λ at r. or_first (nat_eq p p) (list_any (nat_eq p) before) (eq-eqb p p refl),
+  told_definitions p before ds,
+)
 
 -- definitions, part by part
 abbrev defined_parts : List Variable → Bindings → Always → List DocumentPart → Always
@@ -132,40 +163,9 @@ module _ (final : Table) (vs : List Variable) (values : Bindings) (mirrors : Mir
       Everywhere (InstanceNames (shown_by (items_of declare)) any_place (scope_by vs values A)) (instances items)
       × (form_names_only (shown_by (items_of declare)) any_place (initial_form (scope_by vs values A) initially) ≡ true)
 
-  own_variables : (p : ℕ) (own ds : List Var) → ((w : List ℕ) → declares ds w ≡ true → declares own w ≡ true) →
-      Variables (Owned p own) (owned_value p own) p ds
-  own_variables p own [] f = tt
-  own_variables p own (v ∷ ds) f = (
-    λ m e kind h o. f v.name.text (or_first (bytes_eq v.name.text v.name.text) (declares ds v.name.text)
-        (bytes_same v.name.text v.name.text refl)),
-    own_variables p own ds (λ w h. f w (or_second (bytes_eq w v.name.text) (declares ds w) h)),
-  )
-
-  own_definitions : (p : ℕ) (own : List Var) (ds : List Def) →
-      Definitions (Owned p own) (owned_value p own) p ds
-  own_definitions p own [] = tt
-  own_definitions p own (d ∷ ds) = (λ at r h. cc h, own_definitions p own ds)
-
   never_variables : (p : ℕ) (ds : List Var) → Variables (NoAlways p) (never_value p) p ds
   never_variables p [] = tt
   never_variables p (v ∷ ds) = (λ m e kind h o. variable_no_always m.meaning kind h, never_variables p ds)
-
-  told_variables : (p : ℕ) (before : List ℕ) (ds : List Var) →
-      Variables (Told (p ∷ before)) (λ w sort number. refl) p ds
-  told_variables p before [] = tt
-  told_variables p before (v ∷ ds) = (
-    λ m e kind. or_second (is_value m.meaning) (nat_eq m.program p || list_any (nat_eq m.program) before)
-        (or_first (nat_eq m.program p) (list_any (nat_eq m.program) before) (eq-eqb m.program p e)),
-    told_variables p before ds,
-  )
-
-  told_definitions : (p : ℕ) (before : List ℕ) (ds : List Def) →
-      Definitions (Told (p ∷ before)) (λ w sort number. refl) p ds
-  told_definitions p before [] = tt
-  told_definitions p before (d ∷ ds) = (
-    λ at r. or_first (nat_eq p p) (list_any (nat_eq p) before) (eq-eqb p p refl),
-    told_definitions p before ds,
-  )
 
   -- parts
 

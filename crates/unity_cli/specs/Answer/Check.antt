@@ -1,11 +1,15 @@
 -- What `check` answers.
-use Rattle.std.specs.Prelude.{◌≡◌, ℕ, List, Ok, Err}
+use Rattle.std.specs.Prelude.{◌≡◌, ◌⊎◌, ℕ, List, Option, Ok, Err}
+use Rattle.std.specs.Io.KnownBytes.{Appends}
+use Rattle.unity_base.specs.Streams.{AppendsPart}
+use Rattle.case_tables.specs.declared.code_table.Code.{Code}
 use Rattle.unity_syntax.specs.declared.document.Document.{Document}
 use Rattle.expand_documents.specs.Cores.{core_document}
-use Rattle.proof_script.specs.declared.plans.Plan.{Plan}
-use Rattle.proof_script.specs.declared.plans.StepFault.{StepFault}
-use Rattle.proof_script.specs.Verdicts.{verdict_of}
+use Rattle.proof_plans.specs.declared.plans.Plan.{Plan}
+use Rattle.proof_plans.specs.declared.plans.StepFault.{StepFault}
+use Rattle.proof_plans.specs.Verdicts.{verdict_of}
 use Rattle.certificate_reading.specs.Certificates.{certificates_of}
+use Rattle.cli_texts.specs.Refusals.{fault_text, refusal_text}
 use Rattle.cli_texts.specs.Verdicts.{accepted_text, rejected_text}
 use Rattle.unity_cli.specs.declared.status.Status.{Status}
 use Rattle.unity_cli.specs.Admitted.{greatest_size, IsAdmitted, IsBad}
@@ -32,3 +36,19 @@ Checked bytes Status.Done text = IsAccepted bytes text
 Checked bytes Status.Rejected text = IsRejected bytes text
 Checked bytes Status.BadDocument text = IsBad greatest_size bytes text
 Checked bytes status text = ⊥
+
+-- the form of what `check` writes, of whatever document
+abbrev pub IsCheckText : Status → List ℕ → Type 0
+IsCheckText Status.Done text = (words : List (List ℕ)) × (plan : Plan) × (text ≡ accepted_text words plan)
+IsCheckText Status.Rejected text = (words : List (List ℕ)) × (fault : StepFault) × (text ≡ rejected_text words fault)
+IsCheckText Status.BadDocument text =
+    (text ≡ refusal_text Code.TooLong) ⊎ ((code : Code) × (at : ℕ) × (text ≡ fault_text code at))
+IsCheckText status text = ⊥
+
+-- such a text was appended
+abbrev pub WritesCheckText : Status → Option (List ℕ) → Option (List ℕ) → Type 0
+WritesCheckText status old new = (text : List ℕ) × IsCheckText status text × Appends old new text
+
+-- a front part of such a text was appended
+abbrev pub WritesCheckPart : Option (List ℕ) → Option (List ℕ) → Type 0
+WritesCheckPart old new = (status : Status) × (text : List ℕ) × IsCheckText status text × AppendsPart old new text

@@ -9,23 +9,14 @@ decreases-put_form l = 2 * size-CForm l.f.now
 abbrev pub decreases-put_term : goal.decreases-put_term
 decreases-put_term l = 2 * size-CTerm l.t.now
 
-abbrev pub decreases-put_and : goal.decreases-put_and
-decreases-put_and l = 2 * max (size-CForm l.g.now) (size-CForm l.h.now) + 1
+abbrev pub decreases-put_sense : goal.decreases-put_sense
+decreases-put_sense l = 2 * size-CTerm l.t.now + 1
 
-abbrev pub decreases-put_or : goal.decreases-put_or
-decreases-put_or l = 2 * max (size-CForm l.g.now) (size-CForm l.h.now) + 1
+abbrev pub decreases-put_joined : goal.decreases-put_joined
+decreases-put_joined l = 2 * max (size-CForm l.g.now) (size-CForm l.h.now) + 1
 
-abbrev pub decreases-put_sum : goal.decreases-put_sum
-decreases-put_sum l = 2 * max (size-CTerm l.a.now) (size-CTerm l.b.now) + 1
-
-abbrev pub decreases-put_difference : goal.decreases-put_difference
-decreases-put_difference l = 2 * max (size-CTerm l.a.now) (size-CTerm l.b.now) + 1
+abbrev pub decreases-put_pair : goal.decreases-put_pair
+decreases-put_pair l = 2 * max (size-CTerm l.a.now) (size-CTerm l.b.now) + 1
 
 abbrev pub decreases-put_choice : goal.decreases-put_choice
 decreases-put_choice l = 2 * max (size-CForm l.c.now) (max (size-CTerm l.a.now) (size-CTerm l.b.now)) + 1
-
-abbrev pub decreases-put_at_least : goal.decreases-put_at_least
-decreases-put_at_least l = 2 * size-CTerm l.t.now + 1
-
-abbrev pub decreases-put_zero : goal.decreases-put_zero
-decreases-put_zero l = 2 * size-CTerm l.t.now + 1

@@ -5,6 +5,7 @@ use Rattle.obligations.specs.declared.certificates.Node.{Node}
 use Rattle.obligations.specs.LinearForms.{line_of_const}
 use Rattle.certificate_rules.specs.Refutation.{split_at}
 use Rattle.certificate_machine.specs.Machines.{Goes, GoesErr}
+use Rattle.certificate_machine.specs.Sums.{sum_line}
 use Rattle.event_checker.specs.declared.reading.Open.{Open}
 use Rattle.event_checker.specs.Events.{with_event}
 use Rattle.event_checker.specs.Readings.{Stands}
@@ -90,5 +91,6 @@ returns-in-Share c =
     subst (λ e. Stands c.args.vs.now root new (with_event ns e)) (sym c.in-Share.is)
     (share-started c.args.vs.now m c.args.reading.now.node new (grind arith) root ns at k s))
     (started r m c.args.reading.now.node new Open.Share k
-    (subst (λ z. OnOk r (new.line ≡ line_of_const m.variables z)) same e.line) e.size e.factors e.constant e.state
+    (subst (λ z. OnOk r (sum_line new.sum ≡ line_of_const m.variables z)) same e.line)
+    e.size e.factors e.constant e.state
     e.machine e.node)

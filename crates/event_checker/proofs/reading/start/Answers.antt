@@ -7,4 +7,4 @@ use Rattle.event_checker.proofs.reading.start.Goals as goal
 
 pub returns-clause-factors : goal.returns-clause-factors
 returns-clause-factors c =
-    ap (λ (l : Line). list_all is_small l.factors) c.in_ok-line.ensures ∙ small-zeros c.as_slice.result.now
+    ap (λ (l : Line). list_all is_small l.factors) c.in_ok-restart.ensures ∙ small-zeros c.as_slice.result.now

@@ -22,22 +22,22 @@ returns-clause-tree c =
     let tree = ap (λ f. and_form f c.in_ok-same.same) (c.in_ok-first.ensures ∙ c.in_ok-defined.ensures.tree)
     ∙ ap (and_form (defined_form c.args.slots.now c.args.s.now)) (c.in_ok-same.ensures.tree
     ∙ ap (λ (ws : List CWrite). all_of (map same_value ws)) c.as_slice.ensures) in
-    IfOk-weaker c.and_known.result _ _ (λ f h. h ∙ tree) c.and_known.ensures.tree
+    IfOk-weaker c.joined_known.result _ _ (λ f h. h ∙ tree) c.joined_known.ensures.tree
 
 pub returns-clause-meaning : goal.returns-clause-meaning
 returns-clause-meaning c =
-    IfOk-weaker c.and_known.result _ _
+    IfOk-weaker c.joined_known.result _ _
     (λ (f : CForm) h. subst (λ g. HoldsWhereLedBack c.args.slots.now c.args.s.now g) (sym h)
     (part_exact c.args.slots.now c.args.s.now c.requires)) (returns-clause-tree c)
 
 pub returns-clause-slots : goal.returns-clause-slots
 returns-clause-slots c =
-    IfOk-weaker c.and_known.result _ _
+    IfOk-weaker c.joined_known.result _ _
     (λ (f : CForm) h. subst (λ g. form_slots g ≤ length c.args.slots.now) (sym h)
     (part_slots c.args.slots.now c.args.s.now c.requires)) (returns-clause-tree c)
 
 pub returns-clause-params : goal.returns-clause-params
 returns-clause-params c =
-    IfOk-weaker c.and_known.result _ _
+    IfOk-weaker c.joined_known.result _ _
     (λ (f : CForm) h. subst (λ g. form_params g ≤ 0) (sym h)
     (part_params c.args.slots.now c.args.s.now c.requires)) (returns-clause-tree c)

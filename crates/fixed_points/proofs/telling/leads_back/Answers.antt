@@ -2,7 +2,7 @@ use Rattle.std.proofs.Common.{◌∙◌, [], List, ap, slice_get, sym, false, tr
 use Rattle.std.specs.List.{list_any, list_all}
 use Rattle.core_terms.specs.declared.programs.CWrite.{CWrite}
 use Rattle.core_terms.specs.Values.{form_value}
-use Rattle.fixed_points.specs.Joining.{leaves}
+use Rattle.fixed_points.specs.Leaving.{leaves}
 use Rattle.fixed_points.proofs.TellingLaws.{back_found}
 use Rattle.fixed_points.proofs.telling.leads_back.Goals as goal
 

@@ -1,6 +1,6 @@
 use Rattle.std.proofs.Common.{refl}
 use Rattle.std.proofs.lemmas.Option.{slice_get_read}
-use Rattle.fixed_points.specs.Joining.{leaves}
+use Rattle.fixed_points.specs.Leaving.{leaves}
 use Rattle.fixed_points.proofs.TellingLaws.{one_more, one_fails}
 use Rattle.fixed_points.proofs.telling.leaves_all.Goals as goal
 

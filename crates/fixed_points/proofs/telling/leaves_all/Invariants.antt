@@ -1,6 +1,6 @@
 use Rattle.std.proofs.Common.{◌≡◌, true, take}
 use Rattle.std.specs.List.{list_all}
-use Rattle.fixed_points.specs.Joining.{leaves}
+use Rattle.fixed_points.specs.Leaving.{leaves}
 use Rattle.fixed_points.proofs.telling.leaves_all.Given as goal
 
 abbrev pub invariant-loop-write : goal.invariant-loop-write

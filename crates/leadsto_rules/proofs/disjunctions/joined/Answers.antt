@@ -12,7 +12,8 @@ returns-clause-known c =
     record {
       truth = c.in_ok-whole.ensures.truth;
       nodes = subst (λ f. c.nodes_of.result ≤ form_nodes f) (sym c.in_ok-whole.ensures.tree)
-          (counted c.args.d.whole c.args.g c.or_known.new.truth c.nodes_of.result c.args.d.nodes c.size_of-more.result
+          (counted c.args.d.whole c.args.g c.joined_known.new.truth c.nodes_of.result c.args.d.nodes
+          c.size_of-more.result
           (c.in_ok-whole.ensures.truth ∙ ap truth_of c.in_ok-whole.ensures.tree) c.requires.known.nodes fewer
           c.nodes_of.ensures);
     }

@@ -34,7 +34,8 @@ node-requires c =
     (c.in_ok-whole.ensures ∙ ap (λ f. any_of (map (λ z. form_for ranges c.args.name z f) (numbers_of range)))
     c.get.ensures) refl refl refl
     (any_exists slots ranges (λ z. form_for ranges c.args.name z p)
-    (λ z. instance_exists slots ranges c.args.name z p c.requires.t.p) range.lo (range_size (range.lo, range.hi)))
+    (λ z. instance_exists slots ranges c.args.name z p (fits_exist slots ranges p c.requires.t.p)) range.lo
+    (range_size (range.lo, range.hi)))
     (fits_exist slots ranges c.args.t.q c.requires.t.q) c.requires.t.under c.requires.t.forms
 
 pub returns-in_err-whole-clause-answer : goal.returns-in_err-whole-clause-answer

@@ -1,12 +1,12 @@
-use Rattle.std.proofs.Common.{ℤ, true, false, not, refl, ap, sym, subst, ◌∙◌, rules, w64, FitsSigned}
+use Rattle.std.proofs.Common.{ℤ, true, false, not, ap, sym, subst, ◌∙◌, rules, w64, FitsSigned}
 use Rattle.std.proofs.lemmas.Int.{to_z-of_z}
 use Rattle.core_terms.specs.declared.trees.CTerm.TheVariants.{Div, Mod}
 use Rattle.std.specs.Bool.{OnTrue}
 use Rattle.meaning_states.specs.Division.{divisor, floored}
 use Rattle.leadsto_rules.specs.Lines.{line_at, difference_line, multiple_line}
 use Rattle.leadsto_rules.specs.Stretches.{IsLineOn, IsTruthOn}
-use Rattle.leadsto_rules.proofs.PartLaws.{on-Add, on-Sub, on-Scale, on-Div, on-Mod, on-Ite, on-AtLeast, on-Zero}
-use Rattle.leadsto_rules.proofs.PartLaws.{on-Not, on-And, on-Or, fewer_numbers, shorter_line, on_true_weaker}
+use Rattle.leadsto_rules.proofs.PartLaws.{on-pair, on-Scale, on-Div, on-Mod, on-Ite, on-sense, on-Not, on-joined}
+use Rattle.leadsto_rules.proofs.PartLaws.{fewer_numbers, shorter_line, on_true_weaker}
 use Rattle.leadsto_rules.proofs.stretches.+stretches.Goals as goal
 
 pub truth_from-returns-in_ok-truth_from-in-Not-clause-truth :
@@ -18,39 +18,22 @@ truth_from-returns-in_ok-truth_from-in-Not-clause-truth t c args puts =
     let known = subst (λ f. IsTruthOn args z n f b) c.get.ensures (c.in_ok-truth_from-in-Not.ensures.truth args puts) in
     subst (λ f. IsTruthOn args z n f (not b)) (sym c.in-Not.is) (on-Not args z n c.in-Not.g b known)
 
-pub at_least_from-returns-then-line_from-clause-truth : goal.at_least_from-returns-then-line_from-clause-truth
-at_least_from-returns-then-line_from-clause-truth t c args puts =
-    on-AtLeast args c.args.start.now.number c.line_from.new.reach c.at_least-stretch.result.reach c.args.t.now
-    c.line_from.new.line c.at_least-stretch.result.holds (c.if-line_from.ensures.line args puts)
-    c.at_least-stretch.ensures.within c.at_least-stretch.ensures.truth
+pub sense_from-returns-then-line_from-clause-truth : goal.sense_from-returns-then-line_from-clause-truth
+sense_from-returns-then-line_from-clause-truth t c args puts =
+    on-sense args c.args.start.now.number c.args.sense c.line_from.new.reach c.stretch_of-stretch.result.reach
+    c.args.t.now c.line_from.new.line c.stretch_of-stretch.result.holds (c.if-line_from.ensures.line args puts)
+    c.stretch_of-stretch.ensures.within c.stretch_of-stretch.ensures.truth
 
-pub zero_from-returns-then-line_from-clause-truth : goal.zero_from-returns-then-line_from-clause-truth
-zero_from-returns-then-line_from-clause-truth t c args puts =
-    on-Zero args c.args.start.now.number c.line_from.new.reach c.zero-stretch.result.reach c.args.t.now
-    c.line_from.new.line c.zero-stretch.result.holds (c.if-line_from.ensures.line args puts)
-    c.zero-stretch.ensures.within c.zero-stretch.ensures.truth
-
-pub both_from-returns-clause-truth : goal.both_from-returns-clause-truth
-both_from-returns-clause-truth t c args puts =
+pub joined_from-returns-clause-truth : goal.joined_from-returns-clause-truth
+joined_from-returns-clause-truth t c args puts =
     let z : ℤ = c.args.start.now.number in
     let m = c.truth_from.new.reach in
     let n = c.truth_from-2.new.reach in
-    on-And args z n c.args.g.now c.args.h.now c.in_ok-first.first c.in_ok-second.second _
+    on-joined args z c.args.joining n c.args.g.now c.args.h.now c.in_ok-first.first c.in_ok-second.second _
     (subst (λ f. IsTruthOn args z n f c.in_ok-first.first) c.get-2.ensures (c.in_ok-first.ensures.truth args puts))
     (fewer_numbers args z c.args.h.now c.in_ok-second.second m n c.truth_from-2.ensures.reach
     (subst (λ f. IsTruthOn args z m f c.in_ok-second.second) c.get.ensures (c.in_ok-second.ensures.truth args puts)))
-    refl
-
-pub either_from-returns-clause-truth : goal.either_from-returns-clause-truth
-either_from-returns-clause-truth t c args puts =
-    let z : ℤ = c.args.start.now.number in
-    let m = c.truth_from.new.reach in
-    let n = c.truth_from-2.new.reach in
-    on-Or args z n c.args.g.now c.args.h.now c.in_ok-first.first c.in_ok-second.second _
-    (subst (λ f. IsTruthOn args z n f c.in_ok-first.first) c.get-2.ensures (c.in_ok-first.ensures.truth args puts))
-    (fewer_numbers args z c.args.h.now c.in_ok-second.second m n c.truth_from-2.ensures.reach
-    (subst (λ f. IsTruthOn args z m f c.in_ok-second.second) c.get.ensures (c.in_ok-second.ensures.truth args puts)))
-    refl
+    c.joined_truth.ensures
 
 pub line_from-returns-then-line_from-clause-line : goal.line_from-returns-then-line_from-clause-line
 line_from-returns-then-line_from-clause-line t c args puts =
@@ -138,8 +121,8 @@ choice_from-returns-in-Some-false-clause-line t c args puts =
     (subst (λ a. IsLineOn args z n a l) c.get-in-Some-false.ensures h))
     (c.line_from-in-Some-false.ensures.line args puts)
 
-pub sum_from-returns-clause-line : goal.sum_from-returns-clause-line
-sum_from-returns-clause-line t c args puts =
+pub pair_from-returns-clause-line : goal.pair_from-returns-clause-line
+pair_from-returns-clause-line t c args puts =
     let z : ℤ = c.args.start.now.number in
     let m = c.line_from.new.reach in
     let n = c.line_from-2.new.reach in
@@ -148,18 +131,5 @@ sum_from-returns-clause-line t c args puts =
     let first = subst (λ x. IsLineOn args z n x l) c.get-2.ensures (c.if-not-line_from-2.ensures.line args puts) in
     let second = shorter_line args z c.args.b.now k m n c.line_from-2.ensures.reach
     (subst (λ x. IsLineOn args z m x k) c.get.ensures (c.if-not-line_from.ensures.line args puts)) in
-    on_true_weaker _ _ c.add.result
-    (λ e. on-Add args z n c.args.a.now c.args.b.now l k c.add.new.line first second e) c.add.ensures
-
-pub difference_from-returns-clause-line : goal.difference_from-returns-clause-line
-difference_from-returns-clause-line t c args puts =
-    let z : ℤ = c.args.start.now.number in
-    let m = c.line_from.new.reach in
-    let n = c.line_from-2.new.reach in
-    let l = c.line_from-2.new.line in
-    let k = c.line_from.new.line in
-    let first = subst (λ x. IsLineOn args z n x l) c.get-2.ensures (c.if-not-line_from-2.ensures.line args puts) in
-    let second = shorter_line args z c.args.b.now k m n c.line_from-2.ensures.reach
-    (subst (λ x. IsLineOn args z m x k) c.get.ensures (c.if-not-line_from.ensures.line args puts)) in
-    on_true_weaker _ _ c.subtract.result
-    (λ e. on-Sub args z n c.args.a.now c.args.b.now l k c.subtract.new.line first second e) c.subtract.ensures
+    on_true_weaker _ _ c.pair.result
+    (λ e. on-pair args z c.args.which n c.args.a.now c.args.b.now l k c.pair.new.line first second e) c.pair.ensures

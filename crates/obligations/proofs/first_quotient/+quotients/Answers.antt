@@ -1,7 +1,8 @@
 use Rattle.std.proofs.Common.{◌∙◌, ap, refl, sym}
 use Rattle.std.proofs.lemmas.Result.{IfOk-weaker}
 use Rattle.core_terms.specs.declared.trees.CTerm.TheVariants.{Div, Mod}
-use Rattle.obligations.specs.Settling.{first_taken, pair_term}
+use Rattle.core_terms.specs.Senses.{pair_node}
+use Rattle.obligations.specs.Settling.{first_taken}
 use Rattle.obligations.proofs.TakenLaws.{taken-first, taken-second, taken-pair, taken-none}
 use Rattle.obligations.proofs.TakenLaws.{whole-quotient, whole-remainder}
 use Rattle.obligations.proofs.first_quotient.+quotients.Goals as goal
@@ -12,7 +13,7 @@ find_in_pair-returns-in-Some t c =
     let which = c.args.which in
     let some = ap (first_taken v) (sym c.get.ensures) ∙ sym c.in_ok-taken.ensures ∙ c.in-Some.is in
     IfOk-weaker c.in_first.result _ _
-    (λ o h. taken-first v (pair_term which) (taken-pair v which) c.args.a.now c.args.b.now c.in-Some.taken o some h)
+    (λ o h. taken-first v (pair_node which) (taken-pair v which) c.args.a.now c.args.b.now c.in-Some.taken o some h)
     c.in_first.ensures
 
 pub find_in_pair-returns-in-Some-2 : goal.find_in_pair-returns-in-Some-2
@@ -22,7 +23,7 @@ find_in_pair-returns-in-Some-2 t c =
     let none = ap (first_taken v) (sym c.get.ensures) ∙ sym c.in_ok-taken.ensures ∙ c.in_default.is in
     let some = ap (first_taken v) (sym c.get-2.ensures) ∙ sym c.in_ok-taken-2.ensures ∙ c.in-Some-2.is in
     IfOk-weaker c.in_second.result _ _
-    (λ o h. taken-second v (pair_term which) (taken-pair v which) c.args.a.now c.args.b.now c.in-Some-2.taken o none
+    (λ o h. taken-second v (pair_node which) (taken-pair v which) c.args.a.now c.args.b.now c.in-Some-2.taken o none
     some h)
     c.in_second.ensures
 

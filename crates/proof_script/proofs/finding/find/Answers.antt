@@ -1,4 +1,4 @@
-use Rattle.std.proofs.Common.{◌+◌, List, length, subst, ap, refl}
+use Rattle.std.proofs.Common.{List, length, subst, ap, refl}
 use Rattle.obligations.specs.declared.branches.Obligation.{Obligation}
 use Rattle.obligations.specs.declared.certificates.Cert.{Cert}
 use Rattle.search_tree.specs.declared.searching.Found.{Found}
@@ -27,14 +27,14 @@ returns-in-Ok-Refuted c before h =
       variables = c.in_ok-finding-in-Ok-Refuted.field-0;
       values = c.in-Ok-Refuted.values;
     } in
-    refuted_one c.args.name before o old new (length c.as_slice.result.now + 1) c.in-Ok-Refuted.values h
+    refuted_one before o old new (length c.as_slice-place.result.now) c.in-Ok-Refuted.values h
     (subst (λ (x : Found). SearchAnswers o old.left x) c.in-Ok-Refuted.field-0-is c.in-Ok-Refuted.ensures)
-    (ap (λ (cs : List Cert). length cs + 1) c.as_slice.ensures) c.in_ok-finding-in-Ok-Refuted.ensures refl
+    (ap (λ (cs : List Cert). length cs) c.as_slice-place.ensures) c.in_ok-finding-in-Ok-Refuted.ensures refl
 
 pub returns-in-Ok-Budget : goal.returns-in-Ok-Budget
 returns-in-Ok-Budget c before h =
     let o : Obligation = c.args.obligation.now in
     let old : Finding = c.args.finding.now in
-    short_one c.args.name before o old old (length c.as_slice.result.now + 1) c.in-Ok-Budget.field-0-0 h
+    short_one before o old old (length c.as_slice-place.result.now) c.in-Ok-Budget.field-0-0 h
     (subst (λ (x : Found). SearchAnswers o old.left x) c.in-Ok-Budget.field-0-is c.in-Ok-Budget.ensures)
-    (ap (λ (cs : List Cert). length cs + 1) c.as_slice.ensures)
+    (ap (λ (cs : List Cert). length cs) c.as_slice-place.ensures)

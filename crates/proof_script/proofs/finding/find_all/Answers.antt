@@ -6,8 +6,8 @@ use Rattle.proof_script.specs.declared.finding.Finding.{Finding}
 use Rattle.proof_script.specs.declared.finding.Halt.{Halt}
 use Rattle.proof_script.specs.Searches.{HasCertificates, Searches}
 use Rattle.rules_steps.proofs.ItemLaws.{drop_at, drop_end}
-use Rattle.proof_script.proofs.LoopLaws.{item_has}
-use Rattle.proof_script.proofs.ReachLaws.{no_more}
+use Rattle.proof_plans.proofs.LoopLaws.{item_has}
+use Rattle.proof_plans.proofs.ReachLaws.{no_more}
 use Rattle.proof_script.proofs.SearchLaws.{halted_on, search_more}
 use Rattle.proof_script.proofs.finding.find_all.Goals as goal
 
@@ -24,9 +24,9 @@ returns-in_err-find c before h =
     let new : Finding = c.find.new.finding in
     let halt : Halt = c.in_err-find.field-0.0 in
     let so_far = c.loop-obligation.invariant before h in
-    halted_on (λ r. Searches r c.args.name before os c.args.finding.now new) c.from_residual.result halt
+    halted_on (λ r. Searches r before os c.args.finding.now new) c.from_residual.result halt
     c.from_residual.ensures.1
-    (search_more halt c.args.name before (take i os) (o ∷ []) os (drop (i + 1) os) c.args.finding.now
+    (search_more halt before (take i os) (o ∷ []) os (drop (i + 1) os) c.args.finding.now
     c.loop-obligation.finding new
     (sym (take-append-drop i os)
     ∙ ap (λ (xs : List Obligation). take i os ++ xs)

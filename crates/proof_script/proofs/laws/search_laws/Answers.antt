@@ -1,7 +1,7 @@
 use Rattle.search_tree.proofs.EndsLaws.{search-ends}
 use Rattle.proof_script.proofs.BudgetLaws.{suffices}
 use Rattle.proof_script.proofs.SomeLaws.{some_finding}
-use Rattle.proof_script.proofs.WalkLaws.{reach_is_walk}
+use Rattle.proof_plans.proofs.WalkLaws.{reach_is_walk}
 use Rattle.proof_script.proofs.laws.search_laws.Goals as goal
 
 pub returns-clause-walk : goal.returns-clause-walk

@@ -1,33 +1,55 @@
-use Rattle.std.proofs.Common.{ℕ, Err, subst, sym, ap, ◌∙◌}
-use Rattle.core_terms.specs.declared.documents.CDocument.{CDocument}
+use Rattle.std.proofs.Common.{ℕ, ◌<◌, List, [], length, sym, ap, ◌∙◌, subst}
+use Rattle.std.specs.Prelude.{All}
+use Rattle.obligations.specs.declared.branches.Obligation.{Obligation}
+use Rattle.obligations.specs.Obligations.{IsObligation}
+use Rattle.proof_plans.specs.declared.plans.Plan.{Plan}
+use Rattle.proof_plans.specs.Reaching.{reached}
+use Rattle.proof_plans.proofs.PlanLaws.{reached_from}
+use Rattle.event_judge.specs.Judges.{IsOwned}
+use Rattle.event_judge.proofs.PlannedLaws.{makeable_of, owned_of}
 use Rattle.proof_script.specs.declared.finding.Finding.{Finding}
-use Rattle.proof_script.specs.declared.plans.Plan.{Plan}
 use Rattle.proof_script.specs.Proving.{Finds}
-use Rattle.proof_script.specs.Reaching.{Reach, proofs_reach}
-use Rattle.proof_script.specs.Searches.{SearchGoes}
-use Rattle.proof_script.proofs.SearchLaws.{begins, proved_by}
-use Rattle.rules_steps.specs.Starts.{document_seen}
+use Rattle.proof_script.specs.Searches.{HasCertificates, Halts}
+use Rattle.proof_script.proofs.SearchLaws.{begins}
 use Rattle.proof_script.proofs.proving.prove.Goals as goal
 
-pub prove_proofs-requires-clause-under_way : goal.prove_proofs-requires-clause-under_way
-prove_proofs-requires-clause-under_way c =
-    begins c.args.budget c.new_plan-plan.result c.new_finding-finding.result c.new_plan-plan.ensures
-    c.new_finding-finding.ensures
+pub find_all-requires : goal.find_all-requires
+find_all-requires c =
+    let same = ap reached c.in_ok-plan.ensures ∙ reached_from c.in_ok-plan.field-0.plan c.in_ok-plan.field-0.stopped in
+    subst (λ (os : List Obligation). All IsObligation os)
+    (ap (λ (p : Plan). p.obligations) same ∙ sym c.as_slice.ensures) (makeable_of c.args.doc.now c.requires.document)
+
+pub ended-requires : goal.ended-requires
+ended-requires c = subst (λ (os : List Obligation). HasCertificates os c.find_all.new.finding) c.as_slice.ensures
+    (c.in-Ok.ensures [] (begins c.args.budget c.new_finding-finding.result c.new_finding-finding.ensures)).0
 
 pub returns-in-Ok : goal.returns-in-Ok
 returns-in-Ok c =
-    let d : CDocument = c.args.doc.now in
-    proved_by d c.args.budget c.prove_proofs.new.plan c.prove_proofs.new.finding
-    (ap (λ (p : Plan). proofs_reach (document_seen d) d.proofs p) (sym c.new_plan-plan.ensures) ∙ c.in-Ok.ensures.0)
-    c.in-Ok.ensures.1 (c.in-Ok.ensures.2 ∙ ap (λ (f : Finding). f.budget) c.new_finding-finding.ensures)
+    let found = c.in-Ok.ensures [] (begins c.args.budget c.new_finding-finding.result c.new_finding-finding.ensures) in
+    subst (λ (n : ℕ). Finds c.args.doc.now n c.ended.result)
+    (found.1 ∙ ap (λ (f : Finding). f.budget) c.new_finding-finding.ensures)
+    (c.ended.ensures c.args.doc.now c.in_ok-plan.ensures)
+
+pub halted-requires-clause-owned : goal.halted-requires-clause-owned
+halted-requires-clause-owned c = λ place h.
+    let same = ap reached c.in_ok-plan.ensures ∙ reached_from c.in_ok-plan.field-0.plan c.in_ok-plan.field-0.stopped in
+    subst (λ (p : Plan). IsOwned p place) same (owned_of c.args.doc.now c.requires.document place
+    (subst (λ (p : Plan). place < length p.obligations) (sym same) h))
+
+pub halted-requires-clause-halts : goal.halted-requires-clause-halts
+halted-requires-clause-halts c =
+    let old : Finding = c.new_finding-finding.result in (
+      old.budget,
+      subst (λ (os : List Obligation). Halts c.in-Err.halt os old.budget c.find_all.new.finding) c.as_slice.ensures
+          (c.in-Err.ensures [] (begins c.args.budget old c.new_finding-finding.ensures)),
+    )
 
 pub returns-in-Err : goal.returns-in-Err
 returns-in-Err c =
-    let d : CDocument = c.args.doc.now in
+    let same = ap reached c.in_ok-plan.ensures ∙ reached_from c.in_ok-plan.field-0.plan c.in_ok-plan.field-0.stopped in
     let old : Finding = c.new_finding-finding.result in
-    let new : Finding = c.prove_proofs.new.finding in
-    let plan : Plan = c.prove_proofs.new.plan in
-    subst (λ (n : ℕ). Finds d n c.halted.result) (ap (λ (f : Finding). f.budget) c.new_finding-finding.ensures)
-    (c.halted.ensures d old plan
-    (subst (λ (r : Reach). SearchGoes (Err c.in-Err.halt) old plan new r)
-    (ap (λ (p : Plan). proofs_reach (document_seen d) d.proofs p) c.new_plan-plan.ensures) c.in-Err.ensures))
+    subst (λ (n : ℕ). Finds c.args.doc.now n c.halted.result)
+    (ap (λ (f : Finding). f.budget) c.new_finding-finding.ensures)
+    (c.halted.ensures c.args.doc.now old.budget same
+    (subst (λ (os : List Obligation). Halts c.in-Err.halt os old.budget c.find_all.new.finding) c.as_slice.ensures
+    (c.in-Err.ensures [] (begins c.args.budget old c.new_finding-finding.ensures))))

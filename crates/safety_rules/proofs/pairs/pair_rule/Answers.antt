@@ -50,7 +50,7 @@ pub returns-in-Simpleconj-clause-sound : goal.returns-in-Simpleconj-clause-sound
 returns-in-Simpleconj-clause-sound c one two =
     pair_stands c.args.pl.now c.requires.place RuleName.Simpleconj c.args.a.now c.args.b.now c.requires.a
     c.requires.b one two
-    c.simple_conj.result c.simple_conj.ensures
+    c.simple.result c.simple.ensures
 
 pub returns-in-Disj-clause-sound : goal.returns-in-Disj-clause-sound
 returns-in-Disj-clause-sound c one two =
@@ -62,7 +62,7 @@ pub returns-in-Simpledisj-clause-sound : goal.returns-in-Simpledisj-clause-sound
 returns-in-Simpledisj-clause-sound c one two =
     pair_stands c.args.pl.now c.requires.place RuleName.Simpledisj c.args.a.now c.args.b.now c.requires.a
     c.requires.b one two
-    c.simple_disj.result c.simple_disj.ensures
+    c.simple-in-Simpledisj.result c.simple-in-Simpledisj.ensures
 
 pub returns-in-Cancel-clause-sound : goal.returns-in-Cancel-clause-sound
 returns-in-Cancel-clause-sound c one two =

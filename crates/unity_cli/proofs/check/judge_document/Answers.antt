@@ -1,5 +1,5 @@
 use Rattle.std.proofs.Common.{arith, subst, sym, ◌∙◌}
-use Rattle.proof_script.specs.Giving.{AreWhole}
+use Rattle.proof_plans.specs.Giving.{AreWhole}
 use Rattle.unity_cli.specs.Admitted.{greatest_size}
 use Rattle.unity_cli.proofs.Told.{sound_core, sound_certificates, verdicts_checked}
 use Rattle.unity_cli.proofs.check.judge_document.Goals as goal

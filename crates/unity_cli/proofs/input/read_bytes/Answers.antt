@@ -1,5 +1,5 @@
 use Rattle.std.proofs.Common.{rules}
-use Rattle.unity_cli.specs.WellFormed.{of_text}
+use Rattle.streamed_documents.specs.WellFormed.{of_text}
 use Rattle.unity_cli.proofs.input.read_bytes.Goals as goal
 
 pub returns-in-Err-Fault : goal.returns-in-Err-Fault

@@ -5,20 +5,22 @@ use Rattle.unity_cli.specs.Answer.{most_bytes}
 use Rattle.unity_cli.specs.Input.{IsTextOf}
 use Rattle.unity_cli.proofs.Told.{bad_words, told_whole, told_part, done_claims, done_runs, done_starts, done_tells}
 use Rattle.unity_cli.proofs.Told.{text_follows}
+use Rattle.unity_cli.proofs.Streamed.{streamed_whole, streamed_part, streamed_follows, streamed_claims, streamed_tells}
+use Rattle.unity_cli.proofs.Streamed.{streamed_runs, streamed_starts, check_is_no_watch, check_reads}
 use Rattle.unity_cli.proofs.Watched.{done_kept, done_unviolated, done_violated}
 use Rattle.unity_cli.proofs.Shown.{shown_whole, shown_part, ring_is_no_check, ring_is_no_watch, others_read}
 use Rattle.cli_words.specs.Requests.{meant, asked}
 use Rattle.unity_cli.proofs.top.unity.Goals as goal
 
 pub returns-in-Ok-clause-answer : goal.returns-in-Ok-clause-answer
-returns-in-Ok-clause-answer g c = λ _. record {
+returns-in-Ok-clause-answer g c = λ _ _. record {
   text = _;
   answer = bad_words _ _ (search rules);
   appends = c.in-Ok.ensures.whole;
 }
 
 pub returns-in-Err-clause-part : goal.returns-in-Err-clause-part
-returns-in-Err-clause-part g c = λ _. record {
+returns-in-Err-clause-part g c = λ _ _. record {
   status = _;
   text = _;
   answer = bad_words _ _ (search rules);
@@ -26,18 +28,18 @@ returns-in-Err-clause-part g c = λ _. record {
 }
 
 pub returns-in-Demo-clause-answer : goal.returns-in-Demo-clause-answer
-returns-in-Demo-clause-answer g c =
+returns-in-Demo-clause-answer g c = λ has said.
     shown_whole (asked c.args.words.now) c.in-Demo.places (g.S.Source.left c.args.src.now)
     (g.K.Sink.written c.args.out.now) (g.K.Sink.written c.write_demo.new.out) c.write_demo.result
     (sym c.read_words.ensures.asked ∙ ap (option_map meant) c.in-Some.is ∙ ap (λ x. Some (meant x)) c.in-Demo.is)
-    c.write_demo.ensures.told
+    c.write_demo.ensures.told has
 
 pub returns-in-Demo-clause-part : goal.returns-in-Demo-clause-part
-returns-in-Demo-clause-part g c =
+returns-in-Demo-clause-part g c = λ fault said.
     shown_part (asked c.args.words.now) c.in-Demo.places (g.S.Source.left c.args.src.now)
     (g.K.Sink.written c.args.out.now) (g.K.Sink.written c.write_demo.new.out) c.write_demo.result
     (sym c.read_words.ensures.asked ∙ ap (option_map meant) c.in-Some.is ∙ ap (λ x. Some (meant x)) c.in-Demo.is)
-    c.write_demo.ensures.told
+    c.write_demo.ensures.told fault
 
 pub returns-in-Demo-clause-safe : goal.returns-in-Demo-clause-safe
 returns-in-Demo-clause-safe g c = λ done is_check. absurd (ring_is_no_check (asked c.args.words.now) c.in-Demo.places
@@ -64,6 +66,105 @@ returns-in-Demo-clause-bounds g c = λ done is_check. absurd (ring_is_no_check (
     (sym c.read_words.ensures.asked ∙ ap (option_map meant) c.in-Some.is ∙ ap (λ x. Some (meant x)) c.in-Demo.is)
     is_check)
 
+pub returns-in-Check-clause-answer : goal.returns-in-Check-clause-answer
+returns-in-Check-clause-answer g c =
+    streamed_whole (asked c.args.words.now) (g.S.Source.left c.args.src.now)
+    (g.K.Sink.written c.args.out.now) (g.K.Sink.written c.check_source.new.out) c.check_source.result
+    (sym c.read_words.ensures.asked ∙ ap (option_map meant) c.in-Some.is ∙ ap (λ x. Some (meant x)) c.in-Check.is)
+    c.check_source.ensures.told
+
+pub returns-in-Check-clause-part : goal.returns-in-Check-clause-part
+returns-in-Check-clause-part g c =
+    streamed_part (asked c.args.words.now) (g.S.Source.left c.args.src.now)
+    (g.K.Sink.written c.args.out.now) (g.K.Sink.written c.check_source.new.out) c.check_source.result
+    (sym c.read_words.ensures.asked ∙ ap (option_map meant) c.in-Some.is ∙ ap (λ x. Some (meant x)) c.in-Check.is)
+    c.check_source.ensures.told
+
+pub returns-in-Check-clause-follows : goal.returns-in-Check-clause-follows
+returns-in-Check-clause-follows g c = λ has is_check.
+    streamed_follows (asked c.args.words.now) (g.S.Source.left c.args.src.now)
+    (g.K.Sink.written c.args.out.now) (g.K.Sink.written c.check_source.new.out) c.check_source.result
+    (sym c.read_words.ensures.asked ∙ ap (option_map meant) c.in-Some.is ∙ ap (λ x. Some (meant x)) c.in-Check.is)
+    c.check_source.ensures.told has
+
+pub returns-in-Check-clause-safe : goal.returns-in-Check-clause-safe
+returns-in-Check-clause-safe g c = λ done is_check.
+    streamed_claims (asked c.args.words.now) (g.S.Source.left c.args.src.now)
+    (g.K.Sink.written c.args.out.now) (g.K.Sink.written c.check_source.new.out) c.check_source.result
+    (sym c.read_words.ensures.asked ∙ ap (option_map meant) c.in-Some.is ∙ ap (λ x. Some (meant x)) c.in-Check.is)
+    c.check_source.ensures.told done
+
+pub returns-in-Check-clause-bounds : goal.returns-in-Check-clause-bounds
+returns-in-Check-clause-bounds g c = λ done is_check.
+    streamed_tells (asked c.args.words.now) (g.S.Source.left c.args.src.now)
+    (g.K.Sink.written c.args.out.now) (g.K.Sink.written c.check_source.new.out) c.check_source.result
+    (sym c.read_words.ensures.asked ∙ ap (option_map meant) c.in-Some.is ∙ ap (λ x. Some (meant x)) c.in-Check.is)
+    c.check_source.ensures.told done
+
+pub returns-in-Check-clause-runs : goal.returns-in-Check-clause-runs
+returns-in-Check-clause-runs g c = λ done is_check.
+    streamed_runs (asked c.args.words.now) (g.S.Source.left c.args.src.now)
+    (g.K.Sink.written c.args.out.now) (g.K.Sink.written c.check_source.new.out) c.check_source.result
+    (sym c.read_words.ensures.asked ∙ ap (option_map meant) c.in-Some.is ∙ ap (λ x. Some (meant x)) c.in-Check.is)
+    c.check_source.ensures.told done
+
+pub returns-in-Check-clause-starts : goal.returns-in-Check-clause-starts
+returns-in-Check-clause-starts g c = λ done is_check.
+    streamed_starts (asked c.args.words.now) (g.S.Source.left c.args.src.now)
+    (g.K.Sink.written c.args.out.now) (g.K.Sink.written c.check_source.new.out) c.check_source.result
+    (sym c.read_words.ensures.asked ∙ ap (option_map meant) c.in-Some.is ∙ ap (λ x. Some (meant x)) c.in-Check.is)
+    c.check_source.ensures.told done
+
+pub returns-in-Check-clause-violated : goal.returns-in-Check-clause-violated
+returns-in-Check-clause-violated g c = λ done is_watch. absurd (check_is_no_watch (asked c.args.words.now)
+    (sym c.read_words.ensures.asked ∙ ap (option_map meant) c.in-Some.is ∙ ap (λ x. Some (meant x)) c.in-Check.is)
+    is_watch)
+
+pub returns-in-Check-clause-unviolated : goal.returns-in-Check-clause-unviolated
+returns-in-Check-clause-unviolated g c = λ done is_watch. absurd (check_is_no_watch (asked c.args.words.now)
+    (sym c.read_words.ensures.asked ∙ ap (option_map meant) c.in-Some.is ∙ ap (λ x. Some (meant x)) c.in-Check.is)
+    is_watch)
+
+pub returns-in-Check-clause-kept : goal.returns-in-Check-clause-kept
+returns-in-Check-clause-kept g c = λ violated is_watch. absurd (check_is_no_watch (asked c.args.words.now)
+    (sym c.read_words.ensures.asked ∙ ap (option_map meant) c.in-Some.is ∙ ap (λ x. Some (meant x)) c.in-Check.is)
+    is_watch)
+
+pub returns-in-Check-clause-untouched : goal.returns-in-Check-clause-untouched
+returns-in-Check-clause-untouched g c = λ unread. absurd (check_reads (asked c.args.words.now)
+    (sym c.read_words.ensures.asked ∙ ap (option_map meant) c.in-Some.is ∙ ap (λ x. Some (meant x)) c.in-Check.is)
+    unread)
+
+pub returns-in-Check-clause-not_read : goal.returns-in-Check-clause-not_read
+returns-in-Check-clause-not_read g c = λ unread fault. (check_reads (asked c.args.words.now)
+    (sym c.read_words.ensures.asked ∙ ap (option_map meant) c.in-Some.is ∙ ap (λ x. Some (meant x)) c.in-Check.is)
+    unread)
+
+pub returns-in-Check-clause-end : goal.returns-in-Check-clause-end
+returns-in-Check-clause-end g c = λ reads read memory.
+    subst (λ m. IsAtEnd (g.S.Source.left c.check_source.new.src) ⊎ IsLongerThan m (g.S.Source.left c.args.src.now))
+    (ap most_bytes (sym (sym c.read_words.ensures.asked ∙ ap (option_map meant) c.in-Some.is
+    ∙ ap (λ x. Some (meant x)) c.in-Check.is)))
+    (c.check_source.ensures.end read memory)
+
+pub returns-in-Check-clause-form : goal.returns-in-Check-clause-form
+returns-in-Check-clause-form g c = λ has is_check. c.check_source.ensures.form has
+
+pub returns-in-Demo-clause-form : goal.returns-in-Demo-clause-form
+returns-in-Demo-clause-form g c = λ has is_check. absurd (ring_is_no_check (asked c.args.words.now)
+    c.in-Demo.places
+    (sym c.read_words.ensures.asked ∙ ap (option_map meant) c.in-Some.is ∙ ap (λ x. Some (meant x)) c.in-Demo.is)
+    is_check)
+
+pub returns-in-Check-clause-part_form : goal.returns-in-Check-clause-part_form
+returns-in-Check-clause-part_form g c = λ fault is_check. c.check_source.ensures.part fault
+
+pub returns-in-Demo-clause-part_form : goal.returns-in-Demo-clause-part_form
+returns-in-Demo-clause-part_form g c = λ fault is_check. absurd (ring_is_no_check (asked c.args.words.now)
+    c.in-Demo.places
+    (sym c.read_words.ensures.asked ∙ ap (option_map meant) c.in-Some.is ∙ ap (λ x. Some (meant x)) c.in-Demo.is)
+    is_check)
+
 pub returns-in-Ok-read_input-clause-untouched : goal.returns-in-Ok-read_input-clause-untouched
 returns-in-Ok-read_input-clause-untouched g c = λ unread. absurd (others_read (asked c.args.words.now)
     c.in-Some.command (sym c.read_words.ensures.asked ∙ ap (option_map meant) c.in-Some.is)
@@ -85,24 +186,24 @@ returns-in-Err-read_input-clause-not_read g c = λ unread fault. others_read (as
     c.in_default-command.not-Demo unread
 
 pub returns-in-Ok-read_input-clause-answer : goal.returns-in-Ok-read_input-clause-answer
-returns-in-Ok-read_input-clause-answer g c =
+returns-in-Ok-read_input-clause-answer g c = λ has said.
     told_whole (asked c.args.words.now) (meant c.in-Some.command) (g.S.Source.left c.args.src.now)
     c.in-Ok-read_input.text
     (g.K.Sink.written c.args.out.now) (g.K.Sink.written c.write_command.new.out) c.write_command.result
     (sym c.read_words.ensures.asked ∙ ap (option_map meant) c.in-Some.is)
     (subst (λ m. IsTextOf m (g.S.Source.left c.args.src.now) c.in-Ok-read_input.text)
     c.most_bytes.ensures c.in-Ok-read_input.ensures.input)
-    c.write_command.ensures.told
+    c.write_command.ensures.told has
 
 pub returns-in-Ok-read_input-clause-part : goal.returns-in-Ok-read_input-clause-part
-returns-in-Ok-read_input-clause-part g c =
+returns-in-Ok-read_input-clause-part g c = λ fault said.
     told_part (asked c.args.words.now) (meant c.in-Some.command) (g.S.Source.left c.args.src.now)
     c.in-Ok-read_input.text
     (g.K.Sink.written c.args.out.now) (g.K.Sink.written c.write_command.new.out) c.write_command.result
     (sym c.read_words.ensures.asked ∙ ap (option_map meant) c.in-Some.is)
     (subst (λ m. IsTextOf m (g.S.Source.left c.args.src.now) c.in-Ok-read_input.text)
     c.most_bytes.ensures c.in-Ok-read_input.ensures.input)
-    c.write_command.ensures.told
+    c.write_command.ensures.told fault
 
 pub returns-in-Ok-read_input-clause-safe : goal.returns-in-Ok-read_input-clause-safe
 returns-in-Ok-read_input-clause-safe g c =

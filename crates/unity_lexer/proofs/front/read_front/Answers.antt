@@ -1,13 +1,16 @@
-use Rattle.std.proofs.Common.{◌≡◌, ◌++◌, None, Some, refl, sym, subst, take, ◌∙◌}
+use Rattle.std.proofs.Common.{◌≡◌, ◌++◌, None, Some, refl, sym, subst, take, ◌∙◌, ap, arith}
 use Rattle.std.proofs.lemmas.Result.{err_from_is_err_and}
 use Rattle.unity_base.specs.Window.{held}
 use Rattle.unity_lexer.specs.declared.ahead.Next.TheVariants as next
 use Rattle.unity_lexer.specs.declared.piece.Piece.TheVariants as pieces
+use Rattle.unity_syntax.specs.declared.token.Token.{Token}
+use Rattle.unity_syntax.specs.declared.token.TokenKind.TheVariants as kind
 use Rattle.unity_lexer.specs.declared.front.Front.{Front}
 use Rattle.unity_lexer.specs.Tokens.{FirstBad}
 use Rattle.unity_lexer.proofs.FrontSteps.{turn_taken, given_taken, start_taken, start_tokens, start_none, pushed}
 use Rattle.unity_lexer.proofs.FrontSteps.{none_pushed, no_section, name_no_section, section_front, whole_front}
 use Rattle.unity_lexer.proofs.FrontSteps.{fault_front, still, stop_front}
+use Rattle.unity_lexer.proofs.FrontSteps.{start_order, start_small, order_later, order_token, order_word, small_pushed}
 use Rattle.unity_lexer.proofs.ScanSteps.{read_reading, gap_reading, token_reading, comment_reading, word_reading}
 use Rattle.unity_lexer.proofs.ScanSteps.{ahead_is, held_is, dropped_passed, passed_then}
 use Rattle.unity_lexer.proofs.Taking.{taken_read, taken_passed}
@@ -22,6 +25,8 @@ pieces-init g c =
       same = refl;
       reads = start_tokens u a c.new-tokens.result c.new-tokens.ensures;
       none = start_none c.new-tokens.result c.new-tokens.ensures;
+      order = start_order c.args.w.now.at c.new-tokens.result c.new-tokens.ensures;
+      small = start_small c.new-tokens.result c.new-tokens.ensures;
     }
 
 pub pieces-preserved-in_ok-keep-in-Piece-Gap : goal.pieces-preserved-in_ok-keep-in-Piece-Gap
@@ -45,6 +50,9 @@ pieces-preserved-in_ok-keep-in-Piece-Gap g c =
       reads = gap_reading u w x a left left c.pieces.tokens r size held.1 dropped
           (ahead_is w left _ _ is c.in_ok-size.ensures.ahead);
       none = c.pieces.invariant.none;
+      order = order_later c.pieces.tokens u.at c.pieces.w.at x.at c.pieces.invariant.order
+          (omega (arith, c.next_piece.ensures.read.at, dropped.at));
+      small = c.pieces.invariant.small;
     }
 
 pub returns-then-is_section-clause-front : goal.returns-then-is_section-clause-front
@@ -75,6 +83,16 @@ returns-then-is_section-clause-front g c =
             (ahead_is w left _ _ is c.in_ok-size.ensures.ahead),
       ),
     )
+
+pub returns-then-is_section-clause-places : goal.returns-then-is_section-clause-places
+returns-then-is_section-clause-places g c =
+    order_later c.pieces.tokens c.args.w.now.at c.pieces.w.at c.skip.new.self.at c.pieces.invariant.order
+    (omega (arith, c.next_piece.ensures.read.at, c.skip.ensures.dropped.at))
+
+pub returns-in-End-clause-places : goal.returns-in-End-clause-places
+returns-in-End-clause-places g c =
+    order_later c.pieces.tokens c.args.w.now.at c.pieces.w.at c.next_piece.new.w.at c.pieces.invariant.order
+    (omega (arith, c.next_piece.ensures.read.at))
 
 pub returns-then-is_section-clause-passed : goal.returns-then-is_section-clause-passed
 returns-then-is_section-clause-passed g c =
@@ -121,6 +139,11 @@ pieces-preserved-in_ok-push-in-Piece-Token g c =
       none = none_pushed ts c.push.new.self c.in_ok-keep_token-in-Piece-Token.field-0 c.pieces.invariant.none
           (no_section c.in_ok-keep_token-in-Piece-Token.field-0 _ c.is_section.result made.token
           c.is_section.ensures c.if-is_section.false) add;
+      order = order_token ts c.push.new.self c.in_ok-keep_token-in-Piece-Token.field-0 kind u.at c.pieces.w.at w.at
+          size x.at c.pieces.invariant.order (omega (arith, c.next_piece.ensures.read.at)) fits.0.1
+          (omega (arith, made.dropped.at)) made.token add;
+      small = small_pushed ts c.push.new.self c.in_ok-keep_token-in-Piece-Token.field-0 kind c.pieces.invariant.small
+          (ap (λ (t : Token). t.kind) made.token) fits.0.0 add;
     }
 
 pub returns-in_err-push-in-Piece-Token-clause-passed : goal.returns-in_err-push-in-Piece-Token-clause-passed
@@ -179,6 +202,9 @@ pieces-preserved-in_ok-keep_comment-in-Comment g c =
       reads = comment_reading u w x a left after ts r made.gap
           (ahead_is w left _ _ is c.in_ok-size.ensures.ahead);
       none = c.pieces.invariant.none;
+      order = order_later c.pieces.tokens u.at c.pieces.w.at x.at c.pieces.invariant.order
+          (let rises = made.rises in let read = c.next_piece.ensures.read.at in omega arith);
+      small = c.pieces.invariant.small;
     }
 
 pub returns-in_err-keep_comment-in-Comment-clause-error : goal.returns-in_err-keep_comment-in-Comment-clause-error
@@ -262,6 +288,10 @@ pieces-preserved g c =
           (word_reading u w x a left after ts r made.word) made.token add;
       none = none_pushed ts c.push-in-Word.new.self word c.pieces.invariant.none
           (name_no_section word _ made.token refl) add;
+      order = order_word ts c.push-in-Word.new.self word u.at c.pieces.w.at w.at x.at c.pieces.invariant.order
+          (omega (arith, c.next_piece.ensures.read.at)) made.rises made.token add;
+      small = small_pushed ts c.push-in-Word.new.self word kind.Word c.pieces.invariant.small
+          (ap (λ (t : Token). t.kind) made.token) (omega arith) add;
     }
 
 pub returns-in_err-push-in-Word-clause-passed : goal.returns-in_err-push-in-Word-clause-passed

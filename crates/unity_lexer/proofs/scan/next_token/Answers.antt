@@ -1,10 +1,10 @@
-use Rattle.std.proofs.Common.{◌≡◌, [], refl, ◌∙◌}
+use Rattle.std.proofs.Common.{◌≡◌, [], refl, ◌∙◌, arith}
 use Rattle.unity_lexer.specs.declared.ahead.Next.TheVariants as next
 use Rattle.unity_lexer.specs.declared.piece.Piece.TheVariants as pieces
 use Rattle.unity_lexer.proofs.ScanSteps.{start_reading, read_reading, start_passed, read_passed, passed_then}
 use Rattle.unity_lexer.proofs.ScanSteps.{turn_passed}
 use Rattle.unity_lexer.proofs.ScanSteps.{gap_reading, comment_reading, token_scan, fault_scan, end_scan, result_then}
-use Rattle.unity_lexer.proofs.ScanSteps.{ahead_is, held_is}
+use Rattle.unity_lexer.proofs.ScanSteps.{ahead_is, held_is, rises_then}
 use Rattle.unity_lexer.proofs.scan.next_token.Goals as goal
 
 pub gaps-init : goal.gaps-init
@@ -57,6 +57,19 @@ returns-in-Piece-Token-clause-passed g c =
     turn_passed c.args.w.now c.gaps.w w c.held_token.new.w (g.S.Source.left c.args.src.now)
     (g.S.Source.left c.gaps.src) left size c.gaps.invariant.passed c.next_piece.ensures.read held.1
     c.held_token.ensures.dropped
+
+pub returns-in-Piece-Token-clause-rises : goal.returns-in-Piece-Token-clause-rises
+returns-in-Piece-Token-clause-rises g c =
+    let w = c.next_piece.new.w in
+    let left = g.S.Source.left c.next_piece.new.src in
+    let size = c.in-Piece-Token.size in
+    let is : c.in_ok-size.field-0 ≡ next.Piece (pieces.Token c.in-Piece-Token.kind size) = cc in
+    let held = held_is w left _ _ is c.in_ok-size.ensures.held in
+    let some = held.0.1 in
+    let passed = c.gaps.invariant.passed.at in
+    let read = c.next_piece.ensures.read.at in
+    let dropped = c.held_token.ensures.dropped.at in
+    omega arith
 
 pub returns-in-Piece-Fault-clause-scan : goal.returns-in-Piece-Fault-clause-scan
 returns-in-Piece-Fault-clause-scan g c =
@@ -127,6 +140,13 @@ returns-in-Word-clause-passed g c =
     passed_then c.args.w.now c.next_piece.new.w c.long_word.new.w a left (g.S.Source.left c.long_word.new.src)
     (read_passed c.args.w.now c.gaps.w c.next_piece.new.w a (g.S.Source.left c.gaps.src) left
     c.gaps.invariant.passed c.next_piece.ensures.read) c.long_word.ensures.passed
+
+pub returns-in-Word-clause-rises : goal.returns-in-Word-clause-rises
+returns-in-Word-clause-rises g c =
+    let passed = c.gaps.invariant.passed.at in
+    let read = c.next_piece.ensures.read.at in
+    rises_then c.args.w.now.at c.next_piece.new.w.at c.long_word.new.w.at c.long_word.result (omega arith)
+    c.long_word.ensures.rises
 
 pub returns-in-End-clause-scan : goal.returns-in-End-clause-scan
 returns-in-End-clause-scan g c =

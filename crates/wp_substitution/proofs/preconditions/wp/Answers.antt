@@ -36,8 +36,8 @@ joined slots s q defined after whole f ws ew ed ea e h =
 pub returns-clause-tree : goal.returns-clause-tree
 returns-clause-tree c =
     joined c.args.slots.now c.args.s.now c.args.q.now c.in_ok-defined.defined c.in_ok-after.after
-    c.in_ok-and_known.field-0 c.in_ok-owned_form.field-0 c.as_slice.result.now c.as_slice.ensures
-    c.in_ok-defined.ensures.tree c.in_ok-after.ensures.tree c.in_ok-and_known.ensures.tree c.in_ok-owned_form.ensures
+    c.in_ok-joined_known.field-0 c.in_ok-owned_form.field-0 c.as_slice.result.now c.as_slice.ensures
+    c.in_ok-defined.ensures.tree c.in_ok-after.ensures.tree c.in_ok-joined_known.ensures.tree c.in_ok-owned_form.ensures
 
 pub returns-clause-meaning : goal.returns-clause-meaning
 returns-clause-meaning c state params is =

@@ -1,7 +1,7 @@
 use Rattle.std.proofs.Common.{List, length, ap, ◌∙◌, arith}
 use Rattle.obligations.specs.declared.branches.Obligation.{Obligation}
-use Rattle.proof_script.specs.Verdicts.{surplus_fault}
-use Rattle.proof_script.proofs.VerdictLaws.{accepted_holds}
+use Rattle.proof_plans.specs.Verdicts.{surplus_fault}
+use Rattle.proof_plans.proofs.VerdictLaws.{accepted_holds}
 use Rattle.reached_verdicts.proofs.ByReachLaws.{verdict-by-reach}
 use Rattle.event_judge.proofs.FinishLaws.{finish-accepted, finish-failed, finish-missing}
 use Rattle.event_judge.proofs.FinishLaws.{finish-stopped, finish-surplus}

@@ -1,0 +1,39 @@
+// Nodes of trees whose parts are given by their numbers in a pool.
+
+/// The number of a formula in a pool.
+#[derive(Clone, Copy, Debug, PartialEq, Eq, Hash)]
+pub struct FormId {
+    pub(crate) place: usize,
+}
+
+/// The number of a term in a pool.
+#[derive(Clone, Copy, Debug, PartialEq, Eq, Hash)]
+pub struct TermId {
+    pub(crate) place: usize,
+}
+
+/// A formula's node.
+#[derive(Clone, Copy, Debug, PartialEq, Eq, Hash)]
+pub enum FormNode {
+    Top,
+    Bottom,
+    AtLeast(TermId),
+    Zero(TermId),
+    Not(FormId),
+    And(FormId, FormId),
+    Or(FormId, FormId),
+}
+
+/// A term's node.
+#[derive(Clone, Copy, Debug, PartialEq, Eq, Hash)]
+pub enum TermNode {
+    Const(i64),
+    Slot(u32),
+    Param(u32),
+    Add(TermId, TermId),
+    Sub(TermId, TermId),
+    Scale(i64, TermId),
+    Div(TermId, i64),
+    Mod(TermId, i64),
+    Ite(FormId, TermId, TermId),
+}

@@ -1,0 +1,9 @@
+pub mod BookLaws
+pub mod Equations
+pub mod FollowLaws
+pub mod LoopLaws
+pub mod MadeLaws
+pub mod PlanLaws
+pub mod ReachLaws
+pub mod VerdictLaws
+pub mod WalkLaws

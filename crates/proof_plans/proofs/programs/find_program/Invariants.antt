@@ -1,0 +1,6 @@
+use Rattle.std.proofs.Common.{◌≡◌, drop}
+use Rattle.rules_table.specs.Walk.{program_of}
+use Rattle.proof_plans.proofs.programs.find_program.Given as goal
+
+abbrev pub invariant-loop-program : goal.invariant-loop-program
+invariant-loop-program l = program_of (drop l.program-index l.programs) l.name ≡ program_of l.programs l.name

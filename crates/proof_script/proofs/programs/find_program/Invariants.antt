@@ -1,6 +1,0 @@
-use Rattle.std.proofs.Common.{◌≡◌, drop}
-use Rattle.rules_table.specs.Walk.{program_of}
-use Rattle.proof_script.proofs.programs.find_program.Given as goal
-
-abbrev pub invariant-loop-program : goal.invariant-loop-program
-invariant-loop-program l = program_of (drop l.program-index l.programs) l.name ≡ program_of l.programs l.name

@@ -1,7 +1,0 @@
-use Rattle.proof_script.proofs.LoopLaws.{seen_proofs}
-use Rattle.proof_script.proofs.walking.take_proofs.Goals as goal
-
-pub take_each-requires-clause-proofs : goal.take_each-requires-clause-proofs
-take_each-requires-clause-proofs c =
-    seen_proofs c.args.doc.now c.around-around.result c.as_slice.result.now c.requires.document
-    c.around-around.ensures.seen c.as_slice.ensures

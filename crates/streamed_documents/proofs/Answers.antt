@@ -1,0 +1,354 @@
+-- What a text is found to be, from its front and what stands behind it.
+use Rattle.std.proofs.Common.{◌≡◌, ℕ, ◌+◌, ◌<◌, ◌≤◌, ◌==◌, Bool, true, false, List, [], ◌∷◌, ◌++◌, length, map, drop}
+use Rattle.std.proofs.Common.{Result, Ok, Err, IfOk, Option, Some, None, refl, sym, ap, ◌∙◌, subst, arith, append-nil}
+use Rattle.std.specs.Prelude.{if◌then◌else◌, All}
+use Rattle.case_tables.specs.declared.code_table.Code.{Code}
+use Rattle.grammar_theory.specs.Ebnf.{Terminal, Derives}
+use Rattle.unity_base.specs.declared.events.CertEvent.{CertEvent}
+use Rattle.unity_base.specs.declared.window.Window.{Window}
+use Rattle.unity_base.specs.Window.{held, coming, HasPassed}
+use Rattle.unity_syntax.specs.declared.token.Token.{Token}
+use Rattle.unity_syntax.specs.declared.certificate.Certificates.{Certificates}
+use Rattle.unity_syntax.specs.declared.document.Document.{Document}
+use Rattle.unity_syntax.specs.Classes.{terminals, says_later}
+use Rattle.unity_syntax.specs.Grammar.{grammar, document_}
+use Rattle.unity_syntax.specs.View.{view}
+use Rattle.unity_syntax.proofs.Avoids.{AreNot}
+use Rattle.unity_lexer.specs.declared.front.Front.{Front}
+use Rattle.unity_lexer.specs.Tokens.{Tokenizes, IsTokens, IsFaulty, FirstBad}
+use Rattle.unity_lexer.specs.Scans.{IsFront, IsReadUpTo, IsNoSection}
+use Rattle.unity_lexer.proofs.ScanSteps.{reads_then}
+use Rattle.unity_lexer.proofs.SomeAnswer.{reads_place}
+use Rattle.unity_parser.specs.ParseAnswers.{IsDocumentOf, IsRefusal}
+use Rattle.unity_parser.specs.Document.{IsDocument, IsFault}
+use Rattle.unity_parser.specs.Document as texts
+use Rattle.unity_parser.specs.Fronts.{empty_section, front_tokens}
+use Rattle.unity_parser.proofs.Parts.{Parts, After, parts_of}
+use Rattle.certificate_events.specs.Sections.{IsSection}
+use Rattle.certificate_events.specs.Events.{section_events}
+use Rattle.certificate_reading.specs.Certificates.{section_of, certificate_of, certificates_of}
+use Rattle.certificate_reading.proofs.Whole.{are_whole_trees}
+use Rattle.core_terms.specs.declared.documents.CDocument.{CDocument}
+use Rattle.obligations.specs.declared.certificates.Cert.{Cert}
+use Rattle.expand_documents.specs.Cores.{core_document}
+use Rattle.event_judge.specs.declared.judge.Judge.{Judge}
+use Rattle.event_judge.specs.Judges.{StandsFor}
+use Rattle.event_judge.specs.Told.{certs_events}
+use Rattle.front_documents.specs.Laws.{section_word, IsCutFront, IsFrontDocument, AreBehind}
+use Rattle.front_documents.proofs.Faults.{sections_complete, section_faults, sections_end_early}
+use Rattle.front_documents.proofs.FirstWord.{words, not_inside}
+use Rattle.front_documents.proofs.Fronts.{word_free}
+use Rattle.front_documents.proofs.Refusals.{front_faults_stay, token_faults_stay}
+use Rattle.streamed_documents.specs.declared.behind.Pending.{Pending}
+use Rattle.streamed_documents.specs.declared.found.Flaw.{Flaw}
+use Rattle.streamed_documents.specs.declared.found.Finding.{Finding}
+use Rattle.streamed_documents.specs.declared.found.JudgedDocument.{JudgedDocument}
+use Rattle.streamed_documents.specs.WellFormed.{IsWellFormed, IsFirstFault}
+use Rattle.streamed_documents.specs.WellFormed as wells
+use Rattle.streamed_documents.specs.Found.{IsJudged, IsRefused, IsFound}
+use Rattle.streamed_documents.specs.Fronts.{HasFront, IsSettled, IsVerdictBy, section_version, version_behind}
+use Rattle.streamed_documents.specs.Hearing.{Hears, MayHear, IsPendingOn, IsJudgeOf}
+use Rattle.streamed_documents.specs.Rests as rests
+use Rattle.streamed_documents.specs.Rests.{IsBehind, IsKept, IsSkimmed}
+use Rattle.streamed_documents.proofs.Certificates.{stands_for_section}
+use Rattle.streamed_documents.proofs.Hearings.{hears_none}
+use Rattle.streamed_documents.proofs.Passing.{first_told, told_after}
+
+abbrev pub fault_at : Code → ℕ → Flaw
+fault_at code at = Flaw.Fault code at
+
+-- a fault of the text
+of_fault : (limit : ℕ) (bytes : List ℕ) (code : Code) (at : ℕ) → length bytes ≤ limit → IsFault bytes code at
+    → IsRefused limit bytes (Flaw.Fault code at)
+of_fault limit bytes code at size fault = (size, wells.IsFirstFault.of_text fault)
+
+-- bytes that are read as no token
+pub kept_refused : (limit at : ℕ) (bytes rest : List ℕ) (code : Code) (place : ℕ) (flaw : Flaw)
+    → at + length rest ≡ length bytes → FirstBad bytes code place → IsKept limit at rest code place flaw
+    → IsRefused limit bytes flaw
+kept_refused limit at bytes rest code place Flaw.TooLong size bad kept = omega (arith, kept, size)
+kept_refused limit at bytes rest code place (Flaw.Fault c p) size bad kept =
+    of_fault limit bytes c p (omega (arith, kept.0, size))
+    (subst (λ k. IsFault bytes k p) (sym kept.1) (subst (λ n. IsFault bytes code n) (sym kept.2)
+    (texts.IsFault.no_token bad)))
+
+-- ---- the verdict
+
+-- a document with the verdict on it
+judged_as : (limit : ℕ) (bytes : List ℕ) (d : Document) (core : CDocument) (judge : Judge) (j : JudgedDocument)
+    → length bytes ≤ limit → IsDocument bytes d → IsJudgeOf d core judge → (told : Judge)
+    → StandsFor core told (certs_events (certificates_of d)) → IsVerdictBy core told (Finding.Judged j)
+    → IsJudged limit bytes j
+judged_as limit bytes d core judge j size is of told stands verdict = record {
+  document = d;
+  size = size;
+  reading = record { is_document = is; named = of.named; expands = of.expands };
+  core_is = verdict.0 ∙ of.core_is;
+  verdict_is = verdict.1 (core_document d) (certificates_of d) (are_whole_trees bytes d is)
+      (subst (λ c. StandsFor c told (certs_events (certificates_of d))) of.core_is stands);
+}
+
+-- what is pending on a document, where it was told the document's certificates
+settled_as : (limit : ℕ) (bytes : List ℕ) (d : Document) → length bytes ≤ limit → IsDocument bytes d
+    → (old new : Pending) → IsPendingOn d old → (es : List CertEvent) → Hears old new es
+    → ((core : CDocument) (judge : Judge) → StandsFor core judge es
+    → StandsFor core judge (certs_events (certificates_of d))) → (found : Finding) → IsSettled new found
+    → IsFound limit bytes found
+settled_as limit bytes d size is (Pending.Fault code at) new on es heard told found settled =
+    let same : found ≡ Finding.Refused (Flaw.Fault code at) = subst (λ p. IsSettled p found) heard settled in
+    subst (λ f. IsFound limit bytes f) (sym same) (size, wells.IsFirstFault.of_document d is on)
+settled_as limit bytes d size is (Pending.Judge core judge) new on es heard told found settled =
+    by_judge found (subst (λ p. IsSettled p found) heard.1 settled)
+  where
+    by_judge : (found : Finding) → IsVerdictBy core heard.0 found → IsFound limit bytes found
+    by_judge (Finding.Refused flaw) verdict = absurd verdict
+    by_judge (Finding.Judged j) verdict = judged_as limit bytes d core judge j size is on heard.0
+        (told core heard.0 (heard.2.stands core [] on.stands)) verdict
+
+-- names and expansion do not look at a document's certificates
+pending_same : (d : Document) (c : Certificates) (p : Pending) → IsPendingOn d p
+    → IsPendingOn (record d { certificates = Some c }) p
+pending_same d c (Pending.Fault code at) on = on
+pending_same d c (Pending.Judge core judge) on = record {
+  named = on.named;
+  expands = on.expands;
+  core_is = on.core_is;
+  stands = on.stands;
+}
+
+-- ---- a front with a section behind it
+
+module _ (w : Window) (left : Option (List ℕ)) (bytes : List ℕ) (f : Front) (h : HasFront w left bytes f) (cut : ℕ)
+    (is : f.cut ≡ Some cut) where
+  parts : IsReadUpTo (Some cut) w.limit bytes f (coming w left)
+  parts = subst (λ c. IsReadUpTo c w.limit bytes f (coming w left)) is h.front.1
+
+  abbrev End : ℕ
+  End = parts.0
+
+  cut_front : IsCutFront bytes f cut End
+  cut_front = record { at = is; none = h.front.0; reads = parts.1.0; kept = parts.1.1 }
+
+  pub rest_told : coming w left ≡ Some (drop End bytes)
+  rest_told = parts.1.2
+
+  size : w.at + length (drop End bytes) ≡ length bytes
+  size = h.place (drop End bytes) rest_told
+
+  place : w.at ≡ End
+  place = omega (arith, size, reads_place parts.1.0)
+
+  from_end : {ts : List Token} {p : ℕ} {rest : List ℕ} → Tokenizes w.at (drop End bytes) ts p rest
+      → Tokenizes End (drop End bytes) ts p rest
+  from_end {ts} {p} {rest} reads = subst (λ n. Tokenizes n (drop End bytes) ts p rest) place reads
+
+  behind : (ts : List Token) → Tokenizes w.at (drop End bytes) ts (w.at + length (drop End bytes)) []
+      → AreBehind bytes End ts
+  behind ts reads = subst (λ n. Tokenizes End (drop End bytes) ts n []) size (from_end reads)
+
+  no_token_refused : (ts : List Token) (rest : List ℕ) (c : Code) (p : ℕ)
+      → w.at + length (drop End bytes) ≤ w.limit → Tokenizes w.at (drop End bytes) ts p rest → IsFaulty rest c
+      → IsRefused w.limit bytes (Flaw.Fault c p)
+  no_token_refused ts rest c p inside reads bad = of_fault w.limit bytes c p (omega (arith, inside, size))
+      (token_faults_stay bytes f cut End ts rest c p cut_front (from_end reads) bad)
+
+  -- the front is at fault
+  pub front_refused : (code : Code) (at : ℕ) {flaw : Flaw} → IsRefusal f.bytes.items (front_tokens f) code at
+      → IsSkimmed w.limit w.at (drop End bytes) code at flaw → IsRefused w.limit bytes flaw
+  front_refused code at refusal (rests.IsSkimmed.too_long past) = omega (arith, past, size)
+  front_refused code at refusal (rests.IsSkimmed.no_token ts rest c p inside reads bad) =
+      no_token_refused ts rest c p inside reads bad
+  front_refused code at refusal (rests.IsSkimmed.stands ts inside reads) =
+      of_fault w.limit bytes code at (omega (arith, inside, size))
+      (front_faults_stay bytes f cut End ts code at cut_front (behind ts reads) refusal)
+
+  module _ (d : Document) (read : IsFrontDocument f d) (old new : Pending) where
+    -- what stands behind it is
+    pub behind_refused : {flaw : Flaw}
+        → IsBehind (says_later f.tokens) w.limit w.at (drop End bytes) old new (Some flaw)
+        → IsRefused w.limit bytes flaw
+    behind_refused (rests.IsBehind.too_long past) = omega (arith, past, size)
+    behind_refused (rests.IsBehind.no_token ts rest c p inside reads bad) =
+        no_token_refused ts rest c p inside reads bad
+    behind_refused (rests.IsBehind.no_section ts t us inside reads opens takes) =
+        of_fault w.limit bytes Code.Unexpected t.start (omega (arith, inside, size))
+        (section_faults bytes f cut End ts t us d cut_front (behind (ts ++ t ∷ us) reads) read opens takes)
+    behind_refused (rests.IsBehind.too_short ts inside reads opens none) =
+        subst (λ n. IsRefused w.limit bytes (Flaw.Fault Code.Unexpected n)) (sym size)
+        (of_fault w.limit bytes Code.Unexpected (length bytes) (omega (arith, inside, size))
+        (sections_end_early bytes f cut End ts d cut_front (behind ts reads) read opens none))
+
+    -- nothing is
+    pub behind_found : IsPendingOn d old
+        → IsBehind (says_later f.tokens) w.limit w.at (drop End bytes) old new None → (found : Finding)
+        → IsSettled new found → IsFound w.limit bytes found
+    behind_found on (rests.IsBehind.section ts c inside reads section heard) found settled =
+        let whole : Document = record d { certificates = Some (record { at = cut; items = c.items }) } in
+        settled_as w.limit bytes whole (omega (arith, inside, size))
+        (sections_complete bytes f cut End ts d c cut_front (behind ts reads) read section) old new
+        (pending_same d (record { at = cut; items = c.items }) old on)
+        (section_events c) heard (λ core judge stands. stands_for_section core judge c stands) found settled
+
+-- ---- a front that is the whole text
+
+module _ (w : Window) (left : Option (List ℕ)) (bytes : List ℕ) (f : Front) (h : HasFront w left bytes f)
+    (is : f.cut ≡ None) where
+  all : IsReadUpTo None w.limit bytes f (coming w left)
+  all = subst (λ c. IsReadUpTo c w.limit bytes f (coming w left)) is h.front.1
+
+  pub nothing_told : coming w left ≡ Some []
+  nothing_told = all.2
+
+  at_end : w.at ≡ length bytes
+  at_end = omega (arith, h.place [] nothing_told)
+
+  tokens_are : front_tokens f ≡ f.tokens
+  tokens_are = ap (λ c. f.tokens ++ empty_section c) is ∙ append-nil f.tokens
+
+  -- and is at fault
+  pub whole_refused : (code : Code) (at : ℕ) {flaw : Flaw} → IsRefusal f.bytes.items (front_tokens f) code at
+      → IsSkimmed w.limit w.at [] code at flaw → IsRefused w.limit bytes flaw
+  whole_refused code at refusal (rests.IsSkimmed.too_long past) = omega (arith, past, at_end)
+  whole_refused code at refusal (rests.IsSkimmed.no_token ts rest c p inside reads bad) =
+      of_fault w.limit bytes c p all.3 (texts.IsFault.no_token (record {
+        tokens = f.tokens ++ ts;
+        rest = rest;
+        reads = reads_then all.0 (subst (λ n. Tokenizes n [] ts p rest) at_end reads);
+        faulty = bad;
+      }))
+  whole_refused code at refusal (rests.IsSkimmed.stands ts inside reads) =
+      of_fault w.limit bytes code at all.3 (texts.IsFault.no_document f.tokens all.0
+      (subst (λ bs. IsRefusal bs f.tokens code at) all.1
+      (subst (λ ts. IsRefusal f.bytes.items ts code at) tokens_are refusal)))
+
+  module _ (d : Document) (read : IsFrontDocument f d) where
+    parsed : IsDocumentOf bytes f.tokens d
+    parsed = subst (λ bs. IsDocumentOf bs f.tokens d) all.1
+        (subst (λ ts. IsDocumentOf f.bytes.items ts d) tokens_are read)
+
+    whole_document : IsDocument bytes d
+    whole_document = record { tokens = f.tokens; lexed = all.0; parsed = parsed }
+
+    no_certificates : d.certificates ≡ None
+    no_certificates = none_in d.certificates split.after_is
+      where
+        abbrev Front : List Terminal
+        Front = terminals (says_later f.tokens) bytes f.tokens
+
+        split : Parts d Front
+        split = parts_of d Front parsed.0
+
+        none_in : (o : Option Certificates) → After o split.after → o ≡ None
+        none_in None after = refl
+        none_in (Some c) after = absurd (not_inside split.front after.1 after.0 after.3
+            (subst (λ us. AreNot words us) (split.split ∙ ap (λ us. split.front ++ us) after.2)
+            (word_free (says_later f.tokens) bytes f.tokens h.front.0)))
+
+    none_told : certs_events (certificates_of d) ≡ []
+    none_told = ap (λ o. certs_events (map certificate_of (section_of o))) no_certificates
+
+    pub whole_found : (pending : Pending) → IsPendingOn d pending → Hears pending pending [] → (found : Finding)
+        → IsSettled pending found → IsFound w.limit bytes found
+    whole_found pending on heard found settled =
+        settled_as w.limit bytes d all.3 whole_document pending pending on [] heard
+        (λ core judge stands. subst (λ es. StandsFor core judge es) (sym none_told) stands) found settled
+
+-- ---- what is read behind a front
+
+later_is : (l : Bool) → ((if l then 2 else 1) == 2) ≡ l
+later_is true = refl
+later_is false = refl
+
+module _ (w : Window) (left : Option (List ℕ)) (bytes : List ℕ) (f : Front) (h : HasFront w left bytes f) (d : Document)
+    (read : IsFrontDocument f d) (version : Option ℕ) (is : version ≡ section_version f) (old new : Pending)
+    (result : Option Flaw)
+    (behind : (v : ℕ) → version ≡ Some v → (bytes : List ℕ) → coming w left ≡ Some bytes →
+    IsBehind (v == 2) w.limit w.at bytes old new result)
+    (none : version ≡ None → (result ≡ None) × (new ≡ old)) where
+  version_at : (cut : Option ℕ) → f.cut ≡ cut → version ≡ version_behind cut (says_later f.tokens)
+  version_at cut e = is ∙ ap (λ c. version_behind c (says_later f.tokens)) e
+
+  section_at_cut : (cut : ℕ) (e : f.cut ≡ Some cut)
+      → IsBehind (says_later f.tokens) w.limit w.at (drop (End w left bytes f h cut e) bytes) old new result
+  section_at_cut cut e =
+      subst (λ l. IsBehind l w.limit w.at (drop (End w left bytes f h cut e) bytes) old new result)
+      (later_is (says_later f.tokens))
+      (behind (if says_later f.tokens then 2 else 1) (version_at (Some cut) e) (drop (End w left bytes f h cut e) bytes)
+      (rest_told w left bytes f h cut e))
+
+  pub flaw_refused : (flaw : Flaw) → result ≡ Some flaw → IsRefused w.limit bytes flaw
+  flaw_refused flaw q = at f.cut refl
+    where
+      at : (o : Option ℕ) → f.cut ≡ o → IsRefused w.limit bytes flaw
+      at None e =
+          let nothing = none (version_at None e) in
+          let no : ◌≡◌ {A = Option Flaw} None (Some flaw) = sym nothing.0 ∙ q in
+          absurd cc
+      at (Some cut) e = behind_refused w left bytes f h cut e d read old new
+          (subst (λ r. IsBehind (says_later f.tokens) w.limit w.at (drop (End w left bytes f h cut e) bytes) old new
+          r) q (section_at_cut cut e))
+
+  pub nothing_found : result ≡ None → IsPendingOn d old → MayHear old → (found : Finding) → IsSettled new found
+      → IsFound w.limit bytes found
+  nothing_found q on may found settled = at f.cut refl
+    where
+      at : (o : Option ℕ) → f.cut ≡ o → IsFound w.limit bytes found
+      at None e =
+          let nothing = none (version_at None e) in
+          whole_found w left bytes f h e d read old on (hears_none old may) found
+          (subst (λ p. IsSettled p found) nothing.1 settled)
+      at (Some cut) e = behind_found w left bytes f h cut e d read old new on
+          (subst (λ r. IsBehind (says_later f.tokens) w.limit w.at (drop (End w left bytes f h cut e) bytes) old new
+          r) q (section_at_cut cut e)) found settled
+
+-- the front itself is at fault
+pub fault_refused : (w : Window) (left : Option (List ℕ)) (bytes : List ℕ) (f : Front) → HasFront w left bytes f
+    → (code : Code) (at : ℕ) (flaw : Flaw) → IsRefusal f.bytes.items (front_tokens f) code at
+    → ((rest : List ℕ) → coming w left ≡ Some rest → IsSkimmed w.limit w.at rest code at flaw)
+    → IsRefused w.limit bytes flaw
+fault_refused w left bytes f h code at flaw refusal skims = by_cut f.cut refl
+  where
+    by_cut : (o : Option ℕ) → f.cut ≡ o → IsRefused w.limit bytes flaw
+    by_cut None e = whole_refused w left bytes f h e code at refusal (skims [] (nothing_told w left bytes f h e))
+    by_cut (Some cut) e = front_refused w left bytes f h cut e code at refusal
+        (skims (drop (End w left bytes f h cut e) bytes) (rest_told w left bytes f h cut e))
+
+-- ---- from the first byte on
+
+pub has_front : (u w : Window) (a c : Option (List ℕ)) (bytes : List ℕ) (f : Front) → held u ≡ [] → u.at ≡ 0
+    → HasPassed u w a c → a ≡ Some bytes
+    → ((bytes : List ℕ) → coming u a ≡ Some bytes → IsFront u.limit bytes f (coming w c)) → HasFront w c bytes f
+has_front u w a c bytes f none at p e front = record {
+  front = subst (λ limit. IsFront limit bytes f (coming w c)) (sym p.limit) (front bytes (first_told u a bytes none e));
+  place = λ rest told.
+      let after = told_after u w a c bytes p (first_told u a bytes none e) in
+      let somes : ◌≡◌ {A = Option (List ℕ)} (Some after.0) (Some rest) = sym after.1 ∙ told in
+      let same : after.0 ≡ rest = cc in
+      omega (arith, after.2, at, ap length same);
+}
+
+-- no front was read
+pub drained_refused : (u w : Window) (a c : Option (List ℕ)) (bytes : List ℕ) (code : Code) (place : ℕ) (flaw : Flaw)
+    → held u ≡ [] → u.at ≡ 0 → HasPassed u w a c → a ≡ Some bytes
+    → ((bytes : List ℕ) → coming u a ≡ Some bytes → FirstBad bytes code place)
+    → ((rest : List ℕ) → coming w c ≡ Some rest → IsKept w.limit w.at rest code place flaw)
+    → IsRefused w.limit bytes flaw
+drained_refused u w a c bytes code place flaw none at p e bad kept =
+    let told = first_told u a bytes none e in
+    let after = told_after u w a c bytes p told in
+    kept_refused w.limit w.at bytes after.0 code place flaw (omega (arith, after.2, at)) (bad bytes told)
+    (kept after.0 after.1)
+
+pub found_at : (most limit : ℕ) (bytes : List ℕ) (found : Finding) → limit ≡ most → IsFound limit bytes found
+    → IsFound most bytes found
+found_at most limit bytes found e h = subst (λ n. IsFound n bytes found) e h
+
+-- what a call found behind a front
+pub found_from : {E : Type 0} (u w : Window) (a c : Option (List ℕ)) (f : Front) (most : ℕ) (result : Result Finding E)
+    → held u ≡ [] → u.at ≡ 0 → u.limit ≡ most → HasPassed u w a c
+    → (u.at ≡ 0 → (bytes : List ℕ) → coming u a ≡ Some bytes → IsFront u.limit bytes f (coming w c))
+    → IfOk result (λ found. (bytes : List ℕ) → HasFront w c bytes f → IsFound w.limit bytes found)
+    → IfOk result (λ found. (bytes : List ℕ) → a ≡ Some bytes → IsFound most bytes found)
+found_from u w a c f most (Ok found) none at limit p front finds = λ bytes e.
+    found_at most w.limit bytes found (p.limit ∙ limit) (finds bytes (has_front u w a c bytes f none at p e (front at)))
+found_from u w a c f most (Err e) none at limit p front finds = tt

@@ -1,0 +1,55 @@
+-- What is pending hears events one after the other.
+use Rattle.std.proofs.Common.{◌≡◌, ℕ, List, [], ◌∷◌, ◌++◌, Result, Ok, Err, OnOk, refl, sym, subst, append-nil}
+use Rattle.std.proofs.Common.{append_assoc}
+use Rattle.case_tables.specs.declared.code_table.Code.{Code}
+use Rattle.unity_base.specs.declared.events.CertEvent.{CertEvent}
+use Rattle.core_terms.specs.declared.documents.CDocument.{CDocument}
+use Rattle.event_judge.specs.declared.judge.Judge.{Judge}
+use Rattle.event_judge.specs.Judges.{IsReady, StandsFor}
+use Rattle.streamed_documents.specs.declared.behind.Pending.{Pending}
+use Rattle.streamed_documents.specs.Hearing.{ToldMore, Hears, MayHear}
+
+pub hears_none : (p : Pending) → MayHear p → Hears p p []
+hears_none (Pending.Fault code at) h = refl
+hears_none (Pending.Judge core judge) h = (
+  judge,
+  refl,
+  record { ready = h; stands = λ d before s. subst (λ es. StandsFor d judge es) (sym (append-nil before)) s },
+)
+
+told_on : (i j k : Judge) (es fs : List CertEvent) → ToldMore i j es → ToldMore j k fs → ToldMore i k (es ++ fs)
+told_on i j k es fs m n = record {
+  ready = n.ready;
+  stands = λ d before s. subst (λ all. StandsFor d k all) (append_assoc before es fs)
+      (n.stands d (before ++ es) (m.stands d before s));
+}
+
+pub hears_then : (p q r : Pending) (es fs : List CertEvent) → Hears p q es → Hears q r fs → Hears p r (es ++ fs)
+hears_then (Pending.Fault code at) q r es fs h k = subst (λ q. Hears q r fs) h k
+hears_then (Pending.Judge core judge) q r es fs h k =
+    let later = subst (λ q. Hears q r fs) h.1 k in
+    (later.0, later.1, told_on judge h.0 later.0 es fs h.2 later.2)
+
+-- a judge that heard events was told them
+pub judge_heard : (core : CDocument) (old : Judge) (new : Pending) (es : List CertEvent)
+    → Hears (Pending.Judge core old) new es → (judge : Judge) × (new ≡ Pending.Judge core judge) × ToldMore old judge es
+judge_heard core old new es h = h
+
+-- a judge that took an event
+pub judge_hears : {E : Type 0} (p : Pending) (core : CDocument) (old new : Judge) (e : CertEvent)
+    (result : Result (Unit {0}) E) → p ≡ Pending.Judge core old
+    → OnOk result ((d : CDocument) (es : List CertEvent) → StandsFor d old es → StandsFor d new (es ++ e ∷ []))
+    → OnOk result (IsReady new) → OnOk result (Hears p (Pending.Judge core new) (e ∷ []))
+judge_hears p core old new e (Ok done) is stands ready =
+    subst (λ p. Hears p (Pending.Judge core new) (e ∷ [])) (sym is)
+    (new, refl, record { ready = ready; stands = stands })
+judge_hears p core old new e (Err x) is stands ready = tt
+
+-- a fault hears nothing
+pub fault_hears : (p : Pending) (code : Code) (at : ℕ) (es : List CertEvent) → p ≡ Pending.Fault code at → Hears p p es
+fault_hears p code at es is = subst (λ q. Hears q q es) (sym is) refl
+
+-- what may hear a judge is may be told
+pub ready_of : (p : Pending) (core : CDocument) (judge : Judge) → p ≡ Pending.Judge core judge → MayHear p
+    → IsReady judge
+ready_of p core judge is may = subst MayHear is may

@@ -1,0 +1,213 @@
+-- The section behind a front, token by token.
+use Rattle.std.proofs.Common.{◌≡◌, ℕ, ◌+◌, ◌<◌, ◌≤◌, ◌==◌, ◌↔◌, Bool, true, false, List, [], ◌∷◌, ◌++◌, length, Option}
+use Rattle.std.proofs.Common.{Some, None, Result, Ok, Err, IfOk, refl, sym, ap, ◌∙◌, subst, arith, append-nil}
+use Rattle.std.proofs.Common.{append_assoc}
+use Rattle.case_tables.specs.declared.code_table.Code.{Code}
+use Rattle.case_tables.specs.declared.word_table.Word.{Word}
+use Rattle.unity_base.specs.declared.events.CertEvent.{CertEvent}
+use Rattle.unity_base.specs.declared.window.Window.{Window}
+use Rattle.unity_base.specs.Window.{coming}
+use Rattle.unity_syntax.specs.declared.token.Token.{Token}
+use Rattle.unity_syntax.specs.declared.token.TokenKind.{TokenKind}
+use Rattle.unity_syntax.specs.Classes.{terminal}
+use Rattle.unity_syntax.specs.declared.certificate.Certificates.{Certificates}
+use Rattle.unity_lexer.specs.declared.scan.Scan.TheVariants as scan
+use Rattle.unity_lexer.specs.Tokens.{Tokenizes, IsFaulty}
+use Rattle.unity_lexer.specs.Scans.{ReadsTo, IsScan}
+use Rattle.unity_lexer.proofs.ScanSteps.{reads_then}
+use Rattle.unity_lexer.proofs.SomeAnswer.{reads_place}
+use Rattle.certificate_events.specs.declared.reader.Taken.{Taken}
+use Rattle.certificate_events.specs.declared.reader.CertReader.{CertReader}
+use Rattle.certificate_events.specs.Events.{events, section_events, section_takes}
+use Rattle.certificate_events.specs.Sections.{IsSection, IsSections, Stands, Takes, told}
+use Rattle.certificate_events.proofs.SectionLaws.{told_by_tokens, events_of_sections}
+use Rattle.front_documents.specs.Laws.{IsOpen}
+use Rattle.front_documents.proofs.Sections.{goes_on, to_section}
+use Rattle.streamed_documents.specs.declared.behind.Pending.{Pending}
+use Rattle.streamed_documents.specs.declared.found.Flaw.{Flaw}
+use Rattle.streamed_documents.specs.Hearing.{Hears, MayHear}
+use Rattle.streamed_documents.specs.Rests.{IsBehind, IsEnding, IsKept, IsSkimmed}
+use Rattle.streamed_documents.specs.Rests as rests
+use Rattle.streamed_documents.proofs.Hearings.{hears_none, hears_then}
+use Rattle.streamed_documents.proofs.Skimming.{Scanning, reads_join, start_reads, whole, faulty}
+
+-- tokens that were read of the bytes from a place on, up to another; what they told was heard
+pub record Going (later : Bool) (at : ℕ) (bytes : List ℕ) (now : ℕ) (left : Option (List ℕ)) (reader : CertReader)
+    (old new : Pending) : Type 0 where
+  pub tokens : List Token
+  pub reads : ReadsTo at bytes tokens now left
+  pub stands : Stands later reader tokens
+  pub opens : IsOpen later tokens
+  pub heard : Hears old new (events (told later tokens))
+
+-- where the bytes are told
+abbrev pub GoesOn : Bool → Window → Option (List ℕ) → Window → Option (List ℕ) → CertReader → Pending → Pending → Type 0
+GoesOn later u a w c reader old new =
+    (bytes : List ℕ) → coming u a ≡ Some bytes → Going later u.at bytes w.at (coming w c) reader old new
+
+-- ---- tokens that a section begins with
+
+abbrev some_word : Token
+some_word = record { kind = TokenKind.Reserved Word.Certificates; start = 0; end = 0 }
+
+-- some section begins with no tokens
+pub open_start : (later : Bool) → IsOpen later []
+open_start later =
+    let more = goes_on later [] (terminal later [] some_word) [] refl refl in
+    (more.0, to_section later [] (terminal later [] some_word) more.0 refl more.1.derives)
+
+open_more : (later : Bool) (ts : List Token) (t : Token) (rest : List Token) → IsSections later (ts ++ t ∷ rest)
+    → IsOpen later (ts ++ t ∷ [])
+open_more later ts t rest s =
+    (rest, subst (λ all. IsSections later all) (sym (append_assoc ts (t ∷ []) rest)) s)
+
+-- what was taken is no refusal
+abbrev pub IsGood : Taken → Type 0
+IsGood Taken.Nothing = Unit {0}
+IsGood (Taken.Event e) = Unit {0}
+IsGood Taken.Unexpected = ⊥
+
+pub open_then : (later : Bool) (ts : List Token) (t : Token) (taken : Taken) → IsGood taken → Takes later ts t taken
+    → IsOpen later (ts ++ t ∷ [])
+open_then later ts t Taken.Nothing good takes = open_more later ts t takes.0 (takes.1, takes.2)
+open_then later ts t (Taken.Event e) good takes = open_more later ts t takes.0 (takes.1, takes.2)
+open_then later ts t Taken.Unexpected good takes = absurd good
+
+-- ---- what they tell
+
+events_append : (xs ys : List Taken) → events (xs ++ ys) ≡ events xs ++ events ys
+events_append [] ys = refl
+events_append (Taken.Nothing ∷ xs) ys = events_append xs ys
+events_append (Taken.Event e ∷ xs) ys = ap (λ es. e ∷ es) (events_append xs ys)
+events_append (Taken.Unexpected ∷ xs) ys = events_append xs ys
+
+pub told_then : (later : Bool) (ts : List Token) (t : Token) (taken : Taken)
+    → told later (ts ++ t ∷ []) ≡ told later ts ++ taken ∷ []
+    → events (told later (ts ++ t ∷ [])) ≡ events (told later ts) ++ events (taken ∷ [])
+told_then later ts t taken e = ap events e ∙ events_append (told later ts) (taken ∷ [])
+
+-- ---- one token
+
+pub going_start : (later : Bool) (w : Window) (a : Option (List ℕ)) (reader : CertReader) (p : Pending)
+    → Stands later reader [] → MayHear p → GoesOn later w a w a reader p p
+going_start later w a reader p stands may bytes e = record {
+  tokens = [];
+  reads = start_reads w.at bytes (coming w a) e;
+  stands = stands;
+  opens = open_start later;
+  heard = hears_none p may;
+}
+
+pub going_then : (later : Bool) (u w x : Window) (a c d : Option (List ℕ)) (old reader : CertReader)
+    (p q r : Pending) (t : Token) (taken : Taken) → GoesOn later u a w c old p q → Scanning w c x d (scan.Token t)
+    → ((later : Bool) (ts : List Token) → Stands later old ts → Stands later reader (ts ++ t ∷ []))
+    → ((later : Bool) (ts : List Token) → Stands later old ts → Takes later ts t taken)
+    → ((later : Bool) (ts : List Token) → Stands later old ts →
+    told later (ts ++ t ∷ []) ≡ told later ts ++ taken ∷ [])
+    → IsGood taken → Hears q r (events (taken ∷ [])) → GoesOn later u a x d reader p r
+going_then later u w x a c d old reader p q r t taken g s stands takes tells good hears bytes e =
+    let now = g bytes e in
+    let ts = now.tokens in
+    record {
+      tokens = ts ++ t ∷ [];
+      reads = reads_join u.at bytes ts (t ∷ []) w.at x.at (coming w c) (coming x d) now.reads
+          (s now.reads.rest now.reads.told).0;
+      stands = stands later ts now.stands;
+      opens = open_then later ts t taken good (takes later ts now.stands);
+      heard = subst (λ es. Hears p r es) (sym (told_then later ts t taken (tells later ts now.stands)))
+          (hears_then p q r (events (told later ts)) (events (taken ∷ [])) now.heard hears);
+    }
+
+-- ---- the end of the tokens
+
+module _ (later : Bool) (u w x : Window) (a c d : Option (List ℕ)) (reader : CertReader) (p q : Pending)
+    (g : GoesOn later u a w c reader p q) (same : w.limit ≡ u.limit) where
+  -- with the text
+  pub end_behind : (flaw : Option Flaw) (at : ℕ) → at ≡ x.at → x.limit ≡ u.limit → Scanning w c x d scan.End
+      → ((later : Bool) (ts : List Token) → Stands later reader ts → IsEnding later ts at flaw) → (bytes : List ℕ)
+      → coming u a ≡ Some bytes → IsBehind later u.limit u.at bytes p q flaw
+  end_behind flaw at is limit s ends bytes e =
+      let now = g bytes e in
+      let found = whole w.limit u.at bytes now.tokens w.at (coming w c) now.reads x.at (coming x d)
+      (s now.reads.rest now.reads.told) in
+      let top = x.in_limit in
+      let inside : u.at + length bytes ≤ u.limit = omega (arith, found.0, limit, top) in
+      at_end now inside found.1 (is ∙ found.0) flaw (ends later now.tokens now.stands)
+    where
+      at_end : (now : Going later u.at bytes w.at (coming w c) reader p q) → u.at + length bytes ≤ u.limit
+          → Tokenizes u.at bytes now.tokens (u.at + length bytes) [] → at ≡ u.at + length bytes → (flaw : Option Flaw)
+          → IsEnding later now.tokens at flaw → IsBehind later u.limit u.at bytes p q flaw
+      at_end now inside reads place None section =
+          rests.IsBehind.section now.tokens section.0 inside reads section.1
+          (subst (λ es. Hears p q es)
+          (ap events (told_by_tokens later now.tokens section.0 section.1) ∙ events_of_sections section.0) now.heard)
+      at_end now inside reads place (Some flaw) h =
+          subst (λ f. IsBehind later u.limit u.at bytes p q (Some f))
+          (ap (λ n. Flaw.Fault Code.Unexpected n) (sym place) ∙ sym h.0)
+          (rests.IsBehind.too_short now.tokens inside reads now.opens h.1)
+
+  -- where no token can be read
+  pub drained_behind : {E : Type 0} (code : Code) (place : ℕ) (result : Result Flaw E) → x.limit ≡ u.limit
+      → Scanning w c x d (scan.Fault code place)
+      → IfOk result (λ flaw. (bytes : List ℕ) → coming x d ≡ Some bytes → IsKept x.limit x.at bytes code place flaw)
+      → IfOk result (λ flaw. (bytes : List ℕ) → coming u a ≡ Some bytes →
+      IsBehind later u.limit u.at bytes p q (Some flaw))
+  drained_behind code place (Err e) limit s kept = tt
+  drained_behind code place (Ok flaw) limit s kept = λ bytes e.
+      let now = g bytes e in
+      let found = s now.reads.rest now.reads.told in
+      let read = faulty w.limit u.at bytes now.tokens w.at (coming w c) now.reads x.at (coming x d) code place found in
+      at_flaw bytes now (found.0.rest) read.0 found.1 (read.1) found.2 flaw (kept found.0.rest found.0.told)
+    where
+      at_flaw : (bytes : List ℕ) (now : Going later u.at bytes w.at (coming w c) reader p q) (rest : List ℕ)
+          → Tokenizes u.at bytes now.tokens place rest → IsFaulty rest code
+          → place + length rest ≡ u.at + length bytes → place ≡ x.at → (flaw : Flaw)
+          → IsKept x.limit x.at rest code place flaw → IsBehind later u.limit u.at bytes p q (Some flaw)
+      at_flaw bytes now rest reads bad size is Flaw.TooLong h =
+          rests.IsBehind.too_long (omega (arith, h, size, is, limit))
+      at_flaw bytes now rest reads bad size is (Flaw.Fault k n) h =
+          subst (λ f. IsBehind later u.limit u.at bytes p q (Some f)) (same_fault k n h.1 h.2)
+          (rests.IsBehind.no_token now.tokens rest code place (omega (arith, h.0, size, is, limit)) reads bad)
+        where
+          same_fault : (k : Code) (n : ℕ) → k ≡ code → n ≡ place → Flaw.Fault code place ≡ Flaw.Fault k n
+          same_fault k n e f = λ i. Flaw.Fault (sym e i) (sym f i)
+
+  -- past the limit
+  pub long_behind : Scanning w c x d scan.TooLong → (bytes : List ℕ) → coming u a ≡ Some bytes
+      → IsBehind later u.limit u.at bytes p q (Some Flaw.TooLong)
+  long_behind s bytes e =
+      let now = g bytes e in
+      rests.IsBehind.too_long (omega (arith, same, reads_place now.reads.reads, s now.reads.rest now.reads.told))
+
+  -- at a token with which no section goes on
+  pub skimmed_behind : {E : Type 0} (t : Token) (result : Result Flaw E) → x.limit ≡ u.limit
+      → Scanning w c x d (scan.Token t)
+      → ((later : Bool) (ts : List Token) → Stands later reader ts → Takes later ts t Taken.Unexpected)
+      → IfOk result (λ flaw. (bytes : List ℕ) → coming x d ≡ Some bytes →
+      IsSkimmed x.limit x.at bytes Code.Unexpected t.start flaw)
+      → IfOk result (λ flaw. (bytes : List ℕ) → coming u a ≡ Some bytes →
+      IsBehind later u.limit u.at bytes p q (Some flaw))
+  skimmed_behind t (Err e) limit s takes h = tt
+  skimmed_behind t (Ok flaw) limit s takes h = λ bytes e.
+      let now = g bytes e in
+      let found = s now.reads.rest now.reads.told in
+      let read = reads_join u.at bytes now.tokens (t ∷ []) w.at x.at (coming w c) (coming x d) now.reads found.0 in
+      at_flaw bytes now read (h read.rest read.told)
+    where
+      at_flaw : (bytes : List ℕ) (now : Going later u.at bytes w.at (coming w c) reader p q)
+          (read : ReadsTo u.at bytes (now.tokens ++ t ∷ []) x.at (coming x d)) {flaw : Flaw}
+          → IsSkimmed x.limit x.at read.rest Code.Unexpected t.start flaw
+          → IsBehind later u.limit u.at bytes p q (Some flaw)
+      at_flaw bytes now read (rests.IsSkimmed.too_long past) =
+          rests.IsBehind.too_long (omega (arith, past, limit, reads_place read.reads))
+      at_flaw bytes now read (rests.IsSkimmed.no_token us rest k n inside reads bad) =
+          rests.IsBehind.no_token ((now.tokens ++ t ∷ []) ++ us) rest k n
+          (omega (arith, inside, limit, reads_place read.reads)) (reads_then read.reads reads) bad
+      at_flaw bytes now read (rests.IsSkimmed.stands us inside reads) =
+          let place : x.at + length read.rest ≡ u.at + length bytes = omega (arith, reads_place read.reads) in
+          let all : Tokenizes u.at bytes ((now.tokens ++ t ∷ []) ++ us) (x.at + length read.rest) [] =
+          reads_then read.reads reads in
+          rests.IsBehind.no_section now.tokens t us (omega (arith, inside, limit, place))
+          (subst (λ ts. Tokenizes u.at bytes ts (u.at + length bytes) []) (append_assoc now.tokens (t ∷ []) us)
+          (subst (λ m. Tokenizes u.at bytes ((now.tokens ++ t ∷ []) ++ us) m []) place all))
+          now.opens (takes later now.tokens now.stands)

@@ -1,0 +1,59 @@
+use Rattle.std.proofs.Common.{◌∙◌, subst, arith}
+use Rattle.unity_lexer.specs.Tokens.{AreInOrder}
+use Rattle.unity_lexer.proofs.ScanSteps.{passed_then}
+use Rattle.streamed_documents.proofs.Answers.{found_from, drained_refused, found_at}
+use Rattle.streamed_documents.proofs.Passing.{out_from, flaw_from, rest_of}
+use Rattle.streamed_documents.proofs.sources.judge_source.Goals as goal
+
+pub judge_front-requires : goal.judge_front-requires
+judge_front-requires g c =
+    let same = c.read_front.ensures.passed.limit in
+    record {
+      orderly = record {
+        order = subst (λ n. AreInOrder n c.read_front.new.w.at c.in-Ok.front.tokens) c.in_ok-w.ensures.at
+            c.in-Ok.ensures.places;
+        small = c.in-Ok.ensures.numbers;
+        none = c.in-Ok.ensures.none;
+      };
+      limit = omega (arith, same, c.in_ok-w.ensures.limit, c.requires);
+      none = c.in-Ok.ensures.end;
+    }
+
+pub returns-in-Ok-clause-found : goal.returns-in-Ok-clause-found
+returns-in-Ok-clause-found g c =
+    found_from c.in_ok-w.w c.read_front.new.w (g.S.Source.left c.args.src.now) (g.S.Source.left c.read_front.new.src)
+    c.in-Ok.front c.args.most c.judge_front.result c.in_ok-w.ensures.held c.in_ok-w.ensures.at c.in_ok-w.ensures.limit
+    c.read_front.ensures.passed c.in-Ok.ensures.front c.judge_front.ensures.found
+
+pub returns-in-Ok-clause-end : goal.returns-in-Ok-clause-end
+returns-in-Ok-clause-end g c =
+    out_from c.in_ok-w.w c.read_front.new.w c.judge_front.new.w (g.S.Source.left c.args.src.now)
+    (g.S.Source.left c.read_front.new.src) (g.S.Source.left c.judge_front.new.src) c.args.most c.judge_front.result
+    c.in_ok-w.ensures.held c.in_ok-w.ensures.at c.in_ok-w.ensures.limit c.read_front.ensures.passed
+    c.judge_front.ensures.end
+
+pub returns-in-Ok-clause-rest : goal.returns-in-Ok-clause-rest
+returns-in-Ok-clause-rest g c =
+    rest_of c.in_ok-w.w c.judge_front.new.w (g.S.Source.left c.args.src.now) (g.S.Source.left c.judge_front.new.src)
+    c.in_ok-w.ensures.held
+    (passed_then c.in_ok-w.w c.read_front.new.w c.judge_front.new.w (g.S.Source.left c.args.src.now)
+    (g.S.Source.left c.read_front.new.src) (g.S.Source.left c.judge_front.new.src) c.read_front.ensures.passed
+    c.judge_front.ensures.passed)
+
+pub returns-in_ok-drained-in-Fault-clause-found : goal.returns-in_ok-drained-in-Fault-clause-found
+returns-in_ok-drained-in-Fault-clause-found g c = λ bytes left.
+    let w = c.in_ok-w.w in
+    let x = c.read_front.new.w in
+    let a = g.S.Source.left c.args.src.now in
+    let b = g.S.Source.left c.read_front.new.src in
+    found_at c.args.most x.limit bytes _ (c.read_front.ensures.passed.limit ∙ c.in_ok-w.ensures.limit)
+    (drained_refused w x a b bytes c.in-Fault.code c.in-Fault.at c.in_ok-drained-in-Fault.field-0
+    c.in_ok-w.ensures.held c.in_ok-w.ensures.at c.read_front.ensures.passed left
+    (c.in-Fault.ensures.error c.in_ok-w.ensures.at) c.in_ok-drained-in-Fault.ensures.kept)
+
+pub returns-in_ok-drained-in-Fault-clause-end : goal.returns-in_ok-drained-in-Fault-clause-end
+returns-in_ok-drained-in-Fault-clause-end g c =
+    flaw_from c.in_ok-w.w c.read_front.new.w c.drained.new.w (g.S.Source.left c.args.src.now)
+    (g.S.Source.left c.read_front.new.src) (g.S.Source.left c.drained.new.src) c.args.most
+    c.in_ok-drained-in-Fault.field-0 c.in_ok-w.ensures.held c.in_ok-w.ensures.at c.in_ok-w.ensures.limit
+    c.read_front.ensures.passed c.in_ok-drained-in-Fault.ensures.end

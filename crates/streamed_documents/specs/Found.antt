@@ -1,0 +1,27 @@
+-- What bytes are found to be.
+use Rattle.std.specs.Prelude.{◌≡◌, ◌<◌, ◌≤◌, ℕ, List, length}
+use Rattle.unity_syntax.specs.declared.document.Document.{Document}
+use Rattle.expand_documents.specs.Cores.{core_document}
+use Rattle.proof_plans.specs.Verdicts.{verdict_of}
+use Rattle.certificate_reading.specs.Certificates.{certificates_of}
+use Rattle.streamed_documents.specs.declared.found.Flaw.{Flaw}
+use Rattle.streamed_documents.specs.declared.found.Finding.{Finding}
+use Rattle.streamed_documents.specs.declared.found.JudgedDocument.{JudgedDocument}
+use Rattle.streamed_documents.specs.WellFormed.{IsWellFormed, IsFirstFault}
+
+-- the bytes are a document without a fault, with this core form, and this is the verdict on it with its certificates
+pub record IsJudged (most : ℕ) (bytes : List ℕ) (j : JudgedDocument) : Type 0 where
+  pub document : Document
+  pub size : length bytes ≤ most
+  pub reading : IsWellFormed bytes document
+  pub core_is : j.core ≡ core_document document
+  pub verdict_is : verdict_of (core_document document) (certificates_of document) ≡ j.verdict
+
+-- the bytes are more than so many, or have this first fault
+abbrev pub IsRefused : ℕ → List ℕ → Flaw → Type 0
+IsRefused most bytes Flaw.TooLong = most < length bytes
+IsRefused most bytes (Flaw.Fault code at) = (length bytes ≤ most) × IsFirstFault bytes code at
+
+abbrev pub IsFound : ℕ → List ℕ → Finding → Type 0
+IsFound most bytes (Finding.Refused flaw) = IsRefused most bytes flaw
+IsFound most bytes (Finding.Judged j) = IsJudged most bytes j

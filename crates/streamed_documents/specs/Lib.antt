@@ -1,0 +1,5 @@
+pub mod WellFormed
+pub mod Found
+pub mod Fronts
+pub mod Hearing
+pub mod Rests

@@ -1,0 +1,122 @@
+//! The section of certificates behind a front, read token by token.
+ghost use Rattle.std.specs.Prelude.{◌≡◌, ◌⊎◌, ◌==◌, ℕ, Bool, List, [], ◌∷◌, Option, Some, None, IfOk, OnOk, IsErrOf};
+ghost use Rattle.std.specs.Io.KnownBytes.{IsAtEnd};
+ghost use Rattle.unity_base.specs.Streams.{IsTold};
+ghost use Rattle.unity_syntax.specs.declared.token.Token.{Token};
+ghost use Rattle.certificate_events.specs.Sections.{Stands};
+ghost use Rattle.unity_base.specs.Window.{held, coming, window_at, window_limit, HasPassed};
+ghost use Rattle.streamed_documents.specs.Hearing.{Hears, MayHear};
+ghost use Rattle.streamed_documents.specs.Rests.{IsBehind, IsAllRead, IsEnding};
+
+use crate::found::{Flaw, SourceStop};
+use crate::rests::{drained, skimmed};
+use case_tables::Code;
+use certificate_events::{CertReader, Taken};
+use core_terms::CDocument;
+use event_judge::Judge;
+use std::alloc::AllocError;
+use unity_base::{CertEvent, Held, Source, Window};
+use unity_lexer::{Scan, next_token};
+
+/// What is answered where nothing behind the front is at fault.
+#[derive(Drop)]
+pub(crate) enum Pending {
+    /// The first fault of the names or the expansion.
+    Fault {
+        /// What is at fault.
+        code: Code,
+        /// The place, in bytes from 0.
+        at: u64,
+    },
+    /// The verdict of a judge of the document with this core form.
+    Judge {
+        /// The core form.
+        core: Held<CDocument>,
+        /// What judges its certificates.
+        judge: Judge,
+    },
+}
+
+/// Tells an event to a judge. A fault hears nothing.
+fn hear(pending: &mut Pending, e: CertEvent) -> Result<(), AllocError>
+    requires { MayHear pending.old }
+    ensures heard { OnOk result (Hears pending.old pending.new (e ∷ [])) }
+    ensures ready { OnOk result (MayHear pending.new) }
+{
+    match pending {
+        Pending::Fault { .. } => Ok(()),
+        Pending::Judge { judge, .. } => judge.take(e),
+    }
+}
+
+/// What is found where the text ends behind these tokens.
+fn ended(reader: &CertReader, at: u64) -> Option<Flaw>
+    ensures { (later : Bool) (ts : List Token) → Stands later reader.now ts → IsEnding later ts at result }
+{
+    if reader.finished() {
+        return None;
+    }
+    Some(Flaw::Fault {
+        code: Code::Unexpected,
+        at,
+    })
+}
+
+/// Reads a section of a text of this version to its end, from behind the word `certificates`, and tells its events. The
+/// flaw is that of the text, where what is left of it is no section. Nothing of it is held.
+fn read_section<S: Source>(
+    w: &mut Window,
+    src: &mut S,
+    version: u64,
+    pending: &mut Pending,
+) -> Result<Option<Flaw>, SourceStop>
+    requires version { (version ≡ 1) ⊎ (version ≡ 2) }
+    requires ready { MayHear pending.old }
+    ensures behind { IfOk result (λ flaw. (bytes : List ℕ) → coming w.old (S.left src.old) ≡ Some bytes →
+        IsBehind (version == 2) (window_limit w.old) (window_at w.old) bytes pending.old pending.new flaw) }
+    ensures ready { OnOk result (MayHear pending.new) }
+    ensures end { IfOk result (IsAllRead w.old (S.left src.old) w.new (S.left src.new)) }
+    ensures passed { HasPassed w.old w.new (S.left src.old) (S.left src.new) }
+    ensures cause { IsTold (S.faults src.old) (S.faults src.new) (IsErrOf result SourceStop.Failed) }
+{
+    let mut reader = CertReader::new(version);
+    'tokens: loop {
+        match next_token(w, src)? {
+            Scan::Token(t) => match reader.take(t) {
+                Taken::Nothing => {}
+                Taken::Event(e) => hear(pending, e)?,
+                Taken::Unexpected => {
+                    return Ok(Some(skimmed(w, src, Code::Unexpected, t.start)?));
+                }
+            },
+            Scan::End => return Ok(ended(&reader, w.at())),
+            Scan::Fault { code, at } => return Ok(Some(drained(w, src, code, at)?)),
+            Scan::TooLong => return Ok(Some(Flaw::TooLong)),
+        }
+    }
+}
+
+/// Reads what stands behind a front: a section of this version, or nothing.
+pub(crate) fn read_behind<S: Source>(
+    w: &mut Window,
+    src: &mut S,
+    version: Option<u64>,
+    pending: &mut Pending,
+) -> Result<Option<Flaw>, SourceStop>
+    requires version { (v : ℕ) → version ≡ Some v → (v ≡ 1) ⊎ (v ≡ 2) }
+    requires none { version ≡ None → (held w.old ≡ []) × IsAtEnd (S.left src.old) }
+    requires ready { MayHear pending.old }
+    ensures behind { IfOk result (λ flaw. (v : ℕ) → version ≡ Some v → (bytes : List ℕ) →
+        coming w.old (S.left src.old) ≡ Some bytes →
+        IsBehind (v == 2) (window_limit w.old) (window_at w.old) bytes pending.old pending.new flaw) }
+    ensures none { IfOk result (λ flaw. version ≡ None → (flaw ≡ None) × (pending.new ≡ pending.old)) }
+    ensures ready { OnOk result (MayHear pending.new) }
+    ensures end { IfOk result (IsAllRead w.old (S.left src.old) w.new (S.left src.new)) }
+    ensures passed { HasPassed w.old w.new (S.left src.old) (S.left src.new) }
+    ensures cause { IsTold (S.faults src.old) (S.faults src.new) (IsErrOf result SourceStop.Failed) }
+{
+    match version {
+        Some(version) => read_section(w, src, version, pending),
+        None => Ok(None),
+    }
+}

@@ -1,0 +1,172 @@
+-- What is told of a source that is read token by token.
+use Rattle.std.proofs.Common.{◌≡◌, ◌↔◌, ℕ, List, Bool, true, false, Option, Some, Ok, Err, refl, sym, ◌∙◌, subst, ap}
+use Rattle.std.specs.Io.KnownBytes.{Appends, IsAtEnd}
+use Rattle.unity_base.specs.Streams.{Was}
+use Rattle.case_tables.specs.declared.code_table.Code.{Code}
+use Rattle.unity_syntax.specs.declared.document.Document.{Document}
+use Rattle.unity_parser.specs.Document.{IsDocument}
+use Rattle.proof_plans.specs.declared.plans.Plan.{Plan}
+use Rattle.proof_plans.specs.declared.plans.StepFault.{StepFault}
+use Rattle.cli_texts.specs.Refusals.{fault_text, refusal_text}
+use Rattle.cli_texts.specs.Verdicts.{accepted_text, rejected_text}
+use Rattle.cli_words.specs.declared.words.Command.{Command}
+use Rattle.cli_words.specs.Requests.{Request, meant, check, watch}
+use Rattle.streamed_documents.specs.declared.found.JudgedDocument.{JudgedDocument}
+use Rattle.streamed_documents.specs.Found.{IsJudged, IsRefused}
+use Rattle.streamed_documents.specs.declared.found.Flaw.{Flaw}
+use Rattle.unity_cli.specs.declared.status.Status.{Status}
+use Rattle.unity_cli.specs.Status.{HasText}
+use Rattle.unity_cli.specs.Admitted.{greatest_size, IsAdmitted, IsBad}
+use Rattle.unity_cli.specs.Admitted as admitted
+use Rattle.unity_cli.specs.Answer.Check.{Checked, IsAccepted, IsRejected, IsCheckText}
+use Rattle.unity_cli.specs.Answer.{reads_source, Answer, IsSaidOf, Tells, TellsPart}
+use Rattle.unity_cli.specs.Answering.{Telling}
+use Rattle.unity_cli.specs.Following.{FollowsTheRules}
+use Rattle.unity_cli.specs.Starts.{ProgramsStart}
+use Rattle.unity_cli.specs.Truth.{ClaimsAreTrue, ProgramsRun, WritesWhatIsTrue}
+use Rattle.unity_cli.proofs.Accepted.{accepted_true, accepted_runs, accepted_starts, accepted_tells_true}
+use Rattle.unity_cli.proofs.Told.{checked_follows}
+
+-- ---- what was found
+
+judged_read : (bytes : List ℕ) (j : JudgedDocument) (h : IsJudged greatest_size bytes j)
+    → IsAdmitted greatest_size bytes h.document
+judged_read bytes j h = record { size = h.size; reading = h.reading }
+
+pub judged_accepted : (bytes : List ℕ) (j : JudgedDocument) (plan : Plan) (text : List ℕ) → j.verdict ≡ Ok plan
+    → text ≡ accepted_text j.core.words plan → IsJudged greatest_size bytes j → Checked bytes Status.Done text
+judged_accepted bytes j plan text is text_is h = record {
+  document = h.document;
+  read = judged_read bytes j h;
+  plan = plan;
+  verdict = h.verdict_is ∙ is;
+  text_is = text_is ∙ ap (λ c. accepted_text c.words plan) h.core_is;
+}
+
+pub judged_rejected : (bytes : List ℕ) (j : JudgedDocument) (fault : StepFault) (text : List ℕ) → j.verdict ≡ Err fault
+    → text ≡ rejected_text j.core.words fault → IsJudged greatest_size bytes j → Checked bytes Status.Rejected text
+judged_rejected bytes j fault text is text_is h = record {
+  document = h.document;
+  read = judged_read bytes j h;
+  fault = fault;
+  verdict = h.verdict_is ∙ is;
+  text_is = text_is ∙ ap (λ c. rejected_text c.words fault) h.core_is;
+}
+
+pub long_checked : (bytes text : List ℕ) → text ≡ refusal_text Code.TooLong → IsRefused greatest_size bytes Flaw.TooLong
+    → Checked bytes Status.BadDocument text
+long_checked bytes text is h = admitted.IsBad.too_long h is
+
+pub fault_checked : (bytes text : List ℕ) (code : Code) (at : ℕ) → text ≡ fault_text code at
+    → IsRefused greatest_size bytes (Flaw.Fault code at) → Checked bytes Status.BadDocument text
+fault_checked bytes text code at is h = admitted.IsBad.no_reading code at h.0 h.1 is
+
+-- ---- the form of what is written
+
+pub check_text_has : (status : Status) (text : List ℕ) → IsCheckText status text → HasText status
+check_text_has Status.Done text h = tt
+check_text_has Status.Rejected text h = tt
+check_text_has Status.BadDocument text h = tt
+check_text_has Status.Refuted text h = tt
+check_text_has Status.Budget text h = tt
+check_text_has Status.Undefined text h = tt
+check_text_has Status.BadWords text h = tt
+check_text_has Status.ReadFault text h = h
+check_text_has Status.WriteFault text h = h
+check_text_has Status.WantOfMemory text h = h
+check_text_has Status.Violated text h = tt
+
+-- ---- what was told
+
+module _ (asked : Option Request) (left old new : Option (List ℕ)) (status : Status) (e : asked ≡ Some check)
+    (tells : (bytes : List ℕ) → left ≡ Some bytes → Telling check bytes old new status) where
+  told_of : IsSaidOf asked left → (bytes : List ℕ) × (left ≡ Some bytes)
+  told_of said = subst (λ a. IsSaidOf a left) e said
+
+  was_left : (bytes : List ℕ) → left ≡ Some bytes → Was left bytes
+  was_left bytes was = subst (λ l. Was l bytes) (sym was) refl
+
+  pub streamed_whole : HasText status → IsSaidOf asked left → Tells asked left status old new
+  streamed_whole has said =
+      let told = told_of said in
+      let whole = (tells told.0 told.1).whole has in
+      record {
+        text = whole.0;
+        answer = record {
+          bytes = told.0;
+          were = was_left told.0 told.1;
+          allowed = subst (λ a. Answer a told.0 status whole.0) (sym e) whole.1;
+        };
+        appends = whole.2;
+      }
+
+  pub streamed_part : status ≡ Status.WriteFault → IsSaidOf asked left → TellsPart asked left old new
+  streamed_part fault said =
+      let told = told_of said in
+      let part = (tells told.0 told.1).part fault in
+      record {
+        status = part.0;
+        text = part.1;
+        answer = record {
+          bytes = told.0;
+          were = was_left told.0 told.1;
+          allowed = subst (λ a. Answer a told.0 part.0 part.1) (sym e) part.2;
+        };
+        part = part.3;
+      }
+
+  pub streamed_follows : HasText status → (bytes : List ℕ) → left ≡ Some bytes
+      → (status ≡ Status.Done) ↔ FollowsTheRules bytes
+  streamed_follows has bytes was =
+      let whole = (tells bytes was).whole has in
+      checked_follows bytes status whole.0 whole.1
+
+  accepted_writes : status ≡ Status.Done → (bytes : List ℕ) → left ≡ Some bytes
+      → (text : List ℕ) × IsAccepted bytes text × Appends old new text
+  accepted_writes done bytes was =
+      let whole = (tells bytes was).whole (subst HasText (sym done) tt) in
+      (whole.0, subst (λ s. Checked bytes s whole.0) done whole.1, whole.2)
+
+  pub streamed_claims : status ≡ Status.Done → (bytes : List ℕ) (d : Document) → left ≡ Some bytes
+      → IsDocument bytes d → ClaimsAreTrue d
+  streamed_claims done bytes d was is =
+      let a = accepted_writes done bytes was in accepted_true bytes a.0 d a.1 is
+
+  pub streamed_runs : status ≡ Status.Done → (bytes : List ℕ) (d : Document) → left ≡ Some bytes
+      → IsDocument bytes d → ProgramsRun d
+  streamed_runs done bytes d was is = let a = accepted_writes done bytes was in accepted_runs bytes a.0 d a.1 is
+
+  pub streamed_starts : status ≡ Status.Done → (bytes : List ℕ) (d : Document) → left ≡ Some bytes
+      → IsDocument bytes d → ProgramsStart d
+  streamed_starts done bytes d was is = let a = accepted_writes done bytes was in accepted_starts bytes a.0 d a.1 is
+
+  pub streamed_tells : status ≡ Status.Done → (bytes : List ℕ) (d : Document) → left ≡ Some bytes
+      → IsDocument bytes d → WritesWhatIsTrue d old new
+  streamed_tells done bytes d was is =
+      let a = accepted_writes done bytes was in
+      record { text = a.0; tells = accepted_tells_true bytes a.0 d a.1 is; appends = a.2 }
+
+pub check_is_no_watch : (asked : Option Request) → asked ≡ Some check → asked ≡ Some watch → ⊥
+check_is_no_watch asked e f = let never : ◌≡◌ {A = Option Request} (Some check) (Some watch) = sym e ∙ f in cc
+
+pub check_reads : (asked : Option Request) → asked ≡ Some check → reads_source asked ≡ false → ⊥
+check_reads asked e f = let never : ◌≡◌ {A = Bool} true false = sym (ap reads_source e) ∙ f in cc
+
+-- no other command asks for a check
+pub others_no_check : (asked : Option Request) (command : Command) → asked ≡ Some (meant command)
+    → (command ≡ Command.Check → ⊥) → asked ≡ Some check → ⊥
+others_no_check asked Command.Check e other f = other refl
+others_no_check asked (Command.Prove budget) e other f =
+    let never : ◌≡◌ {A = Option Request} (Some (meant (Command.Prove budget))) (Some check) = sym e ∙ f in cc
+others_no_check asked (Command.Run program steps) e other f =
+    let never : ◌≡◌ {A = Option Request} (Some (meant (Command.Run program steps))) (Some check) = sym e ∙ f in cc
+others_no_check asked (Command.Fixed program steps) e other f =
+    let never : ◌≡◌ {A = Option Request} (Some (meant (Command.Fixed program steps))) (Some check) = sym e ∙ f in cc
+others_no_check asked Command.Replay e other f =
+    let never : ◌≡◌ {A = Option Request} (Some (meant Command.Replay)) (Some check) = sym e ∙ f in cc
+others_no_check asked (Command.Demo places) e other f =
+    let never : ◌≡◌ {A = Option Request} (Some (meant (Command.Demo places))) (Some check) = sym e ∙ f in cc
+others_no_check asked Command.Upgrade e other f =
+    let never : ◌≡◌ {A = Option Request} (Some (meant Command.Upgrade)) (Some check) = sym e ∙ f in cc
+others_no_check asked Command.Watch e other f =
+    let never : ◌≡◌ {A = Option Request} (Some (meant Command.Watch)) (Some check) = sym e ∙ f in cc
