@@ -3,9 +3,10 @@ use Rattle.std.proofs.Common.{◌≡◌, ℕ, ◌+◌, ◌<◌, ◌≤◌, ◌�
 use Rattle.std.proofs.Common.{append_assoc, Result, Ok, Err, IfOk, OnOk, ap, arith, refl, sym, ◌∙◌, subst}
 use Rattle.std.proofs.lemmas.List.{length-append}
 use Rattle.std.specs.Io.KnownBytes.{Consumes, IsAtEnd}
+use Rattle.unity_base.specs.declared.window.Look.{Look}
 use Rattle.unity_base.specs.declared.window.Window.{Window}
 use Rattle.unity_base.specs.Streams.{IsLongerThan, LeavesRest}
-use Rattle.unity_base.specs.Window.{held, coming, HasPassed, PassesLimit, EndsWithinLimit}
+use Rattle.unity_base.specs.Window.{held, coming, HasPassed, PassesLimit, EndsWithinLimit, IsDrained}
 use Rattle.unity_lexer.proofs.ScanSteps.{passed_then}
 use Rattle.unity_lexer.proofs.Taking.{consumed_told}
 use Rattle.streamed_documents.specs.declared.found.Flaw.{Flaw}
@@ -62,6 +63,17 @@ passes_told u l bytes e h = subst (PassesLimit u) e h
 pub ends_told : (u : Window) (l : Option (List ℕ)) (bytes : List ℕ) → l ≡ Some bytes → EndsWithinLimit u l
     → u.at + length bytes ≤ u.limit
 ends_told u l bytes e h = subst (EndsWithinLimit u) e h
+
+-- what a call that drained answers, where the limit was not passed
+pub drained_end : (x : Window) (d : Option (List ℕ)) (look : Look) → (look ≡ Look.TooLong → ⊥) → IsDrained x d look
+    → look ≡ Look.End
+drained_end x d (Look.Byte b) other drained = absurd drained
+drained_end x d Look.End other drained = refl
+drained_end x d Look.TooLong other drained = absurd (other refl)
+
+pub drained_out : (x : Window) (d : Option (List ℕ)) (look : Look) → look ≡ Look.End → IsDrained x d look
+    → (held x ≡ []) × IsAtEnd d
+drained_out x d look is drained = subst (IsDrained x d) is drained
 
 -- the source itself
 

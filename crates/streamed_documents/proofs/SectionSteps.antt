@@ -2,11 +2,12 @@
 use Rattle.std.proofs.Common.{◌≡◌, ℕ, ◌+◌, ◌<◌, ◌≤◌, ◌==◌, ◌↔◌, Bool, true, false, List, [], ◌∷◌, ◌++◌, length, Option}
 use Rattle.std.proofs.Common.{Some, None, Result, Ok, Err, IfOk, refl, sym, ap, ◌∙◌, subst, arith, append-nil}
 use Rattle.std.proofs.Common.{append_assoc}
+use Rattle.std.specs.Io.KnownBytes.{IsAtEnd}
 use Rattle.case_tables.specs.declared.code_table.Code.{Code}
 use Rattle.case_tables.specs.declared.word_table.Word.{Word}
 use Rattle.unity_base.specs.declared.events.CertEvent.{CertEvent}
 use Rattle.unity_base.specs.declared.window.Window.{Window}
-use Rattle.unity_base.specs.Window.{coming}
+use Rattle.unity_base.specs.Window.{held, coming}
 use Rattle.unity_syntax.specs.declared.token.Token.{Token}
 use Rattle.unity_syntax.specs.declared.token.TokenKind.{TokenKind}
 use Rattle.unity_syntax.specs.Classes.{terminal}
@@ -26,9 +27,10 @@ use Rattle.front_documents.proofs.Sections.{goes_on, to_section}
 use Rattle.streamed_documents.specs.declared.behind.Pending.{Pending}
 use Rattle.streamed_documents.specs.declared.found.Flaw.{Flaw}
 use Rattle.streamed_documents.specs.Hearing.{Hears, MayHear}
-use Rattle.streamed_documents.specs.Rests.{IsBehind, IsEnding, IsKept, IsSkimmed}
+use Rattle.streamed_documents.specs.Rests.{IsBehind, IsEnding, IsKept, IsSkimmed, IsAllRead}
 use Rattle.streamed_documents.specs.Rests as rests
 use Rattle.streamed_documents.proofs.Hearings.{hears_none, hears_then}
+use Rattle.streamed_documents.proofs.Passing.{told_passes}
 use Rattle.streamed_documents.proofs.Skimming.{Scanning, reads_join, start_reads, whole, faulty}
 
 -- tokens that were read of the bytes from a place on, up to another; what they told was heard
@@ -146,26 +148,38 @@ module _ (later : Bool) (u w x : Window) (a c d : Option (List ℕ)) (reader : C
           (ap (λ n. Flaw.Fault Code.Unexpected n) (sym place) ∙ sym h.0)
           (rests.IsBehind.too_short now.tokens inside reads now.opens h.1)
 
+  -- and all was read
+  pub end_read : (flaw : Option Flaw) (at : ℕ)
+      → ((later : Bool) (ts : List Token) → Stands later reader ts → IsEnding later ts at flaw)
+      → (held x ≡ []) × IsAtEnd d → IsAllRead u a x d flaw
+  end_read None at ends all = all
+  end_read (Some (Flaw.Fault code place)) at ends all = all
+  end_read (Some Flaw.TooLong) at ends all = told_passes u a no
+    where
+      no : (bytes : List ℕ) → coming u a ≡ Some bytes → u.limit < u.at + length bytes
+      no bytes e =
+          let now = g bytes e in
+          let is = (ends later now.tokens now.stands).0 in
+          absurd cc
+
   -- where no token can be read
-  pub drained_behind : {E : Type 0} (code : Code) (place : ℕ) (result : Result Flaw E) → x.limit ≡ u.limit
+  pub drained_behind : (code : Code) (place : ℕ) (flaw : Flaw) → x.limit ≡ u.limit
       → Scanning w c x d (scan.Fault code place)
-      → IfOk result (λ flaw. (bytes : List ℕ) → coming x d ≡ Some bytes → IsKept x.limit x.at bytes code place flaw)
-      → IfOk result (λ flaw. (bytes : List ℕ) → coming u a ≡ Some bytes →
-      IsBehind later u.limit u.at bytes p q (Some flaw))
-  drained_behind code place (Err e) limit s kept = tt
-  drained_behind code place (Ok flaw) limit s kept = λ bytes e.
+      → ((bytes : List ℕ) → coming x d ≡ Some bytes → IsKept x.limit x.at bytes code place flaw) → (bytes : List ℕ)
+      → coming u a ≡ Some bytes → IsBehind later u.limit u.at bytes p q (Some flaw)
+  drained_behind code place flaw limit s kept bytes e =
       let now = g bytes e in
       let found = s now.reads.rest now.reads.told in
       let read = faulty w.limit u.at bytes now.tokens w.at (coming w c) now.reads x.at (coming x d) code place found in
-      at_flaw bytes now (found.0.rest) read.0 found.1 (read.1) found.2 flaw (kept found.0.rest found.0.told)
+      at_flaw now found.0.rest read.0 found.1 read.1 found.2 flaw (kept found.0.rest found.0.told)
     where
-      at_flaw : (bytes : List ℕ) (now : Going later u.at bytes w.at (coming w c) reader p q) (rest : List ℕ)
+      at_flaw : (now : Going later u.at bytes w.at (coming w c) reader p q) (rest : List ℕ)
           → Tokenizes u.at bytes now.tokens place rest → IsFaulty rest code
           → place + length rest ≡ u.at + length bytes → place ≡ x.at → (flaw : Flaw)
           → IsKept x.limit x.at rest code place flaw → IsBehind later u.limit u.at bytes p q (Some flaw)
-      at_flaw bytes now rest reads bad size is Flaw.TooLong h =
+      at_flaw now rest reads bad size is Flaw.TooLong h =
           rests.IsBehind.too_long (omega (arith, h, size, is, limit))
-      at_flaw bytes now rest reads bad size is (Flaw.Fault k n) h =
+      at_flaw now rest reads bad size is (Flaw.Fault k n) h =
           subst (λ f. IsBehind later u.limit u.at bytes p q (Some f)) (same_fault k n h.1 h.2)
           (rests.IsBehind.no_token now.tokens rest code place (omega (arith, h.0, size, is, limit)) reads bad)
         where
@@ -173,37 +187,37 @@ module _ (later : Bool) (u w x : Window) (a c d : Option (List ℕ)) (reader : C
           same_fault k n e f = λ i. Flaw.Fault (sym e i) (sym f i)
 
   -- past the limit
+  pub long_going : Scanning w c x d scan.TooLong → (bytes : List ℕ) → coming u a ≡ Some bytes
+      → u.limit < u.at + length bytes
+  long_going s bytes e =
+      let now = g bytes e in
+      omega (arith, same, reads_place now.reads.reads, s now.reads.rest now.reads.told)
+
   pub long_behind : Scanning w c x d scan.TooLong → (bytes : List ℕ) → coming u a ≡ Some bytes
       → IsBehind later u.limit u.at bytes p q (Some Flaw.TooLong)
-  long_behind s bytes e =
-      let now = g bytes e in
-      rests.IsBehind.too_long (omega (arith, same, reads_place now.reads.reads, s now.reads.rest now.reads.told))
+  long_behind s bytes e = rests.IsBehind.too_long (long_going s bytes e)
 
   -- at a token with which no section goes on
-  pub skimmed_behind : {E : Type 0} (t : Token) (result : Result Flaw E) → x.limit ≡ u.limit
-      → Scanning w c x d (scan.Token t)
+  pub skimmed_behind : (t : Token) (flaw : Flaw) → x.limit ≡ u.limit → Scanning w c x d (scan.Token t)
       → ((later : Bool) (ts : List Token) → Stands later reader ts → Takes later ts t Taken.Unexpected)
-      → IfOk result (λ flaw. (bytes : List ℕ) → coming x d ≡ Some bytes →
-      IsSkimmed x.limit x.at bytes Code.Unexpected t.start flaw)
-      → IfOk result (λ flaw. (bytes : List ℕ) → coming u a ≡ Some bytes →
-      IsBehind later u.limit u.at bytes p q (Some flaw))
-  skimmed_behind t (Err e) limit s takes h = tt
-  skimmed_behind t (Ok flaw) limit s takes h = λ bytes e.
+      → ((bytes : List ℕ) → coming x d ≡ Some bytes → IsSkimmed x.limit x.at bytes Code.Unexpected t.start flaw)
+      → (bytes : List ℕ) → coming u a ≡ Some bytes → IsBehind later u.limit u.at bytes p q (Some flaw)
+  skimmed_behind t flaw limit s takes h bytes e =
       let now = g bytes e in
       let found = s now.reads.rest now.reads.told in
       let read = reads_join u.at bytes now.tokens (t ∷ []) w.at x.at (coming w c) (coming x d) now.reads found.0 in
-      at_flaw bytes now read (h read.rest read.told)
+      at_flaw now read (h read.rest read.told)
     where
-      at_flaw : (bytes : List ℕ) (now : Going later u.at bytes w.at (coming w c) reader p q)
+      at_flaw : (now : Going later u.at bytes w.at (coming w c) reader p q)
           (read : ReadsTo u.at bytes (now.tokens ++ t ∷ []) x.at (coming x d)) {flaw : Flaw}
           → IsSkimmed x.limit x.at read.rest Code.Unexpected t.start flaw
           → IsBehind later u.limit u.at bytes p q (Some flaw)
-      at_flaw bytes now read (rests.IsSkimmed.too_long past) =
+      at_flaw now read (rests.IsSkimmed.too_long past) =
           rests.IsBehind.too_long (omega (arith, past, limit, reads_place read.reads))
-      at_flaw bytes now read (rests.IsSkimmed.no_token us rest k n inside reads bad) =
+      at_flaw now read (rests.IsSkimmed.no_token us rest k n inside reads bad) =
           rests.IsBehind.no_token ((now.tokens ++ t ∷ []) ++ us) rest k n
           (omega (arith, inside, limit, reads_place read.reads)) (reads_then read.reads reads) bad
-      at_flaw bytes now read (rests.IsSkimmed.stands us inside reads) =
+      at_flaw now read (rests.IsSkimmed.stands us inside reads) =
           let place : x.at + length read.rest ≡ u.at + length bytes = omega (arith, reads_place read.reads) in
           let all : Tokenizes u.at bytes ((now.tokens ++ t ∷ []) ++ us) (x.at + length read.rest) [] =
           reads_then read.reads reads in
@@ -211,3 +225,22 @@ module _ (later : Bool) (u w x : Window) (a c d : Option (List ℕ)) (reader : C
           (subst (λ ts. Tokenizes u.at bytes ts (u.at + length bytes) []) (append_assoc now.tokens (t ∷ []) us)
           (subst (λ m. Tokenizes u.at bytes ((now.tokens ++ t ∷ []) ++ us) m []) place all))
           now.opens (takes later now.tokens now.stands)
+
+-- ---- a version that is given
+
+module _ (u : Window) (a : Option (List ℕ)) (version : Option ℕ) (k : ℕ) (is : version ≡ Some k) (p q : Pending) where
+  pub behind_at : {E : Type 0} (result : Result (Option Flaw) E)
+      → IfOk result (λ flaw. (bytes : List ℕ) → coming u a ≡ Some bytes →
+      IsBehind (k == 2) u.limit u.at bytes p q flaw)
+      → IfOk result (λ flaw. (v : ℕ) → version ≡ Some v → (bytes : List ℕ) → coming u a ≡ Some bytes →
+      IsBehind (v == 2) u.limit u.at bytes p q flaw)
+  behind_at (Err e) h = tt
+  behind_at (Ok flaw) h = λ v e bytes told.
+      let somes : ◌≡◌ {A = Option ℕ} (Some k) (Some v) = sym is ∙ e in
+      let same : k ≡ v = cc in
+      subst (λ n. IsBehind (n == 2) u.limit u.at bytes p q flaw) same (h bytes told)
+
+  pub not_none : {E : Type 0} (result : Result (Option Flaw) E)
+      → IfOk result (λ flaw. version ≡ None → (flaw ≡ None) × (q ≡ p))
+  not_none (Err e) = tt
+  not_none (Ok flaw) = λ none. let no : ⊥ = cc in absurd no

@@ -8,7 +8,7 @@ use Rattle.unity_syntax.specs.declared.token.Token.{Token}
 use Rattle.unity_lexer.specs.declared.scan.Scan.{Scan}
 use Rattle.unity_lexer.specs.declared.scan.Scan.TheVariants as scan
 use Rattle.unity_lexer.specs.Tokens.{Tokenizes, nothing, IsFaulty}
-use Rattle.unity_lexer.specs.Scans.{ReadsTo, IsScan}
+use Rattle.unity_lexer.specs.Scans.{ReadsTo, IsScan, TokenRises}
 use Rattle.unity_lexer.proofs.ScanSteps.{reads_then}
 use Rattle.unity_lexer.proofs.SomeAnswer.{reads_place}
 use Rattle.streamed_documents.specs.declared.found.Flaw.{Flaw}
@@ -119,6 +119,10 @@ drained_after u w x a c d code first place p (Ok flaw) r same later s kept = λ 
 pub scan_is : (w x : Window) (c d : Option (List ℕ)) (found other : Scan) → found ≡ other → Scanning w c x d found
     → Scanning w c x d other
 scan_is w x c d found other e s = subst (λ k. Scanning w c x d k) e s
+
+-- a token rises
+pub token_rises : (at now : ℕ) (found : Scan) (t : Token) → found ≡ scan.Token t → TokenRises at now found → at < now
+token_rises at now found t is rises = subst (TokenRises at now) is rises
 
 -- the end, and the limit
 module _ (u w x : Window) (a c d : Option (List ℕ)) (r : Reading u a w c) (same : w.limit ≡ u.limit)

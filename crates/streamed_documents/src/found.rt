@@ -1,4 +1,5 @@
 //! What a text that is read from a source is found to be.
+ghost use Rattle.std.specs.Prelude.{◌≡◌};
 
 use case_tables::Code;
 use core_terms::CDocument;

@@ -24,7 +24,7 @@ pub(crate) fn drained<S: Source>(
 {
     match w.drain(src)? {
         Look::TooLong => Ok(Flaw::TooLong),
-        Look::End | Look::Byte(_) => Ok(Flaw::Fault { code, at }),
+        _ => Ok(Flaw::Fault { code, at }),
     }
 }
 

@@ -4,10 +4,16 @@ use Rattle.streamed_documents.proofs.behind.hear.Goals as goal
 pub returns-in-Fault-clause-heard : goal.returns-in-Fault-clause-heard
 returns-in-Fault-clause-heard c = fault_hears c.args.pending.now _ _ _ c.in-Fault.is
 
+pub returns-in-Fault-clause-ready : goal.returns-in-Fault-clause-ready
+returns-in-Fault-clause-ready c = c.requires
+
 pub take-requires : goal.take-requires
-take-requires c = ready_of c.args.pending.now _ c.in-Judge.judge c.in-Judge.is c.requires
+take-requires c = ready_of c.args.pending.now c.in-Judge.core c.in-Judge.judge c.in-Judge.is c.requires
 
 pub returns-in-Judge-clause-heard : goal.returns-in-Judge-clause-heard
 returns-in-Judge-clause-heard c =
-    judge_hears c.args.pending.now _ c.in-Judge.judge c.take.new.self c.args.e c.take.result
+    judge_hears c.args.pending.now c.in-Judge.core c.in-Judge.judge c.take.new.self c.args.e c.take.result
     c.in-Judge.is c.take.ensures.stands c.take.ensures.ready
+
+pub returns-in-Judge-clause-ready : goal.returns-in-Judge-clause-ready
+returns-in-Judge-clause-ready c = c.take.ensures.ready

@@ -4,11 +4,14 @@ use Rattle.certificate_events.specs.Events.{events}
 use Rattle.certificate_events.specs.Sections.{Takes}
 use Rattle.streamed_documents.specs.Hearing.{Hears}
 use Rattle.streamed_documents.proofs.Hearings.{hears_none}
-use Rattle.streamed_documents.proofs.Passing.{told_passes, read_out_after}
-use Rattle.streamed_documents.proofs.SectionSteps.{going_start, going_then, end_behind, drained_behind, long_behind}
-use Rattle.streamed_documents.proofs.SectionSteps.{IsGood, skimmed_behind}
-use Rattle.streamed_documents.proofs.Skimming.{scan_is}
+use Rattle.streamed_documents.proofs.Passing.{told_passes, read_out_from}
+use Rattle.streamed_documents.proofs.SectionSteps.{going_start, going_then, end_behind, end_read, drained_behind}
+use Rattle.streamed_documents.proofs.SectionSteps.{IsGood, skimmed_behind, long_behind, long_going}
+use Rattle.streamed_documents.proofs.Skimming.{scan_is, token_rises}
 use Rattle.streamed_documents.proofs.behind.read_section.Goals as goal
+
+pub new-reader-requires : goal.new-reader-requires
+new-reader-requires g c = c.requires.version
 
 pub tokens-init : goal.tokens-init
 tokens-init g c =
@@ -16,11 +19,30 @@ tokens-init g c =
     record {
       passed = start_passed c.args.w.now a;
       same = refl;
-      count = omega (arith, c.new.ensures.count);
+      count = omega (arith, c.new-reader.ensures.count);
       ready = c.requires.ready;
-      goes = going_start (c.args.version == 2) c.args.w.now a c.new.result c.args.pending.now c.new.ensures.stands
-          c.requires.ready;
+      goes = going_start (c.args.version == 2) c.args.w.now a c.new-reader.result c.args.pending.now
+          c.new-reader.ensures.stands c.requires.ready;
     }
+
+pub returns-in_err-t-clause-passed : goal.returns-in_err-t-clause-passed
+returns-in_err-t-clause-passed g c =
+    let u = c.args.w.now in
+    let w = c.tokens.w in
+    let x = c.next_token.new.w in
+    let a = g.S.Source.left c.args.src.now in
+    let b = g.S.Source.left c.tokens.src in
+    let d = g.S.Source.left c.next_token.new.src in
+    passed_then u w x a b d c.tokens.invariant.passed c.next_token.ensures.passed
+
+pub tokens-smaller-in-Nothing : goal.tokens-smaller-in-Nothing
+tokens-smaller-in-Nothing g c =
+    let w = c.tokens.w in
+    let x = c.next_token.new.w in
+    let rises = token_rises w.at x.at c.in_ok-t.field-0 c.in-Token.t c.in-Token.is c.in_ok-t.ensures.rises in
+    let limit = c.next_token.ensures.passed.limit in
+    let inside = x.in_limit in
+    omega arith
 
 pub tokens-preserved-in-Nothing : goal.tokens-preserved-in-Nothing
 tokens-preserved-in-Nothing g c =
@@ -30,7 +52,7 @@ tokens-preserved-in-Nothing g c =
     let a = g.S.Source.left c.args.src.now in
     let b = g.S.Source.left c.tokens.src in
     let d = g.S.Source.left c.next_token.new.src in
-    let rises = c.in_ok-t.ensures.rises in
+    let rises = token_rises w.at x.at c.in_ok-t.field-0 c.in-Token.t c.in-Token.is c.in_ok-t.ensures.rises in
     record {
       passed = passed_then u w x a b d c.tokens.invariant.passed c.next_token.ensures.passed;
       same = c.in_ok-t.ensures.cause.same refl ∙ c.tokens.invariant.same;
@@ -44,6 +66,19 @@ tokens-preserved-in-Nothing g c =
           (hears_none c.tokens.pending c.tokens.invariant.ready));
     }
 
+pub hear-requires : goal.hear-requires
+hear-requires g c =
+    c.tokens.invariant.ready
+
+pub tokens-smaller : goal.tokens-smaller
+tokens-smaller g c =
+    let w = c.tokens.w in
+    let x = c.next_token.new.w in
+    let rises = token_rises w.at x.at c.in_ok-t.field-0 c.in-Token.t c.in-Token.is c.in_ok-t.ensures.rises in
+    let limit = c.next_token.ensures.passed.limit in
+    let inside = x.in_limit in
+    omega arith
+
 pub tokens-preserved : goal.tokens-preserved
 tokens-preserved g c =
     let u = c.args.w.now in
@@ -52,7 +87,7 @@ tokens-preserved g c =
     let a = g.S.Source.left c.args.src.now in
     let b = g.S.Source.left c.tokens.src in
     let d = g.S.Source.left c.next_token.new.src in
-    let rises = c.in_ok-t.ensures.rises in
+    let rises = token_rises w.at x.at c.in_ok-t.field-0 c.in-Token.t c.in-Token.is c.in_ok-t.ensures.rises in
     record {
       passed = passed_then u w x a b d c.tokens.invariant.passed c.next_token.ensures.passed;
       same = c.in_ok-t.ensures.cause.same refl ∙ c.tokens.invariant.same;
@@ -63,8 +98,71 @@ tokens-preserved g c =
           (scan_is w x b d _ _ c.in-Token.is c.in_ok-t.ensures.scan) c.take.ensures.stands c.take.ensures.takes
           c.take.ensures.told (subst IsGood (sym c.in-Event.is) tt)
           (subst (λ taken. Hears c.tokens.pending c.hear.new.pending (events (taken ∷ []))) (sym c.in-Event.is)
-          (c.in_ok-hear-in-Event.ensures.heard));
+          c.in_ok-hear-in-Event.ensures.heard);
     }
+
+pub returns-in_err-hear-in-Event-clause-passed : goal.returns-in_err-hear-in-Event-clause-passed
+returns-in_err-hear-in-Event-clause-passed g c =
+    let u = c.args.w.now in
+    let w = c.tokens.w in
+    let x = c.next_token.new.w in
+    let a = g.S.Source.left c.args.src.now in
+    let b = g.S.Source.left c.tokens.src in
+    let d = g.S.Source.left c.next_token.new.src in
+    passed_then u w x a b d c.tokens.invariant.passed c.next_token.ensures.passed
+
+pub returns-in_err-skimmed-in-Unexpected-clause-passed : goal.returns-in_err-skimmed-in-Unexpected-clause-passed
+returns-in_err-skimmed-in-Unexpected-clause-passed g c =
+    let u = c.args.w.now in
+    let w = c.tokens.w in
+    let x = c.next_token.new.w in
+    let a = g.S.Source.left c.args.src.now in
+    let b = g.S.Source.left c.tokens.src in
+    let d = g.S.Source.left c.next_token.new.src in
+    passed_then u x c.skimmed.new.w a d (g.S.Source.left c.skimmed.new.src)
+    (passed_then u w x a b d c.tokens.invariant.passed c.next_token.ensures.passed) c.skimmed.ensures.passed
+
+pub returns-in-Unexpected-clause-behind : goal.returns-in-Unexpected-clause-behind
+returns-in-Unexpected-clause-behind g c =
+    let u = c.args.w.now in
+    let w = c.tokens.w in
+    let x = c.next_token.new.w in
+    let a = g.S.Source.left c.args.src.now in
+    let b = g.S.Source.left c.tokens.src in
+    let d = g.S.Source.left c.next_token.new.src in
+    let p = passed_then u w x a b d c.tokens.invariant.passed c.next_token.ensures.passed in
+    skimmed_behind (c.args.version == 2) u w x a b d c.tokens.reader c.args.pending.now c.tokens.pending
+    c.tokens.invariant.goes c.tokens.invariant.passed.limit c.in-Token.t c.in_ok-skimmed-in-Unexpected.field-0
+    p.limit (scan_is w x b d _ _ c.in-Token.is c.in_ok-t.ensures.scan)
+    (λ later ts stands. subst (λ taken. Takes later ts c.in-Token.t taken) c.in-Unexpected.is
+    (c.take.ensures.takes later ts stands)) c.in_ok-skimmed-in-Unexpected.ensures.skimmed
+
+pub returns-in-Unexpected-clause-ready : goal.returns-in-Unexpected-clause-ready
+returns-in-Unexpected-clause-ready g c =
+    c.tokens.invariant.ready
+
+pub returns-in-Unexpected-clause-end : goal.returns-in-Unexpected-clause-end
+returns-in-Unexpected-clause-end g c =
+    let u = c.args.w.now in
+    let w = c.tokens.w in
+    let x = c.next_token.new.w in
+    let a = g.S.Source.left c.args.src.now in
+    let b = g.S.Source.left c.tokens.src in
+    let d = g.S.Source.left c.next_token.new.src in
+    read_out_from u x c.skimmed.new.w a d (g.S.Source.left c.skimmed.new.src) c.in_ok-skimmed-in-Unexpected.field-0
+    (passed_then u w x a b d c.tokens.invariant.passed c.next_token.ensures.passed)
+    c.in_ok-skimmed-in-Unexpected.ensures.end
+
+pub returns-in-Unexpected-clause-passed : goal.returns-in-Unexpected-clause-passed
+returns-in-Unexpected-clause-passed g c =
+    let u = c.args.w.now in
+    let w = c.tokens.w in
+    let x = c.next_token.new.w in
+    let a = g.S.Source.left c.args.src.now in
+    let b = g.S.Source.left c.tokens.src in
+    let d = g.S.Source.left c.next_token.new.src in
+    passed_then u x c.skimmed.new.w a d (g.S.Source.left c.skimmed.new.src)
+    (passed_then u w x a b d c.tokens.invariant.passed c.next_token.ensures.passed) c.skimmed.ensures.passed
 
 pub returns-in-End-clause-behind : goal.returns-in-End-clause-behind
 returns-in-End-clause-behind g c =
@@ -79,8 +177,45 @@ returns-in-End-clause-behind g c =
     c.tokens.invariant.goes c.tokens.invariant.passed.limit c.ended.result c.at.result c.at.ensures p.limit
     (scan_is w x b d _ _ c.in-End.is c.in_ok-t.ensures.scan) c.ended.ensures
 
-pub returns-in_ok-drained-in-Fault-clause-behind : goal.returns-in_ok-drained-in-Fault-clause-behind
-returns-in_ok-drained-in-Fault-clause-behind g c =
+pub returns-in-End-clause-ready : goal.returns-in-End-clause-ready
+returns-in-End-clause-ready g c =
+    c.tokens.invariant.ready
+
+pub returns-in-End-clause-end : goal.returns-in-End-clause-end
+returns-in-End-clause-end g c =
+    let u = c.args.w.now in
+    let w = c.tokens.w in
+    let x = c.next_token.new.w in
+    let a = g.S.Source.left c.args.src.now in
+    let b = g.S.Source.left c.tokens.src in
+    let d = g.S.Source.left c.next_token.new.src in
+    end_read (c.args.version == 2) u w x a b d c.tokens.reader c.args.pending.now c.tokens.pending
+    c.tokens.invariant.goes c.tokens.invariant.passed.limit c.ended.result c.at.result c.ended.ensures
+    (c.in_ok-t.ensures.end c.in-End.is)
+
+pub returns-in-End-clause-passed : goal.returns-in-End-clause-passed
+returns-in-End-clause-passed g c =
+    let u = c.args.w.now in
+    let w = c.tokens.w in
+    let x = c.next_token.new.w in
+    let a = g.S.Source.left c.args.src.now in
+    let b = g.S.Source.left c.tokens.src in
+    let d = g.S.Source.left c.next_token.new.src in
+    passed_then u w x a b d c.tokens.invariant.passed c.next_token.ensures.passed
+
+pub returns-in_err-drained-in-Fault-clause-passed : goal.returns-in_err-drained-in-Fault-clause-passed
+returns-in_err-drained-in-Fault-clause-passed g c =
+    let u = c.args.w.now in
+    let w = c.tokens.w in
+    let x = c.next_token.new.w in
+    let a = g.S.Source.left c.args.src.now in
+    let b = g.S.Source.left c.tokens.src in
+    let d = g.S.Source.left c.next_token.new.src in
+    passed_then u x c.drained.new.w a d (g.S.Source.left c.drained.new.src)
+    (passed_then u w x a b d c.tokens.invariant.passed c.next_token.ensures.passed) c.drained.ensures.passed
+
+pub returns-in-Fault-clause-behind : goal.returns-in-Fault-clause-behind
+returns-in-Fault-clause-behind g c =
     let u = c.args.w.now in
     let w = c.tokens.w in
     let x = c.next_token.new.w in
@@ -89,8 +224,36 @@ returns-in_ok-drained-in-Fault-clause-behind g c =
     let d = g.S.Source.left c.next_token.new.src in
     let p = passed_then u w x a b d c.tokens.invariant.passed c.next_token.ensures.passed in
     drained_behind (c.args.version == 2) u w x a b d c.tokens.reader c.args.pending.now c.tokens.pending
-    c.tokens.invariant.goes c.tokens.invariant.passed.limit c.in-Fault.code c.in-Fault.at c.drained.result p.limit
-    (scan_is w x b d _ _ c.in-Fault.is c.in_ok-t.ensures.scan) c.drained.ensures.kept
+    c.tokens.invariant.goes c.tokens.invariant.passed.limit c.in-Fault.code c.in-Fault.at
+    c.in_ok-drained-in-Fault.field-0 p.limit (scan_is w x b d _ _ c.in-Fault.is c.in_ok-t.ensures.scan)
+    c.in_ok-drained-in-Fault.ensures.kept
+
+pub returns-in-Fault-clause-ready : goal.returns-in-Fault-clause-ready
+returns-in-Fault-clause-ready g c =
+    c.tokens.invariant.ready
+
+pub returns-in-Fault-clause-end : goal.returns-in-Fault-clause-end
+returns-in-Fault-clause-end g c =
+    let u = c.args.w.now in
+    let w = c.tokens.w in
+    let x = c.next_token.new.w in
+    let a = g.S.Source.left c.args.src.now in
+    let b = g.S.Source.left c.tokens.src in
+    let d = g.S.Source.left c.next_token.new.src in
+    read_out_from u x c.drained.new.w a d (g.S.Source.left c.drained.new.src) c.in_ok-drained-in-Fault.field-0
+    (passed_then u w x a b d c.tokens.invariant.passed c.next_token.ensures.passed)
+    c.in_ok-drained-in-Fault.ensures.end
+
+pub returns-in-Fault-clause-passed : goal.returns-in-Fault-clause-passed
+returns-in-Fault-clause-passed g c =
+    let u = c.args.w.now in
+    let w = c.tokens.w in
+    let x = c.next_token.new.w in
+    let a = g.S.Source.left c.args.src.now in
+    let b = g.S.Source.left c.tokens.src in
+    let d = g.S.Source.left c.next_token.new.src in
+    passed_then u x c.drained.new.w a d (g.S.Source.left c.drained.new.src)
+    (passed_then u w x a b d c.tokens.invariant.passed c.next_token.ensures.passed) c.drained.ensures.passed
 
 pub returns-in-TooLong-clause-behind : goal.returns-in-TooLong-clause-behind
 returns-in-TooLong-clause-behind g c =
@@ -104,17 +267,28 @@ returns-in-TooLong-clause-behind g c =
     c.tokens.invariant.goes c.tokens.invariant.passed.limit
     (scan_is w x b d _ _ c.in-TooLong.is c.in_ok-t.ensures.scan)
 
-pub returns-in_ok-skimmed-in-Unexpected-clause-behind : goal.returns-in_ok-skimmed-in-Unexpected-clause-behind
-returns-in_ok-skimmed-in-Unexpected-clause-behind g c =
+pub returns-in-TooLong-clause-ready : goal.returns-in-TooLong-clause-ready
+returns-in-TooLong-clause-ready g c =
+    c.tokens.invariant.ready
+
+pub returns-in-TooLong-clause-end : goal.returns-in-TooLong-clause-end
+returns-in-TooLong-clause-end g c =
     let u = c.args.w.now in
     let w = c.tokens.w in
     let x = c.next_token.new.w in
     let a = g.S.Source.left c.args.src.now in
     let b = g.S.Source.left c.tokens.src in
     let d = g.S.Source.left c.next_token.new.src in
-    let p = passed_then u w x a b d c.tokens.invariant.passed c.next_token.ensures.passed in
-    skimmed_behind (c.args.version == 2) u w x a b d c.tokens.reader c.args.pending.now c.tokens.pending
-    c.tokens.invariant.goes c.tokens.invariant.passed.limit c.in-Token.t c.skimmed.result p.limit
-    (scan_is w x b d _ _ c.in-Token.is c.in_ok-t.ensures.scan) (λ later ts stands.
-    subst (λ taken. Takes later ts c.in-Token.t taken) c.in-Unexpected.is (c.take.ensures.takes later ts stands))
-    c.skimmed.ensures.skimmed
+    told_passes u a (long_going (c.args.version == 2) u w x a b d c.tokens.reader c.args.pending.now c.tokens.pending
+    c.tokens.invariant.goes c.tokens.invariant.passed.limit
+    (scan_is w x b d _ _ c.in-TooLong.is c.in_ok-t.ensures.scan))
+
+pub returns-in-TooLong-clause-passed : goal.returns-in-TooLong-clause-passed
+returns-in-TooLong-clause-passed g c =
+    let u = c.args.w.now in
+    let w = c.tokens.w in
+    let x = c.next_token.new.w in
+    let a = g.S.Source.left c.args.src.now in
+    let b = g.S.Source.left c.tokens.src in
+    let d = g.S.Source.left c.next_token.new.src in
+    passed_then u w x a b d c.tokens.invariant.passed c.next_token.ensures.passed
