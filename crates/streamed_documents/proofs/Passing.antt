@@ -127,7 +127,7 @@ out_from u w x a c d most (Ok done) none at limit p out = out_of u x a d most no
     back (inr past) = inr (passes_from u w a c p past)
 out_from u w x a c d most (Err e) none at limit p out = tt
 
-pub flaw_from : {E : Type 0} (u w x : Window) (a c d : Option (List ℕ)) (most : ℕ) (flaw : Flaw) → held u ≡ []
+pub flaw_from : (u w x : Window) (a c d : Option (List ℕ)) (most : ℕ) (flaw : Flaw) → held u ≡ []
     → u.at ≡ 0 → u.limit ≡ most → HasPassed u w a c → IsReadOut w c x d flaw → IsAtEnd d ⊎ IsLongerThan most a
 flaw_from u w x a c d most flaw none at limit p out =
     out_of u x a d most none at limit (flaw_out u x a d flaw (read_out_from u w x a c d flaw p out))

@@ -81,7 +81,9 @@ fn read_section<S: Source>(
 {
     let mut reader = CertReader::new(version);
     'tokens: loop {
-        match next_token(w, src)? {
+        let found = next_token(w, src)?;
+        let place = w.at();
+        match found {
             Scan::Token(t) => match reader.take(t) {
                 Taken::Nothing => {}
                 Taken::Event(e) => hear(pending, e)?,
@@ -89,7 +91,7 @@ fn read_section<S: Source>(
                     return Ok(Some(skimmed(w, src, Code::Unexpected, t.start)?));
                 }
             },
-            Scan::End => return Ok(ended(&reader, w.at())),
+            Scan::End => return Ok(ended(&reader, place)),
             Scan::Fault { code, at } => return Ok(Some(drained(w, src, code, at)?)),
             Scan::TooLong => return Ok(Some(Flaw::TooLong)),
         }

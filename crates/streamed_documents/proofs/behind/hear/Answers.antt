@@ -8,7 +8,8 @@ pub returns-in-Fault-clause-ready : goal.returns-in-Fault-clause-ready
 returns-in-Fault-clause-ready c = c.requires
 
 pub take-requires : goal.take-requires
-take-requires c = ready_of c.args.pending.now c.in-Judge.core c.in-Judge.judge c.in-Judge.is c.requires
+take-requires c =
+    record { ready = ready_of c.args.pending.now c.in-Judge.core c.in-Judge.judge c.in-Judge.is c.requires }
 
 pub returns-in-Judge-clause-heard : goal.returns-in-Judge-clause-heard
 returns-in-Judge-clause-heard c =

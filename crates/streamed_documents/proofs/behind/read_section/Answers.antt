@@ -1,4 +1,4 @@
-use Rattle.std.proofs.Common.{◌≡◌, ◌==◌, [], ◌∷◌, refl, ◌∙◌, sym, subst, arith}
+use Rattle.std.proofs.Common.{◌≡◌, ◌==◌, ◌<◌, ◌^◌, [], ◌∷◌, refl, ◌∙◌, sym, subst, arith}
 use Rattle.unity_lexer.proofs.ScanSteps.{start_passed, passed_then}
 use Rattle.certificate_events.specs.Events.{events}
 use Rattle.certificate_events.specs.Sections.{Takes}
@@ -25,8 +25,8 @@ tokens-init g c =
           c.new-reader.ensures.stands c.requires.ready;
     }
 
-pub returns-in_err-t-clause-passed : goal.returns-in_err-t-clause-passed
-returns-in_err-t-clause-passed g c =
+pub returns-in_err-found-clause-passed : goal.returns-in_err-found-clause-passed
+returns-in_err-found-clause-passed g c =
     let u = c.args.w.now in
     let w = c.tokens.w in
     let x = c.next_token.new.w in
@@ -35,11 +35,20 @@ returns-in_err-t-clause-passed g c =
     let d = g.S.Source.left c.next_token.new.src in
     passed_then u w x a b d c.tokens.invariant.passed c.next_token.ensures.passed
 
+pub take-requires : goal.take-requires
+take-requires g c =
+    let w = c.tokens.w in
+    let x = c.next_token.new.w in
+    let rises = token_rises w.at x.at c.in_ok-found.found c.in-Token.t c.in-Token.is c.in_ok-found.ensures.rises in
+    let here = c.at-place.ensures in
+    let fits : c.at-place.result < 2 ^ 64 = c.at-place.type_inv in
+    omega (arith, c.tokens.invariant.count)
+
 pub tokens-smaller-in-Nothing : goal.tokens-smaller-in-Nothing
 tokens-smaller-in-Nothing g c =
     let w = c.tokens.w in
     let x = c.next_token.new.w in
-    let rises = token_rises w.at x.at c.in_ok-t.field-0 c.in-Token.t c.in-Token.is c.in_ok-t.ensures.rises in
+    let rises = token_rises w.at x.at c.in_ok-found.found c.in-Token.t c.in-Token.is c.in_ok-found.ensures.rises in
     let limit = c.next_token.ensures.passed.limit in
     let inside = x.in_limit in
     omega arith
@@ -52,15 +61,15 @@ tokens-preserved-in-Nothing g c =
     let a = g.S.Source.left c.args.src.now in
     let b = g.S.Source.left c.tokens.src in
     let d = g.S.Source.left c.next_token.new.src in
-    let rises = token_rises w.at x.at c.in_ok-t.field-0 c.in-Token.t c.in-Token.is c.in_ok-t.ensures.rises in
+    let rises = token_rises w.at x.at c.in_ok-found.found c.in-Token.t c.in-Token.is c.in_ok-found.ensures.rises in
     record {
       passed = passed_then u w x a b d c.tokens.invariant.passed c.next_token.ensures.passed;
-      same = c.in_ok-t.ensures.cause.same refl ∙ c.tokens.invariant.same;
+      same = c.in_ok-found.ensures.cause.same refl ∙ c.tokens.invariant.same;
       count = omega (arith, c.take.ensures.count, c.tokens.invariant.count, rises);
       ready = c.tokens.invariant.ready;
       goes = going_then (c.args.version == 2) u w x a b d c.tokens.reader c.take.new.self c.args.pending.now
           c.tokens.pending c.tokens.pending c.in-Token.t c.take.result c.tokens.invariant.goes
-          (scan_is w x b d _ _ c.in-Token.is c.in_ok-t.ensures.scan) c.take.ensures.stands c.take.ensures.takes
+          (scan_is w x b d _ _ c.in-Token.is c.in_ok-found.ensures.scan) c.take.ensures.stands c.take.ensures.takes
           c.take.ensures.told (subst IsGood (sym c.in-Nothing.is) tt)
           (subst (λ taken. Hears c.tokens.pending c.tokens.pending (events (taken ∷ []))) (sym c.in-Nothing.is)
           (hears_none c.tokens.pending c.tokens.invariant.ready));
@@ -74,7 +83,7 @@ pub tokens-smaller : goal.tokens-smaller
 tokens-smaller g c =
     let w = c.tokens.w in
     let x = c.next_token.new.w in
-    let rises = token_rises w.at x.at c.in_ok-t.field-0 c.in-Token.t c.in-Token.is c.in_ok-t.ensures.rises in
+    let rises = token_rises w.at x.at c.in_ok-found.found c.in-Token.t c.in-Token.is c.in_ok-found.ensures.rises in
     let limit = c.next_token.ensures.passed.limit in
     let inside = x.in_limit in
     omega arith
@@ -87,15 +96,15 @@ tokens-preserved g c =
     let a = g.S.Source.left c.args.src.now in
     let b = g.S.Source.left c.tokens.src in
     let d = g.S.Source.left c.next_token.new.src in
-    let rises = token_rises w.at x.at c.in_ok-t.field-0 c.in-Token.t c.in-Token.is c.in_ok-t.ensures.rises in
+    let rises = token_rises w.at x.at c.in_ok-found.found c.in-Token.t c.in-Token.is c.in_ok-found.ensures.rises in
     record {
       passed = passed_then u w x a b d c.tokens.invariant.passed c.next_token.ensures.passed;
-      same = c.in_ok-t.ensures.cause.same refl ∙ c.tokens.invariant.same;
+      same = c.in_ok-found.ensures.cause.same refl ∙ c.tokens.invariant.same;
       count = omega (arith, c.take.ensures.count, c.tokens.invariant.count, rises);
       ready = c.in_ok-hear-in-Event.ensures.ready;
       goes = going_then (c.args.version == 2) u w x a b d c.tokens.reader c.take.new.self c.args.pending.now
           c.tokens.pending c.hear.new.pending c.in-Token.t c.take.result c.tokens.invariant.goes
-          (scan_is w x b d _ _ c.in-Token.is c.in_ok-t.ensures.scan) c.take.ensures.stands c.take.ensures.takes
+          (scan_is w x b d _ _ c.in-Token.is c.in_ok-found.ensures.scan) c.take.ensures.stands c.take.ensures.takes
           c.take.ensures.told (subst IsGood (sym c.in-Event.is) tt)
           (subst (λ taken. Hears c.tokens.pending c.hear.new.pending (events (taken ∷ []))) (sym c.in-Event.is)
           c.in_ok-hear-in-Event.ensures.heard);
@@ -133,7 +142,7 @@ returns-in-Unexpected-clause-behind g c =
     let p = passed_then u w x a b d c.tokens.invariant.passed c.next_token.ensures.passed in
     skimmed_behind (c.args.version == 2) u w x a b d c.tokens.reader c.args.pending.now c.tokens.pending
     c.tokens.invariant.goes c.tokens.invariant.passed.limit c.in-Token.t c.in_ok-skimmed-in-Unexpected.field-0
-    p.limit (scan_is w x b d _ _ c.in-Token.is c.in_ok-t.ensures.scan)
+    p.limit (scan_is w x b d _ _ c.in-Token.is c.in_ok-found.ensures.scan)
     (λ later ts stands. subst (λ taken. Takes later ts c.in-Token.t taken) c.in-Unexpected.is
     (c.take.ensures.takes later ts stands)) c.in_ok-skimmed-in-Unexpected.ensures.skimmed
 
@@ -174,8 +183,8 @@ returns-in-End-clause-behind g c =
     let d = g.S.Source.left c.next_token.new.src in
     let p = passed_then u w x a b d c.tokens.invariant.passed c.next_token.ensures.passed in
     end_behind (c.args.version == 2) u w x a b d c.tokens.reader c.args.pending.now c.tokens.pending
-    c.tokens.invariant.goes c.tokens.invariant.passed.limit c.ended.result c.at.result c.at.ensures p.limit
-    (scan_is w x b d _ _ c.in-End.is c.in_ok-t.ensures.scan) c.ended.ensures
+    c.tokens.invariant.goes c.tokens.invariant.passed.limit c.ended.result c.at-place.result c.at-place.ensures p.limit
+    (scan_is w x b d _ _ c.in-End.is c.in_ok-found.ensures.scan) c.ended.ensures
 
 pub returns-in-End-clause-ready : goal.returns-in-End-clause-ready
 returns-in-End-clause-ready g c =
@@ -190,8 +199,8 @@ returns-in-End-clause-end g c =
     let b = g.S.Source.left c.tokens.src in
     let d = g.S.Source.left c.next_token.new.src in
     end_read (c.args.version == 2) u w x a b d c.tokens.reader c.args.pending.now c.tokens.pending
-    c.tokens.invariant.goes c.tokens.invariant.passed.limit c.ended.result c.at.result c.ended.ensures
-    (c.in_ok-t.ensures.end c.in-End.is)
+    c.tokens.invariant.goes c.tokens.invariant.passed.limit c.ended.result c.at-place.result c.ended.ensures
+    (c.in_ok-found.ensures.end c.in-End.is)
 
 pub returns-in-End-clause-passed : goal.returns-in-End-clause-passed
 returns-in-End-clause-passed g c =
@@ -225,7 +234,7 @@ returns-in-Fault-clause-behind g c =
     let p = passed_then u w x a b d c.tokens.invariant.passed c.next_token.ensures.passed in
     drained_behind (c.args.version == 2) u w x a b d c.tokens.reader c.args.pending.now c.tokens.pending
     c.tokens.invariant.goes c.tokens.invariant.passed.limit c.in-Fault.code c.in-Fault.at
-    c.in_ok-drained-in-Fault.field-0 p.limit (scan_is w x b d _ _ c.in-Fault.is c.in_ok-t.ensures.scan)
+    c.in_ok-drained-in-Fault.field-0 p.limit (scan_is w x b d _ _ c.in-Fault.is c.in_ok-found.ensures.scan)
     c.in_ok-drained-in-Fault.ensures.kept
 
 pub returns-in-Fault-clause-ready : goal.returns-in-Fault-clause-ready
@@ -265,7 +274,7 @@ returns-in-TooLong-clause-behind g c =
     let d = g.S.Source.left c.next_token.new.src in
     long_behind (c.args.version == 2) u w x a b d c.tokens.reader c.args.pending.now c.tokens.pending
     c.tokens.invariant.goes c.tokens.invariant.passed.limit
-    (scan_is w x b d _ _ c.in-TooLong.is c.in_ok-t.ensures.scan)
+    (scan_is w x b d _ _ c.in-TooLong.is c.in_ok-found.ensures.scan)
 
 pub returns-in-TooLong-clause-ready : goal.returns-in-TooLong-clause-ready
 returns-in-TooLong-clause-ready g c =
@@ -281,7 +290,7 @@ returns-in-TooLong-clause-end g c =
     let d = g.S.Source.left c.next_token.new.src in
     told_passes u a (long_going (c.args.version == 2) u w x a b d c.tokens.reader c.args.pending.now c.tokens.pending
     c.tokens.invariant.goes c.tokens.invariant.passed.limit
-    (scan_is w x b d _ _ c.in-TooLong.is c.in_ok-t.ensures.scan))
+    (scan_is w x b d _ _ c.in-TooLong.is c.in_ok-found.ensures.scan))
 
 pub returns-in-TooLong-clause-passed : goal.returns-in-TooLong-clause-passed
 returns-in-TooLong-clause-passed g c =
