@@ -7,7 +7,6 @@ use Rattle.unity_base.specs.declared.window.Look.{Look}
 use Rattle.unity_base.specs.declared.window.Window.{Window}
 use Rattle.unity_base.specs.Streams.{IsLongerThan, LeavesRest}
 use Rattle.unity_base.specs.Window.{held, coming, HasPassed, PassesLimit, EndsWithinLimit, IsDrained}
-use Rattle.unity_lexer.proofs.ScanSteps.{passed_then}
 use Rattle.unity_lexer.proofs.Taking.{consumed_told}
 use Rattle.streamed_documents.specs.declared.found.Flaw.{Flaw}
 use Rattle.streamed_documents.specs.Rests.{IsReadOut, IsAllRead, IsOut}

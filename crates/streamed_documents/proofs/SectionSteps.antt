@@ -1,11 +1,10 @@
 -- The section behind a front, token by token.
-use Rattle.std.proofs.Common.{◌≡◌, ℕ, ◌+◌, ◌<◌, ◌≤◌, ◌==◌, ◌↔◌, Bool, true, false, List, [], ◌∷◌, ◌++◌, length, Option}
-use Rattle.std.proofs.Common.{Some, None, Result, Ok, Err, IfOk, refl, sym, ap, ◌∙◌, subst, arith, append-nil}
+use Rattle.std.proofs.Common.{◌≡◌, ℕ, ◌+◌, ◌<◌, ◌≤◌, ◌==◌, Bool, List, [], ◌∷◌, ◌++◌, length, Option}
+use Rattle.std.proofs.Common.{Some, None, Result, Ok, Err, IfOk, refl, sym, ap, ◌∙◌, subst, arith}
 use Rattle.std.proofs.Common.{append_assoc}
 use Rattle.std.specs.Io.KnownBytes.{IsAtEnd}
 use Rattle.case_tables.specs.declared.code_table.Code.{Code}
 use Rattle.case_tables.specs.declared.word_table.Word.{Word}
-use Rattle.unity_base.specs.declared.events.CertEvent.{CertEvent}
 use Rattle.unity_base.specs.declared.window.Window.{Window}
 use Rattle.unity_base.specs.Window.{held, coming}
 use Rattle.unity_syntax.specs.declared.token.Token.{Token}
@@ -14,13 +13,13 @@ use Rattle.unity_syntax.specs.Classes.{terminal}
 use Rattle.unity_syntax.specs.declared.certificate.Certificates.{Certificates}
 use Rattle.unity_lexer.specs.declared.scan.Scan.TheVariants as scan
 use Rattle.unity_lexer.specs.Tokens.{Tokenizes, IsFaulty}
-use Rattle.unity_lexer.specs.Scans.{ReadsTo, IsScan}
+use Rattle.unity_lexer.specs.Scans.{ReadsTo}
 use Rattle.unity_lexer.proofs.ScanSteps.{reads_then}
 use Rattle.unity_lexer.proofs.SomeAnswer.{reads_place}
 use Rattle.certificate_events.specs.declared.reader.Taken.{Taken}
 use Rattle.certificate_events.specs.declared.reader.CertReader.{CertReader}
-use Rattle.certificate_events.specs.Events.{events, section_events, section_takes}
-use Rattle.certificate_events.specs.Sections.{IsSection, IsSections, Stands, Takes, told}
+use Rattle.certificate_events.specs.Events.{events}
+use Rattle.certificate_events.specs.Sections.{IsSections, Stands, Takes, told}
 use Rattle.certificate_events.proofs.SectionLaws.{told_by_tokens, events_of_sections}
 use Rattle.front_documents.specs.Laws.{IsOpen}
 use Rattle.front_documents.proofs.Sections.{goes_on, to_section}

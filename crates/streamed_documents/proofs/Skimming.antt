@@ -1,5 +1,5 @@
 -- The rest of a text, token by token, where a fault is known.
-use Rattle.std.proofs.Common.{◌≡◌, ℕ, ◌+◌, ◌<◌, ◌≤◌, List, [], ◌∷◌, ◌++◌, length, Option, Some, refl, sym, ap, ◌∙◌}
+use Rattle.std.proofs.Common.{◌≡◌, ℕ, ◌+◌, ◌<◌, ◌≤◌, List, [], ◌∷◌, ◌++◌, length, Option, Some, sym}
 use Rattle.std.proofs.Common.{subst, arith, append-nil, Result, Ok, Err, IfOk}
 use Rattle.case_tables.specs.declared.code_table.Code.{Code}
 use Rattle.unity_base.specs.declared.window.Window.{Window}
@@ -7,7 +7,7 @@ use Rattle.unity_base.specs.Window.{coming}
 use Rattle.unity_syntax.specs.declared.token.Token.{Token}
 use Rattle.unity_lexer.specs.declared.scan.Scan.{Scan}
 use Rattle.unity_lexer.specs.declared.scan.Scan.TheVariants as scan
-use Rattle.unity_lexer.specs.Tokens.{Tokenizes, nothing, IsFaulty}
+use Rattle.unity_lexer.specs.Tokens.{Tokenizes, nothing}
 use Rattle.unity_lexer.specs.Scans.{ReadsTo, IsScan, TokenRises}
 use Rattle.unity_lexer.proofs.ScanSteps.{reads_then}
 use Rattle.unity_lexer.proofs.SomeAnswer.{reads_place}

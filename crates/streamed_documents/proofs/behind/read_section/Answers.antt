@@ -1,4 +1,4 @@
-use Rattle.std.proofs.Common.{◌≡◌, ◌==◌, ◌<◌, ◌^◌, [], ◌∷◌, refl, ◌∙◌, sym, subst, arith}
+use Rattle.std.proofs.Common.{◌==◌, ◌<◌, ◌^◌, [], ◌∷◌, refl, ◌∙◌, sym, subst, arith}
 use Rattle.unity_lexer.proofs.ScanSteps.{start_passed, passed_then}
 use Rattle.certificate_events.specs.Events.{events}
 use Rattle.certificate_events.specs.Sections.{Takes}

@@ -15,8 +15,7 @@ pub returns-in_default-clause-kept : goal.returns-in_default-clause-kept
 returns-in_default-clause-kept g c = λ bytes e.
     let u = c.args.w.now in
     let end = drained_end c.drain.new.self (g.S.Source.left c.drain.new.src) c.in_ok-drain.field-0
-    c.in_default.not-TooLong c.in_ok-drain.ensures.drained in
-    (
+    c.in_default.not-TooLong c.in_ok-drain.ensures.drained in (
       ends_told u (coming u (g.S.Source.left c.args.src.now)) bytes e (c.in_ok-drain.ensures.not_longer end),
       refl,
       refl,

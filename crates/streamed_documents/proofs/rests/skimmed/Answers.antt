@@ -1,4 +1,4 @@
-use Rattle.std.proofs.Common.{◌≡◌, refl, ◌∙◌, arith}
+use Rattle.std.proofs.Common.{refl, ◌∙◌, arith}
 use Rattle.unity_lexer.proofs.ScanSteps.{start_passed, passed_then}
 use Rattle.streamed_documents.proofs.Passing.{told_passes, read_out_after}
 use Rattle.streamed_documents.proofs.Skimming.{start_reading, token_reading, drained_after, end_after, too_long_after}
