@@ -2,10 +2,12 @@
 use Rattle.std.proofs.Common.{◌≡◌, ℕ, ◌+◌, ◌<◌, ◌≤◌, ◌==◌, Bool, true, false, List, [], ◌∷◌, ◌++◌, length, map, drop}
 use Rattle.std.proofs.Common.{Result, Ok, Err, IfOk, Option, Some, None, refl, sym, ap, ◌∙◌, subst, arith, append-nil}
 use Rattle.std.specs.Prelude.{if◌then◌else◌, All}
+use Rattle.std.specs.Io.KnownBytes.{Consumes}
 use Rattle.case_tables.specs.declared.code_table.Code.{Code}
 use Rattle.grammar_theory.specs.Ebnf.{Terminal, Derives}
 use Rattle.unity_base.specs.declared.events.CertEvent.{CertEvent}
 use Rattle.unity_base.specs.declared.window.Window.{Window}
+use Rattle.unity_base.specs.Streams.{IsLongerThan, LeavesRest}
 use Rattle.unity_base.specs.Window.{held, coming, HasPassed}
 use Rattle.unity_syntax.specs.declared.token.Token.{Token}
 use Rattle.unity_syntax.specs.declared.certificate.Certificates.{Certificates}
@@ -17,7 +19,7 @@ use Rattle.unity_syntax.proofs.Avoids.{AreNot}
 use Rattle.unity_lexer.specs.declared.front.Front.{Front}
 use Rattle.unity_lexer.specs.Tokens.{Tokenizes, IsTokens, IsFaulty, FirstBad}
 use Rattle.unity_lexer.specs.Scans.{IsFront, IsReadUpTo, IsNoSection}
-use Rattle.unity_lexer.proofs.ScanSteps.{reads_then}
+use Rattle.unity_lexer.proofs.ScanSteps.{reads_then, passed_then}
 use Rattle.unity_lexer.proofs.SomeAnswer.{reads_place}
 use Rattle.unity_parser.specs.ParseAnswers.{IsDocumentOf, IsRefusal}
 use Rattle.unity_parser.specs.Document.{IsDocument, IsFault}
@@ -46,13 +48,14 @@ use Rattle.streamed_documents.specs.declared.found.JudgedDocument.{JudgedDocumen
 use Rattle.streamed_documents.specs.WellFormed.{IsWellFormed, IsFirstFault}
 use Rattle.streamed_documents.specs.WellFormed as wells
 use Rattle.streamed_documents.specs.Found.{IsJudged, IsRefused, IsFound}
-use Rattle.streamed_documents.specs.Fronts.{HasFront, IsSettled, IsVerdictBy, section_version, version_behind}
+use Rattle.streamed_documents.specs.declared.fronts.Opened.{Opened}
+use Rattle.streamed_documents.specs.Fronts.{HasFront, IsOpening, IsSettled, IsVerdictBy, section_version, version_behind}
 use Rattle.streamed_documents.specs.Hearing.{Hears, MayHear, IsPendingOn, IsJudgeOf}
 use Rattle.streamed_documents.specs.Rests as rests
 use Rattle.streamed_documents.specs.Rests.{IsBehind, IsKept, IsSkimmed}
 use Rattle.streamed_documents.proofs.Certificates.{stands_for_section}
 use Rattle.streamed_documents.proofs.Hearings.{hears_none}
-use Rattle.streamed_documents.proofs.Passing.{first_told, told_after}
+use Rattle.streamed_documents.proofs.Passing.{first_told, told_after, rest_of}
 
 abbrev pub fault_at : Code → ℕ → Flaw
 fault_at code at = Flaw.Fault code at
@@ -301,6 +304,28 @@ module _ (w : Window) (left : Option (List ℕ)) (bytes : List ℕ) (f : Front) 
           (subst (λ r. IsBehind (says_later f.tokens) w.limit w.at (drop (End w left bytes f h cut e) bytes) old new
           r) q (section_at_cut cut e)) found settled
 
+-- where there is no section, the front is the whole text
+pub front_whole : (f : Front) (version : Option ℕ) → version ≡ section_version f → version ≡ None → f.cut ≡ None
+front_whole f version is none = at f.cut refl
+  where
+    at : (o : Option ℕ) → f.cut ≡ o → f.cut ≡ None
+    at None e = e
+    at (Some cut) e =
+        let there : version ≡ Some (if says_later f.tokens then 2 else 1) =
+        is ∙ ap (λ c. version_behind c (says_later f.tokens)) e in
+        let no : ◌≡◌ {A = Option ℕ} None (Some (if says_later f.tokens then 2 else 1)) = sym none ∙ there in
+        absurd cc
+
+-- what is found behind the front of a document
+pub found_behind : {E : Type 0} (w : Window) (left : Option (List ℕ)) (f : Front) (version : Option ℕ)
+    (pending : Pending) (result : Result Finding E) → IsOpening f (Opened.Document version pending)
+    → IfOk result (λ found. (bytes : List ℕ) (f : Front) (d : Document) → HasFront w left bytes f
+    → version ≡ section_version f → IsFrontDocument f d → IsPendingOn d pending → IsFound w.limit bytes found)
+    → IfOk result (λ found. (bytes : List ℕ) → HasFront w left bytes f → IsFound w.limit bytes found)
+found_behind w left f version pending (Ok found) opened finds =
+    λ bytes front. finds bytes f opened.1 front opened.0 opened.2 opened.3
+found_behind w left f version pending (Err e) opened finds = tt
+
 -- the front itself is at fault
 pub fault_refused : (w : Window) (left : Option (List ℕ)) (bytes : List ℕ) (f : Front) → HasFront w left bytes f
     → (code : Code) (at : ℕ) (flaw : Flaw) → IsRefusal f.bytes.items (front_tokens f) code at
@@ -338,6 +363,29 @@ drained_refused u w a c bytes code place flaw none at p e bad kept =
     let after = told_after u w a c bytes p told in
     kept_refused w.limit w.at bytes after.0 code place flaw (omega (arith, after.2, at)) (bad bytes told)
     (kept after.0 after.1)
+
+-- what is left of the source is a rest of it
+pub rest_same : (a : Option (List ℕ)) → LeavesRest a a
+rest_same a = ([], at a)
+  where
+    at : (a : Option (List ℕ)) → Consumes a a []
+    at None = tt
+    at (Some bytes) = refl
+
+pub rest_from : (u w x : Window) (a c d : Option (List ℕ)) → held u ≡ [] → HasPassed u w a c → HasPassed w x c d
+    → LeavesRest a d
+rest_from u w x a c d none p q = rest_of u x a d none (passed_then u w x a c d p q)
+
+-- more bytes than the limit were told, or may have been
+pub long_found : (u : Window) (a : Option (List ℕ)) (most : ℕ) → held u ≡ [] → u.at ≡ 0 → u.limit ≡ most
+    → ((bytes : List ℕ) → coming u a ≡ Some bytes → u.limit < length bytes) → (bytes : List ℕ) → a ≡ Some bytes
+    → most < length bytes
+long_found u a most none at limit long bytes e = omega (arith, limit, long bytes (first_told u a bytes none e))
+
+pub long_out : (u : Window) (a : Option (List ℕ)) (most : ℕ) → held u ≡ [] → u.at ≡ 0 → u.limit ≡ most
+    → ((bytes : List ℕ) → coming u a ≡ Some bytes → u.limit < length bytes) → IsLongerThan most a
+long_out u None most none at limit long = tt
+long_out u (Some bytes) most none at limit long = long_found u (Some bytes) most none at limit long bytes refl
 
 pub found_at : (most limit : ℕ) (bytes : List ℕ) (found : Finding) → limit ≡ most → IsFound limit bytes found
     → IsFound most bytes found

@@ -1,7 +1,8 @@
-use Rattle.std.proofs.Common.{◌∙◌, subst, arith}
+use Rattle.std.proofs.Common.{◌∙◌, inr, subst, arith}
 use Rattle.unity_lexer.specs.Tokens.{AreInOrder}
-use Rattle.unity_lexer.proofs.ScanSteps.{passed_then}
-use Rattle.streamed_documents.proofs.Answers.{found_from, drained_refused, found_at}
+use Rattle.unity_lexer.specs.Scans.{IsFrontError}
+use Rattle.streamed_documents.proofs.Answers.{found_from, drained_refused, found_at, long_found, long_out}
+use Rattle.streamed_documents.proofs.Answers.{rest_same, rest_from}
 use Rattle.streamed_documents.proofs.Passing.{out_from, flaw_from, rest_of}
 use Rattle.streamed_documents.proofs.sources.judge_source.Goals as goal
 
@@ -34,26 +35,67 @@ returns-in-Ok-clause-end g c =
 
 pub returns-in-Ok-clause-rest : goal.returns-in-Ok-clause-rest
 returns-in-Ok-clause-rest g c =
-    rest_of c.in_ok-w.w c.judge_front.new.w (g.S.Source.left c.args.src.now) (g.S.Source.left c.judge_front.new.src)
-    c.in_ok-w.ensures.held
-    (passed_then c.in_ok-w.w c.read_front.new.w c.judge_front.new.w (g.S.Source.left c.args.src.now)
-    (g.S.Source.left c.read_front.new.src) (g.S.Source.left c.judge_front.new.src) c.read_front.ensures.passed
-    c.judge_front.ensures.passed)
+    rest_from c.in_ok-w.w c.read_front.new.w c.judge_front.new.w (g.S.Source.left c.args.src.now)
+    (g.S.Source.left c.read_front.new.src) (g.S.Source.left c.judge_front.new.src) c.in_ok-w.ensures.held
+    c.read_front.ensures.passed c.judge_front.ensures.passed
 
-pub returns-in_ok-drained-in-Fault-clause-found : goal.returns-in_ok-drained-in-Fault-clause-found
-returns-in_ok-drained-in-Fault-clause-found g c = λ bytes left.
+pub returns-in_ok-drained-in-Err-Fault-clause-found : goal.returns-in_ok-drained-in-Err-Fault-clause-found
+returns-in_ok-drained-in-Err-Fault-clause-found g c = λ bytes left.
     let w = c.in_ok-w.w in
     let x = c.read_front.new.w in
     let a = g.S.Source.left c.args.src.now in
     let b = g.S.Source.left c.read_front.new.src in
     found_at c.args.most x.limit bytes _ (c.read_front.ensures.passed.limit ∙ c.in_ok-w.ensures.limit)
-    (drained_refused w x a b bytes c.in-Fault.code c.in-Fault.at c.in_ok-drained-in-Fault.field-0
+    (drained_refused w x a b bytes c.in-Err-Fault.code c.in-Err-Fault.at c.in_ok-drained-in-Err-Fault.field-0
     c.in_ok-w.ensures.held c.in_ok-w.ensures.at c.read_front.ensures.passed left
-    (c.in-Fault.ensures.error c.in_ok-w.ensures.at) c.in_ok-drained-in-Fault.ensures.kept)
+    (λ all told. subst (IsFrontError w.limit all) c.in-Err-Fault.field-0-is
+    (c.in-Err-Fault.ensures.error c.in_ok-w.ensures.at all told)) c.in_ok-drained-in-Err-Fault.ensures.kept)
 
-pub returns-in_ok-drained-in-Fault-clause-end : goal.returns-in_ok-drained-in-Fault-clause-end
-returns-in_ok-drained-in-Fault-clause-end g c =
+pub returns-in_ok-drained-in-Err-Fault-clause-end : goal.returns-in_ok-drained-in-Err-Fault-clause-end
+returns-in_ok-drained-in-Err-Fault-clause-end g c =
     flaw_from c.in_ok-w.w c.read_front.new.w c.drained.new.w (g.S.Source.left c.args.src.now)
     (g.S.Source.left c.read_front.new.src) (g.S.Source.left c.drained.new.src) c.args.most
-    c.in_ok-drained-in-Fault.field-0 c.in_ok-w.ensures.held c.in_ok-w.ensures.at c.in_ok-w.ensures.limit
-    c.read_front.ensures.passed c.in_ok-drained-in-Fault.ensures.end
+    c.in_ok-drained-in-Err-Fault.field-0 c.in_ok-w.ensures.held c.in_ok-w.ensures.at c.in_ok-w.ensures.limit
+    c.read_front.ensures.passed c.in_ok-drained-in-Err-Fault.ensures.end
+
+pub returns-in-Err-TooLong-clause-found : goal.returns-in-Err-TooLong-clause-found
+returns-in-Err-TooLong-clause-found g c =
+    long_found c.in_ok-w.w (g.S.Source.left c.args.src.now) c.args.most c.in_ok-w.ensures.held c.in_ok-w.ensures.at
+    c.in_ok-w.ensures.limit (λ all told. subst (IsFrontError c.in_ok-w.w.limit all) c.in-Err-TooLong.field-0-is
+    (c.in-Err-TooLong.ensures.error c.in_ok-w.ensures.at all told))
+
+pub returns-in-Err-TooLong-clause-end : goal.returns-in-Err-TooLong-clause-end
+returns-in-Err-TooLong-clause-end g c =
+    inr (long_out c.in_ok-w.w (g.S.Source.left c.args.src.now) c.args.most c.in_ok-w.ensures.held c.in_ok-w.ensures.at
+    c.in_ok-w.ensures.limit (λ all told. subst (IsFrontError c.in_ok-w.w.limit all) c.in-Err-TooLong.field-0-is
+    (c.in-Err-TooLong.ensures.error c.in_ok-w.ensures.at all told)))
+
+pub returns-in_ok-drained-in-Err-Fault-clause-rest : goal.returns-in_ok-drained-in-Err-Fault-clause-rest
+returns-in_ok-drained-in-Err-Fault-clause-rest g c =
+    rest_from c.in_ok-w.w c.read_front.new.w c.drained.new.w (g.S.Source.left c.args.src.now)
+    (g.S.Source.left c.read_front.new.src) (g.S.Source.left c.drained.new.src) c.in_ok-w.ensures.held
+    c.read_front.ensures.passed c.drained.ensures.passed
+
+pub returns-in_err-drained-in-Err-Fault-clause-rest : goal.returns-in_err-drained-in-Err-Fault-clause-rest
+returns-in_err-drained-in-Err-Fault-clause-rest g c =
+    rest_from c.in_ok-w.w c.read_front.new.w c.drained.new.w (g.S.Source.left c.args.src.now)
+    (g.S.Source.left c.read_front.new.src) (g.S.Source.left c.drained.new.src) c.in_ok-w.ensures.held
+    c.read_front.ensures.passed c.drained.ensures.passed
+
+pub returns-in-Err-TooLong-clause-rest : goal.returns-in-Err-TooLong-clause-rest
+returns-in-Err-TooLong-clause-rest g c =
+    rest_of c.in_ok-w.w c.read_front.new.w (g.S.Source.left c.args.src.now) (g.S.Source.left c.read_front.new.src)
+    c.in_ok-w.ensures.held c.read_front.ensures.passed
+
+pub returns-in-Err-Failed-clause-rest : goal.returns-in-Err-Failed-clause-rest
+returns-in-Err-Failed-clause-rest g c =
+    rest_of c.in_ok-w.w c.read_front.new.w (g.S.Source.left c.args.src.now) (g.S.Source.left c.read_front.new.src)
+    c.in_ok-w.ensures.held c.read_front.ensures.passed
+
+pub returns-in-Err-Memory-clause-rest : goal.returns-in-Err-Memory-clause-rest
+returns-in-Err-Memory-clause-rest g c =
+    rest_of c.in_ok-w.w c.read_front.new.w (g.S.Source.left c.args.src.now) (g.S.Source.left c.read_front.new.src)
+    c.in_ok-w.ensures.held c.read_front.ensures.passed
+
+pub returns-in_err-w-clause-rest : goal.returns-in_err-w-clause-rest
+returns-in_err-w-clause-rest g c = rest_same (g.S.Source.left c.args.src.now)
