@@ -123,7 +123,7 @@ pending_same d c (Pending.Judge core judge) on = record {
 
 module _ (w : Window) (left : Option (List ℕ)) (bytes : List ℕ) (f : Front) (h : HasFront w left bytes f) (cut : ℕ)
     (is : f.cut ≡ Some cut) where
-  parts : IsReadUpTo (Some cut) w.limit bytes f (coming w left)
+  pub parts : IsReadUpTo (Some cut) w.limit bytes f (coming w left)
   parts = subst (λ c. IsReadUpTo c w.limit bytes f (coming w left)) is h.front.1
 
   abbrev End : ℕ
@@ -235,11 +235,8 @@ module _ (w : Window) (left : Option (List ℕ)) (bytes : List ℕ) (f : Front) 
     no_certificates : d.certificates ≡ None
     no_certificates = none_in d.certificates split.after_is
       where
-        abbrev Front : List Terminal
-        Front = terminals (says_later f.tokens) bytes f.tokens
-
-        split : Parts d Front
-        split = parts_of d Front parsed.0
+        split : Parts d (terminals (says_later f.tokens) bytes f.tokens)
+        split = parts_of d (terminals (says_later f.tokens) bytes f.tokens) parsed.0
 
         none_in : (o : Option Certificates) → After o split.after → o ≡ None
         none_in None after = refl

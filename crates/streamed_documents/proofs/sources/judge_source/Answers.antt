@@ -39,8 +39,8 @@ returns-in-Ok-clause-rest g c =
     (g.S.Source.left c.read_front.new.src) (g.S.Source.left c.judge_front.new.src) c.in_ok-w.ensures.held
     c.read_front.ensures.passed c.judge_front.ensures.passed
 
-pub returns-in_ok-drained-in-Err-Fault-clause-found : goal.returns-in_ok-drained-in-Err-Fault-clause-found
-returns-in_ok-drained-in-Err-Fault-clause-found g c = λ bytes left.
+pub returns-in-Err-Fault-clause-found : goal.returns-in-Err-Fault-clause-found
+returns-in-Err-Fault-clause-found g c = λ bytes left.
     let w = c.in_ok-w.w in
     let x = c.read_front.new.w in
     let a = g.S.Source.left c.args.src.now in
@@ -51,8 +51,8 @@ returns-in_ok-drained-in-Err-Fault-clause-found g c = λ bytes left.
     (λ all told. subst (IsFrontError w.limit all) c.in-Err-Fault.field-0-is
     (c.in-Err-Fault.ensures.error c.in_ok-w.ensures.at all told)) c.in_ok-drained-in-Err-Fault.ensures.kept)
 
-pub returns-in_ok-drained-in-Err-Fault-clause-end : goal.returns-in_ok-drained-in-Err-Fault-clause-end
-returns-in_ok-drained-in-Err-Fault-clause-end g c =
+pub returns-in-Err-Fault-clause-end : goal.returns-in-Err-Fault-clause-end
+returns-in-Err-Fault-clause-end g c =
     flaw_from c.in_ok-w.w c.read_front.new.w c.drained.new.w (g.S.Source.left c.args.src.now)
     (g.S.Source.left c.read_front.new.src) (g.S.Source.left c.drained.new.src) c.args.most
     c.in_ok-drained-in-Err-Fault.field-0 c.in_ok-w.ensures.held c.in_ok-w.ensures.at c.in_ok-w.ensures.limit
@@ -70,8 +70,8 @@ returns-in-Err-TooLong-clause-end g c =
     c.in_ok-w.ensures.limit (λ all told. subst (IsFrontError c.in_ok-w.w.limit all) c.in-Err-TooLong.field-0-is
     (c.in-Err-TooLong.ensures.error c.in_ok-w.ensures.at all told)))
 
-pub returns-in_ok-drained-in-Err-Fault-clause-rest : goal.returns-in_ok-drained-in-Err-Fault-clause-rest
-returns-in_ok-drained-in-Err-Fault-clause-rest g c =
+pub returns-in-Err-Fault-clause-rest : goal.returns-in-Err-Fault-clause-rest
+returns-in-Err-Fault-clause-rest g c =
     rest_from c.in_ok-w.w c.read_front.new.w c.drained.new.w (g.S.Source.left c.args.src.now)
     (g.S.Source.left c.read_front.new.src) (g.S.Source.left c.drained.new.src) c.in_ok-w.ensures.held
     c.read_front.ensures.passed c.drained.ensures.passed
@@ -92,8 +92,8 @@ returns-in-Err-Failed-clause-rest g c =
     rest_of c.in_ok-w.w c.read_front.new.w (g.S.Source.left c.args.src.now) (g.S.Source.left c.read_front.new.src)
     c.in_ok-w.ensures.held c.read_front.ensures.passed
 
-pub returns-in-Err-Memory-clause-rest : goal.returns-in-Err-Memory-clause-rest
-returns-in-Err-Memory-clause-rest g c =
+pub returns-clause-rest : goal.returns-clause-rest
+returns-clause-rest g c =
     rest_of c.in_ok-w.w c.read_front.new.w (g.S.Source.left c.args.src.now) (g.S.Source.left c.read_front.new.src)
     c.in_ok-w.ensures.held c.read_front.ensures.passed
 
