@@ -75,6 +75,11 @@ kept_refused limit at bytes rest code place (Flaw.Fault c p) size bad kept =
     (subst (λ k. IsFault bytes k p) (sym kept.1) (subst (λ n. IsFault bytes code n) (sym kept.2)
     (texts.IsFault.no_token bad)))
 
+pub kept_same : (limit at : ℕ) (bytes : List ℕ) (code known : Code) (place other : ℕ) (flaw : Flaw) → code ≡ known
+    → place ≡ other → IsKept limit at bytes code place flaw → IsKept limit at bytes known other flaw
+kept_same limit at bytes code known place other flaw codes places kept =
+    subst (λ c. IsKept limit at bytes c other flaw) codes (subst (λ p. IsKept limit at bytes code p flaw) places kept)
+
 -- ---- the verdict
 
 -- a document with the verdict on it

@@ -1,8 +1,9 @@
 use Rattle.std.proofs.Common.{◌∙◌, inr, subst, arith}
 use Rattle.unity_lexer.specs.Tokens.{AreInOrder}
 use Rattle.unity_lexer.specs.Scans.{IsFrontError}
+use Rattle.streamed_documents.specs.declared.found.Finding.{Finding}
 use Rattle.streamed_documents.proofs.Answers.{found_from, drained_refused, found_at, long_found, long_out}
-use Rattle.streamed_documents.proofs.Answers.{rest_same, rest_from}
+use Rattle.streamed_documents.proofs.Answers.{kept_same, rest_same, rest_from}
 use Rattle.streamed_documents.proofs.Passing.{out_from, flaw_from, rest_of}
 use Rattle.streamed_documents.proofs.sources.judge_source.Goals as goal
 
@@ -45,11 +46,15 @@ returns-in-Err-Fault-clause-found g c = λ bytes left.
     let x = c.read_front.new.w in
     let a = g.S.Source.left c.args.src.now in
     let b = g.S.Source.left c.read_front.new.src in
-    found_at c.args.most x.limit bytes _ (c.read_front.ensures.passed.limit ∙ c.in_ok-w.ensures.limit)
+    found_at c.args.most x.limit bytes (Finding.Refused c.in_ok-drained-in-Err-Fault.field-0)
+    (c.read_front.ensures.passed.limit ∙ c.in_ok-w.ensures.limit)
     (drained_refused w x a b bytes c.in-Err-Fault.code c.in-Err-Fault.at c.in_ok-drained-in-Err-Fault.field-0
     c.in_ok-w.ensures.held c.in_ok-w.ensures.at c.read_front.ensures.passed left
     (λ all told. subst (IsFrontError w.limit all) c.in-Err-Fault.field-0-is
-    (c.in-Err-Fault.ensures.error c.in_ok-w.ensures.at all told)) c.in_ok-drained-in-Err-Fault.ensures.kept)
+    (c.in-Err-Fault.ensures.error c.in_ok-w.ensures.at all told))
+    (λ rest told. kept_same x.limit x.at rest _ c.in-Err-Fault.code _ c.in-Err-Fault.at
+    c.in_ok-drained-in-Err-Fault.field-0 c.in-Err-Fault.code-is c.in-Err-Fault.at-is
+    (c.in_ok-drained-in-Err-Fault.ensures.kept rest told)))
 
 pub returns-in-Err-Fault-clause-end : goal.returns-in-Err-Fault-clause-end
 returns-in-Err-Fault-clause-end g c =
