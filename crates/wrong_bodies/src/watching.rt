@@ -1,16 +1,41 @@
 // What watches a trace.
-ghost use Rattle.std.specs.Prelude.{◌≡◌, ◌<◌, ◌∷◌, ◌++◌, [], ℕ, List, All, Some, IsTrue, length, slice_get};
+ghost use Rattle.std.specs.Prelude.{◌≡◌, ◌<◌, ◌↔◌, ◌∷◌, ◌++◌, [], ℕ, List, All, IfOk, IsErrOf, Some, IsTrue, length};
+ghost use Rattle.std.specs.Prelude.{slice_get};
 ghost use Rattle.meaning_states.specs.State.{State, is_state};
+ghost use Rattle.core_terms.specs.Conditions.{IsProgram};
 ghost use Rattle.core_terms.specs.Steps.{slot_ranges};
 ghost use Rattle.executor.specs.Running.{program_of, slots_of, state_of};
-ghost use Rattle.trace_watch.specs.Cases.{case_count, environments};
+ghost use Rattle.trace_watch.specs.Cases.{case_count, environments, total_cases, watched};
+ghost use Rattle.trace_watch.specs.Places.{RecordFits};
 ghost use Rattle.trace_watch.specs.Tracing.{EndsAs, WatchesDefined};
 ghost use Rattle.trace_watch.specs.Violations.{violation, violation_at};
 ghost use Rattle.trace_watch.specs.Watching as watching;
 
-use core_terms::Range;
+use core_terms::{CProgram, CSlot, Range};
 use executor::Runner;
-use trace_watch::{Ending, Violation, Watch};
+use fair_rounds::Record;
+use std::alloc::Global;
+use trace_watch::{Ending, Violation, Watch, WatchError};
+
+/// The call `new` of a watch, with its clauses.
+pub fn watch<'a>(
+    alloc: Global,
+    p: &'a CProgram,
+    slots: &'a [CSlot],
+    records: &'a [Record],
+    start: &[i64],
+) -> Result<Watch<'a>, WatchError>
+    requires program { IsProgram slots.now p.now }
+    requires start { IsTrue (is_state (slot_ranges slots.now) start.now) }
+    requires fits { All (RecordFits slots.now) records.now }
+    ensures program { IfOk result (λ w. watching.program_of w ≡ p.now) }
+    ensures slots { IfOk result (λ w. watching.slots_of w ≡ slots.now) }
+    ensures steps { IfOk result (λ w. watching.steps_of w ≡ watched p.now records.now) }
+    ensures begun { IfOk result (λ w. watching.StandsFor w (start.now ∷ []) []) }
+    ensures many { IsErrOf result WatchError.TooManyCases ↔ (4096 < total_cases p.now records.now) }
+{
+    Watch::new(alloc, p, slots, records, start)
+}
 
 /// The call `watch_choices`, with its clauses.
 pub fn watch_choices(runner: &mut Runner, watch: &mut Watch, choices: &[u32]) -> Ending

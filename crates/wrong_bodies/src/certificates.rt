@@ -1,0 +1,94 @@
+// What checks a certificate that is held whole or told event by event, and what judges those of a document.
+ghost use Rattle.std.specs.Prelude.{◌≡◌, ◌≢◌, ◌≤◌, ℕ, true, List, [], ◌∷◌, ◌++◌, Ok, IfErr, IfOk, IsOk, OnOk};
+ghost use Rattle.unity_base.specs.declared.events.CertEvent.{CertEvent};
+ghost use Rattle.core_terms.specs.Conditions.{IsCoreDocument};
+ghost use Rattle.core_terms.specs.declared.documents.CDocument.{CDocument};
+ghost use Rattle.obligations.specs.declared.branches.Obligation.{Obligation};
+ghost use Rattle.obligations.specs.declared.certificates.Cert.{Cert};
+ghost use Rattle.obligations.specs.declared.certificates.Node.{Node};
+ghost use Rattle.obligations.specs.Obligations.{IsObligation};
+ghost use Rattle.obligations.specs.Opening.{Valid};
+ghost use Rattle.certificate_rules.specs.Refutation.{walk_from_root};
+ghost use Rattle.certificate_rules.specs.Trees.{Refuted, is_whole};
+ghost use Rattle.event_checker.specs.Checkers as checkers;
+ghost use Rattle.event_checker.specs.Checkers.{FailsReading, Judges, checker_obligation};
+ghost use Rattle.event_checker.specs.Events.{events_of, is_pair};
+ghost use Rattle.proof_plans.specs.Giving.{AreWhole, PlanHolds, VerdictAnswers};
+ghost use Rattle.proof_plans.specs.Verdicts.{verdict_of};
+ghost use Rattle.event_judge.specs.Judges as judges;
+ghost use Rattle.event_judge.specs.Told.{certs_events};
+
+use event_checker::{CertError, Checker};
+use event_judge::Judge;
+use obligations::{Cert, Obligation};
+use proof_plans::{Plan, ScriptError};
+use std::alloc::{AllocError, Global};
+use unity_base::CertEvent;
+
+/// The call `check_cert` of `certificate_check`, with its clauses.
+pub fn check_cert(alloc: Global, o: &Obligation, c: &Cert, levels: u32) -> Result<(), CertError>
+    requires obligation { IsObligation o.now }
+    requires levels { levels ≤ 4096 }
+    requires whole { is_whole c.now.nodes 1 ≡ true }
+    ensures walked { OnOk result (walk_from_root levels o.now c.now.nodes ≡ Ok []) }
+    ensures refuted { OnOk result (Refuted levels o.now c.now.nodes) }
+    ensures not_refuted { IfErr result (λ e. e ≢ CertError.Memory → Refuted levels o.now c.now.nodes → ⊥) }
+    ensures fault { IfErr result (FailsReading (walk_from_root levels o.now c.now.nodes)) }
+    ensures valid { OnOk result (Valid o.now) }
+{
+    certificate_check::check_cert(alloc, o, c, levels)
+}
+
+/// The call `new` of a checker, with its clauses.
+pub fn checker(alloc: Global, o: Obligation, levels: u32) -> Result<Checker, AllocError>
+    requires obligation { IsObligation o }
+    requires levels { levels ≤ 4096 }
+    ensures stands { IfOk result (λ c. checkers.StandsFor levels c o []) }
+    ensures ready { IfOk result checkers.IsReady }
+{
+    Checker::new(alloc, o, levels)
+}
+
+/// The call `take` of a checker, with its clauses.
+pub fn checker_take(checker: &mut Checker, e: CertEvent) -> Result<(), AllocError>
+    requires ready { checkers.IsReady checker.old }
+    ensures stands { OnOk result ((levels : ℕ) (o : Obligation) (es : List CertEvent) →
+        checkers.StandsFor levels checker.old o es → checkers.StandsFor levels checker.new o (es ++ e ∷ [])) }
+    ensures ready { OnOk result (checkers.IsReady checker.new) }
+    ensures room { is_pair e ≡ true → IsOk result }
+{
+    checker.take(e)
+}
+
+/// The call `finish` of a checker, with its clauses.
+pub fn checker_finish(checker: Checker) -> (Obligation, Result<(), CertError>)
+    ensures back { result.0 ≡ checker_obligation checker }
+    ensures judges { (levels : ℕ) (o : Obligation) (nodes : List Node) → IsObligation o →
+        checkers.StandsFor levels checker o (events_of nodes) → is_whole nodes 1 ≡ true →
+        Judges levels o nodes result.1 }
+{
+    checker.finish()
+}
+
+/// The call `take` of a judge, with its clauses.
+pub fn judge_take(judge: &mut Judge, e: CertEvent) -> Result<(), AllocError>
+    requires ready { judges.IsReady judge.old }
+    ensures stands { OnOk result ((d : CDocument) (es : List CertEvent) →
+        judges.StandsFor d judge.old es → judges.StandsFor d judge.new (es ++ e ∷ [])) }
+    ensures ready { OnOk result (judges.IsReady judge.new) }
+    ensures room { is_pair e ≡ true → IsOk result }
+{
+    judge.take(e)
+}
+
+/// The call `finish` of a judge, with its clauses.
+pub fn judge_finish(judge: Judge) -> Result<Plan, ScriptError>
+    requires { judges.IsReady judge }
+    ensures verdict { (d : CDocument) (certs : List Cert) → AreWhole certs →
+        judges.StandsFor d judge (certs_events certs) → VerdictAnswers result (verdict_of d certs) }
+    ensures holds { (d : CDocument) (certs : List Cert) → IsCoreDocument d → AreWhole certs →
+        judges.StandsFor d judge (certs_events certs) → IfOk result (PlanHolds d) }
+    ensures never { IfErr result (λ e. e ≢ ScriptError.Memory) }
+{
+    judge.finish()
+}
