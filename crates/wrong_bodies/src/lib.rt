@@ -33,7 +33,7 @@ pub use preconditions::wp;
 pub use program::unity;
 pub use rules::{derive, ensures_rule, invariant_rule, pair_rule, union_unless, weaken_rule};
 pub use runs::step;
-pub use script::{check, prove};
+pub use script::{check, judge_source, prove};
 pub use searches::{close, search, search_tree};
 pub use streams::{list_insert, read_all, window_fill, write_all};
 pub use texts::{

@@ -1,14 +1,19 @@
-// What judges a whole document, and what finds its certificates.
-ghost use Rattle.std.specs.Prelude.{IfOk};
+// What judges a whole document, also as it comes, and what finds its certificates.
+ghost use Rattle.std.specs.Prelude.{◌≡◌, ◌⊎◌, ◌≤◌, ◌^◌, ℕ, List, Some, IfOk, IsErrOf, OnOk};
+ghost use Rattle.std.specs.Io.KnownBytes.{IsAtEnd};
+ghost use Rattle.unity_base.specs.Streams.{IsLongerThan, IsTold, LeavesRest};
 ghost use Rattle.core_terms.specs.Conditions.{IsCoreDocument};
 ghost use Rattle.proof_plans.specs.Giving.{AreWhole, VerdictAnswers, PlanHolds};
 ghost use Rattle.proof_script.specs.Proving.{Finds};
 ghost use Rattle.proof_plans.specs.Verdicts.{verdict_of};
+ghost use Rattle.streamed_documents.specs.Found.{IsFound};
 
 use core_terms::CDocument;
 use obligations::Cert;
 use proof_script::{Plan, Proof, ScriptError};
 use std::alloc::Global;
+use streamed_documents::{Finding, SourceStop};
+use unity_base::Source;
 
 /// The call `check` of `proof_script`, with its clauses.
 pub fn check(alloc: Global, doc: &CDocument, certs: &[Cert]) -> Result<Plan, ScriptError>
@@ -26,4 +31,19 @@ pub fn prove(alloc: Global, doc: &CDocument, budget: u64) -> Result<Proof, Scrip
     ensures { Finds doc.now budget result }
 {
     proof_script::prove(alloc, doc, budget)
+}
+
+/// The call `judge_source` of `streamed_documents`, with its clauses.
+pub fn judge_source<S: Source>(
+    alloc: Global,
+    src: &mut S,
+    most: usize,
+) -> Result<Finding, SourceStop>
+    requires { most ≤ 2 ^ 29 }
+    ensures found { IfOk result (λ found. (bytes : List ℕ) → S.left src.old ≡ Some bytes → IsFound most bytes found) }
+    ensures end { OnOk result (IsAtEnd (S.left src.new) ⊎ IsLongerThan most (S.left src.old)) }
+    ensures rest { LeavesRest (S.left src.old) (S.left src.new) }
+    ensures cause { IsTold (S.faults src.old) (S.faults src.new) (IsErrOf result SourceStop.Failed) }
+{
+    streamed_documents::judge_source(alloc, src, most)
 }
