@@ -1,7 +1,11 @@
 // Documents whose last proof goes on with further steps: how the first condition of a rule that fails is told, and
 // what is accepted where none does.
+mod bound_terms;
+mod carried_terms;
+mod completions;
 mod further;
 mod helpers;
+mod layer_starts;
 mod layers;
 mod order;
 mod pairs;

@@ -1,5 +1,5 @@
 // Steps of layers.
-use super::starts::LAYERED;
+use super::layer_starts::LAYERED;
 use super::{Judged, Refused, wrong_judgements, wrong_refusals};
 use examples_answers::{Status, answer};
 use std::alloc::{AllocError, Global};

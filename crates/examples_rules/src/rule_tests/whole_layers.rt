@@ -1,5 +1,5 @@
 // Whole layers: labels and indices, names of their own, and layers over layers and by unions.
-use super::starts::BELOW_A_LAYER;
+use super::layer_starts::BELOW_A_LAYER;
 use super::{Judged, Refused, wrong_judgements};
 use examples_answers::answer;
 use std::alloc::{AllocError, Global};
