@@ -40,7 +40,7 @@ pub fn check_cert(alloc: Global, o: &Obligation, c: &Cert, levels: u32) -> Resul
 }
 
 /// The call `new` of a checker, with its clauses.
-pub fn checker(alloc: Global, o: Obligation, levels: u32) -> Result<Checker, AllocError>
+pub fn new_checker(alloc: Global, o: Obligation, levels: u32) -> Result<Checker, AllocError>
     requires obligation { IsObligation o }
     requires levels { levels ≤ 4096 }
     ensures stands { IfOk result (λ c. checkers.StandsFor levels c o []) }

@@ -18,7 +18,7 @@ mod texts;
 mod watching;
 
 pub use certificates::{
-    check_cert, checker, checker_finish, checker_take, judge_finish, judge_take,
+    check_cert, checker_finish, checker_take, judge_finish, judge_take, new_checker,
 };
 pub use changes::{
     changed_record, first_part, goal_at, rounds_of, turned, with_bound, with_either_goal, with_end,
@@ -39,4 +39,4 @@ pub use streams::{list_insert, read_all, window_fill, write_all};
 pub use texts::{
     next_token, parse_front, read_front, section_finished, section_reader, section_take,
 };
-pub use watching::{case_values, watch, watch_choices, watch_first, watch_step};
+pub use watching::{case_values, new_watch, watch_choices, watch_first, watch_step};

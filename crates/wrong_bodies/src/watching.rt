@@ -18,7 +18,7 @@ use std::alloc::Global;
 use trace_watch::{Ending, Violation, Watch, WatchError};
 
 /// The call `new` of a watch, with its clauses.
-pub fn watch<'a>(
+pub fn new_watch<'a>(
     alloc: Global,
     p: &'a CProgram,
     slots: &'a [CSlot],
