@@ -1,10 +1,9 @@
 -- What a text is found to be, from its front and what stands behind it.
 use Rattle.std.proofs.Common.{◌≡◌, ℕ, ◌+◌, ◌<◌, ◌≤◌, ◌==◌, Bool, true, false, List, [], ◌∷◌, ◌++◌, length, map, drop}
 use Rattle.std.proofs.Common.{Result, Ok, Err, IfOk, Option, Some, None, refl, sym, ap, ◌∙◌, subst, arith, append-nil}
-use Rattle.std.specs.Prelude.{if◌then◌else◌, All}
+use Rattle.std.specs.Prelude.{if◌then◌else◌}
 use Rattle.std.specs.Io.KnownBytes.{Consumes}
 use Rattle.case_tables.specs.declared.code_table.Code.{Code}
-use Rattle.grammar_theory.specs.Ebnf.{Terminal, Derives}
 use Rattle.unity_base.specs.declared.events.CertEvent.{CertEvent}
 use Rattle.unity_base.specs.declared.window.Window.{Window}
 use Rattle.unity_base.specs.Streams.{IsLongerThan, LeavesRest}
@@ -13,12 +12,10 @@ use Rattle.unity_syntax.specs.declared.token.Token.{Token}
 use Rattle.unity_syntax.specs.declared.certificate.Certificates.{Certificates}
 use Rattle.unity_syntax.specs.declared.document.Document.{Document}
 use Rattle.unity_syntax.specs.Classes.{terminals, says_later}
-use Rattle.unity_syntax.specs.Grammar.{grammar, document_}
-use Rattle.unity_syntax.specs.View.{view}
 use Rattle.unity_syntax.proofs.Avoids.{AreNot}
 use Rattle.unity_lexer.specs.declared.front.Front.{Front}
-use Rattle.unity_lexer.specs.Tokens.{Tokenizes, IsTokens, IsFaulty, FirstBad}
-use Rattle.unity_lexer.specs.Scans.{IsFront, IsReadUpTo, IsNoSection}
+use Rattle.unity_lexer.specs.Tokens.{Tokenizes, IsFaulty, FirstBad}
+use Rattle.unity_lexer.specs.Scans.{IsFront, IsReadUpTo}
 use Rattle.unity_lexer.proofs.ScanSteps.{reads_then, passed_then}
 use Rattle.unity_lexer.proofs.SomeAnswer.{reads_place}
 use Rattle.unity_parser.specs.ParseAnswers.{IsDocumentOf, IsRefusal}
@@ -26,17 +23,15 @@ use Rattle.unity_parser.specs.Document.{IsDocument, IsFault}
 use Rattle.unity_parser.specs.Document as texts
 use Rattle.unity_parser.specs.Fronts.{empty_section, front_tokens}
 use Rattle.unity_parser.proofs.Parts.{Parts, After, parts_of}
-use Rattle.certificate_events.specs.Sections.{IsSection}
 use Rattle.certificate_events.specs.Events.{section_events}
 use Rattle.certificate_reading.specs.Certificates.{section_of, certificate_of, certificates_of}
 use Rattle.certificate_reading.proofs.Whole.{are_whole_trees}
 use Rattle.core_terms.specs.declared.documents.CDocument.{CDocument}
-use Rattle.obligations.specs.declared.certificates.Cert.{Cert}
 use Rattle.expand_documents.specs.Cores.{core_document}
 use Rattle.event_judge.specs.declared.judge.Judge.{Judge}
 use Rattle.event_judge.specs.Judges.{StandsFor}
 use Rattle.event_judge.specs.Told.{certs_events}
-use Rattle.front_documents.specs.Laws.{section_word, IsCutFront, IsFrontDocument, AreBehind}
+use Rattle.front_documents.specs.Laws.{IsCutFront, IsFrontDocument, AreBehind}
 use Rattle.front_documents.proofs.Faults.{sections_complete, section_faults, sections_end_early}
 use Rattle.front_documents.proofs.FirstWord.{words, not_inside}
 use Rattle.front_documents.proofs.Fronts.{word_free}
@@ -45,11 +40,12 @@ use Rattle.streamed_documents.specs.declared.behind.Pending.{Pending}
 use Rattle.streamed_documents.specs.declared.found.Flaw.{Flaw}
 use Rattle.streamed_documents.specs.declared.found.Finding.{Finding}
 use Rattle.streamed_documents.specs.declared.found.JudgedDocument.{JudgedDocument}
-use Rattle.streamed_documents.specs.WellFormed.{IsWellFormed, IsFirstFault}
+use Rattle.streamed_documents.specs.WellFormed.{IsFirstFault}
 use Rattle.streamed_documents.specs.WellFormed as wells
 use Rattle.streamed_documents.specs.Found.{IsJudged, IsRefused, IsFound}
 use Rattle.streamed_documents.specs.declared.fronts.Opened.{Opened}
-use Rattle.streamed_documents.specs.Fronts.{HasFront, IsOpening, IsSettled, IsVerdictBy, section_version, version_behind}
+use Rattle.streamed_documents.specs.Fronts.{HasFront, IsOpening, IsSettled, IsVerdictBy, section_version}
+use Rattle.streamed_documents.specs.Fronts.{version_behind}
 use Rattle.streamed_documents.specs.Hearing.{Hears, MayHear, IsPendingOn, IsJudgeOf}
 use Rattle.streamed_documents.specs.Rests as rests
 use Rattle.streamed_documents.specs.Rests.{IsBehind, IsKept, IsSkimmed}

@@ -2,8 +2,6 @@
 use Rattle.std.proofs.Common.{◌≡◌, ℕ, List, Option, None, Some, sym, ◌∙◌, ap}
 use Rattle.case_tables.specs.declared.code_table.Code.{Code}
 use Rattle.unity_syntax.specs.declared.document.Document.{Document}
-use Rattle.names_rules.specs.declared.named.NameFault.{NameFault}
-use Rattle.names_rules.specs.Answers.{Stops}
 use Rattle.names_rules.specs.Reading.{Fault, earlier}
 use Rattle.unity_parser.proofs.Readings.{one_document, no_fault, one_fault}
 use Rattle.streamed_documents.specs.WellFormed.{IsWellFormed, IsFirstFault, of_text, of_document, document_fault}
@@ -18,15 +16,6 @@ no_faults (Some f) g e h = cc
 -- a document of a reading has no fault
 pub faultless : (bytes : List ℕ) (d : Document) → IsWellFormed bytes d → document_fault d ≡ None
 faultless bytes d r = no_faults _ _ r.named r.expands
-
--- what stops at the first of two faults, and at the second where there is no first, stops at the earlier one
-pub stops_first : (e : NameFault) (f g : Option Fault) → Stops e f → Stops e (earlier f g)
-stops_first NameFault.Memory f g s = tt
-stops_first (NameFault.Fault code at) f g s = ap (λ x. earlier x g) s
-
-pub stops_second : (e : NameFault) (f g : Option Fault) → f ≡ None → Stops e g → Stops e (earlier f g)
-stops_second e None g none s = s
-stops_second e (Some f) g none s = cc
 
 pub no_first_fault : (bytes : List ℕ) (d : Document) (code : Code) (at : ℕ) → IsWellFormed bytes d →
     IsFirstFault bytes code at → ⊥

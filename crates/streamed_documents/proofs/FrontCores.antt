@@ -1,14 +1,13 @@
 -- The core form of a document that a front is meets all conditions on core documents.
-use Rattle.std.proofs.Common.{◌≡◌, ℕ, suc, ◌+◌, ◌^◌, ◌<◌, ◌≤◌, ◌==◌, Bool, List, [], ◌∷◌, ◌++◌, length, Option, Some}
+use Rattle.std.proofs.Common.{◌≡◌, ℕ, ◌+◌, ◌^◌, ◌≤◌, Bool, List, [], ◌∷◌, ◌++◌, Option, Some}
 use Rattle.std.proofs.Common.{None, refl, sym, ap, ◌∙◌, subst, arith, append-nil}
 use Rattle.std.specs.Prelude.{All}
 use Rattle.std.proofs.lemmas.List.Elements.{recursion_from_All}
 use Rattle.std.specs.List.{AllByRecursion}
 use Rattle.case_tables.specs.declared.word_table.Word.{Word}
 use Rattle.core_terms.specs.Conditions.{IsCoreDocument}
-use Rattle.grammar_theory.specs.Ebnf.{Terminal, Tree, unit, nil, pair, node, place_of, Derives, is_both, is_named}
+use Rattle.grammar_theory.specs.Ebnf.{Terminal, unit, nil, pair, node, place_of, Derives, is_both, is_named}
 use Rattle.grammar_theory.specs.Ebnf.{is_no_number}
-use Rattle.grammar_theory.specs.Words.{words}
 use Rattle.unity_syntax.specs.declared.token.Token.{Token}
 use Rattle.unity_syntax.specs.declared.token.TokenKind.{TokenKind}
 use Rattle.unity_syntax.specs.declared.certificate.Certificates.{Certificates}
@@ -20,8 +19,7 @@ use Rattle.unity_syntax.specs.View.{view, view_certificates}
 use Rattle.unity_syntax.proofs.Productions.{all_productions}
 use Rattle.unity_lexer.specs.declared.front.Front.{Front}
 use Rattle.unity_lexer.specs.Tokens.{AreInOrder}
-use Rattle.unity_lexer.specs.Scans.{section_kind, IsNoSection, IsSmall}
-use Rattle.unity_parser.specs.ParseAnswers.{IsDocumentOf, WordsRise}
+use Rattle.unity_lexer.specs.Scans.{section_kind, IsSmall}
 use Rattle.unity_parser.specs.Fronts.{word_at, empty_section, front_tokens}
 use Rattle.unity_parser.proofs.Parsed.{words_within}
 use Rattle.unity_parser.proofs.SectionReadings.{terminals_join}
@@ -33,7 +31,7 @@ use Rattle.expand_fits.proofs.Parsed.Numerals.{SmallTokens}
 use Rattle.expand_fits.proofs.Parsed.Reading.{sound_by}
 use Rattle.expand_fits.proofs.Sound.{documents_sound}
 use Rattle.front_documents.specs.Laws.{IsFrontDocument}
-use Rattle.front_documents.proofs.FirstWord.{word_class, bodies_avoid, section_at, with_section}
+use Rattle.front_documents.proofs.FirstWord.{word_class, bodies_avoid, section_at}
 use Rattle.front_documents.proofs.Fronts.{word_free}
 use Rattle.streamed_documents.specs.Fronts.{IsOrderly, FrontCores}
 

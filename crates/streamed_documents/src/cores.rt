@@ -41,7 +41,7 @@ fn hold(alloc: Global, core: CDocument) -> Result<Held<CDocument>, NameFault>
 
 /// The core form of a document, or the first fault of its names, or else of its expansion. The certificates of the
 /// document are not looked at.
-#[tactic(auto, using(crate::proofs::FirstFaults::stops_first, crate::proofs::FirstFaults::stops_second))]
+#[tactic(auto, using(names_rules::proofs::Steps::stops_first, names_rules::proofs::Steps::stops_later))]
 pub fn core_of(alloc: Global, document: &Document) -> Result<Held<CDocument>, NameFault>
     ensures core { IfOk result (λ core. core ≡ core_document document.now) }
     ensures named { OnOk result (IsWellNamed document.now) }
