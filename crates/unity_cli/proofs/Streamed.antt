@@ -1,6 +1,6 @@
 -- What is told of a source that is read token by token.
 use Rattle.std.proofs.Common.{◌≡◌, ◌↔◌, ℕ, List, Bool, true, false, Option, Some, Ok, Err, refl, sym, ◌∙◌, subst, ap}
-use Rattle.std.specs.Io.KnownBytes.{Appends, IsAtEnd}
+use Rattle.std.specs.Io.KnownBytes.{Appends}
 use Rattle.unity_base.specs.Streams.{Was}
 use Rattle.case_tables.specs.declared.code_table.Code.{Code}
 use Rattle.unity_syntax.specs.declared.document.Document.{Document}
@@ -18,7 +18,7 @@ use Rattle.unity_cli.specs.declared.status.Status.{Status}
 use Rattle.unity_cli.specs.Status.{HasText}
 use Rattle.unity_cli.specs.Admitted.{greatest_size, IsAdmitted, IsBad}
 use Rattle.unity_cli.specs.Admitted as admitted
-use Rattle.unity_cli.specs.Answer.Check.{Checked, IsAccepted, IsRejected, IsCheckText}
+use Rattle.unity_cli.specs.Answer.Check.{Checked, IsAccepted, IsCheckText}
 use Rattle.unity_cli.specs.Answer.{reads_source, Answer, IsSaidOf, Tells, TellsPart}
 use Rattle.unity_cli.specs.Answering.{Telling}
 use Rattle.unity_cli.specs.Following.{FollowsTheRules}

@@ -48,22 +48,19 @@ use Rattle.unity_cli.specs.Answer.Run.{IsRun, Ran}
 use Rattle.unity_cli.specs.Answer.Fixed.{IsFixedRun, RanToFixed}
 use Rattle.unity_cli.specs.Answer.{most_bytes}
 use Rattle.unity_cli.specs.Answer.Replay.{IsReplayed}
-use Rattle.unity_cli.specs.Answer.Check.{Checked, IsAccepted}
+use Rattle.unity_cli.specs.Answer.Check.{Checked}
 use Rattle.unity_cli.specs.Answer.Prove.{Searched}
 use Rattle.unity_cli.specs.Answer.Replay.{Replayed}
 use Rattle.unity_cli.specs.Answer.{Answer, IsAnswer, Tells}
 use Rattle.unity_cli.specs.Answer.{TellsPart}
-use Rattle.unity_parser.specs.Document.{IsDocument}
-use Rattle.unity_cli.specs.Truth.{ClaimsAreTrue, ProgramsRun, WritesWhatIsTrue}
-use Rattle.unity_cli.specs.Starts.{ProgramsStart}
 use Rattle.unity_cli.specs.Following.{FollowsTheRules}
 use Rattle.unity_cli.specs.Admitted as admitted
 use Rattle.unity_cli.specs.Answer.Run as runs
 use Rattle.unity_cli.specs.Answer.Replay as replays
 use Rattle.unity_cli.specs.Input.{AreKept, IsAdmittedAs, IsInput, IsText, IsTextOf, IsSomeAdmitted}
 use Rattle.unity_cli.specs.Answering.{Telling, TellsAdmitted, TellsText, TellsBad, EndsAs, IsVerdictOn}
-use Rattle.unity_cli.proofs.Accepted.{read_core, read_whole, accepted_true, accepted_runs, accepted_starts}
-use Rattle.unity_cli.proofs.Accepted.{accepted_tells_true, accepted_follow, followed_accepts}
+use Rattle.unity_cli.proofs.Accepted.{read_core, read_whole}
+use Rattle.unity_cli.proofs.Accepted.{accepted_follow, followed_accepts}
 use Rattle.unity_cli.proofs.OneAnswers.{one_checked}
 
 -- ---- bytes
@@ -438,19 +435,6 @@ searched_has_text bytes budget Status.WriteFault text h = h
 searched_has_text bytes budget Status.WantOfMemory text h = h
 searched_has_text bytes budget Status.Violated text h = tt
 
-pub checked_has_text : (bytes : List ℕ) (status : Status) (text : List ℕ) → Checked bytes status text → HasText status
-checked_has_text bytes Status.Done text h = tt
-checked_has_text bytes Status.Rejected text h = tt
-checked_has_text bytes Status.BadDocument text h = tt
-checked_has_text bytes Status.Refuted text h = tt
-checked_has_text bytes Status.Budget text h = tt
-checked_has_text bytes Status.Undefined text h = tt
-checked_has_text bytes Status.BadWords text h = tt
-checked_has_text bytes Status.ReadFault text h = h
-checked_has_text bytes Status.WriteFault text h = h
-checked_has_text bytes Status.WantOfMemory text h = h
-checked_has_text bytes Status.Violated text h = tt
-
 pub answer_told : (request : Request) (bytes : List ℕ) (old new : Option (List ℕ)) (meant status : Status)
     (text : List ℕ) → Answer (Some request) bytes meant text → (HasText status → Appends old new text) → (HasText
     status → status ≡ meant) →
@@ -459,11 +443,6 @@ answer_told request bytes old new meant status text answer whole same part = rec
   whole = λ h. (text, subst (λ s. Answer (Some request) bytes s text) (sym (same h)) answer, whole h);
   part = λ w. (meant, text, answer, part w);
 }
-
-pub bad_checked : (bytes : List ℕ) (status : Status) (text meant : List ℕ) → status ≡ Status.BadDocument →
-    text ≡ meant → Checked bytes Status.BadDocument meant → Checked bytes status text
-bad_checked bytes status text meant e f h =
-    subst (λ x. Checked bytes x text) (sym e) (subst (Checked bytes Status.BadDocument) (sym f) h)
 
 -- ---- all requests
 
@@ -503,63 +482,6 @@ told_part asked request left t old new status e i tells w =
       part = told.3;
     }
 
--- the whole text of what is accepted was written
-accepted_writes : (asked : Option Request) (request : Request) (left : Option (List ℕ)) (t : Text)
-    (old new : Option (List ℕ)) (status : Status) → asked ≡ Some request → (i : IsTextOf (most_bytes (Some request))
-    left t)
-    → TellsText request t old new status → status ≡ Status.Done → asked ≡ Some check →
-    (text : List ℕ) × IsAccepted i.bytes text × Appends old new text
-accepted_writes asked request left t old new status e i tells done is_check =
-    let told = (tells i.bytes i.text_is).whole (subst HasText (sym done) tt) in
-    let somes : ◌≡◌ {A = Option Request} (Some request) (Some check) = sym e ∙ is_check in
-    let same : request ≡ check = cc in (
-      told.0,
-      subst (λ s. Checked i.bytes s told.0) done
-          (subst (λ r. Answer (Some r) i.bytes status told.0) same told.1),
-      told.2,
-    )
-
-left_bytes : (left : Option (List ℕ)) (xs bytes : List ℕ) → Was left xs → left ≡ Some bytes → bytes ≡ xs
-left_bytes None xs bytes w e = cc
-left_bytes (Some ys) xs bytes w e = let same : ys ≡ bytes = cc in sym same ∙ w
-
-pub done_claims : (asked : Option Request) (request : Request) (left : Option (List ℕ)) (t : Text)
-    (old new : Option (List ℕ)) (status : Status) → asked ≡ Some request → IsTextOf (most_bytes (Some request)) left t →
-    TellsText request t old new status → status ≡ Status.Done → asked ≡ Some check → (bytes : List ℕ)
-    (d : Document) → left ≡ Some bytes → IsDocument bytes d → ClaimsAreTrue d
-done_claims asked request left t old new status e i tells done is_check bytes d was r =
-    let a = accepted_writes asked request left t old new status e i tells done is_check in
-    accepted_true i.bytes a.0 d a.1 (subst (λ b. IsDocument b d) (left_bytes left i.bytes bytes i.were was) r)
-
-pub done_runs : (asked : Option Request) (request : Request) (left : Option (List ℕ)) (t : Text)
-    (old new : Option (List ℕ)) (status : Status) → asked ≡ Some request → IsTextOf (most_bytes (Some request)) left t →
-    TellsText request t old new status → status ≡ Status.Done → asked ≡ Some check → (bytes : List ℕ)
-    (d : Document) → left ≡ Some bytes → IsDocument bytes d → ProgramsRun d
-done_runs asked request left t old new status e i tells done is_check bytes d was r =
-    let a = accepted_writes asked request left t old new status e i tells done is_check in
-    accepted_runs i.bytes a.0 d a.1 (subst (λ b. IsDocument b d) (left_bytes left i.bytes bytes i.were was) r)
-
-pub done_tells : (asked : Option Request) (request : Request) (left : Option (List ℕ)) (t : Text)
-    (old new : Option (List ℕ)) (status : Status) → asked ≡ Some request → IsTextOf (most_bytes (Some request)) left t →
-    TellsText request t old new status → status ≡ Status.Done → asked ≡ Some check → (bytes : List ℕ)
-    (d : Document) → left ≡ Some bytes → IsDocument bytes d → WritesWhatIsTrue d old new
-done_tells asked request left t old new status e i tells done is_check bytes d was r =
-    let a = accepted_writes asked request left t old new status e i tells done is_check in
-    record {
-      text = a.0;
-      tells = accepted_tells_true i.bytes a.0 d a.1
-          (subst (λ b. IsDocument b d) (left_bytes left i.bytes bytes i.were was) r);
-      appends = a.2;
-    }
-
-pub done_starts : (asked : Option Request) (request : Request) (left : Option (List ℕ)) (t : Text)
-    (old new : Option (List ℕ)) (status : Status) → asked ≡ Some request → IsTextOf (most_bytes (Some request)) left t →
-    TellsText request t old new status → status ≡ Status.Done → asked ≡ Some check → (bytes : List ℕ)
-    (d : Document) → left ≡ Some bytes → IsDocument bytes d → ProgramsStart d
-done_starts asked request left t old new status e i tells done is_check bytes d was r =
-    let a = accepted_writes asked request left t old new status e i tells done is_check in
-    accepted_starts i.bytes a.0 d a.1 (subst (λ b. IsDocument b d) (left_bytes left i.bytes bytes i.were was) r)
-
 -- what `check` answers is that it accepts exactly where the proofs follow
 pub checked_follows : (bytes : List ℕ) (status : Status) (text : List ℕ) → Checked bytes status text →
     (status ≡ Status.Done) ↔ FollowsTheRules bytes
@@ -567,15 +489,3 @@ checked_follows bytes status text c = (
   λ done. accepted_follow bytes text (subst (λ s. Checked bytes s text) done c),
   λ f. let a = followed_accepts bytes f in (one_checked bytes status Status.Done text a.0 c a.1).0,
 )
-
-pub text_follows : (asked : Option Request) (request : Request) (left : Option (List ℕ)) (t : Text)
-    (old new : Option (List ℕ)) (status : Status) → asked ≡ Some request → IsTextOf (most_bytes (Some request)) left t →
-    TellsText request t old new status → HasText status → asked ≡ Some check → (bytes : List ℕ) →
-    left ≡ Some bytes → (status ≡ Status.Done) ↔ FollowsTheRules bytes
-text_follows asked request left t old new status e i tells has is_check bytes was =
-    let told = (tells i.bytes i.text_is).whole has in
-    let somes : ◌≡◌ {A = Option Request} (Some request) (Some check) = sym e ∙ is_check in
-    let same : request ≡ check = cc in
-    checked_follows bytes status told.0
-    (subst (λ b. Checked b status told.0) (sym (left_bytes left i.bytes bytes i.were was))
-    (subst (λ r. Answer (Some r) i.bytes status told.0) same told.1))

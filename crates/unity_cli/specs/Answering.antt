@@ -21,17 +21,13 @@ use Rattle.unity_cli.specs.declared.prove.Found.{Found}
 use Rattle.unity_cli.specs.declared.status.Status.{Status}
 use Rattle.unity_cli.specs.Status.{HasText}
 use Rattle.unity_cli.specs.Admitted.{greatest_size, greatest_bare_size}
-use Rattle.unity_cli.specs.Answer.Check.{Checked, IsAccepted}
+use Rattle.unity_cli.specs.Answer.Check.{IsAccepted}
 use Rattle.unity_cli.specs.Answer.{most_bytes, Answer}
 use Rattle.unity_cli.specs.Answer.Prove.{Searched}
 use Rattle.unity_cli.specs.Answer.Upgrade.{Upgraded}
 use Rattle.unity_cli.specs.Answer.Watch.{Watched}
 use Rattle.watch_schedules.specs.declared.error.WatchStop.{WatchStop}
 use Rattle.unity_cli.specs.Input.{AreKept, IsInput, IsAdmittedAs, IsText}
-
--- the status and the text are what `check` answers
-abbrev pub IsCheckedFor : Input → Told → Type 0
-IsCheckedFor input a = (bytes : List ℕ) → IsInput greatest_size bytes input → Checked bytes a.status a.text.items
 
 -- the status and the text are what `prove` answers
 abbrev pub IsSearchedFor : ℕ → List ℕ → Input → Told → Type 0

@@ -8,13 +8,13 @@ ghost use Rattle.core_terms.specs.Conditions.{IsCoreDocument};
 ghost use Rattle.proof_plans.specs.Giving.{AreWhole};
 ghost use Rattle.unity_cli.specs.Admitted.{greatest_size};
 ghost use Rattle.unity_cli.specs.Answer.Check.{Checked, IsCheckText, WritesCheckText, WritesCheckPart};
-ghost use Rattle.unity_cli.specs.Input.{IsInput, IsAdmittedAs, IsSomeInput, IsSomeAdmitted};
+ghost use Rattle.unity_cli.specs.Input.{IsAdmittedAs, IsSomeAdmitted};
 ghost use Rattle.cli_words.specs.Requests as requests;
-ghost use Rattle.unity_cli.specs.Answering.{IsCheckedFor, IsVerdictOn, Telling, TellsInput};
+ghost use Rattle.unity_cli.specs.Answering.{IsVerdictOn, Telling};
 ghost use Rattle.unity_cli.specs.Status.{HasText};
 
 use crate::commands::GREATEST_SIZE;
-use crate::input::{AdmittedDocument, Input};
+use crate::input::AdmittedDocument;
 use crate::output::{Answer, write_answer};
 use crate::status::Status;
 use crate::stop::source_stop;
@@ -28,20 +28,8 @@ use std::alloc::{AllocError, Global};
 use streamed_documents::{Finding, Flaw, JudgedDocument, judge_source};
 use unity_base::{Sink, Source};
 
-/// What `check` answers for the input, which it takes apart: the certificates of its document are let go as they are
+/// What `check` answers for a document, which it takes apart: the certificates of the document are let go as they are
 /// written for the check, so that the two forms of them do not stand beside each other.
-pub fn judge(alloc: Global, input: Input) -> Result<Answer, AllocError>
-    requires { IsSomeInput greatest_size input }
-    ensures { IfOk result (IsCheckedFor input) }
-{
-    match input {
-        Input::TooLong => Ok(Answer::bad(input_refusal(alloc, Code::TooLong)?)),
-        Input::Fault { code, at } => Ok(Answer::bad(document_fault(alloc, code, at)?)),
-        Input::Document(reading) => judge_document(alloc, reading.into_inner()),
-    }
-}
-
-/// What `check` answers for a document.
 pub fn judge_document(alloc: Global, reading: AdmittedDocument) -> Result<Answer, AllocError>
     requires { IsSomeAdmitted greatest_size reading }
     ensures { IfOk result (λ a. (bytes : List ℕ) → IsAdmittedAs greatest_size bytes reading →
@@ -69,20 +57,6 @@ fn verdict(alloc: Global, core: &CDocument, certificates: &[Cert]) -> Result<Ans
             text: rejected(alloc, words, &fault)?,
         }),
         Err(ScriptError::Memory) => Err(AllocError),
-    }
-}
-
-/// Writes what `check` answers for the input.
-pub fn write_verdict<K: Sink>(alloc: Global, input: Input, out: &mut K) -> Status
-    requires { IsSomeInput greatest_size input }
-    ensures told { TellsInput requests.check input (K.written out.old) (K.written out.new) result }
-    ensures nothing { result ≡ Status.WantOfMemory → out.new ≡ out.old }
-    ensures never { result ≡ Status.ReadFault → ⊥ }
-    ensures cause { IsTold (K.faults out.old) (K.faults out.new) (result ≡ Status.WriteFault) }
-{
-    match judge(alloc, input) {
-        Ok(answer) => write_answer(&answer, out),
-        Err(_) => Status::WantOfMemory,
     }
 }
 

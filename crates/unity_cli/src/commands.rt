@@ -1,13 +1,12 @@
 // Answering a command.
-ghost use Rattle.std.specs.Prelude.{◌≡◌, Some};
+ghost use Rattle.std.specs.Prelude.{◌≡◌, ◌≢◌, ℕ, Some};
 ghost use Rattle.unity_base.specs.Streams.{IsTold};
+ghost use Rattle.cli_words.specs.declared.words.Command.{Command};
 ghost use Rattle.cli_words.specs.Requests.{HasLimits, meant};
 ghost use Rattle.unity_cli.specs.Answer as answers;
 ghost use Rattle.unity_cli.specs.Answering.{TellsText};
 ghost use Rattle.unity_cli.specs.Input.{IsSomeText};
 
-use crate::check::write_verdict;
-use crate::demo::write_demo;
 use crate::fixed::write_fixed;
 use crate::input::{Input, Text};
 use crate::prove::write_finding;
@@ -38,17 +37,19 @@ pub fn most_bytes(command: &Command) -> usize
 }
 
 /// Writes what the command answers for what a source gave. A search and an upgrade need the bytes themselves; the
-/// other commands let them go first.
+/// other commands let them go first. `check` reads its source itself, and a ring needs none.
 pub fn write_command<K: Sink>(alloc: Global, command: &Command, text: Text, out: &mut K) -> Status
     requires text { IsSomeText (answers.most_bytes (Some (meant command.now))) text }
     requires limits { HasLimits command.now }
+    requires no_check { command.now ≢ Command.Check }
+    requires no_ring { (places : ℕ) → command.now ≢ Command.Demo places }
     ensures told { TellsText (meant command.now) text (K.written out.old) (K.written out.new) result }
     ensures nothing { result ≡ Status.WantOfMemory → out.new ≡ out.old }
     ensures never { result ≡ Status.ReadFault → ⊥ }
     ensures cause { IsTold (K.faults out.old) (K.faults out.new) (result ≡ Status.WriteFault) }
 {
     match command {
-        Command::Check => write_verdict(alloc, input_of(text), out),
+        Command::Check | Command::Demo { .. } => unreachable!(),
         Command::Prove { budget } => write_finding(alloc, *budget, &text.bytes, &text.input, out),
         Command::Run { program, steps } => {
             write_run(alloc, program, *steps, &input_of(text), out)
@@ -57,7 +58,6 @@ pub fn write_command<K: Sink>(alloc: Global, command: &Command, text: Text, out:
             write_fixed(alloc, program, *steps, &input_of(text), out)
         }
         Command::Replay => write_replay(alloc, &input_of(text), out),
-        Command::Demo { places } => write_demo(alloc, *places, out),
         Command::Upgrade => write_upgrade(alloc, text, out),
         Command::Watch => write_watch(alloc, &input_of(text), out),
     }

@@ -3,10 +3,10 @@ use Rattle.std.specs.Io.KnownBytes.{IsAtEnd}
 use Rattle.unity_base.specs.Streams.{IsLongerThan}
 use Rattle.unity_cli.specs.Answer.{most_bytes}
 use Rattle.unity_cli.specs.Input.{IsTextOf}
-use Rattle.unity_cli.proofs.Told.{bad_words, told_whole, told_part, done_claims, done_runs, done_starts, done_tells}
-use Rattle.unity_cli.proofs.Told.{text_follows}
+use Rattle.unity_cli.proofs.Told.{bad_words, told_whole, told_part}
 use Rattle.unity_cli.proofs.Streamed.{streamed_whole, streamed_part, streamed_follows, streamed_claims, streamed_tells}
 use Rattle.unity_cli.proofs.Streamed.{streamed_runs, streamed_starts, check_is_no_watch, check_reads}
+use Rattle.unity_cli.proofs.Streamed.{others_no_check}
 use Rattle.unity_cli.proofs.Watched.{done_kept, done_unviolated, done_violated}
 use Rattle.unity_cli.proofs.Shown.{shown_whole, shown_part, ring_is_no_check, ring_is_no_watch, others_read}
 use Rattle.cli_words.specs.Requests.{meant, asked}
@@ -206,54 +206,29 @@ returns-in-Ok-read_input-clause-part g c = λ fault said.
     c.write_command.ensures.told fault
 
 pub returns-in-Ok-read_input-clause-safe : goal.returns-in-Ok-read_input-clause-safe
-returns-in-Ok-read_input-clause-safe g c =
-    done_claims (asked c.args.words.now) (meant c.in-Some.command) (g.S.Source.left c.args.src.now)
-    c.in-Ok-read_input.text
-    (g.K.Sink.written c.args.out.now) (g.K.Sink.written c.write_command.new.out) c.write_command.result
-    (sym c.read_words.ensures.asked ∙ ap (option_map meant) c.in-Some.is)
-    (subst (λ m. IsTextOf m (g.S.Source.left c.args.src.now) c.in-Ok-read_input.text)
-    c.most_bytes.ensures c.in-Ok-read_input.ensures.input)
-    c.write_command.ensures.told
+returns-in-Ok-read_input-clause-safe g c = λ done is_check. absurd (others_no_check (asked c.args.words.now)
+    c.in-Some.command (sym c.read_words.ensures.asked ∙ ap (option_map meant) c.in-Some.is)
+    c.in_default-command-2.not-Check is_check)
 
 pub returns-in-Ok-read_input-clause-runs : goal.returns-in-Ok-read_input-clause-runs
-returns-in-Ok-read_input-clause-runs g c =
-    done_runs (asked c.args.words.now) (meant c.in-Some.command) (g.S.Source.left c.args.src.now)
-    c.in-Ok-read_input.text
-    (g.K.Sink.written c.args.out.now) (g.K.Sink.written c.write_command.new.out) c.write_command.result
-    (sym c.read_words.ensures.asked ∙ ap (option_map meant) c.in-Some.is)
-    (subst (λ m. IsTextOf m (g.S.Source.left c.args.src.now) c.in-Ok-read_input.text)
-    c.most_bytes.ensures c.in-Ok-read_input.ensures.input)
-    c.write_command.ensures.told
+returns-in-Ok-read_input-clause-runs g c = λ done is_check. absurd (others_no_check (asked c.args.words.now)
+    c.in-Some.command (sym c.read_words.ensures.asked ∙ ap (option_map meant) c.in-Some.is)
+    c.in_default-command-2.not-Check is_check)
 
 pub returns-in-Ok-read_input-clause-starts : goal.returns-in-Ok-read_input-clause-starts
-returns-in-Ok-read_input-clause-starts g c =
-    done_starts (asked c.args.words.now) (meant c.in-Some.command) (g.S.Source.left c.args.src.now)
-    c.in-Ok-read_input.text
-    (g.K.Sink.written c.args.out.now) (g.K.Sink.written c.write_command.new.out) c.write_command.result
-    (sym c.read_words.ensures.asked ∙ ap (option_map meant) c.in-Some.is)
-    (subst (λ m. IsTextOf m (g.S.Source.left c.args.src.now) c.in-Ok-read_input.text)
-    c.most_bytes.ensures c.in-Ok-read_input.ensures.input)
-    c.write_command.ensures.told
+returns-in-Ok-read_input-clause-starts g c = λ done is_check. absurd (others_no_check (asked c.args.words.now)
+    c.in-Some.command (sym c.read_words.ensures.asked ∙ ap (option_map meant) c.in-Some.is)
+    c.in_default-command-2.not-Check is_check)
 
 pub returns-in-Ok-read_input-clause-follows : goal.returns-in-Ok-read_input-clause-follows
-returns-in-Ok-read_input-clause-follows g c =
-    text_follows (asked c.args.words.now) (meant c.in-Some.command) (g.S.Source.left c.args.src.now)
-    c.in-Ok-read_input.text
-    (g.K.Sink.written c.args.out.now) (g.K.Sink.written c.write_command.new.out) c.write_command.result
-    (sym c.read_words.ensures.asked ∙ ap (option_map meant) c.in-Some.is)
-    (subst (λ m. IsTextOf m (g.S.Source.left c.args.src.now) c.in-Ok-read_input.text)
-    c.most_bytes.ensures c.in-Ok-read_input.ensures.input)
-    c.write_command.ensures.told
+returns-in-Ok-read_input-clause-follows g c = λ has is_check. absurd (others_no_check (asked c.args.words.now)
+    c.in-Some.command (sym c.read_words.ensures.asked ∙ ap (option_map meant) c.in-Some.is)
+    c.in_default-command-2.not-Check is_check)
 
 pub returns-in-Ok-read_input-clause-bounds : goal.returns-in-Ok-read_input-clause-bounds
-returns-in-Ok-read_input-clause-bounds g c =
-    done_tells (asked c.args.words.now) (meant c.in-Some.command) (g.S.Source.left c.args.src.now)
-    c.in-Ok-read_input.text
-    (g.K.Sink.written c.args.out.now) (g.K.Sink.written c.write_command.new.out) c.write_command.result
-    (sym c.read_words.ensures.asked ∙ ap (option_map meant) c.in-Some.is)
-    (subst (λ m. IsTextOf m (g.S.Source.left c.args.src.now) c.in-Ok-read_input.text)
-    c.most_bytes.ensures c.in-Ok-read_input.ensures.input)
-    c.write_command.ensures.told
+returns-in-Ok-read_input-clause-bounds g c = λ done is_check. absurd (others_no_check (asked c.args.words.now)
+    c.in-Some.command (sym c.read_words.ensures.asked ∙ ap (option_map meant) c.in-Some.is)
+    c.in_default-command-2.not-Check is_check)
 
 pub returns-in-Ok-read_input-clause-end : goal.returns-in-Ok-read_input-clause-end
 returns-in-Ok-read_input-clause-end g c = λ some read memory.
@@ -308,3 +283,23 @@ returns-in-Ok-read_input-clause-kept g c =
     (subst (λ m. IsTextOf m (g.S.Source.left c.args.src.now) c.in-Ok-read_input.text)
     c.most_bytes.ensures c.in-Ok-read_input.ensures.input)
     c.write_command.ensures.told
+
+pub returns-in-Ok-read_input-clause-form : goal.returns-in-Ok-read_input-clause-form
+returns-in-Ok-read_input-clause-form g c = λ has is_check. absurd (others_no_check (asked c.args.words.now)
+    c.in-Some.command (sym c.read_words.ensures.asked ∙ ap (option_map meant) c.in-Some.is)
+    c.in_default-command-2.not-Check is_check)
+
+pub returns-in-Ok-read_input-clause-part_form : goal.returns-in-Ok-read_input-clause-part_form
+returns-in-Ok-read_input-clause-part_form g c = λ fault is_check. absurd (others_no_check (asked c.args.words.now)
+    c.in-Some.command (sym c.read_words.ensures.asked ∙ ap (option_map meant) c.in-Some.is)
+    c.in_default-command-2.not-Check is_check)
+
+pub returns-in-Err-read_input-clause-form : goal.returns-in-Err-read_input-clause-form
+returns-in-Err-read_input-clause-form g c = λ has is_check. absurd (others_no_check (asked c.args.words.now)
+    c.in-Some.command (sym c.read_words.ensures.asked ∙ ap (option_map meant) c.in-Some.is)
+    c.in_default-command-2.not-Check is_check)
+
+pub returns-in-Err-read_input-clause-part_form : goal.returns-in-Err-read_input-clause-part_form
+returns-in-Err-read_input-clause-part_form g c = λ fault is_check. absurd (others_no_check (asked c.args.words.now)
+    c.in-Some.command (sym c.read_words.ensures.asked ∙ ap (option_map meant) c.in-Some.is)
+    c.in_default-command-2.not-Check is_check)
