@@ -1,0 +1,22 @@
+use Rattle.std.proofs.Common.{◌∙◌, ap}
+use Rattle.cli_texts.specs.Verdicts.{accepted_text, rejected_text}
+use Rattle.unity_cli.proofs.Streamed.{judged_accepted, judged_rejected}
+use Rattle.unity_cli.proofs.check.judged_answer.Goals as goal
+
+pub returns-in_ok-accepted-in-Ok-clause-checked : goal.returns-in_ok-accepted-in-Ok-clause-checked
+returns-in_ok-accepted-in-Ok-clause-checked c = λ bytes.
+    judged_accepted bytes c.args.judged.now c.in-Ok.plan c.in_ok-accepted-in-Ok.field-0.items c.in-Ok.is
+    (c.in_ok-accepted-in-Ok.ensures ∙ ap (λ words. accepted_text words c.in-Ok.plan) c.as_slice-words.ensures)
+
+pub returns-in_ok-accepted-in-Ok-clause-text : goal.returns-in_ok-accepted-in-Ok-clause-text
+returns-in_ok-accepted-in-Ok-clause-text c =
+    (c.as_slice-words.result.now, c.in-Ok.plan, c.in_ok-accepted-in-Ok.ensures)
+
+pub returns-in_ok-rejected-in-Err-clause-checked : goal.returns-in_ok-rejected-in-Err-clause-checked
+returns-in_ok-rejected-in-Err-clause-checked c = λ bytes.
+    judged_rejected bytes c.args.judged.now c.in-Err.fault c.in_ok-rejected-in-Err.field-0.items c.in-Err.is
+    (c.in_ok-rejected-in-Err.ensures ∙ ap (λ words. rejected_text words c.in-Err.fault) c.as_slice-words.ensures)
+
+pub returns-in_ok-rejected-in-Err-clause-text : goal.returns-in_ok-rejected-in-Err-clause-text
+returns-in_ok-rejected-in-Err-clause-text c =
+    (c.as_slice-words.result.now, c.in-Err.fault, c.in_ok-rejected-in-Err.ensures)
