@@ -3,7 +3,7 @@
 ghost use Rattle.std.specs.Prelude.{◌≡◌, ◌≢◌, ◌⊎◌, List, ℕ, Some, IfOk};
 ghost use Rattle.std.specs.Io.KnownBytes.{IsAtEnd};
 ghost use Rattle.unity_base.specs.Streams.{IsTold, IsLongerThan, LeavesRest};
-ghost use Rattle.streamed_documents.specs.Found.{IsFound, IsJudged};
+ghost use Rattle.streamed_documents.specs.Found.{IsFound, IsJudged, IsRefused};
 ghost use Rattle.core_terms.specs.Conditions.{IsCoreDocument};
 ghost use Rattle.proof_plans.specs.Giving.{AreWhole};
 ghost use Rattle.unity_cli.specs.Admitted.{greatest_size};
@@ -79,6 +79,18 @@ fn judged_answer(alloc: Global, judged: &JudgedDocument) -> Result<Answer, Alloc
     }
 }
 
+// What `check` answers for what is no document without a fault.
+fn flaw_answer(alloc: Global, flaw: Flaw) -> Result<Answer, AllocError>
+    ensures checked { IfOk result (λ a. (bytes : List ℕ) → IsRefused greatest_size bytes flaw →
+        Checked bytes a.status a.text.items) }
+    ensures text { IfOk result (λ a. IsCheckText a.status a.text.items) }
+{
+    match flaw {
+        Flaw::TooLong => Ok(Answer::bad(input_refusal(alloc, Code::TooLong)?)),
+        Flaw::Fault { code, at } => Ok(Answer::bad(document_fault(alloc, code, at)?)),
+    }
+}
+
 // What `check` answers for what a source was found to give.
 fn found_answer(alloc: Global, found: &Finding) -> Result<Answer, AllocError>
     ensures checked { IfOk result (λ a. (bytes : List ℕ) → IsFound greatest_size bytes found.now →
@@ -86,10 +98,7 @@ fn found_answer(alloc: Global, found: &Finding) -> Result<Answer, AllocError>
     ensures text { IfOk result (λ a. IsCheckText a.status a.text.items) }
 {
     match found {
-        Finding::Refused(Flaw::TooLong) => Ok(Answer::bad(input_refusal(alloc, Code::TooLong)?)),
-        Finding::Refused(Flaw::Fault { code, at }) => {
-            Ok(Answer::bad(document_fault(alloc, *code, *at)?))
-        }
+        Finding::Refused(flaw) => flaw_answer(alloc, *flaw),
         Finding::Judged(judged) => judged_answer(alloc, judged.get()),
     }
 }

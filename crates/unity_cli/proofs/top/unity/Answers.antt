@@ -303,3 +303,9 @@ pub returns-in-Err-read_input-clause-part_form : goal.returns-in-Err-read_input-
 returns-in-Err-read_input-clause-part_form g c = λ fault is_check. absurd (others_no_check (asked c.args.words.now)
     c.in-Some.command (sym c.read_words.ensures.asked ∙ ap (option_map meant) c.in-Some.is)
     c.in_default-command-2.not-Check is_check)
+
+pub write_command-requires-clause-no_check : goal.write_command-requires-clause-no_check
+write_command-requires-clause-no_check g c = c.in_default-command-2.not-Check
+
+pub write_command-requires-clause-no_ring : goal.write_command-requires-clause-no_ring
+write_command-requires-clause-no_ring g c = c.in_default-command.not-Demo
