@@ -6,7 +6,8 @@ ghost use Rattle.unity_syntax.specs.declared.document.Document.{Document};
 ghost use Rattle.unity_parser.specs.Document.{IsDocument};
 ghost use Rattle.cli_words.specs.Requests.{asked, check, watch};
 ghost use Rattle.unity_cli.specs.Status.{HasText};
-ghost use Rattle.unity_cli.specs.Answer.{most_bytes, reads_source, Tells, TellsPart};
+ghost use Rattle.unity_cli.specs.Answer.Check.{WritesCheckText, WritesCheckPart};
+ghost use Rattle.unity_cli.specs.Answer.{most_bytes, reads_source, IsSaidOf, Tells, TellsPart};
 ghost use Rattle.unity_cli.specs.Truth.{ClaimsAreTrue, ProgramsRun, WritesWhatIsTrue};
 ghost use Rattle.unity_cli.specs.Starts.{ProgramsStart};
 ghost use Rattle.unity_cli.specs.Following.{FollowsTheRules};
@@ -25,10 +26,15 @@ pub fn unity<S: Source, K: Sink>(
     out: &mut K,
 ) -> Status
     // What is written is the answer for the words and the bytes that were left.
-    ensures answer { HasText result →
+    ensures answer { HasText result → IsSaidOf (asked words.now) (S.left src.old) →
         Tells (asked words.now) (S.left src.old) result (K.written out.old) (K.written out.new) }
-    ensures part { result ≡ Status.WriteFault →
+    ensures part { result ≡ Status.WriteFault → IsSaidOf (asked words.now) (S.left src.old) →
         TellsPart (asked words.now) (S.left src.old) (K.written out.old) (K.written out.new) }
+    // Of whatever source, what `check` writes has the form of its answers.
+    ensures form { HasText result → asked words.now ≡ Some check →
+        WritesCheckText result (K.written out.old) (K.written out.new) }
+    ensures part_form { result ≡ Status.WriteFault → asked words.now ≡ Some check →
+        WritesCheckPart (K.written out.old) (K.written out.new) }
     ensures nothing { (result ≡ Status.ReadFault) ⊎ (result ≡ Status.WantOfMemory) → out.new ≡ out.old }
 
     // A document is accepted exactly where its proofs follow the rules.
