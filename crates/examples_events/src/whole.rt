@@ -1,0 +1,65 @@
+//! What the calls answer that read a text whole.
+ghost use Rattle.std.specs.Prelude.{IfOk};
+ghost use Rattle.unity_parser.specs.Document.{IsDocument};
+ghost use Rattle.core_terms.specs.Conditions.{IsCoreDocument};
+ghost use Rattle.proof_plans.specs.Giving.{AreWhole};
+
+use crate::refusal::{GREATEST_SIZE, Refusal};
+use case_tables::Word;
+use certificate_reading::certificates_from;
+use core_terms::CDocument;
+use obligations::Cert;
+use proof_plans::{Plan, ScriptError};
+use proof_script::check;
+use std::alloc::Global;
+use streamed_documents::core_of;
+use unity_base::{Held, Seq};
+use unity_lexer::{TokenPart, lex, lex_part};
+use unity_parser::parse;
+use unity_syntax::{Document, SyntaxFault, TokenKind};
+
+/// A text that was read whole: its core form and its certificates.
+#[derive(Drop)]
+pub struct Whole {
+    pub core: Held<CDocument>,
+    pub certificates: Seq<Cert>,
+}
+
+/// The document that a text is.
+fn document_of(alloc: Global, bytes: &[u8]) -> Result<Document, SyntaxFault>
+    ensures { IfOk result (IsDocument bytes.now) }
+{
+    let tokens = lex(alloc, bytes)?;
+    parse(alloc, bytes, tokens.as_slice())
+}
+
+/// Reads a text whole.
+#[tactic(auto, using(crate::proofs::TextLaws::whole_laws))]
+pub fn read_whole(alloc: Global, bytes: &[u8]) -> Result<Whole, Refusal>
+    ensures document { IfOk result (λ text. IsCoreDocument text.core) }
+    ensures whole { IfOk result (λ text. AreWhole text.certificates) }
+{
+    if bytes.len() > GREATEST_SIZE {
+        return Err(Refusal::TooLong);
+    }
+    let document = document_of(alloc, bytes)?;
+    let core = core_of(alloc, &document)?;
+    let certificates = certificates_from(alloc, document)?;
+    Ok(Whole { core, certificates })
+}
+
+/// The tokens up to the first word `certificates`, with it, or all; and those behind it.
+pub fn section_split(alloc: Global, bytes: &[u8]) -> Result<(TokenPart, TokenPart), Refusal> {
+    let word = TokenKind::Reserved(Word::Certificates);
+    let front = lex_part(alloc, bytes, 0, Some(word))?;
+    let behind = lex_part(alloc, bytes, front.end, None)?;
+    Ok((front, behind))
+}
+
+/// The verdict on it.
+pub fn verdict_on(alloc: Global, text: &Whole) -> Result<Plan, ScriptError>
+    requires document { IsCoreDocument text.now.core }
+    requires whole { AreWhole text.now.certificates }
+{
+    check(alloc, text.core.get(), text.certificates.as_slice())
+}
