@@ -1,7 +1,7 @@
 // Answers over a source and a sink that fail where they are told to.
 use crate::{SingleSink, SingleSource};
 use std::alloc::{AllocError, Global};
-use unity_base::{MemSink, MemSource};
+use unity_base::{DripSource, MemSink, MemSource};
 use unity_cli::{Status, unity};
 
 /// Where a source and a sink fail.
@@ -49,6 +49,20 @@ pub fn answer_in_singles(
     let words = words_of(alloc, line)?;
     let mut src = SingleSource::new(bytes.to_vec(alloc)?, ends.read);
     let mut out = SingleSink::new(alloc, ends.room, ends.write)?;
+    let status = unity(alloc, &words, &mut src, &mut out);
+    Ok((status, String::from_utf8_lossy(alloc, out.written())?))
+}
+
+/// The same, where a source gives one byte in a call and never fails.
+pub fn answer_in_drips(
+    alloc: Global,
+    line: &str,
+    bytes: &[u8],
+    room: usize,
+) -> Result<(Status, String), AllocError> {
+    let words = words_of(alloc, line)?;
+    let mut src = DripSource::new(bytes.to_vec(alloc)?);
+    let mut out = MemSink::new(alloc, room, Vec::new(alloc))?;
     let status = unity(alloc, &words, &mut src, &mut out);
     Ok((status, String::from_utf8_lossy(alloc, out.written())?))
 }

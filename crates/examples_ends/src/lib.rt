@@ -7,5 +7,5 @@ mod single;
 #[cfg(test)]
 mod tests;
 
-pub use ends::{Ends, answer_in_pieces, answer_in_singles};
+pub use ends::{Ends, answer_in_drips, answer_in_pieces, answer_in_singles};
 pub use single::{SingleSink, SingleSource};
