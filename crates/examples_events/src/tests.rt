@@ -9,7 +9,7 @@ use case_tables::Code;
 use core_terms::same;
 use documents::{EDITS, READ, REFUSED, SHARE};
 use obligations::Obligation;
-use proof_plans::{Plan, ScriptError, walk};
+use proof_plans::{Plan, Planned, ScriptError, StepFault, walk};
 use std::alloc::Global;
 use std::test::Fail;
 use unity_base::{DripSource, MemSource, Source};
@@ -181,23 +181,23 @@ fn has_events<S: Source>(alloc: Global, text: &str, src: &mut S) -> Result<bool,
     })
 }
 
-/// Whether the plan by the rules is that of the walk, or stops at the same step, and the checkers of its obligations
-/// say what the check of the whole certificates says.
-fn has_plan(alloc: Global, text: &str) -> Result<bool, Refusal> {
-    let whole = read_whole(alloc, text.as_bytes())?;
-    let planned = planned(alloc, whole.core.get())?;
-    let same = match (walk(alloc, whole.core.get()), planned.stopped) {
-        (Ok(plan), None) => same_plans(&plan, &planned.plan),
+/// Whether a walk gives this plan, or stops at the same step.
+fn gives(walked: &Result<Plan, ScriptError>, plan: &Plan, stopped: &Option<StepFault>) -> bool {
+    match (walked, stopped) {
+        (Ok(given), None) => same_plans(given, plan),
         (Err(ScriptError::Step(f)), Some(g)) => f == g,
         _ => false,
-    };
-    Ok(
-        same && all_checked(
-            alloc,
-            planned.plan.obligations,
-            whole.certificates.as_slice(),
-        )?,
-    )
+    }
+}
+
+/// Whether the walk gives the plan by the rules, and the checkers of its obligations say what the check of the whole
+/// certificates says.
+fn has_plan(alloc: Global, text: &str) -> Result<bool, Refusal> {
+    let whole = read_whole(alloc, text.as_bytes())?;
+    let Planned { plan, stopped } = planned(alloc, whole.core.get())?;
+    let walked = walk(alloc, whole.core.get());
+    let same = gives(&walked, &plan, &stopped);
+    Ok(same && all_checked(alloc, plan.obligations, whole.certificates.as_slice())?)
 }
 
 #[test]
