@@ -1,5 +1,5 @@
 -- What is too large is refused.
-use Rattle.std.proofs.Common.{◌≡◌, ◌<◌, ◌^◌, Bool, true, false, List, [], ◌∷◌, nat_le, Option, Some, None, refl, ap}
+use Rattle.std.proofs.Common.{◌≡◌, ◌<◌, ◌^◌, Bool, true, false, List, [], ◌∷◌, nat_le, Option, Some, None, refl}
 use Rattle.std.proofs.Common.{◌∙◌, Err, arith}
 use Rattle.std.specs.List.{list_all}
 use Rattle.std.proofs.lemmas.Bool.{lt-leb}
@@ -10,7 +10,7 @@ use Rattle.core_terms.specs.declared.trees.CForm.TheVariants.{And}
 use Rattle.core_terms.specs.declared.programs.CSlot.{CSlot}
 use Rattle.core_terms.specs.declared.programs.CStmt.{CStmt}
 use Rattle.core_terms.specs.Sizes.{form_nodes}
-use Rattle.core_terms.specs.Folding.{truth_of, truth_or, and_form, not_form}
+use Rattle.core_terms.specs.Folding.{truth_of, truth_or, not_form}
 use Rattle.core_terms.proofs.KnownLaws.{known_folded_form}
 use Rattle.obligations.specs.declared.branches.Obligation.{Obligation}
 use Rattle.obligations.specs.Obligations.{weight_of}

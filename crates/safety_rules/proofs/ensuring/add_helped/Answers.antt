@@ -9,6 +9,7 @@ use Rattle.core_terms.specs.declared.programs.CStmt.{CStmt}
 use Rattle.obligations.specs.declared.branches.Obligation.{Obligation}
 use Rattle.wp_substitution.specs.Preconditions.{wp_form}
 use Rattle.core_terms.specs.Folding.{not_form}
+use Rattle.core_terms.specs.Pools.{Pooled}
 use Rattle.rules_table.specs.Forms.{imply}
 use Rattle.rules_table.specs.Table.{Site, equations, helped_form}
 use Rattle.safety_rules.specs.Answers.{site_of}
@@ -141,7 +142,7 @@ loop-s-preserved c =
     c.get-statement.result.now.indices))) (w.in_ok-before.ensures.tree (imply site.using c.args.q.now)
     c.loop-s.invariant.there)) c.loop-s.invariant.added w.in_ok-add_goal.ensures);
             there = subst (λ (fs : List CForm). slice_get fs c.in_ok-id.id.place ≡ Some (imply site.using c.args.q.now))
-          (sym (ap (λ p. p.forms) w.pool-is)) (w.in_ok-before.ensures.kept c.in_ok-id.id.place
+          (sym (ap (λ (p : Pooled). p.forms) w.pool-is)) (w.in_ok-before.ensures.kept c.in_ok-id.id.place
           (imply site.using c.args.q.now) c.loop-s.invariant.there);
           }
       | else-may_mean w ↦
@@ -154,7 +155,7 @@ loop-s-preserved c =
           c.as_slice-s-items.result.now c.loop-s.s-index _ _ c.get-statement.ensures c.s-item.is)
           c.may_mean.ensures w.if-may_mean.false) c.loop-s.invariant.added);
             there = subst (λ (fs : List CForm). slice_get fs c.in_ok-id.id.place ≡ Some (imply site.using c.args.q.now))
-          (sym (ap (λ p. p.forms) w.pool-is)) c.loop-s.invariant.there;
+          (sym (ap (λ (p : Pooled). p.forms) w.pool-is)) c.loop-s.invariant.there;
           }
     ]
 
