@@ -210,15 +210,24 @@ fn multiply_row(row: &mut Row, times: i128) -> bool {
     true
 }
 
-/// Takes a multiple of a row from another. Whether no number was too great. Most cells of a row are 0, and take
-/// nothing.
-fn take_multiple(by: &Row, times: i128, row: &mut Row) -> bool {
-    for (place, z) in by.cells.as_slice().iter().enumerate() {
+/// The places of the cells of a row that are not 0.
+fn filled_places(alloc: Global, row: &Row) -> Result<Seq<usize>, AllocError> {
+    let mut places = Seq::new(alloc);
+    for (place, z) in row.cells.as_slice().iter().enumerate() {
         if *z != 0 {
-            match less(cell(row, place), *z, times) {
-                Some(rest) => set_cell(row, place, rest),
-                None => return false,
-            }
+            places.push(place)?;
+        }
+    }
+    Ok(places)
+}
+
+/// Takes a multiple of a row, of which only the cells at these places are not 0, from another. Whether no number was
+/// too great.
+fn take_multiple(by: &Row, places: &[usize], times: i128, row: &mut Row) -> bool {
+    for place in places {
+        match less(cell(row, *place), cell(by, *place), times) {
+            Some(rest) => set_cell(row, *place, rest),
+            None => return false,
         }
     }
     true
@@ -229,9 +238,9 @@ fn less(a: i128, b: i128, c: i128) -> Option<i128> {
     a.checked_sub(product(b, c)?)
 }
 
-/// Adds a multiple of a row to a positive multiple of another, so that the cell of a column becomes 0.
-/// Whether no number was too great.
-fn clear_cell(by: &Row, column: usize, row: &mut Row) -> bool {
+/// Adds a multiple of a row, of which only the cells at these places are not 0, to a positive multiple of another,
+/// so that the cell of a column becomes 0. Whether no number was too great.
+fn clear_cell(by: &Row, places: &[usize], column: usize, row: &mut Row) -> bool {
     let one = cell(by, column);
     let other = cell(row, column);
     if other == 0 {
@@ -240,7 +249,7 @@ fn clear_cell(by: &Row, column: usize, row: &mut Row) -> bool {
     if one != 1 && !multiply_row(row, one) {
         return false;
     }
-    if !take_multiple(by, other, row) {
+    if !take_multiple(by, places, other, row) {
         return false;
     }
     lighten(row);
@@ -272,17 +281,30 @@ fn put_row(place: usize, row: Row, rows: &mut Seq<Row>) {
 }
 
 /// Clears a column in the row at a place. Whether no number was too great.
-fn clear_at(alloc: Global, by: &Row, column: usize, place: usize, rows: &mut Seq<Row>) -> bool {
+fn clear_at(
+    alloc: Global,
+    by: &Row,
+    places: &[usize],
+    column: usize,
+    place: usize,
+    rows: &mut Seq<Row>,
+) -> bool {
     let mut row = take_row(alloc, place, rows);
-    let fits = clear_cell(by, column, &mut row);
+    let fits = clear_cell(by, places, column, &mut row);
     put_row(place, row, rows);
     fits
 }
 
 /// Clears a column in all rows. Whether no number was too great.
-fn clear_column(alloc: Global, by: &Row, column: usize, rows: &mut Seq<Row>) -> bool {
+fn clear_column(
+    alloc: Global,
+    by: &Row,
+    places: &[usize],
+    column: usize,
+    rows: &mut Seq<Row>,
+) -> bool {
     for place in 0..rows.len() {
-        if !clear_at(alloc, by, column, place, rows) {
+        if !clear_at(alloc, by, places, column, place, rows) {
             return false;
         }
     }
@@ -290,17 +312,23 @@ fn clear_column(alloc: Global, by: &Row, column: usize, rows: &mut Seq<Row>) -> 
 }
 
 /// Solves a row for a column. Whether no number was too great.
-fn pivot(alloc: Global, place: usize, column: usize, tableau: &mut Tableau) -> bool {
+fn pivot(
+    alloc: Global,
+    place: usize,
+    column: usize,
+    tableau: &mut Tableau,
+) -> Result<bool, AllocError> {
     let mut row = take_row(alloc, place, &mut tableau.rows);
-    let fits = clear_column(alloc, &row, column, &mut tableau.rows)
-        && clear_cell(&row, column, &mut tableau.goal);
+    let places = filled_places(alloc, &row)?;
+    let fits = clear_column(alloc, &row, places.as_slice(), column, &mut tableau.rows)
+        && clear_cell(&row, places.as_slice(), column, &mut tableau.goal);
     row.basis = u32::try_from(column).ok();
     put_row(place, row, &mut tableau.rows);
-    fits
+    Ok(fits)
 }
 
 /// Lessens the goal until no column does any more. Whether it became 0.
-fn solve(alloc: Global, tableau: &mut Tableau) -> bool {
+fn solve(alloc: Global, tableau: &mut Tableau) -> Result<bool, AllocError> {
     let steps = 4
         * tableau
             .width
@@ -308,16 +336,16 @@ fn solve(alloc: Global, tableau: &mut Tableau) -> bool {
             .min(1 << 16);
     for _ in 0..steps {
         let Some(column) = entering(tableau) else {
-            return cell(&tableau.goal, tableau.width) == 0;
+            return Ok(cell(&tableau.goal, tableau.width) == 0);
         };
         let Some(place) = leaving(tableau, column) else {
-            return false;
+            return Ok(false);
         };
-        if !pivot(alloc, place, column, tableau) {
-            return false;
+        if !pivot(alloc, place, column, tableau)? {
+            return Ok(false);
         }
     }
-    false
+    Ok(false)
 }
 
 /// A multiplier as a fraction in lowest terms.
@@ -419,7 +447,7 @@ pub fn multipliers(
     let Some(mut tableau) = first_tableau(alloc, rows, width)? else {
         return Ok(None);
     };
-    if solve(alloc, &mut tableau) {
+    if solve(alloc, &mut tableau)? {
         multiples(alloc, &tableau)
     } else {
         Ok(None)
