@@ -10,17 +10,20 @@ use Rattle.unity_parser.proofs.Readings.{one_document}
 use Rattle.core_terms.specs.declared.documents.CDocument.{CDocument}
 use Rattle.expand_documents.specs.Cores.{core_document}
 use Rattle.cli_texts.specs.Refusals.{fault_text, refusal_text}
+use Rattle.cli_texts.specs.Verdicts.{rejected_text}
 use Rattle.cli_words.specs.Requests.{Request, watch}
 use Rattle.trace_watch.specs.declared.tracing.Ending.{Ending}
+use Rattle.trace_watch.specs.declared.violations.Violation.{Violation}
 use Rattle.watch_schedules.specs.declared.error.WatchStop.{WatchStop}
 use Rattle.watch_schedules.specs.declared.watching.WatchedSchedule.{WatchedSchedule}
 use Rattle.watch_schedules.specs.Schedules.{Finds, IsWatched as IsFound}
 use Rattle.watch_schedules.specs.Telling.{schedule_text}
-use Rattle.watch_correct.specs.Watched.{IsWatched, Stops}
+use Rattle.watch_correct.specs.Watched.{IsWatched, Stops, Watches}
 use Rattle.watch_correct.specs.Laws.{HasCore}
 use Rattle.watch_correct.proofs.Finding.{none_violated, watches_say}
 use Rattle.unity_cli.specs.declared.status.Status.{Status}
-use Rattle.unity_cli.specs.declared.input.AdmittedDocument.{AdmittedDocument}
+use Rattle.streamed_documents.specs.declared.found.ReadDocument.{ReadDocument}
+use Rattle.unity_cli.specs.declared.input.Input.{Input}
 use Rattle.unity_cli.specs.declared.input.Text.{Text}
 use Rattle.unity_cli.specs.declared.output.Answer.{Answer as Told}
 use Rattle.unity_cli.specs.Status.{HasText}
@@ -28,7 +31,7 @@ use Rattle.unity_cli.specs.Admitted.{greatest_size, IsAdmitted}
 use Rattle.unity_cli.specs.Answer.{Answer, most_bytes}
 use Rattle.unity_cli.specs.Answer.Watch.{ending_status, IsBroken, IsKept, IsNotWatched, Watched}
 use Rattle.unity_cli.specs.Answer.Watch as watches
-use Rattle.unity_cli.specs.Answering.{IsStoppedFor, IsWatchedIn, TellsText}
+use Rattle.unity_cli.specs.Answering.{IsBadWith, IsStoppedFor, IsWatchedIn, Telling, TellsText}
 use Rattle.unity_cli.specs.Following.{FollowsTheRules}
 use Rattle.unity_cli.specs.Input.{IsAdmittedAs, IsTextOf}
 use Rattle.unity_cli.specs.Watching.{WritesEnding, WritesFirstViolation}
@@ -74,11 +77,11 @@ ended_watched bytes d read (Ending.Violated place v) text w = record {
 ended_watched bytes d read Ending.Unviolated text w = record { document = d; read = read; watched = w }
 
 -- the trace of a document's core form ends so: this is an answer for the bytes
-pub found_watched : (r : AdmittedDocument) (w : WatchedSchedule) → IsFound r.core w → (status : Status)
+pub found_watched : (r : ReadDocument) (w : WatchedSchedule) → IsFound r.core w → (status : Status)
     (text : List ℕ) → status ≡ ending_status w.ending → text ≡ schedule_text r.core w → (bytes : List ℕ) →
     IsAdmittedAs greatest_size bytes r → Watched bytes status text
 found_watched r w found status text e t bytes is =
-    let d = r.document in
+    let d = is.document in
     let found_core = subst (λ (c : CDocument). IsFound c w) is.core_is found in
     let told = watches_say d (core_read bytes d is.read) (Ok w) found_core in
     subst (λ s. Watched bytes s text) (sym e)
@@ -113,10 +116,10 @@ stopped_so bytes d read WatchStop.TooManyCases h a s =
 stopped_so bytes d read WatchStop.Memory h a s = absurd s
 
 -- the schedule of its core form is not watched: so is this
-pub stopped_watched : {E : Type 0} (r : AdmittedDocument) (stop : WatchStop) → Finds r.core (Err stop) →
+pub stopped_watched : {E : Type 0} (r : ReadDocument) (stop : WatchStop) → Finds r.core (Err stop) →
     (answer : Result Told E) → IfOk answer (IsStoppedFor r.core.words stop) → IfOk answer (IsWatchedIn r)
 stopped_watched r stop found (Ok a) s = λ bytes is.
-    let d = r.document in
+    let d = is.document in
     let found_core = subst (λ (c : CDocument). Finds c (Err stop)) is.core_is found in
     stopped_so bytes d is.read stop (watches_say d (core_read bytes d is.read) (Err stop) found_core) a
     (subst (λ (c : CDocument). IsStoppedFor c.words stop a) is.core_is s)

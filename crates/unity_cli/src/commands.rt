@@ -24,7 +24,7 @@ pub const GREATEST_SIZE: usize = 67_108_864;
 
 /// The greatest number of bytes of a text that is written again: with certificates that are to be found, or in
 /// version 2.
-const GREATEST_BARE_SIZE: usize = 8_388_608;
+pub const GREATEST_BARE_SIZE: usize = 8_388_608;
 
 /// The greatest number of bytes that the command takes.
 pub fn most_bytes(command: &Command) -> usize

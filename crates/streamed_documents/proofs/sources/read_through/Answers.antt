@@ -1,14 +1,14 @@
 use Rattle.std.proofs.Common.{◌∙◌, inr, subst, arith}
 use Rattle.unity_lexer.specs.Tokens.{AreInOrder}
 use Rattle.unity_lexer.specs.Scans.{IsFrontError}
-use Rattle.streamed_documents.specs.declared.found.Finding.{Finding}
+use Rattle.streamed_documents.specs.declared.fronts.Passage.{Passage}
 use Rattle.streamed_documents.proofs.Answers.{found_from, drained_refused, found_at, long_found, long_out}
 use Rattle.streamed_documents.proofs.Answers.{kept_same, rest_same, rest_from}
 use Rattle.streamed_documents.proofs.Passing.{out_from, flaw_from, rest_of}
-use Rattle.streamed_documents.proofs.sources.judge_source.Goals as goal
+use Rattle.streamed_documents.proofs.sources.read_through.Goals as goal
 
-pub judge_front-requires : goal.judge_front-requires
-judge_front-requires g c =
+pub pass_front-requires : goal.pass_front-requires
+pass_front-requires g c =
     let same = c.read_front.ensures.passed.limit in
     record {
       orderly = record {
@@ -24,21 +24,21 @@ judge_front-requires g c =
 pub returns-in-Ok-clause-found : goal.returns-in-Ok-clause-found
 returns-in-Ok-clause-found g c =
     found_from c.in_ok-w.w c.read_front.new.w (g.S.Source.left c.args.src.now) (g.S.Source.left c.read_front.new.src)
-    c.in-Ok.front c.args.most c.judge_front.result c.in_ok-w.ensures.held c.in_ok-w.ensures.at c.in_ok-w.ensures.limit
-    c.read_front.ensures.passed c.in-Ok.ensures.front c.judge_front.ensures.found
+    c.in-Ok.front c.args.most c.pass_front.result c.in_ok-w.ensures.held c.in_ok-w.ensures.at c.in_ok-w.ensures.limit
+    c.read_front.ensures.passed c.in-Ok.ensures.front c.pass_front.ensures.found
 
 pub returns-in-Ok-clause-end : goal.returns-in-Ok-clause-end
 returns-in-Ok-clause-end g c =
-    out_from c.in_ok-w.w c.read_front.new.w c.judge_front.new.w (g.S.Source.left c.args.src.now)
-    (g.S.Source.left c.read_front.new.src) (g.S.Source.left c.judge_front.new.src) c.args.most c.judge_front.result
+    out_from c.in_ok-w.w c.read_front.new.w c.pass_front.new.w (g.S.Source.left c.args.src.now)
+    (g.S.Source.left c.read_front.new.src) (g.S.Source.left c.pass_front.new.src) c.args.most c.pass_front.result
     c.in_ok-w.ensures.held c.in_ok-w.ensures.at c.in_ok-w.ensures.limit c.read_front.ensures.passed
-    c.judge_front.ensures.end
+    c.pass_front.ensures.end
 
 pub returns-in-Ok-clause-rest : goal.returns-in-Ok-clause-rest
 returns-in-Ok-clause-rest g c =
-    rest_from c.in_ok-w.w c.read_front.new.w c.judge_front.new.w (g.S.Source.left c.args.src.now)
-    (g.S.Source.left c.read_front.new.src) (g.S.Source.left c.judge_front.new.src) c.in_ok-w.ensures.held
-    c.read_front.ensures.passed c.judge_front.ensures.passed
+    rest_from c.in_ok-w.w c.read_front.new.w c.pass_front.new.w (g.S.Source.left c.args.src.now)
+    (g.S.Source.left c.read_front.new.src) (g.S.Source.left c.pass_front.new.src) c.in_ok-w.ensures.held
+    c.read_front.ensures.passed c.pass_front.ensures.passed
 
 pub returns-in-Err-Fault-clause-found : goal.returns-in-Err-Fault-clause-found
 returns-in-Err-Fault-clause-found g c = λ bytes left.
@@ -46,7 +46,7 @@ returns-in-Err-Fault-clause-found g c = λ bytes left.
     let x = c.read_front.new.w in
     let a = g.S.Source.left c.args.src.now in
     let b = g.S.Source.left c.read_front.new.src in
-    found_at c.args.most x.limit bytes (Finding.Refused c.in_ok-drained-in-Err-Fault.field-0)
+    found_at c.args.most x.limit bytes (Passage.Refused c.in_ok-drained-in-Err-Fault.field-0)
     (c.read_front.ensures.passed.limit ∙ c.in_ok-w.ensures.limit)
     (drained_refused w x a b bytes c.in-Err-Fault.code c.in-Err-Fault.at c.in_ok-drained-in-Err-Fault.field-0
     c.in_ok-w.ensures.held c.in_ok-w.ensures.at c.read_front.ensures.passed left
