@@ -18,7 +18,7 @@ use Rattle.unity_lexer.specs.Scans.{ReadsTo, IsScan, TokenRises}
 use Rattle.unity_lexer.proofs.Reading.{token_at}
 use Rattle.unity_lexer.proofs.Scanning.{held_gap, reads_start, reads_more, reads_pass, reads_word, reads_held}
 use Rattle.unity_lexer.proofs.SomeAnswer.{reads_place}
-use Rattle.unity_lexer.proofs.Taking.{taken_read, taken_then, taken_front, taken_passed, passed_taken}
+use Rattle.unity_lexer.proofs.Taking.{taken_none, taken_read, taken_then, taken_front, taken_passed, passed_taken}
 use Rattle.unity_lexer.proofs.Taking.{shown_fits}
 
 -- where they are told, the bytes that came are read into these tokens, up to those that come
@@ -33,6 +33,9 @@ pub read_reading : (u v w : Window) (a b c : Option (List ℕ)) (ts : List Token
 read_reading u v w a b c ts r q = λ bytes e. reads_more u.at bytes ts v w b c (r bytes e) q
 
 -- ---- what was dropped
+
+pub start_passed : (w : Window) (a : Option (List ℕ)) → HasPassed w w a a
+start_passed w a = taken_passed w w a a [] (taken_none w a)
 
 pub read_passed : (u v w : Window) (a b c : Option (List ℕ)) → HasPassed u v a b → HasRead v w b c → HasPassed u w a c
 read_passed u v w a b c p q =
