@@ -18,7 +18,6 @@ use Rattle.streamed_documents.specs.declared.found.Finding.{Finding}
 use Rattle.streamed_documents.specs.declared.found.ReadDocument.{ReadDocument}
 use Rattle.streamed_documents.specs.declared.found.Reading.{Reading}
 use Rattle.streamed_documents.specs.declared.found.Flaw.{Flaw}
-use Rattle.unity_cli.specs.declared.input.Input.{Input}
 use Rattle.unity_cli.specs.declared.output.Answer.{Answer as Told}
 use Rattle.unity_cli.specs.declared.status.Status.{Status}
 use Rattle.unity_cli.specs.Status.{HasText}
@@ -26,7 +25,7 @@ use Rattle.unity_cli.specs.Admitted.{greatest_size, IsAdmitted, IsBad}
 use Rattle.unity_cli.specs.Admitted as admitted
 use Rattle.unity_cli.specs.Answer.Check.{Checked, IsAccepted, IsCheckText}
 use Rattle.unity_cli.specs.Answer.{reads_source, Answer, IsSaidOf, Tells, TellsPart}
-use Rattle.unity_cli.specs.Input.{IsAdmittedAs, IsInput}
+use Rattle.unity_cli.specs.Input.{IsAdmittedAs}
 use Rattle.unity_cli.specs.Answering.{Telling}
 use Rattle.unity_cli.specs.Following.{FollowsTheRules}
 use Rattle.unity_cli.specs.Starts.{ProgramsStart}
@@ -76,11 +75,6 @@ bytes_checked bytes found (Ok a) checks is = checks bytes is
 bytes_checked bytes found (Err e) checks is = tt
 
 -- ---- what was read
-
-pub refused_input : (reading : Reading) (flaw : Flaw) (input : Input) → reading ≡ Reading.Refused flaw
-    → ((most : ℕ) (bytes : List ℕ) → IsRefused most bytes flaw → IsInput most bytes input) → (most : ℕ)
-    (bytes : List ℕ) → IsReading most bytes reading → IsInput most bytes input
-refused_input reading flaw input e refused most bytes h = refused most bytes (subst (IsReading most bytes) e h)
 
 pub document_input : (reading : Reading) (r : ReadDocument) → reading ≡ Reading.Document r → (most : ℕ)
     (bytes : List ℕ) → IsReading most bytes reading → IsAdmittedAs most bytes r

@@ -23,7 +23,6 @@ wider bytes d read =
     let few = read.size in
     record { size = omega (arith, few); reading = read.reading }
 
-
 -- its upgraded text is accepted
 
 accepted_again : (bytes verdict : List ℕ) (a : IsAccepted bytes verdict) →

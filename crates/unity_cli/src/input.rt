@@ -2,7 +2,7 @@
 ghost use Rattle.std.specs.Prelude.{◌≤◌, ◌⊎◌, ◌^◌, ℕ, List, IfOk, OnOk, IsErrOf};
 ghost use Rattle.std.specs.Io.KnownBytes.{IsAtEnd};
 ghost use Rattle.unity_base.specs.Streams.{IsTold, IsLongerThan, LeavesRest};
-ghost use Rattle.streamed_documents.specs.Found.{IsReading};
+ghost use Rattle.streamed_documents.specs.Found.{IsReading, IsRefused};
 ghost use Rattle.unity_cli.specs.Input.{IsInput, IsTextOf};
 
 use crate::stop::Stop;
@@ -23,13 +23,22 @@ pub enum Input {
     Document(Held<ReadDocument>),
 }
 
+// What bytes are that are refused so.
+fn refused(flaw: Flaw) -> Input
+    ensures { (most : ℕ) (bytes : List ℕ) → IsRefused most bytes flaw → IsInput most bytes result }
+{
+    match flaw {
+        Flaw::TooLong => Input::TooLong,
+        Flaw::Fault { code, at } => Input::Fault { code, at },
+    }
+}
+
 // What bytes are that are read so.
 fn input_of(reading: Reading) -> Input
     ensures { (most : ℕ) (bytes : List ℕ) → IsReading most bytes reading → IsInput most bytes result }
 {
     match reading {
-        Reading::Refused(Flaw::TooLong) => Input::TooLong,
-        Reading::Refused(Flaw::Fault { code, at }) => Input::Fault { code, at },
+        Reading::Refused(flaw) => refused(flaw),
         Reading::Document(document) => Input::Document(document),
     }
 }
