@@ -7,7 +7,6 @@ pub mod HeavierLaws
 pub mod IntTests
 pub mod KnownLaws
 pub mod LighterLaws
-mod LookLaws
 mod MarkLaws
 mod MergeLaws
 mod NodeLaws

@@ -4,8 +4,6 @@
 
 pub mod deep_certificates;
 pub mod deep_obligations;
-#[cfg(test)]
-mod deep_pools;
 pub mod deep_trees;
 pub mod preconditions;
 #[cfg(test)]

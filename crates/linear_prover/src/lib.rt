@@ -8,7 +8,6 @@ mod closing;
 mod columns;
 mod elimination;
 mod judging;
-mod keys;
 mod reach;
 
 pub use closing::close;

@@ -156,10 +156,7 @@ fn greatest_divisor(a: u128, b: u128) -> u128 {
 fn divisor_of_cells(cells: &[i128]) -> u128 {
     let mut common = 0;
     for z in cells {
-        if common == 1 {
-            return 1;
-        }
-        if *z != 0 {
+        if common != 1 {
             common = greatest_divisor(z.unsigned_abs(), common);
         }
     }
@@ -191,69 +188,27 @@ fn lighten(row: &mut Row) {
     }
 }
 
-/// The product of two numbers. `None` where it is too great.
-fn product(a: i128, b: i128) -> Option<i128> {
-    match (i64::try_from(a), i64::try_from(b)) {
-        (Ok(small), Ok(other)) => i128::from(small).checked_mul(i128::from(other)),
-        _ => a.checked_mul(b),
-    }
-}
-
-/// Multiplies all cells of a row. Whether no number was too great.
-fn multiply_row(row: &mut Row, times: i128) -> bool {
-    for place in 0..row.cells.len() {
-        match product(cell(row, place), times) {
-            Some(z) => set_cell(row, place, z),
-            None => return false,
-        }
-    }
-    true
-}
-
-/// The places of the cells of a row that are not 0.
-fn filled_places(alloc: Global, row: &Row) -> Result<Seq<usize>, AllocError> {
-    let mut places = Seq::new(alloc);
-    for (place, z) in row.cells.as_slice().iter().enumerate() {
-        if *z != 0 {
-            places.push(place)?;
-        }
-    }
-    Ok(places)
-}
-
-/// Takes a multiple of a row, of which only the cells at these places are not 0, from another. Whether no number was
-/// too great.
-fn take_multiple(by: &Row, places: &[usize], times: i128, row: &mut Row) -> bool {
-    for place in places {
-        match less(cell(row, *place), cell(by, *place), times) {
-            Some(rest) => set_cell(row, *place, rest),
-            None => return false,
-        }
-    }
-    true
-}
-
-/// a - b * c. `None` where a number is too great.
-fn less(a: i128, b: i128, c: i128) -> Option<i128> {
-    a.checked_sub(product(b, c)?)
-}
-
-/// Adds a multiple of a row, of which only the cells at these places are not 0, to a positive multiple of another,
-/// so that the cell of a column becomes 0. Whether no number was too great.
-fn clear_cell(by: &Row, places: &[usize], column: usize, row: &mut Row) -> bool {
+/// Adds a multiple of a row to a positive multiple of another, so that the cell of a column becomes 0.
+/// Whether no number was too great.
+fn clear_cell(by: &Row, column: usize, row: &mut Row) -> bool {
     let one = cell(by, column);
     let other = cell(row, column);
     if other == 0 {
         return true;
     }
-    if one != 1 && !multiply_row(row, one) {
-        return false;
-    }
-    if !take_multiple(by, places, other, row) {
-        return false;
+    for place in 0..row.cells.len() {
+        match cleared(cell(row, place), one, cell(by, place), other) {
+            Some(z) => set_cell(row, place, z),
+            None => return false,
+        }
     }
     lighten(row);
     true
+}
+
+/// a * b - c * d. `None` where a number is too great.
+fn cleared(a: i128, b: i128, c: i128, d: i128) -> Option<i128> {
+    a.checked_mul(b)?.checked_sub(c.checked_mul(d)?)
 }
 
 /// A row without cells. It takes no memory.
@@ -281,30 +236,17 @@ fn put_row(place: usize, row: Row, rows: &mut Seq<Row>) {
 }
 
 /// Clears a column in the row at a place. Whether no number was too great.
-fn clear_at(
-    alloc: Global,
-    by: &Row,
-    places: &[usize],
-    column: usize,
-    place: usize,
-    rows: &mut Seq<Row>,
-) -> bool {
+fn clear_at(alloc: Global, by: &Row, column: usize, place: usize, rows: &mut Seq<Row>) -> bool {
     let mut row = take_row(alloc, place, rows);
-    let fits = clear_cell(by, places, column, &mut row);
+    let fits = clear_cell(by, column, &mut row);
     put_row(place, row, rows);
     fits
 }
 
 /// Clears a column in all rows. Whether no number was too great.
-fn clear_column(
-    alloc: Global,
-    by: &Row,
-    places: &[usize],
-    column: usize,
-    rows: &mut Seq<Row>,
-) -> bool {
+fn clear_column(alloc: Global, by: &Row, column: usize, rows: &mut Seq<Row>) -> bool {
     for place in 0..rows.len() {
-        if !clear_at(alloc, by, places, column, place, rows) {
+        if !clear_at(alloc, by, column, place, rows) {
             return false;
         }
     }
@@ -312,23 +254,17 @@ fn clear_column(
 }
 
 /// Solves a row for a column. Whether no number was too great.
-fn pivot(
-    alloc: Global,
-    place: usize,
-    column: usize,
-    tableau: &mut Tableau,
-) -> Result<bool, AllocError> {
+fn pivot(alloc: Global, place: usize, column: usize, tableau: &mut Tableau) -> bool {
     let mut row = take_row(alloc, place, &mut tableau.rows);
-    let places = filled_places(alloc, &row)?;
-    let fits = clear_column(alloc, &row, places.as_slice(), column, &mut tableau.rows)
-        && clear_cell(&row, places.as_slice(), column, &mut tableau.goal);
+    let fits = clear_column(alloc, &row, column, &mut tableau.rows)
+        && clear_cell(&row, column, &mut tableau.goal);
     row.basis = u32::try_from(column).ok();
     put_row(place, row, &mut tableau.rows);
-    Ok(fits)
+    fits
 }
 
 /// Lessens the goal until no column does any more. Whether it became 0.
-fn solve(alloc: Global, tableau: &mut Tableau) -> Result<bool, AllocError> {
+fn solve(alloc: Global, tableau: &mut Tableau) -> bool {
     let steps = 4
         * tableau
             .width
@@ -336,16 +272,16 @@ fn solve(alloc: Global, tableau: &mut Tableau) -> Result<bool, AllocError> {
             .min(1 << 16);
     for _ in 0..steps {
         let Some(column) = entering(tableau) else {
-            return Ok(cell(&tableau.goal, tableau.width) == 0);
+            return cell(&tableau.goal, tableau.width) == 0;
         };
         let Some(place) = leaving(tableau, column) else {
-            return Ok(false);
+            return false;
         };
-        if !pivot(alloc, place, column, tableau)? {
-            return Ok(false);
+        if !pivot(alloc, place, column, tableau) {
+            return false;
         }
     }
-    Ok(false)
+    false
 }
 
 /// A multiplier as a fraction in lowest terms.
@@ -447,7 +383,7 @@ pub fn multipliers(
     let Some(mut tableau) = first_tableau(alloc, rows, width)? else {
         return Ok(None);
     };
-    if solve(alloc, &mut tableau)? {
+    if solve(alloc, &mut tableau) {
         multiples(alloc, &tableau)
     } else {
         Ok(None)

@@ -6,4 +6,3 @@ pub mod Hearings
 pub mod SectionSteps
 pub mod Certificates
 pub mod Answers
-pub mod AtHand

@@ -3,4 +3,3 @@ pub mod Found
 pub mod Fronts
 pub mod Hearing
 pub mod Rests
-pub mod Slices

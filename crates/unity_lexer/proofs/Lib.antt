@@ -1,5 +1,4 @@
 pub mod Begins
-pub mod Blanks
 pub mod Coming
 pub mod Decided
 pub mod FrontSteps

@@ -76,10 +76,6 @@ second_opens f g e =
     let none = truth-And f g ∙ none_second (λ x y. x && y) (truth_of f) (truth_of g) e in
     ap truth_of (not_folded (truth_of (And f g)) (And f g) none) ∙ none
 
-pub open_larger : (f g : CForm) (limit : ℕ) → truth_of f ≡ None → limit < form_nodes f →
-    limit < form_nodes (and_form f g)
-open_larger f g limit e h = omega (arith, (first_opens f g e).1, h)
-
 -- each further formula makes an open one larger
 open_grows : (f : CForm) (gs : List CForm) → truth_of f ≡ None →
     (truth_of (and_all f gs) ≡ None) × (form_nodes f + length gs ≤ form_nodes (and_all f gs))

