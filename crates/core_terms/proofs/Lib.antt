@@ -7,6 +7,7 @@ pub mod HeavierLaws
 pub mod IntTests
 pub mod KnownLaws
 pub mod LighterLaws
+mod LookLaws
 mod MarkLaws
 mod MergeLaws
 mod NodeLaws

@@ -1,5 +1,5 @@
 -- What a pool keeps where a node is put into it.
-use Rattle.std.proofs.Common.{◌≡◌, ℕ, ◌<◌, ◌≤◌, ℤ, pos, List, [], ◌∷◌, ◌++◌, map, length, take, Some}
+use Rattle.std.proofs.Common.{◌≡◌, ℕ, ◌<◌, ◌≤◌, pos, List, [], ◌∷◌, ◌++◌, map, length, take, Some}
 use Rattle.std.proofs.Common.{refl, sym, ap, ◌∙◌, subst, arith}
 use Rattle.std.specs.Prelude.{slice_get}
 use Rattle.std.specs.Option.{option_map}
@@ -9,7 +9,7 @@ use Rattle.std.proofs.lemmas.Option.{slice_get-map}
 use Rattle.std.proofs.lemmas.List.{length-append, length-map, map-append}
 use Rattle.std.proofs.lemmas.List.Elements.{All-weaker, All-push}
 use Rattle.core_terms.specs.declared.trees.CTerm.{CTerm}
-use Rattle.core_terms.specs.declared.trees.CTerm.TheVariants.{Const, Scale, Div, Mod}
+use Rattle.core_terms.specs.declared.trees.CTerm.TheVariants.{Const}
 use Rattle.core_terms.specs.declared.trees.CForm.{CForm}
 use Rattle.core_terms.specs.declared.trees.CForm.TheVariants.{Top}
 use Rattle.core_terms.specs.declared.nodes.FormNode.{FormNode}
@@ -18,7 +18,7 @@ use Rattle.core_terms.specs.declared.entries.FormEntry.{FormEntry}
 use Rattle.core_terms.specs.declared.entries.TermEntry.{TermEntry}
 use Rattle.core_terms.specs.Pools.{form_trees, term_trees, form_or, term_or, form_of_node, term_of_node, IsFormWithin}
 use Rattle.core_terms.specs.Pools.{IsTermWithin, Pooled, IsPool, Grows}
-use Rattle.core_terms.proofs.PlaceLaws.{keeps_more, at_place, read, once_more, same_map, made_of}
+use Rattle.core_terms.proofs.PlaceLaws.{keeps_more, at_place, once_more, same_map, made_of}
 use Rattle.core_terms.proofs.NodeLaws.{form_stays, term_stays, form_wider, term_wider, same_node, same_term_node}
 
 -- what stays
@@ -267,18 +267,3 @@ pub taken_out : {X : Type 0} (xs ys zs : List X) (x : X) (n : ℕ) → n ≡ len
     zs ≡ take n ys → zs ≡ xs
 taken_out xs ys zs x n e p q =
     q ∙ ap (λ l. take n l) p ∙ ap (λ k. take k (xs ++ x ∷ [])) e ∙ take-append_seam xs (x ∷ [])
-
--- trees over a number, from the part that stands at a place
-
-pub multiple_there : (ts : List CTerm) (i : ℕ) (k l : ℤ) (t a u : CTerm) → t ≡ Scale k a → l ≡ k → u ≡ a →
-    slice_get ts i ≡ Some u → Scale l (term_or ts i) ≡ t
-multiple_there ts i k l t a u e n p h =
-    (λ j. Scale (n j) ((read ts i u (Const (pos 0)) h ∙ p) j)) ∙ sym e
-
-pub quotient_there : (ts : List CTerm) (i : ℕ) (k l : ℤ) (t a u : CTerm) → t ≡ Div a k → l ≡ k → u ≡ a →
-    slice_get ts i ≡ Some u → Div (term_or ts i) l ≡ t
-quotient_there ts i k l t a u e n p h = (λ j. Div ((read ts i u (Const (pos 0)) h ∙ p) j) (n j)) ∙ sym e
-
-pub remainder_there : (ts : List CTerm) (i : ℕ) (k l : ℤ) (t a u : CTerm) → t ≡ Mod a k → l ≡ k → u ≡ a →
-    slice_get ts i ≡ Some u → Mod (term_or ts i) l ≡ t
-remainder_there ts i k l t a u e n p h = (λ j. Mod ((read ts i u (Const (pos 0)) h ∙ p) j) (n j)) ∙ sym e

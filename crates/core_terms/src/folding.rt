@@ -178,7 +178,7 @@ fn found_truth(f: &CForm) -> Option<bool>
     }
 }
 
-// So many times a number.
+/// So many times a number.
 pub fn scaled(k: i64, number: i128) -> i128
     requires { unsigned_abs k * unsigned_abs number ≤ 2 ^ 126 }
     ensures value { result ≡ k *ℤ number }

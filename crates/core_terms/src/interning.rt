@@ -1,11 +1,14 @@
-// A tree put into the tables of a pool, part by part. Nodes of several parts have functions of their own, so that the
-// frames are small.
+// A tree put into the tables of a pool, part by part. Each kind of node has a function of its own, and each kind of
+// entry, so that the frames are small.
 ghost use Rattle.std.specs.Prelude.{◌≡◌, Some, slice_get, IfOk};
 ghost use Rattle.core_terms.specs.declared.trees.CTerm.TheVariants as term;
+ghost use Rattle.core_terms.specs.declared.trees.CForm.TheVariants as form;
 ghost use Rattle.core_terms.specs.Pools.{pooled, IsPool, Grows};
+ghost use Rattle.core_terms.specs.Senses.{pair_node, sense_node, joined_node};
 
-use crate::nodes::{FormId, FormNode, TermId, TermNode};
-use crate::placing::{place_form, place_term};
+use crate::known::{Joining, Pairing, Sense};
+use crate::nodes::{FormId, TermId};
+use crate::placing;
 use crate::tables::Tables;
 use crate::trees::{CForm, CTerm};
 use std::alloc::AllocError;
@@ -15,7 +18,6 @@ use unity_base::Shared;
 ///
 /// An error says that memory was refused; all that the tables held stays.
 #[cycle(interning)]
-#[tactic(auto, using(crate::proofs::PoolLaws::grown))]
 pub fn put_form(tables: &mut Tables, f: &CForm) -> Result<FormId, AllocError>
     requires whole { IsPool (pooled tables.old) }
     ensures tree { IfOk result (λ id. slice_get (pooled tables.new).forms id.place ≡ Some f.now) }
@@ -23,55 +25,66 @@ pub fn put_form(tables: &mut Tables, f: &CForm) -> Result<FormId, AllocError>
     ensures kept { Grows (pooled tables.old) (pooled tables.new) }
 {
     match f {
-        CForm::Top => place_form(tables, FormNode::Top),
-        CForm::Bottom => place_form(tables, FormNode::Bottom),
-        CForm::AtLeast(t) => {
-            let part = put_term(tables, t)?;
-            place_form(tables, FormNode::AtLeast(part))
-        }
-        CForm::Zero(t) => {
-            let part = put_term(tables, t)?;
-            place_form(tables, FormNode::Zero(part))
-        }
-        CForm::Not(g) => {
-            let part = put_form(tables, g.get())?;
-            place_form(tables, FormNode::Not(part))
-        }
-        CForm::And(g, h) => {
-            let (first, second) = put_forms(tables, g, h)?;
-            place_form(tables, FormNode::And(first, second))
-        }
-        CForm::Or(g, h) => {
-            let (first, second) = put_forms(tables, g, h)?;
-            place_form(tables, FormNode::Or(first, second))
-        }
+        CForm::Top => placing::place_truth(tables, true),
+        CForm::Bottom => placing::place_truth(tables, false),
+        CForm::AtLeast(t) => put_sense(tables, Sense::AtLeast, t),
+        CForm::Zero(t) => put_sense(tables, Sense::Zero, t),
+        CForm::Not(g) => put_not(tables, g),
+        CForm::And(g, h) => put_joined(tables, Joining::Both, g, h),
+        CForm::Or(g, h) => put_joined(tables, Joining::Either, g, h),
     }
 }
 
 #[cycle(interning)]
 #[inline(never)]
 #[tactic(auto, using(crate::proofs::PoolLaws::grown))]
-fn put_forms(
+fn put_sense(tables: &mut Tables, sense: Sense, t: &CTerm) -> Result<FormId, AllocError>
+    requires whole { IsPool (pooled tables.old) }
+    ensures tree { IfOk result (λ id. slice_get (pooled tables.new).forms id.place ≡ Some (sense_node sense t.now)) }
+    ensures whole { IsPool (pooled tables.new) }
+    ensures kept { Grows (pooled tables.old) (pooled tables.new) }
+{
+    let part = put_term(tables, t)?;
+    placing::place_sense(tables, sense, part)
+}
+
+#[cycle(interning)]
+#[inline(never)]
+#[tactic(auto, using(crate::proofs::PoolLaws::grown))]
+fn put_not(tables: &mut Tables, g: &Shared<CForm>) -> Result<FormId, AllocError>
+    requires whole { IsPool (pooled tables.old) }
+    ensures tree { IfOk result (λ id. slice_get (pooled tables.new).forms id.place ≡ Some (form.Not g.now)) }
+    ensures whole { IsPool (pooled tables.new) }
+    ensures kept { Grows (pooled tables.old) (pooled tables.new) }
+{
+    let part = put_form(tables, g.get())?;
+    placing::place_not(tables, part)
+}
+
+#[cycle(interning)]
+#[inline(never)]
+#[tactic(auto, using(crate::proofs::PoolLaws::grown))]
+fn put_joined(
     tables: &mut Tables,
+    joining: Joining,
     g: &Shared<CForm>,
     h: &Shared<CForm>,
-) -> Result<(FormId, FormId), AllocError>
+) -> Result<FormId, AllocError>
     requires whole { IsPool (pooled tables.old) }
-    ensures first { IfOk result (λ ids. slice_get (pooled tables.new).forms ids.0.place ≡ Some g.now) }
-    ensures second { IfOk result (λ ids. slice_get (pooled tables.new).forms ids.1.place ≡ Some h.now) }
+    ensures tree { IfOk result (λ id. slice_get (pooled tables.new).forms id.place ≡
+        Some (joined_node joining g.now h.now)) }
     ensures whole { IsPool (pooled tables.new) }
     ensures kept { Grows (pooled tables.old) (pooled tables.new) }
 {
     let first = put_form(tables, g.get())?;
     let second = put_form(tables, h.get())?;
-    Ok((first, second))
+    placing::place_joined(tables, joining, first, second)
 }
 
 /// The place of a term, where it is put if it has none.
 ///
 /// An error says that memory was refused; all that the tables held stays.
 #[cycle(interning)]
-#[tactic(auto, using(crate::proofs::PoolLaws::grown))]
 pub fn put_term(tables: &mut Tables, t: &CTerm) -> Result<TermId, AllocError>
     requires whole { IsPool (pooled tables.old) }
     ensures tree { IfOk result (λ id. slice_get (pooled tables.new).terms id.place ≡ Some t.now) }
@@ -79,29 +92,14 @@ pub fn put_term(tables: &mut Tables, t: &CTerm) -> Result<TermId, AllocError>
     ensures kept { Grows (pooled tables.old) (pooled tables.new) }
 {
     match t {
-        CTerm::Const(c) => place_term(tables, TermNode::Const(*c)),
-        CTerm::Slot(n) => place_term(tables, TermNode::Slot(*n)),
-        CTerm::Param(n) => place_term(tables, TermNode::Param(*n)),
-        CTerm::Add(a, b) => {
-            let (first, second) = put_terms(tables, a, b)?;
-            place_term(tables, TermNode::Add(first, second))
-        }
-        CTerm::Sub(a, b) => {
-            let (first, second) = put_terms(tables, a, b)?;
-            place_term(tables, TermNode::Sub(first, second))
-        }
-        CTerm::Scale(k, a) => {
-            let part = put_term(tables, a.get())?;
-            place_term(tables, TermNode::Scale(*k, part))
-        }
-        CTerm::Div(a, k) => {
-            let part = put_term(tables, a.get())?;
-            place_term(tables, TermNode::Div(part, *k))
-        }
-        CTerm::Mod(a, k) => {
-            let part = put_term(tables, a.get())?;
-            place_term(tables, TermNode::Mod(part, *k))
-        }
+        CTerm::Const(c) => placing::place_constant(tables, *c),
+        CTerm::Slot(n) => placing::place_slot(tables, *n),
+        CTerm::Param(n) => placing::place_param(tables, *n),
+        CTerm::Add(a, b) => put_pair(tables, Pairing::Sum, a, b),
+        CTerm::Sub(a, b) => put_pair(tables, Pairing::Difference, a, b),
+        CTerm::Scale(k, a) => put_multiple(tables, *k, a),
+        CTerm::Div(a, k) => put_quotient(tables, a, *k),
+        CTerm::Mod(a, k) => put_remainder(tables, a, *k),
         CTerm::Ite(c, a, b) => put_choice(tables, c, a, b),
     }
 }
@@ -109,20 +107,60 @@ pub fn put_term(tables: &mut Tables, t: &CTerm) -> Result<TermId, AllocError>
 #[cycle(interning)]
 #[inline(never)]
 #[tactic(auto, using(crate::proofs::PoolLaws::grown))]
-fn put_terms(
+fn put_pair(
     tables: &mut Tables,
+    which: Pairing,
     a: &Shared<CTerm>,
     b: &Shared<CTerm>,
-) -> Result<(TermId, TermId), AllocError>
+) -> Result<TermId, AllocError>
     requires whole { IsPool (pooled tables.old) }
-    ensures first { IfOk result (λ ids. slice_get (pooled tables.new).terms ids.0.place ≡ Some a.now) }
-    ensures second { IfOk result (λ ids. slice_get (pooled tables.new).terms ids.1.place ≡ Some b.now) }
+    ensures tree { IfOk result (λ id. slice_get (pooled tables.new).terms id.place ≡
+        Some (pair_node which a.now b.now)) }
     ensures whole { IsPool (pooled tables.new) }
     ensures kept { Grows (pooled tables.old) (pooled tables.new) }
 {
     let first = put_term(tables, a.get())?;
     let second = put_term(tables, b.get())?;
-    Ok((first, second))
+    placing::place_pair(tables, which, first, second)
+}
+
+#[cycle(interning)]
+#[inline(never)]
+#[tactic(auto, using(crate::proofs::PoolLaws::grown))]
+fn put_multiple(tables: &mut Tables, k: i64, a: &Shared<CTerm>) -> Result<TermId, AllocError>
+    requires whole { IsPool (pooled tables.old) }
+    ensures tree { IfOk result (λ id. slice_get (pooled tables.new).terms id.place ≡ Some (term.Scale k a.now)) }
+    ensures whole { IsPool (pooled tables.new) }
+    ensures kept { Grows (pooled tables.old) (pooled tables.new) }
+{
+    let part = put_term(tables, a.get())?;
+    placing::place_multiple(tables, k, part)
+}
+
+#[cycle(interning)]
+#[inline(never)]
+#[tactic(auto, using(crate::proofs::PoolLaws::grown))]
+fn put_quotient(tables: &mut Tables, a: &Shared<CTerm>, k: i64) -> Result<TermId, AllocError>
+    requires whole { IsPool (pooled tables.old) }
+    ensures tree { IfOk result (λ id. slice_get (pooled tables.new).terms id.place ≡ Some (term.Div a.now k)) }
+    ensures whole { IsPool (pooled tables.new) }
+    ensures kept { Grows (pooled tables.old) (pooled tables.new) }
+{
+    let part = put_term(tables, a.get())?;
+    placing::place_quotient(tables, part, k)
+}
+
+#[cycle(interning)]
+#[inline(never)]
+#[tactic(auto, using(crate::proofs::PoolLaws::grown))]
+fn put_remainder(tables: &mut Tables, a: &Shared<CTerm>, k: i64) -> Result<TermId, AllocError>
+    requires whole { IsPool (pooled tables.old) }
+    ensures tree { IfOk result (λ id. slice_get (pooled tables.new).terms id.place ≡ Some (term.Mod a.now k)) }
+    ensures whole { IsPool (pooled tables.new) }
+    ensures kept { Grows (pooled tables.old) (pooled tables.new) }
+{
+    let part = put_term(tables, a.get())?;
+    placing::place_remainder(tables, part, k)
 }
 
 #[cycle(interning)]
@@ -135,12 +173,13 @@ fn put_choice(
     b: &Shared<CTerm>,
 ) -> Result<TermId, AllocError>
     requires whole { IsPool (pooled tables.old) }
-    ensures tree { IfOk result (λ id.
-        slice_get (pooled tables.new).terms id.place ≡ Some (term.Ite c.now a.now b.now)) }
+    ensures tree { IfOk result (λ id. slice_get (pooled tables.new).terms id.place ≡
+        Some (term.Ite c.now a.now b.now)) }
     ensures whole { IsPool (pooled tables.new) }
     ensures kept { Grows (pooled tables.old) (pooled tables.new) }
 {
     let condition = put_form(tables, c.get())?;
-    let (first, second) = put_terms(tables, a, b)?;
-    place_term(tables, TermNode::Ite(condition, first, second))
+    let first = put_term(tables, a.get())?;
+    let second = put_term(tables, b.get())?;
+    placing::place_choice(tables, condition, first, second)
 }

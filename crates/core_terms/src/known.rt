@@ -358,8 +358,8 @@ pub fn joined_known(
     }
 }
 
-// Whether both of two formulas hold, where both truths are known.
-fn both_true(first: Option<bool>, second: Option<bool>) -> Option<bool>
+/// Whether both of two formulas hold, where both truths are known.
+pub fn both_true(first: Option<bool>, second: Option<bool>) -> Option<bool>
     ensures { result ≡ fold.joined (λ x y. x && y) first second }
 {
     match (first, second) {
@@ -368,8 +368,8 @@ fn both_true(first: Option<bool>, second: Option<bool>) -> Option<bool>
     }
 }
 
-// Whether one of two formulas holds, where both truths are known.
-fn either_true(first: Option<bool>, second: Option<bool>) -> Option<bool>
+/// Whether one of two formulas holds, where both truths are known.
+pub fn either_true(first: Option<bool>, second: Option<bool>) -> Option<bool>
     ensures { result ≡ fold.joined (λ x y. x || y) first second }
 {
     match (first, second) {

@@ -31,17 +31,18 @@ pub use evaluation::{holds, value};
 pub use folding::{
     and_form, at_least_form, choice_term, difference_term, folded_form, folded_term, not_form,
     number_of, or_form, placed_choice, placed_form, placed_term, quotient, quotient_term,
-    remainder, remainder_term, scaled_term, sum_term, truth_of, zero_form,
+    remainder, remainder_term, scaled, scaled_term, sum_term, truth_of, zero_form,
 };
 pub use joining::{copy_forms, join_programs};
 pub use known::{
-    Joining, Pairing, Sense, choice_known, constant_known, joined_known, not_known, paired_known,
-    quotient_known, remainder_known, scaled_known, sense_known, truth_known, variable_known,
+    Joining, Pairing, Sense, both_true, choice_known, constant_known, either_true, joined_known,
+    not_known, paired_known, quotient_known, remainder_known, scaled_known, sense_known,
+    truth_known, variable_known,
 };
 pub use laws::{folding_laws, frame_laws, replacing_laws, same_is_equal};
 pub use marks::Mark;
 pub use measures::{size_of, size_of_term, size_within, term_within};
-pub use nodes::{FormId, TermId};
+pub use nodes::{FormId, FormNode, TermId, TermNode};
 pub use pool::Pool;
 pub use programs::{CProgram, CSlot, CStmt, CWrite, Print};
 pub use replacing::with_params;

@@ -4,11 +4,11 @@ ghost use Rattle.core_terms.specs.declared.trees.CForm.{CForm};
 ghost use Rattle.core_terms.specs.Sizes.{form_nodes};
 
 use crate::copies::copy_form;
-use crate::interning;
 use crate::marks::Mark;
-use crate::nodes::FormId;
+use crate::nodes::{FormId, FormNode, TermId, TermNode};
 use crate::tables::Tables;
-use crate::trees::CForm;
+use crate::trees::{CForm, CTerm};
+use crate::{interning, placing};
 use indexmap::IndexSet;
 use std::alloc::{AllocError, Global};
 use std::marker::Model;
@@ -36,7 +36,8 @@ impl Model for Pool {
 }
 
 impl Pool {
-    ghost use Rattle.core_terms.specs.Pools.{IsOnce, Grows};
+    ghost use Rattle.core_terms.specs.declared.marks.Mark.{Mark};
+    ghost use Rattle.core_terms.specs.Pools.{IsOnce, Grows, form_of_node, term_of_node, IsFormWithin, IsTermWithin};
     ghost use Rattle.core_terms.specs.Marks.{Fits, KeepsMarks, KeepsMarksTo};
 
     /// The empty pool. It takes no memory.
@@ -64,6 +65,66 @@ impl Pool {
         ensures marks { KeepsMarks self.old self.new }
     {
         interning::put_form(&mut self.tables, f)
+    }
+
+    /// The number of a term, which is put into the pool where it has none.
+    ///
+    /// An error says that memory was refused. Each number given before keeps its tree, whatever is answered.
+    pub fn put_term(&mut self, t: &CTerm) -> Result<TermId, AllocError>
+        ensures tree { IfOk result (λ id. slice_get self.new.terms id.place ≡ Some t.now) }
+        ensures kept { Grows self.old self.new }
+        ensures marks { KeepsMarks self.old self.new }
+    {
+        interning::put_term(&mut self.tables, t)
+    }
+
+    /// The node of a formula's number: the formula is what the node is made of, and a mark that fits below which the
+    /// formula stands has the node's parts below it too.
+    pub fn form_node(&self, id: FormId) -> FormNode
+        requires { id.place < length self.now.forms }
+        ensures tree { slice_get self.now.forms id.place ≡
+            Some (form_of_node self.now.forms self.now.terms result) }
+        ensures parts { (mark : Mark) → Fits self.now mark → id.place < mark.forms →
+            IsFormWithin mark.forms mark.terms result }
+    {
+        form_node_at(&self.tables.form_nodes, id.place)
+    }
+
+    /// The node of a term's number, with what `form_node` says of a formula's.
+    pub fn term_node(&self, id: TermId) -> TermNode
+        requires { id.place < length self.now.terms }
+        ensures tree { slice_get self.now.terms id.place ≡
+            Some (term_of_node self.now.forms self.now.terms result) }
+        ensures parts { (mark : Mark) → Fits self.now mark → id.place < mark.terms →
+            IsTermWithin mark.forms mark.terms result }
+    {
+        term_node_at(&self.tables.term_nodes, id.place)
+    }
+
+    /// The number of the formula that a node is, which is put into the pool where it has none.
+    ///
+    /// An error says that memory was refused. Each number given before keeps its tree, whatever is answered.
+    pub fn put_form_node(&mut self, node: FormNode) -> Result<FormId, AllocError>
+        requires { IsFormWithin (length self.old.forms) (length self.old.terms) node }
+        ensures tree { IfOk result (λ id. slice_get self.new.forms id.place ≡
+            Some (form_of_node self.old.forms self.old.terms node)) }
+        ensures kept { Grows self.old self.new }
+        ensures marks { KeepsMarks self.old self.new }
+    {
+        placing::place_form(&mut self.tables, node)
+    }
+
+    /// The number of the term that a node is, which is put into the pool where it has none.
+    ///
+    /// An error says that memory was refused. Each number given before keeps its tree, whatever is answered.
+    pub fn put_term_node(&mut self, node: TermNode) -> Result<TermId, AllocError>
+        requires { IsTermWithin (length self.old.forms) (length self.old.terms) node }
+        ensures tree { IfOk result (λ id. slice_get self.new.terms id.place ≡
+            Some (term_of_node self.old.forms self.old.terms node)) }
+        ensures kept { Grows self.old self.new }
+        ensures marks { KeepsMarks self.old self.new }
+    {
+        placing::place_term(&mut self.tables, node)
     }
 
     /// The formula of a number. It shares its parts with the pool.
@@ -119,4 +180,18 @@ impl Pool {
     {
         let _tables = &self.tables;
     }
+}
+
+fn form_node_at(nodes: &IndexSet<FormNode>, place: usize) -> FormNode
+    requires { place < length nodes.now.keys }
+    ensures { slice_get nodes.now.keys place ≡ Some result }
+{
+    nodes.as_slice()[place]
+}
+
+fn term_node_at(nodes: &IndexSet<TermNode>, place: usize) -> TermNode
+    requires { place < length nodes.now.keys }
+    ensures { slice_get nodes.now.keys place ≡ Some result }
+{
+    nodes.as_slice()[place]
 }

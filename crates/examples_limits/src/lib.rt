@@ -4,6 +4,8 @@
 
 pub mod deep_certificates;
 pub mod deep_obligations;
+#[cfg(test)]
+mod deep_pools;
 pub mod deep_trees;
 pub mod preconditions;
 #[cfg(test)]

@@ -156,7 +156,10 @@ fn greatest_divisor(a: u128, b: u128) -> u128 {
 fn divisor_of_cells(cells: &[i128]) -> u128 {
     let mut common = 0;
     for z in cells {
-        if common != 1 {
+        if common == 1 {
+            return 1;
+        }
+        if *z != 0 {
             common = greatest_divisor(z.unsigned_abs(), common);
         }
     }
@@ -188,6 +191,44 @@ fn lighten(row: &mut Row) {
     }
 }
 
+/// The product of two numbers. `None` where it is too great.
+fn product(a: i128, b: i128) -> Option<i128> {
+    match (i64::try_from(a), i64::try_from(b)) {
+        (Ok(small), Ok(other)) => i128::from(small).checked_mul(i128::from(other)),
+        _ => a.checked_mul(b),
+    }
+}
+
+/// Multiplies all cells of a row. Whether no number was too great.
+fn multiply_row(row: &mut Row, times: i128) -> bool {
+    for place in 0..row.cells.len() {
+        match product(cell(row, place), times) {
+            Some(z) => set_cell(row, place, z),
+            None => return false,
+        }
+    }
+    true
+}
+
+/// Takes a multiple of a row from another. Whether no number was too great. Most cells of a row are 0, and take
+/// nothing.
+fn take_multiple(by: &Row, times: i128, row: &mut Row) -> bool {
+    for (place, z) in by.cells.as_slice().iter().enumerate() {
+        if *z != 0 {
+            match less(cell(row, place), *z, times) {
+                Some(rest) => set_cell(row, place, rest),
+                None => return false,
+            }
+        }
+    }
+    true
+}
+
+/// a - b * c. `None` where a number is too great.
+fn less(a: i128, b: i128, c: i128) -> Option<i128> {
+    a.checked_sub(product(b, c)?)
+}
+
 /// Adds a multiple of a row to a positive multiple of another, so that the cell of a column becomes 0.
 /// Whether no number was too great.
 fn clear_cell(by: &Row, column: usize, row: &mut Row) -> bool {
@@ -196,19 +237,14 @@ fn clear_cell(by: &Row, column: usize, row: &mut Row) -> bool {
     if other == 0 {
         return true;
     }
-    for place in 0..row.cells.len() {
-        match cleared(cell(row, place), one, cell(by, place), other) {
-            Some(z) => set_cell(row, place, z),
-            None => return false,
-        }
+    if one != 1 && !multiply_row(row, one) {
+        return false;
+    }
+    if !take_multiple(by, other, row) {
+        return false;
     }
     lighten(row);
     true
-}
-
-/// a * b - c * d. `None` where a number is too great.
-fn cleared(a: i128, b: i128, c: i128, d: i128) -> Option<i128> {
-    a.checked_mul(b)?.checked_sub(c.checked_mul(d)?)
 }
 
 /// A row without cells. It takes no memory.

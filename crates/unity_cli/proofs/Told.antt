@@ -34,7 +34,7 @@ use Rattle.fixed_correct.proofs.Runs.{fixed_runs_say}
 use Rattle.run_correct.proofs.Replays.{replays_say}
 use Rattle.proof_plans.specs.Giving.{AreWhole}
 use Rattle.certificate_reading.specs.Certificates.{certificates_of}
-use Rattle.cli_words.specs.Requests.{Request, check, run, fixed, replay}
+use Rattle.cli_words.specs.Requests.{Request, run, fixed, replay}
 use Rattle.unity_cli.specs.declared.status.Status.{Status}
 use Rattle.unity_cli.specs.declared.output.Answer.{Answer as Answered}
 use Rattle.unity_cli.specs.declared.stop.Stop.{Stop}

@@ -10,20 +10,17 @@ use Rattle.unity_parser.proofs.Readings.{one_document}
 use Rattle.core_terms.specs.declared.documents.CDocument.{CDocument}
 use Rattle.expand_documents.specs.Cores.{core_document}
 use Rattle.cli_texts.specs.Refusals.{fault_text, refusal_text}
-use Rattle.cli_texts.specs.Verdicts.{rejected_text}
 use Rattle.cli_words.specs.Requests.{Request, watch}
 use Rattle.trace_watch.specs.declared.tracing.Ending.{Ending}
-use Rattle.trace_watch.specs.declared.violations.Violation.{Violation}
 use Rattle.watch_schedules.specs.declared.error.WatchStop.{WatchStop}
 use Rattle.watch_schedules.specs.declared.watching.WatchedSchedule.{WatchedSchedule}
 use Rattle.watch_schedules.specs.Schedules.{Finds, IsWatched as IsFound}
 use Rattle.watch_schedules.specs.Telling.{schedule_text}
-use Rattle.watch_correct.specs.Watched.{IsWatched, Stops, Watches}
+use Rattle.watch_correct.specs.Watched.{IsWatched, Stops}
 use Rattle.watch_correct.specs.Laws.{HasCore}
 use Rattle.watch_correct.proofs.Finding.{none_violated, watches_say}
 use Rattle.unity_cli.specs.declared.status.Status.{Status}
 use Rattle.unity_cli.specs.declared.input.AdmittedDocument.{AdmittedDocument}
-use Rattle.unity_cli.specs.declared.input.Input.{Input}
 use Rattle.unity_cli.specs.declared.input.Text.{Text}
 use Rattle.unity_cli.specs.declared.output.Answer.{Answer as Told}
 use Rattle.unity_cli.specs.Status.{HasText}
@@ -31,7 +28,7 @@ use Rattle.unity_cli.specs.Admitted.{greatest_size, IsAdmitted}
 use Rattle.unity_cli.specs.Answer.{Answer, most_bytes}
 use Rattle.unity_cli.specs.Answer.Watch.{ending_status, IsBroken, IsKept, IsNotWatched, Watched}
 use Rattle.unity_cli.specs.Answer.Watch as watches
-use Rattle.unity_cli.specs.Answering.{IsBadWith, IsStoppedFor, IsWatchedIn, Telling, TellsText}
+use Rattle.unity_cli.specs.Answering.{IsStoppedFor, IsWatchedIn, TellsText}
 use Rattle.unity_cli.specs.Following.{FollowsTheRules}
 use Rattle.unity_cli.specs.Input.{IsAdmittedAs, IsTextOf}
 use Rattle.unity_cli.specs.Watching.{WritesEnding, WritesFirstViolation}

@@ -1,4 +1,5 @@
 pub mod Begins
+pub mod Blanks
 pub mod Coming
 pub mod Decided
 pub mod FrontSteps

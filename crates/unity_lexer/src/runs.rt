@@ -19,6 +19,17 @@ fn is_word_byte(byte: u8) -> bool
     byte.is_ascii_alphanumeric() || byte == b'_'
 }
 
+/// How many blanks there are at the front.
+pub(crate) fn blank_len(text: &[u8]) -> usize
+    ensures { result ≡ prefix_len is_blank text.now }
+{
+    let mut len = 0;
+    while len < text.len() && is_blank(text[len]) {
+        len += 1;
+    }
+    len
+}
+
 /// How many bytes at the front may stand in a word.
 pub(crate) fn word_len(text: &[u8]) -> usize
     ensures { result ≡ prefix_len is_word_byte text.now }

@@ -2,14 +2,17 @@
 
 ghost use Rattle.std.specs.Prelude.{◌≡◌, ℕ, ◌+◌, ◌<◌, ◌≤◌, List, [], ◌∷◌, Some, length, IfOk, IsTrue, IsFalse};
 ghost use Rattle.std.specs.Io.KnownBytes.{IsAtEnd};
+ghost use Rattle.std.specs.List.{prefix_len};
 ghost use Rattle.unity_base.specs.Streams.{HasCause};
 ghost use Rattle.unity_base.specs.Window.{held, coming, window_at, window_limit, window_bytes, HasDropped, HasPassed};
 ghost use Rattle.unity_base.specs.Window.{PassesLimit};
+ghost use Rattle.unity_lexer.specs.Tokens.{is_blank};
 ghost use Rattle.unity_lexer.specs.Windows.{IsAhead, PassesGap};
 ghost use Rattle.unity_lexer.specs.Scans.{IsScan, TokenRises};
 
 use crate::ahead::{Next, next_piece};
 use crate::piece::Piece;
+use crate::runs::blank_len;
 use crate::stretches::{Run, skip_run};
 use case_tables::Code;
 use unity_base::{Failed, Source, Window};
@@ -31,6 +34,14 @@ pub enum Scan {
     },
     /// More bytes than the limit of the window.
     TooLong,
+}
+
+/// Drops the blanks with which the bytes held begin.
+fn skip_blanks(w: &mut Window)
+    ensures { HasDropped w.old w.new (prefix_len is_blank (window_bytes w.old)) }
+{
+    let size = blank_len(w.bytes());
+    w.skip(size);
 }
 
 /// Drops a comment. False where the limit is passed.
@@ -98,6 +109,7 @@ pub fn next_token<S: Source>(w: &mut Window, src: &mut S) -> Result<Scan, Failed
     ensures passed { HasPassed w.old w.new (S.left src.old) (S.left src.new) }
     ensures cause { HasCause (S.faults src.old) (S.faults src.new) result }
 {
+    skip_blanks(w);
     'gaps: loop {
         match next_piece(w, src)? {
             Next::Piece(Piece::Gap(size)) => w.skip(size),

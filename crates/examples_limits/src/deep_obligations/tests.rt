@@ -6,10 +6,10 @@ ghost use Rattle.examples_limits.specs.Deep.{IsDeepForm};
 
 use super::*;
 use crate::deep_trees::{Around, deep_form, deep_term};
-use core_terms::{CForm, CSlot, Print, Range, copy_form};
+use core_terms::{CForm, CSlot, Pool, Print, Range, copy_form};
 use obligations::{
-    Cert, Node, TooLargeError, has_room, height, make, need, next_param, open_branch, settle,
-    units, with_variables,
+    Cert, Node, TooLargeError, has_room, height, make, make_in, need, next_param, open_branch,
+    settle, units, with_variables,
 };
 use std::test::Fail;
 use unity_base::{Seq, Shared};
@@ -40,6 +40,20 @@ fn is_made(alloc: Global, f: CForm) -> Result<bool, AllocError>
     }
 }
 
+// Whether an obligation is made of the formula as a pool has it, or it is too large.
+fn is_made_in_pool(alloc: Global, f: &CForm) -> Result<bool, AllocError>
+    requires { IsDeepForm f.now }
+{
+    let slots = [bit(0)];
+    let mut pool = Pool::new(alloc);
+    let id = pool.put_form(f)?;
+    match make_in(alloc, &pool, id, slots.as_slice(), [].as_slice()) {
+        Ok(o) => Ok(height(&o) <= 960),
+        Err(TooLargeError::TooLarge) => Ok(true),
+        Err(TooLargeError::Memory) => Err(AllocError),
+    }
+}
+
 // Whether the formula is opened and settled.
 fn is_settled(alloc: Global, f: &CForm) -> Result<bool, AllocError>
     requires { IsDeepForm f.now }
@@ -59,7 +73,8 @@ fn goes_through(alloc: Global, f: CForm) -> Result<bool, AllocError>
     requires { IsDeepForm f }
 {
     let settled = is_settled(alloc, &f)?;
-    Ok(is_made(alloc, f)? && settled)
+    let in_pool = is_made_in_pool(alloc, &f)?;
+    Ok(is_made(alloc, f)? && settled && in_pool)
 }
 
 // The height, the need, and the facts of the first branch and of that branch with the formula settled,

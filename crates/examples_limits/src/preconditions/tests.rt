@@ -84,13 +84,15 @@ fn swaps_in_a_pool(rt: HostRuntime) -> Result<(), Fail> {
     Ok(())
 }
 
-// The nodes of the precondition of a deep formula.
-fn goes_down(alloc: Global, s: &CStmt, q: &CForm, slots: &[CSlot]) -> Result<u64, AllocError>
+// Whether the precondition of a deep formula is looked at whole, without a pool and in one.
+fn goes_down(alloc: Global, s: &CStmt, q: &CForm, slots: &[CSlot]) -> Result<bool, AllocError>
     requires slots { slots.now ≡ two_slots }
     requires statement { StatementFits two_slots s.now }
     requires formula { IsDeepForm q.now }
 {
-    Ok(size_of(&wp(alloc, s, q, slots)?))
+    let size = size_of(&wp(alloc, s, q, slots)?);
+    let in_pool = size_in_pool(alloc, s, q, slots, size)?;
+    Ok(size > 1 && in_pool == Some(size))
 }
 
 #[test]
@@ -99,7 +101,7 @@ fn goes_down_deep_formulas(rt: HostRuntime) -> Result<(), Fail> {
     let slots = two_slots(rt.alloc())?;
     for (which, part) in [(Around::Not, 1), (Around::And, 2), (Around::Or, 2)] {
         let q = deep_form(rt.alloc(), which, (NODES - 1) / part, CForm::Top)?;
-        assert!(rt; goes_down(rt.alloc(), &s, &q, slots.as_slice())? > 1);
+        assert!(rt; goes_down(rt.alloc(), &s, &q, slots.as_slice())?);
     }
     for (which, part) in [
         (TermAround::Scale, 1),
@@ -111,7 +113,7 @@ fn goes_down_deep_formulas(rt: HostRuntime) -> Result<(), Fail> {
         (TermAround::Remainder, 2),
     ] {
         let q = CForm::Zero(deep_term(rt.alloc(), which, (NODES - 2) / part, CTerm::Slot(0))?);
-        assert!(rt; goes_down(rt.alloc(), &s, &q, slots.as_slice())? > 1);
+        assert!(rt; goes_down(rt.alloc(), &s, &q, slots.as_slice())?);
     }
     Ok(())
 }

@@ -1,7 +1,8 @@
 use Rattle.std.proofs.Common.{◌≡◌, [], refl, ◌∙◌, arith}
 use Rattle.unity_lexer.specs.declared.ahead.Next.TheVariants as next
 use Rattle.unity_lexer.specs.declared.piece.Piece.TheVariants as pieces
-use Rattle.unity_lexer.proofs.ScanSteps.{start_reading, read_reading, start_passed, read_passed, passed_then}
+use Rattle.unity_lexer.proofs.Blanks.{blanks_passed, blanks_reading}
+use Rattle.unity_lexer.proofs.ScanSteps.{read_reading, read_passed, passed_then}
 use Rattle.unity_lexer.proofs.ScanSteps.{turn_passed}
 use Rattle.unity_lexer.proofs.ScanSteps.{gap_reading, comment_reading, token_scan, fault_scan, end_scan, result_then}
 use Rattle.unity_lexer.proofs.ScanSteps.{ahead_is, held_is, rises_then}
@@ -9,8 +10,14 @@ use Rattle.unity_lexer.proofs.scan.next_token.Goals as goal
 
 pub gaps-init : goal.gaps-init
 gaps-init g c =
+    let u = c.args.w.now in
+    let w = c.skip_blanks.new.w in
     let a = g.S.Source.left c.args.src.now in
-    record { passed = start_passed c.args.w.now a; same = refl; reads = start_reading c.args.w.now a }
+    record {
+      passed = blanks_passed u w a c.skip_blanks.ensures;
+      same = refl;
+      reads = blanks_reading u w a c.skip_blanks.ensures;
+    }
 
 pub gaps-preserved-in-Piece-Gap : goal.gaps-preserved-in-Piece-Gap
 gaps-preserved-in-Piece-Gap g c =
