@@ -2,16 +2,14 @@
 //! finds is judged by its callers.
 #![tactic(auto)]
 
+mod rows;
+
+use rows::{
+    Row, add_rows, cell, clear_cell, filled_places, greatest_divisor, put_row, rows_of, take_row,
+    zero_row,
+};
 use std::alloc::{AllocError, Global};
 use unity_base::Seq;
-
-/// A row: a cell for each column, and the right side.
-#[derive(Drop)]
-struct Row {
-    cells: Seq<i128>,
-    /// The column that is solved for. `None` where it is none.
-    basis: Option<u32>,
-}
 
 /// The rows, and the sum of those whose basis is no column.
 #[derive(Drop)]
@@ -19,57 +17,6 @@ struct Tableau {
     rows: Seq<Row>,
     goal: Row,
     width: usize,
-}
-
-/// The cell at a place, 0 past the end.
-fn cell(row: &Row, place: usize) -> i128 {
-    match row.cells.get(place) {
-        Some(z) => *z,
-        None => 0,
-    }
-}
-
-/// Puts a number into a cell, where there is one.
-fn set_cell(row: &mut Row, place: usize, number: i128) {
-    if place < row.cells.len() {
-        let _ = row.cells.replace(place, number);
-    }
-}
-
-/// Adds a row to a sum of rows. Whether no number was too great.
-fn add_row(row: &Row, sum: &mut Row) -> bool {
-    for place in 0..sum.cells.len() {
-        match cell(sum, place).checked_add(cell(row, place)) {
-            Some(z) => {
-                set_cell(sum, place, z);
-            }
-            None => return false,
-        }
-    }
-    true
-}
-
-/// A row of zeros.
-fn zero_row(alloc: Global, width: usize) -> Result<Row, AllocError> {
-    let mut cells = Seq::new(alloc);
-    for _ in 0..width {
-        cells.push(0)?;
-    }
-    Ok(Row { cells, basis: None })
-}
-
-/// The rows with these cells, of which none is solved.
-fn rows_of(alloc: Global, mut cells: Seq<Seq<i128>>) -> Result<Seq<Row>, AllocError> {
-    let mut rows = Seq::new(alloc);
-    for _ in 0..cells.len() {
-        if let Some(row) = cells.pop() {
-            rows.push(Row {
-                cells: row,
-                basis: None,
-            })?;
-        }
-    }
-    Ok(rows)
 }
 
 /// The tableau of rows that is solved for nothing yet. `None` where a number is too great.
@@ -84,16 +31,6 @@ fn first_tableau(
     } else {
         Ok(None)
     }
-}
-
-/// Adds all rows to a sum of rows. Whether no number was too great.
-fn add_rows(rows: &[Row], sum: &mut Row) -> bool {
-    for row in rows {
-        if !add_row(row, sum) {
-            return false;
-        }
-    }
-    true
 }
 
 /// The first column that lessens the goal.
@@ -140,149 +77,31 @@ fn leaving(tableau: &Tableau, column: usize) -> Option<usize> {
     best
 }
 
-/// The greatest number that divides both.
-fn greatest_divisor(a: u128, b: u128) -> u128 {
-    let mut one = a;
-    let mut other = b;
-    'steps: while other > 0 {
-        let rest = one % other;
-        one = other;
-        other = rest;
-    }
-    one
-}
-
-/// The greatest number that divides all cells.
-fn divisor_of_cells(cells: &[i128]) -> u128 {
-    let mut common = 0;
-    for z in cells {
-        if common == 1 {
-            return 1;
-        }
-        if *z != 0 {
-            common = greatest_divisor(z.unsigned_abs(), common);
-        }
-    }
-    common
-}
-
-/// A number divided by a positive one.
-fn quotient(number: i128, divisor: i128) -> i128 {
-    if divisor > 1 {
-        number / divisor
-    } else {
-        number
-    }
-}
-
-/// Divides all cells of a row.
-fn divide_row(row: &mut Row, divisor: i128) {
-    for place in 0..row.cells.len() {
-        let z = quotient(cell(row, place), divisor);
-        set_cell(row, place, z);
-    }
-}
-
-/// Divides a row by the greatest number that divides all its cells.
-fn lighten(row: &mut Row) {
-    let common = divisor_of_cells(row.cells.as_slice());
-    if common > 1 && common < 1 << 126 {
-        divide_row(row, common as i128);
-    }
-}
-
-/// The product of two numbers. `None` where it is too great.
-fn product(a: i128, b: i128) -> Option<i128> {
-    match (i64::try_from(a), i64::try_from(b)) {
-        (Ok(small), Ok(other)) => i128::from(small).checked_mul(i128::from(other)),
-        _ => a.checked_mul(b),
-    }
-}
-
-/// Multiplies all cells of a row. Whether no number was too great.
-fn multiply_row(row: &mut Row, times: i128) -> bool {
-    for place in 0..row.cells.len() {
-        match product(cell(row, place), times) {
-            Some(z) => set_cell(row, place, z),
-            None => return false,
-        }
-    }
-    true
-}
-
-/// Takes a multiple of a row from another. Whether no number was too great. Most cells of a row are 0, and take
-/// nothing.
-fn take_multiple(by: &Row, times: i128, row: &mut Row) -> bool {
-    for (place, z) in by.cells.as_slice().iter().enumerate() {
-        if *z != 0 {
-            match less(cell(row, place), *z, times) {
-                Some(rest) => set_cell(row, place, rest),
-                None => return false,
-            }
-        }
-    }
-    true
-}
-
-/// a - b * c. `None` where a number is too great.
-fn less(a: i128, b: i128, c: i128) -> Option<i128> {
-    a.checked_sub(product(b, c)?)
-}
-
-/// Adds a multiple of a row to a positive multiple of another, so that the cell of a column becomes 0.
-/// Whether no number was too great.
-fn clear_cell(by: &Row, column: usize, row: &mut Row) -> bool {
-    let one = cell(by, column);
-    let other = cell(row, column);
-    if other == 0 {
-        return true;
-    }
-    if one != 1 && !multiply_row(row, one) {
-        return false;
-    }
-    if !take_multiple(by, other, row) {
-        return false;
-    }
-    lighten(row);
-    true
-}
-
-/// A row without cells. It takes no memory.
-fn no_row(alloc: Global) -> Row {
-    Row {
-        cells: Seq::new(alloc),
-        basis: None,
-    }
-}
-
-/// Takes a row out of its place.
-fn take_row(alloc: Global, place: usize, rows: &mut Seq<Row>) -> Row {
-    if place < rows.len() {
-        rows.replace(place, no_row(alloc))
-    } else {
-        no_row(alloc)
-    }
-}
-
-/// Puts a row back into its place.
-fn put_row(place: usize, row: Row, rows: &mut Seq<Row>) {
-    if place < rows.len() {
-        let _ = rows.replace(place, row);
-    }
-}
-
 /// Clears a column in the row at a place. Whether no number was too great.
-fn clear_at(alloc: Global, by: &Row, column: usize, place: usize, rows: &mut Seq<Row>) -> bool {
+fn clear_at(
+    alloc: Global,
+    by: &Row,
+    places: &[usize],
+    column: usize,
+    place: usize,
+    rows: &mut Seq<Row>,
+) -> bool {
     let mut row = take_row(alloc, place, rows);
-    let fits = clear_cell(by, column, &mut row);
+    let fits = clear_cell(by, places, column, &mut row);
     put_row(place, row, rows);
     fits
 }
 
 /// Clears a column in all rows. Whether no number was too great.
-fn clear_column(alloc: Global, by: &Row, column: usize, rows: &mut Seq<Row>) -> bool {
+fn clear_column(
+    alloc: Global,
+    by: &Row,
+    places: &[usize],
+    column: usize,
+    rows: &mut Seq<Row>,
+) -> bool {
     for place in 0..rows.len() {
-        if !clear_at(alloc, by, column, place, rows) {
+        if !clear_at(alloc, by, places, column, place, rows) {
             return false;
         }
     }
@@ -290,17 +109,23 @@ fn clear_column(alloc: Global, by: &Row, column: usize, rows: &mut Seq<Row>) -> 
 }
 
 /// Solves a row for a column. Whether no number was too great.
-fn pivot(alloc: Global, place: usize, column: usize, tableau: &mut Tableau) -> bool {
+fn pivot(
+    alloc: Global,
+    place: usize,
+    column: usize,
+    tableau: &mut Tableau,
+) -> Result<bool, AllocError> {
     let mut row = take_row(alloc, place, &mut tableau.rows);
-    let fits = clear_column(alloc, &row, column, &mut tableau.rows)
-        && clear_cell(&row, column, &mut tableau.goal);
+    let places = filled_places(alloc, &row)?;
+    let fits = clear_column(alloc, &row, places.as_slice(), column, &mut tableau.rows)
+        && clear_cell(&row, places.as_slice(), column, &mut tableau.goal);
     row.basis = u32::try_from(column).ok();
     put_row(place, row, &mut tableau.rows);
-    fits
+    Ok(fits)
 }
 
 /// Lessens the goal until no column does any more. Whether it became 0.
-fn solve(alloc: Global, tableau: &mut Tableau) -> bool {
+fn solve(alloc: Global, tableau: &mut Tableau) -> Result<bool, AllocError> {
     let steps = 4
         * tableau
             .width
@@ -308,16 +133,16 @@ fn solve(alloc: Global, tableau: &mut Tableau) -> bool {
             .min(1 << 16);
     for _ in 0..steps {
         let Some(column) = entering(tableau) else {
-            return cell(&tableau.goal, tableau.width) == 0;
+            return Ok(cell(&tableau.goal, tableau.width) == 0);
         };
         let Some(place) = leaving(tableau, column) else {
-            return false;
+            return Ok(false);
         };
-        if !pivot(alloc, place, column, tableau) {
-            return false;
+        if !pivot(alloc, place, column, tableau)? {
+            return Ok(false);
         }
     }
-    false
+    Ok(false)
 }
 
 /// A multiplier as a fraction in lowest terms.
@@ -419,7 +244,7 @@ pub fn multipliers(
     let Some(mut tableau) = first_tableau(alloc, rows, width)? else {
         return Ok(None);
     };
-    if solve(alloc, &mut tableau) {
+    if solve(alloc, &mut tableau)? {
         multiples(alloc, &tableau)
     } else {
         Ok(None)
