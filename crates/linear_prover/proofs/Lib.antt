@@ -4,6 +4,7 @@ pub mod SumLaws
 pub mod GcdLaws
 pub mod OppositeLaws
 pub mod DivisionLaws
+pub mod KeyLaws
 pub mod ClashLaws
 pub mod ChainLaws
 pub mod JudgingLaws

@@ -10,6 +10,7 @@ use Rattle.obligations.specs.Reach.{divisor_of, is_moderate_fact, is_some_factor
 use Rattle.linear_prover.specs.declared.clash.Rounding.{Rounding}
 use Rattle.linear_prover.specs.declared.clash.Partner.{Partner}
 use Rattle.linear_prover.specs.declared.clash.Pair.{Pair}
+use Rattle.linear_prover.specs.declared.keys.Key.{Key}
 
 -- a fact that may clash: it has a factor, no number is too great, and it can be divided
 abbrev pub can_clash : Fact → Bool
@@ -26,6 +27,18 @@ pub record Rounds (f : Fact) (r : Rounding) : Type 0 where
 -- two factors of one variable that add up to 0
 abbrev pub is_turned : ℕ × ℤ → ℕ × ℤ → Bool
 is_turned f g = nat_eq f.0 g.0 && int_eq (f.1 +ℤ g.1) (pos 0)
+
+-- the variables of the first two factors, of which the variable of a lone factor stands for both
+abbrev pub key_of : List (ℕ × ℤ) → Key
+key_of [] = record { first = 0; second = 0 }
+key_of (f ∷ []) = record { first = f.0; second = f.0 }
+key_of (f ∷ g ∷ fs) = record { first = f.0; second = g.0 }
+
+abbrev pub fact_key : Fact → Key
+fact_key f = key_of f.factors
+
+abbrev pub is_same_key : Key → Key → Bool
+is_same_key one other = nat_eq one.first other.first && nat_eq one.second other.second
 
 -- a fact clashes with the one at a place
 pub record IsPartner (f : Fact) (facts : List Fact) (p : Partner) : Type 0 where

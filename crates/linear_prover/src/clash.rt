@@ -1,7 +1,7 @@
 //! Two facts that clash: each factor of the one is the negative of the other's, and their constants,
 //! rounded, add up to less than 0.
 ghost use Rattle.std.specs.Prelude.{◌≡◌, ◌+◌, ◌≤◌, ◌<◌, ◌^◌, ◌∷◌, [], suc, ℕ, ℤ, pos, ◌+ℤ◌, ◌≤ℤ◌, not, Bool, true};
-ghost use Rattle.std.specs.Prelude.{false, length, IfOk, IfSome, MatchOption};
+ghost use Rattle.std.specs.Prelude.{false, length, map, IfOk, IfSome, MatchOption};
 ghost use Rattle.std.specs.List.{list_all, list_any};
 ghost use Rattle.std.specs.Int.{IsGcd, int_div_euclid};
 ghost use Rattle.std.specs.Int.RustNames.{int_le, unsigned_abs};
@@ -9,9 +9,11 @@ ghost use Rattle.meaning_states.specs.State.{int_eq};
 ghost use Rattle.obligations.specs.Reach.{is_exact, are_opposite, gcd, divisor_of, is_moderate, is_moderate_fact};
 ghost use Rattle.obligations.specs.Reach.{is_some_factor, clash};
 ghost use Rattle.linear_prover.specs.Tables.{IsAt};
-ghost use Rattle.linear_prover.specs.Clashes.{can_clash, Rounds, is_turned, IsPartner, IsClash};
+ghost use Rattle.linear_prover.specs.Clashes.{can_clash, Rounds, is_turned, fact_key, IsPartner, IsClash};
 
+use crate::keys::{Key, is_same_key, key_of, keys_of};
 use obligations::Fact;
+use std::alloc::{AllocError, Global};
 
 /// The greatest number that divides both.
 #[tactic(auto, using(crate::proofs::GcdLaws::gcd_laws))]
@@ -163,13 +165,27 @@ fn clashes(f: &Fact, r: &Rounding, g: &Fact) -> bool
     is_below_zero(&r.constant, &rounded_down(&g.constant, r.divisor))
 }
 
+/// Whether a fact clashes with another, by their keys and by what the one may clash by.
+#[tactic(auto, using(crate::proofs::KeyLaws::clash_key))]
+fn clashes_by(f: &Fact, r: &Rounding, own: Key, key: Key, g: &Fact) -> bool
+    requires rounds { Rounds f.now r.now }
+    requires own { own ≡ fact_key f.now }
+    requires key { key ≡ fact_key g.now }
+    ensures { result ≡ clash f.now g.now }
+{
+    is_same_key(own, key) && clashes(f, r, g)
+}
+
 /// The first fact with which a fact clashes. `None` exactly where there is none.
-fn first_partner(facts: &[Fact], f: &Fact, r: &Rounding) -> Option<usize>
-    requires { Rounds f.now r.now }
+#[tactic(auto, using(crate::proofs::KeyLaws::key_laws))]
+fn first_partner(facts: &[Fact], keys: &[Key], f: &Fact, r: &Rounding) -> Option<usize>
+    requires rounds { Rounds f.now r.now }
+    requires keys { keys.now ≡ map fact_key facts.now }
     ensures { MatchOption result (list_any (clash f.now) facts.now ≡ false) (λ n. IsAt (clash f.now) facts.now n) }
 {
+    let own = key_of(f.factors.as_slice());
     for (place, g) in facts.iter().enumerate() {
-        if clashes(f, r, g) {
+        if clashes_by(f, r, own, keys[place], g) {
             return Some(place);
         }
     }
@@ -185,12 +201,13 @@ pub struct Partner {
 
 /// The first fact with which a fact clashes. `None` exactly where there is none.
 #[tactic(auto, using(crate::proofs::OppositeLaws::clash_nowhere))]
-fn partner_of(facts: &[Fact], f: &Fact) -> Option<Partner>
-    requires { is_exact 0 f.now.factors ≡ true }
+fn partner_of(facts: &[Fact], keys: &[Key], f: &Fact) -> Option<Partner>
+    requires exact { is_exact 0 f.now.factors ≡ true }
+    requires keys { keys.now ≡ map fact_key facts.now }
     ensures { MatchOption result (list_any (clash f.now) facts.now ≡ false) (IsPartner f.now facts.now) }
 {
     let r = rounding_of(f)?;
-    let place = first_partner(facts, f, &r)?;
+    let place = first_partner(facts, keys, f, &r)?;
     Some(Partner {
         place,
         divisor: r.divisor,
@@ -204,17 +221,29 @@ pub struct Pair {
     pub partner: Partner,
 }
 
-/// The first two facts that clash. `None` exactly where no two do.
-pub fn first_clash(facts: &[Fact]) -> Option<Pair>
-    requires { list_all (λ f. is_exact 0 f.factors) facts.now ≡ true }
+/// The first two facts that clash, by the keys of all. `None` exactly where no two do.
+fn first_pair(facts: &[Fact], keys: &[Key]) -> Option<Pair>
+    requires exact { list_all (λ f. is_exact 0 f.factors) facts.now ≡ true }
+    requires keys { keys.now ≡ map fact_key facts.now }
     ensures { MatchOption result
         (list_any (λ f. list_any (clash f) facts.now) facts.now ≡ false)
         (IsClash facts.now) }
 {
     for (place, fact) in facts.iter().enumerate() {
-        if let Some(partner) = partner_of(facts, fact) {
+        if let Some(partner) = partner_of(facts, keys, fact) {
             return Some(Pair { place, partner });
         }
     }
     None
+}
+
+/// The first two facts that clash. `None` exactly where no two do.
+pub fn first_clash(alloc: Global, facts: &[Fact]) -> Result<Option<Pair>, AllocError>
+    requires { list_all (λ f. is_exact 0 f.factors) facts.now ≡ true }
+    ensures { IfOk result (λ o. MatchOption o
+        (list_any (λ f. list_any (clash f) facts.now) facts.now ≡ false)
+        (IsClash facts.now)) }
+{
+    let keys = keys_of(alloc, facts)?;
+    Ok(first_pair(facts, keys.as_slice()))
 }

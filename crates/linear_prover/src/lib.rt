@@ -8,6 +8,7 @@ mod closing;
 mod columns;
 mod elimination;
 mod judging;
+mod keys;
 mod reach;
 
 pub use closing::close;

@@ -103,7 +103,7 @@ fn two_facts(alloc: Global, facts: &[Fact], count: u32) -> Result<Option<Seq<Nod
         (λ ns. list_any (λ f. list_any (clash f) facts.now) facts.now ≡ true)) }
     ensures chain { IfOk result (λ o. IfSome o (ClosesShortly count facts.now)) }
 {
-    match first_clash(facts) {
+    match first_clash(alloc, facts)? {
         Some(pair) => Ok(Some(nodes_of(alloc, facts.len(), pair)?)),
         None => Ok(None),
     }
