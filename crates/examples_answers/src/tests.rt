@@ -14,5 +14,6 @@ mod texts;
 mod traces;
 mod upgrades;
 mod versions;
+mod violations;
 mod watches;
 mod words;
