@@ -20,7 +20,7 @@ blanks_fit w n bytes e f =
     subst (λ t. n ≤ length t) e (omega (arith, f, prefix_len-le-length is_blank bytes))
 
 -- where the text is read up to blanks, it is read up to behind them
-reads_blanks : (n at end : ℕ) (text rest : List ℕ) (ts : List Token) → n ≤ length rest
+pub reads_blanks : (n at end : ℕ) (text rest : List ℕ) (ts : List Token) → n ≤ length rest
     → list_all is_blank (take n rest) ≡ true → Tokenizes at text ts end rest
     → Tokenizes at text ts (end + n) (drop n rest)
 reads_blanks zero at end text rest ts fits h reads =
@@ -35,7 +35,7 @@ reads_blanks (suc n) at end text (b ∷ rest) ts fits h reads =
     (reads_blanks n at (end + 1) text rest ts (omega (arith, fits)) (and_right (is_blank b) _ h) one)
 
 -- the blanks at the front of what may be looked at are those of what is to come
-blanks_shown : (w : Window) (left : Option (List ℕ)) (bytes : List ℕ) → coming w left ≡ Some bytes
+pub blanks_shown : (w : Window) (left : Option (List ℕ)) (bytes : List ℕ) → coming w left ≡ Some bytes
     → (prefix_len is_blank (window_bytes w) ≤ length bytes)
     × (list_all is_blank (take (prefix_len is_blank (window_bytes w)) bytes) ≡ true)
 blanks_shown w left bytes e =

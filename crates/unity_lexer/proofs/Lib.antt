@@ -9,6 +9,7 @@ pub mod Longest
 pub mod Names
 pub mod OneAnswer
 pub mod Reading
+pub mod ReadyTokens
 pub mod ScanSteps
 pub mod Scanning
 pub mod SomeAnswer

@@ -28,7 +28,7 @@ pub(crate) enum Next {
 }
 
 /// Whether two more bytes stand after the piece, in so many.
-fn is_decided(piece: Piece, len: usize) -> bool
+pub(crate) fn is_decided(piece: Piece, len: usize) -> bool
     ensures { IsTrue result ↔ (piece_size piece + 2 ≤ len) }
 {
     let size = match piece {

@@ -5,6 +5,7 @@ mod ahead;
 mod front;
 mod laws;
 mod piece;
+mod ready;
 mod reserved;
 mod runs;
 mod scan;

@@ -45,7 +45,7 @@ pub(crate) fn first_piece(text: &[u8]) -> Piece
 }
 
 /// A word or a reserved word.
-fn word(text: &[u8]) -> Piece
+pub(crate) fn word(text: &[u8]) -> Piece
     requires some { 0 < length text.now }
     requires letter { IsTrue (is_ascii_alphabetic (slice_index text.now 0)) }
     ensures { BeginsWith text.now result }
@@ -58,7 +58,8 @@ fn word(text: &[u8]) -> Piece
 }
 
 /// A number, or digits that are none.
-fn number(text: &[u8]) -> Piece
+#[inline(always)]
+pub(crate) fn number(text: &[u8]) -> Piece
     requires some { 0 < length text.now }
     requires digit { IsTrue (is_ascii_digit (slice_index text.now 0)) }
     ensures { BeginsWith text.now result }

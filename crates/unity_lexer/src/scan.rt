@@ -12,6 +12,7 @@ ghost use Rattle.unity_lexer.specs.Scans.{IsScan, TokenRises};
 
 use crate::ahead::{Next, next_piece};
 use crate::piece::Piece;
+use crate::ready::ready_token;
 use crate::runs::blank_len;
 use crate::stretches::{Run, skip_run};
 use case_tables::Code;
@@ -97,11 +98,10 @@ fn held_token(w: &mut Window, kind: TokenKind, size: usize) -> Token
     Token { kind, start, end }
 }
 
-/// Reads the next token, passing the blanks and comments before it. It takes no memory.
-///
-/// Tokens are read as `lex` reads them: the tokens of successive calls are those of the whole input. A token has a
-/// byte, also where the source does not tell its bytes. `Failed` comes only where the source's count of faults rose.
-pub fn next_token<S: Source>(w: &mut Window, src: &mut S) -> Result<Scan, Failed>
+/// Reads the next token, piece by piece.
+#[cold]
+#[inline(never)]
+fn passing_token<S: Source>(w: &mut Window, src: &mut S) -> Result<Scan, Failed>
     ensures scan { IfOk result (λ scan. (bytes : List ℕ) → coming w.old (S.left src.old) ≡ Some bytes →
         IsScan (window_limit w.old) (window_at w.old) bytes (window_at w.new) (coming w.new (S.left src.new)) scan) }
     ensures rises { IfOk result (TokenRises (window_at w.old) (window_at w.new)) }
@@ -126,5 +126,23 @@ pub fn next_token<S: Source>(w: &mut Window, src: &mut S) -> Result<Scan, Failed
             Next::End => return Ok(Scan::End),
             Next::TooLong => return Ok(Scan::TooLong),
         }
+    }
+}
+
+/// Reads the next token, passing the blanks and comments before it. It takes no memory.
+///
+/// Tokens are read as `lex` reads them: the tokens of successive calls are those of the whole input. A token has a
+/// byte, also where the source does not tell its bytes. `Failed` comes only where the source's count of faults rose.
+pub fn next_token<S: Source>(w: &mut Window, src: &mut S) -> Result<Scan, Failed>
+    ensures scan { IfOk result (λ scan. (bytes : List ℕ) → coming w.old (S.left src.old) ≡ Some bytes →
+        IsScan (window_limit w.old) (window_at w.old) bytes (window_at w.new) (coming w.new (S.left src.new)) scan) }
+    ensures rises { IfOk result (TokenRises (window_at w.old) (window_at w.new)) }
+    ensures end { IfOk result (λ scan. scan ≡ Scan.End → (held w.new ≡ []) × IsAtEnd (S.left src.new)) }
+    ensures passed { HasPassed w.old w.new (S.left src.old) (S.left src.new) }
+    ensures cause { HasCause (S.faults src.old) (S.faults src.new) result }
+{
+    match ready_token(w) {
+        Some(token) => Ok(Scan::Token(token)),
+        None => passing_token(w, src),
     }
 }

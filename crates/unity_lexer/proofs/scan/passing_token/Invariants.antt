@@ -1,7 +1,7 @@
 use Rattle.std.proofs.Common.{◌≡◌, ℕ, ◌-◌, List, [], Some}
 use Rattle.unity_base.specs.Window.{coming, HasPassed}
 use Rattle.unity_lexer.specs.Scans.{ReadsTo}
-use Rattle.unity_lexer.proofs.scan.next_token.Given as goal
+use Rattle.unity_lexer.proofs.scan.passing_token.Given as goal
 
 abbrev pub invariant-gaps : goal.invariant-gaps
 invariant-gaps g l = record {

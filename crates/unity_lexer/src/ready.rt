@@ -1,0 +1,87 @@
+//! Tokens that are held with two more bytes behind them. Most are so, and each is taken by one look at the window.
+
+ghost use Rattle.std.specs.Prelude.{◌≡◌, ℕ, ◌+◌, ◌<◌, ◌≤◌, List, Option, Some, None, length, IfSome, IsTrue};
+ghost use Rattle.unity_base.specs.Window.{coming, window_at, window_limit, window_bytes, HasPassed};
+ghost use Rattle.unity_lexer.specs.declared.piece.Piece.TheVariants as pieces;
+ghost use Rattle.unity_lexer.specs.declared.scan.Scan.TheVariants as scan;
+ghost use Rattle.unity_lexer.specs.Pieces.{BeginsWith, is_other};
+ghost use Rattle.unity_lexer.specs.Scans.{IsScan};
+ghost use Rattle.unity_lexer.specs.Symbols.{symbol_after};
+
+use crate::ahead::is_decided;
+use crate::piece::{Piece, first_piece, number, word};
+use crate::runs::blank_len;
+use case_tables::Symbol;
+use unity_base::Window;
+use unity_syntax::{Token, TokenKind};
+
+/// A symbol of one byte that begins no longer one, and that certificates have.
+#[inline(always)]
+fn lone_symbol(first: u8) -> Option<Symbol>
+    ensures symbol { IfSome result (λ symbol. (rest : List ℕ) → symbol_after first rest ≡ Some (symbol, 1)) }
+    ensures other { IfSome result (λ symbol. IsTrue (is_other first)) }
+{
+    match first {
+        b'*' => Some(Symbol::Times),
+        b'-' => Some(Symbol::Minus),
+        b';' => Some(Symbol::Semicolon),
+        _ => None,
+    }
+}
+
+/// The piece with which a text begins. What certificates have most is looked for first.
+#[inline(always)]
+fn common_piece(text: &[u8]) -> Piece
+    requires { 0 < length text.now }
+    ensures { BeginsWith text.now result }
+{
+    let first = text[0];
+    if first.is_ascii_digit() {
+        number(text)
+    } else if let Some(symbol) = lone_symbol(first) {
+        Piece::Token(TokenKind::Symbol(symbol), 1)
+    } else if first.is_ascii_alphabetic() {
+        word(text)
+    } else {
+        first_piece(text)
+    }
+}
+
+/// The token, and its size, with which each text begins that begins with these bytes, where they are enough to tell.
+#[inline(always)]
+fn decided_token(text: &[u8]) -> Option<(TokenKind, usize)>
+    ensures begins { IfSome result (λ found. BeginsWith text.now (pieces.Token found.0 found.1)) }
+    ensures decided { IfSome result (λ found. found.1 + 2 ≤ length text.now) }
+{
+    if text.is_empty() {
+        return None;
+    }
+    let piece = common_piece(text);
+    if !is_decided(piece, text.len()) {
+        return None;
+    }
+    match piece {
+        Piece::Token(kind, size) => Some((kind, size)),
+        _ => None,
+    }
+}
+
+/// Reads a token that is ready, and the blanks before it.
+#[inline(always)]
+pub(crate) fn ready_token(w: &mut Window) -> Option<Token>
+    ensures scan { IfSome result (λ t. (left : Option (List ℕ)) → (bytes : List ℕ) → coming w.old left ≡ Some bytes →
+        IsScan (window_limit w.old) (window_at w.old) bytes (window_at w.new) (coming w.new left) (scan.Token t)) }
+    ensures rises { IfSome result (λ t. window_at w.old < window_at w.new) }
+    ensures passed { (left : Option (List ℕ)) → HasPassed w.old w.new left left }
+    ensures none { result ≡ None → w.new ≡ w.old }
+{
+    let bytes = w.bytes();
+    let blanks = blank_len(bytes);
+    let Some((kind, size)) = decided_token(&bytes[blanks..]) else {
+        return None;
+    };
+    w.skip(blanks + size);
+    let end = w.at();
+    let start = end - size as u64;
+    Some(Token { kind, start, end })
+}
