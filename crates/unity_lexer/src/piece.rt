@@ -45,7 +45,7 @@ pub(crate) fn first_piece(text: &[u8]) -> Piece
 }
 
 /// A word or a reserved word.
-pub(crate) fn word(text: &[u8]) -> Piece
+fn word(text: &[u8]) -> Piece
     requires some { 0 < length text.now }
     requires letter { IsTrue (is_ascii_alphabetic (slice_index text.now 0)) }
     ensures { BeginsWith text.now result }

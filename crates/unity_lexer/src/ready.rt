@@ -2,16 +2,17 @@
 
 ghost use Rattle.std.specs.Prelude.{◌≡◌, ℕ, ◌+◌, ◌<◌, ◌≤◌, List, Option, Some, None, length, IfSome, IsTrue};
 ghost use Rattle.unity_base.specs.Window.{coming, window_at, window_limit, window_bytes, HasPassed};
+ghost use Rattle.unity_syntax.specs.declared.token.TokenKind.TheVariants as kind;
 ghost use Rattle.unity_lexer.specs.declared.piece.Piece.TheVariants as pieces;
 ghost use Rattle.unity_lexer.specs.declared.scan.Scan.TheVariants as scan;
-ghost use Rattle.unity_lexer.specs.Pieces.{BeginsWith, is_other};
+ghost use Rattle.unity_lexer.specs.Pieces.{BeginsWith, is_other, are_four, are_five, are_six};
 ghost use Rattle.unity_lexer.specs.Scans.{IsScan};
 ghost use Rattle.unity_lexer.specs.Symbols.{symbol_after};
 
 use crate::ahead::is_decided;
-use crate::piece::{Piece, first_piece, number, word};
+use crate::piece::{Piece, first_piece, number};
 use crate::runs::blank_len;
-use case_tables::Symbol;
+use case_tables::{Symbol, Word};
 use unity_base::Window;
 use unity_syntax::{Token, TokenKind};
 
@@ -29,6 +30,82 @@ fn lone_symbol(first: u8) -> Option<Symbol>
     }
 }
 
+/// Whether the text begins with `sum` and a space.
+#[inline(always)]
+fn begins_sum(text: &[u8]) -> bool
+    requires { 6 ≤ length text.now }
+    ensures { result ≡ are_four text.now 115 117 109 32 }
+{
+    text[0] == b's' && text[1] == b'u' && text[2] == b'm' && text[3] == b' '
+}
+
+/// Whether the text begins with `case` and a space.
+#[inline(always)]
+fn begins_case(text: &[u8]) -> bool
+    requires { 6 ≤ length text.now }
+    ensures { result ≡ are_five text.now 99 97 115 101 32 }
+{
+    text[0] == b'c' && text[1] == b'a' && text[2] == b's' && text[3] == b'e' && text[4] == b' '
+}
+
+/// Whether the text begins with `round` and a space.
+#[inline(always)]
+fn begins_round(text: &[u8]) -> bool
+    requires { 6 ≤ length text.now }
+    ensures { result ≡ are_six text.now 114 111 117 110 100 32 }
+{
+    text[0] == b'r'
+        && text[1] == b'o'
+        && text[2] == b'u'
+        && text[3] == b'n'
+        && text[4] == b'd'
+        && text[5] == b' '
+}
+
+/// Whether the text begins with `split` and a space.
+#[inline(always)]
+fn begins_split(text: &[u8]) -> bool
+    requires { 6 ≤ length text.now }
+    ensures { result ≡ are_six text.now 115 112 108 105 116 32 }
+{
+    text[0] == b's'
+        && text[1] == b'p'
+        && text[2] == b'l'
+        && text[3] == b'i'
+        && text[4] == b't'
+        && text[5] == b' '
+}
+
+/// The word with which a node of a certificate begins, and its size, where the text begins with it and a space.
+#[inline(always)]
+fn long_node_word(text: &[u8]) -> Option<(Word, usize)>
+    requires { 6 ≤ length text.now }
+    ensures { IfSome result (λ found. BeginsWith text.now (pieces.Token (kind.Reserved found.0) found.1)) }
+{
+    if begins_sum(text) {
+        Some((Word::Sum, 3))
+    } else if begins_round(text) {
+        Some((Word::Round, 5))
+    } else if begins_split(text) {
+        Some((Word::Split, 5))
+    } else if begins_case(text) {
+        Some((Word::Case, 4))
+    } else {
+        None
+    }
+}
+
+/// The same, where the text may be short.
+#[inline(always)]
+fn node_word(text: &[u8]) -> Option<(Word, usize)>
+    ensures { IfSome result (λ found. BeginsWith text.now (pieces.Token (kind.Reserved found.0) found.1)) }
+{
+    if text.len() < 6 {
+        return None;
+    }
+    long_node_word(text)
+}
+
 /// The piece with which a text begins. What certificates have most is looked for first.
 #[inline(always)]
 fn common_piece(text: &[u8]) -> Piece
@@ -40,8 +117,8 @@ fn common_piece(text: &[u8]) -> Piece
         number(text)
     } else if let Some(symbol) = lone_symbol(first) {
         Piece::Token(TokenKind::Symbol(symbol), 1)
-    } else if first.is_ascii_alphabetic() {
-        word(text)
+    } else if let Some((word, size)) = node_word(text) {
+        Piece::Token(TokenKind::Reserved(word), size)
     } else {
         first_piece(text)
     }

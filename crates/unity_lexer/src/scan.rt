@@ -133,6 +133,7 @@ fn passing_token<S: Source>(w: &mut Window, src: &mut S) -> Result<Scan, Failed>
 ///
 /// Tokens are read as `lex` reads them: the tokens of successive calls are those of the whole input. A token has a
 /// byte, also where the source does not tell its bytes. `Failed` comes only where the source's count of faults rose.
+#[inline(always)]
 pub fn next_token<S: Source>(w: &mut Window, src: &mut S) -> Result<Scan, Failed>
     ensures scan { IfOk result (λ scan. (bytes : List ℕ) → coming w.old (S.left src.old) ≡ Some bytes →
         IsScan (window_limit w.old) (window_at w.old) bytes (window_at w.new) (coming w.new (S.left src.new)) scan) }
