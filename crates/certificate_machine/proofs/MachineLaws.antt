@@ -34,7 +34,7 @@ use Rattle.certificate_rules.specs.Refutation.{NodeEffect, fails, opens, made_ca
 use Rattle.certificate_rules.specs.Refutation.{made_share, made_by, made, made_quot, quot_at, allowing, OpenBranch}
 use Rattle.certificate_rules.specs.Sums.{below_0}
 use Rattle.certificate_machine.specs.Machines.{base_of, full_by, full_of, second_by, second_of, waiting_first, behind}
-use Rattle.certificate_machine.specs.Machines.{place_fits, FramesFit, turned, step_by, is_light_todo}
+use Rattle.certificate_machine.specs.Machines.{place_fits, FramesFit, spent, turned, step_by, is_light_todo}
 use Rattle.certificate_machine.specs.Machines.{are_light}
 
 branch-same : (a b : Branch) → a.facts ≡ b.facts → a.waiting ≡ b.waiting → a.added ≡ b.added → a ≡ b
@@ -117,12 +117,34 @@ second-added : (vs : List Variable) (t : Todo) (b : Branch) → b.added ≤ (sec
 second-added vs (Todo.Form place form) b = omega arith
 second-added vs (Todo.Fact fact) b = omega arith
 
+-- what is left of it puts back the same
+spent-full : (t : Todo) (b : Branch) → full_by (spent t) b ≡ full_by t b
+spent-full (Todo.Form place form) b = refl
+spent-full (Todo.Fact fact) b = refl
+
+spent-fits : (t : Todo) (n : ℕ) → place_fits t n → place_fits (spent t) n
+spent-fits (Todo.Form place form) n h = h
+spent-fits (Todo.Fact fact) n h = tt
+
+pub spent-light : (t left : Todo) → left ≡ spent t → is_light_todo t ≡ true → is_light_todo left ≡ true
+spent-light (Todo.Form place form) left e h = ap is_light_todo e ∙ h
+spent-light (Todo.Fact fact) left e h = ap is_light_todo e
+
+-- the other side of a formula is the second branch's
+pub second-form : (own vs : List Variable) (todo : Todo) (place : ℕ) (form shown : CForm) (old new : Branch) →
+    todo ≡ Todo.Form place form → shown ≡ form → vs ≡ scope_of own old → new ≡ settled vs (sides shown).1 old →
+    new ≡ second_by own todo old
+second-form own vs todo place form shown old new et eg ev e =
+    e ∙ ap (λ x. settled vs (sides x).1 old) eg ∙ ap (λ v. settled v (sides form).1 old) ev
+    ∙ ap (λ t. second_by own t old) (sym et)
+
 pub first-turns : (vs : List Variable) (f : Frame) (fs : List Frame) (b : Branch) → f.first ≡ true → FramesFit (f ∷ fs)
     b →
     allowing (f.levels - 1) (second_of vs f b) ∷ behind vs (turned f ∷ fs) (second_of vs f b) ≡ behind vs (f ∷ fs) b
 first-turns vs f fs b e h =
-    ap (λ y. allowing (f.levels - 1) (second_of vs f b) ∷ behind vs fs (full_by f.todo y))
+    ap (λ y. allowing (f.levels - 1) (second_of vs f b) ∷ behind vs fs (full_by (spent f.todo) y))
     (second-base vs f.todo f b h.0.facts h.0.waits)
+    ∙ ap (λ y. allowing (f.levels - 1) (second_of vs f b) ∷ behind vs fs y) (spent-full f.todo (base_of f b))
     ∙ ap (λ z. waiting_first z (allowing (f.levels - 1) (second_of vs f b)) (behind vs fs (full_of f b))) (sym e)
 
 pub turned-fits : (vs : List Variable) (f : Frame) (fs : List Frame) (b : Branch) → FramesFit (f ∷ fs) b → FramesFit
@@ -136,12 +158,12 @@ turned-fits vs f fs b h =
         levels = h.0.levels;
         facts = omega (arith, l0, p);
         waits = omega (arith, l1, q);
-        place = h.0.place;
+        place = spent-fits f.todo f.waits h.0.place;
         added = second-added vs f.todo (base_of f b);
         room = h.0.room;
       },
-      subst (λ y. FramesFit fs (full_by f.todo y))
-          (sym (second-base vs f.todo f b h.0.facts h.0.waits)) h.1,
+      subst (FramesFit fs) (sym (ap (full_by (spent f.todo)) (second-base vs f.todo f b h.0.facts h.0.waits)
+          ∙ spent-full f.todo (base_of f b))) h.1,
     )
 
 pub second-ends : (vs : List Variable) (f : Frame) (fs : List Frame) (b : Branch) → f.first ≡ false → behind vs fs
@@ -185,7 +207,7 @@ over-fits f fs b c x l p q a r e t h =
 pub reversed : {A : Type 0} (xs : List A) (x : A) → reverse (xs ++ x ∷ []) ≡ x ∷ reverse xs
 reversed xs x = reverse-append xs (x ∷ [])
 
-pub ruleset frame_laws = (first-turns, turned-fits, second-ends, full-long, reversed)
+pub ruleset frame_laws = (first-turns, turned-fits, spent-light, second-ends, full-long, reversed)
 
 -- the innermost frame, where the last of a list is it
 pub popped-fits : (fs old : List Frame) (f : Frame) (b : Branch) → old ≡ fs ++ f ∷ [] → FramesFit (reverse old) b →

@@ -1,6 +1,6 @@
 -- The branches that a checker in the middle of a certificate has still to refute.
 use Rattle.std.specs.Prelude.{◌≡◌, ℕ, ◌+◌, ◌-◌, ◌<◌, ◌≤◌, ◌^◌, Bool, true, false, cond, Result, Ok, Err, List, [], ◌∷◌}
-use Rattle.std.specs.Prelude.{◌++◌, length, take, insert, reverse}
+use Rattle.std.specs.Prelude.{◌++◌, length, take, insert, reverse, pos}
 use Rattle.std.specs.List.{list_all}
 use Rattle.case_tables.specs.declared.code_table.Code.{Code}
 use Rattle.obligations.specs.declared.branches.Branch.{Branch}
@@ -75,9 +75,14 @@ abbrev pub step_by : ℕ → List OpenBranch → NodeEffect → Result (List Ope
 step_by levels ps (fails c) = Err c
 step_by levels ps (opens bs) = Ok (pending (levels - 1) bs ++ ps)
 
+-- what a frame keeps of what it had to do, once its second subtree has begun: a fact is then the branch's
+abbrev pub spent : Todo → Todo
+spent (Todo.Form place form) = Todo.Form place form
+spent (Todo.Fact fact) = Todo.Fact (record { factors = []; constant = pos 0 })
+
 -- a frame in its second subtree
 abbrev pub turned : Frame → Frame
-turned f = record f { first = false }
+turned f = record f { todo = spent f.todo; first = false }
 
 -- settling a formula that was taken out meets no load past 2^63
 abbrev pub is_light_todo : Todo → Bool

@@ -2,7 +2,7 @@
 //! and `quot` a frame that says how it goes on after the first subtree: the branch grows at the ends of its lists, and
 //! is cut back for the second one. A `quot` has no second one.
 ghost use Rattle.std.specs.Prelude.{◌≡◌, ◌≤◌, ◌<◌, ◌^◌, ◌∷◌, IfOk, OnOk};
-ghost use Rattle.std.specs.Prelude.{true, false, Ok, length, reverse, ℕ};
+ghost use Rattle.std.specs.Prelude.{true, false, Ok, length, reverse, ℕ, pos, []};
 ghost use Rattle.obligations.specs.Settling.{added};
 ghost use Rattle.obligations.specs.Load.{is_light_branch};
 ghost use Rattle.obligations.specs.Obligations.{AreVariables, AreOwn};
@@ -10,10 +10,9 @@ ghost use Rattle.obligations.specs.Scopes.{scope, scope_of};
 ghost use Rattle.certificate_machine.specs.Machines.{base_of, full_by, second_by, behind, place_fits, FramesFit};
 ghost use Rattle.certificate_machine.specs.Machines.{pendings};
 ghost use Rattle.certificate_machine.specs.Machines.{IsFit, rest_of, is_light_todo, IsLightMachine};
-ghost use Rattle.certificate_machine.specs.Machines.{IsScoped};
+ghost use Rattle.certificate_machine.specs.Machines.{IsScoped, spent};
 
 use crate::facts::{add, settle_second};
-use certificate_rules::copy_fact;
 use core_terms::CForm;
 use obligations::{Branch, Fact, Variable};
 use std::alloc::{AllocError, Global};
@@ -86,25 +85,43 @@ fn put_back(todo: Todo, branch: &mut Branch) -> Result<(), AllocError>
     }
 }
 
-/// Makes the branch of a frame's second subtree from the branch cut back, over its variables.
+/// A fact that takes no memory.
+fn no_fact(alloc: Global) -> Fact
+    ensures { result ≡ record { factors = []; constant = pos 0 } }
+{
+    Fact {
+        factors: Seq::new(alloc),
+        constant: 0,
+    }
+}
+
+/// Makes the branch of a frame's second subtree from the branch cut back, over its variables. A fact is handed on to
+/// it.
 #[tactic(auto, using(crate::proofs::MachineLaws::added_laws))]
 fn go_second(
     alloc: Global,
     own: &[Variable],
     vs: &[Variable],
-    todo: &Todo,
+    todo: Todo,
     branch: &mut Branch,
-) -> Result<(), AllocError>
+) -> Result<Todo, AllocError>
     requires variables { AreVariables vs.now }
     requires scope { vs.now ≡ scope_of own.now branch.old }
-    requires taken { is_light_todo todo.now ≡ true }
+    requires taken { is_light_todo todo ≡ true }
     requires waiting { is_light_branch (2 ^ 63) branch.old ≡ true }
-    ensures branch { OnOk result (branch.new ≡ second_by own.now todo.now branch.old) }
+    ensures left { IfOk result (λ left. left ≡ spent todo) }
+    ensures branch { OnOk result (branch.new ≡ second_by own.now todo branch.old) }
     ensures light { OnOk result (is_light_branch (2 ^ 63) branch.new ≡ true) }
 {
     match todo {
-        Todo::Form { form, .. } => settle_second(alloc, vs, form.get(), branch),
-        Todo::Fact(fact) => add(branch, copy_fact(alloc, fact)?),
+        Todo::Form { place, form } => {
+            settle_second(alloc, vs, form.get(), branch)?;
+            Ok(Todo::Form { place, form })
+        }
+        Todo::Fact(fact) => {
+            add(branch, fact)?;
+            Ok(Todo::Fact(no_fact(alloc)))
+        }
     }
 }
 
@@ -135,11 +152,11 @@ fn resume(
     cut(&frame, &mut machine.branch);
     cut_variables(vs, frame.added, &mut machine.variables);
     if frame.first {
-        go_second(
+        let todo = go_second(
             alloc,
             vs,
             machine.variables.as_slice(),
-            &frame.todo,
+            frame.todo,
             &mut machine.branch,
         )?;
         machine.levels = frame.levels - 1;
@@ -148,7 +165,7 @@ fn resume(
             facts: frame.facts,
             waits: frame.waits,
             added: frame.added,
-            todo: frame.todo,
+            todo,
             first: false,
         })?;
         Ok(true)
