@@ -126,9 +126,8 @@ fn has_front<S: Source>(alloc: Global, text: &str, src: &mut S) -> Result<bool, 
         Err(refusal) => return Ok(section_split(alloc, text.as_bytes()).is_err_and(|e| e
             == refusal)),
     };
-    let (whole, behind) = section_split(alloc, text.as_bytes())?;
+    let (mut tokens, behind) = section_split(alloc, text.as_bytes())?;
     let front = &streamed.front;
-    let mut tokens = whole.tokens;
     let cut = match front.cut {
         Some(_) => tokens.pop().map(|word| word.start),
         None => None,
@@ -139,7 +138,7 @@ fn has_front<S: Source>(alloc: Global, text: &str, src: &mut S) -> Result<bool, 
             && front.bytes.len() as u64 == end
             && text.as_bytes().starts_with(&front.bytes)
             && front.tokens.as_slice() == tokens.as_slice()
-            && streamed.behind.as_slice() == behind.tokens.as_slice(),
+            && streamed.behind.as_slice() == behind.as_slice(),
     )
 }
 

@@ -14,9 +14,9 @@ use proof_script::check;
 use std::alloc::Global;
 use streamed_documents::core_of;
 use unity_base::{Held, Seq};
-use unity_lexer::{TokenPart, lex, lex_part};
+use unity_lexer::lex;
 use unity_parser::parse;
-use unity_syntax::{Document, SyntaxFault, TokenKind};
+use unity_syntax::{Document, SyntaxFault, Token, TokenKind};
 
 /// A text that was read whole: its core form and its certificates.
 #[derive(Drop)]
@@ -49,10 +49,20 @@ pub fn read_whole(alloc: Global, bytes: &[u8]) -> Result<Whole, Refusal>
 }
 
 /// The tokens up to the first word `certificates`, with it, or all; and those behind it.
-pub fn section_split(alloc: Global, bytes: &[u8]) -> Result<(TokenPart, TokenPart), Refusal> {
+pub fn section_split(alloc: Global, bytes: &[u8]) -> Result<(Vec<Token>, Vec<Token>), Refusal> {
     let word = TokenKind::Reserved(Word::Certificates);
-    let front = lex_part(alloc, bytes, 0, Some(word))?;
-    let behind = lex_part(alloc, bytes, front.end, None)?;
+    let tokens = lex(alloc, bytes)?;
+    let mut front = Vec::new(alloc);
+    let mut behind = Vec::new(alloc);
+    let mut met = false;
+    for token in tokens.as_slice() {
+        if met {
+            behind.push(*token)?;
+        } else {
+            front.push(*token)?;
+            met = token.kind == word;
+        }
+    }
     Ok((front, behind))
 }
 

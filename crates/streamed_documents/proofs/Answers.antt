@@ -39,14 +39,15 @@ use Rattle.front_documents.proofs.Refusals.{front_faults_stay, token_faults_stay
 use Rattle.streamed_documents.specs.declared.behind.Pending.{Pending}
 use Rattle.streamed_documents.specs.declared.found.Flaw.{Flaw}
 use Rattle.streamed_documents.specs.declared.found.Finding.{Finding}
-use Rattle.streamed_documents.specs.declared.found.JudgedDocument.{JudgedDocument}
-use Rattle.streamed_documents.specs.WellFormed.{IsFirstFault}
 use Rattle.streamed_documents.specs.WellFormed as wells
-use Rattle.streamed_documents.specs.Found.{IsJudged, IsRefused, IsFound}
+use Rattle.streamed_documents.specs.Found.{IsRead, IsRefused, IsFound, section_place}
+use Rattle.streamed_documents.specs.declared.found.ReadDocument.{ReadDocument}
+use Rattle.streamed_documents.specs.declared.fronts.Passage.{Passage}
+use Rattle.streamed_documents.specs.declared.fronts.Listener.{Listener}
 use Rattle.streamed_documents.specs.declared.fronts.Opened.{Opened}
-use Rattle.streamed_documents.specs.Fronts.{HasFront, IsOpening, IsSettled, IsVerdictBy, section_version}
-use Rattle.streamed_documents.specs.Fronts.{version_behind}
-use Rattle.streamed_documents.specs.Hearing.{Hears, MayHear, IsPendingOn, IsJudgeOf}
+use Rattle.streamed_documents.specs.Fronts.{HasFront, IsOpening, IsPassage, IsPassageFor, IsPassed, IsSettled, IsVerdictBy}
+use Rattle.streamed_documents.specs.Fronts.{section_version, version_behind}
+use Rattle.streamed_documents.specs.Hearing.{Hears, MayHear, IsPendingOn, IsReadyFor}
 use Rattle.streamed_documents.specs.Rests as rests
 use Rattle.streamed_documents.specs.Rests.{IsBehind, IsKept, IsSkimmed}
 use Rattle.streamed_documents.proofs.Certificates.{stands_for_section}
@@ -76,49 +77,105 @@ pub kept_same : (limit at : ℕ) (bytes : List ℕ) (code known : Code) (place o
 kept_same limit at bytes code known place other flaw codes places kept =
     subst (λ c. IsKept limit at bytes c other flaw) codes (subst (λ p. IsKept limit at bytes code p flaw) places kept)
 
--- ---- the verdict
-
--- a document with the verdict on it
-judged_as : (limit : ℕ) (bytes : List ℕ) (d : Document) (core : CDocument) (judge : Judge) (j : JudgedDocument)
-    → length bytes ≤ limit → IsDocument bytes d → IsJudgeOf d core judge → (told : Judge)
-    → StandsFor core told (certs_events (certificates_of d)) → IsVerdictBy core told (Finding.Judged j)
-    → IsJudged limit bytes j
-judged_as limit bytes d core judge j size is of told stands verdict = record {
-  document = d;
-  size = size;
-  reading = record { is_document = is; named = of.named; expands = of.expands };
-  core_is = verdict.0 ∙ of.core_is;
-  verdict_is = verdict.1 (core_document d) (certificates_of d) (are_whole_trees bytes d is)
-      (subst (λ c. StandsFor c told (certs_events (certificates_of d))) of.core_is stands);
-}
+-- ---- what is pending
 
 -- what is pending on a document, where it was told the document's certificates
-settled_as : (limit : ℕ) (bytes : List ℕ) (d : Document) → length bytes ≤ limit → IsDocument bytes d
-    → (old new : Pending) → IsPendingOn d old → (es : List CertEvent) → Hears old new es
+told_on : (section_at : Option ℕ) (d : Document) (old new : Pending) → IsPendingOn section_at [] d old
+    → (es all : List CertEvent) → Hears old new es
+    → ((core : CDocument) (judge : Judge) → StandsFor core judge es → StandsFor core judge all)
+    → IsPendingOn section_at all d new
+told_on section_at d (Pending.Fault code at) new on es all heard told =
+    subst (IsPendingOn section_at all d) (sym heard) on
+told_on section_at d (Pending.Document r) new on es all heard told =
+    subst (IsPendingOn section_at all d) (sym heard) on
+told_on section_at d (Pending.Judge core judge) new on es all heard told =
+    subst (IsPendingOn section_at all d) (sym heard.1) (record {
+      named = on.named;
+      expands = on.expands;
+      core_is = on.core_is;
+      stands = told core heard.0 (heard.2.stands core [] on.stands);
+    })
+
+passed_as : (limit : ℕ) (bytes : List ℕ) (d : Document) → length bytes ≤ limit → IsDocument bytes d
+    → (old new : Pending) → IsPendingOn (section_place d.certificates) [] d old → (es : List CertEvent)
+    → Hears old new es
     → ((core : CDocument) (judge : Judge) → StandsFor core judge es
-    → StandsFor core judge (certs_events (certificates_of d))) → (found : Finding) → IsSettled new found
-    → IsFound limit bytes found
-settled_as limit bytes d size is (Pending.Fault code at) new on es heard told found settled =
-    let same : found ≡ Finding.Refused (Flaw.Fault code at) = subst (λ p. IsSettled p found) heard settled in
-    subst (λ f. IsFound limit bytes f) (sym same) (size, wells.IsFirstFault.of_document d is on)
-settled_as limit bytes d size is (Pending.Judge core judge) new on es heard told found settled =
-    by_judge found (subst (λ p. IsSettled p found) heard.1 settled)
-  where
-    by_judge : (found : Finding) → IsVerdictBy core heard.0 found → IsFound limit bytes found
-    by_judge (Finding.Refused flaw) verdict = absurd verdict
-    by_judge (Finding.Judged j) verdict = judged_as limit bytes d core judge j size is on heard.0
-        (told core heard.0 (heard.2.stands core [] on.stands)) verdict
+    → StandsFor core judge (certs_events (certificates_of d))) → IsPassed limit bytes new
+passed_as limit bytes d size is old new on es heard told = record {
+  document = d;
+  size = size;
+  is_document = is;
+  pending = told_on (section_place d.certificates) d old new on es (certs_events (certificates_of d)) heard told;
+}
 
 -- names and expansion do not look at a document's certificates
-pending_same : (d : Document) (c : Certificates) (p : Pending) → IsPendingOn d p
-    → IsPendingOn (record d { certificates = Some c }) p
-pending_same d c (Pending.Fault code at) on = on
-pending_same d c (Pending.Judge core judge) on = record {
+pending_same : (section_at : Option ℕ) (d : Document) (c : Certificates) → section_at ≡ Some c.at → (p : Pending)
+    → IsPendingOn section_at [] d p → IsPendingOn (Some c.at) [] (record d { certificates = Some c }) p
+pending_same section_at d c e (Pending.Fault code at) on = on
+pending_same section_at d c e (Pending.Document r) on = record {
+  named = on.named;
+  expands = on.expands;
+  core_is = on.core_is;
+  number_is = on.number_is;
+  section_is = on.section_is ∙ e;
+}
+pending_same section_at d c e (Pending.Judge core judge) on = record {
   named = on.named;
   expands = on.expands;
   core_is = on.core_is;
   stands = on.stands;
 }
+
+-- ---- the answers
+
+-- a document with the verdict on it
+judged_as : (limit : ℕ) (bytes : List ℕ) (core : CDocument) (judge : Judge)
+    → (h : IsPassed limit bytes (Pending.Judge core judge)) → (found : Finding) → IsVerdictBy core judge found
+    → IsFound limit bytes found
+judged_as limit bytes core judge h (Finding.Refused flaw) verdict = absurd verdict
+judged_as limit bytes core judge h (Finding.Judged j) verdict =
+    let d = h.document in
+    record {
+      document = d;
+      size = h.size;
+      reading = record { is_document = h.is_document; named = h.pending.named; expands = h.pending.expands };
+      core_is = verdict.0 ∙ h.pending.core_is;
+      verdict_is = verdict.1 (core_document d) (certificates_of d) (are_whole_trees bytes d h.is_document)
+          (subst (λ c. StandsFor c judge (certs_events (certificates_of d))) h.pending.core_is h.pending.stands);
+    }
+
+fault_passed : (limit : ℕ) (bytes : List ℕ) (code : Code) (at : ℕ) → IsPassed limit bytes (Pending.Fault code at)
+    → IsRefused limit bytes (Flaw.Fault code at)
+fault_passed limit bytes code at h = (h.size, wells.IsFirstFault.of_document h.document h.is_document h.pending)
+
+pub settled_found : (limit : ℕ) (bytes : List ℕ) (p : Pending) → IsPassed limit bytes p → (found : Finding)
+    → IsSettled p found → IsFound limit bytes found
+settled_found limit bytes (Pending.Fault code at) h found settled =
+    subst (IsFound limit bytes) (sym settled) (fault_passed limit bytes code at h)
+settled_found limit bytes (Pending.Document r) h found settled = absurd settled
+settled_found limit bytes (Pending.Judge core judge) h found settled =
+    judged_as limit bytes core judge h found settled
+
+pub fault_read : (limit : ℕ) (bytes : List ℕ) (p : Pending) (code : Code) (at : ℕ) → p ≡ Pending.Fault code at
+    → IsPassed limit bytes p → IsRefused limit bytes (Flaw.Fault code at)
+fault_read limit bytes p code at is h = fault_passed limit bytes code at (subst (IsPassed limit bytes) is h)
+
+pub document_read : (limit : ℕ) (bytes : List ℕ) (p : Pending) (r : ReadDocument) → p ≡ Pending.Document r
+    → IsPassed limit bytes p → IsRead limit bytes r
+document_read limit bytes p r is h =
+    let passed = subst (IsPassed limit bytes) is h in
+    record {
+      document = passed.document;
+      size = passed.size;
+      reading = record {
+        is_document = passed.is_document;
+        named = passed.pending.named;
+        expands = passed.pending.expands;
+      };
+      core_is = passed.pending.core_is;
+      number_is = passed.pending.number_is;
+      section_is = passed.pending.section_is;
+    }
 
 -- ---- a front with a section behind it
 
@@ -183,15 +240,14 @@ module _ (w : Window) (left : Option (List ℕ)) (bytes : List ℕ) (f : Front) 
         (sections_end_early bytes f cut End ts d cut_front (behind ts reads) read opens none))
 
     -- nothing is
-    pub behind_found : IsPendingOn d old
-        → IsBehind (says_later f.tokens) w.limit w.at (drop End bytes) old new None → (found : Finding)
-        → IsSettled new found → IsFound w.limit bytes found
-    behind_found on (rests.IsBehind.section ts c inside reads section heard) found settled =
+    pub behind_passed : IsPendingOn f.cut [] d old
+        → IsBehind (says_later f.tokens) w.limit w.at (drop End bytes) old new None → IsPassed w.limit bytes new
+    behind_passed on (rests.IsBehind.section ts c inside reads section heard) =
         let whole : Document = record d { certificates = Some (record { at = cut; items = c.items }) } in
-        settled_as w.limit bytes whole (omega (arith, inside, size))
+        passed_as w.limit bytes whole (omega (arith, inside, size))
         (sections_complete bytes f cut End ts d c cut_front (behind ts reads) read section) old new
-        (pending_same d (record { at = cut; items = c.items }) old on)
-        (section_events c) heard (λ core judge stands. stands_for_section core judge c stands) found settled
+        (pending_same f.cut d (record { at = cut; items = c.items }) is old on)
+        (section_events c) heard (λ core judge stands. stands_for_section core judge c stands)
 
 -- ---- a front that is the whole text
 
@@ -248,11 +304,15 @@ module _ (w : Window) (left : Option (List ℕ)) (bytes : List ℕ) (f : Front) 
     none_told : certs_events (certificates_of d) ≡ []
     none_told = ap (λ o. certs_events (map certificate_of (section_of o))) no_certificates
 
-    pub whole_found : (pending : Pending) → IsPendingOn d pending → Hears pending pending [] → (found : Finding)
-        → IsSettled pending found → IsFound w.limit bytes found
-    whole_found pending on heard found settled =
-        settled_as w.limit bytes d all.3 whole_document pending pending on [] heard
-        (λ core judge stands. subst (λ es. StandsFor core judge es) (sym none_told) stands) found settled
+    no_place : f.cut ≡ section_place d.certificates
+    no_place = is ∙ sym (ap section_place no_certificates)
+
+    pub whole_passed : (pending : Pending) → IsPendingOn f.cut [] d pending → Hears pending pending []
+        → IsPassed w.limit bytes pending
+    whole_passed pending on heard =
+        passed_as w.limit bytes d all.3 whole_document pending pending
+        (subst (λ at. IsPendingOn at [] d pending) no_place on) [] heard
+        (λ core judge stands. subst (λ es. StandsFor core judge es) (sym none_told) stands)
 
 -- ---- what is read behind a front
 
@@ -289,18 +349,17 @@ module _ (w : Window) (left : Option (List ℕ)) (bytes : List ℕ) (f : Front) 
           (subst (λ r. IsBehind (says_later f.tokens) w.limit w.at (drop (End w left bytes f h cut e) bytes) old new
           r) q (section_at_cut cut e))
 
-  pub nothing_found : result ≡ None → IsPendingOn d old → MayHear old → (found : Finding) → IsSettled new found
-      → IsFound w.limit bytes found
-  nothing_found q on may found settled = at f.cut refl
+  pub nothing_passed : result ≡ None → IsPendingOn f.cut [] d old → MayHear old → IsPassed w.limit bytes new
+  nothing_passed q on may = at f.cut refl
     where
-      at : (o : Option ℕ) → f.cut ≡ o → IsFound w.limit bytes found
+      at : (o : Option ℕ) → f.cut ≡ o → IsPassed w.limit bytes new
       at None e =
           let nothing = none (version_at None e) in
-          whole_found w left bytes f h e d read old on (hears_none old may) found
-          (subst (λ p. IsSettled p found) nothing.1 settled)
-      at (Some cut) e = behind_found w left bytes f h cut e d read old new on
+          subst (IsPassed w.limit bytes) (sym nothing.1)
+          (whole_passed w left bytes f h e d read old on (hears_none old may))
+      at (Some cut) e = behind_passed w left bytes f h cut e d read old new on
           (subst (λ r. IsBehind (says_later f.tokens) w.limit w.at (drop (End w left bytes f h cut e) bytes) old new
-          r) q (section_at_cut cut e)) found settled
+          r) q (section_at_cut cut e))
 
 -- where there is no section, the front is the whole text
 pub front_whole : (f : Front) (version : Option ℕ) → version ≡ section_version f → version ≡ None → f.cut ≡ None
@@ -316,10 +375,11 @@ front_whole f version is none = at f.cut refl
 
 -- what is found behind the front of a document
 pub found_behind : {E : Type 0} (w : Window) (left : Option (List ℕ)) (f : Front) (version : Option ℕ)
-    (pending : Pending) (result : Result Finding E) → IsOpening f (Opened.Document version pending)
+    (pending : Pending) (result : Result Passage E) → IsOpening f (Opened.Document version pending)
     → IfOk result (λ found. (bytes : List ℕ) (f : Front) (d : Document) → HasFront w left bytes f
-    → version ≡ section_version f → IsFrontDocument f d → IsPendingOn d pending → IsFound w.limit bytes found)
-    → IfOk result (λ found. (bytes : List ℕ) → HasFront w left bytes f → IsFound w.limit bytes found)
+    → version ≡ section_version f → IsFrontDocument f d → IsPendingOn f.cut [] d pending
+    → IsPassage w.limit bytes found)
+    → IfOk result (λ found. (bytes : List ℕ) → HasFront w left bytes f → IsPassage w.limit bytes found)
 found_behind w left f version pending (Ok found) opened finds =
     λ bytes front. finds bytes f opened.1 front opened.0 opened.2 opened.3
 found_behind w left f version pending (Err e) opened finds = tt
@@ -385,16 +445,23 @@ pub long_out : (u : Window) (a : Option (List ℕ)) (most : ℕ) → held u ≡ 
 long_out u None most none at limit long = tt
 long_out u (Some bytes) most none at limit long = long_found u (Some bytes) most none at limit long bytes refl
 
-pub found_at : (most limit : ℕ) (bytes : List ℕ) (found : Finding) → limit ≡ most → IsFound limit bytes found
-    → IsFound most bytes found
-found_at most limit bytes found e h = subst (λ n. IsFound n bytes found) e h
+pub found_at : (most limit : ℕ) (bytes : List ℕ) (found : Passage) → limit ≡ most → IsPassage limit bytes found
+    → IsPassage most bytes found
+found_at most limit bytes found e h = subst (λ n. IsPassage n bytes found) e h
 
 -- what a call found behind a front
-pub found_from : {E : Type 0} (u w : Window) (a c : Option (List ℕ)) (f : Front) (most : ℕ) (result : Result Finding E)
+pub found_from : {E : Type 0} (u w : Window) (a c : Option (List ℕ)) (f : Front) (most : ℕ) (result : Result Passage E)
     → held u ≡ [] → u.at ≡ 0 → u.limit ≡ most → HasPassed u w a c
     → (u.at ≡ 0 → (bytes : List ℕ) → coming u a ≡ Some bytes → IsFront u.limit bytes f (coming w c))
-    → IfOk result (λ found. (bytes : List ℕ) → HasFront w c bytes f → IsFound w.limit bytes found)
-    → IfOk result (λ found. (bytes : List ℕ) → a ≡ Some bytes → IsFound most bytes found)
+    → IfOk result (λ found. (bytes : List ℕ) → HasFront w c bytes f → IsPassage w.limit bytes found)
+    → IfOk result (λ found. (bytes : List ℕ) → a ≡ Some bytes → IsPassage most bytes found)
 found_from u w a c f most (Ok found) none at limit p front finds = λ bytes e.
     found_at most w.limit bytes found (p.limit ∙ limit) (finds bytes (has_front u w a c bytes f none at p e (front at)))
 found_from u w a c f most (Err e) none at limit p front finds = tt
+
+-- what is pending behind a front is there for whom it was before
+pub passage_for : {E : Type 0} (listener : Listener) (p : Pending) (result : Result Passage E)
+    → IfOk result (λ found. (l : Listener) → IsReadyFor l p → IsPassageFor l found) → IsReadyFor listener p
+    → IfOk result (IsPassageFor listener)
+passage_for listener p (Ok found) h ready = h listener ready
+passage_for listener p (Err e) h ready = tt

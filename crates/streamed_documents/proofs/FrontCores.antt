@@ -22,7 +22,6 @@ use Rattle.unity_lexer.specs.Tokens.{AreInOrder}
 use Rattle.unity_lexer.specs.Scans.{section_kind, IsSmall}
 use Rattle.unity_parser.specs.Fronts.{word_at, empty_section, front_tokens}
 use Rattle.unity_parser.proofs.Parsed.{words_within}
-use Rattle.unity_parser.proofs.SectionReadings.{terminals_join}
 use Rattle.certificate_events.proofs.Back.{one_token}
 use Rattle.names_rules.specs.WellNamed.{IsWellNamed}
 use Rattle.expand_documents.specs.Cores.{core_document}
@@ -32,7 +31,7 @@ use Rattle.expand_fits.proofs.Parsed.Reading.{sound_by}
 use Rattle.expand_fits.proofs.Sound.{documents_sound}
 use Rattle.front_documents.specs.Laws.{IsFrontDocument}
 use Rattle.front_documents.proofs.FirstWord.{word_class, bodies_avoid, section_at}
-use Rattle.front_documents.proofs.Fronts.{word_free}
+use Rattle.front_documents.proofs.Fronts.{terminals_join, word_free}
 use Rattle.streamed_documents.specs.Fronts.{IsOrderly, FrontCores}
 
 -- ---- tokens in order

@@ -6,3 +6,4 @@ pub mod Hearings
 pub mod SectionSteps
 pub mod Certificates
 pub mod Answers
+pub mod AtHand

@@ -1,5 +1,6 @@
 -- What bytes are found to be.
-use Rattle.std.specs.Prelude.{◌≡◌, ◌<◌, ◌≤◌, ℕ, List, length}
+use Rattle.std.specs.Prelude.{◌≡◌, ◌<◌, ◌≤◌, ℕ, List, length, Option, Some, None}
+use Rattle.unity_syntax.specs.declared.certificate.Certificates.{Certificates}
 use Rattle.unity_syntax.specs.declared.document.Document.{Document}
 use Rattle.expand_documents.specs.Cores.{core_document}
 use Rattle.proof_plans.specs.Verdicts.{verdict_of}
@@ -7,6 +8,8 @@ use Rattle.certificate_reading.specs.Certificates.{certificates_of}
 use Rattle.streamed_documents.specs.declared.found.Flaw.{Flaw}
 use Rattle.streamed_documents.specs.declared.found.Finding.{Finding}
 use Rattle.streamed_documents.specs.declared.found.JudgedDocument.{JudgedDocument}
+use Rattle.streamed_documents.specs.declared.found.ReadDocument.{ReadDocument}
+use Rattle.streamed_documents.specs.declared.found.Reading.{Reading}
 use Rattle.streamed_documents.specs.WellFormed.{IsWellFormed, IsFirstFault}
 
 -- the bytes are a document without a fault, with this core form, and this is the verdict on it with its certificates
@@ -25,3 +28,21 @@ IsRefused most bytes (Flaw.Fault code at) = (length bytes ≤ most) × IsFirstFa
 abbrev pub IsFound : ℕ → List ℕ → Finding → Type 0
 IsFound most bytes (Finding.Refused flaw) = IsRefused most bytes flaw
 IsFound most bytes (Finding.Judged j) = IsJudged most bytes j
+
+-- the place of the word `certificates`, where there is a section
+abbrev pub section_place : Option Certificates → Option ℕ
+section_place None = None
+section_place (Some c) = Some c.at
+
+-- the bytes are a document without a fault, of which this is kept
+pub record IsRead (most : ℕ) (bytes : List ℕ) (r : ReadDocument) : Type 0 where
+  pub document : Document
+  pub size : length bytes ≤ most
+  pub reading : IsWellFormed bytes document
+  pub core_is : r.core ≡ core_document document
+  pub number_is : r.number_at ≡ document.number_at
+  pub section_is : r.section_at ≡ section_place document.certificates
+
+abbrev pub IsReading : ℕ → List ℕ → Reading → Type 0
+IsReading most bytes (Reading.Refused flaw) = IsRefused most bytes flaw
+IsReading most bytes (Reading.Document r) = IsRead most bytes r

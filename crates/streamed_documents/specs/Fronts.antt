@@ -1,5 +1,5 @@
 -- What is found of a front.
-use Rattle.std.specs.Prelude.{◌≡◌, ◌⊎◌, ℕ, ◌+◌, ◌^◌, ◌≤◌, Bool, if◌then◌else◌, List, length, Option, Some, None, All}
+use Rattle.std.specs.Prelude.{◌≡◌, ◌⊎◌, ℕ, ◌+◌, ◌^◌, ◌≤◌, Bool, if◌then◌else◌, List, [], length, Option, Some, None, All}
 use Rattle.std.specs.Prelude.{Result}
 use Rattle.core_terms.specs.Conditions.{IsCoreDocument}
 use Rattle.core_terms.specs.declared.documents.CDocument.{CDocument}
@@ -19,16 +19,21 @@ use Rattle.unity_lexer.specs.declared.front.Front.{Front}
 use Rattle.unity_lexer.specs.Tokens.{AreInOrder}
 use Rattle.unity_lexer.specs.Scans.{IsFront, IsNoSection, IsSmall}
 use Rattle.unity_parser.specs.ParseAnswers.{IsRefusal}
+use Rattle.unity_parser.specs.Document.{IsDocument}
+use Rattle.certificate_reading.specs.Certificates.{certificates_of}
 use Rattle.unity_parser.specs.Fronts.{front_tokens}
 use Rattle.names_rules.specs.WellNamed.{IsWellNamed}
 use Rattle.expand_documents.specs.Cores.{core_document}
 use Rattle.expand_documents.specs.Faults.{expansion_fault}
 use Rattle.front_documents.specs.Laws.{IsFrontDocument}
 use Rattle.streamed_documents.specs.declared.fronts.Opened.{Opened}
+use Rattle.streamed_documents.specs.declared.fronts.Listener.{Listener}
+use Rattle.streamed_documents.specs.declared.fronts.Passage.{Passage}
 use Rattle.streamed_documents.specs.declared.behind.Pending.{Pending}
 use Rattle.streamed_documents.specs.declared.found.Flaw.{Flaw}
 use Rattle.streamed_documents.specs.declared.found.Finding.{Finding}
-use Rattle.streamed_documents.specs.Hearing.{IsPendingOn, MayHear}
+use Rattle.streamed_documents.specs.Found.{IsRefused, section_place}
+use Rattle.streamed_documents.specs.Hearing.{IsPendingOn, IsReadyFor}
 
 -- where the bytes of a text are told: its front was read, and the rest is still to come
 pub record HasFront (w : Window) (left : Option (List ℕ)) (bytes : List ℕ) (f : Front) : Type 0 where
@@ -58,13 +63,29 @@ section_version f = version_behind f.cut (says_later f.tokens)
 abbrev pub IsOpening : Front → Opened → Type 0
 IsOpening f (Opened.Fault code at) = IsRefusal f.bytes.items (front_tokens f) code at
 IsOpening f (Opened.Document version pending) =
-    (version ≡ section_version f) × (d : Document) × IsFrontDocument f d × IsPendingOn d pending
+    (version ≡ section_version f) × (d : Document) × IsFrontDocument f d × IsPendingOn f.cut [] d pending
 
 -- what stands behind the front may be read
-abbrev pub MayGoOn : Opened → Type 0
-MayGoOn (Opened.Fault code at) = Unit {0}
-MayGoOn (Opened.Document version pending) =
-    MayHear pending × ((v : ℕ) → version ≡ Some v → (v ≡ 1) ⊎ (v ≡ 2))
+abbrev pub MayGoOn : Listener → Opened → Type 0
+MayGoOn listener (Opened.Fault code at) = Unit {0}
+MayGoOn listener (Opened.Document version pending) =
+    IsReadyFor listener pending × ((v : ℕ) → version ≡ Some v → (v ≡ 1) ⊎ (v ≡ 2))
+
+-- the bytes are a document, and this is pending on it, with all its certificates told
+pub record IsPassed (most : ℕ) (bytes : List ℕ) (p : Pending) : Type 0 where
+  pub document : Document
+  pub size : length bytes ≤ most
+  pub is_document : IsDocument bytes document
+  pub pending : IsPendingOn (section_place document.certificates) (certs_events (certificates_of document)) document p
+
+abbrev pub IsPassage : ℕ → List ℕ → Passage → Type 0
+IsPassage most bytes (Passage.Refused flaw) = IsRefused most bytes flaw
+IsPassage most bytes (Passage.Passed pending) = IsPassed most bytes pending
+
+-- what is pending is there for this listener
+abbrev pub IsPassageFor : Listener → Passage → Type 0
+IsPassageFor listener (Passage.Refused flaw) = Unit {0}
+IsPassageFor listener (Passage.Passed pending) = IsReadyFor listener pending
 
 -- the verdict of a judge, by whatever certificates it was told
 abbrev pub IsVerdict : Judge → Result Plan StepFault → Type 0
@@ -78,4 +99,5 @@ IsVerdictBy core judge (Finding.Judged j) = (j.core ≡ core) × IsVerdict judge
 -- what is pending is found
 abbrev pub IsSettled : Pending → Finding → Type 0
 IsSettled (Pending.Fault code at) found = found ≡ Finding.Refused (Flaw.Fault code at)
+IsSettled (Pending.Document r) found = ⊥
 IsSettled (Pending.Judge core judge) found = IsVerdictBy core judge found

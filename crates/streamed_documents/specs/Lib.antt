@@ -3,3 +3,4 @@ pub mod Found
 pub mod Fronts
 pub mod Hearing
 pub mod Rests
+pub mod Slices

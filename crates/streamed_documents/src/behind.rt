@@ -5,10 +5,10 @@ ghost use Rattle.unity_base.specs.Streams.{IsTold};
 ghost use Rattle.unity_syntax.specs.declared.token.Token.{Token};
 ghost use Rattle.certificate_events.specs.Sections.{Stands};
 ghost use Rattle.unity_base.specs.Window.{held, coming, window_at, window_limit, HasPassed};
-ghost use Rattle.streamed_documents.specs.Hearing.{Hears, MayHear};
+ghost use Rattle.streamed_documents.specs.Hearing.{Hears, MayHear, StaysReady};
 ghost use Rattle.streamed_documents.specs.Rests.{IsBehind, IsAllRead, IsEnding};
 
-use crate::found::{Flaw, SourceStop};
+use crate::found::{Flaw, ReadDocument, SourceStop};
 use crate::rests::{drained, skimmed};
 use case_tables::Code;
 use certificate_events::{CertReader, Taken};
@@ -28,6 +28,8 @@ pub(crate) enum Pending {
         /// The place, in bytes from 0.
         at: u64,
     },
+    /// The document, whose certificates nobody hears.
+    Document(Held<ReadDocument>),
     /// The verdict of a judge of the document with this core form.
     Judge {
         /// The core form.
@@ -37,14 +39,14 @@ pub(crate) enum Pending {
     },
 }
 
-/// Tells an event to a judge. A fault hears nothing.
+/// Tells an event to a judge. Nothing else hears it.
 fn hear(pending: &mut Pending, e: CertEvent) -> Result<(), AllocError>
     requires { MayHear pending.old }
     ensures heard { OnOk result (Hears pending.old pending.new (e ∷ [])) }
-    ensures ready { OnOk result (MayHear pending.new) }
+    ensures ready { OnOk result (StaysReady pending.old pending.new) }
 {
     match pending {
-        Pending::Fault { .. } => Ok(()),
+        Pending::Fault { .. } | Pending::Document(_) => Ok(()),
         Pending::Judge { judge, .. } => judge.take(e),
     }
 }
@@ -74,7 +76,7 @@ fn read_section<S: Source>(
     requires ready { MayHear pending.old }
     ensures behind { IfOk result (λ flaw. (bytes : List ℕ) → coming w.old (S.left src.old) ≡ Some bytes →
         IsBehind (version == 2) (window_limit w.old) (window_at w.old) bytes pending.old pending.new flaw) }
-    ensures ready { OnOk result (MayHear pending.new) }
+    ensures ready { OnOk result (StaysReady pending.old pending.new) }
     ensures end { IfOk result (IsAllRead w.old (S.left src.old) w.new (S.left src.new)) }
     ensures passed { HasPassed w.old w.new (S.left src.old) (S.left src.new) }
     ensures cause { IsTold (S.faults src.old) (S.faults src.new) (IsErrOf result SourceStop.Failed) }
@@ -112,7 +114,7 @@ pub(crate) fn read_behind<S: Source>(
         coming w.old (S.left src.old) ≡ Some bytes →
         IsBehind (v == 2) (window_limit w.old) (window_at w.old) bytes pending.old pending.new flaw) }
     ensures none { IfOk result (λ flaw. version ≡ None → (flaw ≡ None) × (pending.new ≡ pending.old)) }
-    ensures ready { OnOk result (MayHear pending.new) }
+    ensures ready { OnOk result (StaysReady pending.old pending.new) }
     ensures end { IfOk result (IsAllRead w.old (S.left src.old) w.new (S.left src.new)) }
     ensures passed { HasPassed w.old w.new (S.left src.old) (S.left src.new) }
     ensures cause { IsTold (S.faults src.old) (S.faults src.new) (IsErrOf result SourceStop.Failed) }

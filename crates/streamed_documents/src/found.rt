@@ -39,6 +39,26 @@ pub enum Finding {
     Judged(Held<JudgedDocument>),
 }
 
+/// What is kept of a document without a fault where its certificates are not judged.
+#[derive(Drop)]
+pub struct ReadDocument {
+    /// The core form.
+    pub core: CDocument,
+    /// The place of the version's number.
+    pub number_at: u64,
+    /// The place of the word `certificates`, where there is a section.
+    pub section_at: Option<u64>,
+}
+
+/// What a text is read as.
+#[derive(Drop)]
+pub enum Reading {
+    /// No document without a fault.
+    Refused(Flaw),
+    /// A document without a fault.
+    Document(Held<ReadDocument>),
+}
+
 /// Why nothing is found.
 #[derive(Clone, Copy, Debug, PartialEq, Eq)]
 pub enum SourceStop {

@@ -6,9 +6,11 @@ mod behind;
 mod cores;
 mod found;
 mod fronts;
+mod outcomes;
 mod rests;
+mod slices;
 mod sources;
 
 pub use cores::core_of;
-pub use found::{Finding, Flaw, JudgedDocument, SourceStop};
-pub use sources::judge_source;
+pub use found::{Finding, Flaw, JudgedDocument, ReadDocument, Reading, SourceStop};
+pub use sources::{judge_bytes, judge_source, read_bytes, read_source};

@@ -1,6 +1,7 @@
 -- What a search finds is its answer.
-use Rattle.std.proofs.Common.{◌≡◌, ◌≤◌, ◌+◌, ℕ, List, ◌∷◌, ◌++◌, length, Some, Result, Ok, IfOk, refl, sym, ap, ◌∙◌}
-use Rattle.std.proofs.Common.{subst, arith}
+use Rattle.std.proofs.Common.{◌≡◌, ◌≤◌, ◌+◌, ℕ, List, ◌∷◌, ◌++◌, length, Option, Some, None, Result, Ok, IfOk, refl, sym}
+use Rattle.std.proofs.Common.{ap, ◌∙◌, subst, arith}
+use Rattle.unity_syntax.specs.declared.certificate.Certificates.{Certificates}
 use Rattle.unity_syntax.specs.declared.document.Document.{Document}
 use Rattle.core_terms.specs.declared.documents.CDocument.{CDocument}
 use Rattle.core_terms.specs.Conditions.{IsCoreDocument}
@@ -19,13 +20,14 @@ use Rattle.certificate_roundtrip.proofs.FoundTexts.{proved_is_read}
 use Rattle.plain_quotients.proofs.OnlyTimesLaws.{earlier_leave_none}
 use Rattle.unity_cli.specs.declared.prove.Found.{Found}
 use Rattle.unity_cli.specs.declared.input.Input.{Input}
-use Rattle.unity_cli.specs.declared.input.AdmittedDocument.{AdmittedDocument}
+use Rattle.streamed_documents.specs.declared.found.ReadDocument.{ReadDocument}
 use Rattle.unity_cli.specs.declared.status.Status.{Status}
 use Rattle.unity_cli.specs.Admitted.{greatest_size, greatest_bare_size, IsAdmitted}
 use Rattle.unity_cli.specs.Answer.Check.{IsAccepted}
 use Rattle.unity_cli.specs.Answer.Prove.{IsFinding, IsFound, Searched}
 use Rattle.unity_cli.specs.Answering.{HasPlan}
-use Rattle.unity_cli.specs.Input.{AreKept, IsAdmittedAs, words_in}
+use Rattle.streamed_documents.specs.Found.{section_place}
+use Rattle.unity_cli.specs.Input.{AreKept, IsAdmittedAs, bytes_before, words_in}
 use Rattle.unity_cli.proofs.Accepted.{read_core}
 use Rattle.unity_cli.proofs.Told.{sound_core}
 
@@ -34,17 +36,17 @@ are_kept Input.TooLong bytes = tt
 are_kept (Input.Fault code at) bytes = tt
 are_kept (Input.Document r) bytes = refl
 
-pub searched_core : (bytes : List ℕ) (r : AdmittedDocument) → IsAdmittedAs greatest_bare_size bytes r →
+pub searched_core : (bytes : List ℕ) (r : ReadDocument) → IsAdmittedAs greatest_bare_size bytes r →
     IsCoreDocument r.core
 searched_core bytes r is = sound_core greatest_bare_size (omega arith) r (bytes, is)
 
 -- what is found of the core form is found of the document
-pub finds_told : (bytes : List ℕ) (budget : ℕ) (r : AdmittedDocument) (finding : Result Proof ScriptError)
+pub finds_told : (bytes : List ℕ) (budget : ℕ) (r : ReadDocument) (finding : Result Proof ScriptError)
     (told : CDocument → List ℕ) (text : List ℕ) → Finds r.core budget finding →
     text ≡ told r.core →
     IsAdmittedAs greatest_bare_size bytes r → IsFinding bytes budget finding told text
 finds_told bytes budget r finding told text h e is = record {
-  document = r.document;
+  document = is.document;
   read = is.read;
   finds = subst (λ c. Finds c budget finding) is.core_is h;
   text_is = e ∙ ap told is.core_is;
@@ -97,27 +99,33 @@ found_of bytes budget d plan certs text read few proved e = record {
       (found_accepted bytes budget d plan certs read few proved);
 }
 
-module _ (bytes : List ℕ) (budget : ℕ) (r : AdmittedDocument) (plan : Plan) (certs : List Cert) (before text : List ℕ)
+-- what stands before the section of a document
+pub before_section : (bytes : List ℕ) (c : Option Certificates) → bytes_before bytes (section_place c) ≡ front bytes c
+before_section bytes None = refl
+before_section bytes (Some c) = refl
+
+module _ (bytes : List ℕ) (budget : ℕ) (r : ReadDocument) (plan : Plan) (certs : List Cert) (before text : List ℕ)
     (few : budget ≤ 1000000) (proved : ProvedWithin r.core budget plan certs)
-    (front_is : before ≡ front bytes r.document.certificates) (text_is : text ≡ before ++ 10 ∷ certificates_text certs)
-  where
-    whole_text : text ≡ text_with bytes r.document certs
-    whole_text = text_is ∙ ap (λ t. t ++ 10 ∷ certificates_text certs) front_is
+    (front_is : before ≡ bytes_before bytes r.section_at) (text_is : text ≡ before ++ 10 ∷ certificates_text certs)
+    (is : IsAdmittedAs greatest_bare_size bytes r) where
+  whole_text : text ≡ text_with bytes is.document certs
+  whole_text = text_is ∙ ap (λ t. t ++ 10 ∷ certificates_text certs)
+      (front_is ∙ ap (bytes_before bytes) is.section_is ∙ before_section bytes is.document.certificates)
 
-    pub found_told : IsAdmittedAs greatest_bare_size bytes r → IsFound bytes budget text
-    found_told is =
-        found_of bytes budget r.document plan certs text is.read few
-        (subst (λ c. ProvedWithin c budget plan certs) is.core_is proved) whole_text
+  pub found_told : IsFound bytes budget text
+  found_told =
+      found_of bytes budget is.document plan certs text is.read few
+      (subst (λ c. ProvedWithin c budget plan certs) is.core_is proved) whole_text
 
-    pub found_planned : IsAdmittedAs greatest_bare_size bytes r → IsAccepted text (accepted_text r.core.words plan)
-    found_planned is =
-        subst (λ t. IsAccepted t (accepted_text r.core.words plan)) (sym whole_text)
-        (subst (λ (c : CDocument). IsAccepted (text_with bytes r.document certs) (accepted_text c.words plan))
-        (sym is.core_is) (found_accepted bytes budget r.document plan certs is.read few
-        (subst (λ c. ProvedWithin c budget plan certs) is.core_is proved)))
+  pub found_planned : IsAccepted text (accepted_text r.core.words plan)
+  found_planned =
+      subst (λ t. IsAccepted t (accepted_text r.core.words plan)) (sym whole_text)
+      (subst (λ (c : CDocument). IsAccepted (text_with bytes is.document certs) (accepted_text c.words plan))
+      (sym is.core_is) (found_accepted bytes budget is.document plan certs is.read few
+      (subst (λ c. ProvedWithin c budget plan certs) is.core_is proved)))
 
 -- the words of a document are those of its reading
-pub reading_plan : (input : Input) (r : AdmittedDocument) {E : Type 0} (result : Result Found E) →
+pub reading_plan : (input : Input) (r : ReadDocument) {E : Type 0} (result : Result Found E) →
     input ≡ Input.Document r → IfOk result (HasPlan r.core.words) → IfOk result (HasPlan (words_in input))
 reading_plan input r result e h = subst (λ i. IfOk result (HasPlan (words_in i))) (sym e) h
 

@@ -1,11 +1,9 @@
 -- What is shown of a ring is its answer.
-use Rattle.std.proofs.Common.{◌≡◌, ◌≤◌, ◌-◌, ℕ, List, ◌++◌, length, Bool, true, false, Option, Some, None, refl, sym}
-use Rattle.std.proofs.Common.{ap, ◌∙◌, subst, arith}
-use Rattle.std.proofs.lemmas.Fmt.{length-decimal-le_succ}
+use Rattle.std.proofs.Common.{◌≡◌, ◌-◌, ℕ, List, ◌++◌, Bool, true, false, Option, Some, None, refl, sym}
+use Rattle.std.proofs.Common.{ap, ◌∙◌, subst}
 use Rattle.proof_plans.specs.declared.plans.Plan.{Plan}
 use Rattle.cli_texts.specs.Verdicts.{accepted_text}
 use Rattle.cli_ring.specs.Rings.{ring_bytes}
-use Rattle.cli_ring.proofs.Lengths.{rings_have_lengths}
 use Rattle.cli_words.specs.declared.words.Command.{Command}
 use Rattle.cli_words.specs.Requests.{Request, check, demo, meant, watch}
 use Rattle.unity_cli.specs.declared.output.Answer.{Answer as Told}
@@ -24,21 +22,13 @@ use Rattle.unity_cli.specs.Input.{AreKept, IsInput}
 use Rattle.unity_cli.proofs.Told.{some_bytes}
 use Rattle.unity_cli.proofs.Searched.{are_kept}
 
--- the bytes of a ring are no more than a search takes
-pub ring_within : (places : ℕ) → places ≤ 64 → length (ring_bytes places) ≤ greatest_bare_size
-ring_within places h =
-    let short = length-decimal-le_succ (places - 1) (omega (arith, h)) in
-    let all = rings_have_lengths places in
-    omega (arith, h, short, all)
-
--- what is read of them is the ring's document, and they are kept
-pub ring_read : (places : ℕ) → places ≤ 64 → (ring bytes kept : List ℕ) (input : Input) → ring ≡ ring_bytes places →
-    bytes ≡ ring → kept ≡ ring → ((most : ℕ) → length bytes ≤ most → IsInput most bytes input) →
+-- what is read of a ring's bytes is its document, and they are kept
+pub ring_read : (places : ℕ) (ring bytes kept : List ℕ) (input : Input) → ring ≡ ring_bytes places →
+    bytes ≡ ring → kept ≡ ring → IsInput greatest_bare_size bytes input →
     IsInput greatest_bare_size (ring_bytes places) input × AreKept input kept (ring_bytes places)
-ring_read places few ring bytes kept input made same held read =
+ring_read places ring bytes kept input made same held read =
     let whole : bytes ≡ ring_bytes places = same ∙ made in (
-      subst (λ b. IsInput greatest_bare_size b input) whole
-          (read greatest_bare_size (subst (λ b. length b ≤ greatest_bare_size) (sym whole) (ring_within places few))),
+      subst (λ b. IsInput greatest_bare_size b input) whole read,
       subst (λ b. AreKept input b (ring_bytes places)) (sym (held ∙ made)) (are_kept input (ring_bytes places)),
     )
 

@@ -1,5 +1,6 @@
 -- What is told of a source that is read token by token.
-use Rattle.std.proofs.Common.{◌≡◌, ◌↔◌, ℕ, List, Bool, true, false, Option, Some, Ok, Err, refl, sym, ◌∙◌, subst, ap}
+use Rattle.std.proofs.Common.{◌≡◌, ◌↔◌, ℕ, List, Bool, true, false, Option, Some, Result, Ok, Err}
+use Rattle.std.proofs.Common.{IfOk, refl, sym, ◌∙◌, subst, ap}
 use Rattle.std.specs.Io.KnownBytes.{Appends}
 use Rattle.unity_base.specs.Streams.{Was}
 use Rattle.case_tables.specs.declared.code_table.Code.{Code}
@@ -12,14 +13,19 @@ use Rattle.cli_texts.specs.Verdicts.{accepted_text, rejected_text}
 use Rattle.cli_words.specs.declared.words.Command.{Command}
 use Rattle.cli_words.specs.Requests.{Request, meant, check, watch}
 use Rattle.streamed_documents.specs.declared.found.JudgedDocument.{JudgedDocument}
-use Rattle.streamed_documents.specs.Found.{IsJudged, IsRefused}
+use Rattle.streamed_documents.specs.Found.{IsFound, IsJudged, IsReading, IsRefused}
+use Rattle.streamed_documents.specs.declared.found.Finding.{Finding}
+use Rattle.streamed_documents.specs.declared.found.ReadDocument.{ReadDocument}
+use Rattle.streamed_documents.specs.declared.found.Reading.{Reading}
 use Rattle.streamed_documents.specs.declared.found.Flaw.{Flaw}
+use Rattle.unity_cli.specs.declared.output.Answer.{Answer as Told}
 use Rattle.unity_cli.specs.declared.status.Status.{Status}
 use Rattle.unity_cli.specs.Status.{HasText}
 use Rattle.unity_cli.specs.Admitted.{greatest_size, IsAdmitted, IsBad}
 use Rattle.unity_cli.specs.Admitted as admitted
 use Rattle.unity_cli.specs.Answer.Check.{Checked, IsAccepted, IsCheckText}
 use Rattle.unity_cli.specs.Answer.{reads_source, Answer, IsSaidOf, Tells, TellsPart}
+use Rattle.unity_cli.specs.Input.{IsAdmittedAs}
 use Rattle.unity_cli.specs.Answering.{Telling}
 use Rattle.unity_cli.specs.Following.{FollowsTheRules}
 use Rattle.unity_cli.specs.Starts.{ProgramsStart}
@@ -60,6 +66,27 @@ long_checked bytes text is h = admitted.IsBad.too_long h is
 pub fault_checked : (bytes text : List ℕ) (code : Code) (at : ℕ) → text ≡ fault_text code at
     → IsRefused greatest_size bytes (Flaw.Fault code at) → Checked bytes Status.BadDocument text
 fault_checked bytes text code at is h = admitted.IsBad.no_reading code at h.0 h.1 is
+
+-- bytes that are at hand
+pub bytes_checked : {E : Type 0} (bytes : List ℕ) (found : Finding) (result : Result Told E)
+    → IfOk result (λ a. (bytes : List ℕ) → IsFound greatest_size bytes found → Checked bytes a.status a.text.items)
+    → IsFound greatest_size bytes found → IfOk result (λ a. Checked bytes a.status a.text.items)
+bytes_checked bytes found (Ok a) checks is = checks bytes is
+bytes_checked bytes found (Err e) checks is = tt
+
+-- ---- what was read
+
+pub document_input : (reading : Reading) (r : ReadDocument) → reading ≡ Reading.Document r → (most : ℕ)
+    (bytes : List ℕ) → IsReading most bytes reading → IsAdmittedAs most bytes r
+document_input reading r e most bytes h =
+    let is = subst (IsReading most bytes) e h in
+    record {
+      document = is.document;
+      read = record { size = is.size; reading = is.reading };
+      core_is = is.core_is;
+      number_is = is.number_is;
+      section_is = is.section_is;
+    }
 
 -- ---- the form of what is written
 

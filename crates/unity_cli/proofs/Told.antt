@@ -1,6 +1,6 @@
 -- What is told is an answer.
 use Rattle.std.proofs.Common.{◌≡◌, ◌↔◌, ◌<◌, ◌≤◌, ℕ, List, [], length, replicate, suc, Bool, true, false, Option}
-use Rattle.std.proofs.Common.{Some, None, Result, Ok, Err, IfOk, IsErr, IsErrOf, refl, sym, ◌∙◌, subst, arith, codes}
+use Rattle.std.proofs.Common.{Some, None, Result, Ok, Err, IsErr, IsErrOf, refl, sym, ◌∙◌, subst, arith, codes}
 use Rattle.std.proofs.Common.{◌++◌}
 use Rattle.std.proofs.Common.{◌∷◌}
 use Rattle.std.proofs.lemmas.List.{length-replicate}
@@ -12,10 +12,7 @@ use Rattle.case_tables.specs.declared.code_table.Code.{Code}
 use Rattle.cli_texts.specs.Refusals.{fault_text, refusal_text}
 use Rattle.meaning_documents.specs.Programs.{Composed}
 use Rattle.core_terms.specs.Conditions.{IsCoreDocument}
-use Rattle.core_terms.specs.declared.documents.CDocument.{CDocument}
 use Rattle.core_terms.specs.declared.programs.CProgram.{CProgram}
-use Rattle.expand_documents.specs.Cores.{core_document}
-use Rattle.obligations.specs.declared.certificates.Cert.{Cert}
 use Rattle.executor.specs.declared.runner.Stepped.{Stepped}
 use Rattle.schedule_replay.specs.declared.heading.Heading.{Heading}
 use Rattle.schedule_replay.specs.Schedules.{turns}
@@ -32,14 +29,11 @@ use Rattle.fixed_correct.specs.Traces.{fixed_trace}
 use Rattle.fixed_correct.specs.Answers.{FixedRuns}
 use Rattle.fixed_correct.proofs.Runs.{fixed_runs_say}
 use Rattle.run_correct.proofs.Replays.{replays_say}
-use Rattle.proof_plans.specs.Giving.{AreWhole}
-use Rattle.certificate_reading.specs.Certificates.{certificates_of}
-use Rattle.cli_words.specs.Requests.{Request, run, fixed, replay}
+use Rattle.cli_words.specs.Requests.{Request, check, run, fixed, replay}
 use Rattle.unity_cli.specs.declared.status.Status.{Status}
-use Rattle.unity_cli.specs.declared.output.Answer.{Answer as Answered}
 use Rattle.unity_cli.specs.declared.stop.Stop.{Stop}
 use Rattle.unity_cli.specs.declared.input.Input.{Input}
-use Rattle.unity_cli.specs.declared.input.AdmittedDocument.{AdmittedDocument}
+use Rattle.streamed_documents.specs.declared.found.ReadDocument.{ReadDocument}
 use Rattle.unity_cli.specs.declared.input.Text.{Text}
 use Rattle.unity_cli.specs.Status.{HasText}
 use Rattle.unity_cli.specs.Stop.{stop_status}
@@ -57,9 +51,9 @@ use Rattle.unity_cli.specs.Following.{FollowsTheRules}
 use Rattle.unity_cli.specs.Admitted as admitted
 use Rattle.unity_cli.specs.Answer.Run as runs
 use Rattle.unity_cli.specs.Answer.Replay as replays
-use Rattle.unity_cli.specs.Input.{AreKept, IsAdmittedAs, IsInput, IsText, IsTextOf, IsSomeAdmitted}
-use Rattle.unity_cli.specs.Answering.{Telling, TellsAdmitted, TellsText, TellsBad, EndsAs, IsVerdictOn}
-use Rattle.unity_cli.proofs.Accepted.{read_core, read_whole}
+use Rattle.unity_cli.specs.Input.{AreKept, IsInput, IsText, IsTextOf, IsSomeAdmitted}
+use Rattle.unity_cli.specs.Answering.{Telling, TellsAdmitted, TellsInput, TellsText, TellsBad, EndsAs}
+use Rattle.unity_cli.proofs.Accepted.{read_core}
 use Rattle.unity_cli.proofs.Accepted.{accepted_follow, followed_accepts}
 use Rattle.unity_cli.proofs.OneAnswers.{one_checked}
 
@@ -91,35 +85,17 @@ longer most (Some xs) h t e = record { bytes = xs; were = refl; text_is = too_ma
 
 -- ---- what was read
 
-pub sound_core : (most : ℕ) → most ≤ greatest_size → (r : AdmittedDocument) → IsSomeAdmitted most r →
+pub sound_core : (most : ℕ) → most ≤ greatest_size → (r : ReadDocument) → IsSomeAdmitted most r →
     IsCoreDocument r.core
-sound_core most few r h = subst IsCoreDocument (sym h.1.core_is) (read_core most few h.0 r.document h.1.read)
+sound_core most few r h = subst IsCoreDocument (sym h.1.core_is) (read_core most few h.0 h.1.document h.1.read)
 
-pub sound_certificates : (r : AdmittedDocument) → IsSomeAdmitted greatest_size r → AreWhole (certificates_of r.document)
-sound_certificates r h = read_whole greatest_size h.0 r.document h.1.read
-
--- the verdict on what was read is what `check` answers
-verdict_checked : (bytes : List ℕ) (r : AdmittedDocument) → IsAdmittedAs greatest_size bytes r → (certs : List Cert) →
-    certs ≡ certificates_of r.document → (status : Status) (text : List ℕ) → IsVerdictOn r.core certs status text →
-    Checked bytes status text
-verdict_checked bytes r is certs e status text v =
-    checked status
-    (subst (λ (core : CDocument). IsVerdictOn core (certificates_of r.document) status text) is.core_is
-    (subst (λ cs. IsVerdictOn r.core cs status text) e v))
-  where
-    checked : (status : Status) →
-        IsVerdictOn (core_document r.document) (certificates_of r.document) status text → Checked bytes status text
-    checked Status.Done v =
-        record { document = r.document; read = is.read; plan = v.0; verdict = v.1; text_is = v.2 }
-    checked Status.Rejected v =
-        record { document = r.document; read = is.read; fault = v.0; verdict = v.1; text_is = v.2 }
-    checked other v = absurd v
-
-pub verdicts_checked : {E : Type 0} (r : AdmittedDocument) (certs : List Cert) → certs ≡ certificates_of r.document →
-    (answer : Result Answered E) → IfOk answer (λ a. IsVerdictOn r.core certs a.status a.text.items) →
-    IfOk answer (λ a. (bytes : List ℕ) → IsAdmittedAs greatest_size bytes r → Checked bytes a.status a.text.items)
-verdicts_checked r certs e (Ok a) v = λ bytes is. verdict_checked bytes r is certs e a.status a.text.items v
-verdicts_checked r certs e (Err x) v = tt
+-- what is told of a text's input, for a request, is told of the text
+pub input_told : (asked request : Request) (t : Text) (input : Input) (old new : Option (List ℕ)) (status : Status) →
+    asked ≡ request → input ≡ t.input → TellsInput request input old new status →
+    TellsText asked t old new status
+input_told asked request t input old new status is same told =
+    subst (λ r. TellsText r t old new status) (sym is)
+    (λ bytes text. told bytes (subst (λ i. IsInput (most_bytes (Some request)) bytes i) (sym same) text.input_is))
 
 -- ---- telling
 
@@ -245,13 +221,13 @@ run_told bytes name steps d r old mid new (Err RunError.Failed) status h e =
 run_told bytes name steps d r old mid new (Err RunError.Memory) status h e =
     none_told (run name steps) bytes old new status e.0
 
-pub run_answered : (r : AdmittedDocument) (name : List ℕ) (steps : ℕ) (old mid new : Option (List ℕ))
+pub run_answered : (r : ReadDocument) (name : List ℕ) (steps : ℕ) (old mid new : Option (List ℕ))
     (ended : Result Stepped RunError) (status : Status) → CoreRuns r.core name steps old mid ended →
     EndsAs ended mid new status → TellsAdmitted (run name steps) r old new status
 run_answered r name steps old mid new ended status h e bytes is =
-    run_told bytes name steps r.document is.read old mid new ended status
-    (runs_say r.document name steps old mid ended is.read.reading.named is.read.reading.expands
-    (read_core greatest_size (omega arith) bytes r.document is.read) (subst (λ c. CoreRuns c name steps old mid
+    run_told bytes name steps is.document is.read old mid new ended status
+    (runs_say is.document name steps old mid ended is.read.reading.named is.read.reading.expands
+    (read_core greatest_size (omega arith) bytes is.document is.read) (subst (λ c. CoreRuns c name steps old mid
     ended) is.core_is h)) e
 
 -- ---- fixed
@@ -303,13 +279,13 @@ fixed_told bytes name steps d r old mid new (Err RunError.Failed) status h e =
 fixed_told bytes name steps d r old mid new (Err RunError.Memory) status h e =
     none_told (fixed name steps) bytes old new status e.0
 
-pub fixed_answered : (r : AdmittedDocument) (name : List ℕ) (steps : ℕ) (old mid new : Option (List ℕ))
+pub fixed_answered : (r : ReadDocument) (name : List ℕ) (steps : ℕ) (old mid new : Option (List ℕ))
     (ended : Result Stepped RunError) (status : Status) → CoreFixedRuns r.core name steps old mid ended →
     EndsAs ended mid new status → TellsAdmitted (fixed name steps) r old new status
 fixed_answered r name steps old mid new ended status h e bytes is =
-    fixed_told bytes name steps r.document is.read old mid new ended status
-    (fixed_runs_say r.document name steps old mid ended is.read.reading.named is.read.reading.expands
-    (read_core greatest_size (omega arith) bytes r.document is.read) (subst (λ c. CoreFixedRuns c name steps old mid
+    fixed_told bytes name steps is.document is.read old mid new ended status
+    (fixed_runs_say is.document name steps old mid ended is.read.reading.named is.read.reading.expands
+    (read_core greatest_size (omega arith) bytes is.document is.read) (subst (λ c. CoreFixedRuns c name steps old mid
     ended) is.core_is h)) e
 
 -- ---- replay
@@ -360,13 +336,13 @@ replay_told bytes d r old mid new (Err RunError.Failed) status h e =
     (replay_from d h.0 h.1 h.2 h.3 h.4 h.5.0)) h.5.1 e.1 e.0
 replay_told bytes d r old mid new (Err RunError.Memory) status h e = none_told replay bytes old new status e.0
 
-pub replay_answered : (r : AdmittedDocument) (old mid new : Option (List ℕ)) (ended : Result Stepped RunError)
+pub replay_answered : (r : ReadDocument) (old mid new : Option (List ℕ)) (ended : Result Stepped RunError)
     (status : Status) → CoreReplays r.core old mid ended → EndsAs ended mid new status →
     TellsAdmitted replay r old new status
 replay_answered r old mid new ended status h e bytes is =
-    replay_told bytes r.document is.read old mid new ended status
-    (replays_say r.document old mid ended is.read.reading.named is.read.reading.expands
-    (read_core greatest_size (omega arith) bytes r.document is.read) (subst (λ c. CoreReplays c old mid ended)
+    replay_told bytes is.document is.read old mid new ended status
+    (replays_say is.document old mid ended is.read.reading.named is.read.reading.expands
+    (read_core greatest_size (omega arith) bytes is.document is.read) (subst (λ c. CoreReplays c old mid ended)
     is.core_is h)) e
 
 -- ---- the status of a call that stopped

@@ -10,12 +10,10 @@ use Rattle.upgraded_texts.proofs.Documents.{upgraded_is_as_long, upgraded_is_rea
 use Rattle.upgraded_texts.proofs.Cores.{upgraded_core, upgraded_expands, upgraded_is_named}
 use Rattle.upgraded_texts.proofs.Accepting.{upgraded_is_accepted}
 use Rattle.unity_cli.specs.declared.status.Status.{Status}
-use Rattle.unity_cli.specs.declared.input.AdmittedDocument.{AdmittedDocument}
 use Rattle.unity_cli.specs.Status.{HasText}
 use Rattle.unity_cli.specs.Admitted.{greatest_size, greatest_bare_size, IsAdmitted}
 use Rattle.unity_cli.specs.Answer.Check.{Checked, IsAccepted}
 use Rattle.unity_cli.specs.Answer.Upgrade.{IsUpgraded, Upgraded}
-use Rattle.unity_cli.specs.Input.{IsAdmittedAs}
 use Rattle.unity_cli.proofs.OneAnswers.{read_not_bad}
 
 -- what `upgrade` takes `check` takes
@@ -24,10 +22,6 @@ pub wider : (bytes : List ℕ) (d : Document) → IsAdmitted greatest_bare_size 
 wider bytes d read =
     let few = read.size in
     record { size = omega (arith, few); reading = read.reading }
-
-pub wider_as : (bytes : List ℕ) (r : AdmittedDocument) → IsAdmittedAs greatest_bare_size bytes r →
-    IsAdmittedAs greatest_size bytes r
-wider_as bytes r is = record { read = wider bytes r.document is.read; core_is = is.core_is }
 
 -- its upgraded text is accepted
 

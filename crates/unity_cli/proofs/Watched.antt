@@ -20,7 +20,7 @@ use Rattle.watch_correct.specs.Watched.{IsWatched, Stops}
 use Rattle.watch_correct.specs.Laws.{HasCore}
 use Rattle.watch_correct.proofs.Finding.{none_violated, watches_say}
 use Rattle.unity_cli.specs.declared.status.Status.{Status}
-use Rattle.unity_cli.specs.declared.input.AdmittedDocument.{AdmittedDocument}
+use Rattle.streamed_documents.specs.declared.found.ReadDocument.{ReadDocument}
 use Rattle.unity_cli.specs.declared.input.Text.{Text}
 use Rattle.unity_cli.specs.declared.output.Answer.{Answer as Told}
 use Rattle.unity_cli.specs.Status.{HasText}
@@ -74,11 +74,11 @@ ended_watched bytes d read (Ending.Violated place v) text w = record {
 ended_watched bytes d read Ending.Unviolated text w = record { document = d; read = read; watched = w }
 
 -- the trace of a document's core form ends so: this is an answer for the bytes
-pub found_watched : (r : AdmittedDocument) (w : WatchedSchedule) → IsFound r.core w → (status : Status)
+pub found_watched : (r : ReadDocument) (w : WatchedSchedule) → IsFound r.core w → (status : Status)
     (text : List ℕ) → status ≡ ending_status w.ending → text ≡ schedule_text r.core w → (bytes : List ℕ) →
     IsAdmittedAs greatest_size bytes r → Watched bytes status text
 found_watched r w found status text e t bytes is =
-    let d = r.document in
+    let d = is.document in
     let found_core = subst (λ (c : CDocument). IsFound c w) is.core_is found in
     let told = watches_say d (core_read bytes d is.read) (Ok w) found_core in
     subst (λ s. Watched bytes s text) (sym e)
@@ -113,10 +113,10 @@ stopped_so bytes d read WatchStop.TooManyCases h a s =
 stopped_so bytes d read WatchStop.Memory h a s = absurd s
 
 -- the schedule of its core form is not watched: so is this
-pub stopped_watched : {E : Type 0} (r : AdmittedDocument) (stop : WatchStop) → Finds r.core (Err stop) →
+pub stopped_watched : {E : Type 0} (r : ReadDocument) (stop : WatchStop) → Finds r.core (Err stop) →
     (answer : Result Told E) → IfOk answer (IsStoppedFor r.core.words stop) → IfOk answer (IsWatchedIn r)
 stopped_watched r stop found (Ok a) s = λ bytes is.
-    let d = r.document in
+    let d = is.document in
     let found_core = subst (λ (c : CDocument). Finds c (Err stop)) is.core_is found in
     stopped_so bytes d is.read stop (watches_say d (core_read bytes d is.read) (Err stop) found_core) a
     (subst (λ (c : CDocument). IsStoppedFor c.words stop a) is.core_is s)

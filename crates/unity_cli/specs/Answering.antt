@@ -5,16 +5,12 @@ use Rattle.unity_base.specs.Streams.{AppendsPart}
 use Rattle.case_tables.specs.declared.code_table.Code.{Code}
 use Rattle.executor.specs.declared.runner.Stepped.{Stepped}
 use Rattle.run_traces.specs.declared.error.RunError.{RunError}
-use Rattle.core_terms.specs.declared.documents.CDocument.{CDocument}
-use Rattle.obligations.specs.declared.certificates.Cert.{Cert}
 use Rattle.proof_plans.specs.declared.plans.Plan.{Plan}
-use Rattle.proof_plans.specs.declared.plans.StepFault.{StepFault}
-use Rattle.proof_plans.specs.Verdicts.{verdict_of}
 use Rattle.cli_texts.specs.Refusals.{fault_text, refusal_text}
 use Rattle.cli_texts.specs.Verdicts.{accepted_text, rejected_text}
 use Rattle.cli_words.specs.Requests.{Request}
 use Rattle.unity_cli.specs.declared.input.Input.{Input}
-use Rattle.unity_cli.specs.declared.input.AdmittedDocument.{AdmittedDocument}
+use Rattle.streamed_documents.specs.declared.found.ReadDocument.{ReadDocument}
 use Rattle.unity_cli.specs.declared.input.Text.{Text}
 use Rattle.unity_cli.specs.declared.output.Answer.{Answer as Told}
 use Rattle.unity_cli.specs.declared.prove.Found.{Found}
@@ -35,7 +31,7 @@ IsSearchedFor budget kept input a = (bytes : List ℕ) → IsInput greatest_bare
     AreKept input kept bytes → Searched bytes budget a.status a.text.items
 
 -- of a document
-abbrev pub IsSearchedIn : ℕ → List ℕ → AdmittedDocument → Told → Type 0
+abbrev pub IsSearchedIn : ℕ → List ℕ → ReadDocument → Told → Type 0
 IsSearchedIn budget bytes r a = IsAdmittedAs greatest_bare_size bytes r → Searched bytes budget a.status a.text.items
 
 -- the status and the text are what `upgrade` answers
@@ -47,7 +43,7 @@ abbrev pub IsWatchedFor : Input → Told → Type 0
 IsWatchedFor input a = (bytes : List ℕ) → IsInput greatest_size bytes input → Watched bytes a.status a.text.items
 
 -- of a document
-abbrev pub IsWatchedIn : AdmittedDocument → Told → Type 0
+abbrev pub IsWatchedIn : ReadDocument → Told → Type 0
 IsWatchedIn r a = (bytes : List ℕ) → IsAdmittedAs greatest_size bytes r → Watched bytes a.status a.text.items
 
 -- the status and the text of a refusal
@@ -88,7 +84,7 @@ abbrev pub TellsText : Request → Text → Option (List ℕ) → Option (List �
 TellsText request t old new status =
     (bytes : List ℕ) → IsText (most_bytes (Some request)) bytes t → Telling request bytes old new status
 
-abbrev pub TellsAdmitted : Request → AdmittedDocument → Option (List ℕ) → Option (List ℕ) → Status → Type 0
+abbrev pub TellsAdmitted : Request → ReadDocument → Option (List ℕ) → Option (List ℕ) → Status → Type 0
 TellsAdmitted request r old new status =
     (bytes : List ℕ) → IsAdmittedAs (most_bytes (Some request)) bytes r → Telling request bytes old new status
 
@@ -109,11 +105,3 @@ EndsAs (Err (RunError.NoSuchStatement at)) old new status =
 EndsAs (Err RunError.NotInitial) old new status = TellsBad (refusal_text Code.NoStart) old new status
 EndsAs (Err RunError.Failed) old new status = (status ≡ Status.WriteFault) × (new ≡ old)
 EndsAs (Err RunError.Memory) old new status = (status ≡ Status.WantOfMemory) × (new ≡ old)
-
--- the status and the text are the verdict on a document in core form with these certificates
-abbrev pub IsVerdictOn : CDocument → List Cert → Status → List ℕ → Type 0
-IsVerdictOn core certs Status.Done text =
-    (plan : Plan) × (verdict_of core certs ≡ Ok plan) × (text ≡ accepted_text core.words plan)
-IsVerdictOn core certs Status.Rejected text =
-    (fault : StepFault) × (verdict_of core certs ≡ Err fault) × (text ≡ rejected_text core.words fault)
-IsVerdictOn core certs status text = ⊥

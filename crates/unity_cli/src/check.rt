@@ -1,64 +1,23 @@
-// The command `check`: the verdict on the proofs of a document. The certificates of a source are judged as they are
-// read; those of a document that is held whole, as it is for an upgrade, are written for the check.
+// The command `check`: the verdict on the proofs of a document, whose certificates are judged as they are read.
 ghost use Rattle.std.specs.Prelude.{◌≡◌, ◌≢◌, ◌⊎◌, List, ℕ, Some, IfOk};
 ghost use Rattle.std.specs.Io.KnownBytes.{IsAtEnd};
 ghost use Rattle.unity_base.specs.Streams.{IsTold, IsLongerThan, LeavesRest};
 ghost use Rattle.streamed_documents.specs.Found.{IsFound, IsJudged, IsRefused};
-ghost use Rattle.core_terms.specs.Conditions.{IsCoreDocument};
-ghost use Rattle.proof_plans.specs.Giving.{AreWhole};
 ghost use Rattle.unity_cli.specs.Admitted.{greatest_size};
 ghost use Rattle.unity_cli.specs.Answer.Check.{Checked, IsCheckText, WritesCheckText, WritesCheckPart};
-ghost use Rattle.unity_cli.specs.Input.{IsAdmittedAs, IsSomeAdmitted};
 ghost use Rattle.cli_words.specs.Requests as requests;
-ghost use Rattle.unity_cli.specs.Answering.{IsVerdictOn, Telling};
+ghost use Rattle.unity_cli.specs.Answering.{Telling};
 ghost use Rattle.unity_cli.specs.Status.{HasText};
 
 use crate::commands::GREATEST_SIZE;
-use crate::input::AdmittedDocument;
 use crate::output::{Answer, write_answer};
 use crate::status::Status;
 use crate::stop::source_stop;
 use case_tables::Code;
-use certificate_reading::certificates_from;
 use cli_texts::{accepted, document_fault, input_refusal, rejected};
-use core_terms::CDocument;
-use obligations::Cert;
-use proof_script::{ScriptError, check};
 use std::alloc::{AllocError, Global};
-use streamed_documents::{Finding, Flaw, JudgedDocument, judge_source};
+use streamed_documents::{Finding, Flaw, JudgedDocument, judge_bytes, judge_source};
 use unity_base::{Sink, Source};
-
-/// What `check` answers for a document, which it takes apart: the certificates of the document are let go as they are
-/// written for the check, so that the two forms of them do not stand beside each other.
-pub fn judge_document(alloc: Global, reading: AdmittedDocument) -> Result<Answer, AllocError>
-    requires { IsSomeAdmitted greatest_size reading }
-    ensures { IfOk result (λ a. (bytes : List ℕ) → IsAdmittedAs greatest_size bytes reading →
-        Checked bytes a.status a.text.items) }
-{
-    let AdmittedDocument { document, core } = reading;
-    let certificates = certificates_from(alloc, document)?;
-    verdict(alloc, &core, certificates.as_slice())
-}
-
-// The verdict on a document in core form with these certificates.
-fn verdict(alloc: Global, core: &CDocument, certificates: &[Cert]) -> Result<Answer, AllocError>
-    requires document { IsCoreDocument core.now }
-    requires whole { AreWhole certificates.now }
-    ensures { IfOk result (λ a. IsVerdictOn core.now certificates.now a.status a.text.items) }
-{
-    let words = core.words.as_slice();
-    match check(alloc, core, certificates) {
-        Ok(plan) => Ok(Answer {
-            status: Status::Done,
-            text: accepted(alloc, words, &plan)?,
-        }),
-        Err(ScriptError::Step(fault)) => Ok(Answer {
-            status: Status::Rejected,
-            text: rejected(alloc, words, &fault)?,
-        }),
-        Err(ScriptError::Memory) => Err(AllocError),
-    }
-}
 
 // What `check` answers for a document that was judged.
 fn judged_answer(alloc: Global, judged: &JudgedDocument) -> Result<Answer, AllocError>
@@ -101,6 +60,14 @@ fn found_answer(alloc: Global, found: &Finding) -> Result<Answer, AllocError>
         Finding::Refused(flaw) => flaw_answer(alloc, *flaw),
         Finding::Judged(judged) => judged_answer(alloc, judged.get()),
     }
+}
+
+/// What `check` answers for bytes that are at hand.
+pub fn check_bytes(alloc: Global, bytes: &[u8]) -> Result<Answer, AllocError>
+    ensures { IfOk result (λ a. Checked bytes.now a.status a.text.items) }
+{
+    let found = judge_bytes(alloc, bytes, GREATEST_SIZE)?;
+    found_answer(alloc, &found)
 }
 
 /// Writes what `check` answers for what a source was found to give.

@@ -1,5 +1,5 @@
 // Answering a command.
-ghost use Rattle.std.specs.Prelude.{◌≡◌, ◌≢◌, ℕ, Some};
+ghost use Rattle.std.specs.Prelude.{◌≡◌, ◌≢◌, ◌≤◌, ◌^◌, ℕ, Some};
 ghost use Rattle.unity_base.specs.Streams.{IsTold};
 ghost use Rattle.cli_words.specs.declared.words.Command.{Command};
 ghost use Rattle.cli_words.specs.Requests.{HasLimits, meant};
@@ -24,11 +24,12 @@ pub const GREATEST_SIZE: usize = 67_108_864;
 
 /// The greatest number of bytes of a text that is written again: with certificates that are to be found, or in
 /// version 2.
-const GREATEST_BARE_SIZE: usize = 8_388_608;
+pub const GREATEST_BARE_SIZE: usize = 8_388_608;
 
 /// The greatest number of bytes that the command takes.
 pub fn most_bytes(command: &Command) -> usize
-    ensures { result ≡ answers.most_bytes (Some (meant command.now)) }
+    ensures most { result ≡ answers.most_bytes (Some (meant command.now)) }
+    ensures within { result ≤ 2 ^ 29 }
 {
     match command {
         Command::Prove { .. } | Command::Upgrade => GREATEST_BARE_SIZE,

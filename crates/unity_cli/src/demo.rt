@@ -6,6 +6,7 @@ ghost use Rattle.unity_cli.specs.Answer.Demo.{Shown, ring_line};
 ghost use Rattle.unity_cli.specs.Answering.{Telling};
 ghost use Rattle.unity_cli.specs.Input.{words_in};
 
+use crate::commands::GREATEST_BARE_SIZE;
 use crate::input::{Input, read_bytes};
 use crate::output::{Answer, write_answer};
 use crate::prove::{Found, find};
@@ -34,7 +35,7 @@ fn show(alloc: Global, places: u32) -> Result<Answer, AllocError>
     ensures { IfOk result (λ a. Shown places a.status a.text.items) }
 {
     let ring = make_demo(alloc, places)?;
-    let input = read_bytes(alloc, &ring)?;
+    let input = read_bytes(alloc, &ring, GREATEST_BARE_SIZE)?;
     let Found { answer, plan } = find(alloc, RING_BUDGET, &ring, &input)?;
     let Some(plan) = plan else {
         return Ok(answer);

@@ -6,13 +6,14 @@ ghost use Rattle.unity_cli.specs.Admitted.{greatest_size};
 ghost use Rattle.unity_cli.specs.Answering.{TellsInput, TellsAdmitted};
 ghost use Rattle.unity_cli.specs.Input.{IsSomeInput, IsSomeAdmitted};
 
-use crate::input::{AdmittedDocument, Input};
+use crate::input::Input;
 use crate::output::{write_bad, write_end};
 use crate::status::Status;
 use case_tables::Code;
 use cli_texts::{document_fault, input_refusal};
 use fixed_runs::run_to_fixed;
 use std::alloc::Global;
+use streamed_documents::ReadDocument;
 use unity_base::Sink;
 
 /// Writes what `fixed PROGRAM STEPS` answers for the input.
@@ -41,7 +42,7 @@ fn fixed_document<K: Sink>(
     alloc: Global,
     program: &str,
     steps: u64,
-    reading: &AdmittedDocument,
+    reading: &ReadDocument,
     out: &mut K,
 ) -> Status
     requires { IsSomeAdmitted greatest_size reading.now }

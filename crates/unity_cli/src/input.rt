@@ -1,26 +1,15 @@
-// What a source gives: a document without a fault with its core form, or why there is none.
-ghost use Rattle.std.specs.Prelude.{◌≤◌, ◌⊎◌, ℕ, IfOk, OnOk, IsErrOf, length};
+// What a source gives: a document without a fault, or why there is none.
+ghost use Rattle.std.specs.Prelude.{◌≤◌, ◌⊎◌, ◌^◌, ℕ, List, IfOk, OnOk, IsErrOf};
 ghost use Rattle.std.specs.Io.KnownBytes.{IsAtEnd};
 ghost use Rattle.unity_base.specs.Streams.{IsTold, IsLongerThan, LeavesRest};
-ghost use Rattle.unity_parser.specs.Document.{IsDocument};
+ghost use Rattle.streamed_documents.specs.Found.{IsReading, IsRefused};
 ghost use Rattle.unity_cli.specs.Input.{IsInput, IsTextOf};
 
 use crate::stop::Stop;
 use case_tables::Code;
-use core_terms::CDocument;
-use names_rules::NameFault;
 use std::alloc::{AllocError, Global};
-use streamed_documents::core_of;
+use streamed_documents::{self as documents, Flaw, ReadDocument, Reading};
 use unity_base::{Held, ReadError, Source, read_all};
-use unity_parser::read_document;
-use unity_syntax::{Document, SyntaxFault};
-
-/// A document without a fault, and its core form.
-#[derive(Drop)]
-pub struct AdmittedDocument {
-    pub document: Document,
-    pub core: CDocument,
-}
 
 /// What some bytes are.
 #[derive(Drop)]
@@ -30,37 +19,37 @@ pub enum Input {
     /// They are no document without a fault, with the code and the place of the first fault: of the text,
     /// or else of the names, or else of the expansion.
     Fault { code: Code, at: u64 },
-    /// They are this document.
-    Document(Held<AdmittedDocument>),
+    /// They are a document, of which this is kept.
+    Document(Held<ReadDocument>),
 }
 
-// What the bytes of a document are.
-fn read_text(alloc: Global, bytes: &[u8], document: Held<Document>) -> Result<Input, AllocError>
-    requires { IsDocument bytes.now document }
-    ensures { IfOk result (λ input. (most : ℕ) → length bytes.now ≤ most → IsInput most bytes.now input) }
+// What bytes are that are refused so.
+fn refused(flaw: Flaw) -> Input
+    ensures { (most : ℕ) (bytes : List ℕ) → IsRefused most bytes flaw → IsInput most bytes result }
 {
-    match core_of(alloc, document.get()) {
-        Ok(core) => {
-            let reading = AdmittedDocument {
-                document: document.into_inner(),
-                core: core.into_inner(),
-            };
-            Ok(Input::Document(Held::new(alloc, reading)?))
-        }
-        Err(NameFault::Fault { code, at }) => Ok(Input::Fault { code, at }),
-        Err(NameFault::Memory) => Err(AllocError),
+    match flaw {
+        Flaw::TooLong => Input::TooLong,
+        Flaw::Fault { code, at } => Input::Fault { code, at },
     }
 }
 
-/// What the bytes are, where they are not too many.
-pub fn read_bytes(alloc: Global, bytes: &[u8]) -> Result<Input, AllocError>
-    ensures { IfOk result (λ input. (most : ℕ) → length bytes.now ≤ most → IsInput most bytes.now input) }
+// What bytes are that are read so.
+fn input_of(reading: Reading) -> Input
+    ensures { (most : ℕ) (bytes : List ℕ) → IsReading most bytes reading → IsInput most bytes result }
 {
-    match read_document(alloc, bytes) {
-        Ok(document) => read_text(alloc, bytes, Held::new(alloc, document)?),
-        Err(SyntaxFault::Fault { code, at }) => Ok(Input::Fault { code, at }),
-        Err(SyntaxFault::Memory) => Err(AllocError),
+    match reading {
+        Reading::Refused(flaw) => refused(flaw),
+        Reading::Document(document) => Input::Document(document),
     }
+}
+
+/// What the bytes are. The certificates of a document are read token by token, and not kept.
+pub fn read_bytes(alloc: Global, bytes: &[u8], most: usize) -> Result<Input, AllocError>
+    requires { most ≤ 2 ^ 29 }
+    ensures { IfOk result (IsInput most bytes.now) }
+{
+    let reading = documents::read_bytes(alloc, bytes, most)?;
+    Ok(input_of(reading))
 }
 
 /// What a source gave.
@@ -74,6 +63,7 @@ pub struct Text {
 
 /// Reads the source to its end, or past so many bytes, and says what it gave.
 pub fn read_input<S: Source>(alloc: Global, src: &mut S, most: usize) -> Result<Text, Stop>
+    requires { most ≤ 2 ^ 29 }
     ensures input { IfOk result (IsTextOf most (S.left src.old)) }
     ensures end { OnOk result (IsAtEnd (S.left src.new) ⊎ IsLongerThan most (S.left src.old)) }
     ensures rest { LeavesRest (S.left src.old) (S.left src.new) }
@@ -82,7 +72,7 @@ pub fn read_input<S: Source>(alloc: Global, src: &mut S, most: usize) -> Result<
 {
     match read_all(alloc, src, most) {
         Ok(bytes) => {
-            let input = read_bytes(alloc, &bytes)?;
+            let input = read_bytes(alloc, &bytes, most)?;
             Ok(Text { bytes, input })
         }
         Err(ReadError::TooLong) => Ok(Text {

@@ -3,13 +3,12 @@ ghost use Rattle.std.specs.Prelude.{◌≡◌, ◌≤◌, ◌++◌, ◌∷◌, L
 ghost use Rattle.unity_base.specs.Streams.{IsTold};
 ghost use Rattle.proof_script.specs.Proving.{Finds};
 ghost use Rattle.certificate_printing.specs.Certificates.{certificates_text};
-ghost use Rattle.certificate_roundtrip.specs.Found.{front};
 ghost use Rattle.unity_cli.specs.Admitted.{greatest_bare_size};
 ghost use Rattle.cli_words.specs.Requests as requests;
 ghost use Rattle.unity_cli.specs.Answering.{HasPlan, IsSearchedFor, IsSearchedIn, Telling};
-ghost use Rattle.unity_cli.specs.Input.{AreKept, IsInput, IsAdmittedAs, words_in};
+ghost use Rattle.unity_cli.specs.Input.{AreKept, IsInput, IsAdmittedAs, bytes_before, words_in};
 
-use crate::input::{AdmittedDocument, Input};
+use crate::input::Input;
 use crate::output::{Answer, write_answer};
 use crate::status::Status;
 use case_tables::Code;
@@ -18,8 +17,8 @@ use cli_texts::{document_fault, input_refusal, rejected};
 use obligations::Cert;
 use proof_script::{Plan, Proof, ScriptError, prove};
 use std::alloc::{AllocError, Global};
+use streamed_documents::ReadDocument;
 use unity_base::Sink;
-use unity_syntax::Document;
 
 /// What a search gives.
 #[derive(Drop)]
@@ -66,7 +65,7 @@ fn find_for(
     alloc: Global,
     budget: u64,
     bytes: &[u8],
-    reading: &AdmittedDocument,
+    reading: &ReadDocument,
 ) -> Result<Found, AllocError>
     requires reading { IsAdmittedAs greatest_bare_size bytes.now reading.now }
     requires budget { budget ≤ 1000000 }
@@ -94,7 +93,7 @@ fn answered(
     alloc: Global,
     budget: u64,
     bytes: &[u8],
-    reading: &AdmittedDocument,
+    reading: &ReadDocument,
     proof: Proof,
 ) -> Result<Found, AllocError>
     requires reading { IsAdmittedAs greatest_bare_size bytes.now reading.now }
@@ -105,7 +104,7 @@ fn answered(
 {
     match proof {
         Proof::Proved { plan, certs } => {
-            let front = front_of(bytes, &reading.document);
+            let front = front_of(bytes, reading.section_at);
             let text = text_with(alloc, front, certs.as_slice())?;
             Ok(Found::new(Status::Done, text, Some(plan)))
         }
@@ -140,11 +139,11 @@ fn answered(
 }
 
 // The bytes before the word `certificates`.
-fn front_of<'a>(bytes: &'a [u8], document: &Document) -> &'a [u8]
-    ensures { result.now ≡ front bytes.now document.now.certificates }
+fn front_of<'a>(bytes: &'a [u8], section_at: Option<u64>) -> &'a [u8]
+    ensures { result.now ≡ bytes_before bytes.now section_at }
 {
-    match &document.certificates {
-        Some(section) => &bytes[..bytes.len().min(section.at as usize)],
+    match section_at {
+        Some(at) => &bytes[..bytes.len().min(at as usize)],
         None => bytes,
     }
 }

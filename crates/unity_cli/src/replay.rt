@@ -6,13 +6,14 @@ ghost use Rattle.unity_cli.specs.Admitted.{greatest_size};
 ghost use Rattle.unity_cli.specs.Answering.{TellsInput, TellsAdmitted};
 ghost use Rattle.unity_cli.specs.Input.{IsSomeInput, IsSomeAdmitted};
 
-use crate::input::{AdmittedDocument, Input};
+use crate::input::Input;
 use crate::output::{write_bad, write_end};
 use crate::status::Status;
 use case_tables::Code;
 use cli_texts::{document_fault, input_refusal};
 use run_traces::replay_schedule;
 use std::alloc::Global;
+use streamed_documents::ReadDocument;
 use unity_base::Sink;
 
 /// Writes what `replay` answers for the input.
@@ -31,7 +32,7 @@ pub fn write_replay<K: Sink>(alloc: Global, input: &Input, out: &mut K) -> Statu
 }
 
 // Writes what `replay` answers for a document.
-fn replay_document<K: Sink>(alloc: Global, reading: &AdmittedDocument, out: &mut K) -> Status
+fn replay_document<K: Sink>(alloc: Global, reading: &ReadDocument, out: &mut K) -> Status
     requires { IsSomeAdmitted greatest_size reading.now }
     ensures told { TellsAdmitted replay reading.now (K.written out.old) (K.written out.new) result }
     ensures nothing { result ≡ Status.WantOfMemory → out.new ≡ out.old }

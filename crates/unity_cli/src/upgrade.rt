@@ -7,13 +7,14 @@ ghost use Rattle.cli_words.specs.Requests as requests;
 ghost use Rattle.unity_cli.specs.Answering.{IsUpgradedFor, TellsText};
 ghost use Rattle.unity_cli.specs.Input.{IsAdmittedAs, IsSomeText};
 
-use crate::check::judge_document;
-use crate::input::{AdmittedDocument, Input, Text};
+use crate::check::check_bytes;
+use crate::input::{Input, Text};
 use crate::output::{Answer, write_answer};
 use crate::status::Status;
 use case_tables::Code;
 use cli_texts::{document_fault, input_refusal};
 use std::alloc::{AllocError, Global};
+use streamed_documents::ReadDocument;
 use unity_base::Sink;
 
 // What `upgrade` answers for a text.
@@ -33,13 +34,13 @@ fn upgrade(alloc: Global, text: Text) -> Result<Answer, AllocError>
 fn upgrade_document(
     alloc: Global,
     bytes: Vec<u8>,
-    reading: AdmittedDocument,
+    reading: ReadDocument,
 ) -> Result<Answer, AllocError>
     requires { IsAdmittedAs greatest_bare_size bytes.items reading }
     ensures { IfOk result (λ a. Upgraded bytes.items a.status a.text.items) }
 {
-    let place = reading.document.number_at;
-    let answer = judge_document(alloc, reading)?;
+    let place = number_of(reading);
+    let answer = check_bytes(alloc, &bytes)?;
     match answer.status {
         Status::Done => Ok(Answer {
             status: Status::Done,
@@ -47,6 +48,13 @@ fn upgrade_document(
         }),
         _ => Ok(answer),
     }
+}
+
+// The place of the version's number in a document, which is let go.
+fn number_of(reading: ReadDocument) -> u64
+    ensures { result ≡ reading.number_at }
+{
+    reading.number_at
 }
 
 // The text with a `2` at the place.

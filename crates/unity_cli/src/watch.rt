@@ -8,12 +8,13 @@ ghost use Rattle.unity_cli.specs.Answer.Watch.{ending_status};
 ghost use Rattle.unity_cli.specs.Answering.{IsWatchedFor, IsStoppedFor, IsWatchedIn, TellsInput};
 ghost use Rattle.unity_cli.specs.Input.{IsSomeInput, IsSomeAdmitted};
 
-use crate::input::{AdmittedDocument, Input};
+use crate::input::Input;
 use crate::output::{Answer, write_answer};
 use crate::status::Status;
 use case_tables::Code;
 use cli_texts::{document_fault, input_refusal, rejected};
 use std::alloc::{AllocError, Global};
+use streamed_documents::ReadDocument;
 use trace_watch::Ending;
 use unity_base::{Seq, Sink};
 use watch_schedules::{WatchStop, ending_text, watch_schedule};
@@ -31,7 +32,7 @@ fn watch(alloc: Global, input: &Input) -> Result<Answer, AllocError>
 }
 
 // What `watch` answers for a document.
-fn watch_document(alloc: Global, reading: &AdmittedDocument) -> Result<Answer, AllocError>
+fn watch_document(alloc: Global, reading: &ReadDocument) -> Result<Answer, AllocError>
     requires { IsSomeAdmitted greatest_size reading.now }
     ensures { IfOk result (IsWatchedIn reading.now) }
 {

@@ -1,5 +1,6 @@
 use Rattle.std.proofs.Common.{◌≡◌, Option, Some, None, ℕ, refl, sym, ◌∙◌}
 use Rattle.unity_lexer.proofs.ScanSteps.{start_passed}
+use Rattle.streamed_documents.proofs.Hearings.{stays_same}
 use Rattle.streamed_documents.proofs.SectionSteps.{behind_at, not_none}
 use Rattle.streamed_documents.proofs.behind.read_behind.Goals as goal
 
@@ -32,3 +33,6 @@ returns-in-None-clause-end g c = c.requires.none c.in-None.is
 
 pub returns-in-None-clause-passed : goal.returns-in-None-clause-passed
 returns-in-None-clause-passed g c = start_passed c.args.w.now (g.S.Source.left c.args.src.now)
+
+pub returns-in-None-clause-ready : goal.returns-in-None-clause-ready
+returns-in-None-clause-ready g c = stays_same c.args.pending.now c.requires.ready

@@ -3,7 +3,7 @@ use Rattle.unity_lexer.proofs.ScanSteps.{start_passed, passed_then}
 use Rattle.certificate_events.specs.Events.{events}
 use Rattle.certificate_events.specs.Sections.{Takes}
 use Rattle.streamed_documents.specs.Hearing.{Hears}
-use Rattle.streamed_documents.proofs.Hearings.{hears_none}
+use Rattle.streamed_documents.proofs.Hearings.{hears_none, stays_same, stays_then, stays_may}
 use Rattle.streamed_documents.proofs.Passing.{told_passes, read_out_from}
 use Rattle.streamed_documents.proofs.SectionSteps.{going_start, going_then, end_behind, end_read, drained_behind}
 use Rattle.streamed_documents.proofs.SectionSteps.{IsGood, skimmed_behind, long_behind, long_going}
@@ -20,7 +20,7 @@ tokens-init g c =
       passed = start_passed c.args.w.now a;
       same = refl;
       count = omega (arith, c.new-reader.ensures.count);
-      ready = c.requires.ready;
+      ready = stays_same c.args.pending.now c.requires.ready;
       goes = going_start (c.args.version == 2) c.args.w.now a c.new-reader.result c.args.pending.now
           c.new-reader.ensures.stands c.requires.ready;
     }
@@ -72,12 +72,13 @@ tokens-preserved-in-Nothing g c =
           (scan_is w x b d _ _ c.in-Token.is c.in_ok-found.ensures.scan) c.take.ensures.stands c.take.ensures.takes
           c.take.ensures.told (subst IsGood (sym c.in-Nothing.is) tt)
           (subst (λ taken. Hears c.tokens.pending c.tokens.pending (events (taken ∷ []))) (sym c.in-Nothing.is)
-          (hears_none c.tokens.pending c.tokens.invariant.ready));
+          (hears_none c.tokens.pending
+          (stays_may c.args.pending.now c.tokens.pending c.tokens.invariant.ready)));
     }
 
 pub hear-requires : goal.hear-requires
 hear-requires g c =
-    c.tokens.invariant.ready
+    stays_may c.args.pending.now c.tokens.pending c.tokens.invariant.ready
 
 pub tokens-smaller : goal.tokens-smaller
 tokens-smaller g c =
@@ -101,7 +102,8 @@ tokens-preserved g c =
       passed = passed_then u w x a b d c.tokens.invariant.passed c.next_token.ensures.passed;
       same = c.in_ok-found.ensures.cause.same refl ∙ c.tokens.invariant.same;
       count = omega (arith, c.take.ensures.count, c.tokens.invariant.count, rises);
-      ready = c.in_ok-hear-in-Event.ensures.ready;
+      ready = stays_then c.args.pending.now c.tokens.pending c.hear.new.pending c.tokens.invariant.ready
+          c.in_ok-hear-in-Event.ensures.ready;
       goes = going_then (c.args.version == 2) u w x a b d c.tokens.reader c.take.new.self c.args.pending.now
           c.tokens.pending c.hear.new.pending c.in-Token.t c.take.result c.tokens.invariant.goes
           (scan_is w x b d _ _ c.in-Token.is c.in_ok-found.ensures.scan) c.take.ensures.stands c.take.ensures.takes

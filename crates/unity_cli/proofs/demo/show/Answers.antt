@@ -8,13 +8,13 @@ use Rattle.unity_cli.proofs.demo.show.Goals as goal
 
 pub find-requires-clause-input : goal.find-requires-clause-input
 find-requires-clause-input c =
-    let read = ring_read c.args.places c.requires.1 c.in_ok-ring.ring.items c.deref.result.now c.deref-2.result.now
+    let read = ring_read c.args.places c.in_ok-ring.ring.items c.deref.result.now c.deref-2.result.now
     c.in_ok-input.input c.in_ok-ring.ensures c.deref.ensures.value c.deref-2.ensures.value c.in_ok-input.ensures in
     (ring_bytes c.args.places, read.0, read.1)
 
 pub returns-in_default : goal.returns-in_default
 returns-in_default c =
-    let read = ring_read c.args.places c.requires.1 c.in_ok-ring.ring.items c.deref.result.now c.deref-2.result.now
+    let read = ring_read c.args.places c.in_ok-ring.ring.items c.deref.result.now c.deref-2.result.now
     c.in_ok-input.input c.in_ok-ring.ensures c.deref.ensures.value c.deref-2.ensures.value c.in_ok-input.ensures in
     shown_alone c.args.places (words_in c.in_ok-input.input) c.in_ok-answer.field-0.answer c.in_ok-answer.field-0.plan
     (c.in_ok-answer.ensures.answer (ring_bytes c.args.places) read.0 read.1) c.in_ok-answer.ensures.plan
@@ -22,7 +22,7 @@ returns-in_default c =
 
 pub returns : goal.returns
 returns c =
-    let read = ring_read c.args.places c.requires.1 c.in_ok-ring.ring.items c.deref.result.now c.deref-2.result.now
+    let read = ring_read c.args.places c.in_ok-ring.ring.items c.deref.result.now c.deref-2.result.now
     c.in_ok-input.input c.in_ok-ring.ensures c.deref.ensures.value c.deref-2.ensures.value c.in_ok-input.ensures in
     let whole : c.extend_from_slice.new.self.items ≡ ring_line c.args.places ++ c.in_ok-verdict.verdict.items =
     search rules in

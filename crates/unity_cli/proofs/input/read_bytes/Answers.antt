@@ -1,6 +1,4 @@
-use Rattle.std.proofs.Common.{rules}
-use Rattle.streamed_documents.specs.WellFormed.{of_text}
 use Rattle.unity_cli.proofs.input.read_bytes.Goals as goal
 
-pub returns-in-Err-Fault : goal.returns-in-Err-Fault
-returns-in-Err-Fault c = λ most few. (few, of_text (search rules))
+pub returns : goal.returns
+returns c = c.input_of.ensures c.args.most c.args.bytes.now c.in_ok-reading.ensures

@@ -1,4 +1,4 @@
-use Rattle.std.proofs.Common.{◌≤◌, length, Err, ap, refl, sym, subst}
+use Rattle.std.proofs.Common.{Err, ap, refl, subst}
 use Rattle.unity_cli.specs.Input.{IsInput}
 use Rattle.unity_cli.proofs.Told.{longer}
 use Rattle.unity_cli.proofs.Searched.{are_kept}
@@ -10,8 +10,7 @@ returns-in_ok-input-in-Ok-clause-input g c = record {
   were = c.in-Ok.ensures.bytes;
   text_is = record {
     input_is = subst (λ b. IsInput c.args.most b c.in_ok-input-in-Ok.input) c.deref.ensures.value
-        (c.in_ok-input-in-Ok.ensures c.args.most
-        (subst (λ b. length b ≤ c.args.most) (sym c.deref.ensures.value) c.in-Ok.ensures.within));
+        c.in_ok-input-in-Ok.ensures;
     kept = are_kept c.in_ok-input-in-Ok.input c.in-Ok.bytes.items;
   };
 }

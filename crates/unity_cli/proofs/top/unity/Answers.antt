@@ -192,7 +192,7 @@ returns-in-Ok-read_input-clause-answer g c = λ has said.
     (g.K.Sink.written c.args.out.now) (g.K.Sink.written c.write_command.new.out) c.write_command.result
     (sym c.read_words.ensures.asked ∙ ap (option_map meant) c.in-Some.is)
     (subst (λ m. IsTextOf m (g.S.Source.left c.args.src.now) c.in-Ok-read_input.text)
-    c.most_bytes.ensures c.in-Ok-read_input.ensures.input)
+    c.most_bytes.ensures.most c.in-Ok-read_input.ensures.input)
     c.write_command.ensures.told has
 
 pub returns-in-Ok-read_input-clause-part : goal.returns-in-Ok-read_input-clause-part
@@ -202,7 +202,7 @@ returns-in-Ok-read_input-clause-part g c = λ fault said.
     (g.K.Sink.written c.args.out.now) (g.K.Sink.written c.write_command.new.out) c.write_command.result
     (sym c.read_words.ensures.asked ∙ ap (option_map meant) c.in-Some.is)
     (subst (λ m. IsTextOf m (g.S.Source.left c.args.src.now) c.in-Ok-read_input.text)
-    c.most_bytes.ensures c.in-Ok-read_input.ensures.input)
+    c.most_bytes.ensures.most c.in-Ok-read_input.ensures.input)
     c.write_command.ensures.told fault
 
 pub returns-in-Ok-read_input-clause-safe : goal.returns-in-Ok-read_input-clause-safe
@@ -233,7 +233,7 @@ returns-in-Ok-read_input-clause-bounds g c = λ done is_check. absurd (others_no
 pub returns-in-Ok-read_input-clause-end : goal.returns-in-Ok-read_input-clause-end
 returns-in-Ok-read_input-clause-end g c = λ some read memory.
     subst (λ m. IsAtEnd (g.S.Source.left c.read_input.new.src) ⊎ IsLongerThan m (g.S.Source.left c.args.src.now))
-    (c.most_bytes.ensures
+    (c.most_bytes.ensures.most
     ∙ ap most_bytes (sym (sym c.read_words.ensures.asked ∙ ap (option_map meant) c.in-Some.is)))
     c.in-Ok-read_input.ensures.end
 
@@ -250,7 +250,7 @@ returns-in-Ok-read_input-clause-violated g c =
     (g.K.Sink.written c.args.out.now) (g.K.Sink.written c.write_command.new.out) c.write_command.result
     (sym c.read_words.ensures.asked ∙ ap (option_map meant) c.in-Some.is)
     (subst (λ m. IsTextOf m (g.S.Source.left c.args.src.now) c.in-Ok-read_input.text)
-    c.most_bytes.ensures c.in-Ok-read_input.ensures.input)
+    c.most_bytes.ensures.most c.in-Ok-read_input.ensures.input)
     c.write_command.ensures.told
 
 pub returns-in-Demo-clause-unviolated : goal.returns-in-Demo-clause-unviolated
@@ -266,7 +266,7 @@ returns-in-Ok-read_input-clause-unviolated g c =
     (g.K.Sink.written c.args.out.now) (g.K.Sink.written c.write_command.new.out) c.write_command.result
     (sym c.read_words.ensures.asked ∙ ap (option_map meant) c.in-Some.is)
     (subst (λ m. IsTextOf m (g.S.Source.left c.args.src.now) c.in-Ok-read_input.text)
-    c.most_bytes.ensures c.in-Ok-read_input.ensures.input)
+    c.most_bytes.ensures.most c.in-Ok-read_input.ensures.input)
     c.write_command.ensures.told
 
 pub returns-in-Demo-clause-kept : goal.returns-in-Demo-clause-kept
@@ -281,7 +281,7 @@ returns-in-Ok-read_input-clause-kept g c =
     (g.K.Sink.written c.args.out.now) (g.K.Sink.written c.write_command.new.out) c.write_command.result
     (sym c.read_words.ensures.asked ∙ ap (option_map meant) c.in-Some.is)
     (subst (λ m. IsTextOf m (g.S.Source.left c.args.src.now) c.in-Ok-read_input.text)
-    c.most_bytes.ensures c.in-Ok-read_input.ensures.input)
+    c.most_bytes.ensures.most c.in-Ok-read_input.ensures.input)
     c.write_command.ensures.told
 
 pub returns-in-Ok-read_input-clause-form : goal.returns-in-Ok-read_input-clause-form

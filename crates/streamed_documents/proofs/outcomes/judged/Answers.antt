@@ -1,7 +1,7 @@
 use Rattle.std.proofs.Common.{◌≡◌, refl, sym, subst}
 use Rattle.streamed_documents.specs.declared.found.JudgedDocument.{JudgedDocument}
 use Rattle.streamed_documents.specs.Fronts.{IsVerdict}
-use Rattle.streamed_documents.proofs.fronts.judged.Goals as goal
+use Rattle.streamed_documents.proofs.outcomes.judged.Goals as goal
 
 pub returns : goal.returns
 returns c =

@@ -2,7 +2,7 @@ use Rattle.std.proofs.Common.{Err, subst}
 use Rattle.proof_plans.specs.declared.plans.ScriptError.{ScriptError}
 use Rattle.proof_plans.specs.Giving.{VerdictAnswers}
 use Rattle.proof_plans.specs.Verdicts.{verdict_of}
-use Rattle.streamed_documents.proofs.fronts.verdict_by.Goals as goal
+use Rattle.streamed_documents.proofs.outcomes.verdict_by.Goals as goal
 
 pub returns-in-Err-Step : goal.returns-in-Err-Step
 returns-in-Err-Step c = λ d certs whole stands.

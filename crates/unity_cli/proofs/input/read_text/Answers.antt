@@ -1,6 +1,0 @@
-use Rattle.std.proofs.Common.{rules}
-use Rattle.streamed_documents.specs.WellFormed.{of_document}
-use Rattle.unity_cli.proofs.input.read_text.Goals as goal
-
-pub returns-in-Err-Fault : goal.returns-in-Err-Fault
-returns-in-Err-Fault c = λ most few. (few, of_document _ c.requires (search rules))
