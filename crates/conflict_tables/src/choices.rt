@@ -1,6 +1,6 @@
 //! What formulas that wait become: the two sides of one, and a quotient taken.
-use crate::compiling::{relate, sum_of};
 use crate::lists::{append, minus, times};
+use crate::relating::{relate, sum_of};
 use crate::stop::Stop;
 use crate::sums::{Multiple, Sum, no_sum};
 use crate::table::{Form, Opened, Part, Relation, Table};

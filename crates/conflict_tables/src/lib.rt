@@ -8,14 +8,18 @@ mod hashes;
 mod lists;
 mod masks;
 mod numbering;
+mod parts;
+mod places;
+mod relating;
 mod stop;
 mod sums;
 mod table;
 mod triangles;
 
 pub use choices::{opened_by, sides_of};
-pub use compiling::{Pair, compile};
+pub use compiling::compile;
 pub use lists::{Span, append, at, common_divisor, items_in, minus, plus, put, repeated, times};
+pub use parts::Pair;
 pub use stop::Stop;
 pub use sums::{Factor, Multiple, Sum, no_sum};
 pub use table::{
