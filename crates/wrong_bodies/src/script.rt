@@ -6,13 +6,13 @@ ghost use Rattle.core_terms.specs.Conditions.{IsCoreDocument};
 ghost use Rattle.proof_plans.specs.Giving.{AreWhole, VerdictAnswers, PlanHolds};
 ghost use Rattle.proof_script.specs.Proving.{Finds};
 ghost use Rattle.proof_plans.specs.Verdicts.{verdict_of};
-ghost use Rattle.streamed_documents.specs.Found.{IsFound};
+ghost use Rattle.streamed_documents.specs.Found.{IsFound, IsReading};
 
 use core_terms::CDocument;
 use obligations::Cert;
 use proof_script::{Plan, Proof, ScriptError};
-use std::alloc::Global;
-use streamed_documents::{Finding, SourceStop};
+use std::alloc::{AllocError, Global};
+use streamed_documents::{Finding, Reading, SourceStop};
 use unity_base::Source;
 
 /// The call `check` of `proof_script`, with its clauses.
@@ -46,4 +46,28 @@ pub fn judge_source<S: Source>(
     ensures cause { IsTold (S.faults src.old) (S.faults src.new) (IsErrOf result SourceStop.Failed) }
 {
     streamed_documents::judge_source(alloc, src, most)
+}
+
+/// The call `read_source` of `streamed_documents`, with its clauses.
+pub fn read_source<S: Source>(
+    alloc: Global,
+    src: &mut S,
+    most: usize,
+) -> Result<Reading, SourceStop>
+    requires { most ≤ 2 ^ 29 }
+    ensures found { IfOk result (λ found. (bytes : List ℕ) → S.left src.old ≡ Some bytes →
+        IsReading most bytes found) }
+    ensures end { OnOk result (IsAtEnd (S.left src.new) ⊎ IsLongerThan most (S.left src.old)) }
+    ensures rest { LeavesRest (S.left src.old) (S.left src.new) }
+    ensures cause { IsTold (S.faults src.old) (S.faults src.new) (IsErrOf result SourceStop.Failed) }
+{
+    streamed_documents::read_source(alloc, src, most)
+}
+
+/// The call `read_bytes` of `streamed_documents`, with its clause.
+pub fn read_bytes(alloc: Global, bytes: &[u8], most: usize) -> Result<Reading, AllocError>
+    requires { most ≤ 2 ^ 29 }
+    ensures { IfOk result (IsReading most bytes.now) }
+{
+    streamed_documents::read_bytes(alloc, bytes, most)
 }
