@@ -45,8 +45,8 @@ use Rattle.streamed_documents.specs.declared.found.ReadDocument.{ReadDocument}
 use Rattle.streamed_documents.specs.declared.fronts.Passage.{Passage}
 use Rattle.streamed_documents.specs.declared.fronts.Listener.{Listener}
 use Rattle.streamed_documents.specs.declared.fronts.Opened.{Opened}
-use Rattle.streamed_documents.specs.Fronts.{HasFront, IsOpening, IsPassage, IsPassageFor, IsPassed, IsSettled, IsVerdictBy}
-use Rattle.streamed_documents.specs.Fronts.{section_version, version_behind}
+use Rattle.streamed_documents.specs.Fronts.{HasFront, IsOpening, IsPassage, IsPassageFor, IsPassed, IsSettled}
+use Rattle.streamed_documents.specs.Fronts.{IsVerdictBy, section_version, version_behind}
 use Rattle.streamed_documents.specs.Hearing.{Hears, MayHear, IsPendingOn, IsReadyFor}
 use Rattle.streamed_documents.specs.Rests as rests
 use Rattle.streamed_documents.specs.Rests.{IsBehind, IsKept, IsSkimmed}

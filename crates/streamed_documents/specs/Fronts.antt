@@ -1,5 +1,6 @@
 -- What is found of a front.
-use Rattle.std.specs.Prelude.{◌≡◌, ◌⊎◌, ℕ, ◌+◌, ◌^◌, ◌≤◌, Bool, if◌then◌else◌, List, [], length, Option, Some, None, All}
+use Rattle.std.specs.Prelude.{◌≡◌, ◌⊎◌, ℕ, ◌+◌, ◌^◌, ◌≤◌, Bool, if◌then◌else◌, List, [], length, Option, Some}
+use Rattle.std.specs.Prelude.{None, All}
 use Rattle.std.specs.Prelude.{Result}
 use Rattle.core_terms.specs.Conditions.{IsCoreDocument}
 use Rattle.core_terms.specs.declared.documents.CDocument.{CDocument}

@@ -1,5 +1,6 @@
 -- What a search finds is its answer.
-use Rattle.std.proofs.Common.{◌≡◌, ◌≤◌, ◌+◌, ℕ, List, ◌∷◌, ◌++◌, length, Option, Some, None, Result, Ok, IfOk, refl, sym}
+use Rattle.std.proofs.Common.{◌≡◌, ◌≤◌, ◌+◌, ℕ, List, ◌∷◌, ◌++◌, length, Option, Some, None, Result, Ok, IfOk}
+use Rattle.std.proofs.Common.{refl, sym}
 use Rattle.std.proofs.Common.{ap, ◌∙◌, subst, arith}
 use Rattle.unity_syntax.specs.declared.certificate.Certificates.{Certificates}
 use Rattle.unity_syntax.specs.declared.document.Document.{Document}
