@@ -49,11 +49,11 @@ pub fn read_whole(alloc: Global, bytes: &[u8]) -> Result<Whole, Refusal>
 }
 
 /// The tokens up to the first word `certificates`, with it, or all; and those behind it.
-pub fn section_split(alloc: Global, bytes: &[u8]) -> Result<(Vec<Token>, Vec<Token>), Refusal> {
+pub fn section_split(alloc: Global, bytes: &[u8]) -> Result<(Seq<Token>, Seq<Token>), Refusal> {
     let word = TokenKind::Reserved(Word::Certificates);
     let tokens = lex(alloc, bytes)?;
-    let mut front = Vec::new(alloc);
-    let mut behind = Vec::new(alloc);
+    let mut front = Seq::new(alloc);
+    let mut behind = Seq::new(alloc);
     let mut met = false;
     for token in tokens.as_slice() {
         if met {
