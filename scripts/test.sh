@@ -77,6 +77,43 @@ expect_claim() {
     compare "a claim on $1 parts" 0 check < "$proved"
 }
 
+# expect_deep LEVELS PART: a guard on so many levels of this part, in parentheses that names carry on, is proved within
+# a stack of 4 MiB, and `check` accepts what is written.
+expect_deep() {
+    wanted=$text
+    printf '%s\n' "accepted 1 steps 1 obligations" "P.safe defined" > "$text"
+    awk -v levels="$1" -v part="$2" 'BEGIN {
+        print "unity 1\nprogram P\ndeclare x : 0..1\nalways"
+        last = "x = 0"
+        for (n = 0; levels > 0; n++) {
+            opened = closed = ""
+            for (i = 0; i < 190 && levels > 0; i++) { opened = opened part " ("; closed = closed ")"; levels-- }
+            print "  d" n " = " opened last closed
+            last = "d" n
+        }
+        print "assign s: x := x if " last " end\nproof P safe: defined by text; end"
+    }' > "$answer"
+    (ulimit -Ss 4096 && crates/unity/out/unity prove 1000000 < "$answer" > "$proved") || true
+    compare "a guard of $1 times $2" 0 check < "$proved"
+}
+
+# expect_false_claim TIMES: a claim on a sum of so many parts is refuted within a stack of 4 MiB.
+expect_false_claim() {
+    local ended=0
+    {
+        printf '%s\n' "unity 1" "program P declare x : 0..1 y : 0..1 assign s: y := y end"
+        echo "proof P safe: defined by text; many: invariant 1"
+        yes "+ 1" | head -n "$(($1 - 1))"
+        echo "<= x by text; end"
+    } > "$text"
+    (ulimit -Ss 4096 && exec crates/unity/out/unity prove 1000000 < "$text" > "$answer") || ended=$?
+    if [ "$ended" = 3 ] && [ "$(head -n 1 "$answer")" = "refuted P.many obligation 2" ]; then
+        count_one 0 "a false claim on $1 parts"
+    else
+        count_one 1 "a false claim on $1 parts: status $ended"
+    fi
+}
+
 # expect_bound LINE WORD..: by these words the script that tries a bound on all executions of 8 steps says
 # this line.
 expect_bound() {
@@ -669,6 +706,9 @@ for name in meeting_time sort odd_even reachability shortest_path termination bi
     expect_counted "$name" "$name.accepted"
 done
 expect_claim 13000 +
+expect_deep 65520 not
+expect_deep 32758 "true and"
+expect_false_claim 32742
 expect_refuted pick
 expect_refuted race
 expect_refuted lost_update
