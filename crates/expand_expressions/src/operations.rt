@@ -46,19 +46,13 @@ pub fn number(alloc: Global, a: Formed) -> Result<NumberCore, AllocError>
     ensures sound { IfOk result (λ n. IsSound (of_number n)) }
     ensures most { IfOk result (λ n. n.measure.most ≤ a.measure.most + 1) }
 {
-    let Formed {
-        core,
-        constant,
-        exact,
-        measure,
-    } = a;
-    match core {
+    match a.core {
         Core::Number { term, known } => Ok(NumberCore {
             term,
             known,
-            constant,
-            exact,
-            measure,
+            constant: a.constant,
+            exact: a.exact,
+            measure: a.measure,
         }),
         Core::Truth { form, known } => {
             let mut number = Some(0);
@@ -66,9 +60,9 @@ pub fn number(alloc: Global, a: Formed) -> Result<NumberCore, AllocError>
             Ok(NumberCore {
                 term,
                 known: number,
-                constant,
-                exact,
-                measure: choice_measure(measure),
+                constant: a.constant,
+                exact: a.exact,
+                measure: choice_measure(a.measure),
             })
         }
     }
@@ -101,19 +95,13 @@ pub fn truth(alloc: Global, a: Formed) -> Result<TruthCore, AllocError>
     ensures sound { IfOk result (λ n. IsSound (of_truth n)) }
     ensures most { IfOk result (λ n. n.measure.most ≤ a.measure.most + 1) }
 {
-    let Formed {
-        core,
-        constant,
-        exact,
-        measure,
-    } = a;
-    match core {
+    match a.core {
         Core::Truth { form, known } => Ok(TruthCore {
             form,
             known,
-            constant,
-            exact,
-            measure,
+            constant: a.constant,
+            exact: a.exact,
+            measure: a.measure,
         }),
         Core::Number { term, known } => {
             let mut truth = None;
@@ -121,9 +109,9 @@ pub fn truth(alloc: Global, a: Formed) -> Result<TruthCore, AllocError>
             Ok(TruthCore {
                 form,
                 known: truth,
-                constant,
-                exact,
-                measure: over_measure(sum_measure(measure, leaf(1))),
+                constant: a.constant,
+                exact: a.exact,
+                measure: over_measure(sum_measure(a.measure, leaf(1))),
             })
         }
     }
