@@ -33,6 +33,23 @@ fn put_choice(
     Ok(())
 }
 
+/// Leaves a choice between two terms.
+#[inline(never)]
+fn put_parts(
+    alloc: Global,
+    when: Shared<CForm>,
+    yes: CTerm,
+    no: CTerm,
+    found: &mut Option<Held<Choice>>,
+) -> Result<(), AllocError>
+    ensures { OnOk result (found.new ≡ Some (record { when = when; yes = yes; no = no })) }
+{
+    let yes = Shared::new(alloc, yes)?;
+    let no = Shared::new(alloc, no)?;
+    *found = Some(Held::new(alloc, Choice { when, yes, no })?);
+    Ok(())
+}
+
 /// What was found is in the first part of a sum or a difference.
 #[inline(never)]
 fn put_in_first(
@@ -43,13 +60,15 @@ fn put_in_first(
 ) -> Result<(), AllocError>
     ensures { OnOk result (found.new ≡ option_map (within (λ x. pair_node which x b.now)) found.old) }
 {
-    if let Some(choice) = mem::replace(found, None) {
-        let Choice { when, yes, no } = choice.into_inner();
-        let yes = Shared::new(alloc, pair_term(which, yes, b.share()?))?;
-        let no = Shared::new(alloc, pair_term(which, no, b.share()?))?;
-        *found = Some(Held::new(alloc, Choice { when, yes, no })?);
+    match mem::replace(found, None) {
+        Some(choice) => {
+            let Choice { when, yes, no } = choice.into_inner();
+            let yes = pair_term(which, yes, b.share()?);
+            let no = pair_term(which, no, b.share()?);
+            put_parts(alloc, when, yes, no, found)
+        }
+        None => Ok(()),
     }
-    Ok(())
 }
 
 /// What was found is in the second part of a sum or a difference.
@@ -62,13 +81,15 @@ fn put_in_second(
 ) -> Result<(), AllocError>
     ensures { OnOk result (found.new ≡ option_map (within (λ x. pair_node which a.now x)) found.old) }
 {
-    if let Some(choice) = mem::replace(found, None) {
-        let Choice { when, yes, no } = choice.into_inner();
-        let yes = Shared::new(alloc, pair_term(which, a.share()?, yes))?;
-        let no = Shared::new(alloc, pair_term(which, a.share()?, no))?;
-        *found = Some(Held::new(alloc, Choice { when, yes, no })?);
+    match mem::replace(found, None) {
+        Some(choice) => {
+            let Choice { when, yes, no } = choice.into_inner();
+            let yes = pair_term(which, a.share()?, yes);
+            let no = pair_term(which, a.share()?, no);
+            put_parts(alloc, when, yes, no, found)
+        }
+        None => Ok(()),
     }
-    Ok(())
 }
 
 /// What was found is in a multiple.
@@ -80,13 +101,13 @@ fn put_in_multiple(
 ) -> Result<(), AllocError>
     ensures { OnOk result (found.new ≡ option_map (within (λ x. Scale k x)) found.old) }
 {
-    if let Some(choice) = mem::replace(found, None) {
-        let Choice { when, yes, no } = choice.into_inner();
-        let yes = Shared::new(alloc, CTerm::Scale(k, yes))?;
-        let no = Shared::new(alloc, CTerm::Scale(k, no))?;
-        *found = Some(Held::new(alloc, Choice { when, yes, no })?);
+    match mem::replace(found, None) {
+        Some(choice) => {
+            let Choice { when, yes, no } = choice.into_inner();
+            put_parts(alloc, when, CTerm::Scale(k, yes), CTerm::Scale(k, no), found)
+        }
+        None => Ok(()),
     }
-    Ok(())
 }
 
 /// What was found is in what is divided.
@@ -98,13 +119,13 @@ fn put_in_quotient(
 ) -> Result<(), AllocError>
     ensures { OnOk result (found.new ≡ option_map (within (λ x. Div x k)) found.old) }
 {
-    if let Some(choice) = mem::replace(found, None) {
-        let Choice { when, yes, no } = choice.into_inner();
-        let yes = Shared::new(alloc, CTerm::Div(yes, k))?;
-        let no = Shared::new(alloc, CTerm::Div(no, k))?;
-        *found = Some(Held::new(alloc, Choice { when, yes, no })?);
+    match mem::replace(found, None) {
+        Some(choice) => {
+            let Choice { when, yes, no } = choice.into_inner();
+            put_parts(alloc, when, CTerm::Div(yes, k), CTerm::Div(no, k), found)
+        }
+        None => Ok(()),
     }
-    Ok(())
 }
 
 /// What was found is in what a remainder is left of.
@@ -116,13 +137,13 @@ fn put_in_remainder(
 ) -> Result<(), AllocError>
     ensures { OnOk result (found.new ≡ option_map (within (λ x. Mod x k)) found.old) }
 {
-    if let Some(choice) = mem::replace(found, None) {
-        let Choice { when, yes, no } = choice.into_inner();
-        let yes = Shared::new(alloc, CTerm::Mod(yes, k))?;
-        let no = Shared::new(alloc, CTerm::Mod(no, k))?;
-        *found = Some(Held::new(alloc, Choice { when, yes, no })?);
+    match mem::replace(found, None) {
+        Some(choice) => {
+            let Choice { when, yes, no } = choice.into_inner();
+            put_parts(alloc, when, CTerm::Mod(yes, k), CTerm::Mod(no, k), found)
+        }
+        None => Ok(()),
     }
-    Ok(())
 }
 
 /// A term's first `Ite` in reading order, one before those inside it. `None` where it has none.
@@ -153,6 +174,7 @@ fn look(alloc: Global, t: &CTerm, found: &mut Option<Held<Choice>>) -> Result<()
     }
 }
 
+/// Looks in the first part of a sum or a difference, and then in the second.
 #[cycle(choices)]
 #[inline(never)]
 fn look_in_pair(
@@ -165,12 +187,32 @@ fn look_in_pair(
     requires none { found.old ≡ None }
     ensures { OnOk result (found.new ≡ first_ite (pair_node which a.now b.now)) }
 {
-    look(alloc, a.get(), found)?;
+    match look(alloc, a.get(), found) {
+        Ok(()) => look_on(alloc, which, a, b, found),
+        Err(error) => Err(error),
+    }
+}
+
+/// Looks in the second part of a sum or a difference where the first has none.
+#[cycle(choices)]
+#[inline(never)]
+fn look_on(
+    alloc: Global,
+    which: Pairing,
+    a: &Shared<CTerm>,
+    b: &Shared<CTerm>,
+    found: &mut Option<Held<Choice>>,
+) -> Result<(), AllocError>
+    requires first { found.old ≡ first_ite a.now }
+    ensures { OnOk result (found.new ≡ first_ite (pair_node which a.now b.now)) }
+{
     if found.is_some() {
         return put_in_first(alloc, which, b, found);
     }
-    look(alloc, b.get(), found)?;
-    put_in_second(alloc, which, a, found)
+    match look(alloc, b.get(), found) {
+        Ok(()) => put_in_second(alloc, which, a, found),
+        Err(error) => Err(error),
+    }
 }
 
 #[cycle(choices)]
@@ -184,8 +226,10 @@ fn look_in_multiple(
     requires none { found.old ≡ None }
     ensures { OnOk result (found.new ≡ first_ite (Scale k a.now)) }
 {
-    look(alloc, a.get(), found)?;
-    put_in_multiple(alloc, k, found)
+    match look(alloc, a.get(), found) {
+        Ok(()) => put_in_multiple(alloc, k, found),
+        Err(error) => Err(error),
+    }
 }
 
 #[cycle(choices)]
@@ -199,8 +243,10 @@ fn look_in_quotient(
     requires none { found.old ≡ None }
     ensures { OnOk result (found.new ≡ first_ite (Div a.now k)) }
 {
-    look(alloc, a.get(), found)?;
-    put_in_quotient(alloc, k, found)
+    match look(alloc, a.get(), found) {
+        Ok(()) => put_in_quotient(alloc, k, found),
+        Err(error) => Err(error),
+    }
 }
 
 #[cycle(choices)]
@@ -214,6 +260,8 @@ fn look_in_remainder(
     requires none { found.old ≡ None }
     ensures { OnOk result (found.new ≡ first_ite (Mod a.now k)) }
 {
-    look(alloc, a.get(), found)?;
-    put_in_remainder(alloc, k, found)
+    match look(alloc, a.get(), found) {
+        Ok(()) => put_in_remainder(alloc, k, found),
+        Err(error) => Err(error),
+    }
 }

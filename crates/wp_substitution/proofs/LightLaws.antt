@@ -1,6 +1,6 @@
 -- What fits weighs little, and so does what replaces it.
-use Rattle.std.proofs.Common.{◌≡◌, ℕ, nat_eq, ◌*◌, ◌^◌, ◌≤◌, max, ℤ, List, [], ◌∷◌, All, Option, Some, None, ap, ◌∙◌}
-use Rattle.std.proofs.Common.{Bool, true, false, cond, arith}
+use Rattle.std.proofs.Common.{◌≡◌, ℕ, nat_eq, ◌*◌, ◌^◌, ◌≤◌, max, ℤ, List, [], ◌∷◌, All, Option, Some, None, sym}
+use Rattle.std.proofs.Common.{ap, ◌∙◌, Bool, true, false, cond, arith}
 use Rattle.std.proofs.Math.Nat.{mul-le-mul_left}
 use Rattle.std.proofs.lemmas.List.Elements.{All-head, All-tail, All-weaker}
 use Rattle.std.specs.Int.RustNames.{unsigned_abs}
@@ -14,7 +14,7 @@ use Rattle.core_terms.specs.declared.programs.CSlot.{CSlot}
 use Rattle.core_terms.specs.declared.programs.CWrite.{CWrite}
 use Rattle.core_terms.specs.declared.programs.CStmt.{CStmt}
 use Rattle.core_terms.specs.Weights.{Weights, range_weight, slot_weight, place_weight, one_weight, plain_weights}
-use Rattle.core_terms.specs.Weights.{plain_weight, weighing}
+use Rattle.core_terms.specs.Weights.{plain_weight, multiple_weights, weighing}
 use Rattle.core_terms.specs.Folding.{choice_term}
 use Rattle.core_terms.specs.Conditions.{FormFits, TermFits, WriteFits, StatementFits}
 use Rattle.core_terms.proofs.TreeFolds.{fold_term_is}
@@ -115,22 +115,18 @@ wp_light slots s f h w d =
     omega (arith, joined)
 
 -- a multiple of a lighter term is lighter
-pub multiple_own : (k l : ℤ) (t a u : CTerm) → t ≡ Scale k a → l ≡ k → (plain_weights u).own ≤ (after_weights a).own →
-    unsigned_abs l * (plain_weights u).own ≤ (after_weights t).own
-multiple_own k l t a u e f h =
-    let whole = ap (λ (w : Weights). w.own) (ap after_weights e ∙ weights-Scale chain_weight one_weight k a) in
+pub multiple_lighter : (k l : ℤ) (a u : CTerm) → l ≡ k → (plain_weights u).own ≤ (after_weights a).own →
+    unsigned_abs l * (plain_weights u).own ≤ unsigned_abs k * (after_weights a).own
+multiple_lighter k l a u f h =
     let part : unsigned_abs k * (plain_weights u).own ≤ unsigned_abs k * (after_weights a).own =
     mul-le-mul_left (unsigned_abs k) h in
     let same : unsigned_abs l * (plain_weights u).own ≡ unsigned_abs k * (plain_weights u).own =
     ap (λ z. unsigned_abs z * (plain_weights u).own) f in
-    omega (arith, whole, part, same)
+    omega (arith, part, same)
 
-pub multiple_most : (k l : ℤ) (t a u : CTerm) → t ≡ Scale k a → l ≡ k → (plain_weights u).own ≤ (after_weights a).own
-    →
-    (plain_weights u).most ≤ (after_weights a).most →
-    max (unsigned_abs l * (plain_weights u).own) (plain_weights u).most ≤ (after_weights t).most
-multiple_most k l t a u e f h m =
-    let own = multiple_own k l t a u e f h in
-    let within = own_within chain_weight one_weight t in
-    let whole = ap (λ (w : Weights). w.most) (ap after_weights e ∙ weights-Scale chain_weight one_weight k a) in
-    omega (arith, own, within, whole, m)
+pub multiple_is : (k l : ℤ) (t a : CTerm) → t ≡ Scale k a → l ≡ k →
+    after_weights t ≡ multiple_weights l (after_weights a)
+multiple_is k l t a e f =
+    ap after_weights e
+    ∙ weights-Scale chain_weight one_weight k a
+    ∙ ap (λ z. multiple_weights z (after_weights a)) (sym f)
