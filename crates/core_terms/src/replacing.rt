@@ -211,9 +211,9 @@ fn put_second(
     ensures most { IfOk result (λ u. (plain_weights u).most ≤
         (sum_weights (plain_weights first) (put_weights b.now)).most) }
 {
-    let known = *number;
+    let first_number = *number;
     match put_term(alloc, b.get(), by, number) {
-        Ok(second) => known::paired_known(alloc, which, first, known, second, number),
+        Ok(second) => known::paired_known(alloc, which, first, first_number, second, number),
         Err(error) => Err(error),
     }
 }

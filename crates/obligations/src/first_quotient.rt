@@ -38,20 +38,24 @@ fn divisor_of(k: i64) -> i64
     if 1 <= k { k } else { 1 }
 }
 
-/// Leaves a quotient with what it makes of a greater term.
+/// What was found is in the second part of a sum or a difference.
 #[inline(never)]
-fn put_rest(
+fn put_in_second(
     alloc: Global,
-    of: Shared<CTerm>,
-    divisor: i64,
-    rest: CTerm,
+    which: Pairing,
+    a: &Shared<CTerm>,
     found: &mut Option<Held<Taken>>,
 ) -> Result<(), AllocError>
-    ensures { OnOk result (found.new ≡ Some (record { of = of; divisor = divisor; rest = rest })) }
+    ensures { OnOk result (found.new ≡ option_map (taken_within (λ x. pair_node which a.now x)) found.old) }
 {
-    let rest = Shared::new(alloc, rest)?;
-    *found = Some(Held::new(alloc, Taken { of, divisor, rest })?);
-    Ok(())
+    match mem::replace(found, None) {
+        Some(taken) => {
+            let Taken { of, divisor, rest } = taken.into_inner();
+            let whole = pair_term(which, a.share()?, rest);
+            put_rest(alloc, of, divisor, whole, found)
+        }
+        None => Ok(()),
+    }
 }
 
 /// What was found is in the first part of a sum or a difference.
@@ -74,33 +78,9 @@ fn put_in_first(
     }
 }
 
-/// What was found is in the second part of a sum or a difference.
-#[inline(never)]
-fn put_in_second(
-    alloc: Global,
-    which: Pairing,
-    a: &Shared<CTerm>,
-    found: &mut Option<Held<Taken>>,
-) -> Result<(), AllocError>
-    ensures { OnOk result (found.new ≡ option_map (taken_within (λ x. pair_node which a.now x)) found.old) }
-{
-    match mem::replace(found, None) {
-        Some(taken) => {
-            let Taken { of, divisor, rest } = taken.into_inner();
-            let whole = pair_term(which, a.share()?, rest);
-            put_rest(alloc, of, divisor, whole, found)
-        }
-        None => Ok(()),
-    }
-}
-
 /// What was found is in a multiple.
 #[inline(never)]
-fn put_in_multiple(
-    alloc: Global,
-    k: i64,
-    found: &mut Option<Held<Taken>>,
-) -> Result<(), AllocError>
+fn put_in_multiple(alloc: Global, k: i64, found: &mut Option<Held<Taken>>) -> Result<(), AllocError>
     ensures { OnOk result (found.new ≡ option_map (taken_within (λ x. Scale k x)) found.old) }
 {
     match mem::replace(found, None) {
@@ -167,6 +147,22 @@ fn rest_of(alloc: Global, v: u32, a: &Shared<CTerm>, k: i64) -> Result<CTerm, Al
     Ok(CTerm::Sub(a.share()?, multiple))
 }
 
+/// Leaves a quotient with what it makes of a greater term.
+#[inline(never)]
+fn put_rest(
+    alloc: Global,
+    of: Shared<CTerm>,
+    divisor: i64,
+    rest: CTerm,
+    found: &mut Option<Held<Taken>>,
+) -> Result<(), AllocError>
+    ensures { OnOk result (found.new ≡ Some (record { of = of; divisor = divisor; rest = rest })) }
+{
+    let rest = Shared::new(alloc, rest)?;
+    *found = Some(Held::new(alloc, Taken { of, divisor, rest })?);
+    Ok(())
+}
+
 /// A term's first quotient outside of its `Ite`s, operands before their operator, with the parameter of this number
 /// in its place. `None` where it has none.
 pub fn find_quotient(alloc: Global, v: u32, t: &CTerm) -> Result<Option<Held<Taken>>, AllocError>
@@ -179,12 +175,7 @@ pub fn find_quotient(alloc: Global, v: u32, t: &CTerm) -> Result<Option<Held<Tak
 
 /// Looks for a term's first quotient.
 #[cycle(quotients)]
-fn look(
-    alloc: Global,
-    v: u32,
-    t: &CTerm,
-    found: &mut Option<Held<Taken>>,
-) -> Result<(), AllocError>
+fn look(alloc: Global, v: u32, t: &CTerm, found: &mut Option<Held<Taken>>) -> Result<(), AllocError>
     requires none { found.old ≡ None }
     ensures { OnOk result (found.new ≡ first_taken v t.now) }
 {

@@ -189,9 +189,9 @@ fn second_after(
     ensures most { IfOk result (λ u. (plain_weights u).most ≤
         (sum_weights (plain_weights first) (after_weights b.now)).most) }
 {
-    let known = *number;
+    let first_number = *number;
     match term_after(alloc, b.get(), chains, number) {
-        Ok(second) => paired_known(alloc, which, first, known, second, number),
+        Ok(second) => paired_known(alloc, which, first, first_number, second, number),
         Err(error) => Err(error),
     }
 }

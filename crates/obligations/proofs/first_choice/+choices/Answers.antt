@@ -1,4 +1,4 @@
-use Rattle.std.proofs.Common.{◌≡◌, rules, w64, FitsSigned, ap, sym, ◌∙◌}
+use Rattle.std.proofs.Common.{rules, w64, FitsSigned, ap, sym, ◌∙◌}
 use Rattle.std.proofs.lemmas.Int.{to_z-of_z}
 use Rattle.std.proofs.lemmas.Result.{on_ok_weaker}
 use Rattle.std.specs.Option.{option_map}
