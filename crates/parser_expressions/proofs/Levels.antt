@@ -1,6 +1,6 @@
 -- What is read in brackets, where a level remains and where none does.
 use Rattle.std.proofs.Common.{◌≡◌, ℕ, List, ◌-◌, ◌<◌, Ok, Err, refl, ap, ◌∙◌}
-use Rattle.grammar_theory.specs.Ebnf.{Terminal, place_of, Tree, unit, pair, node, inside, named}
+use Rattle.grammar_theory.specs.Ebnf.{Terminal, place_of, Tree, unit, node, inside, named}
 use Rattle.grammar_theory.specs.Reader.{Read, TooDeep, ◌>>=◌, skip, after, closed, read}
 use Rattle.grammar_theory.proofs.Steps.{inside_some, inside_none}
 use Rattle.unity_syntax.specs.Kinds.{Kind, kind}

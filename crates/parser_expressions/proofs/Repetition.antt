@@ -10,9 +10,9 @@ use Rattle.grammar_theory.proofs.Steps.{read_shorter}
 use Rattle.unity_syntax.specs.Grammar.{grammar}
 use Rattle.unity_syntax.specs.View.{view_list}
 use Rattle.unity_syntax.proofs.LookAhead.{grammar_is}
+use Rattle.parser_expressions.specs.declared.cursor.Cursor.{Cursor}
 use Rattle.parser_expressions.specs.declared.stop.Stop.{Stop}
-use Rattle.parser_expressions.specs.Gives.{remaining, Fails}
-use Rattle.parser_expressions.specs.Lists.{Answer, ReadsForm, TakesTokens}
+use Rattle.parser_expressions.specs.Gives.{remaining, Fails, Reads}
 pub use Rattle.parser_expressions.specs.Lists.{IsItem}
 
 -- The items so far, at the rest.
@@ -63,8 +63,9 @@ pub shorter : {a : Ebnf} {classes : List ℕ} → IsItem a classes → (n : ℕ)
 shorter {a} is n rest x later e = read_shorter grammar grammar_is a
     (and_left (good grammar a) (not (empties a) && apart (first a) (last a)) is.good_many) n rest x later is.takes e
 
--- a call that reads a form of at least a token takes one
-pub takes_tokens : {X : Type 0} (answer : Answer X) (view : X → Tree) (a : Ebnf) (n : ℕ) → good grammar a ≡ true →
-    empties a ≡ false → ReadsForm answer view a n → TakesTokens answer
-takes_tokens answer view a n is full reads text x later h = read_shorter grammar grammar_is a is n (remaining text)
-    (view x) (remaining later) full (reads text (Ok (x, later)) h)
+-- what reads a form of at least a token takes one
+pub takes_token : {X : Type 0} (view : X → Tree) (a : Ebnf) (n : ℕ) → good grammar a ≡ true → empties a ≡ false →
+    (text : Cursor) (x : X) (later : Cursor) → Reads view (Ok (x, later)) a n text →
+    count (remaining later) < count (remaining text)
+takes_token view a n is full text x later p = read_shorter grammar grammar_is a is n (remaining text) (view x)
+    (remaining later) full p

@@ -1,6 +1,5 @@
 -- Forms that stand one after another, and the calls that read one of them.
 use Rattle.std.specs.Prelude.{◌≡◌, ◌<◌, ℕ, List, true, false, Result, Ok, Err}
-use Rattle.case_tables.specs.declared.symbol_table.Symbol.{Symbol}
 use Rattle.grammar_theory.specs.Ebnf.{Tree, Ebnf, many}
 use Rattle.grammar_theory.specs.LookAhead.{empties, first, good}
 use Rattle.grammar_theory.specs.Reader.{count, read}
