@@ -16,8 +16,9 @@ ghost use Rattle.parser_programs.specs.Forms.{words_in_braces_};
 ghost use Rattle.parser_expressions.specs.Gives.{Reads, remaining};
 
 use case_tables::{Symbol, Word};
-use parser_expressions::{Cursor, Front, Parsed, Stop};
-use parser_expressions::{begins_range, listed, names, pred, range, repeated};
+use parser_expressions::{
+    Cursor, Front, Parsed, Stop, begins_range, listed, names, pred, range, repeated,
+};
 use std::alloc::Global;
 use unity_base::Seq;
 use unity_syntax::{Def, Init, InitValue, Name, Plain, Var, VarType};

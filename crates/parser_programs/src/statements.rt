@@ -17,8 +17,9 @@ ghost use Rattle.parser_programs.specs.Forms.{parallel_, box_};
 
 use crate::nodes;
 use case_tables::{Symbol, Word};
-use parser_expressions::{BoundName, Cursor, Front, Parsed, Stop};
-use parser_expressions::{bound, condition, index, listed, owned, pred, repeated};
+use parser_expressions::{
+    BoundName, Cursor, Front, Parsed, Stop, bound, condition, index, listed, owned, pred, repeated,
+};
 use std::alloc::Global;
 use unity_base::{Held, Seq};
 use unity_syntax::{Alts, Assign, Component, Expr, Item, Items, Target, Values};
@@ -27,9 +28,14 @@ use unity_syntax::{Alts, Assign, Component, Expr, Item, Items, Target, Values};
 fn expressions<'a>(alloc: Global, depth: u32, text: Cursor<'a>) -> Parsed<'a, (Expr, Seq<Expr>)>
     ensures { Reads (view_some view_expr) result (one_or_more (symbol Symbol.Comma) pred_) depth text.entry }
 {
-    listed(alloc, Symbol::Comma, text, |text|
-        ensures { Reads view_expr result pred_ depth text.entry }
-    { owned(pred(alloc, depth, text)) })
+    listed(
+        alloc,
+        Symbol::Comma,
+        text,
+        |text|
+            ensures { Reads view_expr result pred_ depth text.entry }
+        { owned(pred(alloc, depth, text)) },
+    )
 }
 
 /// `values = pred { "," pred }`
@@ -56,7 +62,12 @@ fn choice<'a>(alloc: Global, depth: u32, text: Cursor<'a>) -> Parsed<'a, (Values
 fn more_choices<'a>(alloc: Global, depth: u32, text: Cursor<'a>) -> Parsed<'a, Seq<(Values, Expr)>>
     ensures { Reads (view_list view_choice) result (many (past (symbol Symbol.Tilde) choice_)) depth text.entry }
 {
-    repeated(alloc, Front::Symbol(Symbol::Tilde), text, |text| choice(alloc, depth, text))
+    repeated(
+        alloc,
+        Front::Symbol(Symbol::Tilde),
+        text,
+        |text| choice(alloc, depth, text),
+    )
 }
 
 /// `[ "if" pred { "~" values "if" pred } ]`
@@ -120,9 +131,14 @@ fn target<'a>(alloc: Global, depth: u32, text: Cursor<'a>) -> Parsed<'a, Held<Ta
 fn more_targets<'a>(alloc: Global, depth: u32, text: Cursor<'a>) -> Parsed<'a, Seq<Target>>
     ensures { Reads (view_list view_target) result (many (past (symbol Symbol.Comma) target_)) depth text.entry }
 {
-    repeated(alloc, Front::Symbol(Symbol::Comma), text, |text|
-        ensures { Reads view_target result target_ depth text.entry }
-    { owned(target(alloc, depth, text)) })
+    repeated(
+        alloc,
+        Front::Symbol(Symbol::Comma),
+        text,
+        |text|
+            ensures { Reads view_target result target_ depth text.entry }
+        { owned(target(alloc, depth, text)) },
+    )
 }
 
 /// `target { "," target } ":=" alts`
@@ -162,9 +178,14 @@ fn components<'a>(
 ) -> Parsed<'a, (Component, Seq<Component>)>
     ensures { Reads (view_some view_component) result (one_or_more (symbol Symbol.Parallel) comp_) depth text.entry }
 {
-    listed(alloc, Symbol::Parallel, text, |text|
-        ensures { Reads view_component result comp_ depth text.entry }
-    { owned(component(alloc, depth, text)) })
+    listed(
+        alloc,
+        Symbol::Parallel,
+        text,
+        |text|
+            ensures { Reads view_component result comp_ depth text.entry }
+        { owned(component(alloc, depth, text)) },
+    )
 }
 
 /// `comp = target { "," target } ":=" alts | "<||" word ":" range "::" assign "|>"`
@@ -240,9 +261,14 @@ pub fn items<'a>(alloc: Global, depth: u32, text: Cursor<'a>) -> Parsed<'a, Held
 fn all_items<'a>(alloc: Global, depth: u32, text: Cursor<'a>) -> Parsed<'a, (Item, Seq<Item>)>
     ensures { Reads (view_some view_item) result (one_or_more (symbol Symbol.Box) item_) depth text.entry }
 {
-    listed(alloc, Symbol::Box, text, |text|
-        ensures { Reads view_item result item_ depth text.entry }
-    { owned(item(alloc, depth, text)) })
+    listed(
+        alloc,
+        Symbol::Box,
+        text,
+        |text|
+            ensures { Reads view_item result item_ depth text.entry }
+        { owned(item(alloc, depth, text)) },
+    )
 }
 
 /// `word ":" assign`

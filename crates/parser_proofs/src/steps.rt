@@ -21,7 +21,12 @@ use unity_syntax::{Claim, Proof, Ref, Rule, Step};
 fn references<'a>(alloc: Global, depth: u32, text: Cursor<'a>) -> Parsed<'a, (Ref, Seq<Ref>)>
     ensures { Reads (view_some view_ref) result (one_or_more (symbol Symbol.Comma) ref_) depth text.entry }
 {
-    listed(alloc, Symbol::Comma, text, |text| reference(alloc, depth, text))
+    listed(
+        alloc,
+        Symbol::Comma,
+        text,
+        |text| reference(alloc, depth, text),
+    )
 }
 
 /// `[ "using" ref { "," ref } ]`

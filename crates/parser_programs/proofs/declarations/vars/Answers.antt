@@ -1,15 +1,22 @@
-use Rattle.std.proofs.Common.{refl}
+use Rattle.std.proofs.Common.{refl, rules}
 use Rattle.unity_syntax.specs.Grammar.{var_}
 use Rattle.unity_syntax.specs.View.{view_var}
 use Rattle.unity_syntax.proofs.Productions.{all_productions}
-use Rattle.parser_expressions.proofs.Repetition.{takes_tokens}
+use Rattle.parser_expressions.proofs.Repetition.{takes_token}
 use Rattle.parser_programs.proofs.ItemForms.{is_var}
 use Rattle.parser_programs.proofs.declarations.vars.Goals as goal
 
-pub repeated-requires-ends : goal.repeated-requires-ends
+pub repeated-requires : goal.repeated-requires
 unfolding all_productions
-repeated-requires-ends c = takes_tokens _ view_var var_ c.args.depth refl refl (λ text r p. p)
+repeated-requires c = λ k. (
+  search rules,
+  (
+    search rules,
+    λ text x later p.
+        takes_token view_var var_ c.args.depth refl refl text x later (search rules),
+  ),
+)
 
 pub returns : goal.returns
 unfolding all_productions
-returns c = c.repeated.ensures view_var var_ c.args.depth is_var (λ text r p. p)
+returns c = c.repeated.ensures view_var var_ c.args.depth is_var (λ text r p. search rules)

@@ -1,4 +1,4 @@
-use Rattle.std.proofs.Common.{sym, ◌∙◌, Ok, ap, refl}
+use Rattle.std.proofs.Common.{rules, sym, ◌∙◌, Ok, ap, refl}
 use Rattle.std.proofs.lemmas.Result.{err_from_is_err_and}
 use Rattle.case_tables.specs.declared.symbol_table.Symbol.{Symbol}
 use Rattle.grammar_theory.specs.Ebnf.{Tree, node}
@@ -10,17 +10,24 @@ use Rattle.unity_syntax.proofs.Productions.{all_productions}
 use Rattle.parser_expressions.specs.Gives.{remaining}
 use Rattle.parser_expressions.proofs.Failing.{through}
 use Rattle.parser_expressions.proofs.BoundReading.{bound_fails, form_read, form_fails}
-use Rattle.parser_expressions.proofs.Repetition.{takes_tokens}
+use Rattle.parser_expressions.proofs.Repetition.{takes_token}
 use Rattle.parser_programs.proofs.ItemForms.{is_component}
 use Rattle.parser_programs.proofs.statements.+assignments.Goals as goal
 
-pub components-listed-requires-ends : goal.components-listed-requires-ends
+pub components-listed-requires : goal.components-listed-requires
 unfolding all_productions
-components-listed-requires-ends t c = takes_tokens _ view_component comp_ c.args.depth refl refl (λ text r p. p)
+components-listed-requires t c = λ k. (
+  search rules,
+  (
+    search rules,
+    λ text x later p.
+        takes_token view_component comp_ c.args.depth refl refl text x later (search rules),
+  ),
+)
 
 pub components-returns : goal.components-returns
 unfolding all_productions
-components-returns t c = c.listed.ensures view_component comp_ c.args.depth is_component (λ text r p. p)
+components-returns t c = c.listed.ensures view_component comp_ c.args.depth is_component (λ text r p. search rules)
 
 pub component_over-returns : goal.component_over-returns
 unfolding quantified_assign_

@@ -1,4 +1,4 @@
-use Rattle.std.proofs.Common.{sym, ◌∙◌, Ok, ap, refl}
+use Rattle.std.proofs.Common.{rules, sym, ◌∙◌, Ok, ap, refl}
 use Rattle.std.proofs.lemmas.Result.{err_from_is_err_and}
 use Rattle.case_tables.specs.declared.symbol_table.Symbol.{Symbol}
 use Rattle.grammar_theory.specs.Ebnf.{Tree, node}
@@ -10,17 +10,24 @@ use Rattle.unity_syntax.proofs.Productions.{all_productions}
 use Rattle.parser_expressions.specs.Gives.{remaining}
 use Rattle.parser_expressions.proofs.Failing.{through}
 use Rattle.parser_expressions.proofs.BoundReading.{bound_fails, form_read, form_fails}
-use Rattle.parser_expressions.proofs.Repetition.{takes_tokens}
+use Rattle.parser_expressions.proofs.Repetition.{takes_token}
 use Rattle.parser_programs.proofs.ItemForms.{is_item}
 use Rattle.parser_programs.proofs.statements.+items.Goals as goal
 
-pub all_items-listed-requires-ends : goal.all_items-listed-requires-ends
+pub all_items-listed-requires : goal.all_items-listed-requires
 unfolding all_productions
-all_items-listed-requires-ends t c = takes_tokens _ view_item item_ c.args.depth refl refl (λ text r p. p)
+all_items-listed-requires t c = λ k. (
+  search rules,
+  (
+    search rules,
+    λ text x later p.
+        takes_token view_item item_ c.args.depth refl refl text x later (search rules),
+  ),
+)
 
 pub all_items-returns : goal.all_items-returns
 unfolding all_productions
-all_items-returns t c = c.listed.ensures view_item item_ c.args.depth is_item (λ text r p. p)
+all_items-returns t c = c.listed.ensures view_item item_ c.args.depth is_item (λ text r p. search rules)
 
 pub item_over-returns : goal.item_over-returns
 unfolding quantified_items_
