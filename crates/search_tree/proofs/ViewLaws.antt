@@ -35,19 +35,19 @@ module _ {view : View} {vs us : List Variable} {k : ℕ} {rs : List Range} (s : 
   as-seen h =
       subst (P vs us k) s.ranges (subst (λ n. P vs us n view.ranges.now) s.rest
       (subst (λ xs. P vs xs view.rest view.ranges.now) s.scope
-      (subst (λ xs. P xs view.scope.now view.rest view.ranges.now) s.vs h)))
+      (subst (λ xs. P xs view.scope.now view.rest view.ranges.now) s.variables h)))
 
   pub seen-as : P vs us k rs → P view.vs.now view.scope.now view.rest view.ranges.now
   seen-as h =
-      subst (λ xs. P xs view.scope.now view.rest view.ranges.now) (sym s.vs)
+      subst (λ xs. P xs view.scope.now view.rest view.ranges.now) (sym s.variables)
       (subst (λ xs. P vs xs view.rest view.ranges.now) (sym s.scope)
       (subst (λ n. P vs us n view.ranges.now) (sym s.rest) (subst (P vs us k) (sym s.ranges) h)))
 
 pub seen-view : (view : View) (vs us : List Variable) (k : ℕ) (rs : List Range) (b : Branch) →
     Sees view vs us k rs → AreOwn vs → us ≡ scope_of vs b → k ≤ 960 → IsView view b
 seen-view view vs us k rs b s own scoped few = record {
-  own = subst AreOwn (sym s.vs) own;
-  scope = s.scope ∙ scoped ∙ sym (ap (λ xs. scope_of xs b) s.vs);
+  own = subst AreOwn (sym s.variables) own;
+  scope = s.scope ∙ scoped ∙ sym (ap (λ xs. scope_of xs b) s.variables);
   few = subst (λ n. n ≤ 960) (sym s.rest) few;
 }
 

@@ -100,7 +100,7 @@ pub fn refute_leaf(
     requires reach { some_out_of_reach branch.now.facts ≡ false }
     requires none { branch.now.waiting ≡ [] }
     requires fixed { first_cut 0 view.ranges.now ≡ None }
-    ensures { IfOk result (Ends view.vs.now view.rest 1 branch.now trail.old trail.new) }
+    ensures { IfOk result (Ends view.entry.vs.now view.entry.rest 1 branch.now trail.old trail.new) }
 {
     if branch.added == 0 {
         Ok(Ended::Refuted(low_ends(alloc, view.ranges)?))

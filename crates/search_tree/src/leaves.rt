@@ -6,9 +6,7 @@ ghost use Rattle.obligations.specs.Load.{need, term_load};
 ghost use Rattle.obligations.specs.Obligations.{IsObligation};
 ghost use Rattle.obligations.specs.Scopes as scopes;
 ghost use Rattle.obligations.specs.Opening.{first_branch};
-ghost use Rattle.obligations.specs.Plain.{ranges_of, first_cut, waiting_only, cut_leaves};
-ghost use Rattle.obligations.specs.Plain.{side_leaves, quot_leaves, plain_leaves};
-ghost use Rattle.obligations.specs.Quotients as quotients;
+ghost use Rattle.obligations.specs.Plain.{ranges_of, first_cut, waiting_only, plain_leaves};
 ghost use Rattle.obligations.specs.Quotients.{is_either, with_quotient};
 ghost use Rattle.obligations.specs.Reach.{some_out_of_reach};
 ghost use Rattle.obligations.specs.Settling.{settled, added};
@@ -16,6 +14,7 @@ ghost use Rattle.search_tree.specs.Halves.{half_ranges, half_fact};
 ghost use Rattle.search_tree.specs.Searching.{Ready};
 ghost use Rattle.search_tree.specs.Sides.{side_of};
 ghost use Rattle.search_tree.specs.Views.{IsView, IsReady, IsReadyAbove, leaves_at, leaves_above};
+ghost use Rattle.search_tree.specs.Views.{leaves_by_sides, leaves_by_quotient, leaves_by_halves};
 
 use crate::closing::some_out_of_reach;
 use crate::halves::{Half, Halves, first_halves, ranges_in, take_half};
@@ -42,8 +41,7 @@ fn leaves_of_sides(
     requires rest { view.rest < 960 }
     requires either { is_either form.now ≡ true }
     requires ready { IsReadyAbove view (waiting_only branch.old (form.now ∷ branch.old.waiting)) }
-    ensures leaves { IfOk result (λ n. n ≡ min wanted (side_leaves view.scope.now
-        (plain_leaves view.vs.now view.rest) view.ranges.now branch.old form.now)) }
+    ensures leaves { IfOk result (λ n. n ≡ min wanted (leaves_by_sides view.entry branch.old form.now)) }
     ensures branch { OnOk result (branch.new ≡ branch.old) }
 {
     let first = leaves_of_side(alloc, view, wanted, form, Side::First, branch)?;
@@ -69,7 +67,7 @@ fn leaves_of_side(
     requires form { (need form.now).yes ≤ 2 ^ 63 }
     requires ready { IsReady view (settled view.scope.now (side_of side form.now) branch.old) }
     ensures leaves { IfOk result (λ n. n ≡ min wanted
-        (leaves_at view (settled view.scope.now (side_of side form.now) branch.old))) }
+        (leaves_at view.entry (settled view.entry.scope.now (side_of side form.now) branch.old))) }
     ensures branch { OnOk result (branch.new ≡ branch.old) }
 {
     let mark = mark_of(branch);
@@ -92,9 +90,7 @@ fn leaves_of_quot(
     requires rest { view.rest < 960 }
     requires either { is_either form.now ≡ false }
     requires ready { IsReadyAbove view (waiting_only branch.old (form.now ∷ branch.old.waiting)) }
-    ensures leaves { IfOk result (λ n. n ≡ min wanted (quot_leaves view.scope.now
-        (plain_leaves view.vs.now view.rest) view.ranges.now branch.old
-        (quotients.without_quotient (scopes.next_param view.scope.now) form.now))) }
+    ensures leaves { IfOk result (λ n. n ≡ min wanted (leaves_by_quotient view.entry branch.old form.now)) }
     ensures branch { OnOk result (branch.new ≡ branch.old) }
 {
     let next = next_param(view.scope) as u32;
@@ -122,7 +118,7 @@ fn leaves_without(
     requires ready { IsReady view
         (with_quotient (scopes.scope_of view.vs.now branch.old) replaced.now branch.old) }
     ensures leaves { IfOk result (λ n. n ≡ min wanted
-        (leaves_at view (with_quotient (scopes.scope_of view.vs.now branch.old) replaced.now branch.old))) }
+        (leaves_at view.entry (with_quotient (scopes.scope_of view.entry.vs.now branch.old) replaced.now branch.old))) }
     ensures branch { OnOk result (branch.new ≡ branch.old) }
 {
     let mark = mark_of(branch);
@@ -146,8 +142,7 @@ fn leaves_of_halves(
     requires ready { IsReadyAbove view branch.old }
     requires halves { first_cut 0 view.ranges.now ≡ Some (record { place = halves.place; at = halves.at }) }
     requires none { branch.old.waiting ≡ [] }
-    ensures leaves { IfOk result (λ n. n ≡ min wanted (cut_leaves (plain_leaves view.vs.now view.rest)
-        view.ranges.now branch.old (Some (record { place = halves.place; at = halves.at })))) }
+    ensures leaves { IfOk result (λ n. n ≡ min wanted (leaves_by_halves view.entry branch.old halves)) }
     ensures branch { OnOk result (branch.new ≡ branch.old) }
 {
     let low = leaves_of_half(alloc, view, wanted, halves, Half::Low, branch)?;
@@ -173,8 +168,8 @@ fn leaves_of_half(
     requires room { halves.at <ℤ pos (2 ^ 63 - 1) }
     requires ready { Ready view.vs.now view.rest (half_ranges half halves view.ranges.now)
         (added branch.old (half_fact half halves)) }
-    ensures leaves { IfOk result (λ n. n ≡ min wanted (plain_leaves view.vs.now view.rest
-        (half_ranges half halves view.ranges.now) (added branch.old (half_fact half halves)))) }
+    ensures leaves { IfOk result (λ n. n ≡ min wanted (plain_leaves view.entry.vs.now view.entry.rest
+        (half_ranges half halves view.entry.ranges.now) (added branch.old (half_fact half halves)))) }
     ensures branch { OnOk result (branch.new ≡ branch.old) }
 {
     let mark = mark_of(branch);
@@ -198,7 +193,7 @@ fn leaves_of_form(
     requires ready { IsReadyAbove view (waiting_only branch.old (form.now ∷ branch.old.waiting)) }
     requires reach { some_out_of_reach branch.old.facts ≡ false }
     ensures leaves { IfOk result (λ n. n ≡ min wanted
-        (leaves_above view (waiting_only branch.old (form.now ∷ branch.old.waiting)))) }
+        (leaves_above view.entry (waiting_only branch.old (form.now ∷ branch.old.waiting)))) }
     ensures branch { OnOk result (branch.new ≡ branch.old) }
 {
     if is_either(form) {
@@ -222,7 +217,7 @@ fn open_some_leaves(
     requires wanted { 1 ≤ wanted }
     requires ready { IsReady view branch.old }
     requires reach { some_out_of_reach branch.old.facts ≡ false }
-    ensures leaves { IfOk result (λ n. n ≡ min wanted (leaves_at view branch.old)) }
+    ensures leaves { IfOk result (λ n. n ≡ min wanted (leaves_at view.entry branch.old)) }
     ensures branch { OnOk result (branch.new ≡ branch.old) }
 {
     if branch.waiting.len() > 0 {
@@ -251,7 +246,7 @@ fn some_leaves(
 ) -> Result<u64, AllocError>
     requires view { IsView view branch.old }
     requires ready { IsReady view branch.old }
-    ensures leaves { IfOk result (λ n. n ≡ min wanted (leaves_at view branch.old)) }
+    ensures leaves { IfOk result (λ n. n ≡ min wanted (leaves_at view.entry branch.old)) }
     ensures branch { OnOk result (branch.new ≡ branch.old) }
 {
     if wanted <= 1 {

@@ -5,14 +5,13 @@ ghost use Rattle.obligations.specs.Load.{need, term_load};
 ghost use Rattle.obligations.specs.Settling.{settled, added};
 ghost use Rattle.obligations.specs.Reach.{some_out_of_reach};
 ghost use Rattle.obligations.specs.Scopes as scopes;
-ghost use Rattle.obligations.specs.Plain.{first_cut, waiting_only};
-ghost use Rattle.obligations.specs.Plain.{cut_leaves, side_leaves, quot_leaves, plain_leaves};
-ghost use Rattle.obligations.specs.Quotients as quotients;
+ghost use Rattle.obligations.specs.Plain.{first_cut, waiting_only, plain_leaves};
 ghost use Rattle.obligations.specs.Quotients.{is_either, with_quotient};
 ghost use Rattle.search_tree.specs.Halves.{half_ranges, half_fact};
 ghost use Rattle.search_tree.specs.Searching.{Ready, Ends, IsClosed};
 ghost use Rattle.search_tree.specs.Sides.{side_of};
-ghost use Rattle.search_tree.specs.Views.{IsView, IsReady, IsReadyAbove, EndsAt, EndsAbove, leaves_at, leaves_above};
+ghost use Rattle.search_tree.specs.Views.{IsView, IsReady, IsReadyAbove, EndsAt, EndsAbove, leaves_above};
+ghost use Rattle.search_tree.specs.Views.{leaves_by_sides, leaves_by_quotient, leaves_by_halves};
 
 use crate::closing::try_close;
 use crate::halves::{Half, Halves, first_halves, split_node, take_half};
@@ -39,8 +38,8 @@ fn refute_sides(
     requires rest { view.rest < 960 }
     requires either { is_either form.now ≡ true }
     requires ready { IsReadyAbove view (waiting_only branch.old (form.now ∷ branch.old.waiting)) }
-    ensures ends { IfOk result (EndsAbove view
-        (side_leaves view.scope.now (plain_leaves view.vs.now view.rest) view.ranges.now branch.old form.now)
+    ensures ends { IfOk result (EndsAbove view.entry
+        (leaves_by_sides view.entry branch.old form.now)
         (waiting_only branch.old (form.now ∷ branch.old.waiting)) trail.old trail.new) }
     ensures branch { IfOk result (λ e. IsClosed e → branch.new ≡ branch.old) }
 {
@@ -72,7 +71,7 @@ fn refute_side(
     requires form { (need form.now).yes ≤ 2 ^ 63 }
     requires ready { IsReady view (settled view.scope.now (side_of side form.now) branch.old) }
     ensures ends { IfOk result
-        (EndsAt view (settled view.scope.now (side_of side form.now) branch.old) trail.old trail.new) }
+        (EndsAt view.entry (settled view.entry.scope.now (side_of side form.now) branch.old) trail.old trail.new) }
     ensures branch { IfOk result (λ e. IsClosed e → branch.new ≡ branch.old) }
 {
     let mark = mark_of(branch);
@@ -95,9 +94,8 @@ fn refute_quot(
     requires rest { view.rest < 960 }
     requires either { is_either form.now ≡ false }
     requires ready { IsReadyAbove view (waiting_only branch.old (form.now ∷ branch.old.waiting)) }
-    ensures ends { IfOk result (EndsAbove view
-        (quot_leaves view.scope.now (plain_leaves view.vs.now view.rest) view.ranges.now branch.old
-        (quotients.without_quotient (scopes.next_param view.scope.now) form.now))
+    ensures ends { IfOk result (EndsAbove view.entry
+        (leaves_by_quotient view.entry branch.old form.now)
         (waiting_only branch.old (form.now ∷ branch.old.waiting)) trail.old trail.new) }
     ensures branch { IfOk result (λ e. IsClosed e → branch.new ≡ branch.old) }
 {
@@ -128,8 +126,8 @@ fn refute_without(
     requires light { (need replaced.now.form).yes ≤ 2 ^ 66 }
     requires ready { IsReady view
         (with_quotient (scopes.scope_of view.vs.now branch.old) replaced.now branch.old) }
-    ensures ends { IfOk result (EndsAt view
-        (with_quotient (scopes.scope_of view.vs.now branch.old) replaced.now branch.old) trail.old trail.new) }
+    ensures ends { IfOk result (EndsAt view.entry
+        (with_quotient (scopes.scope_of view.entry.vs.now branch.old) replaced.now branch.old) trail.old trail.new) }
     ensures branch { IfOk result (λ e. IsClosed e → branch.new ≡ branch.old) }
 {
     let mark = mark_of(branch);
@@ -153,8 +151,8 @@ fn refute_halves(
     requires ready { IsReadyAbove view branch.old }
     requires halves { first_cut 0 view.ranges.now ≡ Some (record { place = halves.place; at = halves.at }) }
     requires none { branch.old.waiting ≡ [] }
-    ensures ends { IfOk result (EndsAbove view (cut_leaves (plain_leaves view.vs.now view.rest) view.ranges.now
-        branch.old (Some (record { place = halves.place; at = halves.at }))) branch.old trail.old trail.new) }
+    ensures ends { IfOk result
+        (EndsAbove view.entry (leaves_by_halves view.entry branch.old halves) branch.old trail.old trail.new) }
     ensures branch { IfOk result (λ e. IsClosed e → branch.new ≡ branch.old) }
 {
     if !put_node(trail, split_node(halves))? {
@@ -185,9 +183,10 @@ fn refute_half(
     requires room { halves.at <ℤ pos (2 ^ 63 - 1) }
     requires ready { Ready view.vs.now view.rest (half_ranges half halves view.ranges.now)
         (added branch.old (half_fact half halves)) }
-    ensures ends { IfOk result (λ e. Ends view.vs.now view.rest (plain_leaves view.vs.now view.rest
-        (half_ranges half halves view.ranges.now) (added branch.old (half_fact half halves)))
-        (added branch.old (half_fact half halves)) trail.old trail.new e) }
+    ensures ends { IfOk result (Ends view.entry.vs.now view.entry.rest
+        (plain_leaves view.entry.vs.now view.entry.rest (half_ranges half halves view.entry.ranges.now)
+        (added branch.old (half_fact half halves)))
+        (added branch.old (half_fact half halves)) trail.old trail.new) }
     ensures branch { IfOk result (λ e. IsClosed e → branch.new ≡ branch.old) }
 {
     let mark = mark_of(branch);
@@ -210,8 +209,8 @@ fn refute_form(
     requires rest { view.rest < 960 }
     requires ready { IsReadyAbove view (waiting_only branch.old (form.now ∷ branch.old.waiting)) }
     requires reach { some_out_of_reach branch.old.facts ≡ false }
-    ensures ends { IfOk result (EndsAbove view
-        (leaves_above view (waiting_only branch.old (form.now ∷ branch.old.waiting)))
+    ensures ends { IfOk result (EndsAbove view.entry
+        (leaves_above view.entry (waiting_only branch.old (form.now ∷ branch.old.waiting)))
         (waiting_only branch.old (form.now ∷ branch.old.waiting)) trail.old trail.new) }
     ensures branch { IfOk result (λ e. IsClosed e → branch.new ≡ branch.old) }
 {
@@ -235,7 +234,7 @@ fn refute_open(
     requires view { IsView view branch.old }
     requires ready { IsReady view branch.old }
     requires reach { some_out_of_reach branch.old.facts ≡ false }
-    ensures ends { IfOk result (EndsAt view branch.old trail.old trail.new) }
+    ensures ends { IfOk result (EndsAt view.entry branch.old trail.old trail.new) }
     ensures branch { IfOk result (λ e. IsClosed e → branch.new ≡ branch.old) }
 {
     if branch.waiting.len() > 0 {
@@ -264,7 +263,7 @@ pub fn refute(
 ) -> Result<Ended, AllocError>
     requires view { IsView view branch.old }
     requires ready { IsReady view branch.old }
-    ensures ends { IfOk result (EndsAt view branch.old trail.old trail.new) }
+    ensures ends { IfOk result (EndsAt view.entry branch.old trail.old trail.new) }
     ensures branch { IfOk result (λ e. IsClosed e → branch.new ≡ branch.old) }
 {
     match try_close(alloc, view.scope, branch, trail)? {

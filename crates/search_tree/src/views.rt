@@ -17,7 +17,7 @@ pub struct View<'a> {
 impl<'a> View<'a> {
     /// The view with a level less.
     pub fn below(self) -> View<'a>
-        requires { 0 < self.entry.rest }
+        requires { 0 < self.rest }
         ensures { Sees result self.entry.vs.now self.entry.scope.now (self.entry.rest - 1) self.entry.ranges.now }
     {
         View {

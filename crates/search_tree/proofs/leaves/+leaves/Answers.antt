@@ -19,20 +19,23 @@ use Rattle.search_tree.proofs.leaves.+leaves.Goals as goal
 pub leaves_of_sides-leaves_of_side-requires : goal.leaves_of_sides-leaves_of_side-requires
 leaves_of_sides-leaves_of_side-requires t c = (
   search rules,
-  side-needs c.args.view c.args.branch.now c.args.form.now c.requires.view c.requires.either c.requires.ready Side.First c.args.branch.now refl,
+  side-needs c.args.view c.args.branch.now c.args.form.now c.requires.view c.requires.either c.requires.ready
+      Side.First c.args.branch.now refl,
 )
 
 pub leaves_of_sides-leaves_of_side-requires-2 : goal.leaves_of_sides-leaves_of_side-requires-2
 leaves_of_sides-leaves_of_side-requires-2 t c = (
   search rules,
-  side-needs c.args.view c.args.branch.now c.args.form.now c.requires.view c.requires.either c.requires.ready Side.Second _
+  side-needs c.args.view c.args.branch.now c.args.form.now c.requires.view c.requires.either c.requires.ready
+      Side.Second _
       c.in_ok-first.ensures.branch,
 )
 
 pub leaves_of_side-settle_side-requires-clause-variables : goal.leaves_of_side-settle_side-requires-clause-variables
 leaves_of_side-settle_side-requires-clause-variables t c =
     view-variables c.args.view c.args.branch.now
-    (settled c.args.view.scope.now (side_of c.args.side c.args.form.now) c.args.branch.now) c.requires.view c.requires.ready refl
+    (settled c.args.view.scope.now (side_of c.args.side c.args.form.now) c.args.branch.now) c.requires.view
+    c.requires.ready refl
 
 pub leaves_of_side-some_leaves-requires : goal.leaves_of_side-some_leaves-requires
 leaves_of_side-some_leaves-requires t c = (
@@ -43,28 +46,33 @@ leaves_of_side-some_leaves-requires t c = (
 
 pub leaves_of_quot-unreachable-requires : goal.leaves_of_quot-unreachable-requires
 leaves_of_quot-unreachable-requires t c =
-    quotient-found c.args.view.vs.now (suc c.args.view.rest) c.args.view.ranges.now c.args.form.now c.args.branch.now _ _
+    quotient-found c.args.view.vs.now (suc c.args.view.rest) c.args.view.ranges.now c.args.form.now c.args.branch.now
+    _ _
     c.requires.ready c.requires.either c.in_ok-replaced.ensures c.in_default.is
 
 pub leaves_of_quot-overflow_cast-next : goal.leaves_of_quot-overflow_cast-next
 leaves_of_quot-overflow_cast-next t c =
-    let few = number-fits c.args.view c.args.branch.now c.args.form.now c.requires.view c.requires.rest c.requires.ready
+    let few = number-fits c.args.view c.args.branch.now c.args.form.now c.requires.view c.requires.rest
+    c.requires.ready
     c.next_param-next.result c.next_param-next.ensures in
     grind (arith, few)
 
 pub leaves_of_quot-leaves_without-requires : goal.leaves_of_quot-leaves_without-requires
 leaves_of_quot-leaves_without-requires t c = (
   search rules,
-  quotient-needs c.args.view c.args.branch.now c.args.form.now c.requires.view c.requires.rest c.requires.ready c.in-Some.replaced
+  quotient-needs c.args.view c.args.branch.now c.args.form.now c.requires.view c.requires.rest c.requires.ready
+      c.in-Some.replaced
       _ _ c.next_param-next.ensures c.in_ok-replaced.ensures c.in-Some.is,
 )
 
 pub leaves_of_quot-returns-clause-leaves : goal.leaves_of_quot-returns-clause-leaves
 leaves_of_quot-returns-clause-leaves t c =
-    let is = replaced-is c.args.view.vs.now c.args.view.scope.now c.args.form.now c.args.branch.now c.in-Some.replaced _ _
+    let is = replaced-is c.args.view.vs.now c.args.view.scope.now c.args.form.now c.args.branch.now
+    c.in-Some.replaced _ _
     c.requires.view.scope c.next_param-next.ensures c.in_ok-replaced.ensures c.in-Some.is in
     let few = c.requires.rest in
-    quot-counted c.args.view.vs.now c.args.view.scope.now c.args.view.rest c.args.view.ranges.now c.args.form.now c.args.branch.now
+    quot-counted c.args.view.vs.now c.args.view.scope.now c.args.view.rest c.args.view.ranges.now c.args.form.now
+    c.args.branch.now
     c.in-Some.replaced c.requires.view.scope (omega (arith, few)) is c.args.wanted c.in_ok-leaves.leaves
     c.in_ok-leaves.ensures.leaves
 
@@ -100,14 +108,16 @@ pub leaves_of_half-some_leaves-requires : goal.leaves_of_half-some_leaves-requir
 leaves_of_half-some_leaves-requires t c = (
   search rules,
   in-half c.args.view c.over.result c.args.branch.now c.take_half.new.branch c.args.half c.args.halves
-      c.as_slice.result.now (c.as_slice.ensures ∙ c.in_ok-ranges.ensures.ranges) c.in_ok-ranges.ensures.branch c.over.ensures
+      c.as_slice.result.now (c.as_slice.ensures ∙ c.in_ok-ranges.ensures.ranges) c.in_ok-ranges.ensures.branch
+      c.over.ensures
       c.requires.view c.requires.ready,
 )
 
 pub leaves_of_half-returns-clause-leaves : goal.leaves_of_half-returns-clause-leaves
 leaves_of_half-returns-clause-leaves t c =
     seen-leaves c.over.result c.args.view.vs.now c.args.view.scope.now c.args.view.rest c.as_slice.result.now
-    (half_ranges c.args.half c.args.halves c.args.view.ranges.now) (added c.args.branch.now (half_fact c.args.half c.args.halves))
+    (half_ranges c.args.half c.args.halves c.args.view.ranges.now) (added c.args.branch.now (half_fact c.args.half
+    c.args.halves))
     c.take_half.new.branch c.args.wanted c.in_ok-leaves.leaves c.over.ensures
     (c.as_slice.ensures ∙ c.in_ok-ranges.ensures.ranges) c.in_ok-ranges.ensures.branch c.in_ok-leaves.ensures.leaves
 
@@ -131,23 +141,27 @@ leaves_of_form-leaves_of_quot-requires t c = (
 
 pub leaves_of_form-returns-in_ok-leaves-clause-leaves : goal.leaves_of_form-returns-in_ok-leaves-clause-leaves
 leaves_of_form-returns-in_ok-leaves-clause-leaves t c =
-    opened-leaves c.args.view.vs.now c.args.view.scope.now c.args.view.rest c.args.view.ranges.now c.args.branch.now c.args.form.now
+    opened-leaves c.args.view.vs.now c.args.view.scope.now c.args.view.rest c.args.view.ranges.now c.args.branch.now
+    c.args.form.now
     c.args.wanted c.in_ok-leaves.leaves c.requires.view.scope c.requires.reach
     (sym c.is_either.ensures ∙ c.if-is_either.true) c.in_ok-leaves.ensures.leaves
 
 pub leaves_of_form-returns-in_ok-leaves-2-clause-leaves : goal.leaves_of_form-returns-in_ok-leaves-2-clause-leaves
 leaves_of_form-returns-in_ok-leaves-2-clause-leaves t c =
-    quotient-counted c.args.view.vs.now c.args.view.scope.now c.args.view.rest c.args.view.ranges.now c.args.branch.now c.args.form.now
+    quotient-counted c.args.view.vs.now c.args.view.scope.now c.args.view.rest c.args.view.ranges.now
+    c.args.branch.now c.args.form.now
     c.args.wanted c.in_ok-leaves-2.leaves c.requires.view.scope c.requires.reach
     (sym c.is_either.ensures ∙ c.if-is_either.false) c.in_ok-leaves-2.ensures.leaves
 
 pub open_some_leaves-below-requires : goal.open_some_leaves-below-requires
 open_some_leaves-below-requires t c =
-    ready-some c.args.view.vs.now c.args.view.rest c.args.view.ranges.now c.args.branch.now c.requires.ready (omega arith)
+    ready-some c.args.view.vs.now c.args.view.rest c.args.view.ranges.now c.args.branch.now c.requires.ready (omega
+    arith)
 
 pub open_some_leaves-leaves_of_form-requires : goal.open_some_leaves-leaves_of_form-requires
 open_some_leaves-leaves_of_form-requires t c =
-    let one = ready-some c.args.view.vs.now c.args.view.rest c.args.view.ranges.now c.args.branch.now c.requires.ready (omega arith) in (
+    let one = ready-some c.args.view.vs.now c.args.view.rest c.args.view.ranges.now c.args.branch.now
+    c.requires.ready (omega arith) in (
       search rules,
       form-needs c.args.view c.below.result c.args.branch.now c.requires.view one c.below.ensures c.get.result.now
           c.remove-form.new.self
@@ -171,7 +185,8 @@ open_some_leaves-leaves_of_halves-requires t c = (
 
 pub open_some_leaves-returns-in_ok-insert-clause-leaves : goal.open_some_leaves-returns-in_ok-insert-clause-leaves
 open_some_leaves-returns-in_ok-insert-clause-leaves t c =
-    let one = ready-some c.args.view.vs.now c.args.view.rest c.args.view.ranges.now c.args.branch.now c.requires.ready (omega arith) in
+    let one = ready-some c.args.view.vs.now c.args.view.rest c.args.view.ranges.now c.args.branch.now
+    c.requires.ready (omega arith) in
     counted-back c.args.view.vs.now c.args.view.rest c.args.view.ranges.now c.args.branch.now c.remove-form.new.self
     c.get.result.now c.args.wanted c.in_ok-leaves.leaves one
     (whole-again c.args.branch.now c.remove-form.new.self c.get.result.now
@@ -184,7 +199,8 @@ pub open_some_leaves-returns-in_ok-leaves-in-Some-clause-leaves :
     goal.open_some_leaves-returns-in_ok-leaves-in-Some-clause-leaves
 open_some_leaves-returns-in_ok-leaves-in-Some-clause-leaves t c =
     let h = c.in-Some.halves in
-    halved-leaves c.args.view.vs.now c.args.view.rest c.args.view.ranges.now c.args.branch.now h.place h.at c.args.wanted
+    halved-leaves c.args.view.vs.now c.args.view.rest c.args.view.ranges.now c.args.branch.now h.place h.at
+    c.args.wanted
     c.in_ok-leaves-in-Some.leaves
     (halves-take c.args.view c.args.branch.now h c.requires.ready c.in-Some.ensures) c.requires.reach
     (empty-list c.args.branch.now.waiting (omega arith)) c.in-Some.ensures
@@ -194,7 +210,8 @@ open_some_leaves-returns-in_ok-leaves-in-Some-clause-leaves t c =
 
 pub open_some_leaves-returns-in-None-clause-leaves : goal.open_some_leaves-returns-in-None-clause-leaves
 open_some_leaves-returns-in-None-clause-leaves t c =
-    whole-leaf c.args.view.vs.now c.args.view.rest c.args.view.ranges.now c.args.branch.now c.args.wanted c.requires.wanted
+    whole-leaf c.args.view.vs.now c.args.view.rest c.args.view.ranges.now c.args.branch.now c.args.wanted
+    c.requires.wanted
     c.requires.reach (empty-list c.args.branch.now.waiting (omega arith)) c.in-None.ensures
 
 pub some_leaves-some_out_of_reach-requires-clause-variables :
@@ -209,10 +226,12 @@ some_leaves-some_out_of_reach-requires-clause-exact t c =
 
 pub some_leaves-returns-then-wanted-le1-clause-leaves : goal.some_leaves-returns-then-wanted-le1-clause-leaves
 some_leaves-returns-then-wanted-le1-clause-leaves t c =
-    few-counted c.args.view.vs.now c.args.view.rest c.args.view.ranges.now c.args.branch.now c.args.wanted (omega arith)
+    few-counted c.args.view.vs.now c.args.view.rest c.args.view.ranges.now c.args.branch.now c.args.wanted (omega
+    arith)
 
 pub some_leaves-returns-then-branch-clause-leaves : goal.some_leaves-returns-then-branch-clause-leaves
 some_leaves-returns-then-branch-clause-leaves t c =
-    reached-leaf c.args.view.vs.now c.args.view.rest c.args.view.ranges.now c.args.branch.now c.args.wanted (omega arith)
+    reached-leaf c.args.view.vs.now c.args.view.rest c.args.view.ranges.now c.args.branch.now c.args.wanted (omega
+    arith)
     (subst (λ fs. some_out_of_reach fs ≡ true) c.as_slice.ensures
     (sym c.in_ok-some_out_of_reach.ensures ∙ c.if-branch.true))

@@ -22,20 +22,23 @@ use Rattle.search_tree.proofs.plain_tree.+search.Goals as goal
 pub refute_sides-refute_side-requires : goal.refute_sides-refute_side-requires
 refute_sides-refute_side-requires t c = (
   search rules,
-  side-needs c.args.view c.args.branch.now c.args.form.now c.requires.view c.requires.either c.requires.ready Side.First c.args.branch.now refl,
+  side-needs c.args.view c.args.branch.now c.args.form.now c.requires.view c.requires.either c.requires.ready
+      Side.First c.args.branch.now refl,
 )
 
 pub refute_sides-refute_side-requires-in-Closed : goal.refute_sides-refute_side-requires-in-Closed
 refute_sides-refute_side-requires-in-Closed t c = (
   search rules,
-  side-needs c.args.view c.args.branch.now c.args.form.now c.requires.view c.requires.either c.requires.ready Side.Second _
+  side-needs c.args.view c.args.branch.now c.args.form.now c.requires.view c.requires.either c.requires.ready
+      Side.Second _
       (kept c.in_ok-refute_side.field-0 c.refute_side.new.branch c.args.branch.now c.in-Closed.is
       c.in_ok-refute_side.ensures.branch),
 )
 
 pub refute_sides-returns-then-not-branch-clause-ends : goal.refute_sides-returns-then-not-branch-clause-ends
 refute_sides-returns-then-not-branch-clause-ends t c =
-    sides-stopped c.args.view.vs.now c.args.view.scope.now c.args.view.rest c.args.view.ranges.now c.args.form.now c.args.branch.now
+    sides-stopped c.args.view.vs.now c.args.view.scope.now c.args.view.rest c.args.view.ranges.now c.args.form.now
+    c.args.branch.now
     c.requires.view.scope (omega arith)
     c.requires.either
     c.args.trail.now c.put_node.new.trail
@@ -45,7 +48,8 @@ pub refute_sides-returns-in_ok-ended-in-Closed-clause-ends :
     goal.refute_sides-returns-in_ok-ended-in-Closed-clause-ends
 refute_sides-returns-in_ok-ended-in-Closed-clause-ends t c =
     let put = taken _ _ c.in_ok-put_node.ensures c.if-not-branch.false in
-    sides-second c.args.view.vs.now c.args.view.scope.now c.args.view.rest c.args.view.ranges.now c.args.form.now c.args.branch.now
+    sides-second c.args.view.vs.now c.args.view.scope.now c.args.view.rest c.args.view.ranges.now c.args.form.now
+    c.args.branch.now
     c.requires.view.scope (omega arith)
     c.requires.either
     c.args.trail.now c.put_node.new.trail c.refute_side.new.trail c.refute_side-in-Closed.new.trail
@@ -56,7 +60,8 @@ refute_sides-returns-in_ok-ended-in-Closed-clause-ends t c =
 pub refute_sides-returns-in-Stopped-clause-ends : goal.refute_sides-returns-in-Stopped-clause-ends
 refute_sides-returns-in-Stopped-clause-ends t c =
     let put = taken _ _ c.in_ok-put_node.ensures c.if-not-branch.false in
-    sides-first c.args.view.vs.now c.args.view.scope.now c.args.view.rest c.args.view.ranges.now c.args.form.now c.args.branch.now
+    sides-first c.args.view.vs.now c.args.view.scope.now c.args.view.rest c.args.view.ranges.now c.args.form.now
+    c.args.branch.now
     c.requires.view.scope (omega arith)
     c.requires.either
     c.args.trail.now c.put_node.new.trail c.refute_side.new.trail
@@ -65,7 +70,8 @@ refute_sides-returns-in-Stopped-clause-ends t c =
 
 pub refute_sides-returns-in-Refuted-clause-ends : goal.refute_sides-returns-in-Refuted-clause-ends
 refute_sides-returns-in-Refuted-clause-ends t c =
-    sides-met c.args.view.vs.now c.args.view.scope.now c.args.view.rest c.args.view.ranges.now c.args.form.now c.args.branch.now
+    sides-met c.args.view.vs.now c.args.view.scope.now c.args.view.rest c.args.view.ranges.now c.args.form.now
+    c.args.branch.now
     c.requires.view.scope (omega arith)
     c.requires.either
     c.put_node.new.trail c.refute_side.new.trail
@@ -74,7 +80,8 @@ refute_sides-returns-in-Refuted-clause-ends t c =
 pub refute_side-settle_side-requires-clause-variables : goal.refute_side-settle_side-requires-clause-variables
 refute_side-settle_side-requires-clause-variables t c =
     view-variables c.args.view c.args.branch.now
-    (settled c.args.view.scope.now (side_of c.args.side c.args.form.now) c.args.branch.now) c.requires.view c.requires.ready refl
+    (settled c.args.view.scope.now (side_of c.args.side c.args.form.now) c.args.branch.now) c.requires.view
+    c.requires.ready refl
 
 pub refute_side-refute-requires : goal.refute_side-refute-requires
 refute_side-refute-requires t c = (
@@ -85,37 +92,44 @@ refute_side-refute-requires t c = (
 
 pub refute_quot-unreachable-requires : goal.refute_quot-unreachable-requires
 refute_quot-unreachable-requires t c =
-    quotient-found c.args.view.vs.now (suc c.args.view.rest) c.args.view.ranges.now c.args.form.now c.args.branch.now _ _
+    quotient-found c.args.view.vs.now (suc c.args.view.rest) c.args.view.ranges.now c.args.form.now c.args.branch.now
+    _ _
     c.requires.ready c.requires.either c.in_ok-replaced.ensures c.in_default.is
 
 pub refute_quot-overflow_cast-next : goal.refute_quot-overflow_cast-next
 refute_quot-overflow_cast-next t c =
-    let few = number-fits c.args.view c.args.branch.now c.args.form.now c.requires.view c.requires.rest c.requires.ready
+    let few = number-fits c.args.view c.args.branch.now c.args.form.now c.requires.view c.requires.rest
+    c.requires.ready
     c.next_param-next.result c.next_param-next.ensures in
     grind (arith, few)
 
 pub refute_quot-refute_without-requires : goal.refute_quot-refute_without-requires
 refute_quot-refute_without-requires t c = (
   search rules,
-  quotient-needs c.args.view c.args.branch.now c.args.form.now c.requires.view c.requires.rest c.requires.ready c.in-Some.replaced
+  quotient-needs c.args.view c.args.branch.now c.args.form.now c.requires.view c.requires.rest c.requires.ready
+      c.in-Some.replaced
       _ _ c.next_param-next.ensures c.in_ok-replaced.ensures c.in-Some.is,
 )
 
 pub refute_quot-returns-then-not-branch-clause-ends : goal.refute_quot-returns-then-not-branch-clause-ends
 refute_quot-returns-then-not-branch-clause-ends t c =
-    let is = replaced-is c.args.view.vs.now c.args.view.scope.now c.args.form.now c.args.branch.now c.in-Some.replaced _ _
+    let is = replaced-is c.args.view.vs.now c.args.view.scope.now c.args.form.now c.args.branch.now
+    c.in-Some.replaced _ _
     c.requires.view.scope c.next_param-next.ensures c.in_ok-replaced.ensures c.in-Some.is in
-    quot-stopped c.args.view.vs.now c.args.view.scope.now c.args.view.rest c.args.view.ranges.now c.args.form.now c.args.branch.now
+    quot-stopped c.args.view.vs.now c.args.view.scope.now c.args.view.rest c.args.view.ranges.now c.args.form.now
+    c.args.branch.now
     c.in-Some.replaced c.requires.view.scope (omega arith) is c.args.trail.now c.put_node.new.trail
     (not-taken _ _ c.in_ok-put_node.ensures c.if-not-branch.true)
 
 pub refute_quot-returns-clause-ends : goal.refute_quot-returns-clause-ends
 refute_quot-returns-clause-ends t c =
-    let is = replaced-is c.args.view.vs.now c.args.view.scope.now c.args.form.now c.args.branch.now c.in-Some.replaced _ _
+    let is = replaced-is c.args.view.vs.now c.args.view.scope.now c.args.form.now c.args.branch.now
+    c.in-Some.replaced _ _
     c.requires.view.scope c.next_param-next.ensures c.in_ok-replaced.ensures c.in-Some.is in
     let put = taken _ _ c.in_ok-put_node.ensures c.if-not-branch.false in
     let closed = c.requires.ready.closed in
-    quot-went c.args.view.vs.now c.args.view.scope.now c.args.view.rest c.args.view.ranges.now c.args.form.now c.args.branch.now
+    quot-went c.args.view.vs.now c.args.view.scope.now c.args.view.rest c.args.view.ranges.now c.args.form.now
+    c.args.branch.now
     c.in-Some.replaced c.requires.view.scope (omega arith) is c.args.trail.now c.put_node.new.trail
     c.refute_without.new.trail c.in_ok-ended.ended (record { nodes = put.0; spare = put.1 }) closed.waiting.0
     (record { facts = closed.facts; waiting = closed.waiting.1 }) c.in_ok-ended.ensures.ends
@@ -152,8 +166,10 @@ refute_halves-refute_half-requires-in-Closed t c = (
 
 pub refute_halves-returns-then-not-branch-clause-ends : goal.refute_halves-returns-then-not-branch-clause-ends
 refute_halves-returns-then-not-branch-clause-ends t c =
-    let cut = the-cut c.args.view c.args.branch.now c.args.halves c.requires.view c.requires.ready c.requires.halves c.requires.none in
-    halves-stopped c.args.view.vs.now c.args.view.rest c.args.view.ranges.now c.args.halves.place c.args.halves.at c.args.branch.now
+    let cut = the-cut c.args.view c.args.branch.now c.args.halves c.requires.view c.requires.ready c.requires.halves
+    c.requires.none in
+    halves-stopped c.args.view.vs.now c.args.view.rest c.args.view.ranges.now c.args.halves.place c.args.halves.at
+    c.args.branch.now
     cut.simple (omega arith) c.args.trail.now c.put_node.new.trail
     (stop-is c.args.trail.now c.put_node.new.trail c.split_node.result _ c.split_node.ensures
     (not-taken _ _ c.in_ok-put_node.ensures c.if-not-branch.true))
@@ -161,12 +177,15 @@ refute_halves-returns-then-not-branch-clause-ends t c =
 pub refute_halves-returns-in_ok-ended-in-Closed-clause-ends :
     goal.refute_halves-returns-in_ok-ended-in-Closed-clause-ends
 refute_halves-returns-in_ok-ended-in-Closed-clause-ends t c =
-    let cut = the-cut c.args.view c.args.branch.now c.args.halves c.requires.view c.requires.ready c.requires.halves c.requires.none in
+    let cut = the-cut c.args.view c.args.branch.now c.args.halves c.requires.view c.requires.ready c.requires.halves
+    c.requires.none in
     let long = c.requires.ready.long in
     let inside = cut.inside in
     let put = taken _ _ c.in_ok-put_node.ensures c.if-not-branch.false in
-    halves-second c.args.view.vs.now c.args.view.rest c.args.view.ranges.now c.args.halves.place c.args.halves.at c.args.branch.now
-    cut.simple (omega arith) c.args.trail.now c.put_node.new.trail c.refute_half.new.trail c.refute_half-in-Closed.new.trail
+    halves-second c.args.view.vs.now c.args.view.rest c.args.view.ranges.now c.args.halves.place c.args.halves.at
+    c.args.branch.now
+    cut.simple (omega arith) c.args.trail.now c.put_node.new.trail c.refute_half.new.trail
+    c.refute_half-in-Closed.new.trail
     c.in_ok-refute_half.field-0 c.in_ok-ended-in-Closed.ended c.refute_half.new.branch (omega (arith, long, inside))
     (put-is c.args.trail.now c.put_node.new.trail c.split_node.result _ c.split_node.ensures put) c.in-Closed.is
     c.in_ok-refute_half.ensures.ends
@@ -174,11 +193,13 @@ refute_halves-returns-in_ok-ended-in-Closed-clause-ends t c =
 
 pub refute_halves-returns-in-Stopped-clause-ends : goal.refute_halves-returns-in-Stopped-clause-ends
 refute_halves-returns-in-Stopped-clause-ends t c =
-    let cut = the-cut c.args.view c.args.branch.now c.args.halves c.requires.view c.requires.ready c.requires.halves c.requires.none in
+    let cut = the-cut c.args.view c.args.branch.now c.args.halves c.requires.view c.requires.ready c.requires.halves
+    c.requires.none in
     let long = c.requires.ready.long in
     let inside = cut.inside in
     let put = taken _ _ c.in_ok-put_node.ensures c.if-not-branch.false in
-    halves-first c.args.view.vs.now c.args.view.rest c.args.view.ranges.now c.args.halves.place c.args.halves.at c.args.branch.now
+    halves-first c.args.view.vs.now c.args.view.rest c.args.view.ranges.now c.args.halves.place c.args.halves.at
+    c.args.branch.now
     cut.simple (omega arith) c.args.trail.now c.put_node.new.trail c.refute_half.new.trail
     c.in_ok-refute_half.field-0 (omega (arith, long, inside))
     (put-is c.args.trail.now c.put_node.new.trail c.split_node.result _ c.split_node.ensures put) c.in-Stopped.is
@@ -186,8 +207,10 @@ refute_halves-returns-in-Stopped-clause-ends t c =
 
 pub refute_halves-returns-in-Refuted-clause-ends : goal.refute_halves-returns-in-Refuted-clause-ends
 refute_halves-returns-in-Refuted-clause-ends t c =
-    let cut = the-cut c.args.view c.args.branch.now c.args.halves c.requires.view c.requires.ready c.requires.halves c.requires.none in
-    halves-met c.args.view.vs.now c.args.view.rest c.args.view.ranges.now c.args.halves.place c.args.halves.at c.args.branch.now
+    let cut = the-cut c.args.view c.args.branch.now c.args.halves c.requires.view c.requires.ready c.requires.halves
+    c.requires.none in
+    halves-met c.args.view.vs.now c.args.view.rest c.args.view.ranges.now c.args.halves.place c.args.halves.at
+    c.args.branch.now
     cut.simple (omega arith) c.put_node.new.trail c.refute_half.new.trail
     c.in_ok-refute_half.field-0 c.in-Refuted.values c.in-Refuted.is c.in_ok-refute_half.ensures.ends
 
@@ -195,14 +218,16 @@ pub refute_half-refute-requires : goal.refute_half-refute-requires
 refute_half-refute-requires t c = (
   search rules,
   in-half c.args.view c.over.result c.args.branch.now c.take_half.new.branch c.args.half c.args.halves
-      c.as_slice.result.now (c.as_slice.ensures ∙ c.in_ok-ranges.ensures.ranges) c.in_ok-ranges.ensures.branch c.over.ensures
+      c.as_slice.result.now (c.as_slice.ensures ∙ c.in_ok-ranges.ensures.ranges) c.in_ok-ranges.ensures.branch
+      c.over.ensures
       c.requires.view c.requires.ready,
 )
 
 pub refute_half-returns-clause-ends : goal.refute_half-returns-clause-ends
 refute_half-returns-clause-ends t c =
     seen-ends c.over.result c.args.view.vs.now c.args.view.scope.now c.args.view.rest c.as_slice.result.now
-    (half_ranges c.args.half c.args.halves c.args.view.ranges.now) (added c.args.branch.now (half_fact c.args.half c.args.halves))
+    (half_ranges c.args.half c.args.halves c.args.view.ranges.now) (added c.args.branch.now (half_fact c.args.half
+    c.args.halves))
     c.take_half.new.branch c.args.trail.now c.refute.new.trail c.in_ok-ended.ended c.over.ensures
     (c.as_slice.ensures ∙ c.in_ok-ranges.ensures.ranges) c.in_ok-ranges.ensures.branch c.in_ok-ended.ensures.ends
 
@@ -227,24 +252,28 @@ refute_form-refute_quot-requires t c = (
 pub refute_form-returns-in_ok-ended-clause-ends :
     goal.refute_form-returns-in_ok-ended-clause-ends
 refute_form-returns-in_ok-ended-clause-ends t c =
-    opened-ends c.args.view.vs.now c.args.view.scope.now c.args.view.rest c.args.view.ranges.now c.args.branch.now c.args.form.now
+    opened-ends c.args.view.vs.now c.args.view.scope.now c.args.view.rest c.args.view.ranges.now c.args.branch.now
+    c.args.form.now
     c.args.trail.now c.refute_sides.new.trail c.in_ok-ended.ended c.requires.view.scope c.requires.reach
     (sym c.is_either.ensures ∙ c.if-is_either.true) c.in_ok-ended.ensures.ends
 
 pub refute_form-returns-in_ok-ended-2-clause-ends :
     goal.refute_form-returns-in_ok-ended-2-clause-ends
 refute_form-returns-in_ok-ended-2-clause-ends t c =
-    quotient-ends c.args.view.vs.now c.args.view.scope.now c.args.view.rest c.args.view.ranges.now c.args.branch.now c.args.form.now
+    quotient-ends c.args.view.vs.now c.args.view.scope.now c.args.view.rest c.args.view.ranges.now c.args.branch.now
+    c.args.form.now
     c.args.trail.now c.refute_quot.new.trail c.in_ok-ended-2.ended c.requires.view.scope c.requires.reach
     (sym c.is_either.ensures ∙ c.if-is_either.false) c.in_ok-ended-2.ensures.ends
 
 pub refute_open-below-requires : goal.refute_open-below-requires
 refute_open-below-requires t c =
-    ready-some c.args.view.vs.now c.args.view.rest c.args.view.ranges.now c.args.branch.now c.requires.ready (omega arith)
+    ready-some c.args.view.vs.now c.args.view.rest c.args.view.ranges.now c.args.branch.now c.requires.ready (omega
+    arith)
 
 pub refute_open-refute_form-requires : goal.refute_open-refute_form-requires
 refute_open-refute_form-requires t c =
-    let one = ready-some c.args.view.vs.now c.args.view.rest c.args.view.ranges.now c.args.branch.now c.requires.ready (omega arith) in (
+    let one = ready-some c.args.view.vs.now c.args.view.rest c.args.view.ranges.now c.args.branch.now
+    c.requires.ready (omega arith) in (
       search rules,
       form-needs c.args.view c.below.result c.args.branch.now c.requires.view one c.below.ensures c.get.result.now
           c.remove-form.new.self
@@ -268,15 +297,18 @@ refute_open-refute_halves-requires t c = (
 
 pub refute_open-returns-in-None-clause-ends : goal.refute_open-returns-in-None-clause-ends
 refute_open-returns-in-None-clause-ends t c =
-    subst (λ n. IfOk c.refute_leaf.result (λ e. Ends c.args.view.vs.now c.args.view.rest n c.args.branch.now c.args.trail.now
+    subst (λ n. IfOk c.refute_leaf.result (λ e. Ends c.args.view.vs.now c.args.view.rest n c.args.branch.now
+    c.args.trail.now
     c.refute_leaf.new.trail e))
     (sym (leaf-count c.args.view.vs.now c.args.view.rest c.args.view.ranges.now c.args.branch.now c.requires.reach
     (empty-list c.args.branch.now.waiting (omega arith)) c.in-None.ensures)) c.refute_leaf.ensures
 
 pub refute_open-returns-in_ok-insert-clause-ends : goal.refute_open-returns-in_ok-insert-clause-ends
 refute_open-returns-in_ok-insert-clause-ends t c =
-    let one = ready-some c.args.view.vs.now c.args.view.rest c.args.view.ranges.now c.args.branch.now c.requires.ready (omega arith) in
-    put-back c.args.view.vs.now c.args.view.rest c.args.view.ranges.now c.args.branch.now c.remove-form.new.self c.get.result.now
+    let one = ready-some c.args.view.vs.now c.args.view.rest c.args.view.ranges.now c.args.branch.now
+    c.requires.ready (omega arith) in
+    put-back c.args.view.vs.now c.args.view.rest c.args.view.ranges.now c.args.branch.now c.remove-form.new.self
+    c.get.result.now
     c.args.trail.now c.refute_form.new.trail c.in_ok-ended.ended one
     (whole-again c.args.branch.now c.remove-form.new.self c.get.result.now
     (c.remove-form.ensures.item ∙ ap Some (sym c.get.ensures)) c.remove-form.ensures.rest)
@@ -288,12 +320,14 @@ refute_open-returns-in_ok-insert-clause-ends t c =
 pub refute_open-returns-in_ok-ended-in-Some-clause-ends : goal.refute_open-returns-in_ok-ended-in-Some-clause-ends
 refute_open-returns-in_ok-ended-in-Some-clause-ends t c =
     let h = c.in-Some.halves in
-    halved-ends c.args.view.vs.now c.args.view.rest c.args.view.ranges.now c.args.branch.now h.place h.at c.args.trail.now
+    halved-ends c.args.view.vs.now c.args.view.rest c.args.view.ranges.now c.args.branch.now h.place h.at
+    c.args.trail.now
     c.refute_halves.new.trail c.in_ok-ended-in-Some.ended
     (halves-take c.args.view c.args.branch.now h c.requires.ready c.in-Some.ensures) c.requires.reach
     (empty-list c.args.branch.now.waiting (omega arith)) c.in-Some.ensures
     (as-seen c.below-in-Some.ensures (λ vs us k rs. Ends vs (suc k)
-    (cut_leaves (plain_leaves vs k) rs c.args.branch.now (Some (record { place = h.place; at = h.at }))) c.args.branch.now
+    (cut_leaves (plain_leaves vs k) rs c.args.branch.now (Some (record { place = h.place; at = h.at })))
+    c.args.branch.now
     c.args.trail.now c.refute_halves.new.trail c.in_ok-ended-in-Some.ended) c.in_ok-ended-in-Some.ensures.ends)
 
 pub refute-returns-in-Some-clause-ends : goal.refute-returns-in-Some-clause-ends
@@ -302,7 +336,8 @@ refute-returns-in-Some-clause-ends t c =
     let tried = tried-some (length c.args.view.scope.now) facts facts c.args.trail.now c.try_close.new.trail _
     c.in_ok-ended.field-0 c.in-Some.ended refl c.in_ok-ended.ensures c.in-Some.is in
     shortly-ends c.args.view.vs.now c.args.view.scope.now c.args.view.rest
-    (plain_leaves c.args.view.vs.now c.args.view.rest c.args.view.ranges.now c.args.branch.now) c.args.branch.now c.args.trail.now
+    (plain_leaves c.args.view.vs.now c.args.view.rest c.args.view.ranges.now c.args.branch.now) c.args.branch.now
+    c.args.trail.now
     c.try_close.new.trail c.in-Some.ended c.requires.view.scope
     (leaves-some c.args.view.vs.now c.args.view.rest c.args.view.ranges.now c.args.branch.now) tried
 

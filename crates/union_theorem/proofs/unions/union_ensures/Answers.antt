@@ -17,8 +17,10 @@ returns-in-Some-clause-answer c =
     let b : Record = c.args.b.now in
     refused site.slots c.in-Some.code _
     (union_ensures-is site a b
-    ∙ row_fails site a b (one_ensures a b) (same_form a.p b.p && same_form a.q b.q) c.is_ensured.result c.are_alike.result
-    (united_ensures site a b) c.fault_of.result c.is_ensured.ensures c.are_alike.ensures (c.fault_of.ensures (united_ensures site a b))
+    ∙ row_fails site a b (one_ensures a b) (same_form a.p b.p && same_form a.q b.q) c.is_ensured.result
+    c.are_alike.result
+    (united_ensures site a b) c.fault_of.result c.is_ensured.ensures c.are_alike.ensures (c.fault_of.ensures
+    (united_ensures site a b))
     c.in-Some.code c.in-Some.is)
 
 pub returns-in-None-clause-answer : goal.returns-in-None-clause-answer
@@ -28,11 +30,14 @@ returns-in-None-clause-answer c =
     let b : Record = c.args.b.now in
     given_by site.slots c.united.result _ (united_ensures site a b)
     (union_ensures-is site a b
-    ∙ row_met site a b (one_ensures a b) (same_form a.p b.p && same_form a.q b.q) c.is_ensured.result c.are_alike.result
-    (united_ensures site a b) c.fault_of.result c.is_ensured.ensures c.are_alike.ensures (c.fault_of.ensures (united_ensures site a b))
+    ∙ row_met site a b (one_ensures a b) (same_form a.p b.p && same_form a.q b.q) c.is_ensured.result
+    c.are_alike.result
+    (united_ensures site a b) c.fault_of.result c.is_ensured.ensures c.are_alike.ensures (c.fault_of.ensures
+    (united_ensures site a b))
     c.in-None.is)
     (subst (λ h. RuleAnswers c.united.result site.slots (concluded site.slots site.params
-    (record_of site Kind.Ensures a.p a.q (a.under ++ b.under) h) (shown_forms site a b))) c.first_helper-helper.ensures
+    (record_of site Kind.Ensures a.p a.q (a.under ++ b.under) h) (shown_forms site a b)))
+    c.first_helper-helper.ensures
     c.united.ensures)
 
 pub returns-in-None-clause-sound : goal.returns-in-None-clause-sound

@@ -17,8 +17,10 @@ returns-in-Some-clause-answer c =
     let b : Record = c.args.b.now in
     refused site.slots c.in-Some.code _
     (union_invariant-is site a b
-    ∙ row_fails site a b (one_invariant a b) (same_form a.p b.p && same_form (ending a b) Bottom) c.is_kept.result c.are_stable.result
-    (united_invariant site a b) c.fault_of.result c.is_kept.ensures c.are_stable.ensures (c.fault_of.ensures (united_invariant site a b))
+    ∙ row_fails site a b (one_invariant a b) (same_form a.p b.p && same_form (ending a b) Bottom) c.is_kept.result
+    c.are_stable.result
+    (united_invariant site a b) c.fault_of.result c.is_kept.ensures c.are_stable.ensures (c.fault_of.ensures
+    (united_invariant site a b))
     c.in-Some.code c.in-Some.is)
 
 pub returns-in-None-clause-answer : goal.returns-in-None-clause-answer
@@ -28,8 +30,10 @@ returns-in-None-clause-answer c =
     let b : Record = c.args.b.now in
     given_by site.slots c.united.result _ (united_invariant site a b)
     (union_invariant-is site a b
-    ∙ row_met site a b (one_invariant a b) (same_form a.p b.p && same_form (ending a b) Bottom) c.is_kept.result c.are_stable.result
-    (united_invariant site a b) c.fault_of.result c.is_kept.ensures c.are_stable.ensures (c.fault_of.ensures (united_invariant site a b))
+    ∙ row_met site a b (one_invariant a b) (same_form a.p b.p && same_form (ending a b) Bottom) c.is_kept.result
+    c.are_stable.result
+    (united_invariant site a b) c.fault_of.result c.is_kept.ensures c.are_stable.ensures (c.fault_of.ensures
+    (united_invariant site a b))
     c.in-None.is)
     c.united.ensures
 

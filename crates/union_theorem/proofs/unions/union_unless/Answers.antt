@@ -16,8 +16,10 @@ returns-in-Some-clause-answer c =
     let b : Record = c.args.b.now in
     refused site.slots c.in-Some.code _
     (union_unless-is site a b
-    ∙ row_fails site a b (is_unless a.kind && is_unless b.kind) (same_form a.p b.p && same_form a.q b.q) c.are_unless.result c.are_alike.result
-    (united_unless site a b) c.fault_of.result c.are_unless.ensures c.are_alike.ensures (c.fault_of.ensures (united_unless site a b))
+    ∙ row_fails site a b (is_unless a.kind && is_unless b.kind) (same_form a.p b.p && same_form a.q b.q)
+    c.are_unless.result c.are_alike.result
+    (united_unless site a b) c.fault_of.result c.are_unless.ensures c.are_alike.ensures (c.fault_of.ensures
+    (united_unless site a b))
     c.in-Some.code c.in-Some.is)
 
 pub returns-in-None-clause-answer : goal.returns-in-None-clause-answer
@@ -27,8 +29,10 @@ returns-in-None-clause-answer c =
     let b : Record = c.args.b.now in
     given_by site.slots c.united.result _ (united_unless site a b)
     (union_unless-is site a b
-    ∙ row_met site a b (is_unless a.kind && is_unless b.kind) (same_form a.p b.p && same_form a.q b.q) c.are_unless.result c.are_alike.result
-    (united_unless site a b) c.fault_of.result c.are_unless.ensures c.are_alike.ensures (c.fault_of.ensures (united_unless site a b))
+    ∙ row_met site a b (is_unless a.kind && is_unless b.kind) (same_form a.p b.p && same_form a.q b.q)
+    c.are_unless.result c.are_alike.result
+    (united_unless site a b) c.fault_of.result c.are_unless.ensures c.are_alike.ensures (c.fault_of.ensures
+    (united_unless site a b))
     c.in-None.is)
     c.united.ensures
 
