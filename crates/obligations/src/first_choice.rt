@@ -2,7 +2,7 @@
 // caller: so the frames are small, and a deep term is gone through within a small stack.
 ghost use Rattle.std.specs.Prelude.{◌≡◌, IfOk, OnOk, Some, None};
 ghost use Rattle.std.specs.Option.{option_map};
-ghost use Rattle.core_terms.specs.declared.trees.CTerm.TheVariants.{Scale, Div, Mod, Ite};
+ghost use Rattle.core_terms.specs.declared.trees.CTerm.TheVariants.{Scale, Div, Mod};
 ghost use Rattle.obligations.specs.Settling.{within, first_ite};
 ghost use Rattle.core_terms.specs.Senses.{pair_node};
 

@@ -9,7 +9,7 @@ ghost use Rattle.core_terms.specs.Senses.{pair_node};
 
 use crate::branches::Taken;
 use crate::pairing::pair_term;
-use core_terms::{CForm, CTerm, Pairing};
+use core_terms::{CTerm, Pairing};
 use std::alloc::{AllocError, Global};
 use std::mem;
 use unity_base::{Held, Shared};
