@@ -116,8 +116,8 @@ leaves_of_half-some_leaves-requires t c = (
 pub leaves_of_half-returns-clause-leaves : goal.leaves_of_half-returns-clause-leaves
 leaves_of_half-returns-clause-leaves t c =
     seen-leaves c.over.result c.args.view.vs.now c.args.view.scope.now c.args.view.rest c.as_slice.result.now
-    (half_ranges c.args.half c.args.halves c.args.view.ranges.now) (added c.args.branch.now (half_fact c.args.half
-    c.args.halves))
+    (half_ranges c.args.half c.args.halves c.args.view.ranges.now) (added c.args.branch.now
+    (half_fact c.args.half c.args.halves))
     c.take_half.new.branch c.args.wanted c.in_ok-leaves.leaves c.over.ensures
     (c.as_slice.ensures ∙ c.in_ok-ranges.ensures.ranges) c.in_ok-ranges.ensures.branch c.in_ok-leaves.ensures.leaves
 
@@ -155,8 +155,8 @@ leaves_of_form-returns-in_ok-leaves-2-clause-leaves t c =
 
 pub open_some_leaves-below-requires : goal.open_some_leaves-below-requires
 open_some_leaves-below-requires t c =
-    ready-some c.args.view.vs.now c.args.view.rest c.args.view.ranges.now c.args.branch.now c.requires.ready (omega
-    arith)
+    ready-some c.args.view.vs.now c.args.view.rest c.args.view.ranges.now c.args.branch.now c.requires.ready
+    (omega arith)
 
 pub open_some_leaves-leaves_of_form-requires : goal.open_some_leaves-leaves_of_form-requires
 open_some_leaves-leaves_of_form-requires t c =
@@ -226,12 +226,12 @@ some_leaves-some_out_of_reach-requires-clause-exact t c =
 
 pub some_leaves-returns-then-wanted-le1-clause-leaves : goal.some_leaves-returns-then-wanted-le1-clause-leaves
 some_leaves-returns-then-wanted-le1-clause-leaves t c =
-    few-counted c.args.view.vs.now c.args.view.rest c.args.view.ranges.now c.args.branch.now c.args.wanted (omega
-    arith)
+    few-counted c.args.view.vs.now c.args.view.rest c.args.view.ranges.now c.args.branch.now c.args.wanted
+    (omega arith)
 
 pub some_leaves-returns-then-branch-clause-leaves : goal.some_leaves-returns-then-branch-clause-leaves
 some_leaves-returns-then-branch-clause-leaves t c =
-    reached-leaf c.args.view.vs.now c.args.view.rest c.args.view.ranges.now c.args.branch.now c.args.wanted (omega
-    arith)
+    reached-leaf c.args.view.vs.now c.args.view.rest c.args.view.ranges.now c.args.branch.now c.args.wanted
+    (omega arith)
     (subst (λ fs. some_out_of_reach fs ≡ true) c.as_slice.ensures
     (sym c.in_ok-some_out_of_reach.ensures ∙ c.if-branch.true))

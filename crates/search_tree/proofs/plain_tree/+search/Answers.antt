@@ -226,8 +226,8 @@ refute_half-refute-requires t c = (
 pub refute_half-returns-clause-ends : goal.refute_half-returns-clause-ends
 refute_half-returns-clause-ends t c =
     seen-ends c.over.result c.args.view.vs.now c.args.view.scope.now c.args.view.rest c.as_slice.result.now
-    (half_ranges c.args.half c.args.halves c.args.view.ranges.now) (added c.args.branch.now (half_fact c.args.half
-    c.args.halves))
+    (half_ranges c.args.half c.args.halves c.args.view.ranges.now) (added c.args.branch.now
+    (half_fact c.args.half c.args.halves))
     c.take_half.new.branch c.args.trail.now c.refute.new.trail c.in_ok-ended.ended c.over.ensures
     (c.as_slice.ensures ∙ c.in_ok-ranges.ensures.ranges) c.in_ok-ranges.ensures.branch c.in_ok-ended.ensures.ends
 
@@ -267,8 +267,8 @@ refute_form-returns-in_ok-ended-2-clause-ends t c =
 
 pub refute_open-below-requires : goal.refute_open-below-requires
 refute_open-below-requires t c =
-    ready-some c.args.view.vs.now c.args.view.rest c.args.view.ranges.now c.args.branch.now c.requires.ready (omega
-    arith)
+    ready-some c.args.view.vs.now c.args.view.rest c.args.view.ranges.now c.args.branch.now c.requires.ready
+    (omega arith)
 
 pub refute_open-refute_form-requires : goal.refute_open-refute_form-requires
 refute_open-refute_form-requires t c =
