@@ -46,13 +46,19 @@ pub fn number(alloc: Global, a: Formed) -> Result<NumberCore, AllocError>
     ensures sound { IfOk result (λ n. IsSound (of_number n)) }
     ensures most { IfOk result (λ n. n.measure.most ≤ a.measure.most + 1) }
 {
-    match a.core {
+    let Formed {
+        core,
+        constant,
+        exact,
+        measure,
+    } = a;
+    match core {
         Core::Number { term, known } => Ok(NumberCore {
             term,
             known,
-            constant: a.constant,
-            exact: a.exact,
-            measure: a.measure,
+            constant,
+            exact,
+            measure,
         }),
         Core::Truth { form, known } => {
             let mut number = Some(0);
@@ -60,9 +66,9 @@ pub fn number(alloc: Global, a: Formed) -> Result<NumberCore, AllocError>
             Ok(NumberCore {
                 term,
                 known: number,
-                constant: a.constant,
-                exact: a.exact,
-                measure: choice_measure(a.measure),
+                constant,
+                exact,
+                measure: choice_measure(measure),
             })
         }
     }
@@ -95,13 +101,19 @@ pub fn truth(alloc: Global, a: Formed) -> Result<TruthCore, AllocError>
     ensures sound { IfOk result (λ n. IsSound (of_truth n)) }
     ensures most { IfOk result (λ n. n.measure.most ≤ a.measure.most + 1) }
 {
-    match a.core {
+    let Formed {
+        core,
+        constant,
+        exact,
+        measure,
+    } = a;
+    match core {
         Core::Truth { form, known } => Ok(TruthCore {
             form,
             known,
-            constant: a.constant,
-            exact: a.exact,
-            measure: a.measure,
+            constant,
+            exact,
+            measure,
         }),
         Core::Number { term, known } => {
             let mut truth = None;
@@ -109,9 +121,9 @@ pub fn truth(alloc: Global, a: Formed) -> Result<TruthCore, AllocError>
             Ok(TruthCore {
                 form,
                 known: truth,
-                constant: a.constant,
-                exact: a.exact,
-                measure: over_measure(sum_measure(a.measure, leaf(1))),
+                constant,
+                exact,
+                measure: over_measure(sum_measure(measure, leaf(1))),
             })
         }
     }

@@ -4,7 +4,6 @@ use Rattle.std.specs.Prelude.{ℕ, ◌+◌, ◌*◌, max, List, [], ◌∷◌}
 use Rattle.core_terms.specs.declared.trees.CTerm.{CTerm, fold-CTerm}
 use Rattle.core_terms.specs.declared.trees.CForm.{CForm, fold-CForm}
 use Rattle.core_terms.specs.declared.trees.CForm.TheOpen.{CTerm-F, CForm-F}
-use Rattle.obligations.specs.declared.shapes.Counted.{Counted}
 
 pub record Shape : Type 0 where
   pub cases : ℕ
@@ -38,21 +37,6 @@ apart a = record { cases = 1 + a.cases; leaves = 2 * a.leaves; quotients = a.quo
 -- a quotient more: it is taken, and fixed from both sides
 abbrev pub divided : Shape → Shape
 divided a = record { cases = 3 + a.cases; leaves = a.leaves; quotients = 1 + a.quotients }
-
--- what is counted of a shape: its cases, or its quotients
-abbrev pub count_of : Counted → Shape → ℕ
-count_of Counted.Cases a = a.cases
-count_of Counted.Quotients a = a.quotients
-
--- what one case more counts
-abbrev pub count_of_case : Counted → ℕ
-count_of_case Counted.Cases = 1
-count_of_case Counted.Quotients = 0
-
--- what one quotient more counts
-abbrev pub count_of_quotient : Counted → ℕ
-count_of_quotient Counted.Cases = 3
-count_of_quotient Counted.Quotients = 1
 
 -- the shapes of a formula and of its negation
 pub record Shapes : Type 0 where

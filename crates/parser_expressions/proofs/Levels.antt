@@ -1,6 +1,6 @@
 -- What is read in brackets, where a level remains and where none does.
 use Rattle.std.proofs.Common.{◌≡◌, ℕ, List, ◌-◌, ◌<◌, Ok, Err, refl, ap, ◌∙◌}
-use Rattle.grammar_theory.specs.Ebnf.{Terminal, place_of, Tree, unit, node, inside, named}
+use Rattle.grammar_theory.specs.Ebnf.{Terminal, place_of, Tree, unit, pair, node, inside, named}
 use Rattle.grammar_theory.specs.Reader.{Read, TooDeep, ◌>>=◌, skip, after, closed, read}
 use Rattle.grammar_theory.proofs.Steps.{inside_some, inside_none}
 use Rattle.unity_syntax.specs.Kinds.{Kind, kind}
@@ -30,7 +30,7 @@ shut_after c f (Ok p) = go (skip c p.1)
 shut_after c f (Err d) = refl
 
 -- An action on brackets is an action on what stands in them.
-pub after_level : (f : Tree → Tree) (n o k c : ℕ) (ts : List Terminal) → 0 < n →
+after_level : (f : Tree → Tree) (n o k c : ℕ) (ts : List Terminal) → 0 < n →
     after f (read grammar n (inside o k c) ts)
     ≡ (skip o ts >>= λ x. shut_by c (after f (read grammar (n - 1) (at_number bodies k) x.1)))
 after_level f n o k c ts h = ap (after f) (inside_some grammar n o k c ts h) ∙ go (skip o ts)
@@ -40,7 +40,7 @@ after_level f n o k c ts h = ap (after f) (inside_some grammar n o k c ts h) ∙
     go (Ok p) = shut_after c f (read grammar (n - 1) (at_number bodies k) p.1)
     go (Err d) = refl
 
-pub after_none : (f : Tree → Tree) (n o k c : ℕ) (ts : List Terminal) → n ≡ 0 →
+after_none : (f : Tree → Tree) (n o k c : ℕ) (ts : List Terminal) → n ≡ 0 →
     after f (read grammar n (inside o k c) ts) ≡ (skip o ts >>= λ x. Err (TooDeep ts))
 after_none f n o k c ts h = ap (after f) (inside_none grammar n o k c ts h) ∙ go (skip o ts)
   where
@@ -67,6 +67,27 @@ made_level kd n o k c ts h = named_level (node (kind kd)) n o k c ts h
 pub made_none : (kd : Kind) (n o k c : ℕ) (ts : List Terminal) → n ≡ 0 →
     read grammar n (made kd (inside o k c)) ts ≡ (skip o ts >>= λ x. Err (TooDeep ts))
 made_none kd n o k c ts h = named_none (node (kind kd)) n o k c ts h
+
+-- a node of what stands in brackets
+pub node_level : (kd at : ℕ) (n o k c : ℕ) (ts : List Terminal) → 0 < n →
+    after (node kd at) (read grammar n (inside o k c) ts)
+    ≡ (skip o ts >>= λ x. shut_by c (after (node kd at) (read grammar (n - 1) (at_number bodies k) x.1)))
+node_level kd at n o k c ts h = after_level (node kd at) n o k c ts h
+
+pub node_none : (kd at : ℕ) (n o k c : ℕ) (ts : List Terminal) → n ≡ 0 →
+    after (node kd at) (read grammar n (inside o k c) ts) ≡ (skip o ts >>= λ x. Err (TooDeep ts))
+node_none kd at n o k c ts h = after_none (node kd at) n o k c ts h
+
+-- a node of something and what stands in brackets
+pub with_level : (kd at : ℕ) (w : Tree) (n o k c : ℕ) (ts : List Terminal) → 0 < n →
+    after (λ x. node kd at (pair w x)) (read grammar n (inside o k c) ts)
+    ≡ (skip o ts >>= λ x. shut_by c (after (λ x. node kd at (pair w x))
+    (read grammar (n - 1) (at_number bodies k) x.1)))
+with_level kd at w n o k c ts h = after_level (λ x. node kd at (pair w x)) n o k c ts h
+
+pub with_none : (kd at : ℕ) (w : Tree) (n o k c : ℕ) (ts : List Terminal) → n ≡ 0 →
+    after (λ x. node kd at (pair w x)) (read grammar n (inside o k c) ts) ≡ (skip o ts >>= λ x. Err (TooDeep ts))
+with_none kd at w n o k c ts h = after_none (λ x. node kd at (pair w x)) n o k c ts h
 
 -- a fault in what stands in brackets
 pub contents_fail : (f : Tree → Tree) (n o k c : ℕ) (ts mid : List Terminal) → 0 < n → skip o ts ≡ Ok (unit, mid) →

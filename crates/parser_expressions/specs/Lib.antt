@@ -1,4 +1,3 @@
 pub mod Bounds
 pub mod Gives
 pub mod Joints
-pub mod Lists

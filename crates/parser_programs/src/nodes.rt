@@ -4,11 +4,13 @@ ghost use Rattle.std.specs.Prelude.{◌≡◌, IfOk};
 ghost use Rattle.grammar_theory.specs.Ebnf.{pair, node};
 ghost use Rattle.unity_syntax.specs.Kinds.{Kind, kind};
 ghost use Rattle.unity_syntax.specs.View.{view_list, view_name, view_target, view_alts, view_component, view_assign};
-ghost use Rattle.unity_syntax.specs.View.{view_item};
+ghost use Rattle.unity_syntax.specs.View.{view_item, view_items};
+ghost use Rattle.parser_expressions.specs.Bounds.{view_bound_over};
 
+use parser_expressions::BoundName;
 use std::alloc::{AllocError, Global};
 use unity_base::{Held, Seq};
-use unity_syntax::{Alts, Assign, Component, Item, Name, Target};
+use unity_syntax::{Alts, Assign, Component, Item, Items, Name, Target};
 
 /// `first .. ":=" alts`, with the further targets
 pub fn set(
@@ -32,6 +34,40 @@ pub fn set(
     Held::new(alloc, whole)
 }
 
+/// `"<||" name ":" range "::" of "|>"`
+pub fn quantified_component(
+    alloc: Global,
+    at: u64,
+    bound: Held<BoundName>,
+    of: Held<Assign>,
+) -> Result<Held<Component>, AllocError>
+    ensures { IfOk result (λ x.
+        view_component x ≡ node (kind Kind.component_quantified) at (view_bound_over bound (view_assign of))) }
+{
+    let BoundName { name, range } = bound.into_inner();
+    let whole = Component::Quantified {
+        at,
+        name,
+        range,
+        of,
+    };
+    Held::new(alloc, whole)
+}
+
+/// `first "||" ..`, with the further parts
+pub fn assign(
+    alloc: Global,
+    at: u64,
+    first: Held<Component>,
+    rest: Seq<Component>,
+) -> Result<Held<Assign>, AllocError>
+    ensures { IfOk result (λ x.
+        view_assign x ≡ node (kind Kind.assign) at (pair (view_component first) (view_list view_component rest))) }
+{
+    let first = first.into_inner();
+    Held::new(alloc, Assign { at, first, rest })
+}
+
 /// `label ":" assign`
 pub fn statement(
     alloc: Global,
@@ -44,4 +80,38 @@ pub fn statement(
 {
     let assign = assign.into_inner();
     Held::new(alloc, Item::Statement { at, label, assign })
+}
+
+/// `"<[]" name ":" range "::" of "|>"`
+pub fn quantified_item(
+    alloc: Global,
+    at: u64,
+    bound: Held<BoundName>,
+    of: Held<Items>,
+) -> Result<Held<Item>, AllocError>
+    ensures { IfOk result (λ x. view_item x ≡
+        node (kind Kind.item_quantified) at (view_bound_over bound (view_items of))) }
+{
+    let BoundName { name, range } = bound.into_inner();
+    let whole = Item::Quantified {
+        at,
+        name,
+        range,
+        of,
+    };
+    Held::new(alloc, whole)
+}
+
+/// `first "[]" ..`, with the further statements
+pub fn items(
+    alloc: Global,
+    at: u64,
+    first: Held<Item>,
+    rest: Seq<Item>,
+) -> Result<Held<Items>, AllocError>
+    ensures { IfOk result (λ x. view_items x ≡
+        node (kind Kind.items) at (pair (view_item first) (view_list view_item rest))) }
+{
+    let first = first.into_inner();
+    Held::new(alloc, Items { at, first, rest })
 }

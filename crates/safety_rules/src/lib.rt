@@ -13,7 +13,6 @@ mod meanings;
 mod naming;
 mod pairs;
 mod places;
-mod preconditions;
 mod premises;
 mod recording;
 mod texts;

@@ -40,6 +40,19 @@ pub take-whole : {A : Type 0} (xs ys : List A) (n : ℕ) → n ≡ length xs →
 take-whole [] ys n e = ap (λ k. take k ys) e
 take-whole (x ∷ xs) ys n e = ap (λ k. take k (x ∷ (xs ++ ys))) e ∙ ap (λ z. x ∷ z) (take-whole xs ys (length xs) refl)
 
+-- what settling adds is dropped again
+pub undone : (vs : List Variable) (f : CForm) (b c d e : Branch) (n m : ℕ) → c ≡ settled vs f b → d ≡ c → n ≡ length
+    b.facts → m ≡ length b.waiting →
+    e ≡ record { facts = take n d.facts; waiting = take m d.waiting; added = d.added } → e ≡ b
+undone vs f b c d e n m p q h k r =
+    r ∙ ap (λ (x : Branch). record { facts = take n x.facts; waiting = take m x.waiting; added = x.added }) (q ∙ p)
+    ∙ ap (λ x. record { facts = x; waiting = take m (b.waiting ++ (outcome vs f).yes.waiting); added = b.added })
+    (take-whole b.facts (outcome vs f).yes.facts n h)
+    ∙ ap (λ x. record { facts = b.facts; waiting = x; added = b.added })
+    (take-whole b.waiting (outcome vs f).yes.waiting m k)
+
+pub ruleset undo_laws = undone
+
 pub units-append : (xs ys : List Node) → units (xs ++ ys) ≡ units xs + units ys
 units-append [] ys = omega arith
 units-append (x ∷ xs) ys = let ih = units-append xs ys in omega (arith, ih)
@@ -74,6 +87,40 @@ le-not a b h = grind (arith, ints)
 
 le-is : (a b : ℤ) → (a <ℤ b → ⊥) → int_le b a ≡ true
 le-is a b h = grind (arith, ints)
+
+pub set-high : (rs : List Range) (n : ℕ) (r : Range) (k : ℤ) → slice_get rs n ≡ Some r → slice_set rs n
+    (record { lo = r.lo; hi = k }) ≡ with_high rs n k
+set-high [] n r k e = cc
+set-high (x ∷ rs) zero r k e = let s : x ≡ r = cc in ap (λ (z : Range). record { lo = z.lo; hi = k } ∷ rs) (sym s)
+set-high (x ∷ rs) (suc n) r k e = ap (λ z. x ∷ z) (set-high rs n r k e)
+
+pub set-low : (rs : List Range) (n : ℕ) (r : Range) (k : ℤ) → slice_get rs n ≡ Some r → slice_set rs n
+    (record { lo = k; hi = r.hi }) ≡ with_low rs n k
+set-low [] n r k e = cc
+set-low (x ∷ rs) zero r k e = let s : x ≡ r = cc in ap (λ (z : Range). record { lo = k; hi = z.hi } ∷ rs) (sym s)
+set-low (x ∷ rs) (suc n) r k e = ap (λ z. x ∷ z) (set-low rs n r k e)
+
+pub past-high : (rs : List Range) (n : ℕ) (k : ℤ) → slice_get rs n ≡ None → rs ≡ with_high rs n k
+past-high [] n k e = refl
+past-high (x ∷ rs) zero k e = cc
+past-high (x ∷ rs) (suc n) k e = ap (λ z. x ∷ z) (past-high rs n k e)
+
+pub past-low : (rs : List Range) (n : ℕ) (k : ℤ) → slice_get rs n ≡ None → rs ≡ with_low rs n k
+past-low [] n k e = refl
+past-low (x ∷ rs) zero k e = cc
+past-low (x ∷ rs) (suc n) k e = ap (λ z. x ∷ z) (past-low rs n k e)
+
+pub high-is : (rs half new : List Range) (n : ℕ) (r item : Range) (k : ℤ) → new ≡ slice_set half n item → half ≡ rs →
+    slice_get rs n ≡ Some r → item ≡ record { lo = r.lo; hi = k } → new ≡ with_high rs n k
+high-is rs half new n r item k p q e i = p ∙ ap (λ z. slice_set z n item) q ∙ ap (slice_set rs n) i ∙ set-high rs n r
+    k e
+
+pub low-is : (rs half new : List Range) (n : ℕ) (r item : Range) (k : ℤ) → new ≡ slice_set half n item → half ≡ rs →
+    slice_get rs n ≡ Some r → item ≡ record { lo = k; hi = r.hi } → new ≡ with_low rs n k
+low-is rs half new n r item k p q e i = p ∙ ap (λ z. slice_set z n item) q ∙ ap (slice_set rs n) i ∙ set-low rs n r k
+    e
+
+pub ruleset half_laws = (set-high, set-low, past-high, past-low)
 
 -- Levels.
 pub made-level : (vs : List Variable) (levels : ℕ) (b : Branch) (n : Node) → 0 < levels →

@@ -7,3 +7,4 @@ pub mod NodeForms
 pub mod Parsed
 pub mod Parts
 pub mod Readings
+pub mod SectionReadings

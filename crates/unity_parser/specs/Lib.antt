@@ -1,3 +1,4 @@
 pub mod Document
 pub mod Fronts
 pub mod ParseAnswers
+pub mod Sections

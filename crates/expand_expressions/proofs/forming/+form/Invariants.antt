@@ -25,7 +25,7 @@ invariant-added-loop-part l =
 abbrev pub invariant-multiplied-loop-part : goal.invariant-multiplied-loop-part
 invariant-multiplied-loop-part l =
     (fold factored l.whole (map (factor_in (scope l.known l.env)) (drop l.part-index l.part-items))
-    ≡ fold factored l.initial.whole (map (factor_in (scope l.known l.env)) l.part-items))
+    ≡ fold factored l.fn.first (map (factor_in (scope l.known l.env)) l.part-items))
     × IsSound l.whole × (l.whole.measure.most ≤ 2 ^ 62)
 
 abbrev pub invariant-instances-loop-k : goal.invariant-instances-loop-k

@@ -1,0 +1,15 @@
+use Rattle.grammar_theory.specs.Reader.{count}
+use Rattle.case_tables.specs.declared.symbol_table.Symbol.{Symbol}
+use Rattle.unity_syntax.specs.Classes.{symbol}
+use Rattle.unity_syntax.specs.Grammar.{past, ref_}
+use Rattle.unity_syntax.specs.View.{view_ref}
+use Rattle.parser_expressions.specs.Gives.{remaining}
+use Rattle.parser_expressions.proofs.Repetition.{Items}
+use Rattle.parser_proofs.proofs.steps.more_references.Given as goal
+
+abbrev pub invariant-items : goal.invariant-items
+invariant-items l = Items view_ref (past (symbol Symbol.Comma) ref_) l.depth (remaining l.fn.text) l.found
+    (remaining l.rest)
+
+abbrev pub decreases-items : goal.decreases-items
+decreases-items l = count (remaining l.rest)
