@@ -192,8 +192,8 @@ module _ (w : Window) (bs : List ℕ) (n m : ℕ) (k : TokenKind) (held_is : bs 
         let from : w.at + n ≡ start = omega arith in
         let to : w.at + n + m ≡ end = omega arith in (
           subst (λ s. ReadsTo w.at bytes (record { kind = k; start = s; end = end } ∷ []) x.at (coming x left)) from
-              (subst (λ p. ReadsTo w.at bytes (record { kind = k; start = w.at + n; end = p } ∷ []) x.at (coming x left))
-              to (ready_reads bytes e)),
+              (subst (λ p. ReadsTo w.at bytes (record { kind = k; start = w.at + n; end = p } ∷ []) x.at
+              (coming x left)) to (ready_reads bytes e)),
           sym ends,
         )
 

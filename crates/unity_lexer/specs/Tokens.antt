@@ -1,6 +1,6 @@
 -- How a text is read: its tokens, or its first fault.
 use Rattle.std.specs.Prelude.{◌≡◌, ◌≢◌, ℕ, ◌+◌, ◌^◌, ◌<◌, ◌≤◌, Bool, false, ◌||◌, ◌&&◌, ◌==◌, nat_le, not, List, []}
-use Rattle.std.specs.Prelude.{◌∷◌, ◌++◌, length, drop, IsTrue, Contains, slice_range, Result, Ok, Err}
+use Rattle.std.specs.Prelude.{◌∷◌, ◌++◌, length, IsTrue, Contains, slice_range, Result, Ok, Err}
 use Rattle.std.specs.List.{list_all}
 use Rattle.std.specs.Char.{is_ascii_digit, is_ascii_alphabetic, is_ascii_alphanumeric}
 use Rattle.std.specs.Str.Parse.{digits_value}
@@ -128,22 +128,3 @@ AreInOrder from to (t ∷ ts) = (from ≤ t.start) × (t.start < t.end) × AreIn
 -- the bytes of the text at a token's place are the spelling of its kind
 abbrev pub IsSpelledIn : List ℕ → Token → Type 0
 IsSpelledIn text t = Spells (slice_range text t.start t.end) t.kind
-
--- from one place on, the text is read into these tokens up to another, and no further than to its end
-pub record IsPartRead (from : ℕ) (text : List ℕ) (tokens : List Token) (end : ℕ) : Type 0 where
-  pub reads : Tokenizes from (drop from text) tokens end (drop end text)
-  pub within : end ≤ length text
-  -- each token has a byte
-  pub size : from + length tokens ≤ end
-
--- from one place on, the text is read up to another, and there nothing more can be read
-pub record FirstBadFrom (from : ℕ) (text : List ℕ) (code : Code) (place : ℕ) : Type 0 where
-  pub tokens : List Token
-  pub rest : List ℕ
-  pub reads : Tokenizes from (drop from text) tokens place rest
-  pub faulty : IsFaulty rest code
-
--- why a text is refused from this place on: its first fault there, or no memory
-abbrev pub IsRefusedFrom : ℕ → List ℕ → SyntaxFault → Type 0
-IsRefusedFrom from text (Fault code place) = FirstBadFrom from text code place
-IsRefusedFrom from text Memory = Unit {0}

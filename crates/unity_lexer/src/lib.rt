@@ -18,4 +18,4 @@ mod tokens;
 pub use front::{Front, FrontError, read_front};
 pub use laws::{decided_pieces, one_reading, places_in_text, some_reading};
 pub use scan::{Scan, next_token};
-pub use tokens::{TokenPart, lex, lex_part};
+pub use tokens::lex;

@@ -1,22 +1,12 @@
 //! The tokens of a text.
 
-ghost use Rattle.std.specs.Prelude.{◌≡◌, ◌≤◌, IfOk, IfErr, OnOk, length, None, All};
-ghost use Rattle.unity_lexer.specs.Tokens.{IsTokens, IsTokenRefusal, IsPartRead, IsRefusedFrom, AreInOrder};
-ghost use Rattle.unity_lexer.specs.Tokens.{IsSpelledIn};
+ghost use Rattle.std.specs.Prelude.{IfOk, IfErr, length, All};
+ghost use Rattle.unity_lexer.specs.Tokens.{IsTokens, IsTokenRefusal, AreInOrder, IsSpelledIn};
 
 use crate::piece::{Piece, first_piece};
 use std::alloc::Global;
 use unity_base::Seq;
-use unity_syntax::{SyntaxFault, Token, TokenKind};
-
-/// The tokens of a part of a text.
-#[derive(Drop)]
-pub struct TokenPart {
-    /// The tokens, with their places in the whole text.
-    pub tokens: Seq<Token>,
-    /// The place up to which the text is read.
-    pub end: usize,
-}
+use unity_syntax::{SyntaxFault, Token};
 
 /// Reads a whole text into its tokens, which have their places in the text, in bytes from 0.
 ///
@@ -32,27 +22,8 @@ pub fn lex(alloc: Global, bytes: &[u8]) -> Result<Seq<Token>, SyntaxFault>
     ensures spelled { IfOk result (λ tokens. All (IsSpelledIn bytes.now) tokens) }
     ensures fault { IfErr result (λ fault. IsTokenRefusal bytes.now fault) }
 {
-    match lex_part(alloc, bytes, 0, None) {
-        Ok(part) => Ok(part.tokens),
-        Err(fault) => Err(fault),
-    }
-}
-
-/// Reads a text from a place on into its tokens, as `lex` does: up to the end of the text, or to that of the first
-/// token of this kind, if one is named.
-pub fn lex_part(
-    alloc: Global,
-    bytes: &[u8],
-    from: usize,
-    last: Option<TokenKind>,
-) -> Result<TokenPart, SyntaxFault>
-    requires { from ≤ length bytes.now }
-    ensures part { IfOk result (λ part. IsPartRead from bytes.now part.tokens part.end) }
-    ensures whole { IfOk result (λ part. last ≡ None → part.end ≡ length bytes.now) }
-    ensures fault { IfErr result (λ fault. IsRefusedFrom from bytes.now fault) }
-{
     let mut tokens = Seq::new(alloc);
-    let mut at = from;
+    let mut at = 0;
     while at < bytes.len() {
         match first_piece(&bytes[at..]) {
             Piece::Gap(size) => at += size,
@@ -63,9 +34,6 @@ pub fn lex_part(
                     end: (at + size) as u64,
                 })?;
                 at += size;
-                if last == Some(kind) {
-                    return Ok(TokenPart { tokens, end: at });
-                }
             }
             Piece::Fault(code) => {
                 return Err(SyntaxFault::Fault {
@@ -75,5 +43,5 @@ pub fn lex_part(
             }
         }
     }
-    Ok(TokenPart { tokens, end: at })
+    Ok(tokens)
 }

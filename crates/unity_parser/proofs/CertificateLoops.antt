@@ -1,14 +1,10 @@
 -- The loops over a certificate's nodes, and over the certificates.
 use Rattle.std.proofs.Common.{◌≡◌, ℕ, suc, Bool, true, false, List, [], ◌∷◌, ◌++◌, map, length, refl, sym, ◌∙◌, ap}
 use Rattle.std.proofs.Common.{subst}
-use Rattle.std.proofs.Common.{arith, ◌+◌, ◌<◌, ◌≤◌, Ok, Err, append-nil}
-use Rattle.grammar_theory.specs.Ebnf.{Terminal, Tree, more, numbered, numbered_item, prefix_tree, prefix_trees, Ebnf}
-use Rattle.grammar_theory.specs.Ebnf.{Derives}
+use Rattle.std.proofs.Common.{arith, ◌+◌, ◌<◌, ◌≤◌, Ok, Err}
+use Rattle.grammar_theory.specs.Ebnf.{Terminal, Tree, more, numbered, numbered_item, prefix_tree, prefix_trees}
 use Rattle.grammar_theory.specs.Reader.{Read, Unexpected, OtherVersion, TooDeep, after, begins, count, missing}
 use Rattle.grammar_theory.specs.Reader.{and_then_by, read}
-use Rattle.grammar_theory.specs.LookAhead.{good}
-use Rattle.grammar_theory.specs.Outcomes.{Took, Outcome}
-use Rattle.grammar_theory.proofs.Complete.{reader_lawful}
 use Rattle.grammar_theory.proofs.Loops.{Reading, numbered_step, numbered_end, numbered_fault, trees_step, trees_end}
 use Rattle.grammar_theory.proofs.Loops.{trees_fault}
 use Rattle.grammar_theory.proofs.Steps.{read_shorter, trees_more}
@@ -141,18 +137,3 @@ certificate_shorter n k rest x later e = read_shorter grammar grammar_is (number
 pub some_left : (rest : List Terminal) → begins (number_class ∷ []) rest ≡ true → 0 < count rest
 some_left [] b = cc
 some_left (t ∷ ts) b = omega arith
-
--- what is read to the end is all of the tokens
-pub read_to_end : (e : Ebnf) → good grammar e ≡ true → (n : ℕ) (ts : List Terminal) (x : Tree) (rest : List Terminal) →
-    read grammar n e ts ≡ Ok (x, rest) → rest ≡ [] → Derives grammar e x ts
-read_to_end e g n ts x rest is none =
-    let P : Read Tree → Type 0 = λ r. Outcome grammar e (read grammar n e) ts r in
-    let took : Took grammar e (read grammar n e) ts x rest = subst P is (reader_lawful grammar grammar_is n e g ts) in
-    let all : ts ≡ took.taken = took.split ∙ ap (λ us. took.taken ++ us) none ∙ append-nil took.taken in
-    subst (λ us. Derives grammar e x us) (sym all) took.tree
-
--- a certificate that is read to the end
-pub certificate_whole : (k : ℕ) (ts : List Terminal) (x : Tree) (rest : List Terminal) →
-    read grammar 0 (numbered_item k number_class certificate_) ts ≡ Ok (x, rest) → rest ≡ [] →
-    Derives grammar (numbered_item k number_class certificate_) x ts
-certificate_whole k = read_to_end (numbered_item k number_class certificate_) (good_certificate k) 0

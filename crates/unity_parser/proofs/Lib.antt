@@ -7,4 +7,3 @@ pub mod NodeForms
 pub mod Parsed
 pub mod Parts
 pub mod Readings
-pub mod SectionReadings

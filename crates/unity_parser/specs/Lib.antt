@@ -1,4 +1,3 @@
 pub mod Document
 pub mod Fronts
 pub mod ParseAnswers
-pub mod Sections

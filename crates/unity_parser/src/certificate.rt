@@ -1,15 +1,14 @@
 //! Certificates and their nodes.
 
-ghost use Rattle.std.specs.Prelude.{◌≡◌, ◌≤◌, MatchOption};
+ghost use Rattle.std.specs.Prelude.{◌≡◌, ◌≤◌};
 ghost use Rattle.case_tables.specs.declared.word_table.Word.{Word};
 ghost use Rattle.case_tables.specs.declared.symbol_table.Symbol.{Symbol};
 ghost use Rattle.grammar_theory.specs.Ebnf.{both, many, more, numbered, numbered_item, prefix_tree, prefix_trees, unit};
-ghost use Rattle.grammar_theory.specs.Ebnf.{Derives};
 ghost use Rattle.grammar_theory.specs.Reader.{take_number};
 ghost use Rattle.unity_syntax.specs.Classes.{number_class, reserved};
 ghost use Rattle.unity_syntax.specs.Kinds.{Kind};
 ghost use Rattle.unity_syntax.specs.Grammar.{made, past, minus_, number_, multiple_, node_, subtrees, certificate_};
-ghost use Rattle.unity_syntax.specs.Grammar.{certificates_, grammar};
+ghost use Rattle.unity_syntax.specs.Grammar.{certificates_};
 ghost use Rattle.unity_syntax.specs.View.{view_certificate, view_certificates, view_list, view_node, view_pair};
 ghost use Rattle.parser_expressions.specs.Gives.{Gives, Reads, remaining};
 
@@ -247,18 +246,6 @@ fn certificate<'a>(alloc: Global, depth: u32, number: u64, text: Cursor<'a>) -> 
         rest,
     };
     Ok((certificate, text))
-}
-
-/// The certificate of this number that all the tokens that are left are. `None` where they are not, or memory is
-/// refused.
-pub fn whole_certificate(alloc: Global, number: u64, text: Cursor) -> Option<CertText>
-    ensures { MatchOption result (Unit {0}) (λ x.
-        Derives grammar (numbered_item number number_class certificate_) (view_certificate x) (remaining text.entry)) }
-{
-    match certificate(alloc, 0, number, text) {
-        Ok((found, rest)) if rest.tokens.is_empty() => Some(found),
-        _ => None,
-    }
 }
 
 /// `{ number ":" node { node } ";" }`, where the numbers count up from 1

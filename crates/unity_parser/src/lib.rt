@@ -6,7 +6,6 @@ mod documents;
 mod fronts;
 mod reading;
 mod schedules;
-mod sections;
 mod texts;
 
 pub use fronts::{front_laws, parse_front};
