@@ -6,7 +6,7 @@ ghost use Rattle.core_terms.specs.Values.{number_at, term_value, form_value};
 ghost use Rattle.core_terms.specs.Weights.{sum_weights, term_weights, form_weight, number_weight};
 ghost use Rattle.core_terms.specs.Places.{term_slots, form_slots, term_params, form_params};
 
-use crate::folding::{quotient, remainder, scaled};
+use crate::closed::{quotient, remainder, scaled};
 use crate::trees::{CForm, CTerm};
 use unity_base::Shared;
 

@@ -9,8 +9,9 @@ ghost use Rattle.core_terms.specs.Weights.{quotient_weights, remainder_weights};
 ghost use Rattle.core_terms.specs.Folding as fold;
 ghost use Rattle.core_terms.specs.Senses.{paired_term, sense_form, joined_form};
 
+use crate::closed::{quotient, remainder, scaled};
 use crate::copies::owned_term;
-use crate::folding::{form_by, quotient, remainder, scaled, term_by};
+use crate::folding::{form_by, term_by};
 use crate::trees::{CForm, CTerm};
 use std::alloc::{AllocError, Global};
 use unity_base::Shared;

@@ -2,6 +2,7 @@
 #![tactic(auto)]
 
 mod building;
+mod closed;
 mod copies;
 mod documents;
 mod entries;
@@ -24,14 +25,15 @@ mod tables;
 mod trees;
 mod weights;
 
+pub use closed::{number_of, quotient, remainder, scaled, truth_of};
 pub use copies::{copy_form, copy_term, held_form, held_term, owned_form, owned_term};
 pub use documents::{Arg, CDocument, CProof, CRule, CSchedule, CStep, Choice, Helper, PTerm, Ref};
 pub use equality::{same, same_term};
 pub use evaluation::{holds, value};
 pub use folding::{
     and_form, at_least_form, choice_term, difference_term, folded_form, folded_term, not_form,
-    number_of, or_form, placed_choice, placed_form, placed_term, quotient, quotient_term,
-    remainder, remainder_term, scaled, scaled_term, sum_term, truth_of, zero_form,
+    or_form, placed_choice, placed_form, placed_term, quotient_term, remainder_term, scaled_term,
+    sum_term, zero_form,
 };
 pub use joining::{copy_forms, join_programs};
 pub use known::{

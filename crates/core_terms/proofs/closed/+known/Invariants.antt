@@ -1,7 +1,7 @@
 use Rattle.std.proofs.Common.{◌+◌, ◌*◌, max}
 use Rattle.core_terms.specs.declared.trees.CForm.{size-CForm}
 use Rattle.core_terms.specs.declared.trees.CTerm.{size-CTerm}
-use Rattle.core_terms.proofs.folding.+known.Given as goal
+use Rattle.core_terms.proofs.closed.+known.Given as goal
 
 abbrev pub decreases-found_truth : goal.decreases-found_truth
 decreases-found_truth l = 2 * size-CForm l.f.now
