@@ -1,7 +1,7 @@
 -- A formula with its slots and parameters replaced is worth what the formula is at the terms' values, and
 -- putting arguments for parameters keeps weights within bounds.
-use Rattle.std.proofs.Common.{◌≡◌, ℕ, zero, suc, ◌*◌, ◌^◌, ◌≤◌, max, ℤ, pos, negsuc, ◌+ℤ◌, ◌-ℤ◌, ◌*ℤ◌, List, [], ◌∷◌}
-use Rattle.std.proofs.Common.{Bool, cond, not, ◌&&◌, ◌||◌, ap, ◌∙◌, arith}
+use Rattle.std.proofs.Common.{◌≡◌, ℕ, zero, suc, ◌*◌, ◌^◌, ◌≤◌, ℤ, pos, negsuc, ◌+ℤ◌, ◌-ℤ◌, ◌*ℤ◌, List, [], ◌∷◌}
+use Rattle.std.proofs.Common.{Bool, cond, not, ◌&&◌, ◌||◌, sym, ap, ◌∙◌, arith}
 use Rattle.std.proofs.lemmas.Int.{ints}
 use Rattle.std.proofs.Math.Nat.{mul-le-mul_left}
 use Rattle.std.specs.Int.RustNames.{int_le, unsigned_abs}
@@ -13,14 +13,13 @@ use Rattle.core_terms.specs.declared.trees.CForm.{CForm}
 use Rattle.core_terms.specs.declared.trees.CForm.TheOpen.{CTerm-F, CForm-F}
 use Rattle.core_terms.specs.declared.documents.Arg.{Arg}
 use Rattle.core_terms.specs.Values.{number_at, term_value, form_value}
-use Rattle.core_terms.specs.Weights.{Weights, weighing, term_weights, form_weight, one_weight, plain_weights}
-use Rattle.core_terms.specs.Weights.{plain_weight}
+use Rattle.core_terms.specs.Weights.{weighing, term_weights, form_weight, one_weight, plain_weights}
+use Rattle.core_terms.specs.Weights.{plain_weight, multiple_weights}
 use Rattle.core_terms.specs.Replacing.{replace_term, replace_form, term_with, form_with, shifted, arg_at, form_at}
-use Rattle.core_terms.specs.Replacing.{arg_values, arg_weight}
+use Rattle.core_terms.specs.Replacing.{arg_values, arg_weight, put_weights}
 use Rattle.core_terms.proofs.TreeFolds.{Steps, fold_term_is, FormsKeep, TermsKeep, forms_related, terms_related}
 use Rattle.core_terms.proofs.HeavierLaws as heavier
 use Rattle.core_terms.proofs.HeavierLaws.{weight_steps}
-use Rattle.core_terms.proofs.WeightLaws.{own_within}
 use Rattle.core_terms.proofs.PartLaws.{value_steps, value-Const, value-Slot, value-Param, value-Add, value-Sub}
 use Rattle.core_terms.proofs.PartLaws.{value-Top}
 use Rattle.core_terms.proofs.PartLaws.{value-Bottom}
@@ -107,25 +106,15 @@ weights-Scale slots params k a =
     fold_term_is (weight_steps slots params) _ _ (rolls-Scale k a)
 
 -- a multiple of a lighter term is lighter
-pub multiple_own : (k l : ℤ) (t a u : CTerm) → t ≡ Scale k a → l ≡ k → (plain_weights u).own ≤
-    (term_weights one_weight arg_weight a).own →
-    unsigned_abs l * (plain_weights u).own ≤ (term_weights one_weight arg_weight t).own
-multiple_own k l t a u e f h =
-    let whole = ap (λ (w : Weights). w.own) (ap (term_weights one_weight arg_weight) e ∙ weights-Scale one_weight
-    arg_weight k a) in
-    let part : unsigned_abs k * (plain_weights u).own ≤ unsigned_abs k * (term_weights one_weight arg_weight a).own =
+pub multiple_lighter : (k l : ℤ) (a u : CTerm) → l ≡ k → (plain_weights u).own ≤ (put_weights a).own →
+    unsigned_abs l * (plain_weights u).own ≤ unsigned_abs k * (put_weights a).own
+multiple_lighter k l a u f h =
+    let part : unsigned_abs k * (plain_weights u).own ≤ unsigned_abs k * (put_weights a).own =
     mul-le-mul_left (unsigned_abs k) h in
-    let same : unsigned_abs l * (plain_weights u).own ≡ unsigned_abs k * (plain_weights u).own = ap
-    (λ z. unsigned_abs z * (plain_weights u).own) f in
-    omega (arith, whole, part, same)
+    let same : unsigned_abs l * (plain_weights u).own ≡ unsigned_abs k * (plain_weights u).own =
+    ap (λ z. unsigned_abs z * (plain_weights u).own) f in
+    omega (arith, part, same)
 
-pub multiple_most : (k l : ℤ) (t a u : CTerm) → t ≡ Scale k a → l ≡ k → (plain_weights u).own ≤
-    (term_weights one_weight arg_weight a).own →
-    (plain_weights u).most ≤ (term_weights one_weight arg_weight a).most →
-    max (unsigned_abs l * (plain_weights u).own) (plain_weights u).most ≤ (term_weights one_weight arg_weight t).most
-multiple_most k l t a u e f h m =
-    let own = multiple_own k l t a u e f h in
-    let within = own_within one_weight arg_weight t in
-    let whole = ap (λ (w : Weights). w.most) (ap (term_weights one_weight arg_weight) e ∙ weights-Scale one_weight
-    arg_weight k a) in
-    omega (arith, own, within, whole, m)
+pub multiple_is : (k l : ℤ) (t a : CTerm) → t ≡ Scale k a → l ≡ k → put_weights t ≡ multiple_weights l (put_weights a)
+multiple_is k l t a e f =
+    ap put_weights e ∙ weights-Scale one_weight arg_weight k a ∙ ap (λ z. multiple_weights z (put_weights a)) (sym f)

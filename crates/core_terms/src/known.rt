@@ -53,7 +53,7 @@ pub fn constant_known(
     Shared::new(alloc, CTerm::Const(c))
 }
 
-/// A slot or a parameter, which has no number.
+/// A term that has no number, as a slot or a parameter.
 ///
 /// An error says that memory was refused.
 #[inline(never)]

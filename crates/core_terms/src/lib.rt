@@ -1,6 +1,7 @@
 //! The core form on which rules work: terms, formulas, programs, proofs and documents.
 #![tactic(auto)]
 
+mod arguments;
 mod building;
 mod closed;
 mod copies;

@@ -1,31 +1,40 @@
-use Rattle.std.proofs.Common.{◌≤◌, arith, rules, subst, to_z, of_z, FitsSigned, w64}
+use Rattle.std.proofs.Common.{◌≤◌, arith, rules, ap, subst, to_z, of_z, FitsSigned, w64}
 use Rattle.std.proofs.lemmas.Int.{to_z-of_z}
 use Rattle.std.proofs.lemmas.Result.{IfOk-weaker}
-use Rattle.core_terms.specs.Weights.{term_weights, one_weight, plain_weights}
-use Rattle.core_terms.specs.Replacing.{arg_weight}
-use Rattle.core_terms.proofs.ReplacingLaws.{multiple_own, multiple_most}
+use Rattle.core_terms.specs.Weights.{Weights, plain_weights}
+use Rattle.core_terms.specs.Replacing.{put_weights}
+use Rattle.core_terms.proofs.ReplacingLaws.{multiple_lighter, multiple_is}
 use Rattle.core_terms.proofs.replacing.+replacing.Goals as goal
 
-pub put_term-returns-in_ok-put_term-in-Scale-clause-own :
-    goal.put_term-returns-in_ok-put_term-in-Scale-clause-own
-put_term-returns-in_ok-put_term-in-Scale-clause-own t c =
-    let fits : FitsSigned w64 c.in-Scale.k = search rules in
-    let part = c.in_ok-put_term-in-Scale.field-0 in
-    let own = multiple_own c.in-Scale.k (to_z w64 (of_z w64 c.in-Scale.k)) c.args.t.now c.in-Scale.a part c.in-Scale.is
-    (to_z-of_z w64 c.in-Scale.k fits)
-    (subst (λ x. (plain_weights part).own ≤ (term_weights one_weight arg_weight x).own) c.get.ensures
-    c.in_ok-put_term-in-Scale.ensures.own) in
+pub put_multiple-returns-in-Ok-clause-own : goal.put_multiple-returns-in-Ok-clause-own
+put_multiple-returns-in-Ok-clause-own t c =
+    let fits : FitsSigned w64 c.args.k = search rules in
+    let part = c.in-Ok.part in
+    let own = multiple_lighter c.args.k (to_z w64 (of_z w64 c.args.k)) c.args.a.now part
+    (to_z-of_z w64 c.args.k fits)
+    (subst (λ x. (plain_weights part).own ≤ (put_weights x).own) c.get.ensures c.in-Ok.ensures.own) in
     IfOk-weaker c.scaled_known.result _ _ (λ u h. omega (arith, own, h)) c.scaled_known.ensures.own
 
-pub put_term-returns-in_ok-put_term-in-Scale-clause-most :
-    goal.put_term-returns-in_ok-put_term-in-Scale-clause-most
-put_term-returns-in_ok-put_term-in-Scale-clause-most t c =
+pub put_multiple-returns-in-Ok-clause-most : goal.put_multiple-returns-in-Ok-clause-most
+put_multiple-returns-in-Ok-clause-most t c =
+    let fits : FitsSigned w64 c.args.k = search rules in
+    let part = c.in-Ok.part in
+    let own = multiple_lighter c.args.k (to_z w64 (of_z w64 c.args.k)) c.args.a.now part
+    (to_z-of_z w64 c.args.k fits)
+    (subst (λ x. (plain_weights part).own ≤ (put_weights x).own) c.get.ensures c.in-Ok.ensures.own) in
+    let most = subst (λ x. (plain_weights part).most ≤ (put_weights x).most) c.get.ensures c.in-Ok.ensures.most in
+    IfOk-weaker c.scaled_known.result _ _ (λ u h. omega (arith, own, most, h)) c.scaled_known.ensures.most
+
+pub put_term-returns-in-Scale-clause-own : goal.put_term-returns-in-Scale-clause-own
+put_term-returns-in-Scale-clause-own t c =
     let fits : FitsSigned w64 c.in-Scale.k = search rules in
-    let part = c.in_ok-put_term-in-Scale.field-0 in
-    let most = multiple_most c.in-Scale.k (to_z w64 (of_z w64 c.in-Scale.k)) c.args.t.now c.in-Scale.a part
-    c.in-Scale.is (to_z-of_z w64 c.in-Scale.k fits)
-    (subst (λ x. (plain_weights part).own ≤ (term_weights one_weight arg_weight x).own) c.get.ensures
-    c.in_ok-put_term-in-Scale.ensures.own)
-    (subst (λ x. (plain_weights part).most ≤ (term_weights one_weight arg_weight x).most) c.get.ensures
-    c.in_ok-put_term-in-Scale.ensures.most) in
-    IfOk-weaker c.scaled_known.result _ _ (λ u h. omega (arith, most, h)) c.scaled_known.ensures.most
+    let whole = ap (λ (w : Weights). w.own) (multiple_is c.in-Scale.k (to_z w64 (of_z w64 c.in-Scale.k)) c.args.t.now
+    c.in-Scale.a c.in-Scale.is (to_z-of_z w64 c.in-Scale.k fits)) in
+    IfOk-weaker c.put_multiple.result _ _ (λ u h. omega (arith, whole, h)) c.put_multiple.ensures.own
+
+pub put_term-returns-in-Scale-clause-most : goal.put_term-returns-in-Scale-clause-most
+put_term-returns-in-Scale-clause-most t c =
+    let fits : FitsSigned w64 c.in-Scale.k = search rules in
+    let whole = ap (λ (w : Weights). w.most) (multiple_is c.in-Scale.k (to_z w64 (of_z w64 c.in-Scale.k)) c.args.t.now
+    c.in-Scale.a c.in-Scale.is (to_z-of_z w64 c.in-Scale.k fits)) in
+    IfOk-weaker c.put_multiple.result _ _ (λ u h. omega (arith, whole, h)) c.put_multiple.ensures.most
