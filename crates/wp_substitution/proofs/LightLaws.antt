@@ -1,5 +1,5 @@
 -- What fits weighs little, and so does what replaces it.
-use Rattle.std.proofs.Common.{◌≡◌, ℕ, ◌*◌, ◌^◌, ◌≤◌, max, ℤ, List, [], All, Option, Some, None, ap, ◌∙◌, arith}
+use Rattle.std.proofs.Common.{◌≡◌, ℕ, ◌*◌, ◌^◌, ◌≤◌, ℤ, List, [], All, Option, Some, None, sym, ap, ◌∙◌, arith}
 use Rattle.std.proofs.Math.Nat.{mul-le-mul_left}
 use Rattle.std.proofs.lemmas.List.Elements.{All-weaker}
 use Rattle.std.specs.Int.RustNames.{unsigned_abs}
@@ -12,8 +12,8 @@ use Rattle.core_terms.specs.declared.trees.CForm.{CForm}
 use Rattle.core_terms.specs.declared.programs.CSlot.{CSlot}
 use Rattle.core_terms.specs.declared.programs.CWrite.{CWrite}
 use Rattle.core_terms.specs.declared.programs.CStmt.{CStmt}
-use Rattle.core_terms.specs.Weights.{Weights, range_weight, slot_weight, place_weight, one_weight, plain_weights}
-use Rattle.core_terms.specs.Weights.{plain_weight}
+use Rattle.core_terms.specs.Weights.{range_weight, slot_weight, place_weight, one_weight, plain_weights}
+use Rattle.core_terms.specs.Weights.{plain_weight, multiple_weights}
 use Rattle.core_terms.specs.Conditions.{FormFits, TermFits, WriteFits, StatementFits}
 use Rattle.core_terms.proofs.WeightLaws.{own_within}
 use Rattle.core_terms.proofs.ReplacingLaws.{weights-Scale}
@@ -71,22 +71,18 @@ after_light f h =
     omega (arith, more, h)
 
 -- a multiple of a lighter term is lighter
-pub multiple_own : (k l : ℤ) (t a u : CTerm) → t ≡ Scale k a → l ≡ k → (plain_weights u).own ≤ (after_weights a).own →
-    unsigned_abs l * (plain_weights u).own ≤ (after_weights t).own
-multiple_own k l t a u e f h =
-    let whole = ap (λ (w : Weights). w.own) (ap after_weights e ∙ weights-Scale chain_weight one_weight k a) in
+pub multiple_lighter : (k l : ℤ) (a u : CTerm) → l ≡ k → (plain_weights u).own ≤ (after_weights a).own →
+    unsigned_abs l * (plain_weights u).own ≤ unsigned_abs k * (after_weights a).own
+multiple_lighter k l a u f h =
     let part : unsigned_abs k * (plain_weights u).own ≤ unsigned_abs k * (after_weights a).own =
     mul-le-mul_left (unsigned_abs k) h in
     let same : unsigned_abs l * (plain_weights u).own ≡ unsigned_abs k * (plain_weights u).own =
     ap (λ z. unsigned_abs z * (plain_weights u).own) f in
-    omega (arith, whole, part, same)
+    omega (arith, part, same)
 
-pub multiple_most : (k l : ℤ) (t a u : CTerm) → t ≡ Scale k a → l ≡ k → (plain_weights u).own ≤ (after_weights a).own
-    →
-    (plain_weights u).most ≤ (after_weights a).most →
-    max (unsigned_abs l * (plain_weights u).own) (plain_weights u).most ≤ (after_weights t).most
-multiple_most k l t a u e f h m =
-    let own = multiple_own k l t a u e f h in
-    let within = own_within chain_weight one_weight t in
-    let whole = ap (λ (w : Weights). w.most) (ap after_weights e ∙ weights-Scale chain_weight one_weight k a) in
-    omega (arith, own, within, whole, m)
+pub multiple_is : (k l : ℤ) (t a : CTerm) → t ≡ Scale k a → l ≡ k →
+    after_weights t ≡ multiple_weights l (after_weights a)
+multiple_is k l t a e f =
+    ap after_weights e
+    ∙ weights-Scale chain_weight one_weight k a
+    ∙ ap (λ z. multiple_weights z (after_weights a)) (sym f)

@@ -1,9 +1,13 @@
-// A formula with its slots replaced by what the table says of them, all at once. A replaced part stands in a place
-// of its own, and what is known of it is handed back beside it, so that no part is looked down again. Leaves
-// and nodes of several parts have functions of their own: so the frames are small.
-ghost use Rattle.std.specs.Prelude.{◌≡◌, ◌+◌, ◌*◌, ◌^◌, ◌≤◌, IfOk, max};
+// A formula with its slots replaced by what the table says of them, all at once. A replaced part stands in a place of
+// its own, and what is known of it is handed back beside it, so that no part is looked down again. Each kind of node
+// has a function of its own, and so has each part after the first: so the frames are small, and the deepest formula is
+// within a small stack. What has failed is handed on as it is, so that a last call takes no frame.
+ghost use Rattle.std.specs.Prelude.{◌≡◌, ◌+◌, ◌*◌, ◌^◌, ◌≤◌, IfOk, None, max};
 ghost use Rattle.std.specs.Int.RustNames.{unsigned_abs};
+ghost use Rattle.meaning_states.specs.Division.{divisor};
+ghost use Rattle.core_terms.specs.declared.trees.CTerm.TheVariants as term;
 ghost use Rattle.core_terms.specs.Weights.{plain_weights, plain_weight, sum_weights, multiple_weights, choice_weights};
+ghost use Rattle.core_terms.specs.Weights.{quotient_weights, remainder_weights};
 ghost use Rattle.core_terms.specs.Folding as fold;
 ghost use Rattle.core_terms.specs.Senses.{paired_term, sense_form, joined_form};
 ghost use Rattle.wp_substitution.specs.Chains.{chain_at, AreChains, form_by, term_by, choice_by, after_weights};
@@ -11,9 +15,8 @@ ghost use Rattle.wp_substitution.specs.Chains.{after_weight};
 
 use crate::chains::Chain;
 use core_terms::{
-    CForm, CTerm, Joining, Pairing, Sense, choice_known, constant_known, joined_known, not_known,
-    paired_known, quotient_known, remainder_known, scaled_known, sense_known, truth_known,
-    variable_known,
+    CForm, CTerm, Joining, Pairing, Sense, constant_known, joined_known, not_known, paired_known,
+    quotient_known, remainder_known, scaled_known, sense_known, truth_known, variable_known,
 };
 use std::alloc::{AllocError, Global};
 use std::collections::BTreeMap;
@@ -40,7 +43,7 @@ pub fn form_after(
         CForm::Bottom => truth_known(alloc, false, truth),
         CForm::AtLeast(t) => sense_after(alloc, Sense::AtLeast, t, chains, truth),
         CForm::Zero(t) => sense_after(alloc, Sense::Zero, t, chains, truth),
-        CForm::Not(g) => not_known(alloc, form_after(alloc, g.get(), chains, truth)?, truth),
+        CForm::Not(g) => not_after(alloc, g, chains, truth),
         CForm::And(g, h) => joined_after(alloc, Joining::Both, g, h, chains, truth),
         CForm::Or(g, h) => joined_after(alloc, Joining::Either, g, h, chains, truth),
     }
@@ -62,8 +65,30 @@ fn sense_after(
     ensures weight { IfOk result (λ f. plain_weight f ≤ (after_weights t.now).most) }
 {
     let mut number = None;
-    let part = term_after(alloc, t, chains, &mut number)?;
-    sense_known(alloc, sense, part, number, truth)
+    match term_after(alloc, t, chains, &mut number) {
+        Ok(part) => sense_known(alloc, sense, part, number, truth),
+        Err(error) => Err(error),
+    }
+}
+
+#[cycle(after)]
+#[inline(never)]
+fn not_after(
+    alloc: Global,
+    g: &Shared<CForm>,
+    chains: &BTreeMap<u32, Chain>,
+    truth: &mut Option<bool>,
+) -> Result<Shared<CForm>, AllocError>
+    requires known { AreChains chains.now }
+    requires weight { after_weight g.now ≤ 2 ^ 126 }
+    ensures tree { IfOk result (λ f. f ≡ fold.not_form (form_by chains.now g.now)) }
+    ensures truth { IfOk result (λ f. truth.new ≡ fold.truth_of f) }
+    ensures weight { IfOk result (λ f. plain_weight f ≤ after_weight g.now) }
+{
+    match form_after(alloc, g.get(), chains, truth) {
+        Ok(part) => not_known(alloc, part, truth),
+        Err(error) => Err(error),
+    }
 }
 
 #[cycle(after)]
@@ -82,10 +107,35 @@ fn joined_after(
     ensures truth { IfOk result (λ f. truth.new ≡ fold.truth_of f) }
     ensures weight { IfOk result (λ f. plain_weight f ≤ max (after_weight g.now) (after_weight h.now)) }
 {
-    let mut first_truth = None;
-    let first = form_after(alloc, g.get(), chains, &mut first_truth)?;
-    let second = form_after(alloc, h.get(), chains, truth)?;
-    joined_known(alloc, joining, first, first_truth, second, truth)
+    match form_after(alloc, g.get(), chains, truth) {
+        Ok(first) => other_after(alloc, joining, first, h, chains, truth),
+        failed => failed,
+    }
+}
+
+// Two formulas joined where the first is replaced; `truth` is that of the first, and then of the result.
+#[cycle(after)]
+#[inline(never)]
+fn other_after(
+    alloc: Global,
+    joining: Joining,
+    first: Shared<CForm>,
+    h: &Shared<CForm>,
+    chains: &BTreeMap<u32, Chain>,
+    truth: &mut Option<bool>,
+) -> Result<Shared<CForm>, AllocError>
+    requires first { truth.old ≡ fold.truth_of first }
+    requires known { AreChains chains.now }
+    requires weight { after_weight h.now ≤ 2 ^ 126 }
+    ensures tree { IfOk result (λ f. f ≡ joined_form joining first (form_by chains.now h.now)) }
+    ensures truth { IfOk result (λ f. truth.new ≡ fold.truth_of f) }
+    ensures weight { IfOk result (λ f. plain_weight f ≤ max (plain_weight first) (after_weight h.now)) }
+{
+    let known = *truth;
+    match form_after(alloc, h.get(), chains, truth) {
+        Ok(second) => joined_known(alloc, joining, first, known, second, truth),
+        Err(error) => Err(error),
+    }
 }
 
 // The term with its slots replaced; `number` is then that of the result.
@@ -109,30 +159,9 @@ fn term_after(
         CTerm::Param(n) => variable_known(alloc, CTerm::Param(*n), number),
         CTerm::Add(a, b) => pair_after(alloc, Pairing::Sum, a, b, chains, number),
         CTerm::Sub(a, b) => pair_after(alloc, Pairing::Difference, a, b, chains, number),
-        CTerm::Scale(k, a) => {
-            scaled_known(
-                alloc,
-                *k,
-                term_after(alloc, a.get(), chains, number)?,
-                number,
-            )
-        }
-        CTerm::Div(a, k) => {
-            quotient_known(
-                alloc,
-                *k,
-                term_after(alloc, a.get(), chains, number)?,
-                number,
-            )
-        }
-        CTerm::Mod(a, k) => {
-            remainder_known(
-                alloc,
-                *k,
-                term_after(alloc, a.get(), chains, number)?,
-                number,
-            )
-        }
+        CTerm::Scale(k, a) => multiple_after(alloc, *k, a, chains, number),
+        CTerm::Div(a, k) => quotient_after(alloc, a, *k, chains, number),
+        CTerm::Mod(a, k) => remainder_after(alloc, a, *k, chains, number),
         CTerm::Ite(c, a, b) => choice_after(alloc, c, a, b, chains, number),
     }
 }
@@ -155,12 +184,158 @@ fn pair_after(
     ensures most { IfOk result (λ u. (plain_weights u).most ≤
         (sum_weights (after_weights a.now) (after_weights b.now)).most) }
 {
-    let mut first_number = None;
-    let first = term_after(alloc, a.get(), chains, &mut first_number)?;
-    let second = term_after(alloc, b.get(), chains, number)?;
-    paired_known(alloc, which, first, first_number, second, number)
+    match term_after(alloc, a.get(), chains, number) {
+        Ok(first) => second_after(alloc, which, first, b, chains, number),
+        failed => failed,
+    }
 }
 
+// A sum or a difference where the first term is replaced; `number` is that of the first, and then of the result.
+#[cycle(after)]
+#[inline(never)]
+fn second_after(
+    alloc: Global,
+    which: Pairing,
+    first: Shared<CTerm>,
+    b: &Shared<CTerm>,
+    chains: &BTreeMap<u32, Chain>,
+    number: &mut Option<i128>,
+) -> Result<Shared<CTerm>, AllocError>
+    requires first { number.old ≡ fold.number_of first }
+    requires known { AreChains chains.now }
+    requires weight { (sum_weights (plain_weights first) (after_weights b.now)).most ≤ 2 ^ 126 }
+    ensures tree { IfOk result (λ u. u ≡ paired_term which first (term_by chains.now b.now)) }
+    ensures number { IfOk result (λ u. number.new ≡ fold.number_of u) }
+    ensures own { IfOk result (λ u. (plain_weights u).own ≤ (plain_weights first).own + (after_weights b.now).own) }
+    ensures most { IfOk result (λ u. (plain_weights u).most ≤
+        (sum_weights (plain_weights first) (after_weights b.now)).most) }
+{
+    let known = *number;
+    match term_after(alloc, b.get(), chains, number) {
+        Ok(second) => paired_known(alloc, which, first, known, second, number),
+        Err(error) => Err(error),
+    }
+}
+
+#[cycle(after)]
+#[inline(never)]
+fn multiple_after(
+    alloc: Global,
+    k: i64,
+    a: &Shared<CTerm>,
+    chains: &BTreeMap<u32, Chain>,
+    number: &mut Option<i128>,
+) -> Result<Shared<CTerm>, AllocError>
+    requires known { AreChains chains.now }
+    requires weight { (multiple_weights k (after_weights a.now)).most ≤ 2 ^ 126 }
+    ensures tree { IfOk result (λ u. u ≡ fold.scaled_term k (term_by chains.now a.now)) }
+    ensures number { IfOk result (λ u. number.new ≡ fold.number_of u) }
+    ensures own { IfOk result (λ u. (plain_weights u).own ≤ unsigned_abs k * (after_weights a.now).own) }
+    ensures most { IfOk result (λ u. (plain_weights u).most ≤ (multiple_weights k (after_weights a.now)).most) }
+{
+    match term_after(alloc, a.get(), chains, number) {
+        Ok(part) => scaled_known(alloc, k, part, number),
+        Err(error) => Err(error),
+    }
+}
+
+#[cycle(after)]
+#[inline(never)]
+fn quotient_after(
+    alloc: Global,
+    a: &Shared<CTerm>,
+    k: i64,
+    chains: &BTreeMap<u32, Chain>,
+    number: &mut Option<i128>,
+) -> Result<Shared<CTerm>, AllocError>
+    requires known { AreChains chains.now }
+    requires weight { (after_weights a.now).most ≤ 2 ^ 126 }
+    ensures tree { IfOk result (λ u. u ≡ fold.quotient_term k (term_by chains.now a.now)) }
+    ensures number { IfOk result (λ u. number.new ≡ fold.number_of u) }
+    ensures own { IfOk result (λ u. (plain_weights u).own ≤ max 1 (after_weights a.now).own) }
+    ensures most { IfOk result (λ u. (plain_weights u).most ≤ (quotient_weights k (after_weights a.now)).most) }
+{
+    match term_after(alloc, a.get(), chains, number) {
+        Ok(part) => quotient_known(alloc, k, part, number),
+        Err(error) => Err(error),
+    }
+}
+
+#[cycle(after)]
+#[inline(never)]
+fn remainder_after(
+    alloc: Global,
+    a: &Shared<CTerm>,
+    k: i64,
+    chains: &BTreeMap<u32, Chain>,
+    number: &mut Option<i128>,
+) -> Result<Shared<CTerm>, AllocError>
+    requires known { AreChains chains.now }
+    requires weight { (after_weights a.now).most ≤ 2 ^ 126 }
+    ensures tree { IfOk result (λ u. u ≡ fold.remainder_term k (term_by chains.now a.now)) }
+    ensures number { IfOk result (λ u. number.new ≡ fold.number_of u) }
+    ensures own { IfOk result (λ u. (plain_weights u).own ≤ 2 * (after_weights a.now).own + unsigned_abs (divisor k)) }
+    ensures most { IfOk result (λ u. (plain_weights u).most ≤ (remainder_weights k (after_weights a.now)).most) }
+{
+    match term_after(alloc, a.get(), chains, number) {
+        Ok(part) => remainder_known(alloc, k, part, number),
+        Err(error) => Err(error),
+    }
+}
+
+// A choice whose first branch is at hand.
+#[cycle(after)]
+#[inline(never)]
+fn last_after(
+    alloc: Global,
+    condition: Shared<CForm>,
+    first: Shared<CTerm>,
+    b: &Shared<CTerm>,
+    chains: &BTreeMap<u32, Chain>,
+    number: &mut Option<i128>,
+) -> Result<Shared<CTerm>, AllocError>
+    requires unknown { fold.truth_of condition ≡ None }
+    requires known { AreChains chains.now }
+    requires most { (after_weights b.now).most ≤ 2 ^ 126 }
+    ensures tree { IfOk result (λ u. u ≡ term.Ite condition first (term_by chains.now b.now)) }
+    ensures number { IfOk result (λ u. number.new ≡ fold.number_of u) }
+    ensures own { IfOk result (λ u. (plain_weights u).own ≤ max (plain_weights first).own (after_weights b.now).own) }
+    ensures most { IfOk result (λ u. (plain_weights u).most ≤
+        (choice_weights (plain_weight condition) (plain_weights first) (after_weights b.now)).most) }
+{
+    match term_after(alloc, b.get(), chains, number) {
+        Ok(second) => variable_known(alloc, CTerm::Ite(condition, first, second), number),
+        Err(error) => Err(error),
+    }
+}
+
+// A choice whose condition's truth is not known.
+#[cycle(after)]
+#[inline(never)]
+fn branches_after(
+    alloc: Global,
+    condition: Shared<CForm>,
+    a: &Shared<CTerm>,
+    b: &Shared<CTerm>,
+    chains: &BTreeMap<u32, Chain>,
+    number: &mut Option<i128>,
+) -> Result<Shared<CTerm>, AllocError>
+    requires unknown { fold.truth_of condition ≡ None }
+    requires known { AreChains chains.now }
+    requires most { max (after_weights a.now).most (after_weights b.now).most ≤ 2 ^ 126 }
+    ensures tree { IfOk result (λ u. u ≡ term.Ite condition (term_by chains.now a.now) (term_by chains.now b.now)) }
+    ensures number { IfOk result (λ u. number.new ≡ fold.number_of u) }
+    ensures own { IfOk result (λ u. (plain_weights u).own ≤ max (after_weights a.now).own (after_weights b.now).own) }
+    ensures most { IfOk result (λ u. (plain_weights u).most ≤
+        (choice_weights (plain_weight condition) (after_weights a.now) (after_weights b.now)).most) }
+{
+    match term_after(alloc, a.get(), chains, number) {
+        Ok(first) => last_after(alloc, condition, first, b, chains, number),
+        failed => failed,
+    }
+}
+
+// A choice whose condition's truth is known is the branch that it chooses.
 #[cycle(after)]
 #[inline(never)]
 fn choice_after(
@@ -181,11 +356,14 @@ fn choice_after(
         (choice_weights (after_weight c.now) (after_weights a.now) (after_weights b.now)).most) }
 {
     let mut truth = None;
-    let mut first_number = None;
-    let condition = form_after(alloc, c.get(), chains, &mut truth)?;
-    let first = term_after(alloc, a.get(), chains, &mut first_number)?;
-    let second = term_after(alloc, b.get(), chains, number)?;
-    choice_known(alloc, condition, truth, first, first_number, second, number)
+    match form_after(alloc, c.get(), chains, &mut truth) {
+        Ok(condition) => match truth {
+            Some(true) => term_after(alloc, a.get(), chains, number),
+            Some(false) => term_after(alloc, b.get(), chains, number),
+            None => branches_after(alloc, condition, a, b, chains, number),
+        },
+        Err(error) => Err(error),
+    }
 }
 
 // What a slot holds after the writes.
