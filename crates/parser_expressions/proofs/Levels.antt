@@ -30,7 +30,7 @@ shut_after c f (Ok p) = go (skip c p.1)
 shut_after c f (Err d) = refl
 
 -- An action on brackets is an action on what stands in them.
-after_level : (f : Tree → Tree) (n o k c : ℕ) (ts : List Terminal) → 0 < n →
+pub after_level : (f : Tree → Tree) (n o k c : ℕ) (ts : List Terminal) → 0 < n →
     after f (read grammar n (inside o k c) ts)
     ≡ (skip o ts >>= λ x. shut_by c (after f (read grammar (n - 1) (at_number bodies k) x.1)))
 after_level f n o k c ts h = ap (after f) (inside_some grammar n o k c ts h) ∙ go (skip o ts)
@@ -40,7 +40,7 @@ after_level f n o k c ts h = ap (after f) (inside_some grammar n o k c ts h) ∙
     go (Ok p) = shut_after c f (read grammar (n - 1) (at_number bodies k) p.1)
     go (Err d) = refl
 
-after_none : (f : Tree → Tree) (n o k c : ℕ) (ts : List Terminal) → n ≡ 0 →
+pub after_none : (f : Tree → Tree) (n o k c : ℕ) (ts : List Terminal) → n ≡ 0 →
     after f (read grammar n (inside o k c) ts) ≡ (skip o ts >>= λ x. Err (TooDeep ts))
 after_none f n o k c ts h = ap (after f) (inside_none grammar n o k c ts h) ∙ go (skip o ts)
   where

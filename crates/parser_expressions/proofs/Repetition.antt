@@ -10,14 +10,10 @@ use Rattle.grammar_theory.proofs.Steps.{read_shorter}
 use Rattle.unity_syntax.specs.Grammar.{grammar}
 use Rattle.unity_syntax.specs.View.{view_list}
 use Rattle.unity_syntax.proofs.LookAhead.{grammar_is}
+use Rattle.parser_expressions.specs.declared.cursor.Cursor.{Cursor}
 use Rattle.parser_expressions.specs.declared.stop.Stop.{Stop}
-use Rattle.parser_expressions.specs.Gives.{remaining, Fails}
-
--- An item begins with one of the classes, which do not follow an item, and it takes a token.
-pub record IsItem (a : Ebnf) (classes : List ℕ) : Type 0 where
-  pub good_many : good grammar (many a) ≡ true
-  pub begins_with : first a ≡ classes
-  pub takes : empties a ≡ false
+use Rattle.parser_expressions.specs.Gives.{remaining, Fails, Reads}
+pub use Rattle.parser_expressions.specs.Lists.{IsItem}
 
 -- The items so far, at the rest.
 pub record Items {X : Type 0} (view : X → Tree) (a : Ebnf) (n : ℕ) (start : List Terminal) (found : List X)
@@ -66,3 +62,10 @@ pub shorter : {a : Ebnf} {classes : List ℕ} → IsItem a classes → (n : ℕ)
     (later : List Terminal) → read grammar n a rest ≡ Ok (x, later) → count later < count rest
 shorter {a} is n rest x later e = read_shorter grammar grammar_is a
     (and_left (good grammar a) (not (empties a) && apart (first a) (last a)) is.good_many) n rest x later is.takes e
+
+-- what reads a form of at least a token takes one
+pub takes_token : {X : Type 0} (view : X → Tree) (a : Ebnf) (n : ℕ) → good grammar a ≡ true → empties a ≡ false →
+    (text : Cursor) (x : X) (later : Cursor) → Reads view (Ok (x, later)) a n text →
+    count (remaining later) < count (remaining text)
+takes_token view a n is full text x later p = read_shorter grammar grammar_is a is n (remaining text) (view x)
+    (remaining later) full p

@@ -1,3 +1,4 @@
 pub mod Bounds
 pub mod Gives
 pub mod Joints
+pub mod Lists

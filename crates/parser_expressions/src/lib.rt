@@ -8,6 +8,7 @@
 mod cursor;
 mod expressions;
 mod joints;
+mod lists;
 mod nodes;
 mod ranges;
 mod references;
@@ -16,6 +17,7 @@ mod texts;
 
 pub use cursor::Cursor;
 pub use expressions::{condition, index, pred};
+pub use lists::{Front, listed, owned, repeated};
 pub use ranges::{BoundName, begins_range, bound, ends, names, range};
 pub use references::{begins_reference, inst, reference};
 pub use stop::{Parsed, Stop};

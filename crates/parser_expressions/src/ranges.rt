@@ -2,19 +2,19 @@
 
 ghost use Rattle.std.specs.Prelude.{◌≡◌, Option};
 ghost use Rattle.case_tables.specs.declared.symbol_table.Symbol.{Symbol};
-ghost use Rattle.grammar_theory.specs.Ebnf.{both, maybe, many};
+ghost use Rattle.grammar_theory.specs.Ebnf.{both, maybe};
 ghost use Rattle.grammar_theory.specs.LookAhead.{first};
 ghost use Rattle.grammar_theory.specs.Reader.{begins};
-ghost use Rattle.unity_syntax.specs.Classes.{symbol};
 ghost use Rattle.unity_syntax.specs.Kinds.{Kind};
-ghost use Rattle.unity_syntax.specs.Grammar.{made, past, minus_, number_, name_, plus_or_minus_, end_, range_, ends_};
+ghost use Rattle.unity_syntax.specs.Grammar.{made, minus_, number_, name_, plus_or_minus_, end_, range_, ends_};
 ghost use Rattle.unity_syntax.specs.Grammar.{words_};
-ghost use Rattle.unity_syntax.specs.View.{view_name, view_number, view_option, view_signed, view_list, view_some};
+ghost use Rattle.unity_syntax.specs.View.{view_name, view_number, view_option, view_signed, view_some};
 ghost use Rattle.unity_syntax.specs.View.{view_end, view_range};
 ghost use Rattle.parser_expressions.specs.Bounds.{bound_, view_bound};
 ghost use Rattle.parser_expressions.specs.Gives.{Reads, remaining};
 
 use crate::cursor::Cursor;
+use crate::lists::listed;
 use crate::stop::Parsed;
 use case_tables::Symbol;
 use std::alloc::Global;
@@ -109,58 +109,12 @@ pub fn bound<'a>(
     Ok((bound, text))
 }
 
-/// `"," end`
-fn next_end<'a>(alloc: Global, depth: u32, text: Cursor<'a>) -> Parsed<'a, End>
-    ensures { Reads view_end result (past (symbol Symbol.Comma) end_) depth text.entry }
-{
-    let text = text.symbol(Symbol::Comma)?;
-    end(alloc, depth, text)
-}
-
-/// `{ "," end }`
-fn more_ends<'a>(alloc: Global, depth: u32, text: Cursor<'a>) -> Parsed<'a, Seq<End>>
-    ensures { Reads (view_list view_end) result (many (past (symbol Symbol.Comma) end_)) depth text.entry }
-{
-    let mut found = Seq::new(alloc);
-    let mut rest = text;
-    'items: while rest.begins_symbol(Symbol::Comma) {
-        let (item, later) = next_end(alloc, depth, rest)?;
-        found.push(item)?;
-        rest = later;
-    }
-    Ok((found, rest))
-}
-
 /// `end { "," end }`
 #[tactic(auto, unfolding(unity_syntax::specs::Grammar::ends_))]
 pub fn ends<'a>(alloc: Global, depth: u32, text: Cursor<'a>) -> Parsed<'a, (End, Seq<End>)>
     ensures { Reads (view_some view_end) result ends_ depth text.entry }
 {
-    let (first, text) = end(alloc, depth, text)?;
-    let (rest, text) = more_ends(alloc, depth, text)?;
-    Ok(((first, rest), text))
-}
-
-/// `"," word`
-fn next_name<'a>(alloc: Global, text: Cursor<'a>) -> Parsed<'a, Name>
-    ensures { Reads view_name result (past (symbol Symbol.Comma) name_) 0 text.entry }
-{
-    let text = text.symbol(Symbol::Comma)?;
-    text.name(alloc)
-}
-
-/// `{ "," word }`
-fn more_names<'a>(alloc: Global, depth: u32, text: Cursor<'a>) -> Parsed<'a, Seq<Name>>
-    ensures { Reads (view_list view_name) result (many (past (symbol Symbol.Comma) name_)) depth text.entry }
-{
-    let mut found = Seq::new(alloc);
-    let mut rest = text;
-    'items: while rest.begins_symbol(Symbol::Comma) {
-        let (item, later) = next_name(alloc, rest)?;
-        found.push(item)?;
-        rest = later;
-    }
-    Ok((found, rest))
+    listed(alloc, Symbol::Comma, text, |text| end(alloc, depth, text))
 }
 
 /// `word { "," word }`
@@ -168,7 +122,5 @@ fn more_names<'a>(alloc: Global, depth: u32, text: Cursor<'a>) -> Parsed<'a, Seq
 pub fn names<'a>(alloc: Global, depth: u32, text: Cursor<'a>) -> Parsed<'a, (Name, Seq<Name>)>
     ensures { Reads (view_some view_name) result words_ depth text.entry }
 {
-    let (first, text) = text.name(alloc)?;
-    let (rest, text) = more_names(alloc, depth, text)?;
-    Ok(((first, rest), text))
+    listed(alloc, Symbol::Comma, text, |text| text.name(alloc))
 }
