@@ -38,9 +38,7 @@ pub use Rattle.obligations.proofs.TreeLaws.{term_fold, form_fold, linear-Const, 
 pub use Rattle.obligations.proofs.TreeLaws.{linear-Sub, linear-Scale, linear-Ite, linear-Div, linear-Mod, R}
 pub use Rattle.obligations.proofs.TreeLaws.{linear-long, parted-tree}
 pub use Rattle.obligations.proofs.TreeLaws.{form_tree-is, term_tree-is, outcome-tree, ite-Const, ite-Slot, ite-Param}
-pub use Rattle.obligations.proofs.TreeLaws.{ite-Add, ite-Sub, ite-Scale, ite-Ite, ite-Div, ite-Mod, pair-first}
-pub use Rattle.obligations.proofs.TreeLaws.{pair-second, pair-none, quotient-some, remainder-some}
-pub use Rattle.obligations.proofs.TreeLaws.{multiple-some}
+pub use Rattle.obligations.proofs.TreeLaws.{ite-Add, ite-Sub, ite-Scale, ite-Ite, ite-Div, ite-Mod}
 
 -- Laws of truth values, by cases.
 and_right : (a : Bool) → (a && true) ≡ a

@@ -1,5 +1,6 @@
 -- A term's first quotient, by the term's head: what holds of each row of its table holds of it.
-use Rattle.std.proofs.Common.{◌≡◌, ℕ, ℤ, Option, Some, None, sym, ap, ◌∙◌, subst}
+use Rattle.std.proofs.Common.{◌≡◌, ℕ, ℤ, true, false, Option, Some, None, refl, sym, ap, ◌∙◌, subst}
+use Rattle.std.specs.Option.{option_map, is_some}
 use Rattle.core_terms.specs.declared.trees.CTerm.{CTerm, ind-CTerm, roll-CTerm}
 use Rattle.core_terms.specs.declared.trees.CTerm.TheVariants.{Const, Slot, Param, Add, Sub, Scale, Ite, Div, Mod}
 use Rattle.core_terms.specs.declared.trees.CTerm.TheVariants.{rolls-Const, rolls-Slot, rolls-Param, rolls-Add}
@@ -213,34 +214,48 @@ pub taken-pair : (v : ℕ) (which : Pairing) (a b : CTerm) → first_taken v (pa
 taken-pair v Pairing.Sum a b = taken-Add v a b
 taken-pair v Pairing.Difference a b = taken-Sub v a b
 
-pub taken-none : (v : ℕ) (which : Pairing) (a b : CTerm) → first_taken v a ≡ None → first_taken v b ≡ None →
-    None ≡ first_taken v (pair_node which a b)
-taken-none v which a b p r =
-    sym (taken-pair v which a b
-    ∙ ap (λ m. first_of (λ x. pair_node which x b) (λ y. pair_node which a y) m (first_taken v b)) p
-    ∙ ap (λ m. first_of (λ x. pair_node which x b) (λ y. pair_node which a y) None m) r)
+taken-alone : (f : CTerm → CTerm) (m : Option Taken) → option_map (taken_within f) m ≡ first_of f f m None
+taken-alone f None = refl
+taken-alone f (Some q) = refl
 
-pub taken-first : (v : ℕ) (node : CTerm → CTerm → CTerm) → ((a b : CTerm) → first_taken v (node a b)
-    ≡ first_of (λ x. node x b) (λ y. node a y) (first_taken v a) (first_taken v b)) → (a b : CTerm) (q : Taken)
-    (o : Option Taken) → first_taken v a ≡ Some q → o ≡ Some (taken_within (λ x. node x b) q) →
-    o ≡ first_taken v (node a b)
-taken-first v node is a b q o p h =
-    h ∙ sym (is a b ∙ ap (λ m. first_of (λ x. node x b) (λ y. node a y) m (first_taken v b)) p)
+taken-first : (f g : CTerm → CTerm) (m n : Option Taken) → is_some m ≡ true →
+    option_map (taken_within f) m ≡ first_of f g m n
+taken-first f g None n h = absurd (cc)
+taken-first f g (Some q) n h = refl
 
-pub taken-second : (v : ℕ) (node : CTerm → CTerm → CTerm) → ((a b : CTerm) → first_taken v (node a b)
-    ≡ first_of (λ x. node x b) (λ y. node a y) (first_taken v a) (first_taken v b)) → (a b : CTerm) (q : Taken)
-    (o : Option Taken) → first_taken v a ≡ None → first_taken v b ≡ Some q →
-    o ≡ Some (taken_within (λ x. node a x) q) → o ≡ first_taken v (node a b)
-taken-second v node is a b q o p r h =
-    h ∙ sym (is a b ∙ ap (λ m. first_of (λ x. node x b) (λ y. node a y) m (first_taken v b)) p
-    ∙ ap (λ m. first_of (λ x. node x b) (λ y. node a y) None m) r)
+taken-second : (f g : CTerm → CTerm) (m n : Option Taken) → is_some m ≡ false →
+    option_map (taken_within g) n ≡ first_of f g m n
+taken-second f g None None h = refl
+taken-second f g None (Some q) h = refl
+taken-second f g (Some q) n h = absurd (cc)
 
-pub whole-quotient : (v : ℕ) (t a : CTerm) (k : ℤ) (o : Option Taken) → t ≡ Div a k → first_taken v a ≡ None →
-    o ≡ Some (whole_quotient v a k) → o ≡ first_taken v t
-whole-quotient v t a k o e p h =
-    h ∙ sym (ap (first_taken v) e ∙ taken-Div v a k ∙ ap (λ m. or_whole (λ x. Div x k) m (whole_quotient v a k)) p)
+pub taken-in-first : (v : ℕ) (which : Pairing) (a b : CTerm) (m : Option Taken) → m ≡ first_taken v a →
+    is_some m ≡ true → option_map (taken_within (λ x. pair_node which x b)) m ≡ first_taken v (pair_node which a b)
+taken-in-first v which a b m p h =
+    taken-first (λ x. pair_node which x b) (λ y. pair_node which a y) m (first_taken v b) h
+    ∙ ap (λ o. first_of (λ x. pair_node which x b) (λ y. pair_node which a y) o (first_taken v b)) p
+    ∙ sym (taken-pair v which a b)
 
-pub whole-remainder : (v : ℕ) (t a : CTerm) (k : ℤ) (o : Option Taken) → t ≡ Mod a k → first_taken v a ≡ None →
-    o ≡ Some (whole_remainder v a k) → o ≡ first_taken v t
-whole-remainder v t a k o e p h =
-    h ∙ sym (ap (first_taken v) e ∙ taken-Mod v a k ∙ ap (λ m. or_whole (λ x. Mod x k) m (whole_remainder v a k)) p)
+pub taken-in-second : (v : ℕ) (which : Pairing) (a b : CTerm) (m n : Option Taken) → m ≡ first_taken v a →
+    is_some m ≡ false → n ≡ first_taken v b →
+    option_map (taken_within (λ x. pair_node which a x)) n ≡ first_taken v (pair_node which a b)
+taken-in-second v which a b m n p h q =
+    taken-second (λ x. pair_node which x b) (λ y. pair_node which a y) m n h
+    ∙ ap (λ o. first_of (λ x. pair_node which x b) (λ y. pair_node which a y) o n) p
+    ∙ ap (first_of (λ x. pair_node which x b) (λ y. pair_node which a y) (first_taken v a)) q
+    ∙ sym (taken-pair v which a b)
+
+pub taken-in-multiple : (v : ℕ) (k : ℤ) (a : CTerm) (m : Option Taken) → m ≡ first_taken v a →
+    option_map (taken_within (λ x. Scale k x)) m ≡ first_taken v (Scale k a)
+taken-in-multiple v k a m p =
+    ap (option_map (taken_within (λ x. Scale k x))) p
+    ∙ taken-alone (λ x. Scale k x) (first_taken v a)
+    ∙ sym (taken-Scale v k a)
+
+pub taken-in-quotient : (v : ℕ) (a : CTerm) (k : ℤ) (m : Option Taken) → m ≡ first_taken v a →
+    or_whole (λ x. Div x k) m (whole_quotient v a k) ≡ first_taken v (Div a k)
+taken-in-quotient v a k m p = ap (λ o. or_whole (λ x. Div x k) o (whole_quotient v a k)) p ∙ sym (taken-Div v a k)
+
+pub taken-in-remainder : (v : ℕ) (a : CTerm) (k : ℤ) (m : Option Taken) → m ≡ first_taken v a →
+    or_whole (λ x. Mod x k) m (whole_remainder v a k) ≡ first_taken v (Mod a k)
+taken-in-remainder v a k m p = ap (λ o. or_whole (λ x. Mod x k) o (whole_remainder v a k)) p ∙ sym (taken-Mod v a k)

@@ -1,7 +1,8 @@
 -- The folds of terms and formulas by their heads, and that the copies of trees in the folds of settling are the
 -- trees.
 use Rattle.std.proofs.Common.{◌≡◌, ℕ, ℤ, pos, negsuc, List, [], true, false, Option, Some, None, sym, ap, ◌∙◌, subst}
-use Rattle.std.proofs.Common.{length}
+use Rattle.std.proofs.Common.{length, refl}
+use Rattle.std.specs.Option.{option_map, is_some}
 use Rattle.core_terms.specs.declared.trees.CTerm.{CTerm, ind-CTerm, roll-CTerm, fold-CTerm, fold-roll-CTerm}
 use Rattle.core_terms.specs.declared.trees.CTerm.TheVariants.{Const, Slot, Param, Add, Sub, Scale, Ite, Div, Mod}
 use Rattle.core_terms.specs.declared.trees.CTerm.TheVariants.{rolls-Const, rolls-Div, rolls-Mod}
@@ -380,37 +381,53 @@ pub ite-pair : (which : Pairing) (a b : CTerm) → first_ite (pair_node which a 
 ite-pair Pairing.Sum a b = ite-Add a b
 ite-pair Pairing.Difference a b = ite-Sub a b
 
-pub pair-first : (which : Pairing) (a b : CTerm) (c : Choice) (o : Option Choice) → first_ite a ≡ Some c →
-    o ≡ Some (within (λ x. pair_node which x b) c) → o ≡ first_ite (pair_node which a b)
-pair-first which a b c o p q =
-    q ∙ sym (ite-pair which a b
-    ∙ ap (λ m. first_choice (λ x. pair_node which x b) (λ y. pair_node which a y) m (first_ite b)) p)
+choice-alone : (f : CTerm → CTerm) (m : Option Choice) → option_map (within f) m ≡ first_choice f f m None
+choice-alone f None = refl
+choice-alone f (Some c) = refl
 
-pub pair-second : (which : Pairing) (a b : CTerm) (c : Choice) (o : Option Choice) → first_ite a ≡ None →
-    first_ite b ≡ Some c → o ≡ Some (within (λ x. pair_node which a x) c) → o ≡ first_ite (pair_node which a b)
-pair-second which a b c o p r q =
-    q ∙ sym (ite-pair which a b
-    ∙ ap (λ m. first_choice (λ x. pair_node which x b) (λ y. pair_node which a y) m (first_ite b)) p
-    ∙ ap (λ m. first_choice (λ x. pair_node which x b) (λ y. pair_node which a y) None m) r)
+choice-first : (f g : CTerm → CTerm) (m n : Option Choice) → is_some m ≡ true →
+    option_map (within f) m ≡ first_choice f g m n
+choice-first f g None n h = absurd (cc)
+choice-first f g (Some c) n h = refl
 
-pub pair-none : (which : Pairing) (a b : CTerm) → first_ite a ≡ None → first_ite b ≡ None →
-    None ≡ first_ite (pair_node which a b)
-pair-none which a b p r =
-    sym (ite-pair which a b
-    ∙ ap (λ m. first_choice (λ x. pair_node which x b) (λ y. pair_node which a y) m (first_ite b)) p
-    ∙ ap (λ m. first_choice (λ x. pair_node which x b) (λ y. pair_node which a y) None m) r)
+choice-second : (f g : CTerm → CTerm) (m n : Option Choice) → is_some m ≡ false →
+    option_map (within g) n ≡ first_choice f g m n
+choice-second f g None None h = refl
+choice-second f g None (Some c) h = refl
+choice-second f g (Some c) n h = absurd (cc)
 
-pub multiple-some : (k : ℤ) (a t : CTerm) (c : Choice) (o : Option Choice) → t ≡ Scale k a → first_ite a ≡ Some c →
-    o ≡ Some (within (λ x. Scale k x) c) → o ≡ first_ite t
-multiple-some k a t c o e p q =
-    q ∙ sym (ap first_ite e ∙ ite-Scale k a ∙ ap (λ m. first_choice (λ x. Scale k x) (λ x. Scale k x) m None) p)
+pub choice-in-first : (which : Pairing) (a b : CTerm) (m : Option Choice) → m ≡ first_ite a → is_some m ≡ true →
+    option_map (within (λ x. pair_node which x b)) m ≡ first_ite (pair_node which a b)
+choice-in-first which a b m p h =
+    choice-first (λ x. pair_node which x b) (λ y. pair_node which a y) m (first_ite b) h
+    ∙ ap (λ o. first_choice (λ x. pair_node which x b) (λ y. pair_node which a y) o (first_ite b)) p
+    ∙ sym (ite-pair which a b)
 
-pub quotient-some : (a t : CTerm) (k : ℤ) (c : Choice) (o : Option Choice) → t ≡ Div a k → first_ite a ≡ Some c →
-    o ≡ Some (within (λ x. Div x k) c) → o ≡ first_ite t
-quotient-some a t k c o e p q =
-    q ∙ sym (ap first_ite e ∙ ite-Div a k ∙ ap (λ m. first_choice (λ x. Div x k) (λ x. Div x k) m None) p)
+pub choice-in-second : (which : Pairing) (a b : CTerm) (m n : Option Choice) → m ≡ first_ite a → is_some m ≡ false →
+    n ≡ first_ite b → option_map (within (λ x. pair_node which a x)) n ≡ first_ite (pair_node which a b)
+choice-in-second which a b m n p h q =
+    choice-second (λ x. pair_node which x b) (λ y. pair_node which a y) m n h
+    ∙ ap (λ o. first_choice (λ x. pair_node which x b) (λ y. pair_node which a y) o n) p
+    ∙ ap (first_choice (λ x. pair_node which x b) (λ y. pair_node which a y) (first_ite a)) q
+    ∙ sym (ite-pair which a b)
 
-pub remainder-some : (a t : CTerm) (k : ℤ) (c : Choice) (o : Option Choice) → t ≡ Mod a k → first_ite a ≡ Some c →
-    o ≡ Some (within (λ x. Mod x k) c) → o ≡ first_ite t
-remainder-some a t k c o e p q =
-    q ∙ sym (ap first_ite e ∙ ite-Mod a k ∙ ap (λ m. first_choice (λ x. Mod x k) (λ x. Mod x k) m None) p)
+pub choice-in-multiple : (k : ℤ) (a : CTerm) (m : Option Choice) → m ≡ first_ite a →
+    option_map (within (λ x. Scale k x)) m ≡ first_ite (Scale k a)
+choice-in-multiple k a m p =
+    ap (option_map (within (λ x. Scale k x))) p
+    ∙ choice-alone (λ x. Scale k x) (first_ite a)
+    ∙ sym (ite-Scale k a)
+
+pub choice-in-quotient : (a : CTerm) (k : ℤ) (m : Option Choice) → m ≡ first_ite a →
+    option_map (within (λ x. Div x k)) m ≡ first_ite (Div a k)
+choice-in-quotient a k m p =
+    ap (option_map (within (λ x. Div x k))) p
+    ∙ choice-alone (λ x. Div x k) (first_ite a)
+    ∙ sym (ite-Div a k)
+
+pub choice-in-remainder : (a : CTerm) (k : ℤ) (m : Option Choice) → m ≡ first_ite a →
+    option_map (within (λ x. Mod x k)) m ≡ first_ite (Mod a k)
+choice-in-remainder a k m p =
+    ap (option_map (within (λ x. Mod x k))) p
+    ∙ choice-alone (λ x. Mod x k) (first_ite a)
+    ∙ sym (ite-Mod a k)

@@ -1,6 +1,7 @@
-// A term's first `Ite`. Nodes have functions of their own, so that the frames are small, and a deep term is
-// gone through within an ordinary stack.
-ghost use Rattle.std.specs.Prelude.{◌≡◌, IfOk, Some};
+// A term's first `Ite`. Each kind of node has a function of its own, which leaves what it finds in the place of its
+// caller: so the frames are small, and a deep term is gone through within a small stack.
+ghost use Rattle.std.specs.Prelude.{◌≡◌, IfOk, OnOk, Some, None};
+ghost use Rattle.std.specs.Option.{option_map};
 ghost use Rattle.core_terms.specs.declared.trees.CTerm.TheVariants.{Scale, Div, Mod};
 ghost use Rattle.obligations.specs.Settling.{within, first_ite};
 ghost use Rattle.core_terms.specs.Senses.{pair_node};
@@ -9,171 +10,264 @@ use crate::branches::Choice;
 use crate::pairing::pair_term;
 use core_terms::{CForm, CTerm, Pairing};
 use std::alloc::{AllocError, Global};
+use std::mem;
 use unity_base::{Held, Shared};
 
 /// The choice at an `Ite`.
 #[inline(never)]
-fn choice_of(
+fn put_choice(
     alloc: Global,
     c: &Shared<CForm>,
     a: &Shared<CTerm>,
     b: &Shared<CTerm>,
-) -> Result<Option<Held<Choice>>, AllocError>
-    ensures { IfOk result (λ o. o ≡ Some (record { when = c.now; yes = a.now; no = b.now })) }
+    found: &mut Option<Held<Choice>>,
+) -> Result<(), AllocError>
+    ensures { OnOk result (found.new ≡ Some (record { when = c.now; yes = a.now; no = b.now })) }
 {
     let choice = Choice {
         when: c.share()?,
         yes: a.share()?,
         no: b.share()?,
     };
-    Ok(Some(Held::new(alloc, choice)?))
+    *found = Some(Held::new(alloc, choice)?);
+    Ok(())
 }
 
-/// A choice in the first part of a sum or a difference.
+/// Leaves a choice between two terms.
 #[inline(never)]
-fn in_first(
+fn put_parts(
+    alloc: Global,
+    when: Shared<CForm>,
+    yes: CTerm,
+    no: CTerm,
+    found: &mut Option<Held<Choice>>,
+) -> Result<(), AllocError>
+    ensures { OnOk result (found.new ≡ Some (record { when = when; yes = yes; no = no })) }
+{
+    let yes = Shared::new(alloc, yes)?;
+    let no = Shared::new(alloc, no)?;
+    *found = Some(Held::new(alloc, Choice { when, yes, no })?);
+    Ok(())
+}
+
+/// What was found is in the first part of a sum or a difference.
+#[inline(never)]
+fn put_in_first(
     alloc: Global,
     which: Pairing,
-    choice: Held<Choice>,
     b: &Shared<CTerm>,
-) -> Result<Option<Held<Choice>>, AllocError>
-    ensures { IfOk result (λ o. o ≡ Some (within (λ x. pair_node which x b.now) choice)) }
+    found: &mut Option<Held<Choice>>,
+) -> Result<(), AllocError>
+    ensures { OnOk result (found.new ≡ option_map (within (λ x. pair_node which x b.now)) found.old) }
 {
-    let Choice { when, yes, no } = choice.into_inner();
-    let yes = Shared::new(alloc, pair_term(which, yes, b.share()?))?;
-    let no = Shared::new(alloc, pair_term(which, no, b.share()?))?;
-    Ok(Some(Held::new(alloc, Choice { when, yes, no })?))
+    match mem::replace(found, None) {
+        Some(choice) => {
+            let Choice { when, yes, no } = choice.into_inner();
+            let yes = pair_term(which, yes, b.share()?);
+            let no = pair_term(which, no, b.share()?);
+            put_parts(alloc, when, yes, no, found)
+        }
+        None => Ok(()),
+    }
 }
 
-/// A choice in the second part of a sum or a difference.
+/// What was found is in the second part of a sum or a difference.
 #[inline(never)]
-fn in_second(
+fn put_in_second(
     alloc: Global,
     which: Pairing,
     a: &Shared<CTerm>,
-    choice: Held<Choice>,
-) -> Result<Option<Held<Choice>>, AllocError>
-    ensures { IfOk result (λ o. o ≡ Some (within (λ x. pair_node which a.now x) choice)) }
+    found: &mut Option<Held<Choice>>,
+) -> Result<(), AllocError>
+    ensures { OnOk result (found.new ≡ option_map (within (λ x. pair_node which a.now x)) found.old) }
 {
-    let Choice { when, yes, no } = choice.into_inner();
-    let yes = Shared::new(alloc, pair_term(which, a.share()?, yes))?;
-    let no = Shared::new(alloc, pair_term(which, a.share()?, no))?;
-    Ok(Some(Held::new(alloc, Choice { when, yes, no })?))
+    match mem::replace(found, None) {
+        Some(choice) => {
+            let Choice { when, yes, no } = choice.into_inner();
+            let yes = pair_term(which, a.share()?, yes);
+            let no = pair_term(which, a.share()?, no);
+            put_parts(alloc, when, yes, no, found)
+        }
+        None => Ok(()),
+    }
 }
 
-/// A choice in a multiple.
+/// What was found is in a multiple.
 #[inline(never)]
-fn in_multiple(
+fn put_in_multiple(
     alloc: Global,
-    k: &i64,
-    choice: Held<Choice>,
-) -> Result<Option<Held<Choice>>, AllocError>
-    ensures { IfOk result (λ o. o ≡ Some (within (λ x. Scale k.now x) choice)) }
+    k: i64,
+    found: &mut Option<Held<Choice>>,
+) -> Result<(), AllocError>
+    ensures { OnOk result (found.new ≡ option_map (within (λ x. Scale k x)) found.old) }
 {
-    let Choice { when, yes, no } = choice.into_inner();
-    let yes = Shared::new(alloc, CTerm::Scale(*k, yes))?;
-    let no = Shared::new(alloc, CTerm::Scale(*k, no))?;
-    Ok(Some(Held::new(alloc, Choice { when, yes, no })?))
+    match mem::replace(found, None) {
+        Some(choice) => {
+            let Choice { when, yes, no } = choice.into_inner();
+            put_parts(
+                alloc,
+                when,
+                CTerm::Scale(k, yes),
+                CTerm::Scale(k, no),
+                found,
+            )
+        }
+        None => Ok(()),
+    }
 }
 
-/// A choice in what is divided.
+/// What was found is in what is divided.
 #[inline(never)]
-fn in_quotient(
+fn put_in_quotient(
     alloc: Global,
-    choice: Held<Choice>,
-    k: &i64,
-) -> Result<Option<Held<Choice>>, AllocError>
-    ensures { IfOk result (λ o. o ≡ Some (within (λ x. Div x k.now) choice)) }
+    k: i64,
+    found: &mut Option<Held<Choice>>,
+) -> Result<(), AllocError>
+    ensures { OnOk result (found.new ≡ option_map (within (λ x. Div x k)) found.old) }
 {
-    let Choice { when, yes, no } = choice.into_inner();
-    let yes = Shared::new(alloc, CTerm::Div(yes, *k))?;
-    let no = Shared::new(alloc, CTerm::Div(no, *k))?;
-    Ok(Some(Held::new(alloc, Choice { when, yes, no })?))
+    match mem::replace(found, None) {
+        Some(choice) => {
+            let Choice { when, yes, no } = choice.into_inner();
+            put_parts(alloc, when, CTerm::Div(yes, k), CTerm::Div(no, k), found)
+        }
+        None => Ok(()),
+    }
 }
 
-/// A choice in what a remainder is left of.
+/// What was found is in what a remainder is left of.
 #[inline(never)]
-fn in_remainder(
+fn put_in_remainder(
     alloc: Global,
-    choice: Held<Choice>,
-    k: &i64,
-) -> Result<Option<Held<Choice>>, AllocError>
-    ensures { IfOk result (λ o. o ≡ Some (within (λ x. Mod x k.now) choice)) }
+    k: i64,
+    found: &mut Option<Held<Choice>>,
+) -> Result<(), AllocError>
+    ensures { OnOk result (found.new ≡ option_map (within (λ x. Mod x k)) found.old) }
 {
-    let Choice { when, yes, no } = choice.into_inner();
-    let yes = Shared::new(alloc, CTerm::Mod(yes, *k))?;
-    let no = Shared::new(alloc, CTerm::Mod(no, *k))?;
-    Ok(Some(Held::new(alloc, Choice { when, yes, no })?))
+    match mem::replace(found, None) {
+        Some(choice) => {
+            let Choice { when, yes, no } = choice.into_inner();
+            put_parts(alloc, when, CTerm::Mod(yes, k), CTerm::Mod(no, k), found)
+        }
+        None => Ok(()),
+    }
 }
 
 /// A term's first `Ite` in reading order, one before those inside it. `None` where it has none.
-#[cycle(choices)]
 pub fn find_choice(alloc: Global, t: &CTerm) -> Result<Option<Held<Choice>>, AllocError>
     ensures { IfOk result (λ o. o ≡ first_ite t.now) }
 {
+    let mut found = None;
+    look(alloc, t, &mut found)?;
+    Ok(found)
+}
+
+/// Looks for a term's first `Ite`.
+#[cycle(choices)]
+fn look(alloc: Global, t: &CTerm, found: &mut Option<Held<Choice>>) -> Result<(), AllocError>
+    requires none { found.old ≡ None }
+    ensures { OnOk result (found.new ≡ first_ite t.now) }
+{
     match t {
-        CTerm::Const(_) => Ok(None),
-        CTerm::Slot(_) => Ok(None),
-        CTerm::Param(_) => Ok(None),
-        CTerm::Add(a, b) => find_in_pair(alloc, Pairing::Sum, a, b),
-        CTerm::Sub(a, b) => find_in_pair(alloc, Pairing::Difference, a, b),
-        CTerm::Scale(k, a) => {
-            if let Some(choice) = find_choice(alloc, a.get())? {
-                return in_multiple(alloc, k, choice);
-            }
-            Ok(None)
-        }
-        CTerm::Div(a, k) => find_in_quotient(alloc, a, k),
-        CTerm::Mod(a, k) => find_in_remainder(alloc, a, k),
-        CTerm::Ite(c, a, b) => choice_of(alloc, c, a, b),
+        CTerm::Const(_) => Ok(()),
+        CTerm::Slot(_) => Ok(()),
+        CTerm::Param(_) => Ok(()),
+        CTerm::Add(a, b) => look_in_pair(alloc, Pairing::Sum, a, b, found),
+        CTerm::Sub(a, b) => look_in_pair(alloc, Pairing::Difference, a, b, found),
+        CTerm::Scale(k, a) => look_in_multiple(alloc, *k, a, found),
+        CTerm::Div(a, k) => look_in_quotient(alloc, a, *k, found),
+        CTerm::Mod(a, k) => look_in_remainder(alloc, a, *k, found),
+        CTerm::Ite(c, a, b) => put_choice(alloc, c, a, b, found),
     }
 }
 
+/// Looks in the first part of a sum or a difference, and then in the second.
 #[cycle(choices)]
 #[inline(never)]
-fn find_in_pair(
+fn look_in_pair(
     alloc: Global,
     which: Pairing,
     a: &Shared<CTerm>,
     b: &Shared<CTerm>,
-) -> Result<Option<Held<Choice>>, AllocError>
-    ensures { IfOk result (λ o. o ≡ first_ite (pair_node which a.now b.now)) }
+    found: &mut Option<Held<Choice>>,
+) -> Result<(), AllocError>
+    requires none { found.old ≡ None }
+    ensures { OnOk result (found.new ≡ first_ite (pair_node which a.now b.now)) }
 {
-    if let Some(choice) = find_choice(alloc, a.get())? {
-        return in_first(alloc, which, choice, b);
+    match look(alloc, a.get(), found) {
+        Ok(()) => look_on(alloc, which, a, b, found),
+        Err(error) => Err(error),
     }
-    if let Some(choice) = find_choice(alloc, b.get())? {
-        return in_second(alloc, which, a, choice);
+}
+
+/// Looks in the second part of a sum or a difference where the first has none.
+#[cycle(choices)]
+#[inline(never)]
+fn look_on(
+    alloc: Global,
+    which: Pairing,
+    a: &Shared<CTerm>,
+    b: &Shared<CTerm>,
+    found: &mut Option<Held<Choice>>,
+) -> Result<(), AllocError>
+    requires first { found.old ≡ first_ite a.now }
+    ensures { OnOk result (found.new ≡ first_ite (pair_node which a.now b.now)) }
+{
+    if found.is_some() {
+        return put_in_first(alloc, which, b, found);
     }
-    Ok(None)
+    match look(alloc, b.get(), found) {
+        Ok(()) => put_in_second(alloc, which, a, found),
+        Err(error) => Err(error),
+    }
 }
 
 #[cycle(choices)]
 #[inline(never)]
-fn find_in_quotient(
+fn look_in_multiple(
     alloc: Global,
+    k: i64,
     a: &Shared<CTerm>,
-    k: &i64,
-) -> Result<Option<Held<Choice>>, AllocError>
-    ensures { IfOk result (λ o. o ≡ first_ite (Div a.now k.now)) }
+    found: &mut Option<Held<Choice>>,
+) -> Result<(), AllocError>
+    requires none { found.old ≡ None }
+    ensures { OnOk result (found.new ≡ first_ite (Scale k a.now)) }
 {
-    if let Some(choice) = find_choice(alloc, a.get())? {
-        return in_quotient(alloc, choice, k);
+    match look(alloc, a.get(), found) {
+        Ok(()) => put_in_multiple(alloc, k, found),
+        Err(error) => Err(error),
     }
-    Ok(None)
 }
 
 #[cycle(choices)]
 #[inline(never)]
-fn find_in_remainder(
+fn look_in_quotient(
     alloc: Global,
     a: &Shared<CTerm>,
-    k: &i64,
-) -> Result<Option<Held<Choice>>, AllocError>
-    ensures { IfOk result (λ o. o ≡ first_ite (Mod a.now k.now)) }
+    k: i64,
+    found: &mut Option<Held<Choice>>,
+) -> Result<(), AllocError>
+    requires none { found.old ≡ None }
+    ensures { OnOk result (found.new ≡ first_ite (Div a.now k)) }
 {
-    if let Some(choice) = find_choice(alloc, a.get())? {
-        return in_remainder(alloc, choice, k);
+    match look(alloc, a.get(), found) {
+        Ok(()) => put_in_quotient(alloc, k, found),
+        Err(error) => Err(error),
     }
-    Ok(None)
+}
+
+#[cycle(choices)]
+#[inline(never)]
+fn look_in_remainder(
+    alloc: Global,
+    a: &Shared<CTerm>,
+    k: i64,
+    found: &mut Option<Held<Choice>>,
+) -> Result<(), AllocError>
+    requires none { found.old ≡ None }
+    ensures { OnOk result (found.new ≡ first_ite (Mod a.now k)) }
+{
+    match look(alloc, a.get(), found) {
+        Ok(()) => put_in_remainder(alloc, k, found),
+        Err(error) => Err(error),
+    }
 }

@@ -1,15 +1,17 @@
-// A term's first quotient. Nodes have functions of their own, so that the frames are small, and a deep term is
-// gone through within an ordinary stack.
-ghost use Rattle.std.specs.Prelude.{◌≡◌, IfOk, Some};
+// A term's first quotient. Each kind of node has a function of its own, which leaves what it finds in the place of its
+// caller: so the frames are small, and a deep term is gone through within a small stack.
+ghost use Rattle.std.specs.Prelude.{◌≡◌, IfOk, OnOk, Some, None};
+ghost use Rattle.std.specs.Option.{option_map};
 ghost use Rattle.core_terms.specs.declared.trees.CTerm.TheVariants.{Param, Sub, Scale, Div, Mod};
 ghost use Rattle.meaning_states.specs.Division as division;
-ghost use Rattle.obligations.specs.Settling.{has_quotient, taken_within, first_taken};
+ghost use Rattle.obligations.specs.Settling.{has_quotient, taken_within, first_taken, or_whole};
 ghost use Rattle.core_terms.specs.Senses.{pair_node};
 
 use crate::branches::Taken;
 use crate::pairing::pair_term;
-use core_terms::{CForm, CTerm, Pairing};
+use core_terms::{CTerm, Pairing};
 use std::alloc::{AllocError, Global};
+use std::mem;
 use unity_base::{Held, Shared};
 
 /// Whether a term has a quotient outside of its `Ite`s.
@@ -29,213 +31,266 @@ pub fn has_quotient(t: &CTerm) -> bool
     }
 }
 
-/// A quotient with what it makes of a greater term.
-fn with_rest(
+/// A divisor: 1 where the number is less.
+fn divisor_of(k: i64) -> i64
+    ensures { result ≡ division.divisor k }
+{
+    if 1 <= k { k } else { 1 }
+}
+
+/// What was found is in the second part of a sum or a difference.
+#[inline(never)]
+fn put_in_second(
+    alloc: Global,
+    which: Pairing,
+    a: &Shared<CTerm>,
+    found: &mut Option<Held<Taken>>,
+) -> Result<(), AllocError>
+    ensures { OnOk result (found.new ≡ option_map (taken_within (λ x. pair_node which a.now x)) found.old) }
+{
+    match mem::replace(found, None) {
+        Some(taken) => {
+            let Taken { of, divisor, rest } = taken.into_inner();
+            let whole = pair_term(which, a.share()?, rest);
+            put_rest(alloc, of, divisor, whole, found)
+        }
+        None => Ok(()),
+    }
+}
+
+/// What was found is in the first part of a sum or a difference.
+#[inline(never)]
+fn put_in_first(
+    alloc: Global,
+    which: Pairing,
+    b: &Shared<CTerm>,
+    found: &mut Option<Held<Taken>>,
+) -> Result<(), AllocError>
+    ensures { OnOk result (found.new ≡ option_map (taken_within (λ x. pair_node which x b.now)) found.old) }
+{
+    match mem::replace(found, None) {
+        Some(taken) => {
+            let Taken { of, divisor, rest } = taken.into_inner();
+            let whole = pair_term(which, rest, b.share()?);
+            put_rest(alloc, of, divisor, whole, found)
+        }
+        None => Ok(()),
+    }
+}
+
+/// What was found is in a multiple.
+#[inline(never)]
+fn put_in_multiple(alloc: Global, k: i64, found: &mut Option<Held<Taken>>) -> Result<(), AllocError>
+    ensures { OnOk result (found.new ≡ option_map (taken_within (λ x. Scale k x)) found.old) }
+{
+    match mem::replace(found, None) {
+        Some(taken) => {
+            let Taken { of, divisor, rest } = taken.into_inner();
+            put_rest(alloc, of, divisor, CTerm::Scale(k, rest), found)
+        }
+        None => Ok(()),
+    }
+}
+
+/// What was found is in what is divided; else the quotient is the whole term, and the parameter stands for it.
+#[inline(never)]
+fn put_in_quotient(
+    alloc: Global,
+    v: u32,
+    a: &Shared<CTerm>,
+    k: i64,
+    found: &mut Option<Held<Taken>>,
+) -> Result<(), AllocError>
+    ensures { OnOk result (found.new ≡ or_whole (λ x. Div x k) found.old
+        (record { of = a.now; divisor = division.divisor k; rest = Param v })) }
+{
+    match mem::replace(found, None) {
+        Some(taken) => {
+            let Taken { of, divisor, rest } = taken.into_inner();
+            put_rest(alloc, of, divisor, CTerm::Div(rest, k), found)
+        }
+        None => put_rest(alloc, a.share()?, divisor_of(k), CTerm::Param(v), found),
+    }
+}
+
+/// What was found is in what a remainder is left of; else the remainder is the whole term, and what is divided less
+/// the divisor times the parameter stands for it.
+#[inline(never)]
+fn put_in_remainder(
+    alloc: Global,
+    v: u32,
+    a: &Shared<CTerm>,
+    k: i64,
+    found: &mut Option<Held<Taken>>,
+) -> Result<(), AllocError>
+    ensures { OnOk result (found.new ≡ or_whole (λ x. Mod x k) found.old (record {
+      of = a.now;
+      divisor = division.divisor k;
+      rest = Sub a.now (Scale (division.divisor k) (Param v));
+    })) }
+{
+    match mem::replace(found, None) {
+        Some(taken) => {
+            let Taken { of, divisor, rest } = taken.into_inner();
+            put_rest(alloc, of, divisor, CTerm::Mod(rest, k), found)
+        }
+        None => put_rest(
+            alloc,
+            a.share()?,
+            divisor_of(k),
+            rest_of(alloc, v, a, k)?,
+            found,
+        ),
+    }
+}
+
+/// What is divided less the divisor times a parameter.
+fn rest_of(alloc: Global, v: u32, a: &Shared<CTerm>, k: i64) -> Result<CTerm, AllocError>
+    ensures { IfOk result (λ t. t ≡ Sub a.now (Scale (division.divisor k) (Param v))) }
+{
+    let quotient = Shared::new(alloc, CTerm::Param(v))?;
+    let multiple = Shared::new(alloc, CTerm::Scale(divisor_of(k), quotient))?;
+    Ok(CTerm::Sub(a.share()?, multiple))
+}
+
+/// Leaves a quotient with what it makes of a greater term.
+#[inline(never)]
+fn put_rest(
     alloc: Global,
     of: Shared<CTerm>,
     divisor: i64,
     rest: CTerm,
-) -> Result<Option<Held<Taken>>, AllocError>
-    ensures { IfOk result (λ o. o ≡ Some (record { of = of; divisor = divisor; rest = rest })) }
+    found: &mut Option<Held<Taken>>,
+) -> Result<(), AllocError>
+    ensures { OnOk result (found.new ≡ Some (record { of = of; divisor = divisor; rest = rest })) }
 {
     let rest = Shared::new(alloc, rest)?;
-    Ok(Some(Held::new(alloc, Taken { of, divisor, rest })?))
-}
-
-/// A quotient in the first part of a sum or a difference.
-#[inline(never)]
-fn in_first(
-    alloc: Global,
-    which: Pairing,
-    taken: Held<Taken>,
-    b: &Shared<CTerm>,
-) -> Result<Option<Held<Taken>>, AllocError>
-    ensures { IfOk result (λ o. o ≡ Some (taken_within (λ x. pair_node which x b.now) taken)) }
-{
-    let Taken { of, divisor, rest } = taken.into_inner();
-    let whole = pair_term(which, rest, b.share()?);
-    with_rest(alloc, of, divisor, whole)
-}
-
-/// A quotient in the second part of a sum or a difference.
-#[inline(never)]
-fn in_second(
-    alloc: Global,
-    which: Pairing,
-    a: &Shared<CTerm>,
-    taken: Held<Taken>,
-) -> Result<Option<Held<Taken>>, AllocError>
-    ensures { IfOk result (λ o. o ≡ Some (taken_within (λ x. pair_node which a.now x) taken)) }
-{
-    let Taken { of, divisor, rest } = taken.into_inner();
-    let whole = pair_term(which, a.share()?, rest);
-    with_rest(alloc, of, divisor, whole)
-}
-
-/// A quotient in a multiple.
-#[inline(never)]
-fn in_multiple(
-    alloc: Global,
-    k: &i64,
-    taken: Held<Taken>,
-) -> Result<Option<Held<Taken>>, AllocError>
-    ensures { IfOk result (λ o. o ≡ Some (taken_within (λ x. Scale k.now x) taken)) }
-{
-    let Taken { of, divisor, rest } = taken.into_inner();
-    with_rest(alloc, of, divisor, CTerm::Scale(*k, rest))
-}
-
-/// A quotient in what is divided.
-#[inline(never)]
-fn in_quotient(
-    alloc: Global,
-    taken: Held<Taken>,
-    k: &i64,
-) -> Result<Option<Held<Taken>>, AllocError>
-    ensures { IfOk result (λ o. o ≡ Some (taken_within (λ x. Div x k.now) taken)) }
-{
-    let Taken { of, divisor, rest } = taken.into_inner();
-    with_rest(alloc, of, divisor, CTerm::Div(rest, *k))
-}
-
-/// A quotient in what a remainder is left of.
-#[inline(never)]
-fn in_remainder(
-    alloc: Global,
-    taken: Held<Taken>,
-    k: &i64,
-) -> Result<Option<Held<Taken>>, AllocError>
-    ensures { IfOk result (λ o. o ≡ Some (taken_within (λ x. Mod x k.now) taken)) }
-{
-    let Taken { of, divisor, rest } = taken.into_inner();
-    with_rest(alloc, of, divisor, CTerm::Mod(rest, *k))
-}
-
-/// A divisor: 1 where the number is less.
-fn divisor_of(k: &i64) -> i64
-    ensures { result ≡ division.divisor k.now }
-{
-    if 1 <= *k { *k } else { 1 }
-}
-
-/// A quotient that is the whole term: the parameter stands for it.
-#[inline(never)]
-fn whole_quotient(
-    alloc: Global,
-    v: u32,
-    a: &Shared<CTerm>,
-    k: &i64,
-) -> Result<Option<Held<Taken>>, AllocError>
-    ensures { IfOk result (λ o. o ≡ Some (record { of = a.now; divisor = division.divisor k.now; rest = Param v })) }
-{
-    let of = a.share()?;
-    with_rest(alloc, of, divisor_of(k), CTerm::Param(v))
-}
-
-/// A remainder that is the whole term: what is divided less the divisor times the parameter stands for it.
-#[inline(never)]
-fn whole_remainder(
-    alloc: Global,
-    v: u32,
-    a: &Shared<CTerm>,
-    k: &i64,
-) -> Result<Option<Held<Taken>>, AllocError>
-    ensures { IfOk result (λ o. o ≡ Some (record {
-      of = a.now;
-      divisor = division.divisor k.now;
-      rest = Sub a.now (Scale (division.divisor k.now) (Param v));
-    })) }
-{
-    let divisor = divisor_of(k);
-    let quotient = Shared::new(alloc, CTerm::Param(v))?;
-    let multiple = Shared::new(alloc, CTerm::Scale(divisor, quotient))?;
-    let rest = CTerm::Sub(a.share()?, multiple);
-    with_rest(alloc, a.share()?, divisor, rest)
+    *found = Some(Held::new(alloc, Taken { of, divisor, rest })?);
+    Ok(())
 }
 
 /// A term's first quotient outside of its `Ite`s, operands before their operator, with the parameter of this number
 /// in its place. `None` where it has none.
-#[cycle(quotients)]
 pub fn find_quotient(alloc: Global, v: u32, t: &CTerm) -> Result<Option<Held<Taken>>, AllocError>
     ensures { IfOk result (λ o. o ≡ first_taken v t.now) }
 {
+    let mut found = None;
+    look(alloc, v, t, &mut found)?;
+    Ok(found)
+}
+
+/// Looks for a term's first quotient.
+#[cycle(quotients)]
+fn look(alloc: Global, v: u32, t: &CTerm, found: &mut Option<Held<Taken>>) -> Result<(), AllocError>
+    requires none { found.old ≡ None }
+    ensures { OnOk result (found.new ≡ first_taken v t.now) }
+{
     match t {
-        CTerm::Const(_) => Ok(None),
-        CTerm::Slot(_) => Ok(None),
-        CTerm::Param(_) => Ok(None),
-        CTerm::Add(a, b) => find_in_pair(alloc, v, Pairing::Sum, a, b),
-        CTerm::Sub(a, b) => find_in_pair(alloc, v, Pairing::Difference, a, b),
-        CTerm::Scale(k, a) => find_in_multiple(alloc, v, k, a),
-        CTerm::Div(a, k) => find_in_quotient(alloc, v, a, k),
-        CTerm::Mod(a, k) => find_in_remainder(alloc, v, a, k),
-        CTerm::Ite(..) => Ok(None),
+        CTerm::Const(_) => Ok(()),
+        CTerm::Slot(_) => Ok(()),
+        CTerm::Param(_) => Ok(()),
+        CTerm::Add(a, b) => look_in_pair(alloc, v, Pairing::Sum, a, b, found),
+        CTerm::Sub(a, b) => look_in_pair(alloc, v, Pairing::Difference, a, b, found),
+        CTerm::Scale(k, a) => look_in_multiple(alloc, v, *k, a, found),
+        CTerm::Div(a, k) => look_in_quotient(alloc, v, a, *k, found),
+        CTerm::Mod(a, k) => look_in_remainder(alloc, v, a, *k, found),
+        CTerm::Ite(..) => Ok(()),
     }
 }
 
+/// Looks in the first part of a sum or a difference, and then in the second.
 #[cycle(quotients)]
 #[inline(never)]
-fn find_in_pair(
+fn look_in_pair(
     alloc: Global,
     v: u32,
     which: Pairing,
     a: &Shared<CTerm>,
     b: &Shared<CTerm>,
-) -> Result<Option<Held<Taken>>, AllocError>
-    ensures { IfOk result (λ o. o ≡ first_taken v (pair_node which a.now b.now)) }
+    found: &mut Option<Held<Taken>>,
+) -> Result<(), AllocError>
+    requires none { found.old ≡ None }
+    ensures { OnOk result (found.new ≡ first_taken v (pair_node which a.now b.now)) }
 {
-    if let Some(taken) = find_quotient(alloc, v, a.get())? {
-        return in_first(alloc, which, taken, b);
+    match look(alloc, v, a.get(), found) {
+        Ok(()) => look_on(alloc, v, which, a, b, found),
+        Err(error) => Err(error),
     }
-    if let Some(taken) = find_quotient(alloc, v, b.get())? {
-        return in_second(alloc, which, a, taken);
+}
+
+/// Looks in the second part of a sum or a difference where the first has none.
+#[cycle(quotients)]
+#[inline(never)]
+fn look_on(
+    alloc: Global,
+    v: u32,
+    which: Pairing,
+    a: &Shared<CTerm>,
+    b: &Shared<CTerm>,
+    found: &mut Option<Held<Taken>>,
+) -> Result<(), AllocError>
+    requires first { found.old ≡ first_taken v a.now }
+    ensures { OnOk result (found.new ≡ first_taken v (pair_node which a.now b.now)) }
+{
+    if found.is_some() {
+        return put_in_first(alloc, which, b, found);
     }
-    Ok(None)
+    match look(alloc, v, b.get(), found) {
+        Ok(()) => put_in_second(alloc, which, a, found),
+        Err(error) => Err(error),
+    }
 }
 
 #[cycle(quotients)]
 #[inline(never)]
-fn find_in_multiple(
+fn look_in_multiple(
     alloc: Global,
     v: u32,
-    k: &i64,
+    k: i64,
     a: &Shared<CTerm>,
-) -> Result<Option<Held<Taken>>, AllocError>
-    ensures { IfOk result (λ o. o ≡ first_taken v (Scale k.now a.now)) }
+    found: &mut Option<Held<Taken>>,
+) -> Result<(), AllocError>
+    requires none { found.old ≡ None }
+    ensures { OnOk result (found.new ≡ first_taken v (Scale k a.now)) }
 {
-    if let Some(taken) = find_quotient(alloc, v, a.get())? {
-        return in_multiple(alloc, k, taken);
+    match look(alloc, v, a.get(), found) {
+        Ok(()) => put_in_multiple(alloc, k, found),
+        Err(error) => Err(error),
     }
-    Ok(None)
 }
 
 #[cycle(quotients)]
 #[inline(never)]
-fn find_in_quotient(
+fn look_in_quotient(
     alloc: Global,
     v: u32,
     a: &Shared<CTerm>,
-    k: &i64,
-) -> Result<Option<Held<Taken>>, AllocError>
-    ensures { IfOk result (λ o. o ≡ first_taken v (Div a.now k.now)) }
+    k: i64,
+    found: &mut Option<Held<Taken>>,
+) -> Result<(), AllocError>
+    requires none { found.old ≡ None }
+    ensures { OnOk result (found.new ≡ first_taken v (Div a.now k)) }
 {
-    if let Some(taken) = find_quotient(alloc, v, a.get())? {
-        return in_quotient(alloc, taken, k);
+    match look(alloc, v, a.get(), found) {
+        Ok(()) => put_in_quotient(alloc, v, a, k, found),
+        Err(error) => Err(error),
     }
-    whole_quotient(alloc, v, a, k)
 }
 
 #[cycle(quotients)]
 #[inline(never)]
-fn find_in_remainder(
+fn look_in_remainder(
     alloc: Global,
     v: u32,
     a: &Shared<CTerm>,
-    k: &i64,
-) -> Result<Option<Held<Taken>>, AllocError>
-    ensures { IfOk result (λ o. o ≡ first_taken v (Mod a.now k.now)) }
+    k: i64,
+    found: &mut Option<Held<Taken>>,
+) -> Result<(), AllocError>
+    requires none { found.old ≡ None }
+    ensures { OnOk result (found.new ≡ first_taken v (Mod a.now k)) }
 {
-    if let Some(taken) = find_quotient(alloc, v, a.get())? {
-        return in_remainder(alloc, taken, k);
+    match look(alloc, v, a.get(), found) {
+        Ok(()) => put_in_remainder(alloc, v, a, k, found),
+        Err(error) => Err(error),
     }
-    whole_remainder(alloc, v, a, k)
 }

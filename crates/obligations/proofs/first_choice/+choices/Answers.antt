@@ -1,30 +1,54 @@
-use Rattle.std.proofs.Common.{◌∙◌, ap, sym}
-use Rattle.std.proofs.lemmas.Result.{IfOk-weaker}
-use Rattle.obligations.specs.Settling.{first_ite}
-use Rattle.obligations.proofs.SettlingLaws.{pair-first, pair-second, pair-none, ite-Ite}
+use Rattle.std.proofs.Common.{rules, w64, FitsSigned, ap, sym, ◌∙◌}
+use Rattle.std.proofs.lemmas.Int.{to_z-of_z}
+use Rattle.std.proofs.lemmas.Result.{on_ok_weaker}
+use Rattle.std.specs.Option.{option_map}
+use Rattle.core_terms.specs.declared.trees.CTerm.TheVariants.{Scale, Div, Mod}
+use Rattle.obligations.specs.Settling.{within, first_ite}
+use Rattle.obligations.proofs.TreeLaws.{choice-in-first, choice-in-second, choice-in-multiple, choice-in-quotient}
+use Rattle.obligations.proofs.TreeLaws.{choice-in-remainder, ite-Ite}
 use Rattle.obligations.proofs.first_choice.+choices.Goals as goal
 
-pub find_choice-returns-in-Ite : goal.find_choice-returns-in-Ite
-find_choice-returns-in-Ite t c =
-    IfOk-weaker c.choice_of.result _ _
-    (λ o h. h ∙ sym (ap first_ite c.in-Ite.is ∙ ite-Ite c.in-Ite.c c.in-Ite.a c.in-Ite.b))
-    c.choice_of.ensures
+pub look-returns-in-Ite : goal.look-returns-in-Ite
+look-returns-in-Ite t c =
+    on_ok_weaker c.put_choice.result
+    (λ h. h ∙ sym (ap first_ite c.in-Ite.is ∙ ite-Ite c.in-Ite.c c.in-Ite.a c.in-Ite.b)) c.put_choice.ensures
 
-pub find_in_pair-returns-in-Some : goal.find_in_pair-returns-in-Some
-find_in_pair-returns-in-Some t c =
-    let some = ap first_ite (sym c.get.ensures) ∙ sym c.in_ok-choice.ensures ∙ c.in-Some.is in
-    IfOk-weaker c.in_first.result _ _
-    (λ o h. pair-first c.args.which c.args.a.now c.args.b.now c.in-Some.choice o some h) c.in_first.ensures
+pub look_in_multiple-returns-in-Ok : goal.look_in_multiple-returns-in-Ok
+look_in_multiple-returns-in-Ok t c =
+    let fits : FitsSigned w64 c.args.k = search rules in
+    let part = c.in-Ok.ensures ∙ ap first_ite c.get.ensures in
+    on_ok_weaker c.put_in_multiple.result
+    (λ h. h ∙ ap (λ z. option_map (within (λ x. Scale z x)) c.look.new.found)
+    (to_z-of_z w64 c.args.k fits)
+    ∙ choice-in-multiple c.args.k c.args.a.now c.look.new.found part) c.put_in_multiple.ensures
 
-pub find_in_pair-returns-in-Some-2 : goal.find_in_pair-returns-in-Some-2
-find_in_pair-returns-in-Some-2 t c =
-    let none = ap first_ite (sym c.get.ensures) ∙ sym c.in_ok-choice.ensures ∙ c.in_default.is in
-    let some = ap first_ite (sym c.get-2.ensures) ∙ sym c.in_ok-choice-2.ensures ∙ c.in-Some-2.is in
-    IfOk-weaker c.in_second.result _ _
-    (λ o h. pair-second c.args.which c.args.a.now c.args.b.now c.in-Some-2.choice o none some h) c.in_second.ensures
+pub look_in_quotient-returns-in-Ok : goal.look_in_quotient-returns-in-Ok
+look_in_quotient-returns-in-Ok t c =
+    let fits : FitsSigned w64 c.args.k = search rules in
+    let part = c.in-Ok.ensures ∙ ap first_ite c.get.ensures in
+    on_ok_weaker c.put_in_quotient.result
+    (λ h. h ∙ ap (λ z. option_map (within (λ x. Div x z)) c.look.new.found)
+    (to_z-of_z w64 c.args.k fits)
+    ∙ choice-in-quotient c.args.a.now c.args.k c.look.new.found part) c.put_in_quotient.ensures
 
-pub find_in_pair-returns : goal.find_in_pair-returns
-find_in_pair-returns t c =
-    let none = ap first_ite (sym c.get.ensures) ∙ sym c.in_ok-choice.ensures ∙ c.in_default.is in
-    let other = ap first_ite (sym c.get-2.ensures) ∙ sym c.in_ok-choice-2.ensures ∙ c.in_default-2.is in
-    pair-none c.args.which c.args.a.now c.args.b.now none other
+pub look_in_remainder-returns-in-Ok : goal.look_in_remainder-returns-in-Ok
+look_in_remainder-returns-in-Ok t c =
+    let fits : FitsSigned w64 c.args.k = search rules in
+    let part = c.in-Ok.ensures ∙ ap first_ite c.get.ensures in
+    on_ok_weaker c.put_in_remainder.result
+    (λ h. h ∙ ap (λ z. option_map (within (λ x. Mod x z)) c.look.new.found)
+    (to_z-of_z w64 c.args.k fits)
+    ∙ choice-in-remainder c.args.a.now c.args.k c.look.new.found part) c.put_in_remainder.ensures
+
+pub look_on-returns-then-is_some : goal.look_on-returns-then-is_some
+look_on-returns-then-is_some t c =
+    on_ok_weaker c.put_in_first.result
+    (λ h. h ∙ choice-in-first c.args.which c.args.a.now c.args.b.now c.args.found.now c.requires.first
+    (sym c.is_some.ensures ∙ c.if-is_some.true)) c.put_in_first.ensures
+
+pub look_on-returns-in-Ok : goal.look_on-returns-in-Ok
+look_on-returns-in-Ok t c =
+    let second = c.in-Ok.ensures ∙ ap first_ite c.get.ensures in
+    on_ok_weaker c.put_in_second.result
+    (λ h. h ∙ choice-in-second c.args.which c.args.a.now c.args.b.now c.args.found.now c.look.new.found
+    c.requires.first (sym c.is_some.ensures ∙ c.if-is_some.false) second) c.put_in_second.ensures

@@ -1,51 +1,49 @@
-use Rattle.std.proofs.Common.{◌∙◌, ap, refl, sym}
-use Rattle.std.proofs.lemmas.Result.{IfOk-weaker}
-use Rattle.core_terms.specs.declared.trees.CTerm.TheVariants.{Div, Mod}
-use Rattle.core_terms.specs.Senses.{pair_node}
-use Rattle.obligations.specs.Settling.{first_taken}
-use Rattle.obligations.proofs.TakenLaws.{taken-first, taken-second, taken-pair, taken-none}
-use Rattle.obligations.proofs.TakenLaws.{whole-quotient, whole-remainder}
+use Rattle.std.proofs.Common.{rules, w64, FitsSigned, ap, sym, ◌∙◌}
+use Rattle.std.proofs.lemmas.Int.{to_z-of_z}
+use Rattle.std.proofs.lemmas.Result.{on_ok_weaker}
+use Rattle.std.specs.Option.{option_map}
+use Rattle.core_terms.specs.declared.trees.CTerm.TheVariants.{Scale, Div, Mod}
+use Rattle.obligations.specs.Settling.{taken_within, first_taken, or_whole}
+use Rattle.obligations.proofs.TakenLaws.{taken-in-first, taken-in-second, taken-in-multiple, taken-in-quotient}
+use Rattle.obligations.proofs.TakenLaws.{taken-in-remainder, whole_quotient, whole_remainder}
 use Rattle.obligations.proofs.first_quotient.+quotients.Goals as goal
 
-pub find_in_pair-returns-in-Some : goal.find_in_pair-returns-in-Some
-find_in_pair-returns-in-Some t c =
-    let v = c.args.v in
-    let which = c.args.which in
-    let some = ap (first_taken v) (sym c.get.ensures) ∙ sym c.in_ok-taken.ensures ∙ c.in-Some.is in
-    IfOk-weaker c.in_first.result _ _
-    (λ o h. taken-first v (pair_node which) (taken-pair v which) c.args.a.now c.args.b.now c.in-Some.taken o some h)
-    c.in_first.ensures
+pub look_in_multiple-returns-in-Ok : goal.look_in_multiple-returns-in-Ok
+look_in_multiple-returns-in-Ok t c =
+    let fits : FitsSigned w64 c.args.k = search rules in
+    let part = c.in-Ok.ensures ∙ ap (first_taken c.args.v) c.get.ensures in
+    on_ok_weaker c.put_in_multiple.result
+    (λ h. h ∙ ap (λ z. option_map (taken_within (λ x. Scale z x)) c.look.new.found)
+    (to_z-of_z w64 c.args.k fits)
+    ∙ taken-in-multiple c.args.v c.args.k c.args.a.now c.look.new.found part) c.put_in_multiple.ensures
 
-pub find_in_pair-returns-in-Some-2 : goal.find_in_pair-returns-in-Some-2
-find_in_pair-returns-in-Some-2 t c =
-    let v = c.args.v in
-    let which = c.args.which in
-    let none = ap (first_taken v) (sym c.get.ensures) ∙ sym c.in_ok-taken.ensures ∙ c.in_default.is in
-    let some = ap (first_taken v) (sym c.get-2.ensures) ∙ sym c.in_ok-taken-2.ensures ∙ c.in-Some-2.is in
-    IfOk-weaker c.in_second.result _ _
-    (λ o h. taken-second v (pair_node which) (taken-pair v which) c.args.a.now c.args.b.now c.in-Some-2.taken o none
-    some h)
-    c.in_second.ensures
+pub look_in_quotient-returns-in-Ok : goal.look_in_quotient-returns-in-Ok
+look_in_quotient-returns-in-Ok t c =
+    let fits : FitsSigned w64 c.args.k = search rules in
+    let part = c.in-Ok.ensures ∙ ap (first_taken c.args.v) c.get.ensures in
+    on_ok_weaker c.put_in_quotient.result
+    (λ h. h ∙ ap (λ z. or_whole (λ x. Div x z) c.look.new.found (whole_quotient c.args.v c.args.a.now z))
+    (to_z-of_z w64 c.args.k fits)
+    ∙ taken-in-quotient c.args.v c.args.a.now c.args.k c.look.new.found part) c.put_in_quotient.ensures
 
-pub find_in_pair-returns : goal.find_in_pair-returns
-find_in_pair-returns t c =
-    let v = c.args.v in
-    let none = ap (first_taken v) (sym c.get.ensures) ∙ sym c.in_ok-taken.ensures ∙ c.in_default.is in
-    let other = ap (first_taken v) (sym c.get-2.ensures) ∙ sym c.in_ok-taken-2.ensures ∙ c.in_default-2.is in
-    taken-none v c.args.which c.args.a.now c.args.b.now none other
+pub look_in_remainder-returns-in-Ok : goal.look_in_remainder-returns-in-Ok
+look_in_remainder-returns-in-Ok t c =
+    let fits : FitsSigned w64 c.args.k = search rules in
+    let part = c.in-Ok.ensures ∙ ap (first_taken c.args.v) c.get.ensures in
+    on_ok_weaker c.put_in_remainder.result
+    (λ h. h ∙ ap (λ z. or_whole (λ x. Mod x z) c.look.new.found (whole_remainder c.args.v c.args.a.now z))
+    (to_z-of_z w64 c.args.k fits)
+    ∙ taken-in-remainder c.args.v c.args.a.now c.args.k c.look.new.found part) c.put_in_remainder.ensures
 
-pub find_in_quotient-returns : goal.find_in_quotient-returns
-find_in_quotient-returns t c =
-    let v = c.args.v in
-    let none = ap (first_taken v) (sym c.get.ensures) ∙ sym c.in_ok-taken.ensures ∙ c.in_default.is in
-    IfOk-weaker c.whole_quotient.result _ _
-    (λ o h. whole-quotient v (Div c.args.a.now c.args.k.now) c.args.a.now c.args.k.now o refl none h)
-    c.whole_quotient.ensures
+pub look_on-returns-then-is_some : goal.look_on-returns-then-is_some
+look_on-returns-then-is_some t c =
+    on_ok_weaker c.put_in_first.result
+    (λ h. h ∙ taken-in-first c.args.v c.args.which c.args.a.now c.args.b.now c.args.found.now c.requires.first
+    (sym c.is_some.ensures ∙ c.if-is_some.true)) c.put_in_first.ensures
 
-pub find_in_remainder-returns : goal.find_in_remainder-returns
-find_in_remainder-returns t c =
-    let v = c.args.v in
-    let none = ap (first_taken v) (sym c.get.ensures) ∙ sym c.in_ok-taken.ensures ∙ c.in_default.is in
-    IfOk-weaker c.whole_remainder.result _ _
-    (λ o h. whole-remainder v (Mod c.args.a.now c.args.k.now) c.args.a.now c.args.k.now o refl none h)
-    c.whole_remainder.ensures
+pub look_on-returns-in-Ok : goal.look_on-returns-in-Ok
+look_on-returns-in-Ok t c =
+    let second = c.in-Ok.ensures ∙ ap (first_taken c.args.v) c.get.ensures in
+    on_ok_weaker c.put_in_second.result
+    (λ h. h ∙ taken-in-second c.args.v c.args.which c.args.a.now c.args.b.now c.args.found.now c.look.new.found
+    c.requires.first (sym c.is_some.ensures ∙ c.if-is_some.false) second) c.put_in_second.ensures

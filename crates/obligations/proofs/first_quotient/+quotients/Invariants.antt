@@ -2,17 +2,20 @@ use Rattle.std.proofs.Common.{◌+◌, ◌*◌, max}
 use Rattle.core_terms.specs.declared.trees.CTerm.{size-CTerm}
 use Rattle.obligations.proofs.first_quotient.+quotients.Given as goal
 
-abbrev pub decreases-find_quotient : goal.decreases-find_quotient
-decreases-find_quotient l = 2 * size-CTerm l.t.now
+abbrev pub decreases-look : goal.decreases-look
+decreases-look l = 3 * size-CTerm l.t.now
 
-abbrev pub decreases-find_in_pair : goal.decreases-find_in_pair
-decreases-find_in_pair l = 2 * max (size-CTerm l.a.now) (size-CTerm l.b.now) + 1
+abbrev pub decreases-look_in_pair : goal.decreases-look_in_pair
+decreases-look_in_pair l = 3 * max (size-CTerm l.a.now) (size-CTerm l.b.now) + 2
 
-abbrev pub decreases-find_in_multiple : goal.decreases-find_in_multiple
-decreases-find_in_multiple l = 2 * size-CTerm l.a.now + 1
+abbrev pub decreases-look_on : goal.decreases-look_on
+decreases-look_on l = 3 * max (size-CTerm l.a.now) (size-CTerm l.b.now) + 1
 
-abbrev pub decreases-find_in_quotient : goal.decreases-find_in_quotient
-decreases-find_in_quotient l = 2 * size-CTerm l.a.now + 1
+abbrev pub decreases-look_in_multiple : goal.decreases-look_in_multiple
+decreases-look_in_multiple l = 3 * size-CTerm l.a.now + 1
 
-abbrev pub decreases-find_in_remainder : goal.decreases-find_in_remainder
-decreases-find_in_remainder l = 2 * size-CTerm l.a.now + 1
+abbrev pub decreases-look_in_quotient : goal.decreases-look_in_quotient
+decreases-look_in_quotient l = 3 * size-CTerm l.a.now + 1
+
+abbrev pub decreases-look_in_remainder : goal.decreases-look_in_remainder
+decreases-look_in_remainder l = 3 * size-CTerm l.a.now + 1
