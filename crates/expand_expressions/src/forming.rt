@@ -27,7 +27,7 @@ use crate::words::word;
 use case_tables::{Symbol, Word};
 use expand_rules::Formed;
 use std::alloc::Global;
-use unity_base::Seq;
+use unity_base::{Held, Seq};
 use unity_syntax::{Expr, Name, Operator, Range};
 
 /// What an expression becomes: a term or a formula, folded, with always names put in place and quantifiers
@@ -43,46 +43,23 @@ pub fn form(alloc: Global, e: &Expr, env: &Env, known: &Known) -> Result<Formed,
     ensures light { IfOk result (λ f. f.measure.most ≤ 2 ^ 62) }
 {
     match e {
-        Expr::Implies { at: _, left, right } => {
-            let left = form(alloc, left.get(), env, known)?;
-            let right = form(alloc, right.get(), env, known)?;
-            implied(alloc, left, right)
-        }
-        Expr::And { at: _, first, rest } => {
-            let first = form(alloc, first.get(), env, known)?;
-            all(alloc, Joint::And, first, rest, env, known)
-        }
-        Expr::Or { at: _, first, rest } => {
-            let first = form(alloc, first.get(), env, known)?;
-            all(alloc, Joint::Or, first, rest, env, known)
-        }
-        Expr::Not { at: _, of } => {
-            let of = form(alloc, of.get(), env, known)?;
-            denied(alloc, of)
-        }
+        Expr::Implies { at: _, left, right } => implying(alloc, left, right, env, known),
+        Expr::And { at: _, first, rest } => all(alloc, Joint::And, rest, first, env, known),
+        Expr::Or { at: _, first, rest } => all(alloc, Joint::Or, rest, first, env, known),
+        Expr::Not { at: _, of } => denying(alloc, of, env, known),
         Expr::Compare {
             at: _,
             left,
             relation,
             right,
-        } => {
-            let left = form(alloc, left.get(), env, known)?;
-            let right = form(alloc, right.get(), env, known)?;
-            compared(alloc, *relation, left, right)
-        }
+        } => comparing(alloc, left, *relation, right, env, known),
         Expr::Sum {
             at: _,
             minus,
             first,
             rest,
-        } => {
-            let first = form(alloc, first.get(), env, known)?;
-            added(alloc, *minus, first, rest, env, known)
-        }
-        Expr::Product { at: _, first, rest } => {
-            let first = form(alloc, first.get(), env, known)?;
-            multiplied(alloc, first, rest, env, known)
-        }
+        } => added(alloc, *minus, rest, first, env, known),
+        Expr::Product { at: _, first, rest } => multiplied(alloc, rest, first, env, known),
         Expr::Number { at: _, number } => literal(alloc, *number),
         Expr::True { at: _ } => limited(top(alloc)?),
         Expr::False { at: _ } => limited(bottom(alloc)?),
@@ -104,24 +81,77 @@ pub fn form(alloc: Global, e: &Expr, env: &Env, known: &Known) -> Result<Formed,
     }
 }
 
+// An implication.
+#[cycle(form)]
+fn implying(
+    alloc: Global,
+    left: &Held<Expr>,
+    right: &Held<Expr>,
+    env: &Env,
+    known: &Known,
+) -> Result<Formed, Refusal>
+    requires ready { IsReady known.now }
+    ensures formed { GivesCore result (spec.implication (formed left.now (scope known.now env.now))
+        (formed right.now (scope known.now env.now))) }
+    ensures sound { IfOk result IsSound }
+    ensures light { IfOk result (λ f. f.measure.most ≤ 2 ^ 62) }
+{
+    let left = form(alloc, left.get(), env, known)?;
+    let right = form(alloc, right.get(), env, known)?;
+    implied(alloc, left, right)
+}
+
+// A denial.
+#[cycle(form)]
+fn denying(alloc: Global, of: &Held<Expr>, env: &Env, known: &Known) -> Result<Formed, Refusal>
+    requires ready { IsReady known.now }
+    ensures formed { GivesCore result (spec.denial (formed of.now (scope known.now env.now))) }
+    ensures sound { IfOk result IsSound }
+    ensures light { IfOk result (λ f. f.measure.most ≤ 2 ^ 62) }
+{
+    let of = form(alloc, of.get(), env, known)?;
+    denied(alloc, of)
+}
+
+// A comparison.
+#[cycle(form)]
+fn comparing(
+    alloc: Global,
+    left: &Held<Expr>,
+    relation: Symbol,
+    right: &Held<Expr>,
+    env: &Env,
+    known: &Known,
+) -> Result<Formed, Refusal>
+    requires ready { IsReady known.now }
+    ensures formed { GivesCore result (spec.comparison relation (formed left.now (scope known.now env.now))
+        (formed right.now (scope known.now env.now))) }
+    ensures sound { IfOk result IsSound }
+    ensures light { IfOk result (λ f. f.measure.most ≤ 2 ^ 62) }
+{
+    let left = form(alloc, left.get(), env, known)?;
+    let right = form(alloc, right.get(), env, known)?;
+    compared(alloc, relation, left, right)
+}
+
 // A part, with those that follow it.
 #[cycle(form)]
 fn all(
     alloc: Global,
     joint: Joint,
-    first: Formed,
     rest: &Seq<Expr>,
+    first: &Held<Expr>,
     env: &Env,
     known: &Known,
 ) -> Result<Formed, Refusal>
     requires ready { IsReady known.now }
-    requires sound { IsSound first }
-    requires light { first.measure.most ≤ 2 ^ 62 }
-    ensures formed { GivesCore result (fold (joint_of joint) (begin_of joint first)
+    ensures formed { GivesCore result (fold (joint_of joint)
+        (begin_of joint (formed first.now (scope known.now env.now)))
         (map (λ (x : Expr). formed x (scope known.now env.now)) rest.now)) }
     ensures sound { IfOk result IsSound }
     ensures light { IfOk result (λ f. f.measure.most ≤ 2 ^ 62) }
 {
+    let first = form(alloc, first.get(), env, known)?;
     let mut whole = begun(alloc, joint, first)?;
     for e in rest.as_slice() {
         let next = form(alloc, e, env, known)?;
@@ -130,25 +160,41 @@ fn all(
     Ok(whole)
 }
 
+// The first part of a sum, with its sign.
+#[cycle(form)]
+fn first_part(
+    alloc: Global,
+    minus: bool,
+    first: &Held<Expr>,
+    env: &Env,
+    known: &Known,
+) -> Result<Formed, Refusal>
+    requires ready { IsReady known.now }
+    ensures formed { GivesCore result (spec.signed minus (formed first.now (scope known.now env.now))) }
+    ensures sound { IfOk result IsSound }
+    ensures light { IfOk result (λ f. f.measure.most ≤ 2 ^ 62) }
+{
+    let first = form(alloc, first.get(), env, known)?;
+    signed(alloc, minus, first)
+}
+
 // The parts of a sum.
 #[cycle(form)]
 fn added(
     alloc: Global,
     minus: bool,
-    first: Formed,
     rest: &Seq<(Symbol, Expr)>,
+    first: &Held<Expr>,
     env: &Env,
     known: &Known,
 ) -> Result<Formed, Refusal>
     requires ready { IsReady known.now }
-    requires sound { IsSound first }
-    requires light { first.measure.most ≤ 2 ^ 62 }
-    ensures formed { GivesCore result (fold spec.plus (spec.signed minus first)
+    ensures formed { GivesCore result (fold spec.plus (spec.signed minus (formed first.now (scope known.now env.now)))
         (map (λ (p : Symbol × Expr). (p.0, formed p.1 (scope known.now env.now))) rest.now)) }
     ensures sound { IfOk result IsSound }
     ensures light { IfOk result (λ f. f.measure.most ≤ 2 ^ 62) }
 {
-    let mut whole = signed(alloc, minus, first)?;
+    let mut whole = first_part(alloc, minus, first, env, known)?;
     for part in rest.as_slice() {
         let next = form(alloc, &part.1, env, known)?;
         whole = plus(alloc, part.0, whole, next)?;
@@ -160,20 +206,18 @@ fn added(
 #[cycle(form)]
 fn multiplied(
     alloc: Global,
-    first: Formed,
     rest: &Seq<(Operator, Expr)>,
+    first: &Held<Expr>,
     env: &Env,
     known: &Known,
 ) -> Result<Formed, Refusal>
     requires ready { IsReady known.now }
-    requires sound { IsSound first }
-    requires light { first.measure.most ≤ 2 ^ 62 }
-    ensures formed { GivesCore result (fold spec.factored first
+    ensures formed { GivesCore result (fold spec.factored (formed first.now (scope known.now env.now))
         (map (spec.factor_in (scope known.now env.now)) rest.now)) }
     ensures sound { IfOk result IsSound }
     ensures light { IfOk result (λ f. f.measure.most ≤ 2 ^ 62) }
 {
-    let mut whole = first;
+    let mut whole = form(alloc, first.get(), env, known)?;
     for part in rest.as_slice() {
         let next = form(alloc, &part.1, env, known)?;
         whole = factored(alloc, part.0, first_byte(&part.1), whole, next)?;

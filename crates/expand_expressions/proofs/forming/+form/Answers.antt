@@ -1,5 +1,5 @@
 use Rattle.std.proofs.Common.{◌≡◌, ℕ, ℤ, pos, ◌+ℤ◌, List, ◌∷◌, map, drop, ◌&&◌, Err}
-use Rattle.std.proofs.Common.{sym, ap, ◌∙◌, subst, arith, refl}
+use Rattle.std.proofs.Common.{sym, ap, ◌∙◌, subst, arith}
 use Rattle.std.proofs.lemmas.Result.{err_from_is_err_and}
 use Rattle.std.specs.Prelude.{fold}
 use Rattle.case_tables.specs.declared.symbol_table.Symbol.{Symbol}
@@ -8,15 +8,14 @@ use Rattle.meaning_documents.specs.Value.{count_up}
 use Rattle.meaning_documents.specs.Names.{variable_named}
 use Rattle.expand_rules.specs.declared.cores.Bound.{Bound}
 use Rattle.expand_rules.specs.Measures.{quantifier_measure, range_misfit}
-use Rattle.expand_rules.specs.Forming.{with_number, conjunction, disjunction, factored, factor_in, plus}
+use Rattle.expand_rules.specs.Forming.{with_number, implication, factored, factor_in, plus}
 use Rattle.expand_rules.specs.Forming.{signed, denial, comparison, gathered, numbers, fit_values, quantified}
 use Rattle.expand_rules.specs.Forming.{formed}
-use Rattle.expand_rules.proofs.Equations.{formed-And, formed-Or, formed-Not, formed-Compare, formed-Sum}
+use Rattle.expand_rules.proofs.Equations.{formed-And, formed-Or, formed-Sum}
 use Rattle.expand_rules.proofs.Equations.{formed-Product, formed-Element, formed-Quantified}
-use Rattle.expand_rules.proofs.Growing.{denial_keeps, comparison_first, comparison_second}
+use Rattle.expand_rules.proofs.Growing.{denial_keeps, disjunction_second, comparison_first, comparison_second}
 use Rattle.expand_rules.proofs.Growing.{signed_keeps, element_keeps, quantified_keeps, factored_first, factored_second}
 use Rattle.expand_rules.proofs.Growing.{plus_first, plus_second, large_of_size}
-use Rattle.expand_expressions.specs.declared.joining.Joint.{Joint}
 use Rattle.expand_expressions.specs.Sound.{GivesCore, GivesWhole}
 use Rattle.expand_expressions.specs.Joints.{joint_of, begin_of, word_joint}
 use Rattle.expand_expressions.specs.Places.{scope, bound_names}
@@ -26,124 +25,55 @@ use Rattle.expand_expressions.proofs.Growth.{marked_joined, instances_begin, ins
 use Rattle.expand_expressions.proofs.Growth.{instance_large, joined_large, whole_large, begin_large, first_large}
 use Rattle.expand_expressions.proofs.forming.+form.Goals as goal
 
-pub form-returns-in_err-first-in-And-clause-formed : goal.form-returns-in_err-first-in-And-clause-formed
-form-returns-in_err-first-in-And-clause-formed t c =
-    let s = scope c.args.known.now c.args.env.now in
-    let f = λ (x : Expr). formed x s in
-    let p = err_from_is_err_and c.from_residual-in_err-first-in-And.result
-    c.from_residual-in_err-first-in-And.ensures.1 in
-    rw (p.1, p.2, c.in-And.is, formed-And)
-    (passes_at c.in_err-first-in-And.field-0.0 f c.get-in-And.result.now c.in-And.first
-    (fold conjunction (begin_of Joint.And (f c.in-And.first)) (map f c.in-And.rest))
-    c.get-in-And.ensures (λ h. fold_past Joint.And (begin_of Joint.And (f c.in-And.first)) (map f c.in-And.rest)
-    (begin_keeps Joint.And (f c.in-And.first) h)) c.in_err-first-in-And.ensures.formed)
+pub form-returns-in-And-clause-formed : goal.form-returns-in-And-clause-formed
+form-returns-in-And-clause-formed t c = rw (c.in-And.is, formed-And) c.all.ensures.formed
 
-pub form-returns-in_ok-first-in-And-clause-formed : goal.form-returns-in_ok-first-in-And-clause-formed
-form-returns-in_ok-first-in-And-clause-formed t c =
-    let s = scope c.args.known.now c.args.env.now in
-    let f = λ (x : Expr). formed x s in
-    rw (c.in-And.is, formed-And)
-    (subst (λ a. GivesCore c.all.result (fold conjunction (begin_of Joint.And a) (map f c.in-And.rest)))
-    (c.in_ok-first-in-And.ensures.formed ∙ ap f c.get-in-And.ensures) c.all.ensures.formed)
+pub form-returns-in-Or-clause-formed : goal.form-returns-in-Or-clause-formed
+form-returns-in-Or-clause-formed t c = rw (c.in-Or.is, formed-Or) c.all-in-Or.ensures.formed
 
-pub form-returns-in_err-first-in-Or-clause-formed : goal.form-returns-in_err-first-in-Or-clause-formed
-form-returns-in_err-first-in-Or-clause-formed t c =
-    let s = scope c.args.known.now c.args.env.now in
-    let f = λ (x : Expr). formed x s in
-    let p = err_from_is_err_and c.from_residual-in_err-first-in-Or.result c.from_residual-in_err-first-in-Or.ensures.1
-    in
-    rw (p.1, p.2, c.in-Or.is, formed-Or)
-    (passes_at c.in_err-first-in-Or.field-0.0 f c.get-in-Or.result.now c.in-Or.first
-    (fold disjunction (begin_of Joint.Or (f c.in-Or.first)) (map f c.in-Or.rest))
-    c.get-in-Or.ensures (λ h. fold_past Joint.Or (begin_of Joint.Or (f c.in-Or.first)) (map f c.in-Or.rest)
-    (begin_keeps Joint.Or (f c.in-Or.first) h)) c.in_err-first-in-Or.ensures.formed)
+pub form-returns-in-Product-clause-formed : goal.form-returns-in-Product-clause-formed
+form-returns-in-Product-clause-formed t c = rw (c.in-Product.is, formed-Product) c.multiplied.ensures.formed
 
-pub form-returns-in_ok-first-in-Or-clause-formed : goal.form-returns-in_ok-first-in-Or-clause-formed
-form-returns-in_ok-first-in-Or-clause-formed t c =
-    let s = scope c.args.known.now c.args.env.now in
-    let f = λ (x : Expr). formed x s in
-    rw (c.in-Or.is, formed-Or)
-    (subst (λ a. GivesCore c.all-in-Or.result (fold disjunction (begin_of Joint.Or a) (map f c.in-Or.rest)))
-    (c.in_ok-first-in-Or.ensures.formed ∙ ap f c.get-in-Or.ensures) c.all-in-Or.ensures.formed)
+pub form-returns-in-Sum-clause-formed : goal.form-returns-in-Sum-clause-formed
+form-returns-in-Sum-clause-formed t c = rw (c.in-Sum.is, formed-Sum) c.added.ensures.formed
 
-pub form-returns-in_err-first-in-Product-clause-formed : goal.form-returns-in_err-first-in-Product-clause-formed
-form-returns-in_err-first-in-Product-clause-formed t c =
-    let s = scope c.args.known.now c.args.env.now in
-    let f = λ (x : Expr). formed x s in
-    let p = err_from_is_err_and c.from_residual-in_err-first-in-Product.result
-    c.from_residual-in_err-first-in-Product.ensures.1 in
-    let parts = map (factor_in s) c.in-Product.rest in
-    rw (p.1, p.2, c.in-Product.is, formed-Product)
-    (passes_at c.in_err-first-in-Product.field-0.0 f c.get-in-Product.result.now c.in-Product.first
-    (fold factored (f c.in-Product.first) parts)
-    c.get-in-Product.ensures (factored_fold (f c.in-Product.first) parts)
-    c.in_err-first-in-Product.ensures.formed)
+pub implying-returns-in_err-right-clause-formed : goal.implying-returns-in_err-right-clause-formed
+implying-returns-in_err-right-clause-formed t c =
+    let f = λ (x : Expr). formed x (scope c.args.known.now c.args.env.now) in
+    let a = f c.args.left.now in
+    let b = f c.args.right.now in
+    let p = err_from_is_err_and c.from_residual-in_err-right.result c.from_residual-in_err-right.ensures.1 in
+    rw (p.1, p.2)
+    (passes_at c.in_err-right.field-0.0 f c.get-2.result.now c.args.right.now (implication a b)
+    c.get-2.ensures (disjunction_second (denial a) b) c.in_err-right.ensures.formed)
 
-pub form-returns-in_ok-first-in-Product-clause-formed : goal.form-returns-in_ok-first-in-Product-clause-formed
-form-returns-in_ok-first-in-Product-clause-formed t c =
-    let s = scope c.args.known.now c.args.env.now in
-    let f = λ (x : Expr). formed x s in
-    rw (c.in-Product.is, formed-Product)
-    (subst (λ a. GivesCore c.multiplied.result (fold factored a
-    (map (factor_in s) c.in-Product.rest)))
-    (c.in_ok-first-in-Product.ensures.formed ∙ ap f c.get-in-Product.ensures) c.multiplied.ensures.formed)
+pub denying-returns-in_err-of-clause-formed : goal.denying-returns-in_err-of-clause-formed
+denying-returns-in_err-of-clause-formed t c =
+    let f = λ (x : Expr). formed x (scope c.args.known.now c.args.env.now) in
+    let p = err_from_is_err_and c.from_residual.result c.from_residual.ensures.1 in
+    rw (p.1, p.2)
+    (passes_at c.in_err-of.field-0.0 f c.get.result.now c.args.of.now (denial (f c.args.of.now))
+    c.get.ensures (denial_keeps (f c.args.of.now)) c.in_err-of.ensures.formed)
 
-pub form-returns-in_err-first-in-Sum-clause-formed : goal.form-returns-in_err-first-in-Sum-clause-formed
-form-returns-in_err-first-in-Sum-clause-formed t c =
-    let s = scope c.args.known.now c.args.env.now in
-    let f = λ (x : Expr). formed x s in
-    let p = err_from_is_err_and c.from_residual-in_err-first-in-Sum.result
-    c.from_residual-in_err-first-in-Sum.ensures.1 in
-    let parts = map (λ (q : Symbol × Expr). (q.0, formed q.1 s)) c.in-Sum.rest in
-    rw (p.1, p.2, c.in-Sum.is, formed-Sum)
-    (passes_at c.in_err-first-in-Sum.field-0.0 f c.get-in-Sum.result.now c.in-Sum.first
-    (fold plus (signed c.in-Sum.minus (f c.in-Sum.first)) parts)
-    c.get-in-Sum.ensures (λ h. plus_fold (signed c.in-Sum.minus (f c.in-Sum.first)) parts
-    (signed_keeps c.in-Sum.minus (f c.in-Sum.first) h))
-    c.in_err-first-in-Sum.ensures.formed)
+pub comparing-returns-in_err-left-clause-formed : goal.comparing-returns-in_err-left-clause-formed
+comparing-returns-in_err-left-clause-formed t c =
+    let f = λ (x : Expr). formed x (scope c.args.known.now c.args.env.now) in
+    let a = f c.args.left.now in
+    let b = f c.args.right.now in
+    let p = err_from_is_err_and c.from_residual.result c.from_residual.ensures.1 in
+    rw (p.1, p.2)
+    (passes_at c.in_err-left.field-0.0 f c.get.result.now c.args.left.now (comparison c.args.relation a b)
+    c.get.ensures (comparison_first c.args.relation a b) c.in_err-left.ensures.formed)
 
-pub form-returns-in_ok-first-in-Sum-clause-formed : goal.form-returns-in_ok-first-in-Sum-clause-formed
-form-returns-in_ok-first-in-Sum-clause-formed t c =
-    let s = scope c.args.known.now c.args.env.now in
-    let f = λ (x : Expr). formed x s in
-    rw (c.in-Sum.is, formed-Sum)
-    (subst (λ a. GivesCore c.added.result (fold plus (signed c.in-Sum.minus a)
-    (map (λ (q : Symbol × Expr). (q.0, formed q.1 s)) c.in-Sum.rest)))
-    (c.in_ok-first-in-Sum.ensures.formed ∙ ap f c.get-in-Sum.ensures) c.added.ensures.formed)
-
-pub form-returns-in_err-of-in-Not-clause-formed : goal.form-returns-in_err-of-in-Not-clause-formed
-form-returns-in_err-of-in-Not-clause-formed t c =
-    let s = scope c.args.known.now c.args.env.now in
-    let f = λ (x : Expr). formed x s in
-    let p = err_from_is_err_and c.from_residual-in_err-of-in-Not.result c.from_residual-in_err-of-in-Not.ensures.1 in
-    rw (p.1, p.2, c.in-Not.is, formed-Not)
-    (passes_at c.in_err-of-in-Not.field-0.0 f c.get-in-Not.result.now c.in-Not.of (denial (f c.in-Not.of))
-    c.get-in-Not.ensures
-    (denial_keeps (f c.in-Not.of)) c.in_err-of-in-Not.ensures.formed)
-
-pub form-returns-in_err-left-in-Compare-clause-formed : goal.form-returns-in_err-left-in-Compare-clause-formed
-form-returns-in_err-left-in-Compare-clause-formed t c =
-    let s = scope c.args.known.now c.args.env.now in
-    let f = λ (x : Expr). formed x s in
-    let p = err_from_is_err_and c.from_residual-in_err-left-in-Compare.result
-    c.from_residual-in_err-left-in-Compare.ensures.1 in
-    let q = c.in-Compare in
-    rw (p.1, p.2, q.is, formed-Compare)
-    (passes_at c.in_err-left-in-Compare.field-0.0 f c.get-in-Compare.result.now q.left
-    (comparison q.relation (f q.left) (f q.right)) c.get-in-Compare.ensures
-    (comparison_first q.relation (f q.left) (f q.right)) c.in_err-left-in-Compare.ensures.formed)
-
-pub form-returns-in_err-right-in-Compare-clause-formed : goal.form-returns-in_err-right-in-Compare-clause-formed
-form-returns-in_err-right-in-Compare-clause-formed t c =
-    let s = scope c.args.known.now c.args.env.now in
-    let f = λ (x : Expr). formed x s in
-    let p = err_from_is_err_and c.from_residual-in_err-right-in-Compare.result
-    c.from_residual-in_err-right-in-Compare.ensures.1 in
-    let q = c.in-Compare in
-    rw (p.1, p.2, q.is, formed-Compare)
-    (passes_at c.in_err-right-in-Compare.field-0.0 f c.get-in-Compare-2.result.now q.right
-    (comparison q.relation (f q.left) (f q.right)) c.get-in-Compare-2.ensures
-    (comparison_second q.relation (f q.left) (f q.right)) c.in_err-right-in-Compare.ensures.formed)
+pub comparing-returns-in_err-right-clause-formed : goal.comparing-returns-in_err-right-clause-formed
+comparing-returns-in_err-right-clause-formed t c =
+    let f = λ (x : Expr). formed x (scope c.args.known.now c.args.env.now) in
+    let a = f c.args.left.now in
+    let b = f c.args.right.now in
+    let p = err_from_is_err_and c.from_residual-in_err-right.result c.from_residual-in_err-right.ensures.1 in
+    rw (p.1, p.2)
+    (passes_at c.in_err-right.field-0.0 f c.get-2.result.now c.args.right.now (comparison c.args.relation a b)
+    c.get-2.ensures (comparison_second c.args.relation a b) c.in_err-right.ensures.formed)
 
 pub form-returns-in_err-index-in-Some-clause-formed : goal.form-returns-in_err-index-in-Some-clause-formed
 form-returns-in_err-index-in-Some-clause-formed t c =
@@ -152,7 +82,7 @@ form-returns-in_err-index-in-Some-clause-formed t c =
     let p = err_from_is_err_and c.from_residual-in_err-index-in-Some.result
     c.from_residual-in_err-index-in-Some.ensures.1 in
     rw (p.1, p.2, c.in-Word.is, c.in-Some.is, formed-Element)
-    (passes_at c.in_err-index-in-Some.field-0.0 f c.get-in-Some.result.now c.in-Some.index _ c.get-in-Some.ensures
+    (passes_at c.in_err-index-in-Some.field-0.0 f c.get.result.now c.in-Some.index _ c.get.ensures
     (element_keeps (variable_named c.in-Word.name.text s.variables) (f c.in-Some.index))
     c.in_err-index-in-Some.ensures.formed)
 
@@ -166,45 +96,65 @@ form-returns-in-Quantified-clause-formed t c =
     (map (λ z. formed x (with_number s q.name.text z)) (fit_values (numbers s.bound) q.range)))))
     c.get-in-Quantified.ensures c.quantified.ensures.formed)
 
+pub all-returns-in_err-first-clause-formed : goal.all-returns-in_err-first-clause-formed
+all-returns-in_err-first-clause-formed t c =
+    let f = λ (x : Expr). formed x (scope c.args.known.now c.args.env.now) in
+    let begin = begin_of c.args.joint (f c.args.first.now) in
+    let p = err_from_is_err_and c.from_residual.result c.from_residual.ensures.1 in
+    rw (p.1, p.2) (passes_at c.in_err-first.field-0.0 f c.get.result.now c.args.first.now
+    (fold (joint_of c.args.joint) begin (map f c.args.rest.now)) c.get.ensures
+    (λ h. fold_past c.args.joint begin (map f c.args.rest.now) (begin_keeps c.args.joint (f c.args.first.now) h))
+    c.in_err-first.ensures.formed)
+
 pub all-returns-in_err-whole-clause-formed : goal.all-returns-in_err-whole-clause-formed
 all-returns-in_err-whole-clause-formed t c =
-    let s = scope c.args.known.now c.args.env.now in
-    let f = λ (x : Expr). formed x s in
-    let begin = begin_of c.args.joint c.args.first in
-    let p = err_from_is_err_and c.from_residual.result c.from_residual.ensures.1 in
+    let f = λ (x : Expr). formed x (scope c.args.known.now c.args.env.now) in
+    let begin = begin_of c.args.joint (f c.args.first.now) in
+    let p = err_from_is_err_and c.from_residual-in_err-whole.result c.from_residual-in_err-whole.ensures.1 in
     rw (p.1, p.2) (passes c.in_err-whole.field-0.0 begin (fold (joint_of c.args.joint) begin (map f c.args.rest.now))
-    (fold_past c.args.joint begin (map f c.args.rest.now)) c.in_err-whole.ensures.formed)
+    (fold_past c.args.joint begin (map f c.args.rest.now))
+    (subst (λ a. GivesCore (Err c.in_err-whole.field-0.0) (begin_of c.args.joint a))
+    (c.in_ok-first.ensures.formed ∙ ap f c.get.ensures) c.in_err-whole.ensures.formed))
 
 pub all-returns-in_err-next-clause-formed : goal.all-returns-in_err-next-clause-formed
 all-returns-in_err-next-clause-formed t c =
-    let s = scope c.args.known.now c.args.env.now in
-    let f = λ (x : Expr). formed x s in
-    let begin = begin_of c.args.joint c.args.first in
+    let f = λ (x : Expr). formed x (scope c.args.known.now c.args.env.now) in
+    let begin = begin_of c.args.joint (f c.args.first.now) in
+    let begun : c.in_ok-whole.whole ≡ begin = c.in_ok-whole.ensures.formed ∙ ap (begin_of c.args.joint)
+    (c.in_ok-first.ensures.formed ∙ ap f c.get.ensures) in
     let p = err_from_is_err_and c.from_residual-in_err-next.result c.from_residual-in_err-next.ensures.1 in
     rw (p.1, p.2) (passes c.in_err-next.field-0.0 (f c.e-item.result)
     (fold (joint_of c.args.joint) begin (map f c.args.rest.now))
     (list_next f c.args.joint c.loop-e.whole c.as_slice-e-items.result.now c.args.rest.now c.loop-e.e-index begin
-    c.in_ok-whole.whole c.loop-e-test.true c.in_ok-whole.ensures.formed c.as_slice-e-items.ensures
+    c.in_ok-whole.whole c.loop-e-test.true begun c.as_slice-e-items.ensures
     c.loop-e.invariant.0 c.e-item.result c.e-item.is) c.in_err-next.ensures.formed)
 
 pub all-returns-in_err-whole-2-clause-formed : goal.all-returns-in_err-whole-2-clause-formed
 all-returns-in_err-whole-2-clause-formed t c =
-    let s = scope c.args.known.now c.args.env.now in
-    let f = λ (x : Expr). formed x s in
-    let begin = begin_of c.args.joint c.args.first in
+    let f = λ (x : Expr). formed x (scope c.args.known.now c.args.env.now) in
+    let begin = begin_of c.args.joint (f c.args.first.now) in
+    let begun : c.in_ok-whole.whole ≡ begin = c.in_ok-whole.ensures.formed ∙ ap (begin_of c.args.joint)
+    (c.in_ok-first.ensures.formed ∙ ap f c.get.ensures) in
     let p = err_from_is_err_and c.from_residual-in_err-whole-2.result c.from_residual-in_err-whole-2.ensures.1 in
     rw (p.1, p.2) (passes c.in_err-whole-2.field-0.0 (joint_of c.args.joint c.loop-e.whole c.in_ok-next.next)
     (fold (joint_of c.args.joint) begin (map f c.args.rest.now))
     (list_joined f c.args.joint c.loop-e.whole c.as_slice-e-items.result.now c.args.rest.now c.loop-e.e-index begin
-    c.in_ok-whole.whole c.loop-e-test.true c.in_ok-whole.ensures.formed c.as_slice-e-items.ensures
+    c.in_ok-whole.whole c.loop-e-test.true begun c.as_slice-e-items.ensures
     c.loop-e.invariant.0 c.e-item.result c.in_ok-next.next c.e-item.is c.in_ok-next.ensures.formed)
     c.in_err-whole-2.ensures.formed)
+
+pub first_part-returns-in_err-first-clause-formed : goal.first_part-returns-in_err-first-clause-formed
+first_part-returns-in_err-first-clause-formed t c =
+    let f = λ (x : Expr). formed x (scope c.args.known.now c.args.env.now) in
+    let p = err_from_is_err_and c.from_residual.result c.from_residual.ensures.1 in
+    rw (p.1, p.2)
+    (passes_at c.in_err-first.field-0.0 f c.get.result.now c.args.first.now (signed c.args.minus (f c.args.first.now))
+    c.get.ensures (signed_keeps c.args.minus (f c.args.first.now)) c.in_err-first.ensures.formed)
 
 pub added-returns-in_err-whole-clause-formed : goal.added-returns-in_err-whole-clause-formed
 added-returns-in_err-whole-clause-formed t c =
     let s = scope c.args.known.now c.args.env.now in
-    let f = λ (x : Expr). formed x s in
-    let begin = signed c.args.minus c.args.first in
+    let begin = signed c.args.minus (formed c.args.first.now s) in
     let parts = map (λ (q : Symbol × Expr). (q.0, formed q.1 s)) c.args.rest.now in
     let p = err_from_is_err_and c.from_residual.result c.from_residual.ensures.1 in
     rw (p.1, p.2) (passes c.in_err-whole.field-0.0 begin (fold plus begin parts) (plus_fold begin parts)
@@ -214,7 +164,7 @@ pub added-returns-in_err-next-clause-formed : goal.added-returns-in_err-next-cla
 added-returns-in_err-next-clause-formed t c =
     let s = scope c.args.known.now c.args.env.now in
     let f = λ (x : Expr). formed x s in
-    let begin = signed c.args.minus c.args.first in
+    let begin = signed c.args.minus (f c.args.first.now) in
     let parts = map (λ (q : Symbol × Expr). (q.0, formed q.1 s)) c.args.rest.now in
     let p = err_from_is_err_and c.from_residual-in_err-next.result c.from_residual-in_err-next.ensures.1 in
     rw (p.1, p.2) (passes c.in_err-next.field-0.0 (f c.part-item.result.1) (fold plus begin parts)
@@ -227,7 +177,7 @@ pub added-returns-in_err-whole-2-clause-formed : goal.added-returns-in_err-whole
 added-returns-in_err-whole-2-clause-formed t c =
     let s = scope c.args.known.now c.args.env.now in
     let f = λ (x : Expr). formed x s in
-    let begin = signed c.args.minus c.args.first in
+    let begin = signed c.args.minus (f c.args.first.now) in
     let parts = map (λ (q : Symbol × Expr). (q.0, formed q.1 s)) c.args.rest.now in
     let p = err_from_is_err_and c.from_residual-in_err-whole-2.result c.from_residual-in_err-whole-2.ensures.1 in
     rw (p.1, p.2) (passes c.in_err-whole-2.field-0.0 (plus c.loop-part.whole
@@ -238,33 +188,46 @@ added-returns-in_err-whole-2-clause-formed t c =
     c.loop-part.invariant.0 c.part-item.result c.in_ok-next.next c.part-item.is c.in_ok-next.ensures.formed)
     c.in_err-whole-2.ensures.formed)
 
+pub multiplied-returns-in_err-whole-clause-formed : goal.multiplied-returns-in_err-whole-clause-formed
+multiplied-returns-in_err-whole-clause-formed t c =
+    let s = scope c.args.known.now c.args.env.now in
+    let f = λ (x : Expr). formed x s in
+    let begin = f c.args.first.now in
+    let parts = map (factor_in s) c.args.rest.now in
+    let p = err_from_is_err_and c.from_residual.result c.from_residual.ensures.1 in
+    rw (p.1, p.2) (passes_at c.in_err-whole.field-0.0 f c.get.result.now c.args.first.now (fold factored begin parts)
+    c.get.ensures (factored_fold begin parts) c.in_err-whole.ensures.formed)
+
 pub multiplied-returns-in_err-next-clause-formed : goal.multiplied-returns-in_err-next-clause-formed
 multiplied-returns-in_err-next-clause-formed t c =
     let s = scope c.args.known.now c.args.env.now in
     let f = λ (x : Expr). formed x s in
+    let begin = f c.args.first.now in
     let parts = map (factor_in s) c.args.rest.now in
-    let p = err_from_is_err_and c.from_residual.result c.from_residual.ensures.1 in
-    rw (p.1, p.2) (passes c.in_err-next.field-0.0 (f c.part-item.result.1) (fold factored c.args.first parts)
+    let p = err_from_is_err_and c.from_residual-in_err-next.result c.from_residual-in_err-next.ensures.1 in
+    rw (p.1, p.2) (passes c.in_err-next.field-0.0 (f c.part-item.result.1) (fold factored begin parts)
     (marked_next factored factored_first factored_second (factor_in s) c.loop-part.whole
-    c.as_slice-part-items.result.now c.args.rest.now c.loop-part.part-index c.args.first c.args.first
-    c.loop-part-test.true refl
+    c.as_slice-part-items.result.now c.args.rest.now c.loop-part.part-index begin c.in_ok-whole.whole
+    c.loop-part-test.true (c.in_ok-whole.ensures.formed ∙ ap f c.get.ensures)
     c.as_slice-part-items.ensures c.loop-part.invariant.0 c.part-item.result c.part-item.is)
     c.in_err-next.ensures.formed)
 
-pub multiplied-returns-in_err-whole-clause-formed : goal.multiplied-returns-in_err-whole-clause-formed
-multiplied-returns-in_err-whole-clause-formed t c =
+pub multiplied-returns-in_err-whole-2-clause-formed : goal.multiplied-returns-in_err-whole-2-clause-formed
+multiplied-returns-in_err-whole-2-clause-formed t c =
     let s = scope c.args.known.now c.args.env.now in
+    let f = λ (x : Expr). formed x s in
+    let begin = f c.args.first.now in
     let parts = map (factor_in s) c.args.rest.now in
     let mark = (factor_in s c.part-item.result).0 in
-    let p = err_from_is_err_and c.from_residual-in_err-whole.result c.from_residual-in_err-whole.ensures.1 in
-    rw (p.1, p.2) (passes c.in_err-whole.field-0.0 (factored c.loop-part.whole (mark, c.in_ok-next.next))
-    (fold factored c.args.first parts)
+    let p = err_from_is_err_and c.from_residual-in_err-whole-2.result c.from_residual-in_err-whole-2.ensures.1 in
+    rw (p.1, p.2) (passes c.in_err-whole-2.field-0.0 (factored c.loop-part.whole (mark, c.in_ok-next.next))
+    (fold factored begin parts)
     (marked_joined factored factored_first factored_second (factor_in s) c.loop-part.whole
-    c.as_slice-part-items.result.now c.args.rest.now c.loop-part.part-index c.args.first c.args.first
-    c.loop-part-test.true refl
+    c.as_slice-part-items.result.now c.args.rest.now c.loop-part.part-index begin c.in_ok-whole.whole
+    c.loop-part-test.true (c.in_ok-whole.ensures.formed ∙ ap f c.get.ensures)
     c.as_slice-part-items.ensures c.loop-part.invariant.0 c.part-item.result c.in_ok-next.next c.part-item.is
-    c.in_ok-next.ensures.formed) (subst (λ n. GivesCore (Err c.in_err-whole.field-0.0) (factored c.loop-part.whole
-    ((c.part-item.result.0, n), c.in_ok-next.next))) c.first_byte.ensures c.in_err-whole.ensures.formed))
+    c.in_ok-next.ensures.formed) (subst (λ n. GivesCore (Err c.in_err-whole-2.field-0.0) (factored c.loop-part.whole
+    ((c.part-item.result.0, n), c.in_ok-next.next))) c.first_byte.ensures c.in_err-whole-2.ensures.formed))
 
 pub quantified-returns-in_err-whole-clause-formed : goal.quantified-returns-in_err-whole-clause-formed
 quantified-returns-in_err-whole-clause-formed t c =

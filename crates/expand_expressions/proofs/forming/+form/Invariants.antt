@@ -1,7 +1,7 @@
-use Rattle.std.proofs.Common.{◌≡◌, ◌^◌, ◌≤◌, map, drop}
+use Rattle.std.proofs.Common.{◌≡◌, ◌+◌, ◌*◌, ◌^◌, ◌≤◌, map, max, drop}
 use Rattle.std.specs.Prelude.{fold}
 use Rattle.case_tables.specs.declared.symbol_table.Symbol.{Symbol}
-use Rattle.unity_syntax.specs.declared.expression.Expr.{Expr}
+use Rattle.unity_syntax.specs.declared.expression.Expr.{Expr, size-Expr}
 use Rattle.meaning_documents.specs.Value.{count_up}
 use Rattle.expand_rules.specs.Forming.{formed, factored, factor_in, plus, gathered, with_number}
 use Rattle.expand_expressions.specs.Sound.{IsSound}
@@ -25,7 +25,7 @@ invariant-added-loop-part l =
 abbrev pub invariant-multiplied-loop-part : goal.invariant-multiplied-loop-part
 invariant-multiplied-loop-part l =
     (fold factored l.whole (map (factor_in (scope l.known l.env)) (drop l.part-index l.part-items))
-    ≡ fold factored l.fn.first (map (factor_in (scope l.known l.env)) l.part-items))
+    ≡ fold factored l.initial.whole (map (factor_in (scope l.known l.env)) l.part-items))
     × IsSound l.whole × (l.whole.measure.most ≤ 2 ^ 62)
 
 abbrev pub invariant-instances-loop-k : goal.invariant-instances-loop-k
@@ -35,3 +35,33 @@ invariant-instances-loop-k l =
     ≡ gathered l.fn.which (map (λ z. formed l.of (with_number (scope l.known l.env) l.name.text z))
     (count_up l.numbers.first l.numbers.count)))
     × IsSound l.whole × (l.whole.measure.most ≤ 2 ^ 62)
+
+abbrev pub decreases-form : goal.decreases-form
+decreases-form l = 4 * size-Expr l.e.now
+
+abbrev pub decreases-implying : goal.decreases-implying
+decreases-implying l = 4 * max (size-Expr l.left.now) (size-Expr l.right.now) + 1
+
+abbrev pub decreases-denying : goal.decreases-denying
+decreases-denying l = 4 * size-Expr l.of.now + 1
+
+abbrev pub decreases-comparing : goal.decreases-comparing
+decreases-comparing l = 4 * max (size-Expr l.left.now) (size-Expr l.right.now) + 1
+
+abbrev pub decreases-all : goal.decreases-all
+decreases-all l = 4 * max (size-Expr l.first.now) (goal.size-all l) + 1
+
+abbrev pub decreases-added : goal.decreases-added
+decreases-added l = 4 * max (size-Expr l.first.now) (goal.size-added l) + 2
+
+abbrev pub decreases-first_part : goal.decreases-first_part
+decreases-first_part l = 4 * size-Expr l.first.now + 1
+
+abbrev pub decreases-multiplied : goal.decreases-multiplied
+decreases-multiplied l = 4 * max (size-Expr l.first.now) (goal.size-multiplied l) + 1
+
+abbrev pub decreases-quantified : goal.decreases-quantified
+decreases-quantified l = 4 * size-Expr l.of.now + 2
+
+abbrev pub decreases-instances : goal.decreases-instances
+decreases-instances l = 4 * size-Expr l.of.now + 1
