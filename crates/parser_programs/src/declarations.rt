@@ -16,7 +16,9 @@ ghost use Rattle.parser_programs.specs.Forms.{words_in_braces_};
 ghost use Rattle.parser_expressions.specs.Gives.{Reads, remaining};
 
 use case_tables::{Symbol, Word};
-use parser_expressions::{Cursor, Parsed, Stop, begins_range, names, pred, range};
+use parser_expressions::{
+    Cursor, Front, Parsed, Stop, begins_range, listed, names, pred, range, repeated,
+};
 use std::alloc::Global;
 use unity_base::Seq;
 use unity_syntax::{Def, Init, InitValue, Name, Plain, Var, VarType};
@@ -129,14 +131,7 @@ fn var<'a>(alloc: Global, depth: u32, text: Cursor<'a>) -> Parsed<'a, Var>
 pub fn vars<'a>(alloc: Global, depth: u32, text: Cursor<'a>) -> Parsed<'a, Seq<Var>>
     ensures { Reads (view_list view_var) result (many var_) depth text.entry }
 {
-    let mut found = Seq::new(alloc);
-    let mut rest = text;
-    'items: while rest.begins_name() {
-        let (item, later) = var(alloc, depth, rest)?;
-        found.push(item)?;
-        rest = later;
-    }
-    Ok((found, rest))
+    repeated(alloc, Front::Name, text, |text| var(alloc, depth, text))
 }
 
 /// `def = word "=" pred`
@@ -156,14 +151,7 @@ fn def<'a>(alloc: Global, depth: u32, text: Cursor<'a>) -> Parsed<'a, Def>
 pub fn defs<'a>(alloc: Global, depth: u32, text: Cursor<'a>) -> Parsed<'a, Seq<Def>>
     ensures { Reads (view_list view_def) result (many def_) depth text.entry }
 {
-    let mut found = Seq::new(alloc);
-    let mut rest = text;
-    'items: while rest.begins_name() {
-        let (item, later) = def(alloc, depth, rest)?;
-        found.push(item)?;
-        rest = later;
-    }
-    Ok((found, rest))
+    repeated(alloc, Front::Name, text, |text| def(alloc, depth, text))
 }
 
 /// `[ "-" ] number`, as a start value
@@ -259,33 +247,9 @@ fn init<'a>(alloc: Global, depth: u32, text: Cursor<'a>) -> Parsed<'a, Init>
     Ok((init, text))
 }
 
-/// `"," init`
-fn next_init<'a>(alloc: Global, depth: u32, text: Cursor<'a>) -> Parsed<'a, Init>
-    ensures { Reads view_init result (past (symbol Symbol.Comma) init_) depth text.entry }
-{
-    let text = text.symbol(Symbol::Comma)?;
-    init(alloc, depth, text)
-}
-
-/// `{ "," init }`
-fn more_inits<'a>(alloc: Global, depth: u32, text: Cursor<'a>) -> Parsed<'a, Seq<Init>>
-    ensures { Reads (view_list view_init) result (many (past (symbol Symbol.Comma) init_)) depth text.entry }
-{
-    let mut found = Seq::new(alloc);
-    let mut rest = text;
-    'items: while rest.begins_symbol(Symbol::Comma) {
-        let (item, later) = next_init(alloc, depth, rest)?;
-        found.push(item)?;
-        rest = later;
-    }
-    Ok((found, rest))
-}
-
 /// `init { "," init }`
 pub fn inits<'a>(alloc: Global, depth: u32, text: Cursor<'a>) -> Parsed<'a, (Init, Seq<Init>)>
     ensures { Reads (view_some view_init) result (one_or_more (symbol Symbol.Comma) init_) depth text.entry }
 {
-    let (first, text) = init(alloc, depth, text)?;
-    let (rest, text) = more_inits(alloc, depth, text)?;
-    Ok(((first, rest), text))
+    listed(alloc, Symbol::Comma, text, |text| init(alloc, depth, text))
 }

@@ -54,20 +54,6 @@ pub fn quantified_component(
     Held::new(alloc, whole)
 }
 
-/// `first "||" ..`, with the further parts
-pub fn assign(
-    alloc: Global,
-    at: u64,
-    first: Held<Component>,
-    rest: Seq<Component>,
-) -> Result<Held<Assign>, AllocError>
-    ensures { IfOk result (λ x.
-        view_assign x ≡ node (kind Kind.assign) at (pair (view_component first) (view_list view_component rest))) }
-{
-    let first = first.into_inner();
-    Held::new(alloc, Assign { at, first, rest })
-}
-
 /// `label ":" assign`
 pub fn statement(
     alloc: Global,
@@ -100,18 +86,4 @@ pub fn quantified_item(
         of,
     };
     Held::new(alloc, whole)
-}
-
-/// `first "[]" ..`, with the further statements
-pub fn items(
-    alloc: Global,
-    at: u64,
-    first: Held<Item>,
-    rest: Seq<Item>,
-) -> Result<Held<Items>, AllocError>
-    ensures { IfOk result (λ x. view_items x ≡
-        node (kind Kind.items) at (pair (view_item first) (view_list view_item rest))) }
-{
-    let first = first.into_inner();
-    Held::new(alloc, Items { at, first, rest })
 }

@@ -6,8 +6,10 @@ ghost use Rattle.grammar_theory.specs.Ebnf.{both, maybe, many, node};
 ghost use Rattle.unity_syntax.specs.Classes.{reserved, symbol};
 ghost use Rattle.unity_syntax.specs.Kinds.{Kind, kind, Contents};
 ghost use Rattle.unity_syntax.specs.Grammar.{past, made, in_brackets, name_, pred_, values_, choice_, alts_, target_};
+ghost use Rattle.unity_syntax.specs.Grammar.{one_or_more};
 ghost use Rattle.unity_syntax.specs.Grammar.{comp_, assign_, quantified_assign_, item_, items_, quantified_items_};
-ghost use Rattle.unity_syntax.specs.View.{view_option, view_list, view_name, view_range, view_expr, view_values};
+ghost use Rattle.unity_syntax.specs.View.{view_option, view_list, view_some, view_name, view_range, view_expr};
+ghost use Rattle.unity_syntax.specs.View.{view_values};
 ghost use Rattle.unity_syntax.specs.View.{view_choice, view_choices, view_alts, view_target, view_component};
 ghost use Rattle.unity_syntax.specs.View.{view_assign, view_item, view_items};
 ghost use Rattle.parser_expressions.specs.Gives.{Reads, ReadsAs};
@@ -15,31 +17,25 @@ ghost use Rattle.parser_programs.specs.Forms.{parallel_, box_};
 
 use crate::nodes;
 use case_tables::{Symbol, Word};
-use parser_expressions::{Cursor, Parsed, Stop, bound, condition, index, pred};
+use parser_expressions::{
+    Cursor, Front, Parsed, Stop, bound, condition, index, listed, owned, pred, repeated,
+};
 use std::alloc::Global;
 use unity_base::{Held, Seq};
 use unity_syntax::{Alts, Assign, Component, Expr, Item, Items, Target, Values};
 
-/// `"," pred`
-pub fn next_value<'a>(alloc: Global, depth: u32, text: Cursor<'a>) -> Parsed<'a, Held<Expr>>
-    ensures { Reads view_expr result (past (symbol Symbol.Comma) pred_) depth text.entry }
+/// `pred { "," pred }`
+fn expressions<'a>(alloc: Global, depth: u32, text: Cursor<'a>) -> Parsed<'a, (Expr, Seq<Expr>)>
+    ensures { Reads (view_some view_expr) result (one_or_more (symbol Symbol.Comma) pred_) depth text.entry }
 {
-    let text = text.symbol(Symbol::Comma)?;
-    pred(alloc, depth, text)
-}
-
-/// `{ "," pred }`
-fn more_values<'a>(alloc: Global, depth: u32, text: Cursor<'a>) -> Parsed<'a, Seq<Expr>>
-    ensures { Reads (view_list view_expr) result (many (past (symbol Symbol.Comma) pred_)) depth text.entry }
-{
-    let mut found = Seq::new(alloc);
-    let mut rest = text;
-    'items: while rest.begins_symbol(Symbol::Comma) {
-        let (item, later) = next_value(alloc, depth, rest)?;
-        found.push(item.into_inner())?;
-        rest = later;
-    }
-    Ok((found, rest))
+    listed(
+        alloc,
+        Symbol::Comma,
+        text,
+        |text|
+            ensures { Reads view_expr result pred_ depth text.entry }
+        { owned(pred(alloc, depth, text)) },
+    )
 }
 
 /// `values = pred { "," pred }`
@@ -48,18 +44,15 @@ fn values<'a>(alloc: Global, depth: u32, text: Cursor<'a>) -> Parsed<'a, Held<Va
     ensures { Reads view_values result values_ depth text.entry }
 {
     let at = text.place();
-    let (first, text) = pred(alloc, depth, text)?;
-    let (rest, text) = more_values(alloc, depth, text)?;
-    let first = first.into_inner();
+    let ((first, rest), text) = expressions(alloc, depth, text)?;
     let values = Held::new(alloc, Values { at, first, rest })?;
     Ok((values, text))
 }
 
-/// `"~" values "if" pred`
-fn next_choice<'a>(alloc: Global, depth: u32, text: Cursor<'a>) -> Parsed<'a, (Values, Expr)>
-    ensures { Reads view_choice result (past (symbol Symbol.Tilde) choice_) depth text.entry }
+/// `values "if" pred`
+fn choice<'a>(alloc: Global, depth: u32, text: Cursor<'a>) -> Parsed<'a, (Values, Expr)>
+    ensures { Reads view_choice result choice_ depth text.entry }
 {
-    let text = text.symbol(Symbol::Tilde)?;
     let (values, text) = values(alloc, depth, text)?;
     let (condition, text) = condition(alloc, depth, text)?;
     Ok(((values.into_inner(), condition.into_inner()), text))
@@ -69,14 +62,12 @@ fn next_choice<'a>(alloc: Global, depth: u32, text: Cursor<'a>) -> Parsed<'a, (V
 fn more_choices<'a>(alloc: Global, depth: u32, text: Cursor<'a>) -> Parsed<'a, Seq<(Values, Expr)>>
     ensures { Reads (view_list view_choice) result (many (past (symbol Symbol.Tilde) choice_)) depth text.entry }
 {
-    let mut found = Seq::new(alloc);
-    let mut rest = text;
-    'items: while rest.begins_symbol(Symbol::Tilde) {
-        let (item, later) = next_choice(alloc, depth, rest)?;
-        found.push(item)?;
-        rest = later;
-    }
-    Ok((found, rest))
+    repeated(
+        alloc,
+        Front::Symbol(Symbol::Tilde),
+        text,
+        |text| choice(alloc, depth, text),
+    )
 }
 
 /// `[ "if" pred { "~" values "if" pred } ]`
@@ -136,26 +127,18 @@ fn target<'a>(alloc: Global, depth: u32, text: Cursor<'a>) -> Parsed<'a, Held<Ta
     Ok((target, text))
 }
 
-/// `"," target`
-fn next_target<'a>(alloc: Global, depth: u32, text: Cursor<'a>) -> Parsed<'a, Held<Target>>
-    ensures { Reads view_target result (past (symbol Symbol.Comma) target_) depth text.entry }
-{
-    let text = text.symbol(Symbol::Comma)?;
-    target(alloc, depth, text)
-}
-
 /// `{ "," target }`
 fn more_targets<'a>(alloc: Global, depth: u32, text: Cursor<'a>) -> Parsed<'a, Seq<Target>>
     ensures { Reads (view_list view_target) result (many (past (symbol Symbol.Comma) target_)) depth text.entry }
 {
-    let mut found = Seq::new(alloc);
-    let mut rest = text;
-    'items: while rest.begins_symbol(Symbol::Comma) {
-        let (item, later) = next_target(alloc, depth, rest)?;
-        found.push(item.into_inner())?;
-        rest = later;
-    }
-    Ok((found, rest))
+    repeated(
+        alloc,
+        Front::Symbol(Symbol::Comma),
+        text,
+        |text|
+            ensures { Reads view_target result target_ depth text.entry }
+        { owned(target(alloc, depth, text)) },
+    )
 }
 
 /// `target { "," target } ":=" alts`
@@ -172,6 +155,37 @@ fn set<'a>(alloc: Global, depth: u32, text: Cursor<'a>) -> Parsed<'a, Held<Compo
     let (alts, text) = alts(alloc, depth, text)?;
     let whole = nodes::set(alloc, at, first, rest, alts)?;
     Ok((whole, text))
+}
+
+/// `assign = comp { "||" comp }`
+#[tactic(auto, unfolding(unity_syntax::specs::Grammar::assign_))]
+#[cycle(assignments)]
+fn assign<'a>(alloc: Global, depth: u32, text: Cursor<'a>) -> Parsed<'a, Held<Assign>>
+    ensures { Reads view_assign result assign_ depth text.entry }
+{
+    let at = text.place();
+    let ((first, rest), text) = components(alloc, depth, text)?;
+    let whole = Held::new(alloc, Assign { at, first, rest })?;
+    Ok((whole, text))
+}
+
+/// `comp { "||" comp }`
+#[cycle(assignments)]
+fn components<'a>(
+    alloc: Global,
+    depth: u32,
+    text: Cursor<'a>,
+) -> Parsed<'a, (Component, Seq<Component>)>
+    ensures { Reads (view_some view_component) result (one_or_more (symbol Symbol.Parallel) comp_) depth text.entry }
+{
+    listed(
+        alloc,
+        Symbol::Parallel,
+        text,
+        |text|
+            ensures { Reads view_component result comp_ depth text.entry }
+        { owned(component(alloc, depth, text)) },
+    )
 }
 
 /// `comp = target { "," target } ":=" alts | "<||" word ":" range "::" assign "|>"`
@@ -223,41 +237,31 @@ fn component_over<'a>(
     Ok((whole, text))
 }
 
-/// `assign = comp { "||" comp }`
-#[tactic(auto, unfolding(unity_syntax::specs::Grammar::assign_))]
-#[cycle(assignments)]
-fn assign<'a>(alloc: Global, depth: u32, text: Cursor<'a>) -> Parsed<'a, Held<Assign>>
-    ensures { Reads view_assign result assign_ depth text.entry }
+/// `items = item { "[]" item }`
+#[tactic(auto, unfolding(unity_syntax::specs::Grammar::items_))]
+#[cycle(items)]
+pub fn items<'a>(alloc: Global, depth: u32, text: Cursor<'a>) -> Parsed<'a, Held<Items>>
+    ensures { Reads view_items result items_ depth text.entry }
 {
     let at = text.place();
-    let (first, text) = component(alloc, depth, text)?;
-    let (rest, text) = more_components(alloc, depth, text)?;
-    let whole = nodes::assign(alloc, at, first, rest)?;
+    let ((first, rest), text) = all_items(alloc, depth, text)?;
+    let whole = Held::new(alloc, Items { at, first, rest })?;
     Ok((whole, text))
 }
 
-/// `{ "||" comp }`
-#[cycle(assignments)]
-fn more_components<'a>(alloc: Global, depth: u32, text: Cursor<'a>) -> Parsed<'a, Seq<Component>>
-    ensures { Reads (view_list view_component) result (many (past (symbol Symbol.Parallel) comp_)) depth text.entry }
+/// `item { "[]" item }`
+#[cycle(items)]
+fn all_items<'a>(alloc: Global, depth: u32, text: Cursor<'a>) -> Parsed<'a, (Item, Seq<Item>)>
+    ensures { Reads (view_some view_item) result (one_or_more (symbol Symbol.Box) item_) depth text.entry }
 {
-    let mut found = Seq::new(alloc);
-    let mut rest = text;
-    'items: while rest.begins_symbol(Symbol::Parallel) {
-        let (item, later) = next_component(alloc, depth, rest)?;
-        found.push(item.into_inner())?;
-        rest = later;
-    }
-    Ok((found, rest))
-}
-
-/// `"||" comp`
-#[cycle(assignments)]
-fn next_component<'a>(alloc: Global, depth: u32, text: Cursor<'a>) -> Parsed<'a, Held<Component>>
-    ensures { Reads view_component result (past (symbol Symbol.Parallel) comp_) depth text.entry }
-{
-    let text = text.symbol(Symbol::Parallel)?;
-    component(alloc, depth, text)
+    listed(
+        alloc,
+        Symbol::Box,
+        text,
+        |text|
+            ensures { Reads view_item result item_ depth text.entry }
+        { owned(item(alloc, depth, text)) },
+    )
 }
 
 /// `word ":" assign`
@@ -310,41 +314,4 @@ fn item_over<'a>(alloc: Global, depth: u32, at: u64, text: Cursor<'a>) -> Parsed
     let (of, text) = items(alloc, depth, text)?;
     let whole = nodes::quantified_item(alloc, at, bound, of)?;
     Ok((whole, text))
-}
-
-/// `items = item { "[]" item }`
-#[tactic(auto, unfolding(unity_syntax::specs::Grammar::items_))]
-#[cycle(items)]
-pub fn items<'a>(alloc: Global, depth: u32, text: Cursor<'a>) -> Parsed<'a, Held<Items>>
-    ensures { Reads view_items result items_ depth text.entry }
-{
-    let at = text.place();
-    let (first, text) = item(alloc, depth, text)?;
-    let (rest, text) = more_items(alloc, depth, text)?;
-    let whole = nodes::items(alloc, at, first, rest)?;
-    Ok((whole, text))
-}
-
-/// `{ "[]" item }`
-#[cycle(items)]
-fn more_items<'a>(alloc: Global, depth: u32, text: Cursor<'a>) -> Parsed<'a, Seq<Item>>
-    ensures { Reads (view_list view_item) result (many (past (symbol Symbol.Box) item_)) depth text.entry }
-{
-    let mut found = Seq::new(alloc);
-    let mut rest = text;
-    'items: while rest.begins_symbol(Symbol::Box) {
-        let (item, later) = next_item(alloc, depth, rest)?;
-        found.push(item.into_inner())?;
-        rest = later;
-    }
-    Ok((found, rest))
-}
-
-/// `"[]" item`
-#[cycle(items)]
-fn next_item<'a>(alloc: Global, depth: u32, text: Cursor<'a>) -> Parsed<'a, Held<Item>>
-    ensures { Reads view_item result (past (symbol Symbol.Box) item_) depth text.entry }
-{
-    let text = text.symbol(Symbol::Box)?;
-    item(alloc, depth, text)
 }
