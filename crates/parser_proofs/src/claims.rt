@@ -5,10 +5,12 @@ ghost use Rattle.case_tables.specs.declared.word_table.Word.{Word};
 ghost use Rattle.grammar_theory.specs.Ebnf.{both, choice, fixed, one_of};
 ghost use Rattle.unity_syntax.specs.Classes.{reserved};
 ghost use Rattle.unity_syntax.specs.Kinds.{Kind};
-ghost use Rattle.unity_syntax.specs.Grammar.{made, past, pred_, claim_};
+ghost use Rattle.unity_syntax.specs.Grammar.{made, pred_, claim_};
 ghost use Rattle.unity_syntax.specs.View.{view_claim};
 ghost use Rattle.parser_expressions.specs.Gives.{Reads};
+ghost use Rattle.parser_proofs.specs.Forms.{property_};
 
+use crate::forms::Property;
 use case_tables::Word;
 use parser_expressions::{Cursor, Parsed, pred};
 use std::alloc::Global;
@@ -41,50 +43,19 @@ fn defined_claim<'a>(text: Cursor<'a>) -> Parsed<'a, Claim>
     Ok((Claim::Defined { at }, text))
 }
 
-/// `"invariant" pred`
-fn invariant_claim<'a>(alloc: Global, depth: u32, text: Cursor<'a>) -> Parsed<'a, Claim>
-    ensures { Reads view_claim result
-        (made Kind.claim_invariant (past (reserved Word.Invariant) pred_)) depth text.entry }
+/// The word of a property, and its predicate.
+fn property_claim<'a>(
+    alloc: Global,
+    depth: u32,
+    property: Property,
+    text: Cursor<'a>,
+) -> Parsed<'a, Claim>
+    ensures { Reads view_claim result (property_ property) depth text.entry }
 {
     let at = text.place();
-    let text = text.reserved(Word::Invariant)?;
+    let text = text.reserved(property.word())?;
     let (of, text) = pred(alloc, depth, text)?;
-    let of = of.into_inner();
-    Ok((Claim::Invariant { at, of }, text))
-}
-
-/// `"stable" pred`
-fn stable_claim<'a>(alloc: Global, depth: u32, text: Cursor<'a>) -> Parsed<'a, Claim>
-    ensures { Reads view_claim result (made Kind.claim_stable (past (reserved Word.Stable) pred_)) depth text.entry }
-{
-    let at = text.place();
-    let text = text.reserved(Word::Stable)?;
-    let (of, text) = pred(alloc, depth, text)?;
-    let of = of.into_inner();
-    Ok((Claim::Stable { at, of }, text))
-}
-
-/// `"constant" pred`
-fn constant_claim<'a>(alloc: Global, depth: u32, text: Cursor<'a>) -> Parsed<'a, Claim>
-    ensures { Reads view_claim result
-        (made Kind.claim_constant (past (reserved Word.Constant) pred_)) depth text.entry }
-{
-    let at = text.place();
-    let text = text.reserved(Word::Constant)?;
-    let (of, text) = pred(alloc, depth, text)?;
-    let of = of.into_inner();
-    Ok((Claim::Constant { at, of }, text))
-}
-
-/// `"fixed" pred`
-fn fixed_claim<'a>(alloc: Global, depth: u32, text: Cursor<'a>) -> Parsed<'a, Claim>
-    ensures { Reads view_claim result (made Kind.claim_fixed (past (reserved Word.Fixed) pred_)) depth text.entry }
-{
-    let at = text.place();
-    let text = text.reserved(Word::Fixed)?;
-    let (of, text) = pred(alloc, depth, text)?;
-    let of = of.into_inner();
-    Ok((Claim::Fixed { at, of }, text))
+    Ok((property.claim(at, of.into_inner()), text))
 }
 
 /// `pred ( "unless" | "ensures" | "leadsto" | "until" | "detects" ) pred`
@@ -118,16 +89,16 @@ pub(crate) fn claim<'a>(alloc: Global, depth: u32, text: Cursor<'a>) -> Parsed<'
         return defined_claim(text);
     }
     if text.begins_reserved(Word::Invariant) {
-        return invariant_claim(alloc, depth, text);
+        return property_claim(alloc, depth, Property::Invariant, text);
     }
     if text.begins_reserved(Word::Stable) {
-        return stable_claim(alloc, depth, text);
+        return property_claim(alloc, depth, Property::Stable, text);
     }
     if text.begins_reserved(Word::Constant) {
-        return constant_claim(alloc, depth, text);
+        return property_claim(alloc, depth, Property::Constant, text);
     }
     if text.begins_reserved(Word::Fixed) {
-        return fixed_claim(alloc, depth, text);
+        return property_claim(alloc, depth, Property::Fixed, text);
     }
     between_claim(alloc, depth, text)
 }

@@ -1,15 +1,13 @@
 //! The parameters of a step.
 
-ghost use Rattle.case_tables.specs.declared.symbol_table.Symbol.{Symbol};
-ghost use Rattle.grammar_theory.specs.Ebnf.{many, maybe};
-ghost use Rattle.unity_syntax.specs.Classes.{symbol};
+ghost use Rattle.grammar_theory.specs.Ebnf.{maybe};
 ghost use Rattle.unity_syntax.specs.Kinds.{Contents};
-ghost use Rattle.unity_syntax.specs.Grammar.{past, in_parentheses, param_, params_};
-ghost use Rattle.unity_syntax.specs.View.{view_list, view_option, view_param, view_some};
+ghost use Rattle.unity_syntax.specs.Grammar.{in_parentheses, param_, params_};
+ghost use Rattle.unity_syntax.specs.View.{view_option, view_param, view_some};
 ghost use Rattle.parser_expressions.specs.Gives.{Reads};
 
 use case_tables::Symbol;
-use parser_expressions::{Cursor, Parsed, Stop, range};
+use parser_expressions::{Cursor, Parsed, Stop, listed, range};
 use std::alloc::Global;
 use unity_base::{Held, Seq};
 use unity_syntax::Param;
@@ -26,36 +24,12 @@ fn param<'a>(alloc: Global, depth: u32, text: Cursor<'a>) -> Parsed<'a, Param>
     Ok((Param { at, name, range }, text))
 }
 
-/// `"," param`
-fn next_param<'a>(alloc: Global, depth: u32, text: Cursor<'a>) -> Parsed<'a, Param>
-    ensures { Reads view_param result (past (symbol Symbol.Comma) param_) depth text.entry }
-{
-    let text = text.symbol(Symbol::Comma)?;
-    param(alloc, depth, text)
-}
-
-/// `{ "," param }`
-fn more_params<'a>(alloc: Global, depth: u32, text: Cursor<'a>) -> Parsed<'a, Seq<Param>>
-    ensures { Reads (view_list view_param) result (many (past (symbol Symbol.Comma) param_)) depth text.entry }
-{
-    let mut found = Seq::new(alloc);
-    let mut rest = text;
-    'items: while rest.begins_symbol(Symbol::Comma) {
-        let (item, later) = next_param(alloc, depth, rest)?;
-        found.push(item)?;
-        rest = later;
-    }
-    Ok((found, rest))
-}
-
 /// `param { "," param }`
 #[tactic(auto, unfolding(unity_syntax::specs::Grammar::params_))]
 fn params<'a>(alloc: Global, depth: u32, text: Cursor<'a>) -> Parsed<'a, (Param, Seq<Param>)>
     ensures { Reads (view_some view_param) result params_ depth text.entry }
 {
-    let (first, text) = param(alloc, depth, text)?;
-    let (rest, text) = more_params(alloc, depth, text)?;
-    Ok(((first, rest), text))
+    listed(alloc, Symbol::Comma, text, |text| param(alloc, depth, text))
 }
 
 /// `"(" param { "," param } ")"`

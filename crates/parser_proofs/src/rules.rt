@@ -2,22 +2,22 @@
 
 ghost use Rattle.std.specs.Prelude.{◌≡◌};
 ghost use Rattle.case_tables.specs.declared.word_table.Word.{Word};
-ghost use Rattle.grammar_theory.specs.Ebnf.{both, choice, either, maybe, named};
+ghost use Rattle.grammar_theory.specs.Ebnf.{both, choice, either, maybe, named, pair};
 ghost use Rattle.grammar_theory.specs.LookAhead.{first};
 ghost use Rattle.grammar_theory.specs.Reader.{begins};
 ghost use Rattle.unity_syntax.specs.Classes.{reserved};
 ghost use Rattle.unity_syntax.specs.Kinds.{Kind, Contents};
 ghost use Rattle.unity_syntax.specs.Grammar.{made, past, in_parentheses, make_weaken, pairrule_, inst_, ref_};
 ghost use Rattle.unity_syntax.specs.Grammar.{other_term_, rule_};
-ghost use Rattle.unity_syntax.specs.View.{view_inst, view_option, view_rule};
+ghost use Rattle.unity_syntax.specs.View.{view_inst, view_option, view_ref, view_rule};
 ghost use Rattle.parser_expressions.specs.Gives.{Reads, remaining};
 
-use crate::forms::Form;
+use crate::forms::{Enclosed, Form};
 use crate::terms::{enclosed, other_term};
 use case_tables::Word;
 use parser_expressions::{Cursor, Parsed, begins_reference, inst, reference};
 use std::alloc::Global;
-use unity_syntax::{Inst, Rule};
+use unity_syntax::{Inst, Ref, Rule};
 
 /// The words of the rules of two references.
 const PAIR_RULES: &[Word] = &[
@@ -82,9 +82,18 @@ fn weaken_rule<'a>(alloc: Global, depth: u32, text: Cursor<'a>) -> Parsed<'a, Ru
         let (of, text) = reference(alloc, depth, text)?;
         return Ok((Rule::Weaken { at, of }, text));
     }
-    let (of, text) = enclosed(alloc, depth, at, Form::Weaken, text)?;
+    let (of, text) = enclosed(alloc, depth, at, Enclosed::Parts(Form::Weaken), text)?;
     let of = of.into_inner();
     Ok((Rule::Term { at, of }, text))
+}
+
+/// `ref ref`
+fn two_references<'a>(alloc: Global, depth: u32, text: Cursor<'a>) -> Parsed<'a, (Ref, Ref)>
+    ensures { Reads (λ x. pair (view_ref x.0) (view_ref x.1)) result (both ref_ ref_) depth text.entry }
+{
+    let (first, text) = reference(alloc, depth, text)?;
+    let (second, text) = reference(alloc, depth, text)?;
+    Ok(((first, second), text))
 }
 
 /// `pairrule ref ref`
@@ -93,8 +102,7 @@ fn pair_rule<'a>(alloc: Global, depth: u32, text: Cursor<'a>) -> Parsed<'a, Rule
 {
     let at = text.place();
     let (which, text) = pair_rule_word(text)?;
-    let (first, text) = reference(alloc, depth, text)?;
-    let (second, text) = reference(alloc, depth, text)?;
+    let ((first, second), text) = two_references(alloc, depth, text)?;
     let rule = Rule::Pair {
         at,
         which,
@@ -125,8 +133,7 @@ fn complete_rule<'a>(alloc: Global, depth: u32, text: Cursor<'a>) -> Parsed<'a, 
     let text = text.reserved(Word::Complete)?;
     let (first, text) = reference(alloc, depth, text)?;
     let (second, text) = reference(alloc, depth, text)?;
-    let (third, text) = reference(alloc, depth, text)?;
-    let (fourth, text) = reference(alloc, depth, text)?;
+    let ((third, fourth), text) = two_references(alloc, depth, text)?;
     let rule = Rule::Complete {
         at,
         first,

@@ -3,7 +3,7 @@
 ghost use Rattle.case_tables.specs.declared.symbol_table.Symbol.{Symbol};
 ghost use Rattle.grammar_theory.specs.Ebnf.{both, many};
 ghost use Rattle.unity_syntax.specs.Classes.{symbol};
-ghost use Rattle.unity_syntax.specs.Grammar.{past, ref_, claim_, using_, step_, proof_};
+ghost use Rattle.unity_syntax.specs.Grammar.{one_or_more, ref_, claim_, using_, step_, proof_};
 ghost use Rattle.unity_syntax.specs.View.{view_list, view_option, view_proof, view_ref, view_some, view_step};
 ghost use Rattle.parser_expressions.specs.Gives.{Reads};
 ghost use Rattle.parser_proofs.specs.Reasons.{reason_, view_claimed, view_reason};
@@ -12,31 +12,21 @@ use crate::claims::claim;
 use crate::params::maybe_params;
 use crate::rules::rule;
 use case_tables::{Symbol, Word};
-use parser_expressions::{Cursor, Parsed, reference};
+use parser_expressions::{Cursor, Front, Parsed, listed, reference, repeated};
 use std::alloc::Global;
 use unity_base::{Held, Seq};
 use unity_syntax::{Claim, Proof, Ref, Rule, Step};
 
-/// `"," ref`
-fn next_reference<'a>(alloc: Global, depth: u32, text: Cursor<'a>) -> Parsed<'a, Ref>
-    ensures { Reads view_ref result (past (symbol Symbol.Comma) ref_) depth text.entry }
+/// `ref { "," ref }`
+fn references<'a>(alloc: Global, depth: u32, text: Cursor<'a>) -> Parsed<'a, (Ref, Seq<Ref>)>
+    ensures { Reads (view_some view_ref) result (one_or_more (symbol Symbol.Comma) ref_) depth text.entry }
 {
-    let text = text.symbol(Symbol::Comma)?;
-    reference(alloc, depth, text)
-}
-
-/// `{ "," ref }`
-fn more_references<'a>(alloc: Global, depth: u32, text: Cursor<'a>) -> Parsed<'a, Seq<Ref>>
-    ensures { Reads (view_list view_ref) result (many (past (symbol Symbol.Comma) ref_)) depth text.entry }
-{
-    let mut found = Seq::new(alloc);
-    let mut rest = text;
-    'items: while rest.begins_symbol(Symbol::Comma) {
-        let (item, later) = next_reference(alloc, depth, rest)?;
-        found.push(item)?;
-        rest = later;
-    }
-    Ok((found, rest))
+    listed(
+        alloc,
+        Symbol::Comma,
+        text,
+        |text| reference(alloc, depth, text),
+    )
 }
 
 /// `[ "using" ref { "," ref } ]`
@@ -52,9 +42,8 @@ fn using<'a>(
         return Ok((none, text));
     }
     let text = text.reserved(Word::Using)?;
-    let (first, text) = reference(alloc, depth, text)?;
-    let (rest, text) = more_references(alloc, depth, text)?;
-    let references = Held::new(alloc, Some((first, rest)))?;
+    let (references, text) = references(alloc, depth, text)?;
+    let references = Held::new(alloc, Some(references))?;
     Ok((references, text))
 }
 
@@ -119,14 +108,7 @@ fn step<'a>(alloc: Global, depth: u32, text: Cursor<'a>) -> Parsed<'a, Step>
 fn steps<'a>(alloc: Global, depth: u32, text: Cursor<'a>) -> Parsed<'a, Seq<Step>>
     ensures { Reads (view_list view_step) result (many step_) depth text.entry }
 {
-    let mut found = Seq::new(alloc);
-    let mut rest = text;
-    'items: while rest.begins_name() {
-        let (item, later) = step(alloc, depth, rest)?;
-        found.push(item)?;
-        rest = later;
-    }
-    Ok((found, rest))
+    repeated(alloc, Front::Name, text, |text| step(alloc, depth, text))
 }
 
 /// `proof = "proof" word { step } "end"`

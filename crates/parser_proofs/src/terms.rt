@@ -11,10 +11,10 @@ ghost use Rattle.unity_syntax.specs.Grammar.{made, past, then_, in_parentheses, 
 ghost use Rattle.unity_syntax.specs.Grammar.{pair_, exists_, induct_, psp_, weaken_, other_term_, term_};
 ghost use Rattle.unity_syntax.specs.View.{view_term};
 ghost use Rattle.parser_expressions.specs.Gives.{Reads, ReadsAs, remaining};
-ghost use Rattle.parser_proofs.specs.Forms.{form_, form_kind, form_contents};
+ghost use Rattle.parser_proofs.specs.Forms.{form_, enclosed_contents, enclosing};
 ghost use Rattle.parser_proofs.specs.TermParts.{view_descent, view_weakening};
 
-use crate::forms::Form;
+use crate::forms::{Enclosed, Form};
 use crate::term_parts;
 use crate::term_parts::{Descent, Weakening};
 use case_tables::{Symbol, Word};
@@ -118,49 +118,50 @@ fn form_term<'a>(alloc: Global, depth: u32, form: Form, text: Cursor<'a>) -> Par
 {
     let at = text.place();
     let text = text.reserved(form.word())?;
-    enclosed(alloc, depth, at, form, text)
+    enclosed(alloc, depth, at, Enclosed::Parts(form), text)
 }
 
-/// `"(" .. ")"`, of the term of this form that begins at this place
-#[tactic(auto, using(parser_expressions::proofs::Levels::node_level, parser_expressions::proofs::Levels::node_none))]
+/// `"(" .. ")"`, of the term that begins at this place
+#[tactic(auto, using(parser_expressions::proofs::Levels::after_level, parser_expressions::proofs::Levels::after_none))]
 #[cycle(terms)]
 pub fn enclosed<'a>(
     alloc: Global,
     depth: u32,
     at: u64,
-    form: Form,
+    what: Enclosed,
     text: Cursor<'a>,
 ) -> Parsed<'a, Held<Term>>
-    ensures { ReadsAs (node (kind (form_kind form)) at)
-        view_term result (in_parentheses (form_contents form)) depth text.entry }
+    ensures { ReadsAs (enclosing what at)
+        view_term result (in_parentheses (enclosed_contents what)) depth text.entry }
 {
     let rest = text.symbol(Symbol::OpenParenthesis)?;
     if depth == 0 {
         return Err(Stop::TooDeep(text));
     }
-    let (whole, rest) = parts(alloc, depth - 1, at, form, rest)?;
+    let (whole, rest) = parts(alloc, depth - 1, at, what, rest)?;
     let rest = rest.symbol(Symbol::CloseParenthesis)?;
     Ok((whole, rest))
 }
 
-/// What stands in the parentheses of the term of this form that begins at this place.
+/// What stands in the parentheses of the term that begins at this place.
 #[cycle(terms)]
 fn parts<'a>(
     alloc: Global,
     depth: u32,
     at: u64,
-    form: Form,
+    what: Enclosed,
     text: Cursor<'a>,
 ) -> Parsed<'a, Held<Term>>
-    ensures { ReadsAs (node (kind (form_kind form)) at)
-        view_term result (at_number bodies (contents (form_contents form))) depth text.entry }
+    ensures { ReadsAs (enclosing what at)
+        view_term result (at_number bodies (contents (enclosed_contents what))) depth text.entry }
 {
-    match form {
-        Form::Imply => imply(alloc, depth, at, text),
-        Form::Exists => exists(alloc, depth, at, text),
-        Form::Induct => induct(alloc, depth, at, text),
-        Form::Psp => psp(alloc, depth, at, text),
-        Form::Weaken => weaken(alloc, depth, at, text),
+    match what {
+        Enclosed::Parts(Form::Imply) => imply(alloc, depth, at, text),
+        Enclosed::Parts(Form::Exists) => exists(alloc, depth, at, text),
+        Enclosed::Parts(Form::Induct) => induct(alloc, depth, at, text),
+        Enclosed::Parts(Form::Psp) => psp(alloc, depth, at, text),
+        Enclosed::Parts(Form::Weaken) => weaken(alloc, depth, at, text),
+        Enclosed::Terms(which) => two_terms(alloc, depth, at, which, text),
     }
 }
 
@@ -186,29 +187,7 @@ fn pair_term<'a>(alloc: Global, depth: u32, text: Cursor<'a>) -> Parsed<'a, Held
 {
     let at = text.place();
     let (which, text) = pair_word(text)?;
-    enclosed_pair(alloc, depth, at, which, text)
-}
-
-/// `"(" term "," term ")"`, of the term with this word that begins at this place
-#[tactic(auto, using(parser_expressions::proofs::Levels::with_level, parser_expressions::proofs::Levels::with_none))]
-#[cycle(terms)]
-fn enclosed_pair<'a>(
-    alloc: Global,
-    depth: u32,
-    at: u64,
-    which: Word,
-    text: Cursor<'a>,
-) -> Parsed<'a, Held<Term>>
-    ensures { ReadsAs (λ x. node (kind Kind.term_pair) at (pair (choice (reserved which)) x))
-        view_term result (in_parentheses Contents.pair) depth text.entry }
-{
-    let rest = text.symbol(Symbol::OpenParenthesis)?;
-    if depth == 0 {
-        return Err(Stop::TooDeep(text));
-    }
-    let (whole, rest) = two_terms(alloc, depth - 1, at, which, rest)?;
-    let rest = rest.symbol(Symbol::CloseParenthesis)?;
-    Ok((whole, rest))
+    enclosed(alloc, depth, at, Enclosed::Terms(which), text)
 }
 
 /// `term "," term`

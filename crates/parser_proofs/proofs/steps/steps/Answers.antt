@@ -1,19 +1,22 @@
-use Rattle.std.proofs.Common.{sym, ◌∙◌}
-use Rattle.std.proofs.lemmas.Result.{err_from_is_err_and}
-use Rattle.parser_expressions.proofs.Repetition.{goes_on, ends, fails, shorter}
+use Rattle.std.proofs.Common.{refl, rules}
+use Rattle.unity_syntax.specs.Grammar.{step_}
+use Rattle.unity_syntax.specs.View.{view_step}
+use Rattle.unity_syntax.proofs.Productions.{all_productions}
+use Rattle.parser_expressions.proofs.Repetition.{takes_token}
 use Rattle.parser_proofs.proofs.ItemForms.{is_step}
 use Rattle.parser_proofs.proofs.steps.steps.Goals as goal
 
-pub items-smaller : goal.items-smaller
-items-smaller c = shorter is_step c.args.depth _ _ _ c.in_ok-item.ensures
-
-pub items-preserved : goal.items-preserved
-items-preserved c = goes_on is_step c.items.invariant (sym c.begins_name.ensures ∙ c.items-test.true)
-    c.in_ok-item.item _ c.in_ok-item.ensures _ c.in_ok-push.ensures.ok
+pub repeated-requires : goal.repeated-requires
+unfolding all_productions
+repeated-requires c = λ k. (
+  search rules,
+  (
+    search rules,
+    λ text x later p.
+        takes_token view_step step_ c.args.depth refl refl text x later (search rules),
+  ),
+)
 
 pub returns : goal.returns
-returns c = ends is_step c.items.invariant (sym c.begins_name.ensures ∙ c.items-test.false)
-
-pub returns-in_err-item : goal.returns-in_err-item
-returns-in_err-item c = let p = err_from_is_err_and c.from_residual.result c.from_residual.ensures.1 in rw (p.1, p.2)
-    (fails is_step c.items.invariant (sym c.begins_name.ensures ∙ c.items-test.true) _ c.in_err-item.ensures)
+unfolding all_productions
+returns c = c.repeated.ensures view_step step_ c.args.depth is_step (λ text r p. search rules)

@@ -12,7 +12,7 @@ use Rattle.parser_expressions.specs.declared.cursor.Cursor.{Cursor}
 use Rattle.parser_expressions.specs.Gives.{remaining}
 use Rattle.parser_expressions.proofs.Giving.{gives_same, after_twice}
 use Rattle.parser_expressions.proofs.Levels.{contents_fail}
-use Rattle.parser_proofs.specs.Forms.{form_contents, form_kind}
+use Rattle.parser_proofs.specs.Forms.{enclosed_contents, enclosing}
 use Rattle.parser_expressions.proofs.Failing.{through}
 use Rattle.parser_expressions.proofs.BoundReading.{bound_fails, form_read, form_fails}
 use Rattle.parser_proofs.proofs.terms.+terms.Goals as goal
@@ -73,23 +73,15 @@ pub enclosed-returns-in_err-whole : goal.enclosed-returns-in_err-whole
 enclosed-returns-in_err-whole t c =
     let p = err_from_is_err_and c.from_residual-in_err-whole.result c.from_residual-in_err-whole.ensures.1 in rw
     (p.1, p.2)
-    (contents_fail (node (kind (form_kind c.args.form)) c.args.at) c.args.depth (symbol Symbol.OpenParenthesis)
-    (contents (form_contents c.args.form)) (symbol Symbol.CloseParenthesis)
-    (remaining c.args.text) (remaining c.in_ok-rest.rest) (omega arith) c.in_ok-rest.ensures _ c.in_err-whole.ensures)
-
-pub enclosed_pair-returns-in_err-whole : goal.enclosed_pair-returns-in_err-whole
-enclosed_pair-returns-in_err-whole t c =
-    let p = err_from_is_err_and c.from_residual-in_err-whole.result c.from_residual-in_err-whole.ensures.1 in rw
-    (p.1, p.2)
-    (contents_fail (λ x. node (kind Kind.term_pair) c.args.at (pair (choice (reserved c.args.which)) x)) c.args.depth
-    (symbol Symbol.OpenParenthesis) (contents Contents.pair) (symbol Symbol.CloseParenthesis)
+    (contents_fail (enclosing c.args.what c.args.at) c.args.depth (symbol Symbol.OpenParenthesis)
+    (contents (enclosed_contents c.args.what)) (symbol Symbol.CloseParenthesis)
     (remaining c.args.text) (remaining c.in_ok-rest.rest) (omega arith) c.in_ok-rest.ensures _ c.in_err-whole.ensures)
 
 abbrev pair_of : ℕ → Tree → Tree → Tree
 pair_of at w x = node (kind Kind.term_pair) at (pair w x)
 
 pub pair_term-returns : goal.pair_term-returns
-pair_term-returns t c = gives_same (λ (p : Term × Cursor). (view_term p.0, remaining p.1)) c.enclosed_pair.result
+pair_term-returns t c = gives_same (λ (p : Term × Cursor). (view_term p.0, remaining p.1)) c.enclosed.result
     (ap (λ r. after (node (kind Kind.term_pair) (place_of (remaining c.args.text)))
     (and_then (read grammar c.args.depth (in_parentheses Contents.pair)) pair r)) c.in_ok-which.ensures
     ∙ after_twice (node (kind Kind.term_pair) (place_of (remaining c.args.text)))
@@ -98,4 +90,4 @@ pair_term-returns t c = gives_same (λ (p : Term × Cursor). (view_term p.0, rem
     ∙ ap (λ (m : ℕ). after (pair_of m (choice (reserved c.in_ok-which.which)))
     (read grammar c.args.depth (in_parentheses Contents.pair) (remaining c.in_ok-which.text)))
     (sym c.place-at.ensures))
-    c.enclosed_pair.ensures
+    c.enclosed.ensures

@@ -39,6 +39,3 @@ decreases-pair_term l = 16 * l.depth + 4
 
 abbrev pub decreases-enclosed : goal.decreases-enclosed
 decreases-enclosed l = 16 * l.depth + 3
-
-abbrev pub decreases-enclosed_pair : goal.decreases-enclosed_pair
-decreases-enclosed_pair l = 16 * l.depth + 3
