@@ -167,16 +167,27 @@ fn part_ends(
         } => match look_at_condition(rest, table, limits, looks, yes, no)? {
             Truth::True => term_ends(rest, table, limits, looks, first),
             Truth::False => term_ends(rest, table, limits, looks, second),
-            Truth::Open => {
-                let one = term_ends(rest, table, limits, looks, first)?;
-                let other = term_ends(rest, table, limits, looks, second)?;
-                Ok(Ends {
-                    low: lesser(one.low, other.low),
-                    high: greater(one.high, other.high),
-                })
-            }
+            Truth::Open => either_ends(rest, table, limits, looks, first, second),
         },
     }
+}
+
+/// The ends of a sum that is one of two.
+#[cycle(looking)]
+fn either_ends(
+    depth: u32,
+    table: &mut Table,
+    limits: &mut Limits,
+    looks: &mut Looks,
+    first: usize,
+    second: usize,
+) -> Result<Ends, Stop> {
+    let one = term_ends(depth, table, limits, looks, first)?;
+    let other = term_ends(depth, table, limits, looks, second)?;
+    Ok(Ends {
+        low: lesser(one.low, other.low),
+        high: greater(one.high, other.high),
+    })
 }
 
 /// Whether a condition holds, by it and its negation.

@@ -21,3 +21,6 @@ decreases-term_ends l = 12 * l.depth + 6
 
 abbrev pub decreases-part_ends : goal.decreases-part_ends
 decreases-part_ends l = 12 * l.depth + 5
+
+abbrev pub decreases-either_ends : goal.decreases-either_ends
+decreases-either_ends l = 12 * l.depth + 7
