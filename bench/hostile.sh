@@ -57,6 +57,13 @@ claim_over_statements() {
         "s: defined by text; v: invariant (sum i : 1..15000 :: x) <= 15000 by text;"
 }
 
+# a large claim of little height over many statements, which write nothing that it names
+wide_claim_over_statements() {
+    document "x : 0..1
+y : 0..1" "" "<[] k : 1..$1 :: s: y := y |>" \
+        "s: defined by text; v: invariant (all i : 1..30 :: (sum j : 1..400 :: x) <= 400) by text;"
+}
+
 # a large invariant, named often
 used_often() {
     document "x : 0..1" "" "s: x := x" "s: defined by text;
@@ -239,6 +246,7 @@ row sum_in_itself 10000 check
 row sum_in_itself 20000 check
 row sum_in_statements 4096 check
 row claim_over_statements 4096 check
+row wide_claim_over_statements 1024 check
 row used_often 1000 prove 1000000
 row always_names 1000 check
 row unions_of_large 400 check
@@ -260,6 +268,7 @@ echo "|---|---|---|---|---|---|"
 growth sum_in_itself 5000 check
 growth sum_in_statements 256 check
 growth claim_over_statements 512 check
+growth wide_claim_over_statements 256 check
 growth used_often 2000 prove 1000000
 growth always_names 4000 check
 growth unions_of_large 400 check

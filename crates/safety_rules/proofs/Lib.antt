@@ -9,6 +9,7 @@ pub mod JoinLaws
 pub mod NameLaws
 pub mod OversizedLaws
 pub mod ParamLaws
+pub mod PooledLaws
 pub mod SoundLaws
 pub mod StateLaws
 pub mod UsableLaws

@@ -10,10 +10,11 @@ use crate::concluding::{add_goal, conclude};
 use crate::meanings::{helped, one_meant};
 use crate::naming::{is_helper, may_mean, names_some};
 use crate::places::{Derived, Place, RuleError};
+use crate::preconditions::before;
 use crate::recording::{Claim, some_helper};
-use crate::texts::add_unless;
+use crate::texts::{add_unless, after};
 use case_tables::{Code, Kind};
-use core_terms::{CForm, Helper, held_form, owned_form};
+use core_terms::{CForm, Helper, Pool, held_form, owned_form};
 use obligations::Obligation;
 use std::alloc::{AllocError, Global};
 use unity_base::Seq;
@@ -41,6 +42,7 @@ fn add_meant(
 fn add_helped(
     alloc: Global,
     pl: &Place,
+    pool: &mut Pool,
     p: &CForm,
     q: &CForm,
     h: &Helper,
@@ -53,10 +55,13 @@ fn add_helped(
     ensures { Added result goals.old goals.new pl.now.slots.now pl.now.params.now
         (map (table.helped_form (site_of pl.now) p.now q.now h.now) (table.instances_of (site_of pl.now) h.now)) }
 {
+    let held = after(alloc, pl, q)?;
+    let id = pool.put_form(held.get())?;
     for s in pl.program.statements.as_slice() {
         let statement = s.get();
         if may_mean(h, statement) {
-            let form = helped(alloc, pl, p, q, h, statement)?;
+            let before = before(alloc, pl, pool, id, statement)?;
+            let form = helped(alloc, pl, p, q, h, statement, before)?;
             add_goal(alloc, pl, goals, owned_form(alloc, form)?)?;
         }
     }
@@ -67,6 +72,7 @@ fn add_helped(
 fn add_helper(
     alloc: Global,
     pl: &Place,
+    pool: &mut Pool,
     p: &CForm,
     q: &CForm,
     h: &Helper,
@@ -80,13 +86,14 @@ fn add_helper(
         (table.helper_forms (site_of pl.now) p.now q.now h.now) }
 {
     add_meant(alloc, pl, h, goals)?;
-    add_helped(alloc, pl, p, q, h, goals)
+    add_helped(alloc, pl, pool, p, q, h, goals)
 }
 
 // All obligations of `p ensures q`.
 fn add_ensures(
     alloc: Global,
     pl: &Place,
+    pool: &mut Pool,
     p: &CForm,
     q: &CForm,
     h: &Helper,
@@ -99,8 +106,8 @@ fn add_ensures(
     ensures { Added result goals.old goals.new pl.now.slots.now pl.now.params.now
         (table.unless_forms (site_of pl.now) p.now q.now ++ table.helper_forms (site_of pl.now) p.now q.now h.now) }
 {
-    add_unless(alloc, pl, p, q, goals)?;
-    add_helper(alloc, pl, p, q, h, goals)
+    add_unless(alloc, pl, pool, p, q, goals)?;
+    add_helper(alloc, pl, pool, p, q, h, goals)
 }
 
 /// `p ensures q` by the program's text: `p unless q`, and the statement that helps gives q where p holds
@@ -126,8 +133,9 @@ pub fn ensures_rule(
     if !is_helper(pl, h) {
         return Err(RuleError::Fault(Code::NoSuchStatement));
     }
+    let mut pool = Pool::new(alloc);
     let mut goals = Seq::new(alloc);
-    add_ensures(alloc, pl, p, q, h, &mut goals)?;
+    add_ensures(alloc, pl, &mut pool, p, q, h, &mut goals)?;
     let claim = Claim {
         kind: Kind::Ensures,
         p: held_form(alloc, p)?,

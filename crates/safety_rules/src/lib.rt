@@ -13,6 +13,7 @@ mod meanings;
 mod naming;
 mod pairs;
 mod places;
+mod preconditions;
 mod premises;
 mod recording;
 mod texts;

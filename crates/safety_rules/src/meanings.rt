@@ -1,6 +1,6 @@
 // Which statement is meant, and what it does.
 ghost use Rattle.std.specs.Prelude.{◌≡◌, ◌++◌, ◌∷◌, [], All, IfOk, OnOk, map};
-ghost use Rattle.core_terms.specs.Conditions.{ArgFits, FormFits, StatementFits};
+ghost use Rattle.core_terms.specs.Conditions.{ArgFits, FormFits};
 ghost use Rattle.core_terms.specs.Folding as fold;
 ghost use Rattle.rules_table.specs.Forms as formula;
 ghost use Rattle.rules_table.specs.Table as table;
@@ -12,11 +12,10 @@ use crate::equations::add_equations;
 use crate::gathering::{gathered, implied};
 use crate::naming::may_mean;
 use crate::places::Place;
-use crate::texts::{after, using_and};
+use crate::texts::using_and;
 use core_terms::{CForm, CStmt, Helper, Joining, copy_form, not_form, owned_form};
 use std::alloc::{AllocError, Global};
 use unity_base::{Seq, Shared};
-use wp_substitution::wp;
 
 // That the indices are those of the statement.
 fn is_meant(alloc: Global, h: &Helper, s: &CStmt) -> Result<Shared<CForm>, AllocError>
@@ -80,7 +79,7 @@ fn premises(
     Ok(all)
 }
 
-// Where U and p hold and q does not, the statement, if it is meant, gives q.
+// Where U and p hold and q does not, and the statement is meant, what has to hold before it does.
 pub(crate) fn helped(
     alloc: Global,
     pl: &Place,
@@ -88,16 +87,16 @@ pub(crate) fn helped(
     q: &CForm,
     h: &Helper,
     s: &CStmt,
+    before: Shared<CForm>,
 ) -> Result<Shared<CForm>, AllocError>
     requires place { IsPlace pl.now }
     requires p { FormFits pl.now.slots.now pl.now.params.now p.now }
     requires q { FormFits pl.now.slots.now pl.now.params.now q.now }
     requires helper { All ArgFits h.now.args }
-    requires statement { StatementFits pl.now.slots.now s.now }
-    ensures { IfOk result (λ f. f ≡ table.helped_form (site_of pl.now) p.now q.now h.now s.now) }
+    requires before { IsFoldable before }
+    ensures { IfOk result (λ f. f ≡ formula.imply (pl.now.using.now
+        ++ p.now ∷ fold.not_form q.now ∷ table.equations h.now.args s.now.indices) before) }
 {
     let premises = premises(alloc, pl, p, q, h, s)?;
-    let after = after(alloc, pl, q)?;
-    let before = Shared::new(alloc, wp(alloc, s, after.get(), pl.slots)?)?;
     implied(alloc, premises.as_slice(), before)
 }

@@ -7,6 +7,7 @@ use fair_rounds::Record;
 use obligations::{Obligation, TooLargeError};
 use std::alloc::AllocError;
 use unity_base::Seq;
+use wp_substitution::WpError;
 
 /// Where a rule is applied: the step's name, program and parameters, and the predicates of the
 /// invariants that it uses.
@@ -53,6 +54,19 @@ impl From<TooLargeError> for RuleError {
         match cause {
             TooLargeError::TooLarge => RuleError::Fault(Code::FormulaTooLarge),
             TooLargeError::Memory => RuleError::Memory,
+        }
+    }
+}
+
+impl From<WpError> for RuleError {
+    ghost use Rattle.safety_rules.specs.Errors.{precondition_error};
+
+    ghost from_gives = { λ cause error. error ≡ precondition_error cause };
+
+    fn from(cause: WpError) -> Self {
+        match cause {
+            WpError::TooLarge => RuleError::Fault(Code::FormulaTooLarge),
+            WpError::Memory => RuleError::Memory,
         }
     }
 }

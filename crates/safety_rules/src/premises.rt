@@ -89,6 +89,16 @@ pub(crate) fn joined(alloc: Global, forms: &[CForm]) -> Result<Option<Shared<CFo
     Ok(whole)
 }
 
+// The same premises, shared.
+pub(crate) fn shared(premises: &Option<Shared<CForm>>) -> Result<Option<Shared<CForm>>, AllocError>
+    ensures { IfOk result (λ whole. whole ≡ premises.now) }
+{
+    match premises {
+        Some(f) => Ok(Some(f.share()?)),
+        None => Ok(None),
+    }
+}
+
 // Where the premises hold, so does the formula.
 pub(crate) fn imply(
     alloc: Global,
