@@ -77,41 +77,112 @@ expect_claim() {
     compare "a claim on $1 parts" 0 check < "$proved"
 }
 
-# expect_deep LEVELS PART: a guard on so many levels of this part, in parentheses that names carry on, is proved within
-# a stack of 4 MiB, and `check` accepts what is written.
-expect_deep() {
-    wanted=$text
-    printf '%s\n' "accepted 1 steps 1 obligations" "P.safe defined" > "$text"
-    awk -v levels="$1" -v part="$2" 'BEGIN {
-        print "unity 1\nprogram P\ndeclare x : 0..1\nalways"
-        last = "x = 0"
+# within NAME STATUS LINE WORD..: within a stack of 4 MiB these words make the document in `text` exit so, with this first
+# line.
+within() {
+    local name=$1 status=$2 line=$3 ended=0
+    shift 3
+    (ulimit -Ss 4096 && exec crates/unity/out/unity "$@" < "$text" > "$answer") || ended=$?
+    if [ "$ended" = "$status" ] && [ "$(head -n 1 "$answer")" = "$line" ]; then
+        count_one 0 "$name"
+    else
+        count_one 1 "$name, within a stack of 4 MiB: status $ended"
+    fi
+}
+
+# proved_within NAME STEPS OBLIGATIONS: within a stack of 4 MiB the document in `text` runs, certificates are found for
+# it, and `check` accepts them.
+proved_within() {
+    within "$1, run" 0 "run P" run P 3
+    (ulimit -Ss 4096 && crates/unity/out/unity prove 1000000 < "$text" > "$proved") || true
+    cp "$proved" "$text"
+    within "$1" 0 "accepted $2 steps $3 obligations" check
+}
+
+# nested LEVELS PART LAST: names, up to the name `deep`, that stand for LAST below so many levels of this part, in
+# parentheses that one name carries on from the other.
+nested() {
+    awk -v levels="$1" -v part="$2" -v last="$3" 'BEGIN {
+        print "always"
         for (n = 0; levels > 0; n++) {
             opened = closed = ""
             for (i = 0; i < 190 && levels > 0; i++) { opened = opened part " ("; closed = closed ")"; levels-- }
             print "  d" n " = " opened last closed
             last = "d" n
         }
-        print "assign s: x := x if " last " end\nproof P safe: defined by text; end"
-    }' > "$answer"
-    (ulimit -Ss 4096 && crates/unity/out/unity prove 1000000 < "$answer" > "$proved") || true
-    compare "a guard of $1 times $2" 0 check < "$proved"
+        print "  deep = " last
+    }'
+}
+
+# added TIMES TERM FIRST: FIRST and so many terms.
+added() {
+    echo "$3"
+    yes "+ $2" | head -n "$1"
+}
+
+# expect_deep LEVELS PART LAST [GUARD]: the guard `deep`, or one on it, on LAST below so many levels of this part is proved within a stack of
+# 4 MiB.
+expect_deep() {
+    {
+        printf '%s\n' "unity 2" "program P declare x : 0..1 y : 0..1 a : array 0..1 of 0..1"
+        nested "$1" "$2" "$3"
+        echo "assign s: x := x if ${4:-deep} end proof P safe: defined by text; end"
+    } > "$text"
+    proved_within "a guard of $1 times $2 over $3" 1 1
+}
+
+# expect_wide TIMES FIRST: a guard that so many x and FIRST are at most y is proved within a stack of 4 MiB.
+expect_wide() {
+    {
+        printf '%s\n' "unity 2" "program P declare x : 0..1 y : 0..1 a : array 0..1 of 0..1 assign s: x := x if"
+        added "$1" x "$2"
+        echo "<= y end proof P safe: defined by text; end"
+    } > "$text"
+    proved_within "a guard on $2 and $1 terms" 1 1
+}
+
+# expect_parameters TIMES: a claim on a sum of so many parameters is cited for a parameter and for a number within a
+# stack of 4 MiB.
+expect_parameters() {
+    local sum
+    sum=$(added "$(($1 - 1))" k k)
+    {
+        printf '%s\n' "unity 1" "program P declare x : 0..1 assign s: x := x end proof P safe: defined by text;"
+        echo "one(k : 0..1): $sum <= x leadsto true by imply($sum <= x, true);"
+        echo "other(k : 0..1): $sum <= x leadsto true by from one[k];"
+        echo "zero: 0 <= x leadsto true by from one[0]; end"
+    } > "$text"
+    proved_within "a claim on $1 parameters" 4 2
+}
+
+# expect_large_claim TIMES SIDE: a claim on a sum of so many x, nested to this side, is refused within a stack of 4 MiB,
+# since its obligation is too large.
+expect_large_claim() {
+    {
+        printf '%s\n' "unity 1" "program P declare x : 0..1 y : 0..1"
+        if [ "$2" = right ]; then
+            nested "$(($1 - 1))" "x +" x
+        fi
+        echo "assign s: y := y end proof P safe: defined by text; many: invariant"
+        if [ "$2" = right ]; then
+            echo deep
+        else
+            added "$(($1 - 1))" x x
+        fi
+        echo "<= y by text; end"
+    } > "$text"
+    within "a claim on $1 terms nested to the $2" 1 "rejected 42 FormulaTooLarge P.many" prove 1000000
 }
 
 # expect_false_claim TIMES: a claim on a sum of so many parts is refuted within a stack of 4 MiB.
 expect_false_claim() {
-    local ended=0
     {
         printf '%s\n' "unity 1" "program P declare x : 0..1 y : 0..1 assign s: y := y end"
-        echo "proof P safe: defined by text; many: invariant 1"
-        yes "+ 1" | head -n "$(($1 - 1))"
+        echo "proof P safe: defined by text; many: invariant"
+        added "$(($1 - 1))" 1 1
         echo "<= x by text; end"
     } > "$text"
-    (ulimit -Ss 4096 && exec crates/unity/out/unity prove 1000000 < "$text" > "$answer") || ended=$?
-    if [ "$ended" = 3 ] && [ "$(head -n 1 "$answer")" = "refuted P.many obligation 2" ]; then
-        count_one 0 "a false claim on $1 parts"
-    else
-        count_one 1 "a false claim on $1 parts: status $ended"
-    fi
+    within "a false claim on $1 parts" 3 "refuted P.many obligation 2" prove 1000000
 }
 
 # expect_bound LINE WORD..: by these words the script that tries a bound on all executions of 8 steps says
@@ -706,8 +777,18 @@ for name in meeting_time sort odd_even reachability shortest_path termination bi
     expect_counted "$name" "$name.accepted"
 done
 expect_claim 13000 +
-expect_deep 65520 not
-expect_deep 32758 "true and"
+expect_deep 65520 not "x = 0"
+expect_deep 32758 "true and" "x = 0"
+expect_deep 32700 "x +" x "deep <= y"
+expect_deep 32700 "x -" x "deep <= y"
+expect_deep 32600 "x +" "a[x]" "deep <= y"
+expect_deep 32600 "x +" "x div 2" "deep <= y"
+expect_wide 32600 x
+expect_wide 32600 "a[x]"
+expect_wide 32600 "x div 2"
+expect_parameters 32740
+expect_large_claim 32742 left
+expect_large_claim 32742 right
 expect_false_claim 32742
 expect_refuted pick
 expect_refuted race
