@@ -1,5 +1,8 @@
 pub mod SideLaws
 pub mod SearchLaws
+pub mod HalfLaws
+pub mod MarkLaws
+pub mod ViewLaws
 pub mod TreeLaws
 pub mod ReadyLaws
 pub mod MetLaws

@@ -1,8 +1,8 @@
 -- What the search keeps.
-use Rattle.std.proofs.Common.{◌≡◌, ℕ, zero, suc, ◌+◌, ◌-◌, ◌*◌, ◌≤◌, ◌<◌, ◌≤ℤ◌, ◌<ℤ◌, ℤ, nat_lt, slice_set, slice_get}
-use Rattle.std.proofs.Common.{slice_index_or, ◌&&◌, Ok, pos, negsuc, ◌+ℤ◌, ◌-ℤ◌, true, false, cond, Option, Some}
-use Rattle.std.proofs.Common.{◌-◌, None, List, [], ◌∷◌, ◌++◌, take, drop, length, arith, refl, sym, ap, subst, ◌∙◌}
-use Rattle.std.proofs.Common.{Bool, mul-le-mul, le_refl}
+use Rattle.std.proofs.Common.{◌≡◌, ℕ, zero, suc, ◌+◌, ◌-◌, ◌*◌, ◌≤◌, ◌<◌, ◌≤ℤ◌, ◌<ℤ◌, ℤ, nat_lt, slice_index_or, ◌&&◌}
+use Rattle.std.proofs.Common.{Ok, pos, negsuc, ◌+ℤ◌, ◌-ℤ◌, true, false, cond, Option, Some, Bool}
+use Rattle.std.proofs.Common.{List, [], ◌∷◌, ◌++◌, take, drop, length, arith, refl, sym, ap, subst, ◌∙◌}
+use Rattle.std.proofs.Common.{mul-le-mul, le_refl}
 use Rattle.std.proofs.lemmas.Bool.{and_parts}
 use Rattle.std.proofs.Math.Nat.{mul-le-mul_right}
 use Rattle.std.proofs.lemmas.Int.{ints}
@@ -12,12 +12,10 @@ use Rattle.core_terms.specs.declared.trees.Range.{Range}
 use Rattle.case_tables.specs.declared.code_table.Code.{Code}
 use Rattle.obligations.specs.declared.branches.Branch.{Branch}
 use Rattle.obligations.specs.declared.branches.Variable.{Variable}
-use Rattle.core_terms.specs.declared.trees.CForm.{CForm}
 use Rattle.obligations.specs.declared.certificates.Node.{Node}
 use Rattle.certificate_rules.specs.Refutation.{OpenBranch}
 use Rattle.obligations.specs.declared.branches.Fact.{Fact}
 use Rattle.obligations.specs.LinearForms.{zeros, fact_of}
-use Rattle.obligations.specs.Settling.{settled, outcome}
 use Rattle.certificate_rules.specs.Sums.{sum_pairs, all_pairs, divided}
 use Rattle.obligations.specs.Settling.{added}
 use Rattle.certificate_rules.specs.Refutation.{fails, opens, made_by, made_sum, made_round, made, allowing}
@@ -28,7 +26,7 @@ use Rattle.std.specs.List.{list_all}
 use Rattle.std.proofs.lemmas.List.Folds.{list_all-append}
 use Rattle.obligations.specs.Certificates.{units}
 use Rattle.search_tree.specs.Left.{left_by, left_after, left}
-use Rattle.obligations.specs.Plain.{first_cut, middle, with_high, with_low, leaf_units}
+use Rattle.obligations.specs.Plain.{first_cut, middle, leaf_units}
 use Rattle.obligations.specs.Scopes.{scope_of}
 use Rattle.obligations.specs.Shapes.{quotients_of}
 use Rattle.obligations.proofs.ScopeLaws.{scope-length}
@@ -39,19 +37,6 @@ use Rattle.search_tree.specs.Searching.{is_found_node}
 pub take-whole : {A : Type 0} (xs ys : List A) (n : ℕ) → n ≡ length xs → take n (xs ++ ys) ≡ xs
 take-whole [] ys n e = ap (λ k. take k ys) e
 take-whole (x ∷ xs) ys n e = ap (λ k. take k (x ∷ (xs ++ ys))) e ∙ ap (λ z. x ∷ z) (take-whole xs ys (length xs) refl)
-
--- what settling adds is dropped again
-pub undone : (vs : List Variable) (f : CForm) (b c d e : Branch) (n m : ℕ) → c ≡ settled vs f b → d ≡ c → n ≡ length
-    b.facts → m ≡ length b.waiting →
-    e ≡ record { facts = take n d.facts; waiting = take m d.waiting; added = d.added } → e ≡ b
-undone vs f b c d e n m p q h k r =
-    r ∙ ap (λ (x : Branch). record { facts = take n x.facts; waiting = take m x.waiting; added = x.added }) (q ∙ p)
-    ∙ ap (λ x. record { facts = x; waiting = take m (b.waiting ++ (outcome vs f).yes.waiting); added = b.added })
-    (take-whole b.facts (outcome vs f).yes.facts n h)
-    ∙ ap (λ x. record { facts = b.facts; waiting = x; added = b.added })
-    (take-whole b.waiting (outcome vs f).yes.waiting m k)
-
-pub ruleset undo_laws = undone
 
 pub units-append : (xs ys : List Node) → units (xs ++ ys) ≡ units xs + units ys
 units-append [] ys = omega arith
@@ -87,40 +72,6 @@ le-not a b h = grind (arith, ints)
 
 le-is : (a b : ℤ) → (a <ℤ b → ⊥) → int_le b a ≡ true
 le-is a b h = grind (arith, ints)
-
-pub set-high : (rs : List Range) (n : ℕ) (r : Range) (k : ℤ) → slice_get rs n ≡ Some r → slice_set rs n
-    (record { lo = r.lo; hi = k }) ≡ with_high rs n k
-set-high [] n r k e = cc
-set-high (x ∷ rs) zero r k e = let s : x ≡ r = cc in ap (λ (z : Range). record { lo = z.lo; hi = k } ∷ rs) (sym s)
-set-high (x ∷ rs) (suc n) r k e = ap (λ z. x ∷ z) (set-high rs n r k e)
-
-pub set-low : (rs : List Range) (n : ℕ) (r : Range) (k : ℤ) → slice_get rs n ≡ Some r → slice_set rs n
-    (record { lo = k; hi = r.hi }) ≡ with_low rs n k
-set-low [] n r k e = cc
-set-low (x ∷ rs) zero r k e = let s : x ≡ r = cc in ap (λ (z : Range). record { lo = k; hi = z.hi } ∷ rs) (sym s)
-set-low (x ∷ rs) (suc n) r k e = ap (λ z. x ∷ z) (set-low rs n r k e)
-
-pub past-high : (rs : List Range) (n : ℕ) (k : ℤ) → slice_get rs n ≡ None → rs ≡ with_high rs n k
-past-high [] n k e = refl
-past-high (x ∷ rs) zero k e = cc
-past-high (x ∷ rs) (suc n) k e = ap (λ z. x ∷ z) (past-high rs n k e)
-
-pub past-low : (rs : List Range) (n : ℕ) (k : ℤ) → slice_get rs n ≡ None → rs ≡ with_low rs n k
-past-low [] n k e = refl
-past-low (x ∷ rs) zero k e = cc
-past-low (x ∷ rs) (suc n) k e = ap (λ z. x ∷ z) (past-low rs n k e)
-
-pub high-is : (rs half new : List Range) (n : ℕ) (r item : Range) (k : ℤ) → new ≡ slice_set half n item → half ≡ rs →
-    slice_get rs n ≡ Some r → item ≡ record { lo = r.lo; hi = k } → new ≡ with_high rs n k
-high-is rs half new n r item k p q e i = p ∙ ap (λ z. slice_set z n item) q ∙ ap (slice_set rs n) i ∙ set-high rs n r
-    k e
-
-pub low-is : (rs half new : List Range) (n : ℕ) (r item : Range) (k : ℤ) → new ≡ slice_set half n item → half ≡ rs →
-    slice_get rs n ≡ Some r → item ≡ record { lo = k; hi = r.hi } → new ≡ with_low rs n k
-low-is rs half new n r item k p q e i = p ∙ ap (λ z. slice_set z n item) q ∙ ap (slice_set rs n) i ∙ set-low rs n r k
-    e
-
-pub ruleset half_laws = (set-high, set-low, past-high, past-low)
 
 -- Levels.
 pub made-level : (vs : List Variable) (levels : ℕ) (b : Branch) (n : Node) → 0 < levels →

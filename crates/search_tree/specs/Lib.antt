@@ -6,3 +6,6 @@ pub mod Searching
 pub mod Ends
 pub mod Laws
 pub mod Sides
+pub mod Views
+pub mod Halves
+pub mod Marks

@@ -1,11 +1,11 @@
 //! The two halves of the first range that has more than one value.
-ghost use Rattle.std.specs.Prelude.{◌≡◌, ◌+◌, ◌-◌, ◌<◌, ◌^◌, map, slice_get, pos};
+ghost use Rattle.std.specs.Prelude.{◌≡◌, ◌+◌, ◌-◌, ◌<◌, ◌^◌, map, slice_get, pos, ◌∷◌, []};
 ghost use Rattle.std.specs.Prelude.{◌≤ℤ◌, ◌<ℤ◌, ◌+ℤ◌, ◌-ℤ◌, int_div, IfOk, OnOk, MatchOption};
 ghost use Rattle.std.specs.Prelude.{length};
 ghost use Rattle.std.specs.Option.{option_copied};
 ghost use Rattle.obligations.specs.Settling.{added};
-ghost use Rattle.obligations.specs.Opening.{at_most, at_least};
-ghost use Rattle.obligations.specs.Plain.{ranges_of, middle, first_cut, with_high, with_low};
+ghost use Rattle.obligations.specs.Plain.{ranges_of, middle, first_cut};
+ghost use Rattle.search_tree.specs.Halves.{half_range, half_ranges, half_fact};
 
 use core_terms::Range;
 use obligations::{Branch, Fact, Node, Variable};
@@ -17,6 +17,13 @@ use unity_base::Seq;
 pub struct Halves {
     pub place: u32,
     pub at: i64,
+}
+
+/// One of the two halves of a range.
+#[derive(Clone, Copy)]
+pub enum Half {
+    Low,
+    High,
 }
 
 fn difference(hi: &i64, lo: &i64) -> i128
@@ -81,22 +88,20 @@ fn copy_ranges(alloc: Global, ranges: &[Range]) -> Result<Seq<Range>, AllocError
     Ok(copy)
 }
 
-fn range_up_to(range: &Range, halves: Halves) -> Range
-    ensures { result ≡ record { lo = range.now.lo; hi = halves.at } }
-{
-    Range {
-        lo: range.lo,
-        hi: halves.at,
-    }
-}
-
-fn range_above(range: &Range, halves: Halves) -> Range
+/// The half of a range.
+fn half_range(range: &Range, halves: Halves, half: Half) -> Range
     requires { halves.at <ℤ pos (2 ^ 63 - 1) }
-    ensures { result ≡ record { lo = halves.at +ℤ pos 1; hi = range.now.hi } }
+    ensures { result ≡ half_range half halves range.now }
 {
-    Range {
-        lo: halves.at + 1,
-        hi: range.hi,
+    match half {
+        Half::Low => Range {
+            lo: range.lo,
+            hi: halves.at,
+        },
+        Half::High => Range {
+            lo: halves.at + 1,
+            hi: range.hi,
+        },
     }
 }
 
@@ -107,36 +112,24 @@ fn range_at(ranges: &[Range], place: usize) -> Option<&Range>
     ranges.get(place)
 }
 
-/// The ranges, with one variable at most this.
-#[tactic(auto, using(crate::proofs::SearchLaws::half_laws))]
-pub fn low_half(alloc: Global, ranges: &[Range], halves: Halves) -> Result<Seq<Range>, AllocError>
-    requires { halves.place < length ranges.now }
-    ensures { IfOk result (λ half. half ≡ with_high ranges.now halves.place halves.at) }
-{
-    let mut half = copy_ranges(alloc, ranges)?;
-    match range_at(ranges, halves.place as usize) {
-        Some(range) => {
-            let _ = half.replace(halves.place as usize, range_up_to(range, halves));
-            Ok(half)
-        }
-        None => Ok(half),
-    }
-}
-
-/// The ranges, with one variable above this.
-#[tactic(auto, using(crate::proofs::SearchLaws::half_laws))]
-pub fn high_half(alloc: Global, ranges: &[Range], halves: Halves) -> Result<Seq<Range>, AllocError>
-    requires place { halves.place < length ranges.now }
+/// The ranges, that of the variable only by its half.
+#[tactic(auto, using(crate::proofs::HalfLaws::half_laws))]
+fn half_ranges(
+    alloc: Global,
+    ranges: &[Range],
+    halves: Halves,
+    half: Half,
+) -> Result<Seq<Range>, AllocError>
     requires room { halves.at <ℤ pos (2 ^ 63 - 1) }
-    ensures { IfOk result (λ half. half ≡ with_low ranges.now halves.place (halves.at +ℤ pos 1)) }
+    ensures { IfOk result (λ all. all ≡ half_ranges half halves ranges.now) }
 {
-    let mut half = copy_ranges(alloc, ranges)?;
+    let mut all = copy_ranges(alloc, ranges)?;
     match range_at(ranges, halves.place as usize) {
         Some(range) => {
-            let _ = half.replace(halves.place as usize, range_above(range, halves));
-            Ok(half)
+            let _ = all.replace(halves.place as usize, half_range(range, halves, half));
+            Ok(all)
         }
-        None => Ok(half),
+        None => Ok(all),
     }
 }
 
@@ -147,26 +140,42 @@ pub fn split_node(halves: Halves) -> Node
     Node::Split(halves.place as u64 + 1, halves.at)
 }
 
-/// Adds the fact that a variable is at most this.
-pub fn add_at_most(alloc: Global, halves: Halves, branch: &mut Branch) -> Result<(), AllocError>
-    ensures { OnOk result (branch.new ≡ added branch.old (at_most halves.place halves.at)) }
+/// The fact that a variable times a sign and a constant are at least 0.
+fn bound(alloc: Global, variable: u32, sign: i128, constant: i128) -> Result<Fact, AllocError>
+    ensures { IfOk result (λ fact. fact ≡ record { factors = (variable, sign) ∷ []; constant = constant }) }
 {
     let mut factors = Seq::new(alloc);
-    factors.push((halves.place, -1))?;
-    let constant = halves.at as i128;
-    branch.facts.push(Fact { factors, constant })?;
-    Ok(())
+    factors.push((variable, sign))?;
+    Ok(Fact { factors, constant })
 }
 
-/// Adds the fact that a variable is above this.
-pub fn add_above(alloc: Global, halves: Halves, branch: &mut Branch) -> Result<(), AllocError>
-    ensures { OnOk result (branch.new ≡ added branch.old (at_least halves.place (halves.at +ℤ pos 1))) }
+/// The fact that a variable is in a half of its range.
+fn half_fact(alloc: Global, halves: Halves, half: Half) -> Result<Fact, AllocError>
+    ensures { IfOk result (λ fact. fact ≡ half_fact half halves) }
 {
-    let mut factors = Seq::new(alloc);
-    factors.push((halves.place, 1))?;
-    let constant = -(halves.at as i128 + 1);
-    branch.facts.push(Fact { factors, constant })?;
-    Ok(())
+    let at = halves.at as i128;
+    match half {
+        Half::Low => bound(alloc, halves.place, -1, at),
+        Half::High => bound(alloc, halves.place, 1, -(at + 1)),
+    }
+}
+
+/// Takes a half of a variable's range: adds the fact that the variable is in it, and gives the ranges.
+pub fn take_half(
+    alloc: Global,
+    ranges: &[Range],
+    halves: Halves,
+    half: Half,
+    branch: &mut Branch,
+) -> Result<Seq<Range>, AllocError>
+    requires room { halves.at <ℤ pos (2 ^ 63 - 1) }
+    ensures ranges { IfOk result (λ all. all ≡ half_ranges half halves ranges.now) }
+    ensures branch { OnOk result (branch.new ≡ added branch.old (half_fact half halves)) }
+{
+    let all = half_ranges(alloc, ranges, halves, half)?;
+    let fact = half_fact(alloc, halves, half)?;
+    branch.facts.push(fact)?;
+    Ok(all)
 }
 
 /// The low ends of all ranges.

@@ -6,14 +6,15 @@ ghost use Rattle.obligations.specs.Plain.{first_cut};
 ghost use Rattle.obligations.specs.Reach.{some_out_of_reach};
 ghost use Rattle.obligations.specs.Scopes as scopes;
 ghost use Rattle.search_tree.specs.Points.{values_in, IsFixing};
-ghost use Rattle.search_tree.specs.Searching.{Ready, Ends, EndsLeaf, Finishes};
+ghost use Rattle.search_tree.specs.Searching.{Ends, EndsLeaf, Finishes};
+ghost use Rattle.search_tree.specs.Views.{IsView, IsReady};
 
 use crate::closing::{count_of, numbered};
 use crate::fixing::{Fixing, fixing_of};
 use crate::halves::low_ends;
 use crate::points::Point;
 use crate::trail::{Ended, Trail, append_nodes, finish};
-use core_terms::Range;
+use crate::views::View;
 use linear_prover::reach_chain;
 use obligations::{Branch, Node, Variable};
 use std::alloc::{AllocError, Global};
@@ -90,27 +91,22 @@ fn end_leaf(
 #[tactic(auto, using(crate::proofs::FixedLaws::leaf_laws))]
 pub fn refute_leaf(
     alloc: Global,
-    vs: &[Variable],
-    scope: &[Variable],
-    rest: u32,
-    ranges: &[Range],
+    view: View,
     branch: &Branch,
     trail: &mut Trail,
 ) -> Result<Ended, AllocError>
-    requires own { AreOwn vs.now }
-    requires scope { scope.now ≡ scopes.scope_of vs.now branch.now }
-    requires rest { rest ≤ 960 }
-    requires ready { Ready vs.now rest ranges.now branch.now }
+    requires view { IsView view branch.now }
+    requires ready { IsReady view branch.now }
     requires reach { some_out_of_reach branch.now.facts ≡ false }
     requires none { branch.now.waiting ≡ [] }
-    requires fixed { first_cut 0 ranges.now ≡ None }
-    ensures { IfOk result (Ends vs.now rest 1 branch.now trail.old trail.new) }
+    requires fixed { first_cut 0 view.ranges.now ≡ None }
+    ensures { IfOk result (Ends view.entry.vs.now view.entry.rest 1 branch.now trail.old trail.new) }
 {
     if branch.added == 0 {
-        Ok(Ended::Refuted(low_ends(alloc, ranges)?))
+        Ok(Ended::Refuted(low_ends(alloc, view.ranges)?))
     } else {
-        let fixing = fixing_of(alloc, vs, rest, ranges, branch)?;
-        let ended = end_leaf(alloc, vs, scope, branch, fixing, trail)?;
+        let fixing = fixing_of(alloc, view.vs, view.rest, view.ranges, branch)?;
+        let ended = end_leaf(alloc, view.vs, view.scope, branch, fixing, trail)?;
         Ok(ended)
     }
 }

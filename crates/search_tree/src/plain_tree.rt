@@ -1,111 +1,54 @@
 //! The search along the plain tree: cases in order, and then the halves of the ranges in order.
-ghost use Rattle.std.specs.Prelude.{◌≡◌, ◌-◌, ◌≤◌, ◌<◌, ◌^◌, ◌∷◌, [], suc, pos};
-ghost use Rattle.std.specs.Prelude.{◌<ℤ◌, false, ◌+ℤ◌, IfOk, length, true};
+ghost use Rattle.std.specs.Prelude.{◌≡◌, ◌-◌, ◌≤◌, ◌<◌, ◌^◌, ◌∷◌, [], pos};
+ghost use Rattle.std.specs.Prelude.{◌<ℤ◌, false, IfOk, true};
 ghost use Rattle.obligations.specs.Load.{need, term_load};
 ghost use Rattle.obligations.specs.Settling.{settled, added};
-ghost use Rattle.obligations.specs.Opening.{at_most, at_least};
 ghost use Rattle.obligations.specs.Reach.{some_out_of_reach};
-ghost use Rattle.obligations.specs.Obligations.{AreOwn};
 ghost use Rattle.obligations.specs.Scopes as scopes;
-ghost use Rattle.obligations.specs.Plain.{first_cut, with_high, with_low, waiting_only};
-ghost use Rattle.obligations.specs.Plain.{cut_leaves, side_leaves, quot_leaves, plain_leaves};
-ghost use Rattle.obligations.specs.Quotients as quotients;
+ghost use Rattle.obligations.specs.Plain.{first_cut, waiting_only, plain_leaves};
 ghost use Rattle.obligations.specs.Quotients.{is_either, with_quotient};
+ghost use Rattle.search_tree.specs.Halves.{half_ranges, half_fact};
 ghost use Rattle.search_tree.specs.Searching.{Ready, Ends, IsClosed};
 ghost use Rattle.search_tree.specs.Sides.{side_of};
+ghost use Rattle.search_tree.specs.Views.{IsView, IsReady, IsReadyAbove, EndsAt, EndsAbove, leaves_above};
+ghost use Rattle.search_tree.specs.Views.{leaves_by_sides, leaves_by_quotient, leaves_by_halves};
 
 use crate::closing::try_close;
-use crate::halves::{
-    Halves, add_above, add_at_most, first_halves, high_half, low_half, split_node,
-};
+use crate::halves::{Half, Halves, first_halves, split_node, take_half};
 use crate::leaf::refute_leaf;
-use crate::sides::{Side, cut_back, is_either, settle_side};
+use crate::marks::{cut_back, mark_of};
+use crate::sides::{Side, is_either, settle_side};
+use crate::taking::take_quotient;
 use crate::trail::{Ended, Trail, put_node};
-use core_terms::{CForm, Range};
-use obligations::{
-    Branch, Node, Replaced, Variable, add_quotient, next_param, scope_of, without_quotient,
-};
+use crate::views::View;
+use core_terms::CForm;
+use obligations::{Branch, Node, Replaced, next_param, without_quotient};
 use std::alloc::{AllocError, Global};
-
-/// Refutes a branch with a side of a formula.
-#[cycle(search)]
-#[tactic(auto, using(crate::proofs::SearchLaws::undo_laws))]
-fn refute_side(
-    alloc: Global,
-    vs: &[Variable],
-    scope: &[Variable],
-    rest: u32,
-    ranges: &[Range],
-    form: &CForm,
-    side: Side,
-    branch: &mut Branch,
-    trail: &mut Trail,
-) -> Result<Ended, AllocError>
-    requires own { AreOwn vs.now }
-    requires scope { scope.now ≡ scopes.scope_of vs.now branch.old }
-    requires rest { rest ≤ 960 }
-    requires form { (need form.now).yes ≤ 2 ^ 63 }
-    requires ready { Ready vs.now rest ranges.now (settled scope.now (side_of side form.now) branch.old) }
-    ensures ends { IfOk result (λ e. Ends vs.now rest (plain_leaves vs.now rest ranges.now
-        (settled scope.now (side_of side form.now) branch.old))
-        (settled scope.now (side_of side form.now) branch.old) trail.old trail.new e) }
-    ensures branch { IfOk result (λ e. IsClosed e → branch.new ≡ branch.old) }
-{
-    let facts = branch.facts.len();
-    let waits = branch.waiting.len();
-    settle_side(alloc, scope, form, side, branch)?;
-    let ended = refute(alloc, vs, scope, rest, ranges, branch, trail)?;
-    cut_back(branch, facts, waits);
-    Ok(ended)
-}
 
 /// Refutes a branch by the two sides of its first waiting formula, an `Or`, which was taken out.
 #[cycle(search)]
 fn refute_sides(
     alloc: Global,
-    vs: &[Variable],
-    scope: &[Variable],
-    rest: u32,
-    ranges: &[Range],
+    view: View,
     form: &CForm,
     branch: &mut Branch,
     trail: &mut Trail,
 ) -> Result<Ended, AllocError>
-    requires own { AreOwn vs.now }
-    requires scope { scope.now ≡ scopes.scope_of vs.now branch.old }
-    requires rest { rest < 960 }
+    requires view { IsView view branch.old }
+    requires rest { view.rest < 960 }
     requires either { is_either form.now ≡ true }
-    requires ready { Ready vs.now (suc rest) ranges.now (waiting_only branch.old (form.now ∷ branch.old.waiting)) }
-    ensures ends { IfOk result (λ e. Ends vs.now (suc rest) (side_leaves scope.now (plain_leaves vs.now rest) ranges.now
-        branch.old form.now) (waiting_only branch.old (form.now ∷ branch.old.waiting)) trail.old trail.new e) }
+    requires ready { IsReadyAbove view (waiting_only branch.old (form.now ∷ branch.old.waiting)) }
+    ensures ends { IfOk result (EndsAbove view.entry
+        (leaves_by_sides view.entry branch.old form.now)
+        (waiting_only branch.old (form.now ∷ branch.old.waiting)) trail.old trail.new) }
     ensures branch { IfOk result (λ e. IsClosed e → branch.new ≡ branch.old) }
 {
     if !put_node(trail, Node::Case(1))? {
         return Ok(Ended::Stopped);
     }
-    match refute_side(
-        alloc,
-        vs,
-        scope,
-        rest,
-        ranges,
-        form,
-        Side::First,
-        branch,
-        trail,
-    )? {
+    match refute_side(alloc, view, form, Side::First, branch, trail)? {
         Ended::Closed => {
-            let ended = refute_side(
-                alloc,
-                vs,
-                scope,
-                rest,
-                ranges,
-                form,
-                Side::Second,
-                branch,
-                trail,
-            )?;
+            let ended = refute_side(alloc, view, form, Side::Second, branch, trail)?;
             Ok(ended)
         }
         Ended::Stopped => Ok(Ended::Stopped),
@@ -113,39 +56,28 @@ fn refute_sides(
     }
 }
 
-/// Refutes a branch with one quotient more taken.
+/// Refutes a branch with a side of a formula.
 #[cycle(search)]
-#[tactic(auto, using(crate::proofs::QuotLaws::undo_quotient_laws))]
-fn refute_without(
+#[tactic(auto, using(crate::proofs::MarkLaws::cut_laws))]
+fn refute_side(
     alloc: Global,
-    vs: &[Variable],
-    rest: u32,
-    ranges: &[Range],
-    replaced: &Replaced,
+    view: View,
+    form: &CForm,
+    side: Side,
     branch: &mut Branch,
     trail: &mut Trail,
 ) -> Result<Ended, AllocError>
-    requires own { AreOwn vs.now }
-    requires rest { rest ≤ 960 }
-    requires added { branch.old.added < 960 }
-    requires load { (term_load replaced.now.taken.of).own ≤ 2 ^ 66 }
-    requires light { (need replaced.now.form).yes ≤ 2 ^ 66 }
-    requires ready { Ready vs.now rest ranges.now
-        (with_quotient (scopes.scope_of vs.now branch.old) replaced.now branch.old) }
-    ensures ends { IfOk result (λ e. Ends vs.now rest
-        (plain_leaves vs.now rest ranges.now
-        (with_quotient (scopes.scope_of vs.now branch.old) replaced.now branch.old))
-        (with_quotient (scopes.scope_of vs.now branch.old) replaced.now branch.old) trail.old trail.new e) }
+    requires view { IsView view branch.old }
+    requires form { (need form.now).yes ≤ 2 ^ 63 }
+    requires ready { IsReady view (settled view.scope.now (side_of side form.now) branch.old) }
+    ensures ends { IfOk result
+        (EndsAt view.entry (settled view.entry.scope.now (side_of side form.now) branch.old) trail.old trail.new) }
     ensures branch { IfOk result (λ e. IsClosed e → branch.new ≡ branch.old) }
 {
-    let facts = branch.facts.len();
-    let waits = branch.waiting.len();
-    let added = branch.added;
-    let mut scope = scope_of(alloc, vs, added)?;
-    add_quotient(alloc, &mut scope, replaced, branch)?;
-    let ended = refute(alloc, vs, scope.as_slice(), rest, ranges, branch, trail)?;
-    cut_back(branch, facts, waits);
-    branch.added = added;
+    let mark = mark_of(branch);
+    settle_side(alloc, view.scope, form, side, branch)?;
+    let ended = refute(alloc, view, branch, trail)?;
+    cut_back(branch, mark);
     Ok(ended)
 }
 
@@ -153,100 +85,55 @@ fn refute_without(
 #[cycle(search)]
 fn refute_quot(
     alloc: Global,
-    vs: &[Variable],
-    scope: &[Variable],
-    rest: u32,
-    ranges: &[Range],
+    view: View,
     form: &CForm,
     branch: &mut Branch,
     trail: &mut Trail,
 ) -> Result<Ended, AllocError>
-    requires own { AreOwn vs.now }
-    requires scope { scope.now ≡ scopes.scope_of vs.now branch.old }
-    requires rest { rest < 960 }
+    requires view { IsView view branch.old }
+    requires rest { view.rest < 960 }
     requires either { is_either form.now ≡ false }
-    requires ready { Ready vs.now (suc rest) ranges.now (waiting_only branch.old (form.now ∷ branch.old.waiting)) }
-    ensures ends { IfOk result (λ e. Ends vs.now (suc rest) (quot_leaves scope.now (plain_leaves vs.now rest) ranges.now
-        branch.old (quotients.without_quotient (scopes.next_param scope.now) form.now))
-        (waiting_only branch.old (form.now ∷ branch.old.waiting)) trail.old trail.new e) }
+    requires ready { IsReadyAbove view (waiting_only branch.old (form.now ∷ branch.old.waiting)) }
+    ensures ends { IfOk result (EndsAbove view.entry
+        (leaves_by_quotient view.entry branch.old form.now)
+        (waiting_only branch.old (form.now ∷ branch.old.waiting)) trail.old trail.new) }
     ensures branch { IfOk result (λ e. IsClosed e → branch.new ≡ branch.old) }
 {
-    let next = next_param(scope) as u32;
+    let next = next_param(view.scope) as u32;
     let Some(replaced) = without_quotient(alloc, next, form)? else {
         unreachable!()
     };
     if !put_node(trail, Node::Quot(1))? {
         return Ok(Ended::Stopped);
     }
-    let ended = refute_without(alloc, vs, rest, ranges, &replaced, branch, trail)?;
+    let ended = refute_without(alloc, view, &replaced, branch, trail)?;
     Ok(ended)
 }
 
-/// Refutes a branch with a variable at most the middle of its range.
+/// Refutes a branch with one quotient more taken.
 #[cycle(search)]
-#[tactic(auto, using(crate::proofs::SearchLaws::undo_laws))]
-fn refute_low(
+#[tactic(auto, using(crate::proofs::MarkLaws::cut_laws))]
+fn refute_without(
     alloc: Global,
-    vs: &[Variable],
-    scope: &[Variable],
-    rest: u32,
-    ranges: &[Range],
-    halves: Halves,
+    view: View,
+    replaced: &Replaced,
     branch: &mut Branch,
     trail: &mut Trail,
 ) -> Result<Ended, AllocError>
-    requires own { AreOwn vs.now }
-    requires scope { scope.now ≡ scopes.scope_of vs.now branch.old }
-    requires rest { rest ≤ 960 }
-    requires place { halves.place < length ranges.now }
-    requires ready { Ready vs.now rest (with_high ranges.now halves.place halves.at)
-        (added branch.old (at_most halves.place halves.at)) }
-    ensures ends { IfOk result (λ e. Ends vs.now rest (plain_leaves vs.now rest
-        (with_high ranges.now halves.place halves.at) (added branch.old (at_most halves.place halves.at)))
-        (added branch.old (at_most halves.place halves.at)) trail.old trail.new e) }
+    requires view { IsView view branch.old }
+    requires added { branch.old.added < 960 }
+    requires load { (term_load replaced.now.taken.of).own ≤ 2 ^ 66 }
+    requires light { (need replaced.now.form).yes ≤ 2 ^ 66 }
+    requires ready { IsReady view
+        (with_quotient (scopes.scope_of view.vs.now branch.old) replaced.now branch.old) }
+    ensures ends { IfOk result (EndsAt view.entry
+        (with_quotient (scopes.scope_of view.entry.vs.now branch.old) replaced.now branch.old) trail.old trail.new) }
     ensures branch { IfOk result (λ e. IsClosed e → branch.new ≡ branch.old) }
 {
-    let facts = branch.facts.len();
-    let waits = branch.waiting.len();
-    let half = low_half(alloc, ranges, halves)?;
-    add_at_most(alloc, halves, branch)?;
-    let ended = refute(alloc, vs, scope, rest, half.as_slice(), branch, trail)?;
-    cut_back(branch, facts, waits);
-    Ok(ended)
-}
-
-/// Refutes a branch with a variable above the middle of its range.
-#[cycle(search)]
-#[tactic(auto, using(crate::proofs::SearchLaws::undo_laws))]
-fn refute_high(
-    alloc: Global,
-    vs: &[Variable],
-    scope: &[Variable],
-    rest: u32,
-    ranges: &[Range],
-    halves: Halves,
-    branch: &mut Branch,
-    trail: &mut Trail,
-) -> Result<Ended, AllocError>
-    requires own { AreOwn vs.now }
-    requires scope { scope.now ≡ scopes.scope_of vs.now branch.old }
-    requires rest { rest ≤ 960 }
-    requires place { halves.place < length ranges.now }
-    requires room { halves.at <ℤ pos (2 ^ 63 - 1) }
-    requires ready { Ready vs.now rest (with_low ranges.now halves.place (halves.at +ℤ pos 1))
-        (added branch.old (at_least halves.place (halves.at +ℤ pos 1))) }
-    ensures ends { IfOk result (λ e. Ends vs.now rest (plain_leaves vs.now rest
-        (with_low ranges.now halves.place (halves.at +ℤ pos 1))
-        (added branch.old (at_least halves.place (halves.at +ℤ pos 1))))
-        (added branch.old (at_least halves.place (halves.at +ℤ pos 1))) trail.old trail.new e) }
-    ensures branch { IfOk result (λ e. IsClosed e → branch.new ≡ branch.old) }
-{
-    let facts = branch.facts.len();
-    let waits = branch.waiting.len();
-    let half = high_half(alloc, ranges, halves)?;
-    add_above(alloc, halves, branch)?;
-    let ended = refute(alloc, vs, scope, rest, half.as_slice(), branch, trail)?;
-    cut_back(branch, facts, waits);
+    let mark = mark_of(branch);
+    let scope = take_quotient(alloc, view.vs, replaced, branch)?;
+    let ended = refute(alloc, view.within(scope.as_slice()), branch, trail)?;
+    cut_back(branch, mark);
     Ok(ended)
 }
 
@@ -254,30 +141,26 @@ fn refute_high(
 #[cycle(search)]
 fn refute_halves(
     alloc: Global,
-    vs: &[Variable],
-    scope: &[Variable],
-    rest: u32,
-    ranges: &[Range],
+    view: View,
     halves: Halves,
     branch: &mut Branch,
     trail: &mut Trail,
 ) -> Result<Ended, AllocError>
-    requires own { AreOwn vs.now }
-    requires scope { scope.now ≡ scopes.scope_of vs.now branch.old }
-    requires rest { rest < 960 }
-    requires ready { Ready vs.now (suc rest) ranges.now branch.old }
-    requires halves { first_cut 0 ranges.now ≡ Some (record { place = halves.place; at = halves.at }) }
+    requires view { IsView view branch.old }
+    requires rest { view.rest < 960 }
+    requires ready { IsReadyAbove view branch.old }
+    requires halves { first_cut 0 view.ranges.now ≡ Some (record { place = halves.place; at = halves.at }) }
     requires none { branch.old.waiting ≡ [] }
-    ensures ends { IfOk result (λ e. Ends vs.now (suc rest) (cut_leaves (plain_leaves vs.now rest) ranges.now branch.old
-        (Some (record { place = halves.place; at = halves.at }))) branch.old trail.old trail.new e) }
+    ensures ends { IfOk result
+        (EndsAbove view.entry (leaves_by_halves view.entry branch.old halves) branch.old trail.old trail.new) }
     ensures branch { IfOk result (λ e. IsClosed e → branch.new ≡ branch.old) }
 {
     if !put_node(trail, split_node(halves))? {
         return Ok(Ended::Stopped);
     }
-    match refute_low(alloc, vs, scope, rest, ranges, halves, branch, trail)? {
+    match refute_half(alloc, view, halves, Half::Low, branch, trail)? {
         Ended::Closed => {
-            let ended = refute_high(alloc, vs, scope, rest, ranges, halves, branch, trail)?;
+            let ended = refute_half(alloc, view, halves, Half::High, branch, trail)?;
             Ok(ended)
         }
         Ended::Stopped => Ok(Ended::Stopped),
@@ -285,33 +168,57 @@ fn refute_halves(
     }
 }
 
+/// Refutes a branch with a variable in a half of its range.
+#[cycle(search)]
+#[tactic(auto, using(crate::proofs::MarkLaws::cut_laws))]
+fn refute_half(
+    alloc: Global,
+    view: View,
+    halves: Halves,
+    half: Half,
+    branch: &mut Branch,
+    trail: &mut Trail,
+) -> Result<Ended, AllocError>
+    requires view { IsView view branch.old }
+    requires room { halves.at <ℤ pos (2 ^ 63 - 1) }
+    requires ready { Ready view.vs.now view.rest (half_ranges half halves view.ranges.now)
+        (added branch.old (half_fact half halves)) }
+    ensures ends { IfOk result (Ends view.entry.vs.now view.entry.rest
+        (plain_leaves view.entry.vs.now view.entry.rest (half_ranges half halves view.entry.ranges.now)
+        (added branch.old (half_fact half halves)))
+        (added branch.old (half_fact half halves)) trail.old trail.new) }
+    ensures branch { IfOk result (λ e. IsClosed e → branch.new ≡ branch.old) }
+{
+    let mark = mark_of(branch);
+    let ranges = take_half(alloc, view.ranges, halves, half, branch)?;
+    let ended = refute(alloc, view.over(ranges.as_slice()), branch, trail)?;
+    cut_back(branch, mark);
+    Ok(ended)
+}
+
 /// Refutes a branch by its first waiting formula, which was taken out.
 #[cycle(search)]
 fn refute_form(
     alloc: Global,
-    vs: &[Variable],
-    scope: &[Variable],
-    rest: u32,
-    ranges: &[Range],
+    view: View,
     form: &CForm,
     branch: &mut Branch,
     trail: &mut Trail,
 ) -> Result<Ended, AllocError>
-    requires own { AreOwn vs.now }
-    requires scope { scope.now ≡ scopes.scope_of vs.now branch.old }
-    requires rest { rest < 960 }
-    requires ready { Ready vs.now (suc rest) ranges.now (waiting_only branch.old (form.now ∷ branch.old.waiting)) }
+    requires view { IsView view branch.old }
+    requires rest { view.rest < 960 }
+    requires ready { IsReadyAbove view (waiting_only branch.old (form.now ∷ branch.old.waiting)) }
     requires reach { some_out_of_reach branch.old.facts ≡ false }
-    ensures ends { IfOk result (λ e. Ends vs.now (suc rest)
-        (plain_leaves vs.now (suc rest) ranges.now (waiting_only branch.old (form.now ∷ branch.old.waiting)))
-        (waiting_only branch.old (form.now ∷ branch.old.waiting)) trail.old trail.new e) }
+    ensures ends { IfOk result (EndsAbove view.entry
+        (leaves_above view.entry (waiting_only branch.old (form.now ∷ branch.old.waiting)))
+        (waiting_only branch.old (form.now ∷ branch.old.waiting)) trail.old trail.new) }
     ensures branch { IfOk result (λ e. IsClosed e → branch.new ≡ branch.old) }
 {
     if is_either(form) {
-        let ended = refute_sides(alloc, vs, scope, rest, ranges, form, branch, trail)?;
+        let ended = refute_sides(alloc, view, form, branch, trail)?;
         Ok(ended)
     } else {
-        let ended = refute_quot(alloc, vs, scope, rest, ranges, form, branch, trail)?;
+        let ended = refute_quot(alloc, view, form, branch, trail)?;
         Ok(ended)
     }
 }
@@ -320,52 +227,28 @@ fn refute_form(
 #[cycle(search)]
 fn refute_open(
     alloc: Global,
-    vs: &[Variable],
-    scope: &[Variable],
-    rest: u32,
-    ranges: &[Range],
+    view: View,
     branch: &mut Branch,
     trail: &mut Trail,
 ) -> Result<Ended, AllocError>
-    requires own { AreOwn vs.now }
-    requires scope { scope.now ≡ scopes.scope_of vs.now branch.old }
-    requires rest { rest ≤ 960 }
-    requires ready { Ready vs.now rest ranges.now branch.old }
+    requires view { IsView view branch.old }
+    requires ready { IsReady view branch.old }
     requires reach { some_out_of_reach branch.old.facts ≡ false }
-    ensures ends { IfOk result (λ e. Ends vs.now rest (plain_leaves vs.now rest ranges.now branch.old) branch.old
-        trail.old trail.new e) }
+    ensures ends { IfOk result (EndsAt view.entry branch.old trail.old trail.new) }
     ensures branch { IfOk result (λ e. IsClosed e → branch.new ≡ branch.old) }
 {
     if branch.waiting.len() > 0 {
         let form = branch.waiting.remove(0);
-        let ended = refute_form(
-            alloc,
-            vs,
-            scope,
-            rest - 1,
-            ranges,
-            form.get(),
-            branch,
-            trail,
-        )?;
+        let ended = refute_form(alloc, view.below(), form.get(), branch, trail)?;
         branch.waiting.insert(0, form)?;
         Ok(ended)
     } else {
-        match first_halves(ranges) {
+        match first_halves(view.ranges) {
             Some(halves) => {
-                let ended = refute_halves(
-                    alloc,
-                    vs,
-                    scope,
-                    rest - 1,
-                    ranges,
-                    halves,
-                    branch,
-                    trail,
-                )?;
+                let ended = refute_halves(alloc, view.below(), halves, branch, trail)?;
                 Ok(ended)
             }
-            None => refute_leaf(alloc, vs, scope, rest, ranges, branch, trail),
+            None => refute_leaf(alloc, view, branch, trail),
         }
     }
 }
@@ -374,25 +257,19 @@ fn refute_open(
 #[cycle(search)]
 pub fn refute(
     alloc: Global,
-    vs: &[Variable],
-    scope: &[Variable],
-    rest: u32,
-    ranges: &[Range],
+    view: View,
     branch: &mut Branch,
     trail: &mut Trail,
 ) -> Result<Ended, AllocError>
-    requires own { AreOwn vs.now }
-    requires scope { scope.now ≡ scopes.scope_of vs.now branch.old }
-    requires rest { rest ≤ 960 }
-    requires ready { Ready vs.now rest ranges.now branch.old }
-    ensures ends { IfOk result (λ e. Ends vs.now rest (plain_leaves vs.now rest ranges.now branch.old) branch.old
-        trail.old trail.new e) }
+    requires view { IsView view branch.old }
+    requires ready { IsReady view branch.old }
+    ensures ends { IfOk result (EndsAt view.entry branch.old trail.old trail.new) }
     ensures branch { IfOk result (λ e. IsClosed e → branch.new ≡ branch.old) }
 {
-    match try_close(alloc, scope, branch, trail)? {
+    match try_close(alloc, view.scope, branch, trail)? {
         Some(ended) => Ok(ended),
         None => {
-            let ended = refute_open(alloc, vs, scope, rest, ranges, branch, trail)?;
+            let ended = refute_open(alloc, view, branch, trail)?;
             Ok(ended)
         }
     }

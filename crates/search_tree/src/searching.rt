@@ -6,6 +6,7 @@ ghost use Rattle.search_tree.specs.Searching.{SearchAnswers, found_of};
 use crate::halves::ranges_in;
 use crate::plain_tree::refute;
 use crate::trail::{Ended, Trail};
+use crate::views::View;
 use obligations::{Cert, Node, Obligation, has_room, open_branch};
 use std::alloc::{AllocError, Global};
 use unity_base::Seq;
@@ -50,14 +51,12 @@ pub fn search_tree(alloc: Global, o: &Obligation, budget: u64) -> Result<Found, 
         nodes: Seq::new(alloc),
         spare: budget,
     };
-    let ended = refute(
-        alloc,
+    let view = View {
         vs,
-        vs,
-        960,
-        ranges.as_slice(),
-        &mut branch,
-        &mut trail,
-    )?;
+        scope: vs,
+        rest: 960,
+        ranges: ranges.as_slice(),
+    };
+    let ended = refute(alloc, view, &mut branch, &mut trail)?;
     Ok(found_by(ended, trail.nodes))
 }

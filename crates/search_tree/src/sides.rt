@@ -1,10 +1,10 @@
 //! The two sides of a formula that waits, settled on a branch one after the other.
-ghost use Rattle.std.specs.Prelude.{◌≡◌, ◌≤◌, ◌^◌, take};
+ghost use Rattle.std.specs.Prelude.{◌≡◌, ◌≤◌, ◌^◌};
 ghost use Rattle.std.specs.Prelude.{false, OnOk};
 ghost use Rattle.std.specs.Prelude.{true};
 ghost use Rattle.obligations.specs.Settling.{settled};
 ghost use Rattle.obligations.specs.Load.{need};
-ghost use Rattle.obligations.specs.Settling.{sides, added};
+ghost use Rattle.obligations.specs.Settling.{sides};
 ghost use Rattle.obligations.specs.Obligations.{AreVariables};
 ghost use Rattle.obligations.specs.Quotients.{is_either};
 ghost use Rattle.search_tree.specs.Sides.{side_of};
@@ -67,16 +67,4 @@ fn sides_of(form: &CForm) -> (&CForm, &CForm)
         CForm::Or(a, b) => (a.get(), b.get()),
         _ => (form, form),
     }
-}
-
-/// Drops what was added to a branch.
-pub fn cut_back(branch: &mut Branch, facts: usize, waits: usize)
-    ensures { branch.new ≡ record {
-      facts = take facts branch.old.facts;
-      waiting = take waits branch.old.waiting;
-      added = branch.old.added;
-    } }
-{
-    branch.facts.truncate(facts);
-    branch.waiting.truncate(waits);
 }

@@ -1,293 +1,132 @@
-use Rattle.std.proofs.Common.{◌≡◌, min, true, Some, length, ◌∙◌, ap, suc, pos, ◌+ℤ◌, ◌∷◌, sym, subst, refl, arith}
-use Rattle.std.proofs.Common.{rules}
-use Rattle.obligations.specs.Opening.{at_least}
-use Rattle.obligations.specs.Settling.{settled, sides, added}
-use Rattle.obligations.specs.Plain.{with_low, waiting_only, plain_leaves}
+use Rattle.std.proofs.Common.{◌≡◌, min, true, Some, length, ◌∙◌, ap, suc, ◌∷◌, sym, subst, refl, arith, rules}
+use Rattle.obligations.specs.Plain.{waiting_only, plain_leaves, cut_leaves}
 use Rattle.obligations.specs.Reach.{are_exact, some_out_of_reach}
-use Rattle.obligations.specs.Scopes.{scope_of}
-use Rattle.search_tree.specs.Searching.{Ready}
-use Rattle.search_tree.proofs.ReadyLaws.{ready-light, ready-first, ready-second, ready-deep, ready-cut, ready-low}
-use Rattle.search_tree.proofs.ReadyLaws.{ready-high, cut-is, ready-variables, ready-exact, ready-some}
-use Rattle.search_tree.proofs.QuotFacts.{quotient-load, quotient-light, quotient-ready, number-room}
-use Rattle.search_tree.proofs.QuotLaws.{quotient-branch, quotient-scope, undone-quotient}
+use Rattle.obligations.specs.Settling.{settled, added}
+use Rattle.search_tree.specs.declared.halves.Half.{Half}
+use Rattle.search_tree.specs.declared.sides.Side.{Side}
+use Rattle.search_tree.specs.Halves.{half_ranges, half_fact}
 use Rattle.search_tree.specs.Sides.{side_of}
-use Rattle.search_tree.proofs.CycleLaws.{whole-again, empty-list, one-less, replaced-is, quot-counted}
+use Rattle.search_tree.proofs.CycleLaws.{whole-again, empty-list, replaced-is, quot-counted}
 use Rattle.search_tree.proofs.LeavesLaws.{few-counted, reached-leaf, whole-leaf, opened-leaves, halved-leaves}
 use Rattle.search_tree.proofs.LeavesLaws.{quotient-counted, counted-back}
+use Rattle.search_tree.proofs.ReadyLaws.{ready-some}
+use Rattle.search_tree.proofs.ViewLaws.{as-seen, seen-leaves, view-variables, view-exact, in-side, in-quotient, in-half}
+use Rattle.search_tree.proofs.ViewLaws.{side-needs, number-fits, quotient-needs, half-needs, halves-need, form-needs}
+use Rattle.search_tree.proofs.ViewLaws.{halves-take}
 use Rattle.search_tree.proofs.WaitLaws.{quotient-found}
 use Rattle.search_tree.proofs.leaves.+leaves.Goals as goal
-
-pub leaves_of_halves-low_leaves-requires : goal.leaves_of_halves-low_leaves-requires
-leaves_of_halves-low_leaves-requires t c =
-    let cut = cut-is c.args.vs.now (suc c.args.rest) c.args.ranges.now c.args.branch.now c.args.halves.place
-    c.args.halves.at c.requires.ready c.requires.halves in (
-      search rules,
-      (
-        c.requires.own,
-        (
-          c.requires.scope,
-          (
-            omega arith,
-            (
-              cut.inside,
-              ready-low c.args.vs.now c.args.rest c.args.ranges.now c.args.branch.now c.args.halves.place
-                  c.args.halves.at c.requires.ready c.requires.none c.requires.halves,
-            ),
-          ),
-        ),
-      ),
-    )
-
-pub leaves_of_halves-high_leaves-requires : goal.leaves_of_halves-high_leaves-requires
-leaves_of_halves-high_leaves-requires t c =
-    let cut = cut-is c.args.vs.now (suc c.args.rest) c.args.ranges.now c.args.branch.now c.args.halves.place
-    c.args.halves.at c.requires.ready c.requires.halves in (
-      search rules,
-      (
-        c.requires.own,
-        (
-          c.requires.scope ∙ sym (ap (scope_of c.args.vs.now) c.in_ok-low.ensures.branch),
-          (
-            omega arith,
-            (
-              cut.inside,
-              (
-                cut.room,
-                subst (λ x. Ready c.args.vs.now c.args.rest (with_low c.args.ranges.now c.args.halves.place
-                    (c.args.halves.at +ℤ pos 1)) (added x (at_least c.args.halves.place (c.args.halves.at +ℤ pos 1))))
-                    (sym c.in_ok-low.ensures.branch)
-                    (ready-high c.args.vs.now c.args.rest c.args.ranges.now c.args.branch.now c.args.halves.place
-                    c.args.halves.at c.requires.ready c.requires.none c.requires.halves),
-              ),
-            ),
-          ),
-        ),
-      ),
-    )
-
-pub open_some_leaves-overflow_sub-rest-in-Some : goal.open_some_leaves-overflow_sub-rest-in-Some
-open_some_leaves-overflow_sub-rest-in-Some t c =
-    ready-cut c.args.vs.now c.args.rest c.args.ranges.now c.args.branch.now c.in-Some.halves.place c.in-Some.halves.at
-    c.requires.ready c.in-Some.ensures
-
-pub open_some_leaves-leaves_of_halves-requires : goal.open_some_leaves-leaves_of_halves-requires
-open_some_leaves-leaves_of_halves-requires t c =
-    let one = ready-cut c.args.vs.now c.args.rest c.args.ranges.now c.args.branch.now c.in-Some.halves.place
-    c.in-Some.halves.at c.requires.ready c.in-Some.ensures in (
-      search rules,
-      (
-        c.requires.own,
-        (
-          c.requires.scope,
-          (
-            omega (arith, one),
-            (
-              subst (λ k. Ready c.args.vs.now k c.args.ranges.now c.args.branch.now) (sym (one-less c.args.rest one))
-                  c.requires.ready,
-              (c.in-Some.ensures, empty-list c.args.branch.now.waiting (omega arith)),
-            ),
-          ),
-        ),
-      ),
-    )
-
-pub open_some_leaves-returns-in_ok-leaves-in-Some-clause-leaves :
-    goal.open_some_leaves-returns-in_ok-leaves-in-Some-clause-leaves
-open_some_leaves-returns-in_ok-leaves-in-Some-clause-leaves t c =
-    let one = ready-cut c.args.vs.now c.args.rest c.args.ranges.now c.args.branch.now c.in-Some.halves.place
-    c.in-Some.halves.at c.requires.ready c.in-Some.ensures in
-    halved-leaves c.args.vs.now c.args.rest c.args.ranges.now c.args.branch.now c.in-Some.halves.place
-    c.in-Some.halves.at c.args.wanted c.in_ok-leaves-in-Some.leaves one c.requires.reach
-    (empty-list c.args.branch.now.waiting (omega arith)) c.in-Some.ensures c.in_ok-leaves-in-Some.ensures.leaves
-
-pub open_some_leaves-returns-in-None-clause-leaves : goal.open_some_leaves-returns-in-None-clause-leaves
-open_some_leaves-returns-in-None-clause-leaves t c =
-    whole-leaf c.args.vs.now c.args.rest c.args.ranges.now c.args.branch.now c.args.wanted c.requires.wanted
-    c.requires.reach (empty-list c.args.branch.now.waiting (omega arith)) c.in-None.ensures
-
-pub some_leaves-returns-then-wanted-le1-clause-leaves : goal.some_leaves-returns-then-wanted-le1-clause-leaves
-some_leaves-returns-then-wanted-le1-clause-leaves t c =
-    few-counted c.args.vs.now c.args.rest c.args.ranges.now c.args.branch.now c.args.wanted (omega arith)
-
-pub some_leaves-returns-then-branch-clause-leaves : goal.some_leaves-returns-then-branch-clause-leaves
-some_leaves-returns-then-branch-clause-leaves t c =
-    reached-leaf c.args.vs.now c.args.rest c.args.ranges.now c.args.branch.now c.args.wanted (omega arith)
-    (subst (λ fs. some_out_of_reach fs ≡ true) c.as_slice.ensures
-    (sym c.in_ok-some_out_of_reach.ensures ∙ c.if-branch.true))
 
 pub leaves_of_sides-leaves_of_side-requires : goal.leaves_of_sides-leaves_of_side-requires
 leaves_of_sides-leaves_of_side-requires t c = (
   search rules,
-  (
-    c.requires.own,
-    (
-      c.requires.scope,
-      (
-        omega arith,
-        (
-          ready-light c.args.vs.now (suc c.args.rest) c.args.ranges.now c.args.form.now c.args.branch.now
-              c.requires.ready,
-          subst (λ us. Ready c.args.vs.now c.args.rest c.args.ranges.now
-              (settled us (sides c.args.form.now).0 c.args.branch.now)) (sym c.requires.scope)
-              (ready-first c.args.vs.now c.args.rest c.args.ranges.now c.args.form.now c.args.branch.now
-              c.requires.either c.requires.ready),
-        ),
-      ),
-    ),
-  ),
+  side-needs c.args.view c.args.branch.now c.args.form.now c.requires.view c.requires.either c.requires.ready
+      Side.First c.args.branch.now refl,
 )
 
 pub leaves_of_sides-leaves_of_side-requires-2 : goal.leaves_of_sides-leaves_of_side-requires-2
 leaves_of_sides-leaves_of_side-requires-2 t c = (
   search rules,
-  (
-    c.requires.own,
-    (
-      c.requires.scope ∙ sym (ap (scope_of c.args.vs.now) c.in_ok-first.ensures.branch),
-      (
-        omega arith,
-        (
-          ready-light c.args.vs.now (suc c.args.rest) c.args.ranges.now c.args.form.now c.args.branch.now
-              c.requires.ready,
-          subst (λ x. Ready c.args.vs.now c.args.rest c.args.ranges.now
-              (settled c.args.scope.now (sides c.args.form.now).1 x)) (sym c.in_ok-first.ensures.branch)
-              (subst (λ us. Ready c.args.vs.now c.args.rest c.args.ranges.now
-              (settled us (sides c.args.form.now).1 c.args.branch.now)) (sym c.requires.scope)
-              (ready-second c.args.vs.now c.args.rest c.args.ranges.now c.args.form.now c.args.branch.now
-              c.requires.either c.requires.ready)),
-        ),
-      ),
-    ),
-  ),
+  side-needs c.args.view c.args.branch.now c.args.form.now c.requires.view c.requires.either c.requires.ready
+      Side.Second _
+      c.in_ok-first.ensures.branch,
 )
 
-pub open_some_leaves-leaves_of_form-requires : goal.open_some_leaves-leaves_of_form-requires
-open_some_leaves-leaves_of_form-requires t c =
-    let same = whole-again c.args.branch.now c.remove-form.new.self c.get-first.result.now
-    (c.remove-form.ensures.item ∙ ap Some (sym c.get-first.ensures)) c.remove-form.ensures.rest in
-    let ready = subst (Ready c.args.vs.now c.args.rest c.args.ranges.now) (sym same) c.requires.ready in
-    let one = ready-deep c.args.vs.now c.args.rest c.args.ranges.now c.get-first.result.now c.remove-form.new.self
-    c.args.branch.now ready in (
-      search rules,
-      (
-        c.requires.own,
-        (
-          c.requires.scope,
-          (
-            omega (arith, one),
-            (
-              subst (λ k. Ready c.args.vs.now k c.args.ranges.now
-                  (waiting_only c.args.branch.now (c.get-first.result.now ∷ c.remove-form.new.self)))
-                  (sym (one-less c.args.rest one)) ready,
-              c.requires.reach,
-            ),
-          ),
-        ),
-      ),
-    )
+pub leaves_of_side-settle_side-requires-clause-variables : goal.leaves_of_side-settle_side-requires-clause-variables
+leaves_of_side-settle_side-requires-clause-variables t c =
+    view-variables c.args.view c.args.branch.now
+    (settled c.args.view.scope.now (side_of c.args.side c.args.form.now) c.args.branch.now) c.requires.view
+    c.requires.ready refl
 
-pub open_some_leaves-returns-in_ok-insert-clause-leaves : goal.open_some_leaves-returns-in_ok-insert-clause-leaves
-open_some_leaves-returns-in_ok-insert-clause-leaves t c =
-    let same = whole-again c.args.branch.now c.remove-form.new.self c.get-first.result.now
-    (c.remove-form.ensures.item ∙ ap Some (sym c.get-first.ensures)) c.remove-form.ensures.rest in
-    let one = ready-deep c.args.vs.now c.args.rest c.args.ranges.now c.get-first.result.now c.remove-form.new.self
-    c.args.branch.now (subst (Ready c.args.vs.now c.args.rest c.args.ranges.now) (sym same) c.requires.ready) in
-    counted-back c.args.vs.now c.args.rest c.args.ranges.now c.args.branch.now c.remove-form.new.self
-    c.get-first.result.now c.args.wanted c.in_ok-leaves.leaves one same c.in_ok-leaves.ensures.leaves
-
-pub some_leaves-some_out_of_reach-requires-clause-variables :
-    goal.some_leaves-some_out_of_reach-requires-clause-variables
-some_leaves-some_out_of_reach-requires-clause-variables t c =
-    ready-variables c.args.vs.now c.args.scope.now c.args.rest c.args.ranges.now c.args.branch.now c.requires.own
-    c.requires.scope (omega arith) c.requires.ready
-
-pub some_leaves-some_out_of_reach-requires-clause-exact : goal.some_leaves-some_out_of_reach-requires-clause-exact
-some_leaves-some_out_of_reach-requires-clause-exact t c =
-    subst (λ fs. are_exact (length c.args.scope.now) fs ≡ true) (sym c.as_slice.ensures)
-    (ready-exact c.args.vs.now c.args.scope.now c.args.rest c.args.ranges.now c.args.branch.now c.requires.scope
-    c.requires.ready)
-
-pub open_some_leaves-overflow_sub-rest : goal.open_some_leaves-overflow_sub-rest
-open_some_leaves-overflow_sub-rest t c =
-    ready-some c.args.vs.now c.args.rest c.args.ranges.now c.args.branch.now c.requires.ready (omega arith)
+pub leaves_of_side-some_leaves-requires : goal.leaves_of_side-some_leaves-requires
+leaves_of_side-some_leaves-requires t c = (
+  search rules,
+  in-side c.args.view c.args.branch.now c.settle_side.new.branch (side_of c.args.side c.args.form.now)
+      c.in_ok-settle_side.ensures c.requires.view c.requires.ready,
+)
 
 pub leaves_of_quot-unreachable-requires : goal.leaves_of_quot-unreachable-requires
 leaves_of_quot-unreachable-requires t c =
-    quotient-found c.args.vs.now (suc c.args.rest) c.args.ranges.now c.args.form.now c.args.branch.now _ _
+    quotient-found c.args.view.vs.now (suc c.args.view.rest) c.args.view.ranges.now c.args.form.now c.args.branch.now
+    _ _
     c.requires.ready c.requires.either c.in_ok-replaced.ensures c.in_default.is
 
 pub leaves_of_quot-overflow_cast-next : goal.leaves_of_quot-overflow_cast-next
 leaves_of_quot-overflow_cast-next t c =
-    let few = number-room c.args.vs.now c.args.scope.now c.args.rest c.args.ranges.now
-    (waiting_only c.args.branch.now (c.args.form.now ∷ c.args.branch.now.waiting)) c.next_param-next.result
-    c.requires.own c.requires.scope (omega arith) c.requires.ready c.next_param-next.ensures in
+    let few = number-fits c.args.view c.args.branch.now c.args.form.now c.requires.view c.requires.rest
+    c.requires.ready
+    c.next_param-next.result c.next_param-next.ensures in
     grind (arith, few)
 
 pub leaves_of_quot-leaves_without-requires : goal.leaves_of_quot-leaves_without-requires
-leaves_of_quot-leaves_without-requires t c =
-    let is = replaced-is c.args.vs.now c.args.scope.now c.args.form.now c.args.branch.now c.in-Some.replaced _ _
-    c.requires.scope c.next_param-next.ensures c.in_ok-replaced.ensures c.in-Some.is in
-    let deep = c.requires.ready.deep in (
-      search rules,
-      (
-        c.requires.own,
-        (
-          omega arith,
-          (
-            omega (arith, deep),
-            (
-              quotient-load c.args.vs.now c.args.rest c.args.ranges.now c.args.form.now c.in-Some.replaced
-                  c.args.branch.now is c.requires.ready,
-              (
-                quotient-light c.args.vs.now c.args.rest c.args.ranges.now c.args.form.now c.in-Some.replaced
-                    c.args.branch.now is c.requires.ready,
-                quotient-ready c.args.vs.now c.args.rest c.args.ranges.now c.args.form.now c.in-Some.replaced
-                    c.args.branch.now is c.requires.ready,
-              ),
-            ),
-          ),
-        ),
-      ),
-    )
+leaves_of_quot-leaves_without-requires t c = (
+  search rules,
+  quotient-needs c.args.view c.args.branch.now c.args.form.now c.requires.view c.requires.rest c.requires.ready
+      c.in-Some.replaced
+      _ _ c.next_param-next.ensures c.in_ok-replaced.ensures c.in-Some.is,
+)
 
 pub leaves_of_quot-returns-clause-leaves : goal.leaves_of_quot-returns-clause-leaves
 leaves_of_quot-returns-clause-leaves t c =
-    let is = replaced-is c.args.vs.now c.args.scope.now c.args.form.now c.args.branch.now c.in-Some.replaced _ _
-    c.requires.scope c.next_param-next.ensures c.in_ok-replaced.ensures c.in-Some.is in
-    quot-counted c.args.vs.now c.args.scope.now c.args.rest c.args.ranges.now c.args.form.now c.args.branch.now
-    c.in-Some.replaced c.requires.scope (omega arith) is c.args.wanted c.in_ok-leaves.leaves
+    let is = replaced-is c.args.view.vs.now c.args.view.scope.now c.args.form.now c.args.branch.now
+    c.in-Some.replaced _ _
+    c.requires.view.scope c.next_param-next.ensures c.in_ok-replaced.ensures c.in-Some.is in
+    let few = c.requires.rest in
+    quot-counted c.args.view.vs.now c.args.view.scope.now c.args.view.rest c.args.view.ranges.now c.args.form.now
+    c.args.branch.now
+    c.in-Some.replaced c.requires.view.scope (omega (arith, few)) is c.args.wanted c.in_ok-leaves.leaves
     c.in_ok-leaves.ensures.leaves
 
 pub leaves_without-some_leaves-requires : goal.leaves_without-some_leaves-requires
-leaves_without-some_leaves-requires t c =
-    let same = quotient-branch c.args.vs.now c.in_ok-scope.scope c.args.replaced.now c.args.branch.now
-    c.add_quotient.new.branch c.args.branch.now.added c.in_ok-scope.ensures.scope refl
-    c.in_ok-add_quotient.ensures.branch in (
-      search rules,
-      (
-        c.requires.own,
-        (
-          quotient-scope c.args.vs.now c.in_ok-scope.scope c.add_quotient.new.variables c.as_slice.result.now
-              c.args.replaced.now c.args.branch.now c.add_quotient.new.branch c.args.branch.now.added
-              c.in_ok-scope.ensures.scope refl c.in_ok-add_quotient.ensures.variables c.as_slice.ensures
-              c.in_ok-add_quotient.ensures.branch,
-          (
-            omega arith,
-            subst (Ready c.args.vs.now c.args.rest c.args.ranges.now) (sym same) c.requires.ready,
-          ),
-        ),
-      ),
-    )
+leaves_without-some_leaves-requires t c = (
+  search rules,
+  in-quotient c.args.view c.within.result c.args.branch.now c.take_quotient.new.branch c.args.replaced.now
+      c.as_slice.result.now (c.as_slice.ensures ∙ c.in_ok-scope.ensures.scope) c.in_ok-scope.ensures.branch
+      c.within.ensures c.requires.view c.requires.ready,
+)
+
+pub leaves_without-returns-clause-leaves : goal.leaves_without-returns-clause-leaves
+leaves_without-returns-clause-leaves t c =
+    seen-leaves c.within.result c.args.view.vs.now c.as_slice.result.now c.args.view.rest c.args.view.ranges.now
+    c.args.view.ranges.now _ c.take_quotient.new.branch c.args.wanted c.in_ok-leaves.leaves c.within.ensures refl
+    c.in_ok-scope.ensures.branch c.in_ok-leaves.ensures.leaves
+
+pub leaves_of_halves-leaves_of_half-requires : goal.leaves_of_halves-leaves_of_half-requires
+leaves_of_halves-leaves_of_half-requires t c = (
+  search rules,
+  half-needs c.args.view c.args.branch.now c.args.halves c.requires.view c.requires.ready c.requires.halves
+      c.requires.none Half.Low c.args.branch.now refl,
+)
+
+pub leaves_of_halves-leaves_of_half-requires-2 : goal.leaves_of_halves-leaves_of_half-requires-2
+leaves_of_halves-leaves_of_half-requires-2 t c = (
+  search rules,
+  half-needs c.args.view c.args.branch.now c.args.halves c.requires.view c.requires.ready c.requires.halves
+      c.requires.none Half.High _ c.in_ok-low.ensures.branch,
+)
+
+pub leaves_of_half-some_leaves-requires : goal.leaves_of_half-some_leaves-requires
+leaves_of_half-some_leaves-requires t c = (
+  search rules,
+  in-half c.args.view c.over.result c.args.branch.now c.take_half.new.branch c.args.half c.args.halves
+      c.as_slice.result.now (c.as_slice.ensures ∙ c.in_ok-ranges.ensures.ranges) c.in_ok-ranges.ensures.branch
+      c.over.ensures
+      c.requires.view c.requires.ready,
+)
+
+pub leaves_of_half-returns-clause-leaves : goal.leaves_of_half-returns-clause-leaves
+leaves_of_half-returns-clause-leaves t c =
+    seen-leaves c.over.result c.args.view.vs.now c.args.view.scope.now c.args.view.rest c.as_slice.result.now
+    (half_ranges c.args.half c.args.halves c.args.view.ranges.now) (added c.args.branch.now
+    (half_fact c.args.half c.args.halves))
+    c.take_half.new.branch c.args.wanted c.in_ok-leaves.leaves c.over.ensures
+    (c.as_slice.ensures ∙ c.in_ok-ranges.ensures.ranges) c.in_ok-ranges.ensures.branch c.in_ok-leaves.ensures.leaves
 
 pub leaves_of_form-leaves_of_sides-requires : goal.leaves_of_form-leaves_of_sides-requires
 leaves_of_form-leaves_of_sides-requires t c = (
   search rules,
   (
-    c.requires.own,
-    (
-      c.requires.scope,
-      (omega arith, (sym c.is_either.ensures ∙ c.if-is_either.true, c.requires.ready)),
-    ),
+    c.requires.view,
+    (c.requires.rest, (sym c.is_either.ensures ∙ c.if-is_either.true, c.requires.ready)),
   ),
 )
 
@@ -295,44 +134,104 @@ pub leaves_of_form-leaves_of_quot-requires : goal.leaves_of_form-leaves_of_quot-
 leaves_of_form-leaves_of_quot-requires t c = (
   search rules,
   (
-    c.requires.own,
-    (
-      c.requires.scope,
-      (omega arith, (sym c.is_either.ensures ∙ c.if-is_either.false, c.requires.ready)),
-    ),
+    c.requires.view,
+    (c.requires.rest, (sym c.is_either.ensures ∙ c.if-is_either.false, c.requires.ready)),
   ),
 )
 
 pub leaves_of_form-returns-in_ok-leaves-clause-leaves : goal.leaves_of_form-returns-in_ok-leaves-clause-leaves
 leaves_of_form-returns-in_ok-leaves-clause-leaves t c =
-    opened-leaves c.args.vs.now c.args.scope.now c.args.rest c.args.ranges.now c.args.branch.now c.args.form.now
-    c.args.wanted c.in_ok-leaves.leaves c.requires.scope c.requires.reach
+    opened-leaves c.args.view.vs.now c.args.view.scope.now c.args.view.rest c.args.view.ranges.now c.args.branch.now
+    c.args.form.now
+    c.args.wanted c.in_ok-leaves.leaves c.requires.view.scope c.requires.reach
     (sym c.is_either.ensures ∙ c.if-is_either.true) c.in_ok-leaves.ensures.leaves
 
-pub leaves_of_form-returns-in_ok-leaves-2-clause-leaves :
-    goal.leaves_of_form-returns-in_ok-leaves-2-clause-leaves
+pub leaves_of_form-returns-in_ok-leaves-2-clause-leaves : goal.leaves_of_form-returns-in_ok-leaves-2-clause-leaves
 leaves_of_form-returns-in_ok-leaves-2-clause-leaves t c =
-    quotient-counted c.args.vs.now c.args.scope.now c.args.rest c.args.ranges.now c.args.branch.now c.args.form.now
-    c.args.wanted c.in_ok-leaves-2.leaves c.requires.scope c.requires.reach
+    quotient-counted c.args.view.vs.now c.args.view.scope.now c.args.view.rest c.args.view.ranges.now
+    c.args.branch.now c.args.form.now
+    c.args.wanted c.in_ok-leaves-2.leaves c.requires.view.scope c.requires.reach
     (sym c.is_either.ensures ∙ c.if-is_either.false) c.in_ok-leaves-2.ensures.leaves
 
-pub leaves_without-returns-clause-leaves : goal.leaves_without-returns-clause-leaves
-leaves_without-returns-clause-leaves t c =
-    let same = quotient-branch c.args.vs.now c.in_ok-scope.scope c.args.replaced.now c.args.branch.now
-    c.add_quotient.new.branch c.args.branch.now.added c.in_ok-scope.ensures.scope refl
-    c.in_ok-add_quotient.ensures.branch in
-    subst (λ x. c.in_ok-leaves.leaves ≡ min c.args.wanted (plain_leaves c.args.vs.now c.args.rest c.args.ranges.now x))
-    same c.in_ok-leaves.ensures.leaves
+pub open_some_leaves-below-requires : goal.open_some_leaves-below-requires
+open_some_leaves-below-requires t c =
+    ready-some c.args.view.vs.now c.args.view.rest c.args.view.ranges.now c.args.branch.now c.requires.ready
+    (omega arith)
 
-pub leaves_without-returns-clause-branch : goal.leaves_without-returns-clause-branch
-leaves_without-returns-clause-branch t c =
-    undone-quotient c.in_ok-scope.scope c.args.replaced.now c.args.branch.now c.add_quotient.new.branch
-    c.some_leaves.new.branch c.cut_back.new.branch c.len-facts.result c.len-waits.result c.args.branch.now.added
-    c.in_ok-add_quotient.ensures.branch c.in_ok-leaves.ensures.branch c.len-facts.ensures c.len-waits.ensures
-    refl c.cut_back.ensures
+pub open_some_leaves-leaves_of_form-requires : goal.open_some_leaves-leaves_of_form-requires
+open_some_leaves-leaves_of_form-requires t c =
+    let one = ready-some c.args.view.vs.now c.args.view.rest c.args.view.ranges.now c.args.branch.now
+    c.requires.ready (omega arith) in (
+      search rules,
+      form-needs c.args.view c.below.result c.args.branch.now c.requires.view one c.below.ensures c.get.result.now
+          c.remove-form.new.self
+          (whole-again c.args.branch.now c.remove-form.new.self c.get.result.now
+          (c.remove-form.ensures.item ∙ ap Some (sym c.get.ensures)) c.remove-form.ensures.rest)
+          c.requires.ready c.requires.reach,
+    )
 
-pub leaves_of_side-settle_side-requires-clause-variables : goal.leaves_of_side-settle_side-requires-clause-variables
-leaves_of_side-settle_side-requires-clause-variables t c =
-    ready-variables c.args.vs.now c.args.scope.now c.args.rest c.args.ranges.now
-    (settled c.args.scope.now (side_of c.args.side c.args.form.now) c.args.branch.now) c.requires.own c.requires.scope
-    (omega arith) c.requires.ready
+pub open_some_leaves-below-requires-in-Some : goal.open_some_leaves-below-requires-in-Some
+open_some_leaves-below-requires-in-Some t c =
+    halves-take c.args.view c.args.branch.now c.in-Some.halves c.requires.ready c.in-Some.ensures
+
+pub open_some_leaves-leaves_of_halves-requires : goal.open_some_leaves-leaves_of_halves-requires
+open_some_leaves-leaves_of_halves-requires t c =
+    let one = halves-take c.args.view c.args.branch.now c.in-Some.halves c.requires.ready c.in-Some.ensures in (
+      search rules,
+      halves-need c.args.view c.below-in-Some.result c.args.branch.now c.requires.view one c.below-in-Some.ensures
+          c.in-Some.halves c.requires.ready c.in-Some.ensures
+          (empty-list c.args.branch.now.waiting (omega arith)),
+    )
+
+pub open_some_leaves-returns-in_ok-insert-clause-leaves : goal.open_some_leaves-returns-in_ok-insert-clause-leaves
+open_some_leaves-returns-in_ok-insert-clause-leaves t c =
+    let one = ready-some c.args.view.vs.now c.args.view.rest c.args.view.ranges.now c.args.branch.now
+    c.requires.ready (omega arith) in
+    counted-back c.args.view.vs.now c.args.view.rest c.args.view.ranges.now c.args.branch.now c.remove-form.new.self
+    c.get.result.now c.args.wanted c.in_ok-leaves.leaves one
+    (whole-again c.args.branch.now c.remove-form.new.self c.get.result.now
+    (c.remove-form.ensures.item ∙ ap Some (sym c.get.ensures)) c.remove-form.ensures.rest)
+    (as-seen c.below.ensures (λ vs us k rs. c.in_ok-leaves.leaves ≡ min c.args.wanted
+    (plain_leaves vs (suc k) rs (waiting_only c.args.branch.now (c.get.result.now ∷ c.remove-form.new.self))))
+    c.in_ok-leaves.ensures.leaves)
+
+pub open_some_leaves-returns-in_ok-leaves-in-Some-clause-leaves :
+    goal.open_some_leaves-returns-in_ok-leaves-in-Some-clause-leaves
+open_some_leaves-returns-in_ok-leaves-in-Some-clause-leaves t c =
+    let h = c.in-Some.halves in
+    halved-leaves c.args.view.vs.now c.args.view.rest c.args.view.ranges.now c.args.branch.now h.place h.at
+    c.args.wanted
+    c.in_ok-leaves-in-Some.leaves
+    (halves-take c.args.view c.args.branch.now h c.requires.ready c.in-Some.ensures) c.requires.reach
+    (empty-list c.args.branch.now.waiting (omega arith)) c.in-Some.ensures
+    (as-seen c.below-in-Some.ensures (λ vs us k rs. c.in_ok-leaves-in-Some.leaves ≡ min c.args.wanted
+    (cut_leaves (plain_leaves vs k) rs c.args.branch.now (Some (record { place = h.place; at = h.at }))))
+    c.in_ok-leaves-in-Some.ensures.leaves)
+
+pub open_some_leaves-returns-in-None-clause-leaves : goal.open_some_leaves-returns-in-None-clause-leaves
+open_some_leaves-returns-in-None-clause-leaves t c =
+    whole-leaf c.args.view.vs.now c.args.view.rest c.args.view.ranges.now c.args.branch.now c.args.wanted
+    c.requires.wanted
+    c.requires.reach (empty-list c.args.branch.now.waiting (omega arith)) c.in-None.ensures
+
+pub some_leaves-some_out_of_reach-requires-clause-variables :
+    goal.some_leaves-some_out_of_reach-requires-clause-variables
+some_leaves-some_out_of_reach-requires-clause-variables t c =
+    view-variables c.args.view c.args.branch.now c.args.branch.now c.requires.view c.requires.ready refl
+
+pub some_leaves-some_out_of_reach-requires-clause-exact : goal.some_leaves-some_out_of_reach-requires-clause-exact
+some_leaves-some_out_of_reach-requires-clause-exact t c =
+    subst (λ fs. are_exact (length c.args.view.scope.now) fs ≡ true) (sym c.as_slice.ensures)
+    (view-exact c.args.view c.args.branch.now c.requires.view c.requires.ready)
+
+pub some_leaves-returns-then-wanted-le1-clause-leaves : goal.some_leaves-returns-then-wanted-le1-clause-leaves
+some_leaves-returns-then-wanted-le1-clause-leaves t c =
+    few-counted c.args.view.vs.now c.args.view.rest c.args.view.ranges.now c.args.branch.now c.args.wanted
+    (omega arith)
+
+pub some_leaves-returns-then-branch-clause-leaves : goal.some_leaves-returns-then-branch-clause-leaves
+some_leaves-returns-then-branch-clause-leaves t c =
+    reached-leaf c.args.view.vs.now c.args.view.rest c.args.view.ranges.now c.args.branch.now c.args.wanted
+    (omega arith)
+    (subst (λ fs. some_out_of_reach fs ≡ true) c.as_slice.ensures
+    (sym c.in_ok-some_out_of_reach.ensures ∙ c.if-branch.true))

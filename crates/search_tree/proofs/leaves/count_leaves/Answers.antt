@@ -1,4 +1,4 @@
-use Rattle.std.proofs.Common.{◌∙◌, ap, sym, subst}
+use Rattle.std.proofs.Common.{◌∙◌, ap, sym, subst, arith}
 use Rattle.obligations.specs.Obligations.{AreOwn}
 use Rattle.obligations.specs.Plain.{ranges_of}
 use Rattle.obligations.specs.Scopes.{scope_of}
@@ -12,11 +12,12 @@ some_leaves-requires-clause-ready c =
     c.as_slice-vs.ensures
     (c.as_slice.ensures ∙ c.in_ok-ranges.ensures ∙ ap ranges_of c.as_slice-vs.ensures) c.in_ok-branch.ensures.branch
 
-pub some_leaves-requires-clause-own : goal.some_leaves-requires-clause-own
-some_leaves-requires-clause-own c = subst AreOwn (sym c.as_slice-vs.ensures) c.if-not-has_room.ensures
-
-pub some_leaves-requires-clause-scope : goal.some_leaves-requires-clause-scope
-some_leaves-requires-clause-scope c = sym (ap (scope_of c.as_slice-vs.result.now) c.in_ok-branch.ensures.branch)
+pub some_leaves-requires-clause-view : goal.some_leaves-requires-clause-view
+some_leaves-requires-clause-view c = record {
+  own = subst AreOwn (sym c.as_slice-vs.ensures) c.if-not-has_room.ensures;
+  scope = sym (ap (scope_of c.as_slice-vs.result.now) c.in_ok-branch.ensures.branch);
+  few = omega arith;
+}
 
 pub returns : goal.returns
 returns c =

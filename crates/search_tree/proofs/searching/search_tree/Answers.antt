@@ -1,4 +1,4 @@
-use Rattle.std.proofs.Common.{◌∙◌, ap, sym, subst, refl}
+use Rattle.std.proofs.Common.{◌∙◌, ap, sym, subst, refl, arith}
 use Rattle.obligations.specs.Obligations.{AreOwn}
 use Rattle.obligations.specs.Plain.{ranges_of}
 use Rattle.obligations.specs.Scopes.{scope_of}
@@ -11,11 +11,12 @@ refute-requires-clause-ready c =
     c.as_slice-vs.ensures
     (c.as_slice.ensures ∙ c.in_ok-ranges.ensures ∙ ap ranges_of c.as_slice-vs.ensures) c.in_ok-branch.ensures.branch
 
-pub refute-requires-clause-own : goal.refute-requires-clause-own
-refute-requires-clause-own c = subst AreOwn (sym c.as_slice-vs.ensures) c.if-not-has_room.ensures
-
-pub refute-requires-clause-scope : goal.refute-requires-clause-scope
-refute-requires-clause-scope c = sym (ap (scope_of c.as_slice-vs.result.now) c.in_ok-branch.ensures.branch)
+pub refute-requires-clause-view : goal.refute-requires-clause-view
+refute-requires-clause-view c = record {
+  own = subst AreOwn (sym c.as_slice-vs.ensures) c.if-not-has_room.ensures;
+  scope = sym (ap (scope_of c.as_slice-vs.result.now) c.in_ok-branch.ensures.branch);
+  few = omega arith;
+}
 
 pub returns : goal.returns
 returns c =
