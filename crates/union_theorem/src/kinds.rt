@@ -1,11 +1,13 @@
 // Which records a union is of, and what they have in common.
-ghost use Rattle.std.specs.Prelude.{◌≡◌, ◌&&◌, ◌||◌};
+ghost use Rattle.std.specs.Prelude.{◌≡◌, ◌&&◌, ◌||◌, Result, Err, MatchOption};
+ghost use Rattle.case_tables.specs.declared.code_table.Code.{Code as TheCode};
 ghost use Rattle.core_terms.specs.Trees.{same_form};
 ghost use Rattle.core_terms.specs.declared.trees.CForm.TheVariants.{Bottom};
+ghost use Rattle.rules_table.specs.Conclusion.{Conclusion};
 ghost use Rattle.rules_table.specs.Table as table;
 ghost use Rattle.safety_rules.specs.Answers.{site_of};
 
-use case_tables::Kind;
+use case_tables::{Code, Kind};
 use core_terms::{CForm, Helper};
 use fair_rounds::Record;
 use safety_rules::{Place, is_ensures, is_invariant, is_same, is_unless};
@@ -17,6 +19,27 @@ pub(crate) fn is_part_pair(pl: &Place, a: &Record, b: &Record) -> bool
     match pl.program.parts {
         None => false,
         Some((f, g)) => a.program == f && b.program == g,
+    }
+}
+
+// The first condition of a union that fails: that these are records of the two parts, that their kinds are those of the
+// rule, and that their formulas agree.
+#[tactic(auto, using(crate::proofs::UnionRows::fault_laws))]
+pub(crate) fn fault_of(pl: &Place, a: &Record, b: &Record, kinds: bool, agree: bool) -> Option<Code>
+    ensures { (rest : Result Conclusion TheCode) → MatchOption result
+        (table.needs (table.is_part_pair (site_of pl.now) a.now b.now) TheCode.OtherProgram
+        (table.needs kinds TheCode.WrongKind (table.needs agree TheCode.MiddleDiffers rest)) ≡ rest)
+        (λ code. table.needs (table.is_part_pair (site_of pl.now) a.now b.now) TheCode.OtherProgram
+        (table.needs kinds TheCode.WrongKind (table.needs agree TheCode.MiddleDiffers rest)) ≡ Err code) }
+{
+    if !is_part_pair(pl, a, b) {
+        Some(Code::OtherProgram)
+    } else if !kinds {
+        Some(Code::WrongKind)
+    } else if !agree {
+        Some(Code::MiddleDiffers)
+    } else {
+        None
     }
 }
 

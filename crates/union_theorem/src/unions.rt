@@ -5,9 +5,9 @@ ghost use Rattle.rules_table.specs.Table as table;
 ghost use Rattle.safety_rules.specs.Answers.{site_of, IsPlace, IsPremiseAt, RuleAnswers};
 ghost use Rattle.safety_rules.specs.Sound.{StandsWhereShown};
 
-use crate::kinds::{are_alike, are_stable, first_helper, is_ensured, is_kept, is_part_pair};
+use crate::kinds::{are_alike, are_stable, fault_of, first_helper, is_ensured, is_kept};
 use crate::shown::united;
-use case_tables::{Code, Kind};
+use case_tables::Kind;
 use core_terms::CForm;
 use fair_rounds::Record;
 use safety_rules::{Derived, Place, RuleError, are_unless};
@@ -26,16 +26,10 @@ pub fn union_unless(alloc: Global, pl: &Place, a: &Record, b: &Record) -> Result
     ensures sound { (f g : CProgram) → IsUnionOf (site_of pl.now) f g → IsPartPremise (site_of pl.now) f a.now →
         IsPartPremise (site_of pl.now) g b.now → StandsWhereShown pl.now result }
 {
-    if !is_part_pair(pl, a, b) {
-        return Err(RuleError::Fault(Code::OtherProgram));
+    match fault_of(pl, a, b, are_unless(a, b), are_alike(a, b)) {
+        Some(code) => Err(RuleError::Fault(code)),
+        None => united(alloc, pl, a, b, Kind::Unless, &a.p, &a.q, &None),
     }
-    if !are_unless(a, b) {
-        return Err(RuleError::Fault(Code::WrongKind));
-    }
-    if !are_alike(a, b) {
-        return Err(RuleError::Fault(Code::MiddleDiffers));
-    }
-    united(alloc, pl, a, b, Kind::Unless, &a.p, &a.q, &None)
 }
 
 /// `p ensures q` of a union, from `p ensures q` of one part and `p unless q` of the other (chapter 7 of
@@ -56,25 +50,11 @@ pub fn union_ensures(
     ensures sound { (f g : CProgram) → IsUnionOf (site_of pl.now) f g → IsPartPremise (site_of pl.now) f a.now →
         IsPartPremise (site_of pl.now) g b.now → StandsWhereShown pl.now result }
 {
-    if !is_part_pair(pl, a, b) {
-        return Err(RuleError::Fault(Code::OtherProgram));
+    let helper = first_helper(a, b);
+    match fault_of(pl, a, b, is_ensured(a, b), are_alike(a, b)) {
+        Some(code) => Err(RuleError::Fault(code)),
+        None => united(alloc, pl, a, b, Kind::Ensures, &a.p, &a.q, helper),
     }
-    if !is_ensured(a, b) {
-        return Err(RuleError::Fault(Code::WrongKind));
-    }
-    if !are_alike(a, b) {
-        return Err(RuleError::Fault(Code::MiddleDiffers));
-    }
-    united(
-        alloc,
-        pl,
-        a,
-        b,
-        Kind::Ensures,
-        &a.p,
-        &a.q,
-        first_helper(a, b),
-    )
 }
 
 /// `invariant p` of a union, from `invariant p` of one part and `p unless false` of the other (chapter 7
@@ -95,23 +75,9 @@ pub fn union_invariant(
     ensures sound { (f g : CProgram) → IsUnionOf (site_of pl.now) f g → IsPartPremise (site_of pl.now) f a.now →
         IsPartPremise (site_of pl.now) g b.now → StandsWhereShown pl.now result }
 {
-    if !is_part_pair(pl, a, b) {
-        return Err(RuleError::Fault(Code::OtherProgram));
+    let never = &CForm::Bottom;
+    match fault_of(pl, a, b, is_kept(a, b), are_stable(a, b)) {
+        Some(code) => Err(RuleError::Fault(code)),
+        None => united(alloc, pl, a, b, Kind::Invariant, &a.p, never, &None),
     }
-    if !is_kept(a, b) {
-        return Err(RuleError::Fault(Code::WrongKind));
-    }
-    if !are_stable(a, b) {
-        return Err(RuleError::Fault(Code::MiddleDiffers));
-    }
-    united(
-        alloc,
-        pl,
-        a,
-        b,
-        Kind::Invariant,
-        &a.p,
-        &CForm::Bottom,
-        &None,
-    )
 }

@@ -1,46 +1,27 @@
-use Rattle.std.proofs.Common.{◌&&◌, sym, ◌∙◌}
-use Rattle.case_tables.specs.declared.code_table.Code.{Code}
+use Rattle.std.proofs.Common.{◌&&◌, ◌∙◌}
 use Rattle.core_terms.specs.Trees.{same_form}
 use Rattle.core_terms.specs.declared.trees.CForm.TheVariants.{Bottom}
 use Rattle.fair_rounds.specs.declared.records.Record.{Record}
-use Rattle.rules_table.specs.Table.{Site, is_part_pair, ending, union_invariant_of}
+use Rattle.rules_table.specs.Table.{Site, ending, union_invariant_of}
 use Rattle.rules_table.proofs.UnionSound.{union_invariant_sound}
 use Rattle.safety_rules.specs.Answers.{site_of}
-use Rattle.safety_rules.proofs.AnswerLaws.{needs_met, needs_not, refused, given_by}
+use Rattle.safety_rules.proofs.AnswerLaws.{refused, given_by}
 use Rattle.safety_rules.proofs.SoundLaws.{site_good, answer_stands}
-use Rattle.union_theorem.proofs.UnionRows.{union_invariant-is, united_invariant, one_invariant}
+use Rattle.union_theorem.proofs.UnionRows.{union_invariant-is, united_invariant, one_invariant, row_fails, row_met}
 use Rattle.union_theorem.proofs.unions.union_invariant.Goals as goal
 
-pub returns-then-not-is_part_pair-clause-answer : goal.returns-then-not-is_part_pair-clause-answer
-returns-then-not-is_part_pair-clause-answer c =
+pub returns-in-Some-clause-answer : goal.returns-in-Some-clause-answer
+returns-in-Some-clause-answer c =
     let site : Site = site_of c.args.pl.now in
     let a : Record = c.args.a.now in
     let b : Record = c.args.b.now in
-    refused site.slots Code.OtherProgram _
+    refused site.slots c.in-Some.code _
     (union_invariant-is site a b
-    ∙ needs_not (is_part_pair site a b) Code.OtherProgram _ (sym c.is_part_pair.ensures ∙ c.if-not-is_part_pair.true))
-
-pub returns-then-not-is_kept-clause-answer : goal.returns-then-not-is_kept-clause-answer
-returns-then-not-is_kept-clause-answer c =
-    let site : Site = site_of c.args.pl.now in
-    let a : Record = c.args.a.now in
-    let b : Record = c.args.b.now in
-    refused site.slots Code.WrongKind _
-    (union_invariant-is site a b
-    ∙ needs_met (is_part_pair site a b) Code.OtherProgram _ (sym c.is_part_pair.ensures ∙ c.if-not-is_part_pair.false)
-    ∙ needs_not (one_invariant a b) Code.WrongKind _ (sym c.is_kept.ensures ∙ c.if-not-is_kept.true))
-
-pub returns-then-not-are_stable-clause-answer : goal.returns-then-not-are_stable-clause-answer
-returns-then-not-are_stable-clause-answer c =
-    let site : Site = site_of c.args.pl.now in
-    let a : Record = c.args.a.now in
-    let b : Record = c.args.b.now in
-    refused site.slots Code.MiddleDiffers _
-    (union_invariant-is site a b
-    ∙ needs_met (is_part_pair site a b) Code.OtherProgram _ (sym c.is_part_pair.ensures ∙ c.if-not-is_part_pair.false)
-    ∙ needs_met (one_invariant a b) Code.WrongKind _ (sym c.is_kept.ensures ∙ c.if-not-is_kept.false)
-    ∙ needs_not (same_form a.p b.p && same_form (ending a b) Bottom) Code.MiddleDiffers _
-    (sym c.are_stable.ensures ∙ c.if-not-are_stable.true))
+    ∙ row_fails site a b (one_invariant a b) (same_form a.p b.p && same_form (ending a b) Bottom) c.is_kept.result
+    c.are_stable.result
+    (united_invariant site a b) c.fault_of.result c.is_kept.ensures c.are_stable.ensures (c.fault_of.ensures
+    (united_invariant site a b))
+    c.in-Some.code c.in-Some.is)
 
 pub returns-clause-answer : goal.returns-clause-answer
 returns-clause-answer c =
@@ -49,10 +30,11 @@ returns-clause-answer c =
     let b : Record = c.args.b.now in
     given_by site.slots c.united.result _ (united_invariant site a b)
     (union_invariant-is site a b
-    ∙ needs_met (is_part_pair site a b) Code.OtherProgram _ (sym c.is_part_pair.ensures ∙ c.if-not-is_part_pair.false)
-    ∙ needs_met (one_invariant a b) Code.WrongKind _ (sym c.is_kept.ensures ∙ c.if-not-is_kept.false)
-    ∙ needs_met (same_form a.p b.p && same_form (ending a b) Bottom) Code.MiddleDiffers _
-    (sym c.are_stable.ensures ∙ c.if-not-are_stable.false))
+    ∙ row_met site a b (one_invariant a b) (same_form a.p b.p && same_form (ending a b) Bottom) c.is_kept.result
+    c.are_stable.result
+    (united_invariant site a b) c.fault_of.result c.is_kept.ensures c.are_stable.ensures (c.fault_of.ensures
+    (united_invariant site a b))
+    c.in-None.is)
     c.united.ensures
 
 pub returns-clause-sound : goal.returns-clause-sound
