@@ -9,6 +9,8 @@ cd "$(dirname "$0")/.."
 if [ "${1:-}" != --built ]; then
     rt ci
 fi
+# all that follows runs in a stack of 4 MiB, but for the toolchain
+ulimit -Ss 4096
 
 answer=$(mktemp)
 text=$(mktemp)
@@ -63,7 +65,7 @@ expect_proof() {
 }
 
 # expect_claim TIMES PART: for the claim that so many x of 0..3, with this part between them, are no less than 0,
-# certificates are found within an ordinary stack, and `check` accepts them.
+# certificates are found, and `check` accepts them.
 expect_claim() {
     wanted=$text
     printf '%s\n' "accepted 2 steps 3 obligations" "P.safe defined" "P.many invariant" > "$text"
@@ -77,26 +79,24 @@ expect_claim() {
     compare "a claim on $1 parts" 0 check < "$proved"
 }
 
-# within NAME STATUS LINE WORD..: within a stack of 4 MiB these words make the document in `text` exit so, with this first
-# line.
-within() {
+# answers NAME STATUS LINE WORD..: these words make the document in `text` exit so, with this first line.
+answers() {
     local name=$1 status=$2 line=$3 ended=0
     shift 3
-    (ulimit -Ss 4096 && exec crates/unity/out/unity "$@" < "$text" > "$answer") || ended=$?
+    crates/unity/out/unity "$@" < "$text" > "$answer" || ended=$?
     if [ "$ended" = "$status" ] && [ "$(head -n 1 "$answer")" = "$line" ]; then
         count_one 0 "$name"
     else
-        count_one 1 "$name, within a stack of 4 MiB: status $ended"
+        count_one 1 "$name: status $ended"
     fi
 }
 
-# proved_within NAME STEPS OBLIGATIONS: within a stack of 4 MiB the document in `text` runs, certificates are found for
-# it, and `check` accepts them.
-proved_within() {
-    within "$1, run" 0 "run P" run P 3
-    (ulimit -Ss 4096 && crates/unity/out/unity prove 1000000 < "$text" > "$proved") || true
+# proves NAME STEPS OBLIGATIONS: the document in `text` runs, certificates are found for it, and `check` accepts them.
+proves() {
+    answers "$1, run" 0 "run P" run P 3
+    crates/unity/out/unity prove 1000000 < "$text" > "$proved" || true
     cp "$proved" "$text"
-    within "$1" 0 "accepted $2 steps $3 obligations" check
+    answers "$1" 0 "accepted $2 steps $3 obligations" check
 }
 
 # nested LEVELS PART LAST: names, up to the name `deep`, that stand for LAST below so many levels of this part, in
@@ -120,29 +120,28 @@ added() {
     yes "+ $2" | head -n "$1"
 }
 
-# expect_deep LEVELS PART LAST [GUARD]: the guard `deep`, or one on it, on LAST below so many levels of this part is proved within a stack of
-# 4 MiB.
+# expect_deep LEVELS PART LAST [GUARD]: the guard `deep`, or one on it, on LAST below so many levels of this part is
+# proved.
 expect_deep() {
     {
         printf '%s\n' "unity 2" "program P declare x : 0..1 y : 0..1 a : array 0..1 of 0..1"
         nested "$1" "$2" "$3"
         echo "assign s: x := x if ${4:-deep} end proof P safe: defined by text; end"
     } > "$text"
-    proved_within "a guard of $1 times $2 over $3" 1 1
+    proves "a guard of $1 times $2 over $3" 1 1
 }
 
-# expect_wide TIMES FIRST: a guard that so many x and FIRST are at most y is proved within a stack of 4 MiB.
+# expect_wide TIMES FIRST: a guard that so many x and FIRST are at most y is proved.
 expect_wide() {
     {
         printf '%s\n' "unity 2" "program P declare x : 0..1 y : 0..1 a : array 0..1 of 0..1 assign s: x := x if"
         added "$1" x "$2"
         echo "<= y end proof P safe: defined by text; end"
     } > "$text"
-    proved_within "a guard on $2 and $1 terms" 1 1
+    proves "a guard on $2 and $1 terms" 1 1
 }
 
-# expect_parameters TIMES: a claim on a sum of so many parameters is cited for a parameter and for a number within a
-# stack of 4 MiB.
+# expect_parameters TIMES: a claim on a sum of so many parameters is cited for a parameter and for a number.
 expect_parameters() {
     local sum
     sum=$(added "$(($1 - 1))" k k)
@@ -152,11 +151,11 @@ expect_parameters() {
         echo "other(k : 0..1): $sum <= x leadsto true by from one[k];"
         echo "zero: 0 <= x leadsto true by from one[0]; end"
     } > "$text"
-    proved_within "a claim on $1 parameters" 4 2
+    proves "a claim on $1 parameters" 4 2
 }
 
-# expect_large_claim TIMES SIDE: a claim on a sum of so many x, nested to this side, is refused within a stack of 4 MiB,
-# since its obligation is too large.
+# expect_large_claim TIMES SIDE: a claim on a sum of so many x, nested to this side, is refused, since its obligation is
+# too large.
 expect_large_claim() {
     {
         printf '%s\n' "unity 1" "program P declare x : 0..1 y : 0..1"
@@ -171,10 +170,10 @@ expect_large_claim() {
         fi
         echo "<= y by text; end"
     } > "$text"
-    within "a claim on $1 terms nested to the $2" 1 "rejected 42 FormulaTooLarge P.many" prove 1000000
+    answers "a claim on $1 terms nested to the $2" 1 "rejected 42 FormulaTooLarge P.many" prove 1000000
 }
 
-# expect_false_claim TIMES: a claim on a sum of so many parts is refuted within a stack of 4 MiB.
+# expect_false_claim TIMES: a claim on a sum of so many parts is refuted.
 expect_false_claim() {
     {
         printf '%s\n' "unity 1" "program P declare x : 0..1 y : 0..1 assign s: y := y end"
@@ -182,7 +181,7 @@ expect_false_claim() {
         added "$(($1 - 1))" 1 1
         echo "<= x by text; end"
     } > "$text"
-    within "a false claim on $1 parts" 3 "refuted P.many obligation 2" prove 1000000
+    answers "a false claim on $1 parts" 3 "refuted P.many obligation 2" prove 1000000
 }
 
 # expect_bound LINE WORD..: by these words the script that tries a bound on all executions of 8 steps says
@@ -663,7 +662,7 @@ expect_no_picture() {
 # expect_refused N TEST: this test of unity_base passes where its Nth allocation is refused.
 expect_refused() {
     local holds=1
-    (cd crates/unity_base && rt try --test --fail-alloc "$1") > "$answer" 2>&1 || true
+    (cd crates/unity_base && ulimit -Ss 8192 && rt try --test --fail-alloc "$1") > "$answer" 2>&1 || true
     if grep -q "^test tests::$2 \.\.\. ok" "$answer"; then
         holds=0
     fi
@@ -685,7 +684,7 @@ expect_ends() {
 # nothing written, or else in the whole trace.
 expect_no_memory() {
     local holds=1 status=0
-    (cd crates/unity && rt try --fail-alloc "$1" -- run Count 5) < examples/count.unity > "$answer" 2> "$text" ||
+    (cd crates/unity && ulimit -Ss 8192 && rt try --fail-alloc "$1" -- run Count 5) < examples/count.unity > "$answer" 2> "$text" ||
         status=$?
     if { [ "$status" = 9 ] && [ ! -s "$answer" ]; } || { [ "$status" = 0 ] && cmp -s "$answer" examples/count.run; }
     then
