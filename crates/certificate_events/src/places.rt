@@ -71,102 +71,99 @@ pub struct Place {
 }
 
 /// A number with its sign.
-#[inline(always)]
-pub(crate) fn integer_of(minus: bool, number: u64) -> i64
+fn integer_of(minus: bool, number: u64) -> i64
     ensures { result ≡ number_of minus number }
 {
     let number = number.min(GREATEST_LITERAL) as i64;
     if minus { -number } else { number }
 }
 
-#[inline(always)]
-fn silent(place: &mut Place, stage: Stage) -> Taken
-    ensures { (place.new, result) ≡ steps.silent place.old stage }
+fn silent(place: Place, stage: Stage) -> (Place, Taken)
+    ensures { result ≡ steps.silent place stage }
 {
-    place.stage = stage;
-    Taken::Nothing
+    (Place { stage, ..place }, Taken::Nothing)
 }
 
-#[inline(always)]
-fn telling(place: &mut Place, stage: Stage, event: CertEvent) -> Taken
-    ensures { (place.new, result) ≡ steps.telling place.old stage event }
+fn telling(place: Place, stage: Stage, event: CertEvent) -> (Place, Taken)
+    ensures { result ≡ steps.telling place stage event }
 {
-    place.stage = stage;
-    Taken::Event(event)
+    (Place { stage, ..place }, Taken::Event(event))
 }
 
-#[inline(always)]
-fn refused(place: &mut Place) -> Taken
-    ensures { (place.new, result) ≡ steps.refused place.old }
+fn refused(place: Place) -> (Place, Taken)
+    ensures { result ≡ steps.refused place }
 {
-    place.stage = Stage::Bad;
-    Taken::Unexpected
+    let stage = Stage::Bad;
+    (Place { stage, ..place }, Taken::Unexpected)
 }
 
 /// Behind a certificate, or before the first.
-#[inline(always)]
-fn between(place: &mut Place, sign: Sign) -> Taken
-    requires { place.old.number < 2 ^ 64 - 1 }
-    ensures { (place.new, result) ≡ steps.between place.old sign }
+fn between(place: Place, sign: Sign) -> (Place, Taken)
+    requires { place.number < 2 ^ 64 - 1 }
+    ensures { result ≡ steps.between place sign }
 {
     let next = place.number + 1;
     match sign {
-        Sign::Number(number) if number == next => {
-            place.number = next;
-            silent(place, Stage::Numbered)
-        }
+        Sign::Number(number) if number == next => silent(
+            Place {
+                number: next,
+                ..place
+            },
+            Stage::Numbered,
+        ),
         Sign::End => telling(place, Stage::Done, CertEvent::Last),
         _ => refused(place),
     }
 }
 
 /// Behind a certificate's number.
-#[inline(always)]
-fn numbered(place: &mut Place, sign: Sign) -> Taken
-    ensures { (place.new, result) ≡ steps.numbered place.old sign }
+fn numbered(place: Place, sign: Sign) -> (Place, Taken)
+    ensures { result ≡ steps.numbered place sign }
 {
     match sign {
-        Sign::Colon => {
-            place.missing = 1;
-            telling(place, Stage::Nodes, CertEvent::Begin)
-        }
+        Sign::Colon => telling(
+            Place {
+                missing: 1,
+                ..place
+            },
+            Stage::Nodes,
+            CertEvent::Begin,
+        ),
         _ => refused(place),
     }
 }
 
-/// At the word of a node, beside which and below which so many trees are missing.
-#[inline(always)]
-fn word(place: &mut Place, missing: u64, stage: Stage) -> Taken
-    ensures { (place.new, result) ≡ steps.silent (record place.old { missing = missing }) stage }
-{
-    place.missing = missing;
-    silent(place, stage)
-}
-
 /// At a node, beside which so many trees are missing.
-#[inline(always)]
-fn node(place: &mut Place, others: u64, sign: Sign) -> Taken
+fn node(place: Place, others: u64, sign: Sign) -> (Place, Taken)
     requires { others < 2 ^ 64 - 2 }
-    ensures { (place.new, result) ≡ steps.node place.old others sign }
+    ensures { result ≡ steps.node place others sign }
 {
+    let none_below = Place {
+        missing: others,
+        ..place
+    };
+    let one_below = Place {
+        missing: others + 1,
+        ..place
+    };
+    let two_below = Place {
+        missing: others + 2,
+        ..place
+    };
     match sign {
-        Sign::Case => word(place, others + 2, Stage::Plain(Plain::Case)),
-        Sign::Split => word(place, others + 2, Stage::Plain(Plain::Variable)),
-        Sign::Sum => {
-            place.missing = others;
-            telling(place, Stage::Pairs, CertEvent::Sum)
-        }
-        Sign::Round => word(place, others + 1, Stage::Signed(Signed::Divisor)),
-        Sign::Quot => word(place, others + 1, Stage::Plain(Plain::Quot)),
-        Sign::Share => word(place, others + 2, Stage::Signed(Signed::Constant)),
+        Sign::Case => silent(two_below, Stage::Plain(Plain::Case)),
+        Sign::Split => silent(two_below, Stage::Plain(Plain::Variable)),
+        Sign::Sum => telling(none_below, Stage::Pairs, CertEvent::Sum),
+        Sign::Round => silent(one_below, Stage::Signed(Signed::Divisor)),
+        Sign::Quot => silent(one_below, Stage::Plain(Plain::Quot)),
+        Sign::Share => silent(two_below, Stage::Signed(Signed::Constant)),
         _ => refused(place),
     }
 }
 
 /// Where no tree is missing.
-#[inline(always)]
-fn closing(place: &mut Place, sign: Sign) -> Taken
-    ensures { (place.new, result) ≡ steps.closing place.old sign }
+fn closing(place: Place, sign: Sign) -> (Place, Taken)
+    ensures { result ≡ steps.closing place sign }
 {
     match sign {
         Sign::Semicolon => telling(place, Stage::Between, CertEvent::End),
@@ -175,10 +172,9 @@ fn closing(place: &mut Place, sign: Sign) -> Taken
 }
 
 /// Where a node may stand.
-#[inline(always)]
-fn nodes(place: &mut Place, sign: Sign) -> Taken
-    requires { place.old.missing < 2 ^ 64 - 1 }
-    ensures { (place.new, result) ≡ steps.nodes place.old sign }
+fn nodes(place: Place, sign: Sign) -> (Place, Taken)
+    requires { place.missing < 2 ^ 64 - 1 }
+    ensures { result ≡ steps.nodes place sign }
 {
     if place.missing == 0 {
         closing(place, sign)
@@ -188,10 +184,9 @@ fn nodes(place: &mut Place, sign: Sign) -> Taken
 }
 
 /// Where a pair may stand.
-#[inline(always)]
-fn pairs(place: &mut Place, sign: Sign) -> Taken
-    requires { place.old.missing < 2 ^ 64 - 1 }
-    ensures { (place.new, result) ≡ steps.pairs place.old sign }
+fn pairs(place: Place, sign: Sign) -> (Place, Taken)
+    requires { place.missing < 2 ^ 64 - 1 }
+    ensures { result ≡ steps.pairs place sign }
 {
     match sign {
         Sign::Minus => silent(place, Stage::Negative(Signed::Multiplier)),
@@ -201,9 +196,8 @@ fn pairs(place: &mut Place, sign: Sign) -> Taken
 }
 
 /// With the number that was awaited.
-#[inline(always)]
-fn plain_read(place: &mut Place, awaited: Plain, number: u64) -> Taken
-    ensures { (place.new, result) ≡ steps.plain_read place.old awaited number }
+fn plain_read(place: Place, awaited: Plain, number: u64) -> (Place, Taken)
+    ensures { result ≡ steps.plain_read place awaited number }
 {
     match awaited {
         Plain::Case => telling(place, Stage::Nodes, CertEvent::Case(number)),
@@ -214,9 +208,8 @@ fn plain_read(place: &mut Place, awaited: Plain, number: u64) -> Taken
 }
 
 /// Where a number is awaited.
-#[inline(always)]
-fn with_number(place: &mut Place, awaited: Plain, sign: Sign) -> Taken
-    ensures { (place.new, result) ≡ steps.with_number place.old awaited sign }
+fn with_number(place: Place, awaited: Plain, sign: Sign) -> (Place, Taken)
+    ensures { result ≡ steps.with_number place awaited sign }
 {
     match sign {
         Sign::Number(number) => plain_read(place, awaited, number),
@@ -225,9 +218,8 @@ fn with_number(place: &mut Place, awaited: Plain, sign: Sign) -> Taken
 }
 
 /// With the number with a sign that was awaited.
-#[inline(always)]
-fn signed_read(place: &mut Place, awaited: Signed, number: i64) -> Taken
-    ensures { (place.new, result) ≡ steps.signed_read place.old awaited number }
+fn signed_read(place: Place, awaited: Signed, number: i64) -> (Place, Taken)
+    ensures { result ≡ steps.signed_read place awaited number }
 {
     match awaited {
         Signed::Bound(variable) => {
@@ -240,9 +232,8 @@ fn signed_read(place: &mut Place, awaited: Signed, number: i64) -> Taken
 }
 
 /// Where a number or a minus is awaited.
-#[inline(always)]
-fn with_sign(place: &mut Place, awaited: Signed, sign: Sign) -> Taken
-    ensures { (place.new, result) ≡ steps.with_sign place.old awaited sign }
+fn with_sign(place: Place, awaited: Signed, sign: Sign) -> (Place, Taken)
+    ensures { result ≡ steps.with_sign place awaited sign }
 {
     match sign {
         Sign::Minus => silent(place, Stage::Negative(awaited)),
@@ -252,9 +243,8 @@ fn with_sign(place: &mut Place, awaited: Signed, sign: Sign) -> Taken
 }
 
 /// Behind a minus.
-#[inline(always)]
-fn negative(place: &mut Place, awaited: Signed, sign: Sign) -> Taken
-    ensures { (place.new, result) ≡ steps.negative place.old awaited sign }
+fn negative(place: Place, awaited: Signed, sign: Sign) -> (Place, Taken)
+    ensures { result ≡ steps.negative place awaited sign }
 {
     match sign {
         Sign::Number(number) => signed_read(place, awaited, integer_of(true, number)),
@@ -263,9 +253,8 @@ fn negative(place: &mut Place, awaited: Signed, sign: Sign) -> Taken
 }
 
 /// Behind the first number of a pair.
-#[inline(always)]
-fn times(place: &mut Place, by: i64, sign: Sign) -> Taken
-    ensures { (place.new, result) ≡ steps.times place.old by sign }
+fn times(place: Place, by: i64, sign: Sign) -> (Place, Taken)
+    ensures { result ≡ steps.times place by sign }
 {
     match sign {
         Sign::Times => silent(place, Stage::Plain(Plain::Fact(by))),
@@ -274,11 +263,10 @@ fn times(place: &mut Place, by: i64, sign: Sign) -> Taken
 }
 
 /// Where a token leads, and what it tells.
-#[inline(always)]
-pub fn step(place: &mut Place, sign: Sign) -> Taken
-    requires missing { place.old.missing < 2 ^ 64 - 1 }
-    requires number { place.old.number < 2 ^ 64 - 1 }
-    ensures { (place.new, result) ≡ steps.step place.old sign }
+pub fn step(place: Place, sign: Sign) -> (Place, Taken)
+    requires missing { place.missing < 2 ^ 64 - 1 }
+    requires number { place.number < 2 ^ 64 - 1 }
+    ensures { result ≡ steps.step place sign }
 {
     match place.stage {
         Stage::Between => between(place, sign),

@@ -2,4 +2,3 @@ pub mod Sums
 pub mod Refutation
 pub mod Trees
 pub mod Indexes
-pub mod Additions

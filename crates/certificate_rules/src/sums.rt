@@ -1,6 +1,6 @@
 //! Sums of multiples of facts.
 ghost use Rattle.std.specs.Prelude.{◌≡◌, ℤ, pos, ◌+ℤ◌, ◌*ℤ◌, ◌≤ℤ◌, ◌<◌, ◌+◌, ◌^◌};
-ghost use Rattle.std.specs.Prelude.{MatchOption, MatchResult, MatchBool, OnOk, IfSome, ◌&&◌};
+ghost use Rattle.std.specs.Prelude.{MatchOption, MatchResult, MatchBool, OnOk};
 ghost use Rattle.std.specs.Prelude.{IfOk, neg_ℤ, Some, None, Ok, Err, true, false, map};
 ghost use Rattle.std.specs.Prelude.{length};
 ghost use Rattle.std.specs.Prelude.{[], ◌∷◌, ◌++◌};
@@ -11,7 +11,6 @@ ghost use Rattle.core_terms.specs.Values.{number_at};
 ghost use Rattle.std.specs.Int.{int_rem_euclid, int_div_euclid};
 ghost use Rattle.certificate_rules.specs.Sums.{add_factors, add_times, numbered, add_pair, sum_pairs, is_false};
 ghost use Rattle.certificate_rules.specs.Sums.{is_divisible, divided, below_0};
-ghost use Rattle.certificate_rules.specs.Additions.{fits_added, IsAdded};
 ghost use Rattle.obligations.specs.Load.{is_small};
 ghost use Rattle.obligations.specs.LinearForms.{add_at, fact_of, sparse};
 
@@ -21,7 +20,6 @@ use std::alloc::{AllocError, Global};
 use unity_base::Seq;
 
 /// Adds a number at a place, where there is one.
-#[inline(always)]
 fn add_factor(sum: &mut Seq<i128>, place: usize, by: i128, total: i128)
     requires { total ≡ number_at sum.old place +ℤ by }
     ensures { sum.new ≡ add_at sum.old place by }
@@ -50,95 +48,20 @@ pub fn product(m: i64, z: i128) -> Option<i128>
     }
 }
 
-/// A product, and its sum with a number.
-#[derive(Clone, Copy)]
-pub struct MultipleSum {
-    /// The product.
-    pub by: i128,
-    /// The sum.
-    pub total: i128,
-}
-
-/// The product of two numbers of 32 bits, which never is past 2^62.
-#[inline(always)]
-#[tactic(auto, using(crate::proofs::SumLaws::narrow_laws))]
-fn short_product(m: i32, z: i32) -> i64
-    ensures { result ≡ m *ℤ z }
-{
-    m as i64 * z as i64
-}
-
-/// Two numbers of 64 bits, the second in 128, and their sum.
-#[inline(always)]
-#[tactic(auto, using(crate::proofs::SumLaws::narrow_laws))]
-fn short_sum(by: i64, sum: i64) -> MultipleSum
-    ensures by { result.by ≡ by }
-    ensures total { result.total ≡ sum +ℤ by }
-    ensures fits { (is_small by && is_small (sum +ℤ by)) ≡ true }
-{
-    let by = by as i128;
-    MultipleSum {
-        by,
-        total: sum as i128 + by,
-    }
-}
-
-/// m times a number, added to another, where the first two have 32 bits and the other 64. `None` says nothing.
-#[inline(always)]
-#[tactic(auto, using(crate::proofs::SumLaws::narrow_laws))]
-fn narrow_added(m: i64, z: i128, sum: i128) -> Option<MultipleSum>
-    ensures { IfSome result (IsAdded m z sum) }
-{
-    let Ok(m) = i32::try_from(m) else {
-        return None;
-    };
-    let Ok(z) = i32::try_from(z) else {
-        return None;
-    };
-    let Ok(sum) = i64::try_from(sum) else {
-        return None;
-    };
-    Some(short_sum(short_product(m, z), sum))
-}
-
-/// m times a number, added to another. `None` exactly where the product or the sum is past 2^126.
-#[cold]
-#[inline(never)]
-fn wide_added(m: i64, z: i128, sum: i128) -> Option<MultipleSum>
-    ensures { MatchOption result (fits_added m z sum ≡ false) (IsAdded m z sum) }
-{
-    let Some(by) = product(m, z) else {
-        return None;
-    };
-    let Some(total) = small_sum(sum, by) else {
-        return None;
-    };
-    Some(MultipleSum { by, total })
-}
-
-/// m times a number, added to another. `None` exactly where the product or the sum is past 2^126.
-#[inline(always)]
-pub fn added(m: i64, z: i128, sum: i128) -> Option<MultipleSum>
-    ensures { MatchOption result (fits_added m z sum ≡ false) (IsAdded m z sum) }
-{
-    match narrow_added(m, z, sum) {
-        Some(added) => Some(added),
-        None => wide_added(m, z, sum),
-    }
-}
-
 /// Adds m times a factor at a place, unless the product or the sum is too big; then nothing is added.
-#[inline(always)]
 pub fn add_multiple(m: i64, place: usize, factor: i128, sum: &mut Seq<i128>) -> bool
     ensures added { MatchBool result
         (add_factors m ((place, factor) ∷ []) sum.old ≡ Some sum.new)
         (add_factors m ((place, factor) ∷ []) sum.old ≡ None) }
     ensures kept { result ≡ false → sum.new ≡ sum.old }
 {
-    let Some(added) = added(m, factor, factor_at(sum, place)) else {
+    let Some(by) = product(m, factor) else {
         return false;
     };
-    add_factor(sum, place, added.by, added.total);
+    let Some(total) = small_sum(factor_at(sum, place), by) else {
+        return false;
+    };
+    add_factor(sum, place, by, total);
     true
 }
 
@@ -346,13 +269,6 @@ fn put_part(d: i64, place: u32, z: i128, factors: &mut Seq<(u32, i128)>) -> Resu
     }
 }
 
-/// No factors, with room for so many, but not for more than four.
-fn no_factors(alloc: Global, count: usize) -> Result<Seq<(u32, i128)>, AllocError>
-    ensures { IfOk result (λ f. f ≡ []) }
-{
-    Seq::with_capacity(alloc, count.min(4))
-}
-
 /// The factors divided and rounded down, each with its place from `first` on, where it is not 0.
 #[tactic(auto, using(crate::proofs::SumLaws::part_laws))]
 pub fn parts(
@@ -365,7 +281,7 @@ pub fn parts(
     requires count { first + length zs.now < 2 ^ 32 }
     ensures { IfOk result (λ f. f ≡ sparse first (map (λ z. int_div_euclid z d) zs.now)) }
 {
-    let mut factors = no_factors(alloc, zs.len())?;
+    let mut factors = Seq::new(alloc);
     for (place, z) in zs.iter().enumerate() {
         put_part(d, (first + place) as u32, *z, &mut factors)?;
     }

@@ -7,4 +7,3 @@ pub mod SectionSteps
 pub mod Certificates
 pub mod Answers
 pub mod AtHand
-pub mod PairSteps

@@ -15,4 +15,3 @@ pub mod Scanning
 pub mod SomeAnswer
 pub mod SymbolTable
 pub mod Taking
-pub mod ReadyPairs

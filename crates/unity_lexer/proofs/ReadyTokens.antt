@@ -119,36 +119,28 @@ module _ (text : List ℕ) (long : 6 ≤ length text) where
       (48, omega arith, refl) refl refl refl
 
 -- what is left, as the code slices it
-pub rest_is : (bytes : List ℕ) (at : ℕ) → take (length bytes - at) (drop at bytes) ≡ drop at bytes
+rest_is : (bytes : List ℕ) (at : ℕ) → take (length bytes - at) (drop at bytes) ≡ drop at bytes
 rest_is bytes at = take_all (length bytes - at) (drop at bytes) (omega (arith, length-drop at bytes))
 
 -- the blanks are within the bytes
 pub blanks_within : (bytes : List ℕ) (n : ℕ) → n ≡ prefix_len is_blank bytes → n ≤ length bytes
 blanks_within bytes n e = omega (arith, e, prefix_len-le-length is_blank bytes)
 
--- what a slice begins with
-pub slice_begins : (bs : List ℕ) (n m : ℕ) (k : TokenKind) (all : List ℕ) → bs ≡ all
-    → BeginsWith (take (length bs - n) (drop n bs)) (pieces.Token k m) → BeginsWith (drop n all) (pieces.Token k m)
-slice_begins bs n m k all e h =
-    subst (λ bs. BeginsWith (drop n bs) (pieces.Token k m)) e
-    (subst (λ t. BeginsWith t (pieces.Token k m)) (rest_is bs n) h)
-
-pub slice_room : (bs : List ℕ) (n m : ℕ) (all : List ℕ) → bs ≡ all
-    → m + 2 ≤ length (take (length bs - n) (drop n bs)) → m + 2 ≤ length (drop n all)
-slice_room bs n m all e h =
-    subst (λ bs. m + 2 ≤ length (drop n bs)) e (subst (λ t. m + 2 ≤ length t) (rest_is bs n) h)
-
 -- so many blanks and then a token are held, and two more bytes
-module _ (w : Window) (n m : ℕ) (k : TokenKind) (blanks : n ≡ prefix_len is_blank (window_bytes w))
-    (begins : BeginsWith (drop n (window_bytes w)) (pieces.Token k m))
-    (room : m + 2 ≤ length (drop n (window_bytes w))) where
-  abbrev bs : List ℕ
-  bs = window_bytes w
+module _ (w : Window) (bs : List ℕ) (n m : ℕ) (k : TokenKind) (held_is : bs ≡ window_bytes w)
+    (blanks : n ≡ prefix_len is_blank bs)
+    (sliced : BeginsWith (take (length bs - n) (drop n bs)) (pieces.Token k m))
+    (more : m + 2 ≤ length (take (length bs - n) (drop n bs))) where
+  begins : BeginsWith (drop n bs) (pieces.Token k m)
+  begins = subst (λ t. BeginsWith t (pieces.Token k m)) (rest_is bs n) sliced
+
+  room : m + 2 ≤ length (drop n bs)
+  room = subst (λ t. m + 2 ≤ length t) (rest_is bs n) more
 
   pub ready_fits : n + m ≤ length (window_bytes w)
   ready_fits =
       let fits : n ≤ length bs = omega (arith, blanks, prefix_len-le-length is_blank bs) in
-      omega (arith, fits, room, length-drop n bs)
+      omega (arith, fits, room, length-drop n bs, ap length held_is)
 
   pub ready_held : n + m ≤ length (held w)
   ready_held = omega (arith, ready_fits, shown_fits w)
@@ -165,7 +157,7 @@ module _ (w : Window) (n m : ℕ) (k : TokenKind) (blanks : n ≡ prefix_len is_
       let told = shown w left bytes e in
       let fits : n ≤ length bs = omega (arith, blanks, prefix_len-le-length is_blank bs) in
       let cut : drop n bytes ≡ drop n bs ++ told.0 =
-      ap (drop n) told.1 ∙ drop-append-le n bs told.0 fits in
+      ap (drop n) (told.1 ∙ ap (λ t. t ++ told.0) (sym held_is)) ∙ drop-append-le n bs told.0 fits in
       subst (λ t. BeginsWith t (pieces.Token k m)) (sym cut) (decided (drop n bs) told.0 (pieces.Token k m) begins room)
 
   module _ (x : Window) (left : Option (List ℕ)) (d : HasDropped w x (n + m)) where
@@ -175,7 +167,7 @@ module _ (w : Window) (n m : ℕ) (k : TokenKind) (blanks : n ≡ prefix_len is_
     ready_reads : (bytes : List ℕ) → coming w left ≡ Some bytes
         → ReadsTo w.at bytes (token_at (w.at + n) m k ∷ []) x.at (coming x left)
     ready_reads bytes e =
-        let front : n ≡ prefix_len is_blank (window_bytes w) = blanks in
+        let front : n ≡ prefix_len is_blank (window_bytes w) = blanks ∙ ap (prefix_len is_blank) held_is in
         let all = blanks_shown w left bytes e in
         let passed : Tokenizes w.at bytes [] (w.at + n) (drop n bytes) =
         subst (λ n. Tokenizes w.at bytes [] (w.at + n) (drop n bytes)) (sym front)

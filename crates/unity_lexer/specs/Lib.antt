@@ -1,4 +1,3 @@
-pub mod Pairs
 pub mod Pieces
 pub mod ReservedShapes
 pub mod Scans

@@ -4,7 +4,6 @@
 mod ahead;
 mod front;
 mod laws;
-mod pairs;
 mod piece;
 mod ready;
 mod reserved;
@@ -18,7 +17,5 @@ mod tokens;
 
 pub use front::{Front, FrontError, read_front};
 pub use laws::{decided_pieces, one_reading, places_in_text, some_reading};
-pub use pairs::{PairTokens, next_pair};
-pub use ready::Likely;
-pub use scan::{Scan, likely_token, next_token};
+pub use scan::{Scan, next_token};
 pub use tokens::lex;

@@ -5,10 +5,8 @@ pub mod ExactLaws
 pub mod JoinedLaws
 pub mod KnownLaws
 pub mod LightLaws
-pub mod MemoLaws
 pub mod NamedLaws
 pub mod NeedLaws
 pub mod OversizedLaws
 pub mod PairLaws
 pub mod PlaceLaws
-pub mod TurnLaws
