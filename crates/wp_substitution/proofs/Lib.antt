@@ -5,8 +5,10 @@ pub mod ExactLaws
 pub mod JoinedLaws
 pub mod KnownLaws
 pub mod LightLaws
+pub mod MemoLaws
 pub mod NamedLaws
 pub mod NeedLaws
 pub mod OversizedLaws
 pub mod PairLaws
 pub mod PlaceLaws
+pub mod TurnLaws

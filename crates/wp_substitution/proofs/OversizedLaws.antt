@@ -1,13 +1,13 @@
 -- A conjunction is at least as large as the formulas are many that follow an open one, and what is made of one that
 -- is too large is so too.
-use Rattle.std.proofs.Common.{◌≡◌, ℕ, zero, suc, ◌+◌, ◌<◌, ◌≤◌, min, nat_lt, ℤ, pos, ◌-ℤ◌, Bool, true, false, not}
+use Rattle.std.proofs.Common.{◌≡◌, ℕ, zero, suc, ◌+◌, ◌^◌, ◌<◌, ◌≤◌, min, nat_lt, ℤ, pos, ◌-ℤ◌, Bool, true, false, not}
 use Rattle.std.proofs.Common.{◌&&◌, ◌||◌, cond, List, [], ◌∷◌, ◌++◌, map, length, slice_get, Option, Some, None, refl}
 use Rattle.std.proofs.Common.{sym, ap, ◌∙◌, subst, arith, length-append}
-use Rattle.std.specs.Prelude.{All}
+use Rattle.std.specs.Prelude.{All, MatchOption}
 use Rattle.std.specs.List.{list_any}
-use Rattle.std.specs.Option.{is_none, option_map}
+use Rattle.std.specs.Option.{is_none, is_some, option_map}
 use Rattle.std.specs.Int.RustNames.{int_le}
-use Rattle.std.proofs.lemmas.Bool.{ltb_from_iff, ltb-true, lt-ltb}
+use Rattle.std.proofs.lemmas.Bool.{ltb_from_iff, ltb-true, lt-ltb, le-ltb}
 use Rattle.std.proofs.lemmas.List.{length-map}
 use Rattle.std.proofs.lemmas.List.Elements.{All-head, All-tail}
 use Rattle.core_terms.specs.declared.trees.CTerm.{CTerm}
@@ -75,6 +75,26 @@ second_opens : (f g : CForm) → truth_of g ≡ None → truth_of (and_form f g)
 second_opens f g e =
     let none = truth-And f g ∙ none_second (λ x y. x && y) (truth_of f) (truth_of g) e in
     ap truth_of (not_folded (truth_of (And f g)) (And f g) none) ∙ none
+
+pub open_larger : (f g : CForm) (limit : ℕ) → truth_of f ≡ None → limit < form_nodes f →
+    limit < form_nodes (and_form f g)
+open_larger f g limit e h = omega (arith, (first_opens f g e).1, h)
+
+-- what a test of a formula's size tells
+
+pub capped_larger : (limit size n : ℕ) → size ≡ min n (2 ^ 63) → limit < 2 ^ 63 → nat_lt limit size ≡ nat_lt limit n
+capped_larger limit size n e h =
+    ltb_from_iff (
+      (λ k. omega (arith, ltb-true limit size k, e)),
+      λ k. lt-ltb limit size (omega (arith, k, e, h)),
+    )
+
+pub looked_larger : (r : Option ℕ) (none : Bool) (limit n : ℕ) → is_some r ≡ not none →
+    MatchOption r (limit < n) (λ m. (m ≡ n) × (m ≤ limit)) → none ≡ nat_lt limit n
+looked_larger None true limit n e h = sym (lt-ltb limit n h)
+looked_larger None false limit n e h = cc
+looked_larger (Some m) true limit n e h = cc
+looked_larger (Some m) false limit n e h = sym (le-ltb limit n (omega (arith, h.0, h.1)))
 
 -- each further formula makes an open one larger
 open_grows : (f : CForm) (gs : List CForm) → truth_of f ≡ None →

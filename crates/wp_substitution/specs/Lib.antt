@@ -4,3 +4,5 @@ pub mod Oversized
 pub mod Joined
 pub mod Chains
 pub mod Agreeing
+pub mod Memos
+pub mod Numbers

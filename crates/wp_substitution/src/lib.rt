@@ -8,9 +8,14 @@ mod counting;
 mod definedness;
 mod known;
 mod laws;
+mod memos;
+mod nodes;
+mod numbers;
 mod pooled;
 mod preconditions;
+mod settling;
 mod substitution;
+mod turning;
 
 pub use conjunction::Conjunction;
 pub use counting::is_oversized;

@@ -8,7 +8,7 @@ ghost use Rattle.examples_limits.specs.Swap.{two_slots};
 
 use super::*;
 use crate::deep_trees::{Around, TermAround, deep_form, deep_term};
-use core_terms::{Pool, same, size_of};
+use core_terms::{FormNode, Pool, same, size_of};
 use std::test::Fail;
 use unity_base::Shared;
 use wp_substitution::{WpError, defined, wp, wp_in};
@@ -81,6 +81,31 @@ fn swaps_in_a_pool(rt: HostRuntime) -> Result<(), Fail> {
     assert!(rt; within == Some(size));
     let without = size_in_pool(rt.alloc(), &s, &q, slots.as_slice(), size - 1)?;
     assert!(rt; without.is_none());
+    Ok(())
+}
+
+// Whether the precondition of the formula that the second slot is 0 ends with the number of that formula.
+fn keeps_number(alloc: Global, s: &CStmt, slots: &[CSlot]) -> Result<bool, AllocError>
+    requires slots { slots.now ≡ two_slots }
+    requires statement { StatementFits two_slots s.now }
+{
+    let q = CForm::Zero(CTerm::Slot(1));
+    let mut pool = Pool::new(alloc);
+    let id = pool.put_form(&q)?;
+    match wp_in(alloc, &mut pool, s, id, slots, 65_536) {
+        Ok(before) => match pool.form_node(before) {
+            FormNode::And(_, after) => Ok(after == id),
+            _ => Ok(false),
+        },
+        Err(_) => Err(AllocError),
+    }
+}
+
+#[test]
+fn keeps_what_is_not_written(rt: HostRuntime) -> Result<(), Fail> {
+    let s = fives(rt.alloc(), 1)?;
+    let slots = two_slots(rt.alloc())?;
+    assert!(rt; keeps_number(rt.alloc(), &s, slots.as_slice())?);
     Ok(())
 }
 

@@ -1,0 +1,8 @@
+use Rattle.std.proofs.Common.{◌≡◌, ◌+◌, length, All, None}
+use Rattle.wp_substitution.proofs.memos.unknown_terms.Given as goal
+
+abbrev pub invariant-loop-left : goal.invariant-loop-left
+invariant-loop-left l = (length l.terms + l.left ≡ l.fn.count) × All (λ k. k ≡ None) l.terms
+
+abbrev pub decreases-loop-left : goal.decreases-loop-left
+decreases-loop-left l = l.left

@@ -1,0 +1,19 @@
+use Rattle.std.proofs.Common.{◌≡◌, Bool, true, false, Some, refl, sym, ap, ◌∙◌, rules}
+use Rattle.std.specs.Bool.{OnTrue}
+use Rattle.core_terms.specs.contracts.nodes.TermNodePartialEq.TheImpl.{eq-value}
+use Rattle.core_terms.specs.declared.nodes.TermNode.{TermNode}
+use Rattle.core_terms.specs.Pools.{term_of_node}
+use Rattle.wp_substitution.proofs.nodes.is_term_node.Goals as goal
+
+exact : (j k : TermNode) → eq-value.it j k ≡ true → j ≡ k
+exact j k e = search rules
+
+told : (b : Bool) (P : Type 0) → (b ≡ true → P) → OnTrue b P
+told true P h = h refl
+told false P h = tt
+
+pub returns : goal.returns
+returns c =
+    let p = c.args.pool.now in
+    told _ _ (λ e. c.term_node.ensures.tree ∙ ap (λ k. Some (term_of_node p.forms p.terms k))
+    (exact c.term_node.result c.args.node (sym c.eq.ensures ∙ e)))
