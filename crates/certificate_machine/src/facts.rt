@@ -1,6 +1,6 @@
 //! What is added to a branch: a fact, or what a side of a formula settles to.
 ghost use Rattle.std.specs.Prelude.{◌≡◌, ◌≤◌, ◌<◌, ◌^◌, IfOk, OnOk};
-ghost use Rattle.std.specs.Prelude.{true, Ok};
+ghost use Rattle.std.specs.Prelude.{true, Ok, [], ◌∷◌};
 ghost use Rattle.std.specs.Int.RustNames.{unsigned_abs};
 ghost use Rattle.obligations.specs.Settling.{settled, sides, added};
 ghost use Rattle.obligations.specs.Load.{need, is_light_branch};
@@ -19,14 +19,21 @@ pub fn add(branch: &mut Branch, fact: Fact) -> Result<(), AllocError>
     branch.facts.push(fact)
 }
 
+/// A list of one factor, with room for no other.
+fn one_factor(alloc: Global, variable: u32, by: i128) -> Result<Seq<(u32, i128)>, AllocError>
+    ensures { IfOk result (λ f. f ≡ (variable, by) ∷ []) }
+{
+    let mut factors = Seq::with_capacity(alloc, 1)?;
+    factors.push((variable, by))?;
+    Ok(factors)
+}
+
 /// That a variable is at most a number.
 pub fn bound_above(alloc: Global, variable: u32, at: i128) -> Result<Fact, AllocError>
     ensures { IfOk result (λ f. f ≡ at_most variable at) }
 {
-    let mut factors = Seq::new(alloc);
-    factors.push((variable, -1))?;
     Ok(Fact {
-        factors,
+        factors: one_factor(alloc, variable, -1)?,
         constant: at,
     })
 }
@@ -36,10 +43,8 @@ pub fn bound_below(alloc: Global, variable: u32, at: i128) -> Result<Fact, Alloc
     requires { unsigned_abs at < 2 ^ 100 }
     ensures { IfOk result (λ f. f ≡ at_least variable at) }
 {
-    let mut factors = Seq::new(alloc);
-    factors.push((variable, 1))?;
     Ok(Fact {
-        factors,
+        factors: one_factor(alloc, variable, 1)?,
         constant: -at,
     })
 }

@@ -281,7 +281,7 @@ pub fn parts(
     requires count { first + length zs.now < 2 ^ 32 }
     ensures { IfOk result (λ f. f ≡ sparse first (map (λ z. int_div_euclid z d) zs.now)) }
 {
-    let mut factors = Seq::new(alloc);
+    let mut factors = Seq::with_capacity(alloc, zs.len().min(4))?;
     for (place, z) in zs.iter().enumerate() {
         put_part(d, (first + place) as u32, *z, &mut factors)?;
     }
