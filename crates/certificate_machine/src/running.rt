@@ -12,8 +12,8 @@ ghost use Rattle.certificate_rules.specs.Sums.{is_divisible, divided};
 ghost use Rattle.certificate_machine.specs.Spans.{are_zero};
 
 use case_tables::Code;
-use certificate_rules::{add_multiple, all_divided, all_zero, parts, product, quotient};
-use obligations::{Fact, Line, Variable, small_sum, zero_line};
+use certificate_rules::{add_multiple, added, all_divided, all_zero, parts, quotient};
+use obligations::{Fact, Line, Variable, zero_line};
 use std::alloc::{AllocError, Global};
 use unity_base::Seq;
 
@@ -56,6 +56,7 @@ fn resize(places: usize, factors: &mut Seq<i128>) -> Result<(), AllocError>
 }
 
 /// The fact of this number, counted from 1.
+#[inline(always)]
 fn fact_at(facts: &[Fact], number: u64) -> Option<&Fact>
     ensures { option_copied result ≡ numbered facts.now number }
 {
@@ -93,6 +94,7 @@ impl Running {
     }
 
     /// Takes a place into the span, where there is one.
+    #[inline(always)]
     fn widen(&mut self, place: usize)
         ensures line { sum_line self.new ≡ sum_line self.old }
         ensures inside { place < length (sum_line self.new).factors →
@@ -105,6 +107,7 @@ impl Running {
     }
 
     /// Adds m times a factor at a place, unless the product or the sum is too big.
+    #[inline(always)]
     fn add_at(&mut self, m: i64, place: usize, factor: i128) -> bool
         ensures added { MatchBool result
             (add_factors m ((place, factor) ∷ []) (sum_line self.old).factors ≡ Some (sum_line self.new).factors)
@@ -116,6 +119,7 @@ impl Running {
     }
 
     /// Adds m times one factor, unless the product or the sum is too big.
+    #[inline(always)]
     fn add_one(&mut self, m: i64, f: &(u32, i128)) -> bool
         ensures added { MatchBool result
             (add_factors m (f.now ∷ []) (sum_line self.old).factors ≡ Some (sum_line self.new).factors)
@@ -126,6 +130,7 @@ impl Running {
     }
 
     /// Adds m times each factor, unless a product or a sum is too big.
+    #[inline(always)]
     fn add_all(&mut self, m: i64, factors: &[(u32, i128)]) -> bool
         ensures added { MatchBool result
             (add_factors m factors.now (sum_line self.old).factors ≡ Some (sum_line self.new).factors)
@@ -141,18 +146,16 @@ impl Running {
     }
 
     /// Adds m times a fact, unless a number is too big.
+    #[inline(always)]
     fn add_fact(&mut self, m: i64, fact: &Fact) -> bool
         ensures { MatchBool result
             (add_times m fact.now (sum_line self.old) ≡ Some (sum_line self.new))
             (add_times m fact.now (sum_line self.old) ≡ None) }
     {
-        let Some(by) = product(m, fact.constant) else {
+        let Some(added) = added(m, fact.constant, self.line.constant) else {
             return false;
         };
-        let Some(total) = small_sum(self.line.constant, by) else {
-            return false;
-        };
-        self.line.constant = total;
+        self.line.constant = added.total;
         if self.add_all(m, fact.factors.as_slice()) {
             true
         } else {

@@ -2,7 +2,7 @@
 use Rattle.std.proofs.Common.{◌≡◌, ℕ, zero, suc, ◌+◌, ◌-◌, ◌<◌, ◌≤◌, ℤ, pos, ◌+ℤ◌, ◌*ℤ◌, map, ◌++◌, append_assoc}
 use Rattle.std.proofs.Common.{Bool, true, false, ◌&&◌, cond, Some, None, Result, Ok, Err, List, [], ◌∷◌, drop, length}
 use Rattle.std.proofs.Common.{slice_index_or, nat_lt, nat_le, FitsSigned, ◌^◌, arith, refl, sym, ap, subst, ◌∙◌}
-use mir.Syntax.{w64, w128}
+use mir.Syntax.{w32, w64, w128}
 use native.Mathlib.Nat.{mul-le-mul}
 use Rattle.std.specs.List.{list_all}
 use Rattle.std.specs.Int.RustNames.{unsigned_abs}
@@ -218,3 +218,19 @@ pub product-fits : (m z : ℤ) → FitsSigned w64 m → FitsSigned w64 z → Fit
 product-fits m z h k = fits_signed_mul w128 m z (2 ^ 63) (2 ^ 63) (narrow m h) (narrow z k) (omega arith)
 
 pub ruleset product_laws = (product-small, product-fits)
+
+-- The product of two numbers of 32 bits, and its sum with one of 64.
+
+narrower : (z : ℤ) → FitsSigned w32 z → unsigned_abs z ≤ 2 ^ 31
+narrower z h = grind arith
+
+pub narrow-fits : (m z : ℤ) → FitsSigned w32 m → FitsSigned w32 z → FitsSigned w64 (m *ℤ z)
+narrow-fits m z h k = fits_signed_mul w64 m z (2 ^ 31) (2 ^ 31) (narrower m h) (narrower z k) (omega arith)
+
+pub narrow-added : (p s : ℤ) → FitsSigned w64 p → FitsSigned w64 s → (is_small p && is_small (s +ℤ p)) ≡ true
+narrow-added p s h k = both (unsigned_abs p) (unsigned_abs (s +ℤ p)) (grind arith) (grind arith)
+  where
+    both : (m n : ℕ) → m ≤ 2 ^ 126 → n ≤ 2 ^ 126 → (nat_le m (2 ^ 126) && nat_le n (2 ^ 126)) ≡ true
+    both m n h k = grind arith
+
+pub ruleset narrow_laws = (narrow-fits, narrow-added)

@@ -2,3 +2,4 @@ pub mod Sums
 pub mod Refutation
 pub mod Trees
 pub mod Indexes
+pub mod Additions

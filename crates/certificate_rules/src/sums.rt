@@ -1,6 +1,6 @@
 //! Sums of multiples of facts.
 ghost use Rattle.std.specs.Prelude.{◌≡◌, ℤ, pos, ◌+ℤ◌, ◌*ℤ◌, ◌≤ℤ◌, ◌<◌, ◌+◌, ◌^◌};
-ghost use Rattle.std.specs.Prelude.{MatchOption, MatchResult, MatchBool, OnOk};
+ghost use Rattle.std.specs.Prelude.{MatchOption, MatchResult, MatchBool, OnOk, IfSome};
 ghost use Rattle.std.specs.Prelude.{IfOk, neg_ℤ, Some, None, Ok, Err, true, false, map};
 ghost use Rattle.std.specs.Prelude.{length};
 ghost use Rattle.std.specs.Prelude.{[], ◌∷◌, ◌++◌};
@@ -11,6 +11,7 @@ ghost use Rattle.core_terms.specs.Values.{number_at};
 ghost use Rattle.std.specs.Int.{int_rem_euclid, int_div_euclid};
 ghost use Rattle.certificate_rules.specs.Sums.{add_factors, add_times, numbered, add_pair, sum_pairs, is_false};
 ghost use Rattle.certificate_rules.specs.Sums.{is_divisible, divided, below_0};
+ghost use Rattle.certificate_rules.specs.Additions.{fits_added, IsAdded};
 ghost use Rattle.obligations.specs.Load.{is_small};
 ghost use Rattle.obligations.specs.LinearForms.{add_at, fact_of, sparse};
 
@@ -20,6 +21,7 @@ use std::alloc::{AllocError, Global};
 use unity_base::Seq;
 
 /// Adds a number at a place, where there is one.
+#[inline(always)]
 fn add_factor(sum: &mut Seq<i128>, place: usize, by: i128, total: i128)
     requires { total ≡ number_at sum.old place +ℤ by }
     ensures { sum.new ≡ add_at sum.old place by }
@@ -48,20 +50,75 @@ pub fn product(m: i64, z: i128) -> Option<i128>
     }
 }
 
+/// A product, and its sum with a number.
+#[derive(Clone, Copy)]
+pub struct Added {
+    /// The product.
+    pub by: i128,
+    /// The sum.
+    pub total: i128,
+}
+
+/// m times a number, added to another, where the first two have 32 bits and the other 64. `None` says nothing.
+#[inline(always)]
+#[tactic(auto, using(crate::proofs::SumLaws::narrow_laws))]
+fn narrow_added(m: i64, z: i128, sum: i128) -> Option<Added>
+    ensures { IfSome result (IsAdded m z sum) }
+{
+    let Ok(m) = i32::try_from(m) else {
+        return None;
+    };
+    let Ok(z) = i32::try_from(z) else {
+        return None;
+    };
+    let Ok(sum) = i64::try_from(sum) else {
+        return None;
+    };
+    let by = (m as i64 * z as i64) as i128;
+    Some(Added {
+        by,
+        total: sum as i128 + by,
+    })
+}
+
+/// m times a number, added to another. `None` exactly where the product or the sum is past 2^126.
+#[cold]
+#[inline(never)]
+fn wide_added(m: i64, z: i128, sum: i128) -> Option<Added>
+    ensures { MatchOption result (fits_added m z sum ≡ false) (IsAdded m z sum) }
+{
+    let Some(by) = product(m, z) else {
+        return None;
+    };
+    let Some(total) = small_sum(sum, by) else {
+        return None;
+    };
+    Some(Added { by, total })
+}
+
+/// m times a number, added to another. `None` exactly where the product or the sum is past 2^126.
+#[inline(always)]
+pub fn added(m: i64, z: i128, sum: i128) -> Option<Added>
+    ensures { MatchOption result (fits_added m z sum ≡ false) (IsAdded m z sum) }
+{
+    match narrow_added(m, z, sum) {
+        Some(added) => Some(added),
+        None => wide_added(m, z, sum),
+    }
+}
+
 /// Adds m times a factor at a place, unless the product or the sum is too big; then nothing is added.
+#[inline(always)]
 pub fn add_multiple(m: i64, place: usize, factor: i128, sum: &mut Seq<i128>) -> bool
     ensures added { MatchBool result
         (add_factors m ((place, factor) ∷ []) sum.old ≡ Some sum.new)
         (add_factors m ((place, factor) ∷ []) sum.old ≡ None) }
     ensures kept { result ≡ false → sum.new ≡ sum.old }
 {
-    let Some(by) = product(m, factor) else {
+    let Some(added) = added(m, factor, factor_at(sum, place)) else {
         return false;
     };
-    let Some(total) = small_sum(factor_at(sum, place), by) else {
-        return false;
-    };
-    add_factor(sum, place, by, total);
+    add_factor(sum, place, added.by, added.total);
     true
 }
 

@@ -120,6 +120,7 @@ fn scaled(k: &i64, factor: &i128) -> Option<i128>
 }
 
 /// The number at a place, and 0 where there is none.
+#[inline(always)]
 pub fn factor_at(factors: &Seq<i128>, place: usize) -> i128
     ensures { result ≡ number_at factors.now place }
 {
