@@ -1,6 +1,6 @@
 //! How far the runs of a text go.
 
-ghost use Rattle.std.specs.Prelude.{◌≡◌, ◌==◌, not, min, take};
+ghost use Rattle.std.specs.Prelude.{◌≡◌, ◌≤◌, ◌+◌, ◌==◌, not, min, take, drop, length};
 ghost use Rattle.std.specs.Char.{is_ascii_digit};
 ghost use Rattle.std.specs.List.{prefix_len};
 ghost use Rattle.std.specs.Str.Parse.{digits_value};
@@ -52,14 +52,21 @@ pub(crate) fn line_len(text: &[u8]) -> usize
     len
 }
 
-/// How many digits there are at the front, and the number that they write, or the greatest `u64`
-/// where it is greater.
-pub(crate) fn digits(text: &[u8]) -> (usize, u64)
+/// From this value on, a number with one digit more may not fit.
+const MANY: u64 = 1 << 59;
+
+/// The number and the count of digits, where so many digits at the front were read, with this value.
+#[cold]
+#[inline(never)]
+fn more_digits(text: &[u8], read: usize, value: u64) -> (usize, u64)
+    requires read { read ≤ length text.now }
+    requires passed { read + prefix_len is_ascii_digit (drop read text.now) ≡ prefix_len is_ascii_digit text.now }
+    requires value { value ≡ min (digits_value 10 (take read text.now)) u64.MAX }
     ensures len { result.0 ≡ prefix_len is_ascii_digit text.now }
     ensures value { result.1 ≡ min (digits_value 10 (take result.0 text.now)) u64.MAX }
 {
-    let mut len = 0;
-    let mut value: u64 = 0;
+    let mut len = read;
+    let mut value = value;
     while len < text.len() && text[len].is_ascii_digit() {
         value = value
             .saturating_mul(10)
@@ -67,4 +74,23 @@ pub(crate) fn digits(text: &[u8]) -> (usize, u64)
         len += 1;
     }
     (len, value)
+}
+
+/// How many digits there are at the front, and the number that they write, or the greatest `u64`
+/// where it is greater.
+#[inline(always)]
+pub(crate) fn digits(text: &[u8]) -> (usize, u64)
+    ensures len { result.0 ≡ prefix_len is_ascii_digit text.now }
+    ensures value { result.1 ≡ min (digits_value 10 (take result.0 text.now)) u64.MAX }
+{
+    let mut len = 0;
+    let mut value: u64 = 0;
+    while len < text.len() && value < MANY && text[len].is_ascii_digit() {
+        value = value * 10 + u64::from(text[len] - b'0');
+        len += 1;
+    }
+    if value < MANY {
+        return (len, value);
+    }
+    more_digits(text, len, value)
 }

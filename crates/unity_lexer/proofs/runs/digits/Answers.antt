@@ -1,4 +1,4 @@
-use Rattle.std.proofs.Common.{◌≡◌, ◌+◌, ◌-◌, ◌*◌, ◌<◌, ◌^◌, ℕ, min, true, length, get_or, arith, rules}
+use Rattle.std.proofs.Common.{◌≡◌, ◌+◌, ◌-◌, ◌*◌, ◌<◌, ◌^◌, ℕ, true, length, get_or, arith, rules}
 use Rattle.std.specs.Char.{is_ascii_digit, digit_value}
 use Rattle.std.proofs.lemmas.Grind.{common_steps}
 use Rattle.std.proofs.lemmas.Int.Digits.{digits_value_more}
@@ -6,10 +6,6 @@ use Rattle.unity_lexer.proofs.runs.digits.Goals as goal
 
 digit-value : (b : ℕ) → is_ascii_digit b ≡ true → digit_value b ≡ b - 48
 digit-value b h = grind (arith, common_steps)
-
--- a value kept below 2^64, times ten and with a digit
-kept : (v d : ℕ) → min (min (min v (2 ^ 64 - 1) * 10) (2 ^ 64 - 1) + d) (2 ^ 64 - 1) ≡ min (v * 10 + d) (2 ^ 64 - 1)
-kept v d = omega arith
 
 pub loop-len-preserved : goal.loop-len-preserved
 loop-len-preserved c = record {
@@ -22,8 +18,6 @@ loop-len-preserved c = record {
       let is_digit : is_ascii_digit b ≡ true = search (rules, c.if-is_ascii_digit.ensures) in
       omega (
         arith,
-        c.saturating_add-value.ensures,
-        c.saturating_mul.ensures,
         c.from.ensures,
         digits_value_more 10
             c.args.text.now i within,

@@ -1,4 +1,4 @@
-use Rattle.std.proofs.Common.{◌≡◌, ◌+◌, ◌-◌, ◌≤◌, ◌^◌, min, length, drop, take}
+use Rattle.std.proofs.Common.{◌≡◌, ◌+◌, ◌-◌, ◌≤◌, length, drop, take}
 use Rattle.std.specs.Char.{is_ascii_digit}
 use Rattle.std.specs.List.{prefix_len}
 use Rattle.std.specs.Str.Parse.{digits_value}
@@ -8,7 +8,7 @@ abbrev pub invariant-loop-len : goal.invariant-loop-len
 invariant-loop-len l = record {
   within : l.len ≤ length l.text;
   passed : l.len + prefix_len is_ascii_digit (drop l.len l.text) ≡ prefix_len is_ascii_digit l.text;
-  value : l.value ≡ min (digits_value 10 (take l.len l.text)) (2 ^ 64 - 1);
+  value : l.value ≡ digits_value 10 (take l.len l.text);
 }
 
 abbrev pub decreases-loop-len : goal.decreases-loop-len
