@@ -4,3 +4,4 @@ pub mod Back
 pub mod Along
 pub mod Finish
 pub mod SectionLaws
+pub mod PairLaws

@@ -29,7 +29,7 @@ pub record Stands (later : Bool) (r : CertReader) (ts : List Token) : Type 0 whe
   pub version : r.later ≡ later
   pub place : r.place ≡ reach start (signs later ts)
 
--- how many there were
+-- how many were taken one by one
 abbrev pub reader_count : CertReader → ℕ
 reader_count r = r.taken
 

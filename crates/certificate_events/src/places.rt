@@ -71,99 +71,102 @@ pub struct Place {
 }
 
 /// A number with its sign.
-fn integer_of(minus: bool, number: u64) -> i64
+#[inline(always)]
+pub(crate) fn integer_of(minus: bool, number: u64) -> i64
     ensures { result ≡ number_of minus number }
 {
     let number = number.min(GREATEST_LITERAL) as i64;
     if minus { -number } else { number }
 }
 
-fn silent(place: Place, stage: Stage) -> (Place, Taken)
-    ensures { result ≡ steps.silent place stage }
+#[inline(always)]
+fn silent(place: &mut Place, stage: Stage) -> Taken
+    ensures { (place.new, result) ≡ steps.silent place.old stage }
 {
-    (Place { stage, ..place }, Taken::Nothing)
+    place.stage = stage;
+    Taken::Nothing
 }
 
-fn telling(place: Place, stage: Stage, event: CertEvent) -> (Place, Taken)
-    ensures { result ≡ steps.telling place stage event }
+#[inline(always)]
+fn telling(place: &mut Place, stage: Stage, event: CertEvent) -> Taken
+    ensures { (place.new, result) ≡ steps.telling place.old stage event }
 {
-    (Place { stage, ..place }, Taken::Event(event))
+    place.stage = stage;
+    Taken::Event(event)
 }
 
-fn refused(place: Place) -> (Place, Taken)
-    ensures { result ≡ steps.refused place }
+#[inline(always)]
+fn refused(place: &mut Place) -> Taken
+    ensures { (place.new, result) ≡ steps.refused place.old }
 {
-    let stage = Stage::Bad;
-    (Place { stage, ..place }, Taken::Unexpected)
+    place.stage = Stage::Bad;
+    Taken::Unexpected
 }
 
 /// Behind a certificate, or before the first.
-fn between(place: Place, sign: Sign) -> (Place, Taken)
-    requires { place.number < 2 ^ 64 - 1 }
-    ensures { result ≡ steps.between place sign }
+#[inline(always)]
+fn between(place: &mut Place, sign: Sign) -> Taken
+    requires { place.old.number < 2 ^ 64 - 1 }
+    ensures { (place.new, result) ≡ steps.between place.old sign }
 {
     let next = place.number + 1;
     match sign {
-        Sign::Number(number) if number == next => silent(
-            Place {
-                number: next,
-                ..place
-            },
-            Stage::Numbered,
-        ),
+        Sign::Number(number) if number == next => {
+            place.number = next;
+            silent(place, Stage::Numbered)
+        }
         Sign::End => telling(place, Stage::Done, CertEvent::Last),
         _ => refused(place),
     }
 }
 
 /// Behind a certificate's number.
-fn numbered(place: Place, sign: Sign) -> (Place, Taken)
-    ensures { result ≡ steps.numbered place sign }
+#[inline(always)]
+fn numbered(place: &mut Place, sign: Sign) -> Taken
+    ensures { (place.new, result) ≡ steps.numbered place.old sign }
 {
     match sign {
-        Sign::Colon => telling(
-            Place {
-                missing: 1,
-                ..place
-            },
-            Stage::Nodes,
-            CertEvent::Begin,
-        ),
+        Sign::Colon => {
+            place.missing = 1;
+            telling(place, Stage::Nodes, CertEvent::Begin)
+        }
         _ => refused(place),
     }
 }
 
-/// At a node, beside which so many trees are missing.
-fn node(place: Place, others: u64, sign: Sign) -> (Place, Taken)
-    requires { others < 2 ^ 64 - 2 }
-    ensures { result ≡ steps.node place others sign }
+/// At the word of a node, beside which and below which so many trees are missing.
+#[inline(always)]
+fn word(place: &mut Place, missing: u64, stage: Stage) -> Taken
+    ensures { (place.new, result) ≡ steps.silent (record place.old { missing = missing }) stage }
 {
-    let none_below = Place {
-        missing: others,
-        ..place
-    };
-    let one_below = Place {
-        missing: others + 1,
-        ..place
-    };
-    let two_below = Place {
-        missing: others + 2,
-        ..place
-    };
+    place.missing = missing;
+    silent(place, stage)
+}
+
+/// At a node, beside which so many trees are missing.
+#[inline(always)]
+fn node(place: &mut Place, others: u64, sign: Sign) -> Taken
+    requires { others < 2 ^ 64 - 2 }
+    ensures { (place.new, result) ≡ steps.node place.old others sign }
+{
     match sign {
-        Sign::Case => silent(two_below, Stage::Plain(Plain::Case)),
-        Sign::Split => silent(two_below, Stage::Plain(Plain::Variable)),
-        Sign::Sum => telling(none_below, Stage::Pairs, CertEvent::Sum),
-        Sign::Round => silent(one_below, Stage::Signed(Signed::Divisor)),
-        Sign::Quot => silent(one_below, Stage::Plain(Plain::Quot)),
-        Sign::Share => silent(two_below, Stage::Signed(Signed::Constant)),
+        Sign::Case => word(place, others + 2, Stage::Plain(Plain::Case)),
+        Sign::Split => word(place, others + 2, Stage::Plain(Plain::Variable)),
+        Sign::Sum => {
+            place.missing = others;
+            telling(place, Stage::Pairs, CertEvent::Sum)
+        }
+        Sign::Round => word(place, others + 1, Stage::Signed(Signed::Divisor)),
+        Sign::Quot => word(place, others + 1, Stage::Plain(Plain::Quot)),
+        Sign::Share => word(place, others + 2, Stage::Signed(Signed::Constant)),
         _ => refused(place),
     }
 }
 
 /// Where no tree is missing.
-fn closing(place: Place, sign: Sign) -> (Place, Taken)
-    ensures { result ≡ steps.closing place sign }
+#[inline(always)]
+fn closing(place: &mut Place, sign: Sign) -> Taken
+    ensures { (place.new, result) ≡ steps.closing place.old sign }
 {
     match sign {
         Sign::Semicolon => telling(place, Stage::Between, CertEvent::End),
@@ -172,9 +175,10 @@ fn closing(place: Place, sign: Sign) -> (Place, Taken)
 }
 
 /// Where a node may stand.
-fn nodes(place: Place, sign: Sign) -> (Place, Taken)
-    requires { place.missing < 2 ^ 64 - 1 }
-    ensures { result ≡ steps.nodes place sign }
+#[inline(always)]
+fn nodes(place: &mut Place, sign: Sign) -> Taken
+    requires { place.old.missing < 2 ^ 64 - 1 }
+    ensures { (place.new, result) ≡ steps.nodes place.old sign }
 {
     if place.missing == 0 {
         closing(place, sign)
@@ -184,9 +188,10 @@ fn nodes(place: Place, sign: Sign) -> (Place, Taken)
 }
 
 /// Where a pair may stand.
-fn pairs(place: Place, sign: Sign) -> (Place, Taken)
-    requires { place.missing < 2 ^ 64 - 1 }
-    ensures { result ≡ steps.pairs place sign }
+#[inline(always)]
+fn pairs(place: &mut Place, sign: Sign) -> Taken
+    requires { place.old.missing < 2 ^ 64 - 1 }
+    ensures { (place.new, result) ≡ steps.pairs place.old sign }
 {
     match sign {
         Sign::Minus => silent(place, Stage::Negative(Signed::Multiplier)),
@@ -196,8 +201,9 @@ fn pairs(place: Place, sign: Sign) -> (Place, Taken)
 }
 
 /// With the number that was awaited.
-fn plain_read(place: Place, awaited: Plain, number: u64) -> (Place, Taken)
-    ensures { result ≡ steps.plain_read place awaited number }
+#[inline(always)]
+fn plain_read(place: &mut Place, awaited: Plain, number: u64) -> Taken
+    ensures { (place.new, result) ≡ steps.plain_read place.old awaited number }
 {
     match awaited {
         Plain::Case => telling(place, Stage::Nodes, CertEvent::Case(number)),
@@ -208,8 +214,9 @@ fn plain_read(place: Place, awaited: Plain, number: u64) -> (Place, Taken)
 }
 
 /// Where a number is awaited.
-fn with_number(place: Place, awaited: Plain, sign: Sign) -> (Place, Taken)
-    ensures { result ≡ steps.with_number place awaited sign }
+#[inline(always)]
+fn with_number(place: &mut Place, awaited: Plain, sign: Sign) -> Taken
+    ensures { (place.new, result) ≡ steps.with_number place.old awaited sign }
 {
     match sign {
         Sign::Number(number) => plain_read(place, awaited, number),
@@ -218,8 +225,9 @@ fn with_number(place: Place, awaited: Plain, sign: Sign) -> (Place, Taken)
 }
 
 /// With the number with a sign that was awaited.
-fn signed_read(place: Place, awaited: Signed, number: i64) -> (Place, Taken)
-    ensures { result ≡ steps.signed_read place awaited number }
+#[inline(always)]
+fn signed_read(place: &mut Place, awaited: Signed, number: i64) -> Taken
+    ensures { (place.new, result) ≡ steps.signed_read place.old awaited number }
 {
     match awaited {
         Signed::Bound(variable) => {
@@ -232,8 +240,9 @@ fn signed_read(place: Place, awaited: Signed, number: i64) -> (Place, Taken)
 }
 
 /// Where a number or a minus is awaited.
-fn with_sign(place: Place, awaited: Signed, sign: Sign) -> (Place, Taken)
-    ensures { result ≡ steps.with_sign place awaited sign }
+#[inline(always)]
+fn with_sign(place: &mut Place, awaited: Signed, sign: Sign) -> Taken
+    ensures { (place.new, result) ≡ steps.with_sign place.old awaited sign }
 {
     match sign {
         Sign::Minus => silent(place, Stage::Negative(awaited)),
@@ -243,8 +252,9 @@ fn with_sign(place: Place, awaited: Signed, sign: Sign) -> (Place, Taken)
 }
 
 /// Behind a minus.
-fn negative(place: Place, awaited: Signed, sign: Sign) -> (Place, Taken)
-    ensures { result ≡ steps.negative place awaited sign }
+#[inline(always)]
+fn negative(place: &mut Place, awaited: Signed, sign: Sign) -> Taken
+    ensures { (place.new, result) ≡ steps.negative place.old awaited sign }
 {
     match sign {
         Sign::Number(number) => signed_read(place, awaited, integer_of(true, number)),
@@ -253,8 +263,9 @@ fn negative(place: Place, awaited: Signed, sign: Sign) -> (Place, Taken)
 }
 
 /// Behind the first number of a pair.
-fn times(place: Place, by: i64, sign: Sign) -> (Place, Taken)
-    ensures { result ≡ steps.times place by sign }
+#[inline(always)]
+fn times(place: &mut Place, by: i64, sign: Sign) -> Taken
+    ensures { (place.new, result) ≡ steps.times place.old by sign }
 {
     match sign {
         Sign::Times => silent(place, Stage::Plain(Plain::Fact(by))),
@@ -263,10 +274,11 @@ fn times(place: Place, by: i64, sign: Sign) -> (Place, Taken)
 }
 
 /// Where a token leads, and what it tells.
-pub fn step(place: Place, sign: Sign) -> (Place, Taken)
-    requires missing { place.missing < 2 ^ 64 - 1 }
-    requires number { place.number < 2 ^ 64 - 1 }
-    ensures { result ≡ steps.step place sign }
+#[inline(always)]
+pub fn step(place: &mut Place, sign: Sign) -> Taken
+    requires missing { place.old.missing < 2 ^ 64 - 1 }
+    requires number { place.old.number < 2 ^ 64 - 1 }
+    ensures { (place.new, result) ≡ steps.step place.old sign }
 {
     match place.stage {
         Stage::Between => between(place, sign),

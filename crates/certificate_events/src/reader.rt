@@ -4,7 +4,7 @@ ghost use Rattle.std.specs.Prelude.{length, IsTrue};
 ghost use Rattle.unity_syntax.specs.declared.token.Token.{Token};
 ghost use Rattle.certificate_events.specs.Steps.{is_done};
 
-use crate::places::{Place, Stage, step};
+use crate::places::{Place, Stage, integer_of, step};
 use crate::signs::sign_of;
 use unity_base::CertEvent;
 use unity_syntax::Token;
@@ -30,6 +30,7 @@ pub struct CertReader {
     ghost few_begun: { place.number ≤ taken },
 }
 
+#[inline(always)]
 fn is_done(stage: Stage) -> bool
     ensures { result ≡ is_done stage }
 {
@@ -38,6 +39,7 @@ fn is_done(stage: Stage) -> bool
 
 impl CertReader {
     ghost use Rattle.certificate_events.specs.Sections.{Stands, Takes, IsSections, reader_count, told};
+    ghost use Rattle.certificate_events.specs.Pairs.{awaits_pair, IsPairOf, TakesPair};
 
     /// A reader of a section of a text of this version.
     pub fn new(version: u64) -> CertReader
@@ -58,6 +60,7 @@ impl CertReader {
 
     /// What the next token tells. `Unexpected` comes exactly where no section goes on with it, and then always; `Event`
     /// and `Nothing` as every section that goes on with it has it.
+    #[inline(always)]
     pub fn take(&mut self, t: Token) -> Taken
         requires { reader_count self.old < 2 ^ 64 - 1 }
         ensures stands { (later : Bool) (ts : List Token) → Stands later self.old ts →
@@ -67,13 +70,32 @@ impl CertReader {
             told later (ts ++ t ∷ []) ≡ told later ts ++ result ∷ [] }
         ensures count { reader_count self.new ≡ reader_count self.old + 1 }
     {
-        let (place, answer) = step(self.place, sign_of(self.later, t.kind));
-        self.place = place;
         self.taken += 1;
-        answer
+        step(&mut self.place, sign_of(self.later, t.kind))
+    }
+
+    /// Whether a pair may stand next.
+    #[inline(always)]
+    pub fn awaits_pair(&self) -> bool
+        ensures { result ≡ awaits_pair self.now }
+    {
+        matches!(self.place.stage, Stage::Pairs)
+    }
+
+    /// Takes a number, `*` and a number, one after the other, where a pair may stand: the last of them tells this.
+    #[inline(always)]
+    pub fn take_pair(&mut self, by: u64, number: u64) -> CertEvent
+        requires { awaits_pair self.old ≡ true }
+        ensures takes { (later : Bool) (ts ps : List Token) → IsPairOf by number ps → Stands later self.old ts →
+            TakesPair later self.new ts ps result }
+        ensures pair { awaits_pair self.new ≡ true }
+        ensures count { reader_count self.new ≡ reader_count self.old }
+    {
+        CertEvent::Pair(integer_of(false, by), number)
     }
 
     /// Whether the tokens that were taken are a whole section.
+    #[inline(always)]
     pub fn finished(&self) -> bool
         ensures { (later : Bool) (ts : List Token) → Stands later self.now ts →
             IsTrue result ↔ IsSections later ts }

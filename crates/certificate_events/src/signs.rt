@@ -24,12 +24,14 @@ pub enum Sign {
 }
 
 /// What a word says that only version 2 has.
+#[inline(always)]
 fn later_sign(later: bool, sign: Sign) -> Sign
     ensures { result ≡ if later then sign else Sign.Other }
 {
     if later { sign } else { Sign::Other }
 }
 
+#[inline(always)]
 fn sign_of_word(later: bool, word: Word) -> Sign
     ensures { result ≡ sign_of_word later word }
 {
@@ -45,6 +47,7 @@ fn sign_of_word(later: bool, word: Word) -> Sign
     }
 }
 
+#[inline(always)]
 fn sign_of_symbol(symbol: Symbol) -> Sign
     ensures { result ≡ sign_of_symbol symbol }
 {
@@ -58,6 +61,7 @@ fn sign_of_symbol(symbol: Symbol) -> Sign
 }
 
 /// What a token of this kind says; `later` says whether the text is of version 2.
+#[inline(always)]
 pub fn sign_of(later: bool, kind: TokenKind) -> Sign
     ensures { result ≡ sign_of later kind }
 {

@@ -24,6 +24,7 @@ pub struct Checker {
 }
 
 /// Whether an event begins a node.
+#[inline(always)]
 fn begins_node(e: CertEvent) -> bool
     ensures { result ≡ is_node_event e }
 {
@@ -57,6 +58,7 @@ impl Checker {
     }
 
     /// Reads what is told next. A pair takes no memory. After want of memory the checker may only be dropped.
+    #[inline(always)]
     pub fn take(&mut self, e: CertEvent) -> Result<(), AllocError>
         requires ready { IsReady self.old }
         ensures stands { OnOk result ((levels : ℕ) (o : Obligation) (es : List CertEvent) →

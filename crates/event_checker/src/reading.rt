@@ -49,6 +49,7 @@ pub struct Reading {
 }
 
 /// Adds a pair to the sum of the node that is open.
+#[inline(always)]
 fn add_pair(state: Open, facts: &[Fact], pair: (i64, u64), sum: &mut Running) -> Result<(), Code>
     ensures { MatchResult result
         (λ _. pair_makes state facts.now pair (sum_line sum.old) ≡ Ok (sum_line sum.new))
@@ -71,6 +72,7 @@ fn fail(reading: &mut Reading, code: Code)
 }
 
 /// Reads a pair of the node that is open.
+#[inline(always)]
 pub fn take_pair(reading: &mut Reading, pair: (i64, u64))
     ensures { (vs : List Variable) (root : List OpenBranch) (ns : List Node) → Stands vs root reading.old ns →
         Stands vs root reading.new (paired ns pair) }

@@ -160,6 +160,7 @@ impl Judge {
     }
 
     /// Hands on what a certificate tells. Where none is open, this tells nothing.
+    #[inline(always)]
     fn hand_on(&mut self, e: CertEvent) -> Result<(), AllocError>
         requires ready { IsReady self.old }
         requires inner { is_inner e ≡ true }
@@ -175,6 +176,7 @@ impl Judge {
     }
 
     /// Reads what is told next. A pair takes no memory. After want of memory the judge may only be dropped.
+    #[inline(always)]
     pub fn take(&mut self, e: CertEvent) -> Result<(), AllocError>
         requires ready { IsReady self.old }
         ensures stands { OnOk result ((d : CDocument) (es : List CertEvent) →

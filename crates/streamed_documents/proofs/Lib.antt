@@ -7,3 +7,4 @@ pub mod SectionSteps
 pub mod Certificates
 pub mod Answers
 pub mod AtHand
+pub mod PairSteps

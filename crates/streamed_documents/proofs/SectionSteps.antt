@@ -76,7 +76,7 @@ open_then later ts t Taken.Unexpected good takes = absurd good
 
 -- ---- what they tell
 
-events_append : (xs ys : List Taken) → events (xs ++ ys) ≡ events xs ++ events ys
+pub events_append : (xs ys : List Taken) → events (xs ++ ys) ≡ events xs ++ events ys
 events_append [] ys = refl
 events_append (Taken.Nothing ∷ xs) ys = events_append xs ys
 events_append (Taken.Event e ∷ xs) ys = ap (λ es. e ∷ es) (events_append xs ys)

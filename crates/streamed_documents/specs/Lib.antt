@@ -1,6 +1,7 @@
-pub mod WellFormed
 pub mod Found
 pub mod Fronts
 pub mod Hearing
+pub mod Pairs
 pub mod Rests
 pub mod Slices
+pub mod WellFormed

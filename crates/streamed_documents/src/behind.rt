@@ -1,11 +1,13 @@
 //! The section of certificates behind a front, read token by token.
-ghost use Rattle.std.specs.Prelude.{◌≡◌, ◌⊎◌, ◌==◌, ℕ, Bool, List, [], ◌∷◌, Option, Some, None, IfOk, OnOk, IsErrOf};
+ghost use Rattle.std.specs.Prelude.{◌≡◌, ◌⊎◌, ◌==◌, ◌≤◌, ℕ, Bool, List, [], ◌∷◌, Option, Some, None};
+ghost use Rattle.std.specs.Prelude.{IfOk, OnOk, IsErrOf};
 ghost use Rattle.std.specs.Io.KnownBytes.{IsAtEnd};
 ghost use Rattle.unity_base.specs.Streams.{IsTold};
 ghost use Rattle.unity_syntax.specs.declared.token.Token.{Token};
-ghost use Rattle.certificate_events.specs.Sections.{Stands};
+ghost use Rattle.certificate_events.specs.Sections.{Stands, reader_count};
 ghost use Rattle.unity_base.specs.Window.{held, coming, window_at, window_limit, HasPassed};
 ghost use Rattle.streamed_documents.specs.Hearing.{Hears, MayHear, StaysReady};
+ghost use Rattle.streamed_documents.specs.Pairs.{HearsMore};
 ghost use Rattle.streamed_documents.specs.Rests.{IsBehind, IsAllRead, IsEnding};
 
 use crate::found::{Flaw, ReadDocument, SourceStop};
@@ -16,7 +18,7 @@ use core_terms::CDocument;
 use event_judge::Judge;
 use std::alloc::AllocError;
 use unity_base::{CertEvent, Held, Source, Window};
-use unity_lexer::{Scan, next_token};
+use unity_lexer::{Scan, next_pair, next_token};
 
 /// What is answered where nothing behind the front is at fault.
 #[derive(Drop)]
@@ -40,6 +42,7 @@ pub(crate) enum Pending {
 }
 
 /// Tells an event to a judge. Nothing else hears it.
+#[inline(always)]
 fn hear(pending: &mut Pending, e: CertEvent) -> Result<(), AllocError>
     requires { MayHear pending.old }
     ensures heard { OnOk result (Hears pending.old pending.new (e ∷ [])) }
@@ -52,6 +55,7 @@ fn hear(pending: &mut Pending, e: CertEvent) -> Result<(), AllocError>
 }
 
 /// What is found where the text ends behind these tokens.
+#[inline(always)]
 fn ended(reader: &CertReader, at: u64) -> Option<Flaw>
     ensures { (later : Bool) (ts : List Token) → Stands later reader.now ts → IsEnding later ts at result }
 {
@@ -62,6 +66,30 @@ fn ended(reader: &CertReader, at: u64) -> Option<Flaw>
         code: Code::Unexpected,
         at,
     })
+}
+
+/// Reads the pairs that are ready, where pairs may stand, and tells them.
+#[inline(always)]
+fn read_pairs(
+    w: &mut Window,
+    reader: &mut CertReader,
+    pending: &mut Pending,
+) -> Result<(), AllocError>
+    requires { MayHear pending.old }
+    ensures heard { OnOk result ((later : Bool) (left : Option (List ℕ)) →
+        HearsMore later w.old w.new left reader.old reader.new pending.old pending.new) }
+    ensures count { reader_count reader.new ≡ reader_count reader.old }
+    ensures ready { OnOk result (StaysReady pending.old pending.new) }
+    ensures rises { window_at w.old ≤ window_at w.new }
+    ensures passed { (left : Option (List ℕ)) → HasPassed w.old w.new left left }
+{
+    if !reader.awaits_pair() {
+        return Ok(());
+    }
+    'pairs: while let Some(pair) = next_pair(w) {
+        hear(pending, reader.take_pair(pair.by, pair.number))?;
+    }
+    Ok(())
 }
 
 /// Reads a section of a text of this version to its end, from behind the word `certificates`, and tells its events. The
@@ -88,7 +116,10 @@ fn read_section<S: Source>(
         match found {
             Scan::Token(t) => match reader.take(t) {
                 Taken::Nothing => {}
-                Taken::Event(e) => hear(pending, e)?,
+                Taken::Event(e) => {
+                    hear(pending, e)?;
+                    read_pairs(w, &mut reader, pending)?;
+                }
                 Taken::Unexpected => {
                     return Ok(Some(skimmed(w, src, Code::Unexpected, t.start)?));
                 }

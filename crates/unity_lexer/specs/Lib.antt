@@ -1,3 +1,4 @@
+pub mod Pairs
 pub mod Pieces
 pub mod ReservedShapes
 pub mod Scans

@@ -4,6 +4,7 @@
 mod ahead;
 mod front;
 mod laws;
+mod pairs;
 mod piece;
 mod ready;
 mod reserved;
@@ -17,5 +18,6 @@ mod tokens;
 
 pub use front::{Front, FrontError, read_front};
 pub use laws::{decided_pieces, one_reading, places_in_text, some_reading};
+pub use pairs::{PairTokens, next_pair};
 pub use scan::{Scan, next_token};
 pub use tokens::lex;
