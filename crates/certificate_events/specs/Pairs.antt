@@ -17,6 +17,15 @@ is_pairs st = false
 abbrev pub awaits_pair : CertReader → Bool
 awaits_pair r = is_pairs r.place.stage
 
+-- a number has to stand next, or a minus before one
+abbrev pub is_number_stage : Stage → Bool
+is_number_stage (Stage.Plain a) = true
+is_number_stage (Stage.Signed a) = true
+is_number_stage st = false
+
+abbrev pub awaits_number : CertReader → Bool
+awaits_number r = is_number_stage r.place.stage
+
 -- a number, `*` and a number
 pub record IsPairOf (by number : ℕ) (ps : List Token) : Type 0 where
   pub first : Token

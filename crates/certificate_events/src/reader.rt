@@ -39,7 +39,7 @@ fn is_done(stage: Stage) -> bool
 
 impl CertReader {
     ghost use Rattle.certificate_events.specs.Sections.{Stands, Takes, IsSections, reader_count, told};
-    ghost use Rattle.certificate_events.specs.Pairs.{awaits_pair, IsPairOf, TakesPair};
+    ghost use Rattle.certificate_events.specs.Pairs.{awaits_pair, awaits_number, IsPairOf, TakesPair};
 
     /// A reader of a section of a text of this version.
     pub fn new(version: u64) -> CertReader
@@ -72,6 +72,14 @@ impl CertReader {
     {
         self.taken += 1;
         step(&mut self.place, sign_of(self.later, t.kind))
+    }
+
+    /// Whether a number has to stand next, or a minus before one.
+    #[inline(always)]
+    pub fn awaits_number(&self) -> bool
+        ensures { result ≡ awaits_number self.now }
+    {
+        matches!(self.place.stage, Stage::Plain(_) | Stage::Signed(_))
     }
 
     /// Whether a pair may stand next.

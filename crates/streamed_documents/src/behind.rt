@@ -18,7 +18,7 @@ use core_terms::CDocument;
 use event_judge::Judge;
 use std::alloc::AllocError;
 use unity_base::{CertEvent, Held, Source, Window};
-use unity_lexer::{Scan, next_pair, next_token};
+use unity_lexer::{Likely, Scan, likely_token, next_pair};
 
 /// What is answered where nothing behind the front is at fault.
 #[derive(Drop)]
@@ -51,6 +51,16 @@ fn hear(pending: &mut Pending, e: CertEvent) -> Result<(), AllocError>
     match pending {
         Pending::Fault { .. } | Pending::Document(_) => Ok(()),
         Pending::Judge { judge, .. } => judge.take(e),
+    }
+}
+
+/// What is likely to stand next.
+#[inline(always)]
+fn likely(reader: &CertReader) -> Likely {
+    if reader.awaits_number() {
+        Likely::Number
+    } else {
+        Likely::Word
     }
 }
 
@@ -111,7 +121,7 @@ fn read_section<S: Source>(
 {
     let mut reader = CertReader::new(version);
     'tokens: loop {
-        let found = next_token(w, src)?;
+        let found = likely_token(w, src, likely(&reader))?;
         let place = w.at();
         match found {
             Scan::Token(t) => match reader.take(t) {

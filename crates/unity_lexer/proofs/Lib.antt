@@ -15,3 +15,4 @@ pub mod Scanning
 pub mod SomeAnswer
 pub mod SymbolTable
 pub mod Taking
+pub mod ReadyPairs

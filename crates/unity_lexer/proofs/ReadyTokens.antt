@@ -1,7 +1,7 @@
 -- A token that is ready behind blanks.
 use Rattle.std.proofs.Common.{◌≡◌, ℕ, ◌+◌, ◌-◌, ◌<◌, ◌≤◌, List, [], ◌∷◌, ◌++◌, length, take, drop, Option, Some, sym}
 use Rattle.std.proofs.Common.{true, ap, ◌∙◌, subst, arith, slice_index, take_all, refl, codes, eqb-true}
-use Rattle.std.proofs.Common.{◌&&◌, ◌==◌, Contains}
+use Rattle.std.proofs.Common.{◌&&◌, ◌==◌, Contains, false, cond, suc}
 use Rattle.std.specs.Char.{is_ascii_alphabetic}
 use Rattle.std.specs.List.{prefix_len}
 use Rattle.std.proofs.lemmas.List.{length-take-le, length-drop, drop-append-le, drop-drop}
@@ -126,21 +126,29 @@ rest_is bytes at = take_all (length bytes - at) (drop at bytes) (omega (arith, l
 pub blanks_within : (bytes : List ℕ) (n : ℕ) → n ≡ prefix_len is_blank bytes → n ≤ length bytes
 blanks_within bytes n e = omega (arith, e, prefix_len-le-length is_blank bytes)
 
--- so many blanks and then a token are held, and two more bytes
-module _ (w : Window) (bs : List ℕ) (n m : ℕ) (k : TokenKind) (held_is : bs ≡ window_bytes w)
-    (blanks : n ≡ prefix_len is_blank bs)
-    (sliced : BeginsWith (take (length bs - n) (drop n bs)) (pieces.Token k m))
-    (more : m + 2 ≤ length (take (length bs - n) (drop n bs))) where
-  begins : BeginsWith (drop n bs) (pieces.Token k m)
-  begins = subst (λ t. BeginsWith t (pieces.Token k m)) (rest_is bs n) sliced
+-- what a slice begins with
+pub slice_begins : (bs : List ℕ) (n m : ℕ) (k : TokenKind) (all : List ℕ) → bs ≡ all
+    → BeginsWith (take (length bs - n) (drop n bs)) (pieces.Token k m) → BeginsWith (drop n all) (pieces.Token k m)
+slice_begins bs n m k all e h =
+    subst (λ bs. BeginsWith (drop n bs) (pieces.Token k m)) e
+    (subst (λ t. BeginsWith t (pieces.Token k m)) (rest_is bs n) h)
 
-  room : m + 2 ≤ length (drop n bs)
-  room = subst (λ t. m + 2 ≤ length t) (rest_is bs n) more
+pub slice_room : (bs : List ℕ) (n m : ℕ) (all : List ℕ) → bs ≡ all
+    → m + 2 ≤ length (take (length bs - n) (drop n bs)) → m + 2 ≤ length (drop n all)
+slice_room bs n m all e h =
+    subst (λ bs. m + 2 ≤ length (drop n bs)) e (subst (λ t. m + 2 ≤ length t) (rest_is bs n) h)
+
+-- so many blanks and then a token are held, and two more bytes
+module _ (w : Window) (n m : ℕ) (k : TokenKind) (blanks : n ≡ prefix_len is_blank (window_bytes w))
+    (begins : BeginsWith (drop n (window_bytes w)) (pieces.Token k m))
+    (room : m + 2 ≤ length (drop n (window_bytes w))) where
+  bs : List ℕ
+  bs = window_bytes w
 
   pub ready_fits : n + m ≤ length (window_bytes w)
   ready_fits =
       let fits : n ≤ length bs = omega (arith, blanks, prefix_len-le-length is_blank bs) in
-      omega (arith, fits, room, length-drop n bs, ap length held_is)
+      omega (arith, fits, room, length-drop n bs)
 
   pub ready_held : n + m ≤ length (held w)
   ready_held = omega (arith, ready_fits, shown_fits w)
@@ -157,7 +165,7 @@ module _ (w : Window) (bs : List ℕ) (n m : ℕ) (k : TokenKind) (held_is : bs 
       let told = shown w left bytes e in
       let fits : n ≤ length bs = omega (arith, blanks, prefix_len-le-length is_blank bs) in
       let cut : drop n bytes ≡ drop n bs ++ told.0 =
-      ap (drop n) (told.1 ∙ ap (λ t. t ++ told.0) (sym held_is)) ∙ drop-append-le n bs told.0 fits in
+      ap (drop n) told.1 ∙ drop-append-le n bs told.0 fits in
       subst (λ t. BeginsWith t (pieces.Token k m)) (sym cut) (decided (drop n bs) told.0 (pieces.Token k m) begins room)
 
   module _ (x : Window) (left : Option (List ℕ)) (d : HasDropped w x (n + m)) where
@@ -167,7 +175,7 @@ module _ (w : Window) (bs : List ℕ) (n m : ℕ) (k : TokenKind) (held_is : bs 
     ready_reads : (bytes : List ℕ) → coming w left ≡ Some bytes
         → ReadsTo w.at bytes (token_at (w.at + n) m k ∷ []) x.at (coming x left)
     ready_reads bytes e =
-        let front : n ≡ prefix_len is_blank (window_bytes w) = blanks ∙ ap (prefix_len is_blank) held_is in
+        let front : n ≡ prefix_len is_blank (window_bytes w) = blanks in
         let all = blanks_shown w left bytes e in
         let passed : Tokenizes w.at bytes [] (w.at + n) (drop n bytes) =
         subst (λ n. Tokenizes w.at bytes [] (w.at + n) (drop n bytes)) (sym front)
@@ -200,3 +208,14 @@ module _ (w : Window) (bs : List ℕ) (n m : ℕ) (k : TokenKind) (held_is : bs 
 -- nothing is taken
 pub same_passed : (w x : Window) (left : Option (List ℕ)) → x ≡ w → HasPassed w x left left
 same_passed w x left e = subst (λ x. HasPassed w x left left) (sym e) (start_passed w left)
+
+-- one space, and then no blank
+pub one_blank : (text : List ℕ) → 1 < length text → slice_index text 0 ≡ 32 → is_blank (slice_index text 1) ≡ false
+    → 1 ≡ prefix_len is_blank text
+one_blank [] long e h = absurd (omega arith)
+one_blank (a ∷ []) long e h = absurd (omega arith)
+one_blank (a ∷ b ∷ rest) long e h =
+    subst (λ a. 1 ≡ prefix_len is_blank (a ∷ b ∷ rest)) (sym e) (ap suc (sym (no_blank b rest h)))
+  where
+    no_blank : (b : ℕ) (rest : List ℕ) → is_blank b ≡ false → prefix_len is_blank (b ∷ rest) ≡ 0
+    no_blank b rest h = ap (λ t. cond t (1 + prefix_len is_blank rest) 0) h

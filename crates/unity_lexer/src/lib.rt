@@ -19,5 +19,5 @@ mod tokens;
 pub use front::{Front, FrontError, read_front};
 pub use laws::{decided_pieces, one_reading, places_in_text, some_reading};
 pub use pairs::{PairTokens, next_pair};
-pub use scan::{Scan, next_token};
+pub use scan::{Likely, Scan, likely_token, next_token};
 pub use tokens::lex;

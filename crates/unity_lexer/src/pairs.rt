@@ -8,9 +8,8 @@ ghost use Rattle.unity_lexer.specs.declared.piece.Piece.TheVariants as pieces;
 ghost use Rattle.unity_lexer.specs.Pieces.{BeginsWith};
 ghost use Rattle.unity_lexer.specs.Pairs.{BeginsPair, ReadsPair};
 
-use crate::piece::{Piece, number};
+use crate::ready::decided_number;
 use unity_base::Window;
-use unity_syntax::TokenKind;
 
 /// A number, `*` and a number.
 #[derive(Clone, Copy, Debug, PartialEq, Eq)]
@@ -19,23 +18,6 @@ pub struct PairTokens {
     pub by: u64,
     /// The second number.
     pub number: u64,
-}
-
-/// The number, and its size, with which each text begins that begins with these bytes, where they are enough to tell.
-#[inline(always)]
-fn decided_number(text: &[u8]) -> Option<(u64, usize)>
-    ensures begins { IfSome result (λ n. BeginsWith text.now (pieces.Token (kind.Number n.0) n.1)) }
-    ensures decided { IfSome result (λ n. n.1 + 2 ≤ length text.now) }
-{
-    if text.len() < 3 || !text[0].is_ascii_digit() {
-        return None;
-    }
-    match number(text) {
-        Piece::Token(TokenKind::Number(value), size) if size <= text.len() - 2 => {
-            Some((value, size))
-        }
-        _ => None,
-    }
 }
 
 /// The pair, and its size, with which each text begins that begins with these bytes, where they are enough to tell.

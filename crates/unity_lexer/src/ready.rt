@@ -1,6 +1,8 @@
 //! Tokens that are held with two more bytes behind them. Most are so, and each is taken by one look at the window.
 
-ghost use Rattle.std.specs.Prelude.{◌≡◌, ℕ, ◌+◌, ◌<◌, ◌≤◌, List, Option, Some, None, length, IfSome, IsTrue};
+ghost use Rattle.std.specs.Prelude.{◌≡◌, ℕ, ◌+◌, ◌<◌, ◌≤◌, List, Option, Some, None, length, drop, IfSome, IsTrue};
+ghost use Rattle.std.specs.List.{prefix_len};
+ghost use Rattle.unity_lexer.specs.Tokens.{is_blank};
 ghost use Rattle.unity_base.specs.Window.{coming, window_at, window_limit, window_bytes, HasPassed};
 ghost use Rattle.unity_syntax.specs.declared.token.TokenKind.TheVariants as kind;
 ghost use Rattle.unity_lexer.specs.declared.piece.Piece.TheVariants as pieces;
@@ -11,7 +13,7 @@ ghost use Rattle.unity_lexer.specs.Symbols.{symbol_after};
 
 use crate::ahead::is_decided;
 use crate::piece::{Piece, first_piece, number};
-use crate::runs::blank_len;
+use crate::runs::{blank_len, is_blank};
 use case_tables::{Symbol, Word};
 use unity_base::Window;
 use unity_syntax::{Token, TokenKind};
@@ -106,6 +108,18 @@ fn node_word(text: &[u8]) -> Option<(Word, usize)>
     long_node_word(text)
 }
 
+/// The same, and two more bytes stand behind it.
+#[inline(always)]
+fn decided_word(text: &[u8]) -> Option<(Word, usize)>
+    ensures begins { IfSome result (λ found. BeginsWith text.now (pieces.Token (kind.Reserved found.0) found.1)) }
+    ensures decided { IfSome result (λ found. found.1 + 2 ≤ length text.now) }
+{
+    if text.len() < 7 {
+        return None;
+    }
+    long_node_word(text)
+}
+
 /// The piece with which a text begins. What certificates have most is looked for first.
 #[inline(always)]
 fn common_piece(text: &[u8]) -> Piece
@@ -143,6 +157,52 @@ fn decided_token(text: &[u8]) -> Option<(TokenKind, usize)>
     }
 }
 
+/// The number, and its size, with which each text begins that begins with these bytes, where they are enough to tell.
+#[inline(always)]
+pub(crate) fn decided_number(text: &[u8]) -> Option<(u64, usize)>
+    ensures begins { IfSome result (λ n. BeginsWith text.now (pieces.Token (kind.Number n.0) n.1)) }
+    ensures decided { IfSome result (λ n. n.1 + 2 ≤ length text.now) }
+{
+    if text.len() < 3 || !text[0].is_ascii_digit() {
+        return None;
+    }
+    match number(text) {
+        Piece::Token(TokenKind::Number(value), size) if size <= text.len() - 2 => {
+            Some((value, size))
+        }
+        _ => None,
+    }
+}
+
+/// How many blanks there are at the front. Mostly it is one space.
+#[inline(always)]
+fn blanks_ahead(text: &[u8]) -> usize
+    ensures { result ≡ prefix_len is_blank text.now }
+{
+    if text.len() > 1 && text[0] == b' ' && !is_blank(text[1]) {
+        return 1;
+    }
+    blank_len(text)
+}
+
+/// Reads a token that is held with two more bytes behind it, and the blanks before it.
+#[inline(always)]
+fn take_ready(w: &mut Window, blanks: usize, kind: TokenKind, size: usize) -> Token
+    requires blanks { blanks ≡ prefix_len is_blank (window_bytes w.old) }
+    requires begins { BeginsWith (drop blanks (window_bytes w.old)) (pieces.Token kind size) }
+    requires decided { size + 2 ≤ length (drop blanks (window_bytes w.old)) }
+    ensures kind { result.kind ≡ kind }
+    ensures scan { (left : Option (List ℕ)) → (bytes : List ℕ) → coming w.old left ≡ Some bytes →
+        IsScan (window_limit w.old) (window_at w.old) bytes (window_at w.new) (coming w.new left) (scan.Token result) }
+    ensures rises { window_at w.old < window_at w.new }
+    ensures passed { (left : Option (List ℕ)) → HasPassed w.old w.new left left }
+{
+    w.skip(blanks + size);
+    let end = w.at();
+    let start = end - size as u64;
+    Token { kind, start, end }
+}
+
 /// Reads a token that is ready, and the blanks before it.
 #[inline(always)]
 pub(crate) fn ready_token(w: &mut Window) -> Option<Token>
@@ -153,12 +213,43 @@ pub(crate) fn ready_token(w: &mut Window) -> Option<Token>
     ensures none { result ≡ None → w.new ≡ w.old }
 {
     let bytes = w.bytes();
-    let blanks = blank_len(bytes);
+    let blanks = blanks_ahead(bytes);
     let Some((kind, size)) = decided_token(&bytes[blanks..]) else {
         return None;
     };
-    w.skip(blanks + size);
-    let end = w.at();
-    let start = end - size as u64;
-    Some(Token { kind, start, end })
+    Some(take_ready(w, blanks, kind, size))
+}
+
+/// Reads a number that is ready, and the blanks before it.
+#[inline(always)]
+pub(crate) fn ready_number(w: &mut Window) -> Option<Token>
+    ensures scan { IfSome result (λ t. (left : Option (List ℕ)) → (bytes : List ℕ) → coming w.old left ≡ Some bytes →
+        IsScan (window_limit w.old) (window_at w.old) bytes (window_at w.new) (coming w.new left) (scan.Token t)) }
+    ensures rises { IfSome result (λ t. window_at w.old < window_at w.new) }
+    ensures passed { (left : Option (List ℕ)) → HasPassed w.old w.new left left }
+    ensures none { result ≡ None → w.new ≡ w.old }
+{
+    let bytes = w.bytes();
+    let blanks = blanks_ahead(bytes);
+    let Some((value, size)) = decided_number(&bytes[blanks..]) else {
+        return None;
+    };
+    Some(take_ready(w, blanks, TokenKind::Number(value), size))
+}
+
+/// Reads a word with which a node begins, where it is ready, and the blanks before it.
+#[inline(always)]
+pub(crate) fn ready_word(w: &mut Window) -> Option<Token>
+    ensures scan { IfSome result (λ t. (left : Option (List ℕ)) → (bytes : List ℕ) → coming w.old left ≡ Some bytes →
+        IsScan (window_limit w.old) (window_at w.old) bytes (window_at w.new) (coming w.new left) (scan.Token t)) }
+    ensures rises { IfSome result (λ t. window_at w.old < window_at w.new) }
+    ensures passed { (left : Option (List ℕ)) → HasPassed w.old w.new left left }
+    ensures none { result ≡ None → w.new ≡ w.old }
+{
+    let bytes = w.bytes();
+    let blanks = blanks_ahead(bytes);
+    let Some((word, size)) = decided_word(&bytes[blanks..]) else {
+        return None;
+    };
+    Some(take_ready(w, blanks, TokenKind::Reserved(word), size))
 }
