@@ -44,24 +44,24 @@ pair_answers p by number = refl
 -- one token of some section
 opens_with : (later : Bool) (us : List Token) (c : Token) (e : CertEvent) → Takes later us c (Taken.Event e)
     → (rest : List Token) × IsSections later (us ++ c ∷ rest)
-opens_with later us c e takes = (takes.0, takes.1, takes.2)
+opens_with later us c e takes = (takes.0, (takes.1, takes.2))
 
 module _ (later : Bool) (old new : CertReader) (ts ps : List Token) (by number : ℕ) (pair : IsPairOf by number ps)
     (stands : Stands later old ts) (awaits : is_pairs old.place.stage ≡ true) (same : new.place ≡ old.place)
     (version : new.later ≡ old.later) where
-  a : Token
+  abbrev a : Token
   a = pair.first
 
-  b : Token
+  abbrev b : Token
   b = pair.times
 
-  c : Token
+  abbrev c : Token
   c = pair.second
 
-  three : List Token
+  abbrev three : List Token
   three = a ∷ b ∷ c ∷ []
 
-  there : Place
+  abbrev there : Place
   there = reach start (signs later ts)
 
   stage_is : there.stage ≡ Stage.Pairs
@@ -93,7 +93,7 @@ module _ (later : Bool) (old new : CertReader) (ts ps : List Token) (by number :
       ∙ pair_answers there by number
 
   -- the last of them, behind the two others
-  front : List Token
+  abbrev front : List Token
   front = ts ++ a ∷ b ∷ []
 
   last_told : (step (reach start (signs later front)) (sign_of later c.kind)).1

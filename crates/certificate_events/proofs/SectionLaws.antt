@@ -53,7 +53,7 @@ pub reach_more : (p : Place) (ss us : List Sign) → reach p (ss ++ us) ≡ reac
 reach_more p [] us = refl
 reach_more p (s ∷ ss) us = reach_more (step p s).0 ss us
 
-answers_more : (p : Place) (ss us : List Sign) → answers p (ss ++ us) ≡ answers p ss ++ answers (reach p ss) us
+pub answers_more : (p : Place) (ss us : List Sign) → answers p (ss ++ us) ≡ answers p ss ++ answers (reach p ss) us
 answers_more p [] us = refl
 answers_more p (s ∷ ss) us = ap (λ xs. (step p s).1 ∷ xs) (answers_more (step p s).0 ss us)
 
