@@ -18,7 +18,7 @@ use Rattle.unity_lexer.specs.Tokens.{is_blank, Tokenizes, nothing}
 use Rattle.unity_lexer.proofs.Blanks.{reads_blanks}
 use Rattle.unity_lexer.proofs.Decided.{decided}
 use Rattle.unity_lexer.proofs.Reading.{token_at, reads_token}
-use Rattle.unity_lexer.proofs.ReadyTokens.{lone_begins}
+use Rattle.unity_lexer.proofs.ReadyTokens.{lone_begins, rest_is}
 use Rattle.unity_lexer.proofs.ScanSteps.{dropped_passed}
 use Rattle.unity_lexer.proofs.Taking.{shown, shown_fits, shown_inside, dropped_told}
 
@@ -60,13 +60,13 @@ star_begins text some is =
 
 module _ (w : Window) (p : PairTokens) (m : ℕ) (some : 0 < length (window_bytes w))
     (space : slice_index (window_bytes w) 0 ≡ 32) (pair : BeginsPair (drop 1 (window_bytes w)) p m) where
-  bs : List ℕ
+  abbrev bs : List ℕ
   bs = window_bytes w
 
-  f : ℕ
+  abbrev f : ℕ
   f = pair.first
 
-  s : ℕ
+  abbrev s : ℕ
   s = pair.second
 
   room : 1 + f + 1 + s + 2 ≤ length bs
@@ -101,7 +101,7 @@ module _ (w : Window) (p : PairTokens) (m : ℕ) (some : 0 < length (window_byte
     pair_passed = dropped_passed w x left (1 + m) pair_fits d
 
     module _ (bytes : List ℕ) (e : coming w left ≡ Some bytes) where
-      more : List ℕ
+      abbrev more : List ℕ
       more = (shown w left bytes e).0
 
       all : bytes ≡ bs ++ more
@@ -160,3 +160,22 @@ module _ (w : Window) (p : PairTokens) (m : ℕ) (some : 0 < length (window_byte
             times_is = refl;
             number_is = refl;
           }
+
+-- as the code has the bytes
+module _ (w : Window) (bs : List ℕ) (p : PairTokens) (m : ℕ) (is : bs ≡ window_bytes w) (some : 0 < length bs)
+    (space : slice_index bs 0 ≡ 32) (pair : BeginsPair (take (length bs - 1) (drop 1 bs)) p m) where
+  some_held : 0 < length (window_bytes w)
+  some_held = subst (λ bs. 0 < length bs) is some
+
+  space_held : slice_index (window_bytes w) 0 ≡ 32
+  space_held = subst (λ bs. slice_index bs 0 ≡ 32) is space
+
+  pair_of : BeginsPair (drop 1 (window_bytes w)) p m
+  pair_of = subst (λ bs. BeginsPair (drop 1 bs) p m) is (subst (λ t. BeginsPair t p m) (rest_is bs 1) pair)
+
+  module _ (x : Window) (left : Option (List ℕ)) (d : HasDropped w x (1 + m)) where
+    pub next_passed : HasPassed w x left left
+    next_passed = pair_passed w p m some_held space_held pair_of x left d
+
+    pub next_reads : (bytes : List ℕ) → coming w left ≡ Some bytes → ReadsPair w.at bytes p x.at (coming x left)
+    next_reads bytes e = pair_reads w p m some_held space_held pair_of x left d bytes e

@@ -1,7 +1,7 @@
 -- A token that is ready behind blanks.
 use Rattle.std.proofs.Common.{◌≡◌, ℕ, ◌+◌, ◌-◌, ◌<◌, ◌≤◌, List, [], ◌∷◌, ◌++◌, length, take, drop, Option, Some, sym}
 use Rattle.std.proofs.Common.{true, ap, ◌∙◌, subst, arith, slice_index, take_all, refl, codes, eqb-true}
-use Rattle.std.proofs.Common.{◌&&◌, ◌==◌, Contains, false, cond, suc}
+use Rattle.std.proofs.Common.{◌&&◌, ◌==◌, Contains}
 use Rattle.std.specs.Char.{is_ascii_alphabetic}
 use Rattle.std.specs.List.{prefix_len}
 use Rattle.std.proofs.lemmas.List.{length-take-le, length-drop, drop-append-le, drop-drop}
@@ -119,7 +119,7 @@ module _ (text : List ℕ) (long : 6 ≤ length text) where
       (48, omega arith, refl) refl refl refl
 
 -- what is left, as the code slices it
-rest_is : (bytes : List ℕ) (at : ℕ) → take (length bytes - at) (drop at bytes) ≡ drop at bytes
+pub rest_is : (bytes : List ℕ) (at : ℕ) → take (length bytes - at) (drop at bytes) ≡ drop at bytes
 rest_is bytes at = take_all (length bytes - at) (drop at bytes) (omega (arith, length-drop at bytes))
 
 -- the blanks are within the bytes
@@ -142,7 +142,7 @@ slice_room bs n m all e h =
 module _ (w : Window) (n m : ℕ) (k : TokenKind) (blanks : n ≡ prefix_len is_blank (window_bytes w))
     (begins : BeginsWith (drop n (window_bytes w)) (pieces.Token k m))
     (room : m + 2 ≤ length (drop n (window_bytes w))) where
-  bs : List ℕ
+  abbrev bs : List ℕ
   bs = window_bytes w
 
   pub ready_fits : n + m ≤ length (window_bytes w)
@@ -208,14 +208,3 @@ module _ (w : Window) (n m : ℕ) (k : TokenKind) (blanks : n ≡ prefix_len is_
 -- nothing is taken
 pub same_passed : (w x : Window) (left : Option (List ℕ)) → x ≡ w → HasPassed w x left left
 same_passed w x left e = subst (λ x. HasPassed w x left left) (sym e) (start_passed w left)
-
--- one space, and then no blank
-pub one_blank : (text : List ℕ) → 1 < length text → slice_index text 0 ≡ 32 → is_blank (slice_index text 1) ≡ false
-    → 1 ≡ prefix_len is_blank text
-one_blank [] long e h = absurd (omega arith)
-one_blank (a ∷ []) long e h = absurd (omega arith)
-one_blank (a ∷ b ∷ rest) long e h =
-    subst (λ a. 1 ≡ prefix_len is_blank (a ∷ b ∷ rest)) (sym e) (ap suc (sym (no_blank b rest h)))
-  where
-    no_blank : (b : ℕ) (rest : List ℕ) → is_blank b ≡ false → prefix_len is_blank (b ∷ rest) ≡ 0
-    no_blank b rest h = ap (λ t. cond t (1 + prefix_len is_blank rest) 0) h

@@ -82,7 +82,8 @@ fn begins_split(text: &[u8]) -> bool
 #[inline(always)]
 fn long_node_word(text: &[u8]) -> Option<(Word, usize)>
     requires { 6 ≤ length text.now }
-    ensures { IfSome result (λ found. BeginsWith text.now (pieces.Token (kind.Reserved found.0) found.1)) }
+    ensures begins { IfSome result (λ found. BeginsWith text.now (pieces.Token (kind.Reserved found.0) found.1)) }
+    ensures short { IfSome result (λ found. found.1 ≤ 5) }
 {
     if begins_sum(text) {
         Some((Word::Sum, 3))
@@ -252,4 +253,28 @@ pub(crate) fn ready_word(w: &mut Window) -> Option<Token>
         return None;
     };
     Some(take_ready(w, blanks, TokenKind::Reserved(word), size))
+}
+
+/// What is likely to come.
+#[derive(Clone, Copy, Debug, PartialEq, Eq)]
+pub enum Likely {
+    /// A number.
+    Number,
+    /// A word with which a node of a certificate begins.
+    Word,
+}
+
+/// Reads what is likely to come, where it is ready, and the blanks before it.
+#[inline(always)]
+pub(crate) fn ready_likely(w: &mut Window, likely: Likely) -> Option<Token>
+    ensures scan { IfSome result (λ t. (left : Option (List ℕ)) → (bytes : List ℕ) → coming w.old left ≡ Some bytes →
+        IsScan (window_limit w.old) (window_at w.old) bytes (window_at w.new) (coming w.new left) (scan.Token t)) }
+    ensures rises { IfSome result (λ t. window_at w.old < window_at w.new) }
+    ensures passed { (left : Option (List ℕ)) → HasPassed w.old w.new left left }
+    ensures none { result ≡ None → w.new ≡ w.old }
+{
+    match likely {
+        Likely::Number => ready_number(w),
+        Likely::Word => ready_word(w),
+    }
 }

@@ -12,7 +12,7 @@ ghost use Rattle.unity_lexer.specs.Scans.{IsScan, TokenRises};
 
 use crate::ahead::{Next, next_piece};
 use crate::piece::Piece;
-use crate::ready::{ready_number, ready_token, ready_word};
+use crate::ready::{Likely, ready_likely, ready_token};
 use crate::runs::blank_len;
 use crate::stretches::{Run, skip_run};
 use case_tables::Code;
@@ -148,15 +148,6 @@ pub fn next_token<S: Source>(w: &mut Window, src: &mut S) -> Result<Scan, Failed
     }
 }
 
-/// What is likely to come.
-#[derive(Clone, Copy, Debug, PartialEq, Eq)]
-pub enum Likely {
-    /// A number.
-    Number,
-    /// A word with which a node of a certificate begins.
-    Word,
-}
-
 /// Reads the next token as `next_token` does, and faster where it is what is likely to come.
 #[inline(always)]
 pub fn likely_token<S: Source>(w: &mut Window, src: &mut S, likely: Likely) -> Result<Scan, Failed>
@@ -167,11 +158,7 @@ pub fn likely_token<S: Source>(w: &mut Window, src: &mut S, likely: Likely) -> R
     ensures passed { HasPassed w.old w.new (S.left src.old) (S.left src.new) }
     ensures cause { HasCause (S.faults src.old) (S.faults src.new) result }
 {
-    let ready = match likely {
-        Likely::Number => ready_number(w),
-        Likely::Word => ready_word(w),
-    };
-    match ready {
+    match ready_likely(w, likely) {
         Some(token) => Ok(Scan::Token(token)),
         None => next_token(w, src),
     }
