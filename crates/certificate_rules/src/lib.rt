@@ -8,6 +8,6 @@ mod sums;
 pub use indexes::index_laws;
 pub use laws::certificate_laws;
 pub use sums::{
-    Added, add_multiple, add_pairs, added, all_divided, all_zero, below_0, closes, copy_fact,
+    MultipleSum, add_multiple, add_pairs, added, all_divided, all_zero, below_0, closes, copy_fact,
     divides, parts, product, quotient, rounded,
 };

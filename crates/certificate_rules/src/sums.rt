@@ -52,7 +52,7 @@ pub fn product(m: i64, z: i128) -> Option<i128>
 
 /// A product, and its sum with a number.
 #[derive(Clone, Copy)]
-pub struct Added {
+pub struct MultipleSum {
     /// The product.
     pub by: i128,
     /// The sum.
@@ -62,7 +62,7 @@ pub struct Added {
 /// m times a number, added to another, where the first two have 32 bits and the other 64. `None` says nothing.
 #[inline(always)]
 #[tactic(auto, using(crate::proofs::SumLaws::narrow_laws))]
-fn narrow_added(m: i64, z: i128, sum: i128) -> Option<Added>
+fn narrow_added(m: i64, z: i128, sum: i128) -> Option<MultipleSum>
     ensures { IfSome result (IsAdded m z sum) }
 {
     let Ok(m) = i32::try_from(m) else {
@@ -75,7 +75,7 @@ fn narrow_added(m: i64, z: i128, sum: i128) -> Option<Added>
         return None;
     };
     let by = (m as i64 * z as i64) as i128;
-    Some(Added {
+    Some(MultipleSum {
         by,
         total: sum as i128 + by,
     })
@@ -84,7 +84,7 @@ fn narrow_added(m: i64, z: i128, sum: i128) -> Option<Added>
 /// m times a number, added to another. `None` exactly where the product or the sum is past 2^126.
 #[cold]
 #[inline(never)]
-fn wide_added(m: i64, z: i128, sum: i128) -> Option<Added>
+fn wide_added(m: i64, z: i128, sum: i128) -> Option<MultipleSum>
     ensures { MatchOption result (fits_added m z sum ≡ false) (IsAdded m z sum) }
 {
     let Some(by) = product(m, z) else {
@@ -93,12 +93,12 @@ fn wide_added(m: i64, z: i128, sum: i128) -> Option<Added>
     let Some(total) = small_sum(sum, by) else {
         return None;
     };
-    Some(Added { by, total })
+    Some(MultipleSum { by, total })
 }
 
 /// m times a number, added to another. `None` exactly where the product or the sum is past 2^126.
 #[inline(always)]
-pub fn added(m: i64, z: i128, sum: i128) -> Option<Added>
+pub fn added(m: i64, z: i128, sum: i128) -> Option<MultipleSum>
     ensures { MatchOption result (fits_added m z sum ≡ false) (IsAdded m z sum) }
 {
     match narrow_added(m, z, sum) {
