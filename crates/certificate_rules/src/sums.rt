@@ -326,6 +326,13 @@ fn put_part(d: i64, place: u32, z: i128, factors: &mut Seq<(u32, i128)>) -> Resu
     }
 }
 
+/// No factors, with room for so many, but not for more than four.
+fn no_factors(alloc: Global, count: usize) -> Result<Seq<(u32, i128)>, AllocError>
+    ensures { IfOk result (λ f. f ≡ []) }
+{
+    Seq::with_capacity(alloc, count.min(4))
+}
+
 /// The factors divided and rounded down, each with its place from `first` on, where it is not 0.
 #[tactic(auto, using(crate::proofs::SumLaws::part_laws))]
 pub fn parts(
@@ -338,7 +345,7 @@ pub fn parts(
     requires count { first + length zs.now < 2 ^ 32 }
     ensures { IfOk result (λ f. f ≡ sparse first (map (λ z. int_div_euclid z d) zs.now)) }
 {
-    let mut factors = Seq::with_capacity(alloc, zs.len().min(4))?;
+    let mut factors = no_factors(alloc, zs.len())?;
     for (place, z) in zs.iter().enumerate() {
         put_part(d, (first + place) as u32, *z, &mut factors)?;
     }
