@@ -1,6 +1,6 @@
 //! Sums of multiples of facts.
 ghost use Rattle.std.specs.Prelude.{◌≡◌, ℤ, pos, ◌+ℤ◌, ◌*ℤ◌, ◌≤ℤ◌, ◌<◌, ◌+◌, ◌^◌};
-ghost use Rattle.std.specs.Prelude.{MatchOption, MatchResult, MatchBool, OnOk, IfSome};
+ghost use Rattle.std.specs.Prelude.{MatchOption, MatchResult, MatchBool, OnOk, IfSome, ◌&&◌};
 ghost use Rattle.std.specs.Prelude.{IfOk, neg_ℤ, Some, None, Ok, Err, true, false, map};
 ghost use Rattle.std.specs.Prelude.{length};
 ghost use Rattle.std.specs.Prelude.{[], ◌∷◌, ◌++◌};
@@ -59,6 +59,30 @@ pub struct MultipleSum {
     pub total: i128,
 }
 
+/// The product of two numbers of 32 bits, which never is past 2^62.
+#[inline(always)]
+#[tactic(auto, using(crate::proofs::SumLaws::narrow_laws))]
+fn short_product(m: i32, z: i32) -> i64
+    ensures { result ≡ m *ℤ z }
+{
+    m as i64 * z as i64
+}
+
+/// Two numbers of 64 bits, the second in 128, and their sum.
+#[inline(always)]
+#[tactic(auto, using(crate::proofs::SumLaws::narrow_laws))]
+fn short_sum(by: i64, sum: i64) -> MultipleSum
+    ensures by { result.by ≡ by }
+    ensures total { result.total ≡ sum +ℤ by }
+    ensures fits { (is_small by && is_small (sum +ℤ by)) ≡ true }
+{
+    let by = by as i128;
+    MultipleSum {
+        by,
+        total: sum as i128 + by,
+    }
+}
+
 /// m times a number, added to another, where the first two have 32 bits and the other 64. `None` says nothing.
 #[inline(always)]
 #[tactic(auto, using(crate::proofs::SumLaws::narrow_laws))]
@@ -74,11 +98,7 @@ fn narrow_added(m: i64, z: i128, sum: i128) -> Option<MultipleSum>
     let Ok(sum) = i64::try_from(sum) else {
         return None;
     };
-    let by = (m as i64 * z as i64) as i128;
-    Some(MultipleSum {
-        by,
-        total: sum as i128 + by,
-    })
+    Some(short_sum(short_product(m, z), sum))
 }
 
 /// m times a number, added to another. `None` exactly where the product or the sum is past 2^126.
