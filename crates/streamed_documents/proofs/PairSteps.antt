@@ -15,7 +15,7 @@ use Rattle.certificate_events.specs.Sections.{Stands, told}
 use Rattle.front_documents.specs.Laws.{IsOpen}
 use Rattle.streamed_documents.specs.declared.behind.Pending.{Pending}
 use Rattle.streamed_documents.specs.Hearing.{Hears, MayHear}
-use Rattle.streamed_documents.specs.Pairs.{TakesMore, HearsMore}
+use Rattle.streamed_documents.specs.Pairs.{HearsMore}
 use Rattle.streamed_documents.proofs.Hearings.{hears_none, hears_then}
 use Rattle.streamed_documents.proofs.SectionSteps.{GoesOn, events_append}
 use Rattle.streamed_documents.proofs.Skimming.{reads_join, start_reads}

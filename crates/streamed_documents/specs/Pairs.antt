@@ -1,5 +1,5 @@
 -- Pairs of a certificate that are read one after the other.
-use Rattle.std.specs.Prelude.{◌≡◌, ℕ, Bool, List, [], ◌∷◌, ◌++◌, Option, Some}
+use Rattle.std.specs.Prelude.{◌≡◌, ℕ, Bool, List, ◌++◌, Option, Some}
 use Rattle.unity_base.specs.declared.window.Window.{Window}
 use Rattle.unity_base.specs.Window.{coming, window_at}
 use Rattle.unity_syntax.specs.declared.token.Token.{Token}
