@@ -116,8 +116,14 @@ tokens-preserved g c =
           (passed_then u w x a b d c.tokens.invariant.passed c.likely_token.ensures.passed)
           (c.read_pairs.ensures.passed d);
       same = c.in_ok-found.ensures.cause.same refl ∙ c.tokens.invariant.same;
-      count = omega (arith, c.take.ensures.count, c.tokens.invariant.count, rises, c.read_pairs.ensures.count,
-      c.read_pairs.ensures.rises);
+      count = omega (
+        arith,
+        c.take.ensures.count,
+        c.tokens.invariant.count,
+        rises,
+        c.read_pairs.ensures.count,
+        c.read_pairs.ensures.rises,
+      );
       ready = stays_then c.args.pending.now q z
           (stays_then c.args.pending.now c.tokens.pending q c.tokens.invariant.ready
           c.in_ok-hear-in-Event.ensures.ready) c.in_ok-read_pairs-in-Event.ensures.ready;
