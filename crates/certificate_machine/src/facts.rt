@@ -8,9 +8,8 @@ ghost use Rattle.obligations.specs.Opening.{at_most, at_least};
 ghost use Rattle.obligations.specs.Obligations.{AreVariables};
 
 use core_terms::CForm;
-use obligations::{Branch, Fact, Variable, settle_onto};
+use obligations::{Branch, Fact, Factors, Variable, settle_onto};
 use std::alloc::{AllocError, Global};
-use unity_base::Seq;
 
 /// Adds a fact.
 pub fn add(branch: &mut Branch, fact: Fact) -> Result<(), AllocError>
@@ -19,21 +18,12 @@ pub fn add(branch: &mut Branch, fact: Fact) -> Result<(), AllocError>
     branch.facts.push(fact)
 }
 
-/// A list of one factor, with room for no other.
-fn one_factor(alloc: Global, variable: u32, by: i128) -> Result<Seq<(u32, i128)>, AllocError>
-    ensures { IfOk result (λ f. f ≡ (variable, by) ∷ []) }
-{
-    let mut factors = Seq::with_capacity(alloc, 1)?;
-    factors.push((variable, by))?;
-    Ok(factors)
-}
-
 /// That a variable is at most a number.
 pub fn bound_above(alloc: Global, variable: u32, at: i128) -> Result<Fact, AllocError>
     ensures { IfOk result (λ f. f ≡ at_most variable at) }
 {
     Ok(Fact {
-        factors: one_factor(alloc, variable, -1)?,
+        factors: Factors::one(alloc, variable, -1),
         constant: at,
     })
 }
@@ -44,7 +34,7 @@ pub fn bound_below(alloc: Global, variable: u32, at: i128) -> Result<Fact, Alloc
     ensures { IfOk result (λ f. f ≡ at_least variable at) }
 {
     Ok(Fact {
-        factors: one_factor(alloc, variable, 1)?,
+        factors: Factors::one(alloc, variable, 1),
         constant: -at,
     })
 }

@@ -14,7 +14,7 @@ ghost use Rattle.certificate_machine.specs.Machines.{IsScoped, spent};
 
 use crate::facts::{add, settle_second};
 use core_terms::CForm;
-use obligations::{Branch, Fact, Variable};
+use obligations::{Branch, Fact, Factors, Variable};
 use std::alloc::{AllocError, Global};
 use unity_base::{Seq, Shared};
 
@@ -90,7 +90,7 @@ fn no_fact(alloc: Global) -> Fact
     ensures { result ≡ record { factors = []; constant = pos 0 } }
 {
     Fact {
-        factors: Seq::new(alloc),
+        factors: Factors::new(alloc),
         constant: 0,
     }
 }

@@ -13,7 +13,7 @@ ghost use Rattle.certificate_machine.specs.Spans.{are_zero};
 
 use case_tables::Code;
 use certificate_rules::{add_multiple, added, all_divided, all_zero, parts, quotient};
-use obligations::{Fact, Line, Variable, zero_line};
+use obligations::{Fact, Factors, Line, Variable, zero_line};
 use std::alloc::{AllocError, Global};
 use unity_base::Seq;
 
@@ -243,7 +243,7 @@ impl Running {
     }
 
     /// The factors divided by a number of at least 1 and rounded down, each with its place, where it is not 0.
-    fn divided_factors(&self, alloc: Global, d: i64) -> Result<Seq<(u32, i128)>, AllocError>
+    fn divided_factors(&self, alloc: Global, d: i64) -> Result<Factors, AllocError>
         requires divisor { pos 1 ≤ℤ d }
         requires count { length (sum_line self.now).factors < 2 ^ 32 }
         ensures { IfOk result (λ f. f ≡ sparse 0 (map (λ z. int_div_euclid z d) (sum_line self.now).factors)) }

@@ -16,7 +16,7 @@ ghost use Rattle.obligations.specs.Load.{is_small};
 ghost use Rattle.obligations.specs.LinearForms.{add_at, fact_of, sparse};
 
 use case_tables::Code;
-use obligations::{Fact, Line, factor_at, small_product, small_sum};
+use obligations::{Fact, Factors, Line, factor_at, small_product, small_sum};
 use std::alloc::{AllocError, Global};
 use unity_base::Seq;
 
@@ -229,10 +229,10 @@ pub fn add_pairs(facts: &[Fact], pairs: &[(i64, u64)], sum: &mut Line) -> Result
 }
 
 /// The same factors once more.
-fn copy_factors(alloc: Global, factors: &[(u32, i128)]) -> Result<Seq<(u32, i128)>, AllocError>
+fn copy_factors(alloc: Global, factors: &[(u32, i128)]) -> Result<Factors, AllocError>
     ensures { IfOk result (λ copy. copy ≡ factors.now) }
 {
-    let mut copy = Seq::new(alloc);
+    let mut copy = Factors::new(alloc);
     for factor in factors {
         copy.push(*factor)?;
     }
@@ -334,7 +334,7 @@ pub fn quotient(d: i64, z: i128) -> i128
 }
 
 /// Adds a divided factor, where it is not 0.
-fn put_part(d: i64, place: u32, z: i128, factors: &mut Seq<(u32, i128)>) -> Result<(), AllocError>
+fn put_part(d: i64, place: u32, z: i128, factors: &mut Factors) -> Result<(), AllocError>
     requires { pos 1 ≤ℤ d }
     ensures { OnOk result (factors.new ≡ factors.old ++ sparse place (int_div_euclid z d ∷ [])) }
 {
@@ -346,13 +346,6 @@ fn put_part(d: i64, place: u32, z: i128, factors: &mut Seq<(u32, i128)>) -> Resu
     }
 }
 
-/// No factors, with room for so many, but not for more than four.
-fn no_factors(alloc: Global, count: usize) -> Result<Seq<(u32, i128)>, AllocError>
-    ensures { IfOk result (λ f. f ≡ []) }
-{
-    Seq::with_capacity(alloc, count.min(4))
-}
-
 /// The factors divided and rounded down, each with its place from `first` on, where it is not 0.
 #[tactic(auto, using(crate::proofs::SumLaws::part_laws))]
 pub fn parts(
@@ -360,12 +353,12 @@ pub fn parts(
     d: i64,
     first: usize,
     zs: &[i128],
-) -> Result<Seq<(u32, i128)>, AllocError>
+) -> Result<Factors, AllocError>
     requires divisor { pos 1 ≤ℤ d }
     requires count { first + length zs.now < 2 ^ 32 }
     ensures { IfOk result (λ f. f ≡ sparse first (map (λ z. int_div_euclid z d) zs.now)) }
 {
-    let mut factors = no_factors(alloc, zs.len())?;
+    let mut factors = Factors::new(alloc);
     for (place, z) in zs.iter().enumerate() {
         put_part(d, (first + place) as u32, *z, &mut factors)?;
     }

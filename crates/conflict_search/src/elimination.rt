@@ -3,7 +3,7 @@ use crate::refuting::{PathFact, Search};
 use conflict_limits::{Pair, Round, Source, chain_round};
 use conflict_tables::{Stop, Table, at, is_against, line_of, minus, times};
 use linear_prover::eliminate;
-use obligations::{Fact, Node};
+use obligations::{Fact, Factors, Node};
 use std::alloc::Global;
 use unity_base::Seq;
 
@@ -29,7 +29,7 @@ fn fact_of(
     number: usize,
 ) -> Result<Fact, Stop> {
     let fact = table.fact(number)?;
-    let mut factors = Seq::new(alloc);
+    let mut factors = Factors::new(alloc);
     if let Some(way) = fact.way {
         let by = if is_against(way) {
             minus(fact.divisor)?

@@ -1,6 +1,7 @@
 // Obligations, and branches: facts that are linear in the variables, and formulas that wait to be taken
 // apart.
 use core_terms::{CForm, CTerm, Range};
+use crate::factors::Factors;
 use unity_base::{Seq, Shared};
 
 /// A slot or a parameter that occurs in an obligation, with the values that it may have.
@@ -25,7 +26,7 @@ pub struct Obligation {
 #[derive(Drop)]
 pub struct Fact {
     /// Each variable's place, from 0 and rising, with a factor that is not 0.
-    pub factors: Seq<(u32, i128)>,
+    pub factors: Factors,
     pub constant: i128,
 }
 

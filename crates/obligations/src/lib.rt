@@ -4,6 +4,7 @@
 
 mod branches;
 mod certificates;
+mod factors;
 mod first_choice;
 mod first_quotient;
 mod laws;
@@ -21,6 +22,7 @@ mod waiting;
 
 pub use branches::{Bound, Branch, Choice, Fact, Line, Obligation, Replaced, Taken, Variable};
 pub use certificates::{Cert, Node, units};
+pub use factors::Factors;
 pub use laws::{obligation_laws, settling_laws};
 pub use linear::{fact_from, factor_at, zero_line};
 pub use making::{TooLargeError, make, make_in, with_variables};

@@ -35,6 +35,7 @@ ghost use Rattle.obligations.specs.Obligations.{is_lower, are_in_order};
 ghost use Rattle.obligations.specs.declared.branches.Variable.{Variable};
 
 use crate::branches::{Fact, Line, Variable};
+use crate::factors::Factors;
 use crate::small::small_product;
 use core_terms::CTerm;
 use std::alloc::{AllocError, Global};
@@ -252,7 +253,7 @@ pub fn negative_of(alloc: Global, vs: &[Variable], t: &CTerm) -> Result<Line, Al
 }
 
 /// Puts a factor with its place, where it is not 0.
-fn put_factor(place: u32, z: &i128, factors: &mut Seq<(u32, i128)>) -> Result<(), AllocError>
+fn put_factor(place: u32, z: &i128, factors: &mut Factors) -> Result<(), AllocError>
     ensures { OnOk result (factors.new ≡ factors.old ++ sparse place (z.now ∷ [])) }
 {
     if *z == 0 {
@@ -263,11 +264,11 @@ fn put_factor(place: u32, z: &i128, factors: &mut Seq<(u32, i128)>) -> Result<()
 }
 
 #[tactic(auto, using(crate::proofs::LinearLaws::sparse_laws))]
-fn sparse_factors(alloc: Global, zs: &[i128]) -> Result<Seq<(u32, i128)>, AllocError>
+fn sparse_factors(alloc: Global, zs: &[i128]) -> Result<Factors, AllocError>
     requires { length zs.now < 2 ^ 32 }
     ensures { IfOk result (λ f. f ≡ sparse 0 zs.now) }
 {
-    let mut factors = Seq::new(alloc);
+    let mut factors = Factors::new(alloc);
     for (place, z) in zs.iter().enumerate() {
         put_factor(place as u32, z, &mut factors)?;
     }

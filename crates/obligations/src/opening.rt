@@ -5,6 +5,7 @@ ghost use Rattle.obligations.specs.Opening.{at_least, at_most, range_facts, firs
 ghost use Rattle.obligations.specs.Obligations.{AreVariables};
 
 use crate::branches::{Branch, Fact, Obligation, Variable};
+use crate::factors::Factors;
 use crate::settling::refuse_onto;
 use std::alloc::{AllocError, Global};
 use unity_base::Seq;
@@ -13,8 +14,7 @@ use unity_base::Seq;
 fn fact_low(alloc: Global, place: u32, lo: &i64) -> Result<Fact, AllocError>
     ensures { IfOk result (λ f. f ≡ at_least place lo.now) }
 {
-    let mut factors = Seq::new(alloc);
-    factors.push((place, 1))?;
+    let factors = Factors::one(alloc, place, 1);
     let constant = -(*lo as i128);
     Ok(Fact { factors, constant })
 }
@@ -23,8 +23,7 @@ fn fact_low(alloc: Global, place: u32, lo: &i64) -> Result<Fact, AllocError>
 fn fact_high(alloc: Global, place: u32, hi: &i64) -> Result<Fact, AllocError>
     ensures { IfOk result (λ f. f ≡ at_most place hi.now) }
 {
-    let mut factors = Seq::new(alloc);
-    factors.push((place, -1))?;
+    let factors = Factors::one(alloc, place, -1);
     let constant = *hi as i128;
     Ok(Fact { factors, constant })
 }

@@ -10,6 +10,7 @@ ghost use Rattle.obligations.specs.Obligations.{AreVariables, AreOwn};
 ghost use Rattle.obligations.specs.Scopes.{scope_of};
 
 use crate::branches::{Branch, Choice, Fact, Obligation, Variable};
+use crate::factors::Factors;
 use crate::first_choice::find_choice;
 use crate::first_quotient::has_quotient;
 use crate::linear::{fact_from, line_of, negative_of};
@@ -17,7 +18,7 @@ use crate::scopes::scope_of;
 use crate::waiting::{apart, below, form_of, negation_of, sense_choice, unequal_choice};
 use core_terms::{CForm, CTerm, Sense, copy_term};
 use std::alloc::{AllocError, Global};
-use unity_base::{Held, Seq, Shared};
+use unity_base::{Held, Shared};
 
 /// Adds a fact.
 pub fn add_fact(fact: Fact, branch: &mut Branch) -> Result<(), AllocError>
@@ -41,7 +42,7 @@ fn add_false(alloc: Global, branch: &mut Branch) -> Result<(), AllocError>
     ensures { OnOk result (branch.new ≡ joined branch.old false_fact) }
 {
     let fact = Fact {
-        factors: Seq::new(alloc),
+        factors: Factors::new(alloc),
         constant: -1,
     };
     add_fact(fact, branch)?;

@@ -18,7 +18,7 @@ use crate::closing::numbered;
 use crate::points::{Point, pair_of, points_of, sum_of_points};
 use certificate_rules::copy_fact;
 use core_terms::Range;
-use obligations::{Branch, Fact, Node, Variable};
+use obligations::{Branch, Fact, Factors, Node, Variable};
 use std::alloc::{AllocError, Global};
 use unity_base::Seq;
 
@@ -151,8 +151,7 @@ fn round_by(alloc: Global, fact: &Fact, number: u64, points: &[Point]) -> Result
 fn bound_fact(alloc: Global, variable: u32, side: i128, constant: i128) -> Result<Fact, AllocError>
     ensures { IfOk result (λ f. f ≡ record { factors = (variable, side) ∷ []; constant = constant }) }
 {
-    let mut factors = Seq::new(alloc);
-    factors.push((variable, side))?;
+    let factors = Factors::one(alloc, variable, side);
     Ok(Fact { factors, constant })
 }
 

@@ -8,7 +8,7 @@ ghost use Rattle.obligations.specs.Plain.{ranges_of, middle, first_cut};
 ghost use Rattle.search_tree.specs.Halves.{half_range, half_ranges, half_fact};
 
 use core_terms::Range;
-use obligations::{Branch, Fact, Node, Variable};
+use obligations::{Branch, Fact, Factors, Node, Variable};
 use std::alloc::{AllocError, Global};
 use unity_base::Seq;
 
@@ -144,8 +144,7 @@ pub fn split_node(halves: Halves) -> Node
 fn bound(alloc: Global, variable: u32, sign: i128, constant: i128) -> Result<Fact, AllocError>
     ensures { IfOk result (λ fact. fact ≡ record { factors = (variable, sign) ∷ []; constant = constant }) }
 {
-    let mut factors = Seq::new(alloc);
-    factors.push((variable, sign))?;
+    let factors = Factors::one(alloc, variable, sign);
     Ok(Fact { factors, constant })
 }
 

@@ -8,7 +8,7 @@ ghost use Rattle.linear_prover.specs.Exact.{is_fact};
 
 use core_terms::{CForm, CSlot, CTerm, Print, Range};
 use linear_prover::close;
-use obligations::{Cert, Fact, Obligation, TooLargeError, make};
+use obligations::{Cert, Fact, Factors, Obligation, TooLargeError, make};
 use std::alloc::{AllocError, Global};
 use unity_base::{Seq, Shared};
 
@@ -30,7 +30,7 @@ pub fn row_of(x: i32, y: i32, z: i32, constant: i64) -> Row {
 fn fact_of(alloc: Global, row: &Row) -> Result<Fact, AllocError>
     ensures { IfOk result (λ f. is_fact 3 f ≡ true) }
 {
-    let mut factors = Seq::new(alloc);
+    let mut factors = Factors::new(alloc);
     factors.push((2, row.z as i128))?;
     factors.push((0, row.x as i128))?;
     factors.push((1, row.y as i128))?;
