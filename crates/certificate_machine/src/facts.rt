@@ -19,24 +19,24 @@ pub fn add(branch: &mut Branch, fact: Fact) -> Result<(), AllocError>
 }
 
 /// That a variable is at most a number.
-pub fn bound_above(alloc: Global, variable: u32, at: i128) -> Result<Fact, AllocError>
-    ensures { IfOk result (λ f. f ≡ at_most variable at) }
+pub fn bound_above(alloc: Global, variable: u32, at: i128) -> Fact
+    ensures { result ≡ at_most variable at }
 {
-    Ok(Fact {
+    Fact {
         factors: Factors::one(alloc, variable, -1),
         constant: at,
-    })
+    }
 }
 
 /// That a variable is at least a number.
-pub fn bound_below(alloc: Global, variable: u32, at: i128) -> Result<Fact, AllocError>
+pub fn bound_below(alloc: Global, variable: u32, at: i128) -> Fact
     requires { unsigned_abs at < 2 ^ 100 }
-    ensures { IfOk result (λ f. f ≡ at_least variable at) }
+    ensures { result ≡ at_least variable at }
 {
-    Ok(Fact {
+    Fact {
         factors: Factors::one(alloc, variable, 1),
         constant: -at,
-    })
+    }
 }
 
 /// The two sides of a formula that waits.

@@ -12,19 +12,23 @@ ghost use Rattle.certificate_machine.specs.Machines.{pendings};
 ghost use Rattle.certificate_machine.specs.Machines.{IsFit, rest_of, is_light_todo, IsLightMachine};
 ghost use Rattle.certificate_machine.specs.Machines.{IsScoped, spent};
 
-use crate::facts::{add, settle_second};
+use crate::facts::{add, bound_below, settle_second};
 use core_terms::CForm;
-use obligations::{Branch, Fact, Factors, Variable};
+use obligations::{Branch, Fact, Variable};
 use std::alloc::{AllocError, Global};
-use unity_base::{Seq, Shared};
+use unity_base::{Held, Seq, Shared};
 
 /// How a branch goes on after its first subtree.
 #[derive(Drop)]
 pub enum Todo {
     /// With the other side of the waiting formula that was taken from this place.
     Form { place: usize, form: Shared<CForm> },
+    /// With a variable above a number.
+    Bound { variable: u32, most: i64 },
     /// With a fact.
-    Fact(Fact),
+    Fact(Held<Fact>),
+    /// With nothing.
+    Nothing,
 }
 
 /// A node whose subtrees are being read, with how many levels it is allowed, the lengths of its branch's lists, how
@@ -81,17 +85,7 @@ fn put_back(todo: Todo, branch: &mut Branch) -> Result<(), AllocError>
 {
     match todo {
         Todo::Form { place, form } => branch.waiting.insert(place, form),
-        Todo::Fact(_) => Ok(()),
-    }
-}
-
-/// A fact that takes no memory.
-fn no_fact(alloc: Global) -> Fact
-    ensures { result ≡ record { factors = []; constant = pos 0 } }
-{
-    Fact {
-        factors: Factors::new(alloc),
-        constant: 0,
+        _ => Ok(()),
     }
 }
 
@@ -118,10 +112,15 @@ fn go_second(
             settle_second(alloc, vs, form.get(), branch)?;
             Ok(Todo::Form { place, form })
         }
-        Todo::Fact(fact) => {
-            add(branch, fact)?;
-            Ok(Todo::Fact(no_fact(alloc)))
+        Todo::Bound { variable, most } => {
+            add(branch, bound_below(alloc, variable, most as i128 + 1))?;
+            Ok(Todo::Nothing)
         }
+        Todo::Fact(fact) => {
+            add(branch, fact.into_inner())?;
+            Ok(Todo::Nothing)
+        }
+        Todo::Nothing => Ok(Todo::Nothing),
     }
 }
 

@@ -13,7 +13,7 @@ ghost use Rattle.certificate_machine.specs.Machines.{GoesErr, IsScoped};
 ghost use Rattle.certificate_machine.specs.Sums.{sum_line};
 
 use crate::errors::Stop;
-use crate::facts::{add, bound_above, bound_below, settle_first};
+use crate::facts::{add, bound_above, settle_first};
 use crate::frames::{Frame, Machine, Todo, go_back};
 use crate::running::Running;
 use case_tables::Code;
@@ -22,6 +22,7 @@ use obligations::{
     Line, Variable, add_quotient, fact_from, is_either, next_param, without_quotient,
 };
 use std::alloc::Global;
+use unity_base::Held;
 
 /// Takes the waiting formula of this number out, and goes on with its first side settled.
 pub fn open_case(alloc: Global, vs: &[Variable], machine: &mut Machine, k: u64) -> Result<(), Stop>
@@ -138,13 +139,13 @@ pub fn open_split(
     let facts = machine.branch.facts.len();
     let waits = machine.branch.waiting.len();
     let added = machine.branch.added;
-    add(&mut machine.branch, bound_above(alloc, place, k as i128)?)?;
+    add(&mut machine.branch, bound_above(alloc, place, k as i128))?;
     machine.frames.push(Frame {
         levels: machine.levels,
         facts,
         waits,
         added,
-        todo: Todo::Fact(bound_below(alloc, place, k as i128 + 1)?),
+        todo: Todo::Bound { variable: place, most: k },
         first: true,
     })?;
     machine.levels -= 1;
@@ -185,7 +186,7 @@ pub fn open_share(
         facts,
         waits,
         added,
-        todo: Todo::Fact(fact_from(alloc, line)?),
+        todo: Todo::Fact(Held::new(alloc, fact_from(alloc, line)?)?),
         first: true,
     })?;
     machine.levels -= 1;

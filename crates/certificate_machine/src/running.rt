@@ -48,6 +48,9 @@ fn resize(places: usize, factors: &mut Seq<i128>) -> Result<(), AllocError>
     ensures zero { are_zero factors.new ≡ true }
     ensures places { OnOk result (length factors.new ≡ places) }
 {
+    if factors.len() == places {
+        return Ok(());
+    }
     factors.truncate(places);
     for place in factors.len()..places {
         factors.push(0)?;
