@@ -43,6 +43,7 @@ fn clear(low: usize, high: usize, factors: &mut Seq<i128>)
 }
 
 /// Makes zeros as many as this.
+#[inline(always)]
 fn resize(places: usize, factors: &mut Seq<i128>) -> Result<(), AllocError>
     requires zero { are_zero factors.old ≡ true }
     ensures zero { are_zero factors.new ≡ true }
@@ -86,6 +87,7 @@ impl Running {
     }
 
     /// Begins again over variables with this number.
+    #[inline(always)]
     pub fn restart(&mut self, vs: &[Variable], constant: i64) -> Result<(), AllocError>
         ensures { OnOk result (sum_line self.new ≡ line_of_const vs.now constant) }
     {

@@ -203,6 +203,7 @@ fn opened(reading: &mut Reading, read: Result<(), Stop>) -> Result<(), AllocErro
 }
 
 /// Begins a node with pairs, whose sum begins with this number.
+#[inline(always)]
 #[tactic(auto, using(certificate_machine::proofs::MachineLaws::trips))]
 fn start(reading: &mut Reading, state: Open, constant: i64) -> Result<(), AllocError>
     ensures line { OnOk result (sum_line reading.new.sum ≡ line_of_const reading.old.machine.variables constant) }

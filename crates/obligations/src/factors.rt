@@ -65,6 +65,10 @@ impl Factors {
         ensures ok { OnOk result (self.new ≡ self.old ++ factor ∷ []) }
         ensures err { OnErr result (self.new ≡ self.old) }
     {
+        if self.items.len() < self.items.capacity() {
+            self.items.push_reserved(factor);
+            return Ok(());
+        }
         self.items.push(factor)?;
         Ok(())
     }
