@@ -145,7 +145,10 @@ pub fn open_split(
         facts,
         waits,
         added,
-        todo: Todo::Bound { variable: place, most: k },
+        todo: Todo::Bound {
+            variable: place,
+            most: k,
+        },
         first: true,
     })?;
     machine.levels -= 1;

@@ -348,12 +348,7 @@ fn put_part(d: i64, place: u32, z: i128, factors: &mut Factors) -> Result<(), Al
 
 /// The factors divided and rounded down, each with its place from `first` on, where it is not 0.
 #[tactic(auto, using(crate::proofs::SumLaws::part_laws))]
-pub fn parts(
-    alloc: Global,
-    d: i64,
-    first: usize,
-    zs: &[i128],
-) -> Result<Factors, AllocError>
+pub fn parts(alloc: Global, d: i64, first: usize, zs: &[i128]) -> Result<Factors, AllocError>
     requires divisor { pos 1 ≤ℤ d }
     requires count { first + length zs.now < 2 ^ 32 }
     ensures { IfOk result (λ f. f ≡ sparse first (map (λ z. int_div_euclid z d) zs.now)) }
