@@ -17,8 +17,9 @@ use certificate_events::{CertReader, Taken};
 use core_terms::CDocument;
 use event_judge::Judge;
 use std::alloc::AllocError;
-use unity_base::{CertEvent, Held, Source, Window};
-use unity_lexer::{Likely, Scan, likely_token, next_pair};
+use unity_base::{CertEvent, Failed, Held, Source, Window};
+use unity_lexer::{Scan, next_pair, next_token, ready_number, ready_word};
+use unity_syntax::Token;
 
 /// What is answered where nothing behind the front is at fault.
 #[derive(Drop)]
@@ -54,13 +55,70 @@ fn hear(pending: &mut Pending, e: CertEvent) -> Result<(), AllocError>
     }
 }
 
-/// What is likely to stand next.
+/// What came next in a section.
+#[derive(Clone, Copy)]
+enum Step {
+    /// A token that begins there, and what it tells.
+    Taken {
+        /// What it tells.
+        taken: Taken,
+        /// The place of its first byte.
+        at: u64,
+    },
+    /// The end of the input.
+    End,
+    /// Bytes that are read as no token.
+    Fault {
+        /// Why they are not.
+        code: Code,
+        /// The place of the first of them.
+        at: u64,
+    },
+    /// More bytes than the limit.
+    TooLong,
+}
+
+/// Takes a token.
 #[inline(always)]
-fn likely(reader: &CertReader) -> Likely {
+fn taken(reader: &mut CertReader, t: Token) -> Step {
+    Step::Taken {
+        taken: reader.take(t),
+        at: t.start,
+    }
+}
+
+/// Reads the next token and takes it.
+#[inline(always)]
+fn take_any<S: Source>(
+    w: &mut Window,
+    src: &mut S,
+    reader: &mut CertReader,
+) -> Result<Step, Failed> {
+    Ok(match next_token(w, src)? {
+        Scan::Token(t) => taken(reader, t),
+        Scan::End => Step::End,
+        Scan::Fault { code, at } => Step::Fault { code, at },
+        Scan::TooLong => Step::TooLong,
+    })
+}
+
+/// Reads the next token and takes it. What is likely to come is looked for first.
+#[inline(always)]
+fn take_next<S: Source>(
+    w: &mut Window,
+    src: &mut S,
+    reader: &mut CertReader,
+) -> Result<Step, Failed> {
     if reader.awaits_number() {
-        Likely::Number
+        match ready_number(w) {
+            Some(t) => Ok(taken(reader, t)),
+            None => take_any(w, src, reader),
+        }
     } else {
-        Likely::Word
+        match ready_word(w) {
+            Some(t) => Ok(taken(reader, t)),
+            None => take_any(w, src, reader),
+        }
     }
 }
 
@@ -121,22 +179,27 @@ fn read_section<S: Source>(
 {
     let mut reader = CertReader::new(version);
     'tokens: loop {
-        let found = likely_token(w, src, likely(&reader))?;
+        let found = take_next(w, src, &mut reader)?;
         let place = w.at();
         match found {
-            Scan::Token(t) => match reader.take(t) {
-                Taken::Nothing => {}
-                Taken::Event(e) => {
-                    hear(pending, e)?;
-                    read_pairs(w, &mut reader, pending)?;
-                }
-                Taken::Unexpected => {
-                    return Ok(Some(skimmed(w, src, Code::Unexpected, t.start)?));
-                }
-            },
-            Scan::End => return Ok(ended(&reader, place)),
-            Scan::Fault { code, at } => return Ok(Some(drained(w, src, code, at)?)),
-            Scan::TooLong => return Ok(Some(Flaw::TooLong)),
+            Step::Taken {
+                taken: Taken::Nothing,
+                ..
+            } => {}
+            Step::Taken {
+                taken: Taken::Event(e),
+                ..
+            } => {
+                hear(pending, e)?;
+                read_pairs(w, &mut reader, pending)?;
+            }
+            Step::Taken {
+                taken: Taken::Unexpected,
+                at,
+            } => return Ok(Some(skimmed(w, src, Code::Unexpected, at)?)),
+            Step::End => return Ok(ended(&reader, place)),
+            Step::Fault { code, at } => return Ok(Some(drained(w, src, code, at)?)),
+            Step::TooLong => return Ok(Some(Flaw::TooLong)),
         }
     }
 }

@@ -223,7 +223,7 @@ pub(crate) fn ready_token(w: &mut Window) -> Option<Token>
 
 /// Reads a number that is ready, and the blanks before it.
 #[inline(always)]
-pub(crate) fn ready_number(w: &mut Window) -> Option<Token>
+pub fn ready_number(w: &mut Window) -> Option<Token>
     ensures scan { IfSome result (λ t. (left : Option (List ℕ)) → (bytes : List ℕ) → coming w.old left ≡ Some bytes →
         IsScan (window_limit w.old) (window_at w.old) bytes (window_at w.new) (coming w.new left) (scan.Token t)) }
     ensures rises { IfSome result (λ t. window_at w.old < window_at w.new) }
@@ -240,7 +240,7 @@ pub(crate) fn ready_number(w: &mut Window) -> Option<Token>
 
 /// Reads a word with which a node begins, where it is ready, and the blanks before it.
 #[inline(always)]
-pub(crate) fn ready_word(w: &mut Window) -> Option<Token>
+pub fn ready_word(w: &mut Window) -> Option<Token>
     ensures scan { IfSome result (λ t. (left : Option (List ℕ)) → (bytes : List ℕ) → coming w.old left ≡ Some bytes →
         IsScan (window_limit w.old) (window_at w.old) bytes (window_at w.new) (coming w.new left) (scan.Token t)) }
     ensures rises { IfSome result (λ t. window_at w.old < window_at w.new) }
