@@ -221,7 +221,8 @@ pub(crate) fn ready_token(w: &mut Window) -> Option<Token>
     Some(take_ready(w, blanks, kind, size))
 }
 
-/// Reads a number that is ready, and the blanks before it.
+/// Reads a number that is held with two more bytes behind it, and the blanks before it. `None` says nothing of what
+/// comes.
 #[inline(always)]
 pub fn ready_number(w: &mut Window) -> Option<Token>
     ensures scan { IfSome result (λ t. (left : Option (List ℕ)) → (bytes : List ℕ) → coming w.old left ≡ Some bytes →
@@ -238,7 +239,8 @@ pub fn ready_number(w: &mut Window) -> Option<Token>
     Some(take_ready(w, blanks, TokenKind::Number(value), size))
 }
 
-/// Reads a word with which a node begins, where it is ready, and the blanks before it.
+/// Reads a word with which a node of a certificate begins, where it is held with two more bytes behind it, and the
+/// blanks before it. `None` says nothing of what comes.
 #[inline(always)]
 pub fn ready_word(w: &mut Window) -> Option<Token>
     ensures scan { IfSome result (λ t. (left : Option (List ℕ)) → (bytes : List ℕ) → coming w.old left ≡ Some bytes →
@@ -253,28 +255,4 @@ pub fn ready_word(w: &mut Window) -> Option<Token>
         return None;
     };
     Some(take_ready(w, blanks, TokenKind::Reserved(word), size))
-}
-
-/// What is likely to come.
-#[derive(Clone, Copy, Debug, PartialEq, Eq)]
-pub enum Likely {
-    /// A number.
-    Number,
-    /// A word with which a node of a certificate begins.
-    Word,
-}
-
-/// Reads what is likely to come, where it is ready, and the blanks before it.
-#[inline(always)]
-pub(crate) fn ready_likely(w: &mut Window, likely: Likely) -> Option<Token>
-    ensures scan { IfSome result (λ t. (left : Option (List ℕ)) → (bytes : List ℕ) → coming w.old left ≡ Some bytes →
-        IsScan (window_limit w.old) (window_at w.old) bytes (window_at w.new) (coming w.new left) (scan.Token t)) }
-    ensures rises { IfSome result (λ t. window_at w.old < window_at w.new) }
-    ensures passed { (left : Option (List ℕ)) → HasPassed w.old w.new left left }
-    ensures none { result ≡ None → w.new ≡ w.old }
-{
-    match likely {
-        Likely::Number => ready_number(w),
-        Likely::Word => ready_word(w),
-    }
 }

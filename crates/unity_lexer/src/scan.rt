@@ -12,7 +12,7 @@ ghost use Rattle.unity_lexer.specs.Scans.{IsScan, TokenRises};
 
 use crate::ahead::{Next, next_piece};
 use crate::piece::Piece;
-use crate::ready::{Likely, ready_likely, ready_token};
+use crate::ready::ready_token;
 use crate::runs::blank_len;
 use crate::stretches::{Run, skip_run};
 use case_tables::Code;
@@ -145,21 +145,5 @@ pub fn next_token<S: Source>(w: &mut Window, src: &mut S) -> Result<Scan, Failed
     match ready_token(w) {
         Some(token) => Ok(Scan::Token(token)),
         None => passing_token(w, src),
-    }
-}
-
-/// Reads the next token as `next_token` does, and faster where it is what is likely to come.
-#[inline(always)]
-pub fn likely_token<S: Source>(w: &mut Window, src: &mut S, likely: Likely) -> Result<Scan, Failed>
-    ensures scan { IfOk result (λ scan. (bytes : List ℕ) → coming w.old (S.left src.old) ≡ Some bytes →
-        IsScan (window_limit w.old) (window_at w.old) bytes (window_at w.new) (coming w.new (S.left src.new)) scan) }
-    ensures rises { IfOk result (TokenRises (window_at w.old) (window_at w.new)) }
-    ensures end { IfOk result (λ scan. scan ≡ Scan.End → (held w.new ≡ []) × IsAtEnd (S.left src.new)) }
-    ensures passed { HasPassed w.old w.new (S.left src.old) (S.left src.new) }
-    ensures cause { HasCause (S.faults src.old) (S.faults src.new) result }
-{
-    match ready_likely(w, likely) {
-        Some(token) => Ok(Scan::Token(token)),
-        None => next_token(w, src),
     }
 }
