@@ -91,6 +91,13 @@ pub base-base : (f : Frame) (b : Branch) → f.facts ≤ length b.facts → f.wa
 base-base f b p q = base-whole f (base_of f b) (sym (length-take-le f.facts b.facts p))
     (sym (length-take-le f.waits b.waiting q)) refl
 
+added-base : (fact : Fact) (f : Frame) (b : Branch) → f.facts ≤ length b.facts → f.waits ≤ length b.waiting →
+    base_of f (added (base_of f b) fact) ≡ base_of f b
+added-base fact f b p q =
+    base-joined f (base_of f b) (record { facts = fact ∷ []; waiting = []; added = 0 })
+    (omega (arith, length-take-le f.facts b.facts p)) (omega (arith, length-take-le f.waits b.waiting q))
+    ∙ base-base f b p q
+
 second-base : (vs : List Variable) (t : Todo) (f : Frame) (b : Branch) → f.facts ≤ length b.facts →
     f.waits ≤ length b.waiting →
     base_of f (second_by vs t (base_of f b)) ≡ base_of f b
@@ -98,37 +105,50 @@ second-base vs (Todo.Form place form) f b p q =
     base-joined f (base_of f b) (outcome (scope_of vs (base_of f b)) (sides form).1).yes
     (omega (arith, length-take-le f.facts b.facts p))
     (omega (arith, length-take-le f.waits b.waiting q)) ∙ base-base f b p q
-second-base vs (Todo.Fact fact) f b p q =
-    base-joined f (base_of f b) (record { facts = fact ∷ []; waiting = []; added = 0 })
-    (omega (arith, length-take-le f.facts b.facts p)) (omega (arith, length-take-le f.waits b.waiting q))
-    ∙ base-base f b p q
+second-base vs (Todo.Bound variable most) f b p q = added-base (at_least variable (most +ℤ pos 1)) f b p q
+second-base vs (Todo.Fact fact) f b p q = added-base fact f b p q
+second-base vs Todo.Nothing f b p q = base-base f b p q
+
+added-long : (fact : Fact) (b : Branch) → (length b.facts ≤ length (added b fact).facts) ×
+    (length b.waiting ≤ length (added b fact).waiting)
+added-long fact b =
+    let l = length-append b.facts (fact ∷ []) in let k =
+    length-append b.waiting [] in (omega (arith, l), omega (arith, k))
 
 second-long : (vs : List Variable) (t : Todo) (b : Branch) → (length b.facts ≤ length (second_by vs t b).facts) ×
     (length b.waiting ≤ length (second_by vs t b).waiting)
 second-long vs (Todo.Form place form) b =
     let l = length-append b.facts (outcome (scope_of vs b) (sides form).1).yes.facts in let k =
     length-append b.waiting (outcome (scope_of vs b) (sides form).1).yes.waiting in (omega (arith, l), omega (arith, k))
-second-long vs (Todo.Fact fact) b =
-    let l = length-append b.facts (fact ∷ []) in let k =
-    length-append b.waiting [] in (omega (arith, l), omega (arith, k))
+second-long vs (Todo.Bound variable most) b = added-long (at_least variable (most +ℤ pos 1)) b
+second-long vs (Todo.Fact fact) b = added-long fact b
+second-long vs Todo.Nothing b = (omega arith, omega arith)
 
 -- the second branch has as many added variables
 second-added : (vs : List Variable) (t : Todo) (b : Branch) → b.added ≤ (second_by vs t b).added
 second-added vs (Todo.Form place form) b = omega arith
+second-added vs (Todo.Bound variable most) b = omega arith
 second-added vs (Todo.Fact fact) b = omega arith
+second-added vs Todo.Nothing b = omega arith
 
 -- what is left of it puts back the same
 spent-full : (t : Todo) (b : Branch) → full_by (spent t) b ≡ full_by t b
 spent-full (Todo.Form place form) b = refl
+spent-full (Todo.Bound variable most) b = refl
 spent-full (Todo.Fact fact) b = refl
+spent-full Todo.Nothing b = refl
 
 spent-fits : (t : Todo) (n : ℕ) → place_fits t n → place_fits (spent t) n
 spent-fits (Todo.Form place form) n h = h
+spent-fits (Todo.Bound variable most) n h = tt
 spent-fits (Todo.Fact fact) n h = tt
+spent-fits Todo.Nothing n h = tt
 
 pub spent-light : (t left : Todo) → left ≡ spent t → is_light_todo t ≡ true → is_light_todo left ≡ true
 spent-light (Todo.Form place form) left e h = ap is_light_todo e ∙ h
+spent-light (Todo.Bound variable most) left e h = ap is_light_todo e
 spent-light (Todo.Fact fact) left e h = ap is_light_todo e
+spent-light Todo.Nothing left e h = ap is_light_todo e
 
 -- the other side of a formula is the second branch's
 pub second-form : (own vs : List Variable) (todo : Todo) (place : ℕ) (form shown : CForm) (old new : Branch) →
@@ -356,49 +376,49 @@ quot-stops us levels ps b k place v form ek taken ev er =
     ∙ ap (λ n. step_by levels ps (made_quot us b place (without_quotient n form))) (sym ev)
     ∙ ap (λ m. step_by levels ps (made_quot us b place m)) er
 
-abbrev pub fact_frame : ℕ → ℕ → ℕ → ℕ → Fact → Frame
-fact_frame levels facts waits added fact = record {
+abbrev pub todo_frame : ℕ → ℕ → ℕ → ℕ → Todo → Frame
+todo_frame levels facts waits added todo = record {
   levels = levels;
   facts = facts;
   waits = waits;
   added = added;
-  todo = Todo.Fact fact;
+  todo = todo;
   first = true;
 }
 
--- a node that goes on with one fact, and then with another
+-- a node that goes on with a fact, and then with what its frame keeps
 pub fact-goes : (vs : List Variable) (levels : ℕ) (b now : Branch) (facts waits more_added : ℕ)
     (frames more : List Frame)
-    (g h : Fact) (effect : NodeEffect) (done : Bool) → 0 < levels → FramesFit (reverse frames) b →
+    (g : Fact) (t : Todo) (effect : NodeEffect) (done : Bool) → 0 < levels → FramesFit (reverse frames) b →
     facts ≡ length b.facts → waits ≡ length b.waiting → more_added ≡ b.added → more_added + levels ≤ 4096 →
-    more ≡ frames ++ fact_frame levels facts waits more_added h ∷ [] →
-    now ≡ added b g → effect ≡ opens (added b g ∷ added b h ∷ []) → done ≡ false →
+    more ≡ frames ++ todo_frame levels facts waits more_added t ∷ [] → full_by t b ≡ b → place_fits t waits →
+    now ≡ added b g → effect ≡ opens (added b g ∷ second_by vs t b ∷ []) → done ≡ false →
     (step_by levels (behind vs (reverse frames) b) effect ≡ Ok
     (cond done [] (allowing (levels - 1) now ∷ behind vs (reverse more) now))) × FramesFit (reverse more) now
-fact-goes vs levels b now facts waits more_added frames more g h effect done low fits ef ew ea er em en ee ed =
-    let f : Frame = fact_frame levels facts waits more_added h in
+fact-goes vs levels b now facts waits more_added frames more g t effect done low fits ef ew ea er em full place en ee
+    ed =
+    let f : Frame = todo_frame levels facts waits more_added t in
     let turn : reverse more ≡ f ∷ reverse frames = ap reverse em ∙ reversed frames f in
     let x : Branch = record { facts = g ∷ []; waiting = []; added = 0 } in
-    let o = over vs f (reverse frames) b b x ef ew ea refl refl in (
+    let o = over vs f (reverse frames) b b x ef ew ea full refl in (
       ap (step_by levels (behind vs (reverse frames) b)) ee
           ∙ ap (λ z. Ok (allowing (levels - 1) (added b g) ∷ z)) (sym o)
           ∙ ap (λ z. Ok (allowing (levels - 1) (added b g) ∷ behind vs z (added b g))) (sym turn)
           ∙ ap (λ z. Ok (allowing (levels - 1) z ∷ behind vs (reverse more) z)) (sym en)
           ∙ ap (λ d. Ok (cond d [] (allowing (levels - 1) now ∷ behind vs (reverse more) now))) (sym ed),
       subst (FramesFit (reverse more)) (sym en) (subst (λ z. FramesFit z (added b g)) (sym turn)
-          (over-fits f (reverse frames) b b x low ef ew ea er refl tt fits)),
+          (over-fits f (reverse frames) b b x low ef ew ea er full place fits)),
     )
 
 -- the two branches of a variable that is there
-pub split-opens : (vs : List Variable) (b : Branch) (v place : ℕ) (k low high : ℤ) (g h : Fact) → v ≡ suc place →
-    place < length vs → low ≡ k → high ≡ k +ℤ pos 1 → g ≡ at_most place low → h ≡ at_least place high →
-    split_at vs b v k ≡ opens (added b g ∷ added b h ∷ [])
-split-opens vs b v place k low high g h ev inside el eu eg eh =
+pub split-opens : (vs : List Variable) (b : Branch) (v place : ℕ) (k low : ℤ) (g : Fact) → v ≡ suc place →
+    place < length vs → low ≡ k → g ≡ at_most place low →
+    split_at vs b v k ≡ opens (added b g ∷ added b (at_least place (k +ℤ pos 1)) ∷ [])
+split-opens vs b v place k low g ev inside el eg =
     ap (λ w. split_at vs b w k) ev
     ∙ ap (λ t. cond t (opens (added b (at_most place k) ∷ added b (at_least place (k +ℤ pos 1)) ∷ []))
     (fails Code.NoSuchVariable)) (below place (length vs) inside)
     ∙ ap (λ x. opens (added b x ∷ added b (at_least place (k +ℤ pos 1)) ∷ [])) (sym (eg ∙ ap (at_most place) el))
-    ∙ ap (λ x. opens (added b g ∷ added b x ∷ [])) (sym (eh ∙ ap (at_least place) eu))
   where
     below : (a b : ℕ) → a < b → nat_lt a b ≡ true
     below a b h = grind arith

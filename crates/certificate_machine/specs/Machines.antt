@@ -1,11 +1,12 @@
 -- The branches that a checker in the middle of a certificate has still to refute.
 use Rattle.std.specs.Prelude.{◌≡◌, ℕ, ◌+◌, ◌-◌, ◌<◌, ◌≤◌, ◌^◌, Bool, true, false, cond, Result, Ok, Err, List, [], ◌∷◌}
-use Rattle.std.specs.Prelude.{◌++◌, length, take, insert, reverse, pos}
+use Rattle.std.specs.Prelude.{◌++◌, length, take, insert, reverse, pos, ◌+ℤ◌}
 use Rattle.std.specs.List.{list_all}
 use Rattle.case_tables.specs.declared.code_table.Code.{Code}
 use Rattle.obligations.specs.declared.branches.Branch.{Branch}
 use Rattle.obligations.specs.declared.branches.Variable.{Variable}
 use Rattle.obligations.specs.Load.{is_light, is_light_branch}
+use Rattle.obligations.specs.Opening.{at_least}
 use Rattle.obligations.specs.Scopes.{scope_of}
 use Rattle.obligations.specs.Settling.{settled, sides, added}
 use Rattle.certificate_machine.specs.declared.frames.Todo.{Todo}
@@ -20,7 +21,9 @@ base_of f b = record { facts = take f.facts b.facts; waiting = take f.waits b.wa
 
 abbrev pub full_by : Todo → Branch → Branch
 full_by (Todo.Form place form) b = record { facts = b.facts; waiting = insert b.waiting place form; added = b.added }
+full_by (Todo.Bound variable most) b = b
 full_by (Todo.Fact fact) b = b
+full_by Todo.Nothing b = b
 
 -- the branch that a frame was made at
 abbrev pub full_of : Frame → Branch → Branch
@@ -28,7 +31,9 @@ full_of f b = full_by f.todo (base_of f b)
 
 abbrev pub second_by : List Variable → Todo → Branch → Branch
 second_by vs (Todo.Form place form) b = settled (scope_of vs b) (sides form).1 b
+second_by vs (Todo.Bound variable most) b = added b (at_least variable (most +ℤ pos 1))
 second_by vs (Todo.Fact fact) b = added b fact
+second_by vs Todo.Nothing b = b
 
 -- the branch of a frame's second subtree
 abbrev pub second_of : List Variable → Frame → Branch → Branch
@@ -44,7 +49,9 @@ behind vs (f ∷ fs) b = waiting_first f.first (allowing (f.levels - 1) (second_
 
 abbrev pub place_fits : Todo → ℕ → Type 0
 place_fits (Todo.Form place form) n = place ≤ n
+place_fits (Todo.Bound variable most) n = Unit {0}
 place_fits (Todo.Fact fact) n = Unit {0}
+place_fits Todo.Nothing n = Unit {0}
 
 -- the lengths in a frame fit a branch
 pub record FrameFits (f : Frame) (b : Branch) : Type 0 where
@@ -78,7 +85,9 @@ step_by levels ps (opens bs) = Ok (pending (levels - 1) bs ++ ps)
 -- what a frame keeps of what it had to do, once its second subtree has begun: a fact is then the branch's
 abbrev pub spent : Todo → Todo
 spent (Todo.Form place form) = Todo.Form place form
-spent (Todo.Fact fact) = Todo.Fact (record { factors = []; constant = pos 0 })
+spent (Todo.Bound variable most) = Todo.Nothing
+spent (Todo.Fact fact) = Todo.Nothing
+spent Todo.Nothing = Todo.Nothing
 
 -- a frame in its second subtree
 abbrev pub turned : Frame → Frame
@@ -87,7 +96,9 @@ turned f = record f { todo = spent f.todo; first = false }
 -- settling a formula that was taken out meets no load past 2^63
 abbrev pub is_light_todo : Todo → Bool
 is_light_todo (Todo.Form place form) = is_light (2 ^ 63) form
+is_light_todo (Todo.Bound variable most) = true
 is_light_todo (Todo.Fact fact) = true
+is_light_todo Todo.Nothing = true
 
 abbrev pub are_light : List Frame → Bool
 are_light fs = list_all (λ f. is_light_todo f.todo) fs

@@ -85,7 +85,7 @@ fn put_back(todo: Todo, branch: &mut Branch) -> Result<(), AllocError>
 {
     match todo {
         Todo::Form { place, form } => branch.waiting.insert(place, form),
-        _ => Ok(()),
+        Todo::Bound { .. } | Todo::Fact(_) | Todo::Nothing => Ok(()),
     }
 }
 

@@ -20,5 +20,5 @@ returns-clause-ok c =
     c.in_ok-fact_from.ensures c.in_ok-fact_from-2.ensures in
     fact-goes c.args.vs.now c.args.machine.now.levels b c.add.new.branch c.len-facts.result c.len-waits.result
     b.added c.args.machine.now.frames c.push.new.self _ _ _ c.args.machine.now.done c.requires.levels c.requires.fits
-    (grind arith) (grind arith) refl c.requires.scoped.room c.in_ok-push.ensures.ok c.in_ok-add.ensures opened
+    (grind arith) (grind arith) refl c.requires.scoped.room c.in_ok-push.ensures.ok refl tt c.in_ok-add.ensures opened
     c.requires.going

@@ -14,10 +14,9 @@ pub returns-clause-ok : goal.returns-clause-ok
 returns-clause-ok c =
     let vs = c.args.vs.now in
     let b = c.args.machine.now.branch in
-    let opened = split-opens c.args.machine.now.variables b c.args.variable _ c.args.k _ _ _ _ (grind arith)
-    (grind arith)
-    (grind (arith, to_z-of_z)) (grind (arith, to_z-of_z)) c.in_ok-bound_above.ensures c.in_ok-bound_below.ensures in
+    let opened = split-opens c.args.machine.now.variables b c.args.variable _ c.args.k _ _ (grind arith)
+    (grind arith) (grind (arith, to_z-of_z)) c.bound_above.ensures in
     fact-goes vs c.args.machine.now.levels b c.add.new.branch c.len-facts.result c.len-waits.result
     b.added c.args.machine.now.frames c.push.new.self _ _ _ c.args.machine.now.done c.requires.levels c.requires.fits
-    (grind arith) (grind arith) refl c.requires.scoped.room c.in_ok-push.ensures.ok c.in_ok-add.ensures opened
+    (grind arith) (grind arith) refl c.requires.scoped.room c.in_ok-push.ensures.ok refl tt c.in_ok-add.ensures opened
     c.requires.going
