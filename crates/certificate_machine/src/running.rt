@@ -169,6 +169,7 @@ impl Running {
     }
 
     /// Adds the multiple of a fact that a pair names, or answers the code with which the pair fails.
+    #[inline(always)]
     pub fn add_pair(&mut self, facts: &[Fact], pair: (i64, u64)) -> Result<(), Code>
         ensures { MatchResult result
             (λ _. add_pair pair.0 (numbered facts.now pair.1) (sum_line self.old) ≡ Ok (sum_line self.new))

@@ -56,8 +56,7 @@ fn add_pair(state: Open, facts: &[Fact], pair: (i64, u64), sum: &mut Running) ->
         (λ code. pair_makes state facts.now pair (sum_line sum.old) ≡ Err code) }
 {
     match state {
-        Open::Sum => sum.add_pair(facts, pair),
-        Open::Round(_) => sum.add_pair(facts, pair),
+        Open::Sum | Open::Round(_) => sum.add_pair(facts, pair),
         Open::Share => sum.add_variable(pair),
         _ => Ok(()),
     }
