@@ -411,14 +411,15 @@ fact-goes vs levels b now facts waits more_added frames more g t effect done low
     )
 
 -- the two branches of a variable that is there
-pub split-opens : (vs : List Variable) (b : Branch) (v place : ℕ) (k low : ℤ) (g : Fact) → v ≡ suc place →
-    place < length vs → low ≡ k → g ≡ at_most place low →
-    split_at vs b v k ≡ opens (added b g ∷ added b (at_least place (k +ℤ pos 1)) ∷ [])
-split-opens vs b v place k low g ev inside el eg =
+pub split-opens : (vs : List Variable) (b : Branch) (v place : ℕ) (k low most : ℤ) (g : Fact) → v ≡ suc place →
+    place < length vs → low ≡ k → most ≡ k → g ≡ at_most place low →
+    split_at vs b v k ≡ opens (added b g ∷ added b (at_least place (most +ℤ pos 1)) ∷ [])
+split-opens vs b v place k low most g ev inside el em eg =
     ap (λ w. split_at vs b w k) ev
     ∙ ap (λ t. cond t (opens (added b (at_most place k) ∷ added b (at_least place (k +ℤ pos 1)) ∷ []))
     (fails Code.NoSuchVariable)) (below place (length vs) inside)
     ∙ ap (λ x. opens (added b x ∷ added b (at_least place (k +ℤ pos 1)) ∷ [])) (sym (eg ∙ ap (at_most place) el))
+    ∙ ap (λ x. opens (added b g ∷ added b (at_least place (x +ℤ pos 1)) ∷ [])) (sym em)
   where
     below : (a b : ℕ) → a < b → nat_lt a b ≡ true
     below a b h = grind arith

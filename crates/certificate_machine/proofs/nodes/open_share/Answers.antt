@@ -1,4 +1,4 @@
-use Rattle.std.proofs.Common.{arith, refl}
+use Rattle.std.proofs.Common.{arith, refl, ◌∙◌}
 use Rattle.certificate_machine.proofs.MachineLaws.{fact-goes, share-opens}
 use Rattle.certificate_machine.proofs.ScopedLaws.{line-count, below-count}
 use Rattle.certificate_machine.proofs.nodes.open_share.Goals as goal
@@ -17,7 +17,7 @@ pub returns-clause-ok : goal.returns-clause-ok
 returns-clause-ok c =
     let b = c.args.machine.now.branch in
     let opened = share-opens b _ c.args.line.now _ _ _ refl c.in_ok-below_0.ensures
-    c.in_ok-fact_from.ensures c.in_ok-fact_from-2.ensures in
+    c.in_ok-fact_from.ensures (c.in_ok-new.ensures ∙ c.in_ok-fact_from-2.ensures) in
     fact-goes c.args.vs.now c.args.machine.now.levels b c.add.new.branch c.len-facts.result c.len-waits.result
     b.added c.args.machine.now.frames c.push.new.self _ _ _ c.args.machine.now.done c.requires.levels c.requires.fits
     (grind arith) (grind arith) refl c.requires.scoped.room c.in_ok-push.ensures.ok refl tt c.in_ok-add.ensures opened

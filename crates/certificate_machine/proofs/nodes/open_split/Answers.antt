@@ -1,4 +1,4 @@
-use Rattle.std.proofs.Common.{refl, arith}
+use Rattle.std.proofs.Common.{◌≡◌, to_z, of_z, w64, refl, arith}
 use Rattle.std.proofs.lemmas.Int.{to_z-of_z}
 use Rattle.certificate_machine.proofs.MachineLaws.{fact-goes, split-opens}
 use Rattle.certificate_machine.proofs.ScopedLaws.{machine-variables}
@@ -14,8 +14,9 @@ pub returns-clause-ok : goal.returns-clause-ok
 returns-clause-ok c =
     let vs = c.args.vs.now in
     let b = c.args.machine.now.branch in
-    let opened = split-opens c.args.machine.now.variables b c.args.variable _ c.args.k _ _ (grind arith)
-    (grind arith) (grind (arith, to_z-of_z)) c.bound_above.ensures in
+    let same : to_z w64 (of_z w64 c.args.k) ≡ c.args.k = grind (arith, to_z-of_z) in
+    let opened = split-opens c.args.machine.now.variables b c.args.variable _ c.args.k _ _ _ (grind arith)
+    (grind arith) (grind (arith, to_z-of_z)) same c.bound_above.ensures in
     fact-goes vs c.args.machine.now.levels b c.add.new.branch c.len-facts.result c.len-waits.result
     b.added c.args.machine.now.frames c.push.new.self _ _ _ c.args.machine.now.done c.requires.levels c.requires.fits
     (grind arith) (grind arith) refl c.requires.scoped.room c.in_ok-push.ensures.ok refl tt c.in_ok-add.ensures opened
