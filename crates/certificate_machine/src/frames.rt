@@ -18,16 +18,17 @@ use obligations::{Branch, Fact, Variable};
 use std::alloc::{AllocError, Global};
 use unity_base::{Held, Seq, Shared};
 
-/// How a branch goes on after its first subtree.
+/// What a frame keeps: how its branch goes on in a second subtree, and what is put back into it at the end.
 #[derive(Drop)]
 pub enum Todo {
-    /// With the other side of the waiting formula that was taken from this place.
+    /// The waiting formula that was taken from this place. Its other side is settled for the second subtree, and at
+    /// the end it is put back.
     Form { place: usize, form: Shared<CForm> },
-    /// With a variable above a number.
+    /// The second side of a `split`: that this variable is above `most` is added. The fact is made only then.
     Bound { variable: u32, most: i64 },
-    /// With a fact.
+    /// The statement of a `share`, which is added.
     Fact(Held<Fact>),
-    /// With nothing.
+    /// Nothing is added or put back: the second subtree of a `split` or a `share` has begun.
     Nothing,
 }
 
@@ -74,7 +75,7 @@ fn cut_variables(vs: &[Variable], added: u32, variables: &mut Seq<Variable>)
     variables.truncate(vs.len() + added as usize);
 }
 
-/// Puts a formula back that was taken out.
+/// Puts back the formula that a frame has taken out, where it has.
 #[tactic(auto, using(crate::proofs::MachineLaws::insert_laws))]
 fn put_back(todo: Todo, branch: &mut Branch) -> Result<(), AllocError>
     requires place { place_fits todo (length branch.old.waiting) }
@@ -89,8 +90,8 @@ fn put_back(todo: Todo, branch: &mut Branch) -> Result<(), AllocError>
     }
 }
 
-/// Makes the branch of a frame's second subtree from the branch cut back, over its variables. A fact is handed on to
-/// it.
+/// Makes the branch of a frame's second subtree from the branch cut back, over its variables, and answers what the
+/// frame keeps from then on.
 #[tactic(auto, using(crate::proofs::MachineLaws::added_laws))]
 fn go_second(
     alloc: Global,
