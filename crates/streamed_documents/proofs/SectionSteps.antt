@@ -10,10 +10,9 @@ use Rattle.unity_base.specs.Window.{held, coming}
 use Rattle.unity_syntax.specs.declared.token.Token.{Token}
 use Rattle.unity_syntax.specs.declared.token.TokenKind.{TokenKind}
 use Rattle.unity_syntax.specs.Classes.{terminal}
-use Rattle.unity_syntax.specs.declared.certificate.Certificates.{Certificates}
 use Rattle.unity_lexer.specs.declared.scan.Scan.TheVariants as scan
 use Rattle.unity_lexer.specs.Tokens.{Tokenizes, IsFaulty}
-use Rattle.unity_lexer.specs.Scans.{ReadsTo}
+use Rattle.unity_lexer.specs.Scans.{ReadsTo, TokenRises}
 use Rattle.unity_lexer.proofs.ScanSteps.{reads_then}
 use Rattle.unity_lexer.proofs.SomeAnswer.{reads_place}
 use Rattle.certificate_events.specs.declared.reader.Taken.{Taken}
@@ -28,6 +27,8 @@ use Rattle.streamed_documents.specs.declared.found.Flaw.{Flaw}
 use Rattle.streamed_documents.specs.Hearing.{Hears, MayHear}
 use Rattle.streamed_documents.specs.Rests.{IsBehind, IsEnding, IsKept, IsSkimmed, IsAllRead}
 use Rattle.streamed_documents.specs.Rests as rests
+use Rattle.streamed_documents.specs.declared.behind.Step.{Step}
+use Rattle.streamed_documents.specs.Steps.{scan_of, TakesToken, TakesStep}
 use Rattle.streamed_documents.proofs.Hearings.{hears_none, hears_then}
 use Rattle.streamed_documents.proofs.Passing.{told_passes}
 use Rattle.streamed_documents.proofs.Skimming.{Scanning, reads_join, start_reads, whole, faulty}
@@ -101,23 +102,43 @@ going_start later w a reader p stands may bytes e = record {
 
 pub going_then : (later : Bool) (u w x : Window) (a c d : Option (List ℕ)) (old reader : CertReader)
     (p q r : Pending) (t : Token) (taken : Taken) → GoesOn later u a w c old p q → Scanning w c x d (scan.Token t)
-    → ((later : Bool) (ts : List Token) → Stands later old ts → Stands later reader (ts ++ t ∷ []))
-    → ((later : Bool) (ts : List Token) → Stands later old ts → Takes later ts t taken)
-    → ((later : Bool) (ts : List Token) → Stands later old ts →
-    told later (ts ++ t ∷ []) ≡ told later ts ++ taken ∷ [])
-    → IsGood taken → Hears q r (events (taken ∷ [])) → GoesOn later u a x d reader p r
-going_then later u w x a c d old reader p q r t taken g s stands takes tells good hears bytes e =
+    → TakesToken old reader t taken → IsGood taken → Hears q r (events (taken ∷ []))
+    → GoesOn later u a x d reader p r
+going_then later u w x a c d old reader p q r t taken g s took good hears bytes e =
     let now = g bytes e in
     let ts = now.tokens in
     record {
       tokens = ts ++ t ∷ [];
       reads = reads_join u.at bytes ts (t ∷ []) w.at x.at (coming w c) (coming x d) now.reads
           (s now.reads.rest now.reads.told).0;
-      stands = stands later ts now.stands;
-      opens = open_then later ts t taken good (takes later ts now.stands);
-      heard = subst (λ es. Hears p r es) (sym (told_then later ts t taken (tells later ts now.stands)))
+      stands = took.stands later ts now.stands;
+      opens = open_then later ts t taken good (took.takes later ts now.stands);
+      heard = subst (λ es. Hears p r es) (sym (told_then later ts t taken (took.told_is later ts now.stands)))
           (hears_then p q r (events (told later ts)) (events (taken ∷ [])) now.heard hears);
     }
+
+-- ---- what came next
+
+-- as it was found to be
+pub step_is : (w x : Window) (c d : Option (List ℕ)) (found other : Step) → found ≡ other
+    → Scanning w c x d (scan_of found) → Scanning w c x d (scan_of other)
+step_is w x c d found other e s = subst (λ step. Scanning w c x d (scan_of step)) e s
+
+pub step_takes : (old new : CertReader) (found other : Step) → found ≡ other → TakesStep old new found
+    → TakesStep old new other
+step_takes old new found other e h = subst (TakesStep old new) e h
+
+-- a token rises
+pub step_rises : (at now : ℕ) (found : Step) (t : Token) (taken : Taken) → found ≡ Step.Taken t taken
+    → TokenRises at now (scan_of found) → at < now
+step_rises at now found t taken e rises = subst (λ step. TokenRises at now (scan_of step)) e rises
+
+-- where no token was taken, the text ends behind those that were
+pub ending_after : (old new : CertReader) (at : ℕ) (flaw : Option Flaw) → new ≡ old
+    → ((later : Bool) (ts : List Token) → Stands later new ts → IsEnding later ts at flaw)
+    → (later : Bool) (ts : List Token) → Stands later old ts → IsEnding later ts at flaw
+ending_after old new at flaw same ends =
+    subst (λ r. (later : Bool) (ts : List Token) → Stands later r ts → IsEnding later ts at flaw) same ends
 
 -- ---- the end of the tokens
 

@@ -4,4 +4,5 @@ pub mod Hearing
 pub mod Pairs
 pub mod Rests
 pub mod Slices
+pub mod Steps
 pub mod WellFormed

@@ -1,14 +1,17 @@
 //! The section of certificates behind a front, read token by token.
-ghost use Rattle.std.specs.Prelude.{◌≡◌, ◌⊎◌, ◌==◌, ◌≤◌, ℕ, Bool, List, [], ◌∷◌, Option, Some, None};
+ghost use Rattle.std.specs.Prelude.{◌≡◌, ◌⊎◌, ◌==◌, ◌≤◌, ◌<◌, ℕ, Bool, List, [], ◌∷◌, Option, Some, None};
 ghost use Rattle.std.specs.Prelude.{IfOk, OnOk, IsErrOf};
 ghost use Rattle.std.specs.Io.KnownBytes.{IsAtEnd};
-ghost use Rattle.unity_base.specs.Streams.{IsTold};
+ghost use Rattle.unity_base.specs.Streams.{HasCause, IsTold};
 ghost use Rattle.unity_syntax.specs.declared.token.Token.{Token};
+ghost use Rattle.unity_lexer.specs.declared.scan.Scan.TheVariants as scan;
+ghost use Rattle.unity_lexer.specs.Scans.{IsScan, TokenRises};
 ghost use Rattle.certificate_events.specs.Sections.{Stands, reader_count};
 ghost use Rattle.unity_base.specs.Window.{held, coming, window_at, window_limit, HasPassed};
 ghost use Rattle.streamed_documents.specs.Hearing.{Hears, MayHear, StaysReady};
 ghost use Rattle.streamed_documents.specs.Pairs.{HearsMore};
 ghost use Rattle.streamed_documents.specs.Rests.{IsBehind, IsAllRead, IsEnding};
+ghost use Rattle.streamed_documents.specs.Steps.{scan_of, TakesStep};
 
 use crate::found::{Flaw, ReadDocument, SourceStop};
 use crate::rests::{drained, skimmed};
@@ -58,12 +61,12 @@ fn hear(pending: &mut Pending, e: CertEvent) -> Result<(), AllocError>
 /// What came next in a section.
 #[derive(Clone, Copy)]
 enum Step {
-    /// A token that begins there, and what it tells.
+    /// A token, which was taken.
     Taken {
+        /// The token.
+        token: Token,
         /// What it tells.
         taken: Taken,
-        /// The place of its first byte.
-        at: u64,
     },
     /// The end of the input.
     End,
@@ -78,45 +81,65 @@ enum Step {
     TooLong,
 }
 
-/// Takes a token.
+/// Takes a token that was read from this window.
 #[inline(always)]
-fn taken(reader: &mut CertReader, t: Token) -> Step {
-    Step::Taken {
-        taken: reader.take(t),
-        at: t.start,
-    }
+fn taken(w: &Window, reader: &mut CertReader, token: Token) -> Step
+    requires { reader_count reader.old < window_at w.now }
+    ensures read { scan_of result ≡ scan.Token token }
+    ensures takes { TakesStep reader.old reader.new result }
+{
+    // Fewer tokens were taken than this, as each has a byte.
+    let _end = w.at();
+    let taken = reader.take(token);
+    Step::Taken { token, taken }
 }
 
 /// Reads the next token and takes it.
 #[inline(always)]
-fn take_any<S: Source>(
-    w: &mut Window,
-    src: &mut S,
-    reader: &mut CertReader,
-) -> Result<Step, Failed> {
+fn take_any<S: Source>(w: &mut Window, src: &mut S, reader: &mut CertReader) -> Result<Step, Failed>
+    requires { reader_count reader.old ≤ window_at w.old }
+    ensures scan { IfOk result (λ step. (bytes : List ℕ) → coming w.old (S.left src.old) ≡ Some bytes →
+        IsScan (window_limit w.old) (window_at w.old) bytes (window_at w.new) (coming w.new (S.left src.new))
+        (scan_of step)) }
+    ensures takes { IfOk result (TakesStep reader.old reader.new) }
+    ensures rises { IfOk result (λ step. TokenRises (window_at w.old) (window_at w.new) (scan_of step)) }
+    ensures end { IfOk result (λ step. step ≡ Step.End → (held w.new ≡ []) × IsAtEnd (S.left src.new)) }
+    ensures passed { HasPassed w.old w.new (S.left src.old) (S.left src.new) }
+    ensures cause { HasCause (S.faults src.old) (S.faults src.new) result }
+{
     Ok(match next_token(w, src)? {
-        Scan::Token(t) => taken(reader, t),
+        Scan::Token(token) => taken(w, reader, token),
         Scan::End => Step::End,
         Scan::Fault { code, at } => Step::Fault { code, at },
         Scan::TooLong => Step::TooLong,
     })
 }
 
-/// Reads the next token and takes it. What is likely to come is looked for first.
+/// Reads the next token and takes it. What is likely to come is looked for first, and taken where its kind is known.
 #[inline(always)]
 fn take_next<S: Source>(
     w: &mut Window,
     src: &mut S,
     reader: &mut CertReader,
-) -> Result<Step, Failed> {
+) -> Result<Step, Failed>
+    requires { reader_count reader.old ≤ window_at w.old }
+    ensures scan { IfOk result (λ step. (bytes : List ℕ) → coming w.old (S.left src.old) ≡ Some bytes →
+        IsScan (window_limit w.old) (window_at w.old) bytes (window_at w.new) (coming w.new (S.left src.new))
+        (scan_of step)) }
+    ensures takes { IfOk result (TakesStep reader.old reader.new) }
+    ensures rises { IfOk result (λ step. TokenRises (window_at w.old) (window_at w.new) (scan_of step)) }
+    ensures end { IfOk result (λ step. step ≡ Step.End → (held w.new ≡ []) × IsAtEnd (S.left src.new)) }
+    ensures passed { HasPassed w.old w.new (S.left src.old) (S.left src.new) }
+    ensures cause { HasCause (S.faults src.old) (S.faults src.new) result }
+{
     if reader.awaits_number() {
         match ready_number(w) {
-            Some(t) => Ok(taken(reader, t)),
+            Some(token) => Ok(taken(w, reader, token)),
             None => take_any(w, src, reader),
         }
     } else {
         match ready_word(w) {
-            Some(t) => Ok(taken(reader, t)),
+            Some(token) => Ok(taken(w, reader, token)),
             None => take_any(w, src, reader),
         }
     }
@@ -179,25 +202,18 @@ fn read_section<S: Source>(
 {
     let mut reader = CertReader::new(version);
     'tokens: loop {
-        let found = take_next(w, src, &mut reader)?;
-        let place = w.at();
-        match found {
-            Step::Taken {
-                taken: Taken::Nothing,
-                ..
-            } => {}
-            Step::Taken {
-                taken: Taken::Event(e),
-                ..
-            } => {
-                hear(pending, e)?;
-                read_pairs(w, &mut reader, pending)?;
-            }
-            Step::Taken {
-                taken: Taken::Unexpected,
-                at,
-            } => return Ok(Some(skimmed(w, src, Code::Unexpected, at)?)),
-            Step::End => return Ok(ended(&reader, place)),
+        match take_next(w, src, &mut reader)? {
+            Step::Taken { token, taken } => match taken {
+                Taken::Nothing => {}
+                Taken::Event(e) => {
+                    hear(pending, e)?;
+                    read_pairs(w, &mut reader, pending)?;
+                }
+                Taken::Unexpected => {
+                    return Ok(Some(skimmed(w, src, Code::Unexpected, token.start)?));
+                }
+            },
+            Step::End => return Ok(ended(&reader, w.at())),
             Step::Fault { code, at } => return Ok(Some(drained(w, src, code, at)?)),
             Step::TooLong => return Ok(Some(Flaw::TooLong)),
         }
