@@ -9,3 +9,4 @@ pub mod BracketReading
 pub mod ExpressionTrees
 pub mod OperandForms
 pub mod JoinedReading
+pub mod Sections
