@@ -10,9 +10,6 @@ use crate::settling::refuse_onto;
 use std::alloc::{AllocError, Global};
 use unity_base::Seq;
 
-/// So many facts have room when a branch begins: those of most certificates take no more memory.
-const FIRST_FACTS: usize = 64;
-
 /// That a variable is at least the low end of its range.
 fn fact_low(alloc: Global, place: u32, lo: &i64) -> Result<Fact, AllocError>
     ensures { IfOk result (λ f. f ≡ at_least place lo.now) }
@@ -54,7 +51,7 @@ fn ranges_of(alloc: Global, vs: &[Variable]) -> Result<Seq<Fact>, AllocError>
     requires { length vs.now < 2 ^ 32 }
     ensures { IfOk result (λ facts. facts ≡ range_facts 0 vs.now) }
 {
-    let mut facts = Seq::with_capacity(alloc, FIRST_FACTS)?;
+    let mut facts = Seq::new(alloc);
     for (place, v) in vs.iter().enumerate() {
         add_range(alloc, place as u32, v, &mut facts)?;
     }

@@ -9,4 +9,3 @@ pub mod BracketReading
 pub mod ExpressionTrees
 pub mod OperandForms
 pub mod JoinedReading
-pub mod Sections

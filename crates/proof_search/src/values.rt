@@ -1,5 +1,5 @@
 //! Whether a formula is false at values of its variables.
-ghost use Rattle.std.specs.Prelude.{◌≡◌, ◌<◌, ◌+ℤ◌, ◌*ℤ◌, neg_ℤ, true, false, IfSome, OnOk, FitsSigned};
+ghost use Rattle.std.specs.Prelude.{◌≡◌, ◌<◌, ◌+ℤ◌, ◌-ℤ◌, ◌*ℤ◌, true, false, IfSome, OnOk, FitsSigned};
 ghost use Rattle.std.specs.Prelude.{length};
 ghost use Rattle.std.specs.Int.{w128};
 ghost use Rattle.core_terms.specs.declared.trees.CForm.TheOpen.{CForm-F};
@@ -69,15 +69,15 @@ fn add(number: &i128, value: &mut i128) -> Result<(), TooGreat>
     }
 }
 
-/// Turns the sign of a number.
+/// Takes a number from another.
 #[inline(never)]
-fn negate(value: &mut i128) -> Result<(), TooGreat>
+fn subtract(number: &i128, value: &mut i128) -> Result<(), TooGreat>
     ensures fits { OnOk result (FitsSigned w128 value.new) }
-    ensures value { OnOk result (value.new ≡ neg_ℤ value.old) }
+    ensures value { OnOk result (value.new ≡ value.old -ℤ number.now) }
 {
-    match value.checked_neg() {
-        Some(negated) => {
-            *value = negated;
+    match value.checked_sub(*number) {
+        Some(difference) => {
+            *value = difference;
             Ok(())
         }
         None => Err(TooGreat),
@@ -174,7 +174,7 @@ fn add_term(at: &Values, b: &Shared<CTerm>, value: &mut i128) -> Result<(), TooG
     }
 }
 
-/// The value of a difference: the second term's, with its sign turned, and the first term's added.
+/// The value of a difference.
 #[cycle(evaluating)]
 #[inline(never)]
 fn difference_at(
@@ -186,11 +186,22 @@ fn difference_at(
     ensures fits { OnOk result (FitsSigned w128 value.new) }
     ensures value { OnOk result (value.new ≡ settling.term_at at.now.vs.now at.now.values.now (term.Sub a.now b.now)) }
 {
-    match term_at(at, b.get(), value) {
-        Ok(()) => match negate(value) {
-            Ok(()) => add_term(at, a, value),
-            Err(error) => Err(error),
-        },
+    match term_at(at, a.get(), value) {
+        Ok(()) => subtract_term(at, b, value),
+        Err(error) => Err(error),
+    }
+}
+
+/// Takes the value of a term away.
+#[cycle(evaluating)]
+#[inline(never)]
+fn subtract_term(at: &Values, b: &Shared<CTerm>, value: &mut i128) -> Result<(), TooGreat>
+    ensures fits { OnOk result (FitsSigned w128 value.new) }
+    ensures value { OnOk result (value.new ≡ value.old -ℤ settling.term_at at.now.vs.now at.now.values.now b.now) }
+{
+    let mut number = 0;
+    match term_at(at, b.get(), &mut number) {
+        Ok(()) => subtract(&number, value),
         Err(error) => Err(error),
     }
 }

@@ -1,4 +1,4 @@
-use Rattle.std.proofs.Common.{◌≡◌, ◌∙◌, ap, sym, ℤ, Bool, ◌+ℤ◌, to_z, of_z}
+use Rattle.std.proofs.Common.{◌≡◌, ◌∙◌, ap, sym, ℤ, Bool, ◌+ℤ◌, ◌-ℤ◌, to_z, of_z}
 use Rattle.std.proofs.lemmas.Int.{to_z-of_z}
 use Rattle.std.proofs.lemmas.Result.{on_ok_weaker}
 use mir.Syntax.{w128}
@@ -38,3 +38,10 @@ add_term-returns-in-Ok-clause-value t c =
     to_z-of_z w128 c.term_at.new.value c.in-Ok.ensures.fits in
     on_ok_weaker c.add.result (λ h. h ∙ ap (λ z. c.args.value.now +ℤ z) (same ∙ c.in-Ok.ensures.value
     ∙ ap (settling.term_at c.args.at.now.vs.now c.args.at.now.values.now) c.get.ensures)) c.add.ensures.value
+
+pub subtract_term-returns-in-Ok-clause-value : goal.subtract_term-returns-in-Ok-clause-value
+subtract_term-returns-in-Ok-clause-value t c =
+    let same : to_z w128 (of_z w128 c.term_at.new.value) ≡ c.term_at.new.value =
+    to_z-of_z w128 c.term_at.new.value c.in-Ok.ensures.fits in
+    on_ok_weaker c.subtract.result (λ h. h ∙ ap (λ z. c.args.value.now -ℤ z) (same ∙ c.in-Ok.ensures.value
+    ∙ ap (settling.term_at c.args.at.now.vs.now c.args.at.now.values.now) c.get.ensures)) c.subtract.ensures.value
