@@ -26,7 +26,7 @@ use Rattle.safety_rules.proofs.OversizedLaws.{precondition_refused}
 use Rattle.safety_rules.proofs.PooledLaws.{each_tree}
 use Rattle.safety_rules.proofs.ensuring.add_helped.Goals as goal
 use Rattle.safety_rules.proofs.ensuring.add_helped.Goals.{
-    then-may_mean+in_ok-before+in_ok-form+in_ok-owned_form+in_ok-add_goal
+  then-may_mean+in_ok-before+in_ok-form+in_ok-owned_form+in_ok-add_goal,
 }
 use Rattle.safety_rules.proofs.ensuring.add_helped.Goals.{else-may_mean}
 
