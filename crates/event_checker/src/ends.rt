@@ -28,6 +28,7 @@ pub fn open_reading(alloc: Global, o: &Obligation, levels: u32) -> Result<Readin
     if !has_room(o) {
         return Err(AllocError);
     }
+    let frames = Seq::with_capacity(alloc, ROOM_FOR_FRAMES)?;
     let branch = open_branch(alloc, o)?;
     let variables = scope_of(alloc, o.variables.as_slice(), 0)?;
     let sum = Running::new(alloc, o.variables.as_slice())?;
@@ -35,7 +36,7 @@ pub fn open_reading(alloc: Global, o: &Obligation, levels: u32) -> Result<Readin
         levels,
         branch,
         variables,
-        frames: Seq::with_capacity(alloc, ROOM_FOR_FRAMES)?,
+        frames,
         done: false,
     };
     Ok(Reading {
