@@ -1,7 +1,6 @@
 // The answers for each front part of a document.
 use crate::Status;
-use crate::answers::{NOTHING, answer};
-use examples_texts::{ACCEPTED, COUNT};
+use crate::answers::{ACCEPTED, COUNT, NOTHING, answer};
 use std::alloc::{AllocError, Global};
 use std::test::Fail;
 

@@ -1,7 +1,6 @@
 // Traces of programs and of schedules, and what has none.
 use crate::Status;
-use crate::answers::{Row, answer, wrong_answers};
-use examples_texts::COUNT;
+use crate::answers::{COUNT, Row, answer, wrong_answers};
 use std::test::Fail;
 
 const UNION: &str = "unity 1

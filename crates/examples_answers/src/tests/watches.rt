@@ -1,13 +1,27 @@
 // Schedules that are watched.
 use crate::Status;
 use crate::answers::{Row, wrong_answers};
-use examples_texts::{WATCHED, counter, job, limited_counter};
 use std::test::Fail;
 
 const WATCHES: &[Row] = &[
     (
         "watch",
-        WATCHED,
+        "unity 1
+program Count
+declare
+  x : 0..3
+initially
+  x = 0
+assign
+  inc: x := x + 1 if x < 3
+end
+proof Count
+  safe: defined by text;
+  step(m : 1..3): true and 3 - x = m ensures (true and 3 - x < m) or x = 3 by text with inc;
+  goal: true leadsto x = 3 by induct(m : 1..3, 3 - x, true, x = 3, from step[m]);
+end
+schedule Count : inc, inc, inc end
+",
         Status::Done,
         "watched Count 4 states 3 rounds
 Count.safe defined
@@ -17,7 +31,24 @@ Count.goal leadsto 3
     ),
     (
         "watch",
-        job!("work, work, idle"),
+        "unity 1
+program Job
+declare
+  left : 0..2
+  tick : 0..1
+initially
+  left = 2
+assign
+     work: left := left - 1 if left > 0
+  [] idle: tick := 1 - tick
+end
+proof Job
+  safe: defined by text;
+  one: left = 2 ensures left = 1 by text with work;
+  soon: left = 2 leadsto left = 0 by weaken(left = 2, left = 0, from one);
+end
+schedule Job : work, work, idle end
+",
         Status::Done,
         "watched Job 4 states 1 rounds
 Job.safe defined
@@ -27,37 +58,81 @@ Job.soon leadsto 1
     ),
     (
         "watch",
-        counter!(
-            "unity 1\n",
-            "proof Count
+        "unity 1
+program Count
+declare
+  x : 0..3
+initially
+  x = 0
+assign
+  inc: x := x + 1 if x < 3
+end
+proof Count
   keep: stable x = 3 by text;
   safe: defined by text;
   lim(m : 1..5000): stable x <= m by text;
 end
 schedule Count : inc end
-"
-        ),
+",
         Status::Rejected,
         "rejected 36 DefinedMissing Count.keep
 ",
     ),
     (
         "watch",
-        counter!("unity 1\n", "schedule Count : inc, inc end\n"),
+        "unity 1
+program Count
+declare
+  x : 0..3
+initially
+  x = 0
+assign
+  inc: x := x + 1 if x < 3
+end
+schedule Count : inc, inc end
+",
         Status::BadDocument,
         "bad 63 NoProof
 ",
     ),
     (
         "watch",
-        limited_counter!("1..4096"),
+        "unity 1
+program Count
+declare
+  x : 0..3
+initially
+  x = 0
+assign
+  inc: x := x + 1 if x < 3
+end
+proof Count
+  safe: defined by text;
+  lim(m : 1..4096): stable x <= m by text;
+end
+schedule Count : inc, inc end
+",
         Status::BadDocument,
         "bad 62 TooManyCases
 ",
     ),
     (
         "watch",
-        limited_counter!("3..4097"),
+        "unity 1
+program Count
+declare
+  x : 0..3
+initially
+  x = 0
+assign
+  inc: x := x + 1 if x < 3
+end
+proof Count
+  safe: defined by text;
+  lim(m : 3..4097): stable x <= m by text;
+end
+schedule Count : inc, inc end
+",
         Status::Done,
         "watched Count 3 states 2 rounds
 Count.safe defined
@@ -66,14 +141,20 @@ Count.lim unless
     ),
     (
         "watch",
-        counter!(
-            "unity 1\n",
-            "proof Count
+        "unity 1
+program Count
+declare
+  x : 0..3
+initially
+  x = 0
+assign
+  inc: x := x + 1 if x < 3
+end
+proof Count
   safe: defined by text;
 end
 schedule Count : end
-"
-        ),
+",
         Status::Done,
         "watched Count 1 states 0 rounds
 Count.safe defined
@@ -81,7 +162,24 @@ Count.safe defined
     ),
     (
         "watch",
-        job!("idle, idle, idle"),
+        "unity 1
+program Job
+declare
+  left : 0..2
+  tick : 0..1
+initially
+  left = 2
+assign
+     work: left := left - 1 if left > 0
+  [] idle: tick := 1 - tick
+end
+proof Job
+  safe: defined by text;
+  one: left = 2 ensures left = 1 by text with work;
+  soon: left = 2 leadsto left = 0 by weaken(left = 2, left = 0, from one);
+end
+schedule Job : idle, idle, idle end
+",
         Status::Done,
         "watched Job 4 states 0 rounds
 Job.safe defined

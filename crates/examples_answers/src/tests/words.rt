@@ -1,7 +1,6 @@
 // Words, and documents with short answers.
 use crate::Status;
-use crate::answers::{NOTHING, Row, answer, wrong_answers};
-use examples_texts::{ACCEPTED, COUNT};
+use crate::answers::{ACCEPTED, COUNT, NOTHING, Row, answer, wrong_answers};
 use std::test::Fail;
 
 /// Words with the first document, where the read and the write of these numbers fail.
