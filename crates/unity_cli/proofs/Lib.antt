@@ -7,4 +7,3 @@ pub mod Shown
 pub mod Upgraded
 pub mod Watched
 pub mod Streamed
-pub mod Traced

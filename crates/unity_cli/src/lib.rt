@@ -14,7 +14,6 @@ mod run;
 mod status;
 mod stop;
 mod top;
-mod traces;
 mod upgrade;
 mod watch;
 
