@@ -4,4 +4,3 @@ mod Ends
 mod Variables
 mod Elements
 mod Growth
-mod FirstBytes
