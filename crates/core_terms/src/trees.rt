@@ -1,5 +1,5 @@
 // Ranges, terms and formulas.
-ghost use Rattle.std.specs.Prelude.{◌≡◌, ◌≤◌, IfErr, IfOk, max};
+ghost use Rattle.std.specs.Prelude.{◌≡◌, ◌≤◌, IfErr, IfOk, IfSome, max};
 ghost use Rattle.core_terms.specs.declared.trees.CTerm.{size-CTerm};
 ghost use Rattle.core_terms.specs.declared.trees.CForm.{size-CForm};
 
@@ -65,26 +65,15 @@ impl Drop for CTerm {
     fn drop(mut self) {
         loop {
             let next = match self {
-                CTerm::Const(_) => return,
-                CTerm::Slot(_) => return,
-                CTerm::Param(_) => return,
-                CTerm::Add(a, b) => {
+                CTerm::Const(_) | CTerm::Slot(_) | CTerm::Param(_) => return,
+                CTerm::Scale(_, a) | CTerm::Div(a, _) | CTerm::Mod(a, _) => a.into_inner(),
+                CTerm::Add(a, b) | CTerm::Sub(a, b) => {
                     let (next, other) = larger_first(a, b);
                     if let Some(part) = other.into_inner() {
                         drop_term(part);
                     }
-                    next
+                    next.into_inner()
                 }
-                CTerm::Sub(a, b) => {
-                    let (next, other) = larger_first(a, b);
-                    if let Some(part) = other.into_inner() {
-                        drop_term(part);
-                    }
-                    next
-                }
-                CTerm::Scale(_, a) => a,
-                CTerm::Div(a, _) => a,
-                CTerm::Mod(a, _) => a,
                 CTerm::Ite(c, a, b) => {
                     let (next, other) = larger_first(a, b);
                     if let Some(part) = other.into_inner() {
@@ -94,31 +83,21 @@ impl Drop for CTerm {
                         if let Some(part) = c.into_inner() {
                             drop_form(part);
                         }
-                        next
+                        next.into_inner()
                     } else {
                         if let Some(part) = next.into_inner() {
                             drop_term(part);
                         }
-                        let Some(f) = c.into_inner() else {
-                            return;
-                        };
-                        match f.compared() {
-                            Ok(t) => {
-                                self = t;
-                                continue;
-                            }
-                            Err(f) => {
-                                drop_form(f);
-                                return;
-                            }
+                        match opened(c) {
+                            Some(Ok(t)) => Some(t),
+                            Some(Err(f)) => return drop_form(f),
+                            None => return,
                         }
                     }
                 }
             };
-            match next.into_inner() {
-                Some(t) => self = t,
-                None => return,
-            }
+            let Some(t) = next else { return };
+            self = t;
         }
     }
 }
@@ -136,10 +115,20 @@ impl CForm {
         ensures other { IfErr result (λ f. f ≡ self) }
     {
         match self {
-            CForm::AtLeast(t) => Ok(t),
-            CForm::Zero(t) => Ok(t),
+            CForm::AtLeast(t) | CForm::Zero(t) => Ok(t),
             f => Err(f),
         }
+    }
+}
+
+// The term that a formula holds against 0, or the formula itself; nothing where it has another owner.
+fn opened(f: Shared<CForm>) -> Option<Result<CTerm, CForm>>
+    ensures term { IfSome result (λ r. IfOk r (λ t. size-CTerm t ≤ size-CForm f)) }
+    ensures other { IfSome result (λ r. IfErr r (λ g. g ≡ f)) }
+{
+    match f.into_inner() {
+        Some(f) => Some(f.compared()),
+        None => None,
     }
 }
 
@@ -177,19 +166,10 @@ impl Drop for CForm {
     fn drop(mut self) {
         loop {
             let next = match self {
-                CForm::Top => return,
-                CForm::Bottom => return,
-                CForm::AtLeast(_t) => return,
-                CForm::Zero(_t) => return,
+                CForm::Top | CForm::Bottom => return,
+                CForm::AtLeast(_t) | CForm::Zero(_t) => return,
                 CForm::Not(g) => g,
-                CForm::And(g, h) => {
-                    let (next, other) = larger_form_first(g, h);
-                    if let Some(part) = other.into_inner() {
-                        drop_form(part);
-                    }
-                    next
-                }
-                CForm::Or(g, h) => {
+                CForm::And(g, h) | CForm::Or(g, h) => {
                     let (next, other) = larger_form_first(g, h);
                     if let Some(part) = other.into_inner() {
                         drop_form(part);

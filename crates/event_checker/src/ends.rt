@@ -14,6 +14,9 @@ use obligations::{Obligation, has_room, open_branch, scope_of};
 use std::alloc::{AllocError, Global};
 use unity_base::Seq;
 
+/// So many nodes may be open before their frames take more memory.
+const ROOM_FOR_FRAMES: usize = 64;
+
 /// The reading of a certificate of at most so many levels, of which no node is read. The error is that memory was
 /// refused, or that a parameter of the obligation has a number of 2^31 or more.
 pub fn open_reading(alloc: Global, o: &Obligation, levels: u32) -> Result<Reading, AllocError>
@@ -25,6 +28,7 @@ pub fn open_reading(alloc: Global, o: &Obligation, levels: u32) -> Result<Readin
     if !has_room(o) {
         return Err(AllocError);
     }
+    let frames = Seq::with_capacity(alloc, ROOM_FOR_FRAMES)?;
     let branch = open_branch(alloc, o)?;
     let variables = scope_of(alloc, o.variables.as_slice(), 0)?;
     let sum = Running::new(alloc, o.variables.as_slice())?;
@@ -32,7 +36,7 @@ pub fn open_reading(alloc: Global, o: &Obligation, levels: u32) -> Result<Readin
         levels,
         branch,
         variables,
-        frames: Seq::new(alloc),
+        frames,
         done: false,
     };
     Ok(Reading {

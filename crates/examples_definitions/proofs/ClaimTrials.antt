@@ -25,7 +25,8 @@ use Rattle.examples_definitions.specs.ClaimExamples.{NotWithinOne, early, steady
 use Rattle.examples_definitions.specs.ClaimExamples.{GoesOnFromOne, TwoIsNotSteady, WaitsForOne, SkipIsFalse}
 use Rattle.examples_definitions.specs.ClaimExamples.{TwoIsNotNought}
 use Rattle.examples_definitions.specs.ClaimExamples.{OverrunIsUndefined, choosing, either, chooser, NoneForAllStates}
-use Rattle.examples_definitions.specs.ClaimExamples.{OneForEachParameter, NoSuchProgram, ClaimExamples}
+use Rattle.examples_definitions.specs.ClaimExamples.{OneForEachParameter, NoSuchProgram, ExecutionExamples}
+use Rattle.examples_definitions.specs.ClaimExamples.{SafetyExamples, EnsuresExamples, ProgressExamples}
 use Rattle.meaning_documents.proofs.ValueLaws.{value_laws}
 use Rattle.meaning_documents.proofs.WriteLaws.{write_laws}
 use Rattle.meaning_documents.proofs.InstanceLaws.{instance_laws}
@@ -514,26 +515,37 @@ each_claim zs t = elim (two_numbers zs t) [
 one_for_each_found : OneForEachParameter
 one_for_each_found = record { program = either; named = refl; claimed = each_claim }
 
-no_program_found : NoSuchProgram
+pub no_program_found : NoSuchProgram
 no_program_found c = let named = c.named in cc
 
-pub claim_examples : ClaimExamples
-claim_examples = record {
+pub execution_examples : ExecutionExamples
+execution_examples = record {
   counts = counts_found;
   begins = begins_found;
+}
+
+pub safety_examples : SafetyExamples
+safety_examples = record {
   defined = defined_found;
-  ensured = ensured_found;
+  undefined = undefined_found;
   no_jump = no_jump_found;
-  within_two = within_two_found;
-  not_within_one = not_within_one_found;
   halts = halts_found;
   not_early = not_early_found;
   not_steady = not_steady_found;
+}
+
+pub ensures_examples : EnsuresExamples
+ensures_examples = record {
+  ensured = ensured_found;
+  none_for_all = none_for_all_found;
+  one_for_each = one_for_each_found;
+}
+
+pub progress_examples : ProgressExamples
+progress_examples = record {
+  within_two = within_two_found;
+  not_within_one = not_within_one_found;
   waits = waits_found;
   no_skip = no_skip_found;
   not_late = not_late_found;
-  undefined = undefined_found;
-  none_for_all = none_for_all_found;
-  one_for_each = one_for_each_found;
-  no_program = no_program_found;
 }

@@ -18,103 +18,66 @@ use Rattle.unity_syntax.proofs.ViewEquations.{view-Brackets, view-Quantified, vi
 use Rattle.unity_syntax.proofs.ViewEquations.{view-Assign, view-Statement, view-quantified_item, view-Items, view-Imply}
 use Rattle.unity_syntax.proofs.ViewEquations.{view-From, view-Pair, view-Exists, view-Induct, view-Psp, view-Weaken}
 
-pub ruleset views = (
-  view-Implies,
-  view-And,
-  view-Or,
-  view-Not,
-  view-Compare,
-  view-Sum,
-  view-Product,
-  view-Number,
-  view-True,
-  view-False,
-  view-Word,
-  view-Brackets,
-  view-Quantified,
-  view-Set,
-  view-quantified_component,
-  view-Assign,
-  view-Statement,
-  view-quantified_item,
-  view-Items,
-  view-Imply,
-  view-From,
-  view-Pair,
-  view-Exists,
-  view-Induct,
-  view-Psp,
-  view-Weaken,
-)
+ruleset formula_views =
+    (view-Implies, view-And, view-Or, view-Not, view-Compare, view-True, view-False, view-Quantified)
 
-pub smallest_read : IsRead smallest_example
-unfolding all_productions
-smallest_read = refl
+ruleset number_views = (view-Sum, view-Product, view-Number, view-Word, view-Brackets)
 
-pub count_read : IsRead count_example
-unfolding all_productions
-count_read = simp (views) refl
+ruleset statement_views =
+    (view-Set, view-quantified_component, view-Assign, view-Statement, view-quantified_item, view-Items)
 
-pub program_read : IsRead program_example
-unfolding all_productions
-program_read = simp (views) refl
+ruleset term_views = (view-Imply, view-From, view-Pair, view-Exists, view-Induct, view-Psp, view-Weaken)
 
-pub expressions_read : IsRead expressions_example
-unfolding all_productions
-expressions_read = simp (views) refl
+ruleset views = (formula_views, number_views, statement_views, term_views)
 
-pub proof_read : IsRead proof_example
-unfolding all_productions
-proof_read = simp (views) refl
+-- the texts that are read
+pub record TextsRead : Type 0 where
+  pub smallest : IsRead smallest_example
+  pub count : IsRead count_example
+  pub program : IsRead program_example
+  pub expressions : IsRead expressions_example
+  pub proof : IsRead proof_example
+  pub term : IsRead term_example
+  pub second : IsRead second_version
 
-pub term_read : IsRead term_example
+pub read : TextsRead
 unfolding all_productions
-term_read = simp (views) refl
+read = record {
+  smallest = refl;
+  count = simp views refl;
+  program = simp views refl;
+  expressions = simp views refl;
+  proof = simp views refl;
+  term = simp views refl;
+  second = simp views refl;
+}
 
-pub second_version_read : IsRead second_version
-unfolding all_productions
-second_version_read = simp (views) refl
+-- and those that are refused
+pub record TextsRefused : Type 0 where
+  pub later : IsRefusedText later_word
+  pub version : IsRefusedText other_version
+  pub relation : IsRefusedText second_relation
+  pub arrow : IsRefusedText second_arrow
+  pub negation : IsRefusedText not_not
+  pub disjunction : IsRefusedText and_or
+  pub number : IsRefusedText other_number
+  pub too_many : IsRefusedText node_too_many
+  pub missing : IsRefusedText node_missing
+  pub early : IsRefusedText early_end
+  pub bracket : IsRefusedText bracket_too_many
 
-pub later_word_is_refused : IsRefusedText later_word
+pub refused : TextsRefused
 unfolding all_productions
-later_word_is_refused = refl
-
-pub other_version_is_refused : IsRefusedText other_version
-unfolding all_productions
-other_version_is_refused = refl
-
-pub second_relation_is_refused : IsRefusedText second_relation
-unfolding all_productions
-second_relation_is_refused = refl
-
-pub second_arrow_is_refused : IsRefusedText second_arrow
-unfolding all_productions
-second_arrow_is_refused = refl
-
-pub not_not_is_refused : IsRefusedText not_not
-unfolding all_productions
-not_not_is_refused = refl
-
-pub and_or_is_refused : IsRefusedText and_or
-unfolding all_productions
-and_or_is_refused = refl
-
-pub other_number_is_refused : IsRefusedText other_number
-unfolding all_productions
-other_number_is_refused = refl
-
-pub node_too_many_is_refused : IsRefusedText node_too_many
-unfolding all_productions
-node_too_many_is_refused = refl
-
-pub node_missing_is_refused : IsRefusedText node_missing
-unfolding all_productions
-node_missing_is_refused = refl
-
-pub early_end_is_refused : IsRefusedText early_end
-unfolding all_productions
-early_end_is_refused = refl
-
-pub bracket_too_many_is_refused : IsRefusedText bracket_too_many
-unfolding all_productions
-bracket_too_many_is_refused = refl
+refused = record {
+  later = refl;
+  version = refl;
+  relation = refl;
+  arrow = refl;
+  negation = refl;
+  disjunction = refl;
+  number = refl;
+  too_many = refl;
+  missing = refl;
+  early = refl;
+  bracket = refl;
+}

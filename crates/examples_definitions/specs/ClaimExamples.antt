@@ -188,22 +188,30 @@ OneForEachParameter = Claims choosing choosing_proof each_helps 0
 abbrev pub NoSuchProgram : Type 0
 NoSuchProgram = Claims choosing count_proof safe 0 → ⊥
 
--- all of these
-pub record ClaimExamples : Type 0 where
+-- which executions the counter has
+pub record ExecutionExamples : Type 0 where
   pub counts : CountsToTwo
   pub begins : BeginsAtNought
+
+-- `defined`, `unless`, `fixed` and `constant`, which speak of single steps
+pub record SafetyExamples : Type 0 where
   pub defined : CountIsDefined
-  pub ensured : FirstIsEnsured
+  pub undefined : OverrunIsUndefined
   pub no_jump : JumpIsFalse
-  pub within_two : WithinTwo
-  pub not_within_one : NotWithinOne
   pub halts : HaltsAtTwo
   pub not_early : GoesOnFromOne
   pub not_steady : TwoIsNotSteady
+
+-- `ensures`: one statement that helps at all states, or one for each number of a parameter
+pub record EnsuresExamples : Type 0 where
+  pub ensured : FirstIsEnsured
+  pub none_for_all : NoneForAllStates
+  pub one_for_each : OneForEachParameter
+
+-- `leadsto`, `until` and `detects`, with their bounds
+pub record ProgressExamples : Type 0 where
+  pub within_two : WithinTwo
+  pub not_within_one : NotWithinOne
   pub waits : WaitsForOne
   pub no_skip : SkipIsFalse
   pub not_late : TwoIsNotNought
-  pub undefined : OverrunIsUndefined
-  pub none_for_all : NoneForAllStates
-  pub one_for_each : OneForEachParameter
-  pub no_program : NoSuchProgram

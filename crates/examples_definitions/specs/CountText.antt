@@ -3,9 +3,6 @@ use Rattle.std.specs.Prelude.{false, [], ◌∷◌, ◌++◌, Some, None, codes}
 use Rattle.case_tables.specs.declared.word_table.Word.{Word}
 use Rattle.case_tables.specs.declared.symbol_table.Symbol.{Symbol}
 use Rattle.case_tables.specs.declared.symbol_table.Symbol.TheVariants.{Below as below}
-use Rattle.unity_syntax.specs.declared.name.End.{End}
-use Rattle.unity_syntax.specs.declared.declaration.Plain.{Plain}
-use Rattle.unity_syntax.specs.declared.declaration.VarType.{VarType}
 use Rattle.unity_syntax.specs.declared.program.Program.{Program}
 use Rattle.unity_syntax.specs.declared.proof.Claim.{Claim}
 use Rattle.unity_syntax.specs.declared.proof.Rule.{Rule}
@@ -14,8 +11,8 @@ use Rattle.unity_syntax.specs.declared.document.Part.{Part}
 use Rattle.unity_syntax.specs.declared.expression.Expr.TheVariants as expr
 use Rattle.unity_syntax.specs.declared.statement.Component.TheVariants as component
 use Rattle.unity_syntax.specs.declared.statement.Item.TheVariants as item
-use Rattle.examples_definitions.specs.TextForms.{name_token, number_token, reserved_token, symbol_token, name, range}
-use Rattle.examples_definitions.specs.TextForms.{assign, items, Example}
+use Rattle.examples_definitions.specs.TextForms.{name_token, number_token, reserved_token, symbol_token, name, numbers}
+use Rattle.examples_definitions.specs.TextForms.{word, variable, target, assign, items, step, pair, Example}
 
 -- no program and no proof
 abbrev pub smallest_example : Example
@@ -99,31 +96,21 @@ count_example = record {
     number = 1;
     parts = Part.Program 8
         (Program.Plain 8 (name 16 "Count")
-        (Some
-        ((record {
-          at = 32;
-          name = (name 32 "x");
-          kind = (VarType.Plain 36 (Plain.Range 36 (range 36 (End.Number 36 false 0) (End.Number 39 false 3))));
-        })
-        ∷ []))
+        (Some ((variable 32 "x" (numbers 36 0 39 3)) ∷ []))
         None
-        (Some
-        (record { at = 41; of = (expr.Compare 53 (expr.Word 53 (name 53 "x") None) Symbol.Equal (expr.Number 57 0)) }))
+        (Some (record { at = 41; of = (expr.Compare 53 (word 53 "x") Symbol.Equal (expr.Number 57 0)) }))
         None
         (items 68
         (item.Statement 68 (name 68 "inc")
         (assign 73
-        (component.Set 73
-        (record { at = 73; name = (name 73 "x"); index = None })
-        []
-        (record {
+        (component.Set 73 (target 73 "x") [] (record {
           at = 78;
           values = (record {
             at = 78;
-            first = (expr.Sum 78 false (expr.Word 78 (name 78 "x") None) ((Symbol.Plus, (expr.Number 82 1)) ∷ []));
+            first = (expr.Sum 78 false (word 78 "x") ((Symbol.Plus, (expr.Number 82 1)) ∷ []));
             rest = [];
           });
-          condition = (Some ((expr.Compare 87 (expr.Word 87 (name 87 "x") None) below (expr.Number 91 3)), []));
+          condition = (Some ((expr.Compare 87 (word 87 "x") below (expr.Number 91 3)), []));
         }))
         []))
         []))
@@ -131,23 +118,10 @@ count_example = record {
         (record {
           at = 97;
           program = (name 103 "Count");
-          steps = ((record {
-            at = 111;
-            name = (name 111 "safe");
-            params = None;
-            claim = (Claim.Defined 117);
-            rule = (Rule.Text 128 None);
-            using = None;
-          })
-              ∷ (record {
-                at = 136;
-                name = (name 136 "top");
-                params = None;
-                claim = (Claim.Invariant 141
-                    (expr.Compare 151 (expr.Word 151 (name 151 "x") None) Symbol.AtMost (expr.Number 156 3)));
-                rule = (Rule.Text 161 None);
-                using = None;
-              })
+          steps = ((step 111 "safe" (Claim.Defined 117) (Rule.Text 128 None))
+              ∷ (step 136 "top"
+              (Claim.Invariant 141 (expr.Compare 151 (word 151 "x") Symbol.AtMost (expr.Number 156 3)))
+              (Rule.Text 161 None))
               ∷ []);
         })
         ∷ [];
@@ -159,23 +133,14 @@ count_example = record {
             at = 184;
             number = 1;
             first = (Node.Case 187 1);
-            rest = ((Node.Sum 194
-                ((record { at = 198; minus = false; multiplier = 1; fact = 1 })
-                ∷ (record { at = 202; minus = false; multiplier = 1; fact = 4 })
-                ∷ []))
-                ∷ (Node.Sum 206
-                ((record { at = 210; minus = false; multiplier = 1; fact = 3 })
-                ∷ (record { at = 214; minus = false; multiplier = 1; fact = 4 })
-                ∷ []))
+            rest = ((Node.Sum 194 ((pair 198 1 1) ∷ (pair 202 1 4) ∷ []))
+                ∷ (Node.Sum 206 ((pair 210 1 3) ∷ (pair 214 1 4) ∷ []))
                 ∷ []);
           })
               ∷ (record {
                 at = 219;
                 number = 2;
-                first = (Node.Sum 222
-                    ((record { at = 226; minus = false; multiplier = 1; fact = 2 })
-                    ∷ (record { at = 230; minus = false; multiplier = 1; fact = 5 })
-                    ∷ []));
+                first = (Node.Sum 222 ((pair 226 1 2) ∷ (pair 230 1 5) ∷ []));
                 rest = [];
               })
               ∷ (record {
@@ -183,23 +148,11 @@ count_example = record {
                 number = 3;
                 first = (Node.Case 238 1);
                 rest = ((Node.Case 245 1)
-                    ∷ (Node.Sum 252
-                    ((record { at = 256; minus = false; multiplier = 1; fact = 1 })
-                    ∷ (record { at = 260; minus = false; multiplier = 1; fact = 5 })
-                    ∷ []))
-                    ∷ (Node.Sum 264
-                    ((record { at = 268; minus = false; multiplier = 1; fact = 4 })
-                    ∷ (record { at = 272; minus = false; multiplier = 1; fact = 5 })
-                    ∷ []))
+                    ∷ (Node.Sum 252 ((pair 256 1 1) ∷ (pair 260 1 5) ∷ []))
+                    ∷ (Node.Sum 264 ((pair 268 1 4) ∷ (pair 272 1 5) ∷ []))
                     ∷ (Node.Case 276 1)
-                    ∷ (Node.Sum 283
-                    ((record { at = 287; minus = false; multiplier = 1; fact = 4 })
-                    ∷ (record { at = 291; minus = false; multiplier = 1; fact = 5 })
-                    ∷ []))
-                    ∷ (Node.Sum 295
-                    ((record { at = 299; minus = false; multiplier = 1; fact = 2 })
-                    ∷ (record { at = 303; minus = false; multiplier = 1; fact = 5 })
-                    ∷ []))
+                    ∷ (Node.Sum 283 ((pair 287 1 4) ∷ (pair 291 1 5) ∷ []))
+                    ∷ (Node.Sum 295 ((pair 299 1 2) ∷ (pair 303 1 5) ∷ []))
                     ∷ []);
               })
               ∷ []);

@@ -8,10 +8,8 @@ use Rattle.unity_syntax.specs.declared.program.Program.{Program}
 use Rattle.unity_syntax.specs.declared.document.Part.{Part}
 use Rattle.unity_syntax.specs.declared.expression.Operator.{Operator}
 use Rattle.unity_syntax.specs.declared.expression.Expr.TheVariants as expr
-use Rattle.unity_syntax.specs.declared.statement.Component.TheVariants as component
-use Rattle.unity_syntax.specs.declared.statement.Item.TheVariants as item
 use Rattle.examples_definitions.specs.TextForms.{name_token, number_token, reserved_token, symbol_token, name, range}
-use Rattle.examples_definitions.specs.TextForms.{assign, items, Example}
+use Rattle.examples_definitions.specs.TextForms.{numbers, word, set, items, Example}
 
 -- each production of expressions
 abbrev pub expressions_example : Example
@@ -77,14 +75,14 @@ expressions_example = record {
           of = (expr.Implies 31
               (expr.Brackets 31
               (expr.And 32
-              (expr.Compare 32 (expr.Word 32 (name 32 "x") None) Symbol.Equal (expr.Number 36 0))
-              ((expr.Not 42 (expr.Word 46 (name 46 "b") None)) ∷ [])))
+              (expr.Compare 32 (word 32 "x") Symbol.Equal (expr.Number 36 0))
+              ((expr.Not 42 (word 46 "b")) ∷ [])))
               (expr.Or 52
-              (expr.Word 52 (name 52 "b") None)
+              (word 52 "b")
               ((expr.Compare 57
-              (expr.Word 57 (name 57 "c") None)
+              (word 57 "c")
               Symbol.NotEqual
-              (expr.Word 62 (name 62 "green") None))
+              (word 62 "green"))
               ∷ (expr.True 71)
               ∷ [])));
         })
@@ -98,13 +96,13 @@ expressions_example = record {
                     (expr.Word 87 (name 87 "t")
                     (Some
                     (expr.Sum 89 false
-                    (expr.Word 89 (name 89 "x") None)
+                    (word 89 "x")
                     ((Symbol.Minus, (expr.Number 93 1)) ∷ []))))
                     ((Operator.Times, (expr.Number 98 2))
-                    ∷ (Operator.Times, (expr.Word 102 (name 102 "x") None))
+                    ∷ (Operator.Times, (word 102 "x"))
                     ∷ [])),
               )
-              ∷ (Symbol.Minus, (expr.Word 106 (name 106 "y") None))
+              ∷ (Symbol.Minus, (word 106 "y"))
               ∷ []));
         })
         ∷ (record {
@@ -116,11 +114,11 @@ expressions_example = record {
               (End.Word 130 (name 130 "j") (Some (Symbol.Plus, 2))))
               (expr.And 139
               (expr.Compare 139
-              (expr.Word 139 (name 139 "t") (Some (expr.Word 141 (name 141 "i") None)))
+              (expr.Word 139 (name 139 "t") (Some (word 141 "i")))
               Symbol.AtLeast
               (expr.Number 147 0))
               ((expr.Compare 153
-              (expr.Word 153 (name 153 "t") (Some (expr.Word 155 (name 155 "i") None)))
+              (expr.Word 153 (name 153 "t") (Some (word 155 "i")))
               Symbol.AtMost
               (expr.Number 161 3))
               ∷ [])));
@@ -132,34 +130,22 @@ expressions_example = record {
               (expr.Quantified 170 Word.Any (name 175 "i")
               (range 179 (End.Number 179 true 2) (End.Word 183 (name 183 "k") None))
               (expr.Compare 188
-              (expr.Word 188 (name 188 "x") None)
+              (word 188 "x")
               Symbol.Above
-              (expr.Word 192 (name 192 "i") None)))
+              (word 192 "i")))
               Symbol.Equal
               (expr.Brackets 197
               (expr.Compare 198
               (expr.Quantified 198 Word.Sum (name 203 "i")
-              (range 207 (End.Number 207 false 0) (End.Number 210 false 1))
-              (expr.Word 215 (name 215 "i") None))
+              (numbers 207 0 210 1)
+              (word 215 "i"))
               below
               (expr.Number 220 3))));
         })
         ∷ []))
         None
         None
-        (items 232
-        (item.Statement 232 (name 232 "go")
-        (assign 236
-        (component.Set 236
-        (record { at = 236; name = (name 236 "x"); index = None })
-        []
-        (record {
-          at = 241;
-          values = (record { at = 241; first = (expr.Word 241 (name 241 "x") None); rest = [] });
-          condition = None;
-        }))
-        []))
-        []))
+        (items 232 (set 232 "go" 236 "x" 241 (word 241 "x")) []))
         ∷ [];
     schedule = None;
     certificates = None;

@@ -13,6 +13,7 @@ use Rattle.examples_definitions.specs.SmallTrees.{word, element, number, sum_of,
 use Rattle.examples_definitions.specs.SmallTrees.{range, range_below, range_beside, over, variable, truth_variable}
 use Rattle.examples_definitions.specs.SmallTrees.{array, operated, bracketed}
 use Rattle.examples_definitions.specs.SmallTrees.{target, one, plainly, set, statement, lone, free_program}
+use Rattle.examples_definitions.specs.ValueExamples.{SumFromLeft}
 
 -- program Scale
 -- declare
@@ -62,6 +63,16 @@ IsAtLeast = values (relations Symbol.AtLeast) ≡ pos 0 ∷ pos 1 ∷ pos 1 ∷ 
 abbrev pub TruthsCompare : Type 0
 TruthsCompare = values (equal (word "done") (Expr.Brackets 0 (equal (word "x") (number 2))) ∷ []) ≡ pos 1 ∷ []
 
+-- the six relations between numbers, and `=` between truths
+pub record ComparisonExamples : Type 0 where
+  pub equals : Equals
+  pub differs : Differs
+  pub is_below : IsBelow
+  pub is_at_most : IsAtMost
+  pub is_above : IsAbove
+  pub is_at_least : IsAtLeast
+  pub truths : TruthsCompare
+
 -- `true`, `false`, `not done` and `not x = 3`
 abbrev pub Negations : Type 0
 Negations = values (Expr.True 0 ∷ Expr.False 0 ∷ Expr.Not 0 (word "done") ∷
@@ -87,6 +98,13 @@ Disjunctions = values (or_of (Expr.Not 0 (word "done")) (equal (word "x") (numbe
     or_of (Expr.Not 0 (word "done")) (equal (word "x") (number 3)) (equal (word "y") (number 4)) ∷
     or_of (word "done") (equal (word "x") (number 3)) (equal (word "y") (number 5)) ∷ []) ≡
     pos 0 ∷ pos 1 ∷ pos 1 ∷ []
+
+-- `true` and `false`, `not`, `=>`, `and` and `or`
+pub record ConnectiveExamples : Type 0 where
+  pub negations : Negations
+  pub implications : Implications
+  pub conjunctions : Conjunctions
+  pub disjunctions : Disjunctions
 
 -- `x * y * 3` and `2 * (x + y)`
 abbrev pub Products : Type 0
@@ -117,6 +135,13 @@ SignBeforeDivision = values
     operated (bracketed (minus (number 7))) Operator.Mod (number 3) ∷ []) ≡
     neg_ℤ (pos 3) ∷ neg_ℤ (pos 1) ∷ neg_ℤ (pos 4) ∷ pos 2 ∷ []
 
+-- sums, products, divisions and signs
+pub record ArithmeticExamples : Type 0 where
+  pub sum_from_left : SumFromLeft
+  pub products : Products
+  pub from_left : ProductsFromLeft
+  pub sign : SignBeforeDivision
+
 -- `b[-1]`, `b[0]` and `b[1]`, and outside `b[-2]` and `b[2]`
 abbrev pub IndicesBelowNought : Type 0
 IndicesBelowNought = values (element "b" (minus (number 1)) ∷ element "b" (number 0) ∷ element "b" (number 1) ∷
@@ -134,22 +159,8 @@ EndsWithOffset = values (over Word.Sum "i" (range 1 2)
     over Word.Sum "i" (range 1 2) (over Word.Sum "j" (range_beside "i" Symbol.Minus 1 1) (word "j")) ∷ []) ≡
     pos 8 ∷ pos 2 ∷ []
 
--- all of these
-pub record OperatorExamples : Type 0 where
-  pub equals : Equals
-  pub differs : Differs
-  pub is_below : IsBelow
-  pub is_at_most : IsAtMost
-  pub is_above : IsAbove
-  pub is_at_least : IsAtLeast
-  pub truths : TruthsCompare
-  pub negations : Negations
-  pub implications : Implications
-  pub conjunctions : Conjunctions
-  pub disjunctions : Disjunctions
-  pub products : Products
-  pub from_left : ProductsFromLeft
-  pub sign : SignBeforeDivision
+-- indices and ranges below nought, and ends beside a bound name
+pub record RangeExamples : Type 0 where
   pub indices : IndicesBelowNought
   pub below_nought : RangeBelowNought
   pub offsets : EndsWithOffset

@@ -13,7 +13,7 @@ use Rattle.unity_syntax.specs.declared.expression.Expr.TheVariants as expr
 use Rattle.unity_syntax.specs.declared.statement.Component.TheVariants as component
 use Rattle.unity_syntax.specs.declared.statement.Item.TheVariants as item
 use Rattle.examples_definitions.specs.TextForms.{name_token, number_token, reserved_token, symbol_token, name, range}
-use Rattle.examples_definitions.specs.TextForms.{assign, items, Example}
+use Rattle.examples_definitions.specs.TextForms.{numbers, word, variable, target, plainly, assign, set, items, Example}
 
 -- each production of programs
 abbrev pub program_example : Example
@@ -90,11 +90,7 @@ program_example = record {
     parts = Part.Program 8
         (Program.Plain 8 (name 16 "F")
         (Some
-        ((record {
-          at = 28;
-          name = (name 28 "x");
-          kind = (VarType.Plain 32 (Plain.Range 32 (range 32 (End.Number 32 false 0) (End.Number 35 false 3))));
-        })
+        ((variable 28 "x" (numbers 32 0 35 3))
         ∷ (record { at = 39; name = (name 39 "b"); kind = (VarType.Plain 43 (Plain.Boolean 43)) })
         ∷ (record {
           at = 53;
@@ -106,22 +102,22 @@ program_example = record {
           name = (name 72 "t");
           kind = (VarType.Array 76
               (range 82 (End.Number 82 true 1) (End.Number 86 false 1))
-              (Plain.Range 91 (range 91 (End.Number 91 false 0) (End.Number 94 false 3))));
+              (Plain.Range 91 (numbers 91 0 94 3)));
         })
         ∷ []))
         (Some
         ((record {
           at = 105;
           name = (name 105 "d");
-          of = (expr.Sum 109 false (expr.Word 109 (name 109 "x") None) ((Symbol.Minus, (expr.Number 113 1)) ∷ []));
+          of = (expr.Sum 109 false (word 109 "x") ((Symbol.Minus, (expr.Number 113 1)) ∷ []));
         })
         ∷ []))
         (Some
         (record {
           at = 115;
           of = (expr.And 127
-              (expr.Compare 127 (expr.Word 127 (name 127 "x") None) Symbol.Equal (expr.Number 131 0))
-              ((expr.Not 137 (expr.Word 141 (name 141 "b") None)) ∷ []));
+              (expr.Compare 127 (word 127 "x") Symbol.Equal (expr.Number 131 0))
+              ((expr.Not 137 (word 141 "b")) ∷ []));
         }))
         (Some (
           (record { at = 151; name = (name 151 "x"); index = None; value = (InitValue.Number 155 false 0) }),
@@ -145,17 +141,17 @@ program_example = record {
         (item.Statement 208 (name 208 "go")
         (assign 212
         (component.Set 212
-        (record { at = 212; name = (name 212 "x"); index = None })
-        ((record { at = 215; name = (name 215 "t"); index = (Some (expr.Word 217 (name 217 "x") None)) }) ∷ [])
+        (target 212 "x")
+        ((record { at = 215; name = (name 215 "t"); index = (Some (word 217 "x")) }) ∷ [])
         (record {
           at = 223;
           values = (record {
             at = 223;
-            first = (expr.Sum 223 false (expr.Word 223 (name 223 "x") None) ((Symbol.Plus, (expr.Number 227 1)) ∷ []));
-            rest = ((expr.Sum 230 true (expr.Word 231 (name 231 "d") None) []) ∷ []);
+            first = (expr.Sum 223 false (word 223 "x") ((Symbol.Plus, (expr.Number 227 1)) ∷ []));
+            rest = ((expr.Sum 230 true (word 231 "d") []) ∷ []);
           });
           condition = (Some (
-            (expr.Compare 236 (expr.Word 236 (name 236 "x") None) below (expr.Number 240 3)),
+            (expr.Compare 236 (word 236 "x") below (expr.Number 240 3)),
             ((
               (record { at = 244; first = (expr.Number 244 0); rest = ((expr.Number 247 1) ∷ []) }),
               (expr.False 252),
@@ -167,40 +163,16 @@ program_example = record {
         (range 269 (End.Number 269 true 1) (End.Number 273 false 1))
         (assign 278
         (component.Set 278
-        (record { at = 278; name = (name 278 "t"); index = (Some (expr.Word 280 (name 280 "i") None)) })
+        (record { at = 278; name = (name 278 "t"); index = (Some (word 280 "i")) })
         []
-        (record {
-          at = 286;
-          values = (record { at = 286; first = (expr.Word 286 (name 286 "i") None); rest = [] });
-          condition = None;
-        }))
+        (plainly 286 (word 286 "i")))
         []))
         ∷ [])))
         ((item.Quantified 296 (name 300 "j")
-        (range 304 (End.Number 304 false 0) (End.Number 307 false 1))
+        (numbers 304 0 307 1)
         (items 312
-        (item.Statement 312 (name 312 "hop")
-        (assign 317
-        (component.Set 317
-        (record { at = 317; name = (name 317 "b"); index = None })
-        []
-        (record {
-          at = 322;
-          values = (record { at = 322; first = (expr.True 322); rest = [] });
-          condition = None;
-        }))
-        []))
-        ((item.Statement 330 (name 330 "stay")
-        (assign 336
-        (component.Set 336
-        (record { at = 336; name = (name 336 "x"); index = None })
-        []
-        (record {
-          at = 341;
-          values = (record { at = 341; first = (expr.Word 341 (name 341 "x") None); rest = [] });
-          condition = None;
-        }))
-        []))
+        (set 312 "hop" 317 "b" 322 (expr.True 322))
+        ((set 330 "stay" 336 "x" 341 (word 341 "x"))
         ∷ [])))
         ∷ [])))
         ∷ Part.Program 350 (Program.Union 350 (name 358 "G") (name 362 "F") (name 367 "H"))

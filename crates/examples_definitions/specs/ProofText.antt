@@ -6,10 +6,10 @@ use Rattle.unity_syntax.specs.declared.name.End.{End}
 use Rattle.unity_syntax.specs.declared.proof.Claim.{Claim}
 use Rattle.unity_syntax.specs.declared.proof.Rule.{Rule}
 use Rattle.unity_syntax.specs.declared.document.Part.{Part}
-use Rattle.unity_syntax.specs.declared.expression.Expr.TheVariants as expr
 use Rattle.unity_syntax.specs.declared.term.Term.TheVariants as term
-use Rattle.examples_definitions.specs.TextForms.{name_token, number_token, reserved_token, symbol_token, name, range}
-use Rattle.examples_definitions.specs.TextForms.{step_of, step_in, step_between, Example}
+use Rattle.examples_definitions.specs.TextForms.{name_token, number_token, reserved_token, symbol_token, name, numbers}
+use Rattle.examples_definitions.specs.TextForms.{word, step_of, step_in, parameter, step, between, step_between}
+use Rattle.examples_definitions.specs.TextForms.{Example}
 
 -- each production of claims and rules
 abbrev pub proof_example : Example
@@ -95,19 +95,12 @@ proof_example = record {
         (record {
           at = 8;
           program = (name 14 "F");
-          steps = ((record {
-            at = 18;
-            name = (name 18 "safe");
-            params = None;
-            claim = (Claim.Defined 24);
-            rule = (Rule.Text 35 None);
-            using = None;
-          })
+          steps = ((step 18 "safe" (Claim.Defined 24) (Rule.Text 35 None))
               ∷ (record {
                 at = 43;
                 name = (name 43 "low");
                 params = None;
-                claim = (Claim.Invariant 48 (expr.Word 58 (name 58 "x") None));
+                claim = (Claim.Invariant 48 (word 58 "x"));
                 rule = (Rule.Text 63 None);
                 using = (Some ((step_of 74 "safe"), []));
               })
@@ -115,24 +108,12 @@ proof_example = record {
                 at = 82;
                 name = (name 82 "keep");
                 params = (Some (
-                  (record {
-                    at = 87;
-                    name = (name 87 "m");
-                    range = (range 91 (End.Number 91 false 0) (End.Number 94 false 3));
-                  }),
-                  ((record {
-                    at = 97;
-                    name = (name 97 "n");
-                    range = (range 101 (End.Number 101 false 0) (End.Number 104 false 1));
-                  })
-                      ∷ []),
+                  (parameter 87 "m" (numbers 91 0 94 3)),
+                  ((parameter 97 "n" (numbers 101 0 104 1)) ∷ []),
                 ));
-                claim = (Claim.Stable 108 (expr.Word 115 (name 115 "x") None));
+                claim = (Claim.Stable 108 (word 115 "x"));
                 rule = (Rule.Text 120 None);
-                using = (Some (
-                  (step_of 131 "low"),
-                  ((step_of 136 "safe") ∷ []),
-                ));
+                using = (Some ((step_of 131 "low"), ((step_of 136 "safe") ∷ [])));
               })
               ∷ (step_between 144 "up" 148 "x" Word.Unless 157 "y"
               (Rule.Weaken 162
@@ -145,16 +126,8 @@ proof_example = record {
               ∷ (record {
                 at = 183;
                 name = (name 183 "next");
-                params = (Some (
-                  (record {
-                    at = 188;
-                    name = (name 188 "m");
-                    range = (range 192 (End.Number 192 false 0) (End.Number 195 false 1));
-                  }),
-                  [],
-                ));
-                claim = (Claim.Between 199 (expr.Word 199 (name 199 "x") None) Word.Ensures
-                    (expr.Word 209 (name 209 "y") None));
+                params = (Some ((parameter 188 "m" (numbers 192 0 195 1)), []));
+                claim = (between 199 "x" Word.Ensures 209 "y");
                 rule = (Rule.Text 214
                     (Some
                     (record {

@@ -48,6 +48,53 @@ ComponentsSwap = after (both (set (target "x") (plainly (one (word "y"))))
     (set (target "y") (plainly (one (word "x"))))) ≡
     Some (pos 2 ∷ pos 1 ∷ pos 7 ∷ pos 5 ∷ pos 9 ∷ [])
 
+-- `x := 0 || x := 3` is undefined, and `x := 3 || x := 3` is not
+abbrev pub ComponentsDiffer : Type 0
+ComponentsDiffer = after (both (set (target "x") (plainly (one (number 0))))
+    (set (target "x") (plainly (one (number 3))))) ≡ None
+
+abbrev pub ComponentsAgree : Type 0
+ComponentsAgree = after (both (set (target "x") (plainly (one (number 3))))
+    (set (target "x") (plainly (one (number 3))))) ≡
+    Some (pos 3 ∷ pos 2 ∷ pos 7 ∷ pos 5 ∷ pos 9 ∷ [])
+
+-- `a[y] := 4` writes a[2]; the index is taken in the old state, though y changes too
+abbrev pub ElementSet : Type 0
+ElementSet = after (both (set (target "y") (plainly (one (number 0))))
+    (set (element_target "a" (word "y")) (plainly (one (number 4))))) ≡
+    Some (pos 1 ∷ pos 0 ∷ pos 7 ∷ pos 5 ∷ pos 4 ∷ [])
+
+-- `<|| i : 0..1 :: a[i] := a[i + 1] |>` moves both elements at once
+abbrev pub AllAtOnce : Type 0
+AllAtOnce = after (single (for_each "i" (range 0 1)
+    (set (element_target "a" (word "i")) (plainly (one (element "a" (sum_of (word "i") (number 1)))))))) ≡
+    Some (pos 1 ∷ pos 2 ∷ pos 5 ∷ pos 9 ∷ pos 9 ∷ [])
+
+-- `<|| i : 1..0 :: a[i] := 0 |>` does nothing
+abbrev pub NothingAtOnce : Type 0
+NothingAtOnce = after (single (for_each "i" (range 1 0)
+    (set (element_target "a" (word "i")) (plainly (one (number 0)))))) ≡ Some before
+
+-- the writes of `<|| i : 0..1 :: a[i], x := 4, i if true ~ 4, i if true |>`: for each instance each alternative, for
+-- each of these each target
+abbrev pub WritesInOrder : Type 0
+WritesInOrder = writes (single (for_each "i" (range 0 1) (set_two (element_target "a" (word "i")) (target "x")
+    (if_either (two (number 4) (word "i")) (Expr.True 0) (two (number 4) (word "i")) (Expr.True 0)))))
+    (seen three [] before) ≡
+    (Some 2, pos 4) ∷ (Some 0, pos 0) ∷ (Some 2, pos 4) ∷ (Some 0, pos 0) ∷
+    (Some 3, pos 4) ∷ (Some 0, pos 1) ∷ (Some 3, pos 4) ∷ (Some 0, pos 1) ∷ []
+
+-- what is done at once: all is taken from the old state, and writes of one slot must agree
+pub record AtOnceExamples : Type 0 where
+  pub swap : SwapSwaps
+  pub components_swap : ComponentsSwap
+  pub components_differ : ComponentsDiffer
+  pub components_agree : ComponentsAgree
+  pub element_set : ElementSet
+  pub all_at_once : AllAtOnce
+  pub nothing_at_once : NothingAtOnce
+  pub writes_in_order : WritesInOrder
+
 -- `x := 0 if y < 1 ~ 3 if y = 1`: where no condition is true, x keeps its value
 abbrev pub NoneTaken : Type 0
 NoneTaken = after (single (set (target "x")
@@ -73,21 +120,12 @@ EqualTaken = after (single (set (target "x")
     (equal (word "y") (number 2))))) ≡
     Some (pos 3 ∷ pos 2 ∷ pos 7 ∷ pos 5 ∷ pos 9 ∷ [])
 
--- `x := 0 || x := 3` is undefined, and `x := 3 || x := 3` is not
-abbrev pub ComponentsDiffer : Type 0
-ComponentsDiffer = after (both (set (target "x") (plainly (one (number 0))))
-    (set (target "x") (plainly (one (number 3))))) ≡ None
-
-abbrev pub ComponentsAgree : Type 0
-ComponentsAgree = after (both (set (target "x") (plainly (one (number 3))))
-    (set (target "x") (plainly (one (number 3))))) ≡
-    Some (pos 3 ∷ pos 2 ∷ pos 7 ∷ pos 5 ∷ pos 9 ∷ [])
-
--- `a[y] := 4` writes a[2]; the index is taken in the old state, though y changes too
-abbrev pub ElementSet : Type 0
-ElementSet = after (both (set (target "y") (plainly (one (number 0))))
-    (set (element_target "a" (word "y")) (plainly (one (number 4))))) ≡
-    Some (pos 1 ∷ pos 0 ∷ pos 7 ∷ pos 5 ∷ pos 4 ∷ [])
+-- which alternatives are taken
+pub record AlternativeExamples : Type 0 where
+  pub none_taken : NoneTaken
+  pub one_taken : OneTaken
+  pub unequal_taken : UnequalTaken
+  pub equal_taken : EqualTaken
 
 -- `a[y + 1] := 4` is undefined: the target lies outside the array
 abbrev pub TargetOutside : Type 0
@@ -110,25 +148,12 @@ ReadOutside = after (single (set (target "x") (plainly (one (element "a" (sum_of
 abbrev pub ValueOutside : Type 0
 ValueOutside = after (single (set (target "x") (plainly (one (sum_of (word "y") (number 2)))))) ≡ None
 
--- `<|| i : 0..1 :: a[i] := a[i + 1] |>` moves both elements at once
-abbrev pub AllAtOnce : Type 0
-AllAtOnce = after (single (for_each "i" (range 0 1)
-    (set (element_target "a" (word "i")) (plainly (one (element "a" (sum_of (word "i") (number 1)))))))) ≡
-    Some (pos 1 ∷ pos 2 ∷ pos 5 ∷ pos 9 ∷ pos 9 ∷ [])
-
--- `<|| i : 1..0 :: a[i] := 0 |>` does nothing
-abbrev pub NothingAtOnce : Type 0
-NothingAtOnce = after (single (for_each "i" (range 1 0)
-    (set (element_target "a" (word "i")) (plainly (one (number 0)))))) ≡ Some before
-
--- the writes of `<|| i : 0..1 :: a[i], x := 4, i if true ~ 4, i if true |>`: for each instance each alternative, for
--- each of these each target
-abbrev pub WritesInOrder : Type 0
-WritesInOrder = writes (single (for_each "i" (range 0 1) (set_two (element_target "a" (word "i")) (target "x")
-    (if_either (two (number 4) (word "i")) (Expr.True 0) (two (number 4) (word "i")) (Expr.True 0)))))
-    (seen three [] before) ≡
-    (Some 2, pos 4) ∷ (Some 0, pos 0) ∷ (Some 2, pos 4) ∷ (Some 0, pos 0) ∷
-    (Some 3, pos 4) ∷ (Some 0, pos 1) ∷ (Some 3, pos 4) ∷ (Some 0, pos 1) ∷ []
+-- targets, reads and values outside an array or a range
+pub record OutsideExamples : Type 0 where
+  pub target_outside : TargetOutside
+  pub outside_not_taken : OutsideNotTaken
+  pub read_outside : ReadOutside
+  pub value_outside : ValueOutside
 
 -- `x := 1`
 abbrev pub set_x : Component
@@ -163,26 +188,7 @@ abbrev pub SortSteps : Type 0
 SortSteps = map (λ i. instance_step three i before) (instances sort) ≡
     Some (pos 1 ∷ pos 2 ∷ pos 5 ∷ pos 7 ∷ pos 9 ∷ []) ∷ Some before ∷ []
 
--- all of these
-pub record StepExamples : Type 0 where
-  pub swap : SwapSwaps
-  pub components_swap : ComponentsSwap
-  pub none_taken : NoneTaken
-  pub one_taken : OneTaken
-  pub unequal_taken : UnequalTaken
-  pub equal_taken : EqualTaken
-  pub components_differ : ComponentsDiffer
-  pub components_agree : ComponentsAgree
-  pub element_set : ElementSet
-  pub target_outside : TargetOutside
-  pub outside_not_taken : OutsideNotTaken
-  pub read_outside : ReadOutside
-  pub value_outside : ValueOutside
-  pub all_at_once : AllAtOnce
-  pub nothing_at_once : NothingAtOnce
-  pub writes_in_order : WritesInOrder
-
--- and of instances
+-- the instances of a statement in their order, and their steps
 pub record InstanceExamples : Type 0 where
   pub outer_slowest : OuterSlowest
   pub inner_from_outer : InnerFromOuter

@@ -3,14 +3,13 @@ use Rattle.std.specs.Prelude.{true, false, [], ◌∷◌, ◌++◌, Some, None, 
 use Rattle.case_tables.specs.declared.word_table.Word.{Word}
 use Rattle.case_tables.specs.declared.symbol_table.Symbol.{Symbol}
 use Rattle.unity_syntax.specs.declared.name.End.{End}
-use Rattle.unity_syntax.specs.declared.proof.Claim.{Claim}
 use Rattle.unity_syntax.specs.declared.proof.Rule.{Rule}
 use Rattle.unity_syntax.specs.declared.certificate.Node.{Node}
 use Rattle.unity_syntax.specs.declared.document.Part.{Part}
 use Rattle.unity_syntax.specs.declared.expression.Expr.TheVariants as expr
 use Rattle.unity_syntax.specs.declared.term.Term.TheVariants as term
-use Rattle.examples_definitions.specs.TextForms.{name_token, number_token, reserved_token, symbol_token, name, range}
-use Rattle.examples_definitions.specs.TextForms.{Example}
+use Rattle.examples_definitions.specs.TextForms.{name_token, number_token, reserved_token, symbol_token, name, numbers}
+use Rattle.examples_definitions.specs.TextForms.{word, step_of, step_in, step_between, pair, Example}
 
 -- each production of terms, schedules and certificates
 abbrev pub term_example : Example
@@ -95,74 +94,42 @@ term_example = record {
         (record {
           at = 8;
           program = (name 14 "F");
-          steps = ((record {
-            at = 18;
-            name = (name 18 "one");
-            params = None;
-            claim = (Claim.Between 23 (expr.Word 23 (name 23 "x") None) Word.Leadsto (expr.Word 33 (name 33 "y") None));
-            rule = (Rule.Term 38
-                (term.Pair 38 Word.Trans
-                (term.From 44
-                (record { at = 49; name = (name 49 "next"); step = None; args = (Some ((End.Number 54 false 0), [])) }))
-                (term.Pair 58 Word.Either
-                (term.Imply 65 (expr.Word 71 (name 71 "x") None) (expr.True 74))
-                (term.From 81 (record {
-                  at = 86;
-                  name = (name 86 "F");
-                  step = (Some (name 88 "next"));
-                  args = None;
-                })))));
-            using = None;
-          })
-              ∷ (record {
-                at = 98;
-                name = (name 98 "two");
-                params = None;
-                claim = (Claim.Between 103 (expr.Word 103 (name 103 "x") None) Word.Leadsto
-                    (expr.Word 113 (name 113 "y") None));
-                rule = (Rule.Term 118
-                    (term.Exists 118 (name 125 "m")
-                    (range 129 (End.Number 129 false 0) (End.Number 132 false 1))
-                    (term.From 135
-                    (record {
-                      at = 140;
-                      name = (name 140 "next");
-                      step = None;
-                      args = (Some ((End.Word 145 (name 145 "m") None), []));
-                    }))));
-                using = None;
-              })
-              ∷ (record {
-                at = 152;
-                name = (name 152 "three");
-                params = None;
-                claim = (Claim.Between 159 (expr.Word 159 (name 159 "x") None) Word.Leadsto
-                    (expr.Word 169 (name 169 "y") None));
-                rule = (Rule.Term 174
-                    (term.Induct 174 (name 181 "m")
-                    (range 185 (End.Number 185 false 0) (End.Number 188 false 3))
-                    (expr.Word 191 (name 191 "x") None)
-                    (expr.True 194)
-                    (expr.Word 200 (name 200 "y") None)
-                    (term.Psp 203
-                    (term.From 207 (record { at = 212; name = (name 212 "next"); step = None; args = None }))
-                    (record { at = 218; name = (name 218 "up"); step = None; args = None }))));
-                using = None;
-              })
-              ∷ (record {
-                at = 226;
-                name = (name 226 "four");
-                params = None;
-                claim = (Claim.Between 232 (expr.Word 232 (name 232 "x") None) Word.Leadsto
-                    (expr.Word 242 (name 242 "y") None));
-                rule = (Rule.Term 247
-                    (term.Weaken 247 (expr.True 254)
-                    (expr.Word 260 (name 260 "y") None)
-                    (term.Weaken 263 (expr.False 270)
-                    (expr.Word 277 (name 277 "z") None)
-                    (term.From 280 (record { at = 285; name = (name 285 "two"); step = None; args = None })))));
-                using = None;
-              })
+          steps = ((step_between 18 "one" 23 "x" Word.Leadsto 33 "y"
+              (Rule.Term 38
+              (term.Pair 38 Word.Trans
+              (term.From 44
+              (record { at = 49; name = (name 49 "next"); step = None; args = (Some ((End.Number 54 false 0), [])) }))
+              (term.Pair 58 Word.Either
+              (term.Imply 65 (word 71 "x") (expr.True 74))
+              (term.From 81 (step_in 86 "F" 88 "next"))))))
+              ∷ (step_between 98 "two" 103 "x" Word.Leadsto 113 "y"
+              (Rule.Term 118
+              (term.Exists 118 (name 125 "m")
+              (numbers 129 0 132 1)
+              (term.From 135
+              (record {
+                at = 140;
+                name = (name 140 "next");
+                step = None;
+                args = (Some ((End.Word 145 (name 145 "m") None), []));
+              })))))
+              ∷ (step_between 152 "three" 159 "x" Word.Leadsto 169 "y"
+              (Rule.Term 174
+              (term.Induct 174 (name 181 "m")
+              (numbers 185 0 188 3)
+              (word 191 "x")
+              (expr.True 194)
+              (word 200 "y")
+              (term.Psp 203
+              (term.From 207 (step_of 212 "next"))
+              (step_of 218 "up")))))
+              ∷ (step_between 226 "four" 232 "x" Word.Leadsto 242 "y"
+              (Rule.Term 247
+              (term.Weaken 247 (expr.True 254)
+              (word 260 "y")
+              (term.Weaken 263 (expr.False 270)
+              (word 277 "z")
+              (term.From 280 (step_of 285 "two"))))))
               ∷ []);
         })
         ∷ [];
@@ -184,13 +151,13 @@ term_example = record {
             first = (Node.Case 339 1);
             rest = ((Node.Split 346 2 true 3)
                 ∷ (Node.Sum 357
-                ((record { at = 361; minus = false; multiplier = 1; fact = 2 })
+                ((pair 361 1 2)
                 ∷ (record { at = 365; minus = true; multiplier = 1; fact = 3 })
                 ∷ []))
-                ∷ (Node.Round 370 true 2 ((record { at = 379; minus = false; multiplier = 1; fact = 1 }) ∷ []))
+                ∷ (Node.Round 370 true 2 ((pair 379 1 1) ∷ []))
                 ∷ (Node.Sum 383 [])
                 ∷ (Node.Round 387 false 2 [])
-                ∷ (Node.Sum 395 ((record { at = 399; minus = false; multiplier = 2; fact = 2 }) ∷ []))
+                ∷ (Node.Sum 395 ((pair 399 2 2) ∷ []))
                 ∷ []);
           })
               ∷ (record { at = 404; number = 2; first = (Node.Sum 407 []); rest = [] })

@@ -1,5 +1,5 @@
 -- Texts of the language with what the grammar reads them as: the forms in which the examples are written.
-use Rattle.std.specs.Prelude.{◌≡◌, ℕ, List, ◌++◌, Some, None, Ok, Err, codes}
+use Rattle.std.specs.Prelude.{◌≡◌, ℕ, false, List, [], ◌++◌, Some, None, Ok, Err, codes}
 use Rattle.case_tables.specs.declared.word_table.Word.{Word}
 use Rattle.case_tables.specs.declared.symbol_table.Symbol.{Symbol}
 use Rattle.grammar_theory.specs.Reader.{Fault, read_whole}
@@ -13,15 +13,25 @@ use Rattle.unity_syntax.specs.declared.token.Token.{Token}
 use Rattle.unity_syntax.specs.declared.name.Name.{Name}
 use Rattle.unity_syntax.specs.declared.name.End.{End}
 use Rattle.unity_syntax.specs.declared.name.Range.{Range}
-use Rattle.unity_syntax.specs.declared.expression.Expr
+use Rattle.unity_syntax.specs.declared.expression.Expr.{Expr}
+use Rattle.unity_syntax.specs.declared.expression.Expr.TheVariants as expr
+use Rattle.unity_syntax.specs.declared.declaration.Plain.{Plain}
+use Rattle.unity_syntax.specs.declared.declaration.VarType.{VarType}
+use Rattle.unity_syntax.specs.declared.declaration.Var.{Var}
+use Rattle.unity_syntax.specs.declared.statement.Target.{Target}
+use Rattle.unity_syntax.specs.declared.statement.Alts.{Alts}
 use Rattle.unity_syntax.specs.declared.statement.Component.{Component}
+use Rattle.unity_syntax.specs.declared.statement.Component.TheVariants as component
 use Rattle.unity_syntax.specs.declared.term.Ref.{Ref}
+use Rattle.unity_syntax.specs.declared.proof.Param.{Param}
 use Rattle.unity_syntax.specs.declared.proof.Claim.{Claim}
 use Rattle.unity_syntax.specs.declared.proof.Rule.{Rule}
 use Rattle.unity_syntax.specs.declared.proof.Step.{Step}
+use Rattle.unity_syntax.specs.declared.certificate.Pair.{Pair}
 use Rattle.unity_syntax.specs.declared.document.Document.{Document}
 use Rattle.unity_syntax.specs.declared.statement.Assign.{Assign, roll-Assign}
 use Rattle.unity_syntax.specs.declared.statement.Item.{Item}
+use Rattle.unity_syntax.specs.declared.statement.Item.TheVariants as item
 use Rattle.unity_syntax.specs.declared.statement.Items.{Items, roll-Items}
 
 -- a name's token, from its first byte to the byte after its last
@@ -48,9 +58,35 @@ name at text = record { at = at; text = codes text }
 abbrev pub range : ℕ → End → End → Range
 range at low high = record { at = at; low = low; high = high }
 
+-- `low..high` of two numbers
+abbrev pub numbers : ℕ → ℕ → ℕ → ℕ → Range
+numbers at low place high = range at (End.Number at false low) (End.Number place false high)
+
+-- a name that stands as an expression
+abbrev pub word : ℕ → String → Expr
+word at text = expr.Word at (name at text) None
+
+-- a variable `text : r`
+abbrev pub variable : ℕ → String → Range → Var
+variable at text r = record { at = at; name = name at text; kind = VarType.Plain r.at (Plain.Range r.at r) }
+
+-- a target without index
+abbrev pub target : ℕ → String → Target
+target at text = record { at = at; name = name at text; index = None }
+
+-- one value without a condition
+abbrev pub plainly : ℕ → Expr → Alts
+plainly at e = record { at = at; values = record { at = at; first = e; rest = [] }; condition = None }
+
 -- an assignment
 abbrev pub assign : ℕ → Component → List Component → Assign
 assign at first rest = roll-Assign (record { at = at; first = first; rest = rest })
+
+-- a statement `label: text := e`
+abbrev pub set : ℕ → String → ℕ → String → ℕ → Expr → Item
+set at label place text value e =
+    item.Statement at (name at label)
+    (assign place (component.Set place (target place text) [] (plainly value e)) [])
 
 -- a list of statements
 abbrev pub items : ℕ → Item → List Item → Items
@@ -64,16 +100,26 @@ abbrev pub step_in : ℕ → String → ℕ → String → Ref
 step_in at program place text =
     record { at = at; name = name at program; step = Some (name place text); args = None }
 
--- a step `text: p word q by rule;` of two words
+-- a parameter `text : r`
+abbrev pub parameter : ℕ → String → Range → Param
+parameter at text r = record { at = at; name = name at text; range = r }
+
+-- a step `text: claim by rule;`
+abbrev pub step : ℕ → String → Claim → Rule → Step
+step at text claim rule =
+    record { at = at; name = name at text; params = None; claim = claim; rule = rule; using = None }
+
+-- a claim `p which q` of two words
+abbrev pub between : ℕ → String → Word → ℕ → String → Claim
+between first p which second q = Claim.Between first (word first p) which (word second q)
+
+-- a step `text: p which q by rule;` of two words
 abbrev pub step_between : ℕ → String → ℕ → String → Word → ℕ → String → Rule → Step
-step_between at text first p word second q rule = record {
-  at = at;
-  name = name at text;
-  params = None;
-  claim = Claim.Between first (Expr.Word first (name first p) None) word (Expr.Word second (name second q) None);
-  rule = rule;
-  using = None;
-}
+step_between at text first p which second q rule = step at text (between first p which second q) rule
+
+-- a pair `multiplier*fact` of a certificate
+abbrev pub pair : ℕ → ℕ → ℕ → Pair
+pair at multiplier fact = record { at = at; minus = false; multiplier = multiplier; fact = fact }
 
 -- A text, its tokens and its tree.
 pub record Example : Type 0 where

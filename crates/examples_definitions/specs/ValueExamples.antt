@@ -74,6 +74,13 @@ types = free_program "Types" (truth_array "seen" (range 1 2) ∷ variable "bit" 
 abbrev pub TruthsByType : Type 0
 TruthsByType = map (λ v. v.is_truth) (setting_of (types ∷ [])).variables ≡ true ∷ false ∷ []
 
+-- what a slot is: its number, its range, and whether it has truths
+pub record SlotExamples : Type 0 where
+  pub slots : SlotsInOrder
+  pub slot_ranges : RangesOfSlots
+  pub truths_of_lamp : TruthsOfLamp
+  pub truths_by_type : TruthsByType
+
 -- a variable has its slot's number
 abbrev pub VariableIsRead : Type 0
 VariableIsRead = value_there (word "y") ≡ pos 4
@@ -90,6 +97,31 @@ WordsCompare = value_there (equal (word "light") (word "amber")) ≡ pos 1
 abbrev pub AlwaysOverAlways : Type 0
 AlwaysOverAlways = value_there (word "fourfold") ≡ pos 8
 
+-- what a name stands for: a variable, an enumeration word, or an always name
+pub record NameExamples : Type 0 where
+  pub variable : VariableIsRead
+  pub word : WordIsItsPlace
+  pub words : WordsCompare
+  pub always : AlwaysOverAlways
+
+-- a bound name hides no variable: `(sum i : 1..2 :: x)` is 2 + 2
+abbrev pub BindingHidesNothing : Type 0
+BindingHidesNothing = value_there (over Word.Sum "i" (range 1 2) (word "x")) ≡ pos 4
+
+-- a bound name changes no always name: `(sum x : 0..0 :: double)` is still 4
+abbrev pub BindingChangesNoAlways : Type 0
+BindingChangesNoAlways = value_there (over Word.Sum "x" (range 0 0) (word "double")) ≡ pos 4
+
+-- a bound name is itself inside, whatever it means outside: `(sum x : 3..3 :: x)` is 3
+abbrev pub BindingIsItself : Type 0
+BindingIsItself = value_there (over Word.Sum "x" (range 3 3) (word "x")) ≡ pos 3
+
+-- what a bound name means inside its quantifier, and what it leaves as it is
+pub record BoundNameExamples : Type 0 where
+  pub hides_nothing : BindingHidesNothing
+  pub changes_no_always : BindingChangesNoAlways
+  pub binding_is_itself : BindingIsItself
+
 -- `a[x]` is a[2]
 abbrev pub ElementIsRead : Type 0
 ElementIsRead = value_there (element "a" (word "x")) ≡ pos 9
@@ -101,10 +133,11 @@ ElementAbove = value_there (element "a" (sum_of (word "x") (number 1))) ≡ pos 
 abbrev pub ElementBelow : Type 0
 ElementBelow = value_there (element "a" (number 0)) ≡ pos 0
 
--- `-x - y + 1` is -5: the sign stands before the first part alone
-abbrev pub SumFromLeft : Type 0
-SumFromLeft = value_there (sum_of (difference (minus (word "x")) (word "y")) (number 1)) ≡
-    value_there (minus (number 5))
+-- elements of an array, inside and outside
+pub record ElementExamples : Type 0 where
+  pub element : ElementIsRead
+  pub above : ElementAbove
+  pub below : ElementBelow
 
 -- over an empty range `all` is true, `any` false and `sum` 0
 abbrev pub AllOfNone : Type 0
@@ -131,32 +164,8 @@ AnyHoldsAtOne = value_there (over Word.Any "i" (range 1 2) (less (element "a" (w
 abbrev pub InnerRange : Type 0
 InnerRange = value_there (over Word.Sum "i" (range 1 3) (over Word.Sum "j" (range_from "i" 3) (number 1))) ≡ pos 6
 
--- a bound name hides no variable: `(sum i : 1..2 :: x)` is 2 + 2
-abbrev pub BindingHidesNothing : Type 0
-BindingHidesNothing = value_there (over Word.Sum "i" (range 1 2) (word "x")) ≡ pos 4
-
--- a bound name changes no always name: `(sum x : 0..0 :: double)` is still 4
-abbrev pub BindingChangesNoAlways : Type 0
-BindingChangesNoAlways = value_there (over Word.Sum "x" (range 0 0) (word "double")) ≡ pos 4
-
--- a bound name is itself inside, whatever it means outside: `(sum x : 3..3 :: x)` is 3
-abbrev pub BindingIsItself : Type 0
-BindingIsItself = value_there (over Word.Sum "x" (range 3 3) (word "x")) ≡ pos 3
-
--- all of these
-pub record ValueExamples : Type 0 where
-  pub slots : SlotsInOrder
-  pub slot_ranges : RangesOfSlots
-  pub truths_of_lamp : TruthsOfLamp
-  pub truths_by_type : TruthsByType
-  pub variable : VariableIsRead
-  pub word : WordIsItsPlace
-  pub words : WordsCompare
-  pub always : AlwaysOverAlways
-  pub element : ElementIsRead
-  pub above : ElementAbove
-  pub below : ElementBelow
-  pub from_left : SumFromLeft
+-- what a quantifier gives
+pub record QuantifierExamples : Type 0 where
   pub all_of_none : AllOfNone
   pub any_of_none : AnyOfNone
   pub sum_of_none : SumOfNone
@@ -164,6 +173,8 @@ pub record ValueExamples : Type 0 where
   pub all_fails : AllFailsAtOne
   pub any_holds : AnyHoldsAtOne
   pub inner_range : InnerRange
-  pub hides_nothing : BindingHidesNothing
-  pub changes_no_always : BindingChangesNoAlways
-  pub binding_is_itself : BindingIsItself
+
+-- `-x - y + 1` is -5: the sign stands before the first part alone
+abbrev pub SumFromLeft : Type 0
+SumFromLeft = value_there (sum_of (difference (minus (word "x")) (word "y")) (number 1)) ≡
+    value_there (minus (number 5))

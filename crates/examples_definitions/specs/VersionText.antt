@@ -1,5 +1,5 @@
 -- A text of each production that version 2 adds.
-use Rattle.std.specs.Prelude.{true, false, [], ◌∷◌, ◌++◌, Some, None, codes}
+use Rattle.std.specs.Prelude.{true, [], ◌∷◌, ◌++◌, Some, None, codes}
 use Rattle.case_tables.specs.declared.word_table.Word.{Word}
 use Rattle.case_tables.specs.declared.symbol_table.Symbol.{Symbol}
 use Rattle.unity_syntax.specs.declared.expression.Operator.{Operator}
@@ -9,10 +9,8 @@ use Rattle.unity_syntax.specs.declared.proof.Rule.{Rule}
 use Rattle.unity_syntax.specs.declared.certificate.Node.{Node}
 use Rattle.unity_syntax.specs.declared.document.Part.{Part}
 use Rattle.unity_syntax.specs.declared.expression.Expr.TheVariants as expr
-use Rattle.unity_syntax.specs.declared.statement.Component.TheVariants as component
-use Rattle.unity_syntax.specs.declared.statement.Item.TheVariants as item
-use Rattle.examples_definitions.specs.TextForms.{name_token, number_token, reserved_token, symbol_token, name, assign}
-use Rattle.examples_definitions.specs.TextForms.{items, step_of, step_in, step_between, Example}
+use Rattle.examples_definitions.specs.TextForms.{name_token, number_token, reserved_token, symbol_token, name, word}
+use Rattle.examples_definitions.specs.TextForms.{set, items, step_of, step_in, step, step_between, pair, Example}
 
 -- each production that version 2 adds
 abbrev pub second_version : Example
@@ -78,49 +76,21 @@ second_version = record {
           name = (name 27 "e");
           of = (expr.Product 31 (expr.Number 31 7)
               ((Operator.Div, (expr.Number 37 2))
-              ∷ (Operator.Times, (expr.Word 41 (name 41 "x") None))
+              ∷ (Operator.Times, (word 41 "x"))
               ∷ (Operator.Mod, (expr.Number 47 3))
               ∷ []));
         })
         ∷ []))
         None
         None
-        (items 58
-        (item.Statement 58 (name 58 "go")
-        (assign 62
-        (component.Set 62
-        (record { at = 62; name = (name 62 "x"); index = None })
-        []
-        (record {
-          at = 67;
-          values = (record { at = 67; first = (expr.Word 67 (name 67 "x") None); rest = [] });
-          condition = None;
-        }))
-        []))
-        []))
+        (items 58 (set 58 "go" 62 "x" 67 (word 67 "x")) []))
         ∷ Part.Proof 73
         (record {
           at = 73;
           program = (name 79 "F");
-          steps = ((record {
-            at = 83;
-            name = (name 83 "a");
-            params = None;
-            claim = (Claim.Constant 86 (expr.Word 95 (name 95 "x") None));
-            rule = (Rule.Pair 100 Word.Constant
-                (step_of 109 "b")
-                (step_in 111 "F" 113 "c"));
-            using = None;
-          })
-              ∷ (record {
-                at = 118;
-                name = (name 118 "b");
-                params = None;
-                claim = (Claim.Fixed 121 (expr.Word 127 (name 127 "x") None));
-                rule = (Rule.Superpose 132
-                    (step_in 142 "G" 144 "d"));
-                using = None;
-              })
+          steps = ((step 83 "a" (Claim.Constant 86 (word 95 "x"))
+              (Rule.Pair 100 Word.Constant (step_of 109 "b") (step_in 111 "F" 113 "c")))
+              ∷ (step 118 "b" (Claim.Fixed 121 (word 127 "x")) (Rule.Superpose 132 (step_in 142 "G" 144 "d")))
               ∷ (step_between 149 "c" 152 "x" Word.Until 160 "y"
               (Rule.Pair 165 Word.Until (step_of 171 "a") (step_of 173 "b")))
               ∷ (step_between 178 "d" 181 "x" Word.Detects 191 "y"
@@ -137,8 +107,7 @@ second_version = record {
           items = ((record {
             at = 266;
             number = 1;
-            first = (Node.Share 269 true 2
-                ((record { at = 278; minus = false; multiplier = 3; fact = 4 }) ∷ []));
+            first = (Node.Share 269 true 2 ((pair 278 3 4) ∷ []));
             rest = ((Node.Quot 282 5) ∷ (Node.Sum 289 []) ∷ (Node.Sum 293 []) ∷ []);
           })
               ∷ []);

@@ -1,24 +1,17 @@
 //! Small programs whose meaning was worked out by hand. These functions do nothing: each states examples.
 
-ghost use Rattle.examples_definitions.specs.ValueExamples.{ValueExamples};
-ghost use Rattle.examples_definitions.specs.OperatorExamples.{OperatorExamples};
-ghost use Rattle.examples_definitions.specs.DivisionExamples.{DivisionExamples};
-ghost use Rattle.examples_definitions.specs.StepExamples.{StepExamples, InstanceExamples};
+ghost use Rattle.examples_definitions.specs.StepExamples.{AtOnceExamples, AlternativeExamples, OutsideExamples};
+ghost use Rattle.examples_definitions.specs.StepExamples.{InstanceExamples};
 ghost use Rattle.examples_definitions.specs.ProgramExamples.{UnionExamples, RoundExamples};
-ghost use Rattle.examples_definitions.specs.ClaimExamples.{ClaimExamples};
-
-/// Values in a small program: variables and their slots, arrays read inside and outside, enumeration
-/// words, always names, quantifiers and bound names; each kind of expression; and divisions.
-pub fn value_examples()
-    ensures names { ValueExamples }
-    ensures operators { OperatorExamples }
-    ensures divisions { DivisionExamples }
-{}
+ghost use Rattle.examples_definitions.specs.ClaimExamples.{ExecutionExamples, SafetyExamples, EnsuresExamples};
+ghost use Rattle.examples_definitions.specs.ClaimExamples.{ProgressExamples, NoSuchProgram};
 
 /// The step of small assignments at one state: what is done at once, which alternatives are taken,
 /// and where a step is undefined.
 pub fn step_examples()
-    ensures { StepExamples }
+    ensures at_once { AtOnceExamples }
+    ensures alternatives { AlternativeExamples }
+    ensures outside { OutsideExamples }
 {}
 
 /// The instances of small programs in their order, and their steps.
@@ -34,7 +27,11 @@ pub fn program_examples()
 
 /// Claims on three small programs, true and false ones: executions, `defined`, `fixed`, `constant`,
 /// `unless`, `ensures` with and without a parameter, a leads-to that holds within two rounds and not
-/// within one, `until` and `detects`.
+/// within one, `until` and `detects`; and a claim on a program that is not there.
 pub fn claim_examples()
-    ensures { ClaimExamples }
+    ensures executions { ExecutionExamples }
+    ensures safety { SafetyExamples }
+    ensures helping { EnsuresExamples }
+    ensures progress { ProgressExamples }
+    ensures no_program { NoSuchProgram }
 {}

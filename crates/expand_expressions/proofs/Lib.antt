@@ -4,3 +4,4 @@ mod Ends
 mod Variables
 mod Elements
 mod Growth
+mod FirstBytes

@@ -2,8 +2,6 @@
 //! looks down a tree.
 
 ghost use Rattle.std.specs.Prelude.{◌≡◌, ◌+◌, ◌*◌, ◌^◌, ◌<◌, ◌≤◌, ◌-◌, IfOk, max};
-ghost use Rattle.core_terms.specs.Folding.{number_of, truth_of};
-ghost use Rattle.core_terms.specs.Weights.{plain_weights, plain_weight};
 ghost use Rattle.expand_rules.specs.Forming as spec;
 ghost use Rattle.expand_expressions.specs.Senses as senses;
 ghost use Rattle.expand_expressions.specs.Sound.{FitsMeasure, IsSound, of_number, of_truth};
@@ -52,45 +50,23 @@ pub fn number(alloc: Global, a: Formed) -> Result<NumberCore, AllocError>
         exact,
         measure,
     } = a;
-    match core {
-        Core::Number { term, known } => Ok(NumberCore {
-            term,
-            known,
-            constant,
-            exact,
-            measure,
-        }),
+    let (term, known, measure) = match core {
+        Core::Number { term, known } => (term, known, measure),
         Core::Truth { form, known } => {
+            let one = Shared::new(alloc, CTerm::Const(1))?;
+            let zero = Shared::new(alloc, CTerm::Const(0))?;
             let mut number = Some(0);
-            let term = chosen(alloc, form, known, &mut number)?;
-            Ok(NumberCore {
-                term,
-                known: number,
-                constant,
-                exact,
-                measure: choice_measure(measure),
-            })
+            let term = choice_known(alloc, form, known, one, Some(1), zero, &mut number)?;
+            (term, number, choice_measure(measure))
         }
-    }
-}
-
-// 1 where a formula holds, and 0 elsewhere.
-fn chosen(
-    alloc: Global,
-    form: Shared<CForm>,
-    truth: Option<bool>,
-    number: &mut Option<i128>,
-) -> Result<Shared<CTerm>, AllocError>
-    requires { truth ≡ truth_of form }
-    ensures term { IfOk result (λ t. t ≡ spec.term_of (Core.Truth form truth)) }
-    ensures known { IfOk result (λ t. number.new ≡ number_of t) }
-    ensures own { IfOk result (λ t. (plain_weights t).own ≤ 1) }
-    ensures most { IfOk result (λ t. (plain_weights t).most ≤ max 1 (plain_weight form)) }
-{
-    *number = Some(0);
-    let one = Shared::new(alloc, CTerm::Const(1))?;
-    let zero = Shared::new(alloc, CTerm::Const(0))?;
-    choice_known(alloc, form, truth, one, Some(1), zero, number)
+    };
+    Ok(NumberCore {
+        term,
+        known,
+        constant,
+        exact,
+        measure,
+    })
 }
 
 /// An expression as a truth: a number is true where it is at least 1.
@@ -107,46 +83,24 @@ pub fn truth(alloc: Global, a: Formed) -> Result<TruthCore, AllocError>
         exact,
         measure,
     } = a;
-    match core {
-        Core::Truth { form, known } => Ok(TruthCore {
-            form,
-            known,
-            constant,
-            exact,
-            measure,
-        }),
+    let (form, known, measure) = match core {
+        Core::Truth { form, known } => (form, known, measure),
         Core::Number { term, known } => {
+            let one = Shared::new(alloc, CTerm::Const(1))?;
+            let mut number = Some(1);
+            let less = paired_known(alloc, Pairing::Difference, term, known, one, &mut number)?;
             let mut truth = None;
-            let form = holding(alloc, term, known, &mut truth)?;
-            Ok(TruthCore {
-                form,
-                known: truth,
-                constant,
-                exact,
-                measure: over_measure(sum_measure(measure, leaf(1))),
-            })
+            let form = sense_known(alloc, Sense::AtLeast, less, number, &mut truth)?;
+            (form, truth, over_measure(sum_measure(measure, leaf(1))))
         }
-    }
-}
-
-// That a number is at least 1.
-fn holding(
-    alloc: Global,
-    term: Shared<CTerm>,
-    number: Option<i128>,
-    truth: &mut Option<bool>,
-) -> Result<Shared<CForm>, AllocError>
-    requires known { number ≡ number_of term }
-    requires own { (plain_weights term).own < 2 ^ 64 }
-    requires most { (plain_weights term).most < 2 ^ 64 }
-    ensures form { IfOk result (λ f. f ≡ spec.form_of (Core.Number term number)) }
-    ensures known { IfOk result (λ f. truth.new ≡ truth_of f) }
-    ensures weight { IfOk result (λ f. plain_weight f ≤ max ((plain_weights term).own + 1) (plain_weights term).most) }
-{
-    let one = Shared::new(alloc, CTerm::Const(1))?;
-    let mut known = Some(1);
-    let less = paired_known(alloc, Pairing::Difference, term, number, one, &mut known)?;
-    sense_known(alloc, Sense::AtLeast, less, known, truth)
+    };
+    Ok(TruthCore {
+        form,
+        known,
+        constant,
+        exact,
+        measure,
+    })
 }
 
 /// The sum or the difference of two numbers.

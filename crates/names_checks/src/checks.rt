@@ -1,13 +1,12 @@
 //! Conditions, and the faults where they fail.
 
 ghost use Rattle.std.specs.Prelude.{◌≡◌};
-ghost use Rattle.names_rules.specs.Scope.{Scope};
-ghost use Rattle.names_rules.specs.Reading.{may_join, read, same_sort, unless};
+ghost use Rattle.names_rules.specs.Reading.{may_join, same_sort, unless};
 ghost use Rattle.names_rules.specs.Answers.{After, Demands, FitsSort};
 
 use case_tables::Code;
 use names_rules::{NameFault, Sort, Typed};
-use unity_syntax::{Expr, Operator};
+use unity_syntax::Operator;
 
 /// A fault unless this is so.
 pub fn demand(holds: bool, code: Code, at: u64) -> Result<(), NameFault>
@@ -68,26 +67,5 @@ pub fn may_join(operator: Operator, left: bool, right: bool) -> bool
         Operator::Times => left | right,
         Operator::Div => right,
         Operator::Mod => right,
-    }
-}
-
-/// The first byte of an expression.
-pub fn place(e: &Expr) -> u64
-    ensures { (s : Scope) → (read e.now s).at ≡ result }
-{
-    match e {
-        Expr::Implies { at, .. } => *at,
-        Expr::And { at, .. } => *at,
-        Expr::Or { at, .. } => *at,
-        Expr::Not { at, .. } => *at,
-        Expr::Compare { at, .. } => *at,
-        Expr::Sum { at, .. } => *at,
-        Expr::Product { at, .. } => *at,
-        Expr::Number { at, .. } => *at,
-        Expr::True { at, .. } => *at,
-        Expr::False { at, .. } => *at,
-        Expr::Word { at, .. } => *at,
-        Expr::Brackets { at, .. } => *at,
-        Expr::Quantified { at, .. } => *at,
     }
 }

@@ -8,11 +8,11 @@ ghost use Rattle.names_rules.specs.Reading.{operands, range_reading, read, then,
 ghost use Rattle.names_rules.specs.Answers.{GivesReading, Notes};
 ghost use Rattle.names_checks.specs.Factors.{further_factors};
 
-use crate::checks::{after, demand, has_type, may_join, place};
+use crate::checks::{after, demand, has_type, may_join};
 use crate::ranges::bind_in;
 use crate::words::{Table, word};
 use case_tables::{Code, Symbol, Word};
-use names_rules::{Env, Known, Meaning, NameFault, Sort, Typed, with_name};
+use names_rules::{Env, Known, Meaning, NameFault, Sort, Typed, place, with_name};
 use unity_base::{Held, Seq};
 use unity_syntax::{Expr, Name, Operator, Range};
 

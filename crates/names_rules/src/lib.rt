@@ -4,9 +4,11 @@
 
 mod known;
 mod named;
+mod places;
 
 pub use known::{
     Env, Known, NameTable, ParamTable, ProgramTable, bound, bound_named, find, find_program,
     is_param, is_value, is_variable, meaning, missing, outside, param, with_name,
 };
 pub use named::{Composed, Indices, Meaning, NameFault, Named, Sort, Span, Typed};
+pub use places::place;

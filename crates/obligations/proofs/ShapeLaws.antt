@@ -1,5 +1,6 @@
 -- The shapes of terms and formulas, by their heads, and their leaves where these stop at a cap.
-use Rattle.std.proofs.Common.{◌≡◌, ℕ, ◌+◌, ◌*◌, ◌^◌, ◌≤◌, min, ℤ, inl, inr, arith, sym, ap, ◌∙◌, mul-le-mul}
+use Rattle.std.proofs.Common.{◌≡◌, ℕ, ◌+◌, ◌*◌, ◌^◌, ◌≤◌, min, max, ℤ, inl, inr, arith, refl, sym, ap, ◌∙◌}
+use Rattle.std.proofs.Common.{mul-le-mul, Bool, true, false}
 use Rattle.std.proofs.lemmas.Bool.{cases_lt}
 use Rattle.core_terms.specs.declared.trees.CTerm.{CTerm}
 use Rattle.core_terms.specs.declared.trees.CTerm.TheVariants.{Const, Slot, Param, Add, Sub, Scale, Ite, Div, Mod}
@@ -14,7 +15,7 @@ use Rattle.core_terms.specs.declared.trees.CForm.TheOpen.{CTerm-F, CForm-F}
 use Rattle.obligations.specs.Plain.{leaf_units}
 use Rattle.obligations.specs.Shapes.{Shape, plain, both, either, apart, divided, Shapes, term_shape_step}
 use Rattle.obligations.specs.Shapes.{form_shape_step}
-use Rattle.obligations.specs.Shapes.{term_shape, shapes}
+use Rattle.obligations.specs.Shapes.{term_shape, shapes, count_of, count_of_case, count_of_quotient}
 use Rattle.obligations.proofs.SettlingLaws.{term_fold, form_fold}
 use Rattle.obligations.proofs.FoldLaws.{product-capped}
 
@@ -71,6 +72,30 @@ shape-And f g = form_fold form_shape_step term_shape_step (CForm-F.And f g) (And
 
 pub shape-Or : (f g : CForm) → S (Or f g) ≡ record { yes = either (S f).yes (S g).yes; no = both (S f).no (S g).no }
 shape-Or f g = form_fold form_shape_step term_shape_step (CForm-F.Or f g) (Or f g) (rolls-Or f g)
+
+-- What is counted of a shape, from what is counted of its parts.
+pub count-plain : (w : Bool) → count_of w plain ≡ 0
+count-plain true = refl
+count-plain false = refl
+
+pub count-both : (w : Bool) (a b : Shape) → count_of w (both a b) ≡ count_of w a + count_of w b
+count-both true a b = refl
+count-both false a b = refl
+
+pub count-either : (w : Bool) (a b : Shape) →
+    count_of w (either a b) ≡ count_of_case w + max (count_of w a) (count_of w b)
+count-either true a b = refl
+count-either false a b = omega arith
+
+pub count-apart : (w : Bool) (a : Shape) → count_of w (apart a) ≡ count_of_case w + count_of w a
+count-apart true a = refl
+count-apart false a = omega arith
+
+pub count-divided : (w : Bool) (a : Shape) → count_of w (divided a) ≡ count_of_quotient w + count_of w a
+count-divided true a = refl
+count-divided false a = refl
+
+pub ruleset count_laws = (count-plain, count-both, count-either, count-apart, count-divided)
 
 -- Leaves that stop at a cap, as the code meets them.
 pub and-leaves : (stop : ℕ) (f g h p q : CForm) (x y z : ℕ) → f ≡ And g h → p ≡ g → q ≡ h →

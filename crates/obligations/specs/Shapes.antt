@@ -1,6 +1,6 @@
 -- How many cases a formula can ask for on one path, how many leaves they open, and how many quotients are taken on
 -- one path.
-use Rattle.std.specs.Prelude.{ℕ, ◌+◌, ◌*◌, max, List, [], ◌∷◌}
+use Rattle.std.specs.Prelude.{ℕ, ◌+◌, ◌*◌, max, Bool, true, false, List, [], ◌∷◌}
 use Rattle.core_terms.specs.declared.trees.CTerm.{CTerm, fold-CTerm}
 use Rattle.core_terms.specs.declared.trees.CForm.{CForm, fold-CForm}
 use Rattle.core_terms.specs.declared.trees.CForm.TheOpen.{CTerm-F, CForm-F}
@@ -37,6 +37,21 @@ apart a = record { cases = 1 + a.cases; leaves = 2 * a.leaves; quotients = a.quo
 -- a quotient more: it is taken, and fixed from both sides
 abbrev pub divided : Shape → Shape
 divided a = record { cases = 3 + a.cases; leaves = a.leaves; quotients = 1 + a.quotients }
+
+-- what is counted of a shape: its cases, or its quotients
+abbrev pub count_of : Bool → Shape → ℕ
+count_of true a = a.cases
+count_of false a = a.quotients
+
+-- what one case more counts
+abbrev pub count_of_case : Bool → ℕ
+count_of_case true = 1
+count_of_case false = 0
+
+-- what one quotient more counts
+abbrev pub count_of_quotient : Bool → ℕ
+count_of_quotient true = 3
+count_of_quotient false = 1
 
 -- the shapes of a formula and of its negation
 pub record Shapes : Type 0 where

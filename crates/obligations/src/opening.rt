@@ -10,22 +10,27 @@ use crate::settling::refuse_onto;
 use std::alloc::{AllocError, Global};
 use unity_base::Seq;
 
+/// So many facts have room behind those of the ranges when a branch begins: most certificates add no more.
+const ROOM_FOR_FACTS: usize = 64;
+
 /// That a variable is at least the low end of its range.
-fn fact_low(alloc: Global, place: u32, lo: &i64) -> Result<Fact, AllocError>
-    ensures { IfOk result (λ f. f ≡ at_least place lo.now) }
+fn fact_low(alloc: Global, place: u32, lo: &i64) -> Fact
+    ensures { result ≡ at_least place lo.now }
 {
-    let factors = Factors::one(alloc, place, 1);
-    let constant = -(*lo as i128);
-    Ok(Fact { factors, constant })
+    Fact {
+        factors: Factors::one(alloc, place, 1),
+        constant: -(*lo as i128),
+    }
 }
 
 /// That a variable is at most the high end of its range.
-fn fact_high(alloc: Global, place: u32, hi: &i64) -> Result<Fact, AllocError>
-    ensures { IfOk result (λ f. f ≡ at_most place hi.now) }
+fn fact_high(alloc: Global, place: u32, hi: &i64) -> Fact
+    ensures { result ≡ at_most place hi.now }
 {
-    let factors = Factors::one(alloc, place, -1);
-    let constant = *hi as i128;
-    Ok(Fact { factors, constant })
+    Fact {
+        factors: Factors::one(alloc, place, -1),
+        constant: *hi as i128,
+    }
 }
 
 /// Adds the two facts of a variable's range.
@@ -38,10 +43,8 @@ fn add_range(
 ) -> Result<(), AllocError>
     ensures { OnOk result (facts.new ≡ facts.old ++ range_facts place (v.now ∷ [])) }
 {
-    let low = fact_low(alloc, place, &v.range.lo)?;
-    let high = fact_high(alloc, place, &v.range.hi)?;
-    facts.push(low)?;
-    facts.push(high)?;
+    facts.push(fact_low(alloc, place, &v.range.lo))?;
+    facts.push(fact_high(alloc, place, &v.range.hi))?;
     Ok(())
 }
 
@@ -51,7 +54,7 @@ fn ranges_of(alloc: Global, vs: &[Variable]) -> Result<Seq<Fact>, AllocError>
     requires { length vs.now < 2 ^ 32 }
     ensures { IfOk result (λ facts. facts ≡ range_facts 0 vs.now) }
 {
-    let mut facts = Seq::new(alloc);
+    let mut facts = Seq::with_capacity(alloc, 2 * vs.len() + ROOM_FOR_FACTS)?;
     for (place, v) in vs.iter().enumerate() {
         add_range(alloc, place as u32, v, &mut facts)?;
     }

@@ -2,7 +2,7 @@
 ghost use Rattle.std.specs.Prelude.{◌≡◌, ℕ, ◌+◌, ◌*◌, ◌^◌, ◌≤◌, ◌<◌, min, max, length, MatchOption};
 ghost use Rattle.core_terms.specs.declared.trees.CTerm.TheVariants.{Ite};
 ghost use Rattle.core_terms.specs.declared.trees.CForm.TheVariants.{AtLeast, Zero, Not, And, Or};
-ghost use Rattle.obligations.specs.Shapes.{term_shape, shapes};
+ghost use Rattle.obligations.specs.Shapes.{term_shape, shapes, count_of, count_of_case, count_of_quotient};
 ghost use Rattle.obligations.specs.Plain.{range_size, volume, halvings, cuts_of, ranges_of, height_of, leaf_units};
 ghost use Rattle.obligations.specs.Plain.{need_of};
 ghost use Rattle.obligations.specs.Obligations.{IsObligation};
@@ -21,134 +21,88 @@ fn plus(a: u64, b: u64) -> u64
     a.saturating_add(b).min(1 << 63)
 }
 
-// The cases of two formulas one after the other, and of either with one case more.
-fn cases_of_two(both: (u64, u64), either: (u64, u64)) -> (u64, u64)
-    ensures both { result.0 ≡ min (both.0 + both.1) (2 ^ 63) }
-    ensures either { result.1 ≡ min (1 + max either.0 either.1) (2 ^ 63) }
+// What is counted on one path: the cases, or else the quotients that are taken. The functions have it as a const
+// parameter, and not as an argument, so that the frames are small.
+const OF_CASES: bool = true;
+
+const OF_QUOTIENTS: bool = false;
+
+// What one case more counts.
+fn of_case<const CASES: bool>() -> u64
+    ensures { result ≡ count_of_case CASES }
 {
-    (plus(both.0, both.1), plus(1, either.0.max(either.1)))
+    if CASES { 1 } else { 0 }
 }
 
-// The cases of a formula and of its negation, or 2^63 where there are more.
-#[cycle(cases)]
-fn form_cases(f: &CForm) -> (u64, u64)
-    ensures yes { result.0 ≡ min (shapes f.now).yes.cases (2 ^ 63) }
-    ensures no { result.1 ≡ min (shapes f.now).no.cases (2 ^ 63) }
+// What one quotient more counts.
+fn of_quotient<const CASES: bool>() -> u64
+    ensures { result ≡ count_of_quotient CASES }
+{
+    if CASES { 3 } else { 1 }
+}
+
+// The greater of two counts, with one case more.
+fn either<const CASES: bool>(a: u64, b: u64) -> u64
+    ensures { result ≡ min (count_of_case CASES + max a b) (2 ^ 63) }
+{
+    plus(of_case::<CASES>(), a.max(b))
+}
+
+// The count of a formula and that of its negation, or 2^63 where it is more.
+#[cycle(counts)]
+#[tactic(auto, using(crate::proofs::ShapeLaws::count_laws))]
+fn form_counts<const CASES: bool>(f: &CForm) -> (u64, u64)
+    ensures yes { result.0 ≡ min (count_of CASES (shapes f.now).yes) (2 ^ 63) }
+    ensures no { result.1 ≡ min (count_of CASES (shapes f.now).no) (2 ^ 63) }
 {
     match f {
         CForm::Top => (0, 0),
         CForm::Bottom => (0, 0),
         CForm::AtLeast(t) => {
-            let cases = term_cases(t);
-            (cases, cases)
+            let count = term_count::<CASES>(t);
+            (count, count)
         }
         CForm::Zero(t) => {
-            let cases = term_cases(t);
-            (cases, plus(1, cases))
+            let count = term_count::<CASES>(t);
+            (count, plus(of_case::<CASES>(), count))
         }
         CForm::Not(g) => {
-            let cases = form_cases(g.get());
-            (cases.1, cases.0)
+            let counts = form_counts::<CASES>(g.get());
+            (counts.1, counts.0)
         }
         CForm::And(g, h) => {
-            let first = form_cases(g.get());
-            let second = form_cases(h.get());
-            cases_of_two((first.0, second.0), (first.1, second.1))
+            let first = form_counts::<CASES>(g.get());
+            let second = form_counts::<CASES>(h.get());
+            (plus(first.0, second.0), either::<CASES>(first.1, second.1))
         }
         CForm::Or(g, h) => {
-            let first = form_cases(g.get());
-            let second = form_cases(h.get());
-            let cases = cases_of_two((first.1, second.1), (first.0, second.0));
-            (cases.1, cases.0)
+            let first = form_counts::<CASES>(g.get());
+            let second = form_counts::<CASES>(h.get());
+            (either::<CASES>(first.0, second.0), plus(first.1, second.1))
         }
     }
 }
 
-// The cases of a term, or 2^63 where there are more.
-#[cycle(cases)]
-fn term_cases(t: &CTerm) -> u64
-    ensures { result ≡ min (term_shape t.now).cases (2 ^ 63) }
+// The count of a term, or 2^63 where it is more.
+#[cycle(counts)]
+#[tactic(auto, using(crate::proofs::ShapeLaws::count_laws))]
+fn term_count<const CASES: bool>(t: &CTerm) -> u64
+    ensures { result ≡ min (count_of CASES (term_shape t.now)) (2 ^ 63) }
 {
     match t {
         CTerm::Const(_) => 0,
         CTerm::Slot(_) => 0,
         CTerm::Param(_) => 0,
-        CTerm::Add(a, b) => plus(term_cases(a.get()), term_cases(b.get())),
-        CTerm::Sub(a, b) => plus(term_cases(a.get()), term_cases(b.get())),
-        CTerm::Scale(_, a) => term_cases(a.get()),
-        CTerm::Div(a, _) => plus(3, term_cases(a.get())),
-        CTerm::Mod(a, _) => plus(3, term_cases(a.get())),
+        CTerm::Add(a, b) => plus(term_count::<CASES>(a.get()), term_count::<CASES>(b.get())),
+        CTerm::Sub(a, b) => plus(term_count::<CASES>(a.get()), term_count::<CASES>(b.get())),
+        CTerm::Scale(_, a) => term_count::<CASES>(a.get()),
+        CTerm::Div(a, _) => plus(of_quotient::<CASES>(), term_count::<CASES>(a.get())),
+        CTerm::Mod(a, _) => plus(of_quotient::<CASES>(), term_count::<CASES>(a.get())),
         CTerm::Ite(c, a, b) => {
-            let when = form_cases(c.get());
-            let yes = plus(when.0, term_cases(a.get()));
-            let no = plus(when.1, term_cases(b.get()));
-            plus(1, yes.max(no))
-        }
-    }
-}
-
-// The quotients of two formulas one after the other, and the greater number of two others.
-fn quotients_of_two(both: (u64, u64), either: (u64, u64)) -> (u64, u64)
-    ensures both { result.0 ≡ min (both.0 + both.1) (2 ^ 63) }
-    ensures either { result.1 ≡ max either.0 either.1 }
-{
-    (plus(both.0, both.1), either.0.max(either.1))
-}
-
-// The quotients of a formula and of its negation, or 2^63 where there are more.
-#[cycle(quotients)]
-fn form_quotients(f: &CForm) -> (u64, u64)
-    ensures yes { result.0 ≡ min (shapes f.now).yes.quotients (2 ^ 63) }
-    ensures no { result.1 ≡ min (shapes f.now).no.quotients (2 ^ 63) }
-{
-    match f {
-        CForm::Top => (0, 0),
-        CForm::Bottom => (0, 0),
-        CForm::AtLeast(t) => {
-            let quotients = term_quotients(t);
-            (quotients, quotients)
-        }
-        CForm::Zero(t) => {
-            let quotients = term_quotients(t);
-            (quotients, quotients)
-        }
-        CForm::Not(g) => {
-            let quotients = form_quotients(g.get());
-            (quotients.1, quotients.0)
-        }
-        CForm::And(g, h) => {
-            let first = form_quotients(g.get());
-            let second = form_quotients(h.get());
-            quotients_of_two((first.0, second.0), (first.1, second.1))
-        }
-        CForm::Or(g, h) => {
-            let first = form_quotients(g.get());
-            let second = form_quotients(h.get());
-            let quotients = quotients_of_two((first.1, second.1), (first.0, second.0));
-            (quotients.1, quotients.0)
-        }
-    }
-}
-
-// The quotients of a term, or 2^63 where there are more.
-#[cycle(quotients)]
-fn term_quotients(t: &CTerm) -> u64
-    ensures { result ≡ min (term_shape t.now).quotients (2 ^ 63) }
-{
-    match t {
-        CTerm::Const(_) => 0,
-        CTerm::Slot(_) => 0,
-        CTerm::Param(_) => 0,
-        CTerm::Add(a, b) => plus(term_quotients(a.get()), term_quotients(b.get())),
-        CTerm::Sub(a, b) => plus(term_quotients(a.get()), term_quotients(b.get())),
-        CTerm::Scale(_, a) => term_quotients(a.get()),
-        CTerm::Div(a, _) => plus(1, term_quotients(a.get())),
-        CTerm::Mod(a, _) => plus(1, term_quotients(a.get())),
-        CTerm::Ite(c, a, b) => {
-            let when = form_quotients(c.get());
-            let yes = plus(when.0, term_quotients(a.get()));
-            let no = plus(when.1, term_quotients(b.get()));
-            yes.max(no)
+            let when = form_counts::<CASES>(c.get());
+            let yes = plus(when.0, term_count::<CASES>(a.get()));
+            let no = plus(when.1, term_count::<CASES>(b.get()));
+            either::<CASES>(yes, no)
         }
     }
 }
@@ -195,7 +149,7 @@ fn halvings_of_all(vs: &[Variable]) -> u64
 pub fn capped_height(form: &CForm, vs: &[Variable]) -> u64
     ensures { result ≡ min ((shapes form.now).no.cases + cuts_of (ranges_of vs.now)) (2 ^ 63) }
 {
-    plus(form_cases(form).1, halvings_of_all(vs))
+    plus(form_counts::<OF_CASES>(form).1, halvings_of_all(vs))
 }
 
 /// The height of an obligation: how many cases its negation can ask for on one path, and how often
@@ -347,7 +301,10 @@ fn capped_need(o: &Obligation) -> u128
 {
     let vs = o.variables.as_slice();
     let leaves = times(form_leaves(&o.form).1, volume_of(vs));
-    times(leaves, capped_units(vs.len(), form_quotients(&o.form).1))
+    times(
+        leaves,
+        capped_units(vs.len(), form_counts::<OF_QUOTIENTS>(&o.form).1),
+    )
 }
 
 /// The units that always suffice for a search: the leaves of the form's negation, times the values of

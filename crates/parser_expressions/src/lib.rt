@@ -12,6 +12,7 @@ mod lists;
 mod nodes;
 mod ranges;
 mod references;
+mod sections;
 mod stop;
 mod texts;
 
@@ -20,4 +21,5 @@ pub use expressions::{condition, index, pred};
 pub use lists::{Front, listed, owned, repeated};
 pub use ranges::{BoundName, begins_range, bound, ends, names, range};
 pub use references::{begins_reference, inst, reference};
+pub use sections::section;
 pub use stop::{Parsed, Stop};

@@ -16,7 +16,7 @@ ghost use Rattle.parser_expressions.specs.Gives.{Reads, ReadsAs, remaining};
 use crate::declarations::{defs, inits, vars};
 use crate::statements::items;
 use case_tables::{Symbol, Word};
-use parser_expressions::{Cursor, Parsed, pred};
+use parser_expressions::{Cursor, Parsed, pred, section};
 use std::alloc::Global;
 use unity_base::{Held, Seq};
 use unity_syntax::{Def, Init, Initially, Items, Name, Program, Var};
@@ -25,28 +25,14 @@ use unity_syntax::{Def, Init, Initially, Items, Name, Program, Var};
 fn declare<'a>(alloc: Global, depth: u32, text: Cursor<'a>) -> Parsed<'a, Held<Option<Seq<Var>>>>
     ensures { Reads (view_option (view_list view_var)) result declare_ depth text.entry }
 {
-    if !text.begins_reserved(Word::Declare) {
-        let none = Held::new(alloc, None)?;
-        return Ok((none, text));
-    }
-    let text = text.reserved(Word::Declare)?;
-    let (vars, text) = vars(alloc, depth, text)?;
-    let section = Held::new(alloc, Some(vars))?;
-    Ok((section, text))
+    section(alloc, Word::Declare, text, |text| vars(alloc, depth, text))
 }
 
 /// `[ "always" { def } ]`
 fn always<'a>(alloc: Global, depth: u32, text: Cursor<'a>) -> Parsed<'a, Held<Option<Seq<Def>>>>
     ensures { Reads (view_option (view_list view_def)) result always_ depth text.entry }
 {
-    if !text.begins_reserved(Word::Always) {
-        let none = Held::new(alloc, None)?;
-        return Ok((none, text));
-    }
-    let text = text.reserved(Word::Always)?;
-    let (defs, text) = defs(alloc, depth, text)?;
-    let section = Held::new(alloc, Some(defs))?;
-    Ok((section, text))
+    section(alloc, Word::Always, text, |text| defs(alloc, depth, text))
 }
 
 /// `[ "initially" pred ]`
@@ -73,14 +59,7 @@ fn start<'a>(
 ) -> Parsed<'a, Held<Option<(Init, Seq<Init>)>>>
     ensures { Reads (view_option (view_some view_init)) result start_ depth text.entry }
 {
-    if !text.begins_reserved(Word::Start) {
-        let none = Held::new(alloc, None)?;
-        return Ok((none, text));
-    }
-    let text = text.reserved(Word::Start)?;
-    let (inits, text) = inits(alloc, depth, text)?;
-    let section = Held::new(alloc, Some(inits))?;
-    Ok((section, text))
+    section(alloc, Word::Start, text, |text| inits(alloc, depth, text))
 }
 
 /// `"assign" items "end"`

@@ -12,7 +12,7 @@ use crate::claims::claim;
 use crate::params::maybe_params;
 use crate::rules::rule;
 use case_tables::{Symbol, Word};
-use parser_expressions::{Cursor, Front, Parsed, listed, reference, repeated};
+use parser_expressions::{Cursor, Front, Parsed, listed, reference, repeated, section};
 use std::alloc::Global;
 use unity_base::{Held, Seq};
 use unity_syntax::{Claim, Proof, Ref, Rule, Step};
@@ -37,14 +37,12 @@ fn using<'a>(
 ) -> Parsed<'a, Held<Option<(Ref, Seq<Ref>)>>>
     ensures { Reads (view_option (view_some view_ref)) result using_ depth text.entry }
 {
-    if !text.begins_reserved(Word::Using) {
-        let none = Held::new(alloc, None)?;
-        return Ok((none, text));
-    }
-    let text = text.reserved(Word::Using)?;
-    let (references, text) = references(alloc, depth, text)?;
-    let references = Held::new(alloc, Some(references))?;
-    Ok((references, text))
+    section(
+        alloc,
+        Word::Using,
+        text,
+        |text| references(alloc, depth, text),
+    )
 }
 
 /// What a step gives for its claim: its rule, and the references that the rule may use.

@@ -27,7 +27,8 @@ at_drop [] n h = absurd (omega arith)
 at_drop (x ∷ xs) zero h = refl
 at_drop (x ∷ xs) (suc n) h = at_drop xs n (omega (arith, h))
 
-first_blank : (bs more : List ℕ) → 0 < length bs → slice_index bs 0 ≡ 32 → list_all is_blank (take 1 (bs ++ more)) ≡ true
+first_blank : (bs more : List ℕ) → 0 < length bs → slice_index bs 0 ≡ 32 →
+    list_all is_blank (take 1 (bs ++ more)) ≡ true
 first_blank [] more some e = absurd (omega arith)
 first_blank (b ∷ bs) more some e = ap (λ b. list_all is_blank (b ∷ [])) e
 

@@ -1,5 +1,6 @@
-//! Pairs of a certificate that are held with two more bytes behind them: a number, `*` and a number, with a space before
-//! them and nothing between. Most pairs are written so, and the three tokens are taken by one look at the window.
+//! Pairs of a certificate that are held with two more bytes behind them: a number, `*` and a number, with a space
+//! before them and nothing between. Most pairs are written so, and the three tokens are taken by one look at the
+//! window.
 
 ghost use Rattle.std.specs.Prelude.{◌≡◌, ℕ, ◌+◌, ◌<◌, ◌≤◌, List, [], ◌∷◌, Option, Some, None, length, IfSome};
 ghost use Rattle.unity_base.specs.Window.{coming, window_at, HasPassed};

@@ -3,13 +3,15 @@
 ghost use Rattle.std.specs.Prelude.{◌≡◌, ◌≤◌};
 ghost use Rattle.case_tables.specs.declared.word_table.Word.{Word};
 ghost use Rattle.case_tables.specs.declared.symbol_table.Symbol.{Symbol};
-ghost use Rattle.grammar_theory.specs.Ebnf.{both, many, more, numbered, numbered_item, prefix_tree, prefix_trees, unit};
+ghost use Rattle.grammar_theory.specs.Ebnf.{both, many, more, numbered, numbered_item, pair, prefix_tree};
+ghost use Rattle.grammar_theory.specs.Ebnf.{prefix_trees, unit};
 ghost use Rattle.grammar_theory.specs.Reader.{take_number};
 ghost use Rattle.unity_syntax.specs.Classes.{number_class, reserved};
 ghost use Rattle.unity_syntax.specs.Kinds.{Kind};
 ghost use Rattle.unity_syntax.specs.Grammar.{made, past, minus_, number_, multiple_, node_, subtrees, certificate_};
 ghost use Rattle.unity_syntax.specs.Grammar.{certificates_};
-ghost use Rattle.unity_syntax.specs.View.{view_certificate, view_certificates, view_list, view_node, view_pair};
+ghost use Rattle.unity_syntax.specs.View.{view_certificate, view_certificates, view_flag, view_list, view_node};
+ghost use Rattle.unity_syntax.specs.View.{view_number, view_pair};
 ghost use Rattle.parser_expressions.specs.Gives.{Gives, Reads, remaining};
 
 use case_tables::{Symbol, Word};
@@ -90,6 +92,21 @@ fn sum_node<'a>(alloc: Global, depth: u32, text: Cursor<'a>) -> Parsed<'a, Node>
     Ok((Node::Sum { at, pairs }, text))
 }
 
+/// `[ "-" ] number { pair }`
+fn signed_multiples<'a>(
+    alloc: Global,
+    depth: u32,
+    text: Cursor<'a>,
+) -> Parsed<'a, (bool, u64, Seq<Pair>)>
+    ensures { Reads (λ x. pair (view_flag x.0) (pair (view_number x.1) (view_list view_pair x.2))) result
+        (both minus_ (both number_ (many multiple_))) depth text.entry }
+{
+    let (minus, text) = text.minus();
+    let (number, text) = text.number()?;
+    let (pairs, text) = multiples(alloc, depth, text)?;
+    Ok(((minus, number, pairs), text))
+}
+
 /// `"round" [ "-" ] number { pair }`
 fn round_node<'a>(alloc: Global, depth: u32, text: Cursor<'a>) -> Parsed<'a, Node>
     ensures { Reads view_node result
@@ -98,9 +115,7 @@ fn round_node<'a>(alloc: Global, depth: u32, text: Cursor<'a>) -> Parsed<'a, Nod
 {
     let at = text.place();
     let text = text.reserved(Word::Round)?;
-    let (minus, text) = text.minus();
-    let (divisor, text) = text.number()?;
-    let (pairs, text) = multiples(alloc, depth, text)?;
+    let ((minus, divisor, pairs), text) = signed_multiples(alloc, depth, text)?;
     let node = Node::Round {
         at,
         minus,
@@ -128,9 +143,7 @@ fn share_node<'a>(alloc: Global, depth: u32, text: Cursor<'a>) -> Parsed<'a, Nod
 {
     let at = text.place();
     let text = text.reserved(Word::Share)?;
-    let (minus, text) = text.minus();
-    let (constant, text) = text.number()?;
-    let (pairs, text) = multiples(alloc, depth, text)?;
+    let ((minus, constant, pairs), text) = signed_multiples(alloc, depth, text)?;
     let node = Node::Share {
         at,
         minus,

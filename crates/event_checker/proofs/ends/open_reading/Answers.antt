@@ -10,7 +10,8 @@ open_branch-requires-clause-load c = obligation-load c.args.o.now c.requires.obl
 
 pub returns-clause-stands : goal.returns-clause-stands
 returns-clause-stands c =
-    new-stands c.args.levels c.args.o.now c.in_ok-branch.branch c.in_ok-variables.variables c.new-2.result
+    new-stands c.args.levels c.args.o.now c.in_ok-branch.branch c.in_ok-variables.variables c.in_ok-frames.frames
     c.in_ok-sum.sum c.requires.obligation c.requires.levels c.in_ok-branch.ensures.branch
     c.in_ok-branch.ensures.added
-    (c.in_ok-variables.ensures.scope ∙ ap (λ (vs : List Variable). scope vs 0) c.as_slice.ensures) c.new-2.ensures
+    (c.in_ok-variables.ensures.scope ∙ ap (λ (vs : List Variable). scope vs 0) c.as_slice.ensures)
+    c.in_ok-frames.ensures

@@ -14,6 +14,6 @@ returns c =
     ((shapes c.args.o.now.form).no.leaves * volume (ranges_of c.as_slice-vs.result.now))
     (leaf_units (length c.as_slice-vs.result.now) (shapes c.args.o.now.form).no.quotients)
     c.times-leaves.result c.capped_units.result c.times.result first
-    (c.capped_units.ensures (shapes c.args.o.now.form).no.quotients c.form_quotients.ensures.no) c.times.ensures in
+    (c.capped_units.ensures (shapes c.args.o.now.form).no.quotients c.form_counts.ensures.no) c.times.ensures in
     whole ∙ ap (λ xs. min (((shapes c.args.o.now.form).no.leaves * volume (ranges_of xs))
     * leaf_units (length xs) (shapes c.args.o.now.form).no.quotients) (2 ^ 127)) vs

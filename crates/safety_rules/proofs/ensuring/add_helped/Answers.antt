@@ -25,7 +25,9 @@ use Rattle.safety_rules.proofs.NameLaws.{helped_exists}
 use Rattle.safety_rules.proofs.OversizedLaws.{precondition_refused}
 use Rattle.safety_rules.proofs.PooledLaws.{each_tree}
 use Rattle.safety_rules.proofs.ensuring.add_helped.Goals as goal
-use Rattle.safety_rules.proofs.ensuring.add_helped.Goals.{then-may_mean+in_ok-before+in_ok-form+in_ok-owned_form+in_ok-add_goal}
+use Rattle.safety_rules.proofs.ensuring.add_helped.Goals.{
+  then-may_mean+in_ok-before+in_ok-form+in_ok-owned_form+in_ok-add_goal,
+}
 use Rattle.safety_rules.proofs.ensuring.add_helped.Goals.{else-may_mean}
 
 pub after-requires-clause-q : goal.after-requires-clause-q
@@ -133,8 +135,8 @@ loop-s-preserved c =
             added = subst (λ (os : List Obligation). AddedFor site.slots site.params make
                 (filter test (take (i + 1) items)) c.args.goals.now os) (sym w.goals-is)
                 (one_after site.slots site.params w.in_ok-add_goal.field-0 make (filter test (take i items))
-                (filter test (take (i + 1) items)) c.get-statement.result.now w.in_ok-owned_form.field-0 c.args.goals.now
-                c.loop-s.goals
+                (filter test (take (i + 1) items)) c.get-statement.result.now w.in_ok-owned_form.field-0
+                c.args.goals.now c.loop-s.goals
                 w.add_goal.new.goals
                 (filter_takes test items i c.get-statement.result.now c.may_mean.result c.loop-s-test.true (read_is
                 c.as_slice-s-items.result.now c.loop-s.s-index _ _ c.get-statement.ensures c.s-item.is)

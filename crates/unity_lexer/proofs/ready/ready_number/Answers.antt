@@ -18,8 +18,8 @@ take_ready-requires-clause-blanks c = c.blanks_ahead-blanks.ensures ∙ ap (pref
 
 pub take_ready-requires-clause-begins : goal.take_ready-requires-clause-begins
 take_ready-requires-clause-begins c =
-    slice_begins c.bytes-bytes.result.now c.blanks_ahead-blanks.result c.in-Some.size (kind.Number c.in-Some.value) _ c.bytes-bytes.ensures
-    c.in-Some.ensures.begins
+    slice_begins c.bytes-bytes.result.now c.blanks_ahead-blanks.result c.in-Some.size (kind.Number c.in-Some.value) _
+    c.bytes-bytes.ensures c.in-Some.ensures.begins
 
 pub take_ready-requires-clause-decided : goal.take_ready-requires-clause-decided
 take_ready-requires-clause-decided c =

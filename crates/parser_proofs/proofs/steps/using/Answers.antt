@@ -1,0 +1,10 @@
+use Rattle.std.proofs.Common.{rules}
+use Rattle.case_tables.specs.declared.symbol_table.Symbol.{Symbol}
+use Rattle.unity_syntax.specs.Classes.{symbol}
+use Rattle.unity_syntax.specs.Grammar.{one_or_more, ref_}
+use Rattle.unity_syntax.specs.View.{view_some, view_ref}
+use Rattle.parser_proofs.proofs.steps.using.Goals as goal
+
+pub returns : goal.returns
+returns c = c.section.ensures (view_some view_ref) (one_or_more (symbol Symbol.Comma) ref_)
+    c.args.depth (λ text r p. search rules)
