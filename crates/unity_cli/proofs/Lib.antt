@@ -7,3 +7,4 @@ pub mod Shown
 pub mod Upgraded
 pub mod Watched
 pub mod Streamed
+pub mod Traced

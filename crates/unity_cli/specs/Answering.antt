@@ -8,7 +8,7 @@ use Rattle.run_traces.specs.declared.error.RunError.{RunError}
 use Rattle.proof_plans.specs.declared.plans.Plan.{Plan}
 use Rattle.cli_texts.specs.Refusals.{fault_text, refusal_text}
 use Rattle.cli_texts.specs.Verdicts.{accepted_text, rejected_text}
-use Rattle.cli_words.specs.Requests.{Request}
+use Rattle.cli_words.specs.Requests.{Request, run, fixed, replay}
 use Rattle.unity_cli.specs.declared.input.Input.{Input}
 use Rattle.streamed_documents.specs.declared.found.ReadDocument.{ReadDocument}
 use Rattle.unity_cli.specs.declared.input.Text.{Text}
@@ -24,6 +24,13 @@ use Rattle.unity_cli.specs.Answer.Upgrade.{Upgraded}
 use Rattle.unity_cli.specs.Answer.Watch.{Watched}
 use Rattle.watch_schedules.specs.declared.error.WatchStop.{WatchStop}
 use Rattle.unity_cli.specs.Input.{AreKept, IsInput, IsAdmittedAs, IsText}
+
+-- a trace is asked for
+abbrev pub IsTraced : Request → Type 0
+IsTraced (run program steps) = Unit {0}
+IsTraced (fixed program steps) = Unit {0}
+IsTraced replay = Unit {0}
+IsTraced request = ⊥
 
 -- the status and the text are what `prove` answers
 abbrev pub IsSearchedFor : ℕ → List ℕ → Input → Told → Type 0

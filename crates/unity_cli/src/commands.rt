@@ -7,12 +7,10 @@ ghost use Rattle.unity_cli.specs.Answer as answers;
 ghost use Rattle.unity_cli.specs.Answering.{TellsText};
 ghost use Rattle.unity_cli.specs.Input.{IsSomeText};
 
-use crate::fixed::write_fixed;
 use crate::input::{Input, Text};
 use crate::prove::write_finding;
-use crate::replay::write_replay;
-use crate::run::write_run;
 use crate::status::Status;
+use crate::traces::write_trace;
 use crate::upgrade::write_upgrade;
 use crate::watch::write_watch;
 use cli_words::Command;
@@ -52,13 +50,9 @@ pub fn write_command<K: Sink>(alloc: Global, command: &Command, text: Text, out:
     match command {
         Command::Check | Command::Demo { .. } => unreachable!(),
         Command::Prove { budget } => write_finding(alloc, *budget, &text.bytes, &text.input, out),
-        Command::Run { program, steps } => {
-            write_run(alloc, program, *steps, &input_of(text), out)
+        Command::Run { .. } | Command::Fixed { .. } | Command::Replay => {
+            write_trace(alloc, command, &input_of(text), out)
         }
-        Command::Fixed { program, steps } => {
-            write_fixed(alloc, program, *steps, &input_of(text), out)
-        }
-        Command::Replay => write_replay(alloc, &input_of(text), out),
         Command::Upgrade => write_upgrade(alloc, text, out),
         Command::Watch => write_watch(alloc, &input_of(text), out),
     }

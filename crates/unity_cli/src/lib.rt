@@ -14,6 +14,7 @@ mod run;
 mod status;
 mod stop;
 mod top;
+mod traces;
 mod upgrade;
 mod watch;
 

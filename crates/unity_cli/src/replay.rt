@@ -3,36 +3,18 @@ ghost use Rattle.std.specs.Prelude.{◌≡◌};
 ghost use Rattle.unity_base.specs.Streams.{IsTold};
 ghost use Rattle.cli_words.specs.Requests.{replay};
 ghost use Rattle.unity_cli.specs.Admitted.{greatest_size};
-ghost use Rattle.unity_cli.specs.Answering.{TellsInput, TellsAdmitted};
-ghost use Rattle.unity_cli.specs.Input.{IsSomeInput, IsSomeAdmitted};
+ghost use Rattle.unity_cli.specs.Answering.{TellsAdmitted};
+ghost use Rattle.unity_cli.specs.Input.{IsSomeAdmitted};
 
-use crate::input::Input;
-use crate::output::{write_bad, write_end};
+use crate::output::write_end;
 use crate::status::Status;
-use case_tables::Code;
-use cli_texts::{document_fault, input_refusal};
 use run_traces::replay_schedule;
 use std::alloc::Global;
 use streamed_documents::ReadDocument;
 use unity_base::Sink;
 
-/// Writes what `replay` answers for the input.
-pub fn write_replay<K: Sink>(alloc: Global, input: &Input, out: &mut K) -> Status
-    requires { IsSomeInput greatest_size input.now }
-    ensures told { TellsInput replay input.now (K.written out.old) (K.written out.new) result }
-    ensures nothing { result ≡ Status.WantOfMemory → out.new ≡ out.old }
-    ensures never { result ≡ Status.ReadFault → ⊥ }
-    ensures cause { IsTold (K.faults out.old) (K.faults out.new) (result ≡ Status.WriteFault) }
-{
-    match input {
-        Input::TooLong => write_bad(input_refusal(alloc, Code::TooLong), out),
-        Input::Fault { code, at } => write_bad(document_fault(alloc, *code, *at), out),
-        Input::Document(reading) => replay_document(alloc, reading.get(), out),
-    }
-}
-
-// Writes what `replay` answers for a document.
-fn replay_document<K: Sink>(alloc: Global, reading: &ReadDocument, out: &mut K) -> Status
+/// Writes what `replay` answers for a document.
+pub fn replay_document<K: Sink>(alloc: Global, reading: &ReadDocument, out: &mut K) -> Status
     requires { IsSomeAdmitted greatest_size reading.now }
     ensures told { TellsAdmitted replay reading.now (K.written out.old) (K.written out.new) result }
     ensures nothing { result ≡ Status.WantOfMemory → out.new ≡ out.old }

@@ -3,42 +3,18 @@ ghost use Rattle.std.specs.Prelude.{◌≡◌};
 ghost use Rattle.unity_base.specs.Streams.{IsTold};
 ghost use Rattle.cli_words.specs.Requests.{run};
 ghost use Rattle.unity_cli.specs.Admitted.{greatest_size};
-ghost use Rattle.unity_cli.specs.Answering.{TellsInput, TellsAdmitted};
-ghost use Rattle.unity_cli.specs.Input.{IsSomeInput, IsSomeAdmitted};
+ghost use Rattle.unity_cli.specs.Answering.{TellsAdmitted};
+ghost use Rattle.unity_cli.specs.Input.{IsSomeAdmitted};
 
-use crate::input::Input;
-use crate::output::{write_bad, write_end};
+use crate::output::write_end;
 use crate::status::Status;
-use case_tables::Code;
-use cli_texts::{document_fault, input_refusal};
 use run_traces::run_program;
 use std::alloc::Global;
 use streamed_documents::ReadDocument;
 use unity_base::Sink;
 
-/// Writes what `run PROGRAM STEPS` answers for the input.
-pub fn write_run<K: Sink>(
-    alloc: Global,
-    program: &str,
-    steps: u64,
-    input: &Input,
-    out: &mut K,
-) -> Status
-    requires { IsSomeInput greatest_size input.now }
-    ensures told { TellsInput (run program.now steps) input.now (K.written out.old) (K.written out.new) result }
-    ensures nothing { result ≡ Status.WantOfMemory → out.new ≡ out.old }
-    ensures never { result ≡ Status.ReadFault → ⊥ }
-    ensures cause { IsTold (K.faults out.old) (K.faults out.new) (result ≡ Status.WriteFault) }
-{
-    match input {
-        Input::TooLong => write_bad(input_refusal(alloc, Code::TooLong), out),
-        Input::Fault { code, at } => write_bad(document_fault(alloc, *code, *at), out),
-        Input::Document(reading) => run_document(alloc, program, steps, reading.get(), out),
-    }
-}
-
-// Writes what `run PROGRAM STEPS` answers for a document.
-fn run_document<K: Sink>(
+/// Writes what `run PROGRAM STEPS` answers for a document.
+pub fn run_document<K: Sink>(
     alloc: Global,
     program: &str,
     steps: u64,

@@ -20,26 +20,8 @@ returns-in-Upgrade-clause-told g c =
     subst (λ r. TellsText r c.args.text (g.K.Sink.written c.args.out.now) (g.K.Sink.written c.write_upgrade.new.out)
     c.write_upgrade.result) (sym (ap meant c.in-Upgrade.is)) c.write_upgrade.ensures.told
 
-pub returns-in-Run-clause-told : goal.returns-in-Run-clause-told
-returns-in-Run-clause-told g c =
-    input_told (meant c.args.command.now) _ c.args.text c.input_of.result (g.K.Sink.written c.args.out.now)
-    (g.K.Sink.written c.write_run.new.out) c.write_run.result (ap meant c.in-Run.is)
-    c.input_of.ensures c.write_run.ensures.told
-
-pub returns-in-Fixed-clause-told : goal.returns-in-Fixed-clause-told
-returns-in-Fixed-clause-told g c =
-    input_told (meant c.args.command.now) _ c.args.text c.input_of-in-Fixed.result (g.K.Sink.written c.args.out.now)
-    (g.K.Sink.written c.write_fixed.new.out) c.write_fixed.result (ap meant c.in-Fixed.is)
-    c.input_of-in-Fixed.ensures c.write_fixed.ensures.told
-
-pub returns-in-Replay-clause-told : goal.returns-in-Replay-clause-told
-returns-in-Replay-clause-told g c =
-    input_told (meant c.args.command.now) _ c.args.text c.input_of-in-Replay.result (g.K.Sink.written c.args.out.now)
-    (g.K.Sink.written c.write_replay.new.out) c.write_replay.result (ap meant c.in-Replay.is)
-    c.input_of-in-Replay.ensures c.write_replay.ensures.told
-
 pub returns-in-Watch-clause-told : goal.returns-in-Watch-clause-told
 returns-in-Watch-clause-told g c =
-    input_told (meant c.args.command.now) _ c.args.text c.input_of-in-Watch.result (g.K.Sink.written c.args.out.now)
+    input_told (meant c.args.command.now) _ c.args.text c.input_of.result (g.K.Sink.written c.args.out.now)
     (g.K.Sink.written c.write_watch.new.out) c.write_watch.result (ap meant c.in-Watch.is)
-    c.input_of-in-Watch.ensures c.write_watch.ensures.told
+    c.input_of.ensures c.write_watch.ensures.told
