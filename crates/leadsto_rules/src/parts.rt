@@ -1,5 +1,5 @@
 // What each form of node gives, from what its parts give.
-ghost use Rattle.std.specs.Prelude.{◌≡◌, ◌≤◌, max, IfOk, Result};
+ghost use Rattle.std.specs.Prelude.{◌≡◌, ◌≤◌, ◌++◌, max, IfOk, Result};
 ghost use Rattle.case_tables.specs.declared.code_table.Code.{Code as TheCode};
 ghost use Rattle.core_terms.specs.Conditions.{FormFits};
 ghost use Rattle.core_terms.specs.Folding as fold;
@@ -82,38 +82,47 @@ pub(crate) fn led_by(
     node(pl, ranges, claim)
 }
 
-// From p to q and from q to r: from p to r.
-fn joined_on(alloc: Global, pl: &Place, ranges: &[Range], t: Led, u: Led) -> Result<Led, RuleError>
-    requires t { LedFits pl.now.slots.now ranges.now t }
-    requires u { LedFits pl.now.slots.now ranges.now u }
-    ensures answer { TermGives result (terms.node (site_of pl.now) ranges.now (terms.leads_on t u)) }
-    ensures fits { IfOk result (LedFits pl.now.slots.now ranges.now) }
+// A claim over two terms: under what either stands under, and with what either leaves to be shown.
+fn claim_over(
+    alloc: Global,
+    p: Shared<CForm>,
+    q: Shared<CForm>,
+    rounds: u128,
+    t: Led,
+    u: Led,
+) -> Result<Claim, AllocError>
+    ensures p { IfOk result (λ c. c.p ≡ p) }
+    ensures q { IfOk result (λ c. c.q ≡ q) }
+    ensures rounds { IfOk result (λ c. c.rounds ≡ rounds) }
+    ensures under { IfOk result (λ c. c.under ≡ t.under ++ u.under) }
+    ensures forms { IfOk result (λ c. c.forms ≡ t.forms ++ u.forms) }
 {
     let Led {
-        p,
-        q: _middle,
-        bound,
+        p: _p,
+        q: _q,
+        bound: _bound,
         under,
         forms,
     } = t;
     let Led {
-        p: _same,
-        q,
-        bound: more_rounds,
+        p: _other_p,
+        q: _other_q,
+        bound: _other_bound,
         under: more_under,
         forms: more_forms,
     } = u;
-    let claim = Claim {
+    let under = both_lists(alloc, under, more_under)?;
+    let forms = both_lists(alloc, forms, more_forms)?;
+    Ok(Claim {
         p,
         q,
-        rounds: u128::from(bound) + u128::from(more_rounds),
-        under: both_lists(alloc, under, more_under)?,
-        forms: both_lists(alloc, forms, more_forms)?,
-    };
-    node(pl, ranges, claim)
+        rounds,
+        under,
+        forms,
+    })
 }
 
-// `trans T U`, from what T gives and what U does.
+// `trans T U`, from what T gives and what U does: from p to q and from q to r, so from p to r.
 pub(crate) fn led_on(
     alloc: Global,
     pl: &Place,
@@ -128,57 +137,18 @@ pub(crate) fn led_on(
         (terms.node (site_of pl.now) ranges.now (terms.leads_on t u)))) }
     ensures fits { IfOk result (LedFits pl.now.slots.now ranges.now) }
 {
-    match u {
-        Ok(u) => {
-            if is_same(t.q.get(), u.p.get()) {
-                joined_on(alloc, pl, ranges, t, u)
-            } else {
-                Err(RuleError::Fault(Code::MiddleDiffers))
-            }
-        }
-        Err(error) => Err(error),
+    let u = u?;
+    if !is_same(t.q.get(), u.p.get()) {
+        return Err(RuleError::Fault(Code::MiddleDiffers));
     }
-}
-
-// From p to r and from q to r: from p or q to r.
-fn joined_either(
-    alloc: Global,
-    pl: &Place,
-    ranges: &[Range],
-    t: Led,
-    u: Led,
-) -> Result<Led, RuleError>
-    requires t { LedFits pl.now.slots.now ranges.now t }
-    requires u { LedFits pl.now.slots.now ranges.now u }
-    ensures answer { TermGives result (terms.node (site_of pl.now) ranges.now (terms.leads_either t u)) }
-    ensures fits { IfOk result (LedFits pl.now.slots.now ranges.now) }
-{
-    let p = either_of(alloc, t.p.get(), u.p.get())?;
-    let Led {
-        p: _first,
-        q,
-        bound,
-        under,
-        forms,
-    } = t;
-    let Led {
-        p: _second,
-        q: _same,
-        bound: other_rounds,
-        under: more_under,
-        forms: more_forms,
-    } = u;
-    let claim = Claim {
-        p,
-        q,
-        rounds: u128::from(bound.max(other_rounds)),
-        under: both_lists(alloc, under, more_under)?,
-        forms: both_lists(alloc, forms, more_forms)?,
-    };
+    let p = t.p.share()?;
+    let q = u.q.share()?;
+    let rounds = u128::from(t.bound) + u128::from(u.bound);
+    let claim = claim_over(alloc, p, q, rounds, t, u)?;
     node(pl, ranges, claim)
 }
 
-// `either T U`, from what T gives and what U does.
+// `either T U`, from what T gives and what U does: from p to r and from q to r, so from p or q to r.
 pub(crate) fn led_either(
     alloc: Global,
     pl: &Place,
@@ -192,16 +162,15 @@ pub(crate) fn led_either(
         (same_form t.q u.q) TheCode.MiddleDiffers (terms.node (site_of pl.now) ranges.now (terms.leads_either t u)))) }
     ensures fits { IfOk result (LedFits pl.now.slots.now ranges.now) }
 {
-    match u {
-        Ok(u) => {
-            if is_same(t.q.get(), u.q.get()) {
-                joined_either(alloc, pl, ranges, t, u)
-            } else {
-                Err(RuleError::Fault(Code::MiddleDiffers))
-            }
-        }
-        Err(error) => Err(error),
+    let u = u?;
+    if !is_same(t.q.get(), u.q.get()) {
+        return Err(RuleError::Fault(Code::MiddleDiffers));
     }
+    let p = either_of(alloc, t.p.get(), u.p.get())?;
+    let q = t.q.share()?;
+    let rounds = u128::from(t.bound.max(u.bound));
+    let claim = claim_over(alloc, p, q, rounds, t, u)?;
+    node(pl, ranges, claim)
 }
 
 // `weaken p q T`: from a stronger p to a weaker q.
