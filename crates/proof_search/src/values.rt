@@ -142,6 +142,27 @@ fn term_at(at: &Values, t: &CTerm, value: &mut i128) -> Result<(), TooGreat>
     }
 }
 
+/// The values of two terms: the first where it is wanted, and the second beside it.
+#[cycle(evaluating)]
+#[inline(never)]
+fn terms_at(
+    at: &Values,
+    a: &Shared<CTerm>,
+    b: &Shared<CTerm>,
+    value: &mut i128,
+    number: &mut i128,
+) -> Result<(), TooGreat>
+    ensures first_fits { OnOk result (FitsSigned w128 value.new) }
+    ensures first { OnOk result (value.new ≡ settling.term_at at.now.vs.now at.now.values.now a.now) }
+    ensures second_fits { OnOk result (FitsSigned w128 number.new) }
+    ensures second { OnOk result (number.new ≡ settling.term_at at.now.vs.now at.now.values.now b.now) }
+{
+    match term_at(at, a.get(), value) {
+        Ok(()) => term_at(at, b.get(), number),
+        Err(error) => Err(error),
+    }
+}
+
 /// The value of a sum.
 #[cycle(evaluating)]
 #[inline(never)]
@@ -154,21 +175,8 @@ fn sum_at(
     ensures fits { OnOk result (FitsSigned w128 value.new) }
     ensures value { OnOk result (value.new ≡ settling.term_at at.now.vs.now at.now.values.now (term.Add a.now b.now)) }
 {
-    match term_at(at, a.get(), value) {
-        Ok(()) => add_term(at, b, value),
-        Err(error) => Err(error),
-    }
-}
-
-/// Adds the value of a term.
-#[cycle(evaluating)]
-#[inline(never)]
-fn add_term(at: &Values, b: &Shared<CTerm>, value: &mut i128) -> Result<(), TooGreat>
-    ensures fits { OnOk result (FitsSigned w128 value.new) }
-    ensures value { OnOk result (value.new ≡ value.old +ℤ settling.term_at at.now.vs.now at.now.values.now b.now) }
-{
     let mut number = 0;
-    match term_at(at, b.get(), &mut number) {
+    match terms_at(at, a, b, value, &mut number) {
         Ok(()) => add(&number, value),
         Err(error) => Err(error),
     }
@@ -186,21 +194,8 @@ fn difference_at(
     ensures fits { OnOk result (FitsSigned w128 value.new) }
     ensures value { OnOk result (value.new ≡ settling.term_at at.now.vs.now at.now.values.now (term.Sub a.now b.now)) }
 {
-    match term_at(at, a.get(), value) {
-        Ok(()) => subtract_term(at, b, value),
-        Err(error) => Err(error),
-    }
-}
-
-/// Takes the value of a term away.
-#[cycle(evaluating)]
-#[inline(never)]
-fn subtract_term(at: &Values, b: &Shared<CTerm>, value: &mut i128) -> Result<(), TooGreat>
-    ensures fits { OnOk result (FitsSigned w128 value.new) }
-    ensures value { OnOk result (value.new ≡ value.old -ℤ settling.term_at at.now.vs.now at.now.values.now b.now) }
-{
     let mut number = 0;
-    match term_at(at, b.get(), &mut number) {
+    match terms_at(at, a, b, value, &mut number) {
         Ok(()) => subtract(&number, value),
         Err(error) => Err(error),
     }

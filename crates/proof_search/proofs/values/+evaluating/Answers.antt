@@ -1,6 +1,5 @@
-use Rattle.std.proofs.Common.{◌≡◌, ◌∙◌, ap, sym, ℤ, Bool, ◌+ℤ◌, ◌-ℤ◌, to_z, of_z}
+use Rattle.std.proofs.Common.{◌≡◌, ◌∙◌, ap, sym, ℤ, Bool, to_z, of_z}
 use Rattle.std.proofs.lemmas.Int.{to_z-of_z}
-use Rattle.std.proofs.lemmas.Result.{on_ok_weaker}
 use mir.Syntax.{w128}
 use Rattle.core_terms.specs.Values.{form_step}
 use Rattle.core_terms.specs.declared.trees.CForm.TheOpen.{CForm-F}
@@ -31,17 +30,3 @@ zero_at-returns-in-Ok t c =
     ∙ fold-roll-CForm Bool ℤ form_step (settling.term_at_step c.args.at.now.vs.now c.args.at.now.values.now)
     (CForm-F.Zero c.args.t.now)) in
     c.is_zero.ensures ∙ ap (λ z. form_step (CForm-F.Zero z)) (same ∙ c.in-Ok.ensures.value) ∙ step
-
-pub add_term-returns-in-Ok-clause-value : goal.add_term-returns-in-Ok-clause-value
-add_term-returns-in-Ok-clause-value t c =
-    let same : to_z w128 (of_z w128 c.term_at.new.value) ≡ c.term_at.new.value =
-    to_z-of_z w128 c.term_at.new.value c.in-Ok.ensures.fits in
-    on_ok_weaker c.add.result (λ h. h ∙ ap (λ z. c.args.value.now +ℤ z) (same ∙ c.in-Ok.ensures.value
-    ∙ ap (settling.term_at c.args.at.now.vs.now c.args.at.now.values.now) c.get.ensures)) c.add.ensures.value
-
-pub subtract_term-returns-in-Ok-clause-value : goal.subtract_term-returns-in-Ok-clause-value
-subtract_term-returns-in-Ok-clause-value t c =
-    let same : to_z w128 (of_z w128 c.term_at.new.value) ≡ c.term_at.new.value =
-    to_z-of_z w128 c.term_at.new.value c.in-Ok.ensures.fits in
-    on_ok_weaker c.subtract.result (λ h. h ∙ ap (λ z. c.args.value.now -ℤ z) (same ∙ c.in-Ok.ensures.value
-    ∙ ap (settling.term_at c.args.at.now.vs.now c.args.at.now.values.now) c.get.ensures)) c.subtract.ensures.value

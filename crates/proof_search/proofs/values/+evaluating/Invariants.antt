@@ -12,11 +12,8 @@ decreases-sum_at l = 4 * max (size-CTerm l.a.now) (size-CTerm l.b.now) + 3
 abbrev pub decreases-difference_at : goal.decreases-difference_at
 decreases-difference_at l = 4 * max (size-CTerm l.a.now) (size-CTerm l.b.now) + 3
 
-abbrev pub decreases-add_term : goal.decreases-add_term
-decreases-add_term l = 4 * size-CTerm l.b.now + 2
-
-abbrev pub decreases-subtract_term : goal.decreases-subtract_term
-decreases-subtract_term l = 4 * size-CTerm l.b.now + 2
+abbrev pub decreases-terms_at : goal.decreases-terms_at
+decreases-terms_at l = 4 * max (size-CTerm l.a.now) (size-CTerm l.b.now) + 2
 
 abbrev pub decreases-multiple_at : goal.decreases-multiple_at
 decreases-multiple_at l = 4 * size-CTerm l.a.now + 1
