@@ -1,5 +1,5 @@
 -- What the calls answer that expand parts and whole documents.
-use Rattle.std.specs.Prelude.{◌≡◌, List, [], Option, None, option_map, Result, Ok, Err}
+use Rattle.std.specs.Prelude.{◌≡◌, List, [], Option, None, Some, option_map, Result, Ok, Err}
 use Rattle.unity_syntax.specs.declared.name.Name.{Name}
 use Rattle.unity_syntax.specs.declared.program.Program.{Program}
 use Rattle.unity_syntax.specs.declared.document.Part.{Part}
@@ -18,6 +18,8 @@ use Rattle.expand_rules.specs.Forming.{Scope}
 use Rattle.expand_documents.specs.Cores.{with_parts, document_scope, with_cores, core_proofs, core_document}
 use Rattle.expand_documents.specs.Faults.{bodies_fault, headings_fault, headed, expansion_fault}
 use Rattle.quantified_assign.specs.declared.contents.Contents.{Contents}
+use Rattle.quantified_assign.specs.declared.headings.Stop.{Stop}
+use Rattle.quantified_assign.specs.Headings.{IsStop}
 
 -- parts whose slots and words are known
 
@@ -37,6 +39,20 @@ abbrev pub MakesBodies :
     Result (Unit {0}) NameFault → Texts → Scope → List CSlot → List CProgram → List CProof → List Part → Type 0
 MakesBodies (Ok t) words s slots programs proofs parts = BodiesMade words s slots programs proofs parts
 MakesBodies (Err e) words s slots programs proofs parts = Stops e (scope_fault words s slots parts)
+
+-- nothing of parts, whose headings stop here
+pub record NothingMade (s : Scope) (stop : Stop) (cores : List CProgram) (more : List CProof) (parts : List Part) :
+    Type 0 where
+  pub stopped : IsStop s stop parts
+  pub programs : cores ≡ []
+  pub proofs : more ≡ []
+
+-- the same where no heading has a fault; else nothing
+abbrev pub MakesHeaded :
+    Result (Option Stop) NameFault → Texts → Scope → List CSlot → List CProgram → List CProof → List Part → Type 0
+MakesHeaded (Ok None) words s slots programs proofs parts = BodiesMade words s slots programs proofs parts
+MakesHeaded (Ok (Some stop)) words s slots programs proofs parts = NothingMade s stop programs proofs parts
+MakesHeaded (Err e) words s slots programs proofs parts = Stops e (scope_fault words s slots parts)
 
 -- parts
 

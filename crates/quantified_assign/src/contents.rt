@@ -3,15 +3,15 @@
 ghost use Rattle.std.specs.Prelude.{◌≡◌, ◌<◌, ◌≤◌, [], length, None, Some};
 ghost use Rattle.names_rules.specs.Scope.{entries};
 ghost use Rattle.names_rules.specs.Answers.{Demands, Stops};
-ghost use Rattle.expand_documents.specs.Faults.{headings_fault, laid_fault, parts_fault, part_name};
-ghost use Rattle.expand_documents.specs.Cores.{declared_scope, with_parts};
+ghost use Rattle.expand_documents.specs.Faults.{laid_fault, parts_fault, part_name};
+ghost use Rattle.expand_documents.specs.Cores.{declared_scope};
 ghost use Rattle.expand_documents.specs.AlwaysNames.{AreSound, VariablesHaveSlots, definition_scope};
 ghost use Rattle.expand_declarations.specs.Slots.{DeclaredNear, IsWhole, document_slots, past_part};
 ghost use Rattle.quantified_assign.specs.Bodies.{AddsBodies};
 ghost use Rattle.quantified_assign.specs.Expanding as spec;
 
 use crate::bodies::add_bodies;
-use crate::headings::add_headings;
+use crate::headings::{Stop, add_headings};
 use crate::programs::Making;
 use case_tables::Code;
 use core_terms::{CProgram, CProof, CSlot};
@@ -63,7 +63,7 @@ fn add_known<'a>(
     add_bodies(alloc, parts, &making, programs, proofs)
 }
 
-// Adds the bodies of parts whose headings have no fault.
+// Adds the bodies of parts whose headings have no fault. Where one has a fault, adds nothing, and says where.
 fn add_headed<'a>(
     alloc: Global,
     parts: &'a [Part],
@@ -72,22 +72,24 @@ fn add_headed<'a>(
     values: &ValueTable<'a>,
     programs: &mut Seq<CProgram>,
     proofs: &mut Seq<CProof>,
-) -> Result<(), NameFault>
+) -> Result<Option<Stop>, NameFault>
     requires slots { length layout.now.slots ≤ 4096 }
     requires variables { VariablesHaveSlots (entries layout.now.variables) }
     requires first { programs.old ≡ [] }
-    requires headed { headings_fault
-        (definition_scope (entries layout.now.variables) (entries values.now) []) parts.now ≡ None }
-    ensures { AddsBodies result words.now
-        (with_parts (definition_scope (entries layout.now.variables) (entries values.now) []) parts.now)
-        layout.now.slots [] programs.new proofs.old proofs.new parts.now }
+    requires none { proofs.old ≡ [] }
+    ensures { spec.MakesHeaded result words.now
+        (definition_scope (entries layout.now.variables) (entries values.now) [])
+        layout.now.slots programs.new proofs.new parts.now }
 {
     let mut always = IndexMap::new(alloc);
     match add_headings(alloc, parts, &layout.variables, values, &mut always)? {
-        None => add_known(
-            alloc, parts, words, layout, values, &always, programs, proofs,
-        ),
-        Some(_) => unreachable!(),
+        None => {
+            add_known(
+                alloc, parts, words, layout, values, &always, programs, proofs,
+            )?;
+            Ok(None)
+        }
+        Some(stop) => Ok(Some(stop)),
     }
 }
 
@@ -110,11 +112,8 @@ fn add_valued<'a>(
         (definition_scope (entries layout.now.variables) (entries values.now) [])
         layout.now.slots programs.new proofs.new parts.now }
 {
-    let mut always = IndexMap::new(alloc);
-    match add_headings(alloc, parts, &layout.variables, values, &mut always)? {
-        None => add_known(
-            alloc, parts, words, layout, values, &always, programs, proofs,
-        ),
+    match add_headed(alloc, parts, words, layout, values, programs, proofs)? {
+        None => Ok(()),
         Some(stop) => {
             let before = &parts[..stop.place];
             add_headed(alloc, before, words, layout, values, programs, proofs)?;
