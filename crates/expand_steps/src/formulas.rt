@@ -1,19 +1,19 @@
 //! Formulas of a step, and the metric of an induction.
 
-ghost use Rattle.std.specs.Prelude.{◌≡◌, ◌∷◌, [], ◌^◌, ◌≤◌, IfOk};
+ghost use Rattle.std.specs.Prelude.{◌≡◌, ◌∷◌, [], ◌^◌, ◌≤◌};
 ghost use Rattle.expand_rules.specs.Forming.{as_number, as_truth, form_of, formed, term_of};
 ghost use Rattle.expand_expressions.specs.Places.{IsReady, scope};
-ghost use Rattle.expand_expressions.specs.Sound.{IsSound, of_number, of_truth};
+ghost use Rattle.expand_expressions.specs.Sound.{IsSound};
 ghost use Rattle.expand_steps.specs.Elements.{GivesOne, Forms, NotesFlaws, form_in, is_large, number_in, refused};
 ghost use Rattle.expand_steps.specs.Elements.{term_in};
 ghost use Rattle.expand_steps.specs.Elements.{truth_in};
 
 use case_tables::Code;
 use core_terms::{CForm, CTerm, owned_form, owned_term};
-use expand_expressions::{Env, Known, NumberCore, Refusal, TruthCore, form, number, truth};
+use expand_expressions::{Env, Known, Refusal, form, number, truth};
 use expand_rules::{Flaws, Formed, Measure};
 use names_rules::NameFault;
-use std::alloc::{AllocError, Global};
+use std::alloc::Global;
 use unity_syntax::Expr;
 
 /// Whether what has this measure, constant or not, is too large: it weighs more than 2^62, or has more than
@@ -77,20 +77,7 @@ fn settled_truth(alloc: Global, f: Formed, front: u64, bad: &mut Flaws) -> Resul
 {
     let t = truth(alloc, f)?;
     note(t.constant, t.measure, front, bad)?;
-    Ok(form_of(alloc, t)?)
-}
-
-fn form_of(alloc: Global, t: TruthCore) -> Result<CForm, AllocError>
-    ensures { IfOk result (λ f. f ≡ form_of (of_truth t).core) }
-{
-    let TruthCore {
-        form,
-        known: _,
-        constant: _,
-        exact: _,
-        measure: _,
-    } = t;
-    owned_form(alloc, form)
+    Ok(owned_form(alloc, t.form)?)
 }
 
 fn settled_number(alloc: Global, f: Formed, front: u64, bad: &mut Flaws) -> Result<CTerm, NameFault>
@@ -99,20 +86,7 @@ fn settled_number(alloc: Global, f: Formed, front: u64, bad: &mut Flaws) -> Resu
 {
     let n = number(alloc, f)?;
     note(n.constant, n.measure, front, bad)?;
-    Ok(term_of(alloc, n)?)
-}
-
-fn term_of(alloc: Global, n: NumberCore) -> Result<CTerm, AllocError>
-    ensures { IfOk result (λ t. t ≡ term_of (of_number n).core) }
-{
-    let NumberCore {
-        term,
-        known: _,
-        constant: _,
-        exact: _,
-        measure: _,
-    } = n;
-    owned_term(alloc, term)
+    Ok(owned_term(alloc, n.term)?)
 }
 
 /// A formula in core form. `Fault` exactly where it is too large, at the front of what it is a part of.
