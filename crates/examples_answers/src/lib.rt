@@ -6,5 +6,5 @@ mod answers;
 #[cfg(test)]
 mod tests;
 
-pub use answers::{ACCEPTED, COUNT, NOTHING, Row, answer, edited, status_of, wrong_answers};
+pub use answers::{Edit, NOTHING, Row, answer, difference, status_of, wrong_answers, wrong_edits};
 pub use unity_cli::{Status, make_demo};

@@ -1,6 +1,7 @@
 // Documents with certificates of every kind of node, and what is wrong where one certificate of them is another. Facts
 // are numbered from 1: the two bounds of each variable, then what is settled.
-use crate::answers::{ACCEPTED, COUNT, answer, edited, status_of};
+use crate::answers::{answer, status_of};
+use examples_texts::{ACCEPTED, COUNT, edited};
 use std::alloc::{AllocError, Global};
 use std::test::Fail;
 

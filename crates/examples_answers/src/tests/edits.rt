@@ -1,5 +1,6 @@
 // The first document with one edit each.
-use crate::answers::{ACCEPTED, COUNT, answer, edited, status_of};
+use crate::answers::{answer, status_of};
+use examples_texts::{ACCEPTED, COUNT, edited};
 use std::test::Fail;
 
 const SUM: &str = "2: sum 1*2 1*5;";

@@ -1,30 +1,13 @@
 // Runs that stop at the first fixed point.
 use crate::Status;
 use crate::answers::{Row, wrong_answers};
+use examples_texts::{COUNT, counter};
 use std::test::Fail;
 
 const RUNS: &[Row] = &[
     (
         "fixed Count 5",
-        "unity 1
-program Count
-declare
-  x : 0..3
-initially
-  x = 0
-assign
-  inc: x := x + 1 if x < 3
-end
-proof Count
-  safe: defined by text;
-  top: invariant x <= 3 by text;
-end
-certificates
-1: case 1 sum 1*1 1*4 sum 1*3 1*4;
-2: sum 1*2 1*5;
-3: case 1 case 1 sum 1*1 1*5 sum 1*4 1*5 case 1 sum 1*4 1*5 sum 1*2 1*5;
-end
-",
+        COUNT,
         Status::Done,
         "run Count
 0 x=0
@@ -37,25 +20,7 @@ rounds 3
     ),
     (
         "fixed Count 2",
-        "unity 1
-program Count
-declare
-  x : 0..3
-initially
-  x = 0
-assign
-  inc: x := x + 1 if x < 3
-end
-proof Count
-  safe: defined by text;
-  top: invariant x <= 3 by text;
-end
-certificates
-1: case 1 sum 1*1 1*4 sum 1*3 1*4;
-2: sum 1*2 1*5;
-3: case 1 case 1 sum 1*1 1*5 sum 1*4 1*5 case 1 sum 1*4 1*5 sum 1*2 1*5;
-end
-",
+        COUNT,
         Status::Done,
         "run Count
 0 x=0
@@ -85,16 +50,7 @@ rounds 0
     ),
     (
         "fixed Count 3",
-        "unity 1
-program Count
-declare
-  x : 0..3
-initially
-  x = 0
-assign
-  inc: x := x + 1 if x < 3
-end
-",
+        counter!("unity 1\n"),
         Status::Done,
         "run Count
 0 x=0
@@ -107,16 +63,7 @@ rounds 3
     ),
     (
         "fixed None 3",
-        "unity 1
-program Count
-declare
-  x : 0..3
-initially
-  x = 0
-assign
-  inc: x := x + 1 if x < 3
-end
-",
+        counter!("unity 1\n"),
         Status::BadDocument,
         "bad 61 NoProgram
 ",

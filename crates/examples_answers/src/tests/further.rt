@@ -1,231 +1,58 @@
-// Steps by the further rules that are refused.
-use crate::Status;
-use crate::answers::{Row, wrong_answers};
+// Steps by the further rules that are refused, each in a document that is accepted without the edit.
+use crate::answers::{Edit, wrong_edits};
+use examples_texts::{CANCELLED, COMPLETED, HALTED, LOCK};
 use std::test::Fail;
 
-const REFUSED: &[Row] = &[
+const REFUSED: &[Edit] = &[
     (
-        "prove 1000000",
-        "unity 2
-program Count
-declare
-  x : 0..3
-initially
-  x = 0
-assign
-  inc: x := x + 1 if x < 3
-end
-proof Count
-  safe: defined by text;
-  step(m : 1..3): true and 3 - x = m ensures (true and 3 - x < m) or x = 3 by text with inc;
-  goal: true leadsto x = 3 by induct(m : 1..3, 3 - x, true, x = 3, from step[m]);
-  w1: true leadsto x = 3 or false by weaken(true, x = 3 or false, from goal);
-  s1: stable x = 3 by text;
-  w2: true leadsto x >= 2 or false by weaken(true, x >= 2 or false, from goal);
-  s2: stable x >= 2 by text;
-  c: true and true leadsto (x = 3 and x >= 2) or false by complete w1 s2 w2 s1;
-end
-",
-        Status::Rejected,
-        "rejected 33 MiddleDiffers Count.c
-",
+        COMPLETED,
+        "w1 s1 w2 s2",
+        "w1 s2 w2 s1",
+        "rejected 33 MiddleDiffers Count.c\n",
     ),
     (
-        "prove 1000000",
-        "unity 2
-# Two jobs are done side by side, and a halt undoes both.
-program Jobs
-declare
-  x : boolean
-  y : boolean
-  stop : boolean
-initially
-  not x and not y and not stop
-assign
-     left: x := true if not stop
-  [] right: y := true if not stop
-  [] halt: x, y, stop := false, false, true
-end
-proof Jobs
-  safe: defined by text;
-  ex: true ensures x or stop by text with left;
-  ey: true ensures y or stop by text with right;
-  lx: true leadsto x or stop by from ex;
-  ly: true leadsto y or stop by from ey;
-  ux: x unless stop by text;
-  uy: y unless stop by text;
-  both: true and true leadsto (x and y) or stop by complete ex ux ly uy;
-end
-",
-        Status::Rejected,
-        "rejected 32 WrongKind Jobs.both
-",
+        HALTED,
+        "complete lx",
+        "complete ex",
+        "rejected 32 WrongKind Jobs.both\n",
     ),
     (
-        "prove 1000000",
-        "unity 1
-program Count
-declare
-  x : 0..3
-initially
-  x = 0
-assign
-  inc: x := x + 1 if x < 3
-end
-proof Count
-  safe: defined by text;
-  step(m : 1..3): true and 3 - x = m ensures (true and 3 - x < m) or x = 3 by text with inc;
-  goal: true leadsto x = 3 by induct(m : 1..3, 3 - x, true, x = 3, from step[m]);
-  r: true leadsto x = 3 or x = 2 by weaken(true, x = 3 or x = 2, from goal);
-  e: x = 2 ensures x = 3 by text with inc;
-  s: x = 2 leadsto x = 3 by from e;
-  c: true leadsto x = 3 or x = 3 by cancel r s;
-end
-",
-        Status::Rejected,
-        "rejected 32 WrongKind Count.c
-",
+        CANCELLED,
+        "unity 2",
+        "unity 1",
+        "rejected 32 WrongKind Count.c\n",
     ),
     (
-        "prove 1000000",
-        "unity 2
-program Count
-declare
-  x : 0..3
-initially
-  x = 0
-assign
-  inc: x := x + 1 if x < 3
-end
-proof Count
-  safe: defined by text;
-  step(m : 1..3): true and 3 - x = m ensures (true and 3 - x < m) or x = 3 by text with inc;
-  goal: true leadsto x = 3 by induct(m : 1..3, 3 - x, true, x = 3, from step[m]);
-  r: true leadsto x = 3 or x = 2 by weaken(true, x = 3 or x = 2, from goal);
-  e: x = 2 ensures x = 3 by text with inc;
-  s: x = 2 leadsto x = 3 by from e;
-  c: true leadsto x = 3 or x = 3 by cancel s r;
-end
-",
-        Status::Rejected,
-        "rejected 33 MiddleDiffers Count.c
-",
+        CANCELLED,
+        "cancel r s",
+        "cancel s r",
+        "rejected 33 MiddleDiffers Count.c\n",
     ),
     (
-        "prove 1000000",
-        "unity 2
-# A lock that tells by a lamp that it is held, and never changes its keeper.
-program Lock
-declare
-  want : boolean
-  held : boolean
-  lamp : boolean
-  keeper : 0..3
-initially
-  not want and not held and not lamp and keeper = 2
-assign
-     ask:  want := true if not want and not held
-  [] take: want, held := false, true if want
-  [] show: lamp := true if held
-  [] drop: held, lamp := false, false if lamp
-end
-proof Lock
-  safe: defined by text;
-  wu: want unless held by text;
-  we: want ensures held by text with take;
-  wl: want leadsto held by from we;
-  waits: want until held by until we wl;
-  lit: invariant lamp => held by text;
-  he: held ensures lamp by text with show;
-  hl: held leadsto lamp by from he;
-  shows: lamp detects held by detects lit hl;
-  k1(m : 0..3): stable keeper = m by text;
-  k2(m : 0..3): stable not keeper = m by text;
-  same(m : 0..3): constant keeper = m by constant k1[m] k2[m];
-end
-",
-        Status::Rejected,
-        "rejected 32 WrongKind Lock.waits
-",
+        LOCK,
+        "until wu wl",
+        "until we wl",
+        "rejected 32 WrongKind Lock.waits\n",
     ),
     (
-        "prove 1000000",
-        "unity 2
-# A lock that tells by a lamp that it is held, and never changes its keeper.
-program Lock
-declare
-  want : boolean
-  held : boolean
-  lamp : boolean
-  keeper : 0..3
-initially
-  not want and not held and not lamp and keeper = 2
-assign
-     ask:  want := true if not want and not held
-  [] take: want, held := false, true if want
-  [] show: lamp := true if held
-  [] drop: held, lamp := false, false if lamp
-end
-proof Lock
-  safe: defined by text;
-  wu: want unless held by text;
-  we: want ensures held by text with take;
-  wl: want leadsto held by from we;
-  waits: want until held by until wu wl;
-  lit: invariant held or not lamp by text;
-  he: held ensures lamp by text with show;
-  hl: held leadsto lamp by from he;
-  shows: lamp detects held by detects lit hl;
-  k1(m : 0..3): stable keeper = m by text;
-  k2(m : 0..3): stable not keeper = m by text;
-  same(m : 0..3): constant keeper = m by constant k1[m] k2[m];
-end
-",
-        Status::Rejected,
-        "rejected 33 MiddleDiffers Lock.shows
-",
+        LOCK,
+        "lamp => held",
+        "held or not lamp",
+        "rejected 33 MiddleDiffers Lock.shows\n",
     ),
     (
-        "prove 1000000",
-        "unity 2
-# A lock that tells by a lamp that it is held, and never changes its keeper.
-program Lock
-declare
-  want : boolean
-  held : boolean
-  lamp : boolean
-  keeper : 0..3
-initially
-  not want and not held and not lamp and keeper = 2
-assign
-     ask:  want := true if not want and not held
-  [] take: want, held := false, true if want
-  [] show: lamp := true if held
-  [] drop: held, lamp := false, false if lamp
-end
-proof Lock
-  safe: defined by text;
-  wu: want unless held by text;
-  we: want ensures held by text with take;
-  wl: want leadsto held by from we;
-  waits: want until held by until wu wl;
-  lit: invariant lamp => held by text;
-  he: held ensures lamp by text with show;
-  hl: held leadsto lamp by from he;
-  shows: lamp detects held by detects lit hl;
-  k1(m : 0..3): stable keeper = m by text;
-  k2(m : 0..3): stable not keeper = m by text;
-  same(m : 0..3): constant keeper = m by constant k1[m] k1[m];
-end
-",
-        Status::Rejected,
-        "rejected 33 MiddleDiffers Lock.same
-",
+        LOCK,
+        "k1[m] k2[m]",
+        "k1[m] k1[m]",
+        "rejected 33 MiddleDiffers Lock.same\n",
     ),
 ];
 
 #[test]
 fn further_steps_are_refused(rt: HostRuntime) -> Result<(), Fail> {
-    assert_eq!(rt; wrong_answers(rt.alloc(), REFUSED)?.as_str(), "");
+    assert_eq!(rt;
+        wrong_edits(rt.alloc(), "prove 1000000", REFUSED)?.as_str(),
+        ""
+    );
     Ok(())
 }

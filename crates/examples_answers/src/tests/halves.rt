@@ -1,46 +1,12 @@
 // Two documents whose claims are true since no whole number lies between, and what is wrong where one certificate of
 // them is another.
 use super::certificates::{Damage, wrong_verdicts};
+use examples_texts::{even, half};
 use std::test::Fail;
 
-const EVEN: &str = "unity 1
-program Even
-declare
-  x : 0..9
-  y : 0..9
-assign
-  stay: x := x
-end
-proof Even
-  safe: defined by text;
-  odd: invariant not (2 * x = 2 * y + 1) by text;
-end
-certificates
-1: case 1 sum 1*1 1*3 sum 1*2 1*3;
-2: round 2 1*5 sum 1*6 2*7;
-3: case 2 case 2 sum 1*1 1*5 sum 1*2 1*5 round 2 1*5 sum 1*6 2*7;
-end
-";
+const EVEN: &str = even!("unity 1\n");
 
-const HALF: &str = "unity 1
-program Half
-declare
-  x : 0..3
-initially
-  x = 0
-assign
-  turn: x := 3 - x
-end
-proof Half
-  safe: defined by text;
-  no: invariant not (2 * x = 3) by text;
-end
-certificates
-1: case 1 sum 1*2 1*3 sum 1*1 1*3;
-2: sum 2*4 1*5;
-3: case 2 case 2 sum 1*2 1*3 sum 1*1 1*3 split 1 1 sum 1*4 2*5 sum 1*3 2*5;
-end
-";
+const HALF: &str = half!("unity 1\n");
 
 /// The one variable is x.
 const EVEN_SAFE: Damage = Damage {

@@ -1,6 +1,7 @@
 // The answers for each front part of a document.
 use crate::Status;
-use crate::answers::{ACCEPTED, COUNT, NOTHING, answer};
+use crate::answers::{NOTHING, answer};
+use examples_texts::{ACCEPTED, COUNT};
 use std::alloc::{AllocError, Global};
 use std::test::Fail;
 

@@ -1,8 +1,8 @@
 // The tables of words, through the crates above them, and the tokens of the first document.
-use crate::answers::{COUNT, edited};
 use case_tables::{
     Code, Kind, RuleName, Symbol, Word, codes, kinds, number, rules, symbols, words,
 };
+use examples_texts::{COUNT, edited};
 use std::alloc::{AllocError, Global};
 use std::test::Fail;
 use unity_lexer::lex;

@@ -1,7 +1,7 @@
 // Texts with the answers that the grammar gives them by hand, through the lexer. Of a text that is
 // refused the first part is what stands before the bad token, and the second begins with it.
-use crate::answers::COUNT;
 use case_tables::Code;
+use examples_texts::COUNT;
 use std::alloc::Global;
 use std::test::Fail;
 use unity_lexer::lex;

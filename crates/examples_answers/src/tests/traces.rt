@@ -1,6 +1,7 @@
 // Traces of programs and of schedules, and what has none.
 use crate::Status;
-use crate::answers::{COUNT, Row, answer, wrong_answers};
+use crate::answers::{Row, answer, wrong_answers};
+use examples_texts::COUNT;
 use std::test::Fail;
 
 const UNION: &str = "unity 1

@@ -1,6 +1,7 @@
 // Documents in version 2.
 use crate::Status;
-use crate::answers::{ACCEPTED, COUNT, Row, answer, edited, wrong_answers};
+use crate::answers::{Row, answer, wrong_answers};
+use examples_texts::{ACCEPTED, COUNT, edited};
 use std::test::Fail;
 
 /// Documents that are refused or rejected, with the text of `check`; and of version 2, which come back.

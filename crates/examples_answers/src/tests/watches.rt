@@ -1,27 +1,13 @@
 // Schedules that are watched.
 use crate::Status;
 use crate::answers::{Row, wrong_answers};
+use examples_texts::{WATCHED, counter, job, limited_counter};
 use std::test::Fail;
 
 const WATCHES: &[Row] = &[
     (
         "watch",
-        "unity 1
-program Count
-declare
-  x : 0..3
-initially
-  x = 0
-assign
-  inc: x := x + 1 if x < 3
-end
-proof Count
-  safe: defined by text;
-  step(m : 1..3): true and 3 - x = m ensures (true and 3 - x < m) or x = 3 by text with inc;
-  goal: true leadsto x = 3 by induct(m : 1..3, 3 - x, true, x = 3, from step[m]);
-end
-schedule Count : inc, inc, inc end
-",
+        WATCHED,
         Status::Done,
         "watched Count 4 states 3 rounds
 Count.safe defined
@@ -31,24 +17,7 @@ Count.goal leadsto 3
     ),
     (
         "watch",
-        "unity 1
-program Job
-declare
-  left : 0..2
-  tick : 0..1
-initially
-  left = 2
-assign
-     work: left := left - 1 if left > 0
-  [] idle: tick := 1 - tick
-end
-proof Job
-  safe: defined by text;
-  one: left = 2 ensures left = 1 by text with work;
-  soon: left = 2 leadsto left = 0 by weaken(left = 2, left = 0, from one);
-end
-schedule Job : work, work, idle end
-",
+        job!("work, work, idle"),
         Status::Done,
         "watched Job 4 states 1 rounds
 Job.safe defined
@@ -58,81 +27,37 @@ Job.soon leadsto 1
     ),
     (
         "watch",
-        "unity 1
-program Count
-declare
-  x : 0..3
-initially
-  x = 0
-assign
-  inc: x := x + 1 if x < 3
-end
-proof Count
+        counter!(
+            "unity 1\n",
+            "proof Count
   keep: stable x = 3 by text;
   safe: defined by text;
   lim(m : 1..5000): stable x <= m by text;
 end
 schedule Count : inc end
-",
+"
+        ),
         Status::Rejected,
         "rejected 36 DefinedMissing Count.keep
 ",
     ),
     (
         "watch",
-        "unity 1
-program Count
-declare
-  x : 0..3
-initially
-  x = 0
-assign
-  inc: x := x + 1 if x < 3
-end
-schedule Count : inc, inc end
-",
+        counter!("unity 1\n", "schedule Count : inc, inc end\n"),
         Status::BadDocument,
         "bad 63 NoProof
 ",
     ),
     (
         "watch",
-        "unity 1
-program Count
-declare
-  x : 0..3
-initially
-  x = 0
-assign
-  inc: x := x + 1 if x < 3
-end
-proof Count
-  safe: defined by text;
-  lim(m : 1..4096): stable x <= m by text;
-end
-schedule Count : inc, inc end
-",
+        limited_counter!("1..4096"),
         Status::BadDocument,
         "bad 62 TooManyCases
 ",
     ),
     (
         "watch",
-        "unity 1
-program Count
-declare
-  x : 0..3
-initially
-  x = 0
-assign
-  inc: x := x + 1 if x < 3
-end
-proof Count
-  safe: defined by text;
-  lim(m : 3..4097): stable x <= m by text;
-end
-schedule Count : inc, inc end
-",
+        limited_counter!("3..4097"),
         Status::Done,
         "watched Count 3 states 2 rounds
 Count.safe defined
@@ -141,20 +66,14 @@ Count.lim unless
     ),
     (
         "watch",
-        "unity 1
-program Count
-declare
-  x : 0..3
-initially
-  x = 0
-assign
-  inc: x := x + 1 if x < 3
-end
-proof Count
+        counter!(
+            "unity 1\n",
+            "proof Count
   safe: defined by text;
 end
 schedule Count : end
-",
+"
+        ),
         Status::Done,
         "watched Count 1 states 0 rounds
 Count.safe defined
@@ -162,24 +81,7 @@ Count.safe defined
     ),
     (
         "watch",
-        "unity 1
-program Job
-declare
-  left : 0..2
-  tick : 0..1
-initially
-  left = 2
-assign
-     work: left := left - 1 if left > 0
-  [] idle: tick := 1 - tick
-end
-proof Job
-  safe: defined by text;
-  one: left = 2 ensures left = 1 by text with work;
-  soon: left = 2 leadsto left = 0 by weaken(left = 2, left = 0, from one);
-end
-schedule Job : idle, idle, idle end
-",
+        job!("idle, idle, idle"),
         Status::Done,
         "watched Job 4 states 0 rounds
 Job.safe defined

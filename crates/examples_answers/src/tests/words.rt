@@ -1,6 +1,7 @@
 // Words, and documents with short answers.
 use crate::Status;
-use crate::answers::{ACCEPTED, COUNT, NOTHING, Row, answer, wrong_answers};
+use crate::answers::{NOTHING, Row, answer, wrong_answers};
+use examples_texts::{ACCEPTED, COUNT};
 use std::test::Fail;
 
 /// Words with the first document, where the read and the write of these numbers fail.
