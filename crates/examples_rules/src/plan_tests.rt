@@ -1,44 +1,15 @@
 // Plans of documents, with their records and the owners of their obligations worked out by hand.
 use crate::{NoPlan, plan_of};
 use case_tables::{Code, Kind};
+use examples_texts::{bounded_counter, ring};
 use proof_plans::Plan;
 use std::process::Abort;
 use std::test::Fail;
 
-const COUNT: &str = "unity 1
-program Count
-declare
-  x : 0..3
-initially
-  x = 0
-assign
-  inc: x := x + 1 if x < 3
-end
-proof Count
-  safe: defined by text;
-  top: invariant x <= 3 by text;
-end
-";
+const COUNT: &str = bounded_counter!("unity 1\n", "x <= 3");
 
 /// The token goes down a ring of three, one statement a place.
-const RING: &str = "unity 1
-program Ring
-declare
-  at : 0..2
-initially
-  at = 2
-assign
-  <[] i : 1..2 :: pass: at := i - 1 if at = i |>
-  [] wrap: at := 2 if at = 0
-end
-proof Ring
-  safe: defined by text;
-  step(m : 1..2): true and at = m ensures (true and at < m) or at = 0 by text with pass[m];
-  goal: true leadsto at = 0 by induct(m : 1..2, at, true, at = 0, from step[m]);
-  home: at = 0 ensures at = 2 by text with wrap;
-  again: true leadsto at = 2 by trans(from goal, from home);
-end
-";
+const RING: &str = ring!("2");
 
 /// No step says that the statements are defined.
 const BARE: &str = "unity 1

@@ -15,8 +15,9 @@ mod unions;
 mod weakening;
 mod whole_layers;
 
-use examples_answers::{answer, status_of};
+use examples_answers::{difference, status_of};
 use std::alloc::{AllocError, Global};
+use std::process::Abort;
 
 /// A document up to the last step of a proof that goes on.
 struct Start {
@@ -65,32 +66,40 @@ fn whole_answer(alloc: Global, start: &Start, text: &str) -> Result<String, Allo
 }
 
 /// What `check` writes where it is not this text: the document and both texts.
-fn difference(alloc: Global, document: &str, text: &str) -> Result<String, AllocError> {
-    let (status, written) = answer(alloc, "check", document.as_bytes(), 0, 0)?;
-    if status == status_of(text) && written.as_str() == text {
-        return Ok(String::new(alloc));
-    }
-    format!(in alloc; "{document}{written}{text}\n")
+fn checked(alloc: Global, document: &str, text: &str) -> Result<String, AllocError> {
+    difference(alloc, "check", document, status_of(text), text)
 }
 
-/// The rows with another answer than theirs.
-fn wrong_refusals(alloc: Global, start: &Start, rows: &[Refused]) -> Result<String, AllocError> {
+/// Each row is refused as it says.
+fn assert_refused(
+    rt: &impl Abort,
+    alloc: Global,
+    start: &Start,
+    rows: &[Refused],
+) -> Result<(), AllocError> {
     let mut wrong = String::new(alloc);
     for (steps, refusal) in rows {
         let document = longer(alloc, start, steps, "")?;
         let text = format!(in alloc; "rejected {refusal}\n")?;
-        wrong.push_str(difference(alloc, document.as_str(), text.as_str())?.as_str())?;
+        wrong.push_str(checked(alloc, document.as_str(), text.as_str())?.as_str())?;
     }
-    Ok(wrong)
+    assert_eq!(rt; wrong.as_str(), "");
+    Ok(())
 }
 
-/// The rows with another answer than theirs.
-fn wrong_judgements(alloc: Global, start: &Start, rows: &[Judged]) -> Result<String, AllocError> {
+/// Each row has its answer.
+fn assert_judged(
+    rt: &impl Abort,
+    alloc: Global,
+    start: &Start,
+    rows: &[Judged],
+) -> Result<(), AllocError> {
     let mut wrong = String::new(alloc);
     for (steps, certificates, answer) in rows {
         let document = longer(alloc, start, steps, certificates)?;
         let text = whole_answer(alloc, start, answer)?;
-        wrong.push_str(difference(alloc, document.as_str(), text.as_str())?.as_str())?;
+        wrong.push_str(checked(alloc, document.as_str(), text.as_str())?.as_str())?;
     }
-    Ok(wrong)
+    assert_eq!(rt; wrong.as_str(), "");
+    Ok(())
 }

@@ -4,7 +4,8 @@ mod further;
 mod points;
 mod programs;
 
-use examples_answers::{ACCEPTED, COUNT, Row, Status, answer, edited, make_demo, wrong_answers};
+use examples_answers::{Row, Status, answer, make_demo, wrong_answers};
+use examples_texts::{ACCEPTED, COUNT, PICK, edited, ring};
 use std::alloc::{AllocError, Global};
 use std::test::Fail;
 
@@ -28,21 +29,6 @@ end
 const SWAP_ACCEPTED: &str = "accepted 2 steps 3 obligations
 Swap.safe defined
 Swap.both invariant
-";
-
-/// A choice of two values, both of which apply at once where b and c do.
-const PICK: &str = "unity 1
-program Pick
-declare
-  x : 0..3
-  b : boolean
-  c : boolean
-assign
-  set: x := 1 if b ~ 2 if c
-end
-proof Pick
-  safe: defined by text;
-end
 ";
 
 const REFUSALS: &[Row] = &[
@@ -242,24 +228,7 @@ fn false_claims(rt: HostRuntime) -> Result<(), Fail> {
 }
 
 /// The ring of two places.
-const RING_OF_TWO: &str = "unity 1
-program Ring
-declare
-  at : 0..1
-initially
-  at = 1
-assign
-  <[] i : 1..1 :: pass: at := i - 1 if at = i |>
-  [] wrap: at := 1 if at = 0
-end
-proof Ring
-  safe: defined by text;
-  step(m : 1..1): true and at = m ensures (true and at < m) or at = 0 by text with pass[m];
-  goal: true leadsto at = 0 by induct(m : 1..1, at, true, at = 0, from step[m]);
-  home: at = 0 ensures at = 1 by text with wrap;
-  again: true leadsto at = 1 by trans(from goal, from home);
-end
-";
+const RING_OF_TWO: &str = ring!("1");
 
 #[test]
 fn bytes_of_rings(rt: HostRuntime) -> Result<(), Fail> {

@@ -1,40 +1,8 @@
 // Proof terms that bind numbers, by `exists` and `induct`: their bounds, and what is wrong with them.
+use super::starts::FAR_RANGES;
 use super::terms::COUNT_UP;
-use super::{Judged, Refused, Start, wrong_judgements, wrong_refusals};
+use super::{Judged, Refused, assert_judged, assert_refused};
 use std::test::Fail;
-
-/// Bounds from ranges as wide as they can be.
-const FAR_RANGES: Start = Start {
-    document: "unity 1 program P declare x : 0..3 assign go: x := 1 end
-proof P safe: defined by text; one: true ensures true by text with go;
-s(m : 0..536870911): true and x = m ensures (true and x < m) or true by text with go;
-g: true leadsto true by induct(m : 0..536870911, x, true, true, from s[m]);
-h: true leadsto true by
-induct(m : 0..536870911, x, true, true, weaken(true and x = m, (true and x < m) or true, from g));
-k: true leadsto true by
-induct(m : 0..31, x, true, true, weaken(true and x = m, (true and x < m) or true, from h));
-",
-    certificates: "1: sum 1*1;
-2: sum 1*1;
-3: sum 1*1;
-4: sum 1*7;
-5: sum 1*7;
-6: sum 1*3;
-7: sum 1*7;
-8: sum 1*5;
-9: sum 1*3;
-10: sum 1*7;
-11: sum 1*5;
-12: sum 1*3;
-",
-    lines: "P.safe defined
-P.one ensures
-P.s ensures
-P.g leadsto 536870912
-P.h leadsto 288230376151711744
-P.k leadsto 9223372036854775808
-",
-};
 
 /// Terms by `exists`.
 const EXISTING: &[Judged] = &[
@@ -78,6 +46,12 @@ exists(m : 0..1, imply(x = n and n <= m, x = n));",
     ),
 ];
 
+#[test]
+fn terms_hold_for_some_number(rt: HostRuntime) -> Result<(), Fail> {
+    assert_judged(&rt, rt.alloc(), &COUNT_UP, EXISTING)?;
+    Ok(())
+}
+
 /// The right side may not name what is bound; and what is large.
 const EXISTING_REFUSED: &[Refused] = &[
     (
@@ -109,6 +83,12 @@ const EXISTING_REFUSED: &[Refused] = &[
         "42 FormulaTooLarge Count.d",
     ),
 ];
+
+#[test]
+fn bound_numbers_stay_inside(rt: HostRuntime) -> Result<(), Fail> {
+    assert_refused(&rt, rt.alloc(), &COUNT_UP, EXISTING_REFUSED)?;
+    Ok(())
+}
 
 /// Terms by `induct`.
 const INDUCED: &[Judged] = &[
@@ -147,6 +127,12 @@ weaken(x >= 1 and 3 - x = m, (x >= 1 and 3 - x < m) or x = 3, from goal));",
     ),
 ];
 
+#[test]
+fn terms_descend(rt: HostRuntime) -> Result<(), Fail> {
+    assert_judged(&rt, rt.alloc(), &COUNT_UP, INDUCED)?;
+    Ok(())
+}
+
 /// The step of an induction that has another form.
 const INDUCED_REFUSED: &[Refused] = &[
     (
@@ -179,6 +165,12 @@ const INDUCED_REFUSED: &[Refused] = &[
     ),
 ];
 
+#[test]
+fn descents_have_their_form(rt: HostRuntime) -> Result<(), Fail> {
+    assert_refused(&rt, rt.alloc(), &COUNT_UP, INDUCED_REFUSED)?;
+    Ok(())
+}
+
 /// Bounds up to 2^63.
 const FAR: &[Refused] = &[
     (
@@ -208,6 +200,12 @@ induct(m : 0..1, x, true, true, weaken(true and x = m, (true and x < m) or true,
     ),
 ];
 
+#[test]
+fn bounds_end_at_2_to_63(rt: HostRuntime) -> Result<(), Fail> {
+    assert_refused(&rt, rt.alloc(), &FAR_RANGES, FAR)?;
+    Ok(())
+}
+
 /// The same, where further certificates come first.
 const FAR_FURTHER: &[Judged] = &[
     (
@@ -228,52 +226,7 @@ const FAR_FURTHER: &[Judged] = &[
 ];
 
 #[test]
-fn terms_hold_for_some_number(rt: HostRuntime) -> Result<(), Fail> {
-    assert_eq!(rt;
-        wrong_judgements(rt.alloc(), &COUNT_UP, EXISTING)?.as_str(),
-        ""
-    );
-    Ok(())
-}
-
-#[test]
-fn bound_numbers_stay_inside(rt: HostRuntime) -> Result<(), Fail> {
-    assert_eq!(rt;
-        wrong_refusals(rt.alloc(), &COUNT_UP, EXISTING_REFUSED)?.as_str(),
-        ""
-    );
-    Ok(())
-}
-
-#[test]
-fn terms_descend(rt: HostRuntime) -> Result<(), Fail> {
-    assert_eq!(rt;
-        wrong_judgements(rt.alloc(), &COUNT_UP, INDUCED)?.as_str(),
-        ""
-    );
-    Ok(())
-}
-
-#[test]
-fn descents_have_their_form(rt: HostRuntime) -> Result<(), Fail> {
-    assert_eq!(rt;
-        wrong_refusals(rt.alloc(), &COUNT_UP, INDUCED_REFUSED)?.as_str(),
-        ""
-    );
-    Ok(())
-}
-
-#[test]
-fn bounds_end_at_2_to_63(rt: HostRuntime) -> Result<(), Fail> {
-    assert_eq!(rt; wrong_refusals(rt.alloc(), &FAR_RANGES, FAR)?.as_str(), "");
-    Ok(())
-}
-
-#[test]
 fn bounds_end_at_2_to_63_further(rt: HostRuntime) -> Result<(), Fail> {
-    assert_eq!(rt;
-        wrong_judgements(rt.alloc(), &FAR_RANGES, FAR_FURTHER)?.as_str(),
-        ""
-    );
+    assert_judged(&rt, rt.alloc(), &FAR_RANGES, FAR_FURTHER)?;
     Ok(())
 }

@@ -1,6 +1,6 @@
 // Steps by the further rules whose bounds are reckoned: completion, and cancellation for a leads-to.
 use super::starts::{FAR_AND_LARGE, LED_AND_KEPT};
-use super::{Judged, Refused, wrong_judgements, wrong_refusals};
+use super::{Judged, Refused, assert_judged, assert_refused};
 use std::test::Fail;
 
 /// What `complete` gives: the bound is the greater one, and both have to end alike.
@@ -141,6 +141,13 @@ const COMPLETED_REFUSED: &[Refused] = &[
     ),
 ];
 
+#[test]
+fn steps_complete(rt: HostRuntime) -> Result<(), Fail> {
+    assert_judged(&rt, rt.alloc(), &LED_AND_KEPT, COMPLETED)?;
+    assert_refused(&rt, rt.alloc(), &LED_AND_KEPT, COMPLETED_REFUSED)?;
+    Ok(())
+}
+
 /// What `cancel` gives for a leads-to: the bound is the sum.
 const CANCELLED: &[Judged] = &[
     (
@@ -227,6 +234,13 @@ const CANCELLED_REFUSED: &[Refused] = &[
     ),
 ];
 
+#[test]
+fn leads_are_cancelled(rt: HostRuntime) -> Result<(), Fail> {
+    assert_judged(&rt, rt.alloc(), &LED_AND_KEPT, CANCELLED)?;
+    assert_refused(&rt, rt.alloc(), &LED_AND_KEPT, CANCELLED_REFUSED)?;
+    Ok(())
+}
+
 /// Sums of bounds that end at 2^63, and conclusions that are too large: the bound comes first.
 const FAR: &[Refused] = &[
     (
@@ -263,40 +277,8 @@ const FAR_ALLOWED: &[Judged] = &[(
 )];
 
 #[test]
-fn steps_complete(rt: HostRuntime) -> Result<(), Fail> {
-    let alloc = rt.alloc();
-    assert_eq!(rt;
-        wrong_judgements(alloc, &LED_AND_KEPT, COMPLETED)?.as_str(),
-        ""
-    );
-    assert_eq!(rt;
-        wrong_refusals(alloc, &LED_AND_KEPT, COMPLETED_REFUSED)?.as_str(),
-        ""
-    );
-    Ok(())
-}
-
-#[test]
-fn leads_are_cancelled(rt: HostRuntime) -> Result<(), Fail> {
-    let alloc = rt.alloc();
-    assert_eq!(rt;
-        wrong_judgements(alloc, &LED_AND_KEPT, CANCELLED)?.as_str(),
-        ""
-    );
-    assert_eq!(rt;
-        wrong_refusals(alloc, &LED_AND_KEPT, CANCELLED_REFUSED)?.as_str(),
-        ""
-    );
-    Ok(())
-}
-
-#[test]
 fn sums_end_at_2_to_63(rt: HostRuntime) -> Result<(), Fail> {
-    let alloc = rt.alloc();
-    assert_eq!(rt; wrong_refusals(alloc, &FAR_AND_LARGE, FAR)?.as_str(), "");
-    assert_eq!(rt;
-        wrong_judgements(alloc, &FAR_AND_LARGE, FAR_ALLOWED)?.as_str(),
-        ""
-    );
+    assert_refused(&rt, rt.alloc(), &FAR_AND_LARGE, FAR)?;
+    assert_judged(&rt, rt.alloc(), &FAR_AND_LARGE, FAR_ALLOWED)?;
     Ok(())
 }

@@ -1,6 +1,6 @@
 // Statements that help, and formulas that are too large.
 use super::starts::{HEAVY_STEP, INDEXED, LARGE_NAME, LARGE_STEP, NOTHING_YET};
-use super::{Judged, Refused, wrong_judgements, wrong_refusals};
+use super::{Judged, Refused, assert_judged, assert_refused};
 use std::test::Fail;
 
 /// The statement that helps: its label, the number of its indices, and an instance of them.
@@ -38,6 +38,12 @@ const HELPERS: &[Refused] = &[
         "41 NoSuchStatement P.e",
     ),
 ];
+
+#[test]
+fn statements_help(rt: HostRuntime) -> Result<(), Fail> {
+    assert_refused(&rt, rt.alloc(), &INDEXED, HELPERS)?;
+    Ok(())
+}
 
 /// The same, where further certificates come first.
 const HELPERS_FURTHER: &[Judged] = &[
@@ -77,6 +83,12 @@ const HELPERS_FURTHER: &[Judged] = &[
     ),
 ];
 
+#[test]
+fn statements_help_further(rt: HostRuntime) -> Result<(), Fail> {
+    assert_judged(&rt, rt.alloc(), &INDEXED, HELPERS_FURTHER)?;
+    Ok(())
+}
+
 /// An instance that is too large, before the next reference.
 const HEAVY: &[Refused] = &[
     (
@@ -101,6 +113,12 @@ const HEAVY: &[Refused] = &[
     ),
 ];
 
+#[test]
+fn large_instances_are_refused(rt: HostRuntime) -> Result<(), Fail> {
+    assert_refused(&rt, rt.alloc(), &HEAVY_STEP, HEAVY)?;
+    Ok(())
+}
+
 /// A conclusion that is too large, after the middle and before what is claimed.
 const LARGE: &[Refused] = &[
     ("simpleconj f f;", "42 FormulaTooLarge P.d"),
@@ -109,6 +127,12 @@ const LARGE: &[Refused] = &[
     ("cancel f f;", "33 MiddleDiffers P.d"),
     ("weaken f;", "34 ConclusionDiffers P.d"),
 ];
+
+#[test]
+fn large_conclusions_are_refused(rt: HostRuntime) -> Result<(), Fail> {
+    assert_refused(&rt, rt.alloc(), &LARGE_STEP, LARGE)?;
+    Ok(())
+}
 
 /// An unknown statement, and a start that is none, are told before a formula that is too large.
 const LARGE_TEXTS: &[Refused] = &[
@@ -121,6 +145,12 @@ const LARGE_TEXTS: &[Refused] = &[
         "42 FormulaTooLarge P.safe",
     ),
 ];
+
+#[test]
+fn large_obligations_are_refused(rt: HostRuntime) -> Result<(), Fail> {
+    assert_refused(&rt, rt.alloc(), &LARGE_NAME, LARGE_TEXTS)?;
+    Ok(())
+}
 
 /// The same, where further certificates come first.
 const LARGE_TEXTS_FURTHER: &[Judged] = &[
@@ -135,6 +165,12 @@ const LARGE_TEXTS_FURTHER: &[Judged] = &[
         "rejected 42 FormulaTooLarge P.e\n",
     ),
 ];
+
+#[test]
+fn large_obligations_are_refused_further(rt: HostRuntime) -> Result<(), Fail> {
+    assert_judged(&rt, rt.alloc(), &LARGE_NAME, LARGE_TEXTS_FURTHER)?;
+    Ok(())
+}
 
 /// Many writes to one slot: of the first it hangs on the state whether they agree, and the second always do.
 const MANY_WRITES: &[Judged] = &[
@@ -151,61 +187,7 @@ const MANY_WRITES: &[Judged] = &[
 ];
 
 #[test]
-fn statements_help(rt: HostRuntime) -> Result<(), Fail> {
-    assert_eq!(rt; wrong_refusals(rt.alloc(), &INDEXED, HELPERS)?.as_str(), "");
-    Ok(())
-}
-
-#[test]
-fn statements_help_further(rt: HostRuntime) -> Result<(), Fail> {
-    assert_eq!(rt;
-        wrong_judgements(rt.alloc(), &INDEXED, HELPERS_FURTHER)?.as_str(),
-        ""
-    );
-    Ok(())
-}
-
-#[test]
-fn large_instances_are_refused(rt: HostRuntime) -> Result<(), Fail> {
-    assert_eq!(rt;
-        wrong_refusals(rt.alloc(), &HEAVY_STEP, HEAVY)?.as_str(),
-        ""
-    );
-    Ok(())
-}
-
-#[test]
-fn large_conclusions_are_refused(rt: HostRuntime) -> Result<(), Fail> {
-    assert_eq!(rt;
-        wrong_refusals(rt.alloc(), &LARGE_STEP, LARGE)?.as_str(),
-        ""
-    );
-    Ok(())
-}
-
-#[test]
-fn large_obligations_are_refused(rt: HostRuntime) -> Result<(), Fail> {
-    assert_eq!(rt;
-        wrong_refusals(rt.alloc(), &LARGE_NAME, LARGE_TEXTS)?.as_str(),
-        ""
-    );
-    Ok(())
-}
-
-#[test]
-fn large_obligations_are_refused_further(rt: HostRuntime) -> Result<(), Fail> {
-    assert_eq!(rt;
-        wrong_judgements(rt.alloc(), &LARGE_NAME, LARGE_TEXTS_FURTHER)?.as_str(),
-        ""
-    );
-    Ok(())
-}
-
-#[test]
 fn many_writes_agree_or_not(rt: HostRuntime) -> Result<(), Fail> {
-    assert_eq!(rt;
-        wrong_judgements(rt.alloc(), &NOTHING_YET, MANY_WRITES)?.as_str(),
-        ""
-    );
+    assert_judged(&rt, rt.alloc(), &NOTHING_YET, MANY_WRITES)?;
     Ok(())
 }

@@ -1,6 +1,6 @@
 // Steps of layers.
 use super::layer_starts::LAYERED;
-use super::{Judged, Refused, wrong_judgements, wrong_refusals};
+use super::{Judged, Refused, assert_judged, assert_refused};
 use examples_answers::{Status, answer};
 use std::alloc::{AllocError, Global};
 use std::test::Fail;
@@ -49,6 +49,12 @@ const CARRIED: &[Judged] = &[
         "rejected 50 CertMissing H.d obligation 28\n",
     ),
 ];
+
+#[test]
+fn layers_take_steps_over(rt: HostRuntime) -> Result<(), Fail> {
+    assert_judged(&rt, rt.alloc(), &LAYERED, CARRIED)?;
+    Ok(())
+}
 
 /// What a step of a layer refers to, and what it claims.
 const CARRIED_REFUSED: &[Refused] = &[
@@ -106,6 +112,12 @@ const CARRIED_REFUSED: &[Refused] = &[
     ("superpose F.u using F.low;", "31 OtherProgram H.d"),
     ("superpose F.u using own;", "35 NotInvariant H.d"),
 ];
+
+#[test]
+fn steps_of_layers_are_refused(rt: HostRuntime) -> Result<(), Fail> {
+    assert_refused(&rt, rt.alloc(), &LAYERED, CARRIED_REFUSED)?;
+    Ok(())
+}
 
 /// Statements of a program over another with `go: x := 1 if x = 0` and `up: x := 3 if x = 1`, and whether it is a
 /// layer.
@@ -179,24 +191,6 @@ fn wrong_layers(alloc: Global, rows: &[(&str, bool)]) -> Result<String, AllocErr
         }
     }
     Ok(wrong)
-}
-
-#[test]
-fn layers_take_steps_over(rt: HostRuntime) -> Result<(), Fail> {
-    assert_eq!(rt;
-        wrong_judgements(rt.alloc(), &LAYERED, CARRIED)?.as_str(),
-        ""
-    );
-    Ok(())
-}
-
-#[test]
-fn steps_of_layers_are_refused(rt: HostRuntime) -> Result<(), Fail> {
-    assert_eq!(rt;
-        wrong_refusals(rt.alloc(), &LAYERED, CARRIED_REFUSED)?.as_str(),
-        ""
-    );
-    Ok(())
 }
 
 #[test]

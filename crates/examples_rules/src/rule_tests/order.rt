@@ -1,6 +1,6 @@
 // Conditions that are met before what a rule refers to.
 use super::starts::{NO_STEPS, TWO_PROOFS};
-use super::{Judged, Refused, wrong_judgements, wrong_refusals};
+use super::{Judged, Refused, assert_judged, assert_refused};
 use std::test::Fail;
 
 /// No `defined` step of the program stands before: this is told before all that is wrong with the rule.
@@ -51,6 +51,12 @@ const MISSING: &[Refused] = &[
     ),
 ];
 
+#[test]
+fn defined_steps_are_wanted_first(rt: HostRuntime) -> Result<(), Fail> {
+    assert_refused(&rt, rt.alloc(), &NO_STEPS, MISSING)?;
+    Ok(())
+}
+
 /// The same, where further certificates come first.
 const MISSING_FURTHER: &[Judged] = &[
     (
@@ -71,6 +77,12 @@ const MISSING_FURTHER: &[Judged] = &[
         "rejected 36 DefinedMissing P\n",
     ),
 ];
+
+#[test]
+fn defined_steps_are_wanted_first_further(rt: HostRuntime) -> Result<(), Fail> {
+    assert_judged(&rt, rt.alloc(), &NO_STEPS, MISSING_FURTHER)?;
+    Ok(())
+}
 
 /// What `using` names, one name after the other, and before the rule.
 const USING: &[Refused] = &[
@@ -108,6 +120,12 @@ const USING: &[Refused] = &[
     ),
     ("weaken Q.up using a;", "35 NotInvariant P.d"),
 ];
+
+#[test]
+fn used_steps_are_invariants(rt: HostRuntime) -> Result<(), Fail> {
+    assert_refused(&rt, rt.alloc(), &TWO_PROOFS, USING)?;
+    Ok(())
+}
 
 /// The kinds that each rule gives, before what it refers to.
 const KINDS: &[Refused] = &[
@@ -151,37 +169,7 @@ const KINDS: &[Refused] = &[
 ];
 
 #[test]
-fn defined_steps_are_wanted_first(rt: HostRuntime) -> Result<(), Fail> {
-    assert_eq!(rt;
-        wrong_refusals(rt.alloc(), &NO_STEPS, MISSING)?.as_str(),
-        ""
-    );
-    Ok(())
-}
-
-#[test]
-fn defined_steps_are_wanted_first_further(rt: HostRuntime) -> Result<(), Fail> {
-    assert_eq!(rt;
-        wrong_judgements(rt.alloc(), &NO_STEPS, MISSING_FURTHER)?.as_str(),
-        ""
-    );
-    Ok(())
-}
-
-#[test]
-fn used_steps_are_invariants(rt: HostRuntime) -> Result<(), Fail> {
-    assert_eq!(rt;
-        wrong_refusals(rt.alloc(), &TWO_PROOFS, USING)?.as_str(),
-        ""
-    );
-    Ok(())
-}
-
-#[test]
 fn rules_give_their_kinds(rt: HostRuntime) -> Result<(), Fail> {
-    assert_eq!(rt;
-        wrong_refusals(rt.alloc(), &TWO_PROOFS, KINDS)?.as_str(),
-        ""
-    );
+    assert_refused(&rt, rt.alloc(), &TWO_PROOFS, KINDS)?;
     Ok(())
 }

@@ -1,6 +1,6 @@
 // Steps by the rules that take two steps of a proof.
 use super::starts::TWO_PROOFS;
-use super::{Judged, Refused, wrong_judgements, wrong_refusals};
+use super::{Judged, Refused, assert_judged, assert_refused};
 use std::test::Fail;
 
 /// The two steps that a pair rule refers to, one after the other, and what it needs of them.
@@ -48,12 +48,24 @@ const PAIRS: &[Refused] = &[
     ),
 ];
 
+#[test]
+fn paired_steps_are_found(rt: HostRuntime) -> Result<(), Fail> {
+    assert_refused(&rt, rt.alloc(), &TWO_PROOFS, PAIRS)?;
+    Ok(())
+}
+
 /// The same, where further certificates come first.
 const PAIRS_FURTHER: &[Judged] = &[(
     "f: 1 = x unless x = 2 by text; d: x = 0 or x = 1 unless x = 2 by cancel a f;",
     "13: sum 1*5;\n",
     "rejected 33 MiddleDiffers P.d\n",
 )];
+
+#[test]
+fn paired_steps_are_found_further(rt: HostRuntime) -> Result<(), Fail> {
+    assert_judged(&rt, rt.alloc(), &TWO_PROOFS, PAIRS_FURTHER)?;
+    Ok(())
+}
 
 /// Steps by pair rules that are right.
 const PAIRED_WELL: &[Judged] = &[
@@ -111,28 +123,7 @@ f: (x = 2 or x = 1) or x = 0 unless x = 2 or x = 1 by simpledisj d a;",
 ];
 
 #[test]
-fn paired_steps_are_found(rt: HostRuntime) -> Result<(), Fail> {
-    assert_eq!(rt;
-        wrong_refusals(rt.alloc(), &TWO_PROOFS, PAIRS)?.as_str(),
-        ""
-    );
-    Ok(())
-}
-
-#[test]
-fn paired_steps_are_found_further(rt: HostRuntime) -> Result<(), Fail> {
-    assert_eq!(rt;
-        wrong_judgements(rt.alloc(), &TWO_PROOFS, PAIRS_FURTHER)?.as_str(),
-        ""
-    );
-    Ok(())
-}
-
-#[test]
 fn steps_are_paired(rt: HostRuntime) -> Result<(), Fail> {
-    assert_eq!(rt;
-        wrong_judgements(rt.alloc(), &TWO_PROOFS, PAIRED_WELL)?.as_str(),
-        ""
-    );
+    assert_judged(&rt, rt.alloc(), &TWO_PROOFS, PAIRED_WELL)?;
     Ok(())
 }

@@ -90,19 +90,31 @@ pub const NOTHING_YET: Start = Start {
     lines: "",
 };
 
-/// A union of two programs that share a variable, and a program that is no part of it.
-pub const UNION_OF_TWO: Start = Start {
-    document: "unity 1 program F declare x : 0..3 y : 0..3 initially x = 0 assign go: x := 1 end
+/// A union of two programs that share a variable, a program that is no part of it, and these proofs.
+macro_rules! two_parts {
+    ($proofs:literal) => {
+        concat!(
+            "unity 1 program F declare x : 0..3 y : 0..3 initially x = 0 assign go: x := 1 end
 program G declare x : 0..3 z : 0..3 initially x = 0 assign up: x := 1 end
 program N declare w : 0..3 assign idle: w := 0 end
 program H = F [] G end
-proof F safe: defined by text; low: invariant x <= 1 by text; a: x = 0 unless x = 1 by text;
+",
+            $proofs
+        )
+    };
+}
+
+/// A union of two programs that share a variable, and a program that is no part of it.
+pub const UNION_OF_TWO: Start = Start {
+    document: two_parts!(
+        "proof F safe: defined by text; low: invariant x <= 1 by text; a: x = 0 unless x = 1 by text;
 st: stable x <= 1 by text; e: x = 0 ensures x = 1 by text with go; k(m : 0..3): x = m unless x = 1 by text; end
 proof G safe: defined by text; low: invariant x <= 1 by text; a: x = 0 unless x = 1 by text;
 st: stable x <= 1 by text; e: x = 0 ensures x = 1 by text with up; b: x = 2 unless x = 1 by text;
 lu: x <= 1 unless x = 1 by text; end
 proof H safe: defined by union F.safe G.safe;
-",
+"
+    ),
     certificates: "1: sum 1*1;
 2: sum 1*4 1*5;
 3: sum 1*4;
@@ -182,15 +194,13 @@ J.safe defined
 
 /// A union whose parts keep a claim by an invariant of their own.
 pub const USED_INVARIANTS: Start = Start {
-    document: "unity 1 program F declare x : 0..3 y : 0..3 initially x = 0 assign go: x := 1 end
-program G declare x : 0..3 z : 0..3 initially x = 0 assign up: x := 1 end
-program N declare w : 0..3 assign idle: w := 0 end
-program H = F [] G end
-proof F safe: defined by text; low: invariant x <= 1 by text; a: x = 0 unless x = 1 by text using low; end
+    document: two_parts!(
+        "proof F safe: defined by text; low: invariant x <= 1 by text; a: x = 0 unless x = 1 by text using low; end
 proof G safe: defined by text; low: invariant x <= 1 by text; st: stable x <= 1 by text;
 a: x = 0 unless x = 1 by text; b: x = 0 unless x = 1 by text using low; end
 proof H safe: defined by union F.safe G.safe; low: invariant x <= 1 by union F.low G.st;
-",
+"
+    ),
     certificates: "1: sum 1*1;
 2: sum 1*4 1*5;
 3: sum 1*4;
@@ -269,26 +279,27 @@ P.t unless
 ",
 };
 
-/// Bounds up to 2^63, and formulas of more than half of the nodes that a conclusion may have.
-pub const FAR_AND_LARGE: Start = Start {
-    document: "unity 2 program P declare x : 0..3
-always n1 = x + x n2 = n1 + n1 n3 = n2 + n2 n4 = n3 + n3 n5 = n4 + n4 n6 = n5 + n5 n7 = n6 + n6
-n8 = n7 + n7 n9 = n8 + n8 n10 = n9 + n9 n11 = n10 + n10 n12 = n11 + n11 n13 = n12 + n12 n14 = n13 + n13
-assign go: x := 1 end
-proof P safe: defined by text; e: true ensures true by text with go; one: true leadsto true by from e;
-s(m : 0..536870911): true and x = m ensures (true and x < m) or true by text with go;
+/// Steps whose ranges are as wide as they can be, between these steps and further ones.
+macro_rules! far_steps {
+    ($before:literal, $after:literal) => {
+        concat!(
+            $before,
+            "s(m : 0..536870911): true and x = m ensures (true and x < m) or true by text with go;
 g: true leadsto true by induct(m : 0..536870911, x, true, true, from s[m]);
 h: true leadsto true by
 induct(m : 0..536870911, x, true, true, weaken(true and x = m, (true and x < m) or true, from g));
 k: true leadsto true by
-induct(m : 0..31, x, true, true, weaken(true and x = m, (true and x < m) or true, from h));
-w: true leadsto x >= 0 or true by weaken(true, x >= 0 or true, from k); now: true leadsto true by imply(true, true);
-large: true leadsto n14 >= 0 or true by weaken(true, n14 >= 0 or true, from one);
-ln: true leadsto n14 >= 0 by imply(true, n14 >= 0);
-le: true leadsto n14 >= 0 or false by imply(true, n14 >= 0 or false);
-st: stable n14 >= 0 by text;
-",
-    certificates: "1: sum 1*1;
+induct(m : 0..31, x, true, true, weaken(true and x = m, (true and x < m) or true, from h));",
+            $after
+        )
+    };
+}
+
+/// The certificates of these steps and of two before them, and further ones.
+macro_rules! far_certificates {
+    ($after:literal) => {
+        concat!(
+            "1: sum 1*1;
 2: sum 1*1;
 3: sum 1*1;
 4: sum 1*7;
@@ -300,7 +311,49 @@ st: stable n14 >= 0 by text;
 10: sum 1*7;
 11: sum 1*5;
 12: sum 1*3;
-13: sum 1*1;
+",
+            $after
+        )
+    };
+}
+
+/// Bounds from ranges as wide as they can be.
+pub const FAR_RANGES: Start = Start {
+    document: far_steps!(
+        "unity 1 program P declare x : 0..3 assign go: x := 1 end
+proof P safe: defined by text; one: true ensures true by text with go;
+",
+        "\n"
+    ),
+    certificates: far_certificates!(""),
+    lines: "P.safe defined
+P.one ensures
+P.s ensures
+P.g leadsto 536870912
+P.h leadsto 288230376151711744
+P.k leadsto 9223372036854775808
+",
+};
+
+/// Bounds up to 2^63, and formulas of more than half of the nodes that a conclusion may have.
+pub const FAR_AND_LARGE: Start = Start {
+    document: far_steps!(
+        "unity 2 program P declare x : 0..3
+always n1 = x + x n2 = n1 + n1 n3 = n2 + n2 n4 = n3 + n3 n5 = n4 + n4 n6 = n5 + n5 n7 = n6 + n6
+n8 = n7 + n7 n9 = n8 + n8 n10 = n9 + n9 n11 = n10 + n10 n12 = n11 + n11 n13 = n12 + n12 n14 = n13 + n13
+assign go: x := 1 end
+proof P safe: defined by text; e: true ensures true by text with go; one: true leadsto true by from e;
+",
+        "
+w: true leadsto x >= 0 or true by weaken(true, x >= 0 or true, from k); now: true leadsto true by imply(true, true);
+large: true leadsto n14 >= 0 or true by weaken(true, n14 >= 0 or true, from one);
+ln: true leadsto n14 >= 0 by imply(true, n14 >= 0);
+le: true leadsto n14 >= 0 or false by imply(true, n14 >= 0 or false);
+st: stable n14 >= 0 by text;
+"
+    ),
+    certificates: far_certificates!(
+        "13: sum 1*1;
 14: sum 1*3 1*1;
 15: sum 1*1;
 16: sum 1*1;
@@ -308,7 +361,8 @@ st: stable n14 >= 0 by text;
 18: round 16384 1*3 sum 1*4 1*1;
 19: round 16384 1*3 sum 1*4 1*1;
 20: sum 1*4;
-",
+"
+    ),
     lines: "P.safe defined
 P.e ensures
 P.one leadsto 1

@@ -1,6 +1,6 @@
 // Steps of unions.
 use super::starts::{NOTHING_YET, UNION_OF_A_UNION, UNION_OF_TWO, USED_INVARIANTS};
-use super::{Judged, Refused, wrong_judgements, wrong_refusals};
+use super::{Judged, Refused, assert_judged, assert_refused};
 use std::test::Fail;
 
 /// The two steps of a union, the first of its first part and the second of its second.
@@ -54,6 +54,12 @@ const PARTS: &[Refused] = &[
     ),
 ];
 
+#[test]
+fn parts_have_their_places(rt: HostRuntime) -> Result<(), Fail> {
+    assert_refused(&rt, rt.alloc(), &UNION_OF_TWO, PARTS)?;
+    Ok(())
+}
+
 /// The start state of a union meets the initially sections of both parts, or the union has none.
 const STARTS: &[Judged] = &[
     (
@@ -94,6 +100,12 @@ proof G safe: defined by text; end proof H safe: defined by union F.safe G.safe;
     ),
 ];
 
+#[test]
+fn unions_start(rt: HostRuntime) -> Result<(), Fail> {
+    assert_judged(&rt, rt.alloc(), &NOTHING_YET, STARTS)?;
+    Ok(())
+}
+
 /// Steps of a union that are right.
 const UNITED: &[Judged] = &[
     (
@@ -123,6 +135,12 @@ const UNITED: &[Judged] = &[
     ),
 ];
 
+#[test]
+fn steps_are_united(rt: HostRuntime) -> Result<(), Fail> {
+    assert_judged(&rt, rt.alloc(), &UNION_OF_TWO, UNITED)?;
+    Ok(())
+}
+
 /// Invariants of a union: one of a part, which the other keeps.
 const UNITED_INVARIANTS: &[Refused] = &[
     (
@@ -147,6 +165,12 @@ const UNITED_INVARIANTS: &[Refused] = &[
     ),
 ];
 
+#[test]
+fn invariants_are_united(rt: HostRuntime) -> Result<(), Fail> {
+    assert_refused(&rt, rt.alloc(), &UNION_OF_TWO, UNITED_INVARIANTS)?;
+    Ok(())
+}
+
 /// The same, where further certificates come first.
 const UNITED_INVARIANTS_FURTHER: &[Judged] = &[
     (
@@ -161,6 +185,12 @@ const UNITED_INVARIANTS_FURTHER: &[Judged] = &[
     ),
 ];
 
+#[test]
+fn invariants_are_united_further(rt: HostRuntime) -> Result<(), Fail> {
+    assert_judged(&rt, rt.alloc(), &UNION_OF_TWO, UNITED_INVARIANTS_FURTHER)?;
+    Ok(())
+}
+
 /// Three programs over one variable, as a union of a union and a program.
 const THREE_PARTS: &[Refused] = &[
     ("union F.a K.a;", "31 OtherProgram J.d"),
@@ -171,6 +201,12 @@ const THREE_PARTS: &[Refused] = &[
         "31 OtherProgram J.d",
     ),
 ];
+
+#[test]
+fn three_parts_share_a_variable(rt: HostRuntime) -> Result<(), Fail> {
+    assert_refused(&rt, rt.alloc(), &UNION_OF_A_UNION, THREE_PARTS)?;
+    Ok(())
+}
 
 /// The same, where further certificates come first.
 const THREE_PARTS_FURTHER: &[Judged] = &[
@@ -186,11 +222,23 @@ const THREE_PARTS_FURTHER: &[Judged] = &[
     ),
 ];
 
+#[test]
+fn three_parts_share_a_variable_further(rt: HostRuntime) -> Result<(), Fail> {
+    assert_judged(&rt, rt.alloc(), &UNION_OF_A_UNION, THREE_PARTS_FURTHER)?;
+    Ok(())
+}
+
 /// What a part keeps by its own invariants is shown again of the union, for each part.
 const USED: &[Refused] = &[
     ("union F.a G.b using F.low;", "31 OtherProgram H.d"),
     ("union F.a G.b using d;", "30 NoSuchStep H.d"),
 ];
+
+#[test]
+fn used_invariants_are_shown_again(rt: HostRuntime) -> Result<(), Fail> {
+    assert_refused(&rt, rt.alloc(), &USED_INVARIANTS, USED)?;
+    Ok(())
+}
 
 /// The same, where further certificates come first.
 const USED_FURTHER: &[Judged] = &[
@@ -217,82 +265,7 @@ const USED_FURTHER: &[Judged] = &[
 ];
 
 #[test]
-fn parts_have_their_places(rt: HostRuntime) -> Result<(), Fail> {
-    assert_eq!(rt;
-        wrong_refusals(rt.alloc(), &UNION_OF_TWO, PARTS)?.as_str(),
-        ""
-    );
-    Ok(())
-}
-
-#[test]
-fn steps_are_united(rt: HostRuntime) -> Result<(), Fail> {
-    assert_eq!(rt;
-        wrong_judgements(rt.alloc(), &UNION_OF_TWO, UNITED)?.as_str(),
-        ""
-    );
-    Ok(())
-}
-
-#[test]
-fn invariants_are_united(rt: HostRuntime) -> Result<(), Fail> {
-    assert_eq!(rt;
-        wrong_refusals(rt.alloc(), &UNION_OF_TWO, UNITED_INVARIANTS)?.as_str(),
-        ""
-    );
-    Ok(())
-}
-
-#[test]
-fn invariants_are_united_further(rt: HostRuntime) -> Result<(), Fail> {
-    assert_eq!(rt;
-        wrong_judgements(rt.alloc(), &UNION_OF_TWO, UNITED_INVARIANTS_FURTHER)?.as_str(),
-        ""
-    );
-    Ok(())
-}
-
-#[test]
-fn three_parts_share_a_variable(rt: HostRuntime) -> Result<(), Fail> {
-    assert_eq!(rt;
-        wrong_refusals(rt.alloc(), &UNION_OF_A_UNION, THREE_PARTS)?.as_str(),
-        ""
-    );
-    Ok(())
-}
-
-#[test]
-fn three_parts_share_a_variable_further(rt: HostRuntime) -> Result<(), Fail> {
-    assert_eq!(rt;
-        wrong_judgements(rt.alloc(), &UNION_OF_A_UNION, THREE_PARTS_FURTHER)?.as_str(),
-        ""
-    );
-    Ok(())
-}
-
-#[test]
-fn used_invariants_are_shown_again(rt: HostRuntime) -> Result<(), Fail> {
-    assert_eq!(rt;
-        wrong_refusals(rt.alloc(), &USED_INVARIANTS, USED)?.as_str(),
-        ""
-    );
-    Ok(())
-}
-
-#[test]
 fn used_invariants_are_shown_again_further(rt: HostRuntime) -> Result<(), Fail> {
-    assert_eq!(rt;
-        wrong_judgements(rt.alloc(), &USED_INVARIANTS, USED_FURTHER)?.as_str(),
-        ""
-    );
-    Ok(())
-}
-
-#[test]
-fn unions_start(rt: HostRuntime) -> Result<(), Fail> {
-    assert_eq!(rt;
-        wrong_judgements(rt.alloc(), &NOTHING_YET, STARTS)?.as_str(),
-        ""
-    );
+    assert_judged(&rt, rt.alloc(), &USED_INVARIANTS, USED_FURTHER)?;
     Ok(())
 }

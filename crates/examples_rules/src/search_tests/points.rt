@@ -1,25 +1,11 @@
 // States at which nothing changes.
 use super::proved;
 use examples_answers::{Row, Status, wrong_answers};
+use examples_texts::leading_counter;
 use std::test::Fail;
 
 /// A counter that stays at 3.
-const COUNT: &str = "unity 2
-program Count
-declare
-  x : 0..3
-initially
-  x = 0
-assign
-  inc: x := x + 1 if x < 3
-end
-proof Count
-  safe: defined by text;
-  step(m : 1..3): true and 3 - x = m ensures (true and 3 - x < m) or x = 3 by text with inc;
-  goal: true leadsto x = 3 by induct(m : 1..3, 3 - x, true, x = 3, from step[m]);
-  halt: fixed x = 3 by text;
-end
-";
+const COUNT: &str = leading_counter!("unity 2\n", "  halt: fixed x = 3 by text;\nend\n");
 
 const COUNT_ACCEPTED: &str = "accepted 4 steps 5 obligations
 Count.safe defined
@@ -49,11 +35,11 @@ Sort.safe defined
 Sort.done fixed
 ";
 
-/// Claims that do not hold, and steps that no rule gives.
-const REFUSALS: &[Row] = &[
-    (
-        "prove 1000000",
-        "unity 2
+/// The counter without a start, and a proof that goes on with these steps.
+macro_rules! unstarted {
+    ($steps:literal) => {
+        concat!(
+            "unity 2
 program Count
 declare
   x : 0..3
@@ -62,9 +48,18 @@ assign
 end
 proof Count
   safe: defined by text;
-  halt: fixed x >= 2 by text;
-end
-",
+  ",
+            $steps,
+            "\nend\n"
+        )
+    };
+}
+
+/// Claims that do not hold, and steps that no rule gives.
+const REFUSALS: &[Row] = &[
+    (
+        "prove 1000000",
+        unstarted!("halt: fixed x >= 2 by text;"),
         Status::Refuted,
         "refuted Count.halt obligation 2
 x = 2
@@ -79,72 +74,28 @@ x = 2
     ),
     (
         "prove 1000000",
-        "unity 2
-program Count
-declare
-  x : 0..3
-assign
-  inc: x := x + 1 if x < 3
-end
-proof Count
-  safe: defined by text;
-  halt: fixed x = 3 by text; more: fixed x = 3 by weaken halt;
-end
-",
+        unstarted!("halt: fixed x = 3 by text; more: fixed x = 3 by weaken halt;"),
         Status::Rejected,
         "rejected 32 WrongKind Count.more
 ",
     ),
     (
         "prove 1000000",
-        "unity 2
-program Count
-declare
-  x : 0..3
-assign
-  inc: x := x + 1 if x < 3
-end
-proof Count
-  safe: defined by text;
-  halt: fixed x = 3 by text; more: x = 3 unless x = 0 by weaken halt;
-end
-",
+        unstarted!("halt: fixed x = 3 by text; more: x = 3 unless x = 0 by weaken halt;"),
         Status::Rejected,
         "rejected 32 WrongKind Count.more
 ",
     ),
     (
         "prove 1000000",
-        "unity 2
-program Count
-declare
-  x : 0..3
-assign
-  inc: x := x + 1 if x < 3
-end
-proof Count
-  safe: defined by text;
-  halt: fixed x = 3 by text; more: fixed x = 3 by union halt halt;
-end
-",
+        unstarted!("halt: fixed x = 3 by text; more: fixed x = 3 by union halt halt;"),
         Status::Rejected,
         "rejected 32 WrongKind Count.more
 ",
     ),
     (
         "prove 1000000",
-        "unity 2
-program Count
-declare
-  x : 0..3
-assign
-  inc: x := x + 1 if x < 3
-end
-proof Count
-  safe: defined by text;
-  halt: fixed x = 3 by text; more: fixed x = 3 by from halt;
-end
-",
+        unstarted!("halt: fixed x = 3 by text; more: fixed x = 3 by from halt;"),
         Status::Rejected,
         "rejected 32 WrongKind Count.more
 ",

@@ -1,6 +1,7 @@
 // Programs with their proofs: what `prove` finds of progress, of unions and of wide ranges.
 use super::proved;
-use examples_answers::{Row, Status, answer, edited, wrong_answers};
+use examples_answers::{Row, Status, answer, wrong_answers};
+use examples_texts::{broken_union, edited, leading_counter};
 use std::test::Fail;
 
 /// Three facts that no values meet together, any two of which can be met.
@@ -26,73 +27,19 @@ end
 ";
 
 /// A counter that comes to 3.
-const COUNT_UP: &str = "unity 1
-program Count
-declare
-  x : 0..3
-initially
-  x = 0
-assign
-  inc: x := x + 1 if x < 3
-end
-proof Count
-  safe: defined by text;
-  step(m : 1..3): true and 3 - x = m ensures (true and 3 - x < m) or x = 3 by text with inc;
-  goal: true leadsto x = 3 by induct(m : 1..3, 3 - x, true, x = 3, from step[m]);
-end
-";
+const COUNT_UP: &str = leading_counter!("unity 1\n", "end\n");
 
 /// The same, with progress that a stable predicate goes along with.
-const COUNT_ON: &str = "unity 1
-program Count
-declare
-  x : 0..3
-initially
-  x = 0
-assign
-  inc: x := x + 1 if x < 3
-end
-proof Count
-  safe: defined by text;
-  step(m : 1..3): true and 3 - x = m ensures (true and 3 - x < m) or x = 3 by text with inc;
-  goal: true leadsto x = 3 by induct(m : 1..3, 3 - x, true, x = 3, from step[m]);
-  up: stable x >= 1 by text;
+const COUNT_ON: &str = leading_counter!(
+    "unity 1\n",
+    "  up: stable x >= 1 by text;
   mix: true and x >= 1 leadsto (x = 3 and x >= 1) or false by psp(from goal, up);
 end
-";
+"
+);
 
 /// A union whose second part breaks what a step of the first uses.
-const BROKEN_UNION: &str = "unity 1
-program F
-declare
-  x : 0..3
-  b : boolean
-initially
-  x = 0 and not b
-assign
-  fin: x := 1 if b
-end
-program G
-declare
-  b : boolean
-assign
-  arm: b := true
-end
-program H = F [] G end
-proof F
-  safe: defined by text;
-  low: invariant not b by text;
-  keep: stable x = 0 by text using low;
-end
-proof G
-  safe: defined by text;
-  keep: stable x = 0 by text;
-end
-proof H
-  safe: defined by union F.safe G.safe;
-  keep: stable x = 0 by union F.keep G.keep;
-end
-";
+const BROKEN_UNION: &str = broken_union!("");
 
 /// Documents, and what `check` says of what `prove` makes of them.
 const PROVED: &[(&str, &str)] = &[
