@@ -1,6 +1,7 @@
 // Documents that `check` reads, from a source that gives all bytes in a call and from one that gives one.
 use crate::{Ends, answer_in_drips, answer_in_pieces};
-use examples_answers::{ACCEPTED, COUNT, NOTHING, edited, status_of};
+use examples_answers::{Edit, NOTHING, status_of};
+use examples_texts::{ACCEPTED, COUNT, counter, edited, even};
 use std::alloc::{AllocError, Global};
 use std::test::Fail;
 
@@ -8,24 +9,7 @@ use std::test::Fail;
 const ROOM: usize = 1_000;
 
 /// No even number is odd: a certificate that rounds.
-const EVEN: &str = "unity 1
-program Even
-declare
-  x : 0..9
-  y : 0..9
-assign
-  stay: x := x
-end
-proof Even
-  safe: defined by text;
-  odd: invariant not (2 * x = 2 * y + 1) by text;
-end
-certificates
-1: case 1 sum 1*1 1*3 sum 1*2 1*3;
-2: round 2 1*5 sum 1*6 2*7;
-3: case 2 case 2 sum 1*1 1*5 sum 1*2 1*5 round 2 1*5 sum 1*6 2*7;
-end
-";
+const EVEN: &str = even!("unity 1\n");
 
 const EVEN_ACCEPTED: &str = "accepted 2 steps 3 obligations
 Even.safe defined
@@ -46,20 +30,8 @@ end
 /// The last certificate of the counter.
 const THIRD: &str = "3: case 1 case 1 sum 1*1 1*5 sum 1*4 1*5 case 1 sum 1*4 1*5 sum 1*2 1*5;\n";
 
-/// What the counter claims and shows.
-const PROOF: &str = "proof Count
-  safe: defined by text;
-  top: invariant x <= 3 by text;
-end
-certificates
-1: case 1 sum 1*1 1*4 sum 1*3 1*4;
-2: sum 1*2 1*5;
-3: case 1 case 1 sum 1*1 1*5 sum 1*4 1*5 case 1 sum 1*4 1*5 sum 1*2 1*5;
-end
-";
-
 /// A document, what is replaced in it and by what, and the text of `check`.
-const ROWS: &[(&str, &str, &str, &str)] = &[
+const ROWS: &[Edit] = &[
     (COUNT, "", "", ACCEPTED),
     ("", "", "", "bad 3 Unexpected byte 0\n"),
     (COUNT, "*2 1*5;\nend\n", "", "bad 3 Unexpected byte 300\n"),
@@ -90,7 +62,7 @@ const ROWS: &[(&str, &str, &str, &str)] = &[
         "rejected 51 CertSurplus obligation 4\n",
     ),
     ("unity 1\nprogram P $\n", "", "", "bad 1 BadByte byte 18\n"),
-    (COUNT, PROOF, "", NOTHING),
+    (counter!("unity 1\n"), "", "", NOTHING),
     (
         COUNT,
         "1*5;\nend\n",

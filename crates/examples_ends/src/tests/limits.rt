@@ -1,5 +1,6 @@
 // Documents that ask for much in a few words, at a limit and past it by one.
 use examples_answers::{NOTHING, Row, Status, answer, wrong_answers};
+use examples_texts::counter;
 use std::alloc::{AllocError, Global};
 use std::test::Fail;
 
@@ -56,20 +57,14 @@ fn limits_have_their_answers(rt: HostRuntime) -> Result<(), Fail> {
 fn doubled(alloc: Global, most: u64) -> Result<String, AllocError> {
     let mut text = String::from_str(
         alloc,
-        "unity 1
-program Count
-declare
-  x : 0..3
-initially
-  x = 0
-assign
-  inc: x := x + 1 if x < 3
-end
-proof Count
+        counter!(
+            "unity 1\n",
+            "proof Count
   safe: defined by text;
   e: true ensures true by text with inc;
   b0: true leadsto true by from e;
-",
+"
+        ),
     )?;
     for power in 1..=most {
         let below = power - 1;

@@ -1,26 +1,9 @@
 // Words and documents with their answers: each command, and for it a document of each kind.
-use examples_answers::{ACCEPTED, COUNT, Row, Status};
+use examples_answers::{Row, Status};
+use examples_texts::{ACCEPTED, COUNT, PICK, WATCHED, certified_counter, race, ring};
 
 /// The counter with a wrong number in its second certificate.
-const WRONG_SUM: &str = "unity 1
-program Count
-declare
-  x : 0..3
-initially
-  x = 0
-assign
-  inc: x := x + 1 if x < 3
-end
-proof Count
-  safe: defined by text;
-  top: invariant x <= 3 by text;
-end
-certificates
-1: case 1 sum 1*1 1*4 sum 1*3 1*4;
-2: sum 1*2 0*5;
-3: case 1 case 1 sum 1*1 1*5 sum 1*4 1*5 case 1 sum 1*4 1*5 sum 1*2 1*5;
-end
-";
+const WRONG_SUM: &str = certified_counter!("unity 1\n", "x <= 3", "sum 1*2 0*5", "end\n");
 
 /// The counter with an initially section that no state meets.
 const NO_START: &str = "unity 1
@@ -48,39 +31,7 @@ end
 ";
 
 /// A token on a ring of four.
-const RING: &str = "unity 1
-program Ring
-declare
-  at : 0..3
-initially
-  at = 3
-assign
-  <[] i : 1..3 :: pass: at := i - 1 if at = i |>
-  [] wrap: at := 3 if at = 0
-end
-proof Ring
-  safe: defined by text;
-  step(m : 1..3): true and at = m ensures (true and at < m) or at = 0 by text with pass[m];
-  goal: true leadsto at = 0 by induct(m : 1..3, at, true, at = 0, from step[m]);
-  home: at = 0 ensures at = 3 by text with wrap;
-  again: true leadsto at = 3 by trans(from goal, from home);
-end
-";
-
-/// A statement that gives a variable two values.
-const PICK: &str = "unity 1
-program Pick
-declare
-  x : 0..3
-  b : boolean
-  c : boolean
-assign
-  set: x := 1 if b ~ 2 if c
-end
-proof Pick
-  safe: defined by text;
-end
-";
+const RING: &str = ring!("3");
 
 /// A schedule whose second step is undefined.
 const OVER: &str = "unity 1
@@ -98,41 +49,8 @@ assign up: x := x + 1 end
 schedule Over : up, down end
 ";
 
-/// The counter with progress and a schedule.
-const WATCHED: &str = "unity 1
-program Count
-declare
-  x : 0..3
-initially
-  x = 0
-assign
-  inc: x := x + 1 if x < 3
-end
-proof Count
-  safe: defined by text;
-  step(m : 1..3): true and 3 - x = m ensures (true and 3 - x < m) or x = 3 by text with inc;
-  goal: true leadsto x = 3 by induct(m : 1..3, 3 - x, true, x = 3, from step[m]);
-end
-schedule Count : inc, inc, inc end
-";
-
 /// Two machines that look at a lock and then take it.
-const RACE: &str = "unity 1
-program Race
-declare
-  pc   : array 0..1 of 0..2
-  lock : boolean
-assign
-     <[] i : 0..1 :: look: pc[i] := 1 if pc[i] = 0 and not lock |>
-  [] <[] i : 0..1 :: take: pc[i] := 2 if pc[i] = 1 || lock := true if pc[i] = 1 |>
-  [] <[] i : 0..1 :: drop: pc[i] := 0 if pc[i] = 2 || lock := false if pc[i] = 2 |>
-end
-proof Race
-  safe: defined by text;
-  mutex: invariant not (pc[0] = 2 and pc[1] = 2) by text;
-end
-schedule Race : look[0], take[0], drop[0], look[0], look[1], take[0], take[1], drop[0] end
-";
+const RACE: &str = race!("unity 1\n");
 
 /// Documents that are read for their proofs. Where `prove` finds certificates, the text is what `check` says of what it
 /// writes.
@@ -185,25 +103,7 @@ pub const JUDGED: &[Row] = &[
         "upgrade",
         COUNT,
         Status::Done,
-        "unity 2
-program Count
-declare
-  x : 0..3
-initially
-  x = 0
-assign
-  inc: x := x + 1 if x < 3
-end
-proof Count
-  safe: defined by text;
-  top: invariant x <= 3 by text;
-end
-certificates
-1: case 1 sum 1*1 1*4 sum 1*3 1*4;
-2: sum 1*2 1*5;
-3: case 1 case 1 sum 1*1 1*5 sum 1*4 1*5 case 1 sum 1*4 1*5 sum 1*2 1*5;
-end
-",
+        certified_counter!("unity 2\n", "x <= 3", "sum 1*2 1*5", "end\n"),
     ),
     (
         "upgrade",
