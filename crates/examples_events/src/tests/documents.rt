@@ -1,29 +1,17 @@
 //! The documents, as they stand in `examples/` and its folder `mistakes/`, with the codes that stand beside them there.
 use case_tables::Code;
+use examples_texts::{bounded_counter, certified_counter, counter, even, half};
 
 /// A document, and the code of its first fault; none where it is accepted.
 pub type Row = (&'static str, Option<Code>);
 
 /// `share`: with `case` and `share`.
-pub const SHARE: &str = "unity 2
-program Count
-declare
-  x : 0..3
-initially
-  x = 0
-assign
-  inc: x := x + 1 if x < 3
-end
-proof Count
-  safe: defined by text;
-  top: invariant x <= 3 by text;
-end
-certificates
-1: case 1 sum 1*1 1*4 sum 1*3 1*4;
-2: share 3 -1*1 sum 1*2 1*6 sum 1*5 1*6;
-3: case 1 case 1 sum 1*1 1*5 sum 1*4 1*5 case 1 sum 1*4 1*5 sum 1*2 1*5;
-end
-";
+pub const SHARE: &str = certified_counter!(
+    "unity 2\n",
+    "x <= 3",
+    "share 3 -1*1 sum 1*2 1*6 sum 1*5 1*6",
+    "end\n"
+);
 
 /// Documents with a core form.
 pub const READ: &[Row] = &[
@@ -52,176 +40,85 @@ end
     ),
     (
         // splitting
-        "unity 1
+        half!(
+            "unity 1
 # The last certificate asks whether x is at most 1 or at least 2 (`split 1 1`: the first variable, at 1): neither
 # side has a value of which twice is 3.
-program Half
-declare
-  x : 0..3
-initially
-  x = 0
-assign
-  turn: x := 3 - x
-end
-proof Half
-  safe: defined by text;
-  no: invariant not (2 * x = 3) by text;
-end
-certificates
-1: case 1 sum 1*2 1*3 sum 1*1 1*3;
-2: sum 2*4 1*5;
-3: case 2 case 2 sum 1*2 1*3 sum 1*1 1*3 split 1 1 sum 1*4 2*5 sum 1*3 2*5;
-end
-",
+"
+        ),
         None,
     ),
     (
         // rounding
-        "unity 1
+        even!(
+            "unity 1
 # No even number is odd. Among whole numbers the two sides of 2 * x = 2 * y + 1 are never equal, yet among all
 # numbers they can be: so the certificate divides by 2 and rounds (`round`), and then a sum is below 0.
-program Even
-declare
-  x : 0..9
-  y : 0..9
-assign
-  stay: x := x
-end
-proof Even
-  safe: defined by text;
-  odd: invariant not (2 * x = 2 * y + 1) by text;
-end
-certificates
-1: case 1 sum 1*1 1*3 sum 1*2 1*3;
-2: round 2 1*5 sum 1*6 2*7;
-3: case 2 case 2 sum 1*1 1*5 sum 1*2 1*5 round 2 1*5 sum 1*6 2*7;
-end
-",
+"
+        ),
         None,
     ),
     (
         // mistakes/certificate_left_over
-        "unity 1
-# a certificate past the last obligation
-program Count
-declare
-  x : 0..3
-initially
-  x = 0
-assign
-  inc: x := x + 1 if x < 3
-end
-proof Count
-  safe: defined by text;
-  top: invariant x <= 3 by text;
-end
-certificates
-1: case 1 sum 1*1 1*4 sum 1*3 1*4;
-2: sum 1*2 1*5;
-3: case 1 case 1 sum 1*1 1*5 sum 1*4 1*5 case 1 sum 1*4 1*5 sum 1*2 1*5;
-4: sum;
-end
-",
+        certified_counter!(
+            "unity 1\n# a certificate past the last obligation\n",
+            "x <= 3",
+            "sum 1*2 1*5",
+            "4: sum;\nend\n"
+        ),
         Some(Code::CertSurplus),
     ),
     (
         // mistakes/no_such_fact
-        "unity 1
-# a fact that there is not
-program Count
-declare
-  x : 0..3
-initially
-  x = 0
-assign
-  inc: x := x + 1 if x < 3
-end
-proof Count
-  safe: defined by text;
-  top: invariant x <= 3 by text;
-end
-certificates
-1: case 1 sum 1*1 1*4 sum 1*3 1*4;
-2: sum 1*2 1*6;
-3: case 1 case 1 sum 1*1 1*5 sum 1*4 1*5 case 1 sum 1*4 1*5 sum 1*2 1*5;
-end
-",
+        certified_counter!(
+            "unity 1\n# a fact that there is not\n",
+            "x <= 3",
+            "sum 1*2 1*6",
+            "end\n"
+        ),
         Some(Code::NoSuchFact),
     ),
     (
         // mistakes/quot_of_an_or
-        "unity 2
-# a `quot` where two cases wait, and no quotient
-program Count
-declare
-  x : 0..3
-initially
-  x = 0
-assign
-  inc: x := x + 1 if x < 3
-end
-proof Count
+        counter!(
+            "unity 2\n# a `quot` where two cases wait, and no quotient\n",
+            "proof Count
   safe: defined by text;
 end
 certificates
 1: quot 1 sum 1*1 1*4;
 end
-",
+"
+        ),
         Some(Code::NothingToQuot),
     ),
     (
         // mistakes/certificate_missing
-        "unity 1
-# the last certificate is not there
-program Count
-declare
-  x : 0..3
-initially
-  x = 0
-assign
-  inc: x := x + 1 if x < 3
-end
-proof Count
-  safe: defined by text;
-  top: invariant x <= 3 by text;
-end
-certificates
+        bounded_counter!(
+            "unity 1\n# the last certificate is not there\n",
+            "x <= 3",
+            "certificates
 1: case 1 sum 1*1 1*4 sum 1*3 1*4;
 2: sum 1*2 1*5;
 end
-",
+"
+        ),
         Some(Code::CertMissing),
     ),
     (
         // count_without_proof
-        "unity 1
-program Count
-declare
-  x : 0..3
-initially
-  x = 0
-assign
-  inc: x := x + 1 if x < 3
-end
-",
+        counter!("unity 1\n"),
         None,
     ),
     (
         // mistakes/no_defined
-        "unity 1
-# a proof without a `defined` step
-program Count
-declare
-  x : 0..3
-initially
-  x = 0
-assign
-  inc: x := x + 1 if x < 3
-end
-proof Count
+        counter!(
+            "unity 1\n# a proof without a `defined` step\n",
+            "proof Count
   keep: stable x = 3 by text;
 end
-",
+"
+        ),
         Some(Code::DefinedMissing),
     ),
 ];
@@ -239,25 +136,7 @@ assign s: x := y end
     ),
     (
         // comparison_of_three
-        "unity 1
-program Count
-declare
-  x : 0..3
-initially
-  x = 0
-assign
-  inc: x := x + 1 if x < 3
-end
-proof Count
-  safe: defined by text;
-  top: invariant 0 <= x <= 3 by text;
-end
-certificates
-1: case 1 sum 1*1 1*4 sum 1*3 1*4;
-2: sum 1*2 1*5;
-3: case 1 case 1 sum 1*1 1*5 sum 1*4 1*5 case 1 sum 1*4 1*5 sum 1*2 1*5;
-end
-",
+        certified_counter!("unity 1\n", "0 <= x <= 3", "sum 1*2 1*5", "end\n"),
         Some(Code::Unexpected),
     ),
     (
