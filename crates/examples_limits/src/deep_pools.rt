@@ -1,6 +1,6 @@
 // The deepest trees of 65,536 nodes, put into a pool and got back. A call that took too much stack would end the test;
 // that it answers rightly is proved.
-use crate::deep_trees::{Around, TermAround, deep_form, deep_term};
+use crate::deep_trees::{FORMS_AROUND, TERMS_AROUND, deep_form, deep_term};
 use core_terms::{CForm, CTerm, Joining, Pairing, Pool, same};
 use std::alloc::{AllocError, Global};
 use std::test::Fail;
@@ -64,7 +64,7 @@ fn deep_last_term(alloc: Global, levels: u32) -> Result<CTerm, AllocError> {
 
 #[test]
 fn keeps_deep_formulas(rt: HostRuntime) -> Result<(), Fail> {
-    for (which, part) in [(Around::Not, 1), (Around::And, 2), (Around::Or, 2)] {
+    for (which, part) in FORMS_AROUND {
         let levels = (NODES - 1) / part;
         let f = deep_form(rt.alloc(), which, levels, CForm::Top)?;
         let nodes = 1 + u64::from(levels) * u64::from(part);
@@ -80,15 +80,7 @@ fn keeps_deep_formulas(rt: HostRuntime) -> Result<(), Fail> {
 
 #[test]
 fn keeps_deep_terms(rt: HostRuntime) -> Result<(), Fail> {
-    for (which, part) in [
-        (TermAround::Scale, 1),
-        (TermAround::Add, 2),
-        (TermAround::Sub, 2),
-        (TermAround::Branch, 3),
-        (TermAround::Condition, 4),
-        (TermAround::Quotient, 1),
-        (TermAround::Remainder, 2),
-    ] {
+    for (which, part) in TERMS_AROUND {
         let levels = (NODES - 2) / part;
         let f = CForm::Zero(deep_term(rt.alloc(), which, levels, CTerm::Slot(0))?);
         let nodes = 2 + u64::from(levels) * u64::from(part);

@@ -29,6 +29,20 @@ pub enum TermAround {
     Remainder,
 }
 
+/// Each way to put a formula around another, with the number of nodes of a level.
+pub const FORMS_AROUND: [(Around, u32); 3] = [(Around::Not, 1), (Around::And, 2), (Around::Or, 2)];
+
+/// Each way to put a term around another, with the number of nodes of a level.
+pub const TERMS_AROUND: [(TermAround, u32); 7] = [
+    (TermAround::Scale, 1),
+    (TermAround::Add, 2),
+    (TermAround::Sub, 2),
+    (TermAround::Branch, 3),
+    (TermAround::Condition, 4),
+    (TermAround::Quotient, 1),
+    (TermAround::Remainder, 2),
+];
+
 /// One more level around a formula.
 pub fn form_around(alloc: Global, which: Around, f: CForm) -> Result<CForm, AllocError>
     requires { IsDeepForm f }

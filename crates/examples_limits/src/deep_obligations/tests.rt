@@ -5,7 +5,7 @@ ghost use Rattle.core_terms.specs.Places.{form_slots, form_params};
 ghost use Rattle.examples_limits.specs.Deep.{IsDeepForm};
 
 use super::*;
-use crate::deep_trees::{Around, deep_form, deep_term};
+use crate::deep_trees::{FORMS_AROUND, deep_form, deep_term};
 use core_terms::{CForm, CSlot, Pool, Print, Range, copy_form};
 use obligations::{
     Cert, Node, TooLargeError, has_room, height, make, make_in, need, next_param, open_branch,
@@ -185,7 +185,7 @@ fn counts_units(rt: HostRuntime) -> Result<(), Fail> {
 
 #[test]
 fn takes_deep_formulas(rt: HostRuntime) -> Result<(), Fail> {
-    for (which, part) in [(Around::Not, 1), (Around::And, 2), (Around::Or, 2)] {
+    for (which, part) in FORMS_AROUND {
         let f = deep_form(
             rt.alloc(),
             which,

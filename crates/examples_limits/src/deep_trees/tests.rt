@@ -61,7 +61,7 @@ fn doubled(alloc: Global, levels: u32) -> Result<CForm, AllocError> {
 
 #[test]
 fn takes_deep_formulas(rt: HostRuntime) -> Result<(), Fail> {
-    for (which, part) in [(Around::Not, 1), (Around::And, 2), (Around::Or, 2)] {
+    for (which, part) in FORMS_AROUND {
         let levels = (NODES - 1) / part;
         let f = deep_form(rt.alloc(), which, levels, CForm::Top)?;
         let nodes = 1 + u64::from(levels) * u64::from(part);
@@ -73,15 +73,7 @@ fn takes_deep_formulas(rt: HostRuntime) -> Result<(), Fail> {
 
 #[test]
 fn takes_deep_terms(rt: HostRuntime) -> Result<(), Fail> {
-    for (which, part) in [
-        (TermAround::Scale, 1),
-        (TermAround::Add, 2),
-        (TermAround::Sub, 2),
-        (TermAround::Branch, 3),
-        (TermAround::Condition, 4),
-        (TermAround::Quotient, 1),
-        (TermAround::Remainder, 2),
-    ] {
+    for (which, part) in TERMS_AROUND {
         let levels = (NODES - 2) / part;
         let f = CForm::Zero(deep_term(rt.alloc(), which, levels, CTerm::Slot(0))?);
         let nodes = 2 + u64::from(levels) * u64::from(part);
@@ -96,15 +88,7 @@ fn takes_deep_terms(rt: HostRuntime) -> Result<(), Fail> {
 
 #[test]
 fn puts_arguments_into_deep_terms(rt: HostRuntime) -> Result<(), Fail> {
-    for (which, part) in [
-        (TermAround::Scale, 1),
-        (TermAround::Add, 2),
-        (TermAround::Sub, 2),
-        (TermAround::Branch, 3),
-        (TermAround::Condition, 4),
-        (TermAround::Quotient, 1),
-        (TermAround::Remainder, 2),
-    ] {
+    for (which, part) in TERMS_AROUND {
         let levels = (NODES - 2) / part;
         let f = CForm::Zero(deep_term(rt.alloc(), which, levels, CTerm::Slot(0))?);
         assert!(rt; takes_arguments(rt.alloc(), &f)?);
@@ -129,19 +113,11 @@ fn shares_trees(rt: HostRuntime) -> Result<(), Fail> {
 
 #[test]
 fn weighs_deep_trees(rt: HostRuntime) -> Result<(), Fail> {
-    for (which, part) in [(Around::Not, 1), (Around::And, 2), (Around::Or, 2)] {
+    for (which, part) in FORMS_AROUND {
         let f = deep_form(rt.alloc(), which, (NODES - 1) / part, CForm::Top)?;
         assert!(rt; weighs_little(rt.alloc(), &f)?);
     }
-    for (which, part) in [
-        (TermAround::Scale, 1),
-        (TermAround::Add, 2),
-        (TermAround::Sub, 2),
-        (TermAround::Branch, 3),
-        (TermAround::Condition, 4),
-        (TermAround::Quotient, 1),
-        (TermAround::Remainder, 2),
-    ] {
+    for (which, part) in TERMS_AROUND {
         let f = CForm::Zero(deep_term(rt.alloc(), which, (NODES - 2) / part, CTerm::Slot(0))?);
         assert!(rt; weighs_little(rt.alloc(), &f)?);
     }

@@ -7,7 +7,7 @@ ghost use Rattle.core_terms.specs.Conditions.{StatementFits};
 ghost use Rattle.examples_limits.specs.Swap.{two_slots};
 
 use super::*;
-use crate::deep_trees::{Around, TermAround, deep_form, deep_term};
+use crate::deep_trees::{FORMS_AROUND, TERMS_AROUND, deep_form, deep_term};
 use core_terms::{FormNode, Pool, same, size_of};
 use std::test::Fail;
 use unity_base::Shared;
@@ -124,19 +124,11 @@ fn goes_down(alloc: Global, s: &CStmt, q: &CForm, slots: &[CSlot]) -> Result<boo
 fn goes_down_deep_formulas(rt: HostRuntime) -> Result<(), Fail> {
     let s = swap(rt.alloc())?;
     let slots = two_slots(rt.alloc())?;
-    for (which, part) in [(Around::Not, 1), (Around::And, 2), (Around::Or, 2)] {
+    for (which, part) in FORMS_AROUND {
         let q = deep_form(rt.alloc(), which, (NODES - 1) / part, CForm::Top)?;
         assert!(rt; goes_down(rt.alloc(), &s, &q, slots.as_slice())?);
     }
-    for (which, part) in [
-        (TermAround::Scale, 1),
-        (TermAround::Add, 2),
-        (TermAround::Sub, 2),
-        (TermAround::Branch, 3),
-        (TermAround::Condition, 4),
-        (TermAround::Quotient, 1),
-        (TermAround::Remainder, 2),
-    ] {
+    for (which, part) in TERMS_AROUND {
         let q = CForm::Zero(deep_term(rt.alloc(), which, (NODES - 2) / part, CTerm::Slot(0))?);
         assert!(rt; goes_down(rt.alloc(), &s, &q, slots.as_slice())?);
     }
