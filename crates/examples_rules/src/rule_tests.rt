@@ -70,6 +70,28 @@ fn checked(alloc: Global, document: &str, text: &str) -> Result<String, AllocErr
     difference(alloc, "check", document, status_of(text), text)
 }
 
+/// What `check` writes of the rows where it is not that they are refused as they say.
+fn wrong_refusals(alloc: Global, start: &Start, rows: &[Refused]) -> Result<String, AllocError> {
+    let mut wrong = String::new(alloc);
+    for (steps, refusal) in rows {
+        let document = longer(alloc, start, steps, "")?;
+        let text = format!(in alloc; "rejected {refusal}\n")?;
+        wrong.push_str(checked(alloc, document.as_str(), text.as_str())?.as_str())?;
+    }
+    Ok(wrong)
+}
+
+/// What `check` writes of the rows where it is not their answers.
+fn wrong_judgements(alloc: Global, start: &Start, rows: &[Judged]) -> Result<String, AllocError> {
+    let mut wrong = String::new(alloc);
+    for (steps, certificates, answer) in rows {
+        let document = longer(alloc, start, steps, certificates)?;
+        let text = whole_answer(alloc, start, answer)?;
+        wrong.push_str(checked(alloc, document.as_str(), text.as_str())?.as_str())?;
+    }
+    Ok(wrong)
+}
+
 /// Each row is refused as it says.
 fn assert_refused(
     rt: &impl Abort,
@@ -77,12 +99,7 @@ fn assert_refused(
     start: &Start,
     rows: &[Refused],
 ) -> Result<(), AllocError> {
-    let mut wrong = String::new(alloc);
-    for (steps, refusal) in rows {
-        let document = longer(alloc, start, steps, "")?;
-        let text = format!(in alloc; "rejected {refusal}\n")?;
-        wrong.push_str(checked(alloc, document.as_str(), text.as_str())?.as_str())?;
-    }
+    let wrong = wrong_refusals(alloc, start, rows)?;
     assert_eq!(rt; wrong.as_str(), "");
     Ok(())
 }
@@ -94,12 +111,7 @@ fn assert_judged(
     start: &Start,
     rows: &[Judged],
 ) -> Result<(), AllocError> {
-    let mut wrong = String::new(alloc);
-    for (steps, certificates, answer) in rows {
-        let document = longer(alloc, start, steps, certificates)?;
-        let text = whole_answer(alloc, start, answer)?;
-        wrong.push_str(checked(alloc, document.as_str(), text.as_str())?.as_str())?;
-    }
+    let wrong = wrong_judgements(alloc, start, rows)?;
     assert_eq!(rt; wrong.as_str(), "");
     Ok(())
 }
