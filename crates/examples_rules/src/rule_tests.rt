@@ -17,7 +17,6 @@ mod whole_layers;
 
 use examples_answers::{difference, status_of};
 use std::alloc::{AllocError, Global};
-use std::process::Abort;
 
 /// A document up to the last step of a proof that goes on.
 struct Start {
@@ -90,28 +89,4 @@ fn wrong_judgements(alloc: Global, start: &Start, rows: &[Judged]) -> Result<Str
         wrong.push_str(checked(alloc, document.as_str(), text.as_str())?.as_str())?;
     }
     Ok(wrong)
-}
-
-/// Each row is refused as it says.
-fn assert_refused(
-    rt: &impl Abort,
-    alloc: Global,
-    start: &Start,
-    rows: &[Refused],
-) -> Result<(), AllocError> {
-    let wrong = wrong_refusals(alloc, start, rows)?;
-    assert_eq!(rt; wrong.as_str(), "");
-    Ok(())
-}
-
-/// Each row has its answer.
-fn assert_judged(
-    rt: &impl Abort,
-    alloc: Global,
-    start: &Start,
-    rows: &[Judged],
-) -> Result<(), AllocError> {
-    let wrong = wrong_judgements(alloc, start, rows)?;
-    assert_eq!(rt; wrong.as_str(), "");
-    Ok(())
 }

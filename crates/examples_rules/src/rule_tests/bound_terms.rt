@@ -1,7 +1,7 @@
 // Proof terms that bind numbers, by `exists` and `induct`: their bounds, and what is wrong with them.
 use super::starts::FAR_RANGES;
 use super::terms::COUNT_UP;
-use super::{Judged, Refused, assert_judged, assert_refused};
+use super::{Judged, Refused, wrong_judgements, wrong_refusals};
 use std::test::Fail;
 
 /// Terms by `exists`.
@@ -48,7 +48,10 @@ exists(m : 0..1, imply(x = n and n <= m, x = n));",
 
 #[test]
 fn terms_hold_for_some_number(rt: HostRuntime) -> Result<(), Fail> {
-    assert_judged(&rt, rt.alloc(), &COUNT_UP, EXISTING)?;
+    assert_eq!(rt;
+        wrong_judgements(rt.alloc(), &COUNT_UP, EXISTING)?.as_str(),
+        ""
+    );
     Ok(())
 }
 
@@ -86,7 +89,10 @@ const EXISTING_REFUSED: &[Refused] = &[
 
 #[test]
 fn bound_numbers_stay_inside(rt: HostRuntime) -> Result<(), Fail> {
-    assert_refused(&rt, rt.alloc(), &COUNT_UP, EXISTING_REFUSED)?;
+    assert_eq!(rt;
+        wrong_refusals(rt.alloc(), &COUNT_UP, EXISTING_REFUSED)?.as_str(),
+        ""
+    );
     Ok(())
 }
 
@@ -129,7 +135,10 @@ weaken(x >= 1 and 3 - x = m, (x >= 1 and 3 - x < m) or x = 3, from goal));",
 
 #[test]
 fn terms_descend(rt: HostRuntime) -> Result<(), Fail> {
-    assert_judged(&rt, rt.alloc(), &COUNT_UP, INDUCED)?;
+    assert_eq!(rt;
+        wrong_judgements(rt.alloc(), &COUNT_UP, INDUCED)?.as_str(),
+        ""
+    );
     Ok(())
 }
 
@@ -167,7 +176,10 @@ const INDUCED_REFUSED: &[Refused] = &[
 
 #[test]
 fn descents_have_their_form(rt: HostRuntime) -> Result<(), Fail> {
-    assert_refused(&rt, rt.alloc(), &COUNT_UP, INDUCED_REFUSED)?;
+    assert_eq!(rt;
+        wrong_refusals(rt.alloc(), &COUNT_UP, INDUCED_REFUSED)?.as_str(),
+        ""
+    );
     Ok(())
 }
 
@@ -202,7 +214,7 @@ induct(m : 0..1, x, true, true, weaken(true and x = m, (true and x < m) or true,
 
 #[test]
 fn bounds_end_at_2_to_63(rt: HostRuntime) -> Result<(), Fail> {
-    assert_refused(&rt, rt.alloc(), &FAR_RANGES, FAR)?;
+    assert_eq!(rt; wrong_refusals(rt.alloc(), &FAR_RANGES, FAR)?.as_str(), "");
     Ok(())
 }
 
@@ -227,6 +239,9 @@ const FAR_FURTHER: &[Judged] = &[
 
 #[test]
 fn bounds_end_at_2_to_63_further(rt: HostRuntime) -> Result<(), Fail> {
-    assert_judged(&rt, rt.alloc(), &FAR_RANGES, FAR_FURTHER)?;
+    assert_eq!(rt;
+        wrong_judgements(rt.alloc(), &FAR_RANGES, FAR_FURTHER)?.as_str(),
+        ""
+    );
     Ok(())
 }

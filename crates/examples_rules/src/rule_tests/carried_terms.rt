@@ -1,6 +1,6 @@
 // Proof terms by `psp` and `weaken`: their bounds, and what is wrong with them.
 use super::terms::COUNT_UP;
-use super::{Judged, Refused, assert_judged, assert_refused};
+use super::{Judged, Refused, wrong_judgements, wrong_refusals};
 use std::test::Fail;
 
 /// Terms by `psp` and `weaken`.
@@ -41,7 +41,10 @@ const CARRIED: &[Judged] = &[
 
 #[test]
 fn terms_carry_what_stays(rt: HostRuntime) -> Result<(), Fail> {
-    assert_judged(&rt, rt.alloc(), &COUNT_UP, CARRIED)?;
+    assert_eq!(rt;
+        wrong_judgements(rt.alloc(), &COUNT_UP, CARRIED)?.as_str(),
+        ""
+    );
     Ok(())
 }
 
@@ -95,6 +98,9 @@ const CARRIED_REFUSED: &[Refused] = &[
 
 #[test]
 fn what_stays_is_an_unless(rt: HostRuntime) -> Result<(), Fail> {
-    assert_refused(&rt, rt.alloc(), &COUNT_UP, CARRIED_REFUSED)?;
+    assert_eq!(rt;
+        wrong_refusals(rt.alloc(), &COUNT_UP, CARRIED_REFUSED)?.as_str(),
+        ""
+    );
     Ok(())
 }

@@ -1,6 +1,6 @@
 // Steps by the further rules whose bounds are reckoned: completion, and cancellation for a leads-to.
 use super::starts::{FAR_AND_LARGE, LED_AND_KEPT};
-use super::{Judged, Refused, assert_judged, assert_refused};
+use super::{Judged, Refused, wrong_judgements, wrong_refusals};
 use std::test::Fail;
 
 /// What `complete` gives: the bound is the greater one, and both have to end alike.
@@ -143,8 +143,14 @@ const COMPLETED_REFUSED: &[Refused] = &[
 
 #[test]
 fn steps_complete(rt: HostRuntime) -> Result<(), Fail> {
-    assert_judged(&rt, rt.alloc(), &LED_AND_KEPT, COMPLETED)?;
-    assert_refused(&rt, rt.alloc(), &LED_AND_KEPT, COMPLETED_REFUSED)?;
+    assert_eq!(rt;
+        wrong_judgements(rt.alloc(), &LED_AND_KEPT, COMPLETED)?.as_str(),
+        ""
+    );
+    assert_eq!(rt;
+        wrong_refusals(rt.alloc(), &LED_AND_KEPT, COMPLETED_REFUSED)?.as_str(),
+        ""
+    );
     Ok(())
 }
 
@@ -236,8 +242,14 @@ const CANCELLED_REFUSED: &[Refused] = &[
 
 #[test]
 fn leads_are_cancelled(rt: HostRuntime) -> Result<(), Fail> {
-    assert_judged(&rt, rt.alloc(), &LED_AND_KEPT, CANCELLED)?;
-    assert_refused(&rt, rt.alloc(), &LED_AND_KEPT, CANCELLED_REFUSED)?;
+    assert_eq!(rt;
+        wrong_judgements(rt.alloc(), &LED_AND_KEPT, CANCELLED)?.as_str(),
+        ""
+    );
+    assert_eq!(rt;
+        wrong_refusals(rt.alloc(), &LED_AND_KEPT, CANCELLED_REFUSED)?.as_str(),
+        ""
+    );
     Ok(())
 }
 
@@ -278,7 +290,13 @@ const FAR_ALLOWED: &[Judged] = &[(
 
 #[test]
 fn sums_end_at_2_to_63(rt: HostRuntime) -> Result<(), Fail> {
-    assert_refused(&rt, rt.alloc(), &FAR_AND_LARGE, FAR)?;
-    assert_judged(&rt, rt.alloc(), &FAR_AND_LARGE, FAR_ALLOWED)?;
+    assert_eq!(rt;
+        wrong_refusals(rt.alloc(), &FAR_AND_LARGE, FAR)?.as_str(),
+        ""
+    );
+    assert_eq!(rt;
+        wrong_judgements(rt.alloc(), &FAR_AND_LARGE, FAR_ALLOWED)?.as_str(),
+        ""
+    );
     Ok(())
 }

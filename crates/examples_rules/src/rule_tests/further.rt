@@ -1,6 +1,6 @@
 // Steps by the further rules `until`, `detects` and `constant`.
 use super::starts::LED_AND_KEPT;
-use super::{Judged, Refused, assert_judged, assert_refused};
+use super::{Judged, Refused, wrong_judgements, wrong_refusals};
 use std::test::Fail;
 
 /// Until: its two parts have the same sides.
@@ -86,8 +86,14 @@ const UNTIL_REFUSED: &[Refused] = &[
 
 #[test]
 fn steps_hold_until(rt: HostRuntime) -> Result<(), Fail> {
-    assert_judged(&rt, rt.alloc(), &LED_AND_KEPT, UNTIL)?;
-    assert_refused(&rt, rt.alloc(), &LED_AND_KEPT, UNTIL_REFUSED)?;
+    assert_eq!(rt;
+        wrong_judgements(rt.alloc(), &LED_AND_KEPT, UNTIL)?.as_str(),
+        ""
+    );
+    assert_eq!(rt;
+        wrong_refusals(rt.alloc(), &LED_AND_KEPT, UNTIL_REFUSED)?.as_str(),
+        ""
+    );
     Ok(())
 }
 
@@ -152,8 +158,14 @@ const DETECTED_REFUSED: &[Refused] = &[
 
 #[test]
 fn steps_detect(rt: HostRuntime) -> Result<(), Fail> {
-    assert_judged(&rt, rt.alloc(), &LED_AND_KEPT, DETECTED)?;
-    assert_refused(&rt, rt.alloc(), &LED_AND_KEPT, DETECTED_REFUSED)?;
+    assert_eq!(rt;
+        wrong_judgements(rt.alloc(), &LED_AND_KEPT, DETECTED)?.as_str(),
+        ""
+    );
+    assert_eq!(rt;
+        wrong_refusals(rt.alloc(), &LED_AND_KEPT, DETECTED_REFUSED)?.as_str(),
+        ""
+    );
     Ok(())
 }
 
@@ -229,7 +241,13 @@ const CONSTANT_REFUSED: &[Refused] = &[
 
 #[test]
 fn steps_are_constant(rt: HostRuntime) -> Result<(), Fail> {
-    assert_judged(&rt, rt.alloc(), &LED_AND_KEPT, CONSTANT)?;
-    assert_refused(&rt, rt.alloc(), &LED_AND_KEPT, CONSTANT_REFUSED)?;
+    assert_eq!(rt;
+        wrong_judgements(rt.alloc(), &LED_AND_KEPT, CONSTANT)?.as_str(),
+        ""
+    );
+    assert_eq!(rt;
+        wrong_refusals(rt.alloc(), &LED_AND_KEPT, CONSTANT_REFUSED)?.as_str(),
+        ""
+    );
     Ok(())
 }

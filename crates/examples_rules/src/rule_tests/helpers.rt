@@ -1,6 +1,6 @@
 // Statements that help, and formulas that are too large.
 use super::starts::{HEAVY_STEP, INDEXED, LARGE_NAME, LARGE_STEP, NOTHING_YET};
-use super::{Judged, Refused, assert_judged, assert_refused};
+use super::{Judged, Refused, wrong_judgements, wrong_refusals};
 use std::test::Fail;
 
 /// The statement that helps: its label, the number of its indices, and an instance of them.
@@ -41,7 +41,7 @@ const HELPERS: &[Refused] = &[
 
 #[test]
 fn statements_help(rt: HostRuntime) -> Result<(), Fail> {
-    assert_refused(&rt, rt.alloc(), &INDEXED, HELPERS)?;
+    assert_eq!(rt; wrong_refusals(rt.alloc(), &INDEXED, HELPERS)?.as_str(), "");
     Ok(())
 }
 
@@ -85,7 +85,10 @@ const HELPERS_FURTHER: &[Judged] = &[
 
 #[test]
 fn statements_help_further(rt: HostRuntime) -> Result<(), Fail> {
-    assert_judged(&rt, rt.alloc(), &INDEXED, HELPERS_FURTHER)?;
+    assert_eq!(rt;
+        wrong_judgements(rt.alloc(), &INDEXED, HELPERS_FURTHER)?.as_str(),
+        ""
+    );
     Ok(())
 }
 
@@ -115,7 +118,10 @@ const HEAVY: &[Refused] = &[
 
 #[test]
 fn large_instances_are_refused(rt: HostRuntime) -> Result<(), Fail> {
-    assert_refused(&rt, rt.alloc(), &HEAVY_STEP, HEAVY)?;
+    assert_eq!(rt;
+        wrong_refusals(rt.alloc(), &HEAVY_STEP, HEAVY)?.as_str(),
+        ""
+    );
     Ok(())
 }
 
@@ -130,7 +136,10 @@ const LARGE: &[Refused] = &[
 
 #[test]
 fn large_conclusions_are_refused(rt: HostRuntime) -> Result<(), Fail> {
-    assert_refused(&rt, rt.alloc(), &LARGE_STEP, LARGE)?;
+    assert_eq!(rt;
+        wrong_refusals(rt.alloc(), &LARGE_STEP, LARGE)?.as_str(),
+        ""
+    );
     Ok(())
 }
 
@@ -148,7 +157,10 @@ const LARGE_TEXTS: &[Refused] = &[
 
 #[test]
 fn large_obligations_are_refused(rt: HostRuntime) -> Result<(), Fail> {
-    assert_refused(&rt, rt.alloc(), &LARGE_NAME, LARGE_TEXTS)?;
+    assert_eq!(rt;
+        wrong_refusals(rt.alloc(), &LARGE_NAME, LARGE_TEXTS)?.as_str(),
+        ""
+    );
     Ok(())
 }
 
@@ -168,7 +180,10 @@ const LARGE_TEXTS_FURTHER: &[Judged] = &[
 
 #[test]
 fn large_obligations_are_refused_further(rt: HostRuntime) -> Result<(), Fail> {
-    assert_judged(&rt, rt.alloc(), &LARGE_NAME, LARGE_TEXTS_FURTHER)?;
+    assert_eq!(rt;
+        wrong_judgements(rt.alloc(), &LARGE_NAME, LARGE_TEXTS_FURTHER)?.as_str(),
+        ""
+    );
     Ok(())
 }
 
@@ -188,6 +203,9 @@ const MANY_WRITES: &[Judged] = &[
 
 #[test]
 fn many_writes_agree_or_not(rt: HostRuntime) -> Result<(), Fail> {
-    assert_judged(&rt, rt.alloc(), &NOTHING_YET, MANY_WRITES)?;
+    assert_eq!(rt;
+        wrong_judgements(rt.alloc(), &NOTHING_YET, MANY_WRITES)?.as_str(),
+        ""
+    );
     Ok(())
 }

@@ -1,6 +1,6 @@
 // Steps of layers.
 use super::layer_starts::LAYERED;
-use super::{Judged, Refused, assert_judged, assert_refused};
+use super::{Judged, Refused, wrong_judgements, wrong_refusals};
 use examples_answers::{Status, answer};
 use std::alloc::{AllocError, Global};
 use std::test::Fail;
@@ -52,7 +52,10 @@ const CARRIED: &[Judged] = &[
 
 #[test]
 fn layers_take_steps_over(rt: HostRuntime) -> Result<(), Fail> {
-    assert_judged(&rt, rt.alloc(), &LAYERED, CARRIED)?;
+    assert_eq!(rt;
+        wrong_judgements(rt.alloc(), &LAYERED, CARRIED)?.as_str(),
+        ""
+    );
     Ok(())
 }
 
@@ -115,7 +118,10 @@ const CARRIED_REFUSED: &[Refused] = &[
 
 #[test]
 fn steps_of_layers_are_refused(rt: HostRuntime) -> Result<(), Fail> {
-    assert_refused(&rt, rt.alloc(), &LAYERED, CARRIED_REFUSED)?;
+    assert_eq!(rt;
+        wrong_refusals(rt.alloc(), &LAYERED, CARRIED_REFUSED)?.as_str(),
+        ""
+    );
     Ok(())
 }
 

@@ -1,6 +1,6 @@
 // Conditions that are met before what a rule refers to.
 use super::starts::{NO_STEPS, TWO_PROOFS};
-use super::{Judged, Refused, assert_judged, assert_refused};
+use super::{Judged, Refused, wrong_judgements, wrong_refusals};
 use std::test::Fail;
 
 /// No `defined` step of the program stands before: this is told before all that is wrong with the rule.
@@ -53,7 +53,10 @@ const MISSING: &[Refused] = &[
 
 #[test]
 fn defined_steps_are_wanted_first(rt: HostRuntime) -> Result<(), Fail> {
-    assert_refused(&rt, rt.alloc(), &NO_STEPS, MISSING)?;
+    assert_eq!(rt;
+        wrong_refusals(rt.alloc(), &NO_STEPS, MISSING)?.as_str(),
+        ""
+    );
     Ok(())
 }
 
@@ -80,7 +83,10 @@ const MISSING_FURTHER: &[Judged] = &[
 
 #[test]
 fn defined_steps_are_wanted_first_further(rt: HostRuntime) -> Result<(), Fail> {
-    assert_judged(&rt, rt.alloc(), &NO_STEPS, MISSING_FURTHER)?;
+    assert_eq!(rt;
+        wrong_judgements(rt.alloc(), &NO_STEPS, MISSING_FURTHER)?.as_str(),
+        ""
+    );
     Ok(())
 }
 
@@ -123,7 +129,10 @@ const USING: &[Refused] = &[
 
 #[test]
 fn used_steps_are_invariants(rt: HostRuntime) -> Result<(), Fail> {
-    assert_refused(&rt, rt.alloc(), &TWO_PROOFS, USING)?;
+    assert_eq!(rt;
+        wrong_refusals(rt.alloc(), &TWO_PROOFS, USING)?.as_str(),
+        ""
+    );
     Ok(())
 }
 
@@ -170,6 +179,9 @@ const KINDS: &[Refused] = &[
 
 #[test]
 fn rules_give_their_kinds(rt: HostRuntime) -> Result<(), Fail> {
-    assert_refused(&rt, rt.alloc(), &TWO_PROOFS, KINDS)?;
+    assert_eq!(rt;
+        wrong_refusals(rt.alloc(), &TWO_PROOFS, KINDS)?.as_str(),
+        ""
+    );
     Ok(())
 }

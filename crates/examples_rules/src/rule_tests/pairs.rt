@@ -1,6 +1,6 @@
 // Steps by the rules that take two steps of a proof.
 use super::starts::TWO_PROOFS;
-use super::{Judged, Refused, assert_judged, assert_refused};
+use super::{Judged, Refused, wrong_judgements, wrong_refusals};
 use std::test::Fail;
 
 /// The two steps that a pair rule refers to, one after the other, and what it needs of them.
@@ -50,7 +50,10 @@ const PAIRS: &[Refused] = &[
 
 #[test]
 fn paired_steps_are_found(rt: HostRuntime) -> Result<(), Fail> {
-    assert_refused(&rt, rt.alloc(), &TWO_PROOFS, PAIRS)?;
+    assert_eq!(rt;
+        wrong_refusals(rt.alloc(), &TWO_PROOFS, PAIRS)?.as_str(),
+        ""
+    );
     Ok(())
 }
 
@@ -63,7 +66,10 @@ const PAIRS_FURTHER: &[Judged] = &[(
 
 #[test]
 fn paired_steps_are_found_further(rt: HostRuntime) -> Result<(), Fail> {
-    assert_judged(&rt, rt.alloc(), &TWO_PROOFS, PAIRS_FURTHER)?;
+    assert_eq!(rt;
+        wrong_judgements(rt.alloc(), &TWO_PROOFS, PAIRS_FURTHER)?.as_str(),
+        ""
+    );
     Ok(())
 }
 
@@ -124,6 +130,9 @@ f: (x = 2 or x = 1) or x = 0 unless x = 2 or x = 1 by simpledisj d a;",
 
 #[test]
 fn steps_are_paired(rt: HostRuntime) -> Result<(), Fail> {
-    assert_judged(&rt, rt.alloc(), &TWO_PROOFS, PAIRED_WELL)?;
+    assert_eq!(rt;
+        wrong_judgements(rt.alloc(), &TWO_PROOFS, PAIRED_WELL)?.as_str(),
+        ""
+    );
     Ok(())
 }

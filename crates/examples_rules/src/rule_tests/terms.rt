@@ -1,5 +1,5 @@
 // Proof terms by `from`, `imply`, `trans` and `either`: their bounds, and what is wrong with them.
-use super::{Judged, Refused, Start, assert_judged, assert_refused};
+use super::{Judged, Refused, Start, wrong_judgements, wrong_refusals};
 use std::test::Fail;
 
 /// A counter that goes up.
@@ -106,7 +106,7 @@ const FROM: &[Judged] = &[
 
 #[test]
 fn steps_are_taken_over(rt: HostRuntime) -> Result<(), Fail> {
-    assert_judged(&rt, rt.alloc(), &COUNT_UP, FROM)?;
+    assert_eq!(rt; wrong_judgements(rt.alloc(), &COUNT_UP, FROM)?.as_str(), "");
     Ok(())
 }
 
@@ -190,7 +190,10 @@ const FROM_REFUSED: &[Refused] = &[
 
 #[test]
 fn steps_taken_over_are_found(rt: HostRuntime) -> Result<(), Fail> {
-    assert_refused(&rt, rt.alloc(), &COUNT_UP, FROM_REFUSED)?;
+    assert_eq!(rt;
+        wrong_refusals(rt.alloc(), &COUNT_UP, FROM_REFUSED)?.as_str(),
+        ""
+    );
     Ok(())
 }
 
@@ -245,7 +248,10 @@ const JOINED: &[Judged] = &[
 
 #[test]
 fn terms_are_joined(rt: HostRuntime) -> Result<(), Fail> {
-    assert_judged(&rt, rt.alloc(), &COUNT_UP, JOINED)?;
+    assert_eq!(rt;
+        wrong_judgements(rt.alloc(), &COUNT_UP, JOINED)?.as_str(),
+        ""
+    );
     Ok(())
 }
 
@@ -307,6 +313,9 @@ const JOINED_REFUSED: &[Refused] = &[
 
 #[test]
 fn joined_terms_fit(rt: HostRuntime) -> Result<(), Fail> {
-    assert_refused(&rt, rt.alloc(), &COUNT_UP, JOINED_REFUSED)?;
+    assert_eq!(rt;
+        wrong_refusals(rt.alloc(), &COUNT_UP, JOINED_REFUSED)?.as_str(),
+        ""
+    );
     Ok(())
 }

@@ -1,6 +1,6 @@
 // Steps of unions.
 use super::starts::{NOTHING_YET, UNION_OF_A_UNION, UNION_OF_TWO, USED_INVARIANTS};
-use super::{Judged, Refused, assert_judged, assert_refused};
+use super::{Judged, Refused, wrong_judgements, wrong_refusals};
 use std::test::Fail;
 
 /// The two steps of a union, the first of its first part and the second of its second.
@@ -56,7 +56,10 @@ const PARTS: &[Refused] = &[
 
 #[test]
 fn parts_have_their_places(rt: HostRuntime) -> Result<(), Fail> {
-    assert_refused(&rt, rt.alloc(), &UNION_OF_TWO, PARTS)?;
+    assert_eq!(rt;
+        wrong_refusals(rt.alloc(), &UNION_OF_TWO, PARTS)?.as_str(),
+        ""
+    );
     Ok(())
 }
 
@@ -102,7 +105,10 @@ proof G safe: defined by text; end proof H safe: defined by union F.safe G.safe;
 
 #[test]
 fn unions_start(rt: HostRuntime) -> Result<(), Fail> {
-    assert_judged(&rt, rt.alloc(), &NOTHING_YET, STARTS)?;
+    assert_eq!(rt;
+        wrong_judgements(rt.alloc(), &NOTHING_YET, STARTS)?.as_str(),
+        ""
+    );
     Ok(())
 }
 
@@ -137,7 +143,10 @@ const UNITED: &[Judged] = &[
 
 #[test]
 fn steps_are_united(rt: HostRuntime) -> Result<(), Fail> {
-    assert_judged(&rt, rt.alloc(), &UNION_OF_TWO, UNITED)?;
+    assert_eq!(rt;
+        wrong_judgements(rt.alloc(), &UNION_OF_TWO, UNITED)?.as_str(),
+        ""
+    );
     Ok(())
 }
 
@@ -167,7 +176,10 @@ const UNITED_INVARIANTS: &[Refused] = &[
 
 #[test]
 fn invariants_are_united(rt: HostRuntime) -> Result<(), Fail> {
-    assert_refused(&rt, rt.alloc(), &UNION_OF_TWO, UNITED_INVARIANTS)?;
+    assert_eq!(rt;
+        wrong_refusals(rt.alloc(), &UNION_OF_TWO, UNITED_INVARIANTS)?.as_str(),
+        ""
+    );
     Ok(())
 }
 
@@ -187,7 +199,10 @@ const UNITED_INVARIANTS_FURTHER: &[Judged] = &[
 
 #[test]
 fn invariants_are_united_further(rt: HostRuntime) -> Result<(), Fail> {
-    assert_judged(&rt, rt.alloc(), &UNION_OF_TWO, UNITED_INVARIANTS_FURTHER)?;
+    assert_eq!(rt;
+        wrong_judgements(rt.alloc(), &UNION_OF_TWO, UNITED_INVARIANTS_FURTHER)?.as_str(),
+        ""
+    );
     Ok(())
 }
 
@@ -204,7 +219,10 @@ const THREE_PARTS: &[Refused] = &[
 
 #[test]
 fn three_parts_share_a_variable(rt: HostRuntime) -> Result<(), Fail> {
-    assert_refused(&rt, rt.alloc(), &UNION_OF_A_UNION, THREE_PARTS)?;
+    assert_eq!(rt;
+        wrong_refusals(rt.alloc(), &UNION_OF_A_UNION, THREE_PARTS)?.as_str(),
+        ""
+    );
     Ok(())
 }
 
@@ -224,7 +242,10 @@ const THREE_PARTS_FURTHER: &[Judged] = &[
 
 #[test]
 fn three_parts_share_a_variable_further(rt: HostRuntime) -> Result<(), Fail> {
-    assert_judged(&rt, rt.alloc(), &UNION_OF_A_UNION, THREE_PARTS_FURTHER)?;
+    assert_eq!(rt;
+        wrong_judgements(rt.alloc(), &UNION_OF_A_UNION, THREE_PARTS_FURTHER)?.as_str(),
+        ""
+    );
     Ok(())
 }
 
@@ -236,7 +257,10 @@ const USED: &[Refused] = &[
 
 #[test]
 fn used_invariants_are_shown_again(rt: HostRuntime) -> Result<(), Fail> {
-    assert_refused(&rt, rt.alloc(), &USED_INVARIANTS, USED)?;
+    assert_eq!(rt;
+        wrong_refusals(rt.alloc(), &USED_INVARIANTS, USED)?.as_str(),
+        ""
+    );
     Ok(())
 }
 
@@ -266,6 +290,9 @@ const USED_FURTHER: &[Judged] = &[
 
 #[test]
 fn used_invariants_are_shown_again_further(rt: HostRuntime) -> Result<(), Fail> {
-    assert_judged(&rt, rt.alloc(), &USED_INVARIANTS, USED_FURTHER)?;
+    assert_eq!(rt;
+        wrong_judgements(rt.alloc(), &USED_INVARIANTS, USED_FURTHER)?.as_str(),
+        ""
+    );
     Ok(())
 }

@@ -1,6 +1,6 @@
 // Steps by `weaken`.
 use super::starts::TWO_PROOFS;
-use super::{Judged, Refused, assert_judged, assert_refused};
+use super::{Judged, Refused, wrong_judgements, wrong_refusals};
 use std::test::Fail;
 
 /// A step that `weaken` refers to.
@@ -50,7 +50,10 @@ const WEAKENED: &[Refused] = &[
 
 #[test]
 fn weakened_steps_are_found(rt: HostRuntime) -> Result<(), Fail> {
-    assert_refused(&rt, rt.alloc(), &TWO_PROOFS, WEAKENED)?;
+    assert_eq!(rt;
+        wrong_refusals(rt.alloc(), &TWO_PROOFS, WEAKENED)?.as_str(),
+        ""
+    );
     Ok(())
 }
 
@@ -110,6 +113,9 @@ const WEAKENED_WELL: &[Judged] = &[
 
 #[test]
 fn steps_are_weakened(rt: HostRuntime) -> Result<(), Fail> {
-    assert_judged(&rt, rt.alloc(), &TWO_PROOFS, WEAKENED_WELL)?;
+    assert_eq!(rt;
+        wrong_judgements(rt.alloc(), &TWO_PROOFS, WEAKENED_WELL)?.as_str(),
+        ""
+    );
     Ok(())
 }

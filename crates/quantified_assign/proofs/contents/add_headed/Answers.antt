@@ -30,10 +30,11 @@ returns-in_err-add_known-in-None c =
     (definition_scope (entries c.args.layout.now.variables) (entries c.args.values.now) always)
     (entries c.add_headings.new.always) c.args.parts.now) (ap (λ es. seen_entries es) c.new-always.ensures.empty)
     c.in_ok-add_headings.ensures) in
-    let p = err_from_is_err_and c.from_residual-in_err-add_known-in-None.result c.from_residual-in_err-add_known-in-None.ensures.1 in
+    let p = err_from_is_err_and c.from_residual-in_err-add_known-in-None.result
+    c.from_residual-in_err-add_known-in-None.ensures.1 in
     rw (p.1, p.2) (made_known c.args.words.now first c.args.layout.now.slots c.add_known.new.programs
-    c.add_known.new.proofs c.args.parts.now (Err c.in_err-add_known-in-None.field-0.0) (entries c.add_headings.new.always)
-    c.args.proofs.now c.requires.none added c.in_err-add_known-in-None.ensures)
+    c.add_known.new.proofs c.args.parts.now (Err c.in_err-add_known-in-None.field-0.0)
+    (entries c.add_headings.new.always) c.args.proofs.now c.requires.none added c.in_err-add_known-in-None.ensures)
 
 pub returns : goal.returns
 returns c =
