@@ -227,7 +227,7 @@ growth() {
         split(one, a, " "); split(two, b, " ")
         times = b[1] / (a[1] > 0.01 ? a[1] : 0.01)
         printf "| %s | %d | %.2f s, %.0f MB | %.2f s, %.0f MB | %.1f |%s\n", \
-            name, size, a[1], a[2] / 1024, b[1], b[2] / 1024, times, times > 2.2 ? " grows |" : " |"
+            name, size, a[1], a[2] / 1024, b[1], b[2] / 1024, times, (times > 2.2 ? " grows |" : " |")
     }'
 }
 
