@@ -1,41 +1,22 @@
 -- What a further rule gives, from what its parts give.
-use Rattle.std.proofs.Common.{◌≡◌, ℕ, nat_le, ◌^◌, List, [], Bool, true, false, cond, ◌&&◌, Some, None, Result, Ok, Err}
+use Rattle.std.proofs.Common.{◌≡◌, ℕ, nat_le, ◌^◌, List, [], Bool, true, false, cond, Some, None, Result, Err}
 use Rattle.std.proofs.Common.{refl, sym, ◌∙◌, subst}
-use Rattle.std.specs.List.{list_all}
 use Rattle.case_tables.specs.declared.kind_table.Kind.{Kind}
 use Rattle.case_tables.specs.declared.code_table.Code.{Code}
 use Rattle.core_terms.specs.declared.programs.CSlot.{CSlot}
 use Rattle.core_terms.specs.declared.trees.CForm.{CForm}
-use Rattle.core_terms.specs.declared.trees.Range.{Range}
 use Rattle.fair_rounds.specs.declared.records.Record.{Record}
 use Rattle.obligations.specs.declared.branches.Obligation.{Obligation}
-use Rattle.rules_table.proofs.RowEquations.{concluded-is}
 use Rattle.rules_table.specs.Conclusion.{Conclusion}
 use Rattle.rules_table.specs.Further.{record_within, concluded_within, derived}
-use Rattle.rules_table.specs.Limits.{fits, is_provable}
-use Rattle.rules_table.specs.Table.{Site, needs, goals_of, record_of, concluded}
+use Rattle.rules_table.specs.Table.{Site, needs, record_of, concluded}
 use Rattle.safety_rules.proofs.AnswerLaws.{needs_met, needs_not, refused, given_by, rule_given}
+use Rattle.safety_rules.proofs.BoundLaws.{within_is}
 use Rattle.safety_rules.specs.Answers.{RuleAnswers}
 use Rattle.safety_rules.specs.Goals.{Concludes}
 use Rattle.safety_rules.specs.declared.places.Derived.{Derived}
 use Rattle.safety_rules.specs.declared.places.RuleError.{RuleError}
-use Rattle.derived_rules.specs.Bounds.{bounded_row}
-
--- p and q are the same, and so is what is concluded
-pub within_is : (slots : List CSlot) (ranges : List Range) (bound : ℕ) (made : Record) (forms : List CForm) →
-    concluded slots ranges (record made { bound = bound }) forms ≡ bounded_row bound (concluded slots ranges made forms)
-within_is slots ranges bound made forms =
-    concluded-is slots ranges (record made { bound = bound }) forms
-    ∙ go ((fits slots ranges made.p && fits slots ranges made.q) && list_all (is_provable slots ranges) forms)
-    ∙ subst (λ row. bounded_row bound row ≡ bounded_row bound (concluded slots ranges made forms))
-    (concluded-is slots ranges made forms) refl
-  where
-    go : (b : Bool) → needs b Code.FormulaTooLarge
-        (Ok (record { made = record made { bound = bound }; goals = goals_of ranges forms }))
-        ≡ bounded_row bound
-        (needs b Code.FormulaTooLarge (Ok (record { made = made; goals = goals_of ranges forms })))
-    go true = refl
-    go false = refl
+use Rattle.safety_rules.specs.Bounds.{bounded_row}
 
 -- the record, with its bound
 pub within_given : (site : Site) (kind : Kind) (p q : CForm) (more : List CForm) (rounds bound : ℕ)

@@ -9,4 +9,3 @@ mod within;
 
 pub use completing::complete_rule;
 pub use pairs::{constant_rule, detects_rule, lead_cancel_rule, until_rule};
-pub use within::lengthened;

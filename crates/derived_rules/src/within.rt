@@ -1,16 +1,12 @@
 // What is concluded within a bound.
-ghost use Rattle.std.specs.Prelude.{◌≡◌, ◌≤◌, ◌^◌, ◌++◌, nat_le, cond, List, None, Option, Result, Some};
-ghost use Rattle.case_tables.specs.declared.code_table.Code.{Code as TheCode};
-ghost use Rattle.core_terms.specs.declared.programs.CSlot.{CSlot};
-ghost use Rattle.rules_table.specs.Conclusion.{Conclusion};
+ghost use Rattle.std.specs.Prelude.{◌≡◌, ◌≤◌, ◌^◌, ◌++◌, nat_le, cond, None, Option, Some};
 ghost use Rattle.rules_table.specs.Further as further;
 ghost use Rattle.safety_rules.specs.Answers.{site_of, RuleAnswers};
 ghost use Rattle.safety_rules.specs.Usable.{NamesExist};
-ghost use Rattle.derived_rules.specs.Bounds.{bounded_row};
 
 use case_tables::{Code, Kind};
 use core_terms::CForm;
-use safety_rules::{Claim, Derived, Place, RuleError, conclude};
+use safety_rules::{Claim, Derived, Place, RuleError, conclude, lengthened};
 use std::alloc::Global;
 use unity_base::{Seq, Shared};
 
@@ -22,21 +18,6 @@ fn bounded(rounds: u128) -> Option<u64>
         Some(rounds as u64)
     } else {
         None
-    }
-}
-
-/// What is derived, with this bound.
-pub fn lengthened(answer: Result<Derived, RuleError>, bound: u64) -> Result<Derived, RuleError>
-    ensures { (slots : List CSlot) (row : Result Conclusion TheCode) → RuleAnswers answer slots row →
-        RuleAnswers result slots (bounded_row bound row) }
-{
-    match answer {
-        Ok(derived) => {
-            let mut derived = derived;
-            derived.made.bound = bound;
-            Ok(derived)
-        }
-        Err(error) => Err(error),
     }
 }
 

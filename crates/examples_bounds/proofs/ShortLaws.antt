@@ -5,11 +5,11 @@ use Rattle.std.proofs.Common.{length, arith, subst, sym}
 use Rattle.std.specs.Prelude.{◌↔◌}
 use Rattle.std.proofs.lemmas.List.{drop-take}
 use Rattle.meaning_states.specs.State.{State, Ranges}
-use Rattle.meaning_documents.specs.Execution.{System, Steps, act_step}
-use Rattle.meaning_documents.specs.Rounds.{rounds}
-use Rattle.meaning_documents.specs.Properties.{Test}
-use Rattle.meaning_documents.proofs.PropertyTheorems.{get-take, take-get}
-use Rattle.meaning_documents.proofs.RoundTheorems.{shortest_exists}
+use Rattle.meaning_executions.specs.Execution.{System, Steps, act_step}
+use Rattle.meaning_executions.specs.Rounds.{rounds}
+use Rattle.meaning_executions.specs.Properties.{Test}
+use Rattle.meaning_executions.proofs.PropertyTheorems.{get-take, take-get}
+use Rattle.meaning_executions.proofs.RoundTheorems.{shortest_exists}
 use Rattle.examples_bounds.specs.Bounded.{LeadsFrom, LeadsEverywhere}
 use Rattle.examples_bounds.specs.Walking.{Leads, LeadsOn}
 

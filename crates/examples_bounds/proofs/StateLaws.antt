@@ -10,8 +10,8 @@ use Rattle.meaning_states.specs.State.{State, is_state, in_range}
 use Rattle.meaning_states.proofs.StepTheorems.{and_left, and_right}
 use Rattle.core_terms.specs.declared.programs.CSlot.{CSlot}
 use Rattle.core_terms.specs.Steps.{slot_ranges}
-use Rattle.meaning_documents.specs.Execution.{System}
-use Rattle.meaning_documents.specs.Properties.{Test}
+use Rattle.meaning_executions.specs.Execution.{System}
+use Rattle.meaning_executions.specs.Properties.{Test}
 use Rattle.examples_bounds.specs.Walking.{Leads, LeadsOn}
 
 and_no : (b c : Bool) → false ≡ c → false ≡ (b && c)

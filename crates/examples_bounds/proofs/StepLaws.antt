@@ -10,7 +10,7 @@ use Rattle.std.specs.Int.RustNames.{int_le, unsigned_abs}
 use borrow.Author.Differences.{le-true}
 use Rattle.meaning_states.specs.State.{State, is_state, in_range}
 use Rattle.meaning_states.proofs.StepTheorems.{and_left, and_right, step_keeps_ranges}
-use Rattle.meaning_documents.specs.Execution.{chosen_step, act_step}
+use Rattle.meaning_executions.specs.Execution.{chosen_step, act_step}
 use Rattle.core_terms.specs.declared.trees.CForm.{CForm}
 use Rattle.core_terms.specs.declared.programs.CSlot.{CSlot}
 use Rattle.core_terms.specs.declared.programs.CStmt.{CStmt}
@@ -18,7 +18,7 @@ use Rattle.core_terms.specs.declared.programs.CProgram.{CProgram}
 use Rattle.core_terms.specs.Places.{form_slots}
 use Rattle.core_terms.specs.Steps.{slot_ranges, core_step, core_writes}
 use Rattle.core_terms.specs.Weights.{form_weight, number_weight, slot_weight}
-use Rattle.fair_rounds.specs.Records.{core_system}
+use Rattle.executor.specs.CoreSystem.{core_system}
 use Rattle.executor.specs.Running as runner
 use Rattle.executor.proofs.StateLaws.{state_length}
 use Rattle.executor.proofs.WeightLaws.{form_less}

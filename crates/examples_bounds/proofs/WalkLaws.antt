@@ -4,10 +4,10 @@ use Rattle.std.proofs.Common.{Some, IsTrue, refl}
 use Rattle.std.proofs.Common.{subst, ap, sym, slice_get, length, arith, append-nil, append_assoc}
 use Rattle.std.specs.Prelude.{◌↔◌}
 use Rattle.meaning_states.specs.State.{State}
-use Rattle.meaning_documents.specs.Execution.{System, chosen_step}
-use Rattle.meaning_documents.specs.Rounds.{rounds}
-use Rattle.meaning_documents.specs.RoundLaws.{HoldsLater}
-use Rattle.meaning_documents.specs.Properties.{Test}
+use Rattle.meaning_executions.specs.Execution.{System, chosen_step}
+use Rattle.meaning_executions.specs.Rounds.{rounds}
+use Rattle.meaning_executions.specs.RoundLaws.{HoldsLater}
+use Rattle.meaning_executions.specs.Properties.{Test}
 use Rattle.examples_bounds.specs.Walking.{Comes, ComesAt, ComesAfter, Leads, LeadsAt, LeadsAfter}
 
 -- q holds later where it holds after one state more

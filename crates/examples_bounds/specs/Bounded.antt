@@ -1,9 +1,9 @@
 -- A leads-to read on short executions alone.
 use Rattle.std.specs.Prelude.{◌≡◌, ℕ, ◌+◌, ◌≤◌, List, ◌∷◌, Some, IsTrue, drop, length, slice_get}
 use Rattle.meaning_states.specs.State.{State, Ranges, is_state}
-use Rattle.meaning_documents.specs.Execution.{System, Steps}
-use Rattle.meaning_documents.specs.Rounds.{IsShortest}
-use Rattle.meaning_documents.specs.Properties.{Test, HoldsSoon}
+use Rattle.meaning_executions.specs.Execution.{System, Steps}
+use Rattle.meaning_executions.specs.Rounds.{IsShortest}
+use Rattle.meaning_executions.specs.Properties.{Test, HoldsSoon}
 
 -- `p leadsto q` holds within a bound as far as executions of at most so many choices from a state show it
 abbrev pub LeadsFrom : State → ℕ → System → Test → Test → ℕ → Type 0

@@ -1,10 +1,11 @@
 -- A claim of a program, as its executions see it.
 use Rattle.std.specs.Prelude.{◌≡◌, ◌<◌, ◌^◌}
-use Rattle.meaning_documents.specs.Execution.{System}
-use Rattle.meaning_documents.specs.Properties.{Test}
+use Rattle.meaning_executions.specs.Execution.{System}
+use Rattle.meaning_executions.specs.Properties.{Test}
 use Rattle.core_terms.specs.declared.trees.CForm.TheVariants.{Top}
 use Rattle.core_terms.specs.Conditions.{IsProgram}
-use Rattle.fair_rounds.specs.Records.{core_system, holding}
+use Rattle.executor.specs.CoreSystem.{core_system}
+use Rattle.fair_rounds.specs.Records.{holding}
 use Rattle.examples_bounds.specs.declared.walking.Claim.{Claim}
 use Rattle.examples_bounds.specs.Readable.{IsReadable}
 

@@ -1,10 +1,10 @@
 -- What a walk through the states shows, which goes so many choices on from a state.
 use Rattle.std.specs.Prelude.{◌≡◌, ℕ, ◌≤◌, List, [], ◌∷◌, ◌++◌, Some, IsTrue, drop, length, slice_get}
 use Rattle.meaning_states.specs.State.{State, Ranges, is_state}
-use Rattle.meaning_documents.specs.Execution.{System, Steps, chosen_step}
-use Rattle.meaning_documents.specs.Rounds.{rounds}
-use Rattle.meaning_documents.specs.RoundLaws.{HoldsLater}
-use Rattle.meaning_documents.specs.Properties.{Test}
+use Rattle.meaning_executions.specs.Execution.{System, Steps, chosen_step}
+use Rattle.meaning_executions.specs.Rounds.{rounds}
+use Rattle.meaning_executions.specs.RoundLaws.{HoldsLater}
+use Rattle.meaning_executions.specs.Properties.{Test}
 
 -- when those choices have been made, q holds here or later, if with the choices that follow they have so many rounds
 abbrev pub Comes : System → Test → ℕ → ℕ → List ℕ → State → Type 0

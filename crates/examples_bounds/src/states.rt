@@ -3,7 +3,8 @@ ghost use Rattle.std.specs.Prelude.{◌≡◌, ◌↔◌, ◌<◌, ◌≤◌, �
 ghost use Rattle.meaning_states.specs.State.{is_state};
 ghost use Rattle.core_terms.specs.Conditions.{IsProgram};
 ghost use Rattle.core_terms.specs.Steps.{slot_ranges};
-ghost use Rattle.fair_rounds.specs.Records.{core_system, holding};
+ghost use Rattle.executor.specs.CoreSystem.{core_system};
+ghost use Rattle.fair_rounds.specs.Records.{holding};
 ghost use Rattle.examples_bounds.specs.Bounded.{LeadsEverywhere};
 ghost use Rattle.examples_bounds.specs.Claims.{IsClaim, claimed, before, after};
 ghost use Rattle.examples_bounds.specs.Readable.{IsReadable};

@@ -1,10 +1,10 @@
 // The walk through all executions of a few choices.
 ghost use Rattle.std.specs.Prelude.{◌≡◌, ◌↔◌, ◌<◌, ◌∷◌, ◌++◌, ℕ, List, [], length, IfOk, IsTrue};
 ghost use Rattle.meaning_states.specs.State.{State, is_state};
-ghost use Rattle.meaning_documents.specs.Execution.{chosen_step};
+ghost use Rattle.meaning_executions.specs.Execution.{chosen_step};
 ghost use Rattle.core_terms.specs.Steps.{slot_ranges};
 ghost use Rattle.fair_rounds.specs.Counts.{StandsFor};
-ghost use Rattle.fair_rounds.specs.Records.{core_system};
+ghost use Rattle.executor.specs.CoreSystem.{core_system};
 ghost use Rattle.examples_bounds.specs.Claims.{IsClaim, claimed, before, after};
 ghost use Rattle.examples_bounds.specs.Walking.{Comes, ComesAt, ComesAfter, Leads, LeadsAt, LeadsAfter};
 

@@ -11,10 +11,11 @@ use Rattle.meaning_states.specs.State.{State, is_state}
 use Rattle.meaning_documents.specs.Names.{Bindings}
 use Rattle.meaning_documents.specs.Setting.{is_true_at}
 use Rattle.meaning_documents.specs.Programs.{Composed, document_setting}
-use Rattle.meaning_documents.specs.Execution.{Act, System, IsExecution, act_step, chosen_step, system_of}
-use Rattle.meaning_documents.specs.Rounds.{rounds, IsShortest}
-use Rattle.meaning_documents.specs.Properties.{Test, Everywhere, IsAlwaysDefined, Fixed, Unless, Constant, Helps}
-use Rattle.meaning_documents.specs.Properties.{Ensures, LeadsTo, Until, Detects}
+use Rattle.meaning_executions.specs.Execution.{Act, System, IsExecution, act_step, chosen_step}
+use Rattle.meaning_documents.specs.AsSystem.{system_of}
+use Rattle.meaning_executions.specs.Rounds.{rounds, IsShortest}
+use Rattle.meaning_executions.specs.Properties.{Test, Everywhere, IsAlwaysDefined, Fixed, Unless, Constant, Helps}
+use Rattle.meaning_executions.specs.Properties.{Ensures, LeadsTo, Until, Detects}
 use Rattle.unity_syntax.specs.declared.proof.Step.{Step}
 use Rattle.meaning_documents.specs.Claims.{Claims, StepClaims, ClaimsOf, are_arguments, argument_bindings, parameters}
 use Rattle.examples_definitions.specs.SmallTrees.{word, number, equal, less}
@@ -31,9 +32,10 @@ use Rattle.meaning_documents.proofs.ValueLaws.{value_laws}
 use Rattle.meaning_documents.proofs.WriteLaws.{write_laws}
 use Rattle.meaning_documents.proofs.InstanceLaws.{instance_laws}
 use Rattle.meaning_states.proofs.StepTheorems.{and_left, and_right}
-use Rattle.meaning_documents.proofs.ExecutionTheorems.{every_state_in_range, each_is_a_step, get_at}
-use Rattle.meaning_documents.proofs.RoundTheorems.{rounds_most}
-use Rattle.meaning_documents.proofs.PropertyTheorems.{next, get-drop, leads_is_follows, ensures_leads}
+use Rattle.meaning_documents.proofs.SystemTheorems.{every_state_in_range}
+use Rattle.meaning_executions.proofs.ExecutionTheorems.{each_is_a_step, get_at}
+use Rattle.meaning_executions.proofs.RoundTheorems.{rounds_most}
+use Rattle.meaning_executions.proofs.PropertyTheorems.{next, get-drop, leads_is_follows, ensures_leads}
 
 one_state : (s t : State) → Some s ≡ Some t → s ≡ t
 one_state s t e = cc

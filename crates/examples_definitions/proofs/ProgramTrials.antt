@@ -1,6 +1,6 @@
 -- The unions and rounds of `specs/ProgramExamples.antt`, found by rewriting.
 use Rattle.std.proofs.Common.{ℕ, zero, suc, ◌<◌, [], ◌∷◌, refl, arith, take}
-use Rattle.meaning_documents.specs.Rounds.{rounds}
+use Rattle.meaning_executions.specs.Rounds.{rounds}
 use Rattle.examples_definitions.specs.ProgramExamples.{UnionExamples, RoundExamples, UnionInOrder, UnionOfUnion}
 use Rattle.examples_definitions.specs.ProgramExamples.{UnionOfSections, LaterIsNoPart, SlotsOfDocument, ShortestOfOne}
 use Rattle.examples_definitions.specs.ProgramExamples.{ShortestOfTwo}

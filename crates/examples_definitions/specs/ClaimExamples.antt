@@ -7,7 +7,8 @@ use Rattle.unity_syntax.specs.declared.proof.Proof.{Proof}
 use Rattle.unity_syntax.specs.declared.document.Document.{Document}
 use Rattle.meaning_states.specs.State.{State}
 use Rattle.meaning_documents.specs.Programs.{Composed, document_setting}
-use Rattle.meaning_documents.specs.Execution.{System, IsExecution, system_of}
+use Rattle.meaning_executions.specs.Execution.{System, IsExecution}
+use Rattle.meaning_documents.specs.AsSystem.{system_of}
 use Rattle.meaning_documents.specs.Instances.{instances}
 use Rattle.unity_syntax.specs.declared.statement.Items.{Items}
 use Rattle.meaning_documents.specs.Claims.{Claims}

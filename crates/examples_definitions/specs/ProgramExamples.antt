@@ -5,7 +5,7 @@ use Rattle.unity_syntax.specs.declared.document.Document.{Document}
 use Rattle.meaning_documents.specs.Instances.{instance_name}
 use Rattle.meaning_documents.specs.Programs.{program_named, programs_of, document_setting}
 use Rattle.meaning_documents.specs.Setting.{slot_ranges}
-use Rattle.meaning_documents.specs.Rounds.{rounds, IsShortest}
+use Rattle.meaning_executions.specs.Rounds.{rounds, IsShortest}
 use Rattle.examples_definitions.specs.SmallTrees.{word, number, equal, range, variable, target, one, plainly, set}
 use Rattle.examples_definitions.specs.SmallTrees.{statement, lone, choice_of, initial_program, free_program}
 use Rattle.examples_definitions.specs.SmallTrees.{union_program}

@@ -9,7 +9,7 @@ use Rattle.meaning_states.specs.Step.{step}
 use Rattle.meaning_documents.specs.Writes.{writes}
 use Rattle.meaning_documents.specs.Instances.{instances, instance_name}
 use Rattle.meaning_documents.specs.Setting.{Setting, setting_of, slot_ranges, seen}
-use Rattle.meaning_documents.specs.Execution.{instance_step}
+use Rattle.meaning_documents.specs.AsSystem.{instance_step}
 use Rattle.examples_definitions.specs.SmallTrees.{word, element, number, sum_of, equal, less, range, range_from}
 use Rattle.examples_definitions.specs.SmallTrees.{variable}
 use Rattle.examples_definitions.specs.SmallTrees.{array, target, element_target, one, two, plainly, if_true, if_either}

@@ -2,6 +2,7 @@
 //! on this crate.
 #![tactic(auto)]
 
+mod certificates;
 mod checks;
 mod refusal;
 mod streamed;

@@ -4,9 +4,9 @@ ghost use Rattle.unity_parser.specs.Document.{IsDocument};
 ghost use Rattle.core_terms.specs.Conditions.{IsCoreDocument};
 ghost use Rattle.proof_plans.specs.Giving.{AreWhole};
 
+use crate::certificates::certificates_from;
 use crate::refusal::{GREATEST_SIZE, Refusal};
 use case_tables::Word;
-use certificate_reading::certificates_from;
 use core_terms::CDocument;
 use obligations::Cert;
 use proof_plans::{Plan, ScriptError};

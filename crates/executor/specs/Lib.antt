@@ -4,3 +4,4 @@ pub mod Fitting
 pub mod Preparing
 pub mod Running
 pub mod Trying
+pub mod CoreSystem

@@ -7,7 +7,7 @@ use Rattle.core_terms.specs.declared.trees.CTerm.TheVariants.{Const}
 use Rattle.core_terms.specs.declared.trees.CForm.{CForm}
 use Rattle.core_terms.specs.declared.programs.CWrite.{CWrite}
 use Rattle.core_terms.specs.Folding.{difference_term, zero_form, or_form}
-use Rattle.meaning_documents.specs.Names.{natural}
+use Rattle.meaning_executions.specs.Counting.{natural}
 use Rattle.expand_rules.specs.Assigning.{any_of, equations, spread}
 use Rattle.expand_assignments.specs.Adding.{spread_write}
 

@@ -3,7 +3,7 @@
 ghost use Rattle.std.specs.Prelude.{◌≡◌, ◌∷◌, [], ◌++◌, ◌+◌, ◌-◌, ◌^◌, ◌≤◌, ◌<◌, pos, ◌+ℤ◌, IfOk, OnOk, fold};
 ghost use Rattle.core_terms.specs.declared.trees.CTerm.TheVariants.{Const};
 ghost use Rattle.core_terms.specs.Folding.{and_form, difference_term, not_form, or_form, truth_of, zero_form};
-ghost use Rattle.meaning_documents.specs.Value.{range_size};
+ghost use Rattle.meaning_executions.specs.Counting.{range_size};
 ghost use Rattle.expand_expressions.specs.Sound.{IsSound, of_number, of_truth};
 ghost use Rattle.expand_rules.specs.Assigning.{any_of, equations, spread};
 ghost use Rattle.expand_assignments.specs.Adding.{slot_ends, spread_write};

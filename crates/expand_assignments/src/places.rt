@@ -4,7 +4,7 @@ ghost use Rattle.std.specs.Prelude.{◌≡◌, ◌+◌, ◌^◌, ◌≤◌, ◌<
 ghost use Rattle.std.specs.Int.RustNames.{unsigned_abs};
 ghost use Rattle.meaning_documents.specs.Names as names;
 ghost use Rattle.expand_rules.specs.declared.cores.Bound.TheVariants.{Number};
-ghost use Rattle.meaning_documents.specs.Value.{range_size};
+ghost use Rattle.meaning_executions.specs.Counting.{range_size};
 
 use core_terms::Range;
 use expand_expressions::Numbers;

@@ -5,7 +5,7 @@ ghost use Rattle.std.specs.Prelude.{MatchOption};
 ghost use Rattle.std.specs.Option.{option_and_then, option_map};
 ghost use Rattle.core_terms.specs.Folding.{and_form, not_form, number_of};
 ghost use Rattle.meaning_documents.specs.Names.{slot_at};
-ghost use Rattle.meaning_documents.specs.Value.{range_size};
+ghost use Rattle.meaning_executions.specs.Counting.{range_size};
 ghost use Rattle.meaning_documents.specs.Setting.{slots_for};
 ghost use Rattle.expand_expressions.specs.Sound.{IsSound, of_number, of_truth};
 ghost use Rattle.expand_expressions.specs.Places.{ends_of, variable_of};

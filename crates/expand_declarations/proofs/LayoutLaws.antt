@@ -17,7 +17,7 @@ use Rattle.indexmap.specs.IndexMap.{insert_entry}
 use Rattle.unity_syntax.specs.declared.declaration.Var.{Var}
 use Rattle.unity_syntax.specs.declared.document.Part.{Part}
 use Rattle.meaning_documents.specs.Names.{Variable}
-use Rattle.meaning_documents.specs.Value.{range_size}
+use Rattle.meaning_executions.specs.Counting.{range_size}
 use Rattle.meaning_documents.specs.Setting.{slots_for, slot_count, type_indices, variable_from, with_declaration}
 use Rattle.meaning_documents.specs.Setting.{with_declarations, declarations, programs_among}
 use Rattle.names_rules.specs.Scope.{entries, seen_entries}

@@ -1,7 +1,7 @@
 //! The slots of one variable: its kinds, its indices and its elements.
 ghost use Rattle.std.specs.Prelude.{◌≡◌, ◌+◌, ◌-◌, [], ◌∷◌, ◌++◌, pos, ◌+ℤ◌, ◌<◌, false, map, Some, None};
 ghost use Rattle.std.specs.Prelude.{IfOk, OnOk, option_map};
-ghost use Rattle.meaning_documents.specs.Value.{range_size};
+ghost use Rattle.meaning_executions.specs.Counting.{range_size};
 ghost use Rattle.meaning_documents.specs.Setting.{is_boolean, element_type, plain_range, slots_for};
 ghost use Rattle.meaning_documents.specs.Setting.{type_indices};
 ghost use Rattle.expand_declarations.specs.WordNumbers.{word_number};

@@ -9,7 +9,7 @@ ghost use Rattle.core_terms.specs.declared.trees.CTerm.TheVariants.{Const, Slot}
 ghost use Rattle.core_terms.specs.Folding.{number_of, choice_term, zero_form, difference_term};
 ghost use Rattle.core_terms.specs.Weights.{plain_weights};
 ghost use Rattle.meaning_documents.specs.Names.{slot_at};
-ghost use Rattle.meaning_documents.specs.Value.{range_size};
+ghost use Rattle.meaning_executions.specs.Counting.{range_size};
 ghost use Rattle.meaning_documents.specs.Names.{variable_named};
 ghost use Rattle.expand_rules.specs.Forming as spec;
 ghost use Rattle.expand_rules.specs.Forming.{slot_term};

@@ -3,8 +3,7 @@
 ghost use Rattle.std.specs.Prelude.{◌≡◌, ◌+◌, ◌*◌, ◌^◌, ◌<◌, ◌≤◌, min, max};
 ghost use Rattle.std.specs.Int.RustNames.{unsigned_abs};
 ghost use Rattle.expand_rules.specs.Measures as spec;
-ghost use Rattle.meaning_documents.specs.Value as value;
-ghost use Rattle.meaning_documents.specs.Names as names;
+ghost use Rattle.meaning_executions.specs.Counting.{natural, range_size};
 
 use core_terms::Range;
 use expand_rules::{Flaws, Measure};
@@ -189,7 +188,7 @@ pub fn ends_weight(ends: Range) -> u64
 pub fn range_size(ends: Range) -> u64
     requires low { unsigned_abs ends.lo ≤ 2 ^ 61 }
     requires high { unsigned_abs ends.hi ≤ 2 ^ 61 }
-    ensures { result ≡ value.range_size (ends.lo, ends.hi) }
+    ensures { result ≡ range_size (ends.lo, ends.hi) }
 {
     natural(ends.hi + 1 - ends.lo)
 }
@@ -197,7 +196,7 @@ pub fn range_size(ends: Range) -> u64
 /// A whole number as a count: each negative one is 0.
 #[tactic(auto, using(crate::proofs::Ends::natural_abs, crate::proofs::Ends::natural_none))]
 pub fn natural(number: i64) -> u64
-    ensures { result ≡ names.natural number }
+    ensures { result ≡ natural number }
 {
     if number >= 0 { number as u64 } else { 0 }
 }

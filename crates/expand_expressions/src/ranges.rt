@@ -3,6 +3,7 @@
 ghost use Rattle.std.specs.Prelude.{◌≡◌, ◌+◌, ◌^◌, ◌≤◌, ◌<◌, ◌+ℤ◌, ◌≤ℤ◌, pos};
 ghost use Rattle.std.specs.Int.RustNames.{unsigned_abs};
 ghost use Rattle.case_tables.specs.declared.symbol_table.Symbol.{Symbol};
+ghost use Rattle.meaning_executions.specs.Counting.{range_size};
 ghost use Rattle.meaning_documents.specs.Names as names;
 ghost use Rattle.meaning_documents.specs.Value as value;
 ghost use Rattle.meaning_documents.specs.Value.{count_up};
@@ -150,7 +151,7 @@ fn between(low: i64, high: i64) -> Numbers
     requires low { unsigned_abs low ≤ 1000000000 }
     requires high { unsigned_abs high ≤ 1000000000 }
     ensures first { result.first ≡ low }
-    ensures count { result.count ≡ value.range_size (low, high) }
+    ensures count { result.count ≡ range_size (low, high) }
     ensures bound { result.count ≤ 2000000001 }
 {
     Numbers {

@@ -4,8 +4,9 @@ use Rattle.std.proofs.Common.{cond, ◌&&◌, Some, None, refl, sym, ap, ◌∙�
 use Rattle.std.proofs.lemmas.Int.{ints}
 use borrow.Author.Differences.{le-true, le-false, at_most_in, below_in}
 use Rattle.std.specs.Int.RustNames.{int_le}
-use Rattle.meaning_documents.specs.Names.{or_zero, natural, slot_at, slot_number}
-use Rattle.meaning_documents.specs.Value.{range_size}
+use Rattle.meaning_documents.specs.Names.{or_zero, slot_at, slot_number}
+use Rattle.meaning_executions.specs.Counting.{natural}
+use Rattle.meaning_executions.specs.Counting.{range_size}
 use Rattle.core_terms.specs.declared.trees.CTerm.{CTerm}
 use Rattle.core_terms.specs.declared.trees.CTerm.TheVariants.{Const, Slot}
 use Rattle.core_terms.specs.Values.{number_at, term_value}

@@ -9,7 +9,7 @@ use Rattle.case_tables.specs.declared.symbol_table.Symbol.{Symbol}
 use Rattle.unity_syntax.specs.declared.expression.Operator.{Operator}
 use Rattle.unity_syntax.specs.declared.name.Range.{Range}
 use Rattle.meaning_documents.specs.Names.{Variable}
-use Rattle.meaning_documents.specs.Value.{range_size}
+use Rattle.meaning_executions.specs.Counting.{range_size}
 use Rattle.expand_rules.specs.declared.cores.Core.{Core}
 use Rattle.expand_rules.specs.declared.cores.Bound.{Bound}
 use Rattle.core_terms.specs.declared.trees.CTerm.{CTerm}

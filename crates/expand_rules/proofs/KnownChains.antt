@@ -6,8 +6,9 @@ use borrow.Author.Differences.{le-true, le-false, at_most_in, below_in}
 use Rattle.std.specs.Option.{option_map}
 use Rattle.std.specs.Int.RustNames.{int_le}
 use Rattle.meaning_states.specs.State.{int_eq}
-use Rattle.meaning_documents.specs.Names.{natural, slot_at}
-use Rattle.meaning_documents.specs.Value.{range_size}
+use Rattle.meaning_executions.specs.Counting.{natural}
+use Rattle.meaning_documents.specs.Names.{slot_at}
+use Rattle.meaning_executions.specs.Counting.{range_size}
 use Rattle.core_terms.specs.declared.trees.CTerm.{CTerm}
 use Rattle.core_terms.specs.declared.trees.CTerm.TheVariants.{Const, Slot, Sub, Ite}
 use Rattle.core_terms.specs.declared.trees.CForm.TheVariants.{Zero}

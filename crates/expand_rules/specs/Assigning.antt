@@ -12,7 +12,7 @@ use Rattle.unity_syntax.specs.declared.statement.Component.TheOpen.{Component-F,
 use Rattle.unity_syntax.specs.declared.statement.Assign.{Assign, fold-Assign}
 use Rattle.unity_syntax.specs.declared.statement.Items.{Items}
 use Rattle.meaning_documents.specs.Names.{Bindings, Variable, slot_at}
-use Rattle.meaning_documents.specs.Value.{range_size}
+use Rattle.meaning_executions.specs.Counting.{range_size}
 use Rattle.meaning_documents.specs.Writes.{Alternative, alternatives}
 use Rattle.meaning_documents.specs.Instances.{Instance, instances, outermost_first}
 use Rattle.core_terms.specs.declared.trees.CTerm.{CTerm}

@@ -15,7 +15,8 @@ use Rattle.unity_syntax.specs.declared.expression.Expr.TheOpen.{Expr-F}
 use Rattle.unity_syntax.specs.declared.expression.Operator.{Operator}
 use Rattle.meaning_states.specs.Division.{divisor}
 use Rattle.meaning_documents.specs.Names.{Bindings, Variable, or_zero, slot_at}
-use Rattle.meaning_documents.specs.Value.{range_values, range_size}
+use Rattle.meaning_documents.specs.Value.{range_values}
+use Rattle.meaning_executions.specs.Counting.{range_size}
 use Rattle.meaning_documents.specs.Names.{variable_named}
 use Rattle.core_terms.specs.declared.trees.CTerm.{CTerm}
 use Rattle.core_terms.specs.declared.trees.CTerm.TheVariants.{Const, Slot, Param}

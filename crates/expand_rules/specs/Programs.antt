@@ -9,7 +9,8 @@ use Rattle.meaning_states.specs.Step.{step}
 use Rattle.meaning_documents.specs.Instances.{Instance, instances}
 use Rattle.meaning_documents.specs.Setting.{setting_of, slot_ranges, is_true_at}
 use Rattle.meaning_documents.specs.Programs.{Composed}
-use Rattle.meaning_documents.specs.Execution.{System, instance_step}
+use Rattle.meaning_executions.specs.Execution.{System}
+use Rattle.meaning_documents.specs.AsSystem.{instance_step}
 use Rattle.core_terms.specs.declared.trees.CForm.{CForm}
 use Rattle.core_terms.specs.declared.trees.CForm.TheVariants.{Top}
 use Rattle.core_terms.specs.declared.programs.CStmt.{CStmt}

@@ -1,13 +1,14 @@
 -- Records that are kept have their properties.
 use Rattle.std.proofs.Common.{ℤ, List, subst}
 use Rattle.case_tables.specs.declared.kind_table.Kind.{Kind}
-use Rattle.meaning_documents.specs.Properties.{implied, IsAlwaysDefined, IsInvariant}
+use Rattle.meaning_executions.specs.Properties.{implied, IsAlwaysDefined, IsInvariant}
 use Rattle.meaning_laws.proofs.StandingTheorems.{defined_holds, invariant_holds, unless_holds, ensures_holds}
 use Rattle.meaning_laws.proofs.StandingTheorems.{leads_holds, fixed_holds, constant_holds}
 use Rattle.core_terms.specs.declared.programs.CSlot.{CSlot}
 use Rattle.core_terms.specs.declared.programs.CProgram.{CProgram}
 use Rattle.fair_rounds.specs.declared.records.Record.{Record}
-use Rattle.fair_rounds.specs.Records.{core_system, holding, meets, KindStands, KindHolds}
+use Rattle.executor.specs.CoreSystem.{core_system}
+use Rattle.fair_rounds.specs.Records.{holding, meets, KindStands, KindHolds}
 use Rattle.fair_rounds.specs.RecordLaws.{DefinedKept, InvariantKept, KeptHolds}
 
 pub defined_kept : DefinedKept

@@ -1,11 +1,12 @@
 -- Records that are kept have their properties.
 use Rattle.std.specs.Prelude.{◌≡◌, ℤ, List, IsTrue}
 use Rattle.case_tables.specs.declared.kind_table.Kind.{Kind}
-use Rattle.meaning_documents.specs.Properties.{IsAlwaysDefined, IsInvariant}
+use Rattle.meaning_executions.specs.Properties.{IsAlwaysDefined, IsInvariant}
 use Rattle.core_terms.specs.declared.programs.CSlot.{CSlot}
 use Rattle.core_terms.specs.declared.programs.CProgram.{CProgram}
 use Rattle.fair_rounds.specs.declared.records.Record.{Record}
-use Rattle.fair_rounds.specs.Records.{core_system, holding, are_in_ranges, IsKept, Holds}
+use Rattle.executor.specs.CoreSystem.{core_system}
+use Rattle.fair_rounds.specs.Records.{holding, are_in_ranges, IsKept, Holds}
 
 -- with a record of kind Defined no step of an execution is undefined
 abbrev pub DefinedKept : Type 0

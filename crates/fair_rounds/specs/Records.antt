@@ -1,12 +1,12 @@
 -- When a record stands of a core program, and when its property holds.
-use Rattle.std.specs.Prelude.{◌≡◌, ℕ, nat_eq, ℤ, Bool, true, false, ◌&&◌, List, [], ◌∷◌, map, Option, Some, None}
+use Rattle.std.specs.Prelude.{◌≡◌, ℕ, nat_eq, ℤ, Bool, true, false, ◌&&◌, List, [], ◌∷◌, Option, Some, None}
 use Rattle.std.specs.Prelude.{IsTrue, slice_get}
 use Rattle.std.specs.List.{list_all}
 use Rattle.case_tables.specs.declared.kind_table.Kind.{Kind}
-use Rattle.meaning_states.specs.State.{int_eq, is_state, in_range}
-use Rattle.meaning_documents.specs.Execution.{System}
-use Rattle.meaning_documents.specs.Properties.{Test, implied, IsAlwaysDefined, IsInvariant, Unless, Ensures, LeadsTo}
-use Rattle.meaning_documents.specs.Properties.{Until, Detects, Constant, Fixed}
+use Rattle.meaning_states.specs.State.{is_state, in_range}
+use Rattle.meaning_executions.specs.Counting.{ints_eq}
+use Rattle.meaning_executions.specs.Properties.{Test, implied, IsAlwaysDefined, IsInvariant, Unless, Ensures, LeadsTo}
+use Rattle.meaning_executions.specs.Properties.{Until, Detects, Constant, Fixed}
 use Rattle.meaning_laws.specs.Stands.{DefinedStands, FixedStands, InvariantStands, UnlessStands, ConstantStands}
 use Rattle.meaning_laws.specs.Stands.{EnsuresStands, LeadsStands}
 use Rattle.core_terms.specs.declared.trees.Range.{Range}
@@ -16,16 +16,10 @@ use Rattle.core_terms.specs.declared.programs.CSlot.{CSlot}
 use Rattle.core_terms.specs.declared.programs.CProgram.{CProgram}
 use Rattle.core_terms.specs.declared.documents.Helper.{Helper}
 use Rattle.core_terms.specs.Values.{form_value}
-use Rattle.core_terms.specs.Steps.{slot_ranges, core_step}
+use Rattle.core_terms.specs.Steps.{slot_ranges}
 use Rattle.core_terms.specs.Replacing.{arg_values}
+use Rattle.executor.specs.CoreSystem.{core_system}
 use Rattle.fair_rounds.specs.declared.records.Record.{Record}
-
--- a core program as its executions see it
-abbrev pub core_system : List CSlot → CProgram → System
-core_system slots c = record {
-  initial = λ state. is_state (slot_ranges slots) state && form_value state [] c.initially;
-  steps = map (core_step slots) c.statements;
-}
 
 -- a formula as a test of states, for these numbers of the parameters
 abbrev pub holding : List ℤ → CForm → Test
@@ -41,13 +35,6 @@ are_in_ranges [] [] = true
 are_in_ranges [] (z ∷ zs) = false
 are_in_ranges (r ∷ rs) [] = false
 are_in_ranges (r ∷ rs) (z ∷ zs) = in_range (Some (r.lo, r.hi)) z && are_in_ranges rs zs
-
--- equal lists of numbers
-abbrev pub ints_eq : List ℤ → List ℤ → Bool
-ints_eq [] [] = true
-ints_eq [] (z ∷ zs) = false
-ints_eq (y ∷ ys) [] = false
-ints_eq (y ∷ ys) (z ∷ zs) = int_eq y z && ints_eq ys zs
 
 -- the statement is the one that the helper names, for these numbers of the parameters
 abbrev pub is_named : Helper → List ℤ → CStmt → Bool

@@ -5,9 +5,9 @@ use Rattle.std.proofs.Common.{ap, ◌∙◌, slice_get, arith, option_and_then}
 use Rattle.std.specs.Option.{option_map}
 use Rattle.std.proofs.lemmas.Option.{slice_get_within}
 use Rattle.meaning_states.specs.State.{State, Ranges, is_state}
-use Rattle.meaning_documents.specs.Execution.{Act, System, act_step, chosen_step}
-use Rattle.meaning_documents.specs.Properties.{IsFixedPoint}
-use Rattle.meaning_laws.specs.Alike.{StepEquivalent, SameAt}
+use Rattle.meaning_executions.specs.Execution.{Act, System, act_step, chosen_step}
+use Rattle.meaning_executions.specs.Properties.{IsFixedPoint}
+use Rattle.meaning_executions.specs.Alike.{StepEquivalent, SameAt}
 use Rattle.fixed_points.specs.FixedPoints.{is_fixed}
 use Rattle.fixed_points.proofs.WriteLaws.{same_truth}
 use Rattle.fixed_points.proofs.PointLaws.{tells_fixed_points}

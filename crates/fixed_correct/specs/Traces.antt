@@ -3,7 +3,7 @@ use Rattle.std.specs.Prelude.{ℕ, List, ◌++◌, length, None}
 use Rattle.unity_syntax.specs.declared.document.Document.{Document}
 use Rattle.meaning_states.specs.State.{State}
 use Rattle.meaning_documents.specs.Programs.{Composed}
-use Rattle.meaning_documents.specs.Rounds.{rounds}
+use Rattle.meaning_executions.specs.Rounds.{rounds}
 use Rattle.schedule_replay.specs.declared.heading.Heading.{Heading}
 use Rattle.schedule_replay.specs.Lines.{rounds_line}
 use Rattle.fixed_runs.specs.Traces.{fixed_after, fixed_lines, fixed_choices}

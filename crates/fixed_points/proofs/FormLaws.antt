@@ -28,7 +28,7 @@ use Rattle.wp_substitution.proofs.ClosedLaws.{form_closed, term_closed}
 use Rattle.wp_substitution.proofs.NeedLaws.{value-all_of}
 use Rattle.wp_substitution.proofs.ExactLaws.{definedness}
 use Rattle.wp_substitution.proofs.AfterLaws.{length_of_state}
-use Rattle.fair_rounds.specs.Records.{core_system}
+use Rattle.executor.specs.CoreSystem.{core_system}
 use Rattle.fixed_points.specs.FixedPoints.{leads_to}
 use Rattle.fixed_points.specs.FixedForms.{same_value, fixed_part, fixed_form, HoldsWhereLedBack, HoldsWhereFixed}
 use Rattle.fixed_points.specs.FixedForms.{StaysTrue}

@@ -4,12 +4,12 @@ use Rattle.std.proofs.Common.{◌∙◌, subst, slice_get, map}
 use Rattle.std.specs.List.{list_all}
 use Rattle.meaning_states.specs.State.{State}
 use Rattle.meaning_states.proofs.StepTheorems.{and_left, and_right, both_true}
-use Rattle.meaning_documents.specs.Execution.{Act, act_step}
+use Rattle.meaning_executions.specs.Execution.{Act, act_step}
 use Rattle.core_terms.specs.declared.programs.CSlot.{CSlot}
 use Rattle.core_terms.specs.declared.programs.CStmt.{CStmt}
 use Rattle.core_terms.specs.declared.programs.CProgram.{CProgram}
 use Rattle.core_terms.specs.Steps.{core_step}
-use Rattle.fair_rounds.specs.Records.{core_system}
+use Rattle.executor.specs.CoreSystem.{core_system}
 use Rattle.fixed_points.specs.FixedPoints.{leads_to, is_fixed}
 use Rattle.fixed_points.specs.Laws.{TellsFixedPoints, FixedPointsStay}
 use Rattle.fixed_points.proofs.WriteLaws.{led_back, leads_back}

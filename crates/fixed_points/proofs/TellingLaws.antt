@@ -15,7 +15,7 @@ use Rattle.core_terms.specs.Values.{form_value}
 use Rattle.core_terms.specs.Steps.{slot_ranges, core_step}
 use Rattle.executor.specs.Fitting.{StatementRuns, WritesRun}
 use Rattle.executor.proofs.StateLaws.{state_length}
-use Rattle.fair_rounds.specs.Records.{core_system}
+use Rattle.executor.specs.CoreSystem.{core_system}
 use Rattle.fixed_points.specs.FixedPoints.{leads_to, is_fixed}
 use Rattle.fixed_points.specs.Leaving.{leaves}
 use Rattle.fixed_points.proofs.FormLaws.{leaves_back}

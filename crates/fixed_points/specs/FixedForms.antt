@@ -1,7 +1,7 @@
 -- The formula of where a state is a fixed point.
 use Rattle.std.specs.Prelude.{◌≡◌, ℕ, ℤ, List, map, Some, IsTrue}
 use Rattle.meaning_states.specs.State.{State, is_state}
-use Rattle.meaning_documents.specs.Execution.{chosen_step}
+use Rattle.meaning_executions.specs.Execution.{chosen_step}
 use Rattle.core_terms.specs.declared.trees.CTerm.TheVariants.{Slot}
 use Rattle.core_terms.specs.declared.trees.CForm.{CForm}
 use Rattle.core_terms.specs.declared.programs.CSlot.{CSlot}
@@ -11,7 +11,7 @@ use Rattle.core_terms.specs.declared.programs.CProgram.{CProgram}
 use Rattle.core_terms.specs.Folding.{difference_term, zero_form, not_form, and_form, or_form}
 use Rattle.core_terms.specs.Values.{form_value}
 use Rattle.core_terms.specs.Steps.{slot_ranges, core_step}
-use Rattle.fair_rounds.specs.Records.{core_system}
+use Rattle.executor.specs.CoreSystem.{core_system}
 use Rattle.wp_substitution.specs.Preconditions.{all_of, defined_form}
 use Rattle.fixed_points.specs.FixedPoints.{leads_to, is_fixed}
 

@@ -5,7 +5,7 @@ ghost use Rattle.std.specs.Option.{is_none};
 ghost use Rattle.meaning_states.specs.State.{is_state};
 ghost use Rattle.core_terms.specs.Steps.{slot_ranges, core_step};
 ghost use Rattle.executor.specs.Fitting.{StatementRuns, StatementsRun, WriteRuns, WritesRun};
-ghost use Rattle.fair_rounds.specs.Records.{core_system};
+ghost use Rattle.executor.specs.CoreSystem.{core_system};
 ghost use Rattle.fixed_points.specs.FixedPoints as fixed;
 ghost use Rattle.fixed_points.specs.Leaving.{leaves};
 

@@ -7,8 +7,8 @@ use Rattle.std.proofs.Common.{option_and_then}
 use Rattle.std.specs.Option.{option_map}
 use Rattle.meaning_states.specs.State.{State, is_state}
 use Rattle.meaning_states.proofs.StepTheorems.{step_keeps_ranges}
-use Rattle.meaning_documents.specs.Execution.{System, chosen_step}
-use Rattle.meaning_documents.specs.Rounds.{rounds}
+use Rattle.meaning_executions.specs.Execution.{System, chosen_step}
+use Rattle.meaning_executions.specs.Rounds.{rounds}
 use Rattle.fair_rounds.proofs.CountLaws.{few_rounds}
 use Rattle.core_terms.specs.declared.programs.CSlot.{CSlot}
 use Rattle.core_terms.specs.declared.programs.CStmt.{CStmt}
@@ -16,7 +16,7 @@ use Rattle.core_terms.specs.declared.programs.CProgram.{CProgram}
 use Rattle.core_terms.specs.declared.documents.CDocument.{CDocument}
 use Rattle.core_terms.specs.Steps.{slot_ranges, core_step, core_writes}
 use Rattle.executor.specs.Running as runner
-use Rattle.fair_rounds.specs.Records.{core_system}
+use Rattle.executor.specs.CoreSystem.{core_system}
 use Rattle.schedule_replay.specs.Lines.{rounds_line, fixed_line}
 use Rattle.fixed_points.specs.FixedPoints.{is_fixed}
 use Rattle.run_traces.proofs.TraceLaws.{drop_next, take_next, drop_past}

@@ -6,7 +6,7 @@ ghost use Rattle.meaning_states.specs.State.{is_state};
 ghost use Rattle.core_terms.specs.Conditions.{IsProgram};
 ghost use Rattle.core_terms.specs.Steps.{slot_ranges};
 ghost use Rattle.executor.specs.Running.{program_of, slots_of, state_of};
-ghost use Rattle.fair_rounds.specs.Records.{core_system};
+ghost use Rattle.executor.specs.CoreSystem.{core_system};
 ghost use Rattle.schedule_replay.specs.Schedules.{turns};
 ghost use Rattle.schedule_replay.specs.Lines.{fixed_line, rounds_line};
 ghost use Rattle.fixed_points.specs.FixedPoints.{is_fixed};

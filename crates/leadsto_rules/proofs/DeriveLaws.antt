@@ -28,8 +28,8 @@ use Rattle.rules_table.specs.Table.{Site, needs, goals_of, concluded}
 use Rattle.rules_table.specs.Terms.{is_well_bound, term_of, derive_of, all_ranges, leads_record}
 use Rattle.rules_table.specs.Validity.{AllValid}
 use Rattle.rules_table.specs.declared.led.Led.{Led}
-use Rattle.meaning_documents.specs.Execution.{System}
-use Rattle.meaning_documents.specs.Properties.{Test, LeadsTo}
+use Rattle.meaning_executions.specs.Execution.{System}
+use Rattle.meaning_executions.specs.Properties.{Test, LeadsTo}
 use Rattle.leadsto_rules.proofs.RangeLaws.{parts_ranges}
 use Rattle.leadsto_rules.proofs.VisibleLaws.{Depends, term_depends}
 use Rattle.leadsto_rules.specs.Deriving.{narrowed, narrowed_row}

@@ -7,7 +7,7 @@ use Rattle.std.specs.Option.{option_map}
 use Rattle.std.specs.Int.RustNames.{unsigned_abs}
 use Rattle.std.proofs.lemmas.Int.{ints}
 use Rattle.std.proofs.lemmas.List.Elements.{All-push}
-use Rattle.meaning_documents.specs.Names.{natural}
+use Rattle.meaning_executions.specs.Counting.{natural}
 use Rattle.core_terms.specs.Conditions.{FormFits, TermFits}
 use Rattle.core_terms.specs.Folding.{not_form, at_least_form, difference_term}
 use Rattle.core_terms.specs.Places.{slots_step, params_step, term_slots, term_params}

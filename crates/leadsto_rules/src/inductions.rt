@@ -10,7 +10,7 @@ ghost use Rattle.rules_table.specs.Forms as formula;
 ghost use Rattle.rules_table.specs.Table.{needs};
 ghost use Rattle.rules_table.specs.Terms as terms;
 ghost use Rattle.safety_rules.specs.Answers.{site_of, IsPlace};
-ghost use Rattle.meaning_documents.specs.Value.{range_size};
+ghost use Rattle.meaning_executions.specs.Counting.{range_size};
 ghost use Rattle.leadsto_rules.specs.Inductions.{IsLightInduction, InductionFits};
 ghost use Rattle.leadsto_rules.specs.Leading.{TermGives, LedFits};
 

@@ -1,6 +1,4 @@
-pub mod ExecutionTheorems
 pub mod InstanceLaws
-pub mod PropertyTheorems
-pub mod RoundTheorems
+pub mod SystemTheorems
 pub mod ValueLaws
 pub mod WriteLaws

@@ -11,9 +11,10 @@ use Rattle.meaning_documents.specs.Names.{Bindings}
 use Rattle.meaning_documents.specs.Value.{range_ends}
 use Rattle.meaning_documents.specs.Setting.{Setting, is_true_at}
 use Rattle.meaning_documents.specs.Programs.{Composed, program_named, programs_of, document_setting}
-use Rattle.meaning_documents.specs.Execution.{System, system_of}
-use Rattle.meaning_documents.specs.Properties.{Test, IsAlwaysDefined, IsInvariant, Fixed, IsStable, Constant, Unless}
-use Rattle.meaning_documents.specs.Properties.{Ensures, LeadsTo, Until, Detects}
+use Rattle.meaning_executions.specs.Execution.{System}
+use Rattle.meaning_documents.specs.AsSystem.{system_of}
+use Rattle.meaning_executions.specs.Properties.{Test, IsAlwaysDefined, IsInvariant, Fixed, IsStable, Constant, Unless}
+use Rattle.meaning_executions.specs.Properties.{Ensures, LeadsTo, Until, Detects}
 
 -- the parameters of a step, in order
 abbrev pub parameters : Option (Param × List Param) → List Param

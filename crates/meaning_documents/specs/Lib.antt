@@ -1,13 +1,10 @@
+pub mod AsSystem
 pub mod Claims
-pub mod Execution
-pub mod ExecutionLaws
 pub mod Instances
 pub mod Names
 pub mod Programs
-pub mod Properties
-pub mod RoundLaws
-pub mod Rounds
 pub mod Setting
 pub mod Steps
+pub mod SystemLaws
 pub mod Value
 pub mod Writes

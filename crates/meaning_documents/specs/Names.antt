@@ -1,8 +1,9 @@
 -- What names mean where an expression is read.
-use Rattle.std.specs.Prelude.{ℕ, ◌+◌, ℤ, pos, negsuc, ◌-ℤ◌, List, [], ◌∷◌, cond, Bool, Option, Some, None}
+use Rattle.std.specs.Prelude.{ℕ, ◌+◌, ℤ, pos, ◌-ℤ◌, List, [], ◌∷◌, cond, Bool, Option, Some, None}
 use Rattle.std.specs.Prelude.{slice_index_or}
 use Rattle.std.specs.Str.{bytes_eq}
 use Rattle.meaning_states.specs.State.{State, in_range}
+use Rattle.meaning_executions.specs.Counting.{natural}
 
 -- numbers by name; of two with one name, the first counts
 abbrev pub Bindings : Type 0
@@ -45,11 +46,6 @@ or_else (Some z) other = Some z
 abbrev pub or_zero : Option ℤ → ℤ
 or_zero None = pos 0
 or_zero (Some z) = z
-
--- a whole number as a count, cut at 0: each negative one is 0
-abbrev pub natural : ℤ → ℕ
-natural (pos n) = n
-natural (negsuc n) = 0
 
 -- the variable of a name
 abbrev pub variable_named : List ℕ → List Variable → Option Variable

@@ -13,7 +13,8 @@ use Rattle.unity_syntax.specs.declared.program.Program.{Program}
 use Rattle.unity_syntax.specs.declared.document.Part.{Part}
 use Rattle.meaning_states.specs.State.{State, Ranges}
 use Rattle.meaning_documents.specs.Names.{Bindings, Variable, Sight}
-use Rattle.meaning_documents.specs.Value.{value, holds, range_ends, range_size}
+use Rattle.meaning_documents.specs.Value.{value, holds, range_ends}
+use Rattle.meaning_executions.specs.Counting.{range_size}
 
 -- the items of a list that may be absent
 abbrev pub items_of : {T : Type 0} → Option (List T) → List T

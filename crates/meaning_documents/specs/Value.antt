@@ -12,7 +12,8 @@ use Rattle.unity_syntax.specs.declared.expression.Expr.{Expr, fold-Expr}
 use Rattle.unity_syntax.specs.declared.expression.Expr.TheOpen.{Expr-F}
 use Rattle.meaning_states.specs.State.{int_eq}
 use Rattle.meaning_states.specs.Division.{floored, rest_of}
-use Rattle.meaning_documents.specs.Names.{Bindings, Sight, with_name, number_of, or_zero, natural, word_value}
+use Rattle.meaning_documents.specs.Names.{Bindings, Sight, with_name, number_of, or_zero, word_value}
+use Rattle.meaning_executions.specs.Counting.{range_size}
 use Rattle.meaning_documents.specs.Names.{element_value}
 
 -- the value of a truth
@@ -50,10 +51,6 @@ range_ends bindings r = (end_value bindings r.low, end_value bindings r.high)
 abbrev pub count_up : ℤ → ℕ → List ℤ
 count_up low zero = []
 count_up low (suc n) = low ∷ count_up (low +ℤ pos 1) n
-
--- how many numbers lie in a range
-abbrev pub range_size : ℤ × ℤ → ℕ
-range_size r = natural (r.1 +ℤ pos 1 -ℤ r.0)
 
 -- the numbers of a range in turn; none where the low end is above the high end
 abbrev pub range_values : Bindings → Range → List ℤ

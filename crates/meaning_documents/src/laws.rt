@@ -1,45 +1,24 @@
 //! The laws that tie the definitions of `specs/` together. These functions do nothing: each states laws.
 
-ghost use Rattle.meaning_documents.specs.ExecutionLaws.{PrefixIsExecution, EachIsAStep, EveryStateInRange, DefinedRuns};
-ghost use Rattle.meaning_documents.specs.ExecutionLaws.{UnionSteps, UnionInitial, StableIsUnlessFalse};
-ghost use Rattle.meaning_documents.specs.RoundLaws.{NoRound, OneMoreRound, OneShortest, ShortestExists};
-ghost use Rattle.meaning_documents.specs.RoundLaws.{LeadsIsFollows, WithinNone, BoundGrows, EnsuresLeads};
+ghost use Rattle.meaning_documents.specs.SystemLaws.{EveryStateInRange, UnionSteps, UnionInitial, UnionIsTogether};
+ghost use Rattle.meaning_documents.specs.SystemLaws.{SourceAlike, StableIsUnlessFalse};
 
-/// Every prefix of an execution is an execution; each state but the first is a step by a choice; each
-/// slot's number lies in its range; and where no step is undefined every list of choices runs.
-pub fn execution_laws()
-    ensures prefix { PrefixIsExecution }
-    ensures step { EachIsAStep }
+/// At every state of every execution of a program or union each slot's number lies in its range; and a system that
+/// starts as it does, and steps as it does at each state of the document, is alike.
+pub fn system_laws()
     ensures range { EveryStateInRange }
-    ensures runs { DefinedRuns }
+    ensures source { SourceAlike }
 {}
 
-/// A union has the steps of both its parts, the first part's first, and is initial where both are.
+/// A union has the steps of both its parts, the first part's first, and is initial where both are: its system is the
+/// union of their systems.
 pub fn union_laws()
     ensures steps { UnionSteps }
     ensures initial { UnionInitial }
+    ensures together { UnionIsTogether }
 {}
 
 /// `stable p` claims what `p unless false` claims.
 pub fn stable_is_unless_false()
     ensures { StableIsUnlessFalse }
-{}
-
-/// Rounds by their definition: none where an instance does not occur, else, where there is an instance at
-/// all, one more than in what follows the shortest prefix in which all occur. There is one shortest prefix
-/// with so many rounds.
-pub fn round_laws()
-    ensures none { NoRound }
-    ensures more { OneMoreRound }
-    ensures unique { OneShortest }
-    ensures exists { ShortestExists }
-{}
-
-/// A leads-to within a bound: its end need not be named, within 0 rounds q holds where p does, a
-/// greater bound says less, and `p ensures q` gives it within one round.
-pub fn leads_to_laws()
-    ensures follows { LeadsIsFollows }
-    ensures none { WithinNone }
-    ensures grows { BoundGrows }
-    ensures one { EnsuresLeads }
 {}

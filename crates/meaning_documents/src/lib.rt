@@ -3,4 +3,4 @@
 
 mod laws;
 
-pub use laws::{execution_laws, leads_to_laws, round_laws, stable_is_unless_false, union_laws};
+pub use laws::{stable_is_unless_false, system_laws, union_laws};

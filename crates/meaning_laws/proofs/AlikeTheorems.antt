@@ -1,19 +1,16 @@
 -- Systems that are alike have the same executions, and so the same properties.
 use Rattle.std.proofs.Common.{◌≡◌, ℕ, suc, ◌<◌, List, [], ◌∷◌, Bool, true, false, cond, not, ◌&&◌, ◌||◌, Option, Some}
 use Rattle.std.proofs.Common.{None, IsTrue, refl, sym, subst, ap, ◌∙◌, slice_get, drop}
-use Rattle.std.specs.List.{list_all}
-use Rattle.std.proofs.lemmas.List.{length-map}
 use Rattle.std.proofs.lemmas.Option.{slice_get_within}
 use Rattle.meaning_states.specs.State.{State, Ranges, is_state}
-use Rattle.meaning_states.proofs.StepTheorems.{and_left, step_keeps_ranges}
-use Rattle.meaning_documents.specs.Setting.{slot_ranges, is_true_at}
-use Rattle.meaning_documents.specs.Execution.{Act, System, Steps, IsExecution, instance_step, act_step, chosen_step}
-use Rattle.meaning_documents.specs.Rounds.{IsShortest}
-use Rattle.meaning_documents.specs.Properties.{Test, but_not}
-use Rattle.meaning_documents.proofs.ExecutionTheorems.{chosen_instance, get_at, kept}
-use Rattle.meaning_laws.specs.Systems.{passing}
-use Rattle.meaning_laws.specs.Alike.{StepEquivalent, SameAt}
-use Rattle.meaning_laws.specs.AlikeLaws.{SourceAlike, AlikeBack, KeptAlike, RunsAlike, DefinedAlike, FixedAlike}
+use Rattle.meaning_states.proofs.StepTheorems.{and_left}
+use Rattle.meaning_executions.specs.Execution.{Act, System, Steps, IsExecution, act_step, chosen_step}
+use Rattle.meaning_executions.specs.Rounds.{IsShortest}
+use Rattle.meaning_executions.specs.Properties.{Test, but_not}
+use Rattle.meaning_executions.proofs.ExecutionTheorems.{get_at, kept}
+use Rattle.meaning_executions.specs.Systems.{passing}
+use Rattle.meaning_executions.specs.Alike.{StepEquivalent, SameAt}
+use Rattle.meaning_laws.specs.AlikeLaws.{AlikeBack, KeptAlike, RunsAlike, DefinedAlike, FixedAlike}
 use Rattle.meaning_laws.specs.AlikeLaws.{InvariantAlike, UnlessAlike, ConstantAlike, EnsuresAlike, LeadsAlike}
 use Rattle.meaning_laws.proofs.KeptTheorems.{kept_length, act_of_kept, step_of_kept}
 
@@ -24,18 +21,6 @@ alike_back ranges x y alike = record {
   inside = λ s h. alike.inside s (alike.starts s ∙ h);
   steps = λ s choice h. sym (alike.steps s choice h);
   keeps = λ s t choice h e. alike.keeps s t choice h (alike.steps s choice h ∙ e);
-}
-
-pub source_alike : SourceAlike
-source_alike g c y count starts steps = record {
-  count = length-map c.instances (instance_step g) ∙ count;
-  starts = starts;
-  inside = λ s t. and_left (is_state (slot_ranges g.variables) s)
-      (list_all (λ formula. is_true_at g [] formula s) c.initially) t;
-  steps = steps;
-  keeps = λ s t choice h e.
-      let found = chosen_instance g c.instances choice s t e in
-      step_keeps_ranges (slot_ranges g.variables) _ s t h found.2;
 }
 
 and_under : (a b c : Bool) → (IsTrue a → b ≡ c) → (a && b) ≡ (a && c)

@@ -4,10 +4,10 @@ use Rattle.std.proofs.Common.{inr}
 use Rattle.std.proofs.lemmas.Bool.Decides.{leb_tells}
 use Rattle.meaning_states.specs.State.{State}
 use Rattle.meaning_states.proofs.StepTheorems.{and_left, and_right, both_true}
-use Rattle.meaning_documents.specs.Execution.{System, IsExecution}
-use Rattle.meaning_documents.specs.Properties.{Test, Unless, LeadsTo}
-use Rattle.meaning_documents.specs.RoundLaws.{HoldsLater}
-use Rattle.meaning_documents.proofs.PropertyTheorems.{leads_is_follows}
+use Rattle.meaning_executions.specs.Execution.{System, IsExecution}
+use Rattle.meaning_executions.specs.Properties.{Test, Unless, LeadsTo}
+use Rattle.meaning_executions.specs.RoundLaws.{HoldsLater}
+use Rattle.meaning_executions.proofs.PropertyTheorems.{leads_is_follows}
 use Rattle.meaning_laws.specs.Tests.{both_hold, one_holds}
 use Rattle.meaning_laws.specs.ProgressLaws.{Completion, LeadsCancellation}
 use Rattle.meaning_laws.proofs.TruthLaws.{cases, or_left, or_right}

@@ -7,8 +7,8 @@ use borrow.Author.Differences.{le-true}
 use Rattle.std.specs.Int.RustNames.{int_le}
 use Rattle.meaning_states.specs.State.{State, in_range}
 use Rattle.meaning_states.proofs.StepTheorems.{and_left, and_right}
-use Rattle.meaning_documents.specs.Execution.{Act, chosen_step}
-use Rattle.meaning_documents.specs.Properties.{Test, but_not, Everywhere, IsInvariant, LeadsTo}
+use Rattle.meaning_executions.specs.Execution.{Act, chosen_step}
+use Rattle.meaning_executions.specs.Properties.{Test, but_not, Everywhere, IsInvariant, LeadsTo}
 use Rattle.meaning_laws.specs.Examples.{numbers, up, stay, is_number, is_at, anywhere, counter, distance, alone}
 use Rattle.meaning_laws.specs.Examples.{careful_counter, away, nearer, CounterIsSafe, CounterEnsures, CounterArrives}
 use Rattle.meaning_laws.specs.Examples.{UnionOfTwo, CountersAlike}

@@ -3,11 +3,11 @@ use Rattle.std.proofs.Common.{◌≡◌, ℕ, zero, suc, List, [], ◌∷◌, ma
 use Rattle.std.proofs.Common.{IsTrue, refl, sym, subst, ap, ◌∙◌, slice_get, length}
 use Rattle.std.proofs.lemmas.List.{length-map}
 use Rattle.meaning_states.specs.State.{State}
-use Rattle.meaning_documents.specs.Execution.{Act, System, Steps, act_step, chosen_step}
-use Rattle.meaning_documents.specs.Properties.{Test}
+use Rattle.meaning_executions.specs.Execution.{Act, System, Steps, act_step, chosen_step}
+use Rattle.meaning_executions.specs.Properties.{Test}
 use Rattle.meaning_states.proofs.StepTheorems.{and_left, and_right, both_true}
-use Rattle.meaning_documents.proofs.ExecutionTheorems as executions
-use Rattle.meaning_laws.specs.Systems.{passing, kept_act, kept}
+use Rattle.meaning_executions.proofs.ExecutionTheorems as executions
+use Rattle.meaning_executions.specs.Systems.{passing, kept_act, kept}
 use Rattle.meaning_laws.specs.KeptLaws.{KeptRuns}
 
 pub kept_length : (u : Test) (x : System) → length (kept u x).steps ≡ length x.steps

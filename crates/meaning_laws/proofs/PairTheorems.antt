@@ -1,8 +1,8 @@
 -- The rules by which `unless` and `ensures` combine: each is a fact about truths before and after a step.
 use Rattle.std.proofs.Common.{◌≡◌, Bool, true, false, not, ◌&&◌, ◌||◌, IsTrue, refl, arith}
 use Rattle.meaning_states.specs.State.{State}
-use Rattle.meaning_documents.specs.Properties.{Test, never}
-use Rattle.meaning_documents.specs.Execution.{System}
+use Rattle.meaning_executions.specs.Properties.{Test, never}
+use Rattle.meaning_executions.specs.Execution.{System}
 use Rattle.meaning_laws.specs.Tests.{both_hold, one_holds, fails, Implies}
 use Rattle.meaning_laws.specs.Stands.{EachDefinedStep, StepUnless, StepSame}
 use Rattle.meaning_laws.specs.PairRules.{conjunction_end, disjunction_end, ConjunctionRule, ConjunctionEnsured}

@@ -7,21 +7,20 @@ use borrow.Author.Differences.{le-true, lt-true, lt-false}
 use Rattle.std.specs.Int.RustNames.{int_le, int_lt}
 use Rattle.std.specs.List.{list_any}
 use Rattle.meaning_states.specs.State.{State, int_eq, in_range}
-use Rattle.meaning_documents.specs.Names.{natural}
-use Rattle.meaning_documents.specs.Value.{range_size}
-use Rattle.meaning_documents.specs.Execution.{System, IsExecution}
-use Rattle.meaning_documents.specs.Rounds.{rounds}
-use Rattle.meaning_documents.specs.Properties.{Test, but_not, Everywhere, Unless, LeadsTo}
-use Rattle.meaning_documents.specs.RoundLaws.{HoldsLater}
+use Rattle.meaning_executions.specs.Counting.{natural, range_size}
+use Rattle.meaning_executions.specs.Execution.{System, IsExecution}
+use Rattle.meaning_executions.specs.Rounds.{rounds}
+use Rattle.meaning_executions.specs.Properties.{Test, but_not, Everywhere, Unless, LeadsTo}
+use Rattle.meaning_executions.specs.RoundLaws.{HoldsLater}
 use Rattle.meaning_laws.specs.Tests.{both_hold, one_holds}
 use Rattle.meaning_laws.specs.ProgressLaws.{at_measure, below_measure, Transitivity, EitherLeads, AnyLeads}
 use Rattle.meaning_laws.specs.ProgressLaws.{ProgressWithSafety, LeadsWeaker, LeadsByInduction}
 use Rattle.meaning_laws.proofs.TruthLaws.{or_left, or_right, not_true, cases}
 use Rattle.meaning_laws.proofs.NumberTests.{le_passes, lt_passes}
 use Rattle.meaning_states.proofs.StepTheorems.{and_left, and_right, both_true}
-use Rattle.meaning_documents.proofs.RoundTheorems.{shortest_exists}
+use Rattle.meaning_executions.proofs.RoundTheorems.{shortest_exists}
 use Rattle.meaning_laws.proofs.RoundSumTheorems.{rounds_are_left, later_have_fewer}
-use Rattle.meaning_documents.proofs.PropertyTheorems.{leads_is_follows, bound_grows, within_none, earlier}
+use Rattle.meaning_executions.proofs.PropertyTheorems.{leads_is_follows, bound_grows, within_none, earlier}
 
 -- what is dropped together is dropped in turn
 drop-drop : (n j m : ℕ) (xs : List ℕ) → m ≡ n + j → drop j (drop n xs) ≡ drop m xs

@@ -2,7 +2,7 @@
 use Rattle.std.proofs.Common.{◌≡◌, ℕ, zero, suc, ◌+◌, ◌<◌, ◌≤◌, List, [], ◌∷◌, Bool, true, false, ◌||◌, IsTrue, refl}
 use Rattle.std.proofs.Common.{nat_eq, take, drop, arith, sym, ap, ◌∙◌}
 use Rattle.std.specs.List.{list_any}
-use Rattle.meaning_documents.specs.Rounds.{has_all, unfinished, one_more, rounds_since, rounds}
+use Rattle.meaning_executions.specs.Rounds.{has_all, unfinished, one_more, rounds_since, rounds}
 use Rattle.meaning_laws.specs.RoundSums.{unfinished_after, RoundsAreLeft, LaterHaveFewer, RoundsOfJoined}
 use Rattle.meaning_laws.specs.RoundSums.{MarksSuffice}
 use Rattle.meaning_states.proofs.StepTheorems.{and_left, and_right, both_true}

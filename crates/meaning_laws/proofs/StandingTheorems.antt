@@ -6,15 +6,15 @@ use Rattle.std.specs.Prelude.{◌≢◌}
 use Rattle.std.specs.List.{list_any}
 use Rattle.meaning_states.specs.State.{State}
 use Rattle.meaning_states.proofs.StepTheorems.{both_true}
-use Rattle.meaning_documents.specs.Execution.{System, Steps, IsExecution, act_step, chosen_step}
-use Rattle.meaning_documents.specs.Properties.{Test, IsInvariant}
-use Rattle.meaning_documents.specs.Rounds.{rounds, IsShortest}
-use Rattle.meaning_documents.specs.RoundLaws.{HoldsLater}
-use Rattle.meaning_documents.proofs.ExecutionTheorems.{each_is_a_step, prefix_is_execution, extended, get_at}
-use Rattle.meaning_documents.proofs.PropertyTheorems.{earlier, within_none, leads_is_follows, next, place_of, get-drop}
-use Rattle.meaning_documents.proofs.PropertyTheorems.{left_of}
-use Rattle.meaning_documents.proofs.RoundTheorems.{no_rounds}
-use Rattle.meaning_laws.specs.Systems.{kept}
+use Rattle.meaning_executions.specs.Execution.{System, Steps, IsExecution, act_step, chosen_step}
+use Rattle.meaning_executions.specs.Properties.{Test, IsInvariant}
+use Rattle.meaning_executions.specs.Rounds.{rounds, IsShortest}
+use Rattle.meaning_executions.specs.RoundLaws.{HoldsLater}
+use Rattle.meaning_executions.proofs.ExecutionTheorems.{each_is_a_step, prefix_is_execution, extended, get_at}
+use Rattle.meaning_executions.proofs.PropertyTheorems.{earlier, within_none, leads_is_follows, next, place_of, get-drop}
+use Rattle.meaning_executions.proofs.PropertyTheorems.{left_of}
+use Rattle.meaning_executions.proofs.RoundTheorems.{no_rounds}
+use Rattle.meaning_executions.specs.Systems.{kept}
 use Rattle.meaning_laws.specs.Stands.{EnsuresStands}
 use Rattle.meaning_laws.specs.KeptLaws.{ImplicationKept, UnlessKept, EnsuresLeadsKept, DefinedNarrows}
 use Rattle.meaning_laws.specs.KeptLaws.{InvariantNarrows, UnlessNarrows, EnsuresNarrows, LeadsNarrows}

@@ -2,36 +2,15 @@
 use Rattle.std.proofs.Common.{◌≡◌, ℕ, zero, suc, ◌+◌, ◌<◌, List, [], ◌∷◌, ◌++◌, Bool, true, false, ◌&&◌, ◌||◌, Option}
 use Rattle.std.proofs.Common.{Some, None, IsTrue, refl, sym, ap, ◌∙◌, slice_get, length, length-append, arith, ◌⊎◌, inl}
 use Rattle.std.proofs.Common.{inr}
-use Rattle.std.specs.List.{list_all}
-use Rattle.std.proofs.lemmas.List.Folds.{list_all-append}
-use Rattle.meaning_states.specs.State.{State, is_state}
-use Rattle.meaning_documents.specs.Setting.{Setting, slot_ranges, is_true_at}
-use Rattle.meaning_documents.specs.Programs.{Composed, union}
-use Rattle.meaning_documents.specs.Execution.{Act, System, system_of, act_step, chosen_step}
-use Rattle.meaning_documents.specs.Properties.{Test, never}
+use Rattle.meaning_states.specs.State.{State}
+use Rattle.meaning_executions.specs.Execution.{Act, System, act_step, chosen_step}
+use Rattle.meaning_executions.specs.Properties.{Test, never}
 use Rattle.meaning_states.proofs.StepTheorems.{and_left, and_right}
-use Rattle.meaning_documents.proofs.ExecutionTheorems.{union_steps}
 use Rattle.meaning_laws.specs.Tests.{both_hold}
-use Rattle.meaning_laws.specs.Systems.{together}
+use Rattle.meaning_executions.specs.Systems.{together}
 use Rattle.meaning_laws.specs.Stands.{EachDefinedStep, StepKeeps, StepUnless, UnlessStands}
-use Rattle.meaning_laws.specs.UnionRules.{UnionIsTogether, UnionDefined, UnionUnless, UnionInvariant}
+use Rattle.meaning_laws.specs.UnionRules.{UnionDefined, UnionUnless, UnionInvariant}
 use Rattle.meaning_laws.specs.UnionRules.{UnionInvariantSecond, UnionEnsures, UnionEnsuresSecond}
-
-and_once : (a b c : Bool) → (a && (b && c)) ≡ ((a && b) && (a && c))
-and_once true b c = refl
-and_once false b c = refl
-
-union_starts : (g : Setting) (f h : Composed) (state : State) →
-    (system_of g (union f h)).initial state ≡ (together (system_of g f) (system_of g h)).initial state
-union_starts g f h state =
-    let inside : Bool = is_state (slot_ranges g.variables) state in
-    ap (λ b. inside && b) (list_all-append (λ formula. is_true_at g [] formula state) f.initially h.initially) ∙
-    and_once inside (list_all (λ formula. is_true_at g [] formula state) f.initially)
-    (list_all (λ formula. is_true_at g [] formula state) h.initially)
-
-pub union_is_together : UnionIsTogether
-union_is_together g f h =
-    λ i. record { initial = λ state. union_starts g f h state i; steps = union_steps g f h i }
 
 -- what stands in two lists joined stands in one of them
 in_one : {X : Type 0} (xs ys : List X) (n : ℕ) (x : X) → slice_get (xs ++ ys) n ≡ Some x →

@@ -1,21 +1,11 @@
 -- Systems that are alike have the same properties.
-use Rattle.std.specs.Prelude.{◌≡◌, ℕ, List, IsTrue, length}
-use Rattle.meaning_states.specs.State.{State, Ranges, is_state}
-use Rattle.meaning_documents.specs.Setting.{Setting, slot_ranges}
-use Rattle.meaning_documents.specs.Programs.{Composed}
-use Rattle.meaning_documents.specs.Execution.{System, IsExecution, system_of, is_initial, chosen_step}
-use Rattle.meaning_documents.specs.Properties.{Test, IsAlwaysDefined, IsInvariant, Fixed, Unless, Constant, Ensures}
-use Rattle.meaning_documents.specs.Properties.{LeadsTo}
-use Rattle.meaning_laws.specs.Systems.{kept}
-use Rattle.meaning_laws.specs.Alike.{StepEquivalent, SameAt}
-
--- to be alike a program of a document is to start as it does, and at each state of the document to step as it does
-abbrev pub SourceAlike : Type 0
-SourceAlike = (g : Setting) (c : Composed) (y : System) → length c.instances ≡ length y.steps →
-    ((state : State) → is_initial g c state ≡ y.initial state) →
-    ((state : State) (choice : ℕ) → IsTrue (is_state (slot_ranges g.variables) state) →
-    chosen_step (system_of g c) choice state ≡ chosen_step y choice state) →
-    StepEquivalent (slot_ranges g.variables) (system_of g c) y
+use Rattle.std.specs.Prelude.{ℕ, List}
+use Rattle.meaning_states.specs.State.{State, Ranges}
+use Rattle.meaning_executions.specs.Execution.{System, IsExecution}
+use Rattle.meaning_executions.specs.Properties.{Test, IsAlwaysDefined, IsInvariant, Fixed, Unless, Constant, Ensures}
+use Rattle.meaning_executions.specs.Properties.{LeadsTo}
+use Rattle.meaning_executions.specs.Systems.{kept}
+use Rattle.meaning_executions.specs.Alike.{StepEquivalent, SameAt}
 
 -- the second is alike the first; so each law below leads back too
 abbrev pub AlikeBack : Type 0

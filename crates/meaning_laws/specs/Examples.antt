@@ -4,13 +4,13 @@ use Rattle.std.specs.Prelude.{◌≢◌, ℤ, pos, ◌+ℤ◌, ◌-ℤ◌, [], �
 use Rattle.std.specs.Int.RustNames.{int_lt}
 use Rattle.meaning_states.specs.State.{State, Ranges, int_eq, in_range, is_state}
 use Rattle.meaning_states.specs.Step.{step}
-use Rattle.meaning_documents.specs.Execution.{Act, System}
-use Rattle.meaning_documents.specs.Properties.{Test, but_not, Everywhere, LeadsTo}
+use Rattle.meaning_executions.specs.Execution.{Act, System}
+use Rattle.meaning_executions.specs.Properties.{Test, but_not, Everywhere, LeadsTo}
 use Rattle.meaning_laws.specs.Tests.{both_hold, one_holds}
-use Rattle.meaning_laws.specs.Systems.{together}
+use Rattle.meaning_executions.specs.Systems.{together}
 use Rattle.meaning_laws.specs.Stands.{DefinedStands, InvariantStands, UnlessStands, EnsuresStands}
 use Rattle.meaning_laws.specs.ProgressLaws.{at_measure, below_measure}
-use Rattle.meaning_laws.specs.Alike.{StepEquivalent}
+use Rattle.meaning_executions.specs.Alike.{StepEquivalent}
 
 -- 0..2
 abbrev pub numbers : ℤ × ℤ

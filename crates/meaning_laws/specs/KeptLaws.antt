@@ -1,10 +1,10 @@
 -- Laws of systems that are kept to a test.
 use Rattle.std.specs.Prelude.{◌≡◌, ℕ, List, ◌∷◌, ◌↔◌, Some, IsTrue, slice_get}
 use Rattle.meaning_states.specs.State.{State}
-use Rattle.meaning_documents.specs.Execution.{System, IsExecution}
-use Rattle.meaning_documents.specs.Properties.{Test, Unless}
+use Rattle.meaning_executions.specs.Execution.{System, IsExecution}
+use Rattle.meaning_executions.specs.Properties.{Test, Unless}
 use Rattle.meaning_laws.specs.Tests.{both_hold, Implies}
-use Rattle.meaning_laws.specs.Systems.{kept}
+use Rattle.meaning_executions.specs.Systems.{kept}
 use Rattle.meaning_laws.specs.Stands.{DefinedStands, InvariantStands, UnlessStands, EnsuresStands, LeadsStands}
 
 -- the executions of a system that is kept to a test are its executions whose states all pass the test

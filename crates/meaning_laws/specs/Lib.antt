@@ -1,4 +1,3 @@
-pub mod Alike
 pub mod AlikeLaws
 pub mod Examples
 pub mod KeptLaws
@@ -7,6 +6,5 @@ pub mod ProgressLaws
 pub mod RoundSums
 pub mod StandingLaws
 pub mod Stands
-pub mod Systems
 pub mod Tests
 pub mod UnionRules

@@ -1,8 +1,8 @@
 -- The rules of chapter 3 by which `unless` and `ensures` of one system combine. Each premise stands where a test of its
 -- own holds, and the conclusion where both tests do.
 use Rattle.std.specs.Prelude.{ℕ}
-use Rattle.meaning_documents.specs.Execution.{System}
-use Rattle.meaning_documents.specs.Properties.{Test, never}
+use Rattle.meaning_executions.specs.Execution.{System}
+use Rattle.meaning_executions.specs.Properties.{Test, never}
 use Rattle.meaning_laws.specs.Tests.{both_hold, one_holds, fails_with, fails, Implies}
 use Rattle.meaning_laws.specs.Stands.{UnlessStands, ConstantStands, EnsuresStands}
 

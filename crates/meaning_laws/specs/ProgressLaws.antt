@@ -4,9 +4,9 @@ use Rattle.std.specs.Prelude.{◌≡◌, ℕ, ◌+◌, ◌*◌, max, ℤ, List, 
 use Rattle.std.specs.Int.RustNames.{int_lt}
 use Rattle.std.specs.List.{list_any}
 use Rattle.meaning_states.specs.State.{State, int_eq, in_range}
-use Rattle.meaning_documents.specs.Value.{range_size}
-use Rattle.meaning_documents.specs.Execution.{System}
-use Rattle.meaning_documents.specs.Properties.{Test, but_not, Everywhere, Unless, LeadsTo}
+use Rattle.meaning_executions.specs.Counting.{range_size}
+use Rattle.meaning_executions.specs.Execution.{System}
+use Rattle.meaning_executions.specs.Properties.{Test, but_not, Everywhere, Unless, LeadsTo}
 use Rattle.meaning_laws.specs.Tests.{both_hold, one_holds}
 
 -- transitivity: p leads to q and q to r; the bounds add

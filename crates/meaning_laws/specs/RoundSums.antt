@@ -1,7 +1,7 @@
 -- How the rounds of parts of a list of choices add up.
 use Rattle.std.specs.Prelude.{◌≡◌, ℕ, ◌+◌, ◌++◌, nat_eq, ◌≤◌, List, [], ◌∷◌, drop}
 use Rattle.std.specs.List.{list_any}
-use Rattle.meaning_documents.specs.Rounds.{unfinished, rounds_since, rounds, IsShortest}
+use Rattle.meaning_executions.specs.Rounds.{unfinished, rounds_since, rounds, IsShortest}
 
 -- the choices since the last round ended, when these have been made too
 abbrev pub unfinished_after : ℕ → List ℕ → List ℕ → List ℕ

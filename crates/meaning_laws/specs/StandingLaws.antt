@@ -1,8 +1,8 @@
 -- Where u holds at every state of every execution, what stands holds.
 use Rattle.std.specs.Prelude.{ℕ}
-use Rattle.meaning_documents.specs.Execution.{System}
-use Rattle.meaning_documents.specs.Properties.{Test, IsAlwaysDefined, IsInvariant, Fixed, Unless, Constant, Ensures}
-use Rattle.meaning_documents.specs.Properties.{LeadsTo}
+use Rattle.meaning_executions.specs.Execution.{System}
+use Rattle.meaning_executions.specs.Properties.{Test, IsAlwaysDefined, IsInvariant, Fixed, Unless, Constant, Ensures}
+use Rattle.meaning_executions.specs.Properties.{LeadsTo}
 use Rattle.meaning_laws.specs.Tests.{both_hold}
 use Rattle.meaning_laws.specs.Stands.{DefinedStands, FixedStands, InvariantStands, UnlessStands, ConstantStands}
 use Rattle.meaning_laws.specs.Stands.{EnsuresStands, LeadsStands}

@@ -3,9 +3,9 @@
 -- unions (chapter 7); where u always holds, what stands holds in executions.
 use Rattle.std.specs.Prelude.{◌≡◌, ◌≢◌, ℕ, ◌<◌, ◌||◌, Some, None, IsTrue, length, slice_get}
 use Rattle.meaning_states.specs.State.{State}
-use Rattle.meaning_documents.specs.Execution.{Act, System, chosen_step}
-use Rattle.meaning_documents.specs.Properties.{Test, but_not, IsFixedPoint, LeadsTo}
-use Rattle.meaning_laws.specs.Systems.{kept}
+use Rattle.meaning_executions.specs.Execution.{Act, System, chosen_step}
+use Rattle.meaning_executions.specs.Properties.{Test, but_not, IsFixedPoint, LeadsTo}
+use Rattle.meaning_executions.specs.Systems.{kept}
 
 -- what holds of each defined step by one choice between states with u
 abbrev pub StepsBy : System → ℕ → Test → (State → State → Type 0) → Type 0

@@ -1,7 +1,7 @@
 -- Tests of states, combined.
 use Rattle.std.specs.Prelude.{not, ◌&&◌, ◌||◌, IsTrue}
 use Rattle.meaning_states.specs.State.{State}
-use Rattle.meaning_documents.specs.Properties.{Test}
+use Rattle.meaning_executions.specs.Properties.{Test}
 
 -- both tests hold
 abbrev pub both_hold : Test → Test → Test

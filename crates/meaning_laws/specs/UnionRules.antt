@@ -1,17 +1,11 @@
 -- The union theorem (chapter 7): what stands of both parts of a union, each where a test of its own holds, stands of
 -- the union where both tests hold.
-use Rattle.std.specs.Prelude.{◌≡◌, ℕ, ◌+◌, length}
-use Rattle.meaning_documents.specs.Setting.{Setting}
-use Rattle.meaning_documents.specs.Programs.{Composed, union}
-use Rattle.meaning_documents.specs.Execution.{System, system_of}
-use Rattle.meaning_documents.specs.Properties.{Test, never}
+use Rattle.std.specs.Prelude.{ℕ, ◌+◌, length}
+use Rattle.meaning_executions.specs.Execution.{System}
+use Rattle.meaning_executions.specs.Properties.{Test, never}
 use Rattle.meaning_laws.specs.Tests.{both_hold}
-use Rattle.meaning_laws.specs.Systems.{together}
+use Rattle.meaning_executions.specs.Systems.{together}
 use Rattle.meaning_laws.specs.Stands.{DefinedStands, InvariantStands, UnlessStands, EnsuresStands}
-
--- the system of a union is the union of its parts' systems
-abbrev pub UnionIsTogether : Type 0
-UnionIsTogether = (g : Setting) (f h : Composed) → system_of g (union f h) ≡ together (system_of g f) (system_of g h)
 
 -- `defined` in both parts is `defined` in the union
 abbrev pub UnionDefined : Type 0

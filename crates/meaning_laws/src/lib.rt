@@ -1,7 +1,7 @@
 //! Laws of executions, on which rules of proofs stand.
 //!
 //! A system is an initial test and a list of acts. What systems do, and the properties of what they
-//! do, is defined in `meaning_documents`. Here stand the laws of these properties over any system: how
+//! do, is defined in `meaning_executions`. Here stand the laws of these properties over any system: how
 //! those of single steps pass to executions and to unions, how they combine, and when two systems
 //! share them.
 //!
@@ -15,12 +15,12 @@ ghost use Rattle.meaning_laws.specs.StandingLaws.{InvariantBoth, DefinedHolds, F
 ghost use Rattle.meaning_laws.specs.StandingLaws.{UnlessHolds, ConstantHolds, EnsuresHolds, LeadsHolds};
 ghost use Rattle.meaning_laws.specs.PairRules.{ConjunctionRule, ConjunctionEnsured, SimpleConjunction, Disjunction};
 ghost use Rattle.meaning_laws.specs.PairRules.{SimpleDisjunction, Cancellation, Constancy, WeakerUnless, WeakerEnsures};
-ghost use Rattle.meaning_laws.specs.UnionRules.{UnionIsTogether, UnionDefined, UnionUnless, UnionInvariant};
+ghost use Rattle.meaning_laws.specs.UnionRules.{UnionDefined, UnionUnless, UnionInvariant};
 ghost use Rattle.meaning_laws.specs.UnionRules.{UnionInvariantSecond, UnionEnsures, UnionEnsuresSecond};
 ghost use Rattle.meaning_laws.specs.RoundSums.{RoundsAreLeft, LaterHaveFewer, RoundsOfJoined, MarksSuffice};
 ghost use Rattle.meaning_laws.specs.ProgressLaws.{Transitivity, EitherLeads, AnyLeads, ProgressWithSafety, LeadsWeaker};
 ghost use Rattle.meaning_laws.specs.ProgressLaws.{LeadsByInduction, Completion, LeadsCancellation};
-ghost use Rattle.meaning_laws.specs.AlikeLaws.{SourceAlike, AlikeBack, KeptAlike, RunsAlike, DefinedAlike};
+ghost use Rattle.meaning_laws.specs.AlikeLaws.{AlikeBack, KeptAlike, RunsAlike, DefinedAlike};
 ghost use Rattle.meaning_laws.specs.AlikeLaws.{FixedAlike, InvariantAlike, UnlessAlike, ConstantAlike};
 ghost use Rattle.meaning_laws.specs.AlikeLaws.{EnsuresAlike, LeadsAlike};
 ghost use Rattle.meaning_laws.specs.Examples.{CounterIsSafe, CounterEnsures, CounterArrives, UnionOfTwo};
@@ -71,10 +71,8 @@ pub fn pair_rules()
     ensures weaker_ensures { WeakerEnsures }
 {}
 
-/// What stands of the single steps of both parts stands of those of their union; and the system of a
-/// document's union is the union of the systems of its parts.
+/// What stands of the single steps of both parts stands of those of their union.
 pub fn union_rules()
-    ensures together { UnionIsTogether }
     ensures defined { UnionDefined }
     ensures unless { UnionUnless }
     ensures invariant { UnionInvariant }
@@ -107,7 +105,6 @@ pub fn progress_laws()
 /// Two systems that start and step alike at the states of a document have the same executions, and so
 /// the same properties.
 pub fn alike_laws()
-    ensures source { SourceAlike }
     ensures back { AlikeBack }
     ensures kept { KeptAlike }
     ensures runs { RunsAlike }

@@ -13,8 +13,9 @@ use Rattle.unity_syntax.specs.declared.declaration.Plain.{Plain}
 use Rattle.unity_syntax.specs.declared.declaration.Var.{Var}
 use Rattle.unity_syntax.specs.declared.program.Program.{Program}
 use Rattle.meaning_states.specs.State.{State, Ranges, is_state, in_range}
-use Rattle.meaning_documents.specs.Names.{Variable, natural, slot_at, slot_named}
-use Rattle.meaning_documents.specs.Value.{range_size}
+use Rattle.meaning_documents.specs.Names.{Variable, slot_at, slot_named}
+use Rattle.meaning_executions.specs.Counting.{natural}
+use Rattle.meaning_executions.specs.Counting.{range_size}
 use Rattle.meaning_documents.specs.Setting.{declarations, plain_range, is_boolean, element_type, slots_for, slot_count}
 use Rattle.meaning_documents.specs.Setting.{slot_ranges, variable_from, with_declaration, with_declarations}
 use Rattle.names_laws.proofs.AttributeTheorems.{and_first, and_second}

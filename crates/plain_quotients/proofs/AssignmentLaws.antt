@@ -11,7 +11,7 @@ use Rattle.unity_syntax.specs.TwoFolds.{Related, ComponentLayers, AssignLayers}
 use Rattle.unity_syntax.proofs.AssignmentFolds.{two_assignments}
 use Rattle.meaning_states.proofs.StepTheorems.{and_left, and_right}
 use Rattle.meaning_documents.specs.Names.{Variable, slot_at, variable_named}
-use Rattle.meaning_documents.specs.Value.{range_size}
+use Rattle.meaning_executions.specs.Counting.{range_size}
 use Rattle.meaning_documents.specs.Writes.{Alternative, alternatives}
 use Rattle.core_terms.specs.declared.trees.CTerm.{CTerm}
 use Rattle.core_terms.specs.declared.trees.CTerm.TheVariants.{Const}

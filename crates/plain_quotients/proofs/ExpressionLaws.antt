@@ -14,7 +14,7 @@ use Rattle.unity_syntax.specs.TwoFolds.{Related, ExpressionLayers}
 use Rattle.unity_syntax.proofs.ExpressionFolds.{two_expressions}
 use Rattle.meaning_states.proofs.StepTheorems.{and_left, and_right}
 use Rattle.meaning_documents.specs.Names.{Variable, slot_at, variable_named}
-use Rattle.meaning_documents.specs.Value.{range_size}
+use Rattle.meaning_executions.specs.Counting.{range_size}
 use Rattle.core_terms.specs.declared.trees.CTerm.{CTerm}
 use Rattle.core_terms.specs.declared.trees.CTerm.TheVariants.{Const, Slot}
 use Rattle.core_terms.specs.Folding.{difference_term, zero_form}

@@ -31,7 +31,9 @@ use Rattle.meaning_laws.proofs.StandingTheorems.{unless_narrows, ensures_narrows
 use Rattle.meaning_laws.specs.PairRules.{conjunction_end, disjunction_end}
 use Rattle.meaning_laws.specs.Stands.{FixedStands, InvariantStands, UnlessStands, ConstantStands, LeadsStands}
 use Rattle.meaning_laws.specs.Tests.{both_hold, Implies, one_holds, fails_with}
-use Rattle.fair_rounds.specs.Records.{holding, core_system, are_in_ranges, meets, ints_eq, NamedAt, EnsuresNamed}
+use Rattle.fair_rounds.specs.Records.{holding, are_in_ranges, meets, NamedAt, EnsuresNamed}
+use Rattle.executor.specs.CoreSystem.{core_system}
+use Rattle.meaning_executions.specs.Counting.{ints_eq}
 use Rattle.fair_rounds.specs.Records.{KindStands}
 use Rattle.fair_rounds.specs.declared.records.Record.{Record}
 use Rattle.rules_table.proofs.FormLaws.{imply_gives, all_append, all_join}
@@ -47,8 +49,8 @@ use Rattle.rules_table.specs.Table.{are_arguments, moved_at, put_in, helper_with
 use Rattle.rules_table.specs.Validity.{IsValid}
 use Rattle.meaning_states.proofs.StepTheorems.{and_left, and_right, both_true}
 use Rattle.meaning_states.specs.State.{State, is_state}
-use Rattle.meaning_documents.specs.Execution.{System}
-use Rattle.meaning_documents.specs.Properties.{Test, implied}
+use Rattle.meaning_executions.specs.Execution.{System}
+use Rattle.meaning_executions.specs.Properties.{Test, implied}
 
 pub or_cases : (a b : Bool) (C : Type 0) → IsTrue (a || b) → (IsTrue a → C) → (IsTrue b → C) → C
 or_cases true b C t f g = f refl

@@ -3,7 +3,7 @@ use Rattle.std.proofs.Common.{◌≡◌, ℕ, zero, suc, nat_eq, ℤ, pos, ◌+�
 use Rattle.std.proofs.Common.{false, cond, ◌&&◌, ◌||◌, Some, IsTrue, refl, sym, ap, ◌∙◌, subst, slice_get, length}
 use Rattle.std.proofs.Common.{arith, ◌<◌}
 use Rattle.std.specs.List.{list_all, list_any, filter}
-use Rattle.meaning_documents.specs.Execution.{act_step}
+use Rattle.meaning_executions.specs.Execution.{act_step}
 use Rattle.std.proofs.lemmas.Int.{ints}
 use borrow.Author.Differences.{le-true}
 use Rattle.std.specs.Int.RustNames.{int_le}
@@ -22,7 +22,9 @@ use Rattle.core_terms.specs.declared.programs.CStmt.{CStmt}
 use Rattle.core_terms.specs.declared.trees.CForm.{CForm}
 use Rattle.core_terms.specs.declared.trees.CTerm.TheVariants.{Const}
 use Rattle.meaning_laws.specs.Stands.{UnlessStands}
-use Rattle.fair_rounds.specs.Records.{holding, core_system, are_in_ranges, meets, ints_eq, EnsuresNamed}
+use Rattle.fair_rounds.specs.Records.{holding, are_in_ranges, meets, EnsuresNamed}
+use Rattle.executor.specs.CoreSystem.{core_system}
+use Rattle.meaning_executions.specs.Counting.{ints_eq}
 use Rattle.rules_table.proofs.FormLaws.{value_any, value_all, all_join}
 use Rattle.rules_table.proofs.SiteLaws.{met, AreValid, valid_at, valid_parts, meets_means, kept_after}
 use Rattle.rules_table.proofs.TextSound.{given, but_not_forms, unless_stands}

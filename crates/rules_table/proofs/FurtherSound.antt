@@ -16,12 +16,13 @@ use Rattle.core_terms.specs.declared.trees.CTerm.{CTerm}
 use Rattle.core_terms.specs.declared.trees.CForm.{CForm, out-CForm, roll-CForm, roll-out-CForm}
 use Rattle.core_terms.specs.declared.trees.CForm.TheOpen.{CForm-F}
 use Rattle.core_terms.specs.declared.trees.CForm.TheVariants.{Bottom, rolls-Or}
-use Rattle.fair_rounds.specs.Records.{holding, core_system, meets, KindStands, Stands}
+use Rattle.fair_rounds.specs.Records.{holding, meets, KindStands, Stands}
+use Rattle.executor.specs.CoreSystem.{core_system}
 use Rattle.fair_rounds.specs.declared.records.Record.{Record}
-use Rattle.meaning_documents.specs.Execution.{System}
-use Rattle.meaning_documents.specs.Properties.{Test, never, implied, Unless}
+use Rattle.meaning_executions.specs.Execution.{System}
+use Rattle.meaning_executions.specs.Properties.{Test, never, implied, Unless}
 use Rattle.meaning_laws.specs.Stands.{InvariantStands, UnlessStands, ConstantStands, LeadsStands}
-use Rattle.meaning_laws.specs.Systems.{kept}
+use Rattle.meaning_executions.specs.Systems.{kept}
 use Rattle.meaning_laws.specs.Tests.{both_hold, one_holds, fails, Implies}
 use Rattle.meaning_laws.proofs.StandingTheorems.{unless_narrows, invariant_narrows, leads_narrows, unless_kept}
 use Rattle.meaning_laws.proofs.PairTheorems.{constancy_rule}

@@ -9,7 +9,7 @@ use Rattle.std.proofs.lemmas.List.{length-map}
 use Rattle.meaning_states.specs.State.{State, Ranges}
 use Rattle.meaning_states.specs.Step.{Write, is_inside, all_agree, is_defined}
 use Rattle.meaning_states.proofs.StepTheorems.{and_left, and_right, both_true}
-use Rattle.meaning_documents.specs.Execution.{Act}
+use Rattle.meaning_executions.specs.Execution.{Act}
 use Rattle.core_terms.specs.declared.trees.CForm.{CForm}
 use Rattle.core_terms.specs.declared.trees.CTerm.{CTerm}
 use Rattle.core_terms.specs.declared.programs.CSlot.{CSlot}
@@ -27,7 +27,8 @@ use Rattle.layer_laws.specs.Layers.{IsOver}
 use Rattle.layer_laws.specs.Resets.{reset, old_writes}
 use Rattle.layer_laws.specs.Writing.{Writing, act_of, writing, Extends}
 use Rattle.layer_laws.proofs.WritingTheorems.{writing_layer}
-use Rattle.fair_rounds.specs.Records.{core_system, ints_eq}
+use Rattle.executor.specs.CoreSystem.{core_system}
+use Rattle.meaning_executions.specs.Counting.{ints_eq}
 use Rattle.rules_table.specs.Layers.{all_two, same_write, is_prefix, writes_below, extends, standing, added, labels}
 use Rattle.rules_table.specs.Layers.{same_pattern, is_beside, is_layer, is_new}
 use Rattle.rules_table.specs.LayerLaws.{LayerIsOver}

@@ -9,9 +9,9 @@ use Rattle.std.proofs.lemmas.Option.{slice_get_within}
 use Rattle.case_tables.specs.declared.kind_table.Kind.{Kind}
 use Rattle.meaning_states.specs.State.{State, is_state, int_eq}
 use Rattle.meaning_states.proofs.StepTheorems.{and_left, and_right, both_true}
-use Rattle.meaning_documents.specs.Execution.{System}
-use Rattle.meaning_documents.specs.Properties.{Test, IsInvariant}
-use Rattle.meaning_documents.proofs.ExecutionTheorems.{get_at}
+use Rattle.meaning_executions.specs.Execution.{System}
+use Rattle.meaning_executions.specs.Properties.{Test, IsInvariant}
+use Rattle.meaning_executions.proofs.ExecutionTheorems.{get_at}
 use Rattle.core_terms.specs.declared.trees.CForm.{CForm}
 use Rattle.core_terms.specs.declared.programs.CStmt.{CStmt}
 use Rattle.core_terms.specs.declared.programs.CProgram.{CProgram}
@@ -25,7 +25,9 @@ use Rattle.layer_laws.specs.Resets.{reset}
 use Rattle.layer_laws.proofs.LayerTheorems.{unless_carried, ensures_carried, invariant_carried, leads_carried}
 use Rattle.layer_laws.proofs.LayerTheorems.{throughout_carried}
 use Rattle.layer_laws.proofs.ResetTheorems.{reset_is_state}
-use Rattle.fair_rounds.specs.Records.{core_system, holding, meets, are_in_ranges, ints_eq, NamedAt}
+use Rattle.executor.specs.CoreSystem.{core_system}
+use Rattle.fair_rounds.specs.Records.{holding, meets, are_in_ranges, NamedAt}
+use Rattle.meaning_executions.specs.Counting.{ints_eq}
 use Rattle.fair_rounds.specs.Records.{KindStands}
 use Rattle.fair_rounds.specs.declared.records.Record.{Record}
 use Rattle.rules_table.specs.Conclusion.{Conclusion}

@@ -22,8 +22,7 @@ use Rattle.rules_table.specs.Numbers.{count_up, numbers_of, args_from}
 use Rattle.rules_table.specs.Terms.{is_range}
 use Rattle.meaning_states.proofs.StepTheorems.{and_left, and_right, both_true}
 use Rattle.meaning_states.specs.State.{int_eq}
-use Rattle.meaning_documents.specs.Names.{natural}
-use Rattle.meaning_documents.specs.Value.{range_size}
+use Rattle.meaning_executions.specs.Counting.{natural, range_size}
 
 -- the number of parameter k, where m is put to z
 abbrev pub picked : List ℤ → ℕ → ℤ → ℕ → ℤ

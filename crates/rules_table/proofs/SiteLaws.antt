@@ -29,7 +29,7 @@ use Rattle.rules_table.specs.Table.{Site, needs, go_on, with_each, under_with, g
 use Rattle.rules_table.specs.Validity.{IsValid, AllValid}
 use Rattle.meaning_states.proofs.StepTheorems.{and_left, and_right, both_true}
 use Rattle.meaning_states.specs.State.{State, is_state}
-use Rattle.meaning_documents.specs.Execution.{act_step}
+use Rattle.meaning_executions.specs.Execution.{act_step}
 
 -- a condition that was met
 pub met : {A : Type 0} (b : Bool) (code : Code) (rest : Result A Code) (x : A) → needs b code rest ≡ Ok x →

@@ -10,7 +10,7 @@ use Rattle.case_tables.specs.declared.rule_table.RuleName.{RuleName}
 use Rattle.case_tables.specs.declared.code_table.Code.{Code}
 use Rattle.meaning_states.specs.State.{is_state}
 use Rattle.meaning_states.proofs.StepTheorems.{and_left, and_right, both_true}
-use Rattle.meaning_documents.specs.Properties.{IsInvariant}
+use Rattle.meaning_executions.specs.Properties.{IsInvariant}
 use Rattle.core_terms.specs.declared.trees.Range.{Range}
 use Rattle.core_terms.specs.declared.trees.CForm.{CForm}
 use Rattle.core_terms.specs.declared.trees.CForm.TheVariants.{Top, Bottom}
@@ -32,7 +32,8 @@ use Rattle.core_terms.specs.Conditions.{bound_ranges, rule_ranges}
 use Rattle.core_terms.proofs.SameLaws.{same_form_is}
 use Rattle.core_terms.proofs.BoolLaws.{le_passes}
 use Rattle.fair_rounds.specs.declared.records.Record.{Record}
-use Rattle.fair_rounds.specs.Records.{core_system, holding, meets, are_in_ranges, KindStands, Stands, IsKept}
+use Rattle.executor.specs.CoreSystem.{core_system}
+use Rattle.fair_rounds.specs.Records.{holding, meets, are_in_ranges, KindStands, Stands, IsKept}
 use Rattle.meaning_laws.proofs.StandingTheorems.{unless_narrows, ensures_narrows}
 use Rattle.fair_rounds.proofs.RecordTheorems.{invariant_kept}
 use Rattle.rules_table.specs.declared.led.Led.{Led}

@@ -23,12 +23,13 @@ use Rattle.core_terms.specs.declared.trees.CTerm.{CTerm}
 use Rattle.core_terms.specs.declared.trees.CTerm.TheVariants.{Const, Param}
 use Rattle.core_terms.specs.declared.trees.Range.{Range}
 use Rattle.meaning_laws.proofs.StandingTheorems.{unless_kept, unless_narrows, leads_narrows, ensures_leads_kept}
-use Rattle.meaning_laws.specs.Systems.{kept}
+use Rattle.meaning_executions.specs.Systems.{kept}
 use Rattle.meaning_laws.specs.Tests.{both_hold, Implies, one_holds}
-use Rattle.fair_rounds.specs.Records.{holding, core_system, are_in_ranges, meets, KindStands}
+use Rattle.fair_rounds.specs.Records.{holding, are_in_ranges, meets, KindStands}
+use Rattle.executor.specs.CoreSystem.{core_system}
 use Rattle.fair_rounds.specs.declared.records.Record.{Record}
 use Rattle.meaning_laws.proofs.KeptTheorems.{kept_runs}
-use Rattle.meaning_documents.proofs.PropertyTheorems.{within_none}
+use Rattle.meaning_executions.proofs.PropertyTheorems.{within_none}
 use Rattle.rules_table.proofs.CalcSound.{test_and, test_or, test_with, like, instance_is, instance_sound}
 use Rattle.rules_table.proofs.FormLaws.{value_any, imply_gives, all_append, all_join}
 use Rattle.rules_table.proofs.NumberLaws.{lies, changed, changed_in, changed_at, same_form_value, same_term_value}
@@ -48,8 +49,8 @@ use Rattle.rules_table.specs.Validity.{IsValid}
 use Rattle.rules_table.specs.declared.led.Led.{Led}
 use Rattle.meaning_states.proofs.StepTheorems.{and_left, and_right, both_true}
 use Rattle.meaning_states.specs.State.{State, int_eq, in_range, is_state}
-use Rattle.meaning_documents.specs.Execution.{System}
-use Rattle.meaning_documents.specs.Properties.{Test, but_not, Everywhere, Unless, LeadsTo}
+use Rattle.meaning_executions.specs.Execution.{System}
+use Rattle.meaning_executions.specs.Properties.{Test, but_not, Everywhere, Unless, LeadsTo}
 use Rattle.meaning_laws.proofs.ProgressTheorems as progress
 
 -- a node that met its own conditions gives what it should

@@ -13,7 +13,8 @@ use Rattle.core_terms.specs.declared.programs.CStmt.{CStmt}
 use Rattle.core_terms.specs.declared.trees.CForm.{CForm}
 use Rattle.core_terms.specs.declared.trees.CForm.TheVariants.{Top, Bottom}
 use Rattle.meaning_laws.specs.Stands.{UnlessStands, EachDefinedStep}
-use Rattle.fair_rounds.specs.Records.{holding, core_system, are_in_ranges, meets, Stands}
+use Rattle.fair_rounds.specs.Records.{holding, are_in_ranges, meets, Stands}
+use Rattle.executor.specs.CoreSystem.{core_system}
 use Rattle.fair_rounds.specs.declared.records.Record.{Record}
 use Rattle.rules_table.proofs.EachLaws.{from_all, each_at}
 use Rattle.rules_table.proofs.FormLaws.{imply_gives, all_join}
@@ -33,8 +34,8 @@ use Rattle.rules_table.specs.Table.{kept_form, unless_forms, invariant_forms, de
 use Rattle.rules_table.specs.Validity.{AllValid}
 use Rattle.meaning_states.proofs.StepTheorems.{and_left, and_right, both_true}
 use Rattle.meaning_states.specs.State.{is_state}
-use Rattle.meaning_documents.specs.Execution.{Act}
-use Rattle.meaning_documents.specs.Properties.{but_not}
+use Rattle.meaning_executions.specs.Execution.{Act}
+use Rattle.meaning_executions.specs.Properties.{but_not}
 use Rattle.case_tables.specs.declared.code_table.Code.{Code}
 
 -- what stands of a conclusion stands of what was concluded

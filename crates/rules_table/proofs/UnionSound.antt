@@ -21,11 +21,13 @@ use Rattle.meaning_laws.proofs.StandingTheorems.{invariant_narrows}
 use Rattle.meaning_laws.proofs.UnionTheorems.{union_unless, union_ensures, union_ensures_second, union_defined}
 use Rattle.meaning_laws.proofs.UnionTheorems.{union_invariant, union_invariant_second}
 use Rattle.meaning_laws.specs.Stands.{UnlessStands, EnsuresStands, DefinedStands, InvariantStands}
-use Rattle.meaning_laws.specs.Systems.{together}
+use Rattle.meaning_executions.specs.Systems.{together}
 use Rattle.meaning_laws.specs.Tests.{both_hold}
-use Rattle.fair_rounds.specs.Records.{holding, core_system, are_in_ranges, meets, NamedAt, EnsuresNamed, KindStands}
+use Rattle.fair_rounds.specs.Records.{holding, are_in_ranges, meets, NamedAt, EnsuresNamed, KindStands}
+use Rattle.executor.specs.CoreSystem.{core_system}
 use Rattle.fair_rounds.specs.declared.records.Record.{Record}
-use Rattle.meaning_documents.proofs.ExecutionTheorems.{map-append, kept}
+use Rattle.meaning_documents.proofs.SystemTheorems.{map-append}
+use Rattle.meaning_executions.proofs.ExecutionTheorems.{kept}
 use Rattle.std.proofs.lemmas.List.{length-map}
 use Rattle.rules_table.proofs.CalcSound.{of_both, like}
 use Rattle.rules_table.proofs.FormLaws.{imply_gives, all_join}
@@ -41,8 +43,8 @@ use Rattle.rules_table.specs.Table.{needs, with_each, under_with, record_of, con
 use Rattle.rules_table.specs.Table.{is_part_pair, shown_forms, first_helper, is_defined, is_invariant, ending}
 use Rattle.meaning_states.proofs.StepTheorems.{and_left, and_right, both_true, step_keeps_ranges}
 use Rattle.meaning_states.specs.State.{State, is_state}
-use Rattle.meaning_documents.specs.Execution.{Act, System}
-use Rattle.meaning_documents.specs.Properties.{Test, Everywhere, never}
+use Rattle.meaning_executions.specs.Execution.{Act, System}
+use Rattle.meaning_executions.specs.Properties.{Test, Everywhere, never}
 
 in_first : {X : Type 0} (xs ys : List X) (n : ℕ) (x : X) → slice_get xs n ≡ Some x → slice_get (xs ++ ys) n ≡ Some x
 in_first [] ys n x e = cc

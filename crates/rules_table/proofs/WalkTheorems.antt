@@ -23,8 +23,9 @@ use Rattle.core_terms.specs.Steps.{slot_ranges}
 use Rattle.core_terms.specs.Conditions.{EachPair, IsSlot, IsStep, IsProof, IsProgram, UnionFits, IsCoreDocument}
 use Rattle.core_terms.proofs.BoolLaws.{le_passes, or_first}
 use Rattle.fair_rounds.specs.declared.records.Record.{Record}
-use Rattle.meaning_documents.specs.Properties.{IsAlwaysDefined}
-use Rattle.fair_rounds.specs.Records.{core_system, Holds, IsKept}
+use Rattle.meaning_executions.specs.Properties.{IsAlwaysDefined}
+use Rattle.executor.specs.CoreSystem.{core_system}
+use Rattle.fair_rounds.specs.Records.{Holds, IsKept}
 use Rattle.fair_rounds.proofs.RecordTheorems.{defined_kept, kept_holds}
 use Rattle.rules_table.specs.Conclusion.{Conclusion}
 use Rattle.rules_table.specs.Validity.{Goal, AllValid}

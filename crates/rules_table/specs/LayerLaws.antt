@@ -6,8 +6,9 @@ use Rattle.core_terms.specs.Values.{form_value}
 use Rattle.meaning_states.specs.State.{State}
 use Rattle.core_terms.specs.declared.programs.CSlot.{CSlot}
 use Rattle.core_terms.specs.declared.programs.CProgram.{CProgram}
-use Rattle.meaning_documents.specs.Properties.{IsInvariant}
-use Rattle.fair_rounds.specs.Records.{core_system, meets, are_in_ranges}
+use Rattle.meaning_executions.specs.Properties.{IsInvariant}
+use Rattle.executor.specs.CoreSystem.{core_system}
+use Rattle.fair_rounds.specs.Records.{meets, are_in_ranges}
 use Rattle.fair_rounds.specs.declared.records.Record.{Record}
 use Rattle.layer_laws.specs.Layers.{IsOver}
 use Rattle.layer_laws.specs.Resets.{reset}

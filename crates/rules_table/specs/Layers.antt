@@ -13,7 +13,7 @@ use Rattle.core_terms.specs.declared.programs.CProgram.{CProgram}
 use Rattle.core_terms.specs.declared.programs.CStmt.{CStmt}
 use Rattle.core_terms.specs.declared.programs.CWrite.{CWrite}
 use Rattle.core_terms.specs.declared.trees.CForm.{CForm}
-use Rattle.fair_rounds.specs.Records.{ints_eq}
+use Rattle.meaning_executions.specs.Counting.{ints_eq}
 use Rattle.fair_rounds.specs.declared.records.Record.{Record}
 use Rattle.rules_table.specs.Conclusion.{Conclusion}
 use Rattle.rules_table.specs.Forms.{imply}

@@ -4,7 +4,7 @@ use Rattle.core_terms.specs.Replacing.{form_at}
 use Rattle.core_terms.specs.declared.documents.Arg.{Arg}
 use Rattle.core_terms.specs.declared.trees.CForm.{CForm}
 use Rattle.core_terms.specs.declared.trees.Range.{Range}
-use Rattle.meaning_documents.specs.Value.{range_size}
+use Rattle.meaning_executions.specs.Counting.{range_size}
 
 abbrev pub count_up : ℤ → ℕ → List ℤ
 count_up z zero = []

@@ -16,7 +16,8 @@ use Rattle.core_terms.specs.declared.programs.CProgram.{CProgram}
 use Rattle.core_terms.specs.declared.trees.CForm.{CForm}
 use Rattle.core_terms.specs.declared.trees.Range.{Range}
 use Rattle.meaning_laws.specs.Stands.{LeadsStands}
-use Rattle.fair_rounds.specs.Records.{holding, core_system, are_in_ranges, meets, KindStands, Stands}
+use Rattle.fair_rounds.specs.Records.{holding, are_in_ranges, meets, KindStands, Stands}
+use Rattle.executor.specs.CoreSystem.{core_system}
 use Rattle.fair_rounds.specs.declared.records.Record.{Record}
 use Rattle.rules_table.specs.Conclusion.{Conclusion}
 use Rattle.rules_table.specs.Table.{Site, under_with, goals_of, defined_of, invariant_of, unless_of, fixed_of}
@@ -27,7 +28,7 @@ use Rattle.rules_table.specs.Terms.{found, term_of, derive_of, all_ranges, is_we
 use Rattle.rules_table.specs.Validity.{AllValid}
 use Rattle.rules_table.specs.declared.led.Led.{Led}
 use Rattle.meaning_states.specs.State.{State, is_state}
-use Rattle.meaning_documents.specs.Properties.{Everywhere, IsInvariant}
+use Rattle.meaning_executions.specs.Properties.{Everywhere, IsInvariant}
 use Rattle.std.specs.Int.RustNames.{int_le}
 use Rattle.std.specs.List.{list_all}
 

@@ -23,7 +23,7 @@ use Rattle.rules_table.specs.Numbers.{numbers_of, form_for}
 use Rattle.rules_table.specs.Table.{Site, needs, go_on, record_of, concluded, instance_of, is_unless}
 use Rattle.rules_table.specs.declared.led.Led.{Led}
 use Rattle.meaning_states.specs.State.{int_eq}
-use Rattle.meaning_documents.specs.Value.{range_size}
+use Rattle.meaning_executions.specs.Counting.{range_size}
 
 abbrev pub Ask : Type 0
 Ask = Result Led Code

@@ -10,15 +10,15 @@ use Rattle.unity_syntax.specs.declared.document.Document.{Document}
 use Rattle.meaning_states.specs.State.{State, Ranges, is_state}
 use Rattle.meaning_documents.specs.Setting.{slot_ranges}
 use Rattle.meaning_documents.specs.Programs.{Composed, document_setting}
-use Rattle.meaning_documents.specs.Execution.{chosen_step}
-use Rattle.meaning_documents.specs.Rounds.{rounds}
-use Rattle.meaning_laws.specs.Alike.{StepEquivalent}
+use Rattle.meaning_executions.specs.Execution.{chosen_step}
+use Rattle.meaning_executions.specs.Rounds.{rounds}
+use Rattle.meaning_executions.specs.Alike.{StepEquivalent}
 use Rattle.names_rules.specs.WellNamed.{IsWellNamed}
 use Rattle.core_terms.specs.declared.programs.CProgram.{CProgram}
 use Rattle.core_terms.specs.Conditions.{IsCoreDocument}
 use Rattle.core_terms.specs.Steps.{slot_ranges as core_ranges}
 use Rattle.core_terms.specs.Values.{form_value}
-use Rattle.fair_rounds.specs.Records.{core_system}
+use Rattle.executor.specs.CoreSystem.{core_system}
 use Rattle.expand_declarations.specs.WordNumbers.{document_words, word_number}
 use Rattle.expand_correct.proofs.Values.Operations.{two}
 use Rattle.executor.proofs.StartStateLaws.{start_is_state}

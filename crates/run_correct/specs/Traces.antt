@@ -3,8 +3,9 @@ use Rattle.std.specs.Prelude.{ℕ, ◌+◌, List, [], ◌∷◌, ◌++◌, lengt
 use Rattle.unity_syntax.specs.declared.document.Document.{Document}
 use Rattle.meaning_states.specs.State.{State}
 use Rattle.meaning_documents.specs.Programs.{Composed, document_setting}
-use Rattle.meaning_documents.specs.Execution.{System, system_of, chosen_step}
-use Rattle.meaning_documents.specs.Rounds.{rounds}
+use Rattle.meaning_executions.specs.Execution.{System, chosen_step}
+use Rattle.meaning_documents.specs.AsSystem.{system_of}
+use Rattle.meaning_executions.specs.Rounds.{rounds}
 use Rattle.core_terms.specs.declared.programs.CProgram.{CProgram}
 use Rattle.executor.specs.StartState.{start_state}
 use Rattle.schedule_replay.specs.declared.heading.Heading.{Heading}

@@ -9,16 +9,16 @@ use Rattle.std.proofs.lemmas.Option.{slice_get-map, slice_get_past, slice_get_wi
 use Rattle.std.proofs.lemmas.List.FromFn.{length-map-range_with_len}
 use Rattle.std.proofs.lemmas.List.{take_all, at_drop_all}
 use Rattle.meaning_states.specs.State.{State}
-use Rattle.meaning_documents.specs.Rounds.{rounds}
+use Rattle.meaning_executions.specs.Rounds.{rounds}
 use Rattle.fair_rounds.proofs.CountLaws.{few_rounds}
 use Rattle.core_terms.specs.declared.programs.CProgram.{CProgram}
 use Rattle.core_terms.specs.declared.documents.CDocument.{CDocument}
 use Rattle.executor.specs.declared.runner.Stepped.{Stepped}
-use Rattle.meaning_documents.specs.Execution.{System, act_step, chosen_step}
+use Rattle.meaning_executions.specs.Execution.{System, act_step, chosen_step}
 use Rattle.core_terms.specs.declared.programs.CSlot.{CSlot}
 use Rattle.core_terms.specs.declared.programs.CStmt.{CStmt}
 use Rattle.core_terms.specs.Steps.{core_step}
-use Rattle.fair_rounds.specs.Records.{core_system}
+use Rattle.executor.specs.CoreSystem.{core_system}
 use Rattle.executor.specs.Running as runner
 use Rattle.schedule_replay.specs.Schedules.{turns}
 use Rattle.run_traces.specs.declared.choices.Choices.{Choices}

@@ -1,10 +1,10 @@
 -- The trace of a core program.
 use Rattle.std.specs.Prelude.{ℕ, List, length}
 use Rattle.meaning_states.specs.State.{State}
-use Rattle.meaning_documents.specs.Rounds.{rounds}
+use Rattle.meaning_executions.specs.Rounds.{rounds}
 use Rattle.core_terms.specs.declared.programs.CProgram.{CProgram}
 use Rattle.core_terms.specs.declared.documents.CDocument.{CDocument}
-use Rattle.fair_rounds.specs.Records.{core_system}
+use Rattle.executor.specs.CoreSystem.{core_system}
 use Rattle.executor.specs.declared.runner.Stepped.{Stepped}
 use Rattle.schedule_replay.specs.declared.heading.Heading.{Heading}
 use Rattle.schedule_replay.specs.Lines.{rounds_line}

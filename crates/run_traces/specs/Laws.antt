@@ -1,8 +1,8 @@
 -- Laws of traces, as statements that a function names.
 use Rattle.std.specs.Prelude.{◌≡◌, ℕ, List, Some, IsTrue}
 use Rattle.meaning_states.specs.State.{State}
-use Rattle.meaning_documents.specs.Execution.{System, chosen_step, IsExecution}
-use Rattle.meaning_documents.specs.Properties.{Test}
+use Rattle.meaning_executions.specs.Execution.{System, chosen_step, IsExecution}
+use Rattle.meaning_executions.specs.Properties.{Test}
 use Rattle.core_terms.specs.declared.programs.CProgram.{CProgram}
 use Rattle.core_terms.specs.declared.documents.CDocument.{CDocument}
 use Rattle.schedule_replay.specs.declared.heading.Heading.{Heading}

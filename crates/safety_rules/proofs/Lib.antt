@@ -1,6 +1,7 @@
 pub mod AgreeLaws
 pub mod AnswerLaws
 pub mod ArgumentLaws
+pub mod BoundLaws
 pub mod EachLaws
 pub mod ErrorLaws
 pub mod FilterLaws

@@ -1,4 +1,5 @@
 pub mod Answers
+pub mod Bounds
 pub mod Errors
 pub mod Foldable
 pub mod Pairs

@@ -1,6 +1,7 @@
 //! The calls by which steps follow from a program's text and from earlier steps.
 #![tactic(auto)]
 
+mod bounds;
 mod concluding;
 mod definedness;
 mod ensuring;
@@ -19,6 +20,7 @@ mod recording;
 mod texts;
 mod weakening;
 
+pub use bounds::lengthened;
 pub use concluding::{add_goal, conclude};
 pub use definedness::defined_rule;
 pub use ensuring::ensures_rule;

@@ -13,10 +13,11 @@ use Rattle.meaning_documents.specs.Names.{Bindings}
 use Rattle.meaning_documents.specs.Value.{range_ends}
 use Rattle.meaning_documents.specs.Setting.{slot_ranges, is_true_at}
 use Rattle.meaning_documents.specs.Programs.{Composed, document_setting}
-use Rattle.meaning_documents.specs.Execution.{System, system_of}
-use Rattle.meaning_documents.specs.Properties.{never, implied}
+use Rattle.meaning_executions.specs.Execution.{System}
+use Rattle.meaning_documents.specs.AsSystem.{system_of}
+use Rattle.meaning_executions.specs.Properties.{never, implied}
 use Rattle.meaning_documents.specs.Claims.{parameters, are_arguments, argument_bindings, ClaimsOf}
-use Rattle.meaning_laws.specs.Alike.{StepEquivalent, SameAt}
+use Rattle.meaning_executions.specs.Alike.{StepEquivalent, SameAt}
 use Rattle.meaning_laws.proofs.AlikeTheorems.{alike_back, defined_alike, invariant_alike, unless_alike}
 use Rattle.meaning_laws.proofs.AlikeTheorems.{ensures_alike, leads_alike, fixed_alike, constant_alike}
 use Rattle.names_rules.specs.Declarations.{some_of}
@@ -26,7 +27,8 @@ use Rattle.core_terms.specs.declared.programs.CProgram.{CProgram}
 use Rattle.core_terms.specs.Values.{form_value}
 use Rattle.core_terms.proofs.PartLaws.{value-Bottom}
 use Rattle.fair_rounds.specs.declared.records.Record.{Record}
-use Rattle.fair_rounds.specs.Records.{core_system, holding, are_in_ranges, KindHolds, Holds}
+use Rattle.executor.specs.CoreSystem.{core_system}
+use Rattle.fair_rounds.specs.Records.{holding, are_in_ranges, KindHolds, Holds}
 use Rattle.rules_table.specs.Walk.{Plan, program_of}
 use Rattle.rules_table.proofs.WalkTheorems.{walk_sound}
 use Rattle.meaning_documents.specs.Steps.{claim_kind, Pairwise, ProofStep, of_proof, document_steps}

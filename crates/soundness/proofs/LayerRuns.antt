@@ -6,7 +6,8 @@ use Rattle.unity_syntax.specs.declared.document.Document.{Document}
 use Rattle.meaning_states.specs.State.{Ranges}
 use Rattle.meaning_documents.specs.Setting.{slot_ranges}
 use Rattle.meaning_documents.specs.Programs.{Composed, document_setting}
-use Rattle.meaning_documents.specs.Execution.{System, IsExecution, system_of}
+use Rattle.meaning_executions.specs.Execution.{System, IsExecution}
+use Rattle.meaning_documents.specs.AsSystem.{system_of}
 use Rattle.meaning_laws.proofs.AlikeTheorems.{alike_back, runs_alike}
 use Rattle.layer_laws.specs.Layers.{Back, choices_below, states_below}
 use Rattle.layer_laws.specs.Resets.{reset}
@@ -15,7 +16,7 @@ use Rattle.layer_laws.proofs.RoundsBelow.{rounds_of_below}
 use Rattle.core_terms.specs.Conditions.{IsProgram, IsCoreDocument}
 use Rattle.core_terms.specs.declared.programs.CSlot.{CSlot}
 use Rattle.core_terms.specs.declared.programs.CProgram.{CProgram}
-use Rattle.fair_rounds.specs.Records.{core_system}
+use Rattle.executor.specs.CoreSystem.{core_system}
 use Rattle.core_terms.specs.declared.documents.CRule.{CRule}
 use Rattle.core_terms.specs.declared.documents.CStep.{CStep}
 use Rattle.core_terms.specs.declared.documents.CProof.{CProof}

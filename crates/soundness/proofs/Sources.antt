@@ -4,7 +4,7 @@ use Rattle.unity_syntax.specs.declared.proof.Step.{Step}
 use Rattle.unity_syntax.specs.declared.proof.Proof.{Proof}
 use Rattle.unity_syntax.specs.declared.document.Part.{Part}
 use Rattle.unity_syntax.specs.declared.document.Document.{Document}
-use Rattle.meaning_documents.proofs.ExecutionTheorems.{map-append}
+use Rattle.meaning_documents.proofs.SystemTheorems.{map-append}
 use Rattle.rules_table.proofs.EachLaws.{Each, each_join, each_map}
 use Rattle.expand_declarations.specs.WordNumbers.{document_words, word_number}
 use Rattle.meaning_documents.specs.Steps.{proofs_among, Pairwise, ProofStep, of_proof, proof_steps, document_steps}

@@ -5,16 +5,18 @@ use Rattle.meaning_states.specs.State.{State, is_state}
 use Rattle.meaning_states.proofs.StepTheorems.{both_true}
 use Rattle.meaning_documents.specs.Setting.{slot_ranges}
 use Rattle.meaning_documents.specs.Programs.{Composed, document_setting}
-use Rattle.meaning_documents.specs.Execution.{System, system_of}
-use Rattle.meaning_documents.specs.Properties.{IsAlwaysDefined}
-use Rattle.meaning_documents.proofs.ExecutionTheorems.{defined_runs}
+use Rattle.meaning_executions.specs.Execution.{System}
+use Rattle.meaning_documents.specs.AsSystem.{system_of}
+use Rattle.meaning_executions.specs.Properties.{IsAlwaysDefined}
+use Rattle.meaning_executions.proofs.ExecutionTheorems.{defined_runs}
 use Rattle.meaning_laws.proofs.AlikeTheorems.{alike_back, defined_alike}
 use Rattle.core_terms.specs.declared.programs.CSlot.{CSlot}
 use Rattle.core_terms.specs.declared.programs.CProgram.{CProgram}
 use Rattle.core_terms.specs.Conditions.{IsProgram}
 use Rattle.core_terms.specs.Steps.{slot_ranges as core_ranges}
 use Rattle.core_terms.specs.Values.{form_value}
-use Rattle.fair_rounds.specs.Records.{core_system, KindHolds, are_in_ranges}
+use Rattle.executor.specs.CoreSystem.{core_system}
+use Rattle.fair_rounds.specs.Records.{KindHolds, are_in_ranges}
 use Rattle.executor.specs.StartState.{start_state}
 use Rattle.executor.proofs.StartStateLaws.{start_is_state}
 use Rattle.rules_table.specs.Walk.{program_of}

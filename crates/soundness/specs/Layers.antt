@@ -5,8 +5,9 @@ use Rattle.unity_syntax.specs.declared.proof.Rule.{Rule}
 use Rattle.unity_syntax.specs.declared.document.Document.{Document}
 use Rattle.meaning_states.specs.State.{State}
 use Rattle.meaning_documents.specs.Programs.{Composed, document_setting}
-use Rattle.meaning_documents.specs.Execution.{System, IsExecution, system_of}
-use Rattle.meaning_documents.specs.Rounds.{rounds}
+use Rattle.meaning_executions.specs.Execution.{System, IsExecution}
+use Rattle.meaning_documents.specs.AsSystem.{system_of}
+use Rattle.meaning_executions.specs.Rounds.{rounds}
 use Rattle.meaning_documents.specs.Steps.{EachStep}
 use Rattle.layer_laws.specs.Layers.{Back, choices_below, states_below}
 use Rattle.layer_laws.specs.Resets.{reset}

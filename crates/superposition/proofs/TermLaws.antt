@@ -10,7 +10,7 @@ use borrow.Author.Differences.{le-true}
 use Rattle.core_terms.proofs.BoolLaws.{and_left, and_right, both_true, le_passes}
 use Rattle.core_terms.specs.Trees.{same_term}
 use Rattle.core_terms.specs.declared.trees.CTerm.{CTerm}
-use Rattle.fair_rounds.specs.Records.{ints_eq}
+use Rattle.meaning_executions.specs.Counting.{ints_eq}
 use Rattle.meaning_states.specs.State.{int_eq}
 use Rattle.rules_table.proofs.SameTerms.{same_term_is, same_term_self}
 

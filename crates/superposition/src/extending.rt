@@ -3,7 +3,7 @@ ghost use Rattle.std.specs.Prelude.{◌≡◌, length, not};
 ghost use Rattle.std.specs.List.{list_all};
 ghost use Rattle.core_terms.specs.Conditions.{is_shown};
 ghost use Rattle.core_terms.specs.Trees as trees;
-ghost use Rattle.fair_rounds.specs.Records.{ints_eq};
+ghost use Rattle.meaning_executions.specs.Counting.{ints_eq};
 ghost use Rattle.rules_table.specs.Layers as layer;
 
 use crate::shown::Shown;

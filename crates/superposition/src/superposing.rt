@@ -14,9 +14,8 @@ use crate::naming::names_old;
 use crate::shown::Shown;
 use case_tables::{Code, Kind};
 use core_terms::{CProgram, held_form};
-use derived_rules::lengthened;
 use fair_rounds::Record;
-use safety_rules::{Claim, Derived, Place, RuleError, add_follows, conclude};
+use safety_rules::{Claim, Derived, Place, RuleError, add_follows, conclude, lengthened};
 use std::alloc::{AllocError, Global};
 use unity_base::Seq;
 

@@ -8,9 +8,9 @@ use Rattle.std.proofs.lemmas.Bool.{leb-true, le-leb}
 use Rattle.case_tables.specs.declared.kind_table.Kind.{Kind}
 use Rattle.meaning_states.specs.State.{State}
 use Rattle.meaning_states.proofs.StepTheorems.{and_right}
-use Rattle.meaning_documents.specs.Execution.{System}
-use Rattle.meaning_documents.specs.Properties.{Test, but_not, implied}
-use Rattle.meaning_documents.specs.Rounds.{rounds}
+use Rattle.meaning_executions.specs.Execution.{System}
+use Rattle.meaning_executions.specs.Properties.{Test, but_not, implied}
+use Rattle.meaning_executions.specs.Rounds.{rounds}
 use Rattle.meaning_laws.proofs.RoundSumTheorems.{later_have_fewer}
 use Rattle.trace_watch.specs.Readings.{Reading, passes, at_last, last_two, last_step, related, unless_fails}
 use Rattle.fixed_points.specs.FixedPoints.{is_fixed}

@@ -8,14 +8,14 @@ use Rattle.std.proofs.lemmas.List.{length-map}
 use Rattle.core_terms.specs.declared.programs.CSlot.{CSlot}
 use Rattle.core_terms.specs.declared.programs.CProgram.{CProgram}
 use Rattle.core_terms.specs.Steps.{core_step}
-use Rattle.fair_rounds.specs.Records.{core_system}
+use Rattle.executor.specs.CoreSystem.{core_system}
 use Rattle.executor.specs.Running as runner
 use Rattle.trace_watch.proofs.TryLaws.{core_chosen}
 use Rattle.std.specs.Option.{is_none, option_map, option_or}
 use Rattle.std.specs.List.{list_any, last_or, position_from}
 use Rattle.meaning_states.specs.State.{State}
-use Rattle.meaning_documents.specs.Execution.{Act, System, Steps, act_step, chosen_step}
-use Rattle.meaning_documents.proofs.ExecutionTheorems.{extended}
+use Rattle.meaning_executions.specs.Execution.{Act, System, Steps, act_step, chosen_step}
+use Rattle.meaning_executions.proofs.ExecutionTheorems.{extended}
 use Rattle.trace_watch.specs.declared.violations.Violation.{Violation}
 use Rattle.trace_watch.specs.declared.tracing.Ending.{Ending}
 use Rattle.trace_watch.specs.declared.watch.Watch.{Watch}

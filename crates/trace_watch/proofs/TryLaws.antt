@@ -7,8 +7,8 @@ use Rattle.std.specs.List.{list_any, position_from}
 use Rattle.std.specs.Option.{is_some, is_none}
 use Rattle.meaning_states.specs.State.{State, int_eq, in_range, is_state}
 use Rattle.meaning_states.proofs.StepTheorems.{and_left, and_right, step_keeps_ranges}
-use Rattle.meaning_documents.specs.Properties.{Test}
-use Rattle.meaning_documents.specs.Execution.{act_step, chosen_step}
+use Rattle.meaning_executions.specs.Properties.{Test}
+use Rattle.meaning_executions.specs.Execution.{act_step, chosen_step}
 use Rattle.core_terms.specs.declared.programs.CSlot.{CSlot}
 use Rattle.core_terms.specs.declared.programs.CStmt.{CStmt}
 use Rattle.core_terms.specs.declared.programs.CProgram.{CProgram}
@@ -18,7 +18,9 @@ use Rattle.core_terms.specs.Steps.{core_step, core_writes, slot_ranges}
 use Rattle.core_terms.specs.Weights.{form_weight, number_weight, place_weight, slot_weight}
 use Rattle.core_terms.specs.Places.{form_slots, form_params}
 use Rattle.core_terms.specs.Conditions.{FormFits}
-use Rattle.fair_rounds.specs.Records.{are_in_ranges, core_system, ints_eq}
+use Rattle.fair_rounds.specs.Records.{are_in_ranges}
+use Rattle.executor.specs.CoreSystem.{core_system}
+use Rattle.meaning_executions.specs.Counting.{ints_eq}
 use Rattle.executor.specs.Running as runner
 use Rattle.executor.proofs.StateLaws.{number_light, state_length, within}
 use Rattle.executor.proofs.WeightLaws.{form_less}

@@ -1,11 +1,11 @@
 -- A place of a trace, and a step that is watched there.
 use Rattle.std.specs.Prelude.{ℕ, List, length}
 use Rattle.meaning_states.specs.State.{State}
-use Rattle.meaning_documents.specs.Execution.{System}
+use Rattle.meaning_executions.specs.Execution.{System}
 use Rattle.core_terms.specs.declared.programs.CSlot.{CSlot}
 use Rattle.core_terms.specs.Conditions.{FormFits}
 use Rattle.fair_rounds.specs.declared.records.Record.{Record}
-use Rattle.fair_rounds.specs.Records.{core_system}
+use Rattle.executor.specs.CoreSystem.{core_system}
 use Rattle.trace_watch.specs.declared.place.Place.{Place}
 
 -- the program as its executions see it, how many instances it has, and the state

@@ -7,9 +7,9 @@ use Rattle.std.specs.List.{list_any, last_or}
 use Rattle.std.specs.Bool.{beq}
 use Rattle.case_tables.specs.declared.kind_table.Kind.{Kind}
 use Rattle.meaning_states.specs.State.{State}
-use Rattle.meaning_documents.specs.Execution.{System, chosen_step}
-use Rattle.meaning_documents.specs.Properties.{Test, but_not, implied}
-use Rattle.meaning_documents.specs.Rounds.{rounds}
+use Rattle.meaning_executions.specs.Execution.{System, chosen_step}
+use Rattle.meaning_executions.specs.Properties.{Test, but_not, implied}
+use Rattle.meaning_executions.specs.Rounds.{rounds}
 use Rattle.fixed_points.specs.FixedPoints.{is_fixed}
 
 -- a property as it is read: its tests, the rounds within which it leads to something, and the place of the instance

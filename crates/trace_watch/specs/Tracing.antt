@@ -2,7 +2,7 @@
 use Rattle.std.specs.Prelude.{◌≡◌, ℕ, List, ◌∷◌, Some, slice_get, take, length}
 use Rattle.case_tables.specs.declared.kind_table.Kind.{Kind}
 use Rattle.meaning_states.specs.State.{State}
-use Rattle.meaning_documents.specs.Execution.{System, Steps}
+use Rattle.meaning_executions.specs.Execution.{System, Steps}
 use Rattle.trace_watch.specs.declared.tracing.Ending.{Ending}
 use Rattle.trace_watch.specs.Readings.{Reading}
 use Rattle.trace_watch.specs.Cases.{Watched}

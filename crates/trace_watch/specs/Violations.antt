@@ -3,7 +3,7 @@ use Rattle.std.specs.Prelude.{◌≡◌, ℕ, suc, ◌<◌, List, [], ◌∷◌,
 use Rattle.std.specs.Option.{option_or, option_map}
 use Rattle.std.specs.List.{position_from}
 use Rattle.meaning_states.specs.State.{State}
-use Rattle.meaning_documents.specs.Execution.{System}
+use Rattle.meaning_executions.specs.Execution.{System}
 use Rattle.trace_watch.specs.declared.violations.Violation.{Violation}
 use Rattle.trace_watch.specs.Readings.{Reading, is_violated}
 use Rattle.trace_watch.specs.Cases.{Watched}

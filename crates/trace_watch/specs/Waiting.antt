@@ -6,9 +6,9 @@ use Rattle.std.specs.List.{list_any, last_or}
 use Rattle.std.specs.Bool.{beq}
 use Rattle.case_tables.specs.declared.kind_table.Kind.{Kind}
 use Rattle.meaning_states.specs.State.{State}
-use Rattle.meaning_documents.specs.Execution.{System}
-use Rattle.meaning_documents.specs.Properties.{Test}
-use Rattle.meaning_documents.specs.Rounds.{rounds}
+use Rattle.meaning_executions.specs.Execution.{System}
+use Rattle.meaning_executions.specs.Properties.{Test}
+use Rattle.meaning_executions.specs.Rounds.{rounds}
 use Rattle.fair_rounds.specs.Counts as counts
 use Rattle.trace_watch.specs.declared.case.Seen.{Seen}
 use Rattle.trace_watch.specs.declared.case.Findings.{Findings}

@@ -1,10 +1,10 @@
 -- The trace that a watch has seen.
 use Rattle.std.specs.Prelude.{◌≡◌, ℕ, suc, List, [], map, length, take, All}
 use Rattle.meaning_states.specs.State.{State}
-use Rattle.meaning_documents.specs.Execution.{System}
+use Rattle.meaning_executions.specs.Execution.{System}
 use Rattle.core_terms.specs.declared.programs.CSlot.{CSlot}
 use Rattle.core_terms.specs.declared.programs.CProgram.{CProgram}
-use Rattle.fair_rounds.specs.Records.{core_system}
+use Rattle.executor.specs.CoreSystem.{core_system}
 use Rattle.trace_watch.specs.declared.watch.Watch.{Watch}
 use Rattle.trace_watch.specs.Cases.{Watched}
 use Rattle.trace_watch.specs.Violations.{violation}

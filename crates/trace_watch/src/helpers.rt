@@ -2,6 +2,7 @@
 ghost use Rattle.std.specs.Prelude.{◌≡◌, ◌≤◌, length};
 ghost use Rattle.core_terms.specs.Replacing.{arg_value, arg_values};
 ghost use Rattle.core_terms.specs.Values.{number_at};
+ghost use Rattle.meaning_executions.specs.Counting.{ints_eq};
 ghost use Rattle.fair_rounds.specs.Records as records;
 ghost use Rattle.std.specs.List.{position_from};
 ghost use Rattle.trace_watch.specs.Cases as cases;
@@ -41,7 +42,7 @@ fn is_named(helper: &Helper, values: &[i64], statement: &CStmt) -> bool
 
 // Whether the indices are the numbers of the arguments.
 fn are_indices(indices: &[i64], args: &[Arg], values: &[i64]) -> bool
-    ensures { result ≡ records.ints_eq indices.now (arg_values values.now args.now) }
+    ensures { result ≡ ints_eq indices.now (arg_values values.now args.now) }
 {
     if indices.len() != args.len() {
         return false;

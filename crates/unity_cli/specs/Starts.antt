@@ -4,7 +4,7 @@ use Rattle.unity_syntax.specs.declared.document.Document.{Document}
 use Rattle.unity_syntax.specs.declared.document.Part.{Part}
 use Rattle.unity_syntax.specs.declared.proof.Proof.{Proof}
 use Rattle.meaning_documents.specs.Programs.{Composed, document_setting}
-use Rattle.meaning_documents.specs.Execution.{system_of}
+use Rattle.meaning_documents.specs.AsSystem.{system_of}
 use Rattle.core_terms.specs.declared.programs.CProgram.{CProgram}
 use Rattle.executor.specs.StartState.{start_state}
 use Rattle.expand_documents.specs.Cores.{core_document}

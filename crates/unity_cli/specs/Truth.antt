@@ -6,7 +6,8 @@ use Rattle.unity_syntax.specs.declared.document.Document.{Document}
 use Rattle.unity_syntax.specs.declared.document.Part.{Part}
 use Rattle.unity_syntax.specs.declared.proof.Proof.{Proof}
 use Rattle.meaning_documents.specs.Programs.{Composed, program_named, programs_of, document_setting}
-use Rattle.meaning_documents.specs.Execution.{system_of, EveryChoiceRuns}
+use Rattle.meaning_documents.specs.AsSystem.{system_of}
+use Rattle.meaning_executions.specs.Execution.{EveryChoiceRuns}
 use Rattle.meaning_documents.specs.Claims.{Claims}
 use Rattle.meaning_documents.specs.Steps.{EachStep}
 use Rattle.soundness.specs.Told.{TellsClaims}

@@ -2,8 +2,8 @@
 use Rattle.std.proofs.Common.{◌≡◌, ◌<◌, ◌≤◌, ◌+◌, ◌⊎◌, inl, inr, ℕ, zero, suc, List, [], ◌∷◌, ◌++◌, length, take}
 use Rattle.std.proofs.Common.{Option, Some, None, refl, sym, ap, ◌∙◌, subst, slice_get, arith}
 use Rattle.meaning_states.specs.State.{State}
-use Rattle.meaning_documents.specs.Execution.{System, Steps, chosen_step}
-use Rattle.meaning_documents.proofs.ExecutionTheorems.{extended}
+use Rattle.meaning_executions.specs.Execution.{System, Steps, chosen_step}
+use Rattle.meaning_executions.proofs.ExecutionTheorems.{extended}
 use Rattle.trace_watch.specs.declared.tracing.Ending.{Ending}
 use Rattle.trace_watch.specs.declared.violations.Violation.{Violation}
 use Rattle.trace_watch.specs.Cases.{Watched}

@@ -12,7 +12,7 @@ use Rattle.meaning_documents.specs.Programs.{Composed}
 use Rattle.names_rules.specs.Declarations.{some_of}
 use Rattle.core_terms.specs.declared.programs.CProgram.{CProgram}
 use Rattle.core_terms.specs.Steps.{core_step}
-use Rattle.fair_rounds.specs.Records.{core_system}
+use Rattle.executor.specs.CoreSystem.{core_system}
 use Rattle.rules_table.specs.Walk.{Failure, Plan, walk_of}
 use Rattle.rules_steps.specs.Starts.{starts_in}
 use Rattle.proof_plans.specs.declared.plans.StepFault.{StepFault}

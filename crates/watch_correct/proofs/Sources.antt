@@ -4,12 +4,13 @@ use Rattle.unity_syntax.specs.declared.document.Document.{Document}
 use Rattle.meaning_states.specs.State.{State, Ranges}
 use Rattle.meaning_documents.specs.Setting.{slot_ranges}
 use Rattle.meaning_documents.specs.Programs.{Composed, document_setting}
-use Rattle.meaning_documents.specs.Execution.{IsExecution, System}
-use Rattle.meaning_documents.proofs.ExecutionTheorems.{every_state_in_range, prefix_is_execution}
-use Rattle.meaning_laws.specs.Alike.{StepEquivalent}
+use Rattle.meaning_executions.specs.Execution.{IsExecution, System}
+use Rattle.meaning_documents.proofs.SystemTheorems.{every_state_in_range}
+use Rattle.meaning_executions.proofs.ExecutionTheorems.{prefix_is_execution}
+use Rattle.meaning_executions.specs.Alike.{StepEquivalent}
 use Rattle.meaning_laws.proofs.AlikeTheorems.{alike_back, runs_alike}
 use Rattle.core_terms.specs.declared.programs.CProgram.{CProgram}
-use Rattle.fair_rounds.specs.Records.{core_system}
+use Rattle.executor.specs.CoreSystem.{core_system}
 use Rattle.rules_table.specs.Walk.{Plan}
 use Rattle.rules_steps.specs.Starts.{starts_in}
 use Rattle.expand_documents.specs.Cores.{core_document}

@@ -10,11 +10,13 @@ use Rattle.std.proofs.lemmas.Bool.{eqb-true}
 use Rattle.case_tables.specs.declared.kind_table.Kind.{Kind}
 use Rattle.meaning_states.specs.State.{State, int_eq}
 use Rattle.meaning_states.proofs.StepTheorems.{and_left, and_right, same_number}
-use Rattle.meaning_documents.specs.Execution.{System, IsExecution, act_step, chosen_step, system_of}
+use Rattle.meaning_executions.specs.Execution.{System, IsExecution, act_step, chosen_step}
+use Rattle.meaning_documents.specs.AsSystem.{system_of}
 use Rattle.meaning_documents.specs.Setting.{slot_ranges}
 use Rattle.meaning_documents.specs.Programs.{document_setting}
-use Rattle.meaning_documents.specs.Properties.{Test, but_not, Everywhere, IsAlwaysDefined, IsInvariant}
-use Rattle.meaning_documents.proofs.ExecutionTheorems.{prefix_is_execution, get_at, every_state_in_range}
+use Rattle.meaning_executions.specs.Properties.{Test, but_not, Everywhere, IsAlwaysDefined, IsInvariant}
+use Rattle.meaning_executions.proofs.ExecutionTheorems.{prefix_is_execution, get_at}
+use Rattle.meaning_documents.proofs.SystemTheorems.{every_state_in_range}
 use Rattle.meaning_laws.specs.Stands.{EnsuresStands}
 use Rattle.meaning_laws.proofs.StandingTheorems.{unless_holds, some_step, after_choice}
 use Rattle.meaning_laws.proofs.AlikeTheorems.{runs_alike}
@@ -25,7 +27,9 @@ use Rattle.core_terms.specs.declared.documents.Helper.{Helper}
 use Rattle.core_terms.specs.Conditions.{AreApart, IsProgram}
 use Rattle.core_terms.specs.Replacing.{arg_values}
 use Rattle.fair_rounds.specs.declared.records.Record.{Record}
-use Rattle.fair_rounds.specs.Records.{core_system, holding, are_in_ranges, meets, ints_eq, is_named, EnsuresNamed}
+use Rattle.executor.specs.CoreSystem.{core_system}
+use Rattle.fair_rounds.specs.Records.{holding, are_in_ranges, meets, is_named, EnsuresNamed}
+use Rattle.meaning_executions.specs.Counting.{ints_eq}
 use Rattle.fair_rounds.specs.Records.{KindStands, KindHolds, IsKept}
 use Rattle.fair_rounds.proofs.RecordTheorems.{kept_holds}
 use Rattle.rules_table.specs.Walk.{program_of}

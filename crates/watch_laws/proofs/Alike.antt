@@ -11,10 +11,11 @@ use Rattle.meaning_documents.specs.Names.{Bindings}
 use Rattle.meaning_documents.specs.Value.{range_ends, range_values}
 use Rattle.meaning_documents.specs.Setting.{slot_ranges}
 use Rattle.meaning_documents.specs.Programs.{document_setting}
-use Rattle.meaning_documents.specs.Execution.{System, system_of}
+use Rattle.meaning_executions.specs.Execution.{System}
+use Rattle.meaning_documents.specs.AsSystem.{system_of}
 use Rattle.meaning_documents.specs.Claims.{parameters, are_arguments, argument_bindings}
 use Rattle.meaning_documents.specs.Steps.{Pairwise, ProofStep, document_steps}
-use Rattle.meaning_laws.specs.Alike.{StepEquivalent, SameAt}
+use Rattle.meaning_executions.specs.Alike.{StepEquivalent, SameAt}
 use Rattle.meaning_laws.proofs.AlikeTheorems.{alike_back}
 use Rattle.names_rules.specs.WellNamed.{IsWellNamed}
 use Rattle.names_rules.specs.Declarations.{some_of}
@@ -23,7 +24,8 @@ use Rattle.core_terms.specs.declared.programs.CProgram.{CProgram}
 use Rattle.core_terms.specs.Values.{form_value}
 use Rattle.core_terms.proofs.PartLaws.{value-Bottom, value-Top}
 use Rattle.fair_rounds.specs.declared.records.Record.{Record}
-use Rattle.fair_rounds.specs.Records.{core_system, holding, are_in_ranges}
+use Rattle.executor.specs.CoreSystem.{core_system}
+use Rattle.fair_rounds.specs.Records.{holding, are_in_ranges}
 use Rattle.rules_table.proofs.EachLaws.{Each}
 use Rattle.expand_declarations.specs.References.{param_range}
 use Rattle.expand_declarations.specs.WordNumbers.{document_words}

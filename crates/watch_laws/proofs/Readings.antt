@@ -7,10 +7,10 @@ use Rattle.std.specs.List.{list_any, list_all, last_or}
 use Rattle.std.specs.Bool.{beq}
 use Rattle.case_tables.specs.declared.kind_table.Kind.{Kind}
 use Rattle.meaning_states.specs.State.{State, Ranges, is_state}
-use Rattle.meaning_documents.specs.Execution.{Act, System, act_step, chosen_step}
-use Rattle.meaning_documents.specs.Properties.{Test, but_not, implied}
-use Rattle.meaning_documents.specs.Rounds.{rounds}
-use Rattle.meaning_laws.specs.Alike.{StepEquivalent, SameAt}
+use Rattle.meaning_executions.specs.Execution.{Act, System, act_step, chosen_step}
+use Rattle.meaning_executions.specs.Properties.{Test, but_not, implied}
+use Rattle.meaning_executions.specs.Rounds.{rounds}
+use Rattle.meaning_executions.specs.Alike.{StepEquivalent, SameAt}
 use Rattle.trace_watch.specs.Readings.{passes, at_last, last_two, related, at_last_step, unless_fails}
 use Rattle.fixed_points.specs.FixedPoints.{leads_to, is_fixed}
 use Rattle.trace_watch.specs.Readings.{leads_fails, is_stuck, is_helped, fails}

@@ -10,13 +10,13 @@ use Rattle.std.proofs.lemmas.Int.{ints}
 use Rattle.case_tables.specs.declared.kind_table.Kind.{Kind}
 use Rattle.meaning_states.specs.State.{State, int_eq}
 use Rattle.meaning_states.proofs.StepTheorems.{and_left, and_right, both_true}
-use Rattle.meaning_documents.specs.Execution.{System, IsExecution}
-use Rattle.meaning_documents.specs.Properties.{Test, but_not, implied, Everywhere, IsAlwaysDefined, IsInvariant, Fixed}
-use Rattle.meaning_documents.specs.Properties.{Unless, Constant, LeadsTo, Until, Detects}
-use Rattle.meaning_documents.specs.Rounds.{rounds}
-use Rattle.meaning_documents.proofs.PropertyTheorems.{leads_is_follows}
+use Rattle.meaning_executions.specs.Execution.{System, IsExecution}
+use Rattle.meaning_executions.specs.Properties.{Test, but_not, implied, Everywhere, IsAlwaysDefined, IsInvariant, Fixed}
+use Rattle.meaning_executions.specs.Properties.{Unless, Constant, LeadsTo, Until, Detects}
+use Rattle.meaning_executions.specs.Rounds.{rounds}
+use Rattle.meaning_executions.proofs.PropertyTheorems.{leads_is_follows}
 use Rattle.core_terms.proofs.BoolLaws.{le_passes}
-use Rattle.fair_rounds.specs.Records.{ints_eq}
+use Rattle.meaning_executions.specs.Counting.{ints_eq}
 use Rattle.std.specs.Int.RustNames.{int_le}
 use Rattle.trace_watch.specs.Readings.{passes, at_last, last_two, related, at_last_step, unless_fails}
 use Rattle.fixed_points.specs.FixedPoints.{leads_to, is_fixed}

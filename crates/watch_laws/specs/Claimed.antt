@@ -9,7 +9,7 @@ use Rattle.meaning_documents.specs.Names.{Bindings}
 use Rattle.meaning_documents.specs.Value.{range_values}
 use Rattle.meaning_documents.specs.Setting.{Setting, is_true_at}
 use Rattle.meaning_documents.specs.Programs.{document_setting}
-use Rattle.meaning_documents.specs.Properties.{Test, never}
+use Rattle.meaning_executions.specs.Properties.{Test, never}
 use Rattle.meaning_documents.specs.Claims.{parameters, argument_bindings}
 use Rattle.meaning_documents.specs.Steps.{claim_kind, ProofStep, document_steps}
 use Rattle.core_terms.specs.declared.programs.CProgram.{CProgram}

@@ -1,8 +1,8 @@
 -- What is found of a schedule, where a call that is made says so.
 use Rattle.std.proofs.Common.{◌≡◌, ◌<◌, ◌≤◌, ℕ, nat_lt, List, Bool, true, false, Some, Err, refl, sym, subst, arith}
 use Rattle.meaning_states.specs.State.{State}
-use Rattle.meaning_documents.specs.Execution.{System}
-use Rattle.fair_rounds.specs.Records.{core_system}
+use Rattle.meaning_executions.specs.Execution.{System}
+use Rattle.executor.specs.CoreSystem.{core_system}
 use Rattle.executor.specs.StartState.{start_state}
 use Rattle.trace_watch.specs.declared.tracing.Ending.{Ending}
 use Rattle.trace_watch.specs.declared.violations.Violation.{Violation}

@@ -6,7 +6,7 @@ use Rattle.core_terms.specs.declared.programs.CProgram.{CProgram}
 use Rattle.core_terms.specs.declared.documents.CDocument.{CDocument}
 use Rattle.core_terms.specs.Values.{form_value}
 use Rattle.fair_rounds.specs.declared.records.Record.{Record}
-use Rattle.fair_rounds.specs.Records.{core_system}
+use Rattle.executor.specs.CoreSystem.{core_system}
 use Rattle.executor.specs.StartState.{start_state}
 use Rattle.schedule_replay.specs.Schedules.{IsSchedule, IsUnknownChoice}
 use Rattle.run_traces.specs.Programs.{scheduled_program}

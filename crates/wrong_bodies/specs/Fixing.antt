@@ -3,7 +3,7 @@ use Rattle.std.specs.Prelude.{nat_le, length, Bool, List, ◌&&◌, ◌||◌}
 use Rattle.meaning_states.specs.State.{State}
 use Rattle.core_terms.specs.declared.programs.CProgram.{CProgram}
 use Rattle.core_terms.specs.declared.programs.CSlot.{CSlot}
-use Rattle.fair_rounds.specs.Records.{core_system}
+use Rattle.executor.specs.CoreSystem.{core_system}
 use Rattle.fixed_points.specs.FixedPoints.{is_fixed}
 use Rattle.trace_watch.specs.Readings.{is_stuck}
 

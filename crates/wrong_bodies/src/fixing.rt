@@ -5,7 +5,7 @@ ghost use Rattle.meaning_states.specs.State.{is_state};
 ghost use Rattle.core_terms.specs.Conditions.{FormFits, IsCoreDocument};
 ghost use Rattle.core_terms.specs.Steps.{slot_ranges};
 ghost use Rattle.executor.specs.Fitting.{StatementsRun};
-ghost use Rattle.fair_rounds.specs.Records.{core_system};
+ghost use Rattle.executor.specs.CoreSystem.{core_system};
 ghost use Rattle.fixed_points.specs.FixedPoints as fixed;
 ghost use Rattle.fixed_runs.specs.Answers.{CoreFixedRuns};
 ghost use Rattle.rules_table.specs.Table as table;

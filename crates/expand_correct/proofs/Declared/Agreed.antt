@@ -9,7 +9,7 @@ use Rattle.std.proofs.lemmas.Grind.{flat_map-append}
 use Rattle.unity_syntax.specs.declared.declaration.Var.{Var}
 use Rattle.unity_syntax.specs.declared.document.Part.{Part}
 use Rattle.meaning_documents.specs.Names.{Variable}
-use Rattle.meaning_documents.specs.Value.{range_size}
+use Rattle.meaning_executions.specs.Counting.{range_size}
 use Rattle.meaning_documents.specs.Setting.{element_type, plain_range, type_indices}
 use Rattle.meaning_documents.specs.Setting.{slots_for, slot_count, slot_ranges, variable_from, with_declaration}
 use Rattle.meaning_documents.specs.Setting.{with_declarations}

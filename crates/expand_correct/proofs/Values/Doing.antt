@@ -11,8 +11,10 @@ use Rattle.unity_syntax.specs.TwoFolds.{Related, ComponentLayers, AssignLayers}
 use Rattle.unity_syntax.proofs.AssignmentFolds.{two_assignments}
 use Rattle.meaning_states.specs.State.{Ranges}
 use Rattle.meaning_states.specs.Step.{Write, step}
-use Rattle.meaning_documents.specs.Names.{Variable, Sight, with_name, natural, slot_at, slot_named}
-use Rattle.meaning_documents.specs.Value.{value, holds, range_values, range_size}
+use Rattle.meaning_documents.specs.Names.{Variable, Sight, with_name, slot_at, slot_named}
+use Rattle.meaning_executions.specs.Counting.{natural}
+use Rattle.meaning_documents.specs.Value.{value, holds, range_values}
+use Rattle.meaning_executions.specs.Counting.{range_size}
 use Rattle.meaning_documents.specs.Writes as source
 use Rattle.meaning_documents.specs.Writes.{Alternative, alternatives, is_taken, index_value, target_slot, paired}
 use Rattle.meaning_documents.specs.Writes.{alternative_writes, Writing, writes}

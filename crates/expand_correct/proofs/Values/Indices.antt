@@ -5,8 +5,8 @@ use Rattle.std.proofs.lemmas.Int.{ints}
 use borrow.Author.Differences.{le-true, le-false}
 use Rattle.std.specs.List.{list_any}
 use Rattle.std.specs.Int.RustNames.{int_le}
-use Rattle.meaning_documents.specs.Names.{natural}
-use Rattle.meaning_documents.specs.Value.{range_size}
+use Rattle.meaning_executions.specs.Counting.{natural}
+use Rattle.meaning_executions.specs.Counting.{range_size}
 use Rattle.meaning_states.specs.State.{in_range}
 use Rattle.meaning_states.specs.Step.{Write}
 use Rattle.core_terms.specs.declared.trees.CTerm.{CTerm}

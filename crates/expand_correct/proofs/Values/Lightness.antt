@@ -17,8 +17,9 @@ use Rattle.unity_syntax.specs.declared.expression.Operator.{Operator}
 use Rattle.unity_syntax.specs.TwoFolds.{Related, ExpressionLayers}
 use Rattle.unity_syntax.proofs.ExpressionFolds.{two_expressions}
 use Rattle.unity_syntax.specs.declared.name.Range.{Range}
-use Rattle.meaning_documents.specs.Names.{Variable, natural, slot_at}
-use Rattle.meaning_documents.specs.Value.{range_size}
+use Rattle.meaning_documents.specs.Names.{Variable, slot_at}
+use Rattle.meaning_executions.specs.Counting.{natural}
+use Rattle.meaning_executions.specs.Counting.{range_size}
 use Rattle.meaning_documents.specs.Names.{variable_named}
 use Rattle.meaning_states.specs.Division.{divisor}
 use Rattle.core_terms.specs.declared.trees.CTerm.{CTerm, fold-roll-CTerm}

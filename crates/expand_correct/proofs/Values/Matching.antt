@@ -13,8 +13,9 @@ use Rattle.meaning_documents.specs.Instances.{Instance, instances}
 use Rattle.meaning_documents.specs.Value.{value, holds}
 use Rattle.meaning_documents.specs.Setting.{setting_of, slot_ranges, seen, is_true_at}
 use Rattle.meaning_documents.specs.Programs.{initial_formula}
-use Rattle.meaning_documents.specs.Execution.{Act, act_step, instance_step}
-use Rattle.meaning_laws.proofs.AlikeTheorems.{source_alike}
+use Rattle.meaning_executions.specs.Execution.{Act, act_step}
+use Rattle.meaning_documents.specs.AsSystem.{instance_step}
+use Rattle.meaning_documents.proofs.SystemTheorems.{source_alike}
 use Rattle.core_terms.specs.declared.programs.CStmt.{CStmt}
 use Rattle.core_terms.specs.Values.{form_value}
 use Rattle.core_terms.specs.Steps.{core_writes, core_step}

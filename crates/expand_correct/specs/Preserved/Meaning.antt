@@ -3,8 +3,8 @@ use Rattle.std.specs.Prelude.{◌≡◌, ℕ, List, None, Some, slice_get}
 use Rattle.unity_syntax.specs.declared.document.Document.{Document}
 use Rattle.meaning_documents.specs.Setting.{programs_among, slot_ranges}
 use Rattle.meaning_documents.specs.Programs.{Composed, program_named, programs_of, document_setting}
-use Rattle.meaning_documents.specs.Execution.{system_of}
-use Rattle.meaning_laws.specs.Alike.{StepEquivalent}
+use Rattle.meaning_documents.specs.AsSystem.{system_of}
+use Rattle.meaning_executions.specs.Alike.{StepEquivalent}
 use Rattle.names_rules.specs.WellNamed.{IsWellNamed}
 use Rattle.core_terms.specs.declared.programs.CProgram.{CProgram}
 use Rattle.core_terms.specs.Steps.{slot_ranges as core_ranges}

@@ -6,8 +6,8 @@ use Rattle.unity_syntax.specs.declared.statement.Items.{Items}
 use Rattle.meaning_documents.specs.Instances.{instances}
 use Rattle.meaning_documents.specs.Setting.{setting_of, slot_ranges}
 use Rattle.meaning_documents.specs.Programs.{Composed, initial_formula, union}
-use Rattle.meaning_documents.specs.Execution.{system_of}
-use Rattle.meaning_laws.specs.Alike.{StepEquivalent}
+use Rattle.meaning_documents.specs.AsSystem.{system_of}
+use Rattle.meaning_executions.specs.Alike.{StepEquivalent}
 use Rattle.core_terms.specs.declared.programs.CSlot.{CSlot}
 use Rattle.core_terms.specs.declared.programs.CProgram.{CProgram}
 use Rattle.core_terms.specs.Steps.{slot_ranges as core_ranges}

@@ -5,7 +5,7 @@ use Rattle.meaning_states.specs.State.{State, is_state}
 use Rattle.meaning_states.specs.Step.{step}
 use Rattle.meaning_documents.specs.Setting.{setting_of, slot_ranges}
 use Rattle.meaning_documents.specs.Instances.{Instance}
-use Rattle.meaning_documents.specs.Execution.{instance_step}
+use Rattle.meaning_documents.specs.AsSystem.{instance_step}
 use Rattle.core_terms.specs.declared.programs.CStmt.{CStmt}
 use Rattle.core_terms.specs.Steps.{core_writes}
 use Rattle.expand_rules.specs.Measures.{no_flaws}

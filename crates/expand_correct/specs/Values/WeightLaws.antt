@@ -5,7 +5,7 @@ use Rattle.std.specs.Str.{bytes_eq}
 use Rattle.unity_syntax.specs.declared.expression.Expr.{Expr}
 use Rattle.unity_syntax.specs.declared.statement.Assign.{Assign}
 use Rattle.meaning_documents.specs.Names.{Variable}
-use Rattle.meaning_documents.specs.Value.{range_size}
+use Rattle.meaning_executions.specs.Counting.{range_size}
 use Rattle.meaning_documents.specs.Names.{variable_named}
 use Rattle.core_terms.specs.declared.trees.CTerm.{CTerm}
 use Rattle.core_terms.specs.declared.trees.CForm.{CForm}

@@ -10,7 +10,8 @@ use Rattle.std.specs.Int.RustNames.{int_le}
 use Rattle.std.specs.List.{list_any}
 use Rattle.std.specs.Str.{bytes_eq}
 use Rattle.unity_syntax.specs.declared.declaration.Var.{Var}
-use Rattle.meaning_documents.specs.Names.{Variable, natural, slot_at}
+use Rattle.meaning_documents.specs.Names.{Variable, slot_at}
+use Rattle.meaning_executions.specs.Counting.{natural}
 use Rattle.meaning_documents.specs.Setting.{slots_for, slot_count, variable_from, with_declaration, with_declarations}
 use Rattle.names_rules.specs.declared.named.Span.{Span}
 use Rattle.names_rules.specs.Reading.{signed}

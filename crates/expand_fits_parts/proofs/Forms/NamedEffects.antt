@@ -11,7 +11,7 @@ use Rattle.unity_syntax.specs.declared.statement.Component.TheOpen.{Component-F}
 use Rattle.unity_syntax.specs.TwoFolds.{Related, ComponentLayers, AssignLayers}
 use Rattle.unity_syntax.proofs.AssignmentFolds.{two_assignments}
 use Rattle.meaning_documents.specs.Names.{Variable, slot_at}
-use Rattle.meaning_documents.specs.Value.{range_size}
+use Rattle.meaning_executions.specs.Counting.{range_size}
 use Rattle.meaning_documents.specs.Writes.{Alternative, alternatives}
 use Rattle.meaning_documents.specs.Names.{variable_named}
 use Rattle.names_laws.proofs.AttributeTheorems.{and_first, and_second}

@@ -14,7 +14,7 @@ use Rattle.unity_syntax.specs.declared.expression.Operator.{Operator}
 use Rattle.unity_syntax.specs.TwoFolds.{Related, ExpressionLayers}
 use Rattle.unity_syntax.proofs.ExpressionFolds.{two_expressions}
 use Rattle.meaning_documents.specs.Names.{Variable}
-use Rattle.meaning_documents.specs.Value.{range_size}
+use Rattle.meaning_executions.specs.Counting.{range_size}
 use Rattle.meaning_documents.specs.Names.{variable_named}
 use Rattle.names_laws.proofs.AttributeTheorems.{and_both, and_first, and_second}
 use Rattle.core_terms.specs.declared.trees.CTerm.{CTerm, fold-roll-CTerm}

@@ -5,8 +5,9 @@ use Rattle.std.proofs.lemmas.Int.{ints}
 use borrow.Author.Differences.{le-true}
 use lib.Signed.{◌≤ℤ◌}
 use Rattle.std.specs.Int.RustNames.{int_le}
-use Rattle.meaning_documents.specs.Names.{natural, slot_at}
-use Rattle.meaning_documents.specs.Value.{range_size}
+use Rattle.meaning_executions.specs.Counting.{natural}
+use Rattle.meaning_documents.specs.Names.{slot_at}
+use Rattle.meaning_executions.specs.Counting.{range_size}
 
 natural_of : (a : ℤ) → pos 0 ≤ℤ a → a ≡ pos (natural a)
 natural_of (pos n) h = refl

@@ -9,7 +9,7 @@ use Rattle.unity_syntax.specs.declared.statement.Target.{Target}
 use Rattle.unity_syntax.specs.declared.statement.Assign.{Assign, fold-Assign}
 use Rattle.unity_syntax.specs.declared.statement.Component.TheOpen.{Component-F, Assign-F}
 use Rattle.meaning_documents.specs.Names.{Variable}
-use Rattle.meaning_documents.specs.Value.{range_size}
+use Rattle.meaning_executions.specs.Counting.{range_size}
 use Rattle.meaning_documents.specs.Writes.{Alternative, alternatives}
 use Rattle.meaning_documents.specs.Names.{variable_named}
 use Rattle.core_terms.specs.declared.programs.CWrite.{CWrite}

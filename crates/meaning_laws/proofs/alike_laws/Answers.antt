@@ -1,10 +1,7 @@
-use Rattle.meaning_laws.proofs.AlikeTheorems.{source_alike, alike_back, kept_alike, runs_alike, defined_alike}
+use Rattle.meaning_laws.proofs.AlikeTheorems.{alike_back, kept_alike, runs_alike, defined_alike}
 use Rattle.meaning_laws.proofs.AlikeTheorems.{fixed_alike, invariant_alike, unless_alike, constant_alike}
 use Rattle.meaning_laws.proofs.AlikeTheorems.{ensures_alike, leads_alike}
 use Rattle.meaning_laws.proofs.alike_laws.Goals as goal
-
-pub returns-clause-source : goal.returns-clause-source
-returns-clause-source c = source_alike
 
 pub returns-clause-back : goal.returns-clause-back
 returns-clause-back c = alike_back

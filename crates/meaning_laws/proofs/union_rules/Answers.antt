@@ -1,9 +1,6 @@
-use Rattle.meaning_laws.proofs.UnionTheorems.{union_is_together, union_defined, union_unless, union_invariant}
+use Rattle.meaning_laws.proofs.UnionTheorems.{union_defined, union_unless, union_invariant}
 use Rattle.meaning_laws.proofs.UnionTheorems.{union_invariant_second, union_ensures, union_ensures_second}
 use Rattle.meaning_laws.proofs.union_rules.Goals as goal
-
-pub returns-clause-together : goal.returns-clause-together
-returns-clause-together c = union_is_together
 
 pub returns-clause-defined : goal.returns-clause-defined
 returns-clause-defined c = union_defined

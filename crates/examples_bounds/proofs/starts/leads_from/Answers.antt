@@ -1,7 +1,8 @@
 use Rattle.std.proofs.Common.{List, map, ap}
 use Rattle.core_terms.specs.declared.programs.CStmt.{CStmt}
 use Rattle.core_terms.specs.Steps.{core_step}
-use Rattle.fair_rounds.specs.Records.{core_system, holding}
+use Rattle.executor.specs.CoreSystem.{core_system}
+use Rattle.fair_rounds.specs.Records.{holding}
 use Rattle.examples_bounds.proofs.ShortLaws.{walked_like}
 use Rattle.examples_bounds.proofs.starts.leads_from.Goals as goal
 

@@ -9,7 +9,7 @@ use Rattle.std.proofs.lemmas.Result.{IfOk-weaker}
 use Rattle.meaning_states.specs.State.{State}
 use Rattle.core_terms.specs.declared.programs.CSlot.{CSlot}
 use Rattle.core_terms.specs.Steps.{slot_ranges}
-use Rattle.meaning_documents.specs.Execution.{System}
+use Rattle.meaning_executions.specs.Execution.{System}
 use Rattle.examples_bounds.specs.Claims.{claimed, before, after}
 use Rattle.examples_bounds.specs.Walking.{LeadsOn}
 use Rattle.examples_bounds.proofs.LoopLaws.{always, never, refuted}

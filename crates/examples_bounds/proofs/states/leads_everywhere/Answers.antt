@@ -3,7 +3,8 @@ use Rattle.std.specs.Prelude.{◌↔◌}
 use Rattle.meaning_states.specs.State.{State}
 use Rattle.core_terms.specs.declared.programs.CStmt.{CStmt}
 use Rattle.core_terms.specs.Steps.{core_step, slot_ranges}
-use Rattle.fair_rounds.specs.Records.{core_system, holding}
+use Rattle.executor.specs.CoreSystem.{core_system}
+use Rattle.fair_rounds.specs.Records.{holding}
 use Rattle.examples_bounds.specs.Walking.{LeadsOn}
 use Rattle.examples_bounds.proofs.ShortLaws.{walked_all}
 use Rattle.examples_bounds.proofs.states.leads_everywhere.Goals as goal

@@ -4,8 +4,8 @@ use Rattle.std.specs.Prelude.{◌↔◌}
 use Rattle.std.proofs.lemmas.Result.{IfOk-weaker}
 use Rattle.meaning_states.specs.State.{State, is_state}
 use Rattle.core_terms.specs.Steps.{slot_ranges}
-use Rattle.meaning_documents.specs.Execution.{System}
-use Rattle.meaning_documents.specs.Properties.{Test}
+use Rattle.meaning_executions.specs.Execution.{System}
+use Rattle.meaning_executions.specs.Properties.{Test}
 use Rattle.examples_bounds.specs.Claims.{claimed, before, after}
 use Rattle.examples_bounds.specs.Walking.{Comes, Leads, LeadsAt}
 use Rattle.examples_bounds.proofs.LoopLaws.{always, never, refuted, below_more}

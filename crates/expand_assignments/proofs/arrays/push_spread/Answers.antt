@@ -1,5 +1,5 @@
 use Rattle.std.proofs.Common.{◌++◌, ◌<◌, subst}
-use Rattle.meaning_documents.specs.Value.{range_size}
+use Rattle.meaning_executions.specs.Counting.{range_size}
 use Rattle.expand_rules.specs.Assigning.{spread}
 use Rattle.expand_assignments.specs.Adding.{slot_ends}
 use Rattle.expand_assignments.proofs.SpreadLaws.{spread_next}

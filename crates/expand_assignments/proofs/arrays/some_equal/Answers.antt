@@ -1,7 +1,7 @@
 use Rattle.std.proofs.Common.{◌≡◌, ◌-◌, ◌<◌, pos, ◌+ℤ◌, ◌+◌, fold, subst, sym}
 use Rattle.core_terms.specs.Folding.{or_form}
 use Rattle.core_terms.specs.declared.trees.CForm.{CForm}
-use Rattle.meaning_documents.specs.Value.{range_size}
+use Rattle.meaning_executions.specs.Counting.{range_size}
 use Rattle.expand_rules.specs.Assigning.{any_of, equations}
 use Rattle.expand_assignments.specs.Adding.{slot_ends}
 use Rattle.expand_assignments.proofs.SpreadLaws.{any_next}

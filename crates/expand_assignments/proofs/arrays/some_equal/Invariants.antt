@@ -1,6 +1,6 @@
 use Rattle.std.proofs.Common.{◌≡◌, ◌-◌, pos, ◌+ℤ◌, fold}
 use Rattle.core_terms.specs.Folding.{or_form, truth_of}
-use Rattle.meaning_documents.specs.Value.{range_size}
+use Rattle.meaning_executions.specs.Counting.{range_size}
 use Rattle.expand_rules.specs.Assigning.{any_of, equations}
 use Rattle.expand_assignments.specs.Adding.{slot_ends}
 use Rattle.expand_assignments.proofs.arrays.some_equal.Given as goal

@@ -2,7 +2,7 @@ use Rattle.std.proofs.Common.{◌+◌, ◌<◌, [], length, take, drop, refl, sy
 use Rattle.std.proofs.lemmas.Option.{slice_get_within}
 use Rattle.meaning_states.specs.State.{State}
 use Rattle.fair_rounds.specs.Counts.{StandsFor}
-use Rattle.fair_rounds.specs.Records.{core_system}
+use Rattle.executor.specs.CoreSystem.{core_system}
 use Rattle.executor.specs.Running.{state_of}
 use Rattle.schedule_replay.specs.Schedules.{turns}
 use Rattle.schedule_replay.proofs.BufferLaws.{on_err}

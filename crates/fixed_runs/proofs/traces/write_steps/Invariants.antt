@@ -1,7 +1,7 @@
 use Rattle.std.proofs.Common.{◌≡◌, ◌-◌, ◌≤◌, length, take, drop, IsTrue}
 use Rattle.meaning_states.specs.State.{is_state}
 use Rattle.core_terms.specs.Steps.{slot_ranges}
-use Rattle.fair_rounds.specs.Records.{core_system}
+use Rattle.executor.specs.CoreSystem.{core_system}
 use Rattle.fair_rounds.specs.Counts.{StandsFor}
 use Rattle.executor.specs.Running.{program_of, slots_of, state_of}
 use Rattle.schedule_replay.specs.Schedules.{turns}

@@ -3,7 +3,7 @@ use Rattle.std.proofs.lemmas.Int.{to_z-of_z}
 use Rattle.core_terms.specs.Folding.{truth_of}
 use Rattle.core_terms.specs.Sizes.{form_nodes}
 use Rattle.rules_table.specs.Forms.{any_of}
-use Rattle.meaning_documents.specs.Value.{range_size}
+use Rattle.meaning_executions.specs.Counting.{range_size}
 use Rattle.leadsto_rules.specs.Disjunctions.{instance_at, instances_at}
 use Rattle.leadsto_rules.proofs.AnyLaws.{too_large}
 use Rattle.leadsto_rules.proofs.disjunctions.any_instance.Goals as goal

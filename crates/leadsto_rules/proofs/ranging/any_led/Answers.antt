@@ -11,7 +11,7 @@ use Rattle.rules_table.specs.Terms.{node, leads_any}
 use Rattle.safety_rules.specs.Answers.{site_of}
 use Rattle.safety_rules.proofs.ErrorLaws.{handed_on}
 use Rattle.safety_rules.proofs.UsableLaws.{fits_exist}
-use Rattle.meaning_documents.specs.Value.{range_size}
+use Rattle.meaning_executions.specs.Counting.{range_size}
 use Rattle.wp_substitution.proofs.LightLaws.{form_light}
 use Rattle.leadsto_rules.specs.Disjunctions.{GivesAny}
 use Rattle.leadsto_rules.specs.Leading.{TermGives}

@@ -2,9 +2,9 @@ use Rattle.std.proofs.Common.{◌+◌, ◌<◌, length, take, drop, refl, sym, a
 use Rattle.std.proofs.lemmas.Option.{slice_get_within}
 use Rattle.meaning_states.specs.State.{State}
 use Rattle.fair_rounds.specs.Counts.{StandsFor}
-use Rattle.fair_rounds.specs.Records.{core_system}
+use Rattle.executor.specs.CoreSystem.{core_system}
 use Rattle.executor.specs.Running.{state_of}
-use Rattle.meaning_documents.specs.Rounds.{rounds}
+use Rattle.meaning_executions.specs.Rounds.{rounds}
 use Rattle.schedule_replay.specs.Lines.{rounds_line}
 use Rattle.schedule_replay.proofs.BufferLaws.{on_err}
 use Rattle.run_traces.specs.Choices.{choices_of}

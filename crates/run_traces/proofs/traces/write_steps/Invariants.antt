@@ -1,6 +1,6 @@
 use Rattle.std.proofs.Common.{◌≡◌, ◌-◌, ◌≤◌, length, take, drop}
-use Rattle.meaning_documents.specs.Rounds.{rounds}
-use Rattle.fair_rounds.specs.Records.{core_system}
+use Rattle.meaning_executions.specs.Rounds.{rounds}
+use Rattle.executor.specs.CoreSystem.{core_system}
 use Rattle.fair_rounds.specs.Counts.{StandsFor}
 use Rattle.executor.specs.Running.{program_of, slots_of, state_of}
 use Rattle.schedule_replay.specs.Lines.{rounds_line}

@@ -2,8 +2,8 @@ use Rattle.std.proofs.Common.{◌++◌, length, None, subst}
 use Rattle.std.specs.Io.KnownBytes.{Appends}
 use Rattle.std.proofs.KnownBytes.{Appends-trans}
 use Rattle.unity_base.specs.Streams.{AppendsPart}
-use Rattle.meaning_documents.specs.Rounds.{rounds}
-use Rattle.fair_rounds.specs.Records.{core_system}
+use Rattle.meaning_executions.specs.Rounds.{rounds}
+use Rattle.executor.specs.CoreSystem.{core_system}
 use Rattle.executor.specs.Running.{state_of}
 use Rattle.schedule_replay.specs.Lines.{heading_line, state_line, rounds_line}
 use Rattle.schedule_replay.proofs.BufferLaws.{on_err, part_front, part_after, part_second}

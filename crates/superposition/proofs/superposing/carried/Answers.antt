@@ -9,7 +9,7 @@ use Rattle.safety_rules.specs.Answers.{site_of, RuleAnswers}
 use Rattle.safety_rules.proofs.UsableLaws.{usable_closed}
 use Rattle.safety_rules.proofs.AnswerLaws.{refused_goals, rule_given}
 use Rattle.safety_rules.proofs.ErrorLaws.{handed_on}
-use Rattle.derived_rules.proofs.WithinLaws.{within_is}
+use Rattle.safety_rules.proofs.BoundLaws.{within_is}
 use Rattle.superposition.proofs.superposing.carried.Goals as goal
 
 pub add_follows-requires-clause-q : goal.add_follows-requires-clause-q

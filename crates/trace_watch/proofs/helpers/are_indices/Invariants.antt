@@ -1,6 +1,6 @@
 use Rattle.std.proofs.Common.{◌≡◌, drop}
 use Rattle.core_terms.specs.Replacing.{arg_values}
-use Rattle.fair_rounds.specs.Records.{ints_eq}
+use Rattle.meaning_executions.specs.Counting.{ints_eq}
 use Rattle.trace_watch.proofs.helpers.are_indices.Given as goal
 
 abbrev pub invariant-loop-place : goal.invariant-loop-place

@@ -6,7 +6,7 @@ use Rattle.core_terms.specs.Conditions.{IsProgram}
 use Rattle.executor.specs.Running.{state_of}
 use Rattle.executor.specs.StartState.{start_state}
 use Rattle.fair_rounds.specs.declared.records.Record.{Record}
-use Rattle.fair_rounds.specs.Records.{core_system}
+use Rattle.executor.specs.CoreSystem.{core_system}
 use Rattle.trace_watch.specs.declared.violations.WatchError.{WatchError}
 use Rattle.trace_watch.specs.Cases.{total_cases, watched}
 use Rattle.trace_watch.specs.Places.{RecordFits}

@@ -2,7 +2,7 @@ use Rattle.std.proofs.Common.{◌≡◌, drop}
 use Rattle.std.specs.List.{list_any}
 use Rattle.std.specs.Option.{is_none}
 use Rattle.core_terms.specs.Steps.{core_step}
-use Rattle.fair_rounds.specs.Records.{core_system}
+use Rattle.executor.specs.CoreSystem.{core_system}
 use Rattle.trace_watch.specs.Readings.{is_stuck}
 use Rattle.wrong_bodies.proofs.fixing.is_stuck.Given as goal
 

@@ -1,7 +1,7 @@
 use Rattle.std.proofs.Common.{◌∷◌, [], ◌∙◌, List, ap, length, map, refl, rules, subst, sym}
 use Rattle.std.specs.Prelude.{All}
 use Rattle.std.proofs.lemmas.List.{places, with_items_is}
-use Rattle.fair_rounds.specs.Records.{core_system}
+use Rattle.executor.specs.CoreSystem.{core_system}
 use Rattle.executor.proofs.StateLaws.{state_length, statements_fit}
 use Rattle.trace_watch.specs.declared.step.Step.{Step}
 use Rattle.trace_watch.specs.Stepping.{StepFits, StepStands, watched_as}

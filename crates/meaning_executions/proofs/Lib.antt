@@ -1,0 +1,3 @@
+pub mod ExecutionTheorems
+pub mod PropertyTheorems
+pub mod RoundTheorems
