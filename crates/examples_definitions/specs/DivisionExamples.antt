@@ -1,7 +1,7 @@
 -- Division, rounded down, of the numbers from -7 to 7.
 use Rattle.std.specs.Prelude.{◌≡◌, ℤ, pos, neg_ℤ, List, [], ◌∷◌, map}
 use Rattle.meaning_states.specs.Division.{divisor, floored, rest_of}
-use Rattle.meaning_documents.specs.Value.{count_up}
+use Rattle.meaning_executions.specs.Counting.{count_up}
 
 -- from -7 to 7
 abbrev pub numbers : List ℤ

@@ -4,7 +4,7 @@ use Rattle.std.proofs.Common.{get_or, length, Bool, true, false, not, Option, Re
 use Rattle.std.proofs.Common.{ap, ◌∙◌, subst, refl, arith}
 use Rattle.std.proofs.lemmas.Int.{ints}
 use Rattle.std.proofs.Math.Seq.{drop-cons}
-use Rattle.meaning_documents.specs.Value.{count_up}
+use Rattle.meaning_executions.specs.Counting.{count_up}
 use Rattle.expand_rules.specs.declared.cores.Formed.{Formed}
 use Rattle.expand_rules.specs.declared.effects.Count.{Count}
 use Rattle.expand_rules.specs.Counts.{both_counts, one_node_more, ranged_count}

@@ -2,7 +2,7 @@
 
 ghost use Rattle.std.specs.Prelude.{◌≡◌, ◌∷◌, ◌≤◌, ◌^◌, ◌&&◌, ◌+ℤ◌, ◌<◌, pos, map};
 ghost use Rattle.std.specs.Int.RustNames.{unsigned_abs};
-ghost use Rattle.meaning_documents.specs.Value.{count_up};
+ghost use Rattle.meaning_executions.specs.Counting.{count_up};
 ghost use Rattle.expand_rules.specs.Forming.{numbers, with_number};
 ghost use Rattle.expand_rules.specs.Assigning as spec;
 ghost use Rattle.expand_expressions.specs.Places.{IsReady, bound_names, scope};

@@ -10,7 +10,8 @@ use Rattle.unity_syntax.specs.declared.declaration.Plain.{Plain}
 use Rattle.unity_syntax.specs.declared.declaration.Var.{Var}
 use Rattle.unity_syntax.specs.declared.document.Part.{Part}
 use Rattle.meaning_documents.specs.Names.{Variable}
-use Rattle.meaning_documents.specs.Value.{range_ends, count_up}
+use Rattle.meaning_documents.specs.Value.{range_ends}
+use Rattle.meaning_executions.specs.Counting.{count_up}
 use Rattle.meaning_executions.specs.Counting.{range_size}
 use Rattle.meaning_documents.specs.Setting.{element_type, type_indices, plain_range, slot_count, with_declaration}
 use Rattle.meaning_documents.specs.Setting.{with_declarations, declarations, setting_of, programs_among}

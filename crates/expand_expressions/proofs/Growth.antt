@@ -7,7 +7,7 @@ use Rattle.std.specs.Prelude.{fold}
 use Rattle.case_tables.specs.declared.symbol_table.Symbol.{Symbol}
 use Rattle.case_tables.specs.declared.word_table.Word.{Word}
 use Rattle.unity_syntax.specs.declared.expression.Operator.{Operator}
-use Rattle.meaning_documents.specs.Value.{count_up}
+use Rattle.meaning_executions.specs.Counting.{count_up}
 use Rattle.expand_rules.specs.declared.cores.Formed.{Formed}
 use Rattle.expand_rules.specs.Limits.{is_past, is_too_large}
 use Rattle.expand_rules.specs.Forming.{plus, gathered, factored}

@@ -4,7 +4,7 @@ ghost use Rattle.std.specs.Prelude.{◌≡◌, ◌^◌, ◌≤◌, IfOk, map, fo
 ghost use Rattle.std.specs.Int.RustNames.{unsigned_abs};
 ghost use Rattle.case_tables.specs.declared.symbol_table.Symbol.{Symbol};
 ghost use Rattle.unity_syntax.specs.declared.expression.Expr.{Expr};
-ghost use Rattle.meaning_documents.specs.Value.{count_up};
+ghost use Rattle.meaning_executions.specs.Counting.{count_up};
 ghost use Rattle.expand_rules.specs.Forming as spec;
 ghost use Rattle.expand_rules.specs.Forming.{formed};
 ghost use Rattle.expand_expressions.specs.Sound.{IsSound, GivesCore, GivesWhole};

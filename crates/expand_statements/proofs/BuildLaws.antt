@@ -13,7 +13,7 @@ use Rattle.unity_syntax.specs.declared.statement.Item.TheOpen.{Item-F}
 use Rattle.unity_syntax.specs.declared.statement.Item.TheVariants.{rolls-Quantified}
 use Rattle.unity_syntax.specs.declared.statement.Items.{Items, fold-roll-Items}
 use Rattle.meaning_documents.specs.Names.{Bindings}
-use Rattle.meaning_documents.specs.Value.{count_up}
+use Rattle.meaning_executions.specs.Counting.{count_up}
 use Rattle.meaning_documents.specs.Instances.{Unfolding, items_layer}
 use Rattle.expand_rules.specs.Forming.{fit_values}
 use Rattle.expand_statements.specs.Building.{fit_layer, fit_item, fit_items}

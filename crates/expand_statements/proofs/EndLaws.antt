@@ -8,8 +8,8 @@ use Rattle.case_tables.specs.declared.symbol_table.Symbol.{Symbol}
 use Rattle.unity_syntax.specs.declared.name.End.{End}
 use Rattle.unity_syntax.specs.declared.name.Range.{Range}
 use Rattle.meaning_documents.specs.Names.{Bindings, number_of, or_zero}
-use Rattle.meaning_executions.specs.Counting.{natural}
-use Rattle.meaning_documents.specs.Value.{end_value, with_offset, plus, signed, count_up}
+use Rattle.meaning_executions.specs.Counting.{natural, count_up}
+use Rattle.meaning_documents.specs.Value.{end_value, with_offset, plus, signed}
 use Rattle.expand_counting.specs.Nests.{number_at, end_number, range_numbers, count_up as up_from, natural as count_of}
 use Rattle.expand_rules.specs.Measures.{is_fit}
 use Rattle.expand_rules.specs.Forming.{fit_values}

@@ -3,7 +3,7 @@
 ghost use Rattle.std.specs.Prelude.{◌≡◌, ◌∷◌, [], ◌++◌, ◌^◌, ◌≤◌, ◌<◌, ◌+ℤ◌, pos, map, None, IfOk, OnOk};
 ghost use Rattle.std.specs.List.{flat_map};
 ghost use Rattle.std.specs.Int.RustNames.{unsigned_abs};
-ghost use Rattle.meaning_documents.specs.Value.{count_up};
+ghost use Rattle.meaning_executions.specs.Counting.{count_up};
 ghost use Rattle.expand_declarations.specs.WordNumbers.{word_number};
 ghost use Rattle.expand_rules.specs.Assigning as spec;
 ghost use Rattle.expand_rules.specs.Assigning.{statements};

@@ -11,7 +11,7 @@ use Rattle.core_terms.specs.Sizes.{form_size, term_size, form_nodes}
 use Rattle.core_terms.proofs.KnownLaws.{known_folded_form}
 use Rattle.leadsto_rules.proofs.PartLaws.{truth-Top, truth-Bottom, truth-Or}
 use Rattle.rules_table.specs.Forms.{or_any, any_of}
-use Rattle.rules_table.specs.Numbers.{count_up}
+use Rattle.meaning_executions.specs.Counting.{count_up}
 
 or_append : (f : CForm) (fs gs : List CForm) → or_any f (fs ++ gs) ≡ or_any (or_any f fs) gs
 or_append f [] gs = refl

@@ -13,7 +13,8 @@ use Rattle.core_terms.specs.declared.trees.CForm.{CForm}
 use Rattle.core_terms.specs.declared.trees.CTerm.TheVariants.{Slot}
 use Rattle.core_terms.specs.declared.trees.Range.{Range}
 use Rattle.rules_table.specs.Forms.{or_any, any_of}
-use Rattle.rules_table.specs.Numbers.{count_up, args_from, form_for}
+use Rattle.meaning_executions.specs.Counting.{count_up}
+use Rattle.rules_table.specs.Numbers.{args_from, form_for}
 use Rattle.safety_rules.specs.Usable.{NamesExist}
 use Rattle.safety_rules.proofs.ParamLaws.{params_kept}
 use Rattle.safety_rules.proofs.UsableLaws.{exist_or}

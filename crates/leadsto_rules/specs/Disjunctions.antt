@@ -7,7 +7,8 @@ use Rattle.core_terms.specs.Sizes.{form_nodes}
 use Rattle.core_terms.specs.Weights.{plain_weight}
 use Rattle.core_terms.specs.declared.trees.CForm.{CForm}
 use Rattle.rules_table.specs.Forms.{any_of}
-use Rattle.rules_table.specs.Numbers.{count_up, form_for}
+use Rattle.meaning_executions.specs.Counting.{count_up}
+use Rattle.rules_table.specs.Numbers.{form_for}
 use Rattle.safety_rules.specs.declared.places.RuleError.{RuleError}
 use Rattle.leadsto_rules.specs.declared.disjunctions.Disjunction.{Disjunction}
 use Rattle.leadsto_rules.specs.declared.disjunctions.Instances.{Instances}

@@ -3,7 +3,7 @@ use Rattle.std.proofs.Common.{◌≡◌, ℕ, zero, suc, List, [], ◌∷◌, �
 use Rattle.std.proofs.Common.{sym, subst, ap, ◌∙◌, slice_get}
 use Rattle.std.specs.Prelude.{◌↔◌}
 use Rattle.std.specs.List.{list_all}
-use Rattle.std.proofs.lemmas.List.{length-map}
+use Rattle.std.proofs.lemmas.List.{length-map, map-append}
 use Rattle.std.proofs.lemmas.List.Folds.{list_all-append}
 use Rattle.unity_syntax.specs.declared.expression.Expr.{Expr}
 use Rattle.meaning_states.specs.State.{State, is_state}
@@ -41,10 +41,6 @@ every_state_in_range g c first choices later run place state e =
     (and_left (is_state (slot_ranges g.variables) first)
     (list_all (λ formula. is_true_at g [] formula first) c.initially) run.starts)
     run.steps place state e
-
-pub map-append : {X Y : Type 0} (f : X → Y) (xs ys : List X) → map f (xs ++ ys) ≡ map f xs ++ map f ys
-map-append f [] ys = refl
-map-append f (x ∷ xs) ys = ap (λ rest. f x ∷ rest) (map-append f xs ys)
 
 pub union_steps : UnionSteps
 union_steps g f h = map-append (instance_step g) f.instances h.instances

@@ -52,10 +52,3 @@ proof_steps (proof ∷ rest) = map (of_proof proof) proof.steps ++ proof_steps r
 -- all steps of a document, in order
 abbrev pub document_steps : Document → List ProofStep
 document_steps d = proof_steps (proofs_among d.parts)
-
--- two lists are equally long, and the two items at each place have the relation
-abbrev pub Pairwise : {X Y : Type 0} → (X → Y → Type 0) → List X → List Y → Type 0
-Pairwise R [] [] = Unit {0}
-Pairwise R [] (y ∷ ys) = ⊥
-Pairwise R (x ∷ xs) [] = ⊥
-Pairwise R (x ∷ xs) (y ∷ ys) = R x y × Pairwise R xs ys

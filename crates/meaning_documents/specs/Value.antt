@@ -1,5 +1,5 @@
 -- The value of an expression, which is a whole number: false is 0 and true is 1.
-use Rattle.std.specs.Prelude.{ℕ, zero, suc, ℤ, pos, neg_ℤ, ◌+ℤ◌, ◌-ℤ◌, ◌*ℤ◌, List, [], ◌∷◌, map, Bool, false, cond, not}
+use Rattle.std.specs.Prelude.{ℕ, ℤ, pos, neg_ℤ, ◌+ℤ◌, ◌-ℤ◌, ◌*ℤ◌, List, [], ◌∷◌, map, Bool, false, cond, not}
 use Rattle.std.specs.Prelude.{◌&&◌, ◌||◌, Option, Some, None}
 use Rattle.std.specs.Int.RustNames.{int_lt, int_le}
 use Rattle.std.specs.List.{list_all, list_any}
@@ -13,7 +13,7 @@ use Rattle.unity_syntax.specs.declared.expression.Expr.TheOpen.{Expr-F}
 use Rattle.meaning_states.specs.State.{int_eq}
 use Rattle.meaning_states.specs.Division.{floored, rest_of}
 use Rattle.meaning_documents.specs.Names.{Bindings, Sight, with_name, number_of, or_zero, word_value}
-use Rattle.meaning_executions.specs.Counting.{range_size}
+use Rattle.meaning_executions.specs.Counting.{range_size, count_up}
 use Rattle.meaning_documents.specs.Names.{element_value}
 
 -- the value of a truth
@@ -46,11 +46,6 @@ end_value bindings (End.Word at name offset) = with_offset (or_zero (number_of n
 -- both ends of a range
 abbrev pub range_ends : Bindings → Range → ℤ × ℤ
 range_ends bindings r = (end_value bindings r.low, end_value bindings r.high)
-
--- so many numbers, from the lowest on
-abbrev pub count_up : ℤ → ℕ → List ℤ
-count_up low zero = []
-count_up low (suc n) = low ∷ count_up (low +ℤ pos 1) n
 
 -- the numbers of a range in turn; none where the low end is above the high end
 abbrev pub range_values : Bindings → Range → List ℤ

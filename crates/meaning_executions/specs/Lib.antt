@@ -2,6 +2,7 @@ pub mod Alike
 pub mod Counting
 pub mod Execution
 pub mod ExecutionLaws
+pub mod Pairwise
 pub mod Properties
 pub mod RoundLaws
 pub mod Rounds

@@ -7,7 +7,7 @@ use Rattle.std.specs.List.{list_any, find}
 use Rattle.std.proofs.lemmas.List.{length-map}
 use Rattle.std.proofs.lemmas.List.Elements.{All-head, All-tail}
 use Rattle.case_tables.specs.declared.code_table.Code.{Code}
-use Rattle.meaning_documents.specs.Steps.{Pairwise}
+use Rattle.meaning_executions.specs.Pairwise.{Pairwise}
 use Rattle.core_terms.specs.declared.programs.CSlot.{CSlot}
 use Rattle.core_terms.specs.declared.programs.CProgram.{CProgram}
 use Rattle.core_terms.specs.declared.documents.CStep.{CStep}

@@ -1,7 +1,7 @@
 -- When a document follows: each step of its proofs gets its record by the rules, each proof has its `defined` step, and
 -- each obligation that is left has one certificate, which refutes it.
 use Rattle.std.specs.Prelude.{◌≡◌, ◌↔◌, ℕ, true, List, [], ◌∷◌, ◌++◌, Some, Ok}
-use Rattle.meaning_documents.specs.Steps.{Pairwise}
+use Rattle.meaning_executions.specs.Pairwise.{Pairwise}
 use Rattle.core_terms.specs.declared.programs.CSlot.{CSlot}
 use Rattle.core_terms.specs.declared.programs.CProgram.{CProgram}
 use Rattle.core_terms.specs.declared.documents.CStep.{CStep}

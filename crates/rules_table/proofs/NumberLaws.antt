@@ -18,7 +18,8 @@ use Rattle.core_terms.specs.declared.trees.Range.{Range}
 use Rattle.meaning_laws.proofs.NumberTests.{lt_passes}
 use Rattle.fair_rounds.specs.Records.{are_in_ranges}
 use Rattle.rules_table.proofs.CalcSound.{range_at}
-use Rattle.rules_table.specs.Numbers.{count_up, numbers_of, args_from}
+use Rattle.meaning_executions.specs.Counting.{count_up}
+use Rattle.rules_table.specs.Numbers.{numbers_of, args_from}
 use Rattle.rules_table.specs.Terms.{is_range}
 use Rattle.meaning_states.proofs.StepTheorems.{and_left, and_right, both_true}
 use Rattle.meaning_states.specs.State.{int_eq}

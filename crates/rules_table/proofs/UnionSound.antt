@@ -26,7 +26,7 @@ use Rattle.meaning_laws.specs.Tests.{both_hold}
 use Rattle.fair_rounds.specs.Records.{holding, are_in_ranges, meets, NamedAt, EnsuresNamed, KindStands}
 use Rattle.executor.specs.CoreSystem.{core_system}
 use Rattle.fair_rounds.specs.declared.records.Record.{Record}
-use Rattle.meaning_documents.proofs.SystemTheorems.{map-append}
+use Rattle.std.proofs.lemmas.List.{map-append}
 use Rattle.meaning_executions.proofs.ExecutionTheorems.{kept}
 use Rattle.std.proofs.lemmas.List.{length-map}
 use Rattle.rules_table.proofs.CalcSound.{of_both, like}

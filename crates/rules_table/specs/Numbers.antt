@@ -1,14 +1,10 @@
 -- The numbers of a range, and a formula at one of them.
-use Rattle.std.specs.Prelude.{ℕ, zero, suc, nat_eq, ℤ, pos, ◌+ℤ◌, cond, List, [], ◌∷◌}
+use Rattle.std.specs.Prelude.{ℕ, suc, nat_eq, ℤ, pos, cond, List, [], ◌∷◌}
 use Rattle.core_terms.specs.Replacing.{form_at}
 use Rattle.core_terms.specs.declared.documents.Arg.{Arg}
 use Rattle.core_terms.specs.declared.trees.CForm.{CForm}
 use Rattle.core_terms.specs.declared.trees.Range.{Range}
-use Rattle.meaning_executions.specs.Counting.{range_size}
-
-abbrev pub count_up : ℤ → ℕ → List ℤ
-count_up z zero = []
-count_up z (suc n) = z ∷ count_up (z +ℤ pos 1) n
+use Rattle.meaning_executions.specs.Counting.{range_size, count_up}
 
 -- the numbers of a range, in order
 abbrev pub numbers_of : Range → List ℤ

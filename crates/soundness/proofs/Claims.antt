@@ -31,7 +31,8 @@ use Rattle.executor.specs.CoreSystem.{core_system}
 use Rattle.fair_rounds.specs.Records.{holding, are_in_ranges, KindHolds, Holds}
 use Rattle.rules_table.specs.Walk.{Plan, program_of}
 use Rattle.rules_table.proofs.WalkTheorems.{walk_sound}
-use Rattle.meaning_documents.specs.Steps.{claim_kind, Pairwise, ProofStep, of_proof, document_steps}
+use Rattle.meaning_documents.specs.Steps.{claim_kind, ProofStep, of_proof, document_steps}
+use Rattle.meaning_executions.specs.Pairwise.{Pairwise}
 use Rattle.expand_declarations.specs.References.{param_range}
 use Rattle.expand_rules.specs.Forming.{Scope}
 use Rattle.expand_steps.specs.Steps.{claim_p, claim_q, step_place}

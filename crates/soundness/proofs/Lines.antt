@@ -12,7 +12,8 @@ use Rattle.expand_declarations.specs.WordNumbers.{document_words, word_number}
 use Rattle.expand_correct.specs.Declared.WordLaws.{is_among}
 use Rattle.expand_correct.proofs.Declared.Found.{words_found}
 use Rattle.expand_fits_parts.proofs.Conditions.Programs.{each_has, last_has, itself}
-use Rattle.meaning_documents.specs.Steps.{Pairwise, ProofStep, document_steps}
+use Rattle.meaning_executions.specs.Pairwise.{Pairwise}
+use Rattle.meaning_documents.specs.Steps.{ProofStep, document_steps}
 use Rattle.expand_documents.specs.Cores.{core_document}
 use Rattle.schedule_replay.specs.Lines.{word_text}
 use Rattle.cli_texts.specs.Verdicts.{kind_text, step_line}

@@ -25,7 +25,7 @@ use Rattle.rules_table.proofs.SiteLaws.{met}
 use Rattle.rules_table.proofs.EnsuresSound.{some_item}
 use Rattle.rules_table.proofs.KindLaws.{defined_is}
 use Rattle.rules_table.proofs.StepSound.{defined_params}
-use Rattle.meaning_documents.specs.Steps.{Pairwise}
+use Rattle.meaning_executions.specs.Pairwise.{Pairwise}
 use Rattle.soundness.specs.PlanSteps.{CoreStep, of_program, core_steps, IsRecordOf, PlanIsSteps}
 use Rattle.soundness.specs.PlanSteps.{PlanIsStarted}
 use Rattle.soundness.proofs.Rules.{rule_gives}

@@ -4,10 +4,11 @@ use Rattle.unity_syntax.specs.declared.proof.Step.{Step}
 use Rattle.unity_syntax.specs.declared.proof.Proof.{Proof}
 use Rattle.unity_syntax.specs.declared.document.Part.{Part}
 use Rattle.unity_syntax.specs.declared.document.Document.{Document}
-use Rattle.meaning_documents.proofs.SystemTheorems.{map-append}
+use Rattle.std.proofs.lemmas.List.{map-append}
 use Rattle.rules_table.proofs.EachLaws.{Each, each_join, each_map}
 use Rattle.expand_declarations.specs.WordNumbers.{document_words, word_number}
-use Rattle.meaning_documents.specs.Steps.{proofs_among, Pairwise, ProofStep, of_proof, proof_steps, document_steps}
+use Rattle.meaning_documents.specs.Steps.{proofs_among, ProofStep, of_proof, proof_steps, document_steps}
+use Rattle.meaning_executions.specs.Pairwise.{Pairwise}
 use Rattle.expand_steps.specs.Steps.{core_step, core_proof}
 use Rattle.expand_documents.specs.Cores.{document_scope, core_document}
 use Rattle.expand_correct.proofs.Preserved.Proofs.{proofs_match}

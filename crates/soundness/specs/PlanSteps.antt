@@ -1,6 +1,6 @@
 -- The records of a plan: one for each step of a document in core form, in order.
 use Rattle.std.specs.Prelude.{◌≡◌, ℕ, List, [], ◌∷◌, ◌++◌, map, Bool, Ok, Some, IsTrue, slice_get}
-use Rattle.meaning_documents.specs.Steps.{Pairwise}
+use Rattle.meaning_executions.specs.Pairwise.{Pairwise}
 use Rattle.core_terms.specs.declared.programs.CProgram.{CProgram}
 use Rattle.core_terms.specs.declared.documents.CStep.{CStep}
 use Rattle.core_terms.specs.declared.documents.CProof.{CProof}

@@ -2,7 +2,8 @@
 use Rattle.std.specs.Prelude.{◌≡◌, ℕ, Bool, None, Some, Ok, slice_get}
 use Rattle.unity_syntax.specs.declared.document.Document.{Document}
 use Rattle.meaning_documents.specs.Claims.{Claims}
-use Rattle.meaning_documents.specs.Steps.{EachStep, Pairwise, ProofStep, of_proof, document_steps}
+use Rattle.meaning_documents.specs.Steps.{EachStep, ProofStep, of_proof, document_steps}
+use Rattle.meaning_executions.specs.Pairwise.{Pairwise}
 use Rattle.names_rules.specs.WellNamed.{IsWellNamed}
 use Rattle.core_terms.specs.declared.programs.CProgram.{CProgram}
 use Rattle.core_terms.specs.Conditions.{IsCoreDocument}

@@ -3,7 +3,8 @@ use Rattle.std.specs.Prelude.{◌≡◌, ℕ, Bool, List, [], ◌∷◌, ◌++�
 use Rattle.unity_syntax.specs.declared.document.Document.{Document}
 use Rattle.meaning_documents.specs.Claims.{Claims}
 use Rattle.core_terms.specs.declared.programs.CProgram.{CProgram}
-use Rattle.meaning_documents.specs.Steps.{claim_kind, Pairwise, ProofStep, document_steps}
+use Rattle.meaning_documents.specs.Steps.{claim_kind, ProofStep, document_steps}
+use Rattle.meaning_executions.specs.Pairwise.{Pairwise}
 use Rattle.expand_documents.specs.Cores.{core_document}
 use Rattle.rules_table.specs.Walk as walk
 use Rattle.proof_plans.specs.declared.plans.Plan.{Plan}

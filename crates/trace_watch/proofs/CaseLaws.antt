@@ -8,8 +8,7 @@ use Rattle.std.proofs.lemmas.Int.{ints}
 use Rattle.std.proofs.lemmas.Nat.{div-add-mod'}
 use Rattle.std.proofs.Math.Nat.{mul-le-mul_left}
 use Rattle.meaning_states.proofs.StepTheorems.{both_true}
-use Rattle.meaning_executions.specs.Counting.{natural}
-use Rattle.meaning_documents.specs.Value.{count_up}
+use Rattle.meaning_executions.specs.Counting.{natural, count_up}
 use Rattle.meaning_executions.specs.Counting.{range_size}
 use Rattle.core_terms.specs.declared.trees.Range.{Range}
 use Rattle.core_terms.proofs.BoolLaws.{le_passes}

@@ -1,7 +1,7 @@
 -- The cases of a step, one for each choice of numbers for its parameters, and how each is read.
 use Rattle.std.specs.Prelude.{ℕ, nat_eq, ◌+◌, ◌*◌, ℤ, List, [], ◌∷◌, ◌++◌, map, Bool, cond, Option, Some, None, sum}
 use Rattle.std.specs.List.{flat_map, position_from}
-use Rattle.meaning_documents.specs.Value.{count_up}
+use Rattle.meaning_executions.specs.Counting.{count_up}
 use Rattle.meaning_executions.specs.Counting.{range_size}
 use Rattle.core_terms.specs.declared.trees.Range.{Range}
 use Rattle.core_terms.specs.declared.programs.CProgram.{CProgram}

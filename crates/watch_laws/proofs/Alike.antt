@@ -14,7 +14,8 @@ use Rattle.meaning_documents.specs.Programs.{document_setting}
 use Rattle.meaning_executions.specs.Execution.{System}
 use Rattle.meaning_documents.specs.AsSystem.{system_of}
 use Rattle.meaning_documents.specs.Claims.{parameters, are_arguments, argument_bindings}
-use Rattle.meaning_documents.specs.Steps.{Pairwise, ProofStep, document_steps}
+use Rattle.meaning_executions.specs.Pairwise.{Pairwise}
+use Rattle.meaning_documents.specs.Steps.{ProofStep, document_steps}
 use Rattle.meaning_executions.specs.Alike.{StepEquivalent, SameAt}
 use Rattle.meaning_laws.proofs.AlikeTheorems.{alike_back}
 use Rattle.names_rules.specs.WellNamed.{IsWellNamed}

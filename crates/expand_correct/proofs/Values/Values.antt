@@ -24,9 +24,8 @@ use Rattle.meaning_states.specs.State.{State, int_eq}
 use Rattle.meaning_documents.specs.Names.{Bindings, Variable, Sight, with_name, number_of as number_named, or_else}
 use Rattle.meaning_documents.specs.Names.{or_zero, slot_at, slot_named, slot_number, word_value, element_value}
 use Rattle.meaning_documents.specs.Value as source
-use Rattle.meaning_documents.specs.Value.{Meaning, truth, holds, end_value, range_values}
-use Rattle.meaning_executions.specs.Counting.{range_size}
-use Rattle.meaning_documents.specs.Value.{count_up, total, value_layer, value}
+use Rattle.meaning_documents.specs.Value.{Meaning, truth, holds, end_value, range_values, total, value_layer, value}
+use Rattle.meaning_executions.specs.Counting.{range_size, count_up}
 use Rattle.core_terms.specs.declared.trees.CTerm.{CTerm}
 use Rattle.core_terms.specs.declared.trees.CTerm.TheVariants.{Const, Slot, Param}
 use Rattle.core_terms.specs.declared.trees.CForm.{CForm}

@@ -17,8 +17,8 @@ use Rattle.unity_syntax.specs.declared.statement.Item
 use Rattle.unity_syntax.specs.declared.statement.Item.{Item}
 use Rattle.unity_syntax.specs.declared.statement.Items.{Items}
 use Rattle.meaning_documents.specs.Names.{Bindings}
-use Rattle.meaning_executions.specs.Counting.{natural}
-use Rattle.meaning_documents.specs.Value.{end_value, range_ends, count_up, range_values}
+use Rattle.meaning_executions.specs.Counting.{natural, count_up}
+use Rattle.meaning_documents.specs.Value.{end_value, range_ends, range_values}
 use Rattle.meaning_executions.specs.Counting.{range_size}
 use Rattle.meaning_documents.specs.Instances.{Instance, Unfolding, item_instances, unfolded, instances}
 use Rattle.meaning_documents.proofs.InstanceLaws.{instances-Statement, instances-Quantified, instances-Items}

@@ -10,8 +10,7 @@ use Rattle.std.specs.List.{list_any}
 use Rattle.std.specs.Str.{bytes_eq}
 use Rattle.unity_syntax.specs.declared.declaration.Var.{Var}
 use Rattle.meaning_documents.specs.Names.{Variable}
-use Rattle.meaning_executions.specs.Counting.{range_size}
-use Rattle.meaning_documents.specs.Value.{count_up}
+use Rattle.meaning_executions.specs.Counting.{range_size, count_up}
 use Rattle.meaning_documents.specs.Setting.{element_type, type_indices, plain_range, slots_for, slot_count}
 use Rattle.meaning_documents.specs.Setting.{variable_from}
 use Rattle.meaning_documents.specs.Setting.{with_declaration, with_declarations}

@@ -2,7 +2,7 @@ use Rattle.std.proofs.Common.{◌≡◌, ◌∷◌, ◌+◌, ℤ, List, Err, Ok,
 use Rattle.std.proofs.lemmas.Result.{err_from_is_err_and}
 use Rattle.unity_syntax.specs.declared.statement.Assign.{Assign}
 use Rattle.unity_syntax.specs.declared.statement.Component.{Component}
-use Rattle.meaning_documents.specs.Value.{count_up}
+use Rattle.meaning_executions.specs.Counting.{count_up}
 use Rattle.expand_rules.specs.declared.cores.Bound.{Bound}
 use Rattle.expand_rules.specs.declared.effects.Effect.{Effect}
 use Rattle.expand_rules.specs.Forming.{with_number, numbers, fit_values, is_fixed_range}

@@ -1,5 +1,5 @@
 use Rattle.std.proofs.Common.{◌≡◌, ◌-◌, ◌≤◌, ◌+ℤ◌, pos, drop, fold, map}
-use Rattle.meaning_documents.specs.Value.{count_up}
+use Rattle.meaning_executions.specs.Counting.{count_up}
 use Rattle.expand_rules.specs.Forming.{with_number}
 use Rattle.expand_rules.specs.Assigning.{beside, component_effect, effect_of}
 use Rattle.expand_expressions.specs.Places.{scope}

@@ -3,7 +3,7 @@ use Rattle.std.proofs.Common.{subst}
 use Rattle.case_tables.specs.declared.symbol_table.Symbol.{Symbol}
 use Rattle.unity_syntax.specs.declared.expression.Expr.{Expr}
 use Rattle.unity_syntax.specs.declared.expression.Operator.{Operator}
-use Rattle.meaning_documents.specs.Value.{count_up}
+use Rattle.meaning_executions.specs.Counting.{count_up}
 use Rattle.expand_rules.specs.Forming.{fit_values, numbers}
 use Rattle.expand_rules.specs.Counts.{no_count, both_counts}
 use Rattle.expand_rules.specs.Forming.{unwritten_count, operand_in, quantified_count}

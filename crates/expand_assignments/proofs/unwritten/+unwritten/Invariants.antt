@@ -1,7 +1,7 @@
 use Rattle.std.proofs.Common.{map, fold, drop}
 use Rattle.case_tables.specs.declared.symbol_table.Symbol.{Symbol}
 use Rattle.unity_syntax.specs.declared.expression.Expr.{Expr}
-use Rattle.meaning_documents.specs.Value.{count_up}
+use Rattle.meaning_executions.specs.Counting.{count_up}
 use Rattle.expand_rules.specs.declared.effects.Count.{Count}
 use Rattle.expand_rules.specs.Counts.{both_counts}
 use Rattle.expand_rules.specs.Forming.{unwritten_count, operand_in}

@@ -2,7 +2,7 @@ use Rattle.std.proofs.Common.{◌≡◌, ◌+◌, ◌*◌, ◌^◌, ◌≤◌, m
 use Rattle.std.specs.Prelude.{fold}
 use Rattle.case_tables.specs.declared.symbol_table.Symbol.{Symbol}
 use Rattle.unity_syntax.specs.declared.expression.Expr.{Expr, size-Expr}
-use Rattle.meaning_documents.specs.Value.{count_up}
+use Rattle.meaning_executions.specs.Counting.{count_up}
 use Rattle.expand_rules.specs.Forming.{formed, factored, factor_in, plus, gathered, with_number}
 use Rattle.expand_expressions.specs.Sound.{IsSound}
 use Rattle.expand_expressions.specs.Joints.{joint_of}

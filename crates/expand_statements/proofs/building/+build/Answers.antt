@@ -5,7 +5,7 @@ use Rattle.std.specs.List.{flat_map}
 use Rattle.unity_syntax.specs.declared.statement.Item.{Item}
 use Rattle.unity_syntax.specs.declared.statement.Items.{Items}
 use Rattle.meaning_documents.specs.Instances.{Instance}
-use Rattle.meaning_documents.specs.Value.{count_up}
+use Rattle.meaning_executions.specs.Counting.{count_up}
 use Rattle.core_terms.specs.declared.programs.CStmt.{CStmt}
 use Rattle.expand_rules.specs.Forming.{numbers}
 use Rattle.expand_expressions.specs.Places.{bound_names}

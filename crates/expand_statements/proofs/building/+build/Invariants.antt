@@ -1,6 +1,6 @@
 use Rattle.std.proofs.Common.{◌≡◌, ◌∷◌, ◌++◌, ◌-◌, ◌+ℤ◌, pos, [], drop, map}
 use Rattle.std.specs.List.{flat_map}
-use Rattle.meaning_documents.specs.Value.{count_up}
+use Rattle.meaning_executions.specs.Counting.{count_up}
 use Rattle.expand_rules.specs.Forming.{numbers}
 use Rattle.expand_expressions.specs.Places.{bound_names}
 use Rattle.expand_statements.specs.Visiting.{scope_among}
