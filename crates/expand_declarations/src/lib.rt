@@ -6,6 +6,7 @@ mod elements;
 mod enumerations;
 mod laws;
 mod layout;
+mod lists;
 mod numbers;
 mod params;
 mod proof_texts;
@@ -19,6 +20,7 @@ mod words;
 pub use enumerations::enumeration_words;
 pub use laws::parts_before;
 pub use layout::{Laying, Layout, lay_out};
+pub use lists::first_and_rest;
 pub use numbers::{fixed_end, fixed_range, literal, offset};
 pub use params::{param_names, param_ranges, step_params};
 pub use references::{

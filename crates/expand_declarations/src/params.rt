@@ -6,6 +6,7 @@ ghost use Rattle.names_rules.specs.Declarations.{some_of};
 ghost use Rattle.expand_declarations.specs.WordNumbers.{word_number};
 ghost use Rattle.expand_declarations.specs.References as spec;
 
+use crate::lists::first_and_rest;
 use crate::numbers::fixed_range;
 use crate::words::WordTable;
 use core_terms::Range;
@@ -32,21 +33,6 @@ fn add_params<'a>(ps: &'a [Param], params: &mut ParamTable<'a>) -> Result<(), Al
     Ok(())
 }
 
-fn add_all_params<'a>(
-    list: &'a Option<(Param, Seq<Param>)>,
-    params: &mut ParamTable<'a>,
-) -> Result<(), AllocError>
-    ensures { OnOk result (entries params.new ≡ fold spec.with_param (entries params.old) (some_of list.now)) }
-{
-    match list {
-        None => Ok(()),
-        Some((first, rest)) => {
-            add_param(first, params)?;
-            add_params(rest.as_slice(), params)
-        }
-    }
-}
-
 /// The parameters of a step, with their numbers: from 0 on, in the order of the text.
 ///
 /// An error says that memory was refused.
@@ -56,8 +42,10 @@ pub fn step_params<'a>(
 ) -> Result<ParamTable<'a>, AllocError>
     ensures { IfOk result (λ params. entries params ≡ spec.step_params (some_of list.now)) }
 {
+    let (first, rest) = first_and_rest(list);
     let mut params = IndexMap::new(alloc);
-    add_all_params(list, &mut params)?;
+    add_params(first, &mut params)?;
+    add_params(rest, &mut params)?;
     Ok(params)
 }
 

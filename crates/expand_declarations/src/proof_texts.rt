@@ -7,6 +7,7 @@ ghost use Rattle.names_rules.specs.Declarations.{some_of};
 ghost use Rattle.expand_declarations.specs.Texts as texts_of;
 ghost use Rattle.expand_declarations.specs.WordNumbers.{with_texts};
 
+use crate::lists::first_and_rest;
 use crate::words::{Gathered, add_name};
 use std::alloc::AllocError;
 use unity_base::Seq;
@@ -39,13 +40,9 @@ fn add_using<'a>(
     ensures { OnOk result (seen_keys words.new
         ≡ with_texts (seen_keys words.old) (flat_map texts_of.ref_texts (some_of list.now))) }
 {
-    match list {
-        None => Ok(()),
-        Some((first, rest)) => {
-            add_ref(first, words)?;
-            add_refs(rest.as_slice(), words)
-        }
-    }
+    let (first, rest) = first_and_rest(list);
+    add_refs(first, words)?;
+    add_refs(rest, words)
 }
 
 fn add_helper<'a>(helper: &'a Option<Inst>, words: &mut Gathered<'a>) -> Result<(), AllocError>
@@ -136,13 +133,9 @@ fn add_all_params<'a>(
     ensures { OnOk result (seen_keys words.new
         ≡ with_texts (seen_keys words.old) (map (λ p. p.name.text) (some_of params.now))) }
 {
-    match params {
-        None => Ok(()),
-        Some((first, rest)) => {
-            add_name(&first.name, words)?;
-            add_params(rest.as_slice(), words)
-        }
-    }
+    let (first, rest) = first_and_rest(params);
+    add_params(first, words)?;
+    add_params(rest, words)
 }
 
 fn add_step<'a>(step: &'a Step, words: &mut Gathered<'a>) -> Result<(), AllocError>

@@ -7,6 +7,7 @@ ghost use Rattle.names_rules.specs.Declarations.{items_of, some_of};
 ghost use Rattle.expand_declarations.specs.Texts as texts_of;
 ghost use Rattle.expand_declarations.specs.WordNumbers.{with_texts, document_words};
 
+use crate::lists::first_and_rest;
 use crate::proof_texts::add_proof;
 use crate::words::{Gathered, WordTable, add_name, word_table};
 use indexmap::IndexSet;
@@ -172,13 +173,9 @@ fn add_choices<'a>(
     ensures { OnOk result (seen_keys words.new
         ≡ with_texts (seen_keys words.old) (map (λ c. c.label.text) (some_of choices.now))) }
 {
-    match choices {
-        None => Ok(()),
-        Some((first, rest)) => {
-            add_name(&first.label, words)?;
-            add_labels(rest.as_slice(), words)
-        }
-    }
+    let (first, rest) = first_and_rest(choices);
+    add_labels(first, words)?;
+    add_labels(rest, words)
 }
 
 fn add_schedule<'a>(

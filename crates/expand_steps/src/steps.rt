@@ -13,7 +13,7 @@ use crate::step_rules::{claim, rule};
 use crate::terms::{Here, param_bound};
 use core_terms::{CForm, CProof, CRule, CStep};
 use expand_declarations::{
-    WordTable, claim_kind, core_refs, param_names, param_ranges, step_params,
+    WordTable, claim_kind, core_refs, first_and_rest, param_names, param_ranges, step_params,
 };
 use expand_expressions::{Env as BoundEnv, Known, ParamBounds, among_params};
 use expand_rules::Flaws;
@@ -53,29 +53,16 @@ fn add_bounds<'a>(ps: &'a [Param], bounds: &mut ParamBounds<'a>) -> Result<(), A
     Ok(())
 }
 
-fn add_all_bounds<'a>(
-    list: &'a Option<(Param, Seq<Param>)>,
-    bounds: &mut ParamBounds<'a>,
-) -> Result<(), AllocError>
-    ensures { OnOk result (entries bounds.new ≡ fold spec.with_param_bound (entries bounds.old) (some_of list.now)) }
-{
-    match list {
-        None => Ok(()),
-        Some((first, rest)) => {
-            add_bound(first, bounds)?;
-            add_bounds(rest.as_slice(), bounds)
-        }
-    }
-}
-
 fn param_bounds<'a>(
     alloc: Global,
     list: &'a Option<(Param, Seq<Param>)>,
 ) -> Result<ParamBounds<'a>, AllocError>
     ensures { IfOk result (λ bounds. entries bounds ≡ spec.param_bounds (some_of list.now)) }
 {
+    let (first, rest) = first_and_rest(list);
     let mut bounds = IndexMap::new(alloc);
-    add_all_bounds(list, &mut bounds)?;
+    add_bounds(first, &mut bounds)?;
+    add_bounds(rest, &mut bounds)?;
     Ok(bounds)
 }
 
