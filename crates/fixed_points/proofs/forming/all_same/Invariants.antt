@@ -1,7 +1,7 @@
 use Rattle.std.proofs.Common.{◌≡◌, map, drop}
 use Rattle.wp_substitution.specs.Joined.{joined_all, ConjunctionKnown}
 use Rattle.fixed_points.specs.FixedForms.{same_value}
-use Rattle.fixed_points.proofs.forming.add_same.Given as goal
+use Rattle.fixed_points.proofs.forming.all_same.Given as goal
 
 abbrev pub invariant-loop-w : goal.invariant-loop-w
 invariant-loop-w l =
