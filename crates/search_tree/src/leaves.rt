@@ -12,19 +12,19 @@ ghost use Rattle.obligations.specs.Reach.{some_out_of_reach};
 ghost use Rattle.obligations.specs.Settling.{settled, added};
 ghost use Rattle.search_tree.specs.Halves.{half_ranges, half_fact};
 ghost use Rattle.search_tree.specs.Searching.{Ready};
-ghost use Rattle.search_tree.specs.Sides.{side_of};
+ghost use Rattle.obligations.specs.Sides.{side_of};
 ghost use Rattle.search_tree.specs.Views.{IsView, IsReady, IsReadyAbove, leaves_at, leaves_above};
 ghost use Rattle.search_tree.specs.Views.{leaves_by_quotient, leaves_by_halves};
 
 use crate::closing::some_out_of_reach;
 use crate::halves::{Half, Halves, first_halves, ranges_in, take_half};
 use crate::marks::{cut_back, mark_of};
-use crate::sides::{Side, is_either, settle_side};
 use crate::taking::take_quotient;
 use crate::views::View;
 use core_terms::CForm;
 use obligations::{
-    Branch, Obligation, Replaced, has_room, next_param, open_branch, without_quotient,
+    Branch, Obligation, Replaced, Side, has_room, is_either, next_param, open_branch, settle_side,
+    without_quotient,
 };
 use std::alloc::{AllocError, Global};
 

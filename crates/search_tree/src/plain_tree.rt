@@ -9,7 +9,7 @@ ghost use Rattle.obligations.specs.Plain.{first_cut, waiting_only, plain_leaves}
 ghost use Rattle.obligations.specs.Quotients.{is_either, with_quotient};
 ghost use Rattle.search_tree.specs.Halves.{half_ranges, half_fact};
 ghost use Rattle.search_tree.specs.Searching.{Ready, Ends, IsClosed};
-ghost use Rattle.search_tree.specs.Sides.{side_of};
+ghost use Rattle.obligations.specs.Sides.{side_of};
 ghost use Rattle.search_tree.specs.Views.{IsView, IsReady, IsReadyAbove, EndsAt, EndsAbove, leaves_above};
 ghost use Rattle.search_tree.specs.Views.{leaves_by_quotient, leaves_by_halves};
 
@@ -17,12 +17,13 @@ use crate::closing::try_close;
 use crate::halves::{Half, Halves, first_halves, split_node, take_half};
 use crate::leaf::refute_leaf;
 use crate::marks::{cut_back, mark_of};
-use crate::sides::{Side, is_either, settle_side};
 use crate::taking::take_quotient;
 use crate::trail::{Ended, Trail, put_node};
 use crate::views::View;
 use core_terms::CForm;
-use obligations::{Branch, Node, Replaced, next_param, without_quotient};
+use obligations::{
+    Branch, Node, Replaced, Side, is_either, next_param, settle_side, without_quotient,
+};
 use std::alloc::{AllocError, Global};
 
 /// Refutes a branch by its first waiting formula, which was taken out: by the two sides of an `Or`, or by taking a

@@ -3,9 +3,9 @@ use Rattle.obligations.specs.Plain.{waiting_only, plain_leaves, cut_leaves}
 use Rattle.obligations.specs.Reach.{are_exact, some_out_of_reach}
 use Rattle.obligations.specs.Settling.{settled, added}
 use Rattle.search_tree.specs.declared.halves.Half.{Half}
-use Rattle.search_tree.specs.declared.sides.Side.{Side}
+use Rattle.obligations.specs.declared.sides.Side.{Side}
 use Rattle.search_tree.specs.Halves.{half_ranges, half_fact}
-use Rattle.search_tree.specs.Sides.{side_of}
+use Rattle.obligations.specs.Sides.{side_of}
 use Rattle.search_tree.proofs.CycleLaws.{whole-again, empty-list, replaced-is, quot-counted}
 use Rattle.search_tree.proofs.LeavesLaws.{few-counted, reached-leaf, whole-leaf, opened-leaves, halved-leaves}
 use Rattle.search_tree.proofs.LeavesLaws.{quotient-counted, counted-back, part-counted, parts-counted}
@@ -124,7 +124,7 @@ pub leaves_of_side-some_leaves-requires : goal.leaves_of_side-some_leaves-requir
 leaves_of_side-some_leaves-requires t c = (
   search rules,
   in-side c.args.view c.args.branch.now c.settle_side.new.branch (side_of c.args.side c.args.form.now)
-      c.in_ok-settle_side.ensures c.requires.view c.requires.ready,
+      c.in_ok-settle_side.ensures.branch c.requires.view c.requires.ready,
 )
 
 pub leaves_of_halves-leaves_of_half-requires : goal.leaves_of_halves-leaves_of_half-requires

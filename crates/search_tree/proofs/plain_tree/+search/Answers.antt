@@ -3,11 +3,11 @@ use Rattle.obligations.specs.declared.branches.Fact.{Fact}
 use Rattle.obligations.specs.Plain.{waiting_only, plain_leaves, cut_leaves}
 use Rattle.obligations.specs.Settling.{settled, added}
 use Rattle.search_tree.specs.declared.halves.Half.{Half}
-use Rattle.search_tree.specs.declared.sides.Side.{Side}
+use Rattle.obligations.specs.declared.sides.Side.{Side}
 use Rattle.search_tree.specs.declared.trail.Ended.{Ended}
 use Rattle.search_tree.specs.Halves.{half_ranges, half_fact}
 use Rattle.search_tree.specs.Searching.{Ends}
-use Rattle.search_tree.specs.Sides.{side_of}
+use Rattle.obligations.specs.Sides.{side_of}
 use Rattle.search_tree.proofs.SearchLaws.{shortly-ends}
 use Rattle.search_tree.proofs.ReadyLaws.{leaves-some, ready-some, leaf-count}
 use Rattle.search_tree.proofs.CycleLaws.{tried-some, empty-list, taken, not-taken, kept, put-is, stop-is}
@@ -177,7 +177,7 @@ pub refute_side-refute-requires : goal.refute_side-refute-requires
 refute_side-refute-requires t c = (
   search rules,
   in-side c.args.view c.args.branch.now c.settle_side.new.branch (side_of c.args.side c.args.form.now)
-      c.in_ok-settle_side.ensures c.requires.view c.requires.ready,
+      c.in_ok-settle_side.ensures.branch c.requires.view c.requires.ready,
 )
 
 pub refute_halves-refute_half-requires : goal.refute_halves-refute_half-requires
