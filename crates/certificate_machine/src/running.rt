@@ -71,7 +71,7 @@ impl Running {
     /// Goes on with the line, where the sum stands in itself.
     #[cold]
     #[inline(never)]
-    pub fn spread_out(&mut self)
+    fn spread_out(&mut self)
         ensures line { sum_line self.new ≡ sum_line self.old }
         ensures wide { self.new.is_few ≡ false }
     {
