@@ -2,5 +2,3 @@ pub mod ScopedLaws
 pub mod MachineLaws
 pub mod QuotLaws
 pub mod SpanLaws
-pub mod TermLaws
-pub mod RunningLaws

@@ -1,5 +1,3 @@
 pub mod Machines
 pub mod Spans
-pub mod Spots
 pub mod Sums
-pub mod Terms

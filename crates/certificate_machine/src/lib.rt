@@ -3,11 +3,9 @@
 
 mod errors;
 mod facts;
-mod few;
 mod frames;
 mod nodes;
 mod running;
-mod wide;
 
 pub use errors::Stop;
 pub use frames::{Frame, Machine, Todo};

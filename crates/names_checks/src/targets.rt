@@ -7,7 +7,7 @@ ghost use Rattle.names_rules.specs.Reading.{all_beside};
 ghost use Rattle.names_rules.specs.Statements.{index_reading, target_head, target_reading, target_word};
 ghost use Rattle.names_rules.specs.Answers.{Notes};
 
-use crate::checks::{demand, unknown};
+use crate::checks::demand;
 use crate::walk::value;
 use crate::words::Table;
 use case_tables::Code;
@@ -31,11 +31,18 @@ fn target_word(
 ) -> Result<(), NameFault>
     ensures { Notes result table.old table.new (target_word name.now indexed named) }
 {
-    let named = named.ok_or(unknown(name))?;
-    demand(is_variable(named.meaning), Code::Unknown, name.at)?;
-    demand(named.indices.is_some() == indexed, Code::WrongType, name.at)?;
-    table.push((name.at, named.meaning))?;
-    Ok(())
+    match named {
+        Some(named) => {
+            demand(is_variable(named.meaning), Code::Unknown, name.at)?;
+            demand(named.indices.is_some() == indexed, Code::WrongType, name.at)?;
+            table.push((name.at, named.meaning))?;
+            Ok(())
+        }
+        None => Err(NameFault::Fault {
+            code: Code::Unknown,
+            at: name.at,
+        }),
+    }
 }
 
 /// A target: a variable, with an index where it is an array.

@@ -28,4 +28,3 @@ pub mod OccurrenceLaws
 pub mod OrderLaws
 pub mod ObligationLaws
 pub mod NumberLaws
-pub mod SideLaws

@@ -1,3 +1,4 @@
+pub mod SideLaws
 pub mod SearchLaws
 pub mod HalfLaws
 pub mod MarkLaws

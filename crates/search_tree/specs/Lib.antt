@@ -5,6 +5,7 @@ pub mod Points
 pub mod Searching
 pub mod Ends
 pub mod Laws
+pub mod Sides
 pub mod Views
 pub mod Halves
 pub mod Marks

@@ -92,17 +92,15 @@ fn sum_node<'a>(alloc: Global, depth: u32, text: Cursor<'a>) -> Parsed<'a, Node>
     Ok((Node::Sum { at, pairs }, text))
 }
 
-/// `word [ "-" ] number { pair }`
+/// `[ "-" ] number { pair }`
 fn signed_multiples<'a>(
     alloc: Global,
     depth: u32,
-    word: Word,
     text: Cursor<'a>,
 ) -> Parsed<'a, (bool, u64, Seq<Pair>)>
     ensures { Reads (λ x. pair (view_flag x.0) (pair (view_number x.1) (view_list view_pair x.2))) result
-        (past (reserved word) (both minus_ (both number_ (many multiple_)))) depth text.entry }
+        (both minus_ (both number_ (many multiple_))) depth text.entry }
 {
-    let text = text.reserved(word)?;
     let (minus, text) = text.minus();
     let (number, text) = text.number()?;
     let (pairs, text) = multiples(alloc, depth, text)?;
@@ -116,7 +114,8 @@ fn round_node<'a>(alloc: Global, depth: u32, text: Cursor<'a>) -> Parsed<'a, Nod
         depth text.entry }
 {
     let at = text.place();
-    let ((minus, divisor, pairs), text) = signed_multiples(alloc, depth, Word::Round, text)?;
+    let text = text.reserved(Word::Round)?;
+    let ((minus, divisor, pairs), text) = signed_multiples(alloc, depth, text)?;
     let node = Node::Round {
         at,
         minus,
@@ -143,7 +142,8 @@ fn share_node<'a>(alloc: Global, depth: u32, text: Cursor<'a>) -> Parsed<'a, Nod
         depth text.entry }
 {
     let at = text.place();
-    let ((minus, constant, pairs), text) = signed_multiples(alloc, depth, Word::Share, text)?;
+    let text = text.reserved(Word::Share)?;
+    let ((minus, constant, pairs), text) = signed_multiples(alloc, depth, text)?;
     let node = Node::Share {
         at,
         minus,
