@@ -425,11 +425,10 @@ split-opens vs b v place k low most g ev inside el em eg =
     below a b h = grind arith
 
 -- the two branches of a statement
-pub share-opens : (b : Branch) (r : Result Line Code) (l m : Line) (g h : Fact) → r ≡ Ok l → m ≡ below_0 l →
-    g ≡ fact_of m → h ≡ fact_of l → made_share b r ≡ opens (added b g ∷ added b h ∷ [])
-share-opens b r l m g h er em eg eh =
+pub share-opens : (b : Branch) (r : Result Line Code) (l : Line) (g h : Fact) → r ≡ Ok l → g ≡ fact_of (below_0 l) →
+    h ≡ fact_of l → made_share b r ≡ opens (added b g ∷ added b h ∷ [])
+share-opens b r l g h er eg eh =
     ap (made_share b) er
-    ∙ ap (λ x. opens (added b (fact_of x) ∷ added b (fact_of l) ∷ [])) (sym em)
     ∙ ap (λ x. opens (added b x ∷ added b (fact_of l) ∷ [])) (sym eg)
     ∙ ap (λ x. opens (added b g ∷ added b x ∷ [])) (sym eh)
 
@@ -491,12 +490,6 @@ insert-light n f old new e k h =
     ap (list_all (is_light (2 ^ 63))) e ∙ insert-all (is_light (2 ^ 63)) old n f h k
 
 pub ruleset insert_laws = insert-light
-
-pub onto-light : (vs : List Variable) (f : CForm) (old new : Branch) → new ≡ settled vs f old →
-    (need f).yes ≤ 2 ^ 63 → is_light_branch (2 ^ 63) old ≡ true → is_light_branch (2 ^ 63) new ≡ true
-onto-light vs f old new e k h = ap (is_light_branch (2 ^ 63)) e ∙ settled-light vs (2 ^ 63) f old k h
-
-pub ruleset settled_laws = onto-light
 
 pub added-light : (f : Fact) (old new : Branch) → new ≡ added old f → is_light_branch (2 ^ 63) old ≡ true →
     is_light_branch (2 ^ 63) new ≡ true

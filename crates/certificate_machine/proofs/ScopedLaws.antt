@@ -50,11 +50,6 @@ pub line-count : (vs us : List Variable) (m : Machine) (l : Line) → AreOwn vs 
 line-count vs us m l own is e size =
     let few = (machine-variables vs us m own is e).count in omega (arith, size, few)
 
-pub below-count : (l n : Line) → n ≡ below_0 l → length l.factors < 2 ^ 32 → length n.factors < 2 ^ 32
-below-count l n e few =
-    let size = ap (λ (k : Line). length k.factors) e in
-    let same = length-map l.factors neg_ℤ in omega (arith, size, same, few)
-
 -- where a level is left, one more can be added
 pub machine-room : (vs : List Variable) (m : Machine) → AreOwn vs → IsScoped vs m → 0 < m.levels →
     HasRoom m.variables

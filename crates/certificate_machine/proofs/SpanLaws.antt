@@ -78,18 +78,9 @@ zeros-are (x ∷ xs) (y ∷ zs) h z =
     is-pos0 : (y : ℤ) → is_zero y ≡ true → y ≡ pos 0
     is-pos0 y h = grind arith
 
--- a line of zeros with a number
-pub begun : {A E : Type 0} (r : Result A E) (vs : List Variable) (zs : List ℤ) (k z : ℤ) →
-    OnOk r (length zs ≡ length vs) → are_zero zs ≡ true → z ≡ k →
-    OnOk r (◌≡◌ {A = Line} (record { factors = zs; constant = z }) (line_of_const vs k))
-begun (Ok x) vs zs k z h none e =
-    ap (λ ys. record { factors = ys; constant = z }) (zeros-are vs zs h none)
-    ∙ ap (λ c. record { factors = zeros vs; constant = c }) e
-begun (Err x) vs zs k z h none e = tt
-
 -- Something is added at a place of the span.
 
-first-kept : (zs : List ℤ) (low p : ℕ) (d : ℤ) → low ≤ p → take low (add_at zs p d) ≡ take low zs
+pub first-kept : (zs : List ℤ) (low p : ℕ) (d : ℤ) → low ≤ p → take low (add_at zs p d) ≡ take low zs
 first-kept zs zero p d h = refl
 first-kept [] (suc low) p d h = refl
 first-kept (x ∷ zs) (suc low) zero d h = absurd (omega arith)
@@ -143,7 +134,7 @@ taken-none zero = refl
 taken-none (suc n) = refl
 
 module _ (test : ℤ → Bool) (zero-too : test (pos 0) ≡ true) where
-  all-zeros : (zs : List ℤ) → are_zero zs ≡ true → list_all test zs ≡ true
+  pub all-zeros : (zs : List ℤ) → are_zero zs ≡ true → list_all test zs ≡ true
   all-zeros [] z = refl
   all-zeros (x ∷ zs) z =
       let p = and_parts (is_zero x) (are_zero zs) z in
@@ -176,10 +167,10 @@ module _ (test : ℤ → Bool) (zero-too : test (pos 0) ≡ true) where
 -- Nor do the zeros count where each number is changed, and 0 to 0.
 
 module _ (g : ℤ → ℤ) (zero-to-zero : g (pos 0) ≡ pos 0) where
-  to-zero : (x : ℤ) → is_zero x ≡ true → is_zero (g x) ≡ true
+  pub to-zero : (x : ℤ) → is_zero x ≡ true → is_zero (g x) ≡ true
   to-zero x h = let e : x ≡ pos 0 = grind arith in ap is_zero (ap g e ∙ zero-to-zero)
 
-  no-terms : (zs : List ℤ) (n : ℕ) → are_zero zs ≡ true → sparse n (map g zs) ≡ []
+  pub no-terms : (zs : List ℤ) (n : ℕ) → are_zero zs ≡ true → sparse n (map g zs) ≡ []
   no-terms [] n z = refl
   no-terms (x ∷ zs) n z =
       let p = and_parts (is_zero x) (are_zero zs) z in

@@ -12,9 +12,9 @@ ghost use Rattle.certificate_machine.specs.Machines.{pendings};
 ghost use Rattle.certificate_machine.specs.Machines.{IsFit, rest_of, is_light_todo, IsLightMachine};
 ghost use Rattle.certificate_machine.specs.Machines.{IsScoped, spent};
 
-use crate::facts::{add, bound_below, settle_second};
+use crate::facts::{add, bound_below};
 use core_terms::CForm;
-use obligations::{Branch, Fact, Variable};
+use obligations::{Branch, Fact, Side, Variable, settle_side};
 use std::alloc::{AllocError, Global};
 use unity_base::{Held, Seq, Shared};
 
@@ -110,7 +110,7 @@ fn go_second(
 {
     match todo {
         Todo::Form { place, form } => {
-            settle_second(alloc, vs, form.get(), branch)?;
+            settle_side(alloc, vs, form.get(), Side::Second, branch)?;
             Ok(Todo::Form { place, form })
         }
         Todo::Bound { variable, most } => {

@@ -3,9 +3,11 @@
 
 mod errors;
 mod facts;
+mod few;
 mod frames;
 mod nodes;
 mod running;
+mod wide;
 
 pub use errors::Stop;
 pub use frames::{Frame, Machine, Todo};

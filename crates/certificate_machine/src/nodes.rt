@@ -13,13 +13,12 @@ ghost use Rattle.certificate_machine.specs.Machines.{GoesErr, IsScoped};
 ghost use Rattle.certificate_machine.specs.Sums.{sum_line};
 
 use crate::errors::Stop;
-use crate::facts::{add, bound_above, settle_first};
+use crate::facts::{add, bound_above};
 use crate::frames::{Frame, Machine, Todo, go_back};
 use crate::running::Running;
 use case_tables::Code;
-use certificate_rules::below_0;
 use obligations::{
-    Line, Variable, add_quotient, fact_from, is_either, next_param, without_quotient,
+    Side, Variable, add_quotient, is_either, next_param, settle_side, without_quotient,
 };
 use std::alloc::Global;
 use unity_base::Held;
@@ -49,10 +48,11 @@ pub fn open_case(alloc: Global, vs: &[Variable], machine: &mut Machine, k: u64) 
     let facts = machine.branch.facts.len();
     let waits = machine.branch.waiting.len();
     let added = machine.branch.added;
-    settle_first(
+    settle_side(
         alloc,
         machine.variables.as_slice(),
         form.get(),
+        Side::First,
         &mut machine.branch,
     )?;
     machine.frames.push(Frame {
@@ -160,7 +160,7 @@ pub fn open_share(
     alloc: Global,
     vs: &[Variable],
     machine: &mut Machine,
-    line: &Line,
+    sum: &Running,
 ) -> Result<(), Stop>
     requires own { AreOwn vs.now }
     requires scoped { IsScoped vs.now machine.old }
@@ -168,28 +168,25 @@ pub fn open_share(
     requires levels { 0 < machine.old.levels }
     requires going { machine.old.done ≡ false }
     requires light { IsLightMachine machine.old }
-    requires size { length line.now.factors ≡ length machine.old.variables }
-    requires factors { list_all is_small line.now.factors ≡ true }
-    requires constant { is_small line.now.constant ≡ true }
+    requires size { length (sum_line sum.now).factors ≡ length machine.old.variables }
+    requires factors { list_all is_small (sum_line sum.now).factors ≡ true }
+    requires constant { is_small (sum_line sum.now).constant ≡ true }
     ensures ok { OnOk result
-        (Goes vs.now machine.old (made_share machine.old.branch (Ok line.now)) machine.new) }
+        (Goes vs.now machine.old (made_share machine.old.branch (Ok (sum_line sum.now))) machine.new) }
     ensures light { OnOk result (IsLightMachine machine.new) }
     ensures scoped { OnOk result (IsScoped vs.now machine.new) }
-    ensures err { IfErr result (GoesErr vs.now machine.old (made_share machine.old.branch (Ok line.now))) }
+    ensures err { IfErr result (GoesErr vs.now machine.old (made_share machine.old.branch (Ok (sum_line sum.now)))) }
 {
     let facts = machine.branch.facts.len();
     let waits = machine.branch.waiting.len();
     let added = machine.branch.added;
-    add(
-        &mut machine.branch,
-        fact_from(alloc, &below_0(alloc, line)?)?,
-    )?;
+    add(&mut machine.branch, sum.statement(alloc, true)?)?;
     machine.frames.push(Frame {
         levels: machine.levels,
         facts,
         waits,
         added,
-        todo: Todo::Fact(Held::new(alloc, fact_from(alloc, line)?)?),
+        todo: Todo::Fact(Held::new(alloc, sum.statement(alloc, false)?)?),
         first: true,
     })?;
     machine.levels -= 1;

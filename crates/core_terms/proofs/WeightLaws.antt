@@ -1,7 +1,9 @@
 -- Folding raises no weight.
-use Rattle.std.proofs.Common.{◌≡◌, ℕ, ◌≤◌, ℤ, [], Bool, true, false, cond, Option, Some, None, sym, subst}
+use Rattle.std.proofs.Common.{◌≡◌, ℕ, ◌≤◌, ℤ, [], Bool, true, false, cond, Option, Some, None, sym, ap, subst}
 use Rattle.std.proofs.Common.{arith}
 use Rattle.std.specs.Int.RustNames.{unsigned_abs}
+use Rattle.meaning_states.specs.Division.{divisor}
+use Rattle.core_terms.specs.declared.known.Dividing.{Dividing}
 use Rattle.core_terms.specs.declared.trees.CTerm.{CTerm, out-CTerm, fold_out-CTerm}
 use Rattle.core_terms.specs.declared.trees.CTerm.TheVariants.{Const, rolls-Const}
 use Rattle.core_terms.specs.declared.trees.CForm.{CForm}
@@ -10,6 +12,7 @@ use Rattle.core_terms.specs.declared.trees.CForm.TheOpen.{CTerm-F}
 use Rattle.core_terms.specs.Weights.{Weights, weighing, weigh_term, weigh_form, term_weights, form_weight, one_weight}
 use Rattle.core_terms.specs.Weights.{plain_weights, plain_weight}
 use Rattle.core_terms.specs.Folding.{number_of, truth_of, is_small, constant_or, truth_or, folded_term, folded_form}
+use Rattle.core_terms.specs.Senses.{divided_weights}
 use Rattle.core_terms.proofs.TreeFolds.{term_layer, fold_form_is, fold_term_is}
 use Rattle.core_terms.proofs.HeavierLaws.{weight_steps}
 use Rattle.core_terms.proofs.FoldingLaws.{Right, term_right}
@@ -45,6 +48,14 @@ weight-Bottom slots params = fold_form_is (weight_steps slots params) _ _ rolls-
 -- one term weighs at most as another, itself and with its parts
 abbrev pub Lighter : Weights → Weights → Type 0
 Lighter v w = (v.own ≤ w.own) × (v.most ≤ w.most)
+
+-- a quotient or a remainder of a lighter term is lighter
+pub divided_lighter : (which : Dividing) (k l : ℤ) (v w : Weights) → l ≡ k → Lighter v w →
+    Lighter (divided_weights which l v) (divided_weights which k w)
+divided_lighter Dividing.Quotient k l v w e h =
+    let same = ap (λ z. unsigned_abs (divisor z)) e in (omega (arith, h.0), omega (arith, same, h.0, h.1))
+divided_lighter Dividing.Remainder k l v w e h =
+    let same = ap (λ z. unsigned_abs (divisor z)) e in (omega (arith, same, h.0), omega (arith, same, h.0, h.1))
 
 constant_lighter : (slots params : ℕ → ℕ) (t : CTerm) (v : ℤ) (m : Option ℤ) → Right m v
     (term_weights slots params t).own →

@@ -4,9 +4,9 @@ ghost use Rattle.std.specs.Prelude.{◌≡◌, Some, slice_get, IfOk};
 ghost use Rattle.core_terms.specs.declared.trees.CTerm.TheVariants as term;
 ghost use Rattle.core_terms.specs.declared.trees.CForm.TheVariants as form;
 ghost use Rattle.core_terms.specs.Pools.{pooled, IsPool, Grows};
-ghost use Rattle.core_terms.specs.Senses.{pair_node, sense_node, joined_node};
+ghost use Rattle.core_terms.specs.Senses.{pair_node, divided_node, sense_node, joined_node};
 
-use crate::known::{Joining, Pairing, Sense};
+use crate::known::{Dividing, Joining, Pairing, Sense};
 use crate::nodes::{FormId, TermId};
 use crate::placing;
 use crate::tables::Tables;
@@ -98,8 +98,8 @@ pub fn put_term(tables: &mut Tables, t: &CTerm) -> Result<TermId, AllocError>
         CTerm::Add(a, b) => put_pair(tables, Pairing::Sum, a, b),
         CTerm::Sub(a, b) => put_pair(tables, Pairing::Difference, a, b),
         CTerm::Scale(k, a) => put_multiple(tables, *k, a),
-        CTerm::Div(a, k) => put_quotient(tables, a, *k),
-        CTerm::Mod(a, k) => put_remainder(tables, a, *k),
+        CTerm::Div(a, k) => put_divided(tables, Dividing::Quotient, a, *k),
+        CTerm::Mod(a, k) => put_divided(tables, Dividing::Remainder, a, *k),
         CTerm::Ite(c, a, b) => put_choice(tables, c, a, b),
     }
 }
@@ -140,27 +140,20 @@ fn put_multiple(tables: &mut Tables, k: i64, a: &Shared<CTerm>) -> Result<TermId
 #[cycle(interning)]
 #[inline(never)]
 #[tactic(auto, using(crate::proofs::PoolLaws::grown))]
-fn put_quotient(tables: &mut Tables, a: &Shared<CTerm>, k: i64) -> Result<TermId, AllocError>
+fn put_divided(
+    tables: &mut Tables,
+    which: Dividing,
+    a: &Shared<CTerm>,
+    k: i64,
+) -> Result<TermId, AllocError>
     requires whole { IsPool (pooled tables.old) }
-    ensures tree { IfOk result (λ id. slice_get (pooled tables.new).terms id.place ≡ Some (term.Div a.now k)) }
+    ensures tree { IfOk result (λ id. slice_get (pooled tables.new).terms id.place ≡
+        Some (divided_node which a.now k)) }
     ensures whole { IsPool (pooled tables.new) }
     ensures kept { Grows (pooled tables.old) (pooled tables.new) }
 {
     let part = put_term(tables, a.get())?;
-    placing::place_quotient(tables, part, k)
-}
-
-#[cycle(interning)]
-#[inline(never)]
-#[tactic(auto, using(crate::proofs::PoolLaws::grown))]
-fn put_remainder(tables: &mut Tables, a: &Shared<CTerm>, k: i64) -> Result<TermId, AllocError>
-    requires whole { IsPool (pooled tables.old) }
-    ensures tree { IfOk result (λ id. slice_get (pooled tables.new).terms id.place ≡ Some (term.Mod a.now k)) }
-    ensures whole { IsPool (pooled tables.new) }
-    ensures kept { Grows (pooled tables.old) (pooled tables.new) }
-{
-    let part = put_term(tables, a.get())?;
-    placing::place_remainder(tables, part, k)
+    placing::place_divided(tables, which, part, k)
 }
 
 #[cycle(interning)]

@@ -3,11 +3,10 @@ ghost use Rattle.std.specs.Prelude.{◌≡◌, ◌+◌, ◌*◌, ◌^◌, ◌≤
 ghost use Rattle.std.specs.Prelude.{None, cond};
 ghost use Rattle.std.specs.Option.{option_map};
 ghost use Rattle.std.specs.Int.RustNames.{unsigned_abs};
-ghost use Rattle.meaning_states.specs.Division.{divisor, floored, rest_of};
+ghost use Rattle.meaning_states.specs.Division.{floored, rest_of};
 ghost use Rattle.core_terms.specs.Weights.{plain_weights, plain_weight, sum_weights, multiple_weights, choice_weights};
-ghost use Rattle.core_terms.specs.Weights.{quotient_weights, remainder_weights};
 ghost use Rattle.core_terms.specs.Folding as fold;
-ghost use Rattle.core_terms.specs.Senses.{paired_term, sense_form, joined_form};
+ghost use Rattle.core_terms.specs.Senses.{paired_term, divided_term, divided_weights, sense_form, joined_form};
 
 use crate::closed::{quotient, remainder, scaled};
 use crate::copies::owned_term;
@@ -21,6 +20,13 @@ use unity_base::Shared;
 pub enum Pairing {
     Sum,
     Difference,
+}
+
+/// What a division by a number gives: the quotient, rounded down, or the remainder.
+#[derive(Clone, Copy)]
+pub enum Dividing {
+    Quotient,
+    Remainder,
 }
 
 /// Of a term, that it is at least 0, or that it is 0.
@@ -164,26 +170,35 @@ fn scaled_number(k: i64, a: &CTerm, part: Option<i128>) -> Option<i128>
     Some(scaled(k, part?))
 }
 
-/// A term divided by a number, rounded down, folded; the division is by 1 where the number is less.
+/// The quotient or the remainder of a term by a number, folded; the division is by 1 where the number is less.
 /// `number` is the number of the term before the call and that of the result after it; there is none where
 /// a slot or a parameter is named.
 ///
 /// An error says that memory was refused.
 #[inline(never)]
-pub fn quotient_known(
+pub fn divided_known(
     alloc: Global,
+    which: Dividing,
     k: i64,
     a: Shared<CTerm>,
     number: &mut Option<i128>,
 ) -> Result<Shared<CTerm>, AllocError>
     requires { number.old ≡ fold.number_of a }
-    ensures tree { IfOk result (λ t. t ≡ fold.quotient_term k a) }
+    ensures tree { IfOk result (λ t. t ≡ divided_term which k a) }
     ensures number { IfOk result (λ t. number.new ≡ fold.number_of t) }
-    ensures own { IfOk result (λ t. (plain_weights t).own ≤ max 1 (plain_weights a).own) }
-    ensures most { IfOk result (λ t. (plain_weights t).most ≤ (quotient_weights k (plain_weights a)).most) }
+    ensures own { IfOk result (λ t. (plain_weights t).own ≤ (divided_weights which k (plain_weights a)).own) }
+    ensures most { IfOk result (λ t. (plain_weights t).most ≤ (divided_weights which k (plain_weights a)).most) }
 {
-    *number = quotient_number(k, *number);
-    placed_term(alloc, CTerm::Div(a, k), *number)
+    match which {
+        Dividing::Quotient => {
+            *number = quotient_number(k, *number);
+            placed_term(alloc, CTerm::Div(a, k), *number)
+        }
+        Dividing::Remainder => {
+            *number = remainder_number(k, *number);
+            placed_term(alloc, CTerm::Mod(a, k), *number)
+        }
+    }
 }
 
 // The number of a quotient, from that of its part.
@@ -191,29 +206,6 @@ fn quotient_number(k: i64, part: Option<i128>) -> Option<i128>
     ensures { result ≡ option_map (λ x. floored x k) part }
 {
     Some(quotient(part?, k))
-}
-
-/// What the division of a term by a number leaves, folded; the division is by 1 where the number is less.
-/// `number` is the number of the term before the call and that of the result after it; there is none where
-/// a slot or a parameter is named.
-///
-/// An error says that memory was refused.
-#[inline(never)]
-pub fn remainder_known(
-    alloc: Global,
-    k: i64,
-    a: Shared<CTerm>,
-    number: &mut Option<i128>,
-) -> Result<Shared<CTerm>, AllocError>
-    requires { number.old ≡ fold.number_of a }
-    ensures tree { IfOk result (λ t. t ≡ fold.remainder_term k a) }
-    ensures number { IfOk result (λ t. number.new ≡ fold.number_of t) }
-    ensures own { IfOk result (λ t. (plain_weights t).own ≤
-        2 * (plain_weights a).own + unsigned_abs (divisor k)) }
-    ensures most { IfOk result (λ t. (plain_weights t).most ≤ (remainder_weights k (plain_weights a)).most) }
-{
-    *number = remainder_number(k, *number);
-    placed_term(alloc, CTerm::Mod(a, k), *number)
 }
 
 // The number of a remainder, from that of its part.

@@ -38,9 +38,9 @@ pub use folding::{
 };
 pub use joining::{copy_forms, join_programs};
 pub use known::{
-    Joining, Pairing, Sense, both_true, choice_known, constant_known, either_true, joined_known,
-    not_known, paired_known, quotient_known, remainder_known, scaled_known, sense_known,
-    truth_known, variable_known,
+    Dividing, Joining, Pairing, Sense, both_true, choice_known, constant_known, divided_known,
+    either_true, joined_known, not_known, paired_known, scaled_known, sense_known, truth_known,
+    variable_known,
 };
 pub use laws::{folding_laws, frame_laws, replacing_laws, same_is_equal};
 pub use marks::Mark;

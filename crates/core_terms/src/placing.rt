@@ -5,10 +5,10 @@ ghost use Rattle.core_terms.specs.declared.trees.CForm.TheVariants as form;
 ghost use Rattle.core_terms.specs.declared.trees.CTerm.TheVariants as term;
 ghost use Rattle.core_terms.specs.Pools.{pooled, form_of_node, term_of_node, IsFormWithin, IsTermWithin, IsPool, Grows};
 ghost use Rattle.core_terms.specs.Pools.{form_or, term_or};
-ghost use Rattle.core_terms.specs.Senses.{pair_node, sense_node, joined_node};
+ghost use Rattle.core_terms.specs.Senses.{pair_node, divided_node, sense_node, joined_node};
 
 use crate::building::{push_form, push_term};
-use crate::known::{Joining, Pairing, Sense};
+use crate::known::{Dividing, Joining, Pairing, Sense};
 use crate::nodes::{FormId, FormNode, TermId, TermNode};
 use crate::tables::Tables;
 use std::alloc::AllocError;
@@ -220,34 +220,27 @@ pub fn place_multiple(tables: &mut Tables, k: i64, part: TermId) -> Result<TermI
     place_term(tables, TermNode::Scale(k, part))
 }
 
-/// The place of a quotient.
+/// The place of a quotient or a remainder.
 ///
 /// An error says that memory was refused; all that the tables held stays.
 #[inline(never)]
-pub fn place_quotient(tables: &mut Tables, part: TermId, k: i64) -> Result<TermId, AllocError>
+pub fn place_divided(
+    tables: &mut Tables,
+    which: Dividing,
+    part: TermId,
+    k: i64,
+) -> Result<TermId, AllocError>
     requires whole { IsPool (pooled tables.old) }
     requires part { part.place < length tables.old.terms }
     ensures tree { IfOk result (λ id. slice_get (pooled tables.new).terms id.place ≡
-        Some (term.Div (term_or (pooled tables.old).terms part.place) k)) }
+        Some (divided_node which (term_or (pooled tables.old).terms part.place) k)) }
     ensures whole { IsPool (pooled tables.new) }
     ensures kept { Grows (pooled tables.old) (pooled tables.new) }
 {
-    place_term(tables, TermNode::Div(part, k))
-}
-
-/// The place of a remainder.
-///
-/// An error says that memory was refused; all that the tables held stays.
-#[inline(never)]
-pub fn place_remainder(tables: &mut Tables, part: TermId, k: i64) -> Result<TermId, AllocError>
-    requires whole { IsPool (pooled tables.old) }
-    requires part { part.place < length tables.old.terms }
-    ensures tree { IfOk result (λ id. slice_get (pooled tables.new).terms id.place ≡
-        Some (term.Mod (term_or (pooled tables.old).terms part.place) k)) }
-    ensures whole { IsPool (pooled tables.new) }
-    ensures kept { Grows (pooled tables.old) (pooled tables.new) }
-{
-    place_term(tables, TermNode::Mod(part, k))
+    match which {
+        Dividing::Quotient => place_term(tables, TermNode::Div(part, k)),
+        Dividing::Remainder => place_term(tables, TermNode::Mod(part, k)),
+    }
 }
 
 /// The place of a choice between two terms.

@@ -3,20 +3,18 @@
 // each part after the first: so the frames are small, and the deepest formula is within a small stack.
 ghost use Rattle.std.specs.Prelude.{◌≡◌, ◌+◌, ◌*◌, ◌^◌, ◌≤◌, IfOk, length, None, All, max};
 ghost use Rattle.std.specs.Int.RustNames.{unsigned_abs};
-ghost use Rattle.meaning_states.specs.Division.{divisor};
 ghost use Rattle.core_terms.specs.declared.trees.CTerm.TheVariants as term;
 ghost use Rattle.core_terms.specs.Weights.{plain_weights, plain_weight, sum_weights, multiple_weights, choice_weights};
-ghost use Rattle.core_terms.specs.Weights.{quotient_weights, remainder_weights};
 ghost use Rattle.core_terms.specs.Places.{form_params, term_params};
 ghost use Rattle.core_terms.specs.Folding as fold;
-ghost use Rattle.core_terms.specs.Senses.{paired_term, sense_form, joined_form};
+ghost use Rattle.core_terms.specs.Senses.{paired_term, divided_term, divided_weights, sense_form, joined_form};
 ghost use Rattle.core_terms.specs.Replacing.{IsSmallArg, form_at, term_at, choice_at, MeansAt};
 ghost use Rattle.core_terms.specs.Replacing.{put_weights, put_weight};
 
 use crate::arguments::{Arguments, put_arg};
 use crate::copies::owned_form;
 use crate::documents::Arg;
-use crate::known::{self, Joining, Pairing, Sense};
+use crate::known::{self, Dividing, Joining, Pairing, Sense};
 use crate::trees::{CForm, CTerm};
 use std::alloc::{AllocError, Global};
 use unity_base::Shared;
@@ -158,8 +156,8 @@ fn put_term(
         CTerm::Add(a, b) => put_pair(alloc, Pairing::Sum, a, b, by, number),
         CTerm::Sub(a, b) => put_pair(alloc, Pairing::Difference, a, b, by, number),
         CTerm::Scale(k, a) => put_multiple(alloc, *k, a, by, number),
-        CTerm::Div(a, k) => put_quotient(alloc, a, *k, by, number),
-        CTerm::Mod(a, k) => put_remainder(alloc, a, *k, by, number),
+        CTerm::Div(a, k) => put_divided(alloc, Dividing::Quotient, a, *k, by, number),
+        CTerm::Mod(a, k) => put_divided(alloc, Dividing::Remainder, a, *k, by, number),
         CTerm::Ite(c, a, b) => put_choice(alloc, c, a, b, by, number),
     }
 }
@@ -243,8 +241,9 @@ fn put_multiple(
 
 #[cycle(replacing)]
 #[inline(never)]
-fn put_quotient(
+fn put_divided(
     alloc: Global,
+    which: Dividing,
     a: &Shared<CTerm>,
     k: i64,
     by: &Arguments,
@@ -253,36 +252,13 @@ fn put_quotient(
     requires params { term_params a.now ≤ length by.now.args.now }
     requires small { All IsSmallArg by.now.args.now }
     requires weight { (put_weights a.now).most ≤ 2 ^ 126 }
-    ensures tree { IfOk result (λ u. u ≡ fold.quotient_term k (term_at by.now.args.now a.now)) }
+    ensures tree { IfOk result (λ u. u ≡ divided_term which k (term_at by.now.args.now a.now)) }
     ensures number { IfOk result (λ u. number.new ≡ fold.number_of u) }
-    ensures own { IfOk result (λ u. (plain_weights u).own ≤ max 1 (put_weights a.now).own) }
-    ensures most { IfOk result (λ u. (plain_weights u).most ≤ (quotient_weights k (put_weights a.now)).most) }
+    ensures own { IfOk result (λ u. (plain_weights u).own ≤ (divided_weights which k (put_weights a.now)).own) }
+    ensures most { IfOk result (λ u. (plain_weights u).most ≤ (divided_weights which k (put_weights a.now)).most) }
 {
     match put_term(alloc, a.get(), by, number) {
-        Ok(part) => known::quotient_known(alloc, k, part, number),
-        Err(error) => Err(error),
-    }
-}
-
-#[cycle(replacing)]
-#[inline(never)]
-fn put_remainder(
-    alloc: Global,
-    a: &Shared<CTerm>,
-    k: i64,
-    by: &Arguments,
-    number: &mut Option<i128>,
-) -> Result<Shared<CTerm>, AllocError>
-    requires params { term_params a.now ≤ length by.now.args.now }
-    requires small { All IsSmallArg by.now.args.now }
-    requires weight { (put_weights a.now).most ≤ 2 ^ 126 }
-    ensures tree { IfOk result (λ u. u ≡ fold.remainder_term k (term_at by.now.args.now a.now)) }
-    ensures number { IfOk result (λ u. number.new ≡ fold.number_of u) }
-    ensures own { IfOk result (λ u. (plain_weights u).own ≤ 2 * (put_weights a.now).own + unsigned_abs (divisor k)) }
-    ensures most { IfOk result (λ u. (plain_weights u).most ≤ (remainder_weights k (put_weights a.now)).most) }
-{
-    match put_term(alloc, a.get(), by, number) {
-        Ok(part) => known::remainder_known(alloc, k, part, number),
+        Ok(part) => known::divided_known(alloc, which, k, part, number),
         Err(error) => Err(error),
     }
 }

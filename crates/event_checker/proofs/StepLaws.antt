@@ -21,7 +21,7 @@ use Rattle.certificate_machine.specs.Sums.{sum_line}
 use Rattle.event_checker.specs.declared.reading.Open.{Open}
 use Rattle.event_checker.specs.declared.reading.Reading.{Reading}
 use Rattle.event_checker.specs.Events.{with_pair, is_node_event, with_event}
-use Rattle.event_checker.specs.Readings.{next_node, is_over, CanFinish, Finishes, FinishFails, At}
+use Rattle.event_checker.specs.Readings.{next_node, has_pairs, is_over, CanFinish, Finishes, FinishFails, At}
 use Rattle.event_checker.specs.Readings.{IsOpen, Going, Fails, Closes, Stands, StandsAt, Passed}
 use Rattle.event_checker.proofs.NodeLaws.{paired-behind, with_pairs, grown}
 use Rattle.event_checker.proofs.NodeLaws.{begun, begins}
@@ -241,20 +241,30 @@ pub finishes : (vs : List Variable) (root : List OpenBranch) (r : Reading) (ns :
     CanFinish r.state r.machine (sum_line r.sum)
 finishes vs root r ns g = can-finish r.machine (sum_line r.sum) g.done g.last r.state g.state
 
--- what is over stays so
-over-at : (vs : List Variable) (root : List OpenBranch) (m : Machine) (u : Running) (node : ℕ) (ns : List Node)
-    (e : CertEvent) (st : Open) → is_over st ≡ true → Stands vs root (reading_of m st u node) ns →
+-- where no node with pairs is open, it stays so
+idle-at : (vs : List Variable) (root : List OpenBranch) (m : Machine) (u : Running) (node : ℕ) (ns : List Node)
+    (e : CertEvent) (st : Open) → has_pairs st ≡ false → Stands vs root (reading_of m st u node) ns →
     Passed vs root (reading_of m st u node) ns e
-over-at vs root m u node ns e Open.Nothing o s = cc
-over-at vs root m u node ns e Open.Sum o s = cc
-over-at vs root m u node ns e (Open.Round d) o s = cc
-over-at vs root m u node ns e Open.Share o s = cc
-over-at vs root m u node ns e (Open.Failed c at) o s = λ es. s (e ∷ es)
-over-at vs root m u node ns e Open.Closed o s = λ es. s (e ∷ es)
+idle-at vs root m u node ns e Open.Nothing o s =
+    subst (At vs root m node) (sym (s.split ∙ ap (λ l. s.done ++ l) s.state.0 ∙ append-nil s.done)) s.at
+idle-at vs root m u node ns e Open.Sum o s = cc
+idle-at vs root m u node ns e (Open.Round d) o s = cc
+idle-at vs root m u node ns e Open.Share o s = cc
+idle-at vs root m u node ns e (Open.Failed c at) o s = λ es. s (e ∷ es)
+idle-at vs root m u node ns e Open.Closed o s = λ es. s (e ∷ es)
 
-pub over-stays : (vs : List Variable) (root : List OpenBranch) (r : Reading) (ns : List Node) (e : CertEvent) →
-    is_over r.state ≡ true → Stands vs root r ns → Passed vs root r ns e
-over-stays vs root r ns e o s = over-at vs root r.machine r.sum r.node ns e r.state o s
+pub idle-passes : (vs : List Variable) (root : List OpenBranch) (r : Reading) (ns : List Node) (e : CertEvent) →
+    has_pairs r.state ≡ false → Stands vs root r ns → Passed vs root r ns e
+idle-passes vs root r ns e o s = idle-at vs root r.machine r.sum r.node ns e r.state o s
+
+-- a node with pairs is open: the reading is not over
+pub pairs-go : (st : Open) → has_pairs st ≡ true → is_over st ≡ false
+pairs-go Open.Nothing h = refl
+pairs-go Open.Sum h = refl
+pairs-go (Open.Round d) h = refl
+pairs-go Open.Share h = refl
+pairs-go (Open.Failed c at) h = cc
+pairs-go Open.Closed h = cc
 
 -- Another node begins.
 

@@ -9,7 +9,7 @@ ghost use Rattle.certificate_rules.specs.Refutation.{OpenBranch};
 ghost use Rattle.certificate_machine.specs.Sums.{sum_line};
 ghost use Rattle.certificate_machine.specs.Machines.{IsFit, IsLightMachine, IsScoped};
 ghost use Rattle.event_checker.specs.Events.{is_node_event, paired, with_event};
-ghost use Rattle.event_checker.specs.Readings.{pair_makes, has_pairs, next_node, after, is_over, CanFinish, Finishes};
+ghost use Rattle.event_checker.specs.Readings.{pair_makes, has_pairs, next_node, after, CanFinish, Finishes};
 ghost use Rattle.event_checker.specs.Readings.{FinishFails};
 ghost use Rattle.event_checker.specs.Readings.{IsStopped, IsOpened, At, IsAt, Stands, IsReady, Passed};
 
@@ -110,7 +110,7 @@ fn finish_open(
     match state {
         Open::Sum => close(alloc, vs, machine, sum),
         Open::Round(d) => round(alloc, vs, machine, d, sum),
-        Open::Share => open_share(alloc, vs, machine, sum.line()),
+        Open::Share => open_share(alloc, vs, machine, sum),
         _ => Ok(()),
     }
 }
@@ -134,13 +134,6 @@ fn next_node(state: Open, node: u64) -> Result<u64, AllocError>
     } else {
         Ok(node)
     }
-}
-
-/// Whether no node is read any more.
-fn is_over(state: Open) -> bool
-    ensures { result ≡ is_over state }
-{
-    matches!(state, Open::Failed { .. } | Open::Closed)
 }
 
 /// The node that is read now failed so, or memory was refused.
@@ -171,14 +164,14 @@ fn count(reading: &mut Reading) -> Result<(), AllocError>
     Ok(())
 }
 
-/// Lets the node that is open do its work, where one is.
+/// Lets the node with pairs that is open do its work, where one is.
 fn step_over(alloc: Global, vs: &[Variable], reading: &mut Reading) -> Result<(), AllocError>
     requires own { AreOwn vs.now }
     requires ready { IsReady vs.now reading.old }
     ensures { OnOk result ((root : List OpenBranch) (ns : List Node) (e : CertEvent) → is_node_event e ≡ true →
         Stands vs.now root reading.old ns → Passed vs.now root reading.new ns e) }
 {
-    if is_over(reading.state) {
+    if !has_pairs(reading.state) {
         return Ok(());
     }
     let finished = finish_open(alloc, vs, &mut reading.machine, reading.state, &reading.sum);

@@ -1,5 +1,5 @@
 // Whether numbers are a state, and the walk from each state.
-ghost use Rattle.std.specs.Prelude.{◌≡◌, ◌↔◌, ◌<◌, ◌≤◌, ◌∷◌, ◌++◌, ◌≤ℤ◌, ℤ, [], length, IfOk, IsTrue, Some, slice_get};
+ghost use Rattle.std.specs.Prelude.{◌≡◌, ◌↔◌, ◌<◌, ◌≤◌, ◌≤ℤ◌, ℤ, length, IfOk, IsTrue, Some, slice_get};
 ghost use Rattle.meaning_states.specs.State.{is_state};
 ghost use Rattle.core_terms.specs.Conditions.{IsProgram};
 ghost use Rattle.core_terms.specs.Steps.{slot_ranges};
@@ -61,33 +61,14 @@ fn leads_onward(alloc: Global, claim: &Claim, begun: &[i64], most: u32) -> Resul
 {
     let range = claim.slots[begun.len()].range;
     for number in range.lo..range.hi + 1 {
-        let held = leads_with(alloc, claim, begun, number, most)?;
+        let mut longer = copied(alloc, begun)?;
+        longer.push(number)?;
+        let held = leads_on(alloc, claim, longer.as_slice(), most)?;
         if !held {
             return Ok(false);
         }
     }
     Ok(true)
-}
-
-// Whether it does so with this number.
-#[cycle(filling)]
-fn leads_with(
-    alloc: Global,
-    claim: &Claim,
-    begun: &[i64],
-    number: i64,
-    most: u32,
-) -> Result<bool, AllocError>
-    requires claim { IsClaim claim.now }
-    requires light { SlotsAreLight claim.now.slots.now }
-    requires begun { length begun.now < length claim.now.slots.now }
-    ensures { IfOk result (λ b. IsTrue b ↔ LeadsOn (slot_ranges claim.now.slots.now) most (claimed claim.now)
-        (before claim.now) (after claim.now) claim.now.bound (begun.now ++ number ∷ [])) }
-{
-    let mut longer = copied(alloc, begun)?;
-    longer.push(number)?;
-    let held = leads_on(alloc, claim, longer.as_slice(), most)?;
-    Ok(held)
 }
 
 /// Whether `p leadsto q` holds within the bound as far as the executions of at most so many choices from all states

@@ -6,7 +6,7 @@ ghost use Rattle.core_terms.specs.Steps.{slot_ranges};
 ghost use Rattle.fair_rounds.specs.Counts.{StandsFor};
 ghost use Rattle.executor.specs.CoreSystem.{core_system};
 ghost use Rattle.examples_bounds.specs.Claims.{IsClaim, claimed, before, after};
-ghost use Rattle.examples_bounds.specs.Walking.{Comes, ComesAt, ComesAfter, Leads, LeadsAt, LeadsAfter};
+ghost use Rattle.examples_bounds.specs.Walking.{Comes, ComesAt, Leads, LeadsAt};
 
 use core_terms::{CForm, CProgram, CSlot, holds};
 use executor::{Runner, StartError, Stepped};
@@ -103,26 +103,8 @@ fn comes(
     if most == 0 {
         return Ok(true);
     }
-    comes_after(alloc, claim, state, count, most - 1)
-}
-
-// Whether it does so after each choice.
-#[cycle(coming)]
-fn comes_after(
-    alloc: Global,
-    claim: &Claim,
-    state: &[i64],
-    count: &RoundCount,
-    most: u32,
-) -> Result<bool, AllocError>
-    requires claim { IsClaim claim.now }
-    requires state { IsTrue (is_state (slot_ranges claim.now.slots.now) state.now) }
-    requires instances { count.now.instances ≡ length claim.now.program.now.statements }
-    ensures { IfOk result (λ b. (made : List ℕ) → StandsFor count.now made →
-        (IsTrue b ↔ ComesAfter (claimed claim.now) (after claim.now) claim.now.bound most made state.now)) }
-{
     for choice in 0..instances(claim) {
-        let held = comes_at(alloc, claim, state, count, choice, most)?;
+        let held = comes_at(alloc, claim, state, count, choice, most - 1)?;
         if !held {
             return Ok(false);
         }
@@ -186,26 +168,15 @@ pub(crate) fn leads(
     ensures { IfOk result (λ b. IsTrue b ↔
         Leads (claimed claim.now) (before claim.now) (after claim.now) claim.now.bound most state.now) }
 {
-    let held = leads_here(alloc, claim, state, most)?;
-    if !held {
+    let here = leads_here(alloc, claim, state, most)?;
+    if !here {
         return Ok(false);
     }
     if most == 0 {
         return Ok(true);
     }
-    leads_after(alloc, claim, state, most - 1)
-}
-
-// Whether it does so after each choice.
-#[cycle(leading)]
-fn leads_after(alloc: Global, claim: &Claim, state: &[i64], most: u32) -> Result<bool, AllocError>
-    requires claim { IsClaim claim.now }
-    requires state { IsTrue (is_state (slot_ranges claim.now.slots.now) state.now) }
-    ensures { IfOk result (λ b. IsTrue b ↔
-        LeadsAfter (claimed claim.now) (before claim.now) (after claim.now) claim.now.bound most state.now) }
-{
     for choice in 0..instances(claim) {
-        let held = leads_at(alloc, claim, state, choice, most)?;
+        let held = leads_at(alloc, claim, state, choice, most - 1)?;
         if !held {
             return Ok(false);
         }

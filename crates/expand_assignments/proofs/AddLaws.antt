@@ -294,6 +294,12 @@ numbers_next f first i n now new whole h w e = (
   size_of new now (f (first +ℤ pos i)) e,
 )
 
+pub numbers_end : (f : ℤ → Effect) (first : ℤ) (i n : ℕ) (now whole : Effect) → n ≤ i →
+    fold beside now (map f (count_up (first +ℤ pos i) (n - i))) ≡ whole → now ≡ whole
+numbers_end f first i n now whole h w =
+    let none : n - i ≡ 0 = omega arith in
+    sym (ap (λ k. fold beside now (map f (count_up (first +ℤ pos i) k))) none) ∙ w
+
 pub numbers_halt : (r : Refusal) (f : ℤ → Effect) (first : ℤ) (i n : ℕ) (old new now : Effect) → i < n →
     fold beside now (map f (count_up (first +ℤ pos i) (n - i))) ≡ fold beside old (map f (count_up first n)) →
     Halts r now (f (first +ℤ pos i)) → AddsAll (Err r) old new (map f (count_up first n))

@@ -38,27 +38,7 @@ fn further_pairs(
     Ok(())
 }
 
-// Each value to the target at its place.
-fn pairs(
-    alloc: Global,
-    first: &Target,
-    rest: &[Target],
-    values: &Values,
-    c: &TruthCore,
-    env: &Env,
-    known: &Known,
-    effect: &mut Effect,
-) -> Result<(), Refusal>
-    requires ready { IsReady known.now }
-    requires condition { IsSound (of_truth c.now) }
-    ensures { Adds result effect.old effect.new (spec.paired_effect (scope known.now env.now)
-        (first.now ∷ rest.now) (values.now.first ∷ values.now.rest) (of_truth c.now)) }
-{
-    target(alloc, first, &values.first, c, env, known, effect)?;
-    further_pairs(alloc, rest, values.rest.as_slice(), c, env, known, effect)
-}
-
-// An alternative under a condition that is made already.
+// An alternative under a condition that is made already: each value to the target at its place.
 fn guarded(
     alloc: Global,
     first: &Target,
@@ -75,7 +55,8 @@ fn guarded(
         (spec.paired_effect (scope known.now env.now) (first.now ∷ rest.now)
         (values.now.first ∷ values.now.rest) (of_truth c.now)))) }
 {
-    pairs(alloc, first, rest, values, c, env, known, effect)?;
+    target(alloc, first, &values.first, c, env, known, effect)?;
+    further_pairs(alloc, rest, values.rest.as_slice(), c, env, known, effect)?;
     mark(c.exact, effect);
     count_one(effect)
 }

@@ -3,7 +3,7 @@
 ghost use Rattle.std.specs.Prelude.{◌≡◌, ◌∷◌, ◌≤◌, ◌^◌, ◌&&◌, ◌+ℤ◌, ◌<◌, pos, map};
 ghost use Rattle.std.specs.Int.RustNames.{unsigned_abs};
 ghost use Rattle.meaning_executions.specs.Counting.{count_up};
-ghost use Rattle.expand_rules.specs.Forming.{numbers, with_number};
+ghost use Rattle.expand_rules.specs.Forming.{numbers};
 ghost use Rattle.expand_rules.specs.Assigning as spec;
 ghost use Rattle.expand_expressions.specs.Places.{IsReady, bound_names, scope};
 ghost use Rattle.expand_rules.specs.declared.cores.Bound.TheVariants.{Number};
@@ -13,7 +13,7 @@ use crate::alternatives::all_alternatives;
 use crate::counts::{count_one, flawed_count};
 use crate::places::bound_at;
 use expand_expressions::{
-    Env, Known, Numbers, Refusal, is_fixed_range, range_misfit, range_numbers, with_bound,
+    Env, Known, Refusal, is_fixed_range, range_misfit, range_numbers, with_bound,
 };
 use expand_rules::{Bound, Effect, Flaws};
 use std::alloc::Global;
@@ -89,33 +89,11 @@ fn quantified(
         (each_effect (scope known.now env.now) name.now range.now of.now) }
 {
     let numbers = range_numbers(range, env);
-    instances(alloc, name, &numbers, of, env, known, effect)?;
+    for i in 0..numbers.count {
+        instance(alloc, name, bound_at(&numbers, i), of, env, known, effect)?;
+    }
     mark_range(is_fixed_range(range, env), range_misfit(range, env), effect);
     count_one(effect)
-}
-
-#[cycle(assign)]
-fn instances(
-    alloc: Global,
-    name: &Name,
-    numbers: &Numbers,
-    of: &Assign,
-    env: &Env,
-    known: &Known,
-    effect: &mut Effect,
-) -> Result<(), Refusal>
-    requires ready { IsReady known.now }
-    requires counted { effect.old.count.size ≤ 65537 }
-    requires first { unsigned_abs numbers.now.first ≤ 1000000000 }
-    requires count { numbers.now.count ≤ 2000000001 }
-    ensures { AddsAll result effect.old effect.new (map
-        (λ z. spec.effect_of of.now (with_number (scope known.now env.now) name.now.text z))
-        (count_up numbers.now.first numbers.now.count)) }
-{
-    for i in 0..numbers.count {
-        instance(alloc, name, bound_at(numbers, i), of, env, known, effect)?;
-    }
-    Ok(())
 }
 
 #[cycle(assign)]

@@ -8,10 +8,10 @@ ghost use Rattle.expand_declarations.specs.Texts as texts_of;
 ghost use Rattle.expand_declarations.specs.WordNumbers.{with_texts};
 
 use crate::lists::first_and_rest;
-use crate::words::{Gathered, add_name};
+use crate::words::{Gathered, add_listed, add_name};
 use std::alloc::AllocError;
 use unity_base::Seq;
-use unity_syntax::{Inst, Param, Proof, Ref, Rule, Step, Term};
+use unity_syntax::{Inst, Proof, Ref, Rule, Step, Term};
 
 fn add_ref<'a>(r: &'a Ref, words: &mut Gathered<'a>) -> Result<(), AllocError>
     ensures { OnOk result (seen_keys words.new ≡ with_texts (seen_keys words.old) (texts_of.ref_texts r.now)) }
@@ -116,33 +116,11 @@ fn add_rule<'a>(rule: &'a Rule, words: &mut Gathered<'a>) -> Result<(), AllocErr
     }
 }
 
-fn add_params<'a>(params: &'a [Param], words: &mut Gathered<'a>) -> Result<(), AllocError>
-    ensures { OnOk result (seen_keys words.new
-        ≡ with_texts (seen_keys words.old) (map (λ p. p.name.text) params.now)) }
-{
-    for p in params {
-        add_name(&p.name, words)?;
-    }
-    Ok(())
-}
-
-fn add_all_params<'a>(
-    params: &'a Option<(Param, Seq<Param>)>,
-    words: &mut Gathered<'a>,
-) -> Result<(), AllocError>
-    ensures { OnOk result (seen_keys words.new
-        ≡ with_texts (seen_keys words.old) (map (λ p. p.name.text) (some_of params.now))) }
-{
-    let (first, rest) = first_and_rest(params);
-    add_params(first, words)?;
-    add_params(rest, words)
-}
-
 fn add_step<'a>(step: &'a Step, words: &mut Gathered<'a>) -> Result<(), AllocError>
     ensures { OnOk result (seen_keys words.new ≡ with_texts (seen_keys words.old) (texts_of.step_texts step.now)) }
 {
     add_name(&step.name, words)?;
-    add_all_params(&step.params, words)?;
+    add_listed(&step.params, words)?;
     add_rule(&step.rule, words)?;
     add_using(&step.using, words)
 }

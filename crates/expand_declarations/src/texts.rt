@@ -7,24 +7,12 @@ ghost use Rattle.names_rules.specs.Declarations.{items_of, some_of};
 ghost use Rattle.expand_declarations.specs.Texts as texts_of;
 ghost use Rattle.expand_declarations.specs.WordNumbers.{with_texts, document_words};
 
-use crate::lists::first_and_rest;
 use crate::proof_texts::add_proof;
-use crate::words::{Gathered, WordTable, add_name, word_table};
+use crate::words::{Gathered, WordTable, add_listed, add_name, add_words, word_table};
 use indexmap::IndexSet;
 use std::alloc::{AllocError, Global};
 use unity_base::Seq;
-use unity_syntax::{
-    Document, Inst, Item, Items, Name, Part, Plain, Program, Schedule, Var, VarType,
-};
-
-fn add_names<'a>(names: &'a [Name], words: &mut Gathered<'a>) -> Result<(), AllocError>
-    ensures { OnOk result (seen_keys words.new ≡ with_texts (seen_keys words.old) (map (λ w. w.text) names.now)) }
-{
-    for name in names {
-        add_name(name, words)?;
-    }
-    Ok(())
-}
+use unity_syntax::{Document, Item, Items, Part, Plain, Program, Schedule, Var, VarType};
 
 fn add_plain<'a>(plain: &'a Plain, words: &mut Gathered<'a>) -> Result<(), AllocError>
     ensures { OnOk result (seen_keys words.new ≡ with_texts (seen_keys words.old) (texts_of.plain_texts plain.now)) }
@@ -34,7 +22,7 @@ fn add_plain<'a>(plain: &'a Plain, words: &mut Gathered<'a>) -> Result<(), Alloc
         Plain::Range { at: _, range: _ } => Ok(()),
         Plain::Words { at: _, first, rest } => {
             add_name(first, words)?;
-            add_names(rest.as_slice(), words)
+            add_words(rest.as_slice(), words)
         }
     }
 }
@@ -156,28 +144,6 @@ fn add_parts<'a>(parts: &'a [Part], words: &mut Gathered<'a>) -> Result<(), Allo
     Ok(())
 }
 
-fn add_labels<'a>(choices: &'a [Inst], words: &mut Gathered<'a>) -> Result<(), AllocError>
-    ensures { OnOk result (seen_keys words.new
-        ≡ with_texts (seen_keys words.old) (map (λ c. c.label.text) choices.now)) }
-{
-    for choice in choices {
-        add_name(&choice.label, words)?;
-    }
-    Ok(())
-}
-
-fn add_choices<'a>(
-    choices: &'a Option<(Inst, Seq<Inst>)>,
-    words: &mut Gathered<'a>,
-) -> Result<(), AllocError>
-    ensures { OnOk result (seen_keys words.new
-        ≡ with_texts (seen_keys words.old) (map (λ c. c.label.text) (some_of choices.now))) }
-{
-    let (first, rest) = first_and_rest(choices);
-    add_labels(first, words)?;
-    add_labels(rest, words)
-}
-
 fn add_schedule<'a>(
     schedule: &'a Option<Schedule>,
     words: &mut Gathered<'a>,
@@ -189,7 +155,7 @@ fn add_schedule<'a>(
         None => Ok(()),
         Some(schedule) => {
             add_name(&schedule.program, words)?;
-            add_choices(&schedule.choices, words)
+            add_listed(&schedule.choices, words)
         }
     }
 }

@@ -11,7 +11,7 @@ ghost use Rattle.expand_expressions.specs.Sound.{IsSound, of_number};
 use crate::measures::divided_measure;
 use crate::operations::{NumberCore, number};
 use crate::products::factor;
-use core_terms::{quotient_known, remainder_known};
+use core_terms::{Dividing, divided_known};
 use expand_rules::{Core, Flaws, Formed};
 use std::alloc::{AllocError, Global};
 
@@ -65,7 +65,7 @@ fn quotient_of(alloc: Global, at: u64, a: NumberCore, b: &NumberCore) -> Result<
         b.measure,
     );
     let mut known = a.known;
-    let term = quotient_known(alloc, k, a.term, &mut known)?;
+    let term = divided_known(alloc, Dividing::Quotient, k, a.term, &mut known)?;
     Ok(Formed {
         core: Core::Number { term, known },
         constant: a.constant & b.constant,
@@ -93,7 +93,7 @@ fn remainder_of(alloc: Global, at: u64, a: NumberCore, b: &NumberCore) -> Result
         b.measure,
     );
     let mut known = a.known;
-    let term = remainder_known(alloc, k, a.term, &mut known)?;
+    let term = divided_known(alloc, Dividing::Remainder, k, a.term, &mut known)?;
     Ok(Formed {
         core: Core::Number { term, known },
         constant: a.constant & b.constant,

@@ -15,6 +15,9 @@ use Rattle.expand_rules.specs.declared.cores.Bound.{Bound}
 use Rattle.expand_rules.specs.Forming.{Scope, numbers, fit_values}
 use Rattle.expand_rules.specs.Assigning.{stated}
 use Rattle.expand_rules.specs.Programs.{core_statement}
+use Rattle.expand_expressions.specs.Places.{IsReady, bound_names}
+use Rattle.expand_statements.specs.Visiting.{scope_among}
+use Rattle.expand_statements.specs.declared.building.Site.{Site}
 
 abbrev pub instance_of : Name → Bindings → Assign → Instance
 instance_of label b a = record { label = label.text; bindings = b; assign = a }
@@ -38,3 +41,16 @@ fit_items = fold-Items Unfolding Unfolding fit_layer items_layer
 pub record AreNumberBindings (bs : List (List ℕ × Bound)) (indices : List ℤ) : Type 0 where
   pub same : bs ≡ map (λ x. (x.0, Bound.Number x.1)) (numbers bs)
   pub indices_same : indices ≡ outermost_first (numbers bs)
+
+-- a document is ready for what is built at a site, and its bound names stand for its indices
+pub record IsSite (site : Site) : Type 0 where
+  pub ready : IsReady site.known.now
+  pub numbered : AreNumberBindings (bound_names site.env.now) site.indices.now
+
+-- the numbers that the bound names of a site stand for
+abbrev pub site_numbers : Site → Bindings
+site_numbers site = numbers (bound_names site.env.now)
+
+-- the statement of an instance, with the words and the declarations of a site
+abbrev pub made_at : Site → Instance → CStmt
+made_at site = made_statement site.words.now (scope_among site.known.now [])

@@ -12,7 +12,7 @@ ghost use Rattle.expand_rules.specs.Lists.{items_fault};
 ghost use Rattle.expand_rules.specs.Programs.{core_statement};
 ghost use Rattle.expand_expressions.specs.Places.{IsReady, bound_names};
 ghost use Rattle.expand_statements.specs.Visiting.{scope_among};
-ghost use Rattle.expand_statements.specs.Building.{AreNumberBindings, fit_item, fit_items, instance_of, made_statement};
+ghost use Rattle.expand_statements.specs.Building.{IsSite, fit_item, fit_items, instance_of, made_at, site_numbers};
 
 use crate::visiting::nothing;
 use core_terms::CStmt;
@@ -43,16 +43,26 @@ fn with_index(alloc: Global, numbers: &[i64], inner: i64) -> Result<Seq<i64>, Al
     Ok(list)
 }
 
+// What statements are built from: the bound names and their numbers, the outermost first, what the document declares,
+// and its words.
+#[derive(Clone, Copy)]
+struct Site<'s, 'a> {
+    env: &'s Env<'s, 'a>,
+    indices: &'s [i64],
+    known: &'s Known<'s, 'a>,
+    words: &'s WordTable<'a>,
+}
+
 // What an assignment becomes. It is not too large where the statements were found without a fault.
-fn effect_of(alloc: Global, a: &Assign, env: &Env, known: &Known) -> Result<Effect, AllocError>
-    requires { IsReady known.now }
+fn effect_of(alloc: Global, a: &Assign, site: &Site) -> Result<Effect, AllocError>
+    requires { IsReady site.now.known.now }
     ensures outside { IfOk result (λ e. e.outside ≡
-        (spec.effect_of a.now (scope_among known.now (bound_names env.now))).outside) }
+        (spec.effect_of a.now (scope_among site.now.known.now (bound_names site.now.env.now))).outside) }
     ensures writes { IfOk result (λ e. e.writes ≡
-        (spec.effect_of a.now (scope_among known.now (bound_names env.now))).writes) }
+        (spec.effect_of a.now (scope_among site.now.known.now (bound_names site.now.env.now))).writes) }
 {
     let mut effect = nothing(alloc);
-    match effect_in(alloc, a, env, known, &mut effect) {
+    match effect_in(alloc, a, site.env, site.known, &mut effect) {
         Ok(()) => Ok(effect),
         Err(_) => Err(AllocError),
     }
@@ -62,26 +72,22 @@ fn push_statement(
     alloc: Global,
     label: &Name,
     a: &Assign,
-    env: &Env,
-    indices: &[i64],
-    known: &Known,
-    words: &WordTable,
+    site: &Site,
     list: &mut Seq<Shared<CStmt>>,
 ) -> Result<(), AllocError>
-    requires ready { IsReady known.now }
-    requires numbered { AreNumberBindings (bound_names env.now) indices.now }
-    ensures { OnOk result (list.new ≡ list.old ++ made_statement words.now (scope_among known.now [])
-        (instance_of label.now (numbers (bound_names env.now)) a.now) ∷ []) }
+    requires { IsSite site.now }
+    ensures { OnOk result (list.new ≡ list.old ++ made_at site.now
+        (instance_of label.now (site_numbers site.now) a.now) ∷ []) }
 {
-    let indices = copied(alloc, indices)?;
+    let indices = copied(alloc, site.indices)?;
     let Effect {
         outside,
         writes,
         exact: _,
         count: _,
-    } = effect_of(alloc, a, env, known)?;
+    } = effect_of(alloc, a, site)?;
     let statement = CStmt {
-        label: words.number(label),
+        label: site.words.number(label),
         indices,
         outside,
         writes,
@@ -101,41 +107,26 @@ fn number_at(numbers: &Numbers, i: u64) -> i64
 fn push_item(
     alloc: Global,
     item: &Item,
-    env: &Env,
-    indices: &[i64],
-    known: &Known,
-    words: &WordTable,
+    site: &Site,
     list: &mut Seq<Shared<CStmt>>,
 ) -> Result<(), AllocError>
-    requires ready { IsReady known.now }
-    requires numbered { AreNumberBindings (bound_names env.now) indices.now }
-    ensures { OnOk result (list.new ≡ list.old ++ map (made_statement words.now (scope_among known.now []))
-        (fit_item item.now (numbers (bound_names env.now)))) }
+    requires { IsSite site.now }
+    ensures { OnOk result (list.new ≡ list.old ++ map (made_at site.now) (fit_item item.now (site_numbers site.now))) }
 {
     match item {
         Item::Statement {
             at: _,
             label,
             assign,
-        } => push_statement(alloc, label, assign, env, indices, known, words, list),
+        } => push_statement(alloc, label, assign, site, list),
         Item::Quantified {
             at: _,
             name,
             range,
             of,
         } => {
-            let numbers = range_numbers(range, env);
-            push_numbers(
-                alloc,
-                name,
-                &numbers,
-                of.get(),
-                env,
-                indices,
-                known,
-                words,
-                list,
-            )
+            let numbers = range_numbers(range, site.env);
+            push_numbers(alloc, name, &numbers, of.get(), site, list)
         }
     }
 }
@@ -146,23 +137,19 @@ fn push_numbers(
     name: &Name,
     taken: &Numbers,
     of: &Items,
-    env: &Env,
-    indices: &[i64],
-    known: &Known,
-    words: &WordTable,
+    site: &Site,
     list: &mut Seq<Shared<CStmt>>,
 ) -> Result<(), AllocError>
-    requires ready { IsReady known.now }
-    requires numbered { AreNumberBindings (bound_names env.now) indices.now }
+    requires site { IsSite site.now }
     requires first { unsigned_abs taken.now.first ≤ 1000000000 }
     requires count { taken.now.count ≤ 2000000001 }
-    ensures { OnOk result (list.new ≡ list.old ++ map (made_statement words.now (scope_among known.now []))
-        (flat_map (λ z. fit_items of.now ((name.now.text, z) ∷ numbers (bound_names env.now)))
+    ensures { OnOk result (list.new ≡ list.old ++ map (made_at site.now)
+        (flat_map (λ z. fit_items of.now ((name.now.text, z) ∷ site_numbers site.now))
         (count_up taken.now.first taken.now.count))) }
 {
     for i in 0..taken.count {
         let number = number_at(taken, i);
-        push_number(alloc, name, number, of, env, indices, known, words, list)?;
+        push_number(alloc, name, number, of, site, list)?;
     }
     Ok(())
 }
@@ -173,77 +160,63 @@ fn push_number(
     name: &Name,
     number: i64,
     of: &Items,
-    env: &Env,
-    indices: &[i64],
-    known: &Known,
-    words: &WordTable,
+    site: &Site,
     list: &mut Seq<Shared<CStmt>>,
 ) -> Result<(), AllocError>
-    requires ready { IsReady known.now }
-    requires numbered { AreNumberBindings (bound_names env.now) indices.now }
-    ensures { OnOk result (list.new ≡ list.old ++ map (made_statement words.now (scope_among known.now []))
-        (fit_items of.now ((name.now.text, number) ∷ numbers (bound_names env.now)))) }
+    requires { IsSite site.now }
+    ensures { OnOk result (list.new ≡ list.old ++ map (made_at site.now)
+        (fit_items of.now ((name.now.text, number) ∷ site_numbers site.now))) }
 {
-    let inner = with_bound(&*name, Bound::Number(number), &*env);
-    let inner_indices = with_index(alloc, indices, number)?;
-    push_all(
-        alloc,
-        of,
-        &inner,
-        inner_indices.as_slice(),
-        known,
-        words,
-        list,
-    )
+    let env = with_bound(&*name, Bound::Number(number), &*site.env);
+    let indices = with_index(alloc, site.indices, number)?;
+    let inner = Site {
+        env: &env,
+        indices: indices.as_slice(),
+        known: site.known,
+        words: site.words,
+    };
+    push_all(alloc, of, &inner, list)
 }
 
 #[cycle(build)]
 fn push_all(
     alloc: Global,
     items: &Items,
-    env: &Env,
-    indices: &[i64],
-    known: &Known,
-    words: &WordTable,
+    site: &Site,
     list: &mut Seq<Shared<CStmt>>,
 ) -> Result<(), AllocError>
-    requires ready { IsReady known.now }
-    requires numbered { AreNumberBindings (bound_names env.now) indices.now }
-    ensures { OnOk result (list.new ≡ list.old ++ map (made_statement words.now (scope_among known.now []))
-        (fit_items items.now (numbers (bound_names env.now)))) }
+    requires { IsSite site.now }
+    ensures { OnOk result (list.new ≡ list.old ++ map (made_at site.now)
+        (fit_items items.now (site_numbers site.now))) }
 {
-    push_item(alloc, &items.first, env, indices, known, words, list)?;
-    push_further(alloc, &items.rest, env, indices, known, words, list)
+    push_item(alloc, &items.first, site, list)?;
+    push_further(alloc, &items.rest, site, list)
 }
 
 #[cycle(build)]
 fn push_further(
     alloc: Global,
     items: &Seq<Item>,
-    env: &Env,
-    indices: &[i64],
-    known: &Known,
-    words: &WordTable,
+    site: &Site,
     list: &mut Seq<Shared<CStmt>>,
 ) -> Result<(), AllocError>
-    requires ready { IsReady known.now }
-    requires numbered { AreNumberBindings (bound_names env.now) indices.now }
-    ensures { OnOk result (list.new ≡ list.old ++ map (made_statement words.now (scope_among known.now []))
-        (flat_map (λ i. fit_item i (numbers (bound_names env.now))) items.now)) }
+    requires { IsSite site.now }
+    ensures { OnOk result (list.new ≡ list.old ++ map (made_at site.now)
+        (flat_map (λ i. fit_item i (site_numbers site.now)) items.now)) }
 {
     for item in items.as_slice() {
-        push_item(alloc, item, env, indices, known, words, list)?;
+        push_item(alloc, item, site, list)?;
     }
     Ok(())
 }
 
 /// Puts the statements of a program, in which `check_items` found no fault, at the end of a list: one for each
 /// instance, in order. An error says that memory was refused.
-pub fn push_statements(
+pub fn push_statements<'k, 'a>(
     alloc: Global,
     items: &Items,
-    known: &Known,
-    words: &WordTable,
+    known: &'k Known<'k, 'a>,
+    words: &'k WordTable<'a>,
     list: &mut Seq<Shared<CStmt>>,
 ) -> Result<(), AllocError>
     requires ready { IsReady known.now }
@@ -252,13 +225,11 @@ pub fn push_statements(
         (statements (scope_among known.now []) items.now)) }
 {
     let none = Seq::new(alloc);
-    push_all(
-        alloc,
-        items,
-        &outside(),
-        none.as_slice(),
+    let site = Site {
+        env: &outside(),
+        indices: none.as_slice(),
         known,
         words,
-        list,
-    )
+    };
+    push_all(alloc, items, &site, list)
 }

@@ -74,6 +74,7 @@ pub fn fixed_part(alloc: Global, s: &CStmt, slots: &[CSlot]) -> Result<Shared<CF
 }
 
 // That each write, where it is made, leaves its slot as it is; `truth` is then that of the result.
+#[tactic(auto, using(wp_substitution::proofs::KnownLaws::folded_laws))]
 fn all_same(
     alloc: Global,
     writes: &[CWrite],
@@ -85,24 +86,13 @@ fn all_same(
     ensures weight { IfOk result (λ f. plain_weight f ≤ 2 ^ 65) }
 {
     let mut all = Conjunction::new();
-    add_same(alloc, &mut all, writes)?;
+    for w in writes {
+        let mut known = None;
+        let same = same_value(alloc, w, &mut known)?;
+        all.add(alloc, same, known)?;
+    }
     *truth = all.truth;
     all.into_form(alloc)
-}
-
-#[tactic(auto, using(wp_substitution::proofs::KnownLaws::folded_laws))]
-fn add_same(alloc: Global, all: &mut Conjunction, writes: &[CWrite]) -> Result<(), AllocError>
-    requires known { ConjunctionKnown all.old }
-    requires light { All IsLightWrite writes.now }
-    ensures whole { OnOk result (all.new.whole ≡ joined_all all.old.whole (map form_of.same_value writes.now)) }
-    ensures known { OnOk result (ConjunctionKnown all.new) }
-{
-    for w in writes {
-        let mut truth = None;
-        let same = same_value(alloc, w, &mut truth)?;
-        all.add(alloc, same, truth)?;
-    }
-    Ok(())
 }
 
 // That the write, where it is made, leaves its slot as it is.

@@ -10,7 +10,7 @@ ghost use Rattle.executor.specs.CoreSystem.{core_system};
 ghost use Rattle.schedule_replay.specs.Schedules.{turns};
 ghost use Rattle.schedule_replay.specs.Lines.{fixed_line, rounds_line};
 ghost use Rattle.fixed_points.specs.FixedPoints.{is_fixed};
-ghost use Rattle.fixed_runs.specs.Cores.{core_fixed_steps, core_fixed_text, core_fixed_ending};
+ghost use Rattle.fixed_runs.specs.Cores.{core_fixed_text, core_fixed_ending};
 
 use core_terms::{CDocument, CProgram};
 use executor::{Runner, Stepped};
@@ -47,29 +47,6 @@ pub fn write_trace<K: Sink>(
 {
     write_heading(doc, p, Heading::Run, out)?;
     write_line(doc, p, 0, None, runner.state(), out)?;
-    write_steps(doc, p, steps, runner, out)
-}
-
-// Writes the lines of the steps up to the first fixed point, and the last lines.
-fn write_steps<K: Sink>(
-    doc: &CDocument,
-    p: &CProgram,
-    steps: u64,
-    runner: &mut Runner,
-    out: &mut K,
-) -> Result<Stepped, Failed>
-    requires is_program { IsProgram doc.now.slots p.now }
-    requires is_state { IsTrue (is_state (slot_ranges doc.now.slots) (state_of runner.old)) }
-    requires program { program_of runner.old ≡ p.now }
-    requires slots { slots_of runner.old ≡ doc.now.slots }
-    ensures whole { OnOk result (Appends (K.written out.old) (K.written out.new)
-        (core_fixed_steps doc.now p.now (state_of runner.old) (turns (length p.now.statements) steps))) }
-    ensures ending { IfOk result (λ end. end ≡
-        core_fixed_ending doc.now p.now (state_of runner.old) (turns (length p.now.statements) steps)) }
-    ensures part { OnErr result (AppendsPart (K.written out.old) (K.written out.new)
-        (core_fixed_steps doc.now p.now (state_of runner.old) (turns (length p.now.statements) steps))) }
-    ensures cause { HasCause (K.faults out.old) (K.faults out.new) result }
-{
     let k = instances(p);
     let choices = Choices::Turns(steps);
     let mut count = RoundCount::new(k);
@@ -80,18 +57,14 @@ fn write_steps<K: Sink>(
             write_end(number, count.rounds(), out)?;
             return Ok(Stepped::Done);
         }
-        match choices.get(k, number) {
-            Some(choice) => {
-                number += 1;
-                match write_step(doc, p, number, choice, runner, out)? {
-                    Stepped::Done => count.add(choice),
-                    Stepped::Undefined => return Ok(Stepped::Undefined),
-                }
-            }
-            None => {
-                write_rounds(count.rounds(), out)?;
-                return Ok(Stepped::Done);
-            }
+        let Some(choice) = choices.get(k, number) else {
+            write_rounds(count.rounds(), out)?;
+            return Ok(Stepped::Done);
+        };
+        number += 1;
+        match write_step(doc, p, number, choice, runner, out)? {
+            Stepped::Done => count.add(choice),
+            Stepped::Undefined => return Ok(Stepped::Undefined),
         }
     }
 }

@@ -1,12 +1,14 @@
 //! Conditions, and the faults where they fail.
 
 ghost use Rattle.std.specs.Prelude.{◌≡◌};
+ghost use Rattle.case_tables.specs.declared.code_table.Code.{Code};
+ghost use Rattle.names_rules.specs.declared.named.NameFault.{NameFault};
 ghost use Rattle.names_rules.specs.Reading.{may_join, same_sort, unless};
 ghost use Rattle.names_rules.specs.Answers.{After, Demands, FitsSort};
 
 use case_tables::Code;
 use names_rules::{NameFault, Sort, Typed};
-use unity_syntax::Operator;
+use unity_syntax::{Name, Operator};
 
 /// A fault unless this is so.
 pub fn demand(holds: bool, code: Code, at: u64) -> Result<(), NameFault>
@@ -16,6 +18,16 @@ pub fn demand(holds: bool, code: Code, at: u64) -> Result<(), NameFault>
         Ok(())
     } else {
         Err(NameFault::Fault { code, at })
+    }
+}
+
+/// The fault of a name that means nothing.
+pub fn unknown(name: &Name) -> NameFault
+    ensures { result ≡ NameFault.Fault Code.Unknown name.now.at }
+{
+    NameFault::Fault {
+        code: Code::Unknown,
+        at: name.at,
     }
 }
 

@@ -6,7 +6,7 @@ ghost use Rattle.names_rules.specs.Reading.{all_beside};
 ghost use Rattle.names_rules.specs.Proofs.{accepts, argument_reading, argument_word, arguments_reading, helper_reading};
 ghost use Rattle.names_rules.specs.Answers.{Notes};
 
-use crate::checks::demand;
+use crate::checks::{demand, unknown};
 use crate::words::Table;
 use case_tables::Code;
 use names_rules::{Env, Indices, Known, Meaning, NameFault, Named, is_param, is_variable, meaning};
@@ -31,17 +31,10 @@ fn argument_word(
 ) -> Result<(), NameFault>
     ensures { Notes result table.old table.new (argument_word of name.now named) }
 {
-    match named {
-        None => Err(NameFault::Fault {
-            code: Code::Unknown,
-            at: name.at,
-        }),
-        Some(named) => {
-            demand(accepts(of, named.meaning), Code::Unknown, name.at)?;
-            table.push((name.at, named.meaning))?;
-            Ok(())
-        }
-    }
+    let named = named.ok_or(unknown(name))?;
+    demand(accepts(of, named.meaning), Code::Unknown, name.at)?;
+    table.push((name.at, named.meaning))?;
+    Ok(())
 }
 
 fn argument(

@@ -16,7 +16,7 @@ mod terms;
 mod walk;
 mod words;
 
-pub use checks::{demand, same};
+pub use checks::{demand, same, unknown};
 pub use indices::arguments;
 pub use lists::items;
 pub use ranges::{filled_range, signed};

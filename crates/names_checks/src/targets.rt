@@ -7,7 +7,7 @@ ghost use Rattle.names_rules.specs.Reading.{all_beside};
 ghost use Rattle.names_rules.specs.Statements.{index_reading, target_head, target_reading, target_word};
 ghost use Rattle.names_rules.specs.Answers.{Notes};
 
-use crate::checks::demand;
+use crate::checks::{demand, unknown};
 use crate::walk::value;
 use crate::words::Table;
 use case_tables::Code;
@@ -31,18 +31,11 @@ fn target_word(
 ) -> Result<(), NameFault>
     ensures { Notes result table.old table.new (target_word name.now indexed named) }
 {
-    match named {
-        Some(named) => {
-            demand(is_variable(named.meaning), Code::Unknown, name.at)?;
-            demand(named.indices.is_some() == indexed, Code::WrongType, name.at)?;
-            table.push((name.at, named.meaning))?;
-            Ok(())
-        }
-        None => Err(NameFault::Fault {
-            code: Code::Unknown,
-            at: name.at,
-        }),
-    }
+    let named = named.ok_or(unknown(name))?;
+    demand(is_variable(named.meaning), Code::Unknown, name.at)?;
+    demand(named.indices.is_some() == indexed, Code::WrongType, name.at)?;
+    table.push((name.at, named.meaning))?;
+    Ok(())
 }
 
 /// A target: a variable, with an index where it is an array.

@@ -28,3 +28,4 @@ pub mod OccurrenceLaws
 pub mod OrderLaws
 pub mod ObligationLaws
 pub mod NumberLaws
+pub mod SideLaws

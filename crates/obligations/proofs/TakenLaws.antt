@@ -14,16 +14,20 @@ use Rattle.core_terms.specs.declared.trees.CForm.TheFolds.{map-CForm, map-CTerm}
 use Rattle.meaning_states.specs.Division.{divisor}
 use Rattle.obligations.specs.declared.branches.Taken.{Taken}
 use Rattle.obligations.specs.Settling.{Quoted, quoted_form_step, quoted_step, quoted, first_taken, first_of, or_whole}
-use Rattle.obligations.specs.Settling.{taken_within}
+use Rattle.obligations.specs.Settling.{taken_within, by_quotient}
 use Rattle.obligations.proofs.TreeLaws.{term_fold, form_fold}
 use Rattle.core_terms.specs.declared.known.Pairing.{Pairing}
-use Rattle.core_terms.specs.Senses.{pair_node}
+use Rattle.core_terms.specs.declared.known.Dividing.{Dividing}
+use Rattle.core_terms.specs.Senses.{pair_node, divided_node}
 
 abbrev pub whole_quotient : ℕ → CTerm → ℤ → Taken
 whole_quotient v a k = record { of = a; divisor = divisor k; rest = Param v }
 
 abbrev pub whole_remainder : ℕ → CTerm → ℤ → Taken
 whole_remainder v a k = record { of = a; divisor = divisor k; rest = Sub a (Scale (divisor k) (Param v)) }
+
+abbrev pub whole_divided : Dividing → ℕ → CTerm → ℤ → Taken
+whole_divided which v a k = record { of = a; divisor = divisor k; rest = by_quotient which v a k }
 
 module _ (v : ℕ) where
   abbrev G : CForm → CForm
@@ -214,6 +218,11 @@ pub taken-pair : (v : ℕ) (which : Pairing) (a b : CTerm) → first_taken v (pa
 taken-pair v Pairing.Sum a b = taken-Add v a b
 taken-pair v Pairing.Difference a b = taken-Sub v a b
 
+taken-divided : (v : ℕ) (which : Dividing) (a : CTerm) (k : ℤ) → first_taken v (divided_node which a k)
+    ≡ or_whole (λ x. divided_node which x k) (first_taken v a) (whole_divided which v a k)
+taken-divided v Dividing.Quotient a k = taken-Div v a k
+taken-divided v Dividing.Remainder a k = taken-Mod v a k
+
 taken-alone : (f : CTerm → CTerm) (m : Option Taken) → option_map (taken_within f) m ≡ first_of f f m None
 taken-alone f None = refl
 taken-alone f (Some q) = refl
@@ -252,10 +261,8 @@ taken-in-multiple v k a m p =
     ∙ taken-alone (λ x. Scale k x) (first_taken v a)
     ∙ sym (taken-Scale v k a)
 
-pub taken-in-quotient : (v : ℕ) (a : CTerm) (k : ℤ) (m : Option Taken) → m ≡ first_taken v a →
-    or_whole (λ x. Div x k) m (whole_quotient v a k) ≡ first_taken v (Div a k)
-taken-in-quotient v a k m p = ap (λ o. or_whole (λ x. Div x k) o (whole_quotient v a k)) p ∙ sym (taken-Div v a k)
-
-pub taken-in-remainder : (v : ℕ) (a : CTerm) (k : ℤ) (m : Option Taken) → m ≡ first_taken v a →
-    or_whole (λ x. Mod x k) m (whole_remainder v a k) ≡ first_taken v (Mod a k)
-taken-in-remainder v a k m p = ap (λ o. or_whole (λ x. Mod x k) o (whole_remainder v a k)) p ∙ sym (taken-Mod v a k)
+pub taken-in-divided : (v : ℕ) (which : Dividing) (a : CTerm) (k : ℤ) (m : Option Taken) → m ≡ first_taken v a →
+    or_whole (λ x. divided_node which x k) m (whole_divided which v a k) ≡ first_taken v (divided_node which a k)
+taken-in-divided v which a k m p =
+    ap (λ o. or_whole (λ x. divided_node which x k) o (whole_divided which v a k)) p
+    ∙ sym (taken-divided v which a k)

@@ -23,7 +23,8 @@ use Rattle.obligations.specs.Settling.{within, first_choice, Parted, form_tree_s
 use Rattle.obligations.specs.Settling.{Settled, term_tree_step, outcome_step, outcome}
 use Rattle.obligations.proofs.LineLaws.{length-zeros, length-add_at, length-plus}
 use Rattle.core_terms.specs.declared.known.Pairing.{Pairing}
-use Rattle.core_terms.specs.Senses.{pair_node}
+use Rattle.core_terms.specs.declared.known.Dividing.{Dividing}
+use Rattle.core_terms.specs.Senses.{pair_node, divided_node}
 
 -- The folds, form by form.
 pub term_fold : {A B : Type 0} (f : CForm-F A B → A) (t : CTerm-F A B → B) (x : CTerm-F CForm CTerm) (u : CTerm) →
@@ -381,6 +382,11 @@ pub ite-pair : (which : Pairing) (a b : CTerm) → first_ite (pair_node which a 
 ite-pair Pairing.Sum a b = ite-Add a b
 ite-pair Pairing.Difference a b = ite-Sub a b
 
+ite-divided : (which : Dividing) (a : CTerm) (k : ℤ) → first_ite (divided_node which a k)
+    ≡ first_choice (λ x. divided_node which x k) (λ x. divided_node which x k) (first_ite a) None
+ite-divided Dividing.Quotient a k = ite-Div a k
+ite-divided Dividing.Remainder a k = ite-Mod a k
+
 choice-alone : (f : CTerm → CTerm) (m : Option Choice) → option_map (within f) m ≡ first_choice f f m None
 choice-alone f None = refl
 choice-alone f (Some c) = refl
@@ -418,16 +424,9 @@ choice-in-multiple k a m p =
     ∙ choice-alone (λ x. Scale k x) (first_ite a)
     ∙ sym (ite-Scale k a)
 
-pub choice-in-quotient : (a : CTerm) (k : ℤ) (m : Option Choice) → m ≡ first_ite a →
-    option_map (within (λ x. Div x k)) m ≡ first_ite (Div a k)
-choice-in-quotient a k m p =
-    ap (option_map (within (λ x. Div x k))) p
-    ∙ choice-alone (λ x. Div x k) (first_ite a)
-    ∙ sym (ite-Div a k)
-
-pub choice-in-remainder : (a : CTerm) (k : ℤ) (m : Option Choice) → m ≡ first_ite a →
-    option_map (within (λ x. Mod x k)) m ≡ first_ite (Mod a k)
-choice-in-remainder a k m p =
-    ap (option_map (within (λ x. Mod x k))) p
-    ∙ choice-alone (λ x. Mod x k) (first_ite a)
-    ∙ sym (ite-Mod a k)
+pub choice-in-divided : (which : Dividing) (a : CTerm) (k : ℤ) (m : Option Choice) → m ≡ first_ite a →
+    option_map (within (λ x. divided_node which x k)) m ≡ first_ite (divided_node which a k)
+choice-in-divided which a k m p =
+    ap (option_map (within (λ x. divided_node which x k))) p
+    ∙ choice-alone (λ x. divided_node which x k) (first_ite a)
+    ∙ sym (ite-divided which a k)

@@ -2,6 +2,7 @@ pub mod Variables
 pub mod LinearForms
 pub mod Scopes
 pub mod Settling
+pub mod Sides
 pub mod Quotients
 pub mod Load
 pub mod Opening

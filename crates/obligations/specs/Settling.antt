@@ -14,6 +14,7 @@ use Rattle.obligations.specs.declared.branches.Branch.{Branch}
 use Rattle.obligations.specs.declared.branches.Choice.{Choice}
 use Rattle.obligations.specs.declared.branches.Taken.{Taken}
 use Rattle.obligations.specs.declared.branches.Obligation.{Obligation}
+use Rattle.core_terms.specs.declared.known.Dividing.{Dividing}
 use Rattle.core_terms.specs.declared.known.Sense.{Sense}
 use Rattle.core_terms.specs.Senses.{sense_node}
 use Rattle.meaning_states.specs.Division.{divisor, floored, rest_of}
@@ -162,6 +163,11 @@ first_of f g None None = None
 abbrev pub or_whole : (CTerm → CTerm) → Option Taken → Taken → Option Taken
 or_whole f (Some q) whole = Some (taken_within f q)
 or_whole f None whole = Some whole
+
+-- a quotient or a remainder where the parameter of this number stands for the quotient
+abbrev pub by_quotient : Dividing → ℕ → CTerm → ℤ → CTerm
+by_quotient Dividing.Quotient v a k = Param v
+by_quotient Dividing.Remainder v a k = Sub a (Scale (divisor k) (Param v))
 
 abbrev pub quoted_form_step : CForm-F CForm Quoted → CForm
 quoted_form_step CForm-F.Top = Top

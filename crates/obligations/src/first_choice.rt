@@ -2,13 +2,13 @@
 // caller: so the frames are small, and a deep term is gone through within a small stack.
 ghost use Rattle.std.specs.Prelude.{◌≡◌, IfOk, OnOk, Some, None};
 ghost use Rattle.std.specs.Option.{option_map};
-ghost use Rattle.core_terms.specs.declared.trees.CTerm.TheVariants.{Scale, Div, Mod};
+ghost use Rattle.core_terms.specs.declared.trees.CTerm.TheVariants.{Scale};
 ghost use Rattle.obligations.specs.Settling.{within, first_ite};
-ghost use Rattle.core_terms.specs.Senses.{pair_node};
+ghost use Rattle.core_terms.specs.Senses.{pair_node, divided_node};
 
 use crate::branches::Choice;
-use crate::pairing::pair_term;
-use core_terms::{CForm, CTerm, Pairing};
+use crate::pairing::{divided_term, pair_term};
+use core_terms::{CForm, CTerm, Dividing, Pairing};
 use std::alloc::{AllocError, Global};
 use std::mem;
 use unity_base::{Held, Shared};
@@ -118,35 +118,20 @@ fn put_in_multiple(
 
 /// What was found is in what is divided.
 #[inline(never)]
-fn put_in_quotient(
+fn put_in_divided(
     alloc: Global,
+    which: Dividing,
     k: i64,
     found: &mut Option<Held<Choice>>,
 ) -> Result<(), AllocError>
-    ensures { OnOk result (found.new ≡ option_map (within (λ x. Div x k)) found.old) }
+    ensures { OnOk result (found.new ≡ option_map (within (λ x. divided_node which x k)) found.old) }
 {
     match mem::replace(found, None) {
         Some(choice) => {
             let Choice { when, yes, no } = choice.into_inner();
-            put_parts(alloc, when, CTerm::Div(yes, k), CTerm::Div(no, k), found)
-        }
-        None => Ok(()),
-    }
-}
-
-/// What was found is in what a remainder is left of.
-#[inline(never)]
-fn put_in_remainder(
-    alloc: Global,
-    k: i64,
-    found: &mut Option<Held<Choice>>,
-) -> Result<(), AllocError>
-    ensures { OnOk result (found.new ≡ option_map (within (λ x. Mod x k)) found.old) }
-{
-    match mem::replace(found, None) {
-        Some(choice) => {
-            let Choice { when, yes, no } = choice.into_inner();
-            put_parts(alloc, when, CTerm::Mod(yes, k), CTerm::Mod(no, k), found)
+            let yes = divided_term(which, yes, k);
+            let no = divided_term(which, no, k);
+            put_parts(alloc, when, yes, no, found)
         }
         None => Ok(()),
     }
@@ -174,8 +159,8 @@ fn look(alloc: Global, t: &CTerm, found: &mut Option<Held<Choice>>) -> Result<()
         CTerm::Add(a, b) => look_in_pair(alloc, Pairing::Sum, a, b, found),
         CTerm::Sub(a, b) => look_in_pair(alloc, Pairing::Difference, a, b, found),
         CTerm::Scale(k, a) => look_in_multiple(alloc, *k, a, found),
-        CTerm::Div(a, k) => look_in_quotient(alloc, a, *k, found),
-        CTerm::Mod(a, k) => look_in_remainder(alloc, a, *k, found),
+        CTerm::Div(a, k) => look_in_divided(alloc, Dividing::Quotient, a, *k, found),
+        CTerm::Mod(a, k) => look_in_divided(alloc, Dividing::Remainder, a, *k, found),
         CTerm::Ite(c, a, b) => put_choice(alloc, c, a, b, found),
     }
 }
@@ -240,34 +225,18 @@ fn look_in_multiple(
 
 #[cycle(choices)]
 #[inline(never)]
-fn look_in_quotient(
+fn look_in_divided(
     alloc: Global,
+    which: Dividing,
     a: &Shared<CTerm>,
     k: i64,
     found: &mut Option<Held<Choice>>,
 ) -> Result<(), AllocError>
     requires none { found.old ≡ None }
-    ensures { OnOk result (found.new ≡ first_ite (Div a.now k)) }
+    ensures { OnOk result (found.new ≡ first_ite (divided_node which a.now k)) }
 {
     match look(alloc, a.get(), found) {
-        Ok(()) => put_in_quotient(alloc, k, found),
-        Err(error) => Err(error),
-    }
-}
-
-#[cycle(choices)]
-#[inline(never)]
-fn look_in_remainder(
-    alloc: Global,
-    a: &Shared<CTerm>,
-    k: i64,
-    found: &mut Option<Held<Choice>>,
-) -> Result<(), AllocError>
-    requires none { found.old ≡ None }
-    ensures { OnOk result (found.new ≡ first_ite (Mod a.now k)) }
-{
-    match look(alloc, a.get(), found) {
-        Ok(()) => put_in_remainder(alloc, k, found),
+        Ok(()) => put_in_divided(alloc, which, k, found),
         Err(error) => Err(error),
     }
 }

@@ -2,14 +2,14 @@
 // caller: so the frames are small, and a deep term is gone through within a small stack.
 ghost use Rattle.std.specs.Prelude.{◌≡◌, IfOk, OnOk, Some, None};
 ghost use Rattle.std.specs.Option.{option_map};
-ghost use Rattle.core_terms.specs.declared.trees.CTerm.TheVariants.{Param, Sub, Scale, Div, Mod};
+ghost use Rattle.core_terms.specs.declared.trees.CTerm.TheVariants.{Scale};
 ghost use Rattle.meaning_states.specs.Division as division;
-ghost use Rattle.obligations.specs.Settling.{has_quotient, taken_within, first_taken, or_whole};
-ghost use Rattle.core_terms.specs.Senses.{pair_node};
+ghost use Rattle.obligations.specs.Settling.{has_quotient, taken_within, first_taken, or_whole, by_quotient};
+ghost use Rattle.core_terms.specs.Senses.{pair_node, divided_node};
 
 use crate::branches::Taken;
-use crate::pairing::pair_term;
-use core_terms::{CTerm, Pairing};
+use crate::pairing::{divided_term, pair_term};
+use core_terms::{CTerm, Dividing, Pairing};
 use std::alloc::{AllocError, Global};
 use std::mem;
 use unity_base::{Held, Shared};
@@ -92,65 +92,55 @@ fn put_in_multiple(alloc: Global, k: i64, found: &mut Option<Held<Taken>>) -> Re
     }
 }
 
-/// What was found is in what is divided; else the quotient is the whole term, and the parameter stands for it.
+/// What was found is in what is divided; else the quotient or the remainder is the whole term, and the parameter stands
+/// for the quotient.
 #[inline(never)]
-fn put_in_quotient(
+fn put_in_divided(
     alloc: Global,
     v: u32,
+    which: Dividing,
     a: &Shared<CTerm>,
     k: i64,
     found: &mut Option<Held<Taken>>,
 ) -> Result<(), AllocError>
-    ensures { OnOk result (found.new ≡ or_whole (λ x. Div x k) found.old
-        (record { of = a.now; divisor = division.divisor k; rest = Param v })) }
+    ensures { OnOk result (found.new ≡ or_whole (λ x. divided_node which x k) found.old
+        (record { of = a.now; divisor = division.divisor k; rest = by_quotient which v a.now k })) }
 {
     match mem::replace(found, None) {
         Some(taken) => {
             let Taken { of, divisor, rest } = taken.into_inner();
-            put_rest(alloc, of, divisor, CTerm::Div(rest, k), found)
-        }
-        None => put_rest(alloc, a.share()?, divisor_of(k), CTerm::Param(v), found),
-    }
-}
-
-/// What was found is in what a remainder is left of; else the remainder is the whole term, and what is divided less
-/// the divisor times the parameter stands for it.
-#[inline(never)]
-fn put_in_remainder(
-    alloc: Global,
-    v: u32,
-    a: &Shared<CTerm>,
-    k: i64,
-    found: &mut Option<Held<Taken>>,
-) -> Result<(), AllocError>
-    ensures { OnOk result (found.new ≡ or_whole (λ x. Mod x k) found.old (record {
-      of = a.now;
-      divisor = division.divisor k;
-      rest = Sub a.now (Scale (division.divisor k) (Param v));
-    })) }
-{
-    match mem::replace(found, None) {
-        Some(taken) => {
-            let Taken { of, divisor, rest } = taken.into_inner();
-            put_rest(alloc, of, divisor, CTerm::Mod(rest, k), found)
+            put_rest(alloc, of, divisor, divided_term(which, rest, k), found)
         }
         None => put_rest(
             alloc,
             a.share()?,
             divisor_of(k),
-            rest_of(alloc, v, a, k)?,
+            by_quotient(alloc, which, v, a, k)?,
             found,
         ),
     }
 }
 
-/// What is divided less the divisor times a parameter.
-fn rest_of(alloc: Global, v: u32, a: &Shared<CTerm>, k: i64) -> Result<CTerm, AllocError>
-    ensures { IfOk result (λ t. t ≡ Sub a.now (Scale (division.divisor k) (Param v))) }
+/// A quotient or a remainder where a parameter stands for the quotient: a remainder is what is divided less the divisor
+/// times the parameter.
+fn by_quotient(
+    alloc: Global,
+    which: Dividing,
+    v: u32,
+    a: &Shared<CTerm>,
+    k: i64,
+) -> Result<CTerm, AllocError>
+    ensures { IfOk result (λ t. t ≡ by_quotient which v a.now k) }
 {
-    let quotient = Shared::new(alloc, CTerm::Param(v))?;
-    let multiple = Shared::new(alloc, CTerm::Scale(divisor_of(k), quotient))?;
-    Ok(CTerm::Sub(a.share()?, multiple))
+    let quotient = CTerm::Param(v);
+    match which {
+        Dividing::Quotient => Ok(quotient),
+        Dividing::Remainder => {
+            let quotient = Shared::new(alloc, quotient)?;
+            let multiple = Shared::new(alloc, CTerm::Scale(divisor_of(k), quotient))?;
+            Ok(CTerm::Sub(a.share()?, multiple))
+        }
+    }
 }
 
 /// Leaves a quotient with what it makes of a greater term.
@@ -192,8 +182,8 @@ fn look(alloc: Global, v: u32, t: &CTerm, found: &mut Option<Held<Taken>>) -> Re
         CTerm::Add(a, b) => look_in_pair(alloc, v, Pairing::Sum, a, b, found),
         CTerm::Sub(a, b) => look_in_pair(alloc, v, Pairing::Difference, a, b, found),
         CTerm::Scale(k, a) => look_in_multiple(alloc, v, *k, a, found),
-        CTerm::Div(a, k) => look_in_quotient(alloc, v, a, *k, found),
-        CTerm::Mod(a, k) => look_in_remainder(alloc, v, a, *k, found),
+        CTerm::Div(a, k) => look_in_divided(alloc, v, Dividing::Quotient, a, *k, found),
+        CTerm::Mod(a, k) => look_in_divided(alloc, v, Dividing::Remainder, a, *k, found),
         CTerm::Ite(..) => Ok(()),
     }
 }
@@ -261,36 +251,19 @@ fn look_in_multiple(
 
 #[cycle(quotients)]
 #[inline(never)]
-fn look_in_quotient(
+fn look_in_divided(
     alloc: Global,
     v: u32,
+    which: Dividing,
     a: &Shared<CTerm>,
     k: i64,
     found: &mut Option<Held<Taken>>,
 ) -> Result<(), AllocError>
     requires none { found.old ≡ None }
-    ensures { OnOk result (found.new ≡ first_taken v (Div a.now k)) }
+    ensures { OnOk result (found.new ≡ first_taken v (divided_node which a.now k)) }
 {
     match look(alloc, v, a.get(), found) {
-        Ok(()) => put_in_quotient(alloc, v, a, k, found),
-        Err(error) => Err(error),
-    }
-}
-
-#[cycle(quotients)]
-#[inline(never)]
-fn look_in_remainder(
-    alloc: Global,
-    v: u32,
-    a: &Shared<CTerm>,
-    k: i64,
-    found: &mut Option<Held<Taken>>,
-) -> Result<(), AllocError>
-    requires none { found.old ≡ None }
-    ensures { OnOk result (found.new ≡ first_taken v (Mod a.now k)) }
-{
-    match look(alloc, v, a.get(), found) {
-        Ok(()) => put_in_remainder(alloc, v, a, k, found),
+        Ok(()) => put_in_divided(alloc, v, which, a, k, found),
         Err(error) => Err(error),
     }
 }

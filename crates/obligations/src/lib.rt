@@ -17,6 +17,7 @@ mod quotients;
 mod scopes;
 mod settling;
 mod shapes;
+mod sides;
 mod small;
 mod waiting;
 
@@ -31,4 +32,5 @@ pub use quotients::{add_quotient, is_either, without_quotient};
 pub use scopes::{has_room, next_param, scope_of};
 pub use settling::{refuse_onto, settle, settle_onto};
 pub use shapes::{height, need};
+pub use sides::{Side, settle_side};
 pub use small::{small_product, small_sum};

@@ -1,8 +1,8 @@
-//! A sum or a difference.
+//! A sum or a difference, and a quotient or a remainder.
 ghost use Rattle.std.specs.Prelude.{◌≡◌};
-ghost use Rattle.core_terms.specs.Senses.{pair_node};
+ghost use Rattle.core_terms.specs.Senses.{pair_node, divided_node};
 
-use core_terms::{CTerm, Pairing};
+use core_terms::{CTerm, Dividing, Pairing};
 use unity_base::Shared;
 
 /// The sum or the difference of two terms.
@@ -12,5 +12,15 @@ pub fn pair_term(which: Pairing, a: Shared<CTerm>, b: Shared<CTerm>) -> CTerm
     match which {
         Pairing::Sum => CTerm::Add(a, b),
         Pairing::Difference => CTerm::Sub(a, b),
+    }
+}
+
+/// The quotient or the remainder of a term by a number.
+pub fn divided_term(which: Dividing, a: Shared<CTerm>, k: i64) -> CTerm
+    ensures { result ≡ divided_node which a k }
+{
+    match which {
+        Dividing::Quotient => CTerm::Div(a, k),
+        Dividing::Remainder => CTerm::Mod(a, k),
     }
 }

@@ -18,7 +18,7 @@ use Rattle.expand_documents.specs.AlwaysNames.{Always, AreSound, Defines, with_d
 use Rattle.expand_documents.specs.AlwaysNames.{definitions_fault}
 use Rattle.expand_documents.specs.Cores.{part_definitions, with_parts}
 use Rattle.expand_documents.specs.Faults.{count_fault, heading_fault, headings_fault, headed}
-use Rattle.quantified_assign.specs.Headings.{AddsProgram, AddedHeading, AddsHeading, AddedHeadings}
+use Rattle.quantified_assign.specs.Headings.{AddedHeading, AddsHeading, AddedHeadings}
 use Rattle.quantified_assign.specs.Headings.{IsStop}
 
 -- the same place, with other always names
@@ -42,19 +42,14 @@ parts_known s new parts e =
     ap (among s) e ∙ sym (definitions_same s (flat_map part_definitions parts))
 
 -- a program's heading
-pub heading_after : (result : Result (Unit {0}) NameFault) (s : Scope) (new : Always) (p : Program) →
-    count_fault p ≡ None → Defines result s new (definitions p) → AddsProgram result s new p
-heading_after (Ok t) s new p c d = record {
+pub heading_after : (result : Result (Unit {0}) NameFault) (s : Scope) (new : Always) (at : ℕ) (p : Program) →
+    count_fault p ≡ None → Defines result s new (definitions p) → AddsHeading result s new (Part.Program at p)
+heading_after (Ok t) s new at p c d = record {
   always = d.always;
   sound = d.sound;
   fine = ap (λ (f : Option Fault). earlier f (definitions_fault s (definitions p))) c ∙ d.fine;
 }
-heading_after (Err e) s new p c d = stops_later e (count_fault p) (definitions_fault s (definitions p)) c d
-
-pub heading_of : (result : Result (Unit {0}) NameFault) (s : Scope) (new : Always) (at : ℕ) (p : Program) →
-    AddsProgram result s new p → AddsHeading result s new (Part.Program at p)
-heading_of (Ok t) s new at p a = record { always = a.always; sound = a.sound; fine = a.fine }
-heading_of (Err e) s new at p a = a
+heading_after (Err e) s new at p c d = stops_later e (count_fault p) (definitions_fault s (definitions p)) c d
 
 -- with the always names of the parts before this place, these lead to what all lead to from the old ones
 pub record HeadingsAhead (now : Scope) (place : ℕ) (rest : List Part) (old : Scope) (all : List Part) : Type 0 where

@@ -1,20 +1,14 @@
 -- Headings of parts, as the code adds what always names become.
 use Rattle.std.specs.Prelude.{◌≡◌, ◌<◌, List, length, take, Option, Some, None, Result, Ok, Err}
-use Rattle.unity_syntax.specs.declared.program.Program.{Program}
 use Rattle.unity_syntax.specs.declared.document.Part.{Part}
-use Rattle.meaning_documents.specs.Setting.{definitions}
 use Rattle.names_rules.specs.declared.named.NameFault.{NameFault}
-use Rattle.names_rules.specs.Reading.{Fault, earlier}
+use Rattle.names_rules.specs.Reading.{Fault}
 use Rattle.names_rules.specs.Answers.{Stops}
 use Rattle.expand_rules.specs.Forming.{Scope}
-use Rattle.expand_documents.specs.AlwaysNames.{Always, AreSound, with_definitions, definitions_fault}
+use Rattle.expand_documents.specs.AlwaysNames.{Always, AreSound, with_definitions}
 use Rattle.expand_documents.specs.Cores.{part_definitions, with_parts}
-use Rattle.expand_documents.specs.Faults.{count_fault, heading_fault, headings_fault, headed}
+use Rattle.expand_documents.specs.Faults.{heading_fault, headings_fault, headed}
 use Rattle.quantified_assign.specs.declared.headings.Stop.{Stop}
-
--- the fault of a program's heading
-abbrev pub program_heading : Scope → Program → Option Fault
-program_heading s p = earlier (count_fault p) (definitions_fault s (definitions p))
 
 -- the always names of a part, which were added, and whose heading has no fault
 pub record AddedHeading (s : Scope) (new : Always) (p : Part) : Type 0 where
@@ -25,16 +19,6 @@ pub record AddedHeading (s : Scope) (new : Always) (p : Part) : Type 0 where
 abbrev pub AddsHeading : Result (Unit {0}) NameFault → Scope → Always → Part → Type 0
 AddsHeading (Ok t) s new p = AddedHeading s new p
 AddsHeading (Err e) s new p = Stops e (heading_fault s p)
-
--- the same of a program, as a call answers
-pub record AddedProgram (s : Scope) (new : Always) (p : Program) : Type 0 where
-  pub always : new ≡ (with_definitions s (definitions p)).always
-  pub sound : AreSound new
-  pub fine : program_heading s p ≡ None
-
-abbrev pub AddsProgram : Result (Unit {0}) NameFault → Scope → Always → Program → Type 0
-AddsProgram (Ok t) s new p = AddedProgram s new p
-AddsProgram (Err e) s new p = Stops e (program_heading s p)
 
 -- the same of parts
 pub record AddedHeadings (s : Scope) (new : Always) (parts : List Part) : Type 0 where

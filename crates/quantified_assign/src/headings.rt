@@ -41,41 +41,6 @@ fn add_section<'a>(
     }
 }
 
-fn add_program<'a>(
-    alloc: Global,
-    program: &'a Program,
-    variables: &VariableTable<'a>,
-    values: &ValueTable<'a>,
-    always: &mut AlwaysTable<'a>,
-) -> Result<(), NameFault>
-    requires variables { VariablesHaveSlots (entries variables.now) }
-    requires sound { AreSound (entries always.old) }
-    ensures { spec.AddsProgram result
-        (definition_scope (entries variables.now) (entries values.now) (entries always.old))
-        (entries always.new) program.now }
-{
-    match program {
-        Program::Union {
-            at: _,
-            name: _,
-            left: _,
-            right: _,
-        } => Ok(()),
-        Program::Plain {
-            at: _,
-            name,
-            declare: _,
-            always: section,
-            initially: _,
-            start: _,
-            items,
-        } => {
-            check_count(alloc, name, items)?;
-            add_section(alloc, section, variables, values, always)
-        }
-    }
-}
-
 fn add_heading<'a>(
     alloc: Global,
     part: &'a Part,
@@ -90,8 +55,23 @@ fn add_heading<'a>(
         (entries always.new) part.now }
 {
     match part {
-        Part::Program { at: _, of } => add_program(alloc, of, variables, values, always),
-        Part::Proof { at: _, of: _ } => Ok(()),
+        Part::Program {
+            of: Program::Plain {
+                name,
+                always: section,
+                items,
+                ..
+            },
+            ..
+        } => {
+            check_count(alloc, name, items)?;
+            add_section(alloc, section, variables, values, always)
+        }
+        Part::Program {
+            of: Program::Union { .. },
+            ..
+        } => Ok(()),
+        Part::Proof { .. } => Ok(()),
     }
 }
 

@@ -10,7 +10,7 @@ ghost use Rattle.ranges_types.specs.Enters.{TakesSlot};
 
 use case_tables::Code;
 use indexmap::IndexSet;
-use names_checks::{Table, demand, same, signed};
+use names_checks::{Table, demand, same, signed, unknown};
 use names_rules::{
     Env, Known, Meaning, NameFault, Named, Sort, Span, is_value, is_variable, meaning,
 };
@@ -78,18 +78,11 @@ fn start_word(
 ) -> Result<(), NameFault>
     ensures { Notes result table.old table.new (start_word sort name.now named) }
 {
-    match named {
-        None => Err(NameFault::Fault {
-            code: Code::Unknown,
-            at: name.at,
-        }),
-        Some(named) => {
-            demand(is_value(named.meaning), Code::Unknown, name.at)?;
-            demand(same(named.sort, sort), Code::WrongType, name.at)?;
-            table.push((name.at, named.meaning))?;
-            Ok(())
-        }
-    }
+    let named = named.ok_or(unknown(name))?;
+    demand(is_value(named.meaning), Code::Unknown, name.at)?;
+    demand(same(named.sort, sort), Code::WrongType, name.at)?;
+    table.push((name.at, named.meaning))?;
+    Ok(())
 }
 
 fn start_value(
@@ -148,10 +141,7 @@ fn init(
         (init_part (scope known.now env.now) slots.old.keys init.now) }
 {
     match meaning(&init.name, known, env) {
-        None => Err(NameFault::Fault {
-            code: Code::Unknown,
-            at: init.name.at,
-        }),
+        None => Err(unknown(&init.name)),
         Some(named) => init_named(init, named, known, env, slots, table),
     }
 }

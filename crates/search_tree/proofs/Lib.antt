@@ -1,4 +1,3 @@
-pub mod SideLaws
 pub mod SearchLaws
 pub mod HalfLaws
 pub mod MarkLaws

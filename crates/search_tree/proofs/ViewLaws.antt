@@ -15,13 +15,13 @@ use Rattle.obligations.specs.Scopes.{next_param, scope, scope_of}
 use Rattle.obligations.specs.Settling.{settled, added}
 use Rattle.search_tree.specs.declared.halves.Half.{Half}
 use Rattle.search_tree.specs.declared.halves.Halves.{Halves}
-use Rattle.search_tree.specs.declared.sides.Side.{Side}
+use Rattle.obligations.specs.declared.sides.Side.{Side}
 use Rattle.search_tree.specs.declared.trail.Ended.{Ended}
 use Rattle.search_tree.specs.declared.trail.Trail.{Trail}
 use Rattle.search_tree.specs.declared.views.View.{View}
 use Rattle.search_tree.specs.Halves.{half_ranges, half_fact}
 use Rattle.search_tree.specs.Searching.{Ready, Ends}
-use Rattle.search_tree.specs.Sides.{side_of}
+use Rattle.obligations.specs.Sides.{side_of}
 use Rattle.search_tree.specs.Views.{Sees, IsView, IsReady, IsReadyAbove, EndsAt, leaves_at}
 use Rattle.search_tree.proofs.CycleLaws.{one-less, replaced-is}
 use Rattle.search_tree.proofs.QuotFacts.{quotient-load, quotient-light, quotient-ready, number-room}

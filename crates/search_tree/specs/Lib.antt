@@ -5,7 +5,6 @@ pub mod Points
 pub mod Searching
 pub mod Ends
 pub mod Laws
-pub mod Sides
 pub mod Views
 pub mod Halves
 pub mod Marks

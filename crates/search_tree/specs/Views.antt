@@ -5,7 +5,7 @@ use Rattle.core_terms.specs.declared.trees.Range.{Range}
 use Rattle.obligations.specs.declared.branches.Branch.{Branch}
 use Rattle.obligations.specs.declared.branches.Variable.{Variable}
 use Rattle.obligations.specs.Obligations.{AreOwn}
-use Rattle.obligations.specs.Plain.{plain_leaves, side_leaves, quot_leaves, cut_leaves}
+use Rattle.obligations.specs.Plain.{plain_leaves, quot_leaves, cut_leaves}
 use Rattle.obligations.specs.Quotients.{without_quotient}
 use Rattle.obligations.specs.Scopes.{next_param, scope_of}
 use Rattle.search_tree.specs.declared.halves.Halves.{Halves}
@@ -42,10 +42,7 @@ leaves_at view b = plain_leaves view.vs.now view.rest view.ranges.now b
 abbrev pub leaves_above : View → Branch → ℕ
 leaves_above view b = plain_leaves view.vs.now (suc view.rest) view.ranges.now b
 
--- those of both sides of a formula, of one quotient of it, and of both halves of a range
-abbrev pub leaves_by_sides : View → Branch → CForm → ℕ
-leaves_by_sides view b f = side_leaves view.scope.now (plain_leaves view.vs.now view.rest) view.ranges.now b f
-
+-- those of one quotient of a formula, and of both halves of a range
 abbrev pub leaves_by_quotient : View → Branch → CForm → ℕ
 leaves_by_quotient view b f =
     quot_leaves view.scope.now (plain_leaves view.vs.now view.rest) view.ranges.now b

@@ -1,7 +1,7 @@
 //! A count of the plain tree's leaves that goes no further than is asked: it tells that a certificate has no
 //! more units than `enough` without a search for another.
 ghost use Rattle.std.specs.Prelude.{◌≡◌, ◌-◌, ◌≤◌, ◌<◌, ◌^◌, ◌∷◌, [], pos, ◌<ℤ◌, min};
-ghost use Rattle.std.specs.Prelude.{true, false, Some, IfOk, OnOk};
+ghost use Rattle.std.specs.Prelude.{false, Some, IfOk, OnOk};
 ghost use Rattle.obligations.specs.Load.{need, term_load};
 ghost use Rattle.obligations.specs.Obligations.{IsObligation};
 ghost use Rattle.obligations.specs.Scopes as scopes;
@@ -12,25 +12,26 @@ ghost use Rattle.obligations.specs.Reach.{some_out_of_reach};
 ghost use Rattle.obligations.specs.Settling.{settled, added};
 ghost use Rattle.search_tree.specs.Halves.{half_ranges, half_fact};
 ghost use Rattle.search_tree.specs.Searching.{Ready};
-ghost use Rattle.search_tree.specs.Sides.{side_of};
+ghost use Rattle.obligations.specs.Sides.{side_of};
 ghost use Rattle.search_tree.specs.Views.{IsView, IsReady, IsReadyAbove, leaves_at, leaves_above};
-ghost use Rattle.search_tree.specs.Views.{leaves_by_sides, leaves_by_quotient, leaves_by_halves};
+ghost use Rattle.search_tree.specs.Views.{leaves_by_quotient, leaves_by_halves};
 
 use crate::closing::some_out_of_reach;
 use crate::halves::{Half, Halves, first_halves, ranges_in, take_half};
 use crate::marks::{cut_back, mark_of};
-use crate::sides::{Side, is_either, settle_side};
 use crate::taking::take_quotient;
 use crate::views::View;
 use core_terms::CForm;
 use obligations::{
-    Branch, Obligation, Replaced, has_room, next_param, open_branch, without_quotient,
+    Branch, Obligation, Replaced, Side, has_room, is_either, next_param, open_branch, settle_side,
+    without_quotient,
 };
 use std::alloc::{AllocError, Global};
 
-/// Counts the leaves of both sides of a branch's first waiting formula, which was taken out.
+/// Counts the leaves of a branch's first waiting formula, which was taken out: of both sides of an `Or`, or with a
+/// quotient taken.
 #[cycle(leaves)]
-fn leaves_of_sides(
+fn leaves_of_form(
     alloc: Global,
     view: View,
     wanted: u64,
@@ -39,42 +40,22 @@ fn leaves_of_sides(
 ) -> Result<u64, AllocError>
     requires view { IsView view branch.old }
     requires rest { view.rest < 960 }
-    requires either { is_either form.now ≡ true }
     requires ready { IsReadyAbove view (waiting_only branch.old (form.now ∷ branch.old.waiting)) }
-    ensures leaves { IfOk result (λ n. n ≡ min wanted (leaves_by_sides view.entry branch.old form.now)) }
+    requires reach { some_out_of_reach branch.old.facts ≡ false }
+    ensures leaves { IfOk result (λ n. n ≡ min wanted
+        (leaves_above view.entry (waiting_only branch.old (form.now ∷ branch.old.waiting)))) }
     ensures branch { OnOk result (branch.new ≡ branch.old) }
 {
+    if !is_either(form) {
+        let leaves = leaves_of_quot(alloc, view, wanted, form, branch)?;
+        return Ok(leaves);
+    }
     let first = leaves_of_side(alloc, view, wanted, form, Side::First, branch)?;
     if first >= wanted {
         return Ok(first);
     }
     let second = leaves_of_side(alloc, view, wanted - first, form, Side::Second, branch)?;
     Ok(first + second)
-}
-
-/// Counts leaves with a side of a formula.
-#[cycle(leaves)]
-#[tactic(auto, using(crate::proofs::MarkLaws::cut_laws))]
-fn leaves_of_side(
-    alloc: Global,
-    view: View,
-    wanted: u64,
-    form: &CForm,
-    side: Side,
-    branch: &mut Branch,
-) -> Result<u64, AllocError>
-    requires view { IsView view branch.old }
-    requires form { (need form.now).yes ≤ 2 ^ 63 }
-    requires ready { IsReady view (settled view.scope.now (side_of side form.now) branch.old) }
-    ensures leaves { IfOk result (λ n. n ≡ min wanted
-        (leaves_at view.entry (settled view.entry.scope.now (side_of side form.now) branch.old))) }
-    ensures branch { OnOk result (branch.new ≡ branch.old) }
-{
-    let mark = mark_of(branch);
-    settle_side(alloc, view.scope, form, side, branch)?;
-    let leaves = some_leaves(alloc, view, wanted, branch)?;
-    cut_back(branch, mark);
-    Ok(leaves)
 }
 
 /// Counts the leaves of a branch's first waiting formula, which was taken out, with a quotient taken.
@@ -128,6 +109,31 @@ fn leaves_without(
     Ok(leaves)
 }
 
+/// Counts leaves with a side of a formula.
+#[cycle(leaves)]
+#[tactic(auto, using(crate::proofs::MarkLaws::cut_laws))]
+fn leaves_of_side(
+    alloc: Global,
+    view: View,
+    wanted: u64,
+    form: &CForm,
+    side: Side,
+    branch: &mut Branch,
+) -> Result<u64, AllocError>
+    requires view { IsView view branch.old }
+    requires form { (need form.now).yes ≤ 2 ^ 63 }
+    requires ready { IsReady view (settled view.scope.now (side_of side form.now) branch.old) }
+    ensures leaves { IfOk result (λ n. n ≡ min wanted
+        (leaves_at view.entry (settled view.entry.scope.now (side_of side form.now) branch.old))) }
+    ensures branch { OnOk result (branch.new ≡ branch.old) }
+{
+    let mark = mark_of(branch);
+    settle_side(alloc, view.scope, form, side, branch)?;
+    let leaves = some_leaves(alloc, view, wanted, branch)?;
+    cut_back(branch, mark);
+    Ok(leaves)
+}
+
 /// Counts the leaves of both halves of a variable's range.
 #[cycle(leaves)]
 fn leaves_of_halves(
@@ -177,32 +183,6 @@ fn leaves_of_half(
     let leaves = some_leaves(alloc, view.over(ranges.as_slice()), wanted, branch)?;
     cut_back(branch, mark);
     Ok(leaves)
-}
-
-/// Counts the leaves of a branch's first waiting formula, which was taken out.
-#[cycle(leaves)]
-fn leaves_of_form(
-    alloc: Global,
-    view: View,
-    wanted: u64,
-    form: &CForm,
-    branch: &mut Branch,
-) -> Result<u64, AllocError>
-    requires view { IsView view branch.old }
-    requires rest { view.rest < 960 }
-    requires ready { IsReadyAbove view (waiting_only branch.old (form.now ∷ branch.old.waiting)) }
-    requires reach { some_out_of_reach branch.old.facts ≡ false }
-    ensures leaves { IfOk result (λ n. n ≡ min wanted
-        (leaves_above view.entry (waiting_only branch.old (form.now ∷ branch.old.waiting)))) }
-    ensures branch { OnOk result (branch.new ≡ branch.old) }
-{
-    if is_either(form) {
-        let leaves = leaves_of_sides(alloc, view, wanted, form, branch)?;
-        Ok(leaves)
-    } else {
-        let leaves = leaves_of_quot(alloc, view, wanted, form, branch)?;
-        Ok(leaves)
-    }
 }
 
 /// Counts the leaves of a branch without a fact out of reach.

@@ -12,7 +12,6 @@ mod marks;
 mod plain_tree;
 mod points;
 mod searching;
-mod sides;
 mod taking;
 mod trail;
 mod views;

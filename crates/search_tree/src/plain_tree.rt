@@ -1,6 +1,6 @@
 //! The search along the plain tree: cases in order, and then the halves of the ranges in order.
 ghost use Rattle.std.specs.Prelude.{◌≡◌, ◌-◌, ◌≤◌, ◌<◌, ◌^◌, ◌∷◌, [], pos};
-ghost use Rattle.std.specs.Prelude.{◌<ℤ◌, false, IfOk, true};
+ghost use Rattle.std.specs.Prelude.{◌<ℤ◌, false, IfOk};
 ghost use Rattle.obligations.specs.Load.{need, term_load};
 ghost use Rattle.obligations.specs.Settling.{settled, added};
 ghost use Rattle.obligations.specs.Reach.{some_out_of_reach};
@@ -9,25 +9,27 @@ ghost use Rattle.obligations.specs.Plain.{first_cut, waiting_only, plain_leaves}
 ghost use Rattle.obligations.specs.Quotients.{is_either, with_quotient};
 ghost use Rattle.search_tree.specs.Halves.{half_ranges, half_fact};
 ghost use Rattle.search_tree.specs.Searching.{Ready, Ends, IsClosed};
-ghost use Rattle.search_tree.specs.Sides.{side_of};
+ghost use Rattle.obligations.specs.Sides.{side_of};
 ghost use Rattle.search_tree.specs.Views.{IsView, IsReady, IsReadyAbove, EndsAt, EndsAbove, leaves_above};
-ghost use Rattle.search_tree.specs.Views.{leaves_by_sides, leaves_by_quotient, leaves_by_halves};
+ghost use Rattle.search_tree.specs.Views.{leaves_by_quotient, leaves_by_halves};
 
 use crate::closing::try_close;
 use crate::halves::{Half, Halves, first_halves, split_node, take_half};
 use crate::leaf::refute_leaf;
 use crate::marks::{cut_back, mark_of};
-use crate::sides::{Side, is_either, settle_side};
 use crate::taking::take_quotient;
 use crate::trail::{Ended, Trail, put_node};
 use crate::views::View;
 use core_terms::CForm;
-use obligations::{Branch, Node, Replaced, next_param, without_quotient};
+use obligations::{
+    Branch, Node, Replaced, Side, is_either, next_param, settle_side, without_quotient,
+};
 use std::alloc::{AllocError, Global};
 
-/// Refutes a branch by the two sides of its first waiting formula, an `Or`, which was taken out.
+/// Refutes a branch by its first waiting formula, which was taken out: by the two sides of an `Or`, or by taking a
+/// quotient.
 #[cycle(search)]
-fn refute_sides(
+fn refute_form(
     alloc: Global,
     view: View,
     form: &CForm,
@@ -36,13 +38,17 @@ fn refute_sides(
 ) -> Result<Ended, AllocError>
     requires view { IsView view branch.old }
     requires rest { view.rest < 960 }
-    requires either { is_either form.now ≡ true }
     requires ready { IsReadyAbove view (waiting_only branch.old (form.now ∷ branch.old.waiting)) }
+    requires reach { some_out_of_reach branch.old.facts ≡ false }
     ensures ends { IfOk result (EndsAbove view.entry
-        (leaves_by_sides view.entry branch.old form.now)
+        (leaves_above view.entry (waiting_only branch.old (form.now ∷ branch.old.waiting)))
         (waiting_only branch.old (form.now ∷ branch.old.waiting)) trail.old trail.new) }
     ensures branch { IfOk result (λ e. IsClosed e → branch.new ≡ branch.old) }
 {
+    if !is_either(form) {
+        let ended = refute_quot(alloc, view, form, branch, trail)?;
+        return Ok(ended);
+    }
     if !put_node(trail, Node::Case(1))? {
         return Ok(Ended::Stopped);
     }
@@ -54,31 +60,6 @@ fn refute_sides(
         Ended::Stopped => Ok(Ended::Stopped),
         Ended::Refuted(values) => Ok(Ended::Refuted(values)),
     }
-}
-
-/// Refutes a branch with a side of a formula.
-#[cycle(search)]
-#[tactic(auto, using(crate::proofs::MarkLaws::cut_laws))]
-fn refute_side(
-    alloc: Global,
-    view: View,
-    form: &CForm,
-    side: Side,
-    branch: &mut Branch,
-    trail: &mut Trail,
-) -> Result<Ended, AllocError>
-    requires view { IsView view branch.old }
-    requires form { (need form.now).yes ≤ 2 ^ 63 }
-    requires ready { IsReady view (settled view.scope.now (side_of side form.now) branch.old) }
-    ensures ends { IfOk result
-        (EndsAt view.entry (settled view.entry.scope.now (side_of side form.now) branch.old) trail.old trail.new) }
-    ensures branch { IfOk result (λ e. IsClosed e → branch.new ≡ branch.old) }
-{
-    let mark = mark_of(branch);
-    settle_side(alloc, view.scope, form, side, branch)?;
-    let ended = refute(alloc, view, branch, trail)?;
-    cut_back(branch, mark);
-    Ok(ended)
 }
 
 /// Refutes a branch by taking a quotient of its first waiting formula, which was taken out.
@@ -133,6 +114,31 @@ fn refute_without(
     let mark = mark_of(branch);
     let scope = take_quotient(alloc, view.vs, replaced, branch)?;
     let ended = refute(alloc, view.within(scope.as_slice()), branch, trail)?;
+    cut_back(branch, mark);
+    Ok(ended)
+}
+
+/// Refutes a branch with a side of a formula.
+#[cycle(search)]
+#[tactic(auto, using(crate::proofs::MarkLaws::cut_laws))]
+fn refute_side(
+    alloc: Global,
+    view: View,
+    form: &CForm,
+    side: Side,
+    branch: &mut Branch,
+    trail: &mut Trail,
+) -> Result<Ended, AllocError>
+    requires view { IsView view branch.old }
+    requires form { (need form.now).yes ≤ 2 ^ 63 }
+    requires ready { IsReady view (settled view.scope.now (side_of side form.now) branch.old) }
+    ensures ends { IfOk result
+        (EndsAt view.entry (settled view.entry.scope.now (side_of side form.now) branch.old) trail.old trail.new) }
+    ensures branch { IfOk result (λ e. IsClosed e → branch.new ≡ branch.old) }
+{
+    let mark = mark_of(branch);
+    settle_side(alloc, view.scope, form, side, branch)?;
+    let ended = refute(alloc, view, branch, trail)?;
     cut_back(branch, mark);
     Ok(ended)
 }
@@ -194,33 +200,6 @@ fn refute_half(
     let ended = refute(alloc, view.over(ranges.as_slice()), branch, trail)?;
     cut_back(branch, mark);
     Ok(ended)
-}
-
-/// Refutes a branch by its first waiting formula, which was taken out.
-#[cycle(search)]
-fn refute_form(
-    alloc: Global,
-    view: View,
-    form: &CForm,
-    branch: &mut Branch,
-    trail: &mut Trail,
-) -> Result<Ended, AllocError>
-    requires view { IsView view branch.old }
-    requires rest { view.rest < 960 }
-    requires ready { IsReadyAbove view (waiting_only branch.old (form.now ∷ branch.old.waiting)) }
-    requires reach { some_out_of_reach branch.old.facts ≡ false }
-    ensures ends { IfOk result (EndsAbove view.entry
-        (leaves_above view.entry (waiting_only branch.old (form.now ∷ branch.old.waiting)))
-        (waiting_only branch.old (form.now ∷ branch.old.waiting)) trail.old trail.new) }
-    ensures branch { IfOk result (λ e. IsClosed e → branch.new ≡ branch.old) }
-{
-    if is_either(form) {
-        let ended = refute_sides(alloc, view, form, branch, trail)?;
-        Ok(ended)
-    } else {
-        let ended = refute_quot(alloc, view, form, branch, trail)?;
-        Ok(ended)
-    }
 }
 
 /// Refutes a branch without a fact out of reach.

@@ -1,5 +1,5 @@
 // The bytes of a source, looked at a few ahead of the first that was not dropped, up to a limit.
-ghost use Rattle.std.specs.Prelude.{◌≡◌, ℕ, ◌+◌, ◌-◌, ◌<◌, ◌≤◌, ◌↔◌, List, [], Option, length, take, vec_len};
+ghost use Rattle.std.specs.Prelude.{◌≡◌, ℕ, ◌+◌, ◌-◌, ◌<◌, ◌≤◌, ◌↔◌, List, [], Option, length, min, take, vec_len};
 ghost use Rattle.std.specs.Prelude.{IfOk, IsTrue, IsFalse};
 ghost use Rattle.std.specs.Io.KnownBytes.{Consumes, IsAtEnd};
 ghost use Rattle.unity_base.specs.Streams.{HasCause};
@@ -27,10 +27,13 @@ pub enum Look {
 pub struct Window {
     buffer: Vec<u8>,
     from: usize,
+    // Behind the last byte that is held below the limit.
+    end: usize,
     to: usize,
     at: u64,
     limit: u64,
     ghost in_order: { from ≤ to },
+    ghost up_to_limit: { end ≡ from + min (to - from) (limit - at) },
     ghost in_buffer: { to ≤ vec_len buffer },
     ghost of_one_size: { vec_len buffer ≡ 65536 },
     ghost in_limit: { at ≤ limit },
@@ -49,6 +52,7 @@ impl Window {
         Ok(Window {
             buffer: vec![in alloc; 0; 65_536]?,
             from: 0,
+            end: 0,
             to: 0,
             at: 0,
             limit,
@@ -66,8 +70,7 @@ impl Window {
     pub fn bytes(&self) -> &[u8]
         ensures { result.now ≡ window_bytes self.now }
     {
-        let shown = (self.to - self.from).min((self.limit - self.at) as usize);
-        &self.buffer[self.from..self.from + shown]
+        &self.buffer[self.from..self.end]
     }
 
     /// Whether a byte is held at the limit or behind it.
@@ -187,6 +190,7 @@ impl Window {
         let to = self.to;
         let count = src.read(&mut self.buffer[to..])?;
         self.to = to + count;
+        self.end = self.from + (self.to - self.from).min((self.limit - self.at) as usize);
         Ok(count)
     }
 
@@ -201,6 +205,7 @@ impl Window {
         let (from, to) = (self.from, self.to);
         self.buffer.copy_within(from..to, 0);
         self.from = 0;
+        self.end -= from;
         self.to = to - from;
     }
 }

@@ -92,15 +92,17 @@ fn sum_node<'a>(alloc: Global, depth: u32, text: Cursor<'a>) -> Parsed<'a, Node>
     Ok((Node::Sum { at, pairs }, text))
 }
 
-/// `[ "-" ] number { pair }`
+/// `word [ "-" ] number { pair }`
 fn signed_multiples<'a>(
     alloc: Global,
     depth: u32,
+    word: Word,
     text: Cursor<'a>,
 ) -> Parsed<'a, (bool, u64, Seq<Pair>)>
     ensures { Reads (λ x. pair (view_flag x.0) (pair (view_number x.1) (view_list view_pair x.2))) result
-        (both minus_ (both number_ (many multiple_))) depth text.entry }
+        (past (reserved word) (both minus_ (both number_ (many multiple_)))) depth text.entry }
 {
+    let text = text.reserved(word)?;
     let (minus, text) = text.minus();
     let (number, text) = text.number()?;
     let (pairs, text) = multiples(alloc, depth, text)?;
@@ -114,8 +116,7 @@ fn round_node<'a>(alloc: Global, depth: u32, text: Cursor<'a>) -> Parsed<'a, Nod
         depth text.entry }
 {
     let at = text.place();
-    let text = text.reserved(Word::Round)?;
-    let ((minus, divisor, pairs), text) = signed_multiples(alloc, depth, text)?;
+    let ((minus, divisor, pairs), text) = signed_multiples(alloc, depth, Word::Round, text)?;
     let node = Node::Round {
         at,
         minus,
@@ -142,8 +143,7 @@ fn share_node<'a>(alloc: Global, depth: u32, text: Cursor<'a>) -> Parsed<'a, Nod
         depth text.entry }
 {
     let at = text.place();
-    let text = text.reserved(Word::Share)?;
-    let ((minus, constant, pairs), text) = signed_multiples(alloc, depth, text)?;
+    let ((minus, constant, pairs), text) = signed_multiples(alloc, depth, Word::Share, text)?;
     let node = Node::Share {
         at,
         minus,

@@ -4,7 +4,6 @@ use Rattle.std.proofs.Common.{cond, length, Option, Some, None, refl, sym, ap, �
 use Rattle.std.specs.Prelude.{slice_get}
 use Rattle.std.specs.Option.{option_map}
 use Rattle.std.proofs.lemmas.Option.{slice_get_within, get_or_from_slice_get as read}
-use Rattle.meaning_states.specs.Division.{floored, rest_of}
 use Rattle.core_terms.specs.declared.trees.CTerm.{CTerm}
 use Rattle.core_terms.specs.declared.trees.CTerm.TheVariants as term
 use Rattle.core_terms.specs.declared.trees.CTerm.TheVariants.{Const, Slot, Param, Add, Sub, Scale, Div, Mod, Ite}
@@ -17,12 +16,13 @@ use Rattle.core_terms.specs.declared.marks.Mark.{Mark}
 use Rattle.core_terms.specs.declared.known.Sense.{Sense}
 use Rattle.core_terms.specs.declared.known.Joining.{Joining}
 use Rattle.core_terms.specs.declared.known.Pairing.{Pairing}
+use Rattle.core_terms.specs.declared.known.Dividing.{Dividing}
 use Rattle.core_terms.specs.Weights.{Weights, one_weight, sum_weights, multiple_weights, quotient_weights}
 use Rattle.core_terms.specs.Weights.{remainder_weights, choice_weights}
 use Rattle.core_terms.specs.Folding.{chosen, number_of, truth_of, is_small, constant_or, truth_or, folded_term}
-use Rattle.core_terms.specs.Folding.{folded_form, scaled_term, quotient_term, remainder_term, choice_term, not_form}
-use Rattle.core_terms.specs.Folding.{branch_or, and_form}
-use Rattle.core_terms.specs.Senses.{pair_node, sense_node, joined_node, paired_term, sense_form, joined_form}
+use Rattle.core_terms.specs.Folding.{folded_form, scaled_term, choice_term, not_form, branch_or, and_form}
+use Rattle.core_terms.specs.Senses.{pair_node, divided_node, sense_node, joined_node, paired_term, divided_term}
+use Rattle.core_terms.specs.Senses.{sense_form, joined_form}
 use Rattle.core_terms.specs.Pools.{Pooled, form_or, term_or, form_of_node, term_of_node, IsFormWithin, IsTermWithin}
 use Rattle.core_terms.proofs.FoldingLaws.{known_steps}
 use Rattle.core_terms.proofs.HeavierLaws.{weight_steps}
@@ -35,7 +35,7 @@ use Rattle.wp_substitution.specs.declared.memos.FormKnown.{FormKnown}
 use Rattle.wp_substitution.specs.declared.memos.TermKnown.{TermKnown}
 use Rattle.wp_substitution.specs.declared.turning.FormTurn.{FormTurn}
 use Rattle.wp_substitution.specs.Chains.{chain_at, chain_weight, form_by, term_by, after_weights, after_weight}
-use Rattle.wp_substitution.specs.Numbers.{sense_truth, joined_truth, pair_number}
+use Rattle.wp_substitution.specs.Numbers.{sense_truth, joined_truth, pair_number, divided_number}
 use Rattle.wp_substitution.specs.Memos.{IsFormKnown, IsTermKnown, IsFormPart, IsTermPart, AreFormParts, AreTermParts}
 use Rattle.wp_substitution.specs.Memos.{IsFormTurn, IsNodeTurn}
 
@@ -61,11 +61,10 @@ number_pair Pairing.Difference a b = sym (fold_term_is known_steps _ _ (term.rol
 number_scaled : (k : ℤ) (a : CTerm) → option_map (λ x. k *ℤ x) (number_of a) ≡ number_of (Scale k a)
 number_scaled k a = sym (fold_term_is known_steps _ _ (term.rolls-Scale k a))
 
-number_divided : (a : CTerm) (k : ℤ) → option_map (λ x. floored x k) (number_of a) ≡ number_of (Div a k)
-number_divided a k = sym (fold_term_is known_steps _ _ (term.rolls-Div a k))
-
-number_left : (a : CTerm) (k : ℤ) → option_map (λ x. rest_of x k) (number_of a) ≡ number_of (Mod a k)
-number_left a k = sym (fold_term_is known_steps _ _ (term.rolls-Mod a k))
+number_divided : (which : Dividing) (a : CTerm) (k : ℤ) → divided_number which (number_of a) k ≡
+    number_of (divided_node which a k)
+number_divided Dividing.Quotient a k = sym (fold_term_is known_steps _ _ (term.rolls-Div a k))
+number_divided Dividing.Remainder a k = sym (fold_term_is known_steps _ _ (term.rolls-Mod a k))
 
 number_constant : (c : ℤ) → number_of (Const c) ≡ Some c
 number_constant c = fold_term_is known_steps _ _ (term.rolls-Const c)
@@ -182,26 +181,18 @@ module _ (p : Pooled) where
         number = e ∙ ap (option_map (λ x. m *ℤ x)) is.number ∙ number_scaled m a ∙ ap number_of (sym whole);
       }
 
-  pub quotient_turns : (m : ℤ) (a : CTerm) (k : TermKnown) (number : Option ℤ) → IsTermKnown p a k →
-      number ≡ option_map (λ x. floored x m) k.number → IsNodeTurn p (quotient_term m a) (TermNode.Div k.id m) number
-  quotient_turns m a k number is e =
-      let whole : Div (term_or p.terms k.id.place) m ≡ Div a m =
-      ap (λ t. Div t m) (read p.terms k.id.place a (Const (pos 0)) is.tree) in
+  pub divided_turns : (which : Dividing) (m : ℤ) (a : CTerm) (k : TermKnown) (node : TermNode) (number : Option ℤ) →
+      IsTermKnown p a k → term_of_node p.forms p.terms node ≡ divided_node which (term_or p.terms k.id.place) m →
+      (k.id.place < length p.terms → IsTermWithin (length p.forms) (length p.terms) node) →
+      number ≡ divided_number which k.number m → IsNodeTurn p (divided_term which m a) node number
+  divided_turns which m a k node number is made parts e =
+      let whole : term_of_node p.forms p.terms node ≡ divided_node which a m =
+      made ∙ ap (λ t. divided_node which t m) (read p.terms k.id.place a (Const (pos 0)) is.tree) in
       record {
-        parts = slice_get_within p.terms k.id.place a is.tree;
+        parts = parts (slice_get_within p.terms k.id.place a is.tree);
         tree = ap folded_term whole;
-        number = e ∙ ap (option_map (λ x. floored x m)) is.number ∙ number_divided a m ∙ ap number_of (sym whole);
-      }
-
-  pub remainder_turns : (m : ℤ) (a : CTerm) (k : TermKnown) (number : Option ℤ) → IsTermKnown p a k →
-      number ≡ option_map (λ x. rest_of x m) k.number → IsNodeTurn p (remainder_term m a) (TermNode.Mod k.id m) number
-  remainder_turns m a k number is e =
-      let whole : Mod (term_or p.terms k.id.place) m ≡ Mod a m =
-      ap (λ t. Mod t m) (read p.terms k.id.place a (Const (pos 0)) is.tree) in
-      record {
-        parts = slice_get_within p.terms k.id.place a is.tree;
-        tree = ap folded_term whole;
-        number = e ∙ ap (option_map (λ x. rest_of x m)) is.number ∙ number_left a m ∙ ap number_of (sym whole);
+        number = e ∙ ap (λ n. divided_number which n m) is.number ∙ number_divided which a m
+            ∙ ap number_of (sym whole);
       }
 
   -- a choice whose condition is open is a node that folding leaves as it is
@@ -342,10 +333,10 @@ module _ (chains : BTreeMap ℕ Chain) where
   pub by-Scale : (k : ℤ) (a : CTerm) → term_by chains (Scale k a) ≡ scaled_term k (term_by chains a)
   by-Scale k a = fold_term_is (replace_steps (chain_at chains) (λ n. Param n)) _ _ (term.rolls-Scale k a)
 
-  pub by-Div : (a : CTerm) (k : ℤ) → term_by chains (Div a k) ≡ quotient_term k (term_by chains a)
+  pub by-Div : (a : CTerm) (k : ℤ) → term_by chains (Div a k) ≡ divided_term Dividing.Quotient k (term_by chains a)
   by-Div a k = fold_term_is (replace_steps (chain_at chains) (λ n. Param n)) _ _ (term.rolls-Div a k)
 
-  pub by-Mod : (a : CTerm) (k : ℤ) → term_by chains (Mod a k) ≡ remainder_term k (term_by chains a)
+  pub by-Mod : (a : CTerm) (k : ℤ) → term_by chains (Mod a k) ≡ divided_term Dividing.Remainder k (term_by chains a)
   by-Mod a k = fold_term_is (replace_steps (chain_at chains) (λ n. Param n)) _ _ (term.rolls-Mod a k)
 
   pub by-Ite : (c : CForm) (a b : CTerm) → term_by chains (Ite c a b) ≡

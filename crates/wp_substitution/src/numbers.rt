@@ -2,11 +2,12 @@
 ghost use Rattle.std.specs.Prelude.{◌≡◌, ◌*◌, ◌^◌, ◌≤◌, ◌+ℤ◌, ◌-ℤ◌, ◌*ℤ◌, not, MatchOption};
 ghost use Rattle.std.specs.Int.RustNames.{unsigned_abs};
 ghost use Rattle.std.specs.Option.{option_map};
-ghost use Rattle.meaning_states.specs.Division.{floored, rest_of};
 ghost use Rattle.core_terms.specs.Folding.{joined};
-ghost use Rattle.wp_substitution.specs.Numbers.{sense_truth, joined_truth, pair_number, IsBounded};
+ghost use Rattle.wp_substitution.specs.Numbers.{sense_truth, joined_truth, pair_number, divided_number, IsBounded};
 
-use core_terms::{Joining, Pairing, Sense, both_true, either_true, quotient, remainder, scaled};
+use core_terms::{
+    Dividing, Joining, Pairing, Sense, both_true, either_true, quotient, remainder, scaled,
+};
 
 /// Whether a number is at least 0, or is 0.
 pub fn sense_truth(sense: Sense, number: Option<i128>) -> Option<bool>
@@ -73,16 +74,12 @@ pub fn multiple_number(k: i64, number: Option<i128>) -> Option<i128>
     Some(scaled(k, number?))
 }
 
-/// A number divided by another, rounded down.
-pub fn quotient_number(number: Option<i128>, k: i64) -> Option<i128>
-    ensures { result ≡ option_map (λ x. floored x k) number }
+/// The quotient of two numbers, rounded down, or the remainder.
+pub fn divided_number(which: Dividing, number: Option<i128>, k: i64) -> Option<i128>
+    ensures { result ≡ divided_number which number k }
 {
-    Some(quotient(number?, k))
-}
-
-/// What that division leaves.
-pub fn remainder_number(number: Option<i128>, k: i64) -> Option<i128>
-    ensures { result ≡ option_map (λ x. rest_of x k) number }
-{
-    Some(remainder(number?, k))
+    match which {
+        Dividing::Quotient => Some(quotient(number?, k)),
+        Dividing::Remainder => Some(remainder(number?, k)),
+    }
 }

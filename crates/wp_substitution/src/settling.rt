@@ -5,13 +5,13 @@ ghost use Rattle.std.specs.Prelude.{◌≡◌, All, IfOk, OnOk, MatchOption};
 ghost use Rattle.core_terms.specs.Pools.{form_or, Grows};
 ghost use Rattle.core_terms.specs.Marks.{KeepsMarks};
 ghost use Rattle.wp_substitution.specs.Chains.{AreChains, form_by};
-ghost use Rattle.wp_substitution.specs.Memos.{IsFormKnown, Remembers, IsFormPart, IsTermPart, IsPart};
+ghost use Rattle.wp_substitution.specs.Memos.{IsFormKnown, Remembers, IsFormPart, IsPart};
 
 use crate::chains::Chain;
 use crate::memos::{FormKnown, Memo, Part, TermKnown};
 use crate::nodes::{put_form_turn, put_term_turn};
 use crate::turning::{form_turn, term_turn};
-use core_terms::{FormId, Pool, TermId};
+use core_terms::{FormId, Pool};
 use std::alloc::{AllocError, Global};
 use std::collections::BTreeMap;
 use unity_base::Seq;
@@ -117,6 +117,7 @@ fn push_both(
 }
 
 // Settles a part, once its own parts are settled; the answer is else the first of these that is not.
+#[tactic(auto, using(core_terms::proofs::PoolLaws::grown))]
 fn settle(
     pool: &mut Pool,
     memo: &mut Memo,
@@ -133,59 +134,21 @@ fn settle(
     ensures marks { KeepsMarks pool.old pool.new }
 {
     match part {
-        Part::Form(id) => settle_form(pool, memo, chains, id),
-        Part::Term(id) => settle_term(pool, memo, chains, id),
-    }
-}
-
-#[tactic(auto, using(core_terms::proofs::PoolLaws::grown))]
-fn settle_form(
-    pool: &mut Pool,
-    memo: &mut Memo,
-    chains: &BTreeMap<u32, Chain>,
-    id: FormId,
-) -> Result<Option<Part>, AllocError>
-    requires known { Remembers chains.now pool.old memo.old }
-    requires chains { AreChains chains.now }
-    requires part { IsFormPart pool.old memo.old.mark id.place }
-    ensures first { IfOk result (λ first. MatchOption first (Unit {0}) (IsPart pool.new memo.new.mark)) }
-    ensures known { Remembers chains.now pool.new memo.new }
-    ensures mark { memo.new.mark ≡ memo.old.mark }
-    ensures kept { Grows pool.old pool.new }
-    ensures marks { KeepsMarks pool.old pool.new }
-{
-    match form_turn(pool, memo, chains, id) {
-        Ok(turn) => {
-            let known = put_form_turn(pool, chains, id, turn)?;
-            memo.set_form(pool, chains, id, known);
-            Ok(None)
-        }
-        Err(first) => Ok(Some(first)),
-    }
-}
-
-#[tactic(auto, using(core_terms::proofs::PoolLaws::grown))]
-fn settle_term(
-    pool: &mut Pool,
-    memo: &mut Memo,
-    chains: &BTreeMap<u32, Chain>,
-    id: TermId,
-) -> Result<Option<Part>, AllocError>
-    requires known { Remembers chains.now pool.old memo.old }
-    requires chains { AreChains chains.now }
-    requires part { IsTermPart pool.old memo.old.mark id.place }
-    ensures first { IfOk result (λ first. MatchOption first (Unit {0}) (IsPart pool.new memo.new.mark)) }
-    ensures known { Remembers chains.now pool.new memo.new }
-    ensures mark { memo.new.mark ≡ memo.old.mark }
-    ensures kept { Grows pool.old pool.new }
-    ensures marks { KeepsMarks pool.old pool.new }
-{
-    match term_turn(pool, memo, chains, id) {
-        Ok(turn) => {
-            let known = put_term_turn(pool, chains, id, turn)?;
-            memo.set_term(pool, chains, id, known);
-            Ok(None)
-        }
-        Err(first) => Ok(Some(first)),
+        Part::Form(id) => match form_turn(pool, memo, chains, id) {
+            Ok(turn) => {
+                let form = put_form_turn(pool, chains, id, turn)?;
+                memo.set_form(pool, chains, id, form);
+                Ok(None)
+            }
+            Err(first) => Ok(Some(first)),
+        },
+        Part::Term(id) => match term_turn(pool, memo, chains, id) {
+            Ok(turn) => {
+                let term = put_term_turn(pool, chains, id, turn)?;
+                memo.set_term(pool, chains, id, term);
+                Ok(None)
+            }
+            Err(first) => Ok(Some(first)),
+        },
     }
 }

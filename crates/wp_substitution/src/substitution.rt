@@ -4,19 +4,17 @@
 // within a small stack. What has failed is handed on as it is, so that a last call takes no frame.
 ghost use Rattle.std.specs.Prelude.{◌≡◌, ◌+◌, ◌*◌, ◌^◌, ◌≤◌, IfOk, None, max};
 ghost use Rattle.std.specs.Int.RustNames.{unsigned_abs};
-ghost use Rattle.meaning_states.specs.Division.{divisor};
 ghost use Rattle.core_terms.specs.declared.trees.CTerm.TheVariants as term;
 ghost use Rattle.core_terms.specs.Weights.{plain_weights, plain_weight, sum_weights, multiple_weights, choice_weights};
-ghost use Rattle.core_terms.specs.Weights.{quotient_weights, remainder_weights};
 ghost use Rattle.core_terms.specs.Folding as fold;
-ghost use Rattle.core_terms.specs.Senses.{paired_term, sense_form, joined_form};
+ghost use Rattle.core_terms.specs.Senses.{paired_term, divided_term, divided_weights, sense_form, joined_form};
 ghost use Rattle.wp_substitution.specs.Chains.{chain_at, AreChains, form_by, term_by, choice_by, after_weights};
 ghost use Rattle.wp_substitution.specs.Chains.{after_weight};
 
 use crate::chains::Chain;
 use core_terms::{
-    CForm, CTerm, Joining, Pairing, Sense, constant_known, joined_known, not_known, paired_known,
-    quotient_known, remainder_known, scaled_known, sense_known, truth_known, variable_known,
+    CForm, CTerm, Dividing, Joining, Pairing, Sense, constant_known, divided_known, joined_known,
+    not_known, paired_known, scaled_known, sense_known, truth_known, variable_known,
 };
 use std::alloc::{AllocError, Global};
 use std::collections::BTreeMap;
@@ -160,8 +158,8 @@ fn term_after(
         CTerm::Add(a, b) => pair_after(alloc, Pairing::Sum, a, b, chains, number),
         CTerm::Sub(a, b) => pair_after(alloc, Pairing::Difference, a, b, chains, number),
         CTerm::Scale(k, a) => multiple_after(alloc, *k, a, chains, number),
-        CTerm::Div(a, k) => quotient_after(alloc, a, *k, chains, number),
-        CTerm::Mod(a, k) => remainder_after(alloc, a, *k, chains, number),
+        CTerm::Div(a, k) => divided_after(alloc, Dividing::Quotient, a, *k, chains, number),
+        CTerm::Mod(a, k) => divided_after(alloc, Dividing::Remainder, a, *k, chains, number),
         CTerm::Ite(c, a, b) => choice_after(alloc, c, a, b, chains, number),
     }
 }
@@ -241,8 +239,9 @@ fn multiple_after(
 
 #[cycle(after)]
 #[inline(never)]
-fn quotient_after(
+fn divided_after(
     alloc: Global,
+    which: Dividing,
     a: &Shared<CTerm>,
     k: i64,
     chains: &BTreeMap<u32, Chain>,
@@ -250,35 +249,13 @@ fn quotient_after(
 ) -> Result<Shared<CTerm>, AllocError>
     requires known { AreChains chains.now }
     requires weight { (after_weights a.now).most ≤ 2 ^ 126 }
-    ensures tree { IfOk result (λ u. u ≡ fold.quotient_term k (term_by chains.now a.now)) }
+    ensures tree { IfOk result (λ u. u ≡ divided_term which k (term_by chains.now a.now)) }
     ensures number { IfOk result (λ u. number.new ≡ fold.number_of u) }
-    ensures own { IfOk result (λ u. (plain_weights u).own ≤ max 1 (after_weights a.now).own) }
-    ensures most { IfOk result (λ u. (plain_weights u).most ≤ (quotient_weights k (after_weights a.now)).most) }
+    ensures own { IfOk result (λ u. (plain_weights u).own ≤ (divided_weights which k (after_weights a.now)).own) }
+    ensures most { IfOk result (λ u. (plain_weights u).most ≤ (divided_weights which k (after_weights a.now)).most) }
 {
     match term_after(alloc, a.get(), chains, number) {
-        Ok(part) => quotient_known(alloc, k, part, number),
-        Err(error) => Err(error),
-    }
-}
-
-#[cycle(after)]
-#[inline(never)]
-fn remainder_after(
-    alloc: Global,
-    a: &Shared<CTerm>,
-    k: i64,
-    chains: &BTreeMap<u32, Chain>,
-    number: &mut Option<i128>,
-) -> Result<Shared<CTerm>, AllocError>
-    requires known { AreChains chains.now }
-    requires weight { (after_weights a.now).most ≤ 2 ^ 126 }
-    ensures tree { IfOk result (λ u. u ≡ fold.remainder_term k (term_by chains.now a.now)) }
-    ensures number { IfOk result (λ u. number.new ≡ fold.number_of u) }
-    ensures own { IfOk result (λ u. (plain_weights u).own ≤ 2 * (after_weights a.now).own + unsigned_abs (divisor k)) }
-    ensures most { IfOk result (λ u. (plain_weights u).most ≤ (remainder_weights k (after_weights a.now)).most) }
-{
-    match term_after(alloc, a.get(), chains, number) {
-        Ok(part) => remainder_known(alloc, k, part, number),
+        Ok(part) => divided_known(alloc, which, k, part, number),
         Err(error) => Err(error),
     }
 }

@@ -4,7 +4,7 @@ ghost use Rattle.std.specs.Prelude.{◌≡◌, ℕ, ◌*◌, ◌^◌, ◌<◌, �
 ghost use Rattle.std.specs.Int.RustNames.{unsigned_abs};
 ghost use Rattle.core_terms.specs.Folding as fold;
 ghost use Rattle.core_terms.specs.Senses as senses;
-ghost use Rattle.core_terms.specs.Senses.{paired_term, sense_form, joined_form};
+ghost use Rattle.core_terms.specs.Senses.{paired_term, divided_term, sense_form, joined_form};
 ghost use Rattle.core_terms.specs.declared.trees.CForm.{CForm};
 ghost use Rattle.core_terms.specs.declared.trees.CTerm.{CTerm};
 ghost use Rattle.core_terms.specs.declared.nodes.TermNode.{TermNode};
@@ -18,10 +18,9 @@ ghost use Rattle.wp_substitution.specs.declared.turning.TermTurn.{TermTurn};
 use crate::chains::Chain;
 use crate::memos::{FormKnown, Memo, Part, TermKnown};
 use crate::numbers::{
-    joined_truth, multiple_number, other_truth, pair_number, quotient_number, remainder_number,
-    sense_truth,
+    divided_number, joined_truth, multiple_number, other_truth, pair_number, sense_truth,
 };
-use core_terms::{FormId, FormNode, Joining, Pairing, Pool, Sense, TermId, TermNode};
+use core_terms::{Dividing, FormId, FormNode, Joining, Pairing, Pool, Sense, TermId, TermNode};
 use std::collections::BTreeMap;
 
 /// The node that a formula becomes, before it is folded, and its truth where it names no slot and no parameter.
@@ -179,8 +178,8 @@ pub fn term_turn(
         TermNode::Add(a, b) => pair_turn(pool, memo, chains, Pairing::Sum, a, b),
         TermNode::Sub(a, b) => pair_turn(pool, memo, chains, Pairing::Difference, a, b),
         TermNode::Scale(k, a) => multiple_turn(pool, memo, chains, k, a),
-        TermNode::Div(a, k) => quotient_turn(pool, memo, chains, a, k),
-        TermNode::Mod(a, k) => remainder_turn(pool, memo, chains, a, k),
+        TermNode::Div(a, k) => divided_turn(pool, memo, chains, Dividing::Quotient, a, k),
+        TermNode::Mod(a, k) => divided_turn(pool, memo, chains, Dividing::Remainder, a, k),
         TermNode::Ite(c, a, b) => choice_turn(pool, memo, chains, c, a, b),
     }
 }
@@ -235,10 +234,11 @@ fn multiple_turn(
     Ok(TermTurn::Node(TermNode::Scale(k, part.id), number))
 }
 
-fn quotient_turn(
+fn divided_turn(
     pool: &Pool,
     memo: &Memo,
     chains: &BTreeMap<u32, Chain>,
+    which: Dividing,
     a: TermId,
     k: i64,
 ) -> Result<TermTurn, Part>
@@ -246,31 +246,13 @@ fn quotient_turn(
     requires chains { AreChains chains.now }
     requires part { IsTermPart pool.now memo.now.mark a.place }
     ensures turn { IfOk result (IsTermTurn chains.now pool.now
-        (fold.quotient_term k (term_by chains.now (term_or pool.now.terms a.place)))) }
+        (divided_term which k (term_by chains.now (term_or pool.now.terms a.place)))) }
     ensures missing { IfErr result (IsPart pool.now memo.now.mark) }
 {
     let part = memo.term(pool, chains, a)?;
-    let number = quotient_number(part.number, k);
-    Ok(TermTurn::Node(TermNode::Div(part.id, k), number))
-}
-
-fn remainder_turn(
-    pool: &Pool,
-    memo: &Memo,
-    chains: &BTreeMap<u32, Chain>,
-    a: TermId,
-    k: i64,
-) -> Result<TermTurn, Part>
-    requires known { Remembers chains.now pool.now memo.now }
-    requires chains { AreChains chains.now }
-    requires part { IsTermPart pool.now memo.now.mark a.place }
-    ensures turn { IfOk result (IsTermTurn chains.now pool.now
-        (fold.remainder_term k (term_by chains.now (term_or pool.now.terms a.place)))) }
-    ensures missing { IfErr result (IsPart pool.now memo.now.mark) }
-{
-    let part = memo.term(pool, chains, a)?;
-    let number = remainder_number(part.number, k);
-    Ok(TermTurn::Node(TermNode::Mod(part.id, k), number))
+    let node = divided_node(which, part.id, k);
+    let number = divided_number(which, part.number, k);
+    Ok(TermTurn::Node(node, number))
 }
 
 // The branch alone, where the truth of the condition is known; the other branch is then not looked at.
@@ -372,5 +354,16 @@ fn pair_node(which: Pairing, a: TermId, b: TermId) -> TermNode
     match which {
         Pairing::Sum => TermNode::Add(a, b),
         Pairing::Difference => TermNode::Sub(a, b),
+    }
+}
+
+fn divided_node(which: Dividing, a: TermId, k: i64) -> TermNode
+    ensures tree { (forms : List CForm) (terms : List CTerm) → term_of_node forms terms result ≡
+        senses.divided_node which (term_or terms a.place) k }
+    ensures parts { (forms terms : ℕ) → a.place < terms → IsTermWithin forms terms result }
+{
+    match which {
+        Dividing::Quotient => TermNode::Div(a, k),
+        Dividing::Remainder => TermNode::Mod(a, k),
     }
 }

@@ -24,11 +24,8 @@ decreases-put_pair l = 2 * max (size-CTerm l.a.now) (size-CTerm l.b.now) + 1
 abbrev pub decreases-put_multiple : goal.decreases-put_multiple
 decreases-put_multiple l = 2 * size-CTerm l.a.now + 1
 
-abbrev pub decreases-put_quotient : goal.decreases-put_quotient
-decreases-put_quotient l = 2 * size-CTerm l.a.now + 1
-
-abbrev pub decreases-put_remainder : goal.decreases-put_remainder
-decreases-put_remainder l = 2 * size-CTerm l.a.now + 1
+abbrev pub decreases-put_divided : goal.decreases-put_divided
+decreases-put_divided l = 2 * size-CTerm l.a.now + 1
 
 abbrev pub decreases-put_choice : goal.decreases-put_choice
 decreases-put_choice l = 2 * max (size-CForm l.c.now) (max (size-CTerm l.a.now) (size-CTerm l.b.now)) + 1

@@ -4,6 +4,7 @@ use Rattle.std.proofs.lemmas.Result.{IfOk-weaker}
 use Rattle.core_terms.specs.Weights.{Weights, plain_weights}
 use Rattle.core_terms.specs.Replacing.{put_weights}
 use Rattle.core_terms.proofs.ReplacingLaws.{multiple_lighter, multiple_is}
+use Rattle.core_terms.proofs.WeightLaws.{divided_lighter}
 use Rattle.core_terms.proofs.replacing.+replacing.Goals as goal
 
 pub put_multiple-returns-in-Ok-clause-own : goal.put_multiple-returns-in-Ok-clause-own
@@ -38,3 +39,25 @@ put_term-returns-in-Scale-clause-most t c =
     let whole = ap (λ (w : Weights). w.most) (multiple_is c.in-Scale.k (to_z w64 (of_z w64 c.in-Scale.k)) c.args.t.now
     c.in-Scale.a c.in-Scale.is (to_z-of_z w64 c.in-Scale.k fits)) in
     IfOk-weaker c.put_multiple.result _ _ (λ u h. omega (arith, whole, h)) c.put_multiple.ensures.most
+
+pub put_divided-returns-in-Ok-clause-own : goal.put_divided-returns-in-Ok-clause-own
+put_divided-returns-in-Ok-clause-own t c =
+    let fits : FitsSigned w64 c.args.k = search rules in
+    let part = c.in-Ok.part in
+    let lighter = divided_lighter c.args.which c.args.k (to_z w64 (of_z w64 c.args.k)) (plain_weights part)
+    (put_weights c.args.a.now) (to_z-of_z w64 c.args.k fits) (
+      subst (λ x. (plain_weights part).own ≤ (put_weights x).own) c.get.ensures c.in-Ok.ensures.own,
+      subst (λ x. (plain_weights part).most ≤ (put_weights x).most) c.get.ensures c.in-Ok.ensures.most,
+    ) in
+    IfOk-weaker c.divided_known.result _ _ (λ u h. omega (arith, lighter.0, h)) c.divided_known.ensures.own
+
+pub put_divided-returns-in-Ok-clause-most : goal.put_divided-returns-in-Ok-clause-most
+put_divided-returns-in-Ok-clause-most t c =
+    let fits : FitsSigned w64 c.args.k = search rules in
+    let part = c.in-Ok.part in
+    let lighter = divided_lighter c.args.which c.args.k (to_z w64 (of_z w64 c.args.k)) (plain_weights part)
+    (put_weights c.args.a.now) (to_z-of_z w64 c.args.k fits) (
+      subst (λ x. (plain_weights part).own ≤ (put_weights x).own) c.get.ensures c.in-Ok.ensures.own,
+      subst (λ x. (plain_weights part).most ≤ (put_weights x).most) c.get.ensures c.in-Ok.ensures.most,
+    ) in
+    IfOk-weaker c.divided_known.result _ _ (λ u h. omega (arith, lighter.1, h)) c.divided_known.ensures.most

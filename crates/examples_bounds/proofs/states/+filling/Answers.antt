@@ -10,6 +10,7 @@ use Rattle.meaning_states.specs.State.{State}
 use Rattle.core_terms.specs.declared.programs.CSlot.{CSlot}
 use Rattle.core_terms.specs.Steps.{slot_ranges}
 use Rattle.meaning_executions.specs.Execution.{System}
+use Rattle.meaning_executions.specs.Properties.{Test}
 use Rattle.examples_bounds.specs.Claims.{claimed, before, after}
 use Rattle.examples_bounds.specs.Walking.{LeadsOn}
 use Rattle.examples_bounds.proofs.LoopLaws.{always, never, refuted}
@@ -35,22 +36,35 @@ leads_on-returns t c =
 pub leads_onward-returns-then-not-held : goal.leads_onward-returns-then-not-held
 leads_onward-returns-then-not-held t c =
     let x : System = claimed c.args.claim.now in
+    let p : Test = before c.args.claim.now in
+    let q : Test = after c.args.claim.now in
+    let bound = c.args.claim.now.bound in
+    let slots = slot_ranges c.args.claim.now.slots.now in
     let m : ℤ = to_z w64 c.loop-number.number-bits in
-    never _ (λ on. refuted _ (subst (λ b. IsTrue b ↔ LeadsOn (slot_ranges c.args.claim.now.slots.now) c.args.most x
-    (before c.args.claim.now) (after c.args.claim.now) c.args.claim.now.bound
-    (c.args.begun.now ++ m ∷ [])) c.if-not-held.true c.in_ok-held.ensures)
-    (on_more c.args.claim.now.slots.now c.args.most x (before c.args.claim.now) (after c.args.claim.now)
-    c.args.claim.now.bound c.args.begun.now m on))
+    let here : IsTrue c.in_ok-held.held ↔ LeadsOn slots c.args.most x p q bound (c.args.begun.now ++ m ∷ []) =
+    subst (λ (zs : State). IsTrue c.in_ok-held.held ↔ LeadsOn slots c.args.most x p q bound zs)
+    (c.as_slice.ensures ∙ c.in_ok-push.ensures.ok ∙ ap (λ (zs : State). zs ++ m ∷ []) c.in_ok-longer.ensures)
+    c.in_ok-held.ensures in
+    never _ (λ on. refuted _ (subst (λ b. IsTrue b ↔ LeadsOn slots c.args.most x p q bound
+    (c.args.begun.now ++ m ∷ [])) c.if-not-held.true here)
+    (on_more c.args.claim.now.slots.now c.args.most x p q bound c.args.begun.now m on))
 
 pub leads_onward-loop-number-preserved : goal.leads_onward-loop-number-preserved
 leads_onward-loop-number-preserved t c = λ s n there low high.
     let x : System = claimed c.args.claim.now in
+    let p : Test = before c.args.claim.now in
+    let q : Test = after c.args.claim.now in
+    let bound = c.args.claim.now.bound in
+    let slots = slot_ranges c.args.claim.now.slots.now in
     let m : ℤ = to_z w64 c.loop-number.number-bits in
     let fits : FitsSigned w64 (m +ℤ pos 1) = search rules in
     let next : n <ℤ (m +ℤ pos 1) = subst (λ z. n <ℤ z) (to_z-of_z w64 (m +ℤ pos 1) fits) high in
-    on_split c.args.claim.now.slots.now c.args.most x (before c.args.claim.now) (after c.args.claim.now)
-    c.args.claim.now.bound c.args.begun.now m n next (λ less. c.loop-number.invariant s n there low less)
-    (c.in_ok-held.ensures.0 c.if-not-held.false)
+    let here : IsTrue c.in_ok-held.held ↔ LeadsOn slots c.args.most x p q bound (c.args.begun.now ++ m ∷ []) =
+    subst (λ (zs : State). IsTrue c.in_ok-held.held ↔ LeadsOn slots c.args.most x p q bound zs)
+    (c.as_slice.ensures ∙ c.in_ok-push.ensures.ok ∙ ap (λ (zs : State). zs ++ m ∷ []) c.in_ok-longer.ensures)
+    c.in_ok-held.ensures in
+    on_split c.args.claim.now.slots.now c.args.most x p q bound c.args.begun.now m n next
+    (λ less. c.loop-number.invariant s n there low less) (here.0 c.if-not-held.false)
 
 pub leads_onward-returns : goal.leads_onward-returns
 leads_onward-returns t c =
@@ -71,14 +85,3 @@ leads_onward-returns t c =
     always _ (on_each slots c.args.most x (before c.args.claim.now) (after c.args.claim.now)
     c.args.claim.now.bound c.args.begun.now s there
     (λ n low high. c.loop-number.invariant s n there low (omega (arith, ints, end, high))))
-
-pub leads_with-returns : goal.leads_with-returns
-leads_with-returns t c =
-    let x : System = claimed c.args.claim.now in
-    let n : ℤ = c.args.number in
-    subst (λ (zs : State). IsTrue c.in_ok-held.held ↔ LeadsOn (slot_ranges c.args.claim.now.slots.now) c.args.most x
-    (before c.args.claim.now) (after c.args.claim.now) c.args.claim.now.bound zs)
-    (c.as_slice.ensures ∙ c.in_ok-push.ensures.ok
-    ∙ ap (λ (zs : State). zs ++ to_z w64 (of_z w64 n) ∷ []) c.in_ok-longer.ensures
-    ∙ ap (λ z. c.args.begun.now ++ z ∷ []) (to_z-of_z w64 n c.ranges.number))
-    c.in_ok-held.ensures

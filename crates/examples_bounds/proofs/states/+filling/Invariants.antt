@@ -11,10 +11,7 @@ invariant-leads_onward-loop-number l = (s : CSlot) (n : ℤ) → slice_get l.cla
     (before l.claim) (after l.claim) l.claim.bound (l.begun ++ n ∷ [])
 
 abbrev pub decreases-leads_on : goal.decreases-leads_on
-decreases-leads_on l = 3 * (length l.claim.now.slots.now - length l.begun.now)
+decreases-leads_on l = 2 * (length l.claim.now.slots.now - length l.begun.now)
 
 abbrev pub decreases-leads_onward : goal.decreases-leads_onward
-decreases-leads_onward l = 3 * (length l.claim.now.slots.now - length l.begun.now) - 1
-
-abbrev pub decreases-leads_with : goal.decreases-leads_with
-decreases-leads_with l = 3 * (length l.claim.now.slots.now - length l.begun.now) - 2
+decreases-leads_onward l = 2 * (length l.claim.now.slots.now - length l.begun.now) - 1

@@ -1,7 +1,6 @@
 use Rattle.std.proofs.Common.{◌++◌, ◌∷◌, [], ◌<◌, ◌-◌, length}
-use Rattle.std.proofs.Common.{IsTrue, sym, subst, ◌∙◌, arith, rules}
+use Rattle.std.proofs.Common.{IsTrue, true, false, sym, subst, ◌∙◌, arith, rules}
 use Rattle.std.specs.Prelude.{◌↔◌}
-use Rattle.std.proofs.lemmas.Result.{IfOk-weaker}
 use Rattle.meaning_states.specs.State.{State, is_state}
 use Rattle.core_terms.specs.Steps.{slot_ranges}
 use Rattle.meaning_executions.specs.Execution.{System}
@@ -48,34 +47,35 @@ comes-returns-then-most-eq0 t c = λ made stands.
     always _ (subst (λ m. Comes x q c.args.claim.now.bound m made c.args.state.now) (sym c.if-most-eq0.true)
     (comes_last x q c.args.claim.now.bound made c.args.state.now few))
 
-pub comes-returns : goal.comes-returns
-comes-returns t c =
+pub comes-loop-choice-preserved : goal.comes-loop-choice-preserved
+comes-loop-choice-preserved t c = λ n less made stands u e.
+    below_more (λ m. ComesAt (claimed c.args.claim.now) (after c.args.claim.now) c.args.claim.now.bound
+    (c.args.most - 1) made c.args.state.now m) c.loop-choice.choice (λ m h. c.loop-choice.invariant m h made stands)
+    ((c.in_ok-held.ensures made stands).0 c.if-not-held.false) n less u e
+
+pub comes-returns-then-not-held : goal.comes-returns-then-not-held
+comes-returns-then-not-held t c = λ made stands.
     let x : System = claimed c.args.claim.now in
     let q : Test = after c.args.claim.now in
     let steps = steps_are c.args.claim.now.slots.now c.args.claim.now.program.now in
-    IfOk-weaker c.comes_after.result _ _
-    (λ b known made stands. comes_step x q c.args.claim.now.bound c.args.most (c.args.most - 1) made c.args.state.now b
+    comes_step x q c.args.claim.now.bound c.args.most (c.args.most - 1) made c.args.state.now false
     (omega (arith, c.if-most-eq0.false)) (sym c.holds.ensures ∙ c.if-holds.false)
     (few_rounds made (length x.steps) c.args.count.now.instances c.rounds.result c.args.claim.now.bound
     (steps ∙ sym c.requires.instances) (c.rounds.ensures made stands) c.requires.claim.bound c.if-rounds-claim.false)
-    (known made stands))
-    c.comes_after.ensures
+    (never _ (λ all. refuted _ (subst (λ b. IsTrue b ↔ ComesAt x q c.args.claim.now.bound (c.args.most - 1) made
+    c.args.state.now c.loop-choice.choice) c.if-not-held.true (c.in_ok-held.ensures made stands))
+    (all c.loop-choice.choice)))
 
-pub comes_after-loop-choice-preserved : goal.comes_after-loop-choice-preserved
-comes_after-loop-choice-preserved t c = λ n less made stands u e.
-    below_more (λ m. ComesAt (claimed c.args.claim.now) (after c.args.claim.now) c.args.claim.now.bound c.args.most made
-    c.args.state.now m) c.loop-choice.choice (λ m h. c.loop-choice.invariant m h made stands)
-    ((c.in_ok-held.ensures made stands).0 c.if-not-held.false) n less u e
-
-pub comes_after-returns-then-not-held : goal.comes_after-returns-then-not-held
-comes_after-returns-then-not-held t c = λ made stands.
-    never _ (λ all. refuted _ (subst (λ b. IsTrue b ↔ ComesAt (claimed c.args.claim.now) (after c.args.claim.now)
-    c.args.claim.now.bound c.args.most made c.args.state.now c.loop-choice.choice) c.if-not-held.true
-    (c.in_ok-held.ensures made stands)) (all c.loop-choice.choice))
-
-pub comes_after-returns : goal.comes_after-returns
-comes_after-returns t c = λ made stands.
-    always _ (λ n u e.
+pub comes-returns : goal.comes-returns
+comes-returns t c = λ made stands.
+    let x : System = claimed c.args.claim.now in
+    let q : Test = after c.args.claim.now in
+    let steps = steps_are c.args.claim.now.slots.now c.args.claim.now.program.now in
+    comes_step x q c.args.claim.now.bound c.args.most (c.args.most - 1) made c.args.state.now true
+    (omega (arith, c.if-most-eq0.false)) (sym c.holds.ensures ∙ c.if-holds.false)
+    (few_rounds made (length x.steps) c.args.count.now.instances c.rounds.result c.args.claim.now.bound
+    (steps ∙ sym c.requires.instances) (c.rounds.ensures made stands) c.requires.claim.bound c.if-rounds-claim.false)
+    (always _ (λ n u e.
     let within = chosen_within c.args.claim.now.slots.now c.args.claim.now.program.now n c.args.state.now u e in
     let below : n < c.loop-choice.choice = omega (
       arith,
@@ -83,7 +83,7 @@ comes_after-returns t c = λ made stands.
       c.loop-choice-test.false,
       c.instances-choice-end.ensures,
     ) in
-    c.loop-choice.invariant n below made stands u e)
+    c.loop-choice.invariant n below made stands u e))
 
 pub comes_at-comes-requires : goal.comes_at-comes-requires
 comes_at-comes-requires t c =

@@ -1,7 +1,6 @@
-use Rattle.std.proofs.Common.{[], ◌<◌, ◌-◌, IsTrue, sym, subst}
+use Rattle.std.proofs.Common.{[], ◌<◌, ◌-◌, IsTrue, true, false, sym, subst}
 use Rattle.std.proofs.Common.{◌∙◌, arith, rules}
 use Rattle.std.specs.Prelude.{◌↔◌}
-use Rattle.std.proofs.lemmas.Result.{IfOk-weaker}
 use Rattle.meaning_states.specs.State.{State, is_state}
 use Rattle.core_terms.specs.Steps.{slot_ranges}
 use Rattle.meaning_executions.specs.Execution.{System}
@@ -13,14 +12,14 @@ use Rattle.examples_bounds.proofs.StepLaws.{chosen_within, step_stays}
 use Rattle.examples_bounds.proofs.WalkLaws.{leads_here, leads_last, leads_step, leads_next}
 use Rattle.examples_bounds.proofs.walking.+leading.Goals as goal
 
-pub leads-returns-then-not-held : goal.leads-returns-then-not-held
-leads-returns-then-not-held t c =
+pub leads-returns-then-not-here : goal.leads-returns-then-not-here
+leads-returns-then-not-here t c =
     let x : System = claimed c.args.claim.now in
     let p : Test = before c.args.claim.now in
     let q : Test = after c.args.claim.now in
     let s : State = c.args.state.now in
     never _ (λ leads. refuted _ (subst (λ b. IsTrue b ↔ (IsTrue (p s) →
-    Comes x q c.args.claim.now.bound c.args.most [] s)) c.if-not-held.true c.in_ok-held.ensures)
+    Comes x q c.args.claim.now.bound c.args.most [] s)) c.if-not-here.true c.in_ok-here.ensures)
     (λ h. leads_here x q c.args.claim.now.bound p c.args.most s leads h))
 
 pub leads-returns-then-most-eq0 : goal.leads-returns-then-most-eq0
@@ -31,35 +30,32 @@ leads-returns-then-most-eq0 t c =
     let s : State = c.args.state.now in
     always _ (subst (λ m. Leads x p q c.args.claim.now.bound m s) (sym c.if-most-eq0.true)
     (leads_last x q c.args.claim.now.bound p s (λ h. subst (λ m. Comes x q c.args.claim.now.bound m [] s)
-    c.if-most-eq0.true (c.in_ok-held.ensures.0 c.if-not-held.false h))))
+    c.if-most-eq0.true (c.in_ok-here.ensures.0 c.if-not-here.false h))))
+
+pub leads-loop-choice-preserved : goal.leads-loop-choice-preserved
+leads-loop-choice-preserved t c = λ n less u e.
+    below_more (λ m. LeadsAt (claimed c.args.claim.now) (before c.args.claim.now) (after c.args.claim.now)
+    c.args.claim.now.bound (c.args.most - 1) c.args.state.now m) c.loop-choice.choice c.loop-choice.invariant
+    (c.in_ok-held.ensures.0 c.if-not-held.false) n less u e
+
+pub leads-returns-then-not-held : goal.leads-returns-then-not-held
+leads-returns-then-not-held t c =
+    let x : System = claimed c.args.claim.now in
+    let p : Test = before c.args.claim.now in
+    let q : Test = after c.args.claim.now in
+    leads_step x q c.args.claim.now.bound p c.args.most (c.args.most - 1) c.args.state.now false
+    (omega (arith, c.if-most-eq0.false)) (c.in_ok-here.ensures.0 c.if-not-here.false)
+    (never _ (λ all. refuted _ (subst (λ b. IsTrue b ↔ LeadsAt x p q c.args.claim.now.bound (c.args.most - 1)
+    c.args.state.now c.loop-choice.choice) c.if-not-held.true c.in_ok-held.ensures) (all c.loop-choice.choice)))
 
 pub leads-returns : goal.leads-returns
 leads-returns t c =
     let x : System = claimed c.args.claim.now in
     let p : Test = before c.args.claim.now in
     let q : Test = after c.args.claim.now in
-    let s : State = c.args.state.now in
-    IfOk-weaker c.leads_after.result _ _
-    (λ b known. leads_step x q c.args.claim.now.bound p c.args.most (c.args.most - 1) s b
-    (omega (arith, c.if-most-eq0.false)) (c.in_ok-held.ensures.0 c.if-not-held.false) known)
-    c.leads_after.ensures
-
-pub leads_after-loop-choice-preserved : goal.leads_after-loop-choice-preserved
-leads_after-loop-choice-preserved t c = λ n less u e.
-    below_more (λ m. LeadsAt (claimed c.args.claim.now) (before c.args.claim.now) (after c.args.claim.now)
-    c.args.claim.now.bound c.args.most c.args.state.now m) c.loop-choice.choice c.loop-choice.invariant
-    (c.in_ok-held.ensures.0 c.if-not-held.false) n less u e
-
-pub leads_after-returns-then-not-held : goal.leads_after-returns-then-not-held
-leads_after-returns-then-not-held t c =
-    never _ (λ all. refuted _ (subst (λ b. IsTrue b ↔ LeadsAt (claimed c.args.claim.now) (before c.args.claim.now)
-    (after c.args.claim.now) c.args.claim.now.bound c.args.most c.args.state.now c.loop-choice.choice)
-    c.if-not-held.true
-    c.in_ok-held.ensures) (all c.loop-choice.choice))
-
-pub leads_after-returns : goal.leads_after-returns
-leads_after-returns t c =
-    always _ (λ n u e.
+    leads_step x q c.args.claim.now.bound p c.args.most (c.args.most - 1) c.args.state.now true
+    (omega (arith, c.if-most-eq0.false)) (c.in_ok-here.ensures.0 c.if-not-here.false)
+    (always _ (λ n u e.
     let within = chosen_within c.args.claim.now.slots.now c.args.claim.now.program.now n c.args.state.now u e in
     let below : n < c.loop-choice.choice = omega (
       arith,
@@ -67,7 +63,7 @@ leads_after-returns t c =
       c.loop-choice-test.false,
       c.instances-choice-end.ensures,
     ) in
-    c.loop-choice.invariant n below u e)
+    c.loop-choice.invariant n below u e))
 
 pub leads_at-leads-requires : goal.leads_at-leads-requires
 leads_at-leads-requires t c =

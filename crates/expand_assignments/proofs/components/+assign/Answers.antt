@@ -11,7 +11,7 @@ use Rattle.expand_rules.specs.Assigning.{beside, nothing, component_effect, effe
 use Rattle.expand_expressions.specs.Places.{scope}
 use Rattle.expand_assignments.specs.Adding.{Adds, AddsAll, Halts, each_effect, with_range}
 use Rattle.expand_assignments.proofs.AddLaws.{adds_all_beside, adds_one, halts_ranged, ranged_done, adds_all_after}
-use Rattle.expand_assignments.proofs.AddLaws.{all_halts, halts_all, left_of, numbers_next, numbers_halt}
+use Rattle.expand_assignments.proofs.AddLaws.{all_halts, halts_all, left_of, numbers_next, numbers_end, numbers_halt}
 use Rattle.expand_assignments.proofs.EffectLaws.{ranged}
 use Rattle.expand_assignments.proofs.AssignLaws.{assign-parts, component-Quantified}
 use Rattle.expand_assignments.proofs.components.+assign.Goals as goal
@@ -65,45 +65,37 @@ further-returns-in_err-component t c =
     (ap (λ (y : Component). fold beside (beside now (made y)) (map made (drop (i + 1) xs))) c.c-item.is
     ∙ sym (left_of made xs i item now c.loop-c-test.true) ∙ c.loop-c.invariant.0) c.in_err-component.ensures))
 
-pub instances-returns-in_err-instance : goal.instances-returns-in_err-instance
-instances-returns-in_err-instance t c =
-    let s = scope c.args.known.now c.args.env.now in
-    let p = err_from_is_err_and c.from_residual.result c.from_residual.ensures.1 in
-    let made : ℤ → Effect = λ z. effect_of c.args.of.now (with_number s c.args.name.now.text z) in
-    let f = c.in_err-instance.field-0.0 in
-    rw (p.1, p.2) (numbers_halt f made c.args.numbers.now.first c.loop-i.i c.args.numbers.now.count c.args.effect.now
-    c.instance.new.effect c.loop-i.effect c.loop-i-test.true c.loop-i.invariant.0
-    (subst (λ (b : Bound). Halts f c.loop-i.effect (effect_of c.args.of.now
-    (record s { bound = (c.args.name.now.text, b) ∷ s.bound })))
-    c.bound_at.ensures c.in_err-instance.ensures))
-
-pub instances-loop-i-preserved : goal.instances-loop-i-preserved
-instances-loop-i-preserved t c =
-    let s = scope c.args.known.now c.args.env.now in
-    let made : ℤ → Effect = λ z. effect_of c.args.of.now (with_number s c.args.name.now.text z) in
-    let first = c.args.numbers.now.first in
-    let n = c.args.numbers.now.count in
-    numbers_next made first c.loop-i.i n c.loop-i.effect c.instance.new.effect
-    (fold beside c.args.effect.now (map made (count_up first n))) c.loop-i-test.true c.loop-i.invariant.0
-    (c.in_ok-instance.ensures ∙ ap (λ (b : Bound). beside c.loop-i.effect
-    (effect_of c.args.of.now (record s { bound = (c.args.name.now.text, b) ∷ s.bound }))) c.bound_at.ensures)
-
-pub quantified-returns-in_err-instances : goal.quantified-returns-in_err-instances
-quantified-returns-in_err-instances t c =
+pub quantified-returns-in_err-instance : goal.quantified-returns-in_err-instance
+quantified-returns-in_err-instance t c =
     let s = scope c.args.known.now c.args.env.now in
     let range = c.args.range.now in
     let p = err_from_is_err_and c.from_residual.result c.from_residual.ensures.1 in
     let made : ℤ → Effect = λ z. effect_of c.args.of.now (with_number s c.args.name.now.text z) in
-    let f = c.in_err-instances.field-0.0 in
+    let f = c.in_err-instance.field-0.0 in
     let taken = c.range_numbers-numbers.result in
     let old = c.args.effect.now in
     rw (p.1, p.2) (halts_ranged f (is_fixed_range s.bound range) (range_misfit (numbers s.bound) range) old
     (fold beside nothing (map made (fit_values (numbers s.bound) range)))
     (subst (λ (zs : List ℤ). Halts f old (fold beside nothing (map made zs)))
     (sym c.range_numbers-numbers.ensures.values)
-    (adds_all_beside (Err f) old c.instances.new.effect (map made (count_up taken.first taken.count))
+    (adds_all_beside (Err f) old c.instance.new.effect (map made (count_up taken.first taken.count))
     c.requires.counted
-    c.in_err-instances.ensures)))
+    (numbers_halt f made taken.first c.loop-i.i taken.count old c.instance.new.effect c.loop-i.effect
+    c.loop-i-test.true c.loop-i.invariant.0
+    (subst (λ (b : Bound). Halts f c.loop-i.effect (effect_of c.args.of.now
+    (record s { bound = (c.args.name.now.text, b) ∷ s.bound })))
+    c.bound_at.ensures c.in_err-instance.ensures)))))
+
+pub quantified-loop-i-preserved : goal.quantified-loop-i-preserved
+quantified-loop-i-preserved t c =
+    let s = scope c.args.known.now c.args.env.now in
+    let made : ℤ → Effect = λ z. effect_of c.args.of.now (with_number s c.args.name.now.text z) in
+    let taken = c.range_numbers-numbers.result in
+    numbers_next made taken.first c.loop-i.i taken.count c.loop-i.effect c.instance.new.effect
+    (fold beside c.args.effect.now (map made (count_up taken.first taken.count))) c.loop-i-test.true
+    c.loop-i.invariant.0
+    (c.in_ok-instance.ensures ∙ ap (λ (b : Bound). beside c.loop-i.effect
+    (effect_of c.args.of.now (record s { bound = (c.args.name.now.text, b) ∷ s.bound }))) c.bound_at.ensures)
 
 pub quantified-returns : goal.quantified-returns
 quantified-returns t c =
@@ -112,7 +104,7 @@ quantified-returns t c =
     let made : ℤ → Effect = λ z. effect_of c.args.of.now (with_number s c.args.name.now.text z) in
     let taken = c.range_numbers-numbers.result in
     let old = c.args.effect.now in
-    let mid = c.instances.new.effect in
+    let mid = c.loop-i.effect in
     let fixed = is_fixed_range s.bound range in
     let place = range_misfit (numbers s.bound) range in
     let whole : Effect = fold beside nothing (map made (fit_values (numbers s.bound) range)) in
@@ -121,6 +113,7 @@ quantified-returns t c =
     (subst (λ (zs : List ℤ). mid ≡ beside old (fold beside nothing (map made zs)))
     (sym c.range_numbers-numbers.ensures.values)
     (adds_all_beside (Ok tt) old mid (map made (count_up taken.first taken.count)) c.requires.counted
-    c.in_ok-instances.ensures))
+    (numbers_end made taken.first c.loop-i.i taken.count mid
+    (fold beside old (map made (count_up taken.first taken.count))) c.loop-i-test.false c.loop-i.invariant.0)))
     (c.mark_range.ensures ∙ ap (λ b. with_range b c.range_misfit.result mid) c.is_fixed_range.ensures
     ∙ ap (λ m. with_range fixed m mid) c.range_misfit.ensures)) c.count_one.ensures

@@ -5,8 +5,8 @@ use Rattle.expand_rules.specs.Assigning.{beside, component_effect, effect_of}
 use Rattle.expand_expressions.specs.Places.{scope}
 use Rattle.expand_assignments.proofs.components.+assign.Given as goal
 
-abbrev pub invariant-instances-loop-i : goal.invariant-instances-loop-i
-invariant-instances-loop-i l =
+abbrev pub invariant-quantified-loop-i : goal.invariant-quantified-loop-i
+invariant-quantified-loop-i l =
     (fold beside l.effect (map (λ z. effect_of l.of (with_number (scope l.known l.env) l.name.text z))
     (count_up (l.numbers.first +ℤ pos l.i) (l.numbers.count - l.i))) ≡
     fold beside l.fn.effect (map (λ z. effect_of l.of (with_number (scope l.known l.env) l.name.text z))

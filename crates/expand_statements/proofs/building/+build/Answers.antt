@@ -1,4 +1,4 @@
-use Rattle.std.proofs.Common.{◌∷◌, ◌++◌, [], ℤ, List, map, sym, ap, ◌∙◌, rules}
+use Rattle.std.proofs.Common.{◌∷◌, ◌++◌, ℤ, List, map, sym, ap, ◌∙◌, rules}
 use Rattle.std.proofs.Common.{FitsSigned, w64}
 use Rattle.std.proofs.lemmas.Int.{to_z-of_z}
 use Rattle.std.specs.List.{flat_map}
@@ -7,17 +7,14 @@ use Rattle.unity_syntax.specs.declared.statement.Items.{Items}
 use Rattle.meaning_documents.specs.Instances.{Instance}
 use Rattle.meaning_executions.specs.Counting.{count_up}
 use Rattle.core_terms.specs.declared.programs.CStmt.{CStmt}
-use Rattle.expand_rules.specs.Forming.{numbers}
-use Rattle.expand_expressions.specs.Places.{bound_names}
-use Rattle.expand_statements.specs.Visiting.{scope_among}
-use Rattle.expand_statements.specs.Building.{fit_item, fit_items, made_statement}
+use Rattle.expand_statements.specs.Building.{fit_item, fit_items, made_at, site_numbers}
 use Rattle.expand_statements.proofs.BuildLaws.{fit-Quantified, fit-parts, gives_same, gives_both, made_number}
 use Rattle.expand_statements.proofs.building.+build.Goals as goal
 
 pub push_item-returns-in-Quantified : goal.push_item-returns-in-Quantified
 push_item-returns-in-Quantified t c =
-    let made : Instance → CStmt = made_statement c.args.words.now (scope_among c.args.known.now []) in
-    let b = numbers (bound_names c.args.env.now) in
+    let made : Instance → CStmt = made_at c.args.site.now in
+    let b = site_numbers c.args.site.now in
     let q = c.in-Quantified in
     let taken = c.range_numbers-numbers.result in
     gives_same c.push_numbers.result c.push_numbers.new.list c.args.list.now
@@ -32,8 +29,8 @@ push_item-returns-in-Quantified t c =
 
 pub push_numbers-loop-i-preserved : goal.push_numbers-loop-i-preserved
 push_numbers-loop-i-preserved t c =
-    let made : Instance → CStmt = made_statement c.args.words.now (scope_among c.args.known.now []) in
-    let b = numbers (bound_names c.args.env.now) in
+    let made : Instance → CStmt = made_at c.args.site.now in
+    let b = site_numbers c.args.site.now in
     let each : ℤ → List Instance = λ z. fit_items c.args.of.now ((c.args.name.now.text, z) ∷ b) in
     let fits : FitsSigned w64 c.number_at-number.result = search rules in
     made_number made each c.args.taken.now.first c.loop-i.i c.args.taken.now.count c.loop-i.list
@@ -46,8 +43,8 @@ push_numbers-loop-i-preserved t c =
 
 pub push_all-returns : goal.push_all-returns
 push_all-returns t c =
-    let made : Instance → CStmt = made_statement c.args.words.now (scope_among c.args.known.now []) in
-    let b = numbers (bound_names c.args.env.now) in
+    let made : Instance → CStmt = made_at c.args.site.now in
+    let b = site_numbers c.args.site.now in
     let x = c.args.items.now in
     gives_both c.push_further.result made c.args.list.now c.push_item.new.list c.push_further.new.list
     (fit_item x.first b)

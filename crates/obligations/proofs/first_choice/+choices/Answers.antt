@@ -2,10 +2,11 @@ use Rattle.std.proofs.Common.{rules, w64, FitsSigned, ap, sym, ◌∙◌}
 use Rattle.std.proofs.lemmas.Int.{to_z-of_z}
 use Rattle.std.proofs.lemmas.Result.{on_ok_weaker}
 use Rattle.std.specs.Option.{option_map}
-use Rattle.core_terms.specs.declared.trees.CTerm.TheVariants.{Scale, Div, Mod}
+use Rattle.core_terms.specs.declared.trees.CTerm.TheVariants.{Scale}
+use Rattle.core_terms.specs.Senses.{divided_node}
 use Rattle.obligations.specs.Settling.{within, first_ite}
-use Rattle.obligations.proofs.TreeLaws.{choice-in-first, choice-in-second, choice-in-multiple, choice-in-quotient}
-use Rattle.obligations.proofs.TreeLaws.{choice-in-remainder, ite-Ite}
+use Rattle.obligations.proofs.TreeLaws.{choice-in-first, choice-in-second, choice-in-multiple, choice-in-divided}
+use Rattle.obligations.proofs.TreeLaws.{ite-Ite}
 use Rattle.obligations.proofs.first_choice.+choices.Goals as goal
 
 pub look-returns-in-Ite : goal.look-returns-in-Ite
@@ -22,23 +23,14 @@ look_in_multiple-returns-in-Ok t c =
     (to_z-of_z w64 c.args.k fits)
     ∙ choice-in-multiple c.args.k c.args.a.now c.look.new.found part) c.put_in_multiple.ensures
 
-pub look_in_quotient-returns-in-Ok : goal.look_in_quotient-returns-in-Ok
-look_in_quotient-returns-in-Ok t c =
+pub look_in_divided-returns-in-Ok : goal.look_in_divided-returns-in-Ok
+look_in_divided-returns-in-Ok t c =
     let fits : FitsSigned w64 c.args.k = search rules in
     let part = c.in-Ok.ensures ∙ ap first_ite c.get.ensures in
-    on_ok_weaker c.put_in_quotient.result
-    (λ h. h ∙ ap (λ z. option_map (within (λ x. Div x z)) c.look.new.found)
+    on_ok_weaker c.put_in_divided.result
+    (λ h. h ∙ ap (λ z. option_map (within (λ x. divided_node c.args.which x z)) c.look.new.found)
     (to_z-of_z w64 c.args.k fits)
-    ∙ choice-in-quotient c.args.a.now c.args.k c.look.new.found part) c.put_in_quotient.ensures
-
-pub look_in_remainder-returns-in-Ok : goal.look_in_remainder-returns-in-Ok
-look_in_remainder-returns-in-Ok t c =
-    let fits : FitsSigned w64 c.args.k = search rules in
-    let part = c.in-Ok.ensures ∙ ap first_ite c.get.ensures in
-    on_ok_weaker c.put_in_remainder.result
-    (λ h. h ∙ ap (λ z. option_map (within (λ x. Mod x z)) c.look.new.found)
-    (to_z-of_z w64 c.args.k fits)
-    ∙ choice-in-remainder c.args.a.now c.args.k c.look.new.found part) c.put_in_remainder.ensures
+    ∙ choice-in-divided c.args.which c.args.a.now c.args.k c.look.new.found part) c.put_in_divided.ensures
 
 pub look_on-returns-then-is_some : goal.look_on-returns-then-is_some
 look_on-returns-then-is_some t c =

@@ -14,8 +14,5 @@ decreases-look_on l = 3 * max (size-CTerm l.a.now) (size-CTerm l.b.now) + 1
 abbrev pub decreases-look_in_multiple : goal.decreases-look_in_multiple
 decreases-look_in_multiple l = 3 * size-CTerm l.a.now + 1
 
-abbrev pub decreases-look_in_quotient : goal.decreases-look_in_quotient
-decreases-look_in_quotient l = 3 * size-CTerm l.a.now + 1
-
-abbrev pub decreases-look_in_remainder : goal.decreases-look_in_remainder
-decreases-look_in_remainder l = 3 * size-CTerm l.a.now + 1
+abbrev pub decreases-look_in_divided : goal.decreases-look_in_divided
+decreases-look_in_divided l = 3 * size-CTerm l.a.now + 1

@@ -1,16 +1,58 @@
-use Rattle.std.proofs.Common.{◌++◌, [], Err, Some, refl, sym, ◌∙◌}
+use Rattle.std.proofs.Common.{◌≡◌, ◌++◌, List, [], true, Result, Ok, Err, Some, refl, sym, map, ◌∙◌}
+use Rattle.std.specs.Result.{IsErrAnd}
 use Rattle.case_tables.specs.declared.kind_table.Kind.{Kind}
 use Rattle.case_tables.specs.declared.code_table.Code.{Code}
 use Rattle.core_terms.specs.declared.trees.CForm.{CForm}
 use Rattle.core_terms.specs.declared.documents.Helper.{Helper}
-use Rattle.rules_table.specs.Table.{Site, record_of, is_helper, unless_forms, helper_forms, ensures_of}
+use Rattle.obligations.specs.declared.branches.Obligation.{Obligation}
+use Rattle.rules_table.specs.Table.{Site, record_of, is_helper, unless_forms, meant_forms, helped_form, instances_of}
+use Rattle.rules_table.specs.Table.{helper_forms, ensures_of}
 use Rattle.rules_table.proofs.RowEquations.{ensures-is}
 use Rattle.rules_table.proofs.EnsuresSound.{ensures_sound}
+use Rattle.safety_rules.specs.declared.places.Derived.{Derived}
+use Rattle.safety_rules.specs.declared.places.RuleError.{RuleError}
 use Rattle.safety_rules.specs.Answers.{site_of, RuleAnswers}
+use Rattle.safety_rules.specs.Goals.{Added}
 use Rattle.safety_rules.proofs.AnswerLaws.{needs_met, needs_not, refused_goals, rule_given, refused, given_by}
+use Rattle.safety_rules.proofs.AnswerLaws.{first_part_fails, second_part_added}
 use Rattle.safety_rules.proofs.SoundLaws.{site_good, answer_stands, error_stands}
 use Rattle.safety_rules.proofs.ErrorLaws.{handed_on}
 use Rattle.safety_rules.proofs.ensuring.ensures_rule.Goals as goal
+
+module _ (site : Site) (p q : CForm) (h : Helper) where
+  abbrev helped_forms : List CForm
+  helped_forms = map (helped_form site p q h) (instances_of site h)
+
+  abbrev all_forms : List CForm
+  all_forms = unless_forms site p q ++ helper_forms site p q h
+
+  -- an obligation is too large, or memory was refused for it
+  not_added : (r : Result Derived RuleError) (e : RuleError) (old new : List Obligation) → is_helper site h ≡ true →
+      IsErrAnd r (λ x. x ≡ e) → Added {T = Unit {0}} (Err e) old new site.slots site.params all_forms →
+      RuleAnswers r site.slots (ensures_of site p q h)
+  not_added r e old new helps handed added =
+      handed_on (λ x. RuleAnswers x site.slots (ensures_of site p q h)) r e handed
+      (given_by site.slots (Err e) (ensures_of site p q h) _
+      (ensures-is site p q h ∙ needs_met (is_helper site h) Code.NoSuchStatement _ helps)
+      (refused_goals site.slots site.params (Unit {0}) e old new (record_of site Kind.Ensures p q [] (Some h)) all_forms
+      added))
+
+  -- those of the unless, then others
+  then_helper : {T : Type 0} (done : Unit {0}) (answer : Result T RuleError) (old mid new : List Obligation) →
+      Added (Ok done) old mid site.slots site.params (unless_forms site p q) →
+      Added answer mid new site.slots site.params (helper_forms site p q h) →
+      Added answer old new site.slots site.params all_forms
+  then_helper done answer old mid new =
+      second_part_added site.slots site.params done answer old mid new (unless_forms site p q) (helper_forms site p q h)
+
+  -- all of them, part by part
+  each_added : {T : Type 0} (done more : Unit {0}) (answer : Result T RuleError) (old mid later new : List Obligation) →
+      Added (Ok done) old mid site.slots site.params (unless_forms site p q) →
+      Added (Ok more) mid later site.slots site.params (meant_forms site h) →
+      Added answer later new site.slots site.params helped_forms → Added answer old new site.slots site.params all_forms
+  each_added done more answer old mid later new one two three =
+      then_helper done answer old mid new one
+      (second_part_added site.slots site.params more answer mid later new (meant_forms site h) helped_forms two three)
 
 pub returns-then-not-is_helper-clause-answer : goal.returns-then-not-is_helper-clause-answer
 returns-then-not-is_helper-clause-answer c =
@@ -20,20 +62,39 @@ returns-then-not-is_helper-clause-answer c =
     ∙ needs_not (is_helper site c.args.h.now) Code.NoSuchStatement _
     (sym c.is_helper.ensures ∙ c.if-not-is_helper.true))
 
-pub returns-in_err-add_ensures-clause-answer : goal.returns-in_err-add_ensures-clause-answer
-returns-in_err-add_ensures-clause-answer c =
+pub returns-in_err-add_unless-clause-answer : goal.returns-in_err-add_unless-clause-answer
+returns-in_err-add_unless-clause-answer c =
     let site : Site = site_of c.args.pl.now in
-    let p : CForm = c.args.p.now in
-    let q : CForm = c.args.q.now in
-    let h : Helper = c.args.h.now in
-    let e = c.in_err-add_ensures.field-0.0 in
-    handed_on (λ r. RuleAnswers r site.slots (ensures_of site p q h)) c.from_residual.result e c.from_residual.ensures.1
-    (given_by site.slots (Err e) (ensures_of site p q h) _
-    (ensures-is site p q h
-    ∙ needs_met (is_helper site h) Code.NoSuchStatement _ (sym c.is_helper.ensures ∙ c.if-not-is_helper.false))
-    (refused_goals site.slots site.params (Unit {0}) e c.new-goals.result c.add_ensures.new.goals
-    (record_of site Kind.Ensures p q [] (Some h)) (unless_forms site p q ++ helper_forms site p q h)
-    c.in_err-add_ensures.ensures))
+    let e = c.in_err-add_unless.field-0.0 in
+    not_added site c.args.p.now c.args.q.now c.args.h.now c.from_residual.result e c.new-goals.result
+    c.add_unless.new.goals (sym c.is_helper.ensures ∙ c.if-not-is_helper.false) c.from_residual.ensures.1
+    (first_part_fails site.slots site.params (Unit {0}) (Unit {0}) e c.new-goals.result c.add_unless.new.goals
+    (unless_forms site c.args.p.now c.args.q.now) (helper_forms site c.args.p.now c.args.q.now c.args.h.now)
+    c.in_err-add_unless.ensures)
+
+pub returns-in_err-add_meant-clause-answer : goal.returns-in_err-add_meant-clause-answer
+returns-in_err-add_meant-clause-answer c =
+    let site : Site = site_of c.args.pl.now in
+    let e = c.in_err-add_meant.field-0.0 in
+    not_added site c.args.p.now c.args.q.now c.args.h.now c.from_residual-in_err-add_meant.result e c.new-goals.result
+    c.add_meant.new.goals (sym c.is_helper.ensures ∙ c.if-not-is_helper.false)
+    c.from_residual-in_err-add_meant.ensures.1
+    (then_helper site c.args.p.now c.args.q.now c.args.h.now {T = Unit {0}} c.in_ok-add_unless.field-0 (Err e)
+    c.new-goals.result c.add_unless.new.goals c.add_meant.new.goals c.in_ok-add_unless.ensures
+    (first_part_fails site.slots site.params (Unit {0}) (Unit {0}) e c.add_unless.new.goals c.add_meant.new.goals
+    (meant_forms site c.args.h.now) (helped_forms site c.args.p.now c.args.q.now c.args.h.now)
+    c.in_err-add_meant.ensures))
+
+pub returns-in_err-add_helped-clause-answer : goal.returns-in_err-add_helped-clause-answer
+returns-in_err-add_helped-clause-answer c =
+    let site : Site = site_of c.args.pl.now in
+    let e = c.in_err-add_helped.field-0.0 in
+    not_added site c.args.p.now c.args.q.now c.args.h.now c.from_residual-in_err-add_helped.result e c.new-goals.result
+    c.add_helped.new.goals (sym c.is_helper.ensures ∙ c.if-not-is_helper.false)
+    c.from_residual-in_err-add_helped.ensures.1
+    (each_added site c.args.p.now c.args.q.now c.args.h.now {T = Unit {0}} c.in_ok-add_unless.field-0
+    c.in_ok-add_meant.field-0 (Err e) c.new-goals.result c.add_unless.new.goals c.add_meant.new.goals
+    c.add_helped.new.goals c.in_ok-add_unless.ensures c.in_ok-add_meant.ensures c.in_err-add_helped.ensures)
 
 pub returns-clause-answer : goal.returns-clause-answer
 returns-clause-answer c =
@@ -44,15 +105,27 @@ returns-clause-answer c =
     given_by site.slots c.conclude.result (ensures_of site p q h) _
     (ensures-is site p q h
     ∙ needs_met (is_helper site h) Code.NoSuchStatement _ (sym c.is_helper.ensures ∙ c.if-not-is_helper.false))
-    (rule_given c.in_ok-add_ensures.field-0 site Kind.Ensures p q c.in_ok-held_form.field-0
-    c.in_ok-held_form-2.field-0 [] ([] ++ []) (Some h) c.in_ok-some_helper.field-0
-    (unless_forms site p q ++ helper_forms site p q h) c.new-goals.result c.add_ensures.new.goals c.conclude.result
-    c.in_ok-held_form.ensures c.in_ok-held_form-2.ensures refl c.in_ok-some_helper.ensures c.new-goals.ensures
-    c.in_ok-add_ensures.ensures c.conclude.ensures)
+    (rule_given c.in_ok-add_helped.field-0 site Kind.Ensures p q c.in_ok-held_form.field-0
+    c.in_ok-held_form-2.field-0 [] ([] ++ []) (Some h) c.in_ok-some_helper.field-0 (all_forms site p q h)
+    c.new-goals.result c.add_helped.new.goals c.conclude.result c.in_ok-held_form.ensures c.in_ok-held_form-2.ensures
+    refl c.in_ok-some_helper.ensures c.new-goals.ensures
+    (each_added site p q h c.in_ok-add_unless.field-0 c.in_ok-add_meant.field-0 (Ok c.in_ok-add_helped.field-0)
+    c.new-goals.result c.add_unless.new.goals c.add_meant.new.goals c.add_helped.new.goals c.in_ok-add_unless.ensures
+    c.in_ok-add_meant.ensures c.in_ok-add_helped.ensures) c.conclude.ensures)
 
-pub returns-in_err-add_ensures-clause-sound : goal.returns-in_err-add_ensures-clause-sound
-returns-in_err-add_ensures-clause-sound c =
-    error_stands c.args.pl.now c.from_residual.result c.in_err-add_ensures.field-0.0 c.from_residual.ensures.1
+pub returns-in_err-add_unless-clause-sound : goal.returns-in_err-add_unless-clause-sound
+returns-in_err-add_unless-clause-sound c =
+    error_stands c.args.pl.now c.from_residual.result c.in_err-add_unless.field-0.0 c.from_residual.ensures.1
+
+pub returns-in_err-add_meant-clause-sound : goal.returns-in_err-add_meant-clause-sound
+returns-in_err-add_meant-clause-sound c =
+    error_stands c.args.pl.now c.from_residual-in_err-add_meant.result c.in_err-add_meant.field-0.0
+    c.from_residual-in_err-add_meant.ensures.1
+
+pub returns-in_err-add_helped-clause-sound : goal.returns-in_err-add_helped-clause-sound
+returns-in_err-add_helped-clause-sound c =
+    error_stands c.args.pl.now c.from_residual-in_err-add_helped.result c.in_err-add_helped.field-0.0
+    c.from_residual-in_err-add_helped.ensures.1
 
 pub returns-clause-sound : goal.returns-clause-sound
 returns-clause-sound c =

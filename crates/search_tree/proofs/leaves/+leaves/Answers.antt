@@ -1,14 +1,14 @@
-use Rattle.std.proofs.Common.{◌≡◌, min, true, Some, length, ◌∙◌, ap, suc, ◌∷◌, sym, subst, refl, arith, rules}
+use Rattle.std.proofs.Common.{◌≡◌, ◌-◌, min, true, Some, length, ◌∙◌, ap, suc, ◌∷◌, sym, subst, refl, arith, rules}
 use Rattle.obligations.specs.Plain.{waiting_only, plain_leaves, cut_leaves}
 use Rattle.obligations.specs.Reach.{are_exact, some_out_of_reach}
 use Rattle.obligations.specs.Settling.{settled, added}
 use Rattle.search_tree.specs.declared.halves.Half.{Half}
-use Rattle.search_tree.specs.declared.sides.Side.{Side}
+use Rattle.obligations.specs.declared.sides.Side.{Side}
 use Rattle.search_tree.specs.Halves.{half_ranges, half_fact}
-use Rattle.search_tree.specs.Sides.{side_of}
+use Rattle.obligations.specs.Sides.{side_of}
 use Rattle.search_tree.proofs.CycleLaws.{whole-again, empty-list, replaced-is, quot-counted}
 use Rattle.search_tree.proofs.LeavesLaws.{few-counted, reached-leaf, whole-leaf, opened-leaves, halved-leaves}
-use Rattle.search_tree.proofs.LeavesLaws.{quotient-counted, counted-back}
+use Rattle.search_tree.proofs.LeavesLaws.{quotient-counted, counted-back, part-counted, parts-counted}
 use Rattle.search_tree.proofs.ReadyLaws.{ready-some}
 use Rattle.search_tree.proofs.ViewLaws.{as-seen, seen-leaves, view-variables, view-exact, in-side, in-quotient, in-half}
 use Rattle.search_tree.proofs.ViewLaws.{side-needs, number-fits, quotient-needs, half-needs, halves-need, form-needs}
@@ -16,33 +16,57 @@ use Rattle.search_tree.proofs.ViewLaws.{halves-take}
 use Rattle.search_tree.proofs.WaitLaws.{quotient-found}
 use Rattle.search_tree.proofs.leaves.+leaves.Goals as goal
 
-pub leaves_of_sides-leaves_of_side-requires : goal.leaves_of_sides-leaves_of_side-requires
-leaves_of_sides-leaves_of_side-requires t c = (
+pub leaves_of_form-leaves_of_quot-requires : goal.leaves_of_form-leaves_of_quot-requires
+leaves_of_form-leaves_of_quot-requires t c = (
   search rules,
-  side-needs c.args.view c.args.branch.now c.args.form.now c.requires.view c.requires.either c.requires.ready
-      Side.First c.args.branch.now refl,
+  (
+    c.requires.view,
+    (c.requires.rest, (sym c.is_either.ensures ∙ c.if-not-is_either.true, c.requires.ready)),
+  ),
 )
 
-pub leaves_of_sides-leaves_of_side-requires-2 : goal.leaves_of_sides-leaves_of_side-requires-2
-leaves_of_sides-leaves_of_side-requires-2 t c = (
+pub leaves_of_form-returns-then-not-is_either-clause-leaves :
+    goal.leaves_of_form-returns-then-not-is_either-clause-leaves
+leaves_of_form-returns-then-not-is_either-clause-leaves t c =
+    quotient-counted c.args.view.vs.now c.args.view.scope.now c.args.view.rest c.args.view.ranges.now
+    c.args.branch.now c.args.form.now
+    c.args.wanted c.in_ok-leaves.leaves c.requires.view.scope c.requires.reach
+    (sym c.is_either.ensures ∙ c.if-not-is_either.true) c.in_ok-leaves.ensures.leaves
+
+pub leaves_of_form-leaves_of_side-requires : goal.leaves_of_form-leaves_of_side-requires
+leaves_of_form-leaves_of_side-requires t c = (
   search rules,
-  side-needs c.args.view c.args.branch.now c.args.form.now c.requires.view c.requires.either c.requires.ready
-      Side.Second _
+  side-needs c.args.view c.args.branch.now c.args.form.now c.requires.view
+      (sym c.is_either.ensures ∙ c.if-not-is_either.false) c.requires.ready Side.First c.args.branch.now refl,
+)
+
+pub leaves_of_form-leaves_of_side-requires-2 : goal.leaves_of_form-leaves_of_side-requires-2
+leaves_of_form-leaves_of_side-requires-2 t c = (
+  search rules,
+  side-needs c.args.view c.args.branch.now c.args.form.now c.requires.view
+      (sym c.is_either.ensures ∙ c.if-not-is_either.false) c.requires.ready Side.Second _
       c.in_ok-first.ensures.branch,
 )
 
-pub leaves_of_side-settle_side-requires-clause-variables : goal.leaves_of_side-settle_side-requires-clause-variables
-leaves_of_side-settle_side-requires-clause-variables t c =
-    view-variables c.args.view c.args.branch.now
-    (settled c.args.view.scope.now (side_of c.args.side c.args.form.now) c.args.branch.now) c.requires.view
-    c.requires.ready refl
+pub leaves_of_form-returns-then-first-wanted-clause-leaves : goal.leaves_of_form-returns-then-first-wanted-clause-leaves
+leaves_of_form-returns-then-first-wanted-clause-leaves t c =
+    opened-leaves c.args.view.vs.now c.args.view.scope.now c.args.view.rest c.args.view.ranges.now c.args.branch.now
+    c.args.form.now
+    c.args.wanted c.in_ok-first.first c.requires.view.scope c.requires.reach
+    (sym c.is_either.ensures ∙ c.if-not-is_either.false)
+    (part-counted c.args.wanted _ _ c.in_ok-first.first c.in_ok-first.ensures.leaves (omega arith))
 
-pub leaves_of_side-some_leaves-requires : goal.leaves_of_side-some_leaves-requires
-leaves_of_side-some_leaves-requires t c = (
-  search rules,
-  in-side c.args.view c.args.branch.now c.settle_side.new.branch (side_of c.args.side c.args.form.now)
-      c.in_ok-settle_side.ensures c.requires.view c.requires.ready,
-)
+pub leaves_of_form-returns-clause-leaves : goal.leaves_of_form-returns-clause-leaves
+leaves_of_form-returns-clause-leaves t c =
+    opened-leaves c.args.view.vs.now c.args.view.scope.now c.args.view.rest c.args.view.ranges.now c.args.branch.now
+    c.args.form.now
+    c.args.wanted _ c.requires.view.scope c.requires.reach
+    (sym c.is_either.ensures ∙ c.if-not-is_either.false)
+    (parts-counted c.args.wanted _ _ c.in_ok-first.first c.in_ok-second.second c.in_ok-first.ensures.leaves
+    (subst (λ b. c.in_ok-second.second ≡ min (c.args.wanted - c.in_ok-first.first) (plain_leaves c.args.view.vs.now
+    c.args.view.rest c.args.view.ranges.now
+    (settled c.args.view.scope.now (side_of Side.Second c.args.form.now) b)))
+    c.in_ok-first.ensures.branch c.in_ok-second.ensures.leaves))
 
 pub leaves_of_quot-unreachable-requires : goal.leaves_of_quot-unreachable-requires
 leaves_of_quot-unreachable-requires t c =
@@ -90,6 +114,19 @@ leaves_without-returns-clause-leaves t c =
     c.args.view.ranges.now _ c.take_quotient.new.branch c.args.wanted c.in_ok-leaves.leaves c.within.ensures refl
     c.in_ok-scope.ensures.branch c.in_ok-leaves.ensures.leaves
 
+pub leaves_of_side-settle_side-requires-clause-variables : goal.leaves_of_side-settle_side-requires-clause-variables
+leaves_of_side-settle_side-requires-clause-variables t c =
+    view-variables c.args.view c.args.branch.now
+    (settled c.args.view.scope.now (side_of c.args.side c.args.form.now) c.args.branch.now) c.requires.view
+    c.requires.ready refl
+
+pub leaves_of_side-some_leaves-requires : goal.leaves_of_side-some_leaves-requires
+leaves_of_side-some_leaves-requires t c = (
+  search rules,
+  in-side c.args.view c.args.branch.now c.settle_side.new.branch (side_of c.args.side c.args.form.now)
+      c.in_ok-settle_side.ensures.branch c.requires.view c.requires.ready,
+)
+
 pub leaves_of_halves-leaves_of_half-requires : goal.leaves_of_halves-leaves_of_half-requires
 leaves_of_halves-leaves_of_half-requires t c = (
   search rules,
@@ -120,38 +157,6 @@ leaves_of_half-returns-clause-leaves t c =
     (half_fact c.args.half c.args.halves))
     c.take_half.new.branch c.args.wanted c.in_ok-leaves.leaves c.over.ensures
     (c.as_slice.ensures ∙ c.in_ok-ranges.ensures.ranges) c.in_ok-ranges.ensures.branch c.in_ok-leaves.ensures.leaves
-
-pub leaves_of_form-leaves_of_sides-requires : goal.leaves_of_form-leaves_of_sides-requires
-leaves_of_form-leaves_of_sides-requires t c = (
-  search rules,
-  (
-    c.requires.view,
-    (c.requires.rest, (sym c.is_either.ensures ∙ c.if-is_either.true, c.requires.ready)),
-  ),
-)
-
-pub leaves_of_form-leaves_of_quot-requires : goal.leaves_of_form-leaves_of_quot-requires
-leaves_of_form-leaves_of_quot-requires t c = (
-  search rules,
-  (
-    c.requires.view,
-    (c.requires.rest, (sym c.is_either.ensures ∙ c.if-is_either.false, c.requires.ready)),
-  ),
-)
-
-pub leaves_of_form-returns-in_ok-leaves-clause-leaves : goal.leaves_of_form-returns-in_ok-leaves-clause-leaves
-leaves_of_form-returns-in_ok-leaves-clause-leaves t c =
-    opened-leaves c.args.view.vs.now c.args.view.scope.now c.args.view.rest c.args.view.ranges.now c.args.branch.now
-    c.args.form.now
-    c.args.wanted c.in_ok-leaves.leaves c.requires.view.scope c.requires.reach
-    (sym c.is_either.ensures ∙ c.if-is_either.true) c.in_ok-leaves.ensures.leaves
-
-pub leaves_of_form-returns-in_ok-leaves-2-clause-leaves : goal.leaves_of_form-returns-in_ok-leaves-2-clause-leaves
-leaves_of_form-returns-in_ok-leaves-2-clause-leaves t c =
-    quotient-counted c.args.view.vs.now c.args.view.scope.now c.args.view.rest c.args.view.ranges.now
-    c.args.branch.now c.args.form.now
-    c.args.wanted c.in_ok-leaves-2.leaves c.requires.view.scope c.requires.reach
-    (sym c.is_either.ensures ∙ c.if-is_either.false) c.in_ok-leaves-2.ensures.leaves
 
 pub open_some_leaves-below-requires : goal.open_some_leaves-below-requires
 open_some_leaves-below-requires t c =

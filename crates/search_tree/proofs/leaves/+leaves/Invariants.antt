@@ -10,9 +10,6 @@ decreases-open_some_leaves l = 6 * l.view.rest
 abbrev pub decreases-leaves_of_form : goal.decreases-leaves_of_form
 decreases-leaves_of_form l = 6 * l.view.rest + 5
 
-abbrev pub decreases-leaves_of_sides : goal.decreases-leaves_of_sides
-decreases-leaves_of_sides l = 6 * l.view.rest + 4
-
 abbrev pub decreases-leaves_of_quot : goal.decreases-leaves_of_quot
 decreases-leaves_of_quot l = 6 * l.view.rest + 4
 

@@ -3,10 +3,11 @@ use Rattle.obligations.specs.declared.branches.Fact.{Fact}
 use Rattle.obligations.specs.Plain.{waiting_only, plain_leaves, cut_leaves}
 use Rattle.obligations.specs.Settling.{settled, added}
 use Rattle.search_tree.specs.declared.halves.Half.{Half}
-use Rattle.search_tree.specs.declared.sides.Side.{Side}
+use Rattle.obligations.specs.declared.sides.Side.{Side}
+use Rattle.search_tree.specs.declared.trail.Ended.{Ended}
 use Rattle.search_tree.specs.Halves.{half_ranges, half_fact}
 use Rattle.search_tree.specs.Searching.{Ends}
-use Rattle.search_tree.specs.Sides.{side_of}
+use Rattle.obligations.specs.Sides.{side_of}
 use Rattle.search_tree.proofs.SearchLaws.{shortly-ends}
 use Rattle.search_tree.proofs.ReadyLaws.{leaves-some, ready-some, leaf-count}
 use Rattle.search_tree.proofs.CycleLaws.{tried-some, empty-list, taken, not-taken, kept, put-is, stop-is}
@@ -19,76 +20,94 @@ use Rattle.search_tree.proofs.ViewLaws.{form-needs, halves-take}
 use Rattle.search_tree.proofs.WaitLaws.{quotient-found}
 use Rattle.search_tree.proofs.plain_tree.+search.Goals as goal
 
-pub refute_sides-refute_side-requires : goal.refute_sides-refute_side-requires
-refute_sides-refute_side-requires t c = (
+pub refute_form-refute_quot-requires : goal.refute_form-refute_quot-requires
+refute_form-refute_quot-requires t c = (
   search rules,
-  side-needs c.args.view c.args.branch.now c.args.form.now c.requires.view c.requires.either c.requires.ready
-      Side.First c.args.branch.now refl,
+  (
+    c.requires.view,
+    (c.requires.rest, (sym c.is_either.ensures ∙ c.if-not-is_either.true, c.requires.ready)),
+  ),
 )
 
-pub refute_sides-refute_side-requires-in-Closed : goal.refute_sides-refute_side-requires-in-Closed
-refute_sides-refute_side-requires-in-Closed t c = (
+pub refute_form-returns-then-not-is_either-clause-ends : goal.refute_form-returns-then-not-is_either-clause-ends
+refute_form-returns-then-not-is_either-clause-ends t c =
+    quotient-ends c.args.view.vs.now c.args.view.scope.now c.args.view.rest c.args.view.ranges.now c.args.branch.now
+    c.args.form.now
+    c.args.trail.now c.refute_quot.new.trail c.in_ok-ended.ended c.requires.view.scope c.requires.reach
+    (sym c.is_either.ensures ∙ c.if-not-is_either.true) c.in_ok-ended.ensures.ends
+
+pub refute_form-refute_side-requires : goal.refute_form-refute_side-requires
+refute_form-refute_side-requires t c = (
   search rules,
-  side-needs c.args.view c.args.branch.now c.args.form.now c.requires.view c.requires.either c.requires.ready
-      Side.Second _
+  side-needs c.args.view c.args.branch.now c.args.form.now c.requires.view
+      (sym c.is_either.ensures ∙ c.if-not-is_either.false) c.requires.ready Side.First c.args.branch.now refl,
+)
+
+pub refute_form-refute_side-requires-in-Closed : goal.refute_form-refute_side-requires-in-Closed
+refute_form-refute_side-requires-in-Closed t c = (
+  search rules,
+  side-needs c.args.view c.args.branch.now c.args.form.now c.requires.view
+      (sym c.is_either.ensures ∙ c.if-not-is_either.false) c.requires.ready Side.Second _
       (kept c.in_ok-refute_side.field-0 c.refute_side.new.branch c.args.branch.now c.in-Closed.is
       c.in_ok-refute_side.ensures.branch),
 )
 
-pub refute_sides-returns-then-not-branch-clause-ends : goal.refute_sides-returns-then-not-branch-clause-ends
-refute_sides-returns-then-not-branch-clause-ends t c =
-    sides-stopped c.args.view.vs.now c.args.view.scope.now c.args.view.rest c.args.view.ranges.now c.args.form.now
+pub refute_form-returns-then-not-branch-clause-ends : goal.refute_form-returns-then-not-branch-clause-ends
+refute_form-returns-then-not-branch-clause-ends t c =
+    let either = sym c.is_either.ensures ∙ c.if-not-is_either.false in
+    opened-ends c.args.view.vs.now c.args.view.scope.now c.args.view.rest c.args.view.ranges.now c.args.branch.now
+    c.args.form.now
+    c.args.trail.now c.put_node.new.trail Ended.Stopped c.requires.view.scope
+    c.requires.reach either
+    (sides-stopped c.args.view.vs.now c.args.view.scope.now c.args.view.rest c.args.view.ranges.now c.args.form.now
     c.args.branch.now
-    c.requires.view.scope (omega arith)
-    c.requires.either
+    c.requires.view.scope (omega arith) either
     c.args.trail.now c.put_node.new.trail
-    (not-taken _ _ c.in_ok-put_node.ensures c.if-not-branch.true)
+    (not-taken _ _ c.in_ok-put_node.ensures c.if-not-branch.true))
 
-pub refute_sides-returns-in_ok-ended-in-Closed-clause-ends :
-    goal.refute_sides-returns-in_ok-ended-in-Closed-clause-ends
-refute_sides-returns-in_ok-ended-in-Closed-clause-ends t c =
+pub refute_form-returns-in_ok-ended-in-Closed-clause-ends : goal.refute_form-returns-in_ok-ended-in-Closed-clause-ends
+refute_form-returns-in_ok-ended-in-Closed-clause-ends t c =
+    let either = sym c.is_either.ensures ∙ c.if-not-is_either.false in
     let put = taken _ _ c.in_ok-put_node.ensures c.if-not-branch.false in
-    sides-second c.args.view.vs.now c.args.view.scope.now c.args.view.rest c.args.view.ranges.now c.args.form.now
+    opened-ends c.args.view.vs.now c.args.view.scope.now c.args.view.rest c.args.view.ranges.now c.args.branch.now
+    c.args.form.now
+    c.args.trail.now c.refute_side-in-Closed.new.trail c.in_ok-ended-in-Closed.ended c.requires.view.scope
+    c.requires.reach either
+    (sides-second c.args.view.vs.now c.args.view.scope.now c.args.view.rest c.args.view.ranges.now c.args.form.now
     c.args.branch.now
-    c.requires.view.scope (omega arith)
-    c.requires.either
+    c.requires.view.scope (omega arith) either
     c.args.trail.now c.put_node.new.trail c.refute_side.new.trail c.refute_side-in-Closed.new.trail
     c.in_ok-refute_side.field-0 c.in_ok-ended-in-Closed.ended c.refute_side.new.branch
     (record { nodes = put.0; spare = put.1 }) c.in-Closed.is c.in_ok-refute_side.ensures.ends
-    c.in_ok-refute_side.ensures.branch c.in_ok-ended-in-Closed.ensures.ends
+    c.in_ok-refute_side.ensures.branch c.in_ok-ended-in-Closed.ensures.ends)
 
-pub refute_sides-returns-in-Stopped-clause-ends : goal.refute_sides-returns-in-Stopped-clause-ends
-refute_sides-returns-in-Stopped-clause-ends t c =
+pub refute_form-returns-in-Stopped-clause-ends : goal.refute_form-returns-in-Stopped-clause-ends
+refute_form-returns-in-Stopped-clause-ends t c =
+    let either = sym c.is_either.ensures ∙ c.if-not-is_either.false in
     let put = taken _ _ c.in_ok-put_node.ensures c.if-not-branch.false in
-    sides-first c.args.view.vs.now c.args.view.scope.now c.args.view.rest c.args.view.ranges.now c.args.form.now
+    opened-ends c.args.view.vs.now c.args.view.scope.now c.args.view.rest c.args.view.ranges.now c.args.branch.now
+    c.args.form.now
+    c.args.trail.now c.refute_side.new.trail Ended.Stopped c.requires.view.scope
+    c.requires.reach either
+    (sides-first c.args.view.vs.now c.args.view.scope.now c.args.view.rest c.args.view.ranges.now c.args.form.now
     c.args.branch.now
-    c.requires.view.scope (omega arith)
-    c.requires.either
+    c.requires.view.scope (omega arith) either
     c.args.trail.now c.put_node.new.trail c.refute_side.new.trail
     c.in_ok-refute_side.field-0 (record { nodes = put.0; spare = put.1 }) c.in-Stopped.is
-    c.in_ok-refute_side.ensures.ends
+    c.in_ok-refute_side.ensures.ends)
 
-pub refute_sides-returns-in-Refuted-clause-ends : goal.refute_sides-returns-in-Refuted-clause-ends
-refute_sides-returns-in-Refuted-clause-ends t c =
-    sides-met c.args.view.vs.now c.args.view.scope.now c.args.view.rest c.args.view.ranges.now c.args.form.now
+pub refute_form-returns-in-Refuted-clause-ends : goal.refute_form-returns-in-Refuted-clause-ends
+refute_form-returns-in-Refuted-clause-ends t c =
+    let either = sym c.is_either.ensures ∙ c.if-not-is_either.false in
+    opened-ends c.args.view.vs.now c.args.view.scope.now c.args.view.rest c.args.view.ranges.now c.args.branch.now
+    c.args.form.now
+    c.args.trail.now c.refute_side.new.trail (Ended.Refuted c.in-Refuted.values) c.requires.view.scope
+    c.requires.reach either
+    (sides-met c.args.view.vs.now c.args.view.scope.now c.args.view.rest c.args.view.ranges.now c.args.form.now
     c.args.branch.now
-    c.requires.view.scope (omega arith)
-    c.requires.either
+    c.requires.view.scope (omega arith) either
     c.put_node.new.trail c.refute_side.new.trail
-    c.in_ok-refute_side.field-0 c.in-Refuted.values c.in-Refuted.is c.in_ok-refute_side.ensures.ends
-
-pub refute_side-settle_side-requires-clause-variables : goal.refute_side-settle_side-requires-clause-variables
-refute_side-settle_side-requires-clause-variables t c =
-    view-variables c.args.view c.args.branch.now
-    (settled c.args.view.scope.now (side_of c.args.side c.args.form.now) c.args.branch.now) c.requires.view
-    c.requires.ready refl
-
-pub refute_side-refute-requires : goal.refute_side-refute-requires
-refute_side-refute-requires t c = (
-  search rules,
-  in-side c.args.view c.args.branch.now c.settle_side.new.branch (side_of c.args.side c.args.form.now)
-      c.in_ok-settle_side.ensures c.requires.view c.requires.ready,
-)
+    c.in_ok-refute_side.field-0 c.in-Refuted.values c.in-Refuted.is c.in_ok-refute_side.ensures.ends)
 
 pub refute_quot-unreachable-requires : goal.refute_quot-unreachable-requires
 refute_quot-unreachable-requires t c =
@@ -147,6 +166,19 @@ refute_without-returns-clause-ends t c =
     seen-ends c.within.result c.args.view.vs.now c.as_slice.result.now c.args.view.rest c.args.view.ranges.now
     c.args.view.ranges.now _ c.take_quotient.new.branch c.args.trail.now c.refute.new.trail c.in_ok-ended.ended
     c.within.ensures refl c.in_ok-scope.ensures.branch c.in_ok-ended.ensures.ends
+
+pub refute_side-settle_side-requires-clause-variables : goal.refute_side-settle_side-requires-clause-variables
+refute_side-settle_side-requires-clause-variables t c =
+    view-variables c.args.view c.args.branch.now
+    (settled c.args.view.scope.now (side_of c.args.side c.args.form.now) c.args.branch.now) c.requires.view
+    c.requires.ready refl
+
+pub refute_side-refute-requires : goal.refute_side-refute-requires
+refute_side-refute-requires t c = (
+  search rules,
+  in-side c.args.view c.args.branch.now c.settle_side.new.branch (side_of c.args.side c.args.form.now)
+      c.in_ok-settle_side.ensures.branch c.requires.view c.requires.ready,
+)
 
 pub refute_halves-refute_half-requires : goal.refute_halves-refute_half-requires
 refute_halves-refute_half-requires t c = (
@@ -230,40 +262,6 @@ refute_half-returns-clause-ends t c =
     (half_fact c.args.half c.args.halves))
     c.take_half.new.branch c.args.trail.now c.refute.new.trail c.in_ok-ended.ended c.over.ensures
     (c.as_slice.ensures ∙ c.in_ok-ranges.ensures.ranges) c.in_ok-ranges.ensures.branch c.in_ok-ended.ensures.ends
-
-pub refute_form-refute_sides-requires : goal.refute_form-refute_sides-requires
-refute_form-refute_sides-requires t c = (
-  search rules,
-  (
-    c.requires.view,
-    (c.requires.rest, (sym c.is_either.ensures ∙ c.if-is_either.true, c.requires.ready)),
-  ),
-)
-
-pub refute_form-refute_quot-requires : goal.refute_form-refute_quot-requires
-refute_form-refute_quot-requires t c = (
-  search rules,
-  (
-    c.requires.view,
-    (c.requires.rest, (sym c.is_either.ensures ∙ c.if-is_either.false, c.requires.ready)),
-  ),
-)
-
-pub refute_form-returns-in_ok-ended-clause-ends :
-    goal.refute_form-returns-in_ok-ended-clause-ends
-refute_form-returns-in_ok-ended-clause-ends t c =
-    opened-ends c.args.view.vs.now c.args.view.scope.now c.args.view.rest c.args.view.ranges.now c.args.branch.now
-    c.args.form.now
-    c.args.trail.now c.refute_sides.new.trail c.in_ok-ended.ended c.requires.view.scope c.requires.reach
-    (sym c.is_either.ensures ∙ c.if-is_either.true) c.in_ok-ended.ensures.ends
-
-pub refute_form-returns-in_ok-ended-2-clause-ends :
-    goal.refute_form-returns-in_ok-ended-2-clause-ends
-refute_form-returns-in_ok-ended-2-clause-ends t c =
-    quotient-ends c.args.view.vs.now c.args.view.scope.now c.args.view.rest c.args.view.ranges.now c.args.branch.now
-    c.args.form.now
-    c.args.trail.now c.refute_quot.new.trail c.in_ok-ended-2.ended c.requires.view.scope c.requires.reach
-    (sym c.is_either.ensures ∙ c.if-is_either.false) c.in_ok-ended-2.ensures.ends
 
 pub refute_open-below-requires : goal.refute_open-below-requires
 refute_open-below-requires t c =

@@ -10,9 +10,6 @@ decreases-refute_open l = 6 * l.view.rest
 abbrev pub decreases-refute_form : goal.decreases-refute_form
 decreases-refute_form l = 6 * l.view.rest + 5
 
-abbrev pub decreases-refute_sides : goal.decreases-refute_sides
-decreases-refute_sides l = 6 * l.view.rest + 4
-
 abbrev pub decreases-refute_quot : goal.decreases-refute_quot
 decreases-refute_quot l = 6 * l.view.rest + 4
 

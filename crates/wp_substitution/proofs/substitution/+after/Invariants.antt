@@ -30,11 +30,8 @@ decreases-second_after l = 4 * size-CTerm l.b.now + 1
 abbrev pub decreases-multiple_after : goal.decreases-multiple_after
 decreases-multiple_after l = 4 * size-CTerm l.a.now + 1
 
-abbrev pub decreases-quotient_after : goal.decreases-quotient_after
-decreases-quotient_after l = 4 * size-CTerm l.a.now + 1
-
-abbrev pub decreases-remainder_after : goal.decreases-remainder_after
-decreases-remainder_after l = 4 * size-CTerm l.a.now + 1
+abbrev pub decreases-divided_after : goal.decreases-divided_after
+decreases-divided_after l = 4 * size-CTerm l.a.now + 1
 
 abbrev pub decreases-choice_after : goal.decreases-choice_after
 decreases-choice_after l = 4 * max (size-CForm l.c.now) (max (size-CTerm l.a.now) (size-CTerm l.b.now)) + 3

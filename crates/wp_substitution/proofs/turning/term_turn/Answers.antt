@@ -3,7 +3,9 @@ use Rattle.std.specs.Prelude.{IfOk}
 use Rattle.std.proofs.lemmas.Int.{to_z-of_z}
 use Rattle.core_terms.specs.declared.trees.CTerm.TheVariants.{Const, Param}
 use Rattle.core_terms.specs.declared.nodes.TermNode.{TermNode}
-use Rattle.core_terms.specs.Folding.{scaled_term, quotient_term, remainder_term}
+use Rattle.core_terms.specs.declared.known.Dividing.{Dividing}
+use Rattle.core_terms.specs.Folding.{scaled_term}
+use Rattle.core_terms.specs.Senses.{divided_term}
 use Rattle.core_terms.specs.Pools.{form_or, term_or}
 use Rattle.wp_substitution.specs.declared.turning.TermTurn.{TermTurn}
 use Rattle.wp_substitution.specs.Chains.{term_by}
@@ -70,9 +72,10 @@ returns-in-Div-clause-turn c =
     let k = c.in-Div.k in
     let t = term_or p.terms c.in-Div.a.place in
     let fits : FitsSigned w64 k = search rules in
-    let turn = subst (λ z. IfOk c.quotient_turn.result (IsTermTurn chains p (quotient_term z (term_by chains t))))
-    (to_z-of_z w64 k fits) c.quotient_turn.ensures.turn in
-    subst (λ u. IfOk c.quotient_turn.result (IsTermTurn chains p u))
+    let turn = subst (λ z. IfOk c.divided_turn.result
+    (IsTermTurn chains p (divided_term Dividing.Quotient z (term_by chains t)))) (to_z-of_z w64 k fits)
+    c.divided_turn.ensures.turn in
+    subst (λ u. IfOk c.divided_turn.result (IsTermTurn chains p u))
     (term_turned chains p c.args.id.place _ _ c.in-Div.ensures.tree (by-Div chains t k)) turn
 
 pub returns-in-Mod-clause-turn : goal.returns-in-Mod-clause-turn
@@ -82,9 +85,10 @@ returns-in-Mod-clause-turn c =
     let k = c.in-Mod.k in
     let t = term_or p.terms c.in-Mod.a.place in
     let fits : FitsSigned w64 k = search rules in
-    let turn = subst (λ z. IfOk c.remainder_turn.result (IsTermTurn chains p (remainder_term z (term_by chains t))))
-    (to_z-of_z w64 k fits) c.remainder_turn.ensures.turn in
-    subst (λ u. IfOk c.remainder_turn.result (IsTermTurn chains p u))
+    let turn = subst (λ z. IfOk c.divided_turn-in-Mod.result
+    (IsTermTurn chains p (divided_term Dividing.Remainder z (term_by chains t)))) (to_z-of_z w64 k fits)
+    c.divided_turn-in-Mod.ensures.turn in
+    subst (λ u. IfOk c.divided_turn-in-Mod.result (IsTermTurn chains p u))
     (term_turned chains p c.args.id.place _ _ c.in-Mod.ensures.tree (by-Mod chains t k)) turn
 
 pub returns-in-Ite-clause-turn : goal.returns-in-Ite-clause-turn

@@ -1,22 +1,19 @@
-use Rattle.std.proofs.Common.{◌≡◌, ℤ, ◌+◌, min, map, IfOk, to_z, of_z, w64, ap, ◌∙◌, subst, arith}
+use Rattle.std.proofs.Common.{◌≡◌, ℤ, IfOk, to_z, of_z, w64, subst, arith}
 use Rattle.std.specs.Int.{int_div_euclid}
 use Rattle.std.proofs.lemmas.Int.{to_z-of_z}
-use Rattle.obligations.specs.LinearForms.{sparse}
-use Rattle.certificate_machine.proofs.SpanLaws.{fewer-first, terms-spanned, zero-quotient}
+use Rattle.certificate_machine.specs.Sums.{wide_line}
+use Rattle.certificate_machine.specs.Terms.{made_terms}
+use Rattle.certificate_machine.proofs.SpanLaws.{zero-quotient}
+use Rattle.certificate_machine.proofs.RunningLaws.{few-sparse}
 use Rattle.certificate_machine.proofs.running.Running.divided_factors.Goals as goal
 
-pub returns : goal.returns
-returns c =
+pub returns-then-self : goal.returns-then-self
+returns-then-self c =
     let r = c.args.self.now in
-    let zs = r.line.factors in
-    let low = min r.low r.high in
     let by : ℤ → ℤ = λ z. int_div_euclid z c.args.d in
     let same : to_z w64 (of_z w64 c.args.d) ≡ c.args.d = grind (arith, to_z-of_z) in
-    let here : low ≡ 0 + low = omega arith in
-    subst (λ ts. IfOk c.parts.result (λ f. f ≡ ts))
-    (ap (λ n. sparse n (map by c.span.result.now)) (c.first.ensures ∙ here)
-    ∙ ap (λ ys. sparse (0 + low) (map by ys)) c.span.ensures
-    ∙ terms-spanned by (zero-quotient c.args.d c.requires.divisor) zs 0 low r.high (omega arith)
-    (fewer-first zs low r.low (omega arith) r.before) r.behind)
-    (subst (λ d. IfOk c.parts.result
-    (λ f. f ≡ sparse c.first.result (map (λ z. int_div_euclid z d) c.span.result.now))) same c.parts.ensures)
+    subst (λ ts. IfOk c.divided_factors.result (λ f. f ≡ ts))
+    (few-sparse r.few (wide_line r.wide) (r.inside c.if-self.true) by (zero-quotient c.args.d c.requires.divisor)
+    r.is_few c.if-self.true)
+    (subst (λ d. IfOk c.divided_factors.result (λ f. f ≡ made_terms (λ z. int_div_euclid z d) r.few.terms.items)) same
+    c.divided_factors.ensures)

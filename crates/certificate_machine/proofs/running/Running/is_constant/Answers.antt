@@ -1,13 +1,11 @@
-use Rattle.std.proofs.Common.{min, ap, ◌∙◌, refl, arith}
-use Rattle.std.specs.List.{list_all}
+use Rattle.std.proofs.Common.{refl, ◌∙◌}
 use Rattle.certificate_machine.specs.Spans.{is_zero}
-use Rattle.certificate_machine.proofs.SpanLaws.{fewer-first, all-spanned}
+use Rattle.certificate_machine.specs.Sums.{wide_line}
+use Rattle.certificate_machine.proofs.RunningLaws.{few-all}
 use Rattle.certificate_machine.proofs.running.Running.is_constant.Goals as goal
 
-pub returns : goal.returns
-returns c =
+pub returns-then-self : goal.returns-then-self
+returns-then-self c =
     let r = c.args.self.now in
-    let zs = r.line.factors in
-    c.all_zero.ensures ∙ ap (list_all is_zero) c.span.ensures
-    ∙ all-spanned is_zero refl zs (min r.low r.high) r.high (omega arith)
-    (fewer-first zs (min r.low r.high) r.low (omega arith) r.before) r.behind
+    c.is_constant.ensures
+    ∙ few-all r.few (wide_line r.wide) (r.inside c.if-self.true) is_zero refl r.is_few c.if-self.true
