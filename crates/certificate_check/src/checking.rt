@@ -10,7 +10,7 @@ ghost use Rattle.certificate_rules.specs.Refutation.{OpenBranch, allowing, walk_
 ghost use Rattle.certificate_rules.specs.Trees.{is_whole, Refuted};
 ghost use Rattle.event_checker.specs.Checkers.{FailsReading};
 ghost use Rattle.event_checker.specs.Events.{pair_event, node_events, events_of, beginning, nodes_from, paired};
-ghost use Rattle.event_checker.specs.Readings.{IsReady, Stands};
+ghost use Rattle.event_checker.specs.Readings.{ReadingIsReady, ReadingStands};
 
 use event_checker::{CertError, Reading, open_reading, take_node, take_pair, verdict};
 use obligations::{Cert, Node, Obligation, Variable};
@@ -33,16 +33,16 @@ pub fn beginning(node: &Node) -> CertEvent
 
 /// Reads a pair of the node that is open.
 fn read_pair(reading: &mut Reading, pair: &(i64, u64))
-    ensures { (vs : List Variable) (root : List OpenBranch) (ns : List Node) → Stands vs root reading.old ns →
-        Stands vs root reading.new (paired ns pair.now) }
+    ensures { (vs : List Variable) (root : List OpenBranch) (ns : List Node) → ReadingStands vs root reading.old ns →
+        ReadingStands vs root reading.new (paired ns pair.now) }
 {
     take_pair(reading, *pair);
 }
 
 /// Reads pairs of the node that is open.
 fn read_pairs(reading: &mut Reading, pairs: &[(i64, u64)])
-    ensures { (vs : List Variable) (root : List OpenBranch) (ns : List Node) → Stands vs root reading.old ns →
-        Stands vs root reading.new (nodes_from ns (map pair_event pairs.now)) }
+    ensures { (vs : List Variable) (root : List OpenBranch) (ns : List Node) → ReadingStands vs root reading.old ns →
+        ReadingStands vs root reading.new (nodes_from ns (map pair_event pairs.now)) }
 {
     for pair in pairs {
         read_pair(reading, pair);
@@ -51,8 +51,8 @@ fn read_pairs(reading: &mut Reading, pairs: &[(i64, u64)])
 
 /// Reads the pairs of a node.
 fn read_rest(reading: &mut Reading, node: &Node)
-    ensures { (vs : List Variable) (root : List OpenBranch) (ns : List Node) → Stands vs root reading.old ns →
-        Stands vs root reading.new (nodes_from ns (map pair_event (node_pairs node.now))) }
+    ensures { (vs : List Variable) (root : List OpenBranch) (ns : List Node) → ReadingStands vs root reading.old ns →
+        ReadingStands vs root reading.new (nodes_from ns (map pair_event (node_pairs node.now))) }
 {
     match node {
         Node::Sum(pairs) => read_pairs(reading, pairs.as_slice()),
@@ -70,9 +70,9 @@ fn read_node(
     node: &Node,
 ) -> Result<(), AllocError>
     requires own { AreOwn vs.now }
-    requires ready { IsReady vs.now reading.old }
-    ensures { OnOk result ((root : List OpenBranch) (ns : List Node) → Stands vs.now root reading.old ns →
-        Stands vs.now root reading.new (nodes_from ns (node_events node.now))) }
+    requires ready { ReadingIsReady vs.now reading.old }
+    ensures { OnOk result ((root : List OpenBranch) (ns : List Node) → ReadingStands vs.now root reading.old ns →
+        ReadingStands vs.now root reading.new (nodes_from ns (node_events node.now))) }
 {
     take_node(alloc, vs, reading, beginning(node))?;
     read_rest(reading, node);
@@ -87,9 +87,9 @@ fn read_nodes(
     nodes: &[Node],
 ) -> Result<(), AllocError>
     requires own { AreOwn vs.now }
-    requires ready { IsReady vs.now reading.old }
-    ensures { OnOk result ((root : List OpenBranch) (ns : List Node) → Stands vs.now root reading.old ns →
-        Stands vs.now root reading.new (nodes_from ns (events_of nodes.now))) }
+    requires ready { ReadingIsReady vs.now reading.old }
+    ensures { OnOk result ((root : List OpenBranch) (ns : List Node) → ReadingStands vs.now root reading.old ns →
+        ReadingStands vs.now root reading.new (nodes_from ns (events_of nodes.now))) }
 {
     for node in nodes {
         read_node(alloc, vs, reading, node)?;
@@ -102,7 +102,7 @@ fn read(alloc: Global, o: &Obligation, c: &Cert, levels: u32) -> Result<Reading,
     requires obligation { IsObligation o.now }
     requires levels { levels ≤ 4096 }
     ensures { IfOk result
-        (λ r. Stands o.now.variables (allowing levels (first_branch o.now) ∷ []) r c.now.nodes) }
+        (λ r. ReadingStands o.now.variables (allowing levels (first_branch o.now) ∷ []) r c.now.nodes) }
 {
     let mut reading = open_reading(alloc, o, levels)?;
     read_nodes(

@@ -13,7 +13,7 @@ use Rattle.certificate_events.specs.declared.reader.CertReader.{CertReader}
 use Rattle.certificate_events.specs.Events.{number_of}
 use Rattle.certificate_events.specs.Signs.{sign_of, signs}
 use Rattle.certificate_events.specs.Steps.{step, reach, answers, start}
-use Rattle.certificate_events.specs.Sections.{IsSection, IsSections, Stands, Takes, told}
+use Rattle.certificate_events.specs.Sections.{IsSection, IsSections, ReaderStands, TokenTakes, told}
 use Rattle.certificate_events.specs.Pairs.{is_pairs, IsPairOf, TakesPair}
 use Rattle.certificate_events.proofs.SectionLaws.{signs_append, reach_more, answers_more, takes_is}
 
@@ -42,12 +42,12 @@ pair_answers : (p : Place) (by number : ℕ) → answers (at Stage.Pairs p) (pai
 pair_answers p by number = refl
 
 -- one token of some section
-opens_with : (later : Bool) (us : List Token) (c : Token) (e : CertEvent) → Takes later us c (Taken.Event e)
+opens_with : (later : Bool) (us : List Token) (c : Token) (e : CertEvent) → TokenTakes later us c (Taken.Event e)
     → (rest : List Token) × IsSections later (us ++ c ∷ rest)
 opens_with later us c e takes = (takes.0, (takes.1, takes.2))
 
 module _ (later : Bool) (old new : CertReader) (ts ps : List Token) (by number : ℕ) (pair : IsPairOf by number ps)
-    (stands : Stands later old ts) (awaits : is_pairs old.place.stage ≡ true) (same : new.place ≡ old.place)
+    (stands : ReaderStands later old ts) (awaits : is_pairs old.place.stage ≡ true) (same : new.place ≡ old.place)
     (version : new.later ≡ old.later) where
   abbrev a : Token
   a = pair.first
@@ -110,7 +110,7 @@ module _ (later : Bool) (old new : CertReader) (ts ps : List Token) (by number :
   goes : (rest : List Token) × IsSections later (front ++ c ∷ rest)
   goes =
       opens_with later front c (CertEvent.Pair (number_of false by) number)
-      (subst (λ taken. Takes later front c taken) last_told (takes_is later front c))
+      (subst (λ taken. TokenTakes later front c taken) last_told (takes_is later front c))
 
   with_three : TakesPair later new ts three (CertEvent.Pair (number_of false by) number)
   with_three = record {

@@ -36,7 +36,7 @@ use Rattle.certificate_events.specs.Events.{minus_takes, pair_takes, number_take
 use Rattle.certificate_events.specs.Events.{section_takes, events, pair_event, node_events, certificate_events}
 use Rattle.certificate_events.specs.Steps.{Step, step, step_at, begun, nodes, nodes_of, node as node_step, reach}
 use Rattle.certificate_events.specs.Steps.{answers, start, is_done}
-use Rattle.certificate_events.specs.Sections.{IsSection, IsSections, Stands, Takes, told}
+use Rattle.certificate_events.specs.Sections.{IsSection, IsSections, ReaderStands, TokenTakes, told}
 use Rattle.certificate_events.specs.Laws.{ToldByTokens, EventsOfSections}
 use Rattle.certificate_events.proofs.SignLaws.{sign_on, signs_are}
 use Rattle.certificate_events.proofs.Forms.{tail, rest_form}
@@ -75,7 +75,7 @@ told_more later ts t = ap (answers start) (signs_append later ts (t ∷ []))
 
 -- what a reader makes of one more token
 pub handed : (later : Bool) (r : CertReader) (ts : List Token) (t : Token) (q : Step) (s : Sign) →
-    s ≡ sign_of r.later t.kind → q ≡ step r.place s → Stands later r ts →
+    s ≡ sign_of r.later t.kind → q ≡ step r.place s → ReaderStands later r ts →
     q ≡ step (reach start (signs later ts)) (sign_of later t.kind)
 handed later r ts t q s said made h = made ∙ ap (step r.place) said
     ∙ ap (λ l. step r.place (sign_of l t.kind)) h.version ∙ ap (λ p. step p (sign_of later t.kind)) h.place
@@ -243,7 +243,7 @@ module _ (later : Bool) (ts : List Token) (t : Token) where
             ∙ answer_at start (signs later ts) (sign_of later t.kind) (signs later rest),
       )
 
-  takes_as : (a : Taken) → then_step.1 ≡ a → Takes later ts t a
+  takes_as : (a : Taken) → then_step.1 ≡ a → TokenTakes later ts t a
   takes_as Taken.Unexpected e =
       none_goes_on (sym (agrees place_then.stage place_then (sign_of later t.kind)) ∙ ap is_unexpected e)
   takes_as Taken.Nothing e =
@@ -253,7 +253,7 @@ module _ (later : Bool) (ts : List Token) (t : Token) where
       let g = some_goes_on (sym (agrees place_then.stage place_then (sign_of later t.kind)) ∙ ap is_unexpected e) in
       (g.0, g.1, g.2, g.3 ∙ ap (λ a. Some a) e)
 
-  pub takes_is : Takes later ts t (step (reach start (signs later ts)) (sign_of later t.kind)).1
+  pub takes_is : TokenTakes later ts t (step (reach start (signs later ts)) (sign_of later t.kind)).1
   takes_is = takes_as then_step.1 refl
 
 -- The end of a section.

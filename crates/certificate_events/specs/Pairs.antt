@@ -7,7 +7,7 @@ use Rattle.unity_syntax.specs.declared.token.TokenKind.{TokenKind}
 use Rattle.certificate_events.specs.declared.places.Stage.{Stage}
 use Rattle.certificate_events.specs.declared.reader.Taken.{Taken}
 use Rattle.certificate_events.specs.declared.reader.CertReader.{CertReader}
-use Rattle.certificate_events.specs.Sections.{Stands, IsSections, told}
+use Rattle.certificate_events.specs.Sections.{ReaderStands, IsSections, told}
 
 -- a pair may stand next
 abbrev pub is_pairs : Stage → Bool
@@ -39,6 +39,6 @@ pub record IsPairOf (by number : ℕ) (ps : List Token) : Type 0 where
 -- a reader that was handed tokens was handed these as well; they tell an event with the last of them, and some section
 -- goes on with them
 pub record TakesPair (later : Bool) (new : CertReader) (ts ps : List Token) (e : CertEvent) : Type 0 where
-  pub stands : Stands later new (ts ++ ps)
+  pub stands : ReaderStands later new (ts ++ ps)
   pub tells : told later (ts ++ ps) ≡ told later ts ++ Taken.Nothing ∷ Taken.Nothing ∷ Taken.Event e ∷ []
   pub opens : (rest : List Token) × IsSections later ((ts ++ ps) ++ rest)

@@ -25,7 +25,7 @@ abbrev pub IsSections : Bool → List Token → Type 0
 IsSections later ts = (c : Certificates) × IsSection later ts c
 
 -- the tokens that a reader was handed
-pub record Stands (later : Bool) (r : CertReader) (ts : List Token) : Type 0 where
+pub record ReaderStands (later : Bool) (r : CertReader) (ts : List Token) : Type 0 where
   pub version : r.later ≡ later
   pub place : r.place ≡ reach start (signs later ts)
 
@@ -34,10 +34,10 @@ abbrev pub reader_count : CertReader → ℕ
 reader_count r = r.taken
 
 -- what a token tells behind others: that no section goes on so, or what a section that does has there
-abbrev pub Takes : Bool → List Token → Token → Taken → Type 0
-Takes later ts t Taken.Unexpected =
+abbrev pub TokenTakes : Bool → List Token → Token → Taken → Type 0
+TokenTakes later ts t Taken.Unexpected =
     (rest : List Token) (c : Certificates) → IsSection later (ts ++ t ∷ rest) c → ⊥
-Takes later ts t taken =
+TokenTakes later ts t taken =
     (rest : List Token) × (c : Certificates) × IsSection later (ts ++ t ∷ rest) c
     × (slice_get (section_takes c) (length ts) ≡ Some taken)
 

@@ -38,13 +38,13 @@ fn is_done(stage: Stage) -> bool
 }
 
 impl CertReader {
-    ghost use Rattle.certificate_events.specs.Sections.{Stands, Takes, IsSections, reader_count, told};
+    ghost use Rattle.certificate_events.specs.Sections.{ReaderStands, TokenTakes, IsSections, reader_count, told};
     ghost use Rattle.certificate_events.specs.Pairs.{awaits_pair, awaits_number, IsPairOf, TakesPair};
 
     /// A reader of a section of a text of this version.
     pub fn new(version: u64) -> CertReader
         requires { (version ≡ 1) ⊎ (version ≡ 2) }
-        ensures stands { Stands (version == 2) result [] }
+        ensures stands { ReaderStands (version == 2) result [] }
         ensures count { reader_count result ≡ 0 }
     {
         CertReader {
@@ -63,10 +63,11 @@ impl CertReader {
     #[inline(always)]
     pub fn take(&mut self, t: Token) -> Taken
         requires { reader_count self.old < 2 ^ 64 - 1 }
-        ensures stands { (later : Bool) (ts : List Token) → Stands later self.old ts →
-            Stands later self.new (ts ++ t ∷ []) }
-        ensures takes { (later : Bool) (ts : List Token) → Stands later self.old ts → Takes later ts t result }
-        ensures told { (later : Bool) (ts : List Token) → Stands later self.old ts →
+        ensures stands { (later : Bool) (ts : List Token) → ReaderStands later self.old ts →
+            ReaderStands later self.new (ts ++ t ∷ []) }
+        ensures takes { (later : Bool) (ts : List Token) → ReaderStands later self.old ts →
+            TokenTakes later ts t result }
+        ensures told { (later : Bool) (ts : List Token) → ReaderStands later self.old ts →
             told later (ts ++ t ∷ []) ≡ told later ts ++ result ∷ [] }
         ensures count { reader_count self.new ≡ reader_count self.old + 1 }
     {
@@ -94,7 +95,7 @@ impl CertReader {
     #[inline(always)]
     pub fn take_pair(&mut self, by: u64, number: u64) -> CertEvent
         requires { awaits_pair self.old ≡ true }
-        ensures takes { (later : Bool) (ts ps : List Token) → IsPairOf by number ps → Stands later self.old ts →
+        ensures takes { (later : Bool) (ts ps : List Token) → IsPairOf by number ps → ReaderStands later self.old ts →
             TakesPair later self.new ts ps result }
         ensures pair { awaits_pair self.new ≡ true }
         ensures count { reader_count self.new ≡ reader_count self.old }
@@ -105,7 +106,7 @@ impl CertReader {
     /// Whether the tokens that were taken are a whole section.
     #[inline(always)]
     pub fn finished(&self) -> bool
-        ensures { (later : Bool) (ts : List Token) → Stands later self.now ts →
+        ensures { (later : Bool) (ts : List Token) → ReaderStands later self.now ts →
             IsTrue result ↔ IsSections later ts }
     {
         is_done(self.place.stage)

@@ -17,8 +17,9 @@ use Rattle.certificate_machine.specs.Sums.{sum_line}
 use Rattle.event_checker.specs.declared.reading.Open.{Open}
 use Rattle.event_checker.specs.declared.reading.Reading.{Reading}
 use Rattle.event_checker.specs.Events.{with_pair, is_node_event, with_event}
-use Rattle.event_checker.specs.Readings.{next_node, after, is_over, Finishes, FinishFails, IsStopped, IsOpened, At}
-use Rattle.event_checker.specs.Readings.{Fails, Stands}
+use Rattle.event_checker.specs.Readings.{next_node, after, is_over, NodeFinishes, FinishFails, ReadingStops, IsOpened}
+use Rattle.event_checker.specs.Readings.{At}
+use Rattle.event_checker.specs.Readings.{ReadingFails, ReadingStands}
 use Rattle.event_checker.specs.Readings.{Passed, PassedAt}
 use Rattle.event_checker.proofs.PairLaws.{reading_of}
 use Rattle.event_checker.proofs.StepLaws.{alone-goes, alone-fails, begun-stands, stands-failed, over-closed, over-goes}
@@ -35,7 +36,7 @@ pub read-alone : (vs : List Variable) (m : Machine) (node : ℕ) (n : Node) (rea
     mid.state ≡ Open.Nothing → mid.node ≡ node → OnOk read (Goes vs m (made_by m.variables m.branch n) mid.machine) →
     OnOk read (IsLightMachine mid.machine) → OnOk read (IsScoped vs mid.machine) →
     IfErr read (GoesErr vs m (made_by m.variables m.branch n)) → IsOpened read mid new → (root : List OpenBranch)
-    (ns : List Node) → At vs root m node ns → Stands vs root new (ns ++ n ∷ [])
+    (ns : List Node) → At vs root m node ns → ReadingStands vs root new (ns ++ n ∷ [])
 read-alone vs m node n (Ok u) mid new alone below some state count goes light scoped err q root ns at =
     alone-goes vs root m node ns at n alone some new
     (subst (λ x. Goes vs m (made_by m.variables m.branch n) x) (sym q.0) goes) below
@@ -59,18 +60,18 @@ pub record Started (m : Machine) (node : ℕ) (new : Reading) (st : Open) (k : �
 
 module _ (vs : List Variable) (m : Machine) (node : ℕ) (new : Reading) (some : 0 < m.levels) (root : List OpenBranch)
     (ns : List Node) (at : At vs root m node ns) where
-  pub sum-started : Started m node new Open.Sum (pos 0) → Stands vs root new (ns ++ Node.Sum [] ∷ [])
+  pub sum-started : Started m node new Open.Sum (pos 0) → ReadingStands vs root new (ns ++ Node.Sum [] ∷ [])
   sum-started s =
       begun-stands vs root m node ns at (Node.Sum []) new Open.Sum s.machine s.count s.state
       ([], refl, ap Ok (sym s.line), record { levels = some; size = s.size }) refl
 
   pub round-started : (d : ℤ) → Started m node new (Open.Round d) (pos 0) →
-      Stands vs root new (ns ++ Node.Round d [] ∷ [])
+      ReadingStands vs root new (ns ++ Node.Round d [] ∷ [])
   round-started d s =
       begun-stands vs root m node ns at (Node.Round d []) new (Open.Round d) s.machine s.count s.state
       ([], refl, ap Ok (sym s.line), record { levels = some; size = s.size }) refl
 
-  pub share-started : (k : ℤ) → Started m node new Open.Share k → Stands vs root new (ns ++ Node.Share k [] ∷ [])
+  pub share-started : (k : ℤ) → Started m node new Open.Share k → ReadingStands vs root new (ns ++ Node.Share k [] ∷ [])
   share-started k s =
       begun-stands vs root m node ns at (Node.Share k []) new Open.Share s.machine s.count s.state (
         k,
@@ -116,8 +117,8 @@ counted (Ok u) old new m n s = record { machine = m; count = n; state = s }
 counted (Err e) old new m n s = tt
 
 pub over-passes : (vs : List Variable) (root : List OpenBranch) (r : Reading) (ns : List Node) (e : CertEvent)
-    (m : Machine) (new : Reading) → is_node_event e ≡ true → Finishes vs r.state (sum_line r.sum) r.machine m →
-    IsLightMachine m → IsScoped vs m → Counted (reading_of m r.state r.sum r.node) new → Stands vs root r ns →
+    (m : Machine) (new : Reading) → is_node_event e ≡ true → NodeFinishes vs r.state (sum_line r.sum) r.machine m →
+    IsLightMachine m → IsScoped vs m → Counted (reading_of m r.state r.sum r.node) new → ReadingStands vs root r ns →
     is_over r.state ≡ false → Passed vs root new ns e
 over-passes vs root r ns e m new begin f light scoped k s o = by_done m.done refl
   where
@@ -132,7 +133,7 @@ over-passes vs root r ns e m new begin f light scoped k s o = by_done m.done ref
         (over-goes vs root r ns e m begin f light scoped q s o)))
 
 pub passed-failed : (vs : List Variable) (root : List OpenBranch) (r : Reading) (ns : List Node) (e : CertEvent)
-    (code : Code) (node : ℕ) → r.state ≡ Open.Failed code node → Fails vs root code node (with_event ns e) →
+    (code : Code) (node : ℕ) → r.state ≡ Open.Failed code node → ReadingFails vs root code node (with_event ns e) →
     Passed vs root r ns e
 passed-failed vs root r ns e code node is f = subst (λ st. PassedAt st vs root r ns e) (sym is) f
 
@@ -140,7 +141,8 @@ passed-failed vs root r ns e code node is f = subst (λ st. PassedAt st vs root 
 pub stop-passes : (vs : List Variable) (root : List OpenBranch) (r : Reading) (ns : List Node) (e : CertEvent)
     (mid new : Reading) (stop : Stop) → is_node_event e ≡ true →
     FinishFails vs r.state (sum_line r.sum) r.machine stop →
-    mid.node ≡ r.node → IsStopped stop mid new → Stands vs root r ns → is_over r.state ≡ false → Passed vs root new ns e
+    mid.node ≡ r.node → ReadingStops stop mid new → ReadingStands vs root r ns → is_over r.state ≡ false →
+    Passed vs root new ns e
 stop-passes vs root r ns e mid new (Stop.Fault code) begin f count q s o =
     passed-failed vs root new ns e code r.node (q ∙ ap (λ k. Open.Failed code k) count)
     (over-stopped vs root r ns e code begin f s o)

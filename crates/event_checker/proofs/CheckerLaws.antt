@@ -28,7 +28,7 @@ use Rattle.event_checker.specs.declared.errors.CertError.{CertError}
 use Rattle.event_checker.specs.declared.reading.Open.{Open}
 use Rattle.event_checker.specs.declared.reading.Reading.{Reading}
 use Rattle.event_checker.specs.Events.{events_of, is_node_event, is_pair, paired, with_event, nodes_from}
-use Rattle.event_checker.specs.Readings.{At, Stands}
+use Rattle.event_checker.specs.Readings.{At, ReadingStands}
 use Rattle.event_checker.specs.Checkers.{FailsReading, Judges, sum_verdict, verdict_at}
 use Rattle.event_checker.proofs.NodeLaws.{from-append, events-tell-nodes}
 use Rattle.event_checker.proofs.WalkLaws.{made-is, pendings-at, walk-at, fails-at, rest-whole}
@@ -36,8 +36,8 @@ use Rattle.event_checker.proofs.PairLaws.{reading_of}
 
 -- one more event
 pub one-more : (vs : List Variable) (root : List OpenBranch) (r : Reading) (es : List CertEvent) (e : CertEvent) →
-    Stands vs root r (with_event (nodes_from [] es) e) → Stands vs root r (nodes_from [] (es ++ e ∷ []))
-one-more vs root r es e s = subst (Stands vs root r) (sym (from-append [] es (e ∷ []))) s
+    ReadingStands vs root r (with_event (nodes_from [] es) e) → ReadingStands vs root r (nodes_from [] (es ++ e ∷ []))
+one-more vs root r es e s = subst (ReadingStands vs root r) (sym (from-append [] es (e ∷ []))) s
 
 -- an event that tells nothing of nodes
 pub tells-nothing : (ns : List Node) (e : CertEvent) → is_node_event e ≡ false → is_pair e ≡ false →
@@ -55,26 +55,26 @@ no-pair e h = refl
 
 -- a pair, as it is told
 pub pair-told : (vs : List Variable) (root : List OpenBranch) (r : Reading) (es : List CertEvent) (e : CertEvent)
-    (m : ℤ) (f : ℕ) → e ≡ CertEvent.Pair m f → Stands vs root r (paired (nodes_from [] es) (m, f)) →
-    Stands vs root r (nodes_from [] (es ++ e ∷ []))
+    (m : ℤ) (f : ℕ) → e ≡ CertEvent.Pair m f → ReadingStands vs root r (paired (nodes_from [] es) (m, f)) →
+    ReadingStands vs root r (nodes_from [] (es ++ e ∷ []))
 pair-told vs root r es e m f is s =
-    one-more vs root r es e (subst (λ e. Stands vs root r (with_event (nodes_from [] es) e)) (sym is) s)
+    one-more vs root r es e (subst (λ e. ReadingStands vs root r (with_event (nodes_from [] es) e)) (sym is) s)
 
 -- an event that tells nothing of nodes, as it is told
 pub nothing-told : (vs : List Variable) (root : List OpenBranch) (r : Reading) (es : List CertEvent) (e : CertEvent) →
-    is_node_event e ≡ false → is_pair e ≡ false → Stands vs root r (nodes_from [] es) →
-    Stands vs root r (nodes_from [] (es ++ e ∷ []))
+    is_node_event e ≡ false → is_pair e ≡ false → ReadingStands vs root r (nodes_from [] es) →
+    ReadingStands vs root r (nodes_from [] (es ++ e ∷ []))
 nothing-told vs root r es e n p s =
-    one-more vs root r es e (subst (Stands vs root r) (sym (tells-nothing (nodes_from [] es) e n p)) s)
+    one-more vs root r es e (subst (ReadingStands vs root r) (sym (tells-nothing (nodes_from [] es) e n p)) s)
 
 -- the beginning of a node, as it is told
 pub node-told : (vs us : List Variable) (root : List OpenBranch) (old new : Reading) (es : List CertEvent)
-    (e : CertEvent) → us ≡ vs → ((root : List OpenBranch) (ns : List Node) → Stands us root old ns →
-    Stands us root new (with_event ns e)) → Stands vs root old (nodes_from [] es) →
-    Stands vs root new (nodes_from [] (es ++ e ∷ []))
+    (e : CertEvent) → us ≡ vs → ((root : List OpenBranch) (ns : List Node) → ReadingStands us root old ns →
+    ReadingStands us root new (with_event ns e)) → ReadingStands vs root old (nodes_from [] es) →
+    ReadingStands vs root new (nodes_from [] (es ++ e ∷ []))
 node-told vs us root old new es e same f s =
-    one-more vs root new es e (subst (λ vs. Stands vs root new (with_event (nodes_from [] es) e)) same
-    (f root (nodes_from [] es) (subst (λ vs. Stands vs root old (nodes_from [] es)) (sym same) s)))
+    one-more vs root new es e (subst (λ vs. ReadingStands vs root new (with_event (nodes_from [] es) e)) same
+    (f root (nodes_from [] es) (subst (λ vs. ReadingStands vs root old (nodes_from [] es)) (sym same) s)))
 
 abbrev Walked : ℕ → Obligation → List Node → Result (Unit {0}) CertError → Type 0
 Walked levels o nodes r =
@@ -113,7 +113,8 @@ module _ (levels : ℕ) (o : Obligation) (nodes : List Node) (whole : is_whole n
       ∙ fails-at vs root m node done at n [] Code.BadSum
       (makes ∙ ap (λ b. cond b (opens []) (fails Code.BadSum)) f)
 
-  walked-at : (m : Machine) (u : Running) (node : ℕ) (st : Open) → Stands vs root (reading_of m st u node) nodes →
+  walked-at : (m : Machine) (u : Running) (node : ℕ) (st : Open) →
+      ReadingStands vs root (reading_of m st u node) nodes →
       Walked levels o nodes (verdict_at st (reading_of m st u node))
   walked-at m u node Open.Nothing g =
       let left = none-left m node g.done g.at [] (g.split ∙ ap (λ xs. g.done ++ xs) g.state.0) in
@@ -166,7 +167,7 @@ module _ (levels : ℕ) (o : Obligation) (nodes : List Node) (whole : is_whole n
   valid is (Err e) w = tt
 
   pub judged : IsObligation o → (r : Reading) (v : Result (Unit {0}) CertError) → v ≡ verdict_at r.state r →
-      Stands vs root r nodes → Judges levels o nodes v
+      ReadingStands vs root r nodes → Judges levels o nodes v
   judged is r v e s =
       let walked : Walked levels o nodes v =
       subst (Walked levels o nodes) (sym e) (walked-at r.machine r.sum r.node r.state s) in
@@ -181,8 +182,8 @@ module _ (levels : ℕ) (o : Obligation) (nodes : List Node) (whole : is_whole n
 
 -- the events of nodes stand for these nodes
 pub told-nodes : (vs : List Variable) (root : List OpenBranch) (r : Reading) (nodes : List Node) →
-    Stands vs root r (nodes_from [] (events_of nodes)) → Stands vs root r nodes
-told-nodes vs root r nodes s = subst (Stands vs root r) (events-tell-nodes nodes) s
+    ReadingStands vs root r (nodes_from [] (events_of nodes)) → ReadingStands vs root r nodes
+told-nodes vs root r nodes s = subst (ReadingStands vs root r) (events-tell-nodes nodes) s
 
 -- A checker that was told nothing yet.
 
@@ -192,7 +193,7 @@ module _ (levels : ℕ) (o : Obligation) (b : Branch) (us : List Variable) (fram
 
   pub new-stands : (u : Running) → IsObligation o → levels ≤ 4096 → b ≡ first_branch o → b.added ≡ 0 →
       us ≡ scope o.variables 0 → frames ≡ [] →
-      Stands o.variables (allowing levels (first_branch o) ∷ []) (reading_of begun Open.Nothing u 0) []
+      ReadingStands o.variables (allowing levels (first_branch o) ∷ []) (reading_of begun Open.Nothing u 0) []
   new-stands u is few first none scoped empty = record {
     done = [];
     last = [];

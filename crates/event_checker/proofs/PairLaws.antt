@@ -19,7 +19,7 @@ use Rattle.certificate_machine.specs.Sums.{sum_line}
 use Rattle.event_checker.specs.declared.reading.Open.{Open}
 use Rattle.event_checker.specs.declared.reading.Reading.{Reading}
 use Rattle.event_checker.specs.Events.{paired, with_pair, nodes_from}
-use Rattle.event_checker.specs.Readings.{pair_makes, IsStatement, At, Fails, Stands}
+use Rattle.event_checker.specs.Readings.{pair_makes, IsStatement, At, ReadingFails, ReadingStands}
 use Rattle.event_checker.proofs.NodeLaws.{paired-behind, with_pairs, grown, sum-pairs, round-pairs, share-pairs}
 use Rattle.event_checker.proofs.WalkLaws.{made-is, fails-at, each-append, each-further}
 
@@ -79,8 +79,9 @@ module _ (vs : List Variable) (root : List OpenBranch) (m : Machine) (u v : Runn
   split-paired : (done : List Node) (n : Node) → ns ≡ done ++ n ∷ [] → paired ns p ≡ done ++ with_pair n p ∷ []
   split-paired done n e = ap (λ xs. paired xs p) e ∙ paired-behind done n [] p
 
-  pair-goes-at : (st : Open) → pair_makes st m.branch.facts p l ≡ Ok k → Stands vs root (reading_of m st u node) ns →
-      Stands vs root (reading_of m st v node) (paired ns p)
+  pair-goes-at : (st : Open) → pair_makes st m.branch.facts p l ≡ Ok k →
+      ReadingStands vs root (reading_of m st u node) ns →
+      ReadingStands vs root (reading_of m st v node) (paired ns p)
   pair-goes-at Open.Nothing e g =
       let all : ns ≡ g.done = g.split ∙ ap (λ xs. g.done ++ xs) g.state.0 ∙ append-nil g.done in record {
         done = g.done;
@@ -137,7 +138,8 @@ module _ (vs : List Variable) (root : List OpenBranch) (m : Machine) (u v : Runn
   -- a node whose sum stopped fails, whatever follows
   stopped : (done : List Node) (n : Node) (code : Code) → At vs root m node done → 0 < m.levels →
       ns ≡ done ++ n ∷ [] → ((qs : List (ℤ × ℕ)) →
-      made_by m.variables m.branch (with_pairs (with_pair n p) qs) ≡ fails code) → Fails vs root code node (paired ns p)
+      made_by m.variables m.branch (with_pairs (with_pair n p) qs) ≡ fails code) →
+      ReadingFails vs root code node (paired ns p)
   stopped done n code at some split stops es =
       let g = grown es done (with_pair n p) [] in
       let there = ap (λ xs. nodes_from xs es) (split-paired done n split) ∙ g.is in
@@ -146,7 +148,7 @@ module _ (vs : List Variable) (root : List OpenBranch) (m : Machine) (u v : Runn
       (sym (made-is vs m (with_pairs (with_pair n p) g.pairs) some at.scoped.variables) ∙ stops g.pairs)
 
   pair-fails-at : (st : Open) (code : Code) → pair_makes st m.branch.facts p l ≡ Err code →
-      Stands vs root (reading_of m st u node) ns → Fails vs root code node (paired ns p)
+      ReadingStands vs root (reading_of m st u node) ns → ReadingFails vs root code node (paired ns p)
   pair-fails-at Open.Nothing code e g = cc
   pair-fails-at Open.Sum code e g =
       let s = g.state in
@@ -170,11 +172,12 @@ module _ (vs : List Variable) (root : List OpenBranch) (m : Machine) (u v : Runn
   pair-fails-at Open.Closed code e g = cc
 
 pub pair-goes : (vs : List Variable) (root : List OpenBranch) (r : Reading) (v : Running) (ns : List Node) (p : ℤ × ℕ) →
-    pair_makes r.state r.machine.branch.facts p (sum_line r.sum) ≡ Ok (sum_line v) → Stands vs root r ns →
-    Stands vs root (reading_of r.machine r.state v r.node) (paired ns p)
+    pair_makes r.state r.machine.branch.facts p (sum_line r.sum) ≡ Ok (sum_line v) → ReadingStands vs root r ns →
+    ReadingStands vs root (reading_of r.machine r.state v r.node) (paired ns p)
 pair-goes vs root r v ns p e s = pair-goes-at vs root r.machine r.sum v r.node ns p r.state e s
 
 pub pair-fails : (vs : List Variable) (root : List OpenBranch) (r : Reading) (ns : List Node) (p : ℤ × ℕ)
-    (code : Code) → pair_makes r.state r.machine.branch.facts p (sum_line r.sum) ≡ Err code → Stands vs root r ns →
-    Fails vs root code r.node (paired ns p)
+    (code : Code) → pair_makes r.state r.machine.branch.facts p (sum_line r.sum) ≡ Err code →
+    ReadingStands vs root r ns →
+    ReadingFails vs root code r.node (paired ns p)
 pair-fails vs root r ns p code e s = pair-fails-at vs root r.machine r.sum r.sum r.node ns p r.state code e s

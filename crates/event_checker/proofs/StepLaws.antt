@@ -21,8 +21,9 @@ use Rattle.certificate_machine.specs.Sums.{sum_line}
 use Rattle.event_checker.specs.declared.reading.Open.{Open}
 use Rattle.event_checker.specs.declared.reading.Reading.{Reading}
 use Rattle.event_checker.specs.Events.{with_pair, is_node_event, with_event}
-use Rattle.event_checker.specs.Readings.{next_node, has_pairs, is_over, CanFinish, Finishes, FinishFails, At}
-use Rattle.event_checker.specs.Readings.{IsOpen, Going, Fails, Closes, Stands, StandsAt, Passed}
+use Rattle.event_checker.specs.Readings.{next_node, has_pairs, is_over, CanFinish, NodeFinishes, FinishFails, At}
+use Rattle.event_checker.specs.Readings.{NodeIsOpen, Going, ReadingFails, ReadingCloses, ReadingStands, ReadingStandsAt}
+use Rattle.event_checker.specs.Readings.{Passed}
 use Rattle.event_checker.proofs.NodeLaws.{paired-behind, with_pairs, grown}
 use Rattle.event_checker.proofs.NodeLaws.{begun, begins}
 use Rattle.event_checker.proofs.WalkLaws.{made-is, fails-at, goes-at, fails-by, goes-on, closed-stays}
@@ -33,7 +34,7 @@ module _ (vs : List Variable) (root : List OpenBranch) (m : Machine) (node : ℕ
   -- a node that fails, whatever pairs it has and whatever follows
   pub fails-here : (z : Node) (zs : List Node) (code : Code) →
       ((qs : List (ℤ × ℕ)) → made vs (allowing m.levels m.branch) (with_pairs z qs) ≡ fails code) →
-      Fails vs root code node (done ++ z ∷ zs)
+      ReadingFails vs root code node (done ++ z ∷ zs)
   fails-here z zs code stops es =
       let g = grown es done z zs in
       ap (λ xs. walk vs xs root 0) g.is
@@ -41,7 +42,7 @@ module _ (vs : List Variable) (root : List OpenBranch) (m : Machine) (node : ℕ
 
   -- a node that is followed by another fails, whatever follows
   pub fails-before : (n z : Node) (code : Code) → made vs (allowing m.levels m.branch) n ≡ fails code →
-      Fails vs root code node ((done ++ n ∷ []) ++ z ∷ [])
+      ReadingFails vs root code node ((done ++ n ∷ []) ++ z ∷ [])
   fails-before n z code e es =
       let g = grown es (done ++ n ∷ []) z [] in
       ap (λ xs. walk vs xs root 0) (g.is ∙ append_assoc done (n ∷ []) (with_pairs z g.pairs ∷ g.more))
@@ -64,7 +65,7 @@ module _ (vs : List Variable) (root : List OpenBranch) (m : Machine) (node : ℕ
 
   -- the last branch is closed
   pub closed-at : (n z : Node) (new : Machine) → Goes vs m (made vs (allowing m.levels m.branch) n) new →
-      new.done ≡ true → Closes vs root ((done ++ n ∷ []) ++ z ∷ [])
+      new.done ≡ true → ReadingCloses vs root ((done ++ n ∷ []) ++ z ∷ [])
   closed-at n z new g closed es =
       let w = grown es (done ++ n ∷ []) z [] in
       let none : pendings vs new ≡ [] = ap (λ b. cond b []
@@ -86,15 +87,15 @@ module _ (vs : List Variable) (root : List OpenBranch) (m : Machine) (node : ℕ
   makes = made-is vs m n some at.scoped.variables
 
   over-fails : (code : Code) → GoesErr vs m (made_by m.variables m.branch n) (Stop.Fault code) →
-      Fails vs root code node (with_event ns e)
+      ReadingFails vs root code node (with_event ns e)
   over-fails code h =
-      subst (Fails vs root code node) (sym next-is) (fails-before vs root m node done at n (begun e) code
+      subst (ReadingFails vs root code node) (sym next-is) (fails-before vs root m node done at n (begun e) code
       (sym makes ∙ fails-by vs m (made_by m.variables m.branch n) code h))
 
   over-closes : (new : Machine) → Goes vs m (made_by m.variables m.branch n) new → new.done ≡ true →
-      Closes vs root (with_event ns e)
+      ReadingCloses vs root (with_event ns e)
   over-closes new g closed =
-      subst (Closes vs root) (sym next-is) (closed-at vs root m node done at n (begun e) new
+      subst (ReadingCloses vs root) (sym next-is) (closed-at vs root m node done at n (begun e) new
       (subst (λ x. Goes vs m x new) makes g) closed)
 
   over-done : (new : Machine) → Goes vs m (made_by m.variables m.branch n) new → IsLightMachine new →
@@ -126,7 +127,8 @@ module _ (vs : List Variable) (root : List OpenBranch) (m : Machine) (u : Runnin
 
   -- it failed
   stopped-at : (st : Open) (code : Code) → FinishFails vs st l m (Stop.Fault code) →
-      Stands vs root (reading_of m st u node) ns → is_over st ≡ false → Fails vs root code node (with_event ns e)
+      ReadingStands vs root (reading_of m st u node) ns → is_over st ≡ false →
+      ReadingFails vs root code node (with_event ns e)
   stopped-at Open.Nothing code h g o = absurd h
   stopped-at Open.Sum code h g o =
       let s = g.state in
@@ -147,8 +149,8 @@ module _ (vs : List Variable) (root : List OpenBranch) (m : Machine) (u : Runnin
   stopped-at Open.Closed code h g o = absurd h
 
   -- no branch is left
-  closes-at : (st : Open) (new : Machine) → Finishes vs st l m new → new.done ≡ true →
-      Stands vs root (reading_of m st u node) ns → is_over st ≡ false → Closes vs root (with_event ns e)
+  closes-at : (st : Open) (new : Machine) → NodeFinishes vs st l m new → new.done ≡ true →
+      ReadingStands vs root (reading_of m st u node) ns → is_over st ≡ false → ReadingCloses vs root (with_event ns e)
   closes-at Open.Nothing new f closed g o =
       let same = ap (λ (m : Machine). m.done) f in let going = g.at.going in absurd (cc)
   closes-at Open.Sum new f closed g o =
@@ -170,8 +172,8 @@ module _ (vs : List Variable) (root : List OpenBranch) (m : Machine) (u : Runnin
   closes-at Open.Closed new f closed g o = cc
 
   -- branches are left
-  goes-over : (st : Open) (new : Machine) → Finishes vs st l m new → IsLightMachine new → IsScoped vs new →
-      new.done ≡ false → Stands vs root (reading_of m st u node) ns → is_over st ≡ false →
+  goes-over : (st : Open) (new : Machine) → NodeFinishes vs st l m new → IsLightMachine new → IsScoped vs new →
+      new.done ≡ false → ReadingStands vs root (reading_of m st u node) ns → is_over st ≡ false →
       At vs root new (next_node st node) ns
   goes-over Open.Nothing new f light scoped going g o =
       subst (At vs root new node) (sym (g.split ∙ ap (λ xs. g.done ++ xs) g.state.0 ∙ append-nil g.done))
@@ -196,19 +198,21 @@ module _ (vs : List Variable) (root : List OpenBranch) (m : Machine) (u : Runnin
 
 pub over-stopped : (vs : List Variable) (root : List OpenBranch) (r : Reading) (ns : List Node) (e : CertEvent)
     (code : Code) → is_node_event e ≡ true → FinishFails vs r.state (sum_line r.sum) r.machine (Stop.Fault code) →
-    Stands vs root r ns → is_over r.state ≡ false → Fails vs root code r.node (with_event ns e)
+    ReadingStands vs root r ns → is_over r.state ≡ false → ReadingFails vs root code r.node (with_event ns e)
 over-stopped vs root r ns e code begin f s o =
     stopped-at vs root r.machine r.sum r.node ns e begin r.state code f s o
 
 pub over-closed : (vs : List Variable) (root : List OpenBranch) (r : Reading) (ns : List Node) (e : CertEvent)
-    (new : Machine) → is_node_event e ≡ true → Finishes vs r.state (sum_line r.sum) r.machine new → new.done ≡ true →
-    Stands vs root r ns → is_over r.state ≡ false → Closes vs root (with_event ns e)
+    (new : Machine) → is_node_event e ≡ true → NodeFinishes vs r.state (sum_line r.sum) r.machine new →
+    new.done ≡ true →
+    ReadingStands vs root r ns → is_over r.state ≡ false → ReadingCloses vs root (with_event ns e)
 over-closed vs root r ns e new begin f closed s o =
     closes-at vs root r.machine r.sum r.node ns e begin r.state new f closed s o
 
 pub over-goes : (vs : List Variable) (root : List OpenBranch) (r : Reading) (ns : List Node) (e : CertEvent)
-    (new : Machine) → is_node_event e ≡ true → Finishes vs r.state (sum_line r.sum) r.machine new → IsLightMachine new →
-    IsScoped vs new → new.done ≡ false → Stands vs root r ns → is_over r.state ≡ false →
+    (new : Machine) → is_node_event e ≡ true → NodeFinishes vs r.state (sum_line r.sum) r.machine new →
+    IsLightMachine new →
+    IsScoped vs new → new.done ≡ false → ReadingStands vs root r ns → is_over r.state ≡ false →
     At vs root new (next_node r.state r.node) ns
 over-goes vs root r ns e new begin f light scoped going s o =
     goes-over vs root r.machine r.sum r.node ns e begin r.state new f light scoped going s o
@@ -216,7 +220,7 @@ over-goes vs root r ns e new begin f light scoped going s o =
 -- What a reading that goes on holds.
 
 at-state : (vs : List Variable) (root : List OpenBranch) (m : Machine) (u : Running) (node : ℕ) (ns : List Node)
-    (st : Open) → is_over st ≡ false → Stands vs root (reading_of m st u node) ns →
+    (st : Open) → is_over st ≡ false → ReadingStands vs root (reading_of m st u node) ns →
     Going vs root (reading_of m st u node) ns
 at-state vs root m u node ns Open.Nothing o s = s
 at-state vs root m u node ns Open.Sum o s = s
@@ -226,10 +230,11 @@ at-state vs root m u node ns (Open.Failed c at) o s = cc
 at-state vs root m u node ns Open.Closed o s = cc
 
 pub going-on : (vs : List Variable) (root : List OpenBranch) (r : Reading) (ns : List Node) → is_over r.state ≡ false →
-    Stands vs root r ns → Going vs root r ns
+    ReadingStands vs root r ns → Going vs root r ns
 going-on vs root r ns o s = at-state vs root r.machine r.sum r.node ns r.state o s
 
-can-finish : (m : Machine) (l : Line) (done last : List Node) (st : Open) → IsOpen st m l done last → CanFinish st m l
+can-finish : (m : Machine) (l : Line) (done last : List Node) (st : Open) → NodeIsOpen st m l done last →
+    CanFinish st m l
 can-finish m l done last Open.Nothing s = tt
 can-finish m l done last Open.Sum s = s.3
 can-finish m l done last (Open.Round d) s = s.3
@@ -243,7 +248,7 @@ finishes vs root r ns g = can-finish r.machine (sum_line r.sum) g.done g.last r.
 
 -- where no node with pairs is open, it stays so
 idle-at : (vs : List Variable) (root : List OpenBranch) (m : Machine) (u : Running) (node : ℕ) (ns : List Node)
-    (e : CertEvent) (st : Open) → has_pairs st ≡ false → Stands vs root (reading_of m st u node) ns →
+    (e : CertEvent) (st : Open) → has_pairs st ≡ false → ReadingStands vs root (reading_of m st u node) ns →
     Passed vs root (reading_of m st u node) ns e
 idle-at vs root m u node ns e Open.Nothing o s =
     subst (At vs root m node) (sym (s.split ∙ ap (λ l. s.done ++ l) s.state.0 ∙ append-nil s.done)) s.at
@@ -254,7 +259,7 @@ idle-at vs root m u node ns e (Open.Failed c at) o s = λ es. s (e ∷ es)
 idle-at vs root m u node ns e Open.Closed o s = λ es. s (e ∷ es)
 
 pub idle-passes : (vs : List Variable) (root : List OpenBranch) (r : Reading) (ns : List Node) (e : CertEvent) →
-    has_pairs r.state ≡ false → Stands vs root r ns → Passed vs root r ns e
+    has_pairs r.state ≡ false → ReadingStands vs root r ns → Passed vs root r ns e
 idle-passes vs root r ns e o s = idle-at vs root r.machine r.sum r.node ns e r.state o s
 
 -- a node with pairs is open: the reading is not over
@@ -270,16 +275,16 @@ pairs-go Open.Closed h = cc
 
 -- a reading in a state in which it stands so
 pub stands-failed : (vs : List Variable) (root : List OpenBranch) (r : Reading) (ns : List Node) (code : Code)
-    (node : ℕ) → r.state ≡ Open.Failed code node → Fails vs root code node ns → Stands vs root r ns
-stands-failed vs root r ns code node e f = subst (λ st. StandsAt st vs root r ns) (sym e) f
+    (node : ℕ) → r.state ≡ Open.Failed code node → ReadingFails vs root code node ns → ReadingStands vs root r ns
+stands-failed vs root r ns code node e f = subst (λ st. ReadingStandsAt st vs root r ns) (sym e) f
 
 module _ (vs : List Variable) (root : List OpenBranch) (m : Machine) (node : ℕ) (ns : List Node)
     (at : At vs root m node ns) where
   -- for which no level is left
   pub too-deep : (e : CertEvent) → is_node_event e ≡ true → m.levels ≡ 0 →
-      Fails vs root Code.CertTooDeep node (with_event ns e)
+      ReadingFails vs root Code.CertTooDeep node (with_event ns e)
   too-deep e begin none =
-      subst (Fails vs root Code.CertTooDeep node) (sym (begins e ns begin))
+      subst (ReadingFails vs root Code.CertTooDeep node) (sym (begins e ns begin))
       (fails-here vs root m node ns at (begun e) [] Code.CertTooDeep (λ qs. ap (λ b. cond b
       (made_by (scope_of vs m.branch) m.branch (with_pairs (begun e) qs)) (fails Code.CertTooDeep))
       (low m.levels none)))
@@ -297,41 +302,41 @@ module _ (vs : List Variable) (root : List OpenBranch) (m : Machine) (node : ℕ
     all-alone (q ∷ qs) = ap (λ n. with_pairs n qs) (alone q) ∙ all-alone qs
 
     pub alone-fails : (code : Code) → GoesErr vs m (made_by m.variables m.branch n) (Stop.Fault code) →
-        Fails vs root code node (ns ++ n ∷ [])
+        ReadingFails vs root code node (ns ++ n ∷ [])
     alone-fails code h =
         fails-here vs root m node ns at n [] code (λ qs. ap (made vs (allowing m.levels m.branch)) (all-alone qs)
         ∙ sym makes-alone ∙ fails-by vs m (made_by m.variables m.branch n) code h)
 
     pub alone-goes : (new : Reading) → Goes vs m (made_by m.variables m.branch n) new.machine → 0 < arity n →
         IsLightMachine new.machine → IsScoped vs new.machine → new.node ≡ node + 1 → new.state ≡ Open.Nothing →
-        Stands vs root new (ns ++ n ∷ [])
+        ReadingStands vs root new (ns ++ n ∷ [])
     alone-goes new g below light scoped count st =
         let goes = subst (λ x. Goes vs m x new.machine) makes-alone g in
-        subst (λ st. StandsAt st vs root new (ns ++ n ∷ [])) (sym st) (record {
+        subst (λ st. ReadingStandsAt st vs root new (ns ++ n ∷ [])) (sym st) (record {
           done = ns ++ n ∷ [];
           last = [];
           split = sym (append-nil (ns ++ n ∷ []));
           at = done-at vs root m node ns at n new.machine new.node goes count light scoped
               (goes-on vs m n new.machine goes below);
-          state = subst (λ st. IsOpen st new.machine (sum_line new.sum) (ns ++ n ∷ []) []) (sym st)
+          state = subst (λ st. NodeIsOpen st new.machine (sum_line new.sum) (ns ++ n ∷ []) []) (sym st)
               (refl, λ p. paired-behind ns n [] p ∙ ap (λ x. ns ++ x ∷ []) (alone p));
         })
 
   -- a node with pairs
   pub begun-stands : (n : Node) (new : Reading) (st : Open) → new.machine ≡ m → new.node ≡ node → new.state ≡ st →
-      IsOpen st m (sum_line new.sum) ns (n ∷ []) → is_over st ≡ false → Stands vs root new (ns ++ n ∷ [])
+      NodeIsOpen st m (sum_line new.sum) ns (n ∷ []) → is_over st ≡ false → ReadingStands vs root new (ns ++ n ∷ [])
   begun-stands n new st machine count is state over =
-      subst (λ st. StandsAt st vs root new (ns ++ n ∷ [])) (sym is) (by_state st over (record {
+      subst (λ st. ReadingStandsAt st vs root new (ns ++ n ∷ [])) (sym is) (by_state st over (record {
         done = ns;
         last = n ∷ [];
         split = refl;
         at = subst (λ k. At vs root new.machine k ns) (sym count) (subst (λ m. At vs root m node ns) (sym machine) at);
-        state = subst (λ st. IsOpen st new.machine (sum_line new.sum) ns (n ∷ [])) (sym is)
-            (subst (λ m. IsOpen st m (sum_line new.sum) ns (n ∷ [])) (sym machine) state);
+        state = subst (λ st. NodeIsOpen st new.machine (sum_line new.sum) ns (n ∷ [])) (sym is)
+            (subst (λ m. NodeIsOpen st m (sum_line new.sum) ns (n ∷ [])) (sym machine) state);
       }))
     where
       by_state : (st : Open) → is_over st ≡ false → Going vs root new (ns ++ n ∷ []) →
-          StandsAt st vs root new (ns ++ n ∷ [])
+          ReadingStandsAt st vs root new (ns ++ n ∷ [])
       by_state Open.Nothing o g = g
       by_state Open.Sum o g = g
       by_state (Open.Round d) o g = g
@@ -341,11 +346,11 @@ module _ (vs : List Variable) (root : List OpenBranch) (m : Machine) (node : ℕ
 
 -- a reading that does not go on stands as it did
 pub passed-over : (vs : List Variable) (root : List OpenBranch) (r : Reading) (ns : List Node) (e : CertEvent) →
-    r.state ≢ Open.Nothing → Passed vs root r ns e → Stands vs root r (with_event ns e)
+    r.state ≢ Open.Nothing → Passed vs root r ns e → ReadingStands vs root r (with_event ns e)
 passed-over vs root r ns e some p = by_state r.machine r.sum r.node r.state some p
   where
     by_state : (m : Machine) (u : Running) (node : ℕ) (st : Open) → st ≢ Open.Nothing →
-        Passed vs root (reading_of m st u node) ns e → Stands vs root (reading_of m st u node) (with_event ns e)
+        Passed vs root (reading_of m st u node) ns e → ReadingStands vs root (reading_of m st u node) (with_event ns e)
     by_state m u node Open.Nothing h p = absurd (h refl)
     by_state m u node Open.Sum h p = absurd p
     by_state m u node (Open.Round d) h p = absurd p

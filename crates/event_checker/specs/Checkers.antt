@@ -15,23 +15,23 @@ use Rattle.event_checker.specs.declared.reading.Open.{Open}
 use Rattle.event_checker.specs.declared.reading.Reading.{Reading}
 use Rattle.event_checker.specs.declared.checker.Checker.{Checker}
 use Rattle.event_checker.specs.Events.{nodes_from}
-use Rattle.event_checker.specs.Readings.{Stands}
+use Rattle.event_checker.specs.Readings.{ReadingStands}
 
 -- the obligation that a checker holds
 abbrev pub checker_obligation : Checker → Obligation
 checker_obligation c = c.obligation
 
 -- a checker of certificates of at most so many levels of this obligation was told these events
-pub record StandsFor (levels : ℕ) (c : Checker) (o : Obligation) (es : List CertEvent) : Type 0 where
+pub record CheckerStandsFor (levels : ℕ) (c : Checker) (o : Obligation) (es : List CertEvent) : Type 0 where
   pub obligation : c.obligation ≡ o
-  pub reading : Stands o.variables (allowing levels (first_branch o) ∷ []) c.reading (nodes_from [] es)
+  pub reading : ReadingStands o.variables (allowing levels (first_branch o) ∷ []) c.reading (nodes_from [] es)
 
 -- it was told some events, and memory was not refused
-pub record IsReady (c : Checker) : Type 0 where
+pub record CheckerIsReady (c : Checker) : Type 0 where
   pub levels : ℕ
   pub events : List CertEvent
   pub own : AreOwn c.obligation.variables
-  pub stands : StandsFor levels c c.obligation events
+  pub stands : CheckerStandsFor levels c c.obligation events
 
 -- the error is the first node that fails and its code, or that memory was refused
 abbrev pub FailsReading : WalkResult → CertError → Type 0

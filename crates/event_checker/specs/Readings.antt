@@ -64,11 +64,11 @@ CanFinish Open.Share m l = IsStatement m l
 CanFinish state m l = Unit {0}
 
 -- what the node that is open makes of the branch
-abbrev pub Finishes : List Variable → Open → Line → Machine → Machine → Type 0
-Finishes vs Open.Sum l old new = Goes vs old (made_sum (Ok l)) new
-Finishes vs (Open.Round d) l old new = Goes vs old (made_round old.branch d (Ok l)) new
-Finishes vs Open.Share l old new = Goes vs old (made_share old.branch (Ok l)) new
-Finishes vs state l old new = new ≡ old
+abbrev pub NodeFinishes : List Variable → Open → Line → Machine → Machine → Type 0
+NodeFinishes vs Open.Sum l old new = Goes vs old (made_sum (Ok l)) new
+NodeFinishes vs (Open.Round d) l old new = Goes vs old (made_round old.branch d (Ok l)) new
+NodeFinishes vs Open.Share l old new = Goes vs old (made_share old.branch (Ok l)) new
+NodeFinishes vs state l old new = new ≡ old
 
 abbrev pub FinishFails : List Variable → Open → Line → Machine → Stop → Type 0
 FinishFails vs Open.Sum l old = GoesErr vs old (made_sum (Ok l))
@@ -77,14 +77,14 @@ FinishFails vs Open.Share l old = GoesErr vs old (made_share old.branch (Ok l))
 FinishFails vs state l old = λ s. ⊥
 
 -- a node failed; nothing is said where memory was refused
-abbrev pub IsStopped : Stop → Reading → Reading → Type 0
-IsStopped (Stop.Fault code) old new = new.state ≡ Open.Failed code old.node
-IsStopped Stop.Memory old new = ⊥
+abbrev pub ReadingStops : Stop → Reading → Reading → Type 0
+ReadingStops (Stop.Fault code) old new = new.state ≡ Open.Failed code old.node
+ReadingStops Stop.Memory old new = ⊥
 
 -- a node was read, or failed
 abbrev pub IsOpened : Result (Unit {0}) Stop → Reading → Reading → Type 0
 IsOpened (Ok u) old new = (new.machine ≡ old.machine) × (new.state ≡ old.state) × (new.node ≡ old.node + 1)
-IsOpened (Err stop) old new = IsStopped stop old new
+IsOpened (Err stop) old new = ReadingStops stop old new
 
 -- these nodes are done, and a machine holds the branches that are left
 pub record At (vs : List Variable) (root : List OpenBranch) (m : Machine) (node : ℕ) (done : List Node) : Type 0 where
@@ -95,20 +95,20 @@ pub record At (vs : List Variable) (root : List OpenBranch) (m : Machine) (node 
   pub going : m.done ≡ false
   pub light : IsLightMachine m
 
-abbrev pub IsAt : List Variable → Machine → ℕ → Type 0
-IsAt vs m node = (root : List OpenBranch) × (done : List Node) × At vs root m node done
+abbrev pub IsAtNode : List Variable → Machine → ℕ → Type 0
+IsAtNode vs m node = (root : List OpenBranch) × (done : List Node) × At vs root m node done
 
 -- the node that is state, behind these
-abbrev pub IsOpen : Open → Machine → Line → List Node → List Node → Type 0
-IsOpen Open.Nothing m l done last = (last ≡ []) × ((p : ℤ × ℕ) → paired done p ≡ done)
-IsOpen Open.Sum m l done last =
+abbrev pub NodeIsOpen : Open → Machine → Line → List Node → List Node → Type 0
+NodeIsOpen Open.Nothing m l done last = (last ≡ []) × ((p : ℤ × ℕ) → paired done p ≡ done)
+NodeIsOpen Open.Sum m l done last =
     (ps : List (ℤ × ℕ)) × (last ≡ Node.Sum ps ∷ []) × (all_pairs m.variables m.branch.facts ps ≡ Ok l) × IsSum m l
-IsOpen (Open.Round d) m l done last =
+NodeIsOpen (Open.Round d) m l done last =
     (ps : List (ℤ × ℕ)) × (last ≡ Node.Round d ps ∷ []) × (all_pairs m.variables m.branch.facts ps ≡ Ok l) × IsSum m l
-IsOpen Open.Share m l done last =
+NodeIsOpen Open.Share m l done last =
     (k : ℤ) × (ps : List (ℤ × ℕ)) × (last ≡ Node.Share k ps ∷ []) × (stated m.variables k ps ≡ Ok l) × IsStatement m l
-IsOpen (Open.Failed code node) m l done last = ⊥
-IsOpen Open.Closed m l done last = ⊥
+NodeIsOpen (Open.Failed code node) m l done last = ⊥
+NodeIsOpen Open.Closed m l done last = ⊥
 
 -- nodes are being read
 pub record Going (vs : List Variable) (root : List OpenBranch) (r : Reading) (ns : List Node) : Type 0 where
@@ -116,31 +116,31 @@ pub record Going (vs : List Variable) (root : List OpenBranch) (r : Reading) (ns
   pub last : List Node
   pub split : ns ≡ done ++ last
   pub at : At vs root r.machine r.node done
-  pub state : IsOpen r.state r.machine (sum_line r.sum) done last
+  pub state : NodeIsOpen r.state r.machine (sum_line r.sum) done last
 
 -- whatever follows, a walk along the nodes ends so
-abbrev pub Fails : List Variable → List OpenBranch → Code → ℕ → List Node → Type 0
-Fails vs root code node ns = (es : List CertEvent) → walk vs (nodes_from ns es) root 0 ≡ Err (code, node)
+abbrev pub ReadingFails : List Variable → List OpenBranch → Code → ℕ → List Node → Type 0
+ReadingFails vs root code node ns = (es : List CertEvent) → walk vs (nodes_from ns es) root 0 ≡ Err (code, node)
 
-abbrev pub Closes : List Variable → List OpenBranch → List Node → Type 0
-Closes vs root ns = (es : List CertEvent) → walk vs (nodes_from ns es) root 0 ≡ Ok []
+abbrev pub ReadingCloses : List Variable → List OpenBranch → List Node → Type 0
+ReadingCloses vs root ns = (es : List CertEvent) → walk vs (nodes_from ns es) root 0 ≡ Ok []
 
-abbrev pub StandsAt : Open → List Variable → List OpenBranch → Reading → List Node → Type 0
-StandsAt (Open.Failed code node) vs root r ns = Fails vs root code node ns
-StandsAt Open.Closed vs root r ns = Closes vs root ns
-StandsAt state vs root r ns = Going vs root r ns
+abbrev pub ReadingStandsAt : Open → List Variable → List OpenBranch → Reading → List Node → Type 0
+ReadingStandsAt (Open.Failed code node) vs root r ns = ReadingFails vs root code node ns
+ReadingStandsAt Open.Closed vs root r ns = ReadingCloses vs root ns
+ReadingStandsAt state vs root r ns = Going vs root r ns
 
 -- The nodes that were read against the branches with which it began: the first that failed, that no branch is left, or
 -- the branches that are left.
-abbrev pub Stands : List Variable → List OpenBranch → Reading → List Node → Type 0
-Stands vs root r ns = StandsAt r.state vs root r ns
+abbrev pub ReadingStands : List Variable → List OpenBranch → Reading → List Node → Type 0
+ReadingStands vs root r ns = ReadingStandsAt r.state vs root r ns
 
-abbrev pub IsReady : List Variable → Reading → Type 0
-IsReady vs r = (root : List OpenBranch) × (ns : List Node) × Stands vs root r ns
+abbrev pub ReadingIsReady : List Variable → Reading → Type 0
+ReadingIsReady vs r = (root : List OpenBranch) × (ns : List Node) × ReadingStands vs root r ns
 
 abbrev pub PassedAt : Open → List Variable → List OpenBranch → Reading → List Node → CertEvent → Type 0
-PassedAt (Open.Failed code node) vs root r ns e = Fails vs root code node (with_event ns e)
-PassedAt Open.Closed vs root r ns e = Closes vs root (with_event ns e)
+PassedAt (Open.Failed code node) vs root r ns e = ReadingFails vs root code node (with_event ns e)
+PassedAt Open.Closed vs root r ns e = ReadingCloses vs root (with_event ns e)
 PassedAt Open.Nothing vs root r ns e = At vs root r.machine r.node ns
 PassedAt state vs root r ns e = ⊥
 

@@ -38,7 +38,7 @@ fn begins_node(e: CertEvent) -> bool
 }
 
 impl Checker {
-    ghost use Rattle.event_checker.specs.Checkers.{IsReady, Judges, StandsFor, checker_obligation};
+    ghost use Rattle.event_checker.specs.Checkers.{CheckerIsReady, Judges, CheckerStandsFor, checker_obligation};
     ghost use Rattle.event_checker.specs.Events.{events_of, is_pair};
 
     /// A checker of a certificate of at most so many levels. It takes the obligation over. The error is that memory was
@@ -46,8 +46,8 @@ impl Checker {
     pub fn new(alloc: Global, o: Obligation, levels: u32) -> Result<Checker, AllocError>
         requires obligation { IsObligation o }
         requires levels { levels ≤ 4096 }
-        ensures stands { IfOk result (λ c. StandsFor levels c o []) }
-        ensures ready { IfOk result IsReady }
+        ensures stands { IfOk result (λ c. CheckerStandsFor levels c o []) }
+        ensures ready { IfOk result CheckerIsReady }
     {
         let reading = open_reading(alloc, &o, levels)?;
         Ok(Checker {
@@ -60,10 +60,10 @@ impl Checker {
     /// Reads what is told next. A pair takes no memory. After want of memory the checker may only be dropped.
     #[inline(always)]
     pub fn take(&mut self, e: CertEvent) -> Result<(), AllocError>
-        requires ready { IsReady self.old }
+        requires ready { CheckerIsReady self.old }
         ensures stands { OnOk result ((levels : ℕ) (o : Obligation) (es : List CertEvent) →
-            StandsFor levels self.old o es → StandsFor levels self.new o (es ++ e ∷ [])) }
-        ensures ready { OnOk result (IsReady self.new) }
+            CheckerStandsFor levels self.old o es → CheckerStandsFor levels self.new o (es ++ e ∷ [])) }
+        ensures ready { OnOk result (CheckerIsReady self.new) }
         ensures room { is_pair e ≡ true → IsOk result }
     {
         if let CertEvent::Pair(by, number) = e {
@@ -86,7 +86,8 @@ impl Checker {
     pub fn finish(self) -> (Obligation, Result<(), CertError>)
         ensures back { result.0 ≡ checker_obligation self }
         ensures judges { (levels : ℕ) (o : Obligation) (nodes : List Node) → IsObligation o →
-            StandsFor levels self o (events_of nodes) → is_whole nodes 1 ≡ true → Judges levels o nodes result.1 }
+            CheckerStandsFor levels self o (events_of nodes) → is_whole nodes 1 ≡ true →
+            Judges levels o nodes result.1 }
     {
         let verdict = verdict(&self.reading);
         (self.obligation, verdict)

@@ -4,7 +4,7 @@ ghost use Rattle.obligations.specs.Obligations.{AreOwn, IsObligation};
 ghost use Rattle.obligations.specs.Opening.{first_branch};
 ghost use Rattle.certificate_rules.specs.Refutation.{allowing};
 ghost use Rattle.event_checker.specs.Checkers.{HasVerdict};
-ghost use Rattle.event_checker.specs.Readings.{Stands};
+ghost use Rattle.event_checker.specs.Readings.{ReadingStands};
 
 use crate::errors::CertError;
 use crate::reading::{Open, Reading};
@@ -22,7 +22,7 @@ const ROOM_FOR_FRAMES: usize = 64;
 pub fn open_reading(alloc: Global, o: &Obligation, levels: u32) -> Result<Reading, AllocError>
     requires obligation { IsObligation o.now }
     requires levels { levels ≤ 4096 }
-    ensures stands { IfOk result (λ r. Stands o.now.variables (allowing levels (first_branch o.now) ∷ []) r []) }
+    ensures stands { IfOk result (λ r. ReadingStands o.now.variables (allowing levels (first_branch o.now) ∷ []) r []) }
     ensures own { OnOk result (AreOwn o.now.variables) }
 {
     if !has_room(o) {

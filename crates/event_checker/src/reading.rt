@@ -9,9 +9,10 @@ ghost use Rattle.certificate_rules.specs.Refutation.{OpenBranch};
 ghost use Rattle.certificate_machine.specs.Sums.{sum_line};
 ghost use Rattle.certificate_machine.specs.Machines.{IsFit, IsLightMachine, IsScoped};
 ghost use Rattle.event_checker.specs.Events.{is_node_event, paired, with_event};
-ghost use Rattle.event_checker.specs.Readings.{pair_makes, has_pairs, next_node, after, CanFinish, Finishes};
+ghost use Rattle.event_checker.specs.Readings.{pair_makes, has_pairs, next_node, after, CanFinish, NodeFinishes};
 ghost use Rattle.event_checker.specs.Readings.{FinishFails};
-ghost use Rattle.event_checker.specs.Readings.{IsStopped, IsOpened, At, IsAt, Stands, IsReady, Passed};
+ghost use Rattle.event_checker.specs.Readings.{ReadingStops, IsOpened, At, IsAtNode, ReadingStands, ReadingIsReady};
+ghost use Rattle.event_checker.specs.Readings.{Passed};
 
 use case_tables::Code;
 use certificate_machine::{
@@ -73,8 +74,8 @@ fn fail(reading: &mut Reading, code: Code)
 /// Reads a pair of the node that is open.
 #[inline(always)]
 pub fn take_pair(reading: &mut Reading, pair: (i64, u64))
-    ensures { (vs : List Variable) (root : List OpenBranch) (ns : List Node) → Stands vs root reading.old ns →
-        Stands vs root reading.new (paired ns pair) }
+    ensures { (vs : List Variable) (root : List OpenBranch) (ns : List Node) → ReadingStands vs root reading.old ns →
+        ReadingStands vs root reading.new (paired ns pair) }
 {
     let added = add_pair(
         reading.state,
@@ -102,7 +103,7 @@ fn finish_open(
     requires going { machine.old.done ≡ false }
     requires light { IsLightMachine machine.old }
     requires finishes { CanFinish state machine.old (sum_line sum.now) }
-    ensures ok { OnOk result (Finishes vs.now state (sum_line sum.now) machine.old machine.new) }
+    ensures ok { OnOk result (NodeFinishes vs.now state (sum_line sum.now) machine.old machine.new) }
     ensures light { OnOk result (IsLightMachine machine.new) }
     ensures scoped { OnOk result (IsScoped vs.now machine.new) }
     ensures err { IfErr result (FinishFails vs.now state (sum_line sum.now) machine.old) }
@@ -138,7 +139,7 @@ fn next_node(state: Open, node: u64) -> Result<u64, AllocError>
 
 /// The node that is read now failed so, or memory was refused.
 fn stopped(reading: &mut Reading, stop: Stop) -> Result<(), AllocError>
-    ensures { OnOk result (IsStopped stop reading.old reading.new) }
+    ensures { OnOk result (ReadingStops stop reading.old reading.new) }
 {
     match stop {
         Stop::Fault(code) => {
@@ -167,9 +168,9 @@ fn count(reading: &mut Reading) -> Result<(), AllocError>
 /// Lets the node with pairs that is open do its work, where one is.
 fn step_over(alloc: Global, vs: &[Variable], reading: &mut Reading) -> Result<(), AllocError>
     requires own { AreOwn vs.now }
-    requires ready { IsReady vs.now reading.old }
+    requires ready { ReadingIsReady vs.now reading.old }
     ensures { OnOk result ((root : List OpenBranch) (ns : List Node) (e : CertEvent) → is_node_event e ≡ true →
-        Stands vs.now root reading.old ns → Passed vs.now root reading.new ns e) }
+        ReadingStands vs.now root reading.old ns → Passed vs.now root reading.new ns e) }
 {
     if !has_pairs(reading.state) {
         return Ok(());
@@ -223,9 +224,10 @@ fn begin(
     requires own { AreOwn vs.now }
     requires node { is_node_event event ≡ true }
     requires none { reading.old.state ≡ Open.Nothing }
-    requires ready { IsAt vs.now reading.old.machine reading.old.node }
+    requires ready { IsAtNode vs.now reading.old.machine reading.old.node }
     ensures { OnOk result ((root : List OpenBranch) (ns : List Node) →
-        At vs.now root reading.old.machine reading.old.node ns → Stands vs.now root reading.new (with_event ns event)) }
+        At vs.now root reading.old.machine reading.old.node ns →
+        ReadingStands vs.now root reading.new (with_event ns event)) }
 {
     if reading.machine.levels == 0 {
         return opened(reading, Err(Stop::Fault(Code::CertTooDeep)));
@@ -259,9 +261,9 @@ pub fn take_node(
 ) -> Result<(), AllocError>
     requires own { AreOwn vs.now }
     requires node { is_node_event event ≡ true }
-    requires ready { IsReady vs.now reading.old }
-    ensures { OnOk result ((root : List OpenBranch) (ns : List Node) → Stands vs.now root reading.old ns →
-        Stands vs.now root reading.new (with_event ns event)) }
+    requires ready { ReadingIsReady vs.now reading.old }
+    ensures { OnOk result ((root : List OpenBranch) (ns : List Node) → ReadingStands vs.now root reading.old ns →
+        ReadingStands vs.now root reading.new (with_event ns event)) }
 {
     step_over(alloc, vs, reading)?;
     match reading.state {

@@ -18,7 +18,8 @@ use Rattle.reached_verdicts.specs.ByReach.{VerdictByReach, ended, verdict_from}
 use Rattle.proof_plans.proofs.PlanLaws.{reached_from}
 use Rattle.event_judge.specs.declared.judge.Judge.{Judge}
 use Rattle.event_judge.specs.Told.{Told}
-use Rattle.event_judge.specs.Judges.{shown_by, names_in, IsLeftBy, IsAt, Judging, Failed, StandsAt, Stands}
+use Rattle.event_judge.specs.Judges.{shown_by, names_in, IsLeftBy, IsAtObligation, Judging, Failed, JudgeStandsAt}
+use Rattle.event_judge.specs.Judges.{JudgeStands}
 use Rattle.event_judge.proofs.ShownLaws.{shown-missing, shown-end}
 use Rattle.event_judge.proofs.StandLaws.{got-at, below-min}
 
@@ -41,23 +42,24 @@ module _ (law : VerdictByReach) (d : CDocument) (j : Judge) (certs : List Cert) 
       shown_by d certs plan ≡ v
   no-more plan v e = ap (λ (cs : List Cert). shown_by d cs plan) (sym (append-nil certs)) ∙ e
 
-  pub finish-failed : (fault : StepFault) → j.failed ≡ Some fault → Stands d j all → verdict_of d certs ≡ Err fault
+  pub finish-failed : (fault : StepFault) → j.failed ≡ Some fault → JudgeStands d j all → verdict_of d certs ≡ Err fault
   finish-failed fault e s =
-      let f : Failed d j all fault = subst (λ x. StandsAt x d j all) e s in
+      let f : Failed d j all fault = subst (λ x. JudgeStandsAt x d j all) e s in
       verdict-is (reach_of d) refl
       ∙ ap (λ r. then_by r (λ done. ended certs (reach_of d)))
       (no-more (reached (reach_of d)) (Err fault) (f.fails whole []))
 
-  judging : j.failed ≡ None → Stands d j all → Judging d j all
-  judging e s = subst (λ x. StandsAt x d j all) e s
+  judging : j.failed ≡ None → JudgeStands d j all → Judging d j all
+  judging e s = subst (λ x. JudgeStandsAt x d j all) e s
 
-  obligations-are : (plan : Plan) (x : Option Checker) → IsAt x j plan all → j.plan.obligations ≡ plan.obligations
+  obligations-are : (plan : Plan) (x : Option Checker) → IsAtObligation x j plan all →
+      j.plan.obligations ≡ plan.obligations
   obligations-are plan None w = w.obligations
   obligations-are plan (Some c) k = let no = k.told in absurd (cc)
 
   pub finish-missing : (fault : StepFault) → j.failed ≡ None → j.judged < length j.plan.obligations →
       ((made : Record) → IsLeftBy j.plan j.judged made →
-      fault ≡ refutation_fault made.program made.name j.judged Code.CertMissing) → Stands d j all →
+      fault ≡ refutation_fault made.program made.name j.judged Code.CertMissing) → JudgeStands d j all →
       verdict_of d certs ≡ Err fault
   finish-missing fault e less named s =
       let g : Judging d j all = judging e s in
@@ -91,7 +93,7 @@ module _ (law : VerdictByReach) (d : CDocument) (j : Judge) (certs : List Cert) 
       (g.shown whole [] ∙ shown-end d g.plan (certs ++ []) j.judged (omega (arith, long, most)))
 
   pub finish-stopped : (fault : StepFault) → j.failed ≡ None → length j.plan.obligations ≤ j.judged →
-      j.stopped ≡ Some fault → Stands d j all → verdict_of d certs ≡ Err fault
+      j.stopped ≡ Some fault → JudgeStands d j all → verdict_of d certs ≡ Err fault
   finish-stopped fault e most stop s =
       let g : Judging d j all = judging e s in
       verdict-is (reach_from g.plan (Some fault)) (g.reach ∙ ap (reach_from g.plan) stop)
@@ -110,7 +112,7 @@ module _ (law : VerdictByReach) (d : CDocument) (j : Judge) (certs : List Cert) 
       ∙ ap (λ (b : Bool). cond b (Err (surplus_fault n)) (Ok g.plan)) test
 
   pub finish-surplus : (fault : StepFault) → j.failed ≡ None → length j.plan.obligations ≤ j.judged →
-      j.stopped ≡ None → j.surplus ≡ true → fault ≡ surplus_fault (length j.plan.obligations) → Stands d j all →
+      j.stopped ≡ None → j.surplus ≡ true → fault ≡ surplus_fault (length j.plan.obligations) → JudgeStands d j all →
       verdict_of d certs ≡ Err fault
   finish-surplus fault e most stop more is s =
       let g : Judging d j all = judging e s in
@@ -120,7 +122,7 @@ module _ (law : VerdictByReach) (d : CDocument) (j : Judge) (certs : List Cert) 
       ∙ ap (λ (f : StepFault). Err f) (sym is)
 
   pub finish-accepted : j.failed ≡ None → length j.plan.obligations ≤ j.judged → j.stopped ≡ None →
-      j.surplus ≡ false → Stands d j all → verdict_of d certs ≡ Ok j.plan
+      j.surplus ≡ false → JudgeStands d j all → verdict_of d certs ≡ Ok j.plan
   finish-accepted e most stop few s =
       let g : Judging d j all = judging e s in
       last g most stop false few

@@ -14,7 +14,7 @@ use Rattle.obligations.specs.Obligations.{IsObligation}
 use Rattle.certificate_rules.specs.Refutation.{walk_from_root}
 use Rattle.certificate_rules.specs.Trees.{is_whole}
 use Rattle.event_checker.specs.declared.checker.Checker.{Checker}
-use Rattle.event_checker.specs.Checkers as checkers
+use Rattle.event_checker.specs.Checkers.{CheckerIsReady, CheckerStandsFor, checker_obligation}
 use Rattle.event_checker.specs.Events.{nodes_from}
 use Rattle.fair_rounds.specs.declared.records.Record.{Record}
 use Rattle.rules_table.proofs.EachLaws.{each_at, from_all}
@@ -25,8 +25,9 @@ use Rattle.proof_plans.specs.Verdicts.{refutation_fault}
 use Rattle.proof_plans.proofs.PlanLaws.{reached_from}
 use Rattle.event_judge.specs.declared.judge.Judge.{Judge}
 use Rattle.event_judge.specs.Told.{Told, told_at, told_more, begun, is_inner, part_count}
-use Rattle.event_judge.specs.Judges.{shown_by, shown_from, IsShownBefore, Checks, Waits, IsAt, Judging}
-use Rattle.event_judge.specs.Judges.{Failed, StandsAt, Stands, IsLeftBy, checked_by}
+use Rattle.event_judge.specs.Judges.{shown_by, shown_from, IsShownBefore, IsChecking, IsWaiting, IsAtObligation}
+use Rattle.event_judge.specs.Judges.{Judging}
+use Rattle.event_judge.specs.Judges.{Failed, JudgeStandsAt, JudgeStands, IsLeftBy, checked_by}
 use Rattle.event_judge.proofs.ShownLaws.{whole-front, whole-last, got-next, shown-passing, shown-failing}
 use Rattle.event_judge.proofs.StandLaws.{got-at, below-min, min-below, min-next, cert_of, end-some}
 use Rattle.event_judge.proofs.StandLaws.{begin-none, inner-some}
@@ -38,17 +39,17 @@ module _ (d : CDocument) (j : Judge) where
 
   pub begin-next : (t : Told) (os : List Obligation) (c : Checker) → is_some j.failed ≡ false → j.checker ≡ None →
       j.judged < length j.plan.obligations →
-      ((o : Obligation) → slice_get j.plan.obligations j.judged ≡ Some o → checkers.StandsFor j.levels c o []) →
-      checkers.IsReady c → ((o : Obligation) → slice_get j.plan.obligations j.judged ≡ Some o →
-      slice_set os j.judged o ≡ j.plan.obligations) → Stands d j t →
-      Stands d (opened os c) (told_more t CertEvent.Begin)
+      ((o : Obligation) → slice_get j.plan.obligations j.judged ≡ Some o → CheckerStandsFor j.levels c o []) →
+      CheckerIsReady c → ((o : Obligation) → slice_get j.plan.obligations j.judged ≡ Some o →
+      slice_set os j.judged o ≡ j.plan.obligations) → JudgeStands d j t →
+      JudgeStands d (opened os c) (told_more t CertEvent.Begin)
   begin-next t os c going none less stands ready others s = by_failed j.failed going s
     where
-      by_failed : (f : Option StepFault) → is_some f ≡ false → StandsAt f d j t →
-          StandsAt f d (opened os c) (told_more t CertEvent.Begin)
+      by_failed : (f : Option StepFault) → is_some f ≡ false → JudgeStandsAt f d j t →
+          JudgeStandsAt f d (opened os c) (told_more t CertEvent.Begin)
       by_failed (Some fault) h f = absurd (cc)
       by_failed None h g =
-          let w : Waits j g.plan t = subst (λ x. IsAt x j g.plan t) none g.at in
+          let w : IsWaiting j g.plan t = subst (λ x. IsAtObligation x j g.plan t) none g.at in
           let n = length g.plan.obligations in
           let same = w.obligations in
           let long = ap (λ (xs : List Obligation). length xs) same in
@@ -90,15 +91,15 @@ module _ (d : CDocument) (j : Judge) where
 
   -- no obligation is left
   pub begin-surplus : (t : Told) → is_some j.failed ≡ false → j.checker ≡ None →
-      length j.plan.obligations ≤ j.judged → Stands d j t →
-      Stands d (record j { surplus = true }) (told_more t CertEvent.Begin)
+      length j.plan.obligations ≤ j.judged → JudgeStands d j t →
+      JudgeStands d (record j { surplus = true }) (told_more t CertEvent.Begin)
   begin-surplus t going none most s = by_failed j.failed going s
     where
-      by_failed : (f : Option StepFault) → is_some f ≡ false → StandsAt f d j t →
-          StandsAt f d (record j { surplus = true }) (told_more t CertEvent.Begin)
+      by_failed : (f : Option StepFault) → is_some f ≡ false → JudgeStandsAt f d j t →
+          JudgeStandsAt f d (record j { surplus = true }) (told_more t CertEvent.Begin)
       by_failed (Some fault) h f = absurd (cc)
       by_failed None h g =
-          let w : Waits j g.plan t = subst (λ x. IsAt x j g.plan t) none g.at in
+          let w : IsWaiting j g.plan t = subst (λ x. IsAtObligation x j g.plan t) none g.at in
           let n = length g.plan.obligations in
           let long = ap (λ (xs : List Obligation). length xs) w.obligations in
           let over : n ≤ j.judged = omega (arith, long, most) in
@@ -116,7 +117,7 @@ module _ (d : CDocument) (j : Judge) where
             judged = g.judged ∙ ap (λ (cs : List Cert). min n (length cs)) (sym kept);
             surplus = sym (lt-ltb n (begun u) (omega (arith, more, few)));
             shown = subst (λ (cs : List Cert). IsShownBefore d cs j.judged g.plan) (sym kept) g.shown;
-            at = subst (λ x. IsAt x (record j { surplus = true }) g.plan u) (sym none) (record {
+            at = subst (λ x. IsAtObligation x (record j { surplus = true }) g.plan u) (sym none) (record {
               obligations = w.obligations;
               told = λ less. absurd (omega (arith, less, over));
             });
@@ -124,16 +125,16 @@ module _ (d : CDocument) (j : Judge) where
 
   -- an inner event of a certificate that is being checked
   pub inner-checked : (t : Told) (e : CertEvent) (c new : Checker) → is_inner e ≡ true → j.checker ≡ Some c →
-      ((levels : ℕ) (o : Obligation) (es : List CertEvent) → checkers.StandsFor levels c o es →
-      checkers.StandsFor levels new o (es ++ e ∷ [])) → checkers.IsReady new → Stands d j t →
-      Stands d (record j { checker = Some new }) (told_more t e)
+      ((levels : ℕ) (o : Obligation) (es : List CertEvent) → CheckerStandsFor levels c o es →
+      CheckerStandsFor levels new o (es ++ e ∷ [])) → CheckerIsReady new → JudgeStands d j t →
+      JudgeStands d (record j { checker = Some new }) (told_more t e)
   inner-checked t e c new inner some more ready s = by_failed j.failed s
     where
-      by_failed : (f : Option StepFault) → StandsAt f d j t →
-          StandsAt f d (record j { checker = Some new }) (told_more t e)
+      by_failed : (f : Option StepFault) → JudgeStandsAt f d j t →
+          JudgeStandsAt f d (record j { checker = Some new }) (told_more t e)
       by_failed (Some fault) f = let no : None ≡ Some c = sym f.checker ∙ some in absurd (cc)
       by_failed None g =
-          let k : Checks j g.plan t c = subst (λ x. IsAt x j g.plan t) some g.at in
+          let k : IsChecking j g.plan t c = subst (λ x. IsAtObligation x j g.plan t) some g.at in
           subst (Judging d (record j { checker = Some new })) (sym (inner-some t e k.events inner k.told)) (record {
             plan = g.plan;
             reach = g.reach;
@@ -158,29 +159,29 @@ module _ (d : CDocument) (j : Judge) where
 -- The certificate that is being checked ends.
 
 module _ (d : CDocument) (j : Judge) (c : Checker) (t : Told) (none : j.checker ≡ None) (back : Obligation)
-    (is : back ≡ checkers.checker_obligation c) (put : List Obligation)
+    (is : back ≡ checker_obligation c) (put : List Obligation)
     (put-is : put ≡ slice_set j.plan.obligations j.judged back) where
   abbrev checked : Judge
   checked = checked_by j c
 
   -- the obligation is back at its place
-  put-back : (plan : Plan) (k : Checks checked plan t c) → put ≡ plan.obligations
+  put-back : (plan : Plan) (k : IsChecking checked plan t c) → put ≡ plan.obligations
   put-back plan k = put-is
       ∙ ap (λ o. slice_set j.plan.obligations j.judged o) (is ∙ k.stands.obligation) ∙ k.others
 
   -- as many certificates ended as obligations were refuted
-  counted : (g : Judging d checked t) (k : Checks checked g.plan t c) → length t.certs ≡ j.judged
+  counted : (g : Judging d checked t) (k : IsChecking checked g.plan t c) → length t.certs ≡ j.judged
   counted g k = sym (below-min (length g.plan.obligations) (length t.certs) j.judged g.judged
       (slice_get_within g.plan.obligations j.judged k.obligation k.next))
 
   -- the certificate stands at the obligation's number
-  there : (g : Judging d checked t) (k : Checks checked g.plan t c) (more : List Cert) →
+  there : (g : Judging d checked t) (k : IsChecking checked g.plan t c) (more : List Cert) →
       slice_get (t.certs ++ cert_of k.events ∷ more) j.judged ≡ Some (cert_of k.events)
   there g k more = ap (slice_get (t.certs ++ cert_of k.events ∷ more)) (sym (counted g k))
       ∙ got-next t.certs (cert_of k.events) more
 
   -- the obligation can be made
-  made-at : (g : Judging d checked t) (k : Checks checked g.plan t c) → IsObligation k.obligation
+  made-at : (g : Judging d checked t) (k : IsChecking checked g.plan t c) → IsObligation k.obligation
   made-at g k = each_at IsObligation g.plan.obligations
       (from_all IsObligation g.plan.obligations g.planned.makeable) j.judged k.obligation k.next
 
@@ -189,17 +190,17 @@ module _ (d : CDocument) (j : Judge) (c : Checker) (t : Told) (none : j.checker 
 
   -- it was refuted
   pub close-passed : (next : ℕ) → next ≡ j.judged + 1 →
-      ((o : Obligation) (es : List CertEvent) → IsObligation o → checkers.StandsFor j.levels c o es →
+      ((o : Obligation) (es : List CertEvent) → IsObligation o → CheckerStandsFor j.levels c o es →
       is_whole (nodes_from [] es) 1 ≡ true → walk_from_root j.levels o (nodes_from [] es) ≡ Ok []) →
-      Stands d checked t → Stands d (passed next) (told_more t CertEvent.End)
+      JudgeStands d checked t → JudgeStands d (passed next) (told_more t CertEvent.End)
   close-passed next next-is walks s =
-      subst (λ n. Stands d (passed n) (told_more t CertEvent.End)) (sym next-is) (by_failed j.failed s)
+      subst (λ n. JudgeStands d (passed n) (told_more t CertEvent.End)) (sym next-is) (by_failed j.failed s)
     where
-      by_failed : (f : Option StepFault) → StandsAt f d checked t →
-          StandsAt f d (passed (j.judged + 1)) (told_more t CertEvent.End)
+      by_failed : (f : Option StepFault) → JudgeStandsAt f d checked t →
+          JudgeStandsAt f d (passed (j.judged + 1)) (told_more t CertEvent.End)
       by_failed (Some fault) f = let no : Some c ≡ None = f.checker in absurd (cc)
       by_failed None g =
-          let k : Checks checked g.plan t c = g.at in
+          let k : IsChecking checked g.plan t c = g.at in
           let n = length g.plan.obligations in
           let below : j.judged < n = slice_get_within g.plan.obligations j.judged k.obligation k.next in
           let all = counted g k in
@@ -229,7 +230,7 @@ module _ (d : CDocument) (j : Judge) (c : Checker) (t : Told) (none : j.checker 
                 (subst (λ l. walk_from_root l k.obligation it.nodes ≡ Ok []) g.levels walked)
                 ∙ ap (λ (m : ℕ). shown_from d (t.certs ++ it ∷ more) m g.plan) (sym step)
                 ∙ ap (λ (cs : List Cert). shown_from d cs (j.judged + 1) g.plan) (sym joined);
-            at = subst (λ x. IsAt x (passed (j.judged + 1)) g.plan
+            at = subst (λ x. IsAtObligation x (passed (j.judged + 1)) g.plan
                 (record { certs = t.certs ++ it ∷ []; part = None })) (sym none)
                 (record { obligations = put-back g.plan k; told = λ less. refl });
           })
@@ -239,18 +240,18 @@ module _ (d : CDocument) (j : Judge) (c : Checker) (t : Told) (none : j.checker 
 
   -- it was not
   pub close-failed : (code : Code) (node : ℕ) (fault : StepFault) →
-      ((o : Obligation) (es : List CertEvent) → IsObligation o → checkers.StandsFor j.levels c o es →
+      ((o : Obligation) (es : List CertEvent) → IsObligation o → CheckerStandsFor j.levels c o es →
       is_whole (nodes_from [] es) 1 ≡ true → walk_from_root j.levels o (nodes_from [] es) ≡ Err (code, node)) →
       ((made : Record) → IsLeftBy (record j.plan { obligations = put }) j.judged made →
       fault ≡ refutation_fault made.program made.name j.judged code) →
-      Stands d checked t → Stands d (stopped fault) (told_more t CertEvent.End)
+      JudgeStands d checked t → JudgeStands d (stopped fault) (told_more t CertEvent.End)
   close-failed code node fault walks named s = by_failed j.failed s
     where
-      by_failed : (f : Option StepFault) → StandsAt f d checked t →
+      by_failed : (f : Option StepFault) → JudgeStandsAt f d checked t →
           Failed d (stopped fault) (told_more t CertEvent.End) fault
       by_failed (Some old) f = let no : Some c ≡ None = f.checker in absurd (cc)
       by_failed None g =
-          let k : Checks checked g.plan t c = g.at in
+          let k : IsChecking checked g.plan t c = g.at in
           let below : j.judged < length g.plan.obligations =
           slice_get_within g.plan.obligations j.judged k.obligation k.next in
           let it = cert_of k.events in

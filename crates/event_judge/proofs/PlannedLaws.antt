@@ -33,7 +33,7 @@ use Rattle.proof_plans.proofs.LoopLaws.{named_program}
 use Rattle.proof_plans.proofs.ReachLaws.{reach-is, reaches-none, reaches-more, proofs_reach-none, proofs_reach-more}
 use Rattle.proof_plans.proofs.ReachLaws.{reach_fits}
 use Rattle.reached_verdicts.specs.ByReach.{Name, name_at, names_of, proof_names}
-use Rattle.event_judge.specs.Judges.{IsOwned, IsPlanned, names_in}
+use Rattle.event_judge.specs.Judges.{IsOwned, IsPlanWithNames, names_in}
 use Rattle.event_judge.proofs.StandLaws.{got-at}
 
 -- The names of records.
@@ -230,7 +230,7 @@ module _ (seen : Around) (all : All IsSlot seen.slots) (programs : All (IsProgra
       (λ mid b. proofs-go rest mid (front ++ here) (All-tail (IsProof slots seen.programs) proof rest good) b
       (is ∙ sym (append_assoc front here later)))))
 
-pub planned : (d : CDocument) → IsCoreDocument d → IsPlanned (names_in d) (reached (reach_of d))
+pub planned : (d : CDocument) → IsCoreDocument d → IsPlanWithNames (names_in d) (reached (reach_of d))
 planned d good =
     let g = proofs-go (document_seen d) good.slots good.programs (names_in d) d.proofs no_plan [] good.proofs
     (record { fits = tt; made = tt; names = refl; owned = refl; places = tt }) refl in

@@ -13,7 +13,8 @@ use Rattle.proof_plans.specs.declared.plans.StepFault.{StepFault}
 use Rattle.proof_plans.specs.Verdicts.{most_levels}
 use Rattle.event_judge.specs.declared.judge.Judge.{Judge}
 use Rattle.event_judge.specs.Told.{Told}
-use Rattle.event_judge.specs.Judges.{IsOwned, IsAt, Judging, StandsAt, IsReady, checked_by, Checks}
+use Rattle.event_judge.specs.Judges.{IsOwned, IsAtObligation, Judging, JudgeStandsAt, JudgeIsReady, checked_by}
+use Rattle.event_judge.specs.Judges.{IsChecking}
 
 few-levels : (version : ℕ) → most_levels version ≤ 4096
 few-levels version = by_test (nat_eq version 2)
@@ -22,27 +23,28 @@ few-levels version = by_test (nat_eq version 2)
     by_test true = omega arith
     by_test false = omega arith
 
-long-as : (j : Judge) (plan : Plan) (t : Told) (x : Option Checker) → IsAt x j plan t →
+long-as : (j : Judge) (plan : Plan) (t : Told) (x : Option Checker) → IsAtObligation x j plan t →
     length j.plan.obligations ≡ length plan.obligations
 long-as j plan t None w = ap (λ (os : List Obligation). length os) w.obligations
 long-as j plan t (Some c) k = sym (length-set j.plan.obligations j.judged k.obligation)
     ∙ ap (λ (os : List Obligation). length os) k.others
 
 -- a judge that is ready judges, where nothing failed
-pub judging-now : (j : Judge) (r : IsReady j) → j.failed ≡ None → Judging r.document j r.told
-judging-now j r e = subst (λ x. StandsAt x r.document j r.told) e r.stands
+pub judging-now : (j : Judge) (r : JudgeIsReady j) → j.failed ≡ None → Judging r.document j r.told
+judging-now j r e = subst (λ x. JudgeStandsAt x r.document j r.told) e r.stands
 
-pub few-now : (j : Judge) → IsReady j → j.failed ≡ None → j.levels ≤ 4096
+pub few-now : (j : Judge) → JudgeIsReady j → j.failed ≡ None → j.levels ≤ 4096
 few-now j r e =
     let g = judging-now j r e in subst (λ n. n ≤ 4096) (sym g.levels) (few-levels r.document.version)
 
-pub makeable-now : (j : Judge) → IsReady j → j.failed ≡ None → j.checker ≡ None → All IsObligation j.plan.obligations
+pub makeable-now : (j : Judge) → JudgeIsReady j → j.failed ≡ None → j.checker ≡ None →
+    All IsObligation j.plan.obligations
 makeable-now j r e none =
     let g = judging-now j r e in
-    let w = subst (λ x. IsAt x j g.plan r.told) none g.at in
+    let w = subst (λ x. IsAtObligation x j g.plan r.told) none g.at in
     subst (λ (os : List Obligation). All IsObligation os) (sym w.obligations) g.planned.makeable
 
-pub owned-now : (j : Judge) → IsReady j → j.failed ≡ None → j.judged < length j.plan.obligations →
+pub owned-now : (j : Judge) → JudgeIsReady j → j.failed ≡ None → j.judged < length j.plan.obligations →
     IsOwned j.plan j.judged
 owned-now j r e less =
     let g = judging-now j r e in
@@ -57,21 +59,22 @@ owned-now j r e less =
     )
 
 -- while a checker has an obligation, nothing failed
-pub checked-none : (j : Judge) (c : Checker) → IsReady (checked_by j c) → j.failed ≡ None
+pub checked-none : (j : Judge) (c : Checker) → JudgeIsReady (checked_by j c) → j.failed ≡ None
 checked-none j c r = by_failed j.failed refl r.stands
   where
-    by_failed : (f : Option StepFault) → j.failed ≡ f → StandsAt f r.document (checked_by j c) r.told → j.failed ≡ None
+    by_failed : (f : Option StepFault) → j.failed ≡ f → JudgeStandsAt f r.document (checked_by j c) r.told →
+        j.failed ≡ None
     by_failed None e g = e
     by_failed (Some fault) e f = let no : Some c ≡ None = f.checker in absurd (cc)
 
-pub checked-below : (j : Judge) (c : Checker) → IsReady (checked_by j c) → j.judged < length j.plan.obligations
+pub checked-below : (j : Judge) (c : Checker) → JudgeIsReady (checked_by j c) → j.judged < length j.plan.obligations
 checked-below j c r =
     let g = judging-now (checked_by j c) r (checked-none j c r) in
-    let k : Checks (checked_by j c) g.plan r.told c = g.at in
+    let k : IsChecking (checked_by j c) g.plan r.told c = g.at in
     let long = long-as (checked_by j c) g.plan r.told (Some c) k in
     let less = slice_get_within g.plan.obligations j.judged k.obligation k.next in omega (arith, long, less)
 
-pub checked-owned : (j : Judge) (c : Checker) (os : List Obligation) → IsReady (checked_by j c) →
+pub checked-owned : (j : Judge) (c : Checker) (os : List Obligation) → JudgeIsReady (checked_by j c) →
     IsOwned (record j.plan { obligations = os }) j.judged
 checked-owned j c os r =
     let o = owned-now (checked_by j c) r (checked-none j c r) (checked-below j c r) in

@@ -14,7 +14,7 @@ use Rattle.proof_plans.specs.Giving.{AreWhole}
 use Rattle.proof_plans.specs.Verdicts.{then_by, failing, failing_node, or_refutation_fault, refutation_fault}
 use Rattle.proof_plans.specs.Verdicts.{most_levels}
 use Rattle.reached_verdicts.specs.ByReach.{refuted_named}
-use Rattle.event_judge.specs.Judges.{IsNamed, names_in, shown_from}
+use Rattle.event_judge.specs.Judges.{IsNamedStep, names_in, shown_from}
 
 -- Lists.
 
@@ -63,7 +63,7 @@ module _ (d : CDocument) (plan : Plan) where
 
   -- the obligation of this number, and those behind it
   pub shown-next : (certs : List Cert) (number : ℕ) (o : Obligation) → slice_get plan.obligations number ≡ Some o →
-      (n : IsNamed (names_in d) plan number) → shown_from d certs number plan
+      (n : IsNamedStep (names_in d) plan number) → shown_from d certs number plan
       ≡ then_by (or_refutation_fault n.made.program n.made.name number
       (failing levels o (slice_get certs number))) (λ done. shown_from d certs (suc number) plan)
   shown-next certs number o e n =
@@ -84,7 +84,7 @@ module _ (d : CDocument) (plan : Plan) where
 
   -- no certificate is left for the obligation
   pub shown-missing : (certs : List Cert) (number : ℕ) (o : Obligation) → slice_get plan.obligations number ≡ Some o →
-      (n : IsNamed (names_in d) plan number) → slice_get certs number ≡ None →
+      (n : IsNamedStep (names_in d) plan number) → slice_get certs number ≡ None →
       shown_from d certs number plan ≡ Err (refutation_fault n.made.program n.made.name number Code.CertMissing)
   shown-missing certs number o e n none = shown-next certs number o e n
       ∙ ap (λ c. then_by (or_refutation_fault n.made.program n.made.name number (failing levels o c))
@@ -92,7 +92,7 @@ module _ (d : CDocument) (plan : Plan) where
 
   -- its certificate fails
   pub shown-failing : (certs : List Cert) (number : ℕ) (o : Obligation) (c : Cert) (code : Code) (node : ℕ) →
-      slice_get plan.obligations number ≡ Some o → (n : IsNamed (names_in d) plan number) →
+      slice_get plan.obligations number ≡ Some o → (n : IsNamedStep (names_in d) plan number) →
       slice_get certs number ≡ Some c → walk_from_root levels o c.nodes ≡ Err (code, node) →
       shown_from d certs number plan ≡ Err (refutation_fault n.made.program n.made.name number code)
   shown-failing certs number o c code node e n there walked = shown-next certs number o e n
@@ -103,7 +103,7 @@ module _ (d : CDocument) (plan : Plan) where
 
   -- its certificate refutes it
   pub shown-passing : (certs : List Cert) (number : ℕ) (o : Obligation) (c : Cert) →
-      slice_get plan.obligations number ≡ Some o → IsNamed (names_in d) plan number →
+      slice_get plan.obligations number ≡ Some o → IsNamedStep (names_in d) plan number →
       slice_get certs number ≡ Some c → walk_from_root levels o c.nodes ≡ Ok [] →
       shown_from d certs number plan ≡ shown_from d certs (suc number) plan
   shown-passing certs number o c e n there walked = shown-next certs number o e n

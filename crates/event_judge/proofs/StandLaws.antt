@@ -14,8 +14,9 @@ use Rattle.proof_plans.specs.declared.plans.StepFault.{StepFault}
 use Rattle.proof_plans.specs.Reaching.{reach_of, reached}
 use Rattle.event_judge.specs.declared.judge.Judge.{Judge}
 use Rattle.event_judge.specs.Told.{Told, told_at, told_by, told_more, begun, is_inner, part_count}
-use Rattle.event_judge.specs.Judges.{shown_by, shown_from, IsShownBefore, FailsWith, Checks, Waits, IsAt, Judging}
-use Rattle.event_judge.specs.Judges.{Failed, StandsAt, Stands, StandsFor, IsReady}
+use Rattle.event_judge.specs.Judges.{shown_by, shown_from, IsShownBefore, FailsWith, IsChecking, IsWaiting}
+use Rattle.event_judge.specs.Judges.{IsAtObligation, Judging}
+use Rattle.event_judge.specs.Judges.{Failed, JudgeStandsAt, JudgeStands, JudgeStandsFor, JudgeIsReady}
 use Rattle.event_judge.proofs.ShownLaws.{whole-front}
 use Rattle.event_judge.proofs.ToldLaws.{told-last}
 
@@ -116,11 +117,11 @@ module _ (d : CDocument) (j : Judge) where
     checker = f.checker;
   }
 
-  waits : (t : Told) (plan : Plan) → j.checker ≡ None → IsAt j.checker j plan t → Waits j plan t
-  waits t plan e at = subst (λ x. IsAt x j plan t) e at
+  waits : (t : Told) (plan : Plan) → j.checker ≡ None → IsAtObligation j.checker j plan t → IsWaiting j plan t
+  waits t plan e at = subst (λ x. IsAtObligation x j plan t) e at
 
-  is-at : (t : Told) (plan : Plan) → j.checker ≡ None → Waits j plan t → IsAt j.checker j plan t
-  is-at t plan e w = subst (λ x. IsAt x j plan t) (sym e) w
+  is-at : (t : Told) (plan : Plan) → j.checker ≡ None → IsWaiting j plan t → IsAtObligation j.checker j plan t
+  is-at t plan e w = subst (λ x. IsAtObligation x j plan t) (sym e) w
 
   -- where a certificate is open that no checker has, no obligation is left
   none-left : (t : Told) (es : List CertEvent) → j.checker ≡ None → t.part ≡ Some es → (g : Judging d j t) →
@@ -149,13 +150,14 @@ module _ (d : CDocument) (j : Judge) where
   }
 
   -- a certificate begins while one is open
-  pub begin-open : (t : Told) → is_some j.checker ≡ true → Stands d j t → Stands d j (told_more t CertEvent.Begin)
+  pub begin-open : (t : Told) → is_some j.checker ≡ true → JudgeStands d j t →
+      JudgeStands d j (told_more t CertEvent.Begin)
   begin-open t e s = by_failed j.failed s
     where
-      by_failed : (f : Option StepFault) → StandsAt f d j t → StandsAt f d j (told_more t CertEvent.Begin)
+      by_failed : (f : Option StepFault) → JudgeStandsAt f d j t → JudgeStandsAt f d j (told_more t CertEvent.Begin)
       by_failed None g =
           let c = some-is j.checker e in
-          let k : Checks j g.plan t c.0 = subst (λ x. IsAt x j g.plan t) c.1 g.at in
+          let k : IsChecking j g.plan t c.0 = subst (λ x. IsAtObligation x j g.plan t) c.1 g.at in
           subst (Judging d j) (sym (begin-some t k.events k.told)) g
       by_failed (Some fault) f =
           let c = some-is j.checker e in
@@ -167,17 +169,18 @@ module _ (d : CDocument) (j : Judge) where
   begin-certs certs (Some es) = refl
 
   -- a certificate begins after a failure
-  pub begin-failed : (t : Told) → is_some j.failed ≡ true → Stands d j t → Stands d j (told_more t CertEvent.Begin)
+  pub begin-failed : (t : Told) → is_some j.failed ≡ true → JudgeStands d j t →
+      JudgeStands d j (told_more t CertEvent.Begin)
   begin-failed t e s = by_failed j.failed e s
     where
-      by_failed : (f : Option StepFault) → is_some f ≡ true → StandsAt f d j t →
-          StandsAt f d j (told_more t CertEvent.Begin)
+      by_failed : (f : Option StepFault) → is_some f ≡ true → JudgeStandsAt f d j t →
+          JudgeStandsAt f d j (told_more t CertEvent.Begin)
       by_failed None h g = absurd (cc)
       by_failed (Some fault) h f = failed-same t (told_more t CertEvent.Begin) fault (begin-certs t.certs t.part) f
 
   -- a certificate's inner event where no checker is
-  pub inner-idle : (t : Told) (e : CertEvent) → is_inner e ≡ true → j.checker ≡ None → Stands d j t →
-      Stands d j (told_more t e)
+  pub inner-idle : (t : Told) (e : CertEvent) → is_inner e ≡ true → j.checker ≡ None → JudgeStands d j t →
+      JudgeStands d j (told_more t e)
   inner-idle t e inner none s = by_failed j.failed s
     where
       certs-same : (p : Option (List CertEvent)) → t.part ≡ p → (told_more t e).certs ≡ t.certs
@@ -190,19 +193,20 @@ module _ (d : CDocument) (j : Judge) where
           (judging-over t (record { certs = t.certs; part = Some (es ++ e ∷ []) }) none g (none-left t es none is g)
           g.judged (ap (λ p. length t.certs + part_count p) (sym is)) g.shown)
 
-      by_failed : (f : Option StepFault) → StandsAt f d j t → StandsAt f d j (told_more t e)
+      by_failed : (f : Option StepFault) → JudgeStandsAt f d j t → JudgeStandsAt f d j (told_more t e)
       by_failed None g = by_part t.part refl g
       by_failed (Some fault) f = failed-same t (told_more t e) fault (certs-same t.part refl) f
 
   -- a certificate ends where no checker is
-  pub end-idle : (t : Told) → j.checker ≡ None → Stands d j t → Stands d j (told_more t CertEvent.End)
+  pub end-idle : (t : Told) → j.checker ≡ None → JudgeStands d j t → JudgeStands d j (told_more t CertEvent.End)
   end-idle t none s = by_part t.part refl
     where
-      by_none : (f : Option StepFault) → t.part ≡ None → StandsAt f d j t → StandsAt f d j (told_more t CertEvent.End)
-      by_none f is s = subst (StandsAt f d j) (sym (end-none t is)) s
+      by_none : (f : Option StepFault) → t.part ≡ None → JudgeStandsAt f d j t →
+          JudgeStandsAt f d j (told_more t CertEvent.End)
+      by_none f is s = subst (JudgeStandsAt f d j) (sym (end-none t is)) s
 
-      by_some : (f : Option StepFault) (es : List CertEvent) → t.part ≡ Some es → StandsAt f d j t →
-          StandsAt f d j (record { certs = t.certs ++ cert_of es ∷ []; part = None })
+      by_some : (f : Option StepFault) (es : List CertEvent) → t.part ≡ Some es → JudgeStandsAt f d j t →
+          JudgeStandsAt f d j (record { certs = t.certs ++ cert_of es ∷ []; part = None })
       by_some None es is g =
           let over = none-left t es none is g in
           let count = length-append t.certs (cert_of es ∷ []) in
@@ -217,19 +221,19 @@ module _ (d : CDocument) (j : Judge) where
           (sym (append_assoc t.certs (cert_of es ∷ []) more)))
       by_some (Some fault) es is f = failed-more t.certs (cert_of es) t.part fault f
 
-      by_part : (p : Option (List CertEvent)) → t.part ≡ p → Stands d j (told_more t CertEvent.End)
+      by_part : (p : Option (List CertEvent)) → t.part ≡ p → JudgeStands d j (told_more t CertEvent.End)
       by_part None is = by_none j.failed is s
-      by_part (Some es) is = subst (Stands d j) (sym (end-some t es is)) (by_some j.failed es is s)
+      by_part (Some es) is = subst (JudgeStands d j) (sym (end-some t es is)) (by_some j.failed es is s)
 
 -- what one more event tells, behind others
-pub told-on : (old new : Judge) (e : CertEvent) → ((d : CDocument) (t : Told) → Stands d old t →
-    Stands d new (told_more t e)) → (d : CDocument) (es : List CertEvent) → StandsFor d old es →
-    StandsFor d new (es ++ e ∷ [])
-told-on old new e f d es s = subst (Stands d new) (sym (told-last es e)) (f d (told_by es) s)
+pub told-on : (old new : Judge) (e : CertEvent) → ((d : CDocument) (t : Told) → JudgeStands d old t →
+    JudgeStands d new (told_more t e)) → (d : CDocument) (es : List CertEvent) → JudgeStandsFor d old es →
+    JudgeStandsFor d new (es ++ e ∷ [])
+told-on old new e f d es s = subst (JudgeStands d new) (sym (told-last es e)) (f d (told_by es) s)
 
 -- a judge that is ready stays ready
-pub ready-on : (old new : Judge) (e : CertEvent) → ((d : CDocument) (t : Told) → Stands d old t →
-    Stands d new (told_more t e)) → IsReady old → IsReady new
+pub ready-on : (old new : Judge) (e : CertEvent) → ((d : CDocument) (t : Told) → JudgeStands d old t →
+    JudgeStands d new (told_more t e)) → JudgeIsReady old → JudgeIsReady new
 ready-on old new e f r = record {
   document = r.document;
   told = told_more r.told e;
@@ -246,14 +250,15 @@ on-both (Err e) f h k = tt
 
 -- no checker was there to be taken
 pub idle-taken : (d : CDocument) (j : Judge) (t : Told) (x : Option Checker) → x ≡ None → j.checker ≡ None →
-    Stands d j t → Stands d (record j { checker = x }) (told_more t CertEvent.End)
+    JudgeStands d j t → JudgeStands d (record j { checker = x }) (told_more t CertEvent.End)
 idle-taken d j t x e none s =
-    subst (λ y. Stands d (record j { checker = y }) (told_more t CertEvent.End)) (none ∙ sym e) (end-idle d j t none s)
+    subst (λ y. JudgeStands d (record j { checker = y }) (told_more t CertEvent.End)) (none ∙ sym e)
+    (end-idle d j t none s)
 
 -- the checker that was taken
-pub taken : (d : CDocument) (j : Judge) (t : Told) (c : Checker) → j.checker ≡ Some c → Stands d j t →
-    Stands d (record j { checker = Some c }) t
-taken d j t c e s = subst (λ y. Stands d (record j { checker = y }) t) e s
+pub taken : (d : CDocument) (j : Judge) (t : Told) (c : Checker) → j.checker ≡ Some c → JudgeStands d j t →
+    JudgeStands d (record j { checker = Some c }) t
+taken d j t c e s = subst (λ y. JudgeStands d (record j { checker = y }) t) e s
 
 pub is-none : {X : Type 0} (o : Option X) → ((x : X) → o ≡ Some x → ⊥) → o ≡ None
 is-none None h = refl

@@ -5,9 +5,9 @@ use Rattle.obligations.specs.declared.certificates.Cert.{Cert}
 use Rattle.event_checker.proofs.NodeLaws.{events-tell-nodes}
 use Rattle.event_judge.specs.declared.judge.Judge.{Judge}
 use Rattle.event_judge.specs.Told.{certs_events}
-use Rattle.event_judge.specs.Judges.{Stands, StandsFor}
+use Rattle.event_judge.specs.Judges.{JudgeStands, JudgeStandsFor}
 use Rattle.event_judge.proofs.ToldLaws.{events-tell-certificates}
 
-pub told-whole : (d : CDocument) (j : Judge) (certs : List Cert) → StandsFor d j (certs_events certs) →
-    Stands d j (record { certs = certs; part = None })
-told-whole d j certs s = subst (Stands d j) (events-tell-certificates events-tell-nodes certs) s
+pub told-whole : (d : CDocument) (j : Judge) (certs : List Cert) → JudgeStandsFor d j (certs_events certs) →
+    JudgeStands d j (record { certs = certs; part = None })
+told-whole d j certs s = subst (JudgeStands d j) (events-tell-certificates events-tell-nodes certs) s

@@ -7,7 +7,7 @@ use Rattle.obligations.specs.declared.branches.Obligation.{Obligation}
 use Rattle.obligations.specs.declared.certificates.Cert.{Cert}
 use Rattle.obligations.specs.Obligations.{IsObligation}
 use Rattle.event_checker.specs.declared.checker.Checker.{Checker}
-use Rattle.event_checker.specs.Checkers as checkers
+use Rattle.event_checker.specs.Checkers.{CheckerIsReady, CheckerStandsFor}
 use Rattle.fair_rounds.specs.declared.records.Record.{Record}
 use Rattle.proof_plans.specs.declared.plans.Plan.{Plan}
 use Rattle.proof_plans.specs.declared.plans.StepFault.{StepFault}
@@ -30,16 +30,16 @@ abbrev pub IsOwned : Plan → ℕ → Type 0
 IsOwned plan number = (made : Record) × IsLeftBy plan number made
 
 -- and the names of the steps, in order, name it
-pub record IsNamed (names : List Name) (plan : Plan) (number : ℕ) : Type 0 where
+pub record IsNamedStep (names : List Name) (plan : Plan) (number : ℕ) : Type 0 where
   pub made : Record
   pub left : IsLeftBy plan number made
   pub name : name_at names left.place ≡ (made.program, made.name)
 
 -- a plan of the steps with these names
-pub record IsPlanned (names : List Name) (plan : Plan) : Type 0 where
+pub record IsPlanWithNames (names : List Name) (plan : Plan) : Type 0 where
   pub makeable : All IsObligation plan.obligations
   pub owned : length plan.owner ≡ length plan.obligations
-  pub named : (number : ℕ) → number < length plan.obligations → IsNamed names plan number
+  pub named : (number : ℕ) → number < length plan.obligations → IsNamedStep names plan number
 
 -- the names of a document's steps
 abbrev pub names_in : CDocument → List Name
@@ -64,59 +64,59 @@ abbrev pub FailsWith : CDocument → List Cert → Plan → StepFault → Type 0
 FailsWith d certs plan fault = AreWhole certs → (more : List Cert) → shown_by d (certs ++ more) plan ≡ Err fault
 
 -- a checker has the obligation that comes next, and was told what the open certificate told so far
-pub record Checks (j : Judge) (plan : Plan) (t : Told) (c : Checker) : Type 0 where
+pub record IsChecking (j : Judge) (plan : Plan) (t : Told) (c : Checker) : Type 0 where
   pub events : List CertEvent
   pub told : t.part ≡ Some events
   pub obligation : Obligation
   pub next : slice_get plan.obligations j.judged ≡ Some obligation
   pub others : slice_set j.plan.obligations j.judged obligation ≡ plan.obligations
-  pub stands : checkers.StandsFor j.levels c obligation events
-  pub ready : checkers.IsReady c
+  pub stands : CheckerStandsFor j.levels c obligation events
+  pub ready : CheckerIsReady c
 
 -- or no obligation is being checked: no certificate is open, or no obligation is left
-pub record Waits (j : Judge) (plan : Plan) (t : Told) : Type 0 where
+pub record IsWaiting (j : Judge) (plan : Plan) (t : Told) : Type 0 where
   pub obligations : j.plan.obligations ≡ plan.obligations
   pub told : j.judged < length plan.obligations → t.part ≡ None
 
-abbrev pub IsAt : Option Checker → Judge → Plan → Told → Type 0
-IsAt None j plan t = Waits j plan t
-IsAt (Some c) j plan t = Checks j plan t c
+abbrev pub IsAtObligation : Option Checker → Judge → Plan → Told → Type 0
+IsAtObligation None j plan t = IsWaiting j plan t
+IsAtObligation (Some c) j plan t = IsChecking j plan t c
 
 -- each obligation so far was refuted by its certificate
 pub record Judging (d : CDocument) (j : Judge) (t : Told) : Type 0 where
   pub plan : Plan
   pub reach : reach_of d ≡ reach_from plan j.stopped
-  pub planned : IsPlanned (names_in d) plan
+  pub planned : IsPlanWithNames (names_in d) plan
   pub levels : j.levels ≡ most_levels d.version
   pub records : j.plan.records ≡ plan.records
   pub owner : j.plan.owner ≡ plan.owner
   pub judged : j.judged ≡ min (length plan.obligations) (length t.certs)
   pub surplus : j.surplus ≡ nat_lt (length plan.obligations) (begun t)
   pub shown : IsShownBefore d t.certs j.judged plan
-  pub at : IsAt j.checker j plan t
+  pub at : IsAtObligation j.checker j plan t
 
 -- one was not
 pub record Failed (d : CDocument) (j : Judge) (t : Told) (fault : StepFault) : Type 0 where
   pub fails : FailsWith d t.certs (reached (reach_of d)) fault
   pub checker : j.checker ≡ None
 
-abbrev pub StandsAt : Option StepFault → CDocument → Judge → Told → Type 0
-StandsAt None d j t = Judging d j t
-StandsAt (Some fault) d j t = Failed d j t fault
+abbrev pub JudgeStandsAt : Option StepFault → CDocument → Judge → Told → Type 0
+JudgeStandsAt None d j t = Judging d j t
+JudgeStandsAt (Some fault) d j t = Failed d j t fault
 
-abbrev pub Stands : CDocument → Judge → Told → Type 0
-Stands d j t = StandsAt j.failed d j t
+abbrev pub JudgeStands : CDocument → Judge → Told → Type 0
+JudgeStands d j t = JudgeStandsAt j.failed d j t
 
 -- a judge with its checker
 abbrev pub checked_by : Judge → Checker → Judge
 checked_by j c = record j { checker = Some c }
 
 -- a judge of this document was told these events
-abbrev pub StandsFor : CDocument → Judge → List CertEvent → Type 0
-StandsFor d j es = Stands d j (told_by es)
+abbrev pub JudgeStandsFor : CDocument → Judge → List CertEvent → Type 0
+JudgeStandsFor d j es = JudgeStands d j (told_by es)
 
 -- it was told some events, and memory was not refused
-pub record IsReady (j : Judge) : Type 0 where
+pub record JudgeIsReady (j : Judge) : Type 0 where
   pub document : CDocument
   pub told : Told
-  pub stands : Stands document j told
+  pub stands : JudgeStands document j told

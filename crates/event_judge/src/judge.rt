@@ -6,7 +6,7 @@ ghost use Rattle.core_terms.specs.declared.documents.CDocument.{CDocument};
 ghost use Rattle.obligations.specs.declared.branches.Obligation.{Obligation};
 ghost use Rattle.obligations.specs.declared.certificates.Cert.{Cert};
 ghost use Rattle.obligations.specs.Obligations.{IsObligation};
-ghost use Rattle.event_checker.specs.Checkers as checkers;
+ghost use Rattle.event_checker.specs.Checkers.{CheckerIsReady, CheckerStandsFor};
 
 use crate::faults::{refutation_fault, surplus_fault};
 use case_tables::Code;
@@ -49,8 +49,8 @@ fn next_checker(
     requires obligations { All IsObligation obligations.old }
     requires levels { levels ≤ 4096 }
     ensures stands { IfOk result (λ c. (o : Obligation) → slice_get obligations.old number ≡ Some o →
-        checkers.StandsFor levels c o []) }
-    ensures ready { IfOk result checkers.IsReady }
+        CheckerStandsFor levels c o []) }
+    ensures ready { IfOk result CheckerIsReady }
     ensures others { (o : Obligation) → slice_get obligations.old number ≡ Some o →
         slice_set obligations.new number o ≡ obligations.old }
 {
@@ -76,15 +76,15 @@ impl Judge {
     ghost use Rattle.event_checker.specs.Events.{is_pair};
     ghost use Rattle.proof_plans.specs.Giving.{AreWhole, PlanHolds, VerdictAnswers};
     ghost use Rattle.proof_plans.specs.Verdicts.{verdict_of};
-    ghost use Rattle.event_judge.specs.Judges.{IsReady, Stands, StandsFor, checked_by};
+    ghost use Rattle.event_judge.specs.Judges.{JudgeIsReady, JudgeStands, JudgeStandsFor, checked_by};
     ghost use Rattle.event_judge.specs.Told.{Told, certs_events, is_inner, told_more};
     ghost use Rattle.unity_base.specs.declared.events.CertEvent.{CertEvent};
 
     /// A judge of the certificates of a document, which was told nothing. The error is that memory was refused.
     pub fn new(alloc: Global, doc: &CDocument) -> Result<Judge, AllocError>
         requires document { IsCoreDocument doc.now }
-        ensures stands { IfOk result (λ j. StandsFor doc.now j []) }
-        ensures ready { IfOk result IsReady }
+        ensures stands { IfOk result (λ j. JudgeStandsFor doc.now j []) }
+        ensures ready { IfOk result JudgeIsReady }
     {
         let Planned { plan, stopped } = plan_by_rules(alloc, doc)?;
         Ok(Judge {
@@ -101,10 +101,10 @@ impl Judge {
 
     /// A certificate begins. Where one is open, this tells nothing.
     fn begin(&mut self) -> Result<(), AllocError>
-        requires { IsReady self.old }
-        ensures stands { OnOk result ((d : CDocument) (t : Told) → Stands d self.old t →
-            Stands d self.new (told_more t CertEvent.Begin)) }
-        ensures ready { OnOk result (IsReady self.new) }
+        requires { JudgeIsReady self.old }
+        ensures stands { OnOk result ((d : CDocument) (t : Told) → JudgeStands d self.old t →
+            JudgeStands d self.new (told_more t CertEvent.Begin)) }
+        ensures ready { OnOk result (JudgeIsReady self.new) }
     {
         if self.checker.is_some() {
             return Ok(());
@@ -128,11 +128,11 @@ impl Judge {
 
     /// The certificate that is being checked ends: its obligation comes back to its place.
     fn close(&mut self, checker: Checker) -> Result<(), AllocError>
-        requires ready { IsReady (checked_by self.old checker) }
+        requires ready { JudgeIsReady (checked_by self.old checker) }
         requires none { self.old.checker ≡ None }
-        ensures stands { OnOk result ((d : CDocument) (t : Told) → Stands d (checked_by self.old checker) t →
-            Stands d self.new (told_more t CertEvent.End)) }
-        ensures ready { OnOk result (IsReady self.new) }
+        ensures stands { OnOk result ((d : CDocument) (t : Told) → JudgeStands d (checked_by self.old checker) t →
+            JudgeStands d self.new (told_more t CertEvent.End)) }
+        ensures ready { OnOk result (JudgeIsReady self.new) }
     {
         let (obligation, verdict) = checker.finish();
         self.plan.obligations.replace(self.judged, obligation);
@@ -148,10 +148,10 @@ impl Judge {
 
     /// A certificate ends. Where none is open, this tells nothing.
     fn end(&mut self) -> Result<(), AllocError>
-        requires { IsReady self.old }
-        ensures stands { OnOk result ((d : CDocument) (t : Told) → Stands d self.old t →
-            Stands d self.new (told_more t CertEvent.End)) }
-        ensures ready { OnOk result (IsReady self.new) }
+        requires { JudgeIsReady self.old }
+        ensures stands { OnOk result ((d : CDocument) (t : Told) → JudgeStands d self.old t →
+            JudgeStands d self.new (told_more t CertEvent.End)) }
+        ensures ready { OnOk result (JudgeIsReady self.new) }
     {
         match self.checker.take() {
             None => Ok(()),
@@ -162,11 +162,11 @@ impl Judge {
     /// Hands on what a certificate tells. Where none is open, this tells nothing.
     #[inline(always)]
     fn hand_on(&mut self, e: CertEvent) -> Result<(), AllocError>
-        requires ready { IsReady self.old }
+        requires ready { JudgeIsReady self.old }
         requires inner { is_inner e ≡ true }
-        ensures stands { OnOk result ((d : CDocument) (t : Told) → Stands d self.old t →
-            Stands d self.new (told_more t e)) }
-        ensures ready { OnOk result (IsReady self.new) }
+        ensures stands { OnOk result ((d : CDocument) (t : Told) → JudgeStands d self.old t →
+            JudgeStands d self.new (told_more t e)) }
+        ensures ready { OnOk result (JudgeIsReady self.new) }
         ensures room { is_pair e ≡ true → IsOk result }
     {
         match &mut self.checker {
@@ -178,10 +178,10 @@ impl Judge {
     /// Reads what is told next. A pair takes no memory. After want of memory the judge may only be dropped.
     #[inline(always)]
     pub fn take(&mut self, e: CertEvent) -> Result<(), AllocError>
-        requires ready { IsReady self.old }
+        requires ready { JudgeIsReady self.old }
         ensures stands { OnOk result ((d : CDocument) (es : List CertEvent) →
-            StandsFor d self.old es → StandsFor d self.new (es ++ e ∷ [])) }
-        ensures ready { OnOk result (IsReady self.new) }
+            JudgeStandsFor d self.old es → JudgeStandsFor d self.new (es ++ e ∷ [])) }
+        ensures ready { OnOk result (JudgeIsReady self.new) }
         ensures room { is_pair e ≡ true → IsOk result }
     {
         match e {
@@ -194,11 +194,12 @@ impl Judge {
     /// The verdict on the document with the certificates that were told: as `check` answers. It takes no memory. The
     /// error is the first failure, and never that memory was refused.
     pub fn finish(self) -> Result<Plan, ScriptError>
-        requires { IsReady self }
-        ensures verdict { (d : CDocument) (certs : List Cert) → AreWhole certs → StandsFor d self (certs_events certs) →
+        requires { JudgeIsReady self }
+        ensures verdict { (d : CDocument) (certs : List Cert) → AreWhole certs →
+            JudgeStandsFor d self (certs_events certs) →
             VerdictAnswers result (verdict_of d certs) }
         ensures holds { (d : CDocument) (certs : List Cert) → IsCoreDocument d → AreWhole certs →
-            StandsFor d self (certs_events certs) → IfOk result (PlanHolds d) }
+            JudgeStandsFor d self (certs_events certs) → IfOk result (PlanHolds d) }
         ensures never { IfErr result (λ e. e ≢ ScriptError.Memory) }
     {
         if let Some(fault) = self.failed {

@@ -11,7 +11,7 @@ use Rattle.meaning_executions.specs.Properties.{Test}
 use Rattle.meaning_executions.proofs.PropertyTheorems.{get-take, take-get}
 use Rattle.meaning_executions.proofs.RoundTheorems.{shortest_exists}
 use Rattle.examples_bounds.specs.Bounded.{LeadsFrom, LeadsEverywhere}
-use Rattle.examples_bounds.specs.Walking.{Leads, LeadsOn}
+use Rattle.examples_bounds.specs.Walking.{LeadsWithin, LeadsOn}
 
 take_few : (n most : ℕ) (cs : List ℕ) → length cs ≤ most → length (take n cs) ≤ most
 take_few zero most cs h = omega arith
@@ -29,7 +29,7 @@ steps_prefix x s (c ∷ cs) [] f (suc n) = absurd f
 steps_prefix x s (c ∷ cs) (t ∷ ts) f (suc n) = (f.0, steps_prefix x t cs ts f.1 n)
 
 module _ (first : State) (most : ℕ) (x : System) (p q : Test) (bound : ℕ) where
-  soon : Leads x p q bound most first → LeadsFrom first most x p q bound
+  soon : LeadsWithin x p q bound most first → LeadsFrom first most x p q bound
   soon from choices later run few place n state e h short =
       let cut : ℕ = place + n in
       let inside : place < suc cut = omega arith in
@@ -47,7 +47,7 @@ module _ (first : State) (most : ℕ) (x : System) (p q : Test) (bound : ℕ) wh
         holds = found.holds;
       }
 
-  later_on : LeadsFrom first most x p q bound → Leads x p q bound most first
+  later_on : LeadsFrom first most x p q bound → LeadsWithin x p q bound most first
   later_on leads choices later steps few place state e h enough =
       let short = shortest_exists (drop place choices) (length x.steps) bound enough in
       let found = leads choices later steps few place short.0 state e h short.1 in
@@ -59,7 +59,7 @@ module _ (first : State) (most : ℕ) (x : System) (p q : Test) (bound : ℕ) wh
         holds = found.holds;
       }
 
-  pub short_is_walked : Leads x p q bound most first ↔ LeadsFrom first most x p q bound
+  pub short_is_walked : LeadsWithin x p q bound most first ↔ LeadsFrom first most x p q bound
   short_is_walked = (soon, later_on)
 
 -- the same of two programs with the same steps
@@ -72,13 +72,13 @@ steps_move x y e s (c ∷ cs) (t ∷ ts) f =
     (subst (λ acts. act_step s (slice_get acts c) ≡ Some t) e f.0, steps_move x y e t cs ts f.1)
 
 leads_move : (x y : System) → x.steps ≡ y.steps → (first : State) (most : ℕ) (p q : Test) (bound : ℕ) →
-    Leads x p q bound most first → Leads y p q bound most first
+    LeadsWithin x p q bound most first → LeadsWithin y p q bound most first
 leads_move x y e first most p q bound leads choices later steps few place state there h enough =
     leads choices later (steps_move y x (sym e) first choices later steps) few place state there h
     (subst (λ acts. bound ≤ rounds (drop place choices) (length acts)) (sym e) enough)
 
 pub walked_like : (x y : System) → x.steps ≡ y.steps → (first : State) (most : ℕ) (p q : Test) (bound : ℕ) (b : Bool) →
-    (IsTrue b ↔ Leads x p q bound most first) → (IsTrue b ↔ LeadsFrom first most y p q bound)
+    (IsTrue b ↔ LeadsWithin x p q bound most first) → (IsTrue b ↔ LeadsFrom first most y p q bound)
 walked_like x y e first most p q bound b same = (
   λ t. (short_is_walked first most y p q bound).0 (leads_move x y e first most p q bound (same.0 t)),
   λ from. same.1 (leads_move y x (sym e) first most p q bound ((short_is_walked first most y p q bound).1 from)),

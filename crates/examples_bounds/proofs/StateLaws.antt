@@ -12,7 +12,7 @@ use Rattle.core_terms.specs.declared.programs.CSlot.{CSlot}
 use Rattle.core_terms.specs.Steps.{slot_ranges}
 use Rattle.meaning_executions.specs.Execution.{System}
 use Rattle.meaning_executions.specs.Properties.{Test}
-use Rattle.examples_bounds.specs.Walking.{Leads, LeadsOn}
+use Rattle.examples_bounds.specs.Walking.{LeadsWithin, LeadsOn}
 
 and_no : (b c : Bool) → false ≡ c → false ≡ (b && c)
 and_no true c h = h
@@ -87,18 +87,20 @@ module _ (slots : List CSlot) (most : ℕ) (x : System) (p q : Test) (bound : �
 
   -- a whole state begins itself alone
   pub on_whole : (begun : State) (b : Bool) → length slots ≤ length begun →
-      true ≡ is_state (slot_ranges slots) begun → (IsTrue b ↔ Leads x p q bound most begun) → (IsTrue b ↔ On begun)
+      true ≡ is_state (slot_ranges slots) begun → (IsTrue b ↔ LeadsWithin x p q bound most begun) →
+      (IsTrue b ↔ On begun)
   on_whole begun b few is same = (
-    λ t rest h. subst (λ (zs : State). Leads x p q bound most zs) (sym (state_ends slots begun rest few h))
+    λ t rest h. subst (λ (zs : State). LeadsWithin x p q bound most zs) (sym (state_ends slots begun rest few h))
         (same.0 t),
-    λ on. same.1 (subst (λ (zs : State). Leads x p q bound most zs) (append-nil begun) (on [] (subst (λ (zs : State).
+    λ on. same.1 (subst (λ (zs : State). LeadsWithin x p q bound most zs) (append-nil begun)
+        (on [] (subst (λ (zs : State).
         IsTrue (is_state (slot_ranges slots) zs)) (sym (append-nil begun)) (sym is)))),
   )
 
   -- one number more
   pub on_more : (begun : State) (n : ℤ) → On begun → On (begun ++ n ∷ [])
   on_more begun n on rest h =
-      subst (λ (zs : State). Leads x p q bound most zs) (sym (put_last begun rest n))
+      subst (λ (zs : State). LeadsWithin x p q bound most zs) (sym (put_last begun rest n))
       (on (n ∷ rest) (subst (λ (zs : State). IsTrue (is_state (slot_ranges slots) zs)) (put_last begun rest n) h))
 
   -- each number that the next slot can have
@@ -107,7 +109,7 @@ module _ (slots : List CSlot) (most : ℕ) (x : System) (p q : Test) (bound : �
   on_each begun s there each rest h =
       let next = next_number slots begun rest s there h in
       let same = ap (λ (zs : State). begun ++ zs) next.parts ∙ sym (put_last begun next.others next.number) in
-      subst (λ (zs : State). Leads x p q bound most zs) (sym same)
+      subst (λ (zs : State). LeadsWithin x p q bound most zs) (sym same)
       (each next.number next.low next.high next.others
       (subst (λ (zs : State). IsTrue (is_state (slot_ranges slots) zs)) same h))
 

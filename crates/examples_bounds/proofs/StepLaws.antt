@@ -22,7 +22,7 @@ use Rattle.executor.specs.CoreSystem.{core_system}
 use Rattle.executor.specs.Running as runner
 use Rattle.executor.proofs.StateLaws.{state_length}
 use Rattle.executor.proofs.WeightLaws.{form_less}
-use Rattle.examples_bounds.specs.Readable.{IsReadable}
+use Rattle.examples_bounds.specs.Readable.{FormIsReadable}
 
 within : (lo hi z : ℤ) → IsTrue (in_range (Some (lo, hi)) z) → unsigned_abs z ≤ max (unsigned_abs lo)
     (unsigned_abs hi)
@@ -45,11 +45,11 @@ number_light (s ∷ slots) (z ∷ zs) h (suc n) =
 
 -- a formula that is readable can be evaluated at a state
 pub readable_slots : (slots : List CSlot) (state : State) (params : List ℤ) (f : CForm) →
-    IsTrue (is_state (slot_ranges slots) state) → IsReadable slots params f → form_slots f ≤ length state
+    IsTrue (is_state (slot_ranges slots) state) → FormIsReadable slots params f → form_slots f ≤ length state
 readable_slots slots state params f h r = let same = state_length slots state h in omega (arith, same, r.slots_exist)
 
 pub readable_weight : (slots : List CSlot) (state : State) (params : List ℤ) (f : CForm) →
-    IsTrue (is_state (slot_ranges slots) state) → IsReadable slots params f →
+    IsTrue (is_state (slot_ranges slots) state) → FormIsReadable slots params f →
     form_weight (number_weight state) (number_weight params) f ≤ 2 ^ 62
 readable_weight slots state params f h r =
     let less = form_less (number_weight state) (number_weight params) (slot_weight slots) (number_weight params)

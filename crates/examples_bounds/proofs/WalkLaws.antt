@@ -8,7 +8,7 @@ use Rattle.meaning_executions.specs.Execution.{System, chosen_step}
 use Rattle.meaning_executions.specs.Rounds.{rounds}
 use Rattle.meaning_executions.specs.RoundLaws.{HoldsLater}
 use Rattle.meaning_executions.specs.Properties.{Test}
-use Rattle.examples_bounds.specs.Walking.{Comes, ComesAt, ComesAfter, Leads, LeadsAt, LeadsAfter}
+use Rattle.examples_bounds.specs.Walking.{LeadsBehind, ComesAt, ComesAfter, LeadsWithin, LeadsAt, LeadsAfter}
 
 -- q holds later where it holds after one state more
 further : (q : Test) (s : State) (ts : List State) (first : ℕ) → HoldsLater q ts first →
@@ -46,19 +46,19 @@ past_first q s ts first (suc place) state h stands holds =
     record { place = place; state = state; after = omega arith; stands = stands; holds = holds }
 
 module _ (x : System) (q : Test) (bound : ℕ) where
-  pub comes_now : (most : ℕ) (made : List ℕ) (s : State) → IsTrue (q s) → Comes x q bound most made s
+  pub comes_now : (most : ℕ) (made : List ℕ) (s : State) → IsTrue (q s) → LeadsBehind x q bound most made s
   comes_now most made s h choices later steps few enough =
       record { place = 0; state = s; after = omega arith; stands = refl; holds = h }
 
   pub comes_late : (most : ℕ) (made : List ℕ) (s : State) → q s ≡ false → bound ≤ rounds made (length x.steps) →
-      Comes x q bound most made s → ⊥
+      LeadsBehind x q bound most made s → ⊥
   comes_late most made s e h comes =
       let enough : bound ≤ rounds (made ++ []) (length x.steps) = rw append-nil h in
       let found = comes [] [] tt (omega arith) enough in
       let there = not_here q s [] e found.place found.state found.stands found.holds in
       cc there.stands
 
-  pub comes_last : (made : List ℕ) (s : State) → rounds made (length x.steps) < bound → Comes x q bound 0 made s
+  pub comes_last : (made : List ℕ) (s : State) → rounds made (length x.steps) < bound → LeadsBehind x q bound 0 made s
   comes_last made s h [] later steps few enough =
       let less : bound ≤ rounds made (length x.steps) =
       subst (λ cs. bound ≤ rounds cs (length x.steps)) (append-nil made) enough in
@@ -66,7 +66,7 @@ module _ (x : System) (q : Test) (bound : ℕ) where
   comes_last made s h (c ∷ choices) later steps few enough = absurd (omega arith)
 
   pub comes_from : (most : ℕ) (made : List ℕ) (s : State) → rounds made (length x.steps) < bound →
-      ComesAfter x q bound most made s → Comes x q bound (suc most) made s
+      ComesAfter x q bound most made s → LeadsBehind x q bound (suc most) made s
   comes_from most made s h after [] later steps few enough =
       let less : bound ≤ rounds made (length x.steps) =
       subst (λ cs. bound ≤ rounds cs (length x.steps)) (append-nil made) enough in
@@ -77,7 +77,7 @@ module _ (x : System) (q : Test) (bound : ℕ) where
       subst (λ cs. bound ≤ rounds cs (length x.steps)) (sym (append_assoc made (c ∷ []) choices)) enough in
       from_here q s (t ∷ later) (after c t steps.0 choices later steps.1 (omega arith) longer)
 
-  pub comes_after : (most : ℕ) (made : List ℕ) (s : State) → q s ≡ false → Comes x q bound (suc most) made s →
+  pub comes_after : (most : ℕ) (made : List ℕ) (s : State) → q s ≡ false → LeadsBehind x q bound (suc most) made s →
       ComesAfter x q bound most made s
   comes_after most made s e comes c t step choices later steps few enough =
       let longer : bound ≤ rounds (made ++ c ∷ choices) (length x.steps) =
@@ -86,17 +86,18 @@ module _ (x : System) (q : Test) (bound : ℕ) where
       not_here q s (t ∷ later) e found.place found.state found.stands found.holds
 
   module _ (p : Test) where
-    pub leads_here : (most : ℕ) (s : State) → Leads x p q bound most s → IsTrue (p s) → Comes x q bound most [] s
+    pub leads_here : (most : ℕ) (s : State) → LeadsWithin x p q bound most s → IsTrue (p s) →
+        LeadsBehind x q bound most [] s
     leads_here most s leads h choices later steps few enough =
         leads choices later steps few 0 s refl h enough
 
-    pub leads_after : (most : ℕ) (s : State) → Leads x p q bound (suc most) s → LeadsAfter x p q bound most s
+    pub leads_after : (most : ℕ) (s : State) → LeadsWithin x p q bound (suc most) s → LeadsAfter x p q bound most s
     leads_after most s leads c t step choices later steps few place state stands h enough =
         let found = leads (c ∷ choices) (t ∷ later) (step, steps) (omega (arith, few)) (suc place) state stands h
         enough in
         past_first q s (t ∷ later) place found.place found.state found.after found.stands found.holds
 
-    pub leads_last : (s : State) → (IsTrue (p s) → Comes x q bound 0 [] s) → Leads x p q bound 0 s
+    pub leads_last : (s : State) → (IsTrue (p s) → LeadsBehind x q bound 0 [] s) → LeadsWithin x p q bound 0 s
     leads_last s here choices later steps few zero state stands h enough =
         let same : s ≡ state = cc in
         here (subst (λ u. IsTrue (p u)) (sym same) h) choices later steps few enough
@@ -104,8 +105,8 @@ module _ (x : System) (q : Test) (bound : ℕ) where
     leads_last s here [] (t ∷ later) steps few (suc place) state stands h enough = absurd steps
     leads_last s here (c ∷ choices) later steps few (suc place) state stands h enough = absurd (omega arith)
 
-    pub leads_from : (most : ℕ) (s : State) → (IsTrue (p s) → Comes x q bound (suc most) [] s) →
-        LeadsAfter x p q bound most s → Leads x p q bound (suc most) s
+    pub leads_from : (most : ℕ) (s : State) → (IsTrue (p s) → LeadsBehind x q bound (suc most) [] s) →
+        LeadsAfter x p q bound most s → LeadsWithin x p q bound (suc most) s
     leads_from most s here after choices later steps few zero state stands h enough =
         let same : s ≡ state = cc in
         here (subst (λ u. IsTrue (p u)) (sym same) h) choices later steps few enough
@@ -120,20 +121,20 @@ module _ (x : System) (q : Test) (bound : ℕ) where
 module _ (x : System) (q : Test) (bound : ℕ) where
   pub comes_step : (most less : ℕ) (made : List ℕ) (s : State) (b : Bool) → most ≡ suc less → q s ≡ false →
       rounds made (length x.steps) < bound → (IsTrue b ↔ ComesAfter x q bound less made s) →
-      (IsTrue b ↔ Comes x q bound most made s)
+      (IsTrue b ↔ LeadsBehind x q bound most made s)
   comes_step most less made s b e f h same = (
-    λ t. subst (λ m. Comes x q bound m made s) (sym e) (comes_from x q bound less made s h (same.0 t)),
-    λ comes. same.1 (comes_after x q bound less made s f (subst (λ m. Comes x q bound m made s) e comes)),
+    λ t. subst (λ m. LeadsBehind x q bound m made s) (sym e) (comes_from x q bound less made s h (same.0 t)),
+    λ comes. same.1 (comes_after x q bound less made s f (subst (λ m. LeadsBehind x q bound m made s) e comes)),
   )
 
   module _ (p : Test) where
     pub leads_step : (most less : ℕ) (s : State) (b : Bool) → most ≡ suc less →
-        (IsTrue (p s) → Comes x q bound most [] s) → (IsTrue b ↔ LeadsAfter x p q bound less s) →
-        (IsTrue b ↔ Leads x p q bound most s)
+        (IsTrue (p s) → LeadsBehind x q bound most [] s) → (IsTrue b ↔ LeadsAfter x p q bound less s) →
+        (IsTrue b ↔ LeadsWithin x p q bound most s)
     leads_step most less s b e here same = (
-      λ t. subst (λ m. Leads x p q bound m s) (sym e)
-          (leads_from x q bound p less s (λ h. subst (λ m. Comes x q bound m [] s) e (here h)) (same.0 t)),
-      λ leads. same.1 (leads_after x q bound p less s (subst (λ m. Leads x p q bound m s) e leads)),
+      λ t. subst (λ m. LeadsWithin x p q bound m s) (sym e)
+          (leads_from x q bound p less s (λ h. subst (λ m. LeadsBehind x q bound m [] s) e (here h)) (same.0 t)),
+      λ leads. same.1 (leads_after x q bound p less s (subst (λ m. LeadsWithin x p q bound m s) e leads)),
     )
 
 -- the count of rounds, which stops at the greatest number, and a bound below it
@@ -149,18 +150,18 @@ few_rounds made k instances told bound e f small h =
 
 -- after one choice, from what holds of the state to which its step leads
 pub comes_next : (x : System) (q : Test) (bound most : ℕ) (made : List ℕ) (s next : State) (choice : ℕ) (b : Bool) →
-    chosen_step x choice s ≡ Some next → (IsTrue b ↔ Comes x q bound most (made ++ choice ∷ []) next) →
+    chosen_step x choice s ≡ Some next → (IsTrue b ↔ LeadsBehind x q bound most (made ++ choice ∷ []) next) →
     (IsTrue b ↔ ComesAt x q bound most made s choice)
 comes_next x q bound most made s next choice b step same = (
   λ t u e. let one : next ≡ u = cc (step, e) in
-      subst (λ v. Comes x q bound most (made ++ choice ∷ []) v) one (same.0 t),
+      subst (λ v. LeadsBehind x q bound most (made ++ choice ∷ []) v) one (same.0 t),
   λ at. same.1 (at next step),
 )
 
 pub leads_next : (x : System) (p q : Test) (bound most : ℕ) (s next : State) (choice : ℕ) (b : Bool) →
-    chosen_step x choice s ≡ Some next → (IsTrue b ↔ Leads x p q bound most next) →
+    chosen_step x choice s ≡ Some next → (IsTrue b ↔ LeadsWithin x p q bound most next) →
     (IsTrue b ↔ LeadsAt x p q bound most s choice)
 leads_next x p q bound most s next choice b step same = (
-  λ t u e. let one : next ≡ u = cc (step, e) in subst (λ v. Leads x p q bound most v) one (same.0 t),
+  λ t u e. let one : next ≡ u = cc (step, e) in subst (λ v. LeadsWithin x p q bound most v) one (same.0 t),
   λ at. same.1 (at next step),
 )

@@ -6,7 +6,7 @@ ghost use Rattle.core_terms.specs.Steps.{slot_ranges};
 ghost use Rattle.executor.specs.CoreSystem.{core_system};
 ghost use Rattle.fair_rounds.specs.Records.{holding};
 ghost use Rattle.examples_bounds.specs.Bounded.{LeadsFrom};
-ghost use Rattle.examples_bounds.specs.Readable.{IsReadable};
+ghost use Rattle.examples_bounds.specs.Readable.{FormIsReadable};
 
 use crate::opening::open_program;
 use crate::walking::{Claim, leads};
@@ -30,8 +30,8 @@ pub fn leads_from(
 ) -> Result<bool, AllocError>
     requires program { IsProgram slots.now program.now }
     requires first { IsTrue (is_state (slot_ranges slots.now) first.now) }
-    requires p { IsReadable slots.now params.now p.now }
-    requires q { IsReadable slots.now params.now q.now }
+    requires p { FormIsReadable slots.now params.now p.now }
+    requires q { FormIsReadable slots.now params.now q.now }
     ensures { IfOk result (λ b. IsTrue b ↔ LeadsFrom first.now most (core_system slots.now program.now)
         (holding params.now p.now) (holding params.now q.now) bound) }
 {

@@ -7,7 +7,7 @@ ghost use Rattle.executor.specs.CoreSystem.{core_system};
 ghost use Rattle.fair_rounds.specs.Records.{holding};
 ghost use Rattle.examples_bounds.specs.Bounded.{LeadsEverywhere};
 ghost use Rattle.examples_bounds.specs.Claims.{IsClaim, claimed, before, after};
-ghost use Rattle.examples_bounds.specs.Readable.{IsReadable};
+ghost use Rattle.examples_bounds.specs.Readable.{FormIsReadable};
 ghost use Rattle.examples_bounds.specs.Tables.{SlotsAreLight};
 ghost use Rattle.examples_bounds.specs.Walking.{LeadsOn};
 
@@ -87,8 +87,8 @@ pub fn leads_everywhere(
 ) -> Result<bool, AllocError>
     requires program { IsProgram slots.now program.now }
     requires light { SlotsAreLight slots.now }
-    requires p { IsReadable slots.now params.now p.now }
-    requires q { IsReadable slots.now params.now q.now }
+    requires p { FormIsReadable slots.now params.now p.now }
+    requires q { FormIsReadable slots.now params.now q.now }
     ensures { IfOk result (λ b. IsTrue b ↔ LeadsEverywhere (slot_ranges slots.now) most
         (core_system slots.now program.now) (holding params.now p.now) (holding params.now q.now) bound) }
 {

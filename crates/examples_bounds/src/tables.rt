@@ -7,7 +7,7 @@ ghost use Rattle.core_terms.specs.Values.{form_value, number_at};
 ghost use Rattle.core_terms.specs.Places.{form_names_only, term_names_only};
 ghost use Rattle.core_terms.specs.Weights.{slot_weight};
 ghost use Rattle.core_terms.specs.declared.programs.CStmt.{CStmt};
-ghost use Rattle.examples_bounds.specs.Readable.{IsReadable};
+ghost use Rattle.examples_bounds.specs.Readable.{FormIsReadable};
 ghost use Rattle.examples_bounds.specs.Tables.{SlotsAreLight, AreNumbered};
 
 use core_terms::{CForm, CProgram, CSlot, CStmt, CTerm, CWrite, Print, Range};
@@ -51,7 +51,7 @@ pub fn slots_to(alloc: Global, tops: &[u32]) -> Result<Seq<CSlot>, AllocError>
 pub fn equals(alloc: Global, slots: &[CSlot], slot: u32, number: u32) -> Result<CForm, AllocError>
     requires { SlotsAreLight slots.now }
     ensures fits { IfOk result (FormFits slots.now []) }
-    ensures readable { IfOk result (IsReadable slots.now []) }
+    ensures readable { IfOk result (FormIsReadable slots.now []) }
     ensures meaning { IfOk result (λ f. (state : State) → IsTrue (form_value state [] f) ↔
         ((slot < length slots.now) × (number_at state slot ≡ pos number))) }
     ensures shown { IfOk result (λ f. (shown : List ℕ) → ((n : ℕ) → n < length slots.now → IsTrue (is_shown shown n)) →
@@ -67,7 +67,7 @@ pub fn equals(alloc: Global, slots: &[CSlot], slot: u32, number: u32) -> Result<
 
 /// What always holds.
 pub fn always(slots: &[CSlot]) -> CForm
-    ensures readable { IsReadable slots.now [] result }
+    ensures readable { FormIsReadable slots.now [] result }
     ensures meaning { (state : State) → IsTrue (form_value state [] result) }
 {
     CForm::Top

@@ -1,7 +1,7 @@
 // Programs of at most three statements, with bounds worked out by hand: along all executions of eight choices, from
 // every state. And the rounds of lists of choices.
 ghost use Rattle.std.specs.Prelude.{◌≤◌, ◌<◌, ◌^◌, [], length, IfOk, All};
-ghost use Rattle.examples_bounds.specs.Readable.{IsReadable};
+ghost use Rattle.examples_bounds.specs.Readable.{FormIsReadable};
 ghost use Rattle.examples_bounds.specs.Tables.{SlotsAreLight};
 
 use super::*;
@@ -34,7 +34,7 @@ fn turn(slot: u32, from: u32, to: u32) -> Move {
 // Where there is no first formula, it always holds.
 fn premise(alloc: Global, slots: &[CSlot], p: Option<Has>) -> Result<CForm, AllocError>
     requires { SlotsAreLight slots.now }
-    ensures { IfOk result (IsReadable slots.now []) }
+    ensures { IfOk result (FormIsReadable slots.now []) }
 {
     match p {
         Some(p) => equals(alloc, slots, p.slot, p.number),

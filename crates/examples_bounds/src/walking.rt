@@ -3,10 +3,10 @@ ghost use Rattle.std.specs.Prelude.{◌≡◌, ◌↔◌, ◌<◌, ◌∷◌, �
 ghost use Rattle.meaning_states.specs.State.{State, is_state};
 ghost use Rattle.meaning_executions.specs.Execution.{chosen_step};
 ghost use Rattle.core_terms.specs.Steps.{slot_ranges};
-ghost use Rattle.fair_rounds.specs.Counts.{StandsFor};
+ghost use Rattle.fair_rounds.specs.Counts.{CountStandsFor};
 ghost use Rattle.executor.specs.CoreSystem.{core_system};
 ghost use Rattle.examples_bounds.specs.Claims.{IsClaim, claimed, before, after};
-ghost use Rattle.examples_bounds.specs.Walking.{Comes, ComesAt, Leads, LeadsAt};
+ghost use Rattle.examples_bounds.specs.Walking.{LeadsBehind, ComesAt, LeadsWithin, LeadsAt};
 
 use core_terms::{CForm, CProgram, CSlot, holds};
 use executor::{Runner, StartError, Stepped};
@@ -72,7 +72,7 @@ fn instances(claim: &Claim) -> u32
 fn with_choice(count: &RoundCount, choice: u32) -> RoundCount
     requires { choice < count.now.instances }
     ensures instances { result.instances ≡ count.now.instances }
-    ensures longer { (made : List ℕ) → StandsFor count.now made → StandsFor result (made ++ choice ∷ []) }
+    ensures longer { (made : List ℕ) → CountStandsFor count.now made → CountStandsFor result (made ++ choice ∷ []) }
 {
     let mut longer = *count;
     longer.add(choice);
@@ -91,8 +91,8 @@ fn comes(
     requires claim { IsClaim claim.now }
     requires state { IsTrue (is_state (slot_ranges claim.now.slots.now) state.now) }
     requires instances { count.now.instances ≡ length claim.now.program.now.statements }
-    ensures { IfOk result (λ b. (made : List ℕ) → StandsFor count.now made →
-        (IsTrue b ↔ Comes (claimed claim.now) (after claim.now) claim.now.bound most made state.now)) }
+    ensures { IfOk result (λ b. (made : List ℕ) → CountStandsFor count.now made →
+        (IsTrue b ↔ LeadsBehind (claimed claim.now) (after claim.now) claim.now.bound most made state.now)) }
 {
     if holds(claim.q, state, claim.params) {
         return Ok(true);
@@ -126,7 +126,7 @@ fn comes_at(
     requires state { IsTrue (is_state (slot_ranges claim.now.slots.now) state.now) }
     requires instances { count.now.instances ≡ length claim.now.program.now.statements }
     requires choice { choice < length claim.now.program.now.statements }
-    ensures { IfOk result (λ b. (made : List ℕ) → StandsFor count.now made →
+    ensures { IfOk result (λ b. (made : List ℕ) → CountStandsFor count.now made →
         (IsTrue b ↔ ComesAt (claimed claim.now) (after claim.now) claim.now.bound most made state.now choice)) }
 {
     match state_after(alloc, claim, state, choice)? {
@@ -144,7 +144,7 @@ fn leads_here(alloc: Global, claim: &Claim, state: &[i64], most: u32) -> Result<
     requires claim { IsClaim claim.now }
     requires state { IsTrue (is_state (slot_ranges claim.now.slots.now) state.now) }
     ensures { IfOk result (λ b. IsTrue b ↔ (IsTrue (before claim.now state.now) →
-        Comes (claimed claim.now) (after claim.now) claim.now.bound most [] state.now)) }
+        LeadsBehind (claimed claim.now) (after claim.now) claim.now.bound most [] state.now)) }
 {
     if !holds(claim.p, state, claim.params) {
         return Ok(true);
@@ -166,7 +166,7 @@ pub(crate) fn leads(
     requires claim { IsClaim claim.now }
     requires state { IsTrue (is_state (slot_ranges claim.now.slots.now) state.now) }
     ensures { IfOk result (λ b. IsTrue b ↔
-        Leads (claimed claim.now) (before claim.now) (after claim.now) claim.now.bound most state.now) }
+        LeadsWithin (claimed claim.now) (before claim.now) (after claim.now) claim.now.bound most state.now) }
 {
     let here = leads_here(alloc, claim, state, most)?;
     if !here {

@@ -1,6 +1,6 @@
 -- The texts are read as their trees, by computation.
 use Rattle.std.proofs.Common.{refl}
-use Rattle.examples_definitions.specs.TextForms.{IsRead, IsRefusedText}
+use Rattle.examples_definitions.specs.TextForms.{ExampleIsRead, IsRefusedText}
 use Rattle.examples_definitions.specs.CountText.{smallest_example, count_example}
 use Rattle.examples_definitions.specs.ProgramText.{program_example}
 use Rattle.examples_definitions.specs.ExpressionText.{expressions_example}
@@ -32,13 +32,13 @@ ruleset views = (formula_views, number_views, statement_views, term_views)
 
 -- the texts that are read
 pub record TextsRead : Type 0 where
-  pub smallest : IsRead smallest_example
-  pub count : IsRead count_example
-  pub program : IsRead program_example
-  pub expressions : IsRead expressions_example
-  pub proof : IsRead proof_example
-  pub term : IsRead term_example
-  pub second : IsRead second_version
+  pub smallest : ExampleIsRead smallest_example
+  pub count : ExampleIsRead count_example
+  pub program : ExampleIsRead program_example
+  pub expressions : ExampleIsRead expressions_example
+  pub proof : ExampleIsRead proof_example
+  pub term : ExampleIsRead term_example
+  pub second : ExampleIsRead second_version
 
 pub read : TextsRead
 unfolding all_productions

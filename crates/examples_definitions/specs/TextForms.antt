@@ -128,8 +128,8 @@ pub record Example : Type 0 where
   pub tree : Document
 
 -- The tokens are read as the tree.
-abbrev pub IsRead : Example → Type 0
-IsRead e = read_whole grammar 200 document_ (terminals (says_later e.tokens) e.text e.tokens) ≡ Ok (view e.tree)
+abbrev pub ExampleIsRead : Example → Type 0
+ExampleIsRead e = read_whole grammar 200 document_ (terminals (says_later e.tokens) e.text e.tokens) ≡ Ok (view e.tree)
 
 -- A text whose tokens are refused from a place on, where so many brackets may be open at once.
 pub record Refusal : Type 0 where

@@ -1,6 +1,6 @@
 //! Texts of the whole language, read by its grammar. The function does nothing: it states examples.
 
-ghost use Rattle.examples_definitions.specs.TextForms.{IsRead, IsRefusedText};
+ghost use Rattle.examples_definitions.specs.TextForms.{ExampleIsRead, IsRefusedText};
 ghost use Rattle.examples_definitions.specs.CountText.{smallest_example, count_example};
 ghost use Rattle.examples_definitions.specs.ProgramText.{program_example};
 ghost use Rattle.examples_definitions.specs.ExpressionText.{expressions_example};
@@ -15,13 +15,13 @@ ghost use Rattle.examples_definitions.specs.RefusedTexts.{early_end, bracket_too
 /// Texts with their tokens: each production is read, and tokens are refused exactly from the first bad
 /// one on.
 pub fn grammar_examples()
-    ensures smallest { IsRead smallest_example }
-    ensures count { IsRead count_example }
-    ensures program { IsRead program_example }
-    ensures expressions { IsRead expressions_example }
-    ensures proof { IsRead proof_example }
-    ensures term { IsRead term_example }
-    ensures second_version { IsRead second_version }
+    ensures smallest { ExampleIsRead smallest_example }
+    ensures count { ExampleIsRead count_example }
+    ensures program { ExampleIsRead program_example }
+    ensures expressions { ExampleIsRead expressions_example }
+    ensures proof { ExampleIsRead proof_example }
+    ensures term { ExampleIsRead term_example }
+    ensures second_version { ExampleIsRead second_version }
     ensures later_word { IsRefusedText later_word }
     ensures other_version { IsRefusedText other_version }
     ensures second_relation { IsRefusedText second_relation }

@@ -1,7 +1,7 @@
 //! What the calls answer that read a text event by event.
 ghost use Rattle.std.specs.Prelude.{◌≤◌, ◌^◌, ℕ, IfOk};
 ghost use Rattle.front_documents.specs.Laws.{IsFrontDocument};
-ghost use Rattle.event_judge.specs.Judges.{IsReady};
+ghost use Rattle.event_judge.specs.Judges.{JudgeIsReady};
 ghost use Rattle.streamed_documents.specs.Fronts.{IsOrderly};
 
 use crate::refusal::{GREATEST_SIZE, Refusal};
@@ -95,8 +95,8 @@ fn unexpected(at: u64) -> Refusal {
 
 /// Tells these events to a judge.
 fn told(judge: Judge, events: &[CertEvent]) -> Result<Judge, Refusal>
-    requires { IsReady judge }
-    ensures { IfOk result IsReady }
+    requires { JudgeIsReady judge }
+    ensures { IfOk result JudgeIsReady }
 {
     let mut judge = judge;
     for e in events {

@@ -19,7 +19,7 @@ use Rattle.proof_plans.specs.declared.plans.StepFault.{StepFault}
 use Rattle.proof_plans.specs.declared.plans.ScriptError.{ScriptError}
 use Rattle.proof_plans.specs.Planning.{Walks}
 use Rattle.examples_rules.specs.declared.plans.NoPlan.{NoPlan}
-use Rattle.examples_rules.specs.Plans.{HasFault, HasCore, steps_of, PlansText}
+use Rattle.examples_rules.specs.Plans.{HasFault, HasCoreForm, steps_of, PlansText}
 
 -- a fault of names, and one of the expansion
 some_is_none : (f : Option Fault) (g : Fault) → f ≡ Some g → f ≡ None → ⊥
@@ -53,7 +53,7 @@ pub ruleset text_laws = no_text
 
 -- a core form, and what the walk along its steps answers
 core_is : (bytes : List ℕ) (d : Document) (c : CDocument) → IsDocument bytes d → IsWellNamed d → expansion_fault d ≡
-    None → c ≡ core_document d → HasCore bytes c
+    None → c ≡ core_document d → HasCoreForm bytes c
 core_is bytes d c is named expands same =
     record { document = d; is_document = is; named = named; expands = expands; core = same }
 

@@ -20,7 +20,7 @@ HasFault d (NameFault.Fault code at) = IsWellNamed d → expansion_fault d ≡ N
 HasFault d NameFault.Memory = Unit {0}
 
 -- the bytes are a document, neither whose names nor whose expansion have a fault, with this core form
-pub record HasCore (bytes : List ℕ) (c : CDocument) : Type 0 where
+pub record HasCoreForm (bytes : List ℕ) (c : CDocument) : Type 0 where
   pub document : Document
   pub is_document : IsDocument bytes document
   pub named : IsWellNamed document
@@ -34,8 +34,8 @@ steps_of c = walk_of c (starts_in c.slots)
 -- the plan of the document's steps, or the first of them that fails; or the text has no core form, or is too long;
 -- want of memory says nothing
 abbrev pub PlansText : List ℕ → Result Plan NoPlan → Type 0
-PlansText bytes (Ok plan) = (c : CDocument) × HasCore bytes c × IsPlanOf c.slots plan (steps_of c)
-PlansText bytes (Err (NoPlan.Step fault)) = (c : CDocument) × HasCore bytes c × IsFailureOf fault (steps_of c)
-PlansText bytes (Err NoPlan.Unread) = (c : CDocument) → HasCore bytes c → ⊥
+PlansText bytes (Ok plan) = (c : CDocument) × HasCoreForm bytes c × IsPlanOf c.slots plan (steps_of c)
+PlansText bytes (Err (NoPlan.Step fault)) = (c : CDocument) × HasCoreForm bytes c × IsFailureOf fault (steps_of c)
+PlansText bytes (Err NoPlan.Unread) = (c : CDocument) → HasCoreForm bytes c → ⊥
 PlansText bytes (Err NoPlan.TooLong) = 65536 < length bytes
 PlansText bytes (Err NoPlan.Memory) = Unit {0}

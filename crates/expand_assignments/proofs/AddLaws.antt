@@ -18,7 +18,7 @@ use Rattle.expand_rules.specs.Assigning.{beside, nothing, one_more, exactly, con
 use Rattle.expand_rules.specs.Assigning.{plain_slot, indexed_effect, index_formed, target_effect, paired_effect}
 use Rattle.expand_rules.specs.Assigning.{alternative_effect, is_large_effect}
 use Rattle.expand_expressions.specs.declared.refusal.Refusal.{Refusal}
-use Rattle.expand_assignments.specs.Adding.{with_range, Adds, AddsAll, CountsPart, Halts, GivesNumber, GivesTruth}
+use Rattle.expand_assignments.specs.Adding.{with_range, Adds, AddsAll, CountsPart, StopsAdding, GivesNumber, GivesTruth}
 use Rattle.expand_assignments.specs.Adding.{one_node, with_count}
 use Rattle.expand_assignments.proofs.EffectLaws.{ranged, ranged_beside, beside_assoc, beside_nothing, exactly_beside}
 use Rattle.expand_assignments.proofs.EffectLaws.{one_more_beside, fold_beside, all_beside_nothing, large_beside}
@@ -31,17 +31,17 @@ use Rattle.expand_assignments.specs.Adding.{written_effect}
 -- where a part is too large
 
 pub halts_value : (r : Refusal) (a : Effect) (x : Option Variable) (c v : Formed) (left : Count) →
-    GivesNumber (Err r) v → Halts r a (target_effect x None c v left)
+    GivesNumber (Err r) v → StopsAdding r a (target_effect x None c v left)
 halts_value Refusal.Memory a x c v left h = tt
 halts_value Refusal.TooLarge a x c v left h = past_value a x c v left h
 
 pub halts_written : (r : Refusal) (a : Effect) (x : Option Variable) (i c v : Formed) → GivesNumber (Err r) v →
-    Halts r a (written_effect i x c v)
+    StopsAdding r a (written_effect i x c v)
 halts_written Refusal.Memory a x i c v h = tt
 halts_written Refusal.TooLarge a x i c v h = past_written a x i c v h
 
 pub halts_index : (r : Refusal) (a : Effect) (x : Option Variable) (i c v : Formed) (left : Count) →
-    GivesNumber (Err r) i → Halts r a (target_effect x (Some i) c v left)
+    GivesNumber (Err r) i → StopsAdding r a (target_effect x (Some i) c v left)
 halts_index Refusal.Memory a x i c v left h = tt
 halts_index Refusal.TooLarge a x i c v left h = past_index a x i c v left h
 
@@ -65,7 +65,7 @@ adds_written r old new x x' i i' c v left p q o h = subst (λ e. Adds r old new 
     ∙ ap (λ j. target_effect x (Some j) c v left) q) h
 
 pub halts_condition : (r : Refusal) (a : Effect) (s : Scope) (t : Target) (ts : List Target) (vs : Values)
-    (e : Option Expr) → GivesTruth (Err r) (condition s e) → Halts r a (alternative_effect s (t ∷ ts) (vs, e))
+    (e : Option Expr) → GivesTruth (Err r) (condition s e) → StopsAdding r a (alternative_effect s (t ∷ ts) (vs, e))
 halts_condition Refusal.Memory a s t ts vs e h = tt
 halts_condition Refusal.TooLarge a s t ts vs e h =
     let p = paired_effect s (t ∷ ts) (vs.first ∷ vs.rest) (condition s e) in
@@ -73,21 +73,22 @@ halts_condition Refusal.TooLarge a s t ts vs e h =
     large_one_more a (exactly b p) (great_beside a (exactly b p)
     (past_condition s t ts vs.first vs.rest (condition s e) h))
 
-pub halts_exactly : (r : Refusal) (b : Bool) (a x : Effect) → Halts r a x → Halts r a (exactly b x)
+pub halts_exactly : (r : Refusal) (b : Bool) (a x : Effect) → StopsAdding r a x → StopsAdding r a (exactly b x)
 halts_exactly Refusal.Memory b a x h = tt
 halts_exactly Refusal.TooLarge b a x h = h
 
-pub halts_one_more : (r : Refusal) (a x : Effect) → Halts r a x → Halts r a (one_more x)
+pub halts_one_more : (r : Refusal) (a x : Effect) → StopsAdding r a x → StopsAdding r a (one_more x)
 halts_one_more Refusal.Memory a x h = tt
 halts_one_more Refusal.TooLarge a x h = large_one_more a x h
 
 -- the first of two, and the second after it
-pub halts_first : (r : Refusal) (a x y : Effect) → Halts r a x → Halts r a (beside x y)
+pub halts_first : (r : Refusal) (a x y : Effect) → StopsAdding r a x → StopsAdding r a (beside x y)
 halts_first Refusal.Memory a x y h = tt
 halts_first Refusal.TooLarge a x y h =
     subst (λ e. is_large_effect e ≡ true) (beside_assoc a x y) (large_beside (beside a x) y h)
 
-pub halts_second : (r : Refusal) (a mid x y : Effect) → mid ≡ beside a x → Halts r mid y → Halts r a (beside x y)
+pub halts_second : (r : Refusal) (a mid x y : Effect) → mid ≡ beside a x → StopsAdding r mid y →
+    StopsAdding r a (beside x y)
 halts_second Refusal.Memory a mid x y e h = tt
 halts_second Refusal.TooLarge a mid x y e h =
     subst (λ m. is_large_effect m ≡ true) (ap (λ m. beside m y) e ∙ beside_assoc a x y) h
@@ -128,13 +129,14 @@ adds_all_after (Err Refusal.TooLarge) old mid new x es e h =
     subst (λ m. is_large_effect m ≡ true) (ap (λ m. fold beside m es) e ∙ sym (fold_beside old x es)) h
 
 -- where the first of a list is too large, or one after some
-pub halts_all : (r : Refusal) (old x : Effect) (es : List Effect) → Halts r old x → Halts r old (fold beside x es)
+pub halts_all : (r : Refusal) (old x : Effect) (es : List Effect) → StopsAdding r old x →
+    StopsAdding r old (fold beside x es)
 halts_all Refusal.Memory old x es h = tt
 halts_all Refusal.TooLarge old x es h =
     subst (λ m. is_large_effect m ≡ true) (sym (fold_beside old x es)) (large_fold (beside old x) es h)
 
 pub all_halts : (r : Refusal) (old new now x : Effect) (left es : List Effect) →
-    fold beside (beside now x) left ≡ fold beside old es → Halts r now x → AddsAll (Err r) old new es
+    fold beside (beside now x) left ≡ fold beside old es → StopsAdding r now x → AddsAll (Err r) old new es
 all_halts Refusal.Memory old new now x left es e h = tt
 all_halts Refusal.TooLarge old new now x left es e h =
     subst (λ m. is_large_effect m ≡ true) e (large_fold (beside now x) left h)
@@ -197,9 +199,9 @@ same_written : (x x' : Option Variable) (i c v v' : Formed) → x' ≡ x → v' 
 same_written x x' i c v v' p r = ap (λ y. indexed_effect i y c v') p ∙ ap (indexed_effect i x c) r
 
 pub indexed_halts : (refusal : Refusal) (a : Effect) (x : Option Variable) (i c v v' : Formed) → v' ≡ v →
-    Halts refusal a (indexed_effect i x c v') → Halts refusal a (written_effect i x c v)
+    StopsAdding refusal a (indexed_effect i x c v') → StopsAdding refusal a (written_effect i x c v)
 indexed_halts refusal a x i c v v' r h = halts_exactly refusal (v.exact && i.exact) a
-    (indexed_effect i x c v) (subst (λ e. Halts refusal a e) (same_written x x i c v v' refl r) h)
+    (indexed_effect i x c v) (subst (λ e. StopsAdding refusal a e) (same_written x x i c v v' refl r) h)
 
 pub indexed_done : (old mid new : Effect) (x : Option Variable) (i c v v' : Formed) → v' ≡ v →
     mid ≡ beside old (indexed_effect i x c v') → new ≡ record mid { exact = mid.exact && (v'.exact && i.exact) } →
@@ -214,10 +216,11 @@ plainly x c v = write_to (plain_slot x) (form_of c.core) (term_of v.core) (write
 
 pub plain_halts : (refusal : Refusal) (a : Effect) (x x' : Option Variable) (c v v' : Formed) (left : Count) →
     x' ≡ x → v' ≡ v →
-    Halts refusal a (write_to (plain_slot x') (form_of c.core) (term_of v'.core) (write_count c.measure v'.measure)) →
-    Halts refusal a (target_effect x None c v left)
+    StopsAdding refusal a (write_to (plain_slot x') (form_of c.core) (term_of v'.core)
+    (write_count c.measure v'.measure)) →
+    StopsAdding refusal a (target_effect x None c v left)
 plain_halts refusal a x x' c v v' left p r h = halts_exactly refusal v.exact a (plainly x c v)
-    (subst (λ e. Halts refusal a e) (ap (λ y. plainly y c v') p ∙ ap (plainly x c) r) h)
+    (subst (λ e. StopsAdding refusal a e) (ap (λ y. plainly y c v') p ∙ ap (plainly x c) r) h)
 
 pub plain_done : (old mid new : Effect) (x x' : Option Variable) (c v v' : Formed) (left : Count) → x' ≡ x →
     v' ≡ v →
@@ -252,7 +255,7 @@ pairs_end s ts es i c now whole h l w =
 
 -- one more at the front of a list
 
-pub halts_front : (r : Refusal) (old new x : Effect) (xs : List Effect) → Halts r old x → AddsAll (Err r) old new
+pub halts_front : (r : Refusal) (old new x : Effect) (xs : List Effect) → StopsAdding r old x → AddsAll (Err r) old new
     (x ∷ xs)
 halts_front Refusal.Memory old new x xs h = tt
 halts_front Refusal.TooLarge old new x xs h = large_fold (beside old x) xs h
@@ -270,8 +273,8 @@ map-map f g (x ∷ xs) = ap (λ ys. f (g x) ∷ ys) (map-map f g xs)
 
 -- ranges
 
-pub halts_ranged : (r : Refusal) (b : Bool) (place : Option ℕ) (a x : Effect) → Halts r a x →
-    Halts r a (one_more (ranged b place x))
+pub halts_ranged : (r : Refusal) (b : Bool) (place : Option ℕ) (a x : Effect) → StopsAdding r a x →
+    StopsAdding r a (one_more (ranged b place x))
 halts_ranged Refusal.Memory b place a x h = tt
 halts_ranged Refusal.TooLarge b place a x h = large_one_more a (ranged b place x) h
 
@@ -302,7 +305,7 @@ numbers_end f first i n now whole h w =
 
 pub numbers_halt : (r : Refusal) (f : ℤ → Effect) (first : ℤ) (i n : ℕ) (old new now : Effect) → i < n →
     fold beside now (map f (count_up (first +ℤ pos i) (n - i))) ≡ fold beside old (map f (count_up first n)) →
-    Halts r now (f (first +ℤ pos i)) → AddsAll (Err r) old new (map f (count_up first n))
+    StopsAdding r now (f (first +ℤ pos i)) → AddsAll (Err r) old new (map f (count_up first n))
 numbers_halt r f first i n old new now h w k = all_halts r old new now (f (first +ℤ pos i))
     (map f (count_up (first +ℤ pos (i + 1)) (n - (i + 1)))) (map f (count_up first n))
     (sym (left_numbers f first i n now h) ∙ w) k

@@ -28,7 +28,7 @@ use Rattle.expand_rules.specs.Assigning.{indexed_effect, plain_slot, target_effe
 use Rattle.expand_rules.specs.Assigning.{beside, is_large_effect, condition_count, is_beyond, is_outside}
 use Rattle.expand_rules.specs.Assigning.{outside_effect}
 use Rattle.expand_expressions.specs.declared.refusal.Refusal.{Refusal}
-use Rattle.expand_assignments.specs.Adding.{written_effect, Halts, TellsCount, is_large_count}
+use Rattle.expand_assignments.specs.Adding.{written_effect, StopsAdding, TellsCount, is_large_count}
 use Rattle.expand_assignments.proofs.EffectLaws.{tells as effect_tells, shows}
 
 -- many nodes, or a great weight
@@ -239,7 +239,7 @@ past_outside a i c left h = great_beside a (outside_effect i c left)
     (great_second (both_counts (index_count i.measure) (condition_count c.measure)) left (great_tells left h))
 
 pub halts_outside : (refusal : Refusal) (a : Effect) (i c : Formed) (left : Count) → TellsCount (Err refusal) left →
-    Halts refusal a (outside_effect i c left)
+    StopsAdding refusal a (outside_effect i c left)
 halts_outside Refusal.Memory a i c left h = tt
 halts_outside Refusal.TooLarge a i c left h = past_outside a i c left h
 

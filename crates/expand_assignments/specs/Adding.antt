@@ -40,14 +40,14 @@ CountsPart (Err Refusal.Memory) old new part = Unit {0}
 CountsPart (Err Refusal.TooLarge) old new part = is_large_effect (with_count old part) ≡ true
 
 -- a call that adds an effect stops only where both together are too large; want of memory says nothing
-abbrev pub Halts : Refusal → Effect → Effect → Type 0
-Halts Refusal.Memory old e = Unit {0}
-Halts Refusal.TooLarge old e = is_large_effect (beside old e) ≡ true
+abbrev pub StopsAdding : Refusal → Effect → Effect → Type 0
+StopsAdding Refusal.Memory old e = Unit {0}
+StopsAdding Refusal.TooLarge old e = is_large_effect (beside old e) ≡ true
 
 -- a call puts an effect beside what there is, or stops
 abbrev pub Adds : Result (Unit {0}) Refusal → Effect → Effect → Effect → Type 0
 Adds (Ok t) old new e = new ≡ beside old e
-Adds (Err refusal) old new e = Halts refusal old e
+Adds (Err refusal) old new e = StopsAdding refusal old e
 
 -- a call puts effects beside what there is, one after another, or stops where all together are too large
 abbrev pub AddsAll : Result (Unit {0}) Refusal → Effect → Effect → List Effect → Type 0

@@ -30,7 +30,7 @@ use Rattle.expand_declarations.specs.Texts.{Texts}
 use Rattle.expand_declarations.specs.Slots.{slot_at, index_values, slots_of, element_slots, is_known, new_slots}
 use Rattle.expand_declarations.specs.Slots.{part_declarations, declared_by, most_slots, past_from, variables_in}
 use Rattle.expand_declarations.specs.Slots.{IsCounted, Laid, AreNearEnds, HasNearIndices, DeclaredNear, HaveSlots}
-use Rattle.expand_declarations.specs.Slots.{IsWhole, PartsBeforeAreFew, PartsBeforeAreNear}
+use Rattle.expand_declarations.specs.Slots.{IsWholeLayout, PartsBeforeAreFew, PartsBeforeAreNear}
 
 found_or : (b c d : Bool) (p : VariableSlots) (rest : Option VariableSlots) → b ≡ c → is_some rest ≡ d →
     is_some (cond b (Some p) rest) ≡ (c || d)
@@ -276,7 +276,7 @@ declared-among (Part.Proof at proof ∷ rest) = declared-among rest
 -- a layout of all parts that begins with nothing
 pub whole : (words : Texts) (old l : Layout) (parts : List Part) → DeclaredNear parts → variables_in old ≡ [] →
     old.slots ≡ [] → Laid words old l (declared_by parts) → past_from 0 (variables_in old) parts ≡ None →
-    IsWhole words l parts
+    IsWholeLayout words l parts
 whole words old l parts near none empty laid past =
     let same : variables_of (entries l.variables) ≡ with_declarations [] (declared_by parts) =
     laid.variables ∙ ap (λ vs. with_declarations vs (declared_by parts)) none in

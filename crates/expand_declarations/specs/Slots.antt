@@ -138,7 +138,7 @@ pub record HaveSlots (variables : List (List ℕ × VariableSlots)) : Type 0 whe
   pub each : (name : List ℕ) (v : VariableSlots) → lookup (bytes_eq name) variables ≡ Some v → HasSlots v
 
 -- the layout of all parts, which need no more slots than are allowed
-pub record IsWhole (words : Texts) (l : Layout) (parts : List Part) : Type 0 where
+pub record IsWholeLayout (words : Texts) (l : Layout) (parts : List Part) : Type 0 where
   pub variables : variables_of (entries l.variables) ≡ with_declarations [] (declared_by parts)
   pub setting : variables_of (entries l.variables) ≡ (setting_of (programs_among parts)).variables
   pub have : HaveSlots (entries l.variables)
@@ -147,7 +147,7 @@ pub record IsWhole (words : Texts) (l : Layout) (parts : List Part) : Type 0 whe
   pub past : past_part parts ≡ None
 
 abbrev pub IsLaying : Texts → Laying → List Part → Type 0
-IsLaying words (Laying.Whole l) parts = IsWhole words l parts
+IsLaying words (Laying.Whole l) parts = IsWholeLayout words l parts
 IsLaying words (Laying.Past place) parts = past_part parts ≡ Some place
 
 -- the parts before the one by which there are too many slots need no more than are allowed

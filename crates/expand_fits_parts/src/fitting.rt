@@ -8,8 +8,7 @@ ghost use Rattle.expand_fits_parts.specs.Forms.Programs.{KeepsFit, UnionsKeep, U
 ghost use Rattle.expand_fits_parts.specs.Forms.ShowingLaws.{ProgramsShow};
 ghost use Rattle.expand_fits_parts.specs.Forms.StepLaws.{ClaimsFit, TermsFit, NamesNumbered, NamesCounted, RangesRead};
 ghost use Rattle.expand_fits_parts.specs.Forms.Visible.{ExpressionsRead, AssignmentsRead};
-ghost use Rattle.expand_fits_parts.specs.Forms.DocumentLaws.{BodiesFaultless, HeadingsFaultless, DocumentsFit};
-ghost use Rattle.expand_fits_parts.specs.Forms.DocumentLaws.{ProgramsFit};
+ghost use Rattle.expand_fits_parts.specs.Forms.DocumentLaws.{DocumentsFit, ProgramsFit};
 ghost use Rattle.expand_fits_parts.specs.Forms.FittingLaws.{FormulasFit, NumbersFit, InstancesFit, DefinitionsFit};
 
 /// What the core of expressions and assignments names: only slots and parameters that pass tests, where
@@ -53,11 +52,8 @@ pub fn union_laws()
     ensures unions_show { UnionsShow }
 {}
 
-/// In a document without a fault of expansion, no part has one, and the statements and the first states of its
-/// programs fit its slots.
+/// In a document without a fault of expansion, the statements and the first states of its programs fit its slots.
 pub fn document_laws()
-    ensures bodies { BodiesFaultless }
-    ensures headings { HeadingsFaultless }
     ensures scopes { DocumentsFit }
     ensures programs { ProgramsFit }
 {}

@@ -11,7 +11,7 @@ use Rattle.expand_rules.specs.Assigning.{nothing, beside, is_large_effect}
 use Rattle.expand_assignments.proofs.EffectLaws.{tells, shows}
 use Rattle.expand_statements.specs.Chains.{BoundNames, bound_inside}
 use Rattle.expand_expressions.specs.declared.refusal.Refusal.{Refusal}
-use Rattle.expand_assignments.specs.Adding.{Halts}
+use Rattle.expand_assignments.specs.Adding.{StopsAdding}
 use Rattle.expand_statements.specs.Visiting.{bounds_inside, GivesFlaws}
 use denote.Bor.{Bor}
 
@@ -67,7 +67,7 @@ same_large e = by (is_large_effect (beside nothing e)) (is_large_effect e) (larg
 
 -- the answers of an instance, by the effect that was put beside none
 
-pub flaws_halt : (r : Refusal) (old made e : Effect) → old ≡ nothing → made ≡ e → Halts r old made → GivesFlaws
+pub flaws_halt : (r : Refusal) (old made e : Effect) → old ≡ nothing → made ≡ e → StopsAdding r old made → GivesFlaws
     (Err r) e
 flaws_halt Refusal.Memory old made e o m h = tt
 flaws_halt Refusal.TooLarge old made e o m h =

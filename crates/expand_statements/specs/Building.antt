@@ -43,7 +43,7 @@ pub record AreNumberBindings (bs : List (List ℕ × Bound)) (indices : List ℤ
   pub indices_same : indices ≡ outermost_first (numbers bs)
 
 -- a document is ready for what is built at a site, and its bound names stand for its indices
-pub record IsSite (site : Site) : Type 0 where
+pub record SiteIsReady (site : Site) : Type 0 where
   pub ready : IsReady site.known.now
   pub numbered : AreNumberBindings (bound_names site.env.now) site.indices.now
 

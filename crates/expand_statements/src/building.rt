@@ -12,7 +12,8 @@ ghost use Rattle.expand_rules.specs.Lists.{items_fault};
 ghost use Rattle.expand_rules.specs.Programs.{core_statement};
 ghost use Rattle.expand_expressions.specs.Places.{IsReady, bound_names};
 ghost use Rattle.expand_statements.specs.Visiting.{scope_among};
-ghost use Rattle.expand_statements.specs.Building.{IsSite, fit_item, fit_items, instance_of, made_at, site_numbers};
+ghost use Rattle.expand_statements.specs.Building.{SiteIsReady, fit_item, fit_items, instance_of, made_at};
+ghost use Rattle.expand_statements.specs.Building.{site_numbers};
 
 use crate::visiting::nothing;
 use core_terms::CStmt;
@@ -75,7 +76,7 @@ fn push_statement(
     site: &Site,
     list: &mut Seq<Shared<CStmt>>,
 ) -> Result<(), AllocError>
-    requires { IsSite site.now }
+    requires { SiteIsReady site.now }
     ensures { OnOk result (list.new ≡ list.old ++ made_at site.now
         (instance_of label.now (site_numbers site.now) a.now) ∷ []) }
 {
@@ -110,7 +111,7 @@ fn push_item(
     site: &Site,
     list: &mut Seq<Shared<CStmt>>,
 ) -> Result<(), AllocError>
-    requires { IsSite site.now }
+    requires { SiteIsReady site.now }
     ensures { OnOk result (list.new ≡ list.old ++ map (made_at site.now) (fit_item item.now (site_numbers site.now))) }
 {
     match item {
@@ -140,7 +141,7 @@ fn push_numbers(
     site: &Site,
     list: &mut Seq<Shared<CStmt>>,
 ) -> Result<(), AllocError>
-    requires site { IsSite site.now }
+    requires site { SiteIsReady site.now }
     requires first { unsigned_abs taken.now.first ≤ 1000000000 }
     requires count { taken.now.count ≤ 2000000001 }
     ensures { OnOk result (list.new ≡ list.old ++ map (made_at site.now)
@@ -163,7 +164,7 @@ fn push_number(
     site: &Site,
     list: &mut Seq<Shared<CStmt>>,
 ) -> Result<(), AllocError>
-    requires { IsSite site.now }
+    requires { SiteIsReady site.now }
     ensures { OnOk result (list.new ≡ list.old ++ map (made_at site.now)
         (fit_items of.now ((name.now.text, number) ∷ site_numbers site.now))) }
 {
@@ -185,7 +186,7 @@ fn push_all(
     site: &Site,
     list: &mut Seq<Shared<CStmt>>,
 ) -> Result<(), AllocError>
-    requires { IsSite site.now }
+    requires { SiteIsReady site.now }
     ensures { OnOk result (list.new ≡ list.old ++ map (made_at site.now)
         (fit_items items.now (site_numbers site.now))) }
 {
@@ -200,7 +201,7 @@ fn push_further(
     site: &Site,
     list: &mut Seq<Shared<CStmt>>,
 ) -> Result<(), AllocError>
-    requires { IsSite site.now }
+    requires { SiteIsReady site.now }
     ensures { OnOk result (list.new ≡ list.old ++ map (made_at site.now)
         (flat_map (λ i. fit_item i (site_numbers site.now)) items.now)) }
 {

@@ -20,7 +20,7 @@ missing zero choices = 0
 missing (suc k) choices = cond (list_any (nat_eq k) choices) (missing k choices) (suc (missing k choices))
 
 -- the count stands for a list of choices: it has their rounds, and marks the instances since the last round ended
-pub record StandsFor (count : RoundCount) (choices : List ℕ) : Type 0 where
+pub record CountStandsFor (count : RoundCount) (choices : List ℕ) : Type 0 where
   pub ended : count.ended ≡ min (meaning.rounds choices count.instances) (2 ^ 64 - 1)
   pub chosen : (n : ℕ) → is_marked count.chosen.words n ≡ list_any (nat_eq n) (since_round count.instances choices)
   pub left : count.left ≡ missing count.instances (since_round count.instances choices)

@@ -4,7 +4,7 @@ ghost use Rattle.meaning_executions.specs.Rounds as meaning;
 
 use crate::marks::Marks;
 
-/// The rounds of a list of choices, which is not kept. For which lists it stands is said by `StandsFor`.
+/// The rounds of a list of choices, which is not kept. For which lists it stands is said by `CountStandsFor`.
 #[derive(Clone, Copy, Debug)]
 pub struct RoundCount {
     instances: u32,
@@ -19,14 +19,14 @@ pub struct RoundCount {
 }
 
 impl RoundCount {
-    ghost use Rattle.fair_rounds.specs.Counts.{StandsFor};
+    ghost use Rattle.fair_rounds.specs.Counts.{CountStandsFor};
 
     /// Counts the rounds of choices among so many instances, before the first choice.
     pub fn new(instances: u32) -> RoundCount
         requires some { 1 ≤ instances }
         requires few { instances ≤ 4096 }
         ensures instances { result.instances ≡ instances }
-        ensures empty { StandsFor result [] }
+        ensures empty { CountStandsFor result [] }
     {
         RoundCount {
             instances,
@@ -40,7 +40,8 @@ impl RoundCount {
     pub fn add(&mut self, choice: u32)
         requires { choice < self.old.instances }
         ensures instances { self.new.instances ≡ self.old.instances }
-        ensures longer { (choices : List ℕ) → StandsFor self.old choices → StandsFor self.new (choices ++ choice ∷ []) }
+        ensures longer { (choices : List ℕ) → CountStandsFor self.old choices →
+            CountStandsFor self.new (choices ++ choice ∷ []) }
     {
         if self.chosen.has(choice) {
             return;
@@ -57,7 +58,7 @@ impl RoundCount {
 
     /// The rounds of the choices, or 2^64 - 1 where there are more.
     pub fn rounds(&self) -> u64
-        ensures { (choices : List ℕ) → StandsFor self.now choices →
+        ensures { (choices : List ℕ) → CountStandsFor self.now choices →
             result ≡ min (meaning.rounds choices self.now.instances) (2 ^ 64 - 1) }
     {
         self.ended

@@ -26,8 +26,8 @@ use Rattle.unity_parser.specs.Fronts.{word_at}
 use Rattle.unity_parser.proofs.FrontFaults.{none_before}
 use Rattle.unity_parser.proofs.NoBrackets.{none_over_front, section_opens_none}
 use Rattle.certificate_events.specs.declared.reader.Taken.{Taken}
-use Rattle.certificate_events.specs.Sections.{IsSection, IsSections, Takes}
-use Rattle.front_documents.specs.Laws.{section_word, IsCutFront, AreBehind, IsOpen, SectionsComplete}
+use Rattle.certificate_events.specs.Sections.{IsSection, IsSections, TokenTakes}
+use Rattle.front_documents.specs.Laws.{section_word, IsCutFront, AreBehind, BeginsSections, SectionsComplete}
 use Rattle.front_documents.specs.Laws.{SectionFaults, SectionsEndEarly}
 use Rattle.front_documents.proofs.FirstWord.{avoids_word, bodies_avoid, with_section, section_at}
 use Rattle.front_documents.proofs.Sections.{section_back, begins_well, goes_on, to_section, section_here}
@@ -62,7 +62,7 @@ module _ (bytes : List ℕ) (f : Front) (cut end : ℕ) (c : IsCutFront bytes f 
 
   -- ---- tokens that a section goes on with
 
-  module _ (ts : List Token) (open_section : IsOpen later ts) where
+  module _ (ts : List Token) (open_section : BeginsSections later ts) where
     more : (rest : List Token) × SomeTree grammar certificates_ (word ∷ (behind ts ++ behind rest))
     more =
         let s = section_here later bytes word (ts ++ open_section.0) open_section.1.0 refl open_section.1.1 in
@@ -93,7 +93,7 @@ module _ (bytes : List ℕ) (f : Front) (cut end : ℕ) (c : IsCutFront bytes f 
   -- tokens that go on from the front to a bad token
   goes_bad : (G : Grammar) (bodies_are : (n : ℕ) → true ≡ true → avoids_word (G.body n) ≡ true)
       → ((y : Tree) (us : List Terminal) → Derives G certificates_ y us → Derives grammar certificates_ y us)
-      → (ts : List Token) (t : Token) → Takes later ts t Taken.Unexpected → (rest : List Terminal) (x : Tree)
+      → (ts : List Token) (t : Token) → TokenTakes later ts t Taken.Unexpected → (rest : List Terminal) (x : Tree)
       → Derives G document_ x (before ++ word ∷ (behind ts ++ terminal later bytes t ∷ rest)) → ⊥
   goes_bad G bodies_are back ts t bad rest x derived =
       let at = section_at G bodies_are before (behind ts ++ terminal later bytes t ∷ rest) word
@@ -114,7 +114,7 @@ module _ (bytes : List ℕ) (f : Front) (cut end : ℕ) (c : IsCutFront bytes f 
 
   not_allowed : (G : Grammar) (bodies_are : (n : ℕ) → true ≡ true → avoids_word (G.body n) ≡ true)
       → ((y : Tree) (us : List Terminal) → Derives G certificates_ y us → Derives grammar certificates_ y us)
-      → (ts : List Token) (t : Token) (rest : List Token) → Takes later ts t Taken.Unexpected
+      → (ts : List Token) (t : Token) (rest : List Token) → TokenTakes later ts t Taken.Unexpected
       → ¬ Allowed G document_ ((before ++ word ∷ behind ts) ++ behind (t ∷ rest)) (behind (t ∷ rest))
   not_allowed G bodies_are back ts t rest bad a =
       let front = before ++ word ∷ behind ts in
@@ -132,7 +132,8 @@ module _ (bytes : List ℕ) (f : Front) (cut end : ℕ) (c : IsCutFront bytes f 
       first_same : {x y : Terminal} {xs ys : List Terminal} → x ∷ xs ≡ y ∷ ys → x ≡ y
       first_same e = cc
 
-  bad_token : (ts : List Token) (t : Token) (rest : List Token) → IsOpen later ts → Takes later ts t Taken.Unexpected
+  bad_token : (ts : List Token) (t : Token) (rest : List Token) → BeginsSections later ts →
+      TokenTakes later ts t Taken.Unexpected
       → IsReadFault grammar most_brackets document_ ((before ++ word ∷ behind ts) ++ behind (t ∷ rest))
       (Unexpected (behind (t ∷ rest)))
   bad_token ts t rest open_section bad = (
@@ -152,7 +153,7 @@ module _ (bytes : List ℕ) (f : Front) (cut end : ℕ) (c : IsCutFront bytes f 
 
   -- ---- the end with which none does
 
-  early : (ts : List Token) → IsOpen later ts → ¬ IsSections later ts
+  early : (ts : List Token) → BeginsSections later ts → ¬ IsSections later ts
       → IsReadFault grammar most_brackets document_ (before ++ word ∷ behind ts) (Unexpected [])
   early ts open_section none = (
     record {
@@ -178,7 +179,7 @@ module _ (bytes : List ℕ) (f : Front) (cut end : ℕ) (c : IsCutFront bytes f 
   -- ---- the laws, where the front is known
 
   pub section_fault : (ts : List Token) (t : Token) (rest : List Token) → AreBehind bytes end (ts ++ t ∷ rest)
-      → IsOpen later ts → Takes later ts t Taken.Unexpected → IsFault bytes Code.Unexpected t.start
+      → BeginsSections later ts → TokenTakes later ts t Taken.Unexpected → IsFault bytes Code.Unexpected t.start
   section_fault ts t rest behind_all open_section bad =
       let all = f.tokens ++ section_word cut end ∷ (ts ++ t ∷ rest) in
       let tokens : before ++ word ∷ behind (ts ++ t ∷ rest) ≡ (before ++ word ∷ behind ts) ++ behind (t ∷ rest) =
@@ -192,7 +193,7 @@ module _ (bytes : List ℕ) (f : Front) (cut end : ℕ) (c : IsCutFront bytes f 
         place_is = refl;
       })
 
-  pub early_end : (ts : List Token) → AreBehind bytes end ts → IsOpen later ts → ¬ IsSections later ts
+  pub early_end : (ts : List Token) → AreBehind bytes end ts → BeginsSections later ts → ¬ IsSections later ts
       → IsFault bytes Code.Unexpected (length bytes)
   early_end ts behind_all open_section none =
       let all = f.tokens ++ section_word cut end ∷ ts in

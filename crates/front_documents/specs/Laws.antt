@@ -14,7 +14,7 @@ use Rattle.unity_parser.specs.ParseAnswers.{IsDocumentOf, IsRefusal, WordsRise}
 use Rattle.unity_parser.specs.Document.{IsDocument, IsFault}
 use Rattle.unity_parser.specs.Fronts.{front_tokens}
 use Rattle.certificate_events.specs.declared.reader.Taken.{Taken}
-use Rattle.certificate_events.specs.Sections.{IsSection, IsSections, Takes}
+use Rattle.certificate_events.specs.Sections.{IsSection, IsSections, TokenTakes}
 
 -- the word at a place, up to another
 abbrev pub section_word : ℕ → ℕ → Token
@@ -36,8 +36,8 @@ abbrev pub AreBehind : List ℕ → ℕ → List Token → Type 0
 AreBehind bytes end ts = Tokenizes end (drop end bytes) ts (length bytes) []
 
 -- some section begins with these tokens
-abbrev pub IsOpen : Bool → List Token → Type 0
-IsOpen later ts = (rest : List Token) × IsSections later (ts ++ rest)
+abbrev pub BeginsSections : Bool → List Token → Type 0
+BeginsSections later ts = (rest : List Token) × IsSections later (ts ++ rest)
 
 -- the fault of a front is that of the text
 abbrev pub FrontFaultsStay : Type 0
@@ -60,13 +60,14 @@ SectionsComplete = (bytes : List ℕ) (f : Front) (cut end : ℕ) (ts : List Tok
 abbrev pub SectionFaults : Type 0
 SectionFaults = (bytes : List ℕ) (f : Front) (cut end : ℕ) (ts : List Token) (t : Token) (rest : List Token)
     (d : Document) → IsCutFront bytes f cut end → AreBehind bytes end (ts ++ t ∷ rest) → IsFrontDocument f d →
-    IsOpen (says_later f.tokens) ts → Takes (says_later f.tokens) ts t Taken.Unexpected →
+    BeginsSections (says_later f.tokens) ts → TokenTakes (says_later f.tokens) ts t Taken.Unexpected →
     IsFault bytes Code.Unexpected t.start
 
 -- and where no section ends with the text, the text ends too early
 abbrev pub SectionsEndEarly : Type 0
 SectionsEndEarly = (bytes : List ℕ) (f : Front) (cut end : ℕ) (ts : List Token) (d : Document) →
-    IsCutFront bytes f cut end → AreBehind bytes end ts → IsFrontDocument f d → IsOpen (says_later f.tokens) ts →
+    IsCutFront bytes f cut end → AreBehind bytes end ts → IsFrontDocument f d →
+    BeginsSections (says_later f.tokens) ts →
     ¬ IsSections (says_later f.tokens) ts → IsFault bytes Code.Unexpected (length bytes)
 
 -- the words of the document stand in the front

@@ -5,24 +5,24 @@ use Rattle.meaning_states.specs.State.{State, Ranges}
 use Rattle.meaning_executions.specs.Execution.{act_step}
 use Rattle.meaning_states.specs.Step.{is_defined, written, step}
 use Rattle.layer_laws.specs.Resets.{reset, old_writes}
-use Rattle.layer_laws.specs.Writing.{Writing, act_of, Extends, WritingLayer}
+use Rattle.layer_laws.specs.Writing.{StateWrites, act_of, Extends, WritingLayer}
 use Rattle.layer_laws.proofs.ResetTheorems.{reset_itself, written_reset, written_beside, old_are_defined}
 
-abbrev step_by : Ranges → Option Writing → State → Option State
+abbrev step_by : Ranges → Option StateWrites → State → Option State
 step_by ranges None s = None
 step_by ranges (Some f) s = step ranges (f s) s
 
-steps_as : (ranges : Ranges) (fs : List Writing) (c : ℕ) (s : State) →
+steps_as : (ranges : Ranges) (fs : List StateWrites) (c : ℕ) (s : State) →
     act_step s (slice_get (map (act_of ranges) fs) c) ≡ step_by ranges (slice_get fs c) s
 steps_as ranges [] c s = refl
 steps_as ranges (f ∷ fs) zero s = refl
 steps_as ranges (f ∷ fs) (suc c) s = steps_as ranges fs c s
 
-as_many : (ranges : Ranges) (fs : List Writing) → length (map (act_of ranges) fs) ≡ length fs
+as_many : (ranges : Ranges) (fs : List StateWrites) → length (map (act_of ranges) fs) ≡ length fs
 as_many ranges [] = refl
 as_many ranges (f ∷ fs) = ap suc (as_many ranges fs)
 
-there : (fs : List Writing) (c : ℕ) → c < length fs → (f : Writing) × (slice_get fs c ≡ Some f)
+there : (fs : List StateWrites) (c : ℕ) → c < length fs → (f : StateWrites) × (slice_get fs c ≡ Some f)
 there [] c h = absurd (omega (arith, h))
 there (f ∷ fs) zero h = (f, refl)
 there (f ∷ fs) (suc c) h = there fs c (omega (arith, h))
@@ -35,9 +35,10 @@ makes : (b : Bool) (u t : State) → IsTrue b → u ≡ t → cond b (Some u) No
 makes true u t h e = ap Some e
 makes false u t h e = cc
 
-module _ (new : ℕ → Bool) (ranges : Ranges) (fs gs : List Writing) (ext : Extends new ranges fs gs) (origin s t : State)
+module _ (new : ℕ → Bool) (ranges : Ranges) (fs gs : List StateWrites) (ext : Extends new ranges fs gs)
+    (origin s t : State)
     (c : ℕ) where
-  below_by : (f g : Writing) → slice_get fs c ≡ Some f → slice_get gs c ≡ Some g → step ranges (g s) s ≡ Some t →
+  below_by : (f g : StateWrites) → slice_get fs c ≡ Some f → slice_get gs c ≡ Some g → step ranges (g s) s ≡ Some t →
       step ranges (f (reset new 0 origin s)) (reset new 0 origin s) ≡ Some (reset new 0 origin t)
   below_by f g a b e =
       let was = made (is_defined ranges (g s)) (written s (g s)) t e in
@@ -56,7 +57,7 @@ module _ (new : ℕ → Bool) (ranges : Ranges) (fs gs : List Writing) (ext : Ex
       subst (λ o. step_by ranges o (reset new 0 origin s) ≡ Some (reset new 0 origin t)) (sym f.1)
       (below_by f.0 g.0 f.1 g.1 (subst (λ o. step_by ranges o s ≡ Some t) g.1 e))
 
-  beside_by : length fs ≤ c → (o : Option Writing) → slice_get gs c ≡ o → step_by ranges o s ≡ Some t →
+  beside_by : length fs ≤ c → (o : Option StateWrites) → slice_get gs c ≡ o → step_by ranges o s ≡ Some t →
       reset new 0 origin t ≡ reset new 0 origin s
   beside_by h None d e = cc
   beside_by h (Some g) d e =

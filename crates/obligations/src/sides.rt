@@ -17,7 +17,7 @@ pub enum Side {
     Second,
 }
 
-/// Settles a side of a formula.
+/// Settles a side of a formula onto a branch. The error is refused memory; what was added so far stays.
 pub fn settle_side(
     alloc: Global,
     vs: &[Variable],

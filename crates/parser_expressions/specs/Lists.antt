@@ -34,15 +34,15 @@ Passes front (Err stop) text = (item : Ebnf) (depth : ℕ) →
     Fails stop (read grammar depth (with_front front item) (remaining text))
 
 -- what a call may answer, and for which tokens
-abbrev pub Answer : Type 0 → Type 1
-Answer X = Cursor → Result (X × Cursor) Stop → Type 0
+abbrev pub MayAnswer : Type 0 → Type 1
+MayAnswer X = Cursor → Result (X × Cursor) Stop → Type 0
 
 -- the call, wherever it is made, answers what the reader of the form does
-abbrev pub ReadsForm : {X : Type 0} → Answer X → (X → Tree) → Ebnf → ℕ → Type 0
+abbrev pub ReadsForm : {X : Type 0} → MayAnswer X → (X → Tree) → Ebnf → ℕ → Type 0
 ReadsForm answer view form depth =
     (text : Cursor) (result : _) → answer text result → Reads view result form depth text
 
 -- the call, wherever it is made, takes a token if it answers an item
-abbrev pub TakesTokens : {X : Type 0} → Answer X → Type 0
+abbrev pub TakesTokens : {X : Type 0} → MayAnswer X → Type 0
 TakesTokens answer = (text : Cursor) (x : _) (later : Cursor) → answer text (Ok (x, later)) →
     count (remaining later) < count (remaining text)

@@ -18,7 +18,7 @@ use Rattle.obligations.proofs.ShapeLaws.{shape-Const, shape-Slot, shape-Param, s
 use Rattle.obligations.proofs.ShapeLaws.{shape-Ite, shape-Top, shape-Bottom, shape-AtLeast, shape-Zero, shape-Not}
 use Rattle.obligations.proofs.ShapeLaws.{shape-And, shape-Or}
 use Rattle.rules_table.specs.Further.{first_side}
-use Rattle.plain_quotients.specs.Plain.{ArePlain, FormIsPlain, TermIsPlain}
+use Rattle.plain_quotients.specs.Plain.{HaveNoQuotients, FormIsPlain, TermIsPlain}
 
 abbrev S : CForm → Shapes
 S = shapes
@@ -65,28 +65,28 @@ ite_plain c a b g h k =
     (no_sum (S c).yes.quotients (T a).quotients g.yes h) (no_sum (S c).no.quotients (T b).quotients g.no k))
 
 pub top_plain : FormIsPlain Top
-top_plain = subst ArePlain (sym shape-Top) (record { yes = refl; no = refl })
+top_plain = subst HaveNoQuotients (sym shape-Top) (record { yes = refl; no = refl })
 
 pub bottom_plain : FormIsPlain Bottom
-bottom_plain = subst ArePlain (sym shape-Bottom) (record { yes = refl; no = refl })
+bottom_plain = subst HaveNoQuotients (sym shape-Bottom) (record { yes = refl; no = refl })
 
 least_plain : (t : CTerm) → TermIsPlain t → FormIsPlain (AtLeast t)
-least_plain t h = subst ArePlain (sym (shape-AtLeast t)) (record { yes = h; no = h })
+least_plain t h = subst HaveNoQuotients (sym (shape-AtLeast t)) (record { yes = h; no = h })
 
 zero_plain : (t : CTerm) → TermIsPlain t → FormIsPlain (Zero t)
-zero_plain t h = subst ArePlain (sym (shape-Zero t)) (record { yes = h; no = h })
+zero_plain t h = subst HaveNoQuotients (sym (shape-Zero t)) (record { yes = h; no = h })
 
 negated_plain : (f : CForm) → FormIsPlain f → FormIsPlain (Not f)
-negated_plain f h = subst ArePlain (sym (shape-Not f)) (record { yes = h.no; no = h.yes })
+negated_plain f h = subst HaveNoQuotients (sym (shape-Not f)) (record { yes = h.no; no = h.yes })
 
 both_plain : (f g : CForm) → FormIsPlain f → FormIsPlain g → FormIsPlain (And f g)
-both_plain f g h k = subst ArePlain (sym (shape-And f g)) (record {
+both_plain f g h k = subst HaveNoQuotients (sym (shape-And f g)) (record {
   yes = no_sum (S f).yes.quotients (S g).yes.quotients h.yes k.yes;
   no = no_greatest (S f).no.quotients (S g).no.quotients h.no k.no;
 })
 
 either_plain : (f g : CForm) → FormIsPlain f → FormIsPlain g → FormIsPlain (Or f g)
-either_plain f g h k = subst ArePlain (sym (shape-Or f g)) (record {
+either_plain f g h k = subst HaveNoQuotients (sym (shape-Or f g)) (record {
   yes = no_greatest (S f).yes.quotients (S g).yes.quotients h.yes k.yes;
   no = no_sum (S f).no.quotients (S g).no.quotients h.no k.no;
 })
@@ -157,12 +157,12 @@ module _ (slots names : ℕ → CTerm) (slot_is : (n : ℕ) → TermIsPlain (slo
   KeptTerm = (t : CTerm) × TermKept t
 
   rolled_form : (x : CForm-F CForm CTerm) →
-      (ArePlain (form_shape_step (map-CForm CForm CTerm Shapes Shape shapes term_shape x)) →
+      (HaveNoQuotients (form_shape_step (map-CForm CForm CTerm Shapes Shape shapes term_shape x)) →
       FormIsPlain (replace_form (map-CForm CForm CTerm CForm CTerm (form_with slots names)
       (term_with slots names) x))) → FormKept (roll-CForm x)
   rolled_form x h k =
       subst FormIsPlain (sym (fold-roll-CForm CForm CTerm replace_form (replace_term slots names) x))
-      (h (subst ArePlain (fold-roll-CForm Shapes Shape form_shape_step term_shape_step x) k))
+      (h (subst HaveNoQuotients (fold-roll-CForm Shapes Shape form_shape_step term_shape_step x) k))
 
   rolled_term : (x : CTerm-F CForm CTerm) →
       ((term_shape_step (map-CTerm CForm CTerm Shapes Shape shapes term_shape x)).quotients ≡ 0 →
@@ -241,7 +241,7 @@ at_plain args f h = form_kept (λ n. Slot n) (arg_at args) slot_plain (λ n. arg
 -- a side of an alternative without quotients
 pub first_side_plain : (y : CForm-F CForm CTerm) → FormIsPlain (roll-CForm y) → FormIsPlain (first_side y)
 first_side_plain (CForm-F.Or f g) h =
-    let at = subst ArePlain (ap shapes (rolls-Or f g) ∙ shape-Or f g) h in
+    let at = subst HaveNoQuotients (ap shapes (rolls-Or f g) ∙ shape-Or f g) h in
     record {
       yes = (greatest_parts (S f).yes.quotients (S g).yes.quotients at.yes).0;
       no = (sum_parts (S f).no.quotients (S g).no.quotients at.no).0;

@@ -13,13 +13,13 @@ use Rattle.core_terms.specs.Conditions.{any_place, parts_of}
 use Rattle.obligations.specs.Shapes.{Shapes, shapes, term_shape}
 
 -- neither of two shapes has a quotient
-pub record ArePlain (s : Shapes) : Type 0 where
+pub record HaveNoQuotients (s : Shapes) : Type 0 where
   pub yes : s.yes.quotients ≡ 0
   pub no : s.no.quotients ≡ 0
 
 -- no quotient can be taken in a formula, nor in its negation
 abbrev pub FormIsPlain : CForm → Type 0
-FormIsPlain f = ArePlain (shapes f)
+FormIsPlain f = HaveNoQuotients (shapes f)
 
 -- nor in a term
 abbrev pub TermIsPlain : CTerm → Type 0

@@ -6,18 +6,19 @@ use Rattle.std.proofs.lemmas.Grind.{flat_map-append}
 use Rattle.std.proofs.lemmas.List.{map-append, take_all, take_more}
 use Rattle.unity_base.specs.declared.events.CertEvent.{CertEvent}
 use Rattle.event_judge.specs.declared.judge.Judge.{Judge}
-use Rattle.event_judge.specs.Judges.{StandsFor}
-use Rattle.proof_script.specs.Telling.{Tells}
+use Rattle.event_judge.specs.Judges.{JudgeStandsFor}
+use Rattle.proof_script.specs.Telling.{JudgeIsTold}
 
-pub told-none : (a : Judge) → Tells a a []
-told-none a d es s = subst (StandsFor d a) (sym (append-nil es)) s
+pub told-none : (a : Judge) → JudgeIsTold a a []
+told-none a d es s = subst (JudgeStandsFor d a) (sym (append-nil es)) s
 
-pub told-so : (a b : Judge) (es fs : List CertEvent) → es ≡ fs → Tells a b es → Tells a b fs
-told-so a b es fs e f = subst (λ xs. Tells a b xs) e f
+pub told-so : (a b : Judge) (es fs : List CertEvent) → es ≡ fs → JudgeIsTold a b es → JudgeIsTold a b fs
+told-so a b es fs e f = subst (λ xs. JudgeIsTold a b xs) e f
 
-pub told-then : (a b c : Judge) (es fs : List CertEvent) → Tells a b es → Tells b c fs → Tells a c (es ++ fs)
+pub told-then : (a b c : Judge) (es fs : List CertEvent) → JudgeIsTold a b es → JudgeIsTold b c fs →
+    JudgeIsTold a c (es ++ fs)
 told-then a b c es fs f g d before s =
-    subst (StandsFor d c) (append_assoc before es fs) (g d (before ++ es) (f d before s))
+    subst (JudgeStandsFor d c) (append_assoc before es fs) (g d (before ++ es) (f d before s))
 
 -- one item more
 

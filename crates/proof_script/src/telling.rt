@@ -2,9 +2,9 @@
 ghost use Rattle.std.specs.Prelude.{◌∷◌, map, [], OnOk};
 ghost use Rattle.obligations.specs.Certificates.{node_pairs};
 ghost use Rattle.event_checker.specs.Events.{events_of, node_events, pair_event};
-ghost use Rattle.event_judge.specs.Judges.{IsReady};
+ghost use Rattle.event_judge.specs.Judges.{JudgeIsReady};
 ghost use Rattle.event_judge.specs.Told.{cert_events, certs_events};
-ghost use Rattle.proof_script.specs.Telling.{Tells};
+ghost use Rattle.proof_script.specs.Telling.{JudgeIsTold};
 
 use certificate_check::beginning;
 use event_judge::Judge;
@@ -14,18 +14,18 @@ use unity_base::CertEvent;
 
 // A pair of a node.
 fn tell_pair(judge: &mut Judge, pair: &(i64, u64)) -> Result<(), AllocError>
-    requires ready { IsReady judge.old }
-    ensures tells { OnOk result (Tells judge.old judge.new (pair_event pair.now ∷ [])) }
-    ensures ready { OnOk result (IsReady judge.new) }
+    requires ready { JudgeIsReady judge.old }
+    ensures tells { OnOk result (JudgeIsTold judge.old judge.new (pair_event pair.now ∷ [])) }
+    ensures ready { OnOk result (JudgeIsReady judge.new) }
 {
     judge.take(CertEvent::Pair(pair.0, pair.1))
 }
 
 // Pairs of a node, in order.
 fn tell_pairs(judge: &mut Judge, pairs: &[(i64, u64)]) -> Result<(), AllocError>
-    requires ready { IsReady judge.old }
-    ensures tells { OnOk result (Tells judge.old judge.new (map pair_event pairs.now)) }
-    ensures ready { OnOk result (IsReady judge.new) }
+    requires ready { JudgeIsReady judge.old }
+    ensures tells { OnOk result (JudgeIsTold judge.old judge.new (map pair_event pairs.now)) }
+    ensures ready { OnOk result (JudgeIsReady judge.new) }
 {
     for pair in pairs {
         tell_pair(judge, pair)?;
@@ -35,9 +35,9 @@ fn tell_pairs(judge: &mut Judge, pairs: &[(i64, u64)]) -> Result<(), AllocError>
 
 // The pairs of a node.
 fn tell_rest(judge: &mut Judge, node: &Node) -> Result<(), AllocError>
-    requires ready { IsReady judge.old }
-    ensures tells { OnOk result (Tells judge.old judge.new (map pair_event (node_pairs node.now))) }
-    ensures ready { OnOk result (IsReady judge.new) }
+    requires ready { JudgeIsReady judge.old }
+    ensures tells { OnOk result (JudgeIsTold judge.old judge.new (map pair_event (node_pairs node.now))) }
+    ensures ready { OnOk result (JudgeIsReady judge.new) }
 {
     match node {
         Node::Sum(pairs) => tell_pairs(judge, pairs.as_slice()),
@@ -49,9 +49,9 @@ fn tell_rest(judge: &mut Judge, node: &Node) -> Result<(), AllocError>
 
 // A node.
 fn tell_node(judge: &mut Judge, node: &Node) -> Result<(), AllocError>
-    requires ready { IsReady judge.old }
-    ensures tells { OnOk result (Tells judge.old judge.new (node_events node.now)) }
-    ensures ready { OnOk result (IsReady judge.new) }
+    requires ready { JudgeIsReady judge.old }
+    ensures tells { OnOk result (JudgeIsTold judge.old judge.new (node_events node.now)) }
+    ensures ready { OnOk result (JudgeIsReady judge.new) }
 {
     judge.take(beginning(node))?;
     tell_rest(judge, node)
@@ -59,9 +59,9 @@ fn tell_node(judge: &mut Judge, node: &Node) -> Result<(), AllocError>
 
 // Nodes, in order.
 fn tell_nodes(judge: &mut Judge, nodes: &[Node]) -> Result<(), AllocError>
-    requires ready { IsReady judge.old }
-    ensures tells { OnOk result (Tells judge.old judge.new (events_of nodes.now)) }
-    ensures ready { OnOk result (IsReady judge.new) }
+    requires ready { JudgeIsReady judge.old }
+    ensures tells { OnOk result (JudgeIsTold judge.old judge.new (events_of nodes.now)) }
+    ensures ready { OnOk result (JudgeIsReady judge.new) }
 {
     for node in nodes {
         tell_node(judge, node)?;
@@ -71,9 +71,9 @@ fn tell_nodes(judge: &mut Judge, nodes: &[Node]) -> Result<(), AllocError>
 
 // A certificate.
 fn tell_cert(judge: &mut Judge, cert: &Cert) -> Result<(), AllocError>
-    requires ready { IsReady judge.old }
-    ensures tells { OnOk result (Tells judge.old judge.new (cert_events cert.now)) }
-    ensures ready { OnOk result (IsReady judge.new) }
+    requires ready { JudgeIsReady judge.old }
+    ensures tells { OnOk result (JudgeIsTold judge.old judge.new (cert_events cert.now)) }
+    ensures ready { OnOk result (JudgeIsReady judge.new) }
 {
     judge.take(CertEvent::Begin)?;
     tell_nodes(judge, cert.nodes.as_slice())?;
@@ -82,9 +82,9 @@ fn tell_cert(judge: &mut Judge, cert: &Cert) -> Result<(), AllocError>
 
 // Certificates, in order.
 pub(crate) fn tell_certs(judge: &mut Judge, certs: &[Cert]) -> Result<(), AllocError>
-    requires ready { IsReady judge.old }
-    ensures tells { OnOk result (Tells judge.old judge.new (certs_events certs.now)) }
-    ensures ready { OnOk result (IsReady judge.new) }
+    requires ready { JudgeIsReady judge.old }
+    ensures tells { OnOk result (JudgeIsTold judge.old judge.new (certs_events certs.now)) }
+    ensures ready { OnOk result (JudgeIsReady judge.new) }
 {
     for cert in certs {
         tell_cert(judge, cert)?;

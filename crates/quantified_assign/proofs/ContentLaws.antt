@@ -18,7 +18,7 @@ use Rattle.expand_documents.specs.Cores.{with_parts}
 use Rattle.expand_documents.specs.Faults.{bodies_fault, headings_fault, headed}
 use Rattle.quantified_assign.specs.declared.headings.Stop.{Stop}
 use Rattle.quantified_assign.specs.Bodies.{HasLightForm, StartsAreLight, AddsBodies}
-use Rattle.quantified_assign.specs.Headings.{AddedHeadings, IsStop}
+use Rattle.quantified_assign.specs.Headings.{AddedHeadings, IsHeadingStop}
 use Rattle.quantified_assign.specs.Expanding.{scope_fault, MakesBodies, MakesHeaded}
 use Rattle.quantified_assign.proofs.HeadingLaws.{among, fine_headed, headed_fine, parts_known}
 
@@ -66,20 +66,21 @@ module _ (words : Texts) (s : Scope) (slots : List CSlot) (cores : List CProgram
       none b))
 
   -- the parts before a heading with a fault
-  pub before_fine : (stop : Stop) → IsStop s stop parts → headings_fault s (take stop.place parts) ≡ None
+  pub before_fine : (stop : Stop) → IsHeadingStop s stop parts → headings_fault s (take stop.place parts) ≡ None
   before_fine stop i = subst (λ (ps : List Part). headings_fault s ps ≡ None) i.headed (headed_fine s parts)
 
-  pub before_stops : (e : NameFault) (stop : Stop) → IsStop s stop parts → Stops e (bodies (take stop.place parts)) →
+  pub before_stops : (e : NameFault) (stop : Stop) → IsHeadingStop s stop parts →
+      Stops e (bodies (take stop.place parts)) →
       Stops e (scope_fault words s slots parts)
   before_stops e stop i stops = bodies_stops e (take stop.place parts) i.headed stops
 
-  pub heading_stops : (stop : Stop) → IsStop s stop parts → bodies (take stop.place parts) ≡ None →
+  pub heading_stops : (stop : Stop) → IsHeadingStop s stop parts → bodies (take stop.place parts) ≡ None →
       Stops (NameFault.Fault stop.code stop.at) (scope_fault words s slots parts)
   heading_stops stop i fine = stops_later (NameFault.Fault stop.code stop.at) (bodies (headed s parts))
       (headings_fault s parts) (ap bodies i.headed ∙ fine) i.fault
 
   -- their fault is one of their bodies
-  fault_before : (stop : Stop) → IsStop s stop parts →
+  fault_before : (stop : Stop) → IsHeadingStop s stop parts →
       scope_fault words s slots (take stop.place parts) ≡ earlier (bodies (take stop.place parts)) None
   fault_before stop i =
       let before : List Part = take stop.place parts in
@@ -88,13 +89,13 @@ module _ (words : Texts) (s : Scope) (slots : List CSlot) (cores : List CProgram
       ∙ ap (λ (f : Option Fault). earlier (bodies before) f) (before_fine stop i)
 
   -- where they stop, all parts do
-  pub stops_before : (e : NameFault) (stop : Stop) → IsStop s stop parts →
+  pub stops_before : (e : NameFault) (stop : Stop) → IsHeadingStop s stop parts →
       Stops e (scope_fault words s slots (take stop.place parts)) → Stops e (scope_fault words s slots parts)
   stops_before e stop i stops = before_stops e stop i (stops_alone e (bodies (take stop.place parts))
       (subst (λ (f : Option Fault). Stops e f) (fault_before stop i) stops))
 
   -- where they do not, the heading stops
-  pub stops_after : (left : Option Stop) (stop : Stop) → IsStop s stop parts →
+  pub stops_after : (left : Option Stop) (stop : Stop) → IsHeadingStop s stop parts →
       MakesHeaded (Ok left) words s slots cores more (take stop.place parts) →
       Stops (NameFault.Fault stop.code stop.at) (scope_fault words s slots parts)
   stops_after None stop i made = heading_stops stop i

@@ -19,7 +19,7 @@ use Rattle.expand_documents.specs.AlwaysNames.{definitions_fault}
 use Rattle.expand_documents.specs.Cores.{part_definitions, with_parts}
 use Rattle.expand_documents.specs.Faults.{count_fault, heading_fault, headings_fault, headed}
 use Rattle.quantified_assign.specs.Headings.{AddedHeading, AddsHeading, AddedHeadings}
-use Rattle.quantified_assign.specs.Headings.{IsStop}
+use Rattle.quantified_assign.specs.Headings.{IsHeadingStop}
 
 -- the same place, with other always names
 abbrev pub among : Scope → Always → Scope
@@ -96,7 +96,7 @@ headed_first s (p ∷ rest) = by (headed (with_definitions s (part_definitions p
 pub headings_stop : (now old : Scope) (place : ℕ) (p : Part) (rest all : List Part) (code : Code) (at : ℕ) →
     place < length all → HeadingsAhead now place (p ∷ rest) old all →
     Stops (NameFault.Fault code at) (heading_fault now p) →
-    IsStop old (record { place = place; code = code; at = at }) all
+    IsHeadingStop old (record { place = place; code = code; at = at }) all
 headings_stop now old place p rest all code at within ahead stops =
     let after : Scope = with_definitions now (part_definitions p) in
     let none : length (headed now (p ∷ rest)) ≡ 0 =

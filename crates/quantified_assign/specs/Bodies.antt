@@ -46,7 +46,7 @@ GivesForm (Ok f) core fault = GivenForm f core fault
 GivesForm (Err e) core fault = Stops e fault
 
 -- a truth whose tree weighs no more than is counted
-pub record IsSettled (t : TruthCore) : Type 0 where
+pub record IsLightTruth (t : TruthCore) : Type 0 where
   pub sound : IsSound (of_truth t)
 
 abbrev pub SettlesForm : Result CForm NameFault → TruthCore → ℕ → Type 0

@@ -19,7 +19,7 @@ use Rattle.expand_documents.specs.Cores.{with_parts, document_scope, with_cores,
 use Rattle.expand_documents.specs.Faults.{bodies_fault, headings_fault, headed, expansion_fault}
 use Rattle.quantified_assign.specs.declared.contents.Contents.{Contents}
 use Rattle.quantified_assign.specs.declared.headings.Stop.{Stop}
-use Rattle.quantified_assign.specs.Headings.{IsStop}
+use Rattle.quantified_assign.specs.Headings.{IsHeadingStop}
 
 -- parts whose slots and words are known
 
@@ -43,7 +43,7 @@ MakesBodies (Err e) words s slots programs proofs parts = Stops e (scope_fault w
 -- nothing of parts, whose headings stop here
 pub record NothingMade (s : Scope) (stop : Stop) (cores : List CProgram) (more : List CProof) (parts : List Part) :
     Type 0 where
-  pub stopped : IsStop s stop parts
+  pub stopped : IsHeadingStop s stop parts
   pub programs : cores ≡ []
   pub proofs : more ≡ []
 

@@ -27,11 +27,11 @@ pub record AddedHeadings (s : Scope) (new : Always) (parts : List Part) : Type 0
   pub fine : headings_fault s parts ≡ None
 
 -- the place of the first part whose heading has a fault, with that fault
-pub record IsStop (s : Scope) (stop : Stop) (parts : List Part) : Type 0 where
+pub record IsHeadingStop (s : Scope) (stop : Stop) (parts : List Part) : Type 0 where
   pub within : stop.place < length parts
   pub headed : headed s parts ≡ take stop.place parts
   pub fault : headings_fault s parts ≡ Some (record { code = stop.code; at = stop.at })
 
 abbrev pub AddsHeadings : Option Stop → Scope → Always → List Part → Type 0
 AddsHeadings None s new parts = AddedHeadings s new parts
-AddsHeadings (Some stop) s new parts = IsStop s stop parts
+AddsHeadings (Some stop) s new parts = IsHeadingStop s stop parts

@@ -6,7 +6,7 @@ ghost use Rattle.names_rules.specs.Answers.{Demands, Stops};
 ghost use Rattle.expand_documents.specs.Faults.{laid_fault, parts_fault, part_name};
 ghost use Rattle.expand_documents.specs.Cores.{declared_scope};
 ghost use Rattle.expand_documents.specs.AlwaysNames.{AreSound, VariablesHaveSlots, definition_scope};
-ghost use Rattle.expand_declarations.specs.Slots.{DeclaredNear, IsWhole, document_slots, past_part};
+ghost use Rattle.expand_declarations.specs.Slots.{DeclaredNear, IsWholeLayout, document_slots, past_part};
 ghost use Rattle.quantified_assign.specs.Bodies.{AddsBodies};
 ghost use Rattle.quantified_assign.specs.Expanding as spec;
 
@@ -134,7 +134,7 @@ fn add_laid<'a>(
     programs: &mut Seq<CProgram>,
     proofs: &mut Seq<CProof>,
 ) -> Result<(), NameFault>
-    requires whole { IsWhole words.now layout.now parts.now }
+    requires whole { IsWholeLayout words.now layout.now parts.now }
     requires first { programs.old ≡ [] }
     requires none { proofs.old ≡ [] }
     ensures { spec.MakesBodies result words.now (declared_scope parts.now)
@@ -151,7 +151,7 @@ fn laid_contents<'a>(
     words: &WordTable<'a>,
     layout: Layout<'a>,
 ) -> Result<Contents, NameFault>
-    requires { IsWhole words.now layout parts.now }
+    requires { IsWholeLayout words.now layout parts.now }
     ensures { spec.HoldsContents result words.now parts.now (laid_fault words.now parts.now) }
 {
     let mut programs = Seq::new(alloc);

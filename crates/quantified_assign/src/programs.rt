@@ -41,7 +41,7 @@ pub struct Sections<'p> {
 
 // A formula that stands by itself, unless it is too large, or else an end of a range or a divisor in it is bad.
 fn settled(alloc: Global, t: TruthCore, front: u64) -> Result<CForm, NameFault>
-    requires { spec.IsSettled t }
+    requires { spec.IsLightTruth t }
     ensures { spec.SettlesForm result t front }
 {
     if is_too_large(t.constant, t.measure) {

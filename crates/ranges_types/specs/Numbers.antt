@@ -44,9 +44,9 @@ abbrev pub are_small : Words → Bool
 are_small words = list_all (λ w. is_small w.1) words
 
 -- the same of the meaning of a word, where there is one
-abbrev pub IsSmall : Option Meaning → Type 0
-IsSmall None = Unit {0}
-IsSmall (Some meaning) = is_small meaning ≡ true
+abbrev pub MeaningIsSmall : Option Meaning → Type 0
+MeaningIsSmall None = Unit {0}
+MeaningIsSmall (Some meaning) = is_small meaning ≡ true
 
 -- these are the places of a kind, so few that a call may answer each number
 pub record ArePlaces (kind : NameKind) (found : List ℕ) (words : Words) : Type 0 where

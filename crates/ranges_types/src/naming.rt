@@ -4,7 +4,7 @@ ghost use Rattle.std.specs.Prelude.{◌≡◌, ◌<◌, ◌^◌, length};
 ghost use Rattle.std.specs.Option.{option_and_then};
 ghost use Rattle.names_rules.specs.WellNamed.{always_place, bound_place, program_place, variable_place};
 ghost use Rattle.names_rules.specs.WellNamed.{meaning_at, number_among, number_at, param_number, value_number};
-ghost use Rattle.ranges_types.specs.Numbers.{IsSmall, place_of};
+ghost use Rattle.ranges_types.specs.Numbers.{MeaningIsSmall, place_of};
 ghost use Rattle.ranges_types.specs.Tables.{Checks};
 
 use crate::checking::check_words;
@@ -56,7 +56,7 @@ impl Names {
     /// What the word at a place means.
     fn meaning(&self, at: u64) -> Option<Meaning>
         ensures meaning { result ≡ meaning_at self.now at }
-        ensures small { IsSmall result }
+        ensures small { MeaningIsSmall result }
     {
         self.index.meanings.get(&at).copied()
     }

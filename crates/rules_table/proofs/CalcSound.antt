@@ -41,7 +41,7 @@ use Rattle.rules_table.proofs.SiteLaws.{met, meets_means}
 use Rattle.rules_table.proofs.TextSound.{given}
 use Rattle.rules_table.specs.Forms.{imply}
 use Rattle.rules_table.specs.Limits.{fits}
-use Rattle.rules_table.specs.Sound.{IsSite, AreClosed, IsPremise, StandsWhereValid, WeakenSound, PairSound}
+use Rattle.rules_table.specs.Sound.{IsSite, NameNoParameter, IsPremise, StandsWhereValid, WeakenSound, PairSound}
 use Rattle.rules_table.specs.Sound.{InstanceSound}
 use Rattle.rules_table.specs.Table.{weaken_of, pair_of, Site, needs, under_with, record_of, concluded, is_unless}
 use Rattle.rules_table.specs.Table.{is_ensures, paired, ends_of_both, ends_of_either, is_slot, lies_in, is_argument}
@@ -63,27 +63,27 @@ at_numbers site a premise e inside = premise.stands e (subst (λ rs. IsTrue (are
     inside)
 
 -- the conclusion's states are the premises' states
-pub of_first : (site : Site) → AreClosed site.using → (one two : List CForm) →
+pub of_first : (site : Site) → NameNoParameter site.using → (one two : List CForm) →
     Implies (meets site.slots (under_with site (one ++ two))) (meets site.slots one)
 of_first site closed one two s h =
     let here = meets_means site closed (one ++ two) s h in
     both_true (is_state (slot_ranges site.slots) s) (list_all (λ f. form_value s [] f) one) here.state
     (all_append (λ f. form_value s [] f) one two here.parts).0
 
-pub of_second : (site : Site) → AreClosed site.using → (one two : List CForm) →
+pub of_second : (site : Site) → NameNoParameter site.using → (one two : List CForm) →
     Implies (meets site.slots (under_with site (one ++ two))) (meets site.slots two)
 of_second site closed one two s h =
     let here = meets_means site closed (one ++ two) s h in
     both_true (is_state (slot_ranges site.slots) s) (list_all (λ f. form_value s [] f) two) here.state
     (all_append (λ f. form_value s [] f) one two here.parts).1
 
-pub of_both : (site : Site) → AreClosed site.using → (one two : List CForm) →
+pub of_both : (site : Site) → NameNoParameter site.using → (one two : List CForm) →
     Implies (meets site.slots (under_with site (one ++ two)))
     (both_hold (meets site.slots one) (meets site.slots two))
 of_both site closed one two s h = both_true (meets site.slots one s) (meets site.slots two s)
     (of_first site closed one two s h) (of_second site closed one two s h)
 
-pub of_one : (site : Site) → AreClosed site.using → (one : List CForm) →
+pub of_one : (site : Site) → NameNoParameter site.using → (one : List CForm) →
     Implies (meets site.slots (under_with site one)) (meets site.slots one)
 of_one site closed one s h =
     let here = meets_means site closed one s h in

@@ -35,7 +35,8 @@ use Rattle.rules_table.proofs.SiteLaws.{met}
 use Rattle.rules_table.proofs.TextSound.{given}
 use Rattle.rules_table.specs.Further.{is_leadsto, record_within, derived, complete_of, ends_on, first_side}
 use Rattle.rules_table.specs.Further.{lead_cancel_of, until_of, detects_of, constant_of, pair_by}
-use Rattle.rules_table.specs.Sound.{IsSite, AreClosed, IsPremise, StandsWhereValid, CompleteSound, LeadCancelSound}
+use Rattle.rules_table.specs.Sound.{IsSite, NameNoParameter, IsPremise, StandsWhereValid, CompleteSound}
+use Rattle.rules_table.specs.Sound.{LeadCancelSound}
 use Rattle.rules_table.specs.Sound.{IsSoundOfTwo, UntilSound, DetectsSound, ConstantSound}
 use Rattle.rules_table.specs.Table.{Site, needs, under_with, concluded, is_unless, is_invariant}
 
@@ -140,7 +141,7 @@ module _ (site : Site) (u : Test) (e : List ℤ) where
       (subst (λ f. LeadsStands x u (holding e a.p) f a.bound) (test_sides e a.q b.p alike) one) two)
 
 -- each record's states are among those of the conclusion
-of_four : (site : Site) → AreClosed site.using → (a b c d : List CForm) →
+of_four : (site : Site) → NameNoParameter site.using → (a b c d : List CForm) →
     Implies (meets site.slots (under_with site ((a ++ b) ++ (c ++ d)))) (meets site.slots a) ×
     Implies (meets site.slots (under_with site ((a ++ b) ++ (c ++ d)))) (meets site.slots b) ×
     Implies (meets site.slots (under_with site ((a ++ b) ++ (c ++ d)))) (meets site.slots c) ×

@@ -25,7 +25,7 @@ use Rattle.core_terms.proofs.FrameLaws.{named_form, named_term}
 use Rattle.core_terms.proofs.SameLaws.{same_form_is}
 use Rattle.layer_laws.specs.Layers.{IsOver}
 use Rattle.layer_laws.specs.Resets.{reset, old_writes}
-use Rattle.layer_laws.specs.Writing.{Writing, act_of, writing, Extends}
+use Rattle.layer_laws.specs.Writing.{StateWrites, act_of, writing, Extends}
 use Rattle.layer_laws.proofs.WritingTheorems.{writing_layer}
 use Rattle.executor.specs.CoreSystem.{core_system}
 use Rattle.meaning_executions.specs.Counting.{ints_eq}
@@ -283,7 +283,7 @@ module _ (h f : CProgram) where
       go (Some m) z own e = let same : m ≡ n = cc in subst (λ i. IsTrue (new i)) same own
 
 -- a statement as the writes that it makes
-abbrev writing_of : CStmt → Writing
+abbrev writing_of : CStmt → StateWrites
 writing_of t state = core_writes state t
 
 acts_are : (slots : List CSlot) (ts : List CStmt) →
@@ -367,15 +367,16 @@ module _ (slots : List CSlot) (h f : CProgram) (layer : IsProgram slots h) (unde
         below = λ i a b there above origin s defined.
             let x = mapped_at writing_of f.statements i a there in
             let t = mapped_at writing_of h.statements i b above in
-            subst (λ (w : Writing). w (reset (is_new h f) 0 origin s) ≡ old_writes (is_new h f) (b s)) x.2
-            (subst (λ (w : Writing). core_writes (reset (is_new h f) 0 origin s) x.0 ≡ old_writes (is_new h f) (w s))
+            subst (λ (w : StateWrites). w (reset (is_new h f) 0 origin s) ≡ old_writes (is_new h f) (b s)) x.2
+            (subst (λ (w : StateWrites). core_writes (reset (is_new h f) 0 origin s) x.0 ≡
+            old_writes (is_new h f) (w s))
             t.2
             (below_at i x.0 t.0 x.1 t.1 origin s
-            (subst (λ (w : Writing). IsTrue (is_defined (slot_ranges slots) (w s))) (sym t.2) defined)));
+            (subst (λ (w : StateWrites). IsTrue (is_defined (slot_ranges slots) (w s))) (sym t.2) defined)));
         beside = λ i b far above s place n w at named.
             let t = mapped_at writing_of h.statements i b above in
             beside_at i t.0 (omega (arith, far, one)) t.1 s place n w
-            (subst (λ (v : Writing). slice_get (v s) place ≡ Some w) (sym t.2) at) named;
+            (subst (λ (v : StateWrites). slice_get (v s) place ≡ Some w) (sym t.2) at) named;
       }
 
   is_over : IsOver (core_system slots h) (core_system slots f) (reset (is_new h f) 0)

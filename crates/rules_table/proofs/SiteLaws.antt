@@ -24,7 +24,7 @@ use Rattle.rules_table.proofs.EachLaws.{from_all, each_at}
 use Rattle.rules_table.specs.Forms.{imply}
 use Rattle.rules_table.specs.Limits.{fits, is_provable}
 use Rattle.wp_substitution.specs.Preconditions.{defined_form, wp_form}
-use Rattle.rules_table.specs.Sound.{IsSite, NamesNoParameter, AreClosed}
+use Rattle.rules_table.specs.Sound.{IsSite, NamesNoParameter, NameNoParameter}
 use Rattle.rules_table.specs.Table.{Site, needs, go_on, with_each, under_with, goals_of, concluded, kept_form}
 use Rattle.rules_table.specs.Validity.{IsValid, AllValid}
 use Rattle.meaning_states.proofs.StepTheorems.{and_left, and_right, both_true}
@@ -127,7 +127,7 @@ closed_value s e f closed = form_frame s e [] f (λ n t. absurd (none n t))
     none : (n : ℕ) → IsTrue (names_param n f) → ⊥
     none n t = let no = closed n in cc
 
-pub closed_all : (s e : List ℤ) (fs : List CForm) → AreClosed fs → IsTrue (list_all (λ f. form_value s [] f) fs) →
+pub closed_all : (s e : List ℤ) (fs : List CForm) → NameNoParameter fs → IsTrue (list_all (λ f. form_value s [] f) fs) →
     IsTrue (list_all (λ f. form_value s e f) fs)
 closed_all s e [] closed h = refl
 closed_all s e (f ∷ fs) closed h =
@@ -141,7 +141,7 @@ pub record Met (site : Site) (more : List CForm) (s : State) : Type 0 where
   pub using : (e : List ℤ) → IsTrue (list_all (λ f. form_value s e f) site.using)
   pub parts : IsTrue (list_all (λ f. form_value s [] f) more)
 
-pub meets_means : (site : Site) → AreClosed site.using → (more : List CForm) (s : State) →
+pub meets_means : (site : Site) → NameNoParameter site.using → (more : List CForm) (s : State) →
     IsTrue (meets site.slots (under_with site more) s) → Met site more s
 meets_means site closed more s h =
     let all = all_of_each (λ f. form_value s [] f) [] (site.using ++ more)

@@ -48,7 +48,8 @@ use Rattle.rules_table.specs.Table.{is_part_pair, fixed_forms, fixed_of}
 use Rattle.rules_table.specs.Table.{union_defined_of, union_invariant_of, union_unless_of, union_ensures_of}
 use Rattle.rules_table.specs.Table.{instance_of}
 use Rattle.rules_table.specs.Terms.{known, found, referred, term_of, all_ranges, leads_record, derive_of}
-use Rattle.rules_table.specs.Sound.{NamesNoParameter, AreClosed, NamesBelow, AreFull, IsSite, IsPremise, BookStands}
+use Rattle.rules_table.specs.Sound.{NamesNoParameter, NameNoParameter, NamesBelow, AreFull, IsSite, IsPremise}
+use Rattle.rules_table.specs.Sound.{BookStands}
 use Rattle.rules_table.specs.Sound.{IsUnionOf}
 use Rattle.rules_table.specs.Sound.{IsPartPremise, HoldThroughout}
 use Rattle.rules_table.specs.Further.{is_leadsto, record_within, complete_of, pair_by}
@@ -98,7 +99,7 @@ made_of site kind p q more helper bound = record (record_of site kind p q more h
 pub record Settled (site : Site) (kind : Kind) (r : Record) : Type 0 where
   pub stands : Stands site.slots site.program r
   pub under : IsInvariant (core_system site.slots site.program) (meets site.slots r.under)
-  pub closed : AreClosed r.under
+  pub closed : NameNoParameter r.under
   pub params : r.params ≡ site.params
   pub program : r.program ≡ site.program.name
   pub kind_is : r.kind ≡ kind
@@ -112,7 +113,7 @@ settled site good using kind p q more helper bound holds r is stands = record {
   under = subst (λ (m : Record). IsInvariant (core_system site.slots site.program) (meets site.slots m.under))
       (sym is)
       (under_holds site good more using holds.throughout);
-  closed = subst (λ (m : Record). AreClosed m.under) (sym is)
+  closed = subst (λ (m : Record). NameNoParameter m.under) (sym is)
       (each_closed [] (site.using ++ more) tt (both_closed site.using more good.closed holds.closed));
   params = ap (λ (m : Record). m.params) is;
   program = ap (λ (m : Record). m.program) is;
@@ -132,7 +133,7 @@ settled_by site good using kind p q more helper bound holds answer ranges forms 
 -- what is known of each record of the book
 pub record RecordGood (slots : List CSlot) (programs : List CProgram) (a : Record) : Type 0 where
   pub kept : (c : CProgram) → find (λ b. nat_eq b.name a.program) programs ≡ Some c → IsKept slots c a
-  pub closed : AreClosed a.under
+  pub closed : NameNoParameter a.under
   pub fits : KindFits a.kind a.params a.p a.q
   pub names : NamesBelow (length a.params) a.p
 
@@ -169,7 +170,7 @@ full_ranges [] each = tt
 full_ranges (r ∷ rs) each = (le_passes r.lo r.hi each.0.some, full_ranges rs each.1)
 
 -- a premise under the step's own name stands as it did, where U holds too
-again_kind : (site : Site) → AreClosed site.using → (a : Record) (e : List ℤ) → (k : Kind) → IsTrue (has_end k) →
+again_kind : (site : Site) → NameNoParameter site.using → (a : Record) (e : List ℤ) → (k : Kind) → IsTrue (has_end k) →
     KindStands k site.slots site.program a e →
     KindStands k site.slots site.program (record_of site k a.p a.q a.under a.helper) e
 again_kind site closed a e Kind.Unless ends stands =
@@ -451,7 +452,7 @@ module _ (seen : Around) (c : CProgram) (named : find (λ b. nat_eq b.name c.nam
     -- the instance of a record of a part
     part_good : (part : ℕ) (f : CProgram) → find (λ b. nat_eq b.name part) programs ≡ Some f →
         (serves : Kind → Bool) (r : Ref) (b : Record) → part_record site book (Some part) serves r ≡ Ok b →
-        IsTrue (serves b.kind) × IsPartPremise site f b × AreClosed b.under
+        IsTrue (serves b.kind) × IsPartPremise site f b × NameNoParameter b.under
     unfolding instance_of
     part_good part f there serves r b e =
         let one = went_on (found book r) (λ a. needs (nat_eq a.program part) Code.OtherProgram
@@ -472,14 +473,15 @@ module _ (seen : Around) (c : CProgram) (named : find (λ b. nat_eq b.name c.nam
                 instance_sound (record site { program = f }) step.params a r.args b kept.stands three.1 n
                 (subst (λ rs. IsTrue (are_in_ranges rs n)) params inside);
           },
-          subst (λ (m : Record). AreClosed m.under) is.1 known.closed,
+          subst (λ (m : Record). NameNoParameter m.under) is.1 known.closed,
         )
 
     full : AreFull step.params
     full = full_ranges step.params (from_all IsRange step.params fits.params)
 
     -- what a union's record stands under
-    union_under : (a b : Record) → AreClosed a.under → AreClosed b.under → (made : Record) → (y : Conclusion) →
+    union_under : (a b : Record) → NameNoParameter a.under → NameNoParameter b.under → (made : Record) →
+        (y : Conclusion) →
         y ≡ (record { made = made; goals = goals_of step.params (shown_forms site a b) }) → AllValid slots y.goals →
         Holding site (a.under ++ b.under)
     union_under a b ca cb made y is valid =
@@ -491,8 +493,8 @@ module _ (seen : Around) (c : CProgram) (named : find (λ b. nat_eq b.name c.nam
         }
 
     -- a rule of unions, by what it gives
-    union_settled : (kind : Kind) (p q : CForm) (helper : Option Helper) (a b : Record) → AreClosed a.under →
-        AreClosed b.under → (answer : Result Conclusion Code) →
+    union_settled : (kind : Kind) (p q : CForm) (helper : Option Helper) (a b : Record) → NameNoParameter a.under →
+        NameNoParameter b.under → (answer : Result Conclusion Code) →
         Gives answer step.params (made_of site kind p q (a.under ++ b.under) helper 0) (shown_forms site a b) →
         (y : Conclusion) → answer ≡ Ok y → AllValid slots y.goals → Stands slots c y.made → Settled site kind y.made
     union_settled kind p q helper a b ca cb answer gives y e valid stands =
@@ -502,7 +504,8 @@ module _ (seen : Around) (c : CProgram) (named : find (λ b. nat_eq b.name c.nam
 
     united_case : (f g : CProgram) → IsUnionOf site f g → (a b : Record) → IsPartPremise site f a → IsPartPremise site g
         b →
-        AreClosed a.under → AreClosed b.under → (k : Kind) → (y : Conclusion) → united seen.starts site k a b ≡ Ok y →
+        NameNoParameter a.under → NameNoParameter b.under → (k : Kind) → (y : Conclusion) →
+        united seen.starts site k a b ≡ Ok y →
         AllValid slots y.goals → Settled site k y.made
     unfolding union_defined_of union_invariant_of union_unless_of union_ensures_of
     united_case f g parts a b pa pb ca cb Kind.Defined y e valid =
@@ -572,7 +575,7 @@ module _ (seen : Around) (c : CProgram) (named : find (λ b. nat_eq b.name c.nam
     -- the instance of a record of another program
     other_good : (f : CProgram) → (serves : Kind → Bool) (r : Ref) (b : Record) → OfOther site book serves r b →
         program_of programs b.program ≡ Some f →
-        IsPartPremise site f b × AreClosed b.under × IsInvariant (core_system slots f) (meets slots b.under)
+        IsPartPremise site f b × NameNoParameter b.under × IsInvariant (core_system slots f) (meets slots b.under)
     unfolding instance_of
     other_good f serves r b other there =
         let a : Record = other.a in
@@ -586,13 +589,13 @@ module _ (seen : Around) (c : CProgram) (named : find (λ b. nat_eq b.name c.nam
                 instance_sound (record site { program = f }) step.params a r.args b kept.stands other.gives n
                 (subst (λ rs. IsTrue (are_in_ranges rs n)) params inside);
           },
-          subst (λ (m : Record). AreClosed m.under) is.1 known.closed,
+          subst (λ (m : Record). NameNoParameter m.under) is.1 known.closed,
           subst (λ (m : Record). IsInvariant (core_system slots f) (meets slots m.under)) is.1 kept.under,
         )
 
     -- what the layer's record gives is kept
     superpose_settled : IsProgram slots c → (f : CProgram) → IsProgram slots f → (a : Record) → IsPartPremise site f a →
-        AreClosed a.under → IsInvariant (core_system slots f) (meets slots a.under) → (y : Conclusion) →
+        NameNoParameter a.under → IsInvariant (core_system slots f) (meets slots a.under) → (y : Conclusion) →
         superpose_of site f a ≡ Ok y → AllValid slots y.goals → Settled site a.kind y.made
     unfolding superpose_of
     superpose_settled layer f under a premise closed always y e valid =
@@ -677,7 +680,7 @@ fits_as k l ps qs p q f g i j m n fits =
 module _ (seen : Around) (c : CProgram) (named : find (λ b. nat_eq b.name c.name) seen.programs ≡ Some c)
     (book : List Record) (goods : Each (RecordGood seen.slots seen.programs) book) (step : CStep)
     (fits : IsStep seen.slots step) (all : Each (IsProgram seen.slots) seen.programs)
-    (site_good : (using : List CForm) → AreClosed using → IsSite (step_site seen.slots c step using))
+    (site_good : (using : List CForm) → NameNoParameter using → IsSite (step_site seen.slots c step using))
     (parts : (using : List CForm) (good : IsSite (step_site seen.slots c step using))
     (holds : HoldThroughout (step_site seen.slots c step using) using) →
     PartsAre seen c named book goods step fits using good holds c.parts) where

@@ -19,20 +19,20 @@ use Rattle.rules_table.specs.Table.{Site, needs, go_on, with_each, is_unless}
 use Rattle.rules_table.specs.Terms.{Ask, referred, leads, node, leads_from, leads_by, leads_on, leads_either}
 use Rattle.rules_table.specs.Terms.{leads_any, at_measure, below_measure, leads_down, leads_safely, leads_weaker}
 use Rattle.rules_table.specs.Terms.{term_step, term_of}
-use Rattle.rules_table.specs.Sound.{AreClosed, HoldThroughout}
+use Rattle.rules_table.specs.Sound.{NameNoParameter, HoldThroughout}
 use Rattle.rules_table.proofs.FormLaws.{all_join}
 use Rattle.rules_table.proofs.SiteLaws.{met, went_on}
 use Rattle.rules_table.proofs.TermSound.{node_is}
 
 -- formulas that name no parameter and hold at every state of every execution
 pub record Holding (site : Site) (fs : List CForm) : Type 0 where
-  pub closed : AreClosed fs
+  pub closed : NameNoParameter fs
   pub throughout : HoldThroughout site fs
 
 pub none_holding : (site : Site) → Holding site []
 none_holding site = record { closed = tt; throughout = λ first choices later run place s there. refl }
 
-pub both_closed : (fs gs : List CForm) → AreClosed fs → AreClosed gs → AreClosed (fs ++ gs)
+pub both_closed : (fs gs : List CForm) → NameNoParameter fs → NameNoParameter gs → NameNoParameter (fs ++ gs)
 both_closed [] gs h k = k
 both_closed (f ∷ fs) gs h k = (h.0, both_closed fs gs h.1 k)
 
@@ -45,13 +45,14 @@ both_holding site fs gs one two = record {
 }
 
 -- so do formulas each once
-one_closed : (seen : List CForm) (f : CForm) (fs : List CForm) → AreClosed seen → AreClosed (f ∷ []) →
-    ((more : List CForm) → AreClosed more → AreClosed (with_each more fs)) →
-    (b : Bool) → AreClosed (with_each (cond b seen (seen ++ (f ∷ []))) fs)
+one_closed : (seen : List CForm) (f : CForm) (fs : List CForm) → NameNoParameter seen → NameNoParameter (f ∷ []) →
+    ((more : List CForm) → NameNoParameter more → NameNoParameter (with_each more fs)) →
+    (b : Bool) → NameNoParameter (with_each (cond b seen (seen ++ (f ∷ []))) fs)
 one_closed seen f fs h k rest true = rest seen h
 one_closed seen f fs h k rest false = rest (seen ++ (f ∷ [])) (both_closed seen (f ∷ []) h k)
 
-pub each_closed : (seen fs : List CForm) → AreClosed seen → AreClosed fs → AreClosed (with_each seen fs)
+pub each_closed : (seen fs : List CForm) → NameNoParameter seen → NameNoParameter fs →
+    NameNoParameter (with_each seen fs)
 each_closed seen [] h k = h
 each_closed seen (f ∷ fs) h k =
     one_closed seen f fs h (k.0, tt) (λ more i. each_closed more fs i k.1) (list_any (same_form f) seen)

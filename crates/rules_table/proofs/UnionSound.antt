@@ -36,7 +36,8 @@ use Rattle.rules_table.proofs.TextSound.{given}
 use Rattle.rules_table.specs.Conclusion.{Conclusion}
 use Rattle.rules_table.specs.Forms.{imply}
 use Rattle.core_terms.specs.Steps.{core_writes}
-use Rattle.rules_table.specs.Sound.{IsPartPremise, UnionDefinedSound, UnionInvariantSound, IsSite, IsUnionOf, AreClosed}
+use Rattle.rules_table.specs.Sound.{IsPartPremise, UnionDefinedSound, UnionInvariantSound, IsSite, IsUnionOf}
+use Rattle.rules_table.specs.Sound.{NameNoParameter}
 use Rattle.rules_table.specs.Sound.{UnionUnlessSound, UnionEnsuresSound, UnderHolds, UnionShows}
 use Rattle.rules_table.specs.Table.{union_unless_of, union_defined_of, union_invariant_of, union_ensures_of, Site}
 use Rattle.rules_table.specs.Table.{needs, with_each, under_with, record_of, concluded, is_unless, is_ensures}
@@ -390,7 +391,7 @@ under_holds site good more using premises first choices later run place s there 
     (all_join (λ f. form_value s [] f) site.using more (using first choices later run place s there)
     (premises first choices later run place s there)))
 
-shown_all : (site : Site) (e : List ℤ) → IsTrue (are_in_ranges site.params e) → (fs : List CForm) → AreClosed fs →
+shown_all : (site : Site) (e : List ℤ) → IsTrue (are_in_ranges site.params e) → (fs : List CForm) → NameNoParameter fs →
     AreValid site.slots site.params (map (imply site.using) fs) →
     (s : State) → IsTrue (is_state (slot_ranges site.slots) s) →
     IsTrue (list_all (λ f. form_value s e f) site.using) → IsTrue (list_all (λ f. form_value s [] f) fs)

@@ -30,7 +30,7 @@ use Rattle.fair_rounds.proofs.RecordTheorems.{defined_kept, kept_holds}
 use Rattle.rules_table.specs.Conclusion.{Conclusion}
 use Rattle.rules_table.specs.Validity.{Goal, AllValid}
 use Rattle.rules_table.specs.Table.{needs, is_defined}
-use Rattle.rules_table.specs.Sound.{AreClosed, IsSite, HoldThroughout}
+use Rattle.rules_table.specs.Sound.{NameNoParameter, IsSite, HoldThroughout}
 use Rattle.rules_table.specs.Walk.{Around, Plan, Failure, around_of, has_defined, or_failure, further, rule_of, planned}
 use Rattle.rules_table.specs.Walk.{steps_of, proof_end, program_of, proof_steps, proofs_of, walk_of, step_site}
 use Rattle.rules_table.specs.WalkLaws.{WalkSound, StandsOver, LayersStand}
@@ -161,7 +161,7 @@ module _ (d : CDocument) (is : IsCoreDocument d) (starts : CProgram → Bool) wh
     named_c : program_of d.programs c.name ≡ Some c
     named_c = named_found d.programs is.program_names place c there
 
-    site_good : (step : CStep) (using : List CForm) → AreClosed using → IsSite (step_site d.slots c step using)
+    site_good : (step : CStep) (using : List CForm) → NameNoParameter using → IsSite (step_site d.slots c step using)
     site_good step using closed = record {
       closed = closed;
       initially = closed_form d.slots c.initially program_is.initially;

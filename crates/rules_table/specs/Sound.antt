@@ -36,13 +36,13 @@ use Rattle.std.specs.List.{list_all}
 abbrev pub NamesNoParameter : CForm → Type 0
 NamesNoParameter f = (n : ℕ) → names_param n f ≡ false
 
-abbrev pub AreClosed : List CForm → Type 0
-AreClosed [] = Unit {0}
-AreClosed (f ∷ fs) = NamesNoParameter f × AreClosed fs
+abbrev pub NameNoParameter : List CForm → Type 0
+NameNoParameter [] = Unit {0}
+NameNoParameter (f ∷ fs) = NamesNoParameter f × NameNoParameter fs
 
 -- what the conditions of a rule call give
 pub record IsSite (site : Site) : Type 0 where
-  pub closed : AreClosed site.using
+  pub closed : NameNoParameter site.using
   pub initially : NamesNoParameter site.program.initially
   -- ranges are not empty, so there is a state
   pub state : State
@@ -186,7 +186,7 @@ UnderHolds = (site : Site) → IsSite site → (more : List CForm) → HoldThrou
 -- a union's obligations show that its parts' `under` holds throughout the union
 abbrev pub UnionShows : Type 0
 UnionShows = (site : Site) → IsSite site → (e : List ℤ) → IsTrue (are_in_ranges site.params e) → (a b : Record) →
-    AreClosed (a.under ++ b.under) →
+    NameNoParameter (a.under ++ b.under) →
     HoldThroughout site site.using → AllValid site.slots (goals_of site.params (shown_forms site a b)) →
     HoldThroughout site (a.under ++ b.under)
 

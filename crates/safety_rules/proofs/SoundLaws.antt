@@ -11,7 +11,7 @@ use Rattle.obligations.specs.Opening.{Valid}
 use Rattle.fair_rounds.specs.declared.records.Record.{Record}
 use Rattle.rules_table.specs.Conclusion.{Conclusion}
 use Rattle.rules_table.specs.Validity.{Goal, goal_obligation, AllValid}
-use Rattle.rules_table.specs.Sound.{AreClosed, IsSite, IsPremise}
+use Rattle.rules_table.specs.Sound.{NameNoParameter, IsSite, IsPremise}
 use Rattle.rules_table.proofs.EachLaws.{from_all}
 use Rattle.rules_table.proofs.GoalLaws.{goal_shown}
 use Rattle.rules_table.proofs.NamedLaws.{closed_form}
@@ -22,7 +22,7 @@ use Rattle.safety_rules.specs.declared.places.RuleError.{RuleError}
 use Rattle.safety_rules.specs.Answers.{site_of, IsPlace, IsPremiseAt, obligations_of, RuleAnswers}
 use Rattle.safety_rules.specs.Sound.{StandsAt, StandsWhereShown}
 
-all_closed : (slots : List CSlot) (fs : List CForm) → All (FormFits slots []) fs → AreClosed fs
+all_closed : (slots : List CSlot) (fs : List CForm) → All (FormFits slots []) fs → NameNoParameter fs
 all_closed slots [] fits = tt
 all_closed slots (f ∷ fs) fits = (
   closed_form slots f (All-head (FormFits slots []) f fs fits),

@@ -23,7 +23,7 @@ use Rattle.obligations.specs.Closed.{Waits}
 use Rattle.obligations.specs.Scopes.{next_param, scope_of, with_next}
 use Rattle.obligations.specs.Shapes.{shapes, quotients_of}
 use Rattle.obligations.specs.declared.branches.Replaced.{Replaced}
-use Rattle.search_tree.specs.Searching.{Met, Ends, BudgetEnded, TriedShortly, IsClosed, quotients_at, levels_of}
+use Rattle.search_tree.specs.Searching.{Met, Ends, BudgetEnded, TriedShortly, EndsClosed, quotients_at, levels_of}
 use Rattle.certificate_rules.specs.Refutation.{opens, made, allowing}
 use Rattle.linear_prover.specs.Chains.{is_plain_number}
 use Rattle.search_tree.proofs.TreeLaws.{node-stopped, first-stopped, second-ends, quot-ends}
@@ -51,7 +51,7 @@ pub empty-list : {A : Type 0} (xs : List A) → length xs ≤ 0 → xs ≡ []
 empty-list [] h = refl
 empty-list (x ∷ xs) h = absurd (omega arith)
 
-pub kept : (e : Ended) (a b : Branch) → e ≡ Ended.Closed → (IsClosed e → a ≡ b) → a ≡ b
+pub kept : (e : Ended) (a b : Branch) → e ≡ Ended.Closed → (EndsClosed e → a ≡ b) → a ≡ b
 kept Ended.Closed a b q f = f tt
 kept Ended.Stopped a b q f = cc
 kept (Ended.Refuted v) a b q f = cc
@@ -127,7 +127,7 @@ module _ (vs us : List Variable) (k : ℕ) (rs : List Range) (f : CForm) (b : Br
   sides-met y z e values q r = one-met values (subst (Ends vs k (plain_leaves vs k rs (One b)) (One b) y z) q r)
 
   pub sides-second : (x y z w : Trail) (e d : Ended) (c : Branch) → Put x y (Node.Case 1) → e ≡ Ended.Closed → Ends vs
-      k (plain_leaves vs k rs (One b)) (One b) y z e → (IsClosed e → c ≡ b) →
+      k (plain_leaves vs k rs (One b)) (One b) y z e → (EndsClosed e → c ≡ b) →
       Ends vs k (plain_leaves vs k rs (Two c)) (Two c) z w d → Ends vs (suc k) leaves whole x w d
   sides-second x y z w e d c p q r s u =
       second-ends vs k (plain_leaves vs k rs (One b)) (plain_leaves vs k rs (Two b)) whole
@@ -232,7 +232,7 @@ module _ (vs : List Variable) (k : ℕ) (rs : List Range) (place : ℕ) (at : �
   halves-met y z e values q r = added-met vs b (at_most place at) values (subst (Ends vs k (low b) (Low b) y z) q r)
 
   pub halves-second : (x y z w : Trail) (e d : Ended) (c : Branch) → place < length vs → Put x y
-      (Node.Split (place + 1) at) → e ≡ Ended.Closed → Ends vs k (low b) (Low b) y z e → (IsClosed e → c ≡ b) →
+      (Node.Split (place + 1) at) → e ≡ Ended.Closed → Ends vs k (low b) (Low b) y z e → (EndsClosed e → c ≡ b) →
       Ends vs k (high c) (High c) z w d → Ends vs (suc k) (low b + high b) b x w d
   halves-second x y z w e d c i p q r s u =
       second-ends vs k (low b) (high b) b (Low b) (High b) (Node.Split (place + 1) at) refl simple deep

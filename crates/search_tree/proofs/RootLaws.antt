@@ -23,7 +23,7 @@ use Rattle.search_tree.specs.declared.searching.Found.{Found}
 use Rattle.obligations.specs.Certificates.{arity, units}
 use Rattle.search_tree.specs.Left.{left_by, left}
 use Rattle.obligations.specs.Plain.{ranges_of, quotients_in, leaf_units_of, plain_leaves, enough, need_of}
-use Rattle.search_tree.specs.Searching.{Ready, Ends, Met, IsOpen, IsUnfinished, root, SearchAnswers, found_of}
+use Rattle.search_tree.specs.Searching.{Ready, Ends, Met, HasOpenBranch, IsUnfinished, root, SearchAnswers, found_of}
 use Rattle.search_tree.specs.Searching.{quotients_at, room_of, is_found_node}
 use Rattle.search_tree.proofs.SearchLaws.{units-less}
 use Rattle.search_tree.proofs.ShapeLaws.{refused-more}
@@ -75,7 +75,7 @@ left-whole vs (n ∷ ns) (p ∷ ps) e = opened (made vs p n) refl e (left-whole 
 
 unfinished : (vs : List Variable) (ns : List Node) (ps : List OpenBranch) (r : Option (List OpenBranch)) → left vs
     (Some ps)
-    ns ≡ r → IsOpen r → IsUnfinished (walk vs ns ps 0)
+    ns ≡ r → HasOpenBranch r → IsUnfinished (walk vs ns ps 0)
 unfinished vs ns ps None e h = absurd h
 unfinished vs ns ps (Some []) e h = absurd h
 unfinished vs ns ps (Some (q ∷ qs)) e h = subst IsUnfinished (sym (left-walk vs ns ps (q ∷ qs) 0 e)) tt

@@ -30,7 +30,7 @@ use Rattle.obligations.specs.Plain.{first_cut, middle, leaf_units}
 use Rattle.obligations.specs.Scopes.{scope_of}
 use Rattle.obligations.specs.Shapes.{quotients_of}
 use Rattle.obligations.proofs.ScopeLaws.{scope-length}
-use Rattle.search_tree.specs.Searching.{chain_units, quotients_at, room_of, IsOpen, levels_of, Ends, Tried}
+use Rattle.search_tree.specs.Searching.{chain_units, quotients_at, room_of, HasOpenBranch, levels_of, Ends, Tried}
 use Rattle.search_tree.specs.Searching.{TriedShortly}
 use Rattle.search_tree.specs.Searching.{is_found_node}
 
@@ -187,7 +187,7 @@ finished-ends vs k leaves most room b old new Ended.Stopped h fits one t =
     let spare = ap (λ (x : Trail). x.spare) f.1 in
     let more : 1 * room_of vs b ≤ leaves * room_of vs b = mul-le-mul_right (room_of vs b) one in
     record {
-      opened = λ first ps s. subst IsOpen (sym (ap (left vs (Some first)) same ∙ s)) tt;
+      opened = λ first ps s. subst HasOpenBranch (sym (ap (left vs (Some first)) same ∙ s)) tt;
       short = omega (arith, f0, cheap, more, fits);
       last = omega (arith, f0, cheap, spare, fits);
       spent = let u = ap units same in omega (arith, u, spare);

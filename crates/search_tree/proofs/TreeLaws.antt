@@ -12,7 +12,7 @@ use Rattle.search_tree.specs.declared.trail.Ended.{Ended}
 use Rattle.obligations.specs.Certificates.{node_units, units}
 use Rattle.linear_prover.specs.Chains.{is_plain_node}
 use Rattle.search_tree.specs.Left.{left_by, left}
-use Rattle.search_tree.specs.Searching.{quotients_at, room_of, IsOpen, levels_of, Closed, BudgetEnded, Met, Ends}
+use Rattle.search_tree.specs.Searching.{quotients_at, room_of, HasOpenBranch, levels_of, Closed, BudgetEnded, Met, Ends}
 use Rattle.search_tree.specs.Searching.{is_found_node}
 use Rattle.search_tree.proofs.SearchLaws.{units-append, left-append, room-two, room-less, room-quot, all-more}
 use Rattle.search_tree.proofs.SearchLaws.{plain-one}
@@ -27,7 +27,7 @@ node-stopped vs k leaves b old new n one u h e =
     let more : 1 * room_of vs b ≤ leaves * room_of vs b = mul-le-mul_right (room_of vs b) one in
     let room = room-two vs b in
     record {
-      opened = λ first ps s. subst IsOpen (sym (ap (left vs (Some first)) same ∙ s)) tt;
+      opened = λ first ps s. subst HasOpenBranch (sym (ap (left vs (Some first)) same ∙ s)) tt;
       short = omega (arith, u, h, more, room);
       last = omega (arith, u, h, spare, room);
       spent = let w = ap units same in omega (arith, w, spare);

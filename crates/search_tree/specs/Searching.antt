@@ -106,10 +106,10 @@ pub record Ready (vs : List Variable) (k : ℕ) (rs : List Range) (b : Branch) :
   pub fixes : Fixes vs rs b
 
 -- some branch is left
-abbrev pub IsOpen : Option (List OpenBranch) → Type 0
-IsOpen None = ⊥
-IsOpen (Some []) = ⊥
-IsOpen (Some (p ∷ ps)) = Unit {0}
+abbrev pub HasOpenBranch : Option (List OpenBranch) → Type 0
+HasOpenBranch None = ⊥
+HasOpenBranch (Some []) = ⊥
+HasOpenBranch (Some (p ∷ ps)) = Unit {0}
 
 -- how many levels are left where so many are for the plain tree: a closing chain may have 64
 abbrev pub levels_of : ℕ → ℕ
@@ -138,7 +138,7 @@ pub record Closed (vs : List Variable) (k leaves : ℕ) (b : Branch) (old new : 
 -- were not there before.
 pub record BudgetEnded (vs : List Variable) (k leaves : ℕ) (b : Branch) (old new : Trail) : Type 0 where
   pub opened : (first ps : List OpenBranch) → left vs (Some first) old.nodes ≡ Some (allowing (levels_of k) b ∷ ps) →
-      IsOpen (left vs (Some first) new.nodes)
+      HasOpenBranch (left vs (Some first) new.nodes)
   pub short : old.spare + 1 < leaves * room_of vs b
   pub last : new.spare + 1 < room_of vs b
   pub spent : units new.nodes + new.spare ≡ units old.nodes + old.spare
@@ -184,10 +184,10 @@ found_of Ended.Closed nodes = Found.Proved (record { nodes = nodes })
 found_of Ended.Stopped nodes = Found.Budget (record { nodes = nodes })
 found_of (Ended.Refuted values) nodes = Found.Refuted values
 
-abbrev pub IsClosed : Ended → Type 0
-IsClosed Ended.Closed = Unit {0}
-IsClosed Ended.Stopped = ⊥
-IsClosed (Ended.Refuted values) = ⊥
+abbrev pub EndsClosed : Ended → Type 0
+EndsClosed Ended.Closed = Unit {0}
+EndsClosed Ended.Stopped = ⊥
+EndsClosed (Ended.Refuted values) = ⊥
 
 -- a walk leaves some branch
 abbrev pub IsUnfinished : WalkResult → Type 0

@@ -15,7 +15,7 @@ use Rattle.search_tree.specs.declared.trail.Ended.{Ended}
 use Rattle.search_tree.specs.Searching.{Ready, Ends}
 
 -- what a view sees
-pub record Sees (view : View) (vs us : List Variable) (k : ℕ) (rs : List Range) : Type 0 where
+pub record ViewSees (view : View) (vs us : List Variable) (k : ℕ) (rs : List Range) : Type 0 where
   pub variables : view.vs.now ≡ vs
   pub scope : view.scope.now ≡ us
   pub rest : view.rest ≡ k
@@ -28,8 +28,8 @@ pub record IsView (view : View) (b : Branch) : Type 0 where
   pub few : view.rest ≤ 960
 
 -- the branch is ready with the levels that are left
-abbrev pub IsReady : View → Branch → Type 0
-IsReady view b = Ready view.vs.now view.rest view.ranges.now b
+abbrev pub ViewIsReady : View → Branch → Type 0
+ViewIsReady view b = Ready view.vs.now view.rest view.ranges.now b
 
 -- with one more
 abbrev pub IsReadyAbove : View → Branch → Type 0
@@ -53,8 +53,8 @@ leaves_by_halves view b h =
     cut_leaves (plain_leaves view.vs.now view.rest) view.ranges.now b (Some (record { place = h.place; at = h.at }))
 
 -- how the search of a branch ends
-abbrev pub EndsAt : View → Branch → Trail → Trail → Ended → Type 0
-EndsAt view b = Ends view.vs.now view.rest (leaves_at view b) b
+abbrev pub ViewEndsAt : View → Branch → Trail → Trail → Ended → Type 0
+ViewEndsAt view b = Ends view.vs.now view.rest (leaves_at view b) b
 
 -- with one more level, within the units of so many leaves
 abbrev pub EndsAbove : View → ℕ → Branch → Trail → Trail → Ended → Type 0

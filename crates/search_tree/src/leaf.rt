@@ -7,7 +7,7 @@ ghost use Rattle.obligations.specs.Reach.{some_out_of_reach};
 ghost use Rattle.obligations.specs.Scopes as scopes;
 ghost use Rattle.search_tree.specs.Points.{values_in, IsFixing};
 ghost use Rattle.search_tree.specs.Searching.{Ends, EndsLeaf, Finishes};
-ghost use Rattle.search_tree.specs.Views.{IsView, IsReady};
+ghost use Rattle.search_tree.specs.Views.{IsView, ViewIsReady};
 
 use crate::closing::{count_of, numbered};
 use crate::fixing::{Fixing, fixing_of};
@@ -96,7 +96,7 @@ pub fn refute_leaf(
     trail: &mut Trail,
 ) -> Result<Ended, AllocError>
     requires view { IsView view branch.now }
-    requires ready { IsReady view branch.now }
+    requires ready { ViewIsReady view branch.now }
     requires reach { some_out_of_reach branch.now.facts ≡ false }
     requires none { branch.now.waiting ≡ [] }
     requires fixed { first_cut 0 view.ranges.now ≡ None }

@@ -13,7 +13,7 @@ ghost use Rattle.obligations.specs.Settling.{settled, added};
 ghost use Rattle.search_tree.specs.Halves.{half_ranges, half_fact};
 ghost use Rattle.search_tree.specs.Searching.{Ready};
 ghost use Rattle.obligations.specs.Sides.{side_of};
-ghost use Rattle.search_tree.specs.Views.{IsView, IsReady, IsReadyAbove, leaves_at, leaves_above};
+ghost use Rattle.search_tree.specs.Views.{IsView, ViewIsReady, IsReadyAbove, leaves_at, leaves_above};
 ghost use Rattle.search_tree.specs.Views.{leaves_by_quotient, leaves_by_halves};
 
 use crate::closing::some_out_of_reach;
@@ -96,7 +96,7 @@ fn leaves_without(
     requires added { branch.old.added < 960 }
     requires load { (term_load replaced.now.taken.of).own ≤ 2 ^ 66 }
     requires light { (need replaced.now.form).yes ≤ 2 ^ 66 }
-    requires ready { IsReady view
+    requires ready { ViewIsReady view
         (with_quotient (scopes.scope_of view.vs.now branch.old) replaced.now branch.old) }
     ensures leaves { IfOk result (λ n. n ≡ min wanted
         (leaves_at view.entry (with_quotient (scopes.scope_of view.entry.vs.now branch.old) replaced.now branch.old))) }
@@ -122,7 +122,7 @@ fn leaves_of_side(
 ) -> Result<u64, AllocError>
     requires view { IsView view branch.old }
     requires form { (need form.now).yes ≤ 2 ^ 63 }
-    requires ready { IsReady view (settled view.scope.now (side_of side form.now) branch.old) }
+    requires ready { ViewIsReady view (settled view.scope.now (side_of side form.now) branch.old) }
     ensures leaves { IfOk result (λ n. n ≡ min wanted
         (leaves_at view.entry (settled view.entry.scope.now (side_of side form.now) branch.old))) }
     ensures branch { OnOk result (branch.new ≡ branch.old) }
@@ -195,7 +195,7 @@ fn open_some_leaves(
 ) -> Result<u64, AllocError>
     requires view { IsView view branch.old }
     requires wanted { 1 ≤ wanted }
-    requires ready { IsReady view branch.old }
+    requires ready { ViewIsReady view branch.old }
     requires reach { some_out_of_reach branch.old.facts ≡ false }
     ensures leaves { IfOk result (λ n. n ≡ min wanted (leaves_at view.entry branch.old)) }
     ensures branch { OnOk result (branch.new ≡ branch.old) }
@@ -225,7 +225,7 @@ fn some_leaves(
     branch: &mut Branch,
 ) -> Result<u64, AllocError>
     requires view { IsView view branch.old }
-    requires ready { IsReady view branch.old }
+    requires ready { ViewIsReady view branch.old }
     ensures leaves { IfOk result (λ n. n ≡ min wanted (leaves_at view.entry branch.old)) }
     ensures branch { OnOk result (branch.new ≡ branch.old) }
 {

@@ -8,9 +8,9 @@ ghost use Rattle.obligations.specs.Scopes as scopes;
 ghost use Rattle.obligations.specs.Plain.{first_cut, waiting_only, plain_leaves};
 ghost use Rattle.obligations.specs.Quotients.{is_either, with_quotient};
 ghost use Rattle.search_tree.specs.Halves.{half_ranges, half_fact};
-ghost use Rattle.search_tree.specs.Searching.{Ready, Ends, IsClosed};
+ghost use Rattle.search_tree.specs.Searching.{Ready, Ends, EndsClosed};
 ghost use Rattle.obligations.specs.Sides.{side_of};
-ghost use Rattle.search_tree.specs.Views.{IsView, IsReady, IsReadyAbove, EndsAt, EndsAbove, leaves_above};
+ghost use Rattle.search_tree.specs.Views.{IsView, ViewIsReady, IsReadyAbove, ViewEndsAt, EndsAbove, leaves_above};
 ghost use Rattle.search_tree.specs.Views.{leaves_by_quotient, leaves_by_halves};
 
 use crate::closing::try_close;
@@ -43,7 +43,7 @@ fn refute_form(
     ensures ends { IfOk result (EndsAbove view.entry
         (leaves_above view.entry (waiting_only branch.old (form.now ∷ branch.old.waiting)))
         (waiting_only branch.old (form.now ∷ branch.old.waiting)) trail.old trail.new) }
-    ensures branch { IfOk result (λ e. IsClosed e → branch.new ≡ branch.old) }
+    ensures branch { IfOk result (λ e. EndsClosed e → branch.new ≡ branch.old) }
 {
     if !is_either(form) {
         let ended = refute_quot(alloc, view, form, branch, trail)?;
@@ -78,7 +78,7 @@ fn refute_quot(
     ensures ends { IfOk result (EndsAbove view.entry
         (leaves_by_quotient view.entry branch.old form.now)
         (waiting_only branch.old (form.now ∷ branch.old.waiting)) trail.old trail.new) }
-    ensures branch { IfOk result (λ e. IsClosed e → branch.new ≡ branch.old) }
+    ensures branch { IfOk result (λ e. EndsClosed e → branch.new ≡ branch.old) }
 {
     let next = next_param(view.scope) as u32;
     let Some(replaced) = without_quotient(alloc, next, form)? else {
@@ -105,11 +105,11 @@ fn refute_without(
     requires added { branch.old.added < 960 }
     requires load { (term_load replaced.now.taken.of).own ≤ 2 ^ 66 }
     requires light { (need replaced.now.form).yes ≤ 2 ^ 66 }
-    requires ready { IsReady view
+    requires ready { ViewIsReady view
         (with_quotient (scopes.scope_of view.vs.now branch.old) replaced.now branch.old) }
-    ensures ends { IfOk result (EndsAt view.entry
+    ensures ends { IfOk result (ViewEndsAt view.entry
         (with_quotient (scopes.scope_of view.entry.vs.now branch.old) replaced.now branch.old) trail.old trail.new) }
-    ensures branch { IfOk result (λ e. IsClosed e → branch.new ≡ branch.old) }
+    ensures branch { IfOk result (λ e. EndsClosed e → branch.new ≡ branch.old) }
 {
     let mark = mark_of(branch);
     let scope = take_quotient(alloc, view.vs, replaced, branch)?;
@@ -131,10 +131,10 @@ fn refute_side(
 ) -> Result<Ended, AllocError>
     requires view { IsView view branch.old }
     requires form { (need form.now).yes ≤ 2 ^ 63 }
-    requires ready { IsReady view (settled view.scope.now (side_of side form.now) branch.old) }
+    requires ready { ViewIsReady view (settled view.scope.now (side_of side form.now) branch.old) }
     ensures ends { IfOk result
-        (EndsAt view.entry (settled view.entry.scope.now (side_of side form.now) branch.old) trail.old trail.new) }
-    ensures branch { IfOk result (λ e. IsClosed e → branch.new ≡ branch.old) }
+        (ViewEndsAt view.entry (settled view.entry.scope.now (side_of side form.now) branch.old) trail.old trail.new) }
+    ensures branch { IfOk result (λ e. EndsClosed e → branch.new ≡ branch.old) }
 {
     let mark = mark_of(branch);
     settle_side(alloc, view.scope, form, side, branch)?;
@@ -159,7 +159,7 @@ fn refute_halves(
     requires none { branch.old.waiting ≡ [] }
     ensures ends { IfOk result
         (EndsAbove view.entry (leaves_by_halves view.entry branch.old halves) branch.old trail.old trail.new) }
-    ensures branch { IfOk result (λ e. IsClosed e → branch.new ≡ branch.old) }
+    ensures branch { IfOk result (λ e. EndsClosed e → branch.new ≡ branch.old) }
 {
     if !put_node(trail, split_node(halves))? {
         return Ok(Ended::Stopped);
@@ -193,7 +193,7 @@ fn refute_half(
         (plain_leaves view.entry.vs.now view.entry.rest (half_ranges half halves view.entry.ranges.now)
         (added branch.old (half_fact half halves)))
         (added branch.old (half_fact half halves)) trail.old trail.new) }
-    ensures branch { IfOk result (λ e. IsClosed e → branch.new ≡ branch.old) }
+    ensures branch { IfOk result (λ e. EndsClosed e → branch.new ≡ branch.old) }
 {
     let mark = mark_of(branch);
     let ranges = take_half(alloc, view.ranges, halves, half, branch)?;
@@ -211,10 +211,10 @@ fn refute_open(
     trail: &mut Trail,
 ) -> Result<Ended, AllocError>
     requires view { IsView view branch.old }
-    requires ready { IsReady view branch.old }
+    requires ready { ViewIsReady view branch.old }
     requires reach { some_out_of_reach branch.old.facts ≡ false }
-    ensures ends { IfOk result (EndsAt view.entry branch.old trail.old trail.new) }
-    ensures branch { IfOk result (λ e. IsClosed e → branch.new ≡ branch.old) }
+    ensures ends { IfOk result (ViewEndsAt view.entry branch.old trail.old trail.new) }
+    ensures branch { IfOk result (λ e. EndsClosed e → branch.new ≡ branch.old) }
 {
     if branch.waiting.len() > 0 {
         let form = branch.waiting.remove(0);
@@ -241,9 +241,9 @@ pub fn refute(
     trail: &mut Trail,
 ) -> Result<Ended, AllocError>
     requires view { IsView view branch.old }
-    requires ready { IsReady view branch.old }
-    ensures ends { IfOk result (EndsAt view.entry branch.old trail.old trail.new) }
-    ensures branch { IfOk result (λ e. IsClosed e → branch.new ≡ branch.old) }
+    requires ready { ViewIsReady view branch.old }
+    ensures ends { IfOk result (ViewEndsAt view.entry branch.old trail.old trail.new) }
+    ensures branch { IfOk result (λ e. EndsClosed e → branch.new ≡ branch.old) }
 {
     match try_close(alloc, view.scope, branch, trail)? {
         Some(ended) => Ok(ended),

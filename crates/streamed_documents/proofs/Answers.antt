@@ -29,7 +29,7 @@ use Rattle.certificate_reading.proofs.Whole.{are_whole_trees}
 use Rattle.core_terms.specs.declared.documents.CDocument.{CDocument}
 use Rattle.expand_documents.specs.Cores.{core_document}
 use Rattle.event_judge.specs.declared.judge.Judge.{Judge}
-use Rattle.event_judge.specs.Judges.{StandsFor}
+use Rattle.event_judge.specs.Judges.{JudgeStandsFor}
 use Rattle.event_judge.specs.Told.{certs_events}
 use Rattle.front_documents.specs.Laws.{IsCutFront, IsFrontDocument, AreBehind}
 use Rattle.front_documents.proofs.Faults.{sections_complete, section_faults, sections_end_early}
@@ -49,7 +49,7 @@ use Rattle.streamed_documents.specs.Fronts.{HasFront, IsOpening, IsPassage, IsPa
 use Rattle.streamed_documents.specs.Fronts.{IsVerdictBy, section_version, version_behind}
 use Rattle.streamed_documents.specs.Hearing.{Hears, MayHear, IsPendingOn, IsReadyFor}
 use Rattle.streamed_documents.specs.Rests as rests
-use Rattle.streamed_documents.specs.Rests.{IsBehind, IsKept, IsSkimmed}
+use Rattle.streamed_documents.specs.Rests.{IsBehind, IsKeptFlaw, IsSkimmed}
 use Rattle.streamed_documents.proofs.Certificates.{stands_for_section}
 use Rattle.streamed_documents.proofs.Hearings.{hears_none}
 use Rattle.streamed_documents.proofs.Passing.{first_told, told_after, rest_of}
@@ -64,7 +64,7 @@ of_fault limit bytes code at size fault = (size, wells.IsFirstFault.of_text faul
 
 -- bytes that are read as no token
 pub kept_refused : (limit at : ℕ) (bytes rest : List ℕ) (code : Code) (place : ℕ) (flaw : Flaw)
-    → at + length rest ≡ length bytes → FirstBad bytes code place → IsKept limit at rest code place flaw
+    → at + length rest ≡ length bytes → FirstBad bytes code place → IsKeptFlaw limit at rest code place flaw
     → IsRefused limit bytes flaw
 kept_refused limit at bytes rest code place Flaw.TooLong size bad kept = omega (arith, kept, size)
 kept_refused limit at bytes rest code place (Flaw.Fault c p) size bad kept =
@@ -73,16 +73,17 @@ kept_refused limit at bytes rest code place (Flaw.Fault c p) size bad kept =
     (texts.IsFault.no_token bad)))
 
 pub kept_same : (limit at : ℕ) (bytes : List ℕ) (code known : Code) (place other : ℕ) (flaw : Flaw) → code ≡ known
-    → place ≡ other → IsKept limit at bytes code place flaw → IsKept limit at bytes known other flaw
+    → place ≡ other → IsKeptFlaw limit at bytes code place flaw → IsKeptFlaw limit at bytes known other flaw
 kept_same limit at bytes code known place other flaw codes places kept =
-    subst (λ c. IsKept limit at bytes c other flaw) codes (subst (λ p. IsKept limit at bytes code p flaw) places kept)
+    subst (λ c. IsKeptFlaw limit at bytes c other flaw) codes
+    (subst (λ p. IsKeptFlaw limit at bytes code p flaw) places kept)
 
 -- ---- what is pending
 
 -- what is pending on a document, where it was told the document's certificates
 told_on : (section_at : Option ℕ) (d : Document) (old new : Pending) → IsPendingOn section_at [] d old
     → (es all : List CertEvent) → Hears old new es
-    → ((core : CDocument) (judge : Judge) → StandsFor core judge es → StandsFor core judge all)
+    → ((core : CDocument) (judge : Judge) → JudgeStandsFor core judge es → JudgeStandsFor core judge all)
     → IsPendingOn section_at all d new
 told_on section_at d (Pending.Fault code at) new on es all heard told =
     subst (IsPendingOn section_at all d) (sym heard) on
@@ -99,8 +100,8 @@ told_on section_at d (Pending.Judge core judge) new on es all heard told =
 passed_as : (limit : ℕ) (bytes : List ℕ) (d : Document) → length bytes ≤ limit → IsDocument bytes d
     → (old new : Pending) → IsPendingOn (section_place d.certificates) [] d old → (es : List CertEvent)
     → Hears old new es
-    → ((core : CDocument) (judge : Judge) → StandsFor core judge es
-    → StandsFor core judge (certs_events (certificates_of d))) → IsPassed limit bytes new
+    → ((core : CDocument) (judge : Judge) → JudgeStandsFor core judge es
+    → JudgeStandsFor core judge (certs_events (certificates_of d))) → IsPassed limit bytes new
 passed_as limit bytes d size is old new on es heard told = record {
   document = d;
   size = size;
@@ -141,7 +142,7 @@ judged_as limit bytes core judge h (Finding.Judged j) verdict =
       reading = record { is_document = h.is_document; named = h.pending.named; expands = h.pending.expands };
       core_is = verdict.0 ∙ h.pending.core_is;
       verdict_is = verdict.1 (core_document d) (certificates_of d) (are_whole_trees bytes d h.is_document)
-          (subst (λ c. StandsFor c judge (certs_events (certificates_of d))) h.pending.core_is h.pending.stands);
+          (subst (λ c. JudgeStandsFor c judge (certs_events (certificates_of d))) h.pending.core_is h.pending.stands);
     }
 
 fault_passed : (limit : ℕ) (bytes : List ℕ) (code : Code) (at : ℕ) → IsPassed limit bytes (Pending.Fault code at)
@@ -312,7 +313,7 @@ module _ (w : Window) (left : Option (List ℕ)) (bytes : List ℕ) (f : Front) 
     whole_passed pending on heard =
         passed_as w.limit bytes d all.3 whole_document pending pending
         (subst (λ at. IsPendingOn at [] d pending) no_place on) [] heard
-        (λ core judge stands. subst (λ es. StandsFor core judge es) (sym none_told) stands)
+        (λ core judge stands. subst (λ es. JudgeStandsFor core judge es) (sym none_told) stands)
 
 -- ---- what is read behind a front
 
@@ -414,7 +415,7 @@ has_front u w a c bytes f none at p e front = record {
 pub drained_refused : (u w : Window) (a c : Option (List ℕ)) (bytes : List ℕ) (code : Code) (place : ℕ) (flaw : Flaw)
     → held u ≡ [] → u.at ≡ 0 → HasPassed u w a c → a ≡ Some bytes
     → ((bytes : List ℕ) → coming u a ≡ Some bytes → FirstBad bytes code place)
-    → ((rest : List ℕ) → coming w c ≡ Some rest → IsKept w.limit w.at rest code place flaw)
+    → ((rest : List ℕ) → coming w c ≡ Some rest → IsKeptFlaw w.limit w.at rest code place flaw)
     → IsRefused w.limit bytes flaw
 drained_refused u w a c bytes code place flaw none at p e bad kept =
     let told = first_told u a bytes none e in

@@ -11,7 +11,7 @@ use Rattle.certificate_events.specs.Events as written
 use Rattle.certificate_reading.specs.Certificates.{number_of, pair_of, node_of, certificate_of}
 use Rattle.event_checker.specs.Events as checked
 use Rattle.event_judge.specs.declared.judge.Judge.{Judge}
-use Rattle.event_judge.specs.Judges.{Stands, StandsFor}
+use Rattle.event_judge.specs.Judges.{JudgeStands, JudgeStandsFor}
 use Rattle.event_judge.specs.Told.{cert_events, certs_events, told_by, told_more}
 use Rattle.event_checker.proofs.NodeLaws.{events-tell-nodes}
 use Rattle.event_judge.proofs.ToldLaws.{told-last, events-tell-certificates}
@@ -54,5 +54,6 @@ section_told c =
     ∙ sym (events-tell-certificates events-tell-nodes certs)
 
 pub stands_for_section : (d : CDocument) (judge : Judge) (c : Certificates)
-    → StandsFor d judge (written.section_events c) → StandsFor d judge (certs_events (map certificate_of c.items))
-stands_for_section d judge c h = subst (λ t. Stands d judge t) (section_told c) h
+    → JudgeStandsFor d judge (written.section_events c) → JudgeStandsFor d judge
+    (certs_events (map certificate_of c.items))
+stands_for_section d judge c h = subst (λ t. JudgeStands d judge t) (section_told c) h

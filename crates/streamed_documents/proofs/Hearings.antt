@@ -5,7 +5,7 @@ use Rattle.case_tables.specs.declared.code_table.Code.{Code}
 use Rattle.unity_base.specs.declared.events.CertEvent.{CertEvent}
 use Rattle.core_terms.specs.declared.documents.CDocument.{CDocument}
 use Rattle.event_judge.specs.declared.judge.Judge.{Judge}
-use Rattle.event_judge.specs.Judges.{IsReady, StandsFor}
+use Rattle.event_judge.specs.Judges.{JudgeIsReady, JudgeStandsFor}
 use Rattle.streamed_documents.specs.declared.behind.Pending.{Pending}
 use Rattle.streamed_documents.specs.declared.found.ReadDocument.{ReadDocument}
 use Rattle.streamed_documents.specs.declared.fronts.Listener.{Listener}
@@ -17,13 +17,13 @@ hears_none (Pending.Document r) h = refl
 hears_none (Pending.Judge core judge) h = (
   judge,
   refl,
-  record { ready = h; stands = λ d before s. subst (λ es. StandsFor d judge es) (sym (append-nil before)) s },
+  record { ready = h; stands = λ d before s. subst (λ es. JudgeStandsFor d judge es) (sym (append-nil before)) s },
 )
 
 told_on : (i j k : Judge) (es fs : List CertEvent) → ToldMore i j es → ToldMore j k fs → ToldMore i k (es ++ fs)
 told_on i j k es fs m n = record {
   ready = n.ready;
-  stands = λ d before s. subst (λ all. StandsFor d k all) (append_assoc before es fs)
+  stands = λ d before s. subst (λ all. JudgeStandsFor d k all) (append_assoc before es fs)
       (n.stands d (before ++ es) (m.stands d before s));
 }
 
@@ -42,8 +42,9 @@ judge_heard core old new es h = h
 -- a judge that took an event
 pub judge_hears : {E : Type 0} (p : Pending) (core : CDocument) (old new : Judge) (e : CertEvent)
     (result : Result (Unit {0}) E) → p ≡ Pending.Judge core old
-    → OnOk result ((d : CDocument) (es : List CertEvent) → StandsFor d old es → StandsFor d new (es ++ e ∷ []))
-    → OnOk result (IsReady new) → OnOk result (Hears p (Pending.Judge core new) (e ∷ []))
+    → OnOk result ((d : CDocument) (es : List CertEvent) → JudgeStandsFor d old es →
+    JudgeStandsFor d new (es ++ e ∷ []))
+    → OnOk result (JudgeIsReady new) → OnOk result (Hears p (Pending.Judge core new) (e ∷ []))
 judge_hears p core old new e (Ok done) is stands ready =
     subst (λ p. Hears p (Pending.Judge core new) (e ∷ [])) (sym is)
     (new, refl, record { ready = ready; stands = stands })
@@ -87,12 +88,12 @@ ready_may Listener.Nobody (Pending.Judge core judge) h = absurd h
 
 -- a judge that took an event stays one
 pub judge_stays : {E : Type 0} (p : Pending) (core : CDocument) (old new : Judge) (result : Result (Unit {0}) E)
-    → p ≡ Pending.Judge core old → OnOk result (IsReady new) → OnOk result (StaysReady p (Pending.Judge core new))
+    → p ≡ Pending.Judge core old → OnOk result (JudgeIsReady new) → OnOk result (StaysReady p (Pending.Judge core new))
 judge_stays p core old new (Ok done) is ready =
     subst (λ p. StaysReady p (Pending.Judge core new)) (sym is) (new, refl, ready)
 judge_stays p core old new (Err x) is ready = tt
 
 -- what may hear a judge is may be told
 pub ready_of : (p : Pending) (core : CDocument) (judge : Judge) → p ≡ Pending.Judge core judge → MayHear p
-    → IsReady judge
+    → JudgeIsReady judge
 ready_of p core judge is may = subst MayHear is may

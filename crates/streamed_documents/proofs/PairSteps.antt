@@ -11,8 +11,8 @@ use Rattle.certificate_events.specs.declared.reader.Taken.{Taken}
 use Rattle.certificate_events.specs.declared.reader.CertReader.{CertReader}
 use Rattle.certificate_events.specs.Events.{events}
 use Rattle.certificate_events.specs.Pairs.{IsPairOf, TakesPair}
-use Rattle.certificate_events.specs.Sections.{Stands, told}
-use Rattle.front_documents.specs.Laws.{IsOpen}
+use Rattle.certificate_events.specs.Sections.{ReaderStands, told}
+use Rattle.front_documents.specs.Laws.{BeginsSections}
 use Rattle.streamed_documents.specs.declared.behind.Pending.{Pending}
 use Rattle.streamed_documents.specs.Hearing.{Hears, MayHear}
 use Rattle.streamed_documents.specs.Pairs.{HearsMore}
@@ -28,8 +28,8 @@ more_none later w left reader p may bytes e = record {
   tells = [];
   reads = start_reads w.at bytes (coming w left) e;
   takes = λ ts stands opens. record {
-    stands = subst (λ us. Stands later reader us) (sym (append-nil ts)) stands;
-    opens = subst (λ us. IsOpen later us) (sym (append-nil ts)) opens;
+    stands = subst (λ us. ReaderStands later reader us) (sym (append-nil ts)) stands;
+    opens = subst (λ us. BeginsSections later us) (sym (append-nil ts)) opens;
     told_is = ap (told later) (append-nil ts) ∙ sym (append-nil (told later ts));
   };
   heard = hears_none p may;
@@ -40,7 +40,7 @@ pub more_pair : (later : Bool) (w x : Window) (left : Option (List ℕ)) (old ne
     (pair : PairTokens) (e : CertEvent)
     → ((left : Option (List ℕ)) (bytes : List ℕ) → coming w left ≡ Some bytes →
     ReadsPair w.at bytes pair x.at (coming x left))
-    → ((later : Bool) (ts ps : List Token) → IsPairOf pair.by pair.number ps → Stands later old ts →
+    → ((later : Bool) (ts ps : List Token) → IsPairOf pair.by pair.number ps → ReaderStands later old ts →
     TakesPair later new ts ps e)
     → Hears p q (e ∷ []) → HearsMore later w x left old new p q
 more_pair later w x left old new p q pair e reads takes hears bytes told =
@@ -75,8 +75,8 @@ more_then later w x y left r s t p q v first second bytes e =
       takes = λ ts stands opens.
           let a = m.takes ts stands opens in
           let b = n.takes (ts ++ m.tokens) a.stands a.opens in record {
-            stands = subst (λ us. Stands later t us) (append_assoc ts m.tokens n.tokens) b.stands;
-            opens = subst (λ us. IsOpen later us) (append_assoc ts m.tokens n.tokens) b.opens;
+            stands = subst (λ us. ReaderStands later t us) (append_assoc ts m.tokens n.tokens) b.stands;
+            opens = subst (λ us. BeginsSections later us) (append_assoc ts m.tokens n.tokens) b.opens;
             told_is =
                 ap (told later) (sym (append_assoc ts m.tokens n.tokens)) ∙ b.told_is
                 ∙ ap (λ xs. xs ++ n.tells) a.told_is ∙ append_assoc (told later ts) m.tells n.tells;

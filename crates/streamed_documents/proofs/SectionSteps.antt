@@ -18,14 +18,14 @@ use Rattle.unity_lexer.proofs.SomeAnswer.{reads_place}
 use Rattle.certificate_events.specs.declared.reader.Taken.{Taken}
 use Rattle.certificate_events.specs.declared.reader.CertReader.{CertReader}
 use Rattle.certificate_events.specs.Events.{events}
-use Rattle.certificate_events.specs.Sections.{IsSections, Stands, Takes, told}
+use Rattle.certificate_events.specs.Sections.{IsSections, ReaderStands, TokenTakes, told}
 use Rattle.certificate_events.proofs.SectionLaws.{told_by_tokens, events_of_sections}
-use Rattle.front_documents.specs.Laws.{IsOpen}
+use Rattle.front_documents.specs.Laws.{BeginsSections}
 use Rattle.front_documents.proofs.Sections.{goes_on, to_section}
 use Rattle.streamed_documents.specs.declared.behind.Pending.{Pending}
 use Rattle.streamed_documents.specs.declared.found.Flaw.{Flaw}
 use Rattle.streamed_documents.specs.Hearing.{Hears, MayHear}
-use Rattle.streamed_documents.specs.Rests.{IsBehind, IsEnding, IsKept, IsSkimmed, IsAllRead}
+use Rattle.streamed_documents.specs.Rests.{IsBehind, IsSectionEnding, IsKeptFlaw, IsSkimmed, IsAllRead}
 use Rattle.streamed_documents.specs.Rests as rests
 use Rattle.streamed_documents.specs.declared.behind.Step.{Step}
 use Rattle.streamed_documents.specs.Steps.{scan_of, TakesToken, TakesStep}
@@ -38,8 +38,8 @@ pub record Going (later : Bool) (at : ℕ) (bytes : List ℕ) (now : ℕ) (left 
     (old new : Pending) : Type 0 where
   pub tokens : List Token
   pub reads : ReadsTo at bytes tokens now left
-  pub stands : Stands later reader tokens
-  pub opens : IsOpen later tokens
+  pub stands : ReaderStands later reader tokens
+  pub opens : BeginsSections later tokens
   pub heard : Hears old new (events (told later tokens))
 
 -- where the bytes are told
@@ -53,13 +53,13 @@ abbrev some_word : Token
 some_word = record { kind = TokenKind.Reserved Word.Certificates; start = 0; end = 0 }
 
 -- some section begins with no tokens
-pub open_start : (later : Bool) → IsOpen later []
+pub open_start : (later : Bool) → BeginsSections later []
 open_start later =
     let more = goes_on later [] (terminal later [] some_word) [] refl refl in
     (more.0, to_section later [] (terminal later [] some_word) more.0 refl more.1.derives)
 
 open_more : (later : Bool) (ts : List Token) (t : Token) (rest : List Token) → IsSections later (ts ++ t ∷ rest)
-    → IsOpen later (ts ++ t ∷ [])
+    → BeginsSections later (ts ++ t ∷ [])
 open_more later ts t rest s =
     (rest, subst (λ all. IsSections later all) (sym (append_assoc ts (t ∷ []) rest)) s)
 
@@ -69,8 +69,9 @@ IsGood Taken.Nothing = Unit {0}
 IsGood (Taken.Event e) = Unit {0}
 IsGood Taken.Unexpected = ⊥
 
-pub open_then : (later : Bool) (ts : List Token) (t : Token) (taken : Taken) → IsGood taken → Takes later ts t taken
-    → IsOpen later (ts ++ t ∷ [])
+pub open_then : (later : Bool) (ts : List Token) (t : Token) (taken : Taken) → IsGood taken →
+    TokenTakes later ts t taken
+    → BeginsSections later (ts ++ t ∷ [])
 open_then later ts t Taken.Nothing good takes = open_more later ts t takes.0 (takes.1, takes.2)
 open_then later ts t (Taken.Event e) good takes = open_more later ts t takes.0 (takes.1, takes.2)
 open_then later ts t Taken.Unexpected good takes = absurd good
@@ -91,7 +92,7 @@ told_then later ts t taken e = ap events e ∙ events_append (told later ts) (ta
 -- ---- one token
 
 pub going_start : (later : Bool) (w : Window) (a : Option (List ℕ)) (reader : CertReader) (p : Pending)
-    → Stands later reader [] → MayHear p → GoesOn later w a w a reader p p
+    → ReaderStands later reader [] → MayHear p → GoesOn later w a w a reader p p
 going_start later w a reader p stands may bytes e = record {
   tokens = [];
   reads = start_reads w.at bytes (coming w a) e;
@@ -135,10 +136,10 @@ step_rises at now found t taken e rises = subst (λ step. TokenRises at now (sca
 
 -- where no token was taken, the text ends behind those that were
 pub ending_after : (old new : CertReader) (at : ℕ) (flaw : Option Flaw) → new ≡ old
-    → ((later : Bool) (ts : List Token) → Stands later new ts → IsEnding later ts at flaw)
-    → (later : Bool) (ts : List Token) → Stands later old ts → IsEnding later ts at flaw
+    → ((later : Bool) (ts : List Token) → ReaderStands later new ts → IsSectionEnding later ts at flaw)
+    → (later : Bool) (ts : List Token) → ReaderStands later old ts → IsSectionEnding later ts at flaw
 ending_after old new at flaw same ends =
-    subst (λ r. (later : Bool) (ts : List Token) → Stands later r ts → IsEnding later ts at flaw) same ends
+    subst (λ r. (later : Bool) (ts : List Token) → ReaderStands later r ts → IsSectionEnding later ts at flaw) same ends
 
 -- ---- the end of the tokens
 
@@ -146,7 +147,8 @@ module _ (later : Bool) (u w x : Window) (a c d : Option (List ℕ)) (reader : C
     (g : GoesOn later u a w c reader p q) (same : w.limit ≡ u.limit) where
   -- with the text
   pub end_behind : (flaw : Option Flaw) (at : ℕ) → at ≡ x.at → x.limit ≡ u.limit → Scanning w c x d scan.End
-      → ((later : Bool) (ts : List Token) → Stands later reader ts → IsEnding later ts at flaw) → (bytes : List ℕ)
+      → ((later : Bool) (ts : List Token) → ReaderStands later reader ts → IsSectionEnding later ts at flaw) →
+      (bytes : List ℕ)
       → coming u a ≡ Some bytes → IsBehind later u.limit u.at bytes p q flaw
   end_behind flaw at is limit s ends bytes e =
       let now = g bytes e in
@@ -158,7 +160,7 @@ module _ (later : Bool) (u w x : Window) (a c d : Option (List ℕ)) (reader : C
     where
       at_end : (now : Going later u.at bytes w.at (coming w c) reader p q) → u.at + length bytes ≤ u.limit
           → Tokenizes u.at bytes now.tokens (u.at + length bytes) [] → at ≡ u.at + length bytes → (flaw : Option Flaw)
-          → IsEnding later now.tokens at flaw → IsBehind later u.limit u.at bytes p q flaw
+          → IsSectionEnding later now.tokens at flaw → IsBehind later u.limit u.at bytes p q flaw
       at_end now inside reads place None section =
           rests.IsBehind.section now.tokens section.0 inside reads section.1
           (subst (λ es. Hears p q es)
@@ -170,7 +172,7 @@ module _ (later : Bool) (u w x : Window) (a c d : Option (List ℕ)) (reader : C
 
   -- and all was read
   pub end_read : (flaw : Option Flaw) (at : ℕ)
-      → ((later : Bool) (ts : List Token) → Stands later reader ts → IsEnding later ts at flaw)
+      → ((later : Bool) (ts : List Token) → ReaderStands later reader ts → IsSectionEnding later ts at flaw)
       → (held x ≡ []) × IsAtEnd d → IsAllRead u a x d flaw
   end_read None at ends all = all
   end_read (Some (Flaw.Fault code place)) at ends all = all
@@ -185,7 +187,7 @@ module _ (later : Bool) (u w x : Window) (a c d : Option (List ℕ)) (reader : C
   -- where no token can be read
   pub drained_behind : (code : Code) (place : ℕ) (flaw : Flaw) → x.limit ≡ u.limit
       → Scanning w c x d (scan.Fault code place)
-      → ((bytes : List ℕ) → coming x d ≡ Some bytes → IsKept x.limit x.at bytes code place flaw) → (bytes : List ℕ)
+      → ((bytes : List ℕ) → coming x d ≡ Some bytes → IsKeptFlaw x.limit x.at bytes code place flaw) → (bytes : List ℕ)
       → coming u a ≡ Some bytes → IsBehind later u.limit u.at bytes p q (Some flaw)
   drained_behind code place flaw limit s kept bytes e =
       let now = g bytes e in
@@ -196,7 +198,7 @@ module _ (later : Bool) (u w x : Window) (a c d : Option (List ℕ)) (reader : C
       at_flaw : (now : Going later u.at bytes w.at (coming w c) reader p q) (rest : List ℕ)
           → Tokenizes u.at bytes now.tokens place rest → IsFaulty rest code
           → place + length rest ≡ u.at + length bytes → place ≡ x.at → (flaw : Flaw)
-          → IsKept x.limit x.at rest code place flaw → IsBehind later u.limit u.at bytes p q (Some flaw)
+          → IsKeptFlaw x.limit x.at rest code place flaw → IsBehind later u.limit u.at bytes p q (Some flaw)
       at_flaw now rest reads bad size is Flaw.TooLong h =
           rests.IsBehind.too_long (omega (arith, h, size, is, limit))
       at_flaw now rest reads bad size is (Flaw.Fault k n) h =
@@ -219,7 +221,7 @@ module _ (later : Bool) (u w x : Window) (a c d : Option (List ℕ)) (reader : C
 
   -- at a token with which no section goes on
   pub skimmed_behind : (t : Token) (flaw : Flaw) → x.limit ≡ u.limit → Scanning w c x d (scan.Token t)
-      → ((later : Bool) (ts : List Token) → Stands later reader ts → Takes later ts t Taken.Unexpected)
+      → ((later : Bool) (ts : List Token) → ReaderStands later reader ts → TokenTakes later ts t Taken.Unexpected)
       → ((bytes : List ℕ) → coming x d ≡ Some bytes → IsSkimmed x.limit x.at bytes Code.Unexpected t.start flaw)
       → (bytes : List ℕ) → coming u a ≡ Some bytes → IsBehind later u.limit u.at bytes p q (Some flaw)
   skimmed_behind t flaw limit s takes h bytes e =

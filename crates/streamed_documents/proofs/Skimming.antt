@@ -13,7 +13,7 @@ use Rattle.unity_lexer.proofs.ScanSteps.{reads_then}
 use Rattle.unity_lexer.proofs.SomeAnswer.{reads_place}
 use Rattle.streamed_documents.specs.declared.found.Flaw.{Flaw}
 use Rattle.streamed_documents.specs.Rests as rests
-use Rattle.streamed_documents.specs.Rests.{IsKept, IsSkimmed}
+use Rattle.streamed_documents.specs.Rests.{IsKeptFlaw, IsSkimmed}
 
 -- where they are told, the bytes that came are read into some tokens, up to those that come
 abbrev pub Reading : Window → Option (List ℕ) → Window → Option (List ℕ) → Type 0
@@ -87,7 +87,7 @@ module _ (limit at : ℕ) (bytes : List ℕ) (ts : List Token) (mid : ℕ) (left
 
     pub skim_fault : (now : ℕ) (after : Option (List ℕ)) (first : Code) (p : ℕ)
         → (s : IsScan limit mid r.rest now after (scan.Fault first p)) → (flaw : Flaw)
-        → IsKept limit now s.0.rest first p flaw → IsSkimmed limit at bytes code place flaw
+        → IsKeptFlaw limit now s.0.rest first p flaw → IsSkimmed limit at bytes code place flaw
     skim_fault now after first p s Flaw.TooLong kept =
         rests.IsSkimmed.too_long (omega (arith, kept, s.2, (faulty now after first p s).1))
     skim_fault now after first p s (Flaw.Fault c q) kept =
@@ -103,7 +103,7 @@ module _ (limit at : ℕ) (bytes : List ℕ) (ts : List Token) (mid : ℕ) (left
 pub drained_after : {E : Type 0} (u w x : Window) (a c d : Option (List ℕ)) (code first : Code) (place p : ℕ)
     (result : Result Flaw E) → Reading u a w c → w.limit ≡ u.limit → x.limit ≡ u.limit
     → Scanning w c x d (scan.Fault first p)
-    → IfOk result (λ flaw. (bytes : List ℕ) → coming x d ≡ Some bytes → IsKept x.limit x.at bytes first p flaw)
+    → IfOk result (λ flaw. (bytes : List ℕ) → coming x d ≡ Some bytes → IsKeptFlaw x.limit x.at bytes first p flaw)
     → IfOk result (λ flaw. (bytes : List ℕ) → coming u a ≡ Some bytes → IsSkimmed u.limit u.at bytes code place flaw)
 drained_after u w x a c d code first place p (Err e) r same later s kept = tt
 drained_after u w x a c d code first place p (Ok flaw) r same later s kept = λ bytes e.
@@ -112,7 +112,7 @@ drained_after u w x a c d code first place p (Ok flaw) r same later s kept = λ 
     subst (λ limit. IsScan limit w.at now.1.rest x.at (coming x d) (scan.Fault first p)) same
     (s now.1.rest now.1.told) in
     skim_fault u.limit u.at bytes now.0 w.at (coming w c) now.1 code place x.at (coming x d) first p found flaw
-    (subst (λ limit. IsKept limit x.at found.0.rest first p flaw) later (kept found.0.rest found.0.told))
+    (subst (λ limit. IsKeptFlaw limit x.at found.0.rest first p flaw) later (kept found.0.rest found.0.told))
 
 -- ---- as the code has it
 

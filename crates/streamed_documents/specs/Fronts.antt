@@ -10,7 +10,7 @@ use Rattle.proof_plans.specs.declared.plans.StepFault.{StepFault}
 use Rattle.proof_plans.specs.Giving.{AreWhole}
 use Rattle.proof_plans.specs.Verdicts.{verdict_of}
 use Rattle.event_judge.specs.declared.judge.Judge.{Judge}
-use Rattle.event_judge.specs.Judges.{StandsFor}
+use Rattle.event_judge.specs.Judges.{JudgeStandsFor}
 use Rattle.event_judge.specs.Told.{certs_events}
 use Rattle.unity_base.specs.declared.window.Window.{Window}
 use Rattle.unity_base.specs.Window.{coming, window_at, window_limit}
@@ -91,7 +91,7 @@ IsPassageFor listener (Passage.Passed pending) = IsReadyFor listener pending
 -- the verdict of a judge, by whatever certificates it was told
 abbrev pub IsVerdict : Judge → Result Plan StepFault → Type 0
 IsVerdict judge verdict = (d : CDocument) (certs : List Cert) → AreWhole certs →
-    StandsFor d judge (certs_events certs) → verdict_of d certs ≡ verdict
+    JudgeStandsFor d judge (certs_events certs) → verdict_of d certs ≡ verdict
 
 abbrev pub IsVerdictBy : CDocument → Judge → Finding → Type 0
 IsVerdictBy core judge (Finding.Refused flaw) = ⊥

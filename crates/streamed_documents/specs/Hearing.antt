@@ -7,7 +7,7 @@ use Rattle.names_rules.specs.WellNamed.{IsWellNamed}
 use Rattle.expand_documents.specs.Cores.{core_document}
 use Rattle.expand_documents.specs.Faults.{expansion_fault}
 use Rattle.event_judge.specs.declared.judge.Judge.{Judge}
-use Rattle.event_judge.specs.Judges.{IsReady, StandsFor}
+use Rattle.event_judge.specs.Judges.{JudgeIsReady, JudgeStandsFor}
 use Rattle.streamed_documents.specs.declared.behind.Pending.{Pending}
 use Rattle.streamed_documents.specs.declared.fronts.Listener.{Listener}
 use Rattle.streamed_documents.specs.declared.found.ReadDocument.{ReadDocument}
@@ -15,8 +15,9 @@ use Rattle.streamed_documents.specs.WellFormed.{document_fault}
 
 -- a judge was told these events more, and may be told others
 pub record ToldMore (old new : Judge) (es : List CertEvent) : Type 0 where
-  pub ready : IsReady new
-  pub stands : (d : CDocument) (before : List CertEvent) → StandsFor d old before → StandsFor d new (before ++ es)
+  pub ready : JudgeIsReady new
+  pub stands : (d : CDocument) (before : List CertEvent) → JudgeStandsFor d old before →
+      JudgeStandsFor d new (before ++ es)
 
 -- a judge hears events, and nothing else does
 abbrev pub Hears : Pending → Pending → List CertEvent → Type 0
@@ -29,20 +30,20 @@ Hears (Pending.Judge core old) new es =
 abbrev pub MayHear : Pending → Type 0
 MayHear (Pending.Fault code at) = Unit {0}
 MayHear (Pending.Document r) = Unit {0}
-MayHear (Pending.Judge core judge) = IsReady judge
+MayHear (Pending.Judge core judge) = JudgeIsReady judge
 
 -- whatever it was told, it may be told more, and is of the same document
 abbrev pub StaysReady : Pending → Pending → Type 0
 StaysReady (Pending.Fault code at) new = new ≡ Pending.Fault code at
 StaysReady (Pending.Document r) new = new ≡ Pending.Document r
-StaysReady (Pending.Judge core old) new = (judge : Judge) × (new ≡ Pending.Judge core judge) × IsReady judge
+StaysReady (Pending.Judge core old) new = (judge : Judge) × (new ≡ Pending.Judge core judge) × JudgeIsReady judge
 
 -- it is a fault, or there for this listener
 abbrev pub IsReadyFor : Listener → Pending → Type 0
 IsReadyFor listener (Pending.Fault code at) = Unit {0}
 IsReadyFor Listener.Judge (Pending.Document r) = ⊥
 IsReadyFor Listener.Nobody (Pending.Document r) = Unit {0}
-IsReadyFor Listener.Judge (Pending.Judge core judge) = IsReady judge
+IsReadyFor Listener.Judge (Pending.Judge core judge) = JudgeIsReady judge
 IsReadyFor Listener.Nobody (Pending.Judge core judge) = ⊥
 
 -- a document without a fault, with a judge that was told these events of it
@@ -50,7 +51,7 @@ pub record IsJudgeOf (es : List CertEvent) (d : Document) (core : CDocument) (ju
   pub named : IsWellNamed d
   pub expands : expansion_fault d ≡ None
   pub core_is : core ≡ core_document d
-  pub stands : StandsFor core judge es
+  pub stands : JudgeStandsFor core judge es
 
 -- a document without a fault, whose section begins at this place, and what is kept of it
 pub record IsKeptOf (section_at : Option ℕ) (d : Document) (r : ReadDocument) : Type 0 where

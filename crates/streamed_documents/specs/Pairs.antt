@@ -7,15 +7,15 @@ use Rattle.unity_lexer.specs.Scans.{ReadsTo}
 use Rattle.certificate_events.specs.declared.reader.Taken.{Taken}
 use Rattle.certificate_events.specs.declared.reader.CertReader.{CertReader}
 use Rattle.certificate_events.specs.Events.{events}
-use Rattle.certificate_events.specs.Sections.{Stands, told}
-use Rattle.front_documents.specs.Laws.{IsOpen}
+use Rattle.certificate_events.specs.Sections.{ReaderStands, told}
+use Rattle.front_documents.specs.Laws.{BeginsSections}
 use Rattle.streamed_documents.specs.declared.behind.Pending.{Pending}
 use Rattle.streamed_documents.specs.Hearing.{Hears}
 
 -- a reader that was handed tokens was handed these as well; some section goes on with them, and they tell this
 pub record TakesMore (later : Bool) (new : CertReader) (ts us : List Token) (tells : List Taken) : Type 0 where
-  pub stands : Stands later new (ts ++ us)
-  pub opens : IsOpen later (ts ++ us)
+  pub stands : ReaderStands later new (ts ++ us)
+  pub opens : BeginsSections later (ts ++ us)
   pub told_is : told later (ts ++ us) ≡ told later ts ++ tells
 
 -- tokens were read of these bytes and taken, and what they tell was heard
@@ -24,7 +24,8 @@ pub record HeardMore (later : Bool) (w x : Window) (left : Option (List ℕ)) (o
   pub tokens : List Token
   pub tells : List Taken
   pub reads : ReadsTo (window_at w) bytes tokens (window_at x) (coming x left)
-  pub takes : (ts : List Token) → Stands later old ts → IsOpen later ts → TakesMore later new ts tokens tells
+  pub takes : (ts : List Token) → ReaderStands later old ts → BeginsSections later ts →
+      TakesMore later new ts tokens tells
   pub heard : Hears p q (events tells)
 
 -- where the bytes are told

@@ -5,7 +5,7 @@ use Rattle.unity_lexer.specs.declared.scan.Scan.{Scan}
 use Rattle.unity_lexer.specs.declared.scan.Scan.TheVariants as scan
 use Rattle.certificate_events.specs.declared.reader.Taken.{Taken}
 use Rattle.certificate_events.specs.declared.reader.CertReader.{CertReader}
-use Rattle.certificate_events.specs.Sections.{Stands, Takes, reader_count, told}
+use Rattle.certificate_events.specs.Sections.{ReaderStands, TokenTakes, reader_count, told}
 use Rattle.streamed_documents.specs.declared.behind.Step.{Step}
 
 -- what was read
@@ -17,9 +17,9 @@ scan_of Step.TooLong = scan.TooLong
 
 -- a reader took a token, which tells this behind those that it was handed before
 pub record TakesToken (old new : CertReader) (t : Token) (taken : Taken) : Type 0 where
-  pub stands : (later : Bool) (ts : List Token) → Stands later old ts → Stands later new (ts ++ t ∷ [])
-  pub takes : (later : Bool) (ts : List Token) → Stands later old ts → Takes later ts t taken
-  pub told_is : (later : Bool) (ts : List Token) → Stands later old ts →
+  pub stands : (later : Bool) (ts : List Token) → ReaderStands later old ts → ReaderStands later new (ts ++ t ∷ [])
+  pub takes : (later : Bool) (ts : List Token) → ReaderStands later old ts → TokenTakes later ts t taken
+  pub told_is : (later : Bool) (ts : List Token) → ReaderStands later old ts →
       told later (ts ++ t ∷ []) ≡ told later ts ++ taken ∷ []
   pub count : reader_count new ≡ reader_count old + 1
 

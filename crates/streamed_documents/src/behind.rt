@@ -6,11 +6,11 @@ ghost use Rattle.unity_base.specs.Streams.{HasCause, IsTold};
 ghost use Rattle.unity_syntax.specs.declared.token.Token.{Token};
 ghost use Rattle.unity_lexer.specs.declared.scan.Scan.TheVariants as scan;
 ghost use Rattle.unity_lexer.specs.Scans.{IsScan, TokenRises};
-ghost use Rattle.certificate_events.specs.Sections.{Stands, reader_count};
+ghost use Rattle.certificate_events.specs.Sections.{ReaderStands, reader_count};
 ghost use Rattle.unity_base.specs.Window.{held, coming, window_at, window_limit, HasPassed};
 ghost use Rattle.streamed_documents.specs.Hearing.{Hears, MayHear, StaysReady};
 ghost use Rattle.streamed_documents.specs.Pairs.{HearsMore};
-ghost use Rattle.streamed_documents.specs.Rests.{IsBehind, IsAllRead, IsEnding};
+ghost use Rattle.streamed_documents.specs.Rests.{IsBehind, IsAllRead, IsSectionEnding};
 ghost use Rattle.streamed_documents.specs.Steps.{scan_of, TakesStep};
 
 use crate::found::{Flaw, ReadDocument, SourceStop};
@@ -148,7 +148,7 @@ fn take_next<S: Source>(
 /// What is found where the text ends behind these tokens.
 #[inline(always)]
 fn ended(reader: &CertReader, at: u64) -> Option<Flaw>
-    ensures { (later : Bool) (ts : List Token) → Stands later reader.now ts → IsEnding later ts at result }
+    ensures { (later : Bool) (ts : List Token) → ReaderStands later reader.now ts → IsSectionEnding later ts at result }
 {
     if reader.finished() {
         return None;

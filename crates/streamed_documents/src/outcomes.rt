@@ -1,6 +1,6 @@
 //! The answers for a text that was read to its end.
 ghost use Rattle.std.specs.Prelude.{ℕ, List, IfOk};
-ghost use Rattle.event_judge.specs.Judges.{IsReady};
+ghost use Rattle.event_judge.specs.Judges.{JudgeIsReady};
 ghost use Rattle.streamed_documents.specs.declared.fronts.Listener.TheVariants as listener;
 ghost use Rattle.streamed_documents.specs.Found.{IsReading};
 ghost use Rattle.streamed_documents.specs.Fronts.{IsPassed, IsSettled, IsVerdict, IsVerdictBy};
@@ -16,7 +16,7 @@ use unity_base::Held;
 
 /// A judge's verdict. A judge never answers that memory was refused.
 fn verdict_by(judge: Judge) -> Result<Result<Plan, StepFault>, AllocError>
-    requires { IsReady judge }
+    requires { JudgeIsReady judge }
     ensures { IfOk result (IsVerdict judge) }
 {
     match judge.finish() {
@@ -28,7 +28,7 @@ fn verdict_by(judge: Judge) -> Result<Result<Plan, StepFault>, AllocError>
 
 /// A document with a judge's verdict on it.
 fn judged(alloc: Global, core: CDocument, judge: Judge) -> Result<Finding, AllocError>
-    requires { IsReady judge }
+    requires { JudgeIsReady judge }
     ensures { IfOk result (IsVerdictBy core judge) }
 {
     let verdict = verdict_by(judge)?;

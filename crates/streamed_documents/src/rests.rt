@@ -2,7 +2,7 @@
 ghost use Rattle.std.specs.Prelude.{◌≡◌, ℕ, List, Some, IfOk};
 ghost use Rattle.unity_base.specs.Streams.{HasCause};
 ghost use Rattle.unity_base.specs.Window.{coming, window_at, window_limit, HasPassed};
-ghost use Rattle.streamed_documents.specs.Rests.{IsKept, IsSkimmed, IsReadOut};
+ghost use Rattle.streamed_documents.specs.Rests.{IsKeptFlaw, IsSkimmed, IsReadOut};
 
 use crate::found::Flaw;
 use case_tables::Code;
@@ -17,7 +17,7 @@ pub(crate) fn drained<S: Source>(
     at: u64,
 ) -> Result<Flaw, Failed>
     ensures kept { IfOk result (λ flaw. (bytes : List ℕ) → coming w.old (S.left src.old) ≡ Some bytes →
-        IsKept (window_limit w.old) (window_at w.old) bytes code at flaw) }
+        IsKeptFlaw (window_limit w.old) (window_at w.old) bytes code at flaw) }
     ensures end { IfOk result (IsReadOut w.old (S.left src.old) w.new (S.left src.new)) }
     ensures passed { HasPassed w.old w.new (S.left src.old) (S.left src.new) }
     ensures cause { HasCause (S.faults src.old) (S.faults src.new) result }

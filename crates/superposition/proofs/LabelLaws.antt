@@ -10,7 +10,8 @@ use Rattle.std.proofs.lemmas.List.{get_or-set_same, get_or-set_other, take_more,
 use Rattle.core_terms.proofs.BoolLaws.{and_left, and_right}
 use Rattle.core_terms.specs.declared.programs.CStmt.{CStmt}
 use Rattle.rules_table.specs.Layers.{labels, labels_agree, same_pattern}
-use Rattle.superposition.specs.Labels.{partner_in, first_by, first_over, first_below, Notes, NotesMore, TellsTaken}
+use Rattle.superposition.specs.Labels.{partner_in, first_by, first_over, first_below, NotesLabels, NotesMore}
+use Rattle.superposition.specs.Labels.{TellsTaken}
 use Rattle.superposition.specs.Patterns.{label_pairs}
 
 -- tests of numbers
@@ -208,36 +209,37 @@ lower a = a.0
 abbrev upper : ℕ × ℕ → ℕ
 upper a = a.1
 
-module _ (pairs : List (ℕ × ℕ)) (label other : ℕ) (over below : List (Option ℕ)) (notes : Notes pairs over below) where
-  -- two new labels are noted
-  pub noted_new : (more less : List (Option ℕ)) → None ≡ partner_in over label → None ≡ partner_in below other →
-      ((n : ℕ) → partner_in more n ≡ cond (nat_eq n label) (Some other) (partner_in over n)) →
-      ((n : ℕ) → partner_in less n ≡ cond (nat_eq n other) (Some label) (partner_in below n)) →
-      Notes (pairs ++ (label, other) ∷ []) more less
-  noted_new more less failing none one two = record {
-    over_is = λ n. one n ∙ ap (λ o. cond (nat_eq n label) (Some other) o) (notes.over_is n)
-        ∙ sym (first_last lower upper pairs (label, other) n (sym (notes.over_is label) ∙ sym failing));
-    below_is = λ n. two n ∙ ap (λ o. cond (nat_eq n other) (Some label) o) (notes.below_is n)
-        ∙ sym (first_last upper lower pairs (label, other) n (sym (notes.below_is other) ∙ sym none));
-  }
+module _ (pairs : List (ℕ × ℕ)) (label other : ℕ) (over below : List (Option ℕ)) (notes : NotesLabels pairs over below)
+  where
+    -- two new labels are noted
+    pub noted_new : (more less : List (Option ℕ)) → None ≡ partner_in over label → None ≡ partner_in below other →
+        ((n : ℕ) → partner_in more n ≡ cond (nat_eq n label) (Some other) (partner_in over n)) →
+        ((n : ℕ) → partner_in less n ≡ cond (nat_eq n other) (Some label) (partner_in below n)) →
+        NotesLabels (pairs ++ (label, other) ∷ []) more less
+    noted_new more less failing none one two = record {
+      over_is = λ n. one n ∙ ap (λ o. cond (nat_eq n label) (Some other) o) (notes.over_is n)
+          ∙ sym (first_last lower upper pairs (label, other) n (sym (notes.over_is label) ∙ sym failing));
+      below_is = λ n. two n ∙ ap (λ o. cond (nat_eq n other) (Some label) o) (notes.below_is n)
+          ∙ sym (first_last upper lower pairs (label, other) n (sym (notes.below_is other) ∙ sym none));
+    }
 
-  -- two that stand together are noted already
-  pub noted_known : Some other ≡ partner_in over label → Some label ≡ partner_in below other →
-      Notes (pairs ++ (label, other) ∷ []) over below
-  noted_known one two = record {
-    over_is = λ n. notes.over_is n
-        ∙ sym (first_known lower upper pairs (label, other) n (sym (notes.over_is label) ∙ sym one));
-    below_is = λ n. notes.below_is n
-        ∙ sym (first_known upper lower pairs (label, other) n (sym (notes.below_is other) ∙ sym two));
-  }
+    -- two that stand together are noted already
+    pub noted_known : Some other ≡ partner_in over label → Some label ≡ partner_in below other →
+        NotesLabels (pairs ++ (label, other) ∷ []) over below
+    noted_known one two = record {
+      over_is = λ n. notes.over_is n
+          ∙ sym (first_known lower upper pairs (label, other) n (sym (notes.over_is label) ∙ sym one));
+      below_is = λ n. notes.below_is n
+          ∙ sym (first_known upper lower pairs (label, other) n (sym (notes.below_is other) ∙ sym two));
+    }
 
-  -- what the tables say is what the pattern of one pair more is
-  pub told_more : (o u : Option ℕ) → IsTrue (same_pattern pairs) → o ≡ partner_in over label →
-      u ≡ partner_in below other → fit_together o u label other ≡ same_pattern (pairs ++ (label, other) ∷ [])
-  told_more o u t one two =
-      ap (λ x. fit_together x u label other) (one ∙ notes.over_is label)
-      ∙ ap (λ x. fit_together (first_over pairs label) x label other) (two ∙ notes.below_is other)
-      ∙ told_pattern pairs label other t
+    -- what the tables say is what the pattern of one pair more is
+    pub told_more : (o u : Option ℕ) → IsTrue (same_pattern pairs) → o ≡ partner_in over label →
+        u ≡ partner_in below other → fit_together o u label other ≡ same_pattern (pairs ++ (label, other) ∷ [])
+    told_more o u t one two =
+        ap (λ x. fit_together x u label other) (one ∙ notes.over_is label)
+        ∙ ap (λ x. fit_together (first_over pairs label) x label other) (two ∙ notes.below_is other)
+        ∙ told_pattern pairs label other t
 
 -- tables
 
@@ -259,7 +261,7 @@ one_noted table label n o less = elim (eqb_tells n label) [
 -- as far as a comparison has come: so many pairs have the pattern, and the tables have what they say
 pub record PatternSoFar (fs hs : List CStmt) (count : ℕ) (over below : List (Option ℕ)) : Type 0 where
   pub pattern : IsTrue (same_pattern (take count (label_pairs fs hs)))
-  pub notes : Notes (take count (label_pairs fs hs)) over below
+  pub notes : NotesLabels (take count (label_pairs fs hs)) over below
 
 pub at_first : (fs hs : List CStmt) (over below : List (Option ℕ)) → ((n : ℕ) → partner_in over n ≡ None) →
     ((n : ℕ) → partner_in below n ≡ None) → PatternSoFar fs hs 0 over below
@@ -299,10 +301,10 @@ module _ (fs hs : List CStmt) (same : length fs ≡ length hs) (i : ℕ) where
       s ≡ slice_index_or fs i s → t ≡ slice_index_or hs i t → told ≡ true →
       NotesMore (take i all) (s.label, t.label) over below told → PatternSoFar fs hs (i + 1) over below
   one_agrees s t told over below less s_is t_is passing more =
-      as_record (subst (λ ps. IsTrue (same_pattern ps) × Notes ps over below) (longer s t less s_is t_is)
+      as_record (subst (λ ps. IsTrue (same_pattern ps) × NotesLabels ps over below) (longer s t less s_is t_is)
       (sym more.tells ∙ passing, more.noted passing))
     where
-      as_record : IsTrue (same_pattern (take (i + 1) all)) × Notes (take (i + 1) all) over below →
+      as_record : IsTrue (same_pattern (take (i + 1) all)) × NotesLabels (take (i + 1) all) over below →
           PatternSoFar fs hs (i + 1) over below
       as_record h = record { pattern = h.0; notes = h.1 }
 

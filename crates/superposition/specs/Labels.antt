@@ -23,7 +23,7 @@ abbrev pub first_below : List (ℕ × ℕ) → ℕ → Option ℕ
 first_below = first_by (λ a. a.1) (λ a. a.0)
 
 -- two tables have what these pairs of labels say
-pub record Notes (pairs : List (ℕ × ℕ)) (over below : List (Option ℕ)) : Type 0 where
+pub record NotesLabels (pairs : List (ℕ × ℕ)) (over below : List (Option ℕ)) : Type 0 where
   pub over_is : (label : ℕ) → partner_in over label ≡ first_over pairs label
   pub below_is : (label : ℕ) → partner_in below label ≡ first_below pairs label
 
@@ -31,7 +31,7 @@ pub record Notes (pairs : List (ℕ × ℕ)) (over below : List (Option ℕ)) : 
 pub record NotesMore (pairs : List (ℕ × ℕ)) (pair : ℕ × ℕ) (over below : List (Option ℕ)) (told : Bool) :
     Type 0 where
   pub tells : told ≡ same_pattern (pairs ++ pair ∷ [])
-  pub noted : IsTrue told → Notes (pairs ++ pair ∷ []) over below
+  pub noted : IsTrue told → NotesLabels (pairs ++ pair ∷ []) over below
 
 -- a table has notes of these labels alone
 abbrev pub TellsTaken : List (Option ℕ) → List ℕ → Type 0

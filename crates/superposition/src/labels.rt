@@ -1,7 +1,7 @@
 // Which labels stand at the same places.
 ghost use Rattle.std.specs.Prelude.{◌≡◌, ◌<◌, ◌∷◌, ◌++◌, [], ℕ, cond, nat_eq, IfOk, IsTrue, List, OnOk, Some, None};
 ghost use Rattle.std.specs.Prelude.{length};
-ghost use Rattle.superposition.specs.Labels.{partner_in, Notes, NotesMore};
+ghost use Rattle.superposition.specs.Labels.{partner_in, NotesLabels, NotesMore};
 ghost use Rattle.superposition.specs.Patterns.{IsPattern};
 ghost use Rattle.rules_table.specs.Layers as layer;
 
@@ -67,7 +67,7 @@ impl Pairs {
     // Whether two labels stand together wherever one of them does. Notes them, where neither stood before.
     fn agree(&mut self, label: u32, other: u32) -> Result<bool, AllocError>
         ensures { (pairs : List (ℕ × ℕ)) → IsTrue (layer.same_pattern pairs) →
-            Notes pairs self.old.over.by_label self.old.below.by_label →
+            NotesLabels pairs self.old.over.by_label self.old.below.by_label →
             IfOk result (NotesMore pairs (label, other) self.new.over.by_label self.new.below.by_label) }
     {
         match self.over.of(label) {

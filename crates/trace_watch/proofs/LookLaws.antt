@@ -18,7 +18,7 @@ use Rattle.trace_watch.specs.declared.violations.Violation.{Violation}
 use Rattle.trace_watch.specs.declared.case.Case.{Case}
 use Rattle.trace_watch.specs.declared.step.Step.{Step}
 use Rattle.trace_watch.specs.Readings.{Reading, is_violated}
-use Rattle.trace_watch.specs.Cases.{Watched, watched_one, watched_from, own_cases, total_cases}
+use Rattle.trace_watch.specs.Cases.{WatchedStep, watched_one, watched_from, own_cases, total_cases}
 use Rattle.trace_watch.specs.Violations.{first_case, first_failing}
 use Rattle.trace_watch.specs.Waiting.{CaseStands, CasesStand}
 use Rattle.trace_watch.specs.Stepping.{StepFits, StepStands, watched_as}
@@ -179,13 +179,13 @@ get_map f [] n x e = cc
 get_map f (y ∷ xs) zero x e = let same : y ≡ x = cc in ap (λ z. Some (f z)) same
 get_map f (y ∷ xs) (suc n) x e = get_map f xs n x e
 
-next_failing : (t : Reading → Bool) (ws : List Watched) (n : ℕ) (w : Watched) → slice_get ws n ≡ Some w →
+next_failing : (t : Reading → Bool) (ws : List WatchedStep) (n : ℕ) (w : WatchedStep) → slice_get ws n ≡ Some w →
     first_failing t (drop n ws) ≡ option_or (first_case t w) (first_failing t (drop (n + 1) ws))
 next_failing t ws n w e =
     let one : suc n ≡ n + 1 = omega arith in
     go ws n e ∙ ap (λ m. option_or (first_case t w) (first_failing t (drop m ws))) one
   where
-    go : (vs : List Watched) (m : ℕ) → slice_get vs m ≡ Some w →
+    go : (vs : List WatchedStep) (m : ℕ) → slice_get vs m ≡ Some w →
         first_failing t (drop m vs) ≡ option_or (first_case t w) (first_failing t (drop (suc m) vs))
     go [] m e = cc
     go (v ∷ vs) zero e =
@@ -319,7 +319,8 @@ drop_next {X = X} xs n x e =
     go (y ∷ ys) zero e = let same : y ≡ x = cc in ap (λ z. z ∷ ys) same
     go (y ∷ ys) (suc m) e = go ys m e
 
-pub watched_more : (c : CProgram) (records : List Record) (place : ℕ) (r : Record) (before after whole : List Watched) →
+pub watched_more : (c : CProgram) (records : List Record) (place : ℕ) (r : Record)
+    (before after whole : List WatchedStep) →
     slice_get records place ≡ Some r → after ≡ before ++ watched_one c place r →
     before ++ watched_from c place (drop place records) ≡ whole →
     after ++ watched_from c (place + 1) (drop (place + 1) records) ≡ whole
@@ -328,7 +329,7 @@ watched_more c records place r before after whole at grew was =
     ∙ append_assoc before (watched_one c place r) (watched_from c (place + 1) (drop (place + 1) records))
     ∙ ap (λ rs. before ++ watched_from c place rs) (sym (drop_next records place r at)) ∙ was
 
-pub watched_end : (c : CProgram) (records : List Record) (place : ℕ) (before whole : List Watched) →
+pub watched_end : (c : CProgram) (records : List Record) (place : ℕ) (before whole : List WatchedStep) →
     length records ≤ place → before ++ watched_from c place (drop place records) ≡ whole → before ≡ whole
 watched_end c records place before whole enough was =
     sym (append-nil before) ∙ ap (λ rs. before ++ watched_from c place rs) (sym (drop_all records place enough)) ∙ was

@@ -20,10 +20,10 @@ use Rattle.trace_watch.specs.declared.violations.Violation.{Violation}
 use Rattle.trace_watch.specs.declared.tracing.Ending.{Ending}
 use Rattle.trace_watch.specs.declared.watch.Watch.{Watch}
 use Rattle.trace_watch.specs.Readings.{Reading, passes, is_stuck, is_violated, fails}
-use Rattle.trace_watch.specs.Cases.{Watched}
+use Rattle.trace_watch.specs.Cases.{WatchedStep}
 use Rattle.trace_watch.specs.Violations.{violation_of, first_case, first_failing, violation, violation_at}
 use Rattle.trace_watch.specs.Violations.{IsFirstViolation, IsUnviolated}
-use Rattle.trace_watch.specs.Watching.{StandsFor, program_of, slots_of, steps_of, system_of}
+use Rattle.trace_watch.specs.Watching.{WatchStandsFor, program_of, slots_of, steps_of, system_of}
 use Rattle.trace_watch.specs.Tracing.{WatchesDefined, Leads, EndsAs}
 use Rattle.trace_watch.proofs.LookLaws.{length_pushed}
 
@@ -33,7 +33,7 @@ no_first : {X : Type 0} (o p : Option X) → option_or o p ≡ None → (o ≡ N
 no_first None p e = (refl, e)
 no_first (Some x) p e = cc
 
-no_step : (f : Reading → Bool) (ws : List Watched) → first_failing f ws ≡ None → (n : ℕ) (w : Watched) →
+no_step : (f : Reading → Bool) (ws : List WatchedStep) → first_failing f ws ≡ None → (n : ℕ) (w : WatchedStep) →
     slice_get ws n ≡ Some w → first_case f w ≡ None
 no_step f [] none n w e = cc
 no_step f (v ∷ ws) none zero w e =
@@ -58,7 +58,7 @@ mapped_none : {X Y : Type 0} (f : X → Y) (o : Option X) → option_map f o ≡
 mapped_none f None e = refl
 mapped_none f (Some x) e = cc
 
-pub not_violated : (x : System) (steps : List Watched) (states : List State) (choices : List ℕ) →
+pub not_violated : (x : System) (steps : List WatchedStep) (states : List State) (choices : List ℕ) →
     violation x steps states choices ≡ None → (w : WatchesDefined steps) →
     is_violated x w.reading states choices ≡ false
 not_violated x steps states choices none w =
@@ -91,7 +91,8 @@ any_none s (a ∷ acts) (suc n) none h = any_none s acts n (go (a s) none) (omeg
     go (Some t) e = e
 
 -- so each step from the last state is defined
-pub goes_on : (x : System) (steps : List Watched) (start : State) (later : List State) (choices : List ℕ) (now : State)
+pub goes_on : (x : System) (steps : List WatchedStep) (start : State) (later : List State) (choices : List ℕ)
+    (now : State)
     (choice : ℕ) → violation x steps (start ∷ later) choices ≡ None → WatchesDefined steps →
     length later ≡ length choices →
     slice_get (start ∷ later) (length choices) ≡ Some now → choice < length x.steps → chosen_step x choice now ≢ None
@@ -122,7 +123,8 @@ take_whole (suc n) [] h = refl
 take_whole zero (x ∷ xs) h = absurd (omega arith)
 take_whole (suc n) (x ∷ xs) h = ap (λ zs. x ∷ zs) (take_whole n xs (omega arith))
 
-pub at_front : (x : System) (steps : List Watched) (states : List State) (choices : List ℕ) (s : State) (c place : ℕ) →
+pub at_front : (x : System) (steps : List WatchedStep) (states : List State) (choices : List ℕ) (s : State)
+    (c place : ℕ) →
     length states ≡ suc (length choices) → place < length states →
     violation_at x steps (states ++ s ∷ []) (choices ++ c ∷ []) place ≡ violation_at x steps states choices place
 at_front x steps states choices s c place size less =
@@ -130,7 +132,7 @@ at_front x steps states choices s c place size less =
     (take_front (suc place) states (s ∷ []) (omega arith))
     ∙ ap (violation x steps (take (suc place) states)) (take_front place choices (c ∷ []) (omega arith))
 
-pub at_end : (x : System) (steps : List Watched) (states : List State) (choices : List ℕ) (place : ℕ) →
+pub at_end : (x : System) (steps : List WatchedStep) (states : List State) (choices : List ℕ) (place : ℕ) →
     length states ≡ suc (length choices) → place ≡ length choices →
     violation_at x steps states choices place ≡ violation x steps states choices
 at_end x steps states choices place size at =
@@ -138,10 +140,10 @@ at_end x steps states choices place size at =
     ∙ ap (violation x steps states) (take_whole place choices (omega arith))
 
 -- what the watch has seen, and that nothing is violated
-pub record Seen (w : Watch) (x : System) (steps : List Watched) (start : State) (choices : List ℕ) (now : State) :
+pub record Seen (w : Watch) (x : System) (steps : List WatchedStep) (start : State) (choices : List ℕ) (now : State) :
     Type 0 where
   pub led : Leads x start choices now
-  pub stands : StandsFor w (start ∷ led.later) choices
+  pub stands : WatchStandsFor w (start ∷ led.later) choices
   pub none : IsUnviolated x steps (start ∷ led.later) choices
 
 last_place : (n m : ℕ) → n < suc m → (n < m) ⊎ (n ≡ m)
@@ -153,7 +155,7 @@ last_place (suc n) (suc m) h = elim (last_place n m (omega arith)) [
   | inr same ↦ inr (ap suc same)
 ]
 
-pub seen_first : (w : Watch) (start : State) → StandsFor w (start ∷ []) [] →
+pub seen_first : (w : Watch) (start : State) → WatchStandsFor w (start ∷ []) [] →
     violation_at (system_of w) (steps_of w) (start ∷ []) [] 0 ≡ None →
     Seen w (system_of w) (steps_of w) start [] start
 seen_first w start stands none = record {
@@ -164,7 +166,7 @@ seen_first w start stands none = record {
       subst (λ n. violation_at (system_of w) (steps_of w) (start ∷ []) [] n ≡ None) zero_place none;
 }
 
-module _ (x : System) (steps : List Watched) (start : State) (choices : List ℕ) (now next : State) (choice : ℕ)
+module _ (x : System) (steps : List WatchedStep) (start : State) (choices : List ℕ) (now next : State) (choice : ℕ)
     (chosen : chosen_step x choice now ≡ Some next) where
   abbrev longer : (w : Watch) → (seen : Seen w x steps start choices now) → Leads x start (choices ++ choice ∷ []) next
   longer w seen =
@@ -180,9 +182,9 @@ module _ (x : System) (steps : List Watched) (start : State) (choices : List ℕ
       ∙ seen.none place less
 
   pub seen_more : (w after : Watch) → Seen w x steps start choices now →
-      ((states : List State) (cs : List ℕ) → StandsFor w states cs →
-      StandsFor after (states ++ next ∷ []) (cs ++ choice ∷ [])) →
-      ((states : List State) (cs : List ℕ) → StandsFor w states cs →
+      ((states : List State) (cs : List ℕ) → WatchStandsFor w states cs →
+      WatchStandsFor after (states ++ next ∷ []) (cs ++ choice ∷ [])) →
+      ((states : List State) (cs : List ℕ) → WatchStandsFor w states cs →
       None ≡ violation x steps (states ++ next ∷ []) (cs ++ choice ∷ [])) →
       Seen after x steps start (choices ++ choice ∷ []) next
   seen_more w after seen stands none =
@@ -202,7 +204,7 @@ module _ (x : System) (steps : List Watched) (start : State) (choices : List ℕ
 
   pub found_here : (w : Watch) (v : Violation) (place : ℕ) → place ≡ length choices + 1 →
       Seen w x steps start choices now →
-      ((states : List State) (cs : List ℕ) → StandsFor w states cs →
+      ((states : List State) (cs : List ℕ) → WatchStandsFor w states cs →
       Some v ≡ violation x steps (states ++ next ∷ []) (cs ++ choice ∷ [])) →
       (led : Leads x start (choices ++ choice ∷ []) next)
       × IsFirstViolation x steps (start ∷ led.later) (choices ++ choice ∷ []) place v
@@ -220,7 +222,7 @@ module _ (x : System) (steps : List Watched) (start : State) (choices : List ℕ
         },
       )
 
-pub found_first : (w : Watch) (start : State) (choices : List ℕ) (v : Violation) → StandsFor w (start ∷ []) [] →
+pub found_first : (w : Watch) (start : State) (choices : List ℕ) (v : Violation) → WatchStandsFor w (start ∷ []) [] →
     Some v ≡ violation_at (system_of w) (steps_of w) (start ∷ []) [] 0 →
     EndsAs (system_of w) (steps_of w) start choices start (Ending.Violated 0 v)
 found_first w start choices v stands found = (
@@ -277,9 +279,9 @@ stays_defined w after slots p start cs n now same_p same_slots defined all less 
 
 pub seen_exact : (w after : Watch) (given next : State) (choice : ℕ) (o : Option Violation) →
     program_of after ≡ program_of w → slots_of after ≡ slots_of w → steps_of after ≡ steps_of w → given ≡ next →
-    ((states : List State) (cs : List ℕ) → StandsFor after states cs →
+    ((states : List State) (cs : List ℕ) → WatchStandsFor after states cs →
     o ≡ violation (system_of after) (steps_of after) (states ++ given ∷ []) (cs ++ choice ∷ [])) →
-    (states : List State) (cs : List ℕ) → StandsFor after states cs →
+    (states : List State) (cs : List ℕ) → WatchStandsFor after states cs →
     o ≡ violation (system_of w) (steps_of w) (states ++ next ∷ []) (cs ++ choice ∷ [])
 seen_exact w after given next choice o same_p same_slots same_steps same exact states cs stands =
     exact states cs stands

@@ -46,23 +46,23 @@ abbrev pub is_of : CProgram → Record → Bool
 is_of c r = nat_eq r.program c.name
 
 -- a step that is watched: its record's place, and the readings of its cases, in order
-pub record Watched : Type 0 where
+pub record WatchedStep : Type 0 where
   pub place : ℕ
   pub cases : List Reading
 
-abbrev pub watched_step : CProgram → ℕ → Record → Watched
+abbrev pub watched_step : CProgram → ℕ → Record → WatchedStep
 watched_step c place r = record { place = place; cases = map (reading_of c r) (environments r.params) }
 
 -- it alone, if the record is one of the program's
-abbrev pub watched_one : CProgram → ℕ → Record → List Watched
+abbrev pub watched_one : CProgram → ℕ → Record → List WatchedStep
 watched_one c place r = cond (is_of c r) (watched_step c place r ∷ []) []
 
 -- the steps of a program that records from this place on are of
-abbrev pub watched_from : CProgram → ℕ → List Record → List Watched
+abbrev pub watched_from : CProgram → ℕ → List Record → List WatchedStep
 watched_from c place [] = []
 watched_from c place (r ∷ rest) = watched_one c place r ++ watched_from c (place + 1) rest
 
-abbrev pub watched : CProgram → List Record → List Watched
+abbrev pub watched : CProgram → List Record → List WatchedStep
 watched c records = watched_from c 0 records
 
 -- how many cases a record has, if it is one of the program's, and how many there are in all

@@ -19,6 +19,6 @@ abbrev pub state_at : Place → State
 state_at here = here.state.now
 
 -- a record's formulas name only slots and parameters that exist, and no part of them weighs too much
-pub record RecordFits (slots : List CSlot) (r : Record) : Type 0 where
+pub record RecordFormsFit (slots : List CSlot) (r : Record) : Type 0 where
   pub p : FormFits slots r.params r.p
   pub q : FormFits slots r.params r.q

@@ -5,13 +5,13 @@ use Rattle.meaning_states.specs.State.{State}
 use Rattle.meaning_executions.specs.Execution.{System, Steps}
 use Rattle.trace_watch.specs.declared.tracing.Ending.{Ending}
 use Rattle.trace_watch.specs.Readings.{Reading}
-use Rattle.trace_watch.specs.Cases.{Watched}
+use Rattle.trace_watch.specs.Cases.{WatchedStep}
 use Rattle.trace_watch.specs.Violations.{IsFirstViolation, IsUnviolated}
 
 -- a `defined` step is watched
-pub record WatchesDefined (steps : List Watched) : Type 0 where
+pub record WatchesDefined (steps : List WatchedStep) : Type 0 where
   pub step : ℕ
-  pub watched : Watched
+  pub watched : WatchedStep
   pub there : slice_get steps step ≡ Some watched
   pub case : ℕ
   pub reading : Reading
@@ -25,7 +25,7 @@ pub record Leads (x : System) (start : State) (choices : List ℕ) (end : State)
   pub last : slice_get (start ∷ later) (length choices) ≡ Some end
 
 -- how a trace ends that is watched
-abbrev pub EndsAs : System → List Watched → State → List ℕ → State → Ending → Type 0
+abbrev pub EndsAs : System → List WatchedStep → State → List ℕ → State → Ending → Type 0
 EndsAs x steps start choices end (Ending.Violated place v) =
     (led : Leads x start (take place choices) end)
     × IsFirstViolation x steps (start ∷ led.later) (take place choices) place v

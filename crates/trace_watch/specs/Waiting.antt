@@ -9,7 +9,7 @@ use Rattle.meaning_states.specs.State.{State}
 use Rattle.meaning_executions.specs.Execution.{System}
 use Rattle.meaning_executions.specs.Properties.{Test}
 use Rattle.meaning_executions.specs.Rounds.{rounds}
-use Rattle.fair_rounds.specs.Counts as counts
+use Rattle.fair_rounds.specs.Counts.{CountStandsFor}
 use Rattle.trace_watch.specs.declared.case.Seen.{Seen}
 use Rattle.trace_watch.specs.declared.case.Findings.{Findings}
 use Rattle.trace_watch.specs.declared.case.Case.{Case}
@@ -81,16 +81,16 @@ verdict Kind.Constant x q helper state f = f.is_changed
 verdict Kind.Fixed x q helper state f = f.now.p && not (is_fixed x state)
 
 -- a case counts the rounds of the choices since it waits
-abbrev pub Waits : Case → Option (List ℕ) → Type 0
-Waits c None = c.waits ≡ false
-Waits c (Some choices) = (c.waits ≡ true) × counts.StandsFor c.count choices
+abbrev pub CaseWaits : Case → Option (List ℕ) → Type 0
+CaseWaits c None = c.waits ≡ false
+CaseWaits c (Some choices) = (c.waits ≡ true) × CountStandsFor c.count choices
 
 -- what a case has of its reading on a trace
 pub record CaseStands (k : ℕ) (c : Case) (r : Reading) (states : List State) (choices : List ℕ) : Type 0 where
   pub instances : c.instances ≡ k
   pub helper : c.helper ≡ r.helper
   pub before : c.before ≡ option_map (seen_at r) (last_or None states)
-  pub waits : Waits c (waiting (leads_from r) (leads_on_to r) states choices)
+  pub waits : CaseWaits c (waiting (leads_from r) (leads_on_to r) states choices)
 
 -- each of these cases has that of the reading at its place
 abbrev pub CasesStand : ℕ → List Case → List Reading → List State → List ℕ → Type 0

@@ -6,7 +6,7 @@ use Rattle.core_terms.specs.declared.programs.CSlot.{CSlot}
 use Rattle.core_terms.specs.declared.programs.CProgram.{CProgram}
 use Rattle.executor.specs.CoreSystem.{core_system}
 use Rattle.trace_watch.specs.declared.watch.Watch.{Watch}
-use Rattle.trace_watch.specs.Cases.{Watched}
+use Rattle.trace_watch.specs.Cases.{WatchedStep}
 use Rattle.trace_watch.specs.Violations.{violation}
 use Rattle.trace_watch.specs.Stepping.{watched_as, StepStands}
 
@@ -20,11 +20,11 @@ slots_of w = w.slots.now
 abbrev pub system_of : Watch → System
 system_of w = core_system w.slots.now w.program.now
 
-abbrev pub steps_of : Watch → List Watched
+abbrev pub steps_of : Watch → List WatchedStep
 steps_of w = map (watched_as w.program.now) w.steps.items
 
 -- the watch has seen a trace
-pub record StandsFor (w : Watch) (states : List State) (choices : List ℕ) : Type 0 where
+pub record WatchStandsFor (w : Watch) (states : List State) (choices : List ℕ) : Type 0 where
   pub places : length states ≡ suc (length choices)
   pub steps : All (StepStands w.program.now states choices) w.steps.items
   pub first : w.first ≡ violation (system_of w) (steps_of w) (take 1 states) []

@@ -59,10 +59,10 @@ impl Seen {
 impl Case {
     ghost use Rattle.std.specs.Prelude.{◌<◌, ◌++◌, ◌∷◌, [], ℕ, List, Option, Some, IfSome, option_to_list, length};
     ghost use Rattle.meaning_states.specs.State.{State};
-    ghost use Rattle.fair_rounds.specs.Counts as counts;
+    ghost use Rattle.fair_rounds.specs.Counts.{CountStandsFor};
     ghost use Rattle.trace_watch.specs.Readings.{Reading};
     ghost use Rattle.trace_watch.specs.Waiting as waiting;
-    ghost use Rattle.trace_watch.specs.Waiting.{CaseStands, Waits};
+    ghost use Rattle.trace_watch.specs.Waiting.{CaseStands, CaseWaits};
 
     /// A case of which no place was seen.
     pub(crate) fn new(instances: u32, helper: Option<u32>) -> Case
@@ -134,8 +134,8 @@ impl Case {
         ensures helper { self.new.helper ≡ self.old.helper }
         ensures before { self.new.before ≡ Some now }
         ensures waits { (since : Option (List ℕ)) → IfSome choice (λ c. c < self.old.instances) →
-            Waits self.old since →
-            Waits self.new (waiting.waiting_more (waiting.turned kind now).p (waiting.turned kind now).q
+            CaseWaits self.old since →
+            CaseWaits self.new (waiting.waiting_more (waiting.turned kind now).p (waiting.turned kind now).q
             (option_to_list choice) since) }
     {
         self.before = Some(now);
@@ -157,8 +157,8 @@ impl Case {
         ensures before { self.new.before ≡ self.old.before }
         ensures waits { self.new.waits ≡ self.old.waits }
         ensures count { (choices : List ℕ) → IfSome choice (λ c. c < self.old.instances) →
-            counts.StandsFor self.old.count choices →
-            counts.StandsFor self.new.count (choices ++ option_to_list choice) }
+            CountStandsFor self.old.count choices →
+            CountStandsFor self.new.count (choices ++ option_to_list choice) }
     {
         if let Some(chosen) = choice {
             if chosen < self.instances {
@@ -169,7 +169,7 @@ impl Case {
 
     // Whether the rounds since the case waits are no fewer than the bound.
     fn is_overdue(&self, bound: u64) -> bool
-        ensures { (since : Option (List ℕ)) → Waits self.now since →
+        ensures { (since : Option (List ℕ)) → CaseWaits self.now since →
             result ≡ waiting.is_overdue self.now.instances bound since }
     {
         self.waits && self.count.rounds() >= bound

@@ -8,7 +8,7 @@ ghost use Rattle.fair_rounds.specs.Records.{are_in_ranges, holding};
 ghost use Rattle.trace_watch.specs.Readings.{is_violated};
 ghost use Rattle.trace_watch.specs.Cases.{case_count, environments, reading_of};
 ghost use Rattle.trace_watch.specs.Violations.{first_case, violation};
-ghost use Rattle.trace_watch.specs.Places.{system_at, instances_at, state_at, RecordFits};
+ghost use Rattle.trace_watch.specs.Places.{system_at, instances_at, state_at, RecordFormsFit};
 ghost use Rattle.trace_watch.specs.Waiting.{CaseStands, CasesStand, verdict};
 ghost use Rattle.trace_watch.specs.Readings as readings;
 ghost use Rattle.trace_watch.specs.Stepping.{StepFits, StepStands, watched_as};
@@ -33,7 +33,7 @@ fn look_case(
     trial: &mut [i64],
     case: &mut Case,
 ) -> bool
-    requires fits { RecordFits here.now.slots.now claim.now }
+    requires fits { RecordFormsFit here.now.slots.now claim.now }
     requires values { IsTrue (are_in_ranges claim.now.params values.now) }
     requires choice { IfSome choice (λ c. c < instances_at here.now) }
     requires trial { length trial.old ≡ length (state_at here.now) }
@@ -66,7 +66,7 @@ fn fails(
     found: Findings,
     trial: &mut [i64],
 ) -> bool
-    requires fits { RecordFits here.now.slots.now claim.now }
+    requires fits { RecordFormsFit here.now.slots.now claim.now }
     requires values { IsTrue (are_in_ranges claim.now.params values.now) }
     requires trial { length trial.old ≡ length (state_at here.now) }
     ensures { result ≡ verdict claim.now.kind (system_at here.now) (holding values.now claim.now.q) helper
@@ -95,7 +95,7 @@ fn fails_to_help(
     now: Seen,
     trial: &mut [i64],
 ) -> bool
-    requires fits { RecordFits here.now.slots.now claim.now }
+    requires fits { RecordFormsFit here.now.slots.now claim.now }
     requires values { IsTrue (are_in_ranges claim.now.params values.now) }
     requires trial { length trial.old ≡ length (state_at here.now) }
     ensures { result ≡ ((now.p && not now.q)
@@ -117,7 +117,7 @@ fn look_cases(
     trial: &mut [i64],
     cases: &mut [Case],
 ) -> Option<u64>
-    requires fits { RecordFits here.now.slots.now claim.now }
+    requires fits { RecordFormsFit here.now.slots.now claim.now }
     requires room { length values.old ≡ length claim.now.params }
     requires count { length cases.old ≡ case_count claim.now.params }
     requires choice { IfSome choice (λ c. c < instances_at here.now) }

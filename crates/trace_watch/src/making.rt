@@ -2,7 +2,7 @@
 ghost use Rattle.std.specs.Prelude.{◌≡◌, ◌<◌, ◌≤◌, ◌^◌, ◌++◌, [], All, IfOk, OnOk, length, map};
 ghost use Rattle.core_terms.specs.Conditions.{IsProgram};
 ghost use Rattle.trace_watch.specs.Cases as cases;
-ghost use Rattle.trace_watch.specs.Places.{RecordFits};
+ghost use Rattle.trace_watch.specs.Places.{RecordFormsFit};
 ghost use Rattle.trace_watch.specs.Waiting.{CasesStand};
 ghost use Rattle.trace_watch.specs.Stepping.{StepFits, StepStands, watched_as};
 
@@ -22,7 +22,7 @@ pub(crate) fn steps_of<'a>(
     records: &'a [Record],
 ) -> Result<Vec<Step<'a>>, AllocError>
     requires program { IsProgram slots.now p.now }
-    requires fits { All (RecordFits slots.now) records.now }
+    requires fits { All (RecordFormsFit slots.now) records.now }
     requires few { length records.now < 2 ^ 31 }
     requires cases { cases.total_cases p.now records.now ≤ 4096 }
     ensures fits { IfOk result (λ steps. All (StepFits slots.now) steps.items) }
@@ -46,7 +46,7 @@ fn add_step<'a>(
     steps: &mut Vec<Step<'a>>,
 ) -> Result<(), AllocError>
     requires program { IsProgram slots.now p.now }
-    requires fits { RecordFits slots.now claim.now }
+    requires fits { RecordFormsFit slots.now claim.now }
     requires few { cases.own_cases p.now claim.now ≤ 4096 }
     ensures fits { All (StepFits slots.now) steps.old.items → OnOk result (All (StepFits slots.now) steps.new.items) }
     ensures watched { OnOk result (map (watched_as p.now) steps.new.items
@@ -71,7 +71,7 @@ fn step_of<'a>(
     claim: &'a Record,
 ) -> Result<Step<'a>, AllocError>
     requires program { IsProgram slots.now p.now }
-    requires fits { RecordFits slots.now claim.now }
+    requires fits { RecordFormsFit slots.now claim.now }
     requires few { cases.case_count claim.now.params ≤ 4096 }
     ensures fits { IfOk result (λ step. StepFits slots.now step) }
     ensures watched { IfOk result (λ step. watched_as p.now step ≡ cases.watched_step p.now place claim.now) }

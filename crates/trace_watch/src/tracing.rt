@@ -2,6 +2,7 @@
 ghost use Rattle.std.specs.Prelude.{◌≡◌, ◌<◌, ◌∷◌, [], All, length};
 ghost use Rattle.executor.specs.Running.{program_of, slots_of, state_of};
 ghost use Rattle.trace_watch.specs.Watching as watching;
+ghost use Rattle.trace_watch.specs.Watching.{WatchStandsFor};
 ghost use Rattle.trace_watch.specs.Tracing.{EndsAs, WatchesDefined};
 
 use crate::violations::Violation;
@@ -24,7 +25,7 @@ pub enum Ending {
 pub fn watch_choices(runner: &mut Runner, watch: &mut Watch, choices: &[u32]) -> Ending
     requires program { watching.program_of watch.old ≡ program_of runner.old }
     requires slots { watching.slots_of watch.old ≡ slots_of runner.old }
-    requires begun { watching.StandsFor watch.old (state_of runner.old ∷ []) [] }
+    requires begun { WatchStandsFor watch.old (state_of runner.old ∷ []) [] }
     requires defined { WatchesDefined (watching.steps_of watch.old) }
     requires instances { All (λ choice. choice < length (program_of runner.old).statements) choices.now }
     ensures { EndsAs (watching.system_of watch.old) (watching.steps_of watch.old) (state_of runner.old) choices.now

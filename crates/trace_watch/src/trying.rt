@@ -3,7 +3,7 @@ ghost use Rattle.std.specs.Prelude.{◌≡◌, ◌<◌, length, IsTrue};
 ghost use Rattle.executor.specs.Running.{chosen_step};
 ghost use Rattle.fair_rounds.specs.Records.{holding, are_in_ranges};
 ghost use Rattle.trace_watch.specs.Readings as readings;
-ghost use Rattle.trace_watch.specs.Places.{system_at, instances_at, state_at, RecordFits};
+ghost use Rattle.trace_watch.specs.Places.{system_at, instances_at, state_at, RecordFormsFit};
 
 use crate::place::Place;
 use core_terms::holds;
@@ -30,7 +30,7 @@ pub(crate) fn is_helped(
     helper: Option<u32>,
     trial: &mut [i64],
 ) -> bool
-    requires fits { RecordFits here.now.slots.now claim.now }
+    requires fits { RecordFormsFit here.now.slots.now claim.now }
     requires values { IsTrue (are_in_ranges claim.now.params values.now) }
     requires trial { length trial.old ≡ length (state_at here.now) }
     ensures { result ≡ readings.is_helped (system_at here.now) (holding values.now claim.now.q) helper
@@ -49,7 +49,7 @@ pub(crate) fn is_helped(
 // Whether the step of an instance is defined and gives a state with a claim's q.
 fn gives(here: &Place, claim: &Record, values: &[i64], choice: u32, trial: &mut [i64]) -> bool
     requires choice { choice < instances_at here.now }
-    requires fits { RecordFits here.now.slots.now claim.now }
+    requires fits { RecordFormsFit here.now.slots.now claim.now }
     requires values { IsTrue (are_in_ranges claim.now.params values.now) }
     requires trial { length trial.old ≡ length (state_at here.now) }
     ensures { result ≡ readings.passes (holding values.now claim.now.q)

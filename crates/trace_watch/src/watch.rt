@@ -3,7 +3,7 @@ ghost use Rattle.std.specs.Prelude.{◌≡◌, ◌<◌, ◌≤◌, length, All, 
 ghost use Rattle.meaning_states.specs.State.{is_state};
 ghost use Rattle.core_terms.specs.Steps.{slot_ranges};
 ghost use Rattle.executor.specs.Fitting.{StatementsRun};
-ghost use Rattle.trace_watch.specs.Places.{RecordFits};
+ghost use Rattle.trace_watch.specs.Places.{RecordFormsFit};
 ghost use Rattle.trace_watch.specs.Stepping.{StepFits};
 
 use crate::looking::look;
@@ -20,7 +20,7 @@ use std::alloc::Global;
 const RECORDS_END: usize = 1 << 31;
 
 /// A trace of a program, watched for the first violation of the steps of its proof. For which traces it stands is said
-/// by `StandsFor`. All memory is taken by `new`.
+/// by `WatchStandsFor`. All memory is taken by `new`.
 #[derive(Drop)]
 pub struct Watch<'a> {
     program: &'a CProgram,
@@ -42,7 +42,7 @@ impl<'a> Watch<'a> {
     ghost use Rattle.core_terms.specs.Conditions.{IsProgram};
     ghost use Rattle.trace_watch.specs.Cases.{total_cases as cases_in, watched};
     ghost use Rattle.trace_watch.specs.Violations.{violation, violation_at};
-    ghost use Rattle.trace_watch.specs.Watching.{program_of, slots_of, steps_of as steps_in, system_of, StandsFor};
+    ghost use Rattle.trace_watch.specs.Watching.{program_of, slots_of, steps_of as steps_in, system_of, WatchStandsFor};
 
     /// Watches a program from a start state, at place 0 of a trace. The records are those of a plan, in order; those of
     /// other programs are passed over.
@@ -58,11 +58,11 @@ impl<'a> Watch<'a> {
     ) -> Result<Watch<'a>, WatchError>
         requires program { IsProgram slots.now p.now }
         requires start { IsTrue (is_state (slot_ranges slots.now) start.now) }
-        requires fits { All (RecordFits slots.now) records.now }
+        requires fits { All (RecordFormsFit slots.now) records.now }
         ensures program { IfOk result (λ w. program_of w ≡ p.now) }
         ensures slots { IfOk result (λ w. slots_of w ≡ slots.now) }
         ensures steps { IfOk result (λ w. steps_in w ≡ watched p.now records.now) }
-        ensures begun { IfOk result (λ w. StandsFor w (start.now ∷ []) []) }
+        ensures begun { IfOk result (λ w. WatchStandsFor w (start.now ∷ []) []) }
         ensures many { IsErrOf result WatchError.TooManyCases ↔ (4096 < cases_in p.now records.now) }
     {
         if total_cases(p, records) > MOST_CASES {
@@ -90,7 +90,7 @@ impl<'a> Watch<'a> {
 
     /// What is violated first at place 0.
     pub fn first(&self) -> Option<Violation>
-        ensures { (states : List State) (choices : List ℕ) → StandsFor self.now states choices →
+        ensures { (states : List State) (choices : List ℕ) → WatchStandsFor self.now states choices →
             result ≡ violation_at (system_of self.now) (steps_in self.now) states choices 0 }
     {
         self.first
@@ -103,9 +103,9 @@ impl<'a> Watch<'a> {
         ensures program { program_of self.new ≡ program_of self.old }
         ensures slots { slots_of self.new ≡ slots_of self.old }
         ensures steps { steps_in self.new ≡ steps_in self.old }
-        ensures longer { (states : List State) (choices : List ℕ) → StandsFor self.old states choices →
-            StandsFor self.new (states ++ next.now ∷ []) (choices ++ choice ∷ []) }
-        ensures exact { (states : List State) (choices : List ℕ) → StandsFor self.old states choices →
+        ensures longer { (states : List State) (choices : List ℕ) → WatchStandsFor self.old states choices →
+            WatchStandsFor self.new (states ++ next.now ∷ []) (choices ++ choice ∷ []) }
+        ensures exact { (states : List State) (choices : List ℕ) → WatchStandsFor self.old states choices →
             result ≡ violation (system_of self.old) (steps_in self.old) (states ++ next.now ∷ [])
             (choices ++ choice ∷ []) }
     {

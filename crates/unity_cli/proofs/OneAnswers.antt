@@ -24,7 +24,7 @@ use Rattle.upgraded_texts.specs.Upgraded.{upgraded_text}
 use Rattle.cli_words.specs.Requests.{check, prove, run, fixed, replay, demo, upgrade, watch}
 use Rattle.trace_watch.specs.declared.tracing.Ending.{Ending}
 use Rattle.watch_schedules.specs.declared.error.WatchStop.{WatchStop}
-use Rattle.watch_correct.specs.Watched.{IsWatched, Stops}
+use Rattle.watch_correct.specs.Watched.{IsWatched, StopsWatching}
 use Rattle.watch_correct.specs.Laws.{IsCause}
 use Rattle.watch_correct.proofs.Finding.{one_watched}
 use Rattle.watch_correct.proofs.Stops.{no_stop, one_stop, has_schedule, none_missing, one_unknown}
@@ -522,7 +522,7 @@ stopped_text words WatchStop.Memory = []
 -- an answer of `watch`: the bytes have no reading, or a document is not watched, or its trace ends
 data Said (bytes : List ℕ) (status : Status) (text : List ℕ) : Type 0 where
   unread : IsBad greatest_size bytes text → status ≡ Status.BadDocument → Said bytes status text
-  stopped : (d : Document) (stop : WatchStop) → IsAdmitted greatest_size bytes d → IsCause stop → Stops d stop →
+  stopped : (d : Document) (stop : WatchStop) → IsAdmitted greatest_size bytes d → IsCause stop → StopsWatching d stop →
       status ≡ stopped_status stop → text ≡ stopped_text (core_document d).words stop → Said bytes status text
   ended : (d : Document) (ending : Ending) → IsAdmitted greatest_size bytes d → IsWatched d ending text →
       status ≡ ending_status ending → Said bytes status text
@@ -554,15 +554,15 @@ one_said bytes status other text more (stopped d stop r one h s t) (unread b f) 
 one_said bytes status other text more (ended d ending r w s) (unread b f) = absurd (read_not_bad bytes more d r b)
 one_said bytes status other text more (stopped d a r one h s t) (stopped e b q two k u v) =
     let same = read_once bytes d e r q in
-    let stops = one_stop e a b one two (subst (λ x. Stops x a) same h) k in (
+    let stops = one_stop e a b one two (subst (λ x. StopsWatching x a) same h) k in (
       s ∙ ap stopped_status stops ∙ sym u,
       t ∙ ap (λ x. stopped_text (core_document x).words a) same ∙ ap (stopped_text (core_document e).words) stops
           ∙ sym v,
     )
 one_said bytes status other text more (stopped d stop r one h s t) (ended e ending q w u) =
-    absurd (no_stop e stop one (subst (λ x. Stops x stop) (read_once bytes d e r q) h) ending more w)
+    absurd (no_stop e stop one (subst (λ x. StopsWatching x stop) (read_once bytes d e r q) h) ending more w)
 one_said bytes status other text more (ended d ending r w s) (stopped e stop q one h u v) =
-    absurd (no_stop d stop one (subst (λ x. Stops x stop) (read_once bytes e d q r) h) ending text w)
+    absurd (no_stop d stop one (subst (λ x. StopsWatching x stop) (read_once bytes e d q r) h) ending text w)
 one_said bytes status other text more (ended d a r w s) (ended e b q z u) =
     let same = one_watched e a b text more (subst (λ x. IsWatched x a text) (read_once bytes d e r q) w) z in
     (s ∙ ap ending_status same.0 ∙ sym u, same.1)

@@ -25,7 +25,7 @@ use Rattle.streamed_documents.specs.declared.found.ReadDocument.{ReadDocument}
 use Rattle.unity_cli.specs.declared.status.Status.{Status}
 use Rattle.unity_cli.specs.Admitted.{greatest_size, greatest_bare_size, IsAdmitted}
 use Rattle.unity_cli.specs.Answer.Check.{IsAccepted}
-use Rattle.unity_cli.specs.Answer.Prove.{IsFinding, IsFound, Searched}
+use Rattle.unity_cli.specs.Answer.Prove.{IsFinding, IsProvedText, Searched}
 use Rattle.unity_cli.specs.Answering.{HasPlan}
 use Rattle.streamed_documents.specs.Found.{section_place}
 use Rattle.unity_cli.specs.Input.{AreKept, IsAdmittedAs, bytes_before, words_in}
@@ -87,7 +87,7 @@ found_accepted bytes budget d plan certs read few proved =
 -- the text with certificates that were found
 pub found_of : (bytes : List ℕ) (budget : ℕ) (d : Document) (plan : Plan) (certs : List Cert) (text : List ℕ) →
     IsAdmitted greatest_bare_size bytes d → budget ≤ 1000000 → ProvedWithin (core_document d) budget plan certs →
-    text ≡ text_with bytes d certs → IsFound bytes budget text
+    text ≡ text_with bytes d certs → IsProvedText bytes budget text
 found_of bytes budget d plan certs text read few proved e = record {
   document = d;
   read = read;
@@ -113,7 +113,7 @@ module _ (bytes : List ℕ) (budget : ℕ) (r : ReadDocument) (plan : Plan) (cer
   whole_text = text_is ∙ ap (λ t. t ++ 10 ∷ certificates_text certs)
       (front_is ∙ ap (bytes_before bytes) is.section_is ∙ before_section bytes is.document.certificates)
 
-  pub found_told : IsFound bytes budget text
+  pub found_told : IsProvedText bytes budget text
   found_told =
       found_of bytes budget is.document plan certs text is.read few
       (subst (λ c. ProvedWithin c budget plan certs) is.core_is proved) whole_text

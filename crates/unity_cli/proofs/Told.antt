@@ -52,7 +52,7 @@ use Rattle.unity_cli.specs.Admitted as admitted
 use Rattle.unity_cli.specs.Answer.Run as runs
 use Rattle.unity_cli.specs.Answer.Replay as replays
 use Rattle.unity_cli.specs.Input.{AreKept, IsInput, IsText, IsTextOf, IsSomeAdmitted}
-use Rattle.unity_cli.specs.Answering.{Telling, TellsAdmitted, TellsInput, TellsText, TellsBad, EndsAs}
+use Rattle.unity_cli.specs.Answering.{Telling, TellsAdmitted, TellsInput, TellsText, TellsBad, CommandEndsAs}
 use Rattle.unity_cli.proofs.Accepted.{read_core}
 use Rattle.unity_cli.proofs.Accepted.{accepted_follow, followed_accepts}
 use Rattle.unity_cli.proofs.OneAnswers.{one_checked}
@@ -156,7 +156,7 @@ status_for false = Status.Undefined
 -- the trace was written whole, and the command ended as its steps do
 trace_told : (request : Request) (bytes : List ℕ) (defined : Bool) (text : List ℕ) →
     Answer (Some request) bytes (status_for defined) text → (old mid new : Option (List ℕ)) (end : Stepped)
-    (status : Status) → end ≡ ending defined → Appends old mid text → EndsAs (Ok end) mid new status →
+    (status : Status) → end ≡ ending defined → Appends old mid text → CommandEndsAs (Ok end) mid new status →
     Telling request bytes old new status
 unfolding status_for
 trace_told request bytes defined text answer old mid new Stepped.Done status is whole e =
@@ -198,7 +198,7 @@ run_from d name steps c p is_core initial = record {
 run_told : (bytes name : List ℕ) (steps : ℕ) (d : Document) → IsAdmitted greatest_size bytes d → (old mid new : Option
     (List ℕ))
     (ended : Result Stepped RunError) (status : Status) → Runs d name steps old mid ended →
-    EndsAs ended mid new status → Telling (run name steps) bytes old new status
+    CommandEndsAs ended mid new status → Telling (run name steps) bytes old new status
 run_told bytes name steps d r old mid new (Ok end) status h e =
     trace_told (run name steps) bytes _ _ (ran_so bytes name steps d _ _ r
     (run_from d name steps h.0 h.1 h.2 h.3.initial)) old mid new end status h.3.ending_is h.3.whole e
@@ -223,7 +223,7 @@ run_told bytes name steps d r old mid new (Err RunError.Memory) status h e =
 
 pub run_answered : (r : ReadDocument) (name : List ℕ) (steps : ℕ) (old mid new : Option (List ℕ))
     (ended : Result Stepped RunError) (status : Status) → CoreRuns r.core name steps old mid ended →
-    EndsAs ended mid new status → TellsAdmitted (run name steps) r old new status
+    CommandEndsAs ended mid new status → TellsAdmitted (run name steps) r old new status
 run_answered r name steps old mid new ended status h e bytes is =
     run_told bytes name steps is.document is.read old mid new ended status
     (runs_say is.document name steps old mid ended is.read.reading.named is.read.reading.expands
@@ -256,7 +256,7 @@ fixed_from d name steps c p is_core initial = record {
 fixed_told : (bytes name : List ℕ) (steps : ℕ) (d : Document) → IsAdmitted greatest_size bytes d → (old mid new : Option
     (List ℕ))
     (ended : Result Stepped RunError) (status : Status) → FixedRuns d name steps old mid ended →
-    EndsAs ended mid new status → Telling (fixed name steps) bytes old new status
+    CommandEndsAs ended mid new status → Telling (fixed name steps) bytes old new status
 fixed_told bytes name steps d r old mid new (Ok end) status h e =
     trace_told (fixed name steps) bytes _ _ (fixed_so bytes name steps d _ _ r
     (fixed_from d name steps h.0 h.1 h.2 h.3.initial)) old mid new end status h.3.ending_is h.3.whole e
@@ -281,7 +281,7 @@ fixed_told bytes name steps d r old mid new (Err RunError.Memory) status h e =
 
 pub fixed_answered : (r : ReadDocument) (name : List ℕ) (steps : ℕ) (old mid new : Option (List ℕ))
     (ended : Result Stepped RunError) (status : Status) → CoreFixedRuns r.core name steps old mid ended →
-    EndsAs ended mid new status → TellsAdmitted (fixed name steps) r old new status
+    CommandEndsAs ended mid new status → TellsAdmitted (fixed name steps) r old new status
 fixed_answered r name steps old mid new ended status h e bytes is =
     fixed_told bytes name steps is.document is.read old mid new ended status
     (fixed_runs_say is.document name steps old mid ended is.read.reading.named is.read.reading.expands
@@ -309,7 +309,7 @@ replay_from d s c p choices replay_is initial = record {
 }
 
 replay_told : (bytes : List ℕ) (d : Document) → IsAdmitted greatest_size bytes d → (old mid new : Option (List ℕ))
-    (ended : Result Stepped RunError) (status : Status) → Replays d old mid ended → EndsAs ended mid new status →
+    (ended : Result Stepped RunError) (status : Status) → Replays d old mid ended → CommandEndsAs ended mid new status →
     Telling replay bytes old new status
 replay_told bytes d r old mid new (Ok end) status h e =
     trace_told replay bytes _ _ (replayed_so bytes d _ _ r (replay_from d h.0 h.1 h.2 h.3 h.4 h.5.initial)) old mid new
@@ -337,7 +337,7 @@ replay_told bytes d r old mid new (Err RunError.Failed) status h e =
 replay_told bytes d r old mid new (Err RunError.Memory) status h e = none_told replay bytes old new status e.0
 
 pub replay_answered : (r : ReadDocument) (old mid new : Option (List ℕ)) (ended : Result Stepped RunError)
-    (status : Status) → CoreReplays r.core old mid ended → EndsAs ended mid new status →
+    (status : Status) → CoreReplays r.core old mid ended → CommandEndsAs ended mid new status →
     TellsAdmitted replay r old new status
 replay_answered r old mid new ended status h e bytes is =
     replay_told bytes is.document is.read old mid new ended status
@@ -382,7 +382,8 @@ fault_bad most bytes input code at e h =
 -- ---- commands that ended early
 
 pub ended_early : (ended : Result Stepped RunError) (old new : Option (List ℕ)) (status : Status) →
-    EndsAs ended old new status → status ≡ Status.WantOfMemory → IsErr ended × (IsErrOf ended RunError.Failed → ⊥)
+    CommandEndsAs ended old new status → status ≡ Status.WantOfMemory → IsErr ended × (IsErrOf ended RunError.Failed →
+    ⊥)
 ended_early (Ok Stepped.Done) old new status e w =
     let never : Status.Done ≡ Status.WantOfMemory = sym e.0 ∙ w in cc
 ended_early (Ok Stepped.Undefined) old new status e w =

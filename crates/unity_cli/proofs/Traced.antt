@@ -7,11 +7,11 @@ use Rattle.unity_cli.specs.Admitted.{greatest_size, IsBad}
 use Rattle.unity_cli.specs.Answer.{Answer, most_bytes}
 use Rattle.unity_cli.specs.Answer.Replay as replays
 use Rattle.unity_cli.specs.Answer.Run as runs
-use Rattle.unity_cli.specs.Answering.{IsTraced}
+use Rattle.unity_cli.specs.Answering.{AsksForTrace}
 use Rattle.unity_cli.specs.Input.{IsInput}
 
 -- each takes texts of the greatest size
-pub traced_input : (request : Request) → IsTraced request → (bytes : List ℕ) (input : Input) →
+pub traced_input : (request : Request) → AsksForTrace request → (bytes : List ℕ) (input : Input) →
     IsInput (most_bytes (Some request)) bytes input → IsInput greatest_size bytes input
 traced_input check t bytes input is = absurd t
 traced_input (prove budget) t bytes input is = absurd t
@@ -23,7 +23,7 @@ traced_input upgrade t bytes input is = absurd t
 traced_input watch t bytes input is = absurd t
 
 -- each says the same of what is no document
-pub traced_bad : (request : Request) → IsTraced request → (bytes text : List ℕ) → IsBad greatest_size bytes text →
+pub traced_bad : (request : Request) → AsksForTrace request → (bytes text : List ℕ) → IsBad greatest_size bytes text →
     Answer (Some request) bytes Status.BadDocument text
 traced_bad check t bytes text bad = absurd t
 traced_bad (prove budget) t bytes text bad = absurd t

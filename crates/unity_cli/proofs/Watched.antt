@@ -14,9 +14,9 @@ use Rattle.cli_words.specs.Requests.{Request, watch}
 use Rattle.trace_watch.specs.declared.tracing.Ending.{Ending}
 use Rattle.watch_schedules.specs.declared.error.WatchStop.{WatchStop}
 use Rattle.watch_schedules.specs.declared.watching.WatchedSchedule.{WatchedSchedule}
-use Rattle.watch_schedules.specs.Schedules.{Finds, IsWatched as IsFound}
+use Rattle.watch_schedules.specs.Schedules.{FindsWatched, IsWatchedSchedule as IsFound}
 use Rattle.watch_schedules.specs.Telling.{schedule_text}
-use Rattle.watch_correct.specs.Watched.{IsWatched, Stops}
+use Rattle.watch_correct.specs.Watched.{IsWatched, StopsWatching}
 use Rattle.watch_correct.specs.Laws.{HasCore}
 use Rattle.watch_correct.proofs.Finding.{none_violated, watches_say}
 use Rattle.unity_cli.specs.declared.status.Status.{Status}
@@ -26,7 +26,7 @@ use Rattle.unity_cli.specs.declared.output.Answer.{Answer as Told}
 use Rattle.unity_cli.specs.Status.{HasText}
 use Rattle.unity_cli.specs.Admitted.{greatest_size, IsAdmitted}
 use Rattle.unity_cli.specs.Answer.{Answer, most_bytes}
-use Rattle.unity_cli.specs.Answer.Watch.{ending_status, IsBroken, IsKept, IsNotWatched, Watched}
+use Rattle.unity_cli.specs.Answer.Watch.{ending_status, IsBroken, IsKeptTrace, IsNotWatched, Watched}
 use Rattle.unity_cli.specs.Answer.Watch as watches
 use Rattle.unity_cli.specs.Answering.{IsStoppedFor, IsWatchedIn, TellsText}
 use Rattle.unity_cli.specs.Following.{FollowsTheRules}
@@ -86,7 +86,8 @@ found_watched r w found status text e t bytes is =
     (subst (IsWatched d w.ending) (sym (t ∙ ap (λ (c : CDocument). schedule_text c w) is.core_is)) told))
 
 stopped_so : (bytes : List ℕ) (d : Document) → IsAdmitted greatest_size bytes d → (stop : WatchStop) →
-    Stops d stop → (a : Told) → IsStoppedFor (core_document d).words stop a → Watched bytes a.status a.text.items
+    StopsWatching d stop → (a : Told) → IsStoppedFor (core_document d).words stop a →
+    Watched bytes a.status a.text.items
 stopped_so bytes d read WatchStop.NoSchedule h a s =
     bad_watched bytes a.status a.text.items (refusal_text Code.NoSchedule) s.0 s.1
     (watches.IsNotWatched.no_schedule d read h refl)
@@ -113,11 +114,11 @@ stopped_so bytes d read WatchStop.TooManyCases h a s =
 stopped_so bytes d read WatchStop.Memory h a s = absurd s
 
 -- the schedule of its core form is not watched: so is this
-pub stopped_watched : {E : Type 0} (r : ReadDocument) (stop : WatchStop) → Finds r.core (Err stop) →
+pub stopped_watched : {E : Type 0} (r : ReadDocument) (stop : WatchStop) → FindsWatched r.core (Err stop) →
     (answer : Result Told E) → IfOk answer (IsStoppedFor r.core.words stop) → IfOk answer (IsWatchedIn r)
 stopped_watched r stop found (Ok a) s = λ bytes is.
     let d = is.document in
-    let found_core = subst (λ (c : CDocument). Finds c (Err stop)) is.core_is found in
+    let found_core = subst (λ (c : CDocument). FindsWatched c (Err stop)) is.core_is found in
     stopped_so bytes d is.read stop (watches_say d (core_read bytes d is.read) (Err stop) found_core) a
     (subst (λ (c : CDocument). IsStoppedFor c.words stop a) is.core_is s)
 stopped_watched r stop found (Err e) s = tt
@@ -146,7 +147,8 @@ module _ (asked : Option Request) (request : Request) (left : Option (List ℕ))
       let told = watch_writes (subst HasText (sym violated) tt) is_watch in
       (told.0, subst (λ s. Watched i.bytes s told.0) violated told.1, told.2)
 
-  kept_writes : status ≡ Status.Done → asked ≡ Some watch → (text : List ℕ) × IsKept i.bytes text × Appends old new text
+  kept_writes : status ≡ Status.Done → asked ≡ Some watch → (text : List ℕ) × IsKeptTrace i.bytes text ×
+      Appends old new text
   kept_writes done is_watch =
       let told = watch_writes (subst HasText (sym done) tt) is_watch in
       (told.0, subst (λ s. Watched i.bytes s told.0) done told.1, told.2)

@@ -26,11 +26,11 @@ use Rattle.watch_schedules.specs.declared.error.WatchStop.{WatchStop}
 use Rattle.unity_cli.specs.Input.{AreKept, IsInput, IsAdmittedAs, IsText}
 
 -- a trace is asked for
-abbrev pub IsTraced : Request → Type 0
-IsTraced (run program steps) = Unit {0}
-IsTraced (fixed program steps) = Unit {0}
-IsTraced replay = Unit {0}
-IsTraced request = ⊥
+abbrev pub AsksForTrace : Request → Type 0
+AsksForTrace (run program steps) = Unit {0}
+AsksForTrace (fixed program steps) = Unit {0}
+AsksForTrace replay = Unit {0}
+AsksForTrace request = ⊥
 
 -- the status and the text are what `prove` answers
 abbrev pub IsSearchedFor : ℕ → List ℕ → Input → Told → Type 0
@@ -102,13 +102,13 @@ pub record TellsBad (text : List ℕ) (old new : Option (List ℕ)) (status : St
   pub part : status ≡ Status.WriteFault → AppendsPart old new text
 
 -- a command that ended so has this status, with its refusal where it has one
-abbrev pub EndsAs : Result Stepped RunError → Option (List ℕ) → Option (List ℕ) → Status → Type 0
-EndsAs (Ok Stepped.Done) old new status = (status ≡ Status.Done) × (new ≡ old)
-EndsAs (Ok Stepped.Undefined) old new status = (status ≡ Status.Undefined) × (new ≡ old)
-EndsAs (Err RunError.NoProgram) old new status = TellsBad (refusal_text Code.NoProgram) old new status
-EndsAs (Err RunError.NoSchedule) old new status = TellsBad (refusal_text Code.NoSchedule) old new status
-EndsAs (Err (RunError.NoSuchStatement at)) old new status =
+abbrev pub CommandEndsAs : Result Stepped RunError → Option (List ℕ) → Option (List ℕ) → Status → Type 0
+CommandEndsAs (Ok Stepped.Done) old new status = (status ≡ Status.Done) × (new ≡ old)
+CommandEndsAs (Ok Stepped.Undefined) old new status = (status ≡ Status.Undefined) × (new ≡ old)
+CommandEndsAs (Err RunError.NoProgram) old new status = TellsBad (refusal_text Code.NoProgram) old new status
+CommandEndsAs (Err RunError.NoSchedule) old new status = TellsBad (refusal_text Code.NoSchedule) old new status
+CommandEndsAs (Err (RunError.NoSuchStatement at)) old new status =
     TellsBad (fault_text Code.NoSuchStatement at) old new status
-EndsAs (Err RunError.NotInitial) old new status = TellsBad (refusal_text Code.NoStart) old new status
-EndsAs (Err RunError.Failed) old new status = (status ≡ Status.WriteFault) × (new ≡ old)
-EndsAs (Err RunError.Memory) old new status = (status ≡ Status.WantOfMemory) × (new ≡ old)
+CommandEndsAs (Err RunError.NotInitial) old new status = TellsBad (refusal_text Code.NoStart) old new status
+CommandEndsAs (Err RunError.Failed) old new status = (status ≡ Status.WriteFault) × (new ≡ old)
+CommandEndsAs (Err RunError.Memory) old new status = (status ≡ Status.WantOfMemory) × (new ≡ old)

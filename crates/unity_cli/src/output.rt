@@ -4,7 +4,7 @@ ghost use Rattle.run_traces.specs.declared.error.RunError.{RunError};
 ghost use Rattle.std.specs.Io.KnownBytes.{Appends};
 ghost use Rattle.unity_base.specs.Streams.{IsTold, AppendsPart};
 ghost use Rattle.unity_cli.specs.Status.{HasText};
-ghost use Rattle.unity_cli.specs.Answering.{TellsBad, EndsAs};
+ghost use Rattle.unity_cli.specs.Answering.{TellsBad, CommandEndsAs};
 
 use crate::status::Status;
 use case_tables::Code;
@@ -69,7 +69,7 @@ pub fn write_bad<K: Sink>(text: Result<Vec<u8>, AllocError>, out: &mut K) -> Sta
 
 /// The status of a run or a replay that ended so, once its refusal is written where it has one.
 pub fn write_end<K: Sink>(alloc: Global, ended: Result<Stepped, RunError>, out: &mut K) -> Status
-    ensures told { EndsAs ended (K.written out.old) (K.written out.new) result }
+    ensures told { CommandEndsAs ended (K.written out.old) (K.written out.new) result }
     ensures nothing { result ≡ Status.WantOfMemory → out.new ≡ out.old }
     ensures never { result ≡ Status.ReadFault → ⊥ }
     ensures failed { ended ≡ Err RunError.Failed → (result ≡ Status.WriteFault) × (out.new ≡ out.old) }

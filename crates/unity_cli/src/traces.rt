@@ -3,7 +3,7 @@ ghost use Rattle.std.specs.Prelude.{◌≡◌};
 ghost use Rattle.unity_base.specs.Streams.{IsTold};
 ghost use Rattle.cli_words.specs.Requests.{meant};
 ghost use Rattle.unity_cli.specs.Admitted.{greatest_size};
-ghost use Rattle.unity_cli.specs.Answering.{IsTraced, TellsInput, TellsAdmitted};
+ghost use Rattle.unity_cli.specs.Answering.{AsksForTrace, TellsInput, TellsAdmitted};
 ghost use Rattle.unity_cli.specs.Input.{IsSomeInput, IsSomeAdmitted};
 
 use crate::fixed::fixed_document;
@@ -21,7 +21,7 @@ use unity_base::Sink;
 
 /// Writes what a command for a trace answers for the input.
 pub fn write_trace<K: Sink>(alloc: Global, command: &Command, input: &Input, out: &mut K) -> Status
-    requires traced { IsTraced (meant command.now) }
+    requires traced { AsksForTrace (meant command.now) }
     requires input { IsSomeInput greatest_size input.now }
     ensures told { TellsInput (meant command.now) input.now (K.written out.old) (K.written out.new) result }
     ensures nothing { result ≡ Status.WantOfMemory → out.new ≡ out.old }
@@ -42,7 +42,7 @@ fn trace_document<K: Sink>(
     reading: &ReadDocument,
     out: &mut K,
 ) -> Status
-    requires traced { IsTraced (meant command.now) }
+    requires traced { AsksForTrace (meant command.now) }
     requires admitted { IsSomeAdmitted greatest_size reading.now }
     ensures told { TellsAdmitted (meant command.now) reading.now (K.written out.old) (K.written out.new) result }
     ensures nothing { result ≡ Status.WantOfMemory → out.new ≡ out.old }

@@ -21,7 +21,7 @@ use Rattle.unity_lexer.specs.Tokens.{is_blank, is_word_byte, is_word, is_numeral
 use Rattle.unity_lexer.specs.Tokens.{IsPieceOfText, symbol, IsLongestRun, LineEnds, IsGap, blank, comment, Spells}
 use Rattle.unity_lexer.specs.Tokens.{bad_number}
 use Rattle.unity_lexer.specs.Tokens.{bad_byte}
-use Rattle.unity_lexer.specs.Pieces.{is_other, IsFront, BeginsWith}
+use Rattle.unity_lexer.specs.Pieces.{is_other, IsSomeFront, BeginsWith}
 use Rattle.unity_lexer.proofs.Longest.{opens, and_left, and_right, not_both, run_opens, run_at_other, symbol_opens}
 use Rattle.unity_lexer.proofs.Longest.{longest_word, longest_numeral, front_passes, letter_continues, front_is_made}
 use Rattle.unity_lexer.proofs.SymbolTable.{begins_append, append_begins, first_row_is, first_row_longest}
@@ -33,7 +33,7 @@ opens_from p [] some h = absurd (omega arith)
 opens_from p (b ∷ bs) some h = h
 
 -- the front that passes has a byte, where the first one passes
-front_of : (p : ℕ → Bool) (text : List ℕ) → opens p text ≡ true → IsFront (prefix_len p text) text
+front_of : (p : ℕ → Bool) (text : List ℕ) → opens p text ≡ true → IsSomeFront (prefix_len p text) text
 front_of p [] o = absurd (not_both false o refl)
 front_of p (b ∷ bs) o = let h : p b ≡ true = o in (rw h (omega arith), prefix_len-le-length p (b ∷ bs))
 
@@ -99,7 +99,7 @@ pub number_test : (text : List ℕ) (n v : ℕ) → opens is_ascii_digit text �
     ≡ min (digits_value 10 (take n text)) (2 ^ 64 - 1)
     → is_number (take n text) ≡ (nat_le v (2 ^ 62) && not (nat_lt 1 n && get_or text 0 0 == 48))
 number_test text n v o n_is v_is =
-    let front : IsFront (prefix_len is_ascii_digit text) text = front_of is_ascii_digit text o in
+    let front : IsSomeFront (prefix_len is_ascii_digit text) text = front_of is_ascii_digit text o in
     let some : 0 < n = omega arith in
     let within : n ≤ length text = omega arith in
     let digits : is_numeral (take n text) ≡ true = subst (λ m. is_numeral (take m text) ≡ true) (sym n_is)
@@ -121,7 +121,7 @@ pub number_begins : (text : List ℕ) (n v : ℕ) → opens is_ascii_digit text 
     v ≡ min (digits_value 10 (take n text)) (2 ^ 64 - 1)
     → is_number (take n text) ≡ true → BeginsWith text (Token (kind.Number v) n)
 number_begins text n v o n_is v_is h = (
-  subst (λ m. IsFront m text) (sym n_is) (front_of is_ascii_digit text o),
+  subst (λ m. IsSomeFront m text) (sym n_is) (front_of is_ascii_digit text o),
   subst (λ m. IsLongestRun text (take m text) (drop m text)) (sym n_is) (longest_numeral text o),
   (h, kept (digits_value 10 (take n text)) v v_is (and_left _ _ (and_right (is_numeral (take n text)) _ h))),
 )

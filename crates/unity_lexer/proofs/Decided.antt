@@ -18,7 +18,7 @@ use Rattle.unity_lexer.specs.declared.piece.Piece.TheVariants as pieces
 use Rattle.unity_lexer.specs.Tokens.{is_blank, is_word_byte, is_made_of, is_numeral, is_number, begins_with_spare_zero}
 use Rattle.unity_lexer.specs.Tokens.{IsPieceOfText, word, numeral, symbol, IsLongestRun, IsGap, blank, comment}
 use Rattle.unity_lexer.specs.Tokens.{IsFaulty, bad_number, bad_byte}
-use Rattle.unity_lexer.specs.Pieces.{IsFront}
+use Rattle.unity_lexer.specs.Pieces.{IsSomeFront}
 use Rattle.unity_lexer.specs.Windows.{Decided}
 use Rattle.unity_lexer.proofs.Longest.{opens, and_left, and_right, both, not_both, row_passes, run_opens, passing_front}
 use Rattle.unity_lexer.proofs.Begins.{comment_begins, number_fails, opens_some, take_front}
@@ -163,7 +163,7 @@ gap_more rest more (blank b h) some = blank b h
 gap_more [] more (comment line h ends) some = absurd (omega arith)
 gap_more (r ∷ rest) more (comment line h ends) some = comment line h ends
 
-front_more : (n : ℕ) (text more : List ℕ) → IsFront n text → IsFront n (text ++ more)
+front_more : (n : ℕ) (text more : List ℕ) → IsSomeFront n text → IsSomeFront n (text ++ more)
 front_more n text more f = (f.0, omega (arith, f.1, length-append text more))
 
 pub decided : Decided

@@ -10,7 +10,8 @@ use Rattle.unity_base.specs.Window.{held, coming, window_bytes, HasDropped, HasP
 use Rattle.unity_lexer.specs.declared.ahead.Next.TheVariants as next
 use Rattle.unity_lexer.specs.declared.stretches.Run.{Run}
 use Rattle.unity_lexer.specs.declared.stretches.Run.TheVariants as run
-use Rattle.unity_lexer.specs.Windows.{Comes, IsAhead, Halts, HasTaken, HasRun, HasKept, HasGiven, PassesGap, PassesWord}
+use Rattle.unity_lexer.specs.Windows.{Comes, IsAhead, RunHalts, HasTaken, HasRun, HasKept, HasGiven, PassesGap}
+use Rattle.unity_lexer.specs.Windows.{PassesWord}
 use Rattle.unity_lexer.proofs.ScanSteps.{passed_then, dropped_passed}
 use Rattle.unity_lexer.proofs.Scanning.{comment_gap, long_run}
 use Rattle.unity_lexer.specs.Tokens.{is_word_byte, is_word}
@@ -53,7 +54,7 @@ module _ (u v x : Window) (a c : Option (List ℕ)) (some : 0 < length (window_b
       subst (λ xs. HasTaken u x a c (xs ++ h.dropped)) (first_byte (held u) told.0 rest fits told.2)
       (taken_then u v x a a c (take 1 (held u)) h.dropped (taken_front u v a 1 d fits) h.taken)
 
-  pub comment_taken : Halts run.Line x c → x.at + length (held x) ≤ x.limit → (rest : List ℕ)
+  pub comment_taken : RunHalts run.Line x c → x.at + length (held x) ≤ x.limit → (rest : List ℕ)
       → coming u a ≡ Some (35 ∷ rest) → PassesGap u.at (35 ∷ rest) x.at (coming x c)
   comment_taken halts inside rest e =
       comment_gap u x a c h.dropped rest (comment_all rest e) h.passes halts inside e
@@ -97,7 +98,7 @@ module _ (u v x : Window) (a c : Option (List ℕ)) (some : 0 < length (window_b
             (first_passes (held u) told.0 front.0 front.1 fits (sym front.2 ∙ told.2) front.3) h.passes;
       }
 
-  pub whole_word : Halts run.Word x c → x.at + length (held x) ≤ x.limit → IsAhead u a next.Word → (bytes : List ℕ)
+  pub whole_word : RunHalts run.Word x c → x.at + length (held x) ≤ x.limit → IsAhead u a next.Word → (bytes : List ℕ)
       → coming u a ≡ Some bytes → PassesWord u.at bytes x.at (coming x c)
   whole_word halts inside ahead = λ bytes e.
       let front = ahead bytes e in

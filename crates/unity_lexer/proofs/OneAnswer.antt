@@ -14,7 +14,7 @@ use Rattle.unity_lexer.specs.Tokens.{is_blank, is_word, is_numeral, is_number, I
 use Rattle.unity_lexer.specs.Tokens.{IsGap}
 use Rattle.unity_lexer.specs.Tokens.{blank, comment, Spells, Tokenizes, nothing, gap, token, IsFaulty, bad_number}
 use Rattle.unity_lexer.specs.Tokens.{bad_byte}
-use Rattle.unity_lexer.specs.Tokens.{IsTokens, FirstBad, IsReading}
+use Rattle.unity_lexer.specs.Tokens.{IsTokens, FirstBad, IsLexing}
 use Rattle.unity_lexer.specs.Pieces.{is_other}
 use Rattle.unity_lexer.proofs.Longest.{opens, and_left, and_right, not_both, row_passes, symbol_opens, run_opens}
 use Rattle.unity_lexer.proofs.Longest.{letter_no_digit, letter_no_other, digit_no_other}
@@ -241,10 +241,10 @@ FirstBad-unique text c d m n one two =
     (one_code one.rest c d one.faulty (subst (λ t. IsFaulty t d) (sym same.2) two.faulty), same.1)
 
 -- a text has one reading
-pub IsReading-unique : (text : List ℕ) (a b : Result (List Token) (Code × ℕ)) → IsReading text a → IsReading text b → a
+pub IsLexing-unique : (text : List ℕ) (a b : Result (List Token) (Code × ℕ)) → IsLexing text a → IsLexing text b → a
     ≡ b
-IsReading-unique text (Ok ts) (Ok us) one two = ap (λ x. Ok x) (IsTokens-unique text ts us one two)
-IsReading-unique text (Ok ts) (Err (d, n)) one two = absurd (IsTokens-no_fault text ts d n one two)
-IsReading-unique text (Err (c, m)) (Ok us) one two = absurd (IsTokens-no_fault text us c m two one)
-IsReading-unique text (Err (c, m)) (Err (d, n)) one two = let same = FirstBad-unique text c d m n one two in
+IsLexing-unique text (Ok ts) (Ok us) one two = ap (λ x. Ok x) (IsTokens-unique text ts us one two)
+IsLexing-unique text (Ok ts) (Err (d, n)) one two = absurd (IsTokens-no_fault text ts d n one two)
+IsLexing-unique text (Err (c, m)) (Ok us) one two = absurd (IsTokens-no_fault text us c m two one)
+IsLexing-unique text (Err (c, m)) (Err (d, n)) one two = let same = FirstBad-unique text c d m n one two in
     (λ i. Err (same.0 i, same.1 i))

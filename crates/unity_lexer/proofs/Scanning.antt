@@ -17,7 +17,7 @@ use Rattle.unity_lexer.specs.declared.stretches.Run.TheVariants as run
 use Rattle.unity_lexer.specs.Tokens.{is_word_byte, is_word, LineEnds, comment, IsLongestRun, Tokenizes}
 use Rattle.unity_lexer.specs.Tokens.{nothing}
 use Rattle.unity_lexer.specs.Pieces.{BeginsWith}
-use Rattle.unity_lexer.specs.Windows.{goes_on, EndsAt, Halts, HasTaken, HasRun, PassesGap, PassesWord}
+use Rattle.unity_lexer.specs.Windows.{goes_on, RunEndsAt, RunHalts, HasTaken, HasRun, PassesGap, PassesWord}
 use Rattle.unity_lexer.specs.Scans.{ReadsTo}
 use Rattle.unity_lexer.proofs.Longest.{opens, and_left, and_right, both, longest_word, front_is_made}
 use Rattle.unity_lexer.proofs.Longest.{letter_continues, passing_front}
@@ -41,14 +41,14 @@ held_gap w x left n bytes fits d e begins = record {
 }
 
 -- a line ends where no byte goes on with it
-line_ends : (xs more : List ℕ) (left : Option (List ℕ)) → left ≡ Some more → EndsAt run.Line xs left
+line_ends : (xs more : List ℕ) (left : Option (List ℕ)) → left ≡ Some more → RunEndsAt run.Line xs left
     → LineEnds (xs ++ more)
 line_ends [] more left e end = subst LineEnds (sym (subst IsAtEnd e end)) tt
 line_ends (b ∷ xs) more left e end = let h : not (b == 10) ≡ false = end in grind (arith, common_steps)
 
 -- a comment, of which `#` was dropped first and then the rest of the line
 pub comment_gap : (u x : Window) (a c : Option (List ℕ)) (line rest : List ℕ) → HasTaken u x a c (35 ∷ line)
-    → list_all (goes_on run.Line) line ≡ true → Halts run.Line x c → x.at + length (held x) ≤ x.limit
+    → list_all (goes_on run.Line) line ≡ true → RunHalts run.Line x c → x.at + length (held x) ≤ x.limit
     → coming u a ≡ Some (35 ∷ rest) → PassesGap u.at (35 ∷ rest) x.at (coming x c)
 comment_gap u x a c line rest t passes halts inside e =
     let told = consumed_told _ _ (35 ∷ line) (35 ∷ rest) t.consumes e in
@@ -79,7 +79,7 @@ prefix_is p (x ∷ xs) ys h f =
     let rest : prefix_len p (xs ++ ys) ≡ length xs = prefix_is p xs ys (and_right (p x) (list_all p xs) h) f in
     rw (here, one-add, rest) refl
 
-word_ends : (xs more : List ℕ) (left : Option (List ℕ)) → left ≡ Some more → EndsAt run.Word xs left
+word_ends : (xs more : List ℕ) (left : Option (List ℕ)) → left ≡ Some more → RunEndsAt run.Word xs left
     → Fails is_word_byte (xs ++ more)
 word_ends [] more left e end = subst (Fails is_word_byte) (sym (subst IsAtEnd e end)) tt
 word_ends (b ∷ xs) more left e end = end
@@ -94,7 +94,7 @@ word_passes (b ∷ bs) h = both _ _ (letter_continues b (and_left _ _ h)) (and_r
 
 -- a word, of which more than the longest reserved one was seen before it was dropped
 pub long_run : (u x : Window) (a c : Option (List ℕ)) (bytes front more : List ℕ) (h : HasRun run.Word u x a c)
-    → Halts run.Word x c → x.at + length (held x) ≤ x.limit → coming u a ≡ Some bytes → bytes ≡ front ++ more
+    → RunHalts run.Word x c → x.at + length (held x) ≤ x.limit → coming u a ≡ Some bytes → bytes ≡ front ++ more
     → is_word front ≡ true → 12 < length front → PassesWord u.at bytes x.at (coming x c)
 long_run u x a c bytes front more h halts inside e cut made long =
     let t = h.taken in

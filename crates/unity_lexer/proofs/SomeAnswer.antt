@@ -19,7 +19,7 @@ use Rattle.unity_lexer.specs.declared.piece.Piece.TheVariants as pieces
 use Rattle.unity_lexer.specs.Symbols.{first_symbol}
 use Rattle.unity_lexer.specs.Tokens.{is_blank, is_word_byte, is_number, Spells, Tokenizes, nothing, gap, token}
 use Rattle.unity_lexer.specs.Tokens.{IsFaulty}
-use Rattle.unity_lexer.specs.Tokens.{IsTokens, FirstBad, IsReading, AreInOrder, IsSpelledIn}
+use Rattle.unity_lexer.specs.Tokens.{IsTokens, FirstBad, IsLexing, AreInOrder, IsSpelledIn}
 use Rattle.unity_lexer.specs.Pieces.{is_other, BeginsWith}
 use Rattle.unity_lexer.proofs.Longest.{opens, run_opens}
 use Rattle.unity_lexer.proofs.Begins.{blank_begins, comment_begins, word_begins, number_begins, number_fails}
@@ -136,10 +136,10 @@ reads_place (token run after k longest spells reads) = let e = reads_place reads
     (arith, e, ap length longest.split, length-append run after)
 
 -- each text has a reading
-pub some_reading : (text : List ℕ) → (reading : Result (List Token) (Code × ℕ)) × IsReading text reading
+pub some_reading : (text : List ℕ) → (reading : Result (List Token) (Code × ℕ)) × IsLexing text reading
 some_reading text = at (ends (length text) 0 text (omega arith))
   where
-    at : Ends 0 text → (reading : Result (List Token) (Code × ℕ)) × IsReading text reading
+    at : Ends 0 text → (reading : Result (List Token) (Code × ℕ)) × IsLexing text reading
     at e = elim e.ended [
       | inl none ↦
           let place_is : e.place ≡ length text = omega (arith, reads_place e.reads, ap length none) in (

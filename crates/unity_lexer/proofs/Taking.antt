@@ -11,7 +11,7 @@ use Rattle.unity_base.specs.declared.window.Window.{Window}
 use Rattle.unity_base.specs.Window.{held, coming, window_bytes, HasRead, HasDropped, HasPassed}
 use Rattle.unity_base.specs.Window.{PassesLimit}
 use Rattle.unity_lexer.specs.declared.stretches.Run.{Run}
-use Rattle.unity_lexer.specs.Windows.{goes_on, IsKnown, EndsAt, Halts, HasTaken, HasRun, HasKept}
+use Rattle.unity_lexer.specs.Windows.{goes_on, IsKnown, RunEndsAt, RunHalts, HasTaken, HasRun, HasKept}
 use Rattle.unity_lexer.proofs.Longest.{and_left, and_right, both, front_passes}
 
 -- ---- told bytes
@@ -185,11 +185,11 @@ kept_turn r u v w x a b c n kept now more h q e d f = record {
 
 -- a run ends where none of the bytes that may be looked at goes on with it
 pub halts : (r : Run) (w : Window) (left : Option (List ℕ)) → IsKnown w left
-    → prefix_len (goes_on r) (window_bytes w) ≡ 0 → Halts r w left
+    → prefix_len (goes_on r) (window_bytes w) ≡ 0 → RunHalts r w left
 halts r w left end none = λ inside.
     at (held w) end (subst (λ xs. prefix_len (goes_on r) xs ≡ 0) (all_shown w inside) none)
   where
-    at : (xs : List ℕ) → (xs ≡ [] → IsAtEnd left) → prefix_len (goes_on r) xs ≡ 0 → EndsAt r xs left
+    at : (xs : List ℕ) → (xs ≡ [] → IsAtEnd left) → prefix_len (goes_on r) xs ≡ 0 → RunEndsAt r xs left
     at [] k z = k refl
     at (b ∷ xs) k z = here (goes_on r b) refl
       where

@@ -6,14 +6,14 @@ use Rattle.unity_lexer.specs.declared.piece.Piece.TheVariants.{Gap, Token, Fault
 use Rattle.unity_lexer.specs.Tokens.{IsGap, IsLongestRun, Spells, IsFaulty, is_blank}
 
 -- so many bytes, and not none, are a front part of the text
-abbrev pub IsFront : ℕ → List ℕ → Type 0
-IsFront size text = (0 < size) × (size ≤ length text)
+abbrev pub IsSomeFront : ℕ → List ℕ → Type 0
+IsSomeFront size text = (0 < size) × (size ≤ length text)
 
 -- the text begins with this piece
 abbrev pub BeginsWith : List ℕ → Piece → Type 0
-BeginsWith text (Gap size) = IsFront size text × IsGap (drop size text) (take size text)
+BeginsWith text (Gap size) = IsSomeFront size text × IsGap (drop size text) (take size text)
 BeginsWith text (Token kind size) =
-    IsFront size text × IsLongestRun text (take size text) (drop size text) × Spells (take size text) kind
+    IsSomeFront size text × IsLongestRun text (take size text) (drop size text) × Spells (take size text) kind
 BeginsWith text (Fault code) = IsFaulty text code
 
 -- a byte with which no blank, no comment, no word and no numeral begins

@@ -111,9 +111,9 @@ pub record FirstBad (text : List ℕ) (code : Code) (place : ℕ) : Type 0 where
   pub faulty : IsFaulty rest code
 
 -- how a text is read: into its tokens, or up to its first fault
-abbrev pub IsReading : List ℕ → Result (List Token) (Code × ℕ) → Type 0
-IsReading text (Ok tokens) = IsTokens text tokens
-IsReading text (Err (code, place)) = FirstBad text code place
+abbrev pub IsLexing : List ℕ → Result (List Token) (Code × ℕ) → Type 0
+IsLexing text (Ok tokens) = IsTokens text tokens
+IsLexing text (Err (code, place)) = FirstBad text code place
 
 -- why a text is refused: its first fault, or no memory
 abbrev pub IsTokenRefusal : List ℕ → SyntaxFault → Type 0

@@ -69,13 +69,13 @@ abbrev pub IsKnown : Window → Option (List ℕ) → Type 0
 IsKnown w left = held w ≡ [] → IsAtEnd left
 
 -- the run ends where these bytes begin, and where they are none, with the source
-abbrev pub EndsAt : Run → List ℕ → Option (List ℕ) → Type 0
-EndsAt r [] left = IsAtEnd left
-EndsAt r (b ∷ _) left = goes_on r b ≡ false
+abbrev pub RunEndsAt : Run → List ℕ → Option (List ℕ) → Type 0
+RunEndsAt r [] left = IsAtEnd left
+RunEndsAt r (b ∷ _) left = goes_on r b ≡ false
 
 -- the run ends here, or at the limit with a byte behind it
-abbrev pub Halts : Run → Window → Option (List ℕ) → Type 0
-Halts r w left = window_at w + length (held w) ≤ window_limit w → EndsAt r (held w) left
+abbrev pub RunHalts : Run → Window → Option (List ℕ) → Type 0
+RunHalts r w left = window_at w + length (held w) ≤ window_limit w → RunEndsAt r (held w) left
 
 -- these bytes, from the front of those to come, were dropped, and more may have been read
 pub record HasTaken (old new : Window) (before after : Option (List ℕ)) (dropped : List ℕ) : Type 0 where

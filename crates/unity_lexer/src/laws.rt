@@ -3,12 +3,12 @@
 ghost use Rattle.std.specs.Prelude.{◌≡◌, ◌<◌, ℕ, List, Result, length, All};
 ghost use Rattle.case_tables.specs.declared.code_table.Code.{Code};
 ghost use Rattle.unity_syntax.specs.declared.token.Token.{Token};
-ghost use Rattle.unity_lexer.specs.Tokens.{IsTokens, FirstBad, IsReading, AreInOrder, IsSpelledIn};
+ghost use Rattle.unity_lexer.specs.Tokens.{IsTokens, FirstBad, IsLexing, AreInOrder, IsSpelledIn};
 ghost use Rattle.unity_lexer.specs.Windows.{Decided};
 
 /// Each text has a list of tokens or a first fault.
 pub fn some_reading()
-    ensures { (text : List ℕ) → (reading : Result (List Token) (Code × ℕ)) × IsReading text reading }
+    ensures { (text : List ℕ) → (reading : Result (List Token) (Code × ℕ)) × IsLexing text reading }
 {}
 
 /// No text has two lists of tokens, a list of tokens and a fault, or two first faults.
@@ -17,8 +17,8 @@ pub fn one_reading()
         some ≡ others }
     ensures either { (text : List ℕ) → (tokens : List Token) → (code : Code) → (place : ℕ) → IsTokens text tokens →
         ¬ FirstBad text code place }
-    ensures reading { (text : List ℕ) → (one other : Result (List Token) (Code × ℕ)) → IsReading text one →
-        IsReading text other → one ≡ other }
+    ensures reading { (text : List ℕ) → (one other : Result (List Token) (Code × ℕ)) → IsLexing text one →
+        IsLexing text other → one ≡ other }
 {}
 
 /// The tokens of a text lie in it one after the other, and each is spelled at its place. A fault

@@ -4,7 +4,7 @@ ghost use Rattle.std.specs.Prelude.{◌≡◌, ◌≤◌, ◌++◌, length, take
 ghost use Rattle.std.specs.List.{prefix_len};
 ghost use Rattle.unity_base.specs.Streams.{HasCause, IsTold};
 ghost use Rattle.unity_base.specs.Window.{held, coming, window_bytes, HasRead, HasDropped, HasPassed};
-ghost use Rattle.unity_lexer.specs.Windows.{goes_on, IsKnown, Halts, HasRun, HasKept, IsStop};
+ghost use Rattle.unity_lexer.specs.Windows.{goes_on, IsKnown, RunHalts, HasRun, HasKept, IsStop};
 
 use crate::front::FrontError;
 use crate::runs::{line_len, word_len};
@@ -45,7 +45,7 @@ fn fill_empty<S: Source>(w: &mut Window, src: &mut S) -> Result<(), Failed>
 /// How many of the bytes held go on with the run: none exactly where it ends.
 fn run_ahead<S: Source>(run: Run, w: &mut Window, src: &mut S) -> Result<usize, Failed>
     ensures size { IfOk result (λ size. size ≡ prefix_len (goes_on run) (window_bytes w.new)) }
-    ensures halts { IfOk result (λ size. size ≡ 0 → Halts run w.new (S.left src.new)) }
+    ensures halts { IfOk result (λ size. size ≡ 0 → RunHalts run w.new (S.left src.new)) }
     ensures read { HasRead w.old w.new (S.left src.old) (S.left src.new) }
     ensures cause { HasCause (S.faults src.old) (S.faults src.new) result }
 {
@@ -56,7 +56,7 @@ fn run_ahead<S: Source>(run: Run, w: &mut Window, src: &mut S) -> Result<usize, 
 /// Drops the rest of the run.
 pub(crate) fn skip_run<S: Source>(run: Run, w: &mut Window, src: &mut S) -> Result<(), Failed>
     ensures run { HasRun run w.old w.new (S.left src.old) (S.left src.new) }
-    ensures halts { OnOk result (Halts run w.new (S.left src.new)) }
+    ensures halts { OnOk result (RunHalts run w.new (S.left src.new)) }
     ensures cause { HasCause (S.faults src.old) (S.faults src.new) result }
 {
     'stretches: loop {
@@ -89,7 +89,7 @@ pub(crate) fn keep_run<S: Source>(
 ) -> Result<(), FrontError>
     ensures kept { OnOk result
         (HasKept run w.old w.new (S.left src.old) (S.left src.new) kept.old.items kept.new.items) }
-    ensures halts { OnOk result (Halts run w.new (S.left src.new)) }
+    ensures halts { OnOk result (RunHalts run w.new (S.left src.new)) }
     ensures passed { HasPassed w.old w.new (S.left src.old) (S.left src.new) }
     ensures cause { IsTold (S.faults src.old) (S.faults src.new) (IsErrOf result FrontError.Failed) }
     ensures stop { IfErr result (IsStop w.old (coming w.old (S.left src.old))) }

@@ -16,7 +16,7 @@ use Rattle.unity_syntax.specs.View.{view}
 use Rattle.unity_syntax.proofs.LookAhead.{grammar_is, document_is}
 use Rattle.unity_syntax.proofs.BackDocuments.{view_injective}
 use Rattle.unity_syntax.proofs.EachTree.{each_tree_}
-use Rattle.unity_lexer.specs.Tokens.{IsTokens, IsReading, AreInOrder}
+use Rattle.unity_lexer.specs.Tokens.{IsTokens, IsLexing, AreInOrder}
 use Rattle.unity_lexer.proofs.SomeAnswer.{IsTokens-in_order, some_reading as some_tokens}
 use Rattle.unity_lexer.proofs.OneAnswer.{IsTokens-unique, FirstBad-unique, IsTokens-no_fault}
 use Rattle.unity_parser.specs.ParseAnswers.{IsExactAnswer, IsRefusal, IsRefusedFor, WordsRise, code_of, rest_of}
@@ -40,7 +40,7 @@ by_answer bytes ts l (Err f) e =
           (record { fault = f; exact = e; code_is = refl; place_is = refl }),
     )
 
-by_tokens : (bytes : List ℕ) (reading : Result (List Token) (Code × ℕ)) → IsReading bytes reading →
+by_tokens : (bytes : List ℕ) (reading : Result (List Token) (Code × ℕ)) → IsLexing bytes reading →
     ((d : Document) × IsDocument bytes d) ⊎ ((code : Code) × (at : ℕ) × IsFault bytes code at)
 by_tokens bytes (Ok ts) l = by_answer bytes ts l (read_whole grammar 200 document_ (terminals (says_later ts) bytes ts))
     (exact grammar grammar_is document_ document_is 200 (terminals (says_later ts) bytes ts))

@@ -6,7 +6,7 @@ use Rattle.meaning_executions.specs.Execution.{System, Steps, chosen_step}
 use Rattle.meaning_executions.proofs.ExecutionTheorems.{extended}
 use Rattle.trace_watch.specs.declared.tracing.Ending.{Ending}
 use Rattle.trace_watch.specs.declared.violations.Violation.{Violation}
-use Rattle.trace_watch.specs.Cases.{Watched}
+use Rattle.trace_watch.specs.Cases.{WatchedStep}
 use Rattle.trace_watch.specs.Violations.{IsFirstViolation, IsUnviolated, violation, violation_at}
 use Rattle.trace_watch.specs.Tracing.{EndsAs, Leads, WatchesDefined}
 use Rattle.trace_watch.proofs.TracingLaws.{at_end, at_front, goes_on, take_end, take_length}
@@ -53,7 +53,7 @@ cut_length (suc n) (x ∷ xs) = let less = cut_length n xs in omega (arith, less
 -- ---- one ending
 
 -- what is violated at a place, by the states up to it
-at_cut : (x : System) (steps : List Watched) (s : State) (cs : List ℕ) (n p : ℕ) → p ≤ n → (ts us : List State) →
+at_cut : (x : System) (steps : List WatchedStep) (s : State) (cs : List ℕ) (n p : ℕ) → p ≤ n → (ts us : List State) →
     Steps x s (take n cs) ts → Steps x s (take p cs) us →
     violation_at x steps (s ∷ ts) (take n cs) p ≡ violation x steps (s ∷ us) (take p cs)
 at_cut x steps s cs n p less ts us f g =
@@ -74,7 +74,7 @@ within_cut x s cs ts p f less =
     short (suc n) [] h = absurd (omega (arith, h))
     short (suc n) (d ∷ ds) h = let more = short n ds (omega (arith, h)) in omega (arith, more)
 
-module _ (x : System) (steps : List Watched) (s : State) (cs : List ℕ) where
+module _ (x : System) (steps : List WatchedStep) (s : State) (cs : List ℕ) where
   abbrev pub FirstAt : State → ℕ → Violation → Type 0
   FirstAt end p v = (led : Leads x s (take p cs) end) × IsFirstViolation x steps (s ∷ led.later) (take p cs) p v
 
@@ -156,7 +156,7 @@ module _ (x : System) (steps : List Watched) (s : State) (cs : List ℕ) where
 -- ---- some ending
 
 -- a part of the choices is made, and nothing is violated
-pub record Quiet (x : System) (steps : List Watched) (s : State) (cs : List ℕ) (now : State) : Type 0 where
+pub record Quiet (x : System) (steps : List WatchedStep) (s : State) (cs : List ℕ) (now : State) : Type 0 where
   pub led : Leads x s cs now
   pub none : IsUnviolated x steps (s ∷ led.later) cs
 
@@ -187,10 +187,10 @@ get_there (c ∷ cs) (suc n) h = get_there cs n (omega (arith, h))
 abbrev begun : (x : System) (s : State) → Leads x s [] s
 begun x s = record { later = []; steps = tt; last = refl }
 
-abbrev pub HasEnd : System → List Watched → State → List ℕ → Type 0
+abbrev pub HasEnd : System → List WatchedStep → State → List ℕ → Type 0
 HasEnd x steps s cs = (end : State) × (ending : Ending) × EndsAs x steps s cs end ending
 
-module _ (x : System) (steps : List Watched) (defined : WatchesDefined steps) (s : State) (cs : List ℕ)
+module _ (x : System) (steps : List WatchedStep) (defined : WatchesDefined steps) (s : State) (cs : List ℕ)
     (inside : (n c : ℕ) → slice_get cs n ≡ Some c → c < length x.steps) where
   -- where nothing is violated so far, the next step is defined
   next_of : (n c : ℕ) (now : State) → Quiet x steps s (take n cs) now → slice_get cs n ≡ Some c →

@@ -18,7 +18,8 @@ use Rattle.trace_watch.specs.declared.tracing.Ending.{Ending}
 use Rattle.trace_watch.specs.Cases.{total_cases}
 use Rattle.watch_schedules.specs.declared.error.WatchStop.{WatchStop}
 use Rattle.watch_schedules.specs.Schedules.{is_proved}
-use Rattle.watch_correct.specs.Watched.{HasManyCases, HasNoPlan, HasNoProof, HasNoStart, IsWatched, Planned, Proved}
+use Rattle.watch_correct.specs.Watched.{HasManyCases, HasNoPlan, HasNoProof, ScheduleHasNoStart, IsWatched, Planned}
+use Rattle.watch_correct.specs.Watched.{Proved}
 use Rattle.watch_correct.specs.Watched.{Replay}
 use Rattle.watch_correct.specs.Watched.{Started}
 use Rattle.watch_correct.specs.Laws.{OneStop, NoStop}
@@ -69,7 +70,7 @@ unknown_no_replay d at u r =
     let never : ◌≡◌ {A = Option ℕ} None (Some at) = sym (ap (option_map (λ i. i.at)) none) ∙ u.first in
     cc
 
-no_start_no_started : (d : Document) → HasNoStart d → Started d → ⊥
+no_start_no_started : (d : Document) → ScheduleHasNoStart d → Started d → ⊥
 no_start_no_started d a b =
     let same = one_replay d a.replay b.replay in
     let never : ◌≡◌ {A = Bool} false true =

@@ -13,8 +13,8 @@ use Rattle.trace_watch.specs.declared.tracing.Ending.{Ending}
 use Rattle.trace_watch.specs.declared.violations.Violation.{Violation}
 use Rattle.watch_schedules.specs.declared.error.WatchStop.{WatchStop}
 use Rattle.watch_schedules.specs.declared.watching.WatchedSchedule.{WatchedSchedule}
-use Rattle.watch_schedules.specs.Schedules.{Finds}
-use Rattle.watch_correct.specs.Watched.{HasManyCases, HasNoPlan, HasNoProof, IsWatched, Started, Stops, Watches}
+use Rattle.watch_schedules.specs.Schedules.{FindsWatched}
+use Rattle.watch_correct.specs.Watched.{HasManyCases, HasNoPlan, HasNoProof, IsWatched, Started, StopsWatching, Watches}
 
 -- a document has its core form, which meets all conditions
 pub record HasCore (d : Document) : Type 0 where
@@ -25,7 +25,7 @@ pub record HasCore (d : Document) : Type 0 where
 -- what is found of the core form is found of the document
 abbrev pub WatchesSay : Type 0
 WatchesSay = (d : Document) → HasCore d → (result : Result WatchedSchedule WatchStop) →
-    Finds (core_document d) result → Watches d result
+    FindsWatched (core_document d) result → Watches d result
 
 -- the trace of a document ends in one way, and one text is told of it
 abbrev pub OneEnding : Type 0
@@ -39,11 +39,11 @@ IsCause stop = Unit {0}
 
 -- there is one at most for which a schedule is not watched,
 abbrev pub OneStop : Type 0
-OneStop = (d : Document) (a b : WatchStop) → IsCause a → IsCause b → Stops d a → Stops d b → a ≡ b
+OneStop = (d : Document) (a b : WatchStop) → IsCause a → IsCause b → StopsWatching d a → StopsWatching d b → a ≡ b
 
 -- and none where its trace ends
 abbrev pub NoStop : Type 0
-NoStop = (d : Document) (stop : WatchStop) → IsCause stop → Stops d stop → (ending : Ending) (text : List ℕ) →
+NoStop = (d : Document) (stop : WatchStop) → IsCause stop → StopsWatching d stop → (ending : Ending) (text : List ℕ) →
     IsWatched d ending text → ⊥
 
 abbrev pub HasEnding : Document → Type 0

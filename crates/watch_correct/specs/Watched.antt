@@ -30,7 +30,7 @@ pub record Replay (d : Document) : Type 0 where
   pub replay_is : IsReplay d schedule program core choices
 
 -- its start state is no initial one
-pub record HasNoStart (d : Document) : Type 0 where
+pub record ScheduleHasNoStart (d : Document) : Type 0 where
   pub replay : Replay d
   pub not_initial : (source_system d replay.program).initial (first_state d replay.core) ≡ false
 
@@ -81,16 +81,16 @@ pub record IsWatched (d : Document) (ending : Ending) (text : List ℕ) : Type 0
       planned.proved.started.replay.choices planned.plan.records state ending
 
 -- why a schedule is not watched
-abbrev pub Stops : Document → WatchStop → Type 0
-Stops d WatchStop.NoSchedule = d.schedule ≡ None
-Stops d (WatchStop.NoSuchStatement at) = IsUnknown d at
-Stops d WatchStop.NotInitial = HasNoStart d
-Stops d WatchStop.NoProof = HasNoProof d
-Stops d (WatchStop.Step fault) = HasNoPlan d fault
-Stops d WatchStop.TooManyCases = HasManyCases d
-Stops d WatchStop.Memory = ⊤
+abbrev pub StopsWatching : Document → WatchStop → Type 0
+StopsWatching d WatchStop.NoSchedule = d.schedule ≡ None
+StopsWatching d (WatchStop.NoSuchStatement at) = IsUnknown d at
+StopsWatching d WatchStop.NotInitial = ScheduleHasNoStart d
+StopsWatching d WatchStop.NoProof = HasNoProof d
+StopsWatching d (WatchStop.Step fault) = HasNoPlan d fault
+StopsWatching d WatchStop.TooManyCases = HasManyCases d
+StopsWatching d WatchStop.Memory = ⊤
 
 -- what is found of the document
 abbrev pub Watches : Document → Result WatchedSchedule WatchStop → Type 0
 Watches d (Ok w) = IsWatched d w.ending (schedule_text (core_document d) w)
-Watches d (Err stop) = Stops d stop
+Watches d (Err stop) = StopsWatching d stop

@@ -43,7 +43,8 @@ use Rattle.soundness.proofs.PlanRecords.{plan_is_steps}
 use Rattle.soundness.proofs.Sources.{core_steps_are, StandsIn, each_stands}
 use Rattle.trace_watch.specs.declared.violations.Violation.{Violation}
 use Rattle.trace_watch.specs.Readings.{Reading, fails, is_violated}
-use Rattle.trace_watch.specs.Cases.{environments, helper_place, reading_of, is_of, Watched, watched_step, watched_from}
+use Rattle.trace_watch.specs.Cases.{environments, helper_place, reading_of, is_of, WatchedStep, watched_step}
+use Rattle.trace_watch.specs.Cases.{watched_from}
 use Rattle.trace_watch.specs.Violations.{violation_of, first_case, first_failing}
 use Rattle.trace_watch.proofs.TraceLaws.{made_of}
 use Rattle.trace_watch.proofs.CaseLaws.{environments_in}
@@ -80,7 +81,7 @@ cases_same f g a b (e ∷ es) i each =
     ap (λ v. cond v (Some i) (position_from f (i + 1) (map a es))) (each zero e refl)
     ∙ ap (λ o. cond (g (b e)) (Some i) o) (cases_same f g a b es (i + 1) (λ n d h. each (suc n) d h))
 
-one_failing : (f : Reading → Bool) (b : Bool) (w : Watched) (ws : List Watched) →
+one_failing : (f : Reading → Bool) (b : Bool) (w : WatchedStep) (ws : List WatchedStep) →
     first_failing f (cond b (w ∷ []) [] ++ ws) ≡ option_or (cond b (first_case f w) None) (first_failing f ws)
 one_failing f true w ws = refl
 one_failing f false w ws = refl

@@ -15,7 +15,7 @@ use Rattle.meaning_documents.specs.Steps.{claim_kind, ProofStep, document_steps}
 use Rattle.core_terms.specs.declared.programs.CProgram.{CProgram}
 use Rattle.fair_rounds.specs.declared.records.Record.{Record}
 use Rattle.trace_watch.specs.Readings.{Reading}
-use Rattle.trace_watch.specs.Cases.{Watched, helper_place, is_of}
+use Rattle.trace_watch.specs.Cases.{WatchedStep, helper_place, is_of}
 
 -- the test that every state passes
 abbrev pub always : Test
@@ -54,7 +54,7 @@ arguments [] = [] ∷ []
 arguments (p ∷ ps) = flat_map (λ z. map (λ zs. z ∷ zs) (arguments ps)) (range_values [] p.range)
 
 -- a step of a document with its record, whose place among the records is this
-abbrev pub claimed_step : Document → CProgram → ℕ → ProofStep → Record → Watched
+abbrev pub claimed_step : Document → CProgram → ℕ → ProofStep → Record → WatchedStep
 claimed_step d c place s r = record {
   place = place;
   cases = map (λ zs. claim_reading (document_setting d) (argument_bindings (parameters s.step.params) zs) r.bound
@@ -62,15 +62,15 @@ claimed_step d c place s r = record {
 }
 
 -- it alone, if it is one of the program's
-abbrev pub claimed_one : Document → CProgram → ℕ → ProofStep → Record → List Watched
+abbrev pub claimed_one : Document → CProgram → ℕ → ProofStep → Record → List WatchedStep
 claimed_one d c place s r = cond (is_of c r) (claimed_step d c place s r ∷ []) []
 
-abbrev pub claimed_from : Document → CProgram → ℕ → List ProofStep → List Record → List Watched
+abbrev pub claimed_from : Document → CProgram → ℕ → List ProofStep → List Record → List WatchedStep
 claimed_from d c place [] records = []
 claimed_from d c place (s ∷ rest) [] = []
 claimed_from d c place (s ∷ rest) (r ∷ records) =
     claimed_one d c place s r ++ claimed_from d c (place + 1) rest records
 
 -- the steps of a program, by the records of a plan
-abbrev pub claimed : Document → CProgram → List Record → List Watched
+abbrev pub claimed : Document → CProgram → List Record → List WatchedStep
 claimed d c records = claimed_from d c 0 (document_steps d) records

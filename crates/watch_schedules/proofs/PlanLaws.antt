@@ -28,9 +28,9 @@ use Rattle.soundness.specs.PlanSteps.{CoreStep, IsRecordOf, core_steps, of_progr
 use Rattle.soundness.proofs.PlanRecords.{defined_record, plan_is_steps}
 use Rattle.trace_watch.specs.declared.violations.Violation.{Violation}
 use Rattle.trace_watch.specs.Readings.{Reading}
-use Rattle.trace_watch.specs.Cases.{Watched, case_count, environments, is_of, reading_of, watched, watched_from}
+use Rattle.trace_watch.specs.Cases.{WatchedStep, case_count, environments, is_of, reading_of, watched, watched_from}
 use Rattle.trace_watch.specs.Cases.{watched_step}
-use Rattle.trace_watch.specs.Places.{RecordFits}
+use Rattle.trace_watch.specs.Places.{RecordFormsFit}
 use Rattle.trace_watch.specs.Tracing.{WatchesDefined}
 use Rattle.trace_watch.specs.Violations.{first_case, first_failing, violation_of}
 use Rattle.trace_watch.proofs.CaseLaws.{count_is}
@@ -60,22 +60,22 @@ module _ (slots : List CSlot) where
   form_fits params own f g same is fits =
       subst (λ h. FormFits slots own h) (sym is) (subst (λ ps. FormFits slots ps f) (sym same) fits)
 
-  record_fits : (s : CoreStep) (r : Record) → StepFits s → IsRecordOf s r → RecordFits slots r
+  record_fits : (s : CoreStep) (r : Record) → StepFits s → IsRecordOf s r → RecordFormsFit slots r
   record_fits s r fits is = record {
     p = form_fits s.step.params r.params s.step.p r.p is.params is.p fits.p;
     q = form_fits s.step.params r.params s.step.q r.q is.params is.q fits.q;
   }
 
   each_fits : (ss : List CoreStep) (rs : List Record) → Each StepFits ss → Pairwise IsRecordOf ss rs →
-      All (RecordFits slots) rs
-  each_fits [] [] each pairs = All-nil (RecordFits slots)
+      All (RecordFormsFit slots) rs
+  each_fits [] [] each pairs = All-nil (RecordFormsFit slots)
   each_fits [] (r ∷ rs) each pairs = absurd pairs
   each_fits (s ∷ ss) [] each pairs = absurd pairs
   each_fits (s ∷ ss) (r ∷ rs) each pairs =
-      All-cons (RecordFits slots) r rs (record_fits s r each.0 pairs.0) (each_fits ss rs each.1 pairs.1)
+      All-cons (RecordFormsFit slots) r rs (record_fits s r each.0 pairs.0) (each_fits ss rs each.1 pairs.1)
 
 pub records_fit : (d : CDocument) → IsCoreDocument d → (plan : Plan) → IsPlan d plan →
-    All (RecordFits d.slots) plan.records
+    All (RecordFormsFit d.slots) plan.records
 records_fit d is plan planned =
     each_fits d.slots (core_steps d.proofs) plan.records
     (all_fit d.slots d.programs d.proofs (from_all (IsProof d.slots d.programs) d.proofs is.proofs))
@@ -96,7 +96,7 @@ scheduled_name d p e = go d.schedule e
         eqb-true p.name s.program (found_in (λ (q : CProgram). nat_eq q.name s.program) d.programs p f).passes in
         subst (λ n. find (λ (q : CProgram). nat_eq q.name n) d.programs ≡ Some p) (sym own) f
 
-record WatchedAt (c : CProgram) (steps : List Watched) (r : Record) : Type 0 where
+record WatchedAt (c : CProgram) (steps : List WatchedStep) (r : Record) : Type 0 where
   index : ℕ
   place : ℕ
   there : slice_get steps index ≡ Some (watched_step c place r)

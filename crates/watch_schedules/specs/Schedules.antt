@@ -46,7 +46,7 @@ HasNoBook d WatchStop.Memory = ⊤
 HasNoBook d stop = ⊥
 
 -- the trace of the schedule was watched for the steps of its program's proof, and ended so
-pub record IsWatched (d : CDocument) (w : WatchedSchedule) : Type 0 where
+pub record IsWatchedSchedule (d : CDocument) (w : WatchedSchedule) : Type 0 where
   pub scheduled : IsScheduled d w.program.now w.choices
   pub initial : starts d w.program.now ≡ true
   pub proved : is_proved d w.program.now ≡ true
@@ -58,22 +58,22 @@ pub record IsWatched (d : CDocument) (w : WatchedSchedule) : Type 0 where
       (start_state d.slots w.program.now) w.choices w.state.items w.ending
 
 -- why it was not: the first cause that there is
-abbrev pub Stops : CDocument → WatchStop → Type 0
-Stops d WatchStop.NoSchedule = d.schedule ≡ Option.None
-Stops d (WatchStop.NoSuchStatement at) = IsUnknownChoice d at
-Stops d WatchStop.NotInitial =
+abbrev pub StopsSchedule : CDocument → WatchStop → Type 0
+StopsSchedule d WatchStop.NoSchedule = d.schedule ≡ Option.None
+StopsSchedule d (WatchStop.NoSuchStatement at) = IsUnknownChoice d at
+StopsSchedule d WatchStop.NotInitial =
     (p : CProgram) × (choices : List ℕ) × IsScheduled d p choices × (starts d p ≡ false)
-Stops d WatchStop.NoProof =
+StopsSchedule d WatchStop.NoProof =
     (p : CProgram) × (choices : List ℕ) × IsScheduled d p choices × (starts d p ≡ true) × (is_proved d p ≡ false)
-Stops d (WatchStop.Step fault) =
+StopsSchedule d (WatchStop.Step fault) =
     (p : CProgram) × (choices : List ℕ) × IsScheduled d p choices × (starts d p ≡ true) × (is_proved d p ≡ true)
     × IsFailureOf fault (walk_of d (starts_in d.slots))
-Stops d WatchStop.TooManyCases =
+StopsSchedule d WatchStop.TooManyCases =
     (p : CProgram) × (choices : List ℕ) × (plan : Plan) × IsScheduled d p choices × (starts d p ≡ true)
     × (is_proved d p ≡ true) × IsPlan d plan × (4096 < total_cases p plan.records)
-Stops d WatchStop.Memory = ⊤
+StopsSchedule d WatchStop.Memory = ⊤
 
 -- what is found
-abbrev pub Finds : CDocument → Result WatchedSchedule WatchStop → Type 0
-Finds d (Ok w) = IsWatched d w
-Finds d (Err stop) = Stops d stop
+abbrev pub FindsWatched : CDocument → Result WatchedSchedule WatchStop → Type 0
+FindsWatched d (Ok w) = IsWatchedSchedule d w
+FindsWatched d (Err stop) = StopsSchedule d stop

@@ -8,7 +8,7 @@ ghost use Rattle.cli_texts.specs.Verdicts as verdict;
 ghost use Rattle.certificate_printing.specs.Findings as finding;
 ghost use Rattle.trace_watch.specs.Cases.{case_count, environments};
 ghost use Rattle.core_terms.specs.Conditions.{IsCoreDocument};
-ghost use Rattle.watch_schedules.specs.Schedules.{IsWatched};
+ghost use Rattle.watch_schedules.specs.Schedules.{IsWatchedSchedule};
 ghost use Rattle.watch_schedules.specs.Telling as told;
 
 use crate::text_sink::TextSink;
@@ -256,7 +256,7 @@ pub fn ending_text(
     watched: &WatchedSchedule,
 ) -> Result<Vec<u8>, AllocError>
     requires document { IsCoreDocument doc.now }
-    requires watched { IsWatched doc.now watched.now }
+    requires watched { IsWatchedSchedule doc.now watched.now }
     ensures { IfOk result (λ text. text.items ≡ told.schedule_text doc.now watched.now) }
 {
     match watched.ending {

@@ -6,7 +6,7 @@ ghost use Rattle.core_terms.specs.Steps.{slot_ranges};
 ghost use Rattle.executor.specs.Running.{program_of, slots_of, state_of};
 ghost use Rattle.executor.specs.StartState.{start_state};
 ghost use Rattle.watch_schedules.specs.Schedules as schedules;
-ghost use Rattle.watch_schedules.specs.Schedules.{Finds, IsScheduled, IsBookOf, HasNoBook, starts};
+ghost use Rattle.watch_schedules.specs.Schedules.{FindsWatched, IsScheduled, IsBookOf, HasNoBook, starts};
 
 use crate::error::WatchStop;
 use core_terms::{CDocument, CProgram};
@@ -38,7 +38,7 @@ pub struct WatchedSchedule<'a> {
 /// of any answer.
 pub fn watch_schedule(alloc: Global, doc: &CDocument) -> Result<WatchedSchedule<'_>, WatchStop>
     requires { IsCoreDocument doc.now }
-    ensures { Finds doc.now result }
+    ensures { FindsWatched doc.now result }
 {
     let choices = read_schedule(alloc, doc)?;
     match scheduled_program(doc) {
@@ -56,7 +56,7 @@ fn watch_program<'a>(
 ) -> Result<WatchedSchedule<'a>, WatchStop>
     requires document { IsCoreDocument doc.now }
     requires scheduled { IsScheduled doc.now program.now choices }
-    ensures { Finds doc.now result }
+    ensures { FindsWatched doc.now result }
 {
     let start = start_of(alloc, program, doc.slots.as_slice())?;
     let runner = Runner::new(alloc, program, doc.slots.as_slice(), start.as_slice())?;
@@ -110,7 +110,7 @@ fn watch_records<'a>(
     requires program { program_of runner ≡ program.now }
     requires slots { slots_of runner ≡ doc.now.slots }
     requires start { state_of runner ≡ start_state doc.now.slots program.now }
-    ensures { Finds doc.now result }
+    ensures { FindsWatched doc.now result }
 {
     let mut runner = runner;
     let (ending, state) = {

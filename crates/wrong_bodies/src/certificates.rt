@@ -10,12 +10,12 @@ ghost use Rattle.obligations.specs.Obligations.{IsObligation};
 ghost use Rattle.obligations.specs.Opening.{Valid};
 ghost use Rattle.certificate_rules.specs.Refutation.{walk_from_root};
 ghost use Rattle.certificate_rules.specs.Trees.{Refuted, is_whole};
-ghost use Rattle.event_checker.specs.Checkers as checkers;
-ghost use Rattle.event_checker.specs.Checkers.{FailsReading, Judges, checker_obligation};
+ghost use Rattle.event_checker.specs.Checkers.{CheckerIsReady, CheckerStandsFor, FailsReading, Judges};
+ghost use Rattle.event_checker.specs.Checkers.{checker_obligation};
 ghost use Rattle.event_checker.specs.Events.{events_of, is_pair};
 ghost use Rattle.proof_plans.specs.Giving.{AreWhole, PlanHolds, VerdictAnswers};
 ghost use Rattle.proof_plans.specs.Verdicts.{verdict_of};
-ghost use Rattle.event_judge.specs.Judges as judges;
+ghost use Rattle.event_judge.specs.Judges.{JudgeIsReady, JudgeStandsFor};
 ghost use Rattle.event_judge.specs.Told.{certs_events};
 
 use event_checker::{CertError, Checker};
@@ -43,18 +43,18 @@ pub fn check_cert(alloc: Global, o: &Obligation, c: &Cert, levels: u32) -> Resul
 pub fn new_checker(alloc: Global, o: Obligation, levels: u32) -> Result<Checker, AllocError>
     requires obligation { IsObligation o }
     requires levels { levels ≤ 4096 }
-    ensures stands { IfOk result (λ c. checkers.StandsFor levels c o []) }
-    ensures ready { IfOk result checkers.IsReady }
+    ensures stands { IfOk result (λ c. CheckerStandsFor levels c o []) }
+    ensures ready { IfOk result CheckerIsReady }
 {
     Checker::new(alloc, o, levels)
 }
 
 /// The call `take` of a checker, with its clauses.
 pub fn checker_take(checker: &mut Checker, e: CertEvent) -> Result<(), AllocError>
-    requires ready { checkers.IsReady checker.old }
+    requires ready { CheckerIsReady checker.old }
     ensures stands { OnOk result ((levels : ℕ) (o : Obligation) (es : List CertEvent) →
-        checkers.StandsFor levels checker.old o es → checkers.StandsFor levels checker.new o (es ++ e ∷ [])) }
-    ensures ready { OnOk result (checkers.IsReady checker.new) }
+        CheckerStandsFor levels checker.old o es → CheckerStandsFor levels checker.new o (es ++ e ∷ [])) }
+    ensures ready { OnOk result (CheckerIsReady checker.new) }
     ensures room { is_pair e ≡ true → IsOk result }
 {
     checker.take(e)
@@ -64,7 +64,7 @@ pub fn checker_take(checker: &mut Checker, e: CertEvent) -> Result<(), AllocErro
 pub fn checker_finish(checker: Checker) -> (Obligation, Result<(), CertError>)
     ensures back { result.0 ≡ checker_obligation checker }
     ensures judges { (levels : ℕ) (o : Obligation) (nodes : List Node) → IsObligation o →
-        checkers.StandsFor levels checker o (events_of nodes) → is_whole nodes 1 ≡ true →
+        CheckerStandsFor levels checker o (events_of nodes) → is_whole nodes 1 ≡ true →
         Judges levels o nodes result.1 }
 {
     checker.finish()
@@ -72,10 +72,10 @@ pub fn checker_finish(checker: Checker) -> (Obligation, Result<(), CertError>)
 
 /// The call `take` of a judge, with its clauses.
 pub fn judge_take(judge: &mut Judge, e: CertEvent) -> Result<(), AllocError>
-    requires ready { judges.IsReady judge.old }
+    requires ready { JudgeIsReady judge.old }
     ensures stands { OnOk result ((d : CDocument) (es : List CertEvent) →
-        judges.StandsFor d judge.old es → judges.StandsFor d judge.new (es ++ e ∷ [])) }
-    ensures ready { OnOk result (judges.IsReady judge.new) }
+        JudgeStandsFor d judge.old es → JudgeStandsFor d judge.new (es ++ e ∷ [])) }
+    ensures ready { OnOk result (JudgeIsReady judge.new) }
     ensures room { is_pair e ≡ true → IsOk result }
 {
     judge.take(e)
@@ -83,11 +83,11 @@ pub fn judge_take(judge: &mut Judge, e: CertEvent) -> Result<(), AllocError>
 
 /// The call `finish` of a judge, with its clauses.
 pub fn judge_finish(judge: Judge) -> Result<Plan, ScriptError>
-    requires { judges.IsReady judge }
+    requires { JudgeIsReady judge }
     ensures verdict { (d : CDocument) (certs : List Cert) → AreWhole certs →
-        judges.StandsFor d judge (certs_events certs) → VerdictAnswers result (verdict_of d certs) }
+        JudgeStandsFor d judge (certs_events certs) → VerdictAnswers result (verdict_of d certs) }
     ensures holds { (d : CDocument) (certs : List Cert) → IsCoreDocument d → AreWhole certs →
-        judges.StandsFor d judge (certs_events certs) → IfOk result (PlanHolds d) }
+        JudgeStandsFor d judge (certs_events certs) → IfOk result (PlanHolds d) }
     ensures never { IfErr result (λ e. e ≢ ScriptError.Memory) }
 {
     judge.finish()

@@ -9,7 +9,7 @@ ghost use Rattle.unity_lexer.specs.Scans.{IsFront, IsFrontError, IsNoSection, Is
 ghost use Rattle.unity_lexer.specs.Tokens.{AreInOrder};
 ghost use Rattle.unity_parser.specs.Fronts.{front_tokens};
 ghost use Rattle.unity_parser.specs.ParseAnswers.{IsDocumentOf, IsRefusedFor};
-ghost use Rattle.certificate_events.specs.Sections.{IsSections, Stands, Takes, reader_count, told};
+ghost use Rattle.certificate_events.specs.Sections.{IsSections, ReaderStands, TokenTakes, reader_count, told};
 
 use certificate_events::{CertReader, Taken};
 use std::alloc::Global;
@@ -62,7 +62,7 @@ pub fn parse_front(alloc: Global, f: &Front) -> Result<Document, SyntaxFault>
 /// The call `new` of a reader of certificates, with its clauses.
 pub fn section_reader(version: u64) -> CertReader
     requires { (version ≡ 1) ⊎ (version ≡ 2) }
-    ensures stands { Stands (version == 2) result [] }
+    ensures stands { ReaderStands (version == 2) result [] }
     ensures count { reader_count result ≡ 0 }
 {
     CertReader::new(version)
@@ -71,10 +71,10 @@ pub fn section_reader(version: u64) -> CertReader
 /// The call `take` of a reader of certificates, with its clauses.
 pub fn section_take(reader: &mut CertReader, t: Token) -> Taken
     requires { reader_count reader.old < 2 ^ 64 - 1 }
-    ensures stands { (later : Bool) (ts : List Token) → Stands later reader.old ts →
-        Stands later reader.new (ts ++ t ∷ []) }
-    ensures takes { (later : Bool) (ts : List Token) → Stands later reader.old ts → Takes later ts t result }
-    ensures told { (later : Bool) (ts : List Token) → Stands later reader.old ts →
+    ensures stands { (later : Bool) (ts : List Token) → ReaderStands later reader.old ts →
+        ReaderStands later reader.new (ts ++ t ∷ []) }
+    ensures takes { (later : Bool) (ts : List Token) → ReaderStands later reader.old ts → TokenTakes later ts t result }
+    ensures told { (later : Bool) (ts : List Token) → ReaderStands later reader.old ts →
         told later (ts ++ t ∷ []) ≡ told later ts ++ result ∷ [] }
     ensures count { reader_count reader.new ≡ reader_count reader.old + 1 }
 {
@@ -83,7 +83,7 @@ pub fn section_take(reader: &mut CertReader, t: Token) -> Taken
 
 /// The call `finished` of a reader of certificates, with its clause.
 pub fn section_finished(reader: &CertReader) -> bool
-    ensures { (later : Bool) (ts : List Token) → Stands later reader.now ts →
+    ensures { (later : Bool) (ts : List Token) → ReaderStands later reader.now ts →
         IsTrue result ↔ IsSections later ts }
 {
     reader.finished()

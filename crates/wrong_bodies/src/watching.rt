@@ -6,10 +6,11 @@ ghost use Rattle.core_terms.specs.Conditions.{IsProgram};
 ghost use Rattle.core_terms.specs.Steps.{slot_ranges};
 ghost use Rattle.executor.specs.Running.{program_of, slots_of, state_of};
 ghost use Rattle.trace_watch.specs.Cases.{case_count, environments, total_cases, watched};
-ghost use Rattle.trace_watch.specs.Places.{RecordFits};
+ghost use Rattle.trace_watch.specs.Places.{RecordFormsFit};
 ghost use Rattle.trace_watch.specs.Tracing.{EndsAs, WatchesDefined};
 ghost use Rattle.trace_watch.specs.Violations.{violation, violation_at};
 ghost use Rattle.trace_watch.specs.Watching as watching;
+ghost use Rattle.trace_watch.specs.Watching.{WatchStandsFor};
 
 use core_terms::{CProgram, CSlot, Range};
 use executor::Runner;
@@ -27,11 +28,11 @@ pub fn new_watch<'a>(
 ) -> Result<Watch<'a>, WatchError>
     requires program { IsProgram slots.now p.now }
     requires start { IsTrue (is_state (slot_ranges slots.now) start.now) }
-    requires fits { All (RecordFits slots.now) records.now }
+    requires fits { All (RecordFormsFit slots.now) records.now }
     ensures program { IfOk result (λ w. watching.program_of w ≡ p.now) }
     ensures slots { IfOk result (λ w. watching.slots_of w ≡ slots.now) }
     ensures steps { IfOk result (λ w. watching.steps_of w ≡ watched p.now records.now) }
-    ensures begun { IfOk result (λ w. watching.StandsFor w (start.now ∷ []) []) }
+    ensures begun { IfOk result (λ w. WatchStandsFor w (start.now ∷ []) []) }
     ensures many { IsErrOf result WatchError.TooManyCases ↔ (4096 < total_cases p.now records.now) }
 {
     Watch::new(alloc, p, slots, records, start)
@@ -41,7 +42,7 @@ pub fn new_watch<'a>(
 pub fn watch_choices(runner: &mut Runner, watch: &mut Watch, choices: &[u32]) -> Ending
     requires program { watching.program_of watch.old ≡ program_of runner.old }
     requires slots { watching.slots_of watch.old ≡ slots_of runner.old }
-    requires begun { watching.StandsFor watch.old (state_of runner.old ∷ []) [] }
+    requires begun { WatchStandsFor watch.old (state_of runner.old ∷ []) [] }
     requires defined { WatchesDefined (watching.steps_of watch.old) }
     requires instances { All (λ choice. choice < length (program_of runner.old).statements) choices.now }
     ensures { EndsAs (watching.system_of watch.old) (watching.steps_of watch.old) (state_of runner.old) choices.now
@@ -57,9 +58,9 @@ pub fn watch_step(watch: &mut Watch, choice: u32, next: &[i64]) -> Option<Violat
     ensures program { watching.program_of watch.new ≡ watching.program_of watch.old }
     ensures slots { watching.slots_of watch.new ≡ watching.slots_of watch.old }
     ensures steps { watching.steps_of watch.new ≡ watching.steps_of watch.old }
-    ensures longer { (states : List State) (choices : List ℕ) → watching.StandsFor watch.old states choices →
-        watching.StandsFor watch.new (states ++ next.now ∷ []) (choices ++ choice ∷ []) }
-    ensures exact { (states : List State) (choices : List ℕ) → watching.StandsFor watch.old states choices →
+    ensures longer { (states : List State) (choices : List ℕ) → WatchStandsFor watch.old states choices →
+        WatchStandsFor watch.new (states ++ next.now ∷ []) (choices ++ choice ∷ []) }
+    ensures exact { (states : List State) (choices : List ℕ) → WatchStandsFor watch.old states choices →
         result ≡ violation (watching.system_of watch.old) (watching.steps_of watch.old) (states ++ next.now ∷ [])
         (choices ++ choice ∷ []) }
 {
@@ -68,7 +69,7 @@ pub fn watch_step(watch: &mut Watch, choice: u32, next: &[i64]) -> Option<Violat
 
 /// The call `first` of a watch, with its clause.
 pub fn watch_first(watch: &Watch) -> Option<Violation>
-    ensures { (states : List State) (choices : List ℕ) → watching.StandsFor watch.now states choices →
+    ensures { (states : List State) (choices : List ℕ) → WatchStandsFor watch.now states choices →
         result ≡ violation_at (watching.system_of watch.now) (watching.steps_of watch.now) states choices 0 }
 {
     watch.first()

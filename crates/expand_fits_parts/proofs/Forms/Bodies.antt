@@ -1,11 +1,10 @@
 -- The parts of a document without a fault, and its programs.
-use Rattle.std.proofs.Common.{◌≡◌, ℕ, zero, suc, ◌+◌, ◌<◌, ◌≤◌, ◌^◌, List, [], ◌∷◌, ◌++◌, map, length, Bool, true}
+use Rattle.std.proofs.Common.{◌≡◌, ℕ, ◌+◌, ◌≤◌, ◌^◌, List, [], ◌∷◌, ◌++◌, map, length, Bool, true}
 use Rattle.std.proofs.Common.{false}
-use Rattle.std.proofs.Common.{cond, not, ◌||◌, Option, Some, None, refl, sym, ap, ◌∙◌, subst, arith, All, get_or, drop}
-use Rattle.std.proofs.Common.{nat_eq, nat_lt, le_trans, ℤ}
+use Rattle.std.proofs.Common.{cond, not, ◌||◌, Option, Some, None, refl, sym, ap, ◌∙◌, subst, arith, All, get_or}
+use Rattle.std.proofs.Common.{nat_eq, le_trans, ℤ}
 use Rattle.std.specs.Prelude.{nat_le}
 use Rattle.std.specs.List.{find, flat_map}
-use Rattle.std.specs.Option.{is_some}
 use Rattle.std.proofs.lemmas.Bool.{leb-true}
 use Rattle.std.proofs.lemmas.Option.{slice_get-get_or}
 use Rattle.std.proofs.lemmas.List.Elements.{All-nil, All-head, All-tail, All-cons, All-push, All-map, All-weaker}
@@ -15,12 +14,9 @@ use Rattle.unity_syntax.specs.declared.program.Initially.{Initially}
 use Rattle.unity_syntax.specs.declared.program.Program.{Program}
 use Rattle.unity_syntax.specs.declared.statement.Items.{Items}
 use Rattle.unity_syntax.specs.declared.document.Part.{Part}
-use Rattle.unity_syntax.specs.declared.document.Document.{Document}
-use Rattle.meaning_documents.specs.Names.{Variable}
 use Rattle.meaning_documents.specs.Instances.{instances}
 use Rattle.meaning_documents.specs.Setting.{items_of, declarations, programs_among, setting_of, with_declarations}
-use Rattle.meaning_documents.specs.Setting.{slot_count}
-use Rattle.names_rules.specs.Reading.{Fault, earlier}
+use Rattle.names_rules.specs.Reading.{earlier}
 use Rattle.names_rules.specs.Declarations.{some_of}
 use Rattle.meaning_documents.specs.Names.{variable_named}
 use Rattle.names_rules.proofs.Faults.{earlier_first, earlier_second}
@@ -34,8 +30,7 @@ use Rattle.core_terms.specs.Conditions.{is_below, StatementFits}
 use Rattle.core_terms.proofs.WeightLaws.{weight-Top}
 use Rattle.expand_declarations.specs.Texts.{Texts}
 use Rattle.expand_declarations.specs.WordNumbers.{document_words, word_number}
-use Rattle.expand_declarations.specs.Slots.{most_slots, part_declarations, declared_by, document_slots, past_from}
-use Rattle.expand_declarations.specs.Slots.{past_part}
+use Rattle.expand_declarations.specs.Slots.{declared_by, document_slots}
 use Rattle.expand_declarations.specs.Shown.{shown_slots}
 use Rattle.expand_declarations.specs.Start.{start_values}
 use Rattle.expand_rules.specs.Lists.{flaws_fault}
@@ -45,85 +40,22 @@ use Rattle.expand_rules.specs.Assigning.{Stated, stated}
 use Rattle.expand_rules.specs.Lists.{items_fault}
 use Rattle.expand_rules.specs.Limits.{is_too_large}
 use Rattle.expand_rules.specs.Programs.{initial_form, core_statement, plain_core}
+use Rattle.expand_statements.specs.ItemLaws.{FaultlessInstances}
+use Rattle.expand_correct.proofs.Preserved.Faultless.{bodies_faultless}
 use Rattle.expand_correct.proofs.Values.Lightness.{expressions_within, fits_truth}
 use Rattle.expand_steps.specs.Elements.{flaws_in, some_too_large, element_fault}
 use Rattle.expand_documents.specs.AlwaysNames.{with_definition, with_definitions}
-use Rattle.expand_documents.specs.Cores.{declared_scope, part_definitions, with_parts, document_scope, core_named}
+use Rattle.expand_documents.specs.Cores.{declared_scope, part_definitions, document_scope, core_named}
 use Rattle.expand_documents.specs.Cores.{core_union, core_program, with_core, with_cores}
-use Rattle.expand_documents.specs.Faults.{heading_fault, headings_fault, headed, initially_fault, body_fault, with_part}
-use Rattle.expand_documents.specs.Faults.{bodies_fault, laid_fault, slots_fault, parts_fault, expansion_fault}
+use Rattle.expand_documents.specs.Faults.{initially_fault, body_fault, with_part}
+use Rattle.expand_documents.specs.Faults.{bodies_fault}
 use Rattle.expand_fits_parts.specs.Forms.Fitting.{ScopeFits}
 use Rattle.expand_fits_parts.specs.Forms.Programs.{ProgramFits, ProgramKeeps}
-use Rattle.expand_fits_parts.specs.Forms.DocumentLaws.{FaultlessInstances, BodiesFaultless, HeadingsFaultless}
-use Rattle.expand_fits_parts.specs.Forms.DocumentLaws.{DocumentsFit}
-use Rattle.expand_fits_parts.specs.Forms.DocumentLaws.{ProgramsFit}
+use Rattle.expand_fits_parts.specs.Forms.DocumentLaws.{DocumentsFit, ProgramsFit}
 use Rattle.expand_fits_parts.proofs.Forms.NamedForms.{names-Top, fine_truth}
 use Rattle.expand_fits_parts.proofs.Forms.Scopes.{definitions_fit, formed_fine, instances_fit}
 use Rattle.expand_fits_parts.proofs.Forms.Placed.{slots_exist, slots_weigh}
 use Rattle.expand_fits_parts.proofs.Forms.Unions.{keeps_fit, unions_keep}
-
--- faults
-
-past_within : (place : ℕ) (vs : List Variable) (parts : List Part) (k : ℕ) → past_from place vs parts ≡ Some k →
-    (j : ℕ) × (k ≡ place + j) × (j < length parts)
-past_within place vs [] k e = cc e
-past_within place vs (p ∷ rest) k e =
-    by (nat_lt most_slots (slot_count (with_declarations vs (part_declarations p)))) e
-    (past_within (place + 1) (with_declarations vs (part_declarations p)) rest k)
-  where
-    by : (b : Bool) → cond b (Some place) (past_from (place + 1) (with_declarations vs (part_declarations p)) rest) ≡
-        Some k →
-        (past_from (place + 1) (with_declarations vs (part_declarations p)) rest ≡ Some k →
-        (j : ℕ) × (k ≡ (place + 1) + j) × (j < length rest)) → (j : ℕ) × (k ≡ place + j) × (j < suc (length rest))
-    by true f known = let same : place ≡ k = cc f in (0, omega (arith, same), omega arith)
-    by false f known = let r = known f in let a = r.1 in let b = r.2 in
-        (suc r.0, omega (arith, a), omega (arith, b))
-
-no_slots_fault : (parts : List Part) (j : ℕ) → j < length parts → slots_fault (drop j parts) ≡ None → ⊥
-no_slots_fault [] j h e = absurd (omega (arith, h))
-no_slots_fault (p ∷ rest) zero h e = cc e
-no_slots_fault (p ∷ rest) (suc j) h e = no_slots_fault rest j (omega (arith, h)) e
-
-laid_none : (d : Document) → expansion_fault d ≡ None → laid_fault (document_words d) d.parts ≡ None
-laid_none d h = by (past_part d.parts) refl h
-  where
-    by : (m : Option ℕ) → past_part d.parts ≡ m → parts_fault (document_words d) d.parts m ≡ None →
-        laid_fault (document_words d) d.parts ≡ None
-    by None e k = k
-    by (Some place) e k =
-        let r = past_within 0 [] d.parts place e in
-        let a = r.1 in
-        let same : place ≡ r.0 = omega (arith, a) in
-        absurd (no_slots_fault d.parts r.0 r.2 (subst (λ n. slots_fault (drop n d.parts) ≡ None) same
-        (earlier_second _ (slots_fault (drop place d.parts)) k)))
-
-headed_all : (s : Scope) (parts : List Part) → headings_fault s parts ≡ None → headed s parts ≡ parts
-headed_all s [] h = refl
-headed_all s (p ∷ rest) h =
-    let t = with_definitions s (part_definitions p) in
-    by (heading_fault s p) (earlier_first (heading_fault s p) (headings_fault t rest) h)
-    (headed_all t rest (earlier_second (heading_fault s p) (headings_fault t rest) h))
-  where
-    by : (m : Option Fault) → m ≡ None → headed (with_definitions s (part_definitions p)) rest ≡ rest →
-        cond (is_some m) [] (p ∷ headed (with_definitions s (part_definitions p)) rest) ≡ p ∷ rest
-    by None e same = ap (λ ps. p ∷ ps) same
-    by (Some f) e same = cc e
-
-pub headings_faultless : HeadingsFaultless
-headings_faultless d h =
-    let s = declared_scope d.parts in
-    let words = document_words d in
-    earlier_second (bodies_fault words (with_parts s (headed s d.parts)) (document_slots words d.parts) []
-    (headed s d.parts)) (headings_fault s d.parts) (laid_none d h)
-
-pub bodies_faultless : BodiesFaultless
-bodies_faultless d h =
-    let s = declared_scope d.parts in
-    let words = document_words d in
-    subst (λ ps. bodies_fault words (with_parts s ps) (document_slots words d.parts) [] ps ≡ None)
-    (headed_all s d.parts (headings_faultless d h))
-    (earlier_first (bodies_fault words (with_parts s (headed s d.parts)) (document_slots words d.parts) []
-    (headed s d.parts)) (headings_fault s d.parts) (laid_none d h))
 
 -- elements
 

@@ -57,7 +57,8 @@ use Rattle.expand_fits_parts.specs.Forms.StepLaws.{StepClaimFits, ClaimsFit}
 use Rattle.expand_fits_parts.proofs.Forms.NamedForms.{names-Top, names-Bottom}
 use Rattle.expand_fits_parts.proofs.Forms.Scopes.{found_after, inserted_found, form_fits, formulas_fit}
 use Rattle.expand_fits_parts.proofs.Forms.Placed.{get_right}
-use Rattle.expand_fits_parts.proofs.Forms.Bodies.{Smalls, small_elements, documents_fit, bodies_faultless}
+use Rattle.expand_correct.proofs.Preserved.Faultless.{bodies_faultless}
+use Rattle.expand_fits_parts.proofs.Forms.Bodies.{Smalls, small_elements, documents_fit}
 
 abbrev Bounds : Type 0
 Bounds = List (List ℕ × Bound)

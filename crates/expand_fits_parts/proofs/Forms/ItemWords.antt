@@ -18,7 +18,7 @@ use Rattle.names_rules.specs.Statements.{items_part}
 use Rattle.names_rules.proofs.Faults.{earlier_first, earlier_second}
 use Rattle.expand_rules.specs.Forming.{Scope}
 use Rattle.expand_rules.specs.Assigning.{among, stated}
-use Rattle.expand_fits_parts.specs.Forms.Naming.{WordTest, or_word, Sees, EffectNames}
+use Rattle.expand_fits_parts.specs.Forms.Naming.{WordTest, or_word, SeesOnly, EffectNames}
 use Rattle.expand_fits_parts.specs.Forms.Visible.{FoundPass}
 use Rattle.expand_fits_parts.proofs.Forms.NamedForms.{inside_sees}
 use Rattle.expand_fits_parts.proofs.Forms.NamedEffects.{assignments_name}
@@ -54,7 +54,7 @@ module _ (slots params : ℕ → Bool) (s : Scope) where
 
   abbrev Naming : Listed → Unfolding → Type 0
   Naming f g = (n : NameScope) (b : Bindings) (labels : Labels) (alone whole : WordTest) → FoundPass n alone whole →
-      Sees slots params alone whole (among s b) → (f n labels).fault ≡ None → Everywhere InstanceNames (g b)
+      SeesOnly slots params alone whole (among s b) → (f n labels).fault ≡ None → Everywhere InstanceNames (g b)
 
   abbrev Part : Type 0
   Part = Related Naming
@@ -73,7 +73,7 @@ module _ (slots params : ℕ → Bool) (s : Scope) where
       (earlier_second own.fault (of.0 inner labels).fault fault)) (range_values b range)
 
   rest_names : (n : NameScope) (b : Bindings) (labels : Labels) (a w : WordTest) → FoundPass n a w →
-      Sees slots params a w (among s b) → (ks : List Part) →
+      SeesOnly slots params a w (among s b) → (ks : List Part) →
       (run (λ others (m : Listed). m n others) labels (map (λ k. k.0) ks)).fault ≡ None →
       Everywhere InstanceNames (flat_map (λ item. item b) (map (λ k. k.1) ks))
   rest_names n b labels a w f g [] fault = λ place x e. cc e

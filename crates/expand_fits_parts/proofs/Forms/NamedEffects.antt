@@ -37,7 +37,7 @@ use Rattle.expand_rules.specs.Assigning.{write_count, spread_count, exactly, is_
 use Rattle.expand_rules.specs.Assigning.{outside_effect}
 use Rattle.expand_fits_parts.specs.Forms.Naming.{WordTest, or_word, Wording, words_pass, words_pass_or_none}
 use Rattle.expand_fits_parts.specs.Forms.Naming.{target_words}
-use Rattle.expand_fits_parts.specs.Forms.Naming.{alternative_words, component_words, assign_words, SlotsPass, Sees}
+use Rattle.expand_fits_parts.specs.Forms.Naming.{alternative_words, component_words, assign_words, SlotsPass, SeesOnly}
 use Rattle.expand_fits_parts.specs.Forms.Naming.{WriteNames}
 use Rattle.expand_fits_parts.specs.Forms.Naming.{assignment_passes}
 use Rattle.expand_fits_parts.specs.Forms.NamingLaws.{AssignmentsName}
@@ -181,7 +181,7 @@ module _ (slots params : ℕ → Bool) where
     plain_fine x s left = fine_write (plain_slot x) (form_of c.core) (term_of v.core) (write_count c.measure v.measure)
         (plain_passes x s) hc hv
 
-  module _ (alone whole : WordTest) (s : Scope) (g : Sees slots params alone whole s) where
+  module _ (alone whole : WordTest) (s : Scope) (g : SeesOnly slots params alone whole s) where
     number_names : (e : Expr) → words_pass e alone whole ≡ true → T (term_of (as_number (formed e s)).core) ≡ true
     number_names e p = as_term slots params (formed e s).core (names_law slots params e alone whole s p g)
 
@@ -245,7 +245,8 @@ module _ (slots params : ℕ → Bool) where
         (and_second one more q)
 
   abbrev Names : Wording → Effecting → Type 0
-  Names p f = (alone whole : WordTest) (s : Scope) → p alone whole ≡ true → Sees slots params alone whole s → Fine (f s)
+  Names p f = (alone whole : WordTest) (s : Scope) → p alone whole ≡ true → SeesOnly slots params alone whole s →
+      Fine (f s)
 
   fine_each : (g : ℤ → Effect) → ((z : ℤ) → Fine (g z)) → (e : Effect) → Fine e → (zs : List ℤ) →
       Fine (all_beside e (map g zs))
@@ -264,7 +265,7 @@ module _ (slots params : ℕ → Bool) where
       (λ z. of.2 (or_word a name.text) w (with_number s name.text z) p
       (inside_sees slots params a w s name.text z g)) nothing (tt, tt) (fit_values (numbers s.bound) range)
 
-  rest_fine : (a w : WordTest) (s : Scope) → Sees slots params a w s → (e : Effect) → Fine e →
+  rest_fine : (a w : WordTest) (s : Scope) → SeesOnly slots params a w s → (e : Effect) → Fine e →
       (xs : List (Related Names)) → list_all (λ m. m a w) (map (λ k. k.0) xs) ≡ true →
       Fine (all_beside e (map (λ m. m s) (map (λ k. k.1) xs)))
   rest_fine a w s g e h [] p = h

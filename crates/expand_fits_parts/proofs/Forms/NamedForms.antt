@@ -43,7 +43,7 @@ use Rattle.expand_rules.specs.Forming.{element_by, element_of, number_constant, 
 use Rattle.expand_rules.specs.Forming.{numbers, fit_values, Forming, form_layer}
 use Rattle.expand_fits_parts.specs.Forms.Naming.{WordTest, or_word, Wording, words_layer, words_pass, SlotsPass}
 use Rattle.expand_fits_parts.specs.Forms.Naming.{core_names_only}
-use Rattle.expand_fits_parts.specs.Forms.Naming.{Sees}
+use Rattle.expand_fits_parts.specs.Forms.Naming.{SeesOnly}
 use Rattle.expand_fits_parts.specs.Forms.NamingLaws.{ExpressionsName}
 
 or_false : (b : Bool) → (b || false) ≡ true → b ≡ true
@@ -317,7 +317,7 @@ module _ (slots params : ℕ → Bool) where
   -- each kind of expression
 
   abbrev pub Names : Wording → Forming → Type 0
-  Names p f = (alone whole : WordTest) (s : Scope) → p alone whole ≡ true → Sees slots params alone whole s →
+  Names p f = (alone whole : WordTest) (s : Scope) → p alone whole ≡ true → SeesOnly slots params alone whole s →
       Fine (f.made s)
 
   abbrev Part : Type 0
@@ -326,7 +326,7 @@ module _ (slots params : ℕ → Bool) where
   abbrev KeepsFine : (Formed → Formed → Formed) → Type 0
   KeepsFine op = (a b : Formed) → Fine a → Fine b → Fine (op a b)
 
-  module _ (alone whole : WordTest) (s : Scope) (g : Sees slots params alone whole s) where
+  module _ (alone whole : WordTest) (s : Scope) (g : SeesOnly slots params alone whole s) where
     fold_fine : (op : Formed → Formed → Formed) → KeepsFine op → (a : Formed) → Fine a → (xs : List Part) →
         list_all (λ m. m alone whole) (map (λ k. k.0) xs) ≡ true →
         Fine (fold op a (map (λ m. m.made s) (map (λ k. k.1) xs)))
@@ -384,8 +384,8 @@ module _ (slots params : ℕ → Bool) where
       sum_gathered f h (z ∷ zs) = joined_fine sum fine_sum f h (as_number (f z)) (fine_number (f z) (h z)) zs
 
   -- a bound number names nothing
-  pub inside_sees : (alone whole : WordTest) (s : Scope) (name : List ℕ) (z : ℤ) → Sees slots params alone whole s →
-      Sees slots params (or_word alone name) whole (with_number s name z)
+  pub inside_sees : (alone whole : WordTest) (s : Scope) (name : List ℕ) (z : ℤ) → SeesOnly slots params alone whole s →
+      SeesOnly slots params (or_word alone name) whole (with_number s name z)
   inside_sees alone whole s name z g = record {
     words = λ word. elim (bytes_eq word name) as (λ b. (alone word || b) ≡ true → Fine (formed_or_zero
         (option_or (option_map bound_formed (cond b (Some (Bound.Number z)) (lookup (bytes_eq word) s.bound)))

@@ -31,7 +31,8 @@ use Rattle.expand_rules.specs.Programs.{core_statement}
 use Rattle.expand_correct.specs.Values.WeightLaws.{WriteWithin, EffectWithin, CoreWithin}
 use Rattle.expand_correct.proofs.Values.Lightness.{expressions_within, fits_truth, fits_number}
 use Rattle.expand_correct.proofs.Values.LightEffects.{assignments_within}
-use Rattle.expand_fits_parts.specs.Forms.Naming.{any_word, SlotsPass, core_names_only, Sees, WriteNames, EffectNames}
+use Rattle.expand_fits_parts.specs.Forms.Naming.{any_word, SlotsPass, core_names_only, SeesOnly, WriteNames}
+use Rattle.expand_fits_parts.specs.Forms.Naming.{EffectNames}
 use Rattle.expand_fits_parts.specs.Forms.Fitting.{ScopeNames, ScopeFits}
 use Rattle.expand_fits_parts.specs.Forms.FittingLaws.{FormulasFit, NumbersFit, InstancesFit, DefinitionsFit}
 use Rattle.expand_fits_parts.proofs.Forms.Below.{lt_true, forms_below, terms_below}
@@ -85,7 +86,7 @@ module _ (slots params : ℕ → Bool) where
   always_fine None h = tt
   always_fine (Some a) h = h a refl
 
-  pub sees_any : (s : Scope) → ScopeNames slots params s → Sees slots params any_word any_word s
+  pub sees_any : (s : Scope) → ScopeNames slots params s → SeesOnly slots params any_word any_word s
   sees_any s g = record {
     words = λ word p. zero_fine _ (or_fine _ _ (named_fine (lookup (bytes_eq word) s.bound) (λ n weight e.
         g.bound word n weight e))

@@ -27,7 +27,7 @@ use Rattle.names_laws.proofs.Staying.{stays_in_definitions}
 use Rattle.core_terms.specs.Conditions.{any_place}
 use Rattle.expand_rules.specs.declared.cores.Formed.{Formed}
 use Rattle.expand_rules.specs.Forming.{Scope, variable_formed, number_constant, formed}
-use Rattle.expand_fits_parts.specs.Forms.Naming.{WordTest, SlotsPass, Sees}
+use Rattle.expand_fits_parts.specs.Forms.Naming.{WordTest, SlotsPass, SeesOnly}
 use Rattle.expand_fits_parts.specs.Forms.Visible.{FoundPass}
 use Rattle.expand_fits_parts.specs.Forms.Placing.{declares}
 use Rattle.expand_fits_parts.proofs.Forms.NamedForms.{Fine, expressions_name}
@@ -181,7 +181,7 @@ module _ (final : Table) (vs : List Variable) (values : Bindings) (mirrors : Mir
         b.2 in
         kept word k.0 a k.1 (own_program p k.0 (always_no_value k.0.meaning kind) k.2) e
 
-    pub program_sees : Sees slots any_place (seen p names) (seen p names) (scope_by vs values A)
+    pub program_sees : SeesOnly slots any_place (seen p names) (seen p names) (scope_by vs values A)
     program_sees = record {
       words = λ word h.
           let value = option_map number_constant (lookup (bytes_eq word) values) in

@@ -53,7 +53,7 @@ use Rattle.expand_rules.specs.Assigning.{Stated, stated}
 use Rattle.expand_rules.specs.Programs.{initial_form, core_statement}
 use Rattle.expand_documents.specs.AlwaysNames.{with_definition, with_definitions}
 use Rattle.expand_documents.specs.Cores.{part_definitions, with_parts, with_cores}
-use Rattle.expand_fits_parts.specs.Forms.Naming.{SlotsPass, Sees, EffectNames}
+use Rattle.expand_fits_parts.specs.Forms.Naming.{SlotsPass, SeesOnly, EffectNames}
 use Rattle.expand_fits_parts.specs.Forms.Placing.{declares}
 use Rattle.expand_fits_parts.specs.Forms.Programs.{ProgramShows}
 use Rattle.expand_fits_parts.specs.Forms.ShowingLaws.{names_apart, ProgramsShow}
@@ -261,7 +261,7 @@ module _ (final : Table) (vs : List Variable) (values : Bindings) (mirrors : Mir
 
   -- one program
 
-  section_names : (slots : ℕ → Bool) (p : ℕ) (names : Table) (s : Scope) → Sees slots any_place (seen p names)
+  section_names : (slots : ℕ → Bool) (p : ℕ) (names : Table) (s : Scope) → SeesOnly slots any_place (seen p names)
       (seen p names) s → (o : Option Initially) → (initially_reading (program_scope p names) o).fault ≡ None →
       form_names_only slots any_place (initial_form s o) ≡ true
   section_names slots p names s g None h = names-Top slots any_place

@@ -98,7 +98,7 @@ core_names_only slots params (Core.Number t known) = term_names_only slots param
 core_names_only slots params (Core.Truth f known) = form_names_only slots params f
 
 -- what words that pass stand for names only such slots and parameters
-pub record Sees (slots params : ℕ → Bool) (alone whole : WordTest) (s : Scope) : Type 0 where
+pub record SeesOnly (slots params : ℕ → Bool) (alone whole : WordTest) (s : Scope) : Type 0 where
   pub words : (word : List ℕ) → alone word ≡ true → core_names_only slots params (word_formed s word).core ≡ true
   pub variables : (word : List ℕ) (v : Variable) → whole word ≡ true → variable_named word s.variables ≡ Some v →
       SlotsPass slots v v.indices

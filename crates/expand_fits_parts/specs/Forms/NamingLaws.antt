@@ -10,17 +10,17 @@ use Rattle.core_terms.specs.Places.{term_slots, form_slots, term_params, form_pa
 use Rattle.expand_rules.specs.Forming.{Scope, formed}
 use Rattle.expand_rules.specs.Assigning.{effect_of}
 use Rattle.expand_fits_parts.specs.Forms.Naming.{WordTest, any_word, words_pass, assignment_passes, core_names_only}
-use Rattle.expand_fits_parts.specs.Forms.Naming.{Sees}
+use Rattle.expand_fits_parts.specs.Forms.Naming.{SeesOnly}
 use Rattle.expand_fits_parts.specs.Forms.Naming.{EffectNames}
 
 abbrev pub ExpressionsName : Type 0
 ExpressionsName = (slots params : ℕ → Bool) (alone whole : WordTest) (e : Expr) (s : Scope) →
-    words_pass e alone whole ≡ true → Sees slots params alone whole s →
+    words_pass e alone whole ≡ true → SeesOnly slots params alone whole s →
     core_names_only slots params (formed e s).core ≡ true
 
 abbrev pub AssignmentsName : Type 0
 AssignmentsName = (slots params : ℕ → Bool) (alone whole : WordTest) (a : Assign) (s : Scope) →
-    assignment_passes a alone whole ≡ true → Sees slots params alone whole s →
+    assignment_passes a alone whole ≡ true → SeesOnly slots params alone whole s →
     EffectNames slots params (effect_of a s)
 
 -- a test that each word passes is passed by all words

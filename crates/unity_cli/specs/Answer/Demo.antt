@@ -3,7 +3,7 @@ use Rattle.std.specs.Prelude.{◌≡◌, ℕ, List, ◌∷◌, [], ◌++◌, cod
 use Rattle.cli_ring.specs.Rings.{ring_bytes}
 use Rattle.unity_cli.specs.declared.status.Status.{Status}
 use Rattle.unity_cli.specs.Answer.Check.{IsAccepted}
-use Rattle.unity_cli.specs.Answer.Prove.{IsFound, Searched}
+use Rattle.unity_cli.specs.Answer.Prove.{IsProvedText, Searched}
 
 -- the units of the search for a ring's certificates
 abbrev pub ring_budget : ℕ
@@ -17,7 +17,7 @@ ring_line places =
 -- certificates were found for the ring, and after its line stands what `check` writes of the ring with them
 pub record IsShown (places : ℕ) (text : List ℕ) : Type 0 where
   pub proved : List ℕ
-  pub found : IsFound (ring_bytes places) ring_budget proved
+  pub found : IsProvedText (ring_bytes places) ring_budget proved
   pub verdict : List ℕ
   pub accepted : IsAccepted proved verdict
   pub text_is : text ≡ ring_line places ++ verdict

@@ -18,7 +18,7 @@ use Rattle.unity_cli.specs.Admitted.{greatest_bare_size, IsAdmitted, IsBad}
 use Rattle.unity_cli.specs.Answer.Check.{IsAccepted}
 
 -- certificates within the budget refute all obligations' negations, and `check` accepts the document with them
-pub record IsFound (bytes : List ℕ) (budget : ℕ) (text : List ℕ) : Type 0 where
+pub record IsProvedText (bytes : List ℕ) (budget : ℕ) (text : List ℕ) : Type 0 where
   pub document : Document
   pub read : IsAdmitted greatest_bare_size bytes document
   pub plan : Plan
@@ -61,7 +61,7 @@ pub record IsSpent (bytes : List ℕ) (budget : ℕ) (text : List ℕ) : Type 0 
 
 -- what `prove` answers for these bytes
 abbrev pub Searched : List ℕ → ℕ → Status → List ℕ → Type 0
-Searched bytes budget Status.Done text = IsFound bytes budget text
+Searched bytes budget Status.Done text = IsProvedText bytes budget text
 Searched bytes budget Status.Rejected text = IsStuck bytes budget text
 Searched bytes budget Status.BadDocument text = IsBad greatest_bare_size bytes text
 Searched bytes budget Status.Refuted text = IsRefuted bytes budget text

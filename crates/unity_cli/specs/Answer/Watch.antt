@@ -7,7 +7,7 @@ use Rattle.proof_plans.specs.declared.plans.StepFault.{StepFault}
 use Rattle.run_correct.specs.Answers.{IsUnknown}
 use Rattle.trace_watch.specs.declared.tracing.Ending.{Ending}
 use Rattle.trace_watch.specs.declared.violations.Violation.{Violation}
-use Rattle.watch_correct.specs.Watched.{HasManyCases, HasNoPlan, HasNoProof, HasNoStart, IsWatched}
+use Rattle.watch_correct.specs.Watched.{HasManyCases, HasNoPlan, HasNoProof, ScheduleHasNoStart, IsWatched}
 use Rattle.cli_texts.specs.Refusals.{fault_text, refusal_text}
 use Rattle.cli_texts.specs.Verdicts.{rejected_text}
 use Rattle.unity_cli.specs.declared.status.Status.{Status}
@@ -19,7 +19,7 @@ ending_status (Ending.Violated place v) = Status.Violated
 ending_status Ending.Unviolated = Status.Done
 
 -- nothing is violated on the trace of the document's schedule
-pub record IsKept (bytes text : List ℕ) : Type 0 where
+pub record IsKeptTrace (bytes text : List ℕ) : Type 0 where
   pub document : Document
   pub read : IsAdmitted greatest_size bytes document
   pub watched : IsWatched document Ending.Unviolated text
@@ -33,7 +33,7 @@ pub record IsBroken (bytes text : List ℕ) : Type 0 where
   pub watched : IsWatched document (Ending.Violated place violation) text
 
 -- this is the first failure of the document's steps
-pub record IsRefused (bytes text : List ℕ) : Type 0 where
+pub record IsRefusedPlan (bytes text : List ℕ) : Type 0 where
   pub document : Document
   pub read : IsAdmitted greatest_size bytes document
   pub fault : StepFault
@@ -47,7 +47,8 @@ pub data IsNotWatched (bytes : List ℕ) (text : List ℕ) : Type 0 where
       text ≡ refusal_text Code.NoSchedule → IsNotWatched bytes text
   unknown : (d : Document) (at : ℕ) → IsAdmitted greatest_size bytes d → IsUnknown d at →
       text ≡ fault_text Code.NoSuchStatement at → IsNotWatched bytes text
-  no_start : (d : Document) → IsAdmitted greatest_size bytes d → HasNoStart d → text ≡ refusal_text Code.NoStart →
+  no_start : (d : Document) → IsAdmitted greatest_size bytes d → ScheduleHasNoStart d →
+      text ≡ refusal_text Code.NoStart →
       IsNotWatched bytes text
   no_proof : (d : Document) → IsAdmitted greatest_size bytes d → HasNoProof d → text ≡ refusal_text Code.NoProof →
       IsNotWatched bytes text
@@ -56,8 +57,8 @@ pub data IsNotWatched (bytes : List ℕ) (text : List ℕ) : Type 0 where
 
 -- what `watch` answers for these bytes
 abbrev pub Watched : List ℕ → Status → List ℕ → Type 0
-Watched bytes Status.Done text = IsKept bytes text
+Watched bytes Status.Done text = IsKeptTrace bytes text
 Watched bytes Status.Violated text = IsBroken bytes text
-Watched bytes Status.Rejected text = IsRefused bytes text
+Watched bytes Status.Rejected text = IsRefusedPlan bytes text
 Watched bytes Status.BadDocument text = IsNotWatched bytes text
 Watched bytes status text = ⊥

@@ -2,7 +2,7 @@ use Rattle.std.proofs.Common.{◌∷◌, [], sym, ◌∙◌, subst}
 use Rattle.obligations.specs.Obligations.{AreOwn}
 use Rattle.obligations.specs.Opening.{first_branch}
 use Rattle.certificate_rules.specs.Refutation.{allowing}
-use Rattle.event_checker.specs.Readings.{Stands}
+use Rattle.event_checker.specs.Readings.{ReadingStands}
 use Rattle.event_checker.proofs.NodeLaws.{events-tell-nodes}
 use Rattle.certificate_check.proofs.checking.read.Goals as goal
 
@@ -14,7 +14,8 @@ read_nodes-requires-clause-ready c =
     let root = allowing c.args.levels (first_branch c.args.o.now) ∷ [] in (
       root,
       [],
-      subst (λ vs. Stands vs root c.in_ok-reading.reading []) (sym c.as_slice.ensures) c.in_ok-reading.ensures.stands,
+      subst (λ vs. ReadingStands vs root c.in_ok-reading.reading []) (sym c.as_slice.ensures)
+          c.in_ok-reading.ensures.stands,
     )
 
 pub returns : goal.returns
@@ -22,8 +23,8 @@ returns c =
     let root = allowing c.args.levels (first_branch c.args.o.now) ∷ [] in
     let new = c.read_nodes.new.reading in
     let told = events-tell-nodes c.as_slice-2.result.now ∙ c.as_slice-2.ensures in
-    subst (λ vs. Stands vs root new c.args.c.now.nodes) c.as_slice.ensures
-    (subst (Stands c.as_slice.result.now root new) told
+    subst (λ vs. ReadingStands vs root new c.args.c.now.nodes) c.as_slice.ensures
+    (subst (ReadingStands c.as_slice.result.now root new) told
     (c.in_ok-read_nodes.ensures root []
-    (subst (λ vs. Stands vs root c.in_ok-reading.reading []) (sym c.as_slice.ensures)
+    (subst (λ vs. ReadingStands vs root c.in_ok-reading.reading []) (sym c.as_slice.ensures)
     c.in_ok-reading.ensures.stands)))

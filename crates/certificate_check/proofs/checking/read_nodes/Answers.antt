@@ -1,6 +1,6 @@
 use Rattle.std.proofs.Common.{refl, sym, ◌∙◌, subst}
 use Rattle.event_checker.specs.Events.{node_events, nodes_from}
-use Rattle.event_checker.specs.Readings.{Stands}
+use Rattle.event_checker.specs.Readings.{ReadingStands}
 use Rattle.certificate_check.proofs.LoopLaws.{node-next, nodes-end}
 use Rattle.certificate_check.proofs.checking.read_nodes.Goals as goal
 
@@ -23,5 +23,5 @@ loop-node-preserved c =
 pub returns : goal.returns
 returns c = λ root ns s.
     let w = c.loop-node.invariant.told root ns s in
-    subst (Stands c.args.vs.now root c.loop-node.reading)
+    subst (ReadingStands c.args.vs.now root c.loop-node.reading)
     (sym (nodes-end w.0 c.args.nodes.now c.loop-node.node-index c.loop-node-test.false) ∙ w.2) w.1

@@ -1,5 +1,5 @@
 use Rattle.std.proofs.Common.{refl, sym, ◌∙◌, subst}
-use Rattle.event_checker.specs.Readings.{Stands}
+use Rattle.event_checker.specs.Readings.{ReadingStands}
 use Rattle.certificate_check.proofs.LoopLaws.{pair-next, pairs-end}
 use Rattle.certificate_check.proofs.checking.read_pairs.Goals as goal
 
@@ -17,5 +17,5 @@ loop-pair-preserved c = λ vs root ns s.
 pub returns : goal.returns
 returns c = λ vs root ns s.
     let w = c.loop-pair.invariant vs root ns s in
-    subst (Stands vs root c.loop-pair.reading)
+    subst (ReadingStands vs root c.loop-pair.reading)
     (sym (pairs-end w.0 c.args.pairs.now c.loop-pair.pair-index c.loop-pair-test.false) ∙ w.2) w.1

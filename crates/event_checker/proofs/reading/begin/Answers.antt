@@ -8,7 +8,7 @@ use Rattle.certificate_machine.specs.Machines.{Goes, GoesErr}
 use Rattle.certificate_machine.specs.Sums.{sum_line}
 use Rattle.event_checker.specs.declared.reading.Open.{Open}
 use Rattle.event_checker.specs.Events.{with_event}
-use Rattle.event_checker.specs.Readings.{Stands}
+use Rattle.event_checker.specs.Readings.{ReadingStands}
 use Rattle.event_checker.proofs.StepLaws.{stands-failed, too-deep}
 use Rattle.event_checker.proofs.BeginLaws.{on-ok, read-alone, started, sum-started, round-started, share-started}
 use Rattle.event_checker.proofs.reading.begin.Goals as goal
@@ -24,7 +24,7 @@ returns-then-reading-eq0 c =
 pub returns-in-Case : goal.returns-in-Case
 returns-in-Case c =
     on-ok c.opened-in-Case.result (λ q root ns at.
-    subst (λ e. Stands c.args.vs.now root c.opened-in-Case.new.reading (with_event ns e)) (sym c.in-Case.is)
+    subst (λ e. ReadingStands c.args.vs.now root c.opened-in-Case.new.reading (with_event ns e)) (sym c.in-Case.is)
     (read-alone c.args.vs.now c.args.reading.now.machine c.args.reading.now.node (Node.Case c.in-Case.k)
     c.open_case-read.result _ c.opened-in-Case.new.reading (λ p. refl) (omega arith) (grind arith) c.requires.none refl
     c.open_case-read.ensures.ok c.open_case-read.ensures.light c.open_case-read.ensures.scoped
@@ -42,7 +42,7 @@ returns-in-Split c =
     let err = subst (λ z. IfErr r (GoesErr c.args.vs.now m (split_at m.variables m.branch v z))) same
     c.open_split-read.ensures.err in
     on-ok c.opened-in-Split.result (λ q root ns at.
-    subst (λ e. Stands c.args.vs.now root c.opened-in-Split.new.reading (with_event ns e)) (sym c.in-Split.is)
+    subst (λ e. ReadingStands c.args.vs.now root c.opened-in-Split.new.reading (with_event ns e)) (sym c.in-Split.is)
     (read-alone c.args.vs.now m c.args.reading.now.node (Node.Split v c.in-Split.k)
     r _ c.opened-in-Split.new.reading (λ p. refl) (omega arith) (grind arith) c.requires.none refl
     ok c.open_split-read.ensures.light c.open_split-read.ensures.scoped err q root ns at)) c.opened-in-Split.ensures
@@ -50,7 +50,7 @@ returns-in-Split c =
 pub returns-in-Quot : goal.returns-in-Quot
 returns-in-Quot c =
     on-ok c.opened-in-Quot.result (λ q root ns at.
-    subst (λ e. Stands c.args.vs.now root c.opened-in-Quot.new.reading (with_event ns e)) (sym c.in-Quot.is)
+    subst (λ e. ReadingStands c.args.vs.now root c.opened-in-Quot.new.reading (with_event ns e)) (sym c.in-Quot.is)
     (read-alone c.args.vs.now c.args.reading.now.machine c.args.reading.now.node (Node.Quot c.in-Quot.k)
     c.open_quot-read.result _ c.opened-in-Quot.new.reading (λ p. refl) (omega arith) (grind arith) c.requires.none refl
     c.open_quot-read.ensures.ok c.open_quot-read.ensures.light c.open_quot-read.ensures.scoped
@@ -60,7 +60,7 @@ pub returns-in-Sum : goal.returns-in-Sum
 returns-in-Sum c =
     let e = c.start.ensures in
     on-ok c.start.result (λ s root ns at.
-    subst (λ e. Stands c.args.vs.now root c.start.new.reading (with_event ns e)) (sym c.in-Sum.is)
+    subst (λ e. ReadingStands c.args.vs.now root c.start.new.reading (with_event ns e)) (sym c.in-Sum.is)
     (sum-started c.args.vs.now c.args.reading.now.machine c.args.reading.now.node c.start.new.reading (grind arith)
     root ns at s))
     (started c.start.result c.args.reading.now.machine c.args.reading.now.node c.start.new.reading Open.Sum (pos 0)
@@ -74,7 +74,7 @@ returns-in-Round c =
     let new = c.start-in-Round.new.reading in
     let same : to_z w64 (of_z w64 d) ≡ d = grind (arith, to_z-of_z) in
     on-ok r (λ s root ns at.
-    subst (λ e. Stands c.args.vs.now root new (with_event ns e)) (sym c.in-Round.is)
+    subst (λ e. ReadingStands c.args.vs.now root new (with_event ns e)) (sym c.in-Round.is)
     (round-started c.args.vs.now c.args.reading.now.machine c.args.reading.now.node new (grind arith) root ns at d s))
     (started r c.args.reading.now.machine c.args.reading.now.node new (Open.Round d) (pos 0)
     e.line e.size e.factors e.constant (subst (λ z. OnOk r (new.state ≡ Open.Round z)) same e.state) e.machine e.node)
@@ -88,7 +88,7 @@ returns-in-Share c =
     let new = c.start-in-Share.new.reading in
     let same : to_z w64 (of_z w64 k) ≡ k = grind (arith, to_z-of_z) in
     on-ok r (λ s root ns at.
-    subst (λ e. Stands c.args.vs.now root new (with_event ns e)) (sym c.in-Share.is)
+    subst (λ e. ReadingStands c.args.vs.now root new (with_event ns e)) (sym c.in-Share.is)
     (share-started c.args.vs.now m c.args.reading.now.node new (grind arith) root ns at k s))
     (started r m c.args.reading.now.node new Open.Share k
     (subst (λ z. OnOk r (sum_line new.sum ≡ line_of_const m.variables z)) same e.line)

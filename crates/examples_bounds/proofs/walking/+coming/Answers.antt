@@ -6,7 +6,7 @@ use Rattle.core_terms.specs.Steps.{slot_ranges}
 use Rattle.meaning_executions.specs.Execution.{System}
 use Rattle.meaning_executions.specs.Properties.{Test}
 use Rattle.examples_bounds.specs.Claims.{claimed, after}
-use Rattle.examples_bounds.specs.Walking.{Comes, ComesAt}
+use Rattle.examples_bounds.specs.Walking.{LeadsBehind, ComesAt}
 use Rattle.examples_bounds.proofs.LoopLaws.{always, never, refuted, below_more}
 use Rattle.examples_bounds.proofs.StepLaws.{readable_slots, readable_weight, steps_are, chosen_within, step_stays}
 use Rattle.examples_bounds.proofs.WalkLaws.{comes_now, comes_late, comes_last, comes_step, comes_next, enough_rounds}
@@ -44,7 +44,7 @@ comes-returns-then-most-eq0 t c = λ made stands.
     let steps = steps_are c.args.claim.now.slots.now c.args.claim.now.program.now in
     let few = few_rounds made (length x.steps) c.args.count.now.instances c.rounds.result c.args.claim.now.bound
     (steps ∙ sym c.requires.instances) (c.rounds.ensures made stands) c.requires.claim.bound c.if-rounds-claim.false in
-    always _ (subst (λ m. Comes x q c.args.claim.now.bound m made c.args.state.now) (sym c.if-most-eq0.true)
+    always _ (subst (λ m. LeadsBehind x q c.args.claim.now.bound m made c.args.state.now) (sym c.if-most-eq0.true)
     (comes_last x q c.args.claim.now.bound made c.args.state.now few))
 
 pub comes-loop-choice-preserved : goal.comes-loop-choice-preserved
@@ -107,7 +107,8 @@ comes_at-returns-in_ok-held-in-Some t c = λ made stands.
     let bound = c.args.claim.now.bound in
     comes_next x q bound c.args.most made c.args.state.now c.in-Some.next c.args.choice
     c.in_ok-held-in-Some.held (sym c.in_ok-next.ensures ∙ c.in-Some.is)
-    (subst (λ (u : State). IsTrue c.in_ok-held-in-Some.held ↔ Comes x q bound c.args.most (made ++ c.args.choice ∷ [])
+    (subst (λ (u : State). IsTrue c.in_ok-held-in-Some.held ↔ LeadsBehind x q bound c.args.most
+    (made ++ c.args.choice ∷ [])
     u)
     c.as_slice.ensures
     (c.in_ok-held-in-Some.ensures (made ++ c.args.choice ∷ []) (c.with_choice-longer.ensures.longer made stands)))

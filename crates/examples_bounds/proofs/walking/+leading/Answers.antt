@@ -6,7 +6,7 @@ use Rattle.core_terms.specs.Steps.{slot_ranges}
 use Rattle.meaning_executions.specs.Execution.{System}
 use Rattle.meaning_executions.specs.Properties.{Test}
 use Rattle.examples_bounds.specs.Claims.{claimed, before, after}
-use Rattle.examples_bounds.specs.Walking.{Comes, Leads, LeadsAt}
+use Rattle.examples_bounds.specs.Walking.{LeadsBehind, LeadsWithin, LeadsAt}
 use Rattle.examples_bounds.proofs.LoopLaws.{always, never, refuted, below_more}
 use Rattle.examples_bounds.proofs.StepLaws.{chosen_within, step_stays}
 use Rattle.examples_bounds.proofs.WalkLaws.{leads_here, leads_last, leads_step, leads_next}
@@ -19,7 +19,7 @@ leads-returns-then-not-here t c =
     let q : Test = after c.args.claim.now in
     let s : State = c.args.state.now in
     never _ (λ leads. refuted _ (subst (λ b. IsTrue b ↔ (IsTrue (p s) →
-    Comes x q c.args.claim.now.bound c.args.most [] s)) c.if-not-here.true c.in_ok-here.ensures)
+    LeadsBehind x q c.args.claim.now.bound c.args.most [] s)) c.if-not-here.true c.in_ok-here.ensures)
     (λ h. leads_here x q c.args.claim.now.bound p c.args.most s leads h))
 
 pub leads-returns-then-most-eq0 : goal.leads-returns-then-most-eq0
@@ -28,8 +28,8 @@ leads-returns-then-most-eq0 t c =
     let p : Test = before c.args.claim.now in
     let q : Test = after c.args.claim.now in
     let s : State = c.args.state.now in
-    always _ (subst (λ m. Leads x p q c.args.claim.now.bound m s) (sym c.if-most-eq0.true)
-    (leads_last x q c.args.claim.now.bound p s (λ h. subst (λ m. Comes x q c.args.claim.now.bound m [] s)
+    always _ (subst (λ m. LeadsWithin x p q c.args.claim.now.bound m s) (sym c.if-most-eq0.true)
+    (leads_last x q c.args.claim.now.bound p s (λ h. subst (λ m. LeadsBehind x q c.args.claim.now.bound m [] s)
     c.if-most-eq0.true (c.in_ok-here.ensures.0 c.if-not-here.false h))))
 
 pub leads-loop-choice-preserved : goal.leads-loop-choice-preserved
@@ -85,5 +85,5 @@ leads_at-returns-in_ok-held-in-Some t c =
     let q : Test = after c.args.claim.now in
     leads_next x p q c.args.claim.now.bound c.args.most c.args.state.now c.in-Some.next c.args.choice
     c.in_ok-held-in-Some.held (sym c.in_ok-next.ensures ∙ c.in-Some.is)
-    (subst (λ (u : State). IsTrue c.in_ok-held-in-Some.held ↔ Leads x p q c.args.claim.now.bound c.args.most u)
+    (subst (λ (u : State). IsTrue c.in_ok-held-in-Some.held ↔ LeadsWithin x p q c.args.claim.now.bound c.args.most u)
     c.as_slice.ensures c.in_ok-held-in-Some.ensures)

@@ -9,7 +9,7 @@ use Rattle.expand_rules.specs.Forming.{with_number, numbers, fit_values, is_fixe
 use Rattle.expand_rules.specs.Measures.{range_misfit}
 use Rattle.expand_rules.specs.Assigning.{beside, nothing, component_effect, effect_of}
 use Rattle.expand_expressions.specs.Places.{scope}
-use Rattle.expand_assignments.specs.Adding.{Adds, AddsAll, Halts, each_effect, with_range}
+use Rattle.expand_assignments.specs.Adding.{Adds, AddsAll, StopsAdding, each_effect, with_range}
 use Rattle.expand_assignments.proofs.AddLaws.{adds_all_beside, adds_one, halts_ranged, ranged_done, adds_all_after}
 use Rattle.expand_assignments.proofs.AddLaws.{all_halts, halts_all, left_of, numbers_next, numbers_end, numbers_halt}
 use Rattle.expand_assignments.proofs.EffectLaws.{ranged}
@@ -76,13 +76,13 @@ quantified-returns-in_err-instance t c =
     let old = c.args.effect.now in
     rw (p.1, p.2) (halts_ranged f (is_fixed_range s.bound range) (range_misfit (numbers s.bound) range) old
     (fold beside nothing (map made (fit_values (numbers s.bound) range)))
-    (subst (λ (zs : List ℤ). Halts f old (fold beside nothing (map made zs)))
+    (subst (λ (zs : List ℤ). StopsAdding f old (fold beside nothing (map made zs)))
     (sym c.range_numbers-numbers.ensures.values)
     (adds_all_beside (Err f) old c.instance.new.effect (map made (count_up taken.first taken.count))
     c.requires.counted
     (numbers_halt f made taken.first c.loop-i.i taken.count old c.instance.new.effect c.loop-i.effect
     c.loop-i-test.true c.loop-i.invariant.0
-    (subst (λ (b : Bound). Halts f c.loop-i.effect (effect_of c.args.of.now
+    (subst (λ (b : Bound). StopsAdding f c.loop-i.effect (effect_of c.args.of.now
     (record s { bound = (c.args.name.now.text, b) ∷ s.bound })))
     c.bound_at.ensures c.in_err-instance.ensures)))))
 

@@ -1,9 +1,9 @@
 use Rattle.std.proofs.Common.{◌≡◌, take}
-use Rattle.fair_rounds.specs.Counts.{StandsFor}
+use Rattle.fair_rounds.specs.Counts.{CountStandsFor}
 use Rattle.fair_rounds.proofs.counts.rounds.Given as goal
 
 abbrev pub invariant-loop-choice : goal.invariant-loop-choice
 invariant-loop-choice l = record {
   instances : l.count.instances ≡ l.k;
-  stands : StandsFor l.count (take l.choice-index l.choices);
+  stands : CountStandsFor l.count (take l.choice-index l.choices);
 }

@@ -4,7 +4,7 @@ use Rattle.std.proofs.KnownBytes.{Appends-trans}
 use Rattle.std.proofs.lemmas.Option.{slice_get_within}
 use Rattle.unity_base.specs.Streams.{AppendsPart}
 use Rattle.meaning_states.specs.State.{State}
-use Rattle.fair_rounds.specs.Counts.{StandsFor}
+use Rattle.fair_rounds.specs.Counts.{CountStandsFor}
 use Rattle.executor.specs.CoreSystem.{core_system}
 use Rattle.executor.specs.Running.{state_of}
 use Rattle.schedule_replay.specs.Lines.{heading_line, state_line}
@@ -180,7 +180,7 @@ steps-preserved g c =
       program = c.write_step.ensures.program;
       slots = c.write_step.ensures.slots;
       instances = c.add.ensures.instances ∙ c.steps.invariant.instances;
-      stands = subst (StandsFor c.add.new.self) (take_next cs n i at)
+      stands = subst (CountStandsFor c.add.new.self) (take_next cs n i at)
           (c.add.ensures.longer (take n cs) c.steps.invariant.stands);
       within = omega (arith, within);
     }

@@ -1,11 +1,11 @@
 use Rattle.std.proofs.Common.{take}
 use Rattle.event_checker.specs.Events.{events_of}
-use Rattle.event_judge.specs.Judges.{IsReady}
-use Rattle.proof_script.specs.Telling.{Tells}
+use Rattle.event_judge.specs.Judges.{JudgeIsReady}
+use Rattle.proof_script.specs.Telling.{JudgeIsTold}
 use Rattle.proof_script.proofs.telling.tell_nodes.Given as goal
 
 abbrev pub invariant-loop-node : goal.invariant-loop-node
 invariant-loop-node l = record {
-  ready : IsReady l.judge;
-  tells : Tells l.fn.judge l.judge (events_of (take l.node-index l.nodes));
+  ready : JudgeIsReady l.judge;
+  tells : JudgeIsTold l.fn.judge l.judge (events_of (take l.node-index l.nodes));
 }

@@ -1,11 +1,11 @@
 use Rattle.std.proofs.Common.{map, take}
 use Rattle.event_checker.specs.Events.{pair_event}
-use Rattle.event_judge.specs.Judges.{IsReady}
-use Rattle.proof_script.specs.Telling.{Tells}
+use Rattle.event_judge.specs.Judges.{JudgeIsReady}
+use Rattle.proof_script.specs.Telling.{JudgeIsTold}
 use Rattle.proof_script.proofs.telling.tell_pairs.Given as goal
 
 abbrev pub invariant-loop-pair : goal.invariant-loop-pair
 invariant-loop-pair l = record {
-  ready : IsReady l.judge;
-  tells : Tells l.fn.judge l.judge (map pair_event (take l.pair-index l.pairs));
+  ready : JudgeIsReady l.judge;
+  tells : JudgeIsTold l.fn.judge l.judge (map pair_event (take l.pair-index l.pairs));
 }

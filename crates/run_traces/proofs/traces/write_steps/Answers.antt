@@ -1,7 +1,7 @@
 use Rattle.std.proofs.Common.{◌+◌, ◌<◌, length, take, drop, refl, sym, ap, ◌∙◌, subst, arith}
 use Rattle.std.proofs.lemmas.Option.{slice_get_within}
 use Rattle.meaning_states.specs.State.{State}
-use Rattle.fair_rounds.specs.Counts.{StandsFor}
+use Rattle.fair_rounds.specs.Counts.{CountStandsFor}
 use Rattle.executor.specs.CoreSystem.{core_system}
 use Rattle.executor.specs.Running.{state_of}
 use Rattle.meaning_executions.specs.Rounds.{rounds}
@@ -82,7 +82,7 @@ steps-preserved g c =
       program = c.write_step.ensures.program;
       slots = c.write_step.ensures.slots;
       instances = c.add.ensures.instances ∙ c.steps.invariant.instances;
-      stands = subst (StandsFor c.add.new.self) (take_next cs n c.in-Some.choice at)
+      stands = subst (CountStandsFor c.add.new.self) (take_next cs n c.in-Some.choice at)
           (c.add.ensures.longer (take n cs) c.steps.invariant.stands);
       within = omega (arith, within);
     }

@@ -1,7 +1,7 @@
 use Rattle.std.proofs.Common.{◌≡◌, ◌-◌, ◌≤◌, length, take, drop}
 use Rattle.meaning_executions.specs.Rounds.{rounds}
 use Rattle.executor.specs.CoreSystem.{core_system}
-use Rattle.fair_rounds.specs.Counts.{StandsFor}
+use Rattle.fair_rounds.specs.Counts.{CountStandsFor}
 use Rattle.executor.specs.Running.{program_of, slots_of, state_of}
 use Rattle.schedule_replay.specs.Lines.{rounds_line}
 use Rattle.run_traces.specs.Choices.{choices_of}
@@ -25,7 +25,7 @@ invariant-steps g l =
       program : program_of l.runner ≡ l.p;
       slots : slots_of l.runner ≡ l.doc.slots;
       instances : l.count.instances ≡ k;
-      stands : StandsFor l.count (take l.number choices);
+      stands : CountStandsFor l.count (take l.number choices);
       within : l.number ≤ length choices;
     }
 

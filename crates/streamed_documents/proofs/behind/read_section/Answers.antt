@@ -1,7 +1,7 @@
 use Rattle.std.proofs.Common.{◌==◌, [], ◌∷◌, None, refl, ◌∙◌, sym, subst, arith}
 use Rattle.unity_lexer.proofs.ScanSteps.{start_passed, passed_then}
 use Rattle.certificate_events.specs.Events.{events}
-use Rattle.certificate_events.specs.Sections.{Takes}
+use Rattle.certificate_events.specs.Sections.{TokenTakes}
 use Rattle.streamed_documents.specs.Hearing.{Hears}
 use Rattle.streamed_documents.specs.Steps.{TakesToken}
 use Rattle.streamed_documents.proofs.Hearings.{hears_none, stays_same, stays_then, stays_may}
@@ -181,7 +181,7 @@ returns-in-Unexpected-clause-behind g c =
     skimmed_behind (c.args.version == 2) u w x a b d c.tokens.reader c.args.pending.now c.tokens.pending
     c.tokens.invariant.goes c.tokens.invariant.passed.limit c.in-Taken.token c.in_ok-skimmed-in-Unexpected.field-0
     p.limit (step_is w x b d _ _ c.in-Taken.is c.in_ok-token.ensures.scan)
-    (λ later ts stands. subst (λ taken. Takes later ts c.in-Taken.token taken) c.in-Unexpected.is
+    (λ later ts stands. subst (λ taken. TokenTakes later ts c.in-Taken.token taken) c.in-Unexpected.is
     (took.takes later ts stands)) c.in_ok-skimmed-in-Unexpected.ensures.skimmed
 
 pub returns-in-Unexpected-clause-ready : goal.returns-in-Unexpected-clause-ready

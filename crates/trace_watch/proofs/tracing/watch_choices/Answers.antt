@@ -5,6 +5,7 @@ use Rattle.meaning_states.specs.State.{State}
 use Rattle.core_terms.specs.declared.programs.CProgram.{CProgram}
 use Rattle.executor.specs.Running as runner
 use Rattle.trace_watch.specs.Watching as watching
+use Rattle.trace_watch.specs.Watching.{WatchStandsFor}
 use Rattle.trace_watch.specs.Tracing.{Leads}
 use Rattle.trace_watch.specs.Violations.{IsFirstViolation, IsUnviolated}
 use Rattle.trace_watch.proofs.LookLaws.{there}
@@ -88,7 +89,7 @@ loop-number-preserved c =
       seen = subst (λ (ds : List ℕ). Seen after x steps start ds next)
           (take_more cs n (get_or cs n 0) (there cs n 0 inside))
           (seen_more x steps start (take n cs) now next (get_or cs n 0) chosen c.loop-number.watch after inv.seen
-          (λ states ds stands. subst (λ (t : State). watching.StandsFor after (states ++ t ∷ [])
+          (λ states ds stands. subst (λ (t : State). WatchStandsFor after (states ++ t ∷ [])
           (ds ++ get_or cs n 0 ∷ [])) c.state.ensures (c.step-in-loop-number.ensures.longer states ds stands))
           (seen_exact w c.loop-number.watch c.state.result.now next (get_or cs n 0) None inv.watched inv.ranges
           inv.steps c.state.ensures c.in-None-step.ensures.exact));

@@ -7,7 +7,7 @@ use Rattle.core_terms.specs.Steps.{slot_ranges}
 use Rattle.core_terms.specs.Values.{form_value}
 use Rattle.executor.specs.declared.runner.StartError.{StartError}
 use Rattle.executor.specs.StartState.{start_state}
-use Rattle.watch_schedules.specs.Schedules.{Finds, HasNoBook}
+use Rattle.watch_schedules.specs.Schedules.{FindsWatched, HasNoBook}
 use Rattle.watch_schedules.proofs.ScheduleLaws.{book_stopped, scheduled_is, start_stopped}
 use Rattle.watch_schedules.proofs.watching.watch_program.Goals as goal
 
@@ -31,7 +31,7 @@ returns-in_err-runner c =
     let p = err_from_is_err_and c.from_residual-in_err-runner.result c.from_residual-in_err-runner.ensures.1 in
     let start = c.as_slice-3.ensures ∙ c.in_ok-start.ensures.numbers
     ∙ ap (λ (slots : List CSlot). start_state slots c.args.program.now) c.as_slice.ensures in
-    subst (Finds c.args.doc.now) (sym p.1)
+    subst (FindsWatched c.args.doc.now) (sym p.1)
     (start_stopped c.args.doc.now c.args.program.now c.args.choices c.requires.scheduled c.in_err-runner.field-0.0 p.0
     p.2 (λ e. subst (λ (state : State). form_value state [] c.args.program.now.initially ≡ false) start
     (c.in_err-runner.ensures.not_initial.0 (ap (λ (s : StartError). Err s) e))))
@@ -53,7 +53,7 @@ returns-in_err-records c =
     let p = err_from_is_err_and c.from_residual-in_err-records.result c.from_residual-in_err-records.ensures.1 in
     let start = c.as_slice-3.ensures ∙ c.in_ok-start.ensures.numbers
     ∙ ap (λ (slots : List CSlot). start_state slots c.args.program.now) c.as_slice.ensures in
-    subst (Finds c.args.doc.now) (sym p.1)
+    subst (FindsWatched c.args.doc.now) (sym p.1)
     (book_stopped c.args.doc.now c.args.program.now c.args.choices c.requires.scheduled
     (subst (λ (state : State). form_value state [] c.args.program.now.initially ≡ true) start
     c.in_ok-runner.ensures.initial) (sym c.is_proved.ensures ∙ c.if-not-is_proved.false) p.0

@@ -9,10 +9,10 @@ use Rattle.fair_rounds.specs.declared.records.Record.{Record}
 use Rattle.executor.specs.CoreSystem.{core_system}
 use Rattle.trace_watch.specs.declared.violations.WatchError.{WatchError}
 use Rattle.trace_watch.specs.Cases.{total_cases, watched}
-use Rattle.trace_watch.specs.Places.{RecordFits}
+use Rattle.trace_watch.specs.Places.{RecordFormsFit}
 use Rattle.trace_watch.specs.Tracing.{WatchesDefined}
 use Rattle.trace_watch.specs.Watching as watching
-use Rattle.watch_schedules.specs.Schedules.{Finds}
+use Rattle.watch_schedules.specs.Schedules.{FindsWatched}
 use Rattle.watch_schedules.proofs.PlanLaws.{defined_watched, records_fit}
 use Rattle.watch_schedules.proofs.ScheduleLaws.{few_cases, moved_ends, scheduled_is, watch_stopped}
 use Rattle.watch_schedules.proofs.watching.watch_records.Goals as goal
@@ -25,14 +25,15 @@ new-requires-clause-program c =
 pub new-requires-clause-fits : goal.new-requires-clause-fits
 new-requires-clause-fits c =
     let book = c.requires.records in
-    subst (λ (rs : List Record). All (RecordFits c.as_slice-slots.result.now) rs) (sym (c.as_slice.ensures ∙ book.2))
-    (subst (λ (slots : List CSlot). All (RecordFits slots) book.0.records) (sym c.as_slice-slots.ensures)
+    subst (λ (rs : List Record). All (RecordFormsFit c.as_slice-slots.result.now) rs)
+    (sym (c.as_slice.ensures ∙ book.2))
+    (subst (λ (slots : List CSlot). All (RecordFormsFit slots) book.0.records) (sym c.as_slice-slots.ensures)
     (records_fit c.args.doc.now c.requires.document book.0 book.1))
 
 pub returns-in_err-watch : goal.returns-in_err-watch
 returns-in_err-watch c =
     let p = err_from_is_err_and c.from_residual.result c.from_residual.ensures.1 in
-    subst (Finds c.args.doc.now) (sym p.1)
+    subst (FindsWatched c.args.doc.now) (sym p.1)
     (watch_stopped c.args.doc.now c.args.program.now c.args.choices c.args.records c.requires.scheduled
     c.requires.initial c.requires.proved c.requires.records c.in_err-watch.field-0.0 p.0 p.2
     (λ e. subst (λ (rs : List Record). 4096 < total_cases c.args.program.now rs) c.as_slice.ensures

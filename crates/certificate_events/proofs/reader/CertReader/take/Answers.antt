@@ -1,6 +1,6 @@
 use Rattle.std.proofs.Common.{◌≤◌, ◌+◌, ◌∷◌, [], ◌++◌, sym, ap, ◌∙◌, subst}
 use Rattle.certificate_events.specs.Steps.{Step}
-use Rattle.certificate_events.specs.Sections.{Takes, told}
+use Rattle.certificate_events.specs.Sections.{TokenTakes, told}
 use Rattle.certificate_events.proofs.SectionLaws.{handed, one_more, told_more, takes_is, missing_bound, number_bound}
 use Rattle.certificate_events.proofs.reader.CertReader.take.Goals as goal
 
@@ -25,7 +25,7 @@ returns-clause-stands c = λ later ts s. record {
 
 pub returns-clause-takes : goal.returns-clause-takes
 returns-clause-takes c = λ later ts s.
-    subst (λ (q : Step). Takes later ts c.args.t q.1)
+    subst (λ (q : Step). TokenTakes later ts c.args.t q.1)
     (sym (handed later c.args.self.now ts c.args.t _ _ c.sign_of.ensures c.step.ensures s))
     (takes_is later ts c.args.t)
 

@@ -4,7 +4,7 @@ use Rattle.obligations.specs.declared.branches.Obligation.{Obligation}
 use Rattle.obligations.specs.Opening.{first_branch}
 use Rattle.certificate_rules.specs.Refutation.{allowing}
 use Rattle.event_checker.specs.Events.{paired, nodes_from}
-use Rattle.event_checker.specs.Readings.{Stands}
+use Rattle.event_checker.specs.Readings.{ReadingStands}
 use Rattle.event_checker.proofs.BeginLaws.{on-ok}
 use Rattle.event_checker.proofs.CheckerLaws.{no-pair, pair-told, nothing-told, node-told}
 use Rattle.event_checker.proofs.checker.Checker.take.Goals as goal
@@ -16,7 +16,7 @@ returns-in-Pair-clause-stands c = λ levels o es s.
     let same : to_z w64 (of_z w64 c.in-Pair.by) ≡ c.in-Pair.by = grind (arith, to_z-of_z) in record {
       obligation = s.obligation;
       reading = pair-told o.variables root new es c.args.e c.in-Pair.by c.in-Pair.number c.in-Pair.is
-          (subst (λ z. Stands o.variables root new (paired (nodes_from [] es) (z, c.in-Pair.number))) same
+          (subst (λ z. ReadingStands o.variables root new (paired (nodes_from [] es) (z, c.in-Pair.number))) same
           (c.take_pair.ensures o.variables root (nodes_from [] es) s.reading));
     }
 
@@ -33,7 +33,8 @@ returns-in-Pair-clause-ready c =
       stands = record {
         obligation = refl;
         reading = pair-told o.variables root new r.events c.args.e c.in-Pair.by c.in-Pair.number c.in-Pair.is
-            (subst (λ z. Stands o.variables root new (paired (nodes_from [] r.events) (z, c.in-Pair.number))) same
+            (subst (λ z. ReadingStands o.variables root new (paired (nodes_from [] r.events) (z, c.in-Pair.number)))
+            same
             (c.take_pair.ensures o.variables root (nodes_from [] r.events) r.stands.reading));
       };
     }

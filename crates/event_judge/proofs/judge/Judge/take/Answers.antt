@@ -1,17 +1,17 @@
 use Rattle.std.proofs.Common.{sym, subst, ◌++◌, ◌∷◌, []}
 use Rattle.unity_base.specs.declared.events.CertEvent.{CertEvent}
-use Rattle.event_judge.specs.Judges.{StandsFor}
+use Rattle.event_judge.specs.Judges.{JudgeStandsFor}
 use Rattle.event_judge.proofs.StandLaws.{on-ok, told-on}
 use Rattle.event_judge.proofs.judge.Judge.take.Goals as goal
 
 pub returns-in-Begin-clause-stands : goal.returns-in-Begin-clause-stands
 returns-in-Begin-clause-stands c = on-ok c.begin.result (λ f d es s.
-    subst (λ e. StandsFor d c.begin.new.self (es ++ e ∷ [])) (sym c.in-Begin.is)
+    subst (λ e. JudgeStandsFor d c.begin.new.self (es ++ e ∷ [])) (sym c.in-Begin.is)
     (told-on c.args.self.now c.begin.new.self CertEvent.Begin f d es s)) c.begin.ensures.stands
 
 pub returns-in-End-clause-stands : goal.returns-in-End-clause-stands
 returns-in-End-clause-stands c = on-ok c.end.result (λ f d es s.
-    subst (λ e. StandsFor d c.end.new.self (es ++ e ∷ [])) (sym c.in-End.is)
+    subst (λ e. JudgeStandsFor d c.end.new.self (es ++ e ∷ [])) (sym c.in-End.is)
     (told-on c.args.self.now c.end.new.self CertEvent.End f d es s)) c.end.ensures.stands
 
 pub returns-in_default : goal.returns-in_default
