@@ -10,7 +10,7 @@ use Rattle.obligations.specs.declared.branches.Line.{Line}
 use Rattle.obligations.specs.declared.branches.Fact.{Fact}
 use Rattle.obligations.specs.declared.branches.Variable.{Variable}
 use Rattle.obligations.specs.LinearForms.{add_at, zeros, line_of_const, sparse, fact_of}
-use Rattle.obligations.specs.Load.{is_small}
+use Rattle.obligations.specs.Load.{in_limit}
 use Rattle.obligations.proofs.LineLaws.{length-zeros}
 use Rattle.certificate_rules.specs.Additions.{fits_added}
 use Rattle.certificate_rules.specs.Sums.{add_factors, below_0}

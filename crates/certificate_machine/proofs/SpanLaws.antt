@@ -11,7 +11,7 @@ use Rattle.obligations.specs.declared.branches.Variable.{Variable}
 use Rattle.obligations.specs.LinearForms.{add_at, zeros, line_of_const, sparse}
 use Rattle.obligations.proofs.LineLaws.{length-add_at}
 use Rattle.certificate_rules.specs.Sums.{add_factors}
-use Rattle.certificate_machine.specs.Spans.{is_zero, are_zero}
+use Rattle.certificate_machine.specs.Spans.{equals_zero, are_zero}
 
 -- fewer of the first, or of the last
 pub fewer-first : (zs : List ℤ) (m n : ℕ) → m ≤ n → are_zero (take n zs) ≡ true → are_zero (take m zs) ≡ true
@@ -19,7 +19,7 @@ fewer-first zs zero n h z = refl
 fewer-first [] (suc m) n h z = refl
 fewer-first (x ∷ zs) (suc m) zero h z = absurd (omega arith)
 fewer-first (x ∷ zs) (suc m) (suc n) h z =
-    let p = and_parts (is_zero x) (are_zero (take n zs)) z in
+    let p = and_parts (equals_zero x) (are_zero (take n zs)) z in
     ap (λ b. b && are_zero (take m zs)) p.0 ∙ fewer-first zs m n (omega (arith, h)) p.1
 
 pub fewer-last : (zs : List ℤ) (m n : ℕ) → m ≤ n → are_zero (drop m zs) ≡ true → are_zero (drop n zs) ≡ true
@@ -27,7 +27,7 @@ fewer-last [] m zero h z = refl
 fewer-last [] m (suc n) h z = refl
 fewer-last (x ∷ zs) zero zero h z = z
 fewer-last (x ∷ zs) zero (suc n) h z =
-    fewer-last zs 0 n (omega arith) (and_parts (is_zero x) (are_zero zs) z).1
+    fewer-last zs 0 n (omega arith) (and_parts (equals_zero x) (are_zero zs) z).1
 fewer-last (x ∷ zs) (suc m) zero h z = absurd (omega arith)
 fewer-last (x ∷ zs) (suc m) (suc n) h z = fewer-last zs m n (omega (arith, h)) z
 
@@ -38,7 +38,7 @@ all-of-both [] m n h a b = refl
 all-of-both (x ∷ zs) m zero h a b = b
 all-of-both (x ∷ zs) zero (suc n) h a b = absurd (omega arith)
 all-of-both (x ∷ zs) (suc m) (suc n) h a b =
-    let p = and_parts (is_zero x) (are_zero (take m zs)) a in
+    let p = and_parts (equals_zero x) (are_zero (take m zs)) a in
     ap (λ t. t && are_zero zs) p.0 ∙ all-of-both zs m n (omega (arith, h)) p.1 b
 
 pub zero-first : (zs : List ℤ) (n : ℕ) → are_zero zs ≡ true → are_zero (take n zs) ≡ true
@@ -46,14 +46,14 @@ zero-first [] zero z = refl
 zero-first [] (suc n) z = refl
 zero-first (x ∷ zs) zero z = refl
 zero-first (x ∷ zs) (suc n) z =
-    let p = and_parts (is_zero x) (are_zero zs) z in ap (λ b. b && are_zero (take n zs)) p.0 ∙ zero-first zs n p.1
+    let p = and_parts (equals_zero x) (are_zero zs) z in ap (λ b. b && are_zero (take n zs)) p.0 ∙ zero-first zs n p.1
 
 -- a 0 is put behind the first zeros
 put-at : (zs : List ℤ) (n : ℕ) → are_zero (take n zs) ≡ true → are_zero (take (suc n) (slice_set zs n (pos 0))) ≡ true
 put-at [] n z = refl
 put-at (x ∷ zs) zero z = refl
 put-at (x ∷ zs) (suc n) z =
-    let p = and_parts (is_zero x) (are_zero (take n zs)) z in
+    let p = and_parts (equals_zero x) (are_zero (take n zs)) z in
     ap (λ b. b && are_zero (take (suc n) (slice_set zs n (pos 0)))) p.0 ∙ put-at zs n p.1
 
 pub put-first : (zs : List ℤ) (n : ℕ) → are_zero (take n zs) ≡ true →
@@ -72,10 +72,10 @@ zeros-are [] [] h z = refl
 zeros-are [] (y ∷ zs) h z = absurd (omega arith)
 zeros-are (x ∷ xs) [] h z = absurd (omega arith)
 zeros-are (x ∷ xs) (y ∷ zs) h z =
-    let p = and_parts (is_zero y) (are_zero zs) z in
+    let p = and_parts (equals_zero y) (are_zero zs) z in
     ap (λ v. v ∷ zs) (is-pos0 y p.0) ∙ ap (λ vs. pos 0 ∷ vs) (zeros-are xs zs (omega (arith, h)) p.1)
   where
-    is-pos0 : (y : ℤ) → is_zero y ≡ true → y ≡ pos 0
+    is-pos0 : (y : ℤ) → equals_zero y ≡ true → y ≡ pos 0
     is-pos0 y h = grind arith
 
 -- Something is added at a place of the span.
@@ -137,10 +137,10 @@ module _ (test : ℤ → Bool) (zero-too : test (pos 0) ≡ true) where
   pub all-zeros : (zs : List ℤ) → are_zero zs ≡ true → list_all test zs ≡ true
   all-zeros [] z = refl
   all-zeros (x ∷ zs) z =
-      let p = and_parts (is_zero x) (are_zero zs) z in
+      let p = and_parts (equals_zero x) (are_zero zs) z in
       ap (λ b. b && list_all test zs) (passes x p.0) ∙ all-zeros zs p.1
     where
-      passes : (x : ℤ) → is_zero x ≡ true → test x ≡ true
+      passes : (x : ℤ) → equals_zero x ≡ true → test x ≡ true
       passes x h = let e : x ≡ pos 0 = grind arith in ap test e ∙ zero-too
 
   all-taken : (zs : List ℤ) (n : ℕ) → are_zero (drop n zs) ≡ true → list_all test (take n zs) ≡ list_all test zs
@@ -156,24 +156,24 @@ module _ (test : ℤ → Bool) (zero-too : test (pos 0) ≡ true) where
   all-spanned [] (suc low) high h a b = ap (list_all test) (taken-none (high - suc low))
   all-spanned (x ∷ zs) (suc low) zero h a b = absurd (omega arith)
   all-spanned (x ∷ zs) (suc low) (suc high) h a b =
-      let p = and_parts (is_zero x) (are_zero (take low zs)) a in
+      let p = and_parts (equals_zero x) (are_zero (take low zs)) a in
       let e : suc high - suc low ≡ high - low = omega arith in
       ap (λ n. list_all test (take n (drop low zs))) e ∙ all-spanned zs low high (omega (arith, h)) p.1 b
       ∙ ap (λ t. t && list_all test zs) (sym (passes-first x p.0))
     where
-      passes-first : (x : ℤ) → is_zero x ≡ true → test x ≡ true
+      passes-first : (x : ℤ) → equals_zero x ≡ true → test x ≡ true
       passes-first x h = let e : x ≡ pos 0 = grind arith in ap test e ∙ zero-too
 
 -- Nor do the zeros count where each number is changed, and 0 to 0.
 
 module _ (g : ℤ → ℤ) (zero-to-zero : g (pos 0) ≡ pos 0) where
-  pub to-zero : (x : ℤ) → is_zero x ≡ true → is_zero (g x) ≡ true
-  to-zero x h = let e : x ≡ pos 0 = grind arith in ap is_zero (ap g e ∙ zero-to-zero)
+  pub to-zero : (x : ℤ) → equals_zero x ≡ true → equals_zero (g x) ≡ true
+  to-zero x h = let e : x ≡ pos 0 = grind arith in ap equals_zero (ap g e ∙ zero-to-zero)
 
   pub no-terms : (zs : List ℤ) (n : ℕ) → are_zero zs ≡ true → sparse n (map g zs) ≡ []
   no-terms [] n z = refl
   no-terms (x ∷ zs) n z =
-      let p = and_parts (is_zero x) (are_zero zs) z in
+      let p = and_parts (equals_zero x) (are_zero zs) z in
       ap (λ b. cond b (sparse (suc n) (map g zs)) ((n, g x) ∷ sparse (suc n) (map g zs))) (to-zero x p.0)
       ∙ no-terms zs (suc n) p.1
 
@@ -183,7 +183,7 @@ module _ (g : ℤ → ℤ) (zero-to-zero : g (pos 0) ≡ pos 0) where
   terms-taken [] n (suc k) z = refl
   terms-taken (x ∷ zs) n zero z = sym (no-terms (x ∷ zs) n z)
   terms-taken (x ∷ zs) n (suc k) z =
-      ap (λ ts. cond (is_zero (g x)) ts ((n, g x) ∷ ts)) (terms-taken zs (suc n) k z)
+      ap (λ ts. cond (equals_zero (g x)) ts ((n, g x) ∷ ts)) (terms-taken zs (suc n) k z)
 
   pub terms-spanned : (zs : List ℤ) (n low high : ℕ) → low ≤ high → are_zero (take low zs) ≡ true →
       are_zero (drop high zs) ≡ true → sparse (n + low) (map g (slice_range zs low high)) ≡ sparse n (map g zs)
@@ -195,7 +195,7 @@ module _ (g : ℤ → ℤ) (zero-to-zero : g (pos 0) ≡ pos 0) where
   terms-spanned [] n (suc low) high h a b = ap (λ ys. sparse (n + suc low) (map g ys)) (taken-none (high - suc low))
   terms-spanned (x ∷ zs) n (suc low) zero h a b = absurd (omega arith)
   terms-spanned (x ∷ zs) n (suc low) (suc high) h a b =
-      let p = and_parts (is_zero x) (are_zero (take low zs)) a in
+      let p = and_parts (equals_zero x) (are_zero (take low zs)) a in
       let e : n + suc low ≡ suc n + low = omega arith in
       let k : suc high - suc low ≡ high - low = omega arith in
       ap (λ m. sparse m (map g (take (suc high - suc low) (drop low zs)))) e

@@ -12,9 +12,9 @@ use Rattle.obligations.proofs.LineLaws.{int_eq-true, length-add_at}
 use Rattle.obligations.proofs.LinearLaws.{set-add}
 use Rattle.meaning_states.specs.State.{int_eq}
 use Rattle.certificate_rules.specs.Additions.{fits_added}
-use Rattle.certificate_machine.specs.Spans.{is_zero, are_zero}
+use Rattle.certificate_machine.specs.Spans.{equals_zero, are_zero}
 use Rattle.certificate_machine.proofs.SpanLaws.{zero-first, first-kept, to-zero, no-terms}
-use Rattle.certificate_machine.specs.Terms.{is_below, is_above, rises, lie_within, add_terms, number_in, with_term}
+use Rattle.certificate_machine.specs.Terms.{lies_below, is_above, rises, lie_within, add_terms, number_in, with_term}
 use Rattle.certificate_machine.specs.Terms.{made_terms, sign}
 
 pub from-zero : (z : ℤ) → pos 0 +ℤ z ≡ z
@@ -135,15 +135,15 @@ term-inside n (t ∷ ts) p d h a =
 
 -- how a term comes into a list, or its number is changed there
 
-pub term-last : (ts : List (ℕ × ℤ)) (p : ℕ) (d : ℤ) → list_all (is_below p) ts ≡ true →
+pub term-last : (ts : List (ℕ × ℤ)) (p : ℕ) (d : ℤ) → list_all (lies_below p) ts ≡ true →
     ts ++ (p, d) ∷ [] ≡ with_term ts p d
 term-last [] p d a = refl
 term-last (t ∷ ts) p d a =
-    let parts = and_parts (nat_lt t.0 p) (list_all (is_below p) ts) a in
+    let parts = and_parts (nat_lt t.0 p) (list_all (lies_below p) ts) a in
     ap (λ us. t ∷ us) (term-last ts p d parts.1)
     ∙ ap (λ b. cond b (t ∷ with_term ts p d) (cond (nat_eq t.0 p) ((p, t.1 +ℤ d) ∷ ts) ((p, d) ∷ t ∷ ts))) (sym parts.0)
 
-pub term-before : (ts : List (ℕ × ℤ)) (i p : ℕ) (d : ℤ) → list_all (is_below p) (take i ts) ≡ true → i < length ts →
+pub term-before : (ts : List (ℕ × ℤ)) (i p : ℕ) (d : ℤ) → list_all (lies_below p) (take i ts) ≡ true → i < length ts →
     ((t : ℕ × ℤ) → slice_get ts i ≡ Some t → p < t.0) → insert ts i (p, d) ≡ with_term ts p d
 term-before [] i p d a h n = absurd (omega arith)
 term-before (t ∷ ts) zero p d a h n =
@@ -153,11 +153,11 @@ term-before (t ∷ ts) zero p d a h n =
     sym (ap (λ b. cond b (t ∷ with_term ts p d) (cond (nat_eq t.0 p) ((p, t.1 +ℤ d) ∷ ts) ((p, d) ∷ t ∷ ts))) lt
     ∙ ap (λ b. cond b ((p, t.1 +ℤ d) ∷ ts) ((p, d) ∷ t ∷ ts)) eq)
 term-before (t ∷ ts) (suc i) p d a h n =
-    let parts = and_parts (nat_lt t.0 p) (list_all (is_below p) (take i ts)) a in
+    let parts = and_parts (nat_lt t.0 p) (list_all (lies_below p) (take i ts)) a in
     ap (λ us. t ∷ us) (term-before ts i p d parts.1 (omega (arith, h)) n)
     ∙ ap (λ b. cond b (t ∷ with_term ts p d) (cond (nat_eq t.0 p) ((p, t.1 +ℤ d) ∷ ts) ((p, d) ∷ t ∷ ts))) (sym parts.0)
 
-pub term-changed : (ts : List (ℕ × ℤ)) (i p : ℕ) (v d : ℤ) → list_all (is_below p) (take i ts) ≡ true →
+pub term-changed : (ts : List (ℕ × ℤ)) (i p : ℕ) (v d : ℤ) → list_all (lies_below p) (take i ts) ≡ true →
     slice_get ts i ≡ Some (p, v) → slice_set ts i (p, v +ℤ d) ≡ with_term ts p d
 term-changed [] i p v d a e = absurd (cc)
 term-changed (t ∷ ts) zero p v d a e =
@@ -168,7 +168,7 @@ term-changed (t ∷ ts) zero p v d a e =
     ∙ sym (ap (λ b. cond b (t ∷ with_term ts p d) (cond (nat_eq t.0 p) ((p, t.1 +ℤ d) ∷ ts) ((p, d) ∷ t ∷ ts))) lt
     ∙ ap (λ b. cond b ((p, t.1 +ℤ d) ∷ ts) ((p, d) ∷ t ∷ ts)) eq)
 term-changed (t ∷ ts) (suc i) p v d a e =
-    let parts = and_parts (nat_lt t.0 p) (list_all (is_below p) (take i ts)) a in
+    let parts = and_parts (nat_lt t.0 p) (list_all (lies_below p) (take i ts)) a in
     ap (λ us. t ∷ us) (term-changed ts i p v d parts.1 e)
     ∙ ap (λ b. cond b (t ∷ with_term ts p d) (cond (nat_eq t.0 p) ((p, t.1 +ℤ d) ∷ ts) ((p, d) ∷ t ∷ ts))) (sym parts.0)
 
@@ -188,15 +188,15 @@ on-ok (Err x) i p = absurd (cc)
 -- the first terms, one by one
 
 pub below-more : (p : ℕ) (ts : List (ℕ × ℤ)) (i : ℕ) (d : ℕ × ℤ) → i < length ts →
-    list_all (is_below p) (take i ts) ≡ true → (slice_index_or ts i d).0 < p →
-    list_all (is_below p) (take (i + 1) ts) ≡ true
+    list_all (lies_below p) (take i ts) ≡ true → (slice_index_or ts i d).0 < p →
+    list_all (lies_below p) (take (i + 1) ts) ≡ true
 below-more p [] i d h a l = absurd (omega arith)
 below-more p (t ∷ ts) zero d h a l = grind arith
 below-more p (t ∷ ts) (suc i) d h a l =
     let n : suc i + 1 ≡ suc (i + 1) = omega arith in
-    let parts = and_parts (nat_lt t.0 p) (list_all (is_below p) (take i ts)) a in
-    ap (λ k. list_all (is_below p) (take k (t ∷ ts))) n
-    ∙ ap (λ b. b && list_all (is_below p) (take (i + 1) ts)) parts.0 ∙ below-more p ts i d (omega arith) parts.1 l
+    let parts = and_parts (nat_lt t.0 p) (list_all (lies_below p) (take i ts)) a in
+    ap (λ k. list_all (lies_below p) (take k (t ∷ ts))) n
+    ∙ ap (λ b. b && list_all (lies_below p) (take (i + 1) ts)) parts.0 ∙ below-more p ts i d (omega arith) parts.1 l
 
 pub item-before : (p : ℕ) (ts : List (ℕ × ℤ)) (i : ℕ) (d t : ℕ × ℤ) → p < (slice_index_or ts i d).0 →
     slice_get ts i ≡ Some t → p < t.0
@@ -266,16 +266,16 @@ pub number-zero : (m z : ℤ) (ts : List (ℕ × ℤ)) (p : ℕ) → number_in t
     fits_added m z (number_in ts p) ≡ true
 number-zero m z ts p e f = ap (fits_added m z) e ∙ f
 
-pub number-last : (ts : List (ℕ × ℤ)) (p : ℕ) → list_all (is_below p) ts ≡ true → number_in ts p ≡ pos 0
+pub number-last : (ts : List (ℕ × ℤ)) (p : ℕ) → list_all (lies_below p) ts ≡ true → number_in ts p ≡ pos 0
 number-last [] p a = refl
 number-last (t ∷ ts) p a =
-    let parts = and_parts (nat_lt t.0 p) (list_all (is_below p) ts) a in
+    let parts = and_parts (nat_lt t.0 p) (list_all (lies_below p) ts) a in
     let eq : nat_eq t.0 p ≡ false = differ t.0 p parts.0 in skipped t ts p eq ∙ number-last ts p parts.1
   where
     differ : (n p : ℕ) → nat_lt n p ≡ true → nat_eq n p ≡ false
     differ n p h = grind arith
 
-pub number-before : (ts : List (ℕ × ℤ)) (i p : ℕ) → rises ts ≡ true → list_all (is_below p) (take i ts) ≡ true →
+pub number-before : (ts : List (ℕ × ℤ)) (i p : ℕ) → rises ts ≡ true → list_all (lies_below p) (take i ts) ≡ true →
     ((t : ℕ × ℤ) → slice_get ts i ≡ Some t → p < t.0) → number_in ts p ≡ pos 0
 number-before [] i p r a n = refl
 number-before (t ∷ ts) zero p r a n =
@@ -284,14 +284,14 @@ number-before (t ∷ ts) zero p r a n =
     let eq : nat_eq t.0 p ≡ false = grind arith in
     skipped t ts p eq ∙ number-above ts p (above-more p t.0 ts (omega (arith, least)) parts.0)
 number-before (t ∷ ts) (suc i) p r a n =
-    let parts = and_parts (nat_lt t.0 p) (list_all (is_below p) (take i ts)) a in
+    let parts = and_parts (nat_lt t.0 p) (list_all (lies_below p) (take i ts)) a in
     let eq : nat_eq t.0 p ≡ false = differ t.0 p parts.0 in
     skipped t ts p eq ∙ number-before ts i p (and_parts (list_all (is_above t.0) ts) (rises ts) r).1 parts.1 n
   where
     differ : (n p : ℕ) → nat_lt n p ≡ true → nat_eq n p ≡ false
     differ n p h = grind arith
 
-pub number-there : (ts : List (ℕ × ℤ)) (i p : ℕ) (v : ℤ) → list_all (is_below p) (take i ts) ≡ true →
+pub number-there : (ts : List (ℕ × ℤ)) (i p : ℕ) (v : ℤ) → list_all (lies_below p) (take i ts) ≡ true →
     slice_get ts i ≡ Some (p, v) → number_in ts p ≡ v
 number-there [] i p v a e = absurd (cc)
 number-there (t ∷ ts) zero p v a e =
@@ -299,7 +299,7 @@ number-there (t ∷ ts) zero p v a e =
     let eq : nat_eq t.0 p ≡ true = let f : t.0 ≡ p = ap (λ (u : ℕ × ℤ). u.0) same in grind arith in
     ap (λ b. cond b t.1 (number_in ts p)) eq ∙ ap (λ (u : ℕ × ℤ). u.1) same
 number-there (t ∷ ts) (suc i) p v a e =
-    let parts = and_parts (nat_lt t.0 p) (list_all (is_below p) (take i ts)) a in
+    let parts = and_parts (nat_lt t.0 p) (list_all (lies_below p) (take i ts)) a in
     let eq : nat_eq t.0 p ≡ false = differ t.0 p parts.0 in skipped t ts p eq ∙ number-there ts i p v parts.1 e
   where
     differ : (n p : ℕ) → nat_lt n p ≡ true → nat_eq n p ≡ false
@@ -375,28 +375,28 @@ pub ruleset there_laws = (put-there)
 pub record ToPut (ts : List (ℕ × ℤ)) (zs : List ℤ) : Type 0 where
   pub rising : rises ts ≡ true
   pub inside : lie_within (length zs) ts ≡ true
-  pub none : list_all (λ t. is_zero (number_at zs t.0)) ts ≡ true
+  pub none : list_all (λ t. equals_zero (number_at zs t.0)) ts ≡ true
 
 pub put-first : (t : ℕ × ℤ) (ts : List (ℕ × ℤ)) (zs : List ℤ) → ToPut (t ∷ ts) zs →
     (t.0 < length zs) × (number_at zs t.0 ≡ pos 0)
 put-first t ts zs p = (
   below t.0 (length zs) (and_parts (nat_lt t.0 (length zs)) (lie_within (length zs) ts) p.inside).0,
-  int_eq-true (number_at zs t.0) (and_parts (is_zero (number_at zs t.0)) _ p.none).0,
+  int_eq-true (number_at zs t.0) (and_parts (equals_zero (number_at zs t.0)) _ p.none).0,
 )
   where
     below : (m n : ℕ) → nat_lt m n ≡ true → m < n
     below m n h = grind arith
 
 none-kept : (q : ℕ) (d : ℤ) (ts : List (ℕ × ℤ)) (zs : List ℤ) → list_all (is_above q) ts ≡ true →
-    list_all (λ t. is_zero (number_at zs t.0)) ts ≡ true →
-    list_all (λ t. is_zero (number_at (add_at zs q d) t.0)) ts ≡ true
+    list_all (λ t. equals_zero (number_at zs t.0)) ts ≡ true →
+    list_all (λ t. equals_zero (number_at (add_at zs q d) t.0)) ts ≡ true
 none-kept q d [] zs a n = refl
 none-kept q d (t ∷ ts) zs a n =
     let parts = and_parts (nat_lt q t.0) (list_all (is_above q) ts) a in
-    let nones = and_parts (is_zero (number_at zs t.0)) (list_all (λ t. is_zero (number_at zs t.0)) ts) n in
-    ap (λ z. is_zero z && list_all (λ t. is_zero (number_at (add_at zs q d) t.0)) ts)
+    let nones = and_parts (equals_zero (number_at zs t.0)) (list_all (λ t. equals_zero (number_at zs t.0)) ts) n in
+    ap (λ z. equals_zero z && list_all (λ t. equals_zero (number_at (add_at zs q d) t.0)) ts)
     (number-else zs q t.0 d (differ q t.0 parts.0))
-    ∙ ap (λ b. b && list_all (λ t. is_zero (number_at (add_at zs q d) t.0)) ts) nones.0
+    ∙ ap (λ b. b && list_all (λ t. equals_zero (number_at (add_at zs q d) t.0)) ts) nones.0
     ∙ none-kept q d ts zs parts.1 nones.1
   where
     differ : (q n : ℕ) → nat_lt q n ≡ true → nat_eq q n ≡ false
@@ -408,23 +408,23 @@ put-next t ts zs p = record {
   inside = ap (λ n. lie_within n ts) (length-add_at zs t.0 t.1)
       ∙ (and_parts (nat_lt t.0 (length zs)) (lie_within (length zs) ts) p.inside).1;
   none = none-kept t.0 t.1 ts zs (and_parts (list_all (is_above t.0) ts) (rises ts) p.rising).0
-      (and_parts (is_zero (number_at zs t.0)) (list_all (λ t. is_zero (number_at zs t.0)) ts) p.none).1;
+      (and_parts (equals_zero (number_at zs t.0)) (list_all (λ t. equals_zero (number_at zs t.0)) ts) p.none).1;
 }
 
 pub put-begun : (ts : List (ℕ × ℤ)) (zs : List ℤ) → rises ts ≡ true → lie_within (length zs) ts ≡ true →
     are_zero zs ≡ true → ToPut ts zs
 put-begun ts zs r w z = record { rising = r; inside = w; none = none-of ts zs z }
   where
-    zero-number : (zs : List ℤ) (p : ℕ) → are_zero zs ≡ true → is_zero (number_at zs p) ≡ true
+    zero-number : (zs : List ℤ) (p : ℕ) → are_zero zs ≡ true → equals_zero (number_at zs p) ≡ true
     zero-number [] p z = refl
-    zero-number (x ∷ zs) zero z = (and_parts (is_zero x) (are_zero zs) z).0
-    zero-number (x ∷ zs) (suc p) z = zero-number zs p (and_parts (is_zero x) (are_zero zs) z).1
+    zero-number (x ∷ zs) zero z = (and_parts (equals_zero x) (are_zero zs) z).0
+    zero-number (x ∷ zs) (suc p) z = zero-number zs p (and_parts (equals_zero x) (are_zero zs) z).1
 
     none-of : (ts : List (ℕ × ℤ)) (zs : List ℤ) → are_zero zs ≡ true →
-        list_all (λ t. is_zero (number_at zs t.0)) ts ≡ true
+        list_all (λ t. equals_zero (number_at zs t.0)) ts ≡ true
     none-of [] zs z = refl
     none-of (t ∷ ts) zs z =
-        ap (λ b. b && list_all (λ t. is_zero (number_at zs t.0)) ts) (zero-number zs t.0 z) ∙ none-of ts zs z
+        ap (λ b. b && list_all (λ t. equals_zero (number_at zs t.0)) ts) (zero-number zs t.0 z) ∙ none-of ts zs z
 
 -- what is so of the terms' numbers, and of 0, is so of all numbers
 
@@ -475,23 +475,23 @@ terms-kept (t ∷ ts) zs p a =
 module _ (g : ℤ → ℤ) (zero-to-zero : g (pos 0) ≡ pos 0) where
   sparse-at : (k : ℕ) (zs : List ℤ) (p : ℕ) (d : ℤ) → p < length zs → are_zero (take (suc p) zs) ≡ true →
       sparse k (map g (add_at zs p d))
-      ≡ cond (is_zero (g d)) (sparse k (map g zs)) ((k + p, g d) ∷ sparse k (map g zs))
+      ≡ cond (equals_zero (g d)) (sparse k (map g zs)) ((k + p, g d) ∷ sparse k (map g zs))
   sparse-at k [] p d h z = absurd (omega arith)
   sparse-at k (x ∷ zs) zero d h z =
-      let p = and_parts (is_zero x) (are_zero (take zero zs)) z in
+      let p = and_parts (equals_zero x) (are_zero (take zero zs)) z in
       let sum : x +ℤ d ≡ d = plain x d p.0 in
       let here : k ≡ k + zero = omega arith in
       let rest : sparse (suc k) (map g zs) ≡ sparse k (map g (x ∷ zs)) =
       sym (ap (λ b. cond b (sparse (suc k) (map g zs)) ((k, g x) ∷ sparse (suc k) (map g zs)))
       (to-zero g zero-to-zero x p.0)) in
-      ap (λ z. cond (is_zero (g z)) (sparse (suc k) (map g zs)) ((k, g z) ∷ sparse (suc k) (map g zs))) sum
-      ∙ ap (λ us. cond (is_zero (g d)) us ((k, g d) ∷ us)) rest
-      ∙ ap (λ n. cond (is_zero (g d)) (sparse k (map g (x ∷ zs))) ((n, g d) ∷ sparse k (map g (x ∷ zs)))) here
+      ap (λ z. cond (equals_zero (g z)) (sparse (suc k) (map g zs)) ((k, g z) ∷ sparse (suc k) (map g zs))) sum
+      ∙ ap (λ us. cond (equals_zero (g d)) us ((k, g d) ∷ us)) rest
+      ∙ ap (λ n. cond (equals_zero (g d)) (sparse k (map g (x ∷ zs))) ((n, g d) ∷ sparse k (map g (x ∷ zs)))) here
     where
-      plain : (x d : ℤ) → is_zero x ≡ true → x +ℤ d ≡ d
+      plain : (x d : ℤ) → equals_zero x ≡ true → x +ℤ d ≡ d
       plain x d h = let e : x ≡ pos 0 = grind arith in ap (λ z. z +ℤ d) e ∙ from-zero d
   sparse-at k (x ∷ zs) (suc p) d h z =
-      let q = and_parts (is_zero x) (are_zero (take (suc p) zs)) z in
+      let q = and_parts (equals_zero x) (are_zero (take (suc p) zs)) z in
       let there : suc k + p ≡ k + suc p = omega arith in
       let rest : sparse (suc k) (map g zs) ≡ sparse k (map g (x ∷ zs)) =
       sym (ap (λ b. cond b (sparse (suc k) (map g zs)) ((k, g x) ∷ sparse (suc k) (map g zs)))
@@ -499,8 +499,8 @@ module _ (g : ℤ → ℤ) (zero-to-zero : g (pos 0) ≡ pos 0) where
       ap (λ b. cond b (sparse (suc k) (map g (add_at zs p d))) ((k, g x) ∷ sparse (suc k) (map g (add_at zs p d))))
       (to-zero g zero-to-zero x q.0)
       ∙ sparse-at (suc k) zs p d (omega arith) q.1
-      ∙ ap (λ us. cond (is_zero (g d)) us ((suc k + p, g d) ∷ us)) rest
-      ∙ ap (λ n. cond (is_zero (g d)) (sparse k (map g (x ∷ zs))) ((n, g d) ∷ sparse k (map g (x ∷ zs)))) there
+      ∙ ap (λ us. cond (equals_zero (g d)) us ((suc k + p, g d) ∷ us)) rest
+      ∙ ap (λ n. cond (equals_zero (g d)) (sparse k (map g (x ∷ zs))) ((n, g d) ∷ sparse k (map g (x ∷ zs)))) there
 
   pub sparse-terms : (ts : List (ℕ × ℤ)) (zs : List ℤ) → rises ts ≡ true → lie_within (length zs) ts ≡ true →
       are_zero zs ≡ true → sparse 0 (map g (add_terms ts zs)) ≡ made_terms g ts
@@ -514,8 +514,8 @@ module _ (g : ℤ → ℤ) (zero-to-zero : g (pos 0) ≡ pos 0) where
       ap (λ us. sparse 0 (map g us)) (terms-add ts zs t.0 t.1)
       ∙ sparse-at 0 (add_terms ts zs) t.0 t.1 h
       (ap are_zero (terms-kept ts zs t.0 p.0) ∙ zero-first zs (suc t.0) z)
-      ∙ ap (λ us. cond (is_zero (g t.1)) us ((0 + t.0, g t.1) ∷ us)) (sparse-terms ts zs p.1 q.1 z)
-      ∙ ap (λ n. cond (is_zero (g t.1)) (made_terms g ts) ((n, g t.1) ∷ made_terms g ts)) here
+      ∙ ap (λ us. cond (equals_zero (g t.1)) us ((0 + t.0, g t.1) ∷ us)) (sparse-terms ts zs p.1 q.1 z)
+      ∙ ap (λ n. cond (equals_zero (g t.1)) (made_terms g ts) ((n, g t.1) ∷ made_terms g ts)) here
     where
       below : (m n k : ℕ) → nat_lt m n ≡ true → k ≡ n → m < k
       below m n k h e = grind arith

@@ -3,9 +3,9 @@ use Rattle.std.specs.Prelude.{ℤ, pos, Bool, List}
 use Rattle.std.specs.List.{list_all}
 use Rattle.meaning_states.specs.State.{int_eq}
 
-abbrev pub is_zero : ℤ → Bool
-is_zero z = int_eq z (pos 0)
+abbrev pub equals_zero : ℤ → Bool
+equals_zero z = int_eq z (pos 0)
 
 -- all factors are 0
 abbrev pub are_zero : List ℤ → Bool
-are_zero zs = list_all is_zero zs
+are_zero zs = list_all equals_zero zs

@@ -4,8 +4,8 @@ use Rattle.std.specs.List.{list_all}
 use Rattle.meaning_states.specs.State.{int_eq}
 use Rattle.obligations.specs.LinearForms.{add_at}
 
-abbrev pub is_below : ℕ → ℕ × ℤ → Bool
-is_below p t = nat_lt t.0 p
+abbrev pub lies_below : ℕ → ℕ × ℤ → Bool
+lies_below p t = nat_lt t.0 p
 
 abbrev pub is_above : ℕ → ℕ × ℤ → Bool
 is_above p t = nat_lt p t.0
@@ -17,7 +17,7 @@ rises (t ∷ ts) = list_all (is_above t.0) ts && rises ts
 
 -- each place is one of so many
 abbrev pub lie_within : ℕ → List (ℕ × ℤ) → Bool
-lie_within n ts = list_all (is_below n) ts
+lie_within n ts = list_all (lies_below n) ts
 
 -- the terms added to a list of numbers
 abbrev pub add_terms : List (ℕ × ℤ) → List ℤ → List ℤ

@@ -6,7 +6,7 @@ ghost use Rattle.std.specs.Int.{int_div_euclid, int_rem_euclid};
 ghost use Rattle.std.specs.List.{list_all};
 ghost use Rattle.meaning_states.specs.State.{int_eq};
 ghost use Rattle.certificate_rules.specs.Additions.{fits_added};
-ghost use Rattle.certificate_machine.specs.Terms.{is_below, rises, number_in, with_term, made_terms, sign};
+ghost use Rattle.certificate_machine.specs.Terms.{lies_below, rises, number_in, with_term, made_terms, sign};
 ghost use Rattle.certificate_machine.specs.Spots.{IsSpot};
 ghost use Rattle.smallvec.specs.SmallVec.{HasRoomFor};
 
@@ -198,7 +198,7 @@ impl Few {
     /// Adds m times a factor to the term that stands there, where that fits.
     #[inline(always)]
     fn change(&mut self, at: usize, term: (u32, i64), m: i32, factor: i128) -> bool
-        requires below { list_all (is_below term.0) (take at self.old.terms.items) ≡ true }
+        requires below { list_all (lies_below term.0) (take at self.old.terms.items) ≡ true }
         requires there { slice_get self.old.terms.items at ≡ Some term }
         ensures added { MatchBool result
             (self.new.terms.items ≡ with_term self.old.terms.items term.0 (m *ℤ factor)) (self.new ≡ self.old) }
@@ -217,7 +217,7 @@ impl Few {
     /// Puts a term with m times a factor behind the others, where that fits and there is room.
     #[inline(always)]
     fn put_last(&mut self, place: u32, m: i32, factor: i128) -> bool
-        requires below { list_all (is_below place) self.old.terms.items ≡ true }
+        requires below { list_all (lies_below place) self.old.terms.items ≡ true }
         ensures added { MatchBool result
             (self.new.terms.items ≡ with_term self.old.terms.items place (m *ℤ factor)) (self.new ≡ self.old) }
         ensures fits { result ≡ true → fits_added m factor (number_in self.old.terms.items place) ≡ true }
@@ -237,7 +237,7 @@ impl Few {
     #[cold]
     #[inline(never)]
     fn put_before(&mut self, at: usize, place: u32, m: i32, factor: i128) -> bool
-        requires below { list_all (is_below place) (take at self.old.terms.items) ≡ true }
+        requires below { list_all (lies_below place) (take at self.old.terms.items) ≡ true }
         requires above { (t : ℕ × ℤ) → slice_get self.old.terms.items at ≡ Some t → place < t.0 }
         requires inside { at < length self.old.terms.items }
         ensures added { MatchBool result

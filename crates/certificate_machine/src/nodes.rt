@@ -4,7 +4,7 @@ ghost use Rattle.std.specs.Prelude.{true, false, Ok, length};
 ghost use Rattle.obligations.specs.Settling.{added};
 ghost use Rattle.obligations.specs.Obligations.{AreOwn};
 ghost use Rattle.std.specs.List.{list_all};
-ghost use Rattle.obligations.specs.Load.{is_small};
+ghost use Rattle.obligations.specs.Load.{in_limit};
 ghost use Rattle.certificate_rules.specs.Refutation.{case_at, quot_at, split_at, made_sum};
 ghost use Rattle.certificate_rules.specs.Refutation.{made_round};
 ghost use Rattle.certificate_rules.specs.Refutation.{made_share};
@@ -169,8 +169,8 @@ pub fn open_share(
     requires going { machine.old.done ≡ false }
     requires light { IsLightMachine machine.old }
     requires size { length (sum_line sum.now).factors ≡ length machine.old.variables }
-    requires factors { list_all is_small (sum_line sum.now).factors ≡ true }
-    requires constant { is_small (sum_line sum.now).constant ≡ true }
+    requires factors { list_all in_limit (sum_line sum.now).factors ≡ true }
+    requires constant { in_limit (sum_line sum.now).constant ≡ true }
     ensures ok { OnOk result
         (Goes vs.now machine.old (made_share machine.old.branch (Ok (sum_line sum.now))) machine.new) }
     ensures light { OnOk result (IsLightMachine machine.new) }

@@ -9,7 +9,7 @@ ghost use Rattle.obligations.specs.LinearForms.{line_of_const, fact_of, sparse};
 ghost use Rattle.certificate_rules.specs.Additions.{fits_added};
 ghost use Rattle.certificate_rules.specs.Sums.{add_factors, add_times, numbered, add_pair, add_variable, is_false};
 ghost use Rattle.certificate_rules.specs.Sums.{is_divisible, divided, below_0};
-ghost use Rattle.obligations.specs.Load.{is_small};
+ghost use Rattle.obligations.specs.Load.{in_limit};
 ghost use Rattle.certificate_machine.specs.Spans.{are_zero};
 ghost use Rattle.certificate_machine.specs.Terms.{lie_within};
 
@@ -342,8 +342,8 @@ impl Running {
     /// That the sum is at least 0, or below it, as a fact.
     pub fn statement(&self, alloc: Global, below: bool) -> Result<Fact, AllocError>
         requires count { length (sum_line self.now).factors < 2 ^ 32 }
-        requires factors { list_all is_small (sum_line self.now).factors ≡ true }
-        requires constant { is_small (sum_line self.now).constant ≡ true }
+        requires factors { list_all in_limit (sum_line self.now).factors ≡ true }
+        requires constant { in_limit (sum_line self.now).constant ≡ true }
         ensures { IfOk result (λ f. f ≡ fact_of (cond below (below_0 (sum_line self.now)) (sum_line self.now))) }
     {
         if self.is_few {

@@ -16,7 +16,7 @@ use Rattle.proof_script.specs.Proving.{AreFound, ArePlain}
 use Rattle.certificate_roundtrip.specs.Pieces.{is_node_of}
 use Rattle.certificate_roundtrip.specs.SectionLaws.{RefutingIsSmall}
 use Rattle.certificate_roundtrip.specs.DocumentLaws.{AreNodesOf}
-use Rattle.certificate_roundtrip.specs.Small.{is_small, is_small_node, is_small_pair}
+use Rattle.certificate_roundtrip.specs.Small.{is_text_number, is_small_node, is_small_pair}
 
 both : (a b : Bool) → a ≡ true → b ≡ true → (a && b) ≡ true
 both a b p q = ap (λ x. x && b) p ∙ q
@@ -28,7 +28,7 @@ small_pairs (p ∷ ps) h k =
     let plain = and_parts (is_plain_pair p) (list_all is_plain_pair ps) h in
     let there = and_parts (is_fact_within (2 ^ 62) p) (list_all (is_fact_within (2 ^ 62)) ps) k in
     both (is_small_pair p) (list_all is_small_pair ps)
-    (both (is_small (unsigned_abs p.0)) (is_small p.1) plain.0 there.0) (small_pairs ps plain.1 there.1)
+    (both (is_text_number (unsigned_abs p.0)) (is_text_number p.1) plain.0 there.0) (small_pairs ps plain.1 there.1)
 
 -- the number and the multipliers of a node that a search can write are plain
 found_parts : (n : Node) → is_found_node n ≡ true →
@@ -42,7 +42,7 @@ found_parts (Node.Round d ps) h = and_parts (is_plain_number d) (list_all is_pla
 
 small_node : (n : Node) → is_found_node n ≡ true → is_index_within (2 ^ 62) n ≡ true → is_small_node n ≡ true
 small_node n h k =
-    let index : Bool = map_or (node_index n) true is_small in
+    let index : Bool = map_or (node_index n) true is_text_number in
     let number : Bool = map_or (node_number n) true is_plain_number in
     let plain = found_parts n h in
     let there = and_parts index (list_all (is_fact_within (2 ^ 62)) (node_pairs n)) k in

@@ -22,7 +22,7 @@ use Rattle.certificate_roundtrip.specs.Pieces.{Piece, signed, pair_pieces, index
 use Rattle.certificate_roundtrip.specs.Pieces.{node_word, text_of}
 use Rattle.certificate_roundtrip.proofs.Parts.{text_join, signed_is, pairs_are}
 use Rattle.certificate_roundtrip.proofs.Nodes.{node_words, node_is}
-use Rattle.certificate_roundtrip.specs.Small.{is_small, is_small_pair, is_small_node, IsSmallCertificate}
+use Rattle.certificate_roundtrip.specs.Small.{is_text_number, is_small_pair, is_small_node, IsSmallCertificate}
 use Rattle.proof_script.specs.Proving.{units_of}
 use Rattle.certificate_roundtrip.specs.Found.{front}
 use Rattle.certificate_roundtrip.specs.TextLaws.{ProvedAreFew, TextIsShort}
@@ -31,18 +31,18 @@ use Rattle.certificate_roundtrip.specs.TextLaws.{ProvedAreFew, TextIsShort}
 joined : (xs ys : List ℕ) (a b : ℕ) → length xs ≤ a → length ys ≤ b → length (xs ++ ys) ≤ a + b
 joined xs ys a b h k = let e = length-append xs ys in omega (arith, e, h, k)
 
-small_digits : (n : ℕ) → is_small n ≡ true → length (decimal n) ≤ 19
+small_digits : (n : ℕ) → is_text_number n ≡ true → length (decimal n) ≤ 19
 small_digits n h =
     let few : n ≤ 2 ^ 62 = grind (arith, h) in
     length-decimal-le 19 n (omega arith) (omega (arith, few)) (omega (arith, few))
 
-signed_digits : (z : ℤ) → is_small (unsigned_abs z) ≡ true → length (signed_decimal z) ≤ 20
+signed_digits : (z : ℤ) → is_text_number (unsigned_abs z) ≡ true → length (signed_decimal z) ≤ 20
 signed_digits (pos n) h = let few = small_digits n h in omega (arith, few)
 signed_digits (negsuc n) h = let few = small_digits (suc n) h in omega (arith, few)
 
 pair_size : (p : ℤ × ℕ) → is_small_pair p ≡ true → length (pair_text p) ≤ 41
 pair_size (z, i) h =
-    let parts = and_parts (is_small (unsigned_abs z)) (is_small i) h in
+    let parts = and_parts (is_text_number (unsigned_abs z)) (is_text_number i) h in
     joined (codes " ") (signed_decimal z ++ (codes "*" ++ decimal i)) 1 40 (omega arith)
     (joined (signed_decimal z) (codes "*" ++ decimal i) 20 20 (signed_digits z parts.0)
     (joined (codes "*") (decimal i) 1 19 (omega arith) (small_digits i parts.1)))
@@ -56,13 +56,13 @@ pairs_size (p ∷ ps) h =
     let all = length-append (pair_text p) (flat_map pair_text ps) in
     omega (arith, one, rest, all)
 
-index_size : (i : Option ℕ) → map_or i true is_small ≡ true → length (text_of (map_or i [] index_pieces)) ≤ 20
+index_size : (i : Option ℕ) → map_or i true is_text_number ≡ true → length (text_of (map_or i [] index_pieces)) ≤ 20
 index_size None h = omega arith
 index_size (Some k) h =
     joined (codes " ") (decimal k ++ []) 1 19 (omega arith)
     (joined (decimal k) [] 19 0 (small_digits k h) (omega arith))
 
-number_size : (o : Option ℤ) → map_or o true (λ z. is_small (unsigned_abs z)) ≡ true →
+number_size : (o : Option ℤ) → map_or o true (λ z. is_text_number (unsigned_abs z)) ≡ true →
     length (text_of (map_or o [] number_pieces)) ≤ 21
 number_size None h = omega arith
 number_size (Some z) h =
@@ -76,9 +76,9 @@ node_size n h =
     let number : List Piece = map_or (node_number n) [] number_pieces in
     let pairs : List Piece = flat_map pair_pieces (node_pairs n) in
     let most : ℕ = 47 * length (node_pairs n) in
-    let named = and_parts (map_or (node_index n) true is_small)
-    (map_or (node_number n) true (λ z. is_small (unsigned_abs z)) && list_all is_small_pair (node_pairs n)) h in
-    let rest = and_parts (map_or (node_number n) true (λ z. is_small (unsigned_abs z)))
+    let named = and_parts (map_or (node_index n) true is_text_number)
+    (map_or (node_number n) true (λ z. is_text_number (unsigned_abs z)) && list_all is_small_pair (node_pairs n)) h in
+    let rest = and_parts (map_or (node_number n) true (λ z. is_text_number (unsigned_abs z)))
     (list_all is_small_pair (node_pairs n)) named.1 in
     let text : text_of (part_pieces n) ≡ text_of index ++ (text_of number ++ flat_map pair_text (node_pairs n)) =
     text_join index (number ++ pairs)

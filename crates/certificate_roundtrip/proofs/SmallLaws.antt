@@ -17,22 +17,22 @@ use Rattle.certificate_roundtrip.specs.Pieces.{number_pieces, node_pieces}
 use Rattle.certificate_roundtrip.specs.Pieces.{line_pieces}
 use Rattle.certificate_roundtrip.specs.Pieces.{lines_pieces, is_readable}
 use Rattle.certificate_roundtrip.proofs.Parts.{parts_join}
-use Rattle.certificate_roundtrip.specs.Small.{IsSmallCertificate, is_small, is_small_node, is_small_pair}
+use Rattle.certificate_roundtrip.specs.Small.{IsSmallCertificate, is_text_number, is_small_node, is_small_pair}
 
 abbrev AreReadable : List Piece → Type 0
 AreReadable ps = list_all is_readable ps ≡ true
 
-number_then : (n : ℕ) (ps : List Piece) → is_small n ≡ true → AreReadable ps → AreReadable (number n ∷ ps)
+number_then : (n : ℕ) (ps : List Piece) → is_text_number n ≡ true → AreReadable ps → AreReadable (number n ∷ ps)
 number_then n ps h k = ap (λ a. a && list_all is_readable ps) h ∙ k
 
-signed_then : (z : ℤ) (ps : List Piece) → is_small (unsigned_abs z) ≡ true → AreReadable ps →
+signed_then : (z : ℤ) (ps : List Piece) → is_text_number (unsigned_abs z) ≡ true → AreReadable ps →
     AreReadable (signed z ++ ps)
 signed_then (pos n) ps h k = number_then n ps h k
 signed_then (negsuc n) ps h k = number_then (suc n) ps h k
 
 pair_then : (p : ℤ × ℕ) (ps : List Piece) → is_small_pair p ≡ true → AreReadable ps → AreReadable (pair_pieces p ++ ps)
 pair_then (z, i) ps h k =
-    let parts = and_parts (is_small (unsigned_abs z)) (is_small i) h in
+    let parts = and_parts (is_text_number (unsigned_abs z)) (is_text_number i) h in
     subst AreReadable (sym (append_assoc (signed z) (sign 42 Symbol.Times ∷ number i ∷ []) ps))
     (signed_then z (sign 42 Symbol.Times ∷ number i ∷ ps) parts.0 (number_then i ps parts.1 k))
 
@@ -44,12 +44,12 @@ pairs_then (q ∷ qs) ps h k =
     subst AreReadable (sym (append_assoc (pair_pieces q) (flat_map pair_pieces qs) ps))
     (pair_then q (flat_map pair_pieces qs ++ ps) parts.0 (pairs_then qs ps parts.1 k))
 
-index_then : (i : Option ℕ) (ps : List Piece) → map_or i true is_small ≡ true → AreReadable ps →
+index_then : (i : Option ℕ) (ps : List Piece) → map_or i true is_text_number ≡ true → AreReadable ps →
     AreReadable (map_or i [] index_pieces ++ ps)
 index_then None ps h k = k
 index_then (Some v) ps h k = number_then v ps h k
 
-own_number_then : (o : Option ℤ) (ps : List Piece) → map_or o true (λ z. is_small (unsigned_abs z)) ≡ true →
+own_number_then : (o : Option ℤ) (ps : List Piece) → map_or o true (λ z. is_text_number (unsigned_abs z)) ≡ true →
     AreReadable ps → AreReadable (map_or o [] number_pieces ++ ps)
 own_number_then None ps h k = k
 own_number_then (Some z) ps h k = signed_then z ps h k
@@ -57,9 +57,9 @@ own_number_then (Some z) ps h k = signed_then z ps h k
 node_then : (n : Node) (ps : List Piece) → is_small_node n ≡ true → AreReadable ps → AreReadable (node_pieces n ++ ps)
 node_then n ps h k =
     let pairs : List Piece = flat_map pair_pieces (node_pairs n) in
-    let index = and_parts (map_or (node_index n) true is_small)
-    (map_or (node_number n) true (λ z. is_small (unsigned_abs z)) && list_all is_small_pair (node_pairs n)) h in
-    let number = and_parts (map_or (node_number n) true (λ z. is_small (unsigned_abs z)))
+    let index = and_parts (map_or (node_index n) true is_text_number)
+    (map_or (node_number n) true (λ z. is_text_number (unsigned_abs z)) && list_all is_small_pair (node_pairs n)) h in
+    let number = and_parts (map_or (node_number n) true (λ z. is_text_number (unsigned_abs z)))
     (list_all is_small_pair (node_pairs n)) index.1 in
     subst AreReadable (sym (parts_join n ps))
     (index_then (node_index n) (map_or (node_number n) [] number_pieces ++ (pairs ++ ps)) index.0
@@ -76,7 +76,7 @@ nodes_then (n ∷ ns) ps h k =
 abbrev line_end : List Piece
 line_end = sign 59 Symbol.Semicolon ∷ gap 10 ∷ []
 
-line_then : (n : ℕ) (c : Cert) (ps : List Piece) → is_small n ≡ true → IsSmallCertificate c → AreReadable ps →
+line_then : (n : ℕ) (c : Cert) (ps : List Piece) → is_text_number n ≡ true → IsSmallCertificate c → AreReadable ps →
     AreReadable (line_pieces n c ++ ps)
 line_then n c ps h s k =
     number_then n (sign 58 Symbol.Colon ∷ ((flat_map node_pieces c.nodes ++ line_end) ++ ps)) h

@@ -7,17 +7,17 @@ use Rattle.obligations.specs.declared.certificates.Node.{Node}
 use Rattle.obligations.specs.Certificates.{node_index, node_number, node_pairs, map_or}
 
 -- the greatest number of a text is 2^62
-abbrev pub is_small : ℕ → Bool
-is_small n = nat_le n (2 ^ 62)
+abbrev pub is_text_number : ℕ → Bool
+is_text_number n = nat_le n (2 ^ 62)
 
 abbrev pub is_small_pair : ℤ × ℕ → Bool
-is_small_pair p = is_small (unsigned_abs p.0) && is_small p.1
+is_small_pair p = is_text_number (unsigned_abs p.0) && is_text_number p.1
 
 -- no number of the node is outside plus or minus that
 abbrev pub is_small_node : Node → Bool
 is_small_node n =
-    map_or (node_index n) true is_small
-    && (map_or (node_number n) true (λ z. is_small (unsigned_abs z)) && list_all is_small_pair (node_pairs n))
+    map_or (node_index n) true is_text_number
+    && (map_or (node_number n) true (λ z. is_text_number (unsigned_abs z)) && list_all is_small_pair (node_pairs n))
 
 -- nor one of the certificate
 abbrev pub IsSmallCertificate : Cert → Type 0

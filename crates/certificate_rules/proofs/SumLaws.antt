@@ -9,7 +9,7 @@ use Rattle.std.specs.Int.RustNames.{unsigned_abs}
 use Rattle.std.proofs.lemmas.Int.{unsigned_abs-mul, fits_signed_mul}
 use Rattle.std.proofs.lemmas.Bool.{and_parts}
 use Rattle.core_terms.specs.Values.{number_at}
-use Rattle.obligations.specs.Load.{is_small}
+use Rattle.obligations.specs.Load.{in_limit}
 use Rattle.case_tables.specs.declared.code_table.Code.{Code}
 use Rattle.obligations.specs.declared.branches.Line.{Line}
 use Rattle.obligations.specs.LinearForms.{add_at, zeros}
@@ -125,7 +125,7 @@ pub record Added (m : ℤ) (v : ℕ) (l k : Line) : Type 0 where
   pub place : ℕ
   pub counted : v ≡ suc place
   pub there : place < length l.factors
-  pub small : is_small (number_at l.factors place +ℤ m *ℤ pos 1) ≡ true
+  pub small : in_limit (number_at l.factors place +ℤ m *ℤ pos 1) ≡ true
   pub sum : k ≡ record { factors = add_at l.factors place (m *ℤ pos 1); constant = l.constant }
 
 pub added-variable : (m : ℤ) (v : ℕ) (l k : Line) → add_variable m v l ≡ Ok k → Added m v l k
@@ -135,7 +135,7 @@ added-variable m (suc w) l k e = named (nat_lt w (length l.factors)) refl e
     sum : ℤ
     sum = number_at l.factors w +ℤ m *ℤ pos 1
 
-    small : (a b : Bool) → w < length l.factors → is_small sum ≡ b →
+    small : (a b : Bool) → w < length l.factors → in_limit sum ≡ b →
         or_too_big (with_constant l.constant (cond (a && b) (Some (add_at l.factors w (m *ℤ pos 1))) None)) ≡ Ok k →
         Added m (suc w) l k
     small true true h q d =
@@ -148,20 +148,20 @@ added-variable m (suc w) l k e = named (nat_lt w (length l.factors)) refl e
         cond t (or_too_big (with_constant l.constant (add_factors m ((w, pos 1) ∷ []) l.factors)))
         (Err Code.NoSuchVariable) ≡ Ok k → Added m (suc w) l k
     named false q d = absurd (cc)
-    named true q d = small (is_small (m *ℤ pos 1)) (is_small sum) (grind arith) refl d
+    named true q d = small (in_limit (m *ℤ pos 1)) (in_limit sum) (grind arith) refl d
 
 -- small numbers stay so where a small one is put among them
-pub small-put : (xs : List ℤ) (n : ℕ) (z : ℤ) → list_all is_small xs ≡ true → is_small (number_at xs n +ℤ z) ≡ true →
-    list_all is_small (add_at xs n z) ≡ true
+pub small-put : (xs : List ℤ) (n : ℕ) (z : ℤ) → list_all in_limit xs ≡ true → in_limit (number_at xs n +ℤ z) ≡ true →
+    list_all in_limit (add_at xs n z) ≡ true
 small-put [] n z h k = refl
 small-put (x ∷ xs) zero z h k =
-    ap (λ b. b && list_all is_small xs) k ∙ (and_parts (is_small x) (list_all is_small xs) h).1
+    ap (λ b. b && list_all in_limit xs) k ∙ (and_parts (in_limit x) (list_all in_limit xs) h).1
 small-put (x ∷ xs) (suc n) z h k =
-    let p = and_parts (is_small x) (list_all is_small xs) h in
-    ap (λ b. b && list_all is_small (add_at xs n z)) p.0 ∙ small-put xs n z p.1 k
+    let p = and_parts (in_limit x) (list_all in_limit xs) h in
+    ap (λ b. b && list_all in_limit (add_at xs n z)) p.0 ∙ small-put xs n z p.1 k
 
 -- a line of zeros is small
-pub small-zeros : {A : Type 0} (xs : List A) → list_all is_small (zeros xs) ≡ true
+pub small-zeros : {A : Type 0} (xs : List A) → list_all in_limit (zeros xs) ≡ true
 small-zeros [] = refl
 small-zeros (x ∷ xs) = small-zeros xs
 
@@ -206,7 +206,7 @@ pub ruleset part_laws = parts-more
 narrow : (z : ℤ) → FitsSigned w64 z → unsigned_abs z ≤ 2 ^ 63
 narrow z h = grind arith
 
-pub product-small : (m z : ℤ) → FitsSigned w64 m → FitsSigned w64 z → is_small (m *ℤ z) ≡ true
+pub product-small : (m z : ℤ) → FitsSigned w64 m → FitsSigned w64 z → in_limit (m *ℤ z) ≡ true
 product-small m z h k =
     within (unsigned_abs (m *ℤ z))
     (let a = unsigned_abs-mul m z in let b = mul-le-mul (narrow m h) (narrow z k) in omega (arith, a, b))
@@ -227,7 +227,7 @@ narrower z h = grind arith
 pub narrow-fits : (m z : ℤ) → FitsSigned w32 m → FitsSigned w32 z → FitsSigned w64 (m *ℤ z)
 narrow-fits m z h k = fits_signed_mul w64 m z (2 ^ 31) (2 ^ 31) (narrower m h) (narrower z k) (omega arith)
 
-pub narrow-added : (p s : ℤ) → FitsSigned w64 p → FitsSigned w64 s → (is_small p && is_small (s +ℤ p)) ≡ true
+pub narrow-added : (p s : ℤ) → FitsSigned w64 p → FitsSigned w64 s → (in_limit p && in_limit (s +ℤ p)) ≡ true
 narrow-added p s h k = both (unsigned_abs p) (unsigned_abs (s +ℤ p)) (grind arith) (grind arith)
   where
     both : (m n : ℕ) → m ≤ 2 ^ 126 → n ≤ 2 ^ 126 → (nat_le m (2 ^ 126) && nat_le n (2 ^ 126)) ≡ true

@@ -12,13 +12,13 @@ use Rattle.obligations.specs.declared.branches.Fact.{Fact}
 use Rattle.obligations.specs.declared.branches.Line.{Line}
 use Rattle.obligations.specs.declared.branches.Variable.{Variable}
 use Rattle.obligations.specs.LinearForms.{add_at, zeros, line_of_const}
-use Rattle.obligations.specs.Load.{is_small}
+use Rattle.obligations.specs.Load.{in_limit}
 
 -- m times each factor added to the running sum, unless a product or a sum is too big
 abbrev pub add_factors : ℤ → List (ℕ × ℤ) → List ℤ → Option (List ℤ)
 add_factors m [] sum = Some sum
 add_factors m (f ∷ fs) sum =
-    cond (is_small (m *ℤ f.1) && is_small (number_at sum f.0 +ℤ m *ℤ f.1))
+    cond (in_limit (m *ℤ f.1) && in_limit (number_at sum f.0 +ℤ m *ℤ f.1))
     (add_factors m fs (add_at sum f.0 (m *ℤ f.1))) None
 
 -- the constant, where there are factors
@@ -29,7 +29,7 @@ with_constant c (Some fs) = Some (record { factors = fs; constant = c })
 -- m times a fact added to the running sum
 abbrev pub add_times : ℤ → Fact → Line → Option Line
 add_times m f sum =
-    cond (is_small (m *ℤ f.constant) && is_small (sum.constant +ℤ m *ℤ f.constant))
+    cond (in_limit (m *ℤ f.constant) && in_limit (sum.constant +ℤ m *ℤ f.constant))
     (with_constant (sum.constant +ℤ m *ℤ f.constant) (add_factors m f.factors sum.factors)) None
 
 -- the item at a place counted from 1

@@ -12,7 +12,7 @@ ghost use Rattle.std.specs.Int.{int_rem_euclid, int_div_euclid};
 ghost use Rattle.certificate_rules.specs.Sums.{add_factors, add_times, numbered, add_pair, sum_pairs, is_false};
 ghost use Rattle.certificate_rules.specs.Sums.{is_divisible, divided, below_0};
 ghost use Rattle.certificate_rules.specs.Additions.{fits_added, IsAdded};
-ghost use Rattle.obligations.specs.Load.{is_small};
+ghost use Rattle.obligations.specs.Load.{in_limit};
 ghost use Rattle.obligations.specs.LinearForms.{add_at, fact_of, sparse};
 
 use case_tables::Code;
@@ -35,14 +35,14 @@ fn add_factor(sum: &mut Seq<i128>, place: usize, by: i128, total: i128)
 #[tactic(auto, using(crate::proofs::SumLaws::product_laws))]
 fn narrow_product(m: i64, z: i64) -> i128
     ensures value { result ≡ m *ℤ z }
-    ensures small { is_small (m *ℤ z) ≡ true }
+    ensures small { in_limit (m *ℤ z) ≡ true }
 {
     m as i128 * z as i128
 }
 
 /// A product. `None` exactly where it is past 2^126.
 pub fn product(m: i64, z: i128) -> Option<i128>
-    ensures { MatchOption result (is_small (m *ℤ z) ≡ false) (λ x. (x ≡ m *ℤ z) × (is_small (m *ℤ z) ≡ true)) }
+    ensures { MatchOption result (in_limit (m *ℤ z) ≡ false) (λ x. (x ≡ m *ℤ z) × (in_limit (m *ℤ z) ≡ true)) }
 {
     match i64::try_from(z) {
         Ok(narrow) => Some(narrow_product(m, narrow)),
@@ -74,7 +74,7 @@ fn short_product(m: i32, z: i32) -> i64
 fn short_sum(by: i64, sum: i64) -> MultipleSum
     ensures by { result.by ≡ by }
     ensures total { result.total ≡ sum +ℤ by }
-    ensures fits { (is_small by && is_small (sum +ℤ by)) ≡ true }
+    ensures fits { (in_limit by && in_limit (sum +ℤ by)) ≡ true }
 {
     let by = by as i128;
     MultipleSum {
@@ -252,7 +252,7 @@ pub fn copy_fact(alloc: Global, fact: &Fact) -> Result<Fact, AllocError>
 
 /// A number with its sign turned.
 fn negative(z: &i128) -> i128
-    requires { is_small z.now ≡ true }
+    requires { in_limit z.now ≡ true }
     ensures { result ≡ neg_ℤ z.now }
 {
     -*z
@@ -260,7 +260,7 @@ fn negative(z: &i128) -> i128
 
 /// All signs turned.
 fn negatives(alloc: Global, zs: &[i128]) -> Result<Seq<i128>, AllocError>
-    requires { list_all is_small zs.now ≡ true }
+    requires { list_all in_limit zs.now ≡ true }
     ensures { IfOk result (λ n. n ≡ map neg_ℤ zs.now) }
 {
     let mut turned = Seq::new(alloc);
@@ -272,8 +272,8 @@ fn negatives(alloc: Global, zs: &[i128]) -> Result<Seq<i128>, AllocError>
 
 /// That a line is below 0.
 pub fn below_0(alloc: Global, line: &Line) -> Result<Line, AllocError>
-    requires factors { list_all is_small line.now.factors ≡ true }
-    requires constant { is_small line.now.constant ≡ true }
+    requires factors { list_all in_limit line.now.factors ≡ true }
+    requires constant { in_limit line.now.constant ≡ true }
     ensures { IfOk result (λ l. l ≡ below_0 line.now) }
 {
     Ok(Line {

@@ -13,7 +13,7 @@ use Rattle.std.proofs.lemmas.Str.{digit_value_digit}
 use Rattle.std.proofs.lemmas.Fmt.{decimal-digits_value, digits_decimal, digits_value-decimal, decimal_nonempty}
 use Rattle.std.proofs.lemmas.Fmt.{first_decimal}
 use Rattle.std.proofs.lemmas.Fmt.{decimal_digit}
-use Rattle.cli_words.specs.Numbers.{is_digit, is_empty, has_leading_zero, is_plain, number_in}
+use Rattle.cli_words.specs.Numbers.{is_digit, has_no_byte, has_leading_zero, is_plain, number_in}
 use Rattle.cli_words.specs.Laws.{NumbersAreDecimal}
 
 -- both sides of a conjunction
@@ -107,7 +107,7 @@ plain_is_decimal word h value =
 
 -- ---- and back: a decimal is plain
 
-has_items : (word : List ℕ) → 0 < length word → is_empty word ≡ false
+has_items : (word : List ℕ) → 0 < length word → has_no_byte word ≡ false
 has_items [] h = absurd (omega arith)
 has_items (b ∷ rest) h = refl
 
@@ -116,7 +116,7 @@ zero_alone [] h = refl
 zero_alone (b ∷ rest) h = go (nat_eq b 48) refl rest h
   where
     go : (t : Bool) → nat_eq b 48 ≡ t → (more : List ℕ) → (b ≡ 48 → length (b ∷ more) ≡ 1) →
-        (t && not (is_empty more)) ≡ false
+        (t && not (has_no_byte more)) ≡ false
     go false e more k = refl
     go true e [] k = refl
     go true e (c ∷ cs) k = let one = k (eqb-true b 48 e) in absurd (omega (arith, one))

@@ -7,7 +7,7 @@ use Rattle.unity_base.specs.declared.events.CertEvent.{CertEvent}
 use Rattle.obligations.specs.declared.branches.Variable.{Variable}
 use Rattle.obligations.specs.declared.certificates.Node.{Node}
 use Rattle.obligations.specs.Certificates.{arity}
-use Rattle.obligations.specs.Load.{is_small}
+use Rattle.obligations.specs.Load.{in_limit}
 use Rattle.obligations.specs.LinearForms.{line_of_const}
 use Rattle.certificate_rules.specs.Refutation.{OpenBranch, made_by}
 use Rattle.certificate_machine.specs.declared.errors.Stop.{Stop}
@@ -52,8 +52,8 @@ read-alone vs m node n (Err Stop.Memory) mid new alone below some state count go
 pub record Started (m : Machine) (node : ℕ) (new : Reading) (st : Open) (k : ℤ) : Type 0 where
   pub line : sum_line new.sum ≡ line_of_const m.variables k
   pub size : length (sum_line new.sum).factors ≡ length m.variables
-  pub factors : list_all is_small (sum_line new.sum).factors ≡ true
-  pub constant : is_small (sum_line new.sum).constant ≡ true
+  pub factors : list_all in_limit (sum_line new.sum).factors ≡ true
+  pub constant : in_limit (sum_line new.sum).constant ≡ true
   pub state : new.state ≡ st
   pub machine : new.machine ≡ m
   pub count : new.node ≡ node
@@ -90,8 +90,8 @@ module _ (vs : List Variable) (m : Machine) (node : ℕ) (new : Reading) (some :
 pub started : {E : Type 0} (r : Result (Unit {0}) E) (m : Machine) (node : ℕ) (new : Reading) (st : Open) (k : ℤ) →
     OnOk r (sum_line new.sum ≡ line_of_const m.variables k) →
     OnOk r (length (sum_line new.sum).factors ≡ length m.variables) →
-    OnOk r (list_all is_small (sum_line new.sum).factors ≡ true) →
-    OnOk r (is_small (sum_line new.sum).constant ≡ true) →
+    OnOk r (list_all in_limit (sum_line new.sum).factors ≡ true) →
+    OnOk r (in_limit (sum_line new.sum).constant ≡ true) →
     OnOk r (new.state ≡ st) → OnOk r (new.machine ≡ m) → OnOk r (new.node ≡ node) → OnOk r (Started m node new st k)
 started (Ok u) m node new st k l s f c t a n =
     record { line = l; size = s; factors = f; constant = c; state = t; machine = a; count = n }

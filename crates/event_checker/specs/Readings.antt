@@ -8,7 +8,7 @@ use Rattle.obligations.specs.declared.branches.Fact.{Fact}
 use Rattle.obligations.specs.declared.branches.Line.{Line}
 use Rattle.obligations.specs.declared.branches.Variable.{Variable}
 use Rattle.obligations.specs.declared.certificates.Node.{Node}
-use Rattle.obligations.specs.Load.{is_small}
+use Rattle.obligations.specs.Load.{in_limit}
 use Rattle.certificate_rules.specs.Sums.{fact_step, variable_step, all_pairs, stated}
 use Rattle.certificate_rules.specs.Refutation.{OpenBranch, walk, made_sum, made_round, made_share}
 use Rattle.certificate_machine.specs.declared.errors.Stop.{Stop}
@@ -54,8 +54,8 @@ pub record IsSum (m : Machine) (l : Line) : Type 0 where
 pub record IsStatement (m : Machine) (l : Line) : Type 0 where
   pub levels : 0 < m.levels
   pub size : length l.factors ≡ length m.variables
-  pub factors : list_all is_small l.factors ≡ true
-  pub constant : is_small l.constant ≡ true
+  pub factors : list_all in_limit l.factors ≡ true
+  pub constant : in_limit l.constant ≡ true
 
 abbrev pub CanFinish : Open → Machine → Line → Type 0
 CanFinish Open.Sum m l = IsSum m l

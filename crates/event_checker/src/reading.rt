@@ -3,7 +3,7 @@ ghost use Rattle.std.specs.Prelude.{◌≡◌, true, false, List, MatchResult, I
 ghost use Rattle.std.specs.List.{list_all};
 ghost use Rattle.obligations.specs.declared.certificates.Node.{Node};
 ghost use Rattle.obligations.specs.Obligations.{AreOwn};
-ghost use Rattle.obligations.specs.Load.{is_small};
+ghost use Rattle.obligations.specs.Load.{in_limit};
 ghost use Rattle.obligations.specs.LinearForms.{line_of_const};
 ghost use Rattle.certificate_rules.specs.Refutation.{OpenBranch};
 ghost use Rattle.certificate_machine.specs.Sums.{sum_line};
@@ -201,8 +201,8 @@ fn opened(reading: &mut Reading, read: Result<(), Stop>) -> Result<(), AllocErro
 fn start(reading: &mut Reading, state: Open, constant: i64) -> Result<(), AllocError>
     ensures line { OnOk result (sum_line reading.new.sum ≡ line_of_const reading.old.machine.variables constant) }
     ensures size { OnOk result (length (sum_line reading.new.sum).factors ≡ length reading.old.machine.variables) }
-    ensures factors { OnOk result (list_all is_small (sum_line reading.new.sum).factors ≡ true) }
-    ensures constant { OnOk result (is_small (sum_line reading.new.sum).constant ≡ true) }
+    ensures factors { OnOk result (list_all in_limit (sum_line reading.new.sum).factors ≡ true) }
+    ensures constant { OnOk result (in_limit (sum_line reading.new.sum).constant ≡ true) }
     ensures state { OnOk result (reading.new.state ≡ state) }
     ensures machine { OnOk result (reading.new.machine ≡ reading.old.machine) }
     ensures node { OnOk result (reading.new.node ≡ reading.old.node) }

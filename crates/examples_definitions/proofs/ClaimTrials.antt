@@ -17,7 +17,8 @@ use Rattle.meaning_executions.specs.Rounds.{rounds, IsShortest}
 use Rattle.meaning_executions.specs.Properties.{Test, Everywhere, IsAlwaysDefined, Fixed, Unless, Constant, Helps}
 use Rattle.meaning_executions.specs.Properties.{Ensures, LeadsTo, Until, Detects}
 use Rattle.unity_syntax.specs.declared.proof.Step.{Step}
-use Rattle.meaning_documents.specs.Claims.{Claims, StepClaims, ClaimsOf, are_arguments, argument_bindings, parameters}
+use Rattle.meaning_documents.specs.Claims.{Claims, StepClaims, ClaimsOf, are_parameter_values, argument_bindings}
+use Rattle.meaning_documents.specs.Claims.{parameters}
 use Rattle.examples_definitions.specs.SmallTrees.{word, number, equal, less}
 use Rattle.examples_definitions.specs.ClaimExamples.{count_proof, safe, jump, goal, overrun, overrunning, some_helps}
 use Rattle.examples_definitions.specs.ClaimExamples.{each_helps, counting, count, counter, CountsToTwo, BeginsAtNought}
@@ -405,7 +406,7 @@ none_for_all_found c =
     no_helper ensures.helper.0 ensures.helper.1 ensures.helper.2 ensures.helper.3
 
 -- the number of the one parameter
-two_numbers : (zs : List ℤ) → IsTrue (are_arguments (parameters each_helps.params) zs) →
+two_numbers : (zs : List ℤ) → IsTrue (are_parameter_values (parameters each_helps.params) zs) →
     (zs ≡ pos 0 ∷ []) ⊎ (zs ≡ pos 1 ∷ [])
 two_numbers [] t = cc
 two_numbers (z ∷ y ∷ rest) t = let no = and_right (int_le (pos 0) z && int_le z (pos 1)) false t in cc
@@ -502,7 +503,7 @@ ensured_at z from choice few moves only stays =
       );
     }
 
-each_claim : (zs : List ℤ) → IsTrue (are_arguments (parameters each_helps.params) zs) →
+each_claim : (zs : List ℤ) → IsTrue (are_parameter_values (parameters each_helps.params) zs) →
     ClaimsOf (document_setting choosing) chooser
     (argument_bindings (parameters each_helps.params) zs) 0 each_helps.claim
 each_claim zs t = elim (two_numbers zs t) [

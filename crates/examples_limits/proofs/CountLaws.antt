@@ -27,7 +27,7 @@ use Rattle.obligations.proofs.TreeLaws.{ite-Sub}
 use Rattle.obligations.proofs.SettlingLaws.{quotient-Const, quotient-Slot, quotient-Add, quotient-Sub}
 use Rattle.obligations.proofs.ShapeLaws.{shape-Const, shape-Slot, shape-Add, shape-Sub, shape-AtLeast, shape-Not}
 use Rattle.obligations.proofs.ShapeLaws.{shape-And, shape-Or}
-use Rattle.examples_limits.specs.Count.{number, next, is_below, is_low, is_high, is_defined}
+use Rattle.examples_limits.specs.Count.{number, next, is_below_three, is_low, is_high, stays_in_range}
 use Rattle.examples_limits.specs.Count.{step_defined, HasNumbers}
 
 ruleset shape_rules = (
@@ -56,7 +56,7 @@ ruleset line_rules = (
   quotient-Sub,
 )
 
-shape-is : (shapes is_defined).no ≡ record { cases = 1; leaves = 2; quotients = 0 }
+shape-is : (shapes stays_in_range).no ≡ record { cases = 1; leaves = 2; quotients = 0 }
 shape-is = simp shape_rules refl
 
 abbrev vs : List Variable
@@ -84,7 +84,7 @@ least-adds : (t : CTerm) (l : Line) → first_ite t ≡ None → has_quotient t 
 least-adds t l e n q = ap (least_adds vs t) e
     ∙ ap (λ h. cond h (one_waiting (AtLeast t)) (one_fact (linear vs t))) n ∙ ap one_fact q
 
-settled-below : (b : Branch) → settled vs is_below b
+settled-below : (b : Branch) → settled vs is_below_three b
     ≡ joined b (one_fact (record { factors = negsuc 0 ∷ []; constant = pos 2 }))
 settled-below b = settled-AtLeast vs (Sub (Sub (Const (pos 3)) (Slot 0)) (Const (pos 1))) b
     ∙ ap (joined b) (least-adds (Sub (Sub (Const (pos 3)) (Slot 0)) (Const (pos 1)))
@@ -94,8 +94,8 @@ settled-below b = settled-AtLeast vs (Sub (Sub (Const (pos 3)) (Slot 0)) (Const 
 first-is : first_branch step_defined ≡ opened
 first-is =
     let bounds = ranges_only vs in
-    refused-Or vs (Not is_below) (And is_low is_high) bounds
-    ∙ ap (refused vs (And is_low is_high)) (refused-Not vs is_below bounds ∙ settled-below bounds)
+    refused-Or vs (Not is_below_three) (And is_low is_high) bounds
+    ∙ ap (refused vs (And is_low is_high)) (refused-Not vs is_below_three bounds ∙ settled-below bounds)
     ∙ refused-And vs is_low is_high (joined bounds (one_fact (record { factors = negsuc 0 ∷ []; constant = pos 2 })))
 
 -- x + 1 < 0, and x + 1 > 3

@@ -16,8 +16,8 @@ abbrev pub next : CTerm
 next = Add (Slot 0) (Const (pos 1))
 
 -- x < 3
-abbrev pub is_below : CForm
-is_below = AtLeast (Sub (Sub (Const (pos 3)) (Slot 0)) (Const (pos 1)))
+abbrev pub is_below_three : CForm
+is_below_three = AtLeast (Sub (Sub (Const (pos 3)) (Slot 0)) (Const (pos 1)))
 
 -- 0 <= x + 1
 abbrev pub is_low : CForm
@@ -28,11 +28,11 @@ abbrev pub is_high : CForm
 is_high = AtLeast (Sub (Const (pos 3)) next)
 
 -- where x < 3, the step `x := x + 1` stays in the range
-abbrev pub is_defined : CForm
-is_defined = Or (Not is_below) (And is_low is_high)
+abbrev pub stays_in_range : CForm
+stays_in_range = Or (Not is_below_three) (And is_low is_high)
 
 abbrev pub step_defined : Obligation
-step_defined = record { form = is_defined; variables = number ∷ [] }
+step_defined = record { form = stays_in_range; variables = number ∷ [] }
 
 -- One case, and two halvings of four values. Two leaves, each with four values, and 257 units for a leaf. The plain
 -- tree takes the case, and then a fact is out of reach on both sides: two leaves.

@@ -19,7 +19,7 @@ use Rattle.core_terms.specs.declared.programs.CProgram.{CProgram}
 use Rattle.core_terms.specs.Conditions.{IsSlot, IsProgram, PrintFits, StartFits}
 use Rattle.core_terms.specs.Steps.{slot_ranges}
 use Rattle.core_terms.proofs.BoolLaws.{le_passes}
-use Rattle.executor.specs.StartState.{conjuncts, difference, range_at, within_range, is_truth, is_boolean, truth_of}
+use Rattle.executor.specs.StartState.{conjuncts, difference, range_at, within_range, is_truth, is_truth_slot, truth_of}
 use Rattle.executor.specs.StartState.{boolean_in, fixed_in, fixed, given, start_entries, start_state}
 use Rattle.executor.proofs.StateLaws.{all_at}
 
@@ -61,11 +61,11 @@ truth_range s Print.Number t h = cc
 truth_range s Print.Truth t h = h
 truth_range s (Print.Words words) t h = cc
 
-boolean_inside : (slots : List CSlot) (n : ℕ) (z : ℤ) → All IsSlot slots → is_boolean (slice_get slots n) ≡ true →
+boolean_inside : (slots : List CSlot) (n : ℕ) (z : ℤ) → All IsSlot slots → is_truth_slot (slice_get slots n) ≡ true →
     IsTrue (in_range (Some (pos 0, pos 1)) z) → IsTrue (in_range (range_at slots n) z)
 boolean_inside slots n z all b inside = go (slice_get slots n) refl b
   where
-    go : (o : Option CSlot) → slice_get slots n ≡ o → is_boolean o ≡ true →
+    go : (o : Option CSlot) → slice_get slots n ≡ o → is_truth_slot o ≡ true →
         IsTrue (in_range (option_map (λ s. (s.range.lo, s.range.hi)) o) z)
     go None e t = cc
     go (Some s) e t =
@@ -74,17 +74,17 @@ boolean_inside slots n z all b inside = go (slice_get slots n) refl b
         (subst (λ hi. IsTrue (in_range (Some (pos 0, hi)) z)) (sym ends.1) inside)
 
 truth_boolean : (slots : List CSlot) (o : Option (ℕ × ℤ)) (n : ℕ) → option_and_then (truth_of slots) o ≡ Some n →
-    is_boolean (slice_get slots n) ≡ true
+    is_truth_slot (slice_get slots n) ≡ true
 truth_boolean slots None n e = cc
-truth_boolean slots (Some d) n e = go (int_eq d.1 (pos 1) && is_boolean (slice_get slots d.0)) refl e
+truth_boolean slots (Some d) n e = go (int_eq d.1 (pos 1) && is_truth_slot (slice_get slots d.0)) refl e
   where
-    go : (b : Bool) → (int_eq d.1 (pos 1) && is_boolean (slice_get slots d.0)) ≡ b → cond b (Some d.0) None ≡
+    go : (b : Bool) → (int_eq d.1 (pos 1) && is_truth_slot (slice_get slots d.0)) ≡ b → cond b (Some d.0) None ≡
         Some n →
-        is_boolean (slice_get slots n) ≡ true
+        is_truth_slot (slice_get slots n) ≡ true
     go true t f =
         let same : d.0 ≡ n = cc in
-        subst (λ k. is_boolean (slice_get slots k) ≡ true) same
-        (and_right (int_eq d.1 (pos 1)) (is_boolean (slice_get slots d.0)) t)
+        subst (λ k. is_truth_slot (slice_get slots k) ≡ true) same
+        (and_right (int_eq d.1 (pos 1)) (is_truth_slot (slice_get slots d.0)) t)
     go false t f = cc
 
 range_inside : (slots : List CSlot) (o : Option (ℕ × ℤ)) (e : ℕ × ℤ) →
@@ -100,7 +100,7 @@ range_inside slots (Some d) e f = go (in_range (range_at slots d.0) d.1) refl f
 
 -- the number of a boolean slot
 number_inside : (slots : List CSlot) (z : ℤ) (o : Option ℕ) (e : ℕ × ℤ) → All IsSlot slots →
-    ((n : ℕ) → o ≡ Some n → is_boolean (slice_get slots n) ≡ true) → IsTrue (in_range (Some (pos 0, pos 1)) z) →
+    ((n : ℕ) → o ≡ Some n → is_truth_slot (slice_get slots n) ≡ true) → IsTrue (in_range (Some (pos 0, pos 1)) z) →
     option_map (λ n. (n, z)) o ≡ Some e → IsInside slots e
 unfolding IsInside
 number_inside slots z None e all known inside f = cc
@@ -110,7 +110,7 @@ number_inside slots z (Some n) e all known inside f =
     (boolean_inside slots n z all (known n refl) inside)
 
 boolean_form : (slots : List CSlot) (x : CForm-F CForm CTerm) (n : ℕ) → boolean_in slots x ≡ Some n →
-    is_boolean (slice_get slots n) ≡ true
+    is_truth_slot (slice_get slots n) ≡ true
 boolean_form slots (CForm-F.AtLeast t) n e = truth_boolean slots (difference t) n e
 boolean_form slots CForm-F.Top n e = cc
 boolean_form slots CForm-F.Bottom n e = cc

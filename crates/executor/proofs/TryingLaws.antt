@@ -17,7 +17,7 @@ use Rattle.core_terms.specs.declared.programs.CProgram.{CProgram}
 use Rattle.core_terms.specs.Values.{term_value, form_value}
 use Rattle.core_terms.specs.Steps.{slot_ranges, inside_writes, core_writes, core_step}
 use Rattle.executor.specs.Preparing.{write_at}
-use Rattle.executor.specs.Trying.{is_rising}
+use Rattle.executor.specs.Trying.{slots_rise}
 use Rattle.executor.specs.Running.{chosen_step}
 use Rattle.executor.proofs.PreparingLaws.{none_outside, outside_fails, step_done}
 
@@ -75,13 +75,13 @@ all_from t state ws place w e =
     ∙ all_join t (write_at state w) (inside_writes state (drop (place + 1) ws))
 
 -- slots that rise lie at or above the least
-rising_apart : (state : State) (least n : ℕ) (z : ℤ) (ws : List CWrite) → n < least → IsTrue (is_rising least ws) →
+rising_apart : (state : State) (least n : ℕ) (z : ℤ) (ws : List CWrite) → n < least → IsTrue (slots_rise least ws) →
     IsTrue (list_all (agrees (Some n, z)) (inside_writes state ws))
 rising_apart state least n z [] h r = refl
 rising_apart state least n z (w ∷ ws) h r =
-    let low = leb-true least w.slot (and_left (nat_le least w.slot) (is_rising (w.slot + 1) ws) r) in
+    let low = leb-true least w.slot (and_left (nat_le least w.slot) (slots_rise (w.slot + 1) ws) r) in
     let rest = rising_apart state (w.slot + 1) n z ws (omega arith)
-    (and_right (nat_le least w.slot) (is_rising (w.slot + 1) ws) r) in
+    (and_right (nat_le least w.slot) (slots_rise (w.slot + 1) ws) r) in
     elim (eqb_tells n w.slot) [
       | inl t ↦ absurd (let e : n ≡ w.slot = t.1 in omega arith)
       | inr t ↦ go (form_value state [] w.when) t.0 rest
@@ -97,11 +97,11 @@ rising_apart state least n z (w ∷ ws) h r =
         (ap (λ b. not b || int_eq z (term_value state [] w.value)) d) rest
 
 -- so writes whose slots rise agree
-pub rising_agree : (state : State) (least : ℕ) (ws : List CWrite) → IsTrue (is_rising least ws) →
+pub rising_agree : (state : State) (least : ℕ) (ws : List CWrite) → IsTrue (slots_rise least ws) →
     all_agree (inside_writes state ws) ≡ true
 rising_agree state least [] r = refl
 rising_agree state least (w ∷ ws) r =
-    let more = and_right (nat_le least w.slot) (is_rising (w.slot + 1) ws) r in
+    let more = and_right (nat_le least w.slot) (slots_rise (w.slot + 1) ws) r in
     go (form_value state [] w.when)
     (rising_apart state (w.slot + 1) w.slot (term_value state [] w.value) ws (omega arith) more)
     (rising_agree state (w.slot + 1) ws more)

@@ -79,13 +79,13 @@ abbrev pub is_truth : Print → Bool
 is_truth Print.Truth = true
 is_truth _ = false
 
-abbrev pub is_boolean : Option CSlot → Bool
-is_boolean None = false
-is_boolean (Some s) = is_truth s.print
+abbrev pub is_truth_slot : Option CSlot → Bool
+is_truth_slot None = false
+is_truth_slot (Some s) = is_truth s.print
 
 -- a boolean slot and the number 1
 abbrev pub truth_of : List CSlot → ℕ × ℤ → Option ℕ
-truth_of slots e = cond (int_eq e.1 (pos 1) && is_boolean (slice_get slots e.0)) (Some e.0) None
+truth_of slots e = cond (int_eq e.1 (pos 1) && is_truth_slot (slice_get slots e.0)) (Some e.0) None
 
 -- the boolean slot whose form is `AtLeast(Sub(Slot(n), Const(1)))`
 abbrev pub boolean_in : List CSlot → CForm-F CForm CTerm → Option ℕ

@@ -135,7 +135,7 @@ fn boolean_of(slots: &[CSlot], t: &CTerm) -> Option<u32>
 }
 
 fn is_boolean(slots: &[CSlot], slot: u32) -> bool
-    ensures { result ≡ start.is_boolean (slice_get slots.now slot) }
+    ensures { result ≡ start.is_truth_slot (slice_get slots.now slot) }
 {
     match slots.get(slot as usize) {
         Some(found) => is_truth(&found.print),

@@ -8,7 +8,7 @@ ghost use Rattle.core_terms.specs.Steps.{slot_ranges, inside_writes, core_writes
 ghost use Rattle.executor.specs.Fitting.{StatementRuns, StatementsRun, WriteRuns, WritesRun};
 ghost use Rattle.executor.specs.Preparing.{write_at};
 ghost use Rattle.executor.specs.Running.{chosen_step};
-ghost use Rattle.executor.specs.Trying.{is_rising};
+ghost use Rattle.executor.specs.Trying.{slots_rise};
 
 use crate::preparing::{narrowed, writes_outside};
 use crate::runner::{Stepped, chosen};
@@ -107,7 +107,7 @@ fn do_agree(slots: &[CSlot], state: &[i64], writes: &[CWrite]) -> bool
 }
 
 fn are_rising(writes: &[CWrite]) -> bool
-    ensures { result ≡ is_rising 0 writes.now }
+    ensures { result ≡ slots_rise 0 writes.now }
 {
     let mut least = 0u64;
     for write in writes {

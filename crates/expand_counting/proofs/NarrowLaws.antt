@@ -8,7 +8,7 @@ use Rattle.std.specs.Int.RustNames.{int_le, int_lt, unsigned_abs}
 use Rattle.expand_counting.specs.declared.ranges.NestRange.{NestRange}
 use Rattle.expand_counting.specs.declared.ranges.Condition.{Condition}
 use Rattle.expand_counting.specs.declared.ranges.Interval.{Interval}
-use Rattle.expand_counting.specs.Nests.{number_at, end_number, natural, between, is_fit, are_fit}
+use Rattle.expand_counting.specs.Nests.{number_at, end_number, natural, between, end_fits, are_fit}
 use Rattle.expand_counting.specs.Conditions.{is_level, sum_over, meeting, Necessary, Narrows, Spans, lowered, raised}
 use Rattle.expand_counting.specs.Conditions.{left_by}
 use Rattle.expand_counting.specs.Conditions.{interval_of}
@@ -97,7 +97,7 @@ narrows_left vs c k old most least h e f = subst (λ n. Narrows vs (c ∷ []) ol
           ] refl
     ] refl)
 
-pub fit_bounds : (z : ℤ) → is_fit z ≡ true → (negsuc 999999999 ≤ℤ z) × (z ≤ℤ pos 1000000000)
+pub fit_bounds : (z : ℤ) → end_fits z ≡ true → (negsuc 999999999 ≤ℤ z) × (z ≤ℤ pos 1000000000)
 fit_bounds z h =
     let n : unsigned_abs z ≤ 1000000000 = leb-true (unsigned_abs z) 1000000000 h in
     (omega (arith, ints, abs_is z), omega (arith, ints, abs_is z))
@@ -116,9 +116,9 @@ spans_interval vs r = elim (are_fit vs r) as (λ b. are_fit vs r ≡ b →
     × (negsuc 999999999 ≤ℤ (cond b (whole vs r) none).low) × ((cond b (whole vs r) none).high ≤ℤ pos 1000000000)) [
       | true ↦ λ e. (
         refl,
-        (fit_bounds (end_number vs r.low) (and_left (is_fit (end_number vs r.low)) (is_fit (end_number vs r.high))
+        (fit_bounds (end_number vs r.low) (and_left (end_fits (end_number vs r.low)) (end_fits (end_number vs r.high))
             e)).0,
-        (fit_bounds (end_number vs r.high) (and_right (is_fit (end_number vs r.low)) (is_fit (end_number vs r.high))
+        (fit_bounds (end_number vs r.high) (and_right (end_fits (end_number vs r.low)) (end_fits (end_number vs r.high))
             e)).1,
       )
       | false ↦ λ e. (refl, omega (arith, ints), omega (arith, ints))

@@ -11,7 +11,7 @@ use Rattle.expand_counting.specs.declared.ranges.NestRange.{NestRange}
 use Rattle.expand_counting.specs.declared.ranges.Condition.{Condition}
 use Rattle.expand_counting.specs.declared.ranges.Interval.{Interval}
 use Rattle.expand_counting.specs.Nests.{LeavesRoom, TakesTurns, most_turns, number_at, end_number, natural, count_up}
-use Rattle.expand_counting.specs.Nests.{between, is_fit, are_fit, offset}
+use Rattle.expand_counting.specs.Nests.{between, end_fits, are_fit, offset}
 use Rattle.expand_counting.specs.Conditions.{condition_holds, all_hold, sum_over, meeting, is_level, above_end}
 use Rattle.expand_counting.specs.Conditions.{below_end}
 use Rattle.expand_counting.specs.Conditions.{at_least, at_most, fit_conditions, low_conditions, high_conditions, own}
@@ -57,7 +57,7 @@ level_own : (vs : List ℤ) (k : ℕ) → length vs ≡ k → is_level (Some k) 
 level_own vs k e = eq-eqb k (length vs) (sym e)
 
 -- an end within the limit meets its two conditions
-pub fit_holds : (vs : List ℤ) (e : NestEnd) → is_fit (end_number vs e) ≡ true → all_hold vs (fit_conditions e) ≡ true
+pub fit_holds : (vs : List ℤ) (e : NestEnd) → end_fits (end_number vs e) ≡ true → all_hold vs (fit_conditions e) ≡ true
 fit_holds vs e h =
     let b = fit_bounds (end_number vs e) h in
     let low : negsuc 999999999 ≤ℤ (number_at vs e.level +ℤ offset e) = b.0 in
@@ -69,10 +69,10 @@ fit_holds vs e h =
 
 -- and so it does among inner numbers, unless it means one of them
 fit_outer : (vs : List ℤ) (z : ℤ) (e : NestEnd) → is_level e.level (length vs) ≡ false →
-    is_fit (end_number vs e) ≡ true → all_hold (vs ++ z ∷ []) (fit_conditions e) ≡ true
-fit_outer vs z e o h = fit_holds (vs ++ z ∷ []) e (ap (λ n. is_fit (n +ℤ offset e)) (number_outer vs z e.level o) ∙ h)
+    end_fits (end_number vs e) ≡ true → all_hold (vs ++ z ∷ []) (fit_conditions e) ≡ true
+fit_outer vs z e o h = fit_holds (vs ++ z ∷ []) e (ap (λ n. end_fits (n +ℤ offset e)) (number_outer vs z e.level o) ∙ h)
 
-low_holds : (e : NestEnd) (vs : List ℤ) (z : ℤ) → is_fit (end_number vs e) ≡ true → end_number vs e ≤ℤ z →
+low_holds : (e : NestEnd) (vs : List ℤ) (z : ℤ) → end_fits (end_number vs e) ≡ true → end_number vs e ≤ℤ z →
     all_hold (vs ++ z ∷ []) (low_conditions e (length vs)) ≡ true
 low_holds e vs z f a = elim (is_level e.level (length vs)) as (λ b. is_level e.level (length vs) ≡ b →
     all_hold (vs ++ z ∷ []) (cond b [] (above_end e (length vs) ∷ fit_conditions e)) ≡ true) [
@@ -89,7 +89,7 @@ low_holds e vs z f a = elim (is_level e.level (length vs)) as (λ b. is_level e.
           (fit_outer vs z e o f)
     ] refl
 
-high_holds : (e : NestEnd) (vs : List ℤ) (z : ℤ) → is_fit (end_number vs e) ≡ true → z ≤ℤ end_number vs e →
+high_holds : (e : NestEnd) (vs : List ℤ) (z : ℤ) → end_fits (end_number vs e) ≡ true → z ≤ℤ end_number vs e →
     all_hold (vs ++ z ∷ []) (high_conditions e (length vs)) ≡ true
 high_holds e vs z f a = elim (is_level e.level (length vs)) as (λ b. is_level e.level (length vs) ≡ b →
     all_hold (vs ++ z ∷ []) (cond b [] (below_end e (length vs) ∷ fit_conditions e)) ≡ true) [
@@ -111,8 +111,8 @@ own_holds : (r : NestRange) (vs : List ℤ) (z : ℤ) → are_fit vs r ≡ true 
     z ≤ℤ end_number vs r.high → all_hold (vs ++ z ∷ []) (own r (length vs)) ≡ true
 own_holds r vs z f a b =
     all_joined (vs ++ z ∷ []) (low_conditions r.low (length vs)) (high_conditions r.high (length vs))
-    (low_holds r.low vs z (and_left (is_fit (end_number vs r.low)) (is_fit (end_number vs r.high)) f) a)
-    (high_holds r.high vs z (and_right (is_fit (end_number vs r.low)) (is_fit (end_number vs r.high)) f) b)
+    (low_holds r.low vs z (and_left (end_fits (end_number vs r.low)) (end_fits (end_number vs r.high)) f) a)
+    (high_holds r.high vs z (and_right (end_fits (end_number vs r.low)) (end_fits (end_number vs r.high)) f) b)
 
 -- what is necessary for a range, by what is necessary inside it
 pub necessary_outside : (r : NestRange) (rs : List NestRange) (leaf : List Condition) (k : ℕ)

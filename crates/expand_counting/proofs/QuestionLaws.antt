@@ -12,8 +12,9 @@ use Rattle.std.specs.List.{flat_map, list_any}
 use Rattle.expand_counting.specs.declared.ranges.NestEnd.{NestEnd}
 use Rattle.expand_counting.specs.declared.ranges.NestRange.{NestRange}
 use Rattle.expand_counting.specs.declared.ranges.Condition.{Condition}
-use Rattle.expand_counting.specs.Nests.{LeavesRoom, number_at, offset, end_number, range_numbers, instances, is_empty}
-use Rattle.expand_counting.specs.Nests.{is_fit}
+use Rattle.expand_counting.specs.Nests.{LeavesRoom, number_at, offset, end_number, range_numbers, instances}
+use Rattle.expand_counting.specs.Nests.{is_nest_empty}
+use Rattle.expand_counting.specs.Nests.{end_fits}
 use Rattle.expand_counting.specs.Nests.{are_fit}
 use Rattle.expand_counting.specs.Conditions.{condition_holds, all_hold, sum_over, meeting, at_least, at_most}
 use Rattle.expand_counting.specs.Conditions.{fit_conditions}
@@ -114,10 +115,10 @@ lt_yes a b h = elim (int_lt a b) as (λ v. int_lt a b ≡ v → v ≡ true) [
   | false ↦ λ e. let n = lt-false a b e in absurd (omega (arith, ints))
 ] refl
 
-fit_within : (z : ℤ) → negsuc 999999999 ≤ℤ z → z ≤ℤ pos 1000000000 → is_fit z ≡ true
+fit_within : (z : ℤ) → negsuc 999999999 ≤ℤ z → z ≤ℤ pos 1000000000 → end_fits z ≡ true
 fit_within z a b = le-leb (unsigned_abs z) 1000000000 (omega (arith, ints, abs_is z))
 
-fit_found : (vs : List ℤ) (e : NestEnd) → all_hold vs (fit_conditions e) ≡ true → is_fit (end_number vs e) ≡ true
+fit_found : (vs : List ℤ) (e : NestEnd) → all_hold vs (fit_conditions e) ≡ true → end_fits (end_number vs e) ≡ true
 fit_found vs e h =
     let a = le-true (pos 0 +ℤ (negsuc 999999999 -ℤ offset e)) (number_at vs e.level)
     (and_left (condition_holds vs (at_least e)) (all_hold vs (at_most e ∷ [])) h) in
@@ -125,7 +126,7 @@ fit_found vs e h =
     (one_held vs (at_most e) (and_right (condition_holds vs (at_least e)) (all_hold vs (at_most e ∷ [])) h)) in
     fit_within (number_at vs e.level +ℤ offset e) (omega (arith, ints)) (omega (arith, ints))
 
-empty_holds : (vs : List ℤ) (r : NestRange) → is_empty vs r ≡ true → all_hold vs (empty_conditions r) ≡ true
+empty_holds : (vs : List ℤ) (r : NestRange) → is_nest_empty vs r ≡ true → all_hold vs (empty_conditions r) ≡ true
 empty_holds vs r h =
     let fit = and_left (are_fit vs r) (int_lt (end_number vs r.high) (end_number vs r.low)) h in
     let l = lt-true (number_at vs r.high.level +ℤ offset r.high) (number_at vs r.low.level +ℤ offset r.low)
@@ -134,17 +135,17 @@ empty_holds vs r h =
     (le_yes (number_at vs r.high.level +ℤ (offset r.high +ℤ pos 1 -ℤ offset r.low)) (number_at vs r.low.level)
     (omega (arith, ints)))
     (all_joined vs (fit_conditions r.low) (fit_conditions r.high)
-    (fit_holds vs r.low (and_left (is_fit (end_number vs r.low)) (is_fit (end_number vs r.high)) fit))
-    (fit_holds vs r.high (and_right (is_fit (end_number vs r.low)) (is_fit (end_number vs r.high)) fit)))
+    (fit_holds vs r.low (and_left (end_fits (end_number vs r.low)) (end_fits (end_number vs r.high)) fit))
+    (fit_holds vs r.high (and_right (end_fits (end_number vs r.low)) (end_fits (end_number vs r.high)) fit)))
 
-empty_found : (vs : List ℤ) (r : NestRange) → all_hold vs (empty_conditions r) ≡ true → is_empty vs r ≡ true
+empty_found : (vs : List ℤ) (r : NestRange) → all_hold vs (empty_conditions r) ≡ true → is_nest_empty vs r ≡ true
 empty_found vs r h =
     let l = le-true (number_at vs r.high.level +ℤ (offset r.high +ℤ pos 1 -ℤ offset r.low)) (number_at vs r.low.level)
     (and_left (condition_holds vs (over r)) (all_hold vs (fit_conditions r.low ++ fit_conditions r.high)) h) in
     let fits = and_right (condition_holds vs (over r)) (all_hold vs (fit_conditions r.low ++ fit_conditions r.high)) h
     in
     both_true (are_fit vs r) (int_lt (end_number vs r.high) (end_number vs r.low))
-    (both_true (is_fit (end_number vs r.low)) (is_fit (end_number vs r.high))
+    (both_true (end_fits (end_number vs r.low)) (end_fits (end_number vs r.high))
     (fit_found vs r.low (all_front vs (fit_conditions r.low) (fit_conditions r.high) fits))
     (fit_found vs r.high (all_back vs (fit_conditions r.low) (fit_conditions r.high) fits)))
     (lt_yes (number_at vs r.high.level +ℤ offset r.high) (number_at vs r.low.level +ℤ offset r.low)
@@ -152,12 +153,13 @@ empty_found vs r h =
 
 -- a range is empty in an instance where that meets the conditions for it
 pub empty_any : (r : NestRange) (xs : List (List ℤ)) →
-    list_any (λ vs. all_hold vs (empty_conditions r)) xs ≡ list_any (λ vs. is_empty vs r) xs
-empty_any r xs = same_any (λ vs. all_hold vs (empty_conditions r)) (λ vs. is_empty vs r)
-    (λ vs. same_truth (all_hold vs (empty_conditions r)) (is_empty vs r) (empty_found vs r) (empty_holds vs r)) xs
+    list_any (λ vs. all_hold vs (empty_conditions r)) xs ≡ list_any (λ vs. is_nest_empty vs r) xs
+empty_any r xs = same_any (λ vs. all_hold vs (empty_conditions r)) (λ vs. is_nest_empty vs r)
+    (λ vs. same_truth (all_hold vs (empty_conditions r)) (is_nest_empty vs r) (empty_found vs r) (empty_holds vs r)) xs
 
-large_orders : (z : ℤ) → (int_le (pos 1000000001) z || int_le z (negsuc 1000000000)) ≡ not (is_fit z)
-large_orders z = elim (is_fit z) as (λ b. is_fit z ≡ b → (int_le (pos 1000000001) z || int_le z (negsuc 1000000000)) ≡
+large_orders : (z : ℤ) → (int_le (pos 1000000001) z || int_le z (negsuc 1000000000)) ≡ not (end_fits z)
+large_orders z = elim (end_fits z) as (λ b. end_fits z ≡ b →
+    (int_le (pos 1000000001) z || int_le z (negsuc 1000000000)) ≡
     not b) [
       | true ↦ λ e. let b = fit_bounds z e in
           let low : negsuc 999999999 ≤ℤ z = b.0 in
@@ -202,23 +204,23 @@ below_order vs e = same_truth (all_hold vs (below_limit e ∷ [])) (int_le (end_
 
 large_any : (e : NestEnd) (xs : List (List ℤ)) →
     (list_any (λ vs. all_hold vs (above_limit e ∷ [])) xs || list_any (λ vs. all_hold vs (below_limit e ∷ [])) xs)
-    ≡ list_any (λ vs. not (is_fit (end_number vs e))) xs
+    ≡ list_any (λ vs. not (end_fits (end_number vs e))) xs
 large_any e xs =
     any_either (λ vs. all_hold vs (above_limit e ∷ [])) (λ vs. all_hold vs (below_limit e ∷ [])) xs
     ∙ same_any (λ vs. all_hold vs (above_limit e ∷ []) || all_hold vs (below_limit e ∷ []))
-    (λ vs. not (is_fit (end_number vs e)))
+    (λ vs. not (end_fits (end_number vs e)))
     (λ vs. ap (λ b. b || all_hold vs (below_limit e ∷ [])) (above_order vs e)
     ∙ ap (λ b. int_le (pos 1000000001) (end_number vs e) || b) (below_order vs e) ∙ large_orders (end_number vs e)) xs
 
 -- an end is too large in an instance where that meets the one or the other condition
 pub large_first : (e : NestEnd) (xs : List (List ℤ)) (a : Bool) → a ≡ list_any
     (λ vs. all_hold vs (above_limit e ∷ [])) xs →
-    a ≡ true → a ≡ list_any (λ vs. not (is_fit (end_number vs e))) xs
+    a ≡ true → a ≡ list_any (λ vs. not (end_fits (end_number vs e))) xs
 large_first e xs a h t =
     t ∙ ap (λ b. b || list_any (λ vs. all_hold vs (below_limit e ∷ [])) xs) (sym t ∙ h) ∙ large_any e xs
 
 pub large_second : (e : NestEnd) (xs : List (List ℤ)) (a b : Bool) →
     a ≡ list_any (λ vs. all_hold vs (above_limit e ∷ [])) xs → a ≡ false →
-    b ≡ list_any (λ vs. all_hold vs (below_limit e ∷ [])) xs → b ≡ list_any (λ vs. not (is_fit (end_number vs e))) xs
+    b ≡ list_any (λ vs. all_hold vs (below_limit e ∷ [])) xs → b ≡ list_any (λ vs. not (end_fits (end_number vs e))) xs
 large_second e xs a b h f k =
     k ∙ ap (λ c. c || list_any (λ vs. all_hold vs (below_limit e ∷ [])) xs) (sym f ∙ h) ∙ large_any e xs

@@ -7,7 +7,7 @@ use Rattle.expand_counting.specs.declared.ranges.NestEnd.{NestEnd}
 use Rattle.expand_counting.specs.declared.ranges.NestRange.{NestRange}
 use Rattle.expand_counting.specs.declared.ranges.Condition.{Condition}
 use Rattle.expand_counting.specs.declared.ranges.Interval.{Interval}
-use Rattle.expand_counting.specs.Nests.{number_at, offset, is_fit, between, range_numbers}
+use Rattle.expand_counting.specs.Nests.{number_at, offset, end_fits, between, range_numbers}
 
 -- whether numbers meet a condition
 abbrev pub condition_holds : List ℤ → Condition → Bool
@@ -132,7 +132,7 @@ raised old (Some least) = cond (int_lt old.low least) (record { low = least; hig
 -- the numbers from low to high; none where one of them is too large
 abbrev pub interval_of : ℤ → ℤ → Interval
 interval_of low high =
-    cond (is_fit low && is_fit high) (record { low = low; high = high }) (record { low = pos 0; high = negsuc 0 })
+    cond (end_fits low && end_fits high) (record { low = low; high = high }) (record { low = pos 0; high = negsuc 0 })
 
 -- the numbers that a condition leaves, by the greatest and the least number that it allows
 abbrev pub left_by : Condition → ℕ → Interval → Option ℤ → Option ℤ → Interval

@@ -21,12 +21,12 @@ abbrev pub end_number : List ℤ → NestEnd → ℤ
 end_number vs e = number_at vs e.level +ℤ offset e
 
 -- whether a number lies within plus or minus 1,000,000,000
-abbrev pub is_fit : ℤ → Bool
-is_fit z = nat_le (unsigned_abs z) 1000000000
+abbrev pub end_fits : ℤ → Bool
+end_fits z = nat_le (unsigned_abs z) 1000000000
 
 -- whether both ends of a range do
 abbrev pub are_fit : List ℤ → NestRange → Bool
-are_fit vs r = is_fit (end_number vs r.low) && is_fit (end_number vs r.high)
+are_fit vs r = end_fits (end_number vs r.low) && end_fits (end_number vs r.high)
 
 -- a whole number as a count: each negative one is 0
 abbrev pub natural : ℤ → ℕ
@@ -52,8 +52,8 @@ instances [] vs = vs ∷ []
 instances (r ∷ rs) vs = flat_map (λ z. instances rs (vs ++ z ∷ [])) (range_numbers vs r)
 
 -- whether a range with ends within the limit has no number
-abbrev pub is_empty : List ℤ → NestRange → Bool
-is_empty vs r = are_fit vs r && int_lt (end_number vs r.high) (end_number vs r.low)
+abbrev pub is_nest_empty : List ℤ → NestRange → Bool
+is_nest_empty vs r = are_fit vs r && int_lt (end_number vs r.high) (end_number vs r.low)
 
 -- the room that is left by so many; none where they are more
 abbrev pub LeavesRoom : Option ℕ → ℕ → ℕ → Type 0

@@ -2,7 +2,7 @@
 
 ghost use Rattle.std.specs.Prelude.{◌≡◌, ◌∷◌, [], length, not, IfOk};
 ghost use Rattle.std.specs.List.{list_any};
-ghost use Rattle.expand_counting.specs.Nests.{LeavesRoom, TakesTurns, end_number, instances, is_empty, is_fit};
+ghost use Rattle.expand_counting.specs.Nests.{LeavesRoom, TakesTurns, end_number, instances, is_nest_empty, end_fits};
 ghost use Rattle.expand_counting.specs.Conditions.{all_hold, empty_conditions, meeting};
 
 use crate::conditions::{above_limit, below_limit, over, push_fit};
@@ -88,7 +88,7 @@ pub fn is_ever_empty(
     outer: &[NestRange],
     range: &NestRange,
 ) -> Result<bool, AllocError>
-    ensures { IfOk result (λ b. b ≡ list_any (λ vs. is_empty vs range.now) (instances outer.now [])) }
+    ensures { IfOk result (λ b. b ≡ list_any (λ vs. is_nest_empty vs range.now) (instances outer.now [])) }
 {
     let leaf = empty_conditions(alloc, range)?;
     is_ever(alloc, outer, leaf.as_slice())
@@ -97,7 +97,7 @@ pub fn is_ever_empty(
 /// Whether an end lies outside plus or minus 1,000,000,000 in an instance of the ranges around it. An error says that
 /// memory was refused.
 pub fn is_ever_large(alloc: Global, outer: &[NestRange], end: &NestEnd) -> Result<bool, AllocError>
-    ensures { IfOk result (λ b. b ≡ list_any (λ vs. not (is_fit (end_number vs end.now))) (instances outer.now [])) }
+    ensures { IfOk result (λ b. b ≡ list_any (λ vs. not (end_fits (end_number vs end.now))) (instances outer.now [])) }
 {
     Ok(is_ever(alloc, outer, &[above_limit(end)])? || is_ever(alloc, outer, &[below_limit(end)])?)
 }

@@ -5,7 +5,7 @@ ghost use Rattle.std.specs.Prelude.{length, IfOk, OnOk, Some, min, slice_index_o
 ghost use Rattle.std.specs.Int.RustNames.{unsigned_abs};
 ghost use Rattle.std.specs.List.{flat_map};
 ghost use Rattle.expand_counting.specs.Nests.{LeavesRoom, TakesTurns, most_turns, instances, between, end_number};
-ghost use Rattle.expand_counting.specs.Nests.{is_fit};
+ghost use Rattle.expand_counting.specs.Nests.{end_fits};
 ghost use Rattle.expand_counting.specs.Nests.{natural, number_at};
 ghost use Rattle.expand_counting.specs.Conditions.{Narrows, Plans, Spans, all_hold, condition_holds, interval_of};
 ghost use Rattle.expand_counting.specs.Conditions.{left_by};
@@ -60,7 +60,7 @@ pub fn do_hold(values: &[i64], conditions: &[Condition]) -> bool
 }
 
 fn fits(z: i128) -> bool
-    ensures { result ≡ is_fit z }
+    ensures { result ≡ end_fits z }
 {
     z.unsigned_abs() <= 1_000_000_000
 }

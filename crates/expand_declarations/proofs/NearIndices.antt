@@ -15,7 +15,8 @@ use Rattle.names_rules.specs.Scope.{Table}
 use Rattle.names_rules.specs.Reading.{earlier, unless, filled}
 use Rattle.names_rules.specs.Part.{run}
 use Rattle.names_rules.specs.Declarations.{items_of, some_of, program_scope, plain_part, type_part, may_declare}
-use Rattle.names_rules.specs.Declarations.{agrees, variable_named, variable_part, always_part, with_named, declared}
+use Rattle.names_rules.specs.Declarations.{means_alike, variable_named, variable_part, always_part, with_named}
+use Rattle.names_rules.specs.Declarations.{declared}
 use Rattle.names_rules.specs.WellNamed.{Declared, IsWellNamed, nothing_declared, new_program, declarations_part}
 use Rattle.names_rules.specs.WellNamed.{program_body, program_part, part_of, schedule_reading}
 use Rattle.names_rules.proofs.Faults.{earlier_first, earlier_second}
@@ -44,8 +45,8 @@ variable_fault program names v h =
     let old = lookup (bytes_eq v.name.text) names in let new = variable_named program names v in
     let more = with_named names v.name.text (declared new old) in
     let rest = earlier_second (unless (may_declare program old) Code.DeclaredTwice v.name.at)
-    (earlier (type_part more v.kind).fault (unless (agrees new old) Code.DeclaredTwice v.name.at)) h in
-    (more, earlier_first (type_part more v.kind).fault (unless (agrees new old) Code.DeclaredTwice v.name.at) rest)
+    (earlier (type_part more v.kind).fault (unless (means_alike new old) Code.DeclaredTwice v.name.at)) h in
+    (more, earlier_first (type_part more v.kind).fault (unless (means_alike new old) Code.DeclaredTwice v.name.at) rest)
 
 program_variables : (d : Declared) (program : Program) → (program_part d program).fault ≡ None →
     All Faultless (declarations program)

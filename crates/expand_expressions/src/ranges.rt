@@ -160,7 +160,7 @@ fn between(low: i64, high: i64) -> Numbers
 }
 
 fn is_number(bound: Option<Bound>) -> bool
-    ensures { result ≡ forming.is_number bound }
+    ensures { result ≡ forming.stands_for_number bound }
 {
     match bound {
         None => true,
@@ -175,7 +175,7 @@ fn is_number(bound: Option<Bound>) -> bool
 }
 
 fn is_fixed(end: &End, env: &Env) -> bool
-    ensures { result ≡ forming.is_fixed (bound_names env.now) end.now }
+    ensures { result ≡ forming.is_number_end (bound_names env.now) end.now }
 {
     match end {
         End::Number {

@@ -357,17 +357,17 @@ abbrev pub numbers : List (List ℕ × Bound) → Bindings
 numbers bs = map (λ b. (b.0, number_in b.1)) bs
 
 -- whether a word in a range end stands for one number
-abbrev pub is_number : Option Bound → Bool
-is_number None = true
-is_number (Some (Bound.Number z)) = true
-is_number (Some (Bound.Param n weight)) = false
+abbrev pub stands_for_number : Option Bound → Bool
+stands_for_number None = true
+stands_for_number (Some (Bound.Number z)) = true
+stands_for_number (Some (Bound.Param n weight)) = false
 
-abbrev pub is_fixed : List (List ℕ × Bound) → End → Bool
-is_fixed bs (End.Number at minus number) = true
-is_fixed bs (End.Word at name offset) = is_number (lookup (bytes_eq name.text) bs)
+abbrev pub is_number_end : List (List ℕ × Bound) → End → Bool
+is_number_end bs (End.Number at minus number) = true
+is_number_end bs (End.Word at name offset) = stands_for_number (lookup (bytes_eq name.text) bs)
 
 abbrev pub is_fixed_range : List (List ℕ × Bound) → Range → Bool
-is_fixed_range bs r = is_fixed bs r.low && is_fixed bs r.high
+is_fixed_range bs r = is_number_end bs r.low && is_number_end bs r.high
 
 -- the numbers of a range; there are none where an end is too large
 abbrev pub fit_values : Bindings → Range → List ℤ

@@ -65,12 +65,12 @@ abbrev pub place_where : Bool → ℕ → Option ℕ
 place_where b at = cond b (Some at) None
 
 -- whether a range has its low end above its high end, and both are within the limit
-abbrev pub is_empty : Bindings → Range → Bool
-is_empty b r = is_fit_range b r && int_lt (end_value b r.high) (end_value b r.low)
+abbrev pub is_empty_range : Bindings → Range → Bool
+is_empty_range b r = is_fit_range b r && int_lt (end_value b r.high) (end_value b r.low)
 
 -- the place of a range that is empty in one of these instances
 abbrev pub empty_place : Range → List Bindings → Option ℕ
-empty_place r bs = place_where (list_any (λ b. is_empty b r) bs) r.at
+empty_place r bs = place_where (list_any (λ b. is_empty_range b r) bs) r.at
 
 -- the place of an end that is too large in one of them
 abbrev pub large_place : End → List Bindings → Option ℕ

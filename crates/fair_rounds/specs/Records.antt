@@ -37,13 +37,13 @@ are_in_ranges (r ∷ rs) [] = false
 are_in_ranges (r ∷ rs) (z ∷ zs) = in_range (Some (r.lo, r.hi)) z && are_in_ranges rs zs
 
 -- the statement is the one that the helper names, for these numbers of the parameters
-abbrev pub is_named : Helper → List ℤ → CStmt → Bool
-is_named h e s = nat_eq s.label h.label && ints_eq s.indices (arg_values e h.args)
+abbrev pub names_statement : Helper → List ℤ → CStmt → Bool
+names_statement h e s = nat_eq s.label h.label && ints_eq s.indices (arg_values e h.args)
 
 -- the instance at this place is the one that the helper names
 abbrev pub NamedAt : CProgram → Option Helper → List ℤ → ℕ → Type 0
 NamedAt c None e place = ⊥
-NamedAt c (Some h) e place = (i : CStmt) × (slice_get c.statements place ≡ Some i) × IsTrue (is_named h e i)
+NamedAt c (Some h) e place = (i : CStmt) × (slice_get c.statements place ≡ Some i) × IsTrue (names_statement h e i)
 
 -- p ensures q stands, by the instance that the helper names
 pub record EnsuresNamed (slots : List CSlot) (c : CProgram) (u p q : Test) (e : List ℤ) (h : Option Helper) :

@@ -32,7 +32,7 @@ use Rattle.executor.specs.CoreSystem.{core_system}
 use Rattle.fixed_points.specs.FixedPoints.{leads_to}
 use Rattle.fixed_points.specs.FixedForms.{same_value, fixed_part, fixed_form, HoldsWhereLedBack, HoldsWhereFixed}
 use Rattle.fixed_points.specs.FixedForms.{StaysTrue}
-use Rattle.fixed_points.specs.Leaving.{is_number, changes_nothing, leaves}
+use Rattle.fixed_points.specs.Leaving.{is_that_number, changes_nothing, leaves}
 use Rattle.fixed_points.proofs.WriteLaws.{same_truth, back_by_writes}
 use Rattle.fixed_points.proofs.PointLaws.{fixed_map, tells_fixed_points, fixed_points_stay}
 
@@ -45,8 +45,8 @@ front_all t false w ws = refl
 
 -- there is a number at a slot of the state
 at_slot : (state : State) (n : ℕ) (z : ℤ) → n < length state →
-    int_eq z (number_at state n) ≡ is_number (slice_get state n) z
-at_slot state n z h = ap (λ o. is_number o z) (sym (slice_get-get_or state n (pos 0) h))
+    int_eq z (number_at state n) ≡ is_that_number (slice_get state n) z
+at_slot state n z h = ap (λ o. is_that_number o z) (sym (slice_get-get_or state n (pos 0) h))
 
 pub inside_leave : (state : State) (ws : List CWrite) → All (λ w. w.slot < length state) ws →
     list_all (leaves state) ws ≡ list_all (changes_nothing state) (inside_writes state ws)
@@ -56,7 +56,7 @@ inside_leave state (w ∷ ws) h =
     let z = term_value state [] w.value in
     ap (λ b. (not (form_value state [] w.when) || b) && list_all (leaves state) ws)
     (at_slot state w.slot z (All-head (λ (w : CWrite). w.slot < length state) w ws h))
-    ∙ ap (λ b. (not (form_value state [] w.when) || is_number (slice_get state w.slot) z) && b) rest
+    ∙ ap (λ b. (not (form_value state [] w.when) || is_that_number (slice_get state w.slot) z) && b) rest
     ∙ sym (front_all (changes_nothing state) (form_value state [] w.when) (Some w.slot, z) (inside_writes state ws))
 
 pub outside_leave : (state : State) (fs : List CForm) →

@@ -13,7 +13,7 @@ use Rattle.meaning_states.proofs.StepTheorems.{written_has_value}
 use Rattle.core_terms.proofs.BoolLaws.{le_passes}
 use Rattle.meaning_executions.specs.Counting.{ints_eq}
 use Rattle.fixed_points.specs.FixedPoints.{leads_to}
-use Rattle.fixed_points.specs.Leaving.{is_number, changes_nothing}
+use Rattle.fixed_points.specs.Leaving.{is_that_number, changes_nothing}
 
 pub same_truth : (a b : Bool) → (IsTrue a → IsTrue b) → (IsTrue b → IsTrue a) → a ≡ b
 same_truth true true f g = refl
@@ -46,12 +46,12 @@ pub leads_back : (o : Option State) (state : State) → o ≡ Some state → IsT
 leads_back o state e = subst (λ x. IsTrue (leads_to x state)) (sym e) (ints_self state)
 
 -- a slot that has a value
-number_there : (o : Option ℤ) (z : ℤ) → IsTrue (is_number o z) → o ≡ Some z
+number_there : (o : Option ℤ) (z : ℤ) → IsTrue (is_that_number o z) → o ≡ Some z
 number_there None z h = cc
 number_there (Some y) z h = ap Some (sym (same_number z y h))
 
-is_there : (o : Option ℤ) (z : ℤ) → o ≡ Some z → IsTrue (is_number o z)
-is_there o z e = subst (λ x. IsTrue (is_number x z)) (sym e) (int_self z)
+is_there : (o : Option ℤ) (z : ℤ) → o ≡ Some z → IsTrue (is_that_number o z)
+is_there o z e = subst (λ x. IsTrue (is_that_number x z)) (sym e) (int_self z)
 
 -- the number of a slot lies in its range
 own_range : (ranges : Ranges) (state : State) (n : ℕ) (z : ℤ) → IsTrue (is_state ranges state) →
@@ -79,9 +79,9 @@ nothing_inside ranges state ((Some n, z) ∷ ws) s h =
     both_true (in_range (slice_get ranges n) z) (list_all (is_inside ranges) ws)
     (own_range ranges state n z s
     (number_there (slice_get state n) z
-    (and_left (is_number (slice_get state n) z) (list_all (changes_nothing state) ws) h)))
+    (and_left (is_that_number (slice_get state n) z) (list_all (changes_nothing state) ws) h)))
     (nothing_inside ranges state ws s
-    (and_right (is_number (slice_get state n) z) (list_all (changes_nothing state) ws) h))
+    (and_right (is_that_number (slice_get state n) z) (list_all (changes_nothing state) ws) h))
 
 one_agrees : (state : State) (m : ℕ) (y : ℤ) (ws : List Write) → slice_get state m ≡ Some y →
     IsTrue (list_all (changes_nothing state) ws) → IsTrue (list_all (agrees (Some m, y)) ws)
@@ -89,9 +89,9 @@ one_agrees state m y [] e h = refl
 one_agrees state m y ((None, z) ∷ ws) e h = cc
 one_agrees state m y ((Some n, z) ∷ ws) e h =
     let rest = one_agrees state m y ws e
-    (and_right (is_number (slice_get state n) z) (list_all (changes_nothing state) ws) h) in
+    (and_right (is_that_number (slice_get state n) z) (list_all (changes_nothing state) ws) h) in
     let there = number_there (slice_get state n) z
-    (and_left (is_number (slice_get state n) z) (list_all (changes_nothing state) ws) h) in
+    (and_left (is_that_number (slice_get state n) z) (list_all (changes_nothing state) ws) h) in
     both_true (not (nat_eq m n) || int_eq y z) (list_all (agrees (Some m, y)) ws)
     (elim (eqb_tells m n) [
       | inl w ↦
@@ -111,10 +111,10 @@ nothing_agrees : (state : State) (ws : List Write) → IsTrue (list_all (changes
 nothing_agrees state [] h = refl
 nothing_agrees state ((None, z) ∷ ws) h = cc
 nothing_agrees state ((Some n, z) ∷ ws) h =
-    let rest = and_right (is_number (slice_get state n) z) (list_all (changes_nothing state) ws) h in
+    let rest = and_right (is_that_number (slice_get state n) z) (list_all (changes_nothing state) ws) h in
     both_true (list_all (agrees (Some n, z)) ws) (all_agree ws)
     (one_agrees state n z ws (number_there (slice_get state n) z
-    (and_left (is_number (slice_get state n) z) (list_all (changes_nothing state) ws) h)) rest)
+    (and_left (is_that_number (slice_get state n) z) (list_all (changes_nothing state) ws) h)) rest)
     (nothing_agrees state ws rest)
 
 nothing_written : (state : State) (ws : List Write) → IsTrue (list_all (changes_nothing state) ws) →
@@ -123,9 +123,9 @@ nothing_written state [] h = refl
 nothing_written state ((None, z) ∷ ws) h = cc
 nothing_written state ((Some n, z) ∷ ws) h =
     ap (λ t. put t n z) (nothing_written state ws
-    (and_right (is_number (slice_get state n) z) (list_all (changes_nothing state) ws) h))
+    (and_right (is_that_number (slice_get state n) z) (list_all (changes_nothing state) ws) h))
     ∙ put_self state n z (number_there (slice_get state n) z
-    (and_left (is_number (slice_get state n) z) (list_all (changes_nothing state) ws) h))
+    (and_left (is_that_number (slice_get state n) z) (list_all (changes_nothing state) ws) h))
 
 nothing_changed : (ranges : Ranges) (state : State) (ws : List Write) → IsTrue (is_state ranges state) →
     IsTrue (list_all (changes_nothing state) ws) → step ranges ws state ≡ Some state
@@ -143,7 +143,7 @@ each_nothing : (ranges : Ranges) (state : State) (ws : List Write) → IsTrue (l
 each_nothing ranges state [] inside each = refl
 each_nothing ranges state ((None, z) ∷ ws) inside each = cc
 each_nothing ranges state ((Some n, z) ∷ ws) inside each =
-    both_true (is_number (slice_get state n) z) (list_all (changes_nothing state) ws)
+    both_true (is_that_number (slice_get state n) z) (list_all (changes_nothing state) ws)
     (is_there (slice_get state n) z (each n z (zero, refl)))
     (each_nothing ranges state ws (and_right (in_range (slice_get ranges n) z) (list_all (is_inside ranges) ws) inside)
     (λ m y w. each m y (suc w.0, w.1)))

@@ -6,14 +6,14 @@ use Rattle.core_terms.specs.declared.programs.CWrite.{CWrite}
 use Rattle.core_terms.specs.Values.{number_at, term_value, form_value}
 
 -- there is a number, and it is this one
-abbrev pub is_number : Option ℤ → ℤ → Bool
-is_number None z = false
-is_number (Some y) z = int_eq z y
+abbrev pub is_that_number : Option ℤ → ℤ → Bool
+is_that_number None z = false
+is_that_number (Some y) z = int_eq z y
 
 -- the write goes to a slot that has its value
 abbrev pub changes_nothing : State → Write → Bool
 changes_nothing state (None, z) = false
-changes_nothing state (Some n, z) = is_number (slice_get state n) z
+changes_nothing state (Some n, z) = is_that_number (slice_get state n) z
 
 -- the write, where it is made, leaves its slot as it is
 abbrev pub leaves : State → CWrite → Bool

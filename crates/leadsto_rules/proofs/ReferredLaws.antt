@@ -27,7 +27,7 @@ use Rattle.rules_table.proofs.SiteLaws.{met}
 use Rattle.safety_rules.specs.Instances.{RecordFits}
 use Rattle.safety_rules.specs.Usable.{NamesExist}
 use Rattle.safety_rules.proofs.InstanceLaws.{can_put}
-use Rattle.leadsto_rules.specs.References.{is_named, serves, FitsIn}
+use Rattle.leadsto_rules.specs.References.{names_step, serves, FitsIn}
 use Rattle.leadsto_rules.specs.declared.references.Purpose.{Purpose}
 
 pub form_fits : (slots : List CSlot) (ranges : List Range) (f : CForm) → IsTrue (fits slots ranges f) →
@@ -58,11 +58,11 @@ find_has P test (y ∷ xs) x all e =
 
 pub found_has : (P : Record → Type 0) (book : List Record) (r : Ref) (a : Record) → All P book →
     known (Some a) ≡ found book r → P a
-found_has P book r a all e = go (find (is_named r) book) refl e
+found_has P book r a all e = go (find (names_step r) book) refl e
   where
-    go : (o : Option Record) → find (is_named r) book ≡ o → known (Some a) ≡ known o → P a
+    go : (o : Option Record) → find (names_step r) book ≡ o → known (Some a) ≡ known o → P a
     go None is same = cc
-    go (Some b) is same = subst P (sym (known_same a b same)) (find_has P (is_named r) book b all is)
+    go (Some b) is same = subst P (sym (known_same a b same)) (find_has P (names_step r) book b all is)
       where
         known_same : (x y : Record) → known (Some x) ≡ known (Some y) → x ≡ y
         known_same x y e = cc

@@ -27,8 +27,8 @@ TermGives (Err (RuleError.Fault code)) (Err first) = code ≡ first
 TermGives (Err RuleError.Memory) y = Unit {0}
 
 -- p and q are small enough for a conclusion
-abbrev pub are_small : Site → List Range → Led → Bool
-are_small site ranges l = fits site.slots ranges l.p && fits site.slots ranges l.q
+abbrev pub may_conclude : Site → List Range → Led → Bool
+may_conclude site ranges l = fits site.slots ranges l.p && fits site.slots ranges l.q
 
 -- from p to q in the rounds of a leads-to, beside a record
 abbrev pub beside : Led → Record → CForm → CForm → Led

@@ -11,8 +11,8 @@ use Rattle.rules_table.specs.Terms.{leads}
 use Rattle.leadsto_rules.specs.declared.references.Purpose.{Purpose}
 
 -- the reference names the step of this record
-abbrev pub is_named : Ref → Record → Bool
-is_named r a = nat_eq a.program r.program && nat_eq a.name r.step
+abbrev pub names_step : Ref → Record → Bool
+names_step r a = nat_eq a.program r.program && nat_eq a.name r.step
 
 -- the kind serves
 abbrev pub serves : Purpose → Kind → Bool

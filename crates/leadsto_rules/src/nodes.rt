@@ -5,7 +5,7 @@ ghost use Rattle.rules_table.specs.Table.{needs};
 ghost use Rattle.rules_table.specs.Terms as terms;
 ghost use Rattle.safety_rules.specs.Answers.{site_of};
 ghost use Rattle.safety_rules.specs.Usable.{NamesExist};
-ghost use Rattle.leadsto_rules.specs.Leading.{TermGives, led_of, are_small, ClaimFits, LedFits};
+ghost use Rattle.leadsto_rules.specs.Leading.{TermGives, led_of, may_conclude, ClaimFits, LedFits};
 
 use case_tables::Code;
 use core_terms::{CForm, CSlot, Range, size_within, weight_of};
@@ -46,10 +46,10 @@ fn is_small(f: &CForm, slots: &[CSlot], ranges: &[Range]) -> bool
 }
 
 // Whether p and q are small enough for a conclusion.
-fn are_small(pl: &Place, ranges: &[Range], claim: &Claim) -> bool
+fn may_conclude(pl: &Place, ranges: &[Range], claim: &Claim) -> bool
     requires p { NamesExist pl.now.slots.now ranges.now claim.now.p }
     requires q { NamesExist pl.now.slots.now ranges.now claim.now.q }
-    ensures { result ≡ are_small (site_of pl.now) ranges.now (led_of claim.now) }
+    ensures { result ≡ may_conclude (site_of pl.now) ranges.now (led_of claim.now) }
 {
     is_small(claim.p.get(), pl.slots, ranges) && is_small(claim.q.get(), pl.slots, ranges)
 }
@@ -61,7 +61,7 @@ pub(crate) fn node(pl: &Place, ranges: &[Range], claim: Claim) -> Result<Led, Ru
     ensures fits { IfOk result (LedFits pl.now.slots.now ranges.now) }
 {
     let bound = bounded(claim.rounds)?;
-    let small = are_small(pl, ranges, &claim);
+    let small = may_conclude(pl, ranges, &claim);
     let Claim {
         p,
         q,

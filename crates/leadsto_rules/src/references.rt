@@ -8,7 +8,7 @@ ghost use Rattle.rules_table.specs.Table.{needs};
 ghost use Rattle.rules_table.specs.Terms as terms;
 ghost use Rattle.safety_rules.specs.Answers.{site_of};
 ghost use Rattle.safety_rules.specs.Instances.{RecordFits, AnswersRecord};
-ghost use Rattle.leadsto_rules.specs.References.{is_named, serves, FitsIn};
+ghost use Rattle.leadsto_rules.specs.References.{names_step, serves, FitsIn};
 
 use case_tables::{Code, Kind};
 use core_terms::{Arg, Range, Ref};
@@ -37,8 +37,8 @@ fn serves(purpose: Purpose, kind: Kind) -> bool
 }
 
 // Whether the reference names the step of this record.
-fn is_named(a: &Record, r: &Ref) -> bool
-    ensures { result ≡ is_named r.now a.now }
+fn names_step(a: &Record, r: &Ref) -> bool
+    ensures { result ≡ names_step r.now a.now }
 {
     a.program == r.program && a.name == r.step
 }
@@ -48,7 +48,7 @@ fn found<'a>(book: &'a [Record], r: &Ref) -> Option<&'a Record>
     ensures { terms.known (option_copied result) ≡ terms.found book.now r.now }
 {
     for a in book {
-        if is_named(a, r) {
+        if names_step(a, r) {
             return Some(a);
         }
     }

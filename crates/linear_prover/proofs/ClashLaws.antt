@@ -15,7 +15,7 @@ use Rattle.case_tables.specs.declared.code_table.Code.{Code}
 use Rattle.core_terms.specs.Values.{number_at}
 use Rattle.meaning_states.specs.State.{int_eq}
 use Rattle.obligations.specs.LinearForms.{sparse, fact_of}
-use Rattle.obligations.specs.Load.{is_small}
+use Rattle.obligations.specs.Load.{in_limit}
 use Rattle.certificate_rules.specs.Sums.{then_by, fact_step, add_pair, is_divisible, divided}
 use Rattle.certificate_rules.specs.Refutation.{opens, fails, made_sum}
 use Rattle.obligations.specs.Reach.{is_exact, are_opposite, divisor_of, is_moderate, is_moderate_fact, is_some_factor}
@@ -51,13 +51,13 @@ alone : (count : ℕ) (facts : List Fact) (n : ℕ) (f : Fact) → slice_get fac
 alone count facts n f there exact size constant =
     let r = next-pair 1 f (null_line count) exact
     (record {
-      product = λ p. ap is_small (times-one (factor_in f.factors p)) ∙ small-is (factor_in f.factors p)
+      product = λ p. ap in_limit (times-one (factor_in f.factors p)) ∙ small-is (factor_in f.factors p)
           (let s = size p in omega (arith, s));
-      total = λ p. ap (λ z. is_small (z +ℤ pos 1 *ℤ factor_in f.factors p)) (nulls-at count p) ∙ ap is_small
+      total = λ p. ap (λ z. in_limit (z +ℤ pos 1 *ℤ factor_in f.factors p)) (nulls-at count p) ∙ ap in_limit
           (once (factor_in f.factors p)) ∙ small-is (factor_in f.factors p) (let s = size p in omega (arith, s));
     })
-    (ap is_small (times-one f.constant) ∙ small-is f.constant (omega (arith, constant)))
-    (ap is_small (once f.constant) ∙ small-is f.constant (omega (arith, constant))) in
+    (ap in_limit (times-one f.constant) ∙ small-is f.constant (omega (arith, constant)))
+    (ap in_limit (once f.constant) ∙ small-is f.constant (omega (arith, constant))) in
     let long = length-nulls count in
     record {
       line = r.out;
@@ -201,10 +201,10 @@ module _ (count : ℕ) (facts : List Fact) (i j d : ℕ) (f g : Fact) (positive 
       more [] = refl
       more (x ∷ xs) = ap suc (more xs)
 
-  small-other : (z : ℤ) → unsigned_abs z ≤ 2 ^ 124 → is_small (pos 1 *ℤ z) ≡ true
-  small-other z h = ap is_small (times-one z) ∙ small-is z (omega (arith, h))
+  small-other : (z : ℤ) → unsigned_abs z ≤ 2 ^ 124 → in_limit (pos 1 *ℤ z) ≡ true
+  small-other z h = ap in_limit (times-one z) ∙ small-is z (omega (arith, h))
 
-  small-both : (a b : ℤ) → unsigned_abs a ≤ 2 ^ 124 → unsigned_abs b ≤ 2 ^ 124 → is_small (a +ℤ pos 1 *ℤ b) ≡ true
+  small-both : (a b : ℤ) → unsigned_abs a ≤ 2 ^ 124 → unsigned_abs b ≤ 2 ^ 124 → in_limit (a +ℤ pos 1 *ℤ b) ≡ true
   small-both a b h k = small-is (a +ℤ pos 1 *ℤ b) (let s = abs-plus a b in let e = ap (λ z. unsigned_abs (a +ℤ z))
       (times-one b) in omega (arith, h, k, s, e))
 

@@ -18,7 +18,7 @@ use Rattle.obligations.specs.declared.branches.Fact.{Fact}
 use Rattle.obligations.specs.declared.branches.Line.{Line}
 use Rattle.obligations.specs.declared.certificates.Node.{Node}
 use Rattle.obligations.specs.LinearForms.{add_at, sparse, fact_of}
-use Rattle.obligations.specs.Load.{is_small}
+use Rattle.obligations.specs.Load.{in_limit}
 use Rattle.obligations.specs.Reach.{is_exact, is_within, are_exact}
 use Rattle.obligations.proofs.LineLaws.{length-add_at}
 use Rattle.certificate_rules.specs.Refutation.{NodeEffect, fails, opens, made_sum}
@@ -159,7 +159,7 @@ pub ruleset fact_laws = within-fact
 -- The numbers of a running sum are small.
 record Good (count : ℕ) (sum : List ℤ) : Type 0 where
   long : length sum ≡ count
-  small : (p : ℕ) → is_small (number_at sum p) ≡ true
+  small : (p : ℕ) → in_limit (number_at sum p) ≡ true
 
 abbrev Apart : ℕ → ℕ → Type 0
 Apart a b = (a ≡ b) ⊎ (a ≡ b → ⊥)
@@ -179,43 +179,43 @@ apart-or-same a b = by_test (nat_eq a b) refl
 
 -- a factor that was added
 record Step (m : ℤ) (f : ℕ × ℤ) (fs : List (ℕ × ℤ)) (sum out : List ℤ) : Type 0 where
-  product : is_small (m *ℤ f.1) ≡ true
-  total : is_small (number_at sum f.0 +ℤ m *ℤ f.1) ≡ true
+  product : in_limit (m *ℤ f.1) ≡ true
+  total : in_limit (number_at sum f.0 +ℤ m *ℤ f.1) ≡ true
   rest : add_factors m fs (add_at sum f.0 (m *ℤ f.1)) ≡ Some out
 
 step-of : (m : ℤ) (f : ℕ × ℤ) (fs : List (ℕ × ℤ)) (sum out : List ℤ) → add_factors m (f ∷ fs) sum ≡ Some out → Step m
     f fs sum out
-step-of m f fs sum out e = by_test (is_small (m *ℤ f.1)) refl (is_small (number_at sum f.0 +ℤ m *ℤ f.1)) refl e
+step-of m f fs sum out e = by_test (in_limit (m *ℤ f.1)) refl (in_limit (number_at sum f.0 +ℤ m *ℤ f.1)) refl e
   where
-    by_test : (t : Bool) → is_small (m *ℤ f.1) ≡ t → (u : Bool) → is_small (number_at sum f.0 +ℤ m *ℤ f.1) ≡ u →
+    by_test : (t : Bool) → in_limit (m *ℤ f.1) ≡ t → (u : Bool) → in_limit (number_at sum f.0 +ℤ m *ℤ f.1) ≡ u →
         cond (t && u) (add_factors m fs (add_at sum f.0 (m *ℤ f.1))) None ≡ Some out → Step m f fs sum out
     by_test true p true q h = record { product = p; total = q; rest = h }
     by_test true p false q h = cc
     by_test false p u q h = cc
 
-good-step : (count : ℕ) (sum : List ℤ) (p : ℕ) (z : ℤ) → Good count sum → is_small (number_at sum p +ℤ z) ≡ true →
+good-step : (count : ℕ) (sum : List ℤ) (p : ℕ) (z : ℤ) → Good count sum → in_limit (number_at sum p +ℤ z) ≡ true →
     Good count (add_at sum p z)
 good-step count sum p z g h = record {
   long = length-add_at sum p z ∙ g.long;
   small = λ q. elim (apart-or-same p q) [
-    | inl k ↦ subst (λ r. is_small (number_at (add_at sum p z) r) ≡ true) k (here (nat_lt p (length sum)) refl)
-    | inr k ↦ ap is_small (add-else sum p q z k) ∙ g.small q
+    | inl k ↦ subst (λ r. in_limit (number_at (add_at sum p z) r) ≡ true) k (here (nat_lt p (length sum)) refl)
+    | inr k ↦ ap in_limit (add-else sum p q z k) ∙ g.small q
   ];
 }
   where
-    here : (t : Bool) → nat_lt p (length sum) ≡ t → is_small (number_at (add_at sum p z) p) ≡ true
-    here true e = ap is_small (add-there sum p z (lt-is p (length sum) e)) ∙ h
+    here : (t : Bool) → nat_lt p (length sum) ≡ t → in_limit (number_at (add_at sum p z) p) ≡ true
+    here true e = ap in_limit (add-there sum p z (lt-is p (length sum) e)) ∙ h
     here false e =
         let l = length-add_at sum p z in let k = not-lt p (length sum) e in
-        ap is_small (number-past (add_at sum p z) p (omega (arith, l, k)))
+        ap in_limit (number-past (add_at sum p z) p (omega (arith, l, k)))
 
 -- what is added with success is small
 taken-small : (count : ℕ) (m : ℤ) (n : ℕ) (fs : List (ℕ × ℤ)) (sum out : List ℤ) → is_once fs ≡ true → Good count sum
     →
     add_factors m fs sum ≡ Some out → Small m fs sum
 taken-small count m n [] sum out x g e = record {
-  product = λ p. ap is_small (*ℤ-zero m);
-  total = λ p. ap (λ z. is_small (number_at sum p +ℤ z)) (*ℤ-zero m) ∙ ap is_small (plus-zero (number_at sum p)) ∙
+  product = λ p. ap in_limit (*ℤ-zero m);
+  total = λ p. ap (λ z. in_limit (number_at sum p +ℤ z)) (*ℤ-zero m) ∙ ap in_limit (plus-zero (number_at sum p)) ∙
       g.small p;
 }
   where
@@ -228,15 +228,15 @@ taken-small count m n (f ∷ fs) sum out x g e =
     (good-step count sum f.0 (m *ℤ f.1) g s.total) s.rest in
     record {
       product = λ p. elim (apart-or-same f.0 p) [
-        | inl k ↦ subst (λ q. is_small (m *ℤ factor_in (f ∷ fs) q) ≡ true) k
-            (ap (λ z. is_small (m *ℤ z)) (factor-here f fs) ∙ s.product)
-        | inr k ↦ ap (λ z. is_small (m *ℤ z)) (factor-else f fs p k) ∙ r.product p
+        | inl k ↦ subst (λ q. in_limit (m *ℤ factor_in (f ∷ fs) q) ≡ true) k
+            (ap (λ z. in_limit (m *ℤ z)) (factor-here f fs) ∙ s.product)
+        | inr k ↦ ap (λ z. in_limit (m *ℤ z)) (factor-else f fs p k) ∙ r.product p
       ];
       total = λ p. elim (apart-or-same f.0 p) [
-        | inl k ↦ subst (λ q. is_small (number_at sum q +ℤ m *ℤ factor_in (f ∷ fs) q) ≡ true) k
-            (ap (λ z. is_small (number_at sum f.0 +ℤ m *ℤ z)) (factor-here f fs) ∙ s.total)
-        | inr k ↦ ap (λ z. is_small (number_at sum p +ℤ m *ℤ z)) (factor-else f fs p k)
-            ∙ ap (λ z. is_small (z +ℤ m *ℤ factor_in fs p)) (sym (add-else sum f.0 p (m *ℤ f.1) k)) ∙ r.total p
+        | inl k ↦ subst (λ q. in_limit (number_at sum q +ℤ m *ℤ factor_in (f ∷ fs) q) ≡ true) k
+            (ap (λ z. in_limit (number_at sum f.0 +ℤ m *ℤ z)) (factor-here f fs) ∙ s.total)
+        | inr k ↦ ap (λ z. in_limit (number_at sum p +ℤ m *ℤ z)) (factor-else f fs p k)
+            ∙ ap (λ z. in_limit (z +ℤ m *ℤ factor_in fs p)) (sym (add-else sum f.0 p (m *ℤ f.1) k)) ∙ r.total p
       ];
     }
 
@@ -295,8 +295,8 @@ factors-same count m fs sum out w x g e =
     let s = taken-small count m 0 es sum out (exact-once 0 es exact) g e in
     let one = adds m 0 es sum exact s in
     let other = adds-once m fs sum x (record {
-      product = λ p. ap (λ z. is_small (m *ℤ z)) (sym (same-factor count fs p w)) ∙ s.product p;
-      total = λ p. ap (λ z. is_small (number_at sum p +ℤ m *ℤ z)) (sym (same-factor count fs p w)) ∙ s.total p;
+      product = λ p. ap (λ z. in_limit (m *ℤ z)) (sym (same-factor count fs p w)) ∙ s.product p;
+      total = λ p. ap (λ z. in_limit (number_at sum p +ℤ m *ℤ z)) (sym (same-factor count fs p w)) ∙ s.total p;
     }) in
     let first : one.out ≡ out = some-same one.out out (sym one.is ∙ e) in
     let long1 = one.long in let long2 = other.long in
@@ -310,20 +310,20 @@ factors-same count m fs sum out w x g e =
 
 -- Sums of facts.
 pair-parts : (m : ℤ) (f : Fact) (sum out : Line) → add_pair m (Some f) sum ≡ Ok out →
-    (int_le (pos 0) m ≡ true) × (is_small (m *ℤ f.constant) ≡ true) ×
-    (is_small (sum.constant +ℤ m *ℤ f.constant) ≡ true)
+    (int_le (pos 0) m ≡ true) × (in_limit (m *ℤ f.constant) ≡ true) ×
+    (in_limit (sum.constant +ℤ m *ℤ f.constant) ≡ true)
     × (add_factors m f.factors sum.factors ≡ Some out.factors) × (out.constant ≡ sum.constant +ℤ m *ℤ f.constant)
 pair-parts m f sum out e =
-    by_test (int_le (pos 0) m) refl (is_small (m *ℤ f.constant)) refl (is_small (sum.constant +ℤ m *ℤ f.constant))
+    by_test (int_le (pos 0) m) refl (in_limit (m *ℤ f.constant)) refl (in_limit (sum.constant +ℤ m *ℤ f.constant))
     refl (add_factors m f.factors sum.factors) refl e
   where
-    by_test : (a : Bool) → int_le (pos 0) m ≡ a → (b : Bool) → is_small (m *ℤ f.constant) ≡ b → (c : Bool) → is_small
+    by_test : (a : Bool) → int_le (pos 0) m ≡ a → (b : Bool) → in_limit (m *ℤ f.constant) ≡ b → (c : Bool) → in_limit
         (sum.constant +ℤ m *ℤ f.constant) ≡ c →
         (o : Option (List ℤ)) → add_factors m f.factors sum.factors ≡ o →
         cond a (or_too_big (cond (b && c) (with_constant (sum.constant +ℤ m *ℤ f.constant) o) None)) (Err Code.BadSum)
         ≡ Ok out →
-        (int_le (pos 0) m ≡ true) × (is_small (m *ℤ f.constant) ≡ true) ×
-        (is_small (sum.constant +ℤ m *ℤ f.constant) ≡ true)
+        (int_le (pos 0) m ≡ true) × (in_limit (m *ℤ f.constant) ≡ true) ×
+        (in_limit (sum.constant +ℤ m *ℤ f.constant) ≡ true)
         × (add_factors m f.factors sum.factors ≡ Some out.factors) × (out.constant ≡ sum.constant +ℤ m *ℤ f.constant)
     by_test false p b q c r o s h = cc
     by_test true p false q c r o s h = cc
@@ -333,13 +333,13 @@ pair-parts m f sum out e =
         let same : record { factors = fs; constant = sum.constant +ℤ m *ℤ f.constant } ≡ out = cc in
         (p, q, r, s ∙ ap (λ (l : Line). Some l.factors) same, sym (ap (λ (l : Line). l.constant) same))
 
-pair-of : (m : ℤ) (f : Fact) (sum out : Line) → int_le (pos 0) m ≡ true → is_small (m *ℤ f.constant) ≡ true → is_small
+pair-of : (m : ℤ) (f : Fact) (sum out : Line) → int_le (pos 0) m ≡ true → in_limit (m *ℤ f.constant) ≡ true → in_limit
     (sum.constant +ℤ m *ℤ f.constant) ≡ true →
     add_factors m f.factors sum.factors ≡ Some out.factors → out.constant ≡ sum.constant +ℤ m *ℤ f.constant → add_pair
     m (Some f) sum ≡ Ok out
 pair-of m f sum out p q r s c =
     ap (λ t. cond t (or_too_big (add_times m f sum)) (Err Code.BadSum)) p
-    ∙ ap (λ t. or_too_big (cond (t && is_small (sum.constant +ℤ m *ℤ f.constant))
+    ∙ ap (λ t. or_too_big (cond (t && in_limit (sum.constant +ℤ m *ℤ f.constant))
     (with_constant (sum.constant +ℤ m *ℤ f.constant) (add_factors m f.factors sum.factors)) None)) q
     ∙ ap (λ t. or_too_big (cond t (with_constant (sum.constant +ℤ m *ℤ f.constant)
     (add_factors m f.factors sum.factors)) None)) r
@@ -398,7 +398,7 @@ sum-same count facts extra (p ∷ ps) sum out a g e =
         ap (λ r. sum_pairs (facts ++ extra) r ps) t.0 ∙ ih s t.1 h
 
 good-nulls : (count : ℕ) → Good count (nulls count)
-good-nulls count = record { long = length-nulls count; small = λ p. ap is_small (nulls-at count p) }
+good-nulls count = record { long = length-nulls count; small = λ p. ap in_limit (nulls-at count p) }
 
 total-same : (count : ℕ) (facts extra : List Fact) (ps : List (ℤ × ℕ)) (out : Line) → list_all (is_fact count) facts ≡
     true →

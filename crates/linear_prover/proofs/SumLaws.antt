@@ -14,7 +14,7 @@ use Rattle.case_tables.specs.declared.code_table.Code.{Code}
 use Rattle.core_terms.specs.Values.{number_at}
 use Rattle.meaning_states.specs.State.{int_eq}
 use Rattle.obligations.specs.LinearForms.{add_at}
-use Rattle.obligations.specs.Load.{is_small}
+use Rattle.obligations.specs.Load.{in_limit}
 use Rattle.certificate_rules.specs.Sums.{add_factors, with_constant, add_times, or_too_big, add_pair, sum_pairs}
 use Rattle.certificate_rules.specs.Refutation.{fails, opens, made_sum}
 use Rattle.obligations.proofs.LineLaws.{length-add_at}
@@ -57,10 +57,10 @@ abs-plus (pos a) (negsuc b) = omega (arith, ints)
 abs-plus (negsuc a) (pos b) = omega (arith, ints)
 abs-plus (negsuc a) (negsuc b) = omega (arith, ints)
 
-pub small-is : (z : ℤ) → unsigned_abs z ≤ 2 ^ 126 → is_small z ≡ true
+pub small-is : (z : ℤ) → unsigned_abs z ≤ 2 ^ 126 → in_limit z ≡ true
 small-is z h = le-true (unsigned_abs z) (2 ^ 126) h
 
-small-zero : (z : ℤ) → z ≡ pos 0 → is_small z ≡ true
+small-zero : (z : ℤ) → z ≡ pos 0 → in_limit z ≡ true
 small-zero z e = small-is z (let h : unsigned_abs z ≡ 0 = ap unsigned_abs e in omega (arith, h))
 
 -- Numbers of a list that had one added.
@@ -114,8 +114,8 @@ pub record Added (m : ℤ) (fs : List (ℕ × ℤ)) (sum : List ℤ) : Type 0 wh
   pub at : (p : ℕ) → p < length sum → number_at out p ≡ number_at sum p +ℤ m *ℤ factor_in fs p
 
 pub record Small (m : ℤ) (fs : List (ℕ × ℤ)) (sum : List ℤ) : Type 0 where
-  pub product : (p : ℕ) → is_small (m *ℤ factor_in fs p) ≡ true
-  pub total : (p : ℕ) → is_small (number_at sum p +ℤ m *ℤ factor_in fs p) ≡ true
+  pub product : (p : ℕ) → in_limit (m *ℤ factor_in fs p) ≡ true
+  pub total : (p : ℕ) → in_limit (number_at sum p +ℤ m *ℤ factor_in fs p) ≡ true
 
 abbrev Split : ℕ → ℕ → Type 0
 Split a b = (a ≡ b) ⊎ (a ≡ b → ⊥)
@@ -168,23 +168,23 @@ adds-once m (f ∷ fs) sum e s =
     let none : factor_in fs f.0 ≡ pos 0 = unnamed fs f.0 (not-true (list_any (λ (g : ℕ × ℤ). nat_eq g.0 f.0) fs) a.0)
     in
     let zero' : m *ℤ pos 0 ≡ pos 0 = *ℤ-zero m in
-    let product : is_small (m *ℤ f.1) ≡ true = ap (λ z. is_small (m *ℤ z)) (sym (factor-here f fs)) ∙ s.product f.0 in
-    let total : is_small (number_at sum f.0 +ℤ m *ℤ f.1) ≡ true = ap (λ z. is_small (number_at sum f.0 +ℤ m *ℤ z))
+    let product : in_limit (m *ℤ f.1) ≡ true = ap (λ z. in_limit (m *ℤ z)) (sym (factor-here f fs)) ∙ s.product f.0 in
+    let total : in_limit (number_at sum f.0 +ℤ m *ℤ f.1) ≡ true = ap (λ z. in_limit (number_at sum f.0 +ℤ m *ℤ z))
     (sym (factor-here f fs)) ∙ s.total f.0 in
     let here : (p : ℕ) → f.0 ≡ p → number_at next p +ℤ m *ℤ factor_in fs p ≡ number_at next f.0 = λ p k.
     subst (λ q. number_at next q +ℤ m *ℤ factor_in fs q ≡ number_at next f.0) k
     (ap (λ z. number_at next f.0 +ℤ m *ℤ z) none ∙ ap (λ z. number_at next f.0 +ℤ z) zero' ∙ plus-zero
     (number_at next f.0)) in
-    let small-next : is_small (number_at next f.0) ≡ true = bounded (nat_le (suc f.0) (length sum)) refl total in
+    let small-next : in_limit (number_at next f.0) ≡ true = bounded (nat_le (suc f.0) (length sum)) refl total in
     let r = adds-once m fs next a.1 (record {
       product = λ p. elim (split f.0 p) [
-        | inl k ↦ subst (λ q. is_small (m *ℤ factor_in fs q) ≡ true) k (small-zero _ (ap (λ z. m *ℤ z) none ∙ zero'))
-        | inr k ↦ ap (λ z. is_small (m *ℤ z)) (sym (factor-else f fs p k)) ∙ s.product p
+        | inl k ↦ subst (λ q. in_limit (m *ℤ factor_in fs q) ≡ true) k (small-zero _ (ap (λ z. m *ℤ z) none ∙ zero'))
+        | inr k ↦ ap (λ z. in_limit (m *ℤ z)) (sym (factor-else f fs p k)) ∙ s.product p
       ];
       total = λ p. elim (split f.0 p) [
-        | inl k ↦ ap is_small (here p k) ∙ small-next
-        | inr k ↦ ap (λ z. is_small (z +ℤ m *ℤ factor_in fs p)) (add-else sum f.0 p (m *ℤ f.1) k) ∙ ap
-            (λ z. is_small (number_at sum p +ℤ m *ℤ z)) (sym (factor-else f fs p k)) ∙ s.total p
+        | inl k ↦ ap in_limit (here p k) ∙ small-next
+        | inr k ↦ ap (λ z. in_limit (z +ℤ m *ℤ factor_in fs p)) (add-else sum f.0 p (m *ℤ f.1) k) ∙ ap
+            (λ z. in_limit (number_at sum p +ℤ m *ℤ z)) (sym (factor-else f fs p k)) ∙ s.total p
       ];
     }) in
     record {
@@ -209,9 +209,9 @@ adds-once m (f ∷ fs) sum e s =
     both-true : {a b : Bool} → a ≡ true → b ≡ true → (a && b) ≡ true
     both-true {a} {b} p q = ap (λ t. t && b) p ∙ q
 
-    bounded : (t : Bool) → nat_le (suc f.0) (length sum) ≡ t → is_small (number_at sum f.0 +ℤ m *ℤ f.1) ≡ true →
-        is_small (number_at (add_at sum f.0 (m *ℤ f.1)) f.0) ≡ true
-    bounded true k q = ap is_small (add-there sum f.0 (m *ℤ f.1)
+    bounded : (t : Bool) → nat_le (suc f.0) (length sum) ≡ t → in_limit (number_at sum f.0 +ℤ m *ℤ f.1) ≡ true →
+        in_limit (number_at (add_at sum f.0 (m *ℤ f.1)) f.0) ≡ true
+    bounded true k q = ap in_limit (add-there sum f.0 (m *ℤ f.1)
         (let c = le-is (suc f.0) (length sum) k in omega (arith, c))) ∙ q
     bounded false k q = small-zero _ (number-past (add_at sum f.0 (m *ℤ f.1)) f.0
         (let l = length-add_at sum f.0 (m *ℤ f.1) in let c = gt-is (suc f.0) (length sum) k in omega (arith, l, c)))
@@ -230,13 +230,13 @@ pub record Next (m : ℤ) (f : Fact) (l : Line) : Type 0 where
   pub constant : out.constant ≡ l.constant +ℤ m *ℤ f.constant
 
 pub next-pair : (m : ℕ) (f : Fact) (l : Line) → is_exact 0 f.factors ≡ true → Small (pos m) f.factors l.factors →
-    is_small (pos m *ℤ f.constant) ≡ true → is_small (l.constant +ℤ pos m *ℤ f.constant) ≡ true → Next (pos m) f l
+    in_limit (pos m *ℤ f.constant) ≡ true → in_limit (l.constant +ℤ pos m *ℤ f.constant) ≡ true → Next (pos m) f l
 next-pair m f l e s p q =
     let r = adds (pos m) 0 f.factors l.factors e s in
     record {
       out = record { factors = r.out; constant = l.constant +ℤ pos m *ℤ f.constant };
       is = ap (λ t. cond t (or_too_big (add_times (pos m) f l)) (Err Code.BadSum)) (least m)
-          ∙ ap (λ t. or_too_big (cond (t && is_small (l.constant +ℤ pos m *ℤ f.constant))
+          ∙ ap (λ t. or_too_big (cond (t && in_limit (l.constant +ℤ pos m *ℤ f.constant))
           (with_constant (l.constant +ℤ pos m *ℤ f.constant) (add_factors (pos m) f.factors l.factors)) None)) p
           ∙ ap (λ t. or_too_big (cond t (with_constant (l.constant +ℤ pos m *ℤ f.constant)
           (add_factors (pos m) f.factors l.factors)) None)) q
@@ -338,7 +338,7 @@ pub record Before (facts : List Fact) (n : ℕ) (fs : List (ℕ × ℤ)) (l : Li
   pub exact : is_exact n fs ≡ true
   pub within : is_within (length l.factors) fs ≡ true
   pub carries : (p : ℕ) → p < length l.factors → number_at l.factors p ≡ factor_in fs p
-  pub small : (p : ℕ) → is_small (number_at l.factors p) ≡ true
+  pub small : (p : ℕ) → in_limit (number_at l.factors p) ≡ true
   pub totals : total_of facts fs ≡ Some t
   pub light : t.light ≡ true
   pub room : unsigned_abs l.constant + t.load ≤ 2 ^ 126
@@ -388,16 +388,16 @@ cleared facts n (f ∷ fs) l t b = found (tightest 0 f.0 (side_for f.1) facts) r
         let stays : (p : ℕ) → (f.0 ≡ p → ⊥) → number_at l.factors p +ℤ pos m *ℤ factor_in g.fact.factors p ≡ number_at
         l.factors p = λ p k. ap (λ z. number_at l.factors p +ℤ pos m *ℤ z) (other p k) ∙ ap
         (λ z. number_at l.factors p +ℤ z) nothing ∙ plus-zero (number_at l.factors p) in
-        let totals-small : (p : ℕ) → is_small (number_at l.factors p +ℤ pos m *ℤ factor_in g.fact.factors p) ≡ true =
+        let totals-small : (p : ℕ) → in_limit (number_at l.factors p +ℤ pos m *ℤ factor_in g.fact.factors p) ≡ true =
         λ
         p. elim (split f.0 p) [
-          | inl k ↦ subst (λ z. is_small (number_at l.factors z +ℤ pos m *ℤ factor_in g.fact.factors z) ≡ true) k
+          | inl k ↦ subst (λ z. in_limit (number_at l.factors z +ℤ pos m *ℤ factor_in g.fact.factors z) ≡ true) k
               (small-zero _ gone)
-          | inr k ↦ ap is_small (stays p k) ∙ b.small p
+          | inr k ↦ ap in_limit (stays p k) ∙ b.small p
         ] in
-        let products-small : (p : ℕ) → is_small (pos m *ℤ factor_in g.fact.factors p) ≡ true = λ p. elim (split f.0 p) [
-          | inl k ↦ subst (λ z. is_small (pos m *ℤ factor_in g.fact.factors z) ≡ true) k
-              (ap (λ z. is_small (pos m *ℤ z)) one ∙ small-is (pos m *ℤ side_for f.1)
+        let products-small : (p : ℕ) → in_limit (pos m *ℤ factor_in g.fact.factors p) ≡ true = λ p. elim (split f.0 p) [
+          | inl k ↦ subst (λ z. in_limit (pos m *ℤ factor_in g.fact.factors z) ≡ true) k
+              (ap (λ z. in_limit (pos m *ℤ z)) one ∙ small-is (pos m *ℤ side_for f.1)
               (let w = abs-times f.1 in omega (arith, w, fits)))
           | inr k ↦ small-zero _ (ap (λ z. pos m *ℤ z) (other p k) ∙ nothing)
         ] in
@@ -417,7 +417,7 @@ cleared facts n (f ∷ fs) l t b = found (tightest 0 f.0 (side_for f.1) facts) r
                 | inr k ↦ r.at p h' ∙ stays p k ∙ b.carries p h' ∙ factor-else f fs p k
               ];
           small = λ p. lies p (nat_le (suc p) (length l.factors)) refl r.out r.long
-              (λ h. ap is_small (r.at p h) ∙ totals-small p);
+              (λ h. ap in_limit (r.at p h) ∙ totals-small p);
           totals = o;
           light = lights.1;
           room = (let w = ap unsigned_abs rc in omega (arith, w, c, room, load, sum));
@@ -447,7 +447,7 @@ cleared facts n (f ∷ fs) l t b = found (tightest 0 f.0 (side_for f.1) facts) r
         group a b c = omega (arith, ints)
 
         lies : (p : ℕ) (t : Bool) → nat_le (suc p) (length l.factors) ≡ t → (out : Line) → length out.factors ≡ length
-            l.factors → (p < length l.factors → is_small (number_at out.factors p) ≡ true) → is_small
+            l.factors → (p < length l.factors → in_limit (number_at out.factors p) ≡ true) → in_limit
             (number_at out.factors p) ≡ true
         lies p true e out w h = h (let k = le-is (suc p) (length l.factors) e in omega (arith, k))
         lies p false e out w h = small-zero _ (number-past out.factors p
@@ -518,18 +518,18 @@ bounds-close count facts i f there exact within e = refuted (total_of facts f.fa
         let room = le-is (unsigned_abs f.constant + t.load) (2 ^ 126) lights.1 in
         let long : length (null_line count).factors ≡ count = length-nulls count in
         let tame = light-factor facts f.factors t q lights.0 in
-        let product : (p : ℕ) → is_small (pos 1 *ℤ factor_in f.factors p) ≡ true = λ p. ap is_small
+        let product : (p : ℕ) → in_limit (pos 1 *ℤ factor_in f.factors p) ≡ true = λ p. ap in_limit
         (once (factor_in f.factors p)) ∙ small-is (factor_in f.factors p) (let k = tame p in omega (arith, k))
         in
-        let total : (p : ℕ) → is_small (number_at (null_line count).factors p +ℤ pos 1 *ℤ factor_in f.factors p) ≡
+        let total : (p : ℕ) → in_limit (number_at (null_line count).factors p +ℤ pos 1 *ℤ factor_in f.factors p) ≡
         true
         = λ p.
-        ap (λ z. is_small (z +ℤ pos 1 *ℤ factor_in f.factors p)) (nulls-at count p) ∙ ap is_small
+        ap (λ z. in_limit (z +ℤ pos 1 *ℤ factor_in f.factors p)) (nulls-at count p) ∙ ap in_limit
         (from-zero (factor_in f.factors p)) ∙ small-is (factor_in f.factors p) (let k = tame p in omega (arith, k))
         in
         let r = next-pair 1 f (null_line count) exact (record { product = product; total = total })
-        (ap is_small (once f.constant) ∙ small-is f.constant (omega (arith, room)))
-        (ap is_small (from-zero f.constant) ∙ small-is f.constant (omega (arith, room))) in
+        (ap in_limit (once f.constant) ∙ small-is f.constant (omega (arith, room)))
+        (ap in_limit (from-zero f.constant) ∙ small-is f.constant (omega (arith, room))) in
         let rc : r.out.constant ≡ f.constant = r.constant ∙ from-zero f.constant in
         let numbers : (p : ℕ) → p < length r.out.factors → number_at r.out.factors p ≡ factor_in f.factors p = λ p k.
         r.at p (let w = r.long in omega (arith, w, k)) ∙ ap (λ z. z +ℤ pos 1 *ℤ factor_in f.factors p)
@@ -539,7 +539,7 @@ bounds-close count facts i f there exact within e = refuted (total_of facts f.fa
           within = ap (λ z. is_within z f.factors) (r.long ∙ long) ∙ within;
           carries = numbers;
           small = λ p. lies p (nat_le (suc p) (length r.out.factors)) r.out refl
-              (λ k. ap is_small (numbers p k) ∙ small-is (factor_in f.factors p)
+              (λ k. ap in_limit (numbers p k) ∙ small-is (factor_in f.factors p)
               (let w = tame p in omega (arith, w)));
           totals = q;
           light = lights.0;
@@ -556,7 +556,7 @@ bounds-close count facts i f there exact within e = refuted (total_of facts f.fa
         (λ b. cond b (opens []) (fails Code.BadSum)) parts.1
       where
         lies : (p : ℕ) (t : Bool) (out : Line) → nat_le (suc p) (length out.factors) ≡ t →
-            (p < length out.factors → is_small (number_at out.factors p) ≡ true) → is_small (number_at out.factors p)
+            (p < length out.factors → in_limit (number_at out.factors p) ≡ true) → in_limit (number_at out.factors p)
             ≡
             true
         lies p true out e h = h (let k = le-is (suc p) (length out.factors) e in omega (arith, k))

@@ -22,11 +22,11 @@ parameters None = []
 parameters (Some ps) = ps.0 ∷ ps.1
 
 -- each parameter has a number, and it lies in the parameter's range
-abbrev pub are_arguments : List Param → List ℤ → Bool
-are_arguments [] [] = true
-are_arguments [] (z ∷ zs) = false
-are_arguments (p ∷ ps) [] = false
-are_arguments (p ∷ ps) (z ∷ zs) = in_range (Some (range_ends [] p.range)) z && are_arguments ps zs
+abbrev pub are_parameter_values : List Param → List ℤ → Bool
+are_parameter_values [] [] = true
+are_parameter_values [] (z ∷ zs) = false
+are_parameter_values (p ∷ ps) [] = false
+are_parameter_values (p ∷ ps) (z ∷ zs) = in_range (Some (range_ends [] p.range)) z && are_parameter_values ps zs
 
 -- parameters with their numbers
 abbrev pub argument_bindings : List Param → List ℤ → Bindings
@@ -56,7 +56,7 @@ ClaimsOf g x bindings bound (Claim.Between at p which q) =
 
 -- what a step claims of a program: its claim for each number of each parameter in its range
 abbrev pub StepClaims : Setting → System → ℕ → Step → Type 0
-StepClaims g x bound step = (zs : List ℤ) → IsTrue (are_arguments (parameters step.params) zs) →
+StepClaims g x bound step = (zs : List ℤ) → IsTrue (are_parameter_values (parameters step.params) zs) →
     ClaimsOf g x (argument_bindings (parameters step.params) zs) bound step.claim
 
 -- what a step of a proof in a document claims: the proof's program is one of the document's, and of that the step's

@@ -35,8 +35,8 @@ abbrev pub stay : Act
 stay state = Some state
 
 -- one number of 0..2
-abbrev pub is_number : Test
-is_number = is_state one_slot
+abbrev pub one_number : Test
+one_number = is_state one_slot
 
 -- x = n
 abbrev pub is_at : ℤ → Test
@@ -48,16 +48,16 @@ anywhere state = true
 
 -- it starts at 0
 abbrev pub counter : System
-counter = record { initial = both_hold is_number (is_at (pos 0)); steps = up ∷ stay ∷ [] }
+counter = record { initial = both_hold one_number (is_at (pos 0)); steps = up ∷ stay ∷ [] }
 
 -- that x is a number of 0..2 stands with nothing else known, and no step is undefined at such numbers
 abbrev pub CounterIsSafe : Type 0
-CounterIsSafe = InvariantStands counter anywhere is_number × DefinedStands counter is_number
+CounterIsSafe = InvariantStands counter anywhere one_number × DefinedStands counter one_number
 
 -- `up` is the helper of x = 0 ensures x = 1; `stay` is not
 abbrev pub CounterEnsures : Type 0
-CounterEnsures = EnsuresStands counter is_number (is_at (pos 0)) (is_at (pos 1)) 0 ×
-    (EnsuresStands counter is_number (is_at (pos 0)) (is_at (pos 1)) 1 → ⊥)
+CounterEnsures = EnsuresStands counter one_number (is_at (pos 0)) (is_at (pos 1)) 0 ×
+    (EnsuresStands counter one_number (is_at (pos 0)) (is_at (pos 1)) 1 → ⊥)
 
 -- how far x is from 2
 abbrev pub distance : State → ℤ
@@ -65,20 +65,20 @@ distance state = pos 2 -ℤ number_at state
 
 -- that far from 2
 abbrev pub away : ℤ → Test
-away m = at_measure distance is_number m
+away m = at_measure distance one_number m
 
 -- nearer than that, or at 2
 abbrev pub nearer : ℤ → Test
-nearer m = one_holds (below_measure distance is_number m) (is_at (pos 2))
+nearer m = one_holds (below_measure distance one_number m) (is_at (pos 2))
 
 -- until x = 2 the distance lies in 0..2, and it falls within one round from each of its values; so x = 2 is reached
 -- within three rounds
 abbrev pub CounterArrives : Type 0
 CounterArrives =
-    Everywhere counter (λ state. IsTrue (but_not is_number (is_at (pos 2)) state) →
+    Everywhere counter (λ state. IsTrue (but_not one_number (is_at (pos 2)) state) →
     IsTrue (in_range (Some numbers) (distance state))) ×
     ((m : ℤ) → IsTrue (in_range (Some numbers) m) → LeadsTo counter (away m) (nearer m) 1) ×
-    LeadsTo counter is_number (is_at (pos 2)) 3
+    LeadsTo counter one_number (is_at (pos 2)) 3
 
 -- a system of one act, which starts anywhere
 abbrev pub alone : Act → System
@@ -87,12 +87,12 @@ alone act = record { initial = anywhere; steps = act ∷ [] }
 -- in the union of `stay` and `up`, in this order, the helper is the second instance
 abbrev pub UnionOfTwo : Type 0
 UnionOfTwo = UnlessStands (alone stay) anywhere (is_at (pos 0)) (is_at (pos 1)) ×
-    EnsuresStands (alone up) is_number (is_at (pos 0)) (is_at (pos 1)) 0 ×
-    EnsuresStands (together (alone stay) (alone up)) (both_hold anywhere is_number) (is_at (pos 0)) (is_at (pos 1)) 1
+    EnsuresStands (alone up) one_number (is_at (pos 0)) (is_at (pos 1)) 0 ×
+    EnsuresStands (together (alone stay) (alone up)) (both_hold anywhere one_number) (is_at (pos 0)) (is_at (pos 1)) 1
 
 -- `stay` that is undefined where x is no number of 0..2
 abbrev pub careful : Act
-careful state = cond (is_number state) (Some state) None
+careful state = cond (one_number state) (Some state) None
 
 -- `counter` with that in place of `stay`
 abbrev pub careful_counter : System

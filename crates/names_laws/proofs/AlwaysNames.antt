@@ -14,7 +14,7 @@ use Rattle.names_rules.specs.Declarations.{items_of, some_of, program_scope, var
 use Rattle.names_rules.specs.Declarations.{definition_scope, always_part}
 use Rattle.names_rules.specs.WellNamed.{Declared, nothing_declared, new_program, program_body, program_part, part_of}
 use Rattle.names_laws.specs.StayingLaws.{StaysIn}
-use Rattle.names_laws.specs.AlwaysLaws.{is_defined, IsAlwaysIn, DefinedIsAlways}
+use Rattle.names_laws.specs.AlwaysLaws.{is_always_name, IsAlwaysIn, DefinedIsAlways}
 use Rattle.names_rules.proofs.Faults.{earlier_first, earlier_second}
 use Rattle.names_laws.proofs.Inserts.{same_bytes, found_added}
 use Rattle.names_laws.proofs.Staying.{stays_in_definitions, stays_in_documents}
@@ -39,7 +39,7 @@ stays_always : (names later : Table) (word : List ℕ) → StaysIn names later �
 stays_always names later word stays k = let s = stays word k.0 k.1 in (record k.0 { program = s.0 }, s.1, k.2)
 
 defined_here : (names : Table) (program : ℕ) (ds : List Def) (word : List ℕ) →
-    (always_part program names ds).fault ≡ None → is_defined word ds ≡ true →
+    (always_part program names ds).fault ≡ None → is_always_name word ds ≡ true →
     IsAlwaysIn (always_part program names ds).after word
 defined_here names program [] word h e = cc e
 defined_here names program (d ∷ ds) word h e =
@@ -48,7 +48,7 @@ defined_here names program (d ∷ ds) word h e =
     let p = definition program names d.name r in
     let q = always_part program p.after ds in
     let i = earlier_second p.fault q.fault h in
-    elim (either (bytes_eq word d.name.text) (is_defined word ds) e) as (λ x. IsAlwaysIn q.after word) [
+    elim (either (bytes_eq word d.name.text) (is_always_name word ds) e) as (λ x. IsAlwaysIn q.after word) [
       | inl here ↦ stays_always p.after q.after word (stays_in_definitions p.after program ds i)
           (subst (λ w. IsAlwaysIn p.after w) (sym (same_bytes word d.name.text here))
           (n, found_added names d.name.text n, refl))
@@ -56,7 +56,7 @@ defined_here names program (d ∷ ds) word h e =
     ]
 
 defined_program : (d : Declared) (program : Program) (word : List ℕ) → (program_part d program).fault ≡ None →
-    is_defined word (definitions program) ≡ true → IsAlwaysIn (program_part d program).after.names word
+    is_always_name word (definitions program) ≡ true → IsAlwaysIn (program_part d program).after.names word
 defined_program d (Program.Union at name left right) word h e = cc e
 defined_program d (Program.Plain at name declare always initially start items) word h e =
     let a = (new_program d.programs name).fault in
@@ -69,7 +69,7 @@ defined_program d (Program.Plain at name declare always initially start items) w
     defined_here p.after name.at (items_of always) word (earlier_second p.fault q.fault i) e
 
 defined_parts : (d : Declared) (parts : List DocumentPart) (word : List ℕ) → (run part_of d parts).fault ≡ None →
-    is_defined word (flat_map definitions (programs_among parts)) ≡ true →
+    is_always_name word (flat_map definitions (programs_among parts)) ≡ true →
     IsAlwaysIn (run part_of d parts).after.names word
 defined_parts d [] word h e = cc e
 defined_parts d (DocumentPart.Program at of ∷ parts) word h e =

@@ -18,7 +18,7 @@ use Rattle.names_rules.specs.Reading.{range_reading, read}
 use Rattle.names_rules.specs.Statements.{target_head, index_reading, target_reading, values_reading, condition_reading}
 use Rattle.names_rules.specs.Statements.{alternative_reading, further_reading, alternatives_reading, component_layer}
 use Rattle.names_rules.specs.Statements.{assign_layer}
-use Rattle.names_laws.specs.Attributes.{is_fixed, is_exact}
+use Rattle.names_laws.specs.Attributes.{has_fixed_ends, exact_in}
 use Rattle.names_laws.specs.AttributeLaws.{ArraysVary}
 use Rattle.names_laws.specs.AssignmentLaws.{is_exact_or_none, has_exact_index, is_exact_alternative, is_exact_further}
 use Rattle.names_laws.specs.AssignmentLaws.{are_exact_alternatives, Exactness, exact_component, exact_assign}
@@ -36,7 +36,7 @@ all_exact f p one (x ∷ xs) h =
     (all_exact f p one xs (earlier_second (f x).fault g h))
 
 module _ (s : Scope) (vary : ArraysVary s.names) where
-  needed_exact : (sort : Sort) (e : Expr) → (needs sort (read e s)).fault ≡ None → is_exact e s ≡ true
+  needed_exact : (sort : Sort) (e : Expr) → (needs sort (read e s)).fault ≡ None → exact_in e s ≡ true
   needed_exact sort e h = exact_where_faultless e s vary
       (earlier_first (read e s).fault (unless (same_sort (read e s).sort sort) Code.WrongType (read e s).at) h)
 
@@ -53,13 +53,13 @@ module _ (s : Scope) (vary : ArraysVary s.names) where
   condition_exact (Some e) h = needed_exact Sort.Boolean e h
 
   values_exact : (ts : List Target) (es : List Expr) → length es ≡ length ts → (values_reading s ts es).fault ≡ None →
-      list_all (λ e. is_exact e s) es ≡ true
+      list_all (λ e. exact_in e s) es ≡ true
   values_exact ts [] l h = refl
   values_exact [] (e ∷ es) l h = absurd (omega (arith, l))
   values_exact (t ∷ ts) (e ∷ es) l h =
       let f = (needs (target_head s t).sort (read e s)).fault in
       let g = (values_reading s ts es).fault in
-      and_both (is_exact e s) (list_all (λ x. is_exact x s) es)
+      and_both (exact_in e s) (list_all (λ x. exact_in x s) es)
       (needed_exact (target_head s t).sort e (earlier_first f g h))
       (values_exact ts es (omega (arith, l)) (earlier_second f g h))
 
@@ -73,7 +73,7 @@ module _ (s : Scope) (vary : ArraysVary s.names) where
       (unless_none (nat_eq (length values.rest) (length rest)) Code.Arity values.at
       (earlier_first a (earlier f g) h)) in
       let i = earlier_second a (earlier f g) h in
-      and_both (list_all (λ e. is_exact e s) (values.first ∷ values.rest)) (is_exact_or_none s condition)
+      and_both (list_all (λ e. exact_in e s) (values.first ∷ values.rest)) (is_exact_or_none s condition)
       (values_exact (first ∷ rest) (values.first ∷ values.rest) (omega (arith, l)) (earlier_first f g i))
       (condition_exact condition (earlier_second f g i))
 
@@ -113,7 +113,7 @@ component_exact (Component-F.Quantified at name range x) s vary h =
     let b = (binding s name (Meaning.Bound name.at)).fault in
     let r = (range_reading s.bounds range).fault in
     let f = (x.0 inner).fault in
-    and_both (is_fixed s.bounds range) (x.1 inner)
+    and_both (has_fixed_ends s.bounds range) (x.1 inner)
     (range_fixed s.bounds range (earlier_second b r (earlier_first (earlier b r) f h)))
     (x.2 inner vary (earlier_second (earlier b r) f h))
 

@@ -23,8 +23,8 @@ use Rattle.names_rules.specs.Reading.{is_linear, left_side, same_bool, word_foun
 use Rattle.names_rules.specs.Reading.{end_word, read_layer, read, may_join, right_sides, product}
 use Rattle.names_rules.specs.Reading.{factors as right_operands}
 use Rattle.names_rules.proofs.Faults.{earlier_first, earlier_second, unless_none}
-use Rattle.names_laws.specs.Attributes.{Attributes, Attributed, attributes, both, all, operated, factors, is_number}
-use Rattle.names_laws.specs.Attributes.{is_fixed_end, is_fixed, attribute_layer, word_attributes}
+use Rattle.names_laws.specs.Attributes.{Attributes, Attributed, attributes, both, all, operated, factors, means_number}
+use Rattle.names_laws.specs.Attributes.{is_fixed_end, has_fixed_ends, attribute_layer, word_attributes}
 use Rattle.names_laws.specs.AttributeLaws.{VariesAsArray, ArraysVary, ExactWhereFaultless, ConstantAsRead}
 use Rattle.names_laws.specs.AttributeLaws.{DocumentsVary}
 use Rattle.names_laws.specs.AttributeLaws.{VariablesVary, DefinitionsVary}
@@ -230,7 +230,7 @@ element_tells s name (Some m) r a vary t h =
 
 -- range ends
 
-number_read : (name : Name) (m : Option Meaning) → (end_word name m).fault ≡ None → is_number m ≡ true
+number_read : (name : Name) (m : Option Meaning) → (end_word name m).fault ≡ None → means_number m ≡ true
 number_read name None h = cc h
 number_read name (Some m) h = unless_none (not (is_param m)) Code.NotConstant name.at h
 
@@ -238,7 +238,7 @@ end_fixed : (bounds : Bounds) (e : End) → (end_reading bounds e).fault ≡ Non
 end_fixed bounds (End.Number at minus number) h = refl
 end_fixed bounds (End.Word at name offset) h = number_read name (lookup (bytes_eq name.text) bounds) h
 
-pub range_fixed : (bounds : Bounds) (r : Range) → (range_reading bounds r).fault ≡ None → is_fixed bounds r ≡ true
+pub range_fixed : (bounds : Bounds) (r : Range) → (range_reading bounds r).fault ≡ None → has_fixed_ends bounds r ≡ true
 range_fixed bounds r h =
     let f = (end_reading bounds r.low).fault in
     let g = (end_reading bounds r.high).fault in
@@ -272,7 +272,7 @@ layer (Expr-F.Quantified at which name range x) s vary = λ h.
     let f = (needs (gathers which) (x.0 inner)).fault in
     let t = tells_part inner vary (gathers which) x (earlier_second (earlier b r) f h) in (
       t.0,
-      and_both (is_fixed s.bounds range) (x.1 inner).exact
+      and_both (has_fixed_ends s.bounds range) (x.1 inner).exact
           (range_fixed s.bounds range (earlier_second b r (earlier_first (earlier b r) f h))) t.1,
     )
 

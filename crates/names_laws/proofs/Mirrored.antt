@@ -30,7 +30,7 @@ use Rattle.names_rules.specs.Declarations.{items_of, some_of, program_scope, wit
 use Rattle.names_rules.specs.Declarations.{value_named, known_sort, is_last, are_words, is_repeated, repeated}
 use Rattle.names_rules.specs.Declarations.{words_sort, enumerated, words_part, end_number, span_of, plain_sort}
 use Rattle.names_rules.specs.Declarations.{plain_part, type_part, element_type, type_indices}
-use Rattle.names_rules.specs.Declarations.{variable_named as named_here, may_declare, agrees, variable_as}
+use Rattle.names_rules.specs.Declarations.{variable_named as named_here, may_declare, means_alike, variable_as}
 use Rattle.names_rules.specs.Declarations.{variable_part, always_named, definition, definition_scope, always_part}
 use Rattle.names_rules.specs.WellNamed.{Declared, nothing_declared, new_program, program_body, program_part, part_of}
 use Rattle.unity_syntax.proofs.BackParts.{both_same}
@@ -291,7 +291,7 @@ mirrors_variable names vs program v m h = by (lookup (bytes_eq v.name.text) name
         let w = variable_from (slot_count vs) v in
         let more = with_named names v.name.text new in
         let t = (type_part more v.kind).fault in
-        let u = unless (agrees new None) Code.DeclaredTwice v.name.at in
+        let u = unless (means_alike new None) Code.DeclaredTwice v.name.at in
         let a = unless (may_declare program None) Code.DeclaredTwice v.name.at in
         let i = earlier_first t u (earlier_second a (earlier t u) f) in
         subst (λ b. Mirrors (type_part more v.kind).after (cond b vs (vs ++ w ∷ [])))
@@ -305,7 +305,7 @@ mirrors_variable names vs program v m h = by (lookup (bytes_eq v.name.text) name
         let more = with_named names v.name.text (record old { program = program }) in
         let a = unless (may_declare program (Some old)) Code.DeclaredTwice v.name.at in
         let t = (type_part more v.kind).fault in
-        let u = unless (agrees new (Some old)) Code.DeclaredTwice v.name.at in
+        let u = unless (means_alike new (Some old)) Code.DeclaredTwice v.name.at in
         let i = earlier_first t u (earlier_second a (earlier t u) f) in
         let var = and_first (is_variable old.meaning) (not (nat_eq old.program program))
         (unless_none (may_declare program (Some old)) Code.DeclaredTwice v.name.at (earlier_first a (earlier t u) f)) in

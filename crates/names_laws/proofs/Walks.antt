@@ -18,7 +18,7 @@ use Rattle.names_rules.specs.Reading.{earlier, unless, read, filled}
 use Rattle.names_rules.specs.Part.{run, quiet}
 use Rattle.names_rules.specs.Declarations.{items_of, some_of, program_scope, with_named, is_declared, value_named}
 use Rattle.names_rules.specs.Declarations.{is_repeated, repeated, enumerated, words_part, plain_part, type_part}
-use Rattle.names_rules.specs.Declarations.{variable_named as named_here, may_declare, agrees, variable_as}
+use Rattle.names_rules.specs.Declarations.{variable_named as named_here, may_declare, means_alike, variable_as}
 use Rattle.names_rules.specs.Declarations.{variable_part, always_named, definition, definition_scope, always_part}
 use Rattle.names_rules.specs.WellNamed.{Declared, new_program, program_body, part_of}
 use Rattle.names_rules.proofs.Faults.{earlier_first, earlier_second, unless_none}
@@ -82,7 +82,7 @@ module _ (R : Table → Table → Type 0) (same : (names : Table) → R names na
           let new = named_here program names v in
           let more = with_named names v.name.text new in
           let t = type_part more v.kind in
-          let u = unless (agrees new None) Code.DeclaredTwice v.name.at in
+          let u = unless (means_alike new None) Code.DeclaredTwice v.name.at in
           let a = unless (may_declare program None) Code.DeclaredTwice v.name.at in
           turn names more t.after (fresh names v.name.text new e)
           (walk_type more v.kind (earlier_first t.fault u (earlier_second a (earlier t.fault u) f)))
@@ -90,7 +90,7 @@ module _ (R : Table → Table → Type 0) (same : (names : Table) → R names na
           let new = named_here program names v in
           let more = with_named names v.name.text (record old { program = program }) in
           let t = type_part more v.kind in
-          let u = unless (agrees new (Some old)) Code.DeclaredTwice v.name.at in
+          let u = unless (means_alike new (Some old)) Code.DeclaredTwice v.name.at in
           let a = unless (may_declare program (Some old)) Code.DeclaredTwice v.name.at in
           turn names more t.after (again names v.name.text old program e)
           (walk_type more v.kind (earlier_first t.fault u (earlier_second a (earlier t.fault u) f)))

@@ -18,8 +18,8 @@ is_always (Meaning.Always at) = true
 is_always _ = false
 
 -- whether one of these definitions has this name
-abbrev pub is_defined : List ℕ → List Def → Bool
-is_defined word ds = list_any (λ d. bytes_eq word d.name.text) ds
+abbrev pub is_always_name : List ℕ → List Def → Bool
+is_always_name word ds = list_any (λ d. bytes_eq word d.name.text) ds
 
 -- a word is an always name in a table
 abbrev pub IsAlwaysIn : Table → List ℕ → Type 0
@@ -29,5 +29,5 @@ IsAlwaysIn names word = (n : Named) × (lookup (bytes_eq word) names ≡ Some n)
 -- neither a variable nor a word of an enumeration
 abbrev pub DefinedIsAlways : Type 0
 DefinedIsAlways = (parts : List DocumentPart) → (run part_of nothing_declared parts).fault ≡ None →
-    (word : List ℕ) → is_defined word (flat_map definitions (programs_among parts)) ≡ true →
+    (word : List ℕ) → is_always_name word (flat_map definitions (programs_among parts)) ≡ true →
     IsAlwaysIn (run part_of nothing_declared parts).after.names word

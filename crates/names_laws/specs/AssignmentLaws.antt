@@ -9,13 +9,13 @@ use Rattle.unity_syntax.specs.declared.statement.Assign.{Assign, fold-Assign}
 use Rattle.names_rules.specs.declared.named.Meaning.{Meaning}
 use Rattle.names_rules.specs.Scope.{Scope, with_bound}
 use Rattle.names_rules.specs.Statements.{assign_reading}
-use Rattle.names_laws.specs.Attributes.{is_fixed, is_exact}
+use Rattle.names_laws.specs.Attributes.{has_fixed_ends, exact_in}
 use Rattle.names_laws.specs.AttributeLaws.{ArraysVary}
 
 -- whether an expression is exact, where there is one
 abbrev pub is_exact_or_none : Scope → Option Expr → Bool
 is_exact_or_none s None = true
-is_exact_or_none s (Some e) = is_exact e s
+is_exact_or_none s (Some e) = exact_in e s
 
 abbrev pub has_exact_index : Scope → Target → Bool
 has_exact_index s t = is_exact_or_none s t.index
@@ -23,7 +23,7 @@ has_exact_index s t = is_exact_or_none s t.index
 -- whether the values and the condition of an alternative are exact
 abbrev pub is_exact_alternative : Scope → Values → Option Expr → Bool
 is_exact_alternative s values condition =
-    list_all (λ e. is_exact e s) (values.first ∷ values.rest) && is_exact_or_none s condition
+    list_all (λ e. exact_in e s) (values.first ∷ values.rest) && is_exact_or_none s condition
 
 abbrev pub is_exact_further : Scope → Values × Expr → Bool
 is_exact_further s further = is_exact_alternative s further.0 (Some further.1)
@@ -41,7 +41,7 @@ abbrev pub exact_component : Component-F Exactness Exactness → Exactness
 exact_component (Component-F.Set at first rest alts) s =
     list_all (has_exact_index s) (first ∷ rest) && are_exact_alternatives s alts.values alts.condition
 exact_component (Component-F.Quantified at name range of) s =
-    is_fixed s.bounds range && of (with_bound s name.text (Meaning.Bound name.at))
+    has_fixed_ends s.bounds range && of (with_bound s name.text (Meaning.Bound name.at))
 
 abbrev pub exact_assign : Assign-F Exactness Exactness → Exactness
 exact_assign a s = a.first s && list_all (λ m. m s) a.rest

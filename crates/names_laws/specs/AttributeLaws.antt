@@ -13,7 +13,7 @@ use Rattle.names_rules.specs.Reading.{read}
 use Rattle.names_rules.specs.Part.{run}
 use Rattle.names_rules.specs.Declarations.{variable_part, always_part}
 use Rattle.names_rules.specs.WellNamed.{nothing_declared, part_of}
-use Rattle.names_laws.specs.Attributes.{is_exact, names_nothing}
+use Rattle.names_laws.specs.Attributes.{exact_in, names_nothing}
 
 -- an array is not constant
 abbrev pub VariesAsArray : Named → Type 0
@@ -25,7 +25,7 @@ ArraysVary names = (word : List ℕ) (n : Named) → lookup (bytes_eq word) name
 
 -- an expression without a fault is exact
 abbrev pub ExactWhereFaultless : Type 0
-ExactWhereFaultless = (e : Expr) (s : Scope) → ArraysVary s.names → (read e s).fault ≡ None → is_exact e s ≡ true
+ExactWhereFaultless = (e : Expr) (s : Scope) → ArraysVary s.names → (read e s).fault ≡ None → exact_in e s ≡ true
 
 -- and names nothing that varies where its reading says that it is constant, and only there
 abbrev pub ConstantAsRead : Type 0

@@ -44,27 +44,27 @@ factors a [] = a
 factors a (b ∷ bs) = factors (operated b.0 a b.1) bs
 
 -- whether a word with a meaning is constant
-abbrev pub is_constant : Option Named → Bool
-is_constant None = false
-is_constant (Some n) = n.constant
+abbrev pub is_constant_word : Option Named → Bool
+is_constant_word None = false
+is_constant_word (Some n) = n.constant
 
 -- those of a word; with an index it is an array, which is a variable
 abbrev pub word_attributes : Option Named → Option Attributes → Attributes
-word_attributes n None = record { constant = is_constant n; exact = true }
+word_attributes n None = record { constant = is_constant_word n; exact = true }
 word_attributes n (Some index) = record { constant = false; exact = index.exact }
 
 -- whether a word in a range end is a name that stands for a number there
-abbrev pub is_number : Option Meaning → Bool
-is_number None = false
-is_number (Some meaning) = not (is_param meaning)
+abbrev pub means_number : Option Meaning → Bool
+means_number None = false
+means_number (Some meaning) = not (is_param meaning)
 
 abbrev pub is_fixed_end : Bounds → End → Bool
 is_fixed_end bounds (End.Number at minus number) = true
-is_fixed_end bounds (End.Word at name offset) = is_number (lookup (bytes_eq name.text) bounds)
+is_fixed_end bounds (End.Word at name offset) = means_number (lookup (bytes_eq name.text) bounds)
 
 -- whether the words in the ends of a range are bound names
-abbrev pub is_fixed : Bounds → Range → Bool
-is_fixed bounds r = is_fixed_end bounds r.low && is_fixed_end bounds r.high
+abbrev pub has_fixed_ends : Bounds → Range → Bool
+has_fixed_ends bounds r = is_fixed_end bounds r.low && is_fixed_end bounds r.high
 
 -- exact only where this is so
 abbrev pub exactly : Bool → Attributes → Attributes
@@ -90,14 +90,14 @@ attribute_layer (Expr-F.Word at name index) s =
     word_attributes (found s name.text) (option_map (λ m. m s) index)
 attribute_layer (Expr-F.Brackets at of) s = of s
 attribute_layer (Expr-F.Quantified at which name range of) s =
-    exactly (is_fixed s.bounds range) (of (with_bound s name.text (Meaning.Bound name.at)))
+    exactly (has_fixed_ends s.bounds range) (of (with_bound s name.text (Meaning.Bound name.at)))
 
 abbrev pub attributes : Expr → Attributed
 attributes = fold-Expr Attributed attribute_layer
 
 -- whether each operator of a product has constants where it needs them, and each word in a range end is a bound name
-abbrev pub is_exact : Expr → Scope → Bool
-is_exact e s = (attributes e s).exact
+abbrev pub exact_in : Expr → Scope → Bool
+exact_in e s = (attributes e s).exact
 
 -- whether an expression names no variable and no parameter, also not through always names
 abbrev pub names_nothing : Expr → Scope → Bool

@@ -69,15 +69,15 @@ is_value_of number (Meaning.Value own) = nat_eq own number
 is_value_of number _ = false
 
 -- whether a word is the value with this number of an enumeration
-abbrev pub is_word : Sort → ℕ → Option Named → Bool
-is_word sort number None = false
-is_word sort number (Some n) = is_value_of number n.meaning && same_sort n.sort sort
+abbrev pub is_word_of : Sort → ℕ → Option Named → Bool
+is_word_of sort number None = false
+is_word_of sort number (Some n) = is_value_of number n.meaning && same_sort n.sort sort
 
 -- whether the words are those of an enumeration, from this number on
 abbrev pub are_words : Table → Sort → ℕ → List Name → Bool
 are_words names sort number [] = true
 are_words names sort number (w ∷ ws) =
-    is_word sort number (lookup (bytes_eq w.text) names) && are_words names sort (number + 1) ws
+    is_word_of sort number (lookup (bytes_eq w.text) names) && are_words names sort (number + 1) ws
 
 -- whether the last word of an enumeration has this number
 abbrev pub is_last : Sort → ℕ → Bool
@@ -188,9 +188,9 @@ declared new None = new
 declared new (Some old) = record old { program = new.program }
 
 -- whether a variable that is there has the type that is written here
-abbrev pub agrees : Named → Option Named → Bool
-agrees new None = true
-agrees new (Some old) = same_type old new
+abbrev pub means_alike : Named → Option Named → Bool
+means_alike new None = true
+means_alike new (Some old) = same_type old new
 
 -- a variable's name, and then its type; another type than before is found out at the type's end
 abbrev pub variable_as : Table → Var → Option Named → Named → Part Table
@@ -201,7 +201,7 @@ variable_as names v old new = before
       after = with_named names v.name.text (declared new old);
     })
     (λ more. before (type_part more v.kind)
-    (λ all. quiet all (demanded (agrees new old) Code.DeclaredTwice v.name.at)))
+    (λ all. quiet all (demanded (means_alike new old) Code.DeclaredTwice v.name.at)))
 
 abbrev pub variable_part : ℕ → Table → Var → Part Table
 variable_part program names v =

@@ -19,7 +19,7 @@ use Rattle.obligations.specs.declared.branches.Variable.{Variable}
 use Rattle.obligations.specs.declared.branches.Line.{Line}
 use Rattle.obligations.specs.LinearForms.{add_at, zeros, place_of, plus, line_plus, line_of_const, line_of_place}
 use Rattle.obligations.specs.LinearForms.{linear}
-use Rattle.obligations.specs.Load.{sizes, norm, Load, term_load_step, form_load_step, term_load, is_small}
+use Rattle.obligations.specs.Load.{sizes, norm, Load, term_load_step, form_load_step, term_load, in_limit}
 use Rattle.obligations.proofs.RingLaws.{times-add, times-times}
 use Rattle.obligations.proofs.SettlingLaws.{term_fold, linear-long, linear-Const, linear-Slot, linear-Param, linear-Add}
 use Rattle.obligations.proofs.SettlingLaws.{linear-Sub, linear-Scale, linear-Ite, linear-Div, linear-Mod}
@@ -342,8 +342,8 @@ fits-small (negsuc n) h = omega (arith, h)
 pub trip-small : (z : ℤ) → unsigned_abs z ≤ 2 ^ 126 → to_z w128 (of_z w128 z) ≡ z
 trip-small z h = to_z-of_z w128 z (fits-small z h)
 
-pub small-is : (z : ℤ) → is_small z ≡ true → unsigned_abs z ≤ 2 ^ 126
+pub small-is : (z : ℤ) → in_limit z ≡ true → unsigned_abs z ≤ 2 ^ 126
 small-is z e = grind arith
 
-pub great-is : (z : ℤ) → is_small z ≡ false → 2 ^ 126 < unsigned_abs z
+pub great-is : (z : ℤ) → in_limit z ≡ false → 2 ^ 126 < unsigned_abs z
 great-is z e = grind arith

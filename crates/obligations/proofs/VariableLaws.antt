@@ -18,7 +18,7 @@ use Rattle.obligations.specs.LinearForms.{is_named, place_of}
 use Rattle.obligations.specs.Settling.{term_at_step, form_at}
 use Rattle.obligations.specs.Opening.{in_ranges, Valid}
 use Rattle.obligations.specs.Variables.{form_has, numbered, occurring, variables_of}
-use Rattle.obligations.specs.Variables.{obligation_of, are_in_ranges, IsTrueInRanges, ObligationMeans}
+use Rattle.obligations.specs.Variables.{obligation_of, lie_in_ranges, IsTrueInRanges, ObligationMeans}
 use Rattle.obligations.proofs.FrameLaws.{or_right, is_here, form_same, value_steps_at}
 
 abbrev pub variable : Bool → ℕ → Range → Variable
@@ -112,7 +112,7 @@ module _ (state numbers : List ℤ) where
   kept-in-range false v vs e h = h
 
   occurring-in-ranges : (f : CForm) (param : Bool) (rs : List Range) (zs : List ℤ) (k : ℕ) →
-      are_in_ranges rs zs ≡ true →
+      lie_in_ranges rs zs ≡ true →
       ((i : ℕ) → worth param (k + i) ≡ number_at zs i) →
       in_ranges (occurring f (numbered param k rs)) (values_of (occurring f (numbered param k rs))) ≡ true
   occurring-in-ranges f param [] zs k h e = refl
@@ -123,7 +123,7 @@ module _ (state numbers : List ℤ) where
       let here : worth param k ≡ z = ap (worth param) first ∙ e 0 in
       kept-in-range (form_has param k f) (variable param k r) (occurring f (numbered param (suc k) rs))
       (ap (λ y. int_le r.lo y && int_le y r.hi) here ∙ and_first _ _ h)
-      (occurring-in-ranges f param rs zs (suc k) (and_second (int_le r.lo z && int_le z r.hi) (are_in_ranges rs zs) h)
+      (occurring-in-ranges f param rs zs (suc k) (and_second (int_le r.lo z && int_le z r.hi) (lie_in_ranges rs zs) h)
       (λ i. ap (worth param) (next i) ∙ e (suc i)))
 
   in_ranges-append : (vs ws : List Variable) → in_ranges vs (values_of vs) ≡ true → in_ranges ws (values_of ws) ≡ true →
@@ -161,14 +161,14 @@ module _ (f : CForm) (param : Bool) (n : ℕ) (occurs : form_has param n f ≡ t
       (is-variable rs (suc k) i (omega arith) (omega arith))
 
 -- a place has a range, or there is no number there
-has-range : (rs : List Range) (zs : List ℤ) (n : ℕ) → are_in_ranges rs zs ≡ true →
+has-range : (rs : List Range) (zs : List ℤ) (n : ℕ) → lie_in_ranges rs zs ≡ true →
     (n < length rs) ⊎ (pos 0 ≡ number_at zs n)
 has-range [] [] n h = inr refl
 has-range [] (z ∷ zs) n h = cc
 has-range (r ∷ rs) [] n h = cc
 has-range (r ∷ rs) (z ∷ zs) zero h = inl (omega arith)
 has-range (r ∷ rs) (z ∷ zs) (suc n) h =
-    elim (has-range rs zs n (and_second (int_le r.lo z && int_le z r.hi) (are_in_ranges rs zs) h))
+    elim (has-range rs zs n (and_second (int_le r.lo z && int_le z r.hi) (lie_in_ranges rs zs) h))
     [ inl l ↦ inl (omega arith) | inr e ↦ inr e ]
 
 -- A formula's truth, where each slot and parameter that occurs has its value.
@@ -194,8 +194,8 @@ module _ (vs : List Variable) (values state numbers : List ℤ) where
       form_same (value_steps_at vs values) (value_steps state numbers) Found (λ x. refl) values_agree f all
 
 -- The law.
-module _ (f : CForm) (slots params : List Range) (state numbers : List ℤ) (in_slots : are_in_ranges slots state ≡ true)
-    (in_params : are_in_ranges params numbers ≡ true) where
+module _ (f : CForm) (slots params : List Range) (state numbers : List ℤ) (in_slots : lie_in_ranges slots state ≡ true)
+    (in_params : lie_in_ranges params numbers ≡ true) where
   abbrev first : List Variable
   first = occurring f (numbered false 0 slots)
 

@@ -139,5 +139,5 @@ abbrev pub is_narrow : CForm → Bool
 is_narrow = is_bounded no_size (2 ^ 62)
 
 -- within the limit of a certificate's numbers
-abbrev pub is_small : ℤ → Bool
-is_small z = nat_le (unsigned_abs z) (2 ^ 126)
+abbrev pub in_limit : ℤ → Bool
+in_limit z = nat_le (unsigned_abs z) (2 ^ 126)

@@ -81,16 +81,16 @@ abbrev pub obligation_of : CForm → List Range → List Range → Obligation
 obligation_of f slots params = record { form = f; variables = variables_of f slots params }
 
 -- there is a number for each range, and it lies in it
-abbrev pub are_in_ranges : List Range → List ℤ → Bool
-are_in_ranges [] [] = true
-are_in_ranges [] (z ∷ zs) = false
-are_in_ranges (r ∷ rs) [] = false
-are_in_ranges (r ∷ rs) (z ∷ zs) = (int_le r.lo z && int_le z r.hi) && are_in_ranges rs zs
+abbrev pub lie_in_ranges : List Range → List ℤ → Bool
+lie_in_ranges [] [] = true
+lie_in_ranges [] (z ∷ zs) = false
+lie_in_ranges (r ∷ rs) [] = false
+lie_in_ranges (r ∷ rs) (z ∷ zs) = (int_le r.lo z && int_le z r.hi) && lie_in_ranges rs zs
 
 -- a formula is true at every state and all numbers of the parameters that lie in their ranges
 abbrev pub IsTrueInRanges : CForm → List Range → List Range → Type 0
 IsTrueInRanges f slots params =
-    (state numbers : List ℤ) → are_in_ranges slots state ≡ true → are_in_ranges params numbers ≡ true →
+    (state numbers : List ℤ) → lie_in_ranges slots state ≡ true → lie_in_ranges params numbers ≡ true →
     form_value state numbers f ≡ true
 
 -- a formula whose obligation is valid is true at all that lies in the ranges

@@ -38,7 +38,7 @@ use Rattle.rules_table.specs.Further.{concluded_within, record_within, complete_
 use Rattle.rules_table.specs.Further.{until_of}
 use Rattle.rules_table.specs.Further.{detects_of, constant_of, pair_by}
 use Rattle.rules_table.specs.Table.{shown_forms, union_defined_of, union_invariant_of, union_unless_of}
-use Rattle.rules_table.specs.Table.{union_ensures_of, instance_of, agree}
+use Rattle.rules_table.specs.Table.{union_ensures_of, instance_of, args_agree}
 use Rattle.rules_table.specs.Layers.{helper_over, starts_below, record_over, superpose_of}
 use Rattle.rules_table.specs.Terms.{all_ranges, derive_of, found, leads_record, referred, term_of}
 use Rattle.rules_table.specs.Walk.{Around, again_of, applied, is_kind, proof_of, same_again, text_of, part_record}
@@ -158,7 +158,7 @@ module _ (site : Site) (using : Each FormIsPlain site.using) (program : ProgramI
     where
       instances : Each StatementIsPlain (instances_of site h)
       instances =
-          each_filtered StatementIsPlain (λ s. nat_eq s.label h.label && agree h.args s.indices)
+          each_filtered StatementIsPlain (λ s. nat_eq s.label h.label && args_agree h.args s.indices)
           site.program.statements statements
 
       helped : (s : CStmt) → StatementIsPlain s → FormIsPlain (helped_form site p q h s)

@@ -35,18 +35,18 @@ abbrev pub greatest_number : ℕ
 greatest_number = 2 ^ 32 - 1
 
 -- a parameter's number or a word's value is one that a call may answer
-abbrev pub is_small : Meaning → Bool
-is_small (Meaning.Param number) = nat_le number greatest_number
-is_small (Meaning.Value number) = nat_le number greatest_number
-is_small _ = true
+abbrev pub is_small_meaning : Meaning → Bool
+is_small_meaning (Meaning.Param number) = nat_le number greatest_number
+is_small_meaning (Meaning.Value number) = nat_le number greatest_number
+is_small_meaning _ = true
 
-abbrev pub are_small : Words → Bool
-are_small words = list_all (λ w. is_small w.1) words
+abbrev pub are_small_words : Words → Bool
+are_small_words words = list_all (λ w. is_small_meaning w.1) words
 
 -- the same of the meaning of a word, where there is one
 abbrev pub MeaningIsSmall : Option Meaning → Type 0
 MeaningIsSmall None = Unit {0}
-MeaningIsSmall (Some meaning) = is_small meaning ≡ true
+MeaningIsSmall (Some meaning) = is_small_meaning meaning ≡ true
 
 -- these are the places of a kind, so few that a call may answer each number
 pub record ArePlaces (kind : NameKind) (found : List ℕ) (words : Words) : Type 0 where
@@ -63,7 +63,7 @@ places_in n NameKind.Program = n.programs.keys
 -- an index of these words: what each means, and the places of declarations by kind
 pub record Indexes (n : Index) (words : Words) : Type 0 where
   pub meanings : (at : ℕ) → meaning_in n.meanings at ≡ meaning_at words at
-  pub small : are_small words ≡ true
+  pub small : are_small_words words ≡ true
   pub numbered : (kind : NameKind) → ArePlaces kind (places_in n kind) words
 
 -- an index that holds nothing

@@ -4,7 +4,7 @@ ghost use Rattle.std.specs.Prelude.{◌≡◌, ◌∷◌};
 ghost use Rattle.names_rules.specs.declared.named.Sort.{Sort};
 ghost use Rattle.std.specs.Prelude.{length};
 ghost use Rattle.names_rules.specs.Scope.{entries};
-ghost use Rattle.names_rules.specs.Declarations.{are_words, enumerated, is_last, is_repeated, is_value_of, is_word};
+ghost use Rattle.names_rules.specs.Declarations.{are_words, enumerated, is_last, is_repeated, is_value_of, is_word_of};
 ghost use Rattle.names_rules.specs.Declarations.{known_sort, repeated, value_named, words_part, words_sort};
 ghost use Rattle.names_rules.specs.Answers.{Leaves, Notes};
 
@@ -35,8 +35,8 @@ fn is_value_of(number: u64, meaning: Meaning) -> bool
     }
 }
 
-fn is_word(sort: Sort, number: u64, named: Option<Named>) -> bool
-    ensures { result ≡ is_word sort number named }
+fn is_word_of(sort: Sort, number: u64, named: Option<Named>) -> bool
+    ensures { result ≡ is_word_of sort number named }
 {
     match named {
         None => false,
@@ -66,7 +66,7 @@ fn are_further(names: &NameTable, sort: Sort, rest: &[Name]) -> bool
     ensures { result ≡ are_words (entries names.now) sort 1 rest.now }
 {
     for i in 0..rest.len() {
-        if !is_word(sort, i as u64 + 1, find(names, &rest[i])) {
+        if !is_word_of(sort, i as u64 + 1, find(names, &rest[i])) {
             return false;
         }
     }
@@ -76,7 +76,7 @@ fn are_further(names: &NameTable, sort: Sort, rest: &[Name]) -> bool
 fn are_words(names: &NameTable, sort: Sort, first: &Name, rest: &[Name]) -> bool
     ensures { result ≡ are_words (entries names.now) sort 0 (first.now ∷ rest.now) }
 {
-    is_word(sort, 0, find(names, first)) && are_further(names, sort, rest)
+    is_word_of(sort, 0, find(names, first)) && are_further(names, sort, rest)
 }
 
 /// Whether an enumeration is written again.

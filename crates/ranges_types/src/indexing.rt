@@ -1,7 +1,7 @@
 //! An index of what the words of a document mean.
 
 ghost use Rattle.std.specs.Prelude.{◌≡◌, [], true, IfOk, OnOk};
-ghost use Rattle.ranges_types.specs.Numbers.{ArePlaces, Indexes, IsEmpty, are_small, is_small, places_in};
+ghost use Rattle.ranges_types.specs.Numbers.{ArePlaces, Indexes, IsEmpty, are_small_words, is_small_meaning, places_in};
 
 use crate::meanings::give_all;
 use crate::numbering::{NameKind, add_places};
@@ -33,8 +33,8 @@ pub fn of_kind(index: &Index, kind: NameKind) -> &IndexSet<u64>
 }
 
 /// Whether a number in a meaning is below 2^32.
-fn is_small(meaning: Meaning) -> bool
-    ensures { result ≡ is_small meaning }
+fn is_small_meaning(meaning: Meaning) -> bool
+    ensures { result ≡ is_small_meaning meaning }
 {
     match meaning {
         Meaning::Param(number) | Meaning::Value(number) => number <= u32::MAX as u64,
@@ -44,10 +44,10 @@ fn is_small(meaning: Meaning) -> bool
 
 /// Fails where a number in a meaning is not below 2^32.
 fn all_small(words: &[(u64, Meaning)]) -> Result<(), AllocError>
-    ensures { OnOk result (are_small words.now ≡ true) }
+    ensures { OnOk result (are_small_words words.now ≡ true) }
 {
     for (_, meaning) in words {
-        if !is_small(*meaning) {
+        if !is_small_meaning(*meaning) {
             return Err(AllocError);
         }
     }

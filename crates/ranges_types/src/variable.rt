@@ -2,7 +2,8 @@
 
 ghost use Rattle.std.specs.Prelude.{◌≡◌};
 ghost use Rattle.names_rules.specs.Scope.{entries};
-ghost use Rattle.names_rules.specs.Declarations.{agrees, declared, element_type, may_declare, same_indices, same_span};
+ghost use Rattle.names_rules.specs.Declarations.{means_alike, declared, element_type, may_declare, same_indices};
+ghost use Rattle.names_rules.specs.Declarations.{same_span};
 ghost use Rattle.names_rules.specs.Declarations.{same_type, type_indices, variable_as, variable_named, variable_part};
 ghost use Rattle.names_rules.specs.Part.{run};
 ghost use Rattle.names_rules.specs.Answers.{Leaves};
@@ -101,8 +102,8 @@ fn declared(new: Named, old: Option<Named>) -> Named
     }
 }
 
-fn agrees(new: Named, old: Option<Named>) -> bool
-    ensures { result ≡ agrees new old }
+fn means_alike(new: Named, old: Option<Named>) -> bool
+    ensures { result ≡ means_alike new old }
 {
     match old {
         None => true,
@@ -128,7 +129,7 @@ fn variable_as<'a>(
     table.push((v.name.at, named.meaning))?;
     enter(&v.name, named, names)?;
     kind(&v.kind, names, table)?;
-    demand(agrees(new, old), Code::DeclaredTwice, v.name.at)
+    demand(means_alike(new, old), Code::DeclaredTwice, v.name.at)
 }
 
 fn variable<'a>(

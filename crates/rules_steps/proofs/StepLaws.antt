@@ -111,8 +111,8 @@ module _ (seen : Around) (c : CProgram) (s : CStep) (book : List Record) where
 
 pub answered : (d : Derived) (slots : List CSlot) (r : Result Conclusion Code) → RuleAnswers (Ok d) slots r →
     (x : Conclusion) × (r ≡ Ok x) × (d ≡ derived_of slots x)
-answered d slots (Ok x) h = (x, refl, h)
-answered d slots (Err code) h = absurd h
+answered d _ (Ok x) h = (x, refl, h)
+answered d _ (Err code) h = absurd h
 
 pub failed : (code : Code) (slots : List CSlot) (r : Result Conclusion Code) →
     RuleAnswers (Err (RuleError.Fault code)) slots r → r ≡ Err code

@@ -12,7 +12,7 @@ use safety_rules::{is_ensures, is_unless};
 use superposition::is_carried;
 
 pub(crate) fn is_defined(kind: Kind) -> bool
-    ensures { result ≡ table.is_defined kind }
+    ensures { result ≡ table.claims_defined kind }
 {
     matches!(kind, Kind::Defined)
 }
@@ -42,13 +42,13 @@ fn is_detects(kind: Kind) -> bool
 }
 
 fn is_constant(kind: Kind) -> bool
-    ensures { result ≡ walk.is_constant kind }
+    ensures { result ≡ walk.claims_constant kind }
 {
     matches!(kind, Kind::Constant)
 }
 
 fn is_fixed(kind: Kind) -> bool
-    ensures { result ≡ walk.is_fixed kind }
+    ensures { result ≡ walk.claims_fixed kind }
 {
     matches!(kind, Kind::Fixed)
 }

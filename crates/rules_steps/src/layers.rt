@@ -86,18 +86,18 @@ fn from_below(
     alloc: Global,
     pl: &Place,
     programs: &[CProgram],
-    record: &Record,
+    below: &Record,
 ) -> Result<Held<Derived>, RuleError>
     requires place { IsPlace pl.now }
     requires programs { All (IsProgram pl.now.slots.now) programs.now }
-    requires record { IsPremiseAt pl.now record.now }
+    requires below { IsPremiseAt pl.now below.now }
     ensures { RuleAnswers result pl.now.slots.now
-        (go_on (walk.some_program (walk.program_of programs.now record.now.program)) (λ f.
-        layer.superpose_of (site_of pl.now) f record.now)) }
+        (go_on (walk.some_program (walk.program_of programs.now below.now.program)) (λ f.
+        layer.superpose_of (site_of pl.now) f below.now)) }
 {
-    match program_of(programs, record.program) {
+    match program_of(programs, below.program) {
         None => Err(RuleError::Fault(Code::NoSuchStep)),
-        Some(f) => held(alloc, superpose_rule(alloc, pl, f, record)),
+        Some(f) => held(alloc, superpose_rule(alloc, pl, f, below)),
     }
 }
 

@@ -19,7 +19,7 @@ use Rattle.core_terms.specs.Conditions.{IsRange, Parts, parts_step, parts_of, al
 use Rattle.core_terms.specs.Conditions.{ranges_step, bound_ranges}
 use Rattle.core_terms.proofs.BoolLaws.{le_passes}
 use Rattle.rules_table.specs.Sound.{AreFull}
-use Rattle.rules_table.specs.Terms.{is_range, well_step, is_well_bound}
+use Rattle.rules_table.specs.Terms.{same_range, well_step, is_well_bound}
 use Rattle.rules_table.proofs.NamedLaws.{form_shown, term_shown}
 use Rattle.rules_table.proofs.EachLaws.{Each, each_parts}
 
@@ -73,11 +73,11 @@ same_int a b =
     (both_true (int_le a.hi a.hi) (int_le a.hi a.hi) high high)
 
 range_there : (rs pre rest : List Range) (range : Range) (m : ℕ) → m ≡ length pre → rs ≡ pre ++ range ∷ rest →
-    IsTrue (is_range (slice_get rs m) range)
+    IsTrue (same_range (slice_get rs m) range)
 range_there rs pre rest range m same are =
     let there : slice_get rs m ≡ Some range =
     ap (slice_get rs) same ∙ ap (λ xs. slice_get xs (length pre)) are ∙ got_at pre range rest in
-    subst (λ o. IsTrue (is_range o range)) (sym there) (same_int range range)
+    subst (λ o. IsTrue (same_range o range)) (sym there) (same_int range range)
 
 unless_true : (b : Bool) → (IsTrue b → ⊥) → IsTrue (not b)
 unless_true true f = absurd (f refl)
@@ -162,7 +162,7 @@ bound_well : (t : Well) (m : ℕ) (range : Range) (rs pre post : List Range) (v 
     cond (nat_eq m (length pre)) (numbered t.0 (length pre + 1)) None ≡ Some next →
     ((k : ℕ) → IsTrue (v k) → k < length pre) → IsRange range → Sees (parts_of t.0 (also m v)) →
     rs ≡ pre ++ ((range ∷ bound_ranges t.0) ++ post) →
-    (m ≡ length pre) × IsTrue (is_range (slice_get rs m) range)
+    (m ≡ length pre) × IsTrue (same_range (slice_get rs m) range)
     × WellBound rs (range ∷ bound_ranges t.0) (is_well_bound rs t.0) (length pre) next
 bound_well t m range rs pre post v next e below is sees are =
     let found = at_number (nat_eq m (length pre)) (numbered t.0 (length pre + 1)) next e in
@@ -205,7 +205,7 @@ layer_well (PTerm-F.Exists m range t) rs pre post v next e below sees are =
     (record { forms = sees.forms; terms = sees.terms; ranges = sees.ranges.1 }) are in
     let part = bound.2 in
     record {
-      well = both_true (is_range (slice_get rs m) range) (is_well_bound rs t.0) bound.1 part.well;
+      well = both_true (same_range (slice_get rs m) range) (is_well_bound rs t.0) bound.1 part.well;
       count = part.count;
       full = part.full;
     }
@@ -221,8 +221,8 @@ layer_well (PTerm-F.Induct m range measure p q t) rs pre post v next e below see
     both_true (not (term_names_param m measure)) (not (names_param m p) && not (names_param m q)) no_measure
     (both_true (not (names_param m p)) (not (names_param m q)) no_p no_q) in
     record {
-      well = both_true (is_range (slice_get rs m) range && names) (is_well_bound rs t.0)
-          (both_true (is_range (slice_get rs m) range) names bound.1 free) part.well;
+      well = both_true (same_range (slice_get rs m) range && names) (is_well_bound rs t.0)
+          (both_true (same_range (slice_get rs m) range) names bound.1 free) part.well;
       count = part.count;
       full = part.full;
     }

@@ -31,7 +31,7 @@ use Rattle.rules_table.proofs.TextSound.{given, but_not_forms, unless_stands}
 use Rattle.rules_table.specs.Forms.{any_of}
 use Rattle.wp_substitution.specs.Preconditions.{all_of}
 use Rattle.rules_table.specs.Sound.{IsSite, EnsuresSound}
-use Rattle.rules_table.specs.Table.{ensures_of, Site, under_with, record_of, concluded, unless_forms, agree}
+use Rattle.rules_table.specs.Table.{ensures_of, Site, under_with, record_of, concluded, unless_forms, args_agree}
 use Rattle.rules_table.specs.Table.{instances_of, names_some, equations, is_helper, meant_forms, helped_form}
 use Rattle.rules_table.specs.Table.{helper_forms}
 use Rattle.meaning_states.proofs.StepTheorems.{and_left, and_right, both_true}
@@ -66,15 +66,15 @@ value_equation s e n add z =
     ∙ ap (λ x. (number_at e n +ℤ add) -ℤ x) (value-Const s e z))
 
 -- the equations and the constant indices together say which instance is meant
-named_by : (s e : List ℤ) (args : List Arg) (zs : List ℤ) → IsTrue (agree args zs) →
+named_by : (s e : List ℤ) (args : List Arg) (zs : List ℤ) → IsTrue (args_agree args zs) →
     IsTrue (list_all (λ f. form_value s e f) (equations args zs)) →
     IsTrue (ints_eq zs (arg_values e args))
 named_by s e [] [] a t = refl
 named_by s e [] (z ∷ zs) a t = cc
 named_by s e (x ∷ args) [] a t = cc
 named_by s e (Arg.Number k ∷ args) (z ∷ zs) a t =
-    both_true (int_eq z k) (ints_eq zs (arg_values e args)) (turned k z (and_left (int_eq k z) (agree args zs) a))
-    (named_by s e args zs (and_right (int_eq k z) (agree args zs) a) t)
+    both_true (int_eq z k) (ints_eq zs (arg_values e args)) (turned k z (and_left (int_eq k z) (args_agree args zs) a))
+    (named_by s e args zs (and_right (int_eq k z) (args_agree args zs) a) t)
 named_by s e (Arg.Param n add ∷ args) (z ∷ zs) a t =
     let f : CForm = zero_form (difference_term (shifted n add) (Const z)) in
     both_true (int_eq z (number_at e n +ℤ add)) (ints_eq zs (arg_values e args))
@@ -181,7 +181,7 @@ mapped_within make (y ∷ xs) (suc k) x e = let rest = mapped_within make xs k x
 module _ (site : Site) (good : IsSite site) (h : Helper) (e : List ℤ) (inside : IsTrue (are_in_ranges site.params e))
   where
     abbrev may_be : CStmt → Bool
-    may_be s = nat_eq s.label h.label && agree h.args s.indices
+    may_be s = nat_eq s.label h.label && args_agree h.args s.indices
 
     -- one of the instances is meant: its place among those that may be, and that its equations hold
     abbrev Meant : Type 0
@@ -223,7 +223,7 @@ module _ (site : Site) (good : IsSite site) (h : Helper) (e : List ℤ) (inside 
         let i : CStmt = one.1 in
         let there = from_filter may_be site.program.statements one.0 i one.2 in
         let named = named_by good.state e h.args i.indices (and_right (nat_eq i.label h.label)
-        (agree h.args i.indices)
+        (args_agree h.args i.indices)
         there.2) one.3 in
         record {
           choice = there.0;
@@ -245,7 +245,7 @@ module _ (site : Site) (good : IsSite site) (h : Helper) (e : List ℤ) (inside 
             i,
             there.1,
             both_true (nat_eq i.label h.label) (ints_eq i.indices (arg_values e h.args))
-                (and_left (nat_eq i.label h.label) (agree h.args i.indices) there.2) named,
+                (and_left (nat_eq i.label h.label) (args_agree h.args i.indices) there.2) named,
           );
         }
 

@@ -11,14 +11,14 @@ use Rattle.fair_rounds.specs.Records.{are_in_ranges}
 use Rattle.rules_table.specs.Validity.{GoalShown}
 
 same_states : (slots : List CSlot) (s : List ℤ) →
-    variables.are_in_ranges (map (λ (c : CSlot). c.range) slots) s ≡ is_state (slot_ranges slots) s
+    variables.lie_in_ranges (map (λ (c : CSlot). c.range) slots) s ≡ is_state (slot_ranges slots) s
 same_states [] [] = refl
 same_states [] (z ∷ s) = refl
 same_states (c ∷ slots) [] = refl
 same_states (c ∷ slots) (z ∷ s) =
     ap (λ b. (int_le c.range.lo z && int_le z c.range.hi) && b) (same_states slots s)
 
-same_numbers : (params : List Range) (e : List ℤ) → variables.are_in_ranges params e ≡ are_in_ranges params e
+same_numbers : (params : List Range) (e : List ℤ) → variables.lie_in_ranges params e ≡ are_in_ranges params e
 same_numbers [] [] = refl
 same_numbers [] (z ∷ e) = refl
 same_numbers (r ∷ params) [] = refl

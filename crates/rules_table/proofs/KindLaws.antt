@@ -1,11 +1,11 @@
 -- Kinds by their tests.
 use Rattle.std.proofs.Common.{◌≡◌, IsTrue, refl}
 use Rattle.case_tables.specs.declared.kind_table.Kind.{Kind}
-use Rattle.rules_table.specs.Table.{is_defined, is_invariant, is_unless, is_ensures}
+use Rattle.rules_table.specs.Table.{claims_defined, is_invariant, is_unless, is_ensures}
 use Rattle.rules_table.specs.Further.{is_leadsto}
-use Rattle.rules_table.specs.Walk.{is_until, is_detects, is_constant, is_fixed, is_kind}
+use Rattle.rules_table.specs.Walk.{is_until, is_detects, claims_constant, claims_fixed, is_kind}
 
-pub defined_is : (k : Kind) → IsTrue (is_defined k) → k ≡ Kind.Defined
+pub defined_is : (k : Kind) → IsTrue (claims_defined k) → k ≡ Kind.Defined
 defined_is Kind.Defined t = refl
 defined_is _ t = cc
 
@@ -33,11 +33,11 @@ pub detects_is : (k : Kind) → IsTrue (is_detects k) → k ≡ Kind.Detects
 detects_is Kind.Detects t = refl
 detects_is _ t = cc
 
-pub constant_is : (k : Kind) → IsTrue (is_constant k) → k ≡ Kind.Constant
+pub constant_is : (k : Kind) → IsTrue (claims_constant k) → k ≡ Kind.Constant
 constant_is Kind.Constant t = refl
 constant_is _ t = cc
 
-pub fixed_is : (k : Kind) → IsTrue (is_fixed k) → k ≡ Kind.Fixed
+pub fixed_is : (k : Kind) → IsTrue (claims_fixed k) → k ≡ Kind.Fixed
 fixed_is Kind.Fixed t = refl
 fixed_is _ t = cc
 

@@ -20,7 +20,7 @@ use Rattle.fair_rounds.specs.Records.{are_in_ranges}
 use Rattle.rules_table.proofs.CalcSound.{range_at}
 use Rattle.meaning_executions.specs.Counting.{count_up}
 use Rattle.rules_table.specs.Numbers.{numbers_of, args_from}
-use Rattle.rules_table.specs.Terms.{is_range}
+use Rattle.rules_table.specs.Terms.{same_range}
 use Rattle.meaning_states.proofs.StepTheorems.{and_left, and_right, both_true}
 use Rattle.meaning_states.specs.State.{int_eq}
 use Rattle.meaning_executions.specs.Counting.{natural, range_size}
@@ -94,7 +94,7 @@ lt_or (suc a) (suc b) = elim (lt_or a b) [
 ]
 
 -- the range of a bound name, by its number
-named_range : (o : Option Range) (range : Range) → IsTrue (is_range o range) →
+named_range : (o : Option Range) (range : Range) → IsTrue (same_range o range) →
     (r : Range) × (o ≡ Some r) × (r.lo ≡ range.lo) × (r.hi ≡ range.hi)
 named_range None range t = cc
 named_range (Some r) range t = (
@@ -105,7 +105,7 @@ named_range (Some r) range t = (
       range.hi (and_right (int_eq r.lo range.lo) (int_eq r.hi range.hi) t),
 )
 
-module _ (ranges : List Range) (m : ℕ) (range : Range) (here : IsTrue (is_range (slice_get ranges m) range)) (z : ℤ)
+module _ (ranges : List Range) (m : ℕ) (range : Range) (here : IsTrue (same_range (slice_get ranges m) range)) (z : ℤ)
     (inside_range : IsTrue (lies range z))
     (e : List ℤ) (inside_all : IsTrue (are_in_ranges ranges e)) where
   -- the numbers with m put to z

@@ -40,7 +40,7 @@ use Rattle.rules_table.specs.declared.led.Led.{Led}
 use Rattle.rules_table.specs.Conclusion.{Conclusion}
 use Rattle.rules_table.specs.Validity.{AllValid}
 use Rattle.rules_table.specs.Forms.{imply}
-use Rattle.rules_table.specs.Table.{Site, needs, go_on, under_with, goals_of, record_of, concluded, is_defined}
+use Rattle.rules_table.specs.Table.{Site, needs, go_on, under_with, goals_of, record_of, concluded, claims_defined}
 use Rattle.rules_table.specs.Table.{is_invariant, is_unless, is_ensures, defined_forms, defined_of, invariant_forms}
 use Rattle.rules_table.specs.Table.{invariant_of, unless_forms, unless_of, is_helper, helper_forms, ensures_of}
 use Rattle.rules_table.specs.Table.{weaken_of, pair_kinds, shown_forms, first_helper, ending}
@@ -511,7 +511,8 @@ module _ (seen : Around) (c : CProgram) (named : find (λ b. nat_eq b.name c.nam
     united_case f g parts a b pa pb ca cb Kind.Defined y e valid =
         union_settled Kind.Defined Top Top None a b ca cb (union_defined_of site (seen.starts c) a b)
         (need_gives (is_part_pair site a b) Code.OtherProgram _ step.params _ (shown_forms site a b)
-        (need_gives (is_defined a.kind && is_defined b.kind) Code.WrongKind _ step.params _ (shown_forms site a b)
+        (need_gives (claims_defined a.kind && claims_defined b.kind) Code.WrongKind _ step.params _
+        (shown_forms site a b)
         (need_gives (seen.starts c) Code.NoStart _ step.params _ (shown_forms site a b)
         (end_gives slots step.params _ (shown_forms site a b))))) y e valid
         (union_defined_sound site good f g parts (seen.starts c) a b pa pb y e valid)

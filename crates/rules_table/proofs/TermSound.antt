@@ -44,7 +44,7 @@ use Rattle.rules_table.specs.Table.{Site, needs, go_on, under_with, instance_of,
 use Rattle.rules_table.specs.Terms.{Ask, found, referred, leads, within_rounds, node, leads_from, leads_by, leads_on}
 use Rattle.rules_table.specs.Terms.{leads_either, leads_any, at_measure, below_measure, measure_lies, leads_down}
 use Rattle.rules_table.specs.Terms.{leads_safely, leads_weaker, term_step, term_of, well_step, is_well_bound}
-use Rattle.rules_table.specs.Terms.{is_range}
+use Rattle.rules_table.specs.Terms.{same_range}
 use Rattle.rules_table.specs.Validity.{IsValid}
 use Rattle.rules_table.specs.declared.led.Led.{Led}
 use Rattle.meaning_states.proofs.StepTheorems.{and_left, and_right, both_true}
@@ -202,7 +202,7 @@ module _ (site : Site) (good : IsSite site) (book : List Record) (stands : BookS
   answer = term_of site ranges book
 
   -- the tests of an induction's part, with m put to z
-  at_tests : (m : ℕ) (range : Range) (here : IsTrue (is_range (slice_get ranges m) range)) (z : ℤ)
+  at_tests : (m : ℕ) (range : Range) (here : IsTrue (same_range (slice_get ranges m) range)) (z : ℤ)
       (inr : IsTrue (lies range z)) (e : List ℤ) (inside : IsTrue (are_in_ranges ranges e))
       (measure : CTerm) (p : CForm) → term_names_param m measure ≡ false → names_param m p ≡ false →
       holding (changed ranges m range here z inr e inside) (at_measure measure m p) ≡ (λ s. holding e p s && int_eq
@@ -223,7 +223,7 @@ module _ (site : Site) (good : IsSite site) (book : List Record) (stands : BookS
           ∙ ap (λ y. term_value s e measure -ℤ y) (value-Param s n m ∙ changed_at ranges m range here z inr e inside))
           ∙ sym (gap_is (term_value s e measure) z))
 
-  below_tests : (m : ℕ) (range : Range) (here : IsTrue (is_range (slice_get ranges m) range)) (z : ℤ)
+  below_tests : (m : ℕ) (range : Range) (here : IsTrue (same_range (slice_get ranges m) range)) (z : ℤ)
       (inr : IsTrue (lies range z)) (e : List ℤ) (inside : IsTrue (are_in_ranges ranges e))
       (measure : CTerm) (p q : CForm) → term_names_param m measure ≡ false → names_param m p ≡ false →
       names_param m q ≡ false →
@@ -310,7 +310,7 @@ module _ (site : Site) (good : IsSite site) (book : List Record) (stands : BookS
       (subst (λ f. LeadsTo (kept v x) (holding e b.p) (holding e f) b.bound) (sym (same_form_is a.q b.q same)) two) in
       subst (λ p. LeadsTo (kept v x) p (holding e a.q) (max a.bound b.bound)) (test_or e a.p b.p) both))))
   layer_sound (PTerm-F.Exists m range t) w =
-      let here = and_left (is_range (slice_get ranges m) range) (is_well_bound ranges t.0) w in
+      let here = and_left (same_range (slice_get ranges m) range) (is_well_bound ranges t.0) w in
       of_part (answer t.0) (λ a. needs (not (names_param m a.q)) Code.ParamEscapes
       (node site ranges (leads_any ranges m range a))) (λ a h.
       of_need (not (names_param m a.q)) Code.ParamEscapes (node site ranges (leads_any ranges m range a)) (λ free.
@@ -319,7 +319,7 @@ module _ (site : Site) (good : IsSite site) (book : List Record) (stands : BookS
       (numbers_of range) (λ k z there.
       let inr = number_lies range k z there in
       let n : List ℤ = changed ranges m range here z inr e inside in
-      let one = t.1 (and_right (is_range (slice_get ranges m) range) (is_well_bound ranges t.0) w) a h valid v serves
+      let one = t.1 (and_right (same_range (slice_get ranges m) range) (is_well_bound ranges t.0) w) a h valid v serves
       n (changed_in ranges m range here z inr e inside) in
       like (λ p q. LeadsTo (kept v x) p q a.bound) (holding n a.p) (holding e (form_for ranges m z a.p))
       (holding n a.q) (holding e a.q)
@@ -329,9 +329,9 @@ module _ (site : Site) (good : IsSite site) (book : List Record) (stands : BookS
       (numbers_of range)) any)))
   layer_sound (PTerm-F.Induct m range measure p q t) w =
       let names = not (term_names_param m measure) && (not (names_param m p) && not (names_param m q)) in
-      let own = and_left (is_range (slice_get ranges m) range && names) (is_well_bound ranges t.0) w in
-      let here = and_left (is_range (slice_get ranges m) range) names own in
-      let free = and_right (is_range (slice_get ranges m) range) names own in
+      let own = and_left (same_range (slice_get ranges m) range && names) (is_well_bound ranges t.0) w in
+      let here = and_left (same_range (slice_get ranges m) range) names own in
+      let free = and_right (same_range (slice_get ranges m) range) names own in
       let absent = turned_off (term_names_param m measure) (and_left (not (term_names_param m measure))
       (not (names_param m p) && not (names_param m q)) free) in
       let rest = and_right (not (term_names_param m measure)) (not (names_param m p) && not (names_param m q)) free in
@@ -357,7 +357,7 @@ module _ (site : Site) (good : IsSite site) (book : List Record) (stands : BookS
       parts.1.0 v a.under serves e inside s k (but_not_forms s e p q c))))
       (λ z inr.
       let n : List ℤ = changed ranges m range here z inr e inside in
-      let one = t.1 (and_right (is_range (slice_get ranges m) range && names) (is_well_bound ranges t.0) w) a h
+      let one = t.1 (and_right (same_range (slice_get ranges m) range && names) (is_well_bound ranges t.0) w) a h
       parts.0 v serves n (changed_in ranges m range here z inr e inside) in
       like (λ f g. LeadsTo (kept v x) f g a.bound) (holding n a.p) (λ s. holding e p s && int_eq
       (term_value s e measure) z) (holding n a.q)

@@ -41,7 +41,7 @@ use Rattle.rules_table.specs.Sound.{NameNoParameter}
 use Rattle.rules_table.specs.Sound.{UnionUnlessSound, UnionEnsuresSound, UnderHolds, UnionShows}
 use Rattle.rules_table.specs.Table.{union_unless_of, union_defined_of, union_invariant_of, union_ensures_of, Site}
 use Rattle.rules_table.specs.Table.{needs, with_each, under_with, record_of, concluded, is_unless, is_ensures}
-use Rattle.rules_table.specs.Table.{is_part_pair, shown_forms, first_helper, is_defined, is_invariant, ending}
+use Rattle.rules_table.specs.Table.{is_part_pair, shown_forms, first_helper, claims_defined, is_invariant, ending}
 use Rattle.meaning_states.proofs.StepTheorems.{and_left, and_right, both_true, step_keeps_ranges}
 use Rattle.meaning_states.specs.State.{State, is_state}
 use Rattle.meaning_executions.specs.Execution.{Act, System}
@@ -194,7 +194,7 @@ module _ (site : Site) (good : IsSite site) (f g : CProgram) (parts : IsUnionOf 
   abbrev wd : Test
   wd = meets site.slots (under_with site (a.under ++ b.under))
 
-  joined_defined : (k l : Kind) → IsTrue (is_defined k && is_defined l) → KindStands k site.slots f a e →
+  joined_defined : (k l : Kind) → IsTrue (claims_defined k && claims_defined l) → KindStands k site.slots f a e →
       KindStands l site.slots g b e → DefinedStands (core_system site.slots site.program) wd
   joined_defined Kind.Defined Kind.Defined t one two =
       subst (λ x. DefinedStands x wd) (together_is site f g parts)
@@ -246,8 +246,9 @@ union_defined_sound site good f g parts starts a b pa pb d e valid =
     let made : Record = record_of site Kind.Defined Top Top (a.under ++ b.under) None in
     let end : Result Conclusion Code = concluded site.slots site.params made (shown_forms site a b) in
     let one = met (is_part_pair site a b) Code.OtherProgram
-    (needs (is_defined a.kind && is_defined b.kind) Code.WrongKind (needs starts Code.NoStart end)) d e in
-    let two = met (is_defined a.kind && is_defined b.kind) Code.WrongKind (needs starts Code.NoStart end) d one.1 in
+    (needs (claims_defined a.kind && claims_defined b.kind) Code.WrongKind (needs starts Code.NoStart end)) d e in
+    let two = met (claims_defined a.kind && claims_defined b.kind) Code.WrongKind
+    (needs starts Code.NoStart end) d one.1 in
     let three = met starts Code.NoStart end d two.1 in
     given site made (shown_forms site a b)
     (λ all n inside.

@@ -29,7 +29,7 @@ use Rattle.fair_rounds.specs.Records.{Holds, IsKept}
 use Rattle.fair_rounds.proofs.RecordTheorems.{defined_kept, kept_holds}
 use Rattle.rules_table.specs.Conclusion.{Conclusion}
 use Rattle.rules_table.specs.Validity.{Goal, AllValid}
-use Rattle.rules_table.specs.Table.{needs, is_defined}
+use Rattle.rules_table.specs.Table.{needs, claims_defined}
 use Rattle.rules_table.specs.Sound.{NameNoParameter, IsSite, HoldThroughout}
 use Rattle.rules_table.specs.Walk.{Around, Plan, Failure, around_of, has_defined, or_failure, further, rule_of, planned}
 use Rattle.rules_table.specs.Walk.{steps_of, proof_end, program_of, proof_steps, proofs_of, walk_of, step_site}
@@ -201,7 +201,7 @@ module _ (d : CDocument) (is : IsCoreDocument d) (starts : CProgram → Bool) wh
     more_defined : (n : ℕ) (book more : List Record) → IsTrue (has_defined n book) →
         IsTrue (has_defined n (book ++ more))
     more_defined n book more t =
-        list_any-append (λ a. nat_eq a.program n && is_defined a.kind) book more
+        list_any-append (λ a. nat_eq a.program n && claims_defined a.kind) book more
         ∙ or_first (has_defined n book) (has_defined n more) t
 
     steps_good : (steps : List CStep) → Each (IsStep d.slots) steps → (plan new : Plan) →
@@ -316,11 +316,11 @@ module _ (d : CDocument) (is : IsCoreDocument d) (starts : CProgram → Bool) wh
   records_kept plan e valid place a c there named =
       let good = (all_good plan e valid).0 in
       let ended = each_at (Ended plan.records) plan.records good.1 place a there in
-      let first = some_item (λ b. nat_eq b.program a.program && is_defined b.kind) plan.records ended in
+      let first = some_item (λ b. nat_eq b.program a.program && claims_defined b.kind) plan.records ended in
       let b : Record = first.1 in
       let known = each_at Good plan.records good.0 first.0 b first.2 in
-      let same = eqb-true b.program a.program (and_left (nat_eq b.program a.program) (is_defined b.kind) first.3) in
-      let kind = defined_is b.kind (and_right (nat_eq b.program a.program) (is_defined b.kind) first.3) in
+      let same = eqb-true b.program a.program (and_left (nat_eq b.program a.program) (claims_defined b.kind) first.3) in
+      let kind = defined_is b.kind (and_right (nat_eq b.program a.program) (claims_defined b.kind) first.3) in
       let kept = known.kept c (ap (λ n. program_of d.programs n) same ∙ named) in
       let always = defined_kept d.slots c b [] kind
       (no_params b.params (defined_params b.kind b.params b.p b.q kind known.fits)) kept in

@@ -119,17 +119,17 @@ fixed_of site p = concluded site.slots site.params (record_of site Kind.Fixed p 
 -- `text with h`
 
 -- the constant indices of a helper are a statement's
-abbrev pub agree : List Arg → List ℤ → Bool
-agree [] [] = true
-agree [] (z ∷ zs) = false
-agree (a ∷ args) [] = false
-agree (Arg.Number k ∷ args) (z ∷ zs) = int_eq k z && agree args zs
-agree (Arg.Param n add ∷ args) (z ∷ zs) = agree args zs
-agree (Arg.Slot ∷ args) (z ∷ zs) = false
+abbrev pub args_agree : List Arg → List ℤ → Bool
+args_agree [] [] = true
+args_agree [] (z ∷ zs) = false
+args_agree (a ∷ args) [] = false
+args_agree (Arg.Number k ∷ args) (z ∷ zs) = int_eq k z && args_agree args zs
+args_agree (Arg.Param n add ∷ args) (z ∷ zs) = args_agree args zs
+args_agree (Arg.Slot ∷ args) (z ∷ zs) = false
 
 -- the instances that may be meant
 abbrev pub instances_of : Site → Helper → List CStmt
-instances_of site h = filter (λ s. nat_eq s.label h.label && agree h.args s.indices) site.program.statements
+instances_of site h = filter (λ s. nat_eq s.label h.label && args_agree h.args s.indices) site.program.statements
 
 abbrev pub names_some : List Arg → Bool
 names_some [] = false
@@ -149,7 +149,7 @@ equations (Arg.Slot ∷ args) (z ∷ zs) = equations args zs
 abbrev pub is_helper : Site → Helper → Bool
 is_helper site h = list_any (λ s. nat_eq s.label h.label && nat_eq (length s.indices) (length h.args))
     site.program.statements &&
-    (names_some h.args || list_any (λ s. nat_eq s.label h.label && agree h.args s.indices) site.program.statements)
+    (names_some h.args || list_any (λ s. nat_eq s.label h.label && args_agree h.args s.indices) site.program.statements)
 
 abbrev pub meant_forms : Site → Helper → List CForm
 meant_forms site h = cond (names_some h.args) (any_of (map (λ s. all_of (equations h.args s.indices))
@@ -253,9 +253,9 @@ union_ensures_of site a b =
     (concluded site.slots site.params (record_of site Kind.Ensures a.p a.q (a.under ++ b.under) (first_helper a b))
     (shown_forms site a b))))
 
-abbrev pub is_defined : Kind → Bool
-is_defined Kind.Defined = true
-is_defined _ = false
+abbrev pub claims_defined : Kind → Bool
+claims_defined Kind.Defined = true
+claims_defined _ = false
 
 abbrev pub is_invariant : Kind → Bool
 is_invariant Kind.Invariant = true
@@ -264,7 +264,7 @@ is_invariant _ = false
 unfoldable pub union_defined_of : Site → Bool → Record → Record → Result Conclusion Code
 union_defined_of site starts a b =
     needs (is_part_pair site a b) Code.OtherProgram
-    (needs (is_defined a.kind && is_defined b.kind) Code.WrongKind
+    (needs (claims_defined a.kind && claims_defined b.kind) Code.WrongKind
     (needs starts Code.NoStart (concluded site.slots site.params (record_of site Kind.Defined Top Top
     (a.under ++ b.under) None) (shown_forms site a b))))
 

@@ -162,9 +162,9 @@ derive_of site t book =
     go_on (term_of site (all_ranges site t) book t) (λ l. concluded site.slots (all_ranges site t)
     (leads_record site l) l.forms)
 
-abbrev pub is_range : Option Range → Range → Bool
-is_range None range = false
-is_range (Some r) range = int_eq r.lo range.lo && int_eq r.hi range.hi
+abbrev pub same_range : Option Range → Range → Bool
+same_range None range = false
+same_range (Some r) range = int_eq r.lo range.lo && int_eq r.hi range.hi
 
 -- each bound name has its range in the list, and an induction's measure and formulas do not name it
 abbrev pub well_step : List Range → PTerm-F Bool → Bool
@@ -172,9 +172,9 @@ well_step ranges (PTerm-F.Imply p q) = true
 well_step ranges (PTerm-F.From r) = true
 well_step ranges (PTerm-F.Trans t u) = t && u
 well_step ranges (PTerm-F.Either t u) = t && u
-well_step ranges (PTerm-F.Exists m range t) = is_range (slice_get ranges m) range && t
+well_step ranges (PTerm-F.Exists m range t) = same_range (slice_get ranges m) range && t
 well_step ranges (PTerm-F.Induct m range measure p q t) =
-    (is_range (slice_get ranges m) range && (not (term_names_param m measure) && (not (names_param m p) && not
+    (same_range (slice_get ranges m) range && (not (term_names_param m measure) && (not (names_param m p) && not
     (names_param m q)))) && t
 well_step ranges (PTerm-F.Psp t r) = t
 well_step ranges (PTerm-F.Weaken p q t) = t

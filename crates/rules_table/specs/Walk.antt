@@ -19,7 +19,8 @@ use Rattle.core_terms.specs.Trees.{same_form}
 use Rattle.fair_rounds.specs.declared.records.Record.{Record}
 use Rattle.rules_table.specs.Validity.{Goal}
 use Rattle.rules_table.specs.Conclusion.{Conclusion}
-use Rattle.rules_table.specs.Table.{Site, needs, go_on, is_defined, is_invariant, is_unless, is_ensures, instance_of}
+use Rattle.rules_table.specs.Table.{Site, needs, go_on, claims_defined, is_invariant, is_unless, is_ensures}
+use Rattle.rules_table.specs.Table.{instance_of}
 use Rattle.rules_table.specs.Table.{record_of, concluded, defined_of, invariant_of, unless_of, fixed_of, ensures_of}
 use Rattle.rules_table.specs.Table.{weaken_of, pair_kinds, union_defined_of, union_invariant_of, union_unless_of}
 use Rattle.rules_table.specs.Table.{union_ensures_of}
@@ -45,32 +46,32 @@ abbrev pub is_detects : Kind → Bool
 is_detects Kind.Detects = true
 is_detects _ = false
 
-abbrev pub is_constant : Kind → Bool
-is_constant Kind.Constant = true
-is_constant _ = false
+abbrev pub claims_constant : Kind → Bool
+claims_constant Kind.Constant = true
+claims_constant _ = false
 
-abbrev pub is_fixed : Kind → Bool
-is_fixed Kind.Fixed = true
-is_fixed _ = false
+abbrev pub claims_fixed : Kind → Bool
+claims_fixed Kind.Fixed = true
+claims_fixed _ = false
 
 abbrev pub is_kind : Kind → Kind → Bool
-is_kind Kind.Defined k = is_defined k
+is_kind Kind.Defined k = claims_defined k
 is_kind Kind.Invariant k = is_invariant k
 is_kind Kind.Unless k = is_unless k
 is_kind Kind.Ensures k = is_ensures k
 is_kind Kind.Leadsto k = is_leadsto k
 is_kind Kind.Until k = is_until k
 is_kind Kind.Detects k = is_detects k
-is_kind Kind.Constant k = is_constant k
-is_kind Kind.Fixed k = is_fixed k
+is_kind Kind.Constant k = claims_constant k
+is_kind Kind.Fixed k = claims_fixed k
 
 -- a kind that may stand before the `defined` step
 abbrev pub is_first : Kind → Bool
-is_first k = is_defined k || is_invariant k
+is_first k = claims_defined k || is_invariant k
 
 -- a `defined` step of this program stands before
 abbrev pub has_defined : ℕ → List Record → Bool
-has_defined program book = list_any (λ a. nat_eq a.program program && is_defined a.kind) book
+has_defined program book = list_any (λ a. nat_eq a.program program && claims_defined a.kind) book
 
 abbrev pub is_empty : {X : Type 0} → List X → Bool
 is_empty [] = true
@@ -102,11 +103,11 @@ suits_pair version RuleName.Simpledisj kind = is_unless kind
 suits_pair version RuleName.Cancel kind = is_unless kind || (is_leadsto kind && nat_eq version 2)
 suits_pair version RuleName.Until kind = is_until kind
 suits_pair version RuleName.Detects kind = is_detects kind
-suits_pair version RuleName.Constant kind = is_constant kind
+suits_pair version RuleName.Constant kind = claims_constant kind
 suits_pair version _ kind = false
 
 abbrev pub suits : ℕ → CRule → Kind → Bool
-suits version CRule.Text kind = (is_first kind || is_unless kind) || is_fixed kind
+suits version CRule.Text kind = (is_first kind || is_unless kind) || claims_fixed kind
 suits version (CRule.TextWith h) kind = is_ensures kind
 suits version (CRule.WeakenStep r) kind = has_end kind
 suits version (CRule.Pair which r s) kind = suits_pair version which kind

@@ -21,12 +21,12 @@ use Rattle.expand_correct.proofs.Values.Operations.{two}
 use Rattle.expand_declarations.specs.References.{core_choice}
 use Rattle.schedule_replay.specs.Lines.{word_text, indices_text, instance_text as core_instance_text}
 use Rattle.schedule_replay.specs.Lines.{chosen_text as core_chosen_text}
-use Rattle.schedule_replay.specs.Schedules.{is_named as is_core_named, place_of as core_place_of}
+use Rattle.schedule_replay.specs.Schedules.{names_instance as is_core_named, place_of as core_place_of}
 use Rattle.expand_correct.specs.Exact.Parts.{EachItem}
 use Rattle.expand_documents.specs.Cores.{core_document}
 use Rattle.meaning_documents.specs.Setting.{programs_among}
 use Rattle.run_correct.specs.Shown.{document_places, with_shown, shown_slots}
-use Rattle.run_correct.specs.Names.{instance_text, chosen_text, is_named, place_of}
+use Rattle.run_correct.specs.Names.{instance_text, chosen_text, chooses_instance, place_of}
 use Rattle.run_correct.specs.Laws.{core_name, numbered_name, NamesMatch, AllNamesMatch}
 use Rattle.run_correct.proofs.Lists.{behind, some_same, first_same, rest_same, word_is, numbers_as_texts}
 use Rattle.run_correct.proofs.Labels.{HasLabel}
@@ -86,7 +86,7 @@ module _ (texts : Texts) where
 
   -- a choice names them alike
   named_alike : (choice : Inst) (s : CStmt) (i : Instance) → is_among texts choice.label.text ≡ true → Alike s i →
-      HasLabel texts i → is_core_named (core_choice words choice) s ≡ is_named choice i
+      HasLabel texts i → is_core_named (core_choice words choice) s ≡ chooses_instance choice i
   named_alike choice s i written e h =
       two (λ (a b : Bool). a && b) (nat_eq s.label (word_number words choice.label.text))
       (bytes_eq i.label choice.label.text)
@@ -99,14 +99,15 @@ module _ (texts : Texts) where
   pub places_alike : (choice : Inst) (place : ℕ) (ss : List CStmt) (is : List Instance) →
       is_among texts choice.label.text ≡ true → map core_name ss ≡ map (numbered_name words) is →
       EachItem (HasLabel texts) is →
-      position_from (is_core_named (core_choice words choice)) place ss ≡ position_from (is_named choice) place is
+      position_from (is_core_named (core_choice words choice)) place ss ≡
+      position_from (chooses_instance choice) place is
   places_alike choice place [] [] written e h = refl
   places_alike choice place [] (i ∷ is) written e h = cc e
   places_alike choice place (s ∷ ss) [] written e h = cc e
   places_alike choice place (s ∷ ss) (i ∷ is) written e h =
       two (λ (b : Bool) (o : Option ℕ). cond b (Some place) o) (is_core_named (core_choice words choice) s)
-      (is_named choice i) (position_from (is_core_named (core_choice words choice)) (place + 1) ss)
-      (position_from (is_named choice) (place + 1) is)
+      (chooses_instance choice i) (position_from (is_core_named (core_choice words choice)) (place + 1) ss)
+      (position_from (chooses_instance choice) (place + 1) is)
       (named_alike choice s i written (first_same (core_name s) (numbered_name words i) (map core_name ss)
       (map (numbered_name words) is) e) (h zero i refl))
       (places_alike choice (place + 1) ss is written (rest_same (core_name s) (numbered_name words i)

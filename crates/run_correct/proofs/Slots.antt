@@ -31,7 +31,7 @@ use Rattle.expand_correct.specs.Exact.Parts.{EachItem}
 use Rattle.expand_correct.proofs.Exact.Statements.{everywhere_joined}
 use Rattle.expand_documents.specs.Cores.{core_document}
 use Rattle.run_correct.specs.Shown.{SlotOfVariable, places_of, new_places, document_places, value_text}
-use Rattle.run_correct.specs.Shown.{place_text, slot_text, is_declared}
+use Rattle.run_correct.specs.Shown.{place_text, slot_text, is_slot_among}
 use Rattle.run_correct.proofs.Lists.{weaker, behind, none_of, text_same, each_among, word_is, numbers_as_texts}
 
 -- the core slot of a place
@@ -136,12 +136,12 @@ module _ (texts : Texts) where
   -- slots that are shown
 
   declared_same : (e : SlotOfVariable) (vs : List Var) → PlaceWritten texts e → EachItem (IsWritten texts) vs →
-      is_slot_of (declared_names words vs) (core_slot words e) ≡ is_declared vs e
+      is_slot_of (declared_names words vs) (core_slot words e) ≡ is_slot_among vs e
   declared_same e [] w h = refl
   declared_same e (v ∷ vs) w h =
       two (λ (a b : Bool). a || b) (nat_eq (word_number words e.0.name.text) (word_number words v.name.text))
       (bytes_eq e.0.name.text v.name.text) (is_slot_of (declared_names words vs) (core_slot words e))
-      (is_declared vs e)
+      (is_slot_among vs e)
       (numbers_as_texts texts e.0.name.text v.name.text (name_written texts e.0 w)
       (name_written texts v (h 0 v refl)))
       (declared_same e vs w (behind (IsWritten texts) v vs h))
@@ -149,13 +149,13 @@ module _ (texts : Texts) where
   pub shown_same : (vs : List Var) (place : ℕ) (es : List SlotOfVariable) → EachItem (IsWritten texts) vs →
       EachItem (PlaceWritten texts) es →
       places_from (is_slot_of (declared_names words vs)) place (map (core_slot words) es)
-      ≡ places_from (is_declared vs) place es
+      ≡ places_from (is_slot_among vs) place es
   shown_same vs place [] w h = refl
   shown_same vs place (e ∷ es) w h =
       two (λ (b : Bool) (ns : List ℕ). cond b (place ∷ ns) ns)
-      (is_slot_of (declared_names words vs) (core_slot words e)) (is_declared vs e)
+      (is_slot_of (declared_names words vs) (core_slot words e)) (is_slot_among vs e)
       (places_from (is_slot_of (declared_names words vs)) (place + 1) (map (core_slot words) es))
-      (places_from (is_declared vs) (place + 1) es) (declared_same e vs (h 0 e refl) w)
+      (places_from (is_slot_among vs) (place + 1) es) (declared_same e vs (h 0 e refl) w)
       (shown_same vs (place + 1) es w (behind (PlaceWritten texts) e es h))
 
 -- documents

@@ -50,7 +50,7 @@ use Rattle.expand_documents.specs.Cores.{core_named, core_union, core_program, w
 use Rattle.expand_documents.specs.Cores.{core_document}
 use Rattle.expand_correct.proofs.Preserved.Matching.{known_name}
 use Rattle.expand_correct.proofs.Preserved.Pairs.{is_named, named_some, named_with, entered_with}
-use Rattle.run_correct.specs.Shown.{SlotOfVariable, document_places, Showing, is_declared, shown_named, shown_by}
+use Rattle.run_correct.specs.Shown.{SlotOfVariable, document_places, Showing, is_slot_among, shown_named, shown_by}
 use Rattle.run_correct.specs.Shown.{with_shown}
 use Rattle.run_correct.specs.Laws.{core_name, numbered_name}
 use Rattle.run_correct.proofs.Lists.{weaker}
@@ -174,9 +174,9 @@ module _ (texts : Texts) (s : Scope) (slots : List CSlot) (places : List SlotOfV
         ((part_right vs (items_texts items)).among i.label t))) (instances items) (each_labelled items) in
         one_more d.programs known showing cores name.text v
         (record { initially = initial_formula initially; instances = instances items })
-        (places_from (is_declared (items_of declare)) 0 places)
+        (places_from (is_slot_among (items_of declare)) 0 places)
         (plain_core (word_number words) s (word_number words name.text) shown values initially items) h
-        (plain_pair name shown (places_from (is_declared (items_of declare)) 0 places) values initially items
+        (plain_pair name shown (places_from (is_slot_among (items_of declare)) 0 places) values initially items
         (written.among name.text own) labels
         (ap (places_from (is_slot_of (declared_names words (items_of declare))) 0) laid
         ∙ shown_same texts (items_of declare) 0 places

@@ -21,10 +21,10 @@ abbrev pub chosen_text : Composed → ℕ → List ℕ
 chosen_text c choice = option_map_or instance_text (slice_get c.instances choice) []
 
 -- a choice of a schedule has an instance's label, and the numbers of its bound names
-abbrev pub is_named : Inst → Instance → Bool
-is_named choice i = bytes_eq i.label choice.label.text
+abbrev pub chooses_instance : Inst → Instance → Bool
+chooses_instance choice i = bytes_eq i.label choice.label.text
     && pointwise int_eq (outermost_first i.bindings) (map (end_value []) (some_of choice.indices))
 
 -- the place, in a program's instances, of the one that a choice names
 abbrev pub place_of : Composed → Inst → Option ℕ
-place_of c choice = position_from (is_named choice) 0 c.instances
+place_of c choice = position_from (chooses_instance choice) 0 c.instances

@@ -71,15 +71,15 @@ shown_named name [] = []
 shown_named name (s ∷ rest) = cond (bytes_eq name s.0) s.1 (shown_named name rest)
 
 -- the slot is one of a variable with the name of one of these
-abbrev pub is_declared : List Var → SlotOfVariable → Bool
-is_declared vs e = list_any (λ v. bytes_eq e.0.name.text v.name.text) vs
+abbrev pub is_slot_among : List Var → SlotOfVariable → Bool
+is_slot_among vs e = list_any (λ v. bytes_eq e.0.name.text v.name.text) vs
 
 -- a program shows the slots of the variables that it declares, and a union those that its parts show, in slot order
 abbrev pub shown_by : List SlotOfVariable → Showing → Program → List ℕ
 shown_by places known (Program.Union at name left right) =
     merged (shown_named left.text known) (shown_named right.text known)
 shown_by places known (Program.Plain at name declare always initially start items) =
-    places_from (is_declared (items_of declare)) 0 places
+    places_from (is_slot_among (items_of declare)) 0 places
 
 abbrev pub with_shown : List SlotOfVariable → Showing → List Program → Showing
 with_shown places known [] = known

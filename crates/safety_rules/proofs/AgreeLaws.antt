@@ -3,11 +3,11 @@ use Rattle.std.proofs.Common.{◌≡◌, ℕ, zero, suc, ◌+◌, ◌<◌, ◌�
 use Rattle.std.proofs.Common.{refl, sym, ap, ◌∙◌, length, drop, slice_index_or, add-one, append_assoc, arith}
 use Rattle.core_terms.specs.declared.trees.CForm.{CForm}
 use Rattle.core_terms.specs.declared.documents.Arg.{Arg}
-use Rattle.rules_table.specs.Table.{agree, equations}
-use Rattle.safety_rules.specs.Helpers.{agrees, equation_of}
+use Rattle.rules_table.specs.Table.{args_agree, equations}
+use Rattle.safety_rules.specs.Helpers.{arg_agrees, equation_of}
 
-agree-cons : (a : Arg) (args : List Arg) (z : ℤ) (zs : List ℤ) → agree (a ∷ args) (z ∷ zs) ≡
-    (agrees a z && agree args zs)
+agree-cons : (a : Arg) (args : List Arg) (z : ℤ) (zs : List ℤ) → args_agree (a ∷ args) (z ∷ zs) ≡
+    (arg_agrees a z && args_agree args zs)
 agree-cons (Arg.Number k) args z zs = refl
 agree-cons (Arg.Param n add) args z zs = refl
 agree-cons Arg.Slot args z zs = refl
@@ -16,17 +16,17 @@ second_of : (a b : Bool) → IsTrue (a && b) → IsTrue b
 second_of true b t = t
 second_of false b t = cc
 
-same_count : (args : List Arg) (zs : List ℤ) → IsTrue (agree args zs) → length args ≡ length zs
+same_count : (args : List Arg) (zs : List ℤ) → IsTrue (args_agree args zs) → length args ≡ length zs
 same_count [] [] t = refl
 same_count [] (z ∷ zs) t = cc
 same_count (a ∷ args) [] t = cc
 same_count (a ∷ args) (z ∷ zs) t =
-    let both : IsTrue (agrees a z && agree args zs) = sym (agree-cons a args z zs) ∙ t in
-    let rest = same_count args zs (second_of (agrees a z) (agree args zs) both) in
+    let both : IsTrue (arg_agrees a z && args_agree args zs) = sym (agree-cons a args z zs) ∙ t in
+    let rest = same_count args zs (second_of (arg_agrees a z) (args_agree args zs) both) in
     omega (arith, rest)
 
-pub other_count : (args : List Arg) (zs : List ℤ) → (length args ≡ length zs → ⊥) → false ≡ agree args zs
-other_count args zs apart = go (agree args zs) (same_count args zs)
+pub other_count : (args : List Arg) (zs : List ℤ) → (length args ≡ length zs → ⊥) → false ≡ args_agree args zs
+other_count args zs apart = go (args_agree args zs) (same_count args zs)
   where
     go : (b : Bool) → (IsTrue b → length args ≡ length zs) → false ≡ b
     go true f = absurd (apart (f refl))
@@ -34,8 +34,8 @@ other_count args zs apart = go (agree args zs) (same_count args zs)
 
 -- the next index and the others
 next_one : (args : List Arg) (zs : List ℤ) (i : ℕ) (d : Arg) (e : ℤ) → i < length args → i < length zs →
-    agree (drop i args) (drop i zs) ≡
-    (agrees (slice_index_or args i d) (slice_index_or zs i e) && agree (drop (suc i) args) (drop (suc i) zs))
+    args_agree (drop i args) (drop i zs) ≡
+    (arg_agrees (slice_index_or args i d) (slice_index_or zs i e) && args_agree (drop (suc i) args) (drop (suc i) zs))
 next_one [] zs i d e less fewer = absurd (omega arith)
 next_one (a ∷ args) [] i d e less fewer = absurd (omega arith)
 next_one (a ∷ args) (z ∷ zs) zero d e less fewer = agree-cons a args z zs
@@ -44,19 +44,19 @@ next_one (a ∷ args) (z ∷ zs) (suc i) d e less fewer =
     next_one args zs i d e one two
 
 pub one_fails : (args : List Arg) (zs : List ℤ) (i : ℕ) (d : Arg) (e : ℤ) (b : Bool) → i < length args →
-    i < length zs → b ≡ agrees (slice_index_or args i d) (slice_index_or zs i e) → b ≡ false →
-    agree (drop i args) (drop i zs) ≡ agree args zs → false ≡ agree args zs
+    i < length zs → b ≡ arg_agrees (slice_index_or args i d) (slice_index_or zs i e) → b ≡ false →
+    args_agree (drop i args) (drop i zs) ≡ args_agree args zs → false ≡ args_agree args zs
 one_fails args zs i d e b less fewer is fails whole =
-    sym (ap (λ v. v && agree (drop (suc i) args) (drop (suc i) zs)) (sym is ∙ fails))
+    sym (ap (λ v. v && args_agree (drop (suc i) args) (drop (suc i) zs)) (sym is ∙ fails))
     ∙ sym (next_one args zs i d e less fewer) ∙ whole
 
 pub one_passes : (args : List Arg) (zs : List ℤ) (i : ℕ) (d : Arg) (e : ℤ) (b : Bool) → i < length args →
-    i < length zs → b ≡ agrees (slice_index_or args i d) (slice_index_or zs i e) → b ≡ true →
-    agree (drop i args) (drop i zs) ≡ agree args zs →
-    agree (drop (i + 1) args) (drop (i + 1) zs) ≡ agree args zs
+    i < length zs → b ≡ arg_agrees (slice_index_or args i d) (slice_index_or zs i e) → b ≡ true →
+    args_agree (drop i args) (drop i zs) ≡ args_agree args zs →
+    args_agree (drop (i + 1) args) (drop (i + 1) zs) ≡ args_agree args zs
 one_passes args zs i d e b less fewer is passes whole =
-    ap (λ n. agree (drop n args) (drop n zs)) (add-one i)
-    ∙ sym (ap (λ v. v && agree (drop (suc i) args) (drop (suc i) zs)) (sym is ∙ passes))
+    ap (λ n. args_agree (drop n args) (drop n zs)) (add-one i)
+    ∙ sym (ap (λ v. v && args_agree (drop (suc i) args) (drop (suc i) zs)) (sym is ∙ passes))
     ∙ sym (next_one args zs i d e less fewer) ∙ whole
 
 none_left : {X : Type 0} (xs : List X) (i : ℕ) → length xs ≤ i → drop i xs ≡ []
@@ -66,9 +66,10 @@ none_left (x ∷ xs) zero past = absurd (omega arith)
 none_left (x ∷ xs) (suc i) past = let inner : length xs ≤ i = omega arith in none_left xs i inner
 
 pub all_pass : (args : List Arg) (zs : List ℤ) (i : ℕ) → length args ≤ i → length zs ≤ i →
-    agree (drop i args) (drop i zs) ≡ agree args zs → true ≡ agree args zs
+    args_agree (drop i args) (drop i zs) ≡ args_agree args zs → true ≡ args_agree args zs
 all_pass args zs i past over whole =
-    sym (ap (λ xs. agree xs (drop i zs)) (none_left args i past) ∙ ap (agree []) (none_left zs i over)) ∙ whole
+    sym (ap (λ xs. args_agree xs (drop i zs)) (none_left args i past) ∙ ap (args_agree []) (none_left zs i over)) ∙
+    whole
 
 -- the equations of the next index and the others
 equations-cons : (a : Arg) (args : List Arg) (z : ℤ) (zs : List ℤ) → equations (a ∷ args) (z ∷ zs) ≡

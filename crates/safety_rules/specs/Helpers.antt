@@ -8,17 +8,17 @@ use Rattle.core_terms.specs.declared.trees.CTerm.TheVariants.{Const}
 use Rattle.core_terms.specs.declared.documents.Arg.{Arg}
 use Rattle.core_terms.specs.declared.documents.Helper.{Helper}
 use Rattle.core_terms.specs.declared.programs.CStmt.{CStmt}
-use Rattle.rules_table.specs.Table.{agree}
+use Rattle.rules_table.specs.Table.{args_agree}
 
 -- an index may be this number
-abbrev pub agrees : Arg → ℤ → Bool
-agrees (Arg.Number k) z = int_eq k z
-agrees (Arg.Param n add) z = true
-agrees Arg.Slot z = false
+abbrev pub arg_agrees : Arg → ℤ → Bool
+arg_agrees (Arg.Number k) z = int_eq k z
+arg_agrees (Arg.Param n add) z = true
+arg_agrees Arg.Slot z = false
 
 -- the statement may be the one that is meant
 abbrev pub may_mean : Helper → CStmt → Bool
-may_mean h s = nat_eq s.label h.label && agree h.args s.indices
+may_mean h s = nat_eq s.label h.label && args_agree h.args s.indices
 
 -- it has the label, and as many indices
 abbrev pub has_place : Helper → CStmt → Bool

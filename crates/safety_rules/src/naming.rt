@@ -3,15 +3,15 @@ ghost use Rattle.std.specs.Prelude.{◌≡◌, ◌&&◌, nat_eq, length};
 ghost use Rattle.std.specs.List.{list_any};
 ghost use Rattle.rules_table.specs.Table as table;
 ghost use Rattle.safety_rules.specs.Answers.{site_of};
-ghost use Rattle.safety_rules.specs.Helpers.{agrees, may_mean, has_place};
+ghost use Rattle.safety_rules.specs.Helpers.{arg_agrees, may_mean, has_place};
 
 use crate::places::Place;
 use core_terms::{Arg, CStmt, Helper};
 use unity_base::Shared;
 
 // Whether an index of the statement that helps may be this number.
-fn agrees(arg: Arg, index: i64) -> bool
-    ensures { result ≡ agrees arg index }
+fn arg_agrees(arg: Arg, index: i64) -> bool
+    ensures { result ≡ arg_agrees arg index }
 {
     match arg {
         Arg::Number(k) => k == index,
@@ -22,13 +22,13 @@ fn agrees(arg: Arg, index: i64) -> bool
 
 // Whether its constant indices are these numbers'.
 fn agree(args: &[Arg], indices: &[i64]) -> bool
-    ensures { result ≡ table.agree args.now indices.now }
+    ensures { result ≡ table.args_agree args.now indices.now }
 {
     if args.len() != indices.len() {
         return false;
     }
     for (place, arg) in args.iter().enumerate() {
-        if !agrees(*arg, indices[place]) {
+        if !arg_agrees(*arg, indices[place]) {
             return false;
         }
     }

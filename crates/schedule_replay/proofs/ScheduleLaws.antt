@@ -11,7 +11,7 @@ use Rattle.core_terms.specs.declared.programs.CStmt.{CStmt}
 use Rattle.core_terms.specs.declared.documents.Choice.{Choice}
 use Rattle.core_terms.specs.Conditions.{EachPair, AreApart}
 use Rattle.meaning_states.proofs.StepTheorems.{and_left, and_right}
-use Rattle.schedule_replay.specs.Schedules.{is_named, place_of, first_unknown}
+use Rattle.schedule_replay.specs.Schedules.{names_instance, place_of, first_unknown}
 
 -- a place at which the test passes, where it passes at no place before, is the first
 first_from : {X : Type 0} (t : X → Bool) (xs : List X) (k i : ℕ) (x : X) → slice_get xs i ≡ Some x → t x ≡ true →
@@ -31,13 +31,13 @@ same_label m n e = (Decides-eqb m n).0 e
 
 -- the instance at a place that a choice names is the only one, so it is the first
 pub named_at : (ss : List CStmt) (c : Choice) (place : ℕ) (s : CStmt) → EachPair AreApart ss →
-    slice_get ss place ≡ Some s → is_named c s ≡ true → place_of ss c ≡ Some place
+    slice_get ss place ≡ Some s → names_instance c s ≡ true → place_of ss c ≡ Some place
 named_at ss c place s apart e h =
     let here : 0 + place ≡ place = omega arith in
-    first_from (is_named c) ss 0 place s e h (λ j y less there. other j y less there (is_named c y) refl)
+    first_from (names_instance c) ss 0 place s e h (λ j y less there. other j y less there (names_instance c y) refl)
     ∙ ap (λ n. Some n) here
   where
-    other : (j : ℕ) (y : CStmt) → j < place → slice_get ss j ≡ Some y → (b : Bool) → is_named c y ≡ b → b ≡ false
+    other : (j : ℕ) (y : CStmt) → j < place → slice_get ss j ≡ Some y → (b : Bool) → names_instance c y ≡ b → b ≡ false
     other j y less there false test = refl
     other j y less there true test =
         let labels = same_label y.label c.label (and_left (nat_eq y.label c.label)
@@ -82,7 +82,7 @@ places_below ss [] (p ∷ ps) m = cc
 places_below ss (c ∷ cs) (p ∷ ps) m =
     let first : Some p ≡ place_of ss c = cc in
     let rest : map (λ n. Some n) ps ≡ map (place_of ss) cs = cc in
-    let here : p < length ss = omega (arith, found_below (is_named c) ss 0 p (sym first)) in
+    let here : p < length ss = omega (arith, found_below (names_instance c) ss 0 p (sym first)) in
     all_more (λ n. n < length ss) p ps here (places_below ss cs ps rest)
   where
     all_more : (P : ℕ → Type 0) (x : ℕ) (xs : List ℕ) → P x → All P xs → All P (x ∷ xs)

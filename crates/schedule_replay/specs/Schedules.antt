@@ -13,12 +13,12 @@ use Rattle.core_terms.specs.declared.documents.CDocument.{CDocument}
 use Rattle.schedule_replay.specs.declared.schedule.ScheduleError.{ScheduleError}
 
 -- the choice names the instance: its label and the values of its bound names
-abbrev pub is_named : Choice → CStmt → Bool
-is_named c s = nat_eq s.label c.label && pointwise int_eq s.indices c.indices
+abbrev pub names_instance : Choice → CStmt → Bool
+names_instance c s = nat_eq s.label c.label && pointwise int_eq s.indices c.indices
 
 -- the place of the instance that a choice names
 abbrev pub place_of : List CStmt → Choice → Option ℕ
-place_of statements c = position_from (is_named c) 0 statements
+place_of statements c = position_from (names_instance c) 0 statements
 
 -- the instances of the program of this name; none where there is no such program
 abbrev pub statements_of : CDocument → ℕ → List CStmt

@@ -116,7 +116,7 @@ fn first_place(statements: &[Shared<CStmt>], choice: &Choice) -> Option<u32>
 }
 
 fn is_named(choice: &Choice, statement: &CStmt) -> bool
-    ensures { result ≡ named.is_named choice.now statement.now }
+    ensures { result ≡ named.names_instance choice.now statement.now }
 {
     statement.label == choice.label && statement.indices.as_slice() == choice.indices.as_slice()
 }

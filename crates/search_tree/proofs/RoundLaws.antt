@@ -18,7 +18,7 @@ use Rattle.obligations.specs.declared.branches.Line.{Line}
 use Rattle.obligations.specs.declared.certificates.Node.{Node}
 use Rattle.obligations.specs.LinearForms.{sparse, fact_of, sum_of}
 use Rattle.obligations.specs.Opening.{at_least, at_most}
-use Rattle.obligations.specs.Load.{is_small}
+use Rattle.obligations.specs.Load.{in_limit}
 use Rattle.obligations.specs.Reach.{is_exact, is_within, side_for}
 use Rattle.certificate_rules.specs.Sums.{numbered, add_pair, sum_pairs, divided}
 use Rattle.linear_prover.specs.Chains.{null_line, total_pairs, Closes, is_plain_factor}
@@ -32,7 +32,7 @@ use Rattle.search_tree.specs.Searching.{widths}
 use Rattle.linear_prover.proofs.SumLaws.{eq-is, not-eq, le-is, gt-is, int-eq-refl, abs-side}
 use Rattle.linear_prover.proofs.SumLaws.{abs-times, side-exact}
 
-small-zero : (z : ℤ) → z ≡ pos 0 → is_small z ≡ true
+small-zero : (z : ℤ) → z ≡ pos 0 → in_limit z ≡ true
 small-zero z e = small-is z (let h : unsigned_abs z ≡ 0 = ap unsigned_abs e in omega (arith, h))
 
 abbrev Split : ℕ → ℕ → Type 0
@@ -126,7 +126,7 @@ record Before (points : List Point) (n : ℕ) (fs more : List (ℕ × ℤ)) (l :
   known : is_within (length points) fs ≡ true
   plain : list_all is_plain_factor fs ≡ true
   carries : (p : ℕ) → p < length l.factors → number_at l.factors p ≡ factor_in (fs ++ more) p
-  small : (p : ℕ) → is_small (number_at l.factors p) ≡ true
+  small : (p : ℕ) → in_limit (number_at l.factors p) ≡ true
   room : unsigned_abs l.constant + widths fs * 2 ^ 62 ≤ 2 ^ 126
 
 module _ (facts : List Fact) (points : List Point) (are : ArePoints facts 0 points)
@@ -163,15 +163,15 @@ module _ (facts : List Fact) (points : List Point) (are : ArePoints facts 0 poin
       let stays : (p : ℕ) → (f.0 ≡ p → ⊥) → number_at l.factors p +ℤ pos m *ℤ factor_in g.fact.factors p ≡ number_at
       l.factors p = λ p k. ap (λ z. number_at l.factors p +ℤ pos m *ℤ z) (other p k) ∙ ap
       (λ z. number_at l.factors p +ℤ z) nothing ∙ plus-zero (number_at l.factors p) in
-      let totals-small : (p : ℕ) → is_small (number_at l.factors p +ℤ pos m *ℤ factor_in g.fact.factors p) ≡ true = λ
+      let totals-small : (p : ℕ) → in_limit (number_at l.factors p +ℤ pos m *ℤ factor_in g.fact.factors p) ≡ true = λ
       p. elim (split f.0 p) [
-        | inl k ↦ subst (λ z. is_small (number_at l.factors z +ℤ pos m *ℤ factor_in g.fact.factors z) ≡ true) k
+        | inl k ↦ subst (λ z. in_limit (number_at l.factors z +ℤ pos m *ℤ factor_in g.fact.factors z) ≡ true) k
             (small-zero _ gone)
-        | inr k ↦ ap is_small (stays p k) ∙ b.small p
+        | inr k ↦ ap in_limit (stays p k) ∙ b.small p
       ] in
-      let products-small : (p : ℕ) → is_small (pos m *ℤ factor_in g.fact.factors p) ≡ true = λ p. elim (split f.0 p) [
-        | inl k ↦ subst (λ z. is_small (pos m *ℤ factor_in g.fact.factors z) ≡ true) k
-            (ap (λ z. is_small (pos m *ℤ z)) one ∙ small-is (pos m *ℤ side_for f.1)
+      let products-small : (p : ℕ) → in_limit (pos m *ℤ factor_in g.fact.factors p) ≡ true = λ p. elim (split f.0 p) [
+        | inl k ↦ subst (λ z. in_limit (pos m *ℤ factor_in g.fact.factors z) ≡ true) k
+            (ap (λ z. in_limit (pos m *ℤ z)) one ∙ small-is (pos m *ℤ side_for f.1)
             (let w = abs-times f.1 in omega (arith, w, fits)))
         | inr k ↦ small-zero _ (ap (λ z. pos m *ℤ z) (other p k) ∙ nothing)
       ] in
@@ -193,7 +193,7 @@ module _ (facts : List Fact) (points : List Point) (are : ArePoints facts 0 poin
               | inr k ↦ r.at p h' ∙ stays p k ∙ b.carries p h' ∙ factor-else f (fs ++ more) p k
             ];
         small = λ p. lies p (nat_le (suc p) (length l.factors)) refl r.out r.long
-            (λ h. ap is_small (r.at p h) ∙ totals-small p);
+            (λ h. ap in_limit (r.at p h) ∙ totals-small p);
         room = (let w = ap unsigned_abs rc in omega (arith, w, c, room, spread, most, sum));
       }) in
       let rest-constant = rest.constant in
@@ -217,7 +217,7 @@ module _ (facts : List Fact) (points : List Point) (are : ArePoints facts 0 poin
       group a b c = omega (arith, ints)
 
       lies : (p : ℕ) (t : Bool) → nat_le (suc p) (length l.factors) ≡ t → (out : Line) → length out.factors ≡ length
-          l.factors → (p < length l.factors → is_small (number_at out.factors p) ≡ true) → is_small
+          l.factors → (p < length l.factors → in_limit (number_at out.factors p) ≡ true) → in_limit
           (number_at out.factors p) ≡ true
       lies p true e out w h = h (let k = le-is (suc p) (length l.factors) e in omega (arith, k))
       lies p false e out w h = small-zero _ (number-past out.factors p
@@ -263,15 +263,15 @@ summed count facts points are small i f fs more b =
     let long : length (null_line count).factors ≡ count = length-nulls count in
     let tame : (p : ℕ) → unsigned_abs (factor_in f.factors p) ≤ 2 ^ 62 = λ p.
     subst (λ gs. unsigned_abs (factor_in gs p) ≤ 2 ^ 62) (sym b.factors) (plain-factor (fs ++ more) b.plain p) in
-    let product : (p : ℕ) → is_small (pos 1 *ℤ factor_in f.factors p) ≡ true = λ p. ap is_small
+    let product : (p : ℕ) → in_limit (pos 1 *ℤ factor_in f.factors p) ≡ true = λ p. ap in_limit
     (once (factor_in f.factors p)) ∙ small-is (factor_in f.factors p) (let k = tame p in omega (arith, k)) in
-    let total : (p : ℕ) → is_small (number_at (null_line count).factors p +ℤ pos 1 *ℤ factor_in f.factors p) ≡ true
-    = λ p. ap (λ z. is_small (z +ℤ pos 1 *ℤ factor_in f.factors p)) (nulls-at count p) ∙ ap is_small
+    let total : (p : ℕ) → in_limit (number_at (null_line count).factors p +ℤ pos 1 *ℤ factor_in f.factors p) ≡ true
+    = λ p. ap (λ z. in_limit (z +ℤ pos 1 *ℤ factor_in f.factors p)) (nulls-at count p) ∙ ap in_limit
     (from-zero (factor_in f.factors p)) ∙ small-is (factor_in f.factors p) (let k = tame p in omega (arith, k)) in
     let r = next-pair 1 f (null_line count) (ap (is_exact 0) b.factors ∙ b.exact)
     (record { product = product; total = total })
-    (ap is_small (once f.constant) ∙ small-is f.constant (omega (arith, room)))
-    (ap is_small (from-zero f.constant) ∙ small-is f.constant (omega (arith, room))) in
+    (ap in_limit (once f.constant) ∙ small-is f.constant (omega (arith, room)))
+    (ap in_limit (from-zero f.constant) ∙ small-is f.constant (omega (arith, room))) in
     let rc : r.out.constant ≡ f.constant = r.constant ∙ from-zero f.constant in
     let numbers : (p : ℕ) → p < length r.out.factors → number_at r.out.factors p ≡ factor_in f.factors p = λ p k.
     r.at p (let w = r.long in omega (arith, w, k)) ∙ ap (λ z. z +ℤ pos 1 *ℤ factor_in f.factors p)
@@ -283,7 +283,7 @@ summed count facts points are small i f fs more b =
       plain = fronts b.plain;
       carries = λ p k. numbers p k ∙ ap (λ gs. factor_in gs p) b.factors;
       small = λ p. lies p (nat_le (suc p) (length r.out.factors)) r.out refl
-          (λ k. ap is_small (numbers p k) ∙ small-is (factor_in f.factors p) (let w = tame p in omega (arith, w)));
+          (λ k. ap in_limit (numbers p k) ∙ small-is (factor_in f.factors p) (let w = tame p in omega (arith, w)));
       room = (let w = ap unsigned_abs rc in omega (arith, w, room));
     }) in
     record {
@@ -306,7 +306,7 @@ summed count facts points are small i f fs more b =
     from-zero z = omega (arith, ints)
 
     lies : (p : ℕ) (t : Bool) (out : Line) → nat_le (suc p) (length out.factors) ≡ t →
-        (p < length out.factors → is_small (number_at out.factors p) ≡ true) → is_small (number_at out.factors p) ≡
+        (p < length out.factors → in_limit (number_at out.factors p) ≡ true) → in_limit (number_at out.factors p) ≡
         true
     lies p true out e h = h (let k = le-is (suc p) (length out.factors) e in omega (arith, k))
     lies p false out e h = small-zero _ (number-past out.factors p

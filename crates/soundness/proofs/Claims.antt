@@ -16,7 +16,7 @@ use Rattle.meaning_documents.specs.Programs.{Composed, document_setting}
 use Rattle.meaning_executions.specs.Execution.{System}
 use Rattle.meaning_documents.specs.AsSystem.{system_of}
 use Rattle.meaning_executions.specs.Properties.{never, implied}
-use Rattle.meaning_documents.specs.Claims.{parameters, are_arguments, argument_bindings, ClaimsOf}
+use Rattle.meaning_documents.specs.Claims.{parameters, are_parameter_values, argument_bindings, ClaimsOf}
 use Rattle.meaning_executions.specs.Alike.{StepEquivalent, SameAt}
 use Rattle.meaning_laws.proofs.AlikeTheorems.{alike_back, defined_alike, invariant_alike, unless_alike}
 use Rattle.meaning_laws.proofs.AlikeTheorems.{ensures_alike, leads_alike, fixed_alike, constant_alike}
@@ -55,7 +55,7 @@ same_params : (o : Option (Param × List Param)) → parameters o ≡ some_of o
 same_params None = refl
 same_params (Some ps) = refl
 
-same_numbers : (ps : List Param) (zs : List ℤ) → are_in_ranges (map param_range ps) zs ≡ are_arguments ps zs
+same_numbers : (ps : List Param) (zs : List ℤ) → are_in_ranges (map param_range ps) zs ≡ are_parameter_values ps zs
 same_numbers [] [] = refl
 same_numbers [] (z ∷ zs) = refl
 same_numbers (p ∷ ps) [] = refl
@@ -168,7 +168,7 @@ module _ (d : Document) (starts : CProgram → Bool) (plan : Plan) (accepted : I
           claimed = λ zs fit.
               let inside : IsTrue (are_in_ranges r.params zs) =
               ap (λ rs. are_in_ranges rs zs) of_step.params ∙ same_numbers (some_of step.params) zs
-              ∙ ap (λ ps. are_arguments ps zs) (sym (same_params step.params)) ∙ fit in
+              ∙ ap (λ ps. are_parameter_values ps zs) (sym (same_params step.params)) ∙ fit in
               claim_true d x slots p alike (argument_bindings (parameters step.params) zs) zs
               (step_place (document_words d) proof.program.text (document_scope d.parts) step).scope r step.claim
               (words stands.place stands.at proof stands.proof stands.number step stands.step) of_step.p of_step.q

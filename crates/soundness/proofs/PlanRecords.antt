@@ -17,7 +17,7 @@ use Rattle.core_terms.specs.Conditions.{IsStep, IsProof, IsCoreDocument}
 use Rattle.core_terms.proofs.BoolLaws.{or_first}
 use Rattle.fair_rounds.specs.declared.records.Record.{Record}
 use Rattle.rules_table.specs.Conclusion.{Conclusion}
-use Rattle.rules_table.specs.Table.{needs, is_defined}
+use Rattle.rules_table.specs.Table.{needs, claims_defined}
 use Rattle.rules_table.specs.Walk.{Around, Plan, Failure, around_of, has_defined, or_failure, further, rule_of, planned}
 use Rattle.rules_table.specs.Walk.{steps_of, proof_end, program_of, proof_steps, proofs_of, walk_of}
 use Rattle.rules_table.proofs.EachLaws.{Each, from_all, each_join, each_at, found_in}
@@ -164,7 +164,7 @@ module _ (seen : Around) where
       IsTrue (has_defined n old.records) → IsTrue (has_defined n new.records)
   more_defined n old new steps adds t =
       subst (λ rs. IsTrue (has_defined n rs)) (sym adds.joined)
-      (list_any-append (λ (a : Record). nat_eq a.program n && is_defined a.kind) old.records adds.more
+      (list_any-append (λ (a : Record). nat_eq a.program n && claims_defined a.kind) old.records adds.more
       ∙ or_first (has_defined n old.records) (has_defined n adds.more) t)
 
   -- each proof's program has a `defined` step
@@ -232,12 +232,12 @@ pub defined_record : (d : CDocument) → IsCoreDocument d → (starts : CProgram
     walk_of d starts ≡ Ok plan → (place : ℕ) (proof : CProof) → slice_get d.proofs place ≡ Some proof →
     (c : CProgram) → program_of d.programs proof.program ≡ Some c → DefinedRecord d starts plan c
 defined_record d is starts plan e place proof there c named =
-    let test : Record → Bool = λ a. nat_eq a.program proof.program && is_defined a.kind in
+    let test : Record → Bool = λ a. nat_eq a.program proof.program && claims_defined a.kind in
     let first = some_item test plan.records (proof_defined d is starts plan e place proof there) in
     let a : Record = first.1 in
     let its : a.program ≡ proof.program =
-    eqb-true a.program proof.program (and_left (nat_eq a.program proof.program) (is_defined a.kind) first.3) in
-    let kind = defined_is a.kind (and_right (nat_eq a.program proof.program) (is_defined a.kind) first.3) in
+    eqb-true a.program proof.program (and_left (nat_eq a.program proof.program) (claims_defined a.kind) first.3) in
+    let kind = defined_is a.kind (and_right (nat_eq a.program proof.program) (claims_defined a.kind) first.3) in
     let well = each_at (DefinedWell (around_of d starts)) plan.records (defined_well d is starts plan e) first.0 a
     first.2 in
     let own : c.name ≡ proof.program =

@@ -22,7 +22,7 @@ use Rattle.fair_rounds.specs.declared.records.Record.{Record}
 use Rattle.rules_table.specs.declared.led.Led.{Led}
 use Rattle.rules_table.specs.Conclusion.{Conclusion}
 use Rattle.rules_table.specs.Forms.{imply}
-use Rattle.rules_table.specs.Table.{Site, needs, go_on, record_of, concluded, is_defined, is_invariant, is_unless}
+use Rattle.rules_table.specs.Table.{Site, needs, go_on, record_of, concluded, claims_defined, is_invariant, is_unless}
 use Rattle.rules_table.specs.Table.{is_ensures, defined_forms, defined_of, invariant_forms, invariant_of, unless_forms}
 use Rattle.rules_table.specs.Table.{unless_of, is_helper, helper_forms, ensures_of, weaken_of}
 use Rattle.rules_table.specs.Further.{complete_of, pair_by}
@@ -169,7 +169,7 @@ module _ (seen : Around) (c : CProgram) (step : CStep) (book : List Record) (usi
   unfolding union_defined_of union_invariant_of union_unless_of union_ensures_of
   united_gives a b Kind.Defined =
       need_gives Kind.Defined (is_part_pair site a b) Code.OtherProgram _
-      (need_gives Kind.Defined (is_defined a.kind && is_defined b.kind) Code.WrongKind _
+      (need_gives Kind.Defined (claims_defined a.kind && claims_defined b.kind) Code.WrongKind _
       (need_gives Kind.Defined (seen.starts c) Code.NoStart _
       (made_gives Kind.Defined Top Top (a.under ++ b.under) None (shown_forms site a b))))
   united_gives a b Kind.Invariant =
@@ -243,7 +243,7 @@ module _ (seen : Around) (c : CProgram) (step : CStep) (book : List Record) (usi
   unfolding union_defined_of
   united_starts a b Kind.Defined same y e =
       let one = met (is_part_pair site a b) Code.OtherProgram _ y e in
-      let two = met (is_defined a.kind && is_defined b.kind) Code.WrongKind _ y one.1 in
+      let two = met (claims_defined a.kind && claims_defined b.kind) Code.WrongKind _ y one.1 in
       (met (seen.starts c) Code.NoStart _ y two.1).0
   united_starts a b _ same y e = cc
 

@@ -2,5 +2,5 @@
 use Rattle.std.specs.Prelude.{ℕ, Bool, false, List, slice_index_or}
 
 -- past the marks nothing is marked
-abbrev pub is_marked : List Bool → ℕ → Bool
-is_marked marks n = slice_index_or marks n false
+abbrev pub has_mark : List Bool → ℕ → Bool
+has_mark marks n = slice_index_or marks n false

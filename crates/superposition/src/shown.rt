@@ -1,7 +1,7 @@
 // Which slots a program shows.
 ghost use Rattle.std.specs.Prelude.{◌≡◌, ◌<◌, ◌||◌, ℕ, false, All, IfOk, length};
 ghost use Rattle.core_terms.specs.Conditions.{is_shown};
-ghost use Rattle.superposition.specs.Marks.{is_marked};
+ghost use Rattle.superposition.specs.Marks.{has_mark};
 
 use std::alloc::{AllocError, Global};
 use unity_base::Seq;
@@ -11,13 +11,13 @@ use unity_base::Seq;
 pub(crate) struct Shown<'a> {
     pub(crate) slots: &'a [u32],
     marks: Seq<bool>,
-    ghost exact: { (n : ℕ) → is_marked marks n ≡ is_shown slots.now n },
+    ghost exact: { (n : ℕ) → has_mark marks n ≡ is_shown slots.now n },
 }
 
 // So many slots, none of them marked.
 fn no_marks(alloc: Global, count: usize) -> Result<Seq<bool>, AllocError>
     ensures count { IfOk result (λ marks. length marks ≡ count) }
-    ensures none { IfOk result (λ marks. (n : ℕ) → is_marked marks n ≡ false) }
+    ensures none { IfOk result (λ marks. (n : ℕ) → has_mark marks n ≡ false) }
 {
     let mut marks = Seq::new(alloc);
     for _slot in 0..count {
@@ -29,7 +29,7 @@ fn no_marks(alloc: Global, count: usize) -> Result<Seq<bool>, AllocError>
 // Marks slots.
 fn mark_all(marks: &mut Seq<bool>, slots: &[u32])
     requires { All (λ n. n < length marks.old) slots.now }
-    ensures { (n : ℕ) → is_marked marks.new n ≡ (is_marked marks.old n || is_shown slots.now n) }
+    ensures { (n : ℕ) → has_mark marks.new n ≡ (has_mark marks.old n || is_shown slots.now n) }
 {
     for slot in slots {
         let _ = marks.replace(*slot as usize, true);

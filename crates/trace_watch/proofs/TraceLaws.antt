@@ -12,9 +12,9 @@ use Rattle.meaning_executions.specs.Execution.{System}
 use Rattle.meaning_executions.specs.Properties.{Test, but_not, implied}
 use Rattle.meaning_executions.specs.Rounds.{rounds}
 use Rattle.meaning_laws.proofs.RoundSumTheorems.{later_have_fewer}
-use Rattle.trace_watch.specs.Readings.{Reading, passes, at_last, last_two, last_step, related, unless_fails}
+use Rattle.trace_watch.specs.Readings.{Reading, passes, at_last, last_two, last_step, pair_related, unless_fails}
 use Rattle.fixed_points.specs.FixedPoints.{is_fixed}
-use Rattle.trace_watch.specs.Readings.{constant_fails, leads_fails, is_stuck, is_helped, fails}
+use Rattle.trace_watch.specs.Readings.{constant_fails, leads_fails, is_stuck, is_helped, fails_over}
 use Rattle.trace_watch.specs.Waiting.{waiting, is_overdue, waiting_more, seen_at, leads_from, leads_on_to, loses}
 use Rattle.trace_watch.specs.Waiting.{changes, findings, verdict, turned}
 use Rattle.trace_watch.specs.declared.case.Seen.{Seen}
@@ -149,7 +149,7 @@ earliest_suffices k p q bound (t ∷ ts) choices =
 -- what each reading says
 
 lost_same : (r : Reading) (s : State) (o : Option State) →
-    related (λ before now. but_not r.p r.q before && not (r.p now || r.q now)) (option_map (λ b. (b, s)) o)
+    pair_related (λ before now. but_not r.p r.q before && not (r.p now || r.q now)) (option_map (λ b. (b, s)) o)
     ≡ loses (option_map (seen_at r) o) (seen_at r s)
 lost_same r s None = refl
 lost_same r s (Some b) = refl
@@ -157,15 +157,15 @@ lost_same r s (Some b) = refl
 lost_more : (r : Reading) (states : List State) (s : State) →
     unless_fails r.p r.q (states ++ s ∷ []) ≡ loses (option_map (seen_at r) (last_or None states)) (seen_at r s)
 lost_more r states s =
-    ap (related (λ before now. but_not r.p r.q before && not (r.p now || r.q now))) (step_more states s)
+    ap (pair_related (λ before now. but_not r.p r.q before && not (r.p now || r.q now))) (step_more states s)
     ∙ lost_same r s (last_or None states)
 
 changed_more : (r : Reading) (states : List State) (s : State) →
     constant_fails r.p (states ++ s ∷ []) ≡ changes (option_map (seen_at r) (last_or None states)) (seen_at r s)
 changed_more r states s =
-    ap (related (λ before now. not (beq (r.p before) (r.p now)))) (step_more states s) ∙ go (last_or None states)
+    ap (pair_related (λ before now. not (beq (r.p before) (r.p now)))) (step_more states s) ∙ go (last_or None states)
   where
-    go : (o : Option State) → related (λ before now. not (beq (r.p before) (r.p now))) (option_map (λ b. (b, s)) o)
+    go : (o : Option State) → pair_related (λ before now. not (beq (r.p before) (r.p now))) (option_map (λ b. (b, s)) o)
         ≡ changes (option_map (seen_at r) o) (seen_at r s)
     go None = refl
     go (Some b) = refl
@@ -192,7 +192,7 @@ made_of kind p q bound helper = record { kind = kind; p = p; q = q; bound = boun
 module _ (x : System) (k : ℕ) (steps : length x.steps ≡ k) (states : List State) (choices more : List ℕ)
     (few : length more ≤ 1) (size : length (choices ++ more) ≡ length states) (s : State) where
   kind_fails : (kind : Kind) (p q : Test) (bound : ℕ) (helper : Option ℕ) →
-      fails kind x (made_of kind p q bound helper) (states ++ s ∷ []) (choices ++ more)
+      fails_over kind x (made_of kind p q bound helper) (states ++ s ∷ []) (choices ++ more)
       ≡ verdict kind x q helper s (findings k (made_of kind p q bound helper) s states choices more)
   kind_fails Kind.Defined p q bound helper = last_holds (is_stuck x) states s
   kind_fails Kind.Invariant p q bound helper = last_holds (λ state. not (p state)) states s
@@ -223,7 +223,7 @@ module _ (x : System) (k : ℕ) (steps : length x.steps ≡ k) (states : List St
   kind_fails Kind.Fixed p q bound helper = last_holds (λ state. p state && not (is_fixed x state)) states s
 
   pub reading_fails : (r : Reading) →
-      fails r.kind x r (states ++ s ∷ []) (choices ++ more)
+      fails_over r.kind x r (states ++ s ∷ []) (choices ++ more)
       ≡ verdict r.kind x r.q r.helper s (findings k r s states choices more)
   reading_fails r = kind_fails r.kind r.p r.q r.bound r.helper
 

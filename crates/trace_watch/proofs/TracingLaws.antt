@@ -19,7 +19,7 @@ use Rattle.meaning_executions.proofs.ExecutionTheorems.{extended}
 use Rattle.trace_watch.specs.declared.violations.Violation.{Violation}
 use Rattle.trace_watch.specs.declared.tracing.Ending.{Ending}
 use Rattle.trace_watch.specs.declared.watch.Watch.{Watch}
-use Rattle.trace_watch.specs.Readings.{Reading, passes, is_stuck, is_violated, fails}
+use Rattle.trace_watch.specs.Readings.{Reading, passes, is_stuck, is_violated, fails_over}
 use Rattle.trace_watch.specs.Cases.{WatchedStep}
 use Rattle.trace_watch.specs.Violations.{violation_of, first_case, first_failing, violation, violation_at}
 use Rattle.trace_watch.specs.Violations.{IsFirstViolation, IsUnviolated}
@@ -101,7 +101,7 @@ goes_on x steps start later choices now choice none w size here less =
     let last = last_at start later (length choices) now size here in
     let stuck : is_stuck x now ≡ false =
     sym (ap (passes (is_stuck x)) last)
-    ∙ ap (λ k. fails k x w.reading (start ∷ later) choices) (sym w.kind) ∙ quiet in
+    ∙ ap (λ k. fails_over k x w.reading (start ∷ later) choices) (sym w.kind) ∙ quiet in
     any_none now x.steps choice stuck less
 
 -- one place more

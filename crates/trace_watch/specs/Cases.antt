@@ -7,7 +7,7 @@ use Rattle.core_terms.specs.declared.trees.Range.{Range}
 use Rattle.core_terms.specs.declared.programs.CProgram.{CProgram}
 use Rattle.core_terms.specs.declared.documents.Helper.{Helper}
 use Rattle.fair_rounds.specs.declared.records.Record.{Record}
-use Rattle.fair_rounds.specs.Records.{holding, is_named}
+use Rattle.fair_rounds.specs.Records.{holding, names_statement}
 use Rattle.trace_watch.specs.Readings.{Reading}
 
 -- how many numbers lie in a range, and which
@@ -30,7 +30,7 @@ case_count (r ∷ rest) = size_of r * case_count rest
 -- the place of the instance that a helper names
 abbrev pub helper_place : CProgram → Option Helper → List ℤ → Option ℕ
 helper_place c None e = None
-helper_place c (Some h) e = position_from (is_named h e) 0 c.statements
+helper_place c (Some h) e = position_from (names_statement h e) 0 c.statements
 
 -- how a record of a program is read, for these numbers of its parameters
 abbrev pub reading_of : CProgram → Record → List ℤ → Reading

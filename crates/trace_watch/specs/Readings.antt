@@ -40,13 +40,13 @@ abbrev pub last_step : List State → Option (State × State)
 last_step [] = None
 last_step (state ∷ later) = last_two state later
 
-abbrev pub related : (State → State → Bool) → Option (State × State) → Bool
-related R None = false
-related R (Some step) = R step.0 step.1
+abbrev pub pair_related : (State → State → Bool) → Option (State × State) → Bool
+pair_related R None = false
+pair_related R (Some step) = R step.0 step.1
 
 -- there is a last step, and it is related so
 abbrev pub at_last_step : (State → State → Bool) → List State → Bool
-at_last_step R states = related R (last_step states)
+at_last_step R states = pair_related R (last_step states)
 
 -- `p unless q`: the state before has p and not q, and the last state has neither
 abbrev pub unless_fails : Test → Test → List State → Bool
@@ -73,21 +73,21 @@ abbrev pub is_helped : System → Test → Option ℕ → Test
 is_helped x q helper state = passes q (option_and_then (λ place. chosen_step x place state) helper)
 
 -- the reading of a kind is violated at the last place of a trace
-abbrev pub fails : Kind → System → Reading → List State → List ℕ → Bool
-fails Kind.Defined x r states choices = at_last (is_stuck x) states
-fails Kind.Invariant x r states choices = at_last (λ state. not (r.p state)) states
-fails Kind.Unless x r states choices = unless_fails r.p r.q states
-fails Kind.Ensures x r states choices =
+abbrev pub fails_over : Kind → System → Reading → List State → List ℕ → Bool
+fails_over Kind.Defined x r states choices = at_last (is_stuck x) states
+fails_over Kind.Invariant x r states choices = at_last (λ state. not (r.p state)) states
+fails_over Kind.Unless x r states choices = unless_fails r.p r.q states
+fails_over Kind.Ensures x r states choices =
     unless_fails r.p r.q states
     || at_last (λ state. but_not r.p r.q state && not (is_helped x r.q r.helper state)) states
-fails Kind.Leadsto x r states choices = leads_fails (length x.steps) r.p r.q r.bound states choices
-fails Kind.Until x r states choices =
+fails_over Kind.Leadsto x r states choices = leads_fails (length x.steps) r.p r.q r.bound states choices
+fails_over Kind.Until x r states choices =
     unless_fails r.p r.q states || leads_fails (length x.steps) r.p r.q r.bound states choices
-fails Kind.Detects x r states choices =
+fails_over Kind.Detects x r states choices =
     at_last (λ state. not (implied r.p r.q state)) states
     || leads_fails (length x.steps) r.q r.p r.bound states choices
-fails Kind.Constant x r states choices = constant_fails r.p states
-fails Kind.Fixed x r states choices = at_last (λ state. r.p state && not (is_fixed x state)) states
+fails_over Kind.Constant x r states choices = constant_fails r.p states
+fails_over Kind.Fixed x r states choices = at_last (λ state. r.p state && not (is_fixed x state)) states
 
 abbrev pub is_violated : System → Reading → List State → List ℕ → Bool
-is_violated x r states choices = fails r.kind x r states choices
+is_violated x r states choices = fails_over r.kind x r states choices

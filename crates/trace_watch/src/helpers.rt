@@ -23,7 +23,7 @@ pub(crate) fn helper_place(p: &CProgram, helper: &Option<Helper>, values: &[i64]
 
 fn place_named(statements: &[Shared<CStmt>], helper: &Helper, values: &[i64]) -> Option<u32>
     requires { length statements.now ≤ 4096 }
-    ensures { result ≡ position_from (records.is_named helper.now values.now) 0 statements.now }
+    ensures { result ≡ position_from (records.names_statement helper.now values.now) 0 statements.now }
 {
     for place in 0..statements.len() {
         if is_named(helper, values, statements[place].get()) {
@@ -34,7 +34,7 @@ fn place_named(statements: &[Shared<CStmt>], helper: &Helper, values: &[i64]) ->
 }
 
 fn is_named(helper: &Helper, values: &[i64], statement: &CStmt) -> bool
-    ensures { result ≡ records.is_named helper.now values.now statement.now }
+    ensures { result ≡ records.names_statement helper.now values.now statement.now }
 {
     statement.label == helper.label
         && are_indices(statement.indices.as_slice(), helper.args.as_slice(), values)

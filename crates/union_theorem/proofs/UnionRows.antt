@@ -8,7 +8,8 @@ use Rattle.core_terms.specs.declared.trees.CForm.TheVariants.{Top, Bottom}
 use Rattle.fair_rounds.specs.declared.records.Record.{Record}
 use Rattle.rules_table.specs.Conclusion.{Conclusion}
 use Rattle.rules_table.specs.Table.{Site, needs, record_of, concluded, shown_forms, is_part_pair, is_unless, is_ensures}
-use Rattle.rules_table.specs.Table.{is_defined, is_invariant, first_helper, ending, union_unless_of, union_ensures_of}
+use Rattle.rules_table.specs.Table.{claims_defined, is_invariant, first_helper, ending, union_unless_of}
+use Rattle.rules_table.specs.Table.{union_ensures_of}
 use Rattle.rules_table.specs.Table.{union_invariant_of, union_defined_of}
 use Rattle.safety_rules.proofs.AnswerLaws.{needs_met, needs_not}
 
@@ -63,7 +64,7 @@ union_invariant-is site a b = refl
 
 pub union_defined-is : (site : Site) (starts : Bool) (a b : Record) → union_defined_of site starts a b ≡
     needs (is_part_pair site a b) Code.OtherProgram
-    (needs (is_defined a.kind && is_defined b.kind) Code.WrongKind
+    (needs (claims_defined a.kind && claims_defined b.kind) Code.WrongKind
     (needs starts Code.NoStart (united_defined site a b)))
 unfolding union_defined_of
 union_defined-is site starts a b = refl

@@ -44,13 +44,13 @@ pub(crate) fn fault_of(pl: &Place, a: &Record, b: &Record, kinds: bool, agree: b
 }
 
 fn is_defined(kind: Kind) -> bool
-    ensures { result ≡ table.is_defined kind }
+    ensures { result ≡ table.claims_defined kind }
 {
     matches!(kind, Kind::Defined)
 }
 
 pub(crate) fn are_defined(a: &Record, b: &Record) -> bool
-    ensures { result ≡ (table.is_defined a.now.kind && table.is_defined b.now.kind) }
+    ensures { result ≡ (table.claims_defined a.now.kind && table.claims_defined b.now.kind) }
 {
     is_defined(a.kind) && is_defined(b.kind)
 }

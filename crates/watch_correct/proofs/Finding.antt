@@ -23,7 +23,7 @@ use Rattle.expand_declarations.specs.WordNumbers.{document_words}
 use Rattle.expand_documents.specs.Cores.{core_document}
 use Rattle.expand_correct.specs.Preserved.Meaning.{IsCoreProgramOf}
 use Rattle.run_traces.specs.Programs.{program_of, scheduled_program}
-use Rattle.run_correct.specs.Names.{is_named, place_of}
+use Rattle.run_correct.specs.Names.{chooses_instance, place_of}
 use Rattle.run_correct.specs.Traces.{first_state, source_system}
 use Rattle.run_correct.proofs.Finding.{no_schedule_source, scheduled_source}
 use Rattle.run_correct.proofs.Replays.{named_same, unknown_source}
@@ -209,7 +209,7 @@ chosen_below c (y ∷ ys) [] e n x at = cc
 chosen_below c (y ∷ ys) (i ∷ is) e zero x at =
     let same : y ≡ x = cc in
     let first : Some y ≡ place_of c i = ap head_of e in
-    let below = place_below (is_named i) 0 c.instances x (sym first ∙ ap Some same) in
+    let below = place_below (chooses_instance i) 0 c.instances x (sym first ∙ ap Some same) in
     omega (arith, below.1, below.2)
   where
     head_of : List (Option ℕ) → Option ℕ

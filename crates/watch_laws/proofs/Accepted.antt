@@ -28,7 +28,7 @@ use Rattle.core_terms.specs.Conditions.{AreApart, IsProgram}
 use Rattle.core_terms.specs.Replacing.{arg_values}
 use Rattle.fair_rounds.specs.declared.records.Record.{Record}
 use Rattle.executor.specs.CoreSystem.{core_system}
-use Rattle.fair_rounds.specs.Records.{holding, are_in_ranges, meets, is_named, EnsuresNamed}
+use Rattle.fair_rounds.specs.Records.{holding, are_in_ranges, meets, names_statement, EnsuresNamed}
 use Rattle.meaning_executions.specs.Counting.{ints_eq}
 use Rattle.fair_rounds.specs.Records.{KindStands, KindHolds, IsKept}
 use Rattle.fair_rounds.proofs.RecordTheorems.{kept_holds}
@@ -56,7 +56,7 @@ int_same (x ∷ xs) (y ∷ ys) h =
     ap (λ z. z ∷ xs) (same_number x y (and_left (int_eq x y) (ints_eq xs ys) h))
     ∙ ap (λ zs. y ∷ zs) (int_same xs ys (and_right (int_eq x y) (ints_eq xs ys) h))
 
-named_once : (h : Helper) (e : List ℤ) (s t : CStmt) → IsTrue (is_named h e s) → IsTrue (is_named h e t) →
+named_once : (h : Helper) (e : List ℤ) (s t : CStmt) → IsTrue (names_statement h e s) → IsTrue (names_statement h e t) →
     AreApart s t → ⊥
 named_once h e s t one two apart =
     let labels : s.label ≡ t.label =
@@ -72,21 +72,22 @@ named_once h e s t one two apart =
 
 first_named : (h : Helper) (e : List ℤ) (ss : List CStmt) (i place : ℕ) (s : CStmt) →
     ((j k : ℕ) (t u : CStmt) → j < k → slice_get ss j ≡ Some t → slice_get ss k ≡ Some u → AreApart t u) →
-    slice_get ss place ≡ Some s → IsTrue (is_named h e s) → position_from (is_named h e) i ss ≡ Some (i + place)
+    slice_get ss place ≡ Some s → IsTrue (names_statement h e s) →
+    position_from (names_statement h e) i ss ≡ Some (i + place)
 first_named h e [] i place s apart at named = cc
 first_named h e (t ∷ ts) i zero s apart at named =
     let same : t ≡ s = cc in
     let sum : i ≡ i + 0 = omega arith in
-    ap (λ b. cond b (Some i) (position_from (is_named h e) (i + 1) ts))
-    (subst (λ v. is_named h e v ≡ true) (sym same) named) ∙ ap Some sum
+    ap (λ b. cond b (Some i) (position_from (names_statement h e) (i + 1) ts))
+    (subst (λ v. names_statement h e v ≡ true) (sym same) named) ∙ ap Some sum
 first_named h e (t ∷ ts) i (suc place) s apart at named =
-    let other : is_named h e t ≡ false = go (is_named h e t) refl in
+    let other : names_statement h e t ≡ false = go (names_statement h e t) refl in
     let sum : i + 1 + place ≡ i + suc place = omega arith in
-    ap (λ b. cond b (Some i) (position_from (is_named h e) (i + 1) ts)) other
+    ap (λ b. cond b (Some i) (position_from (names_statement h e) (i + 1) ts)) other
     ∙ first_named h e ts (i + 1) place s (λ j k u v less a b. apart (suc j) (suc k) u v (omega arith) a b) at named
     ∙ ap Some sum
   where
-    go : (b : Bool) → is_named h e t ≡ b → b ≡ false
+    go : (b : Bool) → names_statement h e t ≡ b → b ≡ false
     go true one = absurd (named_once h e t s one named (apart zero (suc place) t s (omega arith) refl at))
     go false one = refl
 

@@ -13,7 +13,7 @@ use Rattle.meaning_documents.specs.Setting.{slot_ranges}
 use Rattle.meaning_documents.specs.Programs.{document_setting}
 use Rattle.meaning_executions.specs.Execution.{System}
 use Rattle.meaning_documents.specs.AsSystem.{system_of}
-use Rattle.meaning_documents.specs.Claims.{parameters, are_arguments, argument_bindings}
+use Rattle.meaning_documents.specs.Claims.{parameters, are_parameter_values, argument_bindings}
 use Rattle.meaning_executions.specs.Pairwise.{Pairwise}
 use Rattle.meaning_documents.specs.Steps.{ProofStep, document_steps}
 use Rattle.meaning_executions.specs.Alike.{StepEquivalent, SameAt}
@@ -42,7 +42,7 @@ use Rattle.soundness.specs.Properties.{core_of}
 use Rattle.soundness.proofs.PlanRecords.{plan_is_steps}
 use Rattle.soundness.proofs.Sources.{core_steps_are, StandsIn, each_stands}
 use Rattle.trace_watch.specs.declared.violations.Violation.{Violation}
-use Rattle.trace_watch.specs.Readings.{Reading, fails, is_violated}
+use Rattle.trace_watch.specs.Readings.{Reading, fails_over, is_violated}
 use Rattle.trace_watch.specs.Cases.{environments, helper_place, reading_of, is_of, WatchedStep, watched_step}
 use Rattle.trace_watch.specs.Cases.{watched_from}
 use Rattle.trace_watch.specs.Violations.{violation_of, first_case, first_failing}
@@ -59,7 +59,7 @@ same_params : (o : Option (Param × List Param)) → parameters o ≡ some_of o
 same_params None = refl
 same_params (Some ps) = refl
 
-same_numbers : (ps : List Param) (zs : List ℤ) → are_in_ranges (map param_range ps) zs ≡ are_arguments ps zs
+same_numbers : (ps : List Param) (zs : List ℤ) → are_in_ranges (map param_range ps) zs ≡ are_parameter_values ps zs
 same_numbers [] [] = refl
 same_numbers [] (z ∷ zs) = refl
 same_numbers (p ∷ ps) [] = refl
@@ -137,7 +137,7 @@ module _ (d : Document) (named : IsWellNamed d) (faultless : expansion_fault d �
       (second_test (document_setting d) b s.step.claim)
       r.bound (helper_place core r.helper zs) (first_same zs b scope r.p s.step.claim is.p says)
       (second_same zs b scope r.q s.step.claim is.q says) states choices inside r.kind
-      ∙ ap (λ k. fails k y (made_of k (first_test (document_setting d) b s.step.claim)
+      ∙ ap (λ k. fails_over k y (made_of k (first_test (document_setting d) b s.step.claim)
       (second_test (document_setting d) b s.step.claim) r.bound (helper_place core r.helper zs)) states choices) is.kind
 
   -- a step

@@ -11,9 +11,9 @@ use Rattle.meaning_executions.specs.Execution.{Act, System, act_step, chosen_ste
 use Rattle.meaning_executions.specs.Properties.{Test, but_not, implied}
 use Rattle.meaning_executions.specs.Rounds.{rounds}
 use Rattle.meaning_executions.specs.Alike.{StepEquivalent, SameAt}
-use Rattle.trace_watch.specs.Readings.{passes, at_last, last_two, related, at_last_step, unless_fails}
+use Rattle.trace_watch.specs.Readings.{passes, at_last, last_two, pair_related, at_last_step, unless_fails}
 use Rattle.fixed_points.specs.FixedPoints.{leads_to, is_fixed}
-use Rattle.trace_watch.specs.Readings.{leads_fails, is_stuck, is_helped, fails}
+use Rattle.trace_watch.specs.Readings.{leads_fails, is_stuck, is_helped, fails_over}
 use Rattle.trace_watch.proofs.TraceLaws.{made_of}
 
 module _ (ranges : Ranges) where
@@ -40,13 +40,13 @@ module _ (ranges : Ranges) where
 
   two_same : (R R' : State → State → Bool) → ((a b : State) → IsTrue (is_state ranges a) →
       IsTrue (is_state ranges b) → R a b ≡ R' a b) → (s : State) (ss : List State) → IsTrue (is_state ranges s) →
-      Inside ss → related R (last_two s ss) ≡ related R' (last_two s ss)
+      Inside ss → pair_related R (last_two s ss) ≡ pair_related R' (last_two s ss)
   two_same R R' same s [] here later = refl
   two_same R R' same s (u ∷ us) here later =
       go (last_two u us) (two_same R R' same u us later.0 later.1)
     where
-      go : (o : Option (State × State)) → related R o ≡ related R' o →
-          related R (option_or o (Some (s, u))) ≡ related R' (option_or o (Some (s, u)))
+      go : (o : Option (State × State)) → pair_related R o ≡ pair_related R' o →
+          pair_related R (option_or o (Some (s, u))) ≡ pair_related R' (option_or o (Some (s, u)))
       go None e = same s u here later.0
       go (Some step) e = e
 
@@ -135,8 +135,8 @@ module _ (ranges : Ranges) where
           ap (λ k. leads_fails k p q bound states choices) alike.count
           ∙ leads_same (length y.steps) p p' q q' bound same_p same_q states choices inside
 
-      pub fails_alike : (kind : Kind) → fails kind x (made_of kind p q bound helper) states choices
-          ≡ fails kind y (made_of kind p' q' bound helper) states choices
+      pub fails_alike : (kind : Kind) → fails_over kind x (made_of kind p q bound helper) states choices
+          ≡ fails_over kind y (made_of kind p' q' bound helper) states choices
       fails_alike Kind.Defined = last_same (is_stuck x) (is_stuck y) stuck_same states inside
       fails_alike Kind.Invariant =
           last_same (λ s. not (p s)) (λ s. not (p' s)) (λ s here. ap not (same_p s here)) states inside

@@ -18,9 +18,9 @@ use Rattle.meaning_executions.proofs.PropertyTheorems.{leads_is_follows}
 use Rattle.core_terms.proofs.BoolLaws.{le_passes}
 use Rattle.meaning_executions.specs.Counting.{ints_eq}
 use Rattle.std.specs.Int.RustNames.{int_le}
-use Rattle.trace_watch.specs.Readings.{passes, at_last, last_two, related, at_last_step, unless_fails}
+use Rattle.trace_watch.specs.Readings.{passes, at_last, last_two, pair_related, at_last_step, unless_fails}
 use Rattle.fixed_points.specs.FixedPoints.{leads_to, is_fixed}
-use Rattle.trace_watch.specs.Readings.{Reading, leads_fails, is_stuck, is_helped, fails}
+use Rattle.trace_watch.specs.Readings.{Reading, leads_fails, is_stuck, is_helped, fails_over}
 
 -- what a reading says of all executions; the instance of an ensures is the one that is to help
 abbrev pub ReadingHolds : Kind → System → Reading → Type 0
@@ -48,13 +48,13 @@ last_false t s ss each = go s ss each
 
 two_false : (R : State → State → Bool) (s : State) (ss : List State) → ((place : ℕ) (a b : State) →
     slice_get (s ∷ ss) place ≡ Some a → slice_get (s ∷ ss) (suc place) ≡ Some b → R a b ≡ false) →
-    related R (last_two s ss) ≡ false
+    pair_related R (last_two s ss) ≡ false
 two_false R s [] each = refl
 two_false R s (u ∷ us) each =
     go (last_two u us) (two_false R u us (λ place a b e f. each (suc place) a b e f)) (each zero s u refl refl)
   where
-    go : (o : Option (State × State)) → related R o ≡ false → R s u ≡ false →
-        related R (option_or o (Some (s, u))) ≡ false
+    go : (o : Option (State × State)) → pair_related R o ≡ false → R s u ≡ false →
+        pair_related R (option_or o (Some (s, u))) ≡ false
     go None e here = here
     go (Some step) e here = e
 
@@ -207,7 +207,7 @@ module _ (x : System) (first : State) (choices : List ℕ) (later : List State) 
 
     -- by kind
     pub unviolated : (kind : Kind) (r : Reading) → ReadingHolds kind x r →
-        fails kind x r (first ∷ later) choices ≡ false
+        fails_over kind x r (first ∷ later) choices ≡ false
     unviolated Kind.Defined r holds =
         last_false (is_stuck x) first later (λ place s e.
         none_any (λ act. is_none (act s)) x.steps (λ n act f.

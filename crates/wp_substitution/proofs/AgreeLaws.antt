@@ -13,7 +13,7 @@ use Rattle.wp_substitution.specs.Preconditions.{pair_form, writes_to, pair_forms
 use Rattle.wp_substitution.specs.Joined.{joined_all, or_top, IsFolded, known_write, known_pair}
 use Rattle.wp_substitution.specs.Oversized.{is_open}
 use Rattle.wp_substitution.specs.Agreeing.{made_number, number_given, first_number, number_at, first_given, are_one}
-use Rattle.wp_substitution.specs.Agreeing.{agrees, agree}
+use Rattle.wp_substitution.specs.Agreeing.{value_agrees, writes_agree}
 use Rattle.meaning_states.proofs.StepTheorems.{same_number}
 use Rattle.core_terms.proofs.IntTests.{zero_tests}
 use Rattle.wp_substitution.proofs.JoinedLaws.{joined-append, rest_of}
@@ -63,7 +63,7 @@ one_number true false x y = refl
 one_number false b x y = refl
 
 pair_agrees : (w v : CWrite) → Closed w → Closed v →
-    truth_of (pair_form w v) ≡ Some (agrees w (number_given v))
+    truth_of (pair_form w v) ≡ Some (value_agrees w (number_given v))
 pair_agrees w v c d =
     let first : number_given w ≡ made_number (Some c.made) (Some c.number) =
     ap (λ m. made_number m (number_of w.value)) c.truth ∙ ap (made_number (Some c.made)) c.value in
@@ -124,7 +124,7 @@ second_false false b h = h
 
 abbrev row : CWrite → ℕ → List CWrite → Bool
 row w n [] = true
-row w n (v ∷ vs) = cond (nat_eq n v.slot) (agrees w (number_given v) && row w n vs) (row w n vs)
+row w n (v ∷ vs) = cond (nat_eq n v.slot) (value_agrees w (number_given v) && row w n vs) (row w n vs)
 
 row_joined : (w : CWrite) → Closed w → (n : ℕ) (vs : List CWrite) → AllClosed vs → (g : CForm) → Settled g →
     joined_all (Some g) (map (pair_form w) (writes_to n vs)) ≡ Some (cond (row w n vs) g Bottom)
@@ -137,7 +137,7 @@ row_joined w c n (v ∷ vs) closed g s =
         joined_all (Some h) (map (pair_form w) (writes_to n vs)) ≡ Some (cond (row w n vs) h Bottom)) →
         joined_all (Some g) (map (pair_form w) (writes_to n (v ∷ vs))) ≡ Some (cond (row w n (v ∷ vs)) g Bottom)
     go true e d later =
-        let same = agrees w (number_given v) in
+        let same = value_agrees w (number_given v) in
         ap (λ b. joined_all (Some g) (map (pair_form w) (cond b (v ∷ writes_to n vs) (writes_to n vs)))) e
         ∙ ap (λ h. joined_all (Some h) (map (pair_form w) (writes_to n vs)))
         (and_settled g (pair_form w v) s same (pair_agrees w v c d))
@@ -146,7 +146,7 @@ row_joined w c n (v ∷ vs) closed g s =
     go false e d later =
         ap (λ b. joined_all (Some g) (map (pair_form w) (cond b (v ∷ writes_to n vs) (writes_to n vs)))) e
         ∙ later g s
-        ∙ ap (λ b. Some (cond (cond b (agrees w (number_given v) && row w n vs) (row w n vs)) g Bottom)) (sym e)
+        ∙ ap (λ b. Some (cond (cond b (value_agrees w (number_given v) && row w n vs) (row w n vs)) g Bottom)) (sym e)
 
 none_differs : (m : Option ℤ) → are_one m None ≡ true
 none_differs None = refl
@@ -176,10 +176,12 @@ turned m n false e = go (nat_eq n m) refl
     go true k = sym (eq-eqb m n (sym (eqb-true n m k))) ∙ e
     go false k = refl
 
-row_is : (w : CWrite) (n : ℕ) (vs : List CWrite) → agree vs ≡ true → row w n vs ≡ agrees w (first_given n vs)
+row_is : (w : CWrite) (n : ℕ) (vs : List CWrite) → writes_agree vs ≡ true →
+    row w n vs ≡ value_agrees w (first_given n vs)
 row_is w n [] same = sym (none_differs (number_given w))
 row_is w n (v ∷ vs) same =
-    go (nat_eq n v.slot) refl (row_is w n vs (both_first (agree vs) _ same)) (both_second (agree vs) _ same)
+    go (nat_eq n v.slot) refl (row_is w n vs (both_first (writes_agree vs) _ same))
+    (both_second (writes_agree vs) _ same)
   where
     both_first : (a b : Bool) → (a && b) ≡ true → a ≡ true
     both_first true b h = refl
@@ -189,23 +191,24 @@ row_is w n (v ∷ vs) same =
     both_second true b h = h
     both_second false b h = cc
 
-    go : (b : Bool) → nat_eq n v.slot ≡ b → row w n vs ≡ agrees w (first_given n vs) →
-        agrees v (first_given v.slot vs) ≡ true → row w n (v ∷ vs) ≡ agrees w (first_given n (v ∷ vs))
+    go : (b : Bool) → nat_eq n v.slot ≡ b → row w n vs ≡ value_agrees w (first_given n vs) →
+        value_agrees v (first_given v.slot vs) ≡ true → row w n (v ∷ vs) ≡ value_agrees w (first_given n (v ∷ vs))
     go true e later one =
         let given = number_given v in
         let slot : n ≡ v.slot = eqb-true n v.slot e in
-        ap (λ b. cond b (agrees w given && row w n vs) (row w n vs)) e
-        ∙ ap (λ b. agrees w given && b) later
-        ∙ first_decides (number_given w) given (first_given n vs) (ap (λ k. agrees v (first_given k vs)) slot ∙ one)
-        ∙ ap (λ b. agrees w (cond b (number_at v (first_given n vs)) (first_given n vs)))
+        ap (λ b. cond b (value_agrees w given && row w n vs) (row w n vs)) e
+        ∙ ap (λ b. value_agrees w given && b) later
+        ∙ first_decides (number_given w) given (first_given n vs)
+        (ap (λ k. value_agrees v (first_given k vs)) slot ∙ one)
+        ∙ ap (λ b. value_agrees w (cond b (number_at v (first_given n vs)) (first_given n vs)))
         (sym (turned n v.slot true e))
     go false e later one =
-        ap (λ b. cond b (agrees w (number_given v) && row w n vs) (row w n vs)) e ∙ later
-        ∙ ap (λ b. agrees w (cond b (number_at v (first_given n vs)) (first_given n vs)))
+        ap (λ b. cond b (value_agrees w (number_given v) && row w n vs) (row w n vs)) e ∙ later
+        ∙ ap (λ b. value_agrees w (cond b (number_at v (first_given n vs)) (first_given n vs)))
         (sym (turned n v.slot false e))
 
 all_joined : (ws : List CWrite) → AllClosed ws → (g : CForm) → Settled g →
-    joined_all (Some g) (pair_forms ws) ≡ Some (cond (agree ws) g Bottom)
+    joined_all (Some g) (pair_forms ws) ≡ Some (cond (writes_agree ws) g Bottom)
 all_joined [] closed g s = refl
 all_joined (w ∷ ws) closed g s =
     let own = closed_write w (first_false (is_open w) (list_any is_open ws) closed) in
@@ -214,21 +217,21 @@ all_joined (w ∷ ws) closed g s =
     joined-append (Some g) (map (pair_form w) (writes_to w.slot ws)) (pair_forms ws)
     ∙ ap (λ o. joined_all o (pair_forms ws)) (row_joined w own w.slot ws others g s)
     ∙ all_joined ws others (cond r g Bottom) (settled_or g s r)
-    ∙ ap Some (go (agree ws) refl)
+    ∙ ap Some (go (writes_agree ws) refl)
   where
-    go : (b : Bool) → agree ws ≡ b → cond b (cond (row w w.slot ws) g Bottom) Bottom
-        ≡ cond (b && agrees w (first_given w.slot ws)) g Bottom
+    go : (b : Bool) → writes_agree ws ≡ b → cond b (cond (row w w.slot ws) g Bottom) Bottom
+        ≡ cond (b && value_agrees w (first_given w.slot ws)) g Bottom
     go true e = ap (λ c. cond c g Bottom) (row_is w w.slot ws e)
     go false e = refl
 
 -- so with all pairs of closed writes a settled conjunction stays, or fails
 pub closed_joined : (o : Option CForm) (m : Option Bool) (ws : List CWrite) → (is_some o && is_some m) ≡ true →
     m ≡ truth_of (or_top o) → IsFolded (or_top o) → AllClosed ws →
-    joined_all o (pair_forms ws) ≡ cond (agree ws) o (Some Bottom)
+    joined_all o (pair_forms ws) ≡ cond (writes_agree ws) o (Some Bottom)
 closed_joined None m ws there truth folded closed = cc
 closed_joined (Some g) None ws there truth folded closed = cc
 closed_joined (Some g) (Some b) ws there truth folded closed =
-    all_joined ws closed g (record { truth = b; known = sym truth; folded = folded }) ∙ go (agree ws)
+    all_joined ws closed g (record { truth = b; known = sym truth; folded = folded }) ∙ go (writes_agree ws)
   where
     go : (c : Bool) → ◌≡◌ {A = Option CForm} (Some (cond c g Bottom)) (cond c (Some g) (Some Bottom))
     go true = refl
@@ -236,18 +239,19 @@ closed_joined (Some g) (Some b) ws there truth folded closed =
 
 -- ---- writes of which one doesn't agree with a later one
 
-never_all : (ws : List CWrite) (i : ℕ) → agree (drop i ws) ≡ false → agree ws ≡ false
+never_all : (ws : List CWrite) (i : ℕ) → writes_agree (drop i ws) ≡ false → writes_agree ws ≡ false
 never_all ws zero h = h
 never_all [] (suc i) h = h
-never_all (w ∷ ws) (suc i) h = ap (λ b. b && agrees w (first_given w.slot ws)) (never_all ws i h)
+never_all (w ∷ ws) (suc i) h = ap (λ b. b && value_agrees w (first_given w.slot ws)) (never_all ws i h)
 
 with_false : (b : Bool) → (b && false) ≡ false
 with_false true = refl
 with_false false = refl
 
 pub not_agreeing : (ws : List CWrite) (i : ℕ) (w : CWrite) (later : Option ℤ) → i < length ws → w ≡ get_or ws i w →
-    later ≡ first_given w.slot (drop (i + 1) ws) → agrees w later ≡ false → false ≡ agree ws
+    later ≡ first_given w.slot (drop (i + 1) ws) → value_agrees w later ≡ false → false ≡ writes_agree ws
 not_agreeing ws i w later less item is differs =
     let rest = drop (i + 1) ws in
-    sym (never_all ws i (ap agree (rest_of ws i w less item) ∙ ap (λ k. agree rest && agrees w k) (sym is)
-    ∙ ap (λ b. agree rest && b) differs ∙ with_false (agree rest)))
+    sym (never_all ws i (ap writes_agree (rest_of ws i w less item) ∙
+    ap (λ k. writes_agree rest && value_agrees w k) (sym is)
+    ∙ ap (λ b. writes_agree rest && b) differs ∙ with_false (writes_agree rest)))

@@ -32,10 +32,10 @@ are_one None later = true
 are_one (Some z) None = true
 are_one (Some z) (Some y) = int_eq z y
 
-abbrev pub agrees : CWrite → Option ℤ → Bool
-agrees w later = are_one (number_given w) later
+abbrev pub value_agrees : CWrite → Option ℤ → Bool
+value_agrees w later = are_one (number_given w) later
 
 -- the writes to one slot that are made give it one number
-abbrev pub agree : List CWrite → Bool
-agree [] = true
-agree (w ∷ ws) = agree ws && agrees w (first_given w.slot ws)
+abbrev pub writes_agree : List CWrite → Bool
+writes_agree [] = true
+writes_agree (w ∷ ws) = writes_agree ws && value_agrees w (first_given w.slot ws)

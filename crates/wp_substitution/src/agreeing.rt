@@ -14,7 +14,7 @@ use std::collections::BTreeMap;
 /// Whether the writes to one slot that are made all give it one number.
 pub(crate) fn agree(alloc: Global, writes: &[CWrite]) -> Result<bool, AllocError>
     requires { All IsLightWrite writes.now }
-    ensures { IfOk result (λ same. same ≡ agreeing.agree writes.now) }
+    ensures { IfOk result (λ same. same ≡ agreeing.writes_agree writes.now) }
 {
     let mut numbers = BTreeMap::new(alloc);
     let mut left = writes.len();
@@ -30,7 +30,7 @@ pub(crate) fn agree(alloc: Global, writes: &[CWrite]) -> Result<bool, AllocError
 // Whether a write agrees with the later one to its slot whose number the table has; its own number is then in it.
 fn put_number(numbers: &mut BTreeMap<u32, i128>, w: &CWrite) -> Result<bool, AllocError>
     requires { IsLightWrite w.now }
-    ensures same { IfOk result (λ same. same ≡ agreeing.agrees w.now (get nat_cmp numbers.old w.now.slot)) }
+    ensures same { IfOk result (λ same. same ≡ agreeing.value_agrees w.now (get nat_cmp numbers.old w.now.slot)) }
     ensures numbers { OnOk result ((n : ℕ) → get nat_cmp numbers.new n ≡
         cond (nat_eq w.now.slot n) (agreeing.number_at w.now (get nat_cmp numbers.old n))
         (get nat_cmp numbers.old n)) }

@@ -14,7 +14,7 @@ use Rattle.unity_syntax.specs.declared.proof.Step.{Step}
 use Rattle.meaning_states.specs.State.{in_range}
 use Rattle.meaning_documents.specs.Names.{Bindings}
 use Rattle.meaning_documents.specs.Value.{range_ends}
-use Rattle.meaning_documents.specs.Claims.{parameters, are_arguments, argument_bindings}
+use Rattle.meaning_documents.specs.Claims.{parameters, are_parameter_values, argument_bindings}
 use Rattle.names_rules.specs.declared.named.Named.{Named}
 use Rattle.names_rules.specs.declared.named.Meaning.{Meaning}
 use Rattle.names_rules.specs.Scope.{Table, Params, found, bound_named, visible}
@@ -124,7 +124,7 @@ module _ (names : Table) where
   bound_after : (ps : List Param) (params : Params) (bs : List (List ℕ × Bound)) (front rest : List ℤ) →
       (run (param_part names) params ps).fault ≡ None →
       ((word : List ℕ) → is_some (lookup (bytes_eq word) params) ≡ is_some (lookup (bytes_eq word) bs)) →
-      length front ≡ length bs → are_arguments ps rest ≡ true →
+      length front ≡ length bs → are_parameter_values ps rest ≡ true →
       values_of (front ++ rest) (fold with_param_bound bs ps)
       ≡ values_of (front ++ rest) bs ++ argument_bindings ps rest
   bound_after [] params bs front rest h same long fit = sym (append-nil (values_of (front ++ rest) bs))
@@ -143,10 +143,10 @@ module _ (names : Table) where
       (bound_after ps part.after cs (front ++ z ∷ []) rest (earlier_second part.fault more.fault h)
       (known_with params (length params) bs cs p.name.text b entered same)
       (one_longer front bs z (p.name.text, b) long)
-      (and_second (in_range (Some (range_ends [] p.range)) z) (are_arguments ps rest) fit)))
+      (and_second (in_range (Some (range_ends [] p.range)) z) (are_parameter_values ps rest) fit)))
 
   arguments_bound_by : (ps : List Param) (zs : List ℤ) → (run (param_part names) [] ps).fault ≡ None →
-      are_arguments ps zs ≡ true → values_of zs (param_bounds ps) ≡ argument_bindings ps zs
+      are_parameter_values ps zs ≡ true → values_of zs (param_bounds ps) ≡ argument_bindings ps zs
   arguments_bound_by ps zs h fit = bound_after ps [] [] [] zs h (λ word. refl) refl fit
 
 same_params : (o : Option (Param × List Param)) → parameters o ≡ some_of o
@@ -172,7 +172,7 @@ arguments_bound d named place at proof e number step f zs fit =
     let same = same_params step.params in
     arguments_bound_by before.names (some_of step.params) zs
     (params_faultless before.programs before.names (run g [] (take number proof.steps)).after step faultless)
-    (subst (λ (ps : List Param). are_arguments ps zs ≡ true) same fit)
+    (subst (λ (ps : List Param). are_parameter_values ps zs ≡ true) same fit)
     ∙ ap (λ ps. argument_bindings ps zs) (sym same)
 
 pub claims_say : ClaimsSay

@@ -26,7 +26,7 @@ use Rattle.names_rules.specs.declared.named.Named.{Named}
 use Rattle.names_rules.specs.Scope.{Scope as NameScope, found, is_param, with_bound, bound_named, visible}
 use Rattle.meaning_documents.specs.Names.{variable_named}
 use Rattle.names_laws.specs.Attributes as names
-use Rattle.names_laws.specs.Attributes.{Attributes, Attributed, attributes, attribute_layer, is_exact}
+use Rattle.names_laws.specs.Attributes.{Attributes, Attributed, attributes, attribute_layer, exact_in}
 use Rattle.names_laws.specs.AssignmentLaws.{Exactness, is_exact_or_none, has_exact_index, is_exact_alternative}
 use Rattle.names_laws.specs.AssignmentLaws.{is_exact_further, are_exact_alternatives, exact_component, exact_assign}
 use Rattle.expand_rules.specs.declared.cores.Core.{Core}
@@ -42,7 +42,8 @@ use Rattle.expand_rules.specs.Forming.{quotient_weight, remainder_weight, factor
 use Rattle.expand_rules.specs.Forming.{factored, implication, conjunction, disjunction, denial, equation_by, comparison}
 use Rattle.expand_rules.specs.Forming.{signed, plus, array_formed, element_by, element_of, formed_or_zero}
 use Rattle.expand_rules.specs.Forming.{bound_formed, variable_formed, word_formed, gathered_by, gathered}
-use Rattle.expand_rules.specs.Forming.{number_constant, is_number, is_fixed, is_fixed_range, numbers, fit_values}
+use Rattle.expand_rules.specs.Forming.{number_constant, stands_for_number, is_number_end, is_fixed_range, numbers}
+use Rattle.expand_rules.specs.Forming.{fit_values}
 use Rattle.expand_rules.specs.Forming.{Forming, form_layer, formed}
 use Rattle.expand_rules.specs.Assigning.{nothing, beside, write_to, element_effect, indexed_effect, target_effect}
 use Rattle.expand_rules.specs.Assigning.{is_outside}
@@ -260,24 +261,24 @@ keeps_gathered _ a f k zs = keeps_gathered_by sum sum_plain _ refl refl as_numbe
 
 some_number : (n : NameScope) (s : Scope) → Agrees n s → (word : List ℕ) (m : Option Meaning) → lookup (bytes_eq word)
     n.bounds ≡ m →
-    names.is_number m ≡ true → is_number (lookup (bytes_eq word) s.bound) ≡ true
+    names.means_number m ≡ true → stands_for_number (lookup (bytes_eq word) s.bound) ≡ true
 some_number n s g word None e h = cc h
 some_number n s g word (Some m) e h =
-    let found = g.bounds word m e (not_true (is_param m) h) in ap is_number found.1
+    let found = g.bounds word m e (not_true (is_param m) h) in ap stands_for_number found.1
   where
     not_true : (b : Bool) → not b ≡ true → b ≡ false
     not_true true i = cc i
     not_true false i = refl
 
 fixed_end : (n : NameScope) (s : Scope) → Agrees n s → (e : End) → names.is_fixed_end n.bounds e ≡ true →
-    is_fixed s.bound e ≡ true
+    is_number_end s.bound e ≡ true
 fixed_end n s g (End.Number at minus number) h = refl
 fixed_end n s g (End.Word at name offset) h = some_number n s g name.text (lookup (bytes_eq name.text) n.bounds) refl
     h
 
-pub fixed_range : (n : NameScope) (s : Scope) → Agrees n s → (r : Range) → names.is_fixed n.bounds r ≡ true →
+pub fixed_range : (n : NameScope) (s : Scope) → Agrees n s → (r : Range) → names.has_fixed_ends n.bounds r ≡ true →
     is_fixed_range s.bound r ≡ true
-fixed_range n s g r h = both_true (is_fixed s.bound r.low) (is_fixed s.bound r.high)
+fixed_range n s g r h = both_true (is_number_end s.bound r.low) (is_number_end s.bound r.high)
     (fixed_end n s g r.low (and_left (names.is_fixed_end n.bounds r.low) (names.is_fixed_end n.bounds r.high) h))
     (fixed_end n s g r.high (and_right (names.is_fixed_end n.bounds r.low) (names.is_fixed_end n.bounds r.high) h))
 
@@ -323,7 +324,7 @@ agrees_inside n s g name at z = record {
 -- words
 
 word_constant : (n : NameScope) (s : Scope) → Agrees n s → (word : List ℕ) (m : Option Named) → found n word ≡ m →
-    names.is_constant m ≡ true → (word_formed s word).constant ≡ true
+    names.is_constant_word m ≡ true → (word_formed s word).constant ≡ true
 word_constant n s g word None e h = cc h
 word_constant n s g word (Some named) e h = g.constant word named e h
 
@@ -385,9 +386,9 @@ layer (Expr-F.Quantified at which name range of) n s g =
       exact = λ h.
           let told = of.0 (with_bound n name.text (Meaning.Bound name.at)) in
           both_true (is_fixed_range s.bound range) _ (fixed_range n s g range
-          (and_left (names.is_fixed n.bounds range)
+          (and_left (names.has_fixed_ends n.bounds range)
           told.exact h))
-          (all.exact (and_right (names.is_fixed n.bounds range) told.exact h));
+          (all.exact (and_right (names.has_fixed_ends n.bounds range) told.exact h));
     }
 
 pub kept_law : (e : Expr) → Kept (attributes e) (forming e)
@@ -419,10 +420,10 @@ indexed_exact i None c v = refl
 indexed_exact i (Some x) c v = element_effect_exact i x.first x.indices c v
 
 module _ (n : NameScope) (s : Scope) (g : Agrees n s) where
-  value_exact : (e : Expr) → is_exact e n ≡ true → (as_number (formed e s)).exact ≡ true
+  value_exact : (e : Expr) → exact_in e n ≡ true → (as_number (formed e s)).exact ≡ true
   value_exact e h = expressions_exact e n s g h
 
-  target_exact : (d : Target) (e : Expr) (c : Formed) → has_exact_index n d ≡ true → is_exact e n ≡ true →
+  target_exact : (d : Target) (e : Expr) (c : Formed) → has_exact_index n d ≡ true → exact_in e n ≡ true →
       (target_effect (variable_named d.name.text s.variables) (index_formed s d.index) c
       (as_number (formed e s)) (unwritten_count e s)).exact ≡ true
   target_exact d e c h i = by d.index h
@@ -436,16 +437,16 @@ module _ (n : NameScope) (s : Scope) (g : Agrees n s) where
           (as_number (formed x s)) (variable_named d.name.text s.variables) c (as_number (formed e s))))
 
   paired_exact : (ts : List Target) (es : List Expr) (c : Formed) → list_all (has_exact_index n) ts ≡ true →
-      list_all (λ e. is_exact e n) es ≡ true →
+      list_all (λ e. exact_in e n) es ≡ true →
       (paired_effect s ts es c).exact ≡ true
   paired_exact [] es c h i = refl
   paired_exact (d ∷ ts) [] c h i = refl
   paired_exact (d ∷ ts) (e ∷ es) c h i = both_true _ _
       (target_exact d e c (and_left (has_exact_index n d) (list_all (has_exact_index n) ts) h)
-      (and_left (is_exact e n)
-      (list_all (λ x. is_exact x n) es) i))
+      (and_left (exact_in e n)
+      (list_all (λ x. exact_in x n) es) i))
       (paired_exact ts es c (and_right (has_exact_index n d) (list_all (has_exact_index n) ts) h)
-      (and_right (is_exact e n) (list_all (λ x. is_exact x n) es) i))
+      (and_right (exact_in e n) (list_all (λ x. exact_in x n) es) i))
 
   condition_exact : (o : Option Expr) → is_exact_or_none n o ≡ true → (condition s o).exact ≡ true
   condition_exact None h = refl
@@ -456,8 +457,8 @@ module _ (n : NameScope) (s : Scope) (g : Agrees n s) where
       is_exact_alternative n values o ≡ true → (alternative_effect s ts (values, o)).exact ≡ true
   alternative_exact ts values o h i =
       let es = values.first ∷ values.rest in
-      both_true _ _ (condition_exact o (and_right (list_all (λ e. is_exact e n) es) (is_exact_or_none n o) i))
-      (paired_exact ts es (condition s o) h (and_left (list_all (λ e. is_exact e n) es) (is_exact_or_none n o) i))
+      both_true _ _ (condition_exact o (and_right (list_all (λ e. exact_in e n) es) (is_exact_or_none n o) i))
+      (paired_exact ts es (condition s o) h (and_left (list_all (λ e. exact_in e n) es) (is_exact_or_none n o) i))
 
   further_exact : (ts : List Target) (e : Effect) (more : List (Values × Expr)) → list_all (has_exact_index n) ts ≡
       true →
@@ -500,11 +501,11 @@ component_exact (Component-F.Set at first rest alts) n s g h =
 component_exact (Component-F.Quantified at name range of) n s g h =
     let inner = of.0 (with_bound n name.text (Meaning.Bound name.at)) in
     both_true (is_fixed_range s.bound range) _ (fixed_range n s g range
-    (and_left (names.is_fixed n.bounds range) inner
+    (and_left (names.has_fixed_ends n.bounds range) inner
     h))
     (instances_exact (λ z. of.1 (with_number s name.text z))
     (λ z. of.2 (with_bound n name.text (Meaning.Bound name.at)) (with_number s name.text z)
-    (agrees_inside n s g name.text name.at z) (and_right (names.is_fixed n.bounds range) inner h))
+    (agrees_inside n s g name.text name.at z) (and_right (names.has_fixed_ends n.bounds range) inner h))
     nothing refl (fit_values (numbers s.bound) range))
 
 rest_exact : (n : NameScope) (s : Scope) → Agrees n s → (e : Effect) → e.exact ≡ true → (ks : List Component) →

@@ -54,7 +54,7 @@ use Rattle.expand_rules.specs.Forming.{is_zero, denial}
 use Rattle.expand_rules.specs.Forming.{conjunction, disjunction, implication, equation_by, equation, excess}
 use Rattle.expand_rules.specs.Forming.{comparison, signed, plus, bound_formed, typed, variable_formed}
 use Rattle.expand_rules.specs.Forming.{formed_or_zero, word_formed, no_element, array_formed, element_by}
-use Rattle.expand_rules.specs.Forming.{element_of, gathered_by, gathered, numbers, is_number, is_fixed}
+use Rattle.expand_rules.specs.Forming.{element_of, gathered_by, gathered, numbers, stands_for_number, is_number_end}
 use Rattle.expand_rules.specs.Forming.{is_fixed_range, fit_values, quantified, Forming, factor_at, form_layer}
 use Rattle.expand_rules.specs.Forming.{forming}
 use Rattle.expand_correct.specs.Values.Worth.{core_value, bound_value, values_of}
@@ -621,11 +621,11 @@ module _ (state params : List ℤ) where
     bits = h.bits;
   }
 
-  fixed_name : (name : List ℕ) (bs : List (List ℕ × Bound)) → is_number (lookup (bytes_eq name) bs) ≡ true →
+  fixed_name : (name : List ℕ) (bs : List (List ℕ × Bound)) → stands_for_number (lookup (bytes_eq name) bs) ≡ true →
       number_named name (values_of params bs) ≡ number_named name (numbers bs)
   fixed_name name [] = λ h. refl
   fixed_name name ((n, Bound.Number z) ∷ rest) =
-      elim (bytes_eq name n) as (λ b. is_number (cond b (Some (Bound.Number z)) (lookup (bytes_eq name) rest)) ≡
+      elim (bytes_eq name n) as (λ b. stands_for_number (cond b (Some (Bound.Number z)) (lookup (bytes_eq name) rest)) ≡
       true →
       cond b (Some z) (number_named name (values_of params rest)) ≡ cond b (Some z) (number_named name
       (numbers rest))) [
@@ -633,7 +633,8 @@ module _ (state params : List ℤ) where
         | false ↦ λ h. fixed_name name rest h
       ]
   fixed_name name ((n, Bound.Param k weight) ∷ rest) =
-      elim (bytes_eq name n) as (λ b. is_number (cond b (Some (Bound.Param k weight)) (lookup (bytes_eq name) rest)) ≡
+      elim (bytes_eq name n) as (λ b. stands_for_number
+      (cond b (Some (Bound.Param k weight)) (lookup (bytes_eq name) rest)) ≡
       true →
       cond b (Some (number_at params k)) (number_named name (values_of params rest)) ≡ cond b (Some (pos 0))
       (number_named name (numbers rest))) [
@@ -641,7 +642,7 @@ module _ (state params : List ℤ) where
         | false ↦ λ h. fixed_name name rest h
       ]
 
-  fixed_end : (bs : List (List ℕ × Bound)) (e : End) → is_fixed bs e ≡ true → end_value (values_of params bs) e ≡
+  fixed_end : (bs : List (List ℕ × Bound)) (e : End) → is_number_end bs e ≡ true → end_value (values_of params bs) e ≡
       end_value (numbers bs) e
   fixed_end bs (End.Number at minus number) h = refl
   fixed_end bs (End.Word at name offset) h = ap (λ v. source.with_offset (or_zero v) offset) (fixed_name name.text bs
@@ -650,8 +651,8 @@ module _ (state params : List ℤ) where
   fixed_range : (bs : List (List ℕ × Bound)) (r : Range) → is_fixed_range bs r ≡ true → range_values
       (values_of params bs) r ≡ range_values (numbers bs) r
   fixed_range bs r h =
-      let l = fixed_end bs r.low (and_left (is_fixed bs r.low) (is_fixed bs r.high) h) in
-      let k = fixed_end bs r.high (and_right (is_fixed bs r.low) (is_fixed bs r.high) h) in
+      let l = fixed_end bs r.low (and_left (is_number_end bs r.low) (is_number_end bs r.high) h) in
+      let k = fixed_end bs r.high (and_right (is_number_end bs r.low) (is_number_end bs r.high) h) in
       ap (λ a. count_up a (range_size (a, end_value (values_of params bs) r.high))) l
       ∙ ap (λ a. count_up (end_value (numbers bs) r.low) (range_size (end_value (numbers bs) r.low, a))) k
 

@@ -9,7 +9,7 @@ use Rattle.meaning_states.specs.State.{State, is_state}
 use Rattle.meaning_documents.specs.Names.{Bindings}
 use Rattle.meaning_documents.specs.Setting.{slot_ranges, is_true_at}
 use Rattle.meaning_documents.specs.Programs.{document_setting}
-use Rattle.meaning_documents.specs.Claims.{parameters, are_arguments, argument_bindings}
+use Rattle.meaning_documents.specs.Claims.{parameters, are_parameter_values, argument_bindings}
 use Rattle.meaning_documents.specs.Steps.{EachStep}
 use Rattle.names_rules.specs.WellNamed.{IsWellNamed}
 use Rattle.names_rules.specs.Declarations.{some_of}
@@ -50,12 +50,12 @@ ClaimsByBounds = (d : Document) → IsWellNamed d → expansion_fault d ≡ None
 -- numbers of parameters stand for what the arguments of a claim stand for;
 abbrev pub ArgumentsBound : Type 0
 ArgumentsBound = (d : Document) → IsWellNamed d → EachStep (λ e proof step. (zs : List ℤ) →
-    IsTrue (are_arguments (parameters step.params) zs) →
+    IsTrue (are_parameter_values (parameters step.params) zs) →
     values_of zs (param_bounds (some_of step.params)) ≡ argument_bindings (parameters step.params) zs) d
 
 -- so its formulas are those of its claim for all arguments
 abbrev pub ClaimsSay : Type 0
 ClaimsSay = (d : Document) → IsWellNamed d → expansion_fault d ≡ None → EachStep (λ e proof step. (zs : List ℤ) →
-    IsTrue (are_arguments (parameters step.params) zs) →
+    IsTrue (are_parameter_values (parameters step.params) zs) →
     ClaimSays e (argument_bindings (parameters step.params) zs) zs (step_in e proof step).p (step_in e proof step).q
     step.claim) d

@@ -7,7 +7,7 @@ use Rattle.unity_syntax.specs.declared.statement.Assign.{Assign}
 use Rattle.names_rules.specs.declared.named.Meaning.{Meaning}
 use Rattle.names_rules.specs.declared.named.Named.{Named}
 use Rattle.names_rules.specs.Scope.{Scope as NameScope, found, is_param}
-use Rattle.names_laws.specs.Attributes.{is_exact, names_nothing}
+use Rattle.names_laws.specs.Attributes.{exact_in, names_nothing}
 use Rattle.names_laws.specs.AssignmentLaws.{is_exact_assignment}
 use Rattle.expand_rules.specs.declared.cores.Bound.{Bound}
 use Rattle.expand_rules.specs.Forming.{Scope, word_formed, formed}
@@ -24,7 +24,7 @@ pub record Agrees (n : NameScope) (s : Scope) : Type 0 where
 
 -- an expression that is exact by its names becomes exact,
 abbrev pub ExpressionsExact : Type 0
-ExpressionsExact = (e : Expr) (n : NameScope) (s : Scope) → Agrees n s → is_exact e n ≡ true → (formed e s).exact ≡
+ExpressionsExact = (e : Expr) (n : NameScope) (s : Scope) → Agrees n s → exact_in e n ≡ true → (formed e s).exact ≡
     true
 
 -- one that names nothing that varies becomes constant,

@@ -34,11 +34,12 @@ use Rattle.names_rules.specs.Scope.{Table, no_span, is_variable, is_value}
 use Rattle.names_rules.specs.Reading.{earlier, unless, same_sort, read, end_reading, upside_down, filled}
 use Rattle.names_rules.specs.Part.{run, quiet}
 use Rattle.names_rules.specs.Declarations.{items_of, some_of, program_scope, with_named, is_declared, value_named}
-use Rattle.names_rules.specs.Declarations.{is_value_of, is_word, are_words, is_last, sort_or, known_sort, is_repeated}
+use Rattle.names_rules.specs.Declarations.{is_value_of, is_word_of, are_words, is_last, sort_or, known_sort}
+use Rattle.names_rules.specs.Declarations.{is_repeated}
 use Rattle.names_rules.specs.Declarations.{words_sort, enumerated, repeated, words_part, end_number, span_of}
 use Rattle.names_rules.specs.Declarations.{plain_sort}
 use Rattle.names_rules.specs.Declarations.{plain_span, plain_part, type_part, element_type}
-use Rattle.names_rules.specs.Declarations.{variable_named as named_here, may_declare, agrees, variable_as}
+use Rattle.names_rules.specs.Declarations.{variable_named as named_here, may_declare, means_alike, variable_as}
 use Rattle.names_rules.specs.Declarations.{variable_part, always_named, definition, definition_scope, always_part}
 use Rattle.names_rules.specs.WellNamed.{Declared, nothing_declared, new_program, program_body, program_part, part_of}
 use Rattle.meaning_documents.specs.Names.{variable_named}
@@ -159,7 +160,7 @@ value_is (Meaning.Bound at) k h = cc h
 value_is (Meaning.Param number) k h = cc h
 value_is (Meaning.Program at) k h = cc h
 
-word_some : (sort : Sort) (number : ℕ) (o : Option Named) → is_word sort number o ≡ true → is_some o ≡ true
+word_some : (sort : Sort) (number : ℕ) (o : Option Named) → is_word_of sort number o ≡ true → is_some o ≡ true
 word_some sort number None h = cc h
 word_some sort number (Some n) h = refl
 
@@ -169,7 +170,7 @@ words_there : (names : Table) (sort : Sort) (first place : ℕ) (xs : List Name)
     is_some (lookup (bytes_eq word) names) ≡ true
 words_there names sort first place [] word z h e = cc e
 words_there names sort first place (x ∷ xs) word z h e =
-    let one = is_word sort first (lookup (bytes_eq x.text) names) in
+    let one = is_word_of sort first (lookup (bytes_eq x.text) names) in
     let more = are_words names sort (first + 1) xs in
     by (bytes_eq word x.text) (same_bytes word x.text)
     (word_some sort first (lookup (bytes_eq x.text) names) (and_first one more h)) e
@@ -433,13 +434,13 @@ module _ (last_of : ℕ → Option ℕ) where
       RangeOf (words_sort names first rest) no_span (pos 0, pos (length rest))
   words_range names vs ws first rest known t = by (is_repeated names first rest)
       (λ h. let one = is_last (known_sort names first) (length rest) in
-      let word = is_word (known_sort names first) 0 (lookup (bytes_eq first.text) names) in
+      let word = is_word_of (known_sort names first) 0 (lookup (bytes_eq first.text) names) in
       let others = are_words names (known_sort names first) (0 + 1) rest in
       before' (lookup (bytes_eq first.text) names) refl (and_first one (word && others) h)
       (and_first word others (and_second one (word && others) h)))
     where
       before' : (o : Option Named) → lookup (bytes_eq first.text) names ≡ o →
-          is_last (sort_or o Sort.Number) (length rest) ≡ true → is_word (sort_or o Sort.Number) 0 o ≡ true →
+          is_last (sort_or o Sort.Number) (length rest) ≡ true → is_word_of (sort_or o Sort.Number) 0 o ≡ true →
           RangeOf (sort_or o Sort.Number) no_span (pos 0, pos (length rest))
       before' None e l w = cc l
       before' (Some n) e l w =
@@ -488,7 +489,7 @@ module _ (last_of : ℕ → Option ℕ) where
           let w = variable_from (slot_count vs) v in
           let more = with_named names v.name.text new in
           let g = (type_part more v.kind).fault in
-          let u = unless (agrees new None) Code.DeclaredTwice v.name.at in
+          let u = unless (means_alike new None) Code.DeclaredTwice v.name.at in
           let a = unless (may_declare program None) Code.DeclaredTwice v.name.at in
           let i = earlier_first g u (earlier_second a (earlier g u) f) in
           let none = nothing_there (variable_named v.name.text vs)
@@ -503,7 +504,7 @@ module _ (last_of : ℕ → Option ℕ) where
           let more = with_named names v.name.text (record old { program = program }) in
           let a = unless (may_declare program (Some old)) Code.DeclaredTwice v.name.at in
           let g = (type_part more v.kind).fault in
-          let u = unless (agrees new (Some old)) Code.DeclaredTwice v.name.at in
+          let u = unless (means_alike new (Some old)) Code.DeclaredTwice v.name.at in
           let i = earlier_first g u (earlier_second a (earlier g u) f) in
           let var = and_first (is_variable old.meaning) (not (nat_eq old.program program))
           (unless_none (may_declare program (Some old)) Code.DeclaredTwice v.name.at

@@ -26,7 +26,7 @@ use Rattle.names_rules.proofs.Faults.{earlier_first, earlier_second}
 use Rattle.expand_rules.specs.Measures.{nearer, is_fit, is_fit_range, place_of}
 use Rattle.expand_rules.specs.Forming.{Scope, fit_values}
 use Rattle.expand_rules.specs.Lists.{total, item_count, items_count, inside, item_fault, items_fault, first_fault}
-use Rattle.expand_rules.specs.Lists.{fault_at, place_where, is_empty, empty_place, large_place, range_place}
+use Rattle.expand_rules.specs.Lists.{fault_at, place_where, is_empty_range, empty_place, large_place, range_place}
 use Rattle.expand_rules.specs.Lists.{range_fault}
 use Rattle.expand_statements.proofs.CountLaws.{count-Statement, count-Quantified, count-parts}
 use Rattle.expand_fits_parts.specs.Conditions.StatementConditions.{InstancesCounted}
@@ -81,7 +81,7 @@ some_numbers : (low high : ℤ) → int_lt high low ≡ false → 1 ≤ natural 
 some_numbers low high h = let k = lt-false high low h in at_least (high +ℤ pos 1 -ℤ low) (omega (arith, ints))
 
 is_good : (r : Range) (b : Bindings) → is_fit (end_value b r.low) ≡ true → is_fit (end_value b r.high) ≡ true →
-    is_empty b r ≡ false → IsGood r b
+    is_empty_range b r ≡ false → IsGood r b
 is_good r b low high h =
     let fit : is_fit_range b r ≡ true = ap (λ x. x && is_fit (end_value b r.high)) low ∙ high in
     let order : int_lt (end_value b r.high) (end_value b r.low) ≡ false =
@@ -102,13 +102,13 @@ good_ranges r bs h =
     let p = nearer_none (empty_place r bs) (nearer (large_place r.low bs) (large_place r.high bs))
     (no_fault Code.BadRange (range_place r bs) h) in
     let q = nearer_none (large_place r.low bs) (large_place r.high bs) p.1 in
-    let empty = none_of (λ b. is_empty b r) bs (no_place (list_any (λ b. is_empty b r) bs) r.at p.0) in
+    let empty = none_of (λ b. is_empty_range b r) bs (no_place (list_any (λ b. is_empty_range b r) bs) r.at p.0) in
     let low = none_of (λ b. not (is_fit (end_value b r.low))) bs
     (no_place (list_any (λ b. not (is_fit (end_value b r.low))) bs) (place_of r.low) q.0) in
     let high = none_of (λ b. not (is_fit (end_value b r.high))) bs
     (no_place (list_any (λ b. not (is_fit (end_value b r.high))) bs) (place_of r.high) q.1) in
     all_three (λ b. not (is_fit (end_value b r.low)) ≡ false) (λ b. not (is_fit (end_value b r.high)) ≡ false)
-    (λ b. is_empty b r ≡ false) (IsGood r)
+    (λ b. is_empty_range b r ≡ false) (IsGood r)
     (λ b l k e. is_good r b (not_false (is_fit (end_value b r.low)) l) (not_false (is_fit (end_value b r.high)) k) e)
     bs low high empty
 

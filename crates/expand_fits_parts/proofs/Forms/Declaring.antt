@@ -16,7 +16,7 @@ use Rattle.names_rules.specs.Part.{run, quiet}
 use Rattle.names_rules.specs.Declarations.{with_named, value_named, is_repeated, repeated, enumerated, words_part}
 use Rattle.names_rules.specs.Declarations.{plain_part, type_part, variable_named as named_here, variable_as}
 use Rattle.names_rules.specs.Declarations.{variable_part}
-use Rattle.names_rules.specs.Declarations.{may_declare, agrees}
+use Rattle.names_rules.specs.Declarations.{may_declare, means_alike}
 use Rattle.names_rules.specs.Declarations.{always_named, definition_scope, always_part}
 use Rattle.names_laws.proofs.Inserts.{added}
 use Rattle.names_laws.proofs.AttributeTheorems.{and_first}
@@ -79,7 +79,7 @@ module _ (Q : List ℕ → Named → Type 0) (value : (w : List ℕ) (sort : Sor
           let new = named_here program names v in
           let m = record old { program = program } in
           let t = type_part (with_named names v.name.text m) v.kind in
-          let u = unless (agrees new (Some old)) Code.DeclaredTwice v.name.at in
+          let u = unless (means_alike new (Some old)) Code.DeclaredTwice v.name.at in
           let a = unless (may_declare program (Some old)) Code.DeclaredTwice v.name.at in
           let kind = and_first (is_variable old.meaning) (not (nat_eq old.program program))
           (unless_none (may_declare program (Some old)) Code.DeclaredTwice v.name.at

@@ -1,6 +1,6 @@
 use Rattle.std.proofs.Common.{length, refl, sym, ap, ◌∙◌}
 use Rattle.std.proofs.lemmas.Option.{slice_get_read}
-use Rattle.schedule_replay.specs.Schedules.{is_named}
+use Rattle.schedule_replay.specs.Schedules.{names_instance}
 use Rattle.schedule_replay.proofs.ScheduleLaws.{named_at}
 use Rattle.schedule_replay.proofs.replay.guess.Goals as goal
 
@@ -10,5 +10,5 @@ returns-then-is_named c =
     c.requires.apart
     (slice_get_read c.args.statements.now (length c.args.statements.now) c.in_ok-place.field-0.now
     c.index-statements-index.result refl c.if-index-statements.true c.index-statements-index.is)
-    (ap (is_named c.args.choice.now) (sym c.get-then-index-statements.ensures) ∙ sym c.is_named.ensures
+    (ap (names_instance c.args.choice.now) (sym c.get-then-index-statements.ensures) ∙ sym c.is_named.ensures
     ∙ c.if-is_named.true)

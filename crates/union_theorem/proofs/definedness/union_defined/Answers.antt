@@ -2,7 +2,7 @@ use Rattle.std.proofs.Common.{◌&&◌, Bool, [], sym, ◌∙◌, arith}
 use Rattle.case_tables.specs.declared.code_table.Code.{Code}
 use Rattle.core_terms.specs.Values.{form_value}
 use Rattle.fair_rounds.specs.declared.records.Record.{Record}
-use Rattle.rules_table.specs.Table.{Site, is_part_pair, is_defined, union_defined_of}
+use Rattle.rules_table.specs.Table.{Site, is_part_pair, claims_defined, union_defined_of}
 use Rattle.rules_table.proofs.UnionSound.{union_defined_sound}
 use Rattle.safety_rules.specs.Answers.{site_of}
 use Rattle.safety_rules.proofs.AnswerLaws.{needs_met, needs_not, refused, given_by}
@@ -31,7 +31,7 @@ returns-then-not-are_defined-clause-answer c =
     refused site.slots Code.WrongKind _
     (union_defined-is site starts a b
     ∙ needs_met (is_part_pair site a b) Code.OtherProgram _ (sym c.is_part_pair.ensures ∙ c.if-not-is_part_pair.false)
-    ∙ needs_not (is_defined a.kind && is_defined b.kind) Code.WrongKind _ (sym c.are_defined.ensures
+    ∙ needs_not (claims_defined a.kind && claims_defined b.kind) Code.WrongKind _ (sym c.are_defined.ensures
     ∙ c.if-not-are_defined.true))
 
 pub returns-then-not-holds-clause-answer : goal.returns-then-not-holds-clause-answer
@@ -43,7 +43,7 @@ returns-then-not-holds-clause-answer c =
     refused site.slots Code.NoStart _
     (union_defined-is site starts a b
     ∙ needs_met (is_part_pair site a b) Code.OtherProgram _ (sym c.is_part_pair.ensures ∙ c.if-not-is_part_pair.false)
-    ∙ needs_met (is_defined a.kind && is_defined b.kind) Code.WrongKind _ (sym c.are_defined.ensures
+    ∙ needs_met (claims_defined a.kind && claims_defined b.kind) Code.WrongKind _ (sym c.are_defined.ensures
     ∙ c.if-not-are_defined.false)
     ∙ needs_not (starts) Code.NoStart _ (sym c.holds.ensures ∙ c.if-not-holds.true))
 
@@ -67,7 +67,7 @@ returns-clause-answer c =
     given_by site.slots c.united.result _ (united_defined site a b)
     (union_defined-is site starts a b
     ∙ needs_met (is_part_pair site a b) Code.OtherProgram _ (sym c.is_part_pair.ensures ∙ c.if-not-is_part_pair.false)
-    ∙ needs_met (is_defined a.kind && is_defined b.kind) Code.WrongKind _ (sym c.are_defined.ensures
+    ∙ needs_met (claims_defined a.kind && claims_defined b.kind) Code.WrongKind _ (sym c.are_defined.ensures
     ∙ c.if-not-are_defined.false)
     ∙ needs_met (starts) Code.NoStart _ (sym c.holds.ensures ∙ c.if-not-holds.false))
     c.united.ensures
