@@ -12,8 +12,6 @@ mod runs;
 mod scan;
 mod stretches;
 mod symbols;
-#[cfg(test)]
-mod tests;
 mod tokens;
 
 pub use front::{Front, FrontError, read_front};

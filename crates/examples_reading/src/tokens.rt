@@ -1,6 +1,6 @@
-use crate::{lex, one_reading, places_in_text, some_reading};
 use case_tables::{Code, Symbol, Word};
 use std::test::Fail;
+use unity_lexer::lex;
 use unity_syntax::{SyntaxFault, Token, TokenKind};
 
 fn name(start: u64, end: u64) -> Token {
@@ -109,11 +109,4 @@ fn texts_have_their_first_fault(rt: HostRuntime) {
             Some(SyntaxFault::Fault { code, at })
         );
     }
-}
-
-#[test]
-fn laws_are_there(_rt: HostRuntime) {
-    some_reading();
-    one_reading();
-    places_in_text();
 }
