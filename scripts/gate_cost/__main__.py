@@ -36,7 +36,7 @@ def report(given):
     seconds = joined(runs, crates)
     said = [*cost_table(seconds), ""]
     for file, run in zip(given.files, runs):
-        said += about_run(file, run)
+        said += about_run(file, run, crates)
     said += ["", *lanes_table(forecast_of(runs, crates, seconds), given.processors, given.slow)]
     print("\n".join(said))
 

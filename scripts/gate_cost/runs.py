@@ -12,7 +12,7 @@ class Run:
     """One sampled run: what each process was for, and what it took."""
 
     def __init__(self, made):
-        self.processors, self.exact, self.processes = made["processors"], made["exact"], made["processes"]
+        self.lanes, self.exact, self.processes = made["lanes"], made["exact"], made["processes"]
         self.works = {}
         for key in self.processes:
             self.find_work(key)
@@ -52,6 +52,12 @@ class Run:
             it, name = self.processes[key], (work.crate, work.kind, work.part)
             found[name] = found.get(name, 0) + it["seconds"] + it["missed"] + it["unseen"]
         return found
+
+    def clock(self):
+        """Seconds by the clock of each crate, kind and part, from the first of its processes to the end of the last."""
+        parts = {(it.crate, it.kind, it.part) for it in self.works.values()}
+        spans = {part: self.span(lambda it, part=part: (it.crate, it.kind, it.part) == part) for part in parts}
+        return {part: ended - begun for part, (begun, ended) in spans.items() if part[0] not in (RT, SCRIPTS)}
 
     def most(self):
         """The most memory of a process, in MB, and what it was for."""

@@ -6,11 +6,17 @@ import subprocess
 import sys
 import time
 
-from processes import TICKS, all_stats, command_of, folder_of
+from processes import TICKS, all_stats, command_of, folder_of, variable_of
 
 # Seconds between two samples, and between two times that the file is written.
 INTERVAL = 0.5
 WRITES = 10
+
+
+def lanes_of(pid):
+    """How many lanes `rt ci` has there: RT_JOBS, or where that is not set the processors."""
+    said = variable_of(pid, "RT_JOBS")
+    return int(said) if said.isdigit() and int(said) else len(os.sched_getaffinity(0))
 
 
 class Sampler:
@@ -18,7 +24,7 @@ class Sampler:
 
     def __init__(self, root, file, command):
         self.root, self.file, self.alive = root, file, {}
-        self.run = {"command": command, "processors": len(os.sched_getaffinity(0)), "exact": None, "processes": {}}
+        self.run = {"command": command, "lanes": lanes_of(root), "exact": None, "processes": {}}
         self.sampled = self.written = time.monotonic()
 
     def sample(self):

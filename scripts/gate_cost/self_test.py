@@ -68,7 +68,7 @@ def write_sample(file, sampled):
             "first": begun + 1, "age": 1, "last": ended, "megabytes": 100 + number, "seconds": seconds,
             "missed": missed, "unseen": 0, "words": words.split(), "folder": folder, "parent": "0.1" if number else None}
     with open(file, "w", encoding="utf-8") as made:
-        json.dump({"command": ["rt"], "processors": 2, "exact": 270, "processes": processes}, made)
+        json.dump({"command": ["rt"], "lanes": 2, "exact": 270, "processes": processes}, made)
 
 
 def differ(name, said, wanted):
@@ -104,12 +104,14 @@ def self_test():
         fails = [
             differ("cost", cost_table(joined([run], crates)), COST),
             differ("lanes", lanes_table(forecast, [1, 2], 2), LANES),
-            differ("run", about_run("it", run)[1:], [
+            differ("run", about_run("it", run, crates), [
+                "it: 3.3 minutes of `rt ci` by the clock, and 0.0 of scripts",
+                "  handing out what each took by the clock to 2 lanes gives 2.6",
                 "  the most memory of a process: 111 MB, shed other run",
                 "  sampled 4.50 minutes of processor, exactly 4.50: 100.0 in 100 were seen"]),
             differ("two samples", [both[3].split()[-1], both[5].split()[-1]], ["0.50", "4.00"]),
             differ("scripts", [script.crate], ["(scripts)"]),
             differ("no JSON", refused(file, "{\n x"), ["FILE:2:2: Expecting property name enclosed in double quotes"]),
-            differ("no sample", refused(file, "{}"), ["FILE:1:1: this is no sample: KeyError('processors')"])]
+            differ("no sample", refused(file, "{}"), ["FILE:1:1: this is no sample: KeyError('lanes')"])]
     print("gate_cost: %d checks passed, %d failed" % (fails.count(False), fails.count(True)))
     return int(any(fails))

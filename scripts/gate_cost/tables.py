@@ -30,11 +30,13 @@ def cost_table(seconds):
     return [LINE % ("minutes of processor", *KINDS, "sum"), *[line(it, rows[it]) for it in order], line("all", sums)]
 
 
-def about_run(name, run):
+def about_run(name, run, crates):
     """What one run says of itself: its time by the clock, its most memory, and how much of it the samples saw."""
-    sampled, (megabytes, work) = sum(run.seconds().values()), run.most()
-    said = ["%s: %.1f minutes of `rt ci` by the clock, %.1f of scripts; %d processors" % (
-        name, *[it / 60 for it in run.took()], run.processors)]
+    sampled, (megabytes, work), (proofs, scripts) = sum(run.seconds().values()), run.most(), run.took()
+    said = ["%s: %.1f minutes of `rt ci` by the clock, and %.1f of scripts" % (name, proofs / 60, scripts / 60)]
+    if proofs:
+        again = Forecast(crates, run.clock(), run.start(), 1).proofs(run.lanes)
+        said.append("  handing out what each took by the clock to %d lanes gives %.1f" % (run.lanes, again / 60))
     what = " ".join(it for it in (work.crate, work.kind, work.part) if it)
     said.append("  the most memory of a process: %d MB, %s" % (megabytes, what))
     if run.exact:

@@ -64,3 +64,13 @@ def folder_of(pid):
         return os.readlink("/proc/%d/cwd" % pid)
     except OSError:
         return ""
+
+
+def variable_of(pid, name):
+    """A variable of the environment that the process began with; nothing where it is not set."""
+    try:
+        with open("/proc/%d/environ" % pid, encoding="utf-8", errors="replace") as file:
+            said = dict(it.partition("=")[::2] for it in file.read().split("\0"))
+    except OSError:
+        said = {}
+    return said.get(name, "")

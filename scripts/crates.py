@@ -39,12 +39,12 @@ def crates_of(top):
     uses = rooms_of(top)[1]
     below, order = {}, []
     for name in uses:
-        below[name] = joined([*below[it], it] for it in uses[name])
+        below[name] = each_once([*below[it], it] for it in uses[name])
     for name in sorted(uses):
         order += [it for it in [*below[name], name] if it not in order]
     return [Crate(top, name, below[name]) for name in sorted(order, key=lambda it: len(below[it]))]
 
 
-def joined(lists):
+def each_once(lists):
     """What the lists have, each once, where it first stands."""
     return list(dict.fromkeys(it for one in lists for it in one))
