@@ -74,3 +74,10 @@ def variable_of(pid, name):
     except OSError:
         said = {}
     return said.get(name, "")
+
+
+def memory_left():
+    """The memory that is free to take, in MB."""
+    with open("/proc/meminfo", encoding="utf-8") as file:
+        said = dict(line.split(":", 1) for line in file)
+    return int(said["MemAvailable"].split()[0]) // 1024
