@@ -5,26 +5,28 @@ import re
 from map import rooms_of
 
 PARTS = ("src", "specs", "proofs")
+TEST = re.compile(rb"#\s*\[[^]]*\btest\b")
 
 
 class Crate:
-    """A crate: those that it stands on, each behind its own, its lines, and how many edits it has."""
+    """A crate: those that it stands on, each behind its own, its lines, whether it has tests, and how many edits."""
 
     def __init__(self, top, name, below):
+        texts = texts_of(os.path.join(top, "crates", name))
         self.name, self.below = name, below
-        self.lines = lines_of(os.path.join(top, "crates", name))
+        self.lines, self.has_tests = sum(it.count(b"\n") for it in texts), any(map(TEST.search, texts))
         self.edits = edits_of(os.path.join(top, "crates", name, "must-fail"))
 
 
-def lines_of(folder):
-    """The lines of the crate's .rt files."""
-    found = 0
+def texts_of(folder):
+    """The texts of the crate's .rt files."""
+    found = []
     for part in PARTS:
         for at, _, names in os.walk(os.path.join(folder, part)):
             for name in names:
                 if name.endswith(".rt"):
                     with open(os.path.join(at, name), "rb") as file:
-                        found += file.read().count(b"\n")
+                        found.append(file.read())
     return found
 
 

@@ -10,7 +10,7 @@ sys.path.append(os.path.join(TOP, "scripts"))
 def parser():
     """The words that the command takes."""
     made = argparse.ArgumentParser(prog="bash scripts/gate_cost.sh", description=__doc__)
-    made.add_argument("--self-test", action="store_true", help="try the report on a small sample, and say whether it is right")
+    made.add_argument("--self-test", action="store_true", help="try the report on a small sample")
     verbs = made.add_subparsers(dest="verb", metavar="sample | attach | report")
     sample = verbs.add_parser("sample", help="run a command, sample it every half second, and exit with its status")
     sample.add_argument("file", help="where the sample goes")
@@ -19,7 +19,7 @@ def parser():
     attach.add_argument("pid", type=int)
     attach.add_argument("file", help="where the sample goes")
     report = verbs.add_parser("report", help="print minutes by crate and kind, and what fewer processors would take")
-    report.add_argument("files", nargs="+", metavar="FILE", help="a sample; of what two of them did, the later one counts")
+    report.add_argument("files", nargs="+", metavar="FILE", help="samples; of what two did, the later one counts")
     report.add_argument("--slow", type=float, default=1.5, help="how many times slower a slow machine is (1.5)")
     report.add_argument("--processors", type=int, nargs="+", default=[2, 4], help="for how many processors (2 4)")
     report.add_argument("--top", default=TOP, help="the repository whose crates were sampled")
@@ -33,8 +33,10 @@ def report(given):
     from tables import about_run, cost_table, forecast_of, lanes_table
 
     runs, crates = [read_run(file) for file in given.files], crates_of(given.top)
-    seconds = joined(runs, crates)
+    seconds, gone = joined(runs, crates)
     said = [*cost_table(seconds), ""]
+    if gone:
+        said += ["%.2f minutes are left out: these crates have no such tests or edits, or are none" % (gone / 60), ""]
     for file, run in zip(given.files, runs):
         said += about_run(file, run, crates)
     said += ["", *lanes_table(forecast_of(runs, crates, seconds), given.processors, given.slow)]

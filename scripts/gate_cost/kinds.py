@@ -5,6 +5,8 @@ import re
 KINDS = ("proof", "tests", "edits", "linking", "other")
 # Rows that are no crate.
 RT, SCRIPTS = "(rt itself)", "(scripts)"
+# Commands of `rt` that prove; what any other one starts belongs to the scripts, as the checks of `rt try` do.
+PROVING = ("ci", "must-fail", "all")
 LINKERS = ("rattle-link", "clang", "clang++", "ld.lld", "lld")
 
 
@@ -23,8 +25,10 @@ def after(words, flag):
 def work_of(words, folder, above):
     """What a process with these words in this folder does, given what its parent does."""
     names = [os.path.basename(word) for word in words]
-    if "rt" in names[:3] and "ci" in words:
+    if "rt" in names[:3] and any(word in PROVING for word in words):
         return Work(RT, "other")
+    if not above or above.crate == SCRIPTS:
+        return Work(SCRIPTS, "other")
     if "rattle" in names:
         return of_rattle(words[names.index("rattle"):], folder)
     if any(name in LINKERS for name in names[:6]):
@@ -32,13 +36,13 @@ def work_of(words, folder, above):
     ran = re.search(r"/rt-run-\d+-[^/]*/bin/(\w+)", " ".join(words))
     if ran:
         return Work(ran.group(1).removesuffix("_tests"), "other", "run")
-    return above or Work(SCRIPTS, "other")
+    return above
 
 
 def of_rattle(words, folder):
-    """What rattle does by these words: `rt ci` tries an edit in a folder of its own, over what a check kept in another."""
+    """What rattle does by these words. An edit is tried in a folder of its own, over what a check kept in another."""
     crate, kept = after(words, "--crate-name"), after(words, "--incremental")
-    if not crate:
+    if not crate or "--only" in words:
         named = re.search(r"/crates/(\w+)/", " ".join(words))
         return Work(named.group(1) if named else RT, "other")
     if "--crate-checked" in words:
@@ -55,6 +59,4 @@ def of_linker(words, above):
     made = re.search(r"(?:^| |/)out/(\w+?)(_tests)?(?:\.by-rattle)?(?:\.o)?(?: |$)", " ".join(words))
     if made:
         return Work(made.group(1), "linking", "tests" if made.group(2) else "proof")
-    if above and above.kind in ("proof", "tests"):
-        return Work(above.crate, "linking", above.kind)
-    return above or Work(SCRIPTS, "other")
+    return Work(above.crate, "linking", above.kind) if above.kind in ("proof", "tests") else above

@@ -33,7 +33,8 @@ class Run:
             if work.kind == "edits" and work.part.isdigit():
                 first[work.crate] = min(first.get(work.crate, self.begun(key)), self.begun(key))
         for key, work in self.works.items():
-            if work.kind == "edits" and work.part == "seed" and self.begun(key) > first.get(work.crate, self.begun(key)):
+            begun = self.begun(key)
+            if (work.kind, work.part) == ("edits", "seed") and begun > first.get(work.crate, begun):
                 self.works[key] = Work(work.crate, "edits", "sound")
 
     def begun(self, key):
@@ -66,7 +67,8 @@ class Run:
 
     def start(self):
         """Seconds from the start of `rt ci` to its first check."""
-        of_rt, checks = self.span(lambda it: it.crate == RT), self.span(lambda it: it.kind in ("proof", "tests", "edits"))
+        of_rt = self.span(lambda it: it.crate == RT)
+        checks = self.span(lambda it: it.kind in ("proof", "tests", "edits"))
         return checks[0] - of_rt[0] if of_rt and checks else 0
 
     def took(self):
@@ -88,12 +90,22 @@ def read_run(file):
         raise Refused("%s:1:1: %s" % (file, error.strerror)) from error
 
 
+def is_there(crate, kind, part):
+    """Whether the crate still has that."""
+    if kind == "edits":
+        return crate.edits > (int(part) if part.isdigit() else 0)
+    return crate.has_tests or "tests" not in (kind, part)
+
+
 def joined(runs, crates):
-    """What several runs say together: of what two of them did, the later one. What is gone since is left out."""
-    by_name, found = {it.name: it for it in crates}, {}
+    """What several runs say together, of what two of them did the later one; and what is gone since, in seconds."""
+    by_name, found, gone = {it.name: it for it in crates}, {}, {}
     for run in runs:
-        for (crate, kind, part), seconds in run.seconds().items():
-            is_there = crate in by_name and not (part.isdigit() and int(part) >= by_name[crate].edits)
-            if is_there or crate == SCRIPTS or crate == RT and run is runs[0]:
-                found[crate, kind, part] = seconds
-    return found
+        for key, seconds in run.seconds().items():
+            if key[0] in by_name and is_there(by_name[key[0]], *key[1:]) or key[0] == SCRIPTS:
+                found[key] = seconds
+            elif key[0] == RT:
+                found.setdefault(key, seconds)
+            else:
+                gone[key] = seconds
+    return found, sum(gone.values())

@@ -57,7 +57,7 @@ class Sampler:
         return [stat for pid, stat in stats.items() if is_ours(pid)]
 
     def note(self, key, stat, stats):
-        """Keeps what this sample says of one process. A process that was made just now has its parent's command still."""
+        """Keeps what this sample says of one process. One that was made just now has its parent's command still."""
         made = self.run["processes"].setdefault(key, {"first": time.time(), "megabytes": 0, "missed": 0, "unseen": 0})
         parent = stats.get(stat.parent)
         made.setdefault("parent", parent.key() if parent and parent.key() in self.run["processes"] else None)

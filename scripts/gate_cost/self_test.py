@@ -36,8 +36,8 @@ ground                       1.00                                         1.00
 (rt itself)                                                      0.20     0.20
 all                          2.50     0.50     1.10     0.10     0.30     4.50""".split("\n")
 # `rt` alone takes 6 of its 12 seconds, and each of eight tasks 0.75 of the others. On one processor all comes in turn.
-# On two, ground and shed begin, and then the tests of shed, which end at 67.5 seconds of them; tower takes from 60.75 to
-# 121.5, beside the check that its edits begin with; they take till 140.25 and the check after them till 147.
+# On two, ground and shed begin, and then the tests of shed, which end at 67.5 seconds of them; tower takes from 60.75
+# to 121.5, beside the check that its edits begin with; they take till 140.25 and the check after them till 147.
 LANES = """\
 minutes by the clock, RT_JOBS at the number of processors; slow is 2.00 times
 processors    rt ci  scripts      all     slow
@@ -54,7 +54,7 @@ def write_crates(top):
         for part in ("src", "must-fail"):
             os.makedirs(os.path.join(top, "crates", name, part))
         with open(os.path.join(top, "crates", name, "src", "lib.rt"), "w", encoding="utf-8") as file:
-            file.write("\n" * lines)
+            file.write("#[test]\n" if name == "shed" else "\n" * lines)
         for number in range(edits):
             with open(os.path.join(top, "crates", name, "must-fail", "%d.edit" % number), "w", encoding="utf-8"):
                 pass
@@ -66,7 +66,8 @@ def write_sample(file, sampled):
     for number, (words, folder, begun, ended, seconds, missed) in enumerate(sampled):
         processes["%d.1" % number] = {
             "first": begun + 1, "age": 1, "last": ended, "megabytes": 100 + number, "seconds": seconds,
-            "missed": missed, "unseen": 0, "words": words.split(), "folder": folder, "parent": "0.1" if number else None}
+            "missed": missed, "unseen": 0, "words": words.split(), "folder": folder,
+            "parent": "0.1" if number else None}
     with open(file, "w", encoding="utf-8") as made:
         json.dump({"command": ["rt"], "lanes": 2, "exact": 270, "processes": processes}, made)
 
@@ -96,13 +97,18 @@ def self_test():
         write_crates(top)
         write_sample(file, SAMPLED)
         run, crates = read_run(file), crates_of(top)
-        forecast = forecast_of([run], crates, joined([run], crates))
+        seconds = joined([run], crates)[0]
+        forecast = forecast_of([run], crates, seconds)
         # the crate ground was proved again, in half the time
         write_sample(file, [SAMPLED[0], (*SAMPLED[1][:4], 27, 3)])
-        both = cost_table(joined([run, read_run(file)], crates))
-        script = work_of(["bash", "scripts/test.sh"], "/r", None)
+        both = cost_table(joined([run, read_run(file)], crates)[0])
+        # the tests of shed and an edit of tower were taken out
+        crates[1].has_tests, crates[2].edits = False, 1
+        less, gone = joined([run], crates)
+        script = work_of("rt try --test".split(), "/r", None)
+        tried = work_of((CHECK + "0").split(), "/r", script)
         fails = [
-            differ("cost", cost_table(joined([run], crates)), COST),
+            differ("cost", cost_table(seconds), COST),
             differ("lanes", lanes_table(forecast, [1, 2], 2), LANES),
             differ("run", about_run("it", run, crates), [
                 "it: 3.3 minutes of `rt ci` by the clock, and 0.0 of scripts",
@@ -110,7 +116,8 @@ def self_test():
                 "  the most memory of a process: 111 MB, shed other run",
                 "  sampled 4.50 minutes of processor, exactly 4.50: 100.0 in 100 were seen"]),
             differ("two samples", [both[3].split()[-1], both[5].split()[-1]], ["0.50", "4.00"]),
-            differ("scripts", [script.crate], ["(scripts)"]),
+            differ("gone", [cost_table(less)[-1].split()[-1], "%d" % gone], ["3.60", "54"]),
+            differ("scripts", [script.crate, tried.crate], ["(scripts)", "(scripts)"]),
             differ("no JSON", refused(file, "{\n x"), ["FILE:2:2: Expecting property name enclosed in double quotes"]),
             differ("no sample", refused(file, "{}"), ["FILE:1:1: this is no sample: KeyError('lanes')"])]
     print("gate_cost: %d checks passed, %d failed" % (fails.count(False), fails.count(True)))
