@@ -25,7 +25,7 @@ class Progress:
         self.all, self.begun, self.proved = len(crates), time.monotonic(), 0
 
     def tell(self, name, is_proved, seconds):
-        """Says that a crate is done, proved just now or kept; all that were proved took so many seconds of processor."""
+        """Says that a crate is done, proved just now or kept. What was proved took so many seconds of processor."""
         weight = self.weights.pop(name, 0)
         self.proved += weight * is_proved
         said = "%d of %d crates, %d minutes: %s" % (
@@ -43,16 +43,16 @@ class Run:
     def __init__(self, name, jobs, crates):
         self.said, self.became, self.progress = [], {}, Progress(crates)
         self.crate, self.is_over = None, False
-        how = {"cwd": os.path.join("crates", name), "env": {**os.environ, "PYTHONUNBUFFERED": "1"}}
-        words = ["rt", "all", "check", "--jobs", str(jobs)]
-        with subprocess.Popen(words, stdout=subprocess.PIPE, stderr=subprocess.STDOUT, text=True, errors="replace", **how) as ran:
+        how = {"stdout": subprocess.PIPE, "stderr": subprocess.STDOUT, "text": True, "errors": "replace",
+               "cwd": os.path.join("crates", name), "env": {**os.environ, "PYTHONUNBUFFERED": "1"}}
+        with subprocess.Popen(["rt", "all", "check", "--jobs", str(jobs)], **how) as ran:
             for line in ran.stdout:
                 self.said.append(line)
                 self.read(line.rstrip("\n"), ran.pid)
         self.is_well = ran.returncode == 0 and self.said[-1:] == ["%d of %d crates ok\n" % (len(crates), len(crates))]
 
     def read(self, line, pid):
-        """Takes a line: `== NAME` comes once a crate is done, and then what its check said, which ends with its verdict."""
+        """Takes a line. `== NAME` comes once a crate is done, and then what its check said, to its verdict."""
         if self.is_over:
             name, _, became = line.partition(": ")
             self.became[name] = became

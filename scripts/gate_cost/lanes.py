@@ -71,7 +71,7 @@ def chains(tasks, work):
 
 
 def schedule(tasks, lanes):
-    """Seconds until all is done in so many lanes: first what has the longest chain of lines behind it, once it is ready."""
+    """Seconds until all is done in so many lanes. Of what is ready, what has the longest chain of lines comes first."""
     behind = chains(tasks, lambda it: it.lines)
     left = sorted(tasks, key=lambda it: (it[1] in FILLS, -behind[it]))
     now, running, done = 0, {}, set()
