@@ -53,9 +53,10 @@ def command_of(pid):
     """The words of the process's command, shortened; none for one that has ended."""
     try:
         with open("/proc/%d/cmdline" % pid, encoding="utf-8", errors="replace") as file:
-            return short(file.read().rstrip("\0").split("\0"))
+            text = file.read().rstrip("\0")
     except OSError:
-        return []
+        text = ""
+    return short(text.split("\0")) if text else []
 
 
 def folder_of(pid):
