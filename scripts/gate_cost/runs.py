@@ -72,9 +72,10 @@ class Run:
         return checks[0] - of_rt[0] if of_rt and checks else 0
 
     def took(self):
-        """Seconds by the clock from the start of `rt ci` to its end, and of the scripts beside it."""
-        spans = [self.span(lambda it: it.crate != SCRIPTS), self.span(lambda it: it.crate == SCRIPTS)]
-        return [it[1] - it[0] if it else 0 for it in spans]
+        """Seconds by the clock from the start of `rt ci` to its end, and of the scripts before and after it."""
+        begun, ended = self.span(lambda it: it.crate != SCRIPTS) or (0, 0)
+        first, last = self.span(lambda it: it.crate == SCRIPTS) or (0, 0)
+        return [ended - begun, last - first - max(0, min(ended, last) - max(begun, first))]
 
 
 def read_run(file):

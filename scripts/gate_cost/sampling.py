@@ -99,7 +99,7 @@ class Sampler:
 
 
 def attach(pid, file):
-    """Samples a process that runs already until it is gone."""
+    """Samples a process that runs already until it is gone; 1 where it never was there."""
     sampler = Sampler(pid, file, command_of(pid))
     signal.signal(signal.SIGTERM, lambda *_: sys.exit(128 + signal.SIGTERM))
     try:
@@ -107,6 +107,9 @@ def attach(pid, file):
             time.sleep(INTERVAL)
     finally:
         sampler.write()
+    if not sampler.run["processes"]:
+        print("there is no process %d" % pid, file=sys.stderr)
+    return int(not sampler.run["processes"])
 
 
 def sample(file, command):

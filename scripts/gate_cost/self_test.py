@@ -102,6 +102,8 @@ def self_test():
         # the crate ground was proved again, in half the time
         write_sample(file, [SAMPLED[0], (*SAMPLED[1][:4], 27, 3)])
         both = cost_table(joined([run, read_run(file)], crates)[0])
+        write_sample(file, [("bash scripts/test.sh", "/r", 0, 100, 25, 0), (RT, "/r", 10, 60, 12, 0)])
+        whole = read_run(file)
         # the tests of shed and an edit of tower were taken out
         crates[1].has_tests, crates[2].edits = False, 1
         less, gone = joined([run], crates)
@@ -116,6 +118,8 @@ def self_test():
                 "  the most memory of a process: 111 MB, shed other run",
                 "  sampled 4.50 minutes of processor, exactly 4.50: 100.0 in 100 were seen"]),
             differ("two samples", [both[3].split()[-1], both[5].split()[-1]], ["0.50", "4.00"]),
+            differ("scripts by the clock", whole.took(), [50, 50]),
+            differ("scripts on two", ["%.1f" % forecast_of([whole], [], joined([whole], [])[0]).scripts(2)], ["50.0"]),
             differ("gone", [cost_table(less)[-1].split()[-1], "%d" % gone], ["3.60", "54"]),
             differ("scripts", [script.crate, tried.crate], ["(scripts)", "(scripts)"]),
             differ("no JSON", refused(file, "{\n x"), ["FILE:2:2: Expecting property name enclosed in double quotes"]),
