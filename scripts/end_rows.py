@@ -28,6 +28,9 @@ class Question:
     def writes(self, one):
         return self.calls[one][1]
 
+    def has_reads(self, one, least):
+        return self.reads(one) >= least
+
     def right_answer(self):
         return self.ask() == self.right
 
@@ -58,7 +61,7 @@ class Question:
 def reading(question):
     """What is tried of a question that reads its document: each read fails, and is made."""
     for one, least in ((False, LEAST_READS), (True, len(question.case.document) + 1)):
-        yield f"{question.reads(one)} reads, at least {least}", lambda one=one, least=least: least <= question.reads(one)
+        yield f"{least} reads or more, one byte each: {one}", partial(question.has_reads, one, least)
         for number in range(1, question.reads(one) + 1):
             yield f"read {number}, one byte each: {one}", partial(question.read_fails, one, number)
         yield f"the last read, and no write, one byte each: {one}", partial(question.last_read_fails, one)
