@@ -659,11 +659,11 @@ expect_no_picture() {
     count_one "$holds" "no picture of: $*"
 }
 
-# expect_refused N TEST: this test of unity_base passes where its Nth allocation is refused.
+# expect_refused N TEST: this test of the crate examples_reading passes where its Nth allocation is refused.
 expect_refused() {
     local holds=1
-    (cd crates/unity_base && ulimit -Ss 8192 && rt try --test --fail-alloc "$1") > "$answer" 2>&1 || true
-    if grep -q "^test tests::$2 \.\.\. ok" "$answer"; then
+    (cd crates/examples_reading && ulimit -Ss 8192 && rt try --test --fail-alloc "$1") > "$answer" 2>&1 || true
+    if grep -q "^test ground::$2 \.\.\. ok" "$answer"; then
         holds=0
     fi
     count_one "$holds" "$2, allocation $1"
