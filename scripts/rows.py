@@ -38,7 +38,7 @@ def failed_rows(rows, chosen):
     for case, got in run(rows, asker(os.path.abspath(chosen.program)), chosen.jobs):
         if got:
             failed[case.file] += 1
-            print(told(case, got))
+            print(told(case, got), flush=True)
     return failed
 
 
