@@ -1,5 +1,5 @@
 // An ensures by the statement that helps.
-ghost use Rattle.std.specs.Prelude.{◌≡◌, [], IfOk, Some, length, map};
+ghost use Rattle.std.specs.Prelude.{◌≡◌, ◌++◌, [], IfOk, Some, length, map};
 ghost use Rattle.core_terms.specs.Conditions.{FormFits, HelperWellScoped, is_below};
 ghost use Rattle.rules_table.specs.Table as table;
 ghost use Rattle.safety_rules.specs.Answers.{site_of, IsPlace, RuleAnswers};
@@ -68,6 +68,48 @@ fn add_helped(
     Ok(())
 }
 
+// The obligations of `p ensures q`: those of `p unless q`, and those of the statement that helps.
+fn add_ensures(
+    alloc: Global,
+    pl: &Place,
+    pool: &mut Pool,
+    p: &CForm,
+    q: &CForm,
+    h: &Helper,
+    goals: &mut Seq<Obligation>,
+) -> Result<(), RuleError>
+    requires place { IsPlace pl.now }
+    requires p { FormFits pl.now.slots.now pl.now.params.now p.now }
+    requires q { FormFits pl.now.slots.now pl.now.params.now q.now }
+    requires helper { HelperWellScoped (is_below (length pl.now.params.now)) h.now }
+    ensures { Added result goals.old goals.new pl.now.slots.now pl.now.params.now
+        (table.unless_forms (site_of pl.now) p.now q.now ++ table.helper_forms (site_of pl.now) p.now q.now h.now) }
+{
+    add_unless(alloc, pl, pool, p, q, goals)?;
+    add_meant(alloc, pl, h, goals)?;
+    add_helped(alloc, pl, pool, p, q, h, goals)
+}
+
+// The same, with a pool of their own.
+fn ensures_goals(
+    alloc: Global,
+    pl: &Place,
+    p: &CForm,
+    q: &CForm,
+    h: &Helper,
+    goals: &mut Seq<Obligation>,
+) -> Result<(), RuleError>
+    requires place { IsPlace pl.now }
+    requires p { FormFits pl.now.slots.now pl.now.params.now p.now }
+    requires q { FormFits pl.now.slots.now pl.now.params.now q.now }
+    requires helper { HelperWellScoped (is_below (length pl.now.params.now)) h.now }
+    ensures { Added result goals.old goals.new pl.now.slots.now pl.now.params.now
+        (table.unless_forms (site_of pl.now) p.now q.now ++ table.helper_forms (site_of pl.now) p.now q.now h.now) }
+{
+    let mut pool = Pool::new(alloc);
+    add_ensures(alloc, pl, &mut pool, p, q, h, goals)
+}
+
 /// `p ensures q` by the program's text: `p unless q`, and the statement that helps gives q where p holds
 /// and q does not (chapter 3 of the book), where U holds before and after it. With indices that name
 /// parameters one of the program's instances has to be meant, and each that may be gives q (this profile).
@@ -91,11 +133,8 @@ pub fn ensures_rule(
     if !is_helper(pl, h) {
         return Err(RuleError::Fault(Code::NoSuchStatement));
     }
-    let mut pool = Pool::new(alloc);
     let mut goals = Seq::new(alloc);
-    add_unless(alloc, pl, &mut pool, p, q, &mut goals)?;
-    add_meant(alloc, pl, h, &mut goals)?;
-    add_helped(alloc, pl, &mut pool, p, q, h, &mut goals)?;
+    ensures_goals(alloc, pl, p, q, h, &mut goals)?;
     let claim = Claim {
         kind: Kind::Ensures,
         p: held_form(alloc, p)?,

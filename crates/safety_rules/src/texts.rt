@@ -128,6 +128,24 @@ pub(crate) fn add_unless(
     add_kept(alloc, pl, pool, premises.as_slice(), either.get(), goals)
 }
 
+// The same, with a pool of their own.
+fn unless_goals(
+    alloc: Global,
+    pl: &Place,
+    p: &CForm,
+    q: &CForm,
+    goals: &mut Seq<Obligation>,
+) -> Result<(), RuleError>
+    requires place { IsPlace pl.now }
+    requires p { FormFits pl.now.slots.now pl.now.params.now p.now }
+    requires q { FormFits pl.now.slots.now pl.now.params.now q.now }
+    ensures { Added result goals.old goals.new pl.now.slots.now pl.now.params.now
+        (table.unless_forms (site_of pl.now) p.now q.now) }
+{
+    let mut pool = Pool::new(alloc);
+    add_unless(alloc, pl, &mut pool, p, q, goals)
+}
+
 /// `p unless q` by the program's text: each statement, where p holds and q does not, keeps p or gives q
 /// (chapter 3 of the book), where U holds before and after it (this profile).
 ///
@@ -139,9 +157,8 @@ pub fn unless_rule(alloc: Global, pl: &Place, p: &CForm, q: &CForm) -> Result<De
     ensures answer { RuleAnswers result pl.now.slots.now (table.unless_of (site_of pl.now) p.now q.now) }
     ensures sound { StandsWhereShown pl.now result }
 {
-    let mut pool = Pool::new(alloc);
     let mut goals = Seq::new(alloc);
-    add_unless(alloc, pl, &mut pool, p, q, &mut goals)?;
+    unless_goals(alloc, pl, p, q, &mut goals)?;
     let claim = Claim {
         kind: Kind::Unless,
         p: held_form(alloc, p)?,
@@ -172,6 +189,22 @@ fn add_invariant(
     add_kept(alloc, pl, pool, premises.as_slice(), p, goals)
 }
 
+// The same, with a pool of their own.
+fn invariant_goals(
+    alloc: Global,
+    pl: &Place,
+    p: &CForm,
+    goals: &mut Seq<Obligation>,
+) -> Result<(), RuleError>
+    requires place { IsPlace pl.now }
+    requires p { FormFits pl.now.slots.now pl.now.params.now p.now }
+    ensures { Added result goals.old goals.new pl.now.slots.now pl.now.params.now
+        (table.invariant_forms (site_of pl.now) p.now) }
+{
+    let mut pool = Pool::new(alloc);
+    add_invariant(alloc, pl, &mut pool, p, goals)
+}
+
 // Where U and the initially section hold, so does p.
 fn starts(alloc: Global, pl: &Place, p: &CForm) -> Result<CForm, AllocError>
     requires place { IsPlace pl.now }
@@ -194,9 +227,8 @@ pub fn invariant_rule(alloc: Global, pl: &Place, p: &CForm) -> Result<Derived, R
     ensures answer { RuleAnswers result pl.now.slots.now (table.invariant_of (site_of pl.now) p.now) }
     ensures sound { StandsWhereShown pl.now result }
 {
-    let mut pool = Pool::new(alloc);
     let mut goals = Seq::new(alloc);
-    add_invariant(alloc, pl, &mut pool, p, &mut goals)?;
+    invariant_goals(alloc, pl, p, &mut goals)?;
     let claim = Claim {
         kind: Kind::Invariant,
         p: held_form(alloc, p)?,

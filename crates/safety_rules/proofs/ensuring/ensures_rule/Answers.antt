@@ -14,7 +14,6 @@ use Rattle.safety_rules.specs.declared.places.RuleError.{RuleError}
 use Rattle.safety_rules.specs.Answers.{site_of, RuleAnswers}
 use Rattle.safety_rules.specs.Goals.{Added}
 use Rattle.safety_rules.proofs.AnswerLaws.{needs_met, needs_not, refused_goals, rule_given, refused, given_by}
-use Rattle.safety_rules.proofs.AnswerLaws.{first_part_fails, second_part_added}
 use Rattle.safety_rules.proofs.SoundLaws.{site_good, answer_stands, error_stands}
 use Rattle.safety_rules.proofs.ErrorLaws.{handed_on}
 use Rattle.safety_rules.proofs.ensuring.ensures_rule.Goals as goal
@@ -37,23 +36,6 @@ module _ (site : Site) (p q : CForm) (h : Helper) where
       (refused_goals site.slots site.params (Unit {0}) e old new (record_of site Kind.Ensures p q [] (Some h)) all_forms
       added))
 
-  -- those of the unless, then others
-  then_helper : {T : Type 0} (done : Unit {0}) (answer : Result T RuleError) (old mid new : List Obligation) →
-      Added (Ok done) old mid site.slots site.params (unless_forms site p q) →
-      Added answer mid new site.slots site.params (helper_forms site p q h) →
-      Added answer old new site.slots site.params all_forms
-  then_helper done answer old mid new =
-      second_part_added site.slots site.params done answer old mid new (unless_forms site p q) (helper_forms site p q h)
-
-  -- all of them, part by part
-  each_added : {T : Type 0} (done more : Unit {0}) (answer : Result T RuleError) (old mid later new : List Obligation) →
-      Added (Ok done) old mid site.slots site.params (unless_forms site p q) →
-      Added (Ok more) mid later site.slots site.params (meant_forms site h) →
-      Added answer later new site.slots site.params helped_forms → Added answer old new site.slots site.params all_forms
-  each_added done more answer old mid later new one two three =
-      then_helper done answer old mid new one
-      (second_part_added site.slots site.params more answer mid later new (meant_forms site h) helped_forms two three)
-
 pub returns-then-not-is_helper-clause-answer : goal.returns-then-not-is_helper-clause-answer
 returns-then-not-is_helper-clause-answer c =
     let site : Site = site_of c.args.pl.now in
@@ -62,39 +44,12 @@ returns-then-not-is_helper-clause-answer c =
     ∙ needs_not (is_helper site c.args.h.now) Code.NoSuchStatement _
     (sym c.is_helper.ensures ∙ c.if-not-is_helper.true))
 
-pub returns-in_err-add_unless-clause-answer : goal.returns-in_err-add_unless-clause-answer
-returns-in_err-add_unless-clause-answer c =
+pub returns-in_err-ensures_goals-clause-answer : goal.returns-in_err-ensures_goals-clause-answer
+returns-in_err-ensures_goals-clause-answer c =
     let site : Site = site_of c.args.pl.now in
-    let e = c.in_err-add_unless.field-0.0 in
-    not_added site c.args.p.now c.args.q.now c.args.h.now c.from_residual.result e c.new-goals.result
-    c.add_unless.new.goals (sym c.is_helper.ensures ∙ c.if-not-is_helper.false) c.from_residual.ensures.1
-    (first_part_fails site.slots site.params (Unit {0}) (Unit {0}) e c.new-goals.result c.add_unless.new.goals
-    (unless_forms site c.args.p.now c.args.q.now) (helper_forms site c.args.p.now c.args.q.now c.args.h.now)
-    c.in_err-add_unless.ensures)
-
-pub returns-in_err-add_meant-clause-answer : goal.returns-in_err-add_meant-clause-answer
-returns-in_err-add_meant-clause-answer c =
-    let site : Site = site_of c.args.pl.now in
-    let e = c.in_err-add_meant.field-0.0 in
-    not_added site c.args.p.now c.args.q.now c.args.h.now c.from_residual-in_err-add_meant.result e c.new-goals.result
-    c.add_meant.new.goals (sym c.is_helper.ensures ∙ c.if-not-is_helper.false)
-    c.from_residual-in_err-add_meant.ensures.1
-    (then_helper site c.args.p.now c.args.q.now c.args.h.now {T = Unit {0}} c.in_ok-add_unless.field-0 (Err e)
-    c.new-goals.result c.add_unless.new.goals c.add_meant.new.goals c.in_ok-add_unless.ensures
-    (first_part_fails site.slots site.params (Unit {0}) (Unit {0}) e c.add_unless.new.goals c.add_meant.new.goals
-    (meant_forms site c.args.h.now) (helped_forms site c.args.p.now c.args.q.now c.args.h.now)
-    c.in_err-add_meant.ensures))
-
-pub returns-in_err-add_helped-clause-answer : goal.returns-in_err-add_helped-clause-answer
-returns-in_err-add_helped-clause-answer c =
-    let site : Site = site_of c.args.pl.now in
-    let e = c.in_err-add_helped.field-0.0 in
-    not_added site c.args.p.now c.args.q.now c.args.h.now c.from_residual-in_err-add_helped.result e c.new-goals.result
-    c.add_helped.new.goals (sym c.is_helper.ensures ∙ c.if-not-is_helper.false)
-    c.from_residual-in_err-add_helped.ensures.1
-    (each_added site c.args.p.now c.args.q.now c.args.h.now {T = Unit {0}} c.in_ok-add_unless.field-0
-    c.in_ok-add_meant.field-0 (Err e) c.new-goals.result c.add_unless.new.goals c.add_meant.new.goals
-    c.add_helped.new.goals c.in_ok-add_unless.ensures c.in_ok-add_meant.ensures c.in_err-add_helped.ensures)
+    not_added site c.args.p.now c.args.q.now c.args.h.now c.from_residual.result c.in_err-ensures_goals.field-0.0
+    c.new-goals.result c.ensures_goals.new.goals (sym c.is_helper.ensures ∙ c.if-not-is_helper.false)
+    c.from_residual.ensures.1 c.in_err-ensures_goals.ensures
 
 pub returns-clause-answer : goal.returns-clause-answer
 returns-clause-answer c =
@@ -105,27 +60,14 @@ returns-clause-answer c =
     given_by site.slots c.conclude.result (ensures_of site p q h) _
     (ensures-is site p q h
     ∙ needs_met (is_helper site h) Code.NoSuchStatement _ (sym c.is_helper.ensures ∙ c.if-not-is_helper.false))
-    (rule_given c.in_ok-add_helped.field-0 site Kind.Ensures p q c.in_ok-held_form.field-0
+    (rule_given c.in_ok-ensures_goals.field-0 site Kind.Ensures p q c.in_ok-held_form.field-0
     c.in_ok-held_form-2.field-0 [] ([] ++ []) (Some h) c.in_ok-some_helper.field-0 (all_forms site p q h)
-    c.new-goals.result c.add_helped.new.goals c.conclude.result c.in_ok-held_form.ensures c.in_ok-held_form-2.ensures
-    refl c.in_ok-some_helper.ensures c.new-goals.ensures
-    (each_added site p q h c.in_ok-add_unless.field-0 c.in_ok-add_meant.field-0 (Ok c.in_ok-add_helped.field-0)
-    c.new-goals.result c.add_unless.new.goals c.add_meant.new.goals c.add_helped.new.goals c.in_ok-add_unless.ensures
-    c.in_ok-add_meant.ensures c.in_ok-add_helped.ensures) c.conclude.ensures)
+    c.new-goals.result c.ensures_goals.new.goals c.conclude.result c.in_ok-held_form.ensures c.in_ok-held_form-2.ensures
+    refl c.in_ok-some_helper.ensures c.new-goals.ensures c.in_ok-ensures_goals.ensures c.conclude.ensures)
 
-pub returns-in_err-add_unless-clause-sound : goal.returns-in_err-add_unless-clause-sound
-returns-in_err-add_unless-clause-sound c =
-    error_stands c.args.pl.now c.from_residual.result c.in_err-add_unless.field-0.0 c.from_residual.ensures.1
-
-pub returns-in_err-add_meant-clause-sound : goal.returns-in_err-add_meant-clause-sound
-returns-in_err-add_meant-clause-sound c =
-    error_stands c.args.pl.now c.from_residual-in_err-add_meant.result c.in_err-add_meant.field-0.0
-    c.from_residual-in_err-add_meant.ensures.1
-
-pub returns-in_err-add_helped-clause-sound : goal.returns-in_err-add_helped-clause-sound
-returns-in_err-add_helped-clause-sound c =
-    error_stands c.args.pl.now c.from_residual-in_err-add_helped.result c.in_err-add_helped.field-0.0
-    c.from_residual-in_err-add_helped.ensures.1
+pub returns-in_err-ensures_goals-clause-sound : goal.returns-in_err-ensures_goals-clause-sound
+returns-in_err-ensures_goals-clause-sound c =
+    error_stands c.args.pl.now c.from_residual.result c.in_err-ensures_goals.field-0.0 c.from_residual.ensures.1
 
 pub returns-clause-sound : goal.returns-clause-sound
 returns-clause-sound c =

@@ -11,30 +11,30 @@ use Rattle.safety_rules.proofs.SoundLaws.{site_good, answer_stands, error_stands
 use Rattle.safety_rules.proofs.ErrorLaws.{handed_on}
 use Rattle.safety_rules.proofs.texts.invariant_rule.Goals as goal
 
-pub returns-in_err-add_invariant-clause-answer : goal.returns-in_err-add_invariant-clause-answer
-returns-in_err-add_invariant-clause-answer c =
+pub returns-in_err-invariant_goals-clause-answer : goal.returns-in_err-invariant_goals-clause-answer
+returns-in_err-invariant_goals-clause-answer c =
     let site : Site = site_of c.args.pl.now in
     let p : CForm = c.args.p.now in
-    let e = c.in_err-add_invariant.field-0.0 in
+    let e = c.in_err-invariant_goals.field-0.0 in
     handed_on (λ r. RuleAnswers r site.slots (invariant_of site p)) c.from_residual.result e c.from_residual.ensures.1
     (subst (λ x. RuleAnswers (Err e) site.slots x) (sym (invariant-is site p))
-    (refused_goals site.slots site.params (Unit {0}) e c.new-goals.result c.add_invariant.new.goals
-    (record_of site Kind.Invariant p Bottom [] None) (invariant_forms site p) c.in_err-add_invariant.ensures))
+    (refused_goals site.slots site.params (Unit {0}) e c.new-goals.result c.invariant_goals.new.goals
+    (record_of site Kind.Invariant p Bottom [] None) (invariant_forms site p) c.in_err-invariant_goals.ensures))
 
 pub returns-clause-answer : goal.returns-clause-answer
 returns-clause-answer c =
     let site : Site = site_of c.args.pl.now in
     let p : CForm = c.args.p.now in
     subst (λ x. RuleAnswers c.conclude.result site.slots x) (sym (invariant-is site p))
-    (rule_given c.in_ok-add_invariant.field-0 site Kind.Invariant p Bottom c.in_ok-held_form.field-0
+    (rule_given c.in_ok-invariant_goals.field-0 site Kind.Invariant p Bottom c.in_ok-held_form.field-0
     c.in_ok-new.field-0 []
-    ([] ++ []) None None (invariant_forms site p) c.new-goals.result c.add_invariant.new.goals c.conclude.result
-    c.in_ok-held_form.ensures c.in_ok-new.ensures refl refl c.new-goals.ensures c.in_ok-add_invariant.ensures
+    ([] ++ []) None None (invariant_forms site p) c.new-goals.result c.invariant_goals.new.goals c.conclude.result
+    c.in_ok-held_form.ensures c.in_ok-new.ensures refl refl c.new-goals.ensures c.in_ok-invariant_goals.ensures
     c.conclude.ensures)
 
-pub returns-in_err-add_invariant-clause-sound : goal.returns-in_err-add_invariant-clause-sound
-returns-in_err-add_invariant-clause-sound c =
-    error_stands c.args.pl.now c.from_residual.result c.in_err-add_invariant.field-0.0 c.from_residual.ensures.1
+pub returns-in_err-invariant_goals-clause-sound : goal.returns-in_err-invariant_goals-clause-sound
+returns-in_err-invariant_goals-clause-sound c =
+    error_stands c.args.pl.now c.from_residual.result c.in_err-invariant_goals.field-0.0 c.from_residual.ensures.1
 
 pub returns-clause-sound : goal.returns-clause-sound
 returns-clause-sound c =
