@@ -39,14 +39,18 @@ LayersProject = (d : Document) → IsCoreDocument (core_document d) → (upper l
     Projects (system_of (document_setting d) h) (system_of (document_setting d) f) (reset (is_new over under) 0) first
     choices later
 
--- where a document is accepted, the program of each step by `superpose` is in core form a layer over the program that
--- the step refers to, and each of its executions is projected on that program
-abbrev pub SuperposedProject : Type 0
-SuperposedProject = (d : Document) (starts : CProgram → Bool) (plan : Plan) → IsValidlyPlanned d starts plan →
-    EachStep (λ e proof step. (at : ℕ) (of : Ref) → step.rule ≡ Rule.Superpose at of → (h f : Composed)
+-- the program of each step by `superpose` is in core form a layer over the program that the step refers to, and each of
+-- its executions is projected on that program
+abbrev pub LayersCarry : Document → Type 0
+LayersCarry d = EachStep (λ e proof step. (at : ℕ) (of : Ref) → step.rule ≡ Rule.Superpose at of → (h f : Composed)
     (over under : CProgram) → IsCoreProgramOf e proof.program.text h over →
     IsCoreProgramOf e (ref_program proof.program.text of.name of.step) f under →
     IsTrue (is_layer over under) × ((first : State) (choices : List ℕ) (later : List State) →
     IsExecution (system_of (document_setting e) h) first choices later →
     Projects (system_of (document_setting e) h) (system_of (document_setting e) f) (reset (is_new over under) 0) first
     choices later)) d
+
+-- where a document is accepted, layers carry
+abbrev pub SuperposedProject : Type 0
+SuperposedProject = (d : Document) (starts : CProgram → Bool) (plan : Plan) → IsValidlyPlanned d starts plan →
+    LayersCarry d

@@ -4,8 +4,7 @@
 use std::env;
 use std::io::ErrorKind;
 use std::process::ExitCode;
-use unity_base::{RealSink, RealSource};
-use unity_cli::{Status, unity};
+use unity_cli::{Status, exit_for};
 
 /// The exit where the runtime names a cause other than memory for not giving the words.
 const NO_WORDS: u8 = 11;
@@ -23,7 +22,5 @@ fn main(rt: HostRuntime) -> ExitCode {
     let Ok(words) = words.skip(1).collect::<Vec<String>>(rt.alloc()) else {
         return ExitCode::from(Status::WantOfMemory.number());
     };
-    let mut src = RealSource::new(rt.stdin());
-    let mut out = RealSink::new(rt.stdout());
-    ExitCode::from(unity(rt.alloc(), &words, &mut src, &mut out).number())
+    exit_for(rt.alloc(), &words, rt.stdin(), rt.stdout())
 }

@@ -21,6 +21,8 @@ use Rattle.soundness.specs.Written.{AreClaims}
 use Rattle.soundness.proofs.Words.{claims_are_written}
 use Rattle.soundness.proofs.Claims.{each_claim_is_true}
 use Rattle.soundness.proofs.Starts.{executions_exist}
+use Rattle.soundness.specs.Layers.{LayersCarry}
+use Rattle.soundness.proofs.LayerRuns.{superposed_project}
 use Rattle.cli_texts.specs.Verdicts.{accepted_text}
 use Rattle.soundness.specs.Told.{TellsClaims}
 use Rattle.soundness.proofs.Lines.{accepted_tells}
@@ -31,6 +33,7 @@ use Rattle.unity_cli.specs.Answer.Check.{IsAccepted}
 use Rattle.unity_cli.specs.Truth.{ClaimsAreTrue, ProgramsRun}
 use Rattle.unity_cli.specs.Starts.{ProgramsStart}
 use Rattle.unity_cli.specs.Following.{FollowsTheRules}
+use Rattle.unity_cli.specs.Laws.{FollowedCarry}
 
 -- the core form of what was read meets all conditions on core documents
 pub read_core : (most : ℕ) → most ≤ greatest_size → (bytes : List ℕ) (d : Document) → IsAdmitted most bytes d →
@@ -136,3 +139,13 @@ pub accepted_starts : (bytes text : List ℕ) (d : Document) → IsAccepted byte
     ProgramsStart d
 accepted_starts bytes text d a r =
     subst ProgramsStart (one_document bytes a.document d a.read.reading.is_document r) (programs_start bytes text a)
+
+layers_carry : (bytes text : List ℕ) (a : IsAccepted bytes text) → LayersCarry a.document
+layers_carry bytes text a =
+    superposed_project a.document (starts_in (core_document a.document).slots) (valid_by bytes text a).steps
+    (proved_by bytes text a)
+
+pub followed_carry : FollowedCarry
+followed_carry bytes d f r =
+    let a = followed_accepts bytes f in
+    subst LayersCarry (one_document bytes a.1.document d a.1.read.reading.is_document r) (layers_carry bytes a.0 a.1)

@@ -1,8 +1,12 @@
 -- Laws of the answers, as statements.
 use Rattle.std.specs.Prelude.{◌≡◌, ◌≤◌, ℕ, List, Option, Some}
+use Rattle.unity_syntax.specs.declared.document.Document.{Document}
+use Rattle.unity_parser.specs.Document.{IsDocument}
 use Rattle.cli_words.specs.Requests.{Request, prove, demo, request_of}
+use Rattle.soundness.specs.Layers.{LayersCarry}
 use Rattle.unity_cli.specs.declared.status.Status.{Status}
 use Rattle.unity_cli.specs.Answer.{Answer}
+use Rattle.unity_cli.specs.Following.{FollowsTheRules}
 
 -- all but a search have no choice; that of a ring is one
 abbrev pub IsDetermined : Option Request → Type 0
@@ -32,3 +36,7 @@ IsLimited request = Unit {0}
 abbrev pub LimitedHaveAnswer : Type 0
 LimitedHaveAnswer = (request : Option Request) → IsLimited request → (bytes : List ℕ) →
     HasAnswer request bytes
+
+-- in a document whose proofs follow the rules layers carry
+abbrev pub FollowedCarry : Type 0
+FollowedCarry = (bytes : List ℕ) (d : Document) → FollowsTheRules bytes → IsDocument bytes d → LayersCarry d

@@ -9,3 +9,4 @@ pub mod Starts
 pub mod Following
 pub mod Watching
 pub mod Laws
+pub mod Exits

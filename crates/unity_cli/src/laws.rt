@@ -1,8 +1,8 @@
 // Laws of the answers. The functions do nothing: they state them.
-ghost use Rattle.soundness.specs.Layers.{LayersProject, SuperposedProject};
-ghost use Rattle.unity_cli.specs.Laws.{OneAnswer, SomeAnswer, LimitedHaveAnswer};
+ghost use Rattle.soundness.specs.Layers.{LayersProject};
+ghost use Rattle.unity_cli.specs.Laws.{OneAnswer, SomeAnswer, LimitedHaveAnswer, FollowedCarry};
 
-use soundness::{projection_laws, superposed_laws};
+use soundness::projection_laws;
 
 /// Words and bytes have some status and text; and they have no other, but for words for a search, whose certificates
 /// may differ.
@@ -14,13 +14,12 @@ pub fn one_answer()
 
 /// Where a program of a document is a layer over another, each of its executions whose first state may begin the
 /// other, without the choices of what the layer adds and with the layer's own variables as they are in the first
-/// state, is an execution of the other, with at least as many rounds: by the meaning of the document itself. In an
-/// accepted document the program of each step by `superpose` is such a layer over the program that the step refers to,
-/// and each of its executions may begin it.
+/// state, is an execution of the other, with at least as many rounds: by the meaning of the document itself. In a
+/// document that `check` accepts the program of each step by `superpose` is such a layer over the program that the step
+/// refers to, and each of its executions may begin it.
 pub fn layers_project()
     ensures projected { LayersProject }
-    ensures superposed { SuperposedProject }
+    ensures carried { FollowedCarry }
 {
     projection_laws();
-    superposed_laws();
 }

@@ -8,6 +8,7 @@ mod fixed;
 mod input;
 mod laws;
 mod output;
+mod process;
 mod prove;
 mod replay;
 mod run;
@@ -20,5 +21,6 @@ mod watch;
 
 pub use cli_ring::make_demo;
 pub use laws::{layers_project, one_answer};
+pub use process::exit_for;
 pub use status::Status;
 pub use top::unity;
