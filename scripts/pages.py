@@ -5,6 +5,7 @@ import re
 
 PATTERNS = ["README.md", "CONTRIBUTING.md", "CHANGELOG.md", "docs/*.md", "examples/README.md", "examples/*/README.md",
             "editors/README.md"]
+WRITTEN, UNTIL_HERE = "<!-- written by ", "<!-- until here -->"
 FENCE = re.compile(r"\s*(```|~~~)")
 ITEM = re.compile(r"\s*(?:[-*+]|\d+\.)\s+")
 HEADING = re.compile(r"(#+)\s+(.*?)\s*#*$")
@@ -69,6 +70,14 @@ def prose(lines):
         yield number, line
 
 
+def own_prose(lines):
+    """The same without what a script writes between its two marks: that is read on the pages where it comes from."""
+    written = False
+    for (number, line), whole in zip(prose(lines), lines):
+        written = (written or whole.startswith(WRITTEN)) and not whole.startswith(UNTIL_HERE)
+        yield number, "" if written else line
+
+
 def cells(line):
     """The cells of a table's row, each with its column."""
     start = line.index("|") + 1
@@ -81,7 +90,7 @@ def cells(line):
 def paragraphs(lines):
     """The paragraphs of a page; a heading, an item of a list and a cell of a table are each one of their own."""
     current = Paragraph()
-    for number, line in prose(lines):
+    for number, line in own_prose(lines):
         row = line.lstrip().startswith("|")
         item = ITEM.match(line)
         heading = HEADING.match(line)

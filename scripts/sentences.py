@@ -2,10 +2,10 @@
 """Counts the words of each sentence of the pages, and follows their links: python3 scripts/sentences.py [PAGE..]
 
 No sentence has more than 35 words. A block of code has none; an item of a list, a heading and a cell of a table hold
-sentences of their own; a span of code is one word, and of a link its text counts and not its address. A relative link
-leads to a file or folder that is there, and behind a `#` to a heading of that page. Each fault is a line
-`file:line:column: message`; the last line is `N passed, M failed`, with one test for each sentence and each link.
-The status is 1 where one failed. Without a PAGE all pages are read: README.md, CONTRIBUTING.md, CHANGELOG.md, docs/,
+sentences of their own; a span of code is one word, and of a link its text counts and not its address. Tables that a
+script writes between its marks are read on the pages that they come from. A relative link leads to a file or folder
+that is there, and behind a `#` to a heading of that page. Each fault is a line `file:line:column: message`; the last
+line is `N passed, M failed`, with one test for each sentence and each link. The status is 1 where one failed. Without a PAGE all pages are read: README.md, CONTRIBUTING.md, CHANGELOG.md, docs/,
 and the pages of examples/ and editors/."""
 import argparse
 import os
