@@ -4,6 +4,9 @@ import os
 import subprocess
 import sys
 
+sys.dont_write_bytecode = True
+import end_rows  # noqa: E402
+
 DONE, READ_FAULT, WRITE_FAULT, WANT_OF_MEMORY = 0, 7, 8, 9
 EVER = 10 ** 12
 PLACE = "2: sum 1*2"
@@ -43,19 +46,28 @@ class Ends:
     def __init__(self, program, refusing):
         self.program, self.refusing = program, refusing
 
-    def ask(self, words, text, **refused):
-        """The status and the answer, where the calls of these kinds are refused, each in a range of numbers."""
-        places = {"LD_PRELOAD": self.refusing}
+    def ask(self, words, text, one=False, room=None, **refused):
+        """The status and the answer, where the calls of these kinds are refused, each in a range of numbers.
+
+        Where `one` is told, a read and a write move one byte; where `room` is, so many bytes can be written.
+        """
+        places = self.places(one)
+        if room is not None:
+            places["REFUSE_ROOM"] = str(room)
         for kind, (first, last) in refused.items():
             places["REFUSE_" + kind.upper()] = f"{first}-{last}"
         done = subprocess.run([self.program, *words], input=text, stdout=subprocess.PIPE, stderr=subprocess.PIPE,
                               env={**os.environ, **places}, check=False)
         return done.returncode, done.stdout
 
-    def counts(self, words, text):
+    def places(self, one=False):
+        """What the program finds in its environment."""
+        return {"LD_PRELOAD": self.refusing, **({"REFUSE_ONE": "1"} if one else {})}
+
+    def counts(self, words, text, one=False):
         """How many calls ask for memory, read and write where none is refused."""
         source, told = os.pipe()
-        places = {"LD_PRELOAD": self.refusing, "REFUSE_COUNTS": str(told)}
+        places = {**self.places(one), "REFUSE_COUNTS": str(told)}
         subprocess.run([self.program, *words], input=text, stdout=subprocess.DEVNULL, env={**os.environ, **places},
                        pass_fds=[told], check=False)
         os.close(told)
@@ -133,6 +145,9 @@ def main():
         trials.question(f"{words}, {name}", words, documents[name], 1 if whole else each)
     trials.question("prove 1000000, a leads-to", "prove 1000000", LEADSTO.encode(), 1)
     trials.question("check, many pairs of zero", "check", wide, each)
+    tried, failed = end_rows.tried(ends, trials.pool)
+    print(*failed, sep="\n", end="\n" if failed else "")
+    trials.tried, trials.wrong = trials.tried + tried, trials.wrong + len(failed)
     print(f"{trials.tried} answers, {trials.wrong} wrong")
     right = ends.ask(["check"], count)
     if ends.ask(["check"], wide) != right:

@@ -3,10 +3,11 @@
 #
 # It asks questions of each command, over documents of each kind, and refuses each call that asks for memory, reads or
 # writes: one alone, and then all from there on. Each answer must be the right one; or status 9 or 7 with nothing
-# written, where memory or a read is refused; or status 8 with a front part of the right text, where a write is. It
-# prints those that are not, and exits with status 1. With EACH, a number, only each EACH-th call for memory is refused,
-# but for a few questions of which each is. At last it says how many calls for memory a check of the counter needs, and
-# the same where its certificates have 100,000 pairs more that name no fact.
+# written, where memory or a read is refused; or status 8 with a front part of the right text, where a write is. Then
+# come the rows of examples/ends/, whose README.md tells how each is tried. What is wrong is printed, and the status is
+# then 1. With EACH, a number, only each EACH-th call for memory is refused, but for a few questions of which each is.
+# At last it says how many calls for memory a check of the counter needs, and the same where its certificates have
+# 100,000 pairs more that name no fact.
 #
 # It wants the built program, or the one that is named, a C compiler and the GNU C library.
 set -eu

@@ -27,6 +27,7 @@ BELOW = {
              "Obligations and certificates"],
     "Rules": ["Ground", "Meaning", "Core", "Obligations and certificates", "Search", "Runs"],
 }
+LEAVES = ["Examples", "Wrong bodies"]
 LAWS = ["meaning_laws", "layer_laws", "names_laws"]
 OF_DOCUMENTS = ["meaning_documents", "certificate_reading", "run_correct", "fixed_correct"]
 IMPORT = re.compile(r"\bRattle\.(\w+)\.(\w+)")
@@ -102,7 +103,8 @@ def rules(room_of):
     return [
         Rule("A file names its own room and the rooms below it in the picture, and no other.", lambda file: True,
              not_below),
-        Rule("Nothing stands on an example.", lambda file: file.room != "Examples", named(rooms("Examples"))),
+        Rule("Nothing stands on an example or on a wrong body.", lambda file: file.room not in LEAVES,
+             named(rooms(*LEAVES))),
         Rule("A definition cites definitions, and a contract too: neither names a proof.",
              lambda file: file.kind != "proofs", lambda file, crate, part: part == "proofs" and crate in room_of),
         Rule("The theory of grammars knows no language: it names no crate of this repository.",
@@ -116,7 +118,7 @@ def rules(room_of):
              in_room("Obligations and certificates", ["certificate_reading"]), named(documents)),
         Rule("A search knows no document.", in_room("Search"), named(documents)),
         Rule("What is proposed is judged: `proof_search` alone names `conflict_search`.",
-             lambda file: file.crate not in ("proof_search", "conflict_search") and file.room != "Examples",
+             lambda file: file.crate not in ("proof_search", "conflict_search") and file.room not in LEAVES,
              named(["conflict_search"])),
         Rule("Runs execute core form: `run_correct` and `fixed_correct` alone name a document.",
              in_room("Runs", ["run_correct", "fixed_correct"]), named(documents)),

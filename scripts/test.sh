@@ -659,14 +659,27 @@ expect_no_picture() {
     count_one "$holds" "no picture of: $*"
 }
 
-# expect_refused N TEST: this test of unity_base passes where its Nth allocation is refused.
+# expect_refused N TEST: this test of the crate examples_reading passes where its Nth allocation is refused.
 expect_refused() {
     local holds=1
-    (cd crates/unity_base && ulimit -Ss 8192 && rt try --test --fail-alloc "$1") > "$answer" 2>&1 || true
-    if grep -q "^test tests::$2 \.\.\. ok" "$answer"; then
+    (cd crates/examples_reading && ulimit -Ss 8192 && rt try --test --fail-alloc "$1") > "$answer" 2>&1 || true
+    if grep -q "^test ground::$2 \.\.\. ok" "$answer"; then
         holds=0
     fi
     count_one "$holds" "$2, allocation $1"
+}
+
+# expect_rows: all rows of examples/rows/ have their answers; each of them counts.
+expect_rows() {
+    python3 scripts/rows.py > "$answer" 2>&1 || true
+    if [[ "$(tail -n 1 "$answer")" =~ ^([0-9]+)\ passed,\ ([0-9]+)\ failed$ ]]; then
+        passed=$((passed + BASH_REMATCH[1]))
+        failed=$((failed + BASH_REMATCH[2]))
+        head -n -1 "$answer"
+    else
+        cat "$answer"
+        count_one 1 "the rows of examples/rows/"
+    fi
 }
 
 # expect_ends EACH: where memory, reads and writes are refused call by call, each EACH-th call for memory, no answer of
@@ -915,6 +928,7 @@ bash scripts/map.sh --check || holds=1
 count_one "$holds" "the tables of rooms and crates"
 expect_matchers
 expect_alike 20 1
+expect_rows
 expect_ends 8
 expect_units 25
 expect_none_left

@@ -6,7 +6,7 @@ use Rattle.core_terms.specs.declared.trees.CForm.TheVariants.{Top}
 use Rattle.core_terms.specs.Conditions.{IsProgram}
 use Rattle.executor.specs.CoreSystem.{core_system}
 use Rattle.fair_rounds.specs.Records.{holding}
-use Rattle.examples_bounds.specs.declared.walking.Claim.{Claim}
+use Rattle.examples_bounds.specs.declared.claims.Claim.{Claim}
 use Rattle.examples_bounds.specs.Readable.{FormIsReadable}
 
 -- every state is a start of its program, and its formulas can be evaluated at each state

@@ -8,8 +8,9 @@ ghost use Rattle.fair_rounds.specs.Records.{holding};
 ghost use Rattle.examples_bounds.specs.Bounded.{LeadsFrom};
 ghost use Rattle.examples_bounds.specs.Readable.{FormIsReadable};
 
+use crate::claims::Claim;
 use crate::opening::open_program;
-use crate::walking::{Claim, leads};
+use crate::walking::leads;
 use core_terms::{CForm, CProgram, CSlot};
 use std::alloc::{AllocError, Global};
 

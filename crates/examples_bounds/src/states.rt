@@ -11,8 +11,9 @@ ghost use Rattle.examples_bounds.specs.Readable.{FormIsReadable};
 ghost use Rattle.examples_bounds.specs.Tables.{SlotsAreLight};
 ghost use Rattle.examples_bounds.specs.Walking.{LeadsOn};
 
+use crate::claims::Claim;
 use crate::opening::open_program;
-use crate::walking::{Claim, copied, leads};
+use crate::walking::{copied, leads};
 use core_terms::{CForm, CProgram, CSlot};
 use std::alloc::{AllocError, Global};
 

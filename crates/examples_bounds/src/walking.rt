@@ -8,22 +8,12 @@ ghost use Rattle.executor.specs.CoreSystem.{core_system};
 ghost use Rattle.examples_bounds.specs.Claims.{IsClaim, claimed, before, after};
 ghost use Rattle.examples_bounds.specs.Walking.{LeadsBehind, ComesAt, LeadsWithin, LeadsAt};
 
-use core_terms::{CForm, CProgram, CSlot, holds};
+use crate::claims::Claim;
+use core_terms::holds;
 use executor::{Runner, StartError, Stepped};
 use fair_rounds::RoundCount;
 use std::alloc::{AllocError, Global};
 use unity_base::Seq;
-
-/// A leads-to with a bound, at some numbers of its parameters, of a program in which every state is a start.
-#[derive(Clone, Copy)]
-pub(crate) struct Claim<'a> {
-    pub(crate) slots: &'a [CSlot],
-    pub(crate) program: &'a CProgram,
-    pub(crate) p: &'a CForm,
-    pub(crate) q: &'a CForm,
-    pub(crate) params: &'a [i64],
-    pub(crate) bound: u64,
-}
 
 // The state after a choice, where its step is defined.
 fn state_after(

@@ -1,18 +1,14 @@
-//! Documents that are read and judged event by event, beside what the calls answer that read them whole. Nothing stands
-//! on this crate.
+//! Documents that are judged as they are read, and with certificates that are held whole. Nothing stands on this crate,
+//! and all of it is tests.
 #![tactic(auto)]
 
+#[cfg(test)]
 mod certificates;
-mod checks;
+#[cfg(test)]
+mod judged;
+#[cfg(test)]
 mod refusal;
-mod streamed;
 #[cfg(test)]
 mod tests;
-mod told;
+#[cfg(test)]
 mod whole;
-
-pub use checks::{all_checked, planned};
-pub use refusal::Refusal;
-pub use streamed::{Streamed, read_streamed, tokens_of};
-pub use told::events_of;
-pub use whole::{Whole, read_whole, section_split, verdict_on};

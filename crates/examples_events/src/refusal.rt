@@ -2,8 +2,6 @@
 use case_tables::Code;
 use names_rules::NameFault;
 use std::alloc::AllocError;
-use unity_base::Failed;
-use unity_lexer::FrontError;
 use unity_syntax::SyntaxFault;
 
 /// The greatest number of bytes of a text here.
@@ -28,12 +26,6 @@ impl From<AllocError> for Refusal {
     }
 }
 
-impl From<Failed> for Refusal {
-    fn from(_: Failed) -> Self {
-        Refusal::Failed
-    }
-}
-
 impl From<SyntaxFault> for Refusal {
     fn from(fault: SyntaxFault) -> Self {
         match fault {
@@ -48,17 +40,6 @@ impl From<NameFault> for Refusal {
         match fault {
             NameFault::Fault { code, at } => Refusal::Fault { code, at },
             NameFault::Memory => Refusal::Memory,
-        }
-    }
-}
-
-impl From<FrontError> for Refusal {
-    fn from(error: FrontError) -> Self {
-        match error {
-            FrontError::Fault { code, at } => Refusal::Fault { code, at },
-            FrontError::TooLong => Refusal::TooLong,
-            FrontError::Failed => Refusal::Failed,
-            FrontError::Memory => Refusal::Memory,
         }
     }
 }

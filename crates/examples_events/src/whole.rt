@@ -6,7 +6,6 @@ ghost use Rattle.proof_plans.specs.Giving.{AreWhole};
 
 use crate::certificates::certificates_from;
 use crate::refusal::{GREATEST_SIZE, Refusal};
-use case_tables::Word;
 use core_terms::CDocument;
 use obligations::Cert;
 use proof_plans::{Plan, ScriptError};
@@ -16,7 +15,7 @@ use streamed_documents::core_of;
 use unity_base::{Held, Seq};
 use unity_lexer::lex;
 use unity_parser::parse;
-use unity_syntax::{Document, SyntaxFault, Token, TokenKind};
+use unity_syntax::{Document, SyntaxFault};
 
 /// A text that was read whole: its core form and its certificates.
 #[derive(Drop)]
@@ -46,24 +45,6 @@ pub fn read_whole(alloc: Global, bytes: &[u8]) -> Result<Whole, Refusal>
     let core = core_of(alloc, &document)?;
     let certificates = certificates_from(alloc, document)?;
     Ok(Whole { core, certificates })
-}
-
-/// The tokens up to the first word `certificates`, with it, or all; and those behind it.
-pub fn section_split(alloc: Global, bytes: &[u8]) -> Result<(Seq<Token>, Seq<Token>), Refusal> {
-    let word = TokenKind::Reserved(Word::Certificates);
-    let tokens = lex(alloc, bytes)?;
-    let mut front = Seq::new(alloc);
-    let mut behind = Seq::new(alloc);
-    let mut met = false;
-    for token in tokens.as_slice() {
-        if met {
-            behind.push(*token)?;
-        } else {
-            front.push(*token)?;
-            met = token.kind == word;
-        }
-    }
-    Ok((front, behind))
 }
 
 /// The verdict on it.

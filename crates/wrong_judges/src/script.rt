@@ -1,0 +1,29 @@
+// What judges a whole document, and what finds its certificates.
+ghost use Rattle.std.specs.Prelude.{IfOk};
+ghost use Rattle.core_terms.specs.Conditions.{IsCoreDocument};
+ghost use Rattle.proof_plans.specs.Giving.{AreWhole, VerdictAnswers, PlanHolds};
+ghost use Rattle.proof_script.specs.Proving.{Finds};
+ghost use Rattle.proof_plans.specs.Verdicts.{verdict_of};
+
+use core_terms::CDocument;
+use obligations::Cert;
+use proof_script::{Plan, Proof, ScriptError};
+use std::alloc::Global;
+
+/// The call `check` of `proof_script`, with its clauses.
+pub fn check(alloc: Global, doc: &CDocument, certs: &[Cert]) -> Result<Plan, ScriptError>
+    requires document { IsCoreDocument doc.now }
+    requires whole { AreWhole certs.now }
+    ensures verdict { VerdictAnswers result (verdict_of doc.now certs.now) }
+    ensures holds { IfOk result (PlanHolds doc.now) }
+{
+    proof_script::check(alloc, doc, certs)
+}
+
+/// The call `prove` of `proof_script`, with its clause.
+pub fn prove(alloc: Global, doc: &CDocument, budget: u64) -> Result<Proof, ScriptError>
+    requires document { IsCoreDocument doc.now }
+    ensures { Finds doc.now budget result }
+{
+    proof_script::prove(alloc, doc, budget)
+}
