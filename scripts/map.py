@@ -121,8 +121,7 @@ def main(top, words):
     faults = lacking(top, "CONTRIBUTING.md", uses)
     print("".join(fault + "\n" for fault in faults), end="", file=sys.stderr)
     status = 1 if faults else 0
-    for page, rows in [("README.md", rooms_table(rooms, uses, "docs/ARCHITECTURE.md")),
-                       ("docs/ARCHITECTURE.md", crates_tables(top, rooms, uses))]:
+    for page, rows in [("docs/ARCHITECTURE.md", rooms_table(rooms, uses, "") + [""] + crates_tables(top, rooms, uses))]:
         with open(os.path.join(top, page), encoding="utf-8") as old:
             text = old.read()
         wanted = with_tables(page, text, rows)

@@ -471,14 +471,14 @@ def show(top, parts, lines, number):
 
 
 def misquoted(repo):
-    """The clauses that README.md quotes, and that the contract does not have word for word."""
+    """The clauses that the page quotes, and that the contract does not have word for word."""
     contract = "\n".join(function_in(repo, CRATE, TOP)[0].lines)
-    with open(os.path.join(repo.top, "README.md"), encoding="utf-8") as page:
+    with open(os.path.join(repo.top, PAGE), encoding="utf-8") as page:
         quoted = re.findall(r"^ensures \w+ \{(?:.*\n)*?.*\}$", page.read(), re.M)
-    faults = ["README.md: no clause is quoted"] if not quoted else []
+    faults = ["%s: no clause is quoted" % PAGE] if not quoted else []
     for clause in quoted:
         if "\n".join("    " + line for line in clause.split("\n")) not in contract:
-            faults.append("README.md: the contract has no clause `%s ..`" % clause.split(" {")[0])
+            faults.append("%s: the contract has no clause `%s ..`" % (PAGE, clause.split(" {")[0]))
     return faults
 
 
