@@ -69,7 +69,7 @@ function certificatesAt(source) {
 
 const everyHole = ['program', 'proof', 'end', 'certificates'];
 const holeEnds = {
-  formula: [...everyHole, 'by', 'using', 'with', ';', ':=', '[]', '~', '||', '|>', 'initially', 'assign', ':'],
+  formula: [...everyHole, 'by', 'using', 'with', ';', ':=', '[]', '~', '||', '|>', 'initially', 'assign'],
   rule: [...everyHole, ';'],
   steps: everyHole,
   schedule: everyHole,

@@ -9,7 +9,7 @@ import os
 import re
 import sys
 
-from exercises import exercises_of
+from exercises_read import exercises_of
 from lessons import Lessons, inline
 
 TOP = os.path.normpath(os.path.join(os.path.dirname(os.path.abspath(__file__)), "../.."))

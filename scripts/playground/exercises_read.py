@@ -22,7 +22,7 @@ TOKEN = re.compile(r"#[^\n]*|:=|::|\.\.|<\[\]|<\|\||\[\]|\|>|\|\||<=|>=|=>|/=|\w
 SECTIONS = ("program", "proof", "schedule", "certificates")
 ALWAYS = ["program", "proof", "end", "certificates"]
 HOLE_ENDS = {
-    "formula": ALWAYS + ["by", "using", "with", ";", ":=", "[]", "~", "||", "|>", "initially", "assign", ":"],
+    "formula": ALWAYS + ["by", "using", "with", ";", ":=", "[]", "~", "||", "|>", "initially", "assign"],
     "rule": ALWAYS + [";"],
     "steps": ALWAYS,
     "schedule": ALWAYS,
