@@ -75,7 +75,8 @@ class Try:
         for word, place in tokens:
             if it.changed_at(text[:place] + " " + text[place + len(word):]) is not None:
                 seen += 1
-        self.holds(it, "given words that may be taken away: %d" % (len(tokens) - holes - seen), seen >= len(tokens) - holes)
+        unseen = len(tokens) - holes - seen
+        self.holds(it, "given words that may be taken away: %d" % unseen, unseen <= 0)
         if not any(kind == "certificates" for kind, _, _ in sections_of(it.start)):
             self.holds(it, "certificates count as a change", it.changed_at(text + "certificates 1: sum; end\n") is None)
 

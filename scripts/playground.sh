@@ -9,7 +9,8 @@
 # `chromium`, `wasm-opt` or the built program is missing, is said, and is a failure with --all alone.
 # --check makes nothing, and fails where the page is not the one of the present sources. --try makes nothing either, and
 # tries the page that is there. --around puts the page together around the module of the page that is there, which takes
-# a second; it is refused where the sources of that module have changed. With --pictures the browser's pictures in docs/ are made anew.
+# a second; it is refused where the sources of that module have changed. With --pictures the browser's pictures in
+# docs/ are made anew.
 # The libraries and the program are those that scripts/test.sh or scripts/build.sh left in crates/*/out.
 set -eu
 top=$(cd "$(dirname "$0")/.." && pwd)

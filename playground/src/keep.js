@@ -27,7 +27,8 @@ function keepSoon() {
 
 function keepNow() {
   clearTimeout(keeping);
-  const now = { source: sourceOf(), name, edited, exercise: exercise?.name ?? '', lesson: get('chapter').value };
+  const { hash } = location, lesson = get('chapter').value;
+  const now = { source: sourceOf(), name, edited, exercise: exercise?.name ?? '', lesson, hash };
   store('sessionStorage', 'tab', now);
   if (edited) store('localStorage', 'last', { source: now.source, name });
   if (edited && exercise) store('localStorage', `draft.${exercise.name}`, now.source);

@@ -98,7 +98,7 @@ function wireMenus() {
   narrow.onchange();
 }
 
-// The text of this tab, as it was before the page was left; else the first example.
+// The text of this tab, as it was before the page was left, and else what the address asks for, or the first example.
 function putFirst() {
   const kept = stored('sessionStorage', 'tab'), last = stored('localStorage', 'last');
   if (last) before = { ...last, edited: true };
@@ -107,6 +107,8 @@ function putFirst() {
   remember();
   if (exerciseOf(kept?.exercise)) showTask(kept.exercise);
   else if (kept?.lesson) showLesson(Number(kept.lesson));
+  if (kept?.hash === location.hash) embed(partsOf(location.hash).get('embed'));
+  else followAddress();
 }
 
 wireEditor();
@@ -119,4 +121,3 @@ start();
 putFirst();
 window.addEventListener('pagehide', keepNow);
 window.onhashchange = followAddress;
-followAddress();

@@ -18,7 +18,8 @@ const grounds = { mark: '#ffe08a', rest: '#d9f2d9', fault: '#ffd6d6' };
 
 // The picture on a canvas, as many points wide as it is, times `scale`. It has rectangles, lines and texts alone.
 function canvasOf(svg, scale) {
-  const canvas = document.createElement('canvas'), it = canvas.getContext('2d'), { width, height } = svg.viewBox.baseVal;
+  const canvas = document.createElement('canvas'), it = canvas.getContext('2d');
+  const { width, height } = svg.viewBox.baseVal;
   canvas.width = width * scale;
   canvas.height = height * scale;
   it.scale(scale, scale);

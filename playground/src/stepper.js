@@ -43,7 +43,8 @@ function lastState(trace) {
   return line.split(' ').filter(it => it.includes('=')).join(' ');
 }
 
-const kindTitles = { moves: 'changes the state', idle: 'changes nothing here', undefined: 'is undefined here', open: '' };
+const kindTitles = { moves: 'changes the state', idle: 'changes nothing here', undefined: 'is undefined here',
+  open: '' };
 
 // What an instance does after these choices: moves, idle or undefined.
 async function kindOf(alone, list, instance, now) {
@@ -108,7 +109,8 @@ function tellWalk(trace, seen, composed) {
   const broken = seen.status === VIOLATED && brokenBy(seen.text), where = `state ${walk.at}`;
   showText(broken ? withTrace(seen.text, trace.text) : trace.text, broken ? VIOLATED : trace.status);
   const to = broken && placeOf(walk.source, seen.text);
-  if (broken) say(`${where}: ${broken.step} is broken${to ? `, line ${to.line}` : ''}, at state ${broken.place}`, false);
+  const line = to ? `, line ${to.line}` : '';
+  if (broken) say(`${where}: ${broken.step} is broken${line}, at state ${broken.place}`, false);
   else if (trace.status === 5) say(`${where}: this step is undefined`, false);
   else if (seen.status > 0) say(`${where}; the claims were not looked at: ${seen.text.split('\n')[0]}`, false);
   else say(`${where}: choose a statement`, true);
@@ -119,8 +121,8 @@ function tellWalk(trace, seen, composed) {
 
 // The buttons of the instances, and which of the others can be used.
 function drawChoices(rows, takesFocus) {
-  const box = get('choices'), was = takesFocus ? rows[0]?.[0] : document.activeElement?.dataset?.choice;
-  const next = walk.list[walk.at];
+  const box = get('choices'), next = walk.list[walk.at], focused = document.activeElement;
+  const inside = takesFocus || get('walk').contains(focused), wanted = takesFocus ? next : focused.dataset.choice;
   box.replaceChildren(...rows.map(([instance, kind], k) => {
     const key = k < 9 ? `, key ${k + 1}` : '', about = [kindTitles[kind], instance === next ? 'the next one' : ''];
     const button = element('button', instance, { className: kind, onclick: () => take(instance) });
@@ -133,7 +135,9 @@ function drawChoices(rows, takesFocus) {
   get('walk').hidden = false;
   get('back').disabled = get('restart').disabled = walk.at === 0;
   get('forward').disabled = walk.at >= walk.list.length;
-  if (was !== undefined) (box.querySelector(`[data-choice="${was}"]`) ?? get('back')).focus();
+  // the focus stays where it is, or goes to the same statement, or to the first
+  const stays = !takesFocus && !wanted && !focused.disabled, same = box.querySelector(`[data-choice="${wanted}"]`);
+  if (inside && !stays) (same ?? box.firstChild ?? get('back')).focus();
 }
 
 // Takes this step: what stood behind this place is given up, unless it goes on in the same way.

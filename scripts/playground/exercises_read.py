@@ -6,7 +6,7 @@ An exercise is a document NAME.unity with holes, and NAME.exercise beside it. Th
     chapter: N              the chapter of the tutorial that is read before it
     goal: accepted [LINE]   done when `check` accepts it, with this line in its answer; or
     goal: violated STEP     done when `watch` says that its schedule violates this step
-    hole: KIND after WORDS  a hole begins behind these words of the document, and ends before the first word of HOLE_ENDS
+    hole: KIND after WORDS  a hole begins behind these words of the document, and ends before the first of HOLE_ENDS
     solution: WORDS         what goes into the hole, one line for each hole
     hint: WORDS             three of them
 

@@ -17,8 +17,8 @@ from map import below, rooms_of  # noqa: E402
 
 MODULE = ["scripts/playground/module.sh", "scripts/playground/heap.c", "scripts/playground/drop_table.py"]
 OTHERS = ["playground/src/*", "scripts/playground/build.py", "scripts/playground/lessons.py",
-          "scripts/playground/exercises_read.py", "editors/unity.tmLanguage.json", "examples/README.md", "examples/*.unity",
-          "examples/*/*.unity", "examples/exercises/*.exercise", "docs/TUTORIAL.md", "docs/WRITING.md"]
+          "scripts/playground/exercises_read.py", "editors/unity.tmLanguage.json", "examples/README.md",
+          "examples/*.unity", "examples/*/*.unity", "examples/exercises/*.exercise", "docs/TUTORIAL.md", "docs/WRITING.md"]
 
 
 def names(program=False):

@@ -20,7 +20,8 @@ CONTRAST = """(() => {
     const style = getComputedStyle(it), colour = parsed(style.color);
     if (style.visibility === 'hidden' || colour.a === 0) continue;
     const [high, low] = [light(colour), light(ground(it))].sort((a, b) => b - a), found = (high + 0.05) / (low + 0.05);
-    if (found < 4.5) told.push(`${it.tagName}#${it.id}.${it.className} ${found.toFixed(1)}: ${it.textContent.slice(0, 30)}`);
+    const named = `${it.tagName}#${it.id}.${it.className}`;
+    if (found < 4.5) told.push(`${named} ${found.toFixed(1)}: ${it.textContent.slice(0, 30)}`);
   }
   return told;
 })()"""

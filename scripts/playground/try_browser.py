@@ -25,6 +25,8 @@ CONTROL, SHIFT = 2, 8
 #  (func (export "unity_one") (param i64 i64 i64 i64 i64 i64 i64) (unreachable)))
 TRAPPING = ("AGFzbQEAAAABEAJgAX4BfmAHfn5+fn5+fgADAwIAAQUDAQAgBx4DBm1lbW9yeQIABWJsb2NrAAAJdW5p"
             "dHlfb25lAAEKCwIFAEKACAsDAAAL")
+PARTS = ("documents", "gallery", "lessons", "addresses", "stopping", "trap", "long", "keys", "screens", "lecture", "access",
+         "names", "sending", "opening", "peterson")
 WHEN = """new Promise(done => {
   document.addEventListener(%s, it => done({ time: it.detail, answer: whole, status: get('status').textContent,
     place: get('place').hidden ? '' : get('place').textContent, picture: get('picture').innerHTML }), { once: true });
@@ -309,17 +311,30 @@ class Try:
         print("prove of Peterson in the browser: %d ms, the first %d ms (median of 9)" % (sorted(times)[4], times[0]))
 
     def pictures(self, folder):
+        race = "write(data.documents.race, 'race')"
+        bare = "%s; write(bare(sourceOf()), 'race')" % race
+        taken = ("look[0]", "look[1]", "take[0]", "take[1]")
+        steps = ["get('step').click()"] + [try_lecture.CHOICE % it for it in taken]
+        shots = [("check", "write(data.documents.count, 'count')", ["get('check').click()"]),
+                 ("refuted", race, ["get('prove').click()"]),
+                 ("trace", race, ["get('replay').click()"]),
+                 ("violated", race, ["get('watch').click()"]),
+                 ("step", bare, steps),
+                 ("proved", "write(data.documents.peterson, 'peterson')", ["get('prove').click()"]),
+                 ("exercise", "showExercise('race_mended'); showSolution()", ["get('judge').click()"])]
+        for name, begin, clicks in shots:
+            self.shot(folder, name, (1280, 760), begin, clicks)
+        self.shot(folder, "phone", (390, 844), bare, steps)
+
+    def shot(self, folder, name, size, begin, clicks):
+        """A picture of the page after these clicks, each of which has its answer."""
         self.browser.open(self.address)
-        self.browser.resize(1280, 760)
-        shots = [("check", "write(data.documents.count, 'count')", "get('check').click()"),
-                 ("refuted", "write(data.documents.race, 'race')", "get('prove').click()"),
-                 ("trace", "write(data.documents.race, 'race')", "get('replay').click()"),
-                 ("violated", "write(data.documents.race, 'race')", "get('watch').click()")]
-        for name, before, click in shots:
-            self.browser.value(before)
+        self.browser.resize(*size)
+        self.browser.value("localStorage.clear(); chooseTheme('light'); %s; 0" % begin)
+        for click in clicks:
             self.ask(click)
-            time.sleep(0.3)
-            self.browser.picture(os.path.join(folder, "playground-%s.png" % name))
+        time.sleep(0.5)
+        self.browser.picture(os.path.join(folder, "playground-%s.png" % name))
 
 
 def part_of(tried, name):
@@ -330,9 +345,8 @@ def part_of(tried, name):
 
 def main(page, folder=None, *only):
     tried = Try(page)
-    for part in [part_of(tried, it) for it in only] or (tried.documents, tried.gallery, tried.lessons, tried.addresses, tried.stopping, tried.trap, tried.long,
-                 tried.keys, tried.screens, tried.lecture, tried.access, tried.names, tried.sending, tried.opening, tried.peterson):
-        part()
+    for name in only or PARTS:
+        part_of(tried, name)()
     if folder and folder != "-":
         tried.pictures(folder)
     tried.browser.end()

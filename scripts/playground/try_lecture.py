@@ -1,7 +1,7 @@
-"""Clicks through what a lecture does with the page, in the browser of try_browser.py, at a desktop's and a phone's width.
+"""Clicks through what a lecture does with the page, in the browser of try_browser.py, at two widths.
 
-Each function takes the Try of try_browser.py: a lock is broken by clicks and by keys, mended and proved; a run is found;
-texts are kept; certificates are folded; addresses have chosen buttons alone; pictures are saved; exercises are done.
+Each function takes the Try of try_browser.py: a lock is broken by clicks and by keys, mended and proved; a run is
+found; texts are kept; certificates are folded; addresses have chosen buttons alone; pictures are saved; exercises are done.
 """
 import json
 import time
@@ -24,8 +24,8 @@ def status(tried):
 def example(tried, name):
     """Chooses an example from the menu."""
     tried.browser.value("get('menu').open = true; get('gallery').open = true")
-    tried.browser.value("[...document.querySelectorAll('#documents button')].find(it => it.textContent === '%s').click()"
-                        % name)
+    buttons = "[...document.querySelectorAll('#documents button')]"
+    tried.browser.value("%s.find(it => it.textContent === '%s').click()" % (buttons, name))
 
 
 def typed(tried, old, new):
@@ -228,8 +228,8 @@ def layout(tried):
 
 
 def judged(tried, code):
-    tried.browser.value("new Promise(done => { document.addEventListener('judged', () => done(0), { once: true }); %s })"
-                        % code)
+    once = "document.addEventListener('judged', () => done(0), { once: true })"
+    tried.browser.value("new Promise(done => { %s; %s })" % (once, code))
     return tried.browser.value("[get('verdict').className, get('verdict').textContent]")
 
 
