@@ -1,14 +1,16 @@
 #!/bin/bash
 # Makes the page in which documents are checked in a browser, playground/unity.html, and tries it:
 #
-#     bash scripts/playground.sh [--check | --try | --all] [--pictures]
+#     bash scripts/playground.sh [--check | --try | --around | --all] [--pictures]
 #
 # The page is one file with the program in it, as WebAssembly. Each of its answers is compared with that of the native
 # program on all of examples/ (under node), its places and pictures with those of scripts/, and the page is driven in
 # Debian's chromium, without a window: it fails where anything left the page. What can't be tried here, since `node`,
 # `chromium`, `wasm-opt` or the built program is missing, is said, and is a failure with --all alone.
 # --check makes nothing, and fails where the page is not the one of the present sources. --try makes nothing either, and
-# tries the page that is there. With --pictures the browser's pictures in docs/ are made anew.
+# tries the page that is there. --around puts the page together around the module of the page that is there, which takes
+# a second; it is refused where the sources of that module have changed. With --pictures the browser's pictures in
+# docs/ are made anew.
 # The libraries and the program are those that scripts/test.sh or scripts/build.sh left in crates/*/out.
 set -eu
 top=$(cd "$(dirname "$0")/.." && pwd)
@@ -29,9 +31,10 @@ for word in "$@"; do
     case $word in
         --check) makes= tries= ;;
         --try) makes= ;;
+        --around) makes=around ;;
         --all) all=1 ;;
         --pictures) pictures=docs ;;
-        *) echo "usage: bash scripts/playground.sh [--check | --try | --all] [--pictures]" >&2; exit 64 ;;
+        *) echo "usage: bash scripts/playground.sh [--check | --try | --around | --all] [--pictures]" >&2; exit 64 ;;
     esac
 done
 
@@ -47,15 +50,27 @@ has() {
     return 1
 }
 
-# make_page: the module, and the page of it, with the commit in its foot; a star where files have changed since.
+# make_page MODULE: the page of it, or of the module in a page, with the commit in its foot; a star where files have
+# changed since.
 make_page() {
     local commit
     commit=$(git rev-parse --short=12 HEAD)
     if ! python3 $here/sources.py --names | xargs git diff --quiet HEAD --; then
         commit="$commit*"
     fi
-    bash $here/module.sh "$work/unity.wasm"
-    python3 $here/build.py "$work/unity.wasm" "$page" "$commit" "$(python3 $here/sources.py)"
+    python3 $here/build.py "$1" "$work/page.html" "$commit" "$(python3 $here/sources.py)" \
+        "$(python3 $here/sources.py --program)"
+    cp "$work/page.html" "$page"
+}
+
+# make_around: the page anew, with the module that it has, where that is the one of the present sources.
+make_around() {
+    if grep -q "<span id=\"program-sources\">$(python3 $here/sources.py --program)</span>" "$page"; then
+        make_page "$page"
+    else
+        echo "the module in $page is of other sources than the present ones, so the page was not made" >&2
+        failed=1
+    fi
 }
 
 # is_present: whether the page says that it was made of the present sources.
@@ -73,8 +88,11 @@ try_heap() {
     bash $here/module.sh "$work/heap.wasm" --heap && node $here/try_heap.mjs "$work/heap.wasm"
 }
 
-if [ -n "$makes" ] && has wasm-opt "a new page was not made"; then
-    make_page
+if [ "$makes" = around ]; then
+    make_around
+elif [ -n "$makes" ] && has wasm-opt "a new page was not made"; then
+    bash $here/module.sh "$work/unity.wasm"
+    make_page "$work/unity.wasm"
 fi
 if [ ! -e "$page" ]; then
     echo "there is no $page" >&2

@@ -4,7 +4,7 @@
 function placeOfByte(source, at) {
   const bytes = new TextEncoder().encode(source);
   const before = new TextDecoder().decode(bytes.subarray(0, Math.min(at, bytes.length)));
-  return { line: before.split('\n').length, index: before.length };
+  return { line: before.split('\n').length, index: before.length, exact: true };
 }
 
 // The line of a step: after the line that begins its proof, the first with its name before `(` or `:`.

@@ -1,6 +1,7 @@
-"""Puts the page together, as one file: build.py MODULE.wasm OUT.html COMMIT SOURCES
+"""Puts the page together, as one file: build.py MODULE OUT.html COMMIT SOURCES PROGRAM
 
-COMMIT and SOURCES are what the foot of the page says it was made from.
+MODULE is a module, or a page: then the module that stands in it is taken. COMMIT, and the sums SOURCES of all sources
+and PROGRAM of those of the module, are what the foot of the page says it was made from.
 """
 import base64
 import json
@@ -8,10 +9,13 @@ import os
 import re
 import sys
 
-from lessons import Lessons
+from exercises_read import exercises_of
+from lessons import Lessons, inline
 
 TOP = os.path.normpath(os.path.join(os.path.dirname(os.path.abspath(__file__)), "../.."))
-SCRIPTS = ["engine.js", "places.js", "page.js"]
+SCRIPTS = ["engine.js", "places.js", "sections.js", "answers.js", "editor.js", "keep.js", "requests.js", "pictures.js",
+           "addresses.js", "lessons.js", "stepper.js", "search.js", "exercises.js", "page.js"]
+KEPT = re.compile(r'<script type="text/plain" id="module">([^<]*)</script>')
 
 
 def text_of(path):
@@ -80,6 +84,25 @@ def gallery(texts):
     return groups
 
 
+def exercises():
+    """The exercises for the page: the task as HTML, and all else as it is needed to judge a text."""
+    found = []
+    for it in exercises_of(os.path.join(TOP, "examples", "exercises")):
+        found.append({"name": it.name, "title": it.title, "chapter": it.chapter, "goal": it.goal,
+                      "holes": it.holes, "hints": [plain(hint) for hint in it.hints], "solution": it.solution,
+                      "start": it.start, "html": "".join("<p>%s</p>" % inline(part) for part in it.task)})
+    return found
+
+
+def module_of(path):
+    """The module in base64: of a file of its own, or of the page that has it."""
+    with open(path, "rb") as file:
+        content = file.read()
+    if path.endswith(".html"):
+        return KEPT.search(content.decode()).group(1)
+    return base64.b64encode(content).decode()
+
+
 def data():
     texts = documents()
     lessons = Lessons(text_of("docs/TUTORIAL.md"))
@@ -91,6 +114,7 @@ def data():
         "lessons": lessons.chapters,
         "tries": lessons.tries,
         "texts": lessons.texts,
+        "exercises": exercises(),
     }
 
 
@@ -99,14 +123,13 @@ def script(text):
     return re.sub(r"<(?=[/!])", r"\\u003c", text)
 
 
-def main(module, out, commit, sources):
-    with open(module, "rb") as file:
-        code = base64.b64encode(file.read()).decode()
+def main(module, out, commit, sources, program):
     parts = {
         "playground.css": text_of("playground/src/playground.css").rstrip("\n"),
         "commit": commit,
         "sources": sources,
-        "module": code,
+        "program-sources": program,
+        "module": module_of(module),
         "data": script(json.dumps(data(), ensure_ascii=False)),
         "playground.js": "'use strict';\n" + "\n".join(text_of("playground/src/" + it) for it in SCRIPTS).rstrip("\n"),
     }

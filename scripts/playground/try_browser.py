@@ -1,8 +1,10 @@
-"""Tries the page in a real browser: try_browser.py PAGE.html [FOLDER]
+"""Tries the page in a real browser: try_browser.py PAGE.html [FOLDER [PART..]]
 
 Each document of examples/ is put into the editor and each button is pressed, and what the page shows is compared with
 the files beside the document; then the lessons, addresses, long documents, traps, keys, narrow screens and names for
-screen readers. It fails where any request left the page. With FOLDER, pictures of the page go there.
+screen readers; what a lecture does (try_lecture.py), and contrast, focus and labels (try_access.py). It fails where any
+request left the page. With FOLDER, pictures of the page go there, and nowhere with `-`; with PART.. only these methods
+of Try are carried out, as `lecture`, or parts of it at one width, as `phone.stepping`.
 """
 import http.server
 import json
@@ -13,6 +15,8 @@ import threading
 import time
 
 from browser import Browser
+import try_access
+import try_lecture
 
 TOP = os.path.normpath(os.path.join(os.path.dirname(os.path.abspath(__file__)), "../.."))
 CONTROL, SHIFT = 2, 8
@@ -21,6 +25,8 @@ CONTROL, SHIFT = 2, 8
 #  (func (export "unity_one") (param i64 i64 i64 i64 i64 i64 i64) (unreachable)))
 TRAPPING = ("AGFzbQEAAAABEAJgAX4BfmAHfn5+fn5+fgADAwIAAQUDAQAgBx4DBm1lbW9yeQIABWJsb2NrAAAJdW5p"
             "dHlfb25lAAEKCwIFAEKACAsDAAAL")
+PARTS = ("documents", "gallery", "lessons", "addresses", "stopping", "trap", "long", "keys", "screens", "lecture", "access",
+         "names", "sending", "opening", "peterson")
 WHEN = """new Promise(done => {
   document.addEventListener(%s, it => done({ time: it.detail, answer: whole, status: get('status').textContent,
     place: get('place').hidden ? '' : get('place').textContent, picture: get('picture').innerHTML }), { once: true });
@@ -44,7 +50,8 @@ def names_in(folder):
 class Try:
     def __init__(self, page):
         self.address = "file://" + os.path.abspath(page)
-        self.passed, self.failed = 0, 0
+        self.passed, self.failed, self.within = 0, 0, ""
+        self.text_of = text_of
         self.browser = Browser()
         self.browser.open(self.address)
 
@@ -53,7 +60,12 @@ class Try:
             self.passed += 1
         else:
             self.failed += 1
-            print("%s: failed %s" % (what, str(found)[:300]))
+            print("%s: failed %s" % (" ".join([self.within, what]).strip(), str(found)[:300]))
+
+    def settled(self):
+        """Waits until the page is there again."""
+        while not self.browser.value("document.readyState === 'complete' && typeof sourceOf === 'function'"):
+            time.sleep(0.05)
 
     def compare(self, what, told, wanted):
         self.holds(what, told["answer"] == wanted, "%s\n%s" % (told["status"], told["answer"]))
@@ -148,7 +160,7 @@ class Try:
                         self.compare("lesson %d, button %d" % (number, place), told, tries[place]["wanted"])
                 else:
                     self.browser.value(click)
-                    is_there = self.browser.value("text.value === data.texts[%d]" % tries[place]["source"])
+                    is_there = self.browser.value("sourceOf() === data.texts[%d]" % tries[place]["source"])
                     self.holds("lesson %d, button %d" % (number, place), is_there)
         self.browser.value("showLesson(0)")
         self.holds("no lesson", self.browser.value("get('lesson').hidden"))
@@ -216,11 +228,11 @@ class Try:
         self.compare("Ctrl+Enter", self.browser.value("window.next"), text_of("count.expected"))
         self.browser.value("get('skip').focus(); 0")
         seen = []
-        for _ in range(30):
+        for _ in range(40):
             seen.append(self.browser.value("document.activeElement.id"))
             self.browser.press_tab()
-        wanted = ["chapter", "open", "save", "link", "theme", "check", "prove", "budget", "run", "fixed",
-                  "program", "steps", "replay", "watch", "text", "answer"]
+        wanted = ["chapter", "exercise", "open", "save", "link", "before", "theme", "check", "prove", "budget", "step",
+                  "find", "run", "fixed", "steps", "program", "replay", "watch", "text", "answer"]
         self.holds("Tab comes to everything", [it for it in seen if it in wanted][:len(wanted)] == wanted, seen)
 
     def screens(self):
@@ -236,6 +248,12 @@ class Try:
             self.browser.say("Emulation.setEmulatedMedia", features=[{"name": "prefers-color-scheme", "value": theme}])
             time.sleep(0.3)
             self.holds(theme, self.browser.value("document.documentElement.dataset.theme") == theme)
+
+    def lecture(self):
+        try_lecture.lecture(self)
+
+    def access(self):
+        try_access.access(self)
 
     def names(self):
         """Each thing to be used has a name for a screen reader, and what is told is told as it comes."""
@@ -293,25 +311,43 @@ class Try:
         print("prove of Peterson in the browser: %d ms, the first %d ms (median of 9)" % (sorted(times)[4], times[0]))
 
     def pictures(self, folder):
+        race = "write(data.documents.race, 'race')"
+        bare = "%s; write(bare(sourceOf()), 'race')" % race
+        taken = ("look[0]", "look[1]", "take[0]", "take[1]")
+        steps = ["get('step').click()"] + [try_lecture.CHOICE % it for it in taken]
+        shots = [("check", "write(data.documents.count, 'count')", ["get('check').click()"]),
+                 ("refuted", race, ["get('prove').click()"]),
+                 ("trace", race, ["get('replay').click()"]),
+                 ("violated", race, ["get('watch').click()"]),
+                 ("step", bare, steps),
+                 ("proved", "write(data.documents.peterson, 'peterson')", ["get('prove').click()"]),
+                 ("exercise", "showExercise('race_mended'); showSolution()", ["get('judge').click()"])]
+        for name, begin, clicks in shots:
+            self.shot(folder, name, (1280, 760), begin, clicks)
+        self.shot(folder, "phone", (390, 844), bare, steps)
+
+    def shot(self, folder, name, size, begin, clicks):
+        """A picture of the page after these clicks, each of which has its answer."""
         self.browser.open(self.address)
-        self.browser.resize(1280, 760)
-        shots = [("check", "write(data.documents.count, 'count')", "get('check').click()"),
-                 ("refuted", "write(data.documents.race, 'race')", "get('prove').click()"),
-                 ("trace", "write(data.documents.race, 'race')", "get('replay').click()"),
-                 ("violated", "write(data.documents.race, 'race')", "get('watch').click()")]
-        for name, before, click in shots:
-            self.browser.value(before)
+        self.browser.resize(*size)
+        self.browser.value("localStorage.clear(); chooseTheme('light'); %s; 0" % begin)
+        for click in clicks:
             self.ask(click)
-            time.sleep(0.3)
-            self.browser.picture(os.path.join(folder, "playground-%s.png" % name))
+        time.sleep(0.5)
+        self.browser.picture(os.path.join(folder, "playground-%s.png" % name))
 
 
-def main(page, folder=None):
+def part_of(tried, name):
+    """A method of Try; or one part of a lecture at one width, as `phone.stepping`."""
+    size, _, part = name.partition(".")
+    return (lambda: try_lecture.part_at(tried, size, part)) if part else getattr(tried, name)
+
+
+def main(page, folder=None, *only):
     tried = Try(page)
-    for part in (tried.documents, tried.gallery, tried.lessons, tried.addresses, tried.stopping, tried.trap, tried.long,
-                 tried.keys, tried.screens, tried.names, tried.sending, tried.opening, tried.peterson):
-        part()
-    if folder:
+    for name in only or PARTS:
+        part_of(tried, name)()
+    if folder and folder != "-":
         tried.pictures(folder)
     tried.browser.end()
     print("the page: %d passed, %d failed" % (tried.passed, tried.failed))

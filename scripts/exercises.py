@@ -1,0 +1,101 @@
+#!/usr/bin/env python3
+"""Tries the exercises of examples/exercises/: exercises.py [--unity PROGRAM] [NAME..]
+
+Each start must be no answer to its exercise, each solution must be one, and both must have the program and the claims
+that are given. A text that changes one of the given words must be told from them. PROGRAM answers the questions, by
+default the built one, crates/unity/out/unity; NAME.. are the exercises to be tried, by default all.
+The last line is `N passed, M failed`, and the exit is 1 where something failed.
+"""
+import argparse
+import os
+import subprocess
+import sys
+
+TOP = os.path.normpath(os.path.join(os.path.dirname(os.path.abspath(__file__)), ".."))
+sys.dont_write_bytecode = True
+sys.path.insert(0, os.path.join(TOP, "scripts", "playground"))
+from exercises_read import exercises_of, sections_of, tokens_of  # noqa: E402
+
+FOLDER = os.path.join(TOP, "examples", "exercises")
+BUILT = os.path.join(TOP, "crates", "unity", "out", "unity")
+BUDGET, VIOLATED = "1000000", 10
+
+
+class Try:
+    def __init__(self, unity):
+        self.unity, self.passed, self.failed = unity, 0, 0
+
+    def holds(self, exercise, what, condition, found=""):
+        if condition:
+            self.passed += 1
+        else:
+            self.failed += 1
+            print("%s:1:1: %s %s" % (os.path.relpath(exercise.file, TOP), what, found))
+
+    def ask(self, text, *words):
+        """The status and the text of an answer."""
+        told = subprocess.run([self.unity, *words], input=text.encode(), stdout=subprocess.PIPE, check=False)
+        return told.returncode, told.stdout.decode()
+
+    def accepted(self, text, given):
+        """What `check` says of the text: with its own certificates, or with those that `prove` finds."""
+        if not given:
+            status, answer = self.ask(text, "prove", BUDGET)
+            if status != 0:
+                return status, answer
+            text = answer
+        return self.ask(text, "check")
+
+    def is_done(self, exercise, text):
+        """Whether the text is an answer to the exercise, and what the program says of it."""
+        if exercise.changed_at(text) is not None:
+            return False, "other words than those that are given"
+        if "violated" in exercise.goal:
+            status, answer = self.ask(text, "watch")
+            return status == VIOLATED and answer.startswith("violated %s place " % exercise.goal["violated"]), answer
+        given = any(kind == "certificates" for kind, _, _ in sections_of(exercise.start))
+        status, answer = self.accepted(text, given)
+        line = exercise.goal["line"]
+        return status == 0 and (not line or line in answer.splitlines()), answer
+
+    def exercise(self, it):
+        self.holds(it, "the exercise has no three hints, or no solution for each hole",
+                   len(it.hints) == 3 and len(it.solution) == len(it.holes) and it.task)
+        done, answer = self.is_done(it, it.start)
+        self.holds(it, "the start is done already:", not done, answer)
+        self.holds(it, "the start is not as it is given", it.changed_at(it.start) is None)
+        done, answer = self.is_done(it, it.solved())
+        self.holds(it, "the solution is not done:", done, answer)
+        self.changed(it)
+
+    def changed(self, it):
+        """Each given word is missed where it is taken away; a certificate or a schedule beside them is none of them."""
+        text, tokens, holes = it.solved(), tokens_of(it.solved()), sum(len(tokens_of(part)) for part in it.solution)
+        seen = 0
+        for word, place in tokens:
+            if it.changed_at(text[:place] + " " + text[place + len(word):]) is not None:
+                seen += 1
+        unseen = len(tokens) - holes - seen
+        self.holds(it, "given words that may be taken away: %d" % unseen, unseen <= 0)
+        if not any(kind == "certificates" for kind, _, _ in sections_of(it.start)):
+            self.holds(it, "certificates count as a change", it.changed_at(text + "certificates 1: sum; end\n") is None)
+
+
+def main():
+    parser = argparse.ArgumentParser(description=__doc__, formatter_class=argparse.RawDescriptionHelpFormatter)
+    parser.add_argument("--unity", default=BUILT, help="the program that answers")
+    parser.add_argument("names", nargs="*", help="the exercises to be tried")
+    given = parser.parse_args()
+    if not os.access(given.unity, os.X_OK):
+        print("%s:1:1: there is no such program; scripts/build.sh builds it" % given.unity, file=sys.stderr)
+        return 1
+    tried = Try(given.unity)
+    for it in exercises_of(FOLDER):
+        if not given.names or it.name in given.names:
+            tried.exercise(it)
+    print("%d passed, %d failed" % (tried.passed, tried.failed))
+    return 1 if tried.failed else 0
+
+
+if __name__ == "__main__":
+    sys.exit(main())
