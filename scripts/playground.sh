@@ -13,22 +13,25 @@
 set -eu
 top=$(cd "$(dirname "$0")/.." && pwd)
 cd "$top"
-. scripts/places.sh
+built=crates/unity/out/unity
+if [ ! -x "$built" ]; then
+    built=''
+fi
 export PYTHONDONTWRITEBYTECODE=1
 page=playground/unity.html
 here=scripts/playground
 makes=1
 tries=1
-all=
-pictures=
+all=''
+pictures=''
 failed=0
 work=$(mktemp -d)
 trap 'rm -rf "$work"' EXIT
 
 for word in "$@"; do
     case $word in
-        --check) makes= tries= ;;
-        --try) makes= ;;
+        --check) makes='' tries='' ;;
+        --try) makes='' ;;
         --all) all=1 ;;
         --pictures) pictures=docs ;;
         *) echo "usage: bash scripts/playground.sh [--check | --try | --all] [--pictures]" >&2; exit 64 ;;
@@ -51,16 +54,16 @@ has() {
 make_page() {
     local commit
     commit=$(git rev-parse --short=12 HEAD)
-    if ! python3 $here/sources.py --names | xargs git diff --quiet HEAD --; then
+    if ! python3 "$here/sources.py" --names | xargs git diff --quiet HEAD --; then
         commit="$commit*"
     fi
-    bash $here/module.sh "$work/unity.wasm"
-    python3 $here/build.py "$work/unity.wasm" "$page" "$commit" "$(python3 $here/sources.py)"
+    bash "$here/module.sh" "$work/unity.wasm"
+    python3 "$here/build.py" "$work/unity.wasm" "$page" "$commit" "$(python3 "$here/sources.py")"
 }
 
 # is_present: whether the page says that it was made of the present sources.
 is_present() {
-    grep -q "<span id=\"sources\">$(python3 $here/sources.py)</span>" "$page"
+    grep -q "<span id=\"sources\">$(python3 "$here/sources.py")</span>" "$page"
 }
 
 # try_part WORD..: runs it, and remembers where it fails.
@@ -69,8 +72,9 @@ try_part() {
 }
 
 # try_heap: the heap in C by itself, and the arithmetic that stands beside it.
+# shellcheck disable=SC2317  # (it is called by its name)
 try_heap() {
-    bash $here/module.sh "$work/heap.wasm" --heap && node $here/try_heap.mjs "$work/heap.wasm"
+    bash "$here/module.sh" "$work/heap.wasm" --heap && node "$here/try_heap.mjs" "$work/heap.wasm"
 }
 
 if [ -n "$makes" ] && has wasm-opt "a new page was not made"; then
@@ -92,9 +96,9 @@ if has node "the answers, places and pictures were not compared"; then
     if has wasm-opt "the heap was not tried by itself"; then
         try_part try_heap
     fi
-    try_part node $here/try_places.mjs "$page"
+    try_part node "$here/try_places.mjs" "$page"
     if [ -n "$built" ]; then
-        try_part node $here/try_answers.mjs "$page" "$built"
+        try_part node "$here/try_answers.mjs" "$page" "$built"
     else
         echo "the program is not built (scripts/build.sh), so the answers were not compared"
         if [ -n "$all" ]; then
@@ -103,6 +107,6 @@ if has node "the answers, places and pictures were not compared"; then
     fi
 fi
 if has chromium "the page was not tried in a browser"; then
-    try_part python3 $here/try_browser.py "$page" $pictures
+    try_part python3 "$here/try_browser.py" "$page" $pictures
 fi
 exit "$failed"
