@@ -16,8 +16,8 @@ from unity_tool.map import below, rooms_of  # noqa: E402
 
 OTHERS = ["playground/src/*", "scripts/playground/module.sh", "scripts/playground/heap.c",
           "scripts/playground/drop_table.py", "scripts/playground/build.py", "scripts/playground/lessons.py",
-          "editors/unity.tmLanguage.json", "examples/README.md", "examples/*.unity", "examples/*/*.unity",
-          "docs/TUTORIAL.md", "docs/WRITING.md"]
+          "editors/unity.tmLanguage.json", "examples/README.md", "examples/*.unity", "examples/mistakes/*.unity",
+          "examples/causes/*.unity", "docs/TUTORIAL.md", "docs/WRITING.md"]
 
 
 def names():

@@ -2,10 +2,11 @@
 
 It asks questions of each command, over documents of each kind, and refuses each call that asks for memory, reads or
 writes: one alone, and then all from there on. Each answer must be the right one; or status 9 or 7 with nothing written,
-where memory or a read is refused; or status 8 with a front part of the right text, where a write is. It prints those
-that are not, and exits with status 1. With EACH, a number, only each EACH-th call for memory is refused, but for a few
-questions of which each is. At last it says how many calls for memory a check of the counter needs, and the same where
-its certificates have 100,000 pairs more that name no fact.
+where memory or a read is refused; or status 8 with a front part of the right text, where a write is. Then come the rows
+of examples/ends/, whose README.md tells how each is tried. What is wrong is printed, and the status is then 1. With
+EACH, a number, only each EACH-th call for memory is refused, but for a few questions of which each is. At last it says
+how many calls for memory a check of the counter needs, and the same where its certificates have 100,000 pairs more that
+name no fact.
 
 It wants the built program, or the one that is named, a C compiler and the GNU C library.
 """
@@ -16,6 +17,7 @@ import shutil
 import subprocess
 import tempfile
 
+from unity_tool import end_rows
 from unity_tool.program import need_built
 from unity_tool.repository import SCRIPTS, TOP, UNITY
 from unity_tool.wrong_use import WrongUse
@@ -59,19 +61,28 @@ class Ends:
     def __init__(self, program, refusing):
         self.program, self.refusing = program, refusing
 
-    def ask(self, words, text, **refused):
-        """The status and the answer, where the calls of these kinds are refused, each in a range of numbers."""
-        places = {"LD_PRELOAD": self.refusing}
+    def ask(self, words, text, one=False, room=None, **refused):
+        """The status and the answer, where the calls of these kinds are refused, each in a range of numbers.
+
+        Where `one` is told, a read and a write move one byte; where `room` is, so many bytes can be written.
+        """
+        places = self.places(one)
+        if room is not None:
+            places["REFUSE_ROOM"] = str(room)
         for kind, (first, last) in refused.items():
             places["REFUSE_" + kind.upper()] = f"{first}-{last}"
         done = subprocess.run([self.program, *words], input=text, stdout=subprocess.PIPE, stderr=subprocess.PIPE,
                               env={**os.environ, **places}, check=False)
         return done.returncode, done.stdout
 
-    def counts(self, words, text):
+    def places(self, one=False):
+        """What the program finds in its environment."""
+        return {"LD_PRELOAD": self.refusing, **({"REFUSE_ONE": "1"} if one else {})}
+
+    def counts(self, words, text, one=False):
         """How many calls ask for memory, read and write where none is refused."""
         source, told = os.pipe()
-        places = {"LD_PRELOAD": self.refusing, "REFUSE_COUNTS": str(told)}
+        places = {**self.places(one), "REFUSE_COUNTS": str(told)}
         subprocess.run([self.program, *words], input=text, stdout=subprocess.DEVNULL, env={**os.environ, **places},
                        pass_fds=[told], check=False)
         os.close(told)
@@ -167,6 +178,9 @@ def try_questions(trials, count, wide):
         trials.question(f"{words}, {name}", words, documents[name], 1 if whole else trials.each)
     trials.question("prove 1000000, a leads-to", "prove 1000000", LEADSTO.encode(), 1)
     trials.question("check, many pairs of zero", "check", wide, trials.each)
+    tried, failed = end_rows.tried(trials.ends, trials.pool)
+    print(*failed, sep="\n", end="\n" if failed else "")
+    trials.tried, trials.wrong = trials.tried + tried, trials.wrong + len(failed)
     print(f"{trials.tried} answers, {trials.wrong} wrong")
 
 

@@ -2,13 +2,14 @@
 
 A subject of your own is a line here: its function takes nothing, and yields a `Case` for each test (cases.py).
 """
-from unity_tool.trials import causes, generated, mistakes, refusing, scripts, sessions, suffixes
+from unity_tool.trials import asked_rows, causes, generated, mistakes, refusing, scripts, sessions, suffixes
 
 SUBJECTS = [
     ("documents", suffixes.beside_documents),
     ("files", suffixes.every_file),
     ("mistakes", mistakes.cases),
     ("causes", causes.cases),
+    ("rows", asked_rows.cases),
     ("sessions", sessions.cases),
     ("generated", generated.cases),
     ("refusing", refusing.cases),
