@@ -2,7 +2,7 @@
 import os
 import re
 
-from map import rooms_of
+from unity_tool.map import rooms_of
 
 PARTS = ("src", "specs", "proofs")
 TEST = re.compile(rb"#\s*\[[^]]*\btest\b")

@@ -1,11 +1,3 @@
 #!/bin/bash
-# Writes the tables of rooms and crates in docs/ARCHITECTURE.md: bash scripts/map.sh [--check]
-#
-# The rooms are the headings of crates.txt, with a sentence each, and what a crate is is the first paragraph of its
-# page. It stands on the crates that its files name; those on which another of them stands are left out. With --check
-# it writes nothing, and fails where the page has other tables. It also fails where crates.txt has a crate above one that
-# it names, where a crate's page does not begin with its name and a paragraph, and where a table of CONTRIBUTING.md
-# names a file of a crate that is not there.
-set -eu
-cd "$(dirname "$0")/.."
-exec python3 scripts/map.py . "$@"
+# Writes the tables of rooms and crates: bash scripts/map.sh [--check]
+exec python3 -B "$(dirname "$(readlink -f "$0")")/unity-tool" map "$@"

@@ -15,22 +15,25 @@
 set -eu
 top=$(cd "$(dirname "$0")/.." && pwd)
 cd "$top"
-. scripts/places.sh
+built=crates/unity/out/unity
+if [ ! -x "$built" ]; then
+    built=''
+fi
 export PYTHONDONTWRITEBYTECODE=1
 page=playground/unity.html
 here=scripts/playground
 makes=1
 tries=1
-all=
-pictures=
+all=''
+pictures=''
 failed=0
 work=$(mktemp -d)
 trap 'rm -rf "$work"' EXIT
 
 for word in "$@"; do
     case $word in
-        --check) makes= tries= ;;
-        --try) makes= ;;
+        --check) makes='' tries='' ;;
+        --try) makes='' ;;
         --around) makes=around ;;
         --all) all=1 ;;
         --pictures) pictures=docs ;;
@@ -55,17 +58,17 @@ has() {
 make_page() {
     local commit
     commit=$(git rev-parse --short=12 HEAD)
-    if ! python3 $here/sources.py --names | xargs git diff --quiet HEAD --; then
+    if ! python3 "$here/sources.py" --names | xargs git diff --quiet HEAD --; then
         commit="$commit*"
     fi
-    python3 $here/build.py "$1" "$work/page.html" "$commit" "$(python3 $here/sources.py)" \
-        "$(python3 $here/sources.py --program)"
+    python3 "$here/build.py" "$1" "$work/page.html" "$commit" "$(python3 "$here/sources.py")" \
+        "$(python3 "$here/sources.py" --program)"
     cp "$work/page.html" "$page"
 }
 
 # make_around: the page anew, with the module that it has, where that is the one of the present sources.
 make_around() {
-    if grep -q "<span id=\"program-sources\">$(python3 $here/sources.py --program)</span>" "$page"; then
+    if grep -q "<span id=\"program-sources\">$(python3 "$here/sources.py" --program)</span>" "$page"; then
         make_page "$page"
     else
         echo "the module in $page is of other sources than the present ones, so the page was not made" >&2
@@ -75,7 +78,7 @@ make_around() {
 
 # is_present: whether the page says that it was made of the present sources.
 is_present() {
-    grep -q "<span id=\"sources\">$(python3 $here/sources.py)</span>" "$page"
+    grep -q "<span id=\"sources\">$(python3 "$here/sources.py")</span>" "$page"
 }
 
 # try_part WORD..: runs it, and remembers where it fails.
@@ -84,14 +87,15 @@ try_part() {
 }
 
 # try_heap: the heap in C by itself, and the arithmetic that stands beside it.
+# shellcheck disable=SC2317  # (it is called by its name)
 try_heap() {
-    bash $here/module.sh "$work/heap.wasm" --heap && node $here/try_heap.mjs "$work/heap.wasm"
+    bash "$here/module.sh" "$work/heap.wasm" --heap && node "$here/try_heap.mjs" "$work/heap.wasm"
 }
 
 if [ "$makes" = around ]; then
     make_around
 elif [ -n "$makes" ] && has wasm-opt "a new page was not made"; then
-    bash $here/module.sh "$work/unity.wasm"
+    bash "$here/module.sh" "$work/unity.wasm"
     make_page "$work/unity.wasm"
 fi
 if [ ! -e "$page" ]; then
@@ -110,9 +114,9 @@ if has node "the answers, places and pictures were not compared"; then
     if has wasm-opt "the heap was not tried by itself"; then
         try_part try_heap
     fi
-    try_part node $here/try_places.mjs "$page"
+    try_part node "$here/try_places.mjs" "$page"
     if [ -n "$built" ]; then
-        try_part node $here/try_answers.mjs "$page" "$built"
+        try_part node "$here/try_answers.mjs" "$page" "$built"
     else
         echo "the program is not built (scripts/build.sh), so the answers were not compared"
         if [ -n "$all" ]; then
@@ -121,6 +125,6 @@ if has node "the answers, places and pictures were not compared"; then
     fi
 fi
 if has chromium "the page was not tried in a browser"; then
-    try_part python3 $here/try_browser.py "$page" $pictures
+    try_part python3 "$here/try_browser.py" "$page" $pictures
 fi
 exit "$failed"

@@ -42,8 +42,9 @@ END
 
 # Proves and compiles the library, and keeps its LLVM module.
 compile() {
-    local words=() name
-    for name in $(sed -n 's/^unity_web staticlib: *//p' "$top/crates.txt"); do
+    local words=() names name
+    read -r -a names < <(sed -n 's/^unity_web staticlib: *//p' "$top/crates.txt")
+    for name in "${names[@]}"; do
         words+=(--extern "$name=$top/crates/$name/out/rlib/$name.rlib")
     done
     for name in "$top"/crates/*/out/rlib; do

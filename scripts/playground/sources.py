@@ -13,7 +13,7 @@ import sys
 TOP = os.path.normpath(os.path.join(os.path.dirname(os.path.abspath(__file__)), "../.."))
 sys.path.insert(0, os.path.join(TOP, "scripts"))
 sys.dont_write_bytecode = True
-from map import below, rooms_of  # noqa: E402
+from unity_tool.map import below, rooms_of  # noqa: E402
 
 MODULE = ["scripts/playground/module.sh", "scripts/playground/heap.c", "scripts/playground/drop_table.py"]
 OTHERS = ["playground/src/*", "scripts/playground/build.py", "scripts/playground/lessons.py",

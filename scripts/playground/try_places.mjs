@@ -33,8 +33,7 @@ for (const folder of [`${top}/examples`, `${top}/examples/mistakes`]) {
     if (/\.(run|fixed|replay)$/.test(name)) {
       compare(name, traceSvg(read(file)), shell('bash "$1/scripts/trace_svg.sh" < "$2"', top, file));
     } else if (/\.(expected|refuted|watch)$/.test(name) && existsSync(document)) {
-      const script = '. "$1/scripts/places.sh"; { show_byte "$2" F "$3"; show_step "$2" F "$3"; } 2>&1';
-      const told = shell(`top=$1; ${script}`, top, file, document);
+      const told = shell('python3 -B "$1/scripts/unity-tool" place F "$3" < "$2" 2>&1', top, file, document);
       compare(name, `${placeOf(read(document), read(file))?.line ?? ''}`, /^F:(\d+)/.exec(told)?.[1] ?? '');
       const replay = file.replace(/\.watch$/, '.replay');
       if (replay !== file && /^violated /.test(read(file))) drawViolation(name, read(file), read(replay));

@@ -1,0 +1,1 @@
+"""The commands of scripts/unity-tool, one module a subject."""

@@ -1,0 +1,92 @@
+"""The commands, which module carries each out, and how they end."""
+import argparse
+import errno
+import importlib
+import os
+import sys
+from typing import NamedTuple
+
+from unity_tool.wrong_use import Failure, WrongUse
+
+WRITE_FAULT = 8
+
+
+class Command(NamedTuple):
+    """A command: its module, how it is called, and what it does."""
+    module: str
+    usage: str
+    does: str
+
+
+COMMANDS = {
+    "check": Command("check", "bash scripts/check.sh FILE..", "checks documents"),
+    "prove": Command("prove", "bash scripts/prove.sh FILE [BUDGET]", "finds the certificates of a document"),
+    "why": Command("why", "bash scripts/why.sh FILE [BUDGET]", "says why a document is refused"),
+    "cost": Command("cost", "bash scripts/cost.sh FILE [--using] [BUDGET]", "says what certificates cost"),
+    "watch": Command("watch", "bash scripts/watch.sh FILE", "reads the claims of a proof on a schedule"),
+    "try": Command("trying", "bash scripts/try.sh FILE PROGRAM COUNT SEED > DOCUMENT", "tries random schedules"),
+    "shrink": Command("shrink", "bash scripts/shrink.sh FILE > DOCUMENT", "shortens a schedule"),
+    "trace": Command("trace", "bash scripts/trace_svg.sh < TRACE > PICTURE", "draws a trace"),
+    "bounds": Command("bounds", "bash scripts/bounds.sh FILE PROGRAM P Q BOUND INSTANCE..",
+                      "tries a leads-to on all executions of 8 steps"),
+    "all": Command("check_all", "bash scripts/check_all.sh FOLDER [JOBS]", "checks all documents below a folder"),
+    "unity": Command("pass_on", "bash scripts/unity.sh WORD.. < FILE", "runs `unity` on standard input"),
+    "place": Command("place", "scripts/unity-tool place NAME FILE < ANSWER", "shows the place that an answer names"),
+    "install": Command("install", "bash scripts/install.sh [PREFIX]", "puts all of this under one folder"),
+    "run-tests": Command("trials.run", "scripts/unity-tool run-tests [OPTION..]", "runs the tests"),
+    "page": Command("page", "bash scripts/page.sh FILE", "tries the commands of a page"),
+    "reading": Command("reading_page", "bash scripts/reading.sh [--check | --write | --text PART]",
+                       "says what a reader of the theorem has to read"),
+    "map": Command("map_pages", "bash scripts/map.sh [--check]", "writes the tables of rooms and crates"),
+    "editors": Command("editors", "bash scripts/editors.sh [--check]", "writes the files in editors/"),
+    "fuzz": Command("fuzz", "bash scripts/fuzz.sh SECONDS SEED > DOCUMENT", "changes documents at random"),
+    "ends": Command("ends", "bash scripts/ends.sh [EACH [PROGRAM]]", "refuses memory, reads and writes"),
+}
+
+
+class Parser(argparse.ArgumentParser):
+    """A parser for which other words than it takes are a wrong use."""
+
+    def error(self, message):
+        raise WrongUse
+
+
+def overview():
+    wide = max(map(len, COMMANDS))
+    rows = ["  %-*s  %s" % (wide, name, command.does) for name, command in COMMANDS.items()]
+    return "usage: scripts/unity-tool COMMAND WORD..\n\n%s\n\n`scripts/unity-tool COMMAND --help` says more.\n" % (
+        "\n".join(rows))
+
+
+def carry_out(name, words):
+    """Carries a command out, and returns its status."""
+    command = COMMANDS[name]
+    module = importlib.import_module("unity_tool." + command.module)
+    parser = Parser(prog="unity-tool " + name, usage=command.usage, description=module.__doc__, allow_abbrev=False,
+                    formatter_class=argparse.RawDescriptionHelpFormatter)
+    try:
+        module.add_options(parser)
+        return module.main(parser.parse_args(words))
+    except WrongUse:
+        sys.stderr.write("usage: %s\n" % command.usage)
+        return 64
+    except Failure as failure:
+        sys.stderr.write(failure.says + "\n")
+        return failure.status
+
+
+def main(words):
+    """Carries out the command that the words name. Where what it says can't be written the status is that of `unity`
+    for a write that failed."""
+    if not words or words[0] in ("-h", "--help") or words[0] not in COMMANDS:
+        (sys.stdout if words[:1] in (["-h"], ["--help"]) else sys.stderr).write(overview())
+        return 0 if words[:1] in (["-h"], ["--help"]) else 64
+    try:
+        status = carry_out(words[0], words[1:])
+        sys.stdout.flush()
+        return status
+    except OSError as fault:
+        if fault.errno not in (errno.EPIPE, errno.ENOSPC):
+            raise
+        os.dup2(os.open(os.devnull, os.O_WRONLY), sys.stdout.fileno())
+        return WRITE_FAULT

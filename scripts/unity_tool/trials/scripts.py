@@ -1,0 +1,106 @@
+"""What the scripts write and print: files that are compared with what they would write, the installed commands, and
+checkers of the scripts themselves."""
+import glob
+import json
+import os
+import re
+import shutil
+import sys
+
+from unity_tool.repository import SCRIPTS, TOP
+from unity_tool.trials.asking import ask, read, script
+from unity_tool.trials.cases import Case, faults, other_status, single, unlike
+
+# what a script would write is there: the script, and what it writes
+WRITTEN = [("editors.sh", "the files in editors/"), ("reading.sh", "docs/READING.md"),
+           ("map.sh", "the tables of rooms and crates")]
+FUZZ_SECONDS, FUZZ_SEED = "20", "1"
+
+# an installed command, or a link to one, and the script that does the same here
+INSTALLED = [
+    ("checks examples/count.unity", "bash scripts/check.sh examples/count.unity"),
+    ("unity check < examples/count.unity", "crates/unity/out/unity check < examples/count.unity"),
+    ("unity-why examples/pick.unity", "bash scripts/why.sh examples/pick.unity"),
+    ("unity-watch examples/race.unity", "bash scripts/watch.sh examples/race.unity"),
+    ("unity-try examples/lost_update_mended.unity Tally 1 1",
+     "bash scripts/try.sh examples/lost_update_mended.unity Tally 1 1"),
+    ("unity-check-all examples/causes 2", "bash scripts/check_all.sh examples/causes"),
+]
+
+
+def is_written(name):
+    return other_status(0, script(name, "--check"))
+
+
+def alike():
+    """Of documents that were changed at random two ways of one question say the same."""
+    came = script("fuzz.sh", FUZZ_SECONDS, FUZZ_SEED)
+    return faults(other_status(0, came), came.text.decode("latin-1"))
+
+
+def installed(room):
+    """From a folder that scripts/install.sh wrote the commands do what the scripts do here."""
+    prefix = os.path.join(room, "here")
+    yield "scripts/install.sh", other_status(0, script("install.sh", prefix))
+    link = os.path.join(room, "checks")
+    os.symlink(os.path.join(prefix, "bin", "unity-check"), link)
+    path = os.pathsep.join([os.path.join(prefix, "bin"), room, os.environ["PATH"]])
+    for command, here in INSTALLED:
+        came = ask(["bash", "-c", command + " 2>&1"], env={**os.environ, "PATH": path})
+        wanted = ask(["bash", "-c", here + " 2>&1"])
+        yield "the installed " + command, faults(other_status(wanted.status, came), unlike(wanted.text, came.text))
+
+
+def none_left(room):
+    """Where a proof fails, scripts/prove.sh removes the proved document of an earlier run."""
+    document, proved = os.path.join(room, "pick.unity"), os.path.join(room, "pick.proved.unity")
+    shutil.copy(os.path.join(TOP, "examples", "pick.unity"), document)
+    open(proved, "wb").close()
+    came = script("prove.sh", document)
+    yield "an old proved document", faults(
+        "it is still there" if os.path.exists(proved) else None, unlike(b"refuted", came.text.split(b" ")[0], "word"))
+
+
+def matchers():
+    """The patterns of editors/tasks.json match what the scripts print of a name that nothing declares, and of a claim
+    that is false."""
+    lines = (script("check.sh", "examples/unknown_name.unity"), script("prove.sh", "examples/pick.unity"))
+    of_byte = lines[0].text.decode().splitlines() + lines[0].notes.decode().splitlines()
+    of_step = (lines[1].text + lines[1].notes).decode().splitlines()
+    shown = [("a byte's answer", of_byte[0]), ("a byte's place", of_byte[1]), ("a step's place", of_step[-2]),
+             ("a step's line", of_step[-1])]
+    for task in json.loads(read("editors", "tasks.json"))["tasks"]:
+        patterns = [one["regexp"] for matcher in task["problemMatcher"] for one in matcher["pattern"]]
+        for (what, line), pattern in zip(shown, patterns):
+            yield "the pattern of `%s` on %s" % (task["label"], what), \
+                None if re.search(pattern, line) else "%s does not match %s" % (pattern, line)
+
+
+def python_with(module):
+    """A Python that has this module, or nothing."""
+    for python in (sys.executable, "/usr/bin/python3"):
+        if os.path.exists(python) and ask([python, "-c", "import " + module]).status == 0:
+            return python
+    return None
+
+
+def checkers():
+    """What shellcheck and pyflakes find in the scripts, where they are there."""
+    shells = sorted(glob.glob(os.path.join(SCRIPTS, "**", "*.sh"), recursive=True))
+    pythons = sorted(glob.glob(os.path.join(SCRIPTS, "**", "*.py"), recursive=True))
+    if shutil.which("shellcheck"):
+        yield "shellcheck of scripts/", faults(ask(["shellcheck", "-x", *shells]).text.decode())
+    python = python_with("pyflakes")
+    if python:
+        yield "pyflakes of scripts/", faults(ask([python, "-m", "pyflakes", *pythons,
+                                                  os.path.join(SCRIPTS, "unity-tool")]).text.decode())
+
+
+def cases():
+    yield single("documents that were changed at random", alike, 100)
+    for name, what in WRITTEN:
+        yield single(what, lambda name=name: is_written(name), 3)
+    yield Case("the installed commands", installed, 5)
+    yield Case("an old proved document", none_left, 1)
+    yield Case("the patterns of editors/tasks.json", lambda room: matchers(), 1)
+    yield Case("the scripts themselves", lambda room: checkers(), 5)

@@ -1,0 +1,17 @@
+"""The subjects of the tests: a name, and a function that gives the tests of it.
+
+A subject of your own is a line here: its function takes nothing, and yields a `Case` for each test (cases.py).
+"""
+from unity_tool.trials import asked_rows, causes, generated, mistakes, refusing, scripts, sessions, suffixes
+
+SUBJECTS = [
+    ("documents", suffixes.beside_documents),
+    ("files", suffixes.every_file),
+    ("mistakes", mistakes.cases),
+    ("causes", causes.cases),
+    ("rows", asked_rows.cases),
+    ("sessions", sessions.cases),
+    ("generated", generated.cases),
+    ("refusing", refusing.cases),
+    ("scripts", scripts.cases),
+]

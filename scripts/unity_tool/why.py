@@ -1,0 +1,277 @@
+"""Says why `unity` refuses a document.
+
+It runs `unity check` where the document has certificates, and else `unity prove`, prints the answer and exits with its
+status. Where `scripts/prove.sh` has written the proved document beside it, and `unity check` accepts that, nothing is
+searched for. Of a refusal it prints the place and what docs/WRITING.md says of the code. Of a refutation it names the
+statement, and asks `unity` what this makes of the state that was printed: what changes, or which write is undefined,
+which part of the claim does not hold after it, and which invariants of the proof exclude the state. It judges nothing
+by itself: each truth that it tells is a value in a replay, or a claim that `unity prove` accepted or refuted. BUDGET is
+1000000 where none is given.
+"""
+import os
+import re
+
+from unity_tool import prove
+from unity_tool.files import read_document
+from unity_tool.formulas import choices, pieces, value_of
+from unity_tool.plan import Plan, closure, programs_in
+from unity_tool.probe import excluded, look, made_writes
+from unity_tool.program import unity
+from unity_tool.refusals import explain_bad, explain_rejected, usual
+from unity_tool.sides import Sides
+
+
+def say(text):
+    print(text)
+
+
+class Refutation:
+    """A claim that is false at some values."""
+
+    def __init__(self, plan, step, number, values):
+        self.plan, self.step = plan, step
+        document = plan.document
+        slots = [name for name in values if name.split("[")[0] in document.variables]
+        self.values = {name: values[name] for name in slots}
+        self.numbers = {name: int(value) for name, value in values.items() if name not in slots}
+        before = document.steps()[:document.steps().index(step)]
+        self.first = sum(len(plan.obligations(it)) for it in before)
+        self.obligations = plan.obligations(step)
+        self.obligation = self.obligations[number - self.first - 1]
+        self.number = number
+
+    def formula(self, node):
+        return self.plan.formula(node, self.numbers)
+
+    def explain(self):
+        here = self.obligation
+        say("obligation %d, number %d of %d of %s.%s: %s" % (
+            self.number, self.number - self.first, len(self.obligations), self.step.program, self.step.name, here.says))
+        invariants = self.invariants()
+        reasons = [] if here.kind == "start" else self.reasons(invariants)
+        self.show_names()
+        self.show(here)
+        for reason in reasons:
+            say(reason)
+
+    # which invariants exclude the state
+
+    def invariants(self):
+        named = {ref.word for ref in self.step.using}
+        steps = next(proof.steps for proof in self.plan.document.proofs if self.step in proof.steps)
+        return [it for it in steps if it.kind == "invariant" and it is not self.step and it.name not in named]
+
+    def reasons(self, invariants):
+        """Which invariants the state breaks; else the state gets values at which all of them hold, where they can."""
+        place = self.plan.document.steps().index
+        broken = [it for it in invariants if excluded(self.plan, self.values, [self.formula(it.p)]) is True]
+        above = [it for it in broken if place(it) < place(self.step)]
+        if above:
+            names = ", ".join(it.name for it in above)
+            return ["the state breaks %s: no run comes to it" % names,
+                    usual("breaks an invariant that stands before")]
+        if broken:
+            return [self.below(it) for it in broken]
+        if self.obligation.kind == "shown":
+            return [usual("breaks what a part of a union was proved under")]
+        if self.obligation.kind == "begins":
+            return [usual("of a `superpose` begins the layer, and not the program below")]
+        if self.obligation.kind == "measure":
+            return [usual("of an `induct` has the measure outside the range")]
+        whole = excluded(self.plan, self.values, [self.formula(it.p) for it in invariants])
+        if whole is True:
+            return ["the state breaks the other invariants of the proof, taken together: name those that are needed"]
+        self.values.update({name: value for name, value in (whole or {}).items() if name not in self.values})
+        others = "no other invariant" if invariants or self.step.using or self.step.kind == "invariant" else \
+            "no invariant"
+        return [others + " of the proof excludes this state", "if " + usual("is one that runs come to"),
+                "if " + usual("is one that no run comes to")]
+
+    def below(self, other):
+        """What to do with an invariant that stands below, and excludes the state."""
+        if self.step in closure(self.plan, [other]):
+            return "the state breaks %s, which stands below and rests on %s: say both in one invariant" % (
+                other.name, self.step.name)
+        return "the state breaks %s, which stands below: put it before %s, and name it after `using`" % (
+            other.name, self.step.name)
+
+    # what is false at the state
+
+    def show_names(self):
+        """Which always names hold at the state."""
+        truths = ("imp", "and", "or", "not", "cmp", "all", "any")
+        names = [name for name, node in self.plan.document.defs.items() if node.kind in truths][:20]
+        if names:
+            told = look(self.plan, self.step.program, self.values, [(self.plan.read(name), False) for name in names])
+            true = [name for name, holds in zip(names, told.before) if holds]
+            false = [name for name, holds in zip(names, told.before) if not holds]
+            say("at this state " + "; ".join(
+                ["%s: %s" % (word, ", ".join(some)) for word, some in (("true", true), ("false", false)) if some]))
+
+    def show(self, here):
+        if here.inst:
+            self.show_step(here)
+        elif here.kind == "start":
+            say("an initial state, and this does not hold there:")
+            self.show_false(self.formula(self.step.p))
+        elif here.kind == "implied":
+            self.show_implied(here)
+        elif here.kind == "measure":
+            measure = self.formula(here.measure.node)
+            told = look(self.plan, self.step.program, self.values, [(measure, True)]).before[0]
+            say("%s is %d, outside %s" % (measure, told, "..".join(str(value_of(it, {})) for it in here.ends)))
+        elif here.kind == "meant":
+            say("at these numbers no statement has these indices")
+        elif here.kind == "begins":
+            say("an initial state of %s, and this of %s does not hold there:" % (self.step.program, here.below))
+            for one in programs_in(self.plan.document, here.below):
+                if one.initially:
+                    self.show_false(self.formula(one.initially))
+        elif here.kind == "shown":
+            name = here.says.split(",")[0]
+            found = [it for it in self.plan.document.steps() if it.name == name and it.kind == "invariant"]
+            for it in found[:1]:
+                self.show_false(self.formula(it.p))
+
+    def show_false(self, formula, after=None):
+        """The parts of a formula that do not hold, before or after a step."""
+        parts = pieces(formula)
+        told = look(self.plan, self.step.program, self.values, [(it, False) for it in parts], after)
+        for part, holds in zip(parts, told.after if after else told.before):
+            if not holds:
+                say("  %s" % part)
+
+    def show_implied(self, here):
+        left, right = here.left, here.right
+        if getattr(here, "term", None):
+            text = Sides(self.plan, self.step).of_term(here.term)[here.side]
+            left, right = left or self.plan.read(text), right or self.plan.read(text)
+        left, right = left.part(left.node, **self.numbers), right.part(right.node, **self.numbers)
+        cases = choices(right)
+        say("%s holds at this state, and %s:" % (left, "this does not" if len(cases) == 1 else "none of these does"))
+        if len(cases) == 1:
+            self.show_false(right)
+        for one in cases if len(cases) > 1 else []:
+            say("  %s" % one)
+        if getattr(here, "side", None) == 0:
+            say(usual("of a `weaken` fits no case of the `either`"))
+
+    def show_step(self, here):
+        program, name = self.step.program, here.inst
+        told = look(self.plan, program, self.values, [], name)
+        if told.undefined:
+            say("%s is undefined here:" % name)
+            self.show_writes(made_writes(self.plan, program, self.values, name))
+            return
+        moved = ", ".join("%s from %s to %s" % each for each in told.moved) or "nothing"
+        say("%s changes %s" % (name, moved))
+        self.show_claim(here)
+
+    def show_claim(self, here):
+        p = self.formula(self.step.p)
+        q = self.formula(self.step.q)
+        if here.kind == "kept" or (here.kind == "goes" and q is None):
+            say("after it this does not hold:")
+            self.show_false(p, here.inst)
+        elif here.kind == "goes":
+            say("after it this of the left side does not hold:")
+            self.show_false(p, here.inst)
+            say("nor this of the right side:")
+            self.show_false(q, here.inst)
+        elif here.kind == "helps":
+            say("after it this of the right side does not hold:")
+            self.show_false(q, here.inst)
+
+    def show_writes(self, made):
+        """Which of the writes are undefined."""
+        seen = {}
+        for it in made:
+            variable = it.variable
+            slot = variable.name if it.index is None else "%s[%d]" % (variable.name, it.index)
+            text = "%s := %s" % (it.target, it.value)
+            if it.condition:
+                text += " if %s" % it.condition
+            if it.index is not None and not inside(it.index, variable.places):
+                say("  %s: there is no %s" % (text, slot))
+            elif it.number is not None and not inside(it.number, variable.ends):
+                say("  %s: %s would be %d, outside %s" % (text, slot, it.number, ends_of(variable.ends)))
+            elif slot in seen and seen[slot][0] != it.number:
+                say("  %s, and %s: two values for %s" % (seen[slot][1], text, slot))
+            seen.setdefault(slot, (it.number, text))
+
+
+def inside(number, ends):
+    return value_of(ends[0], {}) <= number <= value_of(ends[1], {})
+
+
+def ends_of(ends):
+    return "%d..%d" % (value_of(ends[0], {}), value_of(ends[1], {}))
+
+
+def show_step_line(plan, name, step):
+    document = plan.document
+    say("%s:%d" % (name, document.line(step.start)))
+    for line in document.text[step.start:step.end].split("\n"):
+        say("  " + line.strip())
+
+
+def explain_budget(plan, step, number):
+    steps = plan.document.steps()
+    first = sum(len(plan.obligations(it)) for it in steps[:steps.index(step)])
+    each = plan.obligations(step)
+    say("obligation %d, number %d of %d of %s.%s: %s" % (
+        number, number - first, len(each), step.program, step.name, each[number - first - 1].says))
+    say("what multiplies cases: docs/WRITING.md; what the steps before cost: scripts/cost.sh")
+
+
+def explain(name, text, answer):
+    head = answer.split("\n")[0]
+    found = re.match(r"(bad|rejected|refuted|budget) (?:(\d+) (\w+))? ?(.*)$", head)
+    if not found:
+        return
+    kind, code, word, rest = found.groups()
+    if kind == "bad":
+        explain_bad(name, text, code, word, rest)
+        return
+    named = re.match(r"(?:(\w+)\.)?(\w+)(?: obligation (\d+))?", rest)
+    plan = Plan(text)
+    number = re.search(r"obligation (\d+)", rest)
+    number = int(number.group(1)) if number else None
+    step = plan.document.find(named.group(1), named.group(2)) if named and named.group(1) else None
+    if step:
+        show_step_line(plan, name, step)
+    if kind == "rejected":
+        explain_rejected(plan, step, code, word, number, rest)
+    elif kind == "refuted":
+        values = dict(line.split(" = ") for line in answer.split("\n")[1:] if " = " in line)
+        Refutation(plan, step, number, values).explain()
+    else:
+        explain_budget(plan, step, number)
+
+
+def is_proved(name, text):
+    """Whether it is proved already: what `prove` wrote of the same text stands beside it, and is accepted."""
+    proved = prove.proved_name(name)
+    if not os.access(proved, os.R_OK):
+        return False
+    found = read_document(proved).decode("latin-1")
+    at = found.rfind("\ncertificates\n")
+    return at >= 0 and found[:at].rstrip() == text.rstrip() and unity(["check"], found)[1] == 0
+
+
+def add_options(parser):
+    parser.add_argument("file", metavar="FILE", help="a document")
+    parser.add_argument("budget", metavar="BUDGET", nargs="?", default="1000000", help="the units of the search")
+
+
+def main(chosen):
+    text = read_document(chosen.file).decode("latin-1")
+    has_certificates = re.search(r"(?m)^certificates\b", text)
+    if not has_certificates and is_proved(chosen.file, text):
+        answer, status = "", 0
+    else:
+        answer, status = unity(["check"] if has_certificates else ["prove", chosen.budget], text)
+    say(answer.strip() if status else "nothing to explain: it is %s" % ("accepted" if has_certificates else "proved"))
+    if status in (1, 2, 3, 4):
+        explain(chosen.file, text, answer)
+    return status
