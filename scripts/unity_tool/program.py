@@ -11,7 +11,7 @@ import sys
 from typing import NamedTuple
 
 from unity_tool import compiled, paged
-from unity_tool.repository import UNITY, is_built
+from unity_tool.repository import TOP, UNITY, is_built
 from unity_tool.wrong_use import Failure
 
 READ_FAULT, WANT_OF_MEMORY, USUAL_MEMORY = 7, 9, 4096
@@ -92,8 +92,22 @@ def ask(words, text):
 
 def pass_on(words):
     """Runs `unity` by these words on standard input, and gives its status; what it writes goes to standard output."""
-    run = {"built": run_built, "page": paged.run, "sources": compiled.run}[way()]
-    return run(words)[0]
+    if way() == "sources":
+        return compiled.run(words)[0]
+    run = run_built if way() == "built" else paged.run
+    return run(words, stdin=standard_input())[0]
+
+
+def standard_input():
+    """Standard input as it was given: a number that scripts/unity.sh tells, nothing where it is that of the tool, and a
+    folder, which can't be read either, where it is closed."""
+    if os.environ.get("UNITY_INPUT"):
+        return int(os.environ["UNITY_INPUT"])
+    try:
+        os.fstat(0)
+        return None
+    except OSError:
+        return os.open(TOP, os.O_RDONLY | os.O_DIRECTORY)
 
 
 def ask_each(word, texts, ask_all=map):
