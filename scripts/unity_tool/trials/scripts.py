@@ -14,6 +14,11 @@ from unity_tool.trials.cases import Case, faults, other_status, single, unlike
 # what a script would write is there: the script, and what it writes
 WRITTEN = [("editors.sh", "the files in editors/"), ("reading.sh", "docs/READING.md"),
            ("map.sh", "the tables of rooms and crates")]
+# what a script counts by itself, and about how many seconds it takes
+COUNTED = [(("python3", "-B", "scripts/sentences.py"), "the sentences and links of the pages", 3),
+           (("python3", "-B", "scripts/room_rules.py"), "what the rooms of crates keep to", 3),
+           (("python3", "-B", "scripts/exercises.py"), "the exercises", 30),
+           (("bash", "scripts/gate_cost.sh", "--self-test"), "the report on what the gate costs", 1)]
 FUZZ_SECONDS, FUZZ_SEED = "20", "1"
 
 # an installed command, or a link to one, and the script that does the same here
@@ -30,6 +35,12 @@ INSTALLED = [
 
 def is_written(name):
     return other_status(0, script(name, "--check"))
+
+
+def counted(words):
+    """What a script finds wrong that counts by itself."""
+    came = ask(words)
+    return faults(other_status(0, came), came.text.decode("utf-8", "replace")) if came.status else None
 
 
 def alike():
@@ -100,6 +111,8 @@ def cases():
     yield single("documents that were changed at random", alike, 100)
     for name, what in WRITTEN:
         yield single(what, lambda name=name: is_written(name), 3)
+    for words, what, seconds in COUNTED:
+        yield single(what, lambda words=words: counted(words), seconds)
     yield Case("the installed commands", installed, 5)
     yield Case("an old proved document", none_left, 1)
     yield Case("the patterns of editors/tasks.json", lambda room: matchers(), 1)
