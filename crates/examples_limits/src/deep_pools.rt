@@ -8,19 +8,35 @@ use unity_base::Shared;
 
 const NODES: u32 = 65536;
 
-// Whether a pool gives the formula one number, says that it has so many nodes, and hands an equal one back, which
-// stands when the pool has forgotten it.
+// The formula as a pool hands it back, which stands when the pool has forgotten it; none where the pool gives it two
+// numbers, or says that it has other than so many nodes.
 #[tactic(auto, using(core_terms::proofs::PoolLaws::grown))]
-fn comes_back(alloc: Global, f: &CForm, nodes: u64) -> Result<bool, AllocError> {
-    let mut pool = Pool::new(alloc);
+fn handed_back(pool: &mut Pool, f: &CForm, nodes: u64) -> Result<Option<CForm>, AllocError> {
     let empty = pool.mark();
     let id = pool.put_form(f)?;
     let size = pool.form_size(id);
     let back = pool.form(id)?;
     let again = pool.put_form(&back)?;
     pool.forget(empty);
-    drop(pool);
-    Ok(id == again && size == nodes && same(f, &back))
+    if id == again && size == nodes {
+        Ok(Some(back))
+    } else {
+        Ok(None)
+    }
+}
+
+// The same of a pool that is gone then.
+fn handed_back_once(alloc: Global, f: &CForm, nodes: u64) -> Result<Option<CForm>, AllocError> {
+    let mut pool = Pool::new(alloc);
+    handed_back(&mut pool, f, nodes)
+}
+
+// Whether a pool hands back an equal formula.
+fn comes_back(alloc: Global, f: &CForm, nodes: u64) -> Result<bool, AllocError> {
+    match handed_back_once(alloc, f, nodes)? {
+        Some(back) => Ok(same(f, &back)),
+        None => Ok(false),
+    }
 }
 
 // A formula of this many levels, each the second part of the one around it.

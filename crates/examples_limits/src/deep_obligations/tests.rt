@@ -41,17 +41,24 @@ fn is_made(alloc: Global, f: CForm) -> Result<bool, AllocError>
 }
 
 // Whether an obligation is made of the formula as a pool has it, or it is too large.
-fn is_made_in_pool(alloc: Global, f: &CForm) -> Result<bool, AllocError>
+fn is_made_in(alloc: Global, pool: &mut Pool, f: &CForm) -> Result<bool, AllocError>
     requires { IsDeepForm f.now }
 {
     let slots = [bit(0)];
-    let mut pool = Pool::new(alloc);
     let id = pool.put_form(f)?;
-    match make_in(alloc, &pool, id, slots.as_slice(), [].as_slice()) {
+    match make_in(alloc, pool, id, slots.as_slice(), [].as_slice()) {
         Ok(o) => Ok(height(&o) <= 960),
         Err(TooLargeError::TooLarge) => Ok(true),
         Err(TooLargeError::Memory) => Err(AllocError),
     }
+}
+
+// The same of a pool of its own.
+fn is_made_in_pool(alloc: Global, f: &CForm) -> Result<bool, AllocError>
+    requires { IsDeepForm f.now }
+{
+    let mut pool = Pool::new(alloc);
+    is_made_in(alloc, &mut pool, f)
 }
 
 // Whether the formula is opened and settled.

@@ -49,7 +49,29 @@ fn swaps_the_slots(rt: HostRuntime) -> Result<(), Fail> {
     Ok(())
 }
 
-// The size of the precondition of a formula of a pool, or none where it is above the limit.
+// The size of the precondition of a formula that a pool takes, or none where it is above the limit.
+fn size_in(
+    alloc: Global,
+    pool: &mut Pool,
+    s: &CStmt,
+    q: &CForm,
+    slots: &[CSlot],
+    limit: u64,
+) -> Result<Option<u64>, AllocError>
+    requires slots { slots.now ≡ two_slots }
+    requires statement { StatementFits two_slots s.now }
+    requires formula_slots { form_slots q.now ≤ 2 }
+    requires weight { plain_weight q.now ≤ 2 ^ 62 }
+{
+    let id = pool.put_form(q)?;
+    match wp_in(alloc, pool, s, id, slots, limit) {
+        Ok(before) => Ok(Some(pool.form_size(before))),
+        Err(WpError::TooLarge) => Ok(None),
+        Err(WpError::Memory) => Err(AllocError),
+    }
+}
+
+// The same of a pool of its own.
 fn size_in_pool(
     alloc: Global,
     s: &CStmt,
@@ -63,12 +85,7 @@ fn size_in_pool(
     requires weight { plain_weight q.now ≤ 2 ^ 62 }
 {
     let mut pool = Pool::new(alloc);
-    let id = pool.put_form(q)?;
-    match wp_in(alloc, &mut pool, s, id, slots, limit) {
-        Ok(before) => Ok(Some(pool.form_size(before))),
-        Err(WpError::TooLarge) => Ok(None),
-        Err(WpError::Memory) => Err(AllocError),
-    }
+    size_in(alloc, &mut pool, s, q, slots, limit)
 }
 
 #[test]
@@ -85,20 +102,32 @@ fn swaps_in_a_pool(rt: HostRuntime) -> Result<(), Fail> {
 }
 
 // Whether the precondition of the formula that the second slot is 0 ends with the number of that formula.
-fn keeps_number(alloc: Global, s: &CStmt, slots: &[CSlot]) -> Result<bool, AllocError>
+fn keeps_number_in(
+    alloc: Global,
+    pool: &mut Pool,
+    s: &CStmt,
+    slots: &[CSlot],
+) -> Result<bool, AllocError>
     requires slots { slots.now ≡ two_slots }
     requires statement { StatementFits two_slots s.now }
 {
-    let q = CForm::Zero(CTerm::Slot(1));
-    let mut pool = Pool::new(alloc);
-    let id = pool.put_form(&q)?;
-    match wp_in(alloc, &mut pool, s, id, slots, 65_536) {
+    let id = pool.put_form(&CForm::Zero(CTerm::Slot(1)))?;
+    match wp_in(alloc, pool, s, id, slots, 65_536) {
         Ok(before) => match pool.form_node(before) {
             FormNode::And(_, after) => Ok(after == id),
             _ => Ok(false),
         },
         Err(_) => Err(AllocError),
     }
+}
+
+// The same of a pool of its own.
+fn keeps_number(alloc: Global, s: &CStmt, slots: &[CSlot]) -> Result<bool, AllocError>
+    requires slots { slots.now ≡ two_slots }
+    requires statement { StatementFits two_slots s.now }
+{
+    let mut pool = Pool::new(alloc);
+    keeps_number_in(alloc, &mut pool, s, slots)
 }
 
 #[test]
@@ -120,18 +149,40 @@ fn goes_down(alloc: Global, s: &CStmt, q: &CForm, slots: &[CSlot]) -> Result<boo
     Ok(size > 1 && in_pool == Some(size))
 }
 
+// Whether that of a formula of each deep form is.
+fn forms_go_down(alloc: Global, s: &CStmt, slots: &[CSlot]) -> Result<bool, AllocError>
+    requires slots { slots.now ≡ two_slots }
+    requires statement { StatementFits two_slots s.now }
+{
+    for (which, part) in FORMS_AROUND {
+        let q = deep_form(alloc, which, (NODES - 1) / part, CForm::Top)?;
+        if !goes_down(alloc, s, &q, slots)? {
+            return Ok(false);
+        }
+    }
+    Ok(true)
+}
+
+// Whether that of a term of each deep form is.
+fn terms_go_down(alloc: Global, s: &CStmt, slots: &[CSlot]) -> Result<bool, AllocError>
+    requires slots { slots.now ≡ two_slots }
+    requires statement { StatementFits two_slots s.now }
+{
+    for (which, part) in TERMS_AROUND {
+        let q = CForm::Zero(deep_term(alloc, which, (NODES - 2) / part, CTerm::Slot(0))?);
+        if !goes_down(alloc, s, &q, slots)? {
+            return Ok(false);
+        }
+    }
+    Ok(true)
+}
+
 #[test]
 fn goes_down_deep_formulas(rt: HostRuntime) -> Result<(), Fail> {
     let s = swap(rt.alloc())?;
     let slots = two_slots(rt.alloc())?;
-    for (which, part) in FORMS_AROUND {
-        let q = deep_form(rt.alloc(), which, (NODES - 1) / part, CForm::Top)?;
-        assert!(rt; goes_down(rt.alloc(), &s, &q, slots.as_slice())?);
-    }
-    for (which, part) in TERMS_AROUND {
-        let q = CForm::Zero(deep_term(rt.alloc(), which, (NODES - 2) / part, CTerm::Slot(0))?);
-        assert!(rt; goes_down(rt.alloc(), &s, &q, slots.as_slice())?);
-    }
+    assert!(rt; forms_go_down(rt.alloc(), &s, slots.as_slice())?);
+    assert!(rt; terms_go_down(rt.alloc(), &s, slots.as_slice())?);
     Ok(())
 }
 
