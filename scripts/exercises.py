@@ -8,6 +8,7 @@ The last line is `N passed, M failed`, and the exit is 1 where something failed.
 """
 import argparse
 import os
+import re
 import subprocess
 import sys
 
@@ -58,11 +59,18 @@ class Try:
         line = exercise.goal["line"]
         return status == 0 and (not line or line in answer.splitlines()), answer
 
+    def reads(self, it, answer):
+        """Whether an answer finds the text right, or goes wrong in a hole."""
+        bad = re.match(r"bad \d+ \w+ byte (\d+)$", answer)
+        at = bad and len(it.start.encode()[:int(bad.group(1))].decode())
+        return not bad or any(begin <= at <= end for _, _, (begin, end) in it.pieces()[:-1])
+
     def exercise(self, it):
         self.holds(it, "the exercise has no three hints, or no solution for each hole",
                    len(it.hints) == 3 and len(it.solution) == len(it.holes) and it.task)
         done, answer = self.is_done(it, it.start)
         self.holds(it, "the start is done already:", not done, answer)
+        self.holds(it, "the start does not read outside its holes:", self.reads(it, answer), answer)
         self.holds(it, "the start is not as it is given", it.changed_at(it.start) is None)
         done, answer = self.is_done(it, it.solved())
         self.holds(it, "the solution is not done:", done, answer)

@@ -139,7 +139,7 @@ function showSteps(accepted) {
   const head = element('tr', ''), body = rows.map(({ program, step, kind, bound }) => {
     const row = element('tr', ''), named = element('td', ''), to = placeOfStep(source, program, step);
     named.append(element('button', `${program}.${step}`, { onclick: () => goTo(to), disabled: !to }));
-    row.append(named, element('td', kind), element('td', bound && `${bound} rounds`));
+    row.append(named, element('td', kind), element('td', bound && `${bound} ${bound === '1' ? 'round' : 'rounds'}`));
     return row;
   });
   head.append(...['step', 'kind', 'bound'].map(it => element('th', it, { scope: 'col' })));

@@ -27,7 +27,9 @@ CONTRAST = """(() => {
 })()"""
 # Each part that Tab comes to and that does not show that it has the focus.
 FOCUS = """(() => {
-  const it = document.activeElement, seen = it.closest('label.file') ?? it, style = getComputedStyle(seen);
+  const it = document.activeElement;
+  if (it === document.body) return ['', true];
+  const seen = it.closest('label.file') ?? it, style = getComputedStyle(seen);
   const shown = style.outlineStyle !== 'none' && parseFloat(style.outlineWidth) > 0 || style.boxShadow !== 'none';
   return [it.id || it.textContent.slice(0, 20), shown];
 })()"""
