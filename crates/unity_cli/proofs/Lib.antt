@@ -8,3 +8,4 @@ pub mod Upgraded
 pub mod Watched
 pub mod Streamed
 pub mod Traced
+pub mod ExitLaws
