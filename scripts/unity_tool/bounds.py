@@ -10,9 +10,12 @@ import concurrent.futures
 import itertools
 import os
 import re
+import subprocess
+import tempfile
 
 from unity_tool.files import read_document
 from unity_tool.program import ask, need_answers
+from unity_tool.repository import UNITY, is_built
 
 STEPS = 8
 
@@ -72,13 +75,23 @@ def add_options(parser):
     parser.add_argument("instances", metavar="INSTANCE", nargs="+", help="an instance of the program")
 
 
+def replayed(text):
+    """The trace of a small document, by the built program; there are thousands of them."""
+    with tempfile.TemporaryFile() as given:
+        given.write(text)
+        given.seek(0)
+        return subprocess.run([UNITY, "replay"], stdin=given, stdout=subprocess.PIPE, check=False,
+                              close_fds=False).stdout
+
+
 def traces(document, program, instances):
     """The traces of all lists of choices, in their order: the first choice changes fastest."""
     lists = (", ".join(reversed(each)) for each in itertools.product(instances, repeat=STEPS))
     texts = (document + b"schedule %s : %s end\n" % (program.encode(), each.encode()) for each in lists)
+    replay = replayed if is_built() else lambda text: ask(["replay"], text).text
     with concurrent.futures.ThreadPoolExecutor(os.cpu_count()) as pool:
         while batch := list(itertools.islice(texts, 256)):
-            yield from pool.map(lambda text: ask(["replay"], text).text.decode("latin-1"), batch)
+            yield from (trace.decode("latin-1") for trace in pool.map(replay, batch))
 
 
 def main(chosen):

@@ -38,14 +38,19 @@ def present_sources():
     return done.stdout.decode().strip()
 
 
+def is_present():
+    """Whether the page is of the present sources."""
+    return foot_of_page()[1] == present_sources()
+
+
 def tell():
     """Says once on standard error what answers, and where the page is not of the present sources."""
     with telling:
         if told:
             return
         told.append(True)
-    commit, sources = foot_of_page()
-    stale = "" if sources == present_sources() else \
+    commit = foot_of_page()[0]
+    stale = "" if is_present() else \
         ", which is not of the present sources (scripts/playground.sh makes it anew)"
     sys.stderr.write("%sthe module of playground/unity.html answers, made of commit %s%s\n" % (
         "" if is_built() else "the program is not built: ", commit, stale))

@@ -34,6 +34,11 @@ def limit_stack():
     resource.setrlimit(resource.RLIMIT_STACK, (STACK, most))
 
 
+def prefer_this_python():
+    """What is started from here on as `python3` is the Python that runs this, and nothing that looks for one first."""
+    os.environ["PATH"] = os.path.dirname(sys.executable) + os.pathsep + os.environ["PATH"]
+
+
 def tell_costs(tally, slowest):
     for seconds, name in sorted(tally.times, reverse=True)[:slowest]:
         print("%7.2f s %s" % (seconds, name))
@@ -53,6 +58,7 @@ def main(chosen):
         print("\n".join(case.name for case in cases))
         return 0
     limit_stack()
+    prefer_this_python()
     tally = run_all(cases, chosen.jobs)
     tell_costs(tally, chosen.slowest)
     print("%d passed, %d failed" % (tally.passed, tally.failed))

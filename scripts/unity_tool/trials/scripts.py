@@ -7,7 +7,8 @@ import re
 import shutil
 import sys
 
-from unity_tool.repository import SCRIPTS, TOP
+from unity_tool import paged
+from unity_tool.repository import SCRIPTS, TOP, UNITY
 from unity_tool.trials.asking import ask, read, script
 from unity_tool.trials.cases import Case, faults, other_status, single, unlike
 
@@ -87,6 +88,16 @@ def matchers():
                 None if re.search(pattern, line) else "%s does not match %s" % (pattern, line)
 
 
+def page_answers(room):
+    """The page's module answers as the built program over all of examples/, where node is there and the page is of the
+    present sources: else it need not."""
+    del room
+    if paged.is_there() and paged.is_present():
+        came = ask(["node", "--liftoff-only", "scripts/playground/try_answers.mjs", paged.PAGE, UNITY])
+        yield "the answers of the page's module", faults(other_status(0, came), None if came.status == 0 else
+                                                         came.text.decode())
+
+
 def python_with(module):
     """A Python that has this module, or nothing."""
     for python in (sys.executable, "/usr/bin/python3"):
@@ -116,4 +127,5 @@ def cases():
     yield Case("the installed commands", installed, 5)
     yield Case("an old proved document", none_left, 1)
     yield Case("the patterns of editors/tasks.json", lambda room: matchers(), 1)
+    yield Case("the answers of the page's module", page_answers, 40)
     yield Case("the scripts themselves", lambda room: checkers(), 5)
