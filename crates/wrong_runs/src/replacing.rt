@@ -1,5 +1,5 @@
-// Values put in the place of slots, one write after the other. A wrong body alone calls this, and no clause says what it
-// gives.
+// Values put in the place of slots, one write after the other. A wrong body alone calls this, and no clause says
+// what it gives.
 use core_terms::{CForm, CTerm, CWrite, copy_form, copy_term, held_form, held_term};
 use std::alloc::{AllocError, Global};
 use unity_base::Shared;
