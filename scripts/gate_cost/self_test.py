@@ -11,8 +11,8 @@ from tables import about_run, cost_table, forecast_of, lanes_table
 CRATES = "# Room: of a test.\nground:\ntower: ground\nshed:\n"
 # A crate, its lines, and how many edits it has.
 FILES = (("ground", 10, 0), ("tower", 5, 2), ("shed", 1, 0))
-RT = "/usr/bin/python3 /usr/local/bin/rt ci"
-CHECK = "rattle check --crate-name tower src/lib.rt --incremental /tmp/rt-edits-7-x/"
+RT = "python3 bin/rt ci"
+CHECK = "rattle check --crate-name tower src/lib.rt --incremental runs/rt-edits-7-x/"
 # Words, folder, the second in which it began and ended, seconds of processor, and what no sample saw of it.
 SAMPLED = (
     (RT, "/r", 0, 200, 12, 0),
@@ -22,11 +22,11 @@ SAMPLED = (
     ("rattle build --crate-name shed src/lib.rt --test -o out/shed_tests.o", "/r/crates/shed", 36, 66, 30, 0),
     ("rattle-link --target x -o out/shed_tests out/shed_tests.o", "/r/crates/shed", 66, 72, 6, 0),
     ("rattle build --crate-name tower src/lib.rt -o x", "/r/crates/tower", 66, 126, 60, 0),
-    (CHECK + "seed", "/tmp/rt-edit-7-a", 72, 102, 30, 0),
-    (CHECK + "0", "/tmp/rt-edit-7-b", 126, 138, 12, 0),
-    (CHECK + "1", "/tmp/rt-edit-7-c", 126, 144, 18, 0),
-    (CHECK + "seed", "/tmp/rt-edit-7-d", 144, 150, 6, 0),
-    ("sh -c x setpriv runner /tmp/rt-run-7-x/bin/shed_tests", "/tmp", 150, 156, 6, 0),
+    (CHECK + "seed", "runs/rt-edit-7-a", 72, 102, 30, 0),
+    (CHECK + "0", "runs/rt-edit-7-b", 126, 138, 12, 0),
+    (CHECK + "1", "runs/rt-edit-7-c", 126, 144, 18, 0),
+    (CHECK + "seed", "runs/rt-edit-7-d", 144, 150, 6, 0),
+    ("sh -c x setpriv runner runs/rt-run-7-x/bin/shed_tests", "runs", 150, 156, 6, 0),
 )
 COST = """\
 minutes of processor        proof    tests    edits  linking    other      sum
